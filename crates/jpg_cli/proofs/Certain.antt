@@ -47,16 +47,11 @@ printed_certain old new input output w (bytes, n, told, front) none printed = by
   where
     by : (w : Why) → IsPrintDue input old w → IsDoneOrWanting w
     by why.Done due = tt
-    by (why.Warned m) due = absurd due
-    by (why.Usage u) due = absurd due
-    by (why.Picture p) due = absurd due
     by (why.Refused f) (other, is, fault) =
         let shown = subst (λ (b : List ℕ). IsReadFault standard_limits b f.fault f.at) (one_file old.files input bytes other told is) fault in
         absurd (whole_no_fault standard_limits (HoldsWhole standard_limits) (reading_sound standard_limits) bytes n f.at f.fault front.0 front.1 front.2 shown)
-    by (why.OpenFault u) due = absurd due
-    by (why.ReadFault u) due = absurd due
-    by why.WriteFault due = absurd due
     by why.NoMemory due = tt
+    by other due = absurd due
 
 -- INSERTED
 
@@ -83,14 +78,9 @@ inserted_certain old new task w has none done = by w (insert_due old new task w 
 
     by : (w : Why) → IsInsertDue task old w → IsDoneOrWanting w
     by why.Done due = tt
-    by (why.Warned m) due = absurd due
-    by (why.Usage u) due = absurd due
-    by (why.Picture p) due = absurd due
     by (why.Refused f) due = absurd (refused f due)
-    by (why.OpenFault u) due = absurd due
-    by (why.ReadFault u) due = absurd due
-    by why.WriteFault due = absurd due
     by why.NoMemory due = tt
+    by other due = absurd due
 
 -- TRANSFORMED AND DECODED
 

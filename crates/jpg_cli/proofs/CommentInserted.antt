@@ -28,20 +28,17 @@ use Rattle.jpg_cli.specs.Desk.CommentTaken.{AfterComment, AfterWords}
 use Rattle.jpg_cli.specs.Desk.FileTaken.{AfterFile}
 use Rattle.jpg_cli.specs.Tools.InsertComment.{AfterFed, EndsBefore, EndsInserting, IsAtHead, IsBegunWith, IsFaultBefore, IsFilePart, IsLongFile, IsNoHead, IsInsertedWhole}
 use Rattle.jpg_cli.specs.Tools.ReadComments.{CopiesText, HasCopied}
-use Rattle.jpg_cli.specs.Stays.{OnlyCopies}
-use Rattle.jpg_cli.specs.Desk.Reading.{IsFile, ReadsPart, rest_of}
-use Rattle.jpg_cli.specs.Stays.{Keeps, OnlyReads}
-use Rattle.jpg_cli.specs.Desk.FileTaken.{AfterFile}
 use Rattle.jpg_cli.specs.Stays.{Keeps, OnlyCopies, OnlyReads, Untouched}
+use Rattle.jpg_cli.specs.Desk.Reading.{IsFile, ReadsPart, rest_of}
 use Rattle.jpg_cli.proofs.Input.{file_read}
-use Rattle.jpg_cli.proofs.CommentsCopied.{copies_then, had_told, none_read}
+use Rattle.jpg_cli.proofs.CommentsCopied.{had_told, none_read}
 use Rattle.jpg_cli.proofs.InsertedCopied.{fed_part, fed_short, file_part, long_file, not_none, part_of_part, stands}
 
 -- READING
 
 -- more bytes were read
-pub reading_more : (task : Task) (comment bytes piece : List ℕ) (old s0 s1 : DeskState) → length (bytes ++ piece) ≤ standard_limits.input → IsReading task comment bytes old s0 → OnlyReads s0 s1 → Consumes s0.left s1.left piece → IsReading task comment (bytes ++ piece) old s1
-reading_more task comment bytes piece old s0 s1 most r k more = record {
+pub reading_more : {task : Task} {comment bytes : List ℕ} (piece : List ℕ) {old s0 s1 : DeskState} → length (bytes ++ piece) ≤ standard_limits.input → IsReading task comment bytes old s0 → OnlyReads s0 s1 → Consumes s0.left s1.left piece → IsReading task comment (bytes ++ piece) old s1
+reading_more {task} {bytes} piece {old} {s0} {s1} most r k more = record {
   most = most;
   left = r.left;
   names = asks_still old s0 s1 (names_to_input task) put.Done k.copies.asked r.names;
@@ -54,15 +51,15 @@ reading_more task comment bytes piece old s0 s1 most r k more = record {
 
 -- THE OUTPUT
 
-output_names : (task : Task) (comment bytes : List ℕ) (old s0 s1 : DeskState) (answer : Put) → IsReading task comment bytes old s0 → Creates s0 task.output answer s1 → Asks (names_to_output task) answer old s1
-output_names task comment bytes old s0 s1 answer r k = asks_next old s0 s1 (names_to_input task) task.output answer r.names k.asked
+output_names : {task : Task} {comment bytes : List ℕ} {old s0 s1 : DeskState} {answer : Put} → IsReading task comment bytes old s0 → Creates s0 task.output answer s1 → Asks (names_to_output task) answer old s1
+output_names {task} {old} {s0} {s1} {answer} r k = asks_next old s0 s1 (names_to_input task) task.output answer r.names k.asked
 
 -- it wasn't created
-uncreated : (task : Task) (comment bytes : List ℕ) (old s0 s1 : DeskState) → IsAtHead bytes → IsReading task comment bytes old s0 → Creates s0 task.output put.Failed s1 → Unopened (names_to_output task) old s1 × ReadsInput task IsAtHead old s1
-uncreated task comment bytes old s0 s1 at r k =
+uncreated : {task : Task} {comment bytes : List ℕ} {old s0 s1 : DeskState} → IsAtHead bytes → IsReading task comment bytes old s0 → Creates s0 task.output put.Failed s1 → Unopened (names_to_output task) old s1 × ReadsInput task IsAtHead old s1
+uncreated {task} {comment} {bytes} {old} {s1} at r k =
     let P : Option (List ℕ) → Type 0 = λ l. Consumes r.left l bytes in (
       record {
-        stopped = record { asked = output_names task comment bytes old s0 s1 put.Failed r k; outputs = k.after.1 ∙ r.outputs };
+        stopped = record { asked = output_names r k; outputs = k.after.1 ∙ r.outputs };
         opens = (let rose = k.after.0 in let f = r.counts.opens in omega arith);
       },
       record {
@@ -75,11 +72,11 @@ uncreated task comment bytes old s0 s1 at r k =
     )
 
 -- it was created, and this text written to it
-written_first : (task : Task) (comment bytes text : List ℕ) (old s0 s1 s2 : DeskState) → IsReading task comment bytes old s0 → Creates s0 task.output put.Done s1 → OnlyWrites s1 s2 → AppendsLast s1.outputs text s2.outputs → IsWriting task comment bytes text old s2
-written_first task comment bytes text old s0 s1 s2 r k w appended = record {
+written_first : {task : Task} {comment bytes : List ℕ} (text : List ℕ) {old s0 s1 s2 : DeskState} → IsReading task comment bytes old s0 → Creates s0 task.output put.Done s1 → OnlyWrites s1 s2 → AppendsLast s1.outputs text s2.outputs → IsWriting task comment bytes text old s2
+written_first {task} {bytes} text {old} {s0} {s1} {s2} r k w appended = record {
   left = r.left;
   created = s1.outputs;
-  names = asks_still old s1 s2 (names_to_output task) put.Done w.asked (output_names task comment bytes old s0 s1 put.Done r k);
+  names = asks_still old s1 s2 (names_to_output task) put.Done w.asked (output_names r k);
   source = r.source;
   opened = r.opened;
   read = (let P : Option (List ℕ) → Type 0 = λ l. Consumes r.left l bytes in subst P (sym (w.left ∙ k.left)) r.read);
@@ -90,8 +87,8 @@ written_first task comment bytes text old s0 s1 s2 r k w appended = record {
 }
 
 -- what was written is in the output when the run ends
-writes : (task : Task) (comment bytes text : List ℕ) (old now : DeskState) (Is : List ℕ → List ℕ → List ℕ → Type 0) → IsWriting task comment bytes text old now → Is comment bytes text → WritesText task Is old now
-writes task comment bytes text old now Is w is = record {
+writes : {task : Task} {comment bytes text : List ℕ} {old now : DeskState} (Is : List ℕ → List ℕ → List ℕ → Type 0) → IsWriting task comment bytes text old now → Is comment bytes text → WritesText task Is old now
+writes {task} {comment} {bytes} {text} {old} {now} Is w is = record {
   comment = comment;
   source = w.source;
   copied = record {
@@ -105,33 +102,27 @@ writes task comment bytes text old now Is w is = record {
 
 -- AT THE MARKER of the frame header
 
-due_first : (task : Task) (comment bytes text : List ℕ) (old now : DeskState) (due : Option Why) (c : Insert) → 0 < length text → AfterFed comment task.replace bytes text due c → IsWriting task comment bytes text old now → AfterFrameMarker task comment old due c now
-due_first task comment bytes text old now None c some h w = (bytes, text, some, h, w)
-due_first task comment bytes text old now (Some why.Done) c some h w = absurd h
-due_first task comment bytes text old now (Some (why.Warned n)) c some h w = absurd h
-due_first task comment bytes text old now (Some (why.Usage u)) c some h w = absurd h
-due_first task comment bytes text old now (Some (why.Picture p)) c some h w = absurd h
-due_first task comment bytes text old now (Some (why.Refused f)) c some (of, inl (none, faults)) w = absurd (not_none text none some)
-due_first task comment bytes text old now (Some (why.Refused f)) c some (of, inr (long, is)) w =
-    inr (inr (writes task comment bytes text old now (λ with. IsLongFile with task.replace f (rest_of now.left)) w (long_file comment bytes text (rest_of now.left) task.replace f of long is)))
-due_first task comment bytes text old now (Some (why.OpenFault which)) c some h w = absurd h
-due_first task comment bytes text old now (Some (why.ReadFault which)) c some h w = absurd h
-due_first task comment bytes text old now (Some why.WriteFault) c some h w = absurd h
-due_first task comment bytes text old now (Some why.NoMemory) c some h w = inr (writes task comment bytes text old now (λ with. IsFilePart with task.replace) w (file_part comment bytes text task.replace some h))
+due_first : {task : Task} {comment bytes text : List ℕ} {old now : DeskState} (due : Option Why) (c : Insert) → 0 < length text → AfterFed comment task.replace bytes text due c → IsWriting task comment bytes text old now → AfterFrameMarker task comment old due c now
+due_first {bytes} {text} None c some h w = (bytes, text, some, h, w)
+due_first {text} (Some (why.Refused f)) c some (of, inl (none, faults)) w = absurd (not_none text none some)
+due_first {task} {comment} {bytes} {text} {now} (Some (why.Refused f)) c some (of, inr (long, is)) w =
+    inr (inr (writes (λ with. IsLongFile with task.replace f (rest_of now.left)) w (long_file comment bytes text (rest_of now.left) task.replace f of long is)))
+due_first {task} {comment} {bytes} {text} (Some why.NoMemory) c some h w = inr (writes (λ with. IsFilePart with task.replace) w (file_part comment bytes text task.replace some h))
+due_first other c some h w = absurd h
 
 pub first_uncreated : (task : Task) (comment bytes : List ℕ) (old s0 s1 : DeskState) (output : Name) → task.output ≡ output → IsAtHead bytes → IsReading task comment bytes old s0 → Creates s0 output put.Failed s1 → Unopened (names_to_output task) old s1 × ReadsInput task IsAtHead old s1
-first_uncreated task comment bytes old s0 s1 output e at r k = uncreated task comment bytes old s0 s1 at r (subst (λ (n : Name). Creates s0 n put.Failed s1) (sym e) k)
+first_uncreated task comment bytes old s0 s1 output e at r k = uncreated at r (subst (λ (n : Name). Creates s0 n put.Failed s1) (sym e) k)
 
 pub first_written : (task : Task) (comment bytes text : List ℕ) (old s0 s1 s2 : DeskState) (output : Name) (due : Option Why) (c : Insert) → task.output ≡ output → 0 < length text → IsReading task comment bytes old s0 → AfterFed comment task.replace bytes text due c
     → Creates s0 output put.Done s1 → OnlyWrites s1 s2 → AfterWrite s1 text put.Done s2 → AfterFrameMarker task comment old due c s2
 first_written task comment bytes text old s0 s1 s2 output due c e some r h k w appended =
-    due_first task comment bytes text old s2 due c some h (written_first task comment bytes text old s0 s1 s2 r (subst (λ (n : Name). Creates s0 n put.Done s1) (sym e) k) w appended)
+    due_first due c some h (written_first text r (subst (λ (n : Name). Creates s0 n put.Done s1) (sym e) k) w appended)
 
 pub first_unwritten : (task : Task) (comment bytes text : List ℕ) (old s0 s1 s2 : DeskState) (output : Name) (due : Option Why) (c : Insert) → task.output ≡ output → 0 < length text → c.limits ≡ standard_limits → c.replace ≡ task.replace → IsReading task comment bytes old s0
     → AfterFed comment task.replace bytes text due c → Creates s0 output put.Done s1 → OnlyWrites s1 s2 → AfterWrite s1 text put.Failed s2 → Inserted task old why.WriteFault s2
 first_unwritten task comment bytes text old s0 s1 s2 output due c e some limits same r h k w (rose, (n, part)) = (
-  writes task comment bytes (take n text) old s2 (λ with. IsFilePart with task.replace)
-      (written_first task comment bytes (take n text) old s0 s1 s2 r (subst (λ (m : Name). Creates s0 m put.Done s1) (sym e) k) w part)
+  writes (λ with. IsFilePart with task.replace)
+      (written_first (take n text) r (subst (λ (m : Name). Creates s0 m put.Done s1) (sym e) k) w part)
       (part_of_part comment bytes text task.replace n (file_part comment bytes text task.replace some (fed_part comment bytes text task.replace due c limits same h))),
   (let f = r.counts.writes in let g = k.counts.writes in omega (arith, rose, f, g)),
 )
@@ -139,15 +130,15 @@ first_unwritten task comment bytes text old s0 s1 s2 output due c e some limits 
 -- AFTER IT
 
 -- the desk as it would be if its output were known from its creation and its input from its opening
-abbrev pub begun : (task : Task) (comment bytes text : List ℕ) (old now : DeskState) → IsWriting task comment bytes text old now → DeskState
-begun task comment bytes text old now w = had_told w.left w.created now
+abbrev pub begun : {task : Task} {comment bytes text : List ℕ} {old now : DeskState} → IsWriting task comment bytes text old now → DeskState
+begun {now} w = had_told w.left w.created now
 
-pub copied_begun : (task : Task) (comment bytes text : List ℕ) (old now : DeskState) (w : IsWriting task comment bytes text old now) → HasCopied (begun task comment bytes text old now w) bytes text now
-copied_begun task comment bytes text old now w = record { most = w.most; read = w.read; written = w.written }
+pub copied_begun : {task : Task} {comment bytes text : List ℕ} {old now : DeskState} (w : IsWriting task comment bytes text old now) → HasCopied (begun w) bytes text now
+copied_begun w = record { most = w.most; read = w.read; written = w.written }
 
 -- more bytes were read, and their text written
-pub writing_more : (task : Task) (comment bytes text more all : List ℕ) (old s0 s1 : DeskState) (w : IsWriting task comment bytes text old s0) → OnlyCopies s0 s1 → HasCopied (begun task comment bytes text old s0 w) more all s1 → IsWriting task comment more all old s1
-writing_more task comment bytes text more all old s0 s1 w k h = record {
+pub writing_more : {task : Task} {comment bytes text more all : List ℕ} {old s0 s1 : DeskState} (w : IsWriting task comment bytes text old s0) → OnlyCopies s0 s1 → HasCopied (begun w) more all s1 → IsWriting task comment more all old s1
+writing_more {task} {old} {s0} {s1} w k h = record {
   left = w.left;
   created = w.created;
   names = asks_still old s0 s1 (names_to_output task) put.Done k.asked w.names;
@@ -161,32 +152,25 @@ writing_more task comment bytes text more all old s0 s1 w k h = record {
 }
 
 -- why the writing ended
-pub ends : (task : Task) (comment bytes text : List ℕ) (old s0 s1 : DeskState) (w : IsWriting task comment bytes text old s0) (ended : Why) → OnlyCopies s0 s1 → EndsInserting comment task.replace (begun task comment bytes text old s0 w) ended s1 → Inserted task old ended s1
-ends task comment bytes text old s0 s1 w ended k h = by ended h
+pub ends : {task : Task} {comment bytes text : List ℕ} {old s0 s1 : DeskState} (w : IsWriting task comment bytes text old s0) (ended : Why) → OnlyCopies s0 s1 → EndsInserting comment task.replace (begun w) ended s1 → Inserted task old ended s1
+ends {task} {comment} {old} {s1} w ended k h = by ended h
   where
-    copies : (Is : List ℕ → List ℕ → List ℕ → Type 0) → CopiesText (Is comment) (begun task comment bytes text old s0 w) s1 → WritesText task Is old s1
-    copies Is c = writes task comment c.0 c.1 old s1 Is (writing_more task comment bytes text c.0 c.1 old s0 s1 w k c.2) c.3
+    copies : (Is : List ℕ → List ℕ → List ℕ → Type 0) → CopiesText (Is comment) (begun w) s1 → WritesText task Is old s1
+    copies Is c = writes Is (writing_more w k c.2) c.3
 
-    by : (ended : Why) → EndsInserting comment task.replace (begun task comment bytes text old s0 w) ended s1 → Inserted task old ended s1
+    by : (ended : Why) → EndsInserting comment task.replace (begun w) ended s1 → Inserted task old ended s1
     by why.Done h = (copies (λ with. IsInsertedWhole with task.replace) h.0, h.1)
-    by (why.Warned n) h = absurd h
-    by (why.Usage u) h = absurd h
-    by (why.Picture p) h = absurd h
     by (why.Refused f) h = inr (inr (copies (λ with. IsLongFile with task.replace f (rest_of s1.left)) h))
-    by (why.OpenFault which) h = absurd h
     by (why.ReadFault which.Input) h = (inr (copies (λ with. IsInsertedWhole with task.replace) h.0), (let r = h.1 in let f = w.counts.reads in omega (arith, r, f)))
-    by (why.ReadFault which.Script) h = absurd h
-    by (why.ReadFault which.Tables) h = absurd h
-    by (why.ReadFault which.Comment) h = absurd h
-    by (why.ReadFault which.Output) h = absurd h
     by why.WriteFault h = (copies (λ with. IsFilePart with task.replace) h.0, (let r = h.1 in let f = w.counts.writes in omega (arith, r, f)))
     by why.NoMemory h = inr (copies (λ with. IsFilePart with task.replace) h)
+    by other h = absurd h
 
 -- WHERE NOTHING IS WRITTEN
 
 -- what was read is the result when the run ends
-reads_alone : (task : Task) (comment bytes : List ℕ) (old now : DeskState) (Is : List ℕ → Type 0) → IsReading task comment bytes old now → Is bytes → ReadsAlone task Is old now
-reads_alone task comment bytes old now Is r is = (
+reads_alone : {task : Task} {comment bytes : List ℕ} {old now : DeskState} (Is : List ℕ → Type 0) → IsReading task comment bytes old now → Is bytes → ReadsAlone task Is old now
+reads_alone {task} {comment} {bytes} {old} {now} Is r is = (
   record { asked = r.names; outputs = r.outputs },
   record {
     comment = comment;
@@ -198,13 +182,13 @@ reads_alone task comment bytes old now Is r is = (
 )
 
 -- nothing more was read
-reading_still : (task : Task) (comment bytes : List ℕ) (old s0 s1 : DeskState) → IsReading task comment bytes old s0 → OnlyReads s0 s1 → s1.left ≡ s0.left → IsReading task comment bytes old s1
-reading_still task comment bytes old s0 s1 r k same =
+reading_still : {task : Task} {comment bytes : List ℕ} {old s0 s1 : DeskState} → IsReading task comment bytes old s0 → OnlyReads s0 s1 → s1.left ≡ s0.left → IsReading task comment bytes old s1
+reading_still {task} {comment} {bytes} {old} {s0} {s1} r k same =
     let P : Option (List ℕ) → Type 0 = λ l. Consumes s0.left l [] in
-    subst (λ (b : List ℕ). IsReading task comment b old s1) (append-nil bytes) (reading_more task comment bytes [] old s0 s1 (let most = r.most in omega (arith, most, ap length (append-nil bytes))) r k (subst P (sym same) (none_read s0.left)))
+    subst (λ (b : List ℕ). IsReading task comment b old s1) (append-nil bytes) (reading_more [] (let most = r.most in omega (arith, most, ap length (append-nil bytes))) r k (subst P (sym same) (none_read s0.left)))
 
-out_of_memory : (task : Task) (comment bytes : List ℕ) (old now : DeskState) → IsReading task comment bytes old now → IsOutOfMemory task old now
-out_of_memory task comment bytes old now r =
+out_of_memory : {task : Task} {comment bytes : List ℕ} {old now : DeskState} → IsReading task comment bytes old now → IsOutOfMemory task old now
+out_of_memory {task} {bytes} {old} {now} r =
     let due = names_to_input task in
     let N : List Name → Type 0 = λ names. Asks names put.Done old now in
     record {
@@ -213,27 +197,15 @@ out_of_memory task comment bytes old now r =
       read = inr (inr (bytes, (r.most, file_read old.files task.input r.left now.left bytes r.opened r.read)));
     }
 
-pub ended_before : (task : Task) (comment bytes : List ℕ) (old s0 s1 : DeskState) (w : Why) → IsReading task comment bytes old s0 → OnlyReads s0 s1 → EndsBefore bytes s0 w s1 → Inserted task old w s1
-ended_before task comment bytes old s0 s1 why.Done r k h = absurd h
-ended_before task comment bytes old s0 s1 (why.Warned n) r k h = absurd h
-ended_before task comment bytes old s0 s1 (why.Usage u) r k h = absurd h
-ended_before task comment bytes old s0 s1 (why.Picture p) r k h = absurd h
-ended_before task comment bytes old s0 s1 (why.Refused f) r k (piece, more, most, is) =
-    inr (inl (reads_alone task comment (bytes ++ piece) old s1 (IsFaultBefore f (rest_of s1.left)) (reading_more task comment bytes piece old s0 s1 most r k more) is))
-ended_before task comment bytes old s0 s1 (why.OpenFault w) r k h = absurd h
-ended_before task comment bytes old s0 s1 (why.ReadFault which.Input) r k (same, nothing, rose) = (
-  inl (reads_alone task comment bytes old s1 IsNoHead (reading_still task comment bytes old s0 s1 r k same) nothing),
+pub ended_before : {task : Task} {comment bytes : List ℕ} {old s0 s1 : DeskState} (w : Why) → IsReading task comment bytes old s0 → OnlyReads s0 s1 → EndsBefore bytes s0 w s1 → Inserted task old w s1
+ended_before {s1} (why.Refused f) r k (piece, more, most, is) =
+    inr (inl (reads_alone (IsFaultBefore f (rest_of s1.left)) (reading_more piece most r k more) is))
+ended_before (why.ReadFault which.Input) r k (same, nothing, rose) = (
+  inl (reads_alone IsNoHead (reading_still r k same) nothing),
   (let f = r.counts.reads in omega (arith, rose, f)),
 )
-ended_before task comment bytes old s0 s1 (why.ReadFault which.Script) r k h = absurd h
-ended_before task comment bytes old s0 s1 (why.ReadFault which.Tables) r k h = absurd h
-ended_before task comment bytes old s0 s1 (why.ReadFault which.Comment) r k h = absurd h
-ended_before task comment bytes old s0 s1 (why.ReadFault which.Output) r k h = absurd h
-ended_before task comment bytes old s0 s1 why.WriteFault r k h = absurd h
-ended_before task comment bytes old s0 s1 why.NoMemory r k (piece, more, most) = inl (out_of_memory task comment (bytes ++ piece) old s1 (reading_more task comment bytes piece old s0 s1 most r k more))
-
-pub reads_then : (a b c : DeskState) → OnlyReads a b → OnlyReads b c → OnlyReads a c
-reads_then a b c h k = record { copies = copies_then a b c h.copies k.copies; outputs = k.outputs ∙ h.outputs }
+ended_before why.NoMemory r k (piece, more, most) = inl (out_of_memory (reading_more piece most r k more))
+ended_before other r k h = absurd h
 
 -- THE LOOPS
 
@@ -335,25 +307,14 @@ comment_only task old now bytes k h =
     })
 
 pub not_begun : (task : Task) (old now : DeskState) (bytes : List ℕ) (w : Why) → Keeps old now → AfterComment old task.comment (Ok bytes) now → IsBegunWith bytes task.replace (Err w) → Inserted task old w now
-not_begun task old now bytes why.Done k h b = absurd b
-not_begun task old now bytes (why.Warned n) k h b = absurd b
-not_begun task old now bytes (why.Usage u) k h b = absurd b
-not_begun task old now bytes (why.Picture p) k h b = absurd b
 not_begun task old now bytes (why.Refused f) k h b = comment_long task old now bytes f k h b.0 b.1 b.2
-not_begun task old now bytes (why.OpenFault w) k h b = absurd b
-not_begun task old now bytes (why.ReadFault w) k h b = absurd b
-not_begun task old now bytes why.WriteFault k h b = absurd b
 not_begun task old now bytes why.NoMemory k h b = comment_only task old now bytes k h
+not_begun task old now bytes other k h b = absurd b
 
 -- WHERE IT WASN'T TAKEN
 
 file_untaken : (task : Task) (old now : DeskState) (file : Name) (w : Why) → is_given task.comment ≡ false → names_of task.comment ≡ file ∷ [] → ((bytes : List ℕ) → IsFile old.files file bytes → IsComment old task.comment bytes)
     → (ReadsPart 65001 file old now → ReadsComment task.comment old now) → Keeps old now → AfterFile file 65001 which.Comment old (Err w) now → Inserted task old w now
-file_untaken task old now file why.Done from same is part k h = absurd h
-file_untaken task old now file (why.Warned n) from same is part k h = absurd h
-file_untaken task old now file (why.Usage u) from same is part k h = absurd h
-file_untaken task old now file (why.Picture p) from same is part k h = absurd h
-file_untaken task old now file (why.Refused f) from same is part k h = absurd h
 file_untaken task old now file (why.OpenFault which.Comment) from same is part k h = (subst (λ (names : List Name). Unopened names old now) (sym same) h.1, from)
 file_untaken task old now file (why.OpenFault which.Input) from same is part k h = absurd (let z : which.Input ≡ which.Comment = h.0 in cc)
 file_untaken task old now file (why.OpenFault which.Script) from same is part k h = absurd (let z : which.Script ≡ which.Comment = h.0 in cc)
@@ -369,24 +330,17 @@ file_untaken task old now file (why.ReadFault which.Input) from same is part k h
 file_untaken task old now file (why.ReadFault which.Script) from same is part k h = absurd (let z : which.Script ≡ which.Comment = h.0 in cc)
 file_untaken task old now file (why.ReadFault which.Tables) from same is part k h = absurd (let z : which.Tables ≡ which.Comment = h.0 in cc)
 file_untaken task old now file (why.ReadFault which.Output) from same is part k h = absurd (let z : which.Output ≡ which.Comment = h.0 in cc)
-file_untaken task old now file why.WriteFault from same is part k h = absurd h
 file_untaken task old now file why.NoMemory from same is part k h =
     let first : file ∷ [] ≡ take 1 (names_to_input task) = ap (λ (names : List Name). take 1 (names ++ task.input ∷ [])) (sym same) in
     inl (record { count = 1; stopped = subst (λ (names : List Name). Stopped names put.Done old now) first h.0; read = inr (inl (part h.1)) })
+file_untaken task old now file other from same is part k h = absurd h
 
 nothing_asked : (task : Task) (old now : DeskState) → Keeps old now → Untouched old now → Inserted task old why.NoMemory now
 nothing_asked task old now k same = inl (record { count = 0; stopped = record { asked = none_noted old.asked now.asked same.asked; outputs = k.outputs }; read = inl same.left })
 
 words_untaken : (task : Task) (old now : DeskState) (text : List ℕ) (w : Why) → Keeps old now → AfterWords old text (Err w) now → Inserted task old w now
-words_untaken task old now text why.Done k h = absurd h
-words_untaken task old now text (why.Warned n) k h = absurd h
-words_untaken task old now text (why.Usage u) k h = absurd h
-words_untaken task old now text (why.Picture p) k h = absurd h
-words_untaken task old now text (why.Refused f) k h = absurd h
-words_untaken task old now text (why.OpenFault w) k h = absurd h
-words_untaken task old now text (why.ReadFault w) k h = absurd h
-words_untaken task old now text why.WriteFault k h = absurd h
 words_untaken task old now text why.NoMemory k h = nothing_asked task old now k h
+words_untaken task old now text other k h = absurd h
 
 untaken_from : (source : CommentSource) (input output : Name) (replace : Bool) (old now : DeskState) (w : Why) → Keeps old now → AfterComment old source (Err w) now
     → Inserted (record { comment = source; input = input; output = output; replace = replace }) old w now

@@ -53,15 +53,15 @@ copies_told left outputs s = record {
 pub copies_none : (s : DeskState) → OnlyCopies s s
 copies_none s = copies_told s.left s.outputs s
 
-pub works_then : (a b c : DeskState) → OnlyWorks a b → OnlyWorks b c → OnlyWorks a c
-works_then a b c h k = record {
+pub works_then : {a b c : DeskState} → OnlyWorks a b → OnlyWorks b c → OnlyWorks a c
+works_then {a} {b} {c} h k = record {
   stays = record { counts = NoneFell-then a.counts b.counts c.counts h.stays.counts k.stays.counts; files = k.stays.files ∙ h.stays.files };
   said = k.said ∙ h.said;
 }
 
-pub copies_then : (a b c : DeskState) → OnlyCopies a b → OnlyCopies b c → OnlyCopies a c
-copies_then a b c h k = record {
-  works = works_then a b c h.works k.works;
+pub copies_then : {a b c : DeskState} → OnlyCopies a b → OnlyCopies b c → OnlyCopies a c
+copies_then h k = record {
+  works = works_then h.works k.works;
   asked = k.asked ∙ h.asked;
   output_created = k.output_created ∙ h.output_created;
 }
@@ -75,9 +75,9 @@ pub left_still : (s0 s1 : DeskState) (bytes : List ℕ) (start : DeskState) → 
 left_still s0 s1 bytes start e h = let P : Option (List ℕ) → Type 0 = λ o. Consumes start.left o bytes in subst P (sym e) h
 
 -- a piece was read, and the text that was added is written
-pub copied : (start s0 s1 s2 : DeskState) (bytes text piece more : List ℕ) → length (bytes ++ piece) ≤ standard_limits.input → HasCopied start bytes text s0 → Consumes s0.left s1.left piece → s1.outputs ≡ s0.outputs → OnlyWrites s1 s2 → AppendsLast s1.outputs more s2.outputs
+pub copied : {start s0 s1 s2 : DeskState} {bytes text : List ℕ} (piece more : List ℕ) → length (bytes ++ piece) ≤ standard_limits.input → HasCopied start bytes text s0 → Consumes s0.left s1.left piece → s1.outputs ≡ s0.outputs → OnlyWrites s1 s2 → AppendsLast s1.outputs more s2.outputs
     → HasCopied start (bytes ++ piece) (text ++ more) s2
-copied start s0 s1 s2 bytes text piece more most h read same k w = record {
+copied {start} {s0} {s1} {s2} {bytes} {text} piece more most h read same k w = record {
   most = most;
   read = left_still s1 s2 (bytes ++ piece) start k.left (Consumes-then start.left s0.left s1.left bytes piece h.read read);
   written = AppendsLast-then start.outputs s1.outputs s2.outputs text more (outputs_still s0 s1 text start same h.written) w;
@@ -91,19 +91,14 @@ copied_still start s0 s1 bytes text h left outputs = record { most = h.most; rea
 pub next_due : (start s2 : DeskState) (bytes text piece all : List ℕ) (due : Option Why) (c : Comments) → 0 < length piece → AfterTaking (bytes ++ piece) all due c → HasCopied start (bytes ++ piece) all s2 → AfterNext start bytes due c s2
 next_due start s2 bytes text piece all None c some h k = (piece, all, some, h, k)
 next_due start s2 bytes text piece all (Some why.Done) c some h k = (bytes ++ piece, all, k, h)
-next_due start s2 bytes text piece all (Some (why.Warned n)) c some h k = absurd h
-next_due start s2 bytes text piece all (Some (why.Usage u)) c some h k = absurd h
-next_due start s2 bytes text piece all (Some (why.Picture p)) c some h k = absurd h
 next_due start s2 bytes text piece all (Some (why.Refused f)) c some h k = (bytes ++ piece, all, k, h (rest_of s2.left))
-next_due start s2 bytes text piece all (Some (why.OpenFault w)) c some h k = absurd h
-next_due start s2 bytes text piece all (Some (why.ReadFault w)) c some h k = absurd h
-next_due start s2 bytes text piece all (Some why.WriteFault) c some h k = absurd h
 next_due start s2 bytes text piece all (Some why.NoMemory) c some h k = (bytes ++ piece, all, k, h)
+next_due start s2 bytes text piece all other c some h k = absurd h
 
 -- only a part was written
-pub next_unwritten : (start s0 s1 s2 : DeskState) (bytes text piece more : List ℕ) (due : Option Why) (c : Comments) → length (bytes ++ piece) ≤ standard_limits.input → c.limits ≡ standard_limits → OnlyCopies start s0 → NoneFell s0.counts s1.counts → AfterTaking (bytes ++ piece) (text ++ more) due c
+pub next_unwritten : {start s0 s1 s2 : DeskState} {bytes text : List ℕ} (piece more : List ℕ) (due : Option Why) (c : Comments) → length (bytes ++ piece) ≤ standard_limits.input → c.limits ≡ standard_limits → OnlyCopies start s0 → NoneFell s0.counts s1.counts → AfterTaking (bytes ++ piece) (text ++ more) due c
     → HasCopied start bytes text s0 → Consumes s0.left s1.left piece → s1.outputs ≡ s0.outputs → OnlyWrites s1 s2 → AfterWrite s1 more put.Failed s2 → EndsCopying start why.WriteFault s2
-next_unwritten start s0 s1 s2 bytes text piece more due c most e still fell h had read same k w =
+next_unwritten {start} {s0} {s1} {s2} {bytes} {text} piece more due c most e still fell h had read same k w =
     let written = AppendsPart-then start.outputs s1.outputs s2.outputs text more (outputs_still s0 s1 text start same had.written) w.1 in
     let part = part_of_part (bytes ++ piece) (text ++ more) written.0 (taken_part (bytes ++ piece) (text ++ more) due c e h) in (
       (bytes ++ piece, take written.0 (text ++ more), record { most = most; read = left_still s1 s2 (bytes ++ piece) start k.left (Consumes-then start.left s0.left s1.left bytes piece had.read read); written = written.1 }, part),
@@ -112,23 +107,16 @@ next_unwritten start s0 s1 s2 bytes text piece more due c most e still fell h ha
 
 -- AT THE END
 
-pub next_end : (start s0 s1 : DeskState) (bytes text : List ℕ) (w : Why) → HasCopied start bytes text s0 → IsAtEnd s0.left → s1.left ≡ s0.left → s1.outputs ≡ s0.outputs → AfterEnd bytes text w → EndsCopying start w s1
-next_end start s0 s1 bytes text why.Done had end left outputs h = absurd h
-next_end start s0 s1 bytes text (why.Warned n) had end left outputs h = absurd h
-next_end start s0 s1 bytes text (why.Usage u) had end left outputs h = absurd h
-next_end start s0 s1 bytes text (why.Picture p) had end left outputs h = absurd h
-next_end start s0 s1 bytes text (why.Refused f) had end left outputs h =
+pub next_end : {start s0 : DeskState} (s1 : DeskState) {bytes text : List ℕ} (w : Why) → HasCopied start bytes text s0 → IsAtEnd s0.left → s1.left ≡ s0.left → s1.outputs ≡ s0.outputs → AfterEnd bytes text w → EndsCopying start w s1
+next_end {start} {s0} s1 {bytes} {text} (why.Refused f) had end left outputs h =
     let none : rest_of s1.left ≡ [] = ap rest_of left ∙ none_left s0.left end in
     (bytes, text, copied_still start s0 s1 bytes text had left outputs, subst (λ (rest : List ℕ). IsFaultText f rest bytes text) (sym none) h)
-next_end start s0 s1 bytes text (why.OpenFault w) had end left outputs h = absurd h
-next_end start s0 s1 bytes text (why.ReadFault w) had end left outputs h = absurd h
-next_end start s0 s1 bytes text why.WriteFault had end left outputs h = absurd h
-next_end start s0 s1 bytes text why.NoMemory had end left outputs h = absurd h
+next_end s1 other had end left outputs h = absurd h
 
 -- A READ that failed
-pub next_unread : (start s0 s1 : DeskState) (bytes text : List ℕ) (c : Comments) → c.limits ≡ standard_limits → HasRead bytes text c → OnlyCopies start s0 → HasCopied start bytes text s0 → Rose s0.counts.reads s1.counts.reads → s1.left ≡ s0.left → s1.outputs ≡ s0.outputs
+pub next_unread : {start s0 : DeskState} (s1 : DeskState) {bytes text : List ℕ} (c : Comments) → c.limits ≡ standard_limits → HasRead bytes text c → OnlyCopies start s0 → HasCopied start bytes text s0 → Rose s0.counts.reads s1.counts.reads → s1.left ≡ s0.left → s1.outputs ≡ s0.outputs
     → EndsCopying start (why.ReadFault which.Input) s1
-next_unread start s0 s1 bytes text c e h still had rose left outputs = (
+next_unread {start} {s0} s1 {bytes} {text} c e h still had rose left outputs = (
   (bytes, text, copied_still start s0 s1 bytes text had left outputs, text_so_far bytes text c e h),
   (let f = still.works.stays.counts.reads in omega (arith, rose, f)),
 )
@@ -141,17 +129,17 @@ some_taken n buf some within = omega (arith, some, within, length-take n buf)
 pub text_added : (old out more : List ℕ) → old ≡ [] → out ≡ old ++ more → more ≡ out
 text_added old out more empty e = sym (e ∙ ap (λ (l : List ℕ). l ++ more) empty)
 
-pub next_taken : (start s0 s1 s2 : DeskState) (n : ℕ) (buf bytes text old out : List ℕ) (due : Option Why) (c : Comments) → length (bytes ++ take n buf) ≤ standard_limits.input → old ≡ [] → Reads s0 (got.Bytes n) buf s1
+pub next_taken : {start s0 s1 s2 : DeskState} {n : ℕ} {buf bytes text old : List ℕ} (out : List ℕ) (due : Option Why) (c : Comments) → length (bytes ++ take n buf) ≤ standard_limits.input → old ≡ [] → Reads s0 (got.Bytes n) buf s1
     → Appends (λ all. AfterTaking (bytes ++ take n buf) all due c) text old out → HasCopied start bytes text s0 → OnlyWrites s1 s2 → AfterWrite s1 out put.Done s2 → AfterNext start bytes due c s2
-next_taken start s0 s1 s2 n buf bytes text old out due c most empty r h had k w =
+next_taken {start} {s1} {s2} {n} {buf} {bytes} {text} {old} out due c most empty r h had k w =
     let written = subst (λ (m : List ℕ). AppendsLast s1.outputs m s2.outputs) (sym (text_added old out h.0 empty h.1)) w in
-    next_due start s2 bytes text (take n buf) (text ++ h.0) due c (some_taken n buf r.after.0 r.after.1) h.2 (copied start s0 s1 s2 bytes text (take n buf) h.0 most had r.after.2 r.outputs k written)
+    next_due start s2 bytes text (take n buf) (text ++ h.0) due c (some_taken n buf r.after.0 r.after.1) h.2 (copied (take n buf) h.0 most had r.after.2 r.outputs k written)
 
-pub next_failed : (start s0 s1 s2 : DeskState) (n : ℕ) (buf bytes text old out : List ℕ) (due : Option Why) (c : Comments) → length (bytes ++ take n buf) ≤ standard_limits.input → c.limits ≡ standard_limits → old ≡ [] → Reads s0 (got.Bytes n) buf s1
+pub next_failed : {start s0 s1 s2 : DeskState} {n : ℕ} {buf bytes text old : List ℕ} (out : List ℕ) (due : Option Why) (c : Comments) → length (bytes ++ take n buf) ≤ standard_limits.input → c.limits ≡ standard_limits → old ≡ [] → Reads s0 (got.Bytes n) buf s1
     → Appends (λ all. AfterTaking (bytes ++ take n buf) all due c) text old out → OnlyCopies start s0 → HasCopied start bytes text s0 → OnlyWrites s1 s2 → AfterWrite s1 out put.Failed s2 → EndsCopying start why.WriteFault s2
-next_failed start s0 s1 s2 n buf bytes text old out due c most e empty r h still had k w =
+next_failed {s1} {s2} {n} {buf} {old} out due c most e empty r h still had k w =
     let written = subst (λ (m : List ℕ). AfterWrite s1 m put.Failed s2) (sym (text_added old out h.0 empty h.1)) w in
-    next_unwritten start s0 s1 s2 bytes text (take n buf) h.0 due c most e still r.counts h.2 had r.after.2 r.outputs k written
+    next_unwritten (take n buf) h.0 due c most e still r.counts h.2 had r.after.2 r.outputs k written
 
 -- a read of no more bytes than there is room for
 pub within_most : (bytes buf : List ℕ) (n room : ℕ) → room + length bytes ≡ standard_limits.input → length bytes < standard_limits.input → (1 ≤ room → n ≤ room) → length (bytes ++ take n buf) ≤ standard_limits.input

@@ -43,47 +43,31 @@ prints_from s0 s1 s2 s3 input output Is h k w c =
 
 pub printed_from : (s0 s1 s2 s3 : DeskState) (input output : Name) (w : Why) → Opens s0 input put.Done s1 → Creates s1 output put.Done s2 → OnlyCopies s2 s3 → EndsCopying s2 w s3 → Printed input output s0 w s3
 printed_from s0 s1 s2 s3 input output why.Done h k c e = prints_from s0 s1 s2 s3 input output IsWholeText h k c e
-printed_from s0 s1 s2 s3 input output (why.Warned n) h k c e = absurd e
-printed_from s0 s1 s2 s3 input output (why.Usage u) h k c e = absurd e
-printed_from s0 s1 s2 s3 input output (why.Picture p) h k c e = absurd e
 printed_from s0 s1 s2 s3 input output (why.Refused f) h k c e = prints_from s0 s1 s2 s3 input output (IsFaultText f (rest_of s3.left)) h k c e
-printed_from s0 s1 s2 s3 input output (why.OpenFault w) h k c e = absurd e
 printed_from s0 s1 s2 s3 input output (why.ReadFault which.Input) h k c e = (
   prints_from s0 s1 s2 s3 input output IsTextSoFar h k c e.0,
   (let r = e.1 in let f = h.counts.reads in let g = k.counts.reads in omega arith),
 )
-printed_from s0 s1 s2 s3 input output (why.ReadFault which.Script) h k c e = absurd e
-printed_from s0 s1 s2 s3 input output (why.ReadFault which.Tables) h k c e = absurd e
-printed_from s0 s1 s2 s3 input output (why.ReadFault which.Comment) h k c e = absurd e
-printed_from s0 s1 s2 s3 input output (why.ReadFault which.Output) h k c e = absurd e
 printed_from s0 s1 s2 s3 input output why.WriteFault h k c e = (
   prints_from s0 s1 s2 s3 input output IsTextPart h k c e.0,
   (let r = e.1 in let f = h.counts.writes in let g = k.counts.writes in omega arith),
 )
 printed_from s0 s1 s2 s3 input output why.NoMemory h k c e = prints_from s0 s1 s2 s3 input output IsTextPart h k c e
+printed_from s0 s1 s2 s3 input output other h k c e = absurd e
 
 -- A MESSAGE THEN
 
 pub printed_then : (s0 s1 s2 : DeskState) (input output : Name) (w : Why) → OnlySays s1 s2 → Printed input output s0 w s1 → Printed input output s0 w s2
 printed_then s0 s1 s2 input output why.Done k h = copied_then s0 s1 s2 [] input output IsWholeText k h
-printed_then s0 s1 s2 input output (why.Warned n) k h = absurd h
-printed_then s0 s1 s2 input output (why.Usage u) k h = absurd h
-printed_then s0 s1 s2 input output (why.Picture p) k h = absurd h
 printed_then s0 s1 s2 input output (why.Refused f) k h =
     let P : Option (List ℕ) → Type 0 = λ l. Copied [] input output (IsFaultText f (rest_of l)) s0 s2 in
     subst P (sym k.same.left) (copied_then s0 s1 s2 [] input output (IsFaultText f (rest_of s1.left)) k h)
 printed_then s0 s1 s2 input output (why.OpenFault which.Input) k h = unopened_then s0 s1 s2 (input ∷ []) k h
-printed_then s0 s1 s2 input output (why.OpenFault which.Script) k h = absurd h
-printed_then s0 s1 s2 input output (why.OpenFault which.Tables) k h = absurd h
-printed_then s0 s1 s2 input output (why.OpenFault which.Comment) k h = absurd h
 printed_then s0 s1 s2 input output (why.OpenFault which.Output) k h = unopened_then s0 s1 s2 (input ∷ output ∷ []) k h
 printed_then s0 s1 s2 input output (why.ReadFault which.Input) k h = (copied_then s0 s1 s2 [] input output IsTextSoFar k h.0, (let r = h.1 in let f = k.stays.counts.reads in omega arith))
-printed_then s0 s1 s2 input output (why.ReadFault which.Script) k h = absurd h
-printed_then s0 s1 s2 input output (why.ReadFault which.Tables) k h = absurd h
-printed_then s0 s1 s2 input output (why.ReadFault which.Comment) k h = absurd h
-printed_then s0 s1 s2 input output (why.ReadFault which.Output) k h = absurd h
 printed_then s0 s1 s2 input output why.WriteFault k h = (copied_then s0 s1 s2 [] input output IsTextPart k h.0, (let r = h.1 in let f = k.stays.counts.writes in omega arith))
 printed_then s0 s1 s2 input output why.NoMemory k h = copied_then s0 s1 s2 [] input output IsTextPart k h
+printed_then s0 s1 s2 input output other k h = absurd h
 
 -- WHERE NOTHING FAILED
 
@@ -104,19 +88,10 @@ whole_due s0 s1 input output h =
 
 pub print_due : (s0 s1 : DeskState) (input output : Name) (w : Why) → NoneRose s0.counts s1.counts → Printed input output s0 w s1 → IsPrintDue input s0 w
 print_due s0 s1 input output why.Done n h = whole_due s0 s1 input output h
-print_due s0 s1 input output (why.Warned m) n h = absurd h
-print_due s0 s1 input output (why.Usage u) n h = absurd h
-print_due s0 s1 input output (why.Picture p) n h = absurd h
 print_due s0 s1 input output (why.Refused f) n h = (h.bytes ++ rest_of s1.left, h.read.1, h.is.fault)
 print_due s0 s1 input output (why.OpenFault which.Input) n h = absurd (n.0 h.opens)
-print_due s0 s1 input output (why.OpenFault which.Script) n h = absurd h
-print_due s0 s1 input output (why.OpenFault which.Tables) n h = absurd h
-print_due s0 s1 input output (why.OpenFault which.Comment) n h = absurd h
 print_due s0 s1 input output (why.OpenFault which.Output) n h = absurd (n.0 h.opens)
 print_due s0 s1 input output (why.ReadFault which.Input) n h = absurd (n.1 h.1)
-print_due s0 s1 input output (why.ReadFault which.Script) n h = absurd h
-print_due s0 s1 input output (why.ReadFault which.Tables) n h = absurd h
-print_due s0 s1 input output (why.ReadFault which.Comment) n h = absurd h
-print_due s0 s1 input output (why.ReadFault which.Output) n h = absurd h
 print_due s0 s1 input output why.WriteFault n h = absurd (n.2 h.1)
 print_due s0 s1 input output why.NoMemory n h = tt
+print_due s0 s1 input output other n h = absurd h

@@ -164,11 +164,6 @@ fault_part bytes text f h =
 pub taken_part : (bytes text : List ℕ) (due : Option Why) (c : Comments) → c.limits ≡ standard_limits → AfterTaking bytes text due c → IsTextPart bytes text
 taken_part bytes text None c e h = so_far_part bytes text (text_so_far bytes text c e h)
 taken_part bytes text (Some why.Done) c e h = whole_part bytes text h
-taken_part bytes text (Some (why.Warned n)) c e h = absurd h
-taken_part bytes text (Some (why.Usage u)) c e h = absurd h
-taken_part bytes text (Some (why.Picture p)) c e h = absurd h
 taken_part bytes text (Some (why.Refused f)) c e h = fault_part bytes text f (h [])
-taken_part bytes text (Some (why.OpenFault w)) c e h = absurd h
-taken_part bytes text (Some (why.ReadFault w)) c e h = absurd h
-taken_part bytes text (Some why.WriteFault) c e h = absurd h
 taken_part bytes text (Some why.NoMemory) c e h = h
+taken_part bytes text other c e h = absurd h

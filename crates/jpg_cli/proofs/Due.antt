@@ -61,21 +61,14 @@ module _ (V : Type 0) (c : Conversion V) (law : IsJudged V c.judging) where
   pub converted_due : (s0 s1 : DeskState) (w : Why) → NoneRose s0.counts s1.counts → Converted c s0 w s1 → OrNoMemory (IsDueFor c) s0 w
   converted_due s0 s1 why.Done n (x, (read, wrote, right)) = inl (input_has x None None s0 s1 read)
   converted_due s0 s1 (why.Warned m) n (x, (read, wrote, right)) = inl (input_has x (Some m) None s0 s1 read)
-  converted_due s0 s1 (why.Usage u) n h = absurd h
   converted_due s0 s1 (why.Refused f) n h = inl (input_refused f s0 s1 h)
   converted_due s0 s1 (why.Picture p) n (stopped, (x, early, h)) = inl (early, input_has x early (Some p) s0 s1 h)
   converted_due s0 s1 (why.OpenFault which.Input) n h = absurd (n.0 h.opens)
-  converted_due s0 s1 (why.OpenFault which.Script) n h = absurd h
-  converted_due s0 s1 (why.OpenFault which.Tables) n h = absurd h
-  converted_due s0 s1 (why.OpenFault which.Comment) n h = absurd h
   converted_due s0 s1 (why.OpenFault which.Output) n h = absurd (n.0 h.0.opens)
   converted_due s0 s1 (why.ReadFault which.Input) n h = absurd (n.1 h.0)
-  converted_due s0 s1 (why.ReadFault which.Script) n h = absurd h
-  converted_due s0 s1 (why.ReadFault which.Tables) n h = absurd h
-  converted_due s0 s1 (why.ReadFault which.Comment) n h = absurd h
-  converted_due s0 s1 (why.ReadFault which.Output) n h = absurd h
   converted_due s0 s1 why.WriteFault n h = absurd (n.2 h.0)
   converted_due s0 s1 why.NoMemory n h = inr refl
+  converted_due s0 s1 other n h = absurd h
 
   -- a run refused the known input
   pub refuses_told : (s0 s1 : DeskState) (bytes : List ℕ) (f : FaultAt) → IsTold s0.files c.input bytes → Converted c s0 (why.Refused f) s1 → c.judging.refuses f bytes
@@ -119,13 +112,9 @@ module _ (V : Type 0) (c : Conversion V) (law : IsJudged V c.judging) where
   due_by : (s : DeskState) (w : Why) → IsDueFor c s w → IsDueBy s w
   due_by s why.Done h = inl (None, None, h, refl)
   due_by s (why.Warned n) h = inl (Some n, None, h, refl)
-  due_by s (why.Usage u) h = absurd h
   due_by s (why.Refused f) h = inr (f, h, refl)
   due_by s (why.Picture p) (early, h) = inl (early, Some p, h, refl)
-  due_by s (why.OpenFault u) h = absurd h
-  due_by s (why.ReadFault u) h = absurd h
-  due_by s why.WriteFault h = absurd h
-  due_by s why.NoMemory h = absurd h
+  due_by s other h = absurd h
 
   pub due_once : (s : DeskState) (v w : Why) → TellsFiles s → IsDueFor c s v → IsDueFor c s w → w ≡ v
   due_once s v w t h k = by (due_by s v h) (due_by s w k)
@@ -141,15 +130,8 @@ module _ (V : Type 0) (c : Conversion V) (law : IsJudged V c.judging) where
 
 module _ (A : Type 0) (Faulty : DeskState → FaultAt → Type 0) (Has : DeskState → A → Type 0) (Next : A → DeskState → Why → Type 0) where
   fault_of : (s : DeskState) (w : Why) → IsFaultOf Faulty s w → (f : FaultAt) × Faulty s f × (w ≡ why.Refused f)
-  fault_of s why.Done h = absurd h
-  fault_of s (why.Warned n) h = absurd h
-  fault_of s (why.Usage u) h = absurd h
   fault_of s (why.Refused f) h = (f, h, refl)
-  fault_of s (why.Picture p) h = absurd h
-  fault_of s (why.OpenFault u) h = absurd h
-  fault_of s (why.ReadFault u) h = absurd h
-  fault_of s why.WriteFault h = absurd h
-  fault_of s why.NoMemory h = absurd h
+  fault_of s other h = absurd h
 
   pub after_once : (s : DeskState) (v w : Why) → ((x y : A) → Has s x → Has s y → y ≡ x) → ((f g : FaultAt) → Faulty s f → Faulty s g → g ≡ f) → ((x : A) (f : FaultAt) → Has s x → Faulty s f → ⊥)
       → ((x : A) → Next x s v → Next x s w → w ≡ v) → IsDueAfter Faulty Has Next s v → IsDueAfter Faulty Has Next s w → w ≡ v

@@ -1,15 +1,13 @@
 -- If a file ends early in a scan of all components, its first MCU rows are those that were decoded, and their text is
 -- the same.
-use Rattle.std.proofs.Common.{◌≡◌, ℕ, ◌*◌, ◌<◌, Bool, true, false, cond, List, [], ◌∷◌, ◌++◌, length, refl, sym, ap, ◌∙◌, subst, arith}
+use Rattle.std.proofs.Common.{◌≡◌, ℕ, ◌*◌, ◌<◌, Bool, true, false, cond, List, [], ◌∷◌, length, refl, sym, ap, ◌∙◌, subst, arith}
 use Rattle.std.specs.Prelude.{◌&&◌, nat_lt}
-use Rattle.std.proofs.lemmas.List.{append-nil, length-append}
 use Rattle.jpg_spec.specs.Elements.{zeros}
 use Rattle.jpg_spec.specs.FileMeaning.{meaning_of}
 use Rattle.jpg_spec.specs.Geometry.{Frame, blocks_across, blocks_down, component_at, is_real}
 use Rattle.jpg_spec.specs.InForce.{frame_of, head_in}
 use Rattle.jpg_spec.specs.Markers.{Segment}
 use Rattle.jpg_spec.specs.Meaning.{real_blocks}
-use Rattle.jpg_spec_image.specs.RowLaws.{IsShownInRows}
 use Rattle.jpg_spec_image.specs.RowsShown.{rows_text}
 use Rattle.jpg_spec.specs.RowsTold.{BeginsScanOfAll, TellsRows}
 use Rattle.jpg_spec.specs.Scan.{Blocks}
@@ -19,10 +17,8 @@ use Rattle.jpg_spec_image.specs.declared.image.EndKind.{EndKind}
 use Rattle.jpg_spec.proofs.Common.{both, lt_of}
 use Rattle.jpg_spec.proofs.RowCounts.{head_below, rows_down}
 use Rattle.jpg_spec_image.proofs.RowCounts.{picture_rows}
-use Rattle.jpg_spec_image.proofs.RowsHeader.{begun_covered}
 use Rattle.jpg_spec.proofs.RowsHeader.{begun_frame}
 use Rattle.jpg_spec.proofs.RowsLater.{head_there}
-use Rattle.jpg_spec_image.proofs.RowsReady.{text_goes_on}
 use Rattle.jpg_spec.proofs.WrittenFront.{standard_are_limits}
 use Rattle.jpg_base.specs.Cursor.{scan_mcus_down}
 use Rattle.jpg_seq.specs.Rows.{rows_in_mcu}
@@ -30,8 +26,8 @@ use Rattle.jpg_file.specs.Read.ReadRows.{AgreeInRows}
 use Rattle.jpg_file.specs.Read.RowsKnown.{rows_of_scan}
 use Rattle.jpg_color.specs.StripImage.{AgreeInFirstRows}
 use Rattle.jpg_cli.specs.Tools.ShowingRows.{Head, IsHeadIn}
-use Rattle.jpg_cli.proofs.RowsAgree.{frame_so_far, rows_told}
-use Rattle.jpg_cli.proofs.RowsWhole.{few_told, so_far, so_far_shown}
+use Rattle.jpg_cli.proofs.RowsAgree.{frame_so_far, rows_told, text_same}
+use Rattle.jpg_cli.proofs.RowsWhole.{so_far}
 
 -- THE NUMBER OF MCU ROWS of the picture
 same_down : (f : Frame) (ids : List ℕ) → rows_down f ids ≡ scan_mcus_down f ids
@@ -53,9 +49,9 @@ rows_of_picture h all blocks begins =
 turned : (a b : ℕ) → a * b ≡ b * a
 turned a b = grind arith
 
-early_agree : (h : Head) (all : List ℕ) (m : ℕ) (some blocks : Blocks) → BeginsScanOfAll standard_limits all h.before h.contents → AgreeInRows (frame_of standard_limits h.before) m some blocks → (i x z : ℕ) → z < block_rows (so_far h blocks) i * m
+early_agree : (h : Head) {all : List ℕ} {m : ℕ} {some blocks : Blocks} → BeginsScanOfAll standard_limits all h.before h.contents → AgreeInRows (frame_of standard_limits h.before) m some blocks → (i x z : ℕ) → z < block_rows (so_far h blocks) i * m
     → (so_far h blocks).blocks i x z ≡ (so_far h some).blocks i x z
-early_agree h all m some blocks begins agree i x z low = subst (λ g. real_blocks g blocks i x z ≡ real_blocks g some i x z) (sym stays) (by (nat_lt i (length f.components) && is_real f i x z) refl)
+early_agree h {all} {m} {some} {blocks} begins agree i x z low = subst (λ g. real_blocks g blocks i x z ≡ real_blocks g some i x z) (sym stays) (by (nat_lt i (length f.components) && is_real f i x z) refl)
   where
     f : Frame
     f = frame_of standard_limits h.before
@@ -80,30 +76,13 @@ early_agree h all m some blocks begins agree i x z low = subst (λ g. real_block
         let same = agree.same i x z lt (lt_of x (blocks_across f (component_at f i)) real.0) (lt_of z (blocks_down f (component_at f i)) real.1) (there lt) in
         ap (λ t. cond t (blocks i x z) (zeros 64)) e ∙ sym same ∙ sym (ap (λ t. cond t (some i x z) (zeros 64)) e)
 
-pub early_first : (h : Head) (all : List ℕ) (m : ℕ) (some blocks : Blocks) → BeginsScanOfAll standard_limits all h.before h.contents → AgreeInRows (frame_of standard_limits h.before) m some blocks → AgreeInFirstRows (so_far h some) (so_far h blocks) m
-early_first h all m some blocks begins agree = record {
+pub early_first : (h : Head) {all : List ℕ} {m : ℕ} {some blocks : Blocks} → BeginsScanOfAll standard_limits all h.before h.contents → AgreeInRows (frame_of standard_limits h.before) m some blocks → AgreeInFirstRows (so_far h some) (so_far h blocks) m
+early_first h {m} {blocks} begins agree = record {
   same = refl;
-  blocks = λ i x y has wide high low. sym (early_agree h all m some blocks begins agree i x y (subst (λ n. y < n) (turned m (block_rows (so_far h blocks) i)) low));
+  blocks = λ i x y has wide high low. sym (early_agree h begins agree i x y (subst (λ n. y < n) (turned m (block_rows (so_far h blocks) i)) low));
 }
 
 -- THEIR TEXT is the same
-pub early_text : (gray smooth : Bool) (kind : EndKind) (h : Head) (all : List ℕ) (m : ℕ) (some blocks : Blocks) → IsHeadIn gray h all → TellsRows standard_limits all m some → AgreeInRows (frame_of standard_limits h.before) m some blocks
+pub early_text : {gray : Bool} (smooth : Bool) (kind : EndKind) {h : Head} {all : List ℕ} {m : ℕ} {some blocks : Blocks} → IsHeadIn gray h all → TellsRows standard_limits all m some → AgreeInRows (frame_of standard_limits h.before) m some blocks
     → rows_text kind (so_far h some) gray smooth m ≡ rows_text kind (so_far h blocks) gray smooth m
-early_text gray smooth kind h all m some blocks head told agree = one (rows_text kind (so_far h some) gray smooth m) (rows_text kind (so_far h blocks) gray smooth m) up.0 down.0 up.1 down.1
-  where
-    shown : (x : Blocks) → IsShownInRows (so_far h x) gray smooth
-    shown x = begun_covered standard_limits all h.before h.contents x gray smooth standard_are_limits head.begins (so_far_shown gray h all x head)
-
-    up : (e : List ℕ) × (rows_text kind (so_far h blocks) gray smooth m ≡ rows_text kind (so_far h some) gray smooth m ++ e)
-    up =
-        text_goes_on kind (so_far h blocks) (so_far h some).blocks gray smooth m m (shown blocks) (omega arith) (few_told h all m some blocks head.begins told)
-        (λ i x z has low. early_agree h all m some blocks head.begins agree i x z low)
-
-    down : (e : List ℕ) × (rows_text kind (so_far h some) gray smooth m ≡ rows_text kind (so_far h blocks) gray smooth m ++ e)
-    down =
-        text_goes_on kind (so_far h some) (so_far h blocks).blocks gray smooth m m (shown some) (omega arith) (few_told h all m some some head.begins told)
-        (λ i x z has low. sym (early_agree h all m some blocks head.begins agree i x z low))
-
-    one : (a b x y : List ℕ) → b ≡ a ++ x → a ≡ b ++ y → a ≡ b
-    one a b [] y e g = sym (append-nil a) ∙ sym e
-    one a b (v ∷ x) y e g = absurd (let s = ap length e in let t = ap length g in omega (arith, s, t, length-append a (v ∷ x), length-append b y))
+early_text smooth kind {h} {blocks} head told agree = text_same smooth kind blocks head told (early_agree h head.begins agree)

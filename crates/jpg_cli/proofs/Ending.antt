@@ -44,18 +44,10 @@ show_then false a s0 s1 s2 w k t = (t.0, untouched_then s0 s1 s2 k t.1)
 
 report_then : (text : List ℕ) (s0 s1 s2 : DeskState) (w : Why) → OnlySays s1 s2 → ReportEnds text s0 w s1 → ReportEnds text s0 w s2
 report_then text s0 s1 s2 why.Done k h = wrote_then s0 s1 s2 [] name.Out text k h
-report_then text s0 s1 s2 (why.Warned n) k h = absurd h
-report_then text s0 s1 s2 (why.Usage u) k h = absurd h
-report_then text s0 s1 s2 (why.Refused f) k h = absurd h
-report_then text s0 s1 s2 (why.Picture p) k h = absurd h
-report_then text s0 s1 s2 (why.OpenFault which.Input) k h = absurd h
-report_then text s0 s1 s2 (why.OpenFault which.Script) k h = absurd h
-report_then text s0 s1 s2 (why.OpenFault which.Tables) k h = absurd h
-report_then text s0 s1 s2 (why.OpenFault which.Comment) k h = absurd h
 report_then text s0 s1 s2 (why.OpenFault which.Output) k h = unopened_then s0 s1 s2 (name.Out ∷ []) k h
-report_then text s0 s1 s2 (why.ReadFault u) k h = absurd h
 report_then text s0 s1 s2 why.WriteFault k h = ((let rose = h.0 in let f = k.stays.counts.writes in omega (arith, rose, f)), (h.1.0, wrote_then s0 s1 s2 [] name.Out (take h.1.0 text) k h.1.1))
 report_then text s0 s1 s2 why.NoMemory k h = untouched_then s0 s1 s2 k h
+report_then text s0 s1 s2 other k h = absurd h
 
 work_then : (has : Bool) (n : ℕ) (s0 s1 s2 : DeskState) (w : Why) → OnlySays s1 s2 → DidWork has n s0 w s1 → DidWork has n s0 w s2
 work_then true n s0 s1 s2 w k t = report_then (work_text n) s0 s1 s2 w k t

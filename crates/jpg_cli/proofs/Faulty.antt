@@ -5,7 +5,7 @@ use Rattle.jpg_base.specs.Desk.{DeskState}
 use Rattle.jpg_spec.specs.Segments.{standard_limits}
 use Rattle.jpg_spec.specs.Early.{IsMeaning, MeansAs}
 use Rattle.jpg_spec.specs.Meaning.{Meaning}
-use Rattle.jpg_spec_words.specs.TransformWords.{ScansSource, own_sequential, own_progressive, in_file, TransformAsked}
+use Rattle.jpg_spec_words.specs.TransformWords.{ScansSource, in_file, TransformAsked}
 use Rattle.jpg_spec.specs.declared.fault.FaultAt.{FaultAt}
 use Rattle.jpg_spec_words.specs.declared.answers.Why.{Why}
 use Rattle.jpg_spec_words.specs.declared.answers.Why.TheVariants as why
@@ -22,9 +22,8 @@ use Rattle.jpg_cli.proofs.TakenOnce.{told_fault, told_scans}
 -- THE SCRIPT'S FILE has a fault
 
 knows_script : (old : DeskState) (source : ScansSource) (f : FaultAt) → HasFaultyScript source f old → TellsFiles old
-knows_script old own_sequential f h = absurd h
-knows_script old own_progressive f h = absurd h
 knows_script old (in_file file) f (text, is, tells) = tells_files old (name.File file) text is
+knows_script old other f h = absurd h
 
 pub script_answered : (a : TransformAsked) (f : FaultAt) (old new : DeskState) (w : Why) → HasFaultyScript a.scans f old → NoneRose old.counts new.counts → Transformed a old w new → IsOrNoMemory (why.Refused f) w
 script_answered a f old new w has none turned = turn_answered a (why.Refused f) w old new (knows_script old a.scans f has) (inl (told_fault old a.scans f has)) none turned

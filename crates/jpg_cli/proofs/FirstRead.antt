@@ -2,13 +2,12 @@
 use Rattle.std.proofs.Common.{◌≡◌, ℕ, ◌<◌, ◌≤◌, Bool, true, false, List, [], ◌++◌, length, take, drop, refl, sym, ap, ◌∙◌, subst, arith, inl, inr, ◌⊎◌, Option, Some, None, Result, Ok, Err}
 use Rattle.std.specs.List.{All}
 use Rattle.std.specs.Option.{is_some}
-use Rattle.std.proofs.lemmas.Bool.{cases_lt}
 use Rattle.std.proofs.lemmas.List.{append_assoc, append-nil, length-append, length-take-le, take_all, take-append-drop, take-append-le}
 use Rattle.jpg_base.specs.declared.stop.Stop.{Stop}
 use Rattle.jpg_base.specs.declared.stop.Stop.TheVariants as stop
-use Rattle.jpg_spec.specs.FirstFault.{IsFirstFault, Reveals}
+use Rattle.jpg_spec.specs.FirstFault.{IsFirstFault}
 use Rattle.jpg_spec.specs.Header.{IsHeader}
-use Rattle.jpg_spec.specs.UnfinishedFile.{UnfinishedFile, IsWholeFile}
+use Rattle.jpg_spec.specs.UnfinishedFile.{IsWholeFile}
 use Rattle.jpg_spec.specs.Markers.{Segment}
 use Rattle.jpg_spec.specs.Meaning.{Meaning}
 use Rattle.jpg_spec.specs.InForce.{colours_after, factors_after}
@@ -19,7 +18,6 @@ use Rattle.jpg_spec.specs.declared.fault.FaultAt.{FaultAt}
 use Rattle.jpg_spec_words.specs.declared.answers.Why.TheVariants as why
 use Rattle.jpg_spec.specs.declared.fault.Fault.{Fault}
 use Rattle.jpg_spec.specs.declared.frame.Limits.{Limits}
-use Rattle.jpg_spec.proofs.FileLaws.{shown_not_standing}
 use Rattle.jpg_spec.proofs.FirstScan.{header_stands}
 use Rattle.jpg_spec.proofs.OneHeader.{whole_once}
 use Rattle.jpg_file.specs.Read.FirstHeader.{IsFirstHeaderOf}
@@ -40,7 +38,7 @@ use Rattle.jpg_cli.specs.Tools.ShowingRows.{AfterFirst, BeginsShownRows, HasFedP
 use Rattle.jpg_cli.specs.declared.desk.picture.Wanted.TheVariants.{Image}
 use Rattle.jpg_cli.proofs.PictureBytes.{early_end, has_fed, holds_file, new_place, refused_end, refused_there, short_piece, stop_within}
 use Rattle.jpg_cli.proofs.RowHeads.{begins_still, begins_whole, shown_before}
-use Rattle.jpg_cli.proofs.Unwanted.{stop_wanted, unwanted_head, unwanted_more, unwanted_within, wanted_head}
+use Rattle.jpg_cli.proofs.Unwanted.{fault_after, stop_wanted, unwanted_head, unwanted_more, unwanted_within, wanted_head}
 
 -- THE HEAD that the reader keeps is that of a prefix of the bytes
 
@@ -71,18 +69,6 @@ head_in bytes piece m (Err stop.NoMemory) r ((n, few, h), none, plain) = record 
 
 -- A PICTURE THAT CAN'T BE DISPLAYED
 
--- a fault comes after bytes that have none
-fault_later : (bytes rest : List ℕ) (fault : Fault) (n : ℕ) → UnfinishedFile standard_limits bytes → length bytes ≤ standard_limits.input → IsFirstFault standard_limits (bytes ++ rest) fault n → length bytes ≤ n
-fault_later bytes rest fault n stands short (inl k) = by (cases_lt n (length bytes))
-  where
-    by : (n < length bytes) ⊎ (length bytes ≤ n) → length bytes ≤ n
-    by (inr many) = many
-    by (inl few) =
-        absurd (shown_not_standing standard_limits fault (take n bytes) (drop n bytes) bytes
-        (subst (λ l. Reveals standard_limits fault l) (take-append-le n bytes rest (omega (arith, few))) k.1.1) stands (take-append-drop n bytes))
-fault_later bytes rest fault n stands short (inr (inl k)) = (let at = k.1 in omega (arith, at, short))
-fault_later bytes rest fault n stands short (inr (inr k)) = (let at = k.1 in omega (arith, at, length-append bytes rest))
-
 -- bytes that reveal it are refused for it, whatever follows
 unwanted_always : (gray : Bool) (all rest : List ℕ) (f : FaultAt) → length all ≤ standard_limits.input → IsUnwanted (Image gray) all f → IsRefusedFor (Image gray) (all ++ rest) f
 unwanted_always gray all rest f most s = inr (unwanted_more (Image gray) all rest f s, λ g refused. late g refused)
@@ -99,7 +85,7 @@ unwanted_always gray all rest f most s = inr (unwanted_more (Image gray) all res
     late : (g : FaultAt) → IsFirstFault standard_limits (all ++ rest) g.fault g.at → f.at ≤ g.at
     late g refused =
         let within = s.within in
-        let k = fault_later front (drop f.at all ++ rest) g.fault g.at (header_stands standard_limits front s.before s.contents s.header s.unbroken) (omega (arith, size, within, most))
+        let k = fault_after front (drop f.at all ++ rest) g.fault g.at (header_stands standard_limits front s.before s.contents s.header s.unbroken) (omega (arith, size, within, most))
         (subst (λ l. IsFirstFault standard_limits l g.fault g.at) cut refused) in omega (arith, k, size)
 
 none_told : (f : Fault) → None ≡ Some f → ⊥

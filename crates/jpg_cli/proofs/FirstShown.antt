@@ -4,11 +4,9 @@ use Rattle.std.specs.Io.KnownBytes.{Consumes}
 use Rattle.jpg_base.specs.declared.names.Name.{Name}
 use Rattle.jpg_base.specs.declared.names.Put.TheVariants as put
 use Rattle.jpg_base.specs.Desk.{DeskState, Opens}
-use Rattle.jpg_spec.specs.UnfinishedFile.{IsWholeFile}
 use Rattle.jpg_spec_image.specs.ImageText.{end_text}
 use Rattle.jpg_spec.specs.Meaning.{Meaning}
 use Rattle.jpg_spec_image.specs.Pixels.{info, out_fault, pixels}
-use Rattle.jpg_spec.specs.declared.frame.Limits.{Limits}
 use Rattle.jpg_spec.specs.Segments.{standard_limits}
 use Rattle.jpg_spec_words.specs.declared.answers.Why.{Why}
 use Rattle.jpg_spec_words.specs.declared.answers.Why.TheVariants as why
@@ -20,9 +18,8 @@ use Rattle.jpg_cli.proofs.KeepingLaws.{out_same}
 use Rattle.jpg_file.specs.Read.RowsNone.{HasNoRows}
 use Rattle.jpg_file.specs.declared.read.picture.Picture.{Picture}
 use Rattle.jpg_cli.specs.Desk.Reading.{rest_of}
-use Rattle.jpg_cli.specs.Desk.Judging.{IsAllRead, ReadsFrom}
-use Rattle.jpg_cli.specs.Desk.Judging.{TakesPieces}
-use Rattle.jpg_cli.specs.Desk.ReadPicture.{HoldsFile, IsOpenRead, IsReadPicture, IsRefusedRead, IsShortRead, IsWholeRead, unwanted_for}
+use Rattle.jpg_cli.specs.Desk.Judging.{IsAllRead, ReadsFrom, TakesPieces}
+use Rattle.jpg_cli.specs.Desk.ReadPicture.{IsOpenRead, IsReadPicture, IsRefusedRead, IsShortRead, unwanted_for}
 use Rattle.jpg_cli.specs.Outcome.{all_bytes, bytes_before}
 use Rattle.jpg_cli.specs.Tools.Showing.{AfterImage, IsPlain, Shown, Showing, shown_text}
 use Rattle.jpg_cli.specs.Tools.ShowingRows.{EndsPlainly, HoldsEarlyPlainly, HoldsPlainly}
@@ -32,27 +29,18 @@ use Rattle.jpg_cli.specs.declared.desk.picture.Wanted.TheVariants.{Image}
 use Rattle.jpg_cli.proofs.CommentsCopied.{none_read, works_then}
 use Rattle.jpg_cli.proofs.ImageShown.{shown_written, text_shown}
 use Rattle.jpg_cli.proofs.Input.{file_read, noted}
-use Rattle.jpg_cli.proofs.PictureTaken.{early_meaning, early_taken, reads_from, reads_none, stopped_there}
+use Rattle.jpg_cli.proofs.PictureTaken.{early_meaning, early_taken, file_taken, reads_from, reads_none, stopped_there}
 use Rattle.jpg_cli.proofs.Unwanted.{no_header}
 
 -- IT ENDS
 
 pub ends_plainly : (s : Showing) (old start new : DeskState) (ended : Why) → Opens old s.input put.Done start → OnlyReads start new → EndsPlainly s.gray start ended new → Shown s old ended new
-ends_plainly s old start new why.Done h k e = absurd e
-ends_plainly s old start new (why.Warned n) h k e = absurd e
-ends_plainly s old start new (why.Usage u) h k e = absurd e
-ends_plainly s old start new (why.Picture p) h k e = absurd e
 ends_plainly s old start new (why.Refused f) h k e =
     inl (stopped_there old start new s.input h k, reads_from old start new s.input (IsPlain s.gray (bytes_before f) (IsRefusedRead (Image s.gray) f (rest_of new.left))) h e)
-ends_plainly s old start new (why.OpenFault file) h k e = absurd e
 ends_plainly s old start new (why.ReadFault which.Input) h k e =
     ((let r = e.1 in let f = h.counts.reads in omega arith), inl (stopped_there old start new s.input h k, reads_from old start new s.input (IsPlain s.gray all_bytes (IsOpenRead (Image s.gray))) h e.0))
-ends_plainly s old start new (why.ReadFault which.Script) h k e = absurd e
-ends_plainly s old start new (why.ReadFault which.Tables) h k e = absurd e
-ends_plainly s old start new (why.ReadFault which.Comment) h k e = absurd e
-ends_plainly s old start new (why.ReadFault which.Output) h k e = absurd e
-ends_plainly s old start new why.WriteFault h k e = absurd e
 ends_plainly s old start new why.NoMemory h k e = inl (stopped_there old start new s.input h k, reads_from old start new s.input (IsShortRead (Image s.gray)) h e)
+ends_plainly s old start new other h k e = absurd e
 
 -- NO MEMORY for a reader
 pub nothing_read : (s : Showing) (old start : DeskState) → Opens old s.input put.Done start → Shown s old why.NoMemory start
@@ -68,17 +56,6 @@ nothing_read s old start h =
     inl (stopped_there old start start s.input h (reads_none start), reads_from old start start s.input (IsShortRead (Image s.gray)) h ([], none_read start.left, omega arith, short))
 
 -- IT IS COMPLETE
-
--- the bytes are the complete file that the reader has
-whole_read : (w : Wanted) (bytes : List ℕ) (r : ReaderState) → r.limits ≡ standard_limits → (h : HoldsFile w r bytes) → IsWholeRead w (h.done).meaning bytes
-whole_read w bytes r e h = record {
-  count = h.count;
-  within = h.within;
-  last = h.last;
-  whole = subst (λ (l : Limits). IsWholeFile l (take h.count bytes) (h.done).meaning) e (h.done).whole;
-  small = h.small;
-  wanted = h.wanted;
-}
 
 -- the picture that was taken of it means what the file means, except for markers that weren't kept
 pub record IsTaken (s : Showing) (early : Option ℕ) (start now : DeskState) (r : ReaderState) (p : Picture) : Type 0 where
@@ -100,7 +77,7 @@ whole_taken s start now r p e takes (bytes, read, most, h) =
       bytes = bytes;
       read = read;
       most = most;
-      is = whole_read (Image s.gray) bytes r e h.holds;
+      is = file_taken (Image s.gray) bytes r e h.holds;
       all = tt;
       plain = h.plain;
     }
@@ -127,7 +104,7 @@ taken_admitted s early start now r p h = ap (out_fault s.gray) h.means ∙ out_s
 
 pub keeps_after : (old start now : DeskState) (file : Name) → Opens old file put.Done start → OnlyReads start now → Keeps old now
 keeps_after old start now file h k = record {
-  works = works_then old start now (record { stays = record { counts = h.counts; files = h.files }; said = h.said }) k.copies.works;
+  works = works_then (record { stays = record { counts = h.counts; files = h.files }; said = h.said }) k.copies.works;
   outputs = k.outputs ∙ h.outputs;
 }
 

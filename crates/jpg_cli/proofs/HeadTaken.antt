@@ -78,17 +78,11 @@ fed_at_head bytes piece comment text replace None c e some nothing short h =
     let all = bytes ++ piece in
     let is = inserted_so_far comment all text c e some h in
     head_in_piece bytes piece comment text c.replace (length all) nothing short (subst (λ (b : List ℕ). IsInserted standard_limits b comment c.replace text) (sym (take_all (length all) all (omega arith))) is)
-fed_at_head bytes piece comment text replace (Some why.Done) c e some nothing short h = absurd h
-fed_at_head bytes piece comment text replace (Some (why.Warned n)) c e some nothing short h = absurd h
-fed_at_head bytes piece comment text replace (Some (why.Usage u)) c e some nothing short h = absurd h
-fed_at_head bytes piece comment text replace (Some (why.Picture p)) c e some nothing short h = absurd h
 fed_at_head bytes piece comment text replace (Some (why.Refused f)) c e some nothing short (of, inl (none, faults)) = absurd (not_none text none some)
 fed_at_head bytes piece comment text replace (Some (why.Refused f)) c e some nothing short (of, inr (long, is)) = head_in_piece bytes piece comment text replace f.at nothing short is
-fed_at_head bytes piece comment text replace (Some (why.OpenFault w)) c e some nothing short h = absurd h
-fed_at_head bytes piece comment text replace (Some (why.ReadFault w)) c e some nothing short h = absurd h
-fed_at_head bytes piece comment text replace (Some why.WriteFault) c e some nothing short h = absurd h
 fed_at_head bytes piece comment text replace (Some why.NoMemory) c e some nothing short (inl none) = absurd (not_none text none some)
 fed_at_head bytes piece comment text replace (Some why.NoMemory) c e some nothing short (inr (n, front, whole, is, part)) = head_in_piece bytes piece comment whole replace front nothing short is
+fed_at_head bytes piece comment text replace other c e some nothing short h = absurd h
 
 -- what a piece appended is all of the pending text
 fed_text : (comment all old out : List ℕ) (replace : Bool) (due : Option Why) (c : Insert) → old ≡ [] → Appends (λ text. AfterFed comment replace all text due c) [] old out → AfterFed comment replace all out due c
@@ -108,20 +102,14 @@ head_begun s0 s1 n buf comment bytes old out replace due was c most e f empty sh
 
 ended : (s0 s1 : DeskState) (piece comment bytes text : List ℕ) (replace : Bool) (w : Why) (was c : Insert) → length (bytes ++ piece) ≤ standard_limits.input → was.limits ≡ standard_limits → length piece ≤ 65536 → HasInserted comment bytes [] was → Consumes s0.left s1.left piece
     → AfterFed comment replace (bytes ++ piece) text (Some w) c → text ≡ [] → EndsBefore bytes s0 w s1
-ended s0 s1 piece comment bytes text replace why.Done was c most e short h read fed none = absurd fed
-ended s0 s1 piece comment bytes text replace (why.Warned n) was c most e short h read fed none = absurd fed
-ended s0 s1 piece comment bytes text replace (why.Usage u) was c most e short h read fed none = absurd fed
-ended s0 s1 piece comment bytes text replace (why.Picture p) was c most e short h read fed none = absurd fed
 ended s0 s1 piece comment bytes text replace (why.Refused f) was c most e short h read (of, inl (empty, faults)) none =
     let nothing = nothing_there comment bytes was e h in
     let within = fault_within (HoldsHead standard_limits) ((bytes ++ piece) ++ []) f.fault f.at (faults []) in
     let last = fault_last (HoldsHead standard_limits) bytes piece f nothing.shows nothing.short short (faults []) in
     (piece, read, most, (faults (rest_of s1.left), omega (arith, within, length-append (bytes ++ piece) []), last))
 ended s0 s1 piece comment bytes text replace (why.Refused f) was c most e short h read (of, inr (long, is)) none = absurd (not_none text none (text_is_some (take f.at (bytes ++ piece)) comment text replace is))
-ended s0 s1 piece comment bytes text replace (why.OpenFault w) was c most e short h read fed none = absurd fed
-ended s0 s1 piece comment bytes text replace (why.ReadFault w) was c most e short h read fed none = absurd fed
-ended s0 s1 piece comment bytes text replace why.WriteFault was c most e short h read fed none = absurd fed
 ended s0 s1 piece comment bytes text replace why.NoMemory was c most e short h read fed none = (piece, read, most)
+ended s0 s1 piece comment bytes text replace other was c most e short h read fed none = absurd fed
 
 pub head_ended : (s0 s1 : DeskState) (n : ℕ) (buf comment bytes old out : List ℕ) (replace : Bool) (w : Why) (was c : Insert) → length (bytes ++ take n buf) ≤ standard_limits.input → was.limits ≡ standard_limits → old ≡ [] → length buf ≤ 65536
     → HasInserted comment bytes [] was → Reads s0 (got.Bytes n) buf s1 → Appends (λ text. AfterFed comment replace (bytes ++ take n buf) text (Some w) c) [] old out → out ≡ [] → EndsBefore bytes s0 w s1
@@ -130,9 +118,6 @@ head_ended s0 s1 n buf comment bytes old out replace w was c most e empty short 
 
 pub head_ends : (s0 s1 : DeskState) (comment bytes : List ℕ) (replace : Bool) (w : Why) (was : Insert) → was.limits ≡ standard_limits → HasInserted comment bytes [] was → IsAtEnd s0.left → s1.left ≡ s0.left → AfterAll comment replace bytes [] w → EndsBefore bytes s0 w s1
 head_ends s0 s1 comment bytes replace why.Done was e h end left a = absurd (not_none [] refl (text_is_some bytes comment [] replace a.0))
-head_ends s0 s1 comment bytes replace (why.Warned n) was e h end left a = absurd a
-head_ends s0 s1 comment bytes replace (why.Usage u) was e h end left a = absurd a
-head_ends s0 s1 comment bytes replace (why.Picture p) was e h end left a = absurd a
 head_ends s0 s1 comment bytes replace (why.Refused f) was e h end left a =
     let nothing = nothing_there comment bytes was e h in
     let none : rest_of s1.left ≡ [] = ap rest_of left ∙ none_left s0.left end in
@@ -143,7 +128,4 @@ head_ends s0 s1 comment bytes replace (why.Refused f) was e h end left a =
       (let short = nothing.short in omega (arith, short, ap length (append-nil bytes))),
       (subst (λ (b : List ℕ). IsHeadFault standard_limits b f.fault f.at) (sym same) a.0, omega (arith, at, ap length (append-nil bytes)), omega (arith, at, ap length (append-nil bytes))),
     )
-head_ends s0 s1 comment bytes replace (why.OpenFault w) was e h end left a = absurd a
-head_ends s0 s1 comment bytes replace (why.ReadFault w) was e h end left a = absurd a
-head_ends s0 s1 comment bytes replace why.WriteFault was e h end left a = absurd a
-head_ends s0 s1 comment bytes replace why.NoMemory was e h end left a = absurd a
+head_ends s0 s1 comment bytes replace other was e h end left a = absurd a

@@ -6,7 +6,7 @@ use Rattle.jpg_base.specs.Desk.{DeskState}
 use Rattle.jpg_spec_encode.specs.Encoded.{Encoding, encode_fault, encoded, encoded_script, encoded_text, sampling_fault}
 use Rattle.jpg_spec_words.specs.EncodeWords.{EncodeAsked, encoding_asked}
 use Rattle.jpg_spec_encode.specs.EncodingLaws.{AreFactors, IsEncodable}
-use Rattle.jpg_spec.specs.Segments.{AreQuantisers}
+use Rattle.jpg_spec.specs.Segments.{AreQuantisers, QuantTable, standard_limits}
 use Rattle.jpg_spec_write.specs.WrittenFile.{IsRestart}
 use Rattle.jpg_spec_write.specs.FileText.{frame_of_meaning}
 use Rattle.jpg_spec.specs.InForce.{first_some}
@@ -15,7 +15,6 @@ use Rattle.jpg_spec_image.specs.Images.{Image}
 use Rattle.jpg_spec_write.specs.ScansAsked.{Scans}
 use Rattle.jpg_spec_move.specs.Moved.{as_it_is, moved_text, picture_fault}
 use Rattle.jpg_spec.specs.FileMeaning.{Means}
-use Rattle.jpg_spec.specs.Segments.{QuantTable, standard_limits}
 use Rattle.jpg_spec_words.specs.declared.answers.Why.{Why}
 use Rattle.jpg_spec_words.specs.declared.answers.Why.TheVariants as why
 use Rattle.jpg_spec_write.specs.declared.picture_fault.PictureFault.{PictureFault}

@@ -107,13 +107,6 @@ shown_written s M early s0 s1 s2 why.Done h (whole, asked, grows) =
     (M, (subst (λ (o : Option ℕ). ReadsShown s M o s0 s2) whole (image_on s M early s0 s1 s2 h), wrote_image s M early s0 s1 s2 (shown_text s M) h asked grows, tt))
 shown_written s M early s0 s1 s2 (why.Warned n) h (cut, asked, grows) =
     (M, (subst (λ (o : Option ℕ). ReadsShown s M o s0 s2) cut (image_on s M early s0 s1 s2 h), wrote_image s M early s0 s1 s2 (shown_text s M) h asked grows, tt))
-shown_written s M early s0 s1 s2 (why.Usage u) h k = absurd k
-shown_written s M early s0 s1 s2 (why.Refused f) h k = absurd k
-shown_written s M early s0 s1 s2 (why.Picture p) h k = absurd k
-shown_written s M early s0 s1 s2 (why.OpenFault which.Input) h k = absurd k
-shown_written s M early s0 s1 s2 (why.OpenFault which.Script) h k = absurd k
-shown_written s M early s0 s1 s2 (why.OpenFault which.Tables) h k = absurd k
-shown_written s M early s0 s1 s2 (why.OpenFault which.Comment) h k = absurd k
 shown_written s M early s0 s1 s2 (why.OpenFault which.Output) h (asked, rose, same) = (
   record {
     stopped = record { asked = asks_next s0 s1 s2 (s.input ∷ []) s.output put.Failed (h.value).asked asked; outputs = same ∙ (h.value).kept.outputs };
@@ -121,12 +114,12 @@ shown_written s M early s0 s1 s2 (why.OpenFault which.Output) h (asked, rose, sa
   },
   inl (M, early, image_on s M early s0 s1 s2 h),
 )
-shown_written s M early s0 s1 s2 (why.ReadFault file) h k = absurd k
 shown_written s M early s0 s1 s2 why.WriteFault h (asked, rose, (n, grows)) = (
   (let f = (h.value).kept.works.stays.counts.writes in omega (arith, rose, f)),
   inl (record { part = in_part s M early s0 s1 s2 n h asked grows; early = none_early s ((h.value).read).bytes (take n (shown_text s M)) h.plain }),
 )
 shown_written s M early s0 s1 s2 why.NoMemory h (asked, (n, less, grows)) = inr (inl (record { part = in_part s M early s0 s1 s2 n h asked grows; left = less }))
+shown_written s M early s0 s1 s2 other h k = absurd k
 
 -- AS THE WORDS ASK FOR IT
 

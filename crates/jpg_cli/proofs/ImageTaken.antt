@@ -89,15 +89,9 @@ too_long bytes rest r h full =
 after_piece : (start s1 : DeskState) (bytes piece : List ℕ) (answer : ImageStep) (r : PixelReader) → 0 < length piece → length (bytes ++ piece) ≤ standard_limits.input → Consumes start.left s1.left (bytes ++ piece) → AfterTakingImagePiece (bytes ++ piece) answer r → AfterNextImagePiece start bytes answer r s1
 after_piece start s1 bytes piece step.More r some most read h = (piece, some, h, read, most)
 after_piece start s1 bytes piece step.Whole r some most read h = ((bytes ++ piece, read, most, h.0 (rest_of s1.left)), h.1)
-after_piece start s1 bytes piece (step.Ended why.Done) r some most read h = absurd h
-after_piece start s1 bytes piece (step.Ended (why.Warned m)) r some most read h = absurd h
-after_piece start s1 bytes piece (step.Ended (why.Usage u)) r some most read h = absurd h
-after_piece start s1 bytes piece (step.Ended (why.Picture p)) r some most read h = absurd h
 after_piece start s1 bytes piece (step.Ended (why.Refused f)) r some most read h = (bytes ++ piece, read, most, h (rest_of s1.left))
-after_piece start s1 bytes piece (step.Ended (why.OpenFault file)) r some most read h = absurd h
-after_piece start s1 bytes piece (step.Ended (why.ReadFault file)) r some most read h = absurd h
-after_piece start s1 bytes piece (step.Ended why.WriteFault) r some most read h = absurd h
 after_piece start s1 bytes piece (step.Ended why.NoMemory) r some most read h = (bytes ++ piece, read, most, h)
+after_piece start s1 bytes piece other r some most read h = absurd h
 
 pub piece_taken : (start s0 s1 : DeskState) (n : ℕ) (buf bytes : List ℕ) (answer : ImageStep) (r : PixelReader) → length (bytes ++ take n buf) ≤ standard_limits.input → Reads s0 (got.Bytes n) buf s1 → Consumes start.left s0.left bytes → AfterTakingImagePiece (bytes ++ take n buf) answer r
     → AfterNextImagePiece start bytes answer r s1
@@ -107,21 +101,14 @@ piece_taken start s0 s1 n buf bytes answer r most read had h =
 -- AT THE END
 
 pub image_end : (start s0 s1 : DeskState) (bytes : List ℕ) (answer : ImageStep) (r : PixelReader) → length bytes < standard_limits.input → IsAtEnd s0.left → s1.left ≡ s0.left → Consumes start.left s0.left bytes → AfterImageEnd bytes answer r → AfterNextImagePiece start bytes answer r s1
-image_end start s0 s1 bytes step.More r short end left had h = absurd h
 image_end start s0 s1 bytes step.Whole r short end left had h =
     let none : rest_of s1.left ≡ [] = ap rest_of left ∙ none_left s0.left end in
     ((bytes, left_still s0 s1 bytes start left had, omega (arith, short), subst (λ (rest : List ℕ). IsImageRead (image_read r) rest bytes) (sym none) h.0), h.1)
-image_end start s0 s1 bytes (step.Ended why.Done) r short end left had h = absurd h
-image_end start s0 s1 bytes (step.Ended (why.Warned m)) r short end left had h = absurd h
-image_end start s0 s1 bytes (step.Ended (why.Usage u)) r short end left had h = absurd h
-image_end start s0 s1 bytes (step.Ended (why.Picture p)) r short end left had h = absurd h
 image_end start s0 s1 bytes (step.Ended (why.Refused f)) r short end left had h =
     let none : rest_of s1.left ≡ [] = ap rest_of left ∙ none_left s0.left end in
     (bytes, left_still s0 s1 bytes start left had, omega (arith, short), subst (λ (rest : List ℕ). IsFaultRead f rest bytes) (sym none) h)
-image_end start s0 s1 bytes (step.Ended (why.OpenFault file)) r short end left had h = absurd h
-image_end start s0 s1 bytes (step.Ended (why.ReadFault file)) r short end left had h = absurd h
-image_end start s0 s1 bytes (step.Ended why.WriteFault) r short end left had h = absurd h
 image_end start s0 s1 bytes (step.Ended why.NoMemory) r short end left had h = (bytes, left_still s0 s1 bytes start left had, omega (arith, short), h)
+image_end start s0 s1 bytes other r short end left had h = absurd h
 
 -- A READ that failed
 pub image_unread : (start s0 s1 : DeskState) (bytes : List ℕ) (r : PixelReader) → HasFedImage bytes r → length bytes < standard_limits.input → OnlyReads start s0 → Consumes start.left s0.left bytes → Rose s0.counts.reads s1.counts.reads → s1.left ≡ s0.left

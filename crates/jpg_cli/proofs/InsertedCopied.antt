@@ -50,16 +50,10 @@ inserted_so_far comment bytes text c e some h = stands_whole comment bytes text 
 pub fed_part : (comment bytes text : List ℕ) (replace : Bool) (due : Option Why) (c : Insert) → c.limits ≡ standard_limits → c.replace ≡ replace → AfterFed comment replace bytes text due c → InsertsPart standard_limits comment replace bytes text
 fed_part comment bytes text replace None c e same h =
     subst (λ (b : Bool). InsertsPart standard_limits comment b bytes text) same (stands_part comment bytes text c.head c.replace c.taken (reading_of c.reader) (stands comment bytes text c e h))
-fed_part comment bytes text replace (Some why.Done) c e same h = absurd h
-fed_part comment bytes text replace (Some (why.Warned n)) c e same h = absurd h
-fed_part comment bytes text replace (Some (why.Usage u)) c e same h = absurd h
-fed_part comment bytes text replace (Some (why.Picture p)) c e same h = absurd h
 fed_part comment bytes text replace (Some (why.Refused f)) c e same (of, inl (none, faults)) = inl none
 fed_part comment bytes text replace (Some (why.Refused f)) c e same (of, inr (long, is)) = inr (length text, f.at, text, is, sym (take_all (length text) text (omega arith)))
-fed_part comment bytes text replace (Some (why.OpenFault w)) c e same h = absurd h
-fed_part comment bytes text replace (Some (why.ReadFault w)) c e same h = absurd h
-fed_part comment bytes text replace (Some why.WriteFault) c e same h = absurd h
 fed_part comment bytes text replace (Some why.NoMemory) c e same h = h
+fed_part comment bytes text replace other c e same h = absurd h
 
 -- if there is a text, the marker is in the bytes
 pub file_part : (comment bytes text : List ℕ) (replace : Bool) → 0 < length text → InsertsPart standard_limits comment replace bytes text → IsFilePart comment replace bytes text
@@ -91,28 +85,22 @@ long_file comment bytes text rest replace f of long is =
 rest_due : (start s2 : DeskState) (comment bytes piece all : List ℕ) (replace : Bool) (due : Option Why) (c : Insert) → 0 < length piece → 0 < length all → AfterFed comment replace (bytes ++ piece) all due c → HasCopied start (bytes ++ piece) all s2
     → AfterRest comment replace start bytes due c s2
 rest_due start s2 comment bytes piece all replace None c more some h k = (piece, all, more, some, h, k)
-rest_due start s2 comment bytes piece all replace (Some why.Done) c more some h k = absurd h
-rest_due start s2 comment bytes piece all replace (Some (why.Warned n)) c more some h k = absurd h
-rest_due start s2 comment bytes piece all replace (Some (why.Usage u)) c more some h k = absurd h
-rest_due start s2 comment bytes piece all replace (Some (why.Picture p)) c more some h k = absurd h
 rest_due start s2 comment bytes piece all replace (Some (why.Refused f)) c more some (of, inl (none, faults)) k = absurd (not_none all none some)
 rest_due start s2 comment bytes piece all replace (Some (why.Refused f)) c more some (of, inr (long, is)) k =
     (bytes ++ piece, all, k, long_file comment (bytes ++ piece) all (rest_of s2.left) replace f of long is)
-rest_due start s2 comment bytes piece all replace (Some (why.OpenFault w)) c more some h k = absurd h
-rest_due start s2 comment bytes piece all replace (Some (why.ReadFault w)) c more some h k = absurd h
-rest_due start s2 comment bytes piece all replace (Some why.WriteFault) c more some h k = absurd h
 rest_due start s2 comment bytes piece all replace (Some why.NoMemory) c more some h k = (bytes ++ piece, all, k, file_part comment (bytes ++ piece) all replace some h)
+rest_due start s2 comment bytes piece all replace other c more some h k = absurd h
 
-pub rest_fed : (start s0 s1 s2 : DeskState) (n : ℕ) (buf comment bytes text old out : List ℕ) (replace : Bool) (due : Option Why) (c : Insert) → length (bytes ++ take n buf) ≤ standard_limits.input → old ≡ [] → 0 < length text → Reads s0 (got.Bytes n) buf s1
+pub rest_fed : {start s0 s1 s2 : DeskState} {n : ℕ} {buf : List ℕ} (comment : List ℕ) {bytes text old : List ℕ} (out : List ℕ) (replace : Bool) (due : Option Why) (c : Insert) → length (bytes ++ take n buf) ≤ standard_limits.input → old ≡ [] → 0 < length text → Reads s0 (got.Bytes n) buf s1
     → Appends (λ all. AfterFed comment replace (bytes ++ take n buf) all due c) text old out → HasCopied start bytes text s0 → OnlyWrites s1 s2 → AfterWrite s1 out put.Done s2 → AfterRest comment replace start bytes due c s2
-rest_fed start s0 s1 s2 n buf comment bytes text old out replace due c most empty some r h had k w =
+rest_fed {start} {s1} {s2} {n} {buf} comment {bytes} {text} {old} out replace due c most empty some r h had k w =
     let written = subst (λ (m : List ℕ). AppendsLast s1.outputs m s2.outputs) (sym (text_added old out h.0 empty h.1)) w in
     rest_due start s2 comment bytes (take n buf) (text ++ h.0) replace due c (some_taken n buf r.after.0 r.after.1) (omega (arith, some, length-append text h.0)) h.2
-    (copied start s0 s1 s2 bytes text (take n buf) h.0 most had r.after.2 r.outputs k written)
+    (copied (take n buf) h.0 most had r.after.2 r.outputs k written)
 
-pub rest_failed : (start s0 s1 s2 : DeskState) (n : ℕ) (buf comment bytes text old out : List ℕ) (replace : Bool) (due : Option Why) (c : Insert) → length (bytes ++ take n buf) ≤ standard_limits.input → c.limits ≡ standard_limits → c.replace ≡ replace → old ≡ [] → 0 < length text → Reads s0 (got.Bytes n) buf s1
+pub rest_failed : {start s0 s1 s2 : DeskState} {n : ℕ} {buf : List ℕ} (comment : List ℕ) {bytes text old : List ℕ} (out : List ℕ) (replace : Bool) (due : Option Why) (c : Insert) → length (bytes ++ take n buf) ≤ standard_limits.input → c.limits ≡ standard_limits → c.replace ≡ replace → old ≡ [] → 0 < length text → Reads s0 (got.Bytes n) buf s1
     → Appends (λ all. AfterFed comment replace (bytes ++ take n buf) all due c) text old out → OnlyCopies start s0 → HasCopied start bytes text s0 → OnlyWrites s1 s2 → AfterWrite s1 out put.Failed s2 → EndsInserting comment replace start why.WriteFault s2
-rest_failed start s0 s1 s2 n buf comment bytes text old out replace due c most e same empty some r h still had k w =
+rest_failed {start} {s0} {s1} {s2} {n} {buf} comment {bytes} {text} {old} out replace due c most e same empty some r h still had k w =
     let piece = take n buf in
     let wrote = subst (λ (m : List ℕ). AfterWrite s1 m put.Failed s2) (sym (text_added old out h.0 empty h.1)) w in
     let written = AppendsPart-then start.outputs s1.outputs s2.outputs text h.0 (outputs_still s0 s1 text start r.outputs had.written) wrote.1 in
@@ -123,21 +111,15 @@ rest_failed start s0 s1 s2 n buf comment bytes text old out replace due c most e
 
 -- THE END
 
-pub rest_unread : (start s0 s1 : DeskState) (comment bytes text : List ℕ) (c : Insert) → c.limits ≡ standard_limits → 0 < length text → HasInserted comment bytes text c → OnlyCopies start s0 → HasCopied start bytes text s0 → Rose s0.counts.reads s1.counts.reads → s1.left ≡ s0.left
+pub rest_unread : {start s0 : DeskState} (s1 : DeskState) (comment : List ℕ) {bytes text : List ℕ} (c : Insert) → c.limits ≡ standard_limits → 0 < length text → HasInserted comment bytes text c → OnlyCopies start s0 → HasCopied start bytes text s0 → Rose s0.counts.reads s1.counts.reads → s1.left ≡ s0.left
     → s1.outputs ≡ s0.outputs → EndsInserting comment c.replace start (why.ReadFault which.Input) s1
-rest_unread start s0 s1 comment bytes text c e some h still had rose left outputs = (
+rest_unread {start} {s0} s1 comment {bytes} {text} c e some h still had rose left outputs = (
   (bytes, text, copied_still start s0 s1 bytes text had left outputs, (inserted_so_far comment bytes text c e some h, fed_short comment bytes text c e h)),
   (let f = still.works.stays.counts.reads in omega (arith, rose, f)),
 )
 
-pub rest_ends : (start s0 s1 : DeskState) (comment bytes text : List ℕ) (replace : Bool) (w : Why) → 0 < length text → HasCopied start bytes text s0 → IsAtEnd s0.left → s1.left ≡ s0.left → s1.outputs ≡ s0.outputs → AfterAll comment replace bytes text w → EndsInserting comment replace start w s1
-rest_ends start s0 s1 comment bytes text replace why.Done some had end left outputs h =
+pub rest_ends : {start s0 : DeskState} (s1 : DeskState) (comment : List ℕ) {bytes text : List ℕ} (replace : Bool) (w : Why) → 0 < length text → HasCopied start bytes text s0 → IsAtEnd s0.left → s1.left ≡ s0.left → s1.outputs ≡ s0.outputs → AfterAll comment replace bytes text w → EndsInserting comment replace start w s1
+rest_ends {start} {s0} s1 comment {bytes} {text} replace why.Done some had end left outputs h =
     ((bytes, text, copied_still start s0 s1 bytes text had left outputs, h), (let P : Option (List ℕ) → Type 0 = λ l. IsAtEnd l in subst P (sym left) end))
-rest_ends start s0 s1 comment bytes text replace (why.Warned n) some had end left outputs h = absurd h
-rest_ends start s0 s1 comment bytes text replace (why.Usage u) some had end left outputs h = absurd h
-rest_ends start s0 s1 comment bytes text replace (why.Picture p) some had end left outputs h = absurd h
-rest_ends start s0 s1 comment bytes text replace (why.Refused f) some had end left outputs h = absurd (not_none text h.1 some)
-rest_ends start s0 s1 comment bytes text replace (why.OpenFault w) some had end left outputs h = absurd h
-rest_ends start s0 s1 comment bytes text replace (why.ReadFault w) some had end left outputs h = absurd h
-rest_ends start s0 s1 comment bytes text replace why.WriteFault some had end left outputs h = absurd h
-rest_ends start s0 s1 comment bytes text replace why.NoMemory some had end left outputs h = absurd h
+rest_ends s1 comment {text} replace (why.Refused f) some had end left outputs h = absurd (not_none text h.1 some)
+rest_ends s1 comment replace other some had end left outputs h = absurd h

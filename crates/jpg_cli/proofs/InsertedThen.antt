@@ -80,28 +80,20 @@ refused_then s0 s1 s2 task f k (inr (inr h)) =
 pub inserted_then : (s0 s1 s2 : DeskState) (task : Task) (w : Why) → OnlySays s1 s2 → Inserted task s0 w s1 → Inserted task s0 w s2
 inserted_then s0 s1 s2 task why.Done k h =
     (writes_then s0 s1 s2 task (λ comment. IsInsertedWhole comment task.replace) k h.0, (let P : Option (List ℕ) → Type 0 = λ l. IsAtEnd l in subst P (sym k.same.left) h.1))
-inserted_then s0 s1 s2 task (why.Warned n) k h = absurd h
-inserted_then s0 s1 s2 task (why.Usage u) k h = absurd h
-inserted_then s0 s1 s2 task (why.Picture p) k h = absurd h
 inserted_then s0 s1 s2 task (why.Refused f) k h = refused_then s0 s1 s2 task f k h
 inserted_then s0 s1 s2 task (why.OpenFault which.Input) k h = (unopened_then s0 s1 s2 (names_to_input task) k h.0, h.1)
-inserted_then s0 s1 s2 task (why.OpenFault which.Script) k h = absurd h
-inserted_then s0 s1 s2 task (why.OpenFault which.Tables) k h = absurd h
 inserted_then s0 s1 s2 task (why.OpenFault which.Comment) k h = (unopened_then s0 s1 s2 (names_of task.comment) k h.0, h.1)
 inserted_then s0 s1 s2 task (why.OpenFault which.Output) k h = (unopened_then s0 s1 s2 (names_to_output task) k h.0, input_then s0 s1 s2 task IsAtHead k h.1)
 inserted_then s0 s1 s2 task (why.ReadFault which.Input) k (inl h, rose) =
     (inl (reads_then s0 s1 s2 task IsNoHead k h), (let f = k.stays.counts.reads in omega (arith, rose, f)))
 inserted_then s0 s1 s2 task (why.ReadFault which.Input) k (inr h, rose) =
     (inr (writes_then s0 s1 s2 task (λ comment. IsInsertedWhole comment task.replace) k h), (let f = k.stays.counts.reads in omega (arith, rose, f)))
-inserted_then s0 s1 s2 task (why.ReadFault which.Script) k h = absurd h
-inserted_then s0 s1 s2 task (why.ReadFault which.Tables) k h = absurd h
 inserted_then s0 s1 s2 task (why.ReadFault which.Comment) k h = record {
   unread = unread_then s0 s1 s2 (names_of task.comment) k h.unread;
   from = h.from;
   bytes = h.bytes;
   source = (h.source.0, (let P : Option (List ℕ) → Type 0 = λ l. IsComment s0 task.comment (h.bytes ++ rest_of l) in subst P (sym k.same.left) h.source.1));
 }
-inserted_then s0 s1 s2 task (why.ReadFault which.Output) k h = absurd h
 inserted_then s0 s1 s2 task why.WriteFault k h =
     (writes_then s0 s1 s2 task (λ comment. IsFilePart comment task.replace) k h.0, (let r = h.1 in let f = k.stays.counts.writes in omega (arith, r, f)))
 inserted_then s0 s1 s2 task why.NoMemory k (inl h) = inl (record {
@@ -110,6 +102,7 @@ inserted_then s0 s1 s2 task why.NoMemory k (inl h) = inl (record {
   read = reads_last_then s0 s1 s2 task k.same.left h.read;
 })
 inserted_then s0 s1 s2 task why.NoMemory k (inr h) = inr (writes_then s0 s1 s2 task (λ comment. IsFilePart comment task.replace) k h)
+inserted_then s0 s1 s2 task other k h = absurd h
 
 -- WHERE NOTHING FAILED
 
@@ -121,24 +114,17 @@ whole_input s0 s1 input bytes h end =
 pub insert_due : (s0 s1 : DeskState) (task : Task) (w : Why) → NoneRose s0.counts s1.counts → Inserted task s0 w s1 → IsInsertDue task s0 w
 insert_due s0 s1 task why.Done n (h, end) =
     (let copied = h.copied in (h.comment, copied.bytes, copied.text, h.source, whole_input s0 s1 task.input copied.bytes copied.read.1 end, copied.is))
-insert_due s0 s1 task (why.Warned m) n h = absurd h
-insert_due s0 s1 task (why.Usage u) n h = absurd h
-insert_due s0 s1 task (why.Picture p) n h = absurd h
 insert_due s0 s1 task (why.Refused f) n (inl h) = inl (h.comment, h.source, h.long, h.fault)
 insert_due s0 s1 task (why.Refused f) n (inr (inl (stopped, h))) = inr (h.comment, h.bytes ++ rest_of s1.left, h.source, h.read.1, inl h.is.0)
 insert_due s0 s1 task (why.Refused f) n (inr (inr h)) = let copied = h.copied in inr (h.comment, copied.bytes ++ rest_of s1.left, h.source, copied.read.1, copied.is.0)
 insert_due s0 s1 task (why.OpenFault which.Input) n h = absurd (n.0 h.0.opens)
-insert_due s0 s1 task (why.OpenFault which.Script) n h = absurd h
-insert_due s0 s1 task (why.OpenFault which.Tables) n h = absurd h
 insert_due s0 s1 task (why.OpenFault which.Comment) n h = absurd (n.0 h.0.opens)
 insert_due s0 s1 task (why.OpenFault which.Output) n h = absurd (n.0 h.0.opens)
 insert_due s0 s1 task (why.ReadFault which.Input) n h = absurd (n.1 h.1)
-insert_due s0 s1 task (why.ReadFault which.Script) n h = absurd h
-insert_due s0 s1 task (why.ReadFault which.Tables) n h = absurd h
 insert_due s0 s1 task (why.ReadFault which.Comment) n h = absurd (n.1 h.unread.reads)
-insert_due s0 s1 task (why.ReadFault which.Output) n h = absurd h
 insert_due s0 s1 task why.WriteFault n h = absurd (n.2 h.1)
 insert_due s0 s1 task why.NoMemory n h = tt
+insert_due s0 s1 task other n h = absurd h
 
 -- WHAT THE WORDS ASK FOR
 

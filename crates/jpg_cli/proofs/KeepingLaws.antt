@@ -6,10 +6,9 @@ use Rattle.jpg_spec.specs.InForce.{first_some}
 use Rattle.jpg_spec.specs.Jfif.{jfif_of}
 use Rattle.jpg_spec.specs.Lists.{below}
 use Rattle.jpg_spec.specs.Markers.{Segment}
-use Rattle.jpg_spec.specs.Meaning.{Meaning, colour_of}
+use Rattle.jpg_spec.specs.Meaning.{Meaning, colour_of, component_of, most_across, most_down}
 use Rattle.jpg_spec_move.specs.Moved.{Choice, gray_fault, grayed, headed_as, is_gray_or_ycbcr, moved, moved_script_fault, moved_text, picture_fault, trimmed}
 use Rattle.jpg_spec_write.specs.ScansAsked.{asks_progressive, process_due, script_due}
-use Rattle.jpg_spec.specs.Meaning.{component_of, most_across, most_down}
 use Rattle.jpg_spec_write.specs.Headed.{copied, headed_kept}
 use Rattle.jpg_spec_image.specs.Pixels.{info, metre, out_fault, out_fault_of, pixels, shown_row, shows_gray}
 use Rattle.jpg_spec_write.specs.ScriptFaults.{script_fault}
@@ -23,7 +22,7 @@ use Rattle.jpg_spec.specs.declared.jfif.Jfif.{Jfif}
 use Rattle.jpg_spec_write.specs.declared.picture_fault.PictureFault.{PictureFault}
 use Rattle.jpg_spec_write.specs.declared.picture_fault.PictureFault.TheVariants.{GrayColour, GrayFactors}
 use Rattle.jpg_spec_move.specs.declared.transform.Transform.{Transform}
-use Rattle.jpg_spec_move.specs.declared.transform.Transform.TheVariants.{Keep, FlipH, FlipV, Transpose, Transverse, Rotate90, Rotate180, Rotate270}
+use Rattle.jpg_spec_move.specs.declared.transform.Transform.TheVariants.{Keep}
 use Rattle.jpg_file.specs.Read.Keeping.{is_wanted, kept_for}
 use Rattle.jpg_file.proofs.Keeping.{colour_same, jfif_same, passed_same}
 
@@ -38,13 +37,7 @@ grayed_with true kept M = refl
 
 transformed_with : (t : Transform) (kept : List Segment) (M : Meaning) → transformed t (with_kept kept M) ≡ with_kept kept (transformed t M)
 transformed_with Keep kept M = refl
-transformed_with FlipH kept M = refl
-transformed_with FlipV kept M = refl
-transformed_with Transpose kept M = refl
-transformed_with Transverse kept M = refl
-transformed_with Rotate90 kept M = refl
-transformed_with Rotate180 kept M = refl
-transformed_with Rotate270 kept M = refl
+transformed_with other kept M = refl
 
 trimmed_with : (trim : Bool) (t : Transform) (kept : List Segment) (M : Meaning) → trimmed trim t (with_kept kept M) ≡ with_kept kept (trimmed trim t M)
 trimmed_with false t kept M = refl

@@ -21,6 +21,7 @@ pub mod FoundEnds
 pub mod HeadTaken
 pub mod ImageEncoded
 pub mod ImageShown
+pub mod ImageStopped
 pub mod ImageTaken
 pub mod Input
 pub mod InsertedCopied

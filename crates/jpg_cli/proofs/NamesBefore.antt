@@ -34,7 +34,7 @@ after_none xs s0 s1 s2 b h =
     (notes_more s0.asked s1.asked s2.asked (asked_for xs put.Done) [] b.asked h)
 
 keeps_then : (a b c : DeskState) → Keeps a b → Keeps b c → Keeps a c
-keeps_then a b c h k = record { works = works_then a b c h.works k.works; outputs = k.outputs ∙ h.outputs }
+keeps_then a b c h k = record { works = works_then h.works k.works; outputs = k.outputs ∙ h.outputs }
 
 pub goes_on_more : (xs ys : List Name) (s0 s1 s2 : DeskState) → GoesOnAfter xs s0 s1 → GoesOnAfter ys s1 s2 → GoesOnAfter (xs ++ ys) s0 s2
 goes_on_more xs ys s0 s1 s2 b c = record {

@@ -13,7 +13,7 @@ use Rattle.jpg_cli.specs.Desk.ReadPicture.{IsRefused, IsRefusedFor}
 use Rattle.jpg_cli.specs.declared.desk.picture.Wanted.TheVariants.{Coefficients, Image}
 use Rattle.jpg_cli.specs.Tools.Showing.{showing_conversion}
 use Rattle.jpg_spec_write.specs.ScansAsked.{Scans}
-use Rattle.jpg_spec_words.specs.TransformWords.{ScansSource, own_sequential, own_progressive, in_file, TransformAsked}
+use Rattle.jpg_spec_words.specs.TransformWords.{ScansSource, in_file, TransformAsked}
 use Rattle.jpg_cli.specs.Desk.ScriptTaken.{HasScansFault, StopsAtScans}
 use Rattle.jpg_cli.specs.Tools.Turned.{Transformed, Turned, Turning, turning_conversion, turning_of}
 use Rattle.jpg_cli.proofs.RefusedOnce.{one_refusal}
@@ -44,19 +44,11 @@ pub none_refused : (input : List ℕ) (f : FaultAt) → IsRefused input f → Ha
 none_refused input f a (M, means) = none_faulty input M f means a
 
 turned_file : (a : TransformAsked) (scans : Scans) (old new : DeskState) (w : Why) → HasFile a old → Turned (turning_of a scans) old w new → IsNotRefused w
-turned_file a scans old new why.Done has h = tt
-turned_file a scans old new (why.Warned n) has h = tt
 turned_file a scans old new (why.Usage u) has h = absurd h
-turned_file a scans old new (why.Picture p) has h = tt
 turned_file a scans old new (why.Refused f) has h = absurd (none_refused has.bytes f (run_refused (turning_of a scans) old new has.bytes f has.told h) has.means)
-turned_file a scans old new (why.OpenFault file) has h = tt
-turned_file a scans old new (why.ReadFault file) has h = tt
-turned_file a scans old new why.WriteFault has h = tt
-turned_file a scans old new why.NoMemory has h = tt
+turned_file a scans old new other has h = tt
 
 told_script : (a : TransformAsked) (source : ScansSource) (old new : DeskState) (w : Why) → source ≡ a.scans → HasFile a old → StopsAtScans source old w new → IsNotRefused w
-told_script a own_sequential old new w e has h = absurd h
-told_script a own_progressive old new w e has h = absurd h
 told_script a (in_file file) old new why.Done e has h = tt
 told_script a (in_file file) old new (why.Warned n) e has h = absurd h
 told_script a (in_file file) old new (why.Usage u) e has h = absurd h
@@ -68,6 +60,7 @@ told_script a (in_file file) old new (why.OpenFault which) e has h = tt
 told_script a (in_file file) old new (why.ReadFault which) e has h = tt
 told_script a (in_file file) old new why.WriteFault e has h = tt
 told_script a (in_file file) old new why.NoMemory e has h = tt
+told_script a other old new w e has h = absurd h
 
 pub transformed_file : (a : TransformAsked) (old new : DeskState) (w : Why) → HasFile a old → Transformed a old w new → IsNotRefused w
 transformed_file a old new w has (inl h) = told_script a a.scans old new w refl has h

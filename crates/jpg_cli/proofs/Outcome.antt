@@ -96,21 +96,14 @@ module _ (V : Type 0) (c : Conversion V) (s0 s1 s2 : DeskState) (k : OnlySays s1
   pub converted_then : (w : Why) → Converted c s0 w s1 → Converted c s0 w s2
   converted_then why.Done (x, h) = (x, whole_then x None h)
   converted_then (why.Warned n) (x, h) = (x, whole_then x (Some n) h)
-  converted_then (why.Usage u) h = absurd h
   converted_then (why.Refused f) h = reading_then c.writing (bytes_before f) (c.judging.refused f) h
   converted_then (why.Picture p) (stopped, (x, early, h)) = (stopped_then s0 s1 s2 (names_to_read c) put.Done k stopped, (x, early, value_still V c x early (Some p) s0 s1 s2 k.same.left h))
   converted_then (why.OpenFault which.Input) h = unopened_then s0 s1 s2 (names_to_read c) k h
-  converted_then (why.OpenFault which.Script) h = absurd h
-  converted_then (why.OpenFault which.Tables) h = absurd h
-  converted_then (why.OpenFault which.Comment) h = absurd h
   converted_then (why.OpenFault which.Output) h = (unopened_then s0 s1 s2 (names_to_write c) k h.0, create_then c.writing h.1)
   converted_then (why.ReadFault which.Input) h = ((let rose = h.0 in let f = k.stays.counts.reads in omega (arith, rose, f)), reading_then c.writing all_bytes (λ rest. c.judging.unfinished) h.1)
-  converted_then (why.ReadFault which.Script) h = absurd h
-  converted_then (why.ReadFault which.Tables) h = absurd h
-  converted_then (why.ReadFault which.Comment) h = absurd h
-  converted_then (why.ReadFault which.Output) h = absurd h
   converted_then why.WriteFault h = ((let rose = h.0 in let f = k.stays.counts.writes in omega (arith, rose, f)), writing_then c.writing h.1)
   converted_then why.NoMemory h = short_then c.writing h
+  converted_then other h = absurd h
 
 -- AFTER NAMES that were opened before, where the output is created after the input was read
 
@@ -127,13 +120,9 @@ module _ (V : Type 0) (c : Conversion V) (xs : List Name) (s0 s1 s2 : DeskState)
   pub converted_after : (w : Why) → Converted (after_names V [] c) s1 w s2 → Converted (after_names V xs c) s0 w s2
   converted_after why.Done (x, h) = (x, whole_more x None h)
   converted_after (why.Warned n) (x, h) = (x, whole_more x (Some n) h)
-  converted_after (why.Usage u) h = absurd h
   converted_after (why.Refused f) h = (stopped_more xs c.input [] put.Done s0 s1 s2 b h.0, from_before xs c.input (c.judging.refused f (rest_of s2.left)) s0 s1 s2 b h.1)
   converted_after (why.Picture p) (stopped, (x, early, h)) = (stopped_more xs c.input [] put.Done s0 s1 s2 b stopped, (x, early, value_more x early (Some p) h))
   converted_after (why.OpenFault which.Input) h = unopened_more xs c.input [] s0 s1 s2 b h
-  converted_after (why.OpenFault which.Script) h = absurd h
-  converted_after (why.OpenFault which.Tables) h = absurd h
-  converted_after (why.OpenFault which.Comment) h = absurd h
   converted_after (why.OpenFault which.Output) (unopened, (x, early, h)) = (
     subst (λ (names : List Name). Unopened names s0 s2) (sym (append_assoc xs (c.input ∷ []) (c.output ∷ []))) (unopened_more xs c.input (c.output ∷ []) s0 s1 s2 b unopened),
     (x, early, value_more x early None h),
@@ -142,36 +131,21 @@ module _ (V : Type 0) (c : Conversion V) (xs : List Name) (s0 s1 s2 : DeskState)
     (let f = b.kept.works.stays.counts.reads in omega (arith, rose, f)),
     (stopped_more xs c.input [] put.Done s0 s1 s2 b stopped, from_before xs c.input c.judging.unfinished s0 s1 s2 b h),
   )
-  converted_after (why.ReadFault which.Script) h = absurd h
-  converted_after (why.ReadFault which.Tables) h = absurd h
-  converted_after (why.ReadFault which.Comment) h = absurd h
-  converted_after (why.ReadFault which.Output) h = absurd h
   converted_after why.WriteFault (rose, h) = (
     (let f = b.kept.works.stays.counts.writes in omega (arith, rose, f)),
     record { value = h.value; early = h.early; count = h.count; read = value_more h.value h.early None h.read; wrote = added_more xs c.input c.output (take h.count (c.text h.value)) s0 s1 s2 b h.wrote },
   )
   converted_after why.NoMemory h = (stopped_more xs c.input [] put.Done s0 s1 s2 b h.0, from_before xs c.input c.judging.short s0 s1 s2 b h.1)
+  converted_after other h = absurd h
 
 -- NO VALUE was read
 
 pub converted_unread : (V : Type 0) (c : Conversion V) (s0 s1 : DeskState) (w : Why) → NoValueRead c.judging c.input s0 w s1 → Converted (after_names V [] c) s0 w s1
-converted_unread V c s0 s1 why.Done h = absurd h
-converted_unread V c s0 s1 (why.Warned n) h = absurd h
-converted_unread V c s0 s1 (why.Usage u) h = absurd h
 converted_unread V c s0 s1 (why.Refused f) h = h
-converted_unread V c s0 s1 (why.Picture p) h = absurd h
 converted_unread V c s0 s1 (why.OpenFault which.Input) h = h
-converted_unread V c s0 s1 (why.OpenFault which.Script) h = absurd h
-converted_unread V c s0 s1 (why.OpenFault which.Tables) h = absurd h
-converted_unread V c s0 s1 (why.OpenFault which.Comment) h = absurd h
-converted_unread V c s0 s1 (why.OpenFault which.Output) h = absurd h
 converted_unread V c s0 s1 (why.ReadFault which.Input) h = (h.0.reads, (h.0.stopped, h.1))
-converted_unread V c s0 s1 (why.ReadFault which.Script) h = absurd h
-converted_unread V c s0 s1 (why.ReadFault which.Tables) h = absurd h
-converted_unread V c s0 s1 (why.ReadFault which.Comment) h = absurd h
-converted_unread V c s0 s1 (why.ReadFault which.Output) h = absurd h
-converted_unread V c s0 s1 why.WriteFault h = absurd h
 converted_unread V c s0 s1 why.NoMemory h = h
+converted_unread V c s0 s1 other h = absurd h
 
 -- A VALUE was read, and its desk is used further
 
@@ -208,14 +182,7 @@ module _ (V : Type 0) (c : Conversion V) (x : V) (early : Option ℕ) (s0 s1 s2 
       by : (o : Option ℕ) → early ≡ o → Converted (after_names V [] c) s0 (done_as o) s2
       by None same = (x, subst (λ (o : Option ℕ). WritesValue (after_names V [] c) x o s0 s2) same (made_whole k))
       by (Some n) same = (x, subst (λ (o : Option ℕ). WritesValue (after_names V [] c) x o s0 s2) same (made_whole k))
-  converted_made (why.Warned n) k = absurd k
-  converted_made (why.Usage u) k = absurd k
-  converted_made (why.Refused f) k = absurd k
   converted_made (why.Picture p) (is, same) = (stopped_on same, (x, early, reads_on (Some p) is))
-  converted_made (why.OpenFault which.Input) k = absurd k
-  converted_made (why.OpenFault which.Script) k = absurd k
-  converted_made (why.OpenFault which.Tables) k = absurd k
-  converted_made (why.OpenFault which.Comment) k = absurd k
   converted_made (why.OpenFault which.Output) (none, (noted, rose, same)) = (
     record {
       stopped = record { asked = asks_next s0 s1 s2 (c.input ∷ []) c.output put.Failed h.asked noted; outputs = same ∙ h.kept.outputs };
@@ -223,12 +190,11 @@ module _ (V : Type 0) (c : Conversion V) (x : V) (early : Option ℕ) (s0 s1 s2 
     },
     (x, early, reads_on None none),
   )
-  converted_made (why.ReadFault file) k = absurd k
   converted_made why.WriteFault (none, (noted, rose, (n, grows))) = (
     (let f = h.kept.works.stays.counts.writes in omega (arith, rose, f)),
     record { value = x; early = early; count = n; read = reads_on None none; wrote = wrote_on (take n (c.text x)) noted grows },
   )
-  converted_made why.NoMemory k = absurd k
+  converted_made other k = absurd k
 
   -- or nothing was, as there was no memory
   pub converted_short : ((rest bytes : List ℕ) → c.judging.has x early rest bytes → c.judging.short bytes) → Untouched s1 s2 → Converted (after_names V [] c) s0 why.NoMemory s2
@@ -240,27 +206,12 @@ module _ (V : Type 0) (c : Conversion V) (x : V) (early : Option ℕ) (s0 s1 s2 
 
 pub none_early : (w : Why) → as_early None w ≡ w
 none_early why.Done = refl
-none_early (why.Warned n) = refl
-none_early (why.Usage u) = refl
-none_early (why.Refused f) = refl
-none_early (why.Picture p) = refl
-none_early (why.OpenFault file) = refl
-none_early (why.ReadFault file) = refl
-none_early why.WriteFault = refl
-none_early why.NoMemory = refl
+none_early other = refl
 
 pub made_same : (fault other : Option PictureFault) (text also : List ℕ) (Right Is : Type 0) (output : Name) (s0 s1 : DeskState) → other ≡ fault → text ≡ also → (other ≡ None → Right → Is) → (w : Why)
     → AfterMade fault text Right output s0 w s1 → AfterMade other also Is output s0 w s1
 made_same fault other text also Right Is output s0 s1 e d right why.Done (none, out, is) = (e ∙ none, subst (λ (t : List ℕ). AfterOutput output s0 t wrote.Done s1) d out, right (e ∙ none) is)
-made_same fault other text also Right Is output s0 s1 e d right (why.Warned n) h = absurd h
-made_same fault other text also Right Is output s0 s1 e d right (why.Usage u) h = absurd h
-made_same fault other text also Right Is output s0 s1 e d right (why.Refused f) h = absurd h
 made_same fault other text also Right Is output s0 s1 e d right (why.Picture p) (is, same) = (e ∙ is, same)
-made_same fault other text also Right Is output s0 s1 e d right (why.OpenFault which.Input) h = absurd h
-made_same fault other text also Right Is output s0 s1 e d right (why.OpenFault which.Script) h = absurd h
-made_same fault other text also Right Is output s0 s1 e d right (why.OpenFault which.Tables) h = absurd h
-made_same fault other text also Right Is output s0 s1 e d right (why.OpenFault which.Comment) h = absurd h
 made_same fault other text also Right Is output s0 s1 e d right (why.OpenFault which.Output) (none, out) = (e ∙ none, subst (λ (t : List ℕ). AfterOutput output s0 t wrote.OpenFault s1) d out)
-made_same fault other text also Right Is output s0 s1 e d right (why.ReadFault file) h = absurd h
 made_same fault other text also Right Is output s0 s1 e d right why.WriteFault (none, out) = (e ∙ none, subst (λ (t : List ℕ). AfterOutput output s0 t wrote.WriteFault s1) d out)
-made_same fault other text also Right Is output s0 s1 e d right why.NoMemory h = absurd h
+made_same fault other text also Right Is output s0 s1 e d right others h = absurd h

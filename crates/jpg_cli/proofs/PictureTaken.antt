@@ -35,8 +35,8 @@ use Rattle.jpg_cli.proofs.PictureBytes.{open_so_far}
 
 -- FRAMES
 
-pub reads_then : (a b c : DeskState) → OnlyReads a b → OnlyReads b c → OnlyReads a c
-reads_then a b c h k = record { copies = copies_then a b c h.copies k.copies; outputs = k.outputs ∙ h.outputs }
+pub reads_then : {a b c : DeskState} → OnlyReads a b → OnlyReads b c → OnlyReads a c
+reads_then h k = record { copies = copies_then h.copies k.copies; outputs = k.outputs ∙ h.outputs }
 
 pub reads_none : (s : DeskState) → OnlyReads s s
 reads_none s = record { copies = copies_none s; outputs = refl }
@@ -46,16 +46,9 @@ reads_none s = record { copies = copies_none s; outputs = refl }
 after_piece : (w : Wanted) (start s1 : DeskState) (bytes piece : List ℕ) (answer : PictureStep) (r : ReaderState) → 0 < length piece → length (bytes ++ piece) ≤ standard_limits.input → Consumes start.left s1.left (bytes ++ piece) → AfterTakingPiece w (bytes ++ piece) answer r → AfterNextPiece w start bytes answer r s1
 after_piece w start s1 bytes piece step.More r some most read h = (piece, some, h, read)
 after_piece w start s1 bytes piece step.Whole r some most read h = (bytes ++ piece, read, most, h)
-after_piece w start s1 bytes piece (step.Early n) r some most read h = absurd h
-after_piece w start s1 bytes piece (step.Ended why.Done) r some most read h = absurd h
-after_piece w start s1 bytes piece (step.Ended (why.Warned n)) r some most read h = absurd h
-after_piece w start s1 bytes piece (step.Ended (why.Usage u)) r some most read h = absurd h
-after_piece w start s1 bytes piece (step.Ended (why.Picture p)) r some most read h = absurd h
 after_piece w start s1 bytes piece (step.Ended (why.Refused f)) r some most read h = (bytes ++ piece, read, most, h (rest_of s1.left))
-after_piece w start s1 bytes piece (step.Ended (why.OpenFault file)) r some most read h = absurd h
-after_piece w start s1 bytes piece (step.Ended (why.ReadFault file)) r some most read h = absurd h
-after_piece w start s1 bytes piece (step.Ended why.WriteFault) r some most read h = absurd h
 after_piece w start s1 bytes piece (step.Ended why.NoMemory) r some most read h = (bytes ++ piece, read, most, h)
+after_piece w start s1 bytes piece other r some most read h = absurd h
 
 pub piece_taken : (w : Wanted) (start s0 s1 : DeskState) (n : ℕ) (buf bytes : List ℕ) (answer : PictureStep) (r : ReaderState) → length (bytes ++ take n buf) ≤ standard_limits.input → Reads s0 (got.Bytes n) buf s1 → Consumes start.left s0.left bytes → AfterTakingPiece w (bytes ++ take n buf) answer r
     → AfterNextPiece w start bytes answer r s1
@@ -65,31 +58,22 @@ piece_taken w start s0 s1 n buf bytes answer r most read had h =
 -- AT THE END
 
 pub piece_end : (w : Wanted) (start s0 s1 : DeskState) (bytes : List ℕ) (ended : Why) → length bytes < standard_limits.input → IsAtEnd s0.left → s1.left ≡ s0.left → Consumes start.left s0.left bytes → AfterFileEnd w bytes ended → EndsEarly w start ended s1
-piece_end w start s0 s1 bytes why.Done short end left had h = absurd h
-piece_end w start s0 s1 bytes (why.Warned n) short end left had h = absurd h
-piece_end w start s0 s1 bytes (why.Usage u) short end left had h = absurd h
-piece_end w start s0 s1 bytes (why.Picture p) short end left had h = absurd h
 piece_end w start s0 s1 bytes (why.Refused f) short end left had h =
     let none : rest_of s1.left ≡ [] = ap rest_of left ∙ none_left s0.left end in
     (bytes, left_still s0 s1 bytes start left had, omega (arith, short), subst (λ (rest : List ℕ). IsRefusedRead w f rest bytes) (sym none) h)
-piece_end w start s0 s1 bytes (why.OpenFault file) short end left had h = absurd h
-piece_end w start s0 s1 bytes (why.ReadFault file) short end left had h = absurd h
-piece_end w start s0 s1 bytes why.WriteFault short end left had h = absurd h
-piece_end w start s0 s1 bytes why.NoMemory short end left had h = absurd h
+piece_end w start s0 s1 bytes other short end left had h = absurd h
 
 pub picture_end : (w : Wanted) (start s0 s1 : DeskState) (bytes : List ℕ) (answer : PictureStep) (r : ReaderState) → length bytes < standard_limits.input → IsAtEnd s0.left → s1.left ≡ s0.left → Consumes start.left s0.left bytes → AfterPictureEnd w bytes answer r
     → AfterNextPiece w start bytes answer r s1
-picture_end w start s0 s1 bytes step.More r short end left had h = absurd h
-picture_end w start s0 s1 bytes step.Whole r short end left had h = absurd h
 picture_end w start s0 s1 bytes (step.Early n) r short end left had h =
     ((bytes, left_still s0 s1 bytes start left had, omega (arith, short), h), ap rest_of left ∙ none_left s0.left end)
 picture_end w start s0 s1 bytes (step.Ended ended) r short end left had h = piece_end w start s0 s1 bytes ended short end left had h
+picture_end w start s0 s1 bytes other r short end left had h = absurd h
 
 pub end_goes_on : (answer : PictureStep) (r : ReaderState) (now : DeskState) → EndDone answer r → PictureGoesOn answer r now
-end_goes_on step.More r now h = absurd h
-end_goes_on step.Whole r now h = absurd h
 end_goes_on (step.Early n) r now h = h
 end_goes_on (step.Ended ended) r now h = tt
+end_goes_on other r now h = absurd h
 
 -- A READ that failed
 pub piece_unread : (w : Wanted) (start s0 s1 : DeskState) (bytes : List ℕ) (r : ReaderState) → r.limits ≡ standard_limits → HasFed w r bytes → OnlyReads start s0 → Consumes start.left s0.left bytes → Rose s0.counts.reads s1.counts.reads → s1.left ≡ s0.left
@@ -101,8 +85,9 @@ piece_unread w start s0 s1 bytes r e h still had rose left = (
 
 -- THE PICTURE of the reader's file
 
-whole_taken : (w : Wanted) (bytes : List ℕ) (r : ReaderState) → r.limits ≡ standard_limits → (h : HoldsFile w r bytes) → IsWholeRead w h.done.meaning bytes
-whole_taken w bytes r e h = record {
+-- the bytes are the complete file that the reader has
+pub file_taken : (w : Wanted) (bytes : List ℕ) (r : ReaderState) → r.limits ≡ standard_limits → (h : HoldsFile w r bytes) → IsWholeRead w h.done.meaning bytes
+file_taken w bytes r e h = record {
   count = h.count;
   within = h.within;
   last = h.last;
@@ -113,7 +98,7 @@ whole_taken w bytes r e h = record {
 
 -- what a file that ended early means, as the reader has it
 abbrev pub early_meaning : {w : Wanted} {r : ReaderState} {n : ℕ} {bytes : List ℕ} → HoldsEarly w r n bytes → Meaning
-early_meaning {w} {r} {n} {bytes} h = (let k = h.ended in meaning_of (frame_of r.limits k.segments) k.segments k.blocks)
+early_meaning {r} h = (let k = h.ended in meaning_of (frame_of r.limits k.segments) k.segments k.blocks)
 
 pub early_taken : (w : Wanted) (bytes : List ℕ) (n : ℕ) (r : ReaderState) → r.limits ≡ standard_limits → (h : HoldsEarly w r n bytes) → IsEarlyRead w (early_meaning h) n bytes
 early_taken w bytes n r e h =
@@ -122,7 +107,7 @@ early_taken w bytes n r e h =
 pub picture_taken : (w : Wanted) (keeping : Copying) (s0 s1 : DeskState) (r : ReaderState) (p : Picture) (early : Option ℕ) → r.limits ≡ standard_limits → keeping_of r.file ≡ keeping → TakesPicture r p → TakesEarly r p
     → TakesPieces (HoldsPicture w r early) s0 s1 → IsAllRead early s1 → EndsReading w keeping s0 (Ok (p, early)) s1
 picture_taken w keeping s0 s1 r p None e same whole cut (bytes, read, most, h) all =
-    ((h.done.meaning, subst (λ (k : Copying). MeansFor k p h.done.meaning) same (whole (take h.count bytes) h.done), (bytes, read, most, whole_taken w bytes r e h)), all)
+    ((h.done.meaning, subst (λ (k : Copying). MeansFor k p h.done.meaning) same (whole (take h.count bytes) h.done), (bytes, read, most, file_taken w bytes r e h)), all)
 picture_taken w keeping s0 s1 r p (Some n) e same whole cut (bytes, read, most, h) all =
     ((early_meaning h, subst (λ (k : Copying). MeansFor k p (early_meaning h)) same (cut bytes h.ended), (bytes, read, most, early_taken w bytes n r e h)), all)
 
@@ -135,22 +120,13 @@ pub stopped_there : (s0 s1 s2 : DeskState) (file : Name) → Opens s0 file put.D
 stopped_there s0 s1 s2 file h k = record { asked = noted s0 s1 s2 file h k; outputs = k.outputs ∙ h.outputs }
 
 pub none_taken : (V : Type 0) (j : Judging V) (s0 s1 s2 : DeskState) (file : Name) (ended : Why) → Opens s0 file put.Done s1 → OnlyReads s1 s2 → NoValueTaken j s1 ended s2 → NoValueRead j file s0 ended s2
-none_taken V j s0 s1 s2 file why.Done h k e = absurd e
-none_taken V j s0 s1 s2 file (why.Warned n) h k e = absurd e
-none_taken V j s0 s1 s2 file (why.Usage u) h k e = absurd e
-none_taken V j s0 s1 s2 file (why.Picture p) h k e = absurd e
 none_taken V j s0 s1 s2 file (why.Refused f) h k e = (stopped_there s0 s1 s2 file h k, reads_from s0 s1 s2 file (j.refused f (rest_of s2.left)) h e)
-none_taken V j s0 s1 s2 file (why.OpenFault other) h k e = absurd e
 none_taken V j s0 s1 s2 file (why.ReadFault which.Input) h k e = (
   record { stopped = stopped_there s0 s1 s2 file h k; reads = (let r = e.1 in let f = h.counts.reads in omega arith) },
   reads_from s0 s1 s2 file j.unfinished h e.0,
 )
-none_taken V j s0 s1 s2 file (why.ReadFault which.Script) h k e = absurd e
-none_taken V j s0 s1 s2 file (why.ReadFault which.Tables) h k e = absurd e
-none_taken V j s0 s1 s2 file (why.ReadFault which.Comment) h k e = absurd e
-none_taken V j s0 s1 s2 file (why.ReadFault which.Output) h k e = absurd e
-none_taken V j s0 s1 s2 file why.WriteFault h k e = absurd e
 none_taken V j s0 s1 s2 file why.NoMemory h k e = (stopped_there s0 s1 s2 file h k, reads_from s0 s1 s2 file j.short h e)
+none_taken V j s0 s1 s2 file other h k e = absurd e
 
 pub picture_read : (w : Wanted) (keeping : Copying) (s0 s1 s2 : DeskState) (file : Name) (answer : Result (Picture × Option ℕ) Why) → Opens s0 file put.Done s1 → OnlyReads s1 s2 → EndsReading w keeping s1 answer s2 → PictureRead w keeping file s0 answer s2
 picture_read w keeping s0 s1 s2 file (Ok found) h k ((M, means, e), all) = (noted s0 s1 s2 file h k, (M, means, reads_from s0 s1 s2 file (IsReadPicture w M found.1) h e), all)

@@ -10,8 +10,7 @@ use Rattle.jpg_spec.specs.InForce.{frame_of, head_in}
 use Rattle.jpg_spec.specs.Items.{segments_of}
 use Rattle.jpg_spec.specs.Lists.{any_of, below}
 use Rattle.jpg_spec.specs.Markers.{Segment}
-use Rattle.jpg_spec.specs.Meaning.{PictureComponent, real_blocks}
-use Rattle.jpg_spec.specs.Meaning.{component_of}
+use Rattle.jpg_spec.specs.Meaning.{PictureComponent, component_of, real_blocks}
 use Rattle.jpg_spec.specs.PictureInWork.{is_at}
 use Rattle.jpg_spec_image.specs.RowLaws.{IsShownInRows}
 use Rattle.jpg_spec.specs.RowLaws.{TellsMore, first_blocks}
@@ -84,20 +83,20 @@ record AreToldTwice (gray : Bool) (h : Head) (all : List ℕ) (m n : ℕ) (some 
   pub first : TellsRows standard_limits all m some
   pub second : TellsRows standard_limits all n more
 
-some_of_more : (gray : Bool) (h : Head) (all : List ℕ) (m n : ℕ) (some more : Blocks) → AreToldTwice gray h all m n some more → some ≡ blocks_in (row_places standard_limits h.before h.contents m) more
-some_of_more gray h all m n some more k =
+some_of_more : {gray : Bool} {h : Head} {all : List ℕ} {m n : ℕ} {some more : Blocks} → AreToldTwice gray h all m n some more → some ≡ blocks_in (row_places standard_limits h.before h.contents m) more
+some_of_more {h} {all} {m} {n} {some} {more} k =
     let w : TellsMore standard_limits all m = record { all = n; blocks = more; enough = k.less; told = k.second } in
     let j = (k.second).place in
     let same = begun_once standard_limits all (segments_of j.items) h.before j.contents h.contents (rows_begin standard_limits all n more k.second) (k.head).begins in
     rows_once standard_limits all m some (first_blocks standard_limits all m w) k.first (first_told standard_limits all m w)
     ∙ ap (λ s. blocks_in (row_places standard_limits s j.contents m) more) same.0 ∙ ap (λ c. blocks_in (row_places standard_limits h.before c m) more) same.1
 
-blocks_agree : (gray : Bool) (h : Head) (all : List ℕ) (m n : ℕ) (some more : Blocks) → AreToldTwice gray h all m n some more → (i x z : ℕ) → z < block_rows (so_far h more) i * m → (so_far h more).blocks i x z ≡ (so_far h some).blocks i x z
-blocks_agree gray h all m n some more k i x z low =
+blocks_agree : {gray : Bool} {h : Head} {all : List ℕ} {m n : ℕ} {some more : Blocks} → AreToldTwice gray h all m n some more → (i x z : ℕ) → z < block_rows (so_far h more) i * m → (so_far h more).blocks i x z ≡ (so_far h some).blocks i x z
+blocks_agree {h} {all} {m} {some} {more} k i x z low =
     subst (λ g. real_blocks g more i x z ≡ real_blocks g some i x z) (sym stays)
     (real_agree f places more i x z
     (λ lt real. found_first f ids i x z m is lt (head_names f (head_in f h.contents) i (head_there standard_limits h.before h.contents begins.unbroken) begins.of_all.all lt) real (there lt))
-    ∙ ap (λ (b : Blocks). real_blocks f b i x z) (sym (some_of_more gray h all m n some more k)))
+    ∙ ap (λ (b : Blocks). real_blocks f b i x z) (sym (some_of_more k)))
   where
     begins : BeginsScanOfAll standard_limits all h.before h.contents
     begins = (k.head).begins
@@ -125,39 +124,37 @@ blocks_agree gray h all m n some more k i x z low =
         subst (λ c. z < c * m)
         (ap (λ g. block_rows (meaning_of g after more) i) stays ∙ rows_told f after more i lt ∙ ap (λ c. cond (c == 1) 1 (component_at f i).v) (sym begins.of_all.all)) low
 
-pub agree_first : (gray : Bool) (h : Head) (all : List ℕ) (m n : ℕ) (some more : Blocks) → IsHeadIn gray h all → m ≤ n → TellsRows standard_limits all m some → TellsRows standard_limits all n more
+pub agree_first : {gray : Bool} {h : Head} {all : List ℕ} {m n : ℕ} {some more : Blocks} → IsHeadIn gray h all → m ≤ n → TellsRows standard_limits all m some → TellsRows standard_limits all n more
     → AgreeInFirstRows (so_far h some) (so_far h more) m
-agree_first gray h all m n some more head less first second = record {
+agree_first {h} {m} {some} head less first second = record {
   same = refl;
   blocks = λ i x y has wide high low.
       (let turned : block_rows (so_far h some) i * m ≡ m * block_rows (so_far h some) i = grind arith in
-      sym (blocks_agree gray h all m n some more (record { head = head; less = less; first = first; second = second }) i x y (omega (arith, low, turned))));
+      sym (blocks_agree (record { head = head; less = less; first = first; second = second }) i x y (omega (arith, low, turned))));
 }
 
 -- THEIR TEXT is the same
-pub same_text : (gray smooth : Bool) (kind : EndKind) (h : Head) (all : List ℕ) (m n : ℕ) (some more : Blocks) → IsHeadIn gray h all → m ≤ n → TellsRows standard_limits all m some → TellsRows standard_limits all n more
-    → rows_text kind (so_far h some) gray smooth m ≡ rows_text kind (so_far h more) gray smooth m
-same_text gray smooth kind h all m n some more head less first second = one (rows_text kind (so_far h some) gray smooth m) (rows_text kind (so_far h more) gray smooth m) up.0 down.0 up.1 down.1
+pub text_same : {gray : Bool} (smooth : Bool) (kind : EndKind) {h : Head} {all : List ℕ} {m : ℕ} {some : Blocks} (more : Blocks) → IsHeadIn gray h all → TellsRows standard_limits all m some
+    → ((i x z : ℕ) → z < block_rows (so_far h more) i * m → (so_far h more).blocks i x z ≡ (so_far h some).blocks i x z) → rows_text kind (so_far h some) gray smooth m ≡ rows_text kind (so_far h more) gray smooth m
+text_same {gray} smooth kind {h} {all} {m} {some} more head told agree = one (rows_text kind (so_far h some) gray smooth m) (rows_text kind (so_far h more) gray smooth m) up.0 down.0 up.1 down.1
   where
-    k : AreToldTwice gray h all m n some more
-    k = record { head = head; less = less; first = first; second = second }
-
     shown : (x : Blocks) → IsShownInRows (so_far h x) gray smooth
     shown x = begun_covered standard_limits all h.before h.contents x gray smooth standard_are_limits head.begins (so_far_shown gray h all x head)
 
     up : (e : List ℕ) × (rows_text kind (so_far h more) gray smooth m ≡ rows_text kind (so_far h some) gray smooth m ++ e)
-    up =
-        text_goes_on kind (so_far h more) (so_far h some).blocks gray smooth m m (shown more) (omega arith) (few_told h all m some more head.begins first)
-        (λ i x z has low. blocks_agree gray h all m n some more k i x z low)
+    up = text_goes_on kind (so_far h more) (so_far h some).blocks gray smooth m m (shown more) (omega arith) (few_told h all m some more head.begins told) (λ i x z has low. agree i x z low)
 
     down : (e : List ℕ) × (rows_text kind (so_far h some) gray smooth m ≡ rows_text kind (so_far h more) gray smooth m ++ e)
-    down =
-        text_goes_on kind (so_far h some) (so_far h more).blocks gray smooth m m (shown some) (omega arith) (few_told h all m some some head.begins first)
-        (λ i x z has low. sym (blocks_agree gray h all m n some more k i x z low))
+    down = text_goes_on kind (so_far h some) (so_far h more).blocks gray smooth m m (shown some) (omega arith) (few_told h all m some some head.begins told) (λ i x z has low. sym (agree i x z low))
 
     one : (a b x y : List ℕ) → b ≡ a ++ x → a ≡ b ++ y → a ≡ b
     one a b [] y e g = sym (append-nil a) ∙ sym e
     one a b (v ∷ x) y e g = absurd (let s = ap length e in let t = ap length g in omega (arith, s, t, length-append a (v ∷ x), length-append b y))
+
+pub same_text : {gray : Bool} (smooth : Bool) (kind : EndKind) {h : Head} {all : List ℕ} {m n : ℕ} {some more : Blocks} → IsHeadIn gray h all → m ≤ n → TellsRows standard_limits all m some → TellsRows standard_limits all n more
+    → rows_text kind (so_far h some) gray smooth m ≡ rows_text kind (so_far h more) gray smooth m
+same_text smooth kind {more} head less first second =
+    text_same smooth kind more head first (blocks_agree (record { head = head; less = less; first = first; second = second }))
 
 -- THE ROW that a reader gave is that of the picture
 
@@ -166,9 +163,9 @@ rows_shown d i lt =
     ap (λ n. cond (n == 1) 1 (component_of (picture_of d no_blocks) i).v) (count_is d no_blocks)
     ∙ ap (λ (c : PictureComponent). cond (length d.frame.components == 1) 1 c.v) (component_is d no_blocks i lt)
 
-pub row_shown : (d : Display) (h : Head) (all : List ℕ) (m : ℕ) (q : Coefs) (blocks : Blocks) → IsShowable d → d.frame ≡ frame_of standard_limits h.before → BeginsScanOfAll standard_limits all h.before h.contents
+pub row_shown : {d : Display} (h : Head) {all : List ℕ} {m : ℕ} {q : Coefs} {blocks : Blocks} → IsShowable d → d.frame ≡ frame_of standard_limits h.before → BeginsScanOfAll standard_limits all h.before h.contents
     → AreOfRow (frame_of standard_limits h.before) m q blocks → AreMcuRow d m at_top q (so_far h blocks).blocks
-row_shown d h all m q blocks showable same begins k = record { same = at }
+row_shown {d} h {all} {m} {q} {blocks} showable same begins k = record { same = at }
   where
     row : AreOfRow d.frame m q blocks
     row = subst (λ f. AreOfRow f m q blocks) (sym same) k

@@ -1,16 +1,13 @@
 -- The result of reading after a picture's rows were written, over the states of a desk.
-use Rattle.std.proofs.Common.{◌≡◌, ℕ, ◌+◌, ◌-◌, ◌<◌, true, ◌⊎◌, List, [], ◌∷◌, ◌++◌, length, take, refl, sym, ap, ◌∙◌, subst, arith, inl, inr, Option}
-use Rattle.std.proofs.lemmas.List.{append-nil, length-append, take_all}
+use Rattle.std.proofs.Common.{◌≡◌, ℕ, ◌-◌, ◌<◌, ◌≤◌, true, ◌⊎◌, List, [], ◌∷◌, ◌++◌, length, take, refl, sym, ap, ◌∙◌, subst, arith, inl, inr}
+use Rattle.std.specs.List.{All}
+use Rattle.std.proofs.lemmas.List.{append-nil, length-append, length-take-le, take_all}
+use Rattle.std.proofs.lemmas.List.Elements.{All-append}
 use Rattle.jpg_base.specs.declared.names.Got.TheVariants as got
 use Rattle.jpg_base.specs.declared.names.Got.{Got}
-use Rattle.jpg_base.specs.declared.names.Put.{Put}
-use Rattle.jpg_base.specs.declared.names.Put.TheVariants as put
-use Rattle.jpg_base.specs.declared.names.Name.{Name}
-use Rattle.jpg_base.specs.Desk.{DeskState, NotesName, Reads}
-use Rattle.jpg_base.specs.Laws.{Grows}
-use Rattle.jpg_spec.specs.RowsTold.{picture_so_far}
+use Rattle.jpg_base.specs.Desk.{DeskState, Reads}
 use Rattle.jpg_spec_image.specs.RowsShown.{rows_text}
-use Rattle.jpg_spec.specs.RowsTold.{BeginsScanOfAll, CompletesRows}
+use Rattle.jpg_spec.specs.RowsTold.{BeginsScanOfAll, CompletesRows, picture_so_far}
 use Rattle.jpg_spec.specs.Segments.{standard_limits}
 use Rattle.jpg_spec.specs.declared.fault.FaultAt.{FaultAt}
 use Rattle.jpg_spec_words.specs.declared.answers.Why.{Why}
@@ -28,93 +25,86 @@ use Rattle.jpg_cli.specs.Desk.ReadPicture.{IsOpenRead, IsRefusedRead}
 use Rattle.jpg_spec.specs.Meaning.{Meaning}
 use Rattle.jpg_cli.specs.Outcome.{WritesRows, all_bytes, bytes_before}
 use Rattle.jpg_cli.specs.Tools.Showing.{IsInTime, IsRowsText, IsShownByRows, IsShownUpTo, Showing, Shown, row_texts, showing_conversion}
-use Rattle.jpg_cli.specs.Tools.ShowingRows.{AfterShownPiece, AfterRowsEnd, GoesLater, GoesOnRows, HasCreated, HasShown, HasShownEarly, Head, StopsWith, at_work}
+use Rattle.jpg_cli.specs.Tools.ShowingRows.{AfterShownPiece, AfterRowsEnd, GoesLater, GoesOnRows, HasCreated, HasShown, HasShownEarly, Head, StopsWith, Work, at_work}
 use Rattle.jpg_cli.specs.declared.desk.picture.Wanted.TheVariants.{Image}
 use Rattle.jpg_cli.specs.declared.tools.djpeg_rows.RowsStep.{RowsStep}
 use Rattle.jpg_cli.specs.declared.tools.djpeg_rows.RowsStep.TheVariants as step
-use Rattle.jpg_cli.proofs.CommentsCopied.{left_still, works_then}
+use Rattle.jpg_cli.proofs.CommentsCopied.{left_still, within_most}
 use Rattle.jpg_cli.proofs.Input.{none_left}
 use Rattle.jpg_cli.proofs.PictureBytes.{fault_at_end}
 use Rattle.jpg_cli.proofs.RowsDesk.{created_added, created_read}
 use Rattle.jpg_cli.proofs.RowsEnd.{none_unwanted, shown_head}
-use Rattle.jpg_cli.proofs.RowsRead.{early_more, open_rows, taken_by_row}
+use Rattle.jpg_cli.proofs.RowsRead.{IsNextPiece, created_then, early_more, open_rows, taken_by_row}
 
 -- nothing more was read
-created_still : (s : Showing) (old start : DeskState) (all written : List ℕ) (answer : Got) (buf : List ℕ) (s0 s1 : DeskState) → Reads s0 answer buf s1 → s1.left ≡ s0.left → HasCreated s old start all written s0 → HasCreated s old start all written s1
-created_still s old start all written answer buf s0 s1 read left h = record {
-  opened = h.opened;
-  works = works_then start s0 s1 h.works (record { stays = record { counts = read.counts; files = read.files }; said = read.said });
-  left = left_still s0 s1 all start left h.left;
-  asked = (let P : Option (List (Name × Put)) → Type 0 = λ a. NotesName start.asked (s.output, put.Done) a in subst P (sym read.asked) h.asked);
-  outputs = (let P : Option (List (Name × List ℕ)) → Type 0 = λ a. Grows start.outputs (s.output, written) a in subst P (sym read.outputs) h.outputs);
-  created = read.output_created ∙ h.created;
-}
+created_still : {s : Showing} {old start : DeskState} {all written : List ℕ} {answer : Got} {buf : List ℕ} {s0 s1 : DeskState} → Reads s0 answer buf s1 → s1.left ≡ s0.left → HasCreated s old start all written s0 → HasCreated s old start all written s1
+created_still {start} {all} {s0} {s1} read left h = created_then read h (left_still s0 s1 all start left h.left)
+
+-- what was taken
+pub rows_taken : {s : Showing} {old start : DeskState} {h : Head} {all : List ℕ} {m : ℕ} {w : Work} → HasShown s old start h all m w → w.reader.file.reading.taken ≡ length all
+rows_taken k = taken_by_row ((k.read).«open»).stands
+
+rows_short : {s : Showing} {old start : DeskState} {h : Head} {all : List ℕ} {m : ℕ} {w : Work} → HasShown s old start h all m w → length all < standard_limits.input
+rows_short {all} k = subst (λ (l : Limits). length all < l.input) k.limits (k.read).short
 
 -- the output has the text of all MCU rows that are complete
-so_far : (s : Showing) (old start : DeskState) (h : Head) (all : List ℕ) (m : ℕ) (r : ReaderState) (d : Drawing) (e : EndState) (s0 s1 : DeskState) (upto : List ℕ → List ℕ) (Is : List ℕ → Type 0) → upto all ≡ all → (k : HasShown s old start h all m (at_work r d e s0)) → HasCreated s old start all k.written s1
+so_far : {s : Showing} {old start : DeskState} {h : Head} {all : List ℕ} {m : ℕ} {r : ReaderState} {d : Drawing} {e : EndState} {s0 s1 : DeskState} (upto : List ℕ → List ℕ) (Is : List ℕ → Type 0) → upto all ≡ all → (k : HasShown s old start h all m (at_work r d e s0)) → HasCreated s old start all k.written s1
     → Is all → WritesRows Meaning (showing_conversion s) (row_texts s) upto Is old s1
-so_far s old start h all m r d e s0 s1 upto Is whole k desk is =
+so_far {s} {old} {h} {all} {m} {s1} upto Is whole k desk is =
     let text : List ℕ = rows_text s.kind (picture_so_far standard_limits h.before h.contents (k.drawing).blocks) s.gray s.smooth m in
     let same : k.written ≡ text = sym (append-nil k.written) ∙ ap (λ l. k.written ++ l) (sym k.out) ∙ (k.drawing).text in
     let completed = subst (λ (l : Limits). CompletesRows l all m (k.read).blocks) k.limits (k.read).completed in
     let due : IsRowsText s all text = record { before = h.before; contents = h.contents; begins = (k.head).begins; rows = m; blocks = (k.drawing).blocks; completed = ((k.drawing).told, completed.1); same = refl } in
-    let short : length all < standard_limits.input = subst (λ (l : Limits). length all < l.input) k.limits (k.read).short in
+    let short = rows_short k in
     record {
       text = text;
-      read = created_read s old start all k.written s1 (IsShownUpTo s upto Is text) desk (omega (arith, short))
-          (is, subst (λ l. IsShownByRows s.gray l) (sym whole) (shown_head s.gray h all k.head), subst (λ l. IsRowsText s l text) (sym whole) due);
-      wrote = subst (λ t. Added (s.input ∷ []) s.output t old s1) same (created_added s old start all k.written s1 desk);
+      read = created_read (IsShownUpTo s upto Is text) desk (omega (arith, short))
+          (is, subst (λ l. IsShownByRows s.gray l) (sym whole) (shown_head k.head), subst (λ l. IsRowsText s l text) (sym whole) due);
+      wrote = subst (λ t. Added (s.input ∷ []) s.output t old s1) same (created_added desk);
     }
 
-pub rows_unread : (s : Showing) (old start : DeskState) (h : Head) (all : List ℕ) (m : ℕ) (r : ReaderState) (d : Drawing) (e : EndState) (buf : List ℕ) (s0 s1 : DeskState) → Reads s0 got.Failed buf s1 → HasShown s old start h all m (at_work r d e s0)
+pub rows_unread : {s : Showing} {old start : DeskState} {h : Head} {all : List ℕ} {m : ℕ} {r : ReaderState} {d : Drawing} {e : EndState} {buf : List ℕ} {s0 s1 : DeskState} → Reads s0 got.Failed buf s1 → HasShown s old start h all m (at_work r d e s0)
     → Shown s old (why.ReadFault which.Input) s1
-rows_unread s old start h all m r d e buf s0 s1 read k = (
+rows_unread {s} read k = (
   (let rose = read.after.0 in let a = ((k.desk).opened).counts.reads in let b = (((k.desk).works).stays).counts.reads in omega (arith, rose, a, b)),
-  inr (so_far s old start h all m r d e s0 s1 all_bytes (IsOpenRead (Image s.gray)) refl k (created_still s old start all k.written got.Failed buf s0 s1 read read.after.1 k.desk) (open_rows s.gray h all m r k.limits k.head k.read)),
+  inr (so_far all_bytes (IsOpenRead (Image s.gray)) refl k (created_still read read.after.1 k.desk) (open_rows k.limits k.head k.read)),
 )
 
 -- THE END
-pub rows_read_all : (s : Showing) (old start : DeskState) (h : Head) (all : List ℕ) (m : ℕ) (r : ReaderState) (d : Drawing) (e : EndState) (now : DeskState) → HasShown s old start h all m (at_work r d e now) → HasReadAll all m r
-rows_read_all s old start h all m r d e now k = inr k.read
+pub rows_read_all : {s : Showing} {old start : DeskState} {h : Head} {all : List ℕ} {m : ℕ} {r : ReaderState} {d : Drawing} {e : EndState} {now : DeskState} → HasShown s old start h all m (at_work r d e now) → HasReadAll all m r
+rows_read_all k = inr k.read
 
-end_place : (s : Showing) (old start : DeskState) (h : Head) (all : List ℕ) (m : ℕ) (r : ReaderState) (d : Drawing) (e : EndState) (now : DeskState) (f : FaultAt) → HasShown s old start h all m (at_work r d e now) → IsRefusal r.limits all f → f.at ≡ length all
-end_place s old start h all m r d e now f k stops =
-    let so = open_rows s.gray h all m r k.limits k.head k.read in
+end_place : {s : Showing} {old start : DeskState} {h : Head} {all : List ℕ} {m : ℕ} {r : ReaderState} {d : Drawing} {e : EndState} {now : DeskState} (f : FaultAt) → HasShown s old start h all m (at_work r d e now) → IsRefusal r.limits all f → f.at ≡ length all
+end_place {all} f k stops =
+    let so = open_rows k.limits k.head k.read in
     fault_at_end all f.fault f.at so.stands so.short (subst (λ (l : Limits). IsRefusal l all f) k.limits stops)
 
-end_whole : (s : Showing) (old start : DeskState) (h : Head) (all : List ℕ) (m : ℕ) (r : ReaderState) (d : Drawing) (e : EndState) (now : DeskState) (f : FaultAt) → HasShown s old start h all m (at_work r d e now) → IsRefusal r.limits all f
+end_whole : {s : Showing} {old start : DeskState} {h : Head} {all : List ℕ} {m : ℕ} {r : ReaderState} {d : Drawing} {e : EndState} {now : DeskState} (f : FaultAt) → HasShown s old start h all m (at_work r d e now) → IsRefusal r.limits all f
     → take f.at all ≡ all
-end_whole s old start h all m r d e now f k stops = let at = end_place s old start h all m r d e now f k stops in take_all f.at all (omega (arith, at))
+end_whole {all} f k stops = let at = end_place f k stops in take_all f.at all (omega (arith, at))
 
-end_refused : (s : Showing) (old start : DeskState) (h : Head) (all : List ℕ) (m : ℕ) (r : ReaderState) (d : Drawing) (e : EndState) (now : DeskState) (f : FaultAt) → HasShown s old start h all m (at_work r d e now) → IsRefusal r.limits all f → IsRefusedRead (Image s.gray) f [] all
-end_refused s old start h all m r d e now f k stops =
+end_refused : {s : Showing} {old start : DeskState} {h : Head} {all : List ℕ} {m : ℕ} {r : ReaderState} {d : Drawing} {e : EndState} {now : DeskState} (f : FaultAt) → HasShown s old start h all m (at_work r d e now) → IsRefusal r.limits all f → IsRefusedRead (Image s.gray) f [] all
+end_refused {all} f k stops =
     let first = subst (λ (l : Limits). IsRefusal l all f) k.limits stops in
-    let at = end_place s old start h all m r d e now f k stops in
+    let at = end_place f k stops in
     record {
-      refused = inl (subst (λ l. IsRefusal standard_limits l f) (sym (append-nil all)) first, λ g u. absurd (none_unwanted s.gray h all [] g k.head u));
+      refused = inl (subst (λ l. IsRefusal standard_limits l f) (sym (append-nil all)) first, λ g u. absurd (none_unwanted [] g k.head u));
       within = omega (arith, at);
       last = omega (arith, at);
     }
 
-rows_at_end : (s : Showing) (old start : DeskState) (h : Head) (all : List ℕ) (m : ℕ) (r : ReaderState) (d : Drawing) (e : EndState) (buf : List ℕ) (ended : Why) (s0 s1 : DeskState) → Reads s0 got.End buf s1 → StopsWith r.limits all ended
+rows_at_end : {s : Showing} {old start : DeskState} {h : Head} {all : List ℕ} {m : ℕ} {r : ReaderState} {d : Drawing} {e : EndState} {buf : List ℕ} (ended : Why) {s0 s1 : DeskState} → Reads s0 got.End buf s1 → StopsWith r.limits all ended
     → HasShown s old start h all m (at_work r d e s0) → Shown s old ended s1
-rows_at_end s old start h all m r d e buf why.Done s0 s1 read stops k = absurd stops
-rows_at_end s old start h all m r d e buf (why.Warned n) s0 s1 read stops k = absurd stops
-rows_at_end s old start h all m r d e buf (why.Usage u) s0 s1 read stops k = absurd stops
-rows_at_end s old start h all m r d e buf (why.Picture p) s0 s1 read stops k = absurd stops
-rows_at_end s old start h all m r d e buf (why.Refused f) s0 s1 read stops k =
+rows_at_end {s} {all} (why.Refused f) {s0} {s1} read stops k =
     let none : rest_of s1.left ≡ [] = ap rest_of read.after.1 ∙ none_left s0.left read.after.0 in
-    inr (so_far s old start h all m r d e s0 s1 (bytes_before f) (IsRefusedRead (Image s.gray) f (rest_of s1.left)) (end_whole s old start h all m r d e s0 f k stops) k (created_still s old start all k.written got.End buf s0 s1 read read.after.1 k.desk)
-    (subst (λ (rest : List ℕ). IsRefusedRead (Image s.gray) f rest all) (sym none) (end_refused s old start h all m r d e s0 f k stops)))
-rows_at_end s old start h all m r d e buf (why.OpenFault u) s0 s1 read stops k = absurd stops
-rows_at_end s old start h all m r d e buf (why.ReadFault u) s0 s1 read stops k = absurd stops
-rows_at_end s old start h all m r d e buf why.WriteFault s0 s1 read stops k = absurd stops
-rows_at_end s old start h all m r d e buf why.NoMemory s0 s1 read stops k = absurd stops
+    inr (so_far (bytes_before f) (IsRefusedRead (Image s.gray) f (rest_of s1.left)) (end_whole f k stops) k (created_still read read.after.1 k.desk)
+    (subst (λ (rest : List ℕ). IsRefusedRead (Image s.gray) f rest all) (sym none) (end_refused f k stops)))
+rows_at_end other read stops k = absurd stops
 
 -- or all MCU rows that are complete were drawn and written, if the input ended early
-ended_early : (s : Showing) (old start : DeskState) (h : Head) (all : List ℕ) (m n : ℕ) (r after : ReaderState) (d : Drawing) (e : EndState) (buf : List ℕ) (s0 s1 : DeskState) → Reads s0 got.End buf s1 → after.limits ≡ r.limits
+ended_early : {s : Showing} {old start : DeskState} {h : Head} {all : List ℕ} {m n : ℕ} {r after : ReaderState} {d : Drawing} {e : EndState} {buf : List ℕ} {s0 s1 : DeskState} → Reads s0 got.End buf s1 → after.limits ≡ r.limits
     → AfterEndRow all m (ends.Early n) after → HasShown s old start h all m (at_work r d e s0) → HasShownEarly s old start h all m n (at_work after d e s1)
-ended_early s old start h all m n r after d e buf s0 s1 read limits ended k = record {
+ended_early {s} {h} {all} {m} {after} {s0} read limits ended k = record {
   written = k.written;
   limits = limits ∙ k.limits;
   count = ended.0;
@@ -123,8 +113,8 @@ ended_early s old start h all m n r after d e buf s0 s1 read limits ended k = re
   small = k.small;
   head = k.head;
   drawing = k.drawing;
-  desk = created_still s old start all k.written got.End buf s0 s1 read read.after.1 k.desk;
-  early = subst (λ l. IsInTime s l k.written) (append-nil all) (early_more s old start h all [] m r d e s0 (omega arith) k);
+  desk = created_still read read.after.1 k.desk;
+  early = subst (λ l. IsInTime s l k.written) (append-nil all) (early_more [] (omega arith) k);
   ended = ap rest_of read.after.1 ∙ none_left s0.left read.after.0;
 }
   where
@@ -132,44 +122,41 @@ ended_early s old start h all m n r after d e buf s0 s1 read limits ended k = re
     by (inl plain) = absurd ((plain.0).plain h.before h.contents (subst (λ (l : Limits). BeginsScanOfAll l all h.before h.contents) (sym (limits ∙ k.limits)) (k.head).begins))
     by (inr rows) = rows
 
-pub rows_end : (s : Showing) (old start : DeskState) (h : Head) (all : List ℕ) (m : ℕ) (r after : ReaderState) (d : Drawing) (e : EndState) (buf : List ℕ) (st : RowsStep) (s0 s1 : DeskState) → Reads s0 got.End buf s1 → after.limits ≡ r.limits
+pub rows_end : {s : Showing} {old start : DeskState} {h : Head} {all : List ℕ} {m : ℕ} {r : ReaderState} (after : ReaderState) {d : Drawing} {e : EndState} {buf : List ℕ} (st : RowsStep) {s0 s1 : DeskState} → Reads s0 got.End buf s1 → after.limits ≡ r.limits
     → AfterRowsEnd all m st after → HasShown s old start h all m (at_work r d e s0) → AfterShownPiece s old start h (all ++ []) st (at_work after d e s1)
-rows_end s old start h all m r after d e buf step.More s0 s1 read limits ended k = absurd ended
-rows_end s old start h all m r after d e buf step.Whole s0 s1 read limits ended k = absurd ended
-rows_end s old start h all m r after d e buf (step.Early n) s0 s1 read limits ended k =
-    subst (λ l. AfterShownPiece s old start h l (step.Early n) (at_work after d e s1)) (sym (append-nil all)) (m, ended_early s old start h all m n r after d e buf s0 s1 read limits ended k)
-rows_end s old start h all m r after d e buf (step.Ended w) s0 s1 read limits ended k =
-    rows_at_end s old start h all m r d e buf w s0 s1 read (subst (λ (l : Limits). StopsWith l all w) limits ended) k
+rows_end {s} {old} {start} {h} {all} {m} after {d} {e} (step.Early n) {s1} read limits ended k =
+    subst (λ l. AfterShownPiece s old start h l (step.Early n) (at_work after d e s1)) (sym (append-nil all)) (m, ended_early read limits ended k)
+rows_end {all} after (step.Ended w) read limits ended k =
+    rows_at_end w read (subst (λ (l : Limits). StopsWith l all w) limits ended) k
+rows_end after other read limits ended k = absurd ended
 
 pub end_goes_on : (all : List ℕ) (m : ℕ) (st : RowsStep) (r : ReaderState) (now : DeskState) → now.output_created ≡ true → AfterRowsEnd all m st r → GoesOnRows st r now
-end_goes_on all m step.More r now created ended = absurd ended
-end_goes_on all m step.Whole r now created ended = absurd ended
 end_goes_on all m (step.Early n) r now created ended = created
 end_goes_on all m (step.Ended w) r now created ended = tt
+end_goes_on all m other r now created ended = absurd ended
 
 pub end_later : (all : List ℕ) (m : ℕ) (st : RowsStep) (r : ReaderState) (before now : ℕ) → AfterRowsEnd all m st r → GoesLater before st now
-end_later all m step.More r before now ended = absurd ended
-end_later all m step.Whole r before now ended = absurd ended
 end_later all m (step.Early n) r before now ended = tt
 end_later all m (step.Ended w) r before now ended = tt
+end_later all m other r before now ended = absurd ended
 
--- the room that is left for more
-pub rows_room : (s : Showing) (old start : DeskState) (h : Head) (all : List ℕ) (m : ℕ) (r : ReaderState) (d : Drawing) (e : EndState) (now : DeskState) (room : ℕ) → room ≡ r.limits.input - r.file.reading.taken → HasShown s old start h all m (at_work r d e now)
-    → (room + length all ≡ standard_limits.input) × (length all < standard_limits.input)
-rows_room s old start h all m r d e now room is k =
-    let taken = taken_by_row r.limits all r.file (k.read).begun.rows ((k.read).«open»).stands in
-    let same = is ∙ ap (λ (l : Limits). l.input - r.file.reading.taken) k.limits ∙ ap (λ n. standard_limits.input - n) taken in
-    let short = subst (λ (l : Limits). length all < l.input) k.limits (k.read).short in
-    (omega (arith, same, short), short)
+-- more is read, and no more than there is room for
+pub next_piece : {s : Showing} {old start : DeskState} {h : Head} {all : List ℕ} {m : ℕ} {w : Work} {room n : ℕ} {buf : List ℕ} → HasShown s old start h all m w → room ≡ w.reader.limits.input - w.reader.file.reading.taken → (1 ≤ room → n ≤ room)
+    → length buf ≡ 16384 → n ≤ length buf → All (λ b. b < 256) (take n buf) → IsNextPiece all buf n
+next_piece {all} {w} {room} {n} {buf} k is fits size within small =
+    let taken = rows_taken k in
+    let same : room ≡ standard_limits.input - length all =
+    is ∙ ap (λ (l : Limits). l.input - w.reader.file.reading.taken) k.limits ∙ ap (λ n. standard_limits.input - n) taken in
+    let short = rows_short k in
+    record {
+      few = omega (arith, size, within, length-take-le n buf within);
+      most = within_most all buf n room (omega (arith, same, short)) short fits;
+      small = All-append (λ b. b < 256) all (take n buf) k.small small;
+    }
 
 -- more was taken
-pub goes_later : (s : Showing) (old start : DeskState) (h : Head) (all piece : List ℕ) (st : RowsStep) (r : ReaderState) (d : Drawing) (e : EndState) (now : DeskState) (t : ℕ) → t ≡ length all → length all < standard_limits.input → 0 < length piece
-    → AfterShownPiece s old start h (all ++ piece) st (at_work r d e now) → GoesLater t st r.file.reading.taken
-goes_later s old start h all piece step.More r d e now t is short some (m, k) =
-    let taken = taken_by_row r.limits (all ++ piece) r.file (k.read).begun.rows ((k.read).«open»).stands in (omega (arith, is, taken, some, length-append all piece), omega (arith, is, short))
-goes_later s old start h all piece step.Whole r d e now t is short some k = tt
-goes_later s old start h all piece (step.Early n) r d e now t is short some k = tt
-goes_later s old start h all piece (step.Ended w) r d e now t is short some k = tt
-
-pub rows_taken : (s : Showing) (old start : DeskState) (h : Head) (all : List ℕ) (m : ℕ) (r : ReaderState) (d : Drawing) (e : EndState) (now : DeskState) → HasShown s old start h all m (at_work r d e now) → r.file.reading.taken ≡ length all
-rows_taken s old start h all m r d e now k = taken_by_row r.limits all r.file (k.read).begun.rows ((k.read).«open»).stands
+pub goes_later : {s : Showing} {old start : DeskState} {h : Head} {all : List ℕ} {m : ℕ} {w : Work} → HasShown s old start h all m w → (piece : List ℕ) (st : RowsStep) (v : Work) → 0 < length piece
+    → AfterShownPiece s old start h (all ++ piece) st v → GoesLater w.reader.file.reading.taken st v.reader.file.reading.taken
+goes_later {all} k piece step.More v some (m, j) =
+    let before = rows_taken k in let now = rows_taken j in let short = rows_short k in (omega (arith, before, now, some, length-append all piece), omega (arith, before, short))
+goes_later k piece other v some j = tt

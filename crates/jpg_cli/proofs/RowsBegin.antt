@@ -19,18 +19,18 @@ use Rattle.jpg_cli.proofs.RowsEnd.{shown_head}
 use Rattle.jpg_cli.proofs.Outcome.{reads_still}
 
 -- what was read
-abbrev opened_read : (s : Showing) (old start : DeskState) (all : List ℕ) (piece : List ℕ) (answer : Result FedRow Stop) (r : ReaderState) (now : DeskState) (Is : List ℕ → Type 0) → BeginsShownRows s.gray all piece answer r → HasOpened s old start all now → Is all
+abbrev opened_read : {s : Showing} {old start : DeskState} {all : List ℕ} {piece : List ℕ} {answer : Result FedRow Stop} {r : ReaderState} {now : DeskState} (Is : List ℕ → Type 0) → BeginsShownRows s.gray all piece answer r → HasOpened s old start all now → Is all
     → ReadsFrom s.input Is old now
-opened_read s old start all piece answer r now Is k h is = record { bytes = all; read = file_read old.files s.input start.left now.left all (h.opened).after.2 h.left; most = (k.rows).most; is = is }
+opened_read {s} {old} {start} {all} {now} Is k h is = record { bytes = all; read = file_read old.files s.input start.left now.left all (h.opened).after.2 h.left; most = (k.rows).most; is = is }
 
 -- NO MEMORY for an image
-pub no_image : (s : Showing) (old start : DeskState) (all : List ℕ) (piece : List ℕ) (answer : Result FedRow Stop) (r : ReaderState) (now : DeskState) → BeginsShownRows s.gray all piece answer r → HasOpened s old start all now → Shown s old why.NoMemory now
-no_image s old start all piece answer r now k h = inl (stopped_there old start now s.input h.opened h.reads, opened_read s old start all piece answer r now (IsShortRead (Image s.gray)) k h (k.rows).short)
+pub no_image : {s : Showing} {old start : DeskState} {all : List ℕ} {piece : List ℕ} {answer : Result FedRow Stop} {r : ReaderState} {now : DeskState} → BeginsShownRows s.gray all piece answer r → HasOpened s old start all now → Shown s old why.NoMemory now
+no_image {s} {old} {start} {now} k h = inl (stopped_there old start now s.input h.opened h.reads, opened_read (IsShortRead (Image s.gray)) k h (k.rows).short)
 
 -- NO OUTPUT
-pub no_output : (s : Showing) (old start : DeskState) (all : List ℕ) (piece : List ℕ) (answer : Result FedRow Stop) (r : ReaderState) (now new : DeskState) → BeginsShownRows s.gray all piece answer r → HasOpened s old start all now → Creates now s.output put.Failed new
+pub no_output : {s : Showing} {old start : DeskState} {all : List ℕ} {piece : List ℕ} {answer : Result FedRow Stop} {r : ReaderState} {now new : DeskState} → BeginsShownRows s.gray all piece answer r → HasOpened s old start all now → Creates now s.output put.Failed new
     → Shown s old (why.OpenFault which.Output) new
-no_output s old start all piece answer r now new k h made = (
+no_output {s} {old} {start} {now} {new} k h made = (
   record {
     stopped = record {
       asked = asks_next old now new (s.input ∷ []) s.output put.Failed (noted old start now s.input h.opened h.reads) made.asked;
@@ -39,5 +39,5 @@ no_output s old start all piece answer r now new k h made = (
     opens = (let rose = made.after.0 in let a = (h.opened).counts.opens in let b = ((h.reads).copies).works.stays.counts.opens in omega (arith, rose, a, b));
   },
   inr (reads_still old now new s.input (λ rest bytes. IsShortRead (Image s.gray) bytes × IsShownByRows s.gray bytes) made.left
-      (opened_read s old start all piece answer r now (λ bytes. IsShortRead (Image s.gray) bytes × IsShownByRows s.gray bytes) k h ((k.rows).short, shown_head s.gray k.head all (k.rows).head))),
+      (opened_read (λ bytes. IsShortRead (Image s.gray) bytes × IsShownByRows s.gray bytes) k h ((k.rows).short, shown_head (k.rows).head))),
 )

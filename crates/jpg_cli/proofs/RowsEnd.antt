@@ -6,9 +6,8 @@ use Rattle.jpg_base.specs.declared.stop.Stop.{Stop}
 use Rattle.jpg_base.specs.declared.stop.Stop.TheVariants as stop
 use Rattle.jpg_spec.specs.UnfinishedFile.{IsWholeFile}
 use Rattle.jpg_spec.specs.Meaning.{Meaning}
-use Rattle.jpg_spec.specs.RowsTold.{picture_so_far}
+use Rattle.jpg_spec.specs.RowsTold.{BeginsScanOfAll, CompletesRows, TellsRows, picture_so_far}
 use Rattle.jpg_spec_image.specs.RowsShown.{rows_text}
-use Rattle.jpg_spec.specs.RowsTold.{BeginsScanOfAll, CompletesRows, TellsRows}
 use Rattle.jpg_spec.specs.Scan.{Blocks}
 use Rattle.jpg_spec.specs.Markers.{Segment}
 use Rattle.jpg_spec.specs.InForce.{colours_after, factors_after}
@@ -36,18 +35,18 @@ use Rattle.jpg_cli.specs.Outcome.{bytes_before}
 use Rattle.jpg_cli.specs.Tools.Showing.{IsInTime, IsRowsText, IsShownByRows, IsShownUpTo, Showing, Shown}
 use Rattle.jpg_cli.specs.Tools.ShowingRows.{AfterShownPiece, HasCreated, HasFedRows, HasShown, HasShownAll, Head, IsDrawing, IsHeadIn, IsLastPiece, IsShowing, last_step, why_of, at_work}
 use Rattle.jpg_cli.specs.declared.desk.picture.Wanted.TheVariants.{Image}
-use Rattle.jpg_cli.proofs.FirstRead.{HasBegun, not_shown, plain_whole}
+use Rattle.jpg_cli.proofs.FirstRead.{HasBegun, IsPlainOrBegun, not_shown, plain_or, plain_whole}
 use Rattle.jpg_cli.proofs.PictureBytes.{stop_within}
 use Rattle.jpg_cli.proofs.RowHeads.{begins_more, one_head}
 use Rattle.jpg_cli.proofs.RowsDesk.{created_added, created_more, created_read}
-use Rattle.jpg_cli.proofs.RowsStopped.{IsDueText, rows_stopped}
+use Rattle.jpg_cli.proofs.RowsStopped.{rows_stopped}
 use Rattle.jpg_cli.proofs.RowsWhole.{fits_whole}
 
 -- WHAT WAITED IS WRITTEN
 
 -- an image that differs only in what waits draws the same
-pub drawn_still : (d new : Drawing) (e : EndState) (M : Meaning) (gray smooth : Bool) (m : ℕ) → new.strips ≡ d.strips → new.info ≡ d.info → IsDrawnTo d e M gray smooth m → IsDrawnTo new e M gray smooth m
-drawn_still d new e M gray smooth m x i h = record {
+pub drawn_still : {d : Drawing} (new : Drawing) {e : EndState} {M : Meaning} {gray smooth : Bool} {m : ℕ} → new.strips ≡ d.strips → new.info ≡ d.info → IsDrawnTo d e M gray smooth m → IsDrawnTo new e M gray smooth m
+drawn_still new {M} x i h = record {
   image = record {
     showable = subst (λ (t : Strips). IsShowable t.display) (sym x) (h.image).showable;
     picture = (h.image).picture ∙ sym (ap (λ (t : Strips). (let N : Meaning = record (picture_of t.display M.blocks) { kept = M.kept } in N)) x);
@@ -62,8 +61,8 @@ drawn_still d new e M gray smooth m x i h = record {
   end = h.end;
 }
 
-pub end_still : (d new : Drawing) (e : EndState) → new.strips ≡ d.strips → new.info ≡ d.info → IsEndOf d e → IsEndOf new e
-end_still d new e x i h = record {
+pub end_still : {d : Drawing} (new : Drawing) {e : EndState} → new.strips ≡ d.strips → new.info ≡ d.info → IsEndOf d e → IsEndOf new e
+end_still new x i h = record {
   told = h.told ∙ ap (λ (j : ImageInfo). Some j) (sym i);
   taken = h.taken ∙ sym (ap (λ (t : Strips). t.given) x);
   parts = h.parts;
@@ -71,40 +70,44 @@ end_still d new e x i h = record {
 }
 
 -- all that waited
-pub drawing_written : (s : Showing) (h : Head) (all : List ℕ) (m : ℕ) (written : List ℕ) (d new : Drawing) (e : EndState) → new.strips ≡ d.strips → new.info ≡ d.info → new.out ≡ [] → IsDrawing s h all m written d e
+pub drawing_written : {s : Showing} {h : Head} {all : List ℕ} {m : ℕ} {written : List ℕ} {d : Drawing} (new : Drawing) {e : EndState} → new.strips ≡ d.strips → new.info ≡ d.info → new.out ≡ [] → IsDrawing s h all m written d e
     → IsDrawing s h all m (written ++ d.out) new e
-drawing_written s h all m written d new e x i none k =
+drawing_written {written} {d} new x i none k =
     let same : (written ++ d.out) ++ new.out ≡ written ++ d.out = ap (λ l. (written ++ d.out) ++ l) none ∙ append-nil (written ++ d.out) in
     record {
       kind = k.kind;
       framed = ap (λ (t : Strips). t.display.frame) x ∙ k.framed;
       given = ap (λ (t : Strips). t.given) x ∙ k.given ∙ sym (ap (λ (t : Strips). rows_made_ready t.display t.pushed) x);
-      end = end_still d new e x i k.end;
+      end = end_still new x i k.end;
       blocks = k.blocks;
       told = k.told;
-      drawn = drawn_still d new e (picture_so_far standard_limits h.before h.contents k.blocks) s.gray s.smooth m x i k.drawn;
+      drawn = drawn_still new x i k.drawn;
       text = same ∙ k.text;
       enough = λ n y few told. (let l = k.enough n y few told in let size = ap length same in omega (arith, l, size));
     }
 
 -- THE ANSWER
 
-abbrev pub shown_head : (gray : Bool) (h : Head) (all : List ℕ) → IsHeadIn gray h all → IsShownByRows gray all
-shown_head gray h all k = record { before = h.before; contents = h.contents; begins = k.begins; shown = k.shown }
+abbrev pub shown_head : {gray : Bool} {h : Head} {all : List ℕ} → IsHeadIn gray h all → IsShownByRows gray all
+shown_head {h} k = record { before = h.before; contents = h.contents; begins = k.begins; shown = k.shown }
 
 -- nothing is unwanted, whatever follows
-pub none_unwanted : (gray : Bool) (h : Head) (all rest : List ℕ) (g : FaultAt) → IsHeadIn gray h all → IsUnwanted (Image gray) (all ++ rest) g → ⊥
-none_unwanted gray h all rest g k u = not_shown gray (all ++ rest) g u (record { before = h.before; contents = h.contents; begins = begins_more all rest h.before h.contents k.begins; shown = k.shown })
+pub none_unwanted : {gray : Bool} {h : Head} {all : List ℕ} (rest : List ℕ) (g : FaultAt) → IsHeadIn gray h all → IsUnwanted (Image gray) (all ++ rest) g → ⊥
+none_unwanted {gray} {h} {all} rest g k u = not_shown gray (all ++ rest) g u (record { before = h.before; contents = h.contents; begins = begins_more all rest h.before h.contents k.begins; shown = k.shown })
 
-refused_rows : (gray : Bool) (h : Head) (all fed piece : List ℕ) (f : FaultAt) → all ≡ fed ++ piece → length piece ≤ 16384 → IsHeadIn gray h all → IsStopOf standard_limits all f → length fed ≤ f.at → (rest : List ℕ) → IsRefusedRead (Image gray) f rest all
-refused_rows gray h all fed piece f cut few k stops late rest = record {
-  refused = inl (stops rest, λ g u. absurd (none_unwanted gray h all rest g k u));
+-- a piece in two, after this many bytes
+pub cut_used : {all : List ℕ} (front piece : List ℕ) (used : ℕ) → all ≡ front ++ piece → all ≡ (front ++ take used piece) ++ drop used piece
+cut_used front piece used cut = cut ∙ ap (λ l. front ++ l) (sym (take-append-drop used piece)) ∙ sym (append_assoc front (take used piece) (drop used piece))
+
+refused_rows : {gray : Bool} {h : Head} {all : List ℕ} (fed piece : List ℕ) (f : FaultAt) → all ≡ fed ++ piece → length piece ≤ 16384 → IsHeadIn gray h all → IsStopOf standard_limits all f → length fed ≤ f.at → (rest : List ℕ) → IsRefusedRead (Image gray) f rest all
+refused_rows {all} fed piece f cut few k stops late rest = record {
+  refused = inl (stops rest, λ g u. absurd (none_unwanted rest g k u));
   within = stop_within all f stops;
   last = omega (arith, late, few, ap length cut, length-append fed piece);
 }
 
-not_plain : (h : Head) (all : List ℕ) (gray : Bool) (limits : Limits) → limits ≡ standard_limits → IsHeadIn gray h all → HasNoRows limits all → ⊥
-not_plain h all gray limits e k none = none h.before h.contents (subst (λ (l : Limits). BeginsScanOfAll l all h.before h.contents) (sym e) k.begins)
+not_plain : {h : Head} {all : List ℕ} {gray : Bool} {limits : Limits} → limits ≡ standard_limits → IsHeadIn gray h all → HasNoRows limits all → ⊥
+not_plain {h} {all} e k none = none h.before h.contents (subst (λ (l : Limits). BeginsScanOfAll l all h.before h.contents) (sym e) k.begins)
 
 -- the rows that a prefix of the bytes completes
 record CompletesFront (bytes : List ℕ) (m : ℕ) : Type 0 where
@@ -114,8 +117,8 @@ record CompletesFront (bytes : List ℕ) (m : ℕ) : Type 0 where
   pub blocks : Blocks
   pub completed : CompletesRows standard_limits bytes m blocks
 
-stopped_front : (bytes : List ℕ) (m : ℕ) (r : ReaderState) → r.limits ≡ standard_limits → StopsRows bytes m r → CompletesFront bytes m
-stopped_front bytes m r e k = record {
+stopped_front : {bytes : List ℕ} {m : ℕ} {r : ReaderState} → r.limits ≡ standard_limits → StopsRows bytes m r → CompletesFront bytes m
+stopped_front {bytes} {m} e k = record {
   before = (k.begun).before;
   contents = (k.begun).contents;
   begins = subst (λ (l : Limits). BeginsScanOfAll l bytes (k.begun).before (k.begun).contents) e (k.begun).begins;
@@ -124,9 +127,9 @@ stopped_front bytes m r e k = record {
 }
 
 -- are those that were decoded, of the same scan
-shown_front : (s : Showing) (h : Head) (all : List ℕ) (n m : ℕ) (blocks : Blocks) → IsHeadIn s.gray h all → TellsRows standard_limits all m blocks → CompletesFront (take n all) m
+shown_front : (s : Showing) {h : Head} {all : List ℕ} (n : ℕ) {m : ℕ} {blocks : Blocks} → IsHeadIn s.gray h all → TellsRows standard_limits all m blocks → CompletesFront (take n all) m
     → IsShownByRows s.gray (take n all) × IsRowsText s (take n all) (rows_text s.kind (picture_so_far standard_limits h.before h.contents blocks) s.gray s.smooth m)
-shown_front s h all n m blocks head told k =
+shown_front s {h} {all} n {m} {blocks} head told k =
     let cut : all ≡ take n all ++ drop n all = sym (take-append-drop n all) in
     let there : TellsRows standard_limits all m k.blocks =
     subst (λ l. TellsRows standard_limits l m k.blocks) (sym cut) (rows_stay standard_limits (take n all) (drop n all) m k.blocks (k.completed).0) in
@@ -152,12 +155,12 @@ shown_front s h all n m blocks head told k =
       },
     )
 
-pub rows_ended : (s : Showing) (old start : DeskState) (h : Head) (all : List ℕ) (m : ℕ) (piece : List ℕ) (answer : Result FedRow Stop) (r : ReaderState) (d : Drawing) (e : EndState) (written : List ℕ) (now : DeskState)
+pub rows_ended : {s : Showing} {old start : DeskState} {h : Head} {all : List ℕ} {m : ℕ} {piece : List ℕ} (answer : Result FedRow Stop) {r : ReaderState} {d : Drawing} {e : EndState} {written : List ℕ} {now : DeskState}
     → IsLastPiece answer → HasFedRows s.gray h all m piece answer r → IsDrawing s h all m written d e → d.out ≡ [] → HasCreated s old start all written now → IsInTime s all written → AfterShownPiece s old start h all (last_step answer) (at_work r d e now)
-rows_ended s old start h all m piece (Ok fed.More) r d e written now last k drawing out desk early = by k.after
+rows_ended {s} {old} {start} {h} {all} {m} {piece} (Ok fed.More) {r} {d} {e} {written} {now} last k drawing out desk early = by k.after
   where
     by : AfterFeedRow k.fed m piece (Ok fed.More) r → (n : ℕ) × HasShown s old start h all n (at_work r d e now)
-    by (inl plain) = absurd (not_plain h all s.gray r.limits k.limits k.head (subst (λ l. HasNoRows r.limits l) (sym k.cut) (plain.0).plain))
+    by (inl plain) = absurd (not_plain k.limits k.head (subst (λ l. HasNoRows r.limits l) (sym k.cut) (plain.0).plain))
     by (inr read) = (
       m,
       record {
@@ -171,11 +174,11 @@ rows_ended s old start h all m piece (Ok fed.More) r d e written now last k draw
         out = out;
       },
     )
-rows_ended s old start h all m piece (Ok (fed.Row used)) r d e written now last k drawing out desk early = absurd last
-rows_ended s old start h all m piece (Ok (fed.Done used)) r d e written now last k drawing out desk early = by k.after
+rows_ended (Ok (fed.Row used)) last k drawing out desk early = absurd last
+rows_ended {s} {old} {start} {h} {all} {m} {piece} (Ok (fed.Done used)) {r} {d} {e} {written} {now} last k drawing out desk early = by k.after
   where
     cut : all ≡ (k.fed ++ take used piece) ++ drop used piece
-    cut = k.cut ∙ ap (λ l. k.fed ++ l) (sym (take-append-drop used piece)) ∙ sym (append_assoc k.fed (take used piece) (drop used piece))
+    cut = cut_used k.fed piece used k.cut
 
     by : AfterFeedRow k.fed m piece (Ok (fed.Done used)) r → (n : ℕ) × HasShownAll s old start h all n (at_work r d e now)
     by (inl plain, some, within) =
@@ -205,7 +208,7 @@ rows_ended s old start h all m piece (Ok (fed.Done used)) r d e written now last
         early = early;
       },
     )
-rows_ended s old start h all m piece (Err (stop.Fault f)) r d e written now last k drawing out desk early = by k.after
+rows_ended {s} {old} {h} {all} {m} {piece} (Err (stop.Fault f)) {r} {written} {now} last k drawing out desk early = by k.after
   where
     text : List ℕ
     text = rows_text s.kind (picture_so_far standard_limits h.before h.contents drawing.blocks) s.gray s.smooth m
@@ -217,82 +220,49 @@ rows_ended s old start h all m piece (Err (stop.Fault f)) r d e written now last
     by (stops, late, keeps, inl plain) = absurd (k.begun plain.0)
     by (stops, late, keeps, inr so) =
         let stopped = subst (λ l. IsStopOf standard_limits l f) (sym k.cut) (subst (λ (l : Limits). IsStopOf l (k.fed ++ piece) f) k.limits stops) in
-        let front : CompletesFront (take f.at all) m = subst (λ l. CompletesFront (take f.at l) m) (sym k.cut) (stopped_front (take f.at (k.fed ++ piece)) m r k.limits so) in
-        let shown = shown_front s h all f.at m drawing.blocks k.head drawing.told front in
+        let front : CompletesFront (take f.at all) m = subst (λ l. CompletesFront (take f.at l) m) (sym k.cut) (stopped_front k.limits so) in
+        let shown = shown_front s f.at k.head drawing.told front in
         let rest = rest_of now.left in
         inr (record {
           text = text;
           read =
-              created_read s old start all written now (IsShownUpTo s (bytes_before f) (IsRefusedRead (Image s.gray) f rest) text) desk k.most
-              (refused_rows s.gray h all k.fed piece f k.cut k.few k.head stopped late rest, shown.0, shown.1);
-          wrote = subst (λ t. Added (s.input ∷ []) s.output t old now) same (created_added s old start all written now desk);
+              created_read (IsShownUpTo s (bytes_before f) (IsRefusedRead (Image s.gray) f rest) text) desk k.most
+              (refused_rows k.fed piece f k.cut k.few k.head stopped late rest, shown.0, shown.1);
+          wrote = subst (λ t. Added (s.input ∷ []) s.output t old now) same (created_added desk);
         })
-rows_ended s old start h all m piece (Err stop.NoMemory) r d e written now last k drawing out desk early = absurd (k.begun (k.after).1)
+rows_ended (Err stop.NoMemory) last k drawing out desk early = absurd (k.begun (k.after).1)
 
 -- and before it all that waited is written
 all_gone : (out gone rest : List ℕ) → rest ≡ [] → out ++ [] ≡ gone ++ rest → gone ≡ out
 all_gone out gone rest none e = sym (append-nil gone) ∙ ap (λ l. gone ++ l) (sym none) ∙ sym e ∙ append-nil out
 
-pub rows_written : (s : Showing) (old start : DeskState) (h : Head) (all : List ℕ) (m : ℕ) (piece : List ℕ) (answer : Result FedRow Stop) (r : ReaderState) (d new : Drawing) (e : EndState) (s0 s1 : DeskState)
+pub rows_written : {s : Showing} {old start : DeskState} {h : Head} {all : List ℕ} {m : ℕ} {piece : List ℕ} {answer : Result FedRow Stop} {r : ReaderState} {d : Drawing} (new : Drawing) {e : EndState} {s0 s1 : DeskState}
     → IsLastPiece answer → new.strips ≡ d.strips → new.info ≡ d.info → new.out ≡ [] → SendsImage s0 d.out [] (Ok tt) new.out s1 → IsShowing s old start h all m piece answer (at_work r d e s0) → AfterShownPiece s old start h all (last_step answer) (at_work r new e s1)
-rows_written s old start h all m piece answer r d new e s0 s1 last x i none sent k =
+rows_written {answer} {d} new {s0} {s1} last x i none sent k =
     let gone = (sent.bytes).0 in
     let same = all_gone d.out gone new.out none (sent.bytes).2 in
     let desk =
-    created_more s old start all k.written d.out s0 s1 k.desk sent.only (subst (λ l. AppendsLast s0.outputs l s1.outputs) same (sent.bytes).1) in
-    rows_ended s old start h all m piece answer r new e (k.written ++ d.out) s1 last k.read (drawing_written s h all m k.written d new e x i none k.drawing) none desk
+    created_more d.out k.desk sent.only (subst (λ l. AppendsLast s0.outputs l s1.outputs) same (sent.bytes).1) in
+    rows_ended answer last k.read (drawing_written new x i none k.drawing) none desk
     (λ front rest text cut many due. (let l = k.early front rest text cut many due in omega (arith, l, length-append k.written d.out)))
 
--- or it isn't all
-pub rows_unwritten : (s : Showing) (old start : DeskState) (h : Head) (all : List ℕ) (m : ℕ) (piece : List ℕ) (answer : Result FedRow Stop) (r : ReaderState) (d : Drawing) (e : EndState) (new : List ℕ) (ended : DecodeStop) (s0 s1 : DeskState)
+-- or it isn't all: the text of these rows
+pub told_stopped : (s : Showing) {old start : DeskState} {h : Head} {all : List ℕ} {m n : ℕ} {piece written out due new : List ℕ} {answer : Result FedRow Stop} {r : ReaderState} {blocks : Blocks} (ended : DecodeStop) {s0 s1 : DeskState}
+    → HasFedRows s.gray h all m piece answer r → TellsRows standard_limits all n blocks → written ++ (out ++ due) ≡ rows_text s.kind (picture_so_far standard_limits h.before h.contents blocks) s.gray s.smooth n → IsInTime s all written
+    → HasCreated s old start all written s0 → SendsImage s0 out due (Err ended) new s1 → Shown s old (why_of (Err ended)) s1
+told_stopped s {h} {all} {n} {blocks} ended k told same early desk sent =
+    rows_stopped ended (record { most = k.most; short = k.short; told = record { begun = shown_head k.head; rows = n; blocks = blocks; told = told; same = refl }; same = same; early = early })
+    (fits_whole s h all n blocks k.head told) desk sent
+
+pub rows_unwritten : {s : Showing} {old start : DeskState} {h : Head} {all : List ℕ} {m : ℕ} {piece : List ℕ} {answer : Result FedRow Stop} {r : ReaderState} {d : Drawing} {e : EndState} {new : List ℕ} {ended : DecodeStop} {s0 s1 : DeskState}
     → SendsImage s0 d.out [] (Err ended) new s1 → IsShowing s old start h all m piece answer (at_work r d e s0) → Shown s old (why_of (Err ended)) s1
-rows_unwritten s old start h all m piece answer r d e new ended s0 s1 sent k =
-    let picture = picture_so_far standard_limits h.before h.contents (k.drawing).blocks in
-    let text = rows_text s.kind picture s.gray s.smooth m in
-    let due : IsDueText s all k.written (d.out ++ []) text =
-    record {
-      most = (k.read).most;
-      short = (k.read).short;
-      told = record { begun = shown_head s.gray h all (k.read).head; rows = m; blocks = (k.drawing).blocks; told = (k.drawing).told; same = refl };
-      same = ap (λ l. k.written ++ l) (append-nil d.out) ∙ (k.drawing).text;
-      early = k.early;
-    } in
-    rows_stopped s old start all k.written d.out [] text new ended s0 s1 due (fits_whole s h all m (k.drawing).blocks (k.read).head (k.drawing).told) k.desk sent
+rows_unwritten {s} {d} {ended} sent k =
+    told_stopped s ended k.read (k.drawing).told (ap (λ l. k.written ++ l) (append-nil d.out) ∙ (k.drawing).text) k.early k.desk sent
 
 -- THE SCAN that began in the bytes, whatever the answer
-pub rows_begun : (gray : Bool) (h : Head) (all : List ℕ) (m : ℕ) (piece : List ℕ) (answer : Result FedRow Stop) (r : ReaderState) → HasFedRows gray h all m piece answer r → HasBegun all r
-rows_begun gray h all m piece (Ok fed.More) r k = by k.after
+pub rows_begun : {gray : Bool} {h : Head} {all : List ℕ} {m : ℕ} {piece : List ℕ} {answer : Result FedRow Stop} {r : ReaderState} → HasFedRows gray h all m piece answer r → HasBegun all r
+rows_begun {all} {m} {piece} {answer} {r} k = by (plain_or k.fed piece m answer r k.after)
   where
-    by : AfterFeedRow k.fed m piece (Ok fed.More) r → HasBegun all r
-    by (inl plain) = absurd (not_plain h all gray r.limits k.limits k.head (subst (λ l. HasNoRows r.limits l) (sym k.cut) (plain.0).plain))
-    by (inr read) = record { front = k.fed ++ piece; rest = []; cut = k.cut ∙ sym (append-nil (k.fed ++ piece)); begun = read.begun }
-rows_begun gray h all m piece (Ok (fed.Row used)) r k = record {
-  front = k.fed ++ take used piece;
-  rest = drop used piece;
-  cut = k.cut ∙ ap (λ l. k.fed ++ l) (sym (take-append-drop used piece)) ∙ sym (append_assoc k.fed (take used piece) (drop used piece));
-  begun = ((k.after).0).begun;
-}
-rows_begun gray h all m piece (Ok (fed.Done used)) r k = by k.after
-  where
-    cut : all ≡ (k.fed ++ take used piece) ++ drop used piece
-    cut = k.cut ∙ ap (λ l. k.fed ++ l) (sym (take-append-drop used piece)) ∙ sym (append_assoc k.fed (take used piece) (drop used piece))
-
-    by : AfterFeedRow k.fed m piece (Ok (fed.Done used)) r → HasBegun all r
-    by (inl plain, some, within) =
-        let front = k.fed ++ take used piece in
-        let done = plain.done in
-        let none =
-        plain_whole front (drop used piece) done.meaning (subst (λ (l : Limits). IsWholeFile l front done.meaning) k.limits done.whole) (subst (λ (l : Limits). HasNoRows l front) k.limits plain.plain) in
-        absurd (subst (λ l. HasNoRows standard_limits l) (sym cut) none h.before h.contents (k.head).begins)
-    by (inr done, some, within) = record { front = k.fed ++ take used piece; rest = drop used piece; cut = cut; begun = done.begun }
-rows_begun gray h all m piece (Err (stop.Fault f)) r k = by k.after
-  where
-    by : AfterFeedRow k.fed m piece (Err (stop.Fault f)) r → HasBegun all r
-    by (stops, late, keeps, inl plain) = absurd (k.begun plain.0)
-    by (stops, late, keeps, inr so) = record {
-      front = take f.at (k.fed ++ piece);
-      rest = drop f.at (k.fed ++ piece);
-      cut = k.cut ∙ sym (take-append-drop f.at (k.fed ++ piece));
-      begun = so.begun;
-    }
-rows_begun gray h all m piece (Err stop.NoMemory) r k = absurd (k.begun (k.after).1)
+    by : IsPlainOrBegun (k.fed ++ piece) r → HasBegun all r
+    by (inl none) = absurd (k.begun none)
+    by (inr begun) = subst (λ l. HasBegun l r) (sym k.cut) begun

@@ -1,9 +1,8 @@
 -- The image of a complete file whose MCU rows were all drawn is completed.
-use Rattle.std.proofs.Common.{◌≡◌, ℕ, ◌+◌, ◌≤◌, List, [], ◌∷◌, ◌++◌, length, take, refl, sym, ap, ◌∙◌, subst, arith, inl, inr, Option, Some, None, Result, Ok, Err}
+use Rattle.std.proofs.Common.{◌≡◌, ℕ, ◌+◌, List, [], ◌++◌, length, take, refl, sym, ap, ◌∙◌, subst, arith, inl, Option, Some, None, Result, Ok, Err}
 use Rattle.std.specs.Prelude.{IfOk}
 use Rattle.std.proofs.lemmas.List.{append_assoc, append-nil, length-append, take_all, take-append-le}
-use Rattle.jpg_base.specs.Desk.{AppendsLast, DeskState}
-use Rattle.jpg_huff.specs.Out.{OnlyWrites}
+use Rattle.jpg_base.specs.Desk.{DeskState}
 use Rattle.jpg_spec.specs.UnfinishedFile.{IsWholeFile}
 use Rattle.jpg_spec_image.specs.ImageText.{end_text}
 use Rattle.jpg_spec.specs.Meaning.{Meaning}
@@ -27,17 +26,14 @@ use Rattle.jpg_pnm_bmp.specs.EndState.{EndState}
 use Rattle.jpg_color.specs.DecodeRows.{SendsImage}
 use Rattle.jpg_color.specs.StripImage.{Drawing, EndsDrawing, IsDrawnTo, IsAllGiven, rest_text}
 use Rattle.jpg_color.specs.declared.decode.DecodeStop.{DecodeStop}
-use Rattle.jpg_color.specs.declared.decode.DecodeStop.TheVariants as stop
 use Rattle.jpg_color.proofs.Drawn.{all_same}
 use Rattle.jpg_color.proofs.DrawnLaws.{texts_join}
-use Rattle.jpg_cli.specs.Endings.{Added}
 use Rattle.jpg_cli.specs.Desk.ReadPicture.{IsWholeRead}
-use Rattle.jpg_cli.specs.Tools.Showing.{IsInTime, ReadsShown, Showing, Shown, shown_text}
-use Rattle.jpg_cli.specs.Tools.ShowingRows.{HasCreated, HasShownAll, Head, why_of, at_work}
+use Rattle.jpg_cli.specs.Tools.Showing.{Showing, Shown, shown_text}
+use Rattle.jpg_cli.specs.Tools.ShowingRows.{HasShownAll, Head, why_of, at_work}
 use Rattle.jpg_cli.specs.declared.desk.picture.Wanted.TheVariants.{Image}
 use Rattle.jpg_cli.proofs.FirstRead.{not_shown}
-use Rattle.jpg_cli.proofs.RowsDesk.{created_added, created_more, created_read}
-use Rattle.jpg_cli.proofs.RowsStopped.{first_part, rose_since}
+use Rattle.jpg_cli.proofs.ImageStopped.{IsImageText, image_stopped, image_whole}
 use Rattle.jpg_cli.proofs.RowsWhole.{begins_in, read_by_rows, so_far}
 
 -- THE FILE: the image of the decoded rows is that of its picture
@@ -47,9 +43,9 @@ pub record IsShownWhole (s : Showing) (h : Head) (all : List ℕ) (m : ℕ) (blo
   pub rows : m ≡ mcu_rows (so_far h blocks)
   pub text : end_text s.kind (info (so_far h blocks) s.gray) (pixels (so_far h blocks) s.gray s.smooth) ≡ shown_text s M
 
-pub shown_whole : (s : Showing) (old start : DeskState) (h : Head) (all : List ℕ) (m : ℕ) (r : ReaderState) (d : Drawing) (e : EndState) (now : DeskState) → (k : HasShownAll s old start h all m (at_work r d e now))
+pub shown_whole : {s : Showing} {old start : DeskState} {h : Head} {all : List ℕ} {m : ℕ} {r : ReaderState} {d : Drawing} {e : EndState} {now : DeskState} → (k : HasShownAll s old start h all m (at_work r d e now))
     → IsShownWhole s h all m (k.drawing).blocks (k.done).meaning
-shown_whole s old start h all m r d e now k = record {
+shown_whole {s} {h} {all} {m} k = record {
   whole = record {
     count = length k.front;
     within = omega (arith, size);
@@ -104,69 +100,31 @@ shown_whole s old start h all m r d e now k = record {
         let t = (shown_alike standard_limits s.gray k.front M (inl whole.0)).told fault is in
         absurd (not_shown s.gray k.front t.0 t.1 (record { before = h.before; contents = h.contents; begins = begins; shown = (k.head).shown }))
 
-pub all_told : (s : Showing) (old start : DeskState) (h : Head) (all : List ℕ) (m : ℕ) (r : ReaderState) (d : Drawing) (e : EndState) (now : DeskState) → HasShownAll s old start h all m (at_work r d e now) → IsAllGiven d.strips
-all_told s old start h all m r d e now k = record {
+pub all_told : {s : Showing} {old start : DeskState} {h : Head} {all : List ℕ} {m : ℕ} {r : ReaderState} {d : Drawing} {e : EndState} {now : DeskState} → HasShownAll s old start h all m (at_work r d e now) → IsAllGiven d.strips
+all_told {s} {h} {all} {d} k = record {
   given = (k.drawing).given;
   all =
-      ((k.drawing).drawn).pushed ∙ (shown_whole s old start h all m r d e now k).rows
+      ((k.drawing).drawn).pushed ∙ (shown_whole k).rows
       ∙ sym (all_same d (so_far h (k.drawing).blocks) s.gray s.smooth ((k.drawing).drawn).image);
 }
 
 -- ITS END
 
--- what was written, what waits and what follows the rows are the text of the image
-pub record IsEndOfText (s : Showing) (M : Meaning) (all written due : List ℕ) : Type 0 where
-  pub most : length all ≤ standard_limits.input
-  pub whole : IsWholeRead (Image s.gray) M all
-  pub same : written ++ due ≡ shown_text s M
+image_ended : {s : Showing} {old start : DeskState} {M : Meaning} {all written out due : List ℕ} (result : Result (Unit {0}) DecodeStop) {new : List ℕ} {s0 s1 : DeskState} → IsImageText s old start M None all written (out ++ due) [] s0
+    → SendsImage s0 out due result new s1 → IfOk result (λ u. new ≡ []) → Shown s old (why_of result) s1
+image_ended {M} (Ok u) h sent none = let whole = image_whole h sent none in (M, (whole.0, whole.1, tt))
+image_ended (Err ended) h sent none = image_stopped ended h sent
 
-abbrev reads_whole : (s : Showing) (old start : DeskState) (M : Meaning) (all written due : List ℕ) (now : DeskState) (had : List ℕ) → IsEndOfText s M all written due → HasCreated s old start all had now → ReadsShown s M None old now
-reads_whole s old start M all written due now had h desk = record { read = created_read s old start all had now (IsWholeRead (Image s.gray) M) desk h.most h.whole; all = tt; is = refl }
-
-abbrev image_part : (s : Showing) (old start : DeskState) (M : Meaning) (all written due : List ℕ) (n : ℕ) (s0 s1 : DeskState) → IsEndOfText s M all written due → HasCreated s old start all written s0 → OnlyWrites s0 s1
-    → AppendsLast s0.outputs (take n due) s1.outputs → Added (s.input ∷ []) s.output (take (length written + n) (shown_text s M)) old s1 × ReadsShown s M None old s1
-image_part s old start M all written due n s0 s1 h desk only gone =
-    let new = created_more s old start all written (take n due) s0 s1 desk only gone in (
-      subst (λ t. Added (s.input ∷ []) s.output t old s1) (first_part written due (shown_text s M) n h.same) (created_added s old start all (written ++ take n due) s1 new),
-      reads_whole s old start M all written due s1 (written ++ take n due) h new,
-    )
-
-image_ended : (s : Showing) (old start : DeskState) (M : Meaning) (all written out due : List ℕ) (result : Result (Unit {0}) DecodeStop) (new : List ℕ) (s0 s1 : DeskState) → IsEndOfText s M all written (out ++ due) → IsInTime s all written
-    → HasCreated s old start all written s0 → SendsImage s0 out due result new s1 → IfOk result (λ u. new ≡ []) → Shown s old (why_of result) s1
-image_ended s old start M all written out due (Ok u) new s0 s1 h early desk sent none =
-    let gone = (sent.bytes).0 in
-    let same : gone ≡ out ++ due = sym (append-nil gone) ∙ ap (λ l. gone ++ l) (sym none) ∙ sym (sent.bytes).2 in
-    let text : written ++ gone ≡ shown_text s M = ap (λ l. written ++ l) same ∙ h.same in
-    let ended = created_more s old start all written gone s0 s1 desk sent.only (sent.bytes).1 in
-    (M, (reads_whole s old start M all written (out ++ due) s1 (written ++ gone) h ended, subst (λ t. Added (s.input ∷ []) s.output t old s1) text (created_added s old start all (written ++ gone) s1 ended), tt))
-image_ended s old start M all written out due (Err stop.NoMemory) new s0 s1 h early desk sent none =
-    let n = (sent.bytes).0 in
-    let less = (sent.bytes).1 in
-    let part = image_part s old start M all written (out ++ due) n s0 s1 h desk sent.only (sent.bytes).2 in
-    let size : length written + length (out ++ due) ≡ length (shown_text s M) = sym (length-append written (out ++ due)) ∙ ap length h.same in
-    inr (inl (record { part = record { value = M; early = None; count = length written + n; read = part.1; wrote = part.0 }; left = omega (arith, less, size) }))
-image_ended s old start M all written out due (Err stop.WriteFault) new s0 s1 h early desk sent none =
-    let n = (sent.bytes).0.0 in
-    let part = image_part s old start M all written (out ++ due) n s0 s1 h desk sent.only (sent.bytes).0.1 in (
-      rose_since s old start all written s0 s1 desk (sent.bytes).1,
-      inl (record {
-        part = record { value = M; early = None; count = length written + n; read = part.1; wrote = part.0 };
-        early = λ front rest other cut many k.
-            (let l = early front rest other cut many k in
-            let size = ap length (first_part written (out ++ due) (shown_text s M) n h.same) in omega (arith, l, size, length-append written (take n (out ++ due))));
-      }),
-    )
-
-pub rows_finished : (s : Showing) (old start : DeskState) (h : Head) (all : List ℕ) (m : ℕ) (r : ReaderState) (d : Drawing) (e : EndState) (now : DeskState) (result : Result (Unit {0}) DecodeStop) (new : Drawing) (new_end : EndState) (s1 : DeskState)
+pub rows_finished : {s : Showing} {old start : DeskState} {h : Head} {all : List ℕ} {m : ℕ} {r : ReaderState} {d : Drawing} {e : EndState} {now : DeskState} {result : Result (Unit {0}) DecodeStop} {new : Drawing} {new_end : EndState} {s1 : DeskState}
     → EndsDrawing now d e result new new_end s1 → HasShownAll s old start h all m (at_work r d e now) → Shown s old (why_of result) s1
-rows_finished s old start h all m r d e now result new new_end s1 ends k =
+rows_finished {s} {h} {d} {e} {now} {result} {new} {s1} ends k =
     let P = so_far h (k.drawing).blocks in
     let M = (k.done).meaning in
-    let w = shown_whole s old start h all m r d e now k in
+    let w = shown_whole k in
     let drawn = subst (λ n. IsDrawnTo d e P s.gray s.smooth n) w.rows (k.drawing).drawn in
     let rest = rest_text s.kind P s.gray s.smooth in
     let sent = subst (λ (kind : EndKind). SendsImage now d.out (rest_text kind P s.gray s.smooth) result new.out s1) (k.drawing).kind (ends.drawn P s.gray s.smooth drawn) in
     let join = texts_join d P s.gray s.smooth s.kind ((k.drawing).drawn).image in
-    let text : k.written ++ (d.out ++ rest) ≡ shown_text s M =
-    sym (append_assoc k.written d.out rest) ∙ ap (λ l. l ++ rest) ((k.drawing).text ∙ ap (λ n. rows_text s.kind P s.gray s.smooth n) w.rows) ∙ join.whole ∙ w.text in
-    image_ended s old start M all k.written d.out rest result new.out now s1 (record { most = k.most; whole = w.whole; same = text }) k.early k.desk sent ends.out
+    let text : k.written ++ ((d.out ++ rest) ++ []) ≡ shown_text s M =
+    ap (λ l. k.written ++ l) (append-nil (d.out ++ rest)) ∙ sym (append_assoc k.written d.out rest) ∙ ap (λ l. l ++ rest) ((k.drawing).text ∙ ap (λ n. rows_text s.kind P s.gray s.smooth n) w.rows) ∙ join.whole ∙ w.text in
+    image_ended result (record { same = text; in_time = k.early; desk = k.desk; most = k.most; means = w.whole; left = tt }) sent ends.out

@@ -1,27 +1,34 @@
 -- What the steps of a picture that is written row by row result in, step by step.
-use Rattle.std.proofs.Common.{◌≡◌, ℕ, ◌<◌, List, ap, subst, arith}
+use Rattle.std.proofs.Common.{◌≡◌, ℕ, List, subst, Result}
 use Rattle.jpg_base.specs.Desk.{DeskState}
-use Rattle.jpg_file.specs.Read.ReadFile.{ReaderState}
-use Rattle.jpg_pnm_bmp.specs.EndState.{EndState}
-use Rattle.jpg_color.specs.StripImage.{Drawing}
-use Rattle.jpg_spec_words.specs.declared.answers.Why.{Why}
-use Rattle.jpg_cli.specs.Tools.Showing.{Showing, Shown}
-use Rattle.jpg_cli.specs.Tools.ShowingRows.{AfterShownPiece, GoesLater, HasShown, HasShownAll, HasShownEarly, Head, reads_left, at_work}
+use Rattle.jpg_base.specs.declared.stop.Stop.{Stop}
+use Rattle.jpg_file.specs.declared.read.row_pieces.FedRow.{FedRow}
+use Rattle.jpg_cli.specs.Tools.Showing.{Showing}
+use Rattle.jpg_cli.specs.Tools.ShowingRows.{AfterShownPiece, CanDrawPiece, CanEnd, CanFinishImage, CanReadRows, Head, IsShowing, Work}
 use Rattle.jpg_cli.specs.declared.tools.djpeg_rows.RowsStep.{RowsStep}
 use Rattle.jpg_cli.specs.declared.tools.djpeg_rows.RowsStep.TheVariants as step
 
-pub more_here : (s : Showing) (old start : DeskState) (h : Head) (all : List ℕ) (st : RowsStep) (r : ReaderState) (d : Drawing) (e : EndState) (now : DeskState) → st ≡ step.More → AfterShownPiece s old start h all st (at_work r d e now)
-    → (m : ℕ) × HasShown s old start h all m (at_work r d e now)
-more_here s old start h all st r d e now is k = subst (λ (x : RowsStep). AfterShownPiece s old start h all x (at_work r d e now)) is k
+pub step_is : (s : Showing) (old start : DeskState) (h : Head) (all : List ℕ) {st x : RowsStep} (w : Work) → st ≡ x → AfterShownPiece s old start h all st w → AfterShownPiece s old start h all x w
+step_is s old start h all w is k = subst (λ (y : RowsStep). AfterShownPiece s old start h all y w) is k
 
-pub whole_here : (s : Showing) (old start : DeskState) (h : Head) (all : List ℕ) (st : RowsStep) (r : ReaderState) (d : Drawing) (e : EndState) (now : DeskState) → st ≡ step.Whole → AfterShownPiece s old start h all st (at_work r d e now)
-    → (m : ℕ) × HasShownAll s old start h all m (at_work r d e now)
-whole_here s old start h all st r d e now is k = subst (λ (x : RowsStep). AfterShownPiece s old start h all x (at_work r d e now)) is k
+-- Whatever was read and drawn before, this is the result of the pieces so far.
+abbrev StillSteps : Showing → List ℕ → Result FedRow Stop → Work → RowsStep → Work → Type 0
+StillSteps s piece answer w st v = (old start : DeskState) (h : Head) (all : List ℕ) (m : ℕ) → IsShowing s old start h all m piece answer w → (so : List ℕ) × AfterShownPiece s old start h so st v
 
-pub early_here : (s : Showing) (old start : DeskState) (h : Head) (all : List ℕ) (st : RowsStep) (n : ℕ) (r : ReaderState) (d : Drawing) (e : EndState) (now : DeskState) → st ≡ step.Early n → AfterShownPiece s old start h all st (at_work r d e now)
-    → (m : ℕ) × HasShownEarly s old start h all m n (at_work r d e now)
-early_here s old start h all st n r d e now is k = subst (λ (x : RowsStep). AfterShownPiece s old start h all x (at_work r d e now)) is k
+pub can_read : {s : Showing} {piece : List ℕ} {answer : Result FedRow Stop} {w v : Work} {st : RowsStep} → CanDrawPiece s piece answer w → StillSteps s piece answer w st v → st ≡ step.More → CanReadRows s v
+can_read {s} {v = v} k shows is =
+    let a = shows k.old k.start k.head k.all k.rows k.showing in
+    let b = step_is s k.old k.start k.head a.0 v is a.1 in
+    record { old = k.old; start = k.start; head = k.head; all = a.0; rows = b.0; shown = b.1 }
 
-pub ended_here : (s : Showing) (old start : DeskState) (h : Head) (all : List ℕ) (st : RowsStep) (ended : Why) (r : ReaderState) (d : Drawing) (e : EndState) (now : DeskState) → st ≡ step.Ended ended → AfterShownPiece s old start h all st (at_work r d e now)
-    → Shown s old ended now
-ended_here s old start h all st ended r d e now is k = subst (λ (x : RowsStep). AfterShownPiece s old start h all x (at_work r d e now)) is k
+pub can_finish : {s : Showing} {piece : List ℕ} {answer : Result FedRow Stop} {w v : Work} {st : RowsStep} → CanDrawPiece s piece answer w → StillSteps s piece answer w st v → st ≡ step.Whole → CanFinishImage s v
+can_finish {s} {v = v} k shows is =
+    let a = shows k.old k.start k.head k.all k.rows k.showing in
+    let b = step_is s k.old k.start k.head a.0 v is a.1 in
+    record { old = k.old; start = k.start; head = k.head; all = a.0; rows = b.0; shown = b.1 }
+
+pub can_end : {s : Showing} {piece : List ℕ} {answer : Result FedRow Stop} {w v : Work} {st : RowsStep} {n : ℕ} → CanDrawPiece s piece answer w → StillSteps s piece answer w st v → st ≡ step.Early n → CanEnd s n v
+can_end {s} {v = v} k shows is =
+    let a = shows k.old k.start k.head k.all k.rows k.showing in
+    let b = step_is s k.old k.start k.head a.0 v is a.1 in
+    record { old = k.old; start = k.start; head = k.head; all = a.0; rows = b.0; shown = b.1 }

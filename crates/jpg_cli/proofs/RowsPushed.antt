@@ -1,5 +1,5 @@
 -- One more MCU row is drawn: it is passed to the image, and the reader is asked for the next one.
-use Rattle.std.proofs.Common.{◌≡◌, ℕ, ◌+◌, ◌-◌, ◌<◌, ◌≤◌, Bool, List, [], ◌++◌, length, take, drop, refl, sym, ap, ◌∙◌, subst, arith, inr, Some, Result, Ok, Err}
+use Rattle.std.proofs.Common.{◌≡◌, ℕ, ◌+◌, ◌-◌, ◌<◌, ◌≤◌, Bool, List, [], ◌++◌, length, take, drop, sym, ap, ◌∙◌, subst, arith, inr, Some, Result, Ok, Err}
 use Rattle.std.proofs.lemmas.List.{append_assoc, append-nil, length-append, length-drop, take_all, take-append-drop}
 use Rattle.jpg_base.specs.Desk.{DeskState}
 use Rattle.jpg_base.specs.declared.stop.Stop.{Stop}
@@ -29,14 +29,13 @@ use Rattle.jpg_color.specs.declared.decode.DecodeStop.{DecodeStop}
 use Rattle.jpg_color.proofs.Drawn.{all_same}
 use Rattle.jpg_color.proofs.DrawnLaws.{drawn_alike, texts_join}
 use Rattle.jpg_cli.specs.Tools.Showing.{Showing, Shown}
-use Rattle.jpg_cli.specs.Tools.ShowingRows.{HasFedRows, Head, IsDrawing, IsHeadIn, IsShowing, why_of, at_work}
+use Rattle.jpg_cli.specs.Tools.ShowingRows.{CanDrawPiece, HasFedRows, Head, IsDrawing, IsHeadIn, IsShowing, Work, why_of, at_work}
 use Rattle.jpg_cli.proofs.RowHeads.{one_head}
 use Rattle.jpg_cli.proofs.RowsAgree.{agree_first, row_shown, same_text}
 use Rattle.jpg_cli.proofs.RowsDesk.{created_more}
-use Rattle.jpg_cli.proofs.RowsEnd.{shown_head}
+use Rattle.jpg_cli.proofs.RowsEnd.{cut_used, told_stopped}
 use Rattle.jpg_cli.proofs.RowsRead.{work_stays}
-use Rattle.jpg_cli.proofs.RowsStopped.{IsDueText, rows_stopped}
-use Rattle.jpg_cli.proofs.RowsWhole.{few_told, fits_whole, goes_on, so_far}
+use Rattle.jpg_cli.proofs.RowsWhole.{few_told, goes_on, so_far}
 
 -- THE ROW that the reader gave
 
@@ -51,29 +50,26 @@ pub record IsNextRow (h : Head) (all : List ℕ) (m : ℕ) (q : Coefs) : Type 0 
 abbrev up_to : List ℕ → List ℕ → ℕ → List ℕ
 up_to before piece used = before ++ take used piece
 
-rest_cut : (all before piece : List ℕ) (used : ℕ) → all ≡ before ++ piece → all ≡ up_to before piece used ++ drop used piece
-rest_cut all before piece used cut = cut ∙ ap (λ l. before ++ l) (sym (take-append-drop used piece)) ∙ sym (append_assoc before (take used piece) (drop used piece))
-
-pub begun_row : (gray : Bool) (h : Head) (all : List ℕ) (m : ℕ) (piece : List ℕ) (used : ℕ) (r : ReaderState) → HasFedRows gray h all m piece (Ok (fed.Row used)) r → (rows : RowWork) × (r.rows ≡ Some rows)
-begun_row gray h all m piece used r k = (((k.after).0).begun.rows, ((k.after).0).begun.has)
+pub begun_row : {gray : Bool} {h : Head} {all : List ℕ} {m : ℕ} {piece : List ℕ} {used : ℕ} {r : ReaderState} → HasFedRows gray h all m piece (Ok (fed.Row used)) r → (rows : RowWork) × (r.rows ≡ Some rows)
+begun_row k = (((k.after).0).begun.rows, ((k.after).0).begun.has)
 
 -- its scan began before the end of the row
-begins_row : (gray : Bool) (h : Head) (all : List ℕ) (m : ℕ) (piece : List ℕ) (used : ℕ) (r : ReaderState) → (k : HasFedRows gray h all m piece (Ok (fed.Row used)) r)
+begins_row : {gray : Bool} {h : Head} {all : List ℕ} {m : ℕ} {piece : List ℕ} {used : ℕ} {r : ReaderState} → (k : HasFedRows gray h all m piece (Ok (fed.Row used)) r)
     → BeginsScanOfAll standard_limits (up_to k.fed piece used) h.before h.contents
-begins_row gray h all m piece used r k =
+begins_row {h} {all} {piece} {used} k =
     let b = ((k.after).0).begun in
     let front = up_to k.fed piece used in
     let begins = subst (λ (l : Limits). BeginsScanOfAll l front b.before b.contents) k.limits b.begins in
-    let one = one_head front all (drop used piece) [] b.before h.before b.contents h.contents (sym (rest_cut all k.fed piece used k.cut) ∙ sym (append-nil all)) begins (k.head).begins in
+    let one = one_head front all (drop used piece) [] b.before h.before b.contents h.contents (sym (cut_used k.fed piece used k.cut) ∙ sym (append-nil all)) begins (k.head).begins in
     subst (λ c. BeginsScanOfAll standard_limits front h.before c) one.1 (subst (λ s. BeginsScanOfAll standard_limits front s b.contents) one.0 begins)
 
-pub next_row : (gray : Bool) (h : Head) (all : List ℕ) (m : ℕ) (piece : List ℕ) (used : ℕ) (r : ReaderState) (q : Coefs) → (k : HasFedRows gray h all m piece (Ok (fed.Row used)) r)
+pub next_row : {gray : Bool} {h : Head} {all : List ℕ} {m : ℕ} {piece : List ℕ} {used : ℕ} {r : ReaderState} {q : Coefs} → (k : HasFedRows gray h all m piece (Ok (fed.Row used)) r)
     → ((rows : RowWork) → r.rows ≡ Some rows → q ≡ rows.coefs) → IsNextRow h all m q
-next_row gray h all m piece used r q k lent =
+next_row {h} {all} {m} {piece} {used} {r} {q} k lent =
     let g : HasGivenRow (up_to k.fed piece used) (m + 1) r = (k.after).0 in
     let b = g.begun in
     let front = up_to k.fed piece used in
-    let cut = rest_cut all k.fed piece used k.cut in
+    let cut = cut_used k.fed piece used k.cut in
     let begins = subst (λ (l : Limits). BeginsScanOfAll l front b.before b.contents) k.limits b.begins in
     let one = one_head front all (drop used piece) [] b.before h.before b.contents h.contents (sym cut ∙ sym (append-nil all)) begins (k.head).begins in
     let f : frame_of r.limits b.before ≡ frame_of standard_limits h.before = ap (λ (l : Limits). frame_of l b.before) k.limits ∙ ap (frame_of standard_limits) one.0 in
@@ -94,15 +90,15 @@ next_row gray h all m piece used r q k lent =
 -- BEFORE IT IS DRAWN
 
 -- it is one that the image waits for
-pub row_due : (s : Showing) (h : Head) (all : List ℕ) (m : ℕ) (written : List ℕ) (q : Coefs) (d : Drawing) (e : EndState) → IsHeadIn s.gray h all → IsNextRow h all m q → IsDrawing s h all m written d e → IsNextRowDue d.strips
-row_due s h all m written q d e head k w =
+pub row_due : {s : Showing} {h : Head} {all : List ℕ} {m : ℕ} {written : List ℕ} {q : Coefs} {d : Drawing} {e : EndState} → IsHeadIn s.gray h all → IsNextRow h all m q → IsDrawing s h all m written d e → IsNextRowDue d.strips
+row_due {s} {h} {all} {m} {d} head k w =
     let few : m + 1 ≤ mcu_rows (so_far h w.blocks) = few_told h all (m + 1) k.blocks w.blocks head.begins k.told in
     let all_are = all_same d (so_far h w.blocks) s.gray s.smooth (w.drawn).image in
     let pushed = (w.drawn).pushed in
     record { given = w.given; missing = omega (arith, few, all_are, pushed) }
 
-pub row_framed : (s : Showing) (h : Head) (all : List ℕ) (m : ℕ) (written : List ℕ) (q : Coefs) (d : Drawing) (e : EndState) → IsNextRow h all m q → IsDrawing s h all m written d e → IsMcuRow d.strips.display.frame q
-row_framed s h all m written q d e k w = record {
+pub row_framed : {s : Showing} {h : Head} {all : List ℕ} {m : ℕ} {written : List ℕ} {q : Coefs} {d : Drawing} {e : EndState} → IsNextRow h all m q → IsDrawing s h all m written d e → IsMcuRow d.strips.display.frame q
+row_framed {q} k w = record {
   frame = k.frame ∙ ap mcu_row_frame (sym w.framed);
   range = subst (λ (x : Frame). AreInRange (bounds x) (map_of q)) (sym w.framed) k.range;
 }
@@ -116,19 +112,19 @@ pub record IsMoreDrawn (s : Showing) (h : Head) (all : List ℕ) (m : ℕ) (writ
   pub sent : SendsImage s0 d.out due result new.out s1
   pub text : written ++ (d.out ++ due) ≡ rows_text s.kind (so_far h next.blocks) s.gray s.smooth (m + 1)
 
-pub more_drawn : (s : Showing) (h : Head) (all : List ℕ) (m : ℕ) (written : List ℕ) (q : Coefs) (d : Drawing) (e : EndState) (s0 : DeskState) (result : Result (Unit {0}) DecodeStop) (new : Drawing) (new_end : EndState) (s1 : DeskState)
+pub more_drawn : {s : Showing} {h : Head} {all : List ℕ} {m : ℕ} {written : List ℕ} {q : Coefs} {d : Drawing} {e : EndState} {s0 : DeskState} {result : Result (Unit {0}) DecodeStop} {new : Drawing} {new_end : EndState} {s1 : DeskState}
     → IsHeadIn s.gray h all → IsNextRow h all m q → IsDrawing s h all m written d e → DrawsRow s0 d e q result new new_end s1 → IsMoreDrawn s h all m written q d e s0 result new new_end s1
-more_drawn s h all m written q d e s0 result new new_end s1 head k w draws = record { next = k; due = next; more = more; sent = sent; text = text }
+more_drawn {s} {h} {all} {m} {written} {d} {e} {s0} {result} {new} {new_end} {s1} head k w draws = record { next = k; due = next; more = more; sent = sent; text = text }
   where
     P : Meaning
     P = so_far h k.blocks
 
     drawn : IsDrawnTo d e P s.gray s.smooth m
     drawn =
-        drawn_alike (so_far h w.blocks) (so_far h k.blocks) s.gray s.smooth m (agree_first s.gray h all m (m + 1) w.blocks k.blocks head (omega arith) w.told k.told) d e w.drawn
+        drawn_alike (so_far h w.blocks) (so_far h k.blocks) s.gray s.smooth m (agree_first head (omega arith) w.told k.told) d e w.drawn
 
     more : DrawsMore s0 d e P s.gray s.smooth m result new new_end s1
-    more = draws.drawn P s.gray s.smooth m drawn (row_shown d.strips.display h all m q k.blocks (drawn.image).showable w.framed head.begins k.row)
+    more = draws.drawn P s.gray s.smooth m drawn (row_shown h (drawn.image).showable w.framed head.begins k.row)
 
     next : List ℕ
     next = next_text s.kind P s.gray s.smooth m
@@ -142,39 +138,29 @@ more_drawn s h all m written q d e s0 result new new_end s1 head k w draws = rec
     text : written ++ (d.out ++ next) ≡ rows_text s.kind P s.gray s.smooth (m + 1)
     text =
         sym (append_assoc written d.out next)
-        ∙ ap (λ l. l ++ next) (w.text ∙ same_text s.gray s.smooth s.kind h all m (m + 1) w.blocks k.blocks head (omega arith) w.told k.told)
+        ∙ ap (λ l. l ++ next) (w.text ∙ same_text s.smooth s.kind head (omega arith) w.told k.told)
         ∙ (texts_join d P s.gray s.smooth s.kind drawn.image).more m (omega (arith, few))
 
 -- IT WASN'T WRITTEN
-pub row_stopped : (s : Showing) (old start : DeskState) (h : Head) (all : List ℕ) (m : ℕ) (piece : List ℕ) (used : ℕ) (r : ReaderState) (q : Coefs) (d new : Drawing) (e new_end : EndState) (ended : DecodeStop) (s0 s1 : DeskState)
+pub row_stopped : {s : Showing} {old start : DeskState} {h : Head} {all : List ℕ} {m : ℕ} {piece : List ℕ} {used : ℕ} {r : ReaderState} {q : Coefs} {d new : Drawing} {e new_end : EndState} {ended : DecodeStop} {s0 s1 : DeskState}
     → ((rows : RowWork) → r.rows ≡ Some rows → q ≡ rows.coefs) → DrawsRow s0 d e q (Err ended) new new_end s1 → IsShowing s old start h all m piece (Ok (fed.Row used)) (at_work r d e s0) → Shown s old (why_of (Err ended)) s1
-row_stopped s old start h all m piece used r q d new e new_end ended s0 s1 lent draws k =
-    let next = next_row s.gray h all m piece used r q k.read lent in
-    let w = more_drawn s h all m k.written q d e s0 (Err ended) new new_end s1 (k.read).head next k.drawing draws in
-    let text = rows_text s.kind (so_far h (w.next).blocks) s.gray s.smooth (m + 1) in
-    let due : IsDueText s all k.written (d.out ++ w.due) text =
-    record {
-      most = (k.read).most;
-      short = (k.read).short;
-      told = record { begun = shown_head s.gray h all (k.read).head; rows = m + 1; blocks = (w.next).blocks; told = (w.next).told; same = refl };
-      same = w.text;
-      early = k.early;
-    } in
-    rows_stopped s old start all k.written d.out w.due text new.out ended s0 s1 due (fits_whole s h all (m + 1) (w.next).blocks (k.read).head (w.next).told) k.desk w.sent
+row_stopped {s} {ended} lent draws k =
+    let w = more_drawn (k.read).head (next_row k.read lent) k.drawing draws in
+    told_stopped s ended k.read (w.next).told w.text k.early k.desk w.sent
 
 -- IT WAS DRAWN, and the reader was asked for the next one
-pub row_drawn : (s : Showing) (old start : DeskState) (h : Head) (all : List ℕ) (m : ℕ) (piece : List ℕ) (used : ℕ) (answer : Result FedRow Stop) (r after : ReaderState) (q : Coefs) (d new : Drawing) (e new_end : EndState) (s0 s1 : DeskState)
+pub row_drawn : {s : Showing} {old start : DeskState} {h : Head} {all : List ℕ} {m : ℕ} {piece : List ℕ} {used : ℕ} {answer : Result FedRow Stop} {r after : ReaderState} {q : Coefs} {d new : Drawing} {e new_end : EndState} {s0 s1 : DeskState}
     → ((rows : RowWork) → r.rows ≡ Some rows → q ≡ rows.coefs) → DrawsRow s0 d e q (Ok tt) new new_end s1 → FeedsRow r (drop used piece) answer after → after.limits ≡ r.limits → IsShowing s old start h all m piece (Ok (fed.Row used)) (at_work r d e s0)
     → IsShowing s old start h all (m + 1) (drop used piece) answer (at_work after new new_end s1)
-row_drawn s old start h all m piece used answer r after q d new e new_end s0 s1 lent draws feeds limits k = record {
+row_drawn {s} {h} {all} {m} {piece} {used} {answer} {after} {q} {d} {new} {e} {new_end} {s0} {s1} lent draws feeds limits k = record {
   written = k.written ++ gone;
   read = record {
     fed = up_to (k.read).fed piece used;
-    cut = rest_cut all (k.read).fed piece used (k.read).cut;
+    cut = cut_used (k.read).fed piece used (k.read).cut;
     few = (let few = (k.read).few in omega (arith, few, ap length (take-append-drop used piece), length-append (take used piece) (drop used piece)));
     limits = limits ∙ (k.read).limits;
     after = fed_next;
-    begun = work_stays (up_to (k.read).fed piece used) (drop used piece) h.before h.contents (m + 1) answer after (limits ∙ (k.read).limits) (begins_row s.gray h all m piece used r k.read) fed_next;
+    begun = work_stays (drop used piece) (m + 1) answer after (limits ∙ (k.read).limits) (begins_row k.read) fed_next;
     most = (k.read).most;
     small = (k.read).small;
     short = (k.read).short;
@@ -195,15 +181,15 @@ row_drawn s old start h all m piece used answer r after q d new e new_end s0 s1 
         let size = ap length text in
         omega (arith, longer, size, length-append (rows_text s.kind (so_far h x) s.gray s.smooth n) on.0));
   };
-  desk = created_more s old start all k.written gone s0 s1 k.desk (w.sent).only ((w.sent).bytes).1;
+  desk = created_more gone k.desk (w.sent).only ((w.sent).bytes).1;
   early = λ front rest other cut many due. (let l = k.early front rest other cut many due in omega (arith, l, length-append k.written gone));
 }
   where
     next : IsNextRow h all m q
-    next = next_row s.gray h all m piece used r q k.read lent
+    next = next_row k.read lent
 
     w : IsMoreDrawn s h all m k.written q d e s0 (Ok tt) new new_end s1
-    w = more_drawn s h all m k.written q d e s0 (Ok tt) new new_end s1 (k.read).head next k.drawing draws
+    w = more_drawn (k.read).head next k.drawing draws
 
     gone : List ℕ
     gone = ((w.sent).bytes).0
@@ -215,42 +201,52 @@ row_drawn s old start h all m piece used answer r after q d new e new_end s0 s1 
     fed_next = feeds (up_to (k.read).fed piece used) (m + 1) (inr (inr ((k.read).after).0))
 
 -- BY THE ANSWER
-pub row_here : (s : Showing) (old start : DeskState) (h : Head) (all : List ℕ) (m : ℕ) (piece : List ℕ) (answer : Result FedRow Stop) (used : ℕ) (r : ReaderState) (d : Drawing) (e : EndState) (now : DeskState) → answer ≡ Ok (fed.Row used)
+pub row_here : {s : Showing} {old start : DeskState} {h : Head} {all : List ℕ} {m : ℕ} {piece : List ℕ} {answer : Result FedRow Stop} {used : ℕ} {r : ReaderState} {d : Drawing} {e : EndState} {now : DeskState} → answer ≡ Ok (fed.Row used)
     → IsShowing s old start h all m piece answer (at_work r d e now) → IsShowing s old start h all m piece (Ok (fed.Row used)) (at_work r d e now)
-row_here s old start h all m piece answer used r d e now is k = subst (λ (a : Result FedRow Stop). IsShowing s old start h all m piece a (at_work r d e now)) is k
+row_here {s} {old} {start} {h} {all} {m} {piece} {r} {d} {e} {now} is k = subst (λ (a : Result FedRow Stop). IsShowing s old start h all m piece a (at_work r d e now)) is k
+
+-- Whatever was read and drawn before, the image shows what is left of the piece as well.
+abbrev StillShows : Showing → List ℕ → Result FedRow Stop → Work → List ℕ → Result FedRow Stop → Work → Type 0
+StillShows s piece answer w rest next v = (old start : DeskState) (h : Head) (all : List ℕ) (m : ℕ) → IsShowing s old start h all m piece answer w → (n : ℕ) × IsShowing s old start h all n rest next v
+
+pub draws_still : {s : Showing} {piece rest : List ℕ} {answer next : Result FedRow Stop} {w v : Work} → CanDrawPiece s piece answer w → StillShows s piece answer w rest next v → CanDrawPiece s rest next v
+draws_still k shows =
+    let a = shows k.old k.start k.head k.all k.rows k.showing in
+    record { old = k.old; start = k.start; head = k.head; all = k.all; rows = a.0; showing = a.1 }
+
+-- at a row
+pub row_waits : {s : Showing} {piece rest : List ℕ} {answer next : Result FedRow Stop} {w v : Work} {used : ℕ} → CanDrawPiece s piece answer w → StillShows s piece answer w rest next v → next ≡ Ok (fed.Row used)
+    → CanDrawPiece s rest (Ok (fed.Row used)) v
+row_waits {s} {rest} {v} k shows is = subst (λ (a : Result FedRow Stop). CanDrawPiece s rest a v) is (draws_still k shows)
 
 -- a row that waits at this answer, and its place in the piece
-pub record IsAtRow (s : Showing) (h : Head) (piece : List ℕ) (used : ℕ) (r : ReaderState) (q : Coefs) (d : Drawing) (e : EndState) (now : DeskState) : Type 0 where
+pub record IsAtRow (piece : List ℕ) (used : ℕ) (q : Coefs) (d : Drawing) : Type 0 where
   pub due : IsNextRowDue d.strips
   pub row : IsMcuRow d.strips.display.frame q
   pub within : used ≤ length piece
 
-pub at_row : (s : Showing) (old start : DeskState) (h : Head) (all : List ℕ) (m : ℕ) (piece : List ℕ) (used : ℕ) (r : ReaderState) (q : Coefs) (d : Drawing) (e : EndState) (now : DeskState) → ((rows : RowWork) → r.rows ≡ Some rows → q ≡ rows.coefs)
-    → IsShowing s old start h all m piece (Ok (fed.Row used)) (at_work r d e now) → IsAtRow s h piece used r q d e now
-at_row s old start h all m piece used r q d e now lent k =
-    let next = next_row s.gray h all m piece used r q k.read lent in
-    record {
-      due = row_due s h all m k.written q d e (k.read).head next k.drawing;
-      row = row_framed s h all m k.written q d e next k.drawing;
-      within = ((k.read).after).1;
-    }
+pub at_row : {s : Showing} {old start : DeskState} {h : Head} {all : List ℕ} {m : ℕ} {piece : List ℕ} {used : ℕ} {r : ReaderState} {q : Coefs} {d : Drawing} {e : EndState} {now : DeskState} → ((rows : RowWork) → r.rows ≡ Some rows → q ≡ rows.coefs)
+    → IsShowing s old start h all m piece (Ok (fed.Row used)) (at_work r d e now) → IsAtRow piece used q d
+at_row lent k =
+    let next = next_row k.read lent in
+    record { due = row_due (k.read).head next k.drawing; row = row_framed next k.drawing; within = ((k.read).after).1 }
 
 -- the piece that is left
 pub rest_of_piece : (piece : List ℕ) (used : ℕ) → take (length piece - used) (drop used piece) ≡ drop used piece
 rest_of_piece piece used = take_all (length piece - used) (drop used piece) (omega (arith, length-drop used piece))
 
-pub row_then : (s : Showing) (old start : DeskState) (h : Head) (all : List ℕ) (m : ℕ) (piece : List ℕ) (used : ℕ) (rest : List ℕ) (result : Result (Unit {0}) DecodeStop) (u : Unit {0}) (answer : Result FedRow Stop) (r after : ReaderState) (q : Coefs) (d new : Drawing) (e new_end : EndState) (s0 s1 : DeskState)
+pub row_then : {s : Showing} {old start : DeskState} {h : Head} {all : List ℕ} {m : ℕ} {piece : List ℕ} {used : ℕ} {rest : List ℕ} {result : Result (Unit {0}) DecodeStop} {u : Unit {0}} {answer : Result FedRow Stop} {r after : ReaderState} {q : Coefs} {d new : Drawing} {e new_end : EndState} {s0 s1 : DeskState}
     → rest ≡ drop used piece → result ≡ Ok u → ((rows : RowWork) → r.rows ≡ Some rows → q ≡ rows.coefs) → DrawsRow s0 d e q result new new_end s1 → FeedsRow r rest answer after → after.limits ≡ r.limits
     → IsShowing s old start h all m piece (Ok (fed.Row used)) (at_work r d e s0) → IsShowing s old start h all (m + 1) rest answer (at_work after new new_end s1)
-row_then s old start h all m piece used rest result u answer r after q d new e new_end s0 s1 same done lent draws feeds limits k =
+row_then {s} {old} {start} {h} {all} {m} {answer} {r} {after} {q} {d} {new} {e} {new_end} {s0} {s1} same done lent draws feeds limits k =
     subst (λ l. IsShowing s old start h all (m + 1) l answer (at_work after new new_end s1)) (sym same)
-    (row_drawn s old start h all m piece used answer r after q d new e new_end s0 s1 lent (subst (λ (x : Result (Unit {0}) DecodeStop). DrawsRow s0 d e q x new new_end s1) done draws)
+    (row_drawn lent (subst (λ (x : Result (Unit {0}) DecodeStop). DrawsRow s0 d e q x new new_end s1) done draws)
     (subst (λ l. FeedsRow r l answer after) same feeds) limits k)
 
 -- the image waits for one fewer row
-pub less_rows : (d new : Drawing) (e new_end : EndState) (q : Coefs) (result : Result (Unit {0}) DecodeStop) (u : Unit {0}) (s0 s1 : DeskState) → IsNextRowDue d.strips → result ≡ Ok u → DrawsRow s0 d e q result new new_end s1
+pub less_rows : {d new : Drawing} {e new_end : EndState} {q : Coefs} {result : Result (Unit {0}) DecodeStop} {u : Unit {0}} {s0 s1 : DeskState} → IsNextRowDue d.strips → result ≡ Ok u → DrawsRow s0 d e q result new new_end s1
     → all_rows new.strips.display - new.strips.pushed < all_rows d.strips.display - d.strips.pushed
-less_rows d new e new_end q result u s0 s1 due done draws =
+less_rows {d} {new} {e} {new_end} {q} {s0} {s1} due done draws =
     let so = subst (λ (x : Result (Unit {0}) DecodeStop). DrawsRow s0 d e q x new new_end s1) done draws in
     let pushed = (so.goes_on).pushed in
     let same = ap all_rows so.display in

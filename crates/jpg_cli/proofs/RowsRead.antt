@@ -4,6 +4,7 @@ use Rattle.std.specs.List.{All}
 use Rattle.std.proofs.lemmas.Bool.{cases_lt}
 use Rattle.std.proofs.lemmas.List.{append-nil, length-append, take_all, take-append-drop, take-append-le}
 use Rattle.std.specs.Io.KnownBytes.{Consumes}
+use Rattle.jpg_base.specs.declared.names.Got.{Got}
 use Rattle.jpg_base.specs.declared.names.Got.TheVariants as got
 use Rattle.jpg_base.specs.declared.names.Put.{Put}
 use Rattle.jpg_base.specs.declared.names.Put.TheVariants as put
@@ -15,9 +16,8 @@ use Rattle.jpg_base.specs.Laws.{Consumes-then, Grows}
 use Rattle.jpg_spec.specs.UnfinishedFile.{UnfinishedFile}
 use Rattle.jpg_spec.specs.Markers.{Segment}
 use Rattle.jpg_spec.specs.RowLaws.{TellsMore, first_blocks}
-use Rattle.jpg_spec.specs.RowsTold.{picture_so_far}
+use Rattle.jpg_spec.specs.RowsTold.{BeginsScanOfAll, CompletesRows, TellsRows, picture_so_far}
 use Rattle.jpg_spec_image.specs.RowsShown.{rows_text}
-use Rattle.jpg_spec.specs.RowsTold.{BeginsScanOfAll, CompletesRows, TellsRows}
 use Rattle.jpg_spec.specs.Scan.{Blocks}
 use Rattle.jpg_spec.specs.Segments.{standard_limits}
 use Rattle.jpg_spec.specs.declared.frame.Limits.{Limits}
@@ -44,53 +44,53 @@ use Rattle.jpg_cli.proofs.RowsEnd.{none_unwanted}
 -- COUNTS
 
 -- the bytes that were taken are counted
-pub taken_by_row : (limits : Limits) (bytes : List ℕ) (w : FileWork) (rows : RowWork) → StandsByRow limits bytes w rows → w.reading.taken ≡ length bytes
-taken_by_row limits bytes w rows h = by h.at
+pub taken_by_row : {limits : Limits} {bytes : List ℕ} {w : FileWork} {rows : RowWork} → StandsByRow limits bytes w rows → w.reading.taken ≡ length bytes
+taken_by_row {limits} {bytes} {w} {rows} h = by h.at
   where
     by : RowsInside limits bytes w rows h.whole ⊎ RowsAfter limits bytes w rows h.whole → w.reading.taken ≡ length bytes
     by (inl i) = (i.held).count
     by (inr b) = ((b.between).beside).count
 
 -- ROWS that are decoded remain so, and if more are decoded, fewer are
-fewer_told : (bytes : List ℕ) (k m : ℕ) (blocks : Blocks) → k ≤ m → TellsRows standard_limits bytes m blocks → (x : Blocks) × TellsRows standard_limits bytes k x
-fewer_told bytes k m blocks few told =
+fewer_told : {bytes : List ℕ} (k : ℕ) {m : ℕ} {blocks : Blocks} → k ≤ m → TellsRows standard_limits bytes m blocks → (x : Blocks) × TellsRows standard_limits bytes k x
+fewer_told {bytes} k {m} {blocks} few told =
     let w : TellsMore standard_limits bytes k = record { all = m; blocks = blocks; enough = few; told = told } in (first_blocks standard_limits bytes k w, first_told standard_limits bytes k w)
 
 -- of longer bytes, if more are decoded
-told_before : (bytes more : List ℕ) (k m : ℕ) (blocks x : Blocks) → k ≤ m → TellsRows standard_limits bytes m blocks → TellsRows standard_limits (bytes ++ more) k x → TellsRows standard_limits bytes k x
-told_before bytes more k m blocks x few told h =
-    let y = fewer_told bytes k m blocks few told in
+told_before : {bytes : List ℕ} (more : List ℕ) {k m : ℕ} {blocks x : Blocks} → k ≤ m → TellsRows standard_limits bytes m blocks → TellsRows standard_limits (bytes ++ more) k x → TellsRows standard_limits bytes k x
+told_before {bytes} more {k} {x} few told h =
+    let y = fewer_told k few told in
     subst (λ (b : Blocks). TellsRows standard_limits bytes k b) (sym (rows_once standard_limits (bytes ++ more) k x y.0 h (rows_stay standard_limits bytes more k y.0 y.1))) y.1
 
 -- no more are decoded than are complete
-no_more_told : (bytes : List ℕ) (k m : ℕ) (blocks x : Blocks) → CompletesRows standard_limits bytes m blocks → TellsRows standard_limits bytes k x → k ≤ m
-no_more_told bytes k m blocks x completed told = by (cases_lt m k)
+no_more_told : {bytes : List ℕ} {k m : ℕ} {blocks x : Blocks} → CompletesRows standard_limits bytes m blocks → TellsRows standard_limits bytes k x → k ≤ m
+no_more_told {k} {m} completed told = by (cases_lt m k)
   where
     by : (m < k) ⊎ (k ≤ m) → k ≤ m
     by (inr few) = few
-    by (inl more) = (let y = fewer_told bytes (m + 1) k x (omega (arith, more)) told in absurd (completed.1 y.0 y.1))
+    by (inl more) = (let y = fewer_told (m + 1) (omega (arith, more)) told in absurd (completed.1 y.0 y.1))
 
 -- A SCAN THAT BEGAN remains the current one
 no_plain : (bytes : List ℕ) (before : List Segment) (contents : List ℕ) (limits : Limits) → limits ≡ standard_limits → BeginsScanOfAll standard_limits bytes before contents → HasNoRows limits bytes → ⊥
 no_plain bytes before contents limits e k none = none before contents (subst (λ (l : Limits). BeginsScanOfAll l bytes before contents) (sym e) k)
 
-pub work_stays : (bytes piece : List ℕ) (before : List Segment) (contents : List ℕ) (m : ℕ) (answer : Result FedRow Stop) (r : ReaderState) → r.limits ≡ standard_limits → BeginsScanOfAll standard_limits bytes before contents → AfterFeedRow bytes m piece answer r
+pub work_stays : {bytes : List ℕ} (piece : List ℕ) {before : List Segment} {contents : List ℕ} (m : ℕ) (answer : Result FedRow Stop) (r : ReaderState) → r.limits ≡ standard_limits → BeginsScanOfAll standard_limits bytes before contents → AfterFeedRow bytes m piece answer r
     → r.rows ≡ None → ⊥
-work_stays bytes piece before contents m (Ok fed.More) r e k (inl h) none = no_plain (bytes ++ piece) before contents r.limits e (begins_more bytes piece before contents k) (h.0).plain
-work_stays bytes piece before contents m (Ok fed.More) r e k (inr h) none = not_none r (bytes ++ piece) h.begun none
-work_stays bytes piece before contents m (Ok (fed.Row used)) r e k h none = not_none r (bytes ++ take used piece) (h.0).begun none
-work_stays bytes piece before contents m (Ok (fed.Done used)) r e k (inl h, some, within) none =
+work_stays {bytes} piece {before} {contents} m (Ok fed.More) r e k (inl h) none = no_plain (bytes ++ piece) before contents r.limits e (begins_more bytes piece before contents k) (h.0).plain
+work_stays {bytes} piece m (Ok fed.More) r e k (inr h) none = not_none r (bytes ++ piece) h.begun none
+work_stays {bytes} piece m (Ok (fed.Row used)) r e k h none = not_none r (bytes ++ take used piece) (h.0).begun none
+work_stays {bytes} piece {before} {contents} m (Ok (fed.Done used)) r e k (inl h, some, within) none =
     no_plain (bytes ++ take used piece) before contents r.limits e (begins_more bytes (take used piece) before contents k) h.plain
-work_stays bytes piece before contents m (Ok (fed.Done used)) r e k (inr h, some, within) none = not_none r (bytes ++ take used piece) h.begun none
-work_stays bytes piece before contents m (Err (stop.Fault f)) r e k (stops, late, keeps, inl h) none =
+work_stays {bytes} piece m (Ok (fed.Done used)) r e k (inr h, some, within) none = not_none r (bytes ++ take used piece) h.begun none
+work_stays {bytes} piece {before} {contents} m (Err (stop.Fault f)) r e k (stops, late, keeps, inl h) none =
     no_plain (take f.at (bytes ++ piece)) before contents r.limits e (begins_upto bytes piece f.at before contents late k) h.1
-work_stays bytes piece before contents m (Err (stop.Fault f)) r e k (stops, late, keeps, inr h) none = not_none r (take f.at (bytes ++ piece)) h.begun none
-work_stays bytes piece before contents m (Err stop.NoMemory) r e k (keeps, rows, plain) none = no_plain bytes before contents r.limits e k plain
+work_stays {bytes} piece m (Err (stop.Fault f)) r e k (stops, late, keeps, inr h) none = not_none r (take f.at (bytes ++ piece)) h.begun none
+work_stays {bytes} piece {before} {contents} m (Err stop.NoMemory) r e k (keeps, rows, plain) none = no_plain bytes before contents r.limits e k plain
 
 -- ONE MORE PIECE
 
-pub drawing_more : (s : Showing) (h : Head) (all piece : List ℕ) (m : ℕ) (written : List ℕ) (d : Drawing) (e : EndState) → IsDrawing s h all m written d e → IsDrawing s h (all ++ piece) m written d e
-drawing_more s h all piece m written d e k = record {
+pub drawing_more : {s : Showing} {h : Head} {all : List ℕ} (piece : List ℕ) {m : ℕ} {written : List ℕ} {d : Drawing} {e : EndState} → IsDrawing s h all m written d e → IsDrawing s h (all ++ piece) m written d e
+drawing_more {all} piece {m} k = record {
   kind = k.kind;
   framed = k.framed;
   given = k.given;
@@ -99,29 +99,30 @@ drawing_more s h all piece m written d e k = record {
   told = rows_stay standard_limits all piece m k.blocks k.told;
   drawn = k.drawn;
   text = k.text;
-  enough = λ n x few told. k.enough n x few (told_before all piece n m k.blocks x few k.told told);
+  enough = λ n x few told. k.enough n x few (told_before piece few k.told told);
 }
 
-pub created_on : (s : Showing) (old start : DeskState) (all piece written : List ℕ) (n : ℕ) (buf : List ℕ) (s0 s1 : DeskState) → piece ≡ take n buf → Reads s0 (got.Bytes n) buf s1 → HasCreated s old start all written s0 → HasCreated s old start (all ++ piece) written s1
-created_on s old start all piece written n buf s0 s1 same read h = record {
+-- what was read and what was written, after one more call
+pub created_then : {s : Showing} {old start : DeskState} {all bytes written : List ℕ} {answer : Got} {buf : List ℕ} {s0 s1 : DeskState} → Reads s0 answer buf s1 → HasCreated s old start all written s0 → Consumes start.left s1.left bytes → HasCreated s old start bytes written s1
+created_then {s} {start} {written} read h left = record {
   opened = h.opened;
-  works = works_then start s0 s1 h.works (record { stays = record { counts = read.counts; files = read.files }; said = read.said });
-  left = Consumes-then start.left s0.left s1.left all piece h.left (subst (λ p. Consumes s0.left s1.left p) (sym same) read.after.2);
+  works = works_then h.works (record { stays = record { counts = read.counts; files = read.files }; said = read.said });
+  left = left;
   asked = (let P : Option (List (Name × Put)) → Type 0 = λ a. NotesName start.asked (s.output, put.Done) a in subst P (sym read.asked) h.asked);
   outputs = (let P : Option (List (Name × List ℕ)) → Type 0 = λ a. Grows start.outputs (s.output, written) a in subst P (sym read.outputs) h.outputs);
   created = read.output_created ∙ h.created;
 }
 
-pub open_rows : (gray : Bool) (h : Head) (all : List ℕ) (m : ℕ) (r : ReaderState) → r.limits ≡ standard_limits → IsHeadIn gray h all → HasReadRows all m r → IsOpenRead (Image gray) all
-open_rows gray h all m r e head k = record {
+pub open_rows : {gray : Bool} {h : Head} {all : List ℕ} {m : ℕ} {r : ReaderState} → r.limits ≡ standard_limits → IsHeadIn gray h all → HasReadRows all m r → IsOpenRead (Image gray) all
+open_rows {gray} {all} e head k = record {
   short = subst (λ (l : Limits). length all < l.input) e k.short;
   stands = subst (λ (l : Limits). UnfinishedFile l all) e k.stands;
-  wanted = λ f u. none_unwanted gray h all [] f head (subst (λ l. IsUnwanted (Image gray) l f) (sym (append-nil all)) u);
+  wanted = λ f u. none_unwanted [] f head (subst (λ l. IsUnwanted (Image gray) l f) (sym (append-nil all)) u);
 }
 
 -- the text that was pending before the piece was written before it
-pub early_more : (s : Showing) (old start : DeskState) (h : Head) (all piece : List ℕ) (m : ℕ) (r : ReaderState) (d : Drawing) (e : EndState) (now : DeskState) → length piece ≤ 16384 → (k : HasShown s old start h all m (at_work r d e now)) → IsInTime s (all ++ piece) k.written
-early_more s old start h all piece m r d e now few k front rest text cut many due =
+pub early_more : {s : Showing} {old start : DeskState} {h : Head} {all : List ℕ} (piece : List ℕ) {m : ℕ} {r : ReaderState} {d : Drawing} {e : EndState} {now : DeskState} → length piece ≤ 16384 → (k : HasShown s old start h all m (at_work r d e now)) → IsInTime s (all ++ piece) k.written
+early_more {s} {h} {all} piece {m} {d} few k front rest text cut many due =
     let size = ap length cut in
     let short : length front ≤ length all = omega (arith, size, few, many, length-append all piece, length-append front rest) in
     let first : take (length front) all ≡ front =
@@ -131,34 +132,39 @@ early_more s old start h all piece m r d e now few k front rest text cut many du
     let there : TellsRows standard_limits all due.rows due.blocks = subst (λ l. TellsRows standard_limits l due.rows due.blocks) same (rows_stay standard_limits front other due.rows due.blocks (due.completed).0) in
     let completed = subst (λ (l : Limits). CompletesRows l all m (k.read).blocks) k.limits (k.read).completed in
     let one = one_head front all other [] due.before h.before due.contents h.contents (same ∙ sym (append-nil all)) due.begins (k.head).begins in
-    let fits = (k.drawing).enough due.rows due.blocks (no_more_told all due.rows m (k.read).blocks due.blocks completed there) there in
+    let fits = (k.drawing).enough due.rows due.blocks (no_more_told completed there) there in
     let text_is : text ≡ rows_text s.kind (picture_so_far standard_limits h.before h.contents due.blocks) s.gray s.smooth due.rows =
     due.same ∙ ap (λ (b : List Segment). rows_text s.kind (picture_so_far standard_limits b due.contents due.blocks) s.gray s.smooth due.rows) one.0
     ∙ ap (λ (c : List ℕ). rows_text s.kind (picture_so_far standard_limits h.before c due.blocks) s.gray s.smooth due.rows) one.1 in
     let none = ap length k.out in
     omega (arith, fits, ap length text_is, none, length-append k.written d.out)
 
-pub fed_more : (s : Showing) (old start : DeskState) (h : Head) (all piece : List ℕ) (m n : ℕ) (buf : List ℕ) (answer : Result FedRow Stop) (r new : ReaderState) (d : Drawing) (e : EndState) (s0 s1 : DeskState) → piece ≡ take n buf → length piece ≤ 16384
-    → length (all ++ piece) ≤ standard_limits.input → All (λ b. b < 256) (all ++ piece) → Reads s0 (got.Bytes n) buf s1 → FeedsRow r piece answer new → new.limits ≡ r.limits → HasShown s old start h all m (at_work r d e s0)
-    → IsShowing s old start h (all ++ piece) m piece answer (at_work new d e s1)
-fed_more s old start h all piece m n buf answer r new d e s0 s1 same few most small read feeds limits k = record {
+-- a piece of the input, of the first bytes of this buffer
+pub record IsNextPiece (all buf : List ℕ) (n : ℕ) : Type 0 where
+  pub few : length (take n buf) ≤ 16384
+  pub most : length (all ++ take n buf) ≤ standard_limits.input
+  pub small : All (λ b. b < 256) (all ++ take n buf)
+
+pub fed_more : {s : Showing} {old start : DeskState} {h : Head} {all : List ℕ} {m n : ℕ} {buf : List ℕ} (answer : Result FedRow Stop) {r : ReaderState} (new : ReaderState) {d : Drawing} {e : EndState} {s0 s1 : DeskState} → IsNextPiece all buf n
+    → Reads s0 (got.Bytes n) buf s1 → FeedsRow r (take n buf) answer new → new.limits ≡ r.limits → HasShown s old start h all m (at_work r d e s0) → IsShowing s old start h (all ++ take n buf) m (take n buf) answer (at_work new d e s1)
+fed_more {start} {h} {all} {m} {n} {buf} answer new {s0} {s1} p read feeds limits k = record {
   written = k.written;
   read = record {
     fed = all;
     cut = refl;
-    few = few;
+    few = p.few;
     limits = limits ∙ k.limits;
     after = after;
-    begun = work_stays all piece h.before h.contents m answer new (limits ∙ k.limits) (k.head).begins after;
-    most = most;
-    small = small;
-    short = record { front = all; piece = piece; cut = refl; few = omega (arith, few); before = open_rows s.gray h all m r k.limits k.head k.read };
-    head = record { begins = begins_more all piece h.before h.contents (k.head).begins; shown = (k.head).shown };
+    begun = work_stays (take n buf) m answer new (limits ∙ k.limits) (k.head).begins after;
+    most = p.most;
+    small = p.small;
+    short = record { front = all; piece = take n buf; cut = refl; few = (let few = p.few in omega (arith, few)); before = open_rows k.limits k.head k.read };
+    head = record { begins = begins_more all (take n buf) h.before h.contents (k.head).begins; shown = (k.head).shown };
   };
-  drawing = drawing_more s h all piece m k.written d e k.drawing;
-  desk = created_on s old start all piece k.written n buf s0 s1 same read k.desk;
-  early = early_more s old start h all piece m r d e s0 few k;
+  drawing = drawing_more (take n buf) k.drawing;
+  desk = created_then read k.desk (Consumes-then start.left s0.left s1.left all (take n buf) (k.desk).left read.after.2);
+  early = early_more (take n buf) p.few k;
 }
   where
-    after : AfterFeedRow all m piece answer new
+    after : AfterFeedRow all m (take n buf) answer new
     after = feeds all m (inr (inl k.read))

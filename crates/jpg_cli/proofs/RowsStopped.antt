@@ -34,37 +34,37 @@ FitsWhole s all text = (M : Meaning) → IsWholeRead (Image s.gray) M all → le
 pub first_part : (written due text : List ℕ) (n : ℕ) → written ++ due ≡ text → written ++ take n due ≡ take (length written + n) text
 first_part written due text n same = sym (take-append-add written due n) ∙ ap (take (length written + n)) same
 
-abbrev in_part : (s : Showing) (old start : DeskState) (all written due text : List ℕ) (n : ℕ) (s0 s1 : DeskState) → IsDueText s all written due text → HasCreated s old start all written s0 → OnlyWrites s0 s1 → AppendsLast s0.outputs (take n due) s1.outputs
+abbrev in_part : {s : Showing} {old start : DeskState} {all written due text : List ℕ} (n : ℕ) {s0 s1 : DeskState} → IsDueText s all written due text → HasCreated s old start all written s0 → OnlyWrites s0 s1 → AppendsLast s0.outputs (take n due) s1.outputs
     → WritesRowsInPart Meaning (showing_conversion s) (row_texts s) old s1
-in_part s old start all written due text n s0 s1 h desk only gone =
-    let new = created_more s old start all written (take n due) s0 s1 desk only gone in
+in_part {s} {old} {written} {due} {text} n {s1} h desk only gone =
+    let new = created_more (take n due) desk only gone in
     record {
       text = text;
       count = length written + n;
-      read = created_read s old start all (written ++ take n due) s1 (λ bytes. IsShortRead (Image s.gray) bytes × IsToldText s bytes text) new h.most (h.short, h.told);
-      wrote = subst (λ t. Added (s.input ∷ []) s.output t old s1) (first_part written due text n h.same) (created_added s old start all (written ++ take n due) s1 new);
+      read = created_read (λ bytes. IsShortRead (Image s.gray) bytes × IsToldText s bytes text) new h.most (h.short, h.told);
+      wrote = subst (λ t. Added (s.input ∷ []) s.output t old s1) (first_part written due text n h.same) (created_added new);
     }
 
-pub rose_since : (s : Showing) (old start : DeskState) (all written : List ℕ) (s0 s1 : DeskState) → HasCreated s old start all written s0 → Rose s0.counts.writes s1.counts.writes → Rose old.counts.writes s1.counts.writes
-rose_since s old start all written s0 s1 h rose = let a = (h.opened).counts.writes in let b = ((h.works).stays).counts.writes in omega (arith, rose, a, b)
+pub rose_since : {s : Showing} {old start : DeskState} {all written : List ℕ} {s0 : DeskState} (s1 : DeskState) → HasCreated s old start all written s0 → Rose s0.counts.writes s1.counts.writes → Rose old.counts.writes s1.counts.writes
+rose_since s1 h rose = let a = (h.opened).counts.writes in let b = ((h.works).stays).counts.writes in omega (arith, rose, a, b)
 
-pub rows_failed : (s : Showing) (old start : DeskState) (all written due text : List ℕ) (s0 s1 : DeskState) → IsDueText s all written due text → HasCreated s old start all written s0 → OnlyWrites s0 s1 → AppendsPart s0.outputs due s1.outputs
+pub rows_failed : {s : Showing} {old start : DeskState} {all written due text : List ℕ} {s0 s1 : DeskState} → IsDueText s all written due text → HasCreated s old start all written s0 → OnlyWrites s0 s1 → AppendsPart s0.outputs due s1.outputs
     → Rose s0.counts.writes s1.counts.writes → Shown s old why.WriteFault s1
-rows_failed s old start all written due text s0 s1 h desk only (n, gone) rose = (
-  rose_since s old start all written s0 s1 desk rose,
+rows_failed {written} {due} {text} {s1} h desk only (n, gone) rose = (
+  rose_since s1 desk rose,
   inr (record {
-    part = in_part s old start all written due text n s0 s1 h desk only gone;
+    part = in_part n h desk only gone;
     early = λ front rest other cut many k.
         (let l = h.early front rest other cut many k in
         let size = ap length (first_part written due text n h.same) in omega (arith, l, size, length-append written (take n due)));
   }),
 )
 
-pub rows_wanting : (s : Showing) (old start : DeskState) (all written due text : List ℕ) (s0 s1 : DeskState) → IsDueText s all written due text → FitsWhole s all text → HasCreated s old start all written s0 → OnlyWrites s0 s1
+pub rows_wanting : {s : Showing} {old start : DeskState} {all written due text : List ℕ} {s0 s1 : DeskState} → IsDueText s all written due text → FitsWhole s all text → HasCreated s old start all written s0 → OnlyWrites s0 s1
     → AppendsLess s0.outputs due s1.outputs → Shown s old why.NoMemory s1
-rows_wanting s old start all written due text s0 s1 h fits desk only (n, less, gone) =
+rows_wanting {all} {written} {due} {text} h fits desk only (n, less, gone) =
     inr (inr (record {
-      part = in_part s old start all written due text n s0 s1 h desk only gone;
+      part = in_part n h desk only gone;
       left = λ M whole.
           (let l = fits M whole in
           let size = ap length (first_part written due text n h.same) in
@@ -72,7 +72,7 @@ rows_wanting s old start all written due text s0 s1 h fits desk only (n, less, g
           omega (arith, l, size, all, less, length-append written (take n due), length-append written due, length-take-le n due (omega (arith, less))));
     }))
 
-pub rows_stopped : (s : Showing) (old start : DeskState) (all written out due text new : List ℕ) (ended : DecodeStop) (s0 s1 : DeskState) → IsDueText s all written (out ++ due) text → FitsWhole s all text → HasCreated s old start all written s0
+pub rows_stopped : {s : Showing} {old start : DeskState} {all written out due text new : List ℕ} (ended : DecodeStop) {s0 s1 : DeskState} → IsDueText s all written (out ++ due) text → FitsWhole s all text → HasCreated s old start all written s0
     → SendsImage s0 out due (Err ended) new s1 → Shown s old (why_of (Err ended)) s1
-rows_stopped s old start all written out due text new stop.NoMemory s0 s1 h fits desk sent = rows_wanting s old start all written (out ++ due) text s0 s1 h fits desk sent.only sent.bytes
-rows_stopped s old start all written out due text new stop.WriteFault s0 s1 h fits desk sent = rows_failed s old start all written (out ++ due) text s0 s1 h desk sent.only (sent.bytes).0 (sent.bytes).1
+rows_stopped stop.NoMemory h fits desk sent = rows_wanting h fits desk sent.only sent.bytes
+rows_stopped stop.WriteFault h fits desk sent = rows_failed h desk sent.only (sent.bytes).0 (sent.bytes).1

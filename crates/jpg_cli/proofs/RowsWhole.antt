@@ -8,8 +8,7 @@ use Rattle.jpg_spec.specs.Meaning.{Meaning}
 use Rattle.jpg_spec_image.specs.Pixels.{info, out_fault, pixels}
 use Rattle.jpg_spec_image.specs.RowLaws.{CompletesAll, GoesOnFrom, TellsTwice}
 use Rattle.jpg_spec.specs.RowLaws.{IsReadByRows}
-use Rattle.jpg_spec.specs.RowsTold.{BeginsScanOfAll, TellsRows}
-use Rattle.jpg_spec.specs.RowsTold.{picture_so_far}
+use Rattle.jpg_spec.specs.RowsTold.{BeginsScanOfAll, TellsRows, picture_so_far}
 use Rattle.jpg_spec_image.specs.RowsShown.{rows_text}
 use Rattle.jpg_spec.specs.Scan.{Blocks}
 use Rattle.jpg_spec.specs.Segments.{standard_limits}

@@ -88,9 +88,7 @@ turned_made t M early s0 s1 s2 w h k = converted_made Meaning (turning_conversio
   where
     by : (v : Wrote) → AfterMoved t.choice M t.output s1 v s2 → AfterMade (picture_fault t.choice M) (moved_text t.choice M) (MeansMoved t.choice M) t.output s1 (why_wrote v) s2
     by wrote.Done (none, out, means) = (none, out, means (meant M early (h.read).bytes (h.read).is))
-    by (wrote.Picture fault) r = r
-    by wrote.OpenFault r = r
-    by wrote.WriteFault r = r
+    by other r = r
 
 -- AS THE WORDS ASK FOR IT
 

@@ -9,8 +9,9 @@ use Rattle.jpg_spec_words.specs.TransformWords.{ScansSource, own_sequential, own
 use Rattle.jpg_spec_words.specs.declared.answers.Why.{Why}
 use Rattle.jpg_spec_write.specs.ScansAsked.{Scans, given}
 use Rattle.jpg_spec_write.specs.Script.{Entry}
-use Rattle.jpg_scans.proofs.OneScript.{one_answer as one_script}
-use Rattle.jpg_dct.proofs.OneAnswer.{one_answer as one_list}
+use Rattle.jpg_spec.proofs.TextsRead.{has_one_answer}
+use Rattle.jpg_scans.proofs.ScriptRest.{reads_scripts}
+use Rattle.jpg_dct.proofs.TableRest.{reads_tables}
 use Rattle.jpg_cli.specs.Certain.{AreToldScans, HasFaultyScript}
 use Rattle.jpg_cli.specs.Desk.ScriptTaken.{HasScans, HasScansFault, StopsAtScans, script_kind}
 use Rattle.jpg_cli.specs.Desk.TablesTaken.{HasTables, HasTablesFault, StopsAtTables, tables_kind}
@@ -31,7 +32,7 @@ err_same A f g e = cc
 -- THE SCANS
 
 script_once : (s : DeskState) (file : Name) (x y : Result (List Entry) FaultAt) → TellsFiles s → TellsIn (List Entry) script_kind file x s → TellsIn (List Entry) script_kind file y s → y ≡ x
-script_once s file x y t h k = text_once (List Entry) script_kind file one_script s x y t h k
+script_once s file x y t h k = text_once (List Entry) script_kind file (has_one_answer reads_scripts) s x y t h k
 
 pub one_scans : (s : DeskState) (source : ScansSource) → TellsFiles s → (x y : Scans) → HasScans source s x → HasScans source s y → y ≡ x
 one_scans s own_sequential t x y h k = k ∙ sym h
@@ -40,14 +41,12 @@ one_scans s (in_file file) t x y (a, is, e) (b, found, d) =
     d ∙ ap (λ (l : List Entry). given l) (ok_same (List Entry) b a (script_once s (name.File file) (Ok a) (Ok b) t is found)) ∙ sym e
 
 pub scans_fault : (s : DeskState) (source : ScansSource) → TellsFiles s → (f g : FaultAt) → HasScansFault source s f → HasScansFault source s g → g ≡ f
-scans_fault s own_sequential t f g h k = absurd h
-scans_fault s own_progressive t f g h k = absurd h
 scans_fault s (in_file file) t f g h k = err_same (List Entry) g f (script_once s (name.File file) (Err f) (Err g) t h k)
+scans_fault s other t f g h k = absurd h
 
 pub scans_or_fault : (s : DeskState) (source : ScansSource) → TellsFiles s → (x : Scans) (f : FaultAt) → HasScans source s x → HasScansFault source s f → ⊥
-scans_or_fault s own_sequential t x f h k = absurd k
-scans_or_fault s own_progressive t x f h k = absurd k
 scans_or_fault s (in_file file) t x f (a, is, e) k = ok_or_fault (List Entry) a f (script_once s (name.File file) (Err f) (Ok a) t k is)
+scans_or_fault s other t x f h k = absurd k
 
 -- those of files that are known
 pub told_scans : (s : DeskState) (source : ScansSource) (scans : Scans) → AreToldScans s source scans → HasScans source s scans
@@ -56,14 +55,13 @@ told_scans s own_progressive scans h = h
 told_scans s (in_file file) scans (script, is, e) = (script, record { text = is.text; is = is_file s.files (name.File file) is.text is.told; tells = is.tells }, e)
 
 pub told_fault : (s : DeskState) (source : ScansSource) (f : FaultAt) → HasFaultyScript source f s → HasScansFault source s f
-told_fault s own_sequential f h = absurd h
-told_fault s own_progressive f h = absurd h
 told_fault s (in_file file) f (text, is, tells) = record { text = text; is = is_file s.files (name.File file) text is; tells = tells }
+told_fault s other f h = absurd h
 
 -- THE TABLES
 
 tables_once : (s : DeskState) (file : Name) (x y : Result (List QuantTable) FaultAt) → TellsFiles s → TellsIn (List QuantTable) tables_kind file x s → TellsIn (List QuantTable) tables_kind file y s → y ≡ x
-tables_once s file x y t h k = text_once (List QuantTable) tables_kind file one_list s x y t h k
+tables_once s file x y t h k = text_once (List QuantTable) tables_kind file (has_one_answer reads_tables) s x y t h k
 
 pub one_tables : (s : DeskState) (source : Option (List ℕ)) → TellsFiles s → (x y : Option (List QuantTable)) → HasTables source s x → HasTables source s y → y ≡ x
 one_tables s None t x y h k = k ∙ sym h
@@ -81,9 +79,8 @@ tables_or_fault s (Some file) t x f (a, is, e) k = ok_or_fault (List QuantTable)
 -- IF NOTHING FAILED, a run that stops at one of these files has its fault, or there was no memory.
 
 pub scans_stop : (source : ScansSource) (s0 s1 : DeskState) (w : Why) → NoneRose s0.counts s1.counts → StopsAtScans source s0 w s1 → FaultOrNoMemory (HasScansFault source) s0 w
-scans_stop own_sequential s0 s1 w n h = absurd h
-scans_stop own_progressive s0 s1 w n h = absurd h
 scans_stop (in_file file) s0 s1 w n h = text_stops (List Entry) script_kind (name.File file) [] s0 s1 w n h
+scans_stop other s0 s1 w n h = absurd h
 
 pub tables_stop : (before : List Name) (source : Option (List ℕ)) (s0 s1 : DeskState) (w : Why) → NoneRose s0.counts s1.counts → StopsAtTables before source s0 w s1 → FaultOrNoMemory (HasTablesFault source) s0 w
 tables_stop before None s0 s1 w n h = absurd h

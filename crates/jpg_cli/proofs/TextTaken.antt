@@ -1,7 +1,5 @@
 -- A text of another file that is taken before the input is opened.
-use Rattle.std.proofs.Common.{◌≡◌, ◌⊎◌, ℕ, ◌+◌, ◌-◌, ◌≤◌, ◌<◌, List, [], ◌∷◌, ◌++◌, length, take, Option, Result, Ok, Err, refl, ap, subst, arith, inl, inr}
-use Rattle.std.proofs.lemmas.Bool.{cases_lt}
-use Rattle.std.proofs.lemmas.List.{length-take-le, take_all}
+use Rattle.std.proofs.Common.{◌≡◌, ◌⊎◌, ℕ, ◌+◌, ◌-◌, List, [], ◌∷◌, ◌++◌, take, Option, Result, Ok, Err, refl, ap, subst, arith, inl, inr}
 use Rattle.jpg_base.specs.declared.names.Name.{Name}
 use Rattle.jpg_base.specs.declared.names.Put.TheVariants as put
 use Rattle.jpg_base.specs.Desk.{DeskState}
@@ -18,22 +16,6 @@ use Rattle.jpg_cli.proofs.Due.{same_bytes}
 use Rattle.jpg_cli.proofs.Endings.{stopped_then, unopened_then, unread_then}
 use Rattle.jpg_cli.proofs.Input.{part_still, read_still}
 use Rattle.jpg_cli.proofs.NamesBefore.{stopped_more, unopened_more, unread_more}
-
--- A TEXT DEPENDS ONLY ON ITS PREFIX, one byte longer than the longest
-
-pub front_whole : (text : List ℕ) → length (take 65537 text) ≤ 65536 → take 65537 text ≡ text
-front_whole text short = by (cases_lt 65536 (length text))
-  where
-    by : (65536 < length text) ⊎ (length text ≤ 65536) → take 65537 text ≡ text
-    by (inl long) = absurd (let e = length-take-le 65537 text (omega (arith, long)) in omega (arith, e, short))
-    by (inr few) = take_all 65537 text (omega (arith, few))
-
-pub front_few : (text : List ℕ) → length (take 65537 text) ≤ length text
-front_few text = by (cases_lt 65536 (length text))
-  where
-    by : (65536 < length text) ⊎ (length text ≤ 65536) → length (take 65537 text) ≤ length text
-    by (inl long) = (let e = length-take-le 65537 text (omega (arith, long)) in omega (arith, e, long))
-    by (inr few) = (let e = ap length (take_all 65537 text (omega (arith, few))) in omega (arith, e))
 
 abbrev pub FaultOrNoMemory : (DeskState → FaultAt → Type 0) → DeskState → Why → Type 0
 FaultOrNoMemory Faulty s w = IsFaultOf Faulty s w ⊎ (w ≡ why.NoMemory)
@@ -58,23 +40,14 @@ module _ (A : Type 0) (t : TextKind A) (file : Name) where
   one_less = omega arith
 
   pub text_unread : (old new : DeskState) (w : Why) → AfterFile file (t.longest + 1) t.which old (Err w) new → StopsAtText t [] file old w new
-  text_unread old new why.Done h = absurd h
-  text_unread old new (why.Warned n) h = absurd h
-  text_unread old new (why.Usage u) h = absurd h
-  text_unread old new (why.Picture p) h = absurd h
-  text_unread old new (why.Refused f) h = absurd h
   text_unread old new (why.OpenFault is) h = h
   text_unread old new (why.ReadFault is) (same, unread, part) = (same, unread, subst (λ n. ReadsPart n file old new) one_less part)
-  text_unread old new why.WriteFault h = absurd h
   text_unread old new why.NoMemory h = h
+  text_unread old new other h = absurd h
 
   -- A MESSAGE THEN
 
   pub text_then : (before : List Name) (s0 s1 s2 : DeskState) (w : Why) → OnlySays s1 s2 → StopsAtText t before file s0 w s1 → StopsAtText t before file s0 w s2
-  text_then before s0 s1 s2 why.Done k h = absurd h
-  text_then before s0 s1 s2 (why.Warned n) k h = absurd h
-  text_then before s0 s1 s2 (why.Usage u) k h = absurd h
-  text_then before s0 s1 s2 (why.Picture p) k h = absurd h
   text_then before s0 s1 s2 (why.Refused f) k h = record {
     stopped = stopped_then s0 s1 s2 (before ++ file ∷ []) put.Done k h.stopped;
     fault = h.fault;
@@ -82,8 +55,8 @@ module _ (A : Type 0) (t : TextKind A) (file : Name) where
   }
   text_then before s0 s1 s2 (why.OpenFault is) k (same, h) = (same, unopened_then s0 s1 s2 (before ++ file ∷ []) k h)
   text_then before s0 s1 s2 (why.ReadFault is) k (same, unread, part) = (same, unread_then s0 s1 s2 (before ++ file ∷ []) k unread, part_still t.longest file s0 s1 s2 k.same.left part)
-  text_then before s0 s1 s2 why.WriteFault k h = absurd h
   text_then before s0 s1 s2 why.NoMemory k h = (stopped_then s0 s1 s2 (before ++ file ∷ []) put.Done k h.0, part_still (t.longest + 1) file s0 s1 s2 k.same.left h.1)
+  text_then before s0 s1 s2 other k h = absurd h
 
   -- AFTER NAMES that were opened before
 
@@ -96,10 +69,6 @@ module _ (A : Type 0) (t : TextKind A) (file : Name) where
 
   pub text_before : (xs : List Name) (s0 s1 s2 : DeskState) (w : Why) → GoesOnAfter xs s0 s1 → StopsAtText t [] file s1 w s2 → StopsAtText t xs file s0 w s2
   unfolding tells_before
-  text_before xs s0 s1 s2 why.Done b h = absurd h
-  text_before xs s0 s1 s2 (why.Warned m) b h = absurd h
-  text_before xs s0 s1 s2 (why.Usage u) b h = absurd h
-  text_before xs s0 s1 s2 (why.Picture p) b h = absurd h
   text_before xs s0 s1 s2 (why.Refused f) b h = record {
     stopped = stopped_more xs file [] put.Done s0 s1 s2 b h.stopped;
     fault = tells_before (Err f) s0 s1 b.kept.works.stays.files h.fault;
@@ -107,21 +76,17 @@ module _ (A : Type 0) (t : TextKind A) (file : Name) where
   }
   text_before xs s0 s1 s2 (why.OpenFault is) b (same, h) = (same, unopened_more xs file [] s0 s1 s2 b h)
   text_before xs s0 s1 s2 (why.ReadFault is) b (same, unread, part) = (same, unread_more xs file [] s0 s1 s2 b unread, part_before t.longest s0 s1 s2 b.kept.works.stays.files part)
-  text_before xs s0 s1 s2 why.WriteFault b h = absurd h
   text_before xs s0 s1 s2 why.NoMemory b h = (stopped_more xs file [] put.Done s0 s1 s2 b h.0, part_before (t.longest + 1) s0 s1 s2 b.kept.works.stays.files h.1)
+  text_before xs s0 s1 s2 other b h = absurd h
 
   -- IF NOTHING FAILED, it has a fault, or there was no memory; and over known files there is one result.
 
   pub text_stops : (before : List Name) (s0 s1 : DeskState) (w : Why) → NoneRose s0.counts s1.counts → StopsAtText t before file s0 w s1 → FaultOrNoMemory (λ s f. TellsIn A t file (Err f) s) s0 w
-  text_stops before s0 s1 why.Done n h = absurd h
-  text_stops before s0 s1 (why.Warned m) n h = absurd h
-  text_stops before s0 s1 (why.Usage u) n h = absurd h
-  text_stops before s0 s1 (why.Picture p) n h = absurd h
   text_stops before s0 s1 (why.Refused f) n h = inl h.fault
   text_stops before s0 s1 (why.OpenFault is) n (same, h) = absurd (n.0 h.opens)
   text_stops before s0 s1 (why.ReadFault is) n (same, h, part) = absurd (n.1 h.reads)
-  text_stops before s0 s1 why.WriteFault n h = absurd h
   text_stops before s0 s1 why.NoMemory n h = inr refl
+  text_stops before s0 s1 other n h = absurd h
 
   pub text_once : ((text : List ℕ) (x y : Result A FaultAt) → t.tells text x → t.tells text y → x ≡ y) → (s : DeskState) (x y : Result A FaultAt) → TellsFiles s → TellsIn A t file x s → TellsIn A t file y s → y ≡ x
   text_once one s x y k h i =

@@ -134,7 +134,7 @@ no_stop_there (Image gray) bytes f g s same (long, shown) =
 
 -- WHAT FOLLOWS bytes without a fault
 
-fault_after : (bytes rest : List ℕ) (fault : Fault) (n : ℕ) → UnfinishedFile standard_limits bytes → length bytes < standard_limits.input → IsFirstFault standard_limits (bytes ++ rest) fault n → length bytes ≤ n
+pub fault_after : (bytes rest : List ℕ) (fault : Fault) (n : ℕ) → UnfinishedFile standard_limits bytes → length bytes ≤ standard_limits.input → IsFirstFault standard_limits (bytes ++ rest) fault n → length bytes ≤ n
 fault_after bytes rest fault n stands short (inl k) = by (cases_lt n (length bytes))
   where
     by : (n < length bytes) ⊎ (length bytes ≤ n) → length bytes ≤ n
@@ -150,8 +150,8 @@ pub unwanted_first : (w : Wanted) (bytes rest : List ℕ) (r : ReaderState) (f :
 unwanted_first w bytes rest r f e h k =
     let within = unwanted_within w bytes f k in
     let stands = subst (λ (l : Limits). UnfinishedFile l bytes) e h.stands in
-    let short = subst (λ (l : Limits). length bytes < l.input) e h.short in
-    inr (unwanted_more w bytes rest f k, λ g refused. (let late = fault_after bytes rest g.fault g.at stands short refused in omega (arith, within, late)))
+    let short : length bytes < standard_limits.input = subst (λ (l : Limits). length bytes < l.input) e h.short in
+    inr (unwanted_more w bytes rest f k, λ g refused. (let late = fault_after bytes rest g.fault g.at stands (omega (arith, short)) refused in omega (arith, within, late)))
 
 -- A reader that stopped: what isn't wanted comes before the fault, if there is anything unwanted.
 pub stop_unwanted : (w : Wanted) (bytes rest : List ℕ) (n : ℕ) (f g : FaultAt) → n ≤ f.at → IsUnwanted w (take n bytes) g → IsRefused (bytes ++ rest) f → IsRefusedFor w (bytes ++ rest) g

@@ -32,10 +32,8 @@ use Rattle.jpg_spec_words.specs.EncodeWords.{encoding_asked}
 use Rattle.jpg_spec_words.specs.TransformWords.{ScansSource, TransformAsked, choice_asked, transform_default}
 use Rattle.jpg_spec_words.specs.Work.{back_picture, back_text, first_asked, first_picture, first_text, lines, samples_sum, turned_text, work_image, work_info}
 use Rattle.jpg_spec_words.specs.declared.answers.Usage.{Usage}
-use Rattle.jpg_spec_words.specs.declared.answers.UsageFault.TheVariants.{NoEnd}
 use Rattle.jpg_spec_words.specs.declared.answers.Why.{Why}
 use Rattle.jpg_spec_words.specs.declared.answers.Why.TheVariants as why
-use Rattle.jpg_spec_words.specs.declared.answers.Which.TheVariants as which
 use Rattle.jpg_spec_words.proofs.WorkedBack.{picture_back}
 use Rattle.jpg_cli.specs.Certain.{IsTold}
 use Rattle.jpg_cli.specs.Desk.ImageWritten.{AfterEncoding}
@@ -162,9 +160,6 @@ showing = record { input = name.In; output = name.Out; kind = Pnm; gray = false;
 not_usage : (u : Usage) → (why.Done ≡ why.Usage u) → ⊥
 not_usage u e = cc
 
-same_usage : (u v : Usage) → (why.Usage u ≡ why.Usage v) → u ≡ v
-same_usage u v e = cc
-
 pub shown_done : (has : Bool) (w : ShowWords) (input : List ℕ) (desk now : MemoryDesk) → showing_told w ≡ showing → HoldsInput input desk → ShownBy has w (memory_state desk) why.Done (memory_state now) → ShowsFile has input (Ok now)
 shown_done false w input desk now is holds shown M means = absurd (not_usage _ shown.0)
 shown_done true w input desk now is holds shown M means =
@@ -219,17 +214,11 @@ untouched : (s : DeskState) → Untouched s s
 untouched s = record { asked = refl; outputs = refl; left = refl }
 
 pub work_none : (has : Bool) (n : ℕ) (ended : Why) (s : DeskState) → IsReport has n (Err ended) → DidWork has n s ended s
-work_none has n why.Done s h = absurd h
-work_none has n (why.Warned m) s h = absurd h
 work_none true n (why.Usage u) s h = absurd (let e : true ≡ false = h.0 in cc)
 work_none false n (why.Usage u) s h = (inl (ap (λ v. why.Usage v) h.1), untouched s)
-work_none has n (why.Refused f) s h = absurd h
-work_none has n (why.Picture p) s h = absurd h
-work_none has n (why.OpenFault w) s h = absurd h
-work_none has n (why.ReadFault w) s h = absurd h
-work_none has n why.WriteFault s h = absurd h
 work_none true n why.NoMemory s h = untouched s
 work_none false n why.NoMemory s h = (inr refl, untouched s)
+work_none has n other s h = absurd h
 
 pub work_done : (has : Bool) (n : ℕ) (text : List ℕ) (ended : Why) (s0 s1 : DeskState) → IsReport has n (Ok text) → ReportEnds text s0 ended s1 → DidWork has n s0 ended s1
 work_done true n text ended s0 s1 h wrote = subst (λ t. ReportEnds t s0 ended s1) h.1 wrote

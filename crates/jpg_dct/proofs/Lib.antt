@@ -15,7 +15,5 @@ pub mod TableRuns
 pub mod Wrapped
 pub mod OneCoefficient
 pub mod Zigzag
-pub mod ReadTexts
 pub mod TableFronts
 pub mod TableRest
-pub mod OneAnswer

@@ -1,28 +1,20 @@
 -- What bytes that were read represent: a prefix of a spelling of tables.
-use Rattle.std.proofs.Common.{◌≡◌, ℕ, ◌+◌, ◌-◌, ◌*◌, ◌<◌, ◌≤◌, Bool, true, false, cond, not, ◌&&◌, ◌==◌, List, [], ◌∷◌, ◌++◌, length, map, refl, sym, ap, ◌∙◌, subst, arith, Option, None, Some}
-use Rattle.std.specs.Prelude.{nat_lt, nat_le, option_map, option_and_then, flat_map}
+use Rattle.std.proofs.Common.{◌≡◌, ℕ, ◌+◌, ◌-◌, ◌*◌, ◌<◌, ◌≤◌, Bool, true, false, cond, not, ◌&&◌, ◌==◌, List, [], ◌∷◌, ◌++◌, length, map, refl, sym, ap, ◌∙◌, subst, arith, None, Some}
+use Rattle.std.specs.Prelude.{nat_lt, nat_le, flat_map}
 use Rattle.std.proofs.lemmas.Bool.Decides.{nat_tests}
-use Rattle.std.proofs.lemmas.List.{append_assoc, append-nil, length-append, length-map}
+use Rattle.std.proofs.lemmas.List.{append_assoc, append-nil, length-append, length-map, map-append}
 use Rattle.std.proofs.lemmas.List.Concat.{flat_map-append}
 use Rattle.jpg_spec.specs.Lists.{all_of, is_empty}
-use Rattle.jpg_spec.specs.NumberTexts.{is_digit, digits_from}
+use Rattle.jpg_spec.specs.NumberTexts.{is_digit, digits_from, without_comments, is_space, NumberWord, number_text}
 use Rattle.jpg_spec.specs.Segments.{QuantTable}
-use Rattle.jpg_spec.specs.NumberTexts.{without_comments, is_space, NumberWord, number_text}
 use Rattle.jpg_spec_image.specs.TableText.{is_quantiser_number, is_first_quantiser, is_further_quantiser, are_apart, is_count, tables_of, SpellsTables}
 use Rattle.jpg_spec.proofs.Common.{both, and_intro, same_of, le_of, lt_of, some_once}
-use Rattle.jpg_dct.specs.TableState.{NumbersState, no_numbers, ended, digit_step, number_step, tables_told, ReaderState, reader_step, new_reader, run}
-use Rattle.jpg_dct.proofs.TableRuns.{at, ended_in, value_of, comments_read}
+use Rattle.jpg_spec.specs.TextReaders.{run}
+use Rattle.jpg_spec.proofs.TextRuns.{all_join, one_of, value_of, digits_more, run_front}
+use Rattle.jpg_dct.specs.TableState.{NumbersState, no_numbers, ended, digit_step, number_step, tables_told}
+use Rattle.jpg_dct.proofs.TableRuns.{at, ended_in}
 
 -- TESTS of lists
-
-all_join : {A : Type 0} (t : A → Bool) (a b : List A) → all_of t a ≡ true → all_of t b ≡ true → all_of t (a ++ b) ≡ true
-all_join t [] b e f = f
-all_join t (x ∷ a) b e f =
-    let s = both (t x) (all_of t a) e in
-    and_intro (t x) (all_of t (a ++ b)) s.0 (all_join t a b s.1 f)
-
-one_of : {A : Type 0} (t : A → Bool) (x : A) → t x ≡ true → all_of t (x ∷ []) ≡ true
-one_of t x e = and_intro (t x) true e refl
 
 some_left : (xs : List ℕ) (b : ℕ) → not (is_empty (xs ++ b ∷ [])) ≡ true
 some_left [] b = refl
@@ -99,10 +91,6 @@ front_none = record {
 
 -- A DIGIT
 
-digits_more : (v : ℕ) (ds : List ℕ) (b : ℕ) → digits_from v (ds ++ b ∷ []) ≡ 10 * digits_from v ds + (b - 48)
-digits_more v [] b = refl
-digits_more v (d ∷ ds) b = digits_more (10 * v + (d - 48)) ds b
-
 front_long : (t : List ℕ) (s : NumbersState) (f : IsFront t s) → length f.words ≡ length s.numbers
 front_long t s f = sym (length-map f.words value_of) ∙ ap length f.told
 
@@ -143,15 +131,15 @@ digit_front t s u b f d e = by (nat_lt (length s.numbers) 256) (nat_lt s.digits 
 
 -- THE NUMBERS, once the current one is complete
 
-record IsEnded (t : List ℕ) (s : NumbersState) : Type 0 where
-  words : List NumberWord
-  tail : List ℕ
-  text : t ≡ flat_map number_text words ++ tail
-  formed : are_apart words ≡ true
-  told : map value_of words ≡ (ended s).numbers
-  space : all_of is_space tail ≡ true
-  most : length words ≤ 256
-  none : ended s ≡ at (ended s).numbers 0 0
+pub record IsEnded (t : List ℕ) (s : NumbersState) : Type 0 where
+  pub words : List NumberWord
+  pub tail : List ℕ
+  pub text : t ≡ flat_map number_text words ++ tail
+  pub formed : are_apart words ≡ true
+  pub told : map value_of words ≡ (ended s).numbers
+  pub space : all_of is_space tail ≡ true
+  pub most : length words ≤ 256
+  pub none : ended s ≡ at (ended s).numbers 0 0
 
 number_yes : (ds : List ℕ) → 1 ≤ length ds → length ds ≤ 5 → all_of is_digit ds ≡ true → digits_from 0 ds ≤ 65535 → is_quantiser_number ds ≡ true
 number_yes ds some few all small =
@@ -192,15 +180,11 @@ one_in_work t s f some =
       tail = [];
       text = f.text ∙ sym (append-nil (flat_map number_text (f.words ++ word ∷ [])) ∙ flat_map-append number_text f.words (word ∷ []) ∙ ap (λ l. flat_map number_text f.words ++ l) (append-nil (f.gap ++ f.digits)));
       formed = words_more f.words f.gap f.digits f.formed f.apart (number_yes f.digits (omega (arith, some, count)) (omega (arith, few, count)) f.all small);
-      told = map_more f.words word ∙ ap (λ l. l ++ digits_from 0 f.digits ∷ []) f.told ∙ ap (λ x. s.numbers ++ x ∷ []) f.value ∙ ap (λ (x : NumbersState). x.numbers) (sym whole);
+      told = map-append value_of f.words (word ∷ []) ∙ ap (λ l. l ++ digits_from 0 f.digits ∷ []) f.told ∙ ap (λ x. s.numbers ++ x ∷ []) f.value ∙ ap (λ (x : NumbersState). x.numbers) (sym whole);
       space = refl;
       most = omega (arith, long, room);
       none = whole ∙ ap (λ (x : NumbersState). at x.numbers 0 0) (sym whole);
     }
-  where
-    map_more : (ws : List NumberWord) (w : NumberWord) → map value_of (ws ++ w ∷ []) ≡ map value_of ws ++ value_of w ∷ []
-    map_more [] w = refl
-    map_more (x ∷ ws) w = ap (λ l. value_of x ∷ l) (map_more ws w)
 
 front_ended : (t : List ℕ) (s : NumbersState) → IsFront t s → IsEnded t s
 front_ended t s f = by (s.digits == 0) refl
@@ -239,48 +223,23 @@ front_step t s u b f e = by (is_digit b) (is_space b) refl refl e
     by false true p q e = subst (IsFront (t ++ b ∷ [])) (some_once (ended s) u e) (space_front t s b f q)
     by false false p q e = cc
 
--- ALL BYTES
-
-run_front : (t bytes : List ℕ) (s u : NumbersState) → IsFront t s → run number_step s bytes ≡ Some u → IsFront (t ++ bytes) u
-unfolding run
-run_front t [] s u f e = subst (λ x. IsFront x u) (sym (append-nil t)) (subst (IsFront t) (some_once s u e) f)
-run_front t (b ∷ bytes) s u f e = by (number_step s b) refl e (λ v g h. run_front (t ++ b ∷ []) bytes v u g h)
-  where
-    by : (o : Option NumbersState) → number_step s b ≡ o → option_and_then (λ v. run number_step v bytes) o ≡ Some u
-        → ((v : NumbersState) → IsFront (t ++ b ∷ []) v → run number_step v bytes ≡ Some u → IsFront ((t ++ b ∷ []) ++ bytes) u) → IsFront (t ++ b ∷ bytes) u
-    by None a e more = cc
-    by (Some v) a e more = subst (λ x. IsFront x u) (append_assoc t (b ∷ []) bytes) (more v (front_step t s v b f a) e)
-
--- what was read, once the current number is complete
-pub record IsReadAs (bytes : List ℕ) (s : NumbersState) : Type 0 where
-  pub words : List NumberWord
-  pub tail : List ℕ
-  pub text : without_comments false bytes ≡ flat_map number_text words ++ tail
-  pub formed : are_apart words ≡ true
-  pub told : map value_of words ≡ (ended s).numbers
-  pub space : all_of is_space tail ≡ true
-  pub most : length words ≤ 256
-  pub none : ended s ≡ at (ended s).numbers 0 0
-
-pub read_as : (bytes : List ℕ) (r : ReaderState) → run reader_step new_reader bytes ≡ Some r → IsReadAs bytes r.text
-read_as bytes r e =
-    let all = sym (comments_read false no_numbers bytes) ∙ ap (option_map (λ (x : ReaderState). x.text)) e in
-    let i = front_ended (without_comments false bytes) r.text (run_front [] (without_comments false bytes) no_numbers r.text front_none all) in
-    record { words = i.words; tail = i.tail; text = i.text; formed = i.formed; told = i.told; space = i.space; most = i.most; none = i.none }
-
 -- A COMPLETE TEXT
 
-pub told_spells : (bytes : List ℕ) (r : ReaderState) (tables : List QuantTable) → run reader_step new_reader bytes ≡ Some r → tables_told r.text ≡ Some tables → SpellsTables bytes tables
-told_spells bytes r tables e told = by (is_count (length (ended r.text).numbers)) refl told
+-- what was read, once the current number is complete
+pub read_as : (text : List ℕ) (s : NumbersState) → run number_step no_numbers text ≡ Some s → IsEnded text s
+read_as text s e = front_ended text s (run_front number_step IsFront front_step [] text no_numbers s front_none e)
+
+pub told_spells : (text : List ℕ) (s : NumbersState) (tables : List QuantTable) → run number_step no_numbers (without_comments false text) ≡ Some s → tables_told s ≡ Some tables → SpellsTables text tables
+told_spells text s tables e told = by (is_count (length (ended s).numbers)) refl told
   where
-    by : (v : Bool) → is_count (length (ended r.text).numbers) ≡ v → cond v (Some (tables_of (ended r.text).numbers)) None ≡ Some tables → SpellsTables bytes tables
+    by : (v : Bool) → is_count (length (ended s).numbers) ≡ v → cond v (Some (tables_of (ended s).numbers)) None ≡ Some tables → SpellsTables text tables
     by false c h = cc
     by true c h =
-        let i = read_as bytes r e in
+        let i = read_as (without_comments false text) s e in
         let long : is_count (length i.words) ≡ true = ap is_count (sym (length-map i.words value_of) ∙ ap length i.told) ∙ c in
         record {
           word = record { numbers = i.words; after = i.tail };
           formed = and_intro (are_apart i.words && all_of is_space i.tail) (is_count (length i.words)) (and_intro (are_apart i.words) (all_of is_space i.tail) i.formed i.space) long;
           spelled = i.text;
-          told = ap tables_of i.told ∙ some_once (tables_of (ended r.text).numbers) tables h;
+          told = ap tables_of i.told ∙ some_once (tables_of (ended s).numbers) tables h;
         }

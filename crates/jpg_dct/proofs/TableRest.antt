@@ -1,16 +1,17 @@
 -- Bytes that were read are the beginning of some text of tables: the end of a line and as many zeros as are left may
--- follow them.
-use Rattle.std.proofs.Common.{◌≡◌, ℕ, zero, suc, ◌+◌, ◌≤◌, Bool, true, false, cond, List, [], ◌∷◌, ◌++◌, length, refl, sym, ap, ◌∙◌, arith, Option, Some}
+-- follow them; the reader of tables.
+use Rattle.std.proofs.Common.{◌≡◌, ℕ, zero, suc, ◌+◌, ◌≤◌, false, List, [], ◌∷◌, ◌++◌, length, refl, sym, ap, ◌∙◌, arith, Some}
 use Rattle.std.specs.Prelude.{◌-◌, option_map}
 use Rattle.std.proofs.lemmas.List.{length-append, length-map}
-use Rattle.jpg_spec.specs.NumberTexts.{in_comment}
-use Rattle.jpg_spec_image.specs.TableText.{is_count, tables_of, BeginsTables}
-use Rattle.jpg_dct.specs.TableState.{NumbersState, ended, number_step, ReaderState, reader_step, new_reader, run}
-use Rattle.jpg_dct.proofs.TableRuns.{run_two, run_cons, run_nil, at, value_of, digit_taken, number_space, told_by}
+use Rattle.jpg_spec.specs.NumberTexts.{without_comments}
+use Rattle.jpg_spec.specs.Segments.{QuantTable}
+use Rattle.jpg_spec.specs.TextReaders.{reader_step, run, plain}
+use Rattle.jpg_spec.proofs.TextRuns.{run_cons, run_nil, value_of}
+use Rattle.jpg_spec.proofs.TextsRead.{Finishes, ReadsForm}
+use Rattle.jpg_spec_image.specs.TableText.{is_count, tables_of, tables_form}
+use Rattle.jpg_dct.specs.TableState.{NumbersState, no_numbers, ended, number_step, table_reader}
+use Rattle.jpg_dct.proofs.TableRuns.{at, digit_taken, number_space, told_by, spelled_run}
 use Rattle.jpg_dct.proofs.TableFronts.{read_as, told_spells}
-
-reader : NumbersState → ReaderState
-reader s = record { behind = false; text = s }
 
 -- numbers 0, each followed by a space
 zeros_text : ℕ → List ℕ
@@ -20,50 +21,47 @@ zeros_text (suc n) = 48 ∷ 32 ∷ zeros_text n
 record GoesOn (ns : List ℕ) (n : ℕ) : Type 0 where
   numbers : List ℕ
   long : length numbers ≡ length ns + n
-  run : run reader_step (reader (at ns 0 0)) (zeros_text n) ≡ Some (reader (at numbers 0 0))
+  run : run (reader_step number_step) (plain (at ns 0 0)) (zeros_text n) ≡ Some (plain (at numbers 0 0))
 
 zeros_run : (ns : List ℕ) (n : ℕ) → length ns + n ≤ 256 → GoesOn ns n
-unfolding reader zeros_text
-zeros_run ns zero l = record { numbers = ns; long = omega arith; run = run_nil reader_step (reader (at ns 0 0)) }
+unfolding zeros_text
+zeros_run ns zero l = record { numbers = ns; long = omega arith; run = run_nil (reader_step number_step) (plain (at ns 0 0)) }
 zeros_run ns (suc n) l =
     let more = length-append ns (0 ∷ []) in
     let rest = zeros_run (ns ++ 0 ∷ []) n (omega (arith, l, more)) in
     let long = rest.long in
-    let digit : reader_step (reader (at ns 0 0)) 48 ≡ Some (reader (at ns 1 0)) = ap (option_map reader) (digit_taken ns 0 0 0 (omega (arith, l)) (omega arith) (omega arith)) in
+    let digit : reader_step number_step (plain (at ns 0 0)) 48 ≡ Some (plain (at ns 1 0)) = ap (option_map plain) (digit_taken ns 0 0 0 (omega (arith, l)) (omega arith) (omega arith)) in
     record {
       numbers = rest.numbers;
       long = omega (arith, long, more);
-      run = run_cons reader_step (reader (at ns 0 0)) (reader (at ns 1 0)) 48 (32 ∷ zeros_text n) digit
-          ∙ run_cons reader_step (reader (at ns 1 0)) (reader (at (ns ++ 0 ∷ []) 0 0)) 32 (zeros_text n) refl ∙ rest.run;
+      run = run_cons (reader_step number_step) (plain (at ns 0 0)) (plain (at ns 1 0)) 48 (32 ∷ zeros_text n) digit
+          ∙ run_cons (reader_step number_step) (plain (at ns 1 0)) (plain (at (ns ++ 0 ∷ []) 0 0)) 32 (zeros_text n) refl ∙ rest.run;
     }
 
-line_end : (r : ReaderState) → reader_step r 10 ≡ Some (reader (ended r.text))
-unfolding reader
-line_end r =
-    ap (λ v. option_map (λ (text : NumbersState). record { behind = v; text = text }) (number_step r.text (cond v 32 10))) (no_comment r.behind)
-    ∙ ap (λ (o : Option NumbersState). option_map (λ (text : NumbersState). record { behind = false; text = text }) o) (number_space r.text 10 refl)
-  where
-    no_comment : (behind : Bool) → in_comment behind 10 ≡ false
-    no_comment true = refl
-    no_comment false = refl
-
-pub begins : (bytes : List ℕ) (r : ReaderState) → run reader_step new_reader bytes ≡ Some r → BeginsTables bytes
-unfolding reader
-begins bytes r e =
-    let i = read_as bytes r e in
-    let ns = (ended r.text).numbers in
+goes_on : (text : List ℕ) (s : NumbersState) → run number_step no_numbers text ≡ Some s → Finishes (List QuantTable) NumbersState table_reader (at (ended s).numbers 0 0)
+goes_on text s e =
+    let i = read_as text s e in
+    let ns = (ended s).numbers in
     let long : length i.words ≡ length ns = sym (length-map i.words value_of) ∙ ap length i.told in
     let most = i.most in
     let g = zeros_run ns (256 - length ns) (omega (arith, long, most)) in
     let all : length g.numbers ≡ 256 = (let l = g.long in omega (arith, long, most, l)) in
-    let line : reader_step r 10 ≡ Some (reader (at ns 0 0)) = line_end r ∙ ap (λ (s : NumbersState). Some (reader s)) i.none in
-    let whole : run reader_step new_reader (bytes ++ 10 ∷ zeros_text (256 - length ns)) ≡ Some (reader (at g.numbers 0 0)) =
-    run_two reader_step new_reader r bytes (10 ∷ zeros_text (256 - length ns)) e ∙ run_cons reader_step r (reader (at ns 0 0)) 10 (zeros_text (256 - length ns)) line ∙ g.run
-    in (
-      10 ∷ zeros_text (256 - length ns),
-      (
-        tables_of g.numbers,
-        told_spells (bytes ++ 10 ∷ zeros_text (256 - length ns)) (reader (at g.numbers 0 0)) (tables_of g.numbers) whole
-            (told_by (at g.numbers 0 0) g.numbers refl (ap is_count all)),
-      ),
-    )
+    record {
+      rest = zeros_text (256 - length ns);
+      state = plain (at g.numbers 0 0);
+      run = g.run;
+      told = tables_of g.numbers;
+      is = told_by (at g.numbers 0 0) g.numbers refl (ap is_count all);
+    }
+
+-- THE READER of tables
+pub reads_tables : ReadsForm (List QuantTable) NumbersState tables_form table_reader
+reads_tables = record {
+  spelled = spelled_run;
+  told = told_spells;
+  goes_on = λ text s e. (
+    at (ended s).numbers 0 0,
+    number_space s 10 refl ∙ ap (λ (t : NumbersState). Some t) (read_as (without_comments false text) s e).none,
+    goes_on (without_comments false text) s e,
+  );
+}

@@ -1,54 +1,19 @@
 -- Reading a spelling of tables byte by byte gives the tables that it encodes.
-use Rattle.std.proofs.Common.{◌≡◌, ℕ, ◌+◌, ◌-◌, ◌*◌, ◌<◌, ◌≤◌, Bool, true, false, cond, not, ◌&&◌, ◌==◌, List, [], ◌∷◌, ◌++◌, length, map, refl, sym, ap, ◌∙◌, arith, Option, None, Some}
-use Rattle.std.specs.Prelude.{◌||◌, nat_lt, nat_le, option_map, option_and_then, flat_map}
+use Rattle.std.proofs.Common.{◌≡◌, ℕ, ◌+◌, ◌-◌, ◌*◌, ◌<◌, ◌≤◌, Bool, true, false, cond, not, ◌&&◌, ◌==◌, List, [], ◌∷◌, ◌++◌, length, map, refl, ap, ◌∙◌, arith, None, Some}
+use Rattle.std.specs.Prelude.{◌||◌, nat_lt, nat_le, flat_map}
 use Rattle.std.proofs.lemmas.Bool.Decides.{nat_tests}
 use Rattle.std.proofs.lemmas.List.{append_assoc, length-append, length-map}
 use Rattle.jpg_spec.specs.Lists.{all_of, is_empty}
-use Rattle.jpg_spec.specs.NumberTexts.{is_digit, digits_from}
+use Rattle.jpg_spec.specs.NumberTexts.{is_digit, digits_from, without_comments, is_space, NumberWord, number_text, numbers_told}
 use Rattle.jpg_spec.specs.Segments.{QuantTable}
-use Rattle.jpg_spec.specs.NumberTexts.{in_comment, without_comments, is_space, NumberWord, NumbersWord, number_text, numbers_text, numbers_told}
-use Rattle.jpg_spec_image.specs.TableText.{is_quantiser_number, is_first_quantiser, is_further_quantiser, are_apart, is_count, are_tables, tables_of, SpellsTables, BeginsTables}
-use Rattle.jpg_spec.proofs.Common.{both, and_intro, same_of, le_of, lt_yes, some_once}
-use Rattle.jpg_dct.specs.TableState.{NumbersState, no_numbers, ended, digit_step, number_step, tables_told, ReaderState, reader_step, new_reader, run}
-
--- RUNS
-
-pub run_append : {S : Type 0} (step : S → ℕ → Option S) (s : S) (a b : List ℕ) → run step s (a ++ b) ≡ option_and_then (λ t. run step t b) (run step s a)
-unfolding run
-run_append step s [] b = refl
-run_append {S = S} step s (x ∷ a) b = by (step s x) (λ t. run_append step t a b)
-  where
-    by : (o : Option S) → ((t : S) → run step t (a ++ b) ≡ option_and_then (λ u. run step u b) (run step t a))
-        → option_and_then (λ t. run step t (a ++ b)) o ≡ option_and_then (λ u. run step u b) (option_and_then (λ t. run step t a) o)
-    by None more = refl
-    by (Some t) more = more t
-
-pub run_two : {S : Type 0} (step : S → ℕ → Option S) (s t : S) (a b : List ℕ) → run step s a ≡ Some t → run step s (a ++ b) ≡ run step t b
-run_two step s t a b e = run_append step s a b ∙ ap (option_and_then (λ u. run step u b)) e
-
-pub run_cons : {S : Type 0} (step : S → ℕ → Option S) (s t : S) (x : ℕ) (b : List ℕ) → step s x ≡ Some t → run step s (x ∷ b) ≡ run step t b
-unfolding run
-run_cons step s t x b e = ap (option_and_then (λ u. run step u b)) e
-
-pub run_nil : {S : Type 0} (step : S → ℕ → Option S) (s : S) → run step s [] ≡ Some s
-unfolding run
-run_nil step s = refl
+use Rattle.jpg_spec_image.specs.TableText.{is_quantiser_number, is_first_quantiser, is_further_quantiser, are_apart, is_count, tables_of, SpellsTables}
+use Rattle.jpg_spec.proofs.Common.{both, and_intro, same_of, le_of, lt_yes}
+use Rattle.jpg_spec.specs.TextReaders.{run}
+use Rattle.jpg_spec.proofs.TextRuns.{run_two, run_cons, run_nil, space_no_digit, grows, value_of}
+use Rattle.jpg_spec.proofs.TextsRead.{ReadsAs}
+use Rattle.jpg_dct.specs.TableState.{NumbersState, no_numbers, ended, digit_step, number_step, tables_told, table_reader}
 
 -- ONE BYTE of numbers
-
-space_no_digit : (b : ℕ) → is_space b ≡ true → is_digit b ≡ false
-space_no_digit b e =
-    let l = low (b == 32) (b == 9) (b == 10) (b == 12) (b == 13) refl refl refl refl refl e in
-    let no : nat_le 48 b ≡ false = grind (arith, nat_tests, l) in
-    ap (λ t. t && nat_le b 57) no
-  where
-    low : (v w x y z : Bool) → (b == 32) ≡ v → (b == 9) ≡ w → (b == 10) ≡ x → (b == 12) ≡ y → (b == 13) ≡ z → (v || (w || (x || (y || z)))) ≡ true → b ≤ 32
-    low true w x y z a b' c d f e = let s = same_of b 32 a in omega (arith, s)
-    low false true x y z a b' c d f e = let s = same_of b 9 b' in omega (arith, s)
-    low false false true y z a b' c d f e = let s = same_of b 10 c in omega (arith, s)
-    low false false false true z a b' c d f e = let s = same_of b 12 d in omega (arith, s)
-    low false false false false true a b' c d f e = let s = same_of b 13 f in omega (arith, s)
-    low false false false false false a b' c d f e = cc
 
 pub number_digit : (s : NumbersState) (b : ℕ) → is_digit b ≡ true → number_step s b ≡ digit_step s (b - 48)
 number_digit s b e = ap (λ t. cond t (digit_step s (b - 48)) (cond (is_space b) (Some (ended s)) None)) e
@@ -75,10 +40,6 @@ ended_twice s = by (s.digits == 0) refl
     by false e = refl
 
 -- A NUMBER
-
-grows : (v : ℕ) (ds : List ℕ) → v ≤ digits_from v ds
-grows v [] = omega arith
-grows v (d ∷ ds) = let h = grows (10 * v + (d - 48)) ds in omega (arith, h)
 
 pub digit_taken : (ns : List ℕ) (n v d : ℕ) → length ns < 256 → n < 5 → 10 * v + d ≤ 65535 → digit_step (at ns n v) d ≡ Some (at ns (n + 1) (10 * v + d))
 digit_taken ns n v d room few small =
@@ -136,9 +97,6 @@ spaces_after s [] e = record { state = s; run = run_nil number_step s; same = re
 spaces_after s (b ∷ sp) e = record { state = ended s; run = gap_run s (b ∷ sp) refl e; same = ended_twice s }
 
 -- NUMBERS: the bytes end in the last of them
-
-abbrev pub value_of : NumberWord → ℕ
-value_of w = digits_from 0 w.digits
 
 record EndsIn (s : NumbersState) (bytes told : List ℕ) : Type 0 where
   numbers : List ℕ
@@ -199,17 +157,13 @@ counted n e = by (n == 64) (n == 128) (n == 192) refl refl refl e
     by false false true a b c e = let s = same_of n 192 c in (omega (arith, s), omega (arith, s))
     by false false false a b c e = let s = same_of n 256 e in (omega (arith, s), omega (arith, s))
 
-pub record NumbersRun (bytes : List ℕ) (tables : List QuantTable) : Type 0 where
-  pub state : NumbersState
-  pub run : run number_step no_numbers bytes ≡ Some state
-  pub told : tables_told state ≡ Some tables
-
 pub told_by : (s : NumbersState) (ns : List ℕ) → (ended s).numbers ≡ ns → is_count (length ns) ≡ true → tables_told s ≡ Some (tables_of ns)
 told_by s ns e count = ap (λ (l : List ℕ). cond (is_count (length l)) (Some (tables_of l)) None) e ∙ ap (λ t. cond t (Some (tables_of ns)) None) count
 
-word_run : (w : NumbersWord) → are_tables w ≡ true → NumbersRun (numbers_text w) (tables_of (numbers_told w))
-word_run w e =
-    let s = both (are_apart w.numbers && all_of is_space w.after) (is_count (length w.numbers)) e in
+pub spelled_run : (text : List ℕ) (tables : List QuantTable) → SpellsTables text tables → ReadsAs (List QuantTable) NumbersState table_reader (without_comments false text) tables
+spelled_run text tables sp =
+    let w = sp.word in
+    let s = both (are_apart w.numbers && all_of is_space w.after) (is_count (length w.numbers)) sp.formed in
     let p = both (are_apart w.numbers) (all_of is_space w.after) s.0 in
     let bounds = counted (length w.numbers) s.1 in
     let all = words_run w.numbers p.0 bounds.0 bounds.1 in
@@ -218,42 +172,6 @@ word_run w e =
     let whole : (ended end.state).numbers ≡ numbers_told w = ap (λ (t : NumbersState). t.numbers) (end.same ∙ ended_in all.numbers all.digits all.value all.some) ∙ all.all in
     record {
       state = end.state;
-      run = run_two number_step no_numbers last (flat_map number_text w.numbers) w.after all.run ∙ end.run;
-      told = told_by end.state (numbers_told w) whole (ap is_count (length-map w.numbers value_of) ∙ s.1);
+      run = ap (run number_step no_numbers) sp.spelled ∙ run_two number_step no_numbers last (flat_map number_text w.numbers) w.after all.run ∙ end.run;
+      is = told_by end.state (numbers_told w) whole (ap is_count (length-map w.numbers value_of) ∙ s.1) ∙ ap (λ (l : List QuantTable). Some l) sp.told;
     }
-
--- WITH COMMENTS
-
--- the text that is read is the one without comments
-pub comments_read : (behind : Bool) (s : NumbersState) (bytes : List ℕ)
-    → option_map (λ (r : ReaderState). r.text) (run reader_step (record { behind = behind; text = s }) bytes) ≡ run number_step s (without_comments behind bytes)
-unfolding run
-comments_read behind s [] = refl
-comments_read behind s (b ∷ bytes) = by (number_step s (cond (in_comment behind b) 32 b)) (λ t. comments_read (in_comment behind b) t bytes)
-  where
-    by : (o : Option NumbersState) → ((t : NumbersState) → option_map (λ (r : ReaderState). r.text) (run reader_step (record { behind = in_comment behind b; text = t }) bytes) ≡ run number_step t (without_comments (in_comment behind b) bytes))
-        → option_map (λ (r : ReaderState). r.text) (option_and_then (λ r. run reader_step r bytes) (option_map (λ (t : NumbersState). record { behind = in_comment behind b; text = t }) o))
-        ≡ option_and_then (λ t. run number_step t (without_comments (in_comment behind b) bytes)) o
-    by None more = refl
-    by (Some t) more = more t
-
-pub record ReaderRun (bytes : List ℕ) (tables : List QuantTable) : Type 0 where
-  pub state : ReaderState
-  pub run : run reader_step new_reader bytes ≡ Some state
-  pub told : tables_told state.text ≡ Some tables
-
-pub spelled_run : (bytes : List ℕ) (tables : List QuantTable) → SpellsTables bytes tables → ReaderRun bytes tables
-spelled_run bytes tables sp =
-    let r = word_run sp.word sp.formed in
-    by (run reader_step new_reader bytes) refl r.state (comments_read false no_numbers bytes ∙ ap (run number_step no_numbers) sp.spelled ∙ r.run) (r.told ∙ ap (λ (l : List QuantTable). Some l) sp.told)
-  where
-    by : (o : Option ReaderState) → run reader_step new_reader bytes ≡ o → (t : NumbersState) → option_map (λ (r : ReaderState). r.text) o ≡ Some t → tables_told t ≡ Some tables → ReaderRun bytes tables
-    by None a t e h = cc
-    by (Some r) a t e h = record { state = r; run = a; told = ap tables_told (some_once r.text t e) ∙ h }
-
--- bytes at which the reader stops begin no text of the form
-pub begins_run : (bytes : List ℕ) → BeginsTables bytes → run reader_step new_reader bytes ≡ None → ⊥
-begins_run bytes b none =
-    let r = spelled_run (bytes ++ b.0) b.1.0 b.1.1 in
-    let z : None ≡ Some r.state = sym (run_append reader_step new_reader bytes b.0 ∙ ap (option_and_then (λ t. run reader_step t b.0)) none) ∙ r.run in
-    cc

@@ -3,7 +3,7 @@ pub mod Division
 pub mod Eights
 pub mod Lines
 pub mod Natural
-pub mod OneAnswer
 pub mod ReadTables
 pub mod TableState
 pub mod Told
+pub mod TriedTexts

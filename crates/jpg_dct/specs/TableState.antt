@@ -1,8 +1,8 @@
 -- The result of the bytes of a text of tables, one by one. TableText of jpg_spec defines what a text is.
-use Rattle.std.specs.Prelude.{ℕ, ◌+◌, ◌-◌, ◌*◌, ◌<◌, ◌≤◌, Bool, false, nat_lt, nat_le, ◌&&◌, ◌==◌, if◌then◌else◌, true, List, [], ◌∷◌, ◌++◌, length, Option, None, Some, option_map, option_and_then}
-use Rattle.jpg_spec.specs.NumberTexts.{is_digit}
+use Rattle.std.specs.Prelude.{ℕ, ◌+◌, ◌-◌, ◌*◌, ◌<◌, ◌≤◌, nat_lt, nat_le, ◌&&◌, ◌==◌, if◌then◌else◌, List, [], ◌∷◌, ◌++◌, length, Option, None, Some}
+use Rattle.jpg_spec.specs.NumberTexts.{is_digit, is_space}
 use Rattle.jpg_spec.specs.Segments.{QuantTable}
-use Rattle.jpg_spec.specs.NumberTexts.{in_comment, is_space}
+use Rattle.jpg_spec.specs.TextReaders.{TextReader}
 use Rattle.jpg_spec_image.specs.TableText.{is_count, tables_of}
 
 -- NUMBERS: the complete ones, and of the current one how many digits were read and their value
@@ -36,25 +36,5 @@ tables_told s = if is_count (length (ended s).numbers) then Some (tables_of (end
 abbrev pub HasRoom : List ℕ → ℕ → Type 0
 HasRoom numbers digits = 1 ≤ digits → length numbers < 256
 
--- BYTES, with comments
-
-pub record ReaderState : Type 0 where
-  pub behind : Bool
-  pub text : NumbersState
-
-abbrev pub reader_step : ReaderState → ℕ → Option ReaderState
-reader_step s b =
-    option_map (λ text. record { behind = in_comment s.behind b; text = text }) (number_step s.text (if in_comment s.behind b then 32 else b))
-
-abbrev pub new_reader : ReaderState
-new_reader = record { behind = false; text = no_numbers }
-
--- of no bytes, or of one more and the rest
-unfoldable pub run : {S : Type 0} → (S → ℕ → Option S) → S → List ℕ → Option S
-run step s [] = Some s
-run step s (b ∷ bytes) = option_and_then (λ t. run step t bytes) (step s b)
-
--- an answer: whether the byte was taken, and the state then
-abbrev pub taken : {S : Type 0} → Bool → S → Option S
-taken true s = Some s
-taken false s = None
+abbrev pub table_reader : TextReader (List QuantTable) NumbersState
+table_reader = record { start = no_numbers; step = number_step; told = tables_told }

@@ -1,12 +1,13 @@
 //! Laws over the definitions, each on a function that does nothing.
 ghost use Rattle.std.specs.Prelude.{ℕ, List, [], ◌∷◌, ◌++◌, codes, Ok};
+ghost use Rattle.jpg_spec.specs.TextForms.{HasOneAnswer};
 ghost use Rattle.jpg_spec.specs.Zigzag.{zigzag};
-ghost use Rattle.jpg_spec_image.specs.TableText.{TellsTables};
-ghost use Rattle.jpg_dct.specs.OneAnswer.{HasOneAnswer, IsWrongAt, ones_text, counting_text};
+ghost use Rattle.jpg_spec_image.specs.TableText.{TellsTables, tables_form};
+ghost use Rattle.jpg_dct.specs.TriedTexts.{IsWrongAt, ones_text, counting_text};
 
 /// A text encodes one list of tables, or is wrong at one place.
 pub fn texts_tell_tables_once()
-    ensures { (text : List ℕ) → HasOneAnswer text }
+    ensures { (text : List ℕ) → HasOneAnswer tables_form text }
 {}
 
 /// The numbers of a text are row by row: those from 0 to 63 are the places of zigzag order.

@@ -1,12 +1,12 @@
 //! The text of tables, byte by byte (the manual of cjpeg, -qtables).
 ghost use Rattle.std.specs.Prelude.{◌≡◌, ◌<◌, ◌≤◌, length, option_map};
 ghost use Rattle.jpg_spec_image.specs.Quality.{in_zigzag};
-ghost use Rattle.jpg_spec.specs.NumberTexts.{is_digit};
-ghost use Rattle.jpg_spec.specs.NumberTexts.{in_comment, is_space};
-ghost use Rattle.jpg_spec_image.specs.TableText.{TellsTables, is_count, tables_of};
+ghost use Rattle.jpg_spec.specs.NumberTexts.{is_digit, in_comment, is_space};
+ghost use Rattle.jpg_spec.specs.TextReaders.{IsRead, plain, reader_step, taken};
+ghost use Rattle.jpg_spec_image.specs.TableText.{TellsTables, is_count, tables_form, tables_of};
 ghost use Rattle.jpg_spec.specs.declared.fault.Fault.TheVariants.{TableText};
-ghost use Rattle.jpg_dct.specs.ReadTables.{IsReadTables, tables_or_fault};
-ghost use Rattle.jpg_dct.specs.TableState.{digit_step, ended, new_reader, number_step, reader_step, taken, tables_told};
+ghost use Rattle.jpg_dct.specs.ReadTables.{tables_or_fault};
+ghost use Rattle.jpg_dct.specs.TableState.{digit_step, ended, no_numbers, number_step, table_reader, tables_told};
 
 use crate::forward::blocks::ZIGZAG;
 use arrayvec::ArrayVec;
@@ -25,10 +25,11 @@ pub struct TableReader {
 
 impl Model for TableReader {
     ghost use Rattle.jpg_spec.specs.declared.fault.Fault.TheVariants.{TableText};
-    ghost use Rattle.jpg_dct.specs.ReadTables.{IsReadTables, tables_or_fault};
-    ghost use Rattle.jpg_dct.specs.TableState.{ReaderState as State, HasRoom};
+    ghost use Rattle.jpg_spec.specs.TextReaders.{ReaderState};
+    ghost use Rattle.jpg_dct.specs.ReadTables.{tables_or_fault};
+    ghost use Rattle.jpg_dct.specs.TableState.{NumbersState, HasRoom};
 
-    ghost Value = { State };
+    ghost Value = { ReaderState NumbersState };
 
     ghost view = { λ r. record { behind = r.in_comment; text = record { numbers = r.numbers.items; digits = r.digits; value = r.value } } };
 
@@ -56,7 +57,7 @@ pub fn read_tables(text: &[u8]) -> Result<ArrayVec<QuantTable, 4>, FaultAt>
 
 // All bytes of a text, or the first that may not occur there.
 fn read(text: &[u8]) -> Result<TableReader, FaultAt>
-    ensures { IsReadTables text.now result }
+    ensures { IsRead tables_form table_reader text.now result }
 {
     let mut reader = TableReader::new();
     let mut before = 0;
@@ -84,7 +85,7 @@ fn wrong_at(at: u64) -> FaultAt
 
 impl TableReader {
     fn new() -> TableReader
-        ensures { result ≡ new_reader }
+        ensures { result ≡ plain no_numbers }
     {
         TableReader {
             numbers: ArrayVec::new(),
@@ -96,7 +97,7 @@ impl TableReader {
 
     // Takes a byte, and answers whether it may occur there.
     fn byte(&mut self, byte: u8) -> bool
-        ensures { taken result self.new ≡ reader_step self.old byte }
+        ensures { taken result self.new ≡ reader_step number_step self.old byte }
     {
         self.in_comment = in_comment(self.in_comment, byte);
         if self.in_comment {

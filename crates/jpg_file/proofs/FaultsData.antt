@@ -34,7 +34,7 @@ use Rattle.jpg_file.specs.declared.read.rows.RowWork.{RowWork}
 use Rattle.jpg_file.specs.declared.read.scan.InScan.{InScan}
 use Rattle.jpg_file.specs.declared.read.scan.ScanWork.{ScanWork}
 use Rattle.jpg_file.proofs.FaultsPlaced.{fault_completes, fault_stops}
-use Rattle.jpg_file.proofs.RowsPlaced.{CompletesDue, PlaceStops, all_at, left_whole, place_stops, scan_of_all, stops_complete}
+use Rattle.jpg_file.proofs.RowsPlaced.{PlaceStops, all_at, left_whole, place_stops, scan_of_all, stops_complete}
 use Rattle.jpg_file.proofs.RowsTold.{TellsAt, whole_at}
 use Rattle.jpg_file.proofs.Runs.{run_cut}
 use Rattle.jpg_file.proofs.RowScans.{open_half, open_scan}
@@ -66,9 +66,6 @@ run_stops_row w m after row bytes rest n answer count t = λ f whole e of o.
 
 -- DATA BYTES of the scan
 
-pub completes_as : (limits : Limits) (bytes : List ℕ) (items : List Item) (contents : List ℕ) (rows : RowWork) → CompletesDue limits bytes items contents rows → CompletesBefore limits bytes (segments_of items) contents rows
-completes_as limits bytes items contents rows c = record { begins = c.begins; m = c.m; count = c.count; blocks = c.blocks; completed = c.completed }
-
 left_is : (w : ScanWork) → w.whole ≡ false → scan_left w ≡ w.due + any_scan.left w.machine
 left_is w e = ap (λ b. w.due + cond b 0 (any_scan.left w.machine)) e
 
@@ -85,7 +82,7 @@ bytes_stop limits items contents bytes p more w now rows f of at work e shows fi
     let z = fault_stops limits items contents bytes q k.interval w.machine now (bits_of_bytes p.coded) (bits_of_bytes more) [] rows.left f of at first all readable is k.so_far k.stands cut shows in
     let left : scan_left w ≡ length (joined p.later) + any_scan.left w.machine = omega (arith, left_is w e, work.due) in
     let there = subst (λ n. IsRowAt (frame_behind limits items) (components_of limits items contents) rows n) left row in
-    completes_as limits bytes items contents rows (fault_completes limits items contents bytes rows (any_scan.left w.machine) (length (joined p.later)) z there)
+    fault_completes limits items contents bytes rows (any_scan.left w.machine) (length (joined p.later)) z there
 
 -- bits that waited
 pub half_stops : (limits : Limits) (items : List Item) (contents bytes : List ℕ) (waiting : List Bool) (s : InScan) (now : Picture) (rows : RowWork) (f : UnitFault) → HalfData limits items contents bytes waiting s now → ShowsInRow rows.left s.work.machine now waiting f
@@ -108,7 +105,7 @@ half_stops limits items contents bytes waiting s now rows f h shows first row =
     let due : s.work.due ≡ (h.old).due = ap (λ (w : ScanWork). w.due) h.same in
     let left : scan_left s.work ≡ length (joined p.later) + any_scan.left s.work.machine = omega (arith, left_is s.work e, due, (h.work).due) in
     let there = subst (λ n. IsRowAt (frame_behind limits items) (components_of limits items contents) rows n) left row in
-    completes_as limits bytes items contents rows (fault_completes limits items contents bytes rows (any_scan.left s.work.machine) (length (joined p.later)) z there)
+    fault_completes limits items contents bytes rows (any_scan.left s.work.machine) (length (joined p.later)) z there
 
 -- A DATA BYTE after a complete interval
 
@@ -158,7 +155,7 @@ extra_stops limits items contents bytes front tail p byte w now rows of before a
       units = inr (inr (holds, omega (arith, sum, u.left_is)));
       last = inl (0, refl);
     } in
-    completes_as limits bytes items contents rows (stops_complete limits items contents bytes now rows (scan_left w) z row)
+    stops_complete limits items contents bytes now rows (scan_left w) z row
 
 -- A MARKER that doesn't begin the next interval
 
@@ -185,7 +182,7 @@ marker_stops limits items contents bytes p fill code w now rows of z f at work w
     let tail = replicate (suc fill) 255 ++ code ∷ [] in
     let all = scan_of_all limits items contents rows (scan_left w) first row in
     let k = place_stops limits items contents bytes tail p w now of at work (no_more_data limits p fill code w now z f work wrong) first all in
-    completes_as limits bytes items contents rows (stops_complete limits items contents bytes now rows (scan_left w) k row)
+    stops_complete limits items contents bytes now rows (scan_left w) k row
 
 -- WHAT THE SCAN ANSWERS: only a fault stops it
 

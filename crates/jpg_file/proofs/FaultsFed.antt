@@ -20,7 +20,6 @@ use Rattle.jpg_file.specs.Read.Strips.{GoesByRow, RowsAfter, RowsInside}
 use Rattle.jpg_file.specs.declared.read.file.FileWork.{FileWork}
 use Rattle.jpg_file.specs.declared.read.rows.RowWork.{RowWork}
 use Rattle.jpg_file.specs.declared.read.strip_head.StripHead.{StripHead}
-use Rattle.jpg_file.proofs.FaultsData.{completes_as}
 use Rattle.jpg_file.proofs.RowsFed.{begun_on}
 use Rattle.jpg_file.proofs.RowsFedOn.{all_given}
 use Rattle.jpg_file.proofs.RowsGiven.{inside_completes}
@@ -62,7 +61,7 @@ pub goes_completes : (limits : Limits) (bytes : List ℕ) (w : FileWork) (rows :
 goes_completes limits bytes w rows g = by (g.stands).at
   where
     by : RowsInside limits bytes w rows (g.stands).whole ⊎ RowsAfter limits bytes w rows (g.stands).whole → RowsAtFault limits bytes rows
-    by (inl r) = inr (segments_of r.items, r.contents, completes_as limits bytes r.items r.contents rows (inside_completes limits bytes w rows (g.stands).whole r g.none))
+    by (inl r) = inr (segments_of r.items, r.contents, inside_completes limits bytes w rows (g.stands).whole r g.none)
     by (inr b) = inl b.done
 
 -- the bytes up to a fault that is n bytes of the piece after the others

@@ -28,13 +28,13 @@ use Rattle.jpg_seq.specs.declared.reader.SeqReader.{SeqReader}
 use Rattle.jpg_file.specs.Read.InData.{IsInterval, IsReadable}
 use Rattle.jpg_file.specs.Read.Machine.{any_scan, scan_kind, whole_blocks}
 use Rattle.jpg_file.specs.Read.RowPlaces.{IsRowAt}
-use Rattle.jpg_file.specs.Read.RowStops.{ShowsInRow}
+use Rattle.jpg_file.specs.Read.RowStops.{CompletesBefore, ShowsInRow}
 use Rattle.jpg_file.specs.Read.RowTurns.{unfinished}
 use Rattle.jpg_file.specs.Read.Strips.{IsFirstScan, components_of, frame_behind}
 use Rattle.jpg_file.specs.declared.read.machine.ScanReader.{ScanReader}
 use Rattle.jpg_file.specs.declared.read.rows.RowWork.{RowWork}
 use Rattle.jpg_file.proofs.FaultsTold.{shown_most, stands_most}
-use Rattle.jpg_file.proofs.RowsPlaced.{CompletesDue, PlaceStops, all_at, bands_long, machine_stands, parts_stand, stops_complete}
+use Rattle.jpg_file.proofs.RowsPlaced.{PlaceStops, all_at, bands_long, machine_stands, parts_stand, stops_complete}
 use Rattle.jpg_file.proofs.RowsTold.{units_at}
 use Rattle.jpg_file.proofs.ScanBytes.{of_place}
 use Rattle.jpg_file.proofs.StripRows.{kind_at, scan_of_place, seq_of}
@@ -152,7 +152,7 @@ some_left zero some = absurd (omega (arith, some))
 some_left (suc n) some = grind (arith, nat_tests)
 
 pub fault_completes : (limits : Limits) (items : List Item) (contents bytes : List ℕ) (rows : RowWork) (left due : ℕ) → FaultStops limits items contents bytes left rows.left due
-    → IsRowAt (frame_behind limits items) (components_of limits items contents) rows (due + left) → CompletesDue limits bytes items contents rows
+    → IsRowAt (frame_behind limits items) (components_of limits items contents) rows (due + left) → CompletesBefore limits bytes (segments_of items) contents rows
 fault_completes limits items contents bytes rows left due z at =
     record { begins = c.begins; m = c.m; count = omega (arith, c.count, same); blocks = c.blocks; completed = c.completed }
   where
@@ -170,7 +170,7 @@ fault_completes limits items contents bytes rows left due z at =
       sum = omega (arith, at.sum, z.few, z.low);
     }
 
-    c : CompletesDue limits bytes items contents (record rows { left = rows.left - (left - z.units) })
+    c : CompletesBefore limits bytes (segments_of items) contents (record rows { left = rows.left - (left - z.units) })
     c = stops_complete limits items contents bytes z.whole (record rows { left = rows.left - (left - z.units) }) (due + z.units) z.stops there
 
     same : unfinished (record rows { left = rows.left - (left - z.units) }) ≡ unfinished rows

@@ -5,15 +5,16 @@ use Rattle.std.proofs.lemmas.List.{length-append, length-take-le}
 use Rattle.std.specs.Prelude.{◌||◌, nat_lt, unwrap_or, slice_index, is_some, is_err, Result}
 use Rattle.jpg_spec.specs.Geometry.{Frame}
 use Rattle.jpg_spec.specs.Scan.{Blocks}
-use Rattle.jpg_spec.specs.Markers.{Segment, is_frame_code, has_frame, has_scan, code_fault, code_fault_if}
-use Rattle.jpg_spec.specs.InForce.{frame_after, heads_of, no_frame}
+use Rattle.jpg_spec.specs.Markers.{Pass, Segment, is_frame_code, has_frame, has_scan, code_fault, code_fault_if}
+use Rattle.jpg_spec.specs.Header.{header_rule}
+use Rattle.jpg_spec.specs.InForce.{frame_after, frame_of, heads_of, no_frame}
 use Rattle.jpg_spec.specs.History.{has_begun, is_complete}
 use Rattle.jpg_spec.specs.Items.{Item, segment, scan, segments_of, contents_rule}
 use Rattle.jpg_spec.specs.FileMeaning.{Leads}
 use Rattle.jpg_spec.specs.Laws.{frame_of_items}
 use Rattle.jpg_spec.specs.declared.frame.Limits.{Limits}
-use Rattle.jpg_spec.proofs.FrameFound.{framed}
-use Rattle.jpg_spec.proofs.FrameAfter as behind
+use Rattle.jpg_spec.proofs.FrameAfter.{leads_pass}
+use Rattle.jpg_spec.proofs.FrameFound.{frame_found, framed}
 use Rattle.jpg_spec.proofs.FirstPasses.{all_below}
 use Rattle.jpg_spec.proofs.Common.{clash, neither, not_same, or_right}
 use Rattle.jpg_spec.proofs.BeforeScans.{no_heads}
@@ -22,7 +23,6 @@ use Rattle.jpg_coefs.specs.Picture.{Picture, map_of}
 use Rattle.jpg_markers.specs.Reading.{reading_of}
 use Rattle.jpg_base.specs.declared.names.NoMemory.{NoMemory as Wanting}
 use Rattle.jpg_spec.specs.declared.fault.FaultAt.{FaultAt}
-use Rattle.jpg_base.specs.declared.stop.Stop.{Stop}
 use Rattle.jpg_base.specs.declared.stop.Stop.TheVariants as stop
 use Rattle.jpg_file.specs.Read.ScanHistory.{HasBegun, IsComplete}
 use Rattle.jpg_file.specs.Read.FirstHeader.{HasHead, HasNoHead, IsFirstHeaderOf}
@@ -152,24 +152,27 @@ after_inside limits bytes more step.NoMemory w new s (inr (inr shown)) begun hea
 -- A SCAN HEADER, with room for the picture
 
 -- the frame in force is kept, and has components
-pub record FrameHeld (limits : Limits) (items : List Item) (held : Option Frame) : Type 0 where
+pub record FrameFor (limits : Limits) (segments : List Segment) (held : Option Frame) : Type 0 where
   pub frame : Frame
   pub has : held ≡ Some frame
-  pub is : frame_of_items limits items ≡ frame
+  pub is : frame_of limits segments ≡ frame
   pub some : 1 ≤ length frame.components
 
 not_zero : (n : ℕ) → (n == 0) ≡ false → 1 ≤ n
 not_zero n e = grind (arith, nat_tests)
 
-pub frame_held : (limits : Limits) (bytes : List ℕ) (items : List Item) (blocks : Blocks) (held : Option Frame) → Leads limits items blocks → held ≡ frame_after limits (segments_of items) → has_frame (segments_of items) ≡ true → FrameHeld limits items held
-frame_held limits bytes items blocks held leads same found =
-    let f = behind.frame_behind limits items blocks leads found in
+pub frame_for : (limits : Limits) (segments : List Segment) (held : Option Frame) → held ≡ frame_after limits segments → Pass (header_rule limits) segments → has_frame segments ≡ true → FrameFor limits segments held
+frame_for limits segments held same pass found =
+    let f = frame_found limits segments pass found in
     record {
       frame = f.0;
       has = same ∙ f.1;
       is = ap (λ (o : Option Frame). unwrap_or o no_frame) f.1;
       some = not_zero (length (f.0).components) (neither (length (f.0).components == 0) (nat_lt 4 (length (f.0).components)) (f.2).count).0;
     }
+
+pub frame_held : (limits : Limits) (items : List Item) (blocks : Blocks) (held : Option Frame) → Leads limits items blocks → held ≡ frame_after limits (segments_of items) → has_frame (segments_of items) ≡ true → FrameFor limits (segments_of items) held
+frame_held limits items blocks held leads same found = frame_for limits (segments_of items) held same (leads_pass limits items blocks leads) found
 
 -- the picture there is, of this frame
 record PictureThere (limits : Limits) (items : List Item) (blocks : Blocks) (f : Frame) (q : Option Picture) : Type 0 where
@@ -187,7 +190,7 @@ head_whole limits bytes old new h room =
     let k = h.beside in
     let items = room.items in
     let allowed = subst (λ n. code_fault (segments_of h.items) n ≡ None) h.code (h.at).allowed in
-    let f = frame_held limits bytes h.items h.blocks old.reading.items.held.frame ((h.at).at).leads ((h.at).holds).frame (framed (segments_of h.items) allowed) in
+    let f = frame_held limits h.items h.blocks old.reading.items.held.frame ((h.at).at).leads ((h.at).holds).frame (framed (segments_of h.items) allowed) in
     let made = room.picture f.frame f.has in
     let p = picture_there limits h.items h.blocks f.frame old.reading.coefs new.reading.coefs f.is k.picture made.1 in
     record {
@@ -230,7 +233,7 @@ head_goes limits bytes old room taken new h made unchanged takes kept notes =
     let before : List Segment = (0xda, contents) ∷ segments_of h.items in
     let holds = ((a.0).head).holds in
     let allowed = subst (λ n. code_fault (segments_of h.items) n ≡ None) h.code (h.at).allowed in
-    let f = frame_held limits bytes h.items h.blocks taken.reading.items.held.frame ((h.at).at).leads holds.frame (framed (segments_of h.items) allowed) in
+    let f = frame_held limits h.items h.blocks taken.reading.items.held.frame ((h.at).at).leads holds.frame (framed (segments_of h.items) allowed) in
     let had = subst (λ o. HasHead limits bytes (segments_of h.items) o) (sym (kept ∙ unchanged)) (h.beside).head in
     let now = noted limits bytes h.items h.blocks old.reading.items contents (told_by taken.reading.items.held) f.frame taken.reading.taken taken.head h.at h.code same (unbroken limits h.items contents bytes taken.reading a.0) holds f.has (a.0).count had in
     inr (record {
@@ -280,8 +283,8 @@ framed_end before e = by (has_frame before) e
     by true e = refl
     by false e = cc
 
-frame_there : (limits : Limits) (bytes : List ℕ) (w : FileWork) → (k : EndStands limits bytes w) → FrameHeld limits k.items w.reading.items.held.frame
-frame_there limits bytes w k = frame_held limits bytes k.items k.blocks w.reading.items.held.frame ((k.at).at).leads ((k.at).holds).frame (framed_end (segments_of k.items) (k.at).allowed)
+frame_there : (limits : Limits) (bytes : List ℕ) (w : FileWork) → (k : EndStands limits bytes w) → FrameFor limits (segments_of k.items) w.reading.items.held.frame
+frame_there limits bytes w k = frame_held limits k.items k.blocks w.reading.items.held.frame ((k.at).at).leads ((k.at).holds).frame (framed_end (segments_of k.items) (k.at).allowed)
 
 -- whether each component was in a scan, by the history
 pub end_complete : (limits : Limits) (bytes : List ℕ) (w : FileWork) (all : Bool) → (k : EndStands limits bytes w)
@@ -291,7 +294,7 @@ end_complete limits bytes w all k told =
     let there = frame_there limits bytes w k in
     sym (told f (heads_of f (segments_of k.items)) (subst (λ (g : Frame). 1 ≤ length g.components) (sym there.is) there.some) ((k.beside).begun).scans)
 
-pub frame_left : (limits : Limits) (bytes : List ℕ) (w : FileWork) → (e : EndsFile limits bytes w) → FrameHeld limits (e.ends).items w.reading.items.held.frame
+pub frame_left : (limits : Limits) (bytes : List ℕ) (w : FileWork) → (e : EndsFile limits bytes w) → FrameFor limits (segments_of (e.ends).items) w.reading.items.held.frame
 frame_left limits bytes w e = frame_there limits bytes w e.ends
 
 -- component 0 was in a scan

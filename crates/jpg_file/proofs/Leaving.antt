@@ -1,7 +1,6 @@
 -- What a file that is being read leaves where it ends: complete, or early.
-use Rattle.std.proofs.Common.{◌≡◌, ℕ, ◌≤◌, Bool, true, false, ◌==◌, List, [], ◌∷◌, ◌++◌, length, take, refl, sym, ap, ◌∙◌, subst, arith, inl, inr, Option, Some, None, Ok, Result}
-use Rattle.std.specs.Prelude.{◌⊎◌, nat_lt, replicate, unwrap_or, is_none}
-use Rattle.std.proofs.lemmas.Bool.Decides.{nat_tests}
+use Rattle.std.proofs.Common.{◌≡◌, ℕ, ◌≤◌, Bool, true, false, List, [], ◌∷◌, ◌++◌, length, refl, sym, ap, ◌∙◌, subst, arith, inl, inr, Option, Some, None}
+use Rattle.std.specs.Prelude.{◌⊎◌, replicate, is_none}
 use Rattle.std.proofs.lemmas.List.{append_assoc, length-append}
 use Rattle.jpg_spec.specs.Bits.{bits_of_bytes}
 use Rattle.jpg_spec.specs.Geometry.{Frame, bounds, no_component}
@@ -21,22 +20,18 @@ use Rattle.jpg_spec.specs.PictureInWork.{UnitsRead}
 use Rattle.jpg_spec.specs.Ranges.{AreInRange}
 use Rattle.jpg_spec.specs.ScanReading.{ScanPlace, scan_at, ScanAt, LeadingMarker}
 use Rattle.jpg_spec.specs.declared.frame.Limits.{Limits}
-use Rattle.jpg_spec.proofs.Common.{clash, neither}
+use Rattle.jpg_spec.proofs.Common.{clash}
 use Rattle.jpg_spec.proofs.BeforeScans.{no_heads}
 use Rattle.jpg_spec.proofs.EarlyBegun.{AllNamed, HasSome, begun_behind, begun_inside, after_begun, inside_begun}
 use Rattle.jpg_spec.proofs.EarlyRanges.{in_part_in_range}
 use Rattle.jpg_spec.proofs.FileLaws.{means_once, stands_early}
 use Rattle.jpg_spec.proofs.FirstPasses.{all_below}
 use Rattle.jpg_spec.proofs.FrameAfter.{header_too, leads_pass}
-use Rattle.jpg_spec.proofs.FrameFound.{frame_found}
 use Rattle.jpg_spec.proofs.HeadersOnce.{after_front}
 use Rattle.jpg_spec.proofs.ItemSteps.{fill_begin, fill_marker, fill_part}
 use Rattle.jpg_spec.proofs.Ranges.{leads_in_range}
 use Rattle.jpg_coefs.specs.Picture.{Picture, map_of}
 use Rattle.jpg_markers.specs.Reading.{reading_of}
-use Rattle.jpg_base.specs.declared.stop.Fed.{Fed}
-use Rattle.jpg_base.specs.declared.stop.Fed.TheVariants as fed
-use Rattle.jpg_base.specs.declared.stop.Stop.{Stop}
 use Rattle.jpg_file.specs.Read.ScanHistory.{HasBegun, IsComplete}
 use Rattle.jpg_file.specs.Read.File.{EndsFile, PictureSoFar, StandsForFile, StandsBetween, StandsInsideScan, keeping_of}
 use Rattle.jpg_file.specs.Read.SegmentState.{Holds, told_by}
@@ -50,7 +45,7 @@ use Rattle.jpg_scans.specs.declared.progress.Progress.{Progress}
 use Rattle.jpg_file.specs.declared.read.scan_history.ScanHistory.{ScanHistory}
 use Rattle.jpg_file.specs.declared.read.file.FileWork.{FileWork}
 use Rattle.jpg_file.specs.declared.read.picture.Picture.{Picture as Shown}
-use Rattle.jpg_file.proofs.FileSteps.{frame_left, one_begun}
+use Rattle.jpg_file.proofs.FileSteps.{frame_for, frame_left, one_begun}
 use Rattle.jpg_file.proofs.ItemBytes.{part_after}
 use Rattle.jpg_file.proofs.Machines.{scans_keep_units}
 use Rattle.jpg_file.proofs.PieceSteps.{file_means}
@@ -132,26 +127,6 @@ pub record AtEnd (limits : Limits) (bytes : List ℕ) (w : FileWork) : Type 0 wh
   pub headers : Pass (header_rule limits) segments
   pub named : HaveBegun limits bytes → AllNamed limits segments
   pub here : HasSome limits segments → AllNamed limits segments → EndsHere limits bytes w segments blocks
-
-not_zero : (n : ℕ) → (n == 0) ≡ false → 1 ≤ n
-not_zero n e = grind (arith, nat_tests)
-
--- the frame in force is kept, and has components
-record FrameFor (limits : Limits) (segments : List Segment) (held : Option Frame) : Type 0 where
-  pub frame : Frame
-  pub has : held ≡ Some frame
-  pub is : frame_of limits segments ≡ frame
-  pub some : 1 ≤ length frame.components
-
-frame_for : (limits : Limits) (segments : List Segment) (held : Option Frame) → held ≡ frame_after limits segments → Pass (header_rule limits) segments → has_frame segments ≡ true → FrameFor limits segments held
-frame_for limits segments held same pass found =
-    let f = frame_found limits segments pass found in
-    record {
-      frame = f.0;
-      has = same ∙ f.1;
-      is = ap (λ (o : Option Frame). unwrap_or o no_frame) f.1;
-      some = not_zero (length (f.0).components) (neither (length (f.0).components == 0) (nat_lt 4 (length (f.0).components)) (f.2).count).0;
-    }
 
 pub some_for : (limits : Limits) (segments : List Segment) → Pass (header_rule limits) segments → has_frame segments ≡ true → HasSome limits segments
 some_for limits segments pass found =

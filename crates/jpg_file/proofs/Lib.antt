@@ -35,11 +35,8 @@ pub mod RowsGiven
 pub mod RowsRange
 pub mod RowsRead
 pub mod RowsFed
-pub mod RowsKept
 pub mod RowsFedOn
-pub mod RowsBegun
 pub mod RowsAnswered
-pub mod RowsAnswers
 pub mod FaultsFed
 pub mod PictureSteps
 pub mod FirstHeaders
@@ -74,8 +71,5 @@ pub mod StripTold
 pub mod StripTurns
 pub mod StripWorks
 pub mod RowsNone
-pub mod RowsNoneFed
-pub mod FaultsPieces
-pub mod FaultsAnswered
 pub mod RowsEarly
 pub mod RowsEnd

@@ -1,19 +1,16 @@
 -- The machine of a scan before its first unit: which one a header requires, and that it is ready.
-use Rattle.std.proofs.Common.{◌≡◌, ◌+◌, ◌<◌, Bool, true, false, cond, not, ◌==◌, ◌&&◌, refl, ap, ◌∙◌, subst, arith, length}
-use Rattle.std.specs.Prelude.{◌||◌, nat_lt, nat_le}
+use Rattle.std.proofs.Common.{◌≡◌, ◌<◌, Bool, true, false, cond, not, ◌==◌, ◌&&◌, refl, ap, ◌∙◌, subst, arith}
+use Rattle.std.specs.Prelude.{◌||◌, nat_lt}
 use Rattle.std.proofs.lemmas.Bool.Decides.{nat_tests}
 use Rattle.std.proofs.lemmas.List.Elements.{All-weaker}
-use Rattle.jpg_spec.specs.Geometry.{Frame, bounds, is_progressive}
-use Rattle.jpg_spec.specs.History.{needs_dc_table}
+use Rattle.jpg_spec.specs.Geometry.{Frame, is_progressive}
 use Rattle.jpg_spec.specs.Segments.{ScanHead}
-use Rattle.jpg_spec.specs.ScanContents.{are_bits, is_band}
 use Rattle.jpg_spec.specs.declared.frame.ScanPart.{ScanPart}
-use Rattle.jpg_spec.proofs.Common.{both}
 use Rattle.jpg_coefs.specs.Machine.{Interval}
 use Rattle.jpg_huff.specs.declared.set.TableSet.{TableSet}
 use Rattle.jpg_seq.specs.NewReader.{HasTables, IsSeqScan, in_force}
 use Rattle.jpg_seq.proofs.Forced.{valid}
-use Rattle.jpg_prog_read.specs.DcNew.{HasPartTable, IsDcHead, IsFirstHead, IsOfFirst, IsOfRefinement}
+use Rattle.jpg_prog_read.specs.DcNew.{IsOfFirst, IsOfRefinement}
 use Rattle.jpg_prog_read.specs.NewAcReader.{IsOfAcScan}
 use Rattle.jpg_file.specs.Read.Machine.{FitsKind, ScanKind, scan_kind, dc_first, dc_later, ac_band}
 use Rattle.jpg_file.specs.Read.NewScan.{HasNeeded, IsOfHeader, IsScanHeader}
@@ -56,25 +53,6 @@ as_plain f head set h plain = record {
         let d = n.dc (ap (λ b. not b || head.ss == 0 && head.ah == 0) plain) in
         let a = n.ac (ap (λ b. not b || nat_lt 0 head.ss) plain) in
         record { dc = d.table; in_dc = d.there; ac = a.ac; in_ac = a.in_ac }
-
-as_dc : (f : Frame) (head : ScanHead) (set : TableSet) → IsScanHeader f head set → is_progressive f.process ≡ true → IsDcHead f head
-as_dc f head set h progressive =
-    let bits = (both (is_band (length head.parts) head) (are_bits f head) (h.parameters progressive)).1 in
-    let low : nat_le head.al (bounds f).al ≡ true = (both (head.ah == 0 || head.ah == head.al + 1) (nat_le head.al (bounds f).al) bits).1 in
-    record { progressive = progressive; components = h.components; distinct = h.distinct; al = grind (arith, nat_tests, low) }
-
-pub as_first : (f : Frame) (head : ScanHead) (set : TableSet) → IsScanHeader f head set → is_progressive f.process ≡ true → head.ss ≡ 0 → head.ah ≡ 0 → IsFirstHead f head set
-as_first f head set h progressive none zero = record {
-  is_head = as_dc f head set h progressive;
-  first = zero;
-  tables = All-weaker (HasNeeded f head set) (HasPartTable set) (λ p n. n.dc needs) head.parts h.tables;
-}
-  where
-    needs : needs_dc_table f head ≡ true
-    needs =
-        let t : (head.ss == 0) ≡ true = grind (arith, nat_tests, none) in
-        let u : (head.ah == 0) ≡ true = grind (arith, nat_tests, zero) in
-        ap (λ b. not b || head.ss == 0 && head.ah == 0) progressive ∙ ap (λ b. b && head.ah == 0) t ∙ u
 
 -- AN INTERVAL as each machine needs it
 

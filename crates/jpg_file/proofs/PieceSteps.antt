@@ -1,7 +1,7 @@
 -- A file that is being read, piece by piece.
-use Rattle.std.proofs.Common.{◌-◌, Bool, ◌≡◌, ℕ, zero, suc, replicate, ◌+◌, ◌<◌, ◌≤◌, true, List, [], ◌∷◌, ◌++◌, length, take, drop, get_or, refl, false, Some, None, Ok, Err, Result, sym, ap, ◌∙◌, subst, arith, inl, inr}
-use Rattle.std.proofs.lemmas.List.{take-take, append-nil, get_or-take, get_or-drop, length-drop, length-take-le, append_assoc, length-append, length-replicate, take_all, take_more, take-append-drop, take-append-le}
-use Rattle.std.proofs.Math.Seq.{take-append-add}
+use Rattle.std.proofs.Common.{◌≡◌, ℕ, zero, suc, replicate, ◌+◌, ◌<◌, ◌≤◌, true, List, [], ◌∷◌, ◌++◌, length, take, drop, get_or, refl, Some, None, sym, ap, ◌∙◌, subst, arith, inl, inr}
+use Rattle.std.proofs.lemmas.List.{take-take, append-nil, get_or-take, length-take-le, append_assoc, length-append, length-replicate, take_all, take_more, take-append-drop, take-append-le}
+use Rattle.std.proofs.Math.Seq.{take-add}
 use Rattle.std.specs.Prelude.{Option, is_some}
 use Rattle.jpg_spec.specs.Items.{Item, segments_of}
 use Rattle.jpg_spec.specs.FileMeaning.{meaning_of}
@@ -12,13 +12,9 @@ use Rattle.jpg_spec.specs.declared.fault.FaultAt.{FaultAt}
 use Rattle.jpg_spec.specs.declared.frame.Limits.{Limits}
 use Rattle.jpg_spec.specs.declared.fault.Fault.TheVariants.{InputTooLong}
 use Rattle.jpg_spec.proofs.FileLaws.{next_shown, stands_too_long}
-use Rattle.jpg_base.specs.declared.stop.Fed.{Fed}
-use Rattle.jpg_base.specs.declared.stop.Fed.TheVariants as fed
-use Rattle.jpg_base.specs.declared.stop.Stop.{Stop}
-use Rattle.jpg_base.specs.declared.stop.Stop.TheVariants as stop
 use Rattle.jpg_file.specs.Read.File.{AfterFileByte, KeepsBytes, PassesFront, TakesFileByte, TakesSome, EndsFile, IsStop, StandsForFile, limits_of}
 use Rattle.jpg_file.specs.Read.FirstHeader.{IsFirstHeaderOf}
-use Rattle.jpg_file.specs.Read.ReadFile.{AfterFeed, AfterFilePiece, HasRead, IsRefusal, IsStopOf}
+use Rattle.jpg_file.specs.Read.ReadFile.{IsRefusal, IsStopOf, KeepsHeadAt}
 use Rattle.jpg_coefs.specs.Picture.{Picture}
 use Rattle.jpg_file.specs.Read.Going.{FillsScan, GoesOn, has_waiting}
 use Rattle.jpg_file.specs.Read.Reading.{Scanning}
@@ -26,11 +22,10 @@ use Rattle.jpg_file.specs.declared.read.scan.InScan.{InScan}
 use Rattle.jpg_file.specs.declared.read.items.ItemStep.TheVariants as step
 use Rattle.jpg_file.specs.Read.Step.{IfStops}
 use Rattle.jpg_file.specs.declared.read.step.Step.{Step}
-use Rattle.jpg_file.specs.declared.read.step.Step.TheVariants as came
 use Rattle.jpg_file.specs.declared.read.reading.Reading.{Reading}
 use Rattle.jpg_file.specs.declared.read.file.FileWork.{FileWork}
 use Rattle.jpg_file.proofs.Ending.{file_ends}
-use Rattle.jpg_file.proofs.FileSteps.{after_inside, asked, inside_of, head_is, head_left}
+use Rattle.jpg_file.proofs.FileSteps.{after_inside, asked, inside_of, head_is}
 use Rattle.jpg_file.proofs.ItemBytes.{between_stands}
 use Rattle.jpg_file.proofs.ScanBytes.{data_stands, ff_bytes}
 
@@ -72,7 +67,7 @@ stop_longer limits front rest all b f cut stands short (at, shown) more =
     (subst (λ n. IsFirstFault limits (whole ++ (rest ++ more)) f.fault n) (sym at) (next_shown limits front (rest ++ more) b f.fault stands shown short))
 
 -- the first scan header of a prefix remains
-head_kept : (limits : Limits) (bytes piece : List ℕ) (i : ℕ) (old next : FileWork) → StandsForFile limits (bytes ++ take i piece) old → next.head ≡ old.head → IsFirstHeaderOf limits (take (length (bytes ++ take i piece)) (bytes ++ piece)) next.head
+pub head_kept : (limits : Limits) (bytes piece : List ℕ) (i : ℕ) (old next : FileWork) → StandsForFile limits (bytes ++ take i piece) old → next.head ≡ old.head → IsFirstHeaderOf limits (take (length (bytes ++ take i piece)) (bytes ++ piece)) next.head
 head_kept limits bytes piece i old next stands same =
     let front = bytes ++ take i piece in
     let is : take (length front) (bytes ++ piece) ≡ front = ap (take (length front)) (joined bytes piece i) ∙ whole_front front (drop i piece) in
@@ -81,24 +76,9 @@ head_kept limits bytes piece i old next stands same =
 pub front_of : (front rest all : List ℕ) (n : ℕ) → n ≡ length front → all ≡ front ++ rest → take n all ≡ front
 front_of front rest all n long cut = ap (λ m. take m all) long ∙ ap (take (length front)) cut ∙ whole_front front rest
 
-pub piece_stopped : (limits : Limits) (bytes piece : List ℕ) (i : ℕ) (e : Stop) (old w next : FileWork) → i < length piece → StandsForFile limits (bytes ++ take i piece) old → old.reading.taken < limits.input
-    → next.head ≡ old.head → AfterFileByte (Unit {0}) limits ((bytes ++ take i piece) ++ get_or piece i 0 ∷ []) (came.Ended e) w → AfterFilePiece limits bytes piece (Err e) next
-piece_stopped limits bytes piece i (stop.Fault f) old w next less stands short same h =
-    let front = bytes ++ take i piece in
-    let cut = joined bytes piece (i + 1) ∙ ap (λ l. l ++ drop (i + 1) piece) (one_more bytes piece i less) in
-    let few = counted limits front old stands in
-    let at = h.0 in
-    let one = length-append front (get_or piece i 0 ∷ []) in (
-      stop_longer limits front (drop (i + 1) piece) (bytes ++ piece) (get_or piece i 0) f cut (stands_file limits front old stands) (omega (arith, few, short)) h,
-      λ less. omega (arith, at, one, length-append bytes (take i piece)),
-      inr (length front, omega (arith, at, one), head_kept limits bytes piece i old next stands same, subst (λ l. IsStop limits l f) (sym (front_of (front ++ get_or piece i 0 ∷ []) (drop (i + 1) piece) (bytes ++ piece) f.at at cut)) h),
-    )
-piece_stopped limits bytes piece i stop.NoMemory old w next less stands short same h =
-    (length (bytes ++ take i piece), omega (arith, length-append bytes (take i piece)), head_kept limits bytes piece i old next stands same)
-
 -- as many bytes as may be taken
 pub piece_long : (limits : Limits) (bytes piece : List ℕ) (i : ℕ) (w : FileWork) → limits.input ≤ w.reading.taken → StandsForFile limits (bytes ++ take i piece) w
-    → AfterFilePiece limits bytes piece (Err (stop.Fault (record { fault = InputTooLong; at = limits.input }))) w
+    → IsStopOf limits (bytes ++ piece) (record { fault = InputTooLong; at = limits.input }) × KeepsHeadAt limits (bytes ++ piece) (record { fault = InputTooLong; at = limits.input }) w.head
 piece_long limits bytes piece i w many h =
     let front = bytes ++ take i piece in
     let rest = drop i piece in
@@ -111,7 +91,6 @@ piece_long limits bytes piece i w many h =
           let is : take limits.input all ≡ front = ap (λ n. take n all) (sym long) ∙ ap (take (length front)) cut ∙ whole_front front (rest ++ more) in
           let size : limits.input ≤ length all = omega (arith, long, ap length cut, length-append front (rest ++ more)) in
           stands_too_long limits all (subst (λ l. UnfinishedFile limits l) (sym is) (stands_file limits front w h)) size),
-      λ less. less,
       inl (subst (λ n. IsFirstHeaderOf limits (take n (bytes ++ piece)) w.head) long (head_kept limits bytes piece i w w h refl)),
     )
 
@@ -123,16 +102,8 @@ file_means limits bytes w e =
 
 -- SOME BYTES of the rest of a piece
 
-rest_front : (piece : List ℕ) (done early : ℕ) → done ≤ length piece → take (done + early) piece ≡ take done piece ++ take early (drop done piece)
-rest_front piece done early few =
-    let size = length-take-le done piece few in
-    ap (take (done + early)) (sym (take-append-drop done piece)) ∙ ap (λ n. take (n + early) (take done piece ++ drop done piece)) (sym size) ∙ take-append-add (take done piece) (drop done piece) early
-
-pub front_is : (bytes piece : List ℕ) (done early : ℕ) → done ≤ length piece → (bytes ++ take done piece) ++ take early (drop done piece) ≡ bytes ++ take (done + early) piece
-front_is bytes piece done early few = append_assoc bytes (take done piece) (take early (drop done piece)) ∙ ap (λ l. bytes ++ l) (sym (rest_front piece done early few))
-
-pub rest_less : (piece : List ℕ) (done early : ℕ) → done ≤ length piece → early < length (drop done piece) → done + early < length piece
-rest_less piece done early few low = let size = length-drop done piece in omega (arith, few, low, size)
+pub front_is : (bytes piece : List ℕ) (done n : ℕ) → (bytes ++ take done piece) ++ take n (drop done piece) ≡ bytes ++ take (done + n) piece
+front_is bytes piece done n = append_assoc bytes (take done piece) (take n (drop done piece)) ∙ ap (λ l. bytes ++ l) (sym (take-add done n piece))
 
 -- THE PREFIX of some bytes, and the one after it
 

@@ -3,12 +3,11 @@ use Rattle.std.proofs.Common.{◌≡◌, ℕ, zero, suc, ◌+◌, ◌-◌, ◌*�
 use Rattle.std.specs.Prelude.{nat_lt, replicate}
 use Rattle.std.proofs.lemmas.Bool.{cases_lt}
 use Rattle.std.proofs.lemmas.Bool.Decides.{nat_tests}
-use Rattle.std.proofs.lemmas.List.{length-replicate}
 use Rattle.std.proofs.lemmas.List.Elements.{All-get_or}
 use Rattle.std.proofs.lemmas.Nat.{mul-le}
 use Rattle.std.proofs.Math.Nat.{add-mul, div-le_self, le-div_iff_mul-le}
 use Rattle.jpg_spec.specs.Elements.{zeros}
-use Rattle.jpg_spec.specs.Geometry.{Frame, component_at, div_up, h_max, mcu_row_frame, mcu_units, no_component, padded_blocks, scan_mcus_across, units, v_max}
+use Rattle.jpg_spec.specs.Geometry.{Frame, component_at, div_up, h_max, mcu_units, no_component, scan_mcus_across, units, v_max}
 use Rattle.jpg_spec.specs.FrameHeader.{HasFactors, IsFrame}
 use Rattle.jpg_spec.specs.Scan.{Blocks}
 use Rattle.jpg_spec.proofs.Common.{both, lt_of, lt_yes, not_same}
@@ -16,10 +15,10 @@ use Rattle.jpg_base.specs.Cursor.{AreIn, scan_mcus_down}
 use Rattle.jpg_base.proofs.Grids.{across_low, down_high, down_low}
 use Rattle.jpg_base.proofs.ScanPlaces.{few_blocks}
 use Rattle.jpg_base.proofs.UnitCounts.{length_units, some_factors}
-use Rattle.jpg_coefs.specs.Picture.{Picture, is_padded}
+use Rattle.jpg_coefs.specs.Picture.{is_padded}
 use Rattle.jpg_coefs.proofs.Maps.{blank_is}
-use Rattle.jpg_seq.specs.Rows.{IsRowOf, row_units, rows_in_mcu, top_of}
-use Rattle.jpg_file.specs.Read.RowTurns.{IsRowIn, KeepsRowIn, TurnsRow, block_rows_of, unfinished, zero_picture}
+use Rattle.jpg_seq.specs.Rows.{row_units, rows_in_mcu, top_of}
+use Rattle.jpg_file.specs.Read.RowTurns.{IsRowIn, KeepsRowIn, TurnsRow, block_rows_of, unfinished}
 use Rattle.jpg_file.specs.declared.read.rows.RowWork.{RowWork}
 
 -- AT LEAST ONE ROW
@@ -113,14 +112,6 @@ none_unfinished f ids w left k none =
     let sum = k.at.sum in
     let many : w.later * 1 ≤ w.later * w.units = mul-le w.later 1 w.later w.units (omega arith) k.some in
     ap (λ l. w.later + cond (l == 0) 0 1) (let z : w.left ≡ 0 = omega (arith, sum, none) in z) ∙ omega (arith, sum, none, many)
-
--- it is of the picture of zero blocks
-pub first_of : (f : Frame) (tops : List ℕ) (row : Picture) → row.frame ≡ mcu_row_frame f → row.blocks ≡ replicate (padded_blocks (mcu_row_frame f)) (zeros 64) → IsRowOf tops (zero_picture f) row
-first_of f tops row framed blank = record {
-  framed = framed;
-  count = length-replicate (padded_blocks f) (zeros 64);
-  blocks = λ i x y inside. ap (λ (m : Blocks). m i x y) (blank_is row (padded_blocks (mcu_row_frame f)) blank) ∙ sym (ap (λ (m : Blocks). m i x (top_of tops i + y)) (blank_is (zero_picture f) (padded_blocks f) refl));
-}
 
 -- THE NEXT ROW
 

@@ -1,5 +1,5 @@
--- What a reader of MCU rows answers to a piece, if MCU rows are being read, and if they begin in it.
-use Rattle.std.proofs.Common.{◌≡◌, ◌⊎◌, ℕ, ◌+◌, ◌<◌, ◌≤◌, true, false, List, [], ◌∷◌, ◌++◌, length, take, refl, sym, ap, ◌∙◌, subst, arith, inl, inr, Some, None, Ok, Err}
+-- What a reader of MCU rows answers to a piece, whatever it has read before.
+use Rattle.std.proofs.Common.{◌≡◌, ◌⊎◌, ℕ, ◌+◌, ◌-◌, ◌<◌, ◌≤◌, true, false, List, [], ◌∷◌, ◌++◌, length, take, refl, sym, ap, ◌∙◌, subst, arith, inl, inr, Some, None, Ok, Err}
 use Rattle.std.specs.Prelude.{Option, is_some}
 use Rattle.std.proofs.lemmas.List.{length-append}
 use Rattle.jpg_spec.specs.InForce.{frame_of, head_in}
@@ -8,31 +8,41 @@ use Rattle.jpg_spec.specs.RowsTold.{BeginsScanOfAll, CompletesRows, TellsRows}
 use Rattle.jpg_spec.specs.Scan.{Blocks}
 use Rattle.jpg_spec.specs.ScanRows.{first_rows}
 use Rattle.jpg_spec.specs.Segments.{head_components}
+use Rattle.jpg_spec.specs.declared.fault.FaultAt.{FaultAt}
 use Rattle.jpg_spec.specs.declared.frame.Limits.{Limits}
 use Rattle.jpg_spec.specs.declared.frame.Place.{Place}
-use Rattle.jpg_spec.proofs.RowsHeader.{begun_places}
+use Rattle.jpg_spec.proofs.Common.{clash}
+use Rattle.jpg_spec.proofs.RowsHeader.{begun_once, begun_places}
+use Rattle.jpg_base.specs.declared.stop.Stop.{Stop}
 use Rattle.jpg_base.specs.declared.stop.Stop.TheVariants as stop
 use Rattle.jpg_seq.proofs.ScanRows.{units_by_row}
-use Rattle.jpg_file.specs.Read.ReadFile.{KeepsHead, ReaderState}
-use Rattle.jpg_file.specs.Read.ReadRows.{HasBegunRows, HasGivenRow, HasReadRows, IsDoneByRows}
-use Rattle.jpg_file.specs.Read.RowPieces.{CountsFed, HasLastByte, KeepsWork, KnowsRead, ReadsRowPiece, RowsGive, RowsGo, RowsOpen}
+use Rattle.jpg_file.specs.Read.PieceTaken.{ReadsPiece}
+use Rattle.jpg_file.specs.Read.ReadFile.{ReaderState}
+use Rattle.jpg_file.specs.Read.ReadRows.{AfterFeedRow, HasBegunRows, HasGivenRow, HasReadPlainly, HasReadRows, HasReadSoFar, IsDoneByRows, StopsRows, StopsSoFar}
+use Rattle.jpg_file.specs.Read.RowFaults.{BeganAtFault, RowsFault}
+use Rattle.jpg_file.specs.Read.RowPieces.{HasLastByte, RowsGive, RowsGo, RowsOpen, WantsNone}
+use Rattle.jpg_file.specs.Read.RowStops.{RowsAtFault}
 use Rattle.jpg_file.specs.Read.RowTurns.{unfinished}
 use Rattle.jpg_file.specs.Read.RowsKnown.{KnowsRows, RowsKnown, rows_of_scan}
+use Rattle.jpg_file.specs.Read.RowsNone.{NoRowsIn}
 use Rattle.jpg_file.specs.Read.Strips.{AfterStrip, CountsStrip, EndsByRow, RowsAfter, RowsInside, StandsByRow}
 use Rattle.jpg_file.specs.declared.read.file.FileWork.{FileWork}
 use Rattle.jpg_file.specs.declared.read.row_pieces.FedRow.TheVariants as fed
 use Rattle.jpg_file.specs.declared.read.rows.RowWork.{RowWork}
 use Rattle.jpg_file.specs.declared.read.strip_work.StripWork.{StripWork}
 use Rattle.jpg_file.specs.declared.read.step.Step.TheVariants as step
-use Rattle.jpg_file.proofs.PieceSteps.{stands_file}
-use Rattle.jpg_file.proofs.RowPieces.{open_head, strip_whole}
+use Rattle.jpg_file.proofs.FaultsFed.{fault_rows, up_to_fault}
+use Rattle.jpg_file.proofs.FileSteps.{head_is, head_left}
+use Rattle.jpg_file.proofs.PieceSteps.{file_means, stands_file}
+use Rattle.jpg_file.proofs.ReaderFed.{ends_plain, plain_open, with_work}
+use Rattle.jpg_file.proofs.RowPieces.{no_rows_in}
+use Rattle.jpg_file.proofs.StripPieces.{open_head, strip_whole}
 use Rattle.jpg_file.proofs.RowsFed.{row_fed, rows_completed}
 use Rattle.jpg_file.proofs.RowsFedOn.{fed_done_rows, fed_given_row, fed_more_rows}
-use Rattle.jpg_file.proofs.RowsKept.{with_work}
 use Rattle.jpg_file.proofs.RowsRange.{given_in_range}
 
 -- IF MCU ROWS ARE BEING READ: what holds before the piece
-pub record RowsBefore (bytes : List ℕ) (m : ℕ) (r : ReaderState) : Type 0 where
+record RowsBefore (bytes : List ℕ) (m : ℕ) (r : ReaderState) : Type 0 where
   pub going : r.stop ≡ None
   pub undone : r.done ≡ false
   pub begun : HasBegunRows bytes r
@@ -44,8 +54,8 @@ pub record RowsBefore (bytes : List ℕ) (m : ℕ) (r : ReaderState) : Type 0 wh
 open_by : (limits : Limits) (bytes : List ℕ) (o : Option RowWork) (w : FileWork) (rows : RowWork) → o ≡ Some rows → StandsByRow limits bytes w rows → HasLastByte limits bytes → RowsOpen limits bytes o w
 open_by limits bytes o w rows has s last = subst (λ (x : Option RowWork). RowsOpen limits bytes x w) (sym has) (record { stands = s; last = λ some. last })
 
-pub before_read : (bytes : List ℕ) (m : ℕ) (r : ReaderState) → HasReadRows bytes m r → RowsBefore bytes m r
-before_read bytes m r h = record {
+rows_before : (bytes : List ℕ) (m : ℕ) (r : ReaderState) → HasReadRows bytes m r ⊎ HasGivenRow bytes m r → RowsBefore bytes m r
+rows_before bytes m r (inl h) = record {
   going = h.going;
   undone = h.undone;
   begun = h.begun;
@@ -54,9 +64,7 @@ before_read bytes m r h = record {
   told = h.blocks;
   tells = h.completed.0;
 }
-
-pub before_given : (bytes : List ℕ) (m : ℕ) (r : ReaderState) → HasGivenRow bytes m r → RowsBefore bytes m r
-before_given bytes m r h = record {
+rows_before bytes m r (inr h) = record {
   going = h.going;
   undone = h.undone;
   begun = h.begun;
@@ -69,44 +77,8 @@ before_given bytes m r h = record {
 last_within : (limits : Limits) (bytes : List ℕ) → HasLastByte limits bytes → length bytes ≤ limits.input
 last_within limits bytes l = (let short = l.short in let one = length-append l.front (l.byte ∷ []) in omega (arith, ap (λ x. length x) l.cut, one, short))
 
--- More
-pub more_rows : (r : ReaderState) (old new : StripWork) (bytes piece : List ℕ) (m : ℕ) → RowsBefore bytes m (with_work r old) → ReadsRowPiece r.limits old piece (Ok fed.More) new → CountsFed (Ok fed.More) old.rows new.rows → KeepsWork old new
-    → HasReadRows (bytes ++ piece) m (with_work r new)
-more_rows r old new bytes piece m b reads counts kept = by new.rows refl (subst (λ (o : Option RowWork). CountsStrip step.More o new.rows) (b.begun).has counts) a.0
-  where
-    a : RowsGo r.limits (bytes ++ piece) new.rows new.file × (length (bytes ++ piece) < r.limits.input)
-    a = reads bytes b.open
-
-    by : (o : Option RowWork) → new.rows ≡ o → CountsStrip step.More (Some (b.begun).rows) o → RowsGo r.limits (bytes ++ piece) o new.file → HasReadRows (bytes ++ piece) m (with_work r new)
-    by None is c g = absurd c
-    by (Some rows) is c g = fed_more_rows (with_work r old) new bytes piece m rows b.told b.going b.undone b.begun b.count b.tells is (kept.strip (ap is_some (b.begun).has)) c g.goes (g.last refl) a.1
-
--- Done
-pub done_rows : (r : ReaderState) (old new : StripWork) (bytes piece : List ℕ) (m used : ℕ) → RowsBefore bytes m (with_work r old) → ReadsRowPiece r.limits old piece (Ok (fed.Done used)) new → CountsFed (Ok (fed.Done used)) old.rows new.rows → KeepsWork old new
-    → IsDoneByRows (bytes ++ take used piece) m (record (with_work r new) { done = true })
-done_rows r old new bytes piece m used b reads counts kept = by new.rows refl (subst (λ (o : Option RowWork). CountsStrip step.Whole o new.rows) (b.begun).has counts) (reads bytes b.open).0
-  where
-    by : (o : Option RowWork) → new.rows ≡ o → CountsStrip step.Whole (Some (b.begun).rows) o → AfterStrip r.limits (bytes ++ take used piece) step.Whole o new.file → IsDoneByRows (bytes ++ take used piece) m (record (with_work r new) { done = true })
-    by None is c k = absurd c
-    by (Some rows) is c k = fed_done_rows (with_work r old) new bytes (take used piece) m rows b.told b.begun b.count b.tells is (kept.strip (ap is_some (b.begun).has)) c k
-
--- Row
-pub given_rows : (r : ReaderState) (old new : StripWork) (bytes piece : List ℕ) (m used : ℕ) → (b : RowsBefore bytes m (with_work r old)) → ReadsRowPiece r.limits old piece (Ok (fed.Row used)) new → CountsFed (Ok (fed.Row used)) old.rows new.rows → KeepsWork old new
-    → HasGivenRow (bytes ++ take used piece) (m + 1) (with_work r new)
-given_rows r old new bytes piece m used b reads counts kept = by new.rows refl (subst (λ (o : Option RowWork). CountsStrip step.Row o new.rows) (b.begun).has counts) (reads bytes b.open).0
-  where
-    by : (o : Option RowWork) → new.rows ≡ o → CountsStrip step.Row (Some (b.begun).rows) o → RowsGive r.limits (bytes ++ take used piece) o new.file → HasGivenRow (bytes ++ take used piece) (m + 1) (with_work r new)
-    by None is c g = absurd c
-    by (Some rows) is c g =
-        fed_given_row (with_work r old) new bytes (take used piece) m rows b.going b.undone b.begun b.count is (kept.strip (ap is_some (b.begun).has)) c g.row g.last (last_within r.limits (bytes ++ take used piece) g.last) (given_in_range r.limits (bytes ++ take used piece) new.file rows (frame_of r.limits (b.begun).before) g.row)
-
--- IF THERE IS NO MEMORY, none are
-pub wanting_rows : (r : ReaderState) (old new : StripWork) (bytes piece : List ℕ) → RowsOpen r.limits bytes old.rows old.file → ReadsRowPiece r.limits old piece (Err stop.NoMemory) new → new.rows ≡ None
-    → KeepsHead r.limits (length bytes) (bytes ++ piece) new.file.head × (new.rows ≡ None)
-wanting_rows r old new bytes piece h reads wants = (reads bytes h, wants)
-
 -- IF THEY BEGIN in the piece: there is at least one
-pub some_rows : (limits : Limits) (bytes : List ℕ) (before : List Segment) (contents : List ℕ) → BeginsScanOfAll limits bytes before contents → rows_of_scan limits before contents ≡ 0 → ⊥
+some_rows : (limits : Limits) (bytes : List ℕ) (before : List Segment) (contents : List ℕ) → BeginsScanOfAll limits bytes before contents → rows_of_scan limits before contents ≡ 0 → ⊥
 some_rows limits bytes before contents begins none =
     let f = frame_of limits before in
     let ids = head_components (head_in f contents) in
@@ -120,73 +92,236 @@ begun_here r new bytes m rows k has s = record { before = k.before; contents = k
 known_in : (limits : Limits) (bytes : List ℕ) (m : ℕ) (new : StripWork) (rows : RowWork) → new.rows ≡ Some rows → KnowsRows limits bytes m new.rows new.strip → RowsKnown limits bytes m rows new.strip
 known_in limits bytes m new rows has k = (let x = subst (λ (o : Option RowWork). KnowsRows limits bytes m o new.strip) has k in x)
 
-pub more_begun : (r : ReaderState) (old new : StripWork) (bytes piece : List ℕ) (rows : RowWork) → r.stop ≡ None → r.done ≡ false → RowsOpen r.limits bytes old.rows old.file → ReadsRowPiece r.limits old piece (Ok fed.More) new → KnowsRead r.limits old piece (Ok fed.More) new
-    → new.rows ≡ Some rows → HasReadRows (bytes ++ piece) 0 (with_work r new)
-more_begun r old new bytes piece rows going undone h reads knows has = record {
-  going = going;
-  undone = undone;
-  short = a.1;
-  stands = (let v = strip_whole r.limits all (Some rows) new.file g.goes in stands_file r.limits all v.file v.stands);
-  begun = begun_here r new all 0 rows k has g.goes.stands;
-  «open» = g.goes;
-  byte = g.last refl;
-  rows = k.count;
+-- IF NONE WAS BEING READ before the piece
+module _ (r : ReaderState) (old new : StripWork) (bytes piece : List ℕ) (p : HasReadPlainly bytes (with_work r old)) where
+  here : RowsOpen r.limits bytes old.rows old.file
+  here = plain_open r.limits bytes old.rows old.file p.none (p.read).open
+
+  more_begun : (rows : RowWork) → ReadsPiece r.limits old piece (Ok fed.More) new → new.rows ≡ Some rows → HasReadRows (bytes ++ piece) 0 (with_work r new)
+  more_begun rows t has =
+      let all = bytes ++ piece in
+      let a = t.after bytes here in
+      let g = subst (λ (o : Option RowWork). RowsGo r.limits all o new.file) has a.0 in
+      let k = known_in r.limits all 0 new rows has (t.known p.none bytes here) in
+      let complete = completed rows g k in
+      record {
+        going = (p.read).going;
+        undone = (p.read).undone;
+        short = a.1;
+        stands = (let v = strip_whole r.limits all (Some rows) new.file g.goes in stands_file r.limits all v.file v.stands);
+        begun = begun_here r new all 0 rows k has g.goes.stands;
+        «open» = g.goes;
+        byte = g.last refl;
+        rows = k.count;
+        blocks = complete.0;
+        completed = complete.1;
+      }
+    where
+      completed : (rows : RowWork) → RowsGo r.limits (bytes ++ piece) (Some rows) new.file → RowsKnown r.limits (bytes ++ piece) 0 rows new.strip → (blocks : Blocks) × CompletesRows r.limits (bytes ++ piece) 0 blocks
+      completed rows g k = by g.goes.stands.at
+        where
+          by : RowsInside r.limits (bytes ++ piece) new.file rows g.goes.stands.whole ⊎ RowsAfter r.limits (bytes ++ piece) new.file rows g.goes.stands.whole → (blocks : Blocks) × CompletesRows r.limits (bytes ++ piece) 0 blocks
+          by (inl i) = rows_completed r.limits (bytes ++ piece) k.before k.contents new.file rows g.goes.stands.whole 0 k.begins i g.goes.none k.count
+          by (inr d) = absurd (some_rows r.limits (bytes ++ piece) k.before k.contents k.begins (let n = k.count in let z = d.done in omega (arith, n, z)))
+
+  -- the first one is complete
+  given_begun : (used : ℕ) (rows : RowWork) → ReadsPiece r.limits old piece (Ok (fed.Row used)) new → new.rows ≡ Some rows → HasGivenRow (bytes ++ take used piece) 1 (with_work r new)
+  given_begun used rows t has =
+      let all = bytes ++ take used piece in
+      let k = known_in r.limits all 1 new rows has (t.known p.none bytes here) in
+      let g : RowsGive r.limits all (Some rows) new.file = subst (λ (o : Option RowWork). RowsGive r.limits all o new.file) has (t.after bytes here).0 in
+      let w = g.row in
+      let stands : StandsByRow r.limits all new.file rows = record { whole = w.whole; row = w.row; at = inl w.inside } in
+      let n = k.count in
+      let f = row_fed r.limits all k.before k.contents new.file rows 0 k.begins w (omega (arith, n)) in
+      record {
+        going = (p.read).going;
+        undone = (p.read).undone;
+        within = last_within r.limits all g.last;
+        begun = begun_here r new all 1 rows k has stands;
+        «open» = stands;
+        byte = g.last;
+        rows = n;
+        blocks = f.blocks;
+        told = f.told;
+        last = 0;
+        count = refl;
+        framed = f.framed;
+        range = given_in_range r.limits all new.file rows (frame_of r.limits k.before) w;
+        row = f.row;
+      }
+
+  -- and it isn't after all of them if the file is complete
+  none_done : (used : ℕ) (rows : RowWork) → ReadsPiece r.limits old piece (Ok (fed.Done used)) new → new.rows ≡ Some rows → ⊥
+  none_done used rows t has =
+      let all = bytes ++ take used piece in
+      let k = known_in r.limits all 0 new rows has (t.known p.none bytes here) in
+      let e : EndsByRow r.limits all new.file rows = subst (λ (o : Option RowWork). AfterStrip r.limits all step.Whole o new.file) has (t.after bytes here).0 in
+      some_rows r.limits all k.before k.contents k.begins (let n = k.count in let z = e.done in omega (arith, n, z))
+
+-- as the reader is seen after a fault
+abbrev stopped_by : ReaderState → StripWork → FaultAt → ReaderState
+stopped_by r work f = record (with_work r work) { stop = Some (stop.Fault f) }
+
+-- AT A FAULT, if they began in the piece, none were passed
+began_stopped : (r : ReaderState) (new : StripWork) (bytes : List ℕ) (f : FaultAt) (after : RowWork) → new.rows ≡ Some after → BeganAtFault r.limits bytes new.strip new.file → StopsRows bytes 0 (stopped_by r new f)
+began_stopped r new bytes f after has b = record {
+  begun = record {
+    before = (b.known).before;
+    contents = (b.known).contents;
+    begins = (b.known).begins;
+    rows = after;
+    has = has;
+    head = b.head;
+    told = (b.known).told;
+  };
   blocks = complete.0;
   completed = complete.1;
 }
   where
-    all : List ℕ
-    all = bytes ++ piece
+    k : RowsKnown r.limits bytes 0 b.mid new.strip
+    k = b.known
 
-    a : RowsGo r.limits (bytes ++ piece) new.rows new.file × (length (bytes ++ piece) < r.limits.input)
-    a = reads bytes h
-
-    g : RowsGo r.limits (bytes ++ piece) (Some rows) new.file
-    g = subst (λ (o : Option RowWork). RowsGo r.limits (bytes ++ piece) o new.file) has a.0
-
-    k : RowsKnown r.limits (bytes ++ piece) 0 rows new.strip
-    k = known_in r.limits (bytes ++ piece) 0 new rows has (knows bytes h)
-
-    complete : (blocks : Blocks) × CompletesRows r.limits (bytes ++ piece) 0 blocks
-    complete = by g.goes.stands.at
+    complete : (blocks : Blocks) × CompletesRows r.limits bytes 0 blocks
+    complete = by b.rows
       where
-        by : RowsInside r.limits (bytes ++ piece) new.file rows g.goes.stands.whole ⊎ RowsAfter r.limits (bytes ++ piece) new.file rows g.goes.stands.whole → (blocks : Blocks) × CompletesRows r.limits (bytes ++ piece) 0 blocks
-        by (inl i) = rows_completed r.limits (bytes ++ piece) k.before k.contents new.file rows g.goes.stands.whole 0 k.begins i g.goes.none k.count
-        by (inr d) = absurd (some_rows r.limits (bytes ++ piece) k.before k.contents k.begins (let n = k.count in let z = d.done in omega (arith, n, z)))
+        by : RowsAtFault r.limits bytes b.mid → (blocks : Blocks) × CompletesRows r.limits bytes 0 blocks
+        by (inl done) = absurd (some_rows r.limits bytes k.before k.contents k.begins (let n = k.count in omega (arith, n, done)))
+        by (inr (before, contents, c)) =
+            let one = begun_once r.limits bytes k.before before k.contents contents k.begins c.begins in
+            let same : rows_of_scan r.limits k.before k.contents ≡ rows_of_scan r.limits before contents =
+            ap (λ (l : List Segment). rows_of_scan r.limits l k.contents) one.0 ∙ ap (λ (l : List ℕ). rows_of_scan r.limits before l) one.1 in
+            let n = k.count in
+            let is : c.m ≡ 0 = omega (arith, c.count, n, same) in
+            (c.blocks, subst (λ n. CompletesRows r.limits bytes n c.blocks) is c.completed)
 
--- and it isn't after all of them if the file is complete
-pub none_done : (r : ReaderState) (old new : StripWork) (bytes piece : List ℕ) (used : ℕ) (rows : RowWork) → RowsOpen r.limits bytes old.rows old.file → ReadsRowPiece r.limits old piece (Ok (fed.Done used)) new → KnowsRead r.limits old piece (Ok (fed.Done used)) new → new.rows ≡ Some rows → ⊥
-none_done r old new bytes piece used rows h reads knows has =
-    let all = bytes ++ take used piece in
-    let k = known_in r.limits all 0 new rows has (knows bytes h) in
-    let e : EndsByRow r.limits all new.file rows = subst (λ (o : Option RowWork). AfterStrip r.limits all step.Whole o new.file) has (reads bytes h).0 in
-    some_rows r.limits all k.before k.contents k.begins (let n = k.count in let z = e.done in omega (arith, n, z))
+-- THE ANSWERS
+module _ (r : ReaderState) (old new : StripWork) (bytes piece : List ℕ) (m : ℕ) where
+  -- More
+  pub more_answered : old.by_row ≡ true → ReadsPiece r.limits old piece (Ok fed.More) new → HasReadSoFar bytes m (with_work r old) → AfterFeedRow bytes m piece (Ok fed.More) (with_work r new)
+  more_answered row t (inr h) = inr (by new.rows refl (subst (λ (o : Option RowWork). CountsStrip step.More o new.rows) (b.begun).has t.rows) a.0)
+    where
+      b : RowsBefore bytes m (with_work r old)
+      b = rows_before bytes m (with_work r old) h
 
--- the first one is complete
-pub given_begun : (r : ReaderState) (old new : StripWork) (bytes piece : List ℕ) (used : ℕ) (rows : RowWork) → r.stop ≡ None → r.done ≡ false → RowsOpen r.limits bytes old.rows old.file → ReadsRowPiece r.limits old piece (Ok (fed.Row used)) new
-    → (knows : KnowsRead r.limits old piece (Ok (fed.Row used)) new) → (has : new.rows ≡ Some rows)
-    → HasGivenRow (bytes ++ take used piece) 1 (with_work r new)
-given_begun r old new bytes piece used rows going undone h reads knows has =
-    let all = bytes ++ take used piece in
-    let k = known_in r.limits all 1 new rows has (knows bytes h) in
-    let g : RowsGive r.limits all (Some rows) new.file = subst (λ (o : Option RowWork). RowsGive r.limits all o new.file) has (reads bytes h).0 in
-    let w = g.row in
-    let stands : StandsByRow r.limits all new.file rows = record { whole = w.whole; row = w.row; at = inl w.inside } in
-    let n = k.count in
-    let f = row_fed r.limits all k.before k.contents new.file rows 0 k.begins w (omega (arith, n)) in
-    record {
-      going = going;
-      undone = undone;
-      within = last_within r.limits all g.last;
-      begun = begun_here r new all 1 rows k has stands;
-      «open» = stands;
-      byte = g.last;
-      rows = n;
-      blocks = f.blocks;
-      told = f.told;
-      last = 0;
-      count = refl;
-      framed = f.framed;
-      range = given_in_range r.limits all new.file rows (frame_of r.limits k.before) w;
-      row = f.row;
-    }
+      a : RowsGo r.limits (bytes ++ piece) new.rows new.file × (length (bytes ++ piece) < r.limits.input)
+      a = t.after bytes b.open
+
+      by : (o : Option RowWork) → new.rows ≡ o → CountsStrip step.More (Some (b.begun).rows) o → RowsGo r.limits (bytes ++ piece) o new.file → HasReadRows (bytes ++ piece) m (with_work r new)
+      by None is c g = absurd c
+      by (Some rows) is c g = fed_more_rows (with_work r old) new bytes piece m rows b.told b.going b.undone b.begun b.count b.tells is (t.keeps.strip (ap is_some (b.begun).has)) c g.goes (g.last refl) a.1
+  more_answered row t (inl (p, z)) = by new.rows refl
+    where
+      by : (o : Option RowWork) → new.rows ≡ o → AfterFeedRow bytes m piece (Ok fed.More) (with_work r new)
+      by None is =
+          let opened = here r old new bytes piece p in
+          let a = t.after bytes opened in
+          let g = subst (λ (o : Option RowWork). RowsGo r.limits (bytes ++ piece) o new.file) is a.0 in
+          let all = bytes ++ piece in
+          inl (
+            record {
+              none = is;
+              plain = no_rows_in r.limits all new.rows (t.none p.none row bytes opened p.plain) is;
+              read = record { going = (p.read).going; undone = (p.read).undone; short = a.1; stands = stands_file r.limits all new.file g.goes; «open» = g.goes; head = head_is r.limits all new.file g.goes };
+            },
+            z,
+          )
+      by (Some rows) is = inr (subst (λ (n : ℕ). HasReadRows (bytes ++ piece) n (with_work r new)) (sym z) (more_begun r old new bytes piece p rows t is))
+
+  -- Done
+  pub done_answered : (used : ℕ) → old.by_row ≡ true → ReadsPiece r.limits old piece (Ok (fed.Done used)) new → HasReadSoFar bytes m (with_work r old)
+      → AfterFeedRow bytes m piece (Ok (fed.Done used)) (record (with_work r new) { done = true })
+  done_answered used row t (inr h) = (inr (by new.rows refl (subst (λ (o : Option RowWork). CountsStrip step.Whole o new.rows) (b.begun).has t.rows) (t.after bytes b.open).0), (t.after bytes b.open).1, (t.after bytes b.open).2)
+    where
+      b : RowsBefore bytes m (with_work r old)
+      b = rows_before bytes m (with_work r old) h
+
+      by : (o : Option RowWork) → new.rows ≡ o → CountsStrip step.Whole (Some (b.begun).rows) o → AfterStrip r.limits (bytes ++ take used piece) step.Whole o new.file → IsDoneByRows (bytes ++ take used piece) m (record (with_work r new) { done = true })
+      by None is c k = absurd c
+      by (Some rows) is c k = fed_done_rows (with_work r old) new bytes (take used piece) m rows b.told b.begun b.count b.tells is (t.keeps.strip (ap is_some (b.begun).has)) c k
+  done_answered used row t (inl (p, z)) = by new.rows refl
+    where
+      by : (o : Option RowWork) → new.rows ≡ o → AfterFeedRow bytes m piece (Ok (fed.Done used)) (record (with_work r new) { done = true })
+      by None is =
+          let opened = here r old new bytes piece p in
+          let a = t.after bytes opened in
+          let all = bytes ++ take used piece in
+          let e = ends_plain r.limits all new.rows new.file is a.0 in
+          let plain = no_rows_in r.limits all new.rows (t.none p.none row bytes opened p.plain) is in
+          (inl (record { none = is; plain = plain; done = record { done = refl; meaning = _; whole = file_means r.limits all new.file e; ended = e; head = head_left r.limits all new.file e } }), a.1, a.2)
+      by (Some rows) is = absurd (none_done r old new bytes piece p used rows t is)
+
+  -- Row
+  pub row_answered : (used : ℕ) → ReadsPiece r.limits old piece (Ok (fed.Row used)) new → HasReadSoFar bytes m (with_work r old) → AfterFeedRow bytes m piece (Ok (fed.Row used)) (with_work r new)
+  row_answered used t (inr h) = (by new.rows refl (subst (λ (o : Option RowWork). CountsStrip step.Row o new.rows) (b.begun).has t.rows) (t.after bytes b.open).0, (t.after bytes b.open).1)
+    where
+      b : RowsBefore bytes m (with_work r old)
+      b = rows_before bytes m (with_work r old) h
+
+      by : (o : Option RowWork) → new.rows ≡ o → CountsStrip step.Row (Some (b.begun).rows) o → RowsGive r.limits (bytes ++ take used piece) o new.file → HasGivenRow (bytes ++ take used piece) (m + 1) (with_work r new)
+      by None is c g = absurd c
+      by (Some rows) is c g =
+          let all = bytes ++ take used piece in
+          fed_given_row (with_work r old) new bytes (take used piece) m rows b.going b.undone b.begun b.count is (t.keeps.strip (ap is_some (b.begun).has)) c g.row g.last (last_within r.limits all g.last) (given_in_range r.limits all new.file rows (frame_of r.limits (b.begun).before) g.row)
+  row_answered used t (inl (p, z)) = by new.rows refl
+    where
+      by : (o : Option RowWork) → new.rows ≡ o → AfterFeedRow bytes m piece (Ok (fed.Row used)) (with_work r new)
+      by None is = absurd (let g = subst (λ (o : Option RowWork). RowsGive r.limits (bytes ++ take used piece) o new.file) is (t.after bytes (here r old new bytes piece p)).0 in g.row)
+      by (Some rows) is =
+          let one : 1 ≡ m + 1 = ap (λ n. n + 1) (sym z) in (
+            subst (λ (n : ℕ). HasGivenRow (bytes ++ take used piece) n (with_work r new)) one (given_begun r old new bytes piece p used rows t is),
+            (t.after bytes (here r old new bytes piece p)).1,
+          )
+
+  -- AT A FAULT, if MCU rows were being read before the piece
+  rows_stopped : (n : ℕ) (f : FaultAt) → f.at ≡ length bytes + n → RowsBefore bytes m (with_work r old) → ReadsPiece r.limits old piece (Err (stop.Fault f)) new
+      → StopsRows (take f.at (bytes ++ piece)) m (stopped_by r new f)
+  rows_stopped n f there b t = by new.rows refl (t.keeps.some some)
+    where
+      is : take f.at (bytes ++ piece) ≡ bytes ++ take n piece
+      is = up_to_fault bytes piece n f.at there
+
+      some : is_some old.rows ≡ true
+      some = ap is_some (b.begun).has
+
+      k : RowsFault r.limits bytes (bytes ++ take n piece) (Some (b.begun).rows) new new.rows
+      k = subst (λ (o : Option RowWork). RowsFault r.limits bytes (bytes ++ take n piece) o new new.rows) (b.begun).has (subst (λ (x : List ℕ). RowsFault r.limits bytes x old.rows new new.rows) is (t.faults bytes b.open))
+
+      by : (o : Option RowWork) → new.rows ≡ o → is_some o ≡ true → StopsRows (take f.at (bytes ++ piece)) m (stopped_by r new f)
+      by None none some = absurd cc
+      by (Some after) has after_some =
+          subst (λ (x : List ℕ). StopsRows x m (stopped_by r new f)) (sym is)
+          (fault_rows (with_work r old) (stopped_by r new f) bytes (take n piece) m (b.begun).rows after b.told b.begun b.count b.tells k.0 refl has (t.keeps.strip some) (k.1 (b.begun).before (b.begun).contents (b.begun).begins))
+
+  fault_answered : (f : FaultAt) → old.by_row ≡ true → ReadsPiece r.limits old piece (Err (stop.Fault f)) new → HasReadSoFar bytes m (with_work r old)
+      → AfterFeedRow bytes m piece (Err (stop.Fault f)) (stopped_by r new f)
+  fault_answered f row t (inr h) =
+      let b = rows_before bytes m (with_work r old) h in
+      let a = t.after bytes b.open in
+      let late = a.1 in
+      (a.0, a.1, a.2, inr (rows_stopped (f.at - length bytes) f (omega (arith, late)) b t))
+  fault_answered f row t (inl (p, z)) = (let a = t.after bytes opened in (a.0, a.1, a.2, began new.rows refl))
+    where
+      opened : RowsOpen r.limits bytes old.rows old.file
+      opened = here r old new bytes piece p
+
+      all : List ℕ
+      all = take f.at (bytes ++ piece)
+
+      k : RowsFault r.limits bytes all None new new.rows
+      k = subst (λ (o : Option RowWork). RowsFault r.limits bytes all o new new.rows) p.none (t.faults bytes opened)
+
+      began : (o : Option RowWork) → new.rows ≡ o → StopsSoFar all m (stopped_by r new f)
+      began None none = inl (none, subst (λ (o : Option RowWork). NoRowsIn r.limits all o) none (t.none p.none row bytes opened p.plain), z)
+      began (Some after) has =
+          let b : BeganAtFault r.limits all new.strip new.file = subst (λ (o : Option RowWork). RowsFault r.limits bytes all None new o) has k in
+          inr (subst (λ (n : ℕ). StopsRows all n (stopped_by r new f)) (sym z) (began_stopped r new all f after has b))
+
+  -- and of any stop
+  pub stop_answered : (e : Stop) → old.by_row ≡ true → WantsNone (Err e) new.rows → ReadsPiece r.limits old piece (Err e) new → HasReadSoFar bytes m (with_work r old)
+      → AfterFeedRow bytes m piece (Err e) (record (with_work r new) { stop = Some e })
+  stop_answered (stop.Fault f) row wants t s = fault_answered f row t s
+  stop_answered stop.NoMemory row wants t (inl (p, z)) = (t.after bytes (here r old new bytes piece p), wants, p.plain)
+  stop_answered stop.NoMemory row wants t (inr h) =
+      let b = rows_before bytes m (with_work r old) h in
+      absurd (clash (is_some new.rows) (t.keeps.some (ap is_some (b.begun).has)) (ap is_some wants))

@@ -1,18 +1,14 @@
 -- What a reader of MCU rows answers where its bytes end.
-use Rattle.std.proofs.Common.{◌≡◌, ℕ, Bool, true, false, List, refl, subst, inl, inr, ◌⊎◌, Option, None}
+use Rattle.std.proofs.Common.{◌≡◌, ℕ, Bool, true, false, List, refl, inl, inr, ◌⊎◌, None}
 use Rattle.jpg_spec.specs.FrameHeader.{AreLimits}
-use Rattle.jpg_spec.specs.declared.frame.Limits.{Limits}
 use Rattle.jpg_spec.proofs.Common.{clash}
 use Rattle.jpg_file.specs.Read.ScanHistory.{IsComplete}
-use Rattle.jpg_file.specs.Read.File.{StandsForFile, with_picture}
+use Rattle.jpg_file.specs.Read.File.{with_picture}
 use Rattle.jpg_file.specs.Read.ReadFile.{TellsBegun, ReaderState}
 use Rattle.jpg_file.specs.Read.ReadRows.{HasReadAll, IsEarlyByRows, IsEarlyPlainly, IsReading}
-use Rattle.jpg_file.specs.Read.Strips.{StripStands}
-use Rattle.jpg_file.specs.declared.read.file.FileWork.{FileWork}
-use Rattle.jpg_file.specs.declared.read.rows.RowWork.{RowWork}
 use Rattle.jpg_file.proofs.Leaving.{early_leaves, ends_early, tells_begun}
 use Rattle.jpg_file.proofs.RowsEarly.{rows_early}
-use Rattle.jpg_file.proofs.RowsKept.{plain_stands}
+use Rattle.jpg_file.proofs.ReaderFed.{plain_stands}
 use Rattle.jpg_file.proofs.StripPieces.{goes_with}
 
 -- whether each component has begun

@@ -28,9 +28,9 @@ use Rattle.jpg_file.specs.declared.read.rows.RowWork.{RowWork}
 use Rattle.jpg_file.specs.declared.read.strip_work.StripWork.{StripWork}
 use Rattle.jpg_file.proofs.FileSteps.{head_left}
 use Rattle.jpg_file.proofs.PieceSteps.{file_means, stands_file}
-use Rattle.jpg_file.proofs.RowPieces.{open_head, strip_whole}
+use Rattle.jpg_file.proofs.StripPieces.{open_head, strip_whole}
 use Rattle.jpg_file.proofs.RowsFed.{begun_on, row_fed, rows_completed}
-use Rattle.jpg_file.proofs.RowsKept.{with_work}
+use Rattle.jpg_file.proofs.ReaderFed.{with_work}
 
 -- the scan remains begun
 abbrev begun_with : (r : ReaderState) (new : StripWork) (bytes more : List ℕ) (rows : RowWork) → (b : HasBegunRows bytes r) → new.rows ≡ Some rows → new.strip ≡ r.strip → IsFirstHeaderOf r.limits (bytes ++ more) new.file.head → HasBegunRows (bytes ++ more) (with_work r new)

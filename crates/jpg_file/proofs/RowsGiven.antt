@@ -26,6 +26,7 @@ use Rattle.jpg_coefs.specs.Picture.{Picture, is_padded, map_of}
 use Rattle.jpg_seq.specs.Rows.{IsRowOf, rows_in_mcu, top_of}
 use Rattle.jpg_file.specs.Read.RowData.{InRowData}
 use Rattle.jpg_file.specs.Read.RowPlaces.{IsRowAt, scan_left}
+use Rattle.jpg_file.specs.Read.RowStops.{CompletesBefore}
 use Rattle.jpg_file.specs.Read.RowTurns.{unfinished}
 use Rattle.jpg_file.specs.Read.ReadRows.{AreOfRow}
 use Rattle.jpg_file.specs.Read.Strips.{IsFirstScan, RowsInside, components_of, frame_behind}
@@ -33,11 +34,11 @@ use Rattle.jpg_file.specs.declared.read.file.FileWork.{FileWork}
 use Rattle.jpg_file.specs.declared.read.rows.RowWork.{RowWork}
 use Rattle.jpg_file.specs.declared.read.scan.InScan.{InScan}
 use Rattle.jpg_file.proofs.RowsTold.{told_first}
-use Rattle.jpg_file.proofs.RowsPlaced.{CompletesDue, PlaceTells, begins_at, data_stops, data_tells, half_tells, rows_cut, scan_of_all, stops_complete}
+use Rattle.jpg_file.proofs.RowsPlaced.{PlaceTells, begins_at, data_stops, data_tells, half_tells, rows_cut, scan_of_all, stops_complete}
 
 -- INSIDE THE SCAN, where no bits wait: the MCU rows before the current one are complete, and this one if no unit of it
 -- is left
-pub inside_completes : (limits : Limits) (bytes : List ℕ) (w : FileWork) (rows : RowWork) (whole : Picture) → (r : RowsInside limits bytes w rows whole) → rows.waiting ≡ [] → CompletesDue limits bytes r.items r.contents rows
+pub inside_completes : (limits : Limits) (bytes : List ℕ) (w : FileWork) (rows : RowWork) (whole : Picture) → (r : RowsInside limits bytes w rows whole) → rows.waiting ≡ [] → CompletesBefore limits bytes (segments_of r.items) r.contents rows
 inside_completes limits bytes w rows whole r none =
     let d = subst (λ (l : List Bool). InRowData limits r.items r.contents bytes l r.scan whole) none r.coded in
     let first = (r.held).of in

@@ -1,6 +1,6 @@
 -- No scan of all components begins in the bytes, if no MCU row is being read after them.
-use Rattle.std.proofs.Common.{◌≡◌, ◌⊎◌, ℕ, ◌+◌, ◌<◌, ◌≤◌, Bool, true, false, List, [], ◌∷◌, ◌++◌, length, take, drop, get_or, refl, sym, ap, ◌∙◌, subst, arith, inl, inr, Option, Some, None, Ok, Err}
-use Rattle.std.specs.Prelude.{Result, is_some, unwrap_or}
+use Rattle.std.proofs.Common.{◌≡◌, ◌⊎◌, ℕ, ◌+◌, ◌<◌, ◌≤◌, true, false, List, [], ◌∷◌, ◌++◌, length, take, drop, get_or, refl, sym, ap, ◌∙◌, subst, arith, inl, inr, Option, Some, None, Ok, Err}
+use Rattle.std.specs.Prelude.{is_some, unwrap_or}
 use Rattle.std.proofs.lemmas.Bool.{cases_lt}
 use Rattle.std.proofs.lemmas.List.{append_assoc, append-nil, length-append, length-map, length-take-le, take_all, take-append-drop, take-append-le}
 use Rattle.jpg_spec.specs.FirstFault.{Reveals}
@@ -102,7 +102,7 @@ none_at_fault limits front byte fault shown none before contents b = by (cases_l
 pub none_unheld : (limits : Limits) (bytes : List ℕ) (w : FileWork) → HeadStands limits bytes w → w.reading.items.held.frame ≡ None → ⊥
 none_unheld limits bytes w h none =
     let allowed = subst (λ n. code_fault (segments_of h.items) n ≡ None) h.code (h.at).allowed in
-    let held = frame_held limits bytes h.items h.blocks w.reading.items.held.frame ((h.at).at).leads ((h.at).holds).frame (framed (segments_of h.items) allowed) in
+    let held = frame_held limits h.items h.blocks w.reading.items.held.frame ((h.at).at).leads ((h.at).holds).frame (framed (segments_of h.items) allowed) in
     clash (is_some w.reading.items.held.frame) (ap is_some held.has) (ap is_some none)
 
 -- it is of another scan

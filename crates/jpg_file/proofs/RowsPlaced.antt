@@ -17,7 +17,7 @@ use Rattle.jpg_spec.specs.Scan.{Blocks, Scan, band, block_at, unit_at}
 use Rattle.jpg_spec.specs.ScanReading.{ScanAt, ScanPlace, scan_at, with_byte}
 use Rattle.jpg_spec.specs.ScanRows.{first_rows}
 use Rattle.jpg_spec.specs.PictureInWork.{ScanSoFar}
-use Rattle.jpg_spec.specs.RowsTold.{BeginsScanOfAll, CompletesRows, IsScanOfAll}
+use Rattle.jpg_spec.specs.RowsTold.{BeginsScanOfAll, IsScanOfAll}
 use Rattle.jpg_spec.specs.RowLaws.{HasNoMoreData, StopsInRows, TellsNoMore}
 use Rattle.jpg_spec.specs.declared.frame.Limits.{Limits}
 use Rattle.jpg_spec.specs.declared.frame.Place.{Place}
@@ -46,6 +46,7 @@ use Rattle.jpg_file.specs.Read.InData.{AtWork, InData, IsInterval, IsReadable, f
 use Rattle.jpg_file.specs.Read.Machine.{any_scan}
 use Rattle.jpg_file.specs.Read.RowData.{HalfData}
 use Rattle.jpg_file.specs.Read.RowPlaces.{IsRowAt, scan_left}
+use Rattle.jpg_file.specs.Read.RowStops.{CompletesBefore}
 use Rattle.jpg_file.specs.Read.RowTurns.{unfinished}
 use Rattle.jpg_file.specs.Read.Strips.{IsFirstScan, components_of, frame_behind}
 use Rattle.jpg_file.specs.declared.read.machine.ScanReader.{ScanReader}
@@ -315,17 +316,10 @@ begins_at limits bytes tail p at all = record {
 }
 
 -- WHAT IS COMPLETE
-pub record CompletesDue (limits : Limits) (bytes : List ℕ) (items : List Item) (contents : List ℕ) (rows : RowWork) : Type 0 where
-  pub begins : BeginsScanOfAll limits bytes (segments_of items) contents
-  pub m : ℕ
-  pub count : m + unfinished rows ≡ scan_mcus_down (frame_behind limits items) (components_of limits items contents)
-  pub blocks : Blocks
-  pub completed : CompletesRows limits bytes m blocks
-
 pub stops_complete : (limits : Limits) (items : List Item) (contents bytes : List ℕ) (whole : Picture) (rows : RowWork) (left : ℕ) → PlaceStops limits items contents bytes whole left
-    → IsRowAt (frame_behind limits items) (components_of limits items contents) rows left → CompletesDue limits bytes items contents rows
+    → IsRowAt (frame_behind limits items) (components_of limits items contents) rows left → CompletesBefore limits bytes (segments_of items) contents rows
 stops_complete limits items contents bytes whole rows left z at =
-    subst (λ (l : List Item). CompletesDue limits bytes l contents rows) (t.of).0 (subst (λ (c : List ℕ). CompletesDue limits bytes (t.place).items c rows) (t.of).1 done)
+    subst (λ (l : List Item). CompletesBefore limits bytes (segments_of l) contents rows) (t.of).0 (subst (λ (c : List ℕ). CompletesBefore limits bytes (segments_of (t.place).items) c rows) (t.of).1 done)
   where
     t : PlaceTells limits items contents bytes whole left
     t = z.tells
@@ -341,7 +335,7 @@ stops_complete limits items contents bytes whole rows left z at =
     begins : BeginsScanOfAll limits bytes (segments_of (z.tells.place).items) (z.tells.place).contents
     begins = begins_at limits bytes z.tells.tail z.tells.place z.tells.at z.tells.of_all
 
-    done : CompletesDue limits bytes (z.tells.place).items (z.tells.place).contents rows
+    done : CompletesBefore limits bytes (segments_of (z.tells.place).items) (z.tells.place).contents rows
     done =
         let p = z.tells.place in
         let told = z.tells.told in

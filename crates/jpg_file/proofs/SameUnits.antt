@@ -35,17 +35,22 @@ units_are f [] = refl
 units_are f (i ∷ []) = refl
 units_are f (i ∷ j ∷ parts) = refl
 
-abbrev grid_units : Grids → List ℕ → List Place
-grid_units G parts = units_by (record { width = G.width; height = G.height; most_across = greatest G.across; most_down = greatest G.down }) (λ i. get_or G.across i 1) (λ i. get_or G.down i 1) parts
+abbrev by_grid : {A : Type 0} → (Sides → (ℕ → ℕ) → (ℕ → ℕ) → A) → Grids → A
+by_grid {A} F G = F (record { width = G.width; height = G.height; most_across = greatest G.across; most_down = greatest G.down }) (λ i. get_or G.across i 1) (λ i. get_or G.down i 1)
 
-by_grids : (f : Frame) (parts : List ℕ) → units f parts ≡ grid_units (frame_grids f) parts
-by_grids f parts =
+-- what is by these alone is the same
+by_grids : {A : Type 0} (F : Sides → (ℕ → ℕ) → (ℕ → ℕ) → A) (f : Frame) → F (sides_of f) (λ i. (component_at f i).h) (λ i. (component_at f i).v) ≡ by_grid F (frame_grids f)
+by_grids F f =
     let across : (λ i. (component_at f i).h) ≡ (λ i. get_or (map (λ c. c.h) f.components) i 1) = fun_ext (factor_across f) in
     let down : (λ i. (component_at f i).v) ≡ (λ i. get_or (map (λ c. c.v) f.components) i 1) = fun_ext (factor_down f) in
-    units_are f parts ∙ ap (λ hs. units_by (sides_of f) hs (λ i. (component_at f i).v) parts) across ∙ ap (λ vs. units_by (sides_of f) (λ i. get_or (map (λ c. c.h) f.components) i 1) vs parts) down
+    ap (λ hs. F (sides_of f) hs (λ i. (component_at f i).v)) across ∙ ap (λ vs. F (sides_of f) (λ i. get_or (map (λ c. c.h) f.components) i 1) vs) down
+
+same_by : {A : Type 0} (F : Sides → (ℕ → ℕ) → (ℕ → ℕ) → A) (f g : Frame) → frame_grids f ≡ frame_grids g
+    → F (sides_of f) (λ i. (component_at f i).h) (λ i. (component_at f i).v) ≡ F (sides_of g) (λ i. (component_at g i).h) (λ i. (component_at g i).v)
+same_by F f g e = by_grids F f ∙ ap (λ G. by_grid F G) e ∙ sym (by_grids F g)
 
 pub same_units : (f g : Frame) (parts : List ℕ) → frame_grids f ≡ frame_grids g → units f parts ≡ units g parts
-same_units f g parts e = by_grids f parts ∙ ap (λ G. grid_units G parts) e ∙ sym (by_grids g parts)
+same_units f g parts e = units_are f parts ∙ same_by (λ s hs vs. units_by s hs vs parts) f g e ∙ sym (units_are g parts)
 
 pub same_count : (f g : Frame) → frame_grids f ≡ frame_grids g → length f.components ≡ length g.components
 same_count f g e = sym (length-map f.components (λ c. c.h)) ∙ ap (λ (G : Grids). length G.across) e ∙ length-map g.components (λ c. c.h)
@@ -62,16 +67,8 @@ mcus_are f [] = refl
 mcus_are f (i ∷ []) = refl
 mcus_are f (i ∷ j ∷ parts) = refl
 
-abbrev grid_mcus : Grids → List ℕ → ℕ
-grid_mcus G parts = mcus_by (record { width = G.width; height = G.height; most_across = greatest G.across; most_down = greatest G.down }) (λ i. get_or G.across i 1) parts
-
-mcus_by_grids : (f : Frame) (parts : List ℕ) → scan_mcus_across f parts ≡ grid_mcus (frame_grids f) parts
-mcus_by_grids f parts =
-    let across : (λ i. (component_at f i).h) ≡ (λ i. get_or (map (λ c. c.h) f.components) i 1) = fun_ext (factor_across f) in
-    mcus_are f parts ∙ ap (λ hs. mcus_by (sides_of f) hs parts) across
-
 pub same_mcus : (f g : Frame) (parts : List ℕ) → frame_grids f ≡ frame_grids g → scan_mcus_across f parts ≡ scan_mcus_across g parts
-same_mcus f g parts e = mcus_by_grids f parts ∙ ap (λ G. grid_mcus G parts) e ∙ sym (mcus_by_grids g parts)
+same_mcus f g parts e = mcus_are f parts ∙ same_by (λ s hs vs. mcus_by s hs parts) f g e ∙ sym (mcus_are g parts)
 
 abbrev sizes_by : (ℕ → ℕ) → (ℕ → ℕ) → List ℕ → ℕ
 sizes_by hs vs [] = 0
@@ -83,14 +80,5 @@ sizes_are f [] = refl
 sizes_are f (i ∷ []) = refl
 sizes_are f (i ∷ j ∷ parts) = refl
 
-abbrev grid_sizes : Grids → List ℕ → ℕ
-grid_sizes G parts = sizes_by (λ i. get_or G.across i 1) (λ i. get_or G.down i 1) parts
-
-sizes_by_grids : (f : Frame) (parts : List ℕ) → mcu_units f parts ≡ grid_sizes (frame_grids f) parts
-sizes_by_grids f parts =
-    let across : (λ i. (component_at f i).h) ≡ (λ i. get_or (map (λ c. c.h) f.components) i 1) = fun_ext (factor_across f) in
-    let down : (λ i. (component_at f i).v) ≡ (λ i. get_or (map (λ c. c.v) f.components) i 1) = fun_ext (factor_down f) in
-    sizes_are f parts ∙ ap (λ hs. sizes_by hs (λ i. (component_at f i).v) parts) across ∙ ap (λ vs. sizes_by (λ i. get_or (map (λ c. c.h) f.components) i 1) vs parts) down
-
 pub same_sizes : (f g : Frame) (parts : List ℕ) → frame_grids f ≡ frame_grids g → mcu_units f parts ≡ mcu_units g parts
-same_sizes f g parts e = sizes_by_grids f parts ∙ ap (λ G. grid_sizes G parts) e ∙ sym (sizes_by_grids g parts)
+same_sizes f g parts e = sizes_are f parts ∙ same_by (λ s hs vs. sizes_by hs vs parts) f g e ∙ sym (sizes_are g parts)

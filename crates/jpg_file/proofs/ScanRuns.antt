@@ -1,7 +1,6 @@
 -- Plain bytes one after another, inside the data of a scan.
-use Rattle.std.proofs.Common.{◌≡◌, ℕ, zero, suc, ◌<◌, ◌≤◌, Bool, true, false, List, [], ◌∷◌, ◌++◌, length, take, get_or, refl, sym, ap, ◌∙◌, subst, arith}
-use Rattle.std.specs.Prelude.{replicate, Option, Some, None, ◌==◌}
-use Rattle.memchr.specs.Find.{IsFirstByte, Passes, is_byte}
+use Rattle.std.proofs.Common.{◌≡◌, ℕ, zero, suc, ◌≤◌, Bool, true, false, List, [], ◌∷◌, ◌++◌, length, take, get_or, refl, sym, ◌∙◌, subst, arith}
+use Rattle.std.specs.Prelude.{replicate}
 use Rattle.std.proofs.lemmas.List.{append_assoc, append-nil, length-take-le, get_or-take}
 use Rattle.jpg_spec.specs.Bits.{bits_of, bits_of_bytes}
 use Rattle.jpg_spec.specs.Items.{Item}
@@ -36,25 +35,6 @@ pub front_plain : (run : List ℕ) (n : ℕ) → n ≤ length run → ArePlain r
 front_plain run n few plain k low e =
     let size = length-take-le n run few in
     plain k (omega (arith, low, size, few)) (sym (get_or-take n run k 0 (omega (arith, low, size))) ∙ e)
-
--- before the first FF, and where there is none
-ff_passes : (bytes : List ℕ) (k : ℕ) → get_or bytes k 0 ≡ 255 → Passes (is_byte 255) bytes k
-ff_passes bytes k e = ap (λ b. b == 255) e
-
-pub plain_before : (bytes : List ℕ) (most n : ℕ) (found : Option ℕ) → IsFirstByte (is_byte 255) (take most bytes) found → found ≡ Some n → most ≤ length bytes
-    → (n < most) × ((k : ℕ) → k < n → get_or bytes k 0 ≡ 255 → ⊥)
-plain_before bytes most n found first is within =
-    let f = subst (λ o. IsFirstByte (is_byte 255) (take most bytes) o) is first in
-    let high = f.0.high in let size = length-take-le most bytes within in
-    let low : n < most = omega (arith, high, size) in
-    (low, λ k h e. f.0.before k (omega arith) h (ff_passes (take most bytes) k (get_or-take most bytes k 0 (omega (arith, h, low)) ∙ e)))
-
-pub plain_all : (bytes : List ℕ) (most : ℕ) (found : Option ℕ) → IsFirstByte (is_byte 255) (take most bytes) found → found ≡ None → most ≤ length bytes
-    → (k : ℕ) → k < most → get_or bytes k 0 ≡ 255 → ⊥
-plain_all bytes most found first is within k h e =
-    let f = subst (λ o. IsFirstByte (is_byte 255) (take most bytes) o) is first in
-    let size = length-take-le most bytes within in
-    f k (omega arith) (omega (arith, h, size)) (ff_passes (take most bytes) k (get_or-take most bytes k 0 h ∙ e))
 
 -- no FF waits
 none_waits : (gate : Bool) (fill : ℕ) → gate ≡ false → Waits gate fill → fill ≡ 0

@@ -66,6 +66,6 @@ pub frame_there : (limits : Limits) (bytes : List ℕ) (w : FileWork) → HeadSt
 frame_there limits bytes w h none =
     let s = h.at in
     let allowed = subst (λ n. code_fault (segments_of h.items) n ≡ None) h.code s.allowed in
-    let held = frame_held limits bytes h.items h.blocks w.reading.items.held.frame (s.at).leads (s.holds).frame (framed (segments_of h.items) allowed) in
+    let held = frame_held limits h.items h.blocks w.reading.items.held.frame (s.at).leads (s.holds).frame (framed (segments_of h.items) allowed) in
     let z : None ≡ Some held.frame = sym none ∙ held.has in
     cc

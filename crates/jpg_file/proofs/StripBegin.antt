@@ -67,7 +67,7 @@ pub zero_whole : (limits : Limits) (bytes : List ℕ) (w : FileWork) (f : Frame)
 zero_whole limits bytes w f h is is_frame first =
     let before = segments_of h.items in
     let allowed = subst (λ n. code_fault before n ≡ None) h.code (h.at).allowed in
-    let held = frame_held limits bytes h.items h.blocks w.reading.items.held.frame ((h.at).at).leads ((h.at).holds).frame (framed before allowed) in
+    let held = frame_held limits h.items h.blocks w.reading.items.held.frame ((h.at).at).leads ((h.at).holds).frame (framed before allowed) in
     let one : held.frame ≡ f = sym held.is ∙ is in
     record {
       segment = h.at;
@@ -151,7 +151,7 @@ rows_begun limits bytes old taken new f head rows h k first a kept notes left ro
     let s = a.0 in
     let holds = (s.head).holds in
     let allowed = subst (λ n. code_fault (segments_of h.items) n ≡ None) h.code (h.at).allowed in
-    let held = frame_held limits bytes h.items h.blocks taken.reading.items.held.frame ((h.at).at).leads holds.frame (framed (segments_of h.items) allowed) in
+    let held = frame_held limits h.items h.blocks taken.reading.items.held.frame ((h.at).at).leads holds.frame (framed (segments_of h.items) allowed) in
     let had = subst (λ o. HasHead limits bytes (segments_of h.items) o) (sym kept) (h.beside).head in
     let now = noted limits bytes h.items h.blocks old.reading.items contents (told_by taken.reading.items.held) held.frame taken.reading.taken taken.head h.at h.code refl (unbroken limits h.items contents bytes (with_coefs taken.reading z) s) holds held.has s.count had in
     let coded : InData limits h.items contents bytes s.scan z = subst (λ (q : Picture). InData limits h.items contents bytes s.scan q) (some_once s.coefs z (sym s.has)) s.at in

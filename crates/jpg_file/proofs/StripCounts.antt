@@ -57,7 +57,7 @@ pub kept_frame : (limits : Limits) (bytes : List ℕ) (old taken new : FileWork)
     → AfterHead limits bytes h.items old.reading.items (Ok tt) (with_coefs taken.reading (zero_picture f)) taken.begun → taken.head ≡ None → NotesHead taken new → new.head ≡ Some kept → kept.frame ≡ f
 kept_frame limits bytes old taken new f head kept h k a none notes is =
     let allowed = subst (λ n. code_fault (segments_of h.items) n ≡ None) h.code (h.at).allowed in
-    let held = frame_held limits bytes h.items h.blocks taken.reading.items.held.frame ((h.at).at).leads (((a.0).head).holds).frame (framed (segments_of h.items) allowed) in
+    let held = frame_held limits h.items h.blocks taken.reading.items.held.frame ((h.at).at).leads (((a.0).head).holds).frame (framed (segments_of h.items) allowed) in
     let has : taken.reading.items.held.frame ≡ Some f = held.has ∙ ap (λ (g : Frame). Some g) (sym held.is ∙ k.framed) in
     let told = first_header_of (told_by taken.reading.items.held) taken.reading.taken in
     told_frame (told_by taken.reading.items.held) taken.reading.taken f kept has (sym (notes.head ∙ ap (λ (o : Option Head). head_or o told) none) ∙ is)

@@ -1,6 +1,6 @@
 -- What follows the scan of a file that is read MCU row by MCU row.
-use Rattle.std.proofs.Common.{◌≡◌, ◌⊎◌, ◌<◌, ◌≤◌, ◌∷◌, ◌++◌, length, take, refl, arith, inl, ℕ, Bool, true, false, List, [], sym, ap, ◌∙◌, subst, Option, Some, None, Ok, Err, inr}
-use Rattle.std.specs.Prelude.{Result, is_some, unwrap_or}
+use Rattle.std.proofs.Common.{◌≡◌, ◌⊎◌, ◌<◌, ◌≤◌, ◌∷◌, ◌++◌, length, take, refl, arith, inl, ℕ, false, List, [], sym, ap, ◌∙◌, subst, Option, Some, None, Err, inr}
+use Rattle.std.specs.Prelude.{is_some, unwrap_or}
 use Rattle.std.proofs.lemmas.List.{length-append}
 use Rattle.jpg_spec.proofs.Common.{clash}
 use Rattle.jpg_spec.specs.Geometry.{Frame}
@@ -8,7 +8,6 @@ use Rattle.jpg_spec.specs.InForce.{frame_of, no_frame}
 use Rattle.jpg_spec.specs.Items.{contents_rule, segments_of}
 use Rattle.jpg_spec.specs.declared.fault.Fault.{Fault}
 use Rattle.jpg_spec.specs.declared.frame.Limits.{Limits}
-use Rattle.jpg_base.specs.declared.stop.Stop.{Stop}
 use Rattle.jpg_base.specs.declared.stop.Stop.TheVariants as stop
 use Rattle.jpg_coefs.specs.Picture.{Picture}
 use Rattle.jpg_markers.specs.Reading.{reading_of}

@@ -1,22 +1,23 @@
 -- Some bytes of a file that is read MCU row by MCU row.
 use Rattle.std.proofs.Common.{◌≡◌, ◌⊎◌, ℕ, zero, suc, true, ap, ◌∙◌, ◌+◌, ◌≤◌, ◌<◌, Bool, List, [], ◌∷◌, ◌++◌, length, take, get_or, refl, sym, subst, arith, inl, inr}
 use Rattle.std.proofs.lemmas.List.{append-nil, get_or-take, length-append, length-replicate, length-take-le, take-take}
-use Rattle.std.specs.Prelude.{is_some, replicate}
+use Rattle.std.specs.Prelude.{Option, None, Some, is_some, replicate}
 use Rattle.jpg_spec.specs.Items.{segments_of}
 use Rattle.jpg_spec.specs.declared.frame.Limits.{Limits}
 use Rattle.jpg_coefs.specs.Picture.{Picture}
 use Rattle.jpg_file.specs.Read.File.{StandsForFile, limits_of, with_picture}
 use Rattle.jpg_file.specs.Read.RowData.{InRowData}
-use Rattle.jpg_file.specs.Read.Strips.{AfterRows, GoesByRow, RowsAfter, RowsInside, RowsRun}
+use Rattle.jpg_file.specs.Read.FirstHeader.{IsFirstHeaderOf}
+use Rattle.jpg_file.specs.Read.Strips.{AfterRows, GoesByRow, RowsAfter, RowsInside, RowsRun, StripGoes, StripStands}
 use Rattle.jpg_file.specs.Read.Going.{FillsScan, has_waiting}
-use Rattle.jpg_file.specs.Read.Reading.{IsSparing}
 use Rattle.jpg_file.specs.declared.read.reading.Reading.{Reading}
 use Rattle.jpg_file.specs.declared.read.file.FileWork.{FileWork}
 use Rattle.jpg_file.specs.declared.read.rows.RowWork.{RowWork}
 use Rattle.jpg_file.specs.declared.read.step.Step.{Step}
 use Rattle.jpg_spec.proofs.Common.{clash}
 use Rattle.jpg_file.proofs.FirstHeaders.{has_longer}
-use Rattle.jpg_file.proofs.PieceSteps.{waiting_scan}
+use Rattle.jpg_file.proofs.FileSteps.{head_by, head_is}
+use Rattle.jpg_file.proofs.PieceSteps.{limits_are, waiting_scan}
 use Rattle.jpg_file.proofs.ScanBytes.{ff_bytes}
 
 -- the file as it is read in one go
@@ -55,23 +56,6 @@ inside_rows limits bytes w rows g some = by (g.stands).at
     by : RowsInside limits bytes w rows (g.stands).whole ⊎ RowsAfter limits bytes w rows (g.stands).whole → RowsInside limits bytes w rows (g.stands).whole
     by (inl r) = r
     by (inr b) = absurd (clash (is_some w.reading.scan) some (ap is_some ((b.between).beside).none))
-
--- a byte
-pub one_row : (limits : Limits) (front bytes : List ℕ) (w new : FileWork) (rows after : RowWork) (result : Step) → GoesByRow limits front w rows → w.reading.taken < limits.input → 1 ≤ length bytes → new.head ≡ w.head → AfterRows limits (front ++ get_or bytes 0 0 ∷ []) result new after
-    → RowsRun limits front bytes 1 result new after
-one_row limits front bytes w new rows after result g room some head a =
-    let k = goes_stands limits front w rows g in
-    let same : front ++ take 0 bytes ≡ front = append-nil front in
-    record {
-      mid = with_picture w k.0;
-      early = 0;
-      count = refl;
-      within = some;
-      before = subst (λ l. StandsForFile limits l (with_picture w k.0)) (sym same) k.1;
-      room = room;
-      head = sym head;
-      last = subst (λ l. AfterRows limits (l ++ get_or bytes 0 0 ∷ []) result new after) (sym same) a;
-    }
 
 -- a byte after some that were taken together
 pub later_row : (limits : Limits) (front bytes : List ℕ) (n : ℕ) (mid new : FileWork) (rows after : RowWork) (result : Step) → GoesByRow limits (front ++ take n bytes) mid rows → mid.reading.taken < limits.input → n < length bytes → new.head ≡ mid.head
@@ -156,3 +140,39 @@ filled_limits r run n q p = ap (λ (o : Reading). o.items.limits) p.is
 
 pub filled_scan : (r : Reading) (run : List ℕ) (n : ℕ) (q : Reading) → FillsScan r run n q → is_some r.scan ≡ true → is_some q.scan ≡ true
 filled_scan r run n q p some = ap (λ (o : Reading). is_some o.scan) p.is ∙ some
+
+-- WHAT A STATE ENCODES, with a current MCU row or none
+
+-- the file as it is read in one go
+pub record ReadWhole (limits : Limits) (bytes : List ℕ) (w : FileWork) : Type 0 where
+  pub file : FileWork
+  pub stands : StandsForFile limits bytes file
+  pub head : file.head ≡ w.head
+  pub limits_same : limits_of file ≡ limits_of w
+  pub taken : file.reading.taken ≡ w.reading.taken
+
+pub strip_whole : (limits : Limits) (bytes : List ℕ) (rows : Option RowWork) (w : FileWork) → StripGoes limits bytes rows w → ReadWhole limits bytes w
+strip_whole limits bytes None w g = record { file = w; stands = g; head = refl; limits_same = refl; taken = refl }
+strip_whole limits bytes (Some rows) w g =
+    let k = goes_stands limits bytes w rows g in
+    record { file = with_picture w k.0; stands = k.1; head = refl; limits_same = refl; taken = refl }
+
+pub strip_limits : (limits : Limits) (bytes : List ℕ) (rows : Option RowWork) (w : FileWork) → StripGoes limits bytes rows w → limits_of w ≡ limits
+strip_limits limits bytes rows w g = let k = strip_whole limits bytes rows w g in sym k.limits_same ∙ limits_are limits bytes k.file k.stands
+
+pub open_limits : (limits : Limits) (bytes : List ℕ) (rows : Option RowWork) (w : FileWork) → StripStands limits bytes rows w → limits_of w ≡ limits
+open_limits limits bytes None w g = limits_are limits bytes w g
+open_limits limits bytes (Some rows) w g = by g.at
+  where
+    by : RowsInside limits bytes w rows g.whole ⊎ RowsAfter limits bytes w rows g.whole → limits_of w ≡ limits
+    by (inl r) = ((r.held).head).bounded.1
+    by (inr b) = ((b.between).at).bounded.1
+
+-- the first scan header of the bytes
+pub open_head : (limits : Limits) (bytes : List ℕ) (rows : Option RowWork) (w : FileWork) → StripStands limits bytes rows w → IsFirstHeaderOf limits bytes w.head
+open_head limits bytes None w g = head_is limits bytes w g
+open_head limits bytes (Some rows) w g = by g.at
+  where
+    by : RowsInside limits bytes w rows g.whole ⊎ RowsAfter limits bytes w rows g.whole → IsFirstHeaderOf limits bytes w.head
+    by (inl r) = head_by limits bytes ((0xda, r.contents) ∷ segments_of r.items) w.head (λ none. absurd (clash true refl none)) (r.held).first_head
+    by (inr b) = head_is limits bytes (with_picture w g.whole) (inl b.between)

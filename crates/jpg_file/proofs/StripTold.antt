@@ -132,7 +132,7 @@ begins_told limits bytes old taken new f head h k first a notes =
     let rule = unbroken limits h.items contents bytes (with_coefs taken.reading (zero_picture f)) s in
     let x = heads_first limits bytes h.items h.blocks old.reading.items contents h.at h.code refl first rule in
     let allowed = subst (λ n. code_fault before n ≡ None) h.code (h.at).allowed in
-    let held = frame_held limits bytes h.items h.blocks taken.reading.items.held.frame ((h.at).at).leads holds.frame (framed before allowed) in
+    let held = frame_held limits h.items h.blocks taken.reading.items.held.frame ((h.at).at).leads holds.frame (framed before allowed) in
     let told : head_in (frame_of limits before) contents ≡ head = ap (λ (g : Frame). head_in g contents) k.framed ∙ k.told in
     record {
       begins = record {

@@ -1,7 +1,7 @@
 -- A file that is read MCU row by MCU row, in its other states: before its first scan, and where its scans are read in
 -- one go.
-use Rattle.std.proofs.Common.{◌≡◌, ℕ, ◌+◌, Bool, true, false, List, [], ◌∷◌, ◌++◌, take, get_or, refl, sym, subst, Option, Some, None, Ok, Err}
-use Rattle.std.specs.Prelude.{IfErr, Result, is_none}
+use Rattle.std.proofs.Common.{◌≡◌, ℕ, ◌+◌, true, List, [], ◌∷◌, ◌++◌, take, get_or, refl, sym, subst, Option, Some, None, Err}
+use Rattle.std.specs.Prelude.{is_none}
 use Rattle.jpg_spec.specs.declared.frame.Limits.{Limits}
 use Rattle.jpg_base.specs.declared.stop.Stop.{Stop}
 use Rattle.jpg_base.specs.declared.stop.Stop.TheVariants as stop
@@ -11,7 +11,7 @@ use Rattle.jpg_file.specs.declared.read.strip_head.StripHead.{StripHead}
 use Rattle.jpg_file.proofs.FileSteps.{asked}
 use Rattle.jpg_file.proofs.PieceSteps.{one_more}
 use Rattle.jpg_file.specs.Read.Step.{IfStops}
-use Rattle.jpg_file.specs.Read.Strips.{CountsStrip, AfterScanBegins, AfterStrip, RowsRun, StripGoes, StripRun}
+use Rattle.jpg_file.specs.Read.Strips.{AfterScanBegins, AfterStrip, RowsRun, StripGoes, StripRun}
 use Rattle.jpg_file.specs.declared.read.file.FileWork.{FileWork}
 use Rattle.jpg_file.specs.declared.read.rows.RowWork.{RowWork}
 use Rattle.jpg_file.specs.declared.read.step.Step.{Step}
@@ -99,6 +99,6 @@ first_known w mid run n rows strip p known bytes k =
     subst (λ (l : List ℕ). KnowsRows limits l 0 rows strip) (sym (one_more bytes run n p.within))
     (subst (λ (l : Limits). KnowsRows l (front ++ get_or run n 0 ∷ []) 0 rows strip) p.limits (known front (subst (λ (l : Limits). StandsForFile l front mid) (sym p.limits) before)))
 
-pub none_counts : (answer : Step) (rows after : Option RowWork) → is_none rows ≡ true → CountsStrip answer rows after
-none_counts answer None after e = tt
-none_counts answer (Some rows) after e = absurd cc
+pub none_rows : (rows : Option RowWork) → is_none rows ≡ true → rows ≡ None
+none_rows None e = refl
+none_rows (Some rows) e = cc

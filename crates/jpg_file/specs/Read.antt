@@ -10,6 +10,7 @@ pub mod Machine
 pub mod NewScan
 pub mod PictureKept
 pub mod PictureRead
+pub mod PieceTaken
 pub mod ReadFile
 pub mod ReadRows
 pub mod Going

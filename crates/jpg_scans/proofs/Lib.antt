@@ -1,7 +1,5 @@
 pub mod Checks
 pub mod Histories
-pub mod OneScript
-pub mod ReadTexts
 pub mod ScriptFronts
 pub mod ScriptRest
 pub mod ScriptRuns

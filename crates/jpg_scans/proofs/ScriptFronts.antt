@@ -1,19 +1,19 @@
 -- What the bytes of a script's text that were read represent: entries that ended, and a prefix of one more.
 use Rattle.std.proofs.Common.{◌≡◌, ℕ, ◌-◌, ◌<◌, ◌≤◌, Bool, true, false, cond, ◌&&◌, ◌==◌, List, [], ◌∷◌, ◌++◌, length, map, refl, sym, ap, ◌∙◌, subst, arith, Option, None, Some}
-use Rattle.std.specs.Prelude.{nat_lt, nat_le, option_map, option_and_then, flat_map}
+use Rattle.std.specs.Prelude.{nat_lt, nat_le, option_map, flat_map}
 use Rattle.std.proofs.lemmas.Bool.Decides.{nat_tests}
-use Rattle.std.proofs.lemmas.List.{append_assoc, append-nil, length-append, length-map}
+use Rattle.std.proofs.lemmas.List.{append_assoc, append-nil, length-append, length-map, map-append}
 use Rattle.std.proofs.lemmas.List.Concat.{flat_map-append}
 use Rattle.jpg_spec.specs.Lists.{all_of, is_empty}
-use Rattle.jpg_spec.specs.NumberTexts.{is_digit, digits_from}
+use Rattle.jpg_spec.specs.NumberTexts.{is_digit, digits_from, is_space, without_comments, NumbersWord, numbers_text, numbers_told}
 use Rattle.jpg_spec_write.specs.Script.{Entry}
-use Rattle.jpg_spec.specs.NumberTexts.{is_space, without_comments, NumbersWord, numbers_text, numbers_told}
-use Rattle.jpg_spec_write.specs.ScriptGrammar.{is_joint, EntryWord, ScriptWord, entry_text, ended_text, script_text, are_numbers, is_entry, entries, is_script, banded, entry_told, Spells}
-use Rattle.jpg_spec.proofs.Common.{both, and_intro, same_of, lt_of, some_once}
+use Rattle.jpg_spec_write.specs.ScriptGrammar.{is_joint, EntryWord, entry_text, ended_text, are_numbers, is_entry, banded, entry_told, Spells}
+use Rattle.jpg_spec.proofs.Common.{and_intro, same_of, lt_of, some_once}
+use Rattle.jpg_spec.specs.TextReaders.{run}
+use Rattle.jpg_spec.proofs.TextRuns.{all_join, one_of, run_front}
 use Rattle.jpg_scans.specs.declared.standing.Standing.{Standing}
 use Rattle.jpg_scans.specs.declared.standing.Standing.TheVariants.{Before, InNumber, Behind, Joined}
-use Rattle.jpg_scans.specs.TextState.{NumbersState, ended_by, ended, digit_by, joint_by, number_step, EntryState, no_numbers, new_entry, is_before, is_after, is_new_entry, is_new_by, entry_by, whole_entry, colon_by, entry_step, TextState, one_more, text_step, script_told, ReaderState, reader_step, new_reader, run}
-use Rattle.jpg_scans.proofs.ScriptRuns.{start, comments_read}
+use Rattle.jpg_scans.specs.TextState.{NumbersState, ended_by, ended, digit_by, joint_by, number_step, EntryState, no_numbers, new_entry, is_before, is_after, is_new_entry, is_new_by, entry_by, whole_entry, colon_by, entry_step, TextState, one_more, text_step, script_told, new_text}
 use Rattle.jpg_scans.proofs.TextFronts.{Front, list_step, list_whole}
 
 -- AN ENTRY
@@ -137,8 +137,8 @@ pub record TextFront (t : List ℕ) (s : TextState) : Type 0 where
   pub entry : EntryFront behind s.entry.components s.entry.list
   pub room : is_new_entry s.entry ≡ false → length s.entries < 100
 
-start_front : TextFront [] start
-start_front = record { ended = []; behind = []; text = refl; formed = refl; told = refl; few = omega arith; entry = no_numbers_front; room = λ e. cc }
+new_front : TextFront [] new_text
+new_front = record { ended = []; behind = []; text = refl; formed = refl; told = refl; few = omega arith; entry = no_numbers_front; room = λ e. cc }
 
 -- one more entry
 one_told : (es : List Entry) (o : Option Entry) (all : List Entry) → one_more es o ≡ Some all → (e : Entry) × (length es < 100) × (o ≡ Some e) × (es ++ e ∷ [] ≡ all)
@@ -148,16 +148,6 @@ one_told es o all h = by (nat_lt (length es) 100) o refl h
     by true None a h = cc
     by true (Some e) a h = (e, lt_of (length es) 100 a, refl, some_once (es ++ e ∷ []) all h)
     by false o a h = cc
-
-map_more : (ws : List EntryWord) (w : EntryWord) → map entry_told (ws ++ w ∷ []) ≡ map entry_told ws ++ entry_told w ∷ []
-map_more [] w = refl
-map_more (x ∷ ws) w = ap (λ l. entry_told x ∷ l) (map_more ws w)
-
-all_more : (ws : List EntryWord) (w : EntryWord) → all_of is_entry ws ≡ true → is_entry w ≡ true → all_of is_entry (ws ++ w ∷ []) ≡ true
-all_more [] w e f = and_intro (is_entry w) true f refl
-all_more (x ∷ ws) w e f =
-    let s = both (is_entry x) (all_of is_entry ws) e in
-    and_intro (is_entry x) (all_of is_entry (ws ++ w ∷ [])) s.0 (all_more ws w s.1 f)
 
 at_semicolon : (t : List ℕ) (s u : TextState) → TextFront t s
     → option_map (λ (all : List Entry). record { entries = all; entry = new_entry }) (one_more s.entries (whole_entry s.entry)) ≡ Some u → TextFront (t ++ 59 ∷ []) u
@@ -176,8 +166,8 @@ at_semicolon t s u f e =
           ∙ ap (λ x. flat_map ended_text f.ended ++ x) (sym (append-nil (ended_text w.word)))
           ∙ sym (flat_map-append ended_text f.ended (w.word ∷ []))
           ∙ sym (append-nil (flat_map ended_text (f.ended ++ w.word ∷ [])));
-      formed = all_more f.ended w.word f.formed w.formed;
-      told = map_more f.ended w.word ∙ ap (λ l. l ++ entry_told w.word ∷ []) f.told ∙ ap (λ e. s.entries ++ e ∷ []) w.told ∙ one.3;
+      formed = all_join is_entry f.ended (w.word ∷ []) f.formed (one_of is_entry w.word w.formed);
+      told = map-append entry_told f.ended (w.word ∷ []) ∙ ap (λ l. l ++ entry_told w.word ∷ []) f.told ∙ ap (λ e. s.entries ++ e ∷ []) w.told ∙ one.3;
       few = omega (arith, room, long, count);
       entry = no_numbers_front;
       room = λ e. cc;
@@ -252,20 +242,9 @@ text_front_step t s u b f e = by (b == 59) (is_digit b && (is_new_entry s.entry 
     by false true a free e = cc
     by false false a free e = in_entry t s u b f free e
 
-run_front : (t : List ℕ) (s u : TextState) (bytes : List ℕ) → TextFront t s → run text_step s bytes ≡ Some u → TextFront (t ++ bytes) u
-unfolding run
-run_front t s u [] f e = subst (λ x. TextFront x u) (sym (append-nil t)) (subst (TextFront t) (some_once s u e) f)
-run_front t s u (b ∷ bytes) f e = by (text_step s b) refl e (λ v a. run_front (t ++ b ∷ []) v u bytes (text_front_step t s v b f a))
-  where
-    by : (o : Option TextState) → text_step s b ≡ o → option_and_then (λ v. run text_step v bytes) o ≡ Some u → ((v : TextState) → text_step s b ≡ Some v → run text_step v bytes ≡ Some u → TextFront ((t ++ b ∷ []) ++ bytes) u)
-        → TextFront (t ++ b ∷ bytes) u
-    by None a e more = cc
-    by (Some v) a e more = subst (λ x. TextFront x u) (append_assoc t (b ∷ []) bytes) (more v a e)
-
--- bytes that are read represent a prefix
-pub reader_front : (bytes : List ℕ) (r : ReaderState) → run reader_step new_reader bytes ≡ Some r → TextFront (without_comments false bytes) r.text
-reader_front bytes r e =
-    run_front [] start r.text (without_comments false bytes) start_front (sym (comments_read false start bytes) ∙ ap (option_map (λ (r : ReaderState). r.text)) e)
+-- bytes that are read are a prefix
+pub text_front : (text : List ℕ) (s : TextState) → run text_step new_text text ≡ Some s → TextFront text s
+text_front text s e = run_front text_step TextFront text_front_step [] text new_text s new_front e
 
 -- THE TEXT MAY END here
 
@@ -276,12 +255,6 @@ new_spaces t None ns (InNumber n v) f e = cc
 new_spaces t None ns Behind f e = cc
 new_spaces t None ns Joined f e = cc
 
-pub record IsScriptText (t : List ℕ) (script : List Entry) : Type 0 where
-  pub word : ScriptWord
-  pub formed : is_script word ≡ true
-  pub text : t ≡ script_text word
-  pub told : map entry_told (entries word) ≡ script
-
 formed_of : (ws : List EntryWord) (after : List ℕ) → all_of is_entry ws ≡ true → 1 ≤ length ws → length ws ≤ 100 → all_of is_space after ≡ true
     → (all_of is_entry ws && ((nat_le 1 (length ws) && nat_le (length ws) 100) && all_of is_space after)) ≡ true
 formed_of ws after e some few a =
@@ -290,10 +263,10 @@ formed_of ws after e some few a =
     and_intro (all_of is_entry ws) _ e (and_intro (nat_le 1 (length ws) && nat_le (length ws) 100) (all_of is_space after) (and_intro (nat_le 1 (length ws)) (nat_le (length ws) 100) x y) a)
 
 -- after a semicolon
-ends_new : (t : List ℕ) (s : TextState) (script : List Entry) → TextFront t s → is_new_entry s.entry ≡ true → cond (is_empty s.entries) None (Some s.entries) ≡ Some script → IsScriptText t script
-ends_new t s script f new e = by s.entries refl e
+ends_new : (text : List ℕ) (s : TextState) (script : List Entry) → TextFront (without_comments false text) s → is_new_entry s.entry ≡ true → cond (is_empty s.entries) None (Some s.entries) ≡ Some script → Spells text script
+ends_new text s script f new e = by s.entries refl e
   where
-    by : (es : List Entry) → s.entries ≡ es → cond (is_empty es) None (Some es) ≡ Some script → IsScriptText t script
+    by : (es : List Entry) → s.entries ≡ es → cond (is_empty es) None (Some es) ≡ Some script → Spells text script
     by [] a e = cc
     by (x ∷ es) a e =
         let count : length f.ended ≡ length (x ∷ es) = sym (length-map f.ended entry_told) ∙ ap length f.told ∙ ap length a in
@@ -302,13 +275,13 @@ ends_new t s script f new e = by s.entries refl e
           word = record { ended = f.ended; last = None; after = f.behind };
           formed = subst (λ (ws : List EntryWord). (all_of is_entry ws && ((nat_le 1 (length ws) && nat_le (length ws) 100) && all_of is_space f.behind)) ≡ true) (sym (append-nil f.ended))
               (formed_of f.ended f.behind f.formed (omega (arith, count)) few (new_spaces f.behind s.entry.components s.entry.list.numbers s.entry.list.standing f.entry new));
-          text = f.text ∙ ap (λ l. l ++ f.behind) (sym (append-nil (flat_map ended_text f.ended)));
+          spelled = f.text ∙ ap (λ l. l ++ f.behind) (sym (append-nil (flat_map ended_text f.ended)));
           told = ap (map entry_told) (append-nil f.ended) ∙ f.told ∙ a ∙ some_once (x ∷ es) script e;
         }
 
 -- without one
-ends_open : (t : List ℕ) (s : TextState) (script : List Entry) → TextFront t s → one_more s.entries (whole_entry s.entry) ≡ Some script → IsScriptText t script
-ends_open t s script f e =
+ends_open : (text : List ℕ) (s : TextState) (script : List Entry) → TextFront (without_comments false text) s → one_more s.entries (whole_entry s.entry) ≡ Some script → Spells text script
+ends_open text s script f e =
     let one = one_told s.entries (whole_entry s.entry) script e in
     let w = entry_end f.behind s.entry one.0 f.entry one.2 in
     let room = one.1 in
@@ -316,19 +289,17 @@ ends_open t s script f e =
     let count = sym (length-map f.ended entry_told) ∙ ap length f.told in
     record {
       word = record { ended = f.ended; last = Some w.word; after = [] };
-      formed = formed_of (f.ended ++ w.word ∷ []) [] (all_more f.ended w.word f.formed w.formed) (omega (arith, long)) (omega (arith, room, long, count)) refl;
-      text = f.text ∙ ap (λ x. flat_map ended_text f.ended ++ x) (sym w.text) ∙ sym (append-nil (flat_map ended_text f.ended ++ entry_text w.word));
-      told = map_more f.ended w.word ∙ ap (λ l. l ++ entry_told w.word ∷ []) f.told ∙ ap (λ e. s.entries ++ e ∷ []) w.told ∙ one.3;
+      formed = formed_of (f.ended ++ w.word ∷ []) [] (all_join is_entry f.ended (w.word ∷ []) f.formed (one_of is_entry w.word w.formed)) (omega (arith, long)) (omega (arith, room, long, count)) refl;
+      spelled = f.text ∙ ap (λ x. flat_map ended_text f.ended ++ x) (sym w.text) ∙ sym (append-nil (flat_map ended_text f.ended ++ entry_text w.word));
+      told = map-append entry_told f.ended (w.word ∷ []) ∙ ap (λ l. l ++ entry_told w.word ∷ []) f.told ∙ ap (λ e. s.entries ++ e ∷ []) w.told ∙ one.3;
     }
 
-ends : (t : List ℕ) (s : TextState) (script : List Entry) → TextFront t s → script_told s ≡ Some script → IsScriptText t script
-ends t s script f e = by (is_new_entry s.entry) refl e
+ends : (text : List ℕ) (s : TextState) (script : List Entry) → TextFront (without_comments false text) s → script_told s ≡ Some script → Spells text script
+ends text s script f e = by (is_new_entry s.entry) refl e
   where
-    by : (v : Bool) → is_new_entry s.entry ≡ v → cond v (cond (is_empty s.entries) None (Some s.entries)) (one_more s.entries (whole_entry s.entry)) ≡ Some script → IsScriptText t script
-    by true a e = ends_new t s script f a e
-    by false a e = ends_open t s script f e
+    by : (v : Bool) → is_new_entry s.entry ≡ v → cond v (cond (is_empty s.entries) None (Some s.entries)) (one_more s.entries (whole_entry s.entry)) ≡ Some script → Spells text script
+    by true a e = ends_new text s script f a e
+    by false a e = ends_open text s script f e
 
-pub told_spells : (bytes : List ℕ) (r : ReaderState) (script : List Entry) → run reader_step new_reader bytes ≡ Some r → script_told r.text ≡ Some script → Spells bytes script
-told_spells bytes r script e h =
-    let w = ends (without_comments false bytes) r.text script (reader_front bytes r e) h in
-    record { word = w.word; formed = w.formed; spelled = w.text; told = w.told }
+pub told_spells : (text : List ℕ) (s : TextState) (script : List Entry) → run text_step new_text (without_comments false text) ≡ Some s → script_told s ≡ Some script → Spells text script
+told_spells text s script e h = ends text s script (text_front (without_comments false text) s e) h

@@ -1,19 +1,21 @@
--- Bytes that were read are the beginning of some text of the form: what may follow them.
-use Rattle.std.proofs.Common.{◌≡◌, ℕ, zero, suc, ◌<◌, ◌≤◌, Bool, true, false, cond, ◌==◌, List, [], ◌∷◌, ◌++◌, length, refl, sym, ap, ◌∙◌, arith, Option, None, Some}
+-- Bytes that were read are the beginning of some text of a script: what may follow them; the reader of scripts.
+use Rattle.std.proofs.Common.{◌≡◌, ℕ, zero, suc, ◌<◌, ◌≤◌, true, false, cond, ◌==◌, List, [], ◌∷◌, ◌++◌, length, refl, sym, ap, ◌∙◌, arith, Option, None, Some}
 use Rattle.std.specs.Prelude.{option_map, option_and_then, nat_lt}
 use Rattle.std.proofs.lemmas.Bool.Decides.{nat_tests}
 use Rattle.std.proofs.lemmas.List.{length-append, length-map}
 use Rattle.jpg_spec_write.specs.Script.{Entry}
-use Rattle.jpg_spec.specs.NumberTexts.{NumberWord, in_comment, without_comments}
-use Rattle.jpg_spec_write.specs.ScriptGrammar.{are_joined, banded, BeginsScript}
+use Rattle.jpg_spec.specs.NumberTexts.{NumberWord, without_comments}
+use Rattle.jpg_spec_write.specs.ScriptGrammar.{are_joined, banded, script_form}
 use Rattle.jpg_spec.proofs.Common.{lt_yes}
+use Rattle.jpg_spec.specs.TextReaders.{ReaderState, reader_step, run, plain}
+use Rattle.jpg_spec.proofs.TextRuns.{value_of}
+use Rattle.jpg_spec.proofs.TextsRead.{Finishes, ReadsForm}
 use Rattle.jpg_scans.specs.declared.standing.Standing.{Standing}
 use Rattle.jpg_scans.specs.declared.standing.Standing.TheVariants.{Before, InNumber, Behind, Joined}
-use Rattle.jpg_scans.specs.TextState.{NumbersState, ended_by, EntryState, is_new_by, one_more, TextState, text_step, script_told, ReaderState, reader_step, new_reader, run}
-use Rattle.jpg_scans.proofs.TextRuns.{run_two, run_cons}
-use Rattle.jpg_scans.proofs.ScriptRuns.{more_yes, spaced, text_space}
-use Rattle.jpg_scans.proofs.TextFronts.{ListFront, value_of, told_long}
-use Rattle.jpg_scans.proofs.ScriptFronts.{TextFront, EntryFront, reader_front, told_spells}
+use Rattle.jpg_scans.specs.TextState.{NumbersState, ended_by, EntryState, is_new_by, one_more, TextState, text_step, script_told, script_reader}
+use Rattle.jpg_scans.proofs.ScriptRuns.{more_yes, spaced, text_space, spelled_run}
+use Rattle.jpg_scans.proofs.TextFronts.{ListFront, told_long}
+use Rattle.jpg_scans.proofs.ScriptFronts.{TextFront, EntryFront, text_front, told_spells}
 
 -- NUMBERS followed by a space or a line's end: none; one to four; one to three and a comma
 
@@ -47,48 +49,41 @@ open_list t ns Joined f =
 
 -- WHAT MAY FOLLOW: nothing, or as many numbers 0 as are missing
 
-record Finishes (s : TextState) : Type 0 where
-  rest : List ℕ
-  state : ReaderState
-  script : List Entry
-  run : run reader_step (record { behind = false; text = s }) rest ≡ Some state
-  told : script_told state.text ≡ Some script
+abbrev Ends : TextState → Type 0
+Ends s = Finishes (List Entry) TextState script_reader s
 
 abbrev at : List Entry → Option (List ℕ) → List ℕ → Standing → TextState
 at es cs ns st = record { entries = es; entry = record { components = cs; list = record { numbers = ns; standing = st } } }
 
-abbrev reader : TextState → ReaderState
-reader s = record { behind = false; text = s }
-
-with_components : (es : List Entry) (ns : List ℕ) (st : Standing) → (is_new_by None (record { numbers = ns; standing = st }) ≡ false → length es < 100) → IsOpenList ns st → Finishes (at es None ns st)
+with_components : (es : List Entry) (ns : List ℕ) (st : Standing) → (is_new_by None (record { numbers = ns; standing = st }) ≡ false → length es < 100) → IsOpenList ns st → Ends (at es None ns st)
 unfolding IsOpenList run
 with_components [] ns Before room o = record {
   rest = 48 ∷ [];
-  state = reader (at [] None [] (InNumber 1 0));
-  script = banded (0 ∷ []) (0 ∷ 63 ∷ 0 ∷ 0 ∷ []) ∷ [];
-  run = ap (λ (l : List ℕ). run reader_step (reader (at [] None l Before)) (48 ∷ [])) o;
-  told = refl;
+  state = plain (at [] None [] (InNumber 1 0));
+  told = banded (0 ∷ []) (0 ∷ 63 ∷ 0 ∷ 0 ∷ []) ∷ [];
+  run = ap (λ (l : List ℕ). run (reader_step text_step) (plain (at [] None l Before)) (48 ∷ [])) o;
+  is = refl;
 }
-with_components (e ∷ es) ns Before room o = record { rest = []; state = reader (at (e ∷ es) None ns Before); script = e ∷ es; run = refl; told = refl }
+with_components (e ∷ es) ns Before room o = record { rest = []; state = plain (at (e ∷ es) None ns Before); told = e ∷ es; run = refl; is = refl }
 with_components es ns (InNumber n v) room o = absurd o
 with_components es ns Behind room o = record {
   rest = [];
-  state = reader (at es None ns Behind);
-  script = es ++ banded ns (0 ∷ 63 ∷ 0 ∷ 0 ∷ []) ∷ [];
+  state = plain (at es None ns Behind);
+  told = es ++ banded ns (0 ∷ 63 ∷ 0 ∷ 0 ∷ []) ∷ [];
   run = refl;
-  told = more_yes es (banded ns (0 ∷ 63 ∷ 0 ∷ 0 ∷ [])) (room refl);
+  is = more_yes es (banded ns (0 ∷ 63 ∷ 0 ∷ 0 ∷ [])) (room refl);
 }
 with_components es [] Joined room o = absurd (omega (arith, o.0))
 with_components es (a ∷ ns) Joined room o =
     let few : (nat_lt (length (a ∷ ns)) 4) ≡ true = lt_yes (length (a ∷ ns)) 4 o.1 in
     record {
       rest = 48 ∷ [];
-      state = reader (at es None (a ∷ ns) (InNumber 1 0));
-      script = es ++ banded ((a ∷ ns) ++ 0 ∷ []) (0 ∷ 63 ∷ 0 ∷ 0 ∷ []) ∷ [];
-      run = ap (λ v. option_and_then (λ (r : ReaderState). Some r) (option_map (λ (text : TextState). record { behind = false; text = text })
+      state = plain (at es None (a ∷ ns) (InNumber 1 0));
+      told = es ++ banded ((a ∷ ns) ++ 0 ∷ []) (0 ∷ 63 ∷ 0 ∷ 0 ∷ []) ∷ [];
+      run = ap (λ v. option_and_then (λ (r : ReaderState TextState). Some r) (option_map (λ (text : TextState). record { behind = false; text = text })
           (option_map (λ (entry : EntryState). record { entries = es; entry = entry }) (option_map (λ (list : NumbersState). record { components = None; list = list })
           (cond v (Some (record { numbers = a ∷ ns; standing = InNumber 1 0 })) None))))) few;
-      told = more_yes es (banded ((a ∷ ns) ++ 0 ∷ []) (0 ∷ 63 ∷ 0 ∷ 0 ∷ [])) (room refl);
+      is = more_yes es (banded ((a ∷ ns) ++ 0 ∷ []) (0 ∷ 63 ∷ 0 ∷ 0 ∷ [])) (room refl);
     }
 
 -- after a colon this many numbers are missing
@@ -104,31 +99,31 @@ four_told es cs ns v l three =
     ap (λ b. one_more es (cond b (Some (banded cs (ns ++ v ∷ []))) None)) four ∙ more_yes es (banded cs (ns ++ v ∷ [])) l
 
 -- from any state except in a number
-after_colon : (es : List Entry) (cs ns : List ℕ) (st : Standing) → length es < 100 → IsOpenList ns st → Finishes (at es (Some cs) ns st)
+after_colon : (es : List Entry) (cs ns : List ℕ) (st : Standing) → length es < 100 → IsOpenList ns st → Ends (at es (Some cs) ns st)
 unfolding IsOpenList run
 after_colon es cs ns (InNumber n v) l o = absurd o
 after_colon es cs ns Before l o = record {
   rest = due 4;
-  state = reader (at es (Some cs) (0 ∷ 0 ∷ 0 ∷ []) (InNumber 1 0));
-  script = es ++ banded cs (0 ∷ 0 ∷ 0 ∷ 0 ∷ []) ∷ [];
-  run = ap (λ (l : List ℕ). run reader_step (reader (at es (Some cs) l Before)) (due 4)) o;
-  told = four_told es cs (0 ∷ 0 ∷ 0 ∷ []) 0 l refl;
+  state = plain (at es (Some cs) (0 ∷ 0 ∷ 0 ∷ []) (InNumber 1 0));
+  told = es ++ banded cs (0 ∷ 0 ∷ 0 ∷ 0 ∷ []) ∷ [];
+  run = ap (λ (l : List ℕ). run (reader_step text_step) (plain (at es (Some cs) l Before)) (due 4)) o;
+  is = four_told es cs (0 ∷ 0 ∷ 0 ∷ []) 0 l refl;
 }
 after_colon es cs [] Behind l o = absurd (omega (arith, o.0))
-after_colon es cs (a ∷ []) Behind l o = record { rest = due 3; state = reader (at es (Some cs) (a ∷ 0 ∷ 0 ∷ []) (InNumber 1 0)); script = es ++ banded cs (a ∷ 0 ∷ 0 ∷ 0 ∷ []) ∷ []; run = refl; told = four_told es cs (a ∷ 0 ∷ 0 ∷ []) 0 l refl }
-after_colon es cs (a ∷ b ∷ []) Behind l o = record { rest = due 2; state = reader (at es (Some cs) (a ∷ b ∷ 0 ∷ []) (InNumber 1 0)); script = es ++ banded cs (a ∷ b ∷ 0 ∷ 0 ∷ []) ∷ []; run = refl; told = four_told es cs (a ∷ b ∷ 0 ∷ []) 0 l refl }
-after_colon es cs (a ∷ b ∷ c ∷ []) Behind l o = record { rest = due 1; state = reader (at es (Some cs) (a ∷ b ∷ c ∷ []) (InNumber 1 0)); script = es ++ banded cs (a ∷ b ∷ c ∷ 0 ∷ []) ∷ []; run = refl; told = four_told es cs (a ∷ b ∷ c ∷ []) 0 l refl }
-after_colon es cs (a ∷ b ∷ c ∷ d ∷ []) Behind l o = record { rest = []; state = reader (at es (Some cs) (a ∷ b ∷ c ∷ d ∷ []) Behind); script = es ++ banded cs (a ∷ b ∷ c ∷ d ∷ []) ∷ []; run = refl; told = more_yes es (banded cs (a ∷ b ∷ c ∷ d ∷ [])) l }
+after_colon es cs (a ∷ []) Behind l o = record { rest = due 3; state = plain (at es (Some cs) (a ∷ 0 ∷ 0 ∷ []) (InNumber 1 0)); told = es ++ banded cs (a ∷ 0 ∷ 0 ∷ 0 ∷ []) ∷ []; run = refl; is = four_told es cs (a ∷ 0 ∷ 0 ∷ []) 0 l refl }
+after_colon es cs (a ∷ b ∷ []) Behind l o = record { rest = due 2; state = plain (at es (Some cs) (a ∷ b ∷ 0 ∷ []) (InNumber 1 0)); told = es ++ banded cs (a ∷ b ∷ 0 ∷ 0 ∷ []) ∷ []; run = refl; is = four_told es cs (a ∷ b ∷ 0 ∷ []) 0 l refl }
+after_colon es cs (a ∷ b ∷ c ∷ []) Behind l o = record { rest = due 1; state = plain (at es (Some cs) (a ∷ b ∷ c ∷ []) (InNumber 1 0)); told = es ++ banded cs (a ∷ b ∷ c ∷ 0 ∷ []) ∷ []; run = refl; is = four_told es cs (a ∷ b ∷ c ∷ []) 0 l refl }
+after_colon es cs (a ∷ b ∷ c ∷ d ∷ []) Behind l o = record { rest = []; state = plain (at es (Some cs) (a ∷ b ∷ c ∷ d ∷ []) Behind); told = es ++ banded cs (a ∷ b ∷ c ∷ d ∷ []) ∷ []; run = refl; is = more_yes es (banded cs (a ∷ b ∷ c ∷ d ∷ [])) l }
 after_colon es cs (a ∷ b ∷ c ∷ d ∷ e ∷ ns) Behind l o = absurd (omega (arith, o.1))
 after_colon es cs [] Joined l o = absurd (omega (arith, o.0))
-after_colon es cs (a ∷ []) Joined l o = record { rest = due 3; state = reader (at es (Some cs) (a ∷ 0 ∷ 0 ∷ []) (InNumber 1 0)); script = es ++ banded cs (a ∷ 0 ∷ 0 ∷ 0 ∷ []) ∷ []; run = refl; told = four_told es cs (a ∷ 0 ∷ 0 ∷ []) 0 l refl }
-after_colon es cs (a ∷ b ∷ []) Joined l o = record { rest = due 2; state = reader (at es (Some cs) (a ∷ b ∷ 0 ∷ []) (InNumber 1 0)); script = es ++ banded cs (a ∷ b ∷ 0 ∷ 0 ∷ []) ∷ []; run = refl; told = four_told es cs (a ∷ b ∷ 0 ∷ []) 0 l refl }
-after_colon es cs (a ∷ b ∷ c ∷ []) Joined l o = record { rest = due 1; state = reader (at es (Some cs) (a ∷ b ∷ c ∷ []) (InNumber 1 0)); script = es ++ banded cs (a ∷ b ∷ c ∷ 0 ∷ []) ∷ []; run = refl; told = four_told es cs (a ∷ b ∷ c ∷ []) 0 l refl }
+after_colon es cs (a ∷ []) Joined l o = record { rest = due 3; state = plain (at es (Some cs) (a ∷ 0 ∷ 0 ∷ []) (InNumber 1 0)); told = es ++ banded cs (a ∷ 0 ∷ 0 ∷ 0 ∷ []) ∷ []; run = refl; is = four_told es cs (a ∷ 0 ∷ 0 ∷ []) 0 l refl }
+after_colon es cs (a ∷ b ∷ []) Joined l o = record { rest = due 2; state = plain (at es (Some cs) (a ∷ b ∷ 0 ∷ []) (InNumber 1 0)); told = es ++ banded cs (a ∷ b ∷ 0 ∷ 0 ∷ []) ∷ []; run = refl; is = four_told es cs (a ∷ b ∷ 0 ∷ []) 0 l refl }
+after_colon es cs (a ∷ b ∷ c ∷ []) Joined l o = record { rest = due 1; state = plain (at es (Some cs) (a ∷ b ∷ c ∷ []) (InNumber 1 0)); told = es ++ banded cs (a ∷ b ∷ c ∷ 0 ∷ []) ∷ []; run = refl; is = four_told es cs (a ∷ b ∷ c ∷ []) 0 l refl }
 after_colon es cs (a ∷ b ∷ c ∷ d ∷ ns) Joined l o = absurd (omega (arith, o.1))
 
 -- after the end of a line
 finishes_by : (behind : List ℕ) (es : List Entry) (cs : Option (List ℕ)) (ns : List ℕ) (st : Standing) → EntryFront behind cs (record { numbers = ns; standing = st })
-    → (is_new_by cs (record { numbers = ns; standing = st }) ≡ false → length es < 100) → Finishes (at es cs (ended_by ns st).numbers (ended_by ns st).standing)
+    → (is_new_by cs (record { numbers = ns; standing = st }) ≡ false → length es < 100) → Ends (at es cs (ended_by ns st).numbers (ended_by ns st).standing)
 finishes_by behind es None ns st f room =
     with_components es (ended_by ns st).numbers (ended_by ns st).standing (λ e. room (sym (still ns st) ∙ e)) (open_list behind ns st f)
   where
@@ -139,21 +134,14 @@ finishes_by behind es None ns st f room =
     still ns Joined = refl
 finishes_by behind es (Some cs) ns st f room = after_colon es cs (ended_by ns st).numbers (ended_by ns st).standing (room refl) (open_list f.behind ns st f.front)
 
-no_comment : (behind : Bool) → in_comment behind 10 ≡ false
-no_comment true = refl
-no_comment false = refl
-
-line_end : (r : ReaderState) → reader_step r 10 ≡ Some (reader (spaced r.text))
-line_end r =
-    ap (λ v. option_map (λ (text : TextState). record { behind = v; text = text }) (text_step r.text (cond v 32 10))) (no_comment r.behind)
-    ∙ ap (λ (o : Option TextState). option_map (λ (text : TextState). reader text) o) (text_space r.text 10 refl)
-
-finishes : (t : List ℕ) (s : TextState) → TextFront t s → Finishes (spaced s)
+finishes : (t : List ℕ) (s : TextState) → TextFront t s → Ends (spaced s)
 unfolding spaced
 finishes t s f = finishes_by f.behind s.entries s.entry.components s.entry.list.numbers s.entry.list.standing f.entry f.room
 
-pub begins : (bytes : List ℕ) (r : ReaderState) → run reader_step new_reader bytes ≡ Some r → BeginsScript bytes
-begins bytes r e =
-    let f = finishes (without_comments false bytes) r.text (reader_front bytes r e) in
-    let all : run reader_step new_reader (bytes ++ 10 ∷ f.rest) ≡ Some f.state = run_two reader_step new_reader r bytes (10 ∷ f.rest) e ∙ run_cons reader_step r (reader (spaced r.text)) 10 f.rest (line_end r) ∙ f.run in
-    (10 ∷ f.rest, (f.script, told_spells (bytes ++ 10 ∷ f.rest) f.state f.script all f.told))
+-- THE READER of scripts
+pub reads_scripts : ReadsForm (List Entry) TextState script_form script_reader
+reads_scripts = record {
+  spelled = spelled_run;
+  told = told_spells;
+  goes_on = λ text s e. (spaced s, text_space s 10 refl, finishes (without_comments false text) s (text_front (without_comments false text) s e));
+}

@@ -4,15 +4,17 @@ use Rattle.std.specs.Prelude.{nat_le, option_map, option_and_then, flat_map}
 use Rattle.std.proofs.lemmas.Bool.Decides.{nat_tests}
 use Rattle.std.proofs.lemmas.List.{append_assoc, append-nil, length-append, length-map}
 use Rattle.jpg_spec.specs.Lists.{all_of, is_empty}
-use Rattle.jpg_spec.specs.NumberTexts.{is_digit, digits_from}
+use Rattle.jpg_spec.specs.NumberTexts.{is_digit, without_comments, is_space, NumbersWord, numbers_text, numbers_told}
 use Rattle.jpg_spec_write.specs.Script.{Entry}
-use Rattle.jpg_spec.specs.NumberTexts.{in_comment, without_comments, is_space, NumbersWord, numbers_text, numbers_told}
-use Rattle.jpg_spec_write.specs.ScriptGrammar.{EntryWord, ScriptWord, entry_text, ended_text, last_text, script_text, are_numbers, is_entry, last_entry, entries, is_script, banded, entry_told, Spells, BeginsScript}
-use Rattle.jpg_spec.proofs.Common.{both, same_of, le_of, lt_yes, some_once}
+use Rattle.jpg_spec_write.specs.ScriptGrammar.{EntryWord, entry_text, ended_text, last_text, are_numbers, is_entry, last_entry, entries, banded, entry_told, Spells}
+use Rattle.jpg_spec.proofs.Common.{both, same_of, le_of, lt_yes}
+use Rattle.jpg_spec.specs.TextReaders.{run}
+use Rattle.jpg_spec.proofs.TextRuns.{run_two, run_cons, run_nil, space_low, space_no_digit, value_of}
+use Rattle.jpg_spec.proofs.TextsRead.{ReadsAs}
 use Rattle.jpg_scans.specs.declared.standing.Standing.{Standing}
 use Rattle.jpg_scans.specs.declared.standing.Standing.TheVariants.{Before, InNumber, Behind, Joined}
-use Rattle.jpg_scans.specs.TextState.{NumbersState, ended_by, ended, number_step, EntryState, no_numbers, new_entry, is_before, is_after, is_new_entry, is_new_by, entry_by, whole_entry, colon_by, entry_step, TextState, one_more, text_step, script_told, ReaderState, reader_step, new_reader, run}
-use Rattle.jpg_scans.proofs.TextRuns.{run_append, run_two, run_cons, run_nil, space_low, space_no_digit, number_space, list_run, ended_twice}
+use Rattle.jpg_scans.specs.TextState.{NumbersState, ended_by, ended, number_step, EntryState, no_numbers, new_entry, is_before, is_after, is_new_entry, is_new_by, entry_by, whole_entry, colon_by, entry_step, TextState, one_more, text_step, script_told, new_text, script_reader}
+use Rattle.jpg_scans.proofs.TextRuns.{number_space, list_run, ended_twice}
 
 -- A BYTE OF NUMBERS in the current entry
 
@@ -104,7 +106,7 @@ entry_run es c (Some b) l e =
           ∙ run_cons text_step first next 58 (numbers_text b) (colon_step es r.state (numbers_told c) r.whole)
           ∙ lift es (Some (numbers_told c)) no_numbers t.state (numbers_text b) l t.run;
       whole = whole_by (Some (numbers_told c)) t.state (numbers_told b) t.whole
-          ∙ ap (λ n. cond (n == 4) (Some (banded (numbers_told c) (numbers_told b))) None) (length-map b.numbers (λ n. digits_from 0 n.digits) ∙ four);
+          ∙ ap (λ n. cond (n == 4) (Some (banded (numbers_told c) (numbers_told b))) None) (length-map b.numbers value_of ∙ four);
       begun = refl;
     }
 
@@ -180,9 +182,6 @@ spaces_run s (b ∷ sp) script e h =
 
 -- A COMPLETE TEXT
 
-abbrev pub start : TextState
-start = record { entries = []; entry = new_entry }
-
 some_told : (es : List Entry) → 1 ≤ length es → script_told (record { entries = es; entry = new_entry }) ≡ Some es
 some_told [] l = absurd (omega (arith, l))
 some_told (e ∷ es) l = refl
@@ -199,7 +198,7 @@ all_front t (x ∷ a) b e =
     (ap (λ v. v && all_of t a) s.0 ∙ r.0, r.1)
 
 body_run : (ws : List EntryWord) (last : Option EntryWord) → all_of is_entry (ws ++ last_entry last) ≡ true → 1 ≤ length (ws ++ last_entry last) → length (ws ++ last_entry last) ≤ 100
-    → TextRun start (flat_map ended_text ws ++ last_text last) (map entry_told (ws ++ last_entry last))
+    → TextRun new_text (flat_map ended_text ws ++ last_text last) (map entry_told (ws ++ last_entry last))
 body_run ws None e some few =
     let most = subst (λ (l : List EntryWord). length l ≤ 100) (append-nil ws) few in
     let all = ended_run [] ws (omega (arith, most)) (subst (λ (l : List EntryWord). all_of is_entry l ≡ true) (append-nil ws) e) in
@@ -207,7 +206,7 @@ body_run ws None e some few =
     let long = length-map ws entry_told in
     record {
       state = record { entries = map entry_told ws; entry = new_entry };
-      run = ap (run text_step start) (append-nil (flat_map ended_text ws)) ∙ all;
+      run = ap (run text_step new_text) (append-nil (flat_map ended_text ws)) ∙ all;
       told = some_told (map entry_told ws) (subst (λ n. 1 ≤ n) (sym long) (subst (λ (l : List EntryWord). 1 ≤ length l) (append-nil ws) some)) ∙ ap (λ (l : List Entry). Some l) (sym same);
     }
 body_run ws (Some w) e some few =
@@ -219,7 +218,7 @@ body_run ws (Some w) e some few =
     let r = entry_run es w.components w.band (omega (arith, few, more, long)) (both (is_entry w) true parts.1).0 in
     record {
       state = record { entries = es; entry = r.state };
-      run = run_two text_step start (record { entries = es; entry = new_entry }) (flat_map ended_text ws) (entry_text w) all ∙ r.run;
+      run = run_two text_step new_text (record { entries = es; entry = new_entry }) (flat_map ended_text ws) (entry_text w) all ∙ r.run;
       told = last_told es r.state (entry_told w) (omega (arith, few, more, long)) r.begun r.whole ∙ ap (λ (l : List Entry). Some l) (joined ws);
     }
   where
@@ -227,46 +226,16 @@ body_run ws (Some w) e some few =
     joined [] = refl
     joined (x ∷ ws) = ap (λ (l : List Entry). entry_told x ∷ l) (joined ws)
 
-word_run : (w : ScriptWord) → is_script w ≡ true → TextRun start (script_text w) (map entry_told (entries w))
-word_run w e =
-    let s = both (all_of is_entry (entries w)) ((nat_le 1 (length (entries w)) && nat_le (length (entries w)) 100) && all_of is_space w.after) e in
+pub spelled_run : (text : List ℕ) (script : List Entry) → Spells text script → ReadsAs (List Entry) TextState script_reader (without_comments false text) script
+spelled_run text script sp =
+    let w = sp.word in
+    let s = both (all_of is_entry (entries w)) ((nat_le 1 (length (entries w)) && nat_le (length (entries w)) 100) && all_of is_space w.after) sp.formed in
     let p = both (nat_le 1 (length (entries w)) && nat_le (length (entries w)) 100) (all_of is_space w.after) s.1 in
     let q = both (nat_le 1 (length (entries w))) (nat_le (length (entries w)) 100) p.0 in
     let body = body_run w.ended w.last s.0 (le_of 1 (length (entries w)) q.0) (le_of (length (entries w)) 100 q.1) in
     let end = spaces_run body.state w.after (map entry_told (entries w)) p.1 body.told in
-    record { state = end.state; run = run_two text_step start body.state (flat_map ended_text w.ended ++ last_text w.last) w.after body.run ∙ end.run; told = end.told }
-
--- WITH COMMENTS
-
--- the text that is read is the one without comments
-pub comments_read : (behind : Bool) (s : TextState) (bytes : List ℕ) → option_map (λ (r : ReaderState). r.text) (run reader_step (record { behind = behind; text = s }) bytes) ≡ run text_step s (without_comments behind bytes)
-unfolding run
-comments_read behind s [] = refl
-comments_read behind s (b ∷ bytes) = by (text_step s (cond (in_comment behind b) 32 b)) (λ t. comments_read (in_comment behind b) t bytes)
-  where
-    by : (o : Option TextState) → ((t : TextState) → option_map (λ (r : ReaderState). r.text) (run reader_step (record { behind = in_comment behind b; text = t }) bytes) ≡ run text_step t (without_comments (in_comment behind b) bytes))
-        → option_map (λ (r : ReaderState). r.text) (option_and_then (λ r. run reader_step r bytes) (option_map (λ (t : TextState). record { behind = in_comment behind b; text = t }) o))
-        ≡ option_and_then (λ t. run text_step t (without_comments (in_comment behind b) bytes)) o
-    by None more = refl
-    by (Some t) more = more t
-
-pub record ReaderRun (bytes : List ℕ) (script : List Entry) : Type 0 where
-  pub state : ReaderState
-  pub run : run reader_step new_reader bytes ≡ Some state
-  pub told : script_told state.text ≡ Some script
-
-pub spelled_run : (bytes : List ℕ) (script : List Entry) → Spells bytes script → ReaderRun bytes script
-spelled_run bytes script sp =
-    let r = word_run sp.word sp.formed in
-    by (run reader_step new_reader bytes) refl r.state (comments_read false start bytes ∙ ap (run text_step start) sp.spelled ∙ r.run) (r.told ∙ ap (λ (l : List Entry). Some l) sp.told)
-  where
-    by : (o : Option ReaderState) → run reader_step new_reader bytes ≡ o → (t : TextState) → option_map (λ (r : ReaderState). r.text) o ≡ Some t → script_told t ≡ Some script → ReaderRun bytes script
-    by None a t e h = cc
-    by (Some r) a t e h = record { state = r; run = a; told = ap script_told (some_once r.text t e) ∙ h }
-
--- bytes at which the reader stops begin no text of the form
-pub begins_run : (bytes : List ℕ) → BeginsScript bytes → run reader_step new_reader bytes ≡ None → ⊥
-begins_run bytes b none =
-    let r = spelled_run (bytes ++ b.0) b.1.0 b.1.1 in
-    let z : None ≡ Some r.state = sym (run_append reader_step new_reader bytes b.0 ∙ ap (option_and_then (λ t. run reader_step t b.0)) none) ∙ r.run in
-    cc
+    record {
+      state = end.state;
+      run = ap (run text_step new_text) sp.spelled ∙ run_two text_step new_text body.state (flat_map ended_text w.ended ++ last_text w.last) w.after body.run ∙ end.run;
+      is = end.told ∙ ap (λ (l : List Entry). Some l) sp.told;
+    }

@@ -2,27 +2,18 @@
 use Rattle.std.proofs.Common.{◌≡◌, ℕ, ◌+◌, ◌-◌, ◌*◌, ◌<◌, ◌≤◌, Bool, true, false, cond, not, ◌&&◌, List, [], ◌∷◌, ◌++◌, length, map, refl, sym, ap, ◌∙◌, subst, arith, None, Some}
 use Rattle.std.specs.Prelude.{◌||◌, nat_lt, nat_le, flat_map}
 use Rattle.std.proofs.lemmas.Bool.Decides.{nat_tests}
-use Rattle.std.proofs.lemmas.List.{append_assoc, append-nil, length-append, length-map}
+use Rattle.std.proofs.lemmas.List.{append_assoc, append-nil, length-append, length-map, map-append}
 use Rattle.std.proofs.lemmas.List.Concat.{flat_map-append}
 use Rattle.jpg_spec.specs.Lists.{all_of, is_empty}
-use Rattle.jpg_spec.specs.NumberTexts.{is_digit, digits_from}
-use Rattle.jpg_spec.specs.NumberTexts.{is_space, NumberWord, NumbersWord, number_text, numbers_text, numbers_told}
+use Rattle.jpg_spec.specs.NumberTexts.{is_digit, digits_from, is_space, NumberWord, NumbersWord, number_text, numbers_text, numbers_told}
 use Rattle.jpg_spec_write.specs.ScriptGrammar.{is_joint, is_between, is_script_number, is_first, is_further, are_joined, are_numbers}
 use Rattle.jpg_spec.proofs.Common.{both, and_intro, le_of, lt_of, some_once}
+use Rattle.jpg_spec.proofs.TextRuns.{all_join, one_of, value_of, digits_more}
 use Rattle.jpg_scans.specs.declared.standing.Standing.{Standing}
 use Rattle.jpg_scans.specs.declared.standing.Standing.TheVariants.{Before, InNumber, Behind, Joined}
 use Rattle.jpg_scans.specs.TextState.{NumbersState, ended_by, ended, first_digit, further_digit, digit_by, joint_by, number_step, is_after}
 
 -- TESTS of lists
-
-all_join : {A : Type 0} (t : A → Bool) (a b : List A) → all_of t a ≡ true → all_of t b ≡ true → all_of t (a ++ b) ≡ true
-all_join t [] b e f = f
-all_join t (x ∷ a) b e f =
-    let s = both (t x) (all_of t a) e in
-    and_intro (t x) (all_of t (a ++ b)) s.0 (all_join t a b s.1 f)
-
-one_of : {A : Type 0} (t : A → Bool) (x : A) → t x ≡ true → all_of t (x ∷ []) ≡ true
-one_of t x e = and_intro (t x) true e refl
 
 not_empty : (xs : List ℕ) (b : ℕ) → is_empty (xs ++ b ∷ []) ≡ false
 not_empty [] b = refl
@@ -41,10 +32,12 @@ joint_between b e = by (is_space b)
     by true = refl
     by false = e
 
--- WORDS SO FAR
+-- what a test lets through
+pub if_some : {X : Type 0} (P : X → Type 0) (v : Bool) (x s : X) → (v ≡ true → P x) → cond v (Some x) None ≡ Some s → P s
+if_some P true x s h e = subst P (some_once x s e) (h refl)
+if_some P false x s h e = cc
 
-abbrev pub value_of : NumberWord → ℕ
-value_of w = digits_from 0 w.digits
+-- WORDS SO FAR
 
 -- what is allowed before the next number
 pub is_gap : List NumberWord → List ℕ → Bool
@@ -138,16 +131,12 @@ closed t ns n v i =
       words = i.words ++ word ∷ [];
       text = i.text ∙ sym (append-nil (flat_map number_text (i.words ++ word ∷ [])) ∙ flat_map-append number_text i.words (word ∷ []) ∙ ap (λ l. flat_map number_text i.words ++ l) (append-nil (i.gap ++ i.digits)));
       joined = joined_more i.words i.gap i.digits i.fit i.apart number;
-      told = map_more i.words word ∙ ap (λ l. l ++ digits_from 0 i.digits ∷ []) i.told ∙ ap (λ x. ns ++ x ∷ []) i.value;
+      told = map-append value_of i.words (word ∷ []) ∙ ap (λ l. l ++ digits_from 0 i.digits ∷ []) i.told ∙ ap (λ x. ns ++ x ∷ []) i.value;
       few = omega (arith, long, room);
     }
   where
     le_yes : (a b : ℕ) → a ≤ b → nat_le a b ≡ true
     le_yes a b h = grind (arith, nat_tests, h)
-
-    map_more : (ws : List NumberWord) (w : NumberWord) → map value_of (ws ++ w ∷ []) ≡ map value_of ws ++ value_of w ∷ []
-    map_more [] w = refl
-    map_more (x ∷ ws) w = ap (λ l. value_of x ∷ l) (map_more ws w)
 
 tail_more : (t ns tail : List ℕ) (b : ℕ) → IsList t ns tail → IsList (t ++ b ∷ []) ns (tail ++ b ∷ [])
 tail_more t ns tail b l = record {
@@ -208,10 +197,6 @@ first_begun t ns b i d = record {
   small = small_digit b d;
 }
 
-digits_more : (v : ℕ) (ds : List ℕ) (b : ℕ) → digits_from v (ds ++ b ∷ []) ≡ 10 * digits_from v ds + (b - 48)
-digits_more v [] b = refl
-digits_more v (d ∷ ds) b = digits_more (10 * v + (d - 48)) ds b
-
 continued : (t ns : List ℕ) (n v b : ℕ) → IsInNumber t ns n v → is_digit b ≡ true → n < 3 → 10 * v + (b - 48) ≤ 255 → IsInNumber (t ++ b ∷ []) ns (n + 1) (10 * v + (b - 48))
 continued t ns n v b i d few small =
     let long = length-append i.digits (b ∷ []) in
@@ -237,19 +222,13 @@ abbrev pub Front : List ℕ → NumbersState → Type 0
 Front t s = ListFront t s.numbers s.standing
 
 first_front : (t ns : List ℕ) (b : ℕ) (s : NumbersState) → (length ns < 4 → IsInNumber (t ++ b ∷ []) ns 1 (b - 48)) → first_digit ns (b - 48) ≡ Some s → Front (t ++ b ∷ []) s
-first_front t ns b s h e = by (nat_lt (length ns) 4) refl e
-  where
-    by : (v : Bool) → nat_lt (length ns) 4 ≡ v → cond v (Some (record { numbers = ns; standing = InNumber 1 (b - 48) })) None ≡ Some s → Front (t ++ b ∷ []) s
-    by true a e = subst (Front (t ++ b ∷ [])) (some_once (record { numbers = ns; standing = InNumber 1 (b - 48) }) s e) (h (lt_of (length ns) 4 a))
-    by false a e = cc
+first_front t ns b s h e = if_some (Front (t ++ b ∷ [])) (nat_lt (length ns) 4) (record { numbers = ns; standing = InNumber 1 (b - 48) }) s (λ a. h (lt_of (length ns) 4 a)) e
 
 further_front : (t ns : List ℕ) (n v b : ℕ) (s : NumbersState) → IsInNumber t ns n v → is_digit b ≡ true → further_digit ns n v (b - 48) ≡ Some s → Front (t ++ b ∷ []) s
-further_front t ns n v b s i d e = by (nat_lt n 3) (nat_le (10 * v + (b - 48)) 255) refl refl e
-  where
-    by : (x y : Bool) → nat_lt n 3 ≡ x → nat_le (10 * v + (b - 48)) 255 ≡ y → cond (x && y) (Some (record { numbers = ns; standing = InNumber (n + 1) (10 * v + (b - 48)) })) None ≡ Some s → Front (t ++ b ∷ []) s
-    by true true p q e = subst (Front (t ++ b ∷ [])) (some_once (record { numbers = ns; standing = InNumber (n + 1) (10 * v + (b - 48)) }) s e) (continued t ns n v b i d (lt_of n 3 p) (le_of (10 * v + (b - 48)) 255 q))
-    by true false p q e = cc
-    by false y p q e = cc
+further_front t ns n v b s i d e =
+    let fits = nat_le (10 * v + (b - 48)) 255 in
+    if_some (Front (t ++ b ∷ [])) (nat_lt n 3 && fits) (record { numbers = ns; standing = InNumber (n + 1) (10 * v + (b - 48)) }) s
+    (λ a. (let p = both (nat_lt n 3) fits a in continued t ns n v b i d (lt_of n 3 p.0) (le_of (10 * v + (b - 48)) 255 p.1))) e
 
 digit_front : (t ns : List ℕ) (st : Standing) (b : ℕ) (s : NumbersState) → ListFront t ns st → is_digit b ≡ true → digit_by ns st (b - 48) ≡ Some s → Front (t ++ b ∷ []) s
 digit_front t ns Before b s f d e = first_front t ns b s (λ room. first_begun t ns b f d) e
@@ -275,17 +254,16 @@ space_front t ns Joined b f e = record {
 
 joined_front : (t ns tail : List ℕ) (b : ℕ) (s : NumbersState) → IsList t ns tail → all_of is_between tail ≡ true → is_joint b ≡ true
     → cond (nat_lt (length ns) 4) (Some (record { numbers = ns; standing = Joined })) None ≡ Some s → Front (t ++ b ∷ []) s
-joined_front t ns tail b s l a j e = by (nat_lt (length ns) 4) refl e
+joined_front t ns tail b s l a j e = if_some (Front (t ++ b ∷ [])) (nat_lt (length ns) 4) (record { numbers = ns; standing = Joined }) s joins e
   where
-    by : (v : Bool) → nat_lt (length ns) 4 ≡ v → cond v (Some (record { numbers = ns; standing = Joined })) None ≡ Some s → Front (t ++ b ∷ []) s
-    by true p e = subst (Front (t ++ b ∷ [])) (some_once (record { numbers = ns; standing = Joined }) s e) (record {
+    joins : nat_lt (length ns) 4 ≡ true → Front (t ++ b ∷ []) (record { numbers = ns; standing = Joined })
+    joins p = record {
       tail = tail ++ b ∷ [];
       list = tail_more t ns tail b l;
       some = not_empty tail b;
       apart = all_join is_between tail (b ∷ []) a (one_of is_between b (joint_between b j));
       room = lt_of (length ns) 4 p;
-    })
-    by false p e = cc
+    }
 
 joint_front : (t ns : List ℕ) (st : Standing) (b : ℕ) (s : NumbersState) → ListFront t ns st → is_joint b ≡ true → joint_by (ended_by ns st).numbers (ended_by ns st).standing ≡ Some s → Front (t ++ b ∷ []) s
 joint_front t ns Before b s f j e = cc

@@ -1,58 +1,19 @@
 -- Reading a spelling of a script byte by byte gives the script that it encodes.
-use Rattle.std.proofs.Common.{◌≡◌, ℕ, ◌+◌, ◌-◌, ◌*◌, ◌<◌, ◌≤◌, Bool, true, false, cond, not, ◌&&◌, ◌==◌, List, [], ◌∷◌, ◌++◌, length, map, refl, sym, ap, ◌∙◌, subst, arith, Option, None, Some}
-use Rattle.std.specs.Prelude.{◌||◌, nat_lt, nat_le, option_and_then, flat_map}
+use Rattle.std.proofs.Common.{◌≡◌, ℕ, ◌+◌, ◌-◌, ◌*◌, ◌<◌, ◌≤◌, Bool, true, false, cond, not, ◌&&◌, ◌==◌, List, [], ◌∷◌, ◌++◌, length, map, refl, sym, ap, ◌∙◌, subst, arith, None, Some}
+use Rattle.std.specs.Prelude.{◌||◌, nat_lt, nat_le, flat_map}
 use Rattle.std.proofs.lemmas.Bool.Decides.{nat_tests}
 use Rattle.std.proofs.lemmas.List.{append_assoc, length-append}
 use Rattle.jpg_spec.specs.Lists.{all_of, is_empty}
-use Rattle.jpg_spec.specs.NumberTexts.{is_digit, digits_from}
-use Rattle.jpg_spec.specs.NumberTexts.{is_space, NumberWord, NumbersWord, number_text, numbers_text, numbers_told}
+use Rattle.jpg_spec.specs.NumberTexts.{is_digit, digits_from, is_space, NumberWord, NumbersWord, number_text, numbers_text, numbers_told}
 use Rattle.jpg_spec_write.specs.ScriptGrammar.{is_joint, is_between, is_script_number, is_first, is_further, are_joined, are_numbers}
 use Rattle.jpg_spec.proofs.Common.{both, same_of, le_of, lt_yes}
+use Rattle.jpg_spec.specs.TextReaders.{run}
+use Rattle.jpg_spec.proofs.TextRuns.{run_two, run_cons, run_nil, space_no_digit, grows, value_of}
 use Rattle.jpg_scans.specs.declared.standing.Standing.{Standing}
 use Rattle.jpg_scans.specs.declared.standing.Standing.TheVariants.{Before, InNumber, Behind, Joined}
-use Rattle.jpg_scans.specs.TextState.{NumbersState, ended_by, ended, first_digit, digit_by, joint_by, number_step, no_numbers, run}
-
--- RUNS
-
-pub run_append : {S : Type 0} (step : S → ℕ → Option S) (s : S) (a b : List ℕ) → run step s (a ++ b) ≡ option_and_then (λ t. run step t b) (run step s a)
-unfolding run
-run_append step s [] b = refl
-run_append {S = S} step s (x ∷ a) b = by (step s x) (λ t. run_append step t a b)
-  where
-    by : (o : Option S) → ((t : S) → run step t (a ++ b) ≡ option_and_then (λ u. run step u b) (run step t a))
-        → option_and_then (λ t. run step t (a ++ b)) o ≡ option_and_then (λ u. run step u b) (option_and_then (λ t. run step t a) o)
-    by None more = refl
-    by (Some t) more = more t
-
-pub run_two : {S : Type 0} (step : S → ℕ → Option S) (s t : S) (a b : List ℕ) → run step s a ≡ Some t → run step s (a ++ b) ≡ run step t b
-run_two step s t a b e = run_append step s a b ∙ ap (option_and_then (λ u. run step u b)) e
-
-pub run_cons : {S : Type 0} (step : S → ℕ → Option S) (s t : S) (x : ℕ) (b : List ℕ) → step s x ≡ Some t → run step s (x ∷ b) ≡ run step t b
-unfolding run
-run_cons step s t x b e = ap (option_and_then (λ u. run step u b)) e
-
-pub run_nil : {S : Type 0} (step : S → ℕ → Option S) (s : S) → run step s [] ≡ Some s
-unfolding run
-run_nil step s = refl
+use Rattle.jpg_scans.specs.TextState.{NumbersState, ended_by, ended, first_digit, digit_by, joint_by, number_step, no_numbers}
 
 -- BYTES
-
-pub space_low : (b : ℕ) → is_space b ≡ true → b ≤ 32
-space_low b e = by (b == 32) (b == 9) (b == 10) (b == 12) (b == 13) refl refl refl refl refl e
-  where
-    by : (v w x y z : Bool) → (b == 32) ≡ v → (b == 9) ≡ w → (b == 10) ≡ x → (b == 12) ≡ y → (b == 13) ≡ z → (v || (w || (x || (y || z)))) ≡ true → b ≤ 32
-    by true w x y z a b' c d f e = let s = same_of b 32 a in omega (arith, s)
-    by false true x y z a b' c d f e = let s = same_of b 9 b' in omega (arith, s)
-    by false false true y z a b' c d f e = let s = same_of b 10 c in omega (arith, s)
-    by false false false true z a b' c d f e = let s = same_of b 12 d in omega (arith, s)
-    by false false false false true a b' c d f e = let s = same_of b 13 f in omega (arith, s)
-    by false false false false false a b' c d f e = cc
-
-pub space_no_digit : (b : ℕ) → is_space b ≡ true → is_digit b ≡ false
-space_no_digit b e =
-    let l = space_low b e in
-    let no : nat_le 48 b ≡ false = grind (arith, nat_tests, l) in
-    ap (λ t. t && nat_le b 57) no
 
 joint_is : (b : ℕ) → is_joint b ≡ true → (P : ℕ → Type 0) → P 44 → P 45 → P b
 joint_is b e P p q = by (b == 44) refl e
@@ -75,10 +36,6 @@ pub number_joint : (s : NumbersState) (b : ℕ) → is_joint b ≡ true → numb
 number_joint s b e = joint_is b e (λ b. number_step s b ≡ joint_by (ended s).numbers (ended s).standing) refl refl
 
 -- A NUMBER
-
-grows : (v : ℕ) (ds : List ℕ) → v ≤ digits_from v ds
-grows v [] = omega arith
-grows v (d ∷ ds) = let h = grows (10 * v + (d - 48)) ds in omega (arith, h)
 
 digits_on : (ns : List ℕ) (n v : ℕ) (ds : List ℕ) → all_of is_digit ds ≡ true → n + length ds ≤ 3 → digits_from v ds ≤ 255
     → run number_step (record { numbers = ns; standing = InNumber n v }) ds ≡ Some (record { numbers = ns; standing = InNumber (n + length ds) (digits_from v ds) })
@@ -213,7 +170,7 @@ record EndsIn (s : NumbersState) (bytes told : List ℕ) : Type 0 where
   all : numbers ++ value ∷ [] ≡ told
 
 further_run : (ns : List ℕ) (n v : ℕ) (ws : List NumberWord) → all_of is_further ws ≡ true → length ns + length ws < 4
-    → EndsIn (record { numbers = ns; standing = InNumber n v }) (flat_map number_text ws) (ns ++ v ∷ map (λ w. digits_from 0 w.digits) ws)
+    → EndsIn (record { numbers = ns; standing = InNumber n v }) (flat_map number_text ws) (ns ++ v ∷ map value_of ws)
 further_run ns n v [] e l = record { numbers = ns; digits = n; value = v; run = run_nil number_step (record { numbers = ns; standing = InNumber n v }); all = refl }
 further_run ns n v (w ∷ ws) e l =
     let s = both (is_further w) (all_of is_further ws) e in
@@ -230,7 +187,7 @@ further_run ns n v (w ∷ ws) e l =
       run = run_two number_step (record { numbers = ns; standing = InNumber n v }) (record { numbers = ns ++ v ∷ []; standing = InNumber (length w.digits) (digits_from 0 w.digits) }) (number_text w) (flat_map number_text ws)
           (run_two number_step (record { numbers = ns; standing = InNumber n v }) (record { numbers = ns ++ v ∷ []; standing = g.standing }) w.gap w.digits g.run ∙ d)
           ∙ rest.run;
-      all = rest.all ∙ append_assoc ns (v ∷ []) (digits_from 0 w.digits ∷ map (λ w. digits_from 0 w.digits) ws);
+      all = rest.all ∙ append_assoc ns (v ∷ []) (digits_from 0 w.digits ∷ map value_of ws);
     }
 
 -- a list, where its last number is completed
@@ -261,7 +218,7 @@ before_open : is_open Before ≡ true
 unfolding is_open
 before_open = refl
 
-joined_run : (ws : List NumberWord) → are_joined ws ≡ true → length ws ≤ 4 → EndsIn no_numbers (flat_map number_text ws) (map (λ w. digits_from 0 w.digits) ws)
+joined_run : (ws : List NumberWord) → are_joined ws ≡ true → length ws ≤ 4 → EndsIn no_numbers (flat_map number_text ws) (map value_of ws)
 joined_run [] e l = cc
 joined_run (w ∷ ws) e l =
     let s = both (is_first w) (all_of is_further ws) e in

@@ -1,8 +1,7 @@
 pub mod Judged
-pub mod OneScript
 pub mod Order
 pub mod Own
 pub mod Progress
-pub mod ReadText
 pub mod Sent
 pub mod TextState
+pub mod WrongTexts

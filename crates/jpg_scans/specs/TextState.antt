@@ -1,10 +1,10 @@
 -- The result of the bytes of a script's text, one by one: numbers, an entry, entries (release 6b's wizard.txt).
 -- ScriptGrammar of jpg_spec defines what a text is.
-use Rattle.std.specs.Prelude.{ℕ, ◌+◌, ◌-◌, ◌*◌, ◌<◌, Bool, true, false, nat_lt, nat_le, ◌&&◌, ◌==◌, if◌then◌else◌, List, [], ◌∷◌, ◌++◌, length, Option, None, Some, option_map, option_and_then}
+use Rattle.std.specs.Prelude.{ℕ, ◌+◌, ◌-◌, ◌*◌, ◌<◌, Bool, true, false, nat_lt, nat_le, ◌&&◌, ◌==◌, if◌then◌else◌, List, [], ◌∷◌, ◌++◌, length, Option, None, Some, option_map}
 use Rattle.jpg_spec.specs.Lists.{is_empty}
-use Rattle.jpg_spec.specs.NumberTexts.{is_digit}
+use Rattle.jpg_spec.specs.NumberTexts.{is_digit, is_space}
 use Rattle.jpg_spec_write.specs.Script.{Entry}
-use Rattle.jpg_spec.specs.NumberTexts.{in_comment, is_space}
+use Rattle.jpg_spec.specs.TextReaders.{TextReader}
 use Rattle.jpg_spec_write.specs.ScriptGrammar.{is_joint, banded}
 use Rattle.jpg_scans.specs.declared.standing.Standing.{Standing}
 use Rattle.jpg_scans.specs.declared.standing.Standing.TheVariants.{Before, InNumber, Behind, Joined}
@@ -131,25 +131,8 @@ script_told s =
     if is_new_entry s.entry then (if is_empty s.entries then None else Some s.entries)
     else one_more s.entries (whole_entry s.entry)
 
--- BYTES, with comments
+abbrev pub new_text : TextState
+new_text = record { entries = []; entry = new_entry }
 
-pub record ReaderState : Type 0 where
-  pub behind : Bool
-  pub text : TextState
-
-abbrev pub reader_step : ReaderState → ℕ → Option ReaderState
-reader_step s b =
-    option_map (λ text. record { behind = in_comment s.behind b; text = text }) (text_step s.text (if in_comment s.behind b then 32 else b))
-
-abbrev pub new_reader : ReaderState
-new_reader = record { behind = false; text = record { entries = []; entry = new_entry } }
-
--- of no bytes, or of one more and the rest
-unfoldable pub run : {S : Type 0} → (S → ℕ → Option S) → S → List ℕ → Option S
-run step s [] = Some s
-run step s (b ∷ bytes) = option_and_then (λ t. run step t bytes) (step s b)
-
--- an answer: whether the byte was taken, and the state then
-abbrev pub taken : {S : Type 0} → Bool → S → Option S
-taken true s = Some s
-taken false s = None
+abbrev pub script_reader : TextReader (List Entry) TextState
+script_reader = record { start = new_text; step = text_step; told = script_told }

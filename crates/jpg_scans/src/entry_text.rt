@@ -1,7 +1,8 @@
 //! An entry of a script's text, byte by byte (the manual's wizard.txt).
 ghost use Rattle.std.specs.Prelude.{◌≡◌, ◌≤◌, [], ◌∷◌, length, IfSome};
 ghost use Rattle.jpg_spec_write.specs.ScriptGrammar.{banded};
-ghost use Rattle.jpg_scans.specs.TextState.{colon_by, ended, entry_by, entry_step, is_new_entry, new_entry, taken, whole_entry};
+ghost use Rattle.jpg_spec.specs.TextReaders.{taken};
+ghost use Rattle.jpg_scans.specs.TextState.{colon_by, ended, entry_by, entry_step, is_new_entry, new_entry, whole_entry};
 
 use crate::Entry;
 use crate::numbers::Numbers;

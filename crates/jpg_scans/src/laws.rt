@@ -1,8 +1,9 @@
 //! Laws over the definitions, each on a function that does nothing.
 ghost use Rattle.std.specs.Prelude.{ℕ, List, [], Err};
-ghost use Rattle.jpg_spec_write.specs.ScriptGrammar.{TellsScript};
+ghost use Rattle.jpg_spec.specs.TextForms.{HasOneAnswer};
+ghost use Rattle.jpg_spec_write.specs.ScriptGrammar.{TellsScript, script_form};
 ghost use Rattle.jpg_spec.specs.declared.fault.Fault.TheVariants.{RepeatedScan, Progression, ScriptText};
-ghost use Rattle.jpg_scans.specs.OneScript.{HasOneAnswer, wrong_text, comma_text, large_text};
+ghost use Rattle.jpg_scans.specs.WrongTexts.{wrong_text, comma_text, large_text};
 ghost use Rattle.jpg_scans.specs.Order.{IsJudgedFirst};
 
 /// After any segments a scan header is refused with RepeatedScan or Progression exactly if it has that fault after the
@@ -14,7 +15,7 @@ pub fn order_is_judged_first()
 
 /// A text encodes one script, or is wrong at one place.
 pub fn texts_tell_one_script()
-    ensures { (text : List ℕ) → HasOneAnswer text }
+    ensures { (text : List ℕ) → HasOneAnswer script_form text }
 {}
 
 /// Texts are wrong at the first byte that no text of the form has there: an `x` after `0 1 `, a semicolon after a

@@ -1,9 +1,9 @@
 //! The numbers of a script's text, byte by byte (the manual's wizard.txt).
 ghost use Rattle.std.specs.Prelude.{◌≡◌, ◌<◌, ◌≤◌, length, true, false};
-ghost use Rattle.jpg_spec.specs.NumberTexts.{is_digit};
-ghost use Rattle.jpg_spec.specs.NumberTexts.{is_space};
+ghost use Rattle.jpg_spec.specs.NumberTexts.{is_digit, is_space};
 ghost use Rattle.jpg_spec_write.specs.ScriptGrammar.{is_joint};
-ghost use Rattle.jpg_scans.specs.TextState.{digit_by, ended, first_digit, further_digit, joint_by, no_numbers, number_step, is_before, is_after, taken};
+ghost use Rattle.jpg_spec.specs.TextReaders.{taken};
+ghost use Rattle.jpg_scans.specs.TextState.{digit_by, ended, first_digit, further_digit, joint_by, no_numbers, number_step, is_before, is_after};
 ghost use Rattle.jpg_scans.specs.declared.standing.Standing.TheVariants.{InNumber};
 
 use crate::standing::Standing;

@@ -2,8 +2,9 @@
 ghost use Rattle.std.specs.Prelude.{◌≡◌, option_map};
 ghost use Rattle.jpg_spec.specs.NumberTexts.{in_comment};
 ghost use Rattle.jpg_spec.specs.declared.fault.Fault.TheVariants.{ScriptText};
-ghost use Rattle.jpg_scans.specs.ReadText.{IsReadScript};
-ghost use Rattle.jpg_scans.specs.TextState.{new_reader, reader_step, script_told, taken, text_step};
+ghost use Rattle.jpg_spec.specs.TextReaders.{IsRead, plain, reader_step, taken};
+ghost use Rattle.jpg_spec_write.specs.ScriptGrammar.{script_form};
+ghost use Rattle.jpg_scans.specs.TextState.{new_text, script_reader, script_told, text_step};
 
 use crate::Entry;
 use crate::entry_text::EntryText;
@@ -22,10 +23,10 @@ pub struct TextReader {
 
 impl Model for TextReader {
     ghost use Rattle.jpg_spec.specs.declared.fault.Fault.TheVariants.{ScriptText};
-    ghost use Rattle.jpg_scans.specs.ReadText.{IsReadScript};
-    ghost use Rattle.jpg_scans.specs.TextState.{ReaderState as State};
+    ghost use Rattle.jpg_spec.specs.TextReaders.{ReaderState};
+    ghost use Rattle.jpg_scans.specs.TextState.{TextState};
 
-    ghost Value = { State };
+    ghost Value = { ReaderState TextState };
 
     ghost view = { λ r. record { behind = r.in_comment; text = record { entries = r.entries.items; entry = r.entry } } };
 }
@@ -35,7 +36,7 @@ const LONGEST: u64 = 65536;
 
 // All bytes of a text, or the first that may not occur there.
 pub fn read(text: &[u8]) -> Result<TextReader, FaultAt>
-    ensures { IsReadScript text.now result }
+    ensures { IsRead script_form script_reader text.now result }
 {
     let mut reader = TextReader::new();
     let mut before = 0;
@@ -63,7 +64,7 @@ pub fn wrong_at(at: u64) -> FaultAt
 
 impl TextReader {
     pub fn new() -> TextReader
-        ensures { result ≡ new_reader }
+        ensures { result ≡ plain new_text }
     {
         TextReader {
             entries: ArrayVec::new(),
@@ -74,7 +75,7 @@ impl TextReader {
 
     // Takes a byte, and answers whether it may occur there.
     pub fn byte(&mut self, byte: u8) -> bool
-        ensures { taken result self.new ≡ reader_step self.old byte }
+        ensures { taken result self.new ≡ reader_step text_step self.old byte }
     {
         self.in_comment = in_comment(self.in_comment, byte);
         if self.in_comment {

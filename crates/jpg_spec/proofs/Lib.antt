@@ -84,6 +84,9 @@ pub mod Sound
 pub mod Strings
 pub mod TablesInForce
 pub mod TailsOnce
+pub mod TextRuns
+pub mod TextsRead
+pub mod TextsTold
 pub mod Told
 pub mod UnitsCount
 pub mod UnitsCut

@@ -42,6 +42,8 @@ pub mod ScanReading
 pub mod ScanRows
 pub mod Segments
 pub mod Sound
+pub mod TextForms
+pub mod TextReaders
 pub mod Transposed
 pub mod Typical
 pub mod WholeBlocks

@@ -1,10 +1,11 @@
 -- THE TEXT OF TABLES, and the two tables that images are encoded by (the manual of cjpeg, "-qtables" and "-quality";
 -- the bounds of numbers and bytes are the suite's). A text encodes tables if it has a spelling: its numbers with the
 -- space around them.
-use Rattle.std.specs.Prelude.{◌≡◌, ◌⊎◌, ℕ, ◌+◌, ◌*◌, ◌/◌, ◌<◌, ◌≤◌, Bool, true, false, not, nat_le, ◌&&◌, ◌||◌, ◌==◌, List, [], ◌∷◌, ◌++◌, length, map, take, drop, slice_get, Option, None, Some, IfSome, Result, Ok, Err}
+use Rattle.std.specs.Prelude.{◌≡◌, ℕ, ◌*◌, ◌/◌, ◌≤◌, Bool, true, false, not, nat_le, ◌&&◌, ◌||◌, ◌==◌, List, [], ◌∷◌, length, map, take, drop, slice_get, Option, None, Some, IfSome, Result}
 use Rattle.jpg_spec.specs.Lists.{all_of, is_empty, below}
 use Rattle.jpg_spec.specs.NumberTexts.{is_digit, digits_from, without_comments, is_space, NumberWord, NumbersWord, numbers_text, numbers_told}
 use Rattle.jpg_spec.specs.Segments.{QuantTable}
+use Rattle.jpg_spec.specs.TextForms.{TextForm, Tells}
 use Rattle.jpg_spec_image.specs.Quality.{in_zigzag, luminance_table, chrominance_table, quality_scale, scaled_table}
 use Rattle.jpg_spec.specs.declared.fault.FaultAt.{FaultAt}
 use Rattle.jpg_spec.specs.declared.fault.Fault.TheVariants.{TableText}
@@ -47,39 +48,13 @@ pub record SpellsTables (text : List ℕ) (tables : List QuantTable) : Type 0 wh
   pub spelled : without_comments false text ≡ numbers_text word
   pub told : tables_of (numbers_told word) ≡ tables
 
--- WHERE A TEXT IS WRONG: at the first byte that no text of the form has there, at its end if it ends too early, or
--- after the longest text.
-
-abbrev pub longest_tables : ℕ
-longest_tables = 65536
-
--- some text of the form begins with these bytes
-abbrev pub BeginsTables : List ℕ → Type 0
-BeginsTables bytes = (rest : List ℕ) × ((tables : List QuantTable) × SpellsTables (bytes ++ rest) tables)
-
-pub record HasWrongByte (text : List ℕ) (place : ℕ) : Type 0 where
-  pub before : ℕ
-  pub place_is : place ≡ before + 1
-  pub there : before < length text
-  pub early : before < longest_tables
-  pub begins : BeginsTables (take before text)
-  pub wrong : BeginsTables (take place text) → ⊥
-
-pub record LacksNumbers (text : List ℕ) (place : ℕ) : Type 0 where
-  pub place_is : place ≡ length text
-  pub short : length text ≤ longest_tables
-  pub begins : BeginsTables text
-  pub wrong : (tables : List QuantTable) → SpellsTables text tables → ⊥
-
-pub record HasManyBytes (text : List ℕ) (place : ℕ) : Type 0 where
-  pub place_is : place ≡ longest_tables + 1
-  pub long : longest_tables < length text
-  pub begins : BeginsTables (take longest_tables text)
+-- the form of tables
+abbrev pub tables_form : TextForm (List QuantTable)
+tables_form = record { spells = SpellsTables; fault = TableText }
 
 -- the tables of a text, or its fault and its place
 abbrev pub TellsTables : List ℕ → Result (List QuantTable) FaultAt → Type 0
-TellsTables text (Ok tables) = (length text ≤ longest_tables) × SpellsTables text tables
-TellsTables text (Err f) = (f.fault ≡ TableText) × (HasWrongByte text f.at ⊎ (LacksNumbers text f.at ⊎ HasManyBytes text f.at))
+TellsTables text told = Tells tables_form text told
 
 -- THE TWO TABLES of images: the first two of a file, scaled if a quality is given. One that isn't there is K.1 or K.2,
 -- at the quality given or at 75.

@@ -1,8 +1,9 @@
 -- THE TEXT OF A SCRIPT (release 6b's wizard.txt, "Multiple Scan / Progression Control"; the bounds of numbers, entries
 -- and bytes are the suite's). A text encodes a script if it has a spelling: its numbers with all that is around them.
-use Rattle.std.specs.Prelude.{◌≡◌, ◌⊎◌, ℕ, ◌+◌, ◌<◌, ◌≤◌, Bool, true, false, not, nat_le, ◌&&◌, ◌||◌, ◌==◌, List, [], ◌∷◌, ◌++◌, length, map, flat_map, take, slice_index_or, Option, None, Some, Result, Ok, Err}
+use Rattle.std.specs.Prelude.{◌≡◌, ℕ, Bool, true, false, not, nat_le, ◌&&◌, ◌||◌, ◌==◌, List, [], ◌∷◌, ◌++◌, length, map, flat_map, slice_index_or, Option, None, Some, Result}
 use Rattle.jpg_spec.specs.Lists.{all_of, is_empty}
 use Rattle.jpg_spec.specs.NumberTexts.{is_digit, digits_from, is_space, NumbersWord, numbers_text, NumberWord, numbers_told, without_comments}
+use Rattle.jpg_spec.specs.TextForms.{TextForm, Tells}
 use Rattle.jpg_spec_write.specs.Script.{Entry}
 use Rattle.jpg_spec.specs.declared.fault.FaultAt.{FaultAt}
 use Rattle.jpg_spec.specs.declared.fault.Fault.TheVariants.{ScriptText}
@@ -114,36 +115,10 @@ pub record Spells (text : List ℕ) (script : List Entry) : Type 0 where
   pub spelled : without_comments false text ≡ script_text word
   pub told : map entry_told (entries word) ≡ script
 
--- WHERE A TEXT IS WRONG: at the first byte that no text of the form has there, at its end if it ends too early, or
--- after the longest text.
-
-abbrev pub longest_script : ℕ
-longest_script = 65536
-
--- some text of the form begins with these bytes
-abbrev pub BeginsScript : List ℕ → Type 0
-BeginsScript bytes = (rest : List ℕ) × ((script : List Entry) × Spells (bytes ++ rest) script)
-
-pub record IsWrongByte (text : List ℕ) (place : ℕ) : Type 0 where
-  pub before : ℕ
-  pub place_is : place ≡ before + 1
-  pub there : before < length text
-  pub early : before < longest_script
-  pub begins : BeginsScript (take before text)
-  pub wrong : BeginsScript (take place text) → ⊥
-
-pub record EndsTooEarly (text : List ℕ) (place : ℕ) : Type 0 where
-  pub place_is : place ≡ length text
-  pub short : length text ≤ longest_script
-  pub begins : BeginsScript text
-  pub wrong : (script : List Entry) → Spells text script → ⊥
-
-pub record IsTooLong (text : List ℕ) (place : ℕ) : Type 0 where
-  pub place_is : place ≡ longest_script + 1
-  pub long : longest_script < length text
-  pub begins : BeginsScript (take longest_script text)
+-- the form of scripts
+abbrev pub script_form : TextForm (List Entry)
+script_form = record { spells = Spells; fault = ScriptText }
 
 -- the script of a text, or its fault and its place
 abbrev pub TellsScript : List ℕ → Result (List Entry) FaultAt → Type 0
-TellsScript text (Ok script) = (length text ≤ longest_script) × Spells text script
-TellsScript text (Err f) = (f.fault ≡ ScriptText) × (IsWrongByte text f.at ⊎ (EndsTooEarly text f.at ⊎ IsTooLong text f.at))
+TellsScript text told = Tells script_form text told

@@ -5,9 +5,10 @@ use Rattle.jpg_base.specs.declared.names.Name.{Name}
 use Rattle.jpg_base.specs.declared.names.Name.TheVariants as name
 use Rattle.jpg_base.specs.declared.names.Put.TheVariants as put
 use Rattle.jpg_base.specs.Desk.{DeskState}
+use Rattle.jpg_spec.specs.TextForms.{longest_text}
 use Rattle.jpg_spec_write.specs.ScansAsked.{Scans, sequential, standard, given}
 use Rattle.jpg_spec_write.specs.Script.{Entry}
-use Rattle.jpg_spec_write.specs.ScriptGrammar.{TellsScript, longest_script}
+use Rattle.jpg_spec_write.specs.ScriptGrammar.{TellsScript}
 use Rattle.jpg_spec_words.specs.TransformWords.{ScansSource, own_sequential, own_progressive, in_file}
 use Rattle.jpg_spec.specs.declared.fault.FaultAt.{FaultAt}
 use Rattle.jpg_spec_words.specs.declared.answers.Why.{Why}
@@ -20,7 +21,7 @@ use Rattle.jpg_cli.specs.Desk.TextTaken.{StopsAtText, TellsIn, TextKind}
 use Rattle.jpg_cli.specs.Stays.{Untouched}
 
 abbrev pub script_kind : TextKind (List Entry)
-script_kind = record { which = which.Script; longest = longest_script; tells = TellsScript }
+script_kind = record { which = which.Script; longest = longest_text; tells = TellsScript }
 
 -- THE SCANS that are asked for: the default ones, or those of the script's file
 abbrev pub HasScans : ScansSource → DeskState → Scans → Type 0

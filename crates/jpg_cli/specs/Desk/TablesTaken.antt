@@ -6,7 +6,8 @@ use Rattle.jpg_base.specs.declared.names.Name.TheVariants as name
 use Rattle.jpg_base.specs.declared.names.Put.TheVariants as put
 use Rattle.jpg_base.specs.Desk.{DeskState}
 use Rattle.jpg_spec.specs.Segments.{QuantTable}
-use Rattle.jpg_spec_image.specs.TableText.{TellsTables, longest_tables}
+use Rattle.jpg_spec.specs.TextForms.{longest_text}
+use Rattle.jpg_spec_image.specs.TableText.{TellsTables}
 use Rattle.jpg_spec.specs.declared.fault.FaultAt.{FaultAt}
 use Rattle.jpg_spec_words.specs.declared.answers.Why.{Why}
 use Rattle.jpg_spec_words.specs.declared.answers.Which.TheVariants as which
@@ -14,7 +15,7 @@ use Rattle.jpg_cli.specs.Endings.{Asks}
 use Rattle.jpg_cli.specs.Desk.TextTaken.{StopsAtText, TellsIn, TextKind}
 
 abbrev pub tables_kind : TextKind (List QuantTable)
-tables_kind = record { which = which.Tables; longest = longest_tables; tells = TellsTables }
+tables_kind = record { which = which.Tables; longest = longest_text; tells = TellsTables }
 
 -- THE TABLES that are asked for: none, or those of the file of this name
 abbrev pub HasTables : Option (List ℕ) → DeskState → Option (List QuantTable) → Type 0

@@ -1,7 +1,6 @@
 -- A file that is fed piece by piece (T.81, B.2.1).
 use Rattle.std.specs.Prelude.{◌≡◌, ◌⊎◌, ℕ, ◌<◌, ◌≤◌, Bool, true, false, List, ◌++◌, length, take, ◌+◌, option_map, Option, Some, None, Result, Ok, Err}
 use Rattle.jpg_spec.specs.Geometry.{Frame}
-use Rattle.jpg_spec.specs.FrameHeader.{AreLimits}
 use Rattle.jpg_spec.specs.Meaning.{Meaning}
 use Rattle.jpg_spec.specs.Scan.{Blocks}
 use Rattle.jpg_spec.specs.Markers.{Segment}
@@ -18,7 +17,7 @@ use Rattle.jpg_base.specs.declared.stop.Fed.TheVariants as fed
 use Rattle.jpg_base.specs.declared.stop.Stop.{Stop}
 use Rattle.jpg_base.specs.declared.stop.Stop.TheVariants as stop
 use Rattle.jpg_file.specs.Read.FirstHeader.{IsFirstHeaderOf}
-use Rattle.jpg_file.specs.Read.Left.{Leaves, LeavesPicture}
+use Rattle.jpg_file.specs.Read.Left.{Leaves}
 use Rattle.jpg_file.specs.declared.read.ends.End.{End}
 use Rattle.jpg_file.specs.declared.read.ends.End.TheVariants as ends
 use Rattle.jpg_file.specs.Read.File.{EndsFile, IsStop, StandsForFile}
@@ -121,11 +120,3 @@ abbrev pub EndsDone : Result Fed Stop → ReaderState → Type 0
 EndsDone (Ok fed.More) r = r.done ≡ false
 EndsDone (Ok (fed.Done used)) r = r.done ≡ true
 EndsDone (Err e) r = r.done ≡ false
-
--- THE SAME for the state of the file
-abbrev pub AfterFilePiece : Limits → List ℕ → List ℕ → Result Fed Stop → FileWork → Type 0
-AfterFilePiece limits bytes piece (Ok fed.More) w = StandsForFile limits (bytes ++ piece) w × (length (bytes ++ piece) < limits.input)
-AfterFilePiece limits bytes piece (Ok (fed.Done used)) w = EndsFile limits (bytes ++ take used piece) w × (1 ≤ used) × (used ≤ length piece)
-AfterFilePiece limits bytes piece (Err (stop.Fault f)) w =
-    IsStopOf limits (bytes ++ piece) f × (length bytes < limits.input → length bytes < f.at) × KeepsHeadAt limits (bytes ++ piece) f w.head
-AfterFilePiece limits bytes piece (Err stop.NoMemory) w = KeepsHead limits (length bytes) (bytes ++ piece) w.head

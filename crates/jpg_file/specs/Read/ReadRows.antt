@@ -1,6 +1,6 @@
 -- A file that is fed piece by piece, and read MCU row by MCU row if its first scan has all components of a sequential
 -- frame (T.81, A.2.3, B.2.1).
-use Rattle.std.specs.Prelude.{◌≡◌, ◌⊎◌, ℕ, ◌+◌, ◌*◌, ◌<◌, ◌≤◌, Bool, true, false, List, ◌++◌, length, take, Option, Some, None, Result, Ok, Err}
+use Rattle.std.specs.Prelude.{◌≡◌, ◌⊎◌, ℕ, ◌+◌, ◌*◌, ◌<◌, ◌≤◌, true, false, List, ◌++◌, length, take, Some, None, Result, Ok, Err}
 use Rattle.jpg_spec.specs.Geometry.{Frame, blocks_across, blocks_down, bounds, component_at, mcu_row_frame}
 use Rattle.jpg_spec.specs.FrameHeader.{AreLimits}
 use Rattle.jpg_spec.specs.Scan.{Blocks}
@@ -14,7 +14,6 @@ use Rattle.jpg_spec.specs.UnfinishedFile.{UnfinishedFile, IsWholeFile}
 use Rattle.jpg_spec.specs.RowsTold.{BeginsScanOfAll, CompletesRows, TellsRows}
 use Rattle.jpg_spec.specs.RowsTold.{picture_so_far}
 use Rattle.jpg_spec.specs.declared.frame.Copying.TheVariants as copying
-use Rattle.jpg_spec.specs.declared.frame.Limits.{Limits}
 use Rattle.jpg_base.specs.declared.stop.Stop.{Stop}
 use Rattle.jpg_base.specs.declared.stop.Stop.TheVariants as stop
 use Rattle.jpg_coefs.specs.Picture.{Picture, map_of}
@@ -30,11 +29,9 @@ use Rattle.jpg_file.specs.Read.RowsNone.{HasNoRows}
 use Rattle.jpg_file.specs.Read.Strips.{GoesByRow, SparesRows, StandsByRow}
 use Rattle.jpg_file.specs.declared.read.ends.End.{End}
 use Rattle.jpg_file.specs.declared.read.ends.End.TheVariants as ends
-use Rattle.jpg_file.specs.declared.read.file.FileWork.{FileWork}
 use Rattle.jpg_file.specs.declared.read.row_pieces.FedRow.{FedRow}
 use Rattle.jpg_file.specs.declared.read.row_pieces.FedRow.TheVariants as fed
 use Rattle.jpg_file.specs.declared.read.rows.RowWork.{RowWork}
-use Rattle.jpg_file.specs.declared.read.strip_head.StripHead.{StripHead}
 
 -- the invariant of a reader: it was given some bytes, or has a picture; where MCU rows are to be read, no markers are
 -- kept, and with a current row it asks for no memory

@@ -9,7 +9,6 @@ use Rattle.jpg_base.specs.declared.stop.Stop.{Stop}
 use Rattle.jpg_base.specs.declared.stop.Stop.TheVariants as stop
 use Rattle.jpg_file.specs.Read.File.{limits_of}
 use Rattle.jpg_file.specs.Read.FirstHeader.{IsFirstHeaderOf}
-use Rattle.jpg_file.specs.Read.RowPieces.{RowsGo, RowsOpen}
 use Rattle.jpg_file.specs.Read.RowStops.{RowsAtFault}
 use Rattle.jpg_file.specs.Read.RowsKnown.{RowsKnown}
 use Rattle.jpg_file.specs.Read.Strips.{GoesByRow, StandsByRow}
@@ -51,10 +50,3 @@ abbrev pub FaultsFed : Limits → List ℕ → List ℕ → Result FedRow Stop �
 FaultsFed limits bytes piece (Ok x) rows new = Unit {0}
 FaultsFed limits bytes piece (Err (stop.Fault f)) rows new = RowsFault limits bytes (take f.at (bytes ++ piece)) rows new new.rows
 FaultsFed limits bytes piece (Err stop.NoMemory) rows new = Unit {0}
-
--- whatever it was given
-abbrev pub FaultsRead : Limits → StripWork → List ℕ → Result FedRow Stop → StripWork → Type 0
-FaultsRead limits old piece answer new = (bytes : List ℕ) → RowsOpen limits bytes old.rows old.file → FaultsFed limits bytes piece answer old.rows new
-
-abbrev pub FaultsOn : Limits → StripWork → List ℕ → Result FedRow Stop → StripWork → Type 0
-FaultsOn limits old piece answer new = (bytes : List ℕ) → RowsGo limits bytes old.rows old.file → FaultsFed limits bytes piece answer old.rows new

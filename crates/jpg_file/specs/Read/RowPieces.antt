@@ -60,25 +60,12 @@ CountsFed (Ok (fed.Row used)) rows after = CountsStrip step.Row rows after
 CountsFed (Ok (fed.Done used)) rows after = CountsStrip step.Whole rows after
 CountsFed (Err e) rows after = Unit {0}
 
--- whatever it was given
-abbrev pub ReadsRowPiece : Limits → StripWork → List ℕ → Result FedRow Stop → StripWork → Type 0
-ReadsRowPiece limits old piece answer new = (bytes : List ℕ) → RowsOpen limits bytes old.rows old.file → AfterRowsPiece limits bytes piece answer new.rows new.file
-
-abbrev pub ReadsOn : Limits → StripWork → List ℕ → Result FedRow Stop → StripWork → Type 0
-ReadsOn limits old piece answer new = (bytes : List ℕ) → RowsGo limits bytes old.rows old.file → AfterRowsPiece limits bytes piece answer new.rows new.file
-
 -- WITH NO CURRENT MCU ROW before: what is known of those that began
 abbrev pub KnowsFed : Limits → List ℕ → List ℕ → Result FedRow Stop → Option RowWork → Option StripHead → Type 0
 KnowsFed limits bytes piece (Ok fed.More) rows strip = KnowsRows limits (bytes ++ piece) 0 rows strip
 KnowsFed limits bytes piece (Ok (fed.Row used)) rows strip = KnowsRows limits (bytes ++ take used piece) 1 rows strip
 KnowsFed limits bytes piece (Ok (fed.Done used)) rows strip = KnowsRows limits (bytes ++ take used piece) 0 rows strip
 KnowsFed limits bytes piece (Err e) rows strip = Unit {0}
-
-abbrev pub KnowsRead : Limits → StripWork → List ℕ → Result FedRow Stop → StripWork → Type 0
-KnowsRead limits old piece answer new = (bytes : List ℕ) → RowsOpen limits bytes old.rows old.file → KnowsFed limits bytes piece answer new.rows new.strip
-
-abbrev pub KnowsOn : Limits → StripWork → List ℕ → Result FedRow Stop → StripWork → Type 0
-KnowsOn limits old piece answer new = (bytes : List ℕ) → RowsGo limits bytes old.rows old.file → KnowsFed limits bytes piece answer new.rows new.strip
 
 -- WHAT DOESN'T CHANGE: whether MCU rows are read, the current one, the head of its picture, which markers are to be kept,
 -- and that no memory is asked for

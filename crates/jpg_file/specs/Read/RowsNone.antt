@@ -9,7 +9,6 @@ use Rattle.jpg_spec.specs.declared.frame.Limits.{Limits}
 use Rattle.jpg_base.specs.declared.stop.Stop.{Stop}
 use Rattle.jpg_base.specs.declared.stop.Stop.TheVariants as stop
 use Rattle.jpg_file.specs.Read.File.{HeadStands, StandsForFile, limits_of}
-use Rattle.jpg_file.specs.Read.RowPieces.{RowsGo, RowsOpen}
 use Rattle.jpg_file.specs.Read.Strips.{contents_held}
 use Rattle.jpg_file.specs.declared.read.file.FileWork.{FileWork}
 use Rattle.jpg_file.specs.declared.read.row_pieces.FedRow.{FedRow}
@@ -63,9 +62,3 @@ NoneFed limits bytes piece (Ok (fed.Row used)) rows = Unit {0}
 NoneFed limits bytes piece (Ok (fed.Done used)) rows = NoRowsIn limits (bytes ++ take used piece) rows
 NoneFed limits bytes piece (Err (stop.Fault f)) rows = NoRowsIn limits (take f.at (bytes ++ piece)) rows
 NoneFed limits bytes piece (Err stop.NoMemory) rows = Unit {0}
-
-abbrev pub NoneRead : Limits → StripWork → List ℕ → Result FedRow Stop → StripWork → Type 0
-NoneRead limits old piece answer new = (bytes : List ℕ) → RowsOpen limits bytes old.rows old.file → HasNoRows limits bytes → NoneFed limits bytes piece answer new.rows
-
-abbrev pub NoneOn : Limits → StripWork → List ℕ → Result FedRow Stop → StripWork → Type 0
-NoneOn limits old piece answer new = (bytes : List ℕ) → RowsGo limits bytes old.rows old.file → HasNoRows limits bytes → NoneFed limits bytes piece answer new.rows

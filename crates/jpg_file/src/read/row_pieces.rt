@@ -1,9 +1,8 @@
 //! A piece of a file, read up to the next MCU row if its first scan has all components (T.81, A.2.3, B.2.1).
-ghost use Rattle.std.specs.Prelude.{◌≡◌, ◌<◌, ℕ, List, None, true, length};
+ghost use Rattle.std.specs.Prelude.{ℕ, List};
 ghost use Rattle.jpg_spec.specs.FrameHeader.{AreLimits};
-ghost use Rattle.jpg_file.specs.Read.RowPieces.{CountsFed, IfSparing, KeepsWork, KnowsOn, KnowsRead, RowsGo, RowsOpen, ReadsOn, ReadsRowPiece};
-ghost use Rattle.jpg_file.specs.Read.RowsNone.{NoneOn, NoneRead};
-ghost use Rattle.jpg_file.specs.Read.RowFaults.{FaultsOn, FaultsRead};
+ghost use Rattle.jpg_file.specs.Read.PieceTaken.{ReadsOn, ReadsPiece};
+ghost use Rattle.jpg_file.specs.Read.RowPieces.{RowsGo, RowsOpen};
 
 use crate::read::step::Step;
 use crate::read::strip_work::StripWork;
@@ -25,13 +24,7 @@ pub enum FedRow {
 pub fn read_rows(work: &mut StripWork, limits: Limits, piece: &[u8]) -> Result<FedRow, Stop>
     requires limits { AreLimits limits }
     requires open { (bytes : List ℕ) × RowsOpen limits bytes work.old.rows work.old.file }
-    ensures after { ReadsRowPiece limits work.old piece.now result work.new }
-    ensures rows { CountsFed result work.old.rows work.new.rows }
-    ensures known { work.old.rows ≡ None → KnowsRead limits work.old piece.now result work.new }
-    ensures keeps { KeepsWork work.old work.new }
-    ensures memory { IfSparing work.old result work.new }
-    ensures none { work.old.rows ≡ None → work.old.by_row ≡ true → NoneRead limits work.old piece.now result work.new }
-    ensures faults { FaultsRead limits work.old piece.now result work.new }
+    ensures { ReadsPiece limits work.old piece.now result work.new }
 {
     match work.resume() {
         Step::More => read_on(work, limits, piece),
@@ -45,13 +38,7 @@ pub fn read_rows(work: &mut StripWork, limits: Limits, piece: &[u8]) -> Result<F
 fn read_on(work: &mut StripWork, limits: Limits, piece: &[u8]) -> Result<FedRow, Stop>
     requires limits { AreLimits limits }
     requires open { (bytes : List ℕ) × RowsGo limits bytes work.old.rows work.old.file }
-    ensures after { ReadsOn limits work.old piece.now result work.new }
-    ensures rows { CountsFed result work.old.rows work.new.rows }
-    ensures known { work.old.rows ≡ None → KnowsOn limits work.old piece.now result work.new }
-    ensures keeps { KeepsWork work.old work.new }
-    ensures memory { IfSparing work.old result work.new }
-    ensures none { work.old.rows ≡ None → work.old.by_row ≡ true → NoneOn limits work.old piece.now result work.new }
-    ensures faults { FaultsOn limits work.old piece.now result work.new }
+    ensures { ReadsOn limits work.old piece.now result work.new }
 {
     let mut done = 0usize;
     while done < piece.len() {

@@ -1,12 +1,13 @@
 //! The state of a file that is read MCU row by MCU row, if its first scan is a sequential one of all components (T.81,
 //! A.2.3, B.2.1).
-ghost use Rattle.std.specs.Prelude.{◌≡◌, ◌<◌, ◌≤◌, ◌++◌, ◌∷◌, [], ℕ, List, None, length, is_some, true, false};
+ghost use Rattle.std.specs.Prelude.{◌≡◌, ◌<◌, ◌≤◌, ℕ, List, None, length, is_some, true, false};
 ghost use Rattle.jpg_spec.specs.FrameHeader.{AreLimits};
 ghost use Rattle.jpg_spec.specs.declared.frame.Copying.TheVariants as copying;
 ghost use Rattle.jpg_file.specs.Read.File.{HeadStands, StandsForFile, keeping_of, limits_of};
+ghost use Rattle.jpg_file.specs.Read.PieceTaken.{TakesBytes};
 ghost use Rattle.jpg_file.specs.Read.RowsKnown.{KnowsByte, KnowsHead, KnowsSome};
 ghost use Rattle.jpg_file.specs.Read.RowsNone.{NoneByte, NoneHead, NoneSome};
-ghost use Rattle.jpg_file.specs.Read.RowFaults.{FaultsResumed, FaultsSome};
+ghost use Rattle.jpg_file.specs.Read.RowFaults.{FaultsResumed};
 ghost use Rattle.jpg_file.specs.Read.Step.{IfStops, IsNoRow, NotWanting};
 ghost use Rattle.jpg_file.specs.Read.Strips.{CountsRowsOfScan, CountsStrip, GoesOnRest, SparesRows, StripGoes, StripStands, TakesFirstByte, TakesFirstHead, TakesResumed, TakesStrip};
 
@@ -56,21 +57,7 @@ impl StripWork {
         requires limits { AreLimits (limits_of self.old.file) }
         requires room { self.old.file.reading.taken < (limits_of self.old.file).input }
         requires some { 1 ≤ length bytes.now }
-        ensures after { TakesStrip self.old bytes.now result.0 result.1 self.new }
-        ensures rows { CountsStrip result.1 self.old.rows self.new.rows }
-        ensures memory { is_some self.old.rows ≡ true → SparesRows self.old.rows self.old.file → NotWanting result.1 }
-        ensures begins { self.old.rows ≡ None → CountsRowsOfScan self.new.rows self.new.file }
-        ensures known { self.old.rows ≡ None → KnowsSome self.old bytes.now result.0 self.new }
-        ensures no { self.old.rows ≡ None → IsNoRow result.1 }
-        ensures stops { self.old.rows ≡ None → IfStops result.1 (self.new.rows ≡ None) }
-        ensures strip { is_some self.old.rows ≡ true → self.new.strip ≡ self.old.strip }
-        ensures sparing { keeping_of self.old.file ≡ copying.None → SparesRows self.old.rows self.old.file → SparesRows self.new.rows self.new.file }
-        ensures head { is_some self.old.rows ≡ true → self.new.file.head ≡ self.old.file.head }
-        ensures keeping { keeping_of self.new.file ≡ keeping_of self.old.file }
-        ensures by_row { self.new.by_row ≡ self.old.by_row }
-        ensures plain { self.old.rows ≡ None → self.old.by_row ≡ false → self.new.rows ≡ None }
-        ensures none { self.old.rows ≡ None → self.old.by_row ≡ true → NoneSome self.old bytes.now result.0 result.1 self.new }
-        ensures faults { FaultsSome self.old bytes.now result.0 result.1 }
+        ensures { TakesBytes self.old bytes.now result.0 result.1 self.new }
     {
         if self.rows.is_none() {
             return self.plain(bytes);

@@ -22,7 +22,7 @@ loop-why-preserved g c =
     let so = c.loop-why.invariant in
     let after = c.in-More.ensures.after start so.read.0 so.read.1 so.read.3 so.kept so.read.2 in
     record {
-      kept = reads_then start (state c.loop-why.desk) (state c.next_piece.new.desk) so.kept c.in-More.ensures.kept;
+      kept = reads_then so.kept c.in-More.ensures.kept;
       read = (so.read.0 ++ after.0, after.2, after.3, after.4);
       opened = c.in-More.ensures.goes_on.0;
       more = c.in-More.ensures.goes_on.1;

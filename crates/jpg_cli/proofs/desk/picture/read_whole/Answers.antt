@@ -24,7 +24,7 @@ loop-at-preserved g c =
     let so = c.loop-at.invariant in
     let after = c.in-More.ensures.after start so.read.0 so.read.1 so.kept so.read.2 in
     record {
-      kept = reads_then start (state c.loop-at.desk) (state c.next_piece.new.desk) so.kept c.in-More.ensures.kept;
+      kept = reads_then so.kept c.in-More.ensures.kept;
       read = (so.read.0 ++ after.0, after.2, after.3);
       opened = c.in-More.ensures.goes_on.0;
       limits = c.in-More.ensures.limits;

@@ -23,7 +23,7 @@ loop-step-preserved g c =
     let so = c.loop-step.invariant in
     let after = c.in-More.ensures.after start so.read.0 so.read.1 so.kept so.read.2 in
     record {
-      kept = reads_then start (state c.loop-step.desk) (state c.next_first.new.desk) so.kept c.in-More.ensures.kept;
+      kept = reads_then so.kept c.in-More.ensures.kept;
       read = (so.read.0 ++ after.0, after.2, after.3);
       opened = c.in-More.ensures.goes_on.1;
       limits = c.in-More.ensures.limits;

@@ -1,11 +1,11 @@
 use Rattle.std.proofs.Common.{sym}
-use Rattle.jpg_scans.proofs.ReadTexts.{ends_early, refused_at_end}
-use Rattle.jpg_scans.proofs.ScriptFronts.{told_spells}
+use Rattle.jpg_spec.proofs.TextsRead.{ends_early, refused_at_end, told_spells}
+use Rattle.jpg_scans.proofs.ScriptRest.{reads_scripts}
 use Rattle.jpg_scans.proofs.script.Script.parse.Goals as goal
 
 pub returns-in-None : goal.returns-in-None
 returns-in-None c =
-    refused_at_end c.args.text.now _ c.wrong_at.result c.wrong_at.ensures (ends_early c.args.text.now c.in-Ok.reader c.in-Ok.ensures.0 c.in-Ok.ensures.1 (sym c.in-None.ensures))
+    refused_at_end reads_scripts c.args.text.now _ c.wrong_at.result c.wrong_at.ensures (ends_early reads_scripts c.args.text.now c.in-Ok.reader c.in-Ok.ensures.0 c.in-Ok.ensures.1 (sym c.in-None.ensures))
 
 pub returns-in-Some : goal.returns-in-Some
-returns-in-Some c = (c.in-Ok.ensures.0, told_spells c.args.text.now c.in-Ok.reader c.in-Some.entries.items c.in-Ok.ensures.1 (sym c.in-Some.ensures))
+returns-in-Some c = (c.in-Ok.ensures.0, told_spells reads_scripts c.args.text.now c.in-Ok.reader c.in-Some.entries.items c.in-Ok.ensures.1 (sym c.in-Some.ensures))

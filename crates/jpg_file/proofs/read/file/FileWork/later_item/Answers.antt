@@ -1,8 +1,6 @@
-use Rattle.std.proofs.Common.{sym, subst}
+use Rattle.std.proofs.Common.{subst}
 use Rattle.jpg_file.specs.Read.File.{AfterFileStep, with_picture}
-use Rattle.jpg_file.specs.Read.Strips.{AfterRows}
 use Rattle.jpg_file.specs.declared.read.items.ItemStep.{ItemStep}
-use Rattle.jpg_file.specs.declared.read.step.Step.{Step}
 use Rattle.jpg_file.proofs.StripItems.{item_ends}
 use Rattle.jpg_file.proofs.read.file.FileWork.later_item.Goals as goal
 

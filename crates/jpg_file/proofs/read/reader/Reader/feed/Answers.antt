@@ -1,26 +1,24 @@
-use Rattle.std.proofs.Common.{rules, ◌∙◌, ◌≡◌, Ok, Some, true, sym, ap, subst}
+use Rattle.std.proofs.Common.{rules, ◌∙◌, ◌≡◌, Ok, sym, ap, subst}
 use Rattle.std.specs.Prelude.{Result}
-use Rattle.jpg_base.specs.declared.stop.Fed.TheVariants as whole
 use Rattle.jpg_base.specs.declared.stop.Stop.{Stop}
 use Rattle.jpg_file.specs.Read.ReadFile.{HasRead, ReaderState}
-use Rattle.jpg_file.specs.Read.RowPieces.{ReadsRowPiece}
+use Rattle.jpg_file.specs.Read.PieceTaken.{ReadsPiece}
 use Rattle.jpg_file.specs.declared.read.row_pieces.FedRow.{FedRow}
 use Rattle.jpg_file.specs.declared.read.row_pieces.FedRow.TheVariants as fed
-use Rattle.jpg_file.proofs.ReaderFed.{fed_done, fed_more, fed_no_row, fed_stop}
-use Rattle.jpg_file.proofs.RowsKept.{keeps_done_rows, keeps_more_rows, plain_stands}
+use Rattle.jpg_file.proofs.ReaderFed.{fed_done, fed_more, fed_no_row, fed_stop, keeps_done_rows, keeps_more_rows, plain_stands}
 use Rattle.jpg_file.proofs.read.reader.Reader.feed.Goals as goal
 
 pub invariant_of-self : goal.invariant_of-self
 invariant_of-self c =
     let work = c.self.inside.work in
     let r : ReaderState = record { limits = c.self.inside.limits; file = work.file; by_row = work.by_row; rows = work.rows; strip = work.strip; done = c.self.inside.done; stop = c.self.inside.stop } in
-    keeps_more_rows r work c.read_rows.new.work c.args.piece.now c.read_rows.result (search rules) (ap (λ (r : ReaderState). r.done) c.self.view_is ∙ c.requires.undone) c.self.invariant c.read_rows.ensures.keeps c.read_rows.ensures.after
+    keeps_more_rows r work c.read_rows.new.work c.args.piece.now c.read_rows.result (search rules) (ap (λ (r : ReaderState). r.done) c.self.view_is ∙ c.requires.undone) c.self.invariant c.read_rows.ensures
 
 pub invariant_of-self-in-Ok-Done : goal.invariant_of-self-in-Ok-Done
 invariant_of-self-in-Ok-Done c =
     let work = c.self.inside.work in
     let r : ReaderState = record { limits = c.self.inside.limits; file = work.file; by_row = work.by_row; rows = work.rows; strip = work.strip; done = c.self.inside.done; stop = c.self.inside.stop } in
-    keeps_done_rows r work c.read_rows.new.work c.args.piece.now c.read_rows.result c.in-Ok-Done.used (search rules) (ap (λ (r : ReaderState). r.done) c.self.view_is ∙ c.requires.undone) (search rules) c.self.invariant c.read_rows.ensures.keeps c.read_rows.ensures.after
+    keeps_done_rows r work c.read_rows.new.work c.args.piece.now c.read_rows.result c.in-Ok-Done.used (search rules) (ap (λ (r : ReaderState). r.done) c.self.view_is ∙ c.requires.undone) (search rules) c.self.invariant c.read_rows.ensures
 
 pub unreachable-requires : goal.unreachable-requires
 unreachable-requires c =
@@ -34,7 +32,7 @@ unreachable-requires c =
     let o = c.self.invariant.open c.in_default.is (ap (λ (r : ReaderState). r.done) c.self.view_is ∙ c.requires.undone) in
     let limits = c.self.inside.limits in
     fed_no_row limits work new o.0 piece c.in-Ok-Row.field-0-0 before after (plain_stands limits o.0 work.rows work.file before (o.1).stands)
-    (subst (λ (a : Result FedRow Stop). ReadsRowPiece limits work piece a new) (let is : took.result ≡ Ok (fed.Row c.in-Ok-Row.field-0-0) = search rules in is) took.ensures.after)
+    (subst (λ (a : Result FedRow Stop). ReadsPiece limits work piece a new) (let is : took.result ≡ Ok (fed.Row c.in-Ok-Row.field-0-0) = search rules in is) took.ensures)
 
 pub returns-in-Ok-More-clause-answered : goal.returns-in-Ok-More-clause-answered
 returns-in-Ok-More-clause-answered c = λ bytes h.
@@ -46,7 +44,7 @@ returns-in-Ok-More-clause-answered c = λ bytes h.
     let before = ap (λ (r : ReaderState). r.rows) c.self.view_is ∙ c.requires.plain.1 in
     let row = ap (λ (r : ReaderState). r.by_row) c.self.view_is ∙ c.requires.plain.0 in
     let after = took.ensures.keeps.plain before row in
-    fed_more r work new bytes piece before after (subst (λ (q : ReaderState). HasRead bytes q) (sym c.self.view_is) h) (subst (λ (a : Result FedRow Stop). ReadsRowPiece r.limits work piece a new) (let is : took.result ≡ Ok fed.More = search rules in is) took.ensures.after)
+    fed_more r work new bytes piece before after (subst (λ (q : ReaderState). HasRead bytes q) (sym c.self.view_is) h) (subst (λ (a : Result FedRow Stop). ReadsPiece r.limits work piece a new) (let is : took.result ≡ Ok fed.More = search rules in is) took.ensures)
 
 pub returns-in-Ok-Done-clause-answered : goal.returns-in-Ok-Done-clause-answered
 returns-in-Ok-Done-clause-answered c = λ bytes h.
@@ -59,7 +57,7 @@ returns-in-Ok-Done-clause-answered c = λ bytes h.
     let row = ap (λ (r : ReaderState). r.by_row) c.self.view_is ∙ c.requires.plain.0 in
     let after = took.ensures.keeps.plain before row in
     fed_done r work new bytes piece c.in-Ok-Done.used before after (subst (λ (q : ReaderState). HasRead bytes q) (sym c.self.view_is) h)
-    (subst (λ (a : Result FedRow Stop). ReadsRowPiece r.limits work piece a new) (let is : took.result ≡ Ok (fed.Done c.in-Ok-Done.used) = search rules in is) took.ensures.after)
+    (subst (λ (a : Result FedRow Stop). ReadsPiece r.limits work piece a new) (let is : took.result ≡ Ok (fed.Done c.in-Ok-Done.used) = search rules in is) took.ensures)
 
 pub returns-in-Err-clause-answered : goal.returns-in-Err-clause-answered
 returns-in-Err-clause-answered c = λ bytes h.
@@ -69,4 +67,4 @@ returns-in-Err-clause-answered c = λ bytes h.
     let piece = c.args.piece.now in
     let r : ReaderState = record { limits = c.self.inside.limits; file = work.file; by_row = work.by_row; rows = work.rows; strip = work.strip; done = c.self.inside.done; stop = c.self.inside.stop } in
     let before = ap (λ (r : ReaderState). r.rows) c.self.view_is ∙ c.requires.plain.1 in
-    fed_stop r work new bytes piece c.in-Err.stop before (subst (λ (q : ReaderState). HasRead bytes q) (sym c.self.view_is) h) c.in-Err.ensures.after
+    fed_stop r work new bytes piece c.in-Err.stop before (subst (λ (q : ReaderState). HasRead bytes q) (sym c.self.view_is) h) c.in-Err.ensures

@@ -1,4 +1,4 @@
-use Rattle.std.proofs.Common.{◌++◌, take, sym, subst, rules}
+use Rattle.std.proofs.Common.{◌++◌, take, sym, subst}
 use Rattle.jpg_file.specs.Read.File.{StandsForFile, limits_of}
 use Rattle.jpg_file.proofs.RowsNone.{none_after, none_first, none_seen}
 use Rattle.jpg_file.proofs.StripWorks.{first_known, first_plain, some_plain}

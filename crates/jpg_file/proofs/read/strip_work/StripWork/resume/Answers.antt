@@ -1,4 +1,4 @@
-use Rattle.jpg_file.proofs.FaultsPieces.{resumed_rows}
+use Rattle.jpg_file.proofs.RowPieces.{resumed_rows}
 use Rattle.jpg_file.proofs.read.strip_work.StripWork.resume.Goals as goal
 
 pub returns-in-Some-clause-faults : goal.returns-in-Some-clause-faults

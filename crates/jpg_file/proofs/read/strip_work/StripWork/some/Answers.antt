@@ -1,19 +1,58 @@
-use Rattle.std.proofs.Common.{Option, rules, subst}
+use Rattle.std.proofs.Common.{Option, Some, ap, refl, rules, subst, sym}
+use Rattle.std.specs.Prelude.{is_some}
+use Rattle.jpg_spec.proofs.Common.{clash}
 use Rattle.jpg_file.specs.Read.File.{limits_of}
-use Rattle.jpg_file.specs.Read.Strips.{StripGoes}
+use Rattle.jpg_file.specs.Read.Strips.{CountsStrip, SparesRows, StripGoes}
 use Rattle.jpg_file.specs.declared.read.rows.RowWork.{RowWork}
-use Rattle.jpg_file.proofs.FaultsPieces.{some_faults}
-use Rattle.jpg_file.proofs.StripWorks.{none_counts, some_rows}
+use Rattle.jpg_file.proofs.RowPieces.{some_faults}
+use Rattle.jpg_file.proofs.StripWorks.{none_rows, some_rows}
 use Rattle.jpg_file.proofs.read.strip_work.StripWork.some.Goals as goal
 
-pub returns-clause-after : goal.returns-clause-after
-returns-clause-after c = λ bytes g.
-    let w = c.args.self.now.file in
-    let k = subst (λ (r : Option RowWork). StripGoes (limits_of w) bytes r w) c.in-Some.is g in
-    some_rows (limits_of w) bytes c.args.bytes.now c.row_some.result.0 c.row_some.result.1 c.row_some.new.self c.row_some.new.rows (c.row_some.ensures.after bytes k)
+pub returns-then-is_none : goal.returns-then-is_none
+returns-then-is_none c =
+    let rows = c.args.self.now.rows in
+    let p = c.plain.ensures in
+    let none = none_rows c.args.self.now.rows (search rules) in
+    record {
+      after = p.after;
+      rows = subst (λ (o : Option RowWork). CountsStrip c.plain.result.1 o c.plain.new.self.rows) (sym none) tt;
+      memory = λ some. absurd (clash (is_some rows) some (ap is_some none));
+      begins = λ e. p.begins;
+      known = λ e. p.known;
+      no = λ e. p.no;
+      stops = λ e. p.stops;
+      strip = λ some. absurd (clash (is_some rows) some (ap is_some none));
+      sparing = λ e s. p.sparing e;
+      head = λ some. absurd (clash (is_some rows) some (ap is_some none));
+      keeping = p.keeping;
+      by_row = p.by_row;
+      plain = λ e. p.plain;
+      none = λ e. p.none;
+      faults = λ given f bytes is shows g. absurd (clash (is_some rows) (ap is_some is) (ap is_some none));
+    }
 
-pub returns-then-is_none-clause-rows : goal.returns-then-is_none-clause-rows
-returns-then-is_none-clause-rows c = none_counts c.plain.result.1 c.args.self.now.rows c.plain.new.self.rows (search rules)
-
-pub returns-clause-faults : goal.returns-clause-faults
-returns-clause-faults c = some_faults c.args.self.now c.in-Some.rows c.args.bytes.now c.row_some.result.0 c.row_some.result.1 c.in-Some.is c.row_some.ensures.stops
+pub returns : goal.returns
+returns c =
+    let old = c.args.self.now in
+    let w = old.file in
+    let t = c.row_some.ensures in
+    let is = c.in-Some.is in
+    record {
+      after = λ bytes g.
+          (let k = subst (λ (r : Option RowWork). StripGoes (limits_of w) bytes r w) is g in
+          some_rows (limits_of w) bytes c.args.bytes.now c.row_some.result.0 c.row_some.result.1 c.row_some.new.self c.row_some.new.rows (t.after bytes k));
+      rows = subst (λ (o : Option RowWork). CountsStrip c.row_some.result.1 o (Some c.row_some.new.rows)) (sym is) t.rows;
+      memory = λ some s. t.memory (subst (λ (o : Option RowWork). SparesRows o w) is s);
+      begins = λ none. absurd (clash (is_some old.rows) (ap is_some is) (ap is_some none));
+      known = λ none. absurd (clash (is_some old.rows) (ap is_some is) (ap is_some none));
+      no = λ none. absurd (clash (is_some old.rows) (ap is_some is) (ap is_some none));
+      stops = λ none. absurd (clash (is_some old.rows) (ap is_some is) (ap is_some none));
+      strip = λ some. refl;
+      sparing = λ e s. t.sparing (subst (λ (o : Option RowWork). SparesRows o w) is s);
+      head = λ some. t.head;
+      keeping = t.keeping;
+      by_row = refl;
+      plain = λ none. absurd (clash (is_some old.rows) (ap is_some is) (ap is_some none));
+      none = λ none. absurd (clash (is_some old.rows) (ap is_some is) (ap is_some none));
+      faults = some_faults old c.in-Some.rows c.args.bytes.now c.row_some.result.0 c.row_some.result.1 is t.stops;
+    }

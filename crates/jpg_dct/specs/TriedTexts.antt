@@ -1,13 +1,7 @@
--- What a text encodes is one answer; texts that are right and wrong (the manual of cjpeg, "-qtables").
-use Rattle.std.specs.Prelude.{◌≡◌, ℕ, zero, suc, List, [], ◌∷◌, ◌++◌, codes, Result, Err}
-use Rattle.jpg_spec.specs.Segments.{QuantTable}
+-- Texts of tables that are right and wrong (the manual of cjpeg, "-qtables").
+use Rattle.std.specs.Prelude.{ℕ, zero, suc, List, [], ◌∷◌, ◌++◌, codes, Err}
 use Rattle.jpg_spec_image.specs.TableText.{TellsTables}
-use Rattle.jpg_spec.specs.declared.fault.FaultAt.{FaultAt}
 use Rattle.jpg_spec.specs.declared.fault.Fault.TheVariants.{TableText}
-
--- two answers to a text are the same
-abbrev pub HasOneAnswer : List ℕ → Type 0
-HasOneAnswer text = (a b : Result (List QuantTable) FaultAt) → TellsTables text a → TellsTables text b → a ≡ b
 
 abbrev pub IsWrongAt : List ℕ → ℕ → Type 0
 IsWrongAt text place = TellsTables text (Err (record { fault = TableText; at = place }))
