@@ -1,8 +1,8 @@
 -- Bits of numbers, one after another.
-use Rattle.std.proofs.Common.{◌≡◌, ℕ, zero, suc, ◌+◌, ◌-◌, ◌*◌, ◌/◌, ◌%◌, ◌^◌, ◌<◌, ◌≤◌, Bool, List, [], ◌∷◌, ◌++◌, length, take, drop, refl, sym, ap, ◌∙◌, arith, add-one, add-zero, add-suc, ◌==◌, min, subst, true, false, get_or}
+use Rattle.std.proofs.Common.{◌≡◌, ℕ, zero, suc, ◌+◌, ◌-◌, ◌*◌, ◌/◌, ◌%◌, ◌^◌, ◌<◌, ◌≤◌, Bool, List, [], ◌∷◌, ◌++◌, length, take, drop, refl, sym, ap, ◌∙◌, arith, add-zero, add-suc, ◌==◌, min, subst, true, false, get_or}
 use mir.Val.{bool_byte}
 use Rattle.std.specs.Int.Bits.{bit_or}
-use Rattle.std.proofs.lemmas.List.{append_assoc, append-nil, length-append, drop_more, take_min, drop_min}
+use Rattle.std.proofs.lemmas.List.{append_assoc, append-nil, drop_more, take_min, drop_min}
 use Rattle.std.proofs.lemmas.Nat.{shr_high, pow-add, or_shifted, mod-mul-add, pow_pos}
 use Rattle.std.proofs.Math.Nat.{div-div-eq-div-mul, pow-succ', mod-lt, mul-lt-mul_of_pos_right, mul_assoc, add-mul}
 use Rattle.std.proofs.Math.Seq.{drop-append_seam}

@@ -1,15 +1,16 @@
 -- The block of a number in an MCU, part by part.
-use Rattle.std.proofs.Common.{◌≡◌, ◌<◌, ◌≤◌, ◌+◌, ◌-◌, ◌*◌, ◌/◌, ◌%◌, [], ◌∷◌, List, ℕ, length, drop, get_or, refl, sym, ap, ◌∙◌, subst, arith}
+use Rattle.std.proofs.Common.{◌≡◌, ◌<◌, ◌≤◌, ◌+◌, ◌-◌, ◌*◌, ◌/◌, ◌%◌, ◌∷◌, List, ℕ, length, drop, get_or, sym, ap, ◌∙◌, subst, arith}
 use Rattle.std.specs.Prelude.{map}
 use Rattle.std.proofs.lemmas.List.{drop_more, length-map, get_or-map}
 use Rattle.std.specs.List.{All}
 use Rattle.std.proofs.lemmas.List.Sums.{sum_by-cons}
+use Rattle.jpg_spec.specs.FrameHeader.{HasFactors}
 use Rattle.jpg_spec.specs.Geometry.{Frame, factor_sum, component_at, place}
 use Rattle.jpg_spec.specs.declared.frame.ScanPart.{ScanPart}
 use Rattle.jpg_spec.specs.declared.frame.Place.{Place}
 use Rattle.jpg_base.specs.declared.cursor.CursorPart.{CursorPart}
 use Rattle.jpg_base.specs.Cursor.{cursor_part_of, spot_of}
-use Rattle.jpg_base.proofs.UnitCounts.{mcu_from, in_part, after_part}
+use Rattle.jpg_base.proofs.UnitCounts.{mcu_from, in_part, after_part, some_factors}
 
 ids_from : (parts : List ScanPart) (n : ℕ) (p : ScanPart) → n < length parts → map (λ (q : ScanPart). q.component) (drop n parts) ≡ (get_or parts n p).component ∷ map (λ (q : ScanPart). q.component) (drop (n + 1) parts)
 ids_from parts n p h = ap (map (λ (q : ScanPart). q.component)) (drop_more parts n p h)
@@ -42,8 +43,23 @@ spot_same f i p column row k x y e ex ey =
     ap (λ (n : ℕ). spot_of p n y) ex ∙ ap (λ (n : ℕ). spot_of p (column * p.h + k % p.h) n) ey
     ∙ ap (λ (q : CursorPart). spot_of q (column * q.h + k % q.h) (row * q.v + k / q.h)) e
 
-pub ids_there : (f : Frame) (parts : List ScanPart) → All (λ p. p.component < length f.components) parts → All (λ i. i < length f.components) (map (λ (p : ScanPart). p.component) parts)
+ids_there : (f : Frame) (parts : List ScanPart) → All (λ p. p.component < length f.components) parts
+    → All (λ i. i < length f.components) (map (λ (p : ScanPart). p.component) parts)
 ids_there f parts all k d h =
     let z : ScanPart = record { component = 0; dc = 0; ac = 0 } in
     let lt : k < length parts = omega (arith, h, length-map parts (λ (p : ScanPart). p.component)) in
     subst (λ (n : ℕ). n < length f.components) (sym (get_or-map (λ (p : ScanPart). p.component) parts k z d lt)) (all k z lt)
+
+abbrev pub ids_of : List ScanPart → List ℕ
+ids_of parts = map (λ (p : ScanPart). p.component) parts
+
+-- the components of several parts
+pub record AreSeveral (f : Frame) (ids : List ℕ) : Type 0 where
+  pub two : 2 ≤ length ids
+  pub some : 1 ≤ factor_sum f ids
+
+pub several_are : (f : Frame) (parts : List ScanPart) → All HasFactors f.components → 2 ≤ length parts → All (λ p. p.component < length f.components) parts
+    → AreSeveral f (ids_of parts)
+several_are f parts factors several there =
+    let two : 2 ≤ length (ids_of parts) = omega (arith, length-map parts (λ (p : ScanPart). p.component), several) in
+    record { two = two; some = some_factors f (ids_of parts) factors (omega (arith, two)) (ids_there f parts there) }

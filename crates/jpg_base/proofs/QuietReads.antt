@@ -1,6 +1,5 @@
 -- What a read of a quiet desk does to the state of the desk.
 use Rattle.std.proofs.Common.{◌≡◌, ℕ, List, Bool, true, refl, sym, ap, arith, subst, Some}
-use Rattle.std.specs.Prelude.{◌≤◌}
 use Rattle.jpg_base.specs.declared.names.Got.{Got}
 use Rattle.jpg_base.specs.declared.names.Got.TheVariants as got
 use Rattle.jpg_base.specs.declared.input.Input.{Input}

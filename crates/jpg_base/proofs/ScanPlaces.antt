@@ -10,14 +10,12 @@ use Rattle.std.proofs.lemmas.List.Folds.{flat_map-map}
 use Rattle.std.proofs.Math.Nat.{div-le_self, mul_comm}
 use Rattle.std.proofs.lemmas.Nat.{mul-le, mul-add-lt}
 use Rattle.jpg_spec.specs.Lists.{below}
-use Rattle.jpg_spec.specs.Geometry.{Frame, div_up, place, mcu_part, single_units, interleaved_units, units, component_at, blocks_across, blocks_down, mcus_across, mcus_down, h_max, v_max, IsReal}
+use Rattle.jpg_spec.specs.Geometry.{Frame, div_up, place, mcu_part, interleaved_units, units, component_at, blocks_across, blocks_down, mcus_across, mcus_down, h_max, v_max, IsReal}
 use Rattle.jpg_spec.specs.FrameHeader.{IsFrame, padded_across, padded_down}
 use Rattle.jpg_base.proofs.Grids.{across_low, down_low}
 use Rattle.jpg_spec.proofs.PlacesFound.{real_in_padded}
-use Rattle.jpg_spec.specs.Segments.{ScanHead, head_components}
 use Rattle.jpg_spec.specs.declared.frame.Place.{Place}
 use Rattle.jpg_spec.specs.declared.frame.ScanPart.{ScanPart}
-use Rattle.jpg_base.specs.declared.cursor.CursorPart.{CursorPart}
 use Rattle.jpg_base.specs.Cursor.{AreIn, IsPadded, lone_part, cursor_part_of, part_spots, mcu_spots, line_spots, all_spots}
 
 pub flat_map_same : {A B : Type 0} (f g : A → List B) (xs : List A) → ((x : A) → f x ≡ g x) → flat_map f xs ≡ flat_map g xs
@@ -51,17 +49,15 @@ several_all f parts =
 
 interleaved_are : (f : Frame) (components : List ℕ) → 2 ≤ length components → interleaved_units f components ≡ units f components
 unfolding units
-interleaved_are f [] h = absurd (omega arith)
-interleaved_are f (i ∷ []) h = absurd (omega arith)
 interleaved_are f (i ∷ j ∷ more) h = refl
+interleaved_are f few h = absurd (omega (arith, h))
 
 pub several_units : (f : Frame) (parts : List ScanPart) → 2 ≤ length parts → all_spots (map (λ p. cursor_part_of f p.component) parts) (mcus_across f) (mcus_down f) ≡ units f (map (λ p. p.component) parts)
 several_units f parts h = several_all f parts ∙ interleaved_are f (map (λ p. p.component) parts) (omega (arith, length-map parts (λ (p : ScanPart). p.component)))
 
 pub only_one : (parts : List ScanPart) (d : ScanPart) → length parts ≡ 1 → map (λ p. p.component) parts ≡ (get_or parts 0 d).component ∷ []
-only_one [] d e = absurd (omega arith)
 only_one (p ∷ []) d e = refl
-only_one (p ∷ q ∷ parts) d e = absurd (omega arith)
+only_one parts d e = absurd (omega (arith, e))
 
 pub all_parts : (P : ℕ → Type 0) (parts : List ScanPart) → All P (map (λ p. p.component) parts) → All (λ p. P p.component) parts
 all_parts P parts all k d h =

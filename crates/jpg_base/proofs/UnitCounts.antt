@@ -1,6 +1,6 @@
 -- The number of units of a scan, and which unit has a given number.
 use Rattle.std.proofs.Common.{◌≡◌, ℕ, zero, suc, ◌+◌, ◌-◌, ◌*◌, ◌/◌, ◌%◌, ◌<◌, ◌≤◌, List, [], ◌∷◌, ◌++◌, length, get_or, refl, sym, ap, ◌∙◌, subst, arith, ⊎_elim}
-use Rattle.std.specs.Prelude.{map, flat_map, sum_by}
+use Rattle.std.specs.Prelude.{map, flat_map}
 use Rattle.std.proofs.lemmas.List.{append-nil, length-append, length-map, get_or-append-add, get_or_append_left, get_or-map}
 use Rattle.std.specs.List.{All}
 use Rattle.std.proofs.lemmas.List.Elements.{All-get_or}
@@ -119,8 +119,6 @@ single_unit f i n d some lt =
 pub several_unit : (f : Frame) (ids : List ℕ) (n : ℕ) (d : Place) → 2 ≤ length ids → 1 ≤ factor_sum f ids → 1 ≤ mcus_across f → n < length (units f ids)
     → get_or (units f ids) n d ≡ get_or (mcu_from f (n / factor_sum f ids % mcus_across f) (n / factor_sum f ids / mcus_across f) ids) (n % factor_sum f ids) d
 unfolding units
-several_unit f [] n d two some wide lt = absurd (omega arith)
-several_unit f (i ∷ []) n d two some wide lt = absurd (omega arith)
 several_unit f (i ∷ j ∷ more) n d two some wide lt =
     let ids = i ∷ j ∷ more in
     let s = factor_sum f ids in let w = mcus_across f in let h = mcus_down f in
@@ -139,6 +137,7 @@ several_unit f (i ∷ j ∷ more) n d two some wide lt =
     ap (λ (q : ℕ). get_or (units f ids) q d) e
     ∙ at_row row h (w * s) (m / w) (m % w * s + k) d each yl inner
     ∙ at_row (λ mx. mcu_from f mx (m / w) ids) w s (m % w) k d (λ mx. length_mcu f mx (m / w) ids) xl kl
+several_unit f few n d two some wide lt = absurd (omega (arith, two))
 
 -- FOR THE CALL
 
@@ -154,8 +153,7 @@ pub single_below : (f : Frame) (i n : ℕ) → n < length (units f (i ∷ [])) �
 single_below f i n lt = omega (arith, lt, length_units f (i ∷ []), (let e : blocks_across f (component_at f i) * 1 ≡ blocks_across f (component_at f i) = omega arith in ap (λ (k : ℕ). blocks_down f (component_at f i) * k) e))
 
 pub several_below : (f : Frame) (ids : List ℕ) (n : ℕ) → 2 ≤ length ids → 1 ≤ factor_sum f ids → n < length (units f ids) → n / factor_sum f ids < mcus_down f * mcus_across f
-several_below f [] n two some lt = absurd (omega arith)
-several_below f (i ∷ []) n two some lt = absurd (omega arith)
 several_below f (i ∷ j ∷ more) n two some lt =
     let ids = i ∷ j ∷ more in
     (div-lt_iff_lt-mul some).1 (omega (arith, lt, length_units f ids, mul_assoc (mcus_down f) (mcus_across f) (factor_sum f ids)))
+several_below f few n two some lt = absurd (omega (arith, two))

@@ -113,19 +113,20 @@ due_first other c some h w = absurd h
 pub first_uncreated : (task : Task) (comment bytes : List ℕ) (old s0 s1 : DeskState) (output : Name) → task.output ≡ output → IsAtHead bytes → IsReading task comment bytes old s0 → Creates s0 output put.Failed s1 → Unopened (names_to_output task) old s1 × ReadsInput task IsAtHead old s1
 first_uncreated task comment bytes old s0 s1 output e at r k = uncreated at r (subst (λ (n : Name). Creates s0 n put.Failed s1) (sym e) k)
 
-pub first_written : (task : Task) (comment bytes text : List ℕ) (old s0 s1 s2 : DeskState) (output : Name) (due : Option Why) (c : Insert) → task.output ≡ output → 0 < length text → IsReading task comment bytes old s0 → AfterFed comment task.replace bytes text due c
-    → Creates s0 output put.Done s1 → OnlyWrites s1 s2 → AfterWrite s1 text put.Done s2 → AfterFrameMarker task comment old due c s2
-first_written task comment bytes text old s0 s1 s2 output due c e some r h k w appended =
-    due_first due c some h (written_first text r (subst (λ (n : Name). Creates s0 n put.Done s1) (sym e) k) w appended)
+module _ (task : Task) (comment bytes text : List ℕ) (old s0 s1 s2 : DeskState) where
+  pub first_written : (output : Name) (due : Option Why) (c : Insert) → task.output ≡ output → 0 < length text → IsReading task comment bytes old s0 → AfterFed comment task.replace bytes text due c
+      → Creates s0 output put.Done s1 → OnlyWrites s1 s2 → AfterWrite s1 text put.Done s2 → AfterFrameMarker task comment old due c s2
+  first_written output due c e some r h k w appended =
+      due_first due c some h (written_first text r (subst (λ (n : Name). Creates s0 n put.Done s1) (sym e) k) w appended)
 
-pub first_unwritten : (task : Task) (comment bytes text : List ℕ) (old s0 s1 s2 : DeskState) (output : Name) (due : Option Why) (c : Insert) → task.output ≡ output → 0 < length text → c.limits ≡ standard_limits → c.replace ≡ task.replace → IsReading task comment bytes old s0
-    → AfterFed comment task.replace bytes text due c → Creates s0 output put.Done s1 → OnlyWrites s1 s2 → AfterWrite s1 text put.Failed s2 → Inserted task old why.WriteFault s2
-first_unwritten task comment bytes text old s0 s1 s2 output due c e some limits same r h k w (rose, (n, part)) = (
-  writes (λ with. IsFilePart with task.replace)
-      (written_first (take n text) r (subst (λ (m : Name). Creates s0 m put.Done s1) (sym e) k) w part)
-      (part_of_part comment bytes text task.replace n (file_part comment bytes text task.replace some (fed_part comment bytes text task.replace due c limits same h))),
-  (let f = r.counts.writes in let g = k.counts.writes in omega (arith, rose, f, g)),
-)
+  pub first_unwritten : (output : Name) (due : Option Why) (c : Insert) → task.output ≡ output → 0 < length text → c.limits ≡ standard_limits → c.replace ≡ task.replace → IsReading task comment bytes old s0
+      → AfterFed comment task.replace bytes text due c → Creates s0 output put.Done s1 → OnlyWrites s1 s2 → AfterWrite s1 text put.Failed s2 → Inserted task old why.WriteFault s2
+  first_unwritten output due c e some limits same r h k w (rose, (n, part)) = (
+    writes (λ with. IsFilePart with task.replace)
+        (written_first (take n text) r (subst (λ (m : Name). Creates s0 m put.Done s1) (sym e) k) w part)
+        (part_of_part comment bytes text task.replace n (file_part comment bytes text task.replace some (fed_part comment bytes text task.replace due c limits same h))),
+    (let f = r.counts.writes in let g = k.counts.writes in omega (arith, rose, f, g)),
+  )
 
 -- AFTER IT
 
@@ -136,35 +137,36 @@ begun {now} w = had_told w.left w.created now
 pub copied_begun : {task : Task} {comment bytes text : List ℕ} {old now : DeskState} (w : IsWriting task comment bytes text old now) → HasCopied (begun w) bytes text now
 copied_begun w = record { most = w.most; read = w.read; written = w.written }
 
--- more bytes were read, and their text written
-pub writing_more : {task : Task} {comment bytes text more all : List ℕ} {old s0 s1 : DeskState} (w : IsWriting task comment bytes text old s0) → OnlyCopies s0 s1 → HasCopied (begun w) more all s1 → IsWriting task comment more all old s1
-writing_more {task} {old} {s0} {s1} w k h = record {
-  left = w.left;
-  created = w.created;
-  names = asks_still old s0 s1 (names_to_output task) put.Done k.asked w.names;
-  source = w.source;
-  opened = w.opened;
-  read = h.read;
-  most = h.most;
-  adds = w.adds;
-  written = h.written;
-  counts = NoneFell-then old.counts s0.counts s1.counts w.counts k.works.stays.counts;
-}
+module _ {task : Task} {comment bytes text : List ℕ} {old s0 s1 : DeskState} where
+  -- more bytes were read, and their text written
+  pub writing_more : {more all : List ℕ} (w : IsWriting task comment bytes text old s0) → OnlyCopies s0 s1 → HasCopied (begun w) more all s1 → IsWriting task comment more all old s1
+  writing_more w k h = record {
+    left = w.left;
+    created = w.created;
+    names = asks_still old s0 s1 (names_to_output task) put.Done k.asked w.names;
+    source = w.source;
+    opened = w.opened;
+    read = h.read;
+    most = h.most;
+    adds = w.adds;
+    written = h.written;
+    counts = NoneFell-then old.counts s0.counts s1.counts w.counts k.works.stays.counts;
+  }
 
--- why the writing ended
-pub ends : {task : Task} {comment bytes text : List ℕ} {old s0 s1 : DeskState} (w : IsWriting task comment bytes text old s0) (ended : Why) → OnlyCopies s0 s1 → EndsInserting comment task.replace (begun w) ended s1 → Inserted task old ended s1
-ends {task} {comment} {old} {s1} w ended k h = by ended h
-  where
-    copies : (Is : List ℕ → List ℕ → List ℕ → Type 0) → CopiesText (Is comment) (begun w) s1 → WritesText task Is old s1
-    copies Is c = writes Is (writing_more w k c.2) c.3
+  -- why the writing ended
+  pub ends : (w : IsWriting task comment bytes text old s0) (ended : Why) → OnlyCopies s0 s1 → EndsInserting comment task.replace (begun w) ended s1 → Inserted task old ended s1
+  ends w ended k h = by ended h
+    where
+      copies : (Is : List ℕ → List ℕ → List ℕ → Type 0) → CopiesText (Is comment) (begun w) s1 → WritesText task Is old s1
+      copies Is c = writes Is (writing_more w k c.2) c.3
 
-    by : (ended : Why) → EndsInserting comment task.replace (begun w) ended s1 → Inserted task old ended s1
-    by why.Done h = (copies (λ with. IsInsertedWhole with task.replace) h.0, h.1)
-    by (why.Refused f) h = inr (inr (copies (λ with. IsLongFile with task.replace f (rest_of s1.left)) h))
-    by (why.ReadFault which.Input) h = (inr (copies (λ with. IsInsertedWhole with task.replace) h.0), (let r = h.1 in let f = w.counts.reads in omega (arith, r, f)))
-    by why.WriteFault h = (copies (λ with. IsFilePart with task.replace) h.0, (let r = h.1 in let f = w.counts.writes in omega (arith, r, f)))
-    by why.NoMemory h = inr (copies (λ with. IsFilePart with task.replace) h)
-    by other h = absurd h
+      by : (ended : Why) → EndsInserting comment task.replace (begun w) ended s1 → Inserted task old ended s1
+      by why.Done h = (copies (λ with. IsInsertedWhole with task.replace) h.0, h.1)
+      by (why.Refused f) h = inr (inr (copies (λ with. IsLongFile with task.replace f (rest_of s1.left)) h))
+      by (why.ReadFault which.Input) h = (inr (copies (λ with. IsInsertedWhole with task.replace) h.0), (let r = h.1 in let f = w.counts.reads in omega (arith, r, f)))
+      by why.WriteFault h = (copies (λ with. IsFilePart with task.replace) h.0, (let r = h.1 in let f = w.counts.writes in omega (arith, r, f)))
+      by why.NoMemory h = inr (copies (λ with. IsFilePart with task.replace) h)
+      by other h = absurd h
 
 -- WHERE NOTHING IS WRITTEN
 

@@ -95,15 +95,16 @@ next_due start s2 bytes text piece all (Some (why.Refused f)) c some h k = (byte
 next_due start s2 bytes text piece all (Some why.NoMemory) c some h k = (bytes ++ piece, all, k, h)
 next_due start s2 bytes text piece all other c some h k = absurd h
 
--- only a part was written
-pub next_unwritten : {start s0 s1 s2 : DeskState} {bytes text : List ℕ} (piece more : List ℕ) (due : Option Why) (c : Comments) → length (bytes ++ piece) ≤ standard_limits.input → c.limits ≡ standard_limits → OnlyCopies start s0 → NoneFell s0.counts s1.counts → AfterTaking (bytes ++ piece) (text ++ more) due c
-    → HasCopied start bytes text s0 → Consumes s0.left s1.left piece → s1.outputs ≡ s0.outputs → OnlyWrites s1 s2 → AfterWrite s1 more put.Failed s2 → EndsCopying start why.WriteFault s2
-next_unwritten {start} {s0} {s1} {s2} {bytes} {text} piece more due c most e still fell h had read same k w =
-    let written = AppendsPart-then start.outputs s1.outputs s2.outputs text more (outputs_still s0 s1 text start same had.written) w.1 in
-    let part = part_of_part (bytes ++ piece) (text ++ more) written.0 (taken_part (bytes ++ piece) (text ++ more) due c e h) in (
-      (bytes ++ piece, take written.0 (text ++ more), record { most = most; read = left_still s1 s2 (bytes ++ piece) start k.left (Consumes-then start.left s0.left s1.left bytes piece had.read read); written = written.1 }, part),
-      (let r = w.0 in let f = still.works.stays.counts.writes in let g = fell.writes in omega arith),
-    )
+module _ {start s0 s1 s2 : DeskState} {bytes text : List ℕ} where
+  -- only a part was written
+  pub next_unwritten : (piece more : List ℕ) (due : Option Why) (c : Comments) → length (bytes ++ piece) ≤ standard_limits.input → c.limits ≡ standard_limits → OnlyCopies start s0 → NoneFell s0.counts s1.counts → AfterTaking (bytes ++ piece) (text ++ more) due c
+      → HasCopied start bytes text s0 → Consumes s0.left s1.left piece → s1.outputs ≡ s0.outputs → OnlyWrites s1 s2 → AfterWrite s1 more put.Failed s2 → EndsCopying start why.WriteFault s2
+  next_unwritten piece more due c most e still fell h had read same k w =
+      let written = AppendsPart-then start.outputs s1.outputs s2.outputs text more (outputs_still s0 s1 text start same had.written) w.1 in
+      let part = part_of_part (bytes ++ piece) (text ++ more) written.0 (taken_part (bytes ++ piece) (text ++ more) due c e h) in (
+        (bytes ++ piece, take written.0 (text ++ more), record { most = most; read = left_still s1 s2 (bytes ++ piece) start k.left (Consumes-then start.left s0.left s1.left bytes piece had.read read); written = written.1 }, part),
+        (let r = w.0 in let f = still.works.stays.counts.writes in let g = fell.writes in omega arith),
+      )
 
 -- AT THE END
 
@@ -129,17 +130,18 @@ some_taken n buf some within = omega (arith, some, within, length-take n buf)
 pub text_added : (old out more : List ℕ) → old ≡ [] → out ≡ old ++ more → more ≡ out
 text_added old out more empty e = sym (e ∙ ap (λ (l : List ℕ). l ++ more) empty)
 
-pub next_taken : {start s0 s1 s2 : DeskState} {n : ℕ} {buf bytes text old : List ℕ} (out : List ℕ) (due : Option Why) (c : Comments) → length (bytes ++ take n buf) ≤ standard_limits.input → old ≡ [] → Reads s0 (got.Bytes n) buf s1
-    → Appends (λ all. AfterTaking (bytes ++ take n buf) all due c) text old out → HasCopied start bytes text s0 → OnlyWrites s1 s2 → AfterWrite s1 out put.Done s2 → AfterNext start bytes due c s2
-next_taken {start} {s1} {s2} {n} {buf} {bytes} {text} {old} out due c most empty r h had k w =
-    let written = subst (λ (m : List ℕ). AppendsLast s1.outputs m s2.outputs) (sym (text_added old out h.0 empty h.1)) w in
-    next_due start s2 bytes text (take n buf) (text ++ h.0) due c (some_taken n buf r.after.0 r.after.1) h.2 (copied (take n buf) h.0 most had r.after.2 r.outputs k written)
+module _ {start s0 s1 s2 : DeskState} {n : ℕ} {buf : List ℕ} where
+  pub next_taken : {bytes text old : List ℕ} (out : List ℕ) (due : Option Why) (c : Comments) → length (bytes ++ take n buf) ≤ standard_limits.input → old ≡ [] → Reads s0 (got.Bytes n) buf s1
+      → Appends (λ all. AfterTaking (bytes ++ take n buf) all due c) text old out → HasCopied start bytes text s0 → OnlyWrites s1 s2 → AfterWrite s1 out put.Done s2 → AfterNext start bytes due c s2
+  next_taken {bytes} {text} {old} out due c most empty r h had k w =
+      let written = subst (λ (m : List ℕ). AppendsLast s1.outputs m s2.outputs) (sym (text_added old out h.0 empty h.1)) w in
+      next_due start s2 bytes text (take n buf) (text ++ h.0) due c (some_taken n buf r.after.0 r.after.1) h.2 (copied (take n buf) h.0 most had r.after.2 r.outputs k written)
 
-pub next_failed : {start s0 s1 s2 : DeskState} {n : ℕ} {buf bytes text old : List ℕ} (out : List ℕ) (due : Option Why) (c : Comments) → length (bytes ++ take n buf) ≤ standard_limits.input → c.limits ≡ standard_limits → old ≡ [] → Reads s0 (got.Bytes n) buf s1
-    → Appends (λ all. AfterTaking (bytes ++ take n buf) all due c) text old out → OnlyCopies start s0 → HasCopied start bytes text s0 → OnlyWrites s1 s2 → AfterWrite s1 out put.Failed s2 → EndsCopying start why.WriteFault s2
-next_failed {s1} {s2} {n} {buf} {old} out due c most e empty r h still had k w =
-    let written = subst (λ (m : List ℕ). AfterWrite s1 m put.Failed s2) (sym (text_added old out h.0 empty h.1)) w in
-    next_unwritten (take n buf) h.0 due c most e still r.counts h.2 had r.after.2 r.outputs k written
+  pub next_failed : {bytes text old : List ℕ} (out : List ℕ) (due : Option Why) (c : Comments) → length (bytes ++ take n buf) ≤ standard_limits.input → c.limits ≡ standard_limits → old ≡ [] → Reads s0 (got.Bytes n) buf s1
+      → Appends (λ all. AfterTaking (bytes ++ take n buf) all due c) text old out → OnlyCopies start s0 → HasCopied start bytes text s0 → OnlyWrites s1 s2 → AfterWrite s1 out put.Failed s2 → EndsCopying start why.WriteFault s2
+  next_failed {old} out due c most e empty r h still had k w =
+      let written = subst (λ (m : List ℕ). AfterWrite s1 m put.Failed s2) (sym (text_added old out h.0 empty h.1)) w in
+      next_unwritten (take n buf) h.0 due c most e still r.counts h.2 had r.after.2 r.outputs k written
 
 -- a read of no more bytes than there is room for
 pub within_most : (bytes buf : List ℕ) (n room : ℕ) → room + length bytes ≡ standard_limits.input → length bytes < standard_limits.input → (1 ≤ room → n ≤ room) → length (bytes ++ take n buf) ≤ standard_limits.input

@@ -52,37 +52,40 @@ first_end gray start s0 s1 bytes r (why.Refused f) k end left had h =
     (bytes, left_still s0 s1 bytes start left had, omega (arith, short), (subst (λ (rest : List ℕ). IsRefusedRead (Image gray) f rest bytes) (sym none) h, λ shown. none_shown gray bytes k.plain (shown_before gray bytes f.at shown)))
 first_end gray start s0 s1 bytes r other k end left had h = absurd h
 
-pub first_ends : (gray : Bool) (start s0 s1 : DeskState) (bytes buf : List ℕ) (r after : ReaderState) (st : FirstStep) → HasFedPlainly gray r bytes → IsAtEnd s0.left → s1.left ≡ s0.left → Consumes start.left s0.left bytes → AfterFirstEnd gray bytes st after
-    → AfterFirstRead gray start bytes st buf after s1
-first_ends gray start s0 s1 bytes buf r after (first.Early n) k end left had h =
-    let short = (k.fed).short in
-    (((h.holds).ended).done, h.none, (bytes, left_still s0 s1 bytes start left had, omega (arith, short), h), ap rest_of left ∙ none_left s0.left end)
-first_ends gray start s0 s1 bytes buf r after (first.Ended w) k end left had h = first_end gray start s0 s1 bytes r w k end left had h
-first_ends gray start s0 s1 bytes buf r after other k end left had h = absurd h
+module _ (gray : Bool) (start s0 s1 : DeskState) where
+  pub first_ends : (bytes buf : List ℕ) (r after : ReaderState) (st : FirstStep) → HasFedPlainly gray r bytes → IsAtEnd s0.left → s1.left ≡ s0.left → Consumes start.left s0.left bytes → AfterFirstEnd gray bytes st after
+      → AfterFirstRead gray start bytes st buf after s1
+  first_ends bytes buf r after (first.Early n) k end left had h =
+      let short = (k.fed).short in
+      (((h.holds).ended).done, h.none, (bytes, left_still s0 s1 bytes start left had, omega (arith, short), h), ap rest_of left ∙ none_left s0.left end)
+  first_ends bytes buf r after (first.Ended w) k end left had h = first_end gray start s0 s1 bytes r w k end left had h
+  first_ends bytes buf r after other k end left had h = absurd h
 
 -- A PIECE
 
-after_piece : (gray : Bool) (start s0 s1 : DeskState) (n : ℕ) (buf bytes : List ℕ) (answer : FirstStep) (r : ReaderState) → length (bytes ++ take n buf) ≤ standard_limits.input → 0 < length (take n buf) → length (take n buf) ≤ length buf → length (take n buf) ≡ n
-    → s1.input_open ≡ true → Consumes start.left s1.left (bytes ++ take n buf) → AfterFirst gray bytes (take n buf) answer r → AfterFirstRead gray start bytes answer buf r s1
-after_piece gray start s0 s1 n buf bytes first.More r most some within size opened read h = (take n buf, some, h, read)
-after_piece gray start s0 s1 n buf bytes first.Whole r most some within size opened read h = (((h.holds).done).done, h.none, (bytes ++ take n buf, read, most, h))
-after_piece gray start s0 s1 n buf bytes (first.Rows count answer) r most some within size opened read h =
-    let same = h.0 ∙ size in (
-      (let c = h.0 in omega (arith, c, within)),
-      opened,
-      (bytes ++ take n buf, read, most, subst (λ k. BeginsShownRows gray (bytes ++ take n buf) (take k buf) answer r) (sym same) h.1),
-    )
-after_piece gray start s0 s1 n buf bytes (first.Ended (why.Refused f)) r most some within size opened read h = (bytes ++ take n buf, read, most, (h.0 (rest_of s1.left), h.1))
-after_piece gray start s0 s1 n buf bytes (first.Ended why.NoMemory) r most some within size opened read h = (bytes ++ take n buf, read, most, h)
-after_piece gray start s0 s1 n buf bytes other r most some within size opened read h = absurd h
+module _ (gray : Bool) (start s0 s1 : DeskState) (n : ℕ) (buf bytes : List ℕ) where
+  after_piece : (answer : FirstStep) (r : ReaderState) → length (bytes ++ take n buf) ≤ standard_limits.input → 0 < length (take n buf) → length (take n buf) ≤ length buf → length (take n buf) ≡ n
+      → s1.input_open ≡ true → Consumes start.left s1.left (bytes ++ take n buf) → AfterFirst gray bytes (take n buf) answer r → AfterFirstRead gray start bytes answer buf r s1
+  after_piece first.More r most some within size opened read h = (take n buf, some, h, read)
+  after_piece first.Whole r most some within size opened read h = (((h.holds).done).done, h.none, (bytes ++ take n buf, read, most, h))
+  after_piece (first.Rows count answer) r most some within size opened read h =
+      let same = h.0 ∙ size in (
+        (let c = h.0 in omega (arith, c, within)),
+        opened,
+        (bytes ++ take n buf, read, most, subst (λ k. BeginsShownRows gray (bytes ++ take n buf) (take k buf) answer r) (sym same) h.1),
+      )
+  after_piece (first.Ended (why.Refused f)) r most some within size opened read h = (bytes ++ take n buf, read, most, (h.0 (rest_of s1.left), h.1))
+  after_piece (first.Ended why.NoMemory) r most some within size opened read h = (bytes ++ take n buf, read, most, h)
+  after_piece other r most some within size opened read h = absurd h
 
-pub first_piece : (gray : Bool) (start s0 s1 : DeskState) (n : ℕ) (buf bytes : List ℕ) (answer : FirstStep) (r : ReaderState) → length (bytes ++ take n buf) ≤ standard_limits.input → Reads s0 (got.Bytes n) buf s1 → s0.input_open ≡ true
-    → Consumes start.left s0.left bytes → AfterFirst gray bytes (take n buf) answer r → AfterFirstRead gray start bytes answer buf r s1
-first_piece gray start s0 s1 n buf bytes answer r most read opened had h =
-    let size = length-take-le n buf read.after.1 in
-    let within = read.after.1 in
-    after_piece gray start s0 s1 n buf bytes answer r most (some_taken n buf read.after.0 read.after.1) (omega (arith, size, within)) size (read.input_open ∙ opened)
-    (Consumes-then start.left s0.left s1.left bytes (take n buf) had read.after.2) h
+module _ (gray : Bool) (start s0 s1 : DeskState) (n : ℕ) (buf bytes : List ℕ) where
+  pub first_piece : (answer : FirstStep) (r : ReaderState) → length (bytes ++ take n buf) ≤ standard_limits.input → Reads s0 (got.Bytes n) buf s1 → s0.input_open ≡ true
+      → Consumes start.left s0.left bytes → AfterFirst gray bytes (take n buf) answer r → AfterFirstRead gray start bytes answer buf r s1
+  first_piece answer r most read opened had h =
+      let size = length-take-le n buf read.after.1 in
+      let within = read.after.1 in
+      after_piece gray start s0 s1 n buf bytes answer r most (some_taken n buf read.after.0 read.after.1) (omega (arith, size, within)) size (read.input_open ∙ opened)
+      (Consumes-then start.left s0.left s1.left bytes (take n buf) had read.after.2) h
 
 -- before any byte
 pub fed_nothing : (gray : Bool) (r : ReaderState) → r.limits ≡ standard_limits → HasReadPlainly [] r → HasFedPlainly gray r []

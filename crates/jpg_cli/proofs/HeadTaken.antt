@@ -91,30 +91,33 @@ fed_text comment all old out replace due c empty h = subst (λ (text : List ℕ)
 short_taken : (n : ℕ) (buf : List ℕ) → length buf ≤ 65536 → length (take n buf) ≤ 65536
 short_taken n buf short = omega (arith, short, length-take n buf)
 
-pub head_begun : (s0 s1 : DeskState) (n : ℕ) (buf comment bytes old out : List ℕ) (replace : Bool) (due : Option Why) (was c : Insert) → length (bytes ++ take n buf) ≤ standard_limits.input → was.limits ≡ standard_limits → c.limits ≡ standard_limits → old ≡ [] → length buf ≤ 65536
-    → HasInserted comment bytes [] was → Reads s0 (got.Bytes n) buf s1 → Appends (λ text. AfterFed comment replace (bytes ++ take n buf) text due c) [] old out → 0 < length out → AfterHeadRead comment replace bytes s0 (at_head.Begun due) c out s1
-head_begun s0 s1 n buf comment bytes old out replace due was c most e f empty short h r k some =
-    let fed = fed_text comment (bytes ++ take n buf) old out replace due c empty k in
-    let nothing = nothing_there comment bytes was e h in
-    (take n buf, some, r.after.2, most, fed_at_head bytes (take n buf) comment out replace due c f some nothing.shows (short_taken n buf short) fed, fed)
+module _ (s0 s1 : DeskState) (n : ℕ) (buf comment bytes old out : List ℕ) where
+  pub head_begun : (replace : Bool) (due : Option Why) (was c : Insert) → length (bytes ++ take n buf) ≤ standard_limits.input → was.limits ≡ standard_limits → c.limits ≡ standard_limits → old ≡ [] → length buf ≤ 65536
+      → HasInserted comment bytes [] was → Reads s0 (got.Bytes n) buf s1 → Appends (λ text. AfterFed comment replace (bytes ++ take n buf) text due c) [] old out → 0 < length out → AfterHeadRead comment replace bytes s0 (at_head.Begun due) c out s1
+  head_begun replace due was c most e f empty short h r k some =
+      let fed = fed_text comment (bytes ++ take n buf) old out replace due c empty k in
+      let nothing = nothing_there comment bytes was e h in
+      (take n buf, some, r.after.2, most, fed_at_head bytes (take n buf) comment out replace due c f some nothing.shows (short_taken n buf short) fed, fed)
 
 -- WHERE NOTHING IS WRITTEN
 
-ended : (s0 s1 : DeskState) (piece comment bytes text : List ℕ) (replace : Bool) (w : Why) (was c : Insert) → length (bytes ++ piece) ≤ standard_limits.input → was.limits ≡ standard_limits → length piece ≤ 65536 → HasInserted comment bytes [] was → Consumes s0.left s1.left piece
-    → AfterFed comment replace (bytes ++ piece) text (Some w) c → text ≡ [] → EndsBefore bytes s0 w s1
-ended s0 s1 piece comment bytes text replace (why.Refused f) was c most e short h read (of, inl (empty, faults)) none =
-    let nothing = nothing_there comment bytes was e h in
-    let within = fault_within (HoldsHead standard_limits) ((bytes ++ piece) ++ []) f.fault f.at (faults []) in
-    let last = fault_last (HoldsHead standard_limits) bytes piece f nothing.shows nothing.short short (faults []) in
-    (piece, read, most, (faults (rest_of s1.left), omega (arith, within, length-append (bytes ++ piece) []), last))
-ended s0 s1 piece comment bytes text replace (why.Refused f) was c most e short h read (of, inr (long, is)) none = absurd (not_none text none (text_is_some (take f.at (bytes ++ piece)) comment text replace is))
-ended s0 s1 piece comment bytes text replace why.NoMemory was c most e short h read fed none = (piece, read, most)
-ended s0 s1 piece comment bytes text replace other was c most e short h read fed none = absurd fed
+module _ (s0 s1 : DeskState) (piece comment bytes text : List ℕ) where
+  ended : (replace : Bool) (w : Why) (was c : Insert) → length (bytes ++ piece) ≤ standard_limits.input → was.limits ≡ standard_limits → length piece ≤ 65536 → HasInserted comment bytes [] was → Consumes s0.left s1.left piece
+      → AfterFed comment replace (bytes ++ piece) text (Some w) c → text ≡ [] → EndsBefore bytes s0 w s1
+  ended replace (why.Refused f) was c most e short h read (of, inl (empty, faults)) none =
+      let nothing = nothing_there comment bytes was e h in
+      let within = fault_within (HoldsHead standard_limits) ((bytes ++ piece) ++ []) f.fault f.at (faults []) in
+      let last = fault_last (HoldsHead standard_limits) bytes piece f nothing.shows nothing.short short (faults []) in
+      (piece, read, most, (faults (rest_of s1.left), omega (arith, within, length-append (bytes ++ piece) []), last))
+  ended replace (why.Refused f) was c most e short h read (of, inr (long, is)) none = absurd (not_none text none (text_is_some (take f.at (bytes ++ piece)) comment text replace is))
+  ended replace why.NoMemory was c most e short h read fed none = (piece, read, most)
+  ended replace other was c most e short h read fed none = absurd fed
 
-pub head_ended : (s0 s1 : DeskState) (n : ℕ) (buf comment bytes old out : List ℕ) (replace : Bool) (w : Why) (was c : Insert) → length (bytes ++ take n buf) ≤ standard_limits.input → was.limits ≡ standard_limits → old ≡ [] → length buf ≤ 65536
-    → HasInserted comment bytes [] was → Reads s0 (got.Bytes n) buf s1 → Appends (λ text. AfterFed comment replace (bytes ++ take n buf) text (Some w) c) [] old out → out ≡ [] → EndsBefore bytes s0 w s1
-head_ended s0 s1 n buf comment bytes old out replace w was c most e empty short h r k none =
-    ended s0 s1 (take n buf) comment bytes out replace w was c most e (short_taken n buf short) h r.after.2 (fed_text comment (bytes ++ take n buf) old out replace (Some w) c empty k) none
+module _ (s0 s1 : DeskState) (n : ℕ) (buf comment bytes old out : List ℕ) where
+  pub head_ended : (replace : Bool) (w : Why) (was c : Insert) → length (bytes ++ take n buf) ≤ standard_limits.input → was.limits ≡ standard_limits → old ≡ [] → length buf ≤ 65536
+      → HasInserted comment bytes [] was → Reads s0 (got.Bytes n) buf s1 → Appends (λ text. AfterFed comment replace (bytes ++ take n buf) text (Some w) c) [] old out → out ≡ [] → EndsBefore bytes s0 w s1
+  head_ended replace w was c most e empty short h r k none =
+      ended s0 s1 (take n buf) comment bytes out replace w was c most e (short_taken n buf short) h r.after.2 (fed_text comment (bytes ++ take n buf) old out replace (Some w) c empty k) none
 
 pub head_ends : (s0 s1 : DeskState) (comment bytes : List ℕ) (replace : Bool) (w : Why) (was : Insert) → was.limits ≡ standard_limits → HasInserted comment bytes [] was → IsAtEnd s0.left → s1.left ≡ s0.left → AfterAll comment replace bytes [] w → EndsBefore bytes s0 w s1
 head_ends s0 s1 comment bytes replace why.Done was e h end left a = absurd (not_none [] refl (text_is_some bytes comment [] replace a.0))

@@ -112,14 +112,15 @@ pub told_names : (w : EncodeWords) (scans : Scans) (tables : Option (List QuantT
     → Encoded (task_after [] (encode_told w) scans tables) s0 ended s2
 told_names w scans tables s0 s2 ended h = asked_names (encode_told w) w.files.input w.files.output scans tables s0 s2 ended (sym (same_name w.files.input)) (sym (same_name w.files.output)) h
 
-pub encoded_by : (xs : List Name) (a : EncodeAsked) (scans : Scans) (tables : Option (List QuantTable)) (s0 s1 s2 s3 : DeskState) (w : Why) → GoesOnAfter xs s0 s1 → Keeps s1 s2 → Asks (tables_names a.tables) put.Done s1 s2 → HasTables a.tables s1 tables
-    → Encoded (task_after [] a scans tables) s2 w s3 → EncodedBy xs a scans s0 w s3
-encoded_by xs a scans tables s0 s1 s2 s3 w b kept asked has h =
-    inr (
-      tables,
-      tables_before a.tables tables s0 s1 b.kept.works.stays.files has,
-      converted_after Image (encoding_conversion (task_after [] a scans tables)) (xs ++ tables_names a.tables) s0 s2 s3 (goes_on_more xs (tables_names a.tables) s0 s1 s2 b (record { asked = asked; kept = kept })) w h,
-    )
+module _ (xs : List Name) (a : EncodeAsked) (scans : Scans) (tables : Option (List QuantTable)) where
+  pub encoded_by : (s0 s1 s2 s3 : DeskState) (w : Why) → GoesOnAfter xs s0 s1 → Keeps s1 s2 → Asks (tables_names a.tables) put.Done s1 s2 → HasTables a.tables s1 tables
+      → Encoded (task_after [] a scans tables) s2 w s3 → EncodedBy xs a scans s0 w s3
+  encoded_by s0 s1 s2 s3 w b kept asked has h =
+      inr (
+        tables,
+        tables_before a.tables tables s0 s1 b.kept.works.stays.files has,
+        converted_after Image (encoding_conversion (task_after [] a scans tables)) (xs ++ tables_names a.tables) s0 s2 s3 (goes_on_more xs (tables_names a.tables) s0 s1 s2 b (record { asked = asked; kept = kept })) w h,
+      )
 
 pub encoded_stopped : (xs : List Name) (a : EncodeAsked) (scans : Scans) (s0 s1 s2 : DeskState) (w : Why) → GoesOnAfter xs s0 s1 → StopsAtTables [] a.tables s1 w s2 → EncodedBy xs a scans s0 w s2
 encoded_stopped xs a scans s0 s1 s2 w b h = inl (stops_after xs a.tables s0 s1 s2 w b h)

@@ -60,22 +60,23 @@ image_done s0 s1 s2 output early text e kind new h decoded = by early refl
     by None same = (same, noted_then s0 s1 s2 output h d.only, all)
     by (Some n) same = (same, noted_then s0 s1 s2 output h d.only, all)
 
-pub image_wanting : (s0 s1 s2 : DeskState) (output : Name) (early : Option ℕ) (text : EndKind → List ℕ) (e : EndState) (kind : EndKind) (ended : DecodeStop) → e ≡ new_end kind → ended ≡ stop.NoMemory → Creates s0 output put.Done s1 → Decodes s1 (text e.kind) (Err ended) s2
-    → AfterImage output early s0 (text kind) why.NoMemory s2
-image_wanting s0 s1 s2 output early text e kind ended new is h decoded =
-    let same = subst (λ due. Decodes s1 due (Err ended) s2) (same_text text e kind new) decoded in
-    let d = subst (λ (x : DecodeStop). Decodes s1 (text kind) (Err x) s2) is same in
-    (noted_then s0 s1 s2 output h d.only, (d.bytes.0, d.bytes.1, Grows-from s0.outputs s1.outputs s2.outputs output (take d.bytes.0 (text kind)) h.after.1 d.bytes.2))
+module _ (s0 s1 s2 : DeskState) (output : Name) (early : Option ℕ) (text : EndKind → List ℕ) where
+  pub image_wanting : (e : EndState) (kind : EndKind) (ended : DecodeStop) → e ≡ new_end kind → ended ≡ stop.NoMemory → Creates s0 output put.Done s1 → Decodes s1 (text e.kind) (Err ended) s2
+      → AfterImage output early s0 (text kind) why.NoMemory s2
+  image_wanting e kind ended new is h decoded =
+      let same = subst (λ due. Decodes s1 due (Err ended) s2) (same_text text e kind new) decoded in
+      let d = subst (λ (x : DecodeStop). Decodes s1 (text kind) (Err x) s2) is same in
+      (noted_then s0 s1 s2 output h d.only, (d.bytes.0, d.bytes.1, Grows-from s0.outputs s1.outputs s2.outputs output (take d.bytes.0 (text kind)) h.after.1 d.bytes.2))
 
-pub image_failed : (s0 s1 s2 : DeskState) (output : Name) (early : Option ℕ) (text : EndKind → List ℕ) (e : EndState) (kind : EndKind) (ended : DecodeStop) → e ≡ new_end kind → ended ≡ stop.WriteFault → Creates s0 output put.Done s1 → Decodes s1 (text e.kind) (Err ended) s2
-    → AfterImage output early s0 (text kind) why.WriteFault s2
-image_failed s0 s1 s2 output early text e kind ended new is h decoded =
-    let same = subst (λ due. Decodes s1 due (Err ended) s2) (same_text text e kind new) decoded in
-    let d = subst (λ (x : DecodeStop). Decodes s1 (text kind) (Err x) s2) is same in (
-      noted_then s0 s1 s2 output h d.only,
-      (let r = d.bytes.1 in let f = h.counts.writes in omega arith),
-      (d.bytes.0.0, Grows-from s0.outputs s1.outputs s2.outputs output (take d.bytes.0.0 (text kind)) h.after.1 d.bytes.0.1),
-    )
+  pub image_failed : (e : EndState) (kind : EndKind) (ended : DecodeStop) → e ≡ new_end kind → ended ≡ stop.WriteFault → Creates s0 output put.Done s1 → Decodes s1 (text e.kind) (Err ended) s2
+      → AfterImage output early s0 (text kind) why.WriteFault s2
+  image_failed e kind ended new is h decoded =
+      let same = subst (λ due. Decodes s1 due (Err ended) s2) (same_text text e kind new) decoded in
+      let d = subst (λ (x : DecodeStop). Decodes s1 (text kind) (Err x) s2) is same in (
+        noted_then s0 s1 s2 output h d.only,
+        (let r = d.bytes.1 in let f = h.counts.writes in omega arith),
+        (d.bytes.0.0, Grows-from s0.outputs s1.outputs s2.outputs output (take d.bytes.0.0 (text kind)) h.after.1 d.bytes.0.1),
+      )
 
 -- It doesn't depend on markers that weren't kept.
 pub text_shown : (s : Showing) (keeping : Copying) (M : Meaning) → shown_text s (kept_for keeping M) ≡ shown_text s M

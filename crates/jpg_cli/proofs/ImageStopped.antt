@@ -53,43 +53,45 @@ image_part {s} {old} {M} {written} {due} {others} n {s1} h only gone =
       subst (λ t. Added (s.input ∷ []) s.output t old s1) (sym (part_text written due others (shown_text s M) n h.same)) (created_added new),
     )
 
-pub image_stopped : {s : Showing} {old start : DeskState} {M : Meaning} {early : Option ℕ} {all written out due others new : List ℕ} (ended : DecodeStop) {s0 s1 : DeskState} → IsImageText s old start M early all written (out ++ due) others s0
-    → SendsImage s0 out due (Err ended) new s1 → Shown s old (why_of (Err ended)) s1
-image_stopped {M} {early} {written} {out} {due} {others} stop.NoMemory h sent =
-    let i = (sent.bytes).0 in
-    let less = (sent.bytes).1 in
-    let part = image_part i h sent.only (sent.bytes).2 in
-    let size = ap length h.same in
-    inr (inl (record {
-      part = record { value = M; early = early; count = length (written ++ take i (out ++ due)); read = part.0; wrote = part.1 };
-      left = omega (
-        arith,
-        less,
-        size,
-        length-append written ((out ++ due) ++ others),
-        length-append (out ++ due) others,
-        length-append written (take i (out ++ due)),
-        length-take-le i (out ++ due) (omega (arith, less)),
-      );
-    }))
-image_stopped {s} {M} {early} {written} {out} {due} {others} stop.WriteFault {s1} h sent =
-    let i = (sent.bytes).0.0 in
-    let part = image_part i h sent.only (sent.bytes).0.1 in (
-      rose_since s1 h.desk (sent.bytes).1,
-      inl (record {
+module _ {s : Showing} {old start : DeskState} {M : Meaning} {early : Option ℕ} {all written : List ℕ} where
+  pub image_stopped : {out due others new : List ℕ} (ended : DecodeStop) {s0 s1 : DeskState} → IsImageText s old start M early all written (out ++ due) others s0
+      → SendsImage s0 out due (Err ended) new s1 → Shown s old (why_of (Err ended)) s1
+  image_stopped {out} {due} {others} stop.NoMemory h sent =
+      let i = (sent.bytes).0 in
+      let less = (sent.bytes).1 in
+      let part = image_part i h sent.only (sent.bytes).2 in
+      let size = ap length h.same in
+      inr (inl (record {
         part = record { value = M; early = early; count = length (written ++ take i (out ++ due)); read = part.0; wrote = part.1 };
-        early = λ front rest other cut many k.
-            (let l = h.in_time front rest other cut many k in
-            let size = ap length (part_text written (out ++ due) others (shown_text s M) i h.same) in omega (arith, l, size, length-append written (take i (out ++ due))));
-      }),
-    )
+        left = omega (
+          arith,
+          less,
+          size,
+          length-append written ((out ++ due) ++ others),
+          length-append (out ++ due) others,
+          length-append written (take i (out ++ due)),
+          length-take-le i (out ++ due) (omega (arith, less)),
+        );
+      }))
+  image_stopped {out} {due} {others} stop.WriteFault {s1} h sent =
+      let i = (sent.bytes).0.0 in
+      let part = image_part i h sent.only (sent.bytes).0.1 in (
+        rose_since s1 h.desk (sent.bytes).1,
+        inl (record {
+          part = record { value = M; early = early; count = length (written ++ take i (out ++ due)); read = part.0; wrote = part.1 };
+          early = λ front rest other cut many k.
+              (let l = h.in_time front rest other cut many k in
+              let size = ap length (part_text written (out ++ due) others (shown_text s M) i h.same) in omega (arith, l, size, length-append written (take i (out ++ due))));
+        }),
+      )
 
--- ALL OF IT WAS
-pub image_whole : {s : Showing} {old start : DeskState} {M : Meaning} {early : Option ℕ} {all written out due new : List ℕ} {s0 s1 : DeskState} {u : Unit {0}} → IsImageText s old start M early all written (out ++ due) [] s0 → SendsImage s0 out due (Ok u) new s1 → new ≡ []
-    → ReadsShown s M early old s1 × Added (s.input ∷ []) s.output (shown_text s M) old s1
-image_whole {s} {old} {M} {written} {out} {due} {s1} h sent none =
-    let gone = (sent.bytes).0 in
-    let same : gone ≡ out ++ due = sym (append-nil gone) ∙ ap (λ l. gone ++ l) (sym none) ∙ sym (sent.bytes).2 in
-    let text : written ++ gone ≡ shown_text s M = ap (λ l. written ++ l) (same ∙ sym (append-nil (out ++ due))) ∙ h.same in
-    let ended = created_more gone h.desk sent.only (sent.bytes).1 in
-    (image_read h sent.only ended, subst (λ t. Added (s.input ∷ []) s.output t old s1) text (created_added ended))
+module _ {s : Showing} {old start : DeskState} {M : Meaning} {early : Option ℕ} {all written : List ℕ} where
+  -- ALL OF IT WAS
+  pub image_whole : {out due new : List ℕ} {s0 s1 : DeskState} {u : Unit {0}} → IsImageText s old start M early all written (out ++ due) [] s0 → SendsImage s0 out due (Ok u) new s1 → new ≡ []
+      → ReadsShown s M early old s1 × Added (s.input ∷ []) s.output (shown_text s M) old s1
+  image_whole {out} {due} {s1} h sent none =
+      let gone = (sent.bytes).0 in
+      let same : gone ≡ out ++ due = sym (append-nil gone) ∙ ap (λ l. gone ++ l) (sym none) ∙ sym (sent.bytes).2 in
+      let text : written ++ gone ≡ shown_text s M = ap (λ l. written ++ l) (same ∙ sym (append-nil (out ++ due))) ∙ h.same in
+      let ended = created_more gone h.desk sent.only (sent.bytes).1 in
+      (image_read h sent.only ended, subst (λ t. Added (s.input ∷ []) s.output t old s1) text (created_added ended))

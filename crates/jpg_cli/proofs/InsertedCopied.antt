@@ -82,32 +82,34 @@ long_file comment bytes text rest replace f of long is =
 
 -- A PIECE, as it was fed
 
-rest_due : (start s2 : DeskState) (comment bytes piece all : List ℕ) (replace : Bool) (due : Option Why) (c : Insert) → 0 < length piece → 0 < length all → AfterFed comment replace (bytes ++ piece) all due c → HasCopied start (bytes ++ piece) all s2
-    → AfterRest comment replace start bytes due c s2
-rest_due start s2 comment bytes piece all replace None c more some h k = (piece, all, more, some, h, k)
-rest_due start s2 comment bytes piece all replace (Some (why.Refused f)) c more some (of, inl (none, faults)) k = absurd (not_none all none some)
-rest_due start s2 comment bytes piece all replace (Some (why.Refused f)) c more some (of, inr (long, is)) k =
-    (bytes ++ piece, all, k, long_file comment (bytes ++ piece) all (rest_of s2.left) replace f of long is)
-rest_due start s2 comment bytes piece all replace (Some why.NoMemory) c more some h k = (bytes ++ piece, all, k, file_part comment (bytes ++ piece) all replace some h)
-rest_due start s2 comment bytes piece all replace other c more some h k = absurd h
+module _ (start s2 : DeskState) (comment bytes piece all : List ℕ) where
+  rest_due : (replace : Bool) (due : Option Why) (c : Insert) → 0 < length piece → 0 < length all → AfterFed comment replace (bytes ++ piece) all due c → HasCopied start (bytes ++ piece) all s2
+      → AfterRest comment replace start bytes due c s2
+  rest_due replace None c more some h k = (piece, all, more, some, h, k)
+  rest_due replace (Some (why.Refused f)) c more some (of, inl (none, faults)) k = absurd (not_none all none some)
+  rest_due replace (Some (why.Refused f)) c more some (of, inr (long, is)) k =
+      (bytes ++ piece, all, k, long_file comment (bytes ++ piece) all (rest_of s2.left) replace f of long is)
+  rest_due replace (Some why.NoMemory) c more some h k = (bytes ++ piece, all, k, file_part comment (bytes ++ piece) all replace some h)
+  rest_due replace other c more some h k = absurd h
 
-pub rest_fed : {start s0 s1 s2 : DeskState} {n : ℕ} {buf : List ℕ} (comment : List ℕ) {bytes text old : List ℕ} (out : List ℕ) (replace : Bool) (due : Option Why) (c : Insert) → length (bytes ++ take n buf) ≤ standard_limits.input → old ≡ [] → 0 < length text → Reads s0 (got.Bytes n) buf s1
-    → Appends (λ all. AfterFed comment replace (bytes ++ take n buf) all due c) text old out → HasCopied start bytes text s0 → OnlyWrites s1 s2 → AfterWrite s1 out put.Done s2 → AfterRest comment replace start bytes due c s2
-rest_fed {start} {s1} {s2} {n} {buf} comment {bytes} {text} {old} out replace due c most empty some r h had k w =
-    let written = subst (λ (m : List ℕ). AppendsLast s1.outputs m s2.outputs) (sym (text_added old out h.0 empty h.1)) w in
-    rest_due start s2 comment bytes (take n buf) (text ++ h.0) replace due c (some_taken n buf r.after.0 r.after.1) (omega (arith, some, length-append text h.0)) h.2
-    (copied (take n buf) h.0 most had r.after.2 r.outputs k written)
+module _ {start s0 s1 s2 : DeskState} {n : ℕ} {buf : List ℕ} (comment : List ℕ) where
+  pub rest_fed : {bytes text old : List ℕ} (out : List ℕ) (replace : Bool) (due : Option Why) (c : Insert) → length (bytes ++ take n buf) ≤ standard_limits.input → old ≡ [] → 0 < length text → Reads s0 (got.Bytes n) buf s1
+      → Appends (λ all. AfterFed comment replace (bytes ++ take n buf) all due c) text old out → HasCopied start bytes text s0 → OnlyWrites s1 s2 → AfterWrite s1 out put.Done s2 → AfterRest comment replace start bytes due c s2
+  rest_fed {bytes} {text} {old} out replace due c most empty some r h had k w =
+      let written = subst (λ (m : List ℕ). AppendsLast s1.outputs m s2.outputs) (sym (text_added old out h.0 empty h.1)) w in
+      rest_due start s2 comment bytes (take n buf) (text ++ h.0) replace due c (some_taken n buf r.after.0 r.after.1) (omega (arith, some, length-append text h.0)) h.2
+      (copied (take n buf) h.0 most had r.after.2 r.outputs k written)
 
-pub rest_failed : {start s0 s1 s2 : DeskState} {n : ℕ} {buf : List ℕ} (comment : List ℕ) {bytes text old : List ℕ} (out : List ℕ) (replace : Bool) (due : Option Why) (c : Insert) → length (bytes ++ take n buf) ≤ standard_limits.input → c.limits ≡ standard_limits → c.replace ≡ replace → old ≡ [] → 0 < length text → Reads s0 (got.Bytes n) buf s1
-    → Appends (λ all. AfterFed comment replace (bytes ++ take n buf) all due c) text old out → OnlyCopies start s0 → HasCopied start bytes text s0 → OnlyWrites s1 s2 → AfterWrite s1 out put.Failed s2 → EndsInserting comment replace start why.WriteFault s2
-rest_failed {start} {s0} {s1} {s2} {n} {buf} comment {bytes} {text} {old} out replace due c most e same empty some r h still had k w =
-    let piece = take n buf in
-    let wrote = subst (λ (m : List ℕ). AfterWrite s1 m put.Failed s2) (sym (text_added old out h.0 empty h.1)) w in
-    let written = AppendsPart-then start.outputs s1.outputs s2.outputs text h.0 (outputs_still s0 s1 text start r.outputs had.written) wrote.1 in
-    let part = part_of_part comment (bytes ++ piece) (text ++ h.0) replace written.0 (file_part comment (bytes ++ piece) (text ++ h.0) replace (omega (arith, some, length-append text h.0)) (fed_part comment (bytes ++ piece) (text ++ h.0) replace due c e same h.2)) in (
-      (bytes ++ piece, take written.0 (text ++ h.0), record { most = most; read = left_still s1 s2 (bytes ++ piece) start k.left (Consumes-then start.left s0.left s1.left bytes piece had.read r.after.2); written = written.1 }, part),
-      (let v = wrote.0 in let f = still.works.stays.counts.writes in let g = r.counts.writes in omega arith),
-    )
+  pub rest_failed : {bytes text old : List ℕ} (out : List ℕ) (replace : Bool) (due : Option Why) (c : Insert) → length (bytes ++ take n buf) ≤ standard_limits.input → c.limits ≡ standard_limits → c.replace ≡ replace → old ≡ [] → 0 < length text → Reads s0 (got.Bytes n) buf s1
+      → Appends (λ all. AfterFed comment replace (bytes ++ take n buf) all due c) text old out → OnlyCopies start s0 → HasCopied start bytes text s0 → OnlyWrites s1 s2 → AfterWrite s1 out put.Failed s2 → EndsInserting comment replace start why.WriteFault s2
+  rest_failed {bytes} {text} {old} out replace due c most e same empty some r h still had k w =
+      let piece = take n buf in
+      let wrote = subst (λ (m : List ℕ). AfterWrite s1 m put.Failed s2) (sym (text_added old out h.0 empty h.1)) w in
+      let written = AppendsPart-then start.outputs s1.outputs s2.outputs text h.0 (outputs_still s0 s1 text start r.outputs had.written) wrote.1 in
+      let part = part_of_part comment (bytes ++ piece) (text ++ h.0) replace written.0 (file_part comment (bytes ++ piece) (text ++ h.0) replace (omega (arith, some, length-append text h.0)) (fed_part comment (bytes ++ piece) (text ++ h.0) replace due c e same h.2)) in (
+        (bytes ++ piece, take written.0 (text ++ h.0), record { most = most; read = left_still s1 s2 (bytes ++ piece) start k.left (Consumes-then start.left s0.left s1.left bytes piece had.read r.after.2); written = written.1 }, part),
+        (let v = wrote.0 in let f = still.works.stays.counts.writes in let g = r.counts.writes in omega arith),
+      )
 
 -- THE END
 

@@ -208,10 +208,11 @@ pub none_early : (w : Why) → as_early None w ≡ w
 none_early why.Done = refl
 none_early other = refl
 
-pub made_same : (fault other : Option PictureFault) (text also : List ℕ) (Right Is : Type 0) (output : Name) (s0 s1 : DeskState) → other ≡ fault → text ≡ also → (other ≡ None → Right → Is) → (w : Why)
-    → AfterMade fault text Right output s0 w s1 → AfterMade other also Is output s0 w s1
-made_same fault other text also Right Is output s0 s1 e d right why.Done (none, out, is) = (e ∙ none, subst (λ (t : List ℕ). AfterOutput output s0 t wrote.Done s1) d out, right (e ∙ none) is)
-made_same fault other text also Right Is output s0 s1 e d right (why.Picture p) (is, same) = (e ∙ is, same)
-made_same fault other text also Right Is output s0 s1 e d right (why.OpenFault which.Output) (none, out) = (e ∙ none, subst (λ (t : List ℕ). AfterOutput output s0 t wrote.OpenFault s1) d out)
-made_same fault other text also Right Is output s0 s1 e d right why.WriteFault (none, out) = (e ∙ none, subst (λ (t : List ℕ). AfterOutput output s0 t wrote.WriteFault s1) d out)
-made_same fault other text also Right Is output s0 s1 e d right others h = absurd h
+module _ (fault other : Option PictureFault) (text also : List ℕ) where
+  pub made_same : (Right Is : Type 0) (output : Name) (s0 s1 : DeskState) → other ≡ fault → text ≡ also → (other ≡ None → Right → Is) → (w : Why)
+      → AfterMade fault text Right output s0 w s1 → AfterMade other also Is output s0 w s1
+  made_same Right Is output s0 s1 e d right why.Done (none, out, is) = (e ∙ none, subst (λ (t : List ℕ). AfterOutput output s0 t wrote.Done s1) d out, right (e ∙ none) is)
+  made_same Right Is output s0 s1 e d right (why.Picture p) (is, same) = (e ∙ is, same)
+  made_same Right Is output s0 s1 e d right (why.OpenFault which.Output) (none, out) = (e ∙ none, subst (λ (t : List ℕ). AfterOutput output s0 t wrote.OpenFault s1) d out)
+  made_same Right Is output s0 s1 e d right why.WriteFault (none, out) = (e ∙ none, subst (λ (t : List ℕ). AfterOutput output s0 t wrote.WriteFault s1) d out)
+  made_same Right Is output s0 s1 e d right others h = absurd h

@@ -50,10 +50,11 @@ after_piece w start s1 bytes piece (step.Ended (why.Refused f)) r some most read
 after_piece w start s1 bytes piece (step.Ended why.NoMemory) r some most read h = (bytes ++ piece, read, most, h)
 after_piece w start s1 bytes piece other r some most read h = absurd h
 
-pub piece_taken : (w : Wanted) (start s0 s1 : DeskState) (n : ℕ) (buf bytes : List ℕ) (answer : PictureStep) (r : ReaderState) → length (bytes ++ take n buf) ≤ standard_limits.input → Reads s0 (got.Bytes n) buf s1 → Consumes start.left s0.left bytes → AfterTakingPiece w (bytes ++ take n buf) answer r
-    → AfterNextPiece w start bytes answer r s1
-piece_taken w start s0 s1 n buf bytes answer r most read had h =
-    after_piece w start s1 bytes (take n buf) answer r (some_taken n buf read.after.0 read.after.1) most (Consumes-then start.left s0.left s1.left bytes (take n buf) had read.after.2) h
+module _ (w : Wanted) (start s0 s1 : DeskState) where
+  pub piece_taken : (n : ℕ) (buf bytes : List ℕ) (answer : PictureStep) (r : ReaderState) → length (bytes ++ take n buf) ≤ standard_limits.input → Reads s0 (got.Bytes n) buf s1 → Consumes start.left s0.left bytes → AfterTakingPiece w (bytes ++ take n buf) answer r
+      → AfterNextPiece w start bytes answer r s1
+  piece_taken n buf bytes answer r most read had h =
+      after_piece w start s1 bytes (take n buf) answer r (some_taken n buf read.after.0 read.after.1) most (Consumes-then start.left s0.left s1.left bytes (take n buf) had read.after.2) h
 
 -- AT THE END
 

@@ -91,38 +91,39 @@ some_of_more {h} {all} {m} {n} {some} {more} k =
     rows_once standard_limits all m some (first_blocks standard_limits all m w) k.first (first_told standard_limits all m w)
     ∙ ap (λ s. blocks_in (row_places standard_limits s j.contents m) more) same.0 ∙ ap (λ c. blocks_in (row_places standard_limits h.before c m) more) same.1
 
-blocks_agree : {gray : Bool} {h : Head} {all : List ℕ} {m n : ℕ} {some more : Blocks} → AreToldTwice gray h all m n some more → (i x z : ℕ) → z < block_rows (so_far h more) i * m → (so_far h more).blocks i x z ≡ (so_far h some).blocks i x z
-blocks_agree {h} {all} {m} {some} {more} k i x z low =
-    subst (λ g. real_blocks g more i x z ≡ real_blocks g some i x z) (sym stays)
-    (real_agree f places more i x z
-    (λ lt real. found_first f ids i x z m is lt (head_names f (head_in f h.contents) i (head_there standard_limits h.before h.contents begins.unbroken) begins.of_all.all lt) real (there lt))
-    ∙ ap (λ (b : Blocks). real_blocks f b i x z) (sym (some_of_more k)))
-  where
-    begins : BeginsScanOfAll standard_limits all h.before h.contents
-    begins = (k.head).begins
+module _ {gray : Bool} {h : Head} {all : List ℕ} {m n : ℕ} {some more : Blocks} where
+  blocks_agree : AreToldTwice gray h all m n some more → (i x z : ℕ) → z < block_rows (so_far h more) i * m → (so_far h more).blocks i x z ≡ (so_far h some).blocks i x z
+  blocks_agree k i x z low =
+      subst (λ g. real_blocks g more i x z ≡ real_blocks g some i x z) (sym stays)
+      (real_agree f places more i x z
+      (λ lt real. found_first f ids i x z m is lt (head_names f (head_in f h.contents) i (head_there standard_limits h.before h.contents begins.unbroken) begins.of_all.all lt) real (there lt))
+      ∙ ap (λ (b : Blocks). real_blocks f b i x z) (sym (some_of_more k)))
+    where
+      begins : BeginsScanOfAll standard_limits all h.before h.contents
+      begins = (k.head).begins
 
-    f : Frame
-    f = frame_of standard_limits h.before
+      f : Frame
+      f = frame_of standard_limits h.before
 
-    after : List Segment
-    after = (0xda, h.contents) ∷ h.before
+      after : List Segment
+      after = (0xda, h.contents) ∷ h.before
 
-    ids : List ℕ
-    ids = head_components (head_in (frame_of standard_limits h.before) h.contents)
+      ids : List ℕ
+      ids = head_components (head_in (frame_of standard_limits h.before) h.contents)
 
-    is : IsFrame (frame_of standard_limits h.before)
-    is = begun_frame standard_limits all h.before h.contents standard_are_limits (k.head).begins
+      is : IsFrame (frame_of standard_limits h.before)
+      is = begun_frame standard_limits all h.before h.contents standard_are_limits (k.head).begins
 
-    stays : frame_of standard_limits ((0xda, h.contents) ∷ h.before) ≡ frame_of standard_limits h.before
-    stays = frame_so_far h all (k.head).begins
+      stays : frame_of standard_limits ((0xda, h.contents) ∷ h.before) ≡ frame_of standard_limits h.before
+      stays = frame_so_far h all (k.head).begins
 
-    places : List Place
-    places = row_places standard_limits h.before h.contents m
+      places : List Place
+      places = row_places standard_limits h.before h.contents m
 
-    there : i < length (frame_of standard_limits h.before).components → z < cond (length ids == 1) 1 (component_at f i).v * m
-    there lt =
-        subst (λ c. z < c * m)
-        (ap (λ g. block_rows (meaning_of g after more) i) stays ∙ rows_told f after more i lt ∙ ap (λ c. cond (c == 1) 1 (component_at f i).v) (sym begins.of_all.all)) low
+      there : i < length (frame_of standard_limits h.before).components → z < cond (length ids == 1) 1 (component_at f i).v * m
+      there lt =
+          subst (λ c. z < c * m)
+          (ap (λ g. block_rows (meaning_of g after more) i) stays ∙ rows_told f after more i lt ∙ ap (λ c. cond (c == 1) 1 (component_at f i).v) (sym begins.of_all.all)) low
 
 pub agree_first : {gray : Bool} {h : Head} {all : List ℕ} {m n : ℕ} {some more : Blocks} → IsHeadIn gray h all → m ≤ n → TellsRows standard_limits all m some → TellsRows standard_limits all n more
     → AgreeInFirstRows (so_far h some) (so_far h more) m
@@ -151,10 +152,11 @@ text_same {gray} smooth kind {h} {all} {m} {some} more head told agree = one (ro
     one a b [] y e g = sym (append-nil a) ∙ sym e
     one a b (v ∷ x) y e g = absurd (let s = ap length e in let t = ap length g in omega (arith, s, t, length-append a (v ∷ x), length-append b y))
 
-pub same_text : {gray : Bool} (smooth : Bool) (kind : EndKind) {h : Head} {all : List ℕ} {m n : ℕ} {some more : Blocks} → IsHeadIn gray h all → m ≤ n → TellsRows standard_limits all m some → TellsRows standard_limits all n more
-    → rows_text kind (so_far h some) gray smooth m ≡ rows_text kind (so_far h more) gray smooth m
-same_text smooth kind {more} head less first second =
-    text_same smooth kind more head first (blocks_agree (record { head = head; less = less; first = first; second = second }))
+module _ {gray : Bool} {h : Head} {all : List ℕ} {m n : ℕ} {some more : Blocks} where
+  pub same_text : (smooth : Bool) (kind : EndKind) → IsHeadIn gray h all → m ≤ n → TellsRows standard_limits all m some → TellsRows standard_limits all n more
+      → rows_text kind (so_far h some) gray smooth m ≡ rows_text kind (so_far h more) gray smooth m
+  same_text smooth kind head less first second =
+      text_same smooth kind more head first (blocks_agree (record { head = head; less = less; first = first; second = second }))
 
 -- THE ROW that a reader gave is that of the picture
 

@@ -27,17 +27,18 @@ opened_read {s} {old} {start} {all} {now} Is k h is = record { bytes = all; read
 pub no_image : {s : Showing} {old start : DeskState} {all : List ℕ} {piece : List ℕ} {answer : Result FedRow Stop} {r : ReaderState} {now : DeskState} → BeginsShownRows s.gray all piece answer r → HasOpened s old start all now → Shown s old why.NoMemory now
 no_image {s} {old} {start} {now} k h = inl (stopped_there old start now s.input h.opened h.reads, opened_read (IsShortRead (Image s.gray)) k h (k.rows).short)
 
--- NO OUTPUT
-pub no_output : {s : Showing} {old start : DeskState} {all : List ℕ} {piece : List ℕ} {answer : Result FedRow Stop} {r : ReaderState} {now new : DeskState} → BeginsShownRows s.gray all piece answer r → HasOpened s old start all now → Creates now s.output put.Failed new
-    → Shown s old (why.OpenFault which.Output) new
-no_output {s} {old} {start} {now} {new} k h made = (
-  record {
-    stopped = record {
-      asked = asks_next old now new (s.input ∷ []) s.output put.Failed (noted old start now s.input h.opened h.reads) made.asked;
-      outputs = made.after.1 ∙ (h.reads).outputs ∙ (h.opened).outputs;
-    };
-    opens = (let rose = made.after.0 in let a = (h.opened).counts.opens in let b = ((h.reads).copies).works.stays.counts.opens in omega (arith, rose, a, b));
-  },
-  inr (reads_still old now new s.input (λ rest bytes. IsShortRead (Image s.gray) bytes × IsShownByRows s.gray bytes) made.left
-      (opened_read (λ bytes. IsShortRead (Image s.gray) bytes × IsShownByRows s.gray bytes) k h ((k.rows).short, shown_head (k.rows).head))),
-)
+module _ {s : Showing} {old start : DeskState} {all : List ℕ} {piece : List ℕ} {answer : Result FedRow Stop} {r : ReaderState} where
+  -- NO OUTPUT
+  pub no_output : {now new : DeskState} → BeginsShownRows s.gray all piece answer r → HasOpened s old start all now → Creates now s.output put.Failed new
+      → Shown s old (why.OpenFault which.Output) new
+  no_output {now} {new} k h made = (
+    record {
+      stopped = record {
+        asked = asks_next old now new (s.input ∷ []) s.output put.Failed (noted old start now s.input h.opened h.reads) made.asked;
+        outputs = made.after.1 ∙ (h.reads).outputs ∙ (h.opened).outputs;
+      };
+      opens = (let rose = made.after.0 in let a = (h.opened).counts.opens in let b = ((h.reads).copies).works.stays.counts.opens in omega (arith, rose, a, b));
+    },
+    inr (reads_still old now new s.input (λ rest bytes. IsShortRead (Image s.gray) bytes × IsShownByRows s.gray bytes) made.left
+        (opened_read (λ bytes. IsShortRead (Image s.gray) bytes × IsShownByRows s.gray bytes) k h ((k.rows).short, shown_head (k.rows).head))),
+  )

@@ -33,7 +33,7 @@ use Rattle.jpg_cli.specs.Desk.Reading.{rest_of}
 use Rattle.jpg_cli.specs.Desk.ReadPicture.{IsRefusedRead, IsUnwanted}
 use Rattle.jpg_cli.specs.Outcome.{bytes_before}
 use Rattle.jpg_cli.specs.Tools.Showing.{IsInTime, IsRowsText, IsShownByRows, IsShownUpTo, Showing, Shown}
-use Rattle.jpg_cli.specs.Tools.ShowingRows.{AfterShownPiece, HasCreated, HasFedRows, HasShown, HasShownAll, Head, IsDrawing, IsHeadIn, IsLastPiece, IsShowing, last_step, why_of, at_work}
+use Rattle.jpg_cli.specs.Tools.ShowingRows.{AfterShownPiece, HasCreated, HasFedRows, HasShown, HasShownAll, Head, IsDrawing, IsHeadIn, IsLastPiece, IsShowing, last_step, why_of, at_work, Run, Work}
 use Rattle.jpg_cli.specs.declared.desk.picture.Wanted.TheVariants.{Image}
 use Rattle.jpg_cli.proofs.FirstRead.{HasBegun, IsPlainOrBegun, not_shown, plain_or, plain_whole}
 use Rattle.jpg_cli.proofs.PictureBytes.{stop_within}
@@ -155,109 +155,109 @@ shown_front s {h} {all} n {m} {blocks} head told k =
       },
     )
 
-pub rows_ended : {s : Showing} {old start : DeskState} {h : Head} {all : List ℕ} {m : ℕ} {piece : List ℕ} (answer : Result FedRow Stop) {r : ReaderState} {d : Drawing} {e : EndState} {written : List ℕ} {now : DeskState}
-    → IsLastPiece answer → HasFedRows s.gray h all m piece answer r → IsDrawing s h all m written d e → d.out ≡ [] → HasCreated s old start all written now → IsInTime s all written → AfterShownPiece s old start h all (last_step answer) (at_work r d e now)
-rows_ended {s} {old} {start} {h} {all} {m} {piece} (Ok fed.More) {r} {d} {e} {written} {now} last k drawing out desk early = by k.after
-  where
-    by : AfterFeedRow k.fed m piece (Ok fed.More) r → (n : ℕ) × HasShown s old start h all n (at_work r d e now)
-    by (inl plain) = absurd (not_plain k.limits k.head (subst (λ l. HasNoRows r.limits l) (sym k.cut) (plain.0).plain))
-    by (inr read) = (
-      m,
-      record {
-        written = written;
-        limits = k.limits;
-        read = subst (λ l. HasReadRows l m r) (sym k.cut) read;
-        small = k.small;
-        head = k.head;
-        drawing = drawing;
-        desk = desk;
-        out = out;
-      },
-    )
-rows_ended (Ok (fed.Row used)) last k drawing out desk early = absurd last
-rows_ended {s} {old} {start} {h} {all} {m} {piece} (Ok (fed.Done used)) {r} {d} {e} {written} {now} last k drawing out desk early = by k.after
-  where
-    cut : all ≡ (k.fed ++ take used piece) ++ drop used piece
-    cut = cut_used k.fed piece used k.cut
+module _ {s : Showing} {run : Run} {m : ℕ} {piece : List ℕ} where
+  pub rows_ended : (answer : Result FedRow Stop) {r : ReaderState} {d : Drawing} {e : EndState} {written : List ℕ} {now : DeskState} → IsLastPiece answer → HasFedRows s.gray run.head run.all m piece answer r → IsDrawing s run.head run.all m written d e → d.out ≡ [] → HasCreated s run.old run.start run.all written now → IsInTime s run.all written → AfterShownPiece s run (last_step answer) (at_work r d e now)
+  rows_ended (Ok fed.More) {r} {d} {e} {written} {now} last k drawing out desk early = by k.after
+    where
+      by : AfterFeedRow k.fed m piece (Ok fed.More) r → (n : ℕ) × HasShown s run n (at_work r d e now)
+      by (inl plain) = absurd (not_plain k.limits k.head (subst (λ l. HasNoRows r.limits l) (sym k.cut) (plain.0).plain))
+      by (inr read) = (
+        m,
+        record {
+          written = written;
+          limits = k.limits;
+          read = subst (λ l. HasReadRows l m r) (sym k.cut) read;
+          small = k.small;
+          head = k.head;
+          drawing = drawing;
+          desk = desk;
+          out = out;
+        },
+      )
+  rows_ended (Ok (fed.Row used)) last k drawing out desk early = absurd last
+  rows_ended (Ok (fed.Done used)) {r} {d} {e} {written} {now} last k drawing out desk early = by k.after
+    where
+      cut : run.all ≡ (k.fed ++ take used piece) ++ drop used piece
+      cut = cut_used k.fed piece used k.cut
 
-    by : AfterFeedRow k.fed m piece (Ok (fed.Done used)) r → (n : ℕ) × HasShownAll s old start h all n (at_work r d e now)
-    by (inl plain, some, within) =
-        let front = k.fed ++ take used piece in
-        let done = plain.done in
-        let none =
-        plain_whole front (drop used piece) done.meaning (subst (λ (l : Limits). IsWholeFile l front done.meaning) k.limits done.whole)
-        (subst (λ (l : Limits). HasNoRows l front) k.limits plain.plain) in
-        absurd (subst (λ l. HasNoRows standard_limits l) (sym cut) none h.before h.contents (k.head).begins)
-    by (inr done, some, within) = (
-      m,
-      record {
-        written = written;
-        front = k.fed ++ take used piece;
-        rest = drop used piece;
-        cut = cut;
-        some = (let size = length-take-le used piece within in omega (arith, some, size, length-append k.fed (take used piece)));
-        few = (let few = k.few in omega (arith, few, ap length (take-append-drop used piece), length-append (take used piece) (drop used piece)));
-        limits = k.limits;
-        done = done;
-        most = k.most;
-        small = k.small;
-        short = k.short;
-        head = k.head;
-        drawing = drawing;
-        desk = desk;
-        early = early;
-      },
-    )
-rows_ended {s} {old} {h} {all} {m} {piece} (Err (stop.Fault f)) {r} {written} {now} last k drawing out desk early = by k.after
-  where
-    text : List ℕ
-    text = rows_text s.kind (picture_so_far standard_limits h.before h.contents drawing.blocks) s.gray s.smooth m
+      by : AfterFeedRow k.fed m piece (Ok (fed.Done used)) r → (n : ℕ) × HasShownAll s run n (at_work r d e now)
+      by (inl plain, some, within) =
+          let front = k.fed ++ take used piece in
+          let done = plain.done in
+          let none =
+          plain_whole front (drop used piece) done.meaning (subst (λ (l : Limits). IsWholeFile l front done.meaning) k.limits done.whole)
+          (subst (λ (l : Limits). HasNoRows l front) k.limits plain.plain) in
+          absurd (subst (λ l. HasNoRows standard_limits l) (sym cut) none (run.head).before (run.head).contents (k.head).begins)
+      by (inr done, some, within) = (
+        m,
+        record {
+          written = written;
+          front = k.fed ++ take used piece;
+          rest = drop used piece;
+          cut = cut;
+          some = (let size = length-take-le used piece within in omega (arith, some, size, length-append k.fed (take used piece)));
+          few = (let few = k.few in omega (arith, few, ap length (take-append-drop used piece), length-append (take used piece) (drop used piece)));
+          limits = k.limits;
+          done = done;
+          most = k.most;
+          small = k.small;
+          short = k.short;
+          head = k.head;
+          drawing = drawing;
+          desk = desk;
+          early = early;
+        },
+      )
+  rows_ended (Err (stop.Fault f)) {r} {written} {now} last k drawing out desk early = by k.after
+    where
+      text : List ℕ
+      text = rows_text s.kind (picture_so_far standard_limits (run.head).before (run.head).contents drawing.blocks) s.gray s.smooth m
 
-    same : written ≡ text
-    same = sym (append-nil written) ∙ ap (λ l. written ++ l) (sym out) ∙ drawing.text
+      same : written ≡ text
+      same = sym (append-nil written) ∙ ap (λ l. written ++ l) (sym out) ∙ drawing.text
 
-    by : AfterFeedRow k.fed m piece (Err (stop.Fault f)) r → Shown s old (why.Refused f) now
-    by (stops, late, keeps, inl plain) = absurd (k.begun plain.0)
-    by (stops, late, keeps, inr so) =
-        let stopped = subst (λ l. IsStopOf standard_limits l f) (sym k.cut) (subst (λ (l : Limits). IsStopOf l (k.fed ++ piece) f) k.limits stops) in
-        let front : CompletesFront (take f.at all) m = subst (λ l. CompletesFront (take f.at l) m) (sym k.cut) (stopped_front k.limits so) in
-        let shown = shown_front s f.at k.head drawing.told front in
-        let rest = rest_of now.left in
-        inr (record {
-          text = text;
-          read =
-              created_read (IsShownUpTo s (bytes_before f) (IsRefusedRead (Image s.gray) f rest) text) desk k.most
-              (refused_rows k.fed piece f k.cut k.few k.head stopped late rest, shown.0, shown.1);
-          wrote = subst (λ t. Added (s.input ∷ []) s.output t old now) same (created_added desk);
-        })
-rows_ended (Err stop.NoMemory) last k drawing out desk early = absurd (k.begun (k.after).1)
+      by : AfterFeedRow k.fed m piece (Err (stop.Fault f)) r → Shown s run.old (why.Refused f) now
+      by (stops, late, keeps, inl plain) = absurd (k.begun plain.0)
+      by (stops, late, keeps, inr so) =
+          let stopped = subst (λ l. IsStopOf standard_limits l f) (sym k.cut) (subst (λ (l : Limits). IsStopOf l (k.fed ++ piece) f) k.limits stops) in
+          let front : CompletesFront (take f.at run.all) m = subst (λ l. CompletesFront (take f.at l) m) (sym k.cut) (stopped_front k.limits so) in
+          let shown = shown_front s f.at k.head drawing.told front in
+          let rest = rest_of now.left in
+          inr (record {
+            text = text;
+            read =
+                created_read (IsShownUpTo s (bytes_before f) (IsRefusedRead (Image s.gray) f rest) text) desk k.most
+                (refused_rows k.fed piece f k.cut k.few k.head stopped late rest, shown.0, shown.1);
+            wrote = subst (λ t. Added (s.input ∷ []) s.output t run.old now) same (created_added desk);
+          })
+  rows_ended (Err stop.NoMemory) last k drawing out desk early = absurd (k.begun (k.after).1)
 
 -- and before it all that waited is written
 all_gone : (out gone rest : List ℕ) → rest ≡ [] → out ++ [] ≡ gone ++ rest → gone ≡ out
 all_gone out gone rest none e = sym (append-nil gone) ∙ ap (λ l. gone ++ l) (sym none) ∙ sym e ∙ append-nil out
 
-pub rows_written : {s : Showing} {old start : DeskState} {h : Head} {all : List ℕ} {m : ℕ} {piece : List ℕ} {answer : Result FedRow Stop} {r : ReaderState} {d : Drawing} (new : Drawing) {e : EndState} {s0 s1 : DeskState}
-    → IsLastPiece answer → new.strips ≡ d.strips → new.info ≡ d.info → new.out ≡ [] → SendsImage s0 d.out [] (Ok tt) new.out s1 → IsShowing s old start h all m piece answer (at_work r d e s0) → AfterShownPiece s old start h all (last_step answer) (at_work r new e s1)
-rows_written {answer} {d} new {s0} {s1} last x i none sent k =
+pub rows_written : {s : Showing} {run : Run} {work : Work} {m : ℕ} {piece : List ℕ} {answer : Result FedRow Stop} (new : Drawing) {s1 : DeskState}
+    → IsLastPiece answer → new.strips ≡ (work.image).strips → new.info ≡ (work.image).info → new.out ≡ [] → SendsImage work.now (work.image).out [] (Ok tt) new.out s1 → IsShowing s run m piece answer work → AfterShownPiece s run (last_step answer) (at_work work.reader new work.end s1)
+rows_written {work = work} {answer} new {s1} last x i none sent k =
     let gone = (sent.bytes).0 in
-    let same = all_gone d.out gone new.out none (sent.bytes).2 in
+    let same = all_gone (work.image).out gone new.out none (sent.bytes).2 in
     let desk =
-    created_more d.out k.desk sent.only (subst (λ l. AppendsLast s0.outputs l s1.outputs) same (sent.bytes).1) in
+    created_more (work.image).out k.desk sent.only (subst (λ l. AppendsLast (work.now).outputs l s1.outputs) same (sent.bytes).1) in
     rows_ended answer last k.read (drawing_written new x i none k.drawing) none desk
-    (λ front rest text cut many due. (let l = k.early front rest text cut many due in omega (arith, l, length-append k.written d.out)))
+    (λ front rest text cut many due. (let l = k.early front rest text cut many due in omega (arith, l, length-append k.written (work.image).out)))
 
--- or it isn't all: the text of these rows
-pub told_stopped : (s : Showing) {old start : DeskState} {h : Head} {all : List ℕ} {m n : ℕ} {piece written out due new : List ℕ} {answer : Result FedRow Stop} {r : ReaderState} {blocks : Blocks} (ended : DecodeStop) {s0 s1 : DeskState}
-    → HasFedRows s.gray h all m piece answer r → TellsRows standard_limits all n blocks → written ++ (out ++ due) ≡ rows_text s.kind (picture_so_far standard_limits h.before h.contents blocks) s.gray s.smooth n → IsInTime s all written
-    → HasCreated s old start all written s0 → SendsImage s0 out due (Err ended) new s1 → Shown s old (why_of (Err ended)) s1
-told_stopped s {h} {all} {n} {blocks} ended k told same early desk sent =
-    rows_stopped ended (record { most = k.most; short = k.short; told = record { begun = shown_head k.head; rows = n; blocks = blocks; told = told; same = refl }; same = same; early = early })
-    (fits_whole s h all n blocks k.head told) desk sent
+module _ (s : Showing) {run : Run} {m n : ℕ} {piece written out : List ℕ} where
+  -- or it isn't run.all: the text of these rows
+  pub told_stopped : {due new : List ℕ} {answer : Result FedRow Stop} {r : ReaderState} {blocks : Blocks} (ended : DecodeStop) {s0 s1 : DeskState} → HasFedRows s.gray run.head run.all m piece answer r → TellsRows standard_limits run.all n blocks → written ++ (out ++ due) ≡ rows_text s.kind (picture_so_far standard_limits (run.head).before (run.head).contents blocks) s.gray s.smooth n → IsInTime s run.all written
+      → HasCreated s run.old run.start run.all written s0 → SendsImage s0 out due (Err ended) new s1 → Shown s run.old (why_of (Err ended)) s1
+  told_stopped {blocks} ended k told same early desk sent =
+      rows_stopped ended (record { most = k.most; short = k.short; told = record { begun = shown_head k.head; rows = n; blocks = blocks; told = told; same = refl }; same = same; early = early })
+      (fits_whole s run.head run.all n blocks k.head told) desk sent
 
-pub rows_unwritten : {s : Showing} {old start : DeskState} {h : Head} {all : List ℕ} {m : ℕ} {piece : List ℕ} {answer : Result FedRow Stop} {r : ReaderState} {d : Drawing} {e : EndState} {new : List ℕ} {ended : DecodeStop} {s0 s1 : DeskState}
-    → SendsImage s0 d.out [] (Err ended) new s1 → IsShowing s old start h all m piece answer (at_work r d e s0) → Shown s old (why_of (Err ended)) s1
-rows_unwritten {s} {d} {ended} sent k =
-    told_stopped s ended k.read (k.drawing).told (ap (λ l. k.written ++ l) (append-nil d.out) ∙ (k.drawing).text) k.early k.desk sent
+module _ {s : Showing} {run : Run} {work : Work} where
+  pub rows_unwritten : {m : ℕ} {piece : List ℕ} {answer : Result FedRow Stop} {new : List ℕ} {ended : DecodeStop} {s1 : DeskState} → SendsImage work.now (work.image).out [] (Err ended) new s1 → IsShowing s run m piece answer work → Shown s run.old (why_of (Err ended)) s1
+  rows_unwritten {ended} sent k =
+      told_stopped s ended k.read (k.drawing).told (ap (λ l. k.written ++ l) (append-nil (work.image).out) ∙ (k.drawing).text) k.early k.desk sent
 
 -- THE SCAN that began in the bytes, whatever the answer
 pub rows_begun : {gray : Bool} {h : Head} {all : List ℕ} {m : ℕ} {piece : List ℕ} {answer : Result FedRow Stop} {r : ReaderState} → HasFedRows gray h all m piece answer r → HasBegun all r

@@ -30,7 +30,7 @@ use Rattle.jpg_color.proofs.Drawn.{all_same}
 use Rattle.jpg_color.proofs.DrawnLaws.{texts_join}
 use Rattle.jpg_cli.specs.Desk.ReadPicture.{IsWholeRead}
 use Rattle.jpg_cli.specs.Tools.Showing.{Showing, Shown, shown_text}
-use Rattle.jpg_cli.specs.Tools.ShowingRows.{HasShownAll, Head, why_of, at_work}
+use Rattle.jpg_cli.specs.Tools.ShowingRows.{HasShownAll, Head, why_of, at_work, Run, Work}
 use Rattle.jpg_cli.specs.declared.desk.picture.Wanted.TheVariants.{Image}
 use Rattle.jpg_cli.proofs.FirstRead.{not_shown}
 use Rattle.jpg_cli.proofs.ImageStopped.{IsImageText, image_stopped, image_whole}
@@ -43,9 +43,9 @@ pub record IsShownWhole (s : Showing) (h : Head) (all : List ℕ) (m : ℕ) (blo
   pub rows : m ≡ mcu_rows (so_far h blocks)
   pub text : end_text s.kind (info (so_far h blocks) s.gray) (pixels (so_far h blocks) s.gray s.smooth) ≡ shown_text s M
 
-pub shown_whole : {s : Showing} {old start : DeskState} {h : Head} {all : List ℕ} {m : ℕ} {r : ReaderState} {d : Drawing} {e : EndState} {now : DeskState} → (k : HasShownAll s old start h all m (at_work r d e now))
-    → IsShownWhole s h all m (k.drawing).blocks (k.done).meaning
-shown_whole {s} {h} {all} {m} k = record {
+pub shown_whole : {s : Showing} {run : Run} {work : Work} {m : ℕ} → (k : HasShownAll s run m work)
+    → IsShownWhole s run.head run.all m (k.drawing).blocks (k.done).meaning
+shown_whole {s} {run} {work} {m} k = record {
   whole = record {
     count = length k.front;
     within = omega (arith, size);
@@ -61,20 +61,20 @@ shown_whole {s} {h} {all} {m} k = record {
     M : Meaning
     M = (k.done).meaning
 
-    size : length all ≡ length k.front + length k.rest
+    size : length run.all ≡ length k.front + length k.rest
     size = ap length k.cut ∙ length-append k.front k.rest
 
-    first : take (length k.front) all ≡ k.front
+    first : take (length k.front) run.all ≡ k.front
     first = ap (take (length k.front)) k.cut ∙ take-append-le (length k.front) k.front k.rest (omega arith) ∙ take_all (length k.front) k.front (omega arith)
 
     whole : IsWholeFile standard_limits k.front M
     whole = subst (λ (l : Limits). IsWholeFile l k.front M) k.limits (k.done).whole
 
-    begins : BeginsScanOfAll standard_limits k.front h.before h.contents
-    begins = begins_in s.gray h all k.front k.rest M k.head k.cut whole
+    begins : BeginsScanOfAll standard_limits k.front (run.head).before (run.head).contents
+    begins = begins_in s.gray run.head run.all k.front k.rest M k.head k.cut whole
 
     w : IsReadByRows standard_limits k.front M
-    w = read_by_rows h k.front M whole begins
+    w = read_by_rows run.head k.front M whole begins
 
     c : CompletesAll standard_limits k.front M w
     c = complete_all standard_limits k.front M w
@@ -85,11 +85,11 @@ shown_whole {s} {h} {all} {m} k = record {
     one : (m ≡ mcu_rows M) × ((k.done).blocks ≡ c.blocks)
     one = completed_once standard_limits k.front m (mcu_rows M) (k.done).blocks c.blocks done c.completed
 
-    told : TellsRows standard_limits all m (k.done).blocks
+    told : TellsRows standard_limits run.all m (k.done).blocks
     told = subst (λ l. TellsRows standard_limits l m (k.done).blocks) (sym k.cut) (rows_stay standard_limits k.front k.rest m (k.done).blocks done.0)
 
     same : (k.drawing).blocks ≡ (k.done).blocks
-    same = rows_once standard_limits all m (k.drawing).blocks (k.done).blocks (k.drawing).told told
+    same = rows_once standard_limits run.all m (k.drawing).blocks (k.done).blocks (k.drawing).told told
 
     completed : CompletesRows standard_limits k.front (mcu_rows M) (k.drawing).blocks
     completed = subst (λ (b : Blocks). CompletesRows standard_limits k.front (mcu_rows M) b) (sym same) (subst (λ n. CompletesRows standard_limits k.front n (k.done).blocks) one.0 done)
@@ -98,33 +98,34 @@ shown_whole {s} {h} {all} {m} k = record {
     wanted None is = is
     wanted (Some fault) is =
         let t = (shown_alike standard_limits s.gray k.front M (inl whole.0)).told fault is in
-        absurd (not_shown s.gray k.front t.0 t.1 (record { before = h.before; contents = h.contents; begins = begins; shown = (k.head).shown }))
+        absurd (not_shown s.gray k.front t.0 t.1 (record { before = (run.head).before; contents = (run.head).contents; begins = begins; shown = (k.head).shown }))
 
-pub all_told : {s : Showing} {old start : DeskState} {h : Head} {all : List ℕ} {m : ℕ} {r : ReaderState} {d : Drawing} {e : EndState} {now : DeskState} → HasShownAll s old start h all m (at_work r d e now) → IsAllGiven d.strips
-all_told {s} {h} {all} {d} k = record {
+pub all_told : {s : Showing} {run : Run} {work : Work} {m : ℕ} → HasShownAll s run m work → IsAllGiven (work.image).strips
+all_told {s} {run} {work} k = record {
   given = (k.drawing).given;
   all =
       ((k.drawing).drawn).pushed ∙ (shown_whole k).rows
-      ∙ sym (all_same d (so_far h (k.drawing).blocks) s.gray s.smooth ((k.drawing).drawn).image);
+      ∙ sym (all_same work.image (so_far run.head (k.drawing).blocks) s.gray s.smooth ((k.drawing).drawn).image);
 }
 
 -- ITS END
 
-image_ended : {s : Showing} {old start : DeskState} {M : Meaning} {all written out due : List ℕ} (result : Result (Unit {0}) DecodeStop) {new : List ℕ} {s0 s1 : DeskState} → IsImageText s old start M None all written (out ++ due) [] s0
-    → SendsImage s0 out due result new s1 → IfOk result (λ u. new ≡ []) → Shown s old (why_of result) s1
-image_ended {M} (Ok u) h sent none = let whole = image_whole h sent none in (M, (whole.0, whole.1, tt))
-image_ended (Err ended) h sent none = image_stopped ended h sent
+module _ {s : Showing} {old start : DeskState} {M : Meaning} {all written : List ℕ} where
+  image_ended : {out due : List ℕ} (result : Result (Unit {0}) DecodeStop) {new : List ℕ} {s0 s1 : DeskState} → IsImageText s old start M None all written (out ++ due) [] s0
+      → SendsImage s0 out due result new s1 → IfOk result (λ u. new ≡ []) → Shown s old (why_of result) s1
+  image_ended (Ok u) h sent none = let whole = image_whole h sent none in (M, (whole.0, whole.1, tt))
+  image_ended (Err ended) h sent none = image_stopped ended h sent
 
-pub rows_finished : {s : Showing} {old start : DeskState} {h : Head} {all : List ℕ} {m : ℕ} {r : ReaderState} {d : Drawing} {e : EndState} {now : DeskState} {result : Result (Unit {0}) DecodeStop} {new : Drawing} {new_end : EndState} {s1 : DeskState}
-    → EndsDrawing now d e result new new_end s1 → HasShownAll s old start h all m (at_work r d e now) → Shown s old (why_of result) s1
-rows_finished {s} {h} {d} {e} {now} {result} {new} {s1} ends k =
-    let P = so_far h (k.drawing).blocks in
+pub rows_finished : {s : Showing} {run : Run} {work : Work} {m : ℕ} {result : Result (Unit {0}) DecodeStop} {new : Drawing} {new_end : EndState} {s1 : DeskState}
+    → EndsDrawing work.now work.image work.end result new new_end s1 → HasShownAll s run m work → Shown s run.old (why_of result) s1
+rows_finished {s} {run} {work} {result} {new} {s1} ends k =
+    let P = so_far run.head (k.drawing).blocks in
     let M = (k.done).meaning in
     let w = shown_whole k in
-    let drawn = subst (λ n. IsDrawnTo d e P s.gray s.smooth n) w.rows (k.drawing).drawn in
+    let drawn = subst (λ n. IsDrawnTo work.image work.end P s.gray s.smooth n) w.rows (k.drawing).drawn in
     let rest = rest_text s.kind P s.gray s.smooth in
-    let sent = subst (λ (kind : EndKind). SendsImage now d.out (rest_text kind P s.gray s.smooth) result new.out s1) (k.drawing).kind (ends.drawn P s.gray s.smooth drawn) in
-    let join = texts_join d P s.gray s.smooth s.kind ((k.drawing).drawn).image in
-    let text : k.written ++ ((d.out ++ rest) ++ []) ≡ shown_text s M =
-    ap (λ l. k.written ++ l) (append-nil (d.out ++ rest)) ∙ sym (append_assoc k.written d.out rest) ∙ ap (λ l. l ++ rest) ((k.drawing).text ∙ ap (λ n. rows_text s.kind P s.gray s.smooth n) w.rows) ∙ join.whole ∙ w.text in
+    let sent = subst (λ (kind : EndKind). SendsImage work.now (work.image).out (rest_text kind P s.gray s.smooth) result new.out s1) (k.drawing).kind (ends.drawn P s.gray s.smooth drawn) in
+    let join = texts_join work.image P s.gray s.smooth s.kind ((k.drawing).drawn).image in
+    let text : k.written ++ (((work.image).out ++ rest) ++ []) ≡ shown_text s M =
+    ap (λ l. k.written ++ l) (append-nil ((work.image).out ++ rest)) ∙ sym (append_assoc k.written (work.image).out rest) ∙ ap (λ l. l ++ rest) ((k.drawing).text ∙ ap (λ n. rows_text s.kind P s.gray s.smooth n) w.rows) ∙ join.whole ∙ w.text in
     image_ended result (record { same = text; in_time = k.early; desk = k.desk; most = k.most; means = w.whole; left = tt }) sent ends.out

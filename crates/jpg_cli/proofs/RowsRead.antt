@@ -34,7 +34,7 @@ use Rattle.jpg_pnm_bmp.specs.EndState.{EndState}
 use Rattle.jpg_color.specs.StripImage.{Drawing}
 use Rattle.jpg_cli.specs.Desk.ReadPicture.{IsOpenRead, IsUnwanted}
 use Rattle.jpg_cli.specs.Tools.Showing.{IsInTime, Showing}
-use Rattle.jpg_cli.specs.Tools.ShowingRows.{HasCreated, HasShown, Head, IsDrawing, IsHeadIn, IsShowing, at_work}
+use Rattle.jpg_cli.specs.Tools.ShowingRows.{HasCreated, HasShown, Head, IsDrawing, IsHeadIn, IsShowing, at_work, Run, more_read, Work}
 use Rattle.jpg_cli.specs.declared.desk.picture.Wanted.TheVariants.{Image}
 use Rattle.jpg_cli.proofs.CommentsCopied.{works_then}
 use Rattle.jpg_cli.proofs.FirstRead.{not_none}
@@ -102,16 +102,17 @@ drawing_more {all} piece {m} k = record {
   enough = λ n x few told. k.enough n x few (told_before piece few k.told told);
 }
 
--- what was read and what was written, after one more call
-pub created_then : {s : Showing} {old start : DeskState} {all bytes written : List ℕ} {answer : Got} {buf : List ℕ} {s0 s1 : DeskState} → Reads s0 answer buf s1 → HasCreated s old start all written s0 → Consumes start.left s1.left bytes → HasCreated s old start bytes written s1
-created_then {s} {start} {written} read h left = record {
-  opened = h.opened;
-  works = works_then h.works (record { stays = record { counts = read.counts; files = read.files }; said = read.said });
-  left = left;
-  asked = (let P : Option (List (Name × Put)) → Type 0 = λ a. NotesName start.asked (s.output, put.Done) a in subst P (sym read.asked) h.asked);
-  outputs = (let P : Option (List (Name × List ℕ)) → Type 0 = λ a. Grows start.outputs (s.output, written) a in subst P (sym read.outputs) h.outputs);
-  created = read.output_created ∙ h.created;
-}
+module _ {s : Showing} {old start : DeskState} {all bytes written : List ℕ} where
+  -- what was read and what was written, after one more call
+  pub created_then : {answer : Got} {buf : List ℕ} {s0 s1 : DeskState} → Reads s0 answer buf s1 → HasCreated s old start all written s0 → Consumes start.left s1.left bytes → HasCreated s old start bytes written s1
+  created_then read h left = record {
+    opened = h.opened;
+    works = works_then h.works (record { stays = record { counts = read.counts; files = read.files }; said = read.said });
+    left = left;
+    asked = (let P : Option (List (Name × Put)) → Type 0 = λ a. NotesName start.asked (s.output, put.Done) a in subst P (sym read.asked) h.asked);
+    outputs = (let P : Option (List (Name × List ℕ)) → Type 0 = λ a. Grows start.outputs (s.output, written) a in subst P (sym read.outputs) h.outputs);
+    created = read.output_created ∙ h.created;
+  }
 
 pub open_rows : {gray : Bool} {h : Head} {all : List ℕ} {m : ℕ} {r : ReaderState} → r.limits ≡ standard_limits → IsHeadIn gray h all → HasReadRows all m r → IsOpenRead (Image gray) all
 open_rows {gray} {all} e head k = record {
@@ -121,23 +122,23 @@ open_rows {gray} {all} e head k = record {
 }
 
 -- the text that was pending before the piece was written before it
-pub early_more : {s : Showing} {old start : DeskState} {h : Head} {all : List ℕ} (piece : List ℕ) {m : ℕ} {r : ReaderState} {d : Drawing} {e : EndState} {now : DeskState} → length piece ≤ 16384 → (k : HasShown s old start h all m (at_work r d e now)) → IsInTime s (all ++ piece) k.written
-early_more {s} {h} {all} piece {m} {d} few k front rest text cut many due =
+pub early_more : {s : Showing} {run : Run} {work : Work} (piece : List ℕ) {m : ℕ} → length piece ≤ 16384 → (k : HasShown s run m work) → IsInTime s (run.all ++ piece) k.written
+early_more {s} {run} {work} piece {m} few k front rest text cut many due =
     let size = ap length cut in
-    let short : length front ≤ length all = omega (arith, size, few, many, length-append all piece, length-append front rest) in
-    let first : take (length front) all ≡ front =
-    sym (take-append-le (length front) all piece short) ∙ ap (take (length front)) cut ∙ take-append-le (length front) front rest (omega arith) ∙ take_all (length front) front (omega arith) in
-    let other = drop (length front) all in
-    let same : front ++ other ≡ all = ap (λ l. l ++ other) (sym first) ∙ take-append-drop (length front) all in
-    let there : TellsRows standard_limits all due.rows due.blocks = subst (λ l. TellsRows standard_limits l due.rows due.blocks) same (rows_stay standard_limits front other due.rows due.blocks (due.completed).0) in
-    let completed = subst (λ (l : Limits). CompletesRows l all m (k.read).blocks) k.limits (k.read).completed in
-    let one = one_head front all other [] due.before h.before due.contents h.contents (same ∙ sym (append-nil all)) due.begins (k.head).begins in
+    let short : length front ≤ length run.all = omega (arith, size, few, many, length-append run.all piece, length-append front rest) in
+    let first : take (length front) run.all ≡ front =
+    sym (take-append-le (length front) run.all piece short) ∙ ap (take (length front)) cut ∙ take-append-le (length front) front rest (omega arith) ∙ take_all (length front) front (omega arith) in
+    let other = drop (length front) run.all in
+    let same : front ++ other ≡ run.all = ap (λ l. l ++ other) (sym first) ∙ take-append-drop (length front) run.all in
+    let there : TellsRows standard_limits run.all due.rows due.blocks = subst (λ l. TellsRows standard_limits l due.rows due.blocks) same (rows_stay standard_limits front other due.rows due.blocks (due.completed).0) in
+    let completed = subst (λ (l : Limits). CompletesRows l run.all m (k.read).blocks) k.limits (k.read).completed in
+    let one = one_head front run.all other [] due.before (run.head).before due.contents (run.head).contents (same ∙ sym (append-nil run.all)) due.begins (k.head).begins in
     let fits = (k.drawing).enough due.rows due.blocks (no_more_told completed there) there in
-    let text_is : text ≡ rows_text s.kind (picture_so_far standard_limits h.before h.contents due.blocks) s.gray s.smooth due.rows =
+    let text_is : text ≡ rows_text s.kind (picture_so_far standard_limits (run.head).before (run.head).contents due.blocks) s.gray s.smooth due.rows =
     due.same ∙ ap (λ (b : List Segment). rows_text s.kind (picture_so_far standard_limits b due.contents due.blocks) s.gray s.smooth due.rows) one.0
-    ∙ ap (λ (c : List ℕ). rows_text s.kind (picture_so_far standard_limits h.before c due.blocks) s.gray s.smooth due.rows) one.1 in
+    ∙ ap (λ (c : List ℕ). rows_text s.kind (picture_so_far standard_limits (run.head).before c due.blocks) s.gray s.smooth due.rows) one.1 in
     let none = ap length k.out in
-    omega (arith, fits, ap length text_is, none, length-append k.written d.out)
+    omega (arith, fits, ap length text_is, none, length-append k.written (work.image).out)
 
 -- a piece of the input, of the first bytes of this buffer
 pub record IsNextPiece (all buf : List ℕ) (n : ℕ) : Type 0 where
@@ -145,26 +146,27 @@ pub record IsNextPiece (all buf : List ℕ) (n : ℕ) : Type 0 where
   pub most : length (all ++ take n buf) ≤ standard_limits.input
   pub small : All (λ b. b < 256) (all ++ take n buf)
 
-pub fed_more : {s : Showing} {old start : DeskState} {h : Head} {all : List ℕ} {m n : ℕ} {buf : List ℕ} (answer : Result FedRow Stop) {r : ReaderState} (new : ReaderState) {d : Drawing} {e : EndState} {s0 s1 : DeskState} → IsNextPiece all buf n
-    → Reads s0 (got.Bytes n) buf s1 → FeedsRow r (take n buf) answer new → new.limits ≡ r.limits → HasShown s old start h all m (at_work r d e s0) → IsShowing s old start h (all ++ take n buf) m (take n buf) answer (at_work new d e s1)
-fed_more {start} {h} {all} {m} {n} {buf} answer new {s0} {s1} p read feeds limits k = record {
-  written = k.written;
-  read = record {
-    fed = all;
-    cut = refl;
-    few = p.few;
-    limits = limits ∙ k.limits;
-    after = after;
-    begun = work_stays (take n buf) m answer new (limits ∙ k.limits) (k.head).begins after;
-    most = p.most;
-    small = p.small;
-    short = record { front = all; piece = take n buf; cut = refl; few = (let few = p.few in omega (arith, few)); before = open_rows k.limits k.head k.read };
-    head = record { begins = begins_more all (take n buf) h.before h.contents (k.head).begins; shown = (k.head).shown };
-  };
-  drawing = drawing_more (take n buf) k.drawing;
-  desk = created_then read k.desk (Consumes-then start.left s0.left s1.left all (take n buf) (k.desk).left read.after.2);
-  early = early_more (take n buf) p.few k;
-}
-  where
-    after : AfterFeedRow all m (take n buf) answer new
-    after = feeds all m (inr (inl k.read))
+module _ {s : Showing} {run : Run} {work : Work} where
+  pub fed_more : {m n : ℕ} {buf : List ℕ} (answer : Result FedRow Stop) (new : ReaderState) {s1 : DeskState} → IsNextPiece run.all buf n
+      → Reads work.now (got.Bytes n) buf s1 → FeedsRow work.reader (take n buf) answer new → new.limits ≡ (work.reader).limits → HasShown s run m work → IsShowing s (more_read run (take n buf)) m (take n buf) answer (at_work new work.image work.end s1)
+  fed_more {m} {n} {buf} answer new {s1} p read feeds limits k = record {
+    written = k.written;
+    read = record {
+      fed = run.all;
+      cut = refl;
+      few = p.few;
+      limits = limits ∙ k.limits;
+      after = after;
+      begun = work_stays (take n buf) m answer new (limits ∙ k.limits) (k.head).begins after;
+      most = p.most;
+      small = p.small;
+      short = record { front = run.all; piece = take n buf; cut = refl; few = (let few = p.few in omega (arith, few)); before = open_rows k.limits k.head k.read };
+      head = record { begins = begins_more run.all (take n buf) (run.head).before (run.head).contents (k.head).begins; shown = (k.head).shown };
+    };
+    drawing = drawing_more (take n buf) k.drawing;
+    desk = created_then read k.desk (Consumes-then (run.start).left (work.now).left s1.left run.all (take n buf) (k.desk).left read.after.2);
+    early = early_more (take n buf) p.few k;
+  }
+    where
+      after : AfterFeedRow run.all m (take n buf) answer new
+      after = feeds run.all m (inr (inl k.read))

@@ -57,28 +57,29 @@ pub record IsStripOf (h : Head) (x : StripHead) : Type 0 where
   pub frame : x.frame ≡ frame_of standard_limits h.before
   pub picture : (blocks : Blocks) → IsHeadOfPicture x (so_far h blocks)
 
-pub strip_told : {gray : Bool} {h : Head} {all : List ℕ} {m : ℕ} {piece : List ℕ} {answer : Result FedRow Stop} {r : ReaderState} {o : Option StripHead} {x : StripHead} → HasFedRows gray h all m piece answer r → o ≡ Some x
-    → ((bytes : List ℕ) (b : HasBegunRows bytes r) → TellsStrip o (frame_of r.limits b.before) (picture_read bytes r b)) → IsStripOf h x
-strip_told {h} {all} {r} {x} k is tells = record { frame = told.0; picture = told.1 }
-  where
-    b : HasBegun all r
-    b = rows_begun k
+module _ {gray : Bool} {h : Head} {all : List ℕ} {m : ℕ} {piece : List ℕ} {answer : Result FedRow Stop} {r : ReaderState} where
+  pub strip_told : {o : Option StripHead} {x : StripHead} → HasFedRows gray h all m piece answer r → o ≡ Some x
+      → ((bytes : List ℕ) (b : HasBegunRows bytes r) → TellsStrip o (frame_of r.limits b.before) (picture_read bytes r b)) → IsStripOf h x
+  strip_told {x} k is tells = record { frame = told.0; picture = told.1 }
+    where
+      b : HasBegun all r
+      b = rows_begun k
 
-    Is : Limits → List Segment → List ℕ → Type 0
-    Is l s c = (x.frame ≡ frame_of l s) × ((blocks : Blocks) → IsHeadOfPicture x (picture_so_far l s c blocks))
+      Is : Limits → List Segment → List ℕ → Type 0
+      Is l s c = (x.frame ≡ frame_of l s) × ((blocks : Blocks) → IsHeadOfPicture x (picture_so_far l s c blocks))
 
-    here : Is r.limits (b.begun).before (b.begun).contents
-    here = subst (λ (y : Option StripHead). TellsStrip y (frame_of r.limits (b.begun).before) (picture_read b.front r b.begun)) is (tells b.front b.begun)
+      here : Is r.limits (b.begun).before (b.begun).contents
+      here = subst (λ (y : Option StripHead). TellsStrip y (frame_of r.limits (b.begun).before) (picture_read b.front r b.begun)) is (tells b.front b.begun)
 
-    one : ((b.begun).before ≡ h.before) × ((b.begun).contents ≡ h.contents)
-    one =
-        one_head b.front all b.rest [] (b.begun).before h.before (b.begun).contents h.contents (sym b.cut ∙ sym (append-nil all))
-        (subst (λ (l : Limits). BeginsScanOfAll l b.front (b.begun).before (b.begun).contents) k.limits (b.begun).begins) (k.head).begins
+      one : ((b.begun).before ≡ h.before) × ((b.begun).contents ≡ h.contents)
+      one =
+          one_head b.front all b.rest [] (b.begun).before h.before (b.begun).contents h.contents (sym b.cut ∙ sym (append-nil all))
+          (subst (λ (l : Limits). BeginsScanOfAll l b.front (b.begun).before (b.begun).contents) k.limits (b.begun).begins) (k.head).begins
 
-    told : Is standard_limits h.before h.contents
-    told =
-        subst (λ c. Is standard_limits h.before c) one.1
-        (subst (λ (s : List Segment). Is standard_limits s (b.begun).contents) one.0 (subst (λ (l : Limits). Is l (b.begun).before (b.begun).contents) k.limits here))
+      told : Is standard_limits h.before h.contents
+      told =
+          subst (λ c. Is standard_limits h.before c) one.1
+          (subst (λ (s : List Segment). Is standard_limits s (b.begun).contents) one.0 (subst (λ (l : Limits). Is l (b.begun).before (b.begun).contents) k.limits here))
 
 -- is that of a picture that can be displayed
 pub strip_shown : {gray : Bool} (smooth : Bool) {h : Head} {all : List ℕ} {x : StripHead} → IsHeadIn gray h all → IsStripOf h x → display_fault (display_of x gray smooth) ≡ None
@@ -150,66 +151,67 @@ none_told_yet {all} {m} {piece} (Err (stop.Fault f)) {r} k = by k.after
         told_at (drop f.at (k.fed ++ piece)) k.limits (k.cut ∙ sym (take-append-drop f.at (k.fed ++ piece))) (so.completed).0
 none_told_yet (Err stop.NoMemory) k = absurd (k.begun (k.after).1)
 
--- NO MEMORY for what its text begins with
-pub not_started : {s : Showing} {old start : DeskState} {all : List ℕ} {piece : List ℕ} {answer : Result FedRow Stop} {r : ReaderState} {now new : DeskState} → BeginsShownRows s.gray all piece answer r → HasOpened s old start all now → Creates now s.output put.Done new
-    → Shown s old why.NoMemory new
-not_started {s} {answer} k h made =
-    let desk = created_first h made in
-    let x = none_told_yet answer k.rows in
-    let text = rows_text s.kind (so_far k.head x.0) s.gray s.smooth 0 in
-    inr (inr (record {
-      part = record {
-        text = text;
-        count = 0;
-        read =
-            created_read (λ bytes. IsShortRead (Image s.gray) bytes × IsToldText s bytes text) desk (k.rows).most
-            ((k.rows).short, record { begun = shown_head (k.rows).head; rows = 0; blocks = x.0; told = x.1; same = refl });
-        wrote = created_added desk;
-      };
-      left = λ M whole. text_some s.kind (info M s.gray) (pixels M s.gray s.smooth);
-    }))
+module _ {s : Showing} {old start : DeskState} {all : List ℕ} {piece : List ℕ} {answer : Result FedRow Stop} {r : ReaderState} where
+  -- NO MEMORY for what its text begins with
+  pub not_started : {now new : DeskState} → BeginsShownRows s.gray all piece answer r → HasOpened s old start all now → Creates now s.output put.Done new
+      → Shown s old why.NoMemory new
+  not_started k h made =
+      let desk = created_first h made in
+      let x = none_told_yet answer k.rows in
+      let text = rows_text s.kind (so_far k.head x.0) s.gray s.smooth 0 in
+      inr (inr (record {
+        part = record {
+          text = text;
+          count = 0;
+          read =
+              created_read (λ bytes. IsShortRead (Image s.gray) bytes × IsToldText s bytes text) desk (k.rows).most
+              ((k.rows).short, record { begun = shown_head (k.rows).head; rows = 0; blocks = x.0; told = x.1; same = refl });
+          wrote = created_added desk;
+        };
+        left = λ M whole. text_some s.kind (info M s.gray) (pixels M s.gray s.smooth);
+      }))
 
--- IT IS BEGUN
-pub rows_started : {s : Showing} {old start : DeskState} {all : List ℕ} {piece : List ℕ} {answer : Result FedRow Stop} {r : ReaderState} {x : StripHead} {image d : Drawing} {first e : EndState} {now new : DeskState} → (k : BeginsShownRows s.gray all piece answer r)
-    → HasOpened s old start all now → Creates now s.output put.Done new → IsStripOf k.head x → IsNewOf x s.gray s.smooth image → first ≡ new_end s.kind → BeginsDrawing image first d e → IsShowing s old start k.head all 0 piece answer (at_work r d e new)
-rows_started {s} {all} {answer} {image} {d} {first} {e} k h made strip made_image first_is begins = record {
-  written = [];
-  read = k.rows;
-  drawing = record {
-    kind = begins.kind ∙ kind;
-    framed = ap (λ (t : Strips). t.display.frame) begins.strips ∙ ap (λ (y : Display). y.frame) made_image.display ∙ strip.frame;
-    given = (begins.due).given;
-    end = begins.end;
-    blocks = told.0;
-    told = told.1;
-    drawn = drawn;
-    text = text;
-    enough = λ n y few t.
-        (let on = goes_on s.gray s.smooth s.kind k.head all n 0 y told.0 (k.rows).head few t told.1 in
-        let longer = ap length on.1 in
-        let size = ap length text in
-        omega (arith, longer, size, length-append (rows_text s.kind (so_far k.head y) s.gray s.smooth n) on.0));
-  };
-  desk = created_first h made;
-  early = none_due s k;
-}
-  where
-    kind : first.kind ≡ s.kind
-    kind = ap (λ (y : EndState). y.kind) first_is
+  -- IT IS BEGUN
+  pub rows_started : {x : StripHead} {image d : Drawing} {first e : EndState} {now new : DeskState} → (k : BeginsShownRows s.gray all piece answer r)
+      → HasOpened s old start all now → Creates now s.output put.Done new → IsStripOf k.head x → IsNewOf x s.gray s.smooth image → first ≡ new_end s.kind → BeginsDrawing image first d e → IsShowing s (record { old = old; start = start; head = k.head; all = all }) 0 piece answer (at_work r d e new)
+  rows_started {image} {d} {first} {e} k h made strip made_image first_is begins = record {
+    written = [];
+    read = k.rows;
+    drawing = record {
+      kind = begins.kind ∙ kind;
+      framed = ap (λ (t : Strips). t.display.frame) begins.strips ∙ ap (λ (y : Display). y.frame) made_image.display ∙ strip.frame;
+      given = (begins.due).given;
+      end = begins.end;
+      blocks = told.0;
+      told = told.1;
+      drawn = drawn;
+      text = text;
+      enough = λ n y few t.
+          (let on = goes_on s.gray s.smooth s.kind k.head all n 0 y told.0 (k.rows).head few t told.1 in
+          let longer = ap length on.1 in
+          let size = ap length text in
+          omega (arith, longer, size, length-append (rows_text s.kind (so_far k.head y) s.gray s.smooth n) on.0));
+    };
+    desk = created_first h made;
+    early = none_due s k;
+  }
+    where
+      kind : first.kind ≡ s.kind
+      kind = ap (λ (y : EndState). y.kind) first_is
 
-    told : (y : Blocks) × TellsRows standard_limits all 0 y
-    told = none_told_yet answer k.rows
+      told : (y : Blocks) × TellsRows standard_limits all 0 y
+      told = none_told_yet answer k.rows
 
-    P : Meaning
-    P = so_far k.head told.0
+      P : Meaning
+      P = so_far k.head told.0
 
-    draws : DrawsImage image P s.gray s.smooth
-    draws = made_image.draws P (strip.picture told.0)
+      draws : DrawsImage image P s.gray s.smooth
+      draws = made_image.draws P (strip.picture told.0)
 
-    drawn : IsDrawnTo d e P s.gray s.smooth 0
-    drawn = begins.drawn P s.gray s.smooth draws
+      drawn : IsDrawnTo d e P s.gray s.smooth 0
+      drawn = begins.drawn P s.gray s.smooth draws
 
-    text : [] ++ d.out ≡ rows_text s.kind P s.gray s.smooth 0
-    text =
-        begins.out ∙ ap (λ l. l ++ first_piece first.kind image.info) (made_image.new).out ∙ ap (λ (y : EndKind). first_piece y image.info) kind ∙ ap (λ (i : ImageInfo). first_piece s.kind i) draws.info
-        ∙ sym (texts_join image P s.gray s.smooth s.kind draws).first
+      text : [] ++ d.out ≡ rows_text s.kind P s.gray s.smooth 0
+      text =
+          begins.out ∙ ap (λ l. l ++ first_piece first.kind image.info) (made_image.new).out ∙ ap (λ (y : EndKind). first_piece y image.info) kind ∙ ap (λ (i : ImageInfo). first_piece s.kind i) draws.info
+          ∙ sym (texts_join image P s.gray s.smooth s.kind draws).first

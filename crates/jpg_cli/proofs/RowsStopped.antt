@@ -48,31 +48,34 @@ in_part {s} {old} {written} {due} {text} n {s1} h desk only gone =
 pub rose_since : {s : Showing} {old start : DeskState} {all written : List ℕ} {s0 : DeskState} (s1 : DeskState) → HasCreated s old start all written s0 → Rose s0.counts.writes s1.counts.writes → Rose old.counts.writes s1.counts.writes
 rose_since s1 h rose = let a = (h.opened).counts.writes in let b = ((h.works).stays).counts.writes in omega (arith, rose, a, b)
 
-pub rows_failed : {s : Showing} {old start : DeskState} {all written due text : List ℕ} {s0 s1 : DeskState} → IsDueText s all written due text → HasCreated s old start all written s0 → OnlyWrites s0 s1 → AppendsPart s0.outputs due s1.outputs
-    → Rose s0.counts.writes s1.counts.writes → Shown s old why.WriteFault s1
-rows_failed {written} {due} {text} {s1} h desk only (n, gone) rose = (
-  rose_since s1 desk rose,
-  inr (record {
-    part = in_part n h desk only gone;
-    early = λ front rest other cut many k.
-        (let l = h.early front rest other cut many k in
-        let size = ap length (first_part written due text n h.same) in omega (arith, l, size, length-append written (take n due)));
-  }),
-)
-
-pub rows_wanting : {s : Showing} {old start : DeskState} {all written due text : List ℕ} {s0 s1 : DeskState} → IsDueText s all written due text → FitsWhole s all text → HasCreated s old start all written s0 → OnlyWrites s0 s1
-    → AppendsLess s0.outputs due s1.outputs → Shown s old why.NoMemory s1
-rows_wanting {all} {written} {due} {text} h fits desk only (n, less, gone) =
-    inr (inr (record {
+module _ {s : Showing} {old start : DeskState} {all written : List ℕ} where
+  pub rows_failed : {due text : List ℕ} {s0 s1 : DeskState} → IsDueText s all written due text → HasCreated s old start all written s0 → OnlyWrites s0 s1 → AppendsPart s0.outputs due s1.outputs
+      → Rose s0.counts.writes s1.counts.writes → Shown s old why.WriteFault s1
+  rows_failed {due} {text} {s1} h desk only (n, gone) rose = (
+    rose_since s1 desk rose,
+    inr (record {
       part = in_part n h desk only gone;
-      left = λ M whole.
-          (let l = fits M whole in
-          let size = ap length (first_part written due text n h.same) in
-          let all = ap length h.same in
-          omega (arith, l, size, all, less, length-append written (take n due), length-append written due, length-take-le n due (omega (arith, less))));
-    }))
+      early = λ front rest other cut many k.
+          (let l = h.early front rest other cut many k in
+          let size = ap length (first_part written due text n h.same) in omega (arith, l, size, length-append written (take n due)));
+    }),
+  )
 
-pub rows_stopped : {s : Showing} {old start : DeskState} {all written out due text new : List ℕ} (ended : DecodeStop) {s0 s1 : DeskState} → IsDueText s all written (out ++ due) text → FitsWhole s all text → HasCreated s old start all written s0
-    → SendsImage s0 out due (Err ended) new s1 → Shown s old (why_of (Err ended)) s1
-rows_stopped stop.NoMemory h fits desk sent = rows_wanting h fits desk sent.only sent.bytes
-rows_stopped stop.WriteFault h fits desk sent = rows_failed h desk sent.only (sent.bytes).0 (sent.bytes).1
+module _ {s : Showing} {old start : DeskState} {all written : List ℕ} where
+  pub rows_wanting : {due text : List ℕ} {s0 s1 : DeskState} → IsDueText s all written due text → FitsWhole s all text → HasCreated s old start all written s0 → OnlyWrites s0 s1
+      → AppendsLess s0.outputs due s1.outputs → Shown s old why.NoMemory s1
+  rows_wanting {due} {text} h fits desk only (n, less, gone) =
+      inr (inr (record {
+        part = in_part n h desk only gone;
+        left = λ M whole.
+            (let l = fits M whole in
+            let size = ap length (first_part written due text n h.same) in
+            let all = ap length h.same in
+            omega (arith, l, size, all, less, length-append written (take n due), length-append written due, length-take-le n due (omega (arith, less))));
+      }))
+
+module _ {s : Showing} {old start : DeskState} {all written : List ℕ} where
+  pub rows_stopped : {out due text new : List ℕ} (ended : DecodeStop) {s0 s1 : DeskState} → IsDueText s all written (out ++ due) text → FitsWhole s all text → HasCreated s old start all written s0
+      → SendsImage s0 out due (Err ended) new s1 → Shown s old (why_of (Err ended)) s1
+  rows_stopped stop.NoMemory h fits desk sent = rows_wanting h fits desk sent.only sent.bytes
+  rows_stopped stop.WriteFault h fits desk sent = rows_failed h desk sent.only (sent.bytes).0 (sent.bytes).1

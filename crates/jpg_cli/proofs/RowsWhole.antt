@@ -49,26 +49,27 @@ pub few_told : (h : Head) (all : List ℕ) (m : ℕ) (told blocks : Blocks) → 
 few_told h all m told blocks begins k =
     rows_few standard_limits all m (mcu_rows (so_far h blocks)) told h.before h.contents begins (begun_rows standard_limits all h.before h.contents blocks standard_are_limits begins) k
 
--- with more of them the text is continued
-pub goes_on : (gray smooth : Bool) (kind : EndKind) (h : Head) (all : List ℕ) (m n : ℕ) (some more : Blocks) → IsHeadIn gray h all → m ≤ n → TellsRows standard_limits all m some → TellsRows standard_limits all n more
-    → GoesOnFrom (rows_text kind (so_far h some) gray smooth m) (rows_text kind (so_far h more) gray smooth n)
-goes_on gray smooth kind h all m n some more head less first second =
-    let twice : TellsTwice standard_limits gray all =
-    record {
-      limited = standard_are_limits;
-      before = h.before;
-      contents = h.contents;
-      begins = head.begins;
-      fewer = m;
-      more = n;
-      less = less;
-      some = some;
-      all = more;
-      first = first;
-      second = second;
-      shown = so_far_shown gray h all more head;
-    } in
-    texts_go_on standard_limits gray smooth all kind twice
+module _ (gray smooth : Bool) (kind : EndKind) (h : Head) (all : List ℕ) where
+  -- with more of them the text is continued
+  pub goes_on : (m n : ℕ) (some more : Blocks) → IsHeadIn gray h all → m ≤ n → TellsRows standard_limits all m some → TellsRows standard_limits all n more
+      → GoesOnFrom (rows_text kind (so_far h some) gray smooth m) (rows_text kind (so_far h more) gray smooth n)
+  goes_on m n some more head less first second =
+      let twice : TellsTwice standard_limits gray all =
+      record {
+        limited = standard_are_limits;
+        before = h.before;
+        contents = h.contents;
+        begins = head.begins;
+        fewer = m;
+        more = n;
+        less = less;
+        some = some;
+        all = more;
+        first = first;
+        second = second;
+        shown = so_far_shown gray h all more head;
+      } in
+      texts_go_on standard_limits gray smooth all kind twice
 
 -- OF A COMPLETE FILE, which a prefix of the bytes is
 abbrev pub read_by_rows : (h : Head) (front : List ℕ) (M : Meaning) → IsWholeFile standard_limits front M → BeginsScanOfAll standard_limits front h.before h.contents → IsReadByRows standard_limits front M

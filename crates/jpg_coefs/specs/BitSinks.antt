@@ -18,18 +18,26 @@ interval_bits is_prog tables head due = flat_map (element_bits tables head) (int
 abbrev pub text_of : (List UnitDue → List Bool) → ℕ → List (List UnitDue) → List ℕ
 text_of bits number intervals = intervals_text number (map (λ due. data_of (bits due)) intervals)
 
--- Some intervals are written, and the bits of a further one but for a rest.
-pub record IsWriting (bits : List UnitDue → List Bool) (s0 : DeskState) (o0 : Waiting) (all : List (List UnitDue)) (number : ℕ) (later : List (List UnitDue)) (rest : List Bool) (o1 : Waiting) (s1 : DeskState) : Type 0 where
+-- a desk, and the bits that wait before it
+pub record Output : Type 0 where
+  pub state : DeskState
+  pub out : Waiting
+
+abbrev pub output : {S D : Type 0} → (D → DeskState) → At S Waiting D → Output
+output state a = record { state = state a.desk; out = a.out }
+
+-- After a first state some intervals are written, and the bits of a further one but for a rest.
+pub record IsWriting (bits : List UnitDue → List Bool) (from : Output) (all : List (List UnitDue)) (number : ℕ) (later : List (List UnitDue)) (rest : List Bool) (now : Output) : Type 0 where
   pub this : List UnitDue
   pub sent : List ℕ
   pub between : DeskState
   pub before : Waiting
   pub joined : sent ++ text_of bits number (this ∷ later) ≡ text_of bits 0 all
-  pub sends : Sends s0 o0 sent (Ok tt) before between
+  pub sends : Sends from.state from.out sent (Ok tt) before between
   pub put : List Bool
   pub whole : put ++ rest ≡ bits this
-  pub puts : Puts between before put (Ok tt) o1 s1
-  pub created : s1.output_created ≡ true
+  pub puts : Puts between before put (Ok tt) now.out now.state
+  pub created : (now.state).output_created ≡ true
 
 -- A sink whose results are bits: those of an interval, the units that it takes, the bits of the rest of an interval in
 -- some state, after these DC values, and its later states.
@@ -43,7 +51,7 @@ pub record WritesDue {S D : Type 0} (b : BitSink S) (state : D → DeskState) (d
   pub sink : b.later d.from.sink now.sink
   pub rest_fits : All (b.fits d.from.sink) d.rest
   pub later_fits : All (λ due. All (b.fits d.from.sink) due) d.later
-  pub writing : IsWriting (b.bits d.from.sink) (state d.from.desk) d.from.out d.all d.number d.later (b.rest now.sink d.last d.rest) now.out (state now.desk)
+  pub writing : IsWriting (b.bits d.from.sink) (output state d.from) d.all d.number d.later (b.rest now.sink d.last d.rest) (output state now)
 
 abbrev pub bit_kind : {S D : Type 0} → BitSink S → (D → DeskState) → SinkKind S Waiting D
 bit_kind b state = record {

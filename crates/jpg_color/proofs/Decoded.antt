@@ -1,12 +1,12 @@
 -- A complete picture is written as an image file.
-use Rattle.std.proofs.Common.{◌≡◌, ℕ, ◌*◌, Bool, true, false, if◌then◌else◌, List, [], ◌∷◌, ◌++◌, length, map, flat_map, Some, None, Result, Ok, Err, refl, sym, ap, ◌∙◌, subst}
+use Rattle.std.proofs.Common.{◌≡◌, ℕ, ◌*◌, Bool, true, false, if◌then◌else◌, List, [], ◌++◌, length, map, flat_map, Some, None, Result, Ok, Err, refl, sym, ap, ◌∙◌, subst}
 use Rattle.std.proofs.lemmas.List.{append-nil, length-map}
 use Rattle.std.specs.Prelude.{IfOk}
 use Rattle.jpg_base.specs.Desk.{DeskState, AppendsLast}
 use Rattle.jpg_spec.specs.Lists.{below}
 use Rattle.jpg_spec_image.specs.ImageText.{row_bytes, row_piece, first_piece, rest, end_text}
 use Rattle.jpg_spec.specs.Meaning.{PictureComponent, colour_of}
-use Rattle.jpg_spec_image.specs.Pixels.{info, out_fault, out_fault_of, pixel_row, pixels, shows_gray, shown_row}
+use Rattle.jpg_spec_image.specs.Pixels.{info, out_fault, out_fault_of, pixel_row, pixels, shown_row}
 use Rattle.jpg_spec.specs.declared.frame.Colour.{Colour}
 use Rattle.jpg_spec.specs.declared.frame.Component.{Component}
 use Rattle.jpg_spec_image.specs.declared.image.EndKind.{EndKind}
@@ -22,15 +22,16 @@ use Rattle.jpg_file.specs.declared.read.picture.Picture.{Picture}
 use Rattle.jpg_file.proofs.StripHeads.{picture_colours}
 use Rattle.jpg_pnm_bmp.specs.EndState.{EndState, CanFinish, IsImageInfo, held_of, info_of, new_end, started}
 use Rattle.jpg_pnm_bmp.proofs.SomeBytes.{text_some}
-use Rattle.jpg_color.specs.Shown.{Display, IsShowable, display_fault, factors_of, row_length, row_of_blocks}
+use Rattle.jpg_color.specs.Shown.{Display, IsShowable, display_fault, factors_of, row_of_blocks}
 use Rattle.jpg_color.specs.PictureRows.{RowsLeft, IsFirstRow, display_in, shown_blocks}
-use Rattle.jpg_color.specs.DecodeRows.{AreRowsOf, Decodes, IsEndFor, SendsImage, SendsRows, end_at, end_parts, finished, finished_end, picture_end, picture_text, row_pieces, rows_in_all, told_info}
+use Rattle.jpg_color.specs.DecodeRows.{AreRowsOf, Decodes, end_at, end_parts, finished, finished_end, row_pieces, rows_in_all, told_info}
 use Rattle.jpg_color.specs.declared.decode.DecodeStop.{DecodeStop}
 use Rattle.jpg_color.specs.declared.decode.DecodeStop.TheVariants as stop
 use Rattle.jpg_spec.proofs.Rows.{map_map}
 use Rattle.jpg_color.proofs.Coverage.{numbers_told}
 use Rattle.jpg_color.proofs.Products.{pixels_few}
-use Rattle.jpg_color.proofs.Sent.{sends_none, sends_piece, sends_then, sends_stop, sends_same}
+use Rattle.jpg_color.proofs.RowsPut.{map_below}
+use Rattle.jpg_color.proofs.Sent.{Output, PassesRows, Sends, Writing, sends_none, sends_piece, sends_rest, sends_same, sends_stop, sends_then}
 
 -- WHAT IS DISPLAYED
 
@@ -75,31 +76,17 @@ pub long_by : (b : Bool) (width : ℕ) (i : ImageInfo) → i.width ≡ width →
 long_by true width i w k = ap (λ n. row_bytes (record i { kind = n })) k ∙ w
 long_by false width i w k = ap (λ n. row_bytes (record i { kind = n })) k ∙ ap (λ n. 3 * n) w
 
-pub rows_of_picture : (p : Picture) (gray smooth : Bool) (r : RowsLeft) → IsFirstRow p gray smooth r → AreRowsOf (info (picture_meaning p) gray) r
-rows_of_picture p gray smooth r first =
-    let i : ImageInfo = info (picture_meaning p) gray in
-    record {
-      first = first.given;
-      high = sym (ap (λ (d : Display). d.frame.height) first.display);
-      long = long_by (shows_gray (colour_of (picture_meaning p)) gray) p.frame.width i refl refl
-          ∙ ap (λ c. if shows_gray c gray then p.frame.width else 3 * p.frame.width) (sym p.keeps.colour) ∙ sym (ap row_length first.display);
-    }
-
 -- THE TEXT
 
 same_row : (p : Picture) (gray smooth : Bool) (y : ℕ) → row_of_blocks (display_in p gray smooth) (shown_blocks (display_in p gray smooth) p.coefs) y ≡ pixel_row (picture_meaning p) gray smooth y
 same_row p gray smooth y = ap (λ c. shown_row c (picture_meaning p) gray smooth y) p.keeps.colour
-
-map_all : {X Y : Type 0} (f g : X → Y) → ((x : X) → f x ≡ g x) → (xs : List X) → map f xs ≡ map g xs
-map_all f g e [] = refl
-map_all f g e (x ∷ xs) = ap (λ y. y ∷ map f xs) (e x) ∙ ap (λ ys. g x ∷ ys) (map_all f g e xs)
 
 pub all_pixels : (p : Picture) (gray smooth : Bool) (r : RowsLeft) → IsFirstRow p gray smooth r → rows_in_all r ≡ pixels (picture_meaning p) gray smooth
 all_pixels p gray smooth r first =
     let d = display_in p gray smooth in
     let all : (x : Display) (q : Coefs) → List (List ℕ) = λ (x : Display) (q : Coefs). map (row_of_blocks x (shown_blocks x q)) (below x.frame.height) in
     ap (λ (x : Display). all x r.coefs) first.display ∙ ap (λ (q : Coefs). all d q) first.coefs
-    ∙ map_all (row_of_blocks d (shown_blocks d p.coefs)) (pixel_row (picture_meaning p) gray smooth) (λ (y : ℕ). same_row p gray smooth y) (below p.frame.height)
+    ∙ map_below (row_of_blocks d (shown_blocks d p.coefs)) (pixel_row (picture_meaning p) gray smooth) p.frame.height (λ y lt. same_row p gray smooth y)
 
 pub rest_held : (kind : EndKind) (i : ImageInfo) (rows : List (List ℕ)) → rest kind i (held_of kind rows) ≡ rest kind i rows
 rest_held Pnm i rows = refl
@@ -110,102 +97,88 @@ long_rows r =
     let d = r.strips.display in
     length-map (below d.frame.height) (row_of_blocks d (shown_blocks d r.coefs)) ∙ length_below d.frame.height
 
-pub can_finish : (i : ImageInfo) (e e1 e2 : EndState) (r : RowsLeft) → AreRowsOf i r → e1 ≡ started e i → e2 ≡ end_at e1.kind (info_of e1) (rows_in_all r) → CanFinish e2
-can_finish i e e1 e2 r rows now at =
-    let said : info_of e1 ≡ i = ap info_of now in
-    subst CanFinish (sym at) (record { started = refl; all = long_rows r ∙ sym rows.high ∙ sym (ap (λ (j : ImageInfo). j.height) said); before = refl })
+pub can_finish : {i : ImageInfo} (e : EndState) {e1 e2 : EndState} {r : RowsLeft} → AreRowsOf i r → e1 ≡ started e i → e2 ≡ end_at e1.kind (info_of e1) (rows_in_all r)
+    → CanFinish e2
+can_finish e {r = r} rows now at =
+    subst CanFinish (sym at) (record { started = refl; all = long_rows r ∙ sym rows.high ∙ sym (ap (λ (x : EndState). (info_of x).height) now); before = refl })
 
--- the pieces of the rows, and the parts after them, of an image writer that was started so
-pieces_same : (i : ImageInfo) (e e1 : EndState) (rows : List (List ℕ)) → e1 ≡ started e i → row_pieces e1 rows ≡ flat_map (row_piece e.kind i) rows
-pieces_same i e e1 rows now = ap (λ (x : EndState). row_pieces x rows) now
+-- one for an output for which nothing waited
+pub record IsBegun (i : ImageInfo) (e : EndState) (v : Writing) : Type 0 where
+  pub end : v.end ≡ started e i
+  pub waits : v.out.waits ≡ [] ++ first_piece e.kind i
 
-parts_same : (i : ImageInfo) (e e1 e2 : EndState) (rows : List (List ℕ)) → e1 ≡ started e i → e2 ≡ end_at e1.kind (info_of e1) rows → end_parts e2 ≡ flat_map (λ part. part) (rest e.kind i rows)
-parts_same i e e1 e2 rows now at =
-    ap end_parts at ∙ ap (λ (x : EndState). end_parts (end_at x.kind (info_of x) rows)) now ∙ ap (λ parts. flat_map (λ part. part) parts) (rest_held e.kind i rows)
+pub is_begun : {i : ImageInfo} (e : EndState) {v : Writing} {old : List ℕ} → old ≡ [] → (v.end ≡ started e i) × (v.out.waits ≡ old ++ first_piece e.kind i)
+    → IsBegun i e v
+is_begun {i} e none h = record { end = h.0; waits = h.1 ∙ ap (λ o. o ++ first_piece e.kind i) none }
+
+-- the parts after the rows are those of the image
+parts_same : {i : ImageInfo} {e : EndState} {v : Writing} {e2 : EndState} (rows : List (List ℕ)) → IsBegun i e v → e2 ≡ end_at v.end.kind (info_of v.end) rows
+    → end_parts e2 ≡ flat_map (λ part. part) (rest e.kind i rows)
+parts_same {i} {e} rows b at =
+    ap end_parts at ∙ ap (λ (x : EndState). end_parts (end_at x.kind (info_of x) rows)) b.end ∙ ap (λ parts. flat_map (λ part. part) parts) (rest_held e.kind i rows)
 
 -- WHAT WAS WRITTEN
 
+abbrev none_waits : DeskState → Output
+none_waits s = record { desk = s; waits = [] }
+
 -- nothing, if there is no memory before that
-pub decodes_none : (s : DeskState) (kind : EndKind) (i : ImageInfo) (rows : List (List ℕ)) → Decodes s (end_text kind i rows) (Err stop.NoMemory) s
-decodes_none s kind i rows =
-    let h : SendsImage s [] (end_text kind i rows) (Err stop.NoMemory) [] s = sends_none s [] (end_text kind i rows) [] (text_some kind i rows) in
+pub decodes_none : {s : DeskState} (kind : EndKind) (i : ImageInfo) (rows : List (List ℕ)) → Decodes s (end_text kind i rows) (Err stop.NoMemory) s
+decodes_none {s} kind i rows =
+    let h : Sends (none_waits s) (end_text kind i rows) (Err stop.NoMemory) (none_waits s) = sends_none (text_some kind i rows) in
     record { only = h.only; bytes = h.bytes }
 
-pub decodes_stop : (s s1 : DeskState) (due new : List ℕ) (f : DecodeStop) → SendsImage s [] due (Err f) new s1 → Decodes s due (Err f) s1
-decodes_stop s s1 due new stop.NoMemory h = record { only = h.only; bytes = h.bytes }
-decodes_stop s s1 due new stop.WriteFault h = record { only = h.only; bytes = h.bytes }
+decodes_stop : {s : DeskState} {b : Output} {due : List ℕ} {f : DecodeStop} → Sends (none_waits s) due (Err f) b → Decodes s due (Err f) b.desk
+decodes_stop {f = stop.NoMemory} h = record { only = h.only; bytes = h.bytes }
+decodes_stop {f = stop.WriteFault} h = record { only = h.only; bytes = h.bytes }
 
-pub decodes_all : (s s1 : DeskState) (due new : List ℕ) → SendsImage s [] due (Ok tt) new s1 → new ≡ [] → Decodes s due (Ok tt) s1
-decodes_all s s1 due new h none =
-    record { only = h.only; bytes = subst (λ x. AppendsLast s.outputs x s1.outputs) (sym (h.bytes.2 ∙ ap (λ n. h.bytes.0 ++ n) none ∙ append-nil h.bytes.0)) h.bytes.1 }
+by_result : {s : DeskState} {b : Output} {due : List ℕ} {r : Result (Unit {0}) DecodeStop} → Sends (none_waits s) due r b → IfOk r (λ u. b.waits ≡ []) → Decodes s due r b.desk
+by_result {s} {b} {r = Ok u} h none =
+    let all = h.bytes.2 ∙ ap (λ n. h.bytes.0 ++ n) none ∙ append-nil h.bytes.0 in
+    record { only = h.only; bytes = subst (λ x. AppendsLast s.outputs x b.desk.outputs) (sym all) h.bytes.1 }
+by_result {r = Err f} h none = decodes_stop h
 
 -- the first piece of the file and those of its rows
-rows_so_far : (s0 s1 : DeskState) (i : ImageInfo) (e e1 e2 : EndState) (out new : List ℕ) (rows : List (List ℕ)) (r : Result (Unit {0}) DecodeStop) → e1 ≡ started e i → out ≡ [] ++ first_piece e.kind i
-    → SendsRows s0 e1 out rows r e2 new s1 → SendsImage s0 [] (first_piece e.kind i ++ flat_map (row_piece e.kind i) rows) r new s1
-rows_so_far s0 s1 i e e1 e2 out new rows r now begun h =
-    sends_then s0 s0 s1 [] (first_piece e.kind i) out (flat_map (row_piece e.kind i) rows) new r (sends_piece s0 [] (first_piece e.kind i) out begun)
-    (sends_same s0 s1 out new (row_pieces e1 rows) (flat_map (row_piece e.kind i) rows) r (pieces_same i e e1 rows now) h.sent)
+rows_so_far : {i : ImageInfo} {e : EndState} {v w : Writing} {rows : List (List ℕ)} {r : Result (Unit {0}) DecodeStop} → IsBegun i e v → PassesRows v rows r w
+    → Sends (none_waits v.out.desk) (first_piece e.kind i ++ flat_map (row_piece e.kind i) rows) r w.out
+rows_so_far {i} {e} {v} {rows = rows} b h =
+    let first : Sends (none_waits v.out.desk) (first_piece e.kind i) (Ok tt) v.out = sends_piece [] (first_piece e.kind i) b.waits in
+    sends_then first (sends_same (ap (λ (x : EndState). row_pieces x rows) b.end) h.sent)
 
-pub rows_stop : (s0 s1 : DeskState) (i : ImageInfo) (e e1 e2 : EndState) (out new : List ℕ) (rows : List (List ℕ)) (f : DecodeStop) → e1 ≡ started e i → out ≡ [] ++ first_piece e.kind i
-    → SendsRows s0 e1 out rows (Err f) e2 new s1 → Decodes s0 (end_text e.kind i rows) (Err f) s1
-rows_stop s0 s1 i e e1 e2 out new rows f now begun h =
-    decodes_stop s0 s1 (end_text e.kind i rows) new f
-    (sends_stop s0 s1 [] (first_piece e.kind i ++ flat_map (row_piece e.kind i) rows) (flat_map (λ part. part) (rest e.kind i rows)) new f
-    (rows_so_far s0 s1 i e e1 e2 out new rows (Err f) now begun h))
+pub rows_stop : {i : ImageInfo} {e : EndState} {v w : Writing} {rows : List (List ℕ)} {f : DecodeStop} → IsBegun i e v → PassesRows v rows (Err f) w
+    → Decodes v.out.desk (end_text e.kind i rows) (Err f) w.out.desk
+rows_stop {i} {e} {rows = rows} b h = decodes_stop (sends_stop (flat_map (λ part. part) (rest e.kind i rows)) (rows_so_far b h))
 
 -- the complete file
-text_so_far : (s0 s1 s2 : DeskState) (i : ImageInfo) (e e1 e2 : EndState) (out mid new : List ℕ) (rows : List (List ℕ)) (r : Result (Unit {0}) DecodeStop) → e1 ≡ started e i → out ≡ [] ++ first_piece e.kind i
-    → SendsRows s0 e1 out rows (Ok tt) e2 mid s1 → SendsImage s1 mid (end_parts e2) r new s2 → SendsImage s0 [] (end_text e.kind i rows) r new s2
-text_so_far s0 s1 s2 i e e1 e2 out mid new rows r now begun h k =
-    sends_then s0 s1 s2 [] (first_piece e.kind i ++ flat_map (row_piece e.kind i) rows) mid (flat_map (λ part. part) (rest e.kind i rows)) new r
-    (rows_so_far s0 s1 i e e1 e2 out mid rows (Ok tt) now begun h)
-    (sends_same s1 s2 mid new (end_parts e2) (flat_map (λ part. part) (rest e.kind i rows)) r (parts_same i e e1 e2 rows now h.end) k)
+text_so_far : {i : ImageInfo} {e : EndState} {v w : Writing} {o : Output} {rows : List (List ℕ)} {r : Result (Unit {0}) DecodeStop} → IsBegun i e v
+    → PassesRows v rows (Ok tt) w → Sends w.out (end_parts w.end) r o → Sends (none_waits v.out.desk) (end_text e.kind i rows) r o
+text_so_far {rows = rows} b h k = sends_then (rows_so_far b h) (sends_same (parts_same rows b h.end) k)
 
-pub end_stop : (s0 s1 s2 : DeskState) (i : ImageInfo) (e e1 e2 : EndState) (out mid new : List ℕ) (rows : List (List ℕ)) (f : DecodeStop) → e1 ≡ started e i → out ≡ [] ++ first_piece e.kind i
-    → SendsRows s0 e1 out rows (Ok tt) e2 mid s1 → SendsImage s1 mid (end_parts e2) (Err f) new s2 → Decodes s0 (end_text e.kind i rows) (Err f) s2
-end_stop s0 s1 s2 i e e1 e2 out mid new rows f now begun h k =
-    decodes_stop s0 s2 (end_text e.kind i rows) new f (text_so_far s0 s1 s2 i e e1 e2 out mid new rows (Err f) now begun h k)
+pub end_stop : {i : ImageInfo} {e : EndState} {v w : Writing} {o : Output} {rows : List (List ℕ)} {f : DecodeStop} → IsBegun i e v
+    → PassesRows v rows (Ok tt) w → Sends w.out (end_parts w.end) (Err f) o → Decodes v.out.desk (end_text e.kind i rows) (Err f) o.desk
+end_stop b h k = decodes_stop (text_so_far b h k)
 
-by_result : (s s1 : DeskState) (due new : List ℕ) (r : Result (Unit {0}) DecodeStop) → SendsImage s [] due r new s1 → IfOk r (λ u. new ≡ []) → Decodes s due r s1
-by_result s s1 due new (Ok u) h none = decodes_all s s1 due new h none
-by_result s s1 due new (Err f) h none = decodes_stop s s1 due new f h
+pub image_sent : {i : ImageInfo} {e : EndState} {v w : Writing} {o p : Output} {rows : List (List ℕ)} {r : Result (Unit {0}) DecodeStop} → IsBegun i e v
+    → PassesRows v rows (Ok tt) w → Sends w.out (end_parts w.end) (Ok tt) o → Sends o [] r p → IfOk r (λ u. p.waits ≡ [])
+    → Decodes v.out.desk (end_text e.kind i rows) r p.desk
+image_sent b h k l none = by_result (sends_rest (text_so_far b h k) l) none
 
-pub image_sent : (s0 s1 s2 s3 : DeskState) (i : ImageInfo) (e e1 e2 : EndState) (out mid last new : List ℕ) (rows : List (List ℕ)) (r : Result (Unit {0}) DecodeStop) → e1 ≡ started e i → out ≡ [] ++ first_piece e.kind i
-    → SendsRows s0 e1 out rows (Ok tt) e2 mid s1 → SendsImage s1 mid (end_parts e2) (Ok tt) last s2 → SendsImage s2 last [] r new s3 → IfOk r (λ u. new ≡ []) → Decodes s0 (end_text e.kind i rows) r s3
-image_sent s0 s1 s2 s3 i e e1 e2 out mid last new rows r now begun h k l none =
-    let text : List ℕ = end_text e.kind i rows in
-    by_result s0 s3 text new r
-    (sends_same s0 s3 [] new (text ++ []) text r (append-nil text) (sends_then s0 s2 s3 [] text last [] new r (text_so_far s0 s1 s2 i e e1 e2 out mid last rows (Ok tt) now begun h k) l)) none
-
--- It is the text of the picture's image.
-pub decoded_text : (s s1 : DeskState) (kind : EndKind) (p : Picture) (gray smooth : Bool) (i : ImageInfo) (r : RowsLeft) (result : Result (Unit {0}) DecodeStop) → i ≡ info (picture_meaning p) gray → IsFirstRow p gray smooth r
-    → Decodes s (end_text kind i (rows_in_all r)) result s1 → Decodes s (picture_text kind p gray smooth) result s1
-decoded_text s s1 kind p gray smooth i r result said first h =
-    let all : end_text kind i (rows_in_all r) ≡ picture_text kind p gray smooth =
-    ap (λ (j : ImageInfo). end_text kind j (rows_in_all r)) said ∙ ap (λ (rows : List (List ℕ)). end_text kind (info (picture_meaning p) gray) rows) (all_pixels p gray smooth r first)
-    in
-    subst (λ text. Decodes s text result s1) all h
+-- It is that of the picture's image.
+pub of_picture : {X : Type 0} (of : ImageInfo → List (List ℕ) → X) {p : Picture} {gray smooth : Bool} {i : ImageInfo} {r : RowsLeft} → i ≡ info (picture_meaning p) gray
+    → IsFirstRow p gray smooth r → of i (rows_in_all r) ≡ of (info (picture_meaning p) gray) (pixels (picture_meaning p) gray smooth)
+of_picture of {p} {gray} {smooth} {r = r} said first =
+    ap (λ (j : ImageInfo). of j (rows_in_all r)) said ∙ ap (λ (rows : List (List ℕ)). of (info (picture_meaning p) gray) rows) (all_pixels p gray smooth r first)
 
 -- THE IMAGE WRITER, if all was written
 
-if_ok : {E : Type 0} (r : Result (Unit {0}) E) (P : Type 0) → P → IfOk r (λ u. P)
-if_ok (Ok u) P h = h
-if_ok (Err e) P h = tt
+pub if_ok : {E P : Type 0} (r : Result (Unit {0}) E) → P → IfOk r (λ u. P)
+if_ok (Ok u) h = h
+if_ok (Err e) h = tt
 
-if_ok_then : {E : Type 0} (r : Result (Unit {0}) E) (P Q : Type 0) → (P → Q) → IfOk r (λ u. P) → IfOk r (λ u. Q)
-if_ok_then (Ok u) P Q f h = f h
-if_ok_then (Err e) P Q f h = tt
+pub if_ok_then : {E P Q : Type 0} (r : Result (Unit {0}) E) → (P → Q) → IfOk r (λ u. P) → IfOk r (λ u. Q)
+if_ok_then (Ok u) f h = f h
+if_ok_then (Err e) f h = tt
 
-pub image_finished : (i : ImageInfo) (e e1 e2 e3 : EndState) (rows : List (List ℕ)) (r : Result (Unit {0}) DecodeStop) → e1 ≡ started e i → e2 ≡ end_at e1.kind (info_of e1) rows → e3 ≡ finished e2
-    → IfOk r (λ u. e3 ≡ finished_end e.kind i rows)
-image_finished i e e1 e2 e3 rows r now taken done =
-    if_ok r (e3 ≡ finished_end e.kind i rows) (done ∙ ap finished (taken ∙ ap (λ (x : EndState). end_at x.kind (info_of x) rows) now))
-
--- It is that of the picture's image.
-pub decoded_end : (e : EndState) (kind : EndKind) (p : Picture) (gray smooth : Bool) (i : ImageInfo) (r : RowsLeft) (result : Result (Unit {0}) DecodeStop) → i ≡ info (picture_meaning p) gray → IsFirstRow p gray smooth r
-    → IfOk result (λ u. e ≡ finished_end kind i (rows_in_all r)) → IfOk result (λ u. e ≡ picture_end kind p gray smooth)
-decoded_end e kind p gray smooth i r result said first h =
-    let all : finished_end kind i (rows_in_all r) ≡ picture_end kind p gray smooth =
-    ap (λ (j : ImageInfo). finished_end kind j (rows_in_all r)) said ∙ ap (λ (rows : List (List ℕ)). finished_end kind (info (picture_meaning p) gray) rows) (all_pixels p gray smooth r first)
-    in
-    if_ok_then result (e ≡ finished_end kind i (rows_in_all r)) (e ≡ picture_end kind p gray smooth) (λ x. x ∙ all) h
+pub image_finished : {i : ImageInfo} (e : EndState) {e1 e2 e3 : EndState} (rows : List (List ℕ)) (r : Result (Unit {0}) DecodeStop) → e1 ≡ started e i
+    → e2 ≡ end_at e1.kind (info_of e1) rows → e3 ≡ finished e2 → IfOk r (λ u. e3 ≡ finished_end e.kind i rows)
+image_finished e rows r now taken done = if_ok r (done ∙ ap finished (taken ∙ ap (λ (x : EndState). end_at x.kind (info_of x) rows) now))

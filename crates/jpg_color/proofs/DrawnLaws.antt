@@ -23,25 +23,26 @@ use Rattle.jpg_color.specs.DecodeRows.{end_at}
 use Rattle.jpg_color.specs.StripImage.{AgreeInFirstRows, AreDrawnAlike, Drawing, DrawsImage, IsDrawnTo, TextsJoin, first_image_rows, next_rows, next_text, rest_text, whole_text}
 use Rattle.jpg_color.proofs.Coverage.{count_is, covered, in_frame, whole_ratios}
 use Rattle.jpg_color.proofs.Drawn.{GoesUp, all_drawn, all_same, goes_up, high_same, ready_same, row_same, rows_join}
-use Rattle.jpg_color.proofs.HeldRows.{map_below}
 use Rattle.jpg_color.proofs.RowRanges.{no_row, take_and_drop, take_rows}
+use Rattle.jpg_color.proofs.RowsPut.{map_below}
 use Rattle.jpg_color.proofs.Windows.{ready_high, ready_none}
 
 -- TEXTS
 
-texts_first : (d : Drawing) (M : Meaning) (gray smooth : Bool) (kind : EndKind) → DrawsImage d M gray smooth → rows_text kind M gray smooth 0 ≡ first_piece kind (info M gray)
-texts_first d M gray smooth kind h =
-    let none : rows_ready M gray smooth 0 ≡ 0 = sym (ready_same d M gray smooth h 0) ∙ ready_none d.strips.display h.showable in
+texts_first : {d : Drawing} {M : Meaning} {gray smooth : Bool} (kind : EndKind) → DrawsImage d M gray smooth
+    → rows_text kind M gray smooth 0 ≡ first_piece kind (info M gray)
+texts_first {d} {M} {gray} {smooth} kind h =
+    let none : rows_ready M gray smooth 0 ≡ 0 = sym (ready_same h 0) ∙ ready_none d.strips.display h.showable in
     ap (λ rows. first_piece kind (info M gray) ++ flat_map (row_piece kind (info M gray)) rows) (no_row (pixels M gray smooth) (rows_ready M gray smooth 0) none) ∙ append-nil (first_piece kind (info M gray))
 
-texts_more : (d : Drawing) (M : Meaning) (gray smooth : Bool) (m : ℕ) (kind : EndKind) → DrawsImage d M gray smooth → m < mcu_rows M
+texts_more : {d : Drawing} {M : Meaning} {gray smooth : Bool} (m : ℕ) (kind : EndKind) → DrawsImage d M gray smooth → m < mcu_rows M
     → rows_text kind M gray smooth m ++ next_text kind M gray smooth m ≡ rows_text kind M gray smooth (m + 1)
-texts_more d M gray smooth m kind h lt =
-    let up : GoesUp M gray smooth m = goes_up d M gray smooth m h (subst (λ n. m < n) (sym (all_same d M gray smooth h)) lt) in
+texts_more {d} {M} {gray} {smooth} m kind h lt =
+    let up : GoesUp M gray smooth m = goes_up m h (subst (λ n. m < n) (sym (all_same d M gray smooth h)) lt) in
     let piece : List ℕ → List ℕ = row_piece kind (info M gray) in
     let first = first_piece kind (info M gray) in
     append_assoc first (flat_map piece (first_image_rows M gray smooth m)) (next_text kind M gray smooth m)
-    ∙ ap (λ x. first ++ x) (sym (flat_map-append piece (first_image_rows M gray smooth m) (next_rows M gray smooth m)) ∙ ap (flat_map piece) (rows_join M gray smooth m up))
+    ∙ ap (λ x. first ++ x) (sym (flat_map-append piece (first_image_rows M gray smooth m) (next_rows M gray smooth m)) ∙ ap (flat_map piece) (rows_join up))
 
 texts_whole : (kind : EndKind) (M : Meaning) (gray smooth : Bool) → rows_text kind M gray smooth (mcu_rows M) ++ rest_text kind M gray smooth ≡ whole_text kind M gray smooth
 texts_whole kind M gray smooth =
@@ -64,8 +65,8 @@ texts_part kind M gray smooth m =
 pub texts_join : (d : Drawing) (M : Meaning) (gray smooth : Bool) (kind : EndKind) → DrawsImage d M gray smooth → TextsJoin kind M gray smooth
 texts_join d M gray smooth kind h =
     record {
-      first = texts_first d M gray smooth kind h;
-      more = λ (m : ℕ) (lt : m < mcu_rows M). texts_more d M gray smooth m kind h lt;
+      first = texts_first kind h;
+      more = λ (m : ℕ) (lt : m < mcu_rows M). texts_more m kind h lt;
       whole = texts_whole kind M gray smooth;
       part = λ (m : ℕ). texts_part kind M gray smooth m;
     }
@@ -152,8 +153,8 @@ stands_too d blocks others m shown agree is h =
     inside : (first k known : ℕ) → k < known - first → first + k < known
     inside first k known l = omega (arith, l)
 
-draws_too : (d : Drawing) (M : Meaning) (others : Blocks) (gray smooth : Bool) → DrawsImage d M gray smooth → DrawsImage d (with_blocks M others) gray smooth
-draws_too d M others gray smooth h =
+draws_too : {d : Drawing} {M : Meaning} {gray smooth : Bool} (others : Blocks) → DrawsImage d M gray smooth → DrawsImage d (with_blocks M others) gray smooth
+draws_too others h =
     record {
       showable = h.showable;
       picture = ap (λ (N : Meaning). with_blocks N others) h.picture;
@@ -163,23 +164,24 @@ draws_too d M others gray smooth h =
       info = h.info;
     }
 
-drawn_too : (d : Drawing) (e : EndState) (M : Meaning) (others : Blocks) (gray smooth : Bool) (m : ℕ) → IsDrawnTo d e M gray smooth m → Agree M others m → IsDrawnTo d e (with_blocks M others) gray smooth m
-drawn_too d e M others gray smooth m h agree =
+drawn_too : {d : Drawing} {e : EndState} {M : Meaning} (others : Blocks) {gray smooth : Bool} {m : ℕ} → IsDrawnTo d e M gray smooth m → Agree M others m
+    → IsDrawnTo d e (with_blocks M others) gray smooth m
+drawn_too {d} {e} {M} others {gray} {smooth} {m} h agree =
     let x = d.strips.display in
     let N : Meaning = with_blocks M others in
     let agree' : Agree (picture_of x M.blocks) others m =
     subst (λ (Y : Meaning). (i u v : ℕ) → i < length Y.components → u < div_up (samples_across Y i) 8 → v < div_up (samples_down Y i) 8 → v < m * block_rows Y i → M.blocks i u v ≡ others i u v) h.image.picture agree
     in
-    let image = draws_too d M others gray smooth h.image in
+    let image = draws_too others h.image in
     let n = rows_ready M gray smooth m in
-    let is : rows_made_ready x m ≡ n = ready_same d M gray smooth h.image m in
+    let is : rows_made_ready x m ≡ n = ready_same h.image m in
     let le : m ≤ all_rows x = subst (λ k. k ≤ all_rows x) h.pushed h.stands.some in
-    let most : n ≤ M.height = bound (rows_made_ready x m) n x.frame.height M.height (ready_high x m h.image.showable le) is (high_same d M gray smooth h.image) in
+    let most : n ≤ M.height = bound (rows_made_ready x m) n x.frame.height M.height (ready_high x m h.image.showable le) is (high_same h.image) in
     let rows : first_image_rows M gray smooth m ≡ first_image_rows N gray smooth m =
     take_rows (pixel_row M gray smooth) n M.height most
     ∙ map_below (pixel_row M gray smooth) (pixel_row N gray smooth) n
     (λ (y : ℕ) (lt : y < n).
-    sym (row_same d M gray smooth h.image y) ∙ same_row x M.blocks others m y h.image.showable agree' le (subst (λ k. y < k) (sym is) lt) ∙ row_same d N gray smooth image y)
+    sym (row_same h.image y) ∙ same_row x M.blocks others m y h.image.showable agree' le (subst (λ k. y < k) (sym is) lt) ∙ row_same image y)
     ∙ sym (take_rows (pixel_row N gray smooth) n M.height most)
     in
     record {
@@ -196,4 +198,4 @@ drawn_too d e M others gray smooth m h agree =
 pub drawn_alike : (M N : Meaning) (gray smooth : Bool) (m : ℕ) → AgreeInFirstRows M N m → AreDrawnAlike M N gray smooth m
 drawn_alike M N gray smooth m agree =
     λ (d : Drawing) (e : EndState) (h : IsDrawnTo d e M gray smooth m).
-    subst (λ (x : Meaning). IsDrawnTo d e x gray smooth m) (sym agree.same) (drawn_too d e M N.blocks gray smooth m h agree.blocks)
+    subst (λ (x : Meaning). IsDrawnTo d e x gray smooth m) (sym agree.same) (drawn_too N.blocks h agree.blocks)

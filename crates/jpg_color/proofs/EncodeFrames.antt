@@ -1,24 +1,21 @@
 -- The frame that the code makes for an image is that of the definitions, or the fault of the definitions forbids it.
-use Rattle.std.proofs.Common.{◌≡◌, ℕ, zero, suc, ◌<◌, ◌≤◌, Bool, true, false, cond, ◌&&◌, ◌||◌, List, [], ◌∷◌, length, map, refl, sym, ap, ◌∙◌, subst, arith, ⊎_elim, Some, None, Ok, Err}
+use Rattle.std.proofs.Common.{◌≡◌, ◌<◌, ◌≤◌, Bool, true, false, cond, ◌&&◌, ◌||◌, List, length, map, refl, sym, ap, ◌∙◌, ⊎_elim, Some, None, Ok, Err}
 use Rattle.std.specs.Prelude.{find, nat_lt}
-use Rattle.std.specs.List.{All}
 use Rattle.std.proofs.lemmas.Bool.{cases_lt}
-use Rattle.std.proofs.lemmas.List.{map-append}
-use Rattle.std.proofs.lemmas.List.Elements.{All-append, All-cons, All-get_or, All-nil}
 use Rattle.jpg_spec.specs.Lists.{below}
-use Rattle.jpg_spec.specs.FrameHeader.{HasFactors, checked_frame}
+use Rattle.jpg_spec.specs.FrameHeader.{checked_frame}
 use Rattle.jpg_spec.specs.Geometry.{Frame, padded_blocks}
 use Rattle.jpg_spec_write.specs.ScansAsked.{asks_progressive, process_due}
 use Rattle.jpg_spec_write.specs.Headed.{is_wide}
 use Rattle.jpg_spec.specs.Segments.{standard_limits}
 use Rattle.jpg_spec_encode.specs.Encoded.{any_process, component_due, components_due, has_fraction}
-use Rattle.jpg_spec_encode.specs.EncodingLaws.{AreFactors, IsEncodable}
+use Rattle.jpg_spec_encode.specs.EncodingLaws.{IsEncodable}
 use Rattle.jpg_spec.specs.declared.fault.Fault.{Fault}
 use Rattle.jpg_spec.specs.declared.frame.Component.{Component}
 use Rattle.jpg_spec.specs.declared.frame.Limits.{Limits}
 use Rattle.jpg_spec.specs.declared.frame.Process.{Process}
 use Rattle.jpg_spec.specs.declared.frame.Process.TheVariants.{Baseline, Extended, Progressive}
-use Rattle.jpg_spec_write.specs.declared.picture_fault.PictureFault.TheVariants.{FractionalFactors, TooManyBlocks}
+use Rattle.jpg_spec_write.specs.declared.picture_fault.PictureFault.TheVariants.{TooManyBlocks}
 use Rattle.jpg_spec.proofs.Rows.{map_map}
 use Rattle.jpg_spec.proofs.SameNumbers.{frame_passes}
 use Rattle.jpg_base.specs.Frame.{numbers_of}
@@ -26,7 +23,7 @@ use Rattle.jpg_pnm_bmp.specs.declared.read.pixels.Image.{Image as Read}
 use Rattle.jpg_color.specs.Encode.{CanEncode, fault_due, encoded_frame, encoded_parts, image_told, encoding_request, scans_asked}
 use Rattle.jpg_color.specs.EncodeHead.{component_asked, components_asked, fraction_at, process_asked, table_asked}
 use Rattle.jpg_color.specs.declared.encode.Encoding.{Encoding as Asked}
-use Rattle.jpg_color.proofs.EncodedHead.{fault_of_fraction, fault_of_grids, few_grids, fractions_same, is_frame, many_grids, sequential_is}
+use Rattle.jpg_color.proofs.EncodedHead.{fault_of_grids, fractions_same, is_frame, many_grids, sequential_is}
 
 -- WHAT MAY BE ASKED
 
@@ -42,10 +39,6 @@ is_encodable i a can = record {
   others = can.others;
   restart = tt;
 }
-
-few_by : (b : Bool) (n : ℕ) → n ≡ cond b 1 3 → n ≤ 4
-few_by true n e = omega (arith, e)
-few_by false n e = omega (arith, e)
 
 -- THE NUMBERS
 
@@ -67,19 +60,11 @@ numbers_are i a p cs can e c =
     ap (λ q. numbers_of q 8 i.info.width i.info.height cs) (e ∙ process_is i a can)
     ∙ ap (λ ds. numbers_of (encoded_frame i a).process 8 i.info.width i.info.height ds) (c ∙ components_are i a can)
 
-all_made : {X : Type 0} (P : X → Type 0) (f : ℕ → X) (n : ℕ) → ((k : ℕ) → k < n → P (f k)) → All P (map f (below n))
-all_made P f zero each = All-nil P
-all_made P f (suc n) each =
-    subst (All P) (sym (map-append f (below n) (n ∷ []))) (All-append P (map f (below n)) (f n ∷ []) (all_made P f n (λ k h. each k (omega (arith, h)))) (All-cons P (f n) [] (each n (omega arith)) (All-nil P)))
-
 -- THE FAULT
 
 found_due : (i : Read) (a : Asked) (cs : List Component) → CanEncode i a → cs ≡ components_asked a
     → find (fraction_at cs) (below (length cs)) ≡ find (has_fraction (encoded_parts i a)) (below (length (encoded_parts i a).components))
 found_due i a cs can e = ap (λ ds. find (fraction_at ds) (below (length ds))) (e ∙ components_are i a can) ∙ fractions_same (encoded_parts i a)
-
-pub none_due : (i : Read) (a : Asked) (cs : List Component) → CanEncode i a → cs ≡ components_asked a → find (fraction_at cs) (below (length cs)) ≡ None → padded_blocks (encoded_frame i a) ≤ 8388608 → fault_due i a ≡ None
-none_due i a cs can e none few = fault_of_grids (encoded_parts i a) (sym (found_due i a cs can e) ∙ none) ∙ few_grids (encoded_parts i a) few
 
 no_fault : (f : Frame) (fault : Fault) → Err fault ≡ Ok f → ⊥
 no_fault f fault e = cc

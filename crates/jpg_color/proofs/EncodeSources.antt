@@ -78,22 +78,38 @@ has_samples image is = record {
 abbrev pub plane_by : Image → ℕ → ℕ → ℕ → ℕ → ℕ → ℕ → ℕ
 plane_by image i across down made x y = downsampled across down (full_plane image i) x (min y (made - 1))
 
-pub source_is : (H : Meaning) (image : Image) (f : Frame) (i across down made : ℕ) (quants : List ℕ) → f ≡ picture_frame H → across ≡ h_max f / (component_at f i).h → down ≡ v_max f / (component_at f i).v
-    → made ≡ div_up H.height (v_max f) * (component_at f i).v → quants ≡ (component_of H i).quants
-    → (x y : ℕ) → quantised_block quants (forward_dct (samples_of_block (plane_by image i across down made) x y)) ≡ encoded_block H image i x y
-source_is H image f i across down made quants e a d m q x y =
+-- these numbers of a component
+pub record Numbers : Type 0 where
+  pub across : ℕ
+  pub down : ℕ
+  pub made : ℕ
+  pub quants : List ℕ
+
+abbrev pub block_by : Image → ℕ → Numbers → ℕ → ℕ → List ℤ
+block_by image i n x y = quantised_block n.quants (forward_dct (samples_of_block (plane_by image i n.across n.down n.made) x y))
+
+pub record AreNumbers (H : Meaning) (f : Frame) (i : ℕ) (n : Numbers) : Type 0 where
+  pub frame : f ≡ picture_frame H
+  pub across : n.across ≡ h_max f / (component_at f i).h
+  pub down : n.down ≡ v_max f / (component_at f i).v
+  pub made : n.made ≡ div_up H.height (v_max f) * (component_at f i).v
+  pub quants : n.quants ≡ (component_of H i).quants
+
+pub source_is : {H : Meaning} {f : Frame} {i : ℕ} {n : Numbers} (image : Image) → AreNumbers H f i n → (x y : ℕ)
+    → block_by image i n x y ≡ encoded_block H image i x y
+source_is {H} {f} {i} {n} image are x y =
     let c = component_of H i in
-    let h : (component_at f i).h ≡ c.h = ap (λ (g : Frame). (component_at g i).h) e ∙ ap (λ (k : Component). k.h) (frame_component H i) in
-    let v : (component_at f i).v ≡ c.v = ap (λ (g : Frame). (component_at g i).v) e ∙ ap (λ (k : Component). k.v) (frame_component H i) in
-    let hm : h_max f ≡ most_across H = ap h_max e ∙ frame_across H in
-    let vm : v_max f ≡ most_down H = ap v_max e ∙ frame_down H in
-    let a1 : across ≡ most_across H / c.h = a ∙ ap (λ n. n / (component_at f i).h) hm ∙ ap (λ n. most_across H / n) h in
-    let d1 : down ≡ most_down H / c.v = d ∙ ap (λ n. n / (component_at f i).v) vm ∙ ap (λ n. most_down H / n) v in
-    let m1 : made ≡ rows_made H i = m ∙ ap (λ n. div_up H.height n * (component_at f i).v) vm ∙ ap (λ n. div_up H.height (most_down H) * n) v in
-    ap (λ p. quantised_block p (forward_dct (samples_of_block (plane_by image i across down made) x y))) q
-    ∙ ap (λ n. quantised_block c.quants (forward_dct (samples_of_block (plane_by image i n down made) x y))) a1
-    ∙ ap (λ n. quantised_block c.quants (forward_dct (samples_of_block (plane_by image i (most_across H / c.h) n made) x y))) d1
-    ∙ ap (λ n. quantised_block c.quants (forward_dct (samples_of_block (plane_by image i (most_across H / c.h) (most_down H / c.v) n) x y))) m1
+    let h : (component_at f i).h ≡ c.h = ap (λ (g : Frame). (component_at g i).h) are.frame ∙ ap (λ (k : Component). k.h) (frame_component H i) in
+    let v : (component_at f i).v ≡ c.v = ap (λ (g : Frame). (component_at g i).v) are.frame ∙ ap (λ (k : Component). k.v) (frame_component H i) in
+    let hm : h_max f ≡ most_across H = ap h_max are.frame ∙ frame_across H in
+    let vm : v_max f ≡ most_down H = ap v_max are.frame ∙ frame_down H in
+    let across : n.across ≡ most_across H / c.h = are.across ∙ ap (λ k. k / (component_at f i).h) hm ∙ ap (λ k. most_across H / k) h in
+    let down : n.down ≡ most_down H / c.v = are.down ∙ ap (λ k. k / (component_at f i).v) vm ∙ ap (λ k. most_down H / k) v in
+    let made : n.made ≡ rows_made H i = are.made ∙ ap (λ k. div_up H.height k * (component_at f i).v) vm ∙ ap (λ k. div_up H.height (most_down H) * k) v in
+    ap (λ k. block_by image i (record n { across = k }) x y) across
+    ∙ ap (λ k. block_by image i (record n { across = most_across H / c.h; down = k }) x y) down
+    ∙ ap (λ k. block_by image i (record n { across = most_across H / c.h; down = most_down H / c.v; made = k }) x y) made
+    ∙ ap (λ q. quantised_block q (forward_dct (samples_of_block (plane_by image i (most_across H / c.h) (most_down H / c.v) (rows_made H i)) x y))) are.quants
 
 -- THE COMPONENTS of the definitions
 

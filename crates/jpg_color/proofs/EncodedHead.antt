@@ -39,9 +39,6 @@ head_by image progressive gray factors first others =
     let e : Encoding = record { gray = gray; scans = sequential; restart = off; factors = factors; first = first; others = others } in
     record (any_process e image) { process = process_due progressive (any_process e image) }
 
-head_is : (e : Encoding) (image : Image) → encoded_head e image ≡ head_by image (asks_progressive e.scans) e.gray e.factors e.first e.others
-head_is e image = refl
-
 same_head : (d e : Encoding) (image : Image) → asks_progressive d.scans ≡ asks_progressive e.scans → d.gray ≡ e.gray → d.factors ≡ e.factors → d.first ≡ e.first → d.others ≡ e.others
     → encoded_head d image ≡ encoded_head e image
 same_head d e image s g f a b =
@@ -145,9 +142,6 @@ fraction_same H i =
 pub fractions_same : (H : Meaning) → find (fraction_at (picture_frame H).components) (below (length (picture_frame H).components)) ≡ find (has_fraction H) (below (length H.components))
 fractions_same H =
     ap (λ test. find test (below (length (picture_frame H).components))) (fun_ext (fraction_same H)) ∙ ap (λ n. find (has_fraction H) (below n)) (length-map H.components to_frame)
-
-pub fault_of_fraction : (H : Meaning) (i : ℕ) → find (has_fraction H) (below (length H.components)) ≡ Some i → first_some (factors_fault H) (grids_fault H) ≡ Some (FractionalFactors i)
-fault_of_fraction H i e = ap (λ o. first_some (option_map (λ i. FractionalFactors i) o) (grids_fault H)) e
 
 pub fault_of_grids : (H : Meaning) → find (has_fraction H) (below (length H.components)) ≡ None → first_some (factors_fault H) (grids_fault H) ≡ grids_fault H
 fault_of_grids H e = ap (λ o. first_some (option_map (λ i. FractionalFactors i) o) (grids_fault H)) e

@@ -1,40 +1,39 @@
 -- What follows an image's rows is sent part by part.
-use Rattle.std.proofs.Common.{◌≡◌, ◌⊎◌, inl, inr, ℕ, zero, suc, ◌+◌, ◌-◌, ◌<◌, ◌≤◌, min, Bool, true, false, if◌then◌else◌, List, [], ◌∷◌, ◌++◌, length, take, drop, flat_map, slice_index_or, is_some, Ok, Err, refl, sym, ap, ◌∙◌, subst, arith}
+use Rattle.std.proofs.Common.{◌≡◌, ◌⊎◌, inl, inr, ℕ, zero, suc, ◌+◌, ◌-◌, ◌<◌, ◌≤◌, min, Bool, true, false, if◌then◌else◌, List, [], ◌∷◌, ◌++◌, length, take, drop, flat_map, slice_index_or, is_some, Result, Ok, Err, refl, sym, ap, ◌∙◌, subst, arith}
 use Rattle.std.proofs.lemmas.Bool.Decides.{nat_tests}
 use Rattle.std.proofs.lemmas.List.{append-nil, append_assoc, take_more}
 use Rattle.std.proofs.lemmas.Grind.{flat_map-append}
-use Rattle.jpg_base.specs.Desk.{DeskState}
-use Rattle.jpg_pnm_bmp.specs.EndState.{EndState, CanFinish, info_of, next_part, parts_due, is_last, with_part}
+use Rattle.jpg_pnm_bmp.specs.EndState.{EndState, CanFinish, info_of, parts_due, is_last, with_part}
 use Rattle.jpg_pnm_bmp.specs.declared.write.end.Finish.{Finish}
 use Rattle.jpg_pnm_bmp.specs.declared.write.end.Finish.TheVariants.{More, Done}
-use Rattle.jpg_color.specs.DecodeRows.{SendsImage, SendsPart, end_parts, finished}
+use Rattle.jpg_color.specs.DecodeRows.{end_parts, finished, only_stop}
 use Rattle.jpg_color.specs.declared.decode.DecodeStop.{DecodeStop}
-use Rattle.jpg_color.proofs.Sent.{sends_nothing, sends_then, sends_stop, sends_same}
+use Rattle.jpg_color.proofs.Sent.{Sends, TakesPart, Writing, sends_nothing, sends_then, sends_stop, sends_same}
 
 abbrev pub joined : List (List ℕ) → List ℕ
 joined parts = flat_map (λ part. part) parts
 
 -- Some parts of the rest of an image were appended, and more are pending, or there are none at all.
-pub record IsEnding (s0 : DeskState) (e0 : EndState) (out0 : List ℕ) (e : EndState) (out : List ℕ) (s1 : DeskState) : Type 0 where
-  pub can : CanFinish e
-  pub same : e ≡ record e0 { parts = e.parts }
-  pub some : (e.parts < length (parts_due e0)) ⊎ ((parts_due e0 ≡ []) × (e.parts ≡ 0))
-  pub created : s1.output_created ≡ true
-  pub sent : SendsImage s0 out0 (joined (take e.parts (parts_due e0))) (Ok tt) out s1
+pub record IsEnding (v0 v : Writing) : Type 0 where
+  pub can : CanFinish v.end
+  pub same : v.end ≡ record (v0.end) { parts = v.end.parts }
+  pub some : (v.end.parts < length (parts_due v0.end)) ⊎ ((parts_due v0.end ≡ []) × (v.end.parts ≡ 0))
+  pub created : v.out.desk.output_created ≡ true
+  pub sent : Sends v0.out (joined (take v.end.parts (parts_due v0.end))) (Ok tt) v.out
 
-pub starts : (s : DeskState) (e : EndState) (out : List ℕ) → CanFinish e → e.parts ≡ 0 → s.output_created ≡ true → IsEnding s e out e out s
-starts s e out can none created =
+pub starts : {v : Writing} → CanFinish v.end → v.end.parts ≡ 0 → v.out.desk.output_created ≡ true → IsEnding v v
+starts {v} can none created =
     record {
       can = can;
       same = refl;
-      some = begun (parts_due e) refl;
+      some = begun (parts_due v.end) refl;
       created = created;
-      sent = subst (λ n. SendsImage s out (joined (take n (parts_due e))) (Ok tt) out s) (sym none) (sends_nothing s out);
+      sent = subst (λ n. Sends v.out (joined (take n (parts_due v.end))) (Ok tt) v.out) (sym none) sends_nothing;
     }
   where
-    begun : (due : List (List ℕ)) → parts_due e ≡ due → (e.parts < length (parts_due e)) ⊎ ((parts_due e ≡ []) × (e.parts ≡ 0))
+    begun : (due : List (List ℕ)) → parts_due v.end ≡ due → (v.end.parts < length (parts_due v.end)) ⊎ ((parts_due v.end ≡ []) × (v.end.parts ≡ 0))
     begun [] is = inr (is, none)
-    begun (p ∷ ps) is = inl (subst (λ n. n < length (parts_due e)) (sym none) (subst (λ d. 0 < length d) (sym is) (omega arith)))
+    begun (p ∷ ps) is = inl (subst (λ n. n < length (parts_due v.end)) (sym none) (subst (λ d. 0 < length d) (sym is) (omega arith)))
 
 -- all parts are the first ones, the next one, and the remaining ones
 parts_split : (due : List (List ℕ)) (k : ℕ) → (k < length due) ⊎ ((due ≡ []) × (k ≡ 0)) → joined due ≡ joined (take k due) ++ (slice_index_or due k [] ++ joined (drop (suc k) due))
@@ -54,70 +53,63 @@ last_split (p ∷ []) zero le = refl
 last_split (p ∷ q ∷ ps) zero le = absurd (omega (arith, le))
 last_split (p ∷ ps) (suc k) le = last_split ps k (omega (arith, le))
 
-parts_same : (e0 e : EndState) → e ≡ record e0 { parts = e.parts } → parts_due e ≡ parts_due e0
-parts_same e0 e same = ap parts_due same
+parts_same : {v0 v : Writing} → IsEnding v0 v → parts_due v.end ≡ parts_due v0.end
+parts_same h = ap parts_due h.same
 
-answered : (b : Bool) → More ≡ (if b then Done else More) → b ≡ false
-answered false e = refl
-answered true e = absurd (more_or_done e)
-  where
-    is_more : Finish → Type 0
-    is_more More = Unit {0}
-    is_more Done = ⊥
+-- the part that is appended next
+abbrev part_of : Writing → Writing → List ℕ
+part_of v0 v = slice_index_or (parts_due v0.end) v.end.parts []
 
-    more_or_done : More ≡ Done → ⊥
-    more_or_done e = subst is_more e tt
+-- It is sent, or sending stopped.
+one_more : {v0 v v2 : Writing} {r : Result Finish DecodeStop} → IsEnding v0 v → TakesPart v r v2
+    → Sends v0.out (joined (take v.end.parts (parts_due v0.end)) ++ part_of v0 v) (only_stop r) v2.out
+one_more {v = v} h k = sends_then h.sent (sends_same (ap (λ d. slice_index_or d v.end.parts []) (parts_same h)) k.sent)
 
-answered_done : (b : Bool) → Done ≡ (if b then Done else More) → b ≡ true
-answered_done true e = refl
-answered_done false e = absurd (done_or_more e)
-  where
-    is_done : Finish → Type 0
-    is_done Done = Unit {0}
-    is_done More = ⊥
+-- the answer says whether it is the last one
+more_left : (b : Bool) → More ≡ (if b then Done else More) → b ≡ false
+more_left false e = refl
+more_left true e = cc
 
-    done_or_more : Done ≡ More → ⊥
-    done_or_more e = subst is_done e tt
+none_left : (b : Bool) → Done ≡ (if b then Done else More) → b ≡ true
+none_left true e = refl
+none_left false e = cc
 
 -- the same answer in another way
-pub answered_so : (s0 s1 : DeskState) (e e2 : EndState) (old new : List ℕ) (f g : Finish) → f ≡ g → SendsPart s0 e old (Ok f) e2 new s1 → SendsPart s0 e old (Ok g) e2 new s1
-answered_so s0 s1 e e2 old new f g is h = subst (λ (x : Finish). SendsPart s0 e old (Ok x) e2 new s1) is h
+pub answered_so : {v w : Writing} {f g : Finish} → f ≡ g → TakesPart v (Ok f) w → TakesPart v (Ok g) w
+answered_so {v} {w} is h = subst (λ (x : Finish). TakesPart v (Ok x) w) is h
 
-pub part_fails : (s0 s1 s2 : DeskState) (e0 e e2 : EndState) (out0 mid new : List ℕ) (f : DecodeStop) → IsEnding s0 e0 out0 e mid s1 → SendsPart s1 e mid (Err f) e2 new s2 → SendsImage s0 out0 (end_parts e0) (Err f) new s2
-part_fails s0 s1 s2 e0 e e2 out0 mid new f h k =
-    let due = parts_due e0 in
-    let part : List ℕ = slice_index_or due e.parts [] in
-    let more : List ℕ = joined (drop (suc e.parts) due) in
-    let is : next_part e ≡ part = ap (λ d. slice_index_or d e.parts []) (parts_same e0 e h.same) in
-    sends_same s0 s2 out0 new (joined (take e.parts due) ++ (part ++ more)) (joined due) (Err f) (sym (parts_split due e.parts h.some))
-    (sends_then s0 s1 s2 out0 (joined (take e.parts due)) mid (part ++ more) new (Err f) h.sent
-    (sends_stop s1 s2 mid part more new f (sends_same s1 s2 mid new (next_part e) part (Err f) is k.sent)))
+pub part_fails : {v0 v v2 : Writing} {f : DecodeStop} → IsEnding v0 v → TakesPart v (Err f) v2 → Sends v0.out (end_parts v0.end) (Err f) v2.out
+part_fails {v0} {v} h k =
+    let due = parts_due v0.end in
+    let more : List ℕ = joined (drop (suc v.end.parts) due) in
+    sends_same (append_assoc (joined (take v.end.parts due)) (part_of v0 v) more ∙ sym (parts_split due v.end.parts h.some)) (sends_stop more (one_more h k))
 
-pub part_last : (s0 s1 s2 : DeskState) (e0 e e2 : EndState) (out0 mid new : List ℕ) → IsEnding s0 e0 out0 e mid s1 → SendsPart s1 e mid (Ok Done) e2 new s2 → SendsImage s0 out0 (end_parts e0) (Ok tt) new s2
-part_last s0 s1 s2 e0 e e2 out0 mid new h k =
-    let due = parts_due e0 in
-    let part : List ℕ = slice_index_or due e.parts [] in
-    let same = parts_same e0 e h.same in
-    let is : next_part e ≡ part = ap (λ d. slice_index_or d e.parts []) same in
-    let last : is_last e ≡ true = answered_done (is_last e) k.answer in
-    let le : length (parts_due e) ≤ e.parts + 1 = grind (arith, nat_tests, last) in
-    let none : joined (drop (suc e.parts) due) ≡ [] = last_split due e.parts (subst (λ d. length d ≤ e.parts + 1) same le) in
-    sends_same s0 s2 out0 new (joined (take e.parts due) ++ part) (joined due) (Ok tt)
-    (sym (parts_split due e.parts h.some ∙ ap (λ m. joined (take e.parts due) ++ (part ++ m)) none ∙ ap (λ m. joined (take e.parts due) ++ m) (append-nil part)))
-    (sends_then s0 s1 s2 out0 (joined (take e.parts due)) mid part new (Ok tt) h.sent (sends_same s1 s2 mid new (next_part e) part (Ok tt) is k.sent))
+-- the last part
+is_all : {v0 v v2 : Writing} → IsEnding v0 v → TakesPart v (Ok Done) v2 → length (parts_due v.end) ≤ v.end.parts + 1
+is_all {v = v} h k = let last : is_last v.end ≡ true = none_left (is_last v.end) k.answer in grind (arith, nat_tests, last)
+
+pub part_last : {v0 v v2 : Writing} → IsEnding v0 v → TakesPart v (Ok Done) v2 → Sends v0.out (end_parts v0.end) (Ok tt) v2.out
+part_last {v0} {v} h k =
+    let due = parts_due v0.end in
+    let n = v.end.parts in
+    let none : joined (drop (suc n) due) ≡ [] = last_split due n (subst (λ d. length d ≤ n + 1) (parts_same h) (is_all h k)) in
+    let all : joined due ≡ joined (take n due) ++ part_of v0 v =
+    parts_split due n h.some ∙ ap (λ m. joined (take n due) ++ (part_of v0 v ++ m)) none ∙ ap (λ m. joined (take n due) ++ m) (append-nil (part_of v0 v))
+    in
+    sends_same (sym all) (one_more h k)
 
 -- and the image writer is finished with it
-pub part_finished : (s1 s2 : DeskState) (e0 e e2 : EndState) (mid new : List ℕ) → e ≡ record e0 { parts = e.parts } → SendsPart s1 e mid (Ok Done) e2 new s2 → e2 ≡ finished e0
-part_finished s1 s2 e0 e e2 mid new h k =
-    let last : is_last e ≡ true = answered_done (is_last e) k.answer in
-    let le : length (parts_due e) ≤ e.parts + 1 = grind (arith, nat_tests, last) in
-    let all : min (e.parts + 1) (length (parts_due e)) ≡ length (parts_due e) = omega (arith, le) in
-    let few : min (e.parts + 1) (length (parts_due e)) ≡ length (parts_due e0) = all ∙ ap length (parts_same e0 e h) in
-    let now : e2 ≡ with_part e = k.end in
+pub part_finished : {v0 v v2 : Writing} → IsEnding v0 v → TakesPart v (Ok Done) v2 → v2.end ≡ finished v0.end
+part_finished {v0} {v} {v2} h k =
+    let e = v.end in
+    let few : min (e.parts + 1) (length (parts_due e)) ≡ length (parts_due v0.end) =
+    (let all : min (e.parts + 1) (length (parts_due e)) ≡ length (parts_due e) = omega (arith, is_all h k) in all) ∙ ap length (parts_same h)
+    in
+    let now : v2.end ≡ with_part e = k.end in
     now
     ∙ ap (λ (n : ℕ). (let x : EndState = record e { parts = n; done = is_last e } in x)) few
-    ∙ ap (λ (b : Bool). (let x : EndState = record e { parts = length (parts_due e0); done = b } in x)) last
-    ∙ ap (λ (x : EndState). (let y : EndState = record x { parts = length (parts_due e0); done = true } in y)) h
+    ∙ ap (λ (b : Bool). (let x : EndState = record e { parts = length (parts_due v0.end); done = b } in x)) (none_left (is_last e) k.answer)
+    ∙ ap (λ (x : EndState). (let y : EndState = record x { parts = length (parts_due v0.end); done = true } in y)) h.same
 
 -- one more part
 next_taken : (due : List (List ℕ)) (k : ℕ) → k < length due → joined (take k due) ++ slice_index_or due k [] ≡ joined (take (k + 1) due)
@@ -128,33 +120,28 @@ next_taken due k less =
     append_nil_after : (xs ys : List ℕ) → xs ++ (ys ++ []) ≡ xs ++ ys
     append_nil_after xs ys = ap (λ z. xs ++ z) (append-nil ys)
 
-pub record IsNext (e0 e e2 : EndState) : Type 0 where
-  pub parts : e2.parts ≡ e.parts + 1
-  pub less : e.parts + 1 < length (parts_due e0)
+record IsNext (v0 v v2 : Writing) : Type 0 where
+  parts : v2.end.parts ≡ v.end.parts + 1
+  less : v.end.parts + 1 < length (parts_due v0.end)
 
-part_next : (s1 s2 : DeskState) (e0 e e2 : EndState) (mid new : List ℕ) → e ≡ record e0 { parts = e.parts } → SendsPart s1 e mid (Ok More) e2 new s2 → IsNext e0 e e2
-part_next s1 s2 e0 e e2 mid new h k =
-    let same = parts_same e0 e h in
-    let last : is_last e ≡ false = answered (is_last e) k.answer in
-    let more : e.parts + 1 < length (parts_due e) = grind (arith, nat_tests, last) in
-    let is : e2.parts ≡ min (e.parts + 1) (length (parts_due e)) = ap (λ (x : EndState). x.parts) k.end in
-    record { parts = omega (arith, is, more); less = subst (λ d. e.parts + 1 < length d) same more }
+part_next : {v0 v v2 : Writing} → IsEnding v0 v → TakesPart v (Ok More) v2 → IsNext v0 v v2
+part_next {v0} {v} {v2} h k =
+    let last : is_last v.end ≡ false = more_left (is_last v.end) k.answer in
+    let more : v.end.parts + 1 < length (parts_due v.end) = grind (arith, nat_tests, last) in
+    let is : v2.end.parts ≡ min (v.end.parts + 1) (length (parts_due v.end)) = ap (λ (x : EndState). x.parts) k.end in
+    record { parts = omega (arith, is, more); less = subst (λ d. v.end.parts + 1 < length d) (parts_same h) more }
 
-pub fewer : (s1 s2 : DeskState) (e0 e e2 : EndState) (mid new : List ℕ) → e ≡ record e0 { parts = e.parts } → SendsPart s1 e mid (Ok More) e2 new s2
-    → length (parts_due e0) - e2.parts < length (parts_due e0) - e.parts
-fewer s1 s2 e0 e e2 mid new h k =
-    let n : IsNext e0 e e2 = part_next s1 s2 e0 e e2 mid new h k in
+pub fewer : {v0 v v2 : Writing} → IsEnding v0 v → TakesPart v (Ok More) v2 → length (parts_due v0.end) - v2.end.parts < length (parts_due v0.end) - v.end.parts
+fewer {v0} {v} {v2} h k =
+    let n : IsNext v0 v v2 = part_next h k in
     omega (arith, n.parts, n.less)
 
-pub part_more : (s0 s1 s2 : DeskState) (e0 e e2 : EndState) (out0 mid new : List ℕ) → IsEnding s0 e0 out0 e mid s1 → SendsPart s1 e mid (Ok More) e2 new s2 → IsEnding s0 e0 out0 e2 new s2
-part_more s0 s1 s2 e0 e e2 out0 mid new h k =
-    let due = parts_due e0 in
-    let part : List ℕ = slice_index_or due e.parts [] in
-    let same = parts_same e0 e h.same in
-    let is : next_part e ≡ part = ap (λ d. slice_index_or d e.parts []) same in
-    let n : IsNext e0 e e2 = part_next s1 s2 e0 e e2 mid new h.same k in
-    let last : is_last e ≡ false = answered (is_last e) k.answer in
-    let now : e2 ≡ with_part e = k.end in
+pub part_more : {v0 v v2 : Writing} → IsEnding v0 v → TakesPart v (Ok More) v2 → IsEnding v0 v2
+part_more {v0} {v} {v2} h k =
+    let due = parts_due v0.end in
+    let n : IsNext v0 v v2 = part_next h k in
+    let last : is_last v.end ≡ false = more_left (is_last v.end) k.answer in
+    let now : v2.end ≡ with_part v.end = k.end in
     record {
       can = record {
         started = ap (λ (x : EndState). is_some x.info) now ∙ h.can.started;
@@ -164,17 +151,15 @@ part_more s0 s1 s2 e0 e e2 out0 mid new h k =
       same = now ∙ moved now last;
       some = inl (omega (arith, n.parts, n.less));
       created = k.sent.only.output_created ∙ h.created;
-      sent = sends_same s0 s2 out0 new (joined (take e.parts due) ++ part) (joined (take e2.parts due)) (Ok tt)
-          (next_taken due e.parts (omega (arith, n.less)) ∙ ap (λ m. joined (take m due)) (sym n.parts))
-          (sends_then s0 s1 s2 out0 (joined (take e.parts due)) mid part new (Ok tt) h.sent (sends_same s1 s2 mid new (next_part e) part (Ok tt) is k.sent));
+      sent = sends_same (next_taken due v.end.parts (omega (arith, n.less)) ∙ ap (λ m. joined (take m due)) (sym n.parts)) (one_more h k);
     }
   where
-    moved : e2 ≡ with_part e → is_last e ≡ false → with_part e ≡ record e0 { parts = e2.parts }
+    moved : v2.end ≡ with_part v.end → is_last v.end ≡ false → with_part v.end ≡ record (v0.end) { parts = v2.end.parts }
     moved now last =
-        let a : with_part e ≡ record e { parts = e2.parts; done = false } =
-        ap (λ (n : ℕ). (let x : EndState = record e { parts = n; done = is_last e } in x)) (sym (ap (λ (x : EndState). x.parts) now)) ∙ ap (λ (b : Bool). (let x : EndState = record e { parts = e2.parts; done = b } in x)) last
-        in
-        a ∙ ap (λ (x : EndState). (let y : EndState = record x { parts = e2.parts; done = false } in y)) h.same ∙ ap (λ (b : Bool). (let y : EndState = record e0 { parts = e2.parts; done = b } in y)) (sym undone)
-      where
-        undone : e0.done ≡ false
-        undone = sym (ap (λ (x : EndState). x.done) h.same) ∙ h.can.before
+        let e = v.end in
+        let p = v2.end.parts in
+        let undone : v0.end.done ≡ false = sym (ap (λ (x : EndState). x.done) h.same) ∙ h.can.before in
+        ap (λ (n : ℕ). (let x : EndState = record e { parts = n; done = is_last e } in x)) (sym (ap (λ (x : EndState). x.parts) now))
+        ∙ ap (λ (b : Bool). (let x : EndState = record e { parts = p; done = b } in x)) last
+        ∙ ap (λ (x : EndState). (let y : EndState = record x { parts = p; done = false } in y)) h.same
+        ∙ ap (λ (b : Bool). (let y : EndState = record (v0.end) { parts = p; done = b } in y)) (sym undone)

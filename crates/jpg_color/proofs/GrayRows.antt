@@ -6,9 +6,8 @@ use Rattle.std.proofs.Math.Path.{fun_ext}
 use Rattle.std.proofs.lemmas.Bool.{cases_lt}
 use Rattle.std.proofs.lemmas.Grind.{rows}
 use Rattle.std.proofs.lemmas.Nat.{mul-add-lt}
-use Rattle.std.proofs.lemmas.List.{get_or-replicate, get_or_past, get_or-take, length-append, length-drop, length-replicate, length-take-le}
+use Rattle.std.proofs.lemmas.List.{get_or-replicate, get_or_past, length-drop, length-replicate, length-take-le}
 use Rattle.std.proofs.lemmas.List.Elements.{All-weaker}
-use Rattle.std.proofs.lemmas.Slice.{take-put_mid_below}
 use borrow.Rule.Slice.PartMut.{put_mid}
 use Rattle.jpg_spec.specs.Lists.{below, index_of}
 use Rattle.jpg_spec_image.specs.Dct.{column, dequantised, even_sums, inverse_dct, joined_sums, number_at, odd_sums, sample_row}
@@ -27,12 +26,7 @@ use Rattle.jpg_color.specs.PartState.{CanFill, CanFillGray, PartState, filled, g
 use Rattle.jpg_color.specs.Shown.{Display, zero_row}
 use Rattle.jpg_color.proofs.RowsPut.{map_below}
 use Rattle.jpg_color.specs.RowBytes.{PutsRows}
-use Rattle.jpg_color.proofs.PlaneRows.{put_mid_at}
-
-length_put : (a k : ℕ) (xs ys : List ℕ) → a + k ≤ length xs → length ys ≡ k → length (put_mid a k xs ys) ≡ length xs
-length_put a k xs ys fits long =
-    length-append (take a xs) (ys ++ drop k (drop a xs))
-    ∙ omega (arith, fits, long, length-append ys (drop k (drop a xs)), length-take-le a xs (omega (arith, fits)), length-drop k (drop a xs), length-drop a xs)
+use Rattle.jpg_color.proofs.PlaneRows.{put_before, put_long, put_mid_at}
 
 pub gray_put : (line kept count : ℕ) (old part : List ℕ) → (kept + count) * line ≤ length old → part ≡ replicate ((kept + count) * line - kept * line) 128
     → PutsRows line kept count line (λ y x. 128) old (put_mid (kept * line) ((kept + count) * line - kept * line) old part)
@@ -43,7 +37,7 @@ gray_put line kept count old part room is =
     let e : (kept + count) * line ≡ kept * line + count * line = grind arith in
     let low : a ≤ length old = omega (arith, room, e) in
     record {
-      long = length_put a k old part (omega (arith, room, e)) long;
+      long = put_long a k old part (omega (arith, room, e)) long;
       there = λ y x hy hx.
           (let u = y * line + x in
           let n : (kept + y) * line + x ≡ kept * line + u = grind arith in
@@ -53,8 +47,7 @@ gray_put line kept count old part room is =
           ∙ ap (λ l. slice_index l u) is ∙ get_or-replicate k u 128 0 lk);
       above = λ r x hr hx.
           (let lt : r * line + x < a = grind (arith, rows, mul-add-lt r line x kept hr hx) in
-          sym (get_or-take a (put_mid a k old part) (r * line + x) 0 lt) ∙ ap (λ l. slice_index l (r * line + x)) (take-put_mid_below a k old part a (omega arith) low)
-          ∙ get_or-take a old (r * line + x) 0 lt);
+          put_before a k old part (r * line + x) low lt);
     }
 
 -- the part that is filled

@@ -1,5 +1,5 @@
 -- Parts of colours, by halves of the upper halves of products.
-use Rattle.std.proofs.Common.{◌≡◌, ◌/◌, ℤ, pos, negsuc, ◌+ℤ◌, ◌-ℤ◌, ◌*ℤ◌, ◌≤ℤ◌, subst, sym, ◌∙◌, arith}
+use Rattle.std.proofs.Common.{◌≡◌, ◌/◌, ℤ, pos, negsuc, ◌+ℤ◌, ◌-ℤ◌, ◌*ℤ◌, ◌≤ℤ◌, subst, sym, arith}
 use Rattle.std.specs.Int.{int_shr}
 use Rattle.std.proofs.lemmas.Int.{ints}
 
@@ -43,30 +43,29 @@ half_of p u h eu eh =
     let d' : (u +ℤ pos 1) ≤ℤ ((h *ℤ pos 2) +ℤ pos 1) = subst (λ x. (u +ℤ pos 1) ≤ℤ ((x *ℤ pos 2) +ℤ pos 1)) (sym eh) d in
     (omega (arith, ints, a', b', c', d'), omega (arith, ints, a', b', c', d'))
 
--- the difference d, its double t, and what is computed from each on the way
-pub red_is : (d t t' u u' h h' r : ℤ) → t ≡ d *ℤ pos 2 → t' ≡ t → u ≡ int_shr (t' *ℤ pos 26345) 16 → u' ≡ u → h ≡ int_shr (u' +ℤ pos 1) 1 → h' ≡ h → r ≡ d +ℤ h'
+-- the difference d, its double t, and what is computed of them: an upper half u, and its half h
+pub red_is : (d t u h r : ℤ) → t ≡ d *ℤ pos 2 → u ≡ int_shr (t *ℤ pos 26345) 16 → h ≡ int_shr (u +ℤ pos 1) 1 → r ≡ d +ℤ h
     → r ≡ int_shr ((d *ℤ pos 91881) +ℤ pos 32768) 16
-red_is d t t' u u' h h' r et et' eu eu' eh eh' er =
-    let u_is : u' ≡ int_shr (t' *ℤ pos 26345) 16 = eu' ∙ eu in
-    let bounds = half_of (t' *ℤ pos 26345) u' h u_is eh in
+red_is d t u h r et eu eh er =
+    let bounds = half_of (t *ℤ pos 26345) u h eu eh in
     let low = bounds.0 in
     let high = bounds.1 in
-    only_16 ((d *ℤ pos 91881) +ℤ pos 32768) r (omega (arith, ints, low, et, et', eh', er)) (omega (arith, ints, high, et, et', eh', er))
+    only_16 ((d *ℤ pos 91881) +ℤ pos 32768) r (omega (arith, ints, low, et, er)) (omega (arith, ints, high, et, er))
 
-pub blue_is : (d t t' u u' h h' r : ℤ) → t ≡ d *ℤ pos 2 → t' ≡ t → u ≡ int_shr (pos 0 -ℤ (t' *ℤ pos 14942)) 16 → u' ≡ u → h ≡ int_shr (u' +ℤ pos 1) 1 → h' ≡ h → r ≡ t' +ℤ h'
+pub blue_is : (d t u h r : ℤ) → t ≡ d *ℤ pos 2 → u ≡ int_shr (pos 0 -ℤ (t *ℤ pos 14942)) 16 → h ≡ int_shr (u +ℤ pos 1) 1 → r ≡ t +ℤ h
     → r ≡ int_shr ((d *ℤ pos 116130) +ℤ pos 32768) 16
-blue_is d t t' u u' h h' r et et' eu eu' eh eh' er =
-    let u_is : u' ≡ int_shr (pos 0 -ℤ (t' *ℤ pos 14942)) 16 = eu' ∙ eu in
-    let bounds = half_of (pos 0 -ℤ (t' *ℤ pos 14942)) u' h u_is eh in
+blue_is d t u h r et eu eh er =
+    let bounds = half_of (pos 0 -ℤ (t *ℤ pos 14942)) u h eu eh in
     let low = bounds.0 in
     let high = bounds.1 in
-    only_16 ((d *ℤ pos 116130) +ℤ pos 32768) r (omega (arith, ints, low, et, et', eh', er)) (omega (arith, ints, high, et, et', eh', er))
+    only_16 ((d *ℤ pos 116130) +ℤ pos 32768) r (omega (arith, ints, low, et, er)) (omega (arith, ints, high, et, er))
 
-pub green_is : (b r b' r' r'' z z' u u' g : ℤ) → b' ≡ b → r' ≡ r → r'' ≡ r → z ≡ (pos 32768 -ℤ (b' *ℤ pos 22554)) +ℤ (r' *ℤ pos 18734) → z' ≡ z → u ≡ int_shr z' 16 → u' ≡ u → g ≡ u' -ℤ r''
+-- the differences b and r, a sum z of their products, and its upper half u
+pub green_is : (b r z u g : ℤ) → z ≡ (pos 32768 -ℤ (b *ℤ pos 22554)) +ℤ (r *ℤ pos 18734) → u ≡ int_shr z 16 → g ≡ u -ℤ r
     → g ≡ int_shr ((pos 32768 -ℤ (b *ℤ pos 22554)) -ℤ (r *ℤ pos 46802)) 16
-green_is b r b' r' r'' z z' u u' g eb er er' ez ez' eu eu' eg =
-    let l : (int_shr z' 16 *ℤ pos 65536) ≤ℤ z' = low_16 z' in
-    let h : z' ≤ℤ ((int_shr z' 16 *ℤ pos 65536) +ℤ pos 65535) = high_16 z' in
-    let low : (u *ℤ pos 65536) ≤ℤ z' = subst (λ x. (x *ℤ pos 65536) ≤ℤ z') (sym eu) l in
-    let high : z' ≤ℤ ((u *ℤ pos 65536) +ℤ pos 65535) = subst (λ x. z' ≤ℤ ((x *ℤ pos 65536) +ℤ pos 65535)) (sym eu) h in
-    only_16 ((pos 32768 -ℤ (b *ℤ pos 22554)) -ℤ (r *ℤ pos 46802)) g (omega (arith, ints, low, eb, er, er', ez, ez', eu', eg)) (omega (arith, ints, high, eb, er, er', ez, ez', eu', eg))
+green_is b r z u g ez eu eg =
+    let l : (int_shr z 16 *ℤ pos 65536) ≤ℤ z = low_16 z in
+    let h : z ≤ℤ ((int_shr z 16 *ℤ pos 65536) +ℤ pos 65535) = high_16 z in
+    let low : (u *ℤ pos 65536) ≤ℤ z = subst (λ x. (x *ℤ pos 65536) ≤ℤ z) (sym eu) l in
+    let high : z ≤ℤ ((u *ℤ pos 65536) +ℤ pos 65535) = subst (λ x. z ≤ℤ ((x *ℤ pos 65536) +ℤ pos 65535)) (sym eu) h in
+    only_16 ((pos 32768 -ℤ (b *ℤ pos 22554)) -ℤ (r *ℤ pos 46802)) g (omega (arith, ints, low, ez, eg)) (omega (arith, ints, high, ez, eg))

@@ -18,8 +18,9 @@ use Rattle.jpg_spec_image.proofs.Strips.{kept_is, ready_told}
 use Rattle.jpg_coefs.specs.Picture.{Picture, map_of}
 use Rattle.jpg_color.specs.KeptRows.{sample_in, row_in, last_row}
 use Rattle.jpg_color.specs.Shown.{Display, ShownState, IsShowable, StandsForPicture, IsNextRowDue, AreMcuRow, picture_of, parts, all_rows, rows_made_ready, rows_in, held_rows}
+use Rattle.jpg_color.proofs.RowsPut.{map_below}
 use Rattle.jpg_color.proofs.Coverage.{in_frame, whole_ratios, covered, component_is, blocks_across_is}
-use Rattle.jpg_color.proofs.Windows.{count_fits, told_rows, rows_missing, all_some, ready_none, ready_low, ready_more, ready_high}
+use Rattle.jpg_color.proofs.Windows.{count_fits, told_rows, rows_missing, all_some, ready_none, ready_low, ready_more}
 
 -- THE SOURCES of the next row
 
@@ -193,14 +194,6 @@ fresh_stands d blocks held s none =
     nothing rows high = let z : 8 * rows * 0 ≡ 0 = grind arith in omega (arith, z)
 
 -- ONE MORE MCU ROW
-
-pub map_below : {A : Type 0} (f g : ℕ → A) (n : ℕ) → ((k : ℕ) → k < n → f k ≡ g k) → map f (below n) ≡ map g (below n)
-map_below f g zero e = refl
-map_below f g (suc n) e =
-    map-append f (below n) (n ∷ [])
-    ∙ ap (λ ys. ys ++ f n ∷ []) (map_below f g n (λ (k : ℕ) (h : k < n). e k (omega (arith, h))))
-    ∙ ap (λ y. map g (below n) ++ y ∷ []) (e n (omega arith))
-    ∙ sym (map-append g (below n) (n ∷ []))
 
 first_row : (rows : ℕ → List ℕ) (first count : ℕ) → rows first ∷ rows_from rows (suc first) count ≡ rows_from rows first (suc count)
 first_row rows first zero = ap (λ n. rows n ∷ []) (let e : first ≡ first + 0 = omega arith in e)

@@ -1,7 +1,6 @@
 -- MCU rows of a complete picture are decoded until a row of the image is ready.
-use Rattle.std.proofs.Common.{◌≡◌, ℕ, ◌+◌, ◌-◌, ◌<◌, ◌≤◌, ◌*◌, Bool, true, false, ◌==◌, ◌&&◌, nat_lt, if◌then◌else◌, refl, sym, ap, ◌∙◌, subst, arith, length}
+use Rattle.std.proofs.Common.{◌≡◌, ℕ, ◌+◌, ◌<◌, ◌≤◌, ◌*◌, Bool, true, false, ◌==◌, ◌&&◌, nat_lt, if◌then◌else◌, sym, ap, ◌∙◌, subst, arith, length}
 use Rattle.std.proofs.lemmas.Bool.Decides.{nat_tests}
-use Rattle.std.proofs.lemmas.Bool.{eqb-true}
 use Rattle.jpg_spec.specs.Elements.{zeros}
 use Rattle.jpg_spec.specs.Geometry.{bounds, blocks_across, blocks_down, component_at, is_real}
 use Rattle.jpg_spec.specs.Ranges.{AreInRange}
@@ -9,9 +8,9 @@ use Rattle.jpg_coefs.specs.Picture.{Picture as Coefs, map_of}
 use Rattle.jpg_file.specs.declared.read.picture.Picture.{Picture}
 use Rattle.jpg_file.specs.declared.read.strip_head.StripHead.{StripHead}
 use Rattle.jpg_color.specs.Shown.{ShownState, Display, IsFreshRows, StandsForPicture, IsNextRowDue, IsGiven, IsPushed, IsShowable, Advances, all_rows, at_due, parts, rows_made_ready, rows_in, row_length, row_of_blocks}
-use Rattle.jpg_color.specs.PictureRows.{ArePictureRows, RowGoesOn, IsAfter, shown_blocks}
+use Rattle.jpg_color.specs.PictureRows.{ArePictureRows, RowGoesOn, shown_blocks}
 use Rattle.jpg_color.proofs.Coverage.{in_frame}
-use Rattle.jpg_color.proofs.Windows.{ready_end, ready_high}
+use Rattle.jpg_color.proofs.Windows.{ready_high}
 
 -- the same rows were written, and what was decoded still holds
 pub record IsLooking (s0 : ShownState) (q0 : Coefs) (s : ShownState) (q : Coefs) : Type 0 where
@@ -20,9 +19,6 @@ pub record IsLooking (s0 : ShownState) (q0 : Coefs) (s : ShownState) (q : Coefs)
   pub given : s.given ≡ s0.given
   pub coefs : q ≡ q0
   pub rows : ArePictureRows s q
-
-pub looks : (s : ShownState) (q : Coefs) → IsShowable s.display → ArePictureRows s q → IsLooking s q s q
-looks s q shown rows = record { shown = shown; display = refl; given = refl; coefs = refl; rows = rows }
 
 -- MCU rows are missing, if not all were decoded
 pub missing : (s0 s s1 : ShownState) (q0 q : Coefs) → IsLooking s0 q0 s q → Advances s false s1 → (s1.pushed == all_rows s1.display) ≡ false → IsNextRowDue s1
@@ -74,15 +70,6 @@ goes_on s0 s s1 q0 q h g =
       value = g.value (shown_blocks s.display q) h.rows.stands
           ∙ ap (λ (d : Display). row_of_blocks d (shown_blocks d q) s.given) h.display ∙ ap (λ (c : Coefs). row_of_blocks s0.display (shown_blocks s0.display c) s.given) h.coefs
           ∙ ap (λ n. row_of_blocks s0.display (shown_blocks s0.display q0) n) h.given;
-    }
-
-pub is_after : (s0 s s1 : ShownState) (q0 q : Coefs) → IsLooking s0 q0 s q → Advances s false s1 → (s1.pushed == all_rows s1.display) ≡ true → IsAfter (record { strips = s0; coefs = q0 }) (record { strips = s1; coefs = q })
-is_after s0 s s1 q0 q h a whole =
-    let same : s1 ≡ s = a.1 in
-    let is : s.pushed ≡ all_rows s.display = eqb-true s.pushed (all_rows s.display) (subst (λ (x : ShownState). (x.pushed == all_rows x.display) ≡ true) same whole) in
-    record {
-      all = sym h.given ∙ a.0 ∙ ap (λ n. rows_made_ready s.display n) is ∙ ready_end s.display ∙ ap (λ (d : Display). d.frame.height) h.display;
-      display = ap (λ (x : ShownState). x.display) same ∙ h.display;
     }
 
 -- before the first MCU row of a picture that was read

@@ -31,16 +31,26 @@ same_stretch s wide high across down w h a d =
     ∙ ap (λ n. stretch s.wide s.high n down s.smooth) a
     ∙ ap (λ n. stretch s.wide s.high s.across n s.smooth) d
 
-pub stretch_is : (h : StripHead) (smooth : Bool) (i : ℕ) (c : Component) (width height h1 h2 v1 v2 wide high : ℕ) → i < length h.frame.components → c ≡ component_at h.frame i
-    → width ≡ h.frame.width → height ≡ h.frame.height → h1 ≡ h_max h.frame → h2 ≡ h_max h.frame → v1 ≡ v_max h.frame → v2 ≡ v_max h.frame
-    → wide ≡ div_up (width * c.h) h1 → high ≡ div_up (height * c.v) v1 → stretch wide high (h2 / c.h) (v2 / c.v) smooth ≡ stretch_of (meant h) smooth i
-stretch_is h smooth i c width height h1 h2 v1 v2 wide high there ec ew eh e1 e2 e3 e4 is_wide is_high =
+-- the numbers of component i, computed from it and its frame
+pub record AreNumbers (h : StripHead) (i : ℕ) (c : Component) (wide high across down : ℕ) : Type 0 where
+  pub there : i < length h.frame.components
+  pub component : c ≡ component_at h.frame i
+  pub is_wide : wide ≡ div_up (h.frame.width * c.h) (h_max h.frame)
+  pub is_high : high ≡ div_up (h.frame.height * c.v) (v_max h.frame)
+  pub is_across : across ≡ h_max h.frame / c.h
+  pub is_down : down ≡ v_max h.frame / c.v
+
+pub stretch_is : {h : StripHead} {i : ℕ} {c : Component} {wide high across down : ℕ} (smooth : Bool) → AreNumbers h i c wide high across down
+    → stretch wide high across down smooth ≡ stretch_of (meant h) smooth i
+stretch_is {h} {i} {wide = wide} {high} {across} {down} smooth are =
     let d : Display = display_of h smooth smooth in
-    same_stretch (stretch_of (meant h) smooth i) wide high (h2 / c.h) (v2 / c.v)
-    (is_wide ∙ ap (λ n. div_up (n * c.h) h1) ew ∙ ap (λ k. div_up (h.frame.width * k.h) h1) ec ∙ ap (λ n. div_up (h.frame.width * (component_at h.frame i).h) n) e1 ∙ sym (samples_across_is d no_blocks i there))
-    (is_high ∙ ap (λ n. div_up (n * c.v) v1) eh ∙ ap (λ k. div_up (h.frame.height * k.v) v1) ec ∙ ap (λ n. div_up (h.frame.height * (component_at h.frame i).v) n) e3 ∙ sym (samples_down_is d no_blocks i there))
-    (ap (λ n. n / c.h) e2 ∙ ap (λ k. h_max h.frame / k.h) ec ∙ sym (across_is d no_blocks i there))
-    (ap (λ n. n / c.v) e4 ∙ ap (λ k. v_max h.frame / k.v) ec ∙ sym (down_is d no_blocks i there))
+    let f = h.frame in
+    let is = are.component in
+    same_stretch (stretch_of (meant h) smooth i) wide high across down
+    (are.is_wide ∙ ap (λ k. div_up (f.width * k.h) (h_max f)) is ∙ sym (samples_across_is d no_blocks i are.there))
+    (are.is_high ∙ ap (λ k. div_up (f.height * k.v) (v_max f)) is ∙ sym (samples_down_is d no_blocks i are.there))
+    (are.is_across ∙ ap (λ k. h_max f / k.h) is ∙ sym (across_is d no_blocks i are.there))
+    (are.is_down ∙ ap (λ k. v_max f / k.v) is ∙ sym (down_is d no_blocks i are.there))
 
 pub rows_is : (h : StripHead) (i : ℕ) (c : Component) (n rows : ℕ) → i < length h.frame.components → c ≡ component_at h.frame i → n ≡ length h.frame.components
     → rows ≡ (if n == 1 then 1 else c.v) → rows ≡ block_rows (meant h) i
@@ -53,9 +63,6 @@ wide_in s t e rows a = subst (λ k. (1 ≤ k.wide) × (k.wide ≤ 65500)) (sym e
 
 pub few_bytes : (s t : Stretch) → s ≡ t → (rows : ℕ) → AreSizes t rows → s.across * s.wide ≤ 1000000
 few_bytes s t e rows a = subst (λ k. k.across * k.wide ≤ 1000000) (sym e) (let m : t.across * t.wide ≤ 4 * 65500 = mul-le-mul a.across_high a.wide_high in omega (arith, m))
-
-pub rows_fit : (n rows : ℕ) → n ≡ rows → (s : Stretch) → AreSizes s rows → (1 ≤ 8 * n + 1) × (8 * n + 1 ≤ 33)
-rows_fit n rows e s a = subst (λ k. (1 ≤ 8 * k + 1) × (8 * k + 1 ≤ 33)) (sym e) (let high = a.rows_high in (omega arith, omega (arith, high)))
 
 pub measured : (i : ℕ) (s t : Stretch) (n rows : ℕ) (quants : QuantTable) (kept : KeptRows) (line : List ℕ) → s ≡ t → n ≡ rows → AreSizes t rows
     → kept ≡ record { wide = s.wide; room = 8 * n + 1; rows = [] } → length line ≡ s.across * s.wide → IsMeasured (state_of i s n quants kept line)

@@ -10,7 +10,7 @@ use Rattle.jpg_spec.specs.Lists.{below, index_of}
 use Rattle.jpg_spec.specs.Zigzag.{zigzag}
 use Rattle.jpg_spec_image.specs.Dct.{number_at, dequantised}
 use Rattle.jpg_spec.proofs.Rows.{at_below, by_items}
-use Rattle.jpg_dct.proofs.Bounds.{abs_scaled, all_at}
+use Rattle.jpg_dct.proofs.Bounds.{all_at}
 use Rattle.jpg_dct.specs.Natural.{natural, natural_table}
 
 abbrev pub places : List ℕ
@@ -91,9 +91,6 @@ pub given_seen : (block given : List ℤ) (n : ℕ) → n < 64 → given ≡ nat
 given_seen block given n lt e small =
     let few : nat_abs (number_at given n) ≤ 1024 = given_small block given n lt e small in
     to_z-of_z w16 (number_at given n) (fits_signed_from_abs w16 (number_at given n) (omega (arith, few)))
-
-pub small_product : (v : ℤ) (q : ℕ) → nat_abs v ≤ 1024 → q < 65536 → nat_abs (v *ℤ pos q) ≤ 67108864
-small_product v q h l = omega (arith, abs_scaled v q 1024 h, l)
 
 pub place_low : (n : ℕ) → n < 64 → get_or places n 0 < 64
 place_low n lt = ltb-true (get_or places n 0) 64 (All-get_or (λ x. nat_lt x 64 ≡ true) places n 0 lt (AllPass-from_list_all (λ x. nat_lt x 64) places refl))

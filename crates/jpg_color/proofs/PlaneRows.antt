@@ -1,13 +1,13 @@
 -- Rows of a plane, from those of the image.
-use Rattle.std.proofs.Common.{◌≡◌, ℕ, zero, suc, ◌+◌, ◌-◌, ◌*◌, ◌<◌, ◌≤◌, min, List, [], ◌∷◌, ◌++◌, length, take, drop, slice_index, map, refl, sym, ap, ◌∙◌, arith, ⊎_elim}
+use Rattle.std.proofs.Common.{rules, ◌≡◌, ℕ, zero, suc, ◌+◌, ◌-◌, ◌*◌, ◌<◌, ◌≤◌, min, List, [], ◌∷◌, ◌++◌, length, take, drop, slice_index, map, refl, sym, ap, ◌∙◌, arith, ⊎_elim}
 use Rattle.std.specs.Prelude.{sum_by, flat_map}
 use Rattle.std.proofs.lemmas.Grind.{flat_map-append}
 use Rattle.std.proofs.lemmas.Bool.{cases_lt}
 use Rattle.std.proofs.Math.Nat.{mul_comm}
 use Rattle.std.proofs.lemmas.Nat.{row_fits, mul-add-lt}
-use Rattle.std.proofs.lemmas.Slice.{take-put_mid}
+use Rattle.std.proofs.lemmas.Slice.{overwrites, take-put_mid, take-put_mid_below}
 use borrow.Rule.Slice.PartMut.{put_mid}
-use Rattle.std.proofs.lemmas.List.{length-map, get_or-map, get_or-take, get_or-drop, get_or-append_right, ext_get_or, length-take-le}
+use Rattle.std.proofs.lemmas.List.{length-map, get_or-map, get_or-take, get_or-drop, get_or-append_right, length-take-le}
 use Rattle.jpg_spec.specs.Lists.{below}
 use Rattle.jpg_spec_image.specs.Luminance.{to_ycc}
 use Rattle.jpg_spec_image.specs.Downsampling.{edge_repeated, in_rows, mean_of, downsampled, down_rows}
@@ -21,6 +21,7 @@ use Rattle.jpg_sample.proofs.Sums.{sum_alike}
 use Rattle.jpg_color.specs.ColourRows.{numbers_of_pixel, row_component}
 use Rattle.jpg_color.specs.PlaneRows.{row_of, plane_of, narrow_plane, lower_row, downsampled_row, HasSamples, HasPlaneRows}
 use Rattle.jpg_color.specs.declared.encode.rows.ImagePlane.{ImagePlane}
+use Rattle.jpg_color.proofs.RowsPut.{map_below}
 
 -- the mean of samples that are alike
 pub downsampled_alike : (across down x y z : ℕ) (one other : ℕ → ℕ → ℕ) → ((u v : ℕ) → u < across → v < down → one (across * x + u) (down * y + v) ≡ other (across * x + u) (down * z + v))
@@ -104,6 +105,13 @@ put_mid_at a k xs ys u low lu =
     sym (get_or-take (a + length ys) (put_mid a k xs ys) (a + u) 0 (omega (arith, lu)))
     ∙ ap (λ l. slice_index l (a + u)) t ∙ get_or-append_right (take a xs) ys a (a + u) 0 l (omega arith) ∙ ap (slice_index ys) z
 
+pub put_before : (a n : ℕ) (xs ys : List ℕ) (k : ℕ) → a ≤ length xs → k < a → slice_index (put_mid a n xs ys) k ≡ slice_index xs k
+put_before a n xs ys k low lk =
+    sym (get_or-take a (put_mid a n xs ys) k 0 lk) ∙ ap (λ l. slice_index l k) (take-put_mid_below a n xs ys a (omega arith) low) ∙ get_or-take a xs k 0 lk
+
+pub put_long : (a n : ℕ) (xs ys : List ℕ) → a + n ≤ length xs → length ys ≡ n → length (put_mid a n xs ys) ≡ length xs
+put_long a n xs ys room long = search (rules, overwrites)
+
 -- a sample of a row of known length
 pub sample_at : (info : ImageInfo) (samples out row : List ℕ) (i p u n : ℕ) → out ≡ row_component info.kind row i n → length out ≡ info.width → row ≡ row_of info samples (min p (info.height - 1)) → u < info.width
     → slice_index out u ≡ plane_of info samples i u p
@@ -112,18 +120,19 @@ sample_at info samples out row i p u n eo long er lu =
     let en : n ≡ info.width = sym (length_below n) ∙ sym (length-map (below n) (pixel_component info.kind row i)) ∙ sym (ap length eo) ∙ long in
     sample_is info samples out row i p u n eo en er lu
 
-pub rows_more : (info : ImageInfo) (samples old new : List ℕ) (i down y r : ℕ)
-    → ((k u : ℕ) → k < r → u < info.width → slice_index old (k * info.width + u) ≡ plane_of info samples i u (down * y + k))
-    → ((u : ℕ) → u < info.width → slice_index new (r * info.width + u) ≡ plane_of info samples i u (down * y + r))
-    → ((k : ℕ) → k < r * info.width → slice_index new k ≡ slice_index old k)
-    → (k u : ℕ) → k < r + 1 → u < info.width → slice_index new (k * info.width + u) ≡ plane_of info samples i u (down * y + k)
-rows_more info samples old new i down y r are here before k u lk lu =
+-- one more row is put, and those above it remain
+pub rows_more : (plane : ℕ → ℕ → ℕ) (old new : List ℕ) (wide base r : ℕ)
+    → ((k u : ℕ) → k < r → u < wide → slice_index old (k * wide + u) ≡ plane u (base + k))
+    → ((u : ℕ) → u < wide → slice_index new (r * wide + u) ≡ plane u (base + r))
+    → ((k : ℕ) → k < r * wide → slice_index new k ≡ slice_index old k)
+    → (k u : ℕ) → k < r + 1 → u < wide → slice_index new (k * wide + u) ≡ plane u (base + k)
+rows_more plane old new wide base r are here before k u lk lu =
     ⊎_elim
-    (λ (a : k < r). (let m : k * info.width + u < info.width * r = mul-add-lt k info.width u r a lu in
-    let c : info.width * r ≡ r * info.width = mul_comm info.width r in
-    before (k * info.width + u) (omega (arith, m, c)) ∙ are k u a lu))
+    (λ (a : k < r). (let m : k * wide + u < wide * r = mul-add-lt k wide u r a lu in
+    let c : wide * r ≡ r * wide = mul_comm wide r in
+    before (k * wide + u) (omega (arith, m, c)) ∙ are k u a lu))
     (λ (b : r ≤ k). (let e : k ≡ r = omega (arith, b, lk) in
-    ap (λ n. slice_index new (n * info.width + u)) e ∙ here u lu ∙ ap (λ n. plane_of info samples i u (down * y + n)) (sym e)))
+    ap (λ n. slice_index new (n * wide + u)) e ∙ here u lu ∙ ap (λ n. plane u (base + n)) (sym e)))
     (cases_lt k r)
 
 -- EIGHT ROWS, and their blocks
@@ -136,26 +145,6 @@ placed p out made y row wide u n eo long er lu =
     let en : n ≡ wide = sym (length_below n) ∙ sym (length-map (below n) f) ∙ sym (ap length eo) ∙ long in
     ap (λ l. slice_index l u) eo ∙ get_or-map f (below n) u 0 0 (omega (arith, length_below n, en, lu)) ∙ ap f (at_below n u (omega (arith, en, lu)))
     ∙ ap (λ r. narrow_plane p u r) er
-
-pub eight_more : (plane : ℕ → ℕ → ℕ) (old new : List ℕ) (wide y r : ℕ)
-    → ((k u : ℕ) → k < r → u < wide → slice_index old (k * wide + u) ≡ plane u (8 * y + k))
-    → ((u : ℕ) → u < wide → slice_index new (r * wide + u) ≡ plane u (8 * y + r))
-    → ((k : ℕ) → k < r * wide → slice_index new k ≡ slice_index old k)
-    → (k u : ℕ) → k < r + 1 → u < wide → slice_index new (k * wide + u) ≡ plane u (8 * y + k)
-eight_more plane old new wide y r are here before k u lk lu =
-    ⊎_elim
-    (λ (a : k < r). (let m : k * wide + u < wide * r = mul-add-lt k wide u r a lu in
-    let c : wide * r ≡ r * wide = mul_comm wide r in
-    before (k * wide + u) (omega (arith, m, c)) ∙ are k u a lu))
-    (λ (b : r ≤ k). (let e : k ≡ r = omega (arith, b, lk) in
-    ap (λ n. slice_index new (n * wide + u)) e ∙ here u lu ∙ ap (λ n. plane u (8 * y + n)) (sym e)))
-    (cases_lt k r)
-
-map_below : (f g : ℕ → ℕ) (n : ℕ) → ((k : ℕ) → k < n → f k ≡ g k) → map f (below n) ≡ map g (below n)
-map_below f g n same =
-    ext_get_or 0 (map f (below n)) (map g (below n)) (length-map (below n) f ∙ sym (length-map (below n) g))
-    (λ i h. (let l : i < n = omega (arith, h, length-map (below n) f, length_below n) in
-    get_or-map f (below n) i 0 0 (omega (arith, length_below n, l)) ∙ ap f (at_below n i l) ∙ same i l ∙ sym (get_or-map g (below n) i 0 0 (omega (arith, length_below n, l)) ∙ ap g (at_below n i l))))
 
 flat_below : (f g : ℕ → List ℕ) (n : ℕ) → ((k : ℕ) → k < n → f k ≡ g k) → flat_map f (below n) ≡ flat_map g (below n)
 flat_below f g zero same = refl

@@ -1,42 +1,37 @@
 -- Windows: rows of an image that are put, and those that rows of a plane are made of.
-use Rattle.std.proofs.Common.{rules, ◌≡◌, ℕ, ◌+◌, ◌-◌, ◌*◌, ◌<◌, ◌≤◌, min, List, length, take, drop, slice_index, map, sym, ap, ◌∙◌, arith}
+use Rattle.std.proofs.Common.{◌≡◌, ℕ, ◌+◌, ◌-◌, ◌*◌, ◌<◌, ◌≤◌, min, List, length, take, drop, slice_index, map, sym, ap, ◌∙◌, arith}
 use Rattle.std.proofs.lemmas.Nat.{mul-le, mul-add-lt}
 use Rattle.std.proofs.Math.Nat.{mul_comm}
-use Rattle.std.proofs.lemmas.Slice.{take-put_mid_below, overwrites}
 use borrow.Rule.Slice.PartMut.{put_mid}
 use Rattle.std.proofs.lemmas.List.{length-map, length-drop, length-take-le, get_or-take, get_or-drop}
 use Rattle.jpg_spec.specs.Lists.{below}
 use Rattle.jpg_spec_encode.specs.Encoded.{pixel_component}
+use Rattle.jpg_spec_image.specs.Images.{Image}
 use Rattle.jpg_spec_image.specs.declared.image.ImageInfo.{ImageInfo}
 use Rattle.jpg_spec_image.specs.declared.image.ImageKind.{ImageKind}
 use Rattle.jpg_spec_image.specs.declared.image.ImageKind.TheVariants.{Rgb}
 use Rattle.jpg_spec.proofs.Common.{length_below}
-use Rattle.jpg_color.specs.PlaneRows.{row_of, plane_of, AreUnder, HasPlaneRows, IsUnder, PutsRow}
+use Rattle.jpg_color.specs.ColourRows.{component_row}
+use Rattle.jpg_color.specs.PlaneRows.{row_of, plane_of, AreUnder, HasPlaneRows, IsUnder, IsWindow, PutsRow}
 use Rattle.jpg_color.specs.declared.encode.rows.ImagePlane.{ImagePlane}
 use Rattle.jpg_color.specs.declared.encode.rows.Window.{Window}
-use Rattle.jpg_color.proofs.PlaneRows.{put_mid_at, rows_more, sample_is}
+use Rattle.jpg_color.proofs.PlaneRows.{put_before, put_long, put_mid_at, rows_more, sample_is}
 
 -- A ROW that is put among others
 
-put_before : (a n : ℕ) (xs ys : List ℕ) (k : ℕ) → a ≤ length xs → k < a → slice_index (put_mid a n xs ys) k ≡ slice_index xs k
-put_before a n xs ys k low lk =
-    sym (get_or-take a (put_mid a n xs ys) k 0 lk) ∙ ap (λ l. slice_index l k) (take-put_mid_below a n xs ys a (omega arith) low) ∙ get_or-take a xs k 0 lk
-
-put_long : (a n : ℕ) (xs ys : List ℕ) → a + n ≤ length xs → length ys ≡ n → length (put_mid a n xs ys) ≡ length xs
-put_long a n xs ys room long = search (rules, overwrites)
-
-pub puts_row : (info : ImageInfo) (samples old out row : List ℕ) (i p r n : ℕ) → info.kind ≡ Rgb → out ≡ map (pixel_component Rgb row i) (below n) → length out ≡ info.width
-    → row ≡ row_of info samples (min p (info.height - 1)) → r * info.width + info.width ≤ length old
-    → PutsRow info samples i p r old (put_mid (r * info.width) (r * info.width + info.width - r * info.width) old out)
-puts_row info samples old out row i p r n rgb eo long er room =
-    let low : r * info.width ≤ length old = omega (arith, room) in
-    let k : r * info.width + info.width - r * info.width ≡ info.width = omega arith in
-    let en : n ≡ info.width = sym (length_below n) ∙ sym (length-map (below n) (pixel_component Rgb row i)) ∙ sym (ap length eo) ∙ long in
-    let of : out ≡ map (pixel_component info.kind row i) (below n) = eo ∙ ap (λ (t : ImageKind). map (pixel_component t row i) (below n)) (sym rgb) in
+pub puts_row : {image : Image} {old out row : List ℕ} {i p r : ℕ} (n : ℕ) → image.info.kind ≡ Rgb → out ≡ component_row row i n
+    → length out ≡ image.info.width → row ≡ row_of image.info image.samples (min p (image.info.height - 1)) → r * image.info.width + image.info.width ≤ length old
+    → PutsRow image.info image.samples i p r old (put_mid (r * image.info.width) (r * image.info.width + image.info.width - r * image.info.width) old out)
+puts_row {image} {old} {out} {row} {i} {p} {r} n rgb eo long er room =
+    let w = image.info.width in
+    let low : r * w ≤ length old = omega (arith, room) in
+    let k : r * w + w - r * w ≡ w = omega arith in
+    let en : n ≡ w = sym (length_below n) ∙ sym (length-map (below n) (pixel_component Rgb row i)) ∙ sym (ap length eo) ∙ long in
+    let of : out ≡ map (pixel_component image.info.kind row i) (below n) = eo ∙ ap (λ (t : ImageKind). map (pixel_component t row i) (below n)) (sym rgb) in
     record {
-      long = put_long (r * info.width) (r * info.width + info.width - r * info.width) old out (omega (arith, room, k)) (long ∙ sym k);
-      here = λ u lu. put_mid_at (r * info.width) _ old out u low (omega (arith, long, lu)) ∙ sample_is info samples out row i p u n of en er lu;
-      before = λ j lj. put_before (r * info.width) _ old out j low lj;
+      long = put_long (r * w) (r * w + w - r * w) old out (omega (arith, room, k)) (long ∙ sym k);
+      here = λ u lu. put_mid_at (r * w) _ old out u low (omega (arith, long, lu)) ∙ sample_is image.info image.samples out row i p u n of en er lu;
+      before = λ j lj. put_before (r * w) _ old out j low lj;
     }
 
 -- the first rows are there, and the length is the same
@@ -44,32 +39,44 @@ abbrev pub HasFirstRows : ImageInfo → List ℕ → ℕ → ℕ → ℕ → ℕ
 HasFirstRows info samples i down y r old new =
     (length new ≡ length old) × ((k u : ℕ) → k < r → u < info.width → slice_index new (k * info.width + u) ≡ plane_of info samples i u (down * y + k))
 
-pub first_rows_more : (info : ImageInfo) (samples : List ℕ) (i down y r : ℕ) (first old new : List ℕ) → HasFirstRows info samples i down y r first old → PutsRow info samples i (down * y + r) r old new
-    → HasFirstRows info samples i down y (r + 1) first new
-first_rows_more info samples i down y r first old new has puts = (puts.long ∙ has.0, rows_more info samples old new i down y r has.1 puts.here puts.before)
+pub first_rows_more : {image : Image} {i : ℕ} (down y : ℕ) {r : ℕ} (first : List ℕ) {old new : List ℕ} → HasFirstRows image.info image.samples i down y r first old
+    → PutsRow image.info image.samples i (down * y + r) r old new → HasFirstRows image.info image.samples i down y (r + 1) first new
+first_rows_more {image} {i} down y {r} first {old} {new} has puts =
+    (puts.long ∙ has.0, rows_more (plane_of image.info image.samples i) old new image.info.width (down * y) r has.1 puts.here puts.before)
 
 -- THE ROWS UNDER ONE
 
-pub under_fits : (down y base lines width long : ℕ) → base ≤ down * y → down * y + down ≤ base + lines → long ≡ lines * width → (down * y - base) * width + down * width ≤ long
-under_fits down y base lines width long low high all =
-    let m : (down * y - base + down) * width ≤ lines * width = mul-le (down * y - base + down) width lines width (omega (arith, low, high)) (omega arith) in
-    let e : (down * y - base + down) * width ≡ (down * y - base) * width + down * width = grind arith in
-    omega (arith, m, e, all)
+pub under_fits : {p : ImagePlane} {w : Window} {y : ℕ} → IsWindow p w → IsUnder p w y
+    → (p.ratio.down * y - w.lines * w.at) * p.info.now.width + p.ratio.down * p.info.now.width ≤ length w.rows.now
+under_fits {p} {w} {y} is under =
+    let d = p.ratio.down in
+    let k = p.info.now.width in
+    let from : ℕ = d * y - w.lines * w.at in
+    let m : (from + d) * k ≤ w.lines * k = mul-le (from + d) k w.lines k (omega (arith, under.first, under.last)) (omega arith) in
+    let e : (from + d) * k ≡ from * k + d * k = grind arith in
+    omega (arith, m, e, is.long)
 
-pub under_long : (rows piece : List ℕ) (from count : ℕ) → from + count ≤ length rows → piece ≡ take count (drop from rows) → length piece ≡ count
-under_long rows piece from count fits e = ap length e ∙ length-take-le count (drop from rows) (omega (arith, fits, length-drop from rows))
+pub under_long : {p : ImagePlane} {w : Window} {y : ℕ} {piece : List ℕ} → IsWindow p w → IsUnder p w y
+    → piece ≡ take (p.ratio.down * p.info.now.width) (drop ((p.ratio.down * y - w.lines * w.at) * p.info.now.width) w.rows.now)
+    → length piece ≡ p.ratio.down * p.info.now.width
+under_long {p} {w} {y} is under e =
+    let from = (p.ratio.down * y - w.lines * w.at) * p.info.now.width in
+    ap length e ∙ length-take-le (p.ratio.down * p.info.now.width) (drop from w.rows.now) (omega (arith, under_fits is under, length-drop from w.rows.now))
 
-pub under_has : (info : ImageInfo) (samples rows piece : List ℕ) (i lines at down y : ℕ) → HasPlaneRows info samples i lines at rows → lines * at ≤ down * y → down * y + down ≤ lines * at + lines
-    → piece ≡ take (down * info.width) (drop ((down * y - lines * at) * info.width) rows) → HasPlaneRows info samples i down y piece
-under_has info samples rows piece i lines at down y has low high e r u lr lu =
-    let w = info.width in
-    let first : ℕ = down * y - lines * at in
-    let m : r * w + u < w * down = mul-add-lt r w u down lr lu in
-    let c : w * down ≡ down * w = mul_comm w down in
-    let j : first * w + (r * w + u) ≡ (first + r) * w + u = grind arith in
-    let p : lines * at + (first + r) ≡ down * y + r = omega (arith, low) in
-    ap (λ l. slice_index l (r * w + u)) e ∙ get_or-take (down * w) (drop (first * w) rows) (r * w + u) 0 (omega (arith, m, c)) ∙ get_or-drop (first * w) rows (r * w + u) 0 ∙ ap (slice_index rows) j
-    ∙ has (first + r) u (omega (arith, low, high, lr)) lu ∙ ap (plane_of info samples i u) p
+pub under_has : {p : ImagePlane} {w : Window} {y : ℕ} {piece : List ℕ} → IsWindow p w → IsUnder p w y
+    → piece ≡ take (p.ratio.down * p.info.now.width) (drop ((p.ratio.down * y - w.lines * w.at) * p.info.now.width) w.rows.now)
+    → HasPlaneRows p.info.now p.samples.now p.component p.ratio.down y piece
+under_has {p} {w} {y} is under e r u lr lu =
+    let d = p.ratio.down in
+    let k = p.info.now.width in
+    let first : ℕ = d * y - w.lines * w.at in
+    let m : r * k + u < k * d = mul-add-lt r k u d lr lu in
+    let c : k * d ≡ d * k = mul_comm k d in
+    let j : first * k + (r * k + u) ≡ (first + r) * k + u = grind arith in
+    let at : w.lines * w.at + (first + r) ≡ d * y + r = omega (arith, under.first) in
+    ap (λ l. slice_index l (r * k + u)) e ∙ get_or-take (d * k) (drop (first * k) w.rows.now) (r * k + u) 0 (omega (arith, m, c))
+    ∙ get_or-drop (first * k) w.rows.now (r * k + u) 0 ∙ ap (slice_index w.rows.now) j
+    ∙ is.rows (first + r) u (omega (arith, under.first, under.last, lr)) lu ∙ ap (plane_of p.info.now p.samples.now p.component u) at
 
 -- under each of eight
 pub eight_under : (p : ImagePlane) (w : Window) (made y v : ℕ) → AreUnder p w made y → v < 8 → IsUnder p w (min (8 * y + v) (made - 1))

@@ -1,29 +1,19 @@
--- The length of rows of the image, and the number of pixels that a frame may have.
-use Rattle.std.proofs.Common.{◌≡◌, ◌⊎◌, inl, inr, ℕ, zero, suc, ◌+◌, ◌*◌, ◌<◌, ◌≤◌, max, Bool, true, false, ◌&&◌, ◌==◌, if◌then◌else◌, List, [], ◌∷◌, length, map, subst, refl, sym, ap, ◌∙◌, arith, All}
-use Rattle.std.specs.Prelude.{flat_map, zip, replicate, sum_by, nat_lt}
+-- Planes are wide enough for the image, and the number of pixels that a frame may have.
+use Rattle.std.proofs.Common.{◌≡◌, ◌⊎◌, inl, inr, ℕ, zero, suc, ◌+◌, ◌*◌, ◌<◌, ◌≤◌, max, List, [], ◌∷◌, map, subst, refl, sym, ap, ◌∙◌, arith, All}
+use Rattle.std.specs.Prelude.{sum_by}
 use Rattle.std.proofs.lemmas.Nat.{mul-le}
 use Rattle.std.proofs.Math.Nat.{mul-le-mul_right}
 use Rattle.std.proofs.lemmas.Bool.{cases_lt}
-use Rattle.std.proofs.lemmas.List.{length-map, length-append, length-replicate, length-take-le}
 use Rattle.std.proofs.lemmas.List.Elements.{All-head, All-tail}
 use Rattle.std.proofs.lemmas.List.Sums.{sum_by-cons}
-use Rattle.jpg_spec.specs.Lists.{below}
 use Rattle.jpg_spec.specs.Geometry.{Frame, greatest, h_max, v_max, component_at, mcus_across, mcus_down}
 use Rattle.jpg_spec.specs.FrameHeader.{HasFactors, IsFrame}
 use Rattle.jpg_spec.specs.Scan.{Blocks}
-use Rattle.jpg_spec.specs.Meaning.{Meaning}
-use Rattle.jpg_spec_image.specs.Upsampling.{Stretch, is_smoothed, has_far_rows, near_row, far_row, up_row, up_rows2, repeat_row, pair_of, pair_of2, upsampled_row}
-use Rattle.jpg_spec_image.specs.Pixels.{samples_across, plane, plane_row, stretch_of, upsampled, shows_gray, is_colour_out, colour_row}
-use Rattle.jpg_spec_image.specs.RedGreenBlue.{to_rgb, rgb_row, interleaved_row}
-use Rattle.jpg_spec.specs.declared.frame.Colour.{Colour}
-use Rattle.jpg_spec.specs.declared.frame.Colour.TheVariants.{Gray, YCbCr, Rgb, Cmyk, Ycck, Unknown}
+use Rattle.jpg_spec_image.specs.Pixels.{samples_across, stretch_of}
 use Rattle.jpg_spec.specs.declared.frame.Component.{Component}
-use Rattle.jpg_spec.proofs.Common.{length_below, both, same_of, clash}
 use Rattle.jpg_base.proofs.Grids.{across_low, across_high, down_low, down_high}
-use Rattle.jpg_color.specs.Shown.{Display, IsShowable, picture_of, parts, row_of_blocks, row_length}
-use Rattle.jpg_color.proofs.Coverage.{in_frame, factors_at, whole_ratios, samples_across_is, parts_some, tall_enough, up_covers, colour_in}
-
--- ROWS OF SAMPLES, UPSAMPLED
+use Rattle.jpg_color.specs.Shown.{Display, IsShowable, picture_of, parts}
+use Rattle.jpg_color.proofs.Coverage.{in_frame, factors_at, whole_ratios, samples_across_is, tall_enough, up_covers}
 
 pub wide_enough : (d : Display) (blocks : Blocks) (i : ℕ) → IsShowable d → i < parts d
     → d.frame.width ≤ samples_across (picture_of d blocks) i * (stretch_of (picture_of d blocks) d.smooth i).across
@@ -35,103 +25,6 @@ wide_enough d blocks i s h =
     let pos = across_low d.frame.components s.frame.factors s.frame.count_low in
     subst (λ n. d.frame.width ≤ n * st.across) (sym (samples_across_is d blocks i there))
     (tall_enough d.frame.width (component_at d.frame i).h (h_max d.frame) st.across c.h_low pos r.across)
-
-pieces_long : {A : Type 0} (f : A → List ℕ) (n : ℕ) → ((x : A) → length (f x) ≡ n) → (xs : List A) → length (flat_map f xs) ≡ n * length xs
-pieces_long f n e [] = (let z : n * 0 ≡ 0 = grind arith in sym z)
-pieces_long f n e (x ∷ xs) =
-    let a = length-append (f x) (flat_map f xs) in
-    let b = pieces_long f n e xs in
-    let c = e x in
-    let p : n * suc (length xs) ≡ n + n * length xs = grind arith in
-    a ∙ ap (λ k. k + length (flat_map f xs)) c ∙ ap (λ k. n + k) b ∙ sym p
-
-pub long_up_row : (row : List ℕ) → length (up_row row) ≡ 2 * length row
-unfolding up_row
-long_up_row row = pieces_long (pair_of row) 2 (λ (i : ℕ). refl) (below (length row)) ∙ ap (λ n. 2 * n) (length_below (length row))
-
-pub long_up_rows2 : (near far : List ℕ) → length (up_rows2 near far) ≡ 2 * length near
-unfolding up_rows2
-long_up_rows2 near far = pieces_long (pair_of2 near far) 2 (λ (i : ℕ). refl) (below (length near)) ∙ ap (λ n. 2 * n) (length_below (length near))
-
-pub long_repeat_row : (times : ℕ) (row : List ℕ) → length (repeat_row times row) ≡ times * length row
-unfolding repeat_row
-long_repeat_row times row = pieces_long (λ s. replicate times s) times (λ (s : ℕ). length-replicate times s) row
-
-pub long_plane_row : (M : Meaning) (i y : ℕ) → length (plane_row M i y) ≡ samples_across M i
-long_plane_row M i y = length-map (below (samples_across M i)) (λ x. plane M i x y) ∙ length_below (samples_across M i)
-
-long_stretched : (far smoothed : Bool) (across wide : ℕ) (near other : List ℕ) → length near ≡ wide → (far ≡ true → across ≡ 2) → (smoothed ≡ true → across ≡ 2)
-    → length (if far then up_rows2 near other else if smoothed then up_row near else repeat_row across near) ≡ across * wide
-long_stretched true smoothed across wide near other long two one = long_up_rows2 near other ∙ ap (λ n. 2 * n) long ∙ ap (λ k. k * wide) (sym (two refl))
-long_stretched false true across wide near other long two one = long_up_row near ∙ ap (λ n. 2 * n) long ∙ ap (λ k. k * wide) (sym (one refl))
-long_stretched false false across wide near other long two one = long_repeat_row across near ∙ ap (λ n. across * n) long
-
-two_across : (s : Stretch) → is_smoothed s ≡ true → s.across ≡ 2
-two_across s e =
-    let b = both s.smooth (nat_lt 2 s.wide && s.across == 2) e in
-    let c = both (nat_lt 2 s.wide) (s.across == 2) b.1 in
-    same_of s.across 2 c.1
-
-pub long_upsampled_row : (s : Stretch) (rows : ℕ → List ℕ) (y : ℕ) → length (rows (near_row s y)) ≡ s.wide → length (upsampled_row s rows y) ≡ s.across * s.wide
-long_upsampled_row s rows y long =
-    long_stretched (has_far_rows s) (is_smoothed s && s.down == 1) s.across s.wide (rows (near_row s y)) (rows (far_row s y)) long
-    (λ (e : has_far_rows s ≡ true). (let b = both (is_smoothed s) (s.down == 2) e in two_across s b.0))
-    (λ (e : (is_smoothed s && s.down == 1) ≡ true). (let b = both (is_smoothed s) (s.down == 1) e in two_across s b.0))
-
-pub long_upsampled : (d : Display) (blocks : Blocks) (i y : ℕ) → IsShowable d → i < parts d → length (upsampled (picture_of d blocks) d.smooth i y) ≡ d.frame.width
-long_upsampled d blocks i y s h =
-    let M = picture_of d blocks in
-    let st = stretch_of M d.smooth i in
-    let long : length (upsampled_row st (plane_row M i) y) ≡ st.across * st.wide = long_upsampled_row st (plane_row M i) y (long_plane_row M i (near_row st y)) in
-    let turned : st.wide * st.across ≡ st.across * st.wide = grind arith in
-    length-take-le d.frame.width (upsampled_row st (plane_row M i) y)
-    (subst (λ n. d.frame.width ≤ n) (sym long) (subst (λ n. d.frame.width ≤ n) turned (wide_enough d blocks i s h)))
-
--- ROWS OF COLOURS
-
-zip_long : {A B : Type 0} (xs : List A) (ys : List B) (n : ℕ) → length xs ≡ n → length ys ≡ n → length (zip xs ys) ≡ n
-zip_long [] [] n a b = a
-zip_long [] (y ∷ ys) zero a b = refl
-zip_long [] (y ∷ ys) (suc n) a b = absurd (omega (arith, a))
-zip_long (x ∷ xs) [] n a b = absurd (omega (arith, a, b))
-zip_long (x ∷ xs) (y ∷ ys) zero a b = absurd (omega (arith, a))
-zip_long (x ∷ xs) (y ∷ ys) (suc n) a b = ap suc (zip_long xs ys n (omega (arith, a)) (omega (arith, b)))
-
-three_long : (r g b : ℕ) → length (to_rgb r g b) ≡ 3
-unfolding to_rgb
-three_long r g b = refl
-
-pub long_rgb : (a b c : List ℕ) (n : ℕ) → length a ≡ n → length b ≡ n → length c ≡ n → length (rgb_row a b c) ≡ 3 * n
-long_rgb a b c n ea eb ec =
-    pieces_long (λ (p : ℕ × (ℕ × ℕ)). to_rgb p.0 p.1.0 p.1.1) 3 (λ (p : ℕ × (ℕ × ℕ)). three_long p.0 p.1.0 p.1.1) (zip a (zip b c))
-    ∙ ap (λ k. 3 * k) (zip_long a (zip b c) n ea (zip_long b c n eb ec))
-
-pub long_interleaved : (a b c : List ℕ) (n : ℕ) → length a ≡ n → length b ≡ n → length c ≡ n → length (interleaved_row a b c) ≡ 3 * n
-long_interleaved a b c n ea eb ec =
-    pieces_long (λ (p : ℕ × (ℕ × ℕ)). p.0 ∷ p.1.0 ∷ p.1.1 ∷ []) 3 (λ (p : ℕ × (ℕ × ℕ)). refl) (zip a (zip b c))
-    ∙ ap (λ k. 3 * k) (zip_long a (zip b c) n ea (zip_long b c n eb ec))
-
-pub long_coloured : (colour : Colour) (gray : Bool) (a b c : List ℕ) (n : ℕ) → is_colour_out colour gray ≡ false → length a ≡ n
-    → (shows_gray colour gray ≡ false → length b ≡ n) → (shows_gray colour gray ≡ false → length c ≡ n)
-    → length (if shows_gray colour gray then a else colour_row colour a b c) ≡ (if shows_gray colour gray then n else 3 * n)
-long_coloured Gray gray a b c n out ea eb ec = ea
-long_coloured YCbCr true a b c n out ea eb ec = ea
-long_coloured YCbCr false a b c n out ea eb ec = long_rgb a b c n ea (eb refl) (ec refl)
-long_coloured Rgb gray a b c n out ea eb ec = long_interleaved a b c n ea (eb refl) (ec refl)
-long_coloured Cmyk gray a b c n out ea eb ec = absurd (clash true refl out)
-long_coloured Ycck gray a b c n out ea eb ec = absurd (clash true refl out)
-long_coloured Unknown gray a b c n out ea eb ec = absurd (clash true refl out)
-
-all_needed : (d : Display) (i : ℕ) → i < 3 → shows_gray d.colour d.gray ≡ false → i < parts d
-all_needed d i h e = subst (λ (b : Bool). i < (if b then 1 else 3)) (sym e) h
-
-pub long_row : (d : Display) (blocks : Blocks) (y : ℕ) → IsShowable d → length (row_of_blocks d blocks y) ≡ row_length d
-long_row d blocks y s =
-    let M = picture_of d blocks in
-    long_coloured d.colour d.gray (upsampled M d.smooth 0 y) (upsampled M d.smooth 1 y) (upsampled M d.smooth 2 y) d.frame.width (colour_in d s)
-    (long_upsampled d blocks 0 y s (parts_some d))
-    (λ (e : shows_gray d.colour d.gray ≡ false). long_upsampled d blocks 1 y s (all_needed d 1 (omega arith) e))
-    (λ (e : shows_gray d.colour d.gray ≡ false). long_upsampled d blocks 2 y s (all_needed d 2 (omega arith) e))
 
 -- PIXELS
 

@@ -1,12 +1,11 @@
 -- Which factors of components are refused, component by component, and the answer for all of them.
-use Rattle.std.proofs.Common.{◌≡◌, ℕ, zero, suc, ◌+◌, ◌<◌, ◌≤◌, map, Bool, ◌||◌, List, [], ◌∷◌, length, get_or, take, drop, add-one, subst, refl, sym, ap, ◌∙◌, arith, Option, Some, None, Ok, Result}
+use Rattle.std.proofs.Common.{◌≡◌, ℕ, zero, suc, ◌+◌, ◌<◌, ◌≤◌, map, Bool, ◌||◌, List, [], ◌∷◌, length, get_or, take, drop, add-one, subst, refl, sym, ap, ◌∙◌, arith, Option}
 use Rattle.std.proofs.lemmas.List.{get_or-take, length-take-le, length-map}
 use Rattle.jpg_spec.specs.Lists.{any_of}
 use Rattle.jpg_spec.specs.Geometry.{Frame, greatest, component_at, h_max, v_max}
-use Rattle.jpg_spec_image.specs.Pixels.{is_colour_out, is_fractional, out_fault_of, shows_gray}
+use Rattle.jpg_spec_image.specs.Pixels.{is_colour_out, is_fractional, shows_gray}
 use Rattle.jpg_spec.specs.declared.fault.Fault.{Fault}
 use Rattle.jpg_spec.specs.declared.frame.Colour.{Colour}
-use Rattle.jpg_spec_image.specs.declared.image.ImageKind.{ImageKind}
 use Rattle.jpg_color.specs.Admits.{admitted_kind, first_fault, kind_of, kind_or, needed_factors}
 use Rattle.jpg_color.specs.Shown.{factors_of}
 use Rattle.jpg_color.proofs.Coverage.{factor_at, most_first, most_second}

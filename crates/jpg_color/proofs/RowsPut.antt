@@ -11,12 +11,11 @@ use Rattle.std.proofs.lemmas.List.{append_assoc, append-nil, map-append, length-
 use Rattle.std.proofs.lemmas.List.Elements.{All-from_get_or}
 use Rattle.jpg_spec.specs.Lists.{below}
 use Rattle.jpg_spec.specs.Geometry.{Frame, bounds}
-use Rattle.jpg_spec.specs.Segments.{QuantTable}
 use Rattle.jpg_spec.specs.Scan.{Blocks}
 use Rattle.jpg_spec.specs.Ranges.{AreInRange}
 use Rattle.jpg_spec.proofs.Common.{both, from_test, length_below}
 use Rattle.jpg_spec.proofs.Rows.{by_items, at_below}
-use Rattle.jpg_color.specs.KeptRows.{KeptRows, stride, kept_rows_of, last_row, row_in, with_gray, with_block_rows}
+use Rattle.jpg_color.specs.KeptRows.{KeptRows, stride, kept_rows_of, last_row}
 use Rattle.jpg_color.specs.RowBytes.{byte_in, PutsBlock, PutsRows}
 
 -- a byte of a row is before all rows below
@@ -56,36 +55,46 @@ block_step line row column y block old mid new fits p long here others =
 
 -- A ROW OF BLOCKS, one more block
 
-pub columns_step : (line row rows c : ℕ) (sample : ℕ → ℕ → ℕ) (block old mid new : List ℕ) → 8 * c + 8 ≤ line → PutsRows line row rows (8 * c) sample old mid
-    → PutsBlock line row c rows block mid new → ((y x : ℕ) → y < rows → x < 8 → slice_index block (8 * y + x) ≡ sample y (8 * c + x))
-    → PutsRows line row rows (8 * (c + 1)) sample old new
-columns_step line row rows c sample block old mid new fits p b told =
+-- the first rows of the block at column c are put, and have these samples
+pub record PutsSamples (line row rows c : ℕ) (sample : ℕ → ℕ → ℕ) (old new : List ℕ) : Type 0 where
+  pub block : List ℕ
+  pub put : PutsBlock line row c rows block old new
+  pub told : (y x : ℕ) → y < rows → x < 8 → slice_index block (8 * y + x) ≡ sample y (8 * c + x)
+
+pub columns_step : {line row rows : ℕ} (c : ℕ) {sample : ℕ → ℕ → ℕ} {old mid new : List ℕ} → 8 * c + 8 ≤ line
+    → PutsRows line row rows (8 * c) sample old mid → PutsSamples line row rows c sample mid new → PutsRows line row rows (8 * (c + 1)) sample old new
+columns_step {line} {row} {rows} c {sample} {new = new} fits p b =
     record {
-      long = b.long ∙ p.long;
+      long = b.put.long ∙ p.long;
       there = λ y x hy hx. ⊎_elim
-          (λ (a : x < 8 * c). b.others (row + y) x (omega (arith, a, fits)) (inr a) ∙ p.there y x hy a)
+          (λ (a : x < 8 * c). b.put.others (row + y) x (omega (arith, a, fits)) (inr a) ∙ p.there y x hy a)
           (λ (d : 8 * c ≤ x). (let e : x ≡ 8 * c + (x - 8 * c) = omega (arith, d) in
           let low : x - 8 * c < 8 = omega (arith, hx, d) in
-          ap (byte_in line new (row + y)) e ∙ b.there y (x - 8 * c) hy low ∙ told y (x - 8 * c) hy low ∙ ap (sample y) (sym e)))
+          ap (byte_in line new (row + y)) e ∙ b.put.there y (x - 8 * c) hy low ∙ b.told y (x - 8 * c) hy low ∙ ap (sample y) (sym e)))
           (cases_lt x (8 * c));
-      above = λ r x hr hx. b.others r x hx (inl hr) ∙ p.above r x hr hx;
+      above = λ r x hr hx. b.put.others r x hx (inl hr) ∙ p.above r x hr hx;
     }
 
 -- ALL ROWS, those of one more row of blocks
 
-pub rows_step : (line kept count b rows : ℕ) (sample part : ℕ → ℕ → ℕ) (old mid new : List ℕ) → rows ≡ min (count - 8 * b) 8
-    → PutsRows line kept (min count (8 * b)) line sample old mid → PutsRows line (kept + 8 * b) rows line part mid new
-    → ((y x : ℕ) → y < 8 → part y x ≡ sample (8 * b + y) x) → PutsRows line kept (min count (8 * (b + 1))) line sample old new
-rows_step line kept count b rows sample part old mid new is p q told =
+-- the rows below the first b rows of blocks are put, and have these samples
+pub record PutsRest (line kept count b : ℕ) (sample : ℕ → ℕ → ℕ) (old new : List ℕ) : Type 0 where
+  pub part : ℕ → ℕ → ℕ
+  pub put : PutsRows line (kept + 8 * b) (min (count - 8 * b) 8) line part old new
+  pub told : (y x : ℕ) → y < 8 → part y x ≡ sample (8 * b + y) x
+
+pub rows_step : {line kept : ℕ} (count b : ℕ) {sample : ℕ → ℕ → ℕ} {old mid new : List ℕ} → PutsRows line kept (min count (8 * b)) line sample old mid
+    → PutsRest line kept count b sample mid new → PutsRows line kept (min count (8 * (b + 1))) line sample old new
+rows_step {line} {kept} count b {sample} {new = new} p q =
     record {
-      long = q.long ∙ p.long;
+      long = q.put.long ∙ p.long;
       there = λ y x hy hx. ⊎_elim
-          (λ (a : y < 8 * b). q.above (kept + y) x (omega (arith, a)) hx ∙ p.there y x (omega (arith, a, hy)) hx)
+          (λ (a : y < 8 * b). q.put.above (kept + y) x (omega (arith, a)) hx ∙ p.there y x (omega (arith, a, hy)) hx)
           (λ (d : 8 * b ≤ y). (let e : y ≡ 8 * b + (y - 8 * b) = omega (arith, d) in
           let n : kept + y ≡ kept + 8 * b + (y - 8 * b) = omega (arith, d) in
-          ap (λ t. byte_in line new t x) n ∙ q.there (y - 8 * b) x (omega (arith, is, hy, d)) hx ∙ told (y - 8 * b) x (omega (arith, hy, d)) ∙ ap (λ t. sample t x) (sym e)))
+          ap (λ t. byte_in line new t x) n ∙ q.put.there (y - 8 * b) x (omega (arith, hy, d)) hx ∙ q.told (y - 8 * b) x (omega (arith, hy, d)) ∙ ap (λ t. sample t x) (sym e)))
           (cases_lt y (8 * b));
-      above = λ r x hr hx. q.above r x (omega (arith, hr)) hx ∙ p.above r x hr hx;
+      above = λ r x hr hx. q.put.above r x (omega (arith, hr)) hx ∙ p.above r x hr hx;
     }
 
 -- LISTS OF ROWS
@@ -180,19 +189,6 @@ row_ends wide len i most bytes h few fits e = grind (arith, rows, e, mul-add-lt 
 pub room_is : (wide room n : ℕ) (bytes : List ℕ) → n ≤ room → length bytes ≡ room * stride wide → n * stride wide ≤ length bytes
 room_is wide room n bytes h e = grind (arith, e, mul-le n (stride wide) room (stride wide) h (omega arith))
 
-pub filled : (old : KeptRows) (quants : QuantTable) (blocks : Blocks) (i first count wide room len : ℕ) (bytes : List ℕ) (rows : List (List ℕ))
-    → ◌≡◌ {A = KeptRows} (record { wide = wide; room = room; rows = kept_rows_of wide len bytes }) old
-    → rows ≡ last_row (kept_rows_of wide len bytes) ++ map (row_in wide quants blocks i first) (below count)
-    → ◌≡◌ {A = KeptRows} (record { wide = wide; room = room; rows = rows }) (with_block_rows old quants blocks i first count)
-filled old quants blocks i first count wide room len bytes rows view e =
-    ap (λ (rs : List (List ℕ)). (let k : KeptRows = record { wide = wide; room = room; rows = rs } in k)) e
-    ∙ ap (λ (k : KeptRows). with_block_rows k quants blocks i first count) view
-
--- the same of rows of 128
-pub grayed : (old : KeptRows) (count wide room len : ℕ) (bytes : List ℕ) (rows : List (List ℕ))
-    → ◌≡◌ {A = KeptRows} (record { wide = wide; room = room; rows = kept_rows_of wide len bytes }) old
-    → rows ≡ last_row (kept_rows_of wide len bytes) ++ map (λ y. map (λ x. 128) (below wide)) (below count)
-    → ◌≡◌ {A = KeptRows} (record { wide = wide; room = room; rows = rows }) (with_gray old count)
-grayed old count wide room len bytes rows view e =
-    ap (λ (rs : List (List ℕ)). (let k : KeptRows = record { wide = wide; room = room; rows = rs } in k)) e
-    ∙ ap (λ (k : KeptRows). with_gray k count) view
+-- storage of this many rows
+abbrev pub kept_by : ℕ → ℕ → List (List ℕ) → KeptRows
+kept_by wide room rows = record { wide = wide; room = room; rows = rows }

@@ -20,15 +20,15 @@ block_is q i x y block p e = e ∙ sym (map_at q i x y p)
 pub read_small : (q : Picture) (i first wide count x : ℕ) (block : List ℤ) → HasRows q i first wide count → block ≡ map_of q i x first → All (λ v. nat_abs v ≤ 1024) block
 read_small q i first wide count x block h e = subst (All (λ v. nat_abs v ≤ 1024)) (sym e) (block_small q.frame (map_of q) i x first h.range)
 
-pub told_by : (quants : QuantTable) (blocks : Blocks) (i first c : ℕ) (block : List ℤ) (samples : List ℕ) → block ≡ blocks i c first → samples ≡ inverse_dct (dequantised quants block)
+pub told_by : (quants : QuantTable) (blocks : Blocks) (i first c : ℕ) {samples : List ℕ} → samples ≡ inverse_dct (dequantised quants (blocks i c first))
     → (y x : ℕ) → y < 8 → x < 8 → slice_index samples (8 * y + x) ≡ sample_in quants blocks i first y (8 * c + x)
-told_by quants blocks i first c block samples eb es y x hy hx =
+told_by quants blocks i first c es y x hy hx =
     let e1 : c ≡ (8 * c + x) / 8 = omega (arith, hx) in
     let e2 : x ≡ (8 * c + x) % 8 = omega (arith, hx) in
     let e3 : first ≡ first + y / 8 = omega (arith, hy) in
     let e4 : y ≡ y % 8 = omega (arith, hy) in
     ap (λ s. slice_index s (8 * y + x)) es
-    ∙ ap (λ b. slice_index (inverse_dct (dequantised quants b)) (8 * y + x)) (eb ∙ ap (λ m. blocks i m first) e1 ∙ ap (blocks i ((8 * c + x) / 8)) e3)
+    ∙ ap (λ b. slice_index (inverse_dct (dequantised quants b)) (8 * y + x)) (ap (λ m. blocks i m first) e1 ∙ ap (blocks i ((8 * c + x) / 8)) e3)
     ∙ ap (λ m. slice_index (inverse_dct (dequantised quants (blocks i ((8 * c + x) / 8) (first + y / 8)))) (8 * m + x)) e4
     ∙ ap (λ m. slice_index (inverse_dct (dequantised quants (blocks i ((8 * c + x) / 8) (first + y / 8)))) (8 * (y % 8) + m)) e2
 

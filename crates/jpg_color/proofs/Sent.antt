@@ -6,21 +6,49 @@ use Rattle.jpg_base.specs.declared.names.Name.{Name}
 use Rattle.jpg_base.specs.Desk.{DeskState, AppendsLast}
 use Rattle.jpg_base.specs.Laws.{AppendsPart, AppendsPart-more, AppendsPart-then, AppendsLast-then}
 use Rattle.jpg_huff.proofs.Emitted.{AppendsLast-nil, OnlyWrites-then, OnlyWrites-same}
-use Rattle.jpg_color.specs.DecodeRows.{AppendsLess, SendsImage}
+use Rattle.jpg_pnm_bmp.specs.EndState.{EndState}
+use Rattle.jpg_pnm_bmp.specs.declared.write.end.Finish.{Finish}
+use Rattle.jpg_color.specs.DecodeRows.{AppendsLess, SendsImage, SendsPart, SendsRow, SendsRows}
 use Rattle.jpg_color.specs.declared.decode.DecodeStop.{DecodeStop}
 use Rattle.jpg_color.specs.declared.decode.DecodeStop.TheVariants as stop
 
+-- an output, and the bytes that wait to be written to it
+pub record Output : Type 0 where
+  pub desk : DeskState
+  pub waits : List ℕ
+
+-- an output and an image writer
+pub record Writing : Type 0 where
+  pub out : Output
+  pub end : EndState
+
+abbrev pub writing : DeskState → List ℕ → EndState → Writing
+writing desk waits end = record { out = record { desk = desk; waits = waits }; end = end }
+
+-- what bytes, a row, all rows, and a part of what follows the rows make of them
+abbrev pub Sends : Output → List ℕ → Result (Unit {0}) DecodeStop → Output → Type 0
+Sends a due r b = SendsImage a.desk a.waits due r b.waits b.desk
+
+abbrev pub PassesRow : Writing → List ℕ → Result (Unit {0}) DecodeStop → Writing → Type 0
+PassesRow v row r w = SendsRow v.out.desk v.end v.out.waits row r w.end w.out.waits w.out.desk
+
+abbrev pub PassesRows : Writing → List (List ℕ) → Result (Unit {0}) DecodeStop → Writing → Type 0
+PassesRows v rows r w = SendsRows v.out.desk v.end v.out.waits rows r w.end w.out.waits w.out.desk
+
+abbrev pub TakesPart : Writing → Result Finish DecodeStop → Writing → Type 0
+TakesPart v r w = SendsPart v.out.desk v.end v.out.waits r w.end w.out.waits w.out.desk
+
 -- nothing is pending
-pub sends_nothing : (s : DeskState) (old : List ℕ) → SendsImage s old [] (Ok tt) old s
-sends_nothing s old = record { only = OnlyWrites-same s; bytes = ([], AppendsLast-nil s.outputs, append-nil old) }
+pub sends_nothing : {a : Output} → Sends a [] (Ok tt) a
+sends_nothing {a} = record { only = OnlyWrites-same a.desk; bytes = ([], AppendsLast-nil a.desk.outputs, append-nil a.waits) }
 
 -- a piece waits after what waited
-pub sends_piece : (s : DeskState) (old piece new : List ℕ) → new ≡ old ++ piece → SendsImage s old piece (Ok tt) new s
-sends_piece s old piece new e = record { only = OnlyWrites-same s; bytes = ([], AppendsLast-nil s.outputs, sym e) }
+pub sends_piece : {s : DeskState} (old piece : List ℕ) {new : List ℕ} → new ≡ old ++ piece → SendsImage s old piece (Ok tt) new s
+sends_piece {s} old piece e = record { only = OnlyWrites-same s; bytes = ([], AppendsLast-nil s.outputs, sym e) }
 
 -- the same bytes in another way
-pub sends_same : (s0 s1 : DeskState) (old new xs ys : List ℕ) (r : Result (Unit {0}) DecodeStop) → xs ≡ ys → SendsImage s0 old xs r new s1 → SendsImage s0 old ys r new s1
-sends_same s0 s1 old new xs ys r e h = subst (λ x. SendsImage s0 old x r new s1) e h
+pub sends_same : {a b : Output} {xs ys : List ℕ} {r : Result (Unit {0}) DecodeStop} → xs ≡ ys → Sends a xs r b → Sends a ys r b
+sends_same {a} {b} {r = r} e h = subst (λ x. Sends a x r b) e h
 
 -- less than all of some bytes is less than all of more, and of those after others
 AppendsLess-more : (a b : Option (List (Name × List ℕ))) (xs ys : List ℕ) → AppendsLess a xs b → AppendsLess a (xs ++ ys) b
@@ -38,45 +66,57 @@ AppendsLess-then a b c xs ys h (n, less, k) = (
 )
 
 -- a stop leaves a first part of more
-pub sends_stop : (s0 s1 : DeskState) (old due more new : List ℕ) (r : DecodeStop) → SendsImage s0 old due (Err r) new s1 → SendsImage s0 old (due ++ more) (Err r) new s1
-sends_stop s0 s1 old due more new stop.NoMemory h =
-    let P : List ℕ → Type 0 = λ x. AppendsLess s0.outputs x s1.outputs in
-    record { only = h.only; bytes = subst P (append_assoc old due more) (AppendsLess-more s0.outputs s1.outputs (old ++ due) more h.bytes) }
-sends_stop s0 s1 old due more new stop.WriteFault h =
-    let P : List ℕ → Type 0 = λ x. AppendsPart s0.outputs x s1.outputs in
-    record { only = h.only; bytes = (subst P (append_assoc old due more) (AppendsPart-more s0.outputs s1.outputs (old ++ due) more h.bytes.0), h.bytes.1) }
-
--- bytes, and then more
-both_due : (s0 s1 : DeskState) (old due mid more : List ℕ) (h : SendsImage s0 old due (Ok tt) mid s1) → h.bytes.0 ++ (mid ++ more) ≡ old ++ (due ++ more)
-both_due s0 s1 old due mid more h = sym (sym (append_assoc old due more) ∙ ap (λ x. x ++ more) h.bytes.2 ∙ append_assoc h.bytes.0 mid more)
-
-pub sends_then : (s0 s1 s2 : DeskState) (old due mid more new : List ℕ) (r : Result (Unit {0}) DecodeStop) → SendsImage s0 old due (Ok tt) mid s1 → SendsImage s1 mid more r new s2 → SendsImage s0 old (due ++ more) r new s2
-sends_then s0 s1 s2 old due mid more new (Ok u) h k =
-    let g = h.bytes.0 in
+pub sends_stop : {a b : Output} {due : List ℕ} {f : DecodeStop} (more : List ℕ) → Sends a due (Err f) b → Sends a (due ++ more) (Err f) b
+sends_stop {a} {b} {due} {f = stop.NoMemory} more h =
+    let P : List ℕ → Type 0 = λ x. AppendsLess a.desk.outputs x b.desk.outputs in
+    record { only = h.only; bytes = subst P (append_assoc a.waits due more) (AppendsLess-more a.desk.outputs b.desk.outputs (a.waits ++ due) more h.bytes) }
+sends_stop {a} {b} {due} {f = stop.WriteFault} more h =
+    let P : List ℕ → Type 0 = λ x. AppendsPart a.desk.outputs x b.desk.outputs in
     record {
-      only = OnlyWrites-then s0 s1 s2 h.only k.only;
+      only = h.only;
       bytes = (
-        g ++ k.bytes.0,
-        AppendsLast-then s0.outputs s1.outputs s2.outputs g k.bytes.0 h.bytes.1 k.bytes.1,
-        sym (append_assoc old due more) ∙ ap (λ x. x ++ more) h.bytes.2 ∙ append_assoc g mid more ∙ ap (λ x. g ++ x) k.bytes.2 ∙ sym (append_assoc g k.bytes.0 new),
+        subst P (append_assoc a.waits due more) (AppendsPart-more a.desk.outputs b.desk.outputs (a.waits ++ due) more h.bytes.0),
+        h.bytes.1,
       );
     }
-sends_then s0 s1 s2 old due mid more new (Err stop.NoMemory) h k =
-    let P : List ℕ → Type 0 = λ x. AppendsLess s0.outputs x s2.outputs in
+
+-- bytes, and then more
+both_due : {a b : Output} {due : List ℕ} (more : List ℕ) (h : Sends a due (Ok tt) b)
+    → h.bytes.0 ++ (b.waits ++ more) ≡ a.waits ++ (due ++ more)
+both_due {a} {b} {due} more h =
+    sym (append_assoc h.bytes.0 b.waits more) ∙ ap (λ x. x ++ more) (sym h.bytes.2) ∙ append_assoc a.waits due more
+
+pub sends_then : {a b c : Output} {due more : List ℕ} {r : Result (Unit {0}) DecodeStop} → Sends a due (Ok tt) b → Sends b more r c → Sends a (due ++ more) r c
+sends_then {a} {b} {c} {due} {more} {r = Ok u} h k =
+    let g = h.bytes.0 in
     record {
-      only = OnlyWrites-then s0 s1 s2 h.only k.only;
-      bytes = subst P (both_due s0 s1 old due mid more h) (AppendsLess-then s0.outputs s1.outputs s2.outputs h.bytes.0 (mid ++ more) h.bytes.1 k.bytes);
-    }
-sends_then s0 s1 s2 old due mid more new (Err stop.WriteFault) h k =
-    let P : List ℕ → Type 0 = λ x. AppendsPart s0.outputs x s2.outputs in
-    record {
-      only = OnlyWrites-then s0 s1 s2 h.only k.only;
+      only = OnlyWrites-then a.desk b.desk c.desk h.only k.only;
       bytes = (
-        subst P (both_due s0 s1 old due mid more h) (AppendsPart-then s0.outputs s1.outputs s2.outputs h.bytes.0 (mid ++ more) h.bytes.1 k.bytes.0),
+        g ++ k.bytes.0,
+        AppendsLast-then a.desk.outputs b.desk.outputs c.desk.outputs g k.bytes.0 h.bytes.1 k.bytes.1,
+        sym (both_due more h) ∙ ap (λ x. g ++ x) k.bytes.2 ∙ sym (append_assoc g k.bytes.0 c.waits),
+      );
+    }
+sends_then {a} {b} {c} {due} {more} {r = Err stop.NoMemory} h k =
+    let P : List ℕ → Type 0 = λ x. AppendsLess a.desk.outputs x c.desk.outputs in
+    record {
+      only = OnlyWrites-then a.desk b.desk c.desk h.only k.only;
+      bytes = subst P (both_due more h) (AppendsLess-then a.desk.outputs b.desk.outputs c.desk.outputs h.bytes.0 (b.waits ++ more) h.bytes.1 k.bytes);
+    }
+sends_then {a} {b} {c} {due} {more} {r = Err stop.WriteFault} h k =
+    let P : List ℕ → Type 0 = λ x. AppendsPart a.desk.outputs x c.desk.outputs in
+    record {
+      only = OnlyWrites-then a.desk b.desk c.desk h.only k.only;
+      bytes = (
+        subst P (both_due more h) (AppendsPart-then a.desk.outputs b.desk.outputs c.desk.outputs h.bytes.0 (b.waits ++ more) h.bytes.1 k.bytes.0),
         (let f = h.only.counts.writes in let g = k.bytes.1 in omega arith),
       );
     }
 
+-- bytes, and then what waits
+pub sends_rest : {a b c : Output} {due : List ℕ} {r : Result (Unit {0}) DecodeStop} → Sends a due (Ok tt) b → Sends b [] r c → Sends a due r c
+sends_rest {due = due} h k = sends_same (append-nil due) (sends_then h k)
+
 -- nothing is sent if there is no memory for something
-pub sends_none : (s : DeskState) (old due new : List ℕ) → 0 < length due → SendsImage s old due (Err stop.NoMemory) new s
-sends_none s old due new some = record { only = OnlyWrites-same s; bytes = (0, omega (arith, some, length-append old due), AppendsLast-nil s.outputs) }
+pub sends_none : {s : DeskState} {old due new : List ℕ} → 0 < length due → SendsImage s old due (Err stop.NoMemory) new s
+sends_none {s} {old} {due} some = record { only = OnlyWrites-same s; bytes = (0, omega (arith, some, length-append old due), AppendsLast-nil s.outputs) }

@@ -2,9 +2,8 @@
 use Rattle.std.proofs.Common.{◌≡◌, ℕ, zero, suc, ◌+◌, ◌-◌, ◌<◌, ◌≤◌, true, false, List, [], ◌∷◌, ◌++◌, length, Some, Result, Ok, Err, refl, sym, ap, ◌∙◌, subst, arith}
 use Rattle.std.proofs.lemmas.List.{append-nil, append_assoc, length-append, length-map, map-append}
 use Rattle.std.proofs.lemmas.Grind.{flat_map-append}
-use Rattle.jpg_base.specs.Desk.{DeskState}
 use Rattle.jpg_spec.specs.Lists.{below}
-use Rattle.jpg_spec_image.specs.ImageText.{row_bytes, row_piece}
+use Rattle.jpg_spec_image.specs.ImageText.{row_piece}
 use Rattle.jpg_spec_image.specs.declared.image.EndKind.{EndKind}
 use Rattle.jpg_spec_image.specs.declared.image.EndKind.TheVariants.{Pnm, Bmp}
 use Rattle.jpg_spec_image.specs.declared.image.ImageInfo.{ImageInfo}
@@ -13,30 +12,31 @@ use Rattle.jpg_coefs.specs.Picture.{Picture as Coefs}
 use Rattle.jpg_pnm_bmp.specs.EndState.{EndState, CanTakeRow, held_of, info_of, with_row}
 use Rattle.jpg_color.specs.Shown.{Display, row_length, row_of_blocks}
 use Rattle.jpg_color.specs.PictureRows.{RowsLeft, RowGoesOn, IsAfter, shown_blocks}
-use Rattle.jpg_color.specs.DecodeRows.{IsEndFor, SendsImage, SendsRow, SendsRows, end_at, row_pieces, rows_until, rows_in_all}
+use Rattle.jpg_color.specs.DecodeRows.{IsEndFor, end_at, row_pieces, rows_until, rows_in_all}
 use Rattle.jpg_color.specs.declared.decode.DecodeStop.{DecodeStop}
-use Rattle.jpg_color.proofs.Sent.{sends_nothing, sends_then, sends_stop, sends_same}
+use Rattle.jpg_color.proofs.Sent.{PassesRow, PassesRows, Sends, Writing, sends_nothing, sends_then, sends_stop, sends_same}
 
 -- the first n rows were passed
-pub record IsShowing (s0 : DeskState) (e0 : EndState) (out0 : List ℕ) (r0 : RowsLeft) (e : EndState) (out : List ℕ) (r : RowsLeft) (s1 : DeskState) : Type 0 where
-  pub for_end : IsEndFor e0 r0
+pub record IsShowing (v0 : Writing) (r0 : RowsLeft) (v : Writing) (r : RowsLeft) : Type 0 where
+  pub for_end : IsEndFor v0.end r0
   pub display : r.strips.display ≡ r0.strips.display
   pub coefs : r.coefs ≡ r0.coefs
   pub few : r.strips.given ≤ r0.strips.display.frame.height
-  pub end : e ≡ end_at e0.kind (info_of e0) (rows_until r0 r.strips.given)
-  pub created : s1.output_created ≡ true
-  pub sent : SendsImage s0 out0 (row_pieces e0 (rows_until r0 r.strips.given)) (Ok tt) out s1
+  pub end_is : v.end ≡ end_at v0.end.kind (info_of v0.end) (rows_until r0 r.strips.given)
+  pub created : v.out.desk.output_created ≡ true
+  pub sent : Sends v0.out (row_pieces v0.end (rows_until r0 r.strips.given)) (Ok tt) v.out
 
-pub shows_none : (s : DeskState) (e : EndState) (out : List ℕ) (r : RowsLeft) → IsEndFor e r → s.output_created ≡ true → IsShowing s e out r e out r s
-shows_none s e out r fits created =
+pub shows_none : {v : Writing} {r : RowsLeft} → IsEndFor v.end r → v.out.desk.output_created ≡ true → IsShowing v r v r
+shows_none {v} {r} fits created =
+    let none : 0 ≡ r.strips.given = sym fits.rows.first in
     record {
       for_end = fits;
       display = refl;
       coefs = refl;
       few = omega (arith, fits.rows.first);
-      end = fits.started ∙ ap (λ n. end_at e.kind (info_of e) (rows_until r n)) (sym fits.rows.first);
+      end_is = fits.started ∙ ap (λ n. end_at v.end.kind (info_of v.end) (rows_until r n)) none;
       created = created;
-      sent = subst (λ n. SendsImage s out (row_pieces e (rows_until r n)) (Ok tt) out s) (sym fits.rows.first) (sends_nothing s out);
+      sent = subst (λ n. Sends v.out (row_pieces v.end (rows_until r n)) (Ok tt) v.out) none sends_nothing;
     }
 
 -- ONE MORE ROW
@@ -59,64 +59,64 @@ taken_more kind info rows row =
     ∙ ap (λ (n : ℕ). (let e : EndState = record { kind = kind; info = Some info; taken = n; held = held_of kind (rows ++ row ∷ []); parts = 0; done = false } in e)) (sym (length-append rows (row ∷ [])))
 
 -- the row that is passed
-pub row_is : (r0 r r1 : RowsLeft) → r.strips.display ≡ r0.strips.display → r.coefs ≡ r0.coefs → RowGoesOn r r1 → r1.strips.last ≡ row_of_blocks r0.strips.display (shown_blocks r0.strips.display r0.coefs) r.strips.given
-row_is r0 r r1 d q g =
-    g.value ∙ ap (λ (x : Display). row_of_blocks x (shown_blocks x r.coefs) r.strips.given) d ∙ ap (λ (x : Coefs). row_of_blocks r0.strips.display (shown_blocks r0.strips.display x) r.strips.given) q
+row_is : {v0 v : Writing} {r0 r r1 : RowsLeft} → IsShowing v0 r0 v r → RowGoesOn r r1
+    → r1.strips.last ≡ row_of_blocks r0.strips.display (shown_blocks r0.strips.display r0.coefs) r.strips.given
+row_is {r0 = r0} {r = r} h g =
+    g.value ∙ ap (λ (x : Display). row_of_blocks x (shown_blocks x r.coefs) r.strips.given) h.display
+    ∙ ap (λ (x : Coefs). row_of_blocks r0.strips.display (shown_blocks r0.strips.display x) r.strips.given) h.coefs
 
-pub row_fits : (s0 s1 : DeskState) (e0 e : EndState) (out0 out : List ℕ) (r0 r r1 : RowsLeft) → IsShowing s0 e0 out0 r0 e out r s1 → RowGoesOn r r1 → CanTakeRow e r1.strips.last
-row_fits s0 s1 e0 e out0 out r0 r r1 h g =
-    let rows : List (List ℕ) = rows_until r0 r.strips.given in
-    let high : r.strips.display.frame.height ≡ r0.strips.display.frame.height = ap (λ (d : Display). d.frame.height) h.display in
-    let long : length r1.strips.last ≡ row_bytes (info_of e0) = g.long ∙ ap row_length h.display ∙ sym h.for_end.rows.long in
-    subst (λ (x : EndState). CanTakeRow x r1.strips.last) (sym h.end)
+high_same : {v0 v : Writing} {r0 r : RowsLeft} → IsShowing v0 r0 v r → r.strips.display.frame.height ≡ r0.strips.display.frame.height
+high_same h = ap (λ (d : Display). d.frame.height) h.display
+
+pub row_fits : {v0 v : Writing} {r0 r r1 : RowsLeft} → IsShowing v0 r0 v r → RowGoesOn r r1 → CanTakeRow v.end r1.strips.last
+row_fits {r0 = r0} {r = r} {r1 = r1} h g =
+    subst (λ (x : EndState). CanTakeRow x r1.strips.last) (sym h.end_is)
     (record {
       started = refl;
-      missing = omega (arith, long_rows r0 r.strips.given, g.early, high, h.for_end.rows.high);
-      long = long;
+      missing = omega (arith, long_rows r0 r.strips.given, g.early, high_same h, h.for_end.rows.high);
+      long = g.long ∙ ap row_length h.display ∙ sym h.for_end.rows.long;
       unfinished = refl;
       before = refl;
     })
 
-pieces_more : (e : EndState) (rows : List (List ℕ)) (row : List ℕ) → row_pieces e rows ++ row_piece e.kind (info_of e) row ≡ row_pieces e (rows ++ row ∷ [])
+pub pieces_more : (e : EndState) (rows : List (List ℕ)) (row : List ℕ) → row_pieces e rows ++ row_piece e.kind (info_of e) row ≡ row_pieces e (rows ++ row ∷ [])
 pieces_more e rows row =
     sym (flat_map-append (row_piece e.kind (info_of e)) rows (row ∷ []) ∙ ap (λ x. row_pieces e rows ++ x) (append-nil (row_piece e.kind (info_of e) row)))
 
--- what an image writer makes of a row, whichever rows it has taken
-piece_same : (e0 e : EndState) (rows : List (List ℕ)) (row : List ℕ) → e ≡ end_at e0.kind (info_of e0) rows → row_piece e.kind (info_of e) row ≡ row_piece e0.kind (info_of e0) row
-piece_same e0 e rows row is = ap (λ (x : EndState). row_piece x.kind (info_of x) row) is
+rows_with : {v0 v : Writing} {r0 r r1 : RowsLeft} → IsShowing v0 r0 v r → RowGoesOn r r1
+    → rows_until r0 r.strips.given ++ r1.strips.last ∷ [] ≡ rows_until r0 r1.strips.given
+rows_with {r0 = r0} {r = r} h g =
+    ap (λ (x : List ℕ). rows_until r0 r.strips.given ++ x ∷ []) (row_is h g) ∙ sym (more_rows r0 r.strips.given) ∙ ap (rows_until r0) (sym g.given)
 
-pub row_sent : (s0 s1 s2 : DeskState) (e0 e e2 : EndState) (out0 out new : List ℕ) (r0 r r1 : RowsLeft) → IsShowing s0 e0 out0 r0 e out r s1 → RowGoesOn r r1
-    → SendsRow s1 e out r1.strips.last (Ok tt) e2 new s2 → IsShowing s0 e0 out0 r0 e2 new r1 s2
-row_sent s0 s1 s2 e0 e e2 out0 out new r0 r r1 h g k =
-    let n = r.strips.given in
-    let rows : List (List ℕ) = rows_until r0 n in
-    let row : List ℕ = r1.strips.last in
-    let high : r.strips.display.frame.height ≡ r0.strips.display.frame.height = ap (λ (d : Display). d.frame.height) h.display in
-    let more : rows ++ row ∷ [] ≡ rows_until r0 r1.strips.given =
-    ap (λ (x : List ℕ). rows ++ x ∷ []) (row_is r0 r r1 h.display h.coefs g) ∙ sym (more_rows r0 n) ∙ ap (λ m. rows_until r0 m) (sym g.given)
-    in
+-- and it was sent, or sending stopped
+one_more : {v0 v v2 : Writing} {r0 r r1 : RowsLeft} {result : Result (Unit {0}) DecodeStop} → IsShowing v0 r0 v r → RowGoesOn r r1
+    → PassesRow v r1.strips.last result v2 → Sends v0.out (row_pieces v0.end (rows_until r0 r1.strips.given)) result v2.out
+one_more {v0} {r0 = r0} {r = r} {r1 = r1} h g k =
+    sends_same (pieces_more v0.end (rows_until r0 r.strips.given) r1.strips.last ∙ ap (row_pieces v0.end) (rows_with h g))
+    (sends_then h.sent (sends_same (ap (λ (x : EndState). row_piece x.kind (info_of x) r1.strips.last) h.end_is) k.sent))
+
+pub row_sent : {v0 v v2 : Writing} {r0 r r1 : RowsLeft} → IsShowing v0 r0 v r → RowGoesOn r r1 → PassesRow v r1.strips.last (Ok tt) v2 → IsShowing v0 r0 v2 r1
+row_sent {v0} {r0 = r0} {r = r} {r1 = r1} h g k =
     record {
       for_end = h.for_end;
       display = g.display ∙ h.display;
       coefs = g.coefs ∙ h.coefs;
-      few = omega (arith, g.early, g.given, high);
-      end = k.end ∙ ap (λ (x : EndState). with_row x row) h.end ∙ taken_more e0.kind (info_of e0) rows row ∙ ap (λ x. end_at e0.kind (info_of e0) x) more;
+      few = omega (arith, g.early, g.given, high_same h);
+      end_is = k.end ∙ ap (λ (x : EndState). with_row x r1.strips.last) h.end_is
+          ∙ taken_more v0.end.kind (info_of v0.end) (rows_until r0 r.strips.given) r1.strips.last
+          ∙ ap (λ x. end_at v0.end.kind (info_of v0.end) x) (rows_with h g);
       created = k.sent.only.output_created ∙ h.created;
-      sent = sends_same s0 s2 out0 new (row_pieces e0 rows ++ row_piece e0.kind (info_of e0) row) (row_pieces e0 (rows_until r0 r1.strips.given)) (Ok tt)
-          (pieces_more e0 rows row ∙ ap (λ x. row_pieces e0 x) more)
-          (sends_then s0 s1 s2 out0 (row_pieces e0 rows) out (row_piece e0.kind (info_of e0) row) new (Ok tt) h.sent
-          (sends_same s1 s2 out new (row_piece e.kind (info_of e) row) (row_piece e0.kind (info_of e0) row) (Ok tt) (piece_same e0 e rows row h.end) k.sent));
+      sent = one_more h g k;
     }
 
 -- THE LAST ROW, AND A STOP
 
-pub rows_sent : (s0 s1 : DeskState) (e0 e : EndState) (out0 out : List ℕ) (r0 r r1 : RowsLeft) → IsShowing s0 e0 out0 r0 e out r s1 → IsAfter r r1
-    → SendsRows s0 e0 out0 (rows_in_all r0) (Ok tt) e out s1
-rows_sent s0 s1 e0 e out0 out r0 r r1 h b =
-    let all : r.strips.given ≡ r0.strips.display.frame.height = b.all ∙ ap (λ (d : Display). d.frame.height) h.display in
+pub rows_sent : {v0 v : Writing} {r0 r r1 : RowsLeft} → IsShowing v0 r0 v r → IsAfter r r1 → PassesRows v0 (rows_in_all r0) (Ok tt) v
+rows_sent {v0} {v} {r0} {r} h b =
+    let all : r.strips.given ≡ r0.strips.display.frame.height = b.all ∙ high_same h in
     record {
-      sent = subst (λ n. SendsImage s0 out0 (row_pieces e0 (rows_until r0 n)) (Ok tt) out s1) all h.sent;
-      end = h.end ∙ ap (λ n. end_at e0.kind (info_of e0) (rows_until r0 n)) all;
+      sent = subst (λ n. Sends v0.out (row_pieces v0.end (rows_until r0 n)) (Ok tt) v.out) all h.sent;
+      end = h.end_is ∙ ap (λ n. end_at v0.end.kind (info_of v0.end) (rows_until r0 n)) all;
     }
 
 rows_split : (r : RowsLeft) (n k : ℕ) → (more : List (List ℕ)) × (rows_until r (n + k) ≡ rows_until r n ++ more)
@@ -126,40 +126,27 @@ rows_split r n (suc k) =
     let row : List ℕ = row_of_blocks r.strips.display (shown_blocks r.strips.display r.coefs) (n + k) in
     (less.0 ++ row ∷ [], ap (λ m. rows_until r m) (let e : n + suc k ≡ n + k + 1 = omega arith in e) ∙ more_rows r (n + k) ∙ ap (λ x. x ++ row ∷ []) less.1 ∙ append_assoc (rows_until r n) less.0 (row ∷ []))
 
-pub rows_stopped : (s0 s1 s2 : DeskState) (e0 e e2 : EndState) (out0 out new : List ℕ) (r0 r r1 : RowsLeft) (f : DecodeStop) → IsShowing s0 e0 out0 r0 e out r s1 → RowGoesOn r r1
-    → SendsRow s1 e out r1.strips.last (Err f) e2 new s2 → SendsRows s0 e0 out0 (rows_in_all r0) (Err f) e2 new s2
-rows_stopped s0 s1 s2 e0 e e2 out0 out new r0 r r1 f h g k =
-    let n = r.strips.given in
+pub rows_stopped : {v0 v v2 : Writing} {r0 r r1 : RowsLeft} {f : DecodeStop} → IsShowing v0 r0 v r → RowGoesOn r r1
+    → PassesRow v r1.strips.last (Err f) v2 → PassesRows v0 (rows_in_all r0) (Err f) v2
+rows_stopped {v0} {r0 = r0} {r = r} {r1 = r1} h g k =
+    let n = r1.strips.given in
     let high = r0.strips.display.frame.height in
-    let row : List ℕ = r1.strips.last in
-    let rows : List (List ℕ) = rows_until r0 n in
-    let piece : List ℕ = row_piece e0.kind (info_of e0) row in
-    let same : r.strips.display.frame.height ≡ high = ap (λ (d : Display). d.frame.height) h.display in
-    let split = rows_split r0 (n + 1) (high - (n + 1)) in
-    let count : n + 1 + (high - (n + 1)) ≡ high = omega (arith, g.early, same) in
-    let all : rows_in_all r0 ≡ (rows ++ row ∷ []) ++ split.0 =
-    ap (λ m. rows_until r0 m) (sym count) ∙ split.1
-    ∙ ap (λ x. x ++ split.0) (more_rows r0 n ∙ ap (λ (x : List ℕ). rows ++ x ∷ []) (sym (row_is r0 r r1 h.display h.coefs g)))
+    let count : n + (high - n) ≡ high = omega (arith, g.early, g.given, high_same h) in
+    let split = rows_split r0 n (high - n) in
+    let pieces : row_pieces v0.end (rows_until r0 n) ++ row_pieces v0.end split.0 ≡ row_pieces v0.end (rows_in_all r0) =
+    sym (flat_map-append (row_piece v0.end.kind (info_of v0.end)) (rows_until r0 n) split.0)
+    ∙ ap (row_pieces v0.end) (sym split.1 ∙ ap (rows_until r0) count)
     in
-    let pieces : (row_pieces e0 rows ++ piece) ++ row_pieces e0 split.0 ≡ row_pieces e0 (rows_in_all r0) =
-    ap (λ x. x ++ row_pieces e0 split.0) (pieces_more e0 rows row) ∙ sym (flat_map-append (row_piece e0.kind (info_of e0)) (rows ++ row ∷ []) split.0) ∙ ap (λ x. row_pieces e0 x) (sym all)
-    in
-    record {
-      sent = sends_same s0 s2 out0 new ((row_pieces e0 rows ++ piece) ++ row_pieces e0 split.0) (row_pieces e0 (rows_in_all r0)) (Err f) pieces
-          (sends_stop s0 s2 out0 (row_pieces e0 rows ++ piece) (row_pieces e0 split.0) new f
-          (sends_then s0 s1 s2 out0 (row_pieces e0 rows) out piece new (Err f) h.sent
-          (sends_same s1 s2 out new (row_piece e.kind (info_of e) row) piece (Err f) (piece_same e0 e rows row h.end) k.sent)));
-      end = tt;
-    }
+    record { sent = sends_same pieces (sends_stop (row_pieces v0.end split.0) (one_more h g k)); end = tt }
 
 -- the same row in another way
-pub sent_so : (s0 s1 : DeskState) (e e2 : EndState) (old row other new : List ℕ) (r : Result (Unit {0}) DecodeStop) → row ≡ other → SendsRow s0 e old row r e2 new s1 → SendsRow s0 e old other r e2 new s1
-sent_so s0 s1 e e2 old row other new r is h = subst (λ (x : List ℕ). SendsRow s0 e old x r e2 new s1) is h
+pub sent_so : {v w : Writing} {row other : List ℕ} {r : Result (Unit {0}) DecodeStop} → row ≡ other → PassesRow v row r w → PassesRow v other r w
+sent_so {v} {w} {r = r} is h = subst (λ (x : List ℕ). PassesRow v x r w) is h
 
-pub fits_so : (e : EndState) (row other : List ℕ) → row ≡ other → CanTakeRow e other → CanTakeRow e row
-fits_so e row other is h = subst (λ (x : List ℕ). CanTakeRow e x) (sym is) h
+pub fits_so : {e : EndState} {row other : List ℕ} → row ≡ other → CanTakeRow e other → CanTakeRow e row
+fits_so {e} is h = subst (λ (x : List ℕ). CanTakeRow e x) (sym is) h
 
-pub fewer_rows : (r r1 : RowsLeft) → RowGoesOn r r1 → r1.strips.display.frame.height - r1.strips.given < r.strips.display.frame.height - r.strips.given
-fewer_rows r r1 g =
+pub fewer_rows : {r r1 : RowsLeft} → RowGoesOn r r1 → r1.strips.display.frame.height - r1.strips.given < r.strips.display.frame.height - r.strips.given
+fewer_rows {r} {r1} g =
     let same : r1.strips.display.frame.height ≡ r.strips.display.frame.height = ap (λ (d : Display). d.frame.height) g.display in
     omega (arith, same, g.early, g.given)

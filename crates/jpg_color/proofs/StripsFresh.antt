@@ -1,5 +1,5 @@
 -- Strips of which nothing was decoded: their parts have the picture's numbers, and they represent any picture of these.
-use Rattle.std.proofs.Common.{◌≡◌, ℕ, zero, suc, ◌*◌, ◌<◌, ◌≤◌, Bool, ◌==◌, ◌||◌, if◌then◌else◌, List, [], ◌∷◌, length, subst, refl, sym, ap, ◌∙◌, arith, None}
+use Rattle.std.proofs.Common.{◌≡◌, ℕ, zero, suc, ◌*◌, ◌<◌, ◌≤◌, Bool, ◌==◌, ◌||◌, if◌then◌else◌, List, [], ◌∷◌, length, map, slice_index_or, subst, refl, sym, ap, ◌∙◌, arith, None}
 use Rattle.std.proofs.Math.Nat.{mul-le-mul}
 use Rattle.jpg_spec.specs.Lists.{below, any_of}
 use Rattle.jpg_spec.specs.Geometry.{Frame, div_up, h_max, v_max, component_at}
@@ -12,9 +12,9 @@ use Rattle.jpg_spec_image.specs.Strips.{block_rows, lines, needed}
 use Rattle.jpg_spec.proofs.Common.{any_append}
 use Rattle.jpg_file.specs.Read.StripHead.{IsStripHead, bare_picture}
 use Rattle.jpg_file.specs.declared.read.strip_head.StripHead.{StripHead}
-use Rattle.jpg_color.specs.PartState.{PartState, AreSizes}
-use Rattle.jpg_color.specs.Shown.{Display, IsShowable, IsFreshRows, display_of, display_fault, picture_of, parts, all_rows, rows_in, row_length, held_rows}
-use Rattle.jpg_color.specs.StripsState.{AreNewParts, AreStrips, coloured_length, told_display, part_at, shown_of}
+use Rattle.jpg_color.specs.PartState.{PartState, AreSizes, head_picture, no_rows}
+use Rattle.jpg_color.specs.Shown.{Display, IsShowable, IsFreshRows, display_of, display_fault, picture_of, parts, rows_in, row_length, held_rows}
+use Rattle.jpg_color.specs.StripsState.{AreNewParts, AreStrips, told_display, part_at, shown_of}
 use Rattle.jpg_color.proofs.Coverage.{whole_ratios, in_frame, factors_at, parts_fit, samples_across_is, samples_down_is, lines_is, lines_some, up_covers, up_least}
 use Rattle.jpg_color.proofs.Windows.{rows_in_some, rows_in_few}
 use Rattle.jpg_color.proofs.HeldRows.{fresh_stands}
@@ -86,61 +86,55 @@ few_rows height count some few =
     let l : div_up height count ≤ height = up_least height count height some (omega (arith, m)) in
     omega (arith, l, few)
 
-display_is : (h : StripHead) (gray smooth : Bool) (f : Frame) (quants : List QuantTable) → f ≡ h.frame → quants ≡ h.quants.items → told_display f h.colour quants gray smooth ≡ display_of h gray smooth
-display_is h gray smooth f quants ef eq =
+pub display_is : (h : StripHead) {gray smooth : Bool} {f : Frame} {quants : List QuantTable} → f ≡ h.frame → quants ≡ h.quants.items
+    → told_display f h.colour quants gray smooth ≡ display_of h gray smooth
+display_is h {gray} {smooth} {quants = quants} ef eq =
     ap (λ (k : Frame). told_display k h.colour quants gray smooth) ef
     ∙ ap (λ (ts : List QuantTable). told_display h.frame h.colour ts gray smooth) eq
 
-none_held : (d : Display) (ps : List PartState) (row : List ℕ) (i : ℕ) → i < parts d → AreNewParts (picture_of d no_blocks) d.smooth (parts d) ps → held_rows (shown_of d 0 0 ps row) i ≡ []
-none_held d ps row i h are = (let new = are.new i h in held_at d 0 0 ps row i ∙ new.none)
+-- It can be displayed, and these are its parts, of which none has a row.
+pub record AreNew (d : Display) (ps : List PartState) : Type 0 where
+  pub showable : IsShowable d
+  pub new : AreNewParts (picture_of d no_blocks) d.smooth (parts d) ps
 
-fresh_kept : (d : Display) (ps : List PartState) (row : List ℕ) (all count : ℕ) (waits : Bool) → IsShowable d → AreNewParts (picture_of d no_blocks) d.smooth (parts d) ps → length row ≡ row_length d
+pub are_new : (h : StripHead) {gray smooth : Bool} {d : Display} {ps : List PartState} {n : ℕ} → d ≡ display_of h gray smooth → IsShowable (display_of h gray smooth)
+    → n ≡ needed h.colour gray → AreNewParts (head_picture h) smooth n ps → AreNew d ps
+are_new h {gray} {smooth} {ps = ps} same s en are =
+    subst (λ x. AreNew x ps) (sym same) (record { showable = s; new = subst (λ k. AreNewParts (head_picture h) smooth k ps) en are })
+
+none_held : {d : Display} {ps : List PartState} (i : ℕ) → AreNew d ps → i < parts d → (slice_index_or (map (λ p. p.kept) ps) i no_rows).rows ≡ []
+none_held {ps = ps} i n h = (let part = n.new.new i h in held_at ps i ∙ part.none)
+
+pub fresh : {d : Display} {ps : List PartState} {row : List ℕ} {all count : ℕ} {waits : Bool} → AreNew d ps → length row ≡ row_length d
     → count ≡ (if length d.frame.components == 1 then 8 else 8 * v_max d.frame) → count ≤ 32 → all ≡ div_up d.frame.height count
     → waits ≡ any_of (λ i. has_far_rows (part_at ps i).stretch) (below (length ps)) → AreStrips d 0 0 ps row all count waits
-fresh_kept d ps row all count waits s are long is short rows waiting =
+fresh {d} {ps} {row} {count = count} n long is short rows waiting =
+    let s = n.showable in
+    let are = n.new in
     let lines_told : count ≡ lines (picture_of d no_blocks) = is ∙ sym (lines_is d no_blocks) in
-    let all_told : all ≡ all_rows d = rows ∙ ap (div_up d.frame.height) lines_told in
-    let some : 1 ≤ count = subst (λ n. 1 ≤ n) (sym lines_told) (lines_some d no_blocks s) in
+    let some : 1 ≤ count = subst (λ k. 1 ≤ k) (sym lines_told) (lines_some d no_blocks s) in
     record {
       showable = s;
-      all = all_told;
-      few = subst (λ n. n ≤ 65500) (sym rows) (few_rows d.frame.height count some s.frame.height_high);
+      all = rows ∙ ap (div_up d.frame.height) lines_told;
+      few = subst (λ k. k ≤ 65500) (sym rows) (few_rows d.frame.height count some s.frame.height_high);
       lines = lines_told;
       short = short;
       waits = waiting
-          ∙ ap (λ n. any_of (λ i. has_far_rows (part_at ps i).stretch) (below n)) are.count
+          ∙ ap (λ k. any_of (λ i. has_far_rows (part_at ps i).stretch) (below k)) are.count
           ∙ same_any (λ i. has_far_rows (part_at ps i).stretch) (λ i. has_far_rows (stretch_of (picture_of d no_blocks) d.smooth i)) (parts d)
           (λ (i : ℕ) (h : i < parts d). (let new = are.new i h in ap (λ (t : Stretch). has_far_rows t) new.part.stretch));
       count = are.count;
       parts = λ (i : ℕ) (h : i < parts d). (let new = are.new i h in new.part);
       last = long;
-      stands = (no_blocks, fresh_stands d no_blocks (held_rows (shown_of d 0 0 ps row)) s (λ (i : ℕ) (h : i < parts d). none_held d ps row i h are));
+      stands = (no_blocks, fresh_stands d no_blocks (held_rows (shown_of d 0 0 ps row)) s (λ (i : ℕ) (h : i < parts d). none_held i n h));
     }
 
-pub fresh : (h : StripHead) (gray smooth : Bool) (f : Frame) (quants : List QuantTable) (ps : List PartState) (row : List ℕ) (n all count : ℕ) (waits : Bool) → IsShowable (display_of h gray smooth)
-    → f ≡ h.frame → quants ≡ h.quants.items → n ≡ needed h.colour gray → AreNewParts (bare_picture h.frame h.quants.items no_blocks) smooth n ps
-    → length row ≡ coloured_length h.colour gray f.width → count ≡ (if length f.components == 1 then 8 else 8 * v_max f) → count ≤ 32 → all ≡ div_up f.height count
-    → waits ≡ any_of (λ i. has_far_rows (part_at ps i).stretch) (below (length ps)) → AreStrips (told_display f h.colour quants gray smooth) 0 0 ps row all count waits
-fresh h gray smooth f quants ps row n all count waits s ef eq en are long is short rows waiting =
-    subst (λ d. AreStrips d 0 0 ps row all count waits) (sym (display_is h gray smooth f quants ef eq))
-    (fresh_kept (display_of h gray smooth) ps row all count waits s
-    (subst (λ k. AreNewParts (bare_picture h.frame h.quants.items no_blocks) smooth k ps) en are)
-    (subst (λ (k : Frame). length row ≡ coloured_length h.colour gray k.width) ef long)
-    (subst (λ (k : Frame). count ≡ (if length k.components == 1 then 8 else 8 * v_max k)) ef is)
-    short
-    (subst (λ (k : Frame). all ≡ div_up k.height count) ef rows)
-    waiting)
-
-pub is_fresh : (h : StripHead) (gray smooth : Bool) (f : Frame) (quants : List QuantTable) (ps : List PartState) (row : List ℕ) (n : ℕ) → IsShowable (display_of h gray smooth)
-    → f ≡ h.frame → quants ≡ h.quants.items → n ≡ needed h.colour gray → AreNewParts (bare_picture h.frame h.quants.items no_blocks) smooth n ps
-    → IsFreshRows h gray smooth (shown_of (told_display f h.colour quants gray smooth) 0 0 ps row)
-is_fresh h gray smooth f quants ps row n s ef eq en are =
-    let e = display_is h gray smooth f quants ef eq in
-    let d : Display = display_of h gray smooth in
-    subst (λ t. IsFreshRows h gray smooth (shown_of t 0 0 ps row)) (sym e) (record {
-      display = refl;
+pub is_fresh : {h : StripHead} {gray smooth : Bool} {d : Display} {ps : List PartState} (row : List ℕ) → d ≡ display_of h gray smooth → AreNew d ps
+    → IsFreshRows h gray smooth (shown_of d 0 0 ps row)
+is_fresh {d = d} {ps} row same n =
+    record {
+      display = same;
       pushed = refl;
       given = refl;
-      stands = λ (blocks : Blocks). fresh_stands d blocks (held_rows (shown_of d 0 0 ps row)) s
-          (λ (i : ℕ) (h' : i < parts d). none_held d ps row i h' (subst (λ k. AreNewParts (bare_picture h.frame h.quants.items no_blocks) smooth k ps) en are));
-    })
+      stands = λ (blocks : Blocks). fresh_stands d blocks (held_rows (shown_of d 0 0 ps row)) n.showable (λ (i : ℕ) (h : i < parts d). none_held i n h);
+    }

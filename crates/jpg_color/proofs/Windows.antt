@@ -1,24 +1,22 @@
 -- Which rows of samples an MCU row encodes, and which rows of the image it makes ready.
-use Rattle.std.proofs.Common.{◌≡◌, ◌⊎◌, inl, inr, ℕ, ◌+◌, ◌-◌, ◌*◌, ◌<◌, ◌≤◌, min, Bool, true, false, ◌==◌, if◌then◌else◌, length, subst, refl, sym, ap, ◌∙◌, arith}
+use Rattle.std.proofs.Common.{◌≡◌, ◌⊎◌, inl, inr, ℕ, ◌+◌, ◌-◌, ◌*◌, ◌<◌, ◌≤◌, min, Bool, true, false, ◌==◌, if◌then◌else◌, length, subst, sym, ap, ◌∙◌, arith}
 use Rattle.std.proofs.Math.Nat.{le-div_iff_mul-le, mul-le-mul_right}
 use Rattle.std.proofs.lemmas.Bool.{cases_lt}
-use Rattle.std.proofs.lemmas.Nat.{mul-le}
 use Rattle.jpg_spec.specs.Lists.{below, any_of}
-use Rattle.jpg_spec.specs.Geometry.{Frame, bounds, div_up, h_max, v_max, component_at, mcus_down, blocks_across, blocks_down, mcu_row_frame}
+use Rattle.jpg_spec.specs.Geometry.{Frame, bounds, div_up, h_max, v_max, component_at, mcus_down, blocks_down, mcu_row_frame}
 use Rattle.jpg_spec.specs.FrameHeader.{padded_across, padded_down}
 use Rattle.jpg_spec.specs.FileMeaning.{no_blocks}
 use Rattle.jpg_spec.specs.Ranges.{AreInRange}
 use Rattle.jpg_spec_image.specs.Upsampling.{has_far_rows}
 use Rattle.jpg_spec_image.specs.Pixels.{samples_across, samples_down, stretch_of}
 use Rattle.jpg_spec_image.specs.Strips.{lines, known_rows}
-use Rattle.jpg_spec.specs.declared.frame.Component.{Component}
 use Rattle.jpg_spec.proofs.Common.{not_same, same_itself}
 use Rattle.jpg_spec.proofs.PlacesFound.{real_in_padded}
 use Rattle.jpg_base.proofs.Grids.{across_low, down_low}
 use Rattle.jpg_coefs.specs.Picture.{Picture, map_of}
 use Rattle.jpg_color.specs.KeptRows.{HasRows}
 use Rattle.jpg_color.specs.Shown.{Display, IsShowable, picture_of, parts, all_rows, rows_made_ready, rows_in}
-use Rattle.jpg_color.proofs.Coverage.{samples_across_is, samples_down_is, up_least, whole_ratios, in_frame, factors_at, covered, lines_some, parts_some, rows_in_is, blocks_across_is, blocks_down_is}
+use Rattle.jpg_color.proofs.Coverage.{in_frame, factors_at, covered, lines_some, parts_some, rows_in_is, blocks_across_is, blocks_down_is}
 
 -- ROWS OF SAMPLES
 
@@ -123,14 +121,6 @@ across_padded d i s h =
     let pos = across_low d.frame.components s.frame.factors s.frame.count_low in
     subst (λ n. n ≤ padded_across d.frame (component_at d.frame i)) (blocks_across_is d no_blocks i there)
     (real_in_padded d.frame.width (component_at d.frame i).h (h_max d.frame) pos)
-
--- a component is no wider and no higher than the image
-side_of : (side factor most ratio : ℕ) → 1 ≤ ratio → ratio * factor ≡ most → 1 ≤ side → 1 ≤ factor → 1 ≤ most → (1 ≤ div_up (side * factor) most) × (div_up (side * factor) most ≤ side)
-side_of side factor most ratio r e some f pos =
-    let a : 1 * factor ≤ ratio * factor = mul-le 1 factor ratio factor r (omega arith) in
-    let b : side * factor ≤ side * most = mul-le side factor side most (omega arith) (omega (arith, a, e)) in
-    let c : 1 * 1 ≤ side * factor = mul-le 1 1 side factor some f in
-    ((le-div_iff_mul-le pos).1 (omega (arith, c, pos)), up_least (side * factor) most side pos b)
 
 pub rows_there : (d : Display) (i m : ℕ) (q : Picture) → IsShowable d → i < parts d → m < all_rows d → q.frame ≡ d.frame → AreInRange (bounds d.frame) (map_of q)
     → HasRows q i (m * rows_in d i) (samples_across (picture_of d no_blocks) i) (told_rows d i m)
@@ -244,8 +234,3 @@ more_by d m s lt (inr ge) =
 
 pub ready_more : (d : Display) (m : ℕ) → IsShowable d → m < all_rows d → rows_made_ready d m ≤ rows_made_ready d (m + 1)
 ready_more d m s lt = more_by d m s lt (cases_lt (m + 1) (all_rows d))
-
--- the image is complete exactly after all MCU rows
-whole_by : (d : Display) (m : ℕ) → IsShowable d → m ≤ all_rows d → (m < all_rows d) ⊎ (all_rows d ≤ m) → d.frame.height ≤ rows_made_ready d m → m ≡ all_rows d
-whole_by d m s le (inl lt) tall = let h = ready_missing d m s lt in absurd (omega (arith, h, tall))
-whole_by d m s le (inr ge) tall = omega (arith, le, ge)

@@ -13,7 +13,7 @@ use Rattle.jpg_markers.specs.declared.segments.SegStep.TheVariants as step
 use Rattle.jpg_markers.specs.Reading.{Reading, AtPhase, StandsForSegments, RevealsAfter, Comes, PassesSome}
 use Rattle.jpg_comments.specs.SegmentsSoFar.{IsBegun, Appends}
 use Rattle.jpg_comments.specs.Printing.{HoldsWhole, HasPrinted, PrintsSegment, due_text, StopsPrinting, AfterPrinted}
-use Rattle.jpg_comments.proofs.Taken.{Tells, nothing_first, taken_on, taken_some, fault_shown, within, begun, whole_front}
+use Rattle.jpg_comments.proofs.Taken.{OneMore, Tells, nothing_first, taken_on, taken_some, fault_shown, within, begun, whole_front}
 
 -- WHERE A FILE IS COMPLETE: at EOI, and at the end of a scan header
 
@@ -49,80 +49,78 @@ printed_some limits r next bytes text piece n h room same some passes =
 
 -- A BYTE
 
--- nothing is complete with it
-pub printed_on : (limits : Limits) (r next : Reading) (bytes text : List ℕ) (byte : ℕ) (x : Reached) (h : HasPrinted limits bytes text r) → r.taken < r.limits.input → next.limits ≡ r.limits → next.taken ≡ r.taken + 1
-    → reads_on x ≡ true → Reaches (kept_rule next.limits) (bytes ++ byte ∷ []) x → StandsForSegments (bytes ++ byte ∷ []) h.0 next → HasPrinted limits (bytes ++ byte ∷ []) text next
-printed_on limits r next bytes text byte x h short same one going reaches stands =
-    (h.0, taken_on limits (HoldsWhole limits) (reading_tells limits) r next bytes byte h.0 h.0 x h.1 short same one going reaches stands, h.2, h.3)
+module _ (limits : Limits) (r next : Reading) (bytes text : List ℕ) (byte : ℕ) (h : HasPrinted limits bytes text r) (m : OneMore r next) where
+  -- nothing is complete with it
+  pub printed_on : (x : Reached) → reads_on x ≡ true → Reaches (kept_rule next.limits) (bytes ++ byte ∷ []) x → StandsForSegments (bytes ++ byte ∷ []) h.0 next
+      → HasPrinted limits (bytes ++ byte ∷ []) text next
+  printed_on x going reaches stands =
+      (h.0, taken_on limits (HoldsWhole limits) (reading_tells limits) r next bytes byte h.0 h.0 x h.1 m going reaches stands, h.2, h.3)
 
--- a fault, or no memory
-pub printed_stop : (limits : Limits) (r next : Reading) (bytes text : List ℕ) (byte : ℕ) (e : Stop) (h : HasPrinted limits bytes text r) → r.taken < r.limits.input → next.limits ≡ r.limits → next.taken ≡ r.taken + 1
-    → Comes (bytes ++ byte ∷ []) h.0 (Err e) next → StopsPrinting limits (bytes ++ byte ∷ []) text e
-printed_stop limits r next bytes text byte (stop.Fault f) h short same one comes =
-    let all = bytes ++ byte ∷ [] in
-    let shown = fault_shown limits (HoldsWhole limits) r next bytes byte h.0 f h.1 short same one comes.0 comes.2 in
-    let at = shown.0 in
-    let reveals = subst (λ l. RevealsAfter (kept_rule l) h.0 f.fault all) (same ∙ h.1.limited) comes.1 in
-    (shown.1, (h.0, inl (subst (λ l. RevealsAfter (kept_rule limits) h.0 f.fault l) (sym (take_all f.at all (omega (arith, at)))) reveals), h.3))
-printed_stop limits r next bytes text byte stop.NoMemory h short same one comes =
-    let all = comments_text h.0 in (
-      length all,
-      length bytes,
-      h.0,
-      subst (λ l. IsBegun (kept_rule limits) l h.0) (sym (whole_front bytes (byte ∷ []))) (begun limits r bytes h.0 h.1.limited h.1.stands),
-      h.3 ∙ sym (take_all (length all) all (omega arith)),
-    )
-
--- A SEGMENT
-
--- with the bytes of a segment that is complete
-pub printed_whole : (limits : Limits) (r next : Reading) (bytes text old new : List ℕ) (byte : ℕ) (result : Result Bool Stop) (h : HasPrinted limits bytes text r)
-    → r.taken < r.limits.input → next.limits ≡ r.limits → next.taken ≡ r.taken + 1 → next.phase ≡ phase.Between
-    → Comes (bytes ++ byte ∷ []) h.0 (Ok step.Whole) next → PrintsSegment next.code next.contents result old new
-    → Appends (λ all. AfterPrinted limits (bytes ++ byte ∷ []) all result next) text old new
-printed_whole limits r next bytes text old new byte (Ok true) h short same one between comes prints =
-    let e : next.limits ≡ limits = same ∙ h.1.limited in
-    let was = h.1.taken in
-    let room = within h.1 short in
-    let all = bytes ++ byte ∷ [] in
-    let code : next.code ≡ 0xda = grind (arith, nat_tests, prints) in
-    let none : due_text next.code next.contents ≡ [] = ap (λ k. due_text k next.contents) code in
-    let at = subst (λ p. AtPhase next p all ((next.code, next.contents) ∷ h.0)) between comes.1.1 in
-    let spelled : SpellsSegments ((next.code, next.contents) ∷ h.0) all = subst (λ l. SpellsSegments ((next.code, next.contents) ∷ h.0) l) (sym (at.1.cut ∙ ap (λ t. at.1.front ++ t) at.3 ∙ append-nil at.1.front)) at.1.spelled in
-    let passed = subst (λ l. Pass (kept_rule l) ((next.code, next.contents) ∷ h.0)) e at.1.passed in (
-      [],
-      prints.1 ∙ ap (λ l. old ++ l) none,
-      (
-        h.0,
-        inl (next.contents, subst (λ k. SpellsSegments ((k, next.contents) ∷ h.0) all) code spelled, subst (λ k. Pass (kept_rule limits) ((k, next.contents) ∷ h.0)) code passed, h.2),
-        append-nil text ∙ h.3,
-        omega (arith, was, room, length-append bytes (byte ∷ [])),
-      ),
-    )
-printed_whole limits r next bytes text old new byte (Ok false) h short same one between comes prints =
-    let due = due_text next.code next.contents in (
-      due,
-      prints.1,
-      (
-        (next.code, next.contents) ∷ h.0,
-        taken_on limits (HoldsWhole limits) (reading_tells limits) r next bytes byte h.0 ((next.code, next.contents) ∷ h.0) (at_segment (next.code, next.contents)) h.1 short same one (ap not (sym prints.0)) comes.0 comes.1,
-        ap (λ b. b || has_scan h.0) (sym prints.0) ∙ h.2,
-        ap (λ l. l ++ due) h.3,
-      ),
-    )
-printed_whole limits r next bytes text old new byte (Err (stop.Fault f)) h short same one between comes prints = absurd prints
-printed_whole limits r next bytes text old new byte (Err stop.NoMemory) h short same one between comes prints =
-    let due = due_text next.code next.contents in
-    let all = bytes ++ byte ∷ [] in
-    let known = comments_text h.0 in (
-      take prints.0 due,
-      prints.1,
-      (
-        length known + prints.0,
+  -- a fault, or no memory
+  pub printed_stop : (e : Stop) → Comes (bytes ++ byte ∷ []) h.0 (Err e) next → StopsPrinting limits (bytes ++ byte ∷ []) text e
+  printed_stop (stop.Fault f) comes =
+      let all = bytes ++ byte ∷ [] in
+      let shown = fault_shown limits (HoldsWhole limits) r next bytes byte h.0 f h.1 m comes.0 comes.2 in
+      let at = shown.0 in
+      let reveals = subst (λ l. RevealsAfter (kept_rule l) h.0 f.fault all) (m.same ∙ h.1.limited) comes.1 in
+      (shown.1, (h.0, inl (subst (λ l. RevealsAfter (kept_rule limits) h.0 f.fault l) (sym (take_all f.at all (omega (arith, at)))) reveals), h.3))
+  printed_stop stop.NoMemory comes =
+      let all = comments_text h.0 in (
         length all,
-        (next.code, next.contents) ∷ h.0,
-        subst (λ l. IsBegun (kept_rule limits) l ((next.code, next.contents) ∷ h.0)) (sym (take_all (length all) all (omega arith)))
-            (begun limits next all ((next.code, next.contents) ∷ h.0) (same ∙ h.1.limited) comes.1),
-        ap (λ l. l ++ take prints.0 due) h.3 ∙ sym (take-append-add known due prints.0),
-      ),
-    )
+        length bytes,
+        h.0,
+        subst (λ l. IsBegun (kept_rule limits) l h.0) (sym (whole_front bytes (byte ∷ []))) (begun limits r bytes h.0 h.1.limited h.1.stands),
+        h.3 ∙ sym (take_all (length all) all (omega arith)),
+      )
+
+  -- A SEGMENT
+
+  -- with the bytes of a segment that is complete
+  pub printed_whole : (old new : List ℕ) (result : Result Bool Stop) → next.phase ≡ phase.Between → Comes (bytes ++ byte ∷ []) h.0 (Ok step.Whole) next
+      → PrintsSegment next.code next.contents result old new → Appends (λ all. AfterPrinted limits (bytes ++ byte ∷ []) all result next) text old new
+  printed_whole old new (Ok true) between comes prints =
+      let e : next.limits ≡ limits = m.same ∙ h.1.limited in
+      let was = h.1.taken in
+      let room = within h.1 m.short in
+      let all = bytes ++ byte ∷ [] in
+      let code : next.code ≡ 0xda = grind (arith, nat_tests, prints) in
+      let none : due_text next.code next.contents ≡ [] = ap (λ k. due_text k next.contents) code in
+      let at = subst (λ p. AtPhase next p all ((next.code, next.contents) ∷ h.0)) between comes.1.1 in
+      let spelled : SpellsSegments ((next.code, next.contents) ∷ h.0) all = subst (λ l. SpellsSegments ((next.code, next.contents) ∷ h.0) l) (sym (at.1.cut ∙ ap (λ t. at.1.front ++ t) at.3 ∙ append-nil at.1.front)) at.1.spelled in
+      let passed = subst (λ l. Pass (kept_rule l) ((next.code, next.contents) ∷ h.0)) e at.1.passed in (
+        [],
+        prints.1 ∙ ap (λ l. old ++ l) none,
+        (
+          h.0,
+          inl (next.contents, subst (λ k. SpellsSegments ((k, next.contents) ∷ h.0) all) code spelled, subst (λ k. Pass (kept_rule limits) ((k, next.contents) ∷ h.0)) code passed, h.2),
+          append-nil text ∙ h.3,
+          omega (arith, was, room, length-append bytes (byte ∷ [])),
+        ),
+      )
+  printed_whole old new (Ok false) between comes prints =
+      let due = due_text next.code next.contents in (
+        due,
+        prints.1,
+        (
+          (next.code, next.contents) ∷ h.0,
+          taken_on limits (HoldsWhole limits) (reading_tells limits) r next bytes byte h.0 ((next.code, next.contents) ∷ h.0) (at_segment (next.code, next.contents)) h.1 m (ap not (sym prints.0)) comes.0 comes.1,
+          ap (λ b. b || has_scan h.0) (sym prints.0) ∙ h.2,
+          ap (λ l. l ++ due) h.3,
+        ),
+      )
+  printed_whole old new (Err (stop.Fault f)) between comes prints = absurd prints
+  printed_whole old new (Err stop.NoMemory) between comes prints =
+      let due = due_text next.code next.contents in
+      let all = bytes ++ byte ∷ [] in
+      let known = comments_text h.0 in (
+        take prints.0 due,
+        prints.1,
+        (
+          length known + prints.0,
+          length all,
+          (next.code, next.contents) ∷ h.0,
+          subst (λ l. IsBegun (kept_rule limits) l ((next.code, next.contents) ∷ h.0)) (sym (take_all (length all) all (omega arith)))
+              (begun limits next all ((next.code, next.contents) ∷ h.0) (m.same ∙ h.1.limited) comes.1),
+          ap (λ l. l ++ take prints.0 due) h.3 ∙ sym (take-append-add known due prints.0),
+        ),
+      )

@@ -42,41 +42,44 @@ printed_long limits bytes text r many h =
     let long = shown.0 in
     (shown.1, (h.0, subst (λ l. AreWholeBefore limits l InputTooLong h.0) (sym (take_all limits.input bytes (omega (arith, long)))) (inr (begun limits r bytes h.0 h.1.limited h.1.stands)), h.3))
 
-front_stops : (limits : Limits) (bytes piece text had out : List ℕ) (n : ℕ) (e : Stop) → Appends (λ t. StopsPrinting limits (bytes ++ take n piece) t e) text had out → Appends (λ t. StopsPrinting limits (bytes ++ piece) t e) text had out
-front_stops limits bytes piece text had out n e h =
-    let front = bytes ++ take n piece in
-    appends_as (λ t. StopsPrinting limits front t e) (λ t. StopsPrinting limits (bytes ++ piece) t e) text had out h
-    (λ t s. subst (λ l. StopsPrinting limits l t e) (sym (joined bytes piece n)) (printed_remains limits front (drop n piece) t e s))
-
--- THE ANSWER to a piece
-
 -- what an answer leaves as it was, if it is More
 abbrev pub IfMore : Result Fed Stop → Type 0 → Type 0
 IfMore (Ok fed.More) P = P
 IfMore (Ok (fed.Done used)) P = Unit {0}
 IfMore (Err e) P = Unit {0}
 
-pub comments_fed : (p : Printing) (old next : Comments) (bytes text piece had out : List ℕ) (result answer : Result Fed Stop) → result ≡ answer → HasRead bytes text old → next.limits ≡ old.limits → IfMore answer ((next.stop ≡ old.stop) × (next.done ≡ old.done))
-    → FeedsPiece (printing p) (old.reader, had) piece result (next.reader, out) → Appends (λ all. AfterFeed bytes piece all result next) text had out
-comments_fed p old next bytes text piece had out result answer is h limits more feeds =
-    subst (λ r. Appends (λ all. AfterFeed bytes piece all r next) text had out) (sym is) (by answer more (subst (λ r. FeedsPiece (printing p) (old.reader, had) piece r (next.reader, out)) is feeds))
-  where
-    was : HasPrinted next.limits bytes text (reading_of old.reader)
-    was = subst (λ l. HasPrinted l bytes text (reading_of old.reader)) (sym limits) h.3
+module _ (bytes piece text had out : List ℕ) where
+  front_stops : (limits : Limits) (n : ℕ) (e : Stop) → Appends (λ t. StopsPrinting limits (bytes ++ take n piece) t e) text had out
+      → Appends (λ t. StopsPrinting limits (bytes ++ piece) t e) text had out
+  front_stops limits n e h =
+      let front = bytes ++ take n piece in
+      appends_as (λ t. StopsPrinting limits front t e) (λ t. StopsPrinting limits (bytes ++ piece) t e) text had out h
+      (λ t s. subst (λ l. StopsPrinting limits l t e) (sym (joined bytes piece n)) (printed_remains limits front (drop n piece) t e s))
 
-    by : (r : Result Fed Stop) → IfMore r ((next.stop ≡ old.stop) × (next.done ≡ old.done)) → FeedsPiece (printing p) (old.reader, had) piece r (next.reader, out) → Appends (λ all. AfterFeed bytes piece all r next) text had out
-    by (Ok fed.More) same ((kept, most, now), room) =
-        let k = now next.limits bytes text was in
-        let taken = k.2.1.taken in
-        let input = ap (λ (l : Limits). l.input) k.2.1.limited in
-        (k.0, k.1, (same.0 ∙ h.0, same.1 ∙ h.1, omega (arith, taken, room, most, input), k.2))
-    by (Ok (fed.Done used)) same ((kept, most, now), some, few) = let k = now next.limits bytes text was in (k.0, k.1, (k.2, some, few))
-    by (Err e) same (n, few, inl (kept, most, now)) = front_stops next.limits bytes piece text had out n e (now next.limits bytes text was)
-    by (Err e) same (n, few, inr ((kept, most, now), full)) =
-        let front = bytes ++ take n piece in
-        let r = reading_of next.reader in
-        front_stops next.limits bytes piece text had out n e
-        (appends_as (λ t. HasPrinted next.limits front t r) (λ t. StopsPrinting next.limits front t e) text had out (now next.limits bytes text was)
-        (λ t s.
-        (let input = sym most ∙ ap (λ (l : Limits). l.input) s.1.limited in
-        subst (λ x. StopsPrinting next.limits front t x) (sym (full.1 ∙ ap (λ m. stop.Fault (record { fault = InputTooLong; at = m })) input)) (printed_long next.limits front t r (subst (λ m. m ≤ r.taken) input full.0) s))))
+  -- THE ANSWER to a piece
+
+  pub comments_fed : (p : Printing) (old next : Comments) (result answer : Result Fed Stop) → result ≡ answer → HasRead bytes text old
+      → next.limits ≡ old.limits → IfMore answer ((next.stop ≡ old.stop) × (next.done ≡ old.done))
+      → FeedsPiece (printing p) (old.reader, had) piece result (next.reader, out) → Appends (λ all. AfterFeed bytes piece all result next) text had out
+  comments_fed p old next result answer is h limits more feeds =
+      subst (λ r. Appends (λ all. AfterFeed bytes piece all r next) text had out) (sym is) (by answer more (subst (λ r. FeedsPiece (printing p) (old.reader, had) piece r (next.reader, out)) is feeds))
+    where
+      was : HasPrinted next.limits bytes text (reading_of old.reader)
+      was = subst (λ l. HasPrinted l bytes text (reading_of old.reader)) (sym limits) h.3
+
+      by : (r : Result Fed Stop) → IfMore r ((next.stop ≡ old.stop) × (next.done ≡ old.done)) → FeedsPiece (printing p) (old.reader, had) piece r (next.reader, out) → Appends (λ all. AfterFeed bytes piece all r next) text had out
+      by (Ok fed.More) same ((kept, most, now), room) =
+          let k = now next.limits bytes text was in
+          let taken = k.2.1.taken in
+          let input = ap (λ (l : Limits). l.input) k.2.1.limited in
+          (k.0, k.1, (same.0 ∙ h.0, same.1 ∙ h.1, omega (arith, taken, room, most, input), k.2))
+      by (Ok (fed.Done used)) same ((kept, most, now), some, few) = let k = now next.limits bytes text was in (k.0, k.1, (k.2, some, few))
+      by (Err e) same (n, few, inl (kept, most, now)) = front_stops next.limits n e (now next.limits bytes text was)
+      by (Err e) same (n, few, inr ((kept, most, now), full)) =
+          let front = bytes ++ take n piece in
+          let r = reading_of next.reader in
+          front_stops next.limits n e
+          (appends_as (λ t. HasPrinted next.limits front t r) (λ t. StopsPrinting next.limits front t e) text had out (now next.limits bytes text was)
+          (λ t s.
+          (let input = sym most ∙ ap (λ (l : Limits). l.input) s.1.limited in
+          subst (λ x. StopsPrinting next.limits front t x) (sym (full.1 ∙ ap (λ m. stop.Fault (record { fault = InputTooLong; at = m })) input)) (printed_long next.limits front t r (subst (λ m. m ≤ r.taken) input full.0) s))))

@@ -19,7 +19,7 @@ use Rattle.jpg_markers.specs.declared.segments.Phase.TheVariants as phase
 use Rattle.jpg_markers.specs.declared.segments.SegStep.TheVariants as step
 use Rattle.jpg_markers.specs.Reading.{Reading, AtPhase, StandsForSegments, EndsAtEoi, Comes, PassesSome}
 use Rattle.jpg_comments.specs.Inserting.{HoldsHead, copied_head, copied_segment, HasKept, IsAtFrame, StopsHead}
-use Rattle.jpg_comments.proofs.Taken.{Tells, taken_on, taken_some, fault_shown, within, whole_front}
+use Rattle.jpg_comments.proofs.Taken.{OneMore, Tells, taken_on, taken_some, fault_shown, within, whole_front, frame_or_not}
 
 -- WHERE A HEAD IS COMPLETE: at the marker of the frame header
 
@@ -41,27 +41,6 @@ kept_some limits replace r next bytes head piece n h room same some passes =
     (h.0, taken_some limits (HoldsHead limits) (head_tells limits) r next bytes piece n h.0 refl h.1 (let is = ap (λ (l : Limits). l.input) h.1.limited in omega (arith, room, some, is)) same some passes, h.2, h.3)
 
 -- A BYTE
-
--- nothing is complete with it
-pub kept_on : (limits : Limits) (replace : Bool) (r next : Reading) (bytes head : List ℕ) (byte : ℕ) (x : Reached) (h : HasKept limits replace bytes head r) → r.taken < r.limits.input → next.limits ≡ r.limits → next.taken ≡ r.taken + 1
-    → heads_on x ≡ true → Reaches (kept_rule next.limits) (bytes ++ byte ∷ []) x → StandsForSegments (bytes ++ byte ∷ []) h.0 next → HasKept limits replace (bytes ++ byte ∷ []) head next
-kept_on limits replace r next bytes head byte x h short same one going reaches stands =
-    (h.0, taken_on limits (HoldsHead limits) (head_tells limits) r next bytes byte h.0 h.0 x h.1 short same one going reaches stands, h.2, h.3)
-
--- a fault, or no memory
-pub kept_stop : (limits : Limits) (replace : Bool) (r next : Reading) (bytes head : List ℕ) (byte : ℕ) (e : Stop) (h : HasKept limits replace bytes head r) → r.taken < r.limits.input → next.limits ≡ r.limits → next.taken ≡ r.taken + 1
-    → Comes (bytes ++ byte ∷ []) h.0 (Err e) next → StopsHead limits (bytes ++ byte ∷ []) e
-kept_stop limits replace r next bytes head byte (stop.Fault f) h short same one comes = (fault_shown limits (HoldsHead limits) r next bytes byte h.0 f h.1 short same one comes.0 comes.2).1
-kept_stop limits replace r next bytes head byte stop.NoMemory h short same one comes = tt
-
--- EOI isn't allowed before the frame
-pub kept_eoi : (limits : Limits) (replace : Bool) (r next : Reading) (bytes all head : List ℕ) (h : HasKept limits replace bytes head r) → EndsAtEoi (kept_rule next.limits) h.0 all → ⊥
-kept_eoi limits replace r next bytes all head h ends = no_some (ap (λ b. code_fault_if b 0xd9) (sym h.2) ∙ ends.3)
-  where
-    no_some : Some UnexpectedMarker ≡ None → ⊥
-    no_some e = cc
-
--- THE FRAME HEADER'S MARKER
 
 -- complete segments aren't it
 no_frame_whole : (rule : Rule) (bytes front : List ℕ) (before : List Segment) → bytes ≡ front → SpellsSegments before front → Pass rule before → Reaches rule bytes at_frame → ⊥
@@ -85,10 +64,6 @@ frame_at r phase.Between bytes before h reaches = absurd (no_frame_part (kept_ru
 frame_at r phase.Fill bytes before h reaches = absurd (no_frame_part (kept_rule r.limits) bytes before h.0 h.1 (inl (suc h.3.0, h.3.1)) reaches)
 frame_at r phase.Coded bytes before h reaches = by (frame_or_not (is_frame_code r.code))
   where
-    frame_or_not : (b : Bool) → (b ≡ true) ⊎ (b ≡ false)
-    frame_or_not true = inl refl
-    frame_or_not false = inr refl
-
     by : (is_frame_code r.code ≡ true) ⊎ (is_frame_code r.code ≡ false) → IsFileFront r.limits bytes before r.code
     by (inl e) = (h.0, h.1, h.3, e)
     by (inr e) = absurd (no_frame_part (kept_rule r.limits) bytes before h.0 h.1 (inr (r.code, h.0, h.3, inl (refl, e))) reaches)
@@ -99,21 +74,6 @@ frame_at r phase.Contents bytes before h reaches =
     let long = k.7 in let some = k.8 in
     absurd (no_frame_part (kept_rule r.limits) bytes before h.0 h.1 (inr (r.code, k.0, k.3, inr (inr (k.1, k.2, r.contents, k.4, k.5, k.6, omega (arith, long, some))))) reaches)
 frame_at r phase.Ended bytes before h reaches = absurd h
-
-pub kept_frame : (limits : Limits) (replace : Bool) (r next : Reading) (bytes head : List ℕ) (byte : ℕ) (h : HasKept limits replace bytes head r) → r.taken < r.limits.input → next.limits ≡ r.limits → next.taken ≡ r.taken + 1
-    → Comes (bytes ++ byte ∷ []) h.0 (Ok step.Frame) next → IsAtFrame limits replace (bytes ++ byte ∷ []) head next
-kept_frame limits replace r next bytes head byte h short same one comes =
-    let was = h.1.taken in
-    let room = within h.1 short in
-    let all = bytes ++ byte ∷ [] in (
-      h.0,
-      subst (λ l. IsFileFront l all h.0 next.code) (same ∙ h.1.limited) (frame_at next next.phase all h.0 comes.1.1 comes.0),
-      h.3,
-      omega (arith, one, was, length-append bytes (byte ∷ [])),
-      omega (arith, was, room, length-append bytes (byte ∷ [])),
-    )
-
--- A SEGMENT
 
 -- a segment that isn't a frame header, if no prefix is a head
 no_header : (limits : Limits) (bytes : List ℕ) (before : List Segment) (code : ℕ) (contents : List ℕ) → RevealsNothing limits (HoldsHead limits) bytes → SpellsSegments ((code, contents) ∷ before) bytes → Pass (kept_rule limits) ((code, contents) ∷ before)
@@ -179,18 +139,55 @@ whole_at r bytes before between s =
     let at = subst (λ p. AtPhase r p bytes before) between s.1 in
     (subst (λ l. SpellsSegments before l) (sym (at.1.cut ∙ ap (λ t. at.1.front ++ t) at.3 ∙ append-nil at.1.front)) at.1.spelled, at.1.passed)
 
--- with the last byte of a segment
-pub kept_whole : (limits : Limits) (replace : Bool) (r next : Reading) (bytes head new : List ℕ) (byte : ℕ) (h : HasKept limits replace bytes head r)
-    → r.taken < r.limits.input → next.limits ≡ r.limits → next.taken ≡ r.taken + 1 → next.phase ≡ phase.Between → Comes (bytes ++ byte ∷ []) h.0 (Ok step.Whole) next
-    → (length next.contents ≤ 65533 → new ≡ head ++ copied_segment replace next.code next.contents) → HasKept limits replace (bytes ++ byte ∷ []) new next
-kept_whole limits replace r next bytes head new byte h short same one between comes grows =
-    let all = bytes ++ byte ∷ [] in
-    let whole = whole_at next all ((next.code, next.contents) ∷ h.0) between comes.1 in
-    let passed = subst (λ l. Pass (kept_rule l) ((next.code, next.contents) ∷ h.0)) (same ∙ h.1.limited) whole.1 in
-    let on = taken_on limits (HoldsHead limits) (head_tells limits) r next bytes byte h.0 ((next.code, next.contents) ∷ h.0) (at_segment (next.code, next.contents)) h.1 short same one refl comes.0 comes.1 in
-    let fits = whole.0.4.2 in (
-      (next.code, next.contents) ∷ h.0,
-      on,
-      ap (λ b. b || has_frame h.0) (no_header limits all h.0 next.code next.contents on.nothing whole.0 passed) ∙ h.2,
-      grows (omega (arith, fits)) ∙ ap (λ l. l ++ copied_segment replace next.code next.contents) h.3 ∙ sym (kept_more replace next.code next.contents h.0),
-    )
+module _ (limits : Limits) (replace : Bool) (r : Reading) (bytes head : List ℕ) (h : HasKept limits replace bytes head r) where
+  -- nothing is complete with it
+  pub kept_on : (next : Reading) (byte : ℕ) (x : Reached) → OneMore r next → heads_on x ≡ true → Reaches (kept_rule next.limits) (bytes ++ byte ∷ []) x
+      → StandsForSegments (bytes ++ byte ∷ []) h.0 next → HasKept limits replace (bytes ++ byte ∷ []) head next
+  kept_on next byte x m going reaches stands =
+      (h.0, taken_on limits (HoldsHead limits) (head_tells limits) r next bytes byte h.0 h.0 x h.1 m going reaches stands, h.2, h.3)
+
+  -- a fault, or no memory
+  pub kept_stop : (next : Reading) (byte : ℕ) (e : Stop) → OneMore r next → Comes (bytes ++ byte ∷ []) h.0 (Err e) next
+      → StopsHead limits (bytes ++ byte ∷ []) e
+  kept_stop next byte (stop.Fault f) m comes = (fault_shown limits (HoldsHead limits) r next bytes byte h.0 f h.1 m comes.0 comes.2).1
+  kept_stop next byte stop.NoMemory m comes = tt
+
+  -- EOI isn't allowed before the frame
+  pub kept_eoi : (next : Reading) (all : List ℕ) → EndsAtEoi (kept_rule next.limits) h.0 all → ⊥
+  kept_eoi next all ends = no_some (ap (λ b. code_fault_if b 0xd9) (sym h.2) ∙ ends.3)
+    where
+      no_some : Some UnexpectedMarker ≡ None → ⊥
+      no_some e = cc
+
+  -- THE FRAME HEADER'S MARKER
+
+  pub kept_frame : (next : Reading) (byte : ℕ) → OneMore r next → Comes (bytes ++ byte ∷ []) h.0 (Ok step.Frame) next
+      → IsAtFrame limits replace (bytes ++ byte ∷ []) head next
+  kept_frame next byte m comes =
+      let was = h.1.taken in
+      let room = within h.1 m.short in
+      let all = bytes ++ byte ∷ [] in (
+        h.0,
+        subst (λ l. IsFileFront l all h.0 next.code) (m.same ∙ h.1.limited) (frame_at next next.phase all h.0 comes.1.1 comes.0),
+        h.3,
+        omega (arith, m.one, was, length-append bytes (byte ∷ [])),
+        omega (arith, was, room, length-append bytes (byte ∷ [])),
+      )
+
+  -- A SEGMENT
+
+  -- with the last byte of a segment
+  pub kept_whole : (next : Reading) (new : List ℕ) (byte : ℕ) → OneMore r next → next.phase ≡ phase.Between
+      → Comes (bytes ++ byte ∷ []) h.0 (Ok step.Whole) next → (length next.contents ≤ 65533 → new ≡ head ++ copied_segment replace next.code next.contents)
+      → HasKept limits replace (bytes ++ byte ∷ []) new next
+  kept_whole next new byte m between comes grows =
+      let all = bytes ++ byte ∷ [] in
+      let whole = whole_at next all ((next.code, next.contents) ∷ h.0) between comes.1 in
+      let passed = subst (λ l. Pass (kept_rule l) ((next.code, next.contents) ∷ h.0)) (m.same ∙ h.1.limited) whole.1 in
+      let on = taken_on limits (HoldsHead limits) (head_tells limits) r next bytes byte h.0 ((next.code, next.contents) ∷ h.0) (at_segment (next.code, next.contents)) h.1 m refl comes.0 comes.1 in
+      let fits = whole.0.4.2 in (
+        (next.code, next.contents) ∷ h.0,
+        on,
+        ap (λ b. b || has_frame h.0) (no_header limits all h.0 next.code next.contents on.nothing whole.0 passed) ∙ h.2,
+        grows (omega (arith, fits)) ∙ ap (λ l. l ++ copied_segment replace next.code next.contents) h.3 ∙ sym (kept_more replace next.code next.contents h.0),
+      )

@@ -28,9 +28,6 @@ StandsWith limits comment replace stop segment bytes text taken head r =
 
 -- BEFORE THE FRAME HEADER'S MARKER
 
-pub kept_of : (comment bytes text : List ℕ) (c : Insert) → c.taken ≡ None → HasInserted comment bytes text c → HasKept c.limits c.replace bytes c.head (reading_of c.reader) × (text ≡ [])
-kept_of comment bytes text c none h = subst (λ o. StandsAt c.limits comment c.replace bytes text o c.head (reading_of c.reader)) none h.3
-
 -- the answer to a piece
 abbrev pub head_answer : Result Fed Stop → Result (Option ℕ) Stop
 head_answer (Ok fed.More) = Ok None
@@ -60,56 +57,74 @@ head_fed k old new piece had head result answer is feeds limits bytes h = by ans
         (long_shown limits (HoldsHead limits) (reading_of new) (bytes ++ take n piece) s.0 s.1 (subst (λ m. m ≤ (reading_of new).taken) is full.0)).1)
 
 -- a fault there, or no memory
-pub stops_before : (limits : Limits) (comment : List ℕ) (replace : Bool) (bytes piece text new : List ℕ) (e : Stop) (next : Reading) → text ≡ [] → AfterHeadPiece limits replace bytes piece (Err e) new next
-    → InsertsUpTo limits comment replace (bytes ++ piece) text e
-stops_before limits comment replace bytes piece text new (stop.Fault f) next none h = (λ rest. inl (h rest), inl (none, h))
-stops_before limits comment replace bytes piece text new stop.NoMemory next none h = inl none
-
--- more is needed
-pub goes_on_before : (comment bytes piece text head : List ℕ) (c : Insert) (next : Reading) → c.taken ≡ None → HasInserted comment bytes text c → AfterHeadPiece c.limits c.replace bytes piece (Ok None) head next
-    → StandsWith c.limits comment c.replace c.stop c.segment (bytes ++ piece) text c.taken head next
-goes_on_before comment bytes piece text head c next none h after =
-    let k = kept_of comment bytes text c none h in
-    (h.0, after.1, h.2, subst (λ o. StandsAt c.limits comment c.replace (bytes ++ piece) text o head next) (sym none) (after.0, k.1))
+pub stops_before : (limits : Limits) (comment : List ℕ) (replace : Bool) (bytes piece text : List ℕ) (e : Stop) → text ≡ []
+    → StopsHead limits (bytes ++ piece) e → InsertsUpTo limits comment replace (bytes ++ piece) text e
+stops_before limits comment replace bytes piece text (stop.Fault f) none h = (λ rest. inl (h rest), inl (none, h))
+stops_before limits comment replace bytes piece text stop.NoMemory none h = inl none
 
 -- AFTER IT
 
--- a head that is there
-pub head_at : (limits : Limits) (comment : List ℕ) (replace : Bool) (bytes piece head segment : List ℕ) (used : ℕ) (r : Reading) → segment ≡ comment_segment comment → AfterHeadPiece limits replace bytes piece (Ok (Some used)) head r
-    → IsInserted limits (bytes ++ take used piece) comment replace (whole_head head segment r.code)
-head_at limits comment replace bytes piece head segment used r same h = head_inserted limits comment replace (bytes ++ take used piece) head segment r same h
+-- the head is there, with the comment's segment, where these bytes of the piece are used
+pub record HeadThere (limits : Limits) (comment : List ℕ) (replace : Bool) (bytes piece : List ℕ) : Type 0 where
+  pub head : List ℕ
+  pub segment : List ℕ
+  pub used : ℕ
+  pub next : Reading
+  pub same : segment ≡ comment_segment comment
+  pub after : AfterHeadPiece limits replace bytes piece (Ok (Some used)) head next
 
--- if there is no memory for it
-pub stops_at_head : (limits : Limits) (comment : List ℕ) (replace : Bool) (bytes piece text whole old new : List ℕ) (used : ℕ) (e : NoMemory) → text ≡ [] → IsInserted limits (bytes ++ take used piece) comment replace whole → AppendsText whole (Err e) old new
-    → Appends (λ all. InsertsUpTo limits comment replace (bytes ++ piece) all stop.NoMemory) text old new
-stops_at_head limits comment replace bytes piece text whole old new used e none h part =
-    let k = head_part limits comment replace (bytes ++ take used piece) (drop used piece) whole old new e h part in
-    subst (λ t. Appends (λ all. InsertsUpTo limits comment replace (bytes ++ piece) all stop.NoMemory) t old new) (sym none)
-    (subst (λ l. Appends (λ all. InsertsUpTo limits comment replace l all stop.NoMemory) [] old new) (sym (joined bytes piece used)) k)
+module _ (limits : Limits) (comment : List ℕ) (replace : Bool) (bytes piece : List ℕ) (w : HeadThere limits comment replace bytes piece) (text : List ℕ)
+    (none : text ≡ []) where
+  abbrev front : List ℕ
+  front = bytes ++ take w.used piece
 
--- the bytes after it
-pub copies_rest : (limits : Limits) (comment : List ℕ) (replace : Bool) (bytes piece text head segment old mid new : List ℕ) (used taken most : ℕ) (r : Reading) (result : Result ℕ Stop) → limits.input ≡ most → text ≡ [] → segment ≡ comment_segment comment
-    → AfterHeadPiece limits replace bytes piece (Ok (Some used)) head r → mid ≡ old ++ whole_head head segment r.code → taken ≡ r.taken → CopiesRest taken most (drop used piece) result mid new
-    → Appends (λ all. AfterCopy limits comment replace (bytes ++ piece) all result) text old new
-copies_rest limits comment replace bytes piece text head segment old mid new used taken most r result same none is h wrote count copies =
-    let whole = whole_head head segment r.code in
-    let front = bytes ++ take used piece in
-    let Q : List ℕ → Type 0 = λ all. AfterCopy limits comment replace (bytes ++ piece) all result in
-    let more = copied limits comment replace front whole (drop used piece) mid new taken most result same (count ∙ h.3) h.4 (head_at limits comment replace bytes piece head segment used r is h) copies in
-    let all = subst (λ l. Appends (λ t. AfterCopy limits comment replace l t result) whole mid new) (sym (joined bytes piece used)) more in
-    subst (λ t. Appends Q t old new) (sym none) (appends_then (λ t. t ≡ whole) Q [] old mid new (whole, wrote, refl) (λ t e. subst (λ u. Appends Q u mid new) (sym e) all))
+  abbrev whole : List ℕ
+  whole = whole_head w.head w.segment w.next.code
 
--- the bytes after one that was there before
-pub copies_more : (comment bytes piece text old new : List ℕ) (taken most : ℕ) (c : Insert) (result : Result ℕ Stop) → c.limits.input ≡ most → c.taken ≡ Some taken → HasInserted comment bytes text c → CopiesRest taken most piece result old new
-    → Appends (λ all. AfterCopy c.limits comment c.replace (bytes ++ piece) all result) text old new
-copies_more comment bytes piece text old new taken most c result same some h copies =
-    let k = subst (λ o. StandsAt c.limits comment c.replace bytes text o c.head (reading_of c.reader)) some h.3 in
-    copied c.limits comment c.replace bytes text piece old new taken most result same k.0 (less (length bytes) (c.limits.input) h.1) k.1 copies
-  where
-    less : (m n : ℕ) → m < n → m ≤ n
-    less m n l = omega (arith, l)
+  head_at : IsInserted limits front comment replace whole
+  head_at = head_inserted limits comment replace front w.head w.segment w.next w.same w.after
 
--- more is needed
-pub goes_on_after : (comment bytes piece text head : List ℕ) (taken : ℕ) (c : Insert) (next : Reading) → c.stop ≡ None → c.segment ≡ comment_segment comment → AfterCopy c.limits comment c.replace (bytes ++ piece) text (Ok taken)
+  -- if there is no memory for it
+  pub stops_at_head : (old new : List ℕ) (e : NoMemory) → AppendsText whole (Err e) old new
+      → Appends (λ all. InsertsUpTo limits comment replace (bytes ++ piece) all stop.NoMemory) text old new
+  stops_at_head old new e part =
+      let k = head_part limits comment replace front (drop w.used piece) whole old new e head_at part in
+      subst (λ t. Appends (λ all. InsertsUpTo limits comment replace (bytes ++ piece) all stop.NoMemory) t old new) (sym none)
+      (subst (λ l. Appends (λ all. InsertsUpTo limits comment replace l all stop.NoMemory) [] old new) (sym (joined bytes piece w.used)) k)
+
+  -- the bytes after it
+  pub copies_rest : (old mid new : List ℕ) (taken most : ℕ) (result : Result ℕ Stop) → limits.input ≡ most → mid ≡ old ++ whole → taken ≡ w.next.taken
+      → CopiesRest taken most (drop w.used piece) result mid new → Appends (λ all. AfterCopy limits comment replace (bytes ++ piece) all result) text old new
+  copies_rest old mid new taken most result same wrote count copies =
+      let h = w.after in
+      let Q : List ℕ → Type 0 = λ all. AfterCopy limits comment replace (bytes ++ piece) all result in
+      let more = copied limits comment replace front whole (drop w.used piece) mid new taken most result same (count ∙ h.3) h.4 head_at copies in
+      let all = subst (λ l. Appends (λ t. AfterCopy limits comment replace l t result) whole mid new) (sym (joined bytes piece w.used)) more in
+      subst (λ t. Appends Q t old new) (sym none) (appends_then (λ t. t ≡ whole) Q [] old mid new (whole, wrote, refl) (λ t e. subst (λ u. Appends Q u mid new) (sym e) all))
+
+-- AS IT WAS BEFORE THE PIECE
+module _ (comment bytes text : List ℕ) (c : Insert) (h : HasInserted comment bytes text c) where
+  pub kept_of : c.taken ≡ None → HasKept c.limits c.replace bytes c.head (reading_of c.reader) × (text ≡ [])
+  kept_of none = subst (λ o. StandsAt c.limits comment c.replace bytes text o c.head (reading_of c.reader)) none h.3
+
+  -- before the marker more is needed
+  pub goes_on_before : (piece head : List ℕ) (next : Reading) → c.taken ≡ None → AfterHeadPiece c.limits c.replace bytes piece (Ok None) head next
+      → StandsWith c.limits comment c.replace c.stop c.segment (bytes ++ piece) text c.taken head next
+  goes_on_before piece head next none after =
+      (h.0, after.1, h.2, subst (λ o. StandsAt c.limits comment c.replace (bytes ++ piece) text o head next) (sym none) (after.0, (kept_of none).1))
+
+  -- the bytes after a head that was there before
+  pub copies_more : (piece old new : List ℕ) (taken most : ℕ) (result : Result ℕ Stop) → c.limits.input ≡ most → c.taken ≡ Some taken
+      → CopiesRest taken most piece result old new → Appends (λ all. AfterCopy c.limits comment c.replace (bytes ++ piece) all result) text old new
+  copies_more piece old new taken most result same some copies =
+      let k = subst (λ o. StandsAt c.limits comment c.replace bytes text o c.head (reading_of c.reader)) some h.3 in
+      copied c.limits comment c.replace bytes text piece old new taken most result same k.0 (less (length bytes) (c.limits.input) h.1) k.1 copies
+    where
+      less : (m n : ℕ) → m < n → m ≤ n
+      less m n l = omega (arith, l)
+
+-- after the head more is needed
+pub goes_on_after : (comment bytes piece text head : List ℕ) (taken : ℕ) (c : Insert) (next : Reading) → c.stop ≡ None → c.segment ≡ comment_segment comment
+    → AfterCopy c.limits comment c.replace (bytes ++ piece) text (Ok taken)
     → StandsWith c.limits comment c.replace c.stop c.segment (bytes ++ piece) text (Some taken) head next
 goes_on_after comment bytes piece text head taken c next stop segment h = (stop, h.1, segment, (h.0, h.2))

@@ -8,17 +8,13 @@ use Rattle.jpg_spec_write.specs.CommentText.{IsReadWhole, IsInserted, inserted_h
 use Rattle.jpg_spec.specs.declared.fault.Fault.TheVariants.{UnexpectedMarker, UnsupportedProcess, SecondFrame, SosBeforeSof}
 use Rattle.jpg_spec.specs.declared.frame.Limits.{Limits}
 use Rattle.jpg_spec.proofs.MarkersOnce.{SpellsMore, GoesOn, marker_once, oldest, segments_once}
-use Rattle.jpg_spec.proofs.Common.{clash}
+use Rattle.jpg_spec.proofs.Common.{clash, or_right}
 
 -- AMONG SEGMENTS
 
 any_after : (test : Segment → Bool) (more : List Segment) (x : Segment) (xs : List Segment) → test x ≡ true → any_of test (more ++ x ∷ xs) ≡ true
 any_after test [] x xs e = ap (λ b. b || any_of test xs) e
-any_after test (m ∷ more) x xs e = or_true (test m) (any_of test (more ++ x ∷ xs)) (any_after test more x xs e)
-  where
-    or_true : (a b : Bool) → b ≡ true → (a || b) ≡ true
-    or_true true b h = refl
-    or_true false b h = h
+any_after test (m ∷ more) x xs e = or_right (test m) (any_of test (more ++ x ∷ xs)) (any_after test more x xs e)
 
 -- a marker, where more segments follow from the same place
 marker_of_oldest : (x : Segment) (more : List Segment) (text tail u v : List ℕ) (code : ℕ) → SpellsMore (x ∷ more) text → SpellsMarker code tail → text ++ u ≡ tail ++ v
@@ -73,32 +69,34 @@ pub record SameHead (before more : List Segment) (code other : ℕ) (rest behind
   pub codes : code ≡ other
   pub rests : rest ≡ behind
 
-heads_on_from : (limits : Limits) (bytes rest behind : List ℕ) (before more : List Segment) (code other : ℕ) (a : Head limits bytes before code rest) (b : Head limits bytes more other behind)
-    → GoesOn before a.front more b.front → SameHead before more code other rest behind
-heads_on_from limits bytes rest behind before more code other a b g = by g.0 g.1 g.2 g.3 g.4
-  where
-    by : (later : List Segment) (text : List ℕ) → more ≡ later ++ before → b.front ≡ a.front ++ text → SpellsMore later text → SameHead before more code other rest behind
-    by [] text same cut s =
-        let front : b.front ≡ a.front = cut ∙ ap (λ l. a.front ++ l) s ∙ append-nil a.front in
-        let m = marker_once code other a.tail b.tail rest behind a.marker b.marker
-        (append_cancel_left a.front (a.tail ++ rest) (b.tail ++ behind) (sym a.cut ∙ b.cut ∙ ap (λ l. l ++ (b.tail ++ behind)) front)) in
-        record { segments = sym same; codes = m.0; rests = m.2 }
-    by (x ∷ later) text same cut s =
-        let e : text ++ (b.tail ++ behind) ≡ a.tail ++ rest =
-        append_cancel_left a.front (text ++ (b.tail ++ behind)) (a.tail ++ rest) (sym (append_assoc a.front text (b.tail ++ behind)) ∙ ap (λ l. l ++ (b.tail ++ behind)) (sym cut) ∙ sym b.cut ∙ a.cut) in
-        let o = marker_of_oldest x later text a.tail (b.tail ++ behind) rest code s a.marker e in
-        let framed : has_frame more ≡ true =
-        ap has_frame (same ∙ ap (λ l. l ++ before) o.2 ∙ append_assoc o.0 (o.1 ∷ []) before)
-        ∙ any_after (λ s. is_frame_code s.0) o.0 o.1 before (ap is_frame_code o.3 ∙ a.frame) in
-        absurd (no_second (has_frame more) other framed b.frame b.allowed)
-
 turned : (before more : List Segment) (code other : ℕ) (rest behind : List ℕ) → SameHead before more code other rest behind → SameHead more before other code behind rest
 turned before more code other rest behind s = record { segments = sym s.segments; codes = sym s.codes; rests = sym s.rests }
 
-pub one_head : (limits : Limits) (bytes rest behind : List ℕ) (before more : List Segment) (code other : ℕ) → Head limits bytes before code rest → Head limits bytes more other behind → SameHead before more code other rest behind
-one_head limits bytes rest behind before more code other a b =
-    ⊎_elim (λ g. heads_on_from limits bytes rest behind before more code other a b g) (λ g. turned more before other code behind rest (heads_on_from limits bytes behind rest more before other code b a g))
-    (segments_once before more a.front b.front (a.tail ++ rest) (b.tail ++ behind) a.spelled b.spelled (sym a.cut ∙ b.cut))
+module _ (limits : Limits) (bytes : List ℕ) where
+  heads_on_from : (rest behind : List ℕ) (before more : List Segment) (code other : ℕ) (a : Head limits bytes before code rest)
+      (b : Head limits bytes more other behind) → GoesOn before a.front more b.front → SameHead before more code other rest behind
+  heads_on_from rest behind before more code other a b g = by g.0 g.1 g.2 g.3 g.4
+    where
+      by : (later : List Segment) (text : List ℕ) → more ≡ later ++ before → b.front ≡ a.front ++ text → SpellsMore later text → SameHead before more code other rest behind
+      by [] text same cut s =
+          let front : b.front ≡ a.front = cut ∙ ap (λ l. a.front ++ l) s ∙ append-nil a.front in
+          let m = marker_once code other a.tail b.tail rest behind a.marker b.marker
+          (append_cancel_left a.front (a.tail ++ rest) (b.tail ++ behind) (sym a.cut ∙ b.cut ∙ ap (λ l. l ++ (b.tail ++ behind)) front)) in
+          record { segments = sym same; codes = m.0; rests = m.2 }
+      by (x ∷ later) text same cut s =
+          let e : text ++ (b.tail ++ behind) ≡ a.tail ++ rest =
+          append_cancel_left a.front (text ++ (b.tail ++ behind)) (a.tail ++ rest) (sym (append_assoc a.front text (b.tail ++ behind)) ∙ ap (λ l. l ++ (b.tail ++ behind)) (sym cut) ∙ sym b.cut ∙ a.cut) in
+          let o = marker_of_oldest x later text a.tail (b.tail ++ behind) rest code s a.marker e in
+          let framed : has_frame more ≡ true =
+          ap has_frame (same ∙ ap (λ l. l ++ before) o.2 ∙ append_assoc o.0 (o.1 ∷ []) before)
+          ∙ any_after (λ s. is_frame_code s.0) o.0 o.1 before (ap is_frame_code o.3 ∙ a.frame) in
+          absurd (no_second (has_frame more) other framed b.frame b.allowed)
+
+  pub one_head : (rest behind : List ℕ) (before more : List Segment) (code other : ℕ) → Head limits bytes before code rest → Head limits bytes more other behind
+      → SameHead before more code other rest behind
+  one_head rest behind before more code other a b =
+      ⊎_elim (λ g. heads_on_from rest behind before more code other a b g) (λ g. turned more before other code behind rest (heads_on_from behind rest more before other code b a g))
+      (segments_once before more a.front b.front (a.tail ++ rest) (b.tail ++ behind) a.spelled b.spelled (sym a.cut ∙ b.cut))
 
 -- one text with the comment inserted
 pub one_inserted : (limits : Limits) (bytes comment : List ℕ) (replace : Bool) (text other : List ℕ) → IsInserted limits bytes comment replace text → IsInserted limits bytes comment replace other → text ≡ other

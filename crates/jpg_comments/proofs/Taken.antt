@@ -38,14 +38,6 @@ pub record Tells (limits : Limits) (is_whole : List ℕ → Type 0) : Type 0 whe
   pub faulty : (f : Fault) → goes (at_fault f) ≡ false
   pub wholes : (bytes : List ℕ) → is_whole bytes → (y : Reached) × Reaches (kept_rule limits) bytes y × (goes y ≡ false)
 
--- bytes that can be continued are not complete and have no fault
-pub goes_on : (limits : Limits) (is_whole : List ℕ → Type 0) (t : Tells limits is_whole) (bytes : List ℕ) (x : Reached) → t.goes x ≡ true → Reaches (kept_rule limits) bytes x
-    → ((fault : Fault) → SegmentsReveal (kept_rule limits) fault bytes → ⊥) × (is_whole bytes → ⊥)
-goes_on limits is_whole t bytes x going reaches = (
-  λ fault s. clash (t.goes x) going (ap t.goes (reached_once (kept_rule limits) bytes x (at_fault fault) reaches s) ∙ t.faulty fault),
-  λ w. (let y = t.wholes bytes w in clash (t.goes x) going (ap t.goes (reached_once (kept_rule limits) bytes x y.0 reaches y.1) ∙ y.2)),
-)
-
 pub upto : (n m : ℕ) → (n ≤ m) ⊎ (m < n)
 upto zero m = inl (omega arith)
 upto (suc n) zero = inr (omega arith)
@@ -55,50 +47,9 @@ upto (suc n) (suc m) = next (upto n m)
     next (inl h) = inl (omega (arith, h))
     next (inr h) = inr (omega (arith, h))
 
--- one more byte has no fault either
-pub nothing_more : (limits : Limits) (is_whole : List ℕ → Type 0) (t : Tells limits is_whole) (bytes : List ℕ) (byte : ℕ) (x : Reached) → t.goes x ≡ true → Reaches (kept_rule limits) (bytes ++ byte ∷ []) x
-    → RevealsNothing limits is_whole bytes → RevealsNothing limits is_whole (bytes ++ byte ∷ [])
-nothing_more limits is_whole t bytes byte x going reaches before = λ n long. by n (upto n (length bytes))
-  where
-    all : List ℕ
-    all = bytes ++ byte ∷ []
-
-    by : (n : ℕ) → (n ≤ length bytes) ⊎ (length bytes < n) → ((fault : Fault) → SegmentsReveal (kept_rule limits) fault (take n all) → ⊥) × (is_whole (take n all) → ⊥)
-    by n (inl h) =
-        let e = take-append-le n bytes (byte ∷ []) h in
-        let old = before n h in
-        (λ fault s. old.0 fault (subst (λ l. SegmentsReveal (kept_rule limits) fault l) e s), λ w. old.1 (subst is_whole e w))
-    by n (inr h) =
-        let e = take_all n all (omega (arith, h, length-append bytes (byte ∷ []))) in
-        let new = goes_on limits is_whole t all x going reaches in
-        (λ fault s. new.0 fault (subst (λ l. SegmentsReveal (kept_rule limits) fault l) e s), λ w. new.1 (subst is_whole e w))
-
--- no bytes have no fault
-pub nothing_first : (limits : Limits) (is_whole : List ℕ → Type 0) (t : Tells limits is_whole) → t.goes at_part ≡ true → RevealsNothing limits is_whole []
-nothing_first limits is_whole t going = λ n long.
-    let e : take n [] ≡ [] = take_all n [] (omega arith) in
-    let new = goes_on limits is_whole t [] at_part going (inl (inl refl)) in
-    (λ fault s. new.0 fault (subst (λ l. SegmentsReveal (kept_rule limits) fault l) e s), λ w. new.1 (subst is_whole e w))
-
 -- the limit of the reader is that of the bytes
 pub within : {limits : Limits} {is_whole : List ℕ → Type 0} {bytes : List ℕ} {before : List Segment} {r : Reading} → HasTaken limits is_whole bytes before r → r.taken < r.limits.input → r.taken < limits.input
 within {limits} {is_whole} {bytes} {before} {r} h short = subst (λ (l : Limits). r.taken < l.input) h.limited short
-
--- one more byte is taken
-pub taken_on : (limits : Limits) (is_whole : List ℕ → Type 0) (t : Tells limits is_whole) (r next : Reading) (bytes : List ℕ) (byte : ℕ) (before more : List Segment) (x : Reached)
-    → HasTaken limits is_whole bytes before r → r.taken < r.limits.input → next.limits ≡ r.limits → next.taken ≡ r.taken + 1
-    → t.goes x ≡ true → Reaches (kept_rule next.limits) (bytes ++ byte ∷ []) x → StandsForSegments (bytes ++ byte ∷ []) more next → HasTaken limits is_whole (bytes ++ byte ∷ []) more next
-taken_on limits is_whole t r next bytes byte before more x h short same one going reaches stands =
-    let e : next.limits ≡ limits = same ∙ h.limited in
-    let was = h.taken in
-    let room = within h short in
-    record {
-      stands = stands;
-      limited = e;
-      taken = omega (arith, one, was, length-append bytes (byte ∷ []));
-      most = omega (arith, one, room);
-      nothing = nothing_more limits is_whole t bytes byte x going (subst (λ l. Reaches (kept_rule l) (bytes ++ byte ∷ []) x) e reaches) h.nothing;
-    }
 
 -- the same bytes of longer ones, and no bytes
 pub some_pass : (r next : Reading) (piece : List ℕ) (most n : ℕ) → most ≤ length piece → PassesSome r (take most piece) (Ok n) next → PassesSome r piece (Ok n) next
@@ -117,30 +68,89 @@ none_pass r next piece same = (
   λ front before m s some less. absurd (omega (arith, some, less)),
 )
 
--- some bytes that complete nothing
-nothing_some : (limits : Limits) (is_whole : List ℕ → Type 0) (t : Tells limits is_whole) (bytes piece : List ℕ) (n m : ℕ) → t.goes at_part ≡ true → ((m : ℕ) → 1 ≤ m → m ≤ n → Reaches (kept_rule limits) (bytes ++ take m piece) at_part) → n ≤ length piece → m ≤ n
-    → RevealsNothing limits is_whole bytes → RevealsNothing limits is_whole (bytes ++ take m piece)
-nothing_some limits is_whole t bytes piece n zero going reaches few less before = subst (λ l. RevealsNothing limits is_whole l) (sym (append-nil bytes)) before
-nothing_some limits is_whole t bytes piece n (suc m) going reaches few less before =
-    let one : suc m ≡ m + 1 = omega arith in
-    let last : bytes ++ take (suc m) piece ≡ (bytes ++ take m piece) ++ get_or piece m 0 ∷ [] =
-    ap (λ l. bytes ++ l) (ap (λ k. take k piece) one ∙ take_more piece m 0 (omega (arith, few, less))) ∙ sym (append_assoc bytes (take m piece) (get_or piece m 0 ∷ [])) in
-    let old = nothing_some limits is_whole t bytes piece n m going reaches few (omega (arith, less)) before in
-    subst (λ l. RevealsNothing limits is_whole l) (sym last)
-    (nothing_more limits is_whole t (bytes ++ take m piece) (get_or piece m 0) at_part going (subst (λ l. Reaches (kept_rule limits) l at_part) last (reaches (suc m) (omega arith) less)) old)
+-- a reader, before and after one more byte
+pub record OneMore (r next : Reading) : Type 0 where
+  pub short : r.taken < r.limits.input
+  pub same : next.limits ≡ r.limits
+  pub one : next.taken ≡ r.taken + 1
 
-pub taken_some : (limits : Limits) (is_whole : List ℕ → Type 0) (t : Tells limits is_whole) (r next : Reading) (bytes piece : List ℕ) (n : ℕ) (before : List Segment) → t.goes at_part ≡ true → HasTaken limits is_whole bytes before r → r.taken + n ≤ limits.input
-    → next.limits ≡ r.limits → next.taken ≡ r.taken + n → PassesSome r piece (Ok n) next → HasTaken limits is_whole (bytes ++ take n piece) before next
-taken_some limits is_whole t r next bytes piece n before going h room same some (few, stands, parts) =
-    let was = h.taken in
-    let size = length-take-le n piece few in
-    record {
-      stands = stands bytes before h.stands;
-      limited = same ∙ h.limited;
-      taken = omega (arith, some, was, size, length-append bytes (take n piece));
-      most = omega (arith, some, room);
-      nothing = nothing_some limits is_whole t bytes piece n n going (λ m one few. subst (λ l. Reaches (kept_rule l) (bytes ++ take m piece) at_part) h.limited (parts bytes before m h.stands one few)) few (omega arith) h.nothing;
-    }
+module _ (limits : Limits) (is_whole : List ℕ → Type 0) (t : Tells limits is_whole) where
+  -- bytes that can be continued are not complete and have no fault
+  pub goes_on : (bytes : List ℕ) (x : Reached) → t.goes x ≡ true → Reaches (kept_rule limits) bytes x
+      → ((fault : Fault) → SegmentsReveal (kept_rule limits) fault bytes → ⊥) × (is_whole bytes → ⊥)
+  goes_on bytes x going reaches = (
+    λ fault s. clash (t.goes x) going (ap t.goes (reached_once (kept_rule limits) bytes x (at_fault fault) reaches s) ∙ t.faulty fault),
+    λ w. (let y = t.wholes bytes w in clash (t.goes x) going (ap t.goes (reached_once (kept_rule limits) bytes x y.0 reaches y.1) ∙ y.2)),
+  )
+
+  -- one more byte has no fault either
+  pub nothing_more : (bytes : List ℕ) (byte : ℕ) (x : Reached) → t.goes x ≡ true → Reaches (kept_rule limits) (bytes ++ byte ∷ []) x
+      → RevealsNothing limits is_whole bytes → RevealsNothing limits is_whole (bytes ++ byte ∷ [])
+  nothing_more bytes byte x going reaches before = λ n long. by n (upto n (length bytes))
+    where
+      all : List ℕ
+      all = bytes ++ byte ∷ []
+
+      by : (n : ℕ) → (n ≤ length bytes) ⊎ (length bytes < n) → ((fault : Fault) → SegmentsReveal (kept_rule limits) fault (take n all) → ⊥) × (is_whole (take n all) → ⊥)
+      by n (inl h) =
+          let e = take-append-le n bytes (byte ∷ []) h in
+          let old = before n h in
+          (λ fault s. old.0 fault (subst (λ l. SegmentsReveal (kept_rule limits) fault l) e s), λ w. old.1 (subst is_whole e w))
+      by n (inr h) =
+          let e = take_all n all (omega (arith, h, length-append bytes (byte ∷ []))) in
+          let new = goes_on all x going reaches in
+          (λ fault s. new.0 fault (subst (λ l. SegmentsReveal (kept_rule limits) fault l) e s), λ w. new.1 (subst is_whole e w))
+
+  -- no bytes have no fault
+  pub nothing_first : t.goes at_part ≡ true → RevealsNothing limits is_whole []
+  nothing_first going = λ n long.
+      let e : take n [] ≡ [] = take_all n [] (omega arith) in
+      let new = goes_on [] at_part going (inl (inl refl)) in
+      (λ fault s. new.0 fault (subst (λ l. SegmentsReveal (kept_rule limits) fault l) e s), λ w. new.1 (subst is_whole e w))
+
+  -- one more byte is taken
+  pub taken_on : (r next : Reading) (bytes : List ℕ) (byte : ℕ) (before more : List Segment) (x : Reached) → HasTaken limits is_whole bytes before r
+      → OneMore r next → t.goes x ≡ true → Reaches (kept_rule next.limits) (bytes ++ byte ∷ []) x → StandsForSegments (bytes ++ byte ∷ []) more next
+      → HasTaken limits is_whole (bytes ++ byte ∷ []) more next
+  taken_on r next bytes byte before more x h m going reaches stands =
+      let e : next.limits ≡ limits = m.same ∙ h.limited in
+      let was = h.taken in
+      let one = m.one in
+      let room = within h m.short in
+      record {
+        stands = stands;
+        limited = e;
+        taken = omega (arith, one, was, length-append bytes (byte ∷ []));
+        most = omega (arith, one, room);
+        nothing = nothing_more bytes byte x going (subst (λ l. Reaches (kept_rule l) (bytes ++ byte ∷ []) x) e reaches) h.nothing;
+      }
+
+  -- some bytes that complete nothing
+  nothing_some : (bytes piece : List ℕ) (n m : ℕ) → t.goes at_part ≡ true
+      → ((m : ℕ) → 1 ≤ m → m ≤ n → Reaches (kept_rule limits) (bytes ++ take m piece) at_part) → n ≤ length piece → m ≤ n → RevealsNothing limits is_whole bytes
+      → RevealsNothing limits is_whole (bytes ++ take m piece)
+  nothing_some bytes piece n zero going reaches few less before = subst (λ l. RevealsNothing limits is_whole l) (sym (append-nil bytes)) before
+  nothing_some bytes piece n (suc m) going reaches few less before =
+      let one : suc m ≡ m + 1 = omega arith in
+      let last : bytes ++ take (suc m) piece ≡ (bytes ++ take m piece) ++ get_or piece m 0 ∷ [] =
+      ap (λ l. bytes ++ l) (ap (λ k. take k piece) one ∙ take_more piece m 0 (omega (arith, few, less))) ∙ sym (append_assoc bytes (take m piece) (get_or piece m 0 ∷ [])) in
+      let old = nothing_some bytes piece n m going reaches few (omega (arith, less)) before in
+      subst (λ l. RevealsNothing limits is_whole l) (sym last)
+      (nothing_more (bytes ++ take m piece) (get_or piece m 0) at_part going (subst (λ l. Reaches (kept_rule limits) l at_part) last (reaches (suc m) (omega arith) less)) old)
+
+  pub taken_some : (r next : Reading) (bytes piece : List ℕ) (n : ℕ) (before : List Segment) → t.goes at_part ≡ true → HasTaken limits is_whole bytes before r
+      → r.taken + n ≤ limits.input → next.limits ≡ r.limits → next.taken ≡ r.taken + n → PassesSome r piece (Ok n) next
+      → HasTaken limits is_whole (bytes ++ take n piece) before next
+  taken_some r next bytes piece n before going h room same some (few, stands, parts) =
+      let was = h.taken in
+      let size = length-take-le n piece few in
+      record {
+        stands = stands bytes before h.stands;
+        limited = same ∙ h.limited;
+        taken = omega (arith, some, was, size, length-append bytes (take n piece));
+        most = omega (arith, some, room);
+        nothing = nothing_some bytes piece n n going (λ m one few. subst (λ l. Reaches (kept_rule l) (bytes ++ take m piece) at_part) h.limited (parts bytes before m h.stands one few)) few (omega arith) h.nothing;
+      }
 
 -- FAULTS
 
@@ -153,22 +163,22 @@ least_longer rule front rest f h = (
 )
 
 -- a byte that reveals a fault, whatever follows it
-pub fault_shown : (limits : Limits) (is_whole : List ℕ → Type 0) (r next : Reading) (bytes : List ℕ) (byte : ℕ) (before : List Segment) (f : FaultAt) → HasTaken limits is_whole bytes before r → r.taken < r.limits.input
-    → next.limits ≡ r.limits → next.taken ≡ r.taken + 1 → SegmentsReveal (kept_rule next.limits) f.fault (bytes ++ byte ∷ []) → f.at ≡ next.taken
+pub fault_shown : (limits : Limits) (is_whole : List ℕ → Type 0) (r next : Reading) (bytes : List ℕ) (byte : ℕ) (before : List Segment) (f : FaultAt) → HasTaken limits is_whole bytes before r → OneMore r next → SegmentsReveal (kept_rule next.limits) f.fault (bytes ++ byte ∷ []) → f.at ≡ next.taken
     → (f.at ≡ length (bytes ++ byte ∷ [])) × ShowsFault limits is_whole (bytes ++ byte ∷ []) f
-fault_shown limits is_whole r next bytes byte before f h short same one shown at =
+fault_shown limits is_whole r next bytes byte before f h m shown at =
     let all = bytes ++ byte ∷ [] in
     let was = h.taken in
-    let room = within h short in
+    let one = m.one in
+    let room = within h m.short in
     let size = length-append bytes (byte ∷ []) in
     let is : f.at ≡ length all = omega (arith, at, one, was, size) in
-    let s = subst (λ l. SegmentsReveal (kept_rule l) f.fault all) (same ∙ h.limited) shown in (
+    let s = subst (λ l. SegmentsReveal (kept_rule l) f.fault all) (m.same ∙ h.limited) shown in (
       is,
       λ rest.
           subst (λ n. IsMarkerFault limits is_whole (all ++ rest) f.fault n) (sym is) (
-            λ m less w.
-                (let small : m ≤ length bytes = omega (arith, less, size) in
-                (h.nothing m small).1 (subst is_whole (take-append-le m all rest (omega (arith, less)) ∙ take-append-le m bytes (byte ∷ []) small) w)),
+            λ k less w.
+                (let small : k ≤ length bytes = omega (arith, less, size) in
+                (h.nothing k small).1 (subst is_whole (take-append-le k all rest (omega (arith, less)) ∙ take-append-le k bytes (byte ∷ []) small) w)),
             inl (omega (arith, room, was, size), least_longer (kept_rule limits) all rest f.fault (least (kept_rule limits) all f.fault s)),
           ),
     )
@@ -209,7 +219,7 @@ ends_fault limits is_whole bytes short nothing = (
 
 -- WHAT IS BEGUN
 
-frame_or_not : (b : Bool) → (b ≡ true) ⊎ (b ≡ false)
+pub frame_or_not : (b : Bool) → (b ≡ true) ⊎ (b ≡ false)
 frame_or_not true = inl refl
 frame_or_not false = inr refl
 

@@ -5,6 +5,7 @@ use Rattle.std.proofs.lemmas.Nat.{mul-le}
 use Rattle.std.proofs.lemmas.List.{take_more, take_all}
 use Rattle.std.proofs.lemmas.List.Elements.{All-head, All-tail, All-weaker, All-push}
 use Rattle.jpg_spec_image.specs.Dct.{even_sums, odd_sums, joined_sums, line_sums, number_at}
+use Rattle.jpg_dct.proofs.Several.{EightOf, on}
 
 abs_sum : (a b : ℤ) (m n : ℕ) → nat_abs a ≤ m → nat_abs b ≤ n → nat_abs (a +ℤ b) ≤ m + n
 abs_sum a b m n ha hb = omega (arith, ints, ha, hb)
@@ -101,20 +102,23 @@ pub record AreBelow (n : ℕ) (sums : List ℤ) : Type 0 where
   pub at6 : nat_abs (number_at sums 6) ≤ n
   pub at7 : nat_abs (number_at sums 7) ≤ n
 
-pub line_is_small : (M : ℕ) (x0 x1 x2 x3 x4 x5 x6 x7 : ℤ) → nat_abs x0 ≤ M → nat_abs x1 ≤ M → nat_abs x2 ≤ M → nat_abs x3 ≤ M → nat_abs x4 ≤ M → nat_abs x5 ≤ M → nat_abs x6 ≤ M → nat_abs x7 ≤ M → AreBelow (178219 * M) (line_sums x0 x1 x2 x3 x4 x5 x6 x7)
+pub line_is_small : (M : ℕ) (d : EightOf ℤ) → nat_abs d.at0 ≤ M → nat_abs d.at1 ≤ M → nat_abs d.at2 ≤ M → nat_abs d.at3 ≤ M
+    → nat_abs d.at4 ≤ M → nat_abs d.at5 ≤ M → nat_abs d.at6 ≤ M → nat_abs d.at7 ≤ M → AreBelow (178219 * M) (on line_sums d)
 unfolding joined_sums
-line_is_small M x0 x1 x2 x3 x4 x5 x6 x7 h0 h1 h2 h3 h4 h5 h6 h7 =
-    let b = even_is_small M x0 x2 x4 x6 h0 h2 h4 h6 in
-    let o = odd_is_small M x1 x3 x5 x7 h1 h3 h5 h7 in
+line_is_small M d h0 h1 h2 h3 h4 h5 h6 h7 =
+    let b = even_is_small M d.at0 d.at2 d.at4 d.at6 h0 h2 h4 h6 in
+    let o = odd_is_small M d.at1 d.at3 d.at5 d.at7 h1 h3 h5 h7 in
+    let e : ℕ → ℤ = number_at (even_sums d.at0 d.at2 d.at4 d.at6) in
+    let f : ℕ → ℤ = number_at (odd_sums d.at1 d.at3 d.at5 d.at7) in
     record {
-      at0 = omega (arith, abs_sum (number_at (even_sums x0 x2 x4 x6) 0) (number_at (odd_sums x1 x3 x5 x7) 3) (40387 * M) (137832 * M) b.at0 o.at3);
-      at1 = omega (arith, abs_sum (number_at (even_sums x0 x2 x4 x6) 1) (number_at (odd_sums x1 x3 x5 x7) 2) (40387 * M) (137832 * M) b.at1 o.at2);
-      at2 = omega (arith, abs_sum (number_at (even_sums x0 x2 x4 x6) 2) (number_at (odd_sums x1 x3 x5 x7) 1) (40387 * M) (137832 * M) b.at2 o.at1);
-      at3 = omega (arith, abs_sum (number_at (even_sums x0 x2 x4 x6) 3) (number_at (odd_sums x1 x3 x5 x7) 0) (40387 * M) (137832 * M) b.at3 o.at0);
-      at4 = omega (arith, abs_less (number_at (even_sums x0 x2 x4 x6) 3) (number_at (odd_sums x1 x3 x5 x7) 0) (40387 * M) (137832 * M) b.at3 o.at0);
-      at5 = omega (arith, abs_less (number_at (even_sums x0 x2 x4 x6) 2) (number_at (odd_sums x1 x3 x5 x7) 1) (40387 * M) (137832 * M) b.at2 o.at1);
-      at6 = omega (arith, abs_less (number_at (even_sums x0 x2 x4 x6) 1) (number_at (odd_sums x1 x3 x5 x7) 2) (40387 * M) (137832 * M) b.at1 o.at2);
-      at7 = omega (arith, abs_less (number_at (even_sums x0 x2 x4 x6) 0) (number_at (odd_sums x1 x3 x5 x7) 3) (40387 * M) (137832 * M) b.at0 o.at3);
+      at0 = omega (arith, abs_sum (e 0) (f 3) (40387 * M) (137832 * M) b.at0 o.at3);
+      at1 = omega (arith, abs_sum (e 1) (f 2) (40387 * M) (137832 * M) b.at1 o.at2);
+      at2 = omega (arith, abs_sum (e 2) (f 1) (40387 * M) (137832 * M) b.at2 o.at1);
+      at3 = omega (arith, abs_sum (e 3) (f 0) (40387 * M) (137832 * M) b.at3 o.at0);
+      at4 = omega (arith, abs_less (e 3) (f 0) (40387 * M) (137832 * M) b.at3 o.at0);
+      at5 = omega (arith, abs_less (e 2) (f 1) (40387 * M) (137832 * M) b.at2 o.at1);
+      at6 = omega (arith, abs_less (e 1) (f 2) (40387 * M) (137832 * M) b.at1 o.at2);
+      at7 = omega (arith, abs_less (e 0) (f 3) (40387 * M) (137832 * M) b.at0 o.at3);
     }
 
 -- the greatest magnitude with one more number

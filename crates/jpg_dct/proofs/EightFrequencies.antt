@@ -11,8 +11,8 @@ use Rattle.jpg_spec_image.proofs.Frequencies.{InWidth, LineIn, line_below, sum_o
 use Rattle.jpg_spec_image.proofs.CodedBlocks.{number_is}
 use Rattle.jpg_dct.specs.declared.forward.lanes.Eight.{Eight}
 use Rattle.jpg_dct.specs.Eights.{IsEight, IsLine, vectors, vector, eighth}
-use Rattle.jpg_dct.proofs.Wrapped.{eight, same8}
-use Rattle.jpg_dct.proofs.Lines.{line_small, all8, row_bound}
+use Rattle.jpg_dct.proofs.Several.{EightOf, all8, eight, eight_of, on, same4, same8}
+use Rattle.jpg_dct.proofs.Lines.{line_small, row_bound}
 use Rattle.jpg_dct.proofs.Eights.{eight_at}
 
 -- SIXTEEN TIMES as large
@@ -69,37 +69,39 @@ even_scaled2 a b c d = omega (arith, ints, even_at2 a b c d, even_at2 (a *ℤ po
 even_scaled3 : (a b c d : ℤ) → number_at (even_frequencies (a *ℤ pos 16) (b *ℤ pos 16) (c *ℤ pos 16) (d *ℤ pos 16)) 3 ≡ number_at (even_frequencies a b c d) 3 *ℤ pos 16
 even_scaled3 a b c d = omega (arith, ints, even_at3 a b c d, even_at3 (a *ℤ pos 16) (b *ℤ pos 16) (c *ℤ pos 16) (d *ℤ pos 16))
 
--- of the sums or differences of two lines' ends
+-- a line times sixteen, and a function of what g makes of the ends
+abbrev sixteen : EightOf ℤ → EightOf ℤ
+sixteen d = eight_of (d.at0 *ℤ pos 16) (d.at1 *ℤ pos 16) (d.at2 *ℤ pos 16) (d.at3 *ℤ pos 16) (d.at4 *ℤ pos 16) (d.at5 *ℤ pos 16) (d.at6 *ℤ pos 16) (d.at7 *ℤ pos 16)
+
+abbrev ends_of : (ℤ → ℤ → ℤ → ℤ → List ℤ) → (ℤ → ℤ → ℤ) → EightOf ℤ → List ℤ
+ends_of f g d = f (g d.at0 d.at7) (g d.at1 d.at6) (g d.at2 d.at5) (g d.at3 d.at4)
+
 of_four : (f : ℤ → ℤ → ℤ → ℤ → List ℤ) (n : ℕ) (g : ℤ → ℤ → ℤ) → ((a b : ℤ) → g (a *ℤ pos 16) (b *ℤ pos 16) ≡ g a b *ℤ pos 16)
     → ((a b c d : ℤ) → number_at (f (a *ℤ pos 16) (b *ℤ pos 16) (c *ℤ pos 16) (d *ℤ pos 16)) n ≡ number_at (f a b c d) n *ℤ pos 16)
-    → (d0 d1 d2 d3 d4 d5 d6 d7 : ℤ)
-    → eighth (number_at (f (g (d0 *ℤ pos 16) (d7 *ℤ pos 16)) (g (d1 *ℤ pos 16) (d6 *ℤ pos 16)) (g (d2 *ℤ pos 16) (d5 *ℤ pos 16)) (g (d3 *ℤ pos 16) (d4 *ℤ pos 16))) n)
-    ≡ fourth (number_at (f (g d0 d7) (g d1 d6) (g d2 d5) (g d3 d4)) n)
-of_four f n g ends scaled d0 d1 d2 d3 d4 d5 d6 d7 =
-    by_sixteen (number_at (f (g (d0 *ℤ pos 16) (d7 *ℤ pos 16)) (g (d1 *ℤ pos 16) (d6 *ℤ pos 16)) (g (d2 *ℤ pos 16) (d5 *ℤ pos 16)) (g (d3 *ℤ pos 16) (d4 *ℤ pos 16))) n)
-    (number_at (f (g d0 d7) (g d1 d6) (g d2 d5) (g d3 d4)) n)
-    (ap (λ x. number_at (f x (g (d1 *ℤ pos 16) (d6 *ℤ pos 16)) (g (d2 *ℤ pos 16) (d5 *ℤ pos 16)) (g (d3 *ℤ pos 16) (d4 *ℤ pos 16))) n) (ends d0 d7)
-    ∙ ap (λ x. number_at (f (g d0 d7 *ℤ pos 16) x (g (d2 *ℤ pos 16) (d5 *ℤ pos 16)) (g (d3 *ℤ pos 16) (d4 *ℤ pos 16))) n) (ends d1 d6)
-    ∙ ap (λ x. number_at (f (g d0 d7 *ℤ pos 16) (g d1 d6 *ℤ pos 16) x (g (d3 *ℤ pos 16) (d4 *ℤ pos 16))) n) (ends d2 d5)
-    ∙ ap (λ x. number_at (f (g d0 d7 *ℤ pos 16) (g d1 d6 *ℤ pos 16) (g d2 d5 *ℤ pos 16) x) n) (ends d3 d4)
-    ∙ scaled (g d0 d7) (g d1 d6) (g d2 d5) (g d3 d4))
+    → (d : EightOf ℤ) → eighth (number_at (ends_of f g (sixteen d)) n) ≡ fourth (number_at (ends_of f g d) n)
+of_four f n g ends scaled d =
+    by_sixteen (number_at (ends_of f g (sixteen d)) n) (number_at (ends_of f g d) n)
+    (ap (λ xs. number_at xs n) (same4 f (ends d.at0 d.at7) (ends d.at1 d.at6) (ends d.at2 d.at5) (ends d.at3 d.at4))
+    ∙ scaled (g d.at0 d.at7) (g d.at1 d.at6) (g d.at2 d.at5) (g d.at3 d.at4))
 
-sixteen_lines : (d0 d1 d2 d3 d4 d5 d6 d7 : ℤ)
-    → map eighth (line_frequencies (d0 *ℤ pos 16) (d1 *ℤ pos 16) (d2 *ℤ pos 16) (d3 *ℤ pos 16) (d4 *ℤ pos 16) (d5 *ℤ pos 16) (d6 *ℤ pos 16) (d7 *ℤ pos 16))
-    ≡ map fourth (line_frequencies d0 d1 d2 d3 d4 d5 d6 d7)
+sixteen_lines : (d : EightOf ℤ) → map eighth (on line_frequencies (sixteen d)) ≡ map fourth (on line_frequencies d)
 unfolding woven
-sixteen_lines d0 d1 d2 d3 d4 d5 d6 d7 =
+sixteen_lines d =
     eight
-    (of_four even_frequencies 0 (λ a b. a +ℤ b) together even_scaled0 d0 d1 d2 d3 d4 d5 d6 d7)
-    (of_four odd_sums 3 (λ a b. a -ℤ b) apart odd_scaled3 d0 d1 d2 d3 d4 d5 d6 d7)
-    (of_four even_frequencies 1 (λ a b. a +ℤ b) together even_scaled1 d0 d1 d2 d3 d4 d5 d6 d7)
-    (of_four odd_sums 2 (λ a b. a -ℤ b) apart odd_scaled2 d0 d1 d2 d3 d4 d5 d6 d7)
-    (of_four even_frequencies 2 (λ a b. a +ℤ b) together even_scaled2 d0 d1 d2 d3 d4 d5 d6 d7)
-    (of_four odd_sums 1 (λ a b. a -ℤ b) apart odd_scaled1 d0 d1 d2 d3 d4 d5 d6 d7)
-    (of_four even_frequencies 3 (λ a b. a +ℤ b) together even_scaled3 d0 d1 d2 d3 d4 d5 d6 d7)
-    (of_four odd_sums 0 (λ a b. a -ℤ b) apart odd_scaled0 d0 d1 d2 d3 d4 d5 d6 d7)
+    (of_four even_frequencies 0 (λ a b. a +ℤ b) together even_scaled0 d)
+    (of_four odd_sums 3 (λ a b. a -ℤ b) apart odd_scaled3 d)
+    (of_four even_frequencies 1 (λ a b. a +ℤ b) together even_scaled1 d)
+    (of_four odd_sums 2 (λ a b. a -ℤ b) apart odd_scaled2 d)
+    (of_four even_frequencies 2 (λ a b. a +ℤ b) together even_scaled2 d)
+    (of_four odd_sums 1 (λ a b. a -ℤ b) apart odd_scaled1 d)
+    (of_four even_frequencies 3 (λ a b. a +ℤ b) together even_scaled3 d)
+    (of_four odd_sums 0 (λ a b. a -ℤ b) apart odd_scaled0 d)
 
 -- ROWS
+
+-- the levels of row v
+abbrev levels : List ℕ → ℕ → EightOf ℤ
+levels s v = eight_of (level s (8 * v)) (level s (8 * v + 1)) (level s (8 * v + 2)) (level s (8 * v + 3)) (level s (8 * v + 4)) (level s (8 * v + 5)) (level s (8 * v + 6)) (level s (8 * v + 7))
 
 column_is_row : (s : List ℕ) (columns : List (List ℤ)) (v : ℕ) → v < 8 → ((u : ℕ) → u < 8 → column_at columns v u ≡ level s (8 * v + u) *ℤ pos 16) → frequency_column columns v ≡ frequency_row s v
 unfolding frequency_column frequency_row
@@ -107,7 +109,7 @@ column_is_row s columns v lv is =
     let first : level s (8 * v + 0) *ℤ pos 16 ≡ level s (8 * v) *ℤ pos 16 = ap (λ k. level s k *ℤ pos 16) (omega arith) in
     same8 (λ a b c d e f g h. map eighth (line_frequencies a b c d e f g h))
     (is 0 (omega arith) ∙ first) (is 1 (omega arith)) (is 2 (omega arith)) (is 3 (omega arith)) (is 4 (omega arith)) (is 5 (omega arith)) (is 6 (omega arith)) (is 7 (omega arith))
-    ∙ sixteen_lines (level s (8 * v)) (level s (8 * v + 1)) (level s (8 * v + 2)) (level s (8 * v + 3)) (level s (8 * v + 4)) (level s (8 * v + 5)) (level s (8 * v + 6)) (level s (8 * v + 7))
+    ∙ sixteen_lines (levels s v)
 
 level_small : (s : List ℕ) (k : ℕ) → slice_index s k < 256 → nat_abs (level s k) ≤ 128
 level_small s k h = omega (arith, ints, h)
@@ -116,8 +118,8 @@ row_small : (s : List ℕ) (v u : ℕ) → ((k : ℕ) → slice_index s k < 256)
 unfolding frequency_row woven
 row_small s v u few lu =
     let h = λ (k : ℕ). level_small s k (few k) in
-    let f : List ℤ = line_frequencies (level s (8 * v)) (level s (8 * v + 1)) (level s (8 * v + 2)) (level s (8 * v + 3)) (level s (8 * v + 4)) (level s (8 * v + 5)) (level s (8 * v + 6)) (level s (8 * v + 7)) in
-    let b = line_small 128 (level s (8 * v)) (level s (8 * v + 1)) (level s (8 * v + 2)) (level s (8 * v + 3)) (level s (8 * v + 4)) (level s (8 * v + 5)) (level s (8 * v + 6)) (level s (8 * v + 7))
+    let f : List ℤ = on line_frequencies (levels s v) in
+    let b = line_small 128 (levels s v)
     (h (8 * v)) (h (8 * v + 1)) (h (8 * v + 2)) (h (8 * v + 3)) (h (8 * v + 4)) (h (8 * v + 5)) (h (8 * v + 6)) (h (8 * v + 7)) in
     All-get_or (λ x. nat_abs x ≤ 4096) (frequency_row s v) u (pos 0) lu
     (all8 (λ x. nat_abs x ≤ 4096) (row_bound (number_at f 0) b.at0) (row_bound (number_at f 1) b.at1) (row_bound (number_at f 2) b.at2) (row_bound (number_at f 3) b.at3) (row_bound (number_at f 4) b.at4) (row_bound (number_at f 5) b.at5) (row_bound (number_at f 6) b.at6) (row_bound (number_at f 7) b.at7))
@@ -140,16 +142,9 @@ other_high x h = (let r : nat_abs (fourth x) ≤ 4080 = rounded_row x 4080 (omeg
 row_high : (s : List ℕ) (v u : ℕ) → ((k : ℕ) → slice_index s k < 256) → u < 8 → number_at (frequency_row s v) u ≤ℤ pos 4090
 unfolding frequency_row woven
 row_high s v u few lu =
-    let l0 : ℤ = level s (8 * v) in
-    let l1 : ℤ = level s (8 * v + 1) in
-    let l2 : ℤ = level s (8 * v + 2) in
-    let l3 : ℤ = level s (8 * v + 3) in
-    let l4 : ℤ = level s (8 * v + 4) in
-    let l5 : ℤ = level s (8 * v + 5) in
-    let l6 : ℤ = level s (8 * v + 6) in
-    let l7 : ℤ = level s (8 * v + 7) in
+    let l = levels s v in
     let h = λ (k : ℕ). level_in s k (few k) in
-    let line : LineIn (negsuc 127) 255 l0 l1 l2 l3 l4 l5 l6 l7 = record {
+    let line : LineIn (negsuc 127) 255 l.at0 l.at1 l.at2 l.at3 l.at4 l.at5 l.at6 l.at7 = record {
       at0 = h (8 * v);
       at1 = h (8 * v + 1);
       at2 = h (8 * v + 2);
@@ -159,10 +154,10 @@ row_high s v u few lu =
       at6 = h (8 * v + 6);
       at7 = h (8 * v + 7);
     } in
-    let f : List ℤ = line_frequencies l0 l1 l2 l3 l4 l5 l6 l7 in
-    let b = line_below (negsuc 127) 255 l0 l1 l2 l3 l4 l5 l6 l7 line in
-    let t : sum_of l0 l1 l2 l3 l4 l5 l6 l7 ≤ℤ pos 1016 = sum_high (negsuc 127) 255 l0 l1 l2 l3 l4 l5 l6 l7 line in
-    let first : fourth (number_at f 0) ≤ℤ pos 4090 = subst (λ z. fourth z ≤ℤ pos 4090) (sym (first_is l0 l1 l2 l3 l4 l5 l6 l7)) (first_high (sum_of l0 l1 l2 l3 l4 l5 l6 l7) t) in
+    let f : List ℤ = on line_frequencies l in
+    let b = line_below (negsuc 127) 255 l.at0 l.at1 l.at2 l.at3 l.at4 l.at5 l.at6 l.at7 line in
+    let t : on sum_of l ≤ℤ pos 1016 = sum_high (negsuc 127) 255 l.at0 l.at1 l.at2 l.at3 l.at4 l.at5 l.at6 l.at7 line in
+    let first : fourth (number_at f 0) ≤ℤ pos 4090 = subst (λ z. fourth z ≤ℤ pos 4090) (sym (first_is l.at0 l.at1 l.at2 l.at3 l.at4 l.at5 l.at6 l.at7)) (first_high (on sum_of l) t) in
     All-get_or (λ x. x ≤ℤ pos 4090) (frequency_row s v) u (pos 0) lu
     (all8 (λ x. x ≤ℤ pos 4090) first (other_high (number_at f 1) b.at1) (other_high (number_at f 2) b.at2) (other_high (number_at f 3) b.at3) (other_high (number_at f 4) b.at4)
     (other_high (number_at f 5) b.at5) (other_high (number_at f 6) b.at6) (other_high (number_at f 7) b.at7))

@@ -156,13 +156,6 @@ whole_small more factor scale hm hf hs =
     let r : high_part more factor * scale ≤ 16388 * 16384 = mul-le (high_part more factor) scale 16388 16384 q hs in
     omega (arith, r)
 
-pub quotient_is : (x : ℤ) (halves factors scales : List ℕ) (n whole part more size half factor scale : ℕ) → whole ≡ high_part part scale → part ≡ high_part more factor → more ≡ size + half → size ≡ nat_abs x
-    → half ≡ slice_index halves n → factor ≡ slice_index factors n → scale ≡ slice_index scales n → with_sign x whole ≡ quotient_at x halves factors scales n
-quotient_is x halves factors scales n whole part more size half factor scale ew ep em es eh ef el =
-    ap (with_sign x)
-    (ew ∙ ap (λ p. high_part p scale) (ep ∙ ap (λ m. high_part m factor) (em ∙ ap (λ s. s + half) es ∙ ap (λ h. nat_abs x + h) eh) ∙ ap (high_part (nat_abs x + slice_index halves n)) ef)
-    ∙ ap (high_part (high_part (nat_abs x + slice_index halves n) (slice_index factors n))) el)
-
 -- ROWS of quotients
 
 -- a row of quotients as it is passed on

@@ -1,5 +1,5 @@
 -- Lanes of eight: sums, products of pairs and rounding, each lane as an integer.
-use Rattle.std.proofs.Common.{◌≡◌, ℕ, ◌+◌, ◌-◌, ◌*◌, ◌/◌, ◌%◌, suc, negsuc, ⊎_elim, ◌<◌, ◌≤◌, zero, List, [], ◌∷◌, ◌++◌, length, slice_index, slice_index_or, get_or, map, ℤ, pos, ◌+ℤ◌, ◌-ℤ◌, ◌*ℤ◌, nat_abs, to_z, of_z, FitsSigned, rules, ◌≤ℤ◌, sym, ap, ◌∙◌, subst, arith}
+use Rattle.std.proofs.Common.{◌≡◌, ℕ, ◌+◌, ◌-◌, ◌*◌, ◌/◌, ◌%◌, suc, negsuc, ⊎_elim, ◌<◌, ◌≤◌, List, [], ◌++◌, length, slice_index, slice_index_or, get_or, map, ℤ, pos, ◌+ℤ◌, ◌-ℤ◌, ◌*ℤ◌, nat_abs, to_z, of_z, FitsSigned, rules, ◌≤ℤ◌, sym, ap, ◌∙◌, subst, arith}
 use Rattle.std.specs.Int.{Width, w16, w32, int_wrap, int_shr}
 use lib.Signed.{shr_z}
 use lib.Lanes.{Each1}
@@ -15,19 +15,7 @@ use Rattle.jpg_spec_image.specs.ForwardDct.{level, even_frequencies}
 use Rattle.jpg_spec_image.proofs.Frequencies.{odd_at0, odd_at1, odd_at2, odd_at3, even_at1, even_at3}
 use Rattle.jpg_dct.specs.declared.forward.lanes.Eight.{Eight}
 use Rattle.jpg_dct.specs.Eights.{HasRoom, IsLine, quarter, IsEight, IsRow, vector, four_of, half_rounded, eighth}
-
--- what holds of each of eight
-pub each_of_eight : {A : Type 0} (P : ℕ → List A → Type 0) {v0 v1 v2 v3 v4 v5 v6 v7 : List A} → P 0 v0 → P 1 v1 → P 2 v2 → P 3 v3 → P 4 v4 → P 5 v5 → P 6 v6 → P 7 v7
-    → (v : ℕ) → v < 8 → P v (slice_index_or (v0 ∷ v1 ∷ v2 ∷ v3 ∷ v4 ∷ v5 ∷ v6 ∷ v7 ∷ []) v [])
-each_of_eight P h0 h1 h2 h3 h4 h5 h6 h7 zero lt = h0
-each_of_eight P h0 h1 h2 h3 h4 h5 h6 h7 (suc zero) lt = h1
-each_of_eight P h0 h1 h2 h3 h4 h5 h6 h7 (suc (suc zero)) lt = h2
-each_of_eight P h0 h1 h2 h3 h4 h5 h6 h7 (suc (suc (suc zero))) lt = h3
-each_of_eight P h0 h1 h2 h3 h4 h5 h6 h7 (suc (suc (suc (suc zero)))) lt = h4
-each_of_eight P h0 h1 h2 h3 h4 h5 h6 h7 (suc (suc (suc (suc (suc zero))))) lt = h5
-each_of_eight P h0 h1 h2 h3 h4 h5 h6 h7 (suc (suc (suc (suc (suc (suc zero)))))) lt = h6
-each_of_eight P h0 h1 h2 h3 h4 h5 h6 h7 (suc (suc (suc (suc (suc (suc (suc zero))))))) lt = h7
-each_of_eight P h0 h1 h2 h3 h4 h5 h6 h7 (suc (suc (suc (suc (suc (suc (suc (suc n)))))))) lt = absurd (omega (arith, lt))
+use Rattle.jpg_dct.proofs.Several.{FourOf, same4}
 
 -- lane k of two vectors, one after the other
 abbrev pub lane : Width → List ℤ → List ℤ → ℕ → ℕ
@@ -330,8 +318,8 @@ plain_dots a b r k l ea eb fk fl at i lt =
     ∙ ap (λ z. int_wrap w32 ((number_at a i *ℤ z) +ℤ (number_at b i *ℤ to_z w32 (of_z w32 l)))) (to_z-of_z w32 k fk)
     ∙ ap (λ z. int_wrap w32 ((number_at a i *ℤ k) +ℤ (number_at b i *ℤ z))) (to_z-of_z w32 l fl)
 
-pub seen_eight16 : (n : ℕ) (xs : List ℤ) → n ≤ 16384 → IsEight n xs → IsEight n (seen w16 xs)
-seen_eight16 n xs few e = subst (IsEight n) (sym (same16 n xs few e)) e
+pub seen_eight16 : {n : ℕ} {xs : List ℤ} → n ≤ 16384 → IsEight n xs → IsEight n (seen w16 xs)
+seen_eight16 {n} {xs} few e = subst (IsEight n) (sym (same16 n xs few e)) e
 
 pub seen_eight32 : (xs : List ℤ) → IsEight 536870912 xs → IsEight 536870912 (seen w32 xs)
 seen_eight32 xs e = subst (IsEight 536870912) (sym (same32 xs e)) e
@@ -357,8 +345,11 @@ seen_dots a b r k l ea eb fk fl long at i lt =
     let plain = plain_dots a b r k l ea eb fk fl at in
     ap (λ xs. number_at xs i) (wrapped_seen r (λ i. (number_at a i *ℤ k) +ℤ (number_at b i *ℤ l)) long plain) ∙ plain i lt
 
-pub more_eight : (m n : ℕ) (xs : List ℤ) → m ≤ n → IsEight m xs → IsEight n xs
-more_eight m n xs le e = record { long = e.long; small = λ k lt. omega (arith, le, e.small k lt) }
+pub more_eight : {m n : ℕ} {xs : List ℤ} → m ≤ n → IsEight m xs → IsEight n xs
+more_eight le e = record { long = e.long; small = λ k lt. omega (arith, le, e.small k lt) }
+
+pub line_seen : {xs : List ℤ} → IsLine xs → IsEight 8192 (seen w16 xs)
+line_seen h = seen_eight16 (omega arith) (more_eight (omega arith) h.small)
 
 four_small : (a b c d k l m n : ℤ) → nat_abs a ≤ 8192 → nat_abs b ≤ 8192 → nat_abs c ≤ 8192 → nat_abs d ≤ 8192 → nat_abs k + nat_abs l + (nat_abs m + nat_abs n) ≤ 65536
     → nat_abs (((a *ℤ k) +ℤ (b *ℤ l)) +ℤ ((c *ℤ m) +ℤ (d *ℤ n))) ≤ 536870912
@@ -375,11 +366,18 @@ pub record AreLanes (f : ℕ → ℤ) (r : List ℤ) : Type 0 where
   pub all : IsEight 536870912 r
   pub at : (i : ℕ) → i < 8 → number_at r i ≡ f i
 
-pub four_are : (a b c d r : List ℤ) (k l m n : ℤ) → IsEight 8192 a → IsEight 8192 b → IsEight 8192 c → IsEight 8192 d → nat_abs k + nat_abs l + (nat_abs m + nat_abs n) ≤ 65536 → length r ≡ 8
-    → ((i : ℕ) → i < 8 → number_at r i ≡ int_wrap w32 (four_of a b c d k l m n i)) → AreLanes (four_of a b c d k l m n) r
-four_are a b c d r k l m n ea eb ec ed few long wrapped =
-    let small = λ (i : ℕ) (lt : i < 8). four_small (number_at a i) (number_at b i) (number_at c i) (number_at d i) k l m n (ea.small i lt) (eb.small i lt) (ec.small i lt) (ed.small i lt) few in
-    let at = λ (i : ℕ) (lt : i < 8). wrapped i lt ∙ exact (four_of a b c d k l m n i) (small i lt) in
+-- four products of lane i of four vectors, added up
+abbrev pub products : FourOf (List ℤ) → FourOf ℤ → ℕ → ℤ
+products v k i = four_of v.at0 v.at1 v.at2 v.at3 k.at0 k.at1 k.at2 k.at3 i
+
+pub four_are : (v : FourOf (List ℤ)) (k : FourOf ℤ) (r : List ℤ) → IsEight 8192 v.at0 → IsEight 8192 v.at1 → IsEight 8192 v.at2 → IsEight 8192 v.at3
+    → nat_abs k.at0 + nat_abs k.at1 + (nat_abs k.at2 + nat_abs k.at3) ≤ 65536 → length r ≡ 8
+    → ((i : ℕ) → i < 8 → number_at r i ≡ int_wrap w32 (products v k i)) → AreLanes (products v k) r
+four_are v k r e0 e1 e2 e3 few long wrapped =
+    let small = λ (i : ℕ) (lt : i < 8).
+    four_small (number_at v.at0 i) (number_at v.at1 i) (number_at v.at2 i) (number_at v.at3 i) k.at0 k.at1 k.at2 k.at3
+    (e0.small i lt) (e1.small i lt) (e2.small i lt) (e3.small i lt) few in
+    let at = λ (i : ℕ) (lt : i < 8). wrapped i lt ∙ exact (products v k i) (small i lt) in
     record {
       all = record { long = long; small = λ i lt. subst (λ z. nat_abs z ≤ 536870912) (sym (at i lt)) (small i lt) };
       at = at;
@@ -405,13 +403,13 @@ made m f bound a b r few ea eb long at =
     let same : seen w16 r ≡ r = same16 (m + m) r (omega (arith, few)) all in
     record { all = subst (IsEight (m + m)) (sym same) all; at = λ k lt. ap (λ xs. number_at xs k) same ∙ plain k lt }
 
-pub sums_made : (m : ℕ) (a b r : List ℤ) → m ≤ 8192 → IsEight m a → IsEight m b → length r ≡ 8
+pub sums_made : {m : ℕ} {a b : List ℤ} (r : List ℤ) → m ≤ 8192 → IsEight m a → IsEight m b → length r ≡ 8
     → ((k : ℕ) → k < 8 → number_at r k ≡ number_at (seen w16 a) k +ℤ number_at (seen w16 b) k) → AreSums (m + m) (λ x y. x +ℤ y) a b (seen w16 r)
-sums_made m a b r few ea eb long at = made m (λ x y. x +ℤ y) (λ x y hx hy. omega (arith, ints, hx, hy)) a b r few ea eb long at
+sums_made {m} {a} {b} r few ea eb long at = made m (λ x y. x +ℤ y) (λ x y hx hy. omega (arith, ints, hx, hy)) a b r few ea eb long at
 
-pub differences_made : (m : ℕ) (a b r : List ℤ) → m ≤ 8192 → IsEight m a → IsEight m b → length r ≡ 8
+pub differences_made : {m : ℕ} {a b : List ℤ} (r : List ℤ) → m ≤ 8192 → IsEight m a → IsEight m b → length r ≡ 8
     → ((k : ℕ) → k < 8 → number_at r k ≡ number_at (seen w16 a) k -ℤ number_at (seen w16 b) k) → AreSums (m + m) (λ x y. x -ℤ y) a b (seen w16 r)
-differences_made m a b r few ea eb long at = made m (λ x y. x -ℤ y) (λ x y hx hy. omega (arith, ints, hx, hy)) a b r few ea eb long at
+differences_made {m} {a} {b} r few ea eb long at = made m (λ x y. x -ℤ y) (λ x y hx hy. omega (arith, ints, hx, hy)) a b r few ea eb long at
 
 -- FREQUENCIES by products
 
@@ -458,19 +456,18 @@ pub odd_fourth : (a b c d : ℤ) → half_rounded (four_products a b c d (pos 22
 odd_fourth a b c d = twice (four_products a b c d (pos 22726) (pos 19266) (pos 12874) (pos 4520)) (number_at (odd_sums a b c d) 3) (omega (arith, ints, odd_at3 a b c d))
 
 -- lane k of a vector that a call gave, as it is passed on
-pub handed : (r : List ℤ) (k : ℕ) (x : ℤ) → IsEight 8192 r → number_at r k ≡ x → number_at (seen w16 r) k ≡ x
-handed r k x e is = ap (λ xs. number_at xs k) (same16 8192 r (omega arith) e) ∙ is
+pub handed : {r : List ℤ} (k : ℕ) {x : ℤ} → IsEight 8192 r → number_at r k ≡ x → number_at (seen w16 r) k ≡ x
+handed {r} k e is = ap (λ xs. number_at xs k) (same16 8192 r (omega arith) e) ∙ is
 
 -- four products of what a call sees
-pub of_four : (a b c d r : List ℤ) (k l m n x : ℤ) (i : ℕ) → IsEight 8192 a → IsEight 8192 b → IsEight 8192 c → IsEight 8192 d → IsEight 8192 r
-    → number_at r i ≡ half_rounded (four_of (seen w16 a) (seen w16 b) (seen w16 c) (seen w16 d) k l m n i) → half_rounded (four_of a b c d k l m n i) ≡ x → number_at (seen w16 r) i ≡ x
-of_four a b c d r k l m n x i ea eb ec ed er at is =
-    handed r i x er
+pub of_four : (v : FourOf (List ℤ)) (k : FourOf ℤ) (r : List ℤ) (x : ℤ) (i : ℕ) → IsEight 8192 v.at0 → IsEight 8192 v.at1 → IsEight 8192 v.at2 → IsEight 8192 v.at3 → IsEight 8192 r
+    → number_at r i ≡ half_rounded (four_of (seen w16 v.at0) (seen w16 v.at1) (seen w16 v.at2) (seen w16 v.at3) k.at0 k.at1 k.at2 k.at3 i)
+    → half_rounded (products v k i) ≡ x → number_at (seen w16 r) i ≡ x
+of_four v k r x i e0 e1 e2 e3 er at is =
+    let same = λ (xs : List ℤ) (e : IsEight 8192 xs). same16 8192 xs (omega arith) e in
+    handed i er
     (at
-    ∙ ap (λ xs. half_rounded (four_of xs (seen w16 b) (seen w16 c) (seen w16 d) k l m n i)) (same16 8192 a (omega arith) ea)
-    ∙ ap (λ xs. half_rounded (four_of a xs (seen w16 c) (seen w16 d) k l m n i)) (same16 8192 b (omega arith) eb)
-    ∙ ap (λ xs. half_rounded (four_of a b xs (seen w16 d) k l m n i)) (same16 8192 c (omega arith) ec)
-    ∙ ap (λ xs. half_rounded (four_of a b c xs k l m n i)) (same16 8192 d (omega arith) ed)
+    ∙ same4 (λ a b c d. half_rounded (four_of a b c d k.at0 k.at1 k.at2 k.at3 i)) (same v.at0 e0) (same v.at1 e1) (same v.at2 e2) (same v.at3 e3)
     ∙ is)
 
 -- QUARTERS
@@ -566,30 +563,29 @@ pub record InLine (x : ℤ) : Type 0 where
 pub in_line : (xs : List ℤ) (k : ℕ) → IsLine xs → k < 8 → InLine (number_at xs k)
 in_line xs k h lt = record { low = h.small.small k lt; high = h.high k lt }
 
--- sums of two of them
-pair_in : (a b : ℤ) → InLine a → InLine b → (negsuc 8191 ≤ℤ (a +ℤ b)) × ((a +ℤ b) ≤ℤ pos 8180)
-pair_in a b ha hb = (omega (arith, ints, ha.low, hb.low), omega (arith, ints, ha.high, hb.high))
+-- the sum of two of them
+pub record IsPair (p : ℤ) : Type 0 where
+  pub low : negsuc 8191 ≤ℤ p
+  pub high : p ≤ℤ pos 8180
 
-pub sum_room : (p0 p1 p2 p3 d0 d1 d2 d3 d4 d5 d6 d7 : ℤ) → p0 ≡ d0 +ℤ d7 → p1 ≡ d1 +ℤ d6 → p2 ≡ d2 +ℤ d5 → p3 ≡ d3 +ℤ d4
-    → InLine d0 → InLine d1 → InLine d2 → InLine d3 → InLine d4 → InLine d5 → InLine d6 → InLine d7 → HasRoom ((p0 +ℤ p3) +ℤ (p1 +ℤ p2))
-sum_room p0 p1 p2 p3 d0 d1 d2 d3 d4 d5 d6 d7 e0 e1 e2 e3 h0 h1 h2 h3 h4 h5 h6 h7 =
-    let a = pair_in d0 d7 h0 h7 in
-    let b = pair_in d1 d6 h1 h6 in
-    let c = pair_in d2 d5 h2 h5 in
-    let d = pair_in d3 d4 h3 h4 in
-    record {
-      low = omega (arith, ints, e0, e1, e2, e3, a.0, b.0, c.0, d.0);
-      high = omega (arith, ints, e0, e1, e2, e3, a.1, b.1, c.1, d.1);
-    }
+pub pair_in : {p a b : ℤ} → p ≡ a +ℤ b → InLine a → InLine b → IsPair p
+pair_in e ha hb = record { low = omega (arith, ints, e, ha.low, hb.low); high = omega (arith, ints, e, ha.high, hb.high) }
 
-pub gap_room : (p0 p1 p2 p3 d0 d1 d2 d3 d4 d5 d6 d7 : ℤ) → p0 ≡ d0 +ℤ d7 → p1 ≡ d1 +ℤ d6 → p2 ≡ d2 +ℤ d5 → p3 ≡ d3 +ℤ d4
-    → InLine d0 → InLine d1 → InLine d2 → InLine d3 → InLine d4 → InLine d5 → InLine d6 → InLine d7 → HasRoom ((p0 +ℤ p3) -ℤ (p1 +ℤ p2))
-gap_room p0 p1 p2 p3 d0 d1 d2 d3 d4 d5 d6 d7 e0 e1 e2 e3 h0 h1 h2 h3 h4 h5 h6 h7 =
-    let a = pair_in d0 d7 h0 h7 in
-    let b = pair_in d1 d6 h1 h6 in
-    let c = pair_in d2 d5 h2 h5 in
-    let d = pair_in d3 d4 h3 h4 in
-    record {
-      low = omega (arith, ints, e0, e1, e2, e3, a.0, b.1, c.1, d.0);
-      high = omega (arith, ints, e0, e1, e2, e3, a.1, b.0, c.0, d.1);
-    }
+-- lane k of four vectors of such sums
+pub record FourPairs (p0 p1 p2 p3 : List ℤ) (k : ℕ) : Type 0 where
+  pub at0 : IsPair (number_at p0 k)
+  pub at1 : IsPair (number_at p1 k)
+  pub at2 : IsPair (number_at p2 k)
+  pub at3 : IsPair (number_at p3 k)
+
+pub sum_room : {p0 p1 p2 p3 : List ℤ} {k : ℕ} → FourPairs p0 p1 p2 p3 k → HasRoom ((number_at p0 k +ℤ number_at p3 k) +ℤ (number_at p1 k +ℤ number_at p2 k))
+sum_room h = record {
+  low = omega (arith, ints, h.at0.low, h.at1.low, h.at2.low, h.at3.low);
+  high = omega (arith, ints, h.at0.high, h.at1.high, h.at2.high, h.at3.high);
+}
+
+pub gap_room : {p0 p1 p2 p3 : List ℤ} {k : ℕ} → FourPairs p0 p1 p2 p3 k → HasRoom ((number_at p0 k +ℤ number_at p3 k) -ℤ (number_at p1 k +ℤ number_at p2 k))
+gap_room h = record {
+  low = omega (arith, ints, h.at0.low, h.at1.high, h.at2.high, h.at3.low);
+  high = omega (arith, ints, h.at0.high, h.at1.low, h.at2.low, h.at3.high);
+}

@@ -7,9 +7,9 @@ pub mod Lines
 pub mod Loops
 pub mod Lows
 pub mod Natural
-pub mod Numbers
 pub mod Samples
 pub mod Scaled
+pub mod Several
 pub mod TableLists
 pub mod TableRuns
 pub mod Wrapped

@@ -10,7 +10,8 @@ use Rattle.jpg_spec_image.specs.ForwardDct.{forward_dct}
 use Rattle.jpg_spec_image.proofs.CodedBlocks.{forward_long}
 use Rattle.jpg_dct.specs.declared.forward.lanes.Eight.{Eight}
 use Rattle.jpg_dct.specs.Eights.{IsEight, vector}
-use Rattle.jpg_dct.proofs.Eights.{each_of_eight, fits16, handed, seen}
+use Rattle.jpg_dct.proofs.Eights.{fits16, handed, seen}
+use Rattle.jpg_dct.proofs.Several.{each_of_eight}
 
 -- one more number
 pub number_set : (f : ℕ → ℤ) (out : List ℤ) (n : ℕ) (x : ℤ) → n < length out → ((k : ℕ) → k < n → number_at out k ≡ f k) → x ≡ f n → (k : ℕ) → k < n + 1 → number_at (set out n x) k ≡ f k
@@ -29,14 +30,14 @@ pub rows_handed : (s : List ℕ) (d : Eight) → ((v : ℕ) → v < 8 → IsEigh
     → AreRows s (seen w16 d.v0 ∷ seen w16 d.v1 ∷ seen w16 d.v2 ∷ seen w16 d.v3 ∷ seen w16 d.v4 ∷ seen w16 d.v5 ∷ seen w16 d.v6 ∷ seen w16 d.v7 ∷ [])
 rows_handed s d small is =
     each_of_eight (λ v xs. (u : ℕ) → u < 8 → number_at xs u ≡ number_at (forward_dct s) (8 * v + u))
-    (λ u lu. handed d.v0 u _ (small 0 (omega arith)) (is u 0 lu (omega arith)))
-    (λ u lu. handed d.v1 u _ (small 1 (omega arith)) (is u 1 lu (omega arith)))
-    (λ u lu. handed d.v2 u _ (small 2 (omega arith)) (is u 2 lu (omega arith)))
-    (λ u lu. handed d.v3 u _ (small 3 (omega arith)) (is u 3 lu (omega arith)))
-    (λ u lu. handed d.v4 u _ (small 4 (omega arith)) (is u 4 lu (omega arith)))
-    (λ u lu. handed d.v5 u _ (small 5 (omega arith)) (is u 5 lu (omega arith)))
-    (λ u lu. handed d.v6 u _ (small 6 (omega arith)) (is u 6 lu (omega arith)))
-    (λ u lu. handed d.v7 u _ (small 7 (omega arith)) (is u 7 lu (omega arith)))
+    (λ u lu. handed u (small 0 (omega arith)) (is u 0 lu (omega arith)))
+    (λ u lu. handed u (small 1 (omega arith)) (is u 1 lu (omega arith)))
+    (λ u lu. handed u (small 2 (omega arith)) (is u 2 lu (omega arith)))
+    (λ u lu. handed u (small 3 (omega arith)) (is u 3 lu (omega arith)))
+    (λ u lu. handed u (small 4 (omega arith)) (is u 4 lu (omega arith)))
+    (λ u lu. handed u (small 5 (omega arith)) (is u 5 lu (omega arith)))
+    (λ u lu. handed u (small 6 (omega arith)) (is u 6 lu (omega arith)))
+    (λ u lu. handed u (small 7 (omega arith)) (is u 7 lu (omega arith)))
 
 -- all numbers are there
 number_is_of : (s : List ℕ) (out : List ℤ) (rows : List (List ℤ)) (n : ℕ) → 64 ≤ n → ((k : ℕ) → k < n → number_at out k ≡ column_at rows (k % 8) (k / 8)) → AreRows s rows

@@ -11,9 +11,9 @@ shifted_fits : (w : Width) (z : ℤ) (m : ℕ) → FitsSigned w z → FitsSigned
 shifted_fits w z m f = record { sfits = omega (arith, mag_shr z (2 ^ m), f.sfits) }
 
 -- x is the sum s, wrapped to the width
-pub one_rounded : (w : Width) (x s r : ℤ) → x ≡ int_wrap w s → nat_abs (s +ℤ pos 1024) < 2 ^ hbits w
+pub one_rounded : (w : Width) {x : ℤ} (s : ℤ) {r : ℤ} → x ≡ int_wrap w s → nat_abs (s +ℤ pos 1024) < 2 ^ hbits w
     → r ≡ int_shr (int_wrap w (to_z w (of_z w x) +ℤ pos 1024)) 11 → to_z w (of_z w r) ≡ int_shr (s +ℤ pos 1024) 11
-one_rounded w x s r ex small e =
+one_rounded w {x} s {r} ex small e =
     let f : FitsSigned w (s +ℤ pos 1024) = fits_signed_from_abs w (s +ℤ pos 1024) small in
     let is : r ≡ int_shr (s +ℤ pos 1024) 11 =
     e ∙ ap (λ y. int_shr (int_wrap w (y +ℤ pos 1024)) 11) (start w x s ex)
@@ -39,16 +39,16 @@ low64 (pos a) =
 low64 (negsuc a) =
     ap (λ n. n / 262144 % 1024) (of_z-to_z w64 (18446744073709551616 - 1 - a % 18446744073709551616) (omega arith)) ∙ omega arith
 
-pub one_sample32 : (x s : ℤ) (r : ℕ) → x ≡ int_wrap w32 s → r ≡ ranged (of_z w32 (int_wrap w32 (to_z w32 (of_z w32 x) +ℤ pos 131072)) / 262144 % 1024)
+pub one_sample32 : {x : ℤ} (s : ℤ) {r : ℕ} → x ≡ int_wrap w32 s → r ≡ ranged (of_z w32 (int_wrap w32 (to_z w32 (of_z w32 x) +ℤ pos 131072)) / 262144 % 1024)
     → r ≡ sample_of (int_shr (s +ℤ pos 131072) 18)
-one_sample32 x s r ex e =
+one_sample32 {x} s ex e =
     e ∙ ap (λ y. ranged (of_z w32 (int_wrap w32 (y +ℤ pos 131072)) / 262144 % 1024)) (start w32 x s ex)
     ∙ ap (λ y. ranged (of_z w32 y / 262144 % 1024)) (int_wrap-add_left w32 s (pos 131072))
     ∙ ap ranged (low32 (s +ℤ pos 131072))
 
-pub one_sample64 : (x s : ℤ) (r : ℕ) → x ≡ int_wrap w64 s → r ≡ ranged (of_z w64 (int_wrap w64 (to_z w64 (of_z w64 x) +ℤ pos 131072)) / 262144 % 1024)
+pub one_sample64 : {x : ℤ} (s : ℤ) {r : ℕ} → x ≡ int_wrap w64 s → r ≡ ranged (of_z w64 (int_wrap w64 (to_z w64 (of_z w64 x) +ℤ pos 131072)) / 262144 % 1024)
     → r ≡ sample_of (int_shr (s +ℤ pos 131072) 18)
-one_sample64 x s r ex e =
+one_sample64 {x} s ex e =
     e ∙ ap (λ y. ranged (of_z w64 (int_wrap w64 (y +ℤ pos 131072)) / 262144 % 1024)) (start w64 x s ex)
     ∙ ap (λ y. ranged (of_z w64 y / 262144 % 1024)) (int_wrap-add_left w64 s (pos 131072))
     ∙ ap ranged (low64 (s +ℤ pos 131072))

@@ -105,19 +105,41 @@ natural_some table n long all lt =
     in
     subst (λ q. 1 ≤ q) (sym e) (All-get_or (λ q. 1 ≤ q) table (index_of n zigzag) 0 (omega (arith, long, low)) all)
 
-pub divides_more : (quants halves factors scales : List ℕ) (n half factor scale : ℕ) → n < 64 → length halves ≡ 64 → length factors ≡ 64 → length scales ≡ 64
-    → ((k : ℕ) → k < n → Divides (slice_index quants k) (slice_index halves k) (slice_index factors k) (slice_index scales k))
-    → Divides (slice_index quants n) half factor scale
-    → (k : ℕ) → k < n + 1 → Divides (slice_index quants k) (slice_index (set halves n half) k) (slice_index (set factors n factor) k) (slice_index (set scales n scale) k)
-divides_more quants halves factors scales n half factor scale lt lh lf ls old now k lk =
+-- three tables of numbers that divide, and three such numbers
+pub record Tables : Type 0 where
+  pub halves : List ℕ
+  pub factors : List ℕ
+  pub scales : List ℕ
+
+pub record Divisor : Type 0 where
+  pub half : ℕ
+  pub factor : ℕ
+  pub scale : ℕ
+
+abbrev pub divisor_at : Tables → ℕ → Divisor
+divisor_at t k = record { half = slice_index t.halves k; factor = slice_index t.factors k; scale = slice_index t.scales k }
+
+abbrev pub with_divisor : Tables → ℕ → Divisor → Tables
+with_divisor t n d = record { halves = set t.halves n d.half; factors = set t.factors n d.factor; scales = set t.scales n d.scale }
+
+abbrev pub DividesBy : ℕ → Divisor → Type 0
+DividesBy q d = Divides q d.half d.factor d.scale
+
+pub divides_more : (quants : List ℕ) (t : Tables) (n : ℕ) (d : Divisor) → n < 64 → length t.halves ≡ 64 → length t.factors ≡ 64 → length t.scales ≡ 64
+    → ((k : ℕ) → k < n → DividesBy (slice_index quants k) (divisor_at t k)) → DividesBy (slice_index quants n) d
+    → (k : ℕ) → k < n + 1 → DividesBy (slice_index quants k) (divisor_at (with_divisor t n d) k)
+divides_more quants t n d lt lh lf ls old now k lk =
     ⊎_elim
     (λ (a : k < n). (let differ : k ≢ n = (λ e. omega (arith, a, e)) in
-    subst (λ x. Divides (slice_index quants k) x (slice_index (set factors n factor) k) (slice_index (set scales n scale) k)) (sym (get_or-set_other halves n k half 0 differ))
-    (subst (λ x. Divides (slice_index quants k) (slice_index halves k) x (slice_index (set scales n scale) k)) (sym (get_or-set_other factors n k factor 0 differ))
-    (subst (λ x. Divides (slice_index quants k) (slice_index halves k) (slice_index factors k) x) (sym (get_or-set_other scales n k scale 0 differ)) (old k a)))))
+    same (slice_index quants k) (divisor_at t k) (divisor_at (with_divisor t n d) k)
+    (sym (get_or-set_other t.halves n k d.half 0 differ)) (sym (get_or-set_other t.factors n k d.factor 0 differ)) (sym (get_or-set_other t.scales n k d.scale 0 differ)) (old k a)))
     (λ (b : n ≤ k). (let e : n ≡ k = omega (arith, b, lk) in
-    subst (λ j. Divides (slice_index quants j) (slice_index (set halves n half) j) (slice_index (set factors n factor) j) (slice_index (set scales n scale) j)) e
-    (subst (λ x. Divides (slice_index quants n) x (slice_index (set factors n factor) n) (slice_index (set scales n scale) n)) (sym (get_or-set_same halves n half 0 (omega (arith, lh, lt))))
-    (subst (λ x. Divides (slice_index quants n) half x (slice_index (set scales n scale) n)) (sym (get_or-set_same factors n factor 0 (omega (arith, lf, lt))))
-    (subst (λ x. Divides (slice_index quants n) half factor x) (sym (get_or-set_same scales n scale 0 (omega (arith, ls, lt)))) now)))))
+    subst (λ j. DividesBy (slice_index quants j) (divisor_at (with_divisor t n d) j)) e
+    (same (slice_index quants n) d (divisor_at (with_divisor t n d) n)
+    (sym (get_or-set_same t.halves n d.half 0 (omega (arith, lh, lt)))) (sym (get_or-set_same t.factors n d.factor 0 (omega (arith, lf, lt))))
+    (sym (get_or-set_same t.scales n d.scale 0 (omega (arith, ls, lt)))) now)))
     (cases_lt k n)
+  where
+    same : (q : ℕ) (d e : Divisor) → d.half ≡ e.half → d.factor ≡ e.factor → d.scale ≡ e.scale → DividesBy q d → DividesBy q e
+    same q d e eh ef es h =
+        subst (λ x. Divides q x e.factor e.scale) eh (subst (λ x. Divides q d.half x e.scale) ef (subst (λ x. Divides q d.half d.factor x) es h))

@@ -12,47 +12,48 @@ use Rattle.jpg_coefs.specs.declared.machine.Taken.TheVariants as taken
 use Rattle.jpg_coefs.proofs.Chains.{chain_then}
 use Rattle.jpg_file.specs.Read.Data.{AnswersIn, GivesBits, waits_of}
 
-pub chain_all : {M : Type 0} (k : Kind M) (most : ℕ) (m new : M) (now after : Picture) (bits : List Bool) → ChainTo k most m now bits (Ok step.More) new after → Chain k m now bits new after
-chain_all {M} k most m new now after bits (front, bit, mid, between, cut, chain, few, last) =
-    let C : List Bool → Type 0 = λ l. Chain k m now l new after in
-    let one : Chain k mid between (bit ∷ []) new after = (new, after, last, (refl, refl)) in
-    subst C (sym cut) (chain_then k m mid new now between after front (bit ∷ []) chain one)
+module _ {M : Type 0} (k : Kind M) (m : M) (now : Picture) where
+  pub chain_all : (most : ℕ) (new : M) (after : Picture) (bits : List Bool) → ChainTo k most m now bits (Ok step.More) new after → Chain k m now bits new after
+  chain_all most new after bits (front, bit, mid, between, cut, chain, few, last) =
+      let C : List Bool → Type 0 = λ l. Chain k m now l new after in
+      let one : Chain k mid between (bit ∷ []) new after = (new, after, last, (refl, refl)) in
+      subst C (sym cut) (chain_then k m mid new now between after front (bit ∷ []) chain one)
 
--- as many units as were asked for, or fewer
-pub given : {M : Type 0} (k : Kind M) (most : ℕ) (m new : M) (now after : Picture) (store rest : List Bool) (answer : Taken) → TakesBits k most m now store answer new after rest → GivesBits k m now store answer (waits_of answer rest) new after
-given {M} k most m new now after store rest taken.More (bits, cut, (chain, few, none)) =
-    let C : List Bool → Type 0 = λ z. Chain k m now z new after in
-    (refl, subst C (sym (append-nil bits) ∙ ap (λ z. bits ++ z) (sym none) ∙ sym cut) chain)
-given k most m new now after store rest taken.Units (bits, cut, (chain, many, some)) = (bits, cut, chain_all k most m new now after bits chain)
-given k most m new now after store rest taken.IntervalDone (bits, cut, chain) = (refl, (most, bits, rest, cut, chain))
-given k most m new now after store rest (taken.Fault f) (bits, cut, chain) = (refl, (most, bits, rest, cut, chain))
+  -- as many units as were asked for, or fewer
+  pub given : (most : ℕ) (new : M) (after : Picture) (store rest : List Bool) (answer : Taken) → TakesBits k most m now store answer new after rest
+      → GivesBits k m now store answer (waits_of answer rest) new after
+  given most new after store rest taken.More (bits, cut, (chain, few, none)) =
+      let C : List Bool → Type 0 = λ z. Chain k m now z new after in
+      (refl, subst C (sym (append-nil bits) ∙ ap (λ z. bits ++ z) (sym none) ∙ sym cut) chain)
+  given most new after store rest taken.Units (bits, cut, (chain, many, some)) = (bits, cut, chain_all most new after bits chain)
+  given most new after store rest taken.IntervalDone (bits, cut, chain) = (refl, (most, bits, rest, cut, chain))
+  given most new after store rest (taken.Fault f) (bits, cut, chain) = (refl, (most, bits, rest, cut, chain))
 
--- where all that are left were asked for, no bits wait
-pub no_units : {M : Type 0} (k : Kind M) (most : ℕ) (m new : M) (now after : Picture) (store rest : List Bool) → most ≡ k.left m → TakesBits k most m now store taken.Units new after rest → ⊥
-no_units k most m new now after store rest all (bits, cut, (chain, many, some)) = omega (arith, all, many, some)
+  -- where all that are left were asked for, no bits wait
+  pub no_units : (most : ℕ) (new : M) (after : Picture) (store rest : List Bool) → most ≡ k.left m → TakesBits k most m now store taken.Units new after rest → ⊥
+  no_units most new after store rest all (bits, cut, (chain, many, some)) = omega (arith, all, many, some)
 
-pub given_all : {M : Type 0} (k : Kind M) (most : ℕ) (m new : M) (now after : Picture) (store rest : List Bool) (answer : Taken) → most ≡ k.left m → TakesBits k most m now store answer new after rest → GivesBits k m now store answer [] new after
-given_all k most m new now after store rest taken.More all t = given k most m new now after store rest taken.More t
-given_all k most m new now after store rest taken.Units all t = absurd (no_units k most m new now after store rest all t)
-given_all k most m new now after store rest taken.IntervalDone all t = given k most m new now after store rest taken.IntervalDone t
-given_all k most m new now after store rest (taken.Fault f) all t = given k most m new now after store rest (taken.Fault f) t
+  pub given_all : (most : ℕ) (new : M) (after : Picture) (store rest : List Bool) (answer : Taken) → most ≡ k.left m
+      → TakesBits k most m now store answer new after rest → GivesBits k m now store answer [] new after
+  given_all most new after store rest taken.Units all t = absurd (no_units most new after store rest all t)
+  given_all most new after store rest other all t = given most new after store rest other t
 
--- an answer after a chain
-pub answers_after : {M : Type 0} (k : Kind M) (m mid new : M) (now between after : Picture) (front bits : List Bool) (answer : Result UnitStep UnitFault) → Chain k m now front mid between → AnswersIn k mid between bits answer new after
-    → AnswersIn k m now (front ++ bits) answer new after
-answers_after k m mid new now between after front bits answer chain (most, first, rest, cut, (before, bit, last, there, is, more, few, ends)) = (
-  k.left m + 1,
-  front ++ first,
-  rest,
-  ap (λ z. front ++ z) cut ∙ sym (append_assoc front first rest),
-  (
-    front ++ before,
-    bit,
-    last,
-    there,
-    ap (λ z. front ++ z) is ∙ sym (append_assoc front before (bit ∷ [])),
-    chain_then k m mid last now between there front before chain more,
-    omega arith,
-    ends,
-  ),
-)
+  -- an answer after a chain
+  pub answers_after : (mid new : M) (between after : Picture) (front bits : List Bool) (answer : Result UnitStep UnitFault) → Chain k m now front mid between
+      → AnswersIn k mid between bits answer new after → AnswersIn k m now (front ++ bits) answer new after
+  answers_after mid new between after front bits answer chain (most, first, rest, cut, (before, bit, last, there, is, more, few, ends)) = (
+    k.left m + 1,
+    front ++ first,
+    rest,
+    ap (λ z. front ++ z) cut ∙ sym (append_assoc front first rest),
+    (
+      front ++ before,
+      bit,
+      last,
+      there,
+      ap (λ z. front ++ z) is ∙ sym (append_assoc front before (bit ∷ [])),
+      chain_then k m mid last now between there front before chain more,
+      omega arith,
+      ends,
+    ),
+  )

@@ -1,5 +1,5 @@
 -- Bits and bytes that have a fault while an MCU row is read.
-use Rattle.std.proofs.Common.{◌≡◌, ℕ, suc, ◌+◌, ◌-◌, ◌/◌, ◌%◌, ◌≤◌, Bool, true, false, cond, List, [], ◌∷◌, ◌++◌, length, take, get_or, refl, sym, ap, ◌∙◌, subst, arith, inl, inr, Err, Ok}
+use Rattle.std.proofs.Common.{◌≡◌, ℕ, suc, ◌+◌, ◌-◌, ◌/◌, ◌%◌, ◌≤◌, Bool, true, false, List, [], ◌∷◌, ◌++◌, length, take, get_or, refl, sym, ap, ◌∙◌, subst, arith, inl, inr, Err, Ok}
 use Rattle.std.specs.Prelude.{replicate, Result}
 use Rattle.std.proofs.lemmas.List.{append_assoc, append-nil, length-append, take_more}
 use Rattle.jpg_spec.specs.Bits.{bits_of, bits_of_bytes}
@@ -21,10 +21,9 @@ use Rattle.jpg_coefs.specs.Machine.{TakesBits}
 use Rattle.jpg_coefs.specs.declared.machine.Taken.{Taken}
 use Rattle.jpg_coefs.specs.declared.machine.Taken.TheVariants as taken
 use Rattle.jpg_coefs.specs.declared.machine.UnitFault.{UnitFault}
-use Rattle.jpg_coefs.proofs.Chains.{chain_stands, some_taken}
-use Rattle.jpg_file.specs.Read.InData.{ArePlain, AtWork, IsInterval, IsReadable, byte_answer, scan_answer}
+use Rattle.jpg_coefs.proofs.Chains.{some_taken}
+use Rattle.jpg_file.specs.Read.InData.{ArePlain, AtWork, byte_answer, scan_answer}
 use Rattle.jpg_file.specs.Read.Machine.{any_scan}
-use Rattle.jpg_file.specs.Read.RowData.{HalfData}
 use Rattle.jpg_file.specs.Read.RowMachine.{TakesRowBits}
 use Rattle.jpg_file.specs.Read.RowPlaces.{IsRowAt, scan_left}
 use Rattle.jpg_file.specs.Read.RowStops.{CompletesBefore, ShowsInRow, StopsByteInRow, StopsRestInRow, StopsRowData, StopsRowRun, StopsRunInRow}
@@ -40,6 +39,7 @@ use Rattle.jpg_file.proofs.Runs.{run_cut}
 use Rattle.jpg_file.proofs.RowScans.{open_half, open_scan}
 use Rattle.jpg_file.proofs.ScanBytes.{data_at, due_at, due_units, marker_at, read_at, with_bytes}
 use Rattle.jpg_file.proofs.ScanRuns.{front_plain, open_at, plain_at}
+use Rattle.jpg_file.proofs.InIntervals.{InInterval, left_in, of_bytes, of_half}
 
 -- BITS of the current MCU row
 
@@ -47,67 +47,25 @@ pub row_stops : (w : RowWork) (m after : ScanReader) (row : Picture) (bits rest 
 row_stops w m after row bits rest answer t = λ f whole e of o.
     (let k = t whole of o in (after, k.0, rest, subst (λ (a : Taken). TakesBits any_scan w.left m whole bits a after k.0 rest) e k.2))
 
--- of the bytes up to the one that has the fault
-first_taken : (most : ℕ) (m new : ScanReader) (now after : Picture) (bytes : List ℕ) (rest : List Bool) (n : ℕ) (f : UnitFault) → n ≡ length bytes - length rest / 8 → TakesBits any_scan most m now (bits_of_bytes bytes) (taken.Fault f) new after rest
-    → ShowsInRow most m now (bits_of_bytes (take n bytes)) f
-first_taken most m new now after bytes rest n f count (bits, cut, chain) =
-    let c = run_cut bytes bits rest n cut (some_taken any_scan most m new now after bits (Err f) chain) count in
-    let l = c.last in
-    let byte = get_or bytes c.early 0 in
-    let is : bits_of_bytes (take n bytes) ≡ bits ++ l.rest =
-    ap (λ k. bits_of_bytes (take k bytes)) c.count ∙ ap bits_of_bytes (take_more bytes c.early 0 l.within) ∙ bits_join (take c.early bytes) (byte ∷ []) ∙ ap (λ z. bits_of_bytes (take c.early bytes) ++ z) (append-nil (bits_of 8 byte) ∙ l.byte)
-    ∙ sym (append_assoc (bits_of_bytes (take c.early bytes)) l.front l.rest) ∙ ap (λ z. z ++ l.rest) (sym l.cut) in
-    (new, after, l.rest, (bits, is, chain))
-
-pub run_stops_row : (w : RowWork) (m after : ScanReader) (row : Picture) (bytes : List ℕ) (rest : List Bool) (n : ℕ) (answer : Taken) → n ≡ length bytes - length rest / 8
-    → TakesRowBits w.left w.tops m w.coefs (bits_of_bytes bytes) answer after row rest → StopsRowRun w m bytes n answer
+pub run_stops_row : (w : RowWork) (m after : ScanReader) (row : Picture) (bytes : List ℕ) (rest : List Bool) (n : ℕ) (answer : Taken)
+    → n ≡ length bytes - length rest / 8 → TakesRowBits w.left w.tops m w.coefs (bits_of_bytes bytes) answer after row rest → StopsRowRun w m bytes n answer
 run_stops_row w m after row bytes rest n answer count t = λ f whole e of o.
-    (let k = t whole of o in first_taken w.left m after whole k.0 bytes rest n f count (subst (λ (a : Taken). TakesBits any_scan w.left m whole (bits_of_bytes bytes) a after k.0 rest) e k.2))
+    (let k = t whole of o in first_taken f whole k.0 (subst (λ (a : Taken). TakesBits any_scan w.left m whole (bits_of_bytes bytes) a after k.0 rest) e k.2))
+  where
+    -- the fault is in the bytes up to the one that has it
+    first_taken : (f : UnitFault) (whole now : Picture) → TakesBits any_scan w.left m whole (bits_of_bytes bytes) (taken.Fault f) after now rest
+        → ShowsInRow w.left m whole (bits_of_bytes (take n bytes)) f
+    first_taken f whole now (bits, cut, chain) =
+        let c = run_cut bytes bits rest n cut (some_taken any_scan w.left m after whole now bits (Err f) chain) count in
+        let l = c.last in
+        let byte = get_or bytes c.early 0 in
+        let is : bits_of_bytes (take n bytes) ≡ bits ++ l.rest =
+        ap (λ k. bits_of_bytes (take k bytes)) c.count ∙ ap bits_of_bytes (take_more bytes c.early 0 l.within) ∙ bits_join (take c.early bytes) (byte ∷ [])
+        ∙ ap (λ z. bits_of_bytes (take c.early bytes) ++ z) (append-nil (bits_of 8 byte) ∙ l.byte)
+        ∙ sym (append_assoc (bits_of_bytes (take c.early bytes)) l.front l.rest) ∙ ap (λ z. z ++ l.rest) (sym l.cut) in
+        (after, now, l.rest, (bits, is, chain))
 
 -- DATA BYTES of the scan
-
-left_is : (w : ScanWork) → w.whole ≡ false → scan_left w ≡ w.due + any_scan.left w.machine
-left_is w e = ap (λ b. w.due + cond b 0 (any_scan.left w.machine)) e
-
-pub bytes_stop : (limits : Limits) (items : List Item) (contents bytes : List ℕ) (p : ScanPlace) (more : List ℕ) (w : ScanWork) (now : Picture) (rows : RowWork) (f : UnitFault) → (p.items ≡ items) × (p.contents ≡ contents)
-    → ScanAt limits bytes (with_bytes p more) [] → AtWork limits p w now → w.whole ≡ false → ShowsInRow rows.left w.machine now (bits_of_bytes more) f → IsFirstScan limits items
-    → IsRowAt (frame_behind limits items) (components_of limits items contents) rows (scan_left w) → CompletesBefore limits bytes (segments_of items) contents rows
-bytes_stop limits items contents bytes p more w now rows f of at work e shows first row =
-    let k = due_at limits p w now e work in
-    let q = with_bytes p more in
-    let all = scan_of_all limits items contents rows (scan_left w) first row in
-    let is : IsInterval limits q k.interval = record { scan = (k.is).scan; places = (k.is).places; later = (k.is).later } in
-    let readable : IsReadable limits q = record { distinct = (work.readable).distinct } in
-    let cut : bits_of_bytes (p.coded ++ more) ≡ bits_of_bytes p.coded ++ (bits_of_bytes more ++ []) = bits_join p.coded more ∙ ap (λ z. bits_of_bytes p.coded ++ z) (sym (append-nil (bits_of_bytes more))) in
-    let z = fault_stops limits items contents bytes q k.interval w.machine now (bits_of_bytes p.coded) (bits_of_bytes more) [] rows.left f of at first all readable is k.so_far k.stands cut shows in
-    let left : scan_left w ≡ length (joined p.later) + any_scan.left w.machine = omega (arith, left_is w e, work.due) in
-    let there = subst (λ n. IsRowAt (frame_behind limits items) (components_of limits items contents) rows n) left row in
-    fault_completes limits items contents bytes rows (any_scan.left w.machine) (length (joined p.later)) z there
-
--- bits that waited
-pub half_stops : (limits : Limits) (items : List Item) (contents bytes : List ℕ) (waiting : List Bool) (s : InScan) (now : Picture) (rows : RowWork) (f : UnitFault) → HalfData limits items contents bytes waiting s now → ShowsInRow rows.left s.work.machine now waiting f
-    → IsFirstScan limits items → IsRowAt (frame_behind limits items) (components_of limits items contents) rows (scan_left s.work) → CompletesBefore limits bytes (segments_of items) contents rows
-half_stops limits items contents bytes waiting s now rows f h shows first row =
-    let p = h.place in
-    let q = with_byte p h.byte in
-    let all = scan_of_all limits items contents rows (scan_left s.work) first row in
-    let k = due_at limits p h.old h.before h.due h.work in
-    let b = h.bits in
-    let bits = bits_of_bytes p.coded ++ b.0 in
-    let stands = chain_stands any_scan (h.old).machine s.work.machine h.before now k.interval (bits_of_bytes p.coded) b.0 b.2 k.stands in
-    let one : bits_of_bytes (h.byte ∷ []) ≡ bits_of 8 h.byte = append-nil (bits_of 8 h.byte) in
-    let cut : bits_of_bytes (p.coded ++ h.byte ∷ []) ≡ bits ++ (waiting ++ []) =
-    bits_join p.coded (h.byte ∷ []) ∙ ap (λ z. bits_of_bytes p.coded ++ z) (one ∙ b.1) ∙ sym (append_assoc (bits_of_bytes p.coded) b.0 waiting) ∙ ap (λ z. bits ++ z) (sym (append-nil waiting)) in
-    let is : IsInterval limits q k.interval = record { scan = (k.is).scan; places = (k.is).places; later = (k.is).later } in
-    let readable : IsReadable limits q = record { distinct = ((h.work).readable).distinct } in
-    let z = fault_stops limits items contents bytes q k.interval s.work.machine now bits waiting [] rows.left f h.of h.at first all readable is k.so_far stands cut shows in
-    let e : s.work.whole ≡ false = ap (λ (w : ScanWork). w.whole) h.same ∙ h.due in
-    let due : s.work.due ≡ (h.old).due = ap (λ (w : ScanWork). w.due) h.same in
-    let left : scan_left s.work ≡ length (joined p.later) + any_scan.left s.work.machine = omega (arith, left_is s.work e, due, (h.work).due) in
-    let there = subst (λ n. IsRowAt (frame_behind limits items) (components_of limits items contents) rows n) left row in
-    fault_completes limits items contents bytes rows (any_scan.left s.work.machine) (length (joined p.later)) z there
-
--- A DATA BYTE after a complete interval
 
 extra_told : (limits : Limits) (p : ScanPlace) (byte : ℕ) (told : Blocks) → TellsAt limits p told → TellsAt limits (with_byte p byte) told
 extra_told limits p byte told t =
@@ -139,26 +97,6 @@ extra_holds : (limits : Limits) (p : ScanPlace) (byte : ℕ) → HoldsUnits (sca
 extra_holds limits p byte (told, (bits, rest, cut, spells)) =
     (told, (bits, rest ++ bits_of_bytes (byte ∷ []), bits_join p.coded (byte ∷ []) ∙ ap (λ z. z ++ bits_of_bytes (byte ∷ [])) cut ∙ append_assoc bits rest (bits_of_bytes (byte ∷ [])), spells))
 
-pub extra_stops : (limits : Limits) (items : List Item) (contents bytes front tail : List ℕ) (p : ScanPlace) (byte : ℕ) (w : ScanWork) (now : Picture) (rows : RowWork) → (p.items ≡ items) × (p.contents ≡ contents) → ScanAt limits front p tail
-    → ScanAt limits bytes (with_byte p byte) [] → AtWork limits p w now → w.whole ≡ true → IsFirstScan limits items → IsRowAt (frame_behind limits items) (components_of limits items contents) rows (scan_left w)
-    → CompletesBefore limits bytes (segments_of items) contents rows
-unfolding extra_told
-extra_stops limits items contents bytes front tail p byte w now rows of before at work e first row =
-    let here = all_at limits items contents p of (scan_of_all limits items contents rows (scan_left w) first row) in
-    let k = read_at limits p w now e work in
-    let u = whole_at limits front tail p (map_of now) before here k.so_far in
-    let sum = ap length (u.at).cut ∙ length-append (u.at).part (u.at).rest in
-    let t = extra_told limits p byte (map_of now) u.at in
-    let holds = extra_holds limits p byte (completes_holds (scan_at limits p) p.blocks p.places p.coded k.completes) in
-    let z : PlaceStops limits items contents bytes now (scan_left w) = record {
-      tells = record { place = with_byte p byte; of = of; tail = []; at = at; of_all = here; told = t; left_is = omega (arith, u.left_is, left_whole w e, work.due) };
-      units = inr (inr (holds, omega (arith, sum, u.left_is)));
-      last = inl (0, refl);
-    } in
-    stops_complete limits items contents bytes now rows (scan_left w) z row
-
--- A MARKER that doesn't begin the next interval
-
 leading : (fill code : ℕ) → (code ≡ 0 → ⊥) → (code ≡ 255 → ⊥) → LeadingMarker (replicate (suc fill) 255 ++ code ∷ [])
 leading fill code z f =
     let tail = replicate (suc fill) 255 ++ code ∷ [] in
@@ -175,22 +113,56 @@ no_more_data limits p fill code w now z f work wrong = inr (leading fill code z 
         let u = due_units limits p w.machine now work.readable (due_at limits p w now e work) in
         absurd ((part_due (scan_at limits p) p.blocks p.places u.told u.left p.coded (scan_sound limits (segments_of p.items) p.contents) u.stands).0 holds)
 
-pub marker_stops : (limits : Limits) (items : List Item) (contents bytes : List ℕ) (p : ScanPlace) (fill code : ℕ) (w : ScanWork) (now : Picture) (rows : RowWork) → (p.items ≡ items) × (p.contents ≡ contents) → (code ≡ 0 → ⊥) → (code ≡ 255 → ⊥)
-    → ScanAt limits bytes p (replicate (suc fill) 255 ++ code ∷ []) → AtWork limits p w now → (w.whole ≡ true → code ≡ 0xd0 + w.turn → ⊥) → IsFirstScan limits items
-    → IsRowAt (frame_behind limits items) (components_of limits items contents) rows (scan_left w) → CompletesBefore limits bytes (segments_of items) contents rows
-marker_stops limits items contents bytes p fill code w now rows of z f at work wrong first row =
-    let tail = replicate (suc fill) 255 ++ code ∷ [] in
-    let all = scan_of_all limits items contents rows (scan_left w) first row in
-    let k = place_stops limits items contents bytes tail p w now of at work (no_more_data limits p fill code w now z f work wrong) first all in
-    stops_complete limits items contents bytes now rows (scan_left w) k row
+module _ (limits : Limits) (items : List Item) (contents bytes : List ℕ) where
+  -- data bytes, of which the last has the fault
+  interval_stops : (p : ScanPlace) (w : ScanWork) (now : Picture) (rest : List Bool) (rows : RowWork) (f : UnitFault) → InInterval limits p w now rest
+      → (p.items ≡ items) × (p.contents ≡ contents) → ScanAt limits bytes p [] → ShowsInRow rows.left w.machine now rest f → IsFirstScan limits items
+      → IsRowAt (frame_behind limits items) (components_of limits items contents) rows (scan_left w) → CompletesBefore limits bytes (segments_of items) contents rows
+  interval_stops p w now rest rows f d of at shows first row =
+      let all = scan_of_all limits items contents rows (scan_left w) first row in
+      let z = fault_stops limits items contents bytes p w now rest d rows.left f of at first all shows in
+      let there = subst (λ n. IsRowAt (frame_behind limits items) (components_of limits items contents) rows n) (left_in limits p w now rest d) row in
+      fault_completes limits items contents bytes rows (any_scan.left w.machine) (length (joined p.later)) z there
+
+  -- A DATA BYTE after a complete interval
+
+  pub extra_stops : (front tail : List ℕ) (p : ScanPlace) (byte : ℕ) (w : ScanWork) (now : Picture) (rows : RowWork)
+      → (p.items ≡ items) × (p.contents ≡ contents) → ScanAt limits front p tail → ScanAt limits bytes (with_byte p byte) [] → AtWork limits p w now
+      → w.whole ≡ true → IsFirstScan limits items → IsRowAt (frame_behind limits items) (components_of limits items contents) rows (scan_left w)
+      → CompletesBefore limits bytes (segments_of items) contents rows
+  unfolding extra_told
+  extra_stops front tail p byte w now rows of before at work e first row =
+      let here = all_at limits items contents p of (scan_of_all limits items contents rows (scan_left w) first row) in
+      let k = read_at limits p w now e work in
+      let u = whole_at limits front tail p (map_of now) before here k.so_far in
+      let sum = ap length (u.at).cut ∙ length-append (u.at).part (u.at).rest in
+      let t = extra_told limits p byte (map_of now) u.at in
+      let holds = extra_holds limits p byte (completes_holds (scan_at limits p) p.blocks p.places p.coded k.completes) in
+      let z : PlaceStops limits items contents bytes now (scan_left w) = record {
+        tells = record { place = with_byte p byte; of = of; tail = []; at = at; of_all = here; told = t; left_is = omega (arith, u.left_is, left_whole w e, work.due) };
+        units = inr (inr (holds, omega (arith, sum, u.left_is)));
+        last = inl (0, refl);
+      } in
+      stops_complete limits items contents bytes now rows (scan_left w) z row
+
+  -- A MARKER that doesn't begin the next interval
+
+  pub marker_stops : (p : ScanPlace) (fill code : ℕ) (w : ScanWork) (now : Picture) (rows : RowWork) → (p.items ≡ items) × (p.contents ≡ contents)
+      → (code ≡ 0 → ⊥) → (code ≡ 255 → ⊥) → ScanAt limits bytes p (replicate (suc fill) 255 ++ code ∷ []) → AtWork limits p w now
+      → (w.whole ≡ true → code ≡ 0xd0 + w.turn → ⊥) → IsFirstScan limits items
+      → IsRowAt (frame_behind limits items) (components_of limits items contents) rows (scan_left w)
+      → CompletesBefore limits bytes (segments_of items) contents rows
+  marker_stops p fill code w now rows of z f at work wrong first row =
+      let tail = replicate (suc fill) 255 ++ code ∷ [] in
+      let all = scan_of_all limits items contents rows (scan_left w) first row in
+      let k = place_stops limits items contents bytes tail p w now of at work (no_more_data limits p fill code w now z f work wrong) first all in
+      stops_complete limits items contents bytes now rows (scan_left w) k row
 
 -- WHAT THE SCAN ANSWERS: only a fault stops it
 
 faulty : (given : Result (Unit {0}) Fault) (came_to : Taken) (fault : Fault) → given ≡ scan_answer came_to → given ≡ Err fault → (f : UnitFault) × (came_to ≡ taken.Fault f)
-faulty given taken.More fault is e = absurd (let z : (let s : Result (Unit {0}) Fault = Ok tt in s) ≡ Err fault = sym is ∙ e in cc)
-faulty given taken.Units fault is e = absurd (let z : (let s : Result (Unit {0}) Fault = Ok tt in s) ≡ Err fault = sym is ∙ e in cc)
-faulty given taken.IntervalDone fault is e = absurd (let z : (let s : Result (Unit {0}) Fault = Ok tt in s) ≡ Err fault = sym is ∙ e in cc)
 faulty given (taken.Fault f) fault is e = (f, refl)
+faulty given other fault is e = absurd (let z : (let s : Result (Unit {0}) Fault = Ok tt in s) ≡ Err fault = sym is ∙ e in cc)
 
 byte_faulty : (a : Result (Unit {0}) Fault) (fault : Fault) → byte_answer a ≡ Err fault → a ≡ Err fault
 byte_faulty (Ok u) fault e = absurd cc
@@ -205,7 +177,8 @@ byte_faults old w byte passed store came given came_to is_data due bits is by st
     let g = faulty came came_to fault is (byte_faulty came fault (sym by ∙ e)) in
     let shows = stops g.0 whole g.1 row (open_scan limits items contents bytes old whole d due) in
     let one : store ≡ bits_of_bytes (passed ∷ []) = bits ∙ sym (append-nil (bits_of 8 passed)) in
-    bytes_stop limits items contents (bytes ++ byte ∷ []) d.place (passed ∷ []) old.work whole w g.0 d.of (data_at limits items contents bytes byte passed old whole d is_data) d.work due
+    interval_stops limits items contents (bytes ++ byte ∷ []) (with_bytes d.place (passed ∷ [])) old.work whole (bits_of_bytes (passed ∷ [])) w g.0
+    (of_bytes limits d.place old.work whole (passed ∷ []) due d.work) d.of (data_at limits items contents bytes byte passed old whole d is_data)
     (subst (λ z. ShowsInRow w.left old.work.machine whole z g.0) one shows) at.0 at.1
 
 pub byte_extra : (old : InScan) (w : RowWork) (byte passed : ℕ) (given : Result Bool Fault) → IsData old.gate byte passed → old.work.whole ≡ true → StopsByteInRow old w byte given
@@ -222,11 +195,13 @@ byte_wrong old w byte code given gate z f same wrong fault limits items contents
 pub rest_faults : (old : InScan) (w : RowWork) (given : Result (Unit {0}) Fault) (came_to : Taken) → given ≡ scan_answer came_to → StopsRowData w old.work.machine w.waiting came_to → StopsRestInRow old w given
 rest_faults old w given came_to is stops fault limits items contents bytes whole e row h at =
     let g = faulty given came_to fault is e in
-    half_stops limits items contents bytes w.waiting old whole w g.0 h (stops g.0 whole g.1 row (open_half limits items contents bytes w.waiting old whole h)) at.0 at.1
+    interval_stops limits items contents bytes (with_byte h.place h.byte) old.work whole w.waiting w g.0 (of_half limits items contents bytes w.waiting old whole h) h.of h.at
+    (stops g.0 whole g.1 row (open_half limits items contents bytes w.waiting old whole h)) at.0 at.1
 
 pub run_faults : (old : InScan) (w : RowWork) (run : List ℕ) (n : ℕ) (given : Result (Unit {0}) Fault) (came_to : Taken) → n ≤ length run → old.gate ≡ false → old.work.whole ≡ false → ArePlain run → given ≡ scan_answer came_to
     → StopsRowRun w old.work.machine run n came_to → StopsRunInRow old w run n given
 run_faults old w run n given came_to few gate due plain is stops fault limits items contents bytes whole e row d at =
     let g = faulty given came_to fault is e in
     let there = plain_at limits bytes d.place (take n run) (front_plain run n few plain) (open_at limits items contents bytes old whole d gate) in
-    bytes_stop limits items contents (bytes ++ take n run) d.place (take n run) old.work whole w g.0 d.of there d.work due (stops g.0 whole g.1 row (open_scan limits items contents bytes old whole d due)) at.0 at.1
+    interval_stops limits items contents (bytes ++ take n run) (with_bytes d.place (take n run)) old.work whole (bits_of_bytes (take n run)) w g.0
+    (of_bytes limits d.place old.work whole (take n run) due d.work) d.of there (stops g.0 whole g.1 row (open_scan limits items contents bytes old whole d due)) at.0 at.1

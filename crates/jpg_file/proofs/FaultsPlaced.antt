@@ -38,6 +38,8 @@ use Rattle.jpg_file.proofs.RowsPlaced.{PlaceStops, all_at, bands_long, machine_s
 use Rattle.jpg_file.proofs.RowsTold.{units_at}
 use Rattle.jpg_file.proofs.ScanBytes.{of_place}
 use Rattle.jpg_file.proofs.StripRows.{kind_at, scan_of_place, seq_of}
+use Rattle.jpg_file.proofs.InIntervals.{InInterval}
+use Rattle.jpg_file.specs.declared.read.scan.ScanWork.{ScanWork}
 
 -- a fault before which fewer than `most` values are decoded
 abbrev ShownFew : Fault → List Bool → ℕ → Coding → List UnitLeft → Type 0
@@ -85,20 +87,22 @@ fewer_left n mid i bits more now between sound o k =
     omega (arith, most, less, a, b, o.left, k.left, whole_long n i bits now o, whole_long mid i (bits ++ more) between k, length-append k.whole mid.unit.values)
 
 -- NO MORE UNITS are decoded before the fault
-fault_units : (limits : Limits) (q : ScanPlace) (i : Interval) (n : SeqReader) (bits more : List Bool) (bit : Bool) (now : Picture) (f : UnitFault) (count : ℕ) → IsReadable limits q → IsInterval limits q i
-    → ScanSoFar (scan_at limits q) q.blocks (map_of i.before) q.done (q.places ∷ q.later) → SeqStands n i bits now → bits_of_bytes q.coded ≡ bits ++ (bit ∷ more) → DataReveals i.scan.coding (units_of i) (fault_of f) (bits ++ bit ∷ [])
-    → length q.places ≡ count + n.left → TellsNoMore (scan_at limits q) q.blocks q.places q.coded count
-fault_units limits q i n bits more bit now f count readable is so_far o cut d sum =
-    let p = parts_stand n i bits now o in
-    let less = p.1 in
-    let most = shown_most i.scan.coding (units_of i) (o.whole ++ n.unit.values) (unit_in_work o.next.component n.unit.values ∷ new_units_at o.more) bits bit (fault_of f) (sound_of limits q i is) p.0 d in
-    let a = ap length (sym is.places ∙ o.all) ∙ length-append o.done (o.next ∷ o.more) in
-    let few : length d.told < 64 * (count + 1) = omega (arith, most, less, a, o.left, sum, whole_long n i bits now o, length-append o.whole n.unit.values) in
-    let on = shown_on i.scan.coding (units_of i) (fault_of f) (bits ++ bit ∷ []) more (64 * (count + 1)) d few in
-    let all : (bits ++ bit ∷ []) ++ more ≡ bits_of_bytes q.coded = append_assoc bits (bit ∷ []) more ∙ sym cut in
-    let there = of_place limits q i (ShownFew (fault_of f) ((bits ++ bit ∷ []) ++ more) (64 * (count + 1))) readable is so_far on in
-    let k = subst (λ l. ShownFew (fault_of f) l (64 * (count + 1)) (scan_at limits q).coding (units_there limits q)) all there in
-    inr (inl (fault_of f, k.0, k.1))
+module _ (limits : Limits) (q : ScanPlace) (i : Interval) (readable : IsReadable limits q) (is : IsInterval limits q i)
+    (so_far : ScanSoFar (scan_at limits q) q.blocks (map_of i.before) q.done (q.places ∷ q.later)) where
+  fault_units : (n : SeqReader) (bits more : List Bool) (bit : Bool) (now : Picture) (f : UnitFault) (count : ℕ) → SeqStands n i bits now
+      → bits_of_bytes q.coded ≡ bits ++ (bit ∷ more) → DataReveals i.scan.coding (units_of i) (fault_of f) (bits ++ bit ∷ []) → length q.places ≡ count + n.left
+      → TellsNoMore (scan_at limits q) q.blocks q.places q.coded count
+  fault_units n bits more bit now f count o cut d sum =
+      let p = parts_stand n i bits now o in
+      let less = p.1 in
+      let most = shown_most i.scan.coding (units_of i) (o.whole ++ n.unit.values) (unit_in_work o.next.component n.unit.values ∷ new_units_at o.more) bits bit (fault_of f) (sound_of limits q i is) p.0 d in
+      let a = ap length (sym is.places ∙ o.all) ∙ length-append o.done (o.next ∷ o.more) in
+      let few : length d.told < 64 * (count + 1) = omega (arith, most, less, a, o.left, sum, whole_long n i bits now o, length-append o.whole n.unit.values) in
+      let on = shown_on i.scan.coding (units_of i) (fault_of f) (bits ++ bit ∷ []) more (64 * (count + 1)) d few in
+      let all : (bits ++ bit ∷ []) ++ more ≡ bits_of_bytes q.coded = append_assoc bits (bit ∷ []) more ∙ sym cut in
+      let there = of_place limits q i (ShownFew (fault_of f) ((bits ++ bit ∷ []) ++ more) (64 * (count + 1))) readable is so_far on in
+      let k = subst (λ l. ShownFew (fault_of f) l (64 * (count + 1)) (scan_at limits q).coding (units_there limits q)) all there in
+      inr (inl (fault_of f, k.0, k.1))
 
 -- THE PLACE with the fault, where `left` units of the current interval are left, and `due` after it
 pub record FaultStops (limits : Limits) (items : List Item) (contents bytes : List ℕ) (left most due : ℕ) : Type 0 where
@@ -108,42 +112,41 @@ pub record FaultStops (limits : Limits) (items : List Item) (contents bytes : Li
   pub low : units ≤ left
   pub stops : PlaceStops limits items contents bytes whole (due + units)
 
-regroup : (a front rest more : List Bool) (bit : Bool) → a ++ (((front ++ bit ∷ []) ++ rest) ++ more) ≡ (a ++ front) ++ (bit ∷ (rest ++ more))
-regroup a front rest more bit = simp append_assoc
+regroup : (a front rest : List Bool) (bit : Bool) → a ++ ((front ++ bit ∷ []) ++ rest) ≡ (a ++ front) ++ (bit ∷ rest)
+regroup a front rest bit = simp append_assoc
 
--- the bits at which the fault occurs
-shown_cut : (coded : List ℕ) (a store more bits rest front : List Bool) (bit : Bool) → bits_of_bytes coded ≡ a ++ (store ++ more) → store ≡ bits ++ rest → bits ≡ front ++ bit ∷ [] → bits_of_bytes coded ≡ (a ++ front) ++ (bit ∷ (rest ++ more))
-shown_cut coded a store more bits rest front bit all cut last =
-    all ∙ ap (λ l. a ++ (l ++ more)) (cut ∙ ap (λ l. l ++ rest) last) ∙ regroup a front rest more bit
-
-pub fault_stops : (limits : Limits) (items : List Item) (contents bytes : List ℕ) (q : ScanPlace) (i : Interval) (m : ScanReader) (now : Picture) (a store more : List Bool) (most : ℕ) (f : UnitFault) → (q.items ≡ items) × (q.contents ≡ contents)
-    → ScanAt limits bytes q [] → IsFirstScan limits items → IsScanOfAll limits (segments_of items) contents → IsReadable limits q → IsInterval limits q i → ScanSoFar (scan_at limits q) q.blocks (map_of i.before) q.done (q.places ∷ q.later)
-    → any_scan.stands m i a now → bits_of_bytes q.coded ≡ a ++ (store ++ more) → ShowsInRow most m now store f → FaultStops limits items contents bytes (any_scan.left m) most (length (joined q.later))
-fault_stops limits items contents bytes q i m now a store more most f of at first all readable is so_far stands cut (new, after, rest, (bits, taken, (front, bit, mid, between, last_is, chain, few, last))) =
-    let here = all_at limits items contents q of all in
-    let kind : scan_kind i.scan ≡ whole_blocks = ap scan_kind (is.scan ∙ scan_of_place limits items contents q of.0 of.1) ∙ kind_at limits items contents first.sequential in
-    let there = chain_stands any_scan m mid now between i a front chain stands in
-    let x = seq_of m i a now stands kind in
-    let y = seq_of mid i (a ++ front) between there kind in
-    let o = machine_stands mid y.0 i (a ++ front) between y.1 there in
-    let whole = shown_cut q.coded a store more bits rest front bit cut taken last_is in
-    let u = units_at limits q i y.0 (a ++ front) (bit ∷ (rest ++ more)) between at.leads here readable is so_far o whole in
-    let sum = ap length (u.at).cut ∙ length-append (u.at).part (u.at).rest in
-    let low = fewer_left x.0 y.0 i a front now between (sound_of limits q i is) (machine_stands m x.0 i a now x.1 stands) o in
-    let old : any_scan.left m ≡ (x.0).left = ap (λ (r : ScanReader). any_scan.left r) x.1 in
-    let mid_left : any_scan.left mid ≡ (y.0).left = ap (λ (r : ScanReader). any_scan.left r) y.1 in
-    let shown = (last i (a ++ front) there).0 in
-    record {
-      whole = between;
-      units = (y.0).left;
-      few = omega (arith, few, mid_left);
-      low = omega (arith, low, old);
-      stops = record {
-        tells = record { place = q; of = of; tail = []; at = at; of_all = here; told = u.at; left_is = omega (arith, u.left_is) };
-        units = fault_units limits q i y.0 (a ++ front) (rest ++ more) bit between f (length (u.at).part) readable is so_far o whole shown (omega (arith, sum, u.left_is));
-        last = inl (0, refl);
-      };
-    }
+module _ (limits : Limits) (items : List Item) (contents bytes : List ℕ) (p : ScanPlace) (w : ScanWork) (now : Picture) (store : List Bool) where
+  pub fault_stops : (d : InInterval limits p w now store) (most : ℕ) (f : UnitFault) → (p.items ≡ items) × (p.contents ≡ contents) → ScanAt limits bytes p []
+      → IsFirstScan limits items → IsScanOfAll limits (segments_of items) contents → ShowsInRow most w.machine now store f
+      → FaultStops limits items contents bytes (any_scan.left w.machine) most (length (joined p.later))
+  fault_stops d most f of at first all (new, after, rest, (bits, taken, (front, bit, mid, between, last_is, chain, few, last))) =
+      let i = d.interval in
+      let a = d.taken in
+      let here = all_at limits items contents p of all in
+      let kind : scan_kind i.scan ≡ whole_blocks = ap scan_kind ((d.is).scan ∙ scan_of_place limits items contents p of.0 of.1) ∙ kind_at limits items contents first.sequential in
+      let there = chain_stands any_scan w.machine mid now between i a front chain d.stands in
+      let x = seq_of w.machine i a now d.stands kind in
+      let y = seq_of mid i (a ++ front) between there kind in
+      let o = machine_stands mid y.0 i (a ++ front) between y.1 there in
+      -- the bits at which the fault occurs
+      let cut : bits_of_bytes p.coded ≡ (a ++ front) ++ (bit ∷ rest) = d.cut ∙ ap (λ l. a ++ l) (taken ∙ ap (λ l. l ++ rest) last_is) ∙ regroup a front rest bit in
+      let u = units_at limits p i y.0 (a ++ front) (bit ∷ rest) between at.leads here d.readable d.is d.so_far o cut in
+      let sum = ap length (u.at).cut ∙ length-append (u.at).part (u.at).rest in
+      let low = fewer_left x.0 y.0 i a front now between (sound_of limits p i d.is) (machine_stands w.machine x.0 i a now x.1 d.stands) o in
+      let old : any_scan.left w.machine ≡ (x.0).left = ap (λ (r : ScanReader). any_scan.left r) x.1 in
+      let mid_left : any_scan.left mid ≡ (y.0).left = ap (λ (r : ScanReader). any_scan.left r) y.1 in
+      let shown = (last i (a ++ front) there).0 in
+      record {
+        whole = between;
+        units = (y.0).left;
+        few = omega (arith, few, mid_left);
+        low = omega (arith, low, old);
+        stops = record {
+          tells = record { place = p; of = of; tail = []; at = at; of_all = here; told = u.at; left_is = omega (arith, u.left_is) };
+          units = fault_units limits p i d.readable d.is d.so_far y.0 (a ++ front) rest bit between f (length (u.at).part) o cut shown (omega (arith, sum, u.left_is));
+          last = inl (0, refl);
+        };
+      }
 
 -- THE MCU ROWS: the current one isn't complete
 

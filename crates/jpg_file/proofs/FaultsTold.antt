@@ -12,7 +12,7 @@ use Rattle.jpg_spec.proofs.Facts.{facts}
 use Rattle.jpg_spec.proofs.Once.{GoesOn, fronts_once}
 use Rattle.jpg_spec.proofs.Parts.{FrontAt, part_front}
 use Rattle.jpg_spec.proofs.PartStands.{codes_one, coding_is, no_further, part_not_shown}
-use Rattle.jpg_file.proofs.RowsTold.{front_within}
+use Rattle.jpg_spec.proofs.EarlyRows.{shorter_front}
 
 -- a prefix of the bits encodes at most as many values as all of them
 pub stands_most : (c : Coding) (units : List UnitLeft) (told : List ℤ) (left : List UnitLeft) (bits : List Bool) (other : List ℤ) (front rest : List Bool) → IsSound c → StandsInUnits c units told left bits
@@ -64,7 +64,7 @@ pub shown_most : (c : Coding) (units : List UnitLeft) (told : List ℤ) (left : 
 shown_most c units told left bits bit fault sound w d =
     ⊎_elim
     (λ (h : length bits < length d.front). absurd (never h))
-    (λ (h : length d.front ≤ length bits). (let r = front_within bits d.front (bit ∷ []) (d.here ++ d.rest) all h in stands_most c units told left bits d.told d.front r.0 sound w (d.elements, d.standing, d.covers) r.1))
+    (λ (h : length d.front ≤ length bits). (let r = shorter_front bits d.front (bit ∷ []) (d.here ++ d.rest) all h in stands_most c units told left bits d.told d.front r.0 sound w (d.elements, d.standing, d.covers) r.1))
     (cases_lt (length bits) (length d.front))
   where
     all : bits ++ bit ∷ [] ≡ d.front ++ (d.here ++ d.rest)

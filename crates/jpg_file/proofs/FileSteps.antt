@@ -41,7 +41,7 @@ use Rattle.jpg_file.specs.declared.read.step.Step.TheVariants as came
 use Rattle.jpg_file.specs.declared.read.file.FileWork.{FileWork}
 use Rattle.jpg_file.proofs.ScanHistories.{begun_goes_on}
 use Rattle.jpg_file.proofs.FirstHeaders.{between_header, has_longer, has_more, no_head, noted}
-use Rattle.jpg_spec.proofs.Common.{not_same}
+use Rattle.jpg_spec.proofs.FrameFound.{framed_end}
 
 -- WHAT IS KEPT WITH THE ITEMS is extended by one more
 
@@ -106,11 +106,9 @@ after_between limits bytes more answer w new s a coefs begun head within =
 
 -- the marker after a scan's data
 after_scan : (before : Option InScan) (limits : Limits) (bytes : List ℕ) (answer : ItemStep) (w : FileWork) → AfterFileStep None limits bytes answer w → IsOfMarker answer → AfterFileStep before limits bytes answer w
-after_scan before limits bytes step.More w a m = a
 after_scan before limits bytes step.Head w a m = absurd m
-after_scan before limits bytes step.Eoi w a m = a
-after_scan before limits bytes (step.Fault f) w a m = a
 after_scan before limits bytes step.NoMemory w a m = absurd m
+after_scan before limits bytes other w a m = a
 
 -- A BYTE INSIDE SCAN DATA
 pub after_inside : (limits : Limits) (bytes more : List ℕ) (answer : ItemStep) (w new : FileWork) → (s : StandsInsideScan limits bytes w) → AfterScanByte limits s.items s.contents (bytes ++ more) answer new.reading → new.begun ≡ w.begun → new.head ≡ w.head
@@ -143,11 +141,8 @@ after_inside limits bytes more answer w new s (inr (inl d)) begun head within =
     })
     d.after.1)
     d.after.2
-after_inside limits bytes more step.More w new s (inr (inr shown)) begun head within = absurd shown
-after_inside limits bytes more step.Head w new s (inr (inr shown)) begun head within = absurd shown
-after_inside limits bytes more step.Eoi w new s (inr (inr shown)) begun head within = absurd shown
 after_inside limits bytes more (step.Fault f) w new s (inr (inr shown)) begun head within = shown
-after_inside limits bytes more step.NoMemory w new s (inr (inr shown)) begun head within = absurd shown
+after_inside limits bytes more other w new s (inr (inr shown)) begun head within = absurd shown
 
 -- A SCAN HEADER, with room for the picture
 
@@ -256,11 +251,8 @@ no_room old new (Err w) made e = made
 
 -- if more is known of what needs memory
 pub asked : (a b : Type 0) → (a → b) → (limits : Limits) (bytes : List ℕ) (answer : Step) (w : FileWork) → AfterFileByte a limits bytes answer w → AfterFileByte b limits bytes answer w
-asked a b f limits bytes came.More w k = k
-asked a b f limits bytes came.Row w k = k
-asked a b f limits bytes came.Whole w k = k
-asked a b f limits bytes (came.Ended (stop.Fault e)) w k = k
 asked a b f limits bytes (came.Ended stop.NoMemory) w k = f k
+asked a b f limits bytes other w k = k
 
 -- if a scan is being read, and if none is
 pub inside_of : (limits : Limits) (bytes : List ℕ) (w : FileWork) → StandsForFile limits bytes w → is_some w.reading.scan ≡ true → StandsInsideScan limits bytes w
@@ -271,18 +263,7 @@ pub between_of : (limits : Limits) (bytes : List ℕ) (w : FileWork) → StandsF
 between_of limits bytes w (inl s) e = s
 between_of limits bytes w (inr s) e = absurd (clash (is_some w.reading.scan) (ap is_some (s.at).inside) e)
 
-pub none_is : {A : Type 0} (o : Option A) → is_some o ≡ false → o ≡ None
-none_is None e = refl
-none_is (Some a) e = cc
-
 -- EOI
-framed_end : (before : List Segment) → code_fault before 0xd9 ≡ None → has_frame before ≡ true
-framed_end before e = by (has_frame before) e
-  where
-    by : (b : Bool) → code_fault_if b 0xd9 ≡ None → b ≡ true
-    by true e = refl
-    by false e = cc
-
 frame_there : (limits : Limits) (bytes : List ℕ) (w : FileWork) → (k : EndStands limits bytes w) → FrameFor limits (segments_of k.items) w.reading.items.held.frame
 frame_there limits bytes w k = frame_held limits k.items k.blocks w.reading.items.held.frame ((k.at).at).leads ((k.at).holds).frame (framed_end (segments_of k.items) (k.at).allowed)
 

@@ -16,7 +16,7 @@ use Rattle.jpg_spec.specs.declared.frame.Limits.{Limits}
 use Rattle.jpg_spec.proofs.FrameAfter.{leads_pass}
 use Rattle.jpg_spec.proofs.HeaderFirst.{scan_passed}
 use Rattle.jpg_spec.proofs.OneHeader.{whole_not_standing}
-use Rattle.jpg_spec.proofs.Common.{neither}
+use Rattle.jpg_spec.proofs.Common.{neither, not_same}
 use Rattle.jpg_markers.specs.Reading.{Reading, reading_of}
 use Rattle.jpg_file.specs.Read.FirstHeader.{HasHead, HasNoHead, IsFirstHeader, colours_by, first_header_of}
 use Rattle.jpg_file.specs.Read.Keeping.{is_wanted}
@@ -25,10 +25,10 @@ use Rattle.jpg_file.specs.Read.Items.{BetweenItems, AfterSegment, AtPlace}
 use Rattle.jpg_file.specs.Read.File.{head_or}
 use Rattle.jpg_file.specs.declared.read.first_header.Head.{Head}
 use Rattle.jpg_file.specs.declared.read.items.Items.{Items}
-use Rattle.jpg_spec.proofs.Common.{not_same}
 use Rattle.jpg_spec.proofs.ItemSteps.{fill_begin, fill_part, fill_segment}
 use Rattle.jpg_file.proofs.ItemBytes.{part_after}
 use Rattle.jpg_file.proofs.Keeping.{adobe_same, filter_reverse}
+use Rattle.jpg_spec.proofs.FileHeader.{no_scan_spelled}
 
 -- IT REMAINS with more bytes, and after another segment
 
@@ -53,12 +53,6 @@ has_more limits bytes before code contents (Some h) other k = k
 
 -- BYTES WITHOUT A SCAN are only segments
 
-segments_alone : (items : List Item) (front : List ℕ) → SpellsFront items front → has_scan (segments_of items) ≡ false → SpellsSegments (segments_of items) front
-segments_alone [] front s none = s
-segments_alone (segment code contents ∷ items) front s none =
-    (s.0, s.1, s.2, segments_alone items s.0 s.3 (neither (code == 0xda) (has_scan (segments_of items)) none).1, (s.4).0, (s.4).1)
-segments_alone (scan contents intervals ∷ items) front s none = cc
-
 pub between_header : (limits : Limits) (bytes : List ℕ) (items : List Item) (blocks : Blocks) (w : Items) → BetweenItems limits bytes items blocks w → has_scan (segments_of items) ≡ false → UnfinishedHeader limits bytes
 between_header limits bytes items blocks w k none = by k.at
   where
@@ -78,7 +72,7 @@ between_header limits bytes items blocks w k none = by k.at
         inr (
           segments_of items,
           replicate b.fill 255 ++ tail,
-          (record { front = behind.front; cut = behind.cut; spelled = segments_alone items behind.front behind.spelled none; passed = leads_pass limits items blocks at.leads }, none),
+          (record { front = behind.front; cut = behind.cut; spelled = no_scan_spelled items behind.front behind.spelled none; passed = leads_pass limits items blocks at.leads }, none),
           filled b.fill tail (part_after limits bytes k.sent items blocks r tail r.phase k.bounded.0 at (k.stands).1),
         )
 
@@ -90,23 +84,6 @@ no_head limits bytes s before contents n h = whole_not_standing limits (take n b
 pub record HeadsFirst (limits : Limits) (bytes : List ℕ) (before : List Segment) (contents : List ℕ) : Type 0 where
   pub header : IsHeader limits bytes before contents
   pub unbroken : contents_rule limits before 0xda contents ≡ None
-
-pub heads_first : (limits : Limits) (bytes : List ℕ) (items : List Item) (blocks : Blocks) (w : Items) (contents : List ℕ) → AfterSegment limits bytes items blocks w → (reading_of w.segments).code ≡ 0xda → (reading_of w.segments).contents ≡ contents
-    → has_scan (segments_of items) ≡ false → contents_rule limits (segments_of items) 0xda contents ≡ None → HeadsFirst limits bytes (segments_of items) contents
-heads_first limits bytes items blocks w contents k code same none rule =
-    let b = (k.at).beside in
-    let behind = b.behind in
-    let last = replicate b.fill 255 ++ k.tail in
-    let spelled : SpellsSegment 0xda contents k.tail = subst (λ c. SpellsSegment 0xda c k.tail) same (subst (λ n. SpellsSegment n (reading_of w.segments).contents k.tail) code k.spelled) in
-    let end : 0xda ≡ 0xd9 → ⊥ = λ (e : 0xda ≡ 0xd9). omega (arith, e) in
-    record {
-      header = record {
-        spelled = (behind.front, last, behind.cut, segments_alone items behind.front behind.spelled none, fill_segment b.fill 0xda contents k.tail spelled, end);
-        passed = (subst (λ n. code_fault (segments_of items) n ≡ None) code k.allowed, scan_passed limits (segments_of items) contents rule, leads_pass limits items blocks (k.at).leads);
-        first = none;
-      };
-      unbroken = rule;
-    }
 
 told_some : (limits : Limits) (before : List Segment) (contents : List ℕ) (h : SegmentView) (f : Frame) (n : ℕ) → Holds limits h ((0xda, contents) ∷ before) → h.frame ≡ Some f
     → (first_header_of h n ≡ Some (record { frame = f; colour = colours_by f h.jfif h.kept; at = n })) × (f ≡ frame_of limits before)
@@ -122,23 +99,43 @@ colour_same limits before contents h f k e =
     ap (λ (g : Frame). colours_by g h.jfif h.kept) e ∙ ap (λ (j : Jfif). colours_by (frame_of limits before) j h.kept) jfif
     ∙ ap (λ (a : Option ℕ). let f = frame_of limits before in colours_of (length f.components) (identifiers f.components) (jfif_of kept).seen a) held
 
-pub noted : (limits : Limits) (bytes : List ℕ) (items : List Item) (blocks : Blocks) (w : Items) (contents : List ℕ) (h : SegmentView) (f : Frame) (n : ℕ) (old : Option Head) → AfterSegment limits bytes items blocks w
-    → (reading_of w.segments).code ≡ 0xda → (reading_of w.segments).contents ≡ contents → contents_rule limits (segments_of items) 0xda contents ≡ None → Holds limits h ((0xda, contents) ∷ segments_of items) → h.frame ≡ Some f → n ≡ length bytes
-    → HasHead limits bytes (segments_of items) old → HasHead limits bytes ((0xda, contents) ∷ segments_of items) (head_or old (first_header_of h n))
-noted limits bytes items blocks w contents h f n (Some x) k code same rule holds framed count had = had
-noted limits bytes items blocks w contents h f n None k code same rule holds framed count none =
-    let before = segments_of items in
-    let t = told_some limits before contents h f n holds framed in
-    let first = heads_first limits bytes items blocks w contents k code same none rule in
-    let x : Head = record { frame = f; colour = colours_by f h.jfif h.kept; at = n } in
-    let is : take n bytes ≡ bytes = take_all n bytes (omega (arith, count)) in
-    let at : IsFirstHeader limits bytes x = record {
-      before = before;
-      contents = contents;
-      within = omega (arith, count);
-      header = subst (λ l. IsHeader limits l before contents) (sym is) first.header;
-      unbroken = rule;
-      frame = t.1;
-      colour = colour_same limits before contents h f holds t.1;
-    } in
-    subst (λ (o : Option Head). HasHead limits bytes ((0xda, contents) ∷ before) o) (sym t.0) at
+module _ (limits : Limits) (bytes : List ℕ) (items : List Item) (blocks : Blocks) (w : Items) (contents : List ℕ) where
+  pub heads_first : AfterSegment limits bytes items blocks w → (reading_of w.segments).code ≡ 0xda → (reading_of w.segments).contents ≡ contents
+      → has_scan (segments_of items) ≡ false → contents_rule limits (segments_of items) 0xda contents ≡ None
+      → HeadsFirst limits bytes (segments_of items) contents
+  heads_first k code same none rule =
+      let b = (k.at).beside in
+      let behind = b.behind in
+      let last = replicate b.fill 255 ++ k.tail in
+      let spelled : SpellsSegment 0xda contents k.tail = subst (λ c. SpellsSegment 0xda c k.tail) same (subst (λ n. SpellsSegment n (reading_of w.segments).contents k.tail) code k.spelled) in
+      let end : 0xda ≡ 0xd9 → ⊥ = λ (e : 0xda ≡ 0xd9). omega (arith, e) in
+      record {
+        header = record {
+          spelled = (behind.front, last, behind.cut, no_scan_spelled items behind.front behind.spelled none, fill_segment b.fill 0xda contents k.tail spelled, end);
+          passed = (subst (λ n. code_fault (segments_of items) n ≡ None) code k.allowed, scan_passed limits (segments_of items) contents rule, leads_pass limits items blocks (k.at).leads);
+          first = none;
+        };
+        unbroken = rule;
+      }
+
+  pub noted : (h : SegmentView) (f : Frame) (n : ℕ) (old : Option Head) → AfterSegment limits bytes items blocks w → (reading_of w.segments).code ≡ 0xda
+      → (reading_of w.segments).contents ≡ contents → contents_rule limits (segments_of items) 0xda contents ≡ None
+      → Holds limits h ((0xda, contents) ∷ segments_of items) → h.frame ≡ Some f → n ≡ length bytes → HasHead limits bytes (segments_of items) old
+      → HasHead limits bytes ((0xda, contents) ∷ segments_of items) (head_or old (first_header_of h n))
+  noted h f n (Some x) k code same rule holds framed count had = had
+  noted h f n None k code same rule holds framed count none =
+      let before = segments_of items in
+      let t = told_some limits before contents h f n holds framed in
+      let first = heads_first k code same none rule in
+      let x : Head = record { frame = f; colour = colours_by f h.jfif h.kept; at = n } in
+      let is : take n bytes ≡ bytes = take_all n bytes (omega (arith, count)) in
+      let at : IsFirstHeader limits bytes x = record {
+        before = before;
+        contents = contents;
+        within = omega (arith, count);
+        header = subst (λ l. IsHeader limits l before contents) (sym is) first.header;
+        unbroken = rule;
+        frame = t.1;
+        colour = colour_same limits before contents h f holds t.1;
+      } in
+      subst (λ (o : Option Head). HasHead limits bytes ((0xda, contents) ∷ before) o) (sym t.0) at

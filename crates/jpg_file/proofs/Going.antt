@@ -13,6 +13,7 @@ use Rattle.jpg_file.specs.Read.Going.{CanGoOn, GoesOn, file_with}
 use Rattle.jpg_file.specs.Read.Items.{PassesItems}
 use Rattle.jpg_file.proofs.FileSteps.{after_between, between_of}
 use Rattle.jpg_file.proofs.PieceSteps.{limits_are}
+use Rattle.jpg_base.proofs.FedPiece.{take_both}
 
 -- by what the items pass
 pub goes : (r : Reading) (items : Items) (bytes : List ℕ) (n : ℕ) → CanGoOn r bytes → PassesItems r.items bytes n items → GoesOn r bytes n (record r { items = items; taken = r.taken + n })
@@ -43,11 +44,6 @@ goes r items bytes n g p = record {
       })
       refl refl refl (omega (arith, room, few, count, long, all, input)));
 }
-
-take_both : (n m : ℕ) (xs : List ℕ) → n ≤ length xs → take (n + m) xs ≡ take n xs ++ take m (drop n xs)
-take_both n m xs h =
-    let size = length-take-le n xs h in
-    ap (λ (l : List ℕ). take (n + m) l) (sym (take-append-drop n xs)) ∙ ap (λ (k : ℕ). take (k + m) (take n xs ++ drop n xs)) (sym size) ∙ take-append-add (take n xs) (drop n xs) m
 
 rest_is : (n : ℕ) (bytes : List ℕ) → take (length bytes - n) (drop n bytes) ≡ drop n bytes
 rest_is n bytes = let size = length-drop n bytes in take_all (length bytes - n) (drop n bytes) (omega (arith, size))

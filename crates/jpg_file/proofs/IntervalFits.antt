@@ -80,19 +80,6 @@ pub record InWork (limits : Limits) (bytes : List ℕ) (p : ScanPlace) (i : Inte
   pub is : IsInterval limits p i
   pub so_far : ScanSoFar (scan_at limits p) p.blocks (map_of i.before) p.done (p.places ∷ p.later)
 
-says_at : (limits : Limits) (bytes : List ℕ) (p : ScanPlace) (i : Interval) → InWork limits bytes p i → is_progressive (frame_at limits p).process ≡ true → Says (head_of limits p)
-says_at limits bytes p i w e = head_says limits (segments_of p.items) p.contents e ((w.at).allowed).1
-
-ss_at : (limits : Limits) (bytes : List ℕ) (p : ScanPlace) (i : Interval) → InWork limits bytes p i → is_progressive (frame_at limits p).process ≡ true → i.scan.ss ≡ (head_of limits p).ss
-ss_at limits bytes p i w e = ap (λ (s : Scan). s.ss) (w.is).scan ∙ ap (λ b. cond b (head_of limits p).ss 0) e
-
-se_at : (limits : Limits) (bytes : List ℕ) (p : ScanPlace) (i : Interval) → InWork limits bytes p i → is_progressive (frame_at limits p).process ≡ true → i.scan.se ≡ (head_of limits p).se
-se_at limits bytes p i w e = ap (λ (s : Scan). s.se) (w.is).scan ∙ ap (λ b. cond b (head_of limits p).se 63) e
-
-begins_at : (limits : Limits) (bytes : List ℕ) (p : ScanPlace) (i : Interval) (q : Place) → InWork limits bytes p i → is_progressive (frame_at limits p).process ≡ true → is_among q.component (head_components (head_of limits p)) ≡ true
-    → BeginsPass limits p.items p.blocks p.contents q
-begins_at limits bytes p i q w e among = record { begins = record { leads = (w.at).leads; allowed = ((w.at).allowed).1; among = among }; progressive = e }
-
 plain_fits : (limits : Limits) (bytes : List ℕ) (p : ScanPlace) (i : Interval) → InWork limits bytes p i → is_progressive (frame_at limits p).process ≡ false → IsSequential i
 plain_fits limits bytes p i w e =
     let head = head_of limits p in
@@ -102,44 +89,55 @@ plain_fits limits bytes p i w e =
       se = ap (λ (s : Scan). s.se) (w.is).scan ∙ ap (λ b. cond b head.se 63) e;
     }
 
-dc_fits : (limits : Limits) (bytes : List ℕ) (p : ScanPlace) (i : Interval) → InWork limits bytes p i → is_progressive (frame_at limits p).process ≡ true → ((head_of limits p).ss == 0) ≡ true → IsDcBand i.scan
-dc_fits limits bytes p i w e z = record {
-  ss = ss_at limits bytes p i w e ∙ same_of (head_of limits p).ss 0 z;
-  se = se_at limits bytes p i w e ∙ (says_at limits bytes p i w e).dc z;
-}
+module _ (limits : Limits) (bytes : List ℕ) (p : ScanPlace) (i : Interval) (w : InWork limits bytes p i)
+    (e : is_progressive (frame_at limits p).process ≡ true) where
+  says_at : Says (head_of limits p)
+  says_at = head_says limits (segments_of p.items) p.contents e ((w.at).allowed).1
 
-later_fits : (limits : Limits) (bytes : List ℕ) (p : ScanPlace) (i : Interval) → InWork limits bytes p i → is_progressive (frame_at limits p).process ≡ true → ((head_of limits p).ss == 0) ≡ true → ((head_of limits p).ah == 0) ≡ false → TakesOneBit i
-later_fits limits bytes p i w e z some =
-    let s = scan_at limits p in
-    let P : List ℤ → Type 0 = λ block. DcHasRoom s.coding (slice_index_or block 0 (pos 0)) in
-    let all = each_place (HasRoomAt s.coding p.blocks) limits p (λ q among. dc_room limits p.items p.blocks p.contents q (begins_at limits bytes p i q w e among) (same_of (head_of limits p).ss 0 z) some) in
-    let due = due_kept P s p.blocks (map_of i.before) p.done p.places p.later (distinct_places limits p w.readable) w.so_far all in
-    let here = all_front (HasRoomAt s.coding (map_of i.before)) p.places (joined p.later) due in
-    let S : Scan → Type 0 = λ t. All (HasRoomAt t.coding (map_of i.before)) i.places in
-    let L : List Place → Type 0 = λ l. All (HasRoomAt s.coding (map_of i.before)) l in
-    record { band = dc_fits limits bytes p i w e z; room = subst S (sym (w.is).scan) (subst L (sym (w.is).places) here) }
+  ss_at : i.scan.ss ≡ (head_of limits p).ss
+  ss_at = ap (λ (s : Scan). s.ss) (w.is).scan ∙ ap (λ b. cond b (head_of limits p).ss 0) e
 
-band_fits : (limits : Limits) (bytes : List ℕ) (p : ScanPlace) (i : Interval) → InWork limits bytes p i → is_progressive (frame_at limits p).process ≡ true → ((head_of limits p).ss == 0) ≡ false → IsAcInterval i
-band_fits limits bytes p i w e z =
-    let s = scan_at limits p in
-    let head = head_of limits p in
-    let says = says_at limits bytes p i w e in
-    let limit = says.band z in
-    let some : 1 ≤ head.ss = grind (arith, nat_tests, z) in
-    let P : List ℤ → Type 0 = λ block. All (HasCorrectionRoom s.coding) (band s block) in
-    let all = each_place (BandHasRoom s p.blocks) limits p (λ q among. ac_band_room limits p.items p.blocks p.contents q (begins_at limits bytes p i q w e among) some limit.1) in
-    let due = due_kept P s p.blocks (map_of i.before) p.done p.places p.later (distinct_places limits p w.readable) w.so_far all in
-    let same : p.places ++ joined p.later ≡ i.places ++ i.later = ap (λ l. l ++ joined p.later) (sym (w.is).places) ∙ ap (λ l. i.places ++ l) (sym (w.is).later) in
-    let S : Scan → Type 0 = λ t. All (BandHasRoom t (map_of i.before)) (i.places ++ i.later) in
-    let L : List Place → Type 0 = λ l. All (BandHasRoom s (map_of i.before)) l in
-    let ss = ss_at limits bytes p i w e in
-    let se = se_at limits bytes p i w e in
-    record {
-      some = omega (arith, some, ss);
-      band = omega (arith, limit.0, ss, se);
-      most = omega (arith, limit.1, se);
-      room = subst S (sym (w.is).scan) (subst L same due);
-    }
+  se_at : i.scan.se ≡ (head_of limits p).se
+  se_at = ap (λ (s : Scan). s.se) (w.is).scan ∙ ap (λ b. cond b (head_of limits p).se 63) e
+
+  begins_at : (q : Place) → is_among q.component (head_components (head_of limits p)) ≡ true → BeginsPass limits p.items p.blocks p.contents q
+  begins_at q among = record { begins = record { leads = (w.at).leads; allowed = ((w.at).allowed).1; among = among }; progressive = e }
+
+  dc_fits : ((head_of limits p).ss == 0) ≡ true → IsDcBand i.scan
+  dc_fits z = record {
+    ss = ss_at ∙ same_of (head_of limits p).ss 0 z;
+    se = se_at ∙ says_at.dc z;
+  }
+
+  later_fits : ((head_of limits p).ss == 0) ≡ true → ((head_of limits p).ah == 0) ≡ false → TakesOneBit i
+  later_fits z some =
+      let s = scan_at limits p in
+      let P : List ℤ → Type 0 = λ block. DcHasRoom s.coding (slice_index_or block 0 (pos 0)) in
+      let all = each_place (HasRoomAt s.coding p.blocks) limits p (λ q among. dc_room limits p.items p.blocks p.contents q (begins_at q among) (same_of (head_of limits p).ss 0 z) some) in
+      let due = due_kept P s p.blocks (map_of i.before) p.done p.places p.later (distinct_places limits p w.readable) w.so_far all in
+      let here = all_front (HasRoomAt s.coding (map_of i.before)) p.places (joined p.later) due in
+      let S : Scan → Type 0 = λ t. All (HasRoomAt t.coding (map_of i.before)) i.places in
+      let L : List Place → Type 0 = λ l. All (HasRoomAt s.coding (map_of i.before)) l in
+      record { band = dc_fits z; room = subst S (sym (w.is).scan) (subst L (sym (w.is).places) here) }
+
+  band_fits : ((head_of limits p).ss == 0) ≡ false → IsAcInterval i
+  band_fits z =
+      let s = scan_at limits p in
+      let head = head_of limits p in
+      let limit = says_at.band z in
+      let some : 1 ≤ head.ss = grind (arith, nat_tests, z) in
+      let P : List ℤ → Type 0 = λ block. All (HasCorrectionRoom s.coding) (band s block) in
+      let all = each_place (BandHasRoom s p.blocks) limits p (λ q among. ac_band_room limits p.items p.blocks p.contents q (begins_at q among) some limit.1) in
+      let due = due_kept P s p.blocks (map_of i.before) p.done p.places p.later (distinct_places limits p w.readable) w.so_far all in
+      let same : p.places ++ joined p.later ≡ i.places ++ i.later = ap (λ l. l ++ joined p.later) (sym (w.is).places) ∙ ap (λ l. i.places ++ l) (sym (w.is).later) in
+      let S : Scan → Type 0 = λ t. All (BandHasRoom t (map_of i.before)) (i.places ++ i.later) in
+      let L : List Place → Type 0 = λ l. All (BandHasRoom s (map_of i.before)) l in
+      record {
+        some = omega (arith, some, ss_at);
+        band = omega (arith, limit.0, ss_at, se_at);
+        most = omega (arith, limit.1, se_at);
+        room = subst S (sym (w.is).scan) (subst L same due);
+      }
 
 -- THE INTERVAL is of the scan's kind
 pub interval_fits : (limits : Limits) (bytes : List ℕ) (p : ScanPlace) (i : Interval) → ScanAt limits bytes p [] → IsReadable limits p → IsInterval limits p i

@@ -66,12 +66,8 @@ start_more limits bytes r p e a = by p a
     by : (q : Phase) → AtPhase r q bytes [] → AtPlace limits bytes bytes [] no_blocks
     by phase.Empty k = inl (record { same = refl; short = inl k.0; no_items = refl; blank = refl })
     by phase.HalfStart k = inl (record { same = refl; short = inr k.0; no_items = refl; blank = refl })
-    by phase.Between k = between phase.Between k
-    by phase.Fill k = between phase.Fill k
-    by phase.Coded k = between phase.Coded k
-    by phase.HalfLength k = between phase.HalfLength k
-    by phase.Contents k = between phase.Contents k
     by phase.Ended k = absurd k
+    by q k = between q k
 
 -- BYTES that are continued
 place_more : (limits : Limits) (bytes sent more : List ℕ) (items : List Item) (blocks : Blocks) (r : Reading) → r.limits ≡ limits → StandsForSegments (sent ++ more) (segments_of items) r → AtPlace limits bytes sent items blocks
@@ -85,47 +81,6 @@ place_more limits bytes sent more items blocks r e stands (inl s) =
     let R : Blocks → Type 0 = λ z. AtPlace limits (sent ++ more) (sent ++ more) [] z in
     subst P (sym s.same) (subst Q (sym s.no_items) (subst R (sym s.blank) (start_more limits (sent ++ more) r r.phase e k.1)))
 
-pub passes_on : (limits : Limits) (bytes more : List ℕ) (items : List Item) (blocks : Blocks) (w new : Items) → (k : BetweenItems limits bytes items blocks w) → StandsForSegments (k.sent ++ more) (segments_of items) (reading_of new.segments)
-    → (reading_of new.segments).limits ≡ (reading_of w.segments).limits → new.limits ≡ w.limits → told_by new.held ≡ told_by w.held → BetweenItems limits (bytes ++ more) items blocks new
-passes_on limits bytes more items blocks w new k stands e f same = record {
-  sent = k.sent ++ more;
-  stands = stands;
-  at = place_more limits bytes k.sent more items blocks (reading_of new.segments) (e ∙ k.bounded.0) stands k.at;
-  bounded = (e ∙ k.bounded.0, f ∙ k.bounded.1);
-  holds = subst (λ h. Holds limits h (segments_of items)) (sym same) k.holds;
-}
-
-pub goes_on : (limits : Limits) (bytes : List ℕ) (b : ℕ) (items : List Item) (blocks : Blocks) (w new : Items) → (k : BetweenItems limits bytes items blocks w) → StandsForSegments (k.sent ++ b ∷ []) (segments_of items) (reading_of new.segments)
-    → (reading_of new.segments).limits ≡ (reading_of w.segments).limits → new.limits ≡ w.limits → told_by new.held ≡ told_by w.held → (more : List Item) × AddsNoScan items more × BetweenItems limits (bytes ++ b ∷ []) more blocks new
-goes_on limits bytes b items blocks w new k stands e f same = (items, inl refl, passes_on limits bytes (b ∷ []) items blocks w new k stands e f same)
-
--- BYTES that only continue
-pub stretch_passes : (w : Items) (r : SegmentReader) (bytes : List ℕ) (n : ℕ) → PassesSome (reading_of w.segments) bytes (Ok n) (reading_of r) → (reading_of r).taken ≡ (reading_of w.segments).taken + n
-    → (reading_of r).limits ≡ (reading_of w.segments).limits → PassesItems w bytes n (record w { segments = r })
-stretch_passes w r bytes n (few, stands, parts) taken limits = record {
-  within = few;
-  limits = refl;
-  same = limits;
-  taken = taken;
-  stands = λ here front items blocks k.
-      (items, inl refl, passes_on here front (take n bytes) items blocks w (record w { segments = r }) k (stands k.sent (segments_of items) k.stands) limits refl refl);
-}
-
--- NOTHING that was taken
-pub nothing_passes : (w new : Items) (bytes : List ℕ) → reading_of new.segments ≡ reading_of w.segments → new.limits ≡ w.limits → told_by new.held ≡ told_by w.held → PassesItems w bytes 0 new
-nothing_passes w new bytes same limits held = record {
-  within = omega arith;
-  limits = limits;
-  same = ap (λ (q : Reading). q.limits) same;
-  taken = omega (arith, ap (λ (q : Reading). q.taken) same);
-  stands = λ here front items blocks k. (
-    items,
-    inl refl,
-    passes_on here front [] items blocks w new k (subst (λ b. StandsForSegments b (segments_of items) (reading_of new.segments)) (sym (append-nil k.sent)) (subst (λ (q : Reading). StandsForSegments k.sent (segments_of items) q) (sym same) k.stands))
-        (ap (λ (q : Reading). q.limits) same) limits held,
-  );
-}
-
 -- A FAULT of markers and lengths
 pub beside_fault : (limits : Limits) (bytes sent : List ℕ) (items : List Item) (blocks : Blocks) (tail : List ℕ) (fault : Fault) → IsBeside limits bytes sent items blocks tail → RevealsAfter (kept_rule limits) (segments_of items) fault sent → Reveals limits fault bytes
 beside_fault limits bytes sent items blocks tail fault w (inl s) =
@@ -138,20 +93,7 @@ start_fault : (limits : Limits) (bytes : List ℕ) (fault : Fault) → RevealsAf
 start_fault limits bytes fault (inl (which, first, shown)) = inl (which, shown)
 start_fault limits bytes fault (inr (tail, between, shown)) = beside_fault limits bytes bytes [] no_blocks tail fault (first_beside limits bytes tail between) (inr (tail, between, shown))
 
-pub byte_fault : (limits : Limits) (bytes : List ℕ) (b : ℕ) (items : List Item) (blocks : Blocks) (w new : Items) (f : FaultAt) → (k : BetweenItems limits bytes items blocks w) → (reading_of new.segments).limits ≡ (reading_of w.segments).limits
-    → Comes (k.sent ++ b ∷ []) (segments_of items) (Err (stop.Fault f)) (reading_of new.segments) → Reveals limits f.fault (bytes ++ b ∷ []) × (f.at ≡ (reading_of new.segments).taken)
-byte_fault limits bytes b items blocks w new f k e c =
-    let shown = subst (λ (l : Limits). RevealsAfter (kept_rule l) (segments_of items) f.fault (k.sent ++ b ∷ [])) (e ∙ k.bounded.0) c.1 in
-    (by k.at shown, c.2)
-  where
-    by : AtPlace limits bytes k.sent items blocks → RevealsAfter (kept_rule limits) (segments_of items) f.fault (k.sent ++ b ∷ []) → Reveals limits f.fault (bytes ++ b ∷ [])
-    by (inr (tail, at)) shown =
-        beside_fault limits (bytes ++ b ∷ []) (k.sent ++ b ∷ []) items blocks (tail ++ b ∷ []) f.fault (record { beside = beside_more limits (kept_rule limits) k.sent bytes items tail (b ∷ []) at.beside; leads = at.leads }) shown
-    by (inl s) shown =
-        let S : List Item → Type 0 = λ z. RevealsAfter (kept_rule limits) (segments_of z) f.fault (k.sent ++ b ∷ []) in
-        subst (λ z. Reveals limits f.fault (z ++ b ∷ [])) (sym s.same) (start_fault limits (k.sent ++ b ∷ []) f.fault (subst S s.no_items shown))
-
--- ONE MORE SEGMENT is complete
+-- ONE MORE SEGMENT
 
 -- the segment at the end of what was sent
 pub record LastSegment (limits : Limits) (sent : List ℕ) (before : List Segment) (code : ℕ) (contents : List ℕ) : Type 0 where
@@ -188,6 +130,10 @@ long_segment code contents bytes s =
     let h = length-replicate {A = ℕ} (suc m.0) 255 in
     omega (arith, a, b, d, f, g, h)
 
+few_sent : (sent : List ℕ) → (sent ≡ []) ⊎ (sent ≡ 255 ∷ []) → length sent ≤ 1
+few_sent sent (inl e) = omega (arith, ap length e)
+few_sent sent (inr e) = omega (arith, ap length e)
+
 -- none is complete before SOI is
 start_no_segment : (limits : Limits) (sent : List ℕ) (b : ℕ) (code : ℕ) (contents : List ℕ) → (sent ≡ []) ⊎ (sent ≡ 255 ∷ []) → LastSegment limits (sent ++ b ∷ []) [] code contents → ⊥
 start_no_segment limits sent b code contents short s =
@@ -196,74 +142,9 @@ start_no_segment limits sent b code contents short s =
     let f = ap length (s.between).spelled in
     let g = long_segment code contents s.rest s.spelled in
     let h = length-append sent (b ∷ []) in
-    omega (arith, a, d, f, g, h, few short)
-  where
-    few : (sent ≡ []) ⊎ (sent ≡ 255 ∷ []) → length sent ≤ 1
-    few (inl e) = omega (arith, ap length e)
-    few (inr e) = omega (arith, ap length e)
+    omega (arith, a, d, f, g, h, few_sent sent short)
 
-pub after_segment : (limits : Limits) (bytes : List ℕ) (b : ℕ) (items : List Item) (blocks : Blocks) (w new : Items) → (k : BetweenItems limits bytes items blocks w) → Comes (k.sent ++ b ∷ []) (segments_of items) (Ok step.Whole) (reading_of new.segments)
-    → (reading_of new.segments).phase ≡ phase.Between → (reading_of new.segments).limits ≡ (reading_of w.segments).limits → new.limits ≡ w.limits → told_by new.held ≡ told_by w.held → AfterSegment limits (bytes ++ b ∷ []) items blocks new
-after_segment limits bytes b items blocks w new k c p e f same = by k.at
-  where
-    r : Reading
-    r = reading_of new.segments
-
-    last : LastSegment limits (k.sent ++ b ∷ []) (segments_of items) r.code r.contents
-    last = last_segment limits (k.sent ++ b ∷ []) (segments_of items) r.code r.contents r (e ∙ k.bounded.0) p c.1
-
-    by : AtPlace limits bytes k.sent items blocks → AfterSegment limits (bytes ++ b ∷ []) items blocks new
-    by (inl s) =
-        let S : List Item → Type 0 = λ z. LastSegment limits (k.sent ++ b ∷ []) (segments_of z) r.code r.contents in
-        absurd (start_no_segment limits k.sent b r.code r.contents s.short (subst S s.no_items last))
-    by (inr (tail, at)) =
-        let beside = beside_more limits (kept_rule limits) k.sent bytes items tail (b ∷ []) at.beside in
-        let t = same_tail (kept_rule limits) (k.sent ++ b ∷ []) (segments_of items) (tail ++ b ∷ []) last.rest beside.between last.between in
-        record {
-          sent = k.sent ++ b ∷ [];
-          tail = tail ++ b ∷ [];
-          stands = c.1;
-          at = record { beside = beside; leads = at.leads };
-          spelled = subst (λ z. SpellsSegment r.code r.contents z) (sym t) last.spelled;
-          allowed = last.allowed;
-          no_end = last.no_end;
-          phase = p;
-          kept = last.kept;
-          bounded = (e ∙ k.bounded.0, f ∙ k.bounded.1);
-          holds = subst (λ h. Holds limits h (segments_of items)) (sym same) k.holds;
-        }
-
--- and breaks no rule, or has a fault
-pub segment_taken : (limits : Limits) (bytes : List ℕ) (items : List Item) (blocks : Blocks) (w new : Items) → (k : AfterSegment limits bytes items blocks w) → ((reading_of w.segments).code ≡ 0xda → ⊥)
-    → contents_rule limits (segments_of items) (reading_of w.segments).code (reading_of w.segments).contents ≡ None → reading_of new.segments ≡ reading_of w.segments → new.limits ≡ w.limits
-    → Holds limits (told_by new.held) (((reading_of w.segments).code, (reading_of w.segments).contents) ∷ segments_of items) → (more : List Item) × AddsNoScan items more × BetweenItems limits bytes more blocks new
-segment_taken limits bytes items blocks w new k other rule same f holds =
-    let r = reading_of w.segments in
-    let more : List Item = segment r.code r.contents ∷ items in
-    let S : Reading → Type 0 = λ q. StandsForSegments k.sent ((r.code, r.contents) ∷ segments_of items) q in (
-      more,
-      inr (r.code, r.contents, refl, other),
-      record {
-        sent = k.sent;
-        stands = subst S (sym same) k.stands;
-        at = inr (
-          [],
-          record {
-            beside = segment_passed limits (kept_rule limits) k.sent bytes items r.code r.contents k.tail (k.at).beside k.spelled k.allowed k.no_end other k.kept rule;
-            leads = (k.allowed, rule, (k.at).leads);
-          },
-        );
-        bounded = (ap (λ (q : Reading). q.limits) same ∙ k.bounded.0, f ∙ k.bounded.1);
-        holds = holds;
-      },
-    )
-
-pub segment_fault : (limits : Limits) (bytes : List ℕ) (items : List Item) (blocks : Blocks) (w : Items) (fault : Fault) → (k : AfterSegment limits bytes items blocks w)
-    → contents_rule limits (segments_of items) (reading_of w.segments).code (reading_of w.segments).contents ≡ Some fault → Reveals limits fault bytes
-segment_fault limits bytes items blocks w fault k broken =
-    contents_shown limits (kept_rule limits) k.sent bytes items (reading_of w.segments).code (reading_of w.segments).contents fault k.tail (k.at).beside k.spelled k.allowed k.no_end broken
-
--- A COMPLETE SEGMENT at once
+-- between segments SOI was sent
 past_start : (limits : Limits) (sent : List ℕ) (before : List Segment) (r : Reading) → r.phase ≡ phase.Between → StandsForSegments sent before r → (sent ≡ []) ⊎ (sent ≡ 255 ∷ []) → before ≡ [] → ⊥
 past_start limits sent before r p stands short none =
     let (tail, between, seen, nothing) = subst (λ (q : Phase). AtPhase r q sent before) p stands.1 in
@@ -271,88 +152,13 @@ past_start limits sent before r p stands short none =
     let a = ap length between.cut in
     let d = length-append between.front tail in
     let f = ap length spelled in
-    omega (arith, a, d, f, few short)
-  where
-    few : (sent ≡ []) ⊎ (sent ≡ 255 ∷ []) → length sent ≤ 1
-    few (inl e) = omega (arith, ap length e)
-    few (inr e) = omega (arith, ap length e)
+    omega (arith, a, d, f, few_sent sent short)
 
-whole_at : (limits : Limits) (bytes more : List ℕ) (items : List Item) (blocks : Blocks) (code : ℕ) (contents : List ℕ) (w new : Items) → (k : BetweenItems limits bytes items blocks w) → (reading_of w.segments).phase ≡ phase.Between → (reading_of new.segments).phase ≡ phase.Between
-    → (reading_of new.segments).limits ≡ limits → new.limits ≡ limits → StandsForSegments (k.sent ++ more) ((code, contents) ∷ segments_of items) (reading_of new.segments) → (code ≡ 0xda → ⊥)
-    → contents_rule limits (segments_of items) code contents ≡ None → Holds limits (told_by new.held) ((code, contents) ∷ segments_of items) → AfterItem limits (bytes ++ more) items blocks More new
-whole_at limits bytes more items blocks code contents w new k p q e f stands other rule holds = by k.at
-  where
-    r : Reading
-    r = reading_of new.segments
-
-    last : LastSegment limits (k.sent ++ more) (segments_of items) code contents
-    last = last_segment limits (k.sent ++ more) (segments_of items) code contents r e q stands
-
-    by : AtPlace limits bytes k.sent items blocks → AfterItem limits (bytes ++ more) items blocks More new
-    by (inl s) = absurd (past_start limits k.sent (segments_of items) (reading_of w.segments) p k.stands s.short (ap segments_of s.no_items))
-    by (inr (tail, at)) =
-        let beside = beside_more limits (kept_rule limits) k.sent bytes items tail more at.beside in
-        let t = same_tail (kept_rule limits) (k.sent ++ more) (segments_of items) (tail ++ more) last.rest beside.between last.between in
-        let spelled = subst (λ z. SpellsSegment code contents z) (sym t) last.spelled in (
-          segment code contents ∷ items,
-          inr (code, contents, refl, other),
-          record {
-            sent = k.sent ++ more;
-            stands = stands;
-            at = inr (
-              [],
-              record {
-                beside = segment_passed limits (kept_rule limits) (k.sent ++ more) (bytes ++ more) items code contents (tail ++ more) beside spelled last.allowed last.no_end other last.kept rule;
-                leads = (last.allowed, rule, at.leads);
-              },
-            );
-            bounded = (e, f);
-            holds = holds;
-          },
-        )
-
-pub whole_passes : (w new : Items) (bytes : List ℕ) (code : ℕ) (contents : List ℕ) (n : ℕ) → PassesSegment (reading_of w.segments) code contents n (reading_of new.segments) → SpellsSegment code contents (take n bytes) → n ≤ length bytes → (code ≡ 0xda → ⊥)
-    → HoldsSegment (told_by w.held) w.limits code contents took.Done (told_by new.held) → new.limits ≡ w.limits → PassesItems w bytes n new
-whole_passes w new bytes code contents n p spelled few other takes same = record {
-  within = few;
-  limits = same;
-  same = p.limits;
-  taken = p.taken;
-  stands = λ limits front items blocks k.
-      (let within = k.bounded.0 in
-      let here = k.bounded.1 in
-      let kept = subst (λ (l : Limits). kept_rule l (segments_of items) code contents ≡ None) (within ∙ sym here) (p.kept k.sent (segments_of items) k.stands) in
-      let t = takes (segments_of items) (subst (λ (l : Limits). Holds l (told_by w.held) (segments_of items)) (sym here) k.holds) kept in
-      whole_at limits front (take n bytes) items blocks code contents w new k p.was p.between (p.limits ∙ within) (same ∙ here) (p.stands k.sent (take n bytes) (segments_of items) k.stands spelled) other
-      (subst (λ (l : Limits). contents_rule l (segments_of items) code contents ≡ None) here t.0) (subst (λ (l : Limits). Holds l (told_by new.held) ((code, contents) ∷ segments_of items)) here t.1));
-}
-
--- EOI
+-- EOI isn't the first of them
 no_first_end : code_fault [] 0xd9 ≡ None → ⊥
 no_first_end e = cc
 
-pub after_end : (limits : Limits) (bytes : List ℕ) (b : ℕ) (items : List Item) (blocks : Blocks) (w new : Items) → (k : BetweenItems limits bytes items blocks w) → Comes (k.sent ++ b ∷ []) (segments_of items) (Ok step.Eoi) (reading_of new.segments)
-    → (reading_of new.segments).limits ≡ (reading_of w.segments).limits → told_by new.held ≡ told_by w.held → BehindEnd limits (bytes ++ b ∷ []) items blocks new
-after_end limits bytes b items blocks w new k c e same = by k.at
-  where
-    ends : EndsAtEoi (kept_rule limits) (segments_of items) (k.sent ++ b ∷ [])
-    ends = subst (λ (l : Limits). EndsAtEoi (kept_rule l) (segments_of items) (k.sent ++ b ∷ [])) (e ∙ k.bounded.0) c.1
-
-    by : AtPlace limits bytes k.sent items blocks → BehindEnd limits (bytes ++ b ∷ []) items blocks new
-    by (inl s) = absurd (no_first_end (subst (λ (z : List Item). code_fault (segments_of z) 0xd9 ≡ None) s.no_items ends.3))
-    by (inr (tail, at)) =
-        let beside = beside_more limits (kept_rule limits) k.sent bytes items tail (b ∷ []) at.beside in
-        let t = same_tail (kept_rule limits) (k.sent ++ b ∷ []) (segments_of items) (tail ++ b ∷ []) ends.0 beside.between ends.1 in
-        record {
-          sent = k.sent ++ b ∷ [];
-          tail = tail ++ b ∷ [];
-          at = record { beside = beside; leads = at.leads };
-          ended = subst (λ z. SpellsMarker 0xd9 z) (sym t) ends.2;
-          allowed = ends.3;
-          holds = subst (λ h. Holds limits h (segments_of items)) (sym same) k.holds;
-        }
-
--- A FAULTLESS PREFIX
+-- THE PART of a segment that was read
 part_read : (r : Reading) (p : Phase) (before : List Segment) (tail : List ℕ) → PartRead r p before tail → ((code : ℕ) × BeginsSegment before code tail) ⊎ PartOfSegment before tail
 part_read r phase.Empty before tail e = absurd e
 part_read r phase.HalfStart before tail e = absurd e
@@ -381,21 +187,222 @@ part_after limits bytes sent items blocks r tail p same at a = by p a
     by phase.HalfStart k =
         let y = beside_soi limits (kept_rule limits) sent bytes items tail at.beside in
         let z : 255 ∷ [] ≡ soi ++ y.0 = sym k.0 ∙ y.1 in absurd (no_head 0xd8 y.0 (heads 255 255 [] (0xd8 ∷ y.0) z).1)
-    by phase.Between k = go phase.Between k
-    by phase.Fill k = go phase.Fill k
-    by phase.Coded k = go phase.Coded k
-    by phase.HalfLength k = go phase.HalfLength k
-    by phase.Contents k = go phase.Contents k
     by phase.Ended k = absurd k
+    by q k = go q k
 
-pub between_stands : (limits : Limits) (bytes : List ℕ) (items : List Item) (blocks : Blocks) (w : Items) → BetweenItems limits bytes items blocks w → UnfinishedFile limits bytes
-between_stands limits bytes items blocks w k = by k.at
-  where
-    start : (sent : List ℕ) → (sent ≡ []) ⊎ (sent ≡ 255 ∷ []) → UnfinishedFile limits sent
-    start sent s = inl s
+-- AFTER BYTES between items
 
-    by : AtPlace limits bytes k.sent items blocks → UnfinishedFile limits bytes
-    by (inl s) = subst (λ z. UnfinishedFile limits z) (sym s.same) (start k.sent s.short)
-    by (inr (tail, at)) =
-        part_stands limits (kept_rule limits) k.sent bytes items tail at.beside
-        (part_after limits bytes k.sent items blocks (reading_of w.segments) tail (reading_of w.segments).phase k.bounded.0 at (k.stands).1)
+module _ (limits : Limits) (bytes : List ℕ) (items : List Item) (blocks : Blocks) (w : Items) (k : BetweenItems limits bytes items blocks w) where
+  -- bytes that only continue
+  pub passes_on : (more : List ℕ) (new : Items) → StandsForSegments (k.sent ++ more) (segments_of items) (reading_of new.segments)
+      → (reading_of new.segments).limits ≡ (reading_of w.segments).limits → new.limits ≡ w.limits → told_by new.held ≡ told_by w.held
+      → BetweenItems limits (bytes ++ more) items blocks new
+  passes_on more new stands e f same = record {
+    sent = k.sent ++ more;
+    stands = stands;
+    at = place_more limits bytes k.sent more items blocks (reading_of new.segments) (e ∙ k.bounded.0) stands k.at;
+    bounded = (e ∙ k.bounded.0, f ∙ k.bounded.1);
+    holds = subst (λ h. Holds limits h (segments_of items)) (sym same) k.holds;
+  }
+
+  pub goes_on : (b : ℕ) (s : SegmentReader) → StandsForSegments (k.sent ++ b ∷ []) (segments_of items) (reading_of s)
+      → (reading_of s).limits ≡ (reading_of w.segments).limits
+      → (more : List Item) × AddsNoScan items more × BetweenItems limits (bytes ++ b ∷ []) more blocks (record w { segments = s })
+  goes_on b s stands e = (items, inl refl, passes_on (b ∷ []) (record w { segments = s }) stands e refl refl)
+
+  -- a fault of markers and lengths
+  pub byte_fault : (b : ℕ) (s : SegmentReader) (f : FaultAt) → (reading_of s).limits ≡ (reading_of w.segments).limits
+      → Comes (k.sent ++ b ∷ []) (segments_of items) (Err (stop.Fault f)) (reading_of s)
+      → Reveals limits f.fault (bytes ++ b ∷ []) × (f.at ≡ (reading_of s).taken)
+  byte_fault b s f e c =
+      let shown = subst (λ (l : Limits). RevealsAfter (kept_rule l) (segments_of items) f.fault (k.sent ++ b ∷ [])) (e ∙ k.bounded.0) c.1 in
+      (by k.at shown, c.2)
+    where
+      by : AtPlace limits bytes k.sent items blocks → RevealsAfter (kept_rule limits) (segments_of items) f.fault (k.sent ++ b ∷ []) → Reveals limits f.fault (bytes ++ b ∷ [])
+      by (inr (tail, at)) shown =
+          beside_fault limits (bytes ++ b ∷ []) (k.sent ++ b ∷ []) items blocks (tail ++ b ∷ []) f.fault (record { beside = beside_more limits (kept_rule limits) k.sent bytes items tail (b ∷ []) at.beside; leads = at.leads }) shown
+      by (inl z) shown =
+          let S : List Item → Type 0 = λ l. RevealsAfter (kept_rule limits) (segments_of l) f.fault (k.sent ++ b ∷ []) in
+          subst (λ l. Reveals limits f.fault (l ++ b ∷ [])) (sym z.same) (start_fault limits (k.sent ++ b ∷ []) f.fault (subst S z.no_items shown))
+
+  -- one more segment is complete
+  pub after_segment : (b : ℕ) (s : SegmentReader) → Comes (k.sent ++ b ∷ []) (segments_of items) (Ok step.Whole) (reading_of s)
+      → (reading_of s).phase ≡ phase.Between → (reading_of s).limits ≡ (reading_of w.segments).limits
+      → AfterSegment limits (bytes ++ b ∷ []) items blocks (record w { segments = s })
+  after_segment b s c p e = by k.at
+    where
+      r : Reading
+      r = reading_of s
+
+      last : LastSegment limits (k.sent ++ b ∷ []) (segments_of items) r.code r.contents
+      last = last_segment limits (k.sent ++ b ∷ []) (segments_of items) r.code r.contents r (e ∙ k.bounded.0) p c.1
+
+      by : AtPlace limits bytes k.sent items blocks → AfterSegment limits (bytes ++ b ∷ []) items blocks (record w { segments = s })
+      by (inl start) =
+          let S : List Item → Type 0 = λ z. LastSegment limits (k.sent ++ b ∷ []) (segments_of z) r.code r.contents in
+          absurd (start_no_segment limits k.sent b r.code r.contents start.short (subst S start.no_items last))
+      by (inr (tail, at)) =
+          let beside = beside_more limits (kept_rule limits) k.sent bytes items tail (b ∷ []) at.beside in
+          let t = same_tail (kept_rule limits) (k.sent ++ b ∷ []) (segments_of items) (tail ++ b ∷ []) last.rest beside.between last.between in
+          record {
+            sent = k.sent ++ b ∷ [];
+            tail = tail ++ b ∷ [];
+            stands = c.1;
+            at = record { beside = beside; leads = at.leads };
+            spelled = subst (λ z. SpellsSegment r.code r.contents z) (sym t) last.spelled;
+            allowed = last.allowed;
+            no_end = last.no_end;
+            phase = p;
+            kept = last.kept;
+            bounded = (e ∙ k.bounded.0, k.bounded.1);
+            holds = k.holds;
+          }
+
+  -- a complete segment at once
+  whole_at : (more : List ℕ) (code : ℕ) (contents : List ℕ) (new : Items) → (reading_of w.segments).phase ≡ phase.Between
+      → (reading_of new.segments).phase ≡ phase.Between → (reading_of new.segments).limits ≡ limits → new.limits ≡ limits
+      → StandsForSegments (k.sent ++ more) ((code, contents) ∷ segments_of items) (reading_of new.segments) → (code ≡ 0xda → ⊥)
+      → contents_rule limits (segments_of items) code contents ≡ None → Holds limits (told_by new.held) ((code, contents) ∷ segments_of items)
+      → AfterItem limits (bytes ++ more) items blocks More new
+  whole_at more code contents new p q e f stands other rule holds = by k.at
+    where
+      r : Reading
+      r = reading_of new.segments
+
+      last : LastSegment limits (k.sent ++ more) (segments_of items) code contents
+      last = last_segment limits (k.sent ++ more) (segments_of items) code contents r e q stands
+
+      by : AtPlace limits bytes k.sent items blocks → AfterItem limits (bytes ++ more) items blocks More new
+      by (inl s) = absurd (past_start limits k.sent (segments_of items) (reading_of w.segments) p k.stands s.short (ap segments_of s.no_items))
+      by (inr (tail, at)) =
+          let beside = beside_more limits (kept_rule limits) k.sent bytes items tail more at.beside in
+          let t = same_tail (kept_rule limits) (k.sent ++ more) (segments_of items) (tail ++ more) last.rest beside.between last.between in
+          let spelled = subst (λ z. SpellsSegment code contents z) (sym t) last.spelled in (
+            segment code contents ∷ items,
+            inr (code, contents, refl, other),
+            record {
+              sent = k.sent ++ more;
+              stands = stands;
+              at = inr (
+                [],
+                record {
+                  beside = segment_passed limits (kept_rule limits) (k.sent ++ more) (bytes ++ more) items code contents (tail ++ more) beside spelled last.allowed last.no_end other last.kept rule;
+                  leads = (last.allowed, rule, at.leads);
+                },
+              );
+              bounded = (e, f);
+              holds = holds;
+            },
+          )
+
+  -- EOI
+  pub after_end : (b : ℕ) (s : SegmentReader) → Comes (k.sent ++ b ∷ []) (segments_of items) (Ok step.Eoi) (reading_of s)
+      → (reading_of s).limits ≡ (reading_of w.segments).limits
+      → BehindEnd limits (bytes ++ b ∷ []) items blocks (record w { segments = s })
+  after_end b s c e = by k.at
+    where
+      ends : EndsAtEoi (kept_rule limits) (segments_of items) (k.sent ++ b ∷ [])
+      ends = subst (λ (l : Limits). EndsAtEoi (kept_rule l) (segments_of items) (k.sent ++ b ∷ [])) (e ∙ k.bounded.0) c.1
+
+      by : AtPlace limits bytes k.sent items blocks → BehindEnd limits (bytes ++ b ∷ []) items blocks (record w { segments = s })
+      by (inl start) = absurd (no_first_end (subst (λ (z : List Item). code_fault (segments_of z) 0xd9 ≡ None) start.no_items ends.3))
+      by (inr (tail, at)) =
+          let beside = beside_more limits (kept_rule limits) k.sent bytes items tail (b ∷ []) at.beside in
+          let t = same_tail (kept_rule limits) (k.sent ++ b ∷ []) (segments_of items) (tail ++ b ∷ []) ends.0 beside.between ends.1 in
+          record {
+            sent = k.sent ++ b ∷ [];
+            tail = tail ++ b ∷ [];
+            at = record { beside = beside; leads = at.leads };
+            ended = subst (λ z. SpellsMarker 0xd9 z) (sym t) ends.2;
+            allowed = ends.3;
+            holds = k.holds;
+          }
+
+  -- the bytes have no fault
+  pub between_stands : UnfinishedFile limits bytes
+  between_stands = by k.at
+    where
+      start : (sent : List ℕ) → (sent ≡ []) ⊎ (sent ≡ 255 ∷ []) → UnfinishedFile limits sent
+      start sent s = inl s
+
+      by : AtPlace limits bytes k.sent items blocks → UnfinishedFile limits bytes
+      by (inl s) = subst (λ z. UnfinishedFile limits z) (sym s.same) (start k.sent s.short)
+      by (inr (tail, at)) =
+          part_stands limits (kept_rule limits) k.sent bytes items tail at.beside
+          (part_after limits bytes k.sent items blocks (reading_of w.segments) tail (reading_of w.segments).phase k.bounded.0 at (k.stands).1)
+
+-- BYTES that only continue
+pub stretch_passes : (w : Items) (r : SegmentReader) (bytes : List ℕ) (n : ℕ) → PassesSome (reading_of w.segments) bytes (Ok n) (reading_of r) → (reading_of r).taken ≡ (reading_of w.segments).taken + n
+    → (reading_of r).limits ≡ (reading_of w.segments).limits → PassesItems w bytes n (record w { segments = r })
+stretch_passes w r bytes n (few, stands, parts) taken limits = record {
+  within = few;
+  limits = refl;
+  same = limits;
+  taken = taken;
+  stands = λ here front items blocks k.
+      (items, inl refl, passes_on here front items blocks w k (take n bytes) (record w { segments = r }) (stands k.sent (segments_of items) k.stands) limits refl refl);
+}
+
+-- NOTHING that was taken
+pub nothing_passes : (w new : Items) (bytes : List ℕ) → reading_of new.segments ≡ reading_of w.segments → new.limits ≡ w.limits → told_by new.held ≡ told_by w.held → PassesItems w bytes 0 new
+nothing_passes w new bytes same limits held = record {
+  within = omega arith;
+  limits = limits;
+  same = ap (λ (q : Reading). q.limits) same;
+  taken = omega (arith, ap (λ (q : Reading). q.taken) same);
+  stands = λ here front items blocks k. (
+    items,
+    inl refl,
+    passes_on here front items blocks w k [] new (subst (λ b. StandsForSegments b (segments_of items) (reading_of new.segments)) (sym (append-nil k.sent)) (subst (λ (q : Reading). StandsForSegments k.sent (segments_of items) q) (sym same) k.stands))
+        (ap (λ (q : Reading). q.limits) same) limits held,
+  );
+}
+
+module _ (limits : Limits) (bytes : List ℕ) (items : List Item) (blocks : Blocks) (w : Items) (k : AfterSegment limits bytes items blocks w) where
+  -- A COMPLETE SEGMENT breaks no rule, or has a fault
+  pub segment_taken : (new : Items) → ((reading_of w.segments).code ≡ 0xda → ⊥)
+      → contents_rule limits (segments_of items) (reading_of w.segments).code (reading_of w.segments).contents ≡ None
+      → reading_of new.segments ≡ reading_of w.segments → new.limits ≡ w.limits
+      → Holds limits (told_by new.held) (((reading_of w.segments).code, (reading_of w.segments).contents) ∷ segments_of items)
+      → (more : List Item) × AddsNoScan items more × BetweenItems limits bytes more blocks new
+  segment_taken new other rule same f holds =
+      let r = reading_of w.segments in
+      let more : List Item = segment r.code r.contents ∷ items in
+      let S : Reading → Type 0 = λ q. StandsForSegments k.sent ((r.code, r.contents) ∷ segments_of items) q in (
+        more,
+        inr (r.code, r.contents, refl, other),
+        record {
+          sent = k.sent;
+          stands = subst S (sym same) k.stands;
+          at = inr (
+            [],
+            record {
+              beside = segment_passed limits (kept_rule limits) k.sent bytes items r.code r.contents k.tail (k.at).beside k.spelled k.allowed k.no_end other k.kept rule;
+              leads = (k.allowed, rule, (k.at).leads);
+            },
+          );
+          bounded = (ap (λ (q : Reading). q.limits) same ∙ k.bounded.0, f ∙ k.bounded.1);
+          holds = holds;
+        },
+      )
+
+  pub segment_fault : (fault : Fault) → contents_rule limits (segments_of items) (reading_of w.segments).code (reading_of w.segments).contents ≡ Some fault
+      → Reveals limits fault bytes
+  segment_fault fault broken =
+      contents_shown limits (kept_rule limits) k.sent bytes items (reading_of w.segments).code (reading_of w.segments).contents fault k.tail (k.at).beside k.spelled k.allowed k.no_end broken
+
+pub whole_passes : (w new : Items) (bytes : List ℕ) (code : ℕ) (contents : List ℕ) (n : ℕ) → PassesSegment (reading_of w.segments) code contents n (reading_of new.segments) → SpellsSegment code contents (take n bytes) → n ≤ length bytes → (code ≡ 0xda → ⊥)
+    → HoldsSegment (told_by w.held) w.limits code contents took.Done (told_by new.held) → new.limits ≡ w.limits → PassesItems w bytes n new
+whole_passes w new bytes code contents n p spelled few other takes same = record {
+  within = few;
+  limits = same;
+  same = p.limits;
+  taken = p.taken;
+  stands = λ limits front items blocks k.
+      (let within = k.bounded.0 in
+      let here = k.bounded.1 in
+      let kept = subst (λ (l : Limits). kept_rule l (segments_of items) code contents ≡ None) (within ∙ sym here) (p.kept k.sent (segments_of items) k.stands) in
+      let t = takes (segments_of items) (subst (λ (l : Limits). Holds l (told_by w.held) (segments_of items)) (sym here) k.holds) kept in
+      whole_at limits front items blocks w k (take n bytes) code contents new p.was p.between (p.limits ∙ within) (same ∙ here) (p.stands k.sent (take n bytes) (segments_of items) k.stands spelled) other
+      (subst (λ (l : Limits). contents_rule l (segments_of items) code contents ≡ None) here t.0) (subst (λ (l : Limits). Holds l (told_by new.held) ((code, contents) ∷ segments_of items)) here t.1));
+}

@@ -12,7 +12,7 @@ use Rattle.jpg_spec_write.specs.Headed.{copied}
 use Rattle.jpg_spec.specs.declared.frame.Copying.{Copying}
 use Rattle.jpg_spec.specs.declared.frame.Copying.TheVariants as copying
 use Rattle.jpg_spec.specs.declared.jfif.Jfif.{Jfif}
-use Rattle.jpg_spec.proofs.Common.{both, clash}
+use Rattle.jpg_spec.proofs.Common.{both, clash, or_right}
 use Rattle.jpg_file.specs.Read.Keeping.{begins_header, is_wanted, kept_for}
 
 -- A TEST that admits everything that another one does
@@ -50,22 +50,14 @@ filter_reverse wanted (s ∷ kept) =
 
 header_kept : (keeping : Copying) (s : Segment) → begins_header s ≡ true → is_wanted keeping s ≡ true
 header_kept copying.None s e = e
-header_kept copying.Comments s e = ap (λ b. s.0 == 0xfe || b) e ∙ or_true (s.0 == 0xfe)
-  where
-    or_true : (b : Bool) → (b || true) ≡ true
-    or_true true = refl
-    or_true false = refl
+header_kept copying.Comments s e = or_right (s.0 == 0xfe) (begins_header s) e
 header_kept copying.All s e = refl
 
 jfif_wanted : (keeping : Copying) (s : Segment) → is_jfif s ≡ true → is_wanted keeping s ≡ true
 jfif_wanted keeping s e = header_kept keeping s (ap (λ b. b || begins_adobe s.0 s.1) (both (begins_jfif s.0 s.1) (nat_le 14 (length s.1)) e).0)
 
 adobe_wanted : (keeping : Copying) (s : Segment) → is_adobe s ≡ true → is_wanted keeping s ≡ true
-adobe_wanted keeping s e = header_kept keeping s (by (begins_jfif s.0 s.1) (begins_adobe s.0 s.1) (both (begins_adobe s.0 s.1) (nat_le 12 (length s.1)) e).0)
-  where
-    by : (a b : Bool) → b ≡ true → (a || b) ≡ true
-    by true b h = refl
-    by false b h = h
+adobe_wanted keeping s e = header_kept keeping s (or_right (begins_jfif s.0 s.1) (begins_adobe s.0 s.1) (both (begins_adobe s.0 s.1) (nat_le 12 (length s.1)) e).0)
 
 pub jfif_found : (keeping : Copying) (kept : List Segment) → find is_jfif (filter (is_wanted keeping) kept) ≡ find is_jfif kept
 jfif_found keeping kept = find_in is_jfif (is_wanted keeping) (jfif_wanted keeping) kept

@@ -6,6 +6,7 @@ pub mod HeaderBits
 pub mod ProgressiveRoom
 pub mod IntervalFits
 pub mod ScanBytes
+pub mod InIntervals
 pub mod Keeping
 pub mod InForce
 pub mod ItemBytes

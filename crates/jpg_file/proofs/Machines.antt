@@ -39,69 +39,72 @@ pub record IsOneOf (M N : Type 0) (e : M → N) (k : Kind M) (all : Kind N) : Ty
 
 -- ONE BIT
 
-answered : {M N : Type 0} (e : M → N) (k : Kind M) (all : Kind N) (o : IsOneOf M N e k all) (m new : M) (i : Interval) (bits more : List Bool) (now after : Picture) (answer : Result UnitStep UnitFault) → all.stands (e m) i bits now
-    → Answered k i more answer now new after → Answered all i more answer now (e new) after
-answered e k all o m new i bits more now after (Ok More) s a = o.stands m new i bits more now after s a
-answered e k all o m new i bits more now after (Ok IntervalDone) s a = (a.0, λ j follows fits. o.ready m new i j bits now s (follows.scan) (a.1 j follows (o.fits m i j bits now s (follows.scan) fits)))
-answered e k all o m new i bits more now after (Err f) s a = a
+module _ {M N : Type 0} (e : M → N) (k : Kind M) (all : Kind N) (o : IsOneOf M N e k all) where
+  answered : (m new : M) (i : Interval) (bits more : List Bool) (now after : Picture) (answer : Result UnitStep UnitFault) → all.stands (e m) i bits now
+      → Answered k i more answer now new after → Answered all i more answer now (e new) after
+  answered m new i bits more now after (Ok More) s a = o.stands m new i bits more now after s a
+  answered m new i bits more now after (Ok IntervalDone) s a = (a.0, λ j follows fits. o.ready m new i j bits now s (follows.scan) (a.1 j follows (o.fits m i j bits now s (follows.scan) fits)))
+  answered m new i bits more now after (Err f) s a = a
 
-pub step_of : {M N : Type 0} (e : M → N) (k : Kind M) (all : Kind N) (o : IsOneOf M N e k all) (m new : M) (now after : Picture) (bit : Bool) (answer : Result UnitStep UnitFault) → Step k m now bit answer new after → Step all (e m) now bit answer (e new) after
-step_of e k all o m new now after bit answer step = λ i bits s. answered e k all o m new i bits (bits ++ bit ∷ []) now after answer s (step i bits (o.own m i bits now s))
+  pub step_of : (m new : M) (now after : Picture) (bit : Bool) (answer : Result UnitStep UnitFault) → Step k m now bit answer new after
+      → Step all (e m) now bit answer (e new) after
+  step_of m new now after bit answer step = λ i bits s. answered m new i bits (bits ++ bit ∷ []) now after answer s (step i bits (o.own m i bits now s))
 
--- BITS one after another
+  -- BITS one after another
 
-chain_of : {M N : Type 0} (e : M → N) (k : Kind M) (all : Kind N) (o : IsOneOf M N e k all) (m new : M) (now after : Picture) (bits : List Bool) → Chain k m now bits new after → Chain all (e m) now bits (e new) after
-chain_of e k all o m new now after [] h = (ap e h.0, h.1)
-chain_of e k all o m new now after (b ∷ bits) h = (e h.0, h.1, step_of e k all o m h.0 now h.1 b (Ok More) h.2, chain_of e k all o h.0 new h.1 after bits h.3)
+  chain_of : (m new : M) (now after : Picture) (bits : List Bool) → Chain k m now bits new after → Chain all (e m) now bits (e new) after
+  chain_of m new now after [] h = (ap e h.0, h.1)
+  chain_of m new now after (b ∷ bits) h = (e h.0, h.1, step_of m h.0 now h.1 b (Ok More) h.2, chain_of h.0 new h.1 after bits h.3)
 
-chain_to_of : {M N : Type 0} (e : M → N) (k : Kind M) (all : Kind N) (o : IsOneOf M N e k all) (most : ℕ) (m new : M) (now after : Picture) (bits : List Bool) (answer : Result UnitStep UnitFault) → ChainTo k most m now bits answer new after
-    → ChainTo all most (e m) now bits answer (e new) after
-chain_to_of e k all o most m new now after bits answer (front, bit, mid, between, cut, chain, few, last) = (
-  front,
-  bit,
-  e mid,
-  between,
-  cut,
-  chain_of e k all o m mid now between front chain,
-  omega (arith, few, o.left m, o.left mid),
-  step_of e k all o mid new between after bit answer last,
-)
+  chain_to_of : (most : ℕ) (m new : M) (now after : Picture) (bits : List Bool) (answer : Result UnitStep UnitFault)
+      → ChainTo k most m now bits answer new after → ChainTo all most (e m) now bits answer (e new) after
+  chain_to_of most m new now after bits answer (front, bit, mid, between, cut, chain, few, last) = (
+    front,
+    bit,
+    e mid,
+    between,
+    cut,
+    chain_of m mid now between front chain,
+    omega (arith, few, o.left m, o.left mid),
+    step_of mid new between after bit answer last,
+  )
 
-ends_of : {M N : Type 0} (e : M → N) (k : Kind M) (all : Kind N) (o : IsOneOf M N e k all) (most : ℕ) (m new : M) (now after : Picture) (bits rest : List Bool) (answer : Taken) → Ends k most m now bits answer new after rest
-    → Ends all most (e m) now bits answer (e new) after rest
-ends_of e k all o most m new now after bits rest taken.More (chain, few, none) = (chain_of e k all o m new now after bits chain, omega (arith, few, o.left m, o.left new), none)
-ends_of e k all o most m new now after bits rest taken.Units (chain, many, some) =
-    (chain_to_of e k all o most m new now after bits (Ok More) chain, omega (arith, many, o.left m, o.left new), omega (arith, some, o.left new))
-ends_of e k all o most m new now after bits rest taken.IntervalDone chain = chain_to_of e k all o most m new now after bits (Ok IntervalDone) chain
-ends_of e k all o most m new now after bits rest (taken.Fault f) chain = chain_to_of e k all o most m new now after bits (Err f) chain
+  ends_of : (most : ℕ) (m new : M) (now after : Picture) (bits rest : List Bool) (answer : Taken) → Ends k most m now bits answer new after rest
+      → Ends all most (e m) now bits answer (e new) after rest
+  ends_of most m new now after bits rest taken.More (chain, few, none) = (chain_of m new now after bits chain, omega (arith, few, o.left m, o.left new), none)
+  ends_of most m new now after bits rest taken.Units (chain, many, some) =
+      (chain_to_of most m new now after bits (Ok More) chain, omega (arith, many, o.left m, o.left new), omega (arith, some, o.left new))
+  ends_of most m new now after bits rest taken.IntervalDone chain = chain_to_of most m new now after bits (Ok IntervalDone) chain
+  ends_of most m new now after bits rest (taken.Fault f) chain = chain_to_of most m new now after bits (Err f) chain
 
-pub takes_of : {M N : Type 0} (e : M → N) (k : Kind M) (all : Kind N) (o : IsOneOf M N e k all) (most : ℕ) (m new : M) (now after : Picture) (store rest : List Bool) (answer : Taken) → TakesBits k most m now store answer new after rest
-    → TakesBits all most (e m) now store answer (e new) after rest
-takes_of e k all o most m new now after store rest answer (bits, cut, ends) = (bits, cut, ends_of e k all o most m new now after bits rest answer ends)
+  pub takes_of : (most : ℕ) (m new : M) (now after : Picture) (store rest : List Bool) (answer : Taken) → TakesBits k most m now store answer new after rest
+      → TakesBits all most (e m) now store answer (e new) after rest
+  takes_of most m new now after store rest answer (bits, cut, ends) = (bits, cut, ends_of most m new now after bits rest answer ends)
 
--- A STRETCH of bytes
+  -- A STRETCH of bytes
 
-answers_of : {M N : Type 0} (e : M → N) (k : Kind M) (all : Kind N) (o : IsOneOf M N e k all) (m new : M) (now after : Picture) (bits : List Bool) (answer : Result UnitStep UnitFault) → AnswersIn k m now bits answer new after → AnswersIn all (e m) now bits answer (e new) after
-answers_of e k all o m new now after bits answer (most, front, rest, cut, chain) = (most, front, rest, cut, chain_to_of e k all o most m new now after front answer chain)
+  answers_of : (m new : M) (now after : Picture) (bits : List Bool) (answer : Result UnitStep UnitFault) → AnswersIn k m now bits answer new after
+      → AnswersIn all (e m) now bits answer (e new) after
+  answers_of m new now after bits answer (most, front, rest, cut, chain) = (most, front, rest, cut, chain_to_of most m new now after front answer chain)
 
-gives_of : {M N : Type 0} (e : M → N) (k : Kind M) (all : Kind N) (o : IsOneOf M N e k all) (m new : M) (now after : Picture) (bits waiting : List Bool) (answer : Taken) → GivesBits k m now bits answer waiting new after
-    → GivesBits all (e m) now bits answer waiting (e new) after
-gives_of e k all o m new now after bits waiting taken.More (none, chain) = (none, chain_of e k all o m new now after bits chain)
-gives_of e k all o m new now after bits waiting taken.Units (front, cut, chain) = (front, cut, chain_of e k all o m new now after front chain)
-gives_of e k all o m new now after bits waiting taken.IntervalDone (none, a) = (none, answers_of e k all o m new now after bits (Ok IntervalDone) a)
-gives_of e k all o m new now after bits waiting (taken.Fault f) (none, a) = (none, answers_of e k all o m new now after bits (Err f) a)
+  gives_of : (m new : M) (now after : Picture) (bits waiting : List Bool) (answer : Taken) → GivesBits k m now bits answer waiting new after
+      → GivesBits all (e m) now bits answer waiting (e new) after
+  gives_of m new now after bits waiting taken.More (none, chain) = (none, chain_of m new now after bits chain)
+  gives_of m new now after bits waiting taken.Units (front, cut, chain) = (front, cut, chain_of m new now after front chain)
+  gives_of m new now after bits waiting taken.IntervalDone (none, a) = (none, answers_of m new now after bits (Ok IntervalDone) a)
+  gives_of m new now after bits waiting (taken.Fault f) (none, a) = (none, answers_of m new now after bits (Err f) a)
 
-pub run_of : {M N : Type 0} (e : M → N) (k : Kind M) (all : Kind N) (o : IsOneOf M N e k all) (m new : M) (now after : Picture) (bytes : List ℕ) (n : ℕ) (answer : Taken) (waiting : List Bool) → GivesRun M k m now bytes n answer waiting new after
-    → GivesRun N all (e m) now bytes n answer waiting (e new) after
-run_of {M} {N} e k all o m new now after bytes n answer waiting g = record {
-  mid = e g.mid;
-  between = g.between;
-  early = g.early;
-  count = g.count;
-  within = g.within;
-  chain = chain_of e k all o m g.mid now g.between _ g.chain;
-  last = gives_of e k all o g.mid new g.between after _ waiting answer g.last;
-}
+  pub run_of : (m new : M) (now after : Picture) (bytes : List ℕ) (n : ℕ) (answer : Taken) (waiting : List Bool)
+      → GivesRun M k m now bytes n answer waiting new after → GivesRun N all (e m) now bytes n answer waiting (e new) after
+  run_of m new now after bytes n answer waiting g = record {
+    mid = e g.mid;
+    between = g.between;
+    early = g.early;
+    count = g.count;
+    within = g.within;
+    chain = chain_of m g.mid now g.between _ g.chain;
+    last = gives_of g.mid new g.between after _ waiting answer g.last;
+  }
 
 -- THE KINDS OF SCAN
 

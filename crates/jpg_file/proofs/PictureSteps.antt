@@ -29,6 +29,7 @@ use Rattle.jpg_file.specs.Read.Left.{Leaves}
 use Rattle.jpg_file.specs.Read.PictureKept.{PictureParts, component_told, parts_meaning, IsQuantTable}
 use Rattle.jpg_file.specs.declared.read.file.FileWork.{FileWork}
 use Rattle.jpg_file.proofs.Keeping.{filter_reverse, jfif_found}
+use Rattle.jpg_spec.proofs.RowsWhole.{map_below}
 
 -- ADOBE'S SEGMENTS, one by one
 
@@ -40,11 +41,6 @@ adobe_more kept s = by (is_adobe s) refl
     by false e = rw (reverse-append kept (s ∷ []), e) refl
 
 -- THE COMPONENTS by their places
-
-pub map_below : {A : Type 0} (f g : ℕ → A) (n : ℕ) → ((i : ℕ) → i < n → f i ≡ g i) → map f (below n) ≡ map g (below n)
-map_below f g zero h = refl
-map_below f g (suc n) h =
-    map-append f (below n) (n ∷ []) ∙ ap (λ l. l ++ f n ∷ []) (map_below f g n (λ i low. h i (omega (arith, low)))) ∙ ap (λ x. map g (below n) ++ x ∷ []) (h n (omega arith)) ∙ sym (map-append g (below n) (n ∷ []))
 
 map_map : {A B C : Type 0} (f : A → B) (g : B → C) (xs : List A) → map g (map f xs) ≡ map (λ x. g (f x)) xs
 map_map f g [] = refl
@@ -73,12 +69,6 @@ colour_is p e =
 
 -- WHAT A FILE LEAVES
 
-pub table_left : (limits : Limits) (segments : List Segment) (blocks : Blocks) (w : FileWork) (i : ℕ) → (e : Leaves limits segments blocks w) → length (frame_of limits segments).components ≤ 4 → i < length (frame_of limits segments).components
-    → is_none (quant_in w.begun.quants i) ≡ false
-table_left limits segments blocks w i e few low =
-    let f = frame_of limits segments in
-    (e.begun).there i (omega (arith, low, few)) (all_below (has_begun (heads_of f segments)) (length f.components) i e.complete low)
-
 -- what the parts of the picture are
 pub record IsLeft (w : FileWork) (p : PictureParts) : Type 0 where
   pub frame : w.reading.items.held.frame ≡ Some p.frame
@@ -87,53 +77,11 @@ pub record IsLeft (w : FileWork) (p : PictureParts) : Type 0 where
   pub few : length p.frame.components ≤ 4
   pub tables : (i : ℕ) → i < length p.frame.components → slice_index_or p.quants i [] ≡ unwrap_or (quant_in w.begun.quants i) []
 
-pub left_framed : (limits : Limits) (segments : List Segment) (blocks : Blocks) (w : FileWork) (f : Frame) → (e : Leaves limits segments blocks w) → w.reading.items.held.frame ≡ Some f → frame_of limits segments ≡ f
-left_framed limits segments blocks w f e held = e.is ∙ some_once e.frame f (sym e.held ∙ held)
-
 -- the frame and the blocks
 record LeftPicture (limits : Limits) (segments : List Segment) (blocks : Blocks) (p : PictureParts) : Type 0 where
   pub frame : frame_of limits segments ≡ p.frame
   pub grids : p.coefs.frame ≡ p.frame
   pub same : blocks ≡ map_of p.coefs
-
-left_picture : (limits : Limits) (segments : List Segment) (blocks : Blocks) (w : FileWork) (p : PictureParts) → (e : Leaves limits segments blocks w) → IsLeft w p → LeftPicture limits segments blocks p
-left_picture limits segments blocks w p e l =
-    let same = left_framed limits segments blocks w p.frame e l.frame in
-    let is = some_once e.coefs p.coefs (sym e.has ∙ l.coefs) in
-    record { frame = same; grids = ap (λ (c : Made). c.frame) (sym is) ∙ e.framed ∙ same; same = e.as_map ∙ ap map_of is }
-
-pub left_means : (limits : Limits) (segments : List Segment) (blocks : Blocks) (w : FileWork) (p : PictureParts) → (e : Leaves limits segments blocks w) → IsLeft w p
-    → parts_meaning p ≡ kept_for (keeping_of w) (meaning_of (frame_of limits segments) segments blocks)
-left_means limits segments blocks w p e l =
-    let q = left_picture limits segments blocks w p e l in
-    let f = p.frame in
-    let table : (i : ℕ) → i < length f.components → slice_index_or p.quants i [] ≡ unwrap_or (quant_of f segments i) [] =
-    λ i low. l.tables i low ∙ ap (λ (o : Option QuantTable). unwrap_or o []) ((e.begun).quants i (omega (arith, low, l.few)) ∙ ap (λ (g : Frame). quant_of g segments i) q.frame) in
-    let components = map_below (component_told f p.quants) (picture_component f segments) (length f.components)
-    (λ i low. ap (λ (t : QuantTable). let c : PictureComponent = record { id = (component_at f i).id; h = (component_at f i).h; v = (component_at f i).v; quants = t } in c) (table i low)) in
-    let shown = ap (real_blocks f) (sym q.same) in
-    let keeping = keeping_of w in
-    let kept = l.kept ∙ (e.holds).kept ∙ sym (filter_reverse (is_wanted keeping) (kept_after segments)) in
-    let N = meaning_of f segments blocks in
-    ap (λ (cs : List PictureComponent). let n : Meaning = record (parts_meaning p) { components = cs } in n) components
-    ∙ ap (λ bs. let n : Meaning = record N { blocks = bs; kept = p.kept } in n) shown
-    ∙ ap (λ (ks : List Segment). let n : Meaning = record N { kept = ks } in n) kept
-    ∙ ap (λ (g : Frame). kept_for keeping (meaning_of g segments blocks)) (sym q.frame)
-
-pub left_range : (limits : Limits) (segments : List Segment) (blocks : Blocks) (w : FileWork) (p : PictureParts) → (e : Leaves limits segments blocks w) → IsLeft w p → AreInRange (bounds p.frame) (map_of p.coefs)
-left_range limits segments blocks w p e l =
-    let q = left_picture limits segments blocks w p e l in
-    subst (λ (g : Frame). AreInRange (bounds g) (map_of p.coefs)) q.frame (subst (λ bs. AreInRange (bounds (frame_of limits segments)) bs) q.same e.range)
-
-pub left_grids : (limits : Limits) (segments : List Segment) (blocks : Blocks) (w : FileWork) (p : PictureParts) → (e : Leaves limits segments blocks w) → IsLeft w p → p.coefs.frame ≡ p.frame
-left_grids limits segments blocks w p e l = (left_picture limits segments blocks w p e l).grids
-
-pub left_jfif : (limits : Limits) (segments : List Segment) (blocks : Blocks) (w : FileWork) → (e : Leaves limits segments blocks w) → (told_by w.reading.items.held).jfif ≡ jfif_of (told_by w.reading.items.held).kept
-left_jfif limits segments blocks w e =
-    let h = e.holds in
-    let keeping = keeping_of w in
-    h.jfif ∙ ap jfif_told (sym (jfif_found keeping (kept_after segments))) ∙ ap (λ l. jfif_told (find is_jfif l)) (sym (reverse-reverse (filter (is_wanted keeping) (kept_after segments))))
-    ∙ ap jfif_of (sym h.kept)
 
 -- THE TABLES were in force, and so have no zeros
 pub quant_sound : (f : Frame) (before : List Segment) (i : ℕ) (t : QuantTable) → quant_of f before i ≡ Some t → IsQuants t
@@ -150,13 +98,61 @@ quant_sound f (s ∷ before) i t e = by (s.0 == 0xda) e (λ u h. quant_sound f b
     by false h older = older t h
     by true h older = first (quant_of f before i) (names (head_in f s.1) i) h older
 
-pub left_quants : (limits : Limits) (segments : List Segment) (blocks : Blocks) (w : FileWork) (p : PictureParts) (i : ℕ) → (e : Leaves limits segments blocks w) → IsLeft w p → i < length p.frame.components → IsQuantTable (slice_index_or p.quants i [])
-left_quants limits segments blocks w p i e l low =
-    let f = frame_of limits segments in
-    let few = l.few in
-    let same = left_framed limits segments blocks w p.frame e l.frame in
-    let none = table_left limits segments blocks w i e (subst (λ (g : Frame). length g.components ≤ 4) (sym same) l.few) (subst (λ (g : Frame). i < length g.components) (sym same) low) in
-    let x = some_of (quant_in w.begun.quants i) none in
-    let sound = quant_sound f segments i x.0 (sym ((e.begun).quants i (omega (arith, low, few))) ∙ x.1) in
-    let is : slice_index_or p.quants i [] ≡ x.0 = l.tables i low ∙ ap (λ (o : Option QuantTable). unwrap_or o []) x.1 in
-    subst IsQuantTable (sym is) (record { long = sound.long; some = sound.some })
+module _ (limits : Limits) (segments : List Segment) (blocks : Blocks) (w : FileWork) (e : Leaves limits segments blocks w) where
+  pub table_left : (i : ℕ) → length (frame_of limits segments).components ≤ 4 → i < length (frame_of limits segments).components
+      → is_none (quant_in w.begun.quants i) ≡ false
+  table_left i few low =
+      let f = frame_of limits segments in
+      (e.begun).there i (omega (arith, low, few)) (all_below (has_begun (heads_of f segments)) (length f.components) i e.complete low)
+
+  pub left_framed : (f : Frame) → w.reading.items.held.frame ≡ Some f → frame_of limits segments ≡ f
+  left_framed f held = e.is ∙ some_once e.frame f (sym e.held ∙ held)
+
+  left_picture : (p : PictureParts) → IsLeft w p → LeftPicture limits segments blocks p
+  left_picture p l =
+      let same = left_framed p.frame l.frame in
+      let is = some_once e.coefs p.coefs (sym e.has ∙ l.coefs) in
+      record { frame = same; grids = ap (λ (c : Made). c.frame) (sym is) ∙ e.framed ∙ same; same = e.as_map ∙ ap map_of is }
+
+  pub left_means : (p : PictureParts) → IsLeft w p → parts_meaning p ≡ kept_for (keeping_of w) (meaning_of (frame_of limits segments) segments blocks)
+  left_means p l =
+      let q = left_picture p l in
+      let f = p.frame in
+      let table : (i : ℕ) → i < length f.components → slice_index_or p.quants i [] ≡ unwrap_or (quant_of f segments i) [] =
+      λ i low. l.tables i low ∙ ap (λ (o : Option QuantTable). unwrap_or o []) ((e.begun).quants i (omega (arith, low, l.few)) ∙ ap (λ (g : Frame). quant_of g segments i) q.frame) in
+      let components = map_below (component_told f p.quants) (picture_component f segments) (length f.components)
+      (λ i low. ap (λ (t : QuantTable). let c : PictureComponent = record { id = (component_at f i).id; h = (component_at f i).h; v = (component_at f i).v; quants = t } in c) (table i low)) in
+      let shown = ap (real_blocks f) (sym q.same) in
+      let keeping = keeping_of w in
+      let kept = l.kept ∙ (e.holds).kept ∙ sym (filter_reverse (is_wanted keeping) (kept_after segments)) in
+      let N = meaning_of f segments blocks in
+      ap (λ (cs : List PictureComponent). let n : Meaning = record (parts_meaning p) { components = cs } in n) components
+      ∙ ap (λ bs. let n : Meaning = record N { blocks = bs; kept = p.kept } in n) shown
+      ∙ ap (λ (ks : List Segment). let n : Meaning = record N { kept = ks } in n) kept
+      ∙ ap (λ (g : Frame). kept_for keeping (meaning_of g segments blocks)) (sym q.frame)
+
+  pub left_range : (p : PictureParts) → IsLeft w p → AreInRange (bounds p.frame) (map_of p.coefs)
+  left_range p l =
+      let q = left_picture p l in
+      subst (λ (g : Frame). AreInRange (bounds g) (map_of p.coefs)) q.frame (subst (λ bs. AreInRange (bounds (frame_of limits segments)) bs) q.same e.range)
+
+  pub left_grids : (p : PictureParts) → IsLeft w p → p.coefs.frame ≡ p.frame
+  left_grids p l = (left_picture p l).grids
+
+  pub left_jfif : (told_by w.reading.items.held).jfif ≡ jfif_of (told_by w.reading.items.held).kept
+  left_jfif =
+      let h = e.holds in
+      let keeping = keeping_of w in
+      h.jfif ∙ ap jfif_told (sym (jfif_found keeping (kept_after segments))) ∙ ap (λ l. jfif_told (find is_jfif l)) (sym (reverse-reverse (filter (is_wanted keeping) (kept_after segments))))
+      ∙ ap jfif_of (sym h.kept)
+
+  pub left_quants : (p : PictureParts) (i : ℕ) → IsLeft w p → i < length p.frame.components → IsQuantTable (slice_index_or p.quants i [])
+  left_quants p i l low =
+      let f = frame_of limits segments in
+      let few = l.few in
+      let same = left_framed p.frame l.frame in
+      let none = table_left i (subst (λ (g : Frame). length g.components ≤ 4) (sym same) l.few) (subst (λ (g : Frame). i < length g.components) (sym same) low) in
+      let x = some_of (quant_in w.begun.quants i) none in
+      let sound = quant_sound f segments i x.0 (sym ((e.begun).quants i (omega (arith, low, few))) ∙ x.1) in
+      let is : slice_index_or p.quants i [] ≡ x.0 = l.tables i low ∙ ap (λ (o : Option QuantTable). unwrap_or o []) x.1 in
+      subst IsQuantTable (sym is) (record { long = sound.long; some = sound.some })

@@ -18,12 +18,13 @@ one_machine m n e = cc
 own : (m : ScanReader) (machine : SeqReader) (whole : Picture) → m ≡ Sequential machine → IsOpenRowScan m whole → (i : Interval) × (bits : List Bool) × sequential.stands machine i bits whole
 own m machine whole is o = (o.0, o.1, is_sequential.own machine o.0 o.1 whole (subst (λ (q : ScanReader). any_scan.stands q o.0 o.1 whole) is o.2))
 
-pub row_open : (tops : List ℕ) (m : ScanReader) (machine : SeqReader) (row : Picture) → m ≡ Sequential machine → CanReadMcuRow tops m row → CanReadRow tops machine row
-row_open tops m machine row is o = (o.0, o.1, own m machine o.0 is o.2)
+module _ (tops : List ℕ) (m : ScanReader) (machine : SeqReader) (row : Picture) (is : m ≡ Sequential machine) where
+  pub row_open : CanReadMcuRow tops m row → CanReadRow tops machine row
+  row_open o = (o.0, o.1, own m machine o.0 is o.2)
 
-pub row_takes : (most : ℕ) (tops : List ℕ) (m : ScanReader) (machine new : SeqReader) (row after : Picture) (store rest : List Bool) (answer : Taken) → m ≡ Sequential machine → TakesInRow most tops machine row store answer new after rest
-    → TakesRowBits most tops m row store answer (Sequential new) after rest
-row_takes most tops m machine new row after store rest answer is t = λ whole at o.
-    (let k = t whole at (own m machine whole is o) in
-    let a = takes_of (λ q. Sequential q) sequential any_scan is_sequential most machine new whole k.0 store rest answer k.2 in
-    (k.0, k.1, subst (λ (q : ScanReader). TakesBits any_scan most q whole store answer (Sequential new) k.0 rest) (sym is) a))
+  pub row_takes : (most : ℕ) (new : SeqReader) (after : Picture) (store rest : List Bool) (answer : Taken)
+      → TakesInRow most tops machine row store answer new after rest → TakesRowBits most tops m row store answer (Sequential new) after rest
+  row_takes most new after store rest answer t = λ whole at o.
+      (let k = t whole at (own m machine whole is o) in
+      let a = takes_of (λ q. Sequential q) sequential any_scan is_sequential most machine new whole k.0 store rest answer k.2 in
+      (k.0, k.1, subst (λ (q : ScanReader). TakesBits any_scan most q whole store answer (Sequential new) k.0 rest) (sym is) a))

@@ -7,7 +7,7 @@ use Rattle.jpg_spec.specs.RowsTold.{BeginsScanOfAll}
 use Rattle.jpg_spec.specs.declared.fault.FaultAt.{FaultAt}
 use Rattle.jpg_spec.specs.declared.fault.Fault.TheVariants.{InputTooLong}
 use Rattle.jpg_spec.specs.declared.frame.Limits.{Limits}
-use Rattle.jpg_spec.proofs.Common.{clash}
+use Rattle.jpg_spec.proofs.Common.{clash, some_once}
 use Rattle.jpg_base.specs.declared.stop.Stop.{Stop}
 use Rattle.jpg_base.specs.declared.stop.Stop.TheVariants as stop
 use Rattle.jpg_file.specs.Read.File.{IsStop, StandsForFile, keeping_of, limits_of}
@@ -131,10 +131,9 @@ known_on more step.Whole rows (Some after) counts k = known_with more 0 rows aft
 known_on more (step.Ended e) rows (Some after) counts k = tt
 
 none_known : (limits : Limits) (bytes : List ℕ) (answer : Step) (rows : Option RowWork) (strip : Option StripHead) → IsNoRow answer → KnowsRows limits bytes 0 rows strip → KnowsAfter limits bytes answer rows strip
-none_known limits bytes step.More rows strip never k = k
 none_known limits bytes step.Row rows strip never k = absurd never
-none_known limits bytes step.Whole rows strip never k = k
 none_known limits bytes (step.Ended e) rows strip never k = tt
+none_known limits bytes other rows strip never k = k
 
 known_some : {run : List ℕ} {n : ℕ} {answer : Step} (limits : Limits) (bytes : List ℕ) (work new : StripWork) → StripGoes limits bytes work.rows work.file → KnowsRows limits bytes 0 work.rows work.strip → TakesBytes work run n answer new → KnowsAfter limits (bytes ++ take n run) answer new.rows new.strip
 known_some {run = run} {n = n} {answer = answer} limits bytes work new go k t = by work.rows refl k go t.rows
@@ -147,11 +146,8 @@ known_some {run = run} {n = n} {answer = answer} limits bytes work new go k t = 
 
 -- NONE IS BEING READ: if an MCU row is, nothing is claimed
 some_after : (limits : Limits) (bytes : List ℕ) (answer : Step) (rows : RowWork) → NoneAfter limits bytes answer (Some rows)
-some_after limits bytes step.More rows = tt
-some_after limits bytes step.Row rows = tt
-some_after limits bytes step.Whole rows = tt
-some_after limits bytes (step.Ended (stop.Fault f)) rows = tt
 some_after limits bytes (step.Ended stop.NoMemory) rows = tt
+some_after limits bytes other rows = tt
 
 none_some : {run : List ℕ} {n : ℕ} {answer : Step} (limits : Limits) (bytes : List ℕ) (work new : StripWork) → StripGoes limits bytes work.rows work.file → NoRowsIn limits bytes work.rows → work.by_row ≡ true → TakesBytes work run n answer new → NoneAfter limits (bytes ++ take n run) answer new.rows
 none_some {run = run} {n = n} {answer = answer} limits bytes work new go none row t = by work.rows refl none go t.rows
@@ -180,7 +176,8 @@ head_later limits bytes more before contents None b none = absurd (no_rows limit
 head_later limits bytes more before contents (Some h) b k = has_longer limits bytes more (bytes ++ more) before (Some h) refl k
 
 -- SOME BYTES of the rest of a piece: the state before the last of them, and the result of that one
-module _ {limits : Limits} {front rest : List ℕ} {n : ℕ} {answer : Step} {rows : Option RowWork} {new : FileWork} (r : StripRun limits front rest n answer rows new) where
+module _ {limits : Limits} {front rest : List ℕ} {n : ℕ} {answer : Step} {rows : Option RowWork} {new : FileWork}
+    (r : StripRun limits front rest n answer rows new) where
   run_is : front ++ take n rest ≡ (front ++ take r.early rest) ++ get_or rest r.early 0 ∷ []
   run_is = ap (λ m. front ++ take m rest) r.count ∙ one_more front rest r.early r.within
 
@@ -534,15 +531,12 @@ resumed_stop limits piece (stop.Fault f) old new r = record {
     )
 
 -- THE STATE, by its current MCU row
-some_same : (a b : RowWork) → Some a ≡ Some b → a ≡ b
-some_same a b e = cc
-
 pub resumed_rows : (old : StripWork) (given : RowWork) (answer : Step) → old.rows ≡ Some given → StopsRest old.file given answer → FaultsResumed old answer
 resumed_rows old given answer has stops = λ rows f bytes is shows g.
-    let same : rows ≡ given = some_same rows given (sym is ∙ has) in
+    let same : rows ≡ given = some_once rows given (sym is ∙ has) in
     subst (λ (w : RowWork). StandsByRow (limits_of old.file) bytes old.file w → RowsAtFault (limits_of old.file) bytes w) (sym same) (stops f bytes shows) g
 
 pub some_faults : (old : StripWork) (given : RowWork) (run : List ℕ) (n : ℕ) (answer : Step) → old.rows ≡ Some given → StopsRun old.file given run n answer → FaultsSome old run n answer
 some_faults old given run n answer has stops = λ rows f bytes is shows g.
-    let same : rows ≡ given = some_same rows given (sym is ∙ has) in
+    let same : rows ≡ given = some_once rows given (sym is ∙ has) in
     subst (λ (w : RowWork). GoesByRow (limits_of old.file) bytes old.file w → RowsAtFault (limits_of old.file) (bytes ++ take n run) w) (sym same) (stops f bytes shows) g

@@ -23,7 +23,7 @@ use Rattle.jpg_file.specs.declared.read.rows.RowWork.{RowWork}
 
 -- AT LEAST ONE ROW
 
-one_up : (n d : ℕ) → 1 ≤ n → 1 ≤ d → 1 ≤ div_up n d
+pub one_up : (n d : ℕ) → 1 ≤ n → 1 ≤ d → 1 ≤ div_up n d
 one_up n d some low = (le-div_iff_mul-le low).1 (omega (arith, some, low))
 
 pub some_rows : (f : Frame) (ids : List ℕ) → IsFrame f → AreIn f ids → 1 ≤ scan_mcus_down f ids

@@ -1,10 +1,10 @@
 -- What a reader of MCU rows answers to a piece, whatever it has read before.
-use Rattle.std.proofs.Common.{◌≡◌, ◌⊎◌, ℕ, ◌+◌, ◌-◌, ◌<◌, ◌≤◌, true, false, List, [], ◌∷◌, ◌++◌, length, take, refl, sym, ap, ◌∙◌, subst, arith, inl, inr, Some, None, Ok, Err}
+use Rattle.std.proofs.Common.{◌≡◌, ◌⊎◌, ℕ, ◌+◌, ◌-◌, ◌<◌, ◌≤◌, true, List, [], ◌∷◌, ◌++◌, length, take, refl, sym, ap, ◌∙◌, subst, arith, inl, inr, Some, None, Ok, Err}
 use Rattle.std.specs.Prelude.{Option, is_some}
 use Rattle.std.proofs.lemmas.List.{length-append}
 use Rattle.jpg_spec.specs.InForce.{frame_of, head_in}
 use Rattle.jpg_spec.specs.Markers.{Segment}
-use Rattle.jpg_spec.specs.RowsTold.{BeginsScanOfAll, CompletesRows, TellsRows}
+use Rattle.jpg_spec.specs.RowsTold.{BeginsScanOfAll, CompletesRows}
 use Rattle.jpg_spec.specs.Scan.{Blocks}
 use Rattle.jpg_spec.specs.ScanRows.{first_rows}
 use Rattle.jpg_spec.specs.Segments.{head_components}
@@ -22,11 +22,9 @@ use Rattle.jpg_file.specs.Read.ReadRows.{AfterFeedRow, HasBegunRows, HasGivenRow
 use Rattle.jpg_file.specs.Read.RowFaults.{BeganAtFault, RowsFault}
 use Rattle.jpg_file.specs.Read.RowPieces.{HasLastByte, RowsGive, RowsGo, RowsOpen, WantsNone}
 use Rattle.jpg_file.specs.Read.RowStops.{RowsAtFault}
-use Rattle.jpg_file.specs.Read.RowTurns.{unfinished}
 use Rattle.jpg_file.specs.Read.RowsKnown.{KnowsRows, RowsKnown, rows_of_scan}
 use Rattle.jpg_file.specs.Read.RowsNone.{NoRowsIn}
 use Rattle.jpg_file.specs.Read.Strips.{AfterStrip, CountsStrip, EndsByRow, RowsAfter, RowsInside, StandsByRow}
-use Rattle.jpg_file.specs.declared.read.file.FileWork.{FileWork}
 use Rattle.jpg_file.specs.declared.read.row_pieces.FedRow.TheVariants as fed
 use Rattle.jpg_file.specs.declared.read.rows.RowWork.{RowWork}
 use Rattle.jpg_file.specs.declared.read.strip_work.StripWork.{StripWork}
@@ -38,41 +36,8 @@ use Rattle.jpg_file.proofs.ReaderFed.{ends_plain, plain_open, with_work}
 use Rattle.jpg_file.proofs.RowPieces.{no_rows_in}
 use Rattle.jpg_file.proofs.StripPieces.{open_head, strip_whole}
 use Rattle.jpg_file.proofs.RowsFed.{row_fed, rows_completed}
-use Rattle.jpg_file.proofs.RowsFedOn.{fed_done_rows, fed_given_row, fed_more_rows}
+use Rattle.jpg_file.proofs.RowsFedOn.{RowsBefore, fed_done_rows, fed_given_row, fed_more_rows, rows_before}
 use Rattle.jpg_file.proofs.RowsRange.{given_in_range}
-
--- IF MCU ROWS ARE BEING READ: what holds before the piece
-record RowsBefore (bytes : List ℕ) (m : ℕ) (r : ReaderState) : Type 0 where
-  pub going : r.stop ≡ None
-  pub undone : r.done ≡ false
-  pub begun : HasBegunRows bytes r
-  pub «open» : RowsOpen r.limits bytes r.rows r.file
-  pub count : m + unfinished begun.rows ≡ rows_of_scan r.limits begun.before begun.contents
-  pub told : Blocks
-  pub tells : TellsRows r.limits bytes m told
-
-open_by : (limits : Limits) (bytes : List ℕ) (o : Option RowWork) (w : FileWork) (rows : RowWork) → o ≡ Some rows → StandsByRow limits bytes w rows → HasLastByte limits bytes → RowsOpen limits bytes o w
-open_by limits bytes o w rows has s last = subst (λ (x : Option RowWork). RowsOpen limits bytes x w) (sym has) (record { stands = s; last = λ some. last })
-
-rows_before : (bytes : List ℕ) (m : ℕ) (r : ReaderState) → HasReadRows bytes m r ⊎ HasGivenRow bytes m r → RowsBefore bytes m r
-rows_before bytes m r (inl h) = record {
-  going = h.going;
-  undone = h.undone;
-  begun = h.begun;
-  «open» = open_by r.limits bytes r.rows r.file (h.begun).rows (h.begun).has (h.open).stands h.byte;
-  count = h.rows;
-  told = h.blocks;
-  tells = h.completed.0;
-}
-rows_before bytes m r (inr h) = record {
-  going = h.going;
-  undone = h.undone;
-  begun = h.begun;
-  «open» = open_by r.limits bytes r.rows r.file (h.begun).rows (h.begun).has h.open h.byte;
-  count = h.rows;
-  told = h.blocks;
-  tells = h.told;
-}
 
 last_within : (limits : Limits) (bytes : List ℕ) → HasLastByte limits bytes → length bytes ≤ limits.input
 last_within limits bytes l = (let short = l.short in let one = length-append l.front (l.byte ∷ []) in omega (arith, ap (λ x. length x) l.cut, one, short))
@@ -209,7 +174,7 @@ module _ (r : ReaderState) (old new : StripWork) (bytes piece : List ℕ) (m : �
 
       by : (o : Option RowWork) → new.rows ≡ o → CountsStrip step.More (Some (b.begun).rows) o → RowsGo r.limits (bytes ++ piece) o new.file → HasReadRows (bytes ++ piece) m (with_work r new)
       by None is c g = absurd c
-      by (Some rows) is c g = fed_more_rows (with_work r old) new bytes piece m rows b.told b.going b.undone b.begun b.count b.tells is (t.keeps.strip (ap is_some (b.begun).has)) c g.goes (g.last refl) a.1
+      by (Some rows) is c g = fed_more_rows (with_work r old) new bytes piece m b rows is (t.keeps.strip (ap is_some (b.begun).has)) c g.goes (g.last refl) a.1
   more_answered row t (inl (p, z)) = by new.rows refl
     where
       by : (o : Option RowWork) → new.rows ≡ o → AfterFeedRow bytes m piece (Ok fed.More) (with_work r new)
@@ -238,7 +203,7 @@ module _ (r : ReaderState) (old new : StripWork) (bytes piece : List ℕ) (m : �
 
       by : (o : Option RowWork) → new.rows ≡ o → CountsStrip step.Whole (Some (b.begun).rows) o → AfterStrip r.limits (bytes ++ take used piece) step.Whole o new.file → IsDoneByRows (bytes ++ take used piece) m (record (with_work r new) { done = true })
       by None is c k = absurd c
-      by (Some rows) is c k = fed_done_rows (with_work r old) new bytes (take used piece) m rows b.told b.begun b.count b.tells is (t.keeps.strip (ap is_some (b.begun).has)) c k
+      by (Some rows) is c k = fed_done_rows (with_work r old) new bytes (take used piece) m b rows is (t.keeps.strip (ap is_some (b.begun).has)) c k
   done_answered used row t (inl (p, z)) = by new.rows refl
     where
       by : (o : Option RowWork) → new.rows ≡ o → AfterFeedRow bytes m piece (Ok (fed.Done used)) (record (with_work r new) { done = true })
@@ -262,7 +227,7 @@ module _ (r : ReaderState) (old new : StripWork) (bytes piece : List ℕ) (m : �
       by None is c g = absurd c
       by (Some rows) is c g =
           let all = bytes ++ take used piece in
-          fed_given_row (with_work r old) new bytes (take used piece) m rows b.going b.undone b.begun b.count is (t.keeps.strip (ap is_some (b.begun).has)) c g.row g.last (last_within r.limits all g.last) (given_in_range r.limits all new.file rows (frame_of r.limits (b.begun).before) g.row)
+          fed_given_row (with_work r old) new bytes (take used piece) m b rows is (t.keeps.strip (ap is_some (b.begun).has)) c g.row g.last (last_within r.limits all g.last) (given_in_range r.limits all new.file rows (frame_of r.limits (b.begun).before) g.row)
   row_answered used t (inl (p, z)) = by new.rows refl
     where
       by : (o : Option RowWork) → new.rows ≡ o → AfterFeedRow bytes m piece (Ok (fed.Row used)) (with_work r new)
@@ -291,7 +256,8 @@ module _ (r : ReaderState) (old new : StripWork) (bytes piece : List ℕ) (m : �
       by None none some = absurd cc
       by (Some after) has after_some =
           subst (λ (x : List ℕ). StopsRows x m (stopped_by r new f)) (sym is)
-          (fault_rows (with_work r old) (stopped_by r new f) bytes (take n piece) m (b.begun).rows after b.told b.begun b.count b.tells k.0 refl has (t.keeps.strip some) (k.1 (b.begun).before (b.begun).contents (b.begun).begins))
+          (fault_rows (with_work r old) bytes (take n piece) m b k.0 (stopped_by r new f)
+          (record { same = refl; rows = after; has = has; strip = t.keeps.strip some; head = k.1 (b.begun).before (b.begun).contents (b.begun).begins }))
 
   fault_answered : (f : FaultAt) → old.by_row ≡ true → ReadsPiece r.limits old piece (Err (stop.Fault f)) new → HasReadSoFar bytes m (with_work r old)
       → AfterFeedRow bytes m piece (Err (stop.Fault f)) (stopped_by r new f)

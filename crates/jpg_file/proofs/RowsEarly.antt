@@ -23,7 +23,7 @@ use Rattle.jpg_spec.specs.PictureInWork.{is_at}
 use Rattle.jpg_spec.specs.ScanRows.{first_rows}
 use Rattle.jpg_spec.specs.RowsTold.{BeginsScanOfAll, TellsRows, blocks_in, row_places}
 use Rattle.jpg_spec.specs.declared.frame.Limits.{Limits}
-use Rattle.jpg_spec.proofs.Common.{both, clash, lt_of, lt_yes, same_of, some_once}
+use Rattle.jpg_spec.proofs.Common.{both, clash, lt_of, lt_yes, same_of, some_once, not_zero}
 use Rattle.jpg_spec.proofs.BeforeScans.{no_heads}
 use Rattle.jpg_spec.proofs.FileLaws.{stands_early}
 use Rattle.jpg_spec.proofs.FrameAfter.{leads_pass}
@@ -53,11 +53,10 @@ use Rattle.jpg_file.specs.declared.read.file.FileWork.{FileWork}
 use Rattle.jpg_file.specs.declared.read.rows.RowWork.{RowWork}
 use Rattle.jpg_file.proofs.Leaving.{at_end, named_by, some_at, some_for}
 use Rattle.jpg_file.proofs.RowTurns.{rows_there}
-use Rattle.jpg_file.proofs.RowsFed.{rest_framed}
 use Rattle.jpg_file.proofs.RowsGiven.{TellsDue, inside_tells, place_tells, real_in_row, row_blocks}
 use Rattle.jpg_file.proofs.RowsRange.{inside_in_range}
 use Rattle.jpg_file.proofs.StripPieces.{goes_with}
-use Rattle.jpg_file.proofs.StripTurns.{rest_blank}
+use Rattle.jpg_file.proofs.RowAfter.{rest_blank, rest_framed}
 
 -- THE PICTURE that is left, of these blocks
 record EndsWhole (limits : Limits) (bytes : List ℕ) (whole : Picture) : Type 0 where
@@ -84,28 +83,30 @@ real_here : (f : Frame) (blocks : Blocks) (i x y : ℕ) → i < length f.compone
 real_here f blocks i x y there across down =
     ap (λ b. cond (b && is_real f i x y) (blocks i x y) (zeros 64)) (lt_yes i (length f.components) there) ∙ ap (λ b. cond b (blocks i x y) (zeros 64)) (real_in_row f i x y there across down)
 
--- of the first MCU rows
-named_in : (limits : Limits) (before : List Segment) (contents : List ℕ) (bytes : List ℕ) → BeginsScanOfAll limits bytes before contents → (i : ℕ) → i < length (frame_of limits before).components → is_among i (head_components (head_in (frame_of limits before) contents)) ≡ true
-named_in limits before contents bytes begins i lt =
-    let f = frame_of limits before in head_names f (head_in f contents) i (head_there limits before contents begins.unbroken) begins.of_all.all lt
+module _ (limits : Limits) (bytes : List ℕ) (before : List Segment) (contents : List ℕ) (begins : BeginsScanOfAll limits bytes before contents) where
+  -- of the first MCU rows
+  named_in : (i : ℕ) → i < length (frame_of limits before).components → is_among i (head_components (head_in (frame_of limits before) contents)) ≡ true
+  named_in i lt =
+      let f = frame_of limits before in head_names f (head_in f contents) i (head_there limits before contents begins.unbroken) begins.of_all.all lt
 
-row_found : (limits : Limits) (bytes : List ℕ) (before : List Segment) (contents : List ℕ) (rows i x y : ℕ) → BeginsScanOfAll limits bytes before contents → IsFrame (frame_of limits before) → i < length (frame_of limits before).components
-    → x < blocks_across (frame_of limits before) (component_at (frame_of limits before) i) → y < blocks_down (frame_of limits before) (component_at (frame_of limits before) i) → y < rows * rows_in_mcu (frame_of limits before) i
-    → any_of (is_at i x y) (row_places limits before contents rows) ≡ true
-row_found limits bytes before contents rows i x y begins is there across down low =
-    let f = frame_of limits before in
-    let turned : rows_in_mcu f i * rows ≡ rows * rows_in_mcu f i = grind arith in
-    let few : y < rows_in_mcu f i * rows = omega (arith, low, turned) in
-    found_first f (head_components (head_in f contents)) i x y rows is there (named_in limits before contents bytes begins i there) (real_in_row f i x y there across down)
-    (subst (λ n. y < n * rows) (ap (λ n. cond (n == 1) 1 (component_at f i).v) (sym begins.of_all.all)) few)
+  row_found : (rows i x y : ℕ) → IsFrame (frame_of limits before) → i < length (frame_of limits before).components
+      → x < blocks_across (frame_of limits before) (component_at (frame_of limits before) i)
+      → y < blocks_down (frame_of limits before) (component_at (frame_of limits before) i) → y < rows * rows_in_mcu (frame_of limits before) i
+      → any_of (is_at i x y) (row_places limits before contents rows) ≡ true
+  row_found rows i x y is there across down low =
+      let f = frame_of limits before in
+      let turned : rows_in_mcu f i * rows ≡ rows * rows_in_mcu f i = grind arith in
+      let few : y < rows_in_mcu f i * rows = omega (arith, low, turned) in
+      found_first f (head_components (head_in f contents)) i x y rows is there (named_in i there) (real_in_row f i x y there across down)
+      (subst (λ n. y < n * rows) (ap (λ n. cond (n == 1) 1 (component_at f i).v) (sym begins.of_all.all)) few)
 
--- those of the MCU rows that are decoded are those of the picture
-agree_rows : (limits : Limits) (bytes : List ℕ) (before : List Segment) (contents : List ℕ) (rows : ℕ) (all : Blocks) → BeginsScanOfAll limits bytes before contents → IsFrame (frame_of limits before)
-    → AgreeInRows (frame_of limits before) rows (blocks_in (row_places limits before contents rows) all) (real_blocks (frame_of limits before) all)
-agree_rows limits bytes before contents rows all begins is = record {
-  same = λ i x y there across down low.
-      (ap (λ b. cond b (all i x y) (no_blocks i x y)) (row_found limits bytes before contents rows i x y begins is there across down low) ∙ sym (real_here (frame_of limits before) all i x y there across down));
-}
+  -- those of the MCU rows that are decoded are those of the picture
+  agree_rows : (rows : ℕ) (all : Blocks) → IsFrame (frame_of limits before)
+      → AgreeInRows (frame_of limits before) rows (blocks_in (row_places limits before contents rows) all) (real_blocks (frame_of limits before) all)
+  agree_rows rows all is = record {
+    same = λ i x y there across down low.
+        (ap (λ b. cond b (all i x y) (no_blocks i x y)) (row_found rows i x y is there across down low) ∙ sym (real_here (frame_of limits before) all i x y there across down));
+  }
 
 -- NO REAL BLOCK is after all MCU rows
 rows_cover : (f : Frame) (ids : List ℕ) (i : ℕ) → IsFrame f → length ids ≡ length f.components → is_among i ids ≡ true → blocks_down f (component_at f i) ≤ scan_mcus_down f ids * rows_in_mcu f i
@@ -146,9 +147,6 @@ record RowsLeft (limits : Limits) (bytes : List ℕ) (before : List Segment) (co
 
 -- INSIDE THE SCAN
 
-some_one : (n : ℕ) → (suc n == 0) ≡ false
-some_one n = grind (arith, nat_tests)
-
 -- how much of the current row is done
 record RowNumber (row m left later : ℕ) : Type 0 where
   pub least : row ≤ m
@@ -162,7 +160,7 @@ row_number row m zero later units all e count some turned = record {
       let none : 1 ≤ 0 = turned (omega (arith, low, due)) in absurd (omega (arith, none)));
 }
 row_number row m (suc n) later units all e count some turned =
-    let one : later + cond (suc n == 0) 0 1 ≡ later + 1 = ap (λ b. later + cond b 0 1) (some_one n) in
+    let one : later + cond (suc n == 0) 0 1 ≡ later + 1 = ap (λ b. later + cond b 0 1) (not_zero n) in
     record { least = omega (arith, e, count, one); same = λ due. omega (arith, e, count, one) }
 
 inside_left : (limits : Limits) (bytes : List ℕ) (w : FileWork) (rows : RowWork) (whole : Picture) (m : ℕ) → (r : RowsInside limits bytes w rows whole) → IsRowOf rows.tops whole rows.coefs → (1 ≤ scan_left r.scan.work → 1 ≤ rows.left)
@@ -194,8 +192,8 @@ inside_left limits bytes w rows whole m r of turned begins count = record {
 
     lent : 1 ≤ unfinished rows → AreOfRow (frame_of limits (segments_of r.items)) m rows.coefs (real_blocks (frame_of limits (segments_of r.items)) (map_of whole))
     lent due =
-        let row = row_blocks limits r.items r.contents whole rows (scan_left r.scan.work) m of framed at (number.same due) (named_in limits (segments_of r.items) r.contents bytes begins) in
-        let agree = agree_rows limits bytes (segments_of r.items) r.contents (m + 1) (map_of whole) begins at.frame in
+        let row = row_blocks limits r.items r.contents whole rows (scan_left r.scan.work) m of framed at (number.same due) (named_in limits bytes (segments_of r.items) r.contents begins) in
+        let agree = agree_rows limits bytes (segments_of r.items) r.contents begins (m + 1) (map_of whole) at.frame in
         record {
           same = λ i x y there across low down.
               (let v = rows_in_mcu f i in
@@ -248,61 +246,62 @@ scan_among limits items blocks b begun all found leads = by (has_scan (segments_
         let one : has_begun heads 0 ≡ true = (all f heads begun.scans).1 0 (omega (arith, some)) in
         absurd (clash (has_begun heads 0) one (ap (λ hs. has_begun hs 0) (no_heads f (segments_of items) e)))
 
-after_left : (limits : Limits) (bytes : List ℕ) (w : FileWork) (rows : RowWork) (whole : Picture) (m : ℕ) (before : List Segment) (contents : List ℕ) → (r : RowsAfter limits bytes w rows whole) → IsFrame (frame_of limits before)
-    → BeginsScanOfAll limits bytes before contents → m + unfinished rows ≡ rows_of_scan limits before contents → RowsLeft limits bytes before contents m rows whole
-after_left limits bytes w rows whole m before contents r is begins count = record {
-  framed = picture.1 ∙ rows_held.framed;
-  told = subst (λ (b : Blocks). TellsRows limits bytes m (blocks_in (row_places limits before contents m) b)) picture.2 rows_held.told;
-  work = λ due. absurd (let z = r.done in omega (arith, due, z));
-  later = λ i x y low. later_zero f (map_of whole) i x y (λ there down. absurd (too_deep i y there down low));
-}
-  where
-    f : Frame
-    f = frame_of limits before
+module _ (limits : Limits) (bytes : List ℕ) (w : FileWork) (rows : RowWork) (m : ℕ) (before : List Segment) (contents : List ℕ) where
+  after_left : (whole : Picture) (r : RowsAfter limits bytes w rows whole) → IsFrame (frame_of limits before) → BeginsScanOfAll limits bytes before contents
+      → m + unfinished rows ≡ rows_of_scan limits before contents → RowsLeft limits bytes before contents m rows whole
+  after_left whole r is begins count = record {
+    framed = picture.1 ∙ rows_held.framed;
+    told = subst (λ (b : Blocks). TellsRows limits bytes m (blocks_in (row_places limits before contents m) b)) picture.2 rows_held.told;
+    work = λ due. absurd (let z = r.done in omega (arith, due, z));
+    later = λ i x y low. later_zero f (map_of whole) i x y (λ there down. absurd (too_deep i y there down low));
+  }
+    where
+      f : Frame
+      f = frame_of limits before
 
-    ids : List ℕ
-    ids = head_components (head_in f contents)
+      ids : List ℕ
+      ids = head_components (head_in f contents)
 
-    s : StandsBetween limits bytes (with_picture w whole)
-    s = r.between
+      s : StandsBetween limits bytes (with_picture w whole)
+      s = r.between
 
-    picture : (has_frame (segments_of (r.between).items) ≡ true) × (whole.frame ≡ frame_of_items limits (r.between).items) × ((r.between).blocks ≡ map_of whole)
-    picture = ((r.between).beside).picture
+      picture : (has_frame (segments_of (r.between).items) ≡ true) × (whole.frame ≡ frame_of_items limits (r.between).items) × ((r.between).blocks ≡ map_of whole)
+      picture = ((r.between).beside).picture
 
-    at : ItemsAt limits bytes (r.between).items (r.between).blocks
-    at = items_at limits bytes (with_picture w whole) r.between picture.0
+      at : ItemsAt limits bytes (r.between).items (r.between).blocks
+      at = items_at limits bytes (with_picture w whole) r.between picture.0
 
-    full : m ≡ rows_of_scan limits before contents
-    full = let z = r.done in omega (arith, count, z)
+      full : m ≡ rows_of_scan limits before contents
+      full = let z = r.done in omega (arith, count, z)
 
-    places : (scan_after limits before contents).places ≡ row_places limits before contents m
-    places = units_by_row f ids ∙ ap (λ n. first_rows f ids n) (sym full)
+      places : (scan_after limits before contents).places ≡ row_places limits before contents m
+      places = units_by_row f ids ∙ ap (λ n. first_rows f ids n) (sym full)
 
-    rows_held : HoldsRows limits bytes before contents (r.between).items (r.between).blocks m
-    rows_held =
-        rows_of_items limits bytes before contents s.items s.blocks at.front at.tail m begins at.cut at.spelled at.leads (scan_among limits s.items s.blocks w.begun ((s.beside).begun) r.all picture.0 at.leads) places
+      rows_held : HoldsRows limits bytes before contents (r.between).items (r.between).blocks m
+      rows_held =
+          rows_of_items limits bytes before contents s.items s.blocks at.front at.tail m begins at.cut at.spelled at.leads (scan_among limits s.items s.blocks w.begun ((s.beside).begun) r.all picture.0 at.leads) places
 
-    too_deep : (i y : ℕ) → i < length (frame_of limits before).components → y < blocks_down (frame_of limits before) (component_at (frame_of limits before) i) → (m + 1) * rows_in_mcu (frame_of limits before) i ≤ y → ⊥
-    too_deep i y there down low =
-        let v = rows_in_mcu f i in
-        let cover = rows_cover f ids i is begins.of_all.all (named_in limits before contents bytes begins i there) in
-        let all : scan_mcus_down f ids * v ≡ m * v = ap (λ n. n * v) (sym full) in
-        let e : (m + 1) * v ≡ m * v + v = grind arith in
-        omega (arith, cover, all, e, low, down)
+      too_deep : (i y : ℕ) → i < length (frame_of limits before).components → y < blocks_down (frame_of limits before) (component_at (frame_of limits before) i) → (m + 1) * rows_in_mcu (frame_of limits before) i ≤ y → ⊥
+      too_deep i y there down low =
+          let v = rows_in_mcu f i in
+          let cover = rows_cover f ids i is begins.of_all.all (named_in limits bytes before contents begins i there) in
+          let all : scan_mcus_down f ids * v ≡ m * v = ap (λ n. n * v) (sym full) in
+          let e : (m + 1) * v ≡ m * v + v = grind arith in
+          omega (arith, cover, all, e, low, down)
 
--- WHEREVER IT IS
-rows_left : (limits : Limits) (bytes : List ℕ) (w : FileWork) (rows : RowWork) (m : ℕ) (before : List Segment) (contents : List ℕ) → (g : GoesByRow limits bytes w rows) → IsFrame (frame_of limits before) → BeginsScanOfAll limits bytes before contents
-    → m + unfinished rows ≡ rows_of_scan limits before contents → RowsLeft limits bytes before contents m rows (g.stands).whole
-rows_left limits bytes w rows m before contents g is begins count = by (g.stands).at
-  where
-    by : RowsInside limits bytes w rows (g.stands).whole ⊎ RowsAfter limits bytes w rows (g.stands).whole → RowsLeft limits bytes before contents m rows (g.stands).whole
-    by (inl r) =
-        let t = place_tells limits r.items r.contents bytes (g.stands).whole rows (scan_left r.scan.work) (inside_tells limits bytes w rows (g.stands).whole r) (r.at).at in
-        let one = begun_once limits bytes before (segments_of r.items) contents r.contents begins t.begins in
-        let same : rows_of_scan limits before contents ≡ rows_of_scan limits (segments_of r.items) r.contents = ap (λ (l : List Segment). rows_of_scan limits l contents) one.0 ∙ ap (λ (l : List ℕ). rows_of_scan limits (segments_of r.items) l) one.1 in
-        let here = inside_left limits bytes w rows (g.stands).whole m r (g.stands).row (g.turned r.scan r.inside) t.begins (count ∙ same) in
-        subst (λ (c : List ℕ). RowsLeft limits bytes before c m rows (g.stands).whole) (sym one.1) (subst (λ (l : List Segment). RowsLeft limits bytes l r.contents m rows (g.stands).whole) (sym one.0) here)
-    by (inr r) = after_left limits bytes w rows (g.stands).whole m before contents r is begins count
+  -- WHEREVER IT IS
+  rows_left : (g : GoesByRow limits bytes w rows) → IsFrame (frame_of limits before) → BeginsScanOfAll limits bytes before contents
+      → m + unfinished rows ≡ rows_of_scan limits before contents → RowsLeft limits bytes before contents m rows (g.stands).whole
+  rows_left g is begins count = by (g.stands).at
+    where
+      by : RowsInside limits bytes w rows (g.stands).whole ⊎ RowsAfter limits bytes w rows (g.stands).whole → RowsLeft limits bytes before contents m rows (g.stands).whole
+      by (inl r) =
+          let t = place_tells limits r.items r.contents bytes (g.stands).whole rows (scan_left r.scan.work) (inside_tells limits bytes w rows (g.stands).whole r) (r.at).at in
+          let one = begun_once limits bytes before (segments_of r.items) contents r.contents begins t.begins in
+          let same : rows_of_scan limits before contents ≡ rows_of_scan limits (segments_of r.items) r.contents = ap (λ (l : List Segment). rows_of_scan limits l contents) one.0 ∙ ap (λ (l : List ℕ). rows_of_scan limits (segments_of r.items) l) one.1 in
+          let here = inside_left limits bytes w rows (g.stands).whole m r (g.stands).row (g.turned r.scan r.inside) t.begins (count ∙ same) in
+          subst (λ (c : List ℕ). RowsLeft limits bytes before c m rows (g.stands).whole) (sym one.1) (subst (λ (l : List Segment). RowsLeft limits bytes l r.contents m rows (g.stands).whole) (sym one.0) here)
+      by (inr r) = after_left (g.stands).whole r is begins count
 
 -- THE ANSWER
 pub rows_early : (bytes : List ℕ) (m : ℕ) (r : ReaderState) (all : Bool) → AreLimits r.limits → HasReadRows bytes m r → IsComplete r.file.begun.progress all → all ≡ true → IsEarlyByRows bytes m (record r { done = true })
@@ -314,7 +313,7 @@ rows_early bytes m r all limited h told e = record {
   rows = h.rows;
   blocks = h.blocks;
   completed = h.completed;
-  given = subst (λ (x : Blocks). AgreeInRows f m h.blocks x) (sym real) (subst (λ (x : Blocks). AgreeInRows f m x (real_blocks f (map_of whole))) (sym blocks) (agree_rows r.limits bytes b.before b.contents m (map_of whole) b.begins is));
+  given = subst (λ (x : Blocks). AgreeInRows f m h.blocks x) (sym real) (subst (λ (x : Blocks). AgreeInRows f m x (real_blocks f (map_of whole))) (sym blocks) (agree_rows r.limits bytes b.before b.contents b.begins m (map_of whole) is));
   work = λ due. subst (λ (x : Blocks). LendsRow f m (b.rows).coefs x) (sym real) (there.work due);
   later = λ i x y low. ap (λ (z : Blocks). z i x y) real ∙ there.later i x y low;
 }

@@ -1,10 +1,10 @@
 -- From the MCU rows that were passed, and how many of the scan aren't complete yet, to those that the bytes complete.
-use Rattle.std.proofs.Common.{◌≡◌, ℕ, ◌+◌, ◌==◌, Bool, cond, List, [], ◌∷◌, ◌++◌, sym, ap, ◌∙◌, subst, arith}
+use Rattle.std.proofs.Common.{◌≡◌, ℕ, ◌+◌, ◌==◌, cond, List, [], ◌++◌, sym, ap, ◌∙◌, subst, arith}
 use Rattle.std.proofs.lemmas.List.{append_assoc}
 use Rattle.jpg_spec.specs.Geometry.{mcu_row_frame}
 use Rattle.jpg_spec.specs.Markers.{Segment}
 use Rattle.jpg_spec.specs.InForce.{frame_of, head_in}
-use Rattle.jpg_spec.specs.Items.{Item, segments_of}
+use Rattle.jpg_spec.specs.Items.{segments_of}
 use Rattle.jpg_spec.specs.Scan.{Blocks}
 use Rattle.jpg_spec.specs.RowsTold.{BeginsScanOfAll, CompletesRows, TellsRows, blocks_in, row_places}
 use Rattle.jpg_spec.specs.declared.frame.Limits.{Limits}
@@ -14,16 +14,13 @@ use Rattle.jpg_spec.proofs.RowsLater.{head_there}
 use Rattle.jpg_coefs.specs.Picture.{Picture, map_of}
 use Rattle.jpg_file.specs.Read.ReadRows.{AreOfRow}
 use Rattle.jpg_file.specs.Read.RowsKnown.{rows_of_scan}
-use Rattle.jpg_file.specs.Read.RowData.{InRowData}
 use Rattle.jpg_file.specs.Read.RowPlaces.{scan_left}
 use Rattle.jpg_file.specs.Read.RowTurns.{unfinished}
-use Rattle.jpg_file.specs.Read.Strips.{IsFirstScan, RowIsWhole, RowsInside, frame_behind}
+use Rattle.jpg_file.specs.Read.Strips.{RowIsWhole, RowsInside, frame_behind}
 use Rattle.jpg_file.specs.declared.read.file.FileWork.{FileWork}
 use Rattle.jpg_file.specs.declared.read.rows.RowWork.{RowWork}
-use Rattle.jpg_file.specs.declared.read.scan.InScan.{InScan}
 use Rattle.jpg_file.proofs.RowsGiven.{inside_completes, inside_tells, place_tells, row_blocks}
-use Rattle.jpg_file.proofs.StripRows.{half_due}
-use Rattle.jpg_file.proofs.StripTurns.{data_framed}
+use Rattle.jpg_file.proofs.RowAfter.{rest_framed}
 
 -- what has begun remains begun
 pub begun_on : (limits : Limits) (bytes more : List ℕ) (before : List Segment) (contents : List ℕ) → BeginsScanOfAll limits bytes before contents → BeginsScanOfAll limits (bytes ++ more) before contents
@@ -47,10 +44,6 @@ rows_completed limits bytes before contents w rows whole m begins r none count =
     (c.blocks, subst (λ n. CompletesRows limits bytes n c.blocks) is c.completed)
 
 -- A FURTHER ONE is complete
-
-pub rest_framed : (limits : Limits) (items : List Item) (contents bytes : List ℕ) (waiting : List Bool) (s : InScan) (whole : Picture) → InRowData limits items contents bytes waiting s whole → IsFirstScan limits items → whole.frame ≡ frame_behind limits items
-rest_framed limits items contents bytes [] s whole d first = data_framed limits items contents bytes s whole d first
-rest_framed limits items contents bytes (bit ∷ bits) s whole h first = (half_due limits items contents bytes (bit ∷ bits) s whole h first).framed
 
 pub record RowFed (limits : Limits) (bytes : List ℕ) (before : List Segment) (contents : List ℕ) (m : ℕ) (rows : RowWork) : Type 0 where
   pub blocks : Blocks

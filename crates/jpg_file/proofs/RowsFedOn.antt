@@ -7,10 +7,9 @@ use Rattle.jpg_spec.specs.Markers.{Segment}
 use Rattle.jpg_spec.specs.InForce.{frame_of, head_in}
 use Rattle.jpg_spec.specs.Scan.{Blocks}
 use Rattle.jpg_spec.specs.ScanRows.{first_rows}
-use Rattle.jpg_spec.specs.RowsTold.{picture_so_far}
+use Rattle.jpg_spec.specs.RowsTold.{picture_so_far, BeginsScanOfAll, CompletesRows, TellsRows}
 use Rattle.std.specs.Prelude.{Option}
 use Rattle.jpg_file.specs.declared.read.strip_head.StripHead.{StripHead}
-use Rattle.jpg_spec.specs.RowsTold.{BeginsScanOfAll, CompletesRows, TellsRows}
 use Rattle.jpg_spec.specs.declared.frame.Limits.{Limits}
 use Rattle.jpg_spec.proofs.RowsHeader.{all_complete}
 use Rattle.jpg_spec.proofs.RowsOnce.{rows_stay}
@@ -21,7 +20,7 @@ use Rattle.jpg_file.specs.Read.FirstHeader.{IsFirstHeaderOf}
 use Rattle.jpg_file.specs.Read.ReadFile.{ReaderState}
 use Rattle.jpg_file.specs.Read.ReadRows.{HasBegunRows, HasGivenRow, HasReadRows, IsDoneByRows}
 use Rattle.jpg_file.specs.Read.RowsKnown.{TellsStrip, rows_of_scan}
-use Rattle.jpg_file.specs.Read.RowPieces.{HasLastByte}
+use Rattle.jpg_file.specs.Read.RowPieces.{HasLastByte, RowsOpen}
 use Rattle.jpg_file.specs.Read.RowTurns.{unfinished}
 use Rattle.jpg_file.specs.Read.Strips.{EndsByRow, GoesByRow, RowIsWhole, RowsAfter, RowsInside, StandsByRow}
 use Rattle.jpg_file.specs.declared.read.rows.RowWork.{RowWork}
@@ -31,17 +30,39 @@ use Rattle.jpg_file.proofs.PieceSteps.{file_means, stands_file}
 use Rattle.jpg_file.proofs.StripPieces.{open_head, strip_whole}
 use Rattle.jpg_file.proofs.RowsFed.{begun_on, row_fed, rows_completed}
 use Rattle.jpg_file.proofs.ReaderFed.{with_work}
+use Rattle.jpg_file.specs.declared.read.file.FileWork.{FileWork}
 
--- the scan remains begun
-abbrev begun_with : (r : ReaderState) (new : StripWork) (bytes more : List ℕ) (rows : RowWork) → (b : HasBegunRows bytes r) → new.rows ≡ Some rows → new.strip ≡ r.strip → IsFirstHeaderOf r.limits (bytes ++ more) new.file.head → HasBegunRows (bytes ++ more) (with_work r new)
-begun_with r new bytes more rows b has same head = record {
-  before = b.before;
-  contents = b.contents;
-  begins = begun_on r.limits bytes more b.before b.contents b.begins;
-  rows = rows;
-  has = has;
-  head = head;
-  told = subst (λ (s : Option StripHead). TellsStrip s (frame_of r.limits b.before) (picture_so_far r.limits b.before b.contents)) (sym same) b.told;
+-- IF MCU ROWS ARE BEING READ: what holds before the piece
+pub record RowsBefore (bytes : List ℕ) (m : ℕ) (r : ReaderState) : Type 0 where
+  pub going : r.stop ≡ None
+  pub undone : r.done ≡ false
+  pub begun : HasBegunRows bytes r
+  pub «open» : RowsOpen r.limits bytes r.rows r.file
+  pub count : m + unfinished begun.rows ≡ rows_of_scan r.limits begun.before begun.contents
+  pub told : Blocks
+  pub tells : TellsRows r.limits bytes m told
+
+open_by : (limits : Limits) (bytes : List ℕ) (o : Option RowWork) (w : FileWork) (rows : RowWork) → o ≡ Some rows → StandsByRow limits bytes w rows → HasLastByte limits bytes → RowsOpen limits bytes o w
+open_by limits bytes o w rows has s last = subst (λ (x : Option RowWork). RowsOpen limits bytes x w) (sym has) (record { stands = s; last = λ some. last })
+
+pub rows_before : (bytes : List ℕ) (m : ℕ) (r : ReaderState) → HasReadRows bytes m r ⊎ HasGivenRow bytes m r → RowsBefore bytes m r
+rows_before bytes m r (inl h) = record {
+  going = h.going;
+  undone = h.undone;
+  begun = h.begun;
+  «open» = open_by r.limits bytes r.rows r.file (h.begun).rows (h.begun).has (h.open).stands h.byte;
+  count = h.rows;
+  told = h.blocks;
+  tells = h.completed.0;
+}
+rows_before bytes m r (inr h) = record {
+  going = h.going;
+  undone = h.undone;
+  begun = h.begun;
+  «open» = open_by r.limits bytes r.rows r.file (h.begun).rows (h.begun).has h.open h.byte;
+  count = h.rows;
+  told = h.blocks;
+  tells = h.told;
 }
 
 -- ALL MCU ROWS were passed
@@ -52,70 +73,88 @@ all_given limits bytes more before contents m blocks begins told all =
     let ids = head_components (head_in f contents) in
     all_complete limits (bytes ++ more) m blocks before contents (begun_on limits bytes more before contents begins) (units_by_row f ids ∙ ap (λ n. first_rows f ids n) (sym all)) (rows_stay limits bytes more m blocks told)
 
--- NO FURTHER ONE is complete with a piece
-pub fed_more_rows : (r : ReaderState) (new : StripWork) (bytes piece : List ℕ) (m : ℕ) (rows : RowWork) (told : Blocks) → r.stop ≡ None → r.done ≡ false → (b : HasBegunRows bytes r) → m + unfinished b.rows ≡ rows_of_scan r.limits b.before b.contents
-    → TellsRows r.limits bytes m told → new.rows ≡ Some rows → new.strip ≡ r.strip → unfinished rows ≡ unfinished b.rows → GoesByRow r.limits (bytes ++ piece) new.file rows
-    → HasLastByte r.limits (bytes ++ piece) → length (bytes ++ piece) < r.limits.input
-    → HasReadRows (bytes ++ piece) m (with_work r new)
-fed_more_rows r new bytes piece m rows told going undone b count tells has strip same g last short = record {
-  going = going;
-  undone = undone;
-  short = short;
-  stands = (let v = strip_whole r.limits (bytes ++ piece) (Some rows) new.file g in stands_file r.limits (bytes ++ piece) v.file v.stands);
-  begun = begun_with r new bytes piece rows b has strip (open_head r.limits (bytes ++ piece) (Some rows) new.file g.stands);
-  «open» = g;
-  byte = last;
-  rows = here;
-  blocks = complete.0;
-  completed = complete.1;
-}
-  where
-    here : m + unfinished rows ≡ rows_of_scan r.limits b.before b.contents
-    here = omega (arith, count, same)
+module _ (r : ReaderState) (new : StripWork) (bytes piece : List ℕ) (m : ℕ) (b : RowsBefore bytes m r) (rows : RowWork) (has : new.rows ≡ Some rows) where
+  abbrev all : List ℕ
+  all = bytes ++ piece
 
-    complete : (blocks : Blocks) × CompletesRows r.limits (bytes ++ piece) m blocks
-    complete = by g.stands.at
-      where
-        by : RowsInside r.limits (bytes ++ piece) new.file rows g.stands.whole ⊎ RowsAfter r.limits (bytes ++ piece) new.file rows g.stands.whole → (blocks : Blocks) × CompletesRows r.limits (bytes ++ piece) m blocks
-        by (inl i) = rows_completed r.limits (bytes ++ piece) b.before b.contents new.file rows g.stands.whole m (begun_on r.limits bytes piece b.before b.contents b.begins) i g.none (omega (arith, count, same))
-        by (inr k) = (told, all_given r.limits bytes piece b.before b.contents m told b.begins tells (omega (arith, count, same, k.done)))
+  abbrev before : List Segment
+  before = (b.begun).before
 
--- A FURTHER ONE is complete
-pub fed_given_row : (r : ReaderState) (new : StripWork) (bytes piece : List ℕ) (m : ℕ) (rows : RowWork) → r.stop ≡ None → r.done ≡ false → (b : HasBegunRows bytes r) → m + unfinished b.rows ≡ rows_of_scan r.limits b.before b.contents
-    → new.rows ≡ Some rows → new.strip ≡ r.strip → unfinished b.rows ≡ unfinished rows + 1 → (k : RowIsWhole r.limits (bytes ++ piece) new.file rows) → HasLastByte r.limits (bytes ++ piece) → length (bytes ++ piece) ≤ r.limits.input
-    → AreInRange (bounds (frame_of r.limits b.before)) (map_of rows.coefs) → HasGivenRow (bytes ++ piece) (m + 1) (with_work r new)
-fed_given_row r new bytes piece m rows going undone b count has strip fewer k last within range =
-    let stands : StandsByRow r.limits (bytes ++ piece) new.file rows = record { whole = k.whole; row = k.row; at = inl k.inside } in
-    let f = row_fed r.limits (bytes ++ piece) b.before b.contents new.file rows m (begun_on r.limits bytes piece b.before b.contents b.begins) k (omega (arith, count, fewer)) in
-    record {
-      going = going;
-      undone = undone;
-      within = within;
-      begun = begun_with r new bytes piece rows b has strip (open_head r.limits (bytes ++ piece) (Some rows) new.file stands);
-      «open» = stands;
-      byte = last;
-      rows = omega (arith, count, fewer);
-      blocks = f.blocks;
-      told = f.told;
-      last = m;
-      count = refl;
-      framed = f.framed;
-      range = range;
-      row = f.row;
-    }
+  abbrev contents : List ℕ
+  contents = (b.begun).contents
 
--- THE FILE is complete
-pub fed_done_rows : (r : ReaderState) (new : StripWork) (bytes piece : List ℕ) (m : ℕ) (rows : RowWork) (told : Blocks) → (b : HasBegunRows bytes r) → m + unfinished b.rows ≡ rows_of_scan r.limits b.before b.contents → TellsRows r.limits bytes m told
-    → new.rows ≡ Some rows → new.strip ≡ r.strip → unfinished rows ≡ unfinished b.rows → EndsByRow r.limits (bytes ++ piece) new.file rows → IsDoneByRows (bytes ++ piece) m (record (with_work r new) { done = true })
-fed_done_rows r new bytes piece m rows told b count tells has strip same k =
-    let all = bytes ++ piece in
-    let w = with_picture new.file k.whole in
-    let g = begun_with r new bytes piece rows b has strip (head_left r.limits all w k.ends) in
-    record {
-      done = refl;
-      meaning = _;
-      whole = file_means r.limits all w k.ends;
-      begun = record { before = g.before; contents = g.contents; begins = g.begins; rows = rows; has = has; head = g.head; told = g.told };
-      blocks = told;
-      completed = all_given r.limits bytes piece b.before b.contents m told b.begins tells (omega (arith, count, same, k.done));
-    }
+  begins : BeginsScanOfAll r.limits all before contents
+  begins = begun_on r.limits bytes piece before contents (b.begun).begins
+
+  -- the scan remains begun
+  abbrev begun_with : new.strip ≡ r.strip → IsFirstHeaderOf r.limits all new.file.head → HasBegunRows all (with_work r new)
+  begun_with same head = record {
+    before = before;
+    contents = contents;
+    begins = begins;
+    rows = rows;
+    has = has;
+    head = head;
+    told = subst (λ (s : Option StripHead). TellsStrip s (frame_of r.limits before) (picture_so_far r.limits before contents)) (sym same) (b.begun).told;
+  }
+
+  -- NO FURTHER ONE is complete with a piece
+  pub fed_more_rows : new.strip ≡ r.strip → unfinished rows ≡ unfinished (b.begun).rows → GoesByRow r.limits all new.file rows → HasLastByte r.limits all
+      → length all < r.limits.input → HasReadRows all m (with_work r new)
+  fed_more_rows strip same g last short = record {
+    going = b.going;
+    undone = b.undone;
+    short = short;
+    stands = (let v = strip_whole r.limits all (Some rows) new.file g in stands_file r.limits all v.file v.stands);
+    begun = begun_with strip (open_head r.limits all (Some rows) new.file g.stands);
+    «open» = g;
+    byte = last;
+    rows = omega (arith, b.count, same);
+    blocks = complete.0;
+    completed = complete.1;
+  }
+    where
+      complete : (blocks : Blocks) × CompletesRows r.limits all m blocks
+      complete = by g.stands.at
+        where
+          by : RowsInside r.limits all new.file rows g.stands.whole ⊎ RowsAfter r.limits all new.file rows g.stands.whole → (blocks : Blocks) × CompletesRows r.limits all m blocks
+          by (inl i) = rows_completed r.limits all before contents new.file rows g.stands.whole m begins i g.none (omega (arith, b.count, same))
+          by (inr k) = (b.told, all_given r.limits bytes piece before contents m b.told (b.begun).begins b.tells (omega (arith, b.count, same, k.done)))
+
+  -- A FURTHER ONE is complete
+  pub fed_given_row : new.strip ≡ r.strip → unfinished (b.begun).rows ≡ unfinished rows + 1 → (k : RowIsWhole r.limits all new.file rows) → HasLastByte r.limits all
+      → length all ≤ r.limits.input → AreInRange (bounds (frame_of r.limits before)) (map_of rows.coefs) → HasGivenRow all (m + 1) (with_work r new)
+  fed_given_row strip fewer k last within range =
+      let stands : StandsByRow r.limits all new.file rows = record { whole = k.whole; row = k.row; at = inl k.inside } in
+      let f = row_fed r.limits all before contents new.file rows m begins k (omega (arith, b.count, fewer)) in
+      record {
+        going = b.going;
+        undone = b.undone;
+        within = within;
+        begun = begun_with strip (open_head r.limits all (Some rows) new.file stands);
+        «open» = stands;
+        byte = last;
+        rows = omega (arith, b.count, fewer);
+        blocks = f.blocks;
+        told = f.told;
+        last = m;
+        count = refl;
+        framed = f.framed;
+        range = range;
+        row = f.row;
+      }
+
+  -- THE FILE is complete
+  pub fed_done_rows : new.strip ≡ r.strip → unfinished rows ≡ unfinished (b.begun).rows → EndsByRow r.limits all new.file rows
+      → IsDoneByRows all m (record (with_work r new) { done = true })
+  fed_done_rows strip same k =
+      let w = with_picture new.file k.whole in
+      let g = begun_with strip (head_left r.limits all w k.ends) in
+      record {
+        done = refl;
+        meaning = _;
+        whole = file_means r.limits all w k.ends;
+        begun = record { before = g.before; contents = g.contents; begins = g.begins; rows = rows; has = has; head = g.head; told = g.told };
+        blocks = b.told;
+        completed = all_given r.limits bytes piece before contents m b.told (b.begun).begins b.tells (omega (arith, b.count, same, k.done));
+      }

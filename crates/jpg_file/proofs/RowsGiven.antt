@@ -34,7 +34,8 @@ use Rattle.jpg_file.specs.declared.read.file.FileWork.{FileWork}
 use Rattle.jpg_file.specs.declared.read.rows.RowWork.{RowWork}
 use Rattle.jpg_file.specs.declared.read.scan.InScan.{InScan}
 use Rattle.jpg_file.proofs.RowsTold.{told_first}
-use Rattle.jpg_file.proofs.RowsPlaced.{PlaceTells, begins_at, data_stops, data_tells, half_tells, rows_cut, scan_of_all, stops_complete}
+use Rattle.jpg_file.proofs.RowsPlaced.{PlaceTells, begins_at, data_stops, half_tells, rows_cut, scan_of_all, stops_complete}
+use Rattle.jpg_file.proofs.RowTurns.{one_up}
 
 -- INSIDE THE SCAN, where no bits wait: the MCU rows before the current one are complete, and this one if no unit of it
 -- is left
@@ -49,7 +50,7 @@ inside_completes limits bytes w rows whole r none =
 
 rest_tells : (limits : Limits) (items : List Item) (contents bytes : List ℕ) (waiting : List Bool) (s : InScan) (whole : Picture) → InRowData limits items contents bytes waiting s whole → IsFirstScan limits items
     → IsScanOfAll limits (segments_of items) contents → PlaceTells limits items contents bytes whole (scan_left s.work)
-rest_tells limits items contents bytes [] s whole d first all = data_tells limits items contents bytes s whole d first all
+rest_tells limits items contents bytes [] s whole d first all = (data_stops limits items contents bytes s whole d first all).tells
 rest_tells limits items contents bytes (bit ∷ bits) s whole h first all = half_tells limits items contents bytes (bit ∷ bits) s whole h first all
 
 pub inside_tells : (limits : Limits) (bytes : List ℕ) (w : FileWork) (rows : RowWork) (whole : Picture) → (r : RowsInside limits bytes w rows whole) → PlaceTells limits r.items r.contents bytes whole (scan_left r.scan.work)
@@ -124,9 +125,6 @@ pub real_in_row : (f : Frame) (i x y : ℕ) → i < length f.components → x < 
 real_in_row f i x y there across down = ap (λ b. b && nat_lt y (blocks_down f (component_at f i))) (lt_yes x (blocks_across f (component_at f i)) across) ∙ lt_yes y (blocks_down f (component_at f i)) down
 
 -- it is in the row's padded grids
-one_up : (n d : ℕ) → 1 ≤ n → 1 ≤ d → 1 ≤ div_up n d
-one_up n d some low = (le-div_iff_mul-le low).1 (omega (arith, some, low))
-
 pub padded_in : (f : Frame) (i x y : ℕ) → IsFrame f → i < length f.components → x < blocks_across f (component_at f i) → y < rows_in_mcu f i → is_padded (mcu_row_frame f) i x y ≡ true
 padded_in f i x y is there across low =
     let c = component_at f i in

@@ -98,13 +98,6 @@ none_at_fault limits front byte fault shown none before contents b = by (cases_l
 
 -- THE FIRST SCAN HEADER
 
--- the frame is kept
-pub none_unheld : (limits : Limits) (bytes : List ℕ) (w : FileWork) → HeadStands limits bytes w → w.reading.items.held.frame ≡ None → ⊥
-none_unheld limits bytes w h none =
-    let allowed = subst (λ n. code_fault (segments_of h.items) n ≡ None) h.code (h.at).allowed in
-    let held = frame_held limits h.items h.blocks w.reading.items.held.frame ((h.at).at).leads ((h.at).holds).frame (framed (segments_of h.items) allowed) in
-    clash (is_some w.reading.items.held.frame) (ap is_some held.has) (ap is_some none)
-
 -- it is of another scan
 pub none_other : (limits : Limits) (bytes : List ℕ) (w : FileWork) (f : Frame) (head : ScanHead) (contents : List ℕ) → (h : HeadStands limits bytes w) → w.reading.items.held.frame ≡ Some f → contents ≡ contents_held w
     → JudgesHead contents f (told_by w.reading.items.held) w.begun (Ok head) → (is_progressive f.process ≡ false → length head.parts ≡ length f.components → ⊥) → IsScanOfAll limits (segments_of h.items) (contents_held w) → ⊥
@@ -148,11 +141,8 @@ none_in limits bytes None none = none
 none_in limits bytes (Some rows) none = tt
 
 pub none_after : (limits : Limits) (bytes : List ℕ) (answer : Step) (rows : Option RowWork) → HasNoRows limits bytes → NoneAfter limits bytes answer rows
-none_after limits bytes step.More rows none = none_in limits bytes rows none
-none_after limits bytes step.Row rows none = none_in limits bytes rows none
-none_after limits bytes step.Whole rows none = none_in limits bytes rows none
-none_after limits bytes (step.Ended (stop.Fault f)) rows none = none_in limits bytes rows none
 none_after limits bytes (step.Ended stop.NoMemory) rows none = tt
+none_after limits bytes other rows none = none_in limits bytes rows none
 
 -- a scan that doesn't begin
 pub none_begun : (limits : Limits) (front : List ℕ) (byte : ℕ) (w : FileWork) (e : Stop) (rows : Option RowWork) → AfterScanBegins limits (front ++ byte ∷ []) (Err e) w → HasNoRows limits front → NoneAfter limits (front ++ byte ∷ []) (step.Ended e) rows

@@ -5,7 +5,7 @@ use Rattle.std.proofs.Math.Nat.{add-mul}
 use Rattle.std.proofs.lemmas.Bool.Decides.{nat_tests}
 use Rattle.std.proofs.lemmas.List.{append_assoc, append-nil, length-append, take_all}
 use Rattle.std.proofs.lemmas.List.Elements.{All-head}
-use Rattle.jpg_spec.specs.Bits.{bits_of, bits_of_bytes}
+use Rattle.jpg_spec.specs.Bits.{bits_of_bytes}
 use Rattle.jpg_spec.specs.Lists.{joined}
 use Rattle.jpg_spec.specs.Elements.{Standing, at_start, UnitLeft}
 use Rattle.jpg_spec.specs.Geometry.{Frame, units}
@@ -22,7 +22,7 @@ use Rattle.jpg_spec.specs.RowLaws.{HasNoMoreData, StopsInRows, TellsNoMore}
 use Rattle.jpg_spec.specs.declared.frame.Limits.{Limits}
 use Rattle.jpg_spec.specs.declared.frame.Place.{Place}
 use Rattle.jpg_spec.proofs.Values.{covers_then}
-use Rattle.jpg_spec.proofs.DataFacts.{bits_join, completes_holds}
+use Rattle.jpg_spec.proofs.DataFacts.{completes_holds}
 use Rattle.jpg_spec.proofs.PictureInWork.{so_far_units}
 use Rattle.jpg_spec.proofs.PlacesDistinct.{units_distinct}
 use Rattle.jpg_spec.proofs.RowCounts.{length_rows}
@@ -34,7 +34,6 @@ use Rattle.jpg_base.specs.Cursor.{scan_mcus_down}
 use Rattle.jpg_base.proofs.UnitCounts.{length_units}
 use Rattle.jpg_coefs.specs.Picture.{Picture, map_of}
 use Rattle.jpg_coefs.specs.Machine.{Interval, units_of}
-use Rattle.jpg_coefs.proofs.Chains.{chain_stands}
 use Rattle.jpg_seq.specs.Coder.{env_in}
 use Rattle.jpg_seq.specs.Reader.{IsPlaceReadable, SeqStands, new_units_at, prediction_at}
 use Rattle.jpg_seq.specs.Rows.{row_units}
@@ -54,9 +53,12 @@ use Rattle.jpg_file.specs.declared.read.machine.ScanReader.TheVariants.{Sequenti
 use Rattle.jpg_file.specs.declared.read.rows.RowWork.{RowWork}
 use Rattle.jpg_file.specs.declared.read.scan.InScan.{InScan}
 use Rattle.jpg_file.specs.declared.read.scan.ScanWork.{ScanWork}
-use Rattle.jpg_file.proofs.RowsTold.{TellsAt, front_within, told_first, units_at, whole_at}
+use Rattle.jpg_file.proofs.RowsTold.{TellsAt, told_first, units_at, whole_at}
 use Rattle.jpg_file.proofs.ScanBytes.{due_at, read_at}
-use Rattle.jpg_file.proofs.StripRows.{data_due, due_by, half_due}
+use Rattle.jpg_file.proofs.StripRows.{interval_due}
+use Rattle.jpg_file.proofs.InIntervals.{of_half, of_work}
+use Rattle.jpg_spec.proofs.EarlyRows.{shorter_front}
+use Rattle.jpg_spec.proofs.Common.{not_zero}
 
 -- THE PLACE, and what is decoded there; `left` units are left
 pub record PlaceTells (limits : Limits) (items : List Item) (contents bytes : List ℕ) (whole : Picture) (left : ℕ) : Type 0 where
@@ -85,53 +87,18 @@ left_due w n is whole = ap (λ b. w.due + cond b 0 (any_scan.left w.machine)) wh
 pub left_whole : (w : ScanWork) → w.whole ≡ true → scan_left w ≡ w.due
 left_whole w whole = ap (λ b. w.due + cond b 0 (any_scan.left w.machine)) whole ∙ omega arith
 
--- no bits wait
-pub data_tells : (limits : Limits) (items : List Item) (contents bytes : List ℕ) (s : InScan) (whole : Picture) → InData limits items contents bytes s whole → IsFirstScan limits items → IsScanOfAll limits (segments_of items) contents
-    → PlaceTells limits items contents bytes whole (scan_left s.work)
-data_tells limits items contents bytes s whole d first all = by s.work.whole refl
-  where
-    p : ScanPlace
-    p = d.place
-
-    here : IsScanOfAll limits (segments_of (d.place).items) (d.place).contents
-    here = all_at limits items contents d.place d.of all
-
-    by : (b : Bool) → s.work.whole ≡ b → PlaceTells limits items contents bytes whole (scan_left s.work)
-    by false e =
-        let k = due_at limits d.place s.work whole e d.work in
-        let m = data_due limits items contents bytes s whole d e first in
-        let o = machine_stands s.work.machine m.machine k.interval (bits_of_bytes (d.place).coded) whole m.is k.stands in
-        let u = units_at limits d.place k.interval m.machine (bits_of_bytes (d.place).coded) [] whole (d.at).leads here (d.work).readable k.is k.so_far o (sym (append-nil (bits_of_bytes (d.place).coded))) in
-        let left = left_due s.work m.machine m.is e in
-        record { place = d.place; of = d.of; tail = replicate d.fill 255; at = d.at; of_all = here; told = u.at; left_is = omega (arith, u.left_is, left, (d.work).due) }
-    by true e =
-        let k = read_at limits d.place s.work whole e d.work in
-        let u = whole_at limits bytes (replicate d.fill 255) d.place (map_of whole) d.at here k.so_far in
-        let left = left_whole s.work e in
-        record { place = d.place; of = d.of; tail = replicate d.fill 255; at = d.at; of_all = here; told = u.at; left_is = omega (arith, u.left_is, left, (d.work).due) }
-
--- some wait
-pub half_tells : (limits : Limits) (items : List Item) (contents bytes : List ℕ) (waiting : List Bool) (s : InScan) (whole : Picture) → HalfData limits items contents bytes waiting s whole → IsFirstScan limits items → IsScanOfAll limits (segments_of items) contents
+-- some bits wait
+pub half_tells : (limits : Limits) (items : List Item) (contents bytes : List ℕ) (waiting : List Bool) (s : InScan) (whole : Picture)
+    → HalfData limits items contents bytes waiting s whole → IsFirstScan limits items → IsScanOfAll limits (segments_of items) contents
     → PlaceTells limits items contents bytes whole (scan_left s.work)
 half_tells limits items contents bytes waiting s whole h first all =
-    let p = h.place in
-    let q = with_byte p h.byte in
+    let p = with_byte h.place h.byte in
+    let d = of_half limits items contents bytes waiting s whole h in
     let here = all_at limits items contents p h.of all in
-    let k = due_at limits p h.old h.before h.due h.work in
-    let m = half_due limits items contents bytes waiting s whole h first in
-    let b = h.bits in
-    let bits = bits_of_bytes p.coded ++ b.0 in
-    let stands = chain_stands any_scan (h.old).machine s.work.machine h.before whole k.interval (bits_of_bytes p.coded) b.0 b.2 k.stands in
-    let o = machine_stands s.work.machine m.machine k.interval bits whole m.is stands in
-    let one : bits_of_bytes (h.byte ∷ []) ≡ bits_of 8 h.byte = append-nil (bits_of 8 h.byte) in
-    let cut : bits_of_bytes (p.coded ++ h.byte ∷ []) ≡ bits ++ waiting = bits_join p.coded (h.byte ∷ []) ∙ ap (λ z. bits_of_bytes p.coded ++ z) (one ∙ b.1) ∙ sym (append_assoc (bits_of_bytes p.coded) b.0 waiting) in
-    let is : IsInterval limits q k.interval = record { scan = (k.is).scan; places = (k.is).places; later = (k.is).later } in
-    let readable : IsReadable limits q = record { distinct = ((h.work).readable).distinct } in
-    let u = units_at limits q k.interval m.machine bits waiting whole (h.at).leads here readable is k.so_far o cut in
-    let whole_is : s.work.whole ≡ false = ap (λ (w : ScanWork). w.whole) h.same ∙ h.due in
-    let due : s.work.due ≡ (h.old).due = ap (λ (w : ScanWork). w.due) h.same in
-    let left = left_due s.work m.machine m.is whole_is in
-    record { place = q; of = h.of; tail = []; at = h.at; of_all = here; told = u.at; left_is = omega (arith, u.left_is, left, due, (h.work).due) }
+    let m = interval_due limits items contents p s.work whole waiting d h.of first in
+    let o = machine_stands s.work.machine m.machine d.interval d.taken whole m.is d.stands in
+    let u = units_at limits p d.interval m.machine d.taken waiting whole (h.at).leads here d.readable d.is d.so_far o d.cut in
+    record { place = p; of = h.of; tail = []; at = h.at; of_all = here; told = u.at; left_is = omega (arith, u.left_is, left_due s.work m.machine m.is d.whole, d.due) }
 
 -- NO MORE UNITS of the current interval are decoded
 
@@ -220,7 +187,7 @@ place_stops limits items contents bytes tail p w whole of at work last first all
     by : (b : Bool) → w.whole ≡ b → PlaceStops limits items contents bytes whole (scan_left w)
     by false e =
         let k = due_at limits p w whole e work in
-        let m = due_by limits items contents p k.interval w (bits_of_bytes p.coded) whole of k.is k.so_far k.stands k.framed e work.due first in
+        let m = interval_due limits items contents p w whole [] (of_work limits p w whole e work) of first in
         let o = machine_stands w.machine m.machine k.interval (bits_of_bytes p.coded) whole m.is k.stands in
         let u = units_at limits p k.interval m.machine (bits_of_bytes p.coded) [] whole at.leads here work.readable k.is k.so_far o (sym (append-nil (bits_of_bytes p.coded))) in
         let left = left_due w m.machine m.is e in
@@ -260,10 +227,7 @@ rows_long f ids n = length_rows f ids n ∙ ap (λ k. n * k) (length_row f ids 0
 first_of : (f : Frame) (ids : List ℕ) (places rest : List Place) (m : ℕ) → units f ids ≡ places ++ rest → m ≤ scan_mcus_down f ids → m * row_units f ids ≤ length places → (more : List Place) × (places ≡ first_rows f ids m ++ more)
 first_of f ids places rest m all few low =
     let r = rows_more f ids m (scan_mcus_down f ids) few in
-    front_within places (first_rows f ids m) rest r.0 (sym all ∙ units_by_row f ids ∙ r.1) (omega (arith, rows_long f ids m, low))
-
-some_left : (n : ℕ) → (suc n == 0) ≡ false
-some_left n = grind (arith, nat_tests)
+    shorter_front places (first_rows f ids m) rest r.0 (sym all ∙ units_by_row f ids ∙ r.1) (omega (arith, rows_long f ids m, low))
 
 pub rows_cut : (f : Frame) (ids : List ℕ) (rows : RowWork) (left : ℕ) (places rest : List Place) → IsRowAt f ids rows left → units f ids ≡ places ++ rest → length rest ≡ left → 1 ≤ length (units f ids) → RowCut f ids rows places
 rows_cut f ids rows left places rest at all size some = by rows.left refl
@@ -301,7 +265,7 @@ rows_cut f ids rows left places rest at all size some = by rows.left refl
         record { m = at.row + 1; count = omega (arith, due, at.count); more = c.0; first = c.1; few = omega (arith, rows_long f ids (at.row + 1 + 1), after, count, e, one) }
     by (suc n) e =
         let c = first_of f ids places rest at.row all (omega (arith, at.count)) (omega (arith, count, e, at.few, at.size)) in
-        let due : unfinished rows ≡ rows.later + 1 = ap (λ n. rows.later + cond (n == 0) 0 1) e ∙ ap (λ b. rows.later + cond b 0 1) (some_left n) in
+        let due : unfinished rows ≡ rows.later + 1 = ap (λ n. rows.later + cond (n == 0) 0 1) e ∙ ap (λ b. rows.later + cond b 0 1) (not_zero n) in
         record { m = at.row; count = omega (arith, due, at.count); more = c.0; first = c.1; few = omega (arith, rows_long f ids (at.row + 1), next, count, e) }
 
 -- THE HEADER

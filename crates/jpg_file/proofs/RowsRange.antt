@@ -3,7 +3,6 @@ use Rattle.std.proofs.Common.{◌≡◌, ℕ, zero, suc, ◌+◌, Bool, true, fa
 use Rattle.std.specs.Prelude.{◌||◌, flat_map, int_le, map, nat_abs, replicate}
 use Rattle.std.proofs.lemmas.Bool.Decides.{nat_tests}
 use Rattle.std.proofs.lemmas.List.{append_assoc, append-nil, length-replicate, take_all}
-use Rattle.jpg_spec.specs.Bits.{bits_of_bytes}
 use Rattle.jpg_spec.specs.Lists.{any_of, joined}
 use Rattle.jpg_spec.specs.Geometry.{Frame, bounds, bounds_of, is_progressive}
 use Rattle.jpg_spec.specs.InForce.{head_in}
@@ -14,30 +13,30 @@ use Rattle.jpg_spec.specs.FileMeaning.{Leads}
 use Rattle.jpg_spec.specs.PictureInWork.{OnlyChanges, ScanSoFar, is_at}
 use Rattle.jpg_spec.specs.Ranges.{AreInRange, is_coefficient}
 use Rattle.jpg_spec.specs.RowsTold.{TellsFirst}
-use Rattle.jpg_spec.specs.ScanReading.{ScanPlace, scan_at}
+use Rattle.jpg_spec.specs.ScanReading.{ScanPlace, scan_at, with_byte}
 use Rattle.jpg_spec.specs.declared.frame.Limits.{Limits}
 use Rattle.jpg_spec.specs.declared.frame.Place.{Place}
 use Rattle.jpg_spec.proofs.BlocksOnce.{length_band}
 use Rattle.jpg_spec.proofs.Common.{both, same_of}
-use Rattle.jpg_spec.proofs.Ranges.{PlacesWithin, leads_in_range}
+use Rattle.jpg_spec.proofs.Ranges.{PlacesWithin, leads_in_range, at_place, zero_in}
 use Rattle.jpg_spec.proofs.Rows.{append_apart}
 use Rattle.jpg_spec.proofs.Within.{AreWithin, ends_one, step}
 use Rattle.jpg_coefs.specs.Picture.{Picture, block_in, is_padded, map_of}
 use Rattle.jpg_coefs.specs.Machine.{Interval}
-use Rattle.jpg_coefs.proofs.Chains.{chain_stands}
 use Rattle.jpg_seq.specs.Reader.{SeqStands, new_units_at}
 use Rattle.jpg_seq.specs.Rows.{IsRowOf, top_of}
 use Rattle.jpg_seq.specs.declared.reader.SeqReader.{SeqReader}
-use Rattle.jpg_file.specs.Read.InData.{InData, frame_at}
-use Rattle.jpg_file.specs.Read.Machine.{any_scan}
-use Rattle.jpg_file.specs.Read.RowData.{HalfData, InRowData}
+use Rattle.jpg_file.specs.Read.InData.{frame_at}
+use Rattle.jpg_file.specs.Read.RowData.{InRowData}
 use Rattle.jpg_file.specs.Read.Strips.{IsFirstScan, RowIsWhole, RowsInside, frame_behind}
 use Rattle.jpg_file.specs.declared.read.file.FileWork.{FileWork}
 use Rattle.jpg_file.specs.declared.read.rows.RowWork.{RowWork}
 use Rattle.jpg_file.specs.declared.read.scan.InScan.{InScan}
 use Rattle.jpg_file.proofs.RowsPlaced.{machine_stands}
-use Rattle.jpg_file.proofs.ScanBytes.{due_at, read_at}
-use Rattle.jpg_file.proofs.StripRows.{data_due, half_due}
+use Rattle.jpg_file.proofs.ScanBytes.{read_at}
+use Rattle.jpg_file.proofs.StripRows.{interval_due}
+use Rattle.jpg_file.proofs.InIntervals.{InInterval, of_half, of_work}
+use Rattle.jpg_file.specs.declared.read.scan.ScanWork.{ScanWork}
 
 -- UNITS THAT ARE LEFT may all be zero
 
@@ -104,13 +103,6 @@ intervals_told s before after (p ∷ all) (c ∷ intervals) run range sizes k =
 
 -- A BLOCK in the bounds
 
-zero_in : (k : ℕ) → is_coefficient (bounds_of 8) k (pos 0) ≡ true
-zero_in k = by (k == 0)
-  where
-    by : (b : Bool) → cond b (int_le (bounds_of 8).dc_low (pos 0) && int_le (pos 0) (bounds_of 8).dc_high) (int_le (pos (nat_abs (pos 0))) (bounds_of 8).ac) ≡ true
-    by true = refl
-    by false = refl
-
 rest_in : (l : List ℤ) (k : ℕ) → are_in_bounds (bounds_of 8) false l ≡ true → int_le (pos (nat_abs (get_or l k (pos 0)))) (bounds_of 8).ac ≡ true
 rest_in [] k e = refl
 rest_in (v ∷ l) zero e = (both (int_le (pos (nat_abs v)) (bounds_of 8).ac) (are_in_bounds (bounds_of 8) false l) e).0
@@ -124,21 +116,6 @@ block_in_range (v ∷ l) (suc k) e =
     let some : (suc k == 0) ≡ false = grind (arith, nat_tests) in
     ap (λ t. cond t (int_le (bounds_of 8).dc_low w && int_le w (bounds_of 8).dc_high) (int_le (pos (nat_abs w)) (bounds_of 8).ac)) some
     ∙ rest_in l k (both (int_le (bounds_of 8).dc_low v && int_le v (bounds_of 8).dc_high) (are_in_bounds (bounds_of 8) false l) e).1
-
--- the one at a place
-at_place : (s : Scan) (after : Blocks) (places : List Place) (i x y : ℕ) → PlacesWithin s after places → any_of (is_at i x y) places ≡ true → are_in_bounds s.coding.bounds (s.ss == 0) (band s (after i x y)) ≡ true
-at_place s after [] i x y w h = cc
-at_place s after (p ∷ places) i x y w h = by (is_at i x y p) refl h (at_place s after places i x y w.1)
-  where
-    by : (b : Bool) → is_at i x y p ≡ b → (b || any_of (is_at i x y) places) ≡ true → (any_of (is_at i x y) places ≡ true → are_in_bounds s.coding.bounds (s.ss == 0) (band s (after i x y)) ≡ true)
-        → are_in_bounds s.coding.bounds (s.ss == 0) (band s (after i x y)) ≡ true
-    by true e g later =
-        let u = both (p.component == i && p.x == x) (p.y == y) e in
-        let v = both (p.component == i) (p.x == x) u.0 in
-        subst (λ n. are_in_bounds s.coding.bounds (s.ss == 0) (band s (after i x n)) ≡ true) (same_of p.y y u.1)
-        (subst (λ n. are_in_bounds s.coding.bounds (s.ss == 0) (band s (after i n p.y)) ≡ true) (same_of p.x x v.1)
-        (subst (λ n. are_in_bounds s.coding.bounds (s.ss == 0) (band s (after n p.x p.y)) ≡ true) (same_of p.component i v.0) w.0))
-    by false e g later = later g
 
 -- a scan of complete blocks
 record IsWholeScan (s : Scan) : Type 0 where
@@ -198,40 +175,27 @@ units_in_range n i bits now w o old =
 sequential_at : (limits : Limits) (items : List Item) (p : ScanPlace) → p.items ≡ items → IsFirstScan limits items → is_progressive (frame_at limits p).process ≡ false
 sequential_at limits items p same first = subst (λ (l : List Item). is_progressive (frame_behind limits l).process ≡ false) (sym same) first.sequential
 
-data_in_range : (limits : Limits) (items : List Item) (contents bytes : List ℕ) (s : InScan) (whole : Picture) → InData limits items contents bytes s whole → IsFirstScan limits items → AreInRange (bounds_of 8) (map_of whole)
-data_in_range limits items contents bytes s whole d first = by s.work.whole refl
-  where
-    e : is_progressive (frame_at limits d.place).process ≡ false
-    e = sequential_at limits items d.place (d.of).0 first
+interval_in_range : (limits : Limits) (items : List Item) (contents : List ℕ) (p : ScanPlace) (w : ScanWork) (whole : Picture) (rest : List Bool)
+    → InInterval limits p w whole rest → (p.items ≡ items) × (p.contents ≡ contents) → Leads limits p.items p.blocks → IsFirstScan limits items
+    → AreInRange (bounds_of 8) (map_of whole)
+interval_in_range limits items contents p w whole rest d of leads first =
+    let e = sequential_at limits items p of.0 first in
+    let m = interval_due limits items contents p w whole rest d of first in
+    let o = machine_stands w.machine m.machine d.interval d.taken whole m.is d.stands in
+    let x = subst (λ (t : Scan). IsWholeScan t) (sym (d.is).scan) (whole_scan limits p e) in
+    units_in_range m.machine d.interval d.taken whole x o (so_far_in_range limits p (map_of (d.interval).before) p.done (p.places ∷ p.later) e leads d.so_far)
 
+rest_in_range : (limits : Limits) (items : List Item) (contents bytes : List ℕ) (waiting : List Bool) (s : InScan) (whole : Picture)
+    → InRowData limits items contents bytes waiting s whole → IsFirstScan limits items → AreInRange (bounds_of 8) (map_of whole)
+rest_in_range limits items contents bytes [] s whole d first = by s.work.whole refl
+  where
     by : (b : Bool) → s.work.whole ≡ b → AreInRange (bounds_of 8) (map_of whole)
     by true is =
-        let k = read_at limits d.place s.work whole is d.work in
-        so_far_in_range limits d.place (map_of whole) ((d.place).done ++ (d.place).coded ∷ []) (d.place).later e (d.at).leads k.so_far
-    by false is =
-        let k = due_at limits d.place s.work whole is d.work in
-        let m = data_due limits items contents bytes s whole d is first in
-        let o = machine_stands s.work.machine m.machine k.interval (bits_of_bytes (d.place).coded) whole m.is k.stands in
-        let w = subst (λ (t : Scan). IsWholeScan t) (sym (k.is).scan) (whole_scan limits d.place e) in
-        units_in_range m.machine k.interval (bits_of_bytes (d.place).coded) whole w o
-        (so_far_in_range limits d.place (map_of (k.interval).before) (d.place).done ((d.place).places ∷ (d.place).later) e (d.at).leads k.so_far)
-
-half_in_range : (limits : Limits) (items : List Item) (contents bytes : List ℕ) (waiting : List Bool) (s : InScan) (whole : Picture) → HalfData limits items contents bytes waiting s whole → IsFirstScan limits items → AreInRange (bounds_of 8) (map_of whole)
-half_in_range limits items contents bytes waiting s whole h first =
-    let p = h.place in
-    let e = sequential_at limits items p (h.of).0 first in
-    let k = due_at limits p h.old h.before h.due h.work in
-    let m = half_due limits items contents bytes waiting s whole h first in
-    let b = h.bits in
-    let bits = bits_of_bytes p.coded ++ b.0 in
-    let stands = chain_stands any_scan (h.old).machine s.work.machine h.before whole k.interval (bits_of_bytes p.coded) b.0 b.2 k.stands in
-    let o = machine_stands s.work.machine m.machine k.interval bits whole m.is stands in
-    let w = subst (λ (t : Scan). IsWholeScan t) (sym (k.is).scan) (whole_scan limits p e) in
-    units_in_range m.machine k.interval bits whole w o (so_far_in_range limits p (map_of (k.interval).before) p.done (p.places ∷ p.later) e (h.at).leads k.so_far)
-
-rest_in_range : (limits : Limits) (items : List Item) (contents bytes : List ℕ) (waiting : List Bool) (s : InScan) (whole : Picture) → InRowData limits items contents bytes waiting s whole → IsFirstScan limits items → AreInRange (bounds_of 8) (map_of whole)
-rest_in_range limits items contents bytes [] s whole d first = data_in_range limits items contents bytes s whole d first
-rest_in_range limits items contents bytes (bit ∷ bits) s whole h first = half_in_range limits items contents bytes (bit ∷ bits) s whole h first
+        let p = d.place in
+        so_far_in_range limits p (map_of whole) (p.done ++ p.coded ∷ []) p.later (sequential_at limits items p (d.of).0 first) (d.at).leads (read_at limits p s.work whole is d.work).so_far
+    by false is = interval_in_range limits items contents d.place s.work whole [] (of_work limits d.place s.work whole is d.work) d.of (d.at).leads first
+rest_in_range limits items contents bytes (bit ∷ bits) s whole h first =
+    interval_in_range limits items contents (with_byte h.place h.byte) s.work whole (bit ∷ bits) (of_half limits items contents bytes (bit ∷ bits) s whole h) h.of (h.at).leads first
 
 -- THE MCU ROW: the blocks of its padded grids are those of the picture, and all others are zero
 row_in_range : (tops : List ℕ) (whole row : Picture) → IsRowOf tops whole row → AreInRange (bounds_of 8) (map_of whole) → AreInRange (bounds_of 8) (map_of row)

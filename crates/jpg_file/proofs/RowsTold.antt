@@ -142,10 +142,3 @@ told_first limits p told t =
     let s = scan_at limits p in
     sym (joined_chunks s.interval s.places) ∙ ap joined t.chunked ∙ joined_join t.front (p.places ∷ p.later) ∙ ap (λ l. joined t.front ++ (l ++ joined p.later)) t.cut
     ∙ ap (λ l. joined t.front ++ l) (append_assoc t.part t.rest (joined p.later)) ∙ sym (append_assoc (joined t.front) t.part (t.rest ++ joined p.later))
-
--- a shorter prefix of the same list
-pub front_within : {A : Type 0} (a b x y : List A) → a ++ x ≡ b ++ y → length b ≤ length a → (more : List A) × (a ≡ b ++ more)
-front_within a b x y e few =
-    let n = length b in
-    let is : take n a ≡ b = sym (take-append-le n a x few) ∙ ap (take n) e ∙ take-append-le n b y (omega arith) ∙ take_all n b (omega arith) in
-    (drop n a, sym (take-append-drop n a) ∙ ap (λ l. l ++ drop n a) is)

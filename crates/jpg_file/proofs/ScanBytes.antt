@@ -77,81 +77,76 @@ due_units limits p m now r d =
 abbrev pub with_bytes : ScanPlace → List ℕ → ScanPlace
 with_bytes p more = record p { coded = p.coded ++ more }
 
--- a chain of their bits
-pub due_chain : (limits : Limits) (p : ScanPlace) (run : List ℕ) (w : ScanWork) (m : ScanReader) (now after : Picture) → w.whole ≡ false → AtWork limits p w now → Chain any_scan w.machine now (bits_of_bytes run) m after
-    → AtWork limits (with_bytes p run) (record w { machine = m; whole = false }) after
-due_chain limits p run w m now after e k chain =
-    let d = due_at limits p w now e k in
-    let due : Due limits (with_bytes p run) m after = record {
-      interval = d.interval;
-      is = record { scan = (d.is).scan; places = (d.is).places; later = (d.is).later };
-      framed = d.framed;
-      stands = subst (λ l. any_scan.stands m d.interval l after) (sym (bits_join p.coded run)) (chain_stands any_scan w.machine m now after d.interval (bits_of_bytes p.coded) (bits_of_bytes run) chain d.stands);
-      so_far = d.so_far;
-    } in
-    record {
-      readable = record { distinct = (k.readable).distinct };
-      at = due;
-      turn = k.turn;
-      due = k.due;
-      later = k.later;
-    }
+module _ (limits : Limits) (p : ScanPlace) (w : ScanWork) (now : Picture) (e : w.whole ≡ false) (k : AtWork limits p w now) where
+  -- the place with more data, by its interval
+  work_on : (run : List ℕ) (m : ScanReader) (over : Bool) (after : Picture) → AtInterval limits (with_bytes p run) over m after
+      → AtWork limits (with_bytes p run) (record w { machine = m; whole = over }) after
+  work_on run m over after at = record { readable = record { distinct = (k.readable).distinct }; at = at; turn = k.turn; due = k.due; later = k.later }
 
--- a byte
-due_more : (limits : Limits) (p : ScanPlace) (byte : ℕ) (w : ScanWork) (m : ScanReader) (now after : Picture) → w.whole ≡ false → AtWork limits p w now → Chain any_scan w.machine now (bits_of 8 byte) m after
-    → AtWork limits (with_byte p byte) (record w { machine = m; whole = false }) after
-due_more limits p byte w m now after e k chain =
-    due_chain limits p (byte ∷ []) w m now after e k (subst (λ z. Chain any_scan w.machine now z m after) (sym (append-nil (bits_of 8 byte))) chain)
+  -- a chain of their bits
+  pub due_chain : (run : List ℕ) (m : ScanReader) (after : Picture) → Chain any_scan w.machine now (bits_of_bytes run) m after
+      → AtWork limits (with_bytes p run) (record w { machine = m; whole = false }) after
+  due_chain run m after chain =
+      let d = due_at limits p w now e k in
+      let due : Due limits (with_bytes p run) m after = record {
+        interval = d.interval;
+        is = record { scan = (d.is).scan; places = (d.is).places; later = (d.is).later };
+        framed = d.framed;
+        stands = subst (λ l. any_scan.stands m d.interval l after) (sym (bits_join p.coded run)) (chain_stands any_scan w.machine m now after d.interval (bits_of_bytes p.coded) (bits_of_bytes run) chain d.stands);
+        so_far = d.so_far;
+      } in
+      work_on run m false after due
 
-due_fault : (limits : Limits) (bytes : List ℕ) (p : ScanPlace) (byte : ℕ) (w : ScanWork) (m : ScanReader) (now after : Picture) (f : UnitFault) → ScanAt limits bytes (with_byte p byte) [] → w.whole ≡ false → AtWork limits p w now
-    → AnswersIn any_scan w.machine now (bits_of 8 byte) (Err f) m after → Reveals limits (fault_of f) bytes
-due_fault limits bytes p byte w m now after f at e k (most, front, rest, cut, chain) =
-    let d = due_at limits p w now e k in
-    let i = d.interval in
-    let t = answer_to any_scan most w.machine m now after i (bits_of_bytes p.coded) front (Err f) chain d.stands in
-    bits_shown limits bytes p byte (fault_of f) front rest at cut
-    (of_place limits p i (λ c us. DataReveals c us (fault_of f) (bits_of_bytes p.coded ++ front)) k.readable d.is d.so_far t.0)
+  -- a byte
+  due_more : (byte : ℕ) (m : ScanReader) (after : Picture) → Chain any_scan w.machine now (bits_of 8 byte) m after
+      → AtWork limits (with_byte p byte) (record w { machine = m; whole = false }) after
+  due_more byte m after chain =
+      due_chain (byte ∷ []) m after (subst (λ z. Chain any_scan w.machine now z m after) (sym (append-nil (bits_of 8 byte))) chain)
 
-due_whole : (limits : Limits) (p : ScanPlace) (byte : ℕ) (w : ScanWork) (m : ScanReader) (now after : Picture) → w.whole ≡ false → AtWork limits p w now
-    → AnswersIn any_scan w.machine now (bits_of 8 byte) (Ok IntervalDone) m after → AtWork limits (with_byte p byte) (record w { machine = m; whole = true }) after
-due_whole limits p byte w m now after e k (most, front, rest, cut, chain) =
-    let d = due_at limits p w now e k in
-    let i = d.interval in
-    let s = scan_at limits p in
-    let bits = bits_of_bytes p.coded ++ front in
-    let some = some_taken any_scan most w.machine m now after front (Ok IntervalDone) chain in
-    let ends = answer_to any_scan most w.machine m now after i (bits_of_bytes p.coded) front (Ok IntervalDone) chain d.stands in
-    let whole : IsWholeInterval i bits after = ends.0 in
-    let distinct = distinct_places limits p k.readable in
-    let told : List ℤ = flat_map (λ q. band i.scan (block_at (map_of after) q)) i.places in
-    let spelled = of_place limits p i (λ c us. SpellsUnits c us told bits) k.readable d.is d.so_far (whole.read).spelled in
-    let read : IntervalRead s p.places (map_of i.before) (map_of after) bits =
-    subst (λ (q : Scan). IntervalRead q p.places (map_of i.before) (map_of after) bits) (d.is).scan (subst (λ l. IntervalRead i.scan l (map_of i.before) (map_of after) bits) (d.is).places whole.read) in
-    let packs = byte_packs p.coded byte front rest cut some in
-    let is_read : Read limits (with_byte p byte) m after = record {
-      interval = i;
-      is = record { scan = (d.is).scan; places = (d.is).places; later = (d.is).later };
-      fits = scans_keep_units.fits w.machine i (bits_of_bytes p.coded) now d.stands;
-      framed = whole.frame ∙ d.framed;
-      completes = bits_complete limits p byte front rest told cut some spelled;
-      so_far = so_far_next s p.blocks (map_of i.before) (map_of after) p.done (p.coded ++ byte ∷ []) bits p.places p.later distinct d.so_far packs read;
-      ready = ends.1;
-    } in
-    record {
-      readable = record { distinct = (k.readable).distinct };
-      at = is_read;
-      turn = k.turn;
-      due = k.due;
-      later = k.later;
-    }
+  due_fault : (bytes : List ℕ) (byte : ℕ) (m : ScanReader) (after : Picture) (f : UnitFault) → ScanAt limits bytes (with_byte p byte) []
+      → AnswersIn any_scan w.machine now (bits_of 8 byte) (Err f) m after → Reveals limits (fault_of f) bytes
+  due_fault bytes byte m after f at (most, front, rest, cut, chain) =
+      let d = due_at limits p w now e k in
+      let i = d.interval in
+      let t = answer_to any_scan most w.machine m now after i (bits_of_bytes p.coded) front (Err f) chain d.stands in
+      bits_shown limits bytes p byte (fault_of f) front rest at cut
+      (of_place limits p i (λ c us. DataReveals c us (fault_of f) (bits_of_bytes p.coded ++ front)) k.readable d.is d.so_far t.0)
 
-pub due_data : (limits : Limits) (bytes : List ℕ) (p : ScanPlace) (byte : ℕ) (w : ScanWork) (m : ScanReader) (now after : Picture) (answer : Taken) → ScanAt limits bytes (with_byte p byte) [] → w.whole ≡ false → AtWork limits p w now
-    → GivesBits any_scan w.machine now (bits_of 8 byte) answer [] m after → AfterData limits bytes (with_byte p byte) (scan_answer answer) (work_after w m answer) after
-due_data limits bytes p byte w m now after taken.More at e k (none, chain) = due_more limits p byte w m now after e k chain
-due_data limits bytes p byte w m now after taken.Units at e k (front, cut, chain) =
-    due_more limits p byte w m now after e k (subst (λ z. Chain any_scan w.machine now z m after) (sym (append-nil front) ∙ sym cut) chain)
-due_data limits bytes p byte w m now after taken.IntervalDone at e k (none, a) = due_whole limits p byte w m now after e k a
-due_data limits bytes p byte w m now after (taken.Fault f) at e k (none, a) = due_fault limits bytes p byte w m now after f at e k a
+  due_whole : (byte : ℕ) (m : ScanReader) (after : Picture) → AnswersIn any_scan w.machine now (bits_of 8 byte) (Ok IntervalDone) m after
+      → AtWork limits (with_byte p byte) (record w { machine = m; whole = true }) after
+  due_whole byte m after (most, front, rest, cut, chain) =
+      let d = due_at limits p w now e k in
+      let i = d.interval in
+      let s = scan_at limits p in
+      let bits = bits_of_bytes p.coded ++ front in
+      let some = some_taken any_scan most w.machine m now after front (Ok IntervalDone) chain in
+      let ends = answer_to any_scan most w.machine m now after i (bits_of_bytes p.coded) front (Ok IntervalDone) chain d.stands in
+      let whole : IsWholeInterval i bits after = ends.0 in
+      let distinct = distinct_places limits p k.readable in
+      let told : List ℤ = flat_map (λ q. band i.scan (block_at (map_of after) q)) i.places in
+      let spelled = of_place limits p i (λ c us. SpellsUnits c us told bits) k.readable d.is d.so_far (whole.read).spelled in
+      let read : IntervalRead s p.places (map_of i.before) (map_of after) bits =
+      subst (λ (q : Scan). IntervalRead q p.places (map_of i.before) (map_of after) bits) (d.is).scan (subst (λ l. IntervalRead i.scan l (map_of i.before) (map_of after) bits) (d.is).places whole.read) in
+      let packs = byte_packs p.coded byte front rest cut some in
+      let is_read : Read limits (with_byte p byte) m after = record {
+        interval = i;
+        is = record { scan = (d.is).scan; places = (d.is).places; later = (d.is).later };
+        fits = scans_keep_units.fits w.machine i (bits_of_bytes p.coded) now d.stands;
+        framed = whole.frame ∙ d.framed;
+        completes = bits_complete limits p byte front rest told cut some spelled;
+        so_far = so_far_next s p.blocks (map_of i.before) (map_of after) p.done (p.coded ++ byte ∷ []) bits p.places p.later distinct d.so_far packs read;
+        ready = ends.1;
+      } in
+      work_on (byte ∷ []) m true after is_read
+
+  pub due_data : (bytes : List ℕ) (byte : ℕ) (m : ScanReader) (after : Picture) (answer : Taken) → ScanAt limits bytes (with_byte p byte) []
+      → GivesBits any_scan w.machine now (bits_of 8 byte) answer [] m after
+      → AfterData limits bytes (with_byte p byte) (scan_answer answer) (work_after w m answer) after
+  due_data bytes byte m after taken.More at (none, chain) = due_more byte m after chain
+  due_data bytes byte m after taken.Units at (front, cut, chain) =
+      due_more byte m after (subst (λ z. Chain any_scan w.machine now z m after) (sym (append-nil front) ∙ sym cut) chain)
+  due_data bytes byte m after taken.IntervalDone at (none, a) = due_whole byte m after a
+  due_data bytes byte m after (taken.Fault f) at (none, a) = due_fault bytes byte m after f at a
 
 -- by what the machine's answer means
 pub as_stepped : (w new : ScanWork) (m : ScanReader) (taken : Taken) (answer : Result (Unit {0}) Fault) (P : Result (Unit {0}) Fault → ScanWork → Type 0) → answer ≡ scan_answer taken → new ≡ work_after w m taken
@@ -280,26 +275,6 @@ ff_bytes limits items contents bytes (suc n) s now d g =
     let same = subst (λ (b : Bool). InData limits items contents (bytes ++ 255 ∷ []) (record s { gate = b }) now) (sym g) one in
     subst (λ (b : List ℕ). InData limits items contents b s now) (append_assoc bytes (255 ∷ []) (replicate n 255)) (ff_bytes limits items contents (bytes ++ 255 ∷ []) n s now same g)
 
-pub data_at : (limits : Limits) (items : List Item) (contents bytes : List ℕ) (byte passed : ℕ) (s : InScan) (now : Picture) → (d : InData limits items contents bytes s now) → IsData s.gate byte passed
-    → ScanAt limits (bytes ++ byte ∷ []) (with_byte d.place passed) []
-data_at limits items contents bytes byte passed s now d k = by s.gate d.waits k
-  where
-    by : (g : Bool) → Waits g d.fill → IsData g byte passed → ScanAt limits (bytes ++ byte ∷ []) (with_byte d.place passed) []
-    by false none (other, is) =
-        subst (λ n. ScanAt limits (bytes ++ byte ∷ []) (with_byte d.place n) []) (sym is) (plain_data limits bytes d.place byte (subst (λ n. ScanAt limits bytes d.place (replicate n 255)) none d.at) other)
-    by true (n, some) (zero_byte, is) =
-        subst (λ m. ScanAt limits (bytes ++ byte ∷ []) (with_byte d.place m) []) (sym is)
-        (subst (λ m. ScanAt limits (bytes ++ m ∷ []) (with_byte d.place 255) []) (sym zero_byte) (stuffed_data limits bytes d.place n (subst (λ m. ScanAt limits bytes d.place (replicate m 255)) some d.at)))
-
-pub data_byte : (limits : Limits) (items : List Item) (contents bytes : List ℕ) (p : ScanPlace) (gate : Bool) (w : ScanWork) (now : Picture) (answer : Result (Unit {0}) Fault) → (p.items ≡ items) × (p.contents ≡ contents) → ScanAt limits bytes p [] → gate ≡ false
-    → AfterData limits bytes p answer w now → AfterBytes limits items contents bytes answer (record { gate = gate; work = w }) now
-data_byte limits items contents bytes p gate w now (Ok u) of at g k = record { place = p; of = of; fill = 0; at = at; waits = subst (λ b. Waits b 0) (sym g) refl; work = k }
-data_byte limits items contents bytes p gate w now (Err f) of at g k = k
-
-pub by_data : (limits : Limits) (items : List Item) (contents bytes : List ℕ) (byte : ℕ) (answer : Result (Unit {0}) Fault) (s : InScan) (now : Picture) → AfterBytes limits items contents bytes answer s now → AfterByte limits items contents bytes byte (byte_answer answer) s now
-by_data limits items contents bytes byte (Ok u) s now k = k
-by_data limits items contents bytes byte (Err f) s now k = k
-
 pub never_over : (answer : Result (Unit {0}) Fault) → byte_answer answer ≡ Ok true → ⊥
 never_over (Ok u) e = cc
 never_over (Err f) e = cc
@@ -308,37 +283,61 @@ never_over (Err f) e = cc
 pub last_framed : (limits : Limits) (p : ScanPlace) (w : ScanWork) (now : Picture) → w.whole ≡ true → AtWork limits p w now → now.frame ≡ frame_at limits p
 last_framed limits p w now e k = (read_at limits p w now e k).framed
 
-pub marker_at : (limits : Limits) (items : List Item) (contents bytes : List ℕ) (code : ℕ) (s : InScan) (now : Picture) → (d : InData limits items contents bytes s now) → s.gate ≡ true → (code ≡ 0 → ⊥) → (code ≡ 255 → ⊥)
-    → MarkerAt limits (bytes ++ code ∷ []) d.place code s.work now
-marker_at limits items contents bytes code s now d g z f =
-    let some = subst (λ b. Waits b d.fill) g d.waits in
-    record {
-      fill = some.0;
-      no_zero = z;
-      no_fill = f;
-      at = marker_data limits bytes d.place some.0 code (subst (λ m. ScanAt limits bytes d.place (replicate m 255)) some.1 d.at);
-      work = d.work;
-    }
+module _ (limits : Limits) (items : List Item) (contents bytes : List ℕ) where
+  pub data_at : (byte passed : ℕ) (s : InScan) (now : Picture) (d : InData limits items contents bytes s now) → IsData s.gate byte passed
+      → ScanAt limits (bytes ++ byte ∷ []) (with_byte d.place passed) []
+  data_at byte passed s now d k = by s.gate d.waits k
+    where
+      by : (g : Bool) → Waits g d.fill → IsData g byte passed → ScanAt limits (bytes ++ byte ∷ []) (with_byte d.place passed) []
+      by false none (other, is) =
+          subst (λ n. ScanAt limits (bytes ++ byte ∷ []) (with_byte d.place n) []) (sym is) (plain_data limits bytes d.place byte (subst (λ n. ScanAt limits bytes d.place (replicate n 255)) none d.at) other)
+      by true (n, some) (zero_byte, is) =
+          subst (λ m. ScanAt limits (bytes ++ byte ∷ []) (with_byte d.place m) []) (sym is)
+          (subst (λ m. ScanAt limits (bytes ++ m ∷ []) (with_byte d.place 255) []) (sym zero_byte) (stuffed_data limits bytes d.place n (subst (λ m. ScanAt limits bytes d.place (replicate m 255)) some d.at)))
 
-pub marker_byte : (limits : Limits) (items : List Item) (contents bytes : List ℕ) (p : ScanPlace) (n code : ℕ) (gate : Bool) (w : ScanWork) (now : Picture) (answer : Result Bool Fault) → (p.items ≡ items) × (p.contents ≡ contents) → (code ≡ 0 → ⊥) → (code ≡ 255 → ⊥)
-    → ScanAt limits bytes p (replicate (suc n) 255 ++ code ∷ []) → gate ≡ false → AfterMarker limits bytes p answer w now → AfterByte limits items contents bytes code answer (record { gate = gate; work = w }) now
-marker_byte limits items contents bytes p n code gate w now (Ok false) of z f at g (next, others, begun, k) =
-    record { place = with_interval p next others; of = of; fill = 0; at = begun; waits = subst (λ b. Waits b 0) (sym g) refl; work = k }
-marker_byte limits items contents bytes p n code gate w now (Ok true) of z f at g (framed, means) = record {
-  place = p;
-  of = of;
-  fill = n;
-  at = at;
-  marker = marker_code 0 code z f;
-  framed = framed ∙ ap (λ (i : List Item). frame_of limits (segments_of i)) of.0;
-  means = means;
-}
-marker_byte limits items contents bytes p n code gate w now (Err f) of z g at h k = k
+  pub data_byte : (p : ScanPlace) (gate : Bool) (w : ScanWork) (now : Picture) (answer : Result (Unit {0}) Fault) → (p.items ≡ items) × (p.contents ≡ contents)
+      → ScanAt limits bytes p [] → gate ≡ false → AfterData limits bytes p answer w now
+      → AfterBytes limits items contents bytes answer (record { gate = gate; work = w }) now
+  data_byte p gate w now (Ok u) of at g k = record { place = p; of = of; fill = 0; at = at; waits = subst (λ b. Waits b 0) (sym g) refl; work = k }
+  data_byte p gate w now (Err f) of at g k = k
 
--- INSIDE DATA the bytes have no fault
-pub data_stands : (limits : Limits) (items : List Item) (contents bytes : List ℕ) (s : InScan) (now : Picture) → InData limits items contents bytes s now → UnfinishedFile limits bytes
-data_stands limits items contents bytes s now d = by s.work.whole (d.work).at
-  where
-    by : (b : Bool) → AtInterval limits d.place b s.work.machine now → UnfinishedFile limits bytes
-    by false k = (let u = due_units limits d.place s.work.machine now (d.work).readable k in units_due limits bytes d.place d.fill u.told u.left d.at u.stands)
-    by true k = complete_stands limits bytes d.place d.fill d.at k.completes
+  pub by_data : (byte : ℕ) (answer : Result (Unit {0}) Fault) (s : InScan) (now : Picture) → AfterBytes limits items contents bytes answer s now
+      → AfterByte limits items contents bytes byte (byte_answer answer) s now
+  by_data byte (Ok u) s now k = k
+  by_data byte (Err f) s now k = k
+
+  pub marker_at : (code : ℕ) (s : InScan) (now : Picture) (d : InData limits items contents bytes s now) → s.gate ≡ true → (code ≡ 0 → ⊥) → (code ≡ 255 → ⊥)
+      → MarkerAt limits (bytes ++ code ∷ []) d.place code s.work now
+  marker_at code s now d g z f =
+      let some = subst (λ b. Waits b d.fill) g d.waits in
+      record {
+        fill = some.0;
+        no_zero = z;
+        no_fill = f;
+        at = marker_data limits bytes d.place some.0 code (subst (λ m. ScanAt limits bytes d.place (replicate m 255)) some.1 d.at);
+        work = d.work;
+      }
+
+  pub marker_byte : (p : ScanPlace) (n code : ℕ) (gate : Bool) (w : ScanWork) (now : Picture) (answer : Result Bool Fault)
+      → (p.items ≡ items) × (p.contents ≡ contents) → (code ≡ 0 → ⊥) → (code ≡ 255 → ⊥) → ScanAt limits bytes p (replicate (suc n) 255 ++ code ∷ [])
+      → gate ≡ false → AfterMarker limits bytes p answer w now → AfterByte limits items contents bytes code answer (record { gate = gate; work = w }) now
+  marker_byte p n code gate w now (Ok false) of z f at g (next, others, begun, k) =
+      record { place = with_interval p next others; of = of; fill = 0; at = begun; waits = subst (λ b. Waits b 0) (sym g) refl; work = k }
+  marker_byte p n code gate w now (Ok true) of z f at g (framed, means) = record {
+    place = p;
+    of = of;
+    fill = n;
+    at = at;
+    marker = marker_code 0 code z f;
+    framed = framed ∙ ap (λ (i : List Item). frame_of limits (segments_of i)) of.0;
+    means = means;
+  }
+  marker_byte p n code gate w now (Err f) of z g at h k = k
+
+  -- INSIDE DATA the bytes have no fault
+  pub data_stands : (s : InScan) (now : Picture) → InData limits items contents bytes s now → UnfinishedFile limits bytes
+  data_stands s now d = by s.work.whole (d.work).at
+    where
+      by : (b : Bool) → AtInterval limits d.place b s.work.machine now → UnfinishedFile limits bytes
+      by false k = (let u = due_units limits d.place s.work.machine now (d.work).readable k in units_due limits bytes d.place d.fill u.told u.left d.at u.stands)
+      by true k = complete_stands limits bytes d.place d.fill d.at k.completes

@@ -21,7 +21,7 @@ use Rattle.jpg_spec_write.proofs.PlacedBlocks.{block_due}
 use Rattle.jpg_spec_write.proofs.WrittenSequential.{among_below}
 use Rattle.jpg_prog_write.specs.Counted.{HasSlots}
 use Rattle.jpg_file.proofs.SameUnits.{same_sizes, same_units}
-use Rattle.jpg_file.proofs.ScanHeads.{slots_at}
+use Rattle.jpg_prog_write.proofs.Counting.{slots_of}
 
 -- BY THE TABLES
 
@@ -41,7 +41,7 @@ pub data_same : (T U : ℕ → ℕ → HuffmanTable) (head : ScanHead) (interval
 unfolding scan_data
 data_same T U head intervals slots same =
     ap (λ (bits : Owned → List Bool). intervals_text 0 (map (λ elements. data_of (flat_map bits elements)) intervals))
-    (fun_ext (bits_same T U head (λ i. same 0 (part_of head i).dc (lit< tt) (slots_at head i slots).dc) (λ i. same 1 (part_of head i).ac (lit< tt) (slots_at head i slots).ac)))
+    (fun_ext (bits_same T U head (λ i. same 0 (part_of head i).dc (lit< tt) (slots_of head i slots).dc) (λ i. same 1 (part_of head i).ac (lit< tt) (slots_of head i slots).ac)))
 
 -- BY THE REAL BLOCKS only
 

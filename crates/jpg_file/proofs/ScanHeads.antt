@@ -53,15 +53,6 @@ head_slots is_prog colour e =
     let has_ac = needs_ac is_prog e.ss in
     All-map HasSlots (scan_part colour has_dc has_ac) e.components (λ k d h. slots_of colour has_dc has_ac (get_or e.components k d))
 
--- the slots of a component's part, or of none
-slots_or : (parts : List ScanPart) (n : ℕ) (d : ScanPart) → HasSlots d → All HasSlots parts → HasSlots (get_or parts n d)
-slots_or [] n d h all = h
-slots_or (p ∷ parts) zero d h all = All-head HasSlots p parts all
-slots_or (p ∷ parts) (suc n) d h all = slots_or parts n d h (All-tail HasSlots p parts all)
-
-pub slots_at : (head : ScanHead) (i : ℕ) → All HasSlots head.parts → HasSlots (part_of head i)
-slots_at head i all = slots_or head.parts _ (record { component = i; dc = 0; ac = 0 }) (record { dc = lit< tt; ac = lit< tt }) all
-
 -- THE TABLES that it needs
 
 abbrev part_needs : Bool → Bool → ScanPart → List (ℕ × ℕ)

@@ -21,20 +21,18 @@ use Rattle.jpg_file.specs.declared.read.scan_history.ScanHistory.{ScanHistory}
 use Rattle.jpg_scans.specs.declared.progress.Progress.{Progress}
 use Rattle.jpg_file.specs.Read.SegmentState.{SegmentView, lacks_any, lacks_part}
 use Rattle.jpg_file.specs.Read.ScanHistory.{quant_named, HasBegun, StandsForHeads}
+use Rattle.std.proofs.lemmas.Bool.{or_from}
 
 -- AFTER A SEGMENT
 
 no_sos : (before : List Segment) (code : ℕ) → code_fault before code ≡ None → has_frame before ≡ false → (code == 0xda) ≡ false
 no_sos before code allowed none = not_same code 0xda (λ k. clash (has_frame before) (framed before (subst (λ c. code_fault before c ≡ None) k allowed)) none)
 
-both_false : (a b : Bool) → a ≡ false → b ≡ false → (a || b) ≡ false
-both_false a b e f = ap (λ t. t || b) e ∙ f
-
 unscanned : (limits : Limits) (items : List Item) (blocks : Blocks) → Leads limits items blocks → has_frame (segments_of items) ≡ false → has_scan (segments_of items) ≡ false
 unscanned limits [] blocks l none = refl
 unscanned limits (segment code contents ∷ items) blocks l none =
     let n = neither (is_frame_code code) (has_frame (segments_of items)) none in
-    both_false (code == 0xda) (has_scan (segments_of items)) (no_sos (segments_of items) code l.0 n.1) (unscanned limits items blocks l.2 n.1)
+    or_from (code == 0xda) (has_scan (segments_of items)) (no_sos (segments_of items) code l.0 n.1) (unscanned limits items blocks l.2 n.1)
 unscanned limits (scan contents intervals ∷ items) blocks l none =
     absurd (clash (has_frame (segments_of items)) (framed (segments_of items) l.1) (neither (is_frame_code 0xda) (has_frame (segments_of items)) none).1)
 

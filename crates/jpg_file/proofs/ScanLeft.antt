@@ -7,7 +7,6 @@ use Rattle.jpg_spec.specs.Scan.{Blocks}
 use Rattle.jpg_spec.specs.Markers.{Segment, SpellsMarker, SpellsSegment, kept_rule}
 use Rattle.jpg_spec.specs.Markers as markers
 use Rattle.jpg_spec.specs.Items.{Item, scan, segments_of}
-use Rattle.jpg_spec.specs.FirstFault.{Reveals}
 use Rattle.jpg_spec.specs.declared.frame.Limits.{Limits}
 use Rattle.jpg_spec.specs.declared.fault.FaultAt.{FaultAt}
 use Rattle.jpg_spec.proofs.ItemSteps.{same_tail, scan_left}
@@ -20,8 +19,10 @@ use Rattle.jpg_markers.specs.Reading.{Reading, StandsForSegments, AtPhase, IsBet
 use Rattle.jpg_file.specs.Read.InData.{EndsData}
 use Rattle.jpg_file.specs.Read.SegmentState.{SegmentView, Holds, told_by}
 use Rattle.jpg_file.specs.declared.read.items.Items.{Items}
-use Rattle.jpg_file.specs.Read.Items.{IsBeside, BetweenItems, AfterSegment, BehindEnd, BehindHead, AddsNoScan}
+use Rattle.jpg_file.specs.declared.read.items.ItemStep.TheVariants as came
+use Rattle.jpg_file.specs.Read.Items.{IsBeside, BetweenItems, AfterScan, AfterSegment, BehindHead}
 use Rattle.jpg_file.proofs.ItemBytes.{beside_fault}
+use Rattle.jpg_markers.specs.declared.segments.SegmentReader.{SegmentReader}
 
 -- A scan header changes nothing that is kept, except that a scan began.
 pub head_held : (limits : Limits) (h : SegmentView) (before : List Segment) (contents : List ℕ) → Holds limits h before → Holds limits (record h { scanned = true }) ((0xda, contents) ∷ before)
@@ -43,64 +44,9 @@ head_held limits h before contents k = record {
 abbrev pub sent_with : List ℕ → ℕ → List ℕ
 sent_with sent code = sent ++ 255 ∷ code ∷ []
 
-pub record Left (limits : Limits) (items : List Item) (contents bytes : List ℕ) (code : ℕ) (now : Picture) (w : Items) (k : BehindHead limits items contents w) : Type 0 where
+record Left (limits : Limits) (items : List Item) (contents bytes : List ℕ) (code : ℕ) (now : Picture) (w : Items) (k : BehindHead limits items contents w) : Type 0 where
   pub intervals : List (List ℕ)
   pub at : IsBeside limits bytes (sent_with k.sent code) (scan contents intervals ∷ items) (map_of now) (255 ∷ code ∷ [])
-
-pub left_at : (limits : Limits) (items : List Item) (contents bytes : List ℕ) (code : ℕ) (now : Picture) (w : Items) → (k : BehindHead limits items contents w) → EndsData limits items contents bytes code now → Left limits items contents bytes code now w k
-left_at limits items contents bytes code now w k e =
-    let r = reading_of w.segments in
-    let p = e.place in
-    let all : List Segment = (0xda, contents) ∷ segments_of items in
-    let (tail, between, seen, none) = subst (λ (q : Phase). AtPhase r q k.sent all) k.behind.1 k.stands.1 in
-    let b = subst (λ (l : Limits). markers.Between (kept_rule l) k.sent all tail) k.bounded.0 between in
-    let b0 = subst (λ t. markers.Between (kept_rule limits) k.sent all t) none b in
-    let b1 = subst (λ c. markers.Between (kept_rule limits) k.sent ((0xda, c) ∷ segments_of items) []) (sym e.of.1) b0 in
-    let b2 = subst (λ (i : List Item). markers.Between (kept_rule limits) k.sent ((0xda, p.contents) ∷ segments_of i) []) (sym e.of.0) b1 in
-    let s = scan_left limits (kept_rule limits) k.sent bytes p (map_of now) e.fill code e.at e.marker e.means b2 in
-    let at : IsBeside limits bytes (sent_with k.sent code) (scan p.contents (p.done ++ p.coded ∷ []) ∷ p.items) (map_of now) (255 ∷ code ∷ []) = record { beside = s.0; leads = s.1 } in
-    let a1 = subst (λ c. IsBeside limits bytes (sent_with k.sent code) (scan c (p.done ++ p.coded ∷ []) ∷ p.items) (map_of now) (255 ∷ code ∷ [])) e.of.1 at in
-    record { intervals = p.done ++ p.coded ∷ []; at = subst (λ (i : List Item). IsBeside limits bytes (sent_with k.sent code) (scan contents (p.done ++ p.coded ∷ []) ∷ i) (map_of now) (255 ∷ code ∷ [])) e.of.0 a1 }
-
--- THE ANSWERS
-pub left_more : (limits : Limits) (items : List Item) (contents bytes : List ℕ) (code : ℕ) (now : Picture) (w new : Items) → (k : BehindHead limits items contents w) → (l : Left limits items contents bytes code now w k)
-    → StandsForSegments (sent_with k.sent code) (segments_of (scan contents l.intervals ∷ items)) (reading_of new.segments) → (reading_of new.segments).limits ≡ (reading_of w.segments).limits → new.limits ≡ w.limits → told_by new.held ≡ told_by w.held
-    → (more : List Item) × AddsNoScan (scan contents l.intervals ∷ items) more × BetweenItems limits bytes more (map_of now) new
-left_more limits items contents bytes code now w new k l stands e f same = (
-  scan contents l.intervals ∷ items,
-  inl refl,
-  record {
-    sent = sent_with k.sent code;
-    stands = stands;
-    at = inr (255 ∷ code ∷ [], l.at);
-    bounded = (e ∙ k.bounded.0, f ∙ k.bounded.1);
-    holds = subst (λ h. Holds limits h ((0xda, contents) ∷ segments_of items)) (sym same) k.holds;
-  },
-)
-
-pub left_fault : (limits : Limits) (items : List Item) (contents bytes : List ℕ) (code : ℕ) (now : Picture) (w new : Items) (f : FaultAt) → (k : BehindHead limits items contents w) → (l : Left limits items contents bytes code now w k)
-    → Comes (sent_with k.sent code) (segments_of (scan contents l.intervals ∷ items)) (Err (stop.Fault f)) (reading_of new.segments) → (reading_of new.segments).limits ≡ (reading_of w.segments).limits
-    → Reveals limits f.fault bytes × (f.at ≡ (reading_of new.segments).taken)
-left_fault limits items contents bytes code now w new f k l c e =
-    let all : List Item = scan contents l.intervals ∷ items in
-    let shown = subst (λ (b : Limits). RevealsAfter (kept_rule b) (segments_of all) f.fault (sent_with k.sent code)) (e ∙ k.bounded.0) c.1 in
-    (beside_fault limits bytes (sent_with k.sent code) all (map_of now) (255 ∷ code ∷ []) f.fault l.at shown, c.2)
-
-pub left_end : (limits : Limits) (items : List Item) (contents bytes : List ℕ) (code : ℕ) (now : Picture) (w new : Items) → (k : BehindHead limits items contents w) → (l : Left limits items contents bytes code now w k)
-    → Comes (sent_with k.sent code) (segments_of (scan contents l.intervals ∷ items)) (Ok step.Eoi) (reading_of new.segments) → (reading_of new.segments).limits ≡ (reading_of w.segments).limits → told_by new.held ≡ told_by w.held
-    → BehindEnd limits bytes (scan contents l.intervals ∷ items) (map_of now) new
-left_end limits items contents bytes code now w new k l c e same =
-    let all : List Item = scan contents l.intervals ∷ items in
-    let ends = subst (λ (b : Limits). EndsAtEoi (kept_rule b) (segments_of all) (sent_with k.sent code)) (e ∙ k.bounded.0) c.1 in
-    let t = same_tail (kept_rule limits) (sent_with k.sent code) (segments_of all) (255 ∷ code ∷ []) ends.0 ((l.at).beside).between ends.1 in
-    record {
-      sent = sent_with k.sent code;
-      tail = 255 ∷ code ∷ [];
-      at = l.at;
-      ended = subst (λ z. SpellsMarker 0xd9 z) (sym t) ends.2;
-      allowed = ends.3;
-      holds = subst (λ h. Holds limits h ((0xda, contents) ∷ segments_of items)) (sym same) k.holds;
-    }
 
 -- a marker by itself is no complete segment
 segment_long : (code : ℕ) (contents bytes : List ℕ) → SpellsSegment code contents bytes → 4 ≤ length bytes
@@ -128,19 +74,63 @@ no_whole_marker limits sent before code c contents r e b p a = by p a
     by : (q : Phase) → AtPhase r q sent ((c, contents) ∷ before) → ⊥
     by phase.Empty k = let z : (c, contents) ∷ before ≡ [] = k.1 in cc
     by phase.HalfStart k = let z : (c, contents) ∷ before ≡ [] = k.1 in cc
-    by phase.Between k = within phase.Between k
-    by phase.Fill k = within phase.Fill k
-    by phase.Coded k = within phase.Coded k
-    by phase.HalfLength k = within phase.HalfLength k
-    by phase.Contents k = within phase.Contents k
     by phase.Ended k = k
+    by q k = within q k
 
-pub left_whole : (limits : Limits) (items : List Item) (contents bytes : List ℕ) (code : ℕ) (now : Picture) (w new : Items) → (k : BehindHead limits items contents w) → (l : Left limits items contents bytes code now w k)
-    → Comes (sent_with k.sent code) (segments_of (scan contents l.intervals ∷ items)) (Ok step.Whole) (reading_of new.segments) → (reading_of new.segments).limits ≡ (reading_of w.segments).limits → ⊥
-left_whole limits items contents bytes code now w new k l c e =
-    let all : List Item = scan contents l.intervals ∷ items in
-    let r = reading_of new.segments in
-    no_whole_marker limits (sent_with k.sent code) (segments_of all) code r.code r.contents r (e ∙ k.bounded.0) ((l.at).beside).between r.phase c.1.1
+module _ (limits : Limits) (items : List Item) (contents bytes : List ℕ) (code : ℕ) (now : Picture) (w : Items) (k : BehindHead limits items contents w) where
+  left_at : EndsData limits items contents bytes code now → Left limits items contents bytes code now w k
+  left_at e =
+      let r = reading_of w.segments in
+      let p = e.place in
+      let all : List Segment = (0xda, contents) ∷ segments_of items in
+      let (tail, between, seen, none) = subst (λ (q : Phase). AtPhase r q k.sent all) k.behind.1 k.stands.1 in
+      let b = subst (λ (l : Limits). markers.Between (kept_rule l) k.sent all tail) k.bounded.0 between in
+      let b0 = subst (λ t. markers.Between (kept_rule limits) k.sent all t) none b in
+      let b1 = subst (λ c. markers.Between (kept_rule limits) k.sent ((0xda, c) ∷ segments_of items) []) (sym e.of.1) b0 in
+      let b2 = subst (λ (i : List Item). markers.Between (kept_rule limits) k.sent ((0xda, p.contents) ∷ segments_of i) []) (sym e.of.0) b1 in
+      let s = scan_left limits (kept_rule limits) k.sent bytes p (map_of now) e.fill code e.at e.marker e.means b2 in
+      let at : IsBeside limits bytes (sent_with k.sent code) (scan p.contents (p.done ++ p.coded ∷ []) ∷ p.items) (map_of now) (255 ∷ code ∷ []) = record { beside = s.0; leads = s.1 } in
+      let a1 = subst (λ c. IsBeside limits bytes (sent_with k.sent code) (scan c (p.done ++ p.coded ∷ []) ∷ p.items) (map_of now) (255 ∷ code ∷ [])) e.of.1 at in
+      record { intervals = p.done ++ p.coded ∷ []; at = subst (λ (i : List Item). IsBeside limits bytes (sent_with k.sent code) (scan contents (p.done ++ p.coded ∷ []) ∷ i) (map_of now) (255 ∷ code ∷ [])) e.of.0 a1 }
+
+  -- THE ANSWERS of a reader of segments
+  abbrev sent : List ℕ
+  sent = sent_with k.sent code
+
+  abbrev before : List Segment
+  before = (0xda, contents) ∷ segments_of items
+
+  pub left_more : (s : SegmentReader) → EndsData limits items contents bytes code now → StandsForSegments sent before (reading_of s)
+      → (reading_of s).limits ≡ (reading_of w.segments).limits → AfterScan limits items contents bytes (map_of now) came.More (record w { segments = s })
+  left_more s e stands same =
+      let l = left_at e in
+      let next : BetweenItems limits bytes (scan contents l.intervals ∷ items) (map_of now) (record w { segments = s }) =
+      record { sent = sent; stands = stands; at = inr (255 ∷ code ∷ [], l.at); bounded = (same ∙ k.bounded.0, k.bounded.1); holds = k.holds } in
+      (l.intervals, (scan contents l.intervals ∷ items, inl refl, next), tt)
+
+  pub left_fault : (s : SegmentReader) (f : FaultAt) → EndsData limits items contents bytes code now → Comes sent before (Err (stop.Fault f)) (reading_of s)
+      → (reading_of s).limits ≡ (reading_of w.segments).limits → AfterScan limits items contents bytes (map_of now) (came.Fault f) (record w { segments = s })
+  left_fault s f e c same =
+      let l = left_at e in
+      let shown = subst (λ (b : Limits). RevealsAfter (kept_rule b) before f.fault sent) (same ∙ k.bounded.0) c.1 in
+      (l.intervals, (beside_fault limits bytes sent (scan contents l.intervals ∷ items) (map_of now) (255 ∷ code ∷ []) f.fault l.at shown, c.2), tt)
+
+  pub left_end : (s : SegmentReader) → EndsData limits items contents bytes code now → Comes sent before (Ok step.Eoi) (reading_of s)
+      → (reading_of s).limits ≡ (reading_of w.segments).limits → AfterScan limits items contents bytes (map_of now) came.Eoi (record w { segments = s })
+  left_end s e c same =
+      let l = left_at e in
+      let ends = subst (λ (b : Limits). EndsAtEoi (kept_rule b) before sent) (same ∙ k.bounded.0) c.1 in
+      let t = same_tail (kept_rule limits) sent before (255 ∷ code ∷ []) ends.0 ((l.at).beside).between ends.1 in (
+        l.intervals,
+        record { sent = sent; tail = 255 ∷ code ∷ []; at = l.at; ended = subst (λ z. SpellsMarker 0xd9 z) (sym t) ends.2; allowed = ends.3; holds = k.holds },
+        tt,
+      )
+
+  pub left_whole : (s : SegmentReader) → EndsData limits items contents bytes code now → Comes sent before (Ok step.Whole) (reading_of s)
+      → (reading_of s).limits ≡ (reading_of w.segments).limits → ⊥
+  left_whole s e c same =
+      let r = reading_of s in
+      no_whole_marker limits sent before code r.code r.contents r (same ∙ k.bounded.0) (((left_at e).at).beside).between r.phase c.1.1
 
 pub after_head : (limits : Limits) (bytes : List ℕ) (items : List Item) (blocks : Blocks) (w new : Items) → AfterSegment limits bytes items blocks w → (reading_of w.segments).code ≡ 0xda
     → reading_of new.segments ≡ reading_of w.segments → new.limits ≡ w.limits → told_by new.held ≡ record (told_by w.held) { scanned = true } → BehindHead limits items (reading_of w.segments).contents new

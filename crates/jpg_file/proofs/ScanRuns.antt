@@ -48,24 +48,28 @@ open_at limits items contents bytes s now d e = subst (λ n. ScanAt limits bytes
 abbrev pub mid_of : InScan → ScanReader → InScan
 mid_of s m = record s { work = record (s.work) { machine = m; whole = false } }
 
-pub before_last : (s : InScan) (m : ScanReader) (now between : Picture) (run : List ℕ) (early : ℕ) → s.gate ≡ false → s.work.whole ≡ false → early ≤ length run → ArePlain run → Chain any_scan s.work.machine now (bits_of_bytes (take early run)) m between
-    → (limits : Limits) (items : List Item) (contents bytes : List ℕ) → InData limits items contents bytes s now → InData limits items contents (bytes ++ take early run) (mid_of s m) between
-before_last s m now between run early gate whole few plain chain limits items contents bytes d =
-    record {
-      place = with_bytes d.place (take early run);
-      of = d.of;
-      fill = 0;
-      at = plain_at limits bytes d.place (take early run) (front_plain run early few plain) (open_at limits items contents bytes s now d gate);
-      waits = subst (λ b. Waits b 0) (sym gate) refl;
-      work = due_chain limits d.place (take early run) s.work m now between whole d.work chain;
-    }
+module _ (s : InScan) (now : Picture) (gate : s.gate ≡ false) (whole : s.work.whole ≡ false) where
+  pub before_last : (m : ScanReader) (between : Picture) (run : List ℕ) (early : ℕ) → early ≤ length run → ArePlain run
+      → Chain any_scan s.work.machine now (bits_of_bytes (take early run)) m between → (limits : Limits) (items : List Item) (contents bytes : List ℕ)
+      → InData limits items contents bytes s now → InData limits items contents (bytes ++ take early run) (mid_of s m) between
+  before_last m between run early few plain chain limits items contents bytes d =
+      record {
+        place = with_bytes d.place (take early run);
+        of = d.of;
+        fill = 0;
+        at = plain_at limits bytes d.place (take early run) (front_plain run early few plain) (open_at limits items contents bytes s now d gate);
+        waits = subst (λ b. Waits b 0) (sym gate) refl;
+        work = due_chain limits d.place s.work now whole d.work (take early run) m between chain;
+      }
 
--- THE LAST of them
-last_takes : (s : InScan) (m : ScanReader) (now after : Picture) (byte : ℕ) (answer : Taken) → s.gate ≡ false → s.work.whole ≡ false → (byte ≡ 255 → ⊥) → GivesBits any_scan s.work.machine now (bits_of 8 byte) answer [] m after
-    → (limits : Limits) (items : List Item) (contents bytes : List ℕ) → InData limits items contents bytes s now → AfterBytes limits items contents (bytes ++ byte ∷ []) (scan_answer answer) (record s { work = work_after (s.work) m answer }) after
-last_takes s m now after byte answer gate whole plain took limits items contents bytes d =
-    let at = plain_data limits bytes d.place byte (open_at limits items contents bytes s now d gate) plain in
-    data_byte limits items contents (bytes ++ byte ∷ []) (with_byte d.place byte) s.gate (work_after (s.work) m answer) after (scan_answer answer) d.of at gate (due_data limits (bytes ++ byte ∷ []) d.place byte s.work m now after answer at whole d.work took)
+  -- THE LAST of them
+  last_takes : (m : ScanReader) (after : Picture) (byte : ℕ) (answer : Taken) → (byte ≡ 255 → ⊥)
+      → GivesBits any_scan s.work.machine now (bits_of 8 byte) answer [] m after → (limits : Limits) (items : List Item) (contents bytes : List ℕ)
+      → InData limits items contents bytes s now
+      → AfterBytes limits items contents (bytes ++ byte ∷ []) (scan_answer answer) (record s { work = work_after (s.work) m answer }) after
+  last_takes m after byte answer plain took limits items contents bytes d =
+      let at = plain_data limits bytes d.place byte (open_at limits items contents bytes s now d gate) plain in
+      data_byte limits items contents (bytes ++ byte ∷ []) (with_byte d.place byte) s.gate (work_after (s.work) m answer) after (scan_answer answer) d.of at gate (due_data limits d.place s.work now whole d.work (bytes ++ byte ∷ []) byte m after answer at took)
 
 -- THE COMPLETE RUN
 pub run_takes : (s : InScan) (m : ScanReader) (now after : Picture) (run : List ℕ) (n : ℕ) (answer : Taken) → s.gate ≡ false → s.work.whole ≡ false → ArePlain run
@@ -77,6 +81,6 @@ run_takes s m now after run n answer gate whole plain g = record {
   count = g.count;
   within = g.within;
   «open» = gate;
-  before = (let low = g.within in before_last s g.mid now g.between run g.early gate whole (omega (arith, low)) plain g.chain);
-  last = last_takes (mid_of s g.mid) m g.between after (get_or run g.early 0) answer gate refl (plain g.early g.within) g.last;
+  before = (let low = g.within in before_last s now gate whole g.mid g.between run g.early (omega (arith, low)) plain g.chain);
+  last = last_takes (mid_of s g.mid) g.between gate refl m after (get_or run g.early 0) answer (plain g.early g.within) g.last;
 }

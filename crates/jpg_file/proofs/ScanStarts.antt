@@ -9,7 +9,7 @@ use Rattle.jpg_spec.specs.Markers.{kept_rule}
 use Rattle.jpg_spec.specs.InForce.{head_in, huffman_in_force, restart_in_force}
 use Rattle.jpg_spec.specs.Items.{Item, segments_of}
 use Rattle.jpg_spec.specs.FileMeaning.{scan_after}
-use Rattle.jpg_spec.specs.ScanReading.{ScanAt}
+use Rattle.jpg_spec.specs.ScanReading.{ScanAt, ScanPlace}
 use Rattle.jpg_spec.specs.PictureInWork.{ScanSoFar}
 use Rattle.jpg_spec.specs.declared.frame.Limits.{Limits}
 use Rattle.jpg_spec.specs.declared.frame.Place.{Place}
@@ -26,7 +26,7 @@ use Rattle.jpg_file.specs.Read.NewScan.{IsOfHeader}
 use Rattle.jpg_file.specs.Read.Machine.{any_scan}
 use Rattle.jpg_file.specs.Read.InData.{IsDue, IsInterval, IsReadable, AtInterval, AreIntervals, InData, Waits}
 use Rattle.jpg_file.specs.declared.read.scan.InScan.{InScan}
-use Rattle.jpg_file.specs.Read.ScanStart.{Begins}
+use Rattle.jpg_file.specs.Read.ScanStart.{Begins, HeadHeld}
 use Rattle.jpg_file.proofs.IntervalFits.{interval_fits}
 
 -- INTERVALS
@@ -71,102 +71,111 @@ cut_first (suc n) (x ∷ xs) some =
 
 -- THE FIRST INTERVAL
 
-pub record Start (limits : Limits) (items : List Item) (blocks : Blocks) (contents bytes : List ℕ) (f : Frame) (head : ScanHead) (set : TableSet) (interval : ℕ) (now : Picture) : Type 0 where
-  pub cut : Cut (interval * mcu_units f (head_components head)) (units f (head_components head))
-  pub at : ScanAt limits bytes (first_place items blocks contents cut.first cut.later) []
-  pub scan : scan_after limits (segments_of items) contents ≡ scan_of f (huffman_in_force (segments_of items)) interval head
+-- a scan that begins after these items: its header and what is held of it, where the bytes end, and the picture so far
+pub record NewScan : Type 0 where
+  pub limits : Limits
+  pub items : List Item
+  pub blocks : Blocks
+  pub contents : List ℕ
+  pub bytes : List ℕ
+  pub frame : Frame
+  pub head : ScanHead
+  pub set : TableSet
+  pub interval : ℕ
+  pub now : Picture
+  pub begins : Begins limits items blocks contents bytes frame head set interval now
 
-pub start_of : (limits : Limits) (items : List Item) (blocks : Blocks) (contents bytes : List ℕ) (f : Frame) (head : ScanHead) (set : TableSet) (interval : ℕ) (now : Picture) → Begins limits items blocks contents bytes f head set interval now
-    → Start limits items blocks contents bytes f head set interval now
-start_of limits items blocks contents bytes f head set interval now b =
+abbrev pub scan_of_new : NewScan → Scan
+scan_of_new n = scan_after n.limits (segments_of n.items) n.contents
+
+pub record Start (n : NewScan) : Type 0 where
+  pub cut : Cut (n.interval * mcu_units n.frame (head_components n.head)) (units n.frame (head_components n.head))
+  pub at : ScanAt n.limits n.bytes (first_place n.items n.blocks n.contents cut.first cut.later) []
+  pub scan : scan_of_new n ≡ scan_of n.frame (huffman_in_force (segments_of n.items)) n.interval n.head
+
+pub start_of : (n : NewScan) → Start n
+start_of n =
+    let b = n.begins in
     let h = b.header in
-    let before = segments_of items in
-    let s : scan_after limits before contents ≡ scan_of f (huffman_in_force before) interval head =
-    ap (λ g. scan_of g (huffman_in_force before) (restart_in_force before) (head_in g contents)) h.framed
-    ∙ ap (λ k. scan_of f (huffman_in_force before) (restart_in_force before) k) h.header
-    ∙ ap (λ n. scan_of f (huffman_in_force before) n head) (sym h.restart) in
-    let cut = cut_first (interval * mcu_units f (head_components head)) (units f (head_components head)) (head_units_some f head h.is_frame h.is_head) in
-    let due : chunks (scan_after limits before contents).interval (scan_after limits before contents).places ≡ cut.first ∷ cut.later = ap (λ (q : Scan). chunks q.interval q.places) s ∙ cut.cut in
+    let head = n.head in
+    let tables = huffman_in_force (segments_of n.items) in
+    let restart = restart_in_force (segments_of n.items) in
+    let s : scan_of_new n ≡ scan_of n.frame tables n.interval head =
+    ap (λ g. scan_of g tables restart (head_in g n.contents)) h.framed ∙ ap (λ k. scan_of n.frame tables restart k) h.header ∙ ap (λ i. scan_of n.frame tables i head) (sym h.restart) in
+    let cut = cut_first (n.interval * mcu_units n.frame (head_components head)) (units n.frame (head_components head)) (head_units_some n.frame head h.is_frame h.is_head) in
+    let due : chunks (scan_of_new n).interval (scan_of_new n).places ≡ cut.first ∷ cut.later = ap (λ (q : Scan). chunks q.interval q.places) s ∙ cut.cut in
     record {
       cut = cut;
-      at = scan_begun limits (kept_rule limits) b.sent bytes items blocks contents b.tail cut.first cut.later (b.at).beside (b.at).leads b.spelled b.allowed b.rule due;
+      at = scan_begun n.limits (kept_rule n.limits) b.sent n.bytes n.items n.blocks n.contents b.tail cut.first cut.later (b.at).beside (b.at).leads b.spelled b.allowed b.rule due;
       scan = s;
     }
 
-abbrev pub first_interval : Limits → List Item → Blocks → List ℕ → List Place → List (List Place) → Picture → Interval
-first_interval limits items blocks contents places later now = record {
-  scan = scan_after limits (segments_of items) contents;
-  places = places;
-  later = joined later;
-  before = now;
-}
+abbrev pub first_interval : (n : NewScan) → Start n → Interval
+first_interval n s = record { scan = scan_of_new n; places = (s.cut).first; later = joined (s.cut).later; before = n.now }
 
--- the places of the scan, and the picture, at its first interval
-pub record AtFirst (limits : Limits) (items : List Item) (blocks : Blocks) (contents : List ℕ) (first : List Place) (later : List (List Place)) (now : Picture) : Type 0 where
-  pub readable : IsReadable limits (first_place items blocks contents first later)
-  pub interval : IsInterval limits (first_place items blocks contents first later) (first_interval limits items blocks contents first later now)
-  pub so_far : ScanSoFar (scan_after limits (segments_of items) contents) blocks (map_of now) [] (first ∷ later)
+module _ (n : NewScan) (s : Start n) (sized : (i x y : ℕ) → length (map_of n.now i x y) ≡ 64) where
+  abbrev place : ScanPlace
+  place = first_place n.items n.blocks n.contents (s.cut).first (s.cut).later
 
-at_first : (limits : Limits) (items : List Item) (blocks : Blocks) (contents bytes : List ℕ) (f : Frame) (head : ScanHead) (set : TableSet) (interval : ℕ) (now : Picture) → (b : Begins limits items blocks contents bytes f head set interval now)
-    → (s : Start limits items blocks contents bytes f head set interval now) → ((i x y : ℕ) → length (map_of now i x y) ≡ 64) → AtFirst limits items blocks contents (s.cut).first (s.cut).later now
-at_first limits items blocks contents bytes f head set interval now b s sized =
-    let h = b.header in
-    let sc = scan_after limits (segments_of items) contents in
-    let due_interval : chunks sc.interval sc.places ≡ (s.cut).first ∷ (s.cut).later = ap (λ (q : Scan). chunks q.interval q.places) s.scan ∙ (s.cut).cut in
-    let sizes : (i x y : ℕ) → length (blocks i x y) ≡ 64 = λ i x y. ap (λ (g : Blocks). length (g i x y)) h.as_map ∙ sized i x y in
-    let so0 = so_far_first sc blocks sizes in
-    let so1 = subst (λ (l : List (List Place)). ScanSoFar sc blocks blocks [] l) due_interval so0 in
-    record {
-      readable = record {
-        distinct = ap (λ (g : Frame). is_distinct (head_components (head_in g contents))) h.framed ∙ ap (λ (k : ScanHead). is_distinct (head_components k)) h.header ∙ (h.scan_header).distinct;
-      };
-      interval = record { scan = refl; places = refl; later = refl };
-      so_far = subst (λ (g : Blocks). ScanSoFar sc blocks g [] ((s.cut).first ∷ (s.cut).later)) h.as_map so1;
-    }
+  abbrev due : List (List Place)
+  due = (s.cut).first ∷ (s.cut).later
 
-pub first_of_scan : (limits : Limits) (items : List Item) (blocks : Blocks) (contents bytes : List ℕ) (f : Frame) (head : ScanHead) (set : TableSet) (interval : ℕ) (now : Picture) → (b : Begins limits items blocks contents bytes f head set interval now)
-    → (s : Start limits items blocks contents bytes f head set interval now) → ((i x y : ℕ) → length (map_of now i x y) ≡ 64) → IsOfHeader f head set (first_interval limits items blocks contents (s.cut).first (s.cut).later now)
-first_of_scan limits items blocks contents bytes f head set interval now b s sizes =
-    let h = b.header in
-    let at = at_first limits items blocks contents bytes f head set interval now b s sizes in
-    record {
-      coding = ap (λ (q : Scan). q.coding) s.scan ∙ sym h.codings;
-      ss = ap (λ (q : Scan). q.ss) s.scan;
-      se = ap (λ (q : Scan). q.se) s.scan;
-      kind = interval_fits limits bytes (first_place items blocks contents (s.cut).first (s.cut).later) (first_interval limits items blocks contents (s.cut).first (s.cut).later now) s.at at.readable at.interval at.so_far;
-      sized = sizes;
-      places = sym (s.cut).all;
-      frame = h.pictured;
-    }
+  h : HeadHeld n.limits n.items n.blocks n.contents n.frame n.head n.set n.interval n.now
+  h = (n.begins).header
 
-pub in_data : (limits : Limits) (items : List Item) (blocks : Blocks) (contents bytes : List ℕ) (f : Frame) (head : ScanHead) (set : TableSet) (interval : ℕ) (now : Picture) (w : InScan) → (b : Begins limits items blocks contents bytes f head set interval now)
-    → (s : Start limits items blocks contents bytes f head set interval now) → ((i x y : ℕ) → length (map_of now i x y) ≡ 64) → any_scan.stands w.work.machine (first_interval limits items blocks contents (s.cut).first (s.cut).later now) [] now
-    → w.gate ≡ false → w.work.whole ≡ false → w.work.turn ≡ 0 → w.work.interval ≡ interval * mcu_units f (head_components head) → w.work.due ≡ length (joined (s.cut).later) → InData limits items contents bytes w now
-in_data limits items blocks contents bytes f head set interval now w b s sized stands gate whole turn n due =
-    let h = b.header in
-    let p = first_place items blocks contents (s.cut).first (s.cut).later in
-    let at = at_first limits items blocks contents bytes f head set interval now b s sized in
-    let d : IsDue ScanReader any_scan limits p w.work.machine now = record {
-      interval = first_interval limits items blocks contents (s.cut).first (s.cut).later now;
-      is = at.interval;
-      framed = h.pictured ∙ sym h.framed;
-      stands = stands;
-      so_far = at.so_far;
-    } in
-    record {
-      place = p;
-      of = (refl, refl);
-      fill = 0;
-      at = s.at;
-      waits = subst (λ g. Waits g 0) (sym gate) refl;
-      work = record {
-        readable = at.readable;
-        at = subst (λ c. AtInterval limits p c w.work.machine now) (sym whole) d;
-        turn = omega (arith, turn);
-        due = due;
-        later = subst (λ k. AreIntervals k (s.cut).later) (sym n) (s.cut).are;
-      };
-    }
+  -- the places of the scan, and the picture, at its first interval
+  readable : IsReadable n.limits place
+  readable = record {
+    distinct = ap (λ (g : Frame). is_distinct (head_components (head_in g n.contents))) h.framed ∙ ap (λ (k : ScanHead). is_distinct (head_components k)) h.header ∙ (h.scan_header).distinct;
+  }
+
+  is_first : IsInterval n.limits place (first_interval n s)
+  is_first = record { scan = refl; places = refl; later = refl }
+
+  so_far : ScanSoFar (scan_of_new n) n.blocks (map_of n.now) [] due
+  so_far =
+      let sc = scan_of_new n in
+      let sizes : (i x y : ℕ) → length (n.blocks i x y) ≡ 64 = λ i x y. ap (λ (g : Blocks). length (g i x y)) h.as_map ∙ sized i x y in
+      let cut : chunks sc.interval sc.places ≡ due = ap (λ (q : Scan). chunks q.interval q.places) s.scan ∙ (s.cut).cut in
+      let before = subst (λ (l : List (List Place)). ScanSoFar sc n.blocks n.blocks [] l) cut (so_far_first sc n.blocks sizes) in
+      subst (λ (g : Blocks). ScanSoFar sc n.blocks g [] due) h.as_map before
+
+  pub first_of_scan : IsOfHeader n.frame n.head n.set (first_interval n s)
+  first_of_scan = record {
+    coding = ap (λ (q : Scan). q.coding) s.scan ∙ sym h.codings;
+    ss = ap (λ (q : Scan). q.ss) s.scan;
+    se = ap (λ (q : Scan). q.se) s.scan;
+    kind = interval_fits n.limits n.bytes place (first_interval n s) s.at readable is_first so_far;
+    sized = sized;
+    places = sym (s.cut).all;
+    frame = h.pictured;
+  }
+
+  pub in_data : (w : InScan) → any_scan.stands w.work.machine (first_interval n s) [] n.now → w.gate ≡ false → w.work.whole ≡ false → w.work.turn ≡ 0
+      → w.work.interval ≡ n.interval * mcu_units n.frame (head_components n.head) → w.work.due ≡ length (joined (s.cut).later)
+      → InData n.limits n.items n.contents n.bytes w n.now
+  in_data w stands gate whole turn size left =
+      let d : IsDue ScanReader any_scan n.limits place w.work.machine n.now = record {
+        interval = first_interval n s;
+        is = is_first;
+        framed = h.pictured ∙ sym h.framed;
+        stands = stands;
+        so_far = so_far;
+      } in
+      record {
+        place = place;
+        of = (refl, refl);
+        fill = 0;
+        at = s.at;
+        waits = subst (λ g. Waits g 0) (sym gate) refl;
+        work = record {
+          readable = readable;
+          at = subst (λ c. AtInterval n.limits place c w.work.machine n.now) (sym whole) d;
+          turn = omega (arith, turn);
+          due = left;
+          later = subst (λ k. AreIntervals k (s.cut).later) (sym size) (s.cut).are;
+        };
+      }
 
 -- COUNTS
 pub counted : (m n u first units all : ℕ) → m ≡ cond (n == 0) u (min n u) → first ≡ cond (units == 0) all (min units all) → units ≡ n → all ≡ u → m ≡ first

@@ -26,7 +26,7 @@ use Rattle.jpg_file.specs.Read.ScanHistory.{HasBegun, HasBegunAll, StandsForHead
 use Rattle.jpg_file.specs.Read.Items.{BehindHead}
 use Rattle.jpg_file.specs.Read.File.{HeadStands, NotesHead}
 use Rattle.jpg_file.specs.Read.FirstHeader.{HasHead}
-use Rattle.jpg_file.specs.Read.SegmentState.{told_by}
+use Rattle.jpg_file.specs.Read.SegmentState.{Holds, told_by}
 use Rattle.jpg_file.specs.Read.InData.{InData}
 use Rattle.jpg_file.specs.Read.JudgedHeader.{JudgesHead}
 use Rattle.jpg_file.specs.Read.Reading.{AfterHead, HeadWhole, waiting_bytes, with_coefs}
@@ -40,10 +40,10 @@ use Rattle.jpg_file.specs.declared.read.items.Items.{Items}
 use Rattle.jpg_file.specs.declared.read.reading.Reading.{Reading}
 use Rattle.jpg_file.specs.declared.read.rows.RowWork.{RowWork}
 use Rattle.jpg_file.specs.declared.read.scan.InScan.{InScan}
-use Rattle.jpg_file.proofs.FileSteps.{frame_held, unbroken}
+use Rattle.jpg_file.proofs.FileSteps.{FrameFor, frame_held, unbroken}
 use Rattle.jpg_file.proofs.FirstHeaders.{noted}
-use Rattle.jpg_file.proofs.RowAfter.{first_blocks}
 use Rattle.jpg_file.proofs.StripAlone.{all_begun}
+use Rattle.jpg_spec.proofs.RowsLater.{blank}
 
 -- THE HEADER
 pub head_found : (limits : Limits) (bytes : List ℕ) (w : FileWork) (f : Frame) (head : ScanHead) (contents : List ℕ) → (h : HeadStands limits bytes w) → w.reading.items.held.frame ≡ Some f → contents ≡ contents_held w → is_progressive f.process ≡ false → length head.parts ≡ length f.components
@@ -79,7 +79,7 @@ zero_whole limits bytes w f h is is_frame first =
       coefs = zero_picture f;
       has = refl;
       pictured = refl;
-      as_map = first_blocks limits h.items h.blocks ((h.at).at).leads first ∙ sym (blank_is (zero_picture f) (padded_blocks f) refl);
+      as_map = blank limits h.items h.blocks ((h.at).at).leads first ∙ sym (blank_is (zero_picture f) (padded_blocks f) refl);
       count = (h.beside).count;
       same = (h.beside).same;
     }
@@ -140,47 +140,80 @@ begun_here limits items contents b f head k h =
     all_begun b.progress f head (heads_of g before) (subst (λ (x : Frame). StandsForHeads b.progress x (head ∷ heads_of g before)) k.framed (subst (λ (x : ScanHead). StandsForHeads b.progress g (x ∷ heads_of g before)) told s)) k.is_head
     (components_all f head k.all) k.sequential
 
-pub rows_begun : (limits : Limits) (bytes : List ℕ) (old taken new : FileWork) (f : Frame) (head : ScanHead) (rows : RowWork) → (h : HeadStands limits bytes old) → IsHeadOfAll limits h.items (contents_held old) f head → has_scan (segments_of h.items) ≡ false
-    → AfterHead limits bytes h.items old.reading.items (Ok tt) (with_coefs taken.reading (zero_picture f)) taken.begun → taken.head ≡ old.head → NotesHead taken new
-    → ((scan : InScan) → taken.reading.scan ≡ Some scan → scan_left scan.work ≡ length (scan_after limits (segments_of h.items) (contents_held old)).places) → IsRowOf rows.tops (zero_picture f) rows.coefs → IsRowIn f (head_components head) rows (length (units f (head_components head)))
-    → rows.waiting ≡ [] → rows.left ≡ rows.units → GoesByRow limits bytes new rows
-rows_begun limits bytes old taken new f head rows h k first a kept notes left row at empty whole =
-    let z = zero_picture f in
-    let contents = contents_held old in
-    let before : List Segment = (0xda, contents) ∷ segments_of h.items in
-    let s = a.0 in
-    let holds = (s.head).holds in
-    let allowed = subst (λ n. code_fault (segments_of h.items) n ≡ None) h.code (h.at).allowed in
-    let held = frame_held limits h.items h.blocks taken.reading.items.held.frame ((h.at).at).leads holds.frame (framed (segments_of h.items) allowed) in
-    let had = subst (λ o. HasHead limits bytes (segments_of h.items) o) (sym kept) (h.beside).head in
-    let now = noted limits bytes h.items h.blocks old.reading.items contents (told_by taken.reading.items.held) held.frame taken.reading.taken taken.head h.at h.code refl (unbroken limits h.items contents bytes (with_coefs taken.reading z) s) holds held.has s.count had in
-    let coded : InData limits h.items contents bytes s.scan z = subst (λ (q : Picture). InData limits h.items contents bytes s.scan q) (some_once s.coefs z (sym s.has)) s.at in
-    let inside : new.reading.scan ≡ Some s.scan = ap (λ (r : Reading). r.scan) notes.reading ∙ s.inside in
-    let in_scan = row_as limits h.items contents f head rows (scan_left s.scan.work) k.framed k.told (left s.scan s.inside) at in
-    let sum = (in_scan.at).sum in
-    record {
-      stands = record {
-        whole = z;
-        row = row;
-        at = inl (record {
-          items = h.items;
-          contents = contents;
-          scan = s.scan;
-          inside = inside;
-          coded = subst (λ (l : List Bool). InRowData limits h.items contents bytes l s.scan z) (sym empty) coded;
-          held = record {
-            head = subst (λ (r : Reading). BehindHead limits h.items contents r.items) (sym notes.reading) s.head;
-            count = ap (λ (r : Reading). r.taken) notes.reading ∙ s.count;
-            behind = subst (λ (r : Reading). (reading_of (r.items).segments).taken + waiting_bytes s.scan.gate ≤ r.taken) (sym notes.reading) s.behind;
-            begun = subst (λ b. HasBegun limits b before) (sym notes.begun) a.1;
-            within = (h.beside).within;
-            first_head = subst (λ o. HasHead limits bytes before o) (sym notes.head) now;
-            of = record { first = first; sequential = ap (λ (g : Frame). is_progressive g.process) k.framed ∙ k.sequential };
-            all = subst (λ b. HasBegunAll b.progress) (sym notes.begun) (begun_here limits h.items contents taken.begun f head k a.1);
-          };
-          at = in_scan;
-        });
-      };
-      none = empty;
-      turned = λ scan e some. some_left rows (scan_left s.scan.work) whole sum (subst (λ (q : InScan). 1 ≤ scan_left q.work) (some_once scan s.scan (sym e ∙ inside)) some);
-    }
+-- The first scan of a file begins, and has all its components: the file before its header is taken, after it, and
+-- where that header is noted.
+pub record FirstBegins (limits : Limits) (bytes : List ℕ) (old new : FileWork) : Type 0 where
+  pub taken : FileWork
+  pub frame : Frame
+  pub head : ScanHead
+  pub stands : HeadStands limits bytes old
+  pub of_all : IsHeadOfAll limits stands.items (contents_held old) frame head
+  pub first : has_scan (segments_of stands.items) ≡ false
+  pub after : AfterHead limits bytes stands.items old.reading.items (Ok tt) (with_coefs taken.reading (zero_picture frame)) taken.begun
+  pub notes : NotesHead taken new
+
+module _ (limits : Limits) (bytes : List ℕ) (old new : FileWork) (b : FirstBegins limits bytes old new) where
+  -- the segments before it, and its contents
+  abbrev before : List Segment
+  before = segments_of (b.stands).items
+
+  abbrev contents : List ℕ
+  contents = contents_held old
+
+  abbrev z : Picture
+  z = zero_picture b.frame
+
+  holds : Holds limits (told_by b.taken.reading.items.held) ((0xda, contents) ∷ before)
+  holds = (((b.after).0).head).holds
+
+  -- the frame that is kept is its frame
+  pub frame_kept : FrameFor limits before b.taken.reading.items.held.frame
+  frame_kept =
+      let h = b.stands in
+      let allowed = subst (λ n. code_fault before n ≡ None) h.code (h.at).allowed in
+      frame_held limits h.items h.blocks b.taken.reading.items.held.frame ((h.at).at).leads holds.frame (framed before allowed)
+
+  pub rows_begun : (rows : RowWork) → b.taken.head ≡ old.head
+      → ((scan : InScan) → b.taken.reading.scan ≡ Some scan → scan_left scan.work ≡ length (scan_after limits before contents).places)
+      → IsRowOf rows.tops z rows.coefs → IsRowIn b.frame (head_components b.head) rows (length (units b.frame (head_components b.head)))
+      → rows.waiting ≡ [] → rows.left ≡ rows.units → GoesByRow limits bytes new rows
+  rows_begun rows kept left row at empty whole =
+      let h = b.stands in
+      let k = b.of_all in
+      let taken = b.taken in
+      let notes = b.notes in
+      let begun = (b.after).1 in
+      let s = (b.after).0 in
+      let had = subst (λ o. HasHead limits bytes before o) (sym kept) (h.beside).head in
+      let now = noted limits bytes h.items h.blocks old.reading.items contents (told_by taken.reading.items.held) frame_kept.frame taken.reading.taken taken.head h.at h.code refl
+      (unbroken limits h.items contents bytes (with_coefs taken.reading z) s) holds frame_kept.has s.count had in
+      let coded : InData limits h.items contents bytes s.scan z = subst (λ (q : Picture). InData limits h.items contents bytes s.scan q) (some_once s.coefs z (sym s.has)) s.at in
+      let inside : new.reading.scan ≡ Some s.scan = ap (λ (r : Reading). r.scan) notes.reading ∙ s.inside in
+      let in_scan = row_as limits h.items contents b.frame b.head rows (scan_left s.scan.work) k.framed k.told (left s.scan s.inside) at in
+      let sum = (in_scan.at).sum in
+      record {
+        stands = record {
+          whole = z;
+          row = row;
+          at = inl (record {
+            items = h.items;
+            contents = contents;
+            scan = s.scan;
+            inside = inside;
+            coded = subst (λ (l : List Bool). InRowData limits h.items contents bytes l s.scan z) (sym empty) coded;
+            held = record {
+              head = subst (λ (r : Reading). BehindHead limits h.items contents r.items) (sym notes.reading) s.head;
+              count = ap (λ (r : Reading). r.taken) notes.reading ∙ s.count;
+              behind = subst (λ (r : Reading). (reading_of (r.items).segments).taken + waiting_bytes s.scan.gate ≤ r.taken) (sym notes.reading) s.behind;
+              begun = subst (λ x. HasBegun limits x ((0xda, contents) ∷ before)) (sym notes.begun) begun;
+              within = (h.beside).within;
+              first_head = subst (λ o. HasHead limits bytes ((0xda, contents) ∷ before) o) (sym notes.head) now;
+              of = record { first = b.first; sequential = ap (λ (g : Frame). is_progressive g.process) k.framed ∙ k.sequential };
+              all = subst (λ x. HasBegunAll x.progress) (sym notes.begun) (begun_here limits h.items contents taken.begun b.frame b.head k begun);
+            };
+            at = in_scan;
+          });
+        };
+        none = empty;
+        turned = λ scan e some. some_left rows (scan_left s.scan.work) whole sum (subst (λ (q : InScan). 1 ≤ scan_left q.work) (some_once scan s.scan (sym e ∙ inside)) some);
+      }

@@ -1,29 +1,23 @@
 -- The number of MCU rows of the first scan of a file, if it has all components.
-use Rattle.std.proofs.Common.{◌≡◌, ℕ, ◌≤◌, ◌<◌, List, [], ◌∷◌, length, refl, sym, ap, ◌∙◌, subst, arith, Option, Some, None, Ok}
+use Rattle.std.proofs.Common.{◌≡◌, ℕ, ◌≤◌, ◌<◌, List, [], ◌∷◌, length, refl, sym, ap, ◌∙◌, arith, Option, Some, None}
 use Rattle.std.proofs.lemmas.List.{length-map}
 use Rattle.jpg_spec.specs.Geometry.{Frame, mcus_down}
-use Rattle.jpg_spec.specs.Items.{segments_of}
 use Rattle.jpg_spec.specs.Lists.{below}
-use Rattle.jpg_spec.specs.Markers.{code_fault}
 use Rattle.jpg_spec.specs.ScanContents.{IsHead}
 use Rattle.jpg_spec.specs.Segments.{ScanHead, head_components}
 use Rattle.jpg_spec.specs.declared.frame.Limits.{Limits}
 use Rattle.jpg_spec.specs.declared.frame.ScanPart.{ScanPart}
 use Rattle.jpg_spec.proofs.Common.{length_below}
-use Rattle.jpg_spec.proofs.FrameFound.{framed}
 use Rattle.jpg_spec.proofs.Each.{Each}
 use Rattle.jpg_spec.proofs.RowCounts.{head_below}
 use Rattle.jpg_base.specs.Cursor.{scan_mcus_down}
-use Rattle.jpg_file.specs.Read.File.{HeadStands, NotesHead, head_or}
+use Rattle.jpg_file.specs.Read.File.{head_or}
 use Rattle.jpg_file.specs.Read.FirstHeader.{first_header_of}
 use Rattle.jpg_file.specs.Read.SegmentState.{SegmentView, told_by}
-use Rattle.jpg_file.specs.Read.Reading.{AfterHead, with_coefs}
-use Rattle.jpg_file.specs.Read.RowTurns.{zero_picture}
-use Rattle.jpg_file.specs.Read.Strips.{IsHeadOfAll, contents_held, rows_of_all}
+use Rattle.jpg_file.specs.Read.Strips.{rows_of_all}
 use Rattle.jpg_file.specs.declared.read.file.FileWork.{FileWork}
 use Rattle.jpg_file.specs.declared.read.first_header.Head.{Head}
-use Rattle.jpg_file.proofs.FileSteps.{frame_held}
-use Rattle.jpg_file.proofs.StripBegin.{components_all}
+use Rattle.jpg_file.proofs.StripBegin.{FirstBegins, components_all, frame_kept}
 
 -- AS MANY as any list of all components gives
 
@@ -53,11 +47,11 @@ frame_or f (Some h) = h.frame
 told_frame : (t : SegmentView) (n : ℕ) (f : Frame) (kept : Head) → t.frame ≡ Some f → first_header_of t n ≡ Some kept → kept.frame ≡ f
 told_frame t n f kept is e = ap (λ (o : Option Head). frame_or f o) (sym e) ∙ ap (λ (o : Option Frame). frame_or f (first_header_of (record t { frame = o }) n)) is
 
-pub kept_frame : (limits : Limits) (bytes : List ℕ) (old taken new : FileWork) (f : Frame) (head : ScanHead) (kept : Head) → (h : HeadStands limits bytes old) → IsHeadOfAll limits h.items (contents_held old) f head
-    → AfterHead limits bytes h.items old.reading.items (Ok tt) (with_coefs taken.reading (zero_picture f)) taken.begun → taken.head ≡ None → NotesHead taken new → new.head ≡ Some kept → kept.frame ≡ f
-kept_frame limits bytes old taken new f head kept h k a none notes is =
-    let allowed = subst (λ n. code_fault (segments_of h.items) n ≡ None) h.code (h.at).allowed in
-    let held = frame_held limits h.items h.blocks taken.reading.items.held.frame ((h.at).at).leads (((a.0).head).holds).frame (framed (segments_of h.items) allowed) in
-    let has : taken.reading.items.held.frame ≡ Some f = held.has ∙ ap (λ (g : Frame). Some g) (sym held.is ∙ k.framed) in
-    let told = first_header_of (told_by taken.reading.items.held) taken.reading.taken in
-    told_frame (told_by taken.reading.items.held) taken.reading.taken f kept has (sym (notes.head ∙ ap (λ (o : Option Head). head_or o told) none) ∙ is)
+pub kept_frame : (limits : Limits) (bytes : List ℕ) (old new : FileWork) (kept : Head) (b : FirstBegins limits bytes old new) → b.taken.head ≡ None
+    → new.head ≡ Some kept → kept.frame ≡ b.frame
+kept_frame limits bytes old new kept b none is =
+    let taken = b.taken.reading in
+    let held = frame_kept limits bytes old new b in
+    let has : taken.items.held.frame ≡ Some b.frame = held.has ∙ ap (λ (g : Frame). Some g) (sym held.is ∙ (b.of_all).framed) in
+    let told = first_header_of (told_by taken.items.held) taken.taken in
+    told_frame (told_by taken.items.held) taken.taken b.frame kept has (sym ((b.notes).head ∙ ap (λ (o : Option Head). head_or o told) none) ∙ is)

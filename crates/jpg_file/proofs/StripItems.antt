@@ -40,7 +40,7 @@ head_stops limits bytes w f contents fault h is same judges =
     let before = segments_of h.items in
     let framed : frame_of limits before ≡ f = ap (λ (o : Option Frame). unwrap_or o no_frame) (sym (s.holds).frame ∙ is) in
     let rule = subst (λ c. contents_rule limits before 0xda c ≡ Some fault) same (judges limits before framed s.holds (h.beside).begun) in
-    ((h.beside).count, segment_fault limits bytes h.items h.blocks w.reading.items fault s (subst (λ n. contents_rule limits before n (reading_of w.reading.items.segments).contents ≡ Some fault) (sym h.code) rule))
+    ((h.beside).count, segment_fault limits bytes h.items h.blocks w.reading.items s fault (subst (λ n. contents_rule limits before n (reading_of w.reading.items.segments).contents ≡ Some fault) (sym h.code) rule))
 
 -- the file continues after the scan
 pub item_goes : (limits : Limits) (bytes : List ℕ) (w : FileWork) (whole : Picture) (rows : RowWork) → StandsForFile limits bytes (with_picture w whole) → w.reading.scan ≡ None → IsRowOf rows.tops whole rows.coefs → rows.waiting ≡ [] → HasBegunAll w.begun.progress
@@ -76,52 +76,55 @@ after_of limits bytes w rows g none = by (g.stands).at
     by (inl r) = absurd (clash (is_some w.reading.scan) (ap is_some r.inside) none)
     by (inr b) = record { whole = (g.stands).whole; row = (g.stands).row; between = b.between; all = b.all; done = b.done }
 
-pub later_items : (limits : Limits) (bytes : List ℕ) (w : FileWork) (rows : RowWork) → (b : IsAfter limits bytes w rows) → Itemising limits bytes (b.between).items (b.between).blocks w.reading
-later_items limits bytes w rows b =
-    let s = b.between in
-    record { at = s.at; none = (s.beside).none; count = (s.beside).count; same = (s.beside).same }
+module _ (limits : Limits) (bytes : List ℕ) (w : FileWork) (rows : RowWork) (b : IsAfter limits bytes w rows) where
+  pub later_items : Itemising limits bytes (b.between).items (b.between).blocks w.reading
+  later_items =
+      let s = b.between in
+      record { at = s.at; none = (s.beside).none; count = (s.beside).count; same = (s.beside).same }
 
--- and after some bytes that are taken together
-pub later_passed : (limits : Limits) (bytes more : List ℕ) (w : FileWork) (r : Reading) (rows : RowWork) (n : ℕ) → (b : IsAfter limits bytes w rows) → rows.waiting ≡ [] → GoesOn w.reading more n r → GoesByRow limits (bytes ++ take n more) (record w { reading = r }) rows
-later_passed limits bytes more w r rows n b nothing p =
-    let old = with_picture w b.whole in
-    let none = (b.between).beside.none in
-    let new : FileWork = record w { reading = r } in
-    let k = p.stands w (Some b.whole) limits bytes (inl b.between) in
-    let left = p.scan ∙ none in
-    record {
-      stands = record {
-        whole = b.whole;
-        row = b.row;
-        at = inr (record { between = between_of limits (bytes ++ take n more) (with_picture new b.whole) k (ap is_some left); none = nothing; all = b.all; done = b.done });
-      };
-      none = nothing;
-      turned = λ scan is some. absurd (clash_none scan (sym is ∙ left));
-    }
-  where
-    clash_none : (scan : InScan) → Some scan ≡ None → ⊥
-    clash_none scan e = cc
+  -- and after some bytes that are taken together
+  pub later_passed : (more : List ℕ) (r : Reading) (n : ℕ) → rows.waiting ≡ [] → GoesOn w.reading more n r
+      → GoesByRow limits (bytes ++ take n more) (record w { reading = r }) rows
+  later_passed more r n nothing p =
+      let old = with_picture w b.whole in
+      let none = (b.between).beside.none in
+      let new : FileWork = record w { reading = r } in
+      let k = p.stands w (Some b.whole) limits bytes (inl b.between) in
+      let left = p.scan ∙ none in
+      record {
+        stands = record {
+          whole = b.whole;
+          row = b.row;
+          at = inr (record { between = between_of limits (bytes ++ take n more) (with_picture new b.whole) k (ap is_some left); none = nothing; all = b.all; done = b.done });
+        };
+        none = nothing;
+        turned = λ scan is some. absurd (clash_none scan (sym is ∙ left));
+      }
+    where
+      clash_none : (scan : InScan) → Some scan ≡ None → ⊥
+      clash_none scan e = cc
 
--- its result, whatever the picture
-later_step : (limits : Limits) (bytes : List ℕ) (byte : ℕ) (w : FileWork) (r : Reading) (rows : RowWork) (came : ItemStep) → (b : IsAfter limits bytes w rows) → AfterItemByte limits (bytes ++ byte ∷ []) (b.between).items (b.between).blocks came r → w.reading.taken < limits.input
-    → AfterFileStep w.reading.scan limits (bytes ++ byte ∷ []) came (with_picture (record w { reading = r }) b.whole)
-later_step limits bytes byte w r rows came b a room =
-    let all = bytes ++ byte ∷ [] in
-    let s = b.between in
-    let new : FileWork = record w { reading = r } in
-    let within : length all ≤ limits.input = omega (arith, (s.beside).count, length-append bytes (byte ∷ []), room) in
-    let ghost : AfterItemByte limits all s.items s.blocks came (with_picture new b.whole).reading = record { after = a.after; none = a.none; count = a.count; same = a.same } in
-    after_between limits bytes (byte ∷ []) came (with_picture w b.whole) (with_picture new b.whole) s ghost refl refl refl within
+  -- its result, whatever the picture
+  later_step : (byte : ℕ) (r : Reading) (came : ItemStep) → AfterItemByte limits (bytes ++ byte ∷ []) (b.between).items (b.between).blocks came r
+      → w.reading.taken < limits.input → AfterFileStep w.reading.scan limits (bytes ++ byte ∷ []) came (with_picture (record w { reading = r }) b.whole)
+  later_step byte r came a room =
+      let all = bytes ++ byte ∷ [] in
+      let s = b.between in
+      let new : FileWork = record w { reading = r } in
+      let within : length all ≤ limits.input = omega (arith, (s.beside).count, length-append bytes (byte ∷ []), room) in
+      let ghost : AfterItemByte limits all s.items s.blocks came (with_picture new b.whole).reading = record { after = a.after; none = a.none; count = a.count; same = a.same } in
+      after_between limits bytes (byte ∷ []) came (with_picture w b.whole) (with_picture new b.whole) s ghost refl refl refl within
 
-pub later_goes : (limits : Limits) (bytes : List ℕ) (byte : ℕ) (w : FileWork) (r : Reading) (rows : RowWork) (came : ItemStep) (result : Step) → GoesByRow limits bytes w rows → (b : IsAfter limits bytes w rows)
-    → AfterItemByte limits (bytes ++ byte ∷ []) (b.between).items (b.between).blocks came r → w.reading.taken < limits.input → PassesItem (record w { reading = r }) came result → AfterRows limits (bytes ++ byte ∷ []) result (record w { reading = r }) rows
-later_goes limits bytes byte w r rows came result g b a room passes =
-    passes limits w.reading.scan (bytes ++ byte ∷ []) b.whole rows (later_step limits bytes byte w r rows came b a room) a.none b.row g.none b.all b.done
+  pub later_goes : (byte : ℕ) (r : Reading) (came : ItemStep) (result : Step) → GoesByRow limits bytes w rows
+      → AfterItemByte limits (bytes ++ byte ∷ []) (b.between).items (b.between).blocks came r → w.reading.taken < limits.input
+      → PassesItem (record w { reading = r }) came result → AfterRows limits (bytes ++ byte ∷ []) result (record w { reading = r }) rows
+  later_goes byte r came result g a room passes =
+      passes limits w.reading.scan (bytes ++ byte ∷ []) b.whole rows (later_step byte r came a room) a.none b.row g.none b.all b.done
 
--- a scan header that is complete
-pub later_there : (limits : Limits) (bytes : List ℕ) (byte : ℕ) (w : FileWork) (r : Reading) (rows : RowWork) (came : ItemStep) → (b : IsAfter limits bytes w rows) → AfterItemByte limits (bytes ++ byte ∷ []) (b.between).items (b.between).blocks came r → w.reading.taken < limits.input
-    → came ≡ step.Head → HasLaterHead (record w { reading = r })
-later_there limits bytes byte w r rows came b a room is =
-    let all = bytes ++ byte ∷ [] in
-    let k = subst (λ (c : ItemStep). AfterFileStep w.reading.scan limits all c (with_picture (record w { reading = r }) b.whole)) is (later_step limits bytes byte w r rows came b a room) in
-    (limits, all, b.whole, k.0, b.all)
+  -- a scan header that is complete
+  pub later_there : (byte : ℕ) (r : Reading) (came : ItemStep) → AfterItemByte limits (bytes ++ byte ∷ []) (b.between).items (b.between).blocks came r
+      → w.reading.taken < limits.input → came ≡ step.Head → HasLaterHead (record w { reading = r })
+  later_there byte r came a room is =
+      let all = bytes ++ byte ∷ [] in
+      let k = subst (λ (c : ItemStep). AfterFileStep w.reading.scan limits all c (with_picture (record w { reading = r }) b.whole)) is (later_step byte r came a room) in
+      (limits, all, b.whole, k.0, b.all)

@@ -19,6 +19,7 @@ use Rattle.jpg_file.proofs.FirstHeaders.{has_longer}
 use Rattle.jpg_file.proofs.FileSteps.{head_by, head_is}
 use Rattle.jpg_file.proofs.PieceSteps.{limits_are, waiting_scan}
 use Rattle.jpg_file.proofs.ScanBytes.{ff_bytes}
+use Rattle.jpg_file.proofs.StripTurns.{inside_row}
 
 -- the file as it is read in one go
 pub goes_with : (limits : Limits) (bytes : List ℕ) (w : FileWork) (rows : RowWork) → (g : GoesByRow limits bytes w rows) → StandsForFile limits bytes (with_picture w (g.stands).whole)
@@ -50,19 +51,33 @@ goes_with limits bytes w rows g = by (g.stands).at
 pub goes_stands : (limits : Limits) (bytes : List ℕ) (w : FileWork) (rows : RowWork) → GoesByRow limits bytes w rows → (whole : Picture) × StandsForFile limits bytes (with_picture w whole)
 goes_stands limits bytes w rows g = ((g.stands).whole, goes_with limits bytes w rows g)
 
-inside_rows : (limits : Limits) (bytes : List ℕ) (w : FileWork) (rows : RowWork) → (g : GoesByRow limits bytes w rows) → is_some w.reading.scan ≡ true → RowsInside limits bytes w rows (g.stands).whole
-inside_rows limits bytes w rows g some = by (g.stands).at
-  where
-    by : RowsInside limits bytes w rows (g.stands).whole ⊎ RowsAfter limits bytes w rows (g.stands).whole → RowsInside limits bytes w rows (g.stands).whole
-    by (inl r) = r
-    by (inr b) = absurd (clash (is_some w.reading.scan) some (ap is_some ((b.between).beside).none))
+module _ (limits : Limits) (front bytes : List ℕ) (new : FileWork) (after : RowWork) (result : Step) where
+  -- a stretch from the first of them on
+  pub front_rows : (size n : ℕ) → size ≤ length bytes → RowsRun limits front (take size bytes) n result new after
+      → RowsRun limits front bytes n result new after
+  front_rows size n few t =
+      let low = t.within in
+      let long = length-take-le size bytes few in
+      let same : take t.early (take size bytes) ≡ take t.early bytes = take-take t.early size bytes (omega (arith, low, long)) in
+      let byte : get_or (take size bytes) t.early 0 ≡ get_or bytes t.early 0 = get_or-take size bytes t.early 0 (omega (arith, low, long)) in
+      record {
+        mid = t.mid;
+        early = t.early;
+        count = t.count;
+        within = omega (arith, low, long, few);
+        before = subst (λ l. StandsForFile limits (front ++ l) t.mid) same t.before;
+        room = t.room;
+        head = t.head;
+        last = subst (λ b. AfterRows limits ((front ++ take t.early bytes) ++ b ∷ []) result new after) byte (subst (λ l. AfterRows limits ((front ++ l) ++ get_or (take size bytes) t.early 0 ∷ []) result new after) same t.last);
+      }
 
--- a byte after some that were taken together
-pub later_row : (limits : Limits) (front bytes : List ℕ) (n : ℕ) (mid new : FileWork) (rows after : RowWork) (result : Step) → GoesByRow limits (front ++ take n bytes) mid rows → mid.reading.taken < limits.input → n < length bytes → new.head ≡ mid.head
-    → AfterRows limits ((front ++ take n bytes) ++ get_or bytes n 0 ∷ []) result new after → RowsRun limits front bytes (n + 1) result new after
-later_row limits front bytes n mid new rows after result g room less head a =
-    let k = goes_stands limits (front ++ take n bytes) mid rows g in
-    record { mid = with_picture mid k.0; early = n; count = refl; within = less; before = k.1; room = room; head = sym head; last = a }
+  -- a byte after some that were taken together
+  pub later_row : (n : ℕ) (mid : FileWork) (rows : RowWork) → GoesByRow limits (front ++ take n bytes) mid rows → mid.reading.taken < limits.input
+      → n < length bytes → new.head ≡ mid.head → AfterRows limits ((front ++ take n bytes) ++ get_or bytes n 0 ∷ []) result new after
+      → RowsRun limits front bytes (n + 1) result new after
+  later_row n mid rows g room less head a =
+      let k = goes_stands limits (front ++ take n bytes) mid rows g in
+      record { mid = with_picture mid k.0; early = n; count = refl; within = less; before = k.1; room = room; head = sym head; last = a }
 
 -- FILL BYTES inside the data of the scan
 rows_stay : (limits : Limits) (bytes run : List ℕ) (n : ℕ) (w : FileWork) (rows : RowWork) → (g : GoesByRow limits bytes w rows) → (r : RowsInside limits bytes w rows (g.stands).whole) → has_waiting w.reading.scan ≡ true → limits_of w ≡ limits
@@ -114,25 +129,7 @@ rows_filled limits bytes run (suc m) w q rows g some same p =
     let n = suc m in
     let waits = p.waits (λ e. omega (arith, e)) in
     subst (λ (o : Reading). GoesByRow limits (bytes ++ take n run) (record w { reading = o }) rows) (sym p.is)
-    (subst (λ (l : List ℕ). GoesByRow limits (bytes ++ l) (record w { reading = record w.reading { taken = w.reading.taken + n } }) rows) (sym p.fill) (rows_stay limits bytes run n w rows g (inside_rows limits bytes w rows g some) waits same p.room))
-
--- a stretch from the first of them on
-pub front_rows : (limits : Limits) (front bytes : List ℕ) (size n : ℕ) (new : FileWork) (after : RowWork) (result : Step) → size ≤ length bytes → RowsRun limits front (take size bytes) n result new after → RowsRun limits front bytes n result new after
-front_rows limits front bytes size n new after result few t =
-    let low = t.within in
-    let long = length-take-le size bytes few in
-    let same : take t.early (take size bytes) ≡ take t.early bytes = take-take t.early size bytes (omega (arith, low, long)) in
-    let byte : get_or (take size bytes) t.early 0 ≡ get_or bytes t.early 0 = get_or-take size bytes t.early 0 (omega (arith, low, long)) in
-    record {
-      mid = t.mid;
-      early = t.early;
-      count = t.count;
-      within = omega (arith, low, long, few);
-      before = subst (λ l. StandsForFile limits (front ++ l) t.mid) same t.before;
-      room = t.room;
-      head = t.head;
-      last = subst (λ b. AfterRows limits ((front ++ take t.early bytes) ++ b ∷ []) result new after) byte (subst (λ l. AfterRows limits ((front ++ l) ++ get_or (take size bytes) t.early 0 ∷ []) result new after) same t.last);
-    }
+    (subst (λ (l : List ℕ). GoesByRow limits (bytes ++ l) (record w { reading = record w.reading { taken = w.reading.taken + n } }) rows) (sym p.fill) (rows_stay limits bytes run n w rows g (inside_row limits bytes w rows g.stands some) waits same p.room))
 
 -- what they don't change
 pub filled_limits : (r : Reading) (run : List ℕ) (n : ℕ) (q : Reading) → FillsScan r run n q → q.items.limits ≡ r.items.limits

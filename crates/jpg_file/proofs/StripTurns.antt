@@ -1,46 +1,25 @@
 -- From one MCU row of a file to the next, and bits that waited.
-use Rattle.std.proofs.Common.{◌≡◌, ℕ, ◌≤◌, Bool, true, false, cond, List, [], ◌∷◌, length, refl, sym, ap, ◌∙◌, subst, arith, Some, inl, inr, ◌⊎◌, Ok, Err}
-use Rattle.std.specs.Prelude.{Result}
+use Rattle.std.proofs.Common.{◌≡◌, ℕ, ◌≤◌, Bool, true, cond, List, [], ◌∷◌, length, refl, sym, ap, ◌∙◌, subst, arith, Some, inl, inr, ◌⊎◌, Ok, Err}
+use Rattle.std.specs.Prelude.{Result, is_some}
 use Rattle.jpg_spec.specs.Items.{Item}
-use Rattle.jpg_spec.specs.Scan.{Scan}
 use Rattle.jpg_spec.specs.declared.fault.Fault.{Fault}
 use Rattle.jpg_spec.specs.declared.frame.Limits.{Limits}
-use Rattle.jpg_spec.proofs.Common.{some_once}
+use Rattle.jpg_spec.proofs.Common.{clash, some_once}
 use Rattle.jpg_coefs.specs.Picture.{Picture}
 use Rattle.jpg_seq.specs.Rows.{IsRowOf}
 use Rattle.jpg_file.specs.Read.File.{IsStop}
-use Rattle.jpg_file.specs.Read.InData.{InData}
 use Rattle.jpg_file.specs.Read.Reading.{waiting_bytes}
-use Rattle.jpg_file.specs.Read.RowData.{AfterRowBytes, HalfData, InRowData, IsHalfRow}
+use Rattle.jpg_file.specs.Read.RowData.{AfterRowBytes, HalfData, InRowData, IsHalfRow, TakesRestInRow}
 use Rattle.jpg_file.specs.Read.RowPlaces.{scan_left}
-use Rattle.jpg_file.specs.Read.RowTurns.{CountsScan, IsBlankAfter, IsRowIn, KeepsRowIn, TurnsRow, unfinished}
-use Rattle.jpg_file.specs.Read.Strips.{AfterRows, GoesByRow, IsFirstScan, RowsAfter, RowsInside, ScanHeld, StandsByRow, components_of, frame_behind}
+use Rattle.jpg_file.specs.Read.RowTurns.{CountsScan, IsRowIn, KeepsRowIn, TurnsRow, unfinished}
+use Rattle.jpg_file.specs.Read.Strips.{AfterRows, GoesByRow, RowsAfter, RowsInside, ScanHeld, StandsByRow, components_of, frame_behind}
 use Rattle.jpg_file.specs.declared.read.file.FileWork.{FileWork}
 use Rattle.jpg_file.specs.declared.read.rows.RowWork.{RowWork}
 use Rattle.jpg_file.specs.declared.read.scan.InScan.{InScan}
 use Rattle.jpg_file.specs.declared.read.step.Step.{Step}
 use Rattle.jpg_file.specs.declared.read.step.Step.TheVariants as step
-use Rattle.jpg_file.proofs.RowAfter.{data_blank, half_blank}
-use Rattle.jpg_file.proofs.ScanBytes.{read_at}
-use Rattle.jpg_file.proofs.Scannings.{none_some}
-use Rattle.jpg_file.proofs.StripRows.{data_due, data_goes, half_due, half_row, scan_of_place}
-
--- THE PICTURE is the file's, and blank after the row
-
-pub data_framed : (limits : Limits) (items : List Item) (contents bytes : List ℕ) (s : InScan) (whole : Picture) → InData limits items contents bytes s whole → IsFirstScan limits items → whole.frame ≡ frame_behind limits items
-data_framed limits items contents bytes s whole d first = by s.work.whole refl
-  where
-    by : (b : Bool) → s.work.whole ≡ b → whole.frame ≡ frame_behind limits items
-    by false e = (data_due limits items contents bytes s whole d e first).framed
-    by true e = (read_at limits d.place s.work whole e d.work).framed ∙ ap (λ (l : List Item). frame_behind limits l) (d.of).0
-
-pub rest_blank : (limits : Limits) (items : List Item) (contents bytes : List ℕ) (waiting_bytes : List Bool) (s : InScan) (rows : RowWork) (whole : Picture) → InRowData limits items contents bytes waiting_bytes s whole → IsFirstScan limits items
-    → IsRowIn (frame_behind limits items) (components_of limits items contents) rows (scan_left s.work) → IsBlankAfter rows whole
-rest_blank limits items contents bytes [] s rows whole d first at =
-    data_blank limits items contents bytes s (frame_behind limits items) (components_of limits items contents) rows whole d first.first (ap (λ (t : Scan). t.places) (scan_of_place limits items contents d.place (d.of).0 (d.of).1)) (data_framed limits items contents bytes s whole d first) at
-rest_blank limits items contents bytes (bit ∷ bits) s rows whole h first at =
-    half_blank limits items contents bytes (bit ∷ bits) s (frame_behind limits items) (components_of limits items contents) rows whole h first.first (ap (λ (t : Scan). t.places) (scan_of_place limits items contents h.place (h.of).0 (h.of).1))
-    (half_due limits items contents bytes (bit ∷ bits) s whole h first).framed at
+use Rattle.jpg_file.proofs.RowAfter.{rest_blank}
+use Rattle.jpg_file.proofs.StripRows.{data_goes, half_row}
 
 -- A ROW WITH UNITS that are left, inside the scan
 pub record RowReady (limits : Limits) (bytes : List ℕ) (w : FileWork) (scan : InScan) (rows : RowWork) : Type 0 where
@@ -53,38 +32,50 @@ pub record RowReady (limits : Limits) (bytes : List ℕ) (w : FileWork) (scan : 
   pub row : IsRowOf rows.tops whole rows.coefs
   pub turned : 1 ≤ scan_left scan.work → 1 ≤ rows.left
 
--- the next row is begun
-pub next_ready : (limits : Limits) (bytes : List ℕ) (w : FileWork) (scan : InScan) (old new : RowWork) → StandsByRow limits bytes w old → w.reading.scan ≡ Some scan → KeepsRowIn old new → TurnsRow old new → new.waiting ≡ old.waiting → RowReady limits bytes w scan new
-next_ready limits bytes w scan old new k is keeps turns same = by k.at
+-- the scan is being read
+pub inside_row : (limits : Limits) (bytes : List ℕ) (w : FileWork) (rows : RowWork) → (k : StandsByRow limits bytes w rows) → is_some w.reading.scan ≡ true
+    → RowsInside limits bytes w rows k.whole
+inside_row limits bytes w rows k some = by k.at
   where
-    by : RowsInside limits bytes w old k.whole ⊎ RowsAfter limits bytes w old k.whole → RowReady limits bytes w scan new
-    by (inr b) = absurd (none_some w.reading.scan scan is ((b.between).beside).none)
-    by (inl r) =
-        let one : r.scan ≡ scan = some_once r.scan scan (sym r.inside ∙ is) in
-        let at = keeps (frame_behind limits r.items) (components_of limits r.items r.contents) (scan_left r.scan.work) r.at in
-        let row = turns k.whole k.row (rest_blank limits r.items r.contents bytes old.waiting r.scan old k.whole r.coded (r.held).of r.at) in
-        subst (λ (s : InScan). RowReady limits bytes w s new) one
-        (record {
-          items = r.items;
-          contents = r.contents;
-          whole = k.whole;
-          coded = subst (λ z. InRowData limits r.items r.contents bytes z r.scan k.whole) (sym same) r.coded;
-          held = r.held;
-          at = at.0;
-          row = row;
-          turned = at.1;
-        })
+    by : RowsInside limits bytes w rows k.whole ⊎ RowsAfter limits bytes w rows k.whole → RowsInside limits bytes w rows k.whole
+    by (inl r) = r
+    by (inr b) = absurd (clash (is_some w.reading.scan) some (ap is_some ((b.between).beside).none))
 
--- the one that continues
-pub row_ready : (limits : Limits) (bytes : List ℕ) (w : FileWork) (scan : InScan) (rows : RowWork) → GoesByRow limits bytes w rows → w.reading.scan ≡ Some scan → RowReady limits bytes w scan rows
-row_ready limits bytes w scan rows g is = by (g.stands).at
-  where
-    by : RowsInside limits bytes w rows (g.stands).whole ⊎ RowsAfter limits bytes w rows (g.stands).whole → RowReady limits bytes w scan rows
-    by (inr b) = absurd (none_some w.reading.scan scan is ((b.between).beside).none)
-    by (inl r) =
-        let one : r.scan ≡ scan = some_once r.scan scan (sym r.inside ∙ is) in
-        subst (λ (s : InScan). RowReady limits bytes w s rows) one
-        (record { items = r.items; contents = r.contents; whole = (g.stands).whole; coded = r.coded; held = r.held; at = r.at; row = (g.stands).row; turned = g.turned r.scan r.inside })
+module _ (limits : Limits) (bytes : List ℕ) (w : FileWork) (scan : InScan) (is : w.reading.scan ≡ Some scan) where
+  -- the next row is begun
+  pub next_ready : (old new : RowWork) → StandsByRow limits bytes w old → KeepsRowIn old new → TurnsRow old new → new.waiting ≡ old.waiting
+      → RowReady limits bytes w scan new
+  next_ready old new k keeps turns same =
+      let r = inside_row limits bytes w old k (ap is_some is) in
+      let one : r.scan ≡ scan = some_once r.scan scan (sym r.inside ∙ is) in
+      let at = keeps (frame_behind limits r.items) (components_of limits r.items r.contents) (scan_left r.scan.work) r.at in
+      let row = turns k.whole k.row (rest_blank limits r.items r.contents bytes old.waiting r.scan old k.whole r.coded (r.held).of r.at) in
+      subst (λ (s : InScan). RowReady limits bytes w s new) one
+      (record {
+        items = r.items;
+        contents = r.contents;
+        whole = k.whole;
+        coded = subst (λ z. InRowData limits r.items r.contents bytes z r.scan k.whole) (sym same) r.coded;
+        held = r.held;
+        at = at.0;
+        row = row;
+        turned = at.1;
+      })
+
+  -- and no further row is complete
+  pub next_counts : (old new : RowWork) → StandsByRow limits bytes w old → KeepsRowIn old new → unfinished new ≡ unfinished old
+  next_counts old new k keeps =
+      let r = inside_row limits bytes w old k (ap is_some is) in
+      (keeps (frame_behind limits r.items) (components_of limits r.items r.contents) (scan_left r.scan.work) r.at).2
+
+  -- the one that continues
+  pub row_ready : (rows : RowWork) → GoesByRow limits bytes w rows → RowReady limits bytes w scan rows
+  row_ready rows g =
+      let k = g.stands in
+      let r = inside_row limits bytes w rows k (ap is_some is) in
+      let one : r.scan ≡ scan = some_once r.scan scan (sym r.inside ∙ is) in
+      subst (λ (s : InScan). RowReady limits bytes w s rows) one
+      (record { items = r.items; contents = r.contents; whole = k.whole; coded = r.coded; held = r.held; at = r.at; row = k.row; turned = g.turned r.scan r.inside })
 
 pub nothing : (bits : List Bool) → length bits ≡ 0 → bits ≡ []
 nothing [] e = refl
@@ -106,8 +97,12 @@ held_rest limits items contents bytes w s gate now e h = record {
   all = h.all;
 }
 
--- no bits wait
-pub ready_goes : (limits : Limits) (bytes : List ℕ) (w : FileWork) (scan : InScan) (rows : RowWork) → RowReady limits bytes w scan rows → rows.waiting ≡ [] → GoesByRow limits bytes (file_with w scan w.reading.taken) rows
+pub half_of : (limits : Limits) (items : List Item) (contents bytes : List ℕ) (waiting_bytes : List Bool) (s : InScan) (whole : Picture) → 1 ≤ length waiting_bytes → InRowData limits items contents bytes waiting_bytes s whole → HalfData limits items contents bytes waiting_bytes s whole
+half_of limits items contents bytes [] s whole some d = absurd (omega (arith, some))
+half_of limits items contents bytes (bit ∷ bits) s whole some h = h
+
+pub ready_goes : (limits : Limits) (bytes : List ℕ) (w : FileWork) (scan : InScan) (rows : RowWork) → RowReady limits bytes w scan rows → rows.waiting ≡ []
+    → GoesByRow limits bytes (file_with w scan w.reading.taken) rows
 ready_goes limits bytes w scan rows r none = record {
   stands = record {
     whole = r.whole;
@@ -120,41 +115,28 @@ ready_goes limits bytes w scan rows r none = record {
 
 -- THE BITS that waited
 
-pub half_of : (limits : Limits) (items : List Item) (contents bytes : List ℕ) (waiting_bytes : List Bool) (s : InScan) (whole : Picture) → 1 ≤ length waiting_bytes → InRowData limits items contents bytes waiting_bytes s whole → HalfData limits items contents bytes waiting_bytes s whole
-half_of limits items contents bytes [] s whole some d = absurd (omega (arith, some))
-half_of limits items contents bytes (bit ∷ bits) s whole some h = h
+module _ (limits : Limits) (bytes : List ℕ) (w : FileWork) (scan : InScan) (rows : RowWork) (r : RowReady limits bytes w scan rows)
+    (some : 1 ≤ length rows.waiting) where
+  -- the data, the last byte of which has bits that wait
+  half : HalfData limits r.items r.contents bytes rows.waiting scan r.whole
+  half = half_of limits r.items r.contents bytes rows.waiting scan r.whole some r.coded
 
-pub ready_half : (limits : Limits) (bytes : List ℕ) (w : FileWork) (scan : InScan) (rows : RowWork) → RowReady limits bytes w scan rows → 1 ≤ length rows.waiting → IsHalfRow scan rows
-ready_half limits bytes w scan rows r some =
-    half_row limits r.items r.contents bytes scan r.whole rows (half_of limits r.items r.contents bytes rows.waiting scan r.whole some r.coded) (r.held).of r.at r.row r.turned
+  pub ready_half : IsHalfRow scan rows
+  ready_half = half_row limits r.items r.contents bytes scan r.whole rows half (r.held).of r.at r.row r.turned
 
--- their result
-abbrev pub RestTaken : InScan → RowWork → Result (Unit {0}) Fault → InScan → RowWork → Type 0
-RestTaken old w answer new after =
-    (limits : Limits) (items : List Item) (contents bytes : List ℕ) (whole : Picture) → IsRowOf w.tops whole w.coefs → HalfData limits items contents bytes w.waiting old whole
-    → (now : Picture) × IsRowOf w.tops now after.coefs × AfterRowBytes limits items contents bytes answer after.waiting new now
+  -- their result
+  pub rest_goes : (new : InScan) (after : RowWork) (row : Bool) (given : Result (Unit {0}) Fault) (result : Step) → TakesRestInRow scan rows given new after
+      → given ≡ Ok tt → CountsScan scan.work rows row new.work after → new.gate ≡ scan.gate → result ≡ cond row step.Row step.More
+      → AfterRows limits bytes result (file_with w new w.reading.taken) after
+  rest_goes new after row given result took is c gate came =
+      let t = took limits r.items r.contents bytes r.whole r.row half in
+      let coded = subst (λ (a : Result (Unit {0}) Fault). AfterRowBytes limits r.items r.contents bytes a after.waiting new t.0) is t.2 in
+      let of = subst (λ (l : List ℕ). IsRowOf l t.0 after.coefs) (sym c.tops) t.1 in
+      subst (λ (a : Step). AfterRows limits bytes a (file_with w new w.reading.taken) after) (sym came)
+      (data_goes limits r.items r.contents bytes (file_with w new w.reading.taken) scan.work new t.0 rows after row refl coded (held_rest limits r.items r.contents bytes w new scan.gate new.gate gate r.held) r.at of c r.turned)
 
-pub rest_goes : (limits : Limits) (bytes : List ℕ) (w : FileWork) (scan new : InScan) (rows after : RowWork) (row : Bool) (given : Result (Unit {0}) Fault) (result : Step) → RowReady limits bytes w scan rows → 1 ≤ length rows.waiting → RestTaken scan rows given new after → given ≡ Ok tt
-    → CountsScan scan.work rows row new.work after → new.gate ≡ scan.gate → result ≡ cond row step.Row step.More → AfterRows limits bytes result (file_with w new w.reading.taken) after
-rest_goes limits bytes w scan new rows after row given result r some took is c gate came =
-    let h = half_of limits r.items r.contents bytes rows.waiting scan r.whole some r.coded in
-    let t = took limits r.items r.contents bytes r.whole r.row h in
-    let coded = subst (λ (a : Result (Unit {0}) Fault). AfterRowBytes limits r.items r.contents bytes a after.waiting new t.0) is t.2 in
-    let of = subst (λ (l : List ℕ). IsRowOf l t.0 after.coefs) (sym c.tops) t.1 in
-    subst (λ (a : Step). AfterRows limits bytes a (file_with w new w.reading.taken) after) (sym came)
-    (data_goes limits r.items r.contents bytes (file_with w new w.reading.taken) scan.work new t.0 rows after row refl coded (held_rest limits r.items r.contents bytes w new scan.gate new.gate gate r.held) r.at of c r.turned)
-
-pub rest_stops : (limits : Limits) (bytes : List ℕ) (w : FileWork) (scan new : InScan) (rows after : RowWork) (given : Result (Unit {0}) Fault) (fault : Fault) → RowReady limits bytes w scan rows → 1 ≤ length rows.waiting → RestTaken scan rows given new after → given ≡ Err fault
-    → IsStop limits bytes (record { fault = fault; at = w.reading.taken })
-rest_stops limits bytes w scan new rows after given fault r some took is =
-    let h = half_of limits r.items r.contents bytes rows.waiting scan r.whole some r.coded in
-    let t = took limits r.items r.contents bytes r.whole r.row h in
-    ((r.held).count, subst (λ (a : Result (Unit {0}) Fault). AfterRowBytes limits r.items r.contents bytes a after.waiting new t.0) is t.2)
-
--- and no further row is complete
-pub next_counts : (limits : Limits) (bytes : List ℕ) (w : FileWork) (scan : InScan) (old new : RowWork) → StandsByRow limits bytes w old → w.reading.scan ≡ Some scan → KeepsRowIn old new → unfinished new ≡ unfinished old
-next_counts limits bytes w scan old new k is keeps = by k.at
-  where
-    by : RowsInside limits bytes w old k.whole ⊎ RowsAfter limits bytes w old k.whole → unfinished new ≡ unfinished old
-    by (inr b) = absurd (none_some w.reading.scan scan is ((b.between).beside).none)
-    by (inl r) = (keeps (frame_behind limits r.items) (components_of limits r.items r.contents) (scan_left r.scan.work) r.at).2
+  pub rest_stops : (new : InScan) (after : RowWork) (given : Result (Unit {0}) Fault) (fault : Fault) → TakesRestInRow scan rows given new after
+      → given ≡ Err fault → IsStop limits bytes (record { fault = fault; at = w.reading.taken })
+  rest_stops new after given fault took is =
+      let t = took limits r.items r.contents bytes r.whole r.row half in
+      ((r.held).count, subst (λ (a : Result (Unit {0}) Fault). AfterRowBytes limits r.items r.contents bytes a after.waiting new t.0) is t.2)

@@ -32,10 +32,8 @@ begin_stops limits bytes rows w e none a = subst (λ (r : Option RowWork). After
 -- SOME BYTES
 
 pub stops : (result : Step) (holds : Type 0) → holds → IfStops result holds
-stops step.More holds h = tt
-stops step.Row holds h = tt
-stops step.Whole holds h = tt
 stops (step.Ended e) holds h = h
+stops other holds h = tt
 
 -- of a file that is read in one go
 pub some_plain : (w : FileWork) (rows : Option RowWork) (run : List ℕ) (n : ℕ) (answer : Step) (new : FileWork) → rows ≡ None → TakesSome w run n answer new → (bytes : List ℕ) → StripGoes (limits_of w) bytes rows w
@@ -56,26 +54,6 @@ some_plain w rows run n answer new none t bytes g =
       last = plain_after (KeepsBytes w) limits (front ++ get_or run t.early 0 ∷ []) rows new answer none (t.last limits front before refl);
     }
 
--- before the first scan: contents of a segment, and a byte
-pub first_plain : (w mid : FileWork) (run : List ℕ) (n : ℕ) (old rows : Option RowWork) (new : FileWork) (result : Step) → old ≡ None → PassesFront w run n mid
-    → ((bytes : List ℕ) → StandsForFile (limits_of mid) bytes mid → AfterStrip (limits_of mid) (bytes ++ get_or run n 0 ∷ []) result rows new) → IfStops result (new.head ≡ mid.head) → (bytes : List ℕ) → StripGoes (limits_of w) bytes old w
-    → StripRun (limits_of w) bytes run (n + 1) result rows new
-first_plain w mid run n old rows new result none p after head bytes g =
-    let limits = limits_of w in
-    let k = subst (λ (r : Option RowWork). StripGoes limits bytes r w) none g in
-    let front = bytes ++ take n run in
-    let before = p.stands limits bytes k in
-    record {
-      mid = mid;
-      early = n;
-      count = refl;
-      within = p.within;
-      before = before;
-      room = p.room;
-      head = head;
-      last = subst (λ (l : Limits). AfterStrip l (front ++ get_or run n 0 ∷ []) result rows new) p.limits (after front (subst (λ (l : Limits). StandsForFile l front mid) (sym p.limits) before));
-    }
-
 -- of one that is read MCU row by MCU row
 pub some_rows : (limits : Limits) (bytes run : List ℕ) (n : ℕ) (result : Step) (new : FileWork) (after : RowWork) → RowsRun limits bytes run n result new after → StripRun limits bytes run n result (Some after) new
 some_rows limits bytes run n result new after t = record {
@@ -89,15 +67,37 @@ some_rows limits bytes run n result new after t = record {
   last = t.last;
 }
 
--- WHAT IS KNOWN of rows that begin
-pub first_known : (w mid : FileWork) (run : List ℕ) (n : ℕ) (rows : Option RowWork) (strip : Option StripHead) → PassesFront w run n mid → ((bytes : List ℕ) → StandsForFile (limits_of mid) bytes mid → KnowsRows (limits_of mid) (bytes ++ get_or run n 0 ∷ []) 0 rows strip)
-    → (bytes : List ℕ) → StandsForFile (limits_of w) bytes w → KnowsRows (limits_of w) (bytes ++ take (n + 1) run) 0 rows strip
-first_known w mid run n rows strip p known bytes k =
-    let limits = limits_of w in
-    let front = bytes ++ take n run in
-    let before = p.stands limits bytes k in
-    subst (λ (l : List ℕ). KnowsRows limits l 0 rows strip) (sym (one_more bytes run n p.within))
-    (subst (λ (l : Limits). KnowsRows l (front ++ get_or run n 0 ∷ []) 0 rows strip) p.limits (known front (subst (λ (l : Limits). StandsForFile l front mid) (sym p.limits) before)))
+module _ (w mid : FileWork) (run : List ℕ) (n : ℕ) (p : PassesFront w run n mid) where
+  -- before the first scan: contents of a segment, and a byte
+  pub first_plain : (old rows : Option RowWork) (new : FileWork) (result : Step) → old ≡ None
+      → ((bytes : List ℕ) → StandsForFile (limits_of mid) bytes mid → AfterStrip (limits_of mid) (bytes ++ get_or run n 0 ∷ []) result rows new)
+      → IfStops result (new.head ≡ mid.head) → (bytes : List ℕ) → StripGoes (limits_of w) bytes old w → StripRun (limits_of w) bytes run (n + 1) result rows new
+  first_plain old rows new result none after head bytes g =
+      let limits = limits_of w in
+      let k = subst (λ (r : Option RowWork). StripGoes limits bytes r w) none g in
+      let front = bytes ++ take n run in
+      let before = p.stands limits bytes k in
+      record {
+        mid = mid;
+        early = n;
+        count = refl;
+        within = p.within;
+        before = before;
+        room = p.room;
+        head = head;
+        last = subst (λ (l : Limits). AfterStrip l (front ++ get_or run n 0 ∷ []) result rows new) p.limits (after front (subst (λ (l : Limits). StandsForFile l front mid) (sym p.limits) before));
+      }
+
+  -- WHAT IS KNOWN of rows that begin
+  pub first_known : (rows : Option RowWork) (strip : Option StripHead)
+      → ((bytes : List ℕ) → StandsForFile (limits_of mid) bytes mid → KnowsRows (limits_of mid) (bytes ++ get_or run n 0 ∷ []) 0 rows strip) → (bytes : List ℕ)
+      → StandsForFile (limits_of w) bytes w → KnowsRows (limits_of w) (bytes ++ take (n + 1) run) 0 rows strip
+  first_known rows strip known bytes k =
+      let limits = limits_of w in
+      let front = bytes ++ take n run in
+      let before = p.stands limits bytes k in
+      subst (λ (l : List ℕ). KnowsRows limits l 0 rows strip) (sym (one_more bytes run n p.within))
+      (subst (λ (l : Limits). KnowsRows l (front ++ get_or run n 0 ∷ []) 0 rows strip) p.limits (known front (subst (λ (l : Limits). StandsForFile l front mid) (sym p.limits) before)))
 
 pub none_rows : (rows : Option RowWork) → is_none rows ≡ true → rows ≡ None
 none_rows None e = refl

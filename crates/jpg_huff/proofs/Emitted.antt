@@ -27,19 +27,21 @@ pub emits_fault : (s0 s1 : DeskState) (old due more new : List ℕ) (fault : Wri
 emits_fault s0 s1 old due more new fault h =
     ((let P : List ℕ → Type 0 = λ x. AppendsPart s0.outputs x s1.outputs in subst P (append_assoc old due more) (AppendsPart-more s0.outputs s1.outputs (old ++ due) more h.0)), h.1, h.2)
 
--- bytes, and then more
-pub emits_then : (s0 s1 s2 : DeskState) (old due mid more new : List ℕ) (r : Result (Unit {0}) WriteFault) → OnlyWrites s0 s1 → Emits s0 old due (Ok tt) mid s1 → Emits s1 mid more r new s2 → Emits s0 old (due ++ more) r new s2
-emits_then s0 s1 s2 old due mid more new (Ok u) w h k = (
-  h.0 ++ k.0,
-  AppendsLast-then s0.outputs s1.outputs s2.outputs h.0 k.0 h.1 k.1,
-  sym (append_assoc old due more) ∙ ap (λ x. x ++ more) h.2 ∙ append_assoc h.0 mid more ∙ ap (λ x. h.0 ++ x) k.2 ∙ sym (append_assoc h.0 k.0 new),
-)
-emits_then s0 s1 s2 old due mid more new (Err fault) w h k = (
-  (let P : List ℕ → Type 0 = λ x. AppendsPart s0.outputs x s2.outputs in
-      subst P (sym (sym (append_assoc old due more) ∙ ap (λ x. x ++ more) h.2 ∙ append_assoc h.0 mid more)) (AppendsPart-then s0.outputs s1.outputs s2.outputs h.0 (mid ++ more) h.1 k.0)),
-  k.1,
-  (let f = w.counts.writes in let g = k.2 in omega arith),
-)
+module _ (s0 s1 s2 : DeskState) where
+  -- bytes, and then more
+  pub emits_then : (old due mid more new : List ℕ) (r : Result (Unit {0}) WriteFault) → OnlyWrites s0 s1 → Emits s0 old due (Ok tt) mid s1
+      → Emits s1 mid more r new s2 → Emits s0 old (due ++ more) r new s2
+  emits_then old due mid more new (Ok u) w h k = (
+    h.0 ++ k.0,
+    AppendsLast-then s0.outputs s1.outputs s2.outputs h.0 k.0 h.1 k.1,
+    sym (append_assoc old due more) ∙ ap (λ x. x ++ more) h.2 ∙ append_assoc h.0 mid more ∙ ap (λ x. h.0 ++ x) k.2 ∙ sym (append_assoc h.0 k.0 new),
+  )
+  emits_then old due mid more new (Err fault) w h k = (
+    (let P : List ℕ → Type 0 = λ x. AppendsPart s0.outputs x s2.outputs in
+        subst P (sym (sym (append_assoc old due more) ∙ ap (λ x. x ++ more) h.2 ∙ append_assoc h.0 mid more)) (AppendsPart-then s0.outputs s1.outputs s2.outputs h.0 (mid ++ more) h.1 k.0)),
+    k.1,
+    (let f = w.counts.writes in let g = k.2 in omega arith),
+  )
 
 pub OnlyWrites-then : (a b c : DeskState) → OnlyWrites a b → OnlyWrites b c → OnlyWrites a c
 OnlyWrites-then a b c h k =

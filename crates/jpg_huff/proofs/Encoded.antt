@@ -12,9 +12,13 @@ use Rattle.jpg_spec.specs.Codes.{code_of}
 use Rattle.jpg_spec.proofs.Small.{few_digits}
 use Rattle.jpg_huff.specs.Encoder.{IsValueEntry, AreValueEntries}
 
-pub small_category : (v : ℤ) → negsuc 31 ≤ℤ v → v ≤ℤ pos 31 → category v ≤ 6
+small_category : (v : ℤ) → negsuc 31 ≤ℤ v → v ≤ℤ pos 31 → category v ≤ 6
 small_category (pos n) low high = few_digits 6 n (omega (arith, ints))
 small_category (negsuc n) low high = few_digits 6 (suc n) (omega (arith, ints))
+
+-- that of a value which was stored
+pub small_size : (v w : ℤ) (size : ℕ) → w ≡ v → size ≡ category w → negsuc 31 ≤ℤ v → v ≤ℤ pos 31 → (size ≡ category v) × (size ≤ 6)
+small_size v w size same is low high = (is ∙ ap category same, omega (arith, is ∙ ap category same, small_category v low high))
 
 pub below_22 : (n l s : ℕ) → l ≤ 16 → s ≤ 6 → n < 2 ^ (l + s) → n < 4194304
 below_22 n l s h k lt =

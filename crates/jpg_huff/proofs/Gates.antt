@@ -50,17 +50,16 @@ fed_plain byte (answer ∷ answers) new n f =
 -- FF again and again, and then a last byte
 fed_fill : (fill byte : ℕ) (last : Passed) (answers : List Passed) (new : Bool) → ((answer : Passed) (mid : Bool) → Passes true byte answer mid → (answer ≡ last) × (mid ≡ false))
     → PassesAll true (replicate fill 255 ++ byte ∷ []) answers new → (answers ≡ replicate fill More ++ last ∷ []) × (new ≡ false)
-fed_fill zero byte last [] new at f = absurd f
 fed_fill zero byte last (answer ∷ answers) new at f =
     let one = at answer f.0 f.1 in
     let none : answers ≡ [] = fed_none f.0 answers new f.2 in
     (cc, fed_same f.0 answers new f.2 ∙ one.1)
-fed_fill (suc fill) byte last [] new at f = absurd f
 fed_fill (suc fill) byte last (answer ∷ answers) new at f =
     let one = at_fill true answer f.0 f.1 in
     let P : Bool → Type 0 = λ mid. PassesAll mid (replicate fill 255 ++ byte ∷ []) answers new in
     let later = fed_fill fill byte last answers new at (subst P one.1 f.2) in
     (as_more answer answers fill last one.0 later.0, later.1)
+fed_fill fill byte last none new at f = absurd f
 
 -- from a gate at which nothing waits
 fed_marker : (fill byte : ℕ) (last : Passed) (answers : List Passed) (new : Bool) → ((answer : Passed) (mid : Bool) → Passes true byte answer mid → (answer ≡ last) × (mid ≡ false))

@@ -28,32 +28,38 @@ pub record DoneButFor {A : Type 0} (R : Effect A) (s0 : DeskState) (old : Waitin
   pub joined : front ++ rest ≡ all
   pub done : R s0 old front (Ok tt) new s1
 
-pub part_start : {A : Type 0} (R : Effect A) (s : DeskState) (old : Waiting) (all rest : List A) → R s old [] (Ok tt) old s → rest ≡ all → DoneButFor R s old all rest old s
-part_start R s old all rest nothing e = record { front = []; joined = e; done = nothing }
+module _ {A : Type 0} (R : Effect A) where
+  pub part_start : (s : DeskState) (old : Waiting) (all rest : List A) → R s old [] (Ok tt) old s → rest ≡ all → DoneButFor R s old all rest old s
+  part_start s old all rest nothing e = record { front = []; joined = e; done = nothing }
 
--- the same is left in another way
-pub part_same : {A : Type 0} (R : Effect A) (s0 s1 : DeskState) (old new : Waiting) (all rest left : List A) → rest ≡ left → DoneButFor R s0 old all rest new s1 → DoneButFor R s0 old all left new s1
-part_same R s0 s1 old new all rest left e h = subst (λ r. DoneButFor R s0 old all r new s1) e h
+  -- the same is left in another way
+  pub part_same : (s0 s1 : DeskState) (old new : Waiting) (all rest left : List A) → rest ≡ left → DoneButFor R s0 old all rest new s1
+      → DoneButFor R s0 old all left new s1
+  part_same s0 s1 old new all rest left e h = subst (λ r. DoneButFor R s0 old all r new s1) e h
 
-pub part_end : {A : Type 0} (R : Effect A) (s0 s1 : DeskState) (old new : Waiting) (all rest : List A) → rest ≡ [] → DoneButFor R s0 old all rest new s1 → R s0 old all (Ok tt) new s1
-part_end R s0 s1 old new all rest e h = subst (λ x. R s0 old x (Ok tt) new s1) (sym (append-nil h.front) ∙ ap (λ x. h.front ++ x) (sym e) ∙ h.joined) h.done
+  pub part_end : (s0 s1 : DeskState) (old new : Waiting) (all rest : List A) → rest ≡ [] → DoneButFor R s0 old all rest new s1 → R s0 old all (Ok tt) new s1
+  part_end s0 s1 old new all rest e h = subst (λ x. R s0 old x (Ok tt) new s1) (sym (append-nil h.front) ∙ ap (λ x. h.front ++ x) (sym e) ∙ h.joined) h.done
 
-pub part_then : {A : Type 0} (R : Effect A) → Follows R → (s0 s1 s2 : DeskState) (old mid new : Waiting) (all rest piece left : List A) → rest ≡ piece ++ left → DoneButFor R s0 old all rest mid s1 → R s1 mid piece (Ok tt) new s2 → DoneButFor R s0 old all left new s2
-part_then R f s0 s1 s2 old mid new all rest piece left e h k =
-    record {
-      front = h.front ++ piece;
-      joined = append_assoc h.front piece left ∙ ap (λ x. h.front ++ x) (sym e) ∙ h.joined;
-      done = f.next s0 s1 s2 old mid new h.front piece (Ok tt) h.done k;
-    }
+-- ONE MORE CALL, after the desk s1
+module _ {A : Type 0} (R : Effect A) (f : Follows R) (s0 s1 s2 : DeskState) where
+  pub part_then : (old mid new : Waiting) (all rest piece left : List A) → rest ≡ piece ++ left → DoneButFor R s0 old all rest mid s1
+      → R s1 mid piece (Ok tt) new s2 → DoneButFor R s0 old all left new s2
+  part_then old mid new all rest piece left e h k = record {
+    front = h.front ++ piece;
+    joined = append_assoc h.front piece left ∙ ap (λ x. h.front ++ x) (sym e) ∙ h.joined;
+    done = f.next s0 s1 s2 old mid new h.front piece (Ok tt) h.done k;
+  }
 
--- it is done with the last ones
-pub part_last : {A : Type 0} (R : Effect A) → Follows R → (s0 s1 s2 : DeskState) (old mid new : Waiting) (all rest piece : List A) (r : Result (Unit {0}) WriteFault) → rest ≡ piece → DoneButFor R s0 old all rest mid s1 → R s1 mid piece r new s2 → R s0 old all r new s2
-part_last R f s0 s1 s2 old mid new all rest piece r e h k =
-    subst (λ x. R s0 old x r new s2) (ap (λ x. h.front ++ x) (sym e) ∙ h.joined)
-    (f.next s0 s1 s2 old mid new h.front piece r h.done k)
+  -- it is done with the last ones
+  pub part_last : (old mid new : Waiting) (all rest piece : List A) (r : Result (Unit {0}) WriteFault) → rest ≡ piece → DoneButFor R s0 old all rest mid s1
+      → R s1 mid piece r new s2 → R s0 old all r new s2
+  part_last old mid new all rest piece r e h k =
+      subst (λ x. R s0 old x r new s2) (ap (λ x. h.front ++ x) (sym e) ∙ h.joined)
+      (f.next s0 s1 s2 old mid new h.front piece r h.done k)
 
--- a fault came with some of those that are left
-pub part_fault : {A : Type 0} (R : Effect A) → Follows R → (s0 s1 s2 : DeskState) (old mid new : Waiting) (all rest piece left : List A) (fault : WriteFault) → rest ≡ piece ++ left → DoneButFor R s0 old all rest mid s1 → R s1 mid piece (Err fault) new s2 → R s0 old all (Err fault) new s2
-part_fault R f s0 s1 s2 old mid new all rest piece left fault e h k =
-    subst (λ x. R s0 old x (Err fault) new s2) (append_assoc h.front piece left ∙ ap (λ x. h.front ++ x) (sym e) ∙ h.joined)
-    (f.fault s0 s2 old new (h.front ++ piece) left fault (f.next s0 s1 s2 old mid new h.front piece (Err fault) h.done k))
+  -- a fault came with some of those that are left
+  pub part_fault : (old mid new : Waiting) (all rest piece left : List A) (fault : WriteFault) → rest ≡ piece ++ left → DoneButFor R s0 old all rest mid s1
+      → R s1 mid piece (Err fault) new s2 → R s0 old all (Err fault) new s2
+  part_fault old mid new all rest piece left fault e h k =
+      subst (λ x. R s0 old x (Err fault) new s2) (append_assoc h.front piece left ∙ ap (λ x. h.front ++ x) (sym e) ∙ h.joined)
+      (f.fault s0 s2 old new (h.front ++ piece) left fault (f.next s0 s1 s2 old mid new h.front piece (Err fault) h.done k))

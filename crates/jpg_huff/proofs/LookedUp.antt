@@ -1,11 +1,12 @@
 -- Codes by the bits that are next.
-use Rattle.std.proofs.Common.{◌≡◌, ℕ, zero, suc, ◌+◌, ◌-◌, ◌*◌, ◌/◌, ◌%◌, ◌^◌, ◌<◌, ◌≤◌, Bool, false, List, [], ◌∷◌, ◌++◌, length, take, drop, set, get_or, sym, ap, ◌∙◌, subst, arith, inl, inr, ⊎_elim}
+use Rattle.std.proofs.Common.{◌≡◌, ℕ, ◌+◌, ◌-◌, ◌*◌, ◌/◌, ◌%◌, ◌^◌, ◌<◌, ◌≤◌, Bool, false, List, [], ◌∷◌, ◌++◌, length, take, drop, set, get_or, sym, ap, ◌∙◌, subst, arith, inl, inr, ⊎_elim}
 use Rattle.std.specs.Prelude.{◌⊎◌, None, Some, if◌then◌else◌, ◌==◌}
 use Rattle.std.specs.List.{Contains}
 use Rattle.std.proofs.lemmas.Bool.{cases_lt}
 use Rattle.std.proofs.lemmas.Bool.Decides.{nat_tests}
 use Rattle.std.proofs.lemmas.Grind.{elements}
-use Rattle.std.proofs.lemmas.Nat.{pow_pos}
+use Rattle.std.proofs.lemmas.Nat.{pow_pos, pow-add}
+use Rattle.std.proofs.Math.Nat.{div-lt_iff_lt-mul}
 use Rattle.jpg_base.proofs.BitsAt.{bits_of-mod, bits_of-cut}
 use Rattle.std.proofs.lemmas.List.{length-append, length-take-le, take_more, take_all, take-append-le, take-take}
 use Rattle.std.proofs.lemmas.List.Elements.{Contains-append_cases}
@@ -15,7 +16,7 @@ use Rattle.jpg_spec.proofs.Strings.{length-bits_of, bits_of_inj}
 use Rattle.jpg_spec.proofs.DataLength.{codes_short}
 use Rattle.jpg_spec.proofs.Levels.{from_level, front_not_below}
 use Rattle.jpg_spec.proofs.Common.{take_front}
-use Rattle.jpg_spec.specs.Parts.{BeginsCode, IsFront}
+use Rattle.jpg_spec.specs.Parts.{IsFront}
 use Rattle.jpg_huff.specs.Index.{IsIndexed}
 use Rattle.jpg_huff.specs.Walk.{BeginsNoCode}
 use Rattle.jpg_huff.specs.Tables.{symbol_codes, table_of}
@@ -39,7 +40,7 @@ pub number_of : (counts symbols firsts starts limits : List ℕ) (i : ℕ) (code
     → Contains (codes counts symbols) code → length code.0 ≡ i + 1 → (r : ℕ) × (r < get_or counts i 0) × (code.0 ≡ bits_of (i + 1) (get_or firsts i 0 + r))
 number_of counts symbols firsts starts limits i code x h c l =
     let P : List Code → Type 0 = λ l. Contains l code in
-    let inside = subst P (level_split counts symbols firsts starts limits i x h) (in_longer counts symbols firsts starts limits i code x (omega arith) (omega arith) c) in
+    let inside = subst P (level_split symbols x i h) (in_longer symbols x i code (omega arith) (omega arith) c) in
     ⊎_elim
     (λ a. from_level (get_or counts i 0) (i + 1) (get_or firsts i 0) (drop (get_or starts i 0) symbols) code a)
     (λ b. let f = front_not_below (drop (i + 1) counts) (i + 1 + 1) (get_or firsts (i + 1) 0) (drop (get_or starts (i + 1) 0) symbols) code (are_codes counts symbols firsts starts limits (14 - i) (i + 1) x (omega arith)) b in
@@ -59,15 +60,10 @@ none_of_length t at byte code more h small out c l e =
     ⊎_elim (λ (a : byte / 2 ^ (7 - at) < get_or t.firsts at 0). omega (arith, q)) (λ (b : get_or t.counts at 0 ≤ byte / 2 ^ (7 - at) - get_or t.firsts at 0). omega (arith, q, r.1)) out
   where
     high_fits : (at byte : ℕ) → at < 8 → byte < 256 → byte / 2 ^ (7 - at) < 2 ^ (at + 1)
-    high_fits zero byte h small = omega arith
-    high_fits (suc zero) byte h small = omega arith
-    high_fits (suc (suc zero)) byte h small = omega arith
-    high_fits (suc (suc (suc zero))) byte h small = omega arith
-    high_fits (suc (suc (suc (suc zero)))) byte h small = omega arith
-    high_fits (suc (suc (suc (suc (suc zero))))) byte h small = omega arith
-    high_fits (suc (suc (suc (suc (suc (suc zero)))))) byte h small = omega arith
-    high_fits (suc (suc (suc (suc (suc (suc (suc zero))))))) byte h small = omega arith
-    high_fits (suc (suc (suc (suc (suc (suc (suc (suc at)))))))) byte h small = absurd (omega arith)
+    high_fits at byte h small =
+        let e : 8 ≡ (at + 1) + (7 - at) = omega (arith, h) in
+        let p : 256 ≡ 2 ^ (at + 1) * 2 ^ (7 - at) = ap (λ n. 2 ^ n) e ∙ pow-add 2 (at + 1) (7 - at) in
+        (div-lt_iff_lt-mul (pow_pos (7 - at))).1 (subst (λ n. byte < n) p small)
 
 -- none of up to this length
 abbrev pub NoneUpTo : Table → ℕ → ℕ → Type 0
@@ -104,17 +100,24 @@ found_is n symbol h s =
     ap (λ (b : Bool). (let f : Found = record { length = entry / 256; symbol = entry % 256 } in if b then None else Some f)) (not_zero entry (omega arith))
     ∙ ap (λ (k : ℕ). (let f : Found = record { length = k; symbol = entry % 256 } in Some f)) q ∙ ap (λ (k : ℕ). (let f : Found = record { length = n; symbol = k } in Some f)) r
 
-pub code_in_eight : (t : Table) (at byte symbol : ℕ) → at < 8 → symbol < 256 → get_or t.firsts at 0 ≤ byte / 2 ^ (7 - at) → byte / 2 ^ (7 - at) - get_or t.firsts at 0 < get_or t.counts at 0
+-- the symbol of a number of this length, which is a code
+number_found : (t : Table) (bits : List Bool) (at number symbol : ℕ) → at < 16 → get_or t.firsts at 0 ≤ number → number - get_or t.firsts at 0 < get_or t.counts at 0
+    → symbol ≡ get_or t.symbols (get_or t.starts at 0 + (number - get_or t.firsts at 0)) 0 → take (at + 1) bits ≡ bits_of (at + 1) number
+    → Contains (symbol_codes t) (take (at + 1) bits, symbol)
+number_found t bits at number symbol h low high found front =
+    let c = is_code t.symbols t.indexed at number h low (omega (arith, low, high)) in
+    let s = get_or t.symbols (get_or t.starts at 0 + (number - get_or t.firsts at 0)) 0 in
+    let P : List Code → Type 0 = λ l. Contains l (bits_of (at + 1) number, s) in
+    let Q : List Bool → ℕ → Type 0 = λ b k. Contains (symbol_codes t) (b, k) in
+    subst (Q (take (at + 1) bits)) (sym found) (subst (λ b. Q b s) (sym front) (subst P (codes_kept t) c))
+
+pub code_in_eight : (t : Table) (at byte symbol : ℕ) → at < 8 → symbol < 256 → get_or t.firsts at 0 ≤ byte / 2 ^ (7 - at)
+    → byte / 2 ^ (7 - at) - get_or t.firsts at 0 < get_or t.counts at 0
     → symbol ≡ get_or t.symbols (get_or t.starts at 0 + (byte / 2 ^ (7 - at) - get_or t.firsts at 0)) 0
     → LooksUp (symbol_codes t) (bits_of 8 byte) (found_of (256 * (at + 1) + symbol))
 code_in_eight t at byte symbol h s low high e =
-    let n = byte / 2 ^ (7 - at) in
-    let c = is_code t.counts t.symbols t.firsts t.starts t.limits at n t.indexed (omega arith) low (omega arith) in
-    let P : List Code → Type 0 = λ l. Contains l (bits_of (at + 1) n, get_or t.symbols (get_or t.starts at 0 + (n - get_or t.firsts at 0)) 0) in
-    let Q : List Bool → Type 0 = λ b. Contains (symbol_codes t) (b, get_or t.symbols (get_or t.starts at 0 + (n - get_or t.firsts at 0)) 0) in
-    let R : ℕ → Type 0 = λ k. Contains (symbol_codes t) (take (at + 1) (bits_of 8 byte), k) in
     subst (λ o. LooksUp (symbol_codes t) (bits_of 8 byte) o) (sym (found_is (at + 1) symbol (omega arith) s))
-    (omega arith, omega arith, subst R (sym e) (subst Q (sym (first_of_eight at byte h)) (subst P (codes_kept t) c)))
+    (omega arith, omega arith, number_found t (bits_of 8 byte) at (byte / 2 ^ (7 - at)) symbol (omega arith) low high e (first_of_eight at byte h))
 
 -- WHAT COMES FIRST
 
@@ -192,11 +195,6 @@ first_of_sixteen at n h =
 pub long_code : (t : Table) (bits : List Bool) (at n number symbol : ℕ) → at < 16 → 16 ≤ length bits → bits_of 16 n ≡ take 16 bits → number ≡ n / 2 ^ (15 - at) → get_or t.firsts at 0 ≤ number → number - get_or t.firsts at 0 < get_or t.counts at 0
     → symbol ≡ get_or t.symbols (get_or t.starts at 0 + (number - get_or t.firsts at 0)) 0 → Spots (symbol_codes t) bits (spotted.Symbol (at + 1) symbol)
 long_code t bits at n number symbol h long e is low high found =
-    let s = get_or t.symbols (get_or t.starts at 0 + (number - get_or t.firsts at 0)) 0 in
-    let c = is_code t.counts t.symbols t.firsts t.starts t.limits at number t.indexed (omega arith) low (omega arith) in
-    let P : List Code → Type 0 = λ l. Contains l (bits_of (at + 1) number, s) in
-    let Q : List Bool → Type 0 = λ b. Contains (symbol_codes t) (b, s) in
-    let R : ℕ → Type 0 = λ k. Contains (symbol_codes t) (take (at + 1) bits, k) in
     let front : take (at + 1) bits ≡ bits_of (at + 1) number =
     sym (take-take (at + 1) 16 bits (omega arith)) ∙ ap (take (at + 1)) (sym e) ∙ first_of_sixteen at n h ∙ ap (bits_of (at + 1)) (sym is) in
-    (omega arith, omega arith, omega arith, subst R (sym found) (subst Q (sym front) (subst P (codes_kept t) c)))
+    (omega arith, omega arith, omega arith, number_found t bits at number symbol h low high found front)

@@ -112,24 +112,14 @@ level_split counts symbols i h =
     ∙ ap (λ ss. codes_at k (i + 1) f (drop (sum (take i counts)) symbols) ++ codes_from (i + 1 + 1) (2 * (f + k)) (drop (i + 1) counts) ss) d
     ∙ ap (λ c. codes_at k (i + 1) f (drop (sum (take i counts)) symbols) ++ codes_from (i + 1 + 1) c (drop (i + 1) counts) (drop (sum (take (i + 1) counts)) symbols)) (sym (first_more counts i))
 
--- what a level of the encoder is given
-level_here : (counts symbols : List ℕ) (i start k f : ℕ) → start ≡ sum (take i counts) → k ≡ get_or counts i 0 → f ≡ first_number counts i → start + k ≤ length symbols
-    → codes_at (length (take k (drop start symbols))) (i + 1) f (take k (drop start symbols)) ≡ codes_at (get_or counts i 0) (i + 1) (first_number counts i) (drop (sum (take i counts)) symbols)
-level_here counts symbols i start k f es ek ef room =
-    let n : length (take k (drop start symbols)) ≡ k = length-take k (drop start symbols) ∙ omega (arith, length-drop start symbols) in
-    ap (λ m. codes_at m (i + 1) f (take k (drop start symbols))) n
-    ∙ level_take k k (i + 1) f (drop start symbols) (omega arith)
-    ∙ ap (λ m. codes_at m (i + 1) f (drop start symbols)) ek
-    ∙ ap (λ m. codes_at (get_or counts i 0) (i + 1) m (drop start symbols)) ef
-    ∙ ap (λ m. codes_at (get_or counts i 0) (i + 1) (first_number counts i) (drop m symbols)) es
-
 pub level_first : (counts symbols : List ℕ) → codes_from 1 (first_number counts 0) counts symbols ≡ codes counts symbols
 unfolding codes
 level_first counts symbols = ap (λ c. codes_from 1 c counts symbols) (first_none counts)
 
 -- one code of a length
 pub code_split : (symbols : List ℕ) (len c i : ℕ) → i < length symbols
-    → codes_at (length symbols - i) len c (drop i symbols) ≡ (bits_of len c, get_or symbols i 0) ∷ codes_at (length symbols - (i + 1)) len (c + 1) (drop (i + 1) symbols)
+    → codes_at (length symbols - i) len c (drop i symbols)
+    ≡ (bits_of len c, get_or symbols i 0) ∷ codes_at (length symbols - (i + 1)) len (c + 1) (drop (i + 1) symbols)
 code_split symbols len c i h =
     let n : length symbols - i ≡ suc (length symbols - (i + 1)) = omega arith in
     ap (λ k. codes_at k len c (drop i symbols)) n ∙ ap (λ ss. codes_at (suc (length symbols - (i + 1))) len c ss) (drop_more symbols i 0 h)
@@ -180,14 +170,29 @@ no_entries n =
       fits = λ s h. subst F (sym (zero_at n s)) (omega arith);
     }
 
--- a length's codes are added
-pub level_added : (counts symbols : List ℕ) (i start k f s : ℕ) (old new : Option (List Bool)) → i < length counts → start ≡ sum (take i counts) → k ≡ get_or counts i 0 → f ≡ first_number counts i → start + k ≤ length symbols
-    → or_else new None ≡ or_else old (first_code (codes_at (length (take k (drop start symbols))) (i + 1) f (take k (drop start symbols))) s)
-    → or_else new (first_code (codes_from (i + 1 + 1) (first_number counts (i + 1)) (drop (i + 1) counts) (drop (sum (take (i + 1) counts)) symbols)) s)
-    ≡ or_else old (first_code (codes_from (i + 1) (first_number counts i) (drop i counts) (drop (sum (take i counts)) symbols)) s)
-level_added counts symbols i start k f s old new h es ek ef room e =
-    let level = codes_at (length (take k (drop start symbols))) (i + 1) f (take k (drop start symbols)) in
-    let more = codes_from (i + 1 + 1) (first_number counts (i + 1)) (drop (i + 1) counts) (drop (sum (take (i + 1) counts)) symbols) in
-    leads_more old new level more s e
-    ∙ ap (λ l. or_else old (first_code (l ++ more) s)) (level_here counts symbols i start k f es ek ef room)
-    ∙ ap (λ l. or_else old (first_code l s)) (sym (level_split counts symbols i h))
+-- A LENGTH of the codes, from the numbers that its level of the encoder is given
+module _ (counts symbols : List ℕ) (i start k f : ℕ) where
+  -- what a level of the encoder is given
+  level_here : start ≡ sum (take i counts) → k ≡ get_or counts i 0 → f ≡ first_number counts i → start + k ≤ length symbols
+      → codes_at (length (take k (drop start symbols))) (i + 1) f (take k (drop start symbols))
+      ≡ codes_at (get_or counts i 0) (i + 1) (first_number counts i) (drop (sum (take i counts)) symbols)
+  level_here es ek ef room =
+      let n : length (take k (drop start symbols)) ≡ k = length-take k (drop start symbols) ∙ omega (arith, length-drop start symbols) in
+      ap (λ m. codes_at m (i + 1) f (take k (drop start symbols))) n
+      ∙ level_take k k (i + 1) f (drop start symbols) (omega arith)
+      ∙ ap (λ m. codes_at m (i + 1) f (drop start symbols)) ek
+      ∙ ap (λ m. codes_at (get_or counts i 0) (i + 1) m (drop start symbols)) ef
+      ∙ ap (λ m. codes_at (get_or counts i 0) (i + 1) (first_number counts i) (drop m symbols)) es
+
+  -- a length's codes are added
+  pub level_added : (s : ℕ) (old new : Option (List Bool)) → i < length counts → start ≡ sum (take i counts) → k ≡ get_or counts i 0 → f ≡ first_number counts i
+      → start + k ≤ length symbols
+      → or_else new None ≡ or_else old (first_code (codes_at (length (take k (drop start symbols))) (i + 1) f (take k (drop start symbols))) s)
+      → or_else new (first_code (codes_from (i + 1 + 1) (first_number counts (i + 1)) (drop (i + 1) counts) (drop (sum (take (i + 1) counts)) symbols)) s)
+      ≡ or_else old (first_code (codes_from (i + 1) (first_number counts i) (drop i counts) (drop (sum (take i counts)) symbols)) s)
+  level_added s old new h es ek ef room e =
+      let level = codes_at (length (take k (drop start symbols))) (i + 1) f (take k (drop start symbols)) in
+      let more = codes_from (i + 1 + 1) (first_number counts (i + 1)) (drop (i + 1) counts) (drop (sum (take (i + 1) counts)) symbols) in
+      leads_more old new level more s e
+      ∙ ap (λ l. or_else old (first_code (l ++ more) s)) (level_here es ek ef room)
+      ∙ ap (λ l. or_else old (first_code l s)) (sym (level_split counts symbols i h))

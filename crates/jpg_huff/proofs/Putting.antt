@@ -1,5 +1,5 @@
 -- What putting bits does.
-use Rattle.std.proofs.Common.{◌≡◌, ℕ, zero, suc, ◌+◌, ◌-◌, ◌*◌, ◌/◌, ◌%◌, ◌^◌, ◌<◌, ◌≤◌, Bool, true, List, [], ◌∷◌, ◌++◌, length, replicate, Result, Ok, Err, refl, sym, ap, ◌∙◌, subst, arith, ◌==◌}
+use Rattle.std.proofs.Common.{◌≡◌, ℕ, zero, suc, ◌+◌, ◌-◌, ◌*◌, ◌/◌, ◌%◌, ◌^◌, ◌<◌, ◌≤◌, Bool, true, List, [], ◌∷◌, ◌++◌, replicate, Result, Ok, Err, refl, sym, ap, ◌∙◌, subst, arith, ◌==◌}
 use Rattle.std.proofs.lemmas.List.{append-nil}
 use Rattle.std.proofs.lemmas.Nat.{shl_whole, one_shl, shr_split, mul-add-lt, pow-add, pow_pos}
 use Rattle.std.proofs.Math.Nat.{pow-succ'}
@@ -64,48 +64,63 @@ cut_bits a c k b n h e l =
     let t : c + k ≡ 32 + (c + k - 32) = omega arith in
     sym (all_bits a c k b n h e) ∙ ap (λ m. bits_of m n) t ∙ bits_of-add 32 (c + k - 32) n
 
-pub puts_held : (s : DeskState) (old : Waiting) (held : List ℕ) (a c k b n : ℕ) → record { bytes = held; bits = bits_of c a } ≡ old → b < 2 ^ k → n ≡ a * 2 ^ k + b
-    → Puts s old (bits_of k b) (Ok tt) (record { bytes = held; bits = bits_of (c + k) n }) s
+-- a number of bits that wait, the bits that come behind them, and the number of all
+pub record JoinedBits : Type 0 where
+  pub word : ℕ
+  pub count : ℕ
+  pub more : ℕ
+  pub bits : ℕ
+  pub all : ℕ
+  pub fits : bits < 2 ^ more
+  pub joined : all ≡ word * 2 ^ more + bits
+
+pub puts_held : (s : DeskState) (old : Waiting) (held : List ℕ) (j : JoinedBits) → record { bytes = held; bits = bits_of j.count j.word } ≡ old
+    → Puts s old (bits_of j.more j.bits) (Ok tt) (record { bytes = held; bits = bits_of (j.count + j.more) j.all }) s
 unfolding whole_bytes
-puts_held s old held a c k b n view h e =
-    let Q : Waiting → Type 0 = λ w. Puts s w (bits_of k b) (Ok tt) (record { bytes = held; bits = bits_of (c + k) n }) s in
+puts_held s old held j view =
+    let Q : Waiting → Type 0 = λ w. Puts s w (bits_of j.more j.bits) (Ok tt) (record { bytes = held; bits = bits_of (j.count + j.more) j.all }) s in
     subst Q view (record {
       kept = OnlyWrites-same s;
       front = [];
-      rest = bits_of (c + k) n;
-      all = sym (all_bits a c k b n h e);
+      rest = bits_of (j.count + j.more) j.all;
+      all = sym (all_bits j.word j.count j.more j.bits j.all j.fits j.joined);
       whole = (0, refl);
       bytes = emits_nothing s held;
       behind = refl;
     })
 
-pub puts_out : (s0 s1 : DeskState) (old : Waiting) (held new : List ℕ) (a c k b n : ℕ) → record { bytes = held; bits = bits_of c a } ≡ old → b < 2 ^ k → n ≡ a * 2 ^ k + b → 32 ≤ c + k → c + k < 64 → OnlyWrites s0 s1
-    → Emits s0 held (stuffed (whole_bytes (bits_of 32 (n / 2 ^ (c + k - 32))))) (Ok tt) new s1
-    → Puts s0 old (bits_of k b) (Ok tt) (record { bytes = new; bits = bits_of (c + k - 32) (n % ((1 * 2 ^ (c + k - 32)) % 2 ^ 64)) }) s1
-puts_out s0 s1 old held new a c k b n view h e l m kept emits =
-    let Q : Waiting → Type 0 = λ w. Puts s0 w (bits_of k b) (Ok tt) (record { bytes = new; bits = bits_of (c + k - 32) (n % ((1 * 2 ^ (c + k - 32)) % 2 ^ 64)) }) s1 in
+-- the bits after the first 32
+abbrev over : JoinedBits → ℕ
+over j = j.count + j.more - 32
+
+pub puts_out : (s0 s1 : DeskState) (old : Waiting) (held new : List ℕ) (j : JoinedBits) → record { bytes = held; bits = bits_of j.count j.word } ≡ old
+    → 32 ≤ j.count + j.more → j.count + j.more < 64 → OnlyWrites s0 s1 → Emits s0 held (stuffed (whole_bytes (bits_of 32 (j.all / 2 ^ over j)))) (Ok tt) new s1
+    → Puts s0 old (bits_of j.more j.bits) (Ok tt) (record { bytes = new; bits = bits_of (over j) (j.all % ((1 * 2 ^ over j) % 2 ^ 64)) }) s1
+puts_out s0 s1 old held new j view l m kept emits =
+    let Q : Waiting → Type 0 = λ w. Puts s0 w (bits_of j.more j.bits) (Ok tt) (record { bytes = new; bits = bits_of (over j) (j.all % ((1 * 2 ^ over j) % 2 ^ 64)) }) s1 in
     subst Q view (record {
       kept = kept;
-      front = bits_of 32 (n / 2 ^ (c + k - 32));
-      rest = bits_of (c + k - 32) n;
-      all = cut_bits a c k b n h e l;
-      whole = (4, length-bits_of 32 (n / 2 ^ (c + k - 32)));
+      front = bits_of 32 (j.all / 2 ^ over j);
+      rest = bits_of (over j) j.all;
+      all = cut_bits j.word j.count j.more j.bits j.all j.fits j.joined l;
+      whole = (4, length-bits_of 32 (j.all / 2 ^ over j));
       bytes = emits;
-      behind = low_bits (c + k - 32) n (omega arith);
+      behind = low_bits (over j) j.all (omega arith);
     })
 
-pub puts_fault : (s0 s1 : DeskState) (old : Waiting) (held new : List ℕ) (a c k b n : ℕ) (fault : WriteFault) → record { bytes = held; bits = bits_of c a } ≡ old → b < 2 ^ k → n ≡ a * 2 ^ k + b → 32 ≤ c + k → OnlyWrites s0 s1
-    → Emits s0 held (stuffed (whole_bytes (bits_of 32 (n / 2 ^ (c + k - 32))))) (Err fault) new s1
-    → Puts s0 old (bits_of k b) (Err fault) (record { bytes = new; bits = [] }) s1
+pub puts_fault : (s0 s1 : DeskState) (old : Waiting) (held new : List ℕ) (j : JoinedBits) (fault : WriteFault)
+    → record { bytes = held; bits = bits_of j.count j.word } ≡ old → 32 ≤ j.count + j.more → OnlyWrites s0 s1
+    → Emits s0 held (stuffed (whole_bytes (bits_of 32 (j.all / 2 ^ over j)))) (Err fault) new s1
+    → Puts s0 old (bits_of j.more j.bits) (Err fault) (record { bytes = new; bits = [] }) s1
 unfolding bits_of
-puts_fault s0 s1 old held new a c k b n fault view h e l kept emits =
-    let Q : Waiting → Type 0 = λ w. Puts s0 w (bits_of k b) (Err fault) (record { bytes = new; bits = [] }) s1 in
+puts_fault s0 s1 old held new j fault view l kept emits =
+    let Q : Waiting → Type 0 = λ w. Puts s0 w (bits_of j.more j.bits) (Err fault) (record { bytes = new; bits = [] }) s1 in
     subst Q view (record {
       kept = kept;
-      front = bits_of 32 (n / 2 ^ (c + k - 32));
-      rest = bits_of (c + k - 32) n;
-      all = cut_bits a c k b n h e l;
-      whole = (4, length-bits_of 32 (n / 2 ^ (c + k - 32)));
+      front = bits_of 32 (j.all / 2 ^ over j);
+      rest = bits_of (over j) j.all;
+      all = cut_bits j.word j.count j.more j.bits j.all j.fits j.joined l;
+      whole = (4, length-bits_of 32 (j.all / 2 ^ over j));
       bytes = emits;
       behind = refl;
     })
@@ -128,16 +143,19 @@ ones (suc f) =
 pub pad_number : (a c f : ℕ) → a < 2 ^ c → c < 32 → f < 8 → (a * 2 ^ f) % 2 ^ 64 + ((1 * 2 ^ f) % 2 ^ 64 - 1) ≡ a * 2 ^ f + (2 ^ f - 1)
 pad_number a c f h1 h2 h3 = number_is a c f (2 ^ f - 1) ((1 * 2 ^ f) % 2 ^ 64 - 1) h1 h2 (omega arith) (ap (λ m. m - 1) (one_shl f 64 (omega arith)))
 
-pub pads : (s0 s1 : DeskState) (old : Waiting) (held new : List ℕ) (r : Result (Unit {0}) WriteFault) (a c n : ℕ) → record { bytes = held; bits = bits_of c a } ≡ old → n ≡ a * 2 ^ ((8 - c % 8) % 8) + (2 ^ ((8 - c % 8) % 8) - 1) → OnlyWrites s0 s1
-    → Emits s0 held (stuffed (whole_bytes (bits_of (c + (8 - c % 8) % 8) n))) r new s1
-    → Pads s0 old r (record { bytes = new; bits = [] }) s1
-unfolding bits_of
-pads s0 s1 old held new r a c n view e kept emits =
+-- the bits of a number with those ones behind them
+pad_bits : (a c n : ℕ) → n ≡ a * 2 ^ ((8 - c % 8) % 8) + (2 ^ ((8 - c % 8) % 8) - 1) → bits_of (c + (8 - c % 8) % 8) n ≡ padded (bits_of c a)
+pad_bits a c n e =
     let f = (8 - c % 8) % 8 in
     let q : 0 < 2 ^ f = pow_pos f in
-    let Q : Waiting → Type 0 = λ w. Pads s0 w r (record { bytes = new; bits = [] }) s1 in
-    let P : List Bool → Type 0 = λ x. Emits s0 held (stuffed (whole_bytes x)) r new s1 in
-    let l : length (bits_of c a) ≡ c = length-bits_of c a in
-    let all : bits_of (c + f) n ≡ padded (bits_of c a) =
-    all_bits a c f (2 ^ f - 1) n (omega arith) e ∙ ap (λ x. bits_of c a ++ x) (ones f ∙ ap (λ m. replicate ((8 - m % 8) % 8) true) (sym l)) in
-    subst Q view (record { kept = kept; bytes = subst P all emits; none = refl })
+    all_bits a c f (2 ^ f - 1) n (omega arith) e ∙ ap (λ x. bits_of c a ++ x) (ones f ∙ ap (λ m. replicate ((8 - m % 8) % 8) true) (sym (length-bits_of c a)))
+
+module _ (s0 s1 : DeskState) (old : Waiting) (held new : List ℕ) where
+  pub pads : (r : Result (Unit {0}) WriteFault) (a c n : ℕ) → record { bytes = held; bits = bits_of c a } ≡ old
+      → n ≡ a * 2 ^ ((8 - c % 8) % 8) + (2 ^ ((8 - c % 8) % 8) - 1) → OnlyWrites s0 s1
+      → Emits s0 held (stuffed (whole_bytes (bits_of (c + (8 - c % 8) % 8) n))) r new s1 → Pads s0 old r (record { bytes = new; bits = [] }) s1
+  unfolding bits_of
+  pads r a c n view e kept emits =
+      let Q : Waiting → Type 0 = λ w. Pads s0 w r (record { bytes = new; bits = [] }) s1 in
+      let P : List Bool → Type 0 = λ x. Emits s0 held (stuffed (whole_bytes x)) r new s1 in
+      subst Q view (record { kept = kept; bytes = subst P (pad_bits a c n e) emits; none = refl })

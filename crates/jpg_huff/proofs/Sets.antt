@@ -33,13 +33,9 @@ slot_seen tables slot = by (slice_get tables slot) ∙ ap slot_value (sym (slice
 -- four slots, one after another
 pub four_slots : {Y : Type 0} (f : Table → Y) (tables : List (Option Table)) (a b c d : Option Y) → length tables ≡ 4 → a ≡ option_map f (in_slot tables 0) → b ≡ option_map f (in_slot tables 1) → c ≡ option_map f (in_slot tables 2) → d ≡ option_map f (in_slot tables 3)
     → (slot : ℕ) → slot_value (slice_get (a ∷ b ∷ c ∷ d ∷ []) slot) ≡ option_map f (in_slot tables slot)
-four_slots f [] a b c d long h0 h1 h2 h3 slot = absurd (omega arith)
-four_slots f (x ∷ []) a b c d long h0 h1 h2 h3 slot = absurd (omega arith)
-four_slots f (x ∷ y ∷ []) a b c d long h0 h1 h2 h3 slot = absurd (omega arith)
-four_slots f (x ∷ y ∷ z ∷ []) a b c d long h0 h1 h2 h3 slot = absurd (omega arith)
 four_slots f (x ∷ y ∷ z ∷ w ∷ []) a b c d long h0 h1 h2 h3 zero = h0
 four_slots f (x ∷ y ∷ z ∷ w ∷ []) a b c d long h0 h1 h2 h3 (suc zero) = h1
 four_slots f (x ∷ y ∷ z ∷ w ∷ []) a b c d long h0 h1 h2 h3 (suc (suc zero)) = h2
 four_slots f (x ∷ y ∷ z ∷ w ∷ []) a b c d long h0 h1 h2 h3 (suc (suc (suc zero))) = h3
 four_slots f (x ∷ y ∷ z ∷ w ∷ []) a b c d long h0 h1 h2 h3 (suc (suc (suc (suc slot)))) = refl
-four_slots f (x ∷ y ∷ z ∷ w ∷ v ∷ more) a b c d long h0 h1 h2 h3 slot = absurd (omega arith)
+four_slots f other a b c d long h0 h1 h2 h3 slot = absurd (omega (arith, long))

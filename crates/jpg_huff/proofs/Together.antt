@@ -1,5 +1,5 @@
 -- Puts and sends one after another; and puts, and then a pad: the data of all their bits.
-use Rattle.std.proofs.Common.{◌≡◌, ℕ, zero, suc, ◌+◌, ◌-◌, ◌*◌, ◌%◌, Bool, true, List, [], ◌∷◌, ◌++◌, length, replicate, Result, Ok, Err, refl, sym, ap, ◌∙◌, subst, arith}
+use Rattle.std.proofs.Common.{◌≡◌, ℕ, suc, ◌+◌, ◌-◌, ◌*◌, ◌%◌, Bool, true, List, [], ◌∷◌, ◌++◌, length, replicate, Result, Ok, Err, refl, sym, ap, ◌∙◌, subst, arith}
 use Rattle.std.proofs.lemmas.List.{append_assoc, append-nil, length-append}
 use Rattle.std.proofs.lemmas.List.Concat.{flat_map-append}
 use Rattle.jpg_base.specs.Desk.{DeskState}
@@ -14,15 +14,8 @@ use Rattle.jpg_huff.proofs.Emitted.{emits_then, emits_fault, emits_nothing, Only
 whole_bytes-append : (front rest : List Bool) (n : ℕ) → length front ≡ 8 * n → whole_bytes (front ++ rest) ≡ whole_bytes front ++ whole_bytes rest
 unfolding whole_bytes
 whole_bytes-append [] rest n e = refl
-whole_bytes-append (a ∷ []) rest n e = absurd (omega arith)
-whole_bytes-append (a ∷ b ∷ []) rest n e = absurd (omega arith)
-whole_bytes-append (a ∷ b ∷ c ∷ []) rest n e = absurd (omega arith)
-whole_bytes-append (a ∷ b ∷ c ∷ d ∷ []) rest n e = absurd (omega arith)
-whole_bytes-append (a ∷ b ∷ c ∷ d ∷ f ∷ []) rest n e = absurd (omega arith)
-whole_bytes-append (a ∷ b ∷ c ∷ d ∷ f ∷ g ∷ []) rest n e = absurd (omega arith)
-whole_bytes-append (a ∷ b ∷ c ∷ d ∷ f ∷ g ∷ h ∷ []) rest n e = absurd (omega arith)
-whole_bytes-append (a ∷ b ∷ c ∷ d ∷ f ∷ g ∷ h ∷ i ∷ front) rest zero e = absurd (omega arith)
 whole_bytes-append (a ∷ b ∷ c ∷ d ∷ f ∷ g ∷ h ∷ i ∷ front) rest (suc n) e = ap (λ (l : List ℕ). number_from 0 (a ∷ b ∷ c ∷ d ∷ f ∷ g ∷ h ∷ i ∷ []) ∷ l) (whole_bytes-append front rest n (omega arith))
+whole_bytes-append front rest n e = absurd (omega (arith, e))
 
 -- and so the bytes as they are in a file
 pub stuffed-append : (front rest : List Bool) → FillBytes front → stuffed (whole_bytes (front ++ rest)) ≡ stuffed (whole_bytes front) ++ stuffed (whole_bytes rest)
@@ -56,21 +49,23 @@ puts_nothing s old =
       behind = refl;
     }
 
--- bits were put, and then more
-pub puts_then : (s0 s1 s2 : DeskState) (old mid new : Waiting) (xs ys : List Bool) (r : Result (Unit {0}) WriteFault) → Puts s0 old xs (Ok tt) mid s1 → Puts s1 mid ys r new s2 → Puts s0 old (xs ++ ys) r new s2
-puts_then s0 s1 s2 old mid new xs ys r h k =
-    let P : List ℕ → Type 0 = λ due. Emits s0 old.bytes due r new.bytes s2 in
-    record {
-      kept = OnlyWrites-then s0 s1 s2 h.kept k.kept;
-      front = h.front ++ k.front;
-      rest = k.rest;
-      all = sym (append_assoc old.bits xs ys) ∙ ap (λ b. b ++ ys) h.all ∙ append_assoc h.front h.rest ys ∙ ap (λ b. h.front ++ (b ++ ys)) (sym h.behind) ∙ ap (λ b. h.front ++ b) k.all
-          ∙ sym (append_assoc h.front k.front k.rest);
-      whole = whole-append h.front k.front h.whole k.whole;
-      bytes = subst P (sym (stuffed-append h.front k.front h.whole))
-          (emits_then s0 s1 s2 old.bytes (stuffed (whole_bytes h.front)) mid.bytes (stuffed (whole_bytes k.front)) new.bytes r h.kept h.bytes k.bytes);
-      behind = k.behind;
-    }
+module _ (s0 s1 s2 : DeskState) where
+  -- bits were put, and then more
+  pub puts_then : (old mid new : Waiting) (xs ys : List Bool) (r : Result (Unit {0}) WriteFault) → Puts s0 old xs (Ok tt) mid s1 → Puts s1 mid ys r new s2
+      → Puts s0 old (xs ++ ys) r new s2
+  puts_then old mid new xs ys r h k =
+      let P : List ℕ → Type 0 = λ due. Emits s0 old.bytes due r new.bytes s2 in
+      record {
+        kept = OnlyWrites-then s0 s1 s2 h.kept k.kept;
+        front = h.front ++ k.front;
+        rest = k.rest;
+        all = sym (append_assoc old.bits xs ys) ∙ ap (λ b. b ++ ys) h.all ∙ append_assoc h.front h.rest ys ∙ ap (λ b. h.front ++ (b ++ ys)) (sym h.behind) ∙ ap (λ b. h.front ++ b) k.all
+            ∙ sym (append_assoc h.front k.front k.rest);
+        whole = whole-append h.front k.front h.whole k.whole;
+        bytes = subst P (sym (stuffed-append h.front k.front h.whole))
+            (emits_then s0 s1 s2 old.bytes (stuffed (whole_bytes h.front)) mid.bytes (stuffed (whole_bytes k.front)) new.bytes r h.kept h.bytes k.bytes);
+        behind = k.behind;
+      }
 
 -- bits that come after a fault are pending too
 pub puts_fault : (s0 s1 : DeskState) (old new : Waiting) (xs ys : List Bool) (fault : WriteFault) → Puts s0 old xs (Err fault) new s1 → Puts s0 old (xs ++ ys) (Err fault) new s1
@@ -118,10 +113,12 @@ puts_unpadded s0 s1 old new xs fault none h =
 pub sends_nothing : (s : DeskState) (old : Waiting) → old.bits ≡ [] → Sends s old [] (Ok tt) old s
 sends_nothing s old none = record { kept = OnlyWrites-same s; bytes = emits_nothing s old.bytes; none = none }
 
--- bytes were sent, and then more
-pub sends_then : (s0 s1 s2 : DeskState) (old mid new : Waiting) (xs ys : List ℕ) (r : Result (Unit {0}) WriteFault) → Sends s0 old xs (Ok tt) mid s1 → Sends s1 mid ys r new s2 → Sends s0 old (xs ++ ys) r new s2
-sends_then s0 s1 s2 old mid new xs ys r h k =
-    record { kept = OnlyWrites-then s0 s1 s2 h.kept k.kept; bytes = emits_then s0 s1 s2 old.bytes xs mid.bytes ys new.bytes r h.kept h.bytes k.bytes; none = k.none }
+module _ (s0 s1 s2 : DeskState) where
+  -- bytes were sent, and then more
+  pub sends_then : (old mid new : Waiting) (xs ys : List ℕ) (r : Result (Unit {0}) WriteFault) → Sends s0 old xs (Ok tt) mid s1 → Sends s1 mid ys r new s2
+      → Sends s0 old (xs ++ ys) r new s2
+  sends_then old mid new xs ys r h k =
+      record { kept = OnlyWrites-then s0 s1 s2 h.kept k.kept; bytes = emits_then s0 s1 s2 old.bytes xs mid.bytes ys new.bytes r h.kept h.bytes k.bytes; none = k.none }
 
 -- bytes that come after a fault are pending too
 pub sends_fault : (s0 s1 : DeskState) (old new : Waiting) (xs ys : List ℕ) (fault : WriteFault) → Sends s0 old xs (Err fault) new s1 → Sends s0 old (xs ++ ys) (Err fault) new s1

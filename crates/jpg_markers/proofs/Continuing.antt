@@ -16,6 +16,7 @@ use Rattle.jpg_markers.specs.declared.segments.Phase.TheVariants as phase
 use Rattle.jpg_markers.specs.Seen.{Leaves}
 use Rattle.jpg_markers.specs.Reading.{Reading, AtPhase, StandsForSegments, Continues, IsSized, MayFollow, PassesParts, PassesSegment, PassesSome, continued, due_of, filled, with_contents, with_taken}
 use Rattle.jpg_markers.proofs.Taking.{at_is, content_more, contents_more, fill_again, further, spelled}
+use Rattle.jpg_base.proofs.FedPiece.{take_both}
 
 -- FILL BYTES
 
@@ -104,12 +105,6 @@ some_stands r bytes before piece n is s = by r.phase refl
         rw z (none_more r bytes before 0 s)
 
     by : (p : Phase) → r.phase ≡ p → StandsForSegments (bytes ++ take n piece) before (continued p r (take n piece))
-    by phase.Empty e = idle phase.Empty e refl
-    by phase.HalfStart e = idle phase.HalfStart e refl
-    by phase.Between e = idle phase.Between e refl
-    by phase.Coded e = idle phase.Coded e refl
-    by phase.HalfLength e = idle phase.HalfLength e refl
-    by phase.Ended e = idle phase.Ended e refl
     by phase.Fill e =
         let m : n ≡ filled piece = is ∙ ap (λ q. due_of q r.left piece) e in
         let front : take n piece ≡ replicate n 255 = rw m (filled_front piece) in
@@ -119,16 +114,12 @@ some_stands r bytes before piece n is s = by r.phase refl
         let m : n ≡ min (r.left - 1) (length piece) = is ∙ ap (λ q. due_of q r.left piece) e in
         let size = length-take-le n piece (omega (arith, m)) in
         contents_more r bytes before (take n piece) e s (omega (arith, m, size, least))
+    by other e = idle other e refl
 
 pub some_within : (p : Phase) (left n : ℕ) (piece : List ℕ) → n ≡ due_of p left piece → n ≤ length piece
-some_within phase.Empty left n piece is = omega (arith, is)
-some_within phase.HalfStart left n piece is = omega (arith, is)
-some_within phase.Between left n piece is = omega (arith, is)
-some_within phase.Coded left n piece is = omega (arith, is)
-some_within phase.HalfLength left n piece is = omega (arith, is)
-some_within phase.Ended left n piece is = omega (arith, is)
 some_within phase.Fill left n piece is = let h = filled_within piece in omega (arith, is, h)
 some_within phase.Contents left n piece is = omega (arith, is)
+some_within other left n piece is = omega (arith, is)
 
 -- A COMPLETE SEGMENT at once
 pub passes_segment : (r : Reading) (code : ℕ) (contents : List ℕ) (seen : Seen) (n : ℕ) → MayFollow r code contents → Leaves r.seen code contents seen → PassesSegment r code contents n (record r { seen = seen; taken = r.taken + n })
@@ -161,20 +152,9 @@ same_bytes (x ∷ xs) (y ∷ ys) e =
     let k = both (eqb x y) (pointwise eqb xs ys) e in
     rw (eqb-true x y k.0) (ap (λ (l : List ℕ). y ∷ l) (same_bytes xs ys k.1))
 
-take_add : (n m : ℕ) (xs : List ℕ) → n ≤ length xs → take (n + m) xs ≡ take n xs ++ take m (drop n xs)
-take_add zero m xs h = ap (λ (k : ℕ). take k xs) (omega arith)
-take_add (suc n) m [] h = absurd (omega (arith, h))
-take_add (suc n) m (x ∷ xs) h =
-    let k : suc n + m ≡ suc (n + m) = omega arith in
-    ap (λ (i : ℕ). take i (x ∷ xs)) k ∙ ap (λ (l : List ℕ). x ∷ l) (take_add n m xs (omega (arith, h)))
-
 pub eight_more : (n : ℕ) (bytes group : List ℕ) → take n bytes ≡ replicate n 255 → n ≤ length bytes → group ≡ take 8 (drop n bytes) → group ≡ replicate 8 255 → take (n + 8) bytes ≡ replicate (n + 8) 255
 eight_more n bytes group e h g f =
-    take_add n 8 bytes h ∙ ap (λ (l : List ℕ). take n bytes ++ l) (sym g ∙ f) ∙ ap (λ (l : List ℕ). l ++ replicate 8 255) e ∙ replicate-append-replicate {A = ℕ} n 8 255
-
-pub was_same : (b : Bool) → not b ≡ false → b ≡ true
-was_same true e = refl
-was_same false e = cc
+    take_both n 8 bytes h ∙ ap (λ (l : List ℕ). take n bytes ++ l) (sym g ∙ f) ∙ ap (λ (l : List ℕ). l ++ replicate 8 255) e ∙ replicate-append-replicate {A = ℕ} n 8 255
 
 pub rest_long : (n : ℕ) (bytes rest tail : List ℕ) → n ≤ length bytes → rest ≡ drop n bytes → length tail + 8 ≡ length rest → n + 8 ≤ length bytes
 rest_long n bytes rest tail few is size = let l = length-drop n bytes in let m = ap length is in omega (arith, few, size, l, m)
@@ -214,7 +194,7 @@ front_spelled bytes fill code contents is some good (high, low, rest, cut, h, l,
     let last : take (suc (suc (suc (length contents)))) (drop fill bytes) ≡ code ∷ high ∷ low ∷ contents =
     ap (λ (xs : List ℕ). take (suc (suc (suc (length contents)))) xs) cut ∙ ap (λ (xs : List ℕ). code ∷ high ∷ low ∷ xs) (take-append_seam contents rest) in
     let all : take (fill + 3 + length contents) bytes ≡ marker ++ high ∷ low ∷ contents =
-    ap (λ (k : ℕ). take k bytes) sum ∙ take_add fill (suc (suc (suc (length contents)))) bytes (omega (arith, is, within))
+    ap (λ (k : ℕ). take k bytes) sum ∙ take_both fill (suc (suc (suc (length contents)))) bytes (omega (arith, is, within))
     ∙ ap (λ (xs : List ℕ). take fill bytes ++ xs) last ∙ ap (λ (xs : List ℕ). xs ++ code ∷ high ∷ low ∷ contents) front ∙ sym (append_assoc (replicate {A = ℕ} (suc (fill - 1)) 255) (code ∷ []) (high ∷ low ∷ contents)) in
     subst (λ (b : List ℕ). SpellsSegment code contents b) (sym all) (spelled code high low marker contents spells h l sized)
 
@@ -273,18 +253,13 @@ parts_reached r piece n is front before (suc m) s some few = by r.phase refl
         absurd (omega (arith, few, z))
 
     by : (p : Phase) → r.phase ≡ p → Reaches (kept_rule r.limits) (front ++ take (suc m) piece) at_part
-    by phase.Empty e = idle phase.Empty e refl
-    by phase.HalfStart e = idle phase.HalfStart e refl
-    by phase.Between e = idle phase.Between e refl
-    by phase.Coded e = idle phase.Coded e refl
-    by phase.HalfLength e = idle phase.HalfLength e refl
-    by phase.Ended e = idle phase.Ended e refl
     by phase.Fill e =
         let due : n ≡ filled piece = is ∙ ap (λ q. due_of q r.left piece) e in
         fill_reached r front before piece m e s (omega (arith, few, due))
     by phase.Contents e =
         let due : n ≡ min (r.left - 1) (length piece) = is ∙ ap (λ q. due_of q r.left piece) e in
         content_reached r front before piece m e s (omega (arith, few, due))
+    by other e = idle other e refl
 
 pub continues_stands : (old : Reading) (piece : List ℕ) (answer : Result ℕ NoMemory) (new : Reading) → Continues old piece answer new → PassesSome old piece answer new
 continues_stands old piece (Err e) new is = tt

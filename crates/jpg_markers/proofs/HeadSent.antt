@@ -25,7 +25,8 @@ left_1 head kept = markers_of head kept ++ (tables_text (distinct_in head) ++ he
 abbrev left_2 : OutHead → List ℕ
 left_2 head = tables_text (distinct_in head) ++ header_of head (distinct_in head)
 
-module _ (s0 : DeskState) (old : Waiting) (head : OutHead) (kept : List (ℕ × List ℕ)) (none : old.bits ≡ []) (l : length head.quants.items ≡ length head.frame.components) where
+module _ (s0 : DeskState) (old : Waiting) (head : OutHead) (kept : List (ℕ × List ℕ)) (none : old.bits ≡ [])
+    (l : length head.quants.items ≡ length head.frame.components) where
   abbrev all : List ℕ
   all = front_text (head_meaning head kept)
 

@@ -91,29 +91,31 @@ tables_step f tables i t h at = ap (flat_map f) (left_at tables i t h at)
 
 -- THE FRAME HEADER
 
--- a further component
-pub components_step : (distinct : List QuantTable) (f : Frame) (tables : List QuantTable) (i slot : ℕ) (c : Component) (t : QuantTable) (text : List ℕ) (front : List ℕ) → i < length f.components → i < length tables
-    → c ≡ component_at f i → t ≡ get_or tables i t → slot ≡ slot_in distinct t → front ≡ front_contents f ++ component_texts distinct (take i (zip f.components tables))
-    → text ≡ front ++ component_text c slot → text ≡ front_contents f ++ component_texts distinct (take (i + 1) (zip f.components tables))
-components_step distinct f tables i slot c t text front in_frame in_tables is at place so_far e =
-    let parts : List (Component × QuantTable) = zip f.components tables in
-    let d : Component × QuantTable = (no_component, t) in
-    let long : i < length parts = rw (length-zip f.components tables) (omega (arith, in_frame, in_tables)) in
-    let here : get_or parts i d ≡ (component_at f i, get_or tables i t) = get_or-zip f.components tables i d in_frame in_tables in
-    let g : Component × QuantTable → List ℕ = λ p. component_text p.0 (slot_in distinct p.1) in
-    let last : g (get_or parts i d) ≡ component_text c slot =
-    ap g here ∙ ap (λ (x : Component). component_text x (slot_in distinct (get_or tables i t))) (sym is)
-    ∙ ap (λ (x : QuantTable). component_text c (slot_in distinct x)) (sym at) ∙ ap (λ (n : ℕ). component_text c n) (sym place) in
-    let more : component_texts distinct (take (i + 1) parts) ≡ component_texts distinct (take i parts) ++ component_text c slot =
-    ap (flat_map g) (take_more parts i d long) ∙ flat_map-append g (take i parts) (get_or parts i d ∷ []) ∙ ap (λ l. component_texts distinct (take i parts) ++ l) (append-nil (g (get_or parts i d)) ∙ last) in
-    e ∙ ap (λ l. l ++ component_text c slot) so_far ∙ append_assoc (front_contents f) (component_texts distinct (take i parts)) (component_text c slot) ∙ ap (λ l. front_contents f ++ l) (sym more)
+module _ (distinct : List QuantTable) (f : Frame) (tables : List QuantTable) (i : ℕ) where
+  -- a further component
+  pub components_step : (slot : ℕ) (c : Component) (t : QuantTable) (text : List ℕ) (front : List ℕ) → i < length f.components → i < length tables
+      → c ≡ component_at f i → t ≡ get_or tables i t → slot ≡ slot_in distinct t
+      → front ≡ front_contents f ++ component_texts distinct (take i (zip f.components tables)) → text ≡ front ++ component_text c slot
+      → text ≡ front_contents f ++ component_texts distinct (take (i + 1) (zip f.components tables))
+  components_step slot c t text front in_frame in_tables is at place so_far e =
+      let parts : List (Component × QuantTable) = zip f.components tables in
+      let d : Component × QuantTable = (no_component, t) in
+      let long : i < length parts = rw (length-zip f.components tables) (omega (arith, in_frame, in_tables)) in
+      let here : get_or parts i d ≡ (component_at f i, get_or tables i t) = get_or-zip f.components tables i d in_frame in_tables in
+      let g : Component × QuantTable → List ℕ = λ p. component_text p.0 (slot_in distinct p.1) in
+      let last : g (get_or parts i d) ≡ component_text c slot =
+      ap g here ∙ ap (λ (x : Component). component_text x (slot_in distinct (get_or tables i t))) (sym is)
+      ∙ ap (λ (x : QuantTable). component_text c (slot_in distinct x)) (sym at) ∙ ap (λ (n : ℕ). component_text c n) (sym place) in
+      let more : component_texts distinct (take (i + 1) parts) ≡ component_texts distinct (take i parts) ++ component_text c slot =
+      ap (flat_map g) (take_more parts i d long) ∙ flat_map-append g (take i parts) (get_or parts i d ∷ []) ∙ ap (λ l. component_texts distinct (take i parts) ++ l) (append-nil (g (get_or parts i d)) ∙ last) in
+      e ∙ ap (λ l. l ++ component_text c slot) so_far ∙ append_assoc (front_contents f) (component_texts distinct (take i parts)) (component_text c slot) ∙ ap (λ l. front_contents f ++ l) (sym more)
 
--- all of them
-pub components_end : (distinct : List QuantTable) (f : Frame) (tables : List QuantTable) (i : ℕ) (text : List ℕ) → length f.components ≤ i
-    → text ≡ front_contents f ++ component_texts distinct (take i (zip f.components tables)) → text ≡ frame_contents distinct f tables
-components_end distinct f tables i text h e =
-    let parts : List (Component × QuantTable) = zip f.components tables in
-    e ∙ ap (λ ps. front_contents f ++ component_texts distinct ps) (take_all i parts (omega (arith, h, length-zip f.components tables)))
+  -- all of them
+  pub components_end : (text : List ℕ) → length f.components ≤ i → text ≡ front_contents f ++ component_texts distinct (take i (zip f.components tables))
+      → text ≡ frame_contents distinct f tables
+  components_end text h e =
+      let parts : List (Component × QuantTable) = zip f.components tables in
+      e ∙ ap (λ ps. front_contents f ++ component_texts distinct ps) (take_all i parts (omega (arith, h, length-zip f.components tables)))
 
 -- THE COMPLETE HEAD
 

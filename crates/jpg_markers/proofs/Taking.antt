@@ -41,12 +41,6 @@ same_more b (suc n) = ap (λ (xs : List ℕ). b ∷ xs) (same_more b n)
 
 -- AT THE START
 
-pub start_more : (r : Reading) (bytes : List ℕ) (before : List Segment) → r.phase ≡ phase.Empty → StandsForSegments bytes before r → Comes (bytes ++ 255 ∷ []) before (Ok step.More) (record r { phase = phase.HalfStart })
-start_more r bytes before e s =
-    let a = at_is r phase.Empty bytes before e s in
-    let cut : bytes ++ 255 ∷ [] ≡ 255 ∷ [] = ap (λ (b : List ℕ). b ++ 255 ∷ []) a.0 in
-    (inl (inr cut), (s.0, (cut, a.1, a.2)))
-
 pub start_fault : (r : Reading) (bytes : List ℕ) (before : List Segment) (byte : ℕ) → r.phase ≡ phase.Empty → StandsForSegments bytes before r → (byte ≡ 255 → ⊥) → SegmentsReveal (kept_rule r.limits) NotJpeg (bytes ++ byte ∷ []) × RevealsAfter (kept_rule r.limits) before NotJpeg (bytes ++ byte ∷ [])
 start_fault r bytes before byte e s ne =
     let a = at_is r phase.Empty bytes before e s in

@@ -12,6 +12,5 @@ pub mod Written
 pub mod Advance
 pub mod DueNumbers
 pub mod EndRead
-pub mod NumberEnded
 pub mod PiecesRead
 pub mod Stretch

@@ -1,5 +1,5 @@
 -- Samples of an image, made one by one from those of its file.
-use Rattle.std.proofs.Common.{◌≡◌, ℕ, suc, ◌+◌, ◌-◌, ◌/◌, ◌<◌, ◌≤◌, List, [], ◌∷◌, ◌++◌, length, take, drop, map, slice_index, flat_map, refl, sym, ap, ◌∙◌, subst, arith, append_assoc, Ok}
+use Rattle.std.proofs.Common.{◌≡◌, ℕ, suc, ◌+◌, ◌-◌, ◌/◌, ◌<◌, List, [], ◌∷◌, ◌++◌, length, take, drop, map, slice_index, flat_map, refl, sym, ap, ◌∙◌, subst, arith, append_assoc, Ok}
 use Rattle.std.proofs.Math.Nat.{mul_comm}
 use Rattle.std.proofs.lemmas.Nat.{div-mul-add}
 use Rattle.std.proofs.lemmas.List.{get_or-map, length-map, map-append, take_more, take_all, length-drop, append-nil}
@@ -37,13 +37,6 @@ scaled_more most samples old made new i got lt had is added bytes =
     ∙ append_assoc old (map f (take i samples)) (f (slice_index samples i) ∷ [])
     ∙ ap (λ l. old ++ l) (sym (map-append f (take i samples) (slice_index samples i ∷ [])) ∙ ap (map f) (sym (take_more samples i 0 lt)))
 
--- one pixel reversed
-turned_here : (xs : List ℕ) → 3 ≤ length xs → turned_round xs ≡ slice_index xs 2 ∷ slice_index xs 1 ∷ slice_index xs 0 ∷ turned_round (drop 3 xs)
-turned_here [] h = absurd (omega (arith, h))
-turned_here (a ∷ []) h = absurd (omega (arith, h))
-turned_here (a ∷ b ∷ []) h = absurd (omega (arith, h))
-turned_here (a ∷ b ∷ c ∷ xs) h = refl
-
 -- what is left of a row
 pub turned_rest : (row made due : List ℕ) (at : ℕ) → length row - at < 3 → made ++ turned_round (drop at row) ≡ due → made ++ take (length row - at) (drop at row) ≡ due
 turned_rest row made due at few e =
@@ -60,8 +53,7 @@ rows_more row old made new y had added =
     one = omega arith
 
 -- all samples of a PNM image
-pub made_pnm : (format : ℕ) (numbers : Numbers) (samples : List ℕ) (w h m : ℕ) (info : ImageInfo) (old new : List ℕ) → numbers ≡ All w h m → info ≡ pnm_info format (w ∷ h ∷ m ∷ []) → old ≡ []
-    → (AreBytes (map (scaled_sample m) samples) → new ≡ old ++ map (scaled_sample m) samples) → Makes (image_of (pnm format (list_of numbers [])) samples) (Ok info) new
-made_pnm format numbers samples w h m info old new is told none made =
-    subst (λ k. Makes (image_of (pnm format (list_of k [])) samples) (Ok info) new) (sym is)
-    (told, (λ bytes. made bytes ∙ ap (λ l. l ++ map (scaled_sample m) samples) none))
+pub made_pnm : (format : ℕ) (numbers : Numbers) (samples : List ℕ) (w h m : ℕ) (info : ImageInfo) (new : List ℕ) → numbers ≡ All w h m → info ≡ pnm_info format (w ∷ h ∷ m ∷ [])
+    → (AreBytes (map (scaled_sample m) samples) → new ≡ map (scaled_sample m) samples) → Makes (image_of (pnm format (list_of numbers [])) samples) (Ok info) new
+made_pnm format numbers samples w h m info new is told made =
+    subst (λ k. Makes (image_of (pnm format (list_of k [])) samples) (Ok info) new) (sym is) (told, made)

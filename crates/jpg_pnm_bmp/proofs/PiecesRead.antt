@@ -1,6 +1,6 @@
 -- Bytes that are read part by part.
 use Rattle.std.proofs.Common.{◌≡◌, ℕ, ◌+◌, ◌≤◌, List, ◌++◌, length, take, drop, sym, ap, ◌∙◌, subst, arith}
-use Rattle.std.proofs.lemmas.List.{append_assoc, append-nil, length-append, take-append-le, take_all}
+use Rattle.std.proofs.lemmas.List.{append_assoc, length-append, take-append-le}
 use Rattle.std.proofs.Math.Seq.{take-add, take-append-add}
 use Rattle.jpg_spec_image.specs.Images.{Image}
 use Rattle.jpg_spec_image.specs.ImageFaults.{IsImage, IsImageFault}
@@ -16,9 +16,6 @@ part_on bytes piece at used s e =
     ap (λ t. run t (take used (drop at piece))) e
     ∙ sym (run_join at_start (bytes ++ take at piece) (take used (drop at piece)))
     ∙ ap (run at_start) (append_assoc bytes (take at piece) (take used (drop at piece)) ∙ ap (λ x. bytes ++ x) (sym (take-add at used piece)))
-
-pub none_yet : (bytes piece : List ℕ) → run at_start (bytes ++ take 0 piece) ≡ run at_start bytes
-none_yet bytes piece = ap (run at_start) (append-nil bytes)
 
 front : (bytes piece rest : List ℕ) (n : ℕ) → n ≤ length piece → take (length bytes + n) ((bytes ++ piece) ++ rest) ≡ bytes ++ take n piece
 front bytes piece rest n h = ap (take (length bytes + n)) (append_assoc bytes piece rest) ∙ take-append-add bytes (piece ++ rest) n ∙ ap (λ x. bytes ++ x) (take-append-le n piece rest h)

@@ -31,7 +31,7 @@ use Rattle.jpg_prog_read.specs.declared.band.BandStep.{BandStep}
 use Rattle.jpg_prog_read.specs.declared.band.BandStep.TheVariants.{More, Done, Fault}
 use Rattle.jpg_prog_read.specs.InWork.{InWork, IsBeforeUnits, IsWholeUnit, IsEnd, IsRefinable, AreRefinable, band_values}
 use Rattle.jpg_prog_read.specs.ReaderSteps.{IsSaneBand, StaysOpen, KeepsOtherValues}
-use Rattle.jpg_prog_read.specs.Stands.{IsCodingOf, UnitPlace, BetweenUnits, IsRest, Answered, AnswersBit, AnswersBand, BeginsQuietly, IsNoFault}
+use Rattle.jpg_prog_read.specs.Stands.{IsCodingOf, BetweenUnits, IsRest, Answered, AnswersBit, AnswersBand, BeginsQuietly, IsNoFault}
 use Rattle.jpg_prog_read.specs.AcStands.{HasCorrectionRoom, BandHasRoom, IsAcInterval, ReadsBy, IsReadable, units_at, HasDue, place_of, IsOfBlock, IsInUnit, HasWhole, IsBetweenUnits, IsBefore, AcStands, AcReady, UnitAnswered}
 
 -- THE UNIT AT A PLACE
@@ -50,34 +50,34 @@ refinable_one b codes c k o is (inr h) = inr (omega (arith, h, is.scale, ap nat_
 next_apart : (done : List Place) (next : Place) (more : List Place) → AreDistinct (done ++ next ∷ more) → any_of (is_at next.component next.x next.y) done ≡ false
 next_apart done next more d = (apart_swap done (next ∷ more) (apart_of done (next ∷ more) d)).0
 
-due_apart : (m : AcReader) (i : Interval) (now : Picture) (done : List Place) (p : Place) (more : List Place) (whole : List ℤ) → HasDue m i now done (p ∷ more) whole → any_of (is_at p.component p.x p.y) done ≡ false
-due_apart m i now done p more whole d =
-    let places : i.places ++ i.later ≡ done ++ p ∷ (more ++ i.later) = ap (λ (l : List Place). l ++ i.later) d.all ∙ append_assoc done (p ∷ more) i.later in
-    next_apart done p (more ++ i.later) (subst (λ (l : List Place). AreDistinct l) places d.distinct)
+-- where this place is the next that is left
+module _ {m : AcReader} {i : Interval} {now : Picture} {done : List Place} {p : Place} {more : List Place} {whole : List ℤ} (d : HasDue m i now done (p ∷ more) whole) where
+  places_are : i.places ++ i.later ≡ done ++ p ∷ (more ++ i.later)
+  places_are = ap (λ (l : List Place). l ++ i.later) d.all ∙ append_assoc done (p ∷ more) i.later
 
--- its block is the one before the interval
-block_same : (m : AcReader) (i : Interval) (now : Picture) (done : List Place) (p : Place) (more : List Place) (whole : List ℤ) → HasDue m i now done (p ∷ more) whole → block_at (map_of now) p ≡ block_at (map_of i.before) p
-block_same m i now done p more whole d = ((d.read).changes).elsewhere p.component p.x p.y (due_apart m i now done p more whole d)
+  due_apart : any_of (is_at p.component p.x p.y) done ≡ false
+  due_apart = next_apart done p (more ++ i.later) (subst (λ (l : List Place). AreDistinct l) places_are d.distinct)
 
-pub padded_at : (m : AcReader) (i : Interval) (now : Picture) (done : List Place) (p : Place) (more : List Place) (whole : List ℤ) → HasDue m i now done (p ∷ more) whole → IsPadded now.frame p.component p.x p.y
-padded_at m i now done p more whole d =
-    subst (λ (g : Frame). IsPadded g p.component p.x p.y) (sym d.frame) (All-head (IsReadable m.scan m.codes i.before.frame i.scan.coding) p (more ++ i.later) d.spots).padded
+  -- its block is the one before the interval
+  block_same : block_at (map_of now) p ≡ block_at (map_of i.before) p
+  block_same = ((d.read).changes).elsewhere p.component p.x p.y due_apart
 
-coding_at : (m : AcReader) (i : Interval) (now : Picture) (done : List Place) (p : Place) (more : List Place) (whole : List ℤ) → HasDue m i now done (p ∷ more) whole → IsCodingOf m.scan m.codes i.scan.coding p.component
-coding_at m i now done p more whole d = (All-head (IsReadable m.scan m.codes i.before.frame i.scan.coding) p (more ++ i.later) d.spots).coding
+  pub padded_at : IsPadded now.frame p.component p.x p.y
+  padded_at = subst (λ (g : Frame). IsPadded g p.component p.x p.y) (sym d.frame) (All-head (IsReadable m.scan m.codes i.before.frame i.scan.coding) p (more ++ i.later) d.spots).padded
 
-pub has_place : (m : AcReader) (i : Interval) (now : Picture) (done due : List Place) (whole : List ℤ) → HasDue m i now done due whole → 1 ≤ length due → 1 ≤ length m.cursor
-has_place m i now done due whole d some = omega (arith, ap length d.cursor, length-append due i.later, some)
+  coding_at : IsCodingOf m.scan m.codes i.scan.coding p.component
+  coding_at = (All-head (IsReadable m.scan m.codes i.before.frame i.scan.coding) p (more ++ i.later) d.spots).coding
 
 -- with another current unit
-due_with : (m : AcReader) (n : InWork) (f : Bool) (i : Interval) (now : Picture) (done due : List Place) (whole : List ℤ) → HasDue m i now done due whole → HasDue (record m { unit = n; fresh = f }) i now done due whole
-due_with m n f i now done due whole d = record { reads = d.reads; kind = d.kind; distinct = d.distinct; all = d.all; cursor = d.cursor; left = d.left; spots = d.spots; frame = d.frame; read = d.read }
+due_with : {m : AcReader} {i : Interval} {now : Picture} {done due : List Place} {whole : List ℤ} (n : InWork) (f : Bool) → HasDue m i now done due whole
+    → HasDue (record m { unit = n; fresh = f }) i now done due whole
+due_with n f d = record { reads = d.reads; kind = d.kind; distinct = d.distinct; all = d.all; cursor = d.cursor; left = d.left; spots = d.spots; frame = d.frame; read = d.read }
 
 -- A BIT OF THE CURRENT UNIT
 
 pub unit_read : (m : AcReader) (n : InWork) (i : Interval) (bits : List Bool) (bit : Bool) (now : Picture) (step : BandStep) → IsInUnit m i bits now → StaysOpen m.scan step n → KeepsOtherValues m.unit n
     → AnswersBit m.scan m.codes m.left m.unit bit step n → UnitAnswered (record m { unit = n }) i (bits ++ bit ∷ []) now step
-unit_read m n i bits bit now step u open_ outside answers = by step open_ (answers (place_of i u.next u.more u.whole) bits (coding_at m i now u.done u.next u.more u.whole u.has_due) count u.stands)
+unit_read m n i bits bit now step u open_ outside answers = by step open_ (answers (place_of i u.next u.more u.whole) bits (coding_at u.has_due) count u.stands)
   where
     count : m.left ≡ 1 + length (units_at i u.more)
     count = omega (arith, (u.has_due).left, length-map u.more (unit_at i.scan (map_of i.before)))
@@ -88,7 +88,7 @@ unit_read m n i bits bit now step u open_ outside answers = by step open_ (answe
       next = u.next;
       more = u.more;
       whole = u.whole;
-      has_due = due_with m n m.fresh i now u.done (u.next ∷ u.more) u.whole u.has_due;
+      has_due = due_with n m.fresh u.has_due;
       begun = u.begun;
       goes_on = o;
       block = record { front = outside.0 ∙ (u.block).front; behind = outside.1 ∙ (u.block).behind };
@@ -99,7 +99,7 @@ unit_read m n i bits bit now step u open_ outside answers = by step open_ (answe
       next = u.next;
       more = u.more;
       whole = u.whole;
-      has_due = due_with m n m.fresh i now u.done (u.next ∷ u.more) u.whole u.has_due;
+      has_due = due_with n m.fresh u.has_due;
       ended = o;
       block = record { front = outside.0 ∙ (u.block).front; behind = outside.1 ∙ (u.block).behind };
       between = a;
@@ -121,9 +121,6 @@ due_is : (due later cursor : List Place) (p : Place) → cursor ≡ due ++ later
 due_is [] later cursor p e some f = absurd (omega arith)
 due_is (q ∷ more) later cursor p e some f = (more, ap (λ (x : Place). x ∷ more) (some_once q p (sym (ap (λ (l : List Place). slice_get l 0) e) ∙ f)))
 
-pub some_due : (m : AcReader) (i : Interval) (bits : List Bool) (now : Picture) → IsBetweenUnits m i bits now → 1 ≤ m.left → 1 ≤ length m.cursor
-some_due m i bits now w some = has_place m i now w.done w.due w.whole w.has_due (omega (arith, (w.has_due).left, some))
-
 pub between_at : (m : AcReader) (i : Interval) (bits : List Bool) (now : Picture) (p : Place) → IsBetweenUnits m i bits now → 1 ≤ m.left → slice_get m.cursor 0 ≡ Some p → IsBetweenAt m i bits now p
 between_at m i bits now p w some first =
     let d = due_is w.due i.later m.cursor p (w.has_due).cursor (omega (arith, (w.has_due).left, some)) first in
@@ -136,78 +133,61 @@ between_at m i bits now p w some first =
       between = subst (λ (l : List Place). BetweenUnits i.scan.coding (units_of i) w.whole (units_at i l) bits m.unit) d.1 w.between;
     }
 
--- the block at its place
-block_there : (m : AcReader) (i : Interval) (bits : List Bool) (now : Picture) (p : Place) (block : List ℤ) → (t : IsBetweenAt m i bits now p) → block ≡ block_in now p.component p.x p.y → block ≡ block_at (map_of now) p
-block_there m i bits now p block t e = e ∙ sym (map_at now p.component p.x p.y (padded_at m i now t.done p t.more t.whole t.has_due))
+-- THE BLOCK at that place
+module _ {m : AcReader} {i : Interval} {bits : List Bool} {now : Picture} {p : Place} (t : IsBetweenAt m i bits now p) (block : List ℤ) (is : block ≡ block_in now p.component p.x p.y) where
+  block_there : block ≡ block_at (map_of now) p
+  block_there = is ∙ sym (map_at now p.component p.x p.y (padded_at t.has_due))
 
-old_band : (m : AcReader) (i : Interval) (bits : List Bool) (now : Picture) (p : Place) (block : List ℤ) → (t : IsBetweenAt m i bits now p) → block ≡ block_in now p.component p.x p.y → band_values m.scan block ≡ band i.scan (block_at (map_of i.before) p)
-old_band m i bits now p block t e =
-    band_is m.scan i.scan block (t.has_due).reads ∙ ap (band i.scan) (block_there m i bits now p block t e ∙ block_same m i now t.done p t.more t.whole t.has_due)
+  old_band : band_values m.scan block ≡ band i.scan (block_at (map_of i.before) p)
+  old_band = band_is m.scan i.scan block (t.has_due).reads ∙ ap (band i.scan) (block_there ∙ block_same t.has_due)
 
--- its values take corrections
-pub takes_bits : (m : AcReader) (i : Interval) (bits : List Bool) (now : Picture) (p : Place) (block : List ℤ) → IsBetweenAt m i bits now p → block ≡ block_in now p.component p.x p.y → AreRefinable m.scan (band_values m.scan block)
-takes_bits m i bits now p block t e =
-    let d = t.has_due in
-    let places : i.places ++ i.later ≡ t.done ++ p ∷ (t.more ++ i.later) = ap (λ (l : List Place). l ++ i.later) d.all ∙ append_assoc t.done (p ∷ t.more) i.later in
-    let P = BandHasRoom i.scan (map_of i.before) in
-    let all : All P (p ∷ (t.more ++ i.later)) = all_back P t.done (p ∷ (t.more ++ i.later)) (subst (λ (l : List Place). All P l) places (d.kind).room) in
-    let room : All (HasCorrectionRoom i.scan.coding) (band i.scan (block_at (map_of i.before) p)) = All-head P p (t.more ++ i.later) all in
-    subst (λ (l : List ℤ). All (IsRefinable m.scan) l) (sym (old_band m i bits now p block t e))
-    (All-weaker (HasCorrectionRoom i.scan.coding) (IsRefinable m.scan) (λ o h. refinable_one m.scan m.codes i.scan.coding p.component o (coding_at m i now t.done p t.more t.whole d) h) (band i.scan (block_at (map_of i.before) p)) room)
+  -- its values take corrections
+  pub takes_bits : AreRefinable m.scan (band_values m.scan block)
+  takes_bits =
+      let d = t.has_due in
+      let P = BandHasRoom i.scan (map_of i.before) in
+      let all : All P (p ∷ (t.more ++ i.later)) = all_back P t.done (p ∷ (t.more ++ i.later)) (subst (λ (l : List Place). All P l) (places_are d) (d.kind).room) in
+      let room : All (HasCorrectionRoom i.scan.coding) (band i.scan (block_at (map_of i.before) p)) = All-head P p (t.more ++ i.later) all in
+      subst (λ (l : List ℤ). All (IsRefinable m.scan) l) (sym old_band)
+      (All-weaker (HasCorrectionRoom i.scan.coding) (IsRefinable m.scan) (λ o h. refinable_one m.scan m.codes i.scan.coding p.component o (coding_at d) h) (band i.scan (block_at (map_of i.before) p)) room)
 
-pub unit_taken : (m : AcReader) (n : InWork) (i : Interval) (bits : List Bool) (now : Picture) (p : Place) (block : List ℤ) (step : BandStep) → IsBetweenAt m i bits now p → block ≡ block_in now p.component p.x p.y
-    → StaysOpen m.scan step n → (n.front ≡ take m.scan.start block) × (n.behind ≡ drop m.scan.end block) → AnswersBand m.scan (band_values m.scan block) m.unit step n
-    → UnitAnswered (record m { unit = n; fresh = false }) i bits now step
-unit_taken m n i bits now p block step t e open_ outside answers = by step open_ (answers m.codes at bits (coding_at m i now t.done p t.more t.whole t.has_due) rest)
-  where
-    at : UnitPlace
-    at = place_of i p t.more t.whole
+  -- the unit that it gives is the next
+  unit_next : BetweenUnits i.scan.coding (units_of i) t.whole (band_unit p.component (band_values m.scan block) ∷ units_at i t.more) bits m.unit
+  unit_next =
+      let unit : unit_at i.scan (map_of i.before) p ≡ band_unit p.component (band_values m.scan block) = unit_is i.scan (map_of i.before) p ((t.has_due).kind).some ∙ ap (band_unit p.component) (sym old_band) in
+      subst (λ (u : UnitLeft). BetweenUnits i.scan.coding (units_of i) t.whole (u ∷ units_at i t.more) bits m.unit) unit t.between
 
-    here : block ≡ block_at (map_of now) p
-    here = block_there m i bits now p block t e
+  pub unit_taken : (n : InWork) (step : BandStep) → StaysOpen m.scan step n → (n.front ≡ take m.scan.start block) × (n.behind ≡ drop m.scan.end block)
+      → AnswersBand m.scan (band_values m.scan block) m.unit step n → UnitAnswered (record m { unit = n; fresh = false }) i bits now step
+  unit_taken n step open_ outside answers = by step open_ (answers m.codes (place_of i p t.more t.whole) bits (coding_at t.has_due) unit_next)
+    where
+      by : (step : BandStep) → StaysOpen m.scan step n → Answered (place_of i p t.more t.whole) bits step n
+          → UnitAnswered (record m { unit = n; fresh = false }) i bits now step
+      by More o a = record {
+        done = t.done;
+        next = p;
+        more = t.more;
+        whole = t.whole;
+        has_due = due_with n false t.has_due;
+        begun = refl;
+        goes_on = o;
+        block = record { front = outside.0 ∙ ap (take m.scan.start) block_there; behind = outside.1 ∙ ap (drop m.scan.end) block_there };
+        stands = a;
+      }
+      by Done o a = record {
+        done = t.done;
+        next = p;
+        more = t.more;
+        whole = t.whole;
+        has_due = due_with n false t.has_due;
+        ended = o;
+        block = record { front = outside.0 ∙ ap (take m.scan.start) block_there; behind = outside.1 ∙ ap (drop m.scan.end) block_there };
+        between = a;
+      }
+      by (Fault f) o a = a
 
-    unit : unit_at i.scan (map_of i.before) p ≡ band_unit p.component (band_values m.scan block)
-    unit = unit_is i.scan (map_of i.before) p ((t.has_due).kind).some ∙ ap (band_unit p.component) (sym (old_band m i bits now p block t e))
-
-    rest : BetweenUnits i.scan.coding (units_of i) t.whole (band_unit p.component (band_values m.scan block) ∷ units_at i t.more) bits m.unit
-    rest = subst (λ (u : UnitLeft). BetweenUnits i.scan.coding (units_of i) t.whole (u ∷ units_at i t.more) bits m.unit) unit t.between
-
-    by : (step : BandStep) → StaysOpen m.scan step n → Answered at bits step n → UnitAnswered (record m { unit = n; fresh = false }) i bits now step
-    by More o a = record {
-      done = t.done;
-      next = p;
-      more = t.more;
-      whole = t.whole;
-      has_due = due_with m n false i now t.done (p ∷ t.more) t.whole t.has_due;
-      begun = refl;
-      goes_on = o;
-      block = record { front = outside.0 ∙ ap (take m.scan.start) here; behind = outside.1 ∙ ap (drop m.scan.end) here };
-      stands = a;
-    }
-    by Done o a = record {
-      done = t.done;
-      next = p;
-      more = t.more;
-      whole = t.whole;
-      has_due = due_with m n false i now t.done (p ∷ t.more) t.whole t.has_due;
-      ended = o;
-      block = record { front = outside.0 ∙ ap (take m.scan.start) here; behind = outside.1 ∙ ap (drop m.scan.end) here };
-      between = a;
-    }
-    by (Fault f) o a = a
-
-pub taken_quietly : (m : AcReader) (i : Interval) (bits : List Bool) (now : Picture) (p : Place) (block : List ℤ) (step : BandStep) → IsBetweenAt m i bits now p → block ≡ block_in now p.component p.x p.y
-    → BeginsQuietly m.scan (band_values m.scan block) m.unit step → IsNoFault step
-taken_quietly m i bits now p block step t e quiet = quiet m.codes at bits (coding_at m i now t.done p t.more t.whole t.has_due) rest
-  where
-    at : UnitPlace
-    at = place_of i p t.more t.whole
-
-    unit : unit_at i.scan (map_of i.before) p ≡ band_unit p.component (band_values m.scan block)
-    unit = unit_is i.scan (map_of i.before) p ((t.has_due).kind).some ∙ ap (band_unit p.component) (sym (old_band m i bits now p block t e))
-
-    rest : BetweenUnits i.scan.coding (units_of i) t.whole (band_unit p.component (band_values m.scan block) ∷ units_at i t.more) bits m.unit
-    rest = subst (λ (u : UnitLeft). BetweenUnits i.scan.coding (units_of i) t.whole (u ∷ units_at i t.more) bits m.unit) unit t.between
+  pub taken_quietly : (step : BandStep) → BeginsQuietly m.scan (band_values m.scan block) m.unit step → IsNoFault step
+  taken_quietly step quiet = quiet m.codes (place_of i p t.more t.whole) bits (coding_at t.has_due) unit_next
 
 -- A UNIT IS PUT AT ITS PLACE
 
@@ -249,7 +229,7 @@ whole_place m i bits now p w first = some_once w.next p (sym (ap (λ (l : List P
 
 pub whole_padded : (m : AcReader) (i : Interval) (bits : List Bool) (now : Picture) (p : Place) → HasWhole m i bits now → slice_get m.cursor 0 ≡ Some p → IsPadded now.frame p.component p.x p.y
 whole_padded m i bits now p w first =
-    subst (λ (q : Place). IsPadded now.frame q.component q.x q.y) (whole_place m i bits now p w first) (padded_at m i now w.done w.next w.more w.whole w.has_due)
+    subst (λ (q : Place). IsPadded now.frame q.component q.x q.y) (whole_place m i bits now p w first) (padded_at w.has_due)
 
 pub unit_put : (m : AcReader) (i : Interval) (bits : List Bool) (now : Picture) (p : Place) (r : List ℤ) → HasWhole m i bits now → slice_get m.cursor 0 ≡ Some p → length now.blocks ≡ padded_blocks now.frame
     → r ≡ m.unit.front ++ (m.unit.done ++ m.unit.behind) → length r ≡ 64 → IsBetweenUnits (record m { cursor = drop 1 m.cursor; left = m.left - 1 }) i bits (with_block now p.component p.x p.y r)
@@ -260,10 +240,10 @@ unit_put m i bits now p r w first count e size =
     let x = block_at (map_of now) p in
     let h : HasNewBand m.scan x r m.unit.done =
     new_band m.scan x m.unit.front m.unit.done m.unit.behind r (d.reads).sane (((d.read).changes).sizes p.component p.x p.y) of.front of.behind e size in
-    let there : HasPlace now p = record { place = padded_at m i now w.done p w.more w.whole d; count = count } in
+    let there : HasPlace now p = record { place = padded_at d; count = count } in
     let keeps : KeepsOutside i.scan now p r = record { size = size; same = λ k o. outside_same m.scan i.scan x r m.unit.done k d.reads h o } in
     let after = put_at now p r in
-    let read = units_next i.scan w.done p (map_of i.before) (map_of now) (map_of after) w.whole (due_apart m i now w.done p w.more w.whole d) d.read (put_changes i.scan now p r there keeps) in
+    let read = units_next i.scan w.done p (map_of i.before) (map_of now) (map_of after) w.whole (due_apart d) d.read (put_changes i.scan now p r there keeps) in
     let told : band i.scan (block_at (map_of after) p) ≡ m.unit.done = ap (band i.scan) (put_here now p r there) ∙ sym (band_is m.scan i.scan r d.reads) ∙ h.values in
     record {
       done = w.done ++ p ∷ [];
@@ -291,13 +271,10 @@ between_done c units told bits s stage.Code e f =
     let p = subst (λ g. IsRest c f.mid [] f.here f.part s g) e f.is_rest in
     let t : told ≡ f.before = sym (ap (λ l. f.before ++ l) (sym p.1) ∙ f.same) ∙ append-nil f.before in
     (f.elements, f.mid, subst (λ x. Covers c (at_start units) f.elements told x f.mid) (sym (f.split ∙ ap (λ l. f.front ++ l) p.2 ∙ append-nil f.front)) (subst (λ x. Covers c (at_start units) f.elements x f.front f.mid) (sym t) f.covers), p.0)
-between_done c units told bits s stage.Number e f = absurd (subst (λ g. IsRest c f.mid [] f.here f.part s g) e f.is_rest)
-between_done c units told bits s stage.Count e f = absurd (subst (λ g. IsRest c f.mid [] f.here f.part s g) e f.is_rest)
-between_done c units told bits s stage.Value e f = absurd (subst (λ g. IsRest c f.mid [] f.here f.part s g) e f.is_rest)
-between_done c units told bits s stage.Long e f = absurd (subst (λ g. IsRest c f.mid [] f.here f.part s g) e f.is_rest)
 between_done c units told bits s stage.Ends e f =
     let p = subst (λ g. IsRest c f.mid [] f.here f.part s g) e f.is_rest in
     absurd (no_units p.0 p.1 (sym p.2))
+between_done c units told bits s other e f = absurd (subst (λ g. IsRest c f.mid [] f.here f.part s g) e f.is_rest)
 
 pub interval_done : (m : AcReader) (i : Interval) (bits : List Bool) (now : Picture) → m.left ≡ 0 → IsBetweenUnits m i bits now → IsWholeInterval i bits now × ((j : Interval) → Follows i now j → IsAcInterval j → AcReady m j)
 interval_done m i bits now none w =

@@ -5,6 +5,8 @@ use Rattle.std.proofs.lemmas.Bool.{cases_eq}
 use Rattle.std.specs.List.{Contains}
 use Rattle.std.proofs.lemmas.List.{append_assoc, append-nil, length-append, take-append-drop, length-take-le, length-set}
 use Rattle.jpg_spec.specs.Codes.{Code}
+use Rattle.jpg_huff.specs.Look.{Spots}
+use Rattle.jpg_huff.specs.declared.look.Spotted.TheVariants.{Symbol}
 use Rattle.jpg_spec.specs.Lists.{slot_value}
 use Rattle.jpg_spec.proofs.Common.{some_once}
 use Rattle.jpg_huff.specs.declared.set.TableSet.{TableSet}
@@ -15,8 +17,8 @@ use Rattle.jpg_prog_read.specs.declared.dc_looks.DcLooks.{DcLooks}
 use Rattle.jpg_prog_read.specs.declared.scan.DcScan.{DcScan}
 use Rattle.jpg_prog_read.specs.DcWork.{DcWork, IsDcOpen}
 use Rattle.jpg_prog_read.specs.DcLookedUp.{AreDcLookedUp, IsOfSlot, DcGoesOn, DcThrough, Hurries}
-use Rattle.jpg_prog_read.proofs.Slots.{at_set, other_set}
-use Rattle.jpg_prog_read.proofs.BandBits.{begins_more, last_of}
+use Rattle.jpg_prog_read.proofs.Slots.{at_set, other_set, all_empty}
+use Rattle.jpg_prog_read.proofs.BandBits.{begins_more, last_taken}
 use Rattle.jpg_prog_read.proofs.DcUnits.{dc_more, dc_begun, dc_wanting}
 
 through_then : (b : DcScan) (dc : List Code) (old : DcWork) (xs : List Bool) (mid : DcWork) (ys : List Bool) (new : DcWork) → DcThrough b dc old xs mid → DcThrough b dc mid ys new → DcThrough b dc old (xs ++ ys) new
@@ -49,24 +51,25 @@ code_through b dc s w (bit ∷ rest) last size z is =
       walked s (w ++ bit ∷ []),
       record {
         goes_on = λ some. absurd (omega (arith, some, z));
-        answered = λ prediction at p o bits k q f. dc_more b dc at p o bits (walked s w) (walked s (w ++ bit ∷ [])) bit k z f refl begins refl;
+        answered = λ prediction. dc_more b dc prediction (walked s w) (walked s (w ++ bit ∷ [])) bit z refl begins refl;
       },
       subst (λ (l : List Bool). DcThrough b dc (walked s (w ++ bit ∷ [])) rest (walked s l)) join
           (code_through b dc s (w ++ bit ∷ []) rest last size z (subst (λ (l : List Bool). Contains dc (l, size)) (sym all) is)),
     )
 
-pub code_hurried : (b : DcScan) (dc : List Code) (old new : DcWork) (store : List Bool) (n size : ℕ) (rest : List Bool) → old.size ≡ 0 → old.walked ≡ [] → 1 ≤ n → n ≤ length store → Contains dc (take n store, size) → 1 ≤ size → size ≤ b.most_category
-    → new ≡ record old { size = size; extra = [] } → rest ≡ drop n store → Hurries b dc old store new rest
-code_hurried b dc old new store n size rest z quiet some fits is positive most begun r =
-    let c = last_of (take n store) (omega (arith, length-take-le n store fits, some)) in
+pub code_hurried : (b : DcScan) (dc : List Code) (old new : DcWork) (store : List Bool) (n size : ℕ) (rest : List Bool) → old.size ≡ 0 → old.walked ≡ []
+    → Spots dc store (Symbol n size) → 1 ≤ size → size ≤ b.most_category → new ≡ record old { size = size; extra = [] } → rest ≡ drop n store
+    → Hurries b dc old store new rest
+code_hurried b dc old new store n size rest z quiet (some, short, fits, is) positive most begun r =
+    let c = last_taken n store some fits in
     let code : Contains dc (c.0 ++ c.1 ∷ [], size) = subst (λ (l : List Bool). Contains dc (l, size)) c.2 is in
     let none : walked old [] ≡ old = ap (λ (l : List Bool). walked old l) (sym quiet) in
     let x : DcThrough b dc old c.0 (walked old c.0) = subst (λ (s : DcWork). DcThrough b dc s c.0 (walked old c.0)) none (code_through b dc old [] c.0 c.1 size z code) in
     let o : IsDcOpen new = subst (λ (s : DcWork). IsDcOpen s) (sym begun) (λ h. (let t : length (new_extra) < size = omega (arith, positive) in t)) in
-    let last : DcGoesOn b dc (walked old c.0) c.1 new = record { goes_on = o; answered = λ prediction at p o bits k q f. dc_begun b dc at p o bits (walked old c.0) old new c.1 size k z f refl quiet code positive most begun } in
+    let last : DcGoesOn b dc (walked old c.0) c.1 new = record { goes_on = o; answered = λ prediction. dc_begun b dc prediction (walked old c.0) old new c.1 size z quiet code positive most begun } in
     record {
       bits = c.0 ++ c.1 ∷ [];
-      split = sym (take-append-drop n store) ∙ ap (λ (l : List Bool). l ++ drop n store) c.2 ∙ ap (λ (l : List Bool). (c.0 ++ c.1 ∷ []) ++ l) (sym r);
+      split = c.3 ∙ ap (λ (l : List Bool). (c.0 ++ c.1 ∷ []) ++ l) (sym r);
       goes_on = o;
       through = through_then b dc old c.0 (walked old c.0) (c.1 ∷ []) new x (new, last, refl);
     }
@@ -86,7 +89,7 @@ number_through b dc s w (bit ∷ rest) some short =
       taken s (w ++ bit ∷ []),
       record {
         goes_on = λ h. (let t : length (w ++ bit ∷ []) < s.size = omega (arith, long, short) in t);
-        answered = λ prediction at p o bits k q f. dc_wanting at p o bits (taken s w) (taken s (w ++ bit ∷ [])) bit some f refl;
+        answered = λ prediction. dc_wanting b dc prediction (taken s w) (taken s (w ++ bit ∷ [])) bit some refl;
       },
       subst (λ (l : List Bool). DcThrough b dc (taken s (w ++ bit ∷ [])) rest (taken s l)) (append_assoc w (bit ∷ []) rest) (number_through b dc s (w ++ bit ∷ []) rest some (omega (arith, long, short))),
     )
@@ -114,14 +117,7 @@ pub record AreOf (tables : TableSet) (each : List (Option (List Code))) : Type 0
   pub found : (k : ℕ) (codes : List Code) → slot_of each k ≡ Some codes → (table : Table) × (in_slot (dc_tables tables) k ≡ Some table) × (codes ≡ symbol_codes table)
 
 pub none_of : (tables : TableSet) → AreOf tables (None ∷ None ∷ None ∷ None ∷ [])
-none_of tables = record { four = refl; found = λ k codes e. absurd (clash k codes e) }
-  where
-    clash : (k : ℕ) (codes : List Code) → slot_of (None ∷ None ∷ None ∷ None ∷ []) k ≡ Some codes → ⊥
-    clash zero codes e = cc
-    clash (suc zero) codes e = cc
-    clash (suc (suc zero)) codes e = cc
-    clash (suc (suc (suc zero))) codes e = cc
-    clash (suc (suc (suc (suc k)))) codes e = cc
+none_of tables = record { four = refl; found = λ k codes e. absurd (all_empty k codes e) }
 
 -- the codes of one more slot
 pub one_of : (tables : TableSet) (each : List (Option (List Code))) (slot : ℕ) (more : Option (List Code)) → AreOf tables each → slot < 4 → IsOfSlot tables slot more → AreOf tables (set each slot more)

@@ -35,21 +35,18 @@ use Rattle.jpg_prog_read.specs.DcStands.{IsDcCodingOf, IsDcRefinementOf}
 use Rattle.jpg_prog_read.specs.DcPlaces.{IsDcBand, IsSpot, IsNextInterval}
 use Rattle.jpg_prog_read.specs.DcFirstPass.{table_in, HasTable, ReadsBy, FirstReady}
 use Rattle.jpg_prog_read.specs.DcRefinement.{TakesOneBit, RefineReady}
-use Rattle.jpg_prog_read.proofs.Slots.{at_set, other_set}
+use Rattle.jpg_prog_read.proofs.Slots.{at_set, other_set, all_empty}
 use Rattle.jpg_prog_read.specs.DcLookedUp.{AreDcLookedUp}
 use Rattle.jpg_prog_read.specs.DcNew.{IsDcHead, HasPartTable, IsFirstHead, IsRefineHead, AreInSet, IsOfScan, dc_scan_of, part_at, AreDcTablesFilled}
 
 -- TABLES IN THE SLOTS OF THEIR COMPONENTS
 
 pub none_filled : (own given : TableSet) (parts : List ScanPart) → dc_tables own ≡ no_tables → AreDcTablesFilled given parts 0 own
-none_filled own given parts e = record { four = ap length e; found = λ k table f. absurd (none k table (ap (λ (l : List (Option Table)). in_slot l k) (sym e) ∙ f)); there = λ j h. absurd (omega (arith, h)) }
-  where
-    none : (k : ℕ) (table : Table) → in_slot no_tables k ≡ Some table → ⊥
-    none zero table e = cc
-    none (suc zero) table e = cc
-    none (suc (suc zero)) table e = cc
-    none (suc (suc (suc zero))) table e = cc
-    none (suc (suc (suc (suc k)))) table e = cc
+none_filled own given parts e = record {
+  four = ap length e;
+  found = λ k table f. absurd (all_empty k table (ap (λ (l : List (Option Table)). in_slot l k) (sym e) ∙ f));
+  there = λ j h. absurd (omega (arith, h));
+}
 
 pub filled_more : (given : TableSet) (parts : List ScanPart) (n : ℕ) (own new : TableSet) → AreDcTablesFilled given parts n own → (part_at parts n).component < 4 → HasPartTable given (part_at parts n)
     → dc_tables new ≡ set (dc_tables own) (part_at parts n).component (table_in given (part_at parts n).dc) → AreDcTablesFilled given parts (n + 1) new

@@ -57,61 +57,9 @@ dc_put s q p v d h long =
     let size : length block ≡ 64 = length-set (block_in q p.component p.x p.y) 0 v ∙ long in
     ap (band s) (put_here q p block h) ∙ band_is s block d (omega (arith, size)) ∙ ap (λ (x : ℤ). x ∷ []) (get_or-set_same (block_in q p.component p.x p.y) 0 v (pos 0) (omega (arith, long)))
 
--- THE PLACE OF THE NEXT UNIT
-
-pub next_is : (places : List Place) (units : ℕ) (i : Interval) (now : Picture) (w : InInterval) (p : Place) → slice_get places 0 ≡ Some p → IsWithin places units i now w → w.next ≡ p
-next_is places units i now w p e o = some_once w.next p (sym (ap (λ (l : List Place). slice_get l 0) o.left) ∙ e)
-
-pub some_places : (places : List Place) (units : ℕ) (i : Interval) (now : Picture) (w : InInterval) → IsWithin places units i now w → 1 ≤ length places
-some_places places units i now w o = omega (arith, ap length o.left)
-
-pub next_spot : (places : List Place) (units : ℕ) (i : Interval) (now : Picture) (w : InInterval) → IsWithin places units i now w → IsSpot now.frame w.next
-next_spot places units i now w o =
-    let all = subst (λ (l : List Place). All (IsSpot i.before.frame) l) o.left o.spots in
-    subst (λ (f : Frame). IsSpot f w.next) (sym o.frame) (All-head (IsSpot i.before.frame) w.next (w.more ++ i.later) all)
-
--- it isn't one of those whose units are complete
-next_apart : (places : List Place) (units : ℕ) (i : Interval) (now : Picture) (w : InInterval) → IsWithin places units i now w → any_of (is_at w.next.component w.next.x w.next.y) w.done ≡ false
-next_apart places units i now w o =
-    let e : i.places ++ i.later ≡ w.done ++ w.next ∷ (w.more ++ i.later) = ap (λ (l : List Place). l ++ i.later) o.all ∙ append_assoc w.done (w.next ∷ w.more) i.later in
-    (apart_swap w.done (w.next ∷ (w.more ++ i.later)) (apart_of w.done (w.next ∷ (w.more ++ i.later)) (subst (λ (l : List Place). AreDistinct l) e o.distinct))).0
-
--- and its DC value is the one before the interval
-pub old_still : (places : List Place) (units : ℕ) (i : Interval) (now : Picture) (w : InInterval) → IsWithin places units i now w → slice_index_or (block_in now w.next.component w.next.x w.next.y) 0 (pos 0) ≡ old_dc i w
-old_still places units i now w o =
-    let p = w.next in
-    ap (λ (b : List ℤ). slice_index_or b 0 (pos 0)) (sym (map_at now p.component p.x p.y (next_spot places units i now w o).padded) ∙ (o.read.changes).elsewhere p.component p.x p.y (next_apart places units i now w o))
-
--- THE NEXT UNIT IS COMPLETE
-
-pub unit_read : (places : List Place) (units : ℕ) (i : Interval) (now : Picture) (w : InInterval) (v : ℤ) → length now.blocks ≡ padded_blocks now.frame → IsWithin places units i now w
-    → UnitsRead i.scan (w.done ++ w.next ∷ []) (map_of i.before) (map_of (with_dc now w.next v)) (w.whole ++ v ∷ [])
-unit_read places units i now w v count o =
-    let p = w.next in
-    let h : HasPlace now p = record { place = (next_spot places units i now w o).padded; count = count } in
-    let long : length (block_in now p.component p.x p.y) ≡ 64 = sym (ap length (map_at now p.component p.x p.y h.place)) ∙ (o.read.changes).sizes p.component p.x p.y in
-    let after = with_dc now p v in
-    let block = slice_set (block_in now p.component p.x p.y) 0 v in
-    let read = units_next i.scan w.done p (map_of i.before) (map_of now) (map_of after) w.whole (next_apart places units i now w o) o.read (put_changes i.scan now p block h (dc_keeps i.scan now p v o.band h long)) in
-    subst (λ (l : List ℤ). UnitsRead i.scan (w.done ++ p ∷ []) (map_of i.before) (map_of after) (w.whole ++ l)) (dc_put i.scan now p v o.band h long) read
-
--- after it, if one more is left
+-- after the next unit, if one more is left
 abbrev pub on_to : InInterval → ℤ → Place → List Place → InInterval
 on_to w v next more = record { done = w.done ++ w.next ∷ []; whole = w.whole ++ v ∷ []; next = next; more = more }
-
-pub within_next : (places : List Place) (units : ℕ) (i : Interval) (now : Picture) (w : InInterval) (v : ℤ) (next : Place) (more : List Place) → length now.blocks ≡ padded_blocks now.frame → IsWithin places units i now w → w.more ≡ next ∷ more
-    → IsWithin (drop 1 places) (units - 1) i (with_dc now w.next v) (on_to w v next more)
-within_next places units i now w v next more count o e = record {
-  band = o.band;
-  distinct = o.distinct;
-  sized = o.sized;
-  all = o.all ∙ ap (λ (l : List Place). w.done ++ w.next ∷ l) e ∙ sym (append_assoc w.done (w.next ∷ []) (next ∷ more));
-  left = ap (drop 1) o.left ∙ ap (λ (l : List Place). l ++ i.later) e;
-  count = omega (arith, o.count, ap length e);
-  spots = All-drop (IsSpot i.before.frame) 1 places o.spots;
-  frame = o.frame;
-  read = unit_read places units i now w v count o;
-}
 
 pub whole_next : (i : Interval) (w : InInterval) (v : ℤ) (next : Place) (more : List Place) (p : ℕ → ℤ) (bits : List Bool) → IsDcBand i.scan → ((k x y : ℕ) → length (map_of i.before k x y) ≡ 64) → w.more ≡ next ∷ more
     → DcBetween i.scan.coding (units_of i) (w.whole ++ v ∷ []) p (next_of i w).others bits → AreCompleteUnits i (on_to w v next more) p bits
@@ -120,31 +68,79 @@ whole_next i w v next more p bits d sized e b =
     subst (λ (us : List UnitLeft). DcBetween i.scan.coding (units_of i) (w.whole ++ v ∷ []) p us bits)
     (ap (map unit) e ∙ ap (λ (u : UnitLeft). u ∷ map unit more) (unit_is i.scan (map_of i.before) next d sized)) b
 
--- and if it was the last one
-pub interval_read : (places : List Place) (units : ℕ) (i : Interval) (now : Picture) (w : InInterval) (v : ℤ) (p : ℕ → ℤ) (bits : List Bool) → length now.blocks ≡ padded_blocks now.frame → IsWithin places units i now w → w.more ≡ []
-    → DcBetween i.scan.coding (units_of i) (w.whole ++ v ∷ []) p (next_of i w).others bits → IsWholeInterval i bits (with_dc now w.next v)
-interval_read places units i now w v p bits count o none b =
-    let after = with_dc now w.next v in
-    let all : i.places ≡ w.done ++ w.next ∷ [] = o.all ∙ ap (λ (l : List Place). w.done ++ w.next ∷ l) none in
-    let read = subst (λ (l : List Place). UnitsRead i.scan l (map_of i.before) (map_of after) (w.whole ++ v ∷ [])) (sym all) (unit_read places units i now w v count o) in
-    record {
-      frame = o.frame;
-      read = units_last i.scan i.places (map_of i.before) (map_of after) (w.whole ++ v ∷ []) bits read (b.elements, b.mid, b.covers, b.left ∙ ap (map (unit_at i.scan (map_of i.before))) none);
-    }
+-- WITHIN AN INTERVAL
+module _ {places : List Place} {units : ℕ} {i : Interval} {now : Picture} {w : InInterval} (o : IsWithin places units i now w) where
+  -- the place of the next unit
+  pub next_is : (p : Place) → slice_get places 0 ≡ Some p → w.next ≡ p
+  next_is p e = some_once w.next p (sym (ap (λ (l : List Place). slice_get l 0) o.left) ∙ e)
 
-pub next_ready : (places : List Place) (units : ℕ) (i j : Interval) (now : Picture) (w : InInterval) (v : ℤ) → length now.blocks ≡ padded_blocks now.frame → IsWithin places units i now w → w.more ≡ []
-    → Follows i (with_dc now w.next v) j → IsDcBand j.scan → IsNextInterval (drop 1 places) (units - 1) j
-next_ready places units i j now w v count o none follows d =
-    let after = with_dc now w.next v in
-    let sizes = ((unit_read places units i now w v count o).changes).sizes in
-    record {
-      band = d;
-      distinct = subst (λ (l : List Place). AreDistinct l) (sym follows.places) (distinct_behind i.places i.later o.distinct);
-      sized = subst (λ (q : Picture). (k x y : ℕ) → length (map_of q k x y) ≡ 64) (sym follows.before) sizes;
-      left = ap (drop 1) o.left ∙ ap (λ (l : List Place). l ++ i.later) none ∙ sym follows.places;
-      none = omega (arith, o.count, ap length none);
-      spots = subst (λ (q : Picture). All (IsSpot q.frame) (drop 1 places)) (sym follows.before) (subst (λ (f : Frame). All (IsSpot f) (drop 1 places)) (sym o.frame) (All-drop (IsSpot i.before.frame) 1 places o.spots));
-    }
+  pub next_spot : IsSpot now.frame w.next
+  next_spot =
+      let all = subst (λ (l : List Place). All (IsSpot i.before.frame) l) o.left o.spots in
+      subst (λ (f : Frame). IsSpot f w.next) (sym o.frame) (All-head (IsSpot i.before.frame) w.next (w.more ++ i.later) all)
+
+  -- it isn't one of those whose units are complete
+  next_apart : any_of (is_at w.next.component w.next.x w.next.y) w.done ≡ false
+  next_apart =
+      let e : i.places ++ i.later ≡ w.done ++ w.next ∷ (w.more ++ i.later) = ap (λ (l : List Place). l ++ i.later) o.all ∙ append_assoc w.done (w.next ∷ w.more) i.later in
+      (apart_swap w.done (w.next ∷ (w.more ++ i.later)) (apart_of w.done (w.next ∷ (w.more ++ i.later)) (subst (λ (l : List Place). AreDistinct l) e o.distinct))).0
+
+  -- and its DC value is the one before the interval
+  pub old_still : slice_index_or (block_in now w.next.component w.next.x w.next.y) 0 (pos 0) ≡ old_dc i w
+  old_still =
+      let p = w.next in
+      ap (λ (b : List ℤ). slice_index_or b 0 (pos 0)) (sym (map_at now p.component p.x p.y next_spot.padded) ∙ (o.read.changes).elsewhere p.component p.x p.y next_apart)
+
+  -- THE NEXT UNIT IS COMPLETE
+
+  unit_read : (v : ℤ) → length now.blocks ≡ padded_blocks now.frame
+      → UnitsRead i.scan (w.done ++ w.next ∷ []) (map_of i.before) (map_of (with_dc now w.next v)) (w.whole ++ v ∷ [])
+  unit_read v count =
+      let p = w.next in
+      let h : HasPlace now p = record { place = next_spot.padded; count = count } in
+      let long : length (block_in now p.component p.x p.y) ≡ 64 = sym (ap length (map_at now p.component p.x p.y h.place)) ∙ (o.read.changes).sizes p.component p.x p.y in
+      let after = with_dc now p v in
+      let block = slice_set (block_in now p.component p.x p.y) 0 v in
+      let read = units_next i.scan w.done p (map_of i.before) (map_of now) (map_of after) w.whole next_apart o.read (put_changes i.scan now p block h (dc_keeps i.scan now p v o.band h long)) in
+      subst (λ (l : List ℤ). UnitsRead i.scan (w.done ++ p ∷ []) (map_of i.before) (map_of after) (w.whole ++ l)) (dc_put i.scan now p v o.band h long) read
+
+  -- if one more is left
+  pub within_next : (v : ℤ) (next : Place) (more : List Place) → length now.blocks ≡ padded_blocks now.frame → w.more ≡ next ∷ more
+      → IsWithin (drop 1 places) (units - 1) i (with_dc now w.next v) (on_to w v next more)
+  within_next v next more count e = record {
+    band = o.band;
+    distinct = o.distinct;
+    sized = o.sized;
+    all = o.all ∙ ap (λ (l : List Place). w.done ++ w.next ∷ l) e ∙ sym (append_assoc w.done (w.next ∷ []) (next ∷ more));
+    left = ap (drop 1) o.left ∙ ap (λ (l : List Place). l ++ i.later) e;
+    count = omega (arith, o.count, ap length e);
+    spots = All-drop (IsSpot i.before.frame) 1 places o.spots;
+    frame = o.frame;
+    read = unit_read v count;
+  }
+
+  -- and if it was the last one
+  pub interval_read : (v : ℤ) (p : ℕ → ℤ) (bits : List Bool) → length now.blocks ≡ padded_blocks now.frame → w.more ≡ []
+      → DcBetween i.scan.coding (units_of i) (w.whole ++ v ∷ []) p (next_of i w).others bits → IsWholeInterval i bits (with_dc now w.next v)
+  interval_read v p bits count none b =
+      let after = with_dc now w.next v in
+      let all : i.places ≡ w.done ++ w.next ∷ [] = o.all ∙ ap (λ (l : List Place). w.done ++ w.next ∷ l) none in
+      let read = subst (λ (l : List Place). UnitsRead i.scan l (map_of i.before) (map_of after) (w.whole ++ v ∷ [])) (sym all) (unit_read v count) in
+      record {
+        frame = o.frame;
+        read = units_last i.scan i.places (map_of i.before) (map_of after) (w.whole ++ v ∷ []) bits read (b.elements, b.mid, b.covers, b.left ∙ ap (map (unit_at i.scan (map_of i.before))) none);
+      }
+
+  pub next_ready : (j : Interval) (v : ℤ) → length now.blocks ≡ padded_blocks now.frame → w.more ≡ [] → Follows i (with_dc now w.next v) j → IsDcBand j.scan
+      → IsNextInterval (drop 1 places) (units - 1) j
+  next_ready j v count none follows d = record {
+    band = d;
+    distinct = subst (λ (l : List Place). AreDistinct l) (sym follows.places) (distinct_behind i.places i.later o.distinct);
+    sized = subst (λ (q : Picture). (k x y : ℕ) → length (map_of q k x y) ≡ 64) (sym follows.before) ((unit_read v count).changes).sizes;
+    left = ap (drop 1) o.left ∙ ap (λ (l : List Place). l ++ i.later) none ∙ sym follows.places;
+    none = omega (arith, o.count, ap length none);
+    spots = subst (λ (q : Picture). All (IsSpot q.frame) (drop 1 places)) (sym follows.before) (subst (λ (f : Frame). All (IsSpot f) (drop 1 places)) (sym o.frame) (All-drop (IsSpot i.before.frame) 1 places o.spots));
+  }
 
 -- AN INTERVAL BEGINS
 

@@ -9,19 +9,22 @@ use Rattle.std.proofs.Math.IntN.{pos-*ℤ-pos, negsuc-*ℤ-pos}
 use Rattle.std.proofs.lemmas.List.{append-nil}
 use Rattle.jpg_spec.specs.Codes.{Code}
 use Rattle.jpg_spec.specs.Numbers.{category, extra_bits}
-use Rattle.jpg_spec.specs.Elements.{Element, difference, dc_bit, Coding, UnitLeft, Standing, Tells, SpellsElement, codes_due, predictions_after, predicted, at_start, scaled, are_in_bounds}
+use Rattle.jpg_spec.specs.Elements.{Element, difference, dc_bit, Coding, Standing, Tells, SpellsElement, codes_due, predictions_after, predicted, at_start, scaled, are_in_bounds}
 use Rattle.jpg_spec.specs.ScanFaults.{BitsShow, DataReveals}
 use Rattle.jpg_spec.specs.declared.fault.Fault.{Fault}
 use Rattle.jpg_spec.specs.declared.fault.Fault.TheVariants as fault
 use Rattle.jpg_spec.proofs.Values.{covers_then}
 use Rattle.jpg_huff.specs.Walk.{BeginsNoCode}
+use Rattle.jpg_coefs.specs.declared.machine.UnitFault.TheVariants as unit_fault
 use Rattle.jpg_spec.specs.Parts.{BeginsCode, IsFront, InDifference}
 use Rattle.jpg_prog_read.specs.declared.scan.DcScan.{DcScan}
-use Rattle.jpg_prog_read.specs.declared.dc.DcStep.TheVariants.{Done}
+use Rattle.jpg_prog_read.specs.declared.dc.DcStep.{DcStep}
+use Rattle.jpg_prog_read.specs.declared.dc.DcStep.TheVariants.{More, Done, Fault as Fails}
+use Rattle.jpg_prog_read.specs.declared.dc.DcValue.{DcValue}
 use Rattle.jpg_prog_read.specs.declared.dc.DcValue.TheVariants.{Within, Beyond}
 use Rattle.jpg_prog_read.specs.Stands.{UnitPlace}
 use Rattle.jpg_prog_read.specs.DcWork.{DcWork, InDcRange, IsDcValue, fresh}
-use Rattle.jpg_prog_read.specs.DcStands.{BeginsDc, IsDcCodingOf, IsDcRefinementOf, dc_unit, IsDcPart, DcBetween, DcStands, DcAnswered}
+use Rattle.jpg_prog_read.specs.DcStands.{BeginsDc, IsDcCodingOf, AnswersDcBit, AnswersDcRefinement, dc_unit, IsDcPart, DcBetween, DcStands}
 use Rattle.jpg_huff.proofs.Fronts.{due_apart, walk_shows}
 use Rattle.jpg_spec.proofs.Common.{and_intro, clash, part_more, in_order, from_test, both_false}
 use Rattle.jpg_spec.proofs.Small.{zero_bits, zero_category}
@@ -54,73 +57,93 @@ dc_beyond c low high v a b h =
 
 -- COMPLETE UNITS
 
+-- The bits are complete units, and this element of the next.
+pub record HasElement (at : UnitPlace) (p : ℕ → ℤ) (o : ℤ) (bits : List Bool) (e : Element) : Type 0 where
+  pub front : List Bool
+  pub part : List Bool
+  pub whole : DcBetween at.coding at.units at.told p (dc_unit at.component o ∷ at.others) front
+  pub split : bits ≡ front ++ part
+  pub spells : SpellsElement (codes_due at.coding (dc_unit at.component o)) e part
+
 -- one more unit
-one_more : (at : UnitPlace) (p : ℕ → ℤ) (o v : ℤ) (front part : List Bool) (e : Element)
-    → (b : DcBetween at.coding at.units at.told p (dc_unit at.component o ∷ at.others) front) → SpellsElement (codes_due at.coding (dc_unit at.component o)) e part → Tells at.coding (b.mid.predictions at.component) e (dc_unit at.component o) at.others (v ∷ []) at.others → are_in_bounds at.coding.bounds true (v ∷ []) ≡ true
-    → (q : ℕ → ℤ) → ((j : ℕ) → predictions_after b.mid.predictions at.component e j ≡ q j) → DcBetween at.coding at.units (at.told ++ v ∷ []) q at.others (front ++ part)
-one_more at p o v front part e b sp tells ok q after =
+one_more : (at : UnitPlace) (p : ℕ → ℤ) (o : ℤ) (bits : List Bool) (e : Element) (h : HasElement at p o bits e) (v : ℤ) (q : ℕ → ℤ)
+    → Tells at.coding (h.whole.mid.predictions at.component) e (dc_unit at.component o) at.others (v ∷ []) at.others
+    → are_in_bounds at.coding.bounds true (v ∷ []) ≡ true → ((j : ℕ) → predictions_after h.whole.mid.predictions at.component e j ≡ q j)
+    → DcBetween at.coding at.units (at.told ++ v ∷ []) q at.others bits
+one_more at p o bits e h v q tells ok after =
+    let b = h.whole in
     let t : Standing = record { predictions = predictions_after b.mid.predictions at.component e; left = at.others } in
-    record {
+    subst (λ (x : List Bool). DcBetween at.coding at.units (at.told ++ v ∷ []) q at.others x) (sym h.split) (record {
       elements = b.elements ++ e ∷ [];
       mid = t;
-      covers = covers_then at.coding (at_start at.units) b.mid t b.elements (e ∷ []) at.told (v ∷ []) front part b.covers
-          (dc_unit at.component o, at.others, v ∷ [], at.others, [], part, [], b.left, refl, sym (append-nil part), sp, tells, ok, (refl, refl, refl));
+      covers = covers_then at.coding (at_start at.units) b.mid t b.elements (e ∷ []) at.told (v ∷ []) h.front h.part b.covers
+          (dc_unit at.component o, at.others, v ∷ [], at.others, [], h.part, [], b.left, refl, sym (append-nil h.part), h.spells, tells, ok, (refl, refl, refl));
       left = refl;
       predicts = after;
-    }
+    })
 
 predicted_same : (p q : ℕ → ℤ) (i : ℕ) (w x : ℤ) → ((j : ℕ) → p j ≡ q j) → w ≡ x → (j : ℕ) → predicted p i w j ≡ predicted q i x j
 predicted_same p q i w x h e j = ap (λ (y : ℤ). cond (j == i) y (p j)) e ∙ ap (λ (y : ℤ). cond (j == i) x y) (h j)
 
 -- A FIRST PASS
 
-difference_tells : (c : Coding) (b : DcScan) (dc : List Code) (i : ℕ) (o q d : ℤ) (others : List UnitLeft) → IsDcCodingOf b dc c i → category d ≤ c.bounds.dc_cat → Tells c q (difference d) (dc_unit i o) others (scaled c.al (q +ℤ d) ∷ []) others
-difference_tells c b dc i o q d others k few = (o, [], refl, k.first, few, refl, refl, refl)
+-- With this bit this difference is complete, whatever bits the unit was given.
+abbrev pub Completes : DcScan → List Code → DcWork → Bool → ℤ → Type 0
+Completes b dc s next d =
+    (at : UnitPlace) (p : ℕ → ℤ) (o : ℤ) (bits : List Bool) → IsDcCodingOf b dc at.coding at.component → DcStands at p o bits s
+    → HasElement at p o (bits ++ next ∷ []) (difference d) × (category d ≤ at.coding.bounds.dc_cat)
 
--- a difference is complete
-pub difference_read : (b : DcScan) (dc : List Code) (at : UnitPlace) (p : ℕ → ℤ) (o : ℤ) (front part : List Bool) (d prediction w v : ℤ) → IsDcCodingOf b dc at.coding at.component → p at.component ≡ prediction
-    → DcBetween at.coding at.units at.told p (dc_unit at.component o ∷ at.others) front → SpellsElement (at.coding.dc at.component) (difference d) part → category d ≤ at.coding.bounds.dc_cat
-    → w ≡ prediction +ℤ d → v ≡ (prediction +ℤ d) *ℤ pos b.scale → InDcRange b ((prediction +ℤ d) *ℤ pos b.scale) → DcBetween at.coding at.units (at.told ++ v ∷ []) (predicted p at.component w) at.others (front ++ part)
-difference_read b dc at p o front part d prediction w v k q f sp few ew ev range =
-    let x : f.mid.predictions at.component ≡ prediction = f.predicts at.component ∙ q in
-    let y : scaled at.coding.al (f.mid.predictions at.component +ℤ d) ≡ v = ap (λ (z : ℤ). scaled at.coding.al (z +ℤ d)) x ∙ ap (λ n. (prediction +ℤ d) *ℤ pos n) (sym k.scale) ∙ sym ev in
-    let r : InDcRange b v = subst (λ (z : ℤ). InDcRange b z) (sym ev) range in
-    one_more at p o v front part (difference d) f sp
-    (subst (λ (z : ℤ). Tells at.coding (f.mid.predictions at.component) (difference d) (dc_unit at.component o) at.others (z ∷ []) at.others) y (difference_tells at.coding b dc at.component o (f.mid.predictions at.component) d at.others k few))
-    (dc_within at.coding b.low b.high v k.low k.high r.0 r.1) (predicted p at.component w)
-    (predicted_same f.mid.predictions p at.component (f.mid.predictions at.component +ℤ d) w f.predicts (ap (λ (z : ℤ). z +ℤ d) x ∙ sym ew))
+-- the step of its value
+abbrev pub step_of : DcValue → DcStep
+step_of (Within w v) = Done w v
+step_of Beyond = Fails unit_fault.CoefRange
 
--- a value out of the bounds
-pub difference_beyond : (b : DcScan) (dc : List Code) (at : UnitPlace) (p : ℕ → ℤ) (o : ℤ) (bits front part : List Bool) (d prediction : ℤ) → IsDcCodingOf b dc at.coding at.component → p at.component ≡ prediction
-    → DcBetween at.coding at.units at.told p (dc_unit at.component o ∷ at.others) front → bits ≡ front ++ part → SpellsElement (at.coding.dc at.component) (difference d) part → category d ≤ at.coding.bounds.dc_cat
-    → (InDcRange b ((prediction +ℤ d) *ℤ pos b.scale) → ⊥) → DataReveals at.coding at.units fault.CoefRange bits
-difference_beyond b dc at p o bits front part d prediction k q f split sp few beyond =
-    let x : f.mid.predictions at.component ≡ prediction = f.predicts at.component ∙ q in
-    let y : scaled at.coding.al (f.mid.predictions at.component +ℤ d) ≡ (prediction +ℤ d) *ℤ pos b.scale = ap (λ (z : ℤ). scaled at.coding.al (z +ℤ d)) x ∙ ap (λ n. (prediction +ℤ d) *ℤ pos n) (sym k.scale) in
-    let out : are_in_bounds at.coding.bounds true (scaled at.coding.al (f.mid.predictions at.component +ℤ d) ∷ []) ≡ false = ap (λ (z : ℤ). are_in_bounds at.coding.bounds true (z ∷ [])) y ∙ dc_beyond at.coding b.low b.high ((prediction +ℤ d) *ℤ pos b.scale) k.low k.high beyond in
+difference_tells : (b : DcScan) (dc : List Code) (at : UnitPlace) (o q d : ℤ) → IsDcCodingOf b dc at.coding at.component → category d ≤ at.coding.bounds.dc_cat
+    → Tells at.coding q (difference d) (dc_unit at.component o) at.others (scaled at.coding.al (q +ℤ d) ∷ []) at.others
+difference_tells b dc at o q d k few = (o, [], refl, k.first, few, refl, refl, refl)
+
+value_is : (b : DcScan) (dc : List Code) (at : UnitPlace) (q prediction d : ℤ) → IsDcCodingOf b dc at.coding at.component → q ≡ prediction
+    → scaled at.coding.al (q +ℤ d) ≡ (prediction +ℤ d) *ℤ pos b.scale
+value_is b dc at q prediction d k e = ap (λ (z : ℤ). scaled at.coding.al (z +ℤ d)) e ∙ ap (λ n. (prediction +ℤ d) *ℤ pos n) (sym k.scale)
+
+pub difference_read : (b : DcScan) (dc : List Code) (prediction : ℤ) (s new : DcWork) (next : Bool) (d : ℤ) (x : DcValue) → Completes b dc s next d
+    → IsDcValue b (prediction +ℤ d) x → AnswersDcBit b dc prediction s next (step_of x) new
+difference_read b dc prediction s new next d (Within w v) complete (new_w, new_v, range) at p o bits k q f =
+    let e = complete at p o bits k f in
+    let h = e.0 in
+    let now = h.whole.mid.predictions in
+    let i = at.component in
+    let x : now i ≡ prediction = h.whole.predicts i ∙ q in
+    let y : scaled at.coding.al (now i +ℤ d) ≡ v = value_is b dc at (now i) prediction d k x ∙ sym new_v in
+    let r : InDcRange b v = subst (λ (z : ℤ). InDcRange b z) (sym new_v) range in
+    one_more at p o (bits ++ next ∷ []) (difference d) h v (predicted p i w)
+    (subst (λ (z : ℤ). Tells at.coding (now i) (difference d) (dc_unit i o) at.others (z ∷ []) at.others) y (difference_tells b dc at o (now i) d k e.1))
+    (dc_within at.coding b.low b.high v k.low k.high r.0 r.1) (predicted_same now p i (now i +ℤ d) w h.whole.predicts (ap (λ (z : ℤ). z +ℤ d) x ∙ sym new_w))
+difference_read b dc prediction s new next d Beyond complete beyond at p o bits k q f =
+    let e = complete at p o bits k f in
+    let h = e.0 in
+    let now = h.whole.mid.predictions in
+    let v = scaled at.coding.al (now at.component +ℤ d) in
+    let x = value_is b dc at (now at.component) prediction d k (h.whole.predicts at.component ∙ q) in
+    let out : are_in_bounds at.coding.bounds true (v ∷ []) ≡ false =
+    ap (λ (z : ℤ). are_in_bounds at.coding.bounds true (z ∷ [])) x ∙ dc_beyond at.coding b.low b.high ((prediction +ℤ d) *ℤ pos b.scale) k.low k.high beyond in
     record {
-      elements = f.elements;
+      elements = h.whole.elements;
       told = at.told;
-      front = front;
-      here = part;
+      front = h.front;
+      here = h.part;
       rest = [];
-      standing = f.mid;
+      standing = h.whole.mid;
       unit = dc_unit at.component o;
       others = at.others;
-      cut = split ∙ sym (append-nil (front ++ part));
-      covers = f.covers;
-      left = f.left;
+      cut = h.split ∙ sym (append-nil (h.front ++ h.part));
+      covers = h.whole.covers;
+      left = h.whole.left;
       codes = λ t. (let z : true ≡ false = sym t.1 ∙ k.first in cc);
-      shows = inr (inr (inr (inl (refl, (difference d, scaled at.coding.al (f.mid.predictions at.component +ℤ d) ∷ [], at.others, sp, difference_tells at.coding b dc at.component o (f.mid.predictions at.component) d at.others k few, out)))));
+      shows = inr (inr (inr (inl (refl, (difference d, v ∷ [], at.others, h.spells, difference_tells b dc at o (now at.component) d k e.1, out)))));
     }
 
 -- A REFINEMENT
-
-pub bit_read : (at : UnitPlace) (p : ℕ → ℤ) (o v : ℤ) (bits : List Bool) (next : Bool) (low high : ℤ) → at.coding.refines ≡ true → at.coding.bounds.dc_low ≡ low → at.coding.bounds.dc_high ≡ high
-    → low ≤ℤ v → v ≤ℤ high → v ≡ o +ℤ scaled at.coding.al (cond next (pos 1) (pos 0)) → DcBetween at.coding at.units at.told p (dc_unit at.component o ∷ at.others) bits → DcBetween at.coding at.units (at.told ++ v ∷ []) p at.others (bits ++ next ∷ [])
-bit_read at p o v bits next low high r a b l h e f =
-    one_more at p o v bits (next ∷ []) (dc_bit next) f refl
-    (o, [], refl, r, refl, ap (λ (x : ℤ). x ∷ []) e, refl) (dc_within at.coding low high v a b l h) p f.predicts
 
 bit_scaled : (al step : ℕ) (next : Bool) → step ≡ 2 ^ al → cond next (pos step) (pos 0) ≡ scaled al (cond next (pos 1) (pos 0))
 bit_scaled al step true e = ap pos e ∙ sym (one_scaled (2 ^ al))
@@ -130,17 +153,27 @@ refined_fits : (b : DcScan) (o v : ℤ) (next : Bool) → v ≡ o +ℤ cond next
 refined_fits b o v true e l h = (omega (arith, ints, e, l, h), omega (arith, ints, e, l, h))
 refined_fits b o v false e l h = (omega (arith, ints, e, l, h), omega (arith, ints, e, l, h))
 
-pub refine_read : (b : DcScan) (at : UnitPlace) (p : ℕ → ℤ) (o v : ℤ) (bits : List Bool) (next : Bool) → IsDcRefinementOf b at.coding → v ≡ o +ℤ cond next (pos b.scale) (pos 0) → b.low ≤ℤ o → (o +ℤ pos b.scale) ≤ℤ b.high
-    → DcBetween at.coding at.units at.told p (dc_unit at.component o ∷ at.others) bits → DcBetween at.coding at.units (at.told ++ v ∷ []) p at.others (bits ++ next ∷ [])
-refine_read b at p o v bits next k e l h f =
+pub refine_read : (b : DcScan) (o v : ℤ) (next : Bool) → v ≡ o +ℤ cond next (pos b.scale) (pos 0) → b.low ≤ℤ o → (o +ℤ pos b.scale) ≤ℤ b.high
+    → AnswersDcRefinement b o next v
+refine_read b o v next e l h at p bits k f =
     let r = refined_fits b o v next e l h in
-    bit_read at p o v bits next b.low b.high k.refines k.low k.high r.0 r.1 (e ∙ ap (λ (x : ℤ). o +ℤ x) (bit_scaled at.coding.al b.scale next k.scale)) f
+    let sum : v ≡ o +ℤ scaled at.coding.al (cond next (pos 1) (pos 0)) = e ∙ ap (λ (x : ℤ). o +ℤ x) (bit_scaled at.coding.al b.scale next k.scale) in
+    one_more at p o (bits ++ next ∷ []) (dc_bit next) (record { front = bits; part = next ∷ []; whole = f; split = refl; spells = refl }) v p
+    (o, [], refl, k.refines, refl, ap (λ (x : ℤ). x ∷ []) sum, refl) (dc_within at.coding b.low b.high v k.low k.high r.0 r.1) f.predicts
 
 -- FROM BIT TO BIT
 
-in_code : (at : UnitPlace) (mid : Standing) (o : ℤ) (part : List Bool) (s : DcWork) → s.size ≡ 0 → IsDcPart at mid o part s → (part ≡ s.walked) × IsFront (at.coding.dc at.component) s.walked
-in_code at mid o part s z (inl h) = (sym h.1, subst (λ x. IsFront (at.coding.dc at.component) x) (sym h.1) h.2.front)
-in_code at mid o part s z (inr h) = absurd (omega (arith, h.0, z))
+code_part : (at : UnitPlace) (mid : Standing) (o : ℤ) (part : List Bool) (s : DcWork) → s.size ≡ 0 → IsDcPart at mid o part s
+    → (part ≡ s.walked) × IsFront (at.coding.dc at.component) s.walked
+code_part at mid o part s z (inl h) = (sym h.1, subst (λ x. IsFront (at.coding.dc at.component) x) (sym h.1) h.2.front)
+code_part at mid o part s z (inr h) = absurd (omega (arith, h.0, z))
+
+-- one more bit of a code, of which some were walked
+in_code : {at : UnitPlace} {p : ℕ → ℤ} {o : ℤ} {bits : List Bool} {s : DcWork} → s.size ≡ 0 → (f : DcStands at p o bits s)
+    → ((next : Bool) → bits ++ next ∷ [] ≡ f.front ++ (s.walked ++ next ∷ [])) × IsFront (at.coding.dc at.component) s.walked
+in_code {at} {p} {o} {bits} {s} z f =
+    let h = code_part at f.whole.mid o f.part s z f.is_part in
+    (λ next. part_more bits f.front f.part next f.split ∙ ap (λ x. f.front ++ (x ++ next ∷ [])) h.0, h.1)
 
 in_number : (at : UnitPlace) (mid : Standing) (o : ℤ) (part : List Bool) (s : DcWork) → 1 ≤ s.size → IsDcPart at mid o part s
     → (s.walked ≡ []) × InDifference at.coding mid (dc_unit at.component o) at.others [] part s.size s.extra
@@ -156,72 +189,68 @@ dc_begins at p o bits f = record {
   is_part = inl (refl, refl, record { left = f.left; none = refl; front = inl refl; no_code = λ d k. refl });
 }
 
-pub dc_more : (b : DcScan) (dc : List Code) (at : UnitPlace) (p : ℕ → ℤ) (o : ℤ) (bits : List Bool) (s mid : DcWork) (next : Bool) → IsDcCodingOf b dc at.coding at.component → s.size ≡ 0 → DcStands at p o bits s
-    → mid ≡ record s { walked = mid.walked } → BeginsCode dc (s.walked ++ next ∷ []) → mid.walked ≡ s.walked ++ next ∷ [] → DcStands at p o (bits ++ next ∷ []) mid
-dc_more b dc at p o bits s mid next k z f same begins w =
-    let h = in_code at f.whole.mid o f.part s z f.is_part in
-    let z' : mid.size ≡ 0 = ap (λ (n : DcWork). n.size) same ∙ z in
+pub dc_more : (b : DcScan) (dc : List Code) (prediction : ℤ) (s mid : DcWork) (next : Bool) → s.size ≡ 0 → mid ≡ record s { walked = mid.walked }
+    → BeginsCode dc (s.walked ++ next ∷ []) → mid.walked ≡ s.walked ++ next ∷ [] → AnswersDcBit b dc prediction s next More mid
+dc_more b dc prediction s mid next z same begins w at p o bits k q f = record {
+  front = f.front;
+  part = s.walked ++ next ∷ [];
+  whole = f.whole;
+  split = (in_code z f).0 next;
+  is_part = inl (
+    ap (λ (n : DcWork). n.size) same ∙ z,
+    w,
     record {
-      front = f.front;
-      part = s.walked ++ next ∷ [];
-      whole = f.whole;
-      split = part_more bits f.front f.part next f.split ∙ ap (λ x. f.front ++ (x ++ next ∷ [])) h.0;
-      is_part = inl (
-        z',
-        w,
-        record {
-          left = f.whole.left;
-          none = refl;
-          front = inr (subst (λ t. BeginsCode t (s.walked ++ next ∷ [])) (sym k.dc_codes) begins);
-          no_code = λ d r. absurd (clash at.coding.refines r k.first);
-        },
-      );
-    }
-
-dc_shows : (b : DcScan) (dc : List Code) (at : UnitPlace) (p : ℕ → ℤ) (o : ℤ) (bits : List Bool) (s : DcWork) (next : Bool) (shown : Fault) → IsDcCodingOf b dc at.coding at.component → s.size ≡ 0 → DcStands at p o bits s
-    → ((q : Standing) → BitsShow at.coding q (dc_unit at.component o) at.others shown (s.walked ++ next ∷ [])) → DataReveals at.coding at.units shown (bits ++ next ∷ [])
-dc_shows b dc at p o bits s next shown k z f h =
-    let j = in_code at f.whole.mid o f.part s z f.is_part in
-    record {
-      elements = f.whole.elements;
-      told = at.told;
-      front = f.front;
-      here = s.walked ++ next ∷ [];
-      rest = [];
-      standing = f.whole.mid;
-      unit = dc_unit at.component o;
-      others = at.others;
-      cut = part_more bits f.front f.part next f.split ∙ ap (λ x. f.front ++ (x ++ next ∷ [])) j.0 ∙ sym (append-nil (f.front ++ (s.walked ++ next ∷ [])));
-      covers = f.whole.covers;
       left = f.whole.left;
-      codes = λ t. (let q : true ≡ false = sym t.1 ∙ k.first in cc);
-      shows = h f.whole.mid;
-    }
+      none = refl;
+      front = inr (subst (λ t. BeginsCode t (s.walked ++ next ∷ [])) (sym k.dc_codes) begins);
+      no_code = λ d r. absurd (clash at.coding.refines r k.first);
+    },
+  );
+}
 
-pub dc_none : (b : DcScan) (dc : List Code) (at : UnitPlace) (p : ℕ → ℤ) (o : ℤ) (bits : List Bool) (s : DcWork) (next : Bool) → IsDcCodingOf b dc at.coding at.component → s.size ≡ 0 → DcStands at p o bits s
-    → BeginsNoCode dc (s.walked ++ next ∷ []) → DataReveals at.coding at.units fault.NoCode (bits ++ next ∷ [])
-dc_none b dc at p o bits s next k z f h =
-    let j = in_code at f.whole.mid o f.part s z f.is_part in
+dc_shows : {at : UnitPlace} {p : ℕ → ℤ} {o : ℤ} {bits : List Bool} {s : DcWork} (next : Bool) (shown : Fault) → at.coding.refines ≡ false → s.size ≡ 0
+    → DcStands at p o bits s → ((q : Standing) → BitsShow at.coding q (dc_unit at.component o) at.others shown (s.walked ++ next ∷ []))
+    → DataReveals at.coding at.units shown (bits ++ next ∷ [])
+dc_shows {at} {p} {o} {bits} {s} next shown first z f h = record {
+  elements = f.whole.elements;
+  told = at.told;
+  front = f.front;
+  here = s.walked ++ next ∷ [];
+  rest = [];
+  standing = f.whole.mid;
+  unit = dc_unit at.component o;
+  others = at.others;
+  cut = (in_code z f).0 next ∙ sym (append-nil (f.front ++ (s.walked ++ next ∷ [])));
+  covers = f.whole.covers;
+  left = f.whole.left;
+  codes = λ t. (let q : true ≡ false = sym t.1 ∙ first in cc);
+  shows = h f.whole.mid;
+}
+
+pub dc_none : (b : DcScan) (dc : List Code) (prediction : ℤ) (s new : DcWork) (next : Bool) → s.size ≡ 0 → BeginsNoCode dc (s.walked ++ next ∷ [])
+    → AnswersDcBit b dc prediction s next (Fails unit_fault.NoCode) new
+dc_none b dc prediction s new next z h at p o bits k q f =
     let n : BeginsNoCode (at.coding.dc at.component) (s.walked ++ next ∷ []) = subst (λ t. BeginsNoCode t (s.walked ++ next ∷ [])) (sym k.dc_codes) h in
-    dc_shows b dc at p o bits s next fault.NoCode k z f (λ q. inl (refl, walk_shows (at.coding.dc at.component) s.walked next (due_apart at.coding (dc_unit at.component o) k.sound) j.1 n))
+    dc_shows next fault.NoCode k.first z f
+    (λ q. inl (refl, walk_shows (at.coding.dc at.component) s.walked next (due_apart at.coding (dc_unit at.component o) k.sound) (in_code z f).1 n))
 
-pub dc_bad : (b : DcScan) (dc : List Code) (at : UnitPlace) (p : ℕ → ℤ) (o : ℤ) (bits : List Bool) (s : DcWork) (next : Bool) (symbol : ℕ) → IsDcCodingOf b dc at.coding at.component → s.size ≡ 0 → DcStands at p o bits s
-    → Contains dc (s.walked ++ next ∷ [], symbol) → b.most_category < symbol → DataReveals at.coding at.units fault.BadSymbol (bits ++ next ∷ [])
-dc_bad b dc at p o bits s next symbol k z f h bad =
+pub dc_bad : (b : DcScan) (dc : List Code) (prediction : ℤ) (s new : DcWork) (next : Bool) (symbol : ℕ) → s.size ≡ 0
+    → Contains dc (s.walked ++ next ∷ [], symbol) → b.most_category < symbol → AnswersDcBit b dc prediction s next (Fails unit_fault.BadSymbol) new
+dc_bad b dc prediction s new next symbol z h bad at p o bits k q f =
     let n : Contains (at.coding.dc at.component) (s.walked ++ next ∷ [], symbol) = subst (λ t. Contains t (s.walked ++ next ∷ [], symbol)) (sym k.dc_codes) h in
     let l : nat_le symbol at.coding.bounds.dc_cat ≡ false = ap (nat_le symbol) k.most ∙ grind (arith, nat_tests) in
-    dc_shows b dc at p o bits s next fault.BadSymbol k z f (λ q. inr (inl (refl, (symbol, n, l))))
+    dc_shows next fault.BadSymbol k.first z f (λ q. inr (inl (refl, (symbol, n, l))))
 
-pub dc_begun : (b : DcScan) (dc : List Code) (at : UnitPlace) (p : ℕ → ℤ) (o : ℤ) (bits : List Bool) (s mid new : DcWork) (next : Bool) (size : ℕ) → IsDcCodingOf b dc at.coding at.component → s.size ≡ 0 → DcStands at p o bits s
-    → mid ≡ record s { walked = mid.walked } → mid.walked ≡ [] → Contains dc (s.walked ++ next ∷ [], size) → 1 ≤ size → size ≤ b.most_category → new ≡ record mid { size = size; extra = [] } → DcStands at p o (bits ++ next ∷ []) new
-dc_begun b dc at p o bits s mid new next size k z f same w known some most begun =
-    let j = in_code at f.whole.mid o f.part s z f.is_part in
+pub dc_begun : (b : DcScan) (dc : List Code) (prediction : ℤ) (s mid new : DcWork) (next : Bool) (size : ℕ) → s.size ≡ 0 → mid.walked ≡ []
+    → Contains dc (s.walked ++ next ∷ [], size) → 1 ≤ size → size ≤ b.most_category → new ≡ record mid { size = size; extra = [] }
+    → AnswersDcBit b dc prediction s next More new
+dc_begun b dc prediction s mid new next size z w known some most begun at p o bits k q f =
     let n : Contains (at.coding.dc at.component) (s.walked ++ next ∷ [], size) = subst (λ t. Contains t (s.walked ++ next ∷ [], size)) (sym k.dc_codes) known in
     subst (λ (x : DcWork). DcStands at p o (bits ++ next ∷ []) x) (sym begun) (record {
       front = f.front;
       part = s.walked ++ next ∷ [];
       whole = f.whole;
-      split = part_more bits f.front f.part next f.split ∙ ap (λ x. f.front ++ (x ++ next ∷ [])) j.0;
+      split = (in_code z f).0 next;
       is_part = inr (
         some,
         w,
@@ -239,9 +268,9 @@ dc_begun b dc at p o bits s mid new next size k z f same w known some most begun
       );
     })
 
-pub dc_wanting : (at : UnitPlace) (p : ℕ → ℤ) (o : ℤ) (bits : List Bool) (s new : DcWork) (next : Bool) → 1 ≤ s.size → DcStands at p o bits s
-    → new ≡ record s { extra = s.extra ++ next ∷ [] } → DcStands at p o (bits ++ next ∷ []) new
-dc_wanting at p o bits s new next z f e =
+pub dc_wanting : (b : DcScan) (dc : List Code) (prediction : ℤ) (s new : DcWork) (next : Bool) → 1 ≤ s.size → new ≡ record s { extra = s.extra ++ next ∷ [] }
+    → AnswersDcBit b dc prediction s next More new
+dc_wanting b dc prediction s new next z e at p o bits k q f =
     let j = in_number at f.whole.mid o f.part s z f.is_part in
     let h = j.1 in
     subst (λ (x : DcWork). DcStands at p o (bits ++ next ∷ []) x) (sym e) (record {
@@ -266,47 +295,28 @@ dc_wanting at p o bits s new next z f e =
       );
     })
 
--- the part that a complete difference is
-zero_part : (c : Coding) (b : DcScan) (dc : List Code) (i : ℕ) (s : DcWork) (next : Bool) (size : ℕ) → IsDcCodingOf b dc c i → Contains dc (s.walked ++ next ∷ [], size) → size ≡ 0 → SpellsElement (c.dc i) (difference (pos 0)) (s.walked ++ next ∷ [])
-zero_part c b dc i s next size k h z =
-    let n : Contains (c.dc i) (s.walked ++ next ∷ [], category (pos 0)) = subst (λ t. Contains t (s.walked ++ next ∷ [], category (pos 0))) (sym k.dc_codes) (subst (λ (y : ℕ). Contains dc (s.walked ++ next ∷ [], y)) (z ∙ sym zero_category) h) in
-    (s.walked ++ next ∷ [], n, sym (ap (λ x. (s.walked ++ next ∷ []) ++ x) zero_bits ∙ append-nil (s.walked ++ next ∷ [])))
+-- a complete difference: 0 by its code alone, others by their last extra bit
+pub zero_completes : (b : DcScan) (dc : List Code) (s : DcWork) (next : Bool) (size : ℕ) → s.size ≡ 0 → Contains dc (s.walked ++ next ∷ [], size) → size ≡ 0
+    → Completes b dc s next (pos 0)
+zero_completes b dc s next size z known is at p o bits k f =
+    let code = s.walked ++ next ∷ [] in
+    let zero : Contains dc (code, category (pos 0)) = subst (λ (y : ℕ). Contains dc (code, y)) (is ∙ sym zero_category) known in
+    let n : Contains (at.coding.dc at.component) (code, category (pos 0)) = subst (λ t. Contains t (code, category (pos 0))) (sym k.dc_codes) zero in (
+      record { front = f.front; part = code; whole = f.whole; split = (in_code z f).0 next; spells = (code, n, sym (ap (λ x. code ++ x) zero_bits ∙ append-nil code)) },
+      omega (arith, zero_category),
+    )
 
-number_part : (c : Coding) (i : ℕ) (s : DcWork) (code part : List Bool) (next : Bool) (d : ℤ) → Contains (c.dc i) (code, s.size) → part ≡ code ++ s.extra → category d ≡ s.size → extra_bits d ≡ s.extra ++ next ∷ [] → SpellsElement (c.dc i) (difference d) (part ++ next ∷ [])
-number_part c i s code part next d h e size extra =
-    (code, subst (λ (y : ℕ). Contains (c.dc i) (code, y)) (sym size) h, part_more part code s.extra next e ∙ ap (λ x. code ++ x) (sym extra))
-
--- after a complete difference
-answered : (b : DcScan) (dc : List Code) (at : UnitPlace) (p : ℕ → ℤ) (o : ℤ) (bits front part : List Bool) (d prediction w v : ℤ) (s : DcWork) → IsDcCodingOf b dc at.coding at.component → p at.component ≡ prediction
-    → DcBetween at.coding at.units at.told p (dc_unit at.component o ∷ at.others) front → bits ≡ front ++ part → SpellsElement (at.coding.dc at.component) (difference d) part → category d ≤ at.coding.bounds.dc_cat
-    → IsDcValue b (prediction +ℤ d) (Within w v) → DcAnswered at p o bits (Done w v) s
-answered b dc at p o bits front part d prediction w v s k q f split sp few h =
-    subst (λ x. DcBetween at.coding at.units (at.told ++ v ∷ []) (predicted p at.component w) at.others x) (sym split) (difference_read b dc at p o front part d prediction w v k q f sp few h.0 h.1 h.2)
-
-pub zero_done : (b : DcScan) (dc : List Code) (at : UnitPlace) (p : ℕ → ℤ) (o : ℤ) (bits : List Bool) (s new : DcWork) (next : Bool) (size : ℕ) (prediction w v : ℤ) → IsDcCodingOf b dc at.coding at.component → p at.component ≡ prediction → s.size ≡ 0
-    → DcStands at p o bits s → Contains dc (s.walked ++ next ∷ [], size) → size ≡ 0 → IsDcValue b (prediction +ℤ pos 0) (Within w v) → DcAnswered at p o (bits ++ next ∷ []) (Done w v) new
-zero_done b dc at p o bits s new next size prediction w v k q z f known is h =
-    let j = in_code at f.whole.mid o f.part s z f.is_part in
-    answered b dc at p o (bits ++ next ∷ []) f.front (s.walked ++ next ∷ []) (pos 0) prediction w v new k q f.whole (part_more bits f.front f.part next f.split ∙ ap (λ x. f.front ++ (x ++ next ∷ [])) j.0)
-    (zero_part at.coding b dc at.component s next size k known is) (omega (arith, zero_category)) h
-
-pub zero_beyond : (b : DcScan) (dc : List Code) (at : UnitPlace) (p : ℕ → ℤ) (o : ℤ) (bits : List Bool) (s : DcWork) (next : Bool) (size : ℕ) (prediction : ℤ) → IsDcCodingOf b dc at.coding at.component → p at.component ≡ prediction → s.size ≡ 0
-    → DcStands at p o bits s → Contains dc (s.walked ++ next ∷ [], size) → size ≡ 0 → IsDcValue b (prediction +ℤ pos 0) Beyond → DataReveals at.coding at.units fault.CoefRange (bits ++ next ∷ [])
-zero_beyond b dc at p o bits s next size prediction k q z f known is h =
-    let j = in_code at f.whole.mid o f.part s z f.is_part in
-    difference_beyond b dc at p o (bits ++ next ∷ []) f.front (s.walked ++ next ∷ []) (pos 0) prediction k q f.whole (part_more bits f.front f.part next f.split ∙ ap (λ x. f.front ++ (x ++ next ∷ [])) j.0)
-    (zero_part at.coding b dc at.component s next size k known is) (omega (arith, zero_category)) h
-
-pub number_done : (b : DcScan) (dc : List Code) (at : UnitPlace) (p : ℕ → ℤ) (o : ℤ) (bits : List Bool) (s new : DcWork) (next : Bool) (d prediction w v : ℤ) → IsDcCodingOf b dc at.coding at.component → p at.component ≡ prediction → 1 ≤ s.size
-    → DcStands at p o bits s → category d ≡ s.size → extra_bits d ≡ s.extra ++ next ∷ [] → IsDcValue b (prediction +ℤ d) (Within w v) → DcAnswered at p o (bits ++ next ∷ []) (Done w v) new
-number_done b dc at p o bits s new next d prediction w v k q z f size extra h =
-    let j = in_number at f.whole.mid o f.part s z f.is_part in
-    answered b dc at p o (bits ++ next ∷ []) f.front (f.part ++ next ∷ []) d prediction w v new k q f.whole (part_more bits f.front f.part next f.split)
-    (number_part at.coding at.component s j.1.code f.part next d j.1.coded j.1.split size extra) (omega (arith, size, j.1.most)) h
-
-pub number_beyond : (b : DcScan) (dc : List Code) (at : UnitPlace) (p : ℕ → ℤ) (o : ℤ) (bits : List Bool) (s : DcWork) (next : Bool) (d prediction : ℤ) → IsDcCodingOf b dc at.coding at.component → p at.component ≡ prediction → 1 ≤ s.size
-    → DcStands at p o bits s → category d ≡ s.size → extra_bits d ≡ s.extra ++ next ∷ [] → IsDcValue b (prediction +ℤ d) Beyond → DataReveals at.coding at.units fault.CoefRange (bits ++ next ∷ [])
-number_beyond b dc at p o bits s next d prediction k q z f size extra h =
-    let j = in_number at f.whole.mid o f.part s z f.is_part in
-    difference_beyond b dc at p o (bits ++ next ∷ []) f.front (f.part ++ next ∷ []) d prediction k q f.whole (part_more bits f.front f.part next f.split)
-    (number_part at.coding at.component s j.1.code f.part next d j.1.coded j.1.split size extra) (omega (arith, size, j.1.most)) h
+pub number_completes : (b : DcScan) (dc : List Code) (s : DcWork) (next : Bool) (d : ℤ) → 1 ≤ s.size → category d ≡ s.size → extra_bits d ≡ s.extra ++ next ∷ []
+    → Completes b dc s next d
+number_completes b dc s next d z size extra at p o bits k f =
+    let h = (in_number at f.whole.mid o f.part s z f.is_part).1 in
+    let coded = subst (λ (y : ℕ). Contains (at.coding.dc at.component) (h.code, y)) (sym size) h.coded in (
+      record {
+        front = f.front;
+        part = f.part ++ next ∷ [];
+        whole = f.whole;
+        split = part_more bits f.front f.part next f.split;
+        spells = (h.code, coded, part_more f.part h.code s.extra next h.split ∙ ap (λ x. h.code ++ x) (sym extra));
+      },
+      omega (arith, size, h.most),
+    )

@@ -48,14 +48,11 @@ band_due b s o at bits f = record {
 rest_is : (c : Coding) (mid : Standing) (next : UnitLeft) (others : List UnitLeft) (here : List ℤ) (part : List Bool) (s : InWork) (g : Stage) → (g ≡ stage.Ends → WantsCorrection next) → IsRest c mid (next ∷ others) here part s g
     → PartOfElement c mid next others here part
 rest_is c mid next others here part s stage.Code due p = in_code (record { left = p.0; none = p.1; front = inl p.2; no_code = λ d k. p.2 })
-rest_is c mid next others here part s stage.Number due p = absurd p
-rest_is c mid next others here part s stage.Count due p = absurd p
-rest_is c mid next others here part s stage.Value due p = absurd p
-rest_is c mid next others here part s stage.Long due p = absurd p
 rest_is c mid next others here part s stage.Ends due p =
     let h = head_inj next p.0 others p.1 p.2 in
     let e1 : InEnds c mid p.0 others here part s.bands = subst (λ us. InEnds c mid p.0 us here part s.bands) (sym h.1) p.3 in
     in_ends s.bands (subst (λ v. InEnds c mid v others here part s.bands) (sym h.0) e1) (due refl)
+rest_is c mid next others here part s other due p = absurd p
 
 pub next_due : (s : InWork) → NextIsDue s
 next_due s c units told next others bits due f = record {

@@ -196,40 +196,42 @@ bands_apart s after (p ∷ places) h =
     let r = multiples_split s.coding.al (band s (block_at after p)) (flat_map (λ p. band s (block_at after p)) places) h in
     (r.0, bands_apart s after places r.1)
 
-intervals_told : (heads : List ScanHead) (head : ScanHead) (s : Scan) (before after : Blocks) (all : List (List Place)) (intervals : List (List ℕ)) → IsStep heads head s before
-    → Each (λ row. Each (λ (p : Place). names head p.component ≡ true) row) all → SpellsIntervals s before after all intervals → Each (λ (p : Place). AreMultiples s.coding.al (band s (block_at after p))) (joined all)
-intervals_told heads head s before after [] [] is among k = tt
-intervals_told heads head s before after [] (c ∷ intervals) is among k = absurd k
-intervals_told heads head s before after (p ∷ all) [] is among k = absurd k
-intervals_told heads head s before after (p ∷ all) (c ∷ intervals) is among k =
-    let u = (k.0).2 in
-    let old = units_old heads head s before p is among.0 in
-    let told = covers_multiples s.coding (at_start (map (unit_at s before) p)) u.1 u.0 (flat_map (λ p. band s (block_at after p)) p) (k.0).0 old u.2 in
-    each_join (λ (p : Place). AreMultiples s.coding.al (band s (block_at after p))) p (joined all) (bands_apart s after p told) (intervals_told heads head s before after all intervals is among.1 k.1)
+-- ONE SCAN, after those whose headers are these
+module _ (heads : List ScanHead) (head : ScanHead) (s : Scan) (before after : Blocks) (is : IsStep heads head s before) where
+  intervals_told : (all : List (List Place)) (intervals : List (List ℕ)) → Each (λ row. Each (λ (p : Place). names head p.component ≡ true) row) all
+      → SpellsIntervals s before after all intervals → Each (λ (p : Place). AreMultiples s.coding.al (band s (block_at after p))) (joined all)
+  intervals_told [] [] among k = tt
+  intervals_told [] (c ∷ intervals) among k = absurd k
+  intervals_told (p ∷ all) [] among k = absurd k
+  intervals_told (p ∷ all) (c ∷ intervals) among k =
+      let u = (k.0).2 in
+      let old = units_old heads head s before p is among.0 in
+      let told = covers_multiples s.coding (at_start (map (unit_at s before) p)) u.1 u.0 (flat_map (λ p. band s (block_at after p)) p) (k.0).0 old u.2 in
+      each_join (λ (p : Place). AreMultiples s.coding.al (band s (block_at after p))) p (joined all) (bands_apart s after p told) (intervals_told all intervals among.1 k.1)
 
-bands_told : (heads : List ScanHead) (head : ScanHead) (s : Scan) (before after : Blocks) (intervals : List (List ℕ)) → IsStep heads head s before → ScanMeans s intervals before after
-    → Each (λ (p : Place). AreMultiples s.coding.al (band s (block_at after p))) s.places
-bands_told heads head s before after intervals is means =
-    subst (λ ps. Each (λ (p : Place). AreMultiples s.coding.al (band s (block_at after p))) ps) (joined_chunks s.interval s.places)
-    (intervals_told heads head s before after (chunks s.interval s.places) intervals is (each_rows (λ (p : Place). names head p.component ≡ true) s.interval s.places (is.scan).among) means.spelled)
+  bands_told : (intervals : List (List ℕ)) → ScanMeans s intervals before after
+      → Each (λ (p : Place). AreMultiples s.coding.al (band s (block_at after p))) s.places
+  bands_told intervals means =
+      subst (λ ps. Each (λ (p : Place). AreMultiples s.coding.al (band s (block_at after p))) ps) (joined_chunks s.interval s.places)
+      (intervals_told (chunks s.interval s.places) intervals (each_rows (λ (p : Place). names head p.component ≡ true) s.interval s.places (is.scan).among) means.spelled)
 
-scan_step : (heads : List ScanHead) (head : ScanHead) (s : Scan) (before after : Blocks) (intervals : List (List ℕ)) → IsStep heads head s before → ScanMeans s intervals before after
-    → (i x y k : ℕ) → k < 64 → IsKnownTo (known_to (head ∷ heads) i k) (coefficient after i x y k)
-scan_step heads head s before after intervals is means i x y k small = by (is_named s i x y k) refl
-  where
-    by : (b : Bool) → is_named s i x y k ≡ b → IsKnownTo (known_to (head ∷ heads) i k) (coefficient after i x y k)
-    by false h =
-        subst (λ v. IsKnownTo (known_to (head ∷ heads) i k) v) (sym (means.rest i x y k h))
-        (still_known heads head i k (coefficient before i x y k) is.next small (is.known i x y k small))
-    by true h =
-        let u = both (any_of (is_at i x y) s.places && nat_le s.ss k) (nat_le k s.se) h in
-        let v = both (any_of (is_at i x y) s.places) (nat_le s.ss k) u.0 in
-        let named = each_at (λ i x y. names head i ≡ true) s.places i x y (is.scan).among v.0 in
-        let has = has_from s head i k is.scan named (and_intro (nat_le s.ss k) (nat_le k s.se) v.1 u.1) in
-        let told = each_at (λ i x y. AreMultiples s.coding.al (band s (after i x y))) s.places i x y (bands_told heads head s before after intervals is means) v.0 in
-        let here = multiple_at s.coding.al (band s (after i x y)) (k - s.ss) told in
-        let value = subst (λ (w : ℤ). IsMultiple s.coding.al w) (in_band s (after i x y) k (le_of s.ss k v.1) (le_of k s.se u.1)) here in
-        subst (λ o. IsKnownTo o (coefficient after i x y k)) (sym (known_new heads head i k has)) (subst (λ n. IsMultiple n (coefficient after i x y k)) (is.scan).al value)
+  scan_step : (intervals : List (List ℕ)) → ScanMeans s intervals before after
+      → (i x y k : ℕ) → k < 64 → IsKnownTo (known_to (head ∷ heads) i k) (coefficient after i x y k)
+  scan_step intervals means i x y k small = by (is_named s i x y k) refl
+    where
+      by : (b : Bool) → is_named s i x y k ≡ b → IsKnownTo (known_to (head ∷ heads) i k) (coefficient after i x y k)
+      by false h =
+          subst (λ v. IsKnownTo (known_to (head ∷ heads) i k) v) (sym (means.rest i x y k h))
+          (still_known heads head i k (coefficient before i x y k) is.next small (is.known i x y k small))
+      by true h =
+          let u = both (any_of (is_at i x y) s.places && nat_le s.ss k) (nat_le k s.se) h in
+          let v = both (any_of (is_at i x y) s.places) (nat_le s.ss k) u.0 in
+          let named = each_at (λ i x y. names head i ≡ true) s.places i x y (is.scan).among v.0 in
+          let has = has_from s head i k is.scan named (and_intro (nat_le s.ss k) (nat_le k s.se) v.1 u.1) in
+          let told = each_at (λ i x y. AreMultiples s.coding.al (band s (after i x y))) s.places i x y (bands_told intervals means) v.0 in
+          let here = multiple_at s.coding.al (band s (after i x y)) (k - s.ss) told in
+          let value = subst (λ (w : ℤ). IsMultiple s.coding.al w) (in_band s (after i x y) k (le_of s.ss k v.1) (le_of k s.se u.1)) here in
+          subst (λ o. IsKnownTo o (coefficient after i x y k)) (sym (known_new heads head i k has)) (subst (λ n. IsMultiple n (coefficient after i x y k)) (is.scan).al value)
 
 -- ALL ITEMS, of a frame that is in force from its header on
 
@@ -259,12 +261,14 @@ known_bits limits (scan contents intervals ∷ items) blocks f l same prog i x y
     let found = framed before l.1 in
     let e : frame_of limits before ≡ f = sym (frame_stays limits before 0xda contents found l.1) ∙ same (or_right (is_frame_code 0xda) (has_frame before) found) in
     let s = scan_after limits before contents in
-    scan_step (heads_of f before) (head_in f contents) s l.0 blocks intervals (record {
+    let step : IsStep (heads_of f before) (head_in f contents) s l.0 =
+    record {
       next = item_head limits before contents f e prog l.2;
       scan = subst (λ (g : Frame). IsScanOf s (head_in g contents)) e (scan_is limits before contents (ap (λ (g : Frame). is_progressive g.process) e ∙ prog));
       sizes = leads_sizes limits items l.0 l.3;
       known = known_bits limits items l.0 f l.3 (λ h. e) prog;
-    }) l.4 i x y k small
+    } in
+    scan_step (heads_of f before) (head_in f contents) s l.0 blocks step intervals l.4 i x y k small
 
 -- THE LAW
 pub are_known : (limits : Limits) (items : List Item) → IsProgressiveAfter limits items → LeadsToKnown limits items

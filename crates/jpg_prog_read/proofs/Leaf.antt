@@ -1,10 +1,10 @@
 -- The values of a block that are done and left, one after another.
-use Rattle.std.proofs.Common.{◌≡◌, ℕ, zero, suc, ◌+◌, ◌-◌, ◌<◌, ◌≤◌, ◌==◌, true, false, cond, List, [], ◌∷◌, ◌++◌, length, take, drop, set, get_or, refl, sym, ap, ◌∙◌, arith, ℤ, pos, negsuc, ⊎_elim}
+use Rattle.std.proofs.Common.{◌≡◌, ℕ, zero, suc, ◌+◌, ◌-◌, ◌<◌, ◌≤◌, ◌==◌, true, List, [], ◌∷◌, ◌++◌, length, take, drop, set, get_or, refl, sym, ap, ◌∙◌, arith, ℤ, pos, ⊎_elim}
 use Rattle.std.proofs.lemmas.Bool.{cases_lt}
 use Rattle.std.proofs.lemmas.List.{length-take-le, take-take, drop-drop, take-append-drop, drop_more, drop-take}
 use Rattle.std.proofs.lemmas.Grind.{take-set_at}
 use Rattle.jpg_spec.specs.Lists.{is_empty}
-use Rattle.jpg_spec.specs.Elements.{is_zero, zeros_in}
+use Rattle.jpg_spec.specs.Elements.{is_zero}
 use Rattle.jpg_spec.proofs.Common.{not_same}
 
 -- what is left begins with the value at its place
@@ -61,12 +61,6 @@ rest_short values at most h = ⊎_elim (λ (k : at < most). k) (λ (k : most ≤
   where
     none : most ≤ at → ⊥
     none k = (let e : most - at ≡ 0 = omega arith in omega (arith, ap (λ n. length (take n (drop at values))) e))
-
-pub counted_more : (values : List ℤ) (at most count one total : ℕ) → most ≤ length values → at < most → count + zeros_in (take (most - at) (drop at values)) ≡ total → one ≡ cond (is_zero (get_or values at (pos 0))) 1 0
-    → count + one + zeros_in (take (most - (at + 1)) (drop (at + 1) values)) ≡ total
-counted_more values at most count one total l h e o =
-    let r : zeros_in (take (most - at) (drop at values)) ≡ cond (is_zero (get_or values at (pos 0))) 1 0 + zeros_in (take (most - (at + 1)) (drop (at + 1) values)) = ap zeros_in (rest_more values at most l h) in
-    omega (arith, r, o, e)
 
 -- a block whose band is done
 pub whole_values : (values : List ℤ) (start at most : ℕ) → start ≤ at → at ≤ most → most ≤ length values → length (take (most - at) (drop at values)) ≡ 0

@@ -50,9 +50,8 @@ ac_band f head set is =
     record { one = same_of n 1 q.0; rise = le_of head.ss head.se r.0; most = le_of head.se 63 r.1; low = le_of head.al 10 s.1 }
 
 pub one_part : (parts : List ScanPart) (d : ScanPart) → length parts ≡ 1 → parts ≡ slice_index_or parts 0 d ∷ []
-one_part [] d e = absurd (omega (arith, e))
 one_part (p ∷ []) d e = refl
-one_part (p ∷ q ∷ parts) d e = absurd (omega (arith, e))
+one_part parts d e = absurd (omega (arith, e))
 
 few : (b : Bool) → cond b 1 10 ≤ 15
 few true = omega arith

@@ -15,3 +15,11 @@ other_set (q ∷ slots) zero zero o n = absurd (n refl)
 other_set (q ∷ slots) zero (suc k) o n = refl
 other_set (q ∷ slots) (suc c) zero o n = refl
 other_set (q ∷ slots) (suc c) (suc k) o n = other_set slots c k o (λ e. n (ap suc e))
+
+-- four slots that are empty
+pub all_empty : {X : Type 0} (k : ℕ) (x : X) → slot_value (slice_get (let slots : List (Option X) = None ∷ None ∷ None ∷ None ∷ [] in slots) k) ≡ Some x → ⊥
+all_empty zero x e = cc
+all_empty (suc zero) x e = cc
+all_empty (suc (suc zero)) x e = cc
+all_empty (suc (suc (suc zero))) x e = cc
+all_empty (suc (suc (suc (suc k)))) x e = cc

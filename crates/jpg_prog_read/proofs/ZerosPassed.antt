@@ -36,7 +36,7 @@ pub zeros_passed : (at : UnitPlace) (bits : List Bool) (s : InWork) (n : ℕ) �
 zeros_passed at bits s zero some next run ok f g = subst (λ (m : InWork). StandsInBand at bits m) (sym (none_passed s)) f
 zeros_passed at bits s (suc n) some next run ok f g =
     let z = zero_next n s.rest some next in
-    let here : StandsInBand at bits (with_zero s) = zero_passed at bits s s.stage refl z.0 (omega (arith, run)) ok f g in
+    let here : StandsInBand at bits (with_zero s) = zero_passed f s.stage refl z.0 (omega (arith, run)) ok g in
     let short : n ≤ length (drop 1 s.rest) = (let e : length s.rest ≡ suc (length (drop 1 s.rest)) = ap length z.0 in omega (arith, some, e)) in
     subst (λ (m : InWork). StandsInBand at bits m) (sym (one_less s n run)) (zeros_passed at bits (with_zero s) n short z.1 (omega (arith, run)) ok here (passing_more s (with_zero s) refl g))
 

@@ -29,7 +29,7 @@ use Rattle.jpg_coefs.specs.Sinks.{IsScanPlace, block_due}
 use Rattle.jpg_coefs.specs.BitSinks.{interval_bits, PutsUpTo}
 use Rattle.jpg_coefs.proofs.Places.{found_part, part_here, is_real_place}
 use Rattle.jpg_prog_write.specs.Items.{spelled, texts}
-use Rattle.jpg_prog_write.specs.Bands.{IsBand, IsBandOf, IsReady, IsShort, sents, band_sents, elements_left, elements_waiting}
+use Rattle.jpg_prog_write.specs.Bands.{IsBandOf, IsReady, IsShort, sents, band_sents, elements_left, elements_waiting}
 use Rattle.jpg_prog_write.specs.Putting.{PutsBand}
 use Rattle.jpg_prog_write.specs.ScanSinks.{IsAcHead, IsBandUnit, AreBandsOf, bands_left}
 use Rattle.jpg_prog_write.specs.Written.{IsProgScan, tables_in, codes_in, no_scan_part, first_slot}
@@ -54,14 +54,6 @@ ac_head f head is some =
     let r = both (nat_le head.ss head.se) (nat_le head.se 63) q.1 in
     record { one = same_of n 1 q.0; some = some; order = le_of head.ss head.se r.0; most = le_of head.se 63 r.1; bits = few_bits f head p.1 }
 
-pub is_band_of : (head : ScanHead) (band : Band) → IsAcHead head → IsBandOf head band → IsBand band
-is_band_of head band is b = record {
-  some = omega (arith, b.start, is.some);
-  order = omega (arith, b.start, b.end, is.order);
-  most = omega (arith, b.end, is.most);
-  bits = omega (arith, b.al, is.bits);
-}
-
 -- the one part is that of each place
 one_part : (f : Frame) (head : ScanHead) (p : Place) → length head.parts ≡ 1 → IsScanPlace f head p → (part_of head p.component).ac ≡ first_slot head
 one_part f head p one is = by head.parts one is.named
@@ -72,9 +64,8 @@ one_part f head p one is = by head.parts one is.named
 
     by : (parts : List ScanPart) → length parts ≡ 1 → is_among p.component (map (λ q. q.component) parts) ≡ true
         → (found_part parts p.component).ac ≡ (slice_index_or parts 0 no_scan_part).ac
-    by [] e n = absurd (omega (arith, e))
     by (q ∷ []) e n = ap (λ (r : ScanPart). r.ac) (part_here q [] p.component (first (q.component == p.component) n))
-    by (q ∷ r ∷ parts) e n = absurd (omega (arith, e))
+    by parts e n = absurd (omega (arith, e))
 
 -- BANDS
 
@@ -174,17 +165,18 @@ band_texts set head b due are none all =
     ∙ band_all (element_bits (tables_in set) head) (spelled (codes_in set 1 (first_slot head))) head b.band due are.ac.some are.band all
     (λ u is e of. one_spelled (tables_in set) head u.0 e of ∙ ap (λ n. spelled (codes_in set 1 n) e) is.slot)
 
--- the bands of a unit, and of those after it
-pub band_puts : (s0 s1 : DeskState) (o0 o1 : Waiting) (codes : List Code) (old mid new : Bands) (u : UnitDue) (due : List UnitDue) (result : Result (Unit {0}) WriteFault) → new.band ≡ mid.band → mid.band ≡ old.band
-    → ((later : List (List Sent)) → elements_waiting old (band_sents old.band u.1 ∷ later) ≡ elements_left mid later) → PutsBand s0 o0 codes mid result new o1 s1
-    → PutsUpTo s0 o0 (texts codes (bands_left old (u ∷ due))) (texts codes (bands_left new due)) result o1 s1
-band_puts s0 s1 o0 o1 codes old mid new u due (Ok tt) same begun e puts =
-    let later = map (λ (v : UnitDue). band_sents old.band v.1) due in
-    let p = puts later in
-    (p.0, ap (texts codes) (e later) ∙ sym p.1 ∙ ap (λ band. p.0 ++ texts codes (elements_waiting new (map (λ (v : UnitDue). band_sents band v.1) due))) (sym (same ∙ begun)), p.2)
-band_puts s0 s1 o0 o1 codes old mid new u due (Err f) same begun e puts =
-    let later = map (λ (v : UnitDue). band_sents old.band v.1) due in
-    (texts codes (elements_left mid later), [], ap (texts codes) (e later) ∙ sym (append-nil (texts codes (elements_left mid later))), puts later)
+module _ (s0 s1 : DeskState) (o0 o1 : Waiting) (codes : List Code) where
+  -- the bands of a unit, and of those after it
+  pub band_puts : (old mid new : Bands) (u : UnitDue) (due : List UnitDue) (result : Result (Unit {0}) WriteFault) → new.band ≡ mid.band → mid.band ≡ old.band
+      → ((later : List (List Sent)) → elements_waiting old (band_sents old.band u.1 ∷ later) ≡ elements_left mid later)
+      → PutsBand s0 o0 codes mid result new o1 s1 → PutsUpTo s0 o0 (texts codes (bands_left old (u ∷ due))) (texts codes (bands_left new due)) result o1 s1
+  band_puts old mid new u due (Ok tt) same begun e puts =
+      let later = map (λ (v : UnitDue). band_sents old.band v.1) due in
+      let p = puts later in
+      (p.0, ap (texts codes) (e later) ∙ sym p.1 ∙ ap (λ band. p.0 ++ texts codes (elements_waiting new (map (λ (v : UnitDue). band_sents band v.1) due))) (sym (same ∙ begun)), p.2)
+  band_puts old mid new u due (Err f) same begun e puts =
+      let later = map (λ (v : UnitDue). band_sents old.band v.1) due in
+      (texts codes (elements_left mid later), [], ap (texts codes) (e later) ∙ sym (append-nil (texts codes (elements_left mid later))), puts later)
 
 -- BLOCKS
 

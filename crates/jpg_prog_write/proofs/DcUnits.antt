@@ -31,26 +31,28 @@ shifted_last al last i block = fun_ext (λ j. by (j == i) (last j))
     by true v = refl
     by false v = refl
 
--- the first of those that are left
-pub next_unit : {X : Type 0} (each : Owned → List X) (head : ScanHead) (last : ℕ → ℤ) (i : ℕ) (before value : ℤ) (block : List ℤ) (due : List UnitDue) → last i ≡ before → value ≡ slice_index_or block 0 (pos 0)
-    → dc_all each head last ((i, block) ∷ due) ≡ each (dc_unit head i before value) ++ dc_all each head (last_dc last i block) due
-next_unit {X} each head last i before value block due e v =
-    let of : ℤ → ℤ → List X = λ b w. each (dc_unit head i b w) ++ dc_all each head (last_dc last i block) due in
-    ap (λ q. each (dc_unit head i (last i) (slice_index_or block 0 (pos 0))) ++ flat_map each (unit_elements false (nat_lt 0 head.ah) head.al q due)) (shifted_last head.al last i block)
-    ∙ ap (λ b. of b (slice_index_or block 0 (pos 0))) e ∙ ap (of before) (sym v)
-
 shifted_none : (al : ℕ) → pos 0 ≡ shifted al (pos 0)
 shifted_none al = ap pos (zero_of (2 ^ al))
   where
     zero_of : (m : ℕ) → 0 ≡ 0 / m
     zero_of m = omega arith
 
--- before the first of an interval
-pub first_all : {X : Type 0} (each : Owned → List X) (head : ScanHead) (due : List UnitDue) → head.ss ≡ 0 → dc_all each head no_last due ≡ flat_map each (interval_elements true head due)
-first_all each head due dc =
-    let s : (λ (i : ℕ). pos 0) ≡ (λ (i : ℕ). shifted head.al (no_last i)) = fun_ext (λ i. shifted_none head.al) in
-    let bands : List Owned = flat_map (λ e. map (λ (u : UnitDue). (u.0, e)) (take 1 due)) (band_elements 32767 0 [] (map (λ (u : UnitDue). band_of head u.1) due)) in
-    sym (ap (λ n. flat_map each (cond (nat_lt 0 n) bands (unit_elements false (nat_lt 0 head.ah) head.al (λ i. pos 0) due))) dc ∙ ap (λ p. flat_map each (unit_elements false (nat_lt 0 head.ah) head.al p due)) s)
+-- WHAT EACH ELEMENT of a scan with this header gives
+module _ {X : Type 0} (each : Owned → List X) (head : ScanHead) where
+  -- the first of those that are left
+  pub next_unit : (last : ℕ → ℤ) (i : ℕ) (before value : ℤ) (block : List ℤ) (due : List UnitDue) → last i ≡ before → value ≡ slice_index_or block 0 (pos 0)
+      → dc_all each head last ((i, block) ∷ due) ≡ each (dc_unit head i before value) ++ dc_all each head (last_dc last i block) due
+  next_unit last i before value block due e v =
+      let of : ℤ → ℤ → List X = λ b w. each (dc_unit head i b w) ++ dc_all each head (last_dc last i block) due in
+      ap (λ q. each (dc_unit head i (last i) (slice_index_or block 0 (pos 0))) ++ flat_map each (unit_elements false (nat_lt 0 head.ah) head.al q due)) (shifted_last head.al last i block)
+      ∙ ap (λ b. of b (slice_index_or block 0 (pos 0))) e ∙ ap (of before) (sym v)
+
+  -- before the first of an interval
+  pub first_all : (due : List UnitDue) → head.ss ≡ 0 → dc_all each head no_last due ≡ flat_map each (interval_elements true head due)
+  first_all due dc =
+      let s : (λ (i : ℕ). pos 0) ≡ (λ (i : ℕ). shifted head.al (no_last i)) = fun_ext (λ i. shifted_none head.al) in
+      let bands : List Owned = flat_map (λ e. map (λ (u : UnitDue). (u.0, e)) (take 1 due)) (band_elements 32767 0 [] (map (λ (u : UnitDue). band_of head u.1) due)) in
+      sym (ap (λ n. flat_map each (cond (nat_lt 0 n) bands (unit_elements false (nat_lt 0 head.ah) head.al (λ i. pos 0) due))) dc ∙ ap (λ p. flat_map each (unit_elements false (nat_lt 0 head.ah) head.al p due)) s)
 
 abbrev pub one_bits : (ℕ → ℕ → HuffmanTable) → ScanHead → ℕ → ℤ → ℤ → List Bool
 one_bits T head i last v = element_bits T head (dc_unit head i last v)

@@ -1,7 +1,7 @@
 -- Marks of elements, one after another.
 use Rattle.std.proofs.Common.{◌≡◌, ℕ, ◌||◌, Bool, true, false, List, [], ◌∷◌, ◌++◌, refl, sym, ap, ◌∙◌, subst}
 use Rattle.std.specs.List.{All}
-use Rattle.std.proofs.lemmas.List.{append_assoc, append-nil}
+use Rattle.std.proofs.lemmas.List.{append_assoc}
 use Rattle.jpg_spec.specs.Lists.{any_of}
 use Rattle.jpg_spec.specs.Segments.{ScanHead}
 use Rattle.jpg_spec.specs.Elements.{Element, difference, dc_bit, value, long_run, ends, symbol_of}
@@ -54,9 +54,6 @@ but_same old new all rest left e h = subst (λ x. NotesBut old all x new) e h
 
 pub but_last : (old mid new : Rows) (all rest piece : List Mark) → rest ≡ piece → NotesBut old all rest mid → Notes mid piece new → Notes old all new
 but_last old mid new all rest piece e h k = notes_same old new (h.front ++ piece) all (ap (λ x. h.front ++ x) (sym e) ∙ h.joined) (notes_then old mid new h.front piece h.done k)
-
-pub but_end : (old new : Rows) (all rest : List Mark) → rest ≡ [] → NotesBut old all rest new → Notes old all new
-but_end old new all rest e h = notes_same old new h.front all (sym (append-nil h.front) ∙ ap (λ x. h.front ++ x) (sym e) ∙ h.joined) h.done
 
 -- ELEMENTS
 

@@ -105,27 +105,30 @@ pub record GoesOn (band : Band) (at last : ℕ) (block : List ℤ) (run more : �
 some_left : (band : Band) (from last : ℕ) (block : List ℤ) → 1 ≤ length (sents band from last block) → from < last
 some_left band from last block some = ⊎_elim (λ h. h) (λ (h : last ≤ from). absurd (omega (arith, some, ap length (sents_none band from last block h)))) (cases_lt from last)
 
-pub step_on : (band : Band) (at last : ℕ) (block : List ℤ) (run more : ℕ) (bits new : List Bool) (s : Sent) → s ≡ sent_at band block at → sents band at last block ≡ sent_at band block at ∷ sents band (at + 1) last block
-    → ends_new (sents band at last block) ≡ true → IsElementStep run bits (s ∷ sents band (at + 1) last block) (Goes more) new (sents band (at + 1) last block) → GoesOn band at last block run more bits new
-step_on band at last block run more bits new s is one front step =
-    let later = sents band (at + 1) last block in
-    let whole : sents band at last block ≡ s ∷ later = one ∙ ap (λ t. t ∷ later) (sym is) in
-    let f : ends_new (s ∷ later) ≡ true = ap ends_new (sym whole) ∙ front in
-    record {
-      some = some_left band (at + 1) last block (step.2 f);
-      short = step.0;
-      front = ends_tail s later f;
-      same = ap (value_elements run bits) whole ∙ step.1;
-    }
+-- A STEP at a value that is s, the first of those up to `last`
+module _ (band : Band) (at last : ℕ) (block : List ℤ) (s : Sent) (is : s ≡ sent_at band block at)
+    (one : sents band at last block ≡ sent_at band block at ∷ sents band (at + 1) last block) (front : ends_new (sents band at last block) ≡ true) where
+  all_are : sents band at last block ≡ s ∷ sents band (at + 1) last block
+  all_are = one ∙ ap (λ t. t ∷ sents band (at + 1) last block) (sym is)
 
-pub step_whole : (band : Band) (at last : ℕ) (block : List ℤ) (run : ℕ) (bits new : List Bool) (item : Item) (s : Sent) → s ≡ sent_at band block at → sents band at last block ≡ sent_at band block at ∷ sents band (at + 1) last block
-    → ends_new (sents band at last block) ≡ true → IsElementStep run bits (s ∷ sents band (at + 1) last block) (Gives item) new (sents band (at + 1) last block)
-    → (ends_new (sents band (at + 1) last block) ≡ true) × IsFirst (value_elements run bits (sents band at last block)) item new (value_elements 0 [] (sents band (at + 1) last block))
-step_whole band at last block run bits new item s is one front step =
-    let later = sents band (at + 1) last block in
-    let whole : sents band at last block ≡ s ∷ later = one ∙ ap (λ t. t ∷ later) (sym is) in
-    let f : ends_new (s ∷ later) ≡ true = ap ends_new (sym whole) ∙ front in
-    (ends_tail s later f, record { element = step.element; is = step.is; first = ap (value_elements run bits) whole ∙ step.first })
+  ends_are : ends_new (s ∷ sents band (at + 1) last block) ≡ true
+  ends_are = ap ends_new (sym all_are) ∙ front
+
+  pub step_on : (run more : ℕ) (bits new : List Bool)
+      → IsElementStep run bits (s ∷ sents band (at + 1) last block) (Goes more) new (sents band (at + 1) last block)
+      → GoesOn band at last block run more bits new
+  step_on run more bits new step = record {
+    some = some_left band (at + 1) last block (step.2 ends_are);
+    short = step.0;
+    front = ends_tail s (sents band (at + 1) last block) ends_are;
+    same = ap (value_elements run bits) all_are ∙ step.1;
+  }
+
+  pub step_whole : (run : ℕ) (bits new : List Bool) (item : Item)
+      → IsElementStep run bits (s ∷ sents band (at + 1) last block) (Gives item) new (sents band (at + 1) last block)
+      → (ends_new (sents band (at + 1) last block) ≡ true) × IsFirst (value_elements run bits (sents band at last block)) item new (value_elements 0 [] (sents band (at + 1) last block))
+  step_whole run bits new item step =
+      (ends_tail s (sents band (at + 1) last block) ends_are, record { element = step.element; is = step.is; first = ap (value_elements run bits) all_are ∙ step.first })
 
 -- no corrections where nothing is refined
 all_new : (al : ℕ) (values : List ℤ) → corrections_of (map (sent false al) values) ≡ []

@@ -62,8 +62,8 @@ abbrev pub ac_units : BitSink AcUnits
 ac_units = record {
   bits = λ s. interval_bits true (tables_in s.tables.now) s.head.now;
   fits = λ s u. IsBandUnit s.head.now u;
-  rest = λ s last due. texts (codes_in s.tables.now 1 (first_slot s.head.now)) (bands_left s.bands due);
-  later = λ from now. (now.head ≡ from.head) × (now.tables ≡ from.tables) × AreBandsOf now.head.now now.bands;
+  rest = λ s last due. texts (codes_in s.tables.now 1 s.slot) (bands_left s.bands due);
+  later = λ from now. (now.head ≡ from.head) × (now.tables ≡ from.tables) × AreBandsOf now.head.now now.bands × (now.slot ≡ first_slot now.head.now);
 }
 
 -- COUNTERS
@@ -100,6 +100,6 @@ abbrev pub ac_counter : MarkSink AcCounter
 ac_counter = record {
   marks = λ s. interval_marks s.head.now;
   fits = λ s u. IsBandUnit s.head.now u;
-  rest = λ s last due. marks_of (first_slot s.head.now) (bands_left s.bands due);
-  later = λ from now. (now.head ≡ from.head) × AreBandsOf now.head.now now.bands × (first_slot now.head.now < 2);
+  rest = λ s last due. marks_of s.slot (bands_left s.bands due);
+  later = λ from now. (now.head ≡ from.head) × AreBandsOf now.head.now now.bands × (now.slot ≡ first_slot now.head.now) × (now.slot < 2);
 }

@@ -47,6 +47,8 @@ pub(crate) fn no_bands(head: &ScanHead) -> Bands
 pub(crate) struct AcUnits<'a> {
     pub(crate) head: &'a ScanHead,
     pub(crate) tables: &'a TableSet,
+    // the slot of its codes
+    pub(crate) slot: u8,
     pub(crate) bands: Bands,
 }
 
@@ -62,8 +64,7 @@ impl<'a, D: Desk> UnitSink<BitOut, D> for AcUnits<'a> {
         out: &mut BitOut,
         desk: &mut D,
     ) -> Result<(), WriteFault> {
-        let slot = first_slot(self.head);
-        let tables = self.tables;
+        let (tables, slot) = (self.tables, self.slot);
         self.bands.begin(block);
         put_band(&mut self.bands, tables, slot, out, desk)
     }
@@ -74,8 +75,7 @@ impl<'a, D: Desk> UnitSink<BitOut, D> for AcUnits<'a> {
         out: &mut BitOut,
         desk: &mut D,
     ) -> Result<(), WriteFault> {
-        let slot = first_slot(self.head);
-        let tables = self.tables;
+        let (tables, slot) = (self.tables, self.slot);
         put_end(&mut self.bands, tables, slot, out, desk)?;
         self.bands = no_bands(self.head);
         end_interval(marker, out, desk)

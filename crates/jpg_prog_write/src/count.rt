@@ -121,6 +121,8 @@ impl<'a> UnitSink<Rows, ()> for DcCounter<'a> {
 #[derive(Drop)]
 pub(crate) struct AcCounter<'a> {
     pub(crate) head: &'a ScanHead,
+    // the slot of its codes
+    pub(crate) slot: u8,
     pub(crate) bands: Bands,
 }
 
@@ -136,9 +138,8 @@ impl<'a> UnitSink<Rows, ()> for AcCounter<'a> {
         rows: &mut Rows,
         desk: &mut (),
     ) -> Result<(), WriteFault> {
-        let slot = first_slot(self.head);
         self.bands.begin(block);
-        count_band(&mut self.bands, slot, rows);
+        count_band(&mut self.bands, self.slot, rows);
         Ok(())
     }
 
@@ -148,8 +149,7 @@ impl<'a> UnitSink<Rows, ()> for AcCounter<'a> {
         rows: &mut Rows,
         desk: &mut (),
     ) -> Result<(), WriteFault> {
-        let slot = first_slot(self.head);
-        count_end(&mut self.bands, slot, rows);
+        count_end(&mut self.bands, self.slot, rows);
         self.bands = no_bands(self.head);
         Ok(())
     }
@@ -165,8 +165,11 @@ fn count_rows<V: BlockView>(view: &V, head: &ScanHead, interval: u16) -> Rows
 {
     let mut rows = no_marks();
     let counted = if head.ss > 0 {
-        let bands = no_bands(head);
-        let mut units = AcCounter { head, bands };
+        let mut units = AcCounter {
+            head,
+            slot: first_slot(head),
+            bands: no_bands(head),
+        };
         put_scan(view, head, interval, &mut units, &mut rows, &mut ())
     } else {
         let mut units = DcCounter { head };

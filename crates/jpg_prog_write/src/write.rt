@@ -4,7 +4,7 @@ ghost use Rattle.jpg_spec_write.specs.WrittenFile.{HasBlocksIn};
 ghost use Rattle.jpg_huff.specs.BitOut.{CanSend, Sends};
 ghost use Rattle.jpg_prog_write.specs.Written.{IsProgScan, written_data};
 
-use crate::ac::{AcUnits, no_bands};
+use crate::ac::{AcUnits, first_slot, no_bands};
 use crate::dc::DcUnits;
 use jpg_base::{Desk, ScanHead, WriteFault};
 use jpg_coefs::{BlockView, put_scan};
@@ -30,11 +30,11 @@ pub fn write_scan<V: BlockView, D: Desk>(
     ensures { Sends (D.state desk.old) out.old (written_data (V.numbers view.now) head.now tables.now interval (V.blocks view.now)) result out.new (D.state desk.new) }
 {
     if head.ss > 0 {
-        let bands = no_bands(head);
         let mut units = AcUnits {
             head,
             tables,
-            bands,
+            slot: first_slot(head),
+            bands: no_bands(head),
         };
         put_scan(view, head, interval, &mut units, out, desk)
     } else {

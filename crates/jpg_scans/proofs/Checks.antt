@@ -103,19 +103,21 @@ pub record HasTaken (is_prog : Bool) (f : Frame) (script : List Entry) (n : ℕ)
   pub stands : StandsForScans p (script_frame is_prog f) heads
   pub same : fault_after is_prog f [] 0 script ≡ fault_after is_prog f heads n (drop n script)
 
--- entry n has a fault, which is the script's
-pub fault_shown : (is_prog : Bool) (f : Frame) (script : List Entry) (n : ℕ) (e : Entry) (old new : Progress) (answer : Option PictureFault) → (h : HasTaken is_prog f script n old)
-    → drop n script ≡ e ∷ drop (n + 1) script → IsEntryTaken is_prog f h.heads n e answer new → is_some answer ≡ true → answer ≡ fault_after is_prog f [] 0 script
-fault_shown is_prog f script n e old new None h cut taken some = cc
-fault_shown is_prog f script n e old new (Some fault) h cut taken some =
-    sym (h.same ∙ ap (fault_after is_prog f h.heads n) cut ∙ ap (λ o. first_some o (fault_after is_prog f (entry_head e ∷ h.heads) (n + 1) (drop (n + 1) script))) taken)
+module _ (is_prog : Bool) (f : Frame) (script : List Entry) (n : ℕ) where
+  -- entry n has a fault, which is the script's
+  pub fault_shown : (e : Entry) (old new : Progress) (answer : Option PictureFault) → (h : HasTaken is_prog f script n old)
+      → drop n script ≡ e ∷ drop (n + 1) script → IsEntryTaken is_prog f h.heads n e answer new → is_some answer ≡ true
+      → answer ≡ fault_after is_prog f [] 0 script
+  fault_shown e old new None h cut taken some = cc
+  fault_shown e old new (Some fault) h cut taken some =
+      sym (h.same ∙ ap (fault_after is_prog f h.heads n) cut ∙ ap (λ o. first_some o (fault_after is_prog f (entry_head e ∷ h.heads) (n + 1) (drop (n + 1) script))) taken)
 
--- it has none and is taken
-pub one_taken : (is_prog : Bool) (f : Frame) (script : List Entry) (n : ℕ) (e : Entry) (old new : Progress) (answer : Option PictureFault) → (h : HasTaken is_prog f script n old)
-    → drop n script ≡ e ∷ drop (n + 1) script → IsEntryTaken is_prog f h.heads n e answer new → is_some answer ≡ false → HasTaken is_prog f script (n + 1) new
-one_taken is_prog f script n e old new (Some fault) h cut taken none = cc
-one_taken is_prog f script n e old new None h cut taken none = record {
-  heads = entry_head e ∷ h.heads;
-  stands = taken.1;
-  same = h.same ∙ ap (fault_after is_prog f h.heads n) cut ∙ ap (λ o. first_some o (fault_after is_prog f (entry_head e ∷ h.heads) (n + 1) (drop (n + 1) script))) taken.0;
-}
+  -- it has none and is taken
+  pub one_taken : (e : Entry) (old new : Progress) (answer : Option PictureFault) → (h : HasTaken is_prog f script n old)
+      → drop n script ≡ e ∷ drop (n + 1) script → IsEntryTaken is_prog f h.heads n e answer new → is_some answer ≡ false → HasTaken is_prog f script (n + 1) new
+  one_taken e old new (Some fault) h cut taken none = cc
+  one_taken e old new None h cut taken none = record {
+    heads = entry_head e ∷ h.heads;
+    stands = taken.1;
+    same = h.same ∙ ap (fault_after is_prog f h.heads n) cut ∙ ap (λ o. first_some o (fault_after is_prog f (entry_head e ∷ h.heads) (n + 1) (drop (n + 1) script))) taken.0;
+  }

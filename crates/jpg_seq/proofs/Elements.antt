@@ -48,11 +48,12 @@ left_at p i others (v ∷ values) h = some_left i (63 - length values) others (o
 
 -- ONE ELEMENT
 
-pub one_element : (c : Coding) (s t : Standing) (u : UnitLeft) (units left : List UnitLeft) (e : Element) (here : List ℤ) (bits : List Bool) → s.left ≡ u ∷ units
-    → SpellsElement (codes_due c u) e bits → Tells c (s.predictions u.component) e u units here left → are_in_bounds c.bounds u.has_dc here ≡ true
-    → record { predictions = predictions_after s.predictions u.component e; left = left } ≡ t → Covers c s (e ∷ []) here bits t
-one_element c s t u units left e here bits l sp told ok is =
-    (u, units, here, left, [], bits, [], l, sym (append-nil here), sym (append-nil bits), sp, told, ok, (refl, refl, sym is))
+module _ (c : Coding) where
+  pub one_element : (s t : Standing) (u : UnitLeft) (units left : List UnitLeft) (e : Element) (here : List ℤ) (bits : List Bool) → s.left ≡ u ∷ units
+      → SpellsElement (codes_due c u) e bits → Tells c (s.predictions u.component) e u units here left → are_in_bounds c.bounds u.has_dc here ≡ true
+      → record { predictions = predictions_after s.predictions u.component e; left = left } ≡ t → Covers c s (e ∷ []) here bits t
+  one_element s t u units left e here bits l sp told ok is =
+      (u, units, here, left, [], bits, [], l, sym (append-nil here), sym (append-nil bits), sp, told, ok, (refl, refl, sym is))
 
 -- where n values are left, the element encodes these, all of them zero except the last
 abbrev pub TellsHere : Coding → ℕ → ℕ → Element → List ℤ → Type 0

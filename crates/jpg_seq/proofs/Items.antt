@@ -262,7 +262,7 @@ later_bad e values code symbol sane apart some c long bad =
     let P : List Code → Type 0 = λ t. Contains t (code, symbol) in
     let A : List Code → Type 0 = λ t. huff_laws.AreApart t in
     record {
-      shows = λ d i p others r. bad_shows d e.bounds e.dc e.ac p i others values code symbol r.0 some (subst P (next ∙ codes_same e d i p values r) c) bad;
+      shows = λ d i p others r. bad_shows r.0 p others values code symbol some (subst P (next ∙ codes_same e d i p values r) c) bad;
       fronts = code_fronts e values code symbol (subst P next c);
       ends = bare_ends e values code symbol (subst A next apart) (subst P next c) long
           (λ r n same m. (let f = from_later e.bounds values r n some m in by bad r n same f.0));
@@ -278,7 +278,7 @@ later_bad_run e values code symbol sane apart some less c long bad =
     let P : List Code → Type 0 = λ t. Contains t (code, symbol) in
     let A : List Code → Type 0 = λ t. huff_laws.AreApart t in
     record {
-      shows = λ d i p others r. run_shows d e.bounds e.dc e.ac p i others values code symbol r.0 some (subst P (next ∙ codes_same e d i p values r) c) bad;
+      shows = λ d i p others r. run_shows r.0 p others values code symbol some (subst P (next ∙ codes_same e d i p values r) c) bad;
       fronts = code_fronts e values code symbol (subst P next c);
       ends = bare_ends e values code symbol (subst A next apart) (subst P next c) long
           (λ r n same m. (let f = from_later e.bounds values r n some m in absurd (omega (arith, bad.0, bad.2, same, f.0, f.1, sane.ac_cat))));

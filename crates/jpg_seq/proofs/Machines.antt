@@ -44,39 +44,40 @@ reads_of m i bits now coder o there =
     (o.reads.codes o.next.component coder there, sym (o.predicts o.next.component r.small))
 
 -- with the unit's further bits
-with_unit : (m : SeqReader) (i : Interval) (bits : List Bool) (now : Picture) (b : Bool) (t : Work) (elements : List Element) (front : List Bool) → (o : SeqStands m i bits now)
-    → Covers i.scan.coding (standing_at o.predictions o.next.component (new_units_at o.more) []) elements t.values front (standing_at o.predictions o.next.component (new_units_at o.more) t.values)
-    → o.part ++ b ∷ [] ≡ front ++ t.part → ((coder : Coder) → coder_at m o.next.component ≡ Some coder → IsAtWork (env_at m coder o.next.component) t)
-    → SeqStands (record m { unit = t }) i (bits ++ b ∷ []) now
-with_unit m i bits now b t elements front o covers split work =
-    record {
-      reads = record { sane = o.reads.sane; codes = o.reads.codes };
-      kind = o.kind;
-      distinct = o.distinct;
-      done = o.done;
-      next = o.next;
-      more = o.more;
-      all = o.all;
-      cursor = o.cursor;
-      left = o.left;
-      spots = All-weaker (IsPlaceReadable m i.before.frame) (IsPlaceReadable (record m { unit = t }) i.before.frame) (λ p r. record { small = r.small; padded = r.padded; coder = r.coder; there = r.there }) (o.next ∷ (o.more ++ i.later)) o.spots;
-      whole = o.whole;
-      predictions = o.predictions;
-      elements = o.elements;
-      front = o.front;
-      part = o.part ++ b ∷ [];
-      covers = o.covers;
-      split = part_more bits o.front o.part b o.split;
-      four = o.four;
-      predicts = o.predicts;
-      unit_elements = elements;
-      unit_front = front;
-      unit_covers = covers;
-      unit_split = split;
-      at_work = work;
-      frame = o.frame;
-      read = o.read;
-    }
+module _ {m : SeqReader} {i : Interval} {bits : List Bool} {now : Picture} (o : SeqStands m i bits now) where
+  with_unit : (b : Bool) (t : Work) (elements : List Element) (front : List Bool)
+      → Covers i.scan.coding (standing_at o.predictions o.next.component (new_units_at o.more) []) elements t.values front (standing_at o.predictions o.next.component (new_units_at o.more) t.values)
+      → o.part ++ b ∷ [] ≡ front ++ t.part → ((coder : Coder) → coder_at m o.next.component ≡ Some coder → IsAtWork (env_at m coder o.next.component) t)
+      → SeqStands (record m { unit = t }) i (bits ++ b ∷ []) now
+  with_unit b t elements front covers split work =
+      record {
+        reads = record { sane = o.reads.sane; codes = o.reads.codes };
+        kind = o.kind;
+        distinct = o.distinct;
+        done = o.done;
+        next = o.next;
+        more = o.more;
+        all = o.all;
+        cursor = o.cursor;
+        left = o.left;
+        spots = All-weaker (IsPlaceReadable m i.before.frame) (IsPlaceReadable (record m { unit = t }) i.before.frame) (λ p r. record { small = r.small; padded = r.padded; coder = r.coder; there = r.there }) (o.next ∷ (o.more ++ i.later)) o.spots;
+        whole = o.whole;
+        predictions = o.predictions;
+        elements = o.elements;
+        front = o.front;
+        part = o.part ++ b ∷ [];
+        covers = o.covers;
+        split = part_more bits o.front o.part b o.split;
+        four = o.four;
+        predicts = o.predicts;
+        unit_elements = elements;
+        unit_front = front;
+        unit_covers = covers;
+        unit_split = split;
+        at_work = work;
+        frame = o.frame;
+        read = o.read;
+      }
 
 -- the same coder
 one_coder : (m : SeqReader) (k : ℕ) (a b : Coder) → coder_at m k ≡ Some a → coder_at m k ≡ Some b → a ≡ b
@@ -88,7 +89,7 @@ step_within m p coder now b t first there (inl h) i bits o =
     let n = next_is m i bits now p first o in
     let C : List ℤ → Type 0 = λ v. Covers i.scan.coding (standing_at o.predictions o.next.component (new_units_at o.more) []) o.unit_elements v o.unit_front (standing_at o.predictions o.next.component (new_units_at o.more) v) in
     let values = ap (λ (w : Work). w.values) h.0 in let part = ap (λ (w : Work). w.part) h.0 in
-    with_unit m i bits now b t o.unit_elements o.unit_front o (subst C (sym values) o.unit_covers)
+    with_unit o b t o.unit_elements o.unit_front (subst C (sym values) o.unit_covers)
     (part_more o.part o.unit_front m.unit.part b o.unit_split ∙ ap (λ z. o.unit_front ++ z) (sym part))
     (λ d e. let W : Work → Type 0 = λ w. IsAtWork (env_at m d o.next.component) w in
     let K : ℕ → Type 0 = λ k. (c : Coder) → coder_at m k ≡ Some c → IsPartOf (env_at m c k) m.unit.values (m.unit.part ++ b ∷ []) in
@@ -108,7 +109,7 @@ step_within m p coder now b t first there (inr h) i bits o =
     let adds = subst A k all coder coder' i.scan.coding o.next.component o.predictions (new_units_at o.more) (reads_of m i bits now coder o coder') in
     let C : List ℤ → Type 0 = λ v. Covers i.scan.coding (st []) (o.unit_elements ++ adds.0) v (o.unit_front ++ (s.part ++ b ∷ [])) (st v) in
     let values = ap (λ (w : Work). w.values) h.1 in let part = ap (λ (w : Work). w.part) h.1 in
-    with_unit m i bits now b t (o.unit_elements ++ adds.0) (o.unit_front ++ (s.part ++ b ∷ [])) o
+    with_unit o b t (o.unit_elements ++ adds.0) (o.unit_front ++ (s.part ++ b ∷ []))
     (subst C (sym values) (covers_then i.scan.coding (st []) (st s.values) (st (s.values ++ here)) o.unit_elements adds.0 s.values here o.unit_front (s.part ++ b ∷ []) o.unit_covers adds.1))
     (part_more o.part o.unit_front s.part b o.unit_split ∙ sym (append-nil (o.unit_front ++ (s.part ++ b ∷ []))) ∙ ap (λ z. (o.unit_front ++ (s.part ++ b ∷ [])) ++ z) (sym part))
     (λ d e. let W : Work → Type 0 = λ w. IsAtWork (env_at m d o.next.component) w in
@@ -174,43 +175,44 @@ pub record UnitRead (m : SeqReader) (i : Interval) (bits : List Bool) (now : Pic
   pub covers : Covers i.scan.coding (at_start (units_of i)) elements (o.whole ++ block) (bits ++ b ∷ []) (record { predictions = after_block o.predictions p.component block; left = new_units_at o.more })
   pub read : UnitsRead i.scan (o.done ++ p ∷ []) (map_of i.before) (map_of (put_at now p block)) (o.whole ++ block)
 
-unit_read : (m : SeqReader) (i : Interval) (bits : List Bool) (now : Picture) (p : Place) (coder : Coder) (block : List ℤ) (b : Bool) → (o : SeqStands m i bits now) → o.next ≡ p → coder_at m p.component ≡ Some coder
-    → length now.blocks ≡ padded_blocks now.frame → IsLast (env_at m coder p.component) m.unit b block → UnitRead m i bits now p block b o
-unit_read m i bits now p coder block b o n there count h =
-    let k = p.component in
-    let s = m.unit in
-    let kk : o.next.component ≡ k = ap (λ (q : Place). q.component) n in
-    let st : List ℤ → Standing = λ v. standing_at o.predictions o.next.component (new_units_at o.more) v in
-    let coder' : coder_at m o.next.component ≡ Some coder = ap (λ (q : ℕ). coder_at m q) kk ∙ there in
-    let A : ℕ → Type 0 = λ q. Adds (env_at m coder q) s.values (s.part ++ b ∷ []) h.0 in
-    let adds = subst A (sym kk) h.1 i.scan.coding o.next.component o.predictions (new_units_at o.more) (reads_of m i bits now coder o coder') in
-    let unit : Covers i.scan.coding (st []) (o.unit_elements ++ adds.0) (s.values ++ h.0) (o.unit_front ++ (s.part ++ b ∷ [])) (st (s.values ++ h.0)) =
-    covers_then i.scan.coding (st []) (st s.values) (st (s.values ++ h.0)) o.unit_elements adds.0 s.values h.0 o.unit_front (s.part ++ b ∷ []) o.unit_covers adds.1 in
-    let C : List ℤ → Type 0 = λ v. Covers i.scan.coding (st []) (o.unit_elements ++ adds.0) v (o.unit_front ++ (s.part ++ b ∷ [])) (st v) in
-    let last : Standing = record { predictions = after_block o.predictions k block; left = new_units_at o.more } in
-    let D : Standing → Type 0 = λ t. Covers i.scan.coding (st []) (o.unit_elements ++ adds.0) block (o.unit_front ++ (s.part ++ b ∷ [])) t in
-    let is : st block ≡ last = whole_standing o.predictions o.next.component (new_units_at o.more) block h.3 ∙ ap (λ (q : ℕ). (let r : Standing = record { predictions = after_block o.predictions q block; left = new_units_at o.more } in r)) kk in
-    let whole = subst D is (subst C (sym h.2) unit) in
-    let all = covers_then i.scan.coding (at_start (units_of i)) (st []) last o.elements (o.unit_elements ++ adds.0) o.whole block o.front (o.unit_front ++ (s.part ++ b ∷ [])) o.covers whole in
-    let text : o.front ++ (o.unit_front ++ (s.part ++ b ∷ [])) ≡ bits ++ b ∷ [] =
-    ap (λ z. o.front ++ z) (sym (part_more o.part o.unit_front s.part b o.unit_split)) ∙ sym (part_more bits o.front o.part b o.split) in
-    let E : List Bool → Type 0 = λ z. Covers i.scan.coding (at_start (units_of i)) (o.elements ++ (o.unit_elements ++ adds.0)) (o.whole ++ block) z last in
-    let r = All-head (IsPlaceReadable m i.before.frame) o.next (o.more ++ i.later) o.spots in
-    let pad : IsPadded now.frame p.component p.x p.y = subst (λ (q : Place). IsPadded now.frame q.component q.x q.y) n (subst (λ (g : Frame). IsPadded g o.next.component o.next.x o.next.y) (sym o.frame) r.padded) in
-    let places : i.places ++ i.later ≡ o.done ++ o.next ∷ (o.more ++ i.later) = ap (λ (l : List Place). l ++ i.later) o.all ∙ append_assoc o.done (o.next ∷ o.more) i.later in
-    let apart : any_of (is_at p.component p.x p.y) o.done ≡ false =
-    subst (λ (q : Place). any_of (is_at q.component q.x q.y) o.done ≡ false) n (next_apart o.done o.next (o.more ++ i.later) (subst (λ (l : List Place). AreDistinct l) places o.distinct)) in
-    let short : (j : ℕ) → is_in_band i.scan j ≡ false → slice_index_or block j (pos 0) ≡ coefficient (map_of now) p.component p.x p.y j =
-    λ j e. (let far = after_band i.scan j (o.kind).ss (o.kind).se e in
-    get_or_past block j (pos 0) (omega (arith, far, h.3)) ∙ sym (get_or_past (map_of now p.component p.x p.y) j (pos 0) (omega (arith, far, (o.read.changes).sizes p.component p.x p.y)))) in
-    let there_is : HasPlace now p = record { place = pad; count = count } in
-    let read = units_next i.scan o.done p (map_of i.before) (map_of now) (map_of (put_at now p block)) o.whole apart o.read (put_changes i.scan now p block there_is (record { size = h.3; same = short })) in
-    let told : band i.scan (block_at (map_of (put_at now p block)) p) ≡ block = ap (band i.scan) (put_here now p block there_is) ∙ whole_band i.scan block (o.kind).ss (o.kind).se h.3 in
-    record {
-      elements = o.elements ++ (o.unit_elements ++ adds.0);
-      covers = subst E text all;
-      read = subst (λ (l : List ℤ). UnitsRead i.scan (o.done ++ p ∷ []) (map_of i.before) (map_of (put_at now p block)) (o.whole ++ l)) told read;
-    }
+module _ {m : SeqReader} {i : Interval} {bits : List Bool} {now : Picture} (o : SeqStands m i bits now) where
+  unit_read : (p : Place) (coder : Coder) (block : List ℤ) (b : Bool) → o.next ≡ p → coder_at m p.component ≡ Some coder
+      → length now.blocks ≡ padded_blocks now.frame → IsLast (env_at m coder p.component) m.unit b block → UnitRead m i bits now p block b o
+  unit_read p coder block b n there count h =
+      let k = p.component in
+      let s = m.unit in
+      let kk : o.next.component ≡ k = ap (λ (q : Place). q.component) n in
+      let st : List ℤ → Standing = λ v. standing_at o.predictions o.next.component (new_units_at o.more) v in
+      let coder' : coder_at m o.next.component ≡ Some coder = ap (λ (q : ℕ). coder_at m q) kk ∙ there in
+      let A : ℕ → Type 0 = λ q. Adds (env_at m coder q) s.values (s.part ++ b ∷ []) h.0 in
+      let adds = subst A (sym kk) h.1 i.scan.coding o.next.component o.predictions (new_units_at o.more) (reads_of m i bits now coder o coder') in
+      let unit : Covers i.scan.coding (st []) (o.unit_elements ++ adds.0) (s.values ++ h.0) (o.unit_front ++ (s.part ++ b ∷ [])) (st (s.values ++ h.0)) =
+      covers_then i.scan.coding (st []) (st s.values) (st (s.values ++ h.0)) o.unit_elements adds.0 s.values h.0 o.unit_front (s.part ++ b ∷ []) o.unit_covers adds.1 in
+      let C : List ℤ → Type 0 = λ v. Covers i.scan.coding (st []) (o.unit_elements ++ adds.0) v (o.unit_front ++ (s.part ++ b ∷ [])) (st v) in
+      let last : Standing = record { predictions = after_block o.predictions k block; left = new_units_at o.more } in
+      let D : Standing → Type 0 = λ t. Covers i.scan.coding (st []) (o.unit_elements ++ adds.0) block (o.unit_front ++ (s.part ++ b ∷ [])) t in
+      let is : st block ≡ last = whole_standing o.predictions o.next.component (new_units_at o.more) block h.3 ∙ ap (λ (q : ℕ). (let r : Standing = record { predictions = after_block o.predictions q block; left = new_units_at o.more } in r)) kk in
+      let whole = subst D is (subst C (sym h.2) unit) in
+      let all = covers_then i.scan.coding (at_start (units_of i)) (st []) last o.elements (o.unit_elements ++ adds.0) o.whole block o.front (o.unit_front ++ (s.part ++ b ∷ [])) o.covers whole in
+      let text : o.front ++ (o.unit_front ++ (s.part ++ b ∷ [])) ≡ bits ++ b ∷ [] =
+      ap (λ z. o.front ++ z) (sym (part_more o.part o.unit_front s.part b o.unit_split)) ∙ sym (part_more bits o.front o.part b o.split) in
+      let E : List Bool → Type 0 = λ z. Covers i.scan.coding (at_start (units_of i)) (o.elements ++ (o.unit_elements ++ adds.0)) (o.whole ++ block) z last in
+      let r = All-head (IsPlaceReadable m i.before.frame) o.next (o.more ++ i.later) o.spots in
+      let pad : IsPadded now.frame p.component p.x p.y = subst (λ (q : Place). IsPadded now.frame q.component q.x q.y) n (subst (λ (g : Frame). IsPadded g o.next.component o.next.x o.next.y) (sym o.frame) r.padded) in
+      let places : i.places ++ i.later ≡ o.done ++ o.next ∷ (o.more ++ i.later) = ap (λ (l : List Place). l ++ i.later) o.all ∙ append_assoc o.done (o.next ∷ o.more) i.later in
+      let apart : any_of (is_at p.component p.x p.y) o.done ≡ false =
+      subst (λ (q : Place). any_of (is_at q.component q.x q.y) o.done ≡ false) n (next_apart o.done o.next (o.more ++ i.later) (subst (λ (l : List Place). AreDistinct l) places o.distinct)) in
+      let short : (j : ℕ) → is_in_band i.scan j ≡ false → slice_index_or block j (pos 0) ≡ coefficient (map_of now) p.component p.x p.y j =
+      λ j e. (let far = after_band i.scan j (o.kind).ss (o.kind).se e in
+      get_or_past block j (pos 0) (omega (arith, far, h.3)) ∙ sym (get_or_past (map_of now p.component p.x p.y) j (pos 0) (omega (arith, far, (o.read.changes).sizes p.component p.x p.y)))) in
+      let there_is : HasPlace now p = record { place = pad; count = count } in
+      let read = units_next i.scan o.done p (map_of i.before) (map_of now) (map_of (put_at now p block)) o.whole apart o.read (put_changes i.scan now p block there_is (record { size = h.3; same = short })) in
+      let told : band i.scan (block_at (map_of (put_at now p block)) p) ≡ block = ap (band i.scan) (put_here now p block there_is) ∙ whole_band i.scan block (o.kind).ss (o.kind).se h.3 in
+      record {
+        elements = o.elements ++ (o.unit_elements ++ adds.0);
+        covers = subst E text all;
+        read = subst (λ (l : List ℤ). UnitsRead i.scan (o.done ++ p ∷ []) (map_of i.before) (map_of (put_at now p block)) (o.whole ++ l)) told read;
+      }
 
 -- the machine after a complete unit
 abbrev pub after_unit : SeqReader → Work → ℕ → SeqReader
@@ -233,7 +235,7 @@ step_unit m p coder now b whole first there count h many i bits o =
     let k = p.component in
     let new : SeqReader = after_unit m whole k in
     let block = whole.values in
-    let u = unit_read m i bits now p coder block b o n there count h in
+    let u = unit_read o p coder block b n there count h in
     let l = some_places o.more (omega (arith, o.left, many)) in
     let small = (All-head (IsPlaceReadable m i.before.frame) o.next (o.more ++ i.later) o.spots).small in
     let more : o.more ++ i.later ≡ l.0 ∷ (l.1 ++ i.later) = ap (λ (z : List Place). z ++ i.later) l.2 in
@@ -277,7 +279,7 @@ step_last m p coder now b whole first there count h one i bits o =
     let k = p.component in
     let new : SeqReader = after_unit m whole k in
     let block = whole.values in
-    let u = unit_read m i bits now p coder block b o n there count h in
+    let u = unit_read o p coder block b n there count h in
     let none : o.more ≡ [] = nil_from_length o.more (omega (arith, o.left, one)) in
     let all : i.places ≡ o.done ++ p ∷ [] = o.all ∙ ap (λ (z : Place). o.done ++ z ∷ o.more) n ∙ ap (λ (z : List Place). o.done ++ p ∷ z) none in
     let after = with_block now p.component p.x p.y block in

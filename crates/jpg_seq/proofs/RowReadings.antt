@@ -1,5 +1,5 @@
 -- Bits that are taken while an MCU row is read.
-use Rattle.std.proofs.Common.{◌≡◌, ℕ, zero, suc, ◌+◌, ◌-◌, ◌<◌, ◌≤◌, Bool, true, false, ◌==◌, ◌&&◌, List, [], ◌∷◌, ◌++◌, length, take, drop, refl, sym, ap, ◌∙◌, subst, arith, ℤ}
+use Rattle.std.proofs.Common.{◌≡◌, ℕ, zero, suc, ◌+◌, ◌-◌, ◌<◌, ◌≤◌, Bool, true, false, ◌==◌, ◌&&◌, List, [], ◌∷◌, length, take, drop, refl, sym, ap, ◌∙◌, subst, arith, ℤ}
 use Rattle.std.specs.Prelude.{slice_get, Some}
 use Rattle.std.specs.List.{All}
 use Rattle.std.proofs.lemmas.List.{drop-drop, length-set}
@@ -11,16 +11,16 @@ use Rattle.jpg_spec.specs.declared.frame.Place.{Place}
 use Rattle.jpg_spec.proofs.Common.{both, some_once}
 use Rattle.jpg_base.specs.Cursor.{IsPadded}
 use Rattle.jpg_coefs.specs.Picture.{Picture, block_index, is_padded, map_of, put_at}
-use Rattle.jpg_coefs.specs.Machine.{Interval}
 use Rattle.jpg_coefs.specs.declared.machine.UnitFault.{UnitFault}
 use Rattle.jpg_coefs.specs.declared.machine.Taken.{Taken}
 use Rattle.jpg_coefs.specs.declared.machine.Taken.TheVariants as taken
 use Rattle.jpg_coefs.proofs.Maps.{put_here, put_others}
 use Rattle.jpg_seq.specs.declared.reader.SeqReader.{SeqReader}
 use Rattle.jpg_seq.specs.declared.work.UnitProgress.TheVariants as took
-use Rattle.jpg_seq.specs.Reader.{CanRead, ReadsOn, SeqStands, behind, with_work}
+use Rattle.jpg_seq.specs.Reader.{CanRead, ReadsOn, behind, with_work}
 use Rattle.jpg_seq.specs.Rows.{IsRowOf, IsInRow, AreInRow, lowered, top_of}
-use Rattle.jpg_seq.specs.RowTaken.{CanReadRow, IsCountOf, IsOpenRow, PassesPlaces, ReadsRow, TakesInRow}
+use Rattle.jpg_seq.specs.RowTaken.{CanReadRow, IsCountOf, PassesPlaces, ReadsRow, TakesInRow}
+use Rattle.jpg_seq.specs.SoFar.{Spot}
 use Rattle.jpg_seq.specs.Work.{Work}
 use Rattle.jpg_seq.proofs.StoreReadings.{starts, can_read, can_put, some_left, has_place, empty_ends, fault_ends, interval_ends, units_end, goes_on}
 
@@ -88,92 +88,73 @@ one_after places done = drop-drop 1 done places
 
 -- WHAT WAS READ SO FAR, and what ends it
 
-pub row_starts : (most : ℕ) (tops : List ℕ) (m : SeqReader) (row : Picture) (store : List Bool) → 1 ≤ most → ReadsRow most tops m row store m row store 0
-row_starts most tops m row store some = record { so_far = λ whole is o. (whole, is, starts most m whole store some o); framed = refl; few = some; cursor = refl; left = omega arith }
+pub row_starts : (most : ℕ) (tops : List ℕ) (s : Spot) → 1 ≤ most → ReadsRow most tops s s 0
+row_starts most tops s some = record { so_far = λ whole is o. (whole, is, starts most (record s { picture = whole }) some o); framed = refl; few = some; cursor = refl; left = omega arith }
 
-pub row_can_read : (most : ℕ) (tops : List ℕ) (m0 : SeqReader) (row0 : Picture) (store0 : List Bool) (m : SeqReader) (row : Picture) (store : List Bool) (done : ℕ) (p : Place) → slice_get m.cursor 0 ≡ Some p
-    → ReadsRow most tops m0 row0 store0 m row store done → CanReadRow tops m0 row0 → CanRead m p.component
-row_can_read most tops m0 row0 store0 m row store done p first r o =
-    let w = r.so_far o.0 o.1 o.2 in
-    can_read m w.2.interval w.2.bits w.0 p first w.2.standing
+-- A unit is complete, and its block is put into the MCU row.
+pub record PutsInRow (tops : List ℕ) (now : Spot) (p : Place) (unit : Work) (new : Spot) : Type 0 where
+  pub count : length (now.picture).blocks ≡ padded_blocks (now.picture).frame
+  pub here : IsInRow (now.picture).frame tops p
+  pub reads : ReadsOn now.machine p.component now.store took.Done unit new.store
+  pub machine : new.machine ≡ behind (with_work now.machine unit) p.component
+  pub block : new.picture ≡ put_at now.picture (lowered tops p) unit.values
 
-pub row_has_unit : (most : ℕ) (tops : List ℕ) (m0 : SeqReader) (row0 : Picture) (store0 : List Bool) (m : SeqReader) (row : Picture) (store : List Bool) (done : ℕ)
-    → ReadsRow most tops m0 row0 store0 m row store done → CanReadRow tops m0 row0 → (1 ≤ m.left) × (1 ≤ length m.cursor)
-row_has_unit most tops m0 row0 store0 m row store done r o =
-    let w = r.so_far o.0 o.1 o.2 in
-    (some_left m w.2.interval w.2.bits w.0 w.2.standing, has_place m w.2.interval w.2.bits w.0 w.2.standing)
+module _ {most : ℕ} {tops : List ℕ} {from now : Spot} {done : ℕ} (r : ReadsRow most tops from now done) where
+  pub row_has_unit : CanReadRow tops from.machine from.picture → (1 ≤ (now.machine).left) × (1 ≤ length (now.machine).cursor)
+  row_has_unit o = (let w = r.so_far o.0 o.1 o.2 in (some_left w.2, has_place w.2))
 
-pub row_here : (most : ℕ) (tops : List ℕ) (m0 : SeqReader) (row0 : Picture) (store0 : List Bool) (m : SeqReader) (row : Picture) (store : List Bool) (done : ℕ) (p : Place) → slice_get m.cursor 0 ≡ Some p
-    → ReadsRow most tops m0 row0 store0 m row store done → AreInRow row0.frame tops (take most m0.cursor) → IsInRow row.frame tops p
-row_here most tops m0 row0 store0 m row store done p first r inside =
-    subst (λ (f : Frame). IsInRow f tops p) (sym r.framed)
-    (next_inside (IsInRow row0.frame tops) m0.cursor most done p inside r.few (ap (λ (l : List Place). slice_get l 0) (sym r.cursor) ∙ first))
+  pub passes_here : (new : SeqReader) (answer : Taken) → new.cursor ≡ (now.machine).cursor → new.left ≡ (now.machine).left → IsCountOf most answer new done → PassesPlaces most from.machine answer new
+  passes_here new answer cursor left few = record { units = done; few = few; cursor = cursor ∙ r.cursor; left = omega (arith, r.left, left) }
 
-pub row_empty : (most : ℕ) (tops : List ℕ) (m0 : SeqReader) (row0 : Picture) (store0 : List Bool) (m : SeqReader) (row : Picture) (store : List Bool) (done : ℕ) (p : Place) (unit : Work) (rest : List Bool) → slice_get m.cursor 0 ≡ Some p
-    → ReadsRow most tops m0 row0 store0 m row store done → ReadsOn m p.component store took.Empty unit rest → TakesInRow most tops m0 row0 store0 taken.More (with_work m unit) row rest
-row_empty most tops m0 row0 store0 m row store done p unit rest first r reads = λ whole is o.
-    (let w = r.so_far whole is o in
-    (w.0, w.1, empty_ends most m0 whole store0 m w.0 store done p unit rest first w.2 reads))
+  pub passes_one : (new : SeqReader) (unit : Work) (k : ℕ) (answer : Taken) → 1 ≤ (now.machine).left → new ≡ behind (with_work now.machine unit) k → IsCountOf most answer new (done + 1) → PassesPlaces most from.machine answer new
+  passes_one new unit k answer some is few =
+      let left : new.left ≡ (now.machine).left - 1 = ap (λ (q : SeqReader). q.left) is in
+      let cursor : new.cursor ≡ drop 1 (now.machine).cursor = ap (λ (q : SeqReader). q.cursor) is in
+      record { units = done + 1; few = few; cursor = cursor ∙ ap (drop 1) r.cursor ∙ one_after (from.machine).cursor done; left = omega (arith, r.left, left, some) }
 
-pub row_fault : (most : ℕ) (tops : List ℕ) (m0 : SeqReader) (row0 : Picture) (store0 : List Bool) (m : SeqReader) (row : Picture) (store : List Bool) (done : ℕ) (p : Place) (unit : Work) (rest : List Bool) (fault : UnitFault) → slice_get m.cursor 0 ≡ Some p
-    → ReadsRow most tops m0 row0 store0 m row store done → ReadsOn m p.component store (took.Fault fault) unit rest → TakesInRow most tops m0 row0 store0 (taken.Fault fault) (with_work m unit) row rest
-row_fault most tops m0 row0 store0 m row store done p unit rest fault first r reads = λ whole is o.
-    (let w = r.so_far whole is o in
-    (w.0, w.1, fault_ends most m0 whole store0 m w.0 store done p unit rest fault (with_work m unit) first w.2 reads))
+module _ {most : ℕ} {tops : List ℕ} {from now : Spot} {done : ℕ} (r : ReadsRow most tops from now done) {p : Place} (first : slice_get (now.machine).cursor 0 ≡ Some p) where
+  pub row_can_read : CanReadRow tops from.machine from.picture → CanRead now.machine p.component
+  row_can_read o = can_read (r.so_far o.0 o.1 o.2).2 first
 
-pub passes_here : (most : ℕ) (tops : List ℕ) (m0 : SeqReader) (row0 : Picture) (store0 : List Bool) (m : SeqReader) (row : Picture) (store : List Bool) (done : ℕ) (new : SeqReader) (answer : Taken) → ReadsRow most tops m0 row0 store0 m row store done
-    → new.cursor ≡ m.cursor → new.left ≡ m.left → IsCountOf most answer new done → PassesPlaces most m0 answer new
-passes_here most tops m0 row0 store0 m row store done new answer r cursor left few = record { units = done; few = few; cursor = cursor ∙ r.cursor; left = omega (arith, r.left, left) }
+  pub row_here : AreInRow (from.picture).frame tops (take most (from.machine).cursor) → IsInRow (now.picture).frame tops p
+  row_here inside =
+      subst (λ (f : Frame). IsInRow f tops p) (sym r.framed)
+      (next_inside (IsInRow (from.picture).frame tops) (from.machine).cursor most done p inside r.few (ap (λ (l : List Place). slice_get l 0) (sym r.cursor) ∙ first))
 
--- A complete unit: the picture of which the row is by then.
-pub record PutInRow (tops : List ℕ) (now row after : Picture) (p : Place) (block : List ℤ) : Type 0 where
-  pub count : length row.blocks ≡ padded_blocks row.frame
-  pub here : IsInRow row.frame tops p
-  pub put : after ≡ put_at row (lowered tops p) block
+  pub row_empty : {unit : Work} {rest : List Bool} → ReadsOn now.machine p.component now.store took.Empty unit rest
+      → TakesInRow most tops from.machine from.picture from.store taken.More (with_work now.machine unit) now.picture rest
+  row_empty reads = λ whole is o. (let w = r.so_far whole is o in (w.0, w.1, empty_ends w.2 first reads))
 
-put_now : (tops : List ℕ) (m : SeqReader) (i : Interval) (bits : List Bool) (now row after : Picture) (p : Place) (block : List ℤ) → slice_get m.cursor 0 ≡ Some p → SeqStands m i bits now → IsRowOf tops now row → PutInRow tops now row after p block
-    → IsRowOf tops (put_at now p block) after
-put_now tops m i bits now row after p block first o is put =
-    subst (λ (q : Picture). IsRowOf tops (put_at now p block) q) (sym put.put) (row_put tops now row p block is put.count (can_put m i bits now p first o) put.here)
+  pub row_fault : {rest : List Bool} {fault : UnitFault} (unit : Work) → ReadsOn now.machine p.component now.store (took.Fault fault) unit rest
+      → TakesInRow most tops from.machine from.picture from.store (taken.Fault fault) (with_work now.machine unit) now.picture rest
+  row_fault unit reads = λ whole is o. (let w = r.so_far whole is o in (w.0, w.1, fault_ends w.2 first unit (with_work now.machine unit) reads))
 
-pub row_interval : (most : ℕ) (tops : List ℕ) (m0 : SeqReader) (row0 : Picture) (store0 : List Bool) (m : SeqReader) (row : Picture) (store : List Bool) (done : ℕ) (p : Place) (unit : Work) (rest : List Bool) (new : SeqReader) (after : Picture)
-    → ((now : Picture) → PutInRow tops now row after p unit.values) → slice_get m.cursor 0 ≡ Some p → ReadsRow most tops m0 row0 store0 m row store done → ReadsOn m p.component store took.Done unit rest → new ≡ behind (with_work m unit) p.component
-    → new.left ≡ 0 → TakesInRow most tops m0 row0 store0 taken.IntervalDone new after rest
-row_interval most tops m0 row0 store0 m row store done p unit rest new after put first r reads is none = λ whole at o.
-    (let w = r.so_far whole at o in
-    let now = put_at w.0 p unit.values in
-    let there = put_now tops m w.2.interval w.2.bits w.0 row after p unit.values first w.2.standing w.1 (put w.0) in
-    (now, there, interval_ends most m0 whole store0 m w.0 store done p unit rest new now w.1.count first w.2 reads is refl none))
+  -- the picture whose row it is, by then
+  put_now : {unit : Work} {new : Spot} (after : Picture) → PutsInRow tops now p unit new → IsRowOf tops after now.picture → IsPadded after.frame p.component p.x p.y → IsRowOf tops (put_at after p unit.values) new.picture
+  put_now {unit} after put is pad = subst (λ (q : Picture). IsRowOf tops (put_at after p unit.values) q) (sym put.block) (row_put tops after now.picture p unit.values is put.count pad put.here)
 
-pub row_units : (most : ℕ) (tops : List ℕ) (m0 : SeqReader) (row0 : Picture) (store0 : List Bool) (m : SeqReader) (row : Picture) (store : List Bool) (done : ℕ) (p : Place) (unit : Work) (rest : List Bool) (new : SeqReader) (after : Picture)
-    → ((now : Picture) → PutInRow tops now row after p unit.values) → slice_get m.cursor 0 ≡ Some p → ReadsRow most tops m0 row0 store0 m row store done → ReadsOn m p.component store took.Done unit rest → new ≡ behind (with_work m unit) p.component
-    → 1 ≤ new.left → most ≤ done + 1 → TakesInRow most tops m0 row0 store0 taken.Units new after rest
-row_units most tops m0 row0 store0 m row store done p unit rest new after put first r reads is some enough = λ whole at o.
-    (let w = r.so_far whole at o in
-    let now = put_at w.0 p unit.values in
-    let there = put_now tops m w.2.interval w.2.bits w.0 row after p unit.values first w.2.standing w.1 (put w.0) in
-    (now, there, units_end most m0 whole store0 m w.0 store done p unit rest new now w.1.count first w.2 reads is refl some enough))
+  pub row_interval : {unit : Work} {new : Spot} → PutsInRow tops now p unit new → (new.machine).left ≡ 0 → TakesInRow most tops from.machine from.picture from.store taken.IntervalDone new.machine new.picture new.store
+  row_interval {unit} {new} put none = λ whole at o.
+      (let w = r.so_far whole at o in
+      let after = put_at w.0 p unit.values in
+      (after, put_now w.0 put w.1 (can_put w.2 first), interval_ends w.2 first {new = record new { picture = after }} (record { count = (w.1).count; reads = put.reads; machine = put.machine; block = refl }) none))
 
-pub row_goes_on : (most : ℕ) (tops : List ℕ) (m0 : SeqReader) (row0 : Picture) (store0 : List Bool) (m : SeqReader) (row : Picture) (store : List Bool) (done : ℕ) (p : Place) (unit : Work) (rest : List Bool) (new : SeqReader) (after : Picture)
-    → ((now : Picture) → PutInRow tops now row after p unit.values) → slice_get m.cursor 0 ≡ Some p → ReadsRow most tops m0 row0 store0 m row store done → ReadsOn m p.component store took.Done unit rest → new ≡ behind (with_work m unit) p.component
-    → 1 ≤ new.left → done + 1 < most → ReadsRow most tops m0 row0 store0 new after rest (done + 1)
-row_goes_on most tops m0 row0 store0 m row store done p unit rest new after put first r reads is some few =
-    let left : new.left ≡ m.left - 1 = ap (λ (q : SeqReader). q.left) is in
-    let cursor : new.cursor ≡ drop 1 m.cursor = ap (λ (q : SeqReader). q.cursor) is in
-    record {
-      so_far = λ whole at o. (let w = r.so_far whole at o in
-          let now = put_at w.0 p unit.values in
-          let there = put_now tops m w.2.interval w.2.bits w.0 row after p unit.values first w.2.standing w.1 (put w.0) in
-          (now, there, goes_on most m0 whole store0 m w.0 store done p unit rest new now w.1.count first w.2 reads is refl some few));
-      framed = ap (λ (q : Picture). q.frame) (put row).put ∙ r.framed;
-      few = few;
-      cursor = cursor ∙ ap (drop 1) r.cursor ∙ one_after m0.cursor done;
-      left = omega (arith, r.left, left, some);
-    }
+  pub row_units : {unit : Work} {new : Spot} → PutsInRow tops now p unit new → 1 ≤ (new.machine).left → most ≤ done + 1 → TakesInRow most tops from.machine from.picture from.store taken.Units new.machine new.picture new.store
+  row_units {unit} {new} put some enough = λ whole at o.
+      (let w = r.so_far whole at o in
+      let after = put_at w.0 p unit.values in
+      (after, put_now w.0 put w.1 (can_put w.2 first), units_end w.2 first {new = record new { picture = after }} (record { count = (w.1).count; reads = put.reads; machine = put.machine; block = refl }) some enough))
 
-pub passes_one : (most : ℕ) (tops : List ℕ) (m0 : SeqReader) (row0 : Picture) (store0 : List Bool) (m : SeqReader) (row : Picture) (store : List Bool) (done : ℕ) (new : SeqReader) (unit : Work) (k : ℕ) (answer : Taken)
-    → ReadsRow most tops m0 row0 store0 m row store done → 1 ≤ m.left → new ≡ behind (with_work m unit) k → IsCountOf most answer new (done + 1) → PassesPlaces most m0 answer new
-passes_one most tops m0 row0 store0 m row store done new unit k answer r some is few =
-    let left : new.left ≡ m.left - 1 = ap (λ (q : SeqReader). q.left) is in
-    let cursor : new.cursor ≡ drop 1 m.cursor = ap (λ (q : SeqReader). q.cursor) is in
-    record { units = done + 1; few = few; cursor = cursor ∙ ap (drop 1) r.cursor ∙ one_after m0.cursor done; left = omega (arith, r.left, left, some) }
+  pub row_goes_on : {unit : Work} {new : Spot} → PutsInRow tops now p unit new → 1 ≤ (new.machine).left → done + 1 < most → ReadsRow most tops from new (done + 1)
+  row_goes_on {unit} {new} put some few =
+      let left : (new.machine).left ≡ (now.machine).left - 1 = ap (λ (q : SeqReader). q.left) put.machine in
+      let cursor : (new.machine).cursor ≡ drop 1 (now.machine).cursor = ap (λ (q : SeqReader). q.cursor) put.machine in
+      record {
+        so_far = λ whole at o. (let w = r.so_far whole at o in
+            let after = put_at w.0 p unit.values in
+            (after, put_now w.0 put w.1 (can_put w.2 first), goes_on w.2 first {new = record new { picture = after }} (record { count = (w.1).count; reads = put.reads; machine = put.machine; block = refl }) some few));
+        framed = ap (λ (q : Picture). q.frame) put.block ∙ r.framed;
+        few = few;
+        cursor = cursor ∙ ap (drop 1) r.cursor ∙ one_after (from.machine).cursor done;
+        left = omega (arith, r.left, left, some);
+      }

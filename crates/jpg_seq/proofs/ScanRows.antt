@@ -5,19 +5,19 @@ use Rattle.std.specs.List.{All}
 use Rattle.std.proofs.lemmas.Bool.{cases_lt}
 use Rattle.std.proofs.lemmas.Bool.Decides.{nat_tests}
 use Rattle.std.proofs.lemmas.Grind.{flat_map-append}
-use Rattle.std.proofs.lemmas.List.{append-nil, get_or-append-add, get_or-drop, get_or-take, get_or_append_left, length-append, length-drop, length-map, length-take, map-append}
+use Rattle.std.proofs.lemmas.List.{append-nil, get_or-append-add, get_or-drop, get_or-take, get_or_append_left, length-append, length-map, length-take, map-append}
 use Rattle.std.proofs.lemmas.List.Elements.{All-append, All-cons, All-from_get_or, All-get_or, All-nil}
 use Rattle.std.proofs.lemmas.List.Sums.{sum_by-cons}
 use Rattle.std.proofs.lemmas.Nat.{mul-add-lt}
 use Rattle.std.proofs.Math.Nat.{mul_comm, le-div_iff_mul-le, div-lt_iff_lt-mul}
 use Rattle.jpg_spec.specs.Lists.{below}
-use Rattle.jpg_spec.specs.Geometry.{Frame, blocks_across, blocks_down, component_at, div_up, factor_sum, mcu_part, mcu_row_frame, mcus_across, mcus_down, no_component, place, units, v_max}
+use Rattle.jpg_spec.specs.Geometry.{Frame, blocks_across, component_at, div_up, factor_sum, mcu_part, mcu_row_frame, mcus_across, mcus_down, no_component, place, units, v_max}
 use Rattle.jpg_spec.specs.FrameHeader.{HasFactors, IsFrame, padded_across, padded_down}
 use Rattle.jpg_spec.specs.ScanRows.{scan_row}
 use Rattle.jpg_spec.specs.declared.frame.Place.{Place}
 use Rattle.jpg_spec.proofs.Common.{length_below}
 use Rattle.jpg_spec.proofs.PlacesFound.{real_in_padded}
-use Rattle.jpg_base.specs.Cursor.{AreIn, IsPadded, scan_mcus_down}
+use Rattle.jpg_base.specs.Cursor.{AreIn, scan_mcus_down}
 use Rattle.jpg_base.proofs.Grids.{across_low, down_low}
 use Rattle.jpg_base.proofs.UnitCounts.{length_rows}
 use Rattle.jpg_seq.specs.Rows.{AreInRow, BeginAt, IsInRow, rows_in_mcu, row_units, top_of}

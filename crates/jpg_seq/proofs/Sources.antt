@@ -1,16 +1,15 @@
 -- Bits of a source, taken from its store.
-use Rattle.std.proofs.Common.{◌≡◌, ℕ, ◌+◌, ◌-◌, ◌*◌, ◌<◌, ◌≤◌, Bool, List, [], ◌∷◌, ◌++◌, length, take, drop, get_or, refl, sym, ap, ◌∙◌, subst, arith}
-use Rattle.std.proofs.lemmas.List.{append_assoc, append-nil, length-append, length-drop, drop_more, take_all}
+use Rattle.std.proofs.Common.{◌≡◌, ℕ, ◌+◌, ◌-◌, ◌*◌, ◌<◌, ◌≤◌, Bool, List, [], ◌∷◌, ◌++◌, length, take, drop, refl, sym, ap, ◌∙◌, arith}
+use Rattle.std.proofs.lemmas.List.{append_assoc, length-append, length-drop, take_all}
 use Rattle.std.proofs.Math.Seq.{drop-append_seam}
 use Rattle.jpg_spec.specs.Bits.{bits_of, bits_of_bytes}
 use Rattle.jpg_spec.proofs.Strings.{length-bits_of}
 use Rattle.jpg_seq.specs.declared.source.Source.{Source}
 use Rattle.jpg_seq.specs.declared.work.UnitProgress.{UnitProgress}
-use Rattle.jpg_seq.specs.declared.work.UnitProgress.TheVariants.{More, Empty, Done, Fault}
+use Rattle.jpg_seq.specs.declared.work.UnitProgress.TheVariants.{Empty}
 use Rattle.jpg_seq.specs.Source.{bits_in}
 use Rattle.jpg_seq.specs.SourceTaken.{TakesFrom}
 use Rattle.jpg_seq.specs.Work.{Work, Env, TakesFromStore}
-use Rattle.jpg_seq.proofs.Takings.{takes_then}
 
 -- what is taken of the bits at hand, is taken of all
 pub taken_at_hand : (e : Env) (s t : Work) (old filled new : Source) (answer : UnitProgress) → bits_in filled ≡ bits_in old → (length filled.store < 32 → filled.bytes.now ≡ [])

@@ -21,129 +21,176 @@ use Rattle.jpg_seq.specs.declared.work.UnitProgress.TheVariants as took
 use Rattle.jpg_coefs.specs.declared.machine.UnitFault.{UnitFault}
 use Rattle.jpg_seq.specs.Work.{Work, StepsThrough, no_work}
 use Rattle.jpg_seq.specs.Reader.{coder_at, behind, with_work, new_units_at, IsPlaceReadable, CanRead, ReadsOn, SeqStands, SeqReady, sequential}
-use Rattle.jpg_seq.specs.SoFar.{SoFar}
+use Rattle.jpg_seq.specs.SoFar.{Spot, SoFar}
 use Rattle.jpg_seq.proofs.Machines.{env_at, next_is, after_unit, chain_within, step_unit, step_last, step_fault, some_places, fresh_work}
 
-pub starts : (most : ℕ) (m : SeqReader) (now : Picture) (store : List Bool) → 1 ≤ most → (stands : (i : Interval) × (bits : List Bool) × SeqStands m i bits now) → SoFar most m now store m now store 0
-starts most m now store some o = record { taken = []; split = refl; chain = (refl, refl); count = omega arith; few = omega arith; interval = o.0; bits = o.1; standing = o.2 }
-
-pub has_place : (m : SeqReader) (i : Interval) (bits : List Bool) (now : Picture) → SeqStands m i bits now → 1 ≤ length m.cursor
-has_place m i bits now o = omega (arith, ap length o.cursor)
-
-pub can_read : (m : SeqReader) (i : Interval) (bits : List Bool) (now : Picture) (p : Place) → slice_get m.cursor 0 ≡ Some p → SeqStands m i bits now → CanRead m p.component
-can_read m i bits now p first o =
-    let n = next_is m i bits now p first o in
-    let r = All-head (IsPlaceReadable m i.before.frame) o.next (o.more ++ i.later) o.spots in
-    subst (λ (q : Place). CanRead m q.component) n (record { small = r.small; sane = o.reads.sane; coder = r.coder; there = r.there; at_work = o.at_work r.coder r.there })
-
-pub can_put : (m : SeqReader) (i : Interval) (bits : List Bool) (now : Picture) (p : Place) → slice_get m.cursor 0 ≡ Some p → SeqStands m i bits now → IsPadded now.frame p.component p.x p.y
-can_put m i bits now p first o =
-    let n = next_is m i bits now p first o in
-    let r = All-head (IsPlaceReadable m i.before.frame) o.next (o.more ++ i.later) o.spots in
-    let f : i.before.frame ≡ now.frame = sym o.frame in
-    subst (λ (g : Frame). IsPadded g p.component p.x p.y) f (subst (λ (q : Place). IsPadded i.before.frame q.component q.x q.y) n r.padded)
-
-pub some_left : (m : SeqReader) (i : Interval) (bits : List Bool) (now : Picture) → SeqStands m i bits now → 1 ≤ m.left
-some_left m i bits now o = omega (arith, o.left)
-
--- all bits were taken
-pub empty_ends : (most : ℕ) (m0 : SeqReader) (now0 : Picture) (store0 : List Bool) (m : SeqReader) (now : Picture) (store : List Bool) (done : ℕ) (p : Place) (unit : Work) (rest : List Bool) → slice_get m.cursor 0 ≡ Some p
-    → SoFar most m0 now0 store0 m now store done → ReadsOn m p.component store took.Empty unit rest → TakesBits sequential most m0 now0 store0 taken.More (with_work m unit) now rest
-empty_ends most m0 now0 store0 m now store done p unit rest first s r =
-    let t = r.2.0 in
-    let c = chain_within m p r.0 now t m.unit unit first r.1 r.2.2 in
-    let all = s.split ∙ ap (λ z. s.taken ++ z) r.2.1 ∙ sym (append_assoc s.taken t rest) in
-    (s.taken ++ t, all, (chain_then sequential m0 m (with_work m unit) now0 now now s.taken t s.chain c, omega (arith, s.count, s.few), r.2.4 refl))
+pub starts : (most : ℕ) (s : Spot) → 1 ≤ most → (stands : (i : Interval) × (bits : List Bool) × SeqStands s.machine i bits s.picture) → SoFar most s s 0
+starts most s some o = record { taken = []; split = refl; chain = (refl, refl); count = omega arith; few = omega arith; interval = o.0; bits = o.1; standing = o.2 }
 
 -- up to the last bit of a unit
-pub record UpTo (most : ℕ) (m0 : SeqReader) (now0 : Picture) (store0 : List Bool) (rest : List Bool) (answer : Result UnitStep UnitFault) (new : SeqReader) (after : Picture) : Type 0 where
+pub record UpTo (most : ℕ) (from : Spot) (answer : Result UnitStep UnitFault) (new : Spot) : Type 0 where
   pub bits : List Bool
-  pub split : store0 ≡ bits ++ rest
-  pub chain : ChainTo sequential most m0 now0 bits answer new after
+  pub split : from.store ≡ bits ++ new.store
+  pub chain : ChainTo sequential most from.machine from.picture bits answer new.machine new.picture
 
-up_to : (most : ℕ) (m0 : SeqReader) (now0 : Picture) (store0 : List Bool) (m : SeqReader) (now : Picture) (store : List Bool) (done : ℕ) (p : Place) (coder : Coder) (bits front : List Bool) (bit : Bool) (mid : Work) (rest : List Bool)
-    (answer : Result UnitStep UnitFault) (new : SeqReader) (after : Picture) → slice_get m.cursor 0 ≡ Some p → coder_at m p.component ≡ Some coder → SoFar most m0 now0 store0 m now store done → store ≡ bits ++ rest → bits ≡ front ++ bit ∷ []
-    → StepsThrough (env_at m coder p.component) m.unit front mid → Step sequential (with_work m mid) now bit answer new after → UpTo most m0 now0 store0 rest answer new after
-up_to most m0 now0 store0 m now store done p coder bits front bit mid rest answer new after first there s split cut leads one =
-    let c = chain_within m p coder now front m.unit mid first there leads in
-    record {
-      bits = s.taken ++ bits;
-      split = s.split ∙ ap (λ z. s.taken ++ z) split ∙ sym (append_assoc s.taken bits rest);
-      chain = (
-        s.taken ++ front,
-        bit,
-        with_work m mid,
-        now,
-        ap (λ z. s.taken ++ z) cut ∙ sym (append_assoc s.taken front (bit ∷ [])),
-        chain_then sequential m0 m (with_work m mid) now0 now now s.taken front s.chain c,
-        omega (arith, s.count, s.few),
-        one,
-      );
-    }
-
-pub fault_ends : (most : ℕ) (m0 : SeqReader) (now0 : Picture) (store0 : List Bool) (m : SeqReader) (now : Picture) (store : List Bool) (done : ℕ) (p : Place) (unit : Work) (rest : List Bool) (fault : UnitFault) (new : SeqReader)
-    → slice_get m.cursor 0 ≡ Some p → SoFar most m0 now0 store0 m now store done → ReadsOn m p.component store (took.Fault fault) unit rest → TakesBits sequential most m0 now0 store0 (taken.Fault fault) new now rest
-fault_ends most m0 now0 store0 m now store done p unit rest fault new first s r =
-    let h = r.2.2 in
-    let u = up_to most m0 now0 store0 m now store done p r.0 r.2.0 h.0 h.1 h.2 rest (Err fault) new now first r.1 s r.2.1 h.3 h.4 (step_fault (with_work m h.2) new p r.0 now h.1 fault first r.1 h.5) in
-    (u.bits, u.split, u.chain)
+-- the bits of a store that end with the last one of a unit, by which the machine takes a step
+record LastBit (now : Spot) (p : Place) (answer : Result UnitStep UnitFault) (new : Spot) : Type 0 where
+  coder : Coder
+  there : coder_at now.machine p.component ≡ Some coder
+  bits : List Bool
+  split : now.store ≡ bits ++ new.store
+  front : List Bool
+  bit : Bool
+  mid : Work
+  cut : bits ≡ front ++ bit ∷ []
+  leads : StepsThrough (env_at now.machine coder p.component) (now.machine).unit front mid
+  one : Step sequential (with_work now.machine mid) now.picture bit answer new.machine new.picture
 
 -- the machine and the picture after a complete unit
-pub interval_ends : (most : ℕ) (m0 : SeqReader) (now0 : Picture) (store0 : List Bool) (m : SeqReader) (now : Picture) (store : List Bool) (done : ℕ) (p : Place) (unit : Work) (rest : List Bool) (new : SeqReader) (after : Picture)
-    → length now.blocks ≡ padded_blocks now.frame → slice_get m.cursor 0 ≡ Some p → SoFar most m0 now0 store0 m now store done → ReadsOn m p.component store took.Done unit rest → new ≡ behind (with_work m unit) p.component → after ≡ with_block now p.component p.x p.y unit.values
-    → new.left ≡ 0 → TakesBits sequential most m0 now0 store0 taken.IntervalDone new after rest
-interval_ends most m0 now0 store0 m now store done p unit rest new after count first s r is put none =
-    let h = r.2.2 in
-    let one : m.left ≡ 1 = omega (arith, ap (λ (q : SeqReader). q.left) is, none, s.standing.left) in
-    let u = up_to most m0 now0 store0 m now store done p r.0 r.2.0 h.0 h.1 h.2 rest (Ok step.IntervalDone) (after_unit m unit p.component) (with_block now p.component p.x p.y unit.values) first r.1 s r.2.1 h.3 h.4
-    (step_last (with_work m h.2) p r.0 now h.1 unit first r.1 count h.5 one) in
-    let P : SeqReader → Type 0 = λ q. TakesBits sequential most m0 now0 store0 taken.IntervalDone q after rest in
-    let Q : Picture → Type 0 = λ q. TakesBits sequential most m0 now0 store0 taken.IntervalDone (after_unit m unit p.component) q rest in
-    subst P (sym is) (subst Q (sym put) (u.bits, u.split, u.chain))
+abbrev pub after_block : Spot → Place → Work → List Bool → Spot
+after_block s p unit rest = record { machine = after_unit s.machine unit p.component; picture = with_block s.picture p.component p.x p.y unit.values; store = rest }
 
-two_left : (m : SeqReader) (new : SeqReader) (unit : Work) (k : ℕ) → new ≡ behind (with_work m unit) k → 1 ≤ new.left → 2 ≤ m.left
-two_left m new unit k is some = omega (arith, ap (λ (q : SeqReader). q.left) is, some)
+-- A complete unit was read, and its block is put into the picture.
+pub record PutsUnit (now : Spot) (p : Place) (unit : Work) (new : Spot) : Type 0 where
+  pub count : length (now.picture).blocks ≡ padded_blocks (now.picture).frame
+  pub reads : ReadsOn now.machine p.component now.store took.Done unit new.store
+  pub machine : new.machine ≡ behind (with_work now.machine unit) p.component
+  pub block : new.picture ≡ with_block now.picture p.component p.x p.y unit.values
 
-pub units_end : (most : ℕ) (m0 : SeqReader) (now0 : Picture) (store0 : List Bool) (m : SeqReader) (now : Picture) (store : List Bool) (done : ℕ) (p : Place) (unit : Work) (rest : List Bool) (new : SeqReader) (after : Picture)
-    → length now.blocks ≡ padded_blocks now.frame → slice_get m.cursor 0 ≡ Some p → SoFar most m0 now0 store0 m now store done → ReadsOn m p.component store took.Done unit rest → new ≡ behind (with_work m unit) p.component → after ≡ with_block now p.component p.x p.y unit.values
-    → 1 ≤ new.left → most ≤ done + 1 → TakesBits sequential most m0 now0 store0 taken.Units new after rest
-units_end most m0 now0 store0 m now store done p unit rest new after count first s r is put some enough =
-    let h = r.2.2 in
-    let left : new.left ≡ m.left - 1 = ap (λ (q : SeqReader). q.left) is in
-    let two = two_left m new unit p.component is some in
-    let u = up_to most m0 now0 store0 m now store done p r.0 r.2.0 h.0 h.1 h.2 rest (Ok step.More) (after_unit m unit p.component) (with_block now p.component p.x p.y unit.values) first r.1 s r.2.1 h.3 h.4
-    (step_unit (with_work m h.2) p r.0 now h.1 unit first r.1 count h.5 two) in
-    let P : SeqReader → Type 0 = λ q. TakesBits sequential most m0 now0 store0 taken.Units q after rest in
-    let Q : Picture → Type 0 = λ q. TakesBits sequential most m0 now0 store0 taken.Units (after_unit m unit p.component) q rest in
-    subst P (sym is) (subst Q (sym put) (u.bits, u.split, (u.chain, omega (arith, s.count, two, enough), omega (arith, two))))
+two_left : {now : Spot} {p : Place} {unit : Work} {new : Spot} → PutsUnit now p unit new → 1 ≤ (new.machine).left → 2 ≤ (now.machine).left
+two_left put some = omega (arith, ap (λ (q : SeqReader). q.left) put.machine, some)
 
-pub goes_on : (most : ℕ) (m0 : SeqReader) (now0 : Picture) (store0 : List Bool) (m : SeqReader) (now : Picture) (store : List Bool) (done : ℕ) (p : Place) (unit : Work) (rest : List Bool) (new : SeqReader) (after : Picture)
-    → length now.blocks ≡ padded_blocks now.frame → slice_get m.cursor 0 ≡ Some p → SoFar most m0 now0 store0 m now store done → ReadsOn m p.component store took.Done unit rest → new ≡ behind (with_work m unit) p.component → after ≡ with_block now p.component p.x p.y unit.values
-    → 1 ≤ new.left → done + 1 < most → SoFar most m0 now0 store0 new after rest (done + 1)
-goes_on most m0 now0 store0 m now store done p unit rest new after count first s r is put some few =
-    let h = r.2.2 in
-    let t = r.2.0 in
-    let left : new.left ≡ m.left - 1 = ap (λ (q : SeqReader). q.left) is in
-    let two = two_left m new unit p.component is some in
-    let target = after_unit m unit p.component in let picture = with_block now p.component p.x p.y unit.values in
-    let one = step_unit (with_work m h.2) p r.0 now h.1 unit first r.1 count h.5 two in
-    let c = chain_within m p r.0 now h.0 m.unit h.2 first r.1 h.4 in
-    let last : Chain sequential (with_work m h.2) now (h.1 ∷ []) target picture = (target, picture, one, (refl, refl)) in
-    let whole : Chain sequential m now t target picture =
-    subst (λ (z : List Bool). Chain sequential m now z target picture) (sym h.3) (chain_then sequential m (with_work m h.2) target now now picture h.0 (h.1 ∷ []) c last) in
-    let P : SeqReader → Type 0 = λ q. Chain sequential m now t q after in
-    let Q : Picture → Type 0 = λ q. Chain sequential m now t target q in
-    let there = subst P (sym is) (subst Q (sym put) whole) in
-    record {
-      taken = s.taken ++ t;
-      split = s.split ∙ ap (λ z. s.taken ++ z) r.2.1 ∙ sym (append_assoc s.taken t rest);
-      chain = chain_then sequential m0 m new now0 now after s.taken t s.chain there;
-      count = omega (arith, s.count, left, two);
-      few = few;
-      interval = s.interval;
-      bits = s.bits ++ t;
-      standing = chain_stands sequential m new now after s.interval s.bits t there s.standing;
-    }
+module _ {most : ℕ} {from now : Spot} {done : ℕ} (s : SoFar most from now done) where
+  pub some_left : 1 ≤ (now.machine).left
+  some_left = omega (arith, (s.standing).left)
+
+  pub has_place : 1 ≤ length (now.machine).cursor
+  has_place = omega (arith, ap length (s.standing).cursor)
+
+module _ {most : ℕ} {from now : Spot} {done : ℕ} (s : SoFar most from now done) {p : Place} (first : slice_get (now.machine).cursor 0 ≡ Some p) where
+  -- the place is one of the interval's
+  readable : IsPlaceReadable now.machine ((s.interval).before).frame p
+  readable =
+      let o = s.standing in
+      subst (IsPlaceReadable now.machine ((s.interval).before).frame) (next_is now.machine s.interval s.bits now.picture p first o)
+      (All-head (IsPlaceReadable now.machine ((s.interval).before).frame) o.next (o.more ++ (s.interval).later) o.spots)
+
+  pub can_read : CanRead now.machine p.component
+  can_read =
+      let o = s.standing in
+      let n = next_is now.machine s.interval s.bits now.picture p first o in
+      let r = All-head (IsPlaceReadable now.machine ((s.interval).before).frame) o.next (o.more ++ (s.interval).later) o.spots in
+      subst (λ (q : Place). CanRead now.machine q.component) n (record { small = r.small; sane = o.reads.sane; coder = r.coder; there = r.there; at_work = o.at_work r.coder r.there })
+
+  pub can_put : IsPadded (now.picture).frame p.component p.x p.y
+  can_put = subst (λ (g : Frame). IsPadded g p.component p.x p.y) (sym (s.standing).frame) readable.padded
+
+  -- all bits were taken
+  pub empty_ends : {unit : Work} {rest : List Bool} → ReadsOn now.machine p.component now.store took.Empty unit rest
+      → TakesBits sequential most from.machine from.picture from.store taken.More (with_work now.machine unit) now.picture rest
+  empty_ends {unit} {rest} r =
+      let t = r.2.0 in
+      let c = chain_within now.machine p r.0 now.picture t (now.machine).unit unit first r.1 r.2.2 in
+      let all = s.split ∙ ap (λ z. s.taken ++ z) r.2.1 ∙ sym (append_assoc s.taken t rest) in
+      (s.taken ++ t, all, (chain_then sequential from.machine now.machine (with_work now.machine unit) from.picture now.picture now.picture s.taken t s.chain c, omega (arith, s.count, s.few), r.2.4 refl))
+
+  up_to : {answer : Result UnitStep UnitFault} {new : Spot} → LastBit now p answer new → UpTo most from answer new
+  up_to {new = new} l =
+      let m = now.machine in
+      let c = chain_within m p l.coder now.picture l.front m.unit l.mid first l.there l.leads in
+      record {
+        bits = s.taken ++ l.bits;
+        split = s.split ∙ ap (λ z. s.taken ++ z) l.split ∙ sym (append_assoc s.taken l.bits new.store);
+        chain = (
+          s.taken ++ l.front,
+          l.bit,
+          with_work m l.mid,
+          now.picture,
+          ap (λ z. s.taken ++ z) l.cut ∙ sym (append_assoc s.taken l.front (l.bit ∷ [])),
+          chain_then sequential from.machine m (with_work m l.mid) from.picture now.picture now.picture s.taken l.front s.chain c,
+          omega (arith, s.count, s.few),
+          l.one,
+        );
+      }
+
+  pub fault_ends : {rest : List Bool} {fault : UnitFault} (unit : Work) (new : SeqReader) → ReadsOn now.machine p.component now.store (took.Fault fault) unit rest
+      → TakesBits sequential most from.machine from.picture from.store (taken.Fault fault) new now.picture rest
+  fault_ends {rest} {fault} unit new r =
+      let h = r.2.2 in
+      let u = up_to {answer = Err fault} {new = record { machine = new; picture = now.picture; store = rest }} (record {
+        coder = r.0;
+        there = r.1;
+        bits = r.2.0;
+        split = r.2.1;
+        front = h.0;
+        bit = h.1;
+        mid = h.2;
+        cut = h.3;
+        leads = h.4;
+        one = step_fault (with_work now.machine h.2) new p r.0 now.picture h.1 fault first r.1 h.5;
+      }) in
+      (u.bits, u.split, u.chain)
+
+  -- a unit with its last bit
+  last_bit : {unit : Work} {new : Spot} (answer : UnitStep) → (put : PutsUnit now p unit new)
+      → (let h = (put.reads).2.2 in Step sequential (with_work now.machine h.2) now.picture h.1 (Ok answer) (after_unit now.machine unit p.component) (with_block now.picture p.component p.x p.y unit.values))
+      → UpTo most from (Ok answer) (after_block now p unit new.store)
+  last_bit answer put one =
+      let r = put.reads in
+      let h = r.2.2 in
+      up_to (record { coder = r.0; there = r.1; bits = r.2.0; split = r.2.1; front = h.0; bit = h.1; mid = h.2; cut = h.3; leads = h.4; one = one })
+
+  pub interval_ends : {unit : Work} {new : Spot} → PutsUnit now p unit new → (new.machine).left ≡ 0
+      → TakesBits sequential most from.machine from.picture from.store taken.IntervalDone new.machine new.picture new.store
+  interval_ends {unit} {new} put none =
+      let r = put.reads in
+      let h = r.2.2 in
+      let one : (now.machine).left ≡ 1 = omega (arith, ap (λ (q : SeqReader). q.left) put.machine, none, (s.standing).left) in
+      let u = last_bit step.IntervalDone put (step_last (with_work now.machine h.2) p r.0 now.picture h.1 unit first r.1 put.count h.5 one) in
+      let P : SeqReader → Type 0 = λ q. TakesBits sequential most from.machine from.picture from.store taken.IntervalDone q new.picture new.store in
+      let Q : Picture → Type 0 = λ q. TakesBits sequential most from.machine from.picture from.store taken.IntervalDone (after_unit now.machine unit p.component) q new.store in
+      subst P (sym put.machine) (subst Q (sym put.block) (u.bits, u.split, u.chain))
+
+  pub units_end : {unit : Work} {new : Spot} → PutsUnit now p unit new → 1 ≤ (new.machine).left → most ≤ done + 1
+      → TakesBits sequential most from.machine from.picture from.store taken.Units new.machine new.picture new.store
+  units_end {unit} {new} put some enough =
+      let r = put.reads in
+      let h = r.2.2 in
+      let left : (new.machine).left ≡ (now.machine).left - 1 = ap (λ (q : SeqReader). q.left) put.machine in
+      let two = two_left put some in
+      let u = last_bit step.More put (step_unit (with_work now.machine h.2) p r.0 now.picture h.1 unit first r.1 put.count h.5 two) in
+      let P : SeqReader → Type 0 = λ q. TakesBits sequential most from.machine from.picture from.store taken.Units q new.picture new.store in
+      let Q : Picture → Type 0 = λ q. TakesBits sequential most from.machine from.picture from.store taken.Units (after_unit now.machine unit p.component) q new.store in
+      subst P (sym put.machine) (subst Q (sym put.block) (u.bits, u.split, (u.chain, omega (arith, s.count, two, enough), omega (arith, two))))
+
+  pub goes_on : {unit : Work} {new : Spot} → PutsUnit now p unit new → 1 ≤ (new.machine).left → done + 1 < most → SoFar most from new (done + 1)
+  goes_on {unit} {new} put some few =
+      let m = now.machine in
+      let r = put.reads in
+      let h = r.2.2 in
+      let t = r.2.0 in
+      let left : (new.machine).left ≡ m.left - 1 = ap (λ (q : SeqReader). q.left) put.machine in
+      let two = two_left put some in
+      let target = after_unit m unit p.component in
+      let picture = with_block now.picture p.component p.x p.y unit.values in
+      let one = step_unit (with_work m h.2) p r.0 now.picture h.1 unit first r.1 put.count h.5 two in
+      let c = chain_within m p r.0 now.picture h.0 m.unit h.2 first r.1 h.4 in
+      let last : Chain sequential (with_work m h.2) now.picture (h.1 ∷ []) target picture = (target, picture, one, (refl, refl)) in
+      let whole : Chain sequential m now.picture t target picture =
+      subst (λ (z : List Bool). Chain sequential m now.picture z target picture) (sym h.3) (chain_then sequential m (with_work m h.2) target now.picture now.picture picture h.0 (h.1 ∷ []) c last) in
+      let P : SeqReader → Type 0 = λ q. Chain sequential m now.picture t q new.picture in
+      let Q : Picture → Type 0 = λ q. Chain sequential m now.picture t target q in
+      let there = subst P (sym put.machine) (subst Q (sym put.block) whole) in
+      record {
+        taken = s.taken ++ t;
+        split = s.split ∙ ap (λ z. s.taken ++ z) r.2.1 ∙ sym (append_assoc s.taken t new.store);
+        chain = chain_then sequential from.machine m new.machine from.picture now.picture new.picture s.taken t s.chain there;
+        count = omega (arith, s.count, left, two);
+        few = few;
+        interval = s.interval;
+        bits = s.bits ++ t;
+        standing = chain_stands sequential m new.machine now.picture new.picture s.interval s.bits t there s.standing;
+      }
 
 -- AN INTERVAL BEGINS
 

@@ -1,5 +1,5 @@
 -- Values that ten bits determine, taken one after another.
-use Rattle.std.proofs.Common.{◌≡◌, ℕ, ℤ, ◌+◌, ◌-◌, ◌<◌, ◌≤◌, Bool, List, [], ◌∷◌, ◌++◌, length, take, drop, refl, sym, ap, ◌∙◌, subst, arith}
+use Rattle.std.proofs.Common.{◌≡◌, ℕ, ℤ, ◌+◌, ◌<◌, ◌≤◌, Bool, List, [], ◌∷◌, ◌++◌, length, take, drop, sym, ap, ◌∙◌, subst, arith}
 use Rattle.std.proofs.lemmas.List.{append_assoc, length-append}
 use Rattle.jpg_spec.specs.Bits.{bits_of_bytes}
 use Rattle.jpg_spec.specs.Codes.{Code}
@@ -59,15 +59,16 @@ told_at_hand e s t old filled new answer same k bytes not =
     let rest : bits_in new ≡ new.store ++ behind = ap (λ (b : List ℕ). new.store ++ bits_of_bytes b) bytes in
     (k.0, sym same ∙ ap (λ (x : List Bool). x ++ behind) k.1 ∙ append_assoc k.0 new.store behind ∙ ap (λ (x : List Bool). k.0 ++ x) (sym rest), k.2, k.3, λ is. absurd (not is))
 
-pub told_then : (ac : List Code) (s mid t : Work) (source here filled new : Source) (answer : UnitProgress) → TakesToldFrom ac s source More mid here → bits_in filled ≡ bits_in here
-    → ((e : Env) → AreSane e.bounds → e.ac ≡ ac → TakesFromStore e mid filled.store answer t new.store) → new.bytes.now ≡ filled.bytes.now → (answer ≡ Empty → ⊥) → TakesToldFrom ac s source answer t new
-told_then ac s mid t source here filled new answer before same k bytes not = λ e sane is.
-    takes_then e s mid t (bits_in source) (bits_in here) (bits_in new) answer (before e sane is) (told_at_hand e mid t here filled new answer same (k e sane is) bytes not)
+module _ (ac : List Code) where
+  pub told_then : (s mid t : Work) (source here filled new : Source) (answer : UnitProgress) → TakesToldFrom ac s source More mid here → bits_in filled ≡ bits_in here
+      → ((e : Env) → AreSane e.bounds → e.ac ≡ ac → TakesFromStore e mid filled.store answer t new.store) → new.bytes.now ≡ filled.bytes.now → (answer ≡ Empty → ⊥) → TakesToldFrom ac s source answer t new
+  told_then s mid t source here filled new answer before same k bytes not = λ e sane is.
+      takes_then e s mid t (bits_in source) (bits_in here) (bits_in new) answer (before e sane is) (told_at_hand e mid t here filled new answer same (k e sane is) bytes not)
 
-pub told_no_more : (ac : List Code) (s mid t : Work) (source here filled new : Source) → TakesToldFrom ac s source More mid here → bits_in filled ≡ bits_in here → t ≡ mid → new.store ≡ filled.store → new.bytes.now ≡ filled.bytes.now
-    → TakesToldFrom ac s source More t new
-told_no_more ac s mid t source here filled new before same is store bytes = λ e sane a.
-    (let rest : bits_in here ≡ bits_in new = sym same ∙ sym (ap (λ (x : List Bool). x ++ bits_of_bytes new.bytes.now) store ∙ ap (λ (b : List ℕ). filled.store ++ bits_of_bytes b) bytes) in
-    let T : Work → Type 0 = λ w. TakesFromStore e s (bits_in source) More w (bits_in new) in
-    let R : List Bool → Type 0 = λ l. TakesFromStore e s (bits_in source) More mid l in
-    subst T (sym is) (subst R rest (before e sane a)))
+  pub told_no_more : (s mid t : Work) (source here filled new : Source) → TakesToldFrom ac s source More mid here → bits_in filled ≡ bits_in here → t ≡ mid → new.store ≡ filled.store → new.bytes.now ≡ filled.bytes.now
+      → TakesToldFrom ac s source More t new
+  told_no_more s mid t source here filled new before same is store bytes = λ e sane a.
+      (let rest : bits_in here ≡ bits_in new = sym same ∙ sym (ap (λ (x : List Bool). x ++ bits_of_bytes new.bytes.now) store ∙ ap (λ (b : List ℕ). filled.store ++ bits_of_bytes b) bytes) in
+      let T : Work → Type 0 = λ w. TakesFromStore e s (bits_in source) More w (bits_in new) in
+      let R : List Bool → Type 0 = λ l. TakesFromStore e s (bits_in source) More mid l in
+      subst T (sym is) (subst R rest (before e sane a)))

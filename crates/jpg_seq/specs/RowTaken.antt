@@ -8,7 +8,7 @@ use Rattle.jpg_coefs.specs.declared.machine.Taken.{Taken}
 use Rattle.jpg_coefs.specs.declared.machine.Taken.TheVariants as taken
 use Rattle.jpg_seq.specs.Reader.{SeqStands, sequential}
 use Rattle.jpg_seq.specs.Rows.{IsRowOf}
-use Rattle.jpg_seq.specs.SoFar.{SoFar}
+use Rattle.jpg_seq.specs.SoFar.{Spot, SoFar}
 use Rattle.jpg_seq.specs.declared.reader.BytesTaken.{BytesTaken}
 use Rattle.jpg_seq.specs.declared.reader.SeqReader.{SeqReader}
 
@@ -44,9 +44,10 @@ pub record PassesPlaces (most : ℕ) (m : SeqReader) (answer : Taken) (new : Seq
   pub left : m.left ≡ new.left + units
 
 -- What was read in one call so far: fewer complete units than were asked for.
-pub record ReadsRow (most : ℕ) (tops : List ℕ) (m : SeqReader) (row : Picture) (store : List Bool) (new : SeqReader) (after : Picture) (rest : List Bool) (done : ℕ) : Type 0 where
-  pub so_far : (whole : Picture) → IsRowOf tops whole row → IsOpenRow m whole → (now : Picture) × IsRowOf tops now after × SoFar most m whole store new now rest done
-  pub framed : after.frame ≡ row.frame
+pub record ReadsRow (most : ℕ) (tops : List ℕ) (from now : Spot) (done : ℕ) : Type 0 where
+  pub so_far : (whole : Picture) → IsRowOf tops whole from.picture → IsOpenRow from.machine whole
+      → (after : Picture) × IsRowOf tops after now.picture × SoFar most (record from { picture = whole }) (record now { picture = after }) done
+  pub framed : (now.picture).frame ≡ (from.picture).frame
   pub few : done < most
-  pub cursor : new.cursor ≡ drop done m.cursor
-  pub left : m.left ≡ new.left + done
+  pub cursor : (now.machine).cursor ≡ drop done (from.machine).cursor
+  pub left : (from.machine).left ≡ (now.machine).left + done

@@ -5,13 +5,19 @@ use Rattle.jpg_coefs.specs.Machine.{Interval, Chain}
 use Rattle.jpg_seq.specs.declared.reader.SeqReader.{SeqReader}
 use Rattle.jpg_seq.specs.Reader.{SeqStands, sequential}
 
--- They are a chain, by which `done` units are complete, fewer than `most`.
-pub record SoFar (most : ℕ) (m : SeqReader) (now : Picture) (store : List Bool) (new : SeqReader) (after : Picture) (rest : List Bool) (done : ℕ) : Type 0 where
+-- a machine, the picture in which its blocks are stored, and the bits that it is given
+pub record Spot : Type 0 where
+  pub machine : SeqReader
+  pub picture : Picture
+  pub store : List Bool
+
+-- The bits taken are a chain, by which `done` units are complete, fewer than `most`.
+pub record SoFar (most : ℕ) (from now : Spot) (done : ℕ) : Type 0 where
   pub taken : List Bool
-  pub split : store ≡ taken ++ rest
-  pub chain : Chain sequential m now taken new after
-  pub count : m.left ≡ new.left + done
+  pub split : from.store ≡ taken ++ now.store
+  pub chain : Chain sequential from.machine from.picture taken now.machine now.picture
+  pub count : (from.machine).left ≡ (now.machine).left + done
   pub few : done < most
   pub interval : Interval
   pub bits : List Bool
-  pub standing : SeqStands new interval bits after
+  pub standing : SeqStands now.machine interval bits now.picture

@@ -56,10 +56,8 @@ distinct_places f (id ∷ slots ∷ bytes) all =
 
 parts_length : (f : Frame) (count : ℕ) (bytes : List ℕ) → length bytes ≡ 2 * count → length (parts_told f bytes) ≡ count
 parts_length f zero [] even = refl
-parts_length f (suc count) [] even = absurd (omega (arith, even))
-parts_length f count (id ∷ []) even = absurd (omega (arith, even))
-parts_length f zero (id ∷ slots ∷ bytes) even = absurd (omega (arith, even))
 parts_length f (suc count) (id ∷ slots ∷ bytes) even = ap suc (parts_length f count bytes (omega (arith, even)))
+parts_length f count bytes even = absurd (omega (arith, even))
 
 second_too : (a b : Bool) → (a && b) ≡ false → a ≡ true → b ≡ false
 second_too true b e first = e

@@ -82,29 +82,24 @@ in_band s block k low high =
     let z : s.ss + (k - s.ss) ≡ k = omega arith in
     get_or-take (s.se + 1 - s.ss) (drop s.ss block) (k - s.ss) (pos 0) (omega arith) ∙ get_or-drop s.ss block (k - s.ss) (pos 0) ∙ ap (λ n. get_or block n (pos 0)) z
 
-coefficients_once : (s : Scan) (before after after' : Blocks) (intervals : List (List ℕ)) → IsSound s.coding → ScanMeans s intervals before after → ScanMeans s intervals before after'
-    → (i x y k : ℕ) → coefficient after i x y k ≡ coefficient after' i x y k
-coefficients_once s before after after' intervals sound a b i x y k = by (is_named s i x y k) refl
+pub scan_blocks_once : (s : Scan) (before after after' : Blocks) (intervals : List (List ℕ)) → IsSound s.coding → ScanMeans s intervals before after → ScanMeans s intervals before after' → after ≡ after'
+scan_blocks_once s before after after' intervals sound a b =
+    fun_ext (λ i. fun_ext (λ x. fun_ext (λ y. ext_get_or (pos 0) (after i x y) (after' i x y) (a.sizes i x y ∙ sym (b.sizes i x y)) (λ k h. by i x y k (is_named s i x y k) refl))))
   where
     told : flat_map (band_of s after) s.places ≡ flat_map (band_of s after') s.places
     told =
         subst (λ ps. flat_map (band_of s after) ps ≡ flat_map (band_of s after') ps) (joined_chunks s.interval s.places)
         (bands_told s before after after' (chunks s.interval s.places) intervals sound a.spelled b.spelled)
 
-    by : (b : Bool) → is_named s i x y k ≡ b → coefficient after i x y k ≡ coefficient after' i x y k
-    by false h = a.rest i x y k h ∙ sym (b.rest i x y k h)
-    by true h =
+    by : (i x y k : ℕ) (b : Bool) → is_named s i x y k ≡ b → coefficient after i x y k ≡ coefficient after' i x y k
+    by i x y k false h = a.rest i x y k h ∙ sym (b.rest i x y k h)
+    by i x y k true h =
         let u = both (any_of (is_at i x y) s.places && nat_le s.ss k) (nat_le k s.se) h in
         let v = both (any_of (is_at i x y) s.places) (nat_le s.ss k) u.0 in
         let low = le_of s.ss k v.1 in
         let high = le_of k s.se u.1 in
         let same = bands_at s after after' s.places i x y (λ i x y. a.sizes i x y ∙ sym (b.sizes i x y)) told v.0 in
         sym (in_band s (after i x y) k low high) ∙ ap (λ l. get_or l (k - s.ss) (pos 0)) same ∙ in_band s (after' i x y) k low high
-
-pub scan_blocks_once : (s : Scan) (before after after' : Blocks) (intervals : List (List ℕ)) → IsSound s.coding → ScanMeans s intervals before after → ScanMeans s intervals before after' → after ≡ after'
-scan_blocks_once s before after after' intervals sound a b =
-    fun_ext (λ i. fun_ext (λ x. fun_ext (λ y. ext_get_or (pos 0) (after i x y) (after' i x y) (a.sizes i x y ∙ sym (b.sizes i x y))
-    (λ k h. coefficients_once s before after after' intervals sound a b i x y k))))
 
 -- THE LAW
 pub blocks_once : (limits : Limits) (items : List Item) (blocks blocks' : Blocks) → Leads limits items blocks → Leads limits items blocks' → blocks ≡ blocks'

@@ -6,7 +6,7 @@ use Rattle.std.proofs.lemmas.List.{append_assoc, length-append}
 use Rattle.std.proofs.Math.Seq.{take-append_seam}
 use lib.Signed.{le_z_yes}
 use lib.Dec.{T}
-use Rattle.jpg_spec.specs.Lists.{below, any_of, are_equal}
+use Rattle.jpg_spec.specs.Lists.{below, any_of, are_equal, all_of}
 use Rattle.jpg_spec.specs.Faults.{Told, refuse}
 use Rattle.jpg_spec.specs.Elements.{Coding, are_in_bounds}
 use Rattle.jpg_spec.specs.declared.fault.Fault.{Fault}
@@ -24,6 +24,22 @@ and_intro false b e f = cc
 pub neither : (a b : Bool) → (a || b) ≡ false → (a ≡ false) × (b ≡ false)
 neither true b e = cc
 neither false b e = (refl, e)
+
+pub or_alone : (b : Bool) → (b || false) ≡ true → b ≡ true
+or_alone true e = refl
+or_alone false e = e
+
+pub or_assoc : (x y z : Bool) → (x || (y || z)) ≡ ((x || y) || z)
+or_assoc true y z = refl
+or_assoc false y z = refl
+
+pub and_assoc : (x y z : Bool) → (x && (y && z)) ≡ ((x && y) && z)
+and_assoc true y z = refl
+and_assoc false y z = refl
+
+pub all_append : {A : Type 0} (test : A → Bool) (a b : List A) → all_of test (a ++ b) ≡ (all_of test a && all_of test b)
+all_append test [] b = refl
+all_append test (x ∷ a) b = ap (λ r. test x && r) (all_append test a b) ∙ and_assoc (test x) (all_of test a) (all_of test b)
 
 pub or_right : (a b : Bool) → b ≡ true → (a || b) ≡ true
 or_right true b e = refl

@@ -18,10 +18,6 @@ use Rattle.jpg_spec.specs.UnfinishedFile.{Completes}
 pub bits_join : (a b : List ℕ) → bits_of_bytes (a ++ b) ≡ bits_of_bytes a ++ bits_of_bytes b
 bits_join a b = flat_map-append (bits_of 8) a b
 
--- bits of bytes that begin alike
-bits_alike : (a b x y : List ℕ) → a ++ x ≡ b ++ y → bits_of_bytes a ++ bits_of_bytes x ≡ bits_of_bytes b ++ bits_of_bytes y
-bits_alike a b x y e = sym (bits_join a x) ∙ ap bits_of_bytes e ∙ bits_join b y
-
 pub shows_more : (c : Coding) (units : List UnitLeft) (fault : Fault) (bits more : List Bool) → DataReveals c units fault bits → DataReveals c units fault (bits ++ more)
 shows_more c units fault bits more d = record {
   elements = d.elements;
@@ -46,19 +42,16 @@ holds_more s before places coded more h =
 pub completes_holds : (s : Scan) (before : Blocks) (places : List Place) (coded : List ℕ) → Completes s before places coded → HoldsUnits s before places coded
 completes_holds s before places coded c = (c.0, (c.1.0, c.1.1.0, c.1.1.2, c.1.2))
 
--- data that have a fault are no complete interval, whatever follows the ones or the others
-pub shown_not_complete : (s : Scan) (before : Blocks) (places : List Place) (fault : Fault) (a b x y : List ℕ) → IsSound s.coding
-    → DataReveals s.coding (map (unit_at s before) places) fault (bits_of_bytes a) → Completes s before places b → a ++ x ≡ b ++ y → ⊥
-shown_not_complete s before places fault a b x y sound d c e =
-    fault_excludes s.coding (map (unit_at s before) places) fault c.0 (bits_of_bytes a) c.1.0 (bits_of_bytes x) (c.1.1.0 ++ bits_of_bytes y) sound d c.1.2
-    (bits_alike a b x y e ∙ ap (λ l. l ++ bits_of_bytes y) c.1.1.2 ∙ append_assoc c.1.0 c.1.1.0 (bits_of_bytes y))
+-- data that have a fault don't have all units, with any more bytes
+pub shown_not_held : (s : Scan) (before : Blocks) (places : List Place) (fault : Fault) (coded more : List ℕ) → IsSound s.coding
+    → DataReveals s.coding (map (unit_at s before) places) fault (bits_of_bytes coded) → HoldsUnits s before places (coded ++ more) → ⊥
+shown_not_held s before places fault coded more sound d h =
+    fault_excludes s.coding (map (unit_at s before) places) fault h.0 (bits_of_bytes coded) h.1.0 (bits_of_bytes more) h.1.1 sound d h.1.3 (sym (bits_join coded more) ∙ h.1.2)
 
--- nor do they have all units
-pub shown_not_held : (s : Scan) (before : Blocks) (places : List Place) (fault : Fault) (a b x y : List ℕ) → IsSound s.coding
-    → DataReveals s.coding (map (unit_at s before) places) fault (bits_of_bytes a) → HoldsUnits s before places b → a ++ x ≡ b ++ y → ⊥
-shown_not_held s before places fault a b x y sound d h e =
-    fault_excludes s.coding (map (unit_at s before) places) fault h.0 (bits_of_bytes a) h.1.0 (bits_of_bytes x) (h.1.1 ++ bits_of_bytes y) sound d h.1.3
-    (bits_alike a b x y e ∙ ap (λ l. l ++ bits_of_bytes y) h.1.2 ∙ append_assoc h.1.0 h.1.1 (bits_of_bytes y))
+-- nor are they a complete interval
+pub shown_not_complete : (s : Scan) (before : Blocks) (places : List Place) (fault : Fault) (coded more : List ℕ) → IsSound s.coding
+    → DataReveals s.coding (map (unit_at s before) places) fault (bits_of_bytes coded) → Completes s before places (coded ++ more) → ⊥
+shown_not_complete s before places fault coded more sound d c = shown_not_held s before places fault coded more sound d (completes_holds s before places (coded ++ more) c)
 
 -- after data that have all units no further byte belongs to the interval
 pub too_long : (s : Scan) (before : Blocks) (places : List Place) (byte : ℕ) (coded more : List ℕ) → IsSound s.coding

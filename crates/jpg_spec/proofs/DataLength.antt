@@ -130,15 +130,8 @@ stuffed_few (b ∷ bytes) = by (b == 255) (stuffed_few bytes)
 
 whole_few : (bits : List Bool) → 8 * length (whole_bytes bits) ≤ length bits
 unfolding whole_bytes
-whole_few [] = omega arith
-whole_few (a ∷ []) = omega arith
-whole_few (a ∷ b ∷ []) = omega arith
-whole_few (a ∷ b ∷ d ∷ []) = omega arith
-whole_few (a ∷ b ∷ d ∷ e ∷ []) = omega arith
-whole_few (a ∷ b ∷ d ∷ e ∷ f ∷ []) = omega arith
-whole_few (a ∷ b ∷ d ∷ e ∷ f ∷ g ∷ []) = omega arith
-whole_few (a ∷ b ∷ d ∷ e ∷ f ∷ g ∷ h ∷ []) = omega arith
 whole_few (a ∷ b ∷ d ∷ e ∷ f ∷ g ∷ h ∷ i ∷ bits) = let k = whole_few bits in omega (arith, k)
+whole_few bits = omega arith
 
 -- four bits take at most a byte, and the pad bits one or two more
 pub data_few : (bits : List Bool) → 4 * length (data_of bits) ≤ length bits + 7

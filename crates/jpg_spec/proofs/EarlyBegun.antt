@@ -1,8 +1,8 @@
 -- Where a file ends, each component has begun exactly if the segments up to there name each of them.
 use Rattle.std.proofs.Common.{◌≡◌, ℕ, zero, suc, ◌≤◌, Bool, true, false, cond, ◌==◌, ◌&&◌, List, [], ◌∷◌, ◌++◌, length, refl, sym, ap, ◌∙◌, subst, arith, inl, inr, None}
 use Rattle.std.specs.Prelude.{replicate}
-use Rattle.std.proofs.lemmas.List.{append_assoc, append-nil}
-use Rattle.jpg_spec.specs.Lists.{all_of, below, chunks}
+use Rattle.std.proofs.lemmas.List.{append_assoc}
+use Rattle.jpg_spec.specs.Lists.{all_of, below}
 use Rattle.jpg_spec.specs.Geometry.{Frame}
 use Rattle.jpg_spec.specs.Scan.{Blocks}
 use Rattle.jpg_spec.specs.Markers.{Segment, code_fault, has_frame, is_frame_code}
@@ -14,13 +14,12 @@ use Rattle.jpg_spec.specs.FirstFault.{AfterItems, InsideScan, HaveBegun}
 use Rattle.jpg_spec.specs.declared.frame.Limits.{Limits}
 use Rattle.jpg_spec.proofs.BeforeScans.{no_heads}
 use Rattle.jpg_spec.proofs.Common.{both, clash, or_right, not_same}
-use Rattle.jpg_spec.proofs.FilesOnce.{inside_stream, inside_at, next_head, next_in, next_marker, scan_in, segment_marker}
+use Rattle.jpg_spec.proofs.FilesOnce.{filled_not_next, inside_after, next_head, next_marker, segment_marker}
 use Rattle.jpg_spec.proofs.FirstPasses.{all_below}
 use Rattle.jpg_spec.proofs.FrameFound.{framed}
 use Rattle.jpg_spec.proofs.ItemsOnce.{HasNext, Meets, meet}
 use Rattle.jpg_spec.proofs.MarkersOnce.{segment_once}
 use Rattle.jpg_spec.proofs.ReadPicture.{leads_rules, no_scans}
-use Rattle.jpg_spec.proofs.ScansExclude.{ended_not_standing}
 use Rattle.jpg_spec.proofs.TailsOnce.{Goes, HasHead, goes_not_head}
 use Rattle.jpg_spec.proofs.Untouched.{frame_stays}
 
@@ -74,10 +73,15 @@ items_named limits (scan contents intervals ∷ more) items blocks l w = one_nam
 begun_named : (limits : Limits) (bytes : List ℕ) (w : HaveBegun limits bytes) → AllNamed limits ((0xda, w.contents) ∷ segments_of w.items)
 begun_named limits bytes w = record { found = framed (segments_of w.items) w.allowed.0; complete = w.complete }
 
+-- its items and what follows them
+begun_after : (limits : Limits) (bytes : List ℕ) (w : HaveBegun limits bytes) → AfterItems limits bytes w.items (w.head ++ w.rest)
+begun_after limits bytes w = record { front = w.front; blocks = w.blocks; cut = w.cut ∙ append_assoc w.front w.head w.rest; spelled = w.spelled; leads = w.leads }
+
 -- a further item is this scan
-next_named : (limits : Limits) (bytes : List ℕ) (w : HaveBegun limits bytes) (u : List ℕ) (items' : List Item) (v : List ℕ) (blocks : Blocks) → Leads limits items' blocks → u ≡ w.head ++ w.rest → HasNext limits w.items u items' v → AllNamed limits (segments_of items')
-next_named limits bytes w u items' v blocks l e g =
-    let here = first_named g.first g.here (g.text ++ v) g.spelled (sym e ∙ g.behind) in
+next_named : (limits : Limits) (bytes : List ℕ) (w : HaveBegun limits bytes) (items' : List Item) (v : List ℕ) (blocks : Blocks) → Leads limits items' blocks → HasNext limits w.items (w.head ++ w.rest) items' v
+    → AllNamed limits (segments_of items')
+next_named limits bytes w items' v blocks l g =
+    let here = first_named g.first g.here (g.text ++ v) g.spelled g.behind in
     subst (λ z. AllNamed limits (segments_of z)) (sym g.joined) (items_named limits g.later (g.first ∷ w.items) blocks (subst (λ z. Leads limits z blocks) g.joined l) here)
   where
     first_named : (x : Item) (here rest : List ℕ) → SpellsItem x here → w.head ++ w.rest ≡ here ++ rest → AllNamed limits (segments_of (x ∷ w.items))
@@ -101,41 +105,33 @@ begun_head limits bytes w u e = record {
 
 -- AFTER ITEMS
 pub begun_behind : (limits : Limits) (bytes : List ℕ) (items : List Item) (tail : List ℕ) → AfterItems limits bytes items tail → Goes items tail → HaveBegun limits bytes → AllNamed limits (segments_of items)
-begun_behind limits bytes items tail b part w =
-    by (meet limits w.items items w.front b.front u tail w.blocks b.blocks w.spelled b.spelled w.leads b.leads (sym (append_assoc w.front w.head w.rest) ∙ sym w.cut ∙ b.cut))
+begun_behind limits bytes items tail b part w = by (meet limits bytes w.items items u tail (begun_after limits bytes w) b)
   where
     u : List ℕ
     u = w.head ++ w.rest
 
     by : Meets limits w.items u items tail → AllNamed limits (segments_of items)
     by (inl k) = absurd (goes_not_head limits items tail part (subst (λ z. HasHead limits (segments_of z) tail) k.0 (begun_head limits bytes w tail (sym k.1))))
-    by (inr (inl g)) = next_named limits bytes w u items tail b.blocks b.leads refl g
+    by (inr (inl g)) = next_named limits bytes w items tail b.blocks b.leads g
     by (inr (inr g)) = absurd (goes_not_head limits items tail part (next_head limits items w.items tail u g))
 
 -- INSIDE A SCAN, with FF bytes after its data
 pub begun_inside : (limits : Limits) (bytes tail : List ℕ) (n : ℕ) → (i : InsideScan limits bytes tail) → tail ≡ replicate n 255 → HaveBegun limits bytes → AllNamed limits ((0xda, i.contents) ∷ segments_of i.items)
-begun_inside limits bytes tail n i fill w =
-    by (meet limits w.items i.items w.front i.front u v w.blocks i.blocks w.spelled i.spelled w.leads i.leads (sym (append_assoc w.front w.head w.rest) ∙ sym w.cut ∙ sym (append-nil bytes) ∙ inside_stream limits bytes [] tail i))
+begun_inside limits bytes tail n i fill w = by (meet limits bytes w.items i.items u v (begun_after limits bytes w) (inside_after limits bytes tail i))
   where
     u : List ℕ
     u = w.head ++ w.rest
 
-    rest : List ℕ
-    rest = i.text ++ (tail ++ [])
-
     v : List ℕ
-    v = i.head ++ rest
+    v = i.head ++ (i.text ++ tail)
 
     by : Meets limits w.items u i.items v → AllNamed limits ((0xda, i.contents) ∷ segments_of i.items)
     by (inl k) =
-        let h = segment_once 0xda 0xda w.contents i.contents w.head i.head w.rest rest w.header i.header k.1 in
+        let h = segment_once 0xda 0xda w.contents i.contents w.head i.head w.rest (i.text ++ tail) w.header i.header k.1 in
         subst (λ z. AllNamed limits ((0xda, i.contents) ∷ segments_of z)) k.0 (subst (λ c. AllNamed limits ((0xda, c) ∷ segments_of w.items)) h.1 (begun_named limits bytes w))
-    by (inr (inl g)) = one_named limits 0xda i.contents (segments_of i.items) i.allowed.0 (next_named limits bytes w u i.items v i.blocks i.leads refl g)
+    by (inr (inl g)) = one_named limits 0xda i.contents (segments_of i.items) i.allowed.0 (next_named limits bytes w i.items v i.blocks i.leads g)
     by (inr (inr g)) =
-        let m = next_in limits bytes tail rest i v w.items u refl g in
-        let s = scan_in limits i.items i.contents in
-        absurd (ended_not_standing s i.blocks (chunks s.interval s.places) m.done m.last m.text (g.text ++ u) m.places [] i.done i.coded i.text (tail ++ []) i.places i.later n m.at (inside_at limits bytes tail i)
-        (sym m.cut) refl (next_marker w.items g.later g.text u g.others (λ z. segment_marker 0xda w.contents w.head w.rest w.header)) (append-nil tail ∙ fill))
+        absurd (filled_not_next limits bytes tail i n w.items u fill g (next_marker w.items g.later g.text u g.others (λ z. segment_marker 0xda w.contents w.head w.rest w.header)))
 
 -- THE CONVERSE
 

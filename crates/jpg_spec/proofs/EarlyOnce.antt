@@ -2,13 +2,13 @@
 use Rattle.std.proofs.Common.{◌≡◌, ℕ, ◌+◌, ◌-◌, ◌%◌, Bool, true, false, List, [], ◌∷◌, ◌++◌, length, get_or, refl, sym, ap, ◌∙◌, subst, arith, inl, inr, ⊎_elim, pos}
 use Rattle.std.specs.Prelude.{◌⊎◌, map, flat_map, nat_le, replicate}
 use Rattle.std.proofs.Math.Path.{fun_ext}
-use Rattle.std.proofs.lemmas.List.{append_assoc, append-nil, append_cancel_right, ext_get_or, length-append}
+use Rattle.std.proofs.lemmas.List.{append_assoc, append_cancel_right, ext_get_or, length-append}
 use Rattle.jpg_spec.specs.Bits.{bits_of_bytes}
 use Rattle.jpg_spec.specs.Lists.{any_of, chunks, joined}
 use Rattle.jpg_spec.specs.Scan.{Blocks, Scan, unit_at, band, block_at, SpellsInterval, SpellsIntervals, coefficient}
 use Rattle.jpg_spec.specs.Meaning.{Meaning}
 use Rattle.jpg_spec.specs.InForce.{frame_of}
-use Rattle.jpg_spec.specs.Items.{Item, segments_of, ends_in_scan}
+use Rattle.jpg_spec.specs.Items.{Item, ends_in_scan}
 use Rattle.jpg_spec.specs.FileMeaning.{Leads, Means, meaning_of}
 use Rattle.jpg_spec.specs.FirstFault.{InsideScan}
 use Rattle.jpg_spec.specs.Early.{UnitsWhole, ScanInPart, EndsAfter, segments_with, EndsInside, MeansEarly, IsMeaning}
@@ -19,18 +19,16 @@ use Rattle.jpg_spec.specs.declared.frame.Limits.{Limits}
 use Rattle.jpg_spec.specs.declared.frame.Place.{Place}
 use Rattle.jpg_spec.proofs.BlocksOnce.{band_of, bands_told, bands_at, blocks_once, in_band, length_band}
 use Rattle.jpg_spec.proofs.Common.{both, clash, le_of}
-use Rattle.jpg_spec.proofs.FileLaws.{means_once}
-use Rattle.jpg_spec.proofs.FilesOnce.{inside_stream, next_in, inside_at, next_marker, segment_marker, one_header, in_one, inside_head, head_at, next_head, scan_last, scan_in, AtIn}
+use Rattle.jpg_spec.proofs.FileLaws.{means_once, same_meaning}
+use Rattle.jpg_spec.proofs.FilesOnce.{filled_not_next, goes_not_inside, inside_after, inside_marker, its_scan, its_sound, next_head, next_in, next_marker, one_header, place_in, scan_last, two_inside}
 use Rattle.jpg_spec.proofs.Gate.{data_no_fill}
 use Rattle.jpg_spec.proofs.ItemsOnce.{Meets, meet}
 use Rattle.jpg_spec.proofs.MarkersOnce.{fill_no_marker}
 use Rattle.jpg_spec.proofs.PartStands.{part_not_held}
 use Rattle.jpg_spec.proofs.PartsOnce.{stands_once}
 use Rattle.jpg_spec.proofs.Rows.{append_apart}
-use Rattle.jpg_spec.proofs.ScansExclude.{ended_not_standing}
-use Rattle.jpg_spec.proofs.ScansOnce.{At, IsAhead, scan_once}
-use Rattle.jpg_spec.proofs.TablesInForce.{scan_sound}
-use Rattle.jpg_spec.proofs.TailsOnce.{HasHead, goes_not_head}
+use Rattle.jpg_spec.proofs.ScansOnce.{DataPlace, InLater, InSame, IsAhead, TwoPlaces, one_place, scan_once}
+use Rattle.jpg_spec.proofs.TailsOnce.{goes_not_head}
 
 -- ONE PICTURE, if the same bands are at the places that changed
 pub changed_once : (s : Scan) (places : List Place) (old new new' : Blocks) → OnlyChanges s places old new → OnlyChanges s places old new' → flat_map (band_of s new) places ≡ flat_map (band_of s new') places → new ≡ new'
@@ -112,40 +110,22 @@ in_part_once s before done coded places later after after' sound (inr v) (inl w)
 in_part_once s before done coded places later after after' sound (inr v) (inr w) = so_far_once s before after after' (done ++ coded ∷ []) later sound v w
 
 -- ONE PLACE inside the data of a scan, with FF bytes after it
-record SamePlace (done done' : List (List ℕ)) (c d : List ℕ) (places places' : List Place) (later later' : List (List Place)) : Type 0 where
-  pub done_same : done ≡ done'
-  pub coded_same : c ≡ d
-  pub places_same : places ≡ places'
-  pub later_same : later ≡ later'
-
-same_place : (s : Scan) (before : Blocks) (all : List (List Place)) (done : List (List ℕ)) (c text u : List ℕ) (places : List Place) (later : List (List Place))
-    → (done' : List (List ℕ)) (d text' v : List ℕ) (places' : List Place) (later' : List (List Place)) (m n : ℕ)
-    → At s before all 0 done c places later text → At s before all 0 done' d places' later' text' → text ++ u ≡ text' ++ v → u ≡ replicate m 255 → v ≡ replicate n 255
-    → SamePlace done done' c d places places' later later'
-same_place s before all done c text u places later done' d text' v places' later' m n a b e f g =
-    by (scan_once s before all 0 done c text u places later done' d text' v places' later' a b e)
+same_place : (s : Scan) (before : Blocks) (all : List (List Place)) (p q : DataPlace) (m n : ℕ) → TwoPlaces s before all 0 p q → p.behind ≡ replicate m 255 → q.behind ≡ replicate n 255 → q ≡ p
+same_place s before all p q m n w e f = by (scan_once s before all 0 p q w)
   where
-    by : IsAhead s before 0 done c u places later done' d v places' later' ⊎ IsAhead s before 0 done' d v places' later' done c u places later → SamePlace done done' c d places places' later later'
-    by (inl (inl h)) =
-        let z = data_no_fill m h.more h.text v h.spelled (sym h.behind ∙ f) in
-        record { done_same = h.same.0; coded_same = sym (h.joined ∙ ap (λ l. c ++ l) z.0 ∙ append-nil c); places_same = h.same.1; later_same = h.same.2 }
-    by (inl (inr h)) =
-        let z = data_no_fill m h.more h.text (h.marker ++ h.rest) h.spelled (sym h.behind ∙ f) in
-        absurd (fill_no_marker m (0xd0 + (0 + length done) % 8) h.marker h.rest h.code (sym f ∙ h.behind ∙ ap (λ l. l ++ (h.marker ++ h.rest)) z.1))
-    by (inr (inl h)) =
-        let z = data_no_fill n h.more h.text u h.spelled (sym h.behind ∙ g) in
-        record { done_same = sym h.same.0; coded_same = h.joined ∙ ap (λ l. d ++ l) z.0 ∙ append-nil d; places_same = sym h.same.1; later_same = sym h.same.2 }
-    by (inr (inr h)) =
-        let z = data_no_fill n h.more h.text (h.marker ++ h.rest) h.spelled (sym h.behind ∙ g) in
-        absurd (fill_no_marker n (0xd0 + (0 + length done') % 8) h.marker h.rest h.code (sym g ∙ h.behind ∙ ap (λ l. l ++ (h.marker ++ h.rest)) z.1))
+    one : (p q : DataPlace) (k : ℕ) → p.behind ≡ replicate k 255 → InSame p q → q ≡ p
+    one p q k filled g = let z = data_no_fill k g.more g.text q.behind g.spelled (sym g.behind ∙ filled) in one_place p q g z.0 z.1
 
-same_in_part : (s : Scan) (before after : Blocks) (done done' : List (List ℕ)) (c d : List ℕ) (places places' : List Place) (later later' : List (List Place)) → SamePlace done done' c d places places' later later'
-    → ScanInPart s before done' d places' later' after → ScanInPart s before done c places later after
-same_in_part s before after done done' c d places places' later later' e k =
-    subst (λ z. ScanInPart s before z c places later after) (sym e.done_same)
-    (subst (λ z. ScanInPart s before done' z places later after) (sym e.coded_same)
-    (subst (λ z. ScanInPart s before done' d z later after) (sym e.places_same)
-    (subst (λ z. ScanInPart s before done' d places' z after) (sym e.later_same) k)))
+    not_later : (p : DataPlace) (k : ℕ) → p.behind ≡ replicate k 255 → InLater s before 0 p → ⊥
+    not_later p k filled g =
+        let z = data_no_fill k g.more g.text (g.marker ++ g.rest) g.spelled (sym g.behind ∙ filled) in
+        fill_no_marker k (0xd0 + (0 + length p.done) % 8) g.marker g.rest g.code (sym filled ∙ g.behind ∙ ap (λ l. l ++ (g.marker ++ g.rest)) z.1)
+
+    by : IsAhead s before 0 p q ⊎ IsAhead s before 0 q p → q ≡ p
+    by (inl (inl g)) = one p q m e g
+    by (inl (inr g)) = absurd (not_later p m e g)
+    by (inr (inl g)) = sym (one q p n f g)
+    by (inr (inr g)) = absurd (not_later q n f g)
 
 -- INSIDE A SCAN
 with_header : (limits : Limits) (items items' : List Item) (contents contents' : List ℕ) (after after' : Blocks) → items ≡ items' → contents ≡ contents' → after ≡ after'
@@ -156,8 +136,7 @@ with_header limits items items' contents contents' after after' e f g =
     ∙ ap (λ z. (let a = segments_with items' contents' in meaning_of (frame_of limits a) a z)) g
 
 inside_once : (limits : Limits) (bytes : List ℕ) (M N : Meaning) → EndsInside limits bytes M → EndsInside limits bytes N → M ≡ N
-inside_once limits bytes M N p q =
-    by (meet limits i.items j.items i.front j.front u v i.blocks j.blocks i.spelled j.spelled i.leads j.leads (sym (inside_stream limits bytes [] p.tail i) ∙ inside_stream limits bytes [] q.tail j))
+inside_once limits bytes M N p q = by (meet limits bytes i.items j.items u v (inside_after limits bytes p.tail i) (inside_after limits bytes q.tail j))
   where
     i : InsideScan limits bytes p.tail
     i = p.at
@@ -165,96 +144,59 @@ inside_once limits bytes M N p q =
     j : InsideScan limits bytes q.tail
     j = q.at
 
-    rest : List ℕ
-    rest = i.text ++ (p.tail ++ [])
-
-    rest' : List ℕ
-    rest' = j.text ++ (q.tail ++ [])
-
     u : List ℕ
-    u = i.head ++ rest
+    u = i.head ++ (i.text ++ p.tail)
 
     v : List ℕ
-    v = j.head ++ rest'
-
-    fills : p.tail ++ [] ≡ replicate p.fill.0 255
-    fills = append-nil p.tail ∙ p.fill.1
-
-    fills' : q.tail ++ [] ≡ replicate q.fill.0 255
-    fills' = append-nil q.tail ∙ q.fill.1
+    v = j.head ++ (j.text ++ q.tail)
 
     by : Meets limits i.items u j.items v → M ≡ N
     by (inl k) =
-        let h = one_header limits bytes bytes p.tail q.tail rest rest' i j k.1 in
-        let P : List Item → List ℕ → Blocks → Type 0 =
-        λ items contents blocks. AtIn limits items contents blocks j.done j.coded j.places j.later j.text × ScanInPart (scan_in limits items contents) blocks j.done j.coded j.places j.later q.after in
-        let r : P j.items j.contents j.blocks = (inside_at limits bytes q.tail j, q.scan) in
-        let t = in_one limits bytes bytes p.tail q.tail i j P k.0 h.0 r in
-        let s = scan_in limits i.items i.contents in
-        let same = same_place s i.blocks (chunks s.interval s.places) i.done i.coded i.text (p.tail ++ []) i.places i.later j.done j.coded j.text (q.tail ++ []) j.places j.later p.fill.0 q.fill.0
-        (inside_at limits bytes p.tail i) t.0 h.1 fills fills' in
-        let after = in_part_once s i.blocks i.done i.coded i.places i.later p.after q.after (scan_sound limits (segments_of i.items) i.contents) p.scan
-        (same_in_part s i.blocks q.after i.done j.done i.coded j.coded i.places j.places i.later j.later same t.1) in
-        p.meaning ∙ with_header limits i.items j.items i.contents j.contents p.after q.after k.0 h.0 after ∙ sym q.meaning
+        let s = its_scan limits bytes p.tail i in
+        let here = place_in limits bytes p.tail i in
+        let there = place_in limits bytes q.tail j in
+        let InPart : Scan → Blocks → DataPlace → Type 0 = λ s blocks r. ScanInPart s blocks r.done r.coded r.places r.later q.after in
+        let w = two_inside limits bytes p.tail i q.tail j (λ s blocks. InPart s blocks there) k.0 k.1 q.scan in
+        let same = same_place s i.blocks (chunks s.interval s.places) here there p.fill.0 q.fill.0 w.0 p.fill.1 q.fill.1 in
+        let after = in_part_once s i.blocks i.done i.coded i.places i.later p.after q.after (its_sound limits bytes p.tail i) p.scan (subst (InPart s i.blocks) same w.1) in
+        let contents = (one_header limits bytes p.tail i q.tail j (i.text ++ p.tail) (j.text ++ q.tail) k.1).0 in
+        p.meaning ∙ with_header limits i.items j.items i.contents j.contents p.after q.after k.0 contents after ∙ sym q.meaning
     by (inr (inl g)) =
-        let n = next_in limits bytes p.tail rest i u j.items v refl g in
-        let s = scan_in limits i.items i.contents in
-        absurd (ended_not_standing s i.blocks (chunks s.interval s.places) n.done n.last n.text (g.text ++ v) n.places [] i.done i.coded i.text (p.tail ++ []) i.places i.later p.fill.0 n.at (inside_at limits bytes p.tail i)
-        (sym n.cut) refl (next_marker j.items g.later g.text v g.others (λ z. segment_marker 0xda j.contents j.head rest' j.header)) fills)
+        absurd (filled_not_next limits bytes p.tail i p.fill.0 j.items v p.fill.1 g (next_marker j.items g.later g.text v g.others (λ z. inside_marker limits bytes q.tail j (j.text ++ q.tail))))
     by (inr (inr g)) =
-        let n = next_in limits bytes q.tail rest' j v i.items u refl g in
-        let s = scan_in limits j.items j.contents in
-        absurd (ended_not_standing s j.blocks (chunks s.interval s.places) n.done n.last n.text (g.text ++ u) n.places [] j.done j.coded j.text (q.tail ++ []) j.places j.later q.fill.0 n.at (inside_at limits bytes q.tail j)
-        (sym n.cut) refl (next_marker i.items g.later g.text u g.others (λ z. segment_marker 0xda i.contents i.head rest i.header)) fills')
+        absurd (filled_not_next limits bytes q.tail j q.fill.0 i.items u q.fill.1 g (next_marker i.items g.later g.text u g.others (λ z. inside_marker limits bytes p.tail i (i.text ++ p.tail))))
 
 -- AFTER ITEMS
 after_once : (limits : Limits) (bytes : List ℕ) (M N : Meaning) → EndsAfter limits bytes M → EndsAfter limits bytes N → M ≡ N
-after_once limits bytes M N p q =
-    let v = p.behind in
-    let w = q.behind in
-    by (meet limits p.items q.items v.front w.front p.tail q.tail v.blocks w.blocks v.spelled w.spelled v.leads w.leads (sym v.cut ∙ w.cut))
+after_once limits bytes M N p q = by (meet limits bytes p.items q.items p.tail q.tail p.behind q.behind)
   where
-    same : (items items' : List Item) (blocks blocks' : Blocks) → items ≡ items' → blocks ≡ blocks'
-        → meaning_of (frame_of limits (segments_of items)) (segments_of items) blocks ≡ meaning_of (frame_of limits (segments_of items')) (segments_of items') blocks'
-    same items items' blocks blocks' e f =
-        ap (λ z. meaning_of (frame_of limits (segments_of z)) (segments_of z) blocks) e ∙ ap (λ z. meaning_of (frame_of limits (segments_of items')) (segments_of items') z) f
-
     by : Meets limits p.items p.tail q.items q.tail → M ≡ N
     by (inl k) =
         let blocks = blocks_once limits q.items (p.behind).blocks (q.behind).blocks (subst (λ z. Leads limits z (p.behind).blocks) k.0 (p.behind).leads) (q.behind).leads in
-        p.meaning ∙ same p.items q.items (p.behind).blocks (q.behind).blocks k.0 blocks ∙ sym q.meaning
+        p.meaning ∙ same_meaning limits p.items q.items (p.behind).blocks (q.behind).blocks k.0 blocks ∙ sym q.meaning
     by (inr (inl g)) = absurd (goes_not_head limits p.items p.tail p.part (next_head limits p.items q.items p.tail q.tail g))
     by (inr (inr g)) = absurd (goes_not_head limits q.items q.tail q.part (next_head limits q.items p.items q.tail p.tail g))
 
 -- never at both
 after_not_inside : (limits : Limits) (bytes : List ℕ) (M N : Meaning) → EndsAfter limits bytes M → EndsInside limits bytes N → ⊥
-after_not_inside limits bytes M N p q =
-    by (meet limits p.items i.items (p.behind).front i.front p.tail u (p.behind).blocks i.blocks (p.behind).spelled i.spelled (p.behind).leads i.leads
-    (sym (p.behind).cut ∙ sym (append-nil bytes) ∙ inside_stream limits bytes [] q.tail i))
+after_not_inside limits bytes M N p q = by (meet limits bytes p.items i.items p.tail u p.behind (inside_after limits bytes q.tail i))
   where
     i : InsideScan limits bytes q.tail
     i = q.at
 
-    rest : List ℕ
-    rest = i.text ++ (q.tail ++ [])
-
     u : List ℕ
-    u = i.head ++ rest
+    u = i.head ++ (i.text ++ q.tail)
 
-    fills : q.tail ++ [] ≡ replicate q.fill.0 255
-    fills = append-nil q.tail ∙ q.fill.1
-
-    marked : ends_in_scan p.items ≡ true → LeadingMarker p.tail
-    marked e = ⊎_elim (λ (z : ends_in_scan p.items ≡ false). absurd (clash (ends_in_scan p.items) e z)) (λ (z : LeadingMarker p.tail). z) p.begun
+    is_marked : ends_in_scan p.items ≡ true → LeadingMarker p.tail
+    is_marked e = ⊎_elim (λ (z : ends_in_scan p.items ≡ false). absurd (clash (ends_in_scan p.items) e z)) (λ (z : LeadingMarker p.tail). z) p.begun
 
     by : Meets limits p.items p.tail i.items u → ⊥
-    by (inl k) = goes_not_head limits p.items p.tail p.part (subst (λ z. HasHead limits (segments_of z) p.tail) (sym k.0) (head_at limits i.items p.tail u k.1 (inside_head limits bytes q.tail rest i)))
+    by (inl k) = goes_not_inside limits bytes q.tail i p.items p.tail p.part k.0 k.1
     by (inr (inl g)) = goes_not_head limits p.items p.tail p.part (next_head limits p.items i.items p.tail u g)
     by (inr (inr g)) =
-        let n = next_in limits bytes q.tail rest i u p.items p.tail refl g in
-        let s = scan_in limits i.items i.contents in
-        ended_not_standing s i.blocks (chunks s.interval s.places) n.done n.last n.text (g.text ++ p.tail) n.places [] i.done i.coded i.text (q.tail ++ []) i.places i.later q.fill.0 n.at (inside_at limits bytes q.tail i)
-        (sym n.cut) refl (next_marker p.items g.later g.text p.tail g.others (λ z. marked (scan_last g.first i.items p.items g.later i.contents n.intervals n.is_scan g.joined z))) fills
+        let n = next_in limits bytes q.tail i p.items p.tail g in
+        filled_not_next limits bytes q.tail i q.fill.0 p.items p.tail q.fill.1 g
+        (next_marker p.items g.later g.text p.tail g.others (λ z. is_marked (scan_last g.first i.items p.items g.later i.contents n.intervals n.is_scan g.joined z)))
 
 -- THE LAWS
 pub early_once : (limits : Limits) (bytes : List ℕ) (M N : Meaning) → MeansEarly limits bytes M → MeansEarly limits bytes N → M ≡ N

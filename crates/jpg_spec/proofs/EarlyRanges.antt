@@ -165,68 +165,69 @@ front_within s before after (p ∷ whole) due rest sizes w =
 abbrev pub InBounds : Blocks → Type 0
 InBounds blocks = (i x y k : ℕ) → is_coefficient (bounds_of 8) k (coefficient blocks i x y k) ≡ true
 
-zeros_fit : (limits : Limits) (items : List Item) (contents : List ℕ) → ZerosFit (scan_after limits (segments_of items) contents).coding
-zeros_fit limits items contents b zero = refl
-zeros_fit limits items contents true (suc n) = zeros_fit limits items contents false n
-zeros_fit limits items contents false (suc n) = zeros_fit limits items contents false n
+module _ (limits : Limits) (items : List Item) (contents : List ℕ) where
+  zeros_fit : ZerosFit (scan_after limits (segments_of items) contents).coding
+  zeros_fit b zero = refl
+  zeros_fit true (suc n) = zeros_fit false n
+  zeros_fit false (suc n) = zeros_fit false n
 
-changed_in_range : (limits : Limits) (items : List Item) (contents : List ℕ) (places : List Place) (old new : Blocks)
-    → OnlyChanges (scan_after limits (segments_of items) contents) places old new → PlacesWithin (scan_after limits (segments_of items) contents) new places → InBounds old → InBounds new
-changed_in_range limits items contents places old new w within before i x y k = by (any_of (is_at i x y) places) refl
-  where
-    s : Scan
-    s = scan_after limits (segments_of items) contents
+  changed_in_range : (places : List Place) (old new : Blocks)
+      → OnlyChanges (scan_after limits (segments_of items) contents) places old new → PlacesWithin (scan_after limits (segments_of items) contents) new places → InBounds old → InBounds new
+  changed_in_range places old new w within before i x y k = by (any_of (is_at i x y) places) refl
+    where
+      s : Scan
+      s = scan_after limits (segments_of items) contents
 
-    size : length (new i x y) ≡ 64
-    size = w.sizes i x y
+      size : length (new i x y) ≡ 64
+      size = w.sizes i x y
 
-    named : any_of (is_at i x y) places ≡ true → s.ss ≤ k → k ≤ s.se → k < 64 → is_coefficient (bounds_of 8) k (coefficient new i x y k) ≡ true
-    named at low high small =
-        let here = at_place (scan_after limits (segments_of items) contents) new places i x y within at in
-        let d = length-drop s.ss (new i x y) in
-        let long = length-take (s.se + 1 - s.ss) (drop s.ss (new i x y)) in
-        let inside : k - s.ss < length (band s (new i x y)) = omega (arith, d, long, size, low, high, small) in
-        let v = value_in s.coding (s.ss == 0) (band s (new i x y)) (k - s.ss) k here inside (λ e. (let z : s.ss ≡ 0 = same_of s.ss 0 e in omega (arith, z))) (λ e. positive s.ss k e low) in
-        subst (λ v. is_coefficient (bounds_of 8) k v ≡ true) (in_band s (new i x y) k low high) v
-      where
-        positive : (ss k : ℕ) → (ss == 0) ≡ false → ss ≤ k → 1 ≤ k
-        positive ss k e h = grind (arith, nat_tests, e, h)
+      named : any_of (is_at i x y) places ≡ true → s.ss ≤ k → k ≤ s.se → k < 64 → is_coefficient (bounds_of 8) k (coefficient new i x y k) ≡ true
+      named at low high small =
+          let here = at_place (scan_after limits (segments_of items) contents) new places i x y within at in
+          let d = length-drop s.ss (new i x y) in
+          let long = length-take (s.se + 1 - s.ss) (drop s.ss (new i x y)) in
+          let inside : k - s.ss < length (band s (new i x y)) = omega (arith, d, long, size, low, high, small) in
+          let v = value_in s.coding (s.ss == 0) (band s (new i x y)) (k - s.ss) k here inside (λ e. (let z : s.ss ≡ 0 = same_of s.ss 0 e in omega (arith, z))) (λ e. positive s.ss k e low) in
+          subst (λ v. is_coefficient (bounds_of 8) k v ≡ true) (in_band s (new i x y) k low high) v
+        where
+          positive : (ss k : ℕ) → (ss == 0) ≡ false → ss ≤ k → 1 ≤ k
+          positive ss k e h = grind (arith, nat_tests, e, h)
 
-    banded : any_of (is_at i x y) places ≡ true → (b : Bool) → is_in_band (scan_after limits (segments_of items) contents) k ≡ b → is_coefficient (bounds_of 8) k (coefficient new i x y k) ≡ true
-    banded at false e = subst (λ v. is_coefficient (bounds_of 8) k v ≡ true) (sym (w.outside i x y k e)) (before i x y k)
-    banded at true e =
-        let u = both (nat_le s.ss k) (nat_le k s.se) e in
-        ⊎_elim (λ (small : k < 64). named at (le_of s.ss k u.0) (le_of k s.se u.1) small)
-        (λ (large : 64 ≤ k). subst (λ v. is_coefficient (bounds_of 8) k v ≡ true) (sym (get_or_past (new i x y) k (pos 0) (omega (arith, size, large)))) (zero_in k)) (cases_lt k 64)
+      banded : any_of (is_at i x y) places ≡ true → (b : Bool) → is_in_band (scan_after limits (segments_of items) contents) k ≡ b → is_coefficient (bounds_of 8) k (coefficient new i x y k) ≡ true
+      banded at false e = subst (λ v. is_coefficient (bounds_of 8) k v ≡ true) (sym (w.outside i x y k e)) (before i x y k)
+      banded at true e =
+          let u = both (nat_le s.ss k) (nat_le k s.se) e in
+          ⊎_elim (λ (small : k < 64). named at (le_of s.ss k u.0) (le_of k s.se u.1) small)
+          (λ (large : 64 ≤ k). subst (λ v. is_coefficient (bounds_of 8) k v ≡ true) (sym (get_or_past (new i x y) k (pos 0) (omega (arith, size, large)))) (zero_in k)) (cases_lt k 64)
 
-    by : (b : Bool) → any_of (is_at i x y) places ≡ b → is_coefficient (bounds_of 8) k (coefficient new i x y k) ≡ true
-    by false e = subst (λ l. is_coefficient (bounds_of 8) k (get_or l k (pos 0)) ≡ true) (sym (w.elsewhere i x y e)) (before i x y k)
-    by true e = banded e (is_in_band (scan_after limits (segments_of items) contents) k) refl
+      by : (b : Bool) → any_of (is_at i x y) places ≡ b → is_coefficient (bounds_of 8) k (coefficient new i x y k) ≡ true
+      by false e = subst (λ l. is_coefficient (bounds_of 8) k (get_or l k (pos 0)) ≡ true) (sym (w.elsewhere i x y e)) (before i x y k)
+      by true e = banded e (is_in_band (scan_after limits (segments_of items) contents) k) refl
 
-so_far_in_range : (limits : Limits) (items : List Item) (contents : List ℕ) (before work : Blocks) (done : List (List ℕ)) (left : List (List Place)) → Leads limits items before → contents_rule limits (segments_of items) 0xda contents ≡ None
-    → ScanSoFar (scan_after limits (segments_of items) contents) before work done left → InBounds work
-so_far_in_range limits items contents before work done left l rule w =
-    let s = scan_after limits (segments_of items) contents in
-    let sizes : (i x y : ℕ) → length (before i x y) ≡ length (work i x y) = λ i x y. leads_sizes limits items before l i x y ∙ sym ((w.changes).sizes i x y) in
-    let within = intervals_within s before work w.front done sizes (λ places. scan_mode limits items before contents places l rule) w.spelled in
-    changed_in_range limits items contents (joined w.front) before work w.changes within (leads_in_range limits items before l).values
+  so_far_in_range : (before work : Blocks) (done : List (List ℕ)) (left : List (List Place)) → Leads limits items before → contents_rule limits (segments_of items) 0xda contents ≡ None
+      → ScanSoFar (scan_after limits (segments_of items) contents) before work done left → InBounds work
+  so_far_in_range before work done left l rule w =
+      let s = scan_after limits (segments_of items) contents in
+      let sizes : (i x y : ℕ) → length (before i x y) ≡ length (work i x y) = λ i x y. leads_sizes limits items before l i x y ∙ sym ((w.changes).sizes i x y) in
+      let within = intervals_within s before work w.front done sizes (λ places. scan_mode limits items before contents places l rule) w.spelled in
+      changed_in_range (joined w.front) before work w.changes within (leads_in_range limits items before l).values
 
-pub in_part_in_range : (limits : Limits) (items : List Item) (contents : List ℕ) (before after : Blocks) (done : List (List ℕ)) (coded : List ℕ) (places : List Place) (later : List (List Place)) → Leads limits items before
-    → contents_rule limits (segments_of items) 0xda contents ≡ None → ScanInPart (scan_after limits (segments_of items) contents) before done coded places later after → InBounds after × ((i x y : ℕ) → length (after i x y) ≡ 64)
-in_part_in_range limits items contents before after done coded places later l rule (inr w) =
-    (so_far_in_range limits items contents before after (done ++ coded ∷ []) later l rule w, (w.changes).sizes)
-in_part_in_range limits items contents before after done coded places later l rule (inl w) =
-    let s = scan_after limits (segments_of items) contents in
-    let c = s.coding in
-    let sizes : (i x y : ℕ) → length (before i x y) ≡ length (after i x y) = λ i x y. leads_sizes limits items before l i x y ∙ sym (((w.read).changes).sizes i x y) in
-    let mode = scan_mode limits items before contents places l rule in
-    let more = zeros (length (old_values w.left)) in
-    let all = stands_within c (map (unit_at s before) places) (w.told ++ w.part) w.left (bits_of_bytes coded) (zeros_fit limits items contents) mode w.stands in
-    let cut = subst (λ t. AreWithin c (map (unit_at s before) places) t) (append_assoc w.told w.part more) all in
-    let told = subst (λ t. AreWithin c (map (unit_at s before) places) (t ++ (w.part ++ more))) (w.read).told_there cut in
-    let here = subst (λ ps. AreWithin c (map (unit_at s before) ps) (flat_map (band_of s after) w.whole ++ (w.part ++ more))) w.all told in
-    let within = front_within s before after w.whole w.due (w.part ++ more) sizes here in
-    (changed_in_range limits items contents w.whole w.work after (w.read).changes within (so_far_in_range limits items contents before w.work done (places ∷ later) l rule w.so_far), ((w.read).changes).sizes)
+  pub in_part_in_range : (before after : Blocks) (done : List (List ℕ)) (coded : List ℕ) (places : List Place) (later : List (List Place)) → Leads limits items before
+      → contents_rule limits (segments_of items) 0xda contents ≡ None → ScanInPart (scan_after limits (segments_of items) contents) before done coded places later after → InBounds after × ((i x y : ℕ) → length (after i x y) ≡ 64)
+  in_part_in_range before after done coded places later l rule (inr w) =
+      (so_far_in_range before after (done ++ coded ∷ []) later l rule w, (w.changes).sizes)
+  in_part_in_range before after done coded places later l rule (inl w) =
+      let s = scan_after limits (segments_of items) contents in
+      let c = s.coding in
+      let sizes : (i x y : ℕ) → length (before i x y) ≡ length (after i x y) = λ i x y. leads_sizes limits items before l i x y ∙ sym (((w.read).changes).sizes i x y) in
+      let mode = scan_mode limits items before contents places l rule in
+      let more = zeros (length (old_values w.left)) in
+      let all = stands_within c (map (unit_at s before) places) (w.told ++ w.part) w.left (bits_of_bytes coded) (zeros_fit) mode w.stands in
+      let cut = subst (λ t. AreWithin c (map (unit_at s before) places) t) (append_assoc w.told w.part more) all in
+      let told = subst (λ t. AreWithin c (map (unit_at s before) places) (t ++ (w.part ++ more))) (w.read).told_there cut in
+      let here = subst (λ ps. AreWithin c (map (unit_at s before) ps) (flat_map (band_of s after) w.whole ++ (w.part ++ more))) w.all told in
+      let within = front_within s before after w.whole w.due (w.part ++ more) sizes here in
+      (changed_in_range w.whole w.work after (w.read).changes within (so_far_in_range before w.work done (places ∷ later) l rule w.so_far), ((w.read).changes).sizes)
 
 -- THE LAW
 after_in_range : (limits : Limits) (bytes : List ℕ) (M : Meaning) → EndsAfter limits bytes M → AreInRange (bounds (picture_frame M)) M.blocks

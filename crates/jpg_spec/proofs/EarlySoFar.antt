@@ -58,23 +58,24 @@ pub record IsItemsScan (limits : Limits) (before : List Segment) (contents : Lis
   pub all : HasAll limits first.before first.contents
   pub none : has_scan (segments_of first.more) ≡ false
 
-pub items_scan : (limits : Limits) (bytes : List ℕ) (before : List Segment) (contents : List ℕ) (items : List Item) (blocks : Blocks) (front tail : List ℕ) → (first : HasFirstScan limits items front) → BeginsScanOfAll limits bytes before contents → bytes ≡ front ++ tail
-    → SpellsFront items front → Leads limits items blocks → IsItemsScan limits before contents items blocks front first
-items_scan limits bytes before contents items blocks front tail first begins cut spelled leads =
-    let same : bytes ≡ first.head ++ (first.rest ++ tail) = cut ∙ ap (λ l. l ++ tail) first.cut ∙ append_assoc first.head first.rest tail in
-    let one = whole_once limits first.head begins.front (first.rest ++ tail) begins.rest (segments_of first.before) before first.contents contents first.header begins.header (sym same ∙ begins.cut) in
-    let of_all : IsScanOfAll limits (segments_of first.before) first.contents =
-    subst (λ c. IsScanOfAll limits (segments_of first.before) c) (sym one.2) (subst (λ b. IsScanOfAll limits b contents) (sym one.1) begins.of_all) in
-    let there : Leads limits (first.more ++ scan first.contents first.intervals ∷ first.before) blocks = subst (λ (z : List Item). Leads limits z blocks) first.joined leads in
-    let all : HasAll limits first.before first.contents = record { head = head_there limits (segments_of first.before) first.contents first.unbroken; all = of_all.all; sequential = of_all.sequential } in
-    record {
-      same = one.1;
-      of = one.2;
-      of_all = of_all;
-      leads = there;
-      all = all;
-      none = none_later limits first.more first.contents first.intervals first.before blocks front there (subst (λ (z : List Item). SpellsFront z front) first.joined spelled) all;
-    }
+module _ (limits : Limits) (bytes : List ℕ) (before : List Segment) (contents : List ℕ) (items : List Item) (blocks : Blocks) (front tail : List ℕ) where
+  pub items_scan : (first : HasFirstScan limits items front) → BeginsScanOfAll limits bytes before contents → bytes ≡ front ++ tail
+      → SpellsFront items front → Leads limits items blocks → IsItemsScan limits before contents items blocks front first
+  items_scan first begins cut spelled leads =
+      let same : bytes ≡ first.head ++ (first.rest ++ tail) = cut ∙ ap (λ l. l ++ tail) first.cut ∙ append_assoc first.head first.rest tail in
+      let one = whole_once limits first.head begins.front (first.rest ++ tail) begins.rest (segments_of first.before) before first.contents contents first.header begins.header (sym same ∙ begins.cut) in
+      let of_all : IsScanOfAll limits (segments_of first.before) first.contents =
+      subst (λ c. IsScanOfAll limits (segments_of first.before) c) (sym one.2) (subst (λ b. IsScanOfAll limits b contents) (sym one.1) begins.of_all) in
+      let there : Leads limits (first.more ++ scan first.contents first.intervals ∷ first.before) blocks = subst (λ (z : List Item). Leads limits z blocks) first.joined leads in
+      let all : HasAll limits first.before first.contents = record { head = head_there limits (segments_of first.before) first.contents first.unbroken; all = of_all.all; sequential = of_all.sequential } in
+      record {
+        same = one.1;
+        of = one.2;
+        of_all = of_all;
+        leads = there;
+        all = all;
+        none = none_later limits first.more first.contents first.intervals first.before blocks front there (subst (λ (z : List Item). SpellsFront z front) first.joined spelled) all;
+      }
 
 -- AFTER IT
 after_so_far : (limits : Limits) (bytes : List ℕ) (M : Meaning) (before : List Segment) (contents : List ℕ) → BeginsScanOfAll limits bytes before contents → HaveBegun limits bytes → EndsAfter limits bytes M → IsSoFar limits before contents M

@@ -1,17 +1,16 @@
 -- Bits that have a fault begin no element that is allowed there.
 use Rattle.std.proofs.Common.{◌≡◌, ℕ, ◌+◌, ◌-◌, ◌*◌, ◌/◌, ◌%◌, ◌^◌, ◌<◌, ◌≤◌, Bool, true, false, List, [], ◌∷◌, ◌++◌, length, refl, sym, ap, ◌∙◌, subst, arith, ℤ, ⊎_elim, inl, inr, ◌==◌, ◌&&◌}
 use Rattle.std.specs.Prelude.{◌⊎◌, nat_lt, nat_le, ◌||◌}
-use Rattle.std.specs.List.{Contains}
-use Rattle.std.proofs.lemmas.List.{append_assoc, append_cancel_left}
+use Rattle.std.proofs.lemmas.List.{append_assoc}
 use Rattle.std.proofs.lemmas.Bool.Decides.{nat_tests}
 use Rattle.jpg_spec.specs.Bits.{bits_of}
 use Rattle.jpg_spec.specs.Codes.{Code}
 use Rattle.jpg_spec.specs.Numbers.{category, digits}
 use Rattle.jpg_spec.specs.declared.fault.Fault.{Fault}
-use Rattle.jpg_spec.specs.Elements.{Covers, SpellsUnits, at_start, Coding, UnitLeft, Standing, Element, difference, dc_bit, value, long_run, ends, Tells, SpellsElement, codes_due, zeros_in, symbol_of, bits_after, are_in_bounds}
+use Rattle.jpg_spec.specs.declared.fault.Fault.TheVariants.{CoefRange}
+use Rattle.jpg_spec.specs.Elements.{Covers, SpellsUnits, at_start, Coding, UnitLeft, Standing, Element, difference, dc_bit, value, long_run, ends, Tells, codes_due, zeros_in, symbol_of, bits_after, are_in_bounds}
 use Rattle.jpg_spec.specs.ScanFaults.{BitsShow, DataReveals, BeginsNone, is_symbol}
-use Rattle.jpg_spec.proofs.Told.{values_told}
-use Rattle.jpg_spec.proofs.Once.{NumberFacts, IsCoding, OneWay, told_is, symbol_once, element_once, GoesOn, fronts_once, no_units, head_inj, pair_0, pair_1, zeros-append}
+use Rattle.jpg_spec.proofs.Once.{NumberFacts, IsCoding, Decodes, WantsCode, BeginsSymbol, BeginsElement, BeginsElements, Continues, begins_code, element_code, elements_once, first_element, same_element, symbol_once, no_units, zeros-append}
 use Rattle.jpg_spec.proofs.Common.{append_inj, clash}
 
 -- one of two prefixes of a list is a prefix of the other
@@ -25,152 +24,140 @@ fronts (a ∷ as') (b ∷ bs) x y e =
     (λ (r : (more : List Bool) × (as' ≡ bs ++ more)). inr (r.0, ap (λ k. a ∷ k) r.1 ∙ ap (λ k. k ∷ bs ++ r.0) h))
     (fronts as' bs x y t)
 
--- an element that isn't a bit of DC begins with a code of its symbol
-Coded : List Code → Element → List Bool → Type 0
-Coded codes e front = (code : List Bool) × Contains codes (code, symbol_of e) × (front ≡ code ++ bits_after e)
-
-pub codes_are_due : (c : Coding) (p : ℤ) (e : Element) (u : UnitLeft) (us : List UnitLeft) (here : List ℤ) (left : List UnitLeft) (codes : List Code) (front : List Bool)
-    → Tells c p e u us here left → ((u.has_dc ≡ true) × (c.refines ≡ true) → ⊥) → SpellsElement codes e front → (code : List Bool) × Contains codes (code, symbol_of e) × (front ≡ code ++ bits_after e)
-codes_are_due c p (difference d) u us here left codes front t due s = s
-codes_are_due c p (dc_bit b) u us here left codes front t due s = absurd (due (t.2, t.3))
-codes_are_due c p (value run v bits) u us here left codes front t due s = s
-codes_are_due c p (long_run bits) u us here left codes front t due s = s
-codes_are_due c p (ends bands bits) u us here left codes front t due s = s
-
-pub no_code : (codes : List Code) (symbol : ℕ) (b front bits y z : List Bool) → BeginsNone codes bits → (code : List Bool) × Contains codes (code, symbol) × (front ≡ code ++ b) → bits ++ z ≡ front ++ y → ⊥
-no_code codes symbol b front bits y z none s same =
-    let e : bits ++ z ≡ s.0 ++ (b ++ y) = same ∙ ap (λ f. f ++ y) s.2 ∙ append_assoc s.0 b y in
-    ⊎_elim (λ (r : (more : List Bool) × (s.0 ≡ bits ++ more)). none.1 (s.0, symbol) r.0 s.1 r.1)
-    (λ (r : (more : List Bool) × (bits ≡ s.0 ++ more)). none.2 (s.0, symbol) r.0 s.1 r.1)
-    (fronts bits s.0 z (b ++ y) e)
+-- bits that no code begins with, and that begin no code
+pub no_code : {codes : List Code} {symbol : ℕ} {rest stream : List Bool} (bits more : List Bool) → BeginsNone codes bits → stream ≡ bits ++ more → BeginsSymbol codes symbol rest stream → ⊥
+no_code {symbol = symbol} {rest = rest} bits more none e s =
+    ⊎_elim (λ (r : (more : List Bool) × (s.code ≡ bits ++ more)). none.1 (s.code, symbol) r.0 s.is_code r.1)
+    (λ (r : (more : List Bool) × (bits ≡ s.code ++ more)). none.2 (s.code, symbol) r.0 s.is_code r.1)
+    (fronts bits s.code more rest (sym e ∙ s.cut))
 
 pub or_true : (b : Bool) → (b || true) ≡ true
 or_true true = refl
 or_true false = refl
 
--- the symbol of an element that is allowed there is a symbol there
-pub right_symbol : (c : Coding) (p : ℤ) (e : Element) (u : UnitLeft) (us : List UnitLeft) (here : List ℤ) (left : List UnitLeft)
-    → IsCoding c → ((u.has_dc ≡ true) × (c.refines ≡ true) → ⊥) → Tells c p e u us here left → is_symbol c u.has_dc (symbol_of e) ≡ true
-right_symbol c p (difference d) u us here left ic due t = ap (λ b. is_symbol c b (category d)) t.2 ∙ (let h = t.4 in grind (arith, nat_tests))
-right_symbol c p (dc_bit b) u us here left ic due t = absurd (due (t.2, t.3))
-right_symbol c p (value run v bits) u us here left ic due t =
-    let low = t.3 in
-    let high = t.4 in
-    let most = ic.0 in
-    let m : (16 * run + category v) % 16 ≡ category v = omega arith in
-    let a : nat_le (category v) c.most_category ≡ true = grind (arith, nat_tests) in
-    let b : nat_lt 0 (category v) ≡ true = grind (arith, nat_tests) in
-    ap (λ b. is_symbol c b (16 * run + category v)) t.2 ∙ ap (λ n. nat_le n c.most_category && (nat_lt 0 n || nat_le ((16 * run + category v) / 16) c.most_run || (16 * run + category v) == 0xf0)) m
-    ∙ ap (λ k. k && (nat_lt 0 (category v) || nat_le ((16 * run + category v) / 16) c.most_run || (16 * run + category v) == 0xf0)) a ∙ ap (λ k. k || nat_le ((16 * run + category v) / 16) c.most_run || (16 * run + category v) == 0xf0) b
-right_symbol c p (long_run bits) u us here left ic due t =
-    ap (λ b. is_symbol c b 0xf0) t.2 ∙ (let z : nat_le 0 c.most_category ≡ true = grind (arith, nat_tests) in ap (λ k. k && (nat_le 15 c.most_run || true)) z ∙ or_true (nat_le 15 c.most_run))
-right_symbol c p (ends bands bits) u us here left ic due t =
-    ap (λ b. is_symbol c b (16 * (digits bands - 1))) t.0 ∙ (let n = digits bands - 1 in
-    let high = t.2 in
-    let m : (16 * n) % 16 ≡ 0 = omega arith in
-    let q : (16 * n) / 16 ≡ n = omega arith in
-    let z : nat_le 0 c.most_category ≡ true = grind (arith, nat_tests) in
-    let a : nat_le n c.most_run ≡ true = grind (arith, nat_tests) in
-    ap (λ k. nat_le k c.most_category && (nat_lt 0 k || nat_le (16 * n / 16) c.most_run || 16 * n == 0xf0)) m
-    ∙ ap (λ k. k && (nat_le (16 * n / 16) c.most_run || 16 * n == 0xf0)) z
-    ∙ ap (λ k. nat_le k c.most_run || 16 * n == 0xf0) q ∙ ap (λ k. k || 16 * n == 0xf0) a)
+module _ (c : Coding) (p : ℤ) (u : UnitLeft) (us : List UnitLeft) (fits : IsCoding c) where
+  -- the symbol of an element that is allowed there is a symbol there
+  pub right_symbol : (e : Element) (here : List ℤ) (left : List UnitLeft) → WantsCode c u → Tells c p e u us here left → is_symbol c u.has_dc (symbol_of e) ≡ true
+  right_symbol (difference d) here left due t = ap (λ b. is_symbol c b (category d)) t.2 ∙ (let h = t.4 in grind (arith, nat_tests))
+  right_symbol (dc_bit b) here left due t = absurd (due (t.2, t.3))
+  right_symbol (value run v bits) here left due t =
+      let low = t.3 in
+      let high = t.4 in
+      let most = fits.0 in
+      let m : (16 * run + category v) % 16 ≡ category v = omega arith in
+      let a : nat_le (category v) c.most_category ≡ true = grind (arith, nat_tests) in
+      let b : nat_lt 0 (category v) ≡ true = grind (arith, nat_tests) in
+      ap (λ b. is_symbol c b (16 * run + category v)) t.2 ∙ ap (λ n. nat_le n c.most_category && (nat_lt 0 n || nat_le ((16 * run + category v) / 16) c.most_run || (16 * run + category v) == 0xf0)) m
+      ∙ ap (λ k. k && (nat_lt 0 (category v) || nat_le ((16 * run + category v) / 16) c.most_run || (16 * run + category v) == 0xf0)) a ∙ ap (λ k. k || nat_le ((16 * run + category v) / 16) c.most_run || (16 * run + category v) == 0xf0) b
+  right_symbol (long_run bits) here left due t =
+      ap (λ b. is_symbol c b 0xf0) t.2 ∙ (let z : nat_le 0 c.most_category ≡ true = grind (arith, nat_tests) in ap (λ k. k && (nat_le 15 c.most_run || true)) z ∙ or_true (nat_le 15 c.most_run))
+  right_symbol (ends bands bits) here left due t =
+      ap (λ b. is_symbol c b (16 * (digits bands - 1))) t.0 ∙ (let n = digits bands - 1 in
+      let high = t.2 in
+      let m : (16 * n) % 16 ≡ 0 = omega arith in
+      let q : (16 * n) / 16 ≡ n = omega arith in
+      let z : nat_le 0 c.most_category ≡ true = grind (arith, nat_tests) in
+      let a : nat_le n c.most_run ≡ true = grind (arith, nat_tests) in
+      ap (λ k. nat_le k c.most_category && (nat_lt 0 k || nat_le (16 * n / 16) c.most_run || 16 * n == 0xf0)) m
+      ∙ ap (λ k. k && (nat_le (16 * n / 16) c.most_run || 16 * n == 0xf0)) z
+      ∙ ap (λ k. nat_le k c.most_run || 16 * n == 0xf0) q ∙ ap (λ k. k || 16 * n == 0xf0) a)
 
-pub first_code_once : (codes : List Code) → OneWay codes → (code code' : List Bool) (s s' : ℕ) (b y z front : List Bool) → Contains codes (code, s) → Contains codes (code', s') → front ≡ code' ++ b → code ++ z ≡ front ++ y
-    → (code ≡ code') × (s ≡ s')
-first_code_once codes one code code' s s' b y z front h k e same =
-    let q = one (code, s) (code', s') z (b ++ y) h k (same ∙ ap (λ f. f ++ y) e ∙ append_assoc code' b y) in
-    (pair_0 code code' s s' q, pair_1 code code' s s' q)
+  pub bad_run : (e : Element) (here : List ℤ) (left : List UnitLeft) (run size : ℕ) → Tells c p e u us here left → u.has_dc ≡ false → 1 ≤ size → size ≤ c.most_category → zeros_in u.old ≤ run → 16 * run + size ≡ symbol_of e → ⊥
+  bad_run (difference d) here left run size t dc low high few same = clash u.has_dc t.2 dc
+  bad_run (dc_bit b) here left run size t dc low high few same = clash u.has_dc t.2 dc
+  bad_run (value r v bits) here left run size t dc low high few same =
+      let l = t.3 in
+      let h = t.4 in
+      let most = fits.0 in
+      let er : run ≡ r = omega arith in
+      let z : zeros_in u.old ≡ zeros_in t.0 + 1 + zeros_in t.1 = ap zeros_in t.6 ∙ zeros-append t.0 t.1 in
+      let n : zeros_in t.0 ≡ r = t.7 in
+      omega (arith, z, n, few, er)
+  bad_run (long_run bits) here left run size t dc low high few same = let most = fits.0 in omega arith
+  bad_run (ends bands bits) here left run size t dc low high few same = let most = fits.0 in omega arith
 
-pub bad_run : (c : Coding) (p : ℤ) (e : Element) (u : UnitLeft) (us : List UnitLeft) (here : List ℤ) (left : List UnitLeft) (run size : ℕ)
-    → IsCoding c → Tells c p e u us here left → u.has_dc ≡ false → 1 ≤ size → size ≤ c.most_category → zeros_in u.old ≤ run → 16 * run + size ≡ symbol_of e → ⊥
-bad_run c p (difference d) u us here left run size ic t dc low high few same = clash u.has_dc t.2 dc
-bad_run c p (dc_bit b) u us here left run size ic t dc low high few same = clash u.has_dc t.2 dc
-bad_run c p (value r v bits) u us here left run size ic t dc low high few same =
-    let l = t.3 in
-    let h = t.4 in
-    let most = ic.0 in
-    let er : run ≡ r = omega arith in
-    let z : zeros_in u.old ≡ zeros_in t.0 + 1 + zeros_in t.1 = ap zeros_in t.6 ∙ zeros-append t.0 t.1 in
-    let n : zeros_in t.0 ≡ r = t.7 in
-    omega (arith, z, n, few, er)
-bad_run c p (long_run bits) u us here left run size ic t dc low high few same = let most = ic.0 in omega arith
-bad_run c p (ends bands bits) u us here left run size ic t dc low high few same = let most = ic.0 in omega arith
-
-pub past_end : (c : Coding) (p : ℤ) (e : Element) (u : UnitLeft) (us : List UnitLeft) (here : List ℤ) (left : List UnitLeft) (n m : ℕ) (x b y z : List Bool)
-    → NumberFacts → IsCoding c → Tells c p e u us here left → u.has_dc ≡ false → n ≤ c.most_run → m < 2 ^ n → 1 + length us < 2 ^ n + m → 16 * n ≡ symbol_of e
-    → bits_of n m ++ z ≡ bits_after e ++ y → ⊥
-past_end c p (difference d) u us here left n m x b y z facts ic t dc most fits past same e = clash u.has_dc t.2 dc
-past_end c p (dc_bit b1) u us here left n m x b y z facts ic t dc most fits past same e = clash u.has_dc t.2 dc
-past_end c p (value r v bits) u us here left n m x b y z facts ic t dc most fits past same e =
-    let l = t.3 in
-    let h = t.4 in
-    let cap = ic.0 in
-    omega arith
-past_end c p (long_run bits) u us here left n m x b y z facts ic t dc most fits past same e = let cap = ic.1 in omega (arith, cap, most, same)
-past_end c p (ends bands bits) u us here left n m x b y z facts ic t dc most fits past same e =
-    let en : n ≡ digits bands - 1 = omega arith in
-    let i = append_inj (bits_of n m) (bits_of (digits bands - 1) bands) z (bits ++ y) (facts.bits n m ∙ en ∙ sym (facts.bits (digits bands - 1) bands)) (e ∙ append_assoc (bits_of (digits bands - 1) bands) bits y) in
-    let fits' : m < 2 ^ (digits bands - 1) = subst (λ k. m < 2 ^ k) en fits in
-    let past' : 1 + length us < 2 ^ (digits bands - 1) + m = subst (λ k. 1 + length us < 2 ^ k + m) en past in
-    let is = facts.run bands m t.1 fits' (sym (ap (λ k. bits_of k m) en) ∙ i.0) in
-    let few = t.3 in
-    omega (arith, is, few, past')
+  pub past_end : (e : Element) (here : List ℤ) (left : List UnitLeft) (n m : ℕ) (y z : List Bool) → NumberFacts → Tells c p e u us here left → u.has_dc ≡ false → n ≤ c.most_run → m < 2 ^ n → 1 + length us < 2 ^ n + m
+      → 16 * n ≡ symbol_of e → bits_of n m ++ z ≡ bits_after e ++ y → ⊥
+  past_end (difference d) here left n m y z facts t dc most few past same e = clash u.has_dc t.2 dc
+  past_end (dc_bit b) here left n m y z facts t dc most few past same e = clash u.has_dc t.2 dc
+  past_end (value r v bits) here left n m y z facts t dc most few past same e =
+      let l = t.3 in
+      let h = t.4 in
+      let cap = fits.0 in
+      omega arith
+  past_end (long_run bits) here left n m y z facts t dc most few past same e = let cap = fits.1 in omega (arith, cap, most, same)
+  past_end (ends bands bits) here left n m y z facts t dc most few past same e =
+      let k = digits bands - 1 in
+      let en : n ≡ k = omega arith in
+      let i = append_inj (bits_of n m) (bits_of k bands) z (bits ++ y) (facts.bits n m ∙ en ∙ sym (facts.bits k bands)) (e ∙ append_assoc (bits_of k bands) bits y) in
+      let few' : m < 2 ^ k = subst (λ j. m < 2 ^ j) en few in
+      let past' : 1 + length us < 2 ^ k + m = subst (λ j. 1 + length us < 2 ^ j + m) en past in
+      let is = facts.run bands m t.1 few' (sym (ap (λ j. bits_of j m) en) ∙ i.0) in
+      let all = t.3 in
+      omega (arith, is, all, past')
 
 -- THE LAW
-pub shows_excludes : (c : Coding) (s : Standing) (u : UnitLeft) (us : List UnitLeft) (fault : Fault) (e : Element) (here : List ℤ) (left : List UnitLeft) (bits front y z : List Bool)
-    → NumberFacts → IsCoding c → OneWay (codes_due c u) → ((u.has_dc ≡ true) × (c.refines ≡ true) → ⊥)
-    → BitsShow c s u us fault bits → SpellsElement (codes_due c u) e front → Tells c (s.predictions u.component) e u us here left → are_in_bounds c.bounds u.has_dc here ≡ true
-    → bits ++ z ≡ front ++ y → ⊥
-shows_excludes c s u us fault e here left bits front y z facts ic one due (inl k) sp t ok same =
-    no_code (codes_due c u) (symbol_of e) (bits_after e) front bits y z k.1 (codes_are_due c (s.predictions u.component) e u us here left (codes_due c u) front t due sp) same
-shows_excludes c s u us fault e here left bits front y z facts ic one due (inr (inl k)) sp t ok same =
-    let d = codes_are_due c (s.predictions u.component) e u us here left (codes_due c u) front t due sp in
-    let f = first_code_once (codes_due c u) one bits d.0 k.1.0 (symbol_of e) (bits_after e) y z front k.1.1 d.1 d.2 same in
-    clash (is_symbol c u.has_dc k.1.0) (ap (λ n. is_symbol c u.has_dc n) f.1 ∙ right_symbol c (s.predictions u.component) e u us here left ic due t) k.1.2
-shows_excludes c s u us fault e here left bits front y z facts ic one due (inr (inr (inl k))) sp t ok same =
-    let d = codes_are_due c (s.predictions u.component) e u us here left (codes_due c u) front t due sp in
-    let q = k.1 in
-    let f = first_code_once (codes_due c u) one bits d.0 (16 * q.0 + q.1) (symbol_of e) (bits_after e) y z front q.2 d.1 d.2 same in
-    bad_run c (s.predictions u.component) e u us here left q.0 q.1 ic t q.3 q.4 q.5 q.6 f.1
-shows_excludes c s u us fault e here left bits front y z facts ic one due (inr (inr (inr (inl k)))) sp t ok same =
-    let q = k.1 in
-    let ee = element_once c (s.predictions u.component) u us q.0 e q.1 here q.2 left bits front z y facts ic one q.3 q.4 sp t same in
-    let a = told_is c (s.predictions u.component) q.0 u us q.1 q.2 q.4 in
-    let a' = told_is c (s.predictions u.component) e u us here left t in
-    let eh : q.1 ≡ here = a.0 ∙ ap (λ d. values_told c (s.predictions u.component) d u us) ee ∙ sym a'.0 in
-    clash (are_in_bounds c.bounds u.has_dc here) ok (ap (λ v. are_in_bounds c.bounds u.has_dc v) (sym eh) ∙ q.5)
-shows_excludes c s u us fault e here left bits front y z facts ic one due (inr (inr (inr (inr k)))) sp t ok same =
-    let q = k.1 in
-    let d = codes_are_due c (s.predictions u.component) e u us here left (codes_due c u) front t due sp in
-    let r = symbol_once (codes_due c u) one q.2 d.0 (16 * q.0) (symbol_of e) (bits_of q.0 q.1) (bits_after e) z y bits front q.3 d.1 q.6 d.2 same in
-    past_end c (s.predictions u.component) e u us here left q.0 q.1 [] [] y z facts ic t q.4 q.5 q.7 q.8 r.0 r.1
+module _ (c : Coding) (s : Standing) (u : UnitLeft) (us : List UnitLeft) (law : Decodes c) (due : WantsCode c u) where
+  pub shows_excludes : (fault : Fault) (e : Element) (bits more : List Bool) → BitsShow c s u us fault bits
+      → (a : BeginsElement c (s.predictions u.component) u us e (bits ++ more)) → (fault ≡ CoefRange → are_in_bounds c.bounds u.has_dc a.here ≡ true) → ⊥
+  shows_excludes fault e bits more (inl k) a ok = no_code bits more k.1 refl (element_code due a)
+  shows_excludes fault e bits more (inr (inl k)) a ok =
+      let word : BeginsSymbol (codes_due c u) k.1.0 more (bits ++ more) = record { code = bits; is_code = k.1.1; cut = refl } in
+      let same = (symbol_once (law.one u) word (element_code due a)).0 in
+      clash (is_symbol c u.has_dc k.1.0) (ap (λ n. is_symbol c u.has_dc n) same ∙ right_symbol c (s.predictions u.component) u us law.fits e a.here a.left due a.tells) k.1.2
+  shows_excludes fault e bits more (inr (inr (inl k))) a ok =
+      let q = k.1 in
+      let word : BeginsSymbol (codes_due c u) (16 * q.0 + q.1) more (bits ++ more) = record { code = bits; is_code = q.2; cut = refl } in
+      bad_run c (s.predictions u.component) u us law.fits e a.here a.left q.0 q.1 a.tells q.3 q.4 q.5 q.6 (symbol_once (law.one u) word (element_code due a)).0
+  shows_excludes fault e bits more (inr (inr (inr (inl k)))) a ok =
+      let q = k.1 in
+      let b : BeginsElement c (s.predictions u.component) u us q.0 (bits ++ more) = record { here = q.1; left = q.2; front = bits; rest = more; cut = refl; spelled = q.3; tells = q.4 } in
+      let same = same_element c (s.predictions u.component) u us law q.0 e (bits ++ more) b a in
+      clash (are_in_bounds c.bounds u.has_dc a.here) (ok k.0) (ap (λ v. are_in_bounds c.bounds u.has_dc v) (sym same.here) ∙ q.5)
+  shows_excludes fault e bits more (inr (inr (inr (inr k)))) a ok =
+      let q = k.1 in
+      let word = begins_code (codes_due c u) (16 * q.0) (bits_of q.0 q.1) bits more (bits ++ more) (q.2, q.3, q.6) refl in
+      let r = symbol_once (law.one u) word (element_code due a) in
+      past_end c (s.predictions u.component) u us law.fits e a.here a.left q.0 q.1 a.rest more law.facts a.tells q.4 q.5 q.7 q.8 r.0 r.1
+
+-- the elements before the fault
+abbrev pub at_fault : {c : Coding} {units : List UnitLeft} {fault : Fault} {bits : List Bool} (d : DataReveals c units fault bits) → BeginsElements c (at_start units) d.elements bits
+at_fault d = record { told = d.told; front = d.front; rest = d.here ++ d.rest; standing = d.standing; cut = d.cut ∙ append_assoc d.front d.here d.rest; covers = d.covers }
+
+-- no complete element follows them
+pub no_element_there : {c : Coding} {units : List UnitLeft} {fault : Fault} {bits : List Bool} (d : DataReveals c units fault bits) (more : List Bool) (e : Element) (es : List Element) → Decodes c
+    → BeginsElements c d.standing (e ∷ es) (d.here ++ more) → ⊥
+no_element_there {c = c} {fault = fault} d more e es law a =
+    let f = first_element d.unit d.others d.left a in
+    shows_excludes c d.standing d.unit d.others law d.codes fault e d.here more d.shows f.element (λ z. f.in_bounds)
 
 -- THE LAW: data that have a fault have no complete interval, and no more than their complete elements
-pub data_excludes : (c : Coding) (units : List UnitLeft) (fault : Fault) (bits bits' more more' : List Bool) (told : List ℤ)
-    → NumberFacts → IsCoding c → ((u : UnitLeft) → OneWay (codes_due c u))
-    → DataReveals c units fault bits → SpellsUnits c units told bits' → bits ++ more ≡ bits' ++ more' → ⊥
-data_excludes c units fault bits bits' more more' told facts ic one d w same =
-    let e : d.front ++ (d.here ++ d.rest ++ more) ≡ bits' ++ more' = regroup d.front d.here d.rest more ∙ ap (λ f. f ++ more) (sym d.cut) ∙ same in
-    ⊎_elim
-    (λ (g : GoesOn c d.elements w.0 d.told told d.front bits' d.standing w.1). longer g.elements g.values g.spelling w.1 w.3 g.covers
-    (d.rest ++ more) more' (append_cancel_left d.front (d.here ++ (d.rest ++ more)) (g.spelling ++ more') (ap (λ f. d.front ++ f) (sym (append_assoc d.here d.rest more)) ∙ e ∙ ap (λ f. f ++ more') g.joined.2 ∙ append_assoc d.front g.spelling more')))
-    (λ (g : GoesOn c w.0 d.elements told d.told bits' d.front w.1 d.standing). shorter g.elements g.values g.spelling w.1 w.3 g.covers)
-    (fronts_once c (at_start units) d.elements w.0 d.told told d.front bits' (d.here ++ d.rest ++ more) more' d.standing w.1 facts ic one d.covers w.2 e)
+pub data_excludes : (c : Coding) (units : List UnitLeft) (fault : Fault) (bits cits more more' : List Bool) (told : List ℤ) → Decodes c → DataReveals c units fault bits → SpellsUnits c units told cits
+    → bits ++ more ≡ cits ++ more' → ⊥
+data_excludes c units fault bits cits more more' told law d w same =
+    by (elements_once c (at_start units) d.elements w.0 (bits ++ more) law a b)
   where
-    regroup : (a b r m : List Bool) → a ++ (b ++ r ++ m) ≡ (a ++ b ++ r) ++ m
-    regroup a b r m = simp append_assoc
+    a : BeginsElements c (at_start units) d.elements (bits ++ more)
+    a = record {
+      told = d.told;
+      front = d.front;
+      rest = d.here ++ (d.rest ++ more);
+      standing = d.standing;
+      cut = ap (λ f. f ++ more) d.cut ∙ append_assoc (d.front ++ d.here) d.rest more ∙ append_assoc d.front d.here (d.rest ++ more);
+      covers = d.covers;
+    }
 
-    longer : (es : List Element) (values : List ℤ) (spelling : List Bool) (t : Standing) → t.left ≡ [] → Covers c d.standing es values spelling t → (r y' : List Bool) → d.here ++ r ≡ spelling ++ y' → ⊥
-    longer [] values spelling t nil k r y' s = no_units d.unit d.others (sym d.left ∙ ap (λ (z : Standing). z.left) (sym k.2) ∙ nil)
-    longer (e ∷ es) values spelling t nil k r y' s =
-        let h = head_inj d.unit k.0 d.others k.1 (sym d.left ∙ k.7) in
-        let Q : UnitLeft → List UnitLeft → Type 0 = λ v vs. SpellsElement (codes_due c v) e k.5 × Tells c (d.standing.predictions v.component) e v vs k.2 k.3 × (are_in_bounds c.bounds v.has_dc k.2 ≡ true) in
-        let q0 : Q k.0 k.1 = (k.10, k.11, k.12) in
-        let q1 : Q d.unit k.1 = subst (λ v. Q v k.1) (sym h.0) q0 in
-        let q : Q d.unit d.others = subst (λ vs. Q d.unit vs) (sym h.1) q1 in
-        shows_excludes c d.standing d.unit d.others fault e k.2 k.3 d.here k.5 (k.6 ++ y') r facts ic (one d.unit) d.codes d.shows q.0 q.1 q.2
-        (s ∙ ap (λ f. f ++ y') k.9 ∙ append_assoc k.5 k.6 y')
+    b : BeginsElements c (at_start units) w.0 (bits ++ more)
+    b = record { told = told; front = cits; rest = more'; standing = w.1; cut = same; covers = w.2 }
 
-    shorter : (es : List Element) (values : List ℤ) (spelling : List Bool) (t : Standing) → t.left ≡ [] → Covers c t es values spelling d.standing → ⊥
-    shorter [] values spelling t nil k = no_units d.unit d.others (sym d.left ∙ ap (λ (z : Standing). z.left) k.2 ∙ nil)
-    shorter (e ∷ es) values spelling t nil k = no_units k.0 k.1 (sym k.7 ∙ nil)
+    longer : (es : List Element) (values : List ℤ) (spelling : List Bool) → Covers c d.standing es values spelling w.1 → d.here ++ (d.rest ++ more) ≡ spelling ++ more' → ⊥
+    longer [] values spelling k cut = no_units d.unit d.others (sym d.left ∙ ap (λ (z : Standing). z.left) (sym k.2) ∙ w.3)
+    longer (e ∷ es) values spelling k cut = no_element_there d (d.rest ++ more) e es law (record { told = values; front = spelling; rest = more'; standing = w.1; cut = cut; covers = k })
+
+    shorter : (es : List Element) (values : List ℤ) (spelling : List Bool) → Covers c w.1 es values spelling d.standing → ⊥
+    shorter [] values spelling k = no_units d.unit d.others (sym d.left ∙ ap (λ (z : Standing). z.left) k.2 ∙ w.3)
+    shorter (e ∷ es) values spelling k = no_units k.0 k.1 (sym k.7 ∙ w.3)
+
+    by : Continues a b ⊎ Continues b a → ⊥
+    by (inl g) = longer g.elements g.values g.spelling g.covers g.behind
+    by (inr g) = shorter g.elements g.values g.spelling g.covers

@@ -1,18 +1,17 @@
 -- Data have at most one fault.
-use Rattle.std.proofs.Common.{◌≡◌, ℕ, ◌+◌, ◌*◌, ◌/◌, ◌%◌, ◌^◌, ◌<◌, ◌≤◌, Bool, true, false, ◌==◌, ◌&&◌, List, [], ◌∷◌, ◌++◌, length, sym, ap, ◌∙◌, subst, arith, inl, inr, ⊎_elim, ℤ}
-use Rattle.std.specs.Prelude.{◌||◌, nat_le, nat_lt}
-use Rattle.std.specs.List.{Contains}
+use Rattle.std.proofs.Common.{◌≡◌, ℕ, ◌+◌, ◌*◌, ◌/◌, ◌%◌, ◌^◌, ◌<◌, ◌≤◌, Bool, true, false, ◌==◌, ◌&&◌, List, [], ◌∷◌, ◌++◌, length, refl, sym, ap, ◌∙◌, subst, arith, inl, inr, ⊎_elim, ℤ}
+use Rattle.std.specs.Prelude.{◌⊎◌, ◌||◌, nat_le, nat_lt}
 use Rattle.std.proofs.lemmas.Bool.Decides.{nat_tests}
-use Rattle.std.proofs.lemmas.List.{append_assoc, append-nil, append_cancel_left}
 use Rattle.jpg_spec.specs.Bits.{bits_of}
-use Rattle.jpg_spec.specs.Elements.{Coding, UnitLeft, Standing, Element, Covers, Tells, SpellsElement, codes_due, at_start, zeros_in, symbol_of, bits_after, are_in_bounds}
+use Rattle.jpg_spec.specs.Elements.{Coding, UnitLeft, Standing, Element, Covers, codes_due, at_start, zeros_in}
 use Rattle.jpg_spec.specs.ScanFaults.{BeginsNone, BitsShow, DataReveals, is_symbol}
 use Rattle.jpg_spec.specs.Sound.{IsSound}
 use Rattle.jpg_spec.specs.declared.fault.Fault.{Fault}
-use Rattle.jpg_spec.proofs.Facts.{facts}
-use Rattle.jpg_spec.proofs.Once.{IsCoding, OneWay, GoesOn, fronts_once, head_inj, symbol_once}
-use Rattle.jpg_spec.proofs.Excludes.{codes_are_due, no_code, right_symbol, bad_run, past_end, shows_excludes}
-use Rattle.jpg_spec.proofs.PartStands.{coding_is, codes_one, eob_symbol}
+use Rattle.jpg_spec.specs.declared.fault.Fault.TheVariants.{NoCode, BadSymbol, BadRun, CoefRange, RunPastEnd}
+use Rattle.jpg_spec.proofs.Once.{IsCoding, Decodes, WantsCode, BeginsSymbol, BeginsElement, Continues, begins_code, element_code, elements_once, head_inj, symbol_once}
+use Rattle.jpg_spec.proofs.Excludes.{at_fault, no_code, no_element_there, right_symbol, bad_run, past_end}
+use Rattle.jpg_spec.proofs.PartStands.{eob_symbol}
+use Rattle.jpg_spec.proofs.Sound.{decodes}
 use Rattle.jpg_spec.proofs.Common.{clash}
 
 -- the symbol of a value after a run is allowed in a band
@@ -25,121 +24,99 @@ run_symbol c run size ic low high =
     ap (λ n. nat_le n c.most_category && (nat_lt 0 n || nat_le ((16 * run + size) / 16) c.most_run || (16 * run + size) == 0xf0)) m
     ∙ ap (λ k. k && (nat_lt 0 size || nat_le ((16 * run + size) / 16) c.most_run || (16 * run + size) == 0xf0)) a ∙ ap (λ k. k || nat_le ((16 * run + size) / 16) c.most_run || (16 * run + size) == 0xf0) b
 
--- What has another fault than NoCode begins with a code.
-abbrev pub BeginsWithCode : Coding → UnitLeft → List Bool → Type 0
-BeginsWithCode c u bits = (symbol : ℕ) × (behind : List Bool) × ((code : List Bool) × Contains (codes_due c u) (code, symbol) × (bits ≡ code ++ behind))
-
-module _ (c : Coding) (s : Standing) (u : UnitLeft) (us : List UnitLeft) (ic : IsCoding c) (one : OneWay (codes_due c u)) (due : (u.has_dc ≡ true) × (c.refines ≡ true) → ⊥) where
+module _ (c : Coding) (s : Standing) (u : UnitLeft) (us : List UnitLeft) (law : Decodes c) (due : WantsCode c u) where
   abbrev p : ℤ
   p = s.predictions u.component
 
-  abbrev with_symbol : (bits : List Bool) (symbol : ℕ) → Contains (codes_due c u) (bits, symbol) → BeginsWithCode c u bits
-  with_symbol bits symbol h = (symbol, [], (bits, h, sym (append-nil bits)))
+  -- what BitsShow says, of bits and more: each fault but NoCode begins with a code
+  abbrev Shown : Fault → List Bool → Type 0
+  Shown fault stream =
+      ((fault ≡ NoCode) × ((bits : List Bool) × (more : List Bool) × BeginsNone (codes_due c u) bits × (stream ≡ bits ++ more)))
+      ⊎ (((fault ≡ BadSymbol) × ((symbol : ℕ) × (more : List Bool) × BeginsSymbol (codes_due c u) symbol more stream × (is_symbol c u.has_dc symbol ≡ false)))
+      ⊎ (((fault ≡ BadRun) × ((run : ℕ) × (size : ℕ) × (more : List Bool) × BeginsSymbol (codes_due c u) (16 * run + size) more stream
+      × (u.has_dc ≡ false) × (1 ≤ size) × (size ≤ c.most_category) × (zeros_in u.old ≤ run)))
+      ⊎ (((fault ≡ CoefRange) × ((e : Element) × BeginsElement c p u us e stream))
+      ⊎ ((fault ≡ RunPastEnd) × ((n : ℕ) × (x : ℕ) × (more : List Bool) × BeginsSymbol (codes_due c u) (16 * n) (bits_of n x ++ more) stream
+      × (u.has_dc ≡ false) × (n ≤ c.most_run) × (x < 2 ^ n) × (1 + length us < 2 ^ n + x))))))
 
-  abbrev with_element : (bits : List Bool) (e : Element) (here : List ℤ) (left : List UnitLeft) → SpellsElement (codes_due c u) e bits → Tells c p e u us here left → BeginsWithCode c u bits
-  with_element bits e here left sp t = (symbol_of e, bits_after e, codes_are_due c p e u us here left (codes_due c u) bits t due sp)
+  shown_at : (fault : Fault) (bits more stream : List Bool) → stream ≡ bits ++ more → BitsShow c s u us fault bits → Shown fault stream
+  shown_at fault bits more stream e (inl k) = inl (k.0, (bits, more, k.1, e))
+  shown_at fault bits more stream e (inr (inl k)) = let q = k.1 in inr (inl (k.0, (q.0, more, record { code = bits; is_code = q.1; cut = e }, q.2)))
+  shown_at fault bits more stream e (inr (inr (inl k))) = let q = k.1 in inr (inr (inl (k.0, (q.0, q.1, more, record { code = bits; is_code = q.2; cut = e }, q.3, q.4, q.5, q.6))))
+  shown_at fault bits more stream e (inr (inr (inr (inl k)))) =
+      let q = k.1 in inr (inr (inr (inl (k.0, (q.0, record { here = q.1; left = q.2; front = bits; rest = more; cut = e; spelled = q.3; tells = q.4 })))))
+  shown_at fault bits more stream e (inr (inr (inr (inr k)))) =
+      let q = k.1 in inr (inr (inr (inr (k.0, (q.0, q.1, more, begins_code (codes_due c u) (16 * q.0) (bits_of q.0 q.1) bits more stream (q.2, q.3, q.6) e, q.4, q.5, q.7, q.8)))))
 
-  -- two that begin alike have one code
-  codes_same : (a b x y : List Bool) → (k : BeginsWithCode c u a) (l : BeginsWithCode c u b) → a ++ x ≡ b ++ y → (k.0 ≡ l.0) × (k.1 ++ x ≡ l.1 ++ y)
-  codes_same a b x y k l e = symbol_once (codes_due c u) one k.2.0 l.2.0 k.0 l.0 k.1 l.1 x y a b k.2.1 l.2.1 k.2.2 l.2.2 e
+  -- the combinations of two
+  same_symbol : {symbol other : ℕ} {x y stream : List Bool} → BeginsSymbol (codes_due c u) symbol x stream → BeginsSymbol (codes_due c u) other y stream → symbol ≡ other
+  same_symbol k l = (symbol_once (law.one u) k l).0
 
-  code_of_none : (a b x y : List Bool) → BeginsNone (codes_due c u) a → BeginsWithCode c u b → a ++ x ≡ b ++ y → ⊥
-  code_of_none a b x y none l e = no_code (codes_due c u) l.0 l.1 b a y x none l.2 e
+  none_code : {symbol : ℕ} {x stream : List Bool} (bits more : List Bool) → BeginsNone (codes_due c u) bits × (stream ≡ bits ++ more) → BeginsSymbol (codes_due c u) symbol x stream → ⊥
+  none_code bits more none k = no_code bits more none.0 none.1 k
 
-  -- each combination of two
-  symbol_run : (a b x y : List Bool) (fault : Fault) (symbol run size : ℕ) → Contains (codes_due c u) (a, symbol) → is_symbol c u.has_dc symbol ≡ false → Contains (codes_due c u) (b, 16 * run + size) → u.has_dc ≡ false → 1 ≤ size → size ≤ c.most_category
-      → a ++ x ≡ b ++ y → ⊥
-  symbol_run a b x y fault symbol run size h bad k dc low high e =
-      let r = codes_same a b x y (with_symbol a symbol h) (with_symbol b (16 * run + size) k) e in
-      clash (is_symbol c u.has_dc symbol) (ap (λ n. is_symbol c u.has_dc n) r.0 ∙ ap (λ d. is_symbol c d (16 * run + size)) dc ∙ run_symbol c run size ic low high) bad
+  symbol_run : (run size : ℕ) {symbol : ℕ} {x y stream : List Bool} → BeginsSymbol (codes_due c u) symbol x stream → is_symbol c u.has_dc symbol ≡ false → BeginsSymbol (codes_due c u) (16 * run + size) y stream → u.has_dc ≡ false → 1 ≤ size
+      → size ≤ c.most_category → ⊥
+  symbol_run run size {symbol = symbol} k bad l dc low high =
+      clash (is_symbol c u.has_dc symbol) (ap (λ n. is_symbol c u.has_dc n) (same_symbol k l) ∙ ap (λ d. is_symbol c d (16 * run + size)) dc ∙ run_symbol c run size law.fits low high) bad
 
-  symbol_element : (a b x y : List Bool) (symbol : ℕ) (e : Element) (here : List ℤ) (left : List UnitLeft) → Contains (codes_due c u) (a, symbol) → is_symbol c u.has_dc symbol ≡ false
-      → SpellsElement (codes_due c u) e b → Tells c p e u us here left → a ++ x ≡ b ++ y → ⊥
-  symbol_element a b x y symbol e here left h bad sp t same =
-      let r = codes_same a b x y (with_symbol a symbol h) (with_element b e here left sp t) same in
-      clash (is_symbol c u.has_dc symbol) (ap (λ n. is_symbol c u.has_dc n) r.0 ∙ right_symbol c p e u us here left ic due t) bad
+  symbol_element : {symbol : ℕ} {x stream : List Bool} (e : Element) → BeginsSymbol (codes_due c u) symbol x stream → is_symbol c u.has_dc symbol ≡ false → BeginsElement c p u us e stream → ⊥
+  symbol_element {symbol = symbol} e k bad a =
+      clash (is_symbol c u.has_dc symbol) (ap (λ n. is_symbol c u.has_dc n) (same_symbol k (element_code due a)) ∙ right_symbol c p u us law.fits e a.here a.left due a.tells) bad
 
-  symbol_eob : (a b x y : List Bool) (symbol n z : ℕ) (word : List Bool) → Contains (codes_due c u) (a, symbol) → is_symbol c u.has_dc symbol ≡ false
-      → Contains (codes_due c u) (word, 16 * n) → u.has_dc ≡ false → n ≤ c.most_run → b ≡ word ++ bits_of n z → a ++ x ≡ b ++ y → ⊥
-  symbol_eob a b x y symbol n z word h bad k dc most cut same =
-      let r = codes_same a b x y (with_symbol a symbol h) (16 * n, bits_of n z, (word, k, cut)) same in
-      clash (is_symbol c u.has_dc symbol) (ap (λ n. is_symbol c u.has_dc n) r.0 ∙ ap (λ d. is_symbol c d (16 * n)) dc ∙ eob_symbol c n most) bad
+  symbol_eob : {symbol n : ℕ} {x y stream : List Bool} → BeginsSymbol (codes_due c u) symbol x stream → is_symbol c u.has_dc symbol ≡ false → BeginsSymbol (codes_due c u) (16 * n) y stream → u.has_dc ≡ false → n ≤ c.most_run → ⊥
+  symbol_eob {symbol = symbol} {n = n} k bad l dc most =
+      clash (is_symbol c u.has_dc symbol) (ap (λ n. is_symbol c u.has_dc n) (same_symbol k l) ∙ ap (λ d. is_symbol c d (16 * n)) dc ∙ eob_symbol c n most) bad
 
-  run_element : (a b x y : List Bool) (run size : ℕ) (e : Element) (here : List ℤ) (left : List UnitLeft) → Contains (codes_due c u) (a, 16 * run + size) → u.has_dc ≡ false → 1 ≤ size → size ≤ c.most_category → zeros_in u.old ≤ run
-      → SpellsElement (codes_due c u) e b → Tells c p e u us here left → a ++ x ≡ b ++ y → ⊥
-  run_element a b x y run size e here left h dc low high few sp t same =
-      let r = codes_same a b x y (with_symbol a (16 * run + size) h) (with_element b e here left sp t) same in
-      bad_run c p e u us here left run size ic t dc low high few r.0
+  run_element : {run size : ℕ} {x stream : List Bool} (e : Element) → BeginsSymbol (codes_due c u) (16 * run + size) x stream → u.has_dc ≡ false → 1 ≤ size → size ≤ c.most_category → zeros_in u.old ≤ run
+      → BeginsElement c p u us e stream → ⊥
+  run_element {run = run} {size = size} e k dc low high few a = bad_run c p u us law.fits e a.here a.left run size a.tells dc low high few (same_symbol k (element_code due a))
 
-  run_eob : (a b x y : List Bool) (run size n z : ℕ) (word : List Bool) → Contains (codes_due c u) (a, 16 * run + size) → 1 ≤ size → size ≤ c.most_category
-      → Contains (codes_due c u) (word, 16 * n) → b ≡ word ++ bits_of n z → a ++ x ≡ b ++ y → ⊥
-  run_eob a b x y run size n z word h low high k cut same =
-      let r = codes_same a b x y (with_symbol a (16 * run + size) h) (16 * n, bits_of n z, (word, k, cut)) same in
-      let most = ic.0 in
-      let e = r.0 in
-      omega (arith, e, low, high, most)
+  run_eob : (run size n : ℕ) {x y stream : List Bool} → BeginsSymbol (codes_due c u) (16 * run + size) x stream → 1 ≤ size → size ≤ c.most_category → BeginsSymbol (codes_due c u) (16 * n) y stream → ⊥
+  run_eob run size n k low high l = let most = (law.fits).0 in omega (arith, same_symbol k l, low, high, most)
 
-  eob_element : (a b x y : List Bool) (n z : ℕ) (word : List Bool) (e : Element) (here : List ℤ) (left : List UnitLeft) → Contains (codes_due c u) (word, 16 * n) → u.has_dc ≡ false → n ≤ c.most_run → a ≡ word ++ bits_of n z → z < 2 ^ n → 1 + length us < 2 ^ n + z
-      → SpellsElement (codes_due c u) e b → Tells c p e u us here left → a ++ x ≡ b ++ y → ⊥
-  eob_element a b x y n z word e here left h dc most cut fits past sp t same =
-      let r = codes_same a b x y (16 * n, bits_of n z, (word, h, cut)) (with_element b e here left sp t) same in
-      past_end c p e u us here left n z [] [] y x facts ic t dc most fits past r.0 r.1
+  eob_element : {n x : ℕ} {stream : List Bool} (more : List Bool) (e : Element) → BeginsSymbol (codes_due c u) (16 * n) (bits_of n x ++ more) stream → u.has_dc ≡ false → n ≤ c.most_run → x < 2 ^ n → 1 + length us < 2 ^ n + x
+      → BeginsElement c p u us e stream → ⊥
+  eob_element {n = n} {x = x} more e k dc most few past a =
+      let r = symbol_once (law.one u) k (element_code due a) in
+      past_end c p u us law.fits e a.here a.left n x a.rest more law.facts a.tells dc most few past r.0 r.1
 
   -- THE LAW
-  bits_show_once : (f g : Fault) (a b x y : List Bool) → BitsShow c s u us f a → BitsShow c s u us g b → a ++ x ≡ b ++ y → f ≡ g
-  bits_show_once f g a b x y (inl k) (inl l) e = k.0 ∙ sym l.0
-  bits_show_once f g a b x y (inl k) (inr (inl l)) e = absurd (code_of_none a b x y k.1 (with_symbol b l.1.0 l.1.1) e)
-  bits_show_once f g a b x y (inl k) (inr (inr (inl l))) e = absurd (code_of_none a b x y k.1 (with_symbol b (16 * l.1.0 + l.1.1) l.1.2) e)
-  bits_show_once f g a b x y (inl k) (inr (inr (inr (inl l)))) e = absurd (code_of_none a b x y k.1 (with_element b l.1.0 l.1.1 l.1.2 l.1.3 l.1.4) e)
-  bits_show_once f g a b x y (inl k) (inr (inr (inr (inr l)))) e = absurd (code_of_none a b x y k.1 (16 * l.1.0, bits_of l.1.0 l.1.1, (l.1.2, l.1.3, l.1.6)) e)
-  bits_show_once f g a b x y (inr (inl k)) (inl l) e = absurd (code_of_none b a y x l.1 (with_symbol a k.1.0 k.1.1) (sym e))
-  bits_show_once f g a b x y (inr (inl k)) (inr (inl l)) e = k.0 ∙ sym l.0
-  bits_show_once f g a b x y (inr (inl k)) (inr (inr (inl l))) e = absurd (symbol_run a b x y f k.1.0 l.1.0 l.1.1 k.1.1 k.1.2 l.1.2 l.1.3 l.1.4 l.1.5 e)
-  bits_show_once f g a b x y (inr (inl k)) (inr (inr (inr (inl l)))) e = absurd (symbol_element a b x y k.1.0 l.1.0 l.1.1 l.1.2 k.1.1 k.1.2 l.1.3 l.1.4 e)
-  bits_show_once f g a b x y (inr (inl k)) (inr (inr (inr (inr l)))) e = absurd (symbol_eob a b x y k.1.0 l.1.0 l.1.1 l.1.2 k.1.1 k.1.2 l.1.3 l.1.4 l.1.5 l.1.6 e)
-  bits_show_once f g a b x y (inr (inr (inl k))) (inl l) e = absurd (code_of_none b a y x l.1 (with_symbol a (16 * k.1.0 + k.1.1) k.1.2) (sym e))
-  bits_show_once f g a b x y (inr (inr (inl k))) (inr (inl l)) e = absurd (symbol_run b a y x g l.1.0 k.1.0 k.1.1 l.1.1 l.1.2 k.1.2 k.1.3 k.1.4 k.1.5 (sym e))
-  bits_show_once f g a b x y (inr (inr (inl k))) (inr (inr (inl l))) e = k.0 ∙ sym l.0
-  bits_show_once f g a b x y (inr (inr (inl k))) (inr (inr (inr (inl l)))) e = absurd (run_element a b x y k.1.0 k.1.1 l.1.0 l.1.1 l.1.2 k.1.2 k.1.3 k.1.4 k.1.5 k.1.6 l.1.3 l.1.4 e)
-  bits_show_once f g a b x y (inr (inr (inl k))) (inr (inr (inr (inr l)))) e = absurd (run_eob a b x y k.1.0 k.1.1 l.1.0 l.1.1 l.1.2 k.1.2 k.1.4 k.1.5 l.1.3 l.1.6 e)
-  bits_show_once f g a b x y (inr (inr (inr (inl k)))) (inl l) e = absurd (code_of_none b a y x l.1 (with_element a k.1.0 k.1.1 k.1.2 k.1.3 k.1.4) (sym e))
-  bits_show_once f g a b x y (inr (inr (inr (inl k)))) (inr (inl l)) e = absurd (symbol_element b a y x l.1.0 k.1.0 k.1.1 k.1.2 l.1.1 l.1.2 k.1.3 k.1.4 (sym e))
-  bits_show_once f g a b x y (inr (inr (inr (inl k)))) (inr (inr (inl l))) e = absurd (run_element b a y x l.1.0 l.1.1 k.1.0 k.1.1 k.1.2 l.1.2 l.1.3 l.1.4 l.1.5 l.1.6 k.1.3 k.1.4 (sym e))
-  bits_show_once f g a b x y (inr (inr (inr (inl k)))) (inr (inr (inr (inl l)))) e = k.0 ∙ sym l.0
-  bits_show_once f g a b x y (inr (inr (inr (inl k)))) (inr (inr (inr (inr l)))) e =
-      absurd (eob_element b a y x l.1.0 l.1.1 l.1.2 k.1.0 k.1.1 k.1.2 l.1.3 l.1.4 l.1.5 l.1.6 l.1.7 l.1.8 k.1.3 k.1.4 (sym e))
-  bits_show_once f g a b x y (inr (inr (inr (inr k)))) (inl l) e = absurd (code_of_none b a y x l.1 (16 * k.1.0, bits_of k.1.0 k.1.1, (k.1.2, k.1.3, k.1.6)) (sym e))
-  bits_show_once f g a b x y (inr (inr (inr (inr k)))) (inr (inl l)) e = absurd (symbol_eob b a y x l.1.0 k.1.0 k.1.1 k.1.2 l.1.1 l.1.2 k.1.3 k.1.4 k.1.5 k.1.6 (sym e))
-  bits_show_once f g a b x y (inr (inr (inr (inr k)))) (inr (inr (inl l))) e = absurd (run_eob b a y x l.1.0 l.1.1 k.1.0 k.1.1 k.1.2 l.1.2 l.1.4 l.1.5 k.1.3 k.1.6 (sym e))
-  bits_show_once f g a b x y (inr (inr (inr (inr k)))) (inr (inr (inr (inl l)))) e =
-      absurd (eob_element a b x y k.1.0 k.1.1 k.1.2 l.1.0 l.1.1 l.1.2 k.1.3 k.1.4 k.1.5 k.1.6 k.1.7 k.1.8 l.1.3 l.1.4 e)
-  bits_show_once f g a b x y (inr (inr (inr (inr k)))) (inr (inr (inr (inr l)))) e = k.0 ∙ sym l.0
-
--- complete elements after those before the bits that have a fault
-no_element_there : (c : Coding) (units : List UnitLeft) (fault : Fault) (bits : List Bool) (d : DataReveals c units fault bits) (e : Element) (es : List Element) (told : List ℤ) (spelling y : List Bool) (t : Standing) → IsSound c
-    → Covers c d.standing (e ∷ es) told spelling t → d.here ++ d.rest ≡ spelling ++ y → ⊥
-no_element_there c units fault bits d e es told spelling y t sound k cut =
-    let h = head_inj d.unit k.0 d.others k.1 (sym d.left ∙ k.7) in
-    let Q : UnitLeft → List UnitLeft → Type 0 = λ v vs. SpellsElement (codes_due c v) e k.5 × Tells c (d.standing.predictions v.component) e v vs k.2 k.3 × (are_in_bounds c.bounds v.has_dc k.2 ≡ true) in
-    let q0 : Q k.0 k.1 = (k.10, k.11, k.12) in
-    let q1 : Q d.unit k.1 = subst (λ v. Q v k.1) (sym h.0) q0 in
-    let q : Q d.unit d.others = subst (λ vs. Q d.unit vs) (sym h.1) q1 in
-    shows_excludes c d.standing d.unit d.others fault e k.2 k.3 d.here k.5 (k.6 ++ y) d.rest facts (coding_is c sound) (codes_one c sound d.unit) d.codes d.shows q.0 q.1 q.2
-    (cut ∙ ap (λ l. l ++ y) k.9 ∙ append_assoc k.5 k.6 y)
+  shown_once : (f g : Fault) (stream : List Bool) → Shown f stream → Shown g stream → f ≡ g
+  shown_once f g stream (inl k) (inl l) = k.0 ∙ sym l.0
+  shown_once f g stream (inl k) (inr (inl l)) = absurd (none_code k.1.0 k.1.1 (k.1.2, k.1.3) l.1.2)
+  shown_once f g stream (inl k) (inr (inr (inl l))) = absurd (none_code k.1.0 k.1.1 (k.1.2, k.1.3) l.1.3)
+  shown_once f g stream (inl k) (inr (inr (inr (inl l)))) = absurd (none_code k.1.0 k.1.1 (k.1.2, k.1.3) (element_code due l.1.1))
+  shown_once f g stream (inl k) (inr (inr (inr (inr l)))) = absurd (none_code k.1.0 k.1.1 (k.1.2, k.1.3) l.1.3)
+  shown_once f g stream (inr (inl k)) (inl l) = absurd (none_code l.1.0 l.1.1 (l.1.2, l.1.3) k.1.2)
+  shown_once f g stream (inr (inl k)) (inr (inl l)) = k.0 ∙ sym l.0
+  shown_once f g stream (inr (inl k)) (inr (inr (inl l))) = absurd (symbol_run l.1.0 l.1.1 k.1.2 k.1.3 l.1.3 l.1.4 l.1.5 l.1.6)
+  shown_once f g stream (inr (inl k)) (inr (inr (inr (inl l)))) = absurd (symbol_element l.1.0 k.1.2 k.1.3 l.1.1)
+  shown_once f g stream (inr (inl k)) (inr (inr (inr (inr l)))) = absurd (symbol_eob k.1.2 k.1.3 l.1.3 l.1.4 l.1.5)
+  shown_once f g stream (inr (inr (inl k))) (inl l) = absurd (none_code l.1.0 l.1.1 (l.1.2, l.1.3) k.1.3)
+  shown_once f g stream (inr (inr (inl k))) (inr (inl l)) = absurd (symbol_run k.1.0 k.1.1 l.1.2 l.1.3 k.1.3 k.1.4 k.1.5 k.1.6)
+  shown_once f g stream (inr (inr (inl k))) (inr (inr (inl l))) = k.0 ∙ sym l.0
+  shown_once f g stream (inr (inr (inl k))) (inr (inr (inr (inl l)))) = absurd (run_element l.1.0 k.1.3 k.1.4 k.1.5 k.1.6 k.1.7 l.1.1)
+  shown_once f g stream (inr (inr (inl k))) (inr (inr (inr (inr l)))) = absurd (run_eob k.1.0 k.1.1 l.1.0 k.1.3 k.1.5 k.1.6 l.1.3)
+  shown_once f g stream (inr (inr (inr (inl k)))) (inl l) = absurd (none_code l.1.0 l.1.1 (l.1.2, l.1.3) (element_code due k.1.1))
+  shown_once f g stream (inr (inr (inr (inl k)))) (inr (inl l)) = absurd (symbol_element k.1.0 l.1.2 l.1.3 k.1.1)
+  shown_once f g stream (inr (inr (inr (inl k)))) (inr (inr (inl l))) = absurd (run_element k.1.0 l.1.3 l.1.4 l.1.5 l.1.6 l.1.7 k.1.1)
+  shown_once f g stream (inr (inr (inr (inl k)))) (inr (inr (inr (inl l)))) = k.0 ∙ sym l.0
+  shown_once f g stream (inr (inr (inr (inl k)))) (inr (inr (inr (inr l)))) = absurd (eob_element l.1.2 k.1.0 l.1.3 l.1.4 l.1.5 l.1.6 l.1.7 k.1.1)
+  shown_once f g stream (inr (inr (inr (inr k)))) (inl l) = absurd (none_code l.1.0 l.1.1 (l.1.2, l.1.3) k.1.3)
+  shown_once f g stream (inr (inr (inr (inr k)))) (inr (inl l)) = absurd (symbol_eob l.1.2 l.1.3 k.1.3 k.1.4 k.1.5)
+  shown_once f g stream (inr (inr (inr (inr k)))) (inr (inr (inl l))) = absurd (run_eob l.1.0 l.1.1 k.1.0 l.1.3 l.1.5 l.1.6 k.1.3)
+  shown_once f g stream (inr (inr (inr (inr k)))) (inr (inr (inr (inl l)))) = absurd (eob_element k.1.2 l.1.0 k.1.3 k.1.4 k.1.5 k.1.6 k.1.7 l.1.1)
+  shown_once f g stream (inr (inr (inr (inr k)))) (inr (inr (inr (inr l)))) = k.0 ∙ sym l.0
 
 -- THE LAW: data have at most one fault
 pub data_show_once : (c : Coding) (units : List UnitLeft) (f g : Fault) (bits : List Bool) → IsSound c → DataReveals c units f bits → DataReveals c units g bits → f ≡ g
 data_show_once c units f g bits sound d w =
     ⊎_elim
-    (λ (z : GoesOn c d.elements w.elements d.told w.told d.front w.front d.standing w.standing). longer f g d w z.elements z.values z.spelling z.covers
-    (append_cancel_left d.front (d.here ++ d.rest) (z.spelling ++ (w.here ++ w.rest)) (same ∙ ap (λ l. l ++ (w.here ++ w.rest)) z.joined.2 ∙ append_assoc d.front z.spelling (w.here ++ w.rest))))
-    (λ (z : GoesOn c w.elements d.elements w.told d.told w.front d.front w.standing d.standing). sym (longer g f w d z.elements z.values z.spelling z.covers
-    (append_cancel_left w.front (w.here ++ w.rest) (z.spelling ++ (d.here ++ d.rest)) (sym same ∙ ap (λ l. l ++ (d.here ++ d.rest)) z.joined.2 ∙ append_assoc w.front z.spelling (d.here ++ d.rest)))))
-    (fronts_once c (at_start units) d.elements w.elements d.told w.told d.front w.front (d.here ++ d.rest) (w.here ++ w.rest) d.standing w.standing facts (coding_is c sound) (codes_one c sound) d.covers w.covers same)
+    (λ (z : Continues (at_fault d) (at_fault w)). longer f g d w z.elements z.values z.spelling z.covers z.behind)
+    (λ (z : Continues (at_fault w) (at_fault d)). sym (longer g f w d z.elements z.values z.spelling z.covers z.behind))
+    (elements_once c (at_start units) d.elements w.elements bits (decodes c sound) (at_fault d) (at_fault w))
   where
-    same : d.front ++ (d.here ++ d.rest) ≡ w.front ++ (w.here ++ w.rest)
-    same = sym (append_assoc d.front d.here d.rest) ∙ sym d.cut ∙ w.cut ∙ append_assoc w.front w.here w.rest
-
     longer : (f g : Fault) (d : DataReveals c units f bits) (w : DataReveals c units g bits) (es : List Element) (values : List ℤ) (spelling : List Bool) → Covers c d.standing es values spelling w.standing
         → d.here ++ d.rest ≡ spelling ++ (w.here ++ w.rest) → f ≡ g
     longer f g d w [] values spelling k cut =
@@ -147,5 +124,8 @@ data_show_once c units f g bits sound d w =
         let b1 : BitsShow c d.standing w.unit w.others g w.here = subst (λ t. BitsShow c t w.unit w.others g w.here) k.2 w.shows in
         let b2 : BitsShow c d.standing d.unit w.others g w.here = subst (λ v. BitsShow c d.standing v w.others g w.here) h.0 b1 in
         let b : BitsShow c d.standing d.unit d.others g w.here = subst (λ vs. BitsShow c d.standing d.unit vs g w.here) h.1 b2 in
-        bits_show_once c d.standing d.unit d.others (coding_is c sound) (codes_one c sound d.unit) d.codes f g d.here w.here d.rest w.rest d.shows b (cut ∙ ap (λ l. l ++ (w.here ++ w.rest)) k.1)
-    longer f g d w (e ∷ es) values spelling k cut = absurd (no_element_there c units f bits d e es values spelling (w.here ++ w.rest) w.standing sound k cut)
+        let same : d.here ++ d.rest ≡ w.here ++ w.rest = cut ∙ ap (λ l. l ++ (w.here ++ w.rest)) k.1 in
+        let at = λ (f : Fault). shown_at c d.standing d.unit d.others (decodes c sound) d.codes f in
+        shown_once c d.standing d.unit d.others (decodes c sound) d.codes f g (d.here ++ d.rest) (at f d.here d.rest (d.here ++ d.rest) refl d.shows) (at g w.here w.rest (d.here ++ d.rest) same b)
+    longer f g d w (e ∷ es) values spelling k cut =
+        absurd (no_element_there d d.rest e es (decodes c sound) (record { told = values; front = spelling; rest = w.here ++ w.rest; standing = w.standing; cut = cut; covers = k }))

@@ -15,7 +15,7 @@ use Rattle.jpg_spec.proofs.Common.{clash, neither, not_same}
 use Rattle.jpg_spec.proofs.FrameAfter.{leads_pass}
 use Rattle.jpg_spec.proofs.HeaderFirst.{AreOfHeader, scan_passed, with_scan}
 use Rattle.jpg_spec.proofs.HeaderShown.{not_complete}
-use Rattle.jpg_spec.proofs.ReadPicture.{framed_end}
+use Rattle.jpg_spec.proofs.FrameFound.{framed_end}
 
 -- Some items are those before a first scan, this scan, and more. The bytes begin with the header that ends with the
 -- header of the scan.

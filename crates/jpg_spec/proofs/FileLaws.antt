@@ -21,7 +21,7 @@ use Rattle.jpg_spec.proofs.HeadersOnce.{after_front}
 use Rattle.jpg_spec.specs.UnfinishedFile.{UnfinishedFile, IsWholeFile}
 use Rattle.jpg_spec.proofs.BlocksOnce.{blocks_once}
 use Rattle.jpg_spec.proofs.TailsOnce.{Ends, item_shows_once, shown_not_ended}
-use Rattle.jpg_spec.proofs.FilesOnce.{ends_apart, ends_not_inside_standing, ends_not_inside_closed, inside_closed_not_going, inside_closed_not_standing, inside_closed_once, items_end_once}
+use Rattle.jpg_spec.proofs.FilesOnce.{after_more, inside_more, ends_apart, ends_not_inside_standing, ends_not_inside_closed, inside_closed_not_going, inside_closed_not_standing, inside_closed_once, items_end_once}
 use Rattle.jpg_spec.proofs.Common.{heads}
 
 -- THE START
@@ -59,16 +59,19 @@ shown_not_standing limits fault a x b (inl s) (inr (inl t)) e = let z = after_so
 shown_not_standing limits fault a x b (inl s) (inr (inr t)) e = let z = inside_soi limits b t.0 t.1 in no_start_soi a x z.0 s.1 (e ∙ z.1)
 shown_not_standing limits fault a x b (inr (inl s)) (inl t) e =
     let z = with_more a x (after_soi limits a s.0 s.1 s.2) in soi_short z.0 b t (sym z.1 ∙ e)
-shown_not_standing limits fault a x b (inr (inl s)) (inr (inl t)) e = ends_apart limits a b x s.0 t.0 s.1 t.1 s.2 (inl (fault, s.3)) t.2 t.3 e
-shown_not_standing limits fault a x b (inr (inl s)) (inr (inr t)) e = ends_not_inside_standing limits a b x s.0 s.1 t.0 s.2 (inl (fault, s.3)) t.1 t.2 e
+shown_not_standing limits fault a x b (inr (inl s)) (inr (inl t)) e = ends_apart limits b s.0 t.0 s.1 x t.1 (after_more limits a x b s.0 s.1 e s.2) (inl (fault, s.3)) t.2 t.3
+shown_not_standing limits fault a x b (inr (inl s)) (inr (inr t)) e = ends_not_inside_standing limits b t.0 t.1 s.0 s.1 x (after_more limits a x b s.0 s.1 e s.2) (inl (fault, s.3)) t.2
 shown_not_standing limits fault a x b (inr (inr s)) (inl t) e =
     let z = with_more a x (inside_soi limits a s.0 s.1) in soi_short z.0 b t (sym z.1 ∙ e)
-shown_not_standing limits fault a x b (inr (inr s)) (inr (inl t)) e = inside_closed_not_going limits a b x s.0 fault t.0 t.1 s.1 s.2 t.2 t.3 e
-shown_not_standing limits fault a x b (inr (inr s)) (inr (inr t)) e = inside_closed_not_standing limits a b x s.0 fault t.0 s.1 s.2 t.1 t.2 e
+shown_not_standing limits fault a x b (inr (inr s)) (inr (inl t)) e = inside_closed_not_going limits b (s.0 ++ x) (inside_more limits a x b s.0 e s.1) fault s.0 x t.0 t.1 refl s.2 t.2 t.3
+shown_not_standing limits fault a x b (inr (inr s)) (inr (inr t)) e = inside_closed_not_standing limits b (s.0 ++ x) (inside_more limits a x b s.0 e s.1) fault s.0 x t.0 t.1 refl s.2 t.2
 
 -- A COMPLETE FILE, up to its EOI
 whole_after : (limits : Limits) (bytes : List ℕ) (M : Meaning) (w : Means limits bytes M) → AfterItems limits (w.front ++ w.marker) w.items w.marker
 whole_after limits bytes M w = record { front = w.front; blocks = w.blocks; cut = refl; spelled = w.spelled; leads = w.leads }
+
+whole_more : (limits : Limits) (bytes : List ℕ) (M : Meaning) (x stream : List ℕ) (w : Means limits bytes M) → (w.front ++ w.marker) ++ x ≡ stream → AfterItems limits stream w.items (w.marker ++ x)
+whole_more limits bytes M x stream w e = after_more limits (w.front ++ w.marker) x stream w.items w.marker e (whole_after limits bytes M w)
 
 whole_ends : (limits : Limits) (bytes : List ℕ) (M : Meaning) (w : Means limits bytes M) → Ends limits w.items w.marker
 whole_ends limits bytes M w = inr (w.ended, w.framed)
@@ -77,21 +80,24 @@ whole_ends limits bytes M w = inr (w.ended, w.framed)
 pub whole_not_standing : (limits : Limits) (bytes : List ℕ) (M : Meaning) (x b : List ℕ) → (w : Means limits bytes M) → UnfinishedFile limits b → (w.front ++ w.marker) ++ x ≡ b → ⊥
 whole_not_standing limits bytes M x b w (inl t) e =
     let z = with_more (w.front ++ w.marker) x (after_soi limits (w.front ++ w.marker) w.items w.marker (whole_after limits bytes M w)) in soi_short z.0 b t (sym z.1 ∙ e)
-whole_not_standing limits bytes M x b w (inr (inl t)) e = ends_apart limits (w.front ++ w.marker) b x w.items t.0 w.marker t.1 (whole_after limits bytes M w) (whole_ends limits bytes M w) t.2 t.3 e
-whole_not_standing limits bytes M x b w (inr (inr t)) e = ends_not_inside_standing limits (w.front ++ w.marker) b x w.items w.marker t.0 (whole_after limits bytes M w) (whole_ends limits bytes M w) t.1 t.2 e
+whole_not_standing limits bytes M x b w (inr (inl t)) e = ends_apart limits b w.items t.0 w.marker x t.1 (whole_more limits bytes M x b w e) (whole_ends limits bytes M w) t.2 t.3
+whole_not_standing limits bytes M x b w (inr (inr t)) e = ends_not_inside_standing limits b t.0 t.1 w.items w.marker x (whole_more limits bytes M x b w e) (whole_ends limits bytes M w) t.2
 
 -- and has no fault, with fewer bytes or with more
 pub shown_not_whole : (limits : Limits) (fault : Fault) (a x bytes : List ℕ) (M : Meaning) (y : List ℕ) → Reveals limits fault a → (w : Means limits bytes M) → a ++ x ≡ (w.front ++ w.marker) ++ y → ⊥
 shown_not_whole limits fault a x bytes M y (inl s) w e =
     let z = with_more (w.front ++ w.marker) y (after_soi limits (w.front ++ w.marker) w.items w.marker (whole_after limits bytes M w)) in no_start_soi a x z.0 s.1 (e ∙ z.1)
 shown_not_whole limits fault a x bytes M y (inr (inl s)) w e =
-    let same = items_end_once limits a (w.front ++ w.marker) x y s.0 w.items s.1 w.marker s.2 (inl (fault, s.3)) (whole_after limits bytes M w) (whole_ends limits bytes M w) e in
+    let same = items_end_once limits (a ++ x) s.0 w.items s.1 x w.marker y (after_more limits a x (a ++ x) s.0 s.1 refl s.2) (inl (fault, s.3)) (whole_more limits bytes M y (a ++ x) w (sym e)) (whole_ends limits bytes M w) in
     let shown1 : ItemReveals limits w.items fault s.1 = subst (λ z. ItemReveals limits z fault s.1) same.0 s.3 in
     shown_not_ended limits w.items fault w.marker (subst (λ z. ItemReveals limits w.items fault z) same.1 shown1) w.ended w.framed w.complete
 shown_not_whole limits fault a x bytes M y (inr (inr s)) w e =
-    ends_not_inside_closed limits (w.front ++ w.marker) a y x w.items fault w.marker s.0 (whole_after limits bytes M w) (whole_ends limits bytes M w) s.1 s.2 (sym e)
+    ends_not_inside_closed limits (a ++ x) (s.0 ++ x) (inside_more limits a x (a ++ x) s.0 refl s.1) w.items w.marker y fault s.0 x refl (whole_more limits bytes M y (a ++ x) w (sym e)) (whole_ends limits bytes M w) s.2
 
 -- ONE FAULT at one place
+after_nil : (limits : Limits) (bytes : List ℕ) (items : List Item) (tail : List ℕ) → AfterItems limits bytes items tail → AfterItems limits bytes items (tail ++ [])
+after_nil limits bytes items tail w = after_more limits bytes [] bytes items tail (append-nil bytes) w
+
 pub shown_once : (limits : Limits) (f g : Fault) (bytes : List ℕ) → Reveals limits f bytes → Reveals limits g bytes → f ≡ g
 shown_once limits f g bytes (inl s) (inl t) = s.0 ∙ sym t.0
 shown_once limits f g bytes (inl s) (inr (inl t)) =
@@ -101,18 +107,18 @@ shown_once limits f g bytes (inl s) (inr (inr t)) =
 shown_once limits f g bytes (inr (inl s)) (inl t) =
     let z = after_soi limits bytes s.0 s.1 s.2 in absurd (no_start_soi bytes [] z.0 t.1 (append-nil bytes ∙ z.1))
 shown_once limits f g bytes (inr (inl s)) (inr (inl t)) =
-    let same = items_end_once limits bytes bytes [] [] s.0 t.0 s.1 t.1 s.2 (inl (f, s.3)) t.2 (inl (g, t.3)) refl in
+    let same = items_end_once limits bytes s.0 t.0 s.1 [] t.1 [] (after_nil limits bytes s.0 s.1 s.2) (inl (f, s.3)) (after_nil limits bytes t.0 t.1 t.2) (inl (g, t.3)) in
     let shown1 : ItemReveals limits t.0 f s.1 = subst (λ z. ItemReveals limits z f s.1) same.0 s.3 in
     item_shows_once limits t.0 f g t.1 (subst (λ z. ItemReveals limits t.0 f z) same.1 shown1) t.3
-shown_once limits f g bytes (inr (inl s)) (inr (inr t)) = absurd (ends_not_inside_closed limits bytes bytes [] [] s.0 g s.1 t.0 s.2 (inl (f, s.3)) t.1 t.2 refl)
+shown_once limits f g bytes (inr (inl s)) (inr (inr t)) = absurd (ends_not_inside_closed limits bytes t.0 t.1 s.0 s.1 [] g t.0 [] (sym (append-nil t.0)) (after_nil limits bytes s.0 s.1 s.2) (inl (f, s.3)) t.2)
 shown_once limits f g bytes (inr (inr s)) (inl t) =
     let z = inside_soi limits bytes s.0 s.1 in absurd (no_start_soi bytes [] z.0 t.1 (append-nil bytes ∙ z.1))
-shown_once limits f g bytes (inr (inr s)) (inr (inl t)) = absurd (ends_not_inside_closed limits bytes bytes [] [] t.0 f t.1 s.0 t.2 (inl (g, t.3)) s.1 s.2 refl)
+shown_once limits f g bytes (inr (inr s)) (inr (inl t)) = absurd (ends_not_inside_closed limits bytes s.0 s.1 t.0 t.1 [] f s.0 [] (sym (append-nil s.0)) (after_nil limits bytes t.0 t.1 t.2) (inl (g, t.3)) s.2)
 shown_once limits f g bytes (inr (inr s)) (inr (inr t)) = inside_closed_once limits bytes s.0 t.0 f g s.1 s.2 t.1 t.2
 
 -- ONE MEANING, at one place
 
-same_meaning : (limits : Limits) (items items' : List Item) (blocks blocks' : Blocks) → items ≡ items' → blocks ≡ blocks'
+pub same_meaning : (limits : Limits) (items items' : List Item) (blocks blocks' : Blocks) → items ≡ items' → blocks ≡ blocks'
     → meaning_of (frame_of limits (segments_of items)) (segments_of items) blocks ≡ meaning_of (frame_of limits (segments_of items')) (segments_of items') blocks'
 same_meaning limits items items' blocks blocks' e f =
     ap (λ z. meaning_of (frame_of limits (segments_of z)) (segments_of z) blocks) e ∙ ap (λ z. meaning_of (frame_of limits (segments_of items')) (segments_of items') z) f
@@ -120,8 +126,8 @@ same_meaning limits items items' blocks blocks' e f =
 pub means_once : (limits : Limits) (bytes more : List ℕ) (M N : Meaning) → (v : Means limits bytes M) → (w : Means limits more N) → bytes ≡ more → (M ≡ N) × (length (v.front ++ v.marker) ≡ length (w.front ++ w.marker))
 means_once limits bytes more M N v w e =
     let all : (v.front ++ v.marker) ++ v.rest ≡ (w.front ++ w.marker) ++ w.rest = sym v.cut ∙ e ∙ w.cut in
-    let same = items_end_once limits (v.front ++ v.marker) (w.front ++ w.marker) v.rest w.rest v.items w.items v.marker w.marker
-    (whole_after limits bytes M v) (whole_ends limits bytes M v) (whole_after limits more N w) (whole_ends limits more N w) all in
+    let same = items_end_once limits bytes v.items w.items v.marker v.rest w.marker w.rest
+    (whole_more limits bytes M v.rest bytes v (sym v.cut)) (whole_ends limits bytes M v) (whole_more limits more N w.rest bytes w (sym (e ∙ w.cut))) (whole_ends limits more N w) in
     let blocks = blocks_once limits w.items v.blocks w.blocks (subst (λ z. Leads limits z v.blocks) same.0 v.leads) w.leads in
     let l0 = ap length all in
     let l1 = length-append (v.front ++ v.marker) v.rest in
@@ -277,6 +283,6 @@ whole_file_not_shown limits front rest fault M k s =
 
 pub whole_last : (limits : Limits) (bytes more : List ℕ) (M N : Meaning) → IsWholeFile limits bytes M → IsWholeFile limits (bytes ++ more) N → more ≡ []
 whole_last limits bytes more M N k l =
-    (items_end_once limits ((k.0).front ++ (k.0).marker) ((l.0).front ++ (l.0).marker) more [] (k.0).items (l.0).items (k.0).marker (l.0).marker
-    (whole_after limits bytes M k.0) (whole_ends limits bytes M k.0) (whole_after limits (bytes ++ more) N l.0) (whole_ends limits (bytes ++ more) N l.0)
-    (ap (λ z. z ++ more) (sym (whole_cut limits bytes M k)) ∙ whole_cut limits (bytes ++ more) N l ∙ sym (append-nil ((l.0).front ++ (l.0).marker)))).2
+    (items_end_once limits (bytes ++ more) (k.0).items (l.0).items (k.0).marker more (l.0).marker []
+    (whole_more limits bytes M more (bytes ++ more) k.0 (ap (λ z. z ++ more) (sym (whole_cut limits bytes M k)))) (whole_ends limits bytes M k.0)
+    (whole_more limits (bytes ++ more) N [] (bytes ++ more) l.0 (append-nil ((l.0).front ++ (l.0).marker) ∙ sym (whole_cut limits (bytes ++ more) N l))) (whole_ends limits (bytes ++ more) N l.0)).2

@@ -22,7 +22,7 @@ use Rattle.jpg_spec.specs.declared.frame.Limits.{Limits}
 use Rattle.jpg_spec.specs.declared.frame.Place.{Place}
 use Rattle.jpg_spec.proofs.PictureInWork.{leads_sizes}
 use Rattle.jpg_spec.proofs.Untouched.{is_coded, untouched}
-use Rattle.jpg_spec.proofs.Common.{both, same_of, neither, refused}
+use Rattle.jpg_spec.proofs.Common.{both, same_of, neither, refused, all_append}
 
 -- A SCAN HEADER that breaks no rule is one that the scans before it allow
 
@@ -88,12 +88,7 @@ all_among test (x ∷ xs) i e h = by (x == i) refl h (both (test x) (all_of test
     by false s k n later = later k
 
 pub all_join : (test : ℕ → Bool) (a b : List ℕ) → all_of test (a ++ b) ≡ (all_of test a && all_of test b)
-all_join test [] b = refl
-all_join test (x ∷ a) b = ap (λ r. test x && r) (all_join test a b) ∙ assoc (test x) (all_of test a) (all_of test b)
-  where
-    assoc : (x y z : Bool) → (x && (y && z)) ≡ ((x && y) && z)
-    assoc true y z = refl
-    assoc false y z = refl
+all_join test a b = all_append test a b
 
 pub all_below : (test : ℕ → Bool) (n k : ℕ) → all_of test (below n) ≡ true → k < n → test k ≡ true
 all_below test zero k e h = absurd (omega (arith, h))

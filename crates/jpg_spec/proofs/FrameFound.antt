@@ -1,5 +1,5 @@
 -- After a header that breaks no rule the frame is one that passed its checks.
-use Rattle.std.proofs.Common.{◌≡◌, ℕ, ◌*◌, Bool, true, false, cond, not, List, [], ◌∷◌, length, refl, sym, ap, ◌∙◌, subst, arith, inl, inr, Option, Some, None, ◌==◌, ◌≢◌, ⊎_elim, ◌-◌, get_or, map, zero, suc, ◌≤◌}
+use Rattle.std.proofs.Common.{◌≡◌, ℕ, ◌*◌, Bool, true, false, cond, not, List, [], ◌∷◌, length, refl, sym, ap, ◌∙◌, subst, arith, inl, inr, Option, Some, None, ◌==◌, ◌≢◌, ⊎_elim, get_or, map, zero, suc, ◌≤◌}
 use Rattle.std.specs.Prelude.{◌⊎◌, ◌||◌, nat_lt, Ok, Err, option_and_then}
 use Rattle.std.proofs.lemmas.Bool.{cases_eq}
 use Rattle.std.proofs.lemmas.Bool.Decides.{nat_tests}
@@ -31,6 +31,8 @@ pub record IsChecked (limits : Limits) (f : Frame) : Type 0 where
   pub precision : f.precision ≡ 8
   pub count : (length f.components == 0 || nat_lt 4 (length f.components)) ≡ false
   pub factors : any_of has_bad_factor f.components ≡ false
+  pub distinct : is_distinct (identifiers f.components) ≡ true
+  pub slots : any_of has_bad_slot f.components ≡ false
   pub blocks : nat_lt limits.blocks (padded_blocks f) ≡ false
   pub passes : checked_frame limits f ≡ Ok f
 
@@ -52,7 +54,18 @@ checks limits f g e =
     let o = refused DuplicateComponent (not (is_distinct (identifiers f.components))) slots g n.1 in
     let p = refused QuantSlot (any_of has_bad_slot f.components) many g o.1 in
     let q = refused TooManyBlocks (nat_lt limits.blocks (padded_blocks f)) (Ok f) g p.1 in
-    (record { some = a.0; sides = b.0; precision = same_of f.precision 8 (affirmed (f.precision == 8) k.0); count = m.0; factors = n.0; blocks = q.0; passes = e ∙ sym (ap Ok (same_frame f g q.1)) }, same_frame f g q.1)
+    let checked : IsChecked limits f = record {
+      some = a.0;
+      sides = b.0;
+      precision = same_of f.precision 8 (affirmed (f.precision == 8) k.0);
+      count = m.0;
+      factors = n.0;
+      distinct = affirmed (is_distinct (identifiers f.components)) o.0;
+      slots = p.0;
+      blocks = q.0;
+      passes = e ∙ sym (ap Ok (same_frame f g q.1));
+    } in
+    (checked, same_frame f g q.1)
   where
     same_frame : (f g : Frame) → (let a : Told Frame = Ok f in a) ≡ Ok g → f ≡ g
     same_frame f g e = cc
@@ -64,30 +77,20 @@ checks limits f g e =
 -- A FRAME HEADER that has no fault gives a frame that passed
 
 told_checked : (limits : Limits) (process : Process) (contents : List ℕ) (f : Frame) → frame_header limits process contents ≡ Ok f → IsChecked limits f
-told_checked limits process [] f e = cc
-told_checked limits process (p ∷ []) f e = cc
-told_checked limits process (p ∷ y1 ∷ []) f e = cc
-told_checked limits process (p ∷ y1 ∷ y0 ∷ []) f e = cc
-told_checked limits process (p ∷ y1 ∷ y0 ∷ x1 ∷ []) f e = cc
-told_checked limits process (p ∷ y1 ∷ y0 ∷ x1 ∷ x0 ∷ []) f e = cc
 told_checked limits process (p ∷ y1 ∷ y0 ∷ x1 ∷ x0 ∷ count ∷ parts) f e =
     let told = frame_told process p (two_bytes y1 y0) (two_bytes x1 x0) parts in
     let r = refused BadLength (not (length parts == 3 * count)) (checked_frame limits told) f e in
     let h = checks limits told f r.1 in
     subst (λ g. IsChecked limits g) h.1 h.0
+told_checked limits process contents f e = cc
 
 -- and it is of that process
 pub told_process : (limits : Limits) (process : Process) (contents : List ℕ) (f : Frame) → frame_header limits process contents ≡ Ok f → f.process ≡ process
-told_process limits process [] f e = cc
-told_process limits process (p ∷ []) f e = cc
-told_process limits process (p ∷ y1 ∷ []) f e = cc
-told_process limits process (p ∷ y1 ∷ y0 ∷ []) f e = cc
-told_process limits process (p ∷ y1 ∷ y0 ∷ x1 ∷ []) f e = cc
-told_process limits process (p ∷ y1 ∷ y0 ∷ x1 ∷ x0 ∷ []) f e = cc
 told_process limits process (p ∷ y1 ∷ y0 ∷ x1 ∷ x0 ∷ count ∷ parts) f e =
     let g = frame_told process p (two_bytes y1 y0) (two_bytes x1 x0) parts in
     let r = refused BadLength _ (checked_frame limits g) f e in
     sym (ap (λ (h : Frame). h.process) (checks limits g f r.1).1)
+told_process limits process contents f e = cc
 
 abbrev pub Found : Limits → Option Frame → Type 0
 Found limits o = (f : Frame) × (o ≡ Some f) × IsChecked limits f
@@ -151,6 +154,13 @@ frame_found limits (s ∷ before) p e = by (is_frame_code s.0) refl (frame_found
         let none : frame_in limits s ≡ None = ap (λ o. option_and_then (λ process. told_some (frame_header limits process s.1)) o) (no_process s.0 h) in
         let framed : has_frame before ≡ true = sym (ap (λ b. b || has_frame before) h) ∙ e in
         subst (λ o. Found limits (first_some o (frame_after limits before))) (sym none) (older framed)
+
+pub framed_end : (before : List Segment) → code_fault before 0xd9 ≡ None → has_frame before ≡ true
+framed_end before e = by (has_frame before) e
+  where
+    by : (b : Bool) → code_fault_if b 0xd9 ≡ None → b ≡ true
+    by true e = refl
+    by false e = cc
 
 pub framed : (before : List Segment) → code_fault before 0xda ≡ None → has_frame before ≡ true
 framed before e = by (has_frame before) e

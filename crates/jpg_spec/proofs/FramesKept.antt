@@ -91,7 +91,9 @@ pub record PlainItems (limits : Limits) (items : List Item) (front : List ℕ) :
 
 not_shown : (limits : Limits) (items before : List Item) (contents front u a x : List ℕ) → EndsInHeader limits a contents before → PlainItems limits items front → (HasNext limits items u (with_header contents before) x → ⊥) → a ++ x ≡ front ++ u → ⊥
 not_shown limits items before contents front u a x s k none e =
-    by (meet limits (with_header contents before) items a front x u s.blocks k.blocks s.spelled k.spelled s.leads k.leads e)
+    by (meet limits (a ++ x) (with_header contents before) items x u
+    (record { front = a; blocks = s.blocks; cut = refl; spelled = s.spelled; leads = s.leads })
+    (record { front = front; blocks = k.blocks; cut = e; spelled = k.spelled; leads = k.leads }))
   where
     shown : (more : List Item) → items ≡ more ++ with_header contents before → ⊥
     shown more same = clash (is_progressive (frame_of_items limits items).process) (still_progressive limits contents more before items k.blocks s.blocks s.leads same k.leads) k.plain

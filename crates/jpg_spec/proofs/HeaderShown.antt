@@ -5,7 +5,7 @@ use Rattle.jpg_spec.specs.Lists.{all_of, below}
 use Rattle.jpg_spec.specs.Faults.{Told}
 use Rattle.jpg_spec.specs.Geometry.{Frame}
 use Rattle.jpg_spec.specs.Segments.{ScanHead}
-use Rattle.jpg_spec.specs.Markers.{Segment, SpellsMarker, code_fault, code_fault_if, has_frame, has_scan, Pass, NoMarkerBytes, RevealsSegment, TailReveals}
+use Rattle.jpg_spec.specs.Markers.{Segment, SpellsMarker, code_fault, has_scan, Pass, NoMarkerBytes, RevealsSegment, TailReveals}
 use Rattle.jpg_spec.specs.InForce.{no_frame, frame_of}
 use Rattle.jpg_spec.specs.History.{admitted, has_begun, is_complete}
 use Rattle.jpg_spec.specs.QuantContents.{◌>>=◌}
@@ -19,7 +19,7 @@ use Rattle.jpg_spec.specs.declared.fault.Fault.TheVariants.{NoMarker, MissingCom
 use Rattle.jpg_spec.specs.declared.frame.Limits.{Limits}
 use Rattle.jpg_spec.proofs.HeadersOnce.{items_of, segments_of_items}
 use Rattle.jpg_spec.proofs.BeforeScans.{no_heads, front_items, header_leads}
-use Rattle.jpg_spec.proofs.FrameFound.{frame_found}
+use Rattle.jpg_spec.proofs.FrameFound.{frame_found, framed_end}
 use Rattle.jpg_spec.proofs.Common.{same_of, neither}
 
 -- AFTER SEGMENTS ONLY no component had a scan
@@ -32,16 +32,9 @@ none_begun (suc n) e = ending (below n)
     ending [] = refl
     ending (x ∷ xs) = refl
 
-framed : (before : List Segment) → code_fault before 0xd9 ≡ None → has_frame before ≡ true
-framed before e = by (has_frame before) e
-  where
-    by : (b : Bool) → code_fault_if b 0xd9 ≡ None → b ≡ true
-    by true e = refl
-    by false e = cc
-
 pub not_complete : (limits : Limits) (before : List Segment) → Pass (header_rule limits) before → has_scan before ≡ false → code_fault before 0xd9 ≡ None → is_complete (frame_of limits before) before ≡ false
 not_complete limits before p none e =
-    let found = frame_found limits before p (framed before e) in
+    let found = frame_found limits before p (framed_end before e) in
     let f : frame_of limits before ≡ found.0 = ap (λ o. unwrap_or o no_frame) found.1 in
     let k = neither (length found.0.components == 0) (nat_lt 4 (length found.0.components)) found.2.count in
     ap (λ heads. all_of (has_begun heads) (below (length (frame_of limits before).components))) (no_heads (frame_of limits before) before none)

@@ -1,11 +1,9 @@
 -- Segments before the first scan, and the items of a file that begin the same bytes: one continues the other.
-use Rattle.std.proofs.Common.{◌≡◌, ℕ, Bool, true, false, ◌||◌, ◌==◌, List, [], ◌∷◌, ◌++◌, map, refl, sym, ap, ◌∙◌, arith, inl, inr}
-use Rattle.std.specs.Prelude.{◌⊎◌}
-use Rattle.std.proofs.lemmas.List.{append_assoc, append-nil, append_cancel_left}
+use Rattle.std.proofs.Common.{◌≡◌, ℕ, Bool, true, false, ◌||◌, ◌==◌, List, [], ◌∷◌, ◌++◌, map, refl, ap, ◌∙◌, arith}
+use Rattle.std.proofs.lemmas.List.{append_assoc}
 use Rattle.std.proofs.lemmas.Bool.Decides.{nat_tests}
-use Rattle.jpg_spec.specs.Markers.{Segment, soi, SpellsSegment, SpellsSegments, has_scan}
-use Rattle.jpg_spec.specs.Items.{Item, segment, scan, segments_of, SpellsItem, SpellsFront}
-use Rattle.jpg_spec.proofs.MarkersOnce.{SpellsMore, GoesOn, oldest, segment_once, same_segment}
+use Rattle.jpg_spec.specs.Markers.{Segment, soi, has_scan}
+use Rattle.jpg_spec.specs.Items.{Item, segment, segments_of, SpellsItem, SpellsFront}
 
 -- LISTS OF ITEMS, the newest first
 

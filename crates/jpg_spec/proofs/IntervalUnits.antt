@@ -2,7 +2,7 @@
 use Rattle.std.proofs.Common.{◌≡◌, ℕ, ◌+◌, ◌-◌, ◌*◌, ◌≤◌, true, false, ◌==◌, List, [], ◌∷◌, ◌++◌, refl, sym, ap, ◌∙◌, subst, arith}
 use Rattle.std.specs.Prelude.{◌||◌, map, flat_map}
 use Rattle.std.proofs.lemmas.Bool.Decides.{nat_tests}
-use Rattle.jpg_spec.specs.Lists.{is_among, below, chunks, joined, is_distinct}
+use Rattle.jpg_spec.specs.Lists.{is_among, below, chunks, joined}
 use Rattle.jpg_spec.specs.Geometry.{Frame, is_progressive, component_at, blocks_across, blocks_down, mcus_across, mcus_down, place, mcu_part, units}
 use Rattle.jpg_spec.specs.Segments.{ScanHead, head_components}
 use Rattle.jpg_spec.specs.Elements.{UnitLeft, zeros, new_unit}
@@ -11,12 +11,10 @@ use Rattle.jpg_spec.specs.InForce.{frame_of, head_in}
 use Rattle.jpg_spec.specs.Items.{segments_of}
 use Rattle.jpg_spec.specs.FirstFault.{HoldsAll}
 use Rattle.jpg_spec.specs.ScanReading.{ScanPlace, scan_at, ScanAt}
-use Rattle.jpg_spec.specs.PictureInWork.{AreDistinct}
 use Rattle.jpg_spec.specs.declared.frame.Limits.{Limits}
 use Rattle.jpg_spec.specs.declared.frame.Place.{Place}
 use Rattle.jpg_spec.proofs.BlocksOnce.{joined_chunks}
-use Rattle.jpg_spec.proofs.PictureInWork.{joined_join, distinct_behind, distinct_front}
-use Rattle.jpg_spec.proofs.PlacesDistinct.{units_distinct}
+use Rattle.jpg_spec.proofs.PictureInWork.{joined_join}
 use Rattle.jpg_spec.proofs.FirstPasses.{sequential_unit, first_band}
 use Rattle.jpg_spec.proofs.Excludes.{or_true}
 

@@ -1,6 +1,6 @@
 -- STEPS between items: the result of the bytes of a segment, if the reader of segments was sent them without the data
 -- of scans.
-use Rattle.std.proofs.Common.{◌≡◌, ℕ, suc, ◌+◌, ◌<◌, ◌≤◌, Bool, true, false, List, [], ◌∷◌, ◌++◌, length, refl, sym, ap, ◌∙◌, subst, arith, inl, inr, ⊎_elim, Some, None, ◌==◌}
+use Rattle.std.proofs.Common.{◌≡◌, ℕ, suc, ◌+◌, ◌<◌, Bool, true, false, List, [], ◌∷◌, ◌++◌, length, refl, sym, ap, ◌∙◌, subst, arith, inl, inr, ⊎_elim, Some, None, ◌==◌}
 use Rattle.std.specs.Prelude.{◌⊎◌, ◌||◌, replicate, nat_lt}
 use Rattle.std.specs.Int.{to_be_bytes, w16}
 use Rattle.std.proofs.lemmas.Bool.Decides.{nat_tests}
@@ -12,7 +12,7 @@ use Rattle.jpg_spec.specs.InForce.{frame_of}
 use Rattle.jpg_spec.specs.History.{is_complete}
 use Rattle.jpg_spec.specs.Segments.{two_bytes}
 use Rattle.jpg_spec.specs.Items.{Item, segment, segments_of, ends_in_scan, contents_rule}
-use Rattle.jpg_spec.specs.FileMeaning.{Leads, no_blocks, scan_after, meaning_of, Means}
+use Rattle.jpg_spec.specs.FileMeaning.{Leads, scan_after}
 use Rattle.jpg_spec.specs.FirstFault.{Reveals}
 use Rattle.jpg_spec.specs.declared.fault.Fault.{Fault}
 use Rattle.jpg_spec.specs.declared.fault.Fault.TheVariants.{NoMarker, MissingComponent}
@@ -160,59 +160,66 @@ segment_shown limits sent bytes items fault tail w (inl s) = by w.plain
 segment_shown limits sent bytes items fault tail w (inr s) =
     inr (inl (items, replicate w.fill 255 ++ tail, w.behind, inr (inl (fill_shows w.fill (contents_rule limits) (segments_of items) fault tail (kept_shows limits (segments_of items) fault tail s)))))
 
--- the fault of the contents of a complete segment
-pub contents_shown : (limits : Limits) (rule : Rule) (sent bytes : List ℕ) (items : List Item) (code : ℕ) (contents : List ℕ) (fault : Fault) (tail : List ℕ) → Beside limits rule sent bytes items tail
-    → SpellsSegment code contents tail → code_fault (segments_of items) code ≡ None → (code ≡ 0xd9 → ⊥) → contents_rule limits (segments_of items) code contents ≡ Some fault → Reveals limits fault bytes
-contents_shown limits rule sent bytes items code contents fault tail w s allowed other broken =
-    inr (inl (items, replicate w.fill 255 ++ tail, w.behind, inr (inl (inr (inr (code, contents, fill_segment w.fill code contents tail s, allowed, other, broken))))))
+module _ (limits : Limits) (rule : Rule) (sent bytes : List ℕ) (items : List Item) where
+  -- the fault of the contents of a complete segment
+  pub contents_shown : (code : ℕ) (contents : List ℕ) (fault : Fault) (tail : List ℕ) → Beside limits rule sent bytes items tail
+      → SpellsSegment code contents tail → code_fault (segments_of items) code ≡ None → (code ≡ 0xd9 → ⊥) → contents_rule limits (segments_of items) code contents ≡ Some fault → Reveals limits fault bytes
+  contents_shown code contents fault tail w s allowed other broken =
+      inr (inl (items, replicate w.fill 255 ++ tail, w.behind, inr (inl (inr (inr (code, contents, fill_segment w.fill code contents tail s, allowed, other, broken))))))
 
--- a part of a segment
-pub part_stands : (limits : Limits) (rule : Rule) (sent bytes : List ℕ) (items : List Item) (tail : List ℕ) → Beside limits rule sent bytes items tail
-    → ((code : ℕ) × BeginsSegment (segments_of items) code tail) ⊎ PartOfSegment (segments_of items) tail → UnfinishedFile limits bytes
-part_stands limits rule sent bytes items tail w (inl s) = inr (inl (items, replicate w.fill 255 ++ tail, w.behind, inl (s.0, fill_begin w.fill (segments_of items) s.0 tail s.1)))
-part_stands limits rule sent bytes items tail w (inr s) = inr (inl (items, replicate w.fill 255 ++ tail, w.behind, inr (fill_part w.fill (segments_of items) tail s)))
+  -- a part of a segment
+  pub part_stands : (tail : List ℕ) → Beside limits rule sent bytes items tail
+      → ((code : ℕ) × BeginsSegment (segments_of items) code tail) ⊎ PartOfSegment (segments_of items) tail → UnfinishedFile limits bytes
+  part_stands tail w (inl s) = inr (inl (items, replicate w.fill 255 ++ tail, w.behind, inl (s.0, fill_begin w.fill (segments_of items) s.0 tail s.1)))
+  part_stands tail w (inr s) = inr (inl (items, replicate w.fill 255 ++ tail, w.behind, inr (fill_part w.fill (segments_of items) tail s)))
 
--- a complete segment that breaks no rule, and is no scan header
-pub segment_passed : (limits : Limits) (rule : Rule) (sent bytes : List ℕ) (items : List Item) (code : ℕ) (contents tail : List ℕ) → Beside limits rule sent bytes items tail → SpellsSegment code contents tail
-    → code_fault (segments_of items) code ≡ None → (code ≡ 0xd9 → ⊥) → (code ≡ 0xda → ⊥) → rule (segments_of items) code contents ≡ None → contents_rule limits (segments_of items) code contents ≡ None
-    → Beside limits rule sent bytes (segment code contents ∷ items) []
-segment_passed limits rule sent bytes items code contents tail w s allowed end head passed unbroken = record {
-  fill = 0;
-  between = record {
-    front = (w.between).front ++ tail;
-    cut = (w.between).cut ∙ sym (append-nil ((w.between).front ++ tail));
-    spelled = ((w.between).front, tail, refl, (w.between).spelled, s, end);
-    passed = (allowed, passed, (w.between).passed);
-  };
-  behind = record {
-    front = (w.behind).front ++ (replicate w.fill 255 ++ tail);
-    blocks = (w.behind).blocks;
-    cut = (w.behind).cut ∙ sym (append-nil ((w.behind).front ++ (replicate w.fill 255 ++ tail)));
-    spelled = ((w.behind).front, replicate w.fill 255 ++ tail, refl, (w.behind).spelled, (fill_segment w.fill code contents tail s, end, head));
-    leads = (allowed, unbroken, (w.behind).leads);
-  };
-  plain = inl (refl, refl);
-}
+  -- a complete segment that breaks no rule, and is no scan header
+  pub segment_passed : (code : ℕ) (contents tail : List ℕ) → Beside limits rule sent bytes items tail → SpellsSegment code contents tail
+      → code_fault (segments_of items) code ≡ None → (code ≡ 0xd9 → ⊥) → (code ≡ 0xda → ⊥) → rule (segments_of items) code contents ≡ None → contents_rule limits (segments_of items) code contents ≡ None
+      → Beside limits rule sent bytes (segment code contents ∷ items) []
+  segment_passed code contents tail w s allowed end head passed unbroken = record {
+    fill = 0;
+    between = record {
+      front = (w.between).front ++ tail;
+      cut = (w.between).cut ∙ sym (append-nil ((w.between).front ++ tail));
+      spelled = ((w.between).front, tail, refl, (w.between).spelled, s, end);
+      passed = (allowed, passed, (w.between).passed);
+    };
+    behind = record {
+      front = (w.behind).front ++ (replicate w.fill 255 ++ tail);
+      blocks = (w.behind).blocks;
+      cut = (w.behind).cut ∙ sym (append-nil ((w.behind).front ++ (replicate w.fill 255 ++ tail)));
+      spelled = ((w.behind).front, replicate w.fill 255 ++ tail, refl, (w.behind).spelled, (fill_segment w.fill code contents tail s, end, head));
+      leads = (allowed, unbroken, (w.behind).leads);
+    };
+    plain = inl (refl, refl);
+  }
 
--- a scan header that breaks no rule: its scan begins, with the picture that the items lead to
-pub scan_begun : (limits : Limits) (rule : Rule) (sent bytes : List ℕ) (items : List Item) (blocks : Blocks) (contents tail : List ℕ) (places : List Place) (later : List (List Place)) → Beside limits rule sent bytes items tail
-    → Leads limits items blocks → SpellsSegment 0xda contents tail → code_fault (segments_of items) 0xda ≡ None → contents_rule limits (segments_of items) 0xda contents ≡ None
-    → (let s = scan_after limits (segments_of items) contents in chunks s.interval s.places ≡ places ∷ later)
-    → ScanAt limits bytes (first_place items blocks contents places later) []
-scan_begun limits rule sent bytes items blocks contents tail places later w leads s allowed unbroken some =
-    let head = replicate w.fill 255 ++ tail in
-    record {
-      front = (w.behind).front;
-      head = head;
-      text = [];
-      cut = (w.behind).cut ∙ sym (append-nil ((w.behind).front ++ head)) ∙ sym (append-nil (((w.behind).front ++ head) ++ []));
-      spelled = (w.behind).spelled;
-      header = fill_segment w.fill 0xda contents tail s;
-      intervals = refl;
-      leads = leads;
-      allowed = (allowed, unbroken);
-      due = some;
-    }
+  -- a scan header that breaks no rule: its scan begins, with the picture that the items lead to
+  pub scan_begun : (blocks : Blocks) (contents tail : List ℕ) (places : List Place) (later : List (List Place)) → Beside limits rule sent bytes items tail
+      → Leads limits items blocks → SpellsSegment 0xda contents tail → code_fault (segments_of items) 0xda ≡ None → contents_rule limits (segments_of items) 0xda contents ≡ None
+      → (let s = scan_after limits (segments_of items) contents in chunks s.interval s.places ≡ places ∷ later)
+      → ScanAt limits bytes (first_place items blocks contents places later) []
+  scan_begun blocks contents tail places later w leads s allowed unbroken some =
+      let head = replicate w.fill 255 ++ tail in
+      record {
+        front = (w.behind).front;
+        head = head;
+        text = [];
+        cut = (w.behind).cut ∙ sym (append-nil ((w.behind).front ++ head)) ∙ sym (append-nil (((w.behind).front ++ head) ++ []));
+        spelled = (w.behind).spelled;
+        header = fill_segment w.fill 0xda contents tail s;
+        intervals = refl;
+        leads = leads;
+        allowed = (allowed, unbroken);
+        due = some;
+      }
+
+  -- EOI, where some component was in no scan
+  pub missing_shown : (tail : List ℕ) → Beside limits rule sent bytes items tail
+      → SpellsMarker 0xd9 tail → code_fault (segments_of items) 0xd9 ≡ None → is_complete (frame_of limits (segments_of items)) (segments_of items) ≡ false → Reveals limits MissingComponent bytes
+  missing_shown tail w end framed incomplete =
+      inr (inl (items, replicate w.fill 255 ++ tail, w.behind, inr (inr (refl, fill_marker w.fill 0xd9 tail end, framed, incomplete))))
 
 -- the marker after a scan's last interval is sent without its fill bytes
 pub scan_left : (limits : Limits) (rule : Rule) (sent bytes : List ℕ) (p : ScanPlace) (after : Blocks) (fill code : ℕ) → ScanAt limits bytes p (replicate (suc fill) 255 ++ code ∷ []) → SpellsMarker code (255 ∷ code ∷ [])
@@ -241,10 +248,3 @@ scan_left limits rule sent bytes p after fill code w marker means between =
       },
       (p.blocks, w.allowed.0, w.allowed.1, w.leads, means),
     )
-
--- EOI, if each component was in a scan
--- or not
-pub missing_shown : (limits : Limits) (rule : Rule) (sent bytes : List ℕ) (items : List Item) (tail : List ℕ) → Beside limits rule sent bytes items tail
-    → SpellsMarker 0xd9 tail → code_fault (segments_of items) 0xd9 ≡ None → is_complete (frame_of limits (segments_of items)) (segments_of items) ≡ false → Reveals limits MissingComponent bytes
-missing_shown limits rule sent bytes items tail w end framed incomplete =
-    inr (inl (items, replicate w.fill 255 ++ tail, w.behind, inr (inr (refl, fill_marker w.fill 0xd9 tail end, framed, incomplete))))

@@ -1,5 +1,5 @@
 -- The frame of a transformed picture passes the checks of a frame.
-use Rattle.std.proofs.Common.{◌-◌, ◌≤◌, List, [], ◌∷◌, length, map, arith}
+use Rattle.std.proofs.Common.{◌≤◌, List, [], ◌∷◌, length, map, arith}
 use Rattle.std.specs.List.{All}
 use Rattle.std.proofs.lemmas.List.Elements.{All-head}
 use Rattle.jpg_spec.specs.Geometry.{greatest}

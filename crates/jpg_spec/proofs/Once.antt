@@ -1,5 +1,5 @@
 -- Bits spell at most one element of the current unit.
-use Rattle.std.proofs.Common.{◌≡◌, ℕ, zero, suc, ◌+◌, ◌-◌, ◌^◌, ◌<◌, ◌≤◌, Bool, true, false, cond, List, [], ◌∷◌, ◌++◌, length, take, drop, refl, sym, ap, ◌∙◌, subst, arith, ℤ, pos, negsuc, ⊎_elim, inl, inr}
+use Rattle.std.proofs.Common.{◌≡◌, ℕ, zero, suc, ◌+◌, ◌-◌, ◌*◌, ◌%◌, ◌^◌, ◌<◌, ◌≤◌, Bool, true, false, cond, ◌==◌, List, [], ◌∷◌, ◌++◌, length, take, drop, refl, sym, ap, ◌∙◌, subst, arith, ℤ, pos, negsuc, ⊎_elim, inl, inr}
 use Rattle.std.specs.Prelude.{◌⊎◌, nat_lt, ◌+ℤ◌, slice_index_or}
 use Rattle.std.specs.List.{Contains}
 use Rattle.std.proofs.lemmas.List.{append_assoc, append-nil, append_cancel_left}
@@ -7,7 +7,7 @@ use Rattle.std.proofs.lemmas.Bool.Decides.{nat_tests}
 use Rattle.jpg_spec.specs.Bits.{bits_of}
 use Rattle.jpg_spec.specs.Codes.{Code}
 use Rattle.jpg_spec.specs.Numbers.{category, digits, extra_bits}
-use Rattle.jpg_spec.specs.Elements.{Coding, UnitLeft, Standing, Covers, predictions_after, Element, difference, dc_bit, value, long_run, ends, Tells, SpellsElement, codes_due, zeros_in, nonzeros_in, is_zero, scaled, corrected, going_on, old_values, bits_after}
+use Rattle.jpg_spec.specs.Elements.{Coding, UnitLeft, Standing, Covers, predictions_after, Element, difference, dc_bit, value, long_run, ends, Tells, SpellsElement, codes_due, zeros_in, nonzeros_in, is_zero, scaled, corrected, going_on, old_values, symbol_of, bits_after, are_in_bounds}
 use Rattle.jpg_spec.proofs.Told.{before_zero, after_zero, long_passed, long_left, values_told, units_after}
 use Rattle.jpg_spec.proofs.Common.{append_inj, clash}
 
@@ -19,22 +19,18 @@ one_plus n = omega arith
 none_plus : (n : ℕ) → 0 + n ≡ n
 none_plus n = omega arith
 
+skips : (run : ℕ) (o : ℤ) → is_zero o ≡ false → (old : List ℤ) → before_zero run (o ∷ old) ≡ o ∷ before_zero run old
+skips zero o h old = ap (λ b. cond b [] (o ∷ before_zero zero old)) h
+skips (suc run) o h old = ap (λ b. cond b (o ∷ before_zero run old) (o ∷ before_zero (suc run) old)) h
+
 before_is : (passed old : List ℤ) → before_zero (zeros_in passed) (passed ++ pos 0 ∷ old) ≡ passed
 before_is [] old = refl
 before_is (pos zero ∷ passed) old =
     ap (λ k. before_zero k (pos zero ∷ passed ++ pos 0 ∷ old)) (one_plus (zeros_in passed)) ∙ ap (λ xs. pos zero ∷ xs) (before_is passed old)
 before_is (pos (suc n) ∷ passed) old =
     ap (λ k. before_zero k (pos (suc n) ∷ passed ++ pos 0 ∷ old)) (none_plus (zeros_in passed)) ∙ skips (zeros_in passed) (pos (suc n)) refl (passed ++ pos 0 ∷ old) ∙ ap (λ xs. pos (suc n) ∷ xs) (before_is passed old)
-  where
-    skips : (run : ℕ) (o : ℤ) → is_zero o ≡ false → (old : List ℤ) → before_zero run (o ∷ old) ≡ o ∷ before_zero run old
-    skips zero o h old = ap (λ b. cond b [] (o ∷ before_zero zero old)) h
-    skips (suc run) o h old = ap (λ b. cond b (o ∷ before_zero run old) (o ∷ before_zero (suc run) old)) h
 before_is (negsuc n ∷ passed) old =
     ap (λ k. before_zero k (negsuc n ∷ passed ++ pos 0 ∷ old)) (none_plus (zeros_in passed)) ∙ skips (zeros_in passed) (negsuc n) refl (passed ++ pos 0 ∷ old) ∙ ap (λ xs. negsuc n ∷ xs) (before_is passed old)
-  where
-    skips : (run : ℕ) (o : ℤ) → is_zero o ≡ false → (old : List ℤ) → before_zero run (o ∷ old) ≡ o ∷ before_zero run old
-    skips zero o h old = ap (λ b. cond b [] (o ∷ before_zero zero old)) h
-    skips (suc run) o h old = ap (λ b. cond b (o ∷ before_zero run old) (o ∷ before_zero (suc run) old)) h
 
 drop_past : (passed old : List ℤ) → drop (length passed + 1) (passed ++ pos 0 ∷ old) ≡ old
 drop_past [] old = refl
@@ -115,15 +111,24 @@ pair_0 a b s t e = ap (λ (q : Code). q.0) e
 pub pair_1 : (a b : List Bool) (s t : ℕ) → (let q : Code = (a, s) in q) ≡ (let q : Code = (b, t) in q) → s ≡ t
 pair_1 a b s t e = ap (λ (q : Code). q.1) e
 
-pub symbol_once : (codes : List Code) → ((a b : Code) (x y : List Bool) → Contains codes a → Contains codes b → a.0 ++ x ≡ b.0 ++ y → a ≡ b)
-    → (code code' : List Bool) (s s' : ℕ) (b b' x x' front front' : List Bool)
-    → Contains codes (code, s) → Contains codes (code', s') → front ≡ code ++ b → front' ≡ code' ++ b' → front ++ x ≡ front' ++ x'
-    → (s ≡ s') × (b ++ x ≡ b' ++ x')
-symbol_once codes one code code' s s' b b' x x' front front' h k e e' same =
-    let all : code ++ (b ++ x) ≡ code' ++ (b' ++ x') = sym (append_assoc code b x) ∙ ap (λ f. f ++ x) (sym e) ∙ same ∙ ap (λ f. f ++ x') e' ∙ append_assoc code' b' x' in
-    let q = one (code, s) (code', s') (b ++ x) (b' ++ x') h k all in
-    let c0 : code ≡ code' = pair_0 code code' s s' q in
-    (pair_1 code code' s s' q, append_cancel_left code (b ++ x) (b' ++ x') (all ∙ ap (λ f. f ++ (b' ++ x')) (sym c0)))
+-- what the laws take of a coding
+pub record Decodes (c : Coding) : Type 0 where
+  pub facts : NumberFacts
+  pub fits : IsCoding c
+  pub one : (u : UnitLeft) → OneWay (codes_due c u)
+
+-- A CODE of this symbol at the beginning of bits
+pub record BeginsSymbol (codes : List Code) (symbol : ℕ) (rest bits : List Bool) : Type 0 where
+  pub code : List Bool
+  pub is_code : Contains codes (code, symbol)
+  pub cut : bits ≡ code ++ rest
+
+-- the symbol and what follows its code are determined
+pub symbol_once : {codes : List Code} {s s' : ℕ} {rest rest' bits : List Bool} → OneWay codes → BeginsSymbol codes s rest bits → BeginsSymbol codes s' rest' bits → (s ≡ s') × (rest ≡ rest')
+symbol_once {s = s} {s' = s'} {rest = rest} {rest' = rest'} one k l =
+    let all : k.code ++ rest ≡ l.code ++ rest' = sym k.cut ∙ l.cut in
+    let q = one (k.code, s) (l.code, s') rest rest' k.is_code l.is_code all in
+    (pair_1 k.code l.code s s' q, append_cancel_left k.code rest rest' (all ∙ ap (λ f. f ++ rest') (sym (pair_0 k.code l.code s s' q))))
 
 same_value : (run run' : ℕ) (v v' : ℤ) (bits bits' : List Bool) → run ≡ run' → v ≡ v' → bits ≡ bits' → value run v bits ≡ value run' v' bits'
 same_value run run' v v' bits bits' a b e = cc
@@ -131,106 +136,135 @@ same_value run run' v v' bits bits' a b e = cc
 same_ends : (m n : ℕ) (bits bits' : List Bool) → m ≡ n → bits ≡ bits' → ends m bits ≡ ends n bits'
 same_ends m n bits bits' a b = cc
 
--- THE LAW
-pub element_once : (c : Coding) (p : ℤ) (u : UnitLeft) (us : List UnitLeft) (e e' : Element) (here here' : List ℤ) (left left' : List UnitLeft) (front front' x x' : List Bool)
-    → NumberFacts → IsCoding c → OneWay (codes_due c u)
-    → SpellsElement (codes_due c u) e front → Tells c p e u us here left
-    → SpellsElement (codes_due c u) e' front' → Tells c p e' u us here' left'
-    → front ++ x ≡ front' ++ x' → e ≡ e'
-element_once c p u us (difference d) (difference d') here here' left left' front front' x x' facts ic one s t s' t' same =
-    let r = symbol_once (codes_due c u) one s.0 s'.0 _ _ _ _ x x' front front' s.1 s'.1 s.2 s'.2 same in
-    let i = append_inj (extra_bits d) (extra_bits d') x x' (facts.size d ∙ r.0 ∙ sym (facts.size d')) r.1 in
-    ap difference (facts.apart d d' r.0 i.0)
-element_once c p u us (difference d) (dc_bit b') here here' left left' front front' x x' facts ic one s t s' t' same = absurd (clash c.refines t'.3 t.3)
-element_once c p u us (difference d) (value run' v' bits') here here' left left' front front' x x' facts ic one s t s' t' same = absurd (clash u.has_dc t.2 t'.2)
-element_once c p u us (difference d) (long_run bits') here here' left left' front front' x x' facts ic one s t s' t' same = absurd (clash u.has_dc t.2 t'.2)
-element_once c p u us (difference d) (ends bands' bits') here here' left left' front front' x x' facts ic one s t s' t' same = absurd (clash u.has_dc t.2 t'.0)
-element_once c p u us (dc_bit b) (difference d') here here' left left' front front' x x' facts ic one s t s' t' same = absurd (clash c.refines t.3 t'.3)
-element_once c p u us (dc_bit b) (dc_bit b') here here' left left' front front' x x' facts ic one s t s' t' same =
-    let e : b ∷ x ≡ b' ∷ x' = ap (λ f. f ++ x) (sym s) ∙ same ∙ ap (λ f. f ++ x') s' in
-    let g : b ≡ b' = cc in
-    ap dc_bit g
-element_once c p u us (dc_bit b) (value run' v' bits') here here' left left' front front' x x' facts ic one s t s' t' same = absurd (clash u.has_dc t.2 t'.2)
-element_once c p u us (dc_bit b) (long_run bits') here here' left left' front front' x x' facts ic one s t s' t' same = absurd (clash u.has_dc t.2 t'.2)
-element_once c p u us (dc_bit b) (ends bands' bits') here here' left left' front front' x x' facts ic one s t s' t' same = absurd (clash u.has_dc t.2 t'.0)
-element_once c p u us (value run v bits) (difference d') here here' left left' front front' x x' facts ic one s t s' t' same = absurd (clash u.has_dc t'.2 t.2)
-element_once c p u us (value run v bits) (dc_bit b') here here' left left' front front' x x' facts ic one s t s' t' same = absurd (clash u.has_dc t'.2 t.2)
-element_once c p u us (value run v bits) (value run' v' bits') here here' left left' front front' x x' facts ic one s t s' t' same =
-    let r = symbol_once (codes_due c u) one s.0 s'.0 _ _ _ _ x x' front front' s.1 s'.1 s.2 s'.2 same in
+-- AN ELEMENT at the beginning of bits, at the unit u with others after it
+pub record BeginsElement (c : Coding) (p : ℤ) (u : UnitLeft) (us : List UnitLeft) (e : Element) (bits : List Bool) : Type 0 where
+  pub here : List ℤ
+  pub left : List UnitLeft
+  pub front : List Bool
+  pub rest : List Bool
+  pub cut : bits ≡ front ++ rest
+  pub spelled : SpellsElement (codes_due c u) e front
+  pub tells : Tells c p e u us here left
+
+-- no bit of DC is expected
+abbrev pub WantsCode : Coding → UnitLeft → Type 0
+WantsCode c u = (u.has_dc ≡ true) × (c.refines ≡ true) → ⊥
+
+pub begins_code : (codes : List Code) (symbol : ℕ) (behind front rest bits : List Bool) → (code : List Bool) × Contains codes (code, symbol) × (front ≡ code ++ behind) → bits ≡ front ++ rest
+    → BeginsSymbol codes symbol (behind ++ rest) bits
+begins_code codes symbol behind front rest bits s e = record { code = s.0; is_code = s.1; cut = e ∙ ap (λ f. f ++ rest) s.2 ∙ append_assoc s.0 behind rest }
+
+-- an element that isn't a bit of DC begins with a code of its symbol
+pub codes_are_due : (c : Coding) (p : ℤ) (e : Element) (u : UnitLeft) (us : List UnitLeft) (here : List ℤ) (left : List UnitLeft) (front : List Bool) → WantsCode c u → Tells c p e u us here left
+    → SpellsElement (codes_due c u) e front → (code : List Bool) × Contains (codes_due c u) (code, symbol_of e) × (front ≡ code ++ bits_after e)
+codes_are_due c p (dc_bit b) u us here left front due t s = absurd (due (t.2, t.3))
+codes_are_due c p e u us here left front due t s = s
+
+pub element_code : {c : Coding} {p : ℤ} {u : UnitLeft} {us : List UnitLeft} {e : Element} {bits : List Bool} → WantsCode c u → (a : BeginsElement c p u us e bits)
+    → BeginsSymbol (codes_due c u) (symbol_of e) (bits_after e ++ a.rest) bits
+element_code {c = c} {p = p} {u = u} {us = us} {e = e} {bits = bits} due a =
+    begins_code (codes_due c u) (symbol_of e) (bits_after e) a.front a.rest bits (codes_are_due c p e u us a.here a.left a.front due a.tells a.spelled) a.cut
+
+-- THE KIND of an element is determined by its symbol, and by the unit that it is in
+abbrev pub kind_of : Element → ℕ
+kind_of (difference d) = 0
+kind_of (dc_bit b) = 1
+kind_of (value run v bits) = 2
+kind_of (long_run bits) = 3
+kind_of (ends bands bits) = 4
+
+abbrev kind_by : Bool → Bool → ℕ → ℕ
+kind_by true refines symbol = cond refines 1 0
+kind_by false refines symbol = cond (symbol == 0xf0) 3 (cond (symbol % 16 == 0) 4 2)
+
+kind_ac : (refines : Bool) (symbol : ℕ) (long none : Bool) → (symbol == 0xf0) ≡ long → (symbol % 16 == 0) ≡ none → kind_by false refines symbol ≡ cond long 3 (cond none 4 2)
+kind_ac refines symbol long none e f = ap (λ b. cond b 3 (cond (symbol % 16 == 0) 4 2)) e ∙ ap (λ b. cond long 3 (cond b 4 2)) f
+
+kind_is : (c : Coding) (p : ℤ) (e : Element) (u : UnitLeft) (us : List UnitLeft) (here : List ℤ) (left : List UnitLeft) → IsCoding c → Tells c p e u us here left → kind_by u.has_dc c.refines (symbol_of e) ≡ kind_of e
+kind_is c p (difference d) u us here left ic t = ap (λ b. kind_by b c.refines (category d)) t.2 ∙ ap (λ b. kind_by true b (category d)) t.3
+kind_is c p (dc_bit b) u us here left ic t = ap (λ b. kind_by b c.refines 0) t.2 ∙ ap (λ b. kind_by true b 0) t.3
+kind_is c p (value run v bits) u us here left ic t =
     let low = t.3 in
     let high = t.4 in
-    let low' = t'.3 in
-    let high' = t'.4 in
     let most = ic.0 in
-    let er : run ≡ run' = omega (arith, r.0) in
-    let es : category v ≡ category v' = omega (arith, r.0) in
-    let i = append_inj (extra_bits v) (extra_bits v') (bits ++ x) (bits' ++ x') (facts.size v ∙ es ∙ sym (facts.size v')) (sym (append_assoc (extra_bits v) bits x) ∙ r.1 ∙ append_assoc (extra_bits v') bits' x') in
-    let pass = value_passed run u t.0 t.1 t.6 t.7 in
-    let pass' = value_passed run' u t'.0 t'.1 t'.6 t'.7 in
-    let n : length bits ≡ length bits' = sym t.8 ∙ ap nonzeros_in (pass ∙ ap (λ k. before_zero k u.old) er ∙ sym pass') ∙ t'.8 in
-    let j = append_inj bits bits' x x' n i.1 in
-    same_value run run' v v' bits bits' er (facts.apart v v' es i.0) j.0
-element_once c p u us (value run v bits) (long_run bits') here here' left left' front front' x x' facts ic one s t s' t' same =
-    let r = symbol_once (codes_due c u) one s.0 s'.0 _ _ _ _ x x' front front' s.1 s'.1 s.2 s'.2 same in
-    let low = t.3 in
-    let high = t.4 in
-    let most = ic.0 in
-    let f : ⊥ = omega (arith, r.0) in
-    absurd f
-element_once c p u us (value run v bits) (ends bands' bits') here here' left left' front front' x x' facts ic one s t s' t' same =
-    let r = symbol_once (codes_due c u) one s.0 s'.0 _ _ _ _ x x' front front' s.1 s'.1 s.2 s'.2 same in
-    let low = t.3 in
-    let high = t.4 in
-    let most = ic.0 in
-    let f : ⊥ = omega (arith, r.0) in
-    absurd f
-element_once c p u us (long_run bits) (difference d') here here' left left' front front' x x' facts ic one s t s' t' same = absurd (clash u.has_dc t'.2 t.2)
-element_once c p u us (long_run bits) (dc_bit b') here here' left left' front front' x x' facts ic one s t s' t' same = absurd (clash u.has_dc t'.2 t.2)
-element_once c p u us (long_run bits) (value run' v' bits') here here' left left' front front' x x' facts ic one s t s' t' same =
-    let r = symbol_once (codes_due c u) one s.0 s'.0 _ _ _ _ x x' front front' s.1 s'.1 s.2 s'.2 same in
-    let low = t'.3 in
-    let high = t'.4 in
-    let most = ic.0 in
-    let f : ⊥ = omega (arith, r.0) in
-    absurd f
-element_once c p u us (long_run bits) (long_run bits') here here' left left' front front' x x' facts ic one s t s' t' same =
-    let r = symbol_once (codes_due c u) one s.0 s'.0 _ _ _ _ x x' front front' s.1 s'.1 s.2 s'.2 same in
-    let pass = passes u t.0 t.1 t.3 in
-    let pass' = passes u t'.0 t'.1 t'.3 in
-    let n : length bits ≡ length bits' = sym t.4 ∙ ap nonzeros_in (pass.0 ∙ sym pass'.0) ∙ t'.4 in
-    ap long_run (append_inj bits bits' x x' n r.1).0
-element_once c p u us (long_run bits) (ends bands' bits') here here' left left' front front' x x' facts ic one s t s' t' same =
-    let r = symbol_once (codes_due c u) one s.0 s'.0 _ _ _ _ x x' front front' s.1 s'.1 s.2 s'.2 same in
-    let high = t'.2 in
-    let most = ic.1 in
-    let f : ⊥ = omega (arith, r.0) in
-    absurd f
-element_once c p u us (ends bands bits) (difference d') here here' left left' front front' x x' facts ic one s t s' t' same = absurd (clash u.has_dc t'.2 t.0)
-element_once c p u us (ends bands bits) (dc_bit b') here here' left left' front front' x x' facts ic one s t s' t' same = absurd (clash u.has_dc t'.2 t.0)
-element_once c p u us (ends bands bits) (value run' v' bits') here here' left left' front front' x x' facts ic one s t s' t' same =
-    let r = symbol_once (codes_due c u) one s.0 s'.0 _ _ _ _ x x' front front' s.1 s'.1 s.2 s'.2 same in
-    let low = t'.3 in
-    let high = t'.4 in
-    let most = ic.0 in
-    let f : ⊥ = omega (arith, r.0) in
-    absurd f
-element_once c p u us (ends bands bits) (long_run bits') here here' left left' front front' x x' facts ic one s t s' t' same =
-    let r = symbol_once (codes_due c u) one s.0 s'.0 _ _ _ _ x x' front front' s.1 s'.1 s.2 s'.2 same in
+    let z : (16 * run + category v == 0xf0) ≡ false = grind (arith, nat_tests) in
+    let m : ((16 * run + category v) % 16 == 0) ≡ false = grind (arith, nat_tests) in
+    ap (λ b. kind_by b c.refines (16 * run + category v)) t.2 ∙ kind_ac c.refines (16 * run + category v) false false z m
+kind_is c p (long_run bits) u us here left ic t = ap (λ b. kind_by b c.refines 0xf0) t.2
+kind_is c p (ends bands bits) u us here left ic t =
     let high = t.2 in
     let most = ic.1 in
-    let f : ⊥ = omega (arith, r.0) in
-    absurd f
-element_once c p u us (ends bands bits) (ends bands' bits') here here' left left' front front' x x' facts ic one s t s' t' same =
-    let r = symbol_once (codes_due c u) one s.0 s'.0 _ _ _ _ x x' front front' s.1 s'.1 s.2 s'.2 same in
-    let some = facts.some bands t.1 in
-    let some' = facts.some bands' t'.1 in
-    let es : digits bands ≡ digits bands' = omega (arith, r.0) in
-    let b1 = bits_of (digits bands - 1) bands in
-    let b2 = bits_of (digits bands' - 1) bands' in
-    let i = append_inj b1 b2 (bits ++ x) (bits' ++ x') (facts.bits (digits bands - 1) bands ∙ ap (λ k. k - 1) es ∙ sym (facts.bits (digits bands' - 1) bands')) (sym (append_assoc b1 bits x) ∙ r.1 ∙ append_assoc b2 bits' x') in
-    let eb = facts.bands bands bands' t.1 t'.1 es i.0 in
-    let n : length bits ≡ length bits' = sym t.4 ∙ ap (λ k. nonzeros_in (old_values (take k (u ∷ us)))) eb ∙ t'.4 in
-    same_ends bands bands' bits bits' eb (append_inj bits bits' x x' n i.1).0
+    let n = digits bands - 1 in
+    let z : (16 * n == 0xf0) ≡ false = grind (arith, nat_tests) in
+    let m : ((16 * n) % 16 == 0) ≡ true = grind (arith, nat_tests) in
+    ap (λ b. kind_by b c.refines (16 * n)) t.0 ∙ kind_ac c.refines (16 * n) false true z m
+
+module _ (c : Coding) (p : ℤ) (u : UnitLeft) (us : List UnitLeft) (law : Decodes c) where
+  kind_once : (e e' : Element) (bits : List Bool) → BeginsElement c p u us e bits → BeginsElement c p u us e' bits → kind_of e ≡ kind_of e'
+  kind_once e e' bits a b = by u.has_dc refl c.refines refl
+    where
+      is_kind : kind_by u.has_dc c.refines (symbol_of e) ≡ kind_of e
+      is_kind = kind_is c p e u us a.here a.left law.fits a.tells
+
+      other_kind : kind_by u.has_dc c.refines (symbol_of e') ≡ kind_of e'
+      other_kind = kind_is c p e' u us b.here b.left law.fits b.tells
+
+      by_symbol : WantsCode c u → kind_of e ≡ kind_of e'
+      by_symbol due = sym is_kind ∙ ap (kind_by u.has_dc c.refines) (symbol_once (law.one u) (element_code due a) (element_code due b)).0 ∙ other_kind
+
+      by : (dc : Bool) → u.has_dc ≡ dc → (refines : Bool) → c.refines ≡ refines → kind_of e ≡ kind_of e'
+      by true f refines g =
+          sym is_kind ∙ ap (λ d. kind_by d c.refines (symbol_of e)) f ∙ sym (ap (λ d. kind_by d c.refines (symbol_of e')) f) ∙ other_kind
+      by false f refines g = by_symbol (λ h. clash u.has_dc h.0 f)
+
+  -- THE LAW
+  pub element_once : (e e' : Element) (bits : List Bool) → BeginsElement c p u us e bits → BeginsElement c p u us e' bits → e ≡ e'
+  element_once (difference d) (difference d') bits a b =
+      let r = symbol_once (law.one u) (element_code (λ h. clash c.refines h.1 (a.tells).3) a) (element_code (λ h. clash c.refines h.1 (b.tells).3) b) in
+      let i = append_inj (extra_bits d) (extra_bits d') a.rest b.rest ((law.facts).size d ∙ r.0 ∙ sym ((law.facts).size d')) r.1 in
+      ap difference ((law.facts).apart d d' r.0 i.0)
+  element_once (dc_bit b) (dc_bit b') bits k l =
+      let e : b ∷ k.rest ≡ b' ∷ l.rest = ap (λ f. f ++ k.rest) (sym k.spelled) ∙ sym k.cut ∙ l.cut ∙ ap (λ f. f ++ l.rest) l.spelled in
+      let g : b ≡ b' = cc in
+      ap dc_bit g
+  element_once (value run v bits) (value run' v' bits') stream a b =
+      let facts = law.facts in
+      let t = a.tells in
+      let t' = b.tells in
+      let r = symbol_once (law.one u) (element_code (λ h. clash u.has_dc h.0 t.2) a) (element_code (λ h. clash u.has_dc h.0 t'.2) b) in
+      let low = t.3 in
+      let high = t.4 in
+      let low' = t'.3 in
+      let high' = t'.4 in
+      let most = (law.fits).0 in
+      let er : run ≡ run' = omega (arith, r.0) in
+      let es : category v ≡ category v' = omega (arith, r.0) in
+      let i = append_inj (extra_bits v) (extra_bits v') (bits ++ a.rest) (bits' ++ b.rest) (facts.size v ∙ es ∙ sym (facts.size v')) (sym (append_assoc (extra_bits v) bits a.rest) ∙ r.1 ∙ append_assoc (extra_bits v') bits' b.rest) in
+      let pass = value_passed run u t.0 t.1 t.6 t.7 in
+      let pass' = value_passed run' u t'.0 t'.1 t'.6 t'.7 in
+      let n : length bits ≡ length bits' = sym t.8 ∙ ap nonzeros_in (pass ∙ ap (λ k. before_zero k u.old) er ∙ sym pass') ∙ t'.8 in
+      same_value run run' v v' bits bits' er (facts.apart v v' es i.0) (append_inj bits bits' a.rest b.rest n i.1).0
+  element_once (long_run bits) (long_run bits') stream a b =
+      let t = a.tells in
+      let t' = b.tells in
+      let r = symbol_once (law.one u) (element_code (λ h. clash u.has_dc h.0 t.2) a) (element_code (λ h. clash u.has_dc h.0 t'.2) b) in
+      let n : length bits ≡ length bits' = sym t.4 ∙ ap nonzeros_in ((passes u t.0 t.1 t.3).0 ∙ sym (passes u t'.0 t'.1 t'.3).0) ∙ t'.4 in
+      ap long_run (append_inj bits bits' a.rest b.rest n r.1).0
+  element_once (ends bands bits) (ends bands' bits') stream a b =
+      let facts = law.facts in
+      let t = a.tells in
+      let t' = b.tells in
+      let r = symbol_once (law.one u) (element_code (λ h. clash u.has_dc h.0 t.0) a) (element_code (λ h. clash u.has_dc h.0 t'.0) b) in
+      let some = facts.some bands t.1 in
+      let some' = facts.some bands' t'.1 in
+      let es : digits bands ≡ digits bands' = omega (arith, r.0) in
+      let b1 = bits_of (digits bands - 1) bands in
+      let b2 = bits_of (digits bands' - 1) bands' in
+      let i = append_inj b1 b2 (bits ++ a.rest) (bits' ++ b.rest) (facts.bits (digits bands - 1) bands ∙ ap (λ k. k - 1) es ∙ sym (facts.bits (digits bands' - 1) bands')) (sym (append_assoc b1 bits a.rest) ∙ r.1 ∙ append_assoc b2 bits' b.rest) in
+      let eb = facts.bands bands bands' t.1 t'.1 es i.0 in
+      let n : length bits ≡ length bits' = sym t.4 ∙ ap (λ k. nonzeros_in (old_values (take k (u ∷ us)))) eb ∙ t'.4 in
+      same_ends bands bands' bits bits' eb (append_inj bits bits' a.rest b.rest n i.1).0
+  element_once e e' bits a b = absurd (omega (arith, kind_once e e' bits a b))
 
 coded_front : (codes : List Code) → ((a b : Code) (x y : List Bool) → Contains codes a → Contains codes b → a.0 ++ x ≡ b.0 ++ y → a ≡ b)
     → (symbol : ℕ) (b front front' x x' : List Bool)
@@ -255,50 +289,149 @@ head_inj u u' us us' e = (cc, cc)
 pub no_units : (u : UnitLeft) (us : List UnitLeft) → u ∷ us ≡ [] → ⊥
 no_units u us e = cc
 
--- two coverings that begin with an element each begin alike, and continue from one state
-pub record SameStep (c : Coding) (s : Standing) (e e' : Element) (es' : List Element) (told told' : List ℤ) (bits bits' x x' : List Bool) (t' : Standing) (more more' : List ℤ) (rest : List Bool) (next : Standing) : Type 0 where
-  pub here : List ℤ
-  pub front : List Bool
-  pub rest' : List Bool
+-- of two elements that the same bits begin with all is the same
+pub record SameElement {c : Coding} {p : ℤ} {u : UnitLeft} {us : List UnitLeft} {e e' : Element} {bits : List Bool} (a : BeginsElement c p u us e bits) (b : BeginsElement c p u us e' bits) : Type 0 where
   pub element : e ≡ e'
-  pub values : (told ≡ here ++ more) × (told' ≡ here ++ more')
-  pub spelling : (bits ≡ front ++ rest) × (bits' ≡ front ++ rest') × (rest ++ x ≡ rest' ++ x')
-  pub later : Covers c next es' more' rest' t'
+  pub here : a.here ≡ b.here
+  pub left : a.left ≡ b.left
+  pub front : a.front ≡ b.front
+  pub rest : a.rest ≡ b.rest
 
-pub covers_step : (c : Coding) (s : Standing) (e e' : Element) (es es' : List Element) (told told' : List ℤ) (bits bits' x x' : List Bool) (t t' : Standing)
-    → NumberFacts → IsCoding c → ((u : UnitLeft) → OneWay (codes_due c u))
-    → (k : Covers c s (e ∷ es) told bits t) → (k' : Covers c s (e' ∷ es') told' bits' t') → bits ++ x ≡ bits' ++ x'
-    → SameStep c s e e' es' told told' bits bits' x x' t' k.4 k'.4 k.6 (record { predictions = predictions_after s.predictions (k.0).component e; left = k.3 })
-covers_step c s e e' es es' told told' bits bits' x x' t t' facts ic one k k' same =
-    let u = k.0 in
-    let us = k.1 in
-    let h = head_inj u k'.0 us k'.1 (sym k.7 ∙ k'.7) in
-    let Q : UnitLeft → List UnitLeft → Type 0 = λ v vs. SpellsElement (codes_due c v) e' k'.5 × Tells c (s.predictions v.component) e' v vs k'.2 k'.3
-    × Covers c (record { predictions = predictions_after s.predictions v.component e'; left = k'.3 }) es' k'.4 k'.6 t' in
-    let q' : Q k'.0 k'.1 = (k'.10, k'.11, k'.13) in
-    let q1 : Q u k'.1 = subst (λ v. Q v k'.1) (sym h.0) q' in
-    let q : Q u us = subst (λ vs. Q u vs) (sym h.1) q1 in
-    let all : k.5 ++ (k.6 ++ x) ≡ k'.5 ++ (k'.6 ++ x') = sym (append_assoc k.5 k.6 x) ∙ ap (λ f. f ++ x) (sym k.9) ∙ same ∙ ap (λ f. f ++ x') k'.9 ∙ append_assoc k'.5 k'.6 x' in
-    let ee = element_once c (s.predictions u.component) u us e e' k.2 k'.2 k.3 k'.3 k.5 k'.5 (k.6 ++ x) (k'.6 ++ x') facts ic (one u) k.10 k.11 q.0 q.1 all in
-    let R : Element → Type 0 = λ d. SpellsElement (codes_due c u) d k'.5 × Tells c (s.predictions u.component) d u us k'.2 k'.3
-    × Covers c (record { predictions = predictions_after s.predictions u.component d; left = k'.3 }) es' k'.4 k'.6 t' in
-    let r : R e = subst R (sym ee) (q.0, q.1, q.2) in
-    let a = told_is c (s.predictions u.component) e u us k.2 k.3 k.11 in
-    let a' = told_is c (s.predictions u.component) e u us k'.2 k'.3 r.1 in
-    let el : k'.3 ≡ k.3 = a'.1 ∙ sym a.1 in
-    let ef = front_once (codes_due c u) (one u) e k.5 k'.5 (k.6 ++ x) (k'.6 ++ x') k.10 r.0 all in
-    let eh : k'.2 ≡ k.2 = a'.0 ∙ sym a.0 in
-    record {
-      here = k.2;
-      front = k.5;
-      rest' = k'.6;
-      element = ee;
-      values = (k.8, k'.8 ∙ ap (λ ys. ys ++ k'.4) eh);
-      spelling = (k.9, k'.9 ∙ ap (λ ys. ys ++ k'.6) (sym ef), append_cancel_left k.5 (k.6 ++ x) (k'.6 ++ x') (all ∙ ap (λ f. f ++ (k'.6 ++ x')) (sym ef)));
-      later = subst (λ l. Covers c (record { predictions = predictions_after s.predictions u.component e; left = l }) es' k'.4 k'.6 t') el r.2;
-    }
+module _ (c : Coding) (p : ℤ) (u : UnitLeft) (us : List UnitLeft) (law : Decodes c) where
+  pub same_element : (e e' : Element) (bits : List Bool) → (a : BeginsElement c p u us e bits) → (b : BeginsElement c p u us e' bits) → SameElement a b
+  same_element e e' bits a b = subst (λ d. (b : BeginsElement c p u us d bits) → SameElement a b) (element_once c p u us law e e' bits a b) all b
+    where
+      all : (b : BeginsElement c p u us e bits) → SameElement a b
+      all b =
+          let t = told_is c p e u us a.here a.left a.tells in
+          let t' = told_is c p e u us b.here b.left b.tells in
+          let f = front_once (codes_due c u) (law.one u) e a.front b.front a.rest b.rest a.spelled b.spelled (sym a.cut ∙ b.cut) in
+          record {
+            element = refl;
+            here = t.0 ∙ sym t'.0;
+            left = t.1 ∙ sym t'.1;
+            front = f;
+            rest = append_cancel_left a.front a.rest b.rest (sym a.cut ∙ b.cut ∙ ap (λ g. g ++ b.rest) (sym f));
+          }
+
+-- COMPLETE ELEMENTS at the beginning of bits, from one state to another
+pub record BeginsElements (c : Coding) (s : Standing) (es : List Element) (bits : List Bool) : Type 0 where
+  pub told : List ℤ
+  pub front : List Bool
+  pub rest : List Bool
+  pub standing : Standing
+  pub cut : bits ≡ front ++ rest
+  pub covers : Covers c s es told front standing
+
+abbrev pub after_element : Standing → UnitLeft → Element → List UnitLeft → Standing
+after_element s u e left = record { predictions = predictions_after s.predictions u.component e; left = left }
+
+-- the first of them, where these units are left, and the others
+pub record FirstElement {c : Coding} {s : Standing} {e : Element} {es : List Element} {bits : List Bool} (u : UnitLeft) (us : List UnitLeft) (a : BeginsElements c s (e ∷ es) bits) : Type 0 where
+  pub element : BeginsElement c (s.predictions u.component) u us e bits
+  pub in_bounds : are_in_bounds c.bounds u.has_dc element.here ≡ true
+  pub more : List ℤ
+  pub front : List Bool
+  pub told_is : a.told ≡ element.here ++ more
+  pub front_is : a.front ≡ element.front ++ front
+  pub rest_is : element.rest ≡ front ++ a.rest
+  pub covers : Covers c (after_element s u e element.left) es more front a.standing
+
+pub first_element : {c : Coding} {s : Standing} {e : Element} {es : List Element} {bits : List Bool} (u : UnitLeft) (us : List UnitLeft) → s.left ≡ u ∷ us → (a : BeginsElements c s (e ∷ es) bits) → FirstElement u us a
+first_element u us left a =
+    let k = a.covers in
+    let h = head_inj k.0 u k.1 us (sym k.7 ∙ left) in
+    subst (λ vs. FirstElement u vs a) h.1 (subst (λ v. FirstElement v k.1 a) h.0 (record {
+      element = record { here = k.2; left = k.3; front = k.5; rest = k.6 ++ a.rest; cut = a.cut ∙ ap (λ f. f ++ a.rest) k.9 ∙ append_assoc k.5 k.6 a.rest; spelled = k.10; tells = k.11 };
+      in_bounds = k.12;
+      more = k.4;
+      front = k.6;
+      told_is = k.8;
+      front_is = k.9;
+      rest_is = refl;
+      covers = k.13;
+    }))
+
+-- The second ones continue the first.
+pub record Continues {c : Coding} {s : Standing} {es es' : List Element} {bits : List Bool} (a : BeginsElements c s es bits) (b : BeginsElements c s es' bits) : Type 0 where
+  pub elements : List Element
+  pub values : List ℤ
+  pub spelling : List Bool
+  pub joined : (es' ≡ es ++ elements) × (b.told ≡ a.told ++ values) × (b.front ≡ a.front ++ spelling)
+  pub behind : a.rest ≡ spelling ++ b.rest
+  pub covers : Covers c a.standing elements values spelling b.standing
+
+continues_none : (c : Coding) (s : Standing) (es' : List Element) (bits : List Bool) (a : BeginsElements c s [] bits) (b : BeginsElements c s es' bits) → Continues a b
+continues_none c s es' bits a b = record {
+  elements = es';
+  values = b.told;
+  spelling = b.front;
+  joined = (refl, ap (λ ys. ys ++ b.told) (sym (a.covers).0), ap (λ ys. ys ++ b.front) (sym (a.covers).1));
+  behind = ap (λ ys. ys ++ a.rest) (sym (a.covers).1) ∙ sym a.cut ∙ b.cut;
+  covers = subst (λ z. Covers c z es' b.told b.front b.standing) (sym (a.covers).2) b.covers;
+}
+
+-- lists that begin alike, and then one continues the other
+longer_by : {A : Type 0} (all all' here here' more more' rest : List A) → all ≡ here ++ more → all' ≡ here' ++ more' → here ≡ here' → more' ≡ more ++ rest → all' ≡ all ++ rest
+longer_by all all' here here' more more' rest e e' h m = e' ∙ ap (λ l. here' ++ l) m ∙ ap (λ l. l ++ (more ++ rest)) (sym h) ∙ sym (append_assoc here more rest) ∙ ap (λ l. l ++ rest) (sym e)
 
 -- THE LAW: of two coverings of the same bits, one is the prefix of the other
+pub elements_once : (c : Coding) (s : Standing) (es es' : List Element) (bits : List Bool) → Decodes c → (a : BeginsElements c s es bits) → (b : BeginsElements c s es' bits) → Continues a b ⊎ Continues b a
+elements_once c s [] es' bits law a b = inl (continues_none c s es' bits a b)
+elements_once c s (e ∷ es) [] bits law a b = inr (continues_none c s (e ∷ es) bits b a)
+elements_once c s (e ∷ es) (e' ∷ es') bits law a b =
+    let u = (a.covers).0 in
+    let us = (a.covers).1 in
+    let f = first_element u us (a.covers).7 a in
+    let g = first_element u us (a.covers).7 b in
+    let same = same_element c (s.predictions u.component) u us law e e' bits f.element g.element in
+    let next = after_element s u e (f.element).left in
+    let covers1 = subst (λ d. Covers c (after_element s u d (g.element).left) es' g.more g.front b.standing) (sym same.element) g.covers in
+    let covers2 : Covers c next es' g.more g.front b.standing = subst (λ l. Covers c (after_element s u e l) es' g.more g.front b.standing) (sym same.left) covers1 in
+    let a' : BeginsElements c next es (f.element).rest = record { told = f.more; front = f.front; rest = a.rest; standing = a.standing; cut = f.rest_is; covers = f.covers } in
+    let b' : BeginsElements c next es' (f.element).rest = record { told = g.more; front = g.front; rest = b.rest; standing = b.standing; cut = same.rest ∙ g.rest_is; covers = covers2 } in
+    ⊎_elim
+    (λ (z : Continues a' b'). inl (record {
+      elements = z.elements;
+      values = z.values;
+      spelling = z.spelling;
+      joined = (
+        ap (λ d. d ∷ es') (sym same.element) ∙ ap (λ l. e ∷ l) z.joined.0,
+        longer_by a.told b.told (f.element).here (g.element).here f.more g.more z.values f.told_is g.told_is same.here z.joined.1,
+        longer_by a.front b.front (f.element).front (g.element).front f.front g.front z.spelling f.front_is g.front_is same.front z.joined.2,
+      );
+      behind = z.behind;
+      covers = z.covers;
+    }))
+    (λ (z : Continues b' a'). inr (record {
+      elements = z.elements;
+      values = z.values;
+      spelling = z.spelling;
+      joined = (
+        ap (λ d. d ∷ es) same.element ∙ ap (λ l. e' ∷ l) z.joined.0,
+        longer_by b.told a.told (g.element).here (f.element).here g.more f.more z.values g.told_is f.told_is (sym same.here) z.joined.1,
+        longer_by b.front a.front (g.element).front (f.element).front g.front f.front z.spelling g.front_is f.front_is (sym same.front) z.joined.2,
+      );
+      behind = z.behind;
+      covers = z.covers;
+    }))
+    (elements_once c next es es' (f.element).rest law a' b')
+
+-- THE LAW: complete intervals are spelled in one way
+no_more : (c : Coding) (t : Standing) (es : List Element) (values : List ℤ) (spelling : List Bool) (t' : Standing) → t.left ≡ [] → Covers c t es values spelling t' → (es ≡ []) × (values ≡ []) × (spelling ≡ [])
+no_more c t [] values spelling t' none k = (refl, k.0, k.1)
+no_more c t (e ∷ es) values spelling t' none k = absurd (no_units k.0 k.1 (sym k.7 ∙ none))
+
+all_there : (c : Coding) (s : Standing) (es es' : List Element) (bits : List Bool) (a : BeginsElements c s es bits) (b : BeginsElements c s es' bits) → (a.standing).left ≡ [] → Continues a b
+    → (es ≡ es') × (a.told ≡ b.told) × (a.front ≡ b.front)
+all_there c s es es' bits a b none g =
+    let n = no_more c a.standing g.elements g.values g.spelling b.standing none g.covers in (
+      sym (g.joined.0 ∙ ap (λ z. es ++ z) n.0 ∙ append-nil es),
+      sym (g.joined.1 ∙ ap (λ z. a.told ++ z) n.1 ∙ append-nil a.told),
+      sym (g.joined.2 ∙ ap (λ z. a.front ++ z) n.2 ∙ append-nil a.front),
+    )
+
+-- the same of elements, values and bits
 pub record GoesOn (c : Coding) (es es' : List Element) (told told' : List ℤ) (bits bits' : List Bool) (t t' : Standing) : Type 0 where
   pub elements : List Element
   pub values : List ℤ
@@ -306,70 +439,23 @@ pub record GoesOn (c : Coding) (es es' : List Element) (told told' : List ℤ) (
   pub joined : (es' ≡ es ++ elements) × (told' ≡ told ++ values) × (bits' ≡ bits ++ spelling)
   pub covers : Covers c t elements values spelling t'
 
-pub fronts_once : (c : Coding) (s : Standing) (es es' : List Element) (told told' : List ℤ) (bits bits' x x' : List Bool) (t t' : Standing)
-    → NumberFacts → IsCoding c → ((u : UnitLeft) → OneWay (codes_due c u))
-    → Covers c s es told bits t → Covers c s es' told' bits' t' → bits ++ x ≡ bits' ++ x'
-    → GoesOn c es es' told told' bits bits' t t' ⊎ GoesOn c es' es told' told bits' bits t' t
-fronts_once c s [] es' told told' bits bits' x x' t t' facts ic one k k' same =
-    inl (record {
-      elements = es';
-      values = told';
-      spelling = bits';
-      joined = (refl, ap (λ ys. ys ++ told') (sym k.0), ap (λ ys. ys ++ bits') (sym k.1));
-      covers = subst (λ z. Covers c z es' told' bits' t') (sym k.2) k';
-    })
-fronts_once c s (e ∷ es) [] told told' bits bits' x x' t t' facts ic one k k' same =
-    inr (record {
-      elements = e ∷ es;
-      values = told;
-      spelling = bits;
-      joined = (refl, ap (λ ys. ys ++ told) (sym k'.0), ap (λ ys. ys ++ bits) (sym k'.1));
-      covers = subst (λ z. Covers c z (e ∷ es) told bits t) (sym k'.2) k;
-    })
-fronts_once c s (e ∷ es) (e' ∷ es') told told' bits bits' x x' t t' facts ic one k k' same =
-    let m = covers_step c s e e' es es' told told' bits bits' x x' t t' facts ic one k k' same in
-    let ih = fronts_once c (record { predictions = predictions_after s.predictions (k.0).component e; left = k.3 }) es es' k.4 k'.4 k.6 m.rest' x x' t t' facts ic one k.13 m.later m.spelling.2 in
-    ⊎_elim
-    (λ (g : GoesOn c es es' k.4 k'.4 k.6 m.rest' t t'). inl (record {
-      elements = g.elements;
-      values = g.values;
-      spelling = g.spelling;
-      joined = (
-        ap (λ ds. e' ∷ ds) g.joined.0 ∙ ap (λ d. d ∷ es ++ g.elements) (sym m.element),
-        m.values.1 ∙ ap (λ ys. m.here ++ ys) g.joined.1 ∙ sym (append_assoc m.here k.4 g.values) ∙ ap (λ ys. ys ++ g.values) (sym m.values.0),
-        m.spelling.1 ∙ ap (λ ys. m.front ++ ys) g.joined.2 ∙ sym (append_assoc m.front k.6 g.spelling) ∙ ap (λ ys. ys ++ g.spelling) (sym m.spelling.0),
-      );
-      covers = g.covers;
-    }))
-    (λ (g : GoesOn c es' es k'.4 k.4 m.rest' k.6 t' t). inr (record {
-      elements = g.elements;
-      values = g.values;
-      spelling = g.spelling;
-      joined = (
-        ap (λ ds. e ∷ ds) g.joined.0 ∙ ap (λ d. d ∷ es' ++ g.elements) m.element,
-        m.values.0 ∙ ap (λ ys. m.here ++ ys) g.joined.1 ∙ sym (append_assoc m.here k'.4 g.values) ∙ ap (λ ys. ys ++ g.values) (sym m.values.1),
-        m.spelling.0 ∙ ap (λ ys. m.front ++ ys) g.joined.2 ∙ sym (append_assoc m.front m.rest' g.spelling) ∙ ap (λ ys. ys ++ g.spelling) (sym m.spelling.1),
-      );
-      covers = g.covers;
-    }))
-    ih
+module _ (c : Coding) (s : Standing) (es es' : List Element) where
+  pub units_once : (bits : List Bool) → Decodes c → (a : BeginsElements c s es bits) → (a.standing).left ≡ [] → (b : BeginsElements c s es' bits) → (b.standing).left ≡ []
+      → (es ≡ es') × (a.told ≡ b.told) × (a.front ≡ b.front)
+  units_once bits law a none b none' =
+      ⊎_elim
+      (λ (g : Continues a b). all_there c s es es' bits a b none g)
+      (λ (g : Continues b a). (let r = all_there c s es' es bits b a none' g in (sym r.0, sym r.1, sym r.2)))
+      (elements_once c s es es' bits law a b)
 
--- THE LAW: complete intervals are spelled in one way
-pub units_once : (c : Coding) (s : Standing) (es es' : List Element) (told told' : List ℤ) (bits bits' x x' : List Bool) (t t' : Standing)
-    → NumberFacts → IsCoding c → ((u : UnitLeft) → OneWay (codes_due c u))
-    → Covers c s es told bits t → t.left ≡ [] → Covers c s es' told' bits' t' → t'.left ≡ [] → bits ++ x ≡ bits' ++ x'
-    → (es ≡ es') × (told ≡ told') × (bits ≡ bits')
-units_once c s es es' told told' bits bits' x x' t t' facts ic one k w k' w' same =
-    ⊎_elim
-    (λ (g : GoesOn c es es' told told' bits bits' t t'). ends_there es es' told told' bits bits' t t' w g)
-    (λ (g : GoesOn c es' es told' told bits' bits t' t). (let r = ends_there es' es told' told bits' bits t' t w' g in (sym r.0, sym r.1, sym r.2)))
-    (fronts_once c s es es' told told' bits bits' x x' t t' facts ic one k k' same)
-  where
-    none : (es es' els : List Element) (told told' values : List ℤ) (bits bits' spelling : List Bool) (t t' : Standing) → t.left ≡ []
-        → (es' ≡ es ++ els) → (told' ≡ told ++ values) → (bits' ≡ bits ++ spelling) → Covers c t els values spelling t' → (es ≡ es') × (told ≡ told') × (bits ≡ bits')
-    none es es' [] told told' values bits bits' spelling t t' w a b d k =
-        (sym (a ∙ append-nil es), sym (b ∙ ap (λ ys. told ++ ys) k.0 ∙ append-nil told), sym (d ∙ ap (λ ys. bits ++ ys) k.1 ∙ append-nil bits))
-    none es es' (e ∷ els) told told' values bits bits' spelling t t' w a b d k = absurd (no_units k.0 k.1 (sym k.7 ∙ w))
-
-    ends_there : (es es' : List Element) (told told' : List ℤ) (bits bits' : List Bool) (t t' : Standing) → t.left ≡ [] → GoesOn c es es' told told' bits bits' t t' → (es ≡ es') × (told ≡ told') × (bits ≡ bits')
-    ends_there es es' told told' bits bits' t t' w g = none es es' g.elements told told' g.values bits bits' g.spelling t t' w g.joined.0 g.joined.1 g.joined.2 g.covers
+  pub fronts_once : (told told' : List ℤ) (bits bits' x x' : List Bool) (t t' : Standing)
+      → NumberFacts → IsCoding c → ((u : UnitLeft) → OneWay (codes_due c u))
+      → Covers c s es told bits t → Covers c s es' told' bits' t' → bits ++ x ≡ bits' ++ x'
+      → GoesOn c es es' told told' bits bits' t t' ⊎ GoesOn c es' es told' told bits' bits t' t
+  fronts_once told told' bits bits' x x' t t' facts ic one k k' same =
+      let a : BeginsElements c s es (bits ++ x) = record { told = told; front = bits; rest = x; standing = t; cut = refl; covers = k } in
+      let b : BeginsElements c s es' (bits ++ x) = record { told = told'; front = bits'; rest = x'; standing = t'; cut = same; covers = k' } in
+      ⊎_elim
+      (λ (g : Continues a b). inl (record { elements = g.elements; values = g.values; spelling = g.spelling; joined = g.joined; covers = g.covers }))
+      (λ (g : Continues b a). inr (record { elements = g.elements; values = g.values; spelling = g.spelling; joined = g.joined; covers = g.covers }))
+      (elements_once c s es es' (bits ++ x) (record { facts = facts; fits = ic; one = one }) a b)

@@ -26,10 +26,10 @@ regroup : (a b c d : List Bool) → ((a ++ b) ++ c) ++ d ≡ a ++ (b ++ c ++ d)
 regroup a b c d = simp append_assoc
 
 -- a code of this length doesn't begin a longer one
-apart : (counts : List ℕ) (len c k n : ℕ) (symbols : List ℕ) (b : Code) (x y : List Bool) → AreCodes (len + 1) (2 * (c + k)) counts → n < c + k → c + k < 2 ^ len
-    → Contains (codes_from (len + 1) (2 * (c + k)) counts symbols) b → bits_of len n ++ x ≡ b.0 ++ y → ⊥
-apart counts len c k n symbols b x y are lt fits h e =
-    let f = front_not_below counts (len + 1) (2 * (c + k)) symbols b are h in
+apart : (counts : List ℕ) (len most n : ℕ) (symbols : List ℕ) (b : Code) (x y : List Bool) → AreCodes (len + 1) (2 * most) counts → n < most → most < 2 ^ len
+    → Contains (codes_from (len + 1) (2 * most) counts symbols) b → bits_of len n ++ x ≡ b.0 ++ y → ⊥
+apart counts len most n symbols b x y are lt fits h e =
+    let f = front_not_below counts (len + 1) (2 * most) symbols b are h in
     let p : 2 ^ (len + 1) ≡ 2 * 2 ^ len = ap (λ m. 2 ^ m) (add-one len) ∙ pow-succ' 2 len in
     let split : b.0 ++ y ≡ bits_of len (f.0 / 2) ++ (((f.0 % 2 == 1) ∷ []) ++ f.1 ++ y) =
     ap (λ s. s ++ y) (f.4 ∙ ap (λ s. s ++ f.1) (bits_of-split len f.0)) ∙ regroup (bits_of len (f.0 / 2)) ((f.0 % 2 == 1) ∷ []) f.1 y in
@@ -55,14 +55,14 @@ one_code (n ∷ counts) len c symbols a b x y are h k e =
     let number = bits_of_inj len (c + i.0) (c + j.0) (omega (arith, are.0)) (omega (arith, are.0)) same.0 in
     let place : i.0 ≡ j.0 = omega arith in
     i.2 ∙ ap (λ (m : ℕ). (let q : Code = (bits_of len (c + m), get_or symbols m 0) in q)) place ∙ sym j.2)
-    (λ (hb : Contains rest b). absurd (apart counts len c n (c + i.0) (drop n symbols) b x y are.1 (omega arith) are.0 hb ea))
+    (λ (hb : Contains rest b). absurd (apart counts len (c + n) (c + i.0) (drop n symbols) b x y are.1 (omega arith) are.0 hb ea))
     (Contains-append_cases (codes_at n len c symbols) rest b k))
     (λ (ha : Contains rest a).
     ⊎_elim
     (λ (hb : Contains (codes_at n len c symbols) b).
     let j = level_code n len c symbols b hb in
     let eb : bits_of len (c + j.0) ++ y ≡ a.0 ++ x = ap (λ s. s ++ y) (sym (ap (λ (q : Code). q.0) j.2)) ∙ sym e in
-    absurd (apart counts len c n (c + j.0) (drop n symbols) a y x are.1 (omega arith) are.0 ha eb))
+    absurd (apart counts len (c + n) (c + j.0) (drop n symbols) a y x are.1 (omega arith) are.0 ha eb))
     (λ (hb : Contains rest b). one_code counts (len + 1) (2 * (c + n)) (drop n symbols) a b x y are.1 ha hb e)
     (Contains-append_cases (codes_at n len c symbols) rest b k))
     (Contains-append_cases (codes_at n len c symbols) rest a h)

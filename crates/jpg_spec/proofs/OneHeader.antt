@@ -6,7 +6,7 @@ use Rattle.jpg_spec.specs.Header.{header_rule, InHeader, HeaderReveals, Unfinish
 use Rattle.jpg_spec.specs.declared.fault.Fault.{Fault}
 use Rattle.jpg_spec.specs.declared.fault.Fault.TheVariants.{NotJpeg, NoMarker, MissingComponent}
 use Rattle.jpg_spec.specs.declared.frame.Limits.{Limits}
-use Rattle.jpg_spec.proofs.ReadBytes.{State, starts, starting, whole, filling, marked, half, inside, stopped, ended, behind, next, read, called, read_both, read_after, read_begin, read_segments, read_between, read_fault, read_eoi, reads}
+use Rattle.jpg_spec.proofs.ReadBytes.{State, starts, whole, stopped, ended, behind, next, read, called, read_both, read_after, read_begin, read_segments, read_between, read_fault, read_eoi, reads}
 use Rattle.jpg_spec.proofs.Common.{neither, heads}
 
 -- HOW FAR bytes have come: more may follow, or the last byte decided, or bytes are after such a one
@@ -16,28 +16,15 @@ pub data Phase : Type 0 where
   over : Phase
 
 abbrev pub phase : State → Phase
-phase starts = going
-phase starting = going
-phase (whole before) = going
-phase (filling before) = going
-phase (marked before code) = going
-phase (half before code high) = going
-phase (inside before code left contents) = going
 phase (stopped fault) = closed
 phase ended = closed
 phase behind = over
+phase s = going
 
 closed_next : (rule : Rule) (s : State) (b : ℕ) → phase s ≡ closed → next rule s b ≡ behind
-closed_next rule starts b e = cc
-closed_next rule starting b e = cc
-closed_next rule (whole before) b e = cc
-closed_next rule (filling before) b e = cc
-closed_next rule (marked before code) b e = cc
-closed_next rule (half before code high) b e = cc
-closed_next rule (inside before code left contents) b e = cc
 closed_next rule (stopped fault) b e = refl
 closed_next rule ended b e = refl
-closed_next rule behind b e = cc
+closed_next rule s b e = cc
 
 closed_over : (rule : Rule) (s : State) (b : ℕ) (bytes : List ℕ) → phase s ≡ closed → phase (read rule s (b ∷ bytes)) ≡ over
 closed_over rule s b bytes e = ap phase (ap (λ t. read rule t bytes) (closed_next rule s b e) ∙ read_after rule bytes)
@@ -66,16 +53,10 @@ going_front rule s a x h k = by x (sym (ap phase (read_both rule s a x)) ∙ k)
     by (b ∷ x) g = not_going (phase (read rule (read rule s a) (b ∷ x))) (closed_over rule (read rule s a) b x h) g
 
 pub part_going : (s : State) → called s ≡ Some at_part → phase s ≡ going
-part_going starts e = refl
-part_going starting e = refl
-part_going (whole before) e = refl
-part_going (filling before) e = refl
-part_going (marked before code) e = refl
-part_going (half before code high) e = refl
-part_going (inside before code left contents) e = refl
 part_going (stopped fault) e = cc
 part_going ended e = cc
 part_going behind e = cc
+part_going s e = refl
 
 -- A RULE that no scan header passes
 abbrev pub closing_rule : Limits → Rule
@@ -181,29 +162,30 @@ pub whole_not_standing : (limits : Limits) (front rest : List ℕ) (before : Lis
 whole_not_standing limits front rest before contents s t =
     going_front (closing_rule limits) starts front rest (whole_closed limits front before contents s) (standing_going limits (front ++ rest) t)
 
-pub shown_not_whole : (limits : Limits) (a b x y : List ℕ) (fault : Fault) (before : List Segment) (contents : List ℕ) → HeaderReveals limits fault a → IsHeader limits b before contents → a ++ x ≡ b ++ y → ⊥
-shown_not_whole limits a b x y fault before contents s t e =
-    let same = closed_once (closing_rule limits) starts a b x y (shown_closed limits fault a s) (whole_closed limits b before contents t) e in
-    tells_not_whole limits fault b ((0xda, contents) ∷ before) (shown_tells limits fault b (subst (λ l. HeaderReveals limits fault l) same s))
-    (read_segments (header_rule limits) ((0xda, contents) ∷ before) b t.spelled t.passed)
-
-pub shown_once : (limits : Limits) (a b x y : List ℕ) (f g : Fault) → HeaderReveals limits f a → HeaderReveals limits g b → a ++ x ≡ b ++ y → (a ≡ b) × (f ≡ g)
-shown_once limits a b x y f g s t e =
-    let same = closed_once (closing_rule limits) starts a b x y (shown_closed limits f a s) (shown_closed limits g b t) e in
-    (same, tells_once limits f g b (shown_tells limits f b (subst (λ l. HeaderReveals limits f l) same s)) (shown_tells limits g b t))
-
 same_whole : (xs ys : List Segment) → whole xs ≡ whole ys → xs ≡ ys
 same_whole xs ys e = cc
 
 same_newest : (xs ys : List Segment) (s t : Segment) → s ∷ xs ≡ t ∷ ys → (s ≡ t) × (xs ≡ ys)
 same_newest xs ys s t e = (cc, cc)
 
-pub whole_once : (limits : Limits) (a b x y : List ℕ) (before later : List Segment) (contents others : List ℕ) → IsHeader limits a before contents → IsHeader limits b later others → a ++ x ≡ b ++ y
-    → (a ≡ b) × (before ≡ later) × (contents ≡ others)
-whole_once limits a b x y before later contents others s t e =
-    let same = closed_once (closing_rule limits) starts a b x y (whole_closed limits a before contents s) (whole_closed limits b later others t) e in
-    let m = read_segments (header_rule limits) ((0xda, contents) ∷ before) a s.spelled s.passed in
-    let n = read_segments (header_rule limits) ((0xda, others) ∷ later) b t.spelled t.passed in
-    let all = same_whole ((0xda, contents) ∷ before) ((0xda, others) ∷ later) (sym m ∙ ap (λ l. read (header_rule limits) starts l) same ∙ n) in
-    let k = same_newest before later (0xda, contents) (0xda, others) all in
-    (same, k.1, ap (λ (s : Segment). s.1) k.0)
+module _ (limits : Limits) (a b x y : List ℕ) where
+  pub shown_not_whole : (fault : Fault) (before : List Segment) (contents : List ℕ) → HeaderReveals limits fault a → IsHeader limits b before contents → a ++ x ≡ b ++ y → ⊥
+  shown_not_whole fault before contents s t e =
+      let same = closed_once (closing_rule limits) starts a b x y (shown_closed limits fault a s) (whole_closed limits b before contents t) e in
+      tells_not_whole limits fault b ((0xda, contents) ∷ before) (shown_tells limits fault b (subst (λ l. HeaderReveals limits fault l) same s))
+      (read_segments (header_rule limits) ((0xda, contents) ∷ before) b t.spelled t.passed)
+
+  pub shown_once : (f g : Fault) → HeaderReveals limits f a → HeaderReveals limits g b → a ++ x ≡ b ++ y → (a ≡ b) × (f ≡ g)
+  shown_once f g s t e =
+      let same = closed_once (closing_rule limits) starts a b x y (shown_closed limits f a s) (shown_closed limits g b t) e in
+      (same, tells_once limits f g b (shown_tells limits f b (subst (λ l. HeaderReveals limits f l) same s)) (shown_tells limits g b t))
+
+  pub whole_once : (before later : List Segment) (contents others : List ℕ) → IsHeader limits a before contents → IsHeader limits b later others → a ++ x ≡ b ++ y
+      → (a ≡ b) × (before ≡ later) × (contents ≡ others)
+  whole_once before later contents others s t e =
+      let same = closed_once (closing_rule limits) starts a b x y (whole_closed limits a before contents s) (whole_closed limits b later others t) e in
+      let m = read_segments (header_rule limits) ((0xda, contents) ∷ before) a s.spelled s.passed in
+      let n = read_segments (header_rule limits) ((0xda, others) ∷ later) b t.spelled t.passed in
+      let all = same_whole ((0xda, contents) ∷ before) ((0xda, others) ∷ later) (sym m ∙ ap (λ l. read (header_rule limits) starts l) same ∙ n) in
+      let k = same_newest before later (0xda, contents) (0xda, others) all in
+      (same, k.1, ap (λ (s : Segment). s.1) k.0)

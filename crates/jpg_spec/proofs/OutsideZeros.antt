@@ -11,7 +11,7 @@ test f i x y = nat_lt i (length f.components) && is_real f i x y
 abbrev pub HasRealBlocks : Meaning → Type 0
 HasRealBlocks M = (i x y : ℕ) → M.blocks i x y ≡ real_blocks (picture_frame M) M.blocks i x y
 
-twice_real : (b : Bool) (block : List ℤ) → cond b block (zeros 64) ≡ cond b (cond b block (zeros 64)) (zeros 64)
+pub twice_real : (b : Bool) (block : List ℤ) → cond b block (zeros 64) ≡ cond b (cond b block (zeros 64)) (zeros 64)
 twice_real true block = refl
 twice_real false block = refl
 

@@ -44,15 +44,9 @@ byte_bits a b d e f g h i = bits_from 0 0 (a ∷ b ∷ d ∷ e ∷ f ∷ g ∷ h
 whole_bits : (bits : List Bool) → length bits % 8 ≡ 0 → bits_of_bytes (whole_bytes bits) ≡ bits
 unfolding whole_bytes
 whole_bits [] z = refl
-whole_bits (a ∷ []) z = let f : ⊥ = omega arith in absurd f
-whole_bits (a ∷ b ∷ []) z = let f : ⊥ = omega arith in absurd f
-whole_bits (a ∷ b ∷ d ∷ []) z = let f : ⊥ = omega arith in absurd f
-whole_bits (a ∷ b ∷ d ∷ e ∷ []) z = let f : ⊥ = omega arith in absurd f
-whole_bits (a ∷ b ∷ d ∷ e ∷ f ∷ []) z = let f : ⊥ = omega arith in absurd f
-whole_bits (a ∷ b ∷ d ∷ e ∷ f ∷ g ∷ []) z = let f : ⊥ = omega arith in absurd f
-whole_bits (a ∷ b ∷ d ∷ e ∷ f ∷ g ∷ h ∷ []) z = let f : ⊥ = omega arith in absurd f
 whole_bits (a ∷ b ∷ d ∷ e ∷ f ∷ g ∷ h ∷ i ∷ bits) z =
     ap (λ t. t ++ bits_of_bytes (whole_bytes bits)) (byte_bits a b d e f g h i) ∙ ap (λ t. a ∷ b ∷ d ∷ e ∷ f ∷ g ∷ h ∷ i ∷ t) (whole_bits bits (omega arith))
+whole_bits bits z = let f : ⊥ = omega arith in absurd f
 
 pub packs : (bits : List Bool) → Packs bits (whole_bytes (padded bits))
 packs bits =

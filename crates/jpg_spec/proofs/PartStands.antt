@@ -1,29 +1,30 @@
 -- If a part of an element follows complete ones, the bits have no fault and no complete interval.
-use Rattle.std.proofs.Common.{◌≡◌, ℕ, ◌+◌, ◌-◌, ◌*◌, ◌/◌, ◌%◌, ◌<◌, ◌≤◌, Bool, true, false, ◌==◌, ◌&&◌, List, [], ◌∷◌, ◌++◌, length, refl, sym, ap, ◌∙◌, subst, arith, inl, inr, ⊎_elim, ℤ}
-use Rattle.std.specs.Prelude.{◌||◌, map, nat_le, nat_lt}
+use Rattle.std.proofs.Common.{◌≡◌, ℕ, ◌+◌, ◌-◌, ◌*◌, ◌/◌, ◌%◌, ◌≤◌, Bool, true, false, ◌==◌, ◌&&◌, List, [], ◌∷◌, ◌++◌, length, refl, sym, ap, ◌∙◌, subst, arith, inl, inr, ℤ}
+use Rattle.std.specs.Prelude.{◌⊎◌, ◌||◌, map, nat_le, nat_lt}
 use Rattle.std.specs.List.{Contains}
 use Rattle.std.proofs.lemmas.Bool.Decides.{nat_tests}
-use Rattle.std.proofs.lemmas.List.{append_assoc, append-nil, append_cancel_left, length-append}
+use Rattle.std.proofs.lemmas.List.{append_assoc, append-nil, length-append}
 use Rattle.jpg_spec.specs.Bits.{bits_of, bits_of_bytes}
 use Rattle.jpg_spec.specs.Codes.{Code, codes}
 use Rattle.jpg_spec.specs.Numbers.{digits}
-use Rattle.jpg_spec.specs.Elements.{Coding, UnitLeft, Standing, Element, difference, dc_bit, value, long_run, ends, Covers, Tells, SpellsElement, codes_due, at_start, symbol_of, bits_after, are_in_bounds}
+use Rattle.jpg_spec.specs.Elements.{Coding, UnitLeft, Standing, Element, difference, dc_bit, value, long_run, ends, Covers, Tells, SpellsElement, codes_due, at_start, symbol_of, bits_after}
 use Rattle.jpg_spec.specs.Scan.{Blocks, Scan, unit_at}
-use Rattle.jpg_spec.specs.ScanFaults.{BitsShow, DataReveals, is_symbol}
+use Rattle.jpg_spec.specs.ScanFaults.{BeginsNone, BitsShow, DataReveals, is_symbol}
 use Rattle.jpg_spec.specs.Sound.{AreTableCodes, IsSound}
+use Rattle.jpg_spec.specs.Faults.{number_of}
 use Rattle.jpg_spec.specs.declared.fault.Fault.{Fault}
+use Rattle.jpg_spec.specs.declared.fault.Fault.TheVariants.{CoefRange}
 use Rattle.jpg_spec.specs.declared.frame.Place.{Place}
-use Rattle.jpg_spec.proofs.Facts.{facts}
 use Rattle.jpg_spec.proofs.Strings.{length-bits_of}
 use Rattle.jpg_spec.proofs.Levels.{contains_none, front_not_below}
 use Rattle.jpg_spec.proofs.MarkersOnce.{no_head}
-use Rattle.jpg_spec.proofs.Once.{IsCoding, OneWay, GoesOn, fronts_once, head_inj, no_units, element_once, front_once, symbol_once}
-use Rattle.jpg_spec.proofs.Excludes.{codes_are_due, no_code, right_symbol, first_code_once, bad_run, past_end, shows_excludes}
-use Rattle.jpg_spec.proofs.Sound.{one_due}
+use Rattle.jpg_spec.proofs.Once.{IsCoding, OneWay, Decodes, WantsCode, BeginsSymbol, BeginsElement, BeginsElements, Continues, begins_code, element_code, elements_once, first_element, head_inj, no_units, same_element, symbol_once}
+use Rattle.jpg_spec.proofs.Excludes.{at_fault, no_code, no_element_there, shows_excludes}
+use Rattle.jpg_spec.proofs.Sound.{decodes, one_due}
 use Rattle.jpg_spec.proofs.DataFacts.{shows_more}
 use Rattle.jpg_spec.specs.UnfinishedFile.{AreDue}
-use Rattle.jpg_spec.specs.Parts.{StandsInUnits, HoldsNoInterval, RevealsNoFault}
-use Rattle.jpg_spec.proofs.Parts.{IsProperFront, FrontAt, part_front}
+use Rattle.jpg_spec.specs.Parts.{BeginsCode, StandsInUnits, HoldsNoInterval, RevealsNoFault}
+use Rattle.jpg_spec.proofs.Parts.{BeginsCount, BeginsWhole, IsProperFront, FrontAt, part_front}
 use Rattle.jpg_spec.proofs.Common.{clash}
 
 -- NO CODE IS EMPTY
@@ -56,64 +57,14 @@ element_some codes (value run v bits) some s = some (s.0, symbol_of (value run v
 element_some codes (long_run bits) some s = some (s.0, symbol_of (long_run bits)) s.1 (empty_front s.0 bits (sym s.2))
 element_some codes (ends bands bits) some s = some (s.0, symbol_of (ends bands bits)) s.1 (empty_front s.0 (bits_after (ends bands bits)) (sym s.2))
 
--- a list isn't one that continues it
-not_longer : (a r more : List Bool) (next : Bool) → (a ++ r) ++ next ∷ more ≡ a → ⊥
-not_longer a r more next e =
-    let l = ap length e in
-    let k = length-append (a ++ r) (next ∷ more) in
-    let n = length-append a r in
-    omega (arith, l, k, n)
-
 -- a part of a code begins with no complete code
-pub part_no_code : (codes : List Code) → OneWay codes → (code : Code) (word : List Bool) (symbol : ℕ) (part r more : List Bool) (next : Bool)
-    → Contains codes code → code.0 ≡ part ++ next ∷ more → Contains codes (word, symbol) → part ≡ word ++ r → ⊥
-part_no_code codes one code word symbol part r more next h e k cut =
-    let all : code.0 ++ [] ≡ word ++ (r ++ next ∷ more) = append-nil code.0 ∙ e ∙ ap (λ l. l ++ next ∷ more) cut ∙ append_assoc word r (next ∷ more) in
-    let same = one code (word, symbol) [] (r ++ next ∷ more) h k all in
-    not_longer word r more next (sym (ap (λ l. l ++ next ∷ more) cut) ∙ sym e ∙ ap (λ (q : Code). q.0) same)
-
--- a code of EOBn with fewer than n bits after it is no prefix of an element
-eob_not_whole : (c : Coding) (p : ℤ) (e : Element) (u : UnitLeft) (us : List UnitLeft) (here : List ℤ) (left : List UnitLeft) (n x : ℕ) (more r : List Bool) (next : Bool)
-    → IsCoding c → Tells c p e u us here left → u.has_dc ≡ false → n ≤ c.most_run → 16 * n ≡ symbol_of e → bits_of n x ++ [] ≡ bits_after e ++ (r ++ next ∷ more) → ⊥
-eob_not_whole c p (difference d) u us here left n x more r next ic t dc most s e = clash u.has_dc t.2 dc
-eob_not_whole c p (dc_bit b) u us here left n x more r next ic t dc most s e = clash u.has_dc t.2 dc
-eob_not_whole c p (value run v bits) u us here left n x more r next ic t dc most s e =
-    let low = t.3 in
-    let high = t.4 in
-    let cap = ic.0 in
-    omega (arith, s)
-eob_not_whole c p (long_run bits) u us here left n x more r next ic t dc most s e = let cap = ic.1 in omega (arith, s, cap, most)
-eob_not_whole c p (ends bands bits) u us here left n x more r next ic t dc most s e =
-    let k = digits bands - 1 in
-    let l0 = ap length e in
-    let l1 = length-append (bits_of n x) [] in
-    let l2 = length-append (bits_of k bands ++ bits) (r ++ next ∷ more) in
-    let l3 = length-append (bits_of k bands) bits in
-    let l4 = length-append r (next ∷ more) in
-    let b1 = length-bits_of n x in
-    let b2 = length-bits_of k bands in
-    omega (arith, s, l0, l1, l2, l3, l4, b1, b2)
-
--- THE LAW: no complete element that is allowed there is a prefix of a part
-part_no_element : (c : Coding) (s : Standing) (u : UnitLeft) (us : List UnitLeft) (part r : List Bool) (e : Element) (here : List ℤ) (left : List UnitLeft) (front : List Bool)
-    → IsCoding c → OneWay (codes_due c u) → AreSome (codes_due c u) → IsProperFront c s u us part
-    → SpellsElement (codes_due c u) e front → Tells c (s.predictions u.component) e u us here left → part ≡ front ++ r → ⊥
-part_no_element c s u us part r e here left front ic one some (inl k) sp t cut =
-    element_some (codes_due c u) e some (subst (λ l. SpellsElement (codes_due c u) e l) (empty_front front r (sym cut ∙ k)) sp)
-part_no_element c s u us part r e here left front ic one some (inr (inl k)) sp t cut =
-    let q = k.1 in
-    let d = codes_are_due c (s.predictions u.component) e u us here left (codes_due c u) front t k.0 sp in
-    part_no_code (codes_due c u) one q.0 d.0 (symbol_of e) part (bits_after e ++ r) q.2 q.1 q.3 q.4 d.1 (cut ∙ ap (λ l. l ++ r) d.2 ∙ append_assoc d.0 (bits_after e) r)
-part_no_element c s u us part r e here left front ic one some (inr (inr (inl k))) sp t cut =
-    let all : (part ++ k.3 ∷ k.4) ++ [] ≡ front ++ (r ++ k.3 ∷ k.4) = append-nil (part ++ k.3 ∷ k.4) ∙ ap (λ l. l ++ k.3 ∷ k.4) cut ∙ append_assoc front r (k.3 ∷ k.4) in
-    let ee = element_once c (s.predictions u.component) u us k.0 e k.1 here k.2 left (part ++ k.3 ∷ k.4) front [] (r ++ k.3 ∷ k.4) facts ic one k.5 k.6 sp t all in
-    let same = front_once (codes_due c u) one e (part ++ k.3 ∷ k.4) front [] (r ++ k.3 ∷ k.4) (subst (λ z. SpellsElement (codes_due c u) z (part ++ k.3 ∷ k.4)) ee k.5) sp all in
-    not_longer front r k.4 k.3 (sym (ap (λ l. l ++ k.3 ∷ k.4) cut) ∙ same)
-part_no_element c s u us part r e here left front ic one some (inr (inr (inr k))) sp t cut =
-    let d = codes_are_due c (s.predictions u.component) e u us here left (codes_due c u) front t (λ h. clash u.has_dc h.0 k.6) sp in
-    let all : (part ++ k.3 ∷ k.4) ++ [] ≡ front ++ (r ++ k.3 ∷ k.4) = append-nil (part ++ k.3 ∷ k.4) ∙ ap (λ l. l ++ k.3 ∷ k.4) cut ∙ append_assoc front r (k.3 ∷ k.4) in
-    let q = symbol_once (codes_due c u) one k.2 d.0 (16 * k.0) (symbol_of e) (bits_of k.0 k.1) (bits_after e) [] (r ++ k.3 ∷ k.4) (part ++ k.3 ∷ k.4) front k.5 d.1 k.8 d.2 all in
-    eob_not_whole c (s.predictions u.component) e u us here left k.0 k.1 k.4 r k.3 ic t k.6 k.7 q.0 q.1
+pub part_no_code : {codes : List Code} {symbol : ℕ} {rest : List Bool} (part : List Bool) → OneWay codes → BeginsCode codes part → BeginsSymbol codes symbol rest part → ⊥
+part_no_code {symbol = symbol} {rest = rest} part one (code, next, more, is_code, cut) s =
+    let behind = next ∷ more in
+    let all : code.0 ++ [] ≡ s.code ++ (rest ++ behind) = append-nil code.0 ∙ cut ∙ ap (λ l. l ++ behind) s.cut ∙ append_assoc s.code rest behind in
+    let same = one code (s.code, symbol) [] (rest ++ behind) is_code s.is_code all in
+    let l = ap length (sym cut ∙ ap (λ (q : Code). q.0) same) in
+    omega (arith, l, ap length s.cut, length-append s.code rest, length-append part behind)
 
 -- the symbol of EOBn is allowed in a band
 pub eob_symbol : (c : Coding) (n : ℕ) → n ≤ c.most_run → is_symbol c false (16 * n) ≡ true
@@ -126,77 +77,98 @@ eob_symbol c n most =
     ∙ ap (λ k. k && (nat_le (16 * n / 16) c.most_run || 16 * n == 0xf0)) z
     ∙ ap (λ k. nat_le k c.most_run || 16 * n == 0xf0) q ∙ ap (λ k. k || 16 * n == 0xf0) a
 
--- WHAT HAS A FAULT begins with a code, or is an element
+-- WHAT BEGINS A PART, where an element is expected
+module _ (c : Coding) (s : Standing) (u : UnitLeft) (us : List UnitLeft) (law : Decodes c) (some : AreSome (codes_due c u)) where
+  abbrev p : ℤ
+  p = s.predictions u.component
 
--- a word with its code, at the beginning of a part
-no_word : (c : Coding) (s : Standing) (u : UnitLeft) (us : List UnitLeft) (part r word b here : List Bool) (symbol : ℕ) → OneWay (codes_due c u) → AreSome (codes_due c u) → IsProperFront c s u us part
-    → Contains (codes_due c u) (word, symbol) → here ≡ word ++ b → part ≡ here ++ r
-    → ((e : Element) (told : List ℤ) (left : List UnitLeft) (front y : List Bool) → SpellsElement (codes_due c u) e front → Tells c (s.predictions u.component) e u us told left → here ++ (r ++ y) ≡ front ++ [] → ⊥)
-    → ((n x : ℕ) (more : List Bool) (next : Bool) → u.has_dc ≡ false → n ≤ c.most_run → 16 * n ≡ symbol → bits_of n x ++ [] ≡ b ++ (r ++ next ∷ more) → ⊥) → ⊥
-no_word c s u us part r word b here symbol one some (inl k) h e cut element eob =
-    some (word, symbol) h (empty_front word b (sym e ∙ empty_front here r (sym cut ∙ k)))
-no_word c s u us part r word b here symbol one some (inr (inl k)) h e cut element eob =
-    let q = k.1 in
-    part_no_code (codes_due c u) one q.0 word symbol part (b ++ r) q.2 q.1 q.3 q.4 h (cut ∙ ap (λ l. l ++ r) e ∙ append_assoc word b r)
-no_word c s u us part r word b here symbol one some (inr (inr (inl k))) h e cut element eob =
-    element k.0 k.1 k.2 (part ++ k.3 ∷ k.4) (k.3 ∷ k.4) k.5 k.6 (sym (append_assoc here r (k.3 ∷ k.4)) ∙ ap (λ l. l ++ k.3 ∷ k.4) (sym cut) ∙ sym (append-nil (part ++ k.3 ∷ k.4)))
-no_word c s u us part r word b here symbol one some (inr (inr (inr k))) h e cut element eob =
-    let all : (part ++ k.3 ∷ k.4) ++ [] ≡ here ++ (r ++ k.3 ∷ k.4) = append-nil (part ++ k.3 ∷ k.4) ∙ ap (λ l. l ++ k.3 ∷ k.4) cut ∙ append_assoc here r (k.3 ∷ k.4) in
-    let q = symbol_once (codes_due c u) one k.2 word (16 * k.0) symbol (bits_of k.0 k.1) b [] (r ++ k.3 ∷ k.4) (part ++ k.3 ∷ k.4) here k.5 h k.8 e all in
-    eob k.0 k.1 k.4 k.3 k.6 k.7 q.0 q.1
+  -- the element, or the code and the number, that a part begins
+  abbrev whole_element : (part stream : List Bool) (k : BeginsWhole c s u us part) → stream ≡ part ++ k.3 ∷ k.4 → BeginsElement c p u us k.0 stream
+  whole_element part stream k e = record { here = k.1; left = k.2; front = part ++ k.3 ∷ k.4; rest = []; cut = e ∙ sym (append-nil (part ++ k.3 ∷ k.4)); spelled = k.5; tells = k.6 }
 
--- THE LAW: a part has no fault
-part_no_show : (c : Coding) (s : Standing) (u : UnitLeft) (us : List UnitLeft) (part r : List Bool) (fault : Fault) (bits : List Bool)
-    → IsCoding c → OneWay (codes_due c u) → AreSome (codes_due c u) → IsProperFront c s u us part
-    → ((u.has_dc ≡ true) × (c.refines ≡ true) → ⊥) → BitsShow c s u us fault bits → part ≡ bits ++ r → ⊥
-part_no_show c s u us part r fault bits ic one some p due (inl k) cut = by p
-  where
-    none : (0 < length bits) × ((code : Code) (more : List Bool) → Contains (codes_due c u) code → code.0 ≡ bits ++ more → ⊥) × ((code : Code) (more : List Bool) → Contains (codes_due c u) code → bits ≡ code.0 ++ more → ⊥)
-    none = k.1
+  count_symbol : (part stream : List Bool) (k : BeginsCount c u part) → stream ≡ part ++ k.3 ∷ k.4 → BeginsSymbol (codes_due c u) (16 * k.0) (bits_of k.0 k.1) stream
+  count_symbol part stream k e = record { code = k.2; is_code = k.5; cut = e ∙ k.8 }
 
-    longer : (next : Bool) (more : List Bool) → (part ++ next ∷ more) ++ [] ≡ bits ++ (r ++ next ∷ more)
-    longer next more = append-nil (part ++ next ∷ more) ∙ ap (λ l. l ++ next ∷ more) cut ∙ append_assoc bits r (next ∷ more)
+  -- with more bits
+  abbrev longer_element : (part behind : List Bool) (e : Element) → BeginsElement c p u us e part → BeginsElement c p u us e (part ++ behind)
+  longer_element part behind e a =
+      record { here = a.here; left = a.left; front = a.front; rest = a.rest ++ behind; cut = ap (λ l. l ++ behind) a.cut ∙ append_assoc a.front a.rest behind; spelled = a.spelled; tells = a.tells }
 
-    by : IsProperFront c s u us part → ⊥
-    by (inl h) =
-        let z = ap length (empty_front bits r (sym cut ∙ h)) in
-        let some_bits = none.0 in
-        omega (arith, z, some_bits)
-    by (inr (inl h)) = none.1 h.1.0 (r ++ h.1.1 ∷ h.1.2) h.1.3 (h.1.4 ∙ sym (append-nil (part ++ h.1.1 ∷ h.1.2)) ∙ longer h.1.1 h.1.2)
-    by (inr (inr (inl h))) =
-        let d = codes_are_due c (s.predictions u.component) h.0 u us h.1 h.2 (codes_due c u) (part ++ h.3 ∷ h.4) h.6 due h.5 in
-        no_code (codes_due c u) (symbol_of h.0) (bits_after h.0) (part ++ h.3 ∷ h.4) bits [] (r ++ h.3 ∷ h.4) none d (sym (longer h.3 h.4))
-    by (inr (inr (inr h))) =
-        no_code (codes_due c u) (16 * h.0) (bits_of h.0 h.1) (part ++ h.3 ∷ h.4) bits [] (r ++ h.3 ∷ h.4) none (h.2, h.5, h.8) (sym (longer h.3 h.4))
-part_no_show c s u us part r fault bits ic one some p due (inr (inl k)) cut =
-    no_word c s u us part r bits [] bits k.1.0 one some p k.1.1 (sym (append-nil bits)) cut
-    (λ e told left front y sp t same. (let d = codes_are_due c (s.predictions u.component) e u us told left (codes_due c u) front t due sp in
-    let f = first_code_once (codes_due c u) one bits d.0 k.1.0 (symbol_of e) (bits_after e) [] (r ++ y) front k.1.1 d.1 d.2 same in
-    clash (is_symbol c u.has_dc k.1.0) (ap (λ n. is_symbol c u.has_dc n) f.1 ∙ right_symbol c (s.predictions u.component) e u us told left ic due t) k.1.2))
-    (λ n x more next dc most same e. clash (is_symbol c u.has_dc k.1.0) (ap (λ m. is_symbol c u.has_dc m) (sym same) ∙ ap (λ b. is_symbol c b (16 * n)) dc ∙ eob_symbol c n most) k.1.2)
-part_no_show c s u us part r fault bits ic one some p due (inr (inr (inl k))) cut =
-    let q = k.1 in
-    no_word c s u us part r bits [] bits (16 * q.0 + q.1) one some p q.2 (sym (append-nil bits)) cut
-    (λ e told left front y sp t same. (let d = codes_are_due c (s.predictions u.component) e u us told left (codes_due c u) front t due sp in
-    let f = first_code_once (codes_due c u) one bits d.0 (16 * q.0 + q.1) (symbol_of e) (bits_after e) [] (r ++ y) front q.2 d.1 d.2 same in
-    bad_run c (s.predictions u.component) e u us told left q.0 q.1 ic t q.3 q.4 q.5 q.6 f.1))
-    (λ n x more next dc most same e. (let low = q.4 in let high = q.5 in let cap = ic.0 in let z : ⊥ = omega (arith, same, low, high, cap) in z))
-part_no_show c s u us part r fault bits ic one some p due (inr (inr (inr (inl k)))) cut =
-    let q = k.1 in
-    part_no_element c s u us part r q.0 q.1 q.2 bits ic one some p q.3 q.4 cut
-part_no_show c s u us part r fault bits ic one some p due (inr (inr (inr (inr k)))) cut =
-    let q = k.1 in
-    no_word c s u us part r q.2 (bits_of q.0 q.1) bits (16 * q.0) one some p q.3 q.6 cut
-    (λ e told left front y sp t same. (let d = codes_are_due c (s.predictions u.component) e u us told left (codes_due c u) front t due sp in
-    let f = symbol_once (codes_due c u) one q.2 d.0 (16 * q.0) (symbol_of e) (bits_of q.0 q.1) (bits_after e) (r ++ y) [] bits front q.3 d.1 q.6 d.2 same in
-    past_end c (s.predictions u.component) e u us told left q.0 q.1 [] [] [] (r ++ y) facts ic t q.4 q.5 q.7 q.8 f.0 f.1))
-    (λ n x more next dc most same e. (let l0 = ap length e in
-    let l1 = length-append (bits_of n x) [] in
-    let l2 = length-append (bits_of q.0 q.1) (r ++ next ∷ more) in
-    let l3 = length-append r (next ∷ more) in
-    let b1 = length-bits_of n x in
-    let b2 = length-bits_of q.0 q.1 in
-    let z : ⊥ = omega (arith, same, l0, l1, l2, l3, b1, b2) in z))
+  longer_symbol : (symbol : ℕ) (rest part behind : List Bool) → BeginsSymbol (codes_due c u) symbol rest part → BeginsSymbol (codes_due c u) symbol (rest ++ behind) (part ++ behind)
+  longer_symbol symbol rest part behind w = record { code = w.code; is_code = w.is_code; cut = ap (λ l. l ++ behind) w.cut ∙ append_assoc w.code rest behind }
+
+  -- a code of EOBn with fewer than n bits after it is no prefix of an element
+  eob_not_whole : (e : Element) (here : List ℤ) (left : List UnitLeft) (n x : ℕ) (more : List Bool) → Tells c p e u us here left → u.has_dc ≡ false → n ≤ c.most_run → 16 * n ≡ symbol_of e → 1 ≤ length more
+      → bits_of n x ≡ bits_after e ++ more → ⊥
+  eob_not_whole (difference d) here left n x more t dc most same few e = clash u.has_dc t.2 dc
+  eob_not_whole (dc_bit b) here left n x more t dc most same few e = clash u.has_dc t.2 dc
+  eob_not_whole (value run v bits) here left n x more t dc most same few e =
+      let low = t.3 in
+      let high = t.4 in
+      let cap = (law.fits).0 in
+      omega (arith, same)
+  eob_not_whole (long_run bits) here left n x more t dc most same few e = let cap = (law.fits).1 in omega (arith, same, cap, most)
+  eob_not_whole (ends bands bits) here left n x more t dc most same few e =
+      let k = digits bands - 1 in
+      omega (arith, same, few, ap length e, length-append (bits_of k bands ++ bits) more, length-append (bits_of k bands) bits, length-bits_of n x, length-bits_of k bands)
+
+  -- THE LAW: no complete element that is allowed there is a prefix of a part
+  part_no_element : (part : List Bool) (e : Element) → IsProperFront c s u us part → BeginsElement c p u us e part → ⊥
+  part_no_element part e (inl k) a =
+      element_some (codes_due c u) e some (subst (λ l. SpellsElement (codes_due c u) e l) (empty_front a.front a.rest (sym a.cut ∙ k)) a.spelled)
+  part_no_element part e (inr (inl k)) a = part_no_code part (law.one u) k.1 (element_code k.0 a)
+  part_no_element part e (inr (inr (inl k))) a =
+      let behind = k.3 ∷ k.4 in
+      let same = same_element c p u us law k.0 e (part ++ behind) (whole_element part (part ++ behind) k refl) (longer_element part behind e a) in
+      omega (arith, ap length same.front, ap length a.cut, length-append a.front a.rest, length-append part behind)
+  part_no_element part e (inr (inr (inr k))) a =
+      let behind = k.3 ∷ k.4 in
+      let r = symbol_once (law.one u) (count_symbol part (part ++ behind) k refl) (element_code (λ h. clash u.has_dc h.0 k.6) (longer_element part behind e a)) in
+      eob_not_whole e a.here a.left k.0 k.1 (a.rest ++ behind) a.tells k.6 k.7 r.0 (omega (arith, length-append a.rest behind)) r.1
+
+  -- A FAULT that begins with a code
+  no_word : (bits r : List Bool) (fault : Fault) (symbol : ℕ) (rest : List Bool) → IsProperFront c s u us (bits ++ r) → WantsCode c u → BitsShow c s u us fault bits → (fault ≡ CoefRange → ⊥)
+      → BeginsSymbol (codes_due c u) symbol rest (bits ++ r)
+      → ((n x : ℕ) (more : List Bool) → u.has_dc ≡ false → n ≤ c.most_run → 1 ≤ length more → 16 * n ≡ symbol → bits_of n x ≡ rest ++ more → ⊥) → ⊥
+  no_word bits r fault symbol rest (inl k) due shown other w eob = some (w.code, symbol) w.is_code (empty_front w.code rest (sym w.cut ∙ k))
+  no_word bits r fault symbol rest (inr (inl k)) due shown other w eob = part_no_code (bits ++ r) (law.one u) k.1 w
+  no_word bits r fault symbol rest (inr (inr (inl k))) due shown other w eob =
+      let behind = k.3 ∷ k.4 in
+      shows_excludes c s u us law due fault k.0 bits (r ++ behind) shown (whole_element (bits ++ r) (bits ++ (r ++ behind)) k (sym (append_assoc bits r behind))) (λ z. absurd (other z))
+  no_word bits r fault symbol rest (inr (inr (inr k))) due shown other w eob =
+      let behind = k.3 ∷ k.4 in
+      let q = symbol_once (law.one u) (count_symbol (bits ++ r) ((bits ++ r) ++ behind) k refl) (longer_symbol symbol rest (bits ++ r) behind w) in
+      eob k.0 k.1 behind k.6 k.7 (omega arith) q.0 q.1
+
+  -- THE LAW: a part has no fault
+  part_no_show : (bits r : List Bool) (fault : Fault) → IsProperFront c s u us (bits ++ r) → WantsCode c u → BitsShow c s u us fault bits → ⊥
+  part_no_show bits r fault f due (inl k) = by f
+    where
+      none : BeginsNone (codes_due c u) bits
+      none = k.1
+
+      by : IsProperFront c s u us (bits ++ r) → ⊥
+      by (inl h) = let some_bits = none.0 in omega (arith, ap length (empty_front bits r h), some_bits)
+      by (inr (inl h)) = let q = h.1 in none.1 q.0 (r ++ q.1 ∷ q.2) q.3 (q.4 ∙ append_assoc bits r (q.1 ∷ q.2))
+      by (inr (inr (inl h))) =
+          let behind = h.3 ∷ h.4 in
+          no_code bits (r ++ behind) none (append_assoc bits r behind) (element_code due (whole_element (bits ++ r) ((bits ++ r) ++ behind) h refl))
+      by (inr (inr (inr h))) = let behind = h.3 ∷ h.4 in no_code bits (r ++ behind) none (append_assoc bits r behind) (count_symbol (bits ++ r) ((bits ++ r) ++ behind) h refl)
+  part_no_show bits r fault f due (inr (inl k)) =
+      no_word bits r fault k.1.0 r f due (inr (inl k)) (λ z. omega (arith, ap number_of (sym k.0 ∙ z))) (record { code = bits; is_code = k.1.1; cut = refl })
+      (λ n x more dc most few same cut. clash (is_symbol c u.has_dc k.1.0) (ap (λ m. is_symbol c u.has_dc m) (sym same) ∙ ap (λ b. is_symbol c b (16 * n)) dc ∙ eob_symbol c n most) k.1.2)
+  part_no_show bits r fault f due (inr (inr (inl k))) =
+      let q = k.1 in
+      no_word bits r fault (16 * q.0 + q.1) r f due (inr (inr (inl k))) (λ z. omega (arith, ap number_of (sym k.0 ∙ z))) (record { code = bits; is_code = q.2; cut = refl })
+      (λ n x more dc most few same cut. (let low = q.4 in let high = q.5 in let cap = (law.fits).0 in let z : ⊥ = omega (arith, same, low, high, cap) in z))
+  part_no_show bits r fault f due (inr (inr (inr (inl k)))) =
+      let q = k.1 in part_no_element (bits ++ r) q.0 f (record { here = q.1; left = q.2; front = bits; rest = r; cut = refl; spelled = q.3; tells = q.4 })
+  part_no_show bits r fault f due (inr (inr (inr (inr k)))) =
+      let q = k.1 in
+      let number = bits_of q.0 q.1 in
+      no_word bits r fault (16 * q.0) (number ++ r) f due (inr (inr (inr (inr k)))) (λ z. omega (arith, ap number_of (sym k.0 ∙ z)))
+      (begins_code (codes_due c u) (16 * q.0) number bits r (bits ++ r) (q.2, q.3, q.6) refl)
+      (λ n x more dc most few same cut. omega (arith, same, few, ap length cut, length-append (number ++ r) more, length-append number r, length-bits_of n x, length-bits_of q.0 q.1))
 
 -- COMPLETE ELEMENTS AND A PART
 
@@ -209,56 +181,51 @@ codes_one c s u = one_due c u u.has_dc s
 pub codes_not_empty : (c : Coding) → IsSound c → (u : UnitLeft) → AreSome (codes_due c u)
 codes_not_empty c s u = some_due c u u.has_dc s
 
--- what complete elements after the state cover begins no part of an element there
-pub no_further : (c : Coding) (st : Standing) (unit : UnitLeft) (others : List UnitLeft) (part r : List Bool) (e : Element) (es : List Element) (told : List ℤ) (bits : List Bool) (t : Standing) → IsSound c
-    → st.left ≡ unit ∷ others → IsProperFront c st unit others part → Covers c st (e ∷ es) told bits t → part ≡ bits ++ r → ⊥
-no_further c st unit others part r e es told bits t sound left p k cut =
-    let h = head_inj unit k.0 others k.1 (sym left ∙ k.7) in
-    let Q : UnitLeft → List UnitLeft → Type 0 = λ v vs. SpellsElement (codes_due c v) e k.5 × Tells c (st.predictions v.component) e v vs k.2 k.3 in
-    let q0 : Q k.0 k.1 = (k.10, k.11) in
-    let q1 : Q unit k.1 = subst (λ v. Q v k.1) (sym h.0) q0 in
-    let q : Q unit others = subst (λ vs. Q unit vs) (sym h.1) q1 in
-    part_no_element c st unit others part (k.6 ++ r) e k.2 k.3 k.5 (coding_is c sound) (codes_one c sound unit) (codes_not_empty c sound unit) p q.0 q.1
-    (cut ∙ ap (λ l. l ++ r) k.9 ∙ append_assoc k.5 k.6 r)
+module _ (c : Coding) (st : Standing) (unit : UnitLeft) (others : List UnitLeft) where
+  -- what complete elements after the state cover begins no part of an element there
+  pub part_no_more : (part : List Bool) (e : Element) (es : List Element) → IsSound c → st.left ≡ unit ∷ others → IsProperFront c st unit others part
+      → BeginsElements c st (e ∷ es) part → ⊥
+  part_no_more part e es sound left p a =
+      part_no_element c st unit others (decodes c sound) (codes_not_empty c sound unit) part e p (first_element unit others left a).element
+
+  pub no_further : (part r : List Bool) (e : Element) (es : List Element) (told : List ℤ) (bits : List Bool) (t : Standing) → IsSound c
+      → st.left ≡ unit ∷ others → IsProperFront c st unit others part → Covers c st (e ∷ es) told bits t → part ≡ bits ++ r → ⊥
+  no_further part r e es told bits t sound left p k cut =
+      part_no_more part e es sound left p (record { told = told; front = bits; rest = r; standing = t; cut = cut; covers = k })
+
+-- the complete elements before a part
+abbrev pub before_part : {c : Coding} {units : List UnitLeft} {told : List ℤ} {left : List UnitLeft} {bits : List Bool} (w : StandsInUnits c units told left bits) → BeginsElements c (at_start units) w.elements bits
+before_part w = record { told = w.before; front = w.front; rest = w.part; standing = w.standing; cut = w.cut; covers = w.covers }
 
 -- THE LAW: they have no complete interval
 pub part_not_held : (c : Coding) (units : List UnitLeft) (told : List ℤ) (left : List UnitLeft) (bits : List Bool) → IsSound c → StandsInUnits c units told left bits → HoldsNoInterval c units bits
-part_not_held c units told left bits sound w values front rest k e =
-    ⊎_elim
-    (λ (g : GoesOn c w.elements k.0 w.before values w.front front w.standing k.1). longer g.elements g.values g.spelling g.covers
-    (append_cancel_left w.front w.part (g.spelling ++ rest) (same ∙ ap (λ l. l ++ rest) g.joined.2 ∙ append_assoc w.front g.spelling rest)))
-    (λ (g : GoesOn c k.0 w.elements values w.before front w.front k.1 w.standing). shorter g.elements g.values g.spelling g.covers)
-    (fronts_once c (at_start units) w.elements k.0 w.before values w.front front w.part rest w.standing k.1 facts (coding_is c sound) (codes_one c sound) w.covers k.2 same)
+part_not_held c units told left bits sound w values front rest k e = by (elements_once c (at_start units) w.elements k.0 bits (decodes c sound) (before_part w) all)
   where
+    all : BeginsElements c (at_start units) k.0 bits
+    all = record { told = values; front = front; rest = rest; standing = k.1; cut = e; covers = k.2 }
+
     at : FrontAt c w.standing w.part
     at = part_front c w.standing w.unit w.others w.here w.part w.is_part
 
-    same : w.front ++ w.part ≡ front ++ rest
-    same = sym w.cut ∙ e
-
     longer : (es : List Element) (told : List ℤ) (spelling : List Bool) → Covers c w.standing es told spelling k.1 → w.part ≡ spelling ++ rest → ⊥
     longer [] told spelling h cut = no_units at.unit at.units (sym at.left ∙ ap (λ (z : Standing). z.left) (sym h.2) ∙ k.3)
-    longer (d ∷ es) told spelling h cut = no_further c w.standing at.unit at.units w.part rest d es told spelling k.1 sound at.left at.is_front h cut
+    longer (d ∷ es) told spelling h cut =
+        part_no_more c w.standing at.unit at.units w.part d es sound at.left at.is_front (record { told = told; front = spelling; rest = rest; standing = k.1; cut = cut; covers = h })
 
     shorter : (es : List Element) (told : List ℤ) (spelling : List Bool) → Covers c k.1 es told spelling w.standing → ⊥
     shorter [] told spelling h = no_units at.unit at.units (sym at.left ∙ ap (λ (z : Standing). z.left) h.2 ∙ k.3)
     shorter (d ∷ es) told spelling h = no_units h.0 h.1 (sym h.7 ∙ k.3)
 
+    by : Continues (before_part w) all ⊎ Continues all (before_part w) → ⊥
+    by (inl g) = longer g.elements g.values g.spelling g.covers g.behind
+    by (inr g) = shorter g.elements g.values g.spelling g.covers
+
 -- THE LAW: they have no fault
 pub part_not_shown : (c : Coding) (units : List UnitLeft) (told : List ℤ) (left : List UnitLeft) (bits : List Bool) (fault : Fault) → IsSound c → StandsInUnits c units told left bits → DataReveals c units fault bits → ⊥
-part_not_shown c units told left bits fault sound w d =
-    ⊎_elim
-    (λ (g : GoesOn c w.elements d.elements w.before d.told w.front d.front w.standing d.standing). longer g.elements g.values g.spelling g.covers
-    (append_cancel_left w.front w.part (g.spelling ++ (d.here ++ d.rest)) (same ∙ ap (λ l. l ++ (d.here ++ d.rest)) g.joined.2 ∙ append_assoc w.front g.spelling (d.here ++ d.rest))))
-    (λ (g : GoesOn c d.elements w.elements d.told w.before d.front w.front d.standing w.standing). shorter g.elements g.values g.spelling g.covers
-    (append_cancel_left d.front (g.spelling ++ w.part) (d.here ++ d.rest) (sym (append_assoc d.front g.spelling w.part) ∙ ap (λ l. l ++ w.part) (sym g.joined.2) ∙ same)))
-    (fronts_once c (at_start units) w.elements d.elements w.before d.told w.front d.front w.part (d.here ++ d.rest) w.standing d.standing facts (coding_is c sound) (codes_one c sound) w.covers d.covers same)
+part_not_shown c units told left bits fault sound w d = by (elements_once c (at_start units) w.elements d.elements bits (decodes c sound) (before_part w) (at_fault d))
   where
     at : FrontAt c w.standing w.part
     at = part_front c w.standing w.unit w.others w.here w.part w.is_part
-
-    same : w.front ++ w.part ≡ d.front ++ (d.here ++ d.rest)
-    same = sym w.cut ∙ d.cut ∙ append_assoc d.front d.here d.rest
 
     -- at one state
     there : w.standing ≡ d.standing → w.part ≡ d.here ++ d.rest → ⊥
@@ -266,23 +233,22 @@ part_not_shown c units told left bits fault sound w d =
         let h = head_inj at.unit d.unit at.units d.others (sym at.left ∙ ap (λ (t : Standing). t.left) z ∙ d.left) in
         let p1 : IsProperFront c d.standing at.unit at.units w.part = subst (λ t. IsProperFront c t at.unit at.units w.part) z at.is_front in
         let p2 : IsProperFront c d.standing d.unit at.units w.part = subst (λ v. IsProperFront c d.standing v at.units w.part) h.0 p1 in
-        let p : IsProperFront c d.standing d.unit d.others w.part = subst (λ vs. IsProperFront c d.standing d.unit vs w.part) h.1 p2 in
-        part_no_show c d.standing d.unit d.others w.part d.rest fault d.here (coding_is c sound) (codes_one c sound d.unit) (codes_not_empty c sound d.unit) p d.codes d.shows cut
+        let p3 : IsProperFront c d.standing d.unit d.others w.part = subst (λ vs. IsProperFront c d.standing d.unit vs w.part) h.1 p2 in
+        part_no_show c d.standing d.unit d.others (decodes c sound) (codes_not_empty c sound d.unit) d.here d.rest fault (subst (λ l. IsProperFront c d.standing d.unit d.others l) cut p3) d.codes d.shows
 
     longer : (es : List Element) (values : List ℤ) (spelling : List Bool) → Covers c w.standing es values spelling d.standing → w.part ≡ spelling ++ (d.here ++ d.rest) → ⊥
     longer [] values spelling h cut = there (sym h.2) (cut ∙ ap (λ l. l ++ (d.here ++ d.rest)) h.1)
-    longer (e ∷ es) values spelling h cut = no_further c w.standing at.unit at.units w.part (d.here ++ d.rest) e es values spelling d.standing sound at.left at.is_front h cut
+    longer (e ∷ es) values spelling h cut =
+        part_no_more c w.standing at.unit at.units w.part e es sound at.left at.is_front (record { told = values; front = spelling; rest = d.here ++ d.rest; standing = d.standing; cut = cut; covers = h })
 
-    shorter : (es : List Element) (values : List ℤ) (spelling : List Bool) → Covers c d.standing es values spelling w.standing → spelling ++ w.part ≡ d.here ++ d.rest → ⊥
-    shorter [] values spelling h cut = there h.2 (sym (ap (λ l. l ++ w.part) h.1) ∙ cut)
-    shorter (e ∷ es) values spelling k cut =
-        let h = head_inj d.unit k.0 d.others k.1 (sym d.left ∙ k.7) in
-        let Q : UnitLeft → List UnitLeft → Type 0 = λ v vs. SpellsElement (codes_due c v) e k.5 × Tells c (d.standing.predictions v.component) e v vs k.2 k.3 × (are_in_bounds c.bounds v.has_dc k.2 ≡ true) in
-        let q0 : Q k.0 k.1 = (k.10, k.11, k.12) in
-        let q1 : Q d.unit k.1 = subst (λ v. Q v k.1) (sym h.0) q0 in
-        let q : Q d.unit d.others = subst (λ vs. Q d.unit vs) (sym h.1) q1 in
-        shows_excludes c d.standing d.unit d.others fault e k.2 k.3 d.here k.5 (k.6 ++ w.part) d.rest facts (coding_is c sound) (codes_one c sound d.unit) d.codes d.shows q.0 q.1 q.2
-        (sym cut ∙ ap (λ l. l ++ w.part) k.9 ∙ append_assoc k.5 k.6 w.part)
+    shorter : (es : List Element) (values : List ℤ) (spelling : List Bool) → Covers c d.standing es values spelling w.standing → d.here ++ d.rest ≡ spelling ++ w.part → ⊥
+    shorter [] values spelling h cut = there h.2 (sym (cut ∙ ap (λ l. l ++ w.part) h.1))
+    shorter (e ∷ es) values spelling h cut =
+        no_element_there d d.rest e es (decodes c sound) (record { told = values; front = spelling; rest = w.part; standing = w.standing; cut = cut; covers = h })
+
+    by : Continues (before_part w) (at_fault d) ⊎ Continues (at_fault d) (before_part w) → ⊥
+    by (inl g) = longer g.elements g.values g.spelling g.covers g.behind
+    by (inr g) = shorter g.elements g.values g.spelling g.covers g.behind
 
 -- nor does any prefix of them
 pub part_shows_none : (c : Coding) (units : List UnitLeft) (told : List ℤ) (left : List UnitLeft) (bits : List Bool) → IsSound c → StandsInUnits c units told left bits → RevealsNoFault c units bits

@@ -1,19 +1,19 @@
 -- Bits can be complete elements and a part of one more in only one way.
 use Rattle.std.proofs.Common.{◌≡◌, ℕ, ◌+◌, ◌-◌, ◌*◌, ◌/◌, ◌%◌, ◌<◌, ◌≤◌, Bool, true, false, cond, ◌==◌, List, [], ◌∷◌, ◌++◌, length, refl, sym, ap, ◌∙◌, subst, arith, inl, inr, ⊎_elim, ℤ}
 use Rattle.std.specs.Prelude.{◌⊎◌}
-use Rattle.std.specs.List.{Contains}
 use Rattle.std.proofs.lemmas.Bool.Decides.{nat_tests}
-use Rattle.std.proofs.lemmas.List.{append_assoc, append-nil, append_cancel_left, length-append}
+use Rattle.std.proofs.lemmas.List.{append_assoc, append-nil, length-append}
 use Rattle.jpg_spec.specs.Bits.{bits_of}
 use Rattle.jpg_spec.specs.Numbers.{category, extra_bits, digits}
 use Rattle.jpg_spec.specs.Elements.{Coding, UnitLeft, Standing, Element, Covers, codes_due, at_start, is_zero, nonzeros_in, corrected, old_values}
-use Rattle.jpg_spec.specs.Parts.{IsFront, WantsCorrection, PartOfElement, in_code, in_difference, in_number, in_count, in_value, in_long, in_ends, StandsInUnits, StandsInOneWay}
+use Rattle.jpg_spec.specs.Parts.{IsFront, WantsCorrection, PartOfElement, in_code, in_difference, in_number, in_count, in_value, in_long, in_ends, AreUnderWay, StandsInOneWay}
 use Rattle.jpg_spec.specs.Sound.{IsSound}
 use Rattle.jpg_spec.proofs.Facts.{facts}
 use Rattle.jpg_spec.proofs.Values.{nonzeros-append}
-use Rattle.jpg_spec.proofs.Once.{GoesOn, symbol_once, fronts_once, head_inj}
+use Rattle.jpg_spec.proofs.Once.{BeginsSymbol, Continues, elements_once, head_inj, symbol_once}
 use Rattle.jpg_spec.proofs.Parts.{in_ac, some_old, same_head, part_front}
-use Rattle.jpg_spec.proofs.PartStands.{coding_is, codes_one, codes_not_empty, no_further, part_no_code, empty_front}
+use Rattle.jpg_spec.proofs.PartStands.{before_part, codes_one, codes_not_empty, empty_front, part_no_code, part_no_more}
+use Rattle.jpg_spec.proofs.Sound.{decodes}
 use Rattle.jpg_spec.proofs.Common.{append_inj, clash}
 
 -- WHAT WAS SKIPPED is determined by how many corrections it took
@@ -107,7 +107,7 @@ record Early (c : Coding) (s : Standing) (u : UnitLeft) (others : List UnitLeft)
   left : s.left ≡ u ∷ others
   none : here ≡ []
   short : IsFront (codes_due c u) bits
-      ⊎ ((u.has_dc ≡ true) ⊎ ((code : List Bool) × (symbol : ℕ) × (extra : List Bool) × Contains (codes_due c u) (code, symbol) × (bits ≡ code ++ extra) × (length extra < wanted symbol)))
+      ⊎ ((u.has_dc ≡ true) ⊎ ((symbol : ℕ) × (extra : List Bool) × BeginsSymbol (codes_due c u) symbol extra bits × (length extra < wanted symbol)))
 
 -- after them: as many corrections as what was skipped takes, and a further one follows
 record Late (c : Coding) (s : Standing) (u : UnitLeft) (others : List UnitLeft) (here : List ℤ) (bits : List Bool) : Type 0 where
@@ -115,15 +115,13 @@ record Late (c : Coding) (s : Standing) (u : UnitLeft) (others : List UnitLeft) 
   units : List UnitLeft
   whole : List UnitLeft
   first : List ℤ
-  code : List Bool
   symbol : ℕ
   number : List Bool
   corrections : List Bool
   begun : s.left ≡ unit ∷ units
   no_dc : unit.has_dc ≡ false
   left : s.left ≡ whole ++ in_part first u ∷ others
-  coded : Contains (codes_due c unit) (code, symbol)
-  split : bits ≡ code ++ (number ++ corrections)
+  word : BeginsSymbol (codes_due c unit) symbol (number ++ corrections) bits
   long : length number ≡ wanted symbol
   each : nonzeros_in (old_values whole ++ first) ≡ length corrections
   told : here ≡ corrected c.al (old_values whole ++ first) corrections
@@ -134,25 +132,23 @@ shape c s u others here bits sound (in_code h) = inl (record { left = h.left; no
 shape c s u others here bits sound (in_difference size extra h few) = inl (record { left = h.left; none = h.none; short = inr (inl h.has_dc) })
 shape c s u others here bits sound (in_number run size extra h few) =
     let w = wanted_value run size h.some (omega (arith, h.most, sound.categories)) in
-    inl (record { left = h.left; none = h.none; short = inr (inr (h.code, 16 * run + size, extra, in_ac c u (h.code, 16 * run + size) h.no_dc h.coded, h.split, omega (arith, w, few))) })
+    inl (record { left = h.left; none = h.none; short = inr (inr (16 * run + size, extra, record { code = h.code; is_code = in_ac c u (h.code, 16 * run + size) h.no_dc h.coded; cut = h.split }, omega (arith, w, few))) })
 shape c s u others here bits sound (in_count n extra h few) =
     let w = wanted_ends n (omega (arith, h.most, sound.runs)) in
-    inl (record { left = h.left; none = h.none; short = inr (inr (h.code, 16 * n, extra, in_ac c u (h.code, 16 * n) h.no_dc h.coded, h.split, omega (arith, w, few))) })
+    inl (record { left = h.left; none = h.none; short = inr (inr (16 * n, extra, record { code = h.code; is_code = in_ac c u (h.code, 16 * n) h.no_dc h.coded; cut = h.split }, omega (arith, w, few))) })
 shape c s u others here bits sound (in_value run v h due) =
     inr (record {
       unit = in_part h.passed u;
       units = others;
       whole = [];
       first = h.passed;
-      code = h.code;
       symbol = 16 * h.zeros + category v;
       number = extra_bits v;
       corrections = h.corrections;
       begun = h.left;
       no_dc = h.no_dc;
       left = h.left;
-      coded = in_ac c u (h.code, 16 * h.zeros + category v) h.no_dc h.coded;
-      split = h.split;
+      word = record { code = h.code; is_code = in_ac c u (h.code, 16 * h.zeros + category v) h.no_dc h.coded; cut = h.split };
       long = facts.size v ∙ sym (wanted_value h.zeros (category v) h.some (omega (arith, h.most, sound.categories)));
       each = h.each;
       told = h.told;
@@ -164,15 +160,13 @@ shape c s u others here bits sound (in_long run h due) =
       units = others;
       whole = [];
       first = h.passed;
-      code = h.code;
       symbol = 0xf0;
       number = [];
       corrections = h.corrections;
       begun = h.left;
       no_dc = h.no_dc;
       left = h.left;
-      coded = in_ac c u (h.code, 0xf0) h.no_dc h.coded;
-      split = h.split;
+      word = record { code = h.code; is_code = in_ac c u (h.code, 0xf0) h.no_dc h.coded; cut = h.split };
       long = refl;
       each = h.each;
       told = h.told;
@@ -185,15 +179,13 @@ shape c s u others here bits sound (in_ends bands h due) =
       units = h.units;
       whole = h.whole;
       first = h.first;
-      code = h.code;
       symbol = 16 * n;
       number = bits_of n h.total;
       corrections = h.corrections;
       begun = h.begun;
       no_dc = h.no_dc;
       left = h.left;
-      coded = in_ac c h.unit (h.code, 16 * n) h.no_dc h.coded;
-      split = h.split;
+      word = record { code = h.code; is_code = in_ac c h.unit (h.code, 16 * n) h.no_dc h.coded; cut = h.split };
       long = facts.bits n h.total ∙ sym (wanted_ends n (omega (arith, h.most, sound.runs)));
       each = h.each;
       told = h.told;
@@ -205,75 +197,67 @@ record Same (u u' : UnitLeft) (others others' : List UnitLeft) (here here' : Lis
   units : u ∷ others ≡ u' ∷ others'
   values : here ≡ here'
 
-early_once : (c : Coding) (s : Standing) (u u' : UnitLeft) (others others' : List UnitLeft) (here here' : List ℤ) (bits : List Bool) → Early c s u others here bits → Early c s u' others' here' bits → Same u u' others others' here here'
-early_once c s u u' others others' here here' bits h k = record { units = sym h.left ∙ k.left; values = h.none ∙ sym k.none }
+module _ (c : Coding) (s : Standing) (bits : List Bool) (sound : IsSound c) where
+  early_once : (u u' : UnitLeft) (others others' : List UnitLeft) (here here' : List ℤ) → Early c s u others here bits → Early c s u' others' here' bits → Same u u' others others' here here'
+  early_once u u' others others' here here' h k = record { units = sym h.left ∙ k.left; values = h.none ∙ sym k.none }
 
-late_once : (c : Coding) (s : Standing) (u u' : UnitLeft) (others others' : List UnitLeft) (here here' : List ℤ) (bits : List Bool) → IsSound c → Late c s u others here bits → Late c s u' others' here' bits → Same u u' others others' here here'
-late_once c s u u' others others' here here' bits sound h k =
-    let t = head_inj k.unit h.unit k.units h.units (sym k.begun ∙ h.begun) in
-    let coded = subst (λ v. Contains (codes_due c v) (k.code, k.symbol)) t.0 k.coded in
-    let q = symbol_once (codes_due c h.unit) (codes_one c sound h.unit) h.code k.code h.symbol k.symbol (h.number ++ h.corrections) (k.number ++ k.corrections) [] [] bits bits h.coded coded h.split k.split refl in
-    let b : h.number ++ h.corrections ≡ k.number ++ k.corrections = sym (append-nil (h.number ++ h.corrections)) ∙ q.1 ∙ append-nil (k.number ++ k.corrections) in
-    let i = append_inj h.number k.number h.corrections k.corrections (h.long ∙ ap wanted q.0 ∙ sym k.long) b in
-    let p = passed_once h.whole k.whole h.first k.first u u' others others' (sym h.left ∙ k.left) h.due k.due (h.each ∙ ap length i.1 ∙ sym k.each) in
-    record {
-      units = ap (λ v. v ∷ others) p.unit_same ∙ ap (λ vs. u' ∷ vs) p.others_same;
-      values = h.told ∙ ap (λ w. corrected c.al (old_values w ++ h.first) h.corrections) p.whole_same ∙ ap (λ f. corrected c.al (old_values k.whole ++ f) h.corrections) p.first_same
-          ∙ ap (λ cs. corrected c.al (old_values k.whole ++ k.first) cs) i.1 ∙ sym k.told;
-    }
+  late_once : (u u' : UnitLeft) (others others' : List UnitLeft) (here here' : List ℤ) → Late c s u others here bits → Late c s u' others' here' bits → Same u u' others others' here here'
+  late_once u u' others others' here here' h k =
+      let t = head_inj k.unit h.unit k.units h.units (sym k.begun ∙ h.begun) in
+      let word = subst (λ v. BeginsSymbol (codes_due c v) k.symbol (k.number ++ k.corrections) bits) t.0 k.word in
+      let q = symbol_once (codes_one c sound h.unit) h.word word in
+      let i = append_inj h.number k.number h.corrections k.corrections (h.long ∙ ap wanted q.0 ∙ sym k.long) q.1 in
+      let p = passed_once h.whole k.whole h.first k.first u u' others others' (sym h.left ∙ k.left) h.due k.due (h.each ∙ ap length i.1 ∙ sym k.each) in
+      record {
+        units = ap (λ v. v ∷ others) p.unit_same ∙ ap (λ vs. u' ∷ vs) p.others_same;
+        values = h.told ∙ ap (λ w. corrected c.al (old_values w ++ h.first) h.corrections) p.whole_same ∙ ap (λ f. corrected c.al (old_values k.whole ++ f) h.corrections) p.first_same
+            ∙ ap (λ cs. corrected c.al (old_values k.whole ++ k.first) cs) i.1 ∙ sym k.told;
+      }
 
-early_not_late : (c : Coding) (s : Standing) (u u' : UnitLeft) (others others' : List UnitLeft) (here here' : List ℤ) (bits : List Bool) → IsSound c → Early c s u others here bits → Late c s u' others' here' bits → ⊥
-early_not_late c s u u' others others' here here' bits sound h k = by h.short
-  where
-    same : (u ≡ k.unit) × (others ≡ k.units)
-    same = head_inj u k.unit others k.units (sym h.left ∙ k.begun)
+  early_not_late : (u u' : UnitLeft) (others others' : List UnitLeft) (here here' : List ℤ) → Early c s u others here bits → Late c s u' others' here' bits → ⊥
+  early_not_late u u' others others' here here' h k = by h.short
+    where
+      same : (u ≡ k.unit) × (others ≡ k.units)
+      same = head_inj u k.unit others k.units (sym h.left ∙ k.begun)
 
-    coded : Contains (codes_due c u) (k.code, k.symbol)
-    coded = subst (λ v. Contains (codes_due c v) (k.code, k.symbol)) (sym same.0) k.coded
+      word : BeginsSymbol (codes_due c u) k.symbol (k.number ++ k.corrections) bits
+      word = subst (λ v. BeginsSymbol (codes_due c v) k.symbol (k.number ++ k.corrections) bits) (sym same.0) k.word
 
-    by : (IsFront (codes_due c u) bits ⊎ ((u.has_dc ≡ true) ⊎ ((code : List Bool) × (symbol : ℕ) × (extra : List Bool) × Contains (codes_due c u) (code, symbol) × (bits ≡ code ++ extra) × (length extra < wanted symbol)))) → ⊥
-    by (inl (inl z)) = codes_not_empty c sound u (k.code, k.symbol) coded (empty_front k.code (k.number ++ k.corrections) (sym k.split ∙ z))
-    by (inl (inr g)) = part_no_code (codes_due c u) (codes_one c sound u) g.0 k.code k.symbol bits (k.number ++ k.corrections) g.2 g.1 g.3 g.4 coded k.split
-    by (inr (inl d)) = clash u.has_dc d (ap (λ (v : UnitLeft). v.has_dc) same.0 ∙ k.no_dc)
-    by (inr (inr e)) =
-        let q = symbol_once (codes_due c u) (codes_one c sound u) e.0 k.code e.1 k.symbol e.2 (k.number ++ k.corrections) [] [] bits bits e.3 coded e.4 k.split refl in
-        let few = e.5 in
-        omega (arith, few, ap wanted q.0, ap length q.1, length-append e.2 [], length-append (k.number ++ k.corrections) [], length-append k.number k.corrections, k.long)
+      by : (IsFront (codes_due c u) bits ⊎ ((u.has_dc ≡ true) ⊎ ((symbol : ℕ) × (extra : List Bool) × BeginsSymbol (codes_due c u) symbol extra bits × (length extra < wanted symbol)))) → ⊥
+      by (inl (inl z)) = codes_not_empty c sound u (word.code, k.symbol) word.is_code (empty_front word.code (k.number ++ k.corrections) (sym word.cut ∙ z))
+      by (inl (inr g)) = part_no_code bits (codes_one c sound u) g word
+      by (inr (inl d)) = clash u.has_dc d (ap (λ (v : UnitLeft). v.has_dc) same.0 ∙ k.no_dc)
+      by (inr (inr e)) =
+          let q = symbol_once (codes_one c sound u) e.2 word in
+          let few = e.3 in
+          omega (arith, few, ap wanted q.0, ap length q.1, length-append k.number k.corrections, k.long)
 
-part_once : (c : Coding) (s : Standing) (u u' : UnitLeft) (others others' : List UnitLeft) (here here' : List ℤ) (bits : List Bool) → IsSound c → PartOfElement c s u others here bits → PartOfElement c s u' others' here' bits → Same u u' others others' here here'
-part_once c s u u' others others' here here' bits sound p q = by (shape c s u others here bits sound p) (shape c s u' others' here' bits sound q)
-  where
-    by : (Early c s u others here bits ⊎ Late c s u others here bits) → (Early c s u' others' here' bits ⊎ Late c s u' others' here' bits) → Same u u' others others' here here'
-    by (inl h) (inl k) = early_once c s u u' others others' here here' bits h k
-    by (inl h) (inr k) = absurd (early_not_late c s u u' others others' here here' bits sound h k)
-    by (inr h) (inl k) = absurd (early_not_late c s u' u others' others here' here bits sound k h)
-    by (inr h) (inr k) = late_once c s u u' others others' here here' bits sound h k
+  part_once : (u u' : UnitLeft) (others others' : List UnitLeft) (here here' : List ℤ) → PartOfElement c s u others here bits → PartOfElement c s u' others' here' bits → Same u u' others others' here here'
+  part_once u u' others others' here here' p q = by (shape c s u others here bits sound p) (shape c s u' others' here' bits sound q)
+    where
+      by : (Early c s u others here bits ⊎ Late c s u others here bits) → (Early c s u' others' here' bits ⊎ Late c s u' others' here' bits) → Same u u' others others' here here'
+      by (inl h) (inl k) = early_once u u' others others' here here' h k
+      by (inl h) (inr k) = absurd (early_not_late u u' others others' here here' h k)
+      by (inr h) (inl k) = absurd (early_not_late u' u others' others here' here k h)
+      by (inr h) (inr k) = late_once u u' others others' here here' h k
 
 -- THE LAW
 pub stands_once : (c : Coding) (units : List UnitLeft) (bits : List Bool) → IsSound c → StandsInOneWay c units bits
 stands_once c units bits sound told told' left left' w v =
     ⊎_elim
-    (λ (g : GoesOn c w.elements v.elements w.before v.before w.front v.front w.standing v.standing). on told told' left left' w v g.elements g.values g.spelling g.covers g.joined.1 g.joined.2 same)
-    (λ (g : GoesOn c v.elements w.elements v.before w.before v.front w.front v.standing w.standing). back (on told' told left' left v w g.elements g.values g.spelling g.covers g.joined.1 g.joined.2 (sym same)))
-    (fronts_once c (at_start units) w.elements v.elements w.before v.before w.front v.front w.part v.part w.standing v.standing facts (coding_is c sound) (codes_one c sound) w.covers v.covers same)
+    (λ (g : Continues (before_part w) (before_part v)). on (told, left, w) (told', left', v) g.elements g.values g.spelling g.covers g.joined.1 g.behind)
+    (λ (g : Continues (before_part v) (before_part w)). (let h = on (told', left', v) (told, left, w) g.elements g.values g.spelling g.covers g.joined.1 g.behind in (sym h.0, sym h.1)))
+    (elements_once c (at_start units) w.elements v.elements bits (decodes c sound) (before_part w) (before_part v))
   where
-    same : w.front ++ w.part ≡ v.front ++ v.part
-    same = sym w.cut ∙ v.cut
-
-    back : (told' ≡ told) × (left' ≡ left) → (told ≡ told') × (left ≡ left')
-    back h = (sym h.0, sym h.1)
-
-    on : (told told' : List ℤ) (left left' : List UnitLeft) (w : StandsInUnits c units told left bits) (v : StandsInUnits c units told' left' bits) (es : List Element) (values : List ℤ) (spelling : List Bool)
-        → Covers c w.standing es values spelling v.standing → v.before ≡ w.before ++ values → v.front ≡ w.front ++ spelling → w.front ++ w.part ≡ v.front ++ v.part → (told ≡ told') × (left ≡ left')
-    on told told' left left' w v [] values spelling k before front same =
-        let f : v.front ≡ w.front = front ∙ ap (λ l. w.front ++ l) k.1 ∙ append-nil w.front in
+    on : (x y : AreUnderWay c units bits) (es : List Element) (values : List ℤ) (spelling : List Bool) → Covers c (x.2).standing es values spelling (y.2).standing → (y.2).before ≡ (x.2).before ++ values
+        → (x.2).part ≡ spelling ++ (y.2).part → (x.0 ≡ y.0) × (x.1 ≡ y.1)
+    on (told, left, w) (told', left', v) [] values spelling k before part =
         let b : v.before ≡ w.before = before ∙ ap (λ l. w.before ++ l) k.0 ∙ append-nil w.before in
-        let p : w.part ≡ v.part = append_cancel_left w.front w.part v.part (same ∙ ap (λ l. l ++ v.part) f) in
+        let p : w.part ≡ v.part = part ∙ ap (λ l. l ++ v.part) k.1 in
         let q1 : PartOfElement c w.standing v.unit v.others v.here v.part = subst (λ t. PartOfElement c t v.unit v.others v.here v.part) k.2 v.is_part in
         let q : PartOfElement c w.standing v.unit v.others v.here w.part = subst (λ l. PartOfElement c w.standing v.unit v.others v.here l) (sym p) q1 in
-        let r = part_once c w.standing w.unit v.unit w.others v.others w.here v.here w.part sound w.is_part q in
+        let r = part_once c w.standing w.part sound w.unit v.unit w.others v.others w.here v.here w.is_part q in
         (w.same ∙ ap (λ l. l ++ w.here) (sym b) ∙ ap (λ l. v.before ++ l) r.values ∙ sym v.same, w.first ∙ r.units ∙ sym v.first)
-    on told told' left left' w v (e ∷ es) values spelling k before front same =
+    on (told, left, w) (told', left', v) (e ∷ es) values spelling k before part =
         let at = part_front c w.standing w.unit w.others w.here w.part w.is_part in
-        let cut : w.part ≡ spelling ++ v.part = append_cancel_left w.front w.part (spelling ++ v.part) (same ∙ ap (λ l. l ++ v.part) front ∙ append_assoc w.front spelling v.part) in
-        absurd (no_further c w.standing at.unit at.units w.part v.part e es values spelling v.standing sound at.left at.is_front k cut)
+        absurd (part_no_more c w.standing at.unit at.units w.part e es sound at.left at.is_front (record { told = values; front = spelling; rest = v.part; standing = v.standing; cut = part; covers = k }))

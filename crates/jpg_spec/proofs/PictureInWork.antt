@@ -19,7 +19,7 @@ use Rattle.jpg_spec.specs.Parts.{StandsInUnits, in_code}
 use Rattle.jpg_spec.specs.PictureInWork.{is_at, AreDistinct, IntervalRead, ScanSoFar}
 use Rattle.jpg_spec.proofs.BlocksOnce.{joined_chunks}
 use Rattle.jpg_spec.proofs.DataFacts.{bits_join, shows_more}
-use Rattle.jpg_spec.proofs.Common.{neither}
+use Rattle.jpg_spec.proofs.Common.{neither, or_assoc}
 
 -- the pictures of items have blocks of 64 values
 pub leads_sizes : (limits : Limits) (items : List Item) (blocks : Blocks) → Leads limits items blocks → (i x y : ℕ) → length (blocks i x y) ≡ 64
@@ -40,10 +40,6 @@ so_far_first s before sizes = record {
 pub any_join : (test : Place → Bool) (a b : List Place) → any_of test (a ++ b) ≡ (any_of test a || any_of test b)
 any_join test [] b = refl
 any_join test (p ∷ a) b = ap (λ r. test p || r) (any_join test a b) ∙ or_assoc (test p) (any_of test a) (any_of test b)
-  where
-    or_assoc : (x y z : Bool) → (x || (y || z)) ≡ ((x || y) || z)
-    or_assoc true y z = refl
-    or_assoc false y z = refl
 
 pub joined_join : (a b : List (List Place)) → joined (a ++ b) ≡ joined a ++ joined b
 joined_join a b = flat_map-append (λ row. row) a b
@@ -116,9 +112,6 @@ same_units s old new others same (p ∷ places) d =
 -- intervals that were read encode the same of a picture that changes after them
 pub spelled_still : (s : Scan) (before old new : Blocks) (others : List Place) → ((i x y : ℕ) → any_of (is_at i x y) others ≡ false → new i x y ≡ old i x y) → (front : List (List Place)) (done : List (List ℕ)) → AreApart (joined front) others
     → SpellsIntervals s before old front done → SpellsIntervals s before new front done
-spelled_still s before old new others same [] [] d k = k
-spelled_still s before old new others same [] (c ∷ done) d k = k
-spelled_still s before old new others same (places ∷ front) [] d k = k
 spelled_still s before old new others same (places ∷ front) (c ∷ done) d k =
     let h = split places (joined front) d in
     let here = k.0 in (
@@ -129,6 +122,7 @@ spelled_still s before old new others same (places ∷ front) (c ∷ done) d k =
     split : (a b : List Place) → AreApart (a ++ b) others → AreApart a others × AreApart b others
     split [] b d = (tt, d)
     split (p ∷ a) b d = let r = split a b d.1 in ((d.0, r.0), r.1)
+spelled_still s before old new others same front done d k = k
 
 spelled_join : (s : Scan) (before after : Blocks) (front : List (List Place)) (done : List (List ℕ)) (places : List Place) (coded : List ℕ) → SpellsIntervals s before after front done → SpellsInterval s before after places coded
     → SpellsIntervals s before after (front ++ places ∷ []) (done ++ coded ∷ [])
@@ -137,40 +131,41 @@ spelled_join s before after [] (c ∷ done) places coded k h = absurd k
 spelled_join s before after (p ∷ front) [] places coded k h = absurd k
 spelled_join s before after (p ∷ front) (c ∷ done) places coded k h = (k.0, spelled_join s before after front done places coded k.1 h)
 
--- The places of the scan, the next interval's among them.
-all_places : (s : Scan) (before work : Blocks) (done : List (List ℕ)) (places : List Place) (later : List (List Place)) (w : ScanSoFar s before work done (places ∷ later)) → s.places ≡ joined w.front ++ (places ++ joined later)
-all_places s before work done places later w = sym (joined_chunks s.interval s.places) ∙ ap joined w.cut ∙ joined_join w.front (places ∷ later)
+module _ (s : Scan) (before work : Blocks) where
+  -- The places of the scan, the next interval's among them.
+  all_places : (done : List (List ℕ)) (places : List Place) (later : List (List Place)) (w : ScanSoFar s before work done (places ∷ later)) → s.places ≡ joined w.front ++ (places ++ joined later)
+  all_places done places later w = sym (joined_chunks s.interval s.places) ∙ ap joined w.cut ∙ joined_join w.front (places ∷ later)
 
-pub due_apart : (s : Scan) (before work : Blocks) (done : List (List ℕ)) (places : List Place) (later : List (List Place)) → AreDistinct s.places → (w : ScanSoFar s before work done (places ∷ later)) → AreApart (joined w.front) places
-due_apart s before work done places later distinct w =
-    (apart_less (joined w.front) places (joined later) (apart_of (joined w.front) (places ++ joined later) (subst (λ l. AreDistinct l) (all_places s before work done places later w) distinct))).0
+  pub due_apart : (done : List (List ℕ)) (places : List Place) (later : List (List Place)) → AreDistinct s.places → (w : ScanSoFar s before work done (places ∷ later)) → AreApart (joined w.front) places
+  due_apart done places later distinct w =
+      (apart_less (joined w.front) places (joined later) (apart_of (joined w.front) (places ++ joined later) (subst (λ l. AreDistinct l) (all_places done places later w) distinct))).0
 
--- The units that are left are in the current picture as before the scan: so a machine may read them there.
-pub so_far_units : (s : Scan) (before work : Blocks) (done : List (List ℕ)) (places : List Place) (later : List (List Place)) → AreDistinct s.places → ScanSoFar s before work done (places ∷ later)
-    → map (unit_at s work) places ≡ map (unit_at s before) places
-so_far_units s before work done places later distinct w =
-    same_units s before work (joined w.front) (w.changes).elsewhere places (apart_swap (joined w.front) places (due_apart s before work done places later distinct w))
+  -- The units that are left are in the current picture as before the scan: so a machine may read them there.
+  pub so_far_units : (done : List (List ℕ)) (places : List Place) (later : List (List Place)) → AreDistinct s.places → ScanSoFar s before work done (places ∷ later)
+      → map (unit_at s work) places ≡ map (unit_at s before) places
+  so_far_units done places later distinct w =
+      same_units s before work (joined w.front) (w.changes).elsewhere places (apart_swap (joined w.front) places (due_apart done places later distinct w))
 
--- THE STEP: one more interval was read
-pub so_far_next : (s : Scan) (before work new : Blocks) (done : List (List ℕ)) (coded : List ℕ) (bits : List Bool) (places : List Place) (later : List (List Place)) → AreDistinct s.places
-    → ScanSoFar s before work done (places ∷ later) → Packs bits coded → IntervalRead s places work new bits → ScanSoFar s before new (done ++ coded ∷ []) later
-so_far_next s before work new done coded bits places later distinct w packs r = record {
-  front = w.front ++ places ∷ [];
-  cut = w.cut ∙ sym (append_assoc w.front (places ∷ []) later);
-  spelled =
-      spelled_join s before new w.front done places coded
-      (spelled_still s before work new places (r.changes).elsewhere w.front done (due_apart s before work done places later distinct w) w.spelled)
-      (bits, packs, subst (λ us. SpellsUnits s.coding us (flat_map (λ p. band s (block_at new p)) places) bits) (so_far_units s before work done places later distinct w) r.spelled);
-  changes = record {
-    elsewhere = λ i x y h. (let k = neither (any_of (is_at i x y) (joined w.front)) (any_of (is_at i x y) places) (sym (any_join (is_at i x y) (joined w.front) places) ∙ ap (any_of (is_at i x y)) (sym all_front) ∙ h) in
-        (r.changes).elsewhere i x y k.1 ∙ (w.changes).elsewhere i x y k.0);
-    outside = λ i x y k h. (r.changes).outside i x y k h ∙ (w.changes).outside i x y k h;
-    sizes = (r.changes).sizes;
-  };
-}
-  where
-    all_front : joined (w.front ++ places ∷ []) ≡ joined w.front ++ places
-    all_front = joined_join w.front (places ∷ []) ∙ ap (λ l. joined w.front ++ l) (append-nil places)
+  -- THE STEP: one more interval was read
+  pub so_far_next : (new : Blocks) (done : List (List ℕ)) (coded : List ℕ) (bits : List Bool) (places : List Place) (later : List (List Place)) → AreDistinct s.places
+      → ScanSoFar s before work done (places ∷ later) → Packs bits coded → IntervalRead s places work new bits → ScanSoFar s before new (done ++ coded ∷ []) later
+  so_far_next new done coded bits places later distinct w packs r = record {
+    front = w.front ++ places ∷ [];
+    cut = w.cut ∙ sym (append_assoc w.front (places ∷ []) later);
+    spelled =
+        spelled_join s before new w.front done places coded
+        (spelled_still s before work new places (r.changes).elsewhere w.front done (due_apart done places later distinct w) w.spelled)
+        (bits, packs, subst (λ us. SpellsUnits s.coding us (flat_map (λ p. band s (block_at new p)) places) bits) (so_far_units done places later distinct w) r.spelled);
+    changes = record {
+      elsewhere = λ i x y h. (let k = neither (any_of (is_at i x y) (joined w.front)) (any_of (is_at i x y) places) (sym (any_join (is_at i x y) (joined w.front) places) ∙ ap (any_of (is_at i x y)) (sym all_front) ∙ h) in
+          (r.changes).elsewhere i x y k.1 ∙ (w.changes).elsewhere i x y k.0);
+      outside = λ i x y k h. (r.changes).outside i x y k h ∙ (w.changes).outside i x y k h;
+      sizes = (r.changes).sizes;
+    };
+  }
+    where
+      all_front : joined (w.front ++ places ∷ []) ≡ joined w.front ++ places
+      all_front = joined_join w.front (places ∷ []) ∙ ap (λ l. joined w.front ++ l) (append-nil places)
 
 -- after the last interval the picture is what the scan means
 pub so_far_last : (s : Scan) (before work : Blocks) (intervals : List (List ℕ)) → ScanSoFar s before work intervals [] → ScanMeans s intervals before work

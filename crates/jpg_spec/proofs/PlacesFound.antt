@@ -14,7 +14,7 @@ use Rattle.jpg_spec.proofs.PictureInWork.{any_join}
 use Rattle.jpg_spec.proofs.PlacesSome.{h_max_some, v_max_some, factors_at}
 use Rattle.jpg_spec.proofs.Each.{Each, each_join}
 use Rattle.jpg_spec.proofs.PlacesDistinct.{map_is_flat}
-use Rattle.jpg_spec.proofs.Common.{both, lt_of, same_of, and_intro, same_itself}
+use Rattle.jpg_spec.proofs.Common.{both, lt_of, same_of, and_intro, same_itself, or_alone, or_right}
 
 -- EACH PLACE
 
@@ -38,11 +38,7 @@ each_parts : (P : Place → Type 0) (f : Frame) (mx my : ℕ) (parts : List ℕ)
 each_parts P f mx my [] h = tt
 each_parts P f mx my (i ∷ parts) h =
     each_join P (mcu_part f mx my i) (flat_map (mcu_part f mx my) parts) (each_part P f mx my i (λ x y. h i x y (ap (λ b. b || is_among i parts) (same_itself i))))
-    (each_parts P f mx my parts (λ j x y e. h j x y (later (i == j) (is_among j parts) e)))
-  where
-    later : (a b : Bool) → b ≡ true → (a || b) ≡ true
-    later true b e = refl
-    later false b e = e
+    (each_parts P f mx my parts (λ j x y e. h j x y (or_right (i == j) (is_among j parts) e)))
 
 pub each_units : (P : Place → Type 0) (f : Frame) (parts : List ℕ) → ((i x y : ℕ) → is_among i parts ≡ true → P (place f i x y)) → Each P (units f parts)
 unfolding units
@@ -150,12 +146,8 @@ unfolding units
 real_found f [] i x y is known among real = cc
 real_found f (j ∷ []) i x y is known among real =
     let r = both (nat_lt x (blocks_across f (component_at f i))) (nat_lt y (blocks_down f (component_at f i))) real in
-    let s : j ≡ i = same_of j i (alone (j == i) among) in
+    let s : j ≡ i = same_of j i (or_alone (j == i) among) in
     subst (λ m. any_of (is_at i x y) (single_units f m) ≡ true) (sym s) (found_single f i x y (lt_of x (blocks_across f (component_at f i)) r.0) (lt_of y (blocks_down f (component_at f i)) r.1))
-  where
-    alone : (b : Bool) → (b || false) ≡ true → b ≡ true
-    alone true e = refl
-    alone false e = e
 real_found f (j ∷ k ∷ parts) i x y is known among real =
     let r = both (nat_lt x (blocks_across f (component_at f i))) (nat_lt y (blocks_down f (component_at f i))) real in
     found_interleaved f (j ∷ k ∷ parts) i x y is known among (lt_of x (blocks_across f (component_at f i)) r.0) (lt_of y (blocks_down f (component_at f i)) r.1)

@@ -24,10 +24,8 @@ pub record IsQuants (table : QuantTable) : Type 0 where
 
 length_pairs : (n : ℕ) (bytes : List ℕ) → length bytes ≡ n + n → length (pairs_told bytes) ≡ n
 length_pairs zero [] l = refl
-length_pairs zero (a ∷ bytes) l = let z : ⊥ = omega (arith, l) in absurd z
-length_pairs (suc n) [] l = let z : ⊥ = omega (arith, l) in absurd z
-length_pairs (suc n) (a ∷ []) l = let z : ⊥ = omega (arith, l) in absurd z
 length_pairs (suc n) (a ∷ b ∷ bytes) l = ap suc (length_pairs n bytes (omega (arith, l)))
+length_pairs n bytes l = absurd (omega (arith, l))
 
 length_entries : (wide : Bool) (bytes : List ℕ) → cond wide 128 64 ≤ length bytes → length (cond wide (pairs_told (take 128 bytes)) (take 64 bytes)) ≡ 64
 length_entries true bytes l = length_pairs 64 (take 128 bytes) (length-take-le 128 bytes l)

@@ -3,7 +3,7 @@ use Rattle.std.proofs.Common.{◌≡◌, ℕ, zero, suc, ◌+◌, ◌-◌, ◌*�
 use Rattle.std.specs.Prelude.{◌⊎◌, ◌||◌, map, flat_map, nat_le, nat_lt, int_le, nat_abs, Ok}
 use Rattle.std.proofs.lemmas.Bool.Decides.{nat_tests}
 use Rattle.std.proofs.lemmas.Bool.{cases_lt}
-use Rattle.std.proofs.lemmas.List.{append_assoc, length-append, length-take, length-take-le, get_or-replicate, get_or_past, length-replicate, length-drop, take-append-drop}
+use Rattle.std.proofs.lemmas.List.{append_assoc, length-append, length-take, length-take-le, get_or-replicate, get_or_past, length-drop, take-append-drop}
 use Rattle.jpg_spec.specs.Lists.{any_of, chunks, is_distinct, joined}
 use Rattle.jpg_spec.specs.Geometry.{Frame, is_real, is_progressive, bounds, bounds_of, factor_sum}
 use Rattle.jpg_spec.specs.Segments.{ScanHead, head_components}
@@ -27,6 +27,7 @@ use Rattle.jpg_spec.proofs.BlocksOnce.{joined_chunks, length_band, in_band}
 use Rattle.jpg_spec.proofs.PictureInWork.{leads_sizes}
 use Rattle.jpg_spec.proofs.Values.{bounds_split}
 use Rattle.jpg_spec.proofs.Common.{both, le_of, same_of, refused, clash}
+use Rattle.jpg_spec.proofs.WholeFiles.{shown_whole}
 
 -- UNITS of a scan: EOBs end one band each; or no DC is next; or only a DC value of each unit is encoded
 
@@ -324,14 +325,10 @@ leads_in_range limits items blocks l = record { sizes = leads_sizes limits items
 -- only the real blocks
 pub real_in_range : (f : Frame) (blocks : Blocks) → AreInRange (bounds f) blocks → AreInRange (bounds f) (real_blocks f blocks)
 real_in_range f blocks w = record {
-  sizes = λ i x y. size (nat_lt i (length f.components) && is_real f i x y) (blocks i x y) (w.sizes i x y);
+  sizes = λ i x y. shown_whole (nat_lt i (length f.components) && is_real f i x y) (blocks i x y) (w.sizes i x y);
   values = λ i x y k. value (nat_lt i (length f.components) && is_real f i x y) (blocks i x y) k (w.values i x y k);
 }
   where
-    size : (b : Bool) (block : List ℤ) → length block ≡ 64 → length (cond b block (zeros 64)) ≡ 64
-    size true block e = e
-    size false block e = length-replicate 64 (pos 0)
-
     value : (b : Bool) (block : List ℤ) (k : ℕ) → is_coefficient (bounds f) k (get_or block k (pos 0)) ≡ true → is_coefficient (bounds f) k (get_or (cond b block (zeros 64)) k (pos 0)) ≡ true
     value true block k e = e
     value false block k e = zeros_in_bounds k

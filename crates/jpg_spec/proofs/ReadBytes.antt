@@ -63,17 +63,13 @@ read rule s (b ∷ bytes) = read rule (next rule s b) bytes
 
 -- the result of a state
 abbrev pub called : State → Option Reached
-called starts = Some at_part
-called starting = Some at_part
 called (whole []) = Some at_soi
 called (whole (s ∷ before)) = Some (at_segment s)
-called (filling before) = Some at_part
 called (marked before code) = Some (cond (is_frame_code code) at_frame at_part)
-called (half before code high) = Some at_part
-called (inside before code left contents) = Some at_part
 called (stopped fault) = Some (at_fault fault)
 called ended = Some at_eoi
 called behind = None
+called s = Some at_part
 
 -- HOW THEY ARE READ
 

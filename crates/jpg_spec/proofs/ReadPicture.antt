@@ -12,7 +12,7 @@ use Rattle.jpg_spec.specs.Geometry.{Frame, bounds, bounds_of, component_at}
 use Rattle.jpg_spec.specs.FrameHeader.{IsFrame, AreLimits}
 use Rattle.jpg_spec.specs.Elements.{are_in_bounds, IsBlockIn}
 use Rattle.jpg_spec.specs.QuantContents.{is_zero_quant}
-use Rattle.jpg_spec.specs.Markers.{Segment, Pass, SpellsSegment, code_fault, code_fault_if, has_frame, has_scan}
+use Rattle.jpg_spec.specs.Markers.{Segment, Pass, SpellsSegment, code_fault, has_frame, has_scan}
 use Rattle.jpg_spec.specs.InForce.{no_frame, frame_of, first_some, quant_in_force, head_in, heads_of, huffman_in_force}
 use Rattle.jpg_spec.specs.History.{names, has_begun, quant_of, lacks_table, is_complete, needs_dc_table, needs_ac_table}
 use Rattle.jpg_spec.specs.Items.{Item, segment, scan, segments_of, SpellsFront, contents_rule}
@@ -192,13 +192,6 @@ block_in (v ∷ block) l h =
 pub zero_slots : (cs : List PictureComponent) → All (λ c. c.quant ≤ 3) (map (λ c. (let k : Component = record { id = c.id; h = c.h; v = c.v; quant = 0 } in k)) cs)
 zero_slots [] = All-nil (λ c. c.quant ≤ 3)
 zero_slots (c ∷ cs) = All-cons (λ c. c.quant ≤ 3) _ _ (omega arith) (zero_slots cs)
-
-pub framed_end : (before : List Segment) → code_fault before 0xd9 ≡ None → has_frame before ≡ true
-framed_end before e = by (has_frame before) e
-  where
-    by : (b : Bool) → code_fault_if b 0xd9 ≡ None → b ≡ true
-    by true e = refl
-    by false e = cc
 
 -- WHAT BYTES LEAVE: segments that break no rule, with each component in a scan, and blocks in their range
 pub record IsLeft (limits : Limits) (segments : List Segment) (blocks : Blocks) (M : Meaning) : Type 0 where

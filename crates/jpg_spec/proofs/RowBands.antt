@@ -1,8 +1,8 @@
 -- If data of one scan encode blocks up to two places, the blocks that both encode are the same.
-use Rattle.std.proofs.Common.{◌≡◌, ℕ, ◌+◌, ◌%◌, Bool, true, false, ◌==◌, ◌&&◌, List, [], ◌∷◌, ◌++◌, length, refl, sym, ap, ◌∙◌, subst, inl, inr, ⊎_elim, ℤ}
+use Rattle.std.proofs.Common.{◌≡◌, ℕ, ◌+◌, ◌%◌, ◌<◌, Bool, true, false, ◌==◌, ◌&&◌, List, [], ◌∷◌, ◌++◌, length, refl, sym, ap, ◌∙◌, subst, arith, inl, inr, ⊎_elim, ℤ}
 use Rattle.std.specs.Prelude.{◌⊎◌, ◌||◌, map, flat_map}
-use Rattle.std.proofs.lemmas.List.{append_assoc, append-nil}
-use Rattle.jpg_spec.specs.Bits.{SpellsData, bits_of_bytes}
+use Rattle.std.proofs.lemmas.List.{append_assoc, append-nil, length-append}
+use Rattle.jpg_spec.specs.Bits.{bits_of_bytes}
 use Rattle.jpg_spec.specs.Lists.{any_of, joined}
 use Rattle.jpg_spec.specs.Elements.{at_start, UnitLeft}
 use Rattle.jpg_spec.specs.Scan.{Blocks, Scan, SpellsInterval, SpellsIntervals, band, block_at, unit_at}
@@ -15,13 +15,12 @@ use Rattle.jpg_spec.specs.declared.frame.Place.{Place}
 use Rattle.jpg_spec.proofs.BlocksOnce.{band_of, length_band}
 use Rattle.jpg_spec.proofs.Common.{both, heads, same_of}
 use Rattle.jpg_spec.proofs.DataFacts.{bits_join}
-use Rattle.jpg_spec.proofs.Facts.{facts}
 use Rattle.jpg_spec.proofs.Gate.{DataGoOn, data_once}
-use Rattle.jpg_spec.proofs.Once.{GoesOn, fronts_once}
-use Rattle.jpg_spec.proofs.PartStands.{codes_one, coding_is}
+use Rattle.jpg_spec.proofs.Once.{BeginsElements, Continues, elements_once}
 use Rattle.jpg_spec.proofs.PictureInWork.{any_join}
 use Rattle.jpg_spec.proofs.Rows.{append_apart}
-use Rattle.jpg_spec.proofs.ScansOnce.{CutInterval, cut_interval, data_ends, no_places, places_apart}
+use Rattle.jpg_spec.proofs.Sound.{decodes}
+use Rattle.jpg_spec.proofs.ScansOnce.{cut_interval, marked, marked_once, places_apart}
 
 abbrev pub AreBlocks : Blocks → Type 0
 AreBlocks told = (i x y : ℕ) → length (told i x y) ≡ 64
@@ -68,54 +67,92 @@ members s told other (p ∷ a) r (p' ∷ b) q values sizes others e f i x y m n 
 abbrev pub units_before : Scan → List Place → List UnitLeft
 units_before s places = map (unit_at s no_blocks) places
 
-interval_agrees : (s : Scan) (told other : Blocks) (places a r b q : List Place) (bits cits x y : List Bool) → IsSound s.coding → AreBlocks told → AreBlocks other
-    → places ≡ a ++ r → places ≡ b ++ q → TellsFirst s.coding (units_before s places) (flat_map (band_of s told) a) bits → TellsFirst s.coding (units_before s places) (flat_map (band_of s other) b) cits
-    → bits ++ x ≡ cits ++ y → AgreeAt s a b told other
-interval_agrees s told other places a r b q bits cits x y sound sizes others e f k l same =
+-- the first bits of an interval encode the blocks at some of its places
+pub record DecodesFirst (s : Scan) (told : Blocks) (places part : List Place) (stream : List Bool) : Type 0 where
+  pub rest : List Place
+  pub bits : List Bool
+  pub unread : List Bool
+  pub all : places ≡ part ++ rest
+  pub cut : stream ≡ bits ++ unread
+  pub first : TellsFirst s.coding (units_before s places) (flat_map (band_of s told) part) bits
+
+abbrev pub first_elements : {s : Scan} {told : Blocks} {places part : List Place} {stream : List Bool} (k : DecodesFirst s told places part stream) → BeginsElements s.coding (at_start (units_before s places)) (k.first).0 stream
+first_elements {s = s} {told = told} {part = part} k = record { told = flat_map (band_of s told) part; front = k.bits; rest = k.unread; standing = (k.first).1; cut = k.cut; covers = (k.first).2 }
+
+interval_agrees : (s : Scan) (told other : Blocks) (places a b : List Place) (stream : List Bool) → IsSound s.coding → AreBlocks told → AreBlocks other → DecodesFirst s told places a stream → DecodesFirst s other places b stream
+    → AgreeAt s a b told other
+interval_agrees s told other places a b stream sound sizes others k l =
     ⊎_elim
-    (λ (g : GoesOn s.coding k.0 l.0 (flat_map (band_of s told) a) (flat_map (band_of s other) b) bits cits k.1 l.1).
-    members s told other a r b q g.values sizes others (sym e ∙ f) g.joined.1)
-    (λ (g : GoesOn s.coding l.0 k.0 (flat_map (band_of s other) b) (flat_map (band_of s told) a) cits bits l.1 k.1).
-    agree_back s b a other told (members s other told b q a r g.values others sizes (sym f ∙ e) g.joined.1))
-    (fronts_once s.coding (at_start (units_before s places)) k.0 l.0 (flat_map (band_of s told) a) (flat_map (band_of s other) b) bits cits x y k.1 l.1 facts (coding_is s.coding sound) (codes_one s.coding sound) k.2 l.2 same)
+    (λ (g : Continues (first_elements k) (first_elements l)). members s told other a k.rest b l.rest g.values sizes others (sym k.all ∙ l.all) g.joined.1)
+    (λ (g : Continues (first_elements l) (first_elements k)). agree_back s b a other told (members s other told b l.rest a k.rest g.values others sizes (sym l.all ∙ k.all) g.joined.1))
+    (elements_once s.coding (at_start (units_before s places)) (k.first).0 (l.first).0 stream (decodes s.coding sound) (first_elements k) (first_elements l))
 
 -- AT ANY PLACES
 
--- What the data of a scan encode whose first intervals have these places: the scan's text begins with `turn` intervals
--- that aren't among them.
-pub record TellsAt (s : Scan) (all : List (List Place)) (done : List (List ℕ)) (coded : List ℕ) (told : Blocks) (whole : List (List Place)) (part : List Place) : Type 0 where
+-- The data of a scan, decoded up to some place: the intervals that are done, the data bytes of the current one, and the
+-- bytes behind them; the blocks, at the places of the intervals that are done and at some of the current one's.
+pub record DecodedTo : Type 0 where
+  pub done : List (List ℕ)
+  pub coded : List ℕ
+  pub behind : List ℕ
+  pub told : Blocks
+  pub whole : List (List Place)
+  pub part : List Place
+
+abbrev pub reached : DecodedTo → List Place
+reached a = joined a.whole ++ a.part
+
+-- with these intervals done, and with one more before them
+abbrev pub at_intervals : List (List ℕ) → List (List Place) → DecodedTo → DecodedTo
+at_intervals done whole a = record a { done = done; whole = whole }
+
+abbrev pub after_interval : List ℕ → List Place → DecodedTo → DecodedTo
+after_interval c q a = at_intervals (c ∷ a.done) (q ∷ a.whole) a
+
+-- What the data encode whose first intervals have these places: the scan's text begins with `turn` intervals that
+-- aren't among them.
+pub record TellsAt (s : Scan) (all : List (List Place)) (a : DecodedTo) : Type 0 where
   pub rest : List Place
   pub later : List (List Place)
   pub bits : List Bool
-  pub behind : List Bool
-  pub intervals : all ≡ whole ++ (part ++ rest) ∷ later
-  pub spelled : SpellsIntervals s no_blocks told whole done
-  pub cut : bits_of_bytes coded ≡ bits ++ behind
-  pub first : TellsFirst s.coding (units_before s (part ++ rest)) (flat_map (band_of s told) part) bits
+  pub unread : List Bool
+  pub intervals : all ≡ a.whole ++ (a.part ++ rest) ∷ later
+  pub spelled : SpellsIntervals s no_blocks a.told a.whole a.done
+  pub cut : bits_of_bytes a.coded ≡ bits ++ unread
+  pub first : TellsFirst s.coding (units_before s (a.part ++ rest)) (flat_map (band_of s a.told) a.part) bits
+  pub sizes : AreBlocks a.told
+
+-- the same bytes, decoded up to two places
+pub record TwoDecoded (s : Scan) (all : List (List Place)) (turn : ℕ) (a b : DecodedTo) : Type 0 where
+  pub text : List ℕ
+  pub other : List ℕ
+  pub first : TellsAt s all a
+  pub second : TellsAt s all b
+  pub spelled : SpellsIntervalsText turn (a.done ++ a.coded ∷ []) text
+  pub other_spelled : SpellsIntervalsText turn (b.done ++ b.coded ∷ []) other
+  pub same : text ++ a.behind ≡ other ++ b.behind
+
+pub two_back : (s : Scan) (all : List (List Place)) (turn : ℕ) (a b : DecodedTo) → TwoDecoded s all turn a b → TwoDecoded s all turn b a
+two_back s all turn a b w = record { text = w.other; other = w.text; first = w.second; second = w.first; spelled = w.other_spelled; other_spelled = w.spelled; same = sym w.same }
 
 -- a complete interval encodes all its units
 pub whole_first : (s : Scan) (told : Blocks) (places : List Place) (coded : List ℕ) → (h : SpellsInterval s no_blocks told places coded) → TellsFirst s.coding (units_before s places) (flat_map (band_of s told) places) h.0
 whole_first s told places coded h = (h.2.0, h.2.1, h.2.2)
 
+decodes_whole : (s : Scan) (told : Blocks) (places : List Place) (coded : List ℕ) (x stream : List Bool) → stream ≡ bits_of_bytes coded ++ x → SpellsInterval s no_blocks told places coded → DecodesFirst s told places places stream
+decodes_whole s told places coded x stream e h = record {
+  rest = [];
+  bits = h.0;
+  unread = h.1.0 ++ x;
+  all = sym (append-nil places);
+  cut = e ∙ ap (λ l. l ++ x) h.1.2 ∙ append_assoc h.0 h.1.0 x;
+  first = whole_first s told places coded h;
+}
+
 -- bits of data that begin the same bytes
 bits_meet : (c t u d r v : List ℕ) → DataGoOn c t u d r v ⊎ DataGoOn d r v c t u → (x : List Bool) × (y : List Bool) × (bits_of_bytes c ++ x ≡ bits_of_bytes d ++ y)
 bits_meet c t u d r v (inl g) = (bits_of_bytes g.more, [], sym (bits_join c g.more) ∙ ap bits_of_bytes (sym g.joined) ∙ sym (append-nil (bits_of_bytes d)))
 bits_meet c t u d r v (inr g) = ([], bits_of_bytes g.more, append-nil (bits_of_bytes c) ∙ ap bits_of_bytes g.joined ∙ bits_join d g.more)
-
-joined_bits : (all other bits behind cits rest x y : List Bool) → all ≡ bits ++ behind → other ≡ cits ++ rest → all ++ x ≡ other ++ y → bits ++ (behind ++ x) ≡ cits ++ (rest ++ y)
-joined_bits all other bits behind cits rest x y e f g = sym (append_assoc bits behind x) ∙ ap (λ l. l ++ x) (sym e) ∙ g ∙ ap (λ l. l ++ y) f ∙ append_assoc cits rest y
-
--- both are in the first interval
-first_both : (s : Scan) (p : List Place) (all : List (List Place)) (c d t r u v : List ℕ) (told other : Blocks) (a b : List Place) → IsSound s.coding → AreBlocks told → AreBlocks other
-    → SpellsData c t → SpellsData d r → t ++ u ≡ r ++ v → TellsAt s (p ∷ all) [] c told [] a → TellsAt s (p ∷ all) [] d other [] b → AgreeAt s a b told other
-first_both s p all c d t r u v told other a b sound sizes others k l e w z =
-    let m = bits_meet c t u d r v (data_once c d t r u v k l e) in
-    let e1 = (places_apart p (a ++ w.rest) all w.later w.intervals).0 in
-    let e2 = (places_apart p (b ++ z.rest) all z.later z.intervals).0 in
-    interval_agrees s told other p a w.rest b z.rest w.bits z.bits (w.behind ++ m.0) (z.behind ++ m.1) sound sizes others e1 e2
-    (subst (λ q. TellsFirst s.coding (units_before s q) (flat_map (band_of s told) a) w.bits) (sym e1) w.first)
-    (subst (λ q. TellsFirst s.coding (units_before s q) (flat_map (band_of s other) b) z.bits) (sym e2) z.first)
-    (joined_bits (bits_of_bytes c) (bits_of_bytes d) w.bits w.behind z.bits z.behind m.0 m.1 w.cut z.cut m.2)
 
 or_of : (a b : Bool) → (a || b) ≡ true → (a ≡ true) ⊎ (b ≡ true)
 or_of true b e = inl e
@@ -128,30 +165,6 @@ agree_more s a b c told other within h i x y m n = h i x y m (within i x y m)
 pub front_within : (p a r : List Place) → p ≡ a ++ r → (i x y : ℕ) → any_of (is_at i x y) a ≡ true → any_of (is_at i x y) p ≡ true
 front_within p a r e i x y m = ap (any_of (is_at i x y)) e ∙ any_join (is_at i x y) a r ∙ ap (λ t. t || any_of (is_at i x y) r) m
 
--- the first is in the first interval, and the second after it
-first_after : (s : Scan) (p : List Place) (all : List (List Place)) (turn : ℕ) (c f d t r u v : List ℕ) (done : List (List ℕ)) (told other : Blocks) (a b q : List Place) (whole : List (List Place)) → IsSound s.coding → AreBlocks told → AreBlocks other
-    → SpellsData c t → SpellsIntervalsText turn (f ∷ (done ++ d ∷ [])) r → t ++ u ≡ r ++ v → TellsAt s (p ∷ all) [] c told [] a → TellsAt s (p ∷ all) (f ∷ done) d other (q ∷ whole) b
-    → AgreeAt s a (joined (q ∷ whole) ++ b) told other
-first_after s p all turn c f d t r u v done told other a b q whole sound sizes others k l e w z =
-    let cut : CutInterval turn f (done ++ d ∷ []) r = cut_interval turn f done d r l in
-    let stream : t ++ u ≡ cut.front ++ (cut.marker ++ (cut.rest ++ v)) =
-    e ∙ ap (λ x. x ++ v) cut.cut ∙ append_assoc (cut.front ++ cut.marker) cut.rest v ∙ append_assoc cut.front cut.marker (cut.rest ++ v) in
-    let m = bits_meet c t u f cut.front (cut.marker ++ (cut.rest ++ v)) (data_once c f t cut.front u (cut.marker ++ (cut.rest ++ v)) k cut.spelled stream) in
-    let e1 = (places_apart p (a ++ w.rest) all w.later w.intervals).0 in
-    let e2 = (places_apart p q all (whole ++ (b ++ z.rest) ∷ z.later) z.intervals).0 in
-    let h : SpellsInterval s no_blocks other p f = subst (λ x. SpellsInterval s no_blocks other x f) (sym e2) (z.spelled).0 in
-    let agree : AgreeAt s a p told other =
-    interval_agrees s told other p a w.rest p [] w.bits h.0 (w.behind ++ m.0) (h.1.0 ++ m.1) sound sizes others e1 (sym (append-nil p))
-    (subst (λ q. TellsFirst s.coding (units_before s q) (flat_map (band_of s told) a) w.bits) (sym e1) w.first)
-    (whole_first s other p f h)
-    (joined_bits (bits_of_bytes c) (bits_of_bytes f) w.bits w.behind h.0 h.1.0 m.0 m.1 w.cut h.1.2 m.2) in
-    let all_of_it : p ++ (joined whole ++ b) ≡ joined (q ∷ whole) ++ b = ap (λ x. x ++ (joined whole ++ b)) e2 ∙ sym (append_assoc q (joined whole) b) in
-    subst (λ x. AgreeAt s a x told other) all_of_it (agree_more s a p (joined whole ++ b) told other (front_within p a w.rest e1) agree)
-
-pub parts : (x y z w : List ℕ) → (x ++ y ++ z) ++ w ≡ x ++ (y ++ (z ++ w))
-parts x y z w = append_assoc (x ++ y) z w ∙ append_assoc x y (z ++ w)
-
--- both are after the first interval
 agree_join : (s : Scan) (p a b : List Place) (told other : Blocks) → AgreeAt s p p told other → AgreeAt s a b told other → AgreeAt s (p ++ a) (p ++ b) told other
 agree_join s p a b told other h k i x y m n =
     ⊎_elim (λ (t : any_of (is_at i x y) p ≡ true). h i x y t t)
@@ -159,57 +172,109 @@ agree_join s p a b told other h k i x y m n =
     (or_of (any_of (is_at i x y) p) (any_of (is_at i x y) b) (sym (any_join (is_at i x y) p b) ∙ n)))
     (or_of (any_of (is_at i x y) p) (any_of (is_at i x y) a) (sym (any_join (is_at i x y) p a) ∙ m))
 
-abbrev pub tells_later : (s : Scan) (p : List Place) (all : List (List Place)) (f : List ℕ) (done : List (List ℕ)) (c : List ℕ) (told : Blocks) (q : List Place) (whole : List (List Place)) (a : List Place)
-    → TellsAt s (p ∷ all) (f ∷ done) c told (q ∷ whole) a → TellsAt s all done c told whole a
-tells_later s p all f done c told q whole a w = record {
-  rest = w.rest;
-  later = w.later;
-  bits = w.bits;
-  behind = w.behind;
-  intervals = (places_apart p q all (whole ++ (a ++ w.rest) ∷ w.later) w.intervals).1;
-  spelled = (w.spelled).1;
-  cut = w.cut;
-  first = w.first;
-}
+-- THE FIRST INTERVAL of the data
+module _ (s : Scan) (sound : IsSound s.coding) (p : List Place) (all : List (List Place)) (turn : ℕ) where
+  pub decodes_part : (a : DecodedTo) (x stream : List Bool) → stream ≡ bits_of_bytes a.coded ++ x → TellsAt s (p ∷ all) (at_intervals [] [] a) → DecodesFirst s a.told p a.part stream
+  decodes_part a x stream e w =
+      let same = (places_apart p (a.part ++ w.rest) all w.later w.intervals).0 in
+      record {
+        rest = w.rest;
+        bits = w.bits;
+        unread = w.unread ++ x;
+        all = same;
+        cut = e ∙ ap (λ l. l ++ x) w.cut ∙ append_assoc w.bits w.unread x;
+        first = subst (λ q. TellsFirst s.coding (units_before s q) (flat_map (band_of s a.told) a.part) w.bits) (sym same) w.first;
+      }
 
-both_cons : (s : Scan) (p : List Place) (all : List (List Place)) (f g : List ℕ) (done : List (List ℕ)) (c : List ℕ) (done' : List (List ℕ)) (d : List ℕ) (told other : Blocks) (q : List Place) (whole : List (List Place)) (a q' : List Place) (whole' : List (List Place)) (b : List Place)
-    → IsSound s.coding → AreBlocks told → AreBlocks other → f ≡ g → TellsAt s (p ∷ all) (f ∷ done) c told (q ∷ whole) a → TellsAt s (p ∷ all) (g ∷ done') d other (q' ∷ whole') b
-    → AgreeAt s (joined whole ++ a) (joined whole' ++ b) told other → AgreeAt s (joined (q ∷ whole) ++ a) (joined (q' ∷ whole') ++ b) told other
-both_cons s p all f g done c done' d told other q whole a q' whole' b sound sizes others same w z agree =
-    let e1 = (places_apart p q all (whole ++ (a ++ w.rest) ∷ w.later) w.intervals).0 in
-    let e2 = (places_apart p q' all (whole' ++ (b ++ z.rest) ∷ z.later) z.intervals).0 in
-    let h : SpellsInterval s no_blocks told p f = subst (λ x. SpellsInterval s no_blocks told x f) (sym e1) (w.spelled).0 in
-    let k1 : SpellsInterval s no_blocks other p g = subst (λ x. SpellsInterval s no_blocks other x g) (sym e2) (z.spelled).0 in
-    let k : SpellsInterval s no_blocks other p f = subst (λ x. SpellsInterval s no_blocks other p x) (sym same) k1 in
-    let first : AgreeAt s p p told other =
-    interval_agrees s told other p p [] p [] h.0 k.0 h.1.0 k.1.0 sound sizes others (sym (append-nil p)) (sym (append-nil p)) (whole_first s told p f h) (whole_first s other p f k) (sym h.1.2 ∙ k.1.2) in
-    let x1 : p ++ (joined whole ++ a) ≡ joined (q ∷ whole) ++ a = ap (λ x. x ++ (joined whole ++ a)) e1 ∙ sym (append_assoc q (joined whole) a) in
-    let x2 : p ++ (joined whole' ++ b) ≡ joined (q' ∷ whole') ++ b = ap (λ x. x ++ (joined whole' ++ b)) e2 ∙ sym (append_assoc q' (joined whole') b) in
-    subst (λ x. AgreeAt s x (joined (q' ∷ whole') ++ b) told other) x1 (subst (λ x. AgreeAt s (p ++ (joined whole ++ a)) x told other) x2 (agree_join s p (joined whole ++ a) (joined whole' ++ b) told other first agree))
+  -- what is encoded after it, and in it
+  abbrev pub tells_later : (c : List ℕ) (q : List Place) (a : DecodedTo) → TellsAt s (p ∷ all) (after_interval c q a) → TellsAt s all a
+  tells_later c q a w = record {
+    rest = w.rest;
+    later = w.later;
+    bits = w.bits;
+    unread = w.unread;
+    intervals = (places_apart p q all (a.whole ++ (a.part ++ w.rest) ∷ w.later) w.intervals).1;
+    spelled = (w.spelled).1;
+    cut = w.cut;
+    first = w.first;
+    sizes = w.sizes;
+  }
 
--- THE LAW
-pub told_alike : (s : Scan) (all : List (List Place)) (turn : ℕ) (done : List (List ℕ)) (c t u : List ℕ) (told : Blocks) (whole : List (List Place)) (a : List Place) (done' : List (List ℕ)) (d r v : List ℕ) (other : Blocks) (whole' : List (List Place)) (b : List Place)
-    → IsSound s.coding → AreBlocks told → AreBlocks other → SpellsIntervalsText turn (done ++ c ∷ []) t → SpellsIntervalsText turn (done' ++ d ∷ []) r → t ++ u ≡ r ++ v
-    → TellsAt s all done c told whole a → TellsAt s all done' d other whole' b → AgreeAt s (joined whole ++ a) (joined whole' ++ b) told other
-told_alike s [] turn [] c t u told [] a done' d r v other whole' b sound sizes others k l e w z = absurd (no_places (a ++ w.rest) w.later w.intervals)
-told_alike s (p ∷ all) turn [] c t u told [] a [] d r v other [] b sound sizes others k l e w z = first_both s p all c d t r u v told other a b sound sizes others k l e w z
-told_alike s (p ∷ all) turn [] c t u told [] a [] d r v other (q ∷ whole') b sound sizes others k l e w z = absurd z.spelled
-told_alike s (p ∷ all) turn [] c t u told [] a (g ∷ done') d r v other [] b sound sizes others k l e w z = absurd z.spelled
-told_alike s (p ∷ all) turn [] c t u told [] a (g ∷ done') d r v other (q ∷ whole') b sound sizes others k l e w z =
-    first_after s p all turn c g d t r u v done' told other a b q whole' sound sizes others k l e w z
-told_alike s all turn [] c t u told (q ∷ whole) a done' d r v other whole' b sound sizes others k l e w z = absurd w.spelled
-told_alike s all turn (f ∷ done) c t u told [] a done' d r v other whole' b sound sizes others k l e w z = absurd w.spelled
-told_alike s [] turn (f ∷ done) c t u told (q ∷ whole) a done' d r v other whole' b sound sizes others k l e w z = absurd (no_places q (whole ++ (a ++ w.rest) ∷ w.later) w.intervals)
-told_alike s (p ∷ all) turn (f ∷ done) c t u told (q ∷ whole) a [] d r v other [] b sound sizes others k l e w z =
-    agree_back s b (joined (q ∷ whole) ++ a) other told (first_after s p all turn d f c r t v u done other told b a q whole sound others sizes l k (sym e) z w)
-told_alike s (p ∷ all) turn (f ∷ done) c t u told (q ∷ whole) a [] d r v other (q' ∷ whole') b sound sizes others k l e w z = absurd z.spelled
-told_alike s (p ∷ all) turn (f ∷ done) c t u told (q ∷ whole) a (g ∷ done') d r v other [] b sound sizes others k l e w z = absurd z.spelled
-told_alike s (p ∷ all) turn (f ∷ done) c t u told (q ∷ whole) a (g ∷ done') d r v other (q' ∷ whole') b sound sizes others k l e w z =
-    let cut : CutInterval turn f (done ++ c ∷ []) t = cut_interval turn f done c t k in
-    let cut' : CutInterval turn g (done' ++ d ∷ []) r = cut_interval turn g done' d r l in
-    let h = data_ends (0xd0 + turn % 8) (0xd0 + turn % 8) f g cut.front cut'.front cut.marker cut'.marker (cut.rest ++ u) (cut'.rest ++ v) cut.spelled cut'.spelled cut.code cut'.code
-    (sym (parts cut.front cut.marker cut.rest u) ∙ ap (λ x. x ++ u) (sym cut.cut) ∙ e ∙ ap (λ x. x ++ v) cut'.cut ∙ parts cut'.front cut'.marker cut'.rest v) in
-    let agree =
-    told_alike s all (turn + 1) done c cut.rest u told whole a done' d cut'.rest v other whole' b sound sizes others cut.later cut'.later h.1 (tells_later s p all f done c told q whole a w)
-    (tells_later s p all g done' d other q' whole' b z) in
-    both_cons s p all f g done c done' d told other q whole a q' whole' b sound sizes others h.0 w z agree
+  pub tells_interval : (c : List ℕ) (q : List Place) (a : DecodedTo) → TellsAt s (p ∷ all) (after_interval c q a) → (p ≡ q) × SpellsInterval s no_blocks a.told p c
+  tells_interval c q a w =
+      let same = (places_apart p q all (a.whole ++ (a.part ++ w.rest) ∷ w.later) w.intervals).0 in
+      (same, subst (λ x. SpellsInterval s no_blocks a.told x c) (sym same) (w.spelled).0)
+
+  abbrev pub two_later : (f g : List ℕ) (q q' : List Place) (a b : DecodedTo) → TwoDecoded s (p ∷ all) turn (after_interval f q a) (after_interval g q' b) → (f ≡ g) × TwoDecoded s all (turn + 1) a b
+  two_later f g q q' a b w =
+      let code = 0xd0 + turn % 8 in
+      let k = cut_interval turn f a.done a.coded w.text w.spelled in
+      let l = cut_interval turn g b.done b.coded w.other w.other_spelled in
+      let stream = w.text ++ a.behind in
+      let h = marked_once code code f g stream (k.rest ++ a.behind) (l.rest ++ b.behind) (marked turn f (a.done ++ a.coded ∷ []) w.text a.behind stream refl k) (marked turn g (b.done ++ b.coded ∷ []) w.other b.behind stream w.same l) in
+      (h.0, record { text = k.rest; other = l.rest; first = tells_later f q a w.first; second = tells_later g q' b w.second; spelled = k.later; other_spelled = l.later; same = h.1 })
+
+  -- both are in it
+  first_both : (a b : DecodedTo) → TwoDecoded s (p ∷ all) turn (at_intervals [] [] a) (at_intervals [] [] b) → AgreeAt s a.part b.part a.told b.told
+  first_both a b w =
+      let m = bits_meet a.coded w.text a.behind b.coded w.other b.behind (data_once a.coded b.coded w.text w.other a.behind b.behind w.spelled w.other_spelled w.same) in
+      let stream = bits_of_bytes a.coded ++ m.0 in
+      interval_agrees s a.told b.told p a.part b.part stream sound (w.first).sizes (w.second).sizes (decodes_part a m.0 stream refl w.first) (decodes_part b m.1 stream m.2 w.second)
+
+  -- the first is in it, and the second after it
+  first_after : (a b : DecodedTo) (g : List ℕ) (q : List Place) → TwoDecoded s (p ∷ all) turn (at_intervals [] [] a) (after_interval g q b) → AgreeAt s a.part (joined (q ∷ b.whole) ++ b.part) a.told b.told
+  first_after a b g q w =
+      let cut = cut_interval turn g b.done b.coded w.other w.other_spelled in
+      let rest = cut.rest ++ b.behind in
+      let k = marked turn g (b.done ++ b.coded ∷ []) w.other b.behind (w.text ++ a.behind) w.same cut in
+      let m = bits_meet a.coded w.text a.behind g k.front (k.marker ++ rest) (data_once a.coded g w.text k.front a.behind (k.marker ++ rest) w.spelled k.spelled k.cut) in
+      let stream = bits_of_bytes a.coded ++ m.0 in
+      let h = tells_interval g q b w.second in
+      let here = decodes_part a m.0 stream refl w.first in
+      let agree = interval_agrees s a.told b.told p a.part p stream sound (w.first).sizes (w.second).sizes here (decodes_whole s b.told p g m.1 stream m.2 h.1) in
+      let all_of_it : p ++ reached b ≡ joined (q ∷ b.whole) ++ b.part = ap (λ x. x ++ reached b) h.0 ∙ sym (append_assoc q (joined b.whole) b.part) in
+      subst (λ x. AgreeAt s a.part x a.told b.told) all_of_it (agree_more s a.part p (reached b) a.told b.told (front_within p a.part here.rest here.all) agree)
+
+  -- both are after it
+  both_after : (f g : List ℕ) (q q' : List Place) (a b : DecodedTo) → f ≡ g → TwoDecoded s (p ∷ all) turn (after_interval f q a) (after_interval g q' b) → AgreeAt s (reached a) (reached b) a.told b.told
+      → AgreeAt s (joined (q ∷ a.whole) ++ a.part) (joined (q' ∷ b.whole) ++ b.part) a.told b.told
+  both_after f g q q' a b same w agree =
+      let h = tells_interval f q a w.first in
+      let k = tells_interval g q' b w.second in
+      let bits = bits_of_bytes f in
+      let other = subst (λ x. SpellsInterval s no_blocks b.told p x) (sym same) k.1 in
+      let first = interval_agrees s a.told b.told p p p (bits ++ []) sound (w.first).sizes (w.second).sizes (decodes_whole s a.told p f [] (bits ++ []) refl h.1) (decodes_whole s b.told p f [] (bits ++ []) refl other) in
+      let x1 : p ++ reached a ≡ joined (q ∷ a.whole) ++ a.part = ap (λ x. x ++ reached a) h.0 ∙ sym (append_assoc q (joined a.whole) a.part) in
+      let x2 : p ++ reached b ≡ joined (q' ∷ b.whole) ++ b.part = ap (λ x. x ++ reached b) k.0 ∙ sym (append_assoc q' (joined b.whole) b.part) in
+      subst (λ x. AgreeAt s x (joined (q' ∷ b.whole) ++ b.part) a.told b.told) x1 (subst (λ x. AgreeAt s (p ++ reached a) x a.told b.told) x2 (agree_join s p (reached a) (reached b) a.told b.told first agree))
+
+-- as many intervals are done as have places, and there are more
+pub as_many : (s : Scan) (before told : Blocks) (whole : List (List Place)) (done : List (List ℕ)) → SpellsIntervals s before told whole done → length whole ≡ length done
+as_many s before told [] [] k = refl
+as_many s before told [] (c ∷ done) k = absurd k
+as_many s before told (p ∷ whole) [] k = absurd k
+as_many s before told (p ∷ whole) (c ∷ done) k = let n = as_many s before told whole done k.1 in omega (arith, n)
+
+pub some_left : (s : Scan) (all : List (List Place)) (a : DecodedTo) → TellsAt s all a → length a.done < length all
+some_left s all a w = omega (arith, as_many s no_blocks a.told a.whole a.done w.spelled, ap length w.intervals, length-append a.whole ((a.part ++ w.rest) ∷ w.later))
+
+module _ (s : Scan) (sound : IsSound s.coding) where
+  alike_from : (all : List (List Place)) (turn : ℕ) (done done' : List (List ℕ)) (whole whole' : List (List Place)) (a b : DecodedTo) → TwoDecoded s all turn (at_intervals done whole a) (at_intervals done' whole' b)
+      → AgreeAt s (joined whole ++ a.part) (joined whole' ++ b.part) a.told b.told
+  alike_from (p ∷ all) turn [] [] [] [] a b w = first_both s sound p all turn a b w
+  alike_from (p ∷ all) turn [] (g ∷ done') [] (q ∷ whole') a b w = first_after s sound p all turn a (at_intervals done' whole' b) g q w
+  alike_from (p ∷ all) turn (f ∷ done) [] (q ∷ whole) [] a b w =
+      let a' = at_intervals done whole a in
+      let back = two_back s (p ∷ all) turn (after_interval f q a') (at_intervals [] [] b) w in
+      agree_back s b.part (joined (q ∷ whole) ++ a.part) b.told a.told (first_after s sound p all turn b a' f q back)
+  alike_from (p ∷ all) turn (f ∷ done) (g ∷ done') (q ∷ whole) (q' ∷ whole') a b w =
+      let a' = at_intervals done whole a in
+      let b' = at_intervals done' whole' b in
+      let h = two_later s sound p all turn f g q q' a' b' w in
+      both_after s sound p all turn f g q q' a' b' h.0 w (alike_from all (turn + 1) done done' whole whole' a b h.1)
+  alike_from all turn done done' whole whole' a b w =
+      absurd (omega (arith, as_many s no_blocks a.told whole done (w.first).spelled, as_many s no_blocks b.told whole' done' (w.second).spelled, some_left s all (at_intervals done whole a) w.first))
+
+  -- THE LAW
+  pub told_alike : (all : List (List Place)) (turn : ℕ) (a b : DecodedTo) → TwoDecoded s all turn a b → AgreeAt s (reached a) (reached b) a.told b.told
+  told_alike all turn a b w = alike_from all turn a.done b.done a.whole b.whole a b w

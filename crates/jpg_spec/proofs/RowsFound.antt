@@ -1,13 +1,13 @@
 -- A real block in the first MCU rows of a scan is at one of their places.
-use Rattle.std.proofs.Common.{◌≡◌, ℕ, ◌*◌, ◌<◌, Bool, true, false, cond, ◌==◌, List, [], ◌∷◌, length, refl, sym, subst, arith}
-use Rattle.std.specs.Prelude.{◌||◌, flat_map, nat_lt}
+use Rattle.std.proofs.Common.{◌≡◌, ℕ, ◌*◌, ◌<◌, true, false, cond, ◌==◌, List, [], ◌∷◌, length, refl, sym, subst, arith}
+use Rattle.std.specs.Prelude.{flat_map, nat_lt}
 use Rattle.std.proofs.lemmas.Bool.Decides.{nat_tests}
 use Rattle.jpg_spec.specs.Lists.{any_of, is_among}
 use Rattle.jpg_spec.specs.Geometry.{Frame, blocks_across, blocks_down, component_at, h_max, is_real, mcu_part, mcus_across, place}
 use Rattle.jpg_spec.specs.FrameHeader.{IsFrame}
 use Rattle.jpg_spec.specs.PictureInWork.{is_at}
 use Rattle.jpg_spec.specs.ScanRows.{first_rows, scan_row}
-use Rattle.jpg_spec.proofs.Common.{both, lt_of, same_of}
+use Rattle.jpg_spec.proofs.Common.{both, lt_of, same_of, or_alone}
 use Rattle.jpg_spec.proofs.PlacesFound.{cut_at, found_below, found_part, found_parts, found_row, here, real_in_padded}
 use Rattle.jpg_spec.proofs.PlacesSome.{factors_at, h_max_some}
 
@@ -16,15 +16,11 @@ pub found_first : (f : Frame) (ids : List ℕ) (i x y rows : ℕ) → IsFrame f 
 found_first f [] i x y rows is known among real low = cc
 found_first f (j ∷ []) i x y rows is known among real low =
     let r = both (nat_lt x (blocks_across f (component_at f i))) (nat_lt y (blocks_down f (component_at f i))) real in
-    let s : j ≡ i = same_of j i (alone (j == i) among) in
+    let s : j ≡ i = same_of j i (or_alone (j == i) among) in
     let few : y < rows = omega (arith, low) in
     subst (λ m. any_of (is_at i x y) (first_rows f (m ∷ []) rows) ≡ true) (sym s)
     (found_below (is_at i x y) (scan_row f (i ∷ [])) rows y few
     (found_row (is_at i x y) (λ x. place f i x y) (blocks_across f (component_at f i)) x (lt_of x (blocks_across f (component_at f i)) r.0) (here f i x y x y refl refl)))
-  where
-    alone : (b : Bool) → (b || false) ≡ true → b ≡ true
-    alone true e = refl
-    alone false e = e
 found_first f (j ∷ k ∷ more) i x y rows is known among real low =
     let ids = j ∷ k ∷ more in
     let c = component_at f i in

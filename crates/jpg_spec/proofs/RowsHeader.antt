@@ -1,33 +1,26 @@
 -- The MCU rows that are decoded belong to the scan that the file's header begins, which has as many as its picture.
-use Rattle.std.proofs.Common.{◌≡◌, ℕ, ◌+◌, ◌*◌, ◌<◌, ◌≤◌, false, List, [], ◌∷◌, ◌++◌, length, sym, ap, ◌∙◌, subst, arith, ⊎_elim, None}
-use Rattle.std.proofs.lemmas.Bool.{cases_lt}
-use Rattle.std.proofs.lemmas.Nat.{mul-le}
-use Rattle.std.proofs.lemmas.List.{append_assoc, append-nil, length-append}
-use Rattle.jpg_spec.specs.Lists.{joined}
+use Rattle.std.proofs.Common.{◌≡◌, ℕ, ◌+◌, ◌≤◌, false, List, [], ◌++◌, length, sym, ap, ◌∙◌, subst, arith, None}
+use Rattle.std.proofs.lemmas.List.{append_assoc, append-nil}
 use Rattle.jpg_spec.specs.FrameHeader.{AreLimits, IsFrame}
-use Rattle.jpg_spec.specs.Segments.{head_components}
 use Rattle.jpg_spec.specs.Scan.{Blocks}
 use Rattle.jpg_spec.specs.Markers.{Segment, code_fault, has_scan}
-use Rattle.jpg_spec.specs.InForce.{frame_of, head_in}
+use Rattle.jpg_spec.specs.InForce.{frame_of}
 use Rattle.jpg_spec.specs.Header.{IsHeader}
 use Rattle.jpg_spec.specs.Items.{segments_of}
 use Rattle.jpg_spec.specs.FileMeaning.{no_blocks, scan_after}
 use Rattle.jpg_spec.specs.FirstFault.{InsideScan}
-use Rattle.jpg_spec.specs.ScanRows.{scan_row}
-use Rattle.jpg_spec.specs.RowsTold.{BeginsScanOfAll, CompletesRows, TellsBlocks, TellsRows, row_places}
+use Rattle.jpg_spec.specs.RowsTold.{BeginsScanOfAll, CompletesRows, TellsRows, row_places}
 use Rattle.jpg_spec.specs.declared.frame.Limits.{Limits}
 use Rattle.jpg_spec.proofs.BeforeScans.{header_leads}
-use Rattle.jpg_spec.proofs.BlocksOnce.{joined_chunks}
 use Rattle.jpg_spec.proofs.FileHeader.{no_scan_spelled}
 use Rattle.jpg_spec.proofs.FirstScan.{first_some_places}
 use Rattle.jpg_spec.proofs.FrameAfter.{leads_pass}
 use Rattle.jpg_spec.proofs.HeaderFirst.{scan_passed, with_scan}
 use Rattle.jpg_spec.proofs.HeadersOnce.{items_of, segments_of_items}
 use Rattle.jpg_spec.proofs.OneHeader.{whole_once}
-use Rattle.jpg_spec.proofs.PictureInWork.{joined_join}
-use Rattle.jpg_spec.proofs.RowCounts.{length_rows}
 use Rattle.jpg_spec.proofs.RowsLater.{frame_there}
-use Rattle.jpg_spec.proofs.RowsWhole.{no_more_rows}
+use Rattle.jpg_spec.proofs.RowsBegin.{told_fit}
+use Rattle.jpg_spec.proofs.RowsOnce.{ToldAlso}
 
 -- A PLACE INSIDE THE FIRST SCAN is after the header of the file
 
@@ -67,47 +60,16 @@ begun_places limits bytes before contents w = first_some_places limits w.front b
 -- ALL ROWS that are decoded are complete, whatever follows
 
 pub told_here : (limits : Limits) (bytes : List ℕ) (rows : ℕ) (x : Blocks) (before : List Segment) (contents : List ℕ) → BeginsScanOfAll limits bytes before contents → (w : TellsRows limits bytes rows x)
-    → TellsBlocks (scan_after limits before contents) (w.place).done (w.place).coded w.places w.told × (w.places ≡ row_places limits before contents rows ++ w.more)
+    → ToldAlso limits w before contents
 told_here limits bytes rows x before contents b w =
     let same = begun_once limits bytes (segments_of (w.place).items) before (w.place).contents contents (rows_begin limits bytes rows x w) b in
-    let P : List Segment → List ℕ → Type 0 =
-    λ before contents. TellsBlocks (scan_after limits before contents) (w.place).done (w.place).coded w.places w.told × (w.places ≡ row_places limits before contents rows ++ w.more) in
-    subst (λ c. P before c) same.1 (subst (λ s. P s (w.place).contents) same.0 (w.tells, w.first))
-
-pub all_complete : (limits : Limits) (bytes : List ℕ) (rows : ℕ) (x : Blocks) (before : List Segment) (contents : List ℕ) → BeginsScanOfAll limits bytes before contents
-    → (scan_after limits before contents).places ≡ row_places limits before contents rows → TellsRows limits bytes rows x → CompletesRows limits bytes rows x
-all_complete limits bytes rows x before contents b all w = (
-  w,
-  λ y v. (let h = told_here limits bytes (rows + 1) y before contents b v in
-      no_more_rows limits before contents rows (v.place).done (v.place).coded v.places v.more v.told all (begun_places limits bytes before contents b) h.0 h.1),
-)
+    subst (λ c. ToldAlso limits w before c) same.1 (subst (λ s. ToldAlso limits w s (w.place).contents) same.0 (record { tells = w.tells; first = w.first; same = w.same }))
 
 -- no more rows are decoded than there are
 pub rows_few : (limits : Limits) (bytes : List ℕ) (rows all : ℕ) (x : Blocks) (before : List Segment) (contents : List ℕ) → BeginsScanOfAll limits bytes before contents
     → (scan_after limits before contents).places ≡ row_places limits before contents all → TellsRows limits bytes rows x → rows ≤ all
-rows_few limits bytes rows all x before contents b whole w =
-    ⊎_elim (λ (h : all < rows). absurd (too_many h)) (λ (h : rows ≤ all). h) (cases_lt all rows)
-  where
-    too_many : all < rows → ⊥
-    too_many h =
-        let t = told_here limits bytes rows x before contents b w in
-        let s = scan_after limits before contents in
-        let f = frame_of limits before in
-        let ids = head_components (head_in f contents) in
-        let row = length (scan_row f ids 0) in
-        let q = t.0 in
-        let cut : s.places ≡ joined q.whole ++ ((q.part ++ q.rest) ++ joined q.later) = sym (joined_chunks s.interval s.places) ∙ ap joined q.intervals ∙ joined_join q.whole ((q.part ++ q.rest) ∷ q.later) in
-        let l1 = ap length cut in
-        let l2 = length-append (joined q.whole) ((q.part ++ q.rest) ++ joined q.later) in
-        let l3 = length-append (q.part ++ q.rest) (joined q.later) in
-        let l4 = length-append q.part q.rest in
-        let l5 = ap length q.all ∙ length-append (joined q.whole) q.part in
-        let l6 = ap length t.1 ∙ length-append (row_places limits before contents rows) w.more in
-        let l7 = length_rows f ids rows in
-        let l8 = ap length whole ∙ length_rows f ids all in
-        let some = begun_places limits bytes before contents b in
-        let more : (all + 1) * row ≤ rows * row = mul-le (all + 1) row rows row (omega (arith, h)) (omega arith) in
-        let l9 : (all + 1) * row ≡ all * row + row = grind arith in
-        let short : row ≡ 0 = omega (arith, l1, l2, l3, l4, l5, l6, l7, l8, l9, more) in
-        let none : all * row ≡ 0 = ap (λ n. all * n) short ∙ omega arith in
-        omega (arith, some, l8, none)
+rows_few limits bytes rows all x before contents b whole w = told_fit limits before contents all w whole (begun_places limits bytes before contents b) (told_here limits bytes rows x before contents b w)
+
+pub all_complete : (limits : Limits) (bytes : List ℕ) (rows : ℕ) (x : Blocks) (before : List Segment) (contents : List ℕ) → BeginsScanOfAll limits bytes before contents
+    → (scan_after limits before contents).places ≡ row_places limits before contents rows → TellsRows limits bytes rows x → CompletesRows limits bytes rows x
+all_complete limits bytes rows x before contents b all w = (w, λ y v. (let few = rows_few limits bytes (rows + 1) rows y before contents b all v in omega (arith, few)))

@@ -6,10 +6,10 @@ use Rattle.std.proofs.Math.Seq.{take_all}
 use Rattle.std.proofs.lemmas.Bool.{cases_lt}
 use Rattle.std.proofs.lemmas.List.{append_assoc, append-nil}
 use Rattle.std.proofs.lemmas.List.Concat.{flat_map-append}
-use Rattle.jpg_spec.specs.Lists.{any_of, below, chunks, joined}
+use Rattle.jpg_spec.specs.Lists.{any_of, below, chunks}
 use Rattle.jpg_spec.specs.Geometry.{Frame, is_progressive}
 use Rattle.jpg_spec.specs.Segments.{head_components}
-use Rattle.jpg_spec.specs.Scan.{Blocks, band}
+use Rattle.jpg_spec.specs.Scan.{Blocks, Scan, band}
 use Rattle.jpg_spec.specs.Markers.{Segment, SpellsSegment, has_scan}
 use Rattle.jpg_spec.specs.InForce.{frame_of, head_in}
 use Rattle.jpg_spec.specs.Items.{Item, segment, scan, segment_of, segments_of, SpellsItem}
@@ -22,11 +22,11 @@ use Rattle.jpg_spec.specs.RowsTold.{CompletesRows, TellsBlocks, TellsRows, block
 use Rattle.jpg_spec.specs.declared.frame.Limits.{Limits}
 use Rattle.jpg_spec.specs.declared.frame.Place.{Place}
 use Rattle.jpg_spec.proofs.Common.{clash, or_right}
-use Rattle.jpg_spec.proofs.FilesOnce.{inside_stream, one_header}
+use Rattle.jpg_spec.proofs.FilesOnce.{inside_after, inside_more, one_header}
 use Rattle.jpg_spec.proofs.ItemsOnce.{HasNext, Meets, meet}
 use Rattle.jpg_spec.proofs.MarkersOnce.{segment_once}
 use Rattle.jpg_spec.proofs.TablesInForce.{scan_sound}
-use Rattle.jpg_spec.proofs.RowBands.{AgreeAt, TellsAt, front_within, told_alike}
+use Rattle.jpg_spec.proofs.RowBands.{AgreeAt, DecodedTo, TellsAt, TwoDecoded, front_within, reached, told_alike}
 
 -- THE FIRST SCAN of a file is one
 
@@ -51,8 +51,14 @@ pub record SameScan (limits : Limits) (a b x y : List ℕ) (i : InsideScan limit
 pub one_first_scan : (limits : Limits) (a b x y : List ℕ) (i : InsideScan limits a []) (j : InsideScan limits b []) → has_scan (segments_of i.items) ≡ false → has_scan (segments_of j.items) ≡ false → a ++ x ≡ b ++ y
     → SameScan limits a b x y i j
 one_first_scan limits a b x y i j none none' e =
-    by (meet limits i.items j.items i.front j.front u v i.blocks j.blocks i.spelled j.spelled i.leads j.leads (sym (inside_stream limits a x [] i) ∙ e ∙ inside_stream limits b y [] j))
+    by (meet limits (a ++ x) i.items j.items u v (inside_after limits (a ++ x) x i') (inside_after limits (a ++ x) y j'))
   where
+    i' : InsideScan limits (a ++ x) x
+    i' = inside_more limits a x (a ++ x) [] refl i
+
+    j' : InsideScan limits (a ++ x) y
+    j' = inside_more limits b y (a ++ x) [] (sym e) j
+
     u : List ℕ
     u = i.head ++ (i.text ++ x)
 
@@ -60,7 +66,7 @@ one_first_scan limits a b x y i j none none' e =
     v = j.head ++ (j.text ++ y)
 
     by : Meets limits i.items u j.items v → SameScan limits a b x y i j
-    by (inl k) = let h = one_header limits a b [] [] (i.text ++ x) (j.text ++ y) i j k.1 in record { items = k.0; contents = h.0; stream = h.1 }
+    by (inl k) = let h = one_header limits (a ++ x) x i' y j' (i.text ++ x) (j.text ++ y) k.1 in record { items = k.0; contents = h.0; stream = h.1 }
     by (inr (inl g)) = absurd (no_first limits a [] (i.text ++ x) i j.items v g none')
     by (inr (inr g)) = absurd (no_first limits b [] (j.text ++ y) j i.items u g none)
 
@@ -85,28 +91,23 @@ same_blocks limits before contents places a b told other plain sizes others in_a
 
 -- IN ONE WAY
 
-abbrev pub tells_at : (limits : Limits) (before : List Segment) (contents : List ℕ) (done : List (List ℕ)) (coded : List ℕ) (places : List Place) (told : Blocks)
-    → (w : TellsBlocks (scan_after limits before contents) done coded places told) → (let s = scan_after limits before contents in TellsAt s (chunks s.interval s.places) done coded told w.whole w.part)
-tells_at limits before contents done coded places told w =
-    record { rest = w.rest; later = w.later; bits = w.bits; behind = w.behind; intervals = w.intervals; spelled = w.spelled; cut = w.cut; first = w.first }
+abbrev pub decoded : {s : Scan} {done : List (List ℕ)} {coded : List ℕ} {places : List Place} {told : Blocks} → TellsBlocks s done coded places told → List ℕ → DecodedTo
+decoded {done = done} {coded = coded} {told = told} w behind = record { done = done; coded = coded; behind = behind; told = told; whole = w.whole; part = w.part }
 
--- what the second encodes, of the scan of the first
-record ToldAlso (limits : Limits) (before : List Segment) (contents : List ℕ) (done : List (List ℕ)) (coded : List ℕ) (places more : List Place) (told blocks : Blocks) (rows : ℕ) : Type 0 where
-  tells : TellsBlocks (scan_after limits before contents) done coded places told
-  first : places ≡ row_places limits before contents rows ++ more
-  same : blocks ≡ blocks_in (row_places limits before contents rows) told
+abbrev pub tells_at : {s : Scan} {done : List (List ℕ)} {coded : List ℕ} {places : List Place} {told : Blocks} (w : TellsBlocks s done coded places told) (behind : List ℕ) → TellsAt s (chunks s.interval s.places) (decoded w behind)
+tells_at w behind = record { rest = w.rest; later = w.later; bits = w.bits; unread = w.behind; intervals = w.intervals; spelled = w.spelled; cut = w.cut; first = w.first; sizes = w.sizes }
 
-also_told : (limits : Limits) (bytes a b x y : List ℕ) (rows : ℕ) (blocks : Blocks) (i : InsideScan limits a []) (w : TellsRows limits bytes rows blocks) → SameScan limits a w.front x y i w.place
-    → ToldAlso limits (segments_of i.items) i.contents (w.place).done (w.place).coded w.places w.more w.told blocks rows
-also_told limits bytes a b x y rows blocks i w same =
-    let j = w.place in
-    let P : List Item → List ℕ → Type 0 = λ items contents. ToldAlso limits (segments_of items) contents j.done j.coded w.places w.more w.told blocks rows in
-    let p : P j.items j.contents = record { tells = w.tells; first = w.first; same = w.same } in
-    subst (λ c. P i.items c) (sym same.contents) (subst (λ z. P z j.contents) (sym same.items) p)
+-- what rows are, of the scan with other names for its items and its header
+pub record ToldAlso (limits : Limits) {bytes : List ℕ} {rows : ℕ} {blocks : Blocks} (w : TellsRows limits bytes rows blocks) (before : List Segment) (contents : List ℕ) : Type 0 where
+  pub tells : TellsBlocks (scan_after limits before contents) (w.place).done (w.place).coded w.places w.told
+  pub first : w.places ≡ row_places limits before contents rows ++ w.more
+  pub same : blocks ≡ blocks_in (row_places limits before contents rows) w.told
 
-within_told : (limits : Limits) (before : List Segment) (contents : List ℕ) (rows : List Place) (done : List (List ℕ)) (coded : List ℕ) (places more : List Place) (told : Blocks) → (w : TellsBlocks (scan_after limits before contents) done coded places told)
-    → places ≡ rows ++ more → (i x y : ℕ) → any_of (is_at i x y) rows ≡ true → any_of (is_at i x y) (joined w.whole ++ w.part) ≡ true
-within_told limits before contents rows done coded places more told w e i x y m = front_within (joined w.whole ++ w.part) rows more (sym w.all ∙ e) i x y m
+pub also_told : (limits : Limits) (bytes : List ℕ) (rows : ℕ) (blocks : Blocks) (w : TellsRows limits bytes rows blocks) (items : List Item) (contents : List ℕ) → items ≡ (w.place).items → contents ≡ (w.place).contents
+    → ToldAlso limits w (segments_of items) contents
+also_told limits bytes rows blocks w items contents e f =
+    let told : ToldAlso limits w (segments_of (w.place).items) (w.place).contents = record { tells = w.tells; first = w.first; same = w.same } in
+    subst (λ c. ToldAlso limits w (segments_of items) c) (sym f) (subst (λ z. ToldAlso limits w (segments_of z) (w.place).contents) (sym e) told)
 
 pub rows_once : (limits : Limits) (bytes : List ℕ) (rows : ℕ) (x y : Blocks) → TellsRows limits bytes rows x → TellsRows limits bytes rows y → x ≡ y
 rows_once limits bytes rows x y v w =
@@ -115,15 +116,17 @@ rows_once limits bytes rows x y v w =
     let scan = one_first_scan limits v.front w.front v.rest w.rest i j (v.of_all).first (w.of_all).first (sym v.cut ∙ w.cut) in
     let before = segments_of i.items in
     let s = scan_after limits before i.contents in
-    let also = also_told limits bytes v.front w.front v.rest w.rest rows y i w scan in
-    let agree =
-    told_alike s (chunks s.interval s.places) 0 i.done i.coded i.text v.rest v.told (v.tells).whole (v.tells).part j.done j.coded j.text w.rest w.told (also.tells).whole (also.tells).part
-    (scan_sound limits before i.contents) (v.tells).sizes (also.tells).sizes i.intervals j.intervals scan.stream
-    (tells_at limits before i.contents i.done i.coded v.places v.told v.tells) (tells_at limits before i.contents j.done j.coded w.places w.told also.tells) in
+    let all = chunks s.interval s.places in
+    let also = also_told limits bytes rows y w i.items i.contents scan.items scan.contents in
+    let a = decoded v.tells v.rest in
+    let b = decoded also.tells w.rest in
+    let two : TwoDecoded s all 0 a b =
+    record { text = i.text; other = j.text; first = tells_at v.tells v.rest; second = tells_at also.tells w.rest; spelled = i.intervals; other_spelled = j.intervals; same = scan.stream } in
+    let rows = row_places limits before i.contents rows in
     v.same
-    ∙ same_blocks limits before i.contents (row_places limits before i.contents rows) (joined (v.tells).whole ++ (v.tells).part) (joined (also.tells).whole ++ (also.tells).part) v.told w.told (v.of_all).sequential (v.tells).sizes (also.tells).sizes
-    (within_told limits before i.contents (row_places limits before i.contents rows) i.done i.coded v.places v.more v.told v.tells v.first)
-    (within_told limits before i.contents (row_places limits before i.contents rows) j.done j.coded w.places w.more w.told also.tells also.first) agree
+    ∙ same_blocks limits before i.contents rows (reached a) (reached b) v.told w.told (v.of_all).sequential (v.tells).sizes (also.tells).sizes
+    (front_within (reached a) rows v.more (sym (v.tells).all ∙ v.first)) (front_within (reached b) rows w.more (sym (also.tells).all ∙ also.first))
+    (told_alike s (scan_sound limits before i.contents) all 0 a b two)
     ∙ sym also.same
 
 -- FEWER ROWS are decoded with more

@@ -1,5 +1,5 @@
 -- THE LAW: a reader inside a scan of all components completes the MCU rows whose units it read.
-use Rattle.std.proofs.Common.{◌≡◌, ℕ, ◌+◌, ◌*◌, ◌<◌, List, ◌++◌, length, refl, sym, ap, ◌∙◌, subst, arith, inl, inr, ℤ}
+use Rattle.std.proofs.Common.{◌≡◌, ℕ, ◌+◌, ◌*◌, ◌<◌, List, ◌∷◌, ◌++◌, length, refl, sym, ap, ◌∙◌, subst, arith, inl, inr, ℤ}
 use Rattle.std.specs.Prelude.{flat_map, map}
 use Rattle.std.proofs.lemmas.List.{append-nil, length-append}
 use Rattle.jpg_spec.specs.Bits.{bits_of_bytes}
@@ -20,6 +20,7 @@ use Rattle.jpg_spec.proofs.BlocksOnce.{band_of}
 use Rattle.jpg_spec.proofs.PictureInWork.{so_far_units}
 use Rattle.jpg_spec.proofs.RowsOnce.{whole_band}
 use Rattle.jpg_spec.proofs.RowsRead.{interval_tells, last_of, units_tell}
+use Rattle.jpg_spec.proofs.ScansOnce.{places_apart}
 use Rattle.jpg_spec.proofs.RowsStop.{due_cut, place_at, stop_completes}
 use Rattle.jpg_spec.proofs.RowsStopped.{bands_size}
 
@@ -64,7 +65,8 @@ whole_completes limits bytes rows w =
     let p = w.place in
     let s = scan_at limits p in
     let t : TellsBlocks s p.done p.coded _ w.now = interval_tells limits p w.now w.reads in
-    let cut = (due_cut s p.blocks w.now (chunks s.interval s.places) t.whole p.done p.places (t.part ++ t.rest) p.later t.later (w.at).due t.spelled t.intervals).0 in
+    let due = due_cut s p.blocks w.now (chunks s.interval s.places) t.whole p.done (p.places ∷ p.later) ((t.part ++ t.rest) ∷ t.later) (w.at).due t.spelled t.intervals in
+    let cut = (places_apart p.places (t.part ++ t.rest) p.later t.later due).0 in
     let h = last_of s p.blocks w.now (w.reads).so_far.front p.done p.coded (w.reads).so_far.spelled in
     let at : HoldsUnits s p.blocks h.part p.coded = (flat_map (band_of s w.now) h.part, (h.here.0, h.here.1.0, h.here.1.2, h.here.2)) in
     let holds : HoldsUnits s p.blocks p.places p.coded = subst (λ q. HoldsUnits s p.blocks q p.coded) (sym (cut ∙ append-nil h.part)) at in

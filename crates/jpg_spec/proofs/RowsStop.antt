@@ -5,29 +5,29 @@ use Rattle.std.proofs.lemmas.List.{append-nil, length-append}
 use Rattle.jpg_spec.specs.Lists.{chunks}
 use Rattle.jpg_spec.specs.Scan.{Blocks, Scan, SpellsIntervals}
 use Rattle.jpg_spec.specs.Markers.{Segment}
-use Rattle.jpg_spec.specs.Items.{Item, segments_of}
-use Rattle.jpg_spec.specs.FileMeaning.{no_blocks, scan_after}
+use Rattle.jpg_spec.specs.Items.{segments_of}
+use Rattle.jpg_spec.specs.FileMeaning.{no_blocks}
 use Rattle.jpg_spec.specs.FirstFault.{HoldsAll, HoldsUnits, InsideScan}
 use Rattle.jpg_spec.specs.ScanReading.{LeadingMarker, ScanAt, ScanPlace, scan_at}
-use Rattle.jpg_spec.specs.RowsTold.{CompletesRows, TellsBlocks, TellsRows, row_places}
+use Rattle.jpg_spec.specs.RowsTold.{CompletesRows, TellsRows, row_places}
 use Rattle.jpg_spec.specs.RowLaws.{StopsInRows, TellsNoMore, stopped_blocks}
 use Rattle.jpg_spec.specs.declared.frame.Limits.{Limits}
 use Rattle.jpg_spec.specs.declared.frame.Place.{Place}
 use Rattle.jpg_spec.proofs.ScansOnce.{places_apart}
 use Rattle.jpg_spec.proofs.TablesInForce.{scan_sound}
 use Rattle.jpg_spec.proofs.RowsLater.{blank}
-use Rattle.jpg_spec.proofs.RowsOnce.{one_first_scan, tells_at, whole_band}
-use Rattle.jpg_spec.proofs.RowsStopped.{HasWholeBands, StopsAt, no_more_told}
+use Rattle.jpg_spec.proofs.RowsOnce.{also_told, decoded, one_first_scan, tells_at, whole_band}
+use Rattle.jpg_spec.proofs.RowsStopped.{HasWholeBands, no_more_told}
+use Rattle.jpg_spec.proofs.RowBands.{TwoDecoded, reached}
 
 -- THE CURRENT INTERVAL is the next one
-pub due_cut : (s : Scan) (before told : Blocks) (all whole : List (List Place)) (done : List (List ℕ)) (places part : List Place) (later rest : List (List Place)) → HoldsAll s before all done (places ∷ later)
-    → SpellsIntervals s no_blocks told whole done → all ≡ whole ++ part ∷ rest → (places ≡ part) × (later ≡ rest)
-due_cut s before told all [] [] places part later rest h k e = places_apart places part later rest (sym h ∙ e)
-due_cut s before told all [] (c ∷ done) places part later rest h k e = absurd k
-due_cut s before told all (q ∷ whole) [] places part later rest h k e = absurd k
-due_cut s before told [] (q ∷ whole) (c ∷ done) places part later rest h k e = absurd h
-due_cut s before told (p ∷ all) (q ∷ whole) (c ∷ done) places part later rest h k e =
-    due_cut s before told all whole done places part later rest h.2 k.1 (places_apart p q all (whole ++ part ∷ rest) e).1
+pub due_cut : (s : Scan) (before told : Blocks) (all whole : List (List Place)) (done : List (List ℕ)) (due rest : List (List Place)) → HoldsAll s before all done due → SpellsIntervals s no_blocks told whole done → all ≡ whole ++ rest
+    → due ≡ rest
+due_cut s before told all [] [] due rest h k e = sym h ∙ e
+due_cut s before told all [] (c ∷ done) due rest h k e = absurd k
+due_cut s before told all (q ∷ whole) [] due rest h k e = absurd k
+due_cut s before told [] (q ∷ whole) (c ∷ done) due rest h k e = absurd h
+due_cut s before told (p ∷ all) (q ∷ whole) (c ∷ done) due rest h k e = due_cut s before told all whole done due rest h.2 k.1 (places_apart p q all (whole ++ rest) e).1
 
 -- the place, with only the bytes up to it
 abbrev pub place_at : (limits : Limits) → (bytes : List ℕ) → (p : ScanPlace) → (tail : List ℕ) → (at : ScanAt limits bytes p tail) → InsideScan limits (at.front ++ at.head ++ at.text) []
@@ -56,10 +56,6 @@ abbrev Stops : Scan → List (List ℕ) → List ℕ → List ℕ → ℕ → Bl
 Stops s done coded tail count blocks places later =
     TellsNoMore s blocks places coded count
     × (((fill : ℕ) × (tail ≡ replicate fill 255)) ⊎ ((m : LeadingMarker tail) × (HoldsUnits s blocks places coded → m.code ≡ 0xd0 + length done % 8 → later ≡ [])))
-
-stops_at : (s : Scan) (done : List (List ℕ)) (coded tail : List ℕ) (count : ℕ) (places : List Place) (later : List (List Place)) → Stops s done coded tail count no_blocks places later → StopsAt s 0 places later (length done) coded tail
-stops_at s done coded tail count places later (most, inl k) = inl k
-stops_at s done coded tail count places later (most, inr k) = let z : 0 + length done ≡ length done = omega arith in inr (k.0, λ h code. k.1 h (code ∙ ap (λ n. 0xd0 + n % 8) z))
 
 pub stop_completes : (limits : Limits) (bytes : List ℕ) (rows : ℕ) (w : StopsInRows limits bytes rows) → CompletesRows limits bytes rows (stopped_blocks limits bytes rows w)
 stop_completes limits bytes rows w = (told, no_more)
@@ -90,7 +86,8 @@ stop_completes limits bytes rows w = (told, no_more)
 
     stops : Stops (scan_at limits w.place) (w.place).done (w.place).coded w.tail (length (w.tells).part) no_blocks ((w.tells).part ++ (w.tells).rest) (w.tells).later
     stops =
-        let cut = due_cut s p.blocks w.told (chunks s.interval s.places) (w.tells).whole p.done p.places ((w.tells).part ++ (w.tells).rest) p.later (w.tells).later (w.at).due (w.tells).spelled (w.tells).intervals in
+        let due = ((w.tells).part ++ (w.tells).rest) ∷ (w.tells).later in
+        let cut = places_apart p.places ((w.tells).part ++ (w.tells).rest) p.later (w.tells).later (due_cut s p.blocks w.told (chunks s.interval s.places) (w.tells).whole p.done (p.places ∷ p.later) due (w.at).due (w.tells).spelled (w.tells).intervals) in
         let none : p.blocks ≡ no_blocks = blank limits p.items p.blocks (w.at).leads (w.of_all).first in
         let P : Blocks → List Place → List (List Place) → Type 0 = λ blocks places later. Stops s p.done p.coded w.tail (length (w.tells).part) blocks places later in
         let q : P p.blocks p.places p.later = (w.units, w.last) in
@@ -101,17 +98,22 @@ stop_completes limits bytes rows w = (told, no_more)
         let i = place_at limits bytes p w.tail w.at in
         let j = v.place in
         let one = one_first_scan limits ((w.at).front ++ (w.at).head ++ (w.at).text) v.front w.tail v.rest i j (w.of_all).first (v.of_all).first (sym (w.at).cut ∙ v.cut) in
-        let P : List Item → List ℕ → Type 0 =
-        λ items contents. TellsBlocks (scan_after limits (segments_of items) contents) j.done j.coded v.places v.told × (v.places ≡ row_places limits (segments_of items) contents (rows + 1) ++ v.more) in
-        let q0 : P j.items j.contents = (v.tells, v.first) in
-        let q : P p.items p.contents = subst (λ c. P p.items c) (sym one.contents) (subst (λ z. P z j.contents) (sym one.items) q0) in
+        let also = also_told limits bytes (rows + 1) x v p.items p.contents one.items one.contents in
         let wide : HasWholeBands s = λ block long. ap length (whole_band limits before p.contents block (w.of_all).sequential long) ∙ long in
-        let few =
-        no_more_told s (chunks s.interval s.places) 0 p.done p.coded (w.at).text w.tail w.told (w.tells).whole (w.tells).part j.done j.coded j.text v.rest v.told (q.0).whole (q.0).part
-        (scan_sound limits before p.contents) wide (q.0).sizes (w.at).intervals j.intervals one.stream (tells_at limits before p.contents p.done p.coded w.places w.told w.tells)
-        (tells_at limits before p.contents j.done j.coded v.places v.told q.0) stops.0 (stops_at s p.done p.coded w.tail (length (w.tells).part) ((w.tells).part ++ (w.tells).rest) (w.tells).later stops) in
+        let all = chunks s.interval s.places in
+        let a = decoded w.tells w.tail in
+        let b = decoded also.tells v.rest in
+        let two : TwoDecoded s all 0 a b =
+        record { text = (w.at).text; other = j.text; first = tells_at w.tells w.tail; second = tells_at also.tells v.rest; spelled = (w.at).intervals; other_spelled = j.intervals; same = one.stream } in
+        let few = no_more_told s (scan_sound limits before p.contents) wide all 0 a b two stops.0 (last stops.1) in
         let l1 = ap length (w.tells).all in
-        let l2 = ap length (q.0).all in
-        let l3 = ap length q.1 ∙ length-append (row_places limits before p.contents (rows + 1)) v.more in
+        let l2 : length v.places ≡ length (reached b) = ap length (also.tells).all in
+        let l3 = ap length also.first ∙ length-append (row_places limits before p.contents (rows + 1)) v.more in
         let l4 = w.few in
         omega (arith, few, l1, l2, l3, l4)
+      where
+        -- where no interval is before the first one
+        last : (((fill : ℕ) × (w.tail ≡ replicate fill 255)) ⊎ ((m : LeadingMarker w.tail) × (HoldsUnits s no_blocks ((w.tells).part ++ (w.tells).rest) p.coded → m.code ≡ 0xd0 + length p.done % 8 → (w.tells).later ≡ [])))
+            → ((fill : ℕ) × (w.tail ≡ replicate fill 255)) ⊎ ((m : LeadingMarker w.tail) × (HoldsUnits s no_blocks ((w.tells).part ++ (w.tells).rest) p.coded → m.code ≡ 0xd0 + (0 + length p.done) % 8 → (w.tells).later ≡ []))
+        last (inl k) = inl k
+        last (inr k) = let z : 0 + length p.done ≡ length p.done = omega arith in inr (k.0, λ h code. k.1 h (code ∙ ap (λ n. 0xd0 + n % 8) z))

@@ -1,22 +1,19 @@
 -- A complete file's bytes complete all MCU rows of a scan of all components, with the blocks of its picture.
-use Rattle.std.proofs.Common.{◌≡◌, ℕ, zero, suc, ◌+◌, ◌*◌, ◌<◌, ◌≤◌, Bool, true, false, cond, ◌&&◌, List, [], ◌∷◌, ◌++◌, length, refl, sym, ap, ◌∙◌, subst, arith}
+use Rattle.std.proofs.Common.{◌≡◌, ℕ, zero, suc, ◌+◌, ◌<◌, ◌≤◌, Bool, true, false, cond, ◌&&◌, List, [], ◌∷◌, ◌++◌, length, refl, sym, ap, ◌∙◌, subst, arith}
 use Rattle.std.specs.Prelude.{nat_lt, map, flat_map, unwrap_or}
 use Rattle.std.proofs.Math.Path.{fun_ext}
-use Rattle.std.proofs.lemmas.List.{append_assoc, append-nil, length-append, map-append}
+use Rattle.std.proofs.lemmas.List.{append_assoc, append-nil, map-append}
 use Rattle.jpg_spec.specs.Lists.{any_of, below, chunks, joined}
 use Rattle.jpg_spec.specs.Elements.{zeros}
 use Rattle.jpg_spec.specs.Geometry.{Frame, component_at, is_real}
-use Rattle.jpg_spec.specs.Segments.{head_components}
-use Rattle.jpg_spec.specs.Scan.{Blocks, Scan, SpellsInterval, SpellsIntervals}
+use Rattle.jpg_spec.specs.Scan.{Blocks, SpellsInterval, SpellsIntervals}
 use Rattle.jpg_spec.specs.Meaning.{Meaning, PictureComponent, real_blocks}
 use Rattle.jpg_spec.specs.Markers.{Segment}
-use Rattle.jpg_spec.specs.InForce.{frame_of, head_in}
 use Rattle.jpg_spec.specs.History.{quant_of}
 use Rattle.jpg_spec.specs.Items.{Item, scan, segments_of, SpellsFront, SpellsIntervalsText}
 use Rattle.jpg_spec.specs.FileMeaning.{Leads, meaning_of, no_blocks, picture_component, scan_after}
-use Rattle.jpg_spec.specs.FirstFault.{HoldsAll, InsideScan}
+use Rattle.jpg_spec.specs.FirstFault.{InsideScan}
 use Rattle.jpg_spec.specs.PictureInWork.{is_at}
-use Rattle.jpg_spec.specs.ScanRows.{scan_row}
 use Rattle.jpg_spec.specs.RowsTold.{IsScanOfAll, TellsBlocks, TellsFirst, TellsRows, blocks_in, row_places}
 use Rattle.jpg_spec.specs.declared.frame.Limits.{Limits}
 use Rattle.jpg_spec.specs.declared.frame.Place.{Place}
@@ -24,68 +21,10 @@ use Rattle.jpg_spec.proofs.BlocksOnce.{band_of, joined_chunks}
 use Rattle.jpg_spec.proofs.Common.{both, lt_of}
 use Rattle.jpg_spec.proofs.PictureInWork.{joined_join}
 use Rattle.jpg_spec.proofs.RowBands.{units_before, whole_first}
-use Rattle.jpg_spec.proofs.RowCounts.{length_rows}
+use Rattle.jpg_spec.proofs.RowsBegin.{told_fit}
 use Rattle.jpg_spec.proofs.RowsLater.{blank}
-use Rattle.jpg_spec.proofs.RowsOnce.{one_first_scan}
-
--- A COMPLETE SCAN is complete intervals, and then a last one
-record EndsTold (s : Scan) (before after : Blocks) (all : List (List Place)) (intervals : List (List ℕ)) : Type 0 where
-  done : List (List ℕ)
-  last : List ℕ
-  whole : List (List Place)
-  part : List Place
-  are : intervals ≡ done ++ last ∷ []
-  cut : all ≡ whole ++ part ∷ []
-  spelled : SpellsIntervals s before after whole done
-  here : SpellsInterval s before after part last
-
-ends_told : (s : Scan) (before after : Blocks) (all : List (List Place)) (turn : ℕ) (intervals : List (List ℕ)) (text : List ℕ) → SpellsIntervalsText turn intervals text → SpellsIntervals s before after all intervals
-    → EndsTold s before after all intervals
-ends_told s before after all turn [] text t k = absurd t
-ends_told s before after [] turn (c ∷ intervals) text t k = absurd k
-ends_told s before after (p ∷ []) turn (c ∷ []) text t k = record { done = []; last = c; whole = []; part = p; are = refl; cut = refl; spelled = tt; here = k.0 }
-ends_told s before after (p ∷ q ∷ all) turn (c ∷ []) text t k = absurd k.1
-ends_told s before after (p ∷ all) turn (c ∷ d ∷ intervals) text t k =
-    let h = ends_told s before after all (turn + 1) (d ∷ intervals) t.2 t.6 k.1 in
-    record {
-      done = c ∷ h.done;
-      last = h.last;
-      whole = p ∷ h.whole;
-      part = h.part;
-      are = ap (λ l. c ∷ l) h.are;
-      cut = ap (λ l. p ∷ l) h.cut;
-      spelled = (k.0, h.spelled);
-      here = h.here;
-    }
-
-holds_told : (s : Scan) (before after : Blocks) (whole due : List (List Place)) (done : List (List ℕ)) → SpellsIntervals s before after whole done → HoldsAll s before (whole ++ due) done due
-holds_told s before after [] due [] k = refl
-holds_told s before after [] due (c ∷ done) k = absurd k
-holds_told s before after (p ∷ whole) due [] k = absurd k
-holds_told s before after (p ∷ whole) due (c ∷ done) k = (_, (k.0.0, k.0.1, k.0.2), holds_told s before after whole due done k.1)
-
--- NO MORE ROWS than the scan has are decoded
-pub no_more_rows : (limits : Limits) (before : List Segment) (contents : List ℕ) (rows : ℕ) (done : List (List ℕ)) (coded : List ℕ) (places more : List Place) (told : Blocks)
-    → (scan_after limits before contents).places ≡ row_places limits before contents rows → 1 ≤ length (scan_after limits before contents).places
-    → TellsBlocks (scan_after limits before contents) done coded places told → places ≡ row_places limits before contents (rows + 1) ++ more → ⊥
-no_more_rows limits before contents rows done coded places more told all some w e =
-    let s = scan_after limits before contents in
-    let f = frame_of limits before in
-    let ids = head_components (head_in f contents) in
-    let row = length (scan_row f ids 0) in
-    let whole : s.places ≡ joined w.whole ++ ((w.part ++ w.rest) ++ joined w.later) = sym (joined_chunks s.interval s.places) ∙ ap joined w.intervals ∙ joined_join w.whole ((w.part ++ w.rest) ∷ w.later) in
-    let l1 = ap length whole in
-    let l2 = length-append (joined w.whole) ((w.part ++ w.rest) ++ joined w.later) in
-    let l3 = length-append (w.part ++ w.rest) (joined w.later) in
-    let l4 = length-append w.part w.rest in
-    let l5 = ap length w.all ∙ length-append (joined w.whole) w.part in
-    let l6 = ap length e ∙ length-append (row_places limits before contents (rows + 1)) more in
-    let l7 = length_rows f ids (rows + 1) in
-    let l8 = ap length all ∙ length_rows f ids rows in
-    let l9 : (rows + 1) * row ≡ rows * row + row = grind arith in
-    let short : row ≡ 0 = omega (arith, l1, l2, l3, l4, l5, l6, l7, l8, l9) in
-    let none : rows * row ≡ 0 = ap (λ n. rows * n) short ∙ omega arith in
-    omega (arith, some, l8, none)
+use Rattle.jpg_spec.proofs.RowsOnce.{also_told, one_first_scan}
+use Rattle.jpg_spec.proofs.ItemsOnce.{EndsAt, end_holds, ends_at}
 
 -- A SCAN AND WHAT IS BEFORE IT, at the beginning of some bytes
 pub record WholeScan (limits : Limits) (before : List Item) (contents : List ℕ) (intervals : List (List ℕ)) (blocks : Blocks) (front : List ℕ) : Type 0 where
@@ -93,97 +32,95 @@ pub record WholeScan (limits : Limits) (before : List Item) (contents : List ℕ
   pub spelled : SpellsFront (scan contents intervals ∷ before) front
   pub leads : Leads limits (scan contents intervals ∷ before) blocks
 
-scan_ends : (limits : Limits) (before : List Item) (contents : List ℕ) (intervals : List (List ℕ)) (blocks : Blocks) (front : List ℕ) → (w : WholeScan limits before contents intervals blocks front)
-    → (let s = scan_after limits (segments_of before) contents in EndsTold s (w.leads).0 blocks (chunks s.interval s.places) intervals)
-scan_ends limits before contents intervals blocks front w =
-    let s = scan_after limits (segments_of before) contents in
-    ends_told s (w.leads).0 blocks (chunks s.interval s.places) 0 intervals (w.spelled).4.1 (w.spelled).4.4 (w.leads).4.spelled
+module _ (limits : Limits) (before : List Item) (contents : List ℕ) (intervals : List (List ℕ)) (blocks : Blocks) (front : List ℕ) where
+  scan_ends : (w : WholeScan limits before contents intervals blocks front)
+      → (let s = scan_after limits (segments_of before) contents in EndsAt s (w.leads).0 blocks (chunks s.interval s.places) intervals)
+  scan_ends w =
+      let s = scan_after limits (segments_of before) contents in
+      ends_at s (w.leads).0 blocks (chunks s.interval s.places) 0 intervals (w.spelled).4.1 (w.spelled).4.4 (w.leads).4.spelled
 
-abbrev scan_place : (limits : Limits) (before : List Item) (contents : List ℕ) (intervals : List (List ℕ)) (blocks : Blocks) (front : List ℕ) → (w : WholeScan limits before contents intervals blocks front)
-    → (let s = scan_after limits (segments_of before) contents in EndsTold s (w.leads).0 blocks (chunks s.interval s.places) intervals) → InsideScan limits front []
-scan_place limits before contents intervals blocks front w h =
-    let s = scan_after limits (segments_of before) contents in
-    let t = w.spelled in
-    record {
-      items = before;
-      blocks = (w.leads).0;
-      contents = contents;
-      done = h.done;
-      coded = h.last;
-      places = h.part;
-      later = [];
-      front = t.0;
-      head = t.4.0;
-      text = t.4.1;
-      cut = t.2 ∙ ap (λ l. t.0 ++ l) t.4.2 ∙ sym (append_assoc t.0 t.4.0 t.4.1) ∙ sym (append-nil (t.0 ++ t.4.0 ++ t.4.1));
-      spelled = t.3;
-      header = t.4.3;
-      intervals = subst (λ l. SpellsIntervalsText 0 l t.4.1) h.are t.4.4;
-      leads = (w.leads).3;
-      allowed = ((w.leads).1, (w.leads).2);
-      due = subst (λ q. HoldsAll s (w.leads).0 q h.done (h.part ∷ [])) (sym h.cut) (holds_told s (w.leads).0 blocks h.whole (h.part ∷ []) h.done h.spelled);
-    }
+  abbrev scan_place : (w : WholeScan limits before contents intervals blocks front)
+      → (let s = scan_after limits (segments_of before) contents in EndsAt s (w.leads).0 blocks (chunks s.interval s.places) intervals) → InsideScan limits front []
+  scan_place w h =
+      let s = scan_after limits (segments_of before) contents in
+      let t = w.spelled in
+      record {
+        items = before;
+        blocks = (w.leads).0;
+        contents = contents;
+        done = h.done;
+        coded = h.last;
+        places = h.places;
+        later = [];
+        front = t.0;
+        head = t.4.0;
+        text = t.4.1;
+        cut = t.2 ∙ ap (λ l. t.0 ++ l) t.4.2 ∙ sym (append_assoc t.0 t.4.0 t.4.1) ∙ sym (append-nil (t.0 ++ t.4.0 ++ t.4.1));
+        spelled = t.3;
+        header = t.4.3;
+        intervals = subst (λ l. SpellsIntervalsText 0 l t.4.1) h.are t.4.4;
+        leads = (w.leads).3;
+        allowed = ((w.leads).1, (w.leads).2);
+        due = end_holds s (w.leads).0 blocks (chunks s.interval s.places) intervals h;
+      }
 
-scan_tells : (limits : Limits) (before : List Item) (contents : List ℕ) (intervals : List (List ℕ)) (blocks : Blocks) (front : List ℕ) → (w : WholeScan limits before contents intervals blocks front)
-    → (h : (let s = scan_after limits (segments_of before) contents in EndsTold s (w.leads).0 blocks (chunks s.interval s.places) intervals))
-    → TellsBlocks (scan_after limits (segments_of before) contents) h.done h.last (joined h.whole ++ h.part) blocks
-scan_tells limits before contents intervals blocks front w h =
-    let s = scan_after limits (segments_of before) contents in
-    let none : (w.leads).0 ≡ no_blocks = blank limits before (w.leads).0 (w.leads).3 (w.of_all).first in
-    let here : SpellsInterval s no_blocks blocks h.part h.last = subst (λ o. SpellsInterval s o blocks h.part h.last) none h.here in
-    let same : h.part ≡ h.part ++ [] = sym (append-nil h.part) in
-    record {
-      whole = h.whole;
-      part = h.part;
-      rest = [];
-      later = [];
-      bits = here.0;
-      behind = here.1.0;
-      intervals = h.cut ∙ ap (λ p. h.whole ++ p ∷ []) same;
-      all = refl;
-      spelled = subst (λ o. SpellsIntervals s o blocks h.whole h.done) none h.spelled;
-      cut = here.1.2;
-      first = subst (λ q. TellsFirst s.coding (units_before s q) (flat_map (band_of s blocks) h.part) here.0) same (whole_first s blocks h.part h.last here);
-      sizes = (w.leads).4.sizes;
-    }
+  scan_tells : (w : WholeScan limits before contents intervals blocks front)
+      → (h : (let s = scan_after limits (segments_of before) contents in EndsAt s (w.leads).0 blocks (chunks s.interval s.places) intervals))
+      → TellsBlocks (scan_after limits (segments_of before) contents) h.done h.last (joined h.whole ++ h.places) blocks
+  scan_tells w h =
+      let s = scan_after limits (segments_of before) contents in
+      let none : (w.leads).0 ≡ no_blocks = blank limits before (w.leads).0 (w.leads).3 (w.of_all).first in
+      let here : SpellsInterval s no_blocks blocks h.places h.last = subst (λ o. SpellsInterval s o blocks h.places h.last) none h.here in
+      let same : h.places ≡ h.places ++ [] = sym (append-nil h.places) in
+      record {
+        whole = h.whole;
+        part = h.places;
+        rest = [];
+        later = [];
+        bits = here.0;
+        behind = here.1.0;
+        intervals = h.cut ∙ ap (λ p. h.whole ++ p ∷ []) same;
+        all = refl;
+        spelled = subst (λ o. SpellsIntervals s o blocks h.whole h.done) none h.spelled;
+        cut = here.1.2;
+        first = subst (λ q. TellsFirst s.coding (units_before s q) (flat_map (band_of s blocks) h.places) here.0) same (whole_first s blocks h.places h.last here);
+        sizes = (w.leads).4.sizes;
+      }
 
--- the first bytes encode all its rows
-pub scan_rows : (limits : Limits) (before : List Item) (contents : List ℕ) (intervals : List (List ℕ)) (blocks : Blocks) (front rest : List ℕ) (rows : ℕ) → WholeScan limits before contents intervals blocks front
-    → (scan_after limits (segments_of before) contents).places ≡ row_places limits (segments_of before) contents rows
-    → TellsRows limits (front ++ rest) rows (blocks_in (row_places limits (segments_of before) contents rows) blocks)
-scan_rows limits before contents intervals blocks front rest rows w all =
-    let s = scan_after limits (segments_of before) contents in
-    let h = scan_ends limits before contents intervals blocks front w in
-    record {
-      front = front;
-      rest = rest;
-      cut = refl;
-      place = scan_place limits before contents intervals blocks front w h;
-      of_all = w.of_all;
-      places = joined h.whole ++ h.part;
-      more = [];
-      told = blocks;
-      tells = scan_tells limits before contents intervals blocks front w h;
-      first =
-          ap (λ l. joined h.whole ++ l) (sym (append-nil h.part)) ∙ sym (joined_join h.whole (h.part ∷ [])) ∙ ap joined (sym h.cut) ∙ joined_chunks s.interval s.places ∙ all
-          ∙ sym (append-nil (row_places limits (segments_of before) contents rows));
-      same = refl;
-    }
+  -- the first bytes encode all its rows
+  pub scan_rows : (rest : List ℕ) (rows : ℕ) → WholeScan limits before contents intervals blocks front
+      → (scan_after limits (segments_of before) contents).places ≡ row_places limits (segments_of before) contents rows
+      → TellsRows limits (front ++ rest) rows (blocks_in (row_places limits (segments_of before) contents rows) blocks)
+  scan_rows rest rows w all =
+      let s = scan_after limits (segments_of before) contents in
+      let h = scan_ends w in
+      record {
+        front = front;
+        rest = rest;
+        cut = refl;
+        place = scan_place w h;
+        of_all = w.of_all;
+        places = joined h.whole ++ h.places;
+        more = [];
+        told = blocks;
+        tells = scan_tells w h;
+        first =
+            ap (λ l. joined h.whole ++ l) (sym (append-nil h.places)) ∙ sym (joined_join h.whole (h.places ∷ [])) ∙ ap joined (sym h.cut) ∙ joined_chunks s.interval s.places ∙ all
+            ∙ sym (append-nil (row_places limits (segments_of before) contents rows));
+        same = refl;
+      }
 
--- and no more
-pub scan_rows_all : (limits : Limits) (before : List Item) (contents : List ℕ) (intervals : List (List ℕ)) (blocks : Blocks) (front rest : List ℕ) (rows : ℕ) (x : Blocks) → WholeScan limits before contents intervals blocks front
-    → (scan_after limits (segments_of before) contents).places ≡ row_places limits (segments_of before) contents rows → 1 ≤ length (scan_after limits (segments_of before) contents).places
-    → TellsRows limits (front ++ rest) (rows + 1) x → ⊥
-scan_rows_all limits before contents intervals blocks front rest rows x w all some v =
-    let h = scan_ends limits before contents intervals blocks front w in
-    let i : InsideScan limits front [] = scan_place limits before contents intervals blocks front w h in
-    let j = v.place in
-    let one = one_first_scan limits front v.front rest v.rest i j (w.of_all).first (v.of_all).first v.cut in
-    let P : List Item → List ℕ → Type 0 =
-    λ items contents. TellsBlocks (scan_after limits (segments_of items) contents) j.done j.coded v.places v.told × (v.places ≡ row_places limits (segments_of items) contents (rows + 1) ++ v.more) in
-    let p : P j.items j.contents = (v.tells, v.first) in
-    let q : P before contents = subst (λ c. P before c) (sym one.contents) (subst (λ z. P z j.contents) (sym one.items) p) in
-    no_more_rows limits (segments_of before) contents rows j.done j.coded v.places v.more v.told all some q.0 q.1
+  -- and no more
+  pub scan_rows_all : (rest : List ℕ) (rows : ℕ) (x : Blocks) → WholeScan limits before contents intervals blocks front
+      → (scan_after limits (segments_of before) contents).places ≡ row_places limits (segments_of before) contents rows → 1 ≤ length (scan_after limits (segments_of before) contents).places
+      → TellsRows limits (front ++ rest) (rows + 1) x → ⊥
+  scan_rows_all rest rows x w all some v =
+      let h = scan_ends w in
+      let i : InsideScan limits front [] = scan_place w h in
+      let j = v.place in
+      let one = one_first_scan limits front v.front rest v.rest i j (w.of_all).first (v.of_all).first v.cut in
+      let few = told_fit limits (segments_of before) contents rows v all some (also_told limits (front ++ rest) (rows + 1) x v before contents one.items one.contents) in
+      omega (arith, few)
 
 -- THE PICTURE of the rows is that of the file
 

@@ -44,156 +44,215 @@ some_due s before (p ∷ q) [] places later h = (p, q, refl)
 some_due s before [] (c ∷ done) places later h = absurd h
 some_due s before (p ∷ q) (c ∷ done) places later h = (p, q, refl)
 
--- A PLACE in a scan's data: intervals that are done, the data bytes of the next, and the intervals that are left
-pub record At (s : Scan) (before : Blocks) (all : List (List Place)) (turn : ℕ) (done : List (List ℕ)) (coded : List ℕ) (places : List Place) (later : List (List Place)) (text : List ℕ) : Type 0 where
-  pub spelled : SpellsIntervalsText turn (done ++ coded ∷ []) text
-  pub holds : HoldsAll s before all done (places ∷ later)
+-- THE DATA OF AN INTERVAL and a marker after them, at the beginning of some bytes
+pub record Marked (code : ℕ) (coded stream rest : List ℕ) : Type 0 where
+  pub front : List ℕ
+  pub marker : List ℕ
+  pub cut : stream ≡ front ++ (marker ++ rest)
+  pub spelled : SpellsData coded front
+  pub marks : SpellsMarker code marker
 
--- The second place (d, with v after it) is in the interval of the first (c, with u after it), and not before it.
-pub record InSame (turn : ℕ) (done : List (List ℕ)) (c u : List ℕ) (places : List Place) (later : List (List Place)) (done' : List (List ℕ)) (d v : List ℕ) (places' : List Place) (later' : List (List Place)) : Type 0 where
+pub marked : (turn : ℕ) (c : List ℕ) (others : List (List ℕ)) (text behind stream : List ℕ) → stream ≡ text ++ behind → (k : CutInterval turn c others text)
+    → Marked (0xd0 + turn % 8) c stream (k.rest ++ behind)
+marked turn c others text behind stream e k = record {
+  front = k.front;
+  marker = k.marker;
+  cut = e ∙ ap (λ l. l ++ behind) k.cut ∙ append_assoc (k.front ++ k.marker) k.rest behind ∙ append_assoc k.front k.marker (k.rest ++ behind);
+  spelled = k.spelled;
+  marks = k.code;
+}
+
+-- both are determined by the bytes
+pub marked_once : (code code' : ℕ) (c d stream u v : List ℕ) → Marked code c stream u → Marked code' d stream v → (c ≡ d) × (u ≡ v)
+marked_once code code' c d stream u v k l = by (data_once c d k.front l.front (k.marker ++ u) (l.marker ++ v) k.spelled l.spelled (sym k.cut ∙ l.cut))
+  where
+    by : DataGoOn c k.front (k.marker ++ u) d l.front (l.marker ++ v) ⊎ DataGoOn d l.front (l.marker ++ v) c k.front (k.marker ++ u) → (c ≡ d) × (u ≡ v)
+    by (inl g) =
+        let none = data_no_marker code g.more g.text k.marker (l.marker ++ v) u g.spelled k.marks (sym g.behind) in (
+          sym (g.joined ∙ ap (λ m. c ++ m) none.0 ∙ append-nil c),
+          (marker_once code code' k.marker l.marker u v k.marks l.marks (g.behind ∙ ap (λ m. m ++ (l.marker ++ v)) none.1)).2,
+        )
+    by (inr g) =
+        let none = data_no_marker code' g.more g.text l.marker (k.marker ++ u) v g.spelled l.marks (sym g.behind) in (
+          g.joined ∙ ap (λ m. d ++ m) none.0 ∙ append-nil d,
+          sym (marker_once code' code l.marker k.marker v u l.marks k.marks (g.behind ∙ ap (λ m. m ++ (k.marker ++ u)) none.1)).2,
+        )
+
+-- A PLACE in a scan's data: the intervals that are done, the data bytes of the next, its units, the intervals after it,
+-- and the bytes behind these data
+pub record DataPlace : Type 0 where
+  pub done : List (List ℕ)
+  pub coded : List ℕ
+  pub places : List Place
+  pub later : List (List Place)
+  pub behind : List ℕ
+
+abbrev pub with_done : List (List ℕ) → DataPlace → DataPlace
+with_done done p = record p { done = done }
+
+-- with one more interval done before it, and with more data bytes
+abbrev pub after_one : List ℕ → DataPlace → DataPlace
+after_one c p = with_done (c ∷ p.done) p
+
+abbrev pub further : DataPlace → List ℕ → List ℕ → DataPlace
+further p more behind = record p { coded = p.coded ++ more; behind = behind }
+
+pub record At (s : Scan) (before : Blocks) (all : List (List Place)) (turn : ℕ) (p : DataPlace) (text : List ℕ) : Type 0 where
+  pub spelled : SpellsIntervalsText turn (p.done ++ p.coded ∷ []) text
+  pub holds : HoldsAll s before all p.done (p.places ∷ p.later)
+
+-- TWO PLACES in the data of one scan, in the same bytes
+pub record TwoPlaces (s : Scan) (before : Blocks) (all : List (List Place)) (turn : ℕ) (p q : DataPlace) : Type 0 where
+  pub text : List ℕ
+  pub other : List ℕ
+  pub first : At s before all turn p text
+  pub second : At s before all turn q other
+  pub same : text ++ p.behind ≡ other ++ q.behind
+
+pub swapped : (s : Scan) (before : Blocks) (all : List (List Place)) (turn : ℕ) (p q : DataPlace) → TwoPlaces s before all turn p q → TwoPlaces s before all turn q p
+swapped s before all turn p q w = record { text = w.other; other = w.text; first = w.second; second = w.first; same = sym w.same }
+
+-- The second place is in the interval of the first, and not before it.
+pub record InSame (p q : DataPlace) : Type 0 where
   pub more : List ℕ
   pub text : List ℕ
-  pub same : (done ≡ done') × (places ≡ places') × (later ≡ later')
-  pub joined : d ≡ c ++ more
+  pub place : q ≡ further p more q.behind
   pub spelled : SpellsData more text
-  pub behind : u ≡ text ++ v
+  pub behind : p.behind ≡ text ++ q.behind
 
 -- It is in a later interval: the first interval is complete with some more data bytes, and the right marker follows.
-pub record InLater (s : Scan) (before : Blocks) (turn : ℕ) (done : List (List ℕ)) (c u : List ℕ) (places : List Place) (later : List (List Place)) : Type 0 where
+pub record InLater (s : Scan) (before : Blocks) (turn : ℕ) (p : DataPlace) : Type 0 where
   pub more : List ℕ
   pub text : List ℕ
   pub marker : List ℕ
   pub rest : List ℕ
   pub spelled : SpellsData more text
-  pub code : SpellsMarker (0xd0 + (turn + length done) % 8) marker
-  pub behind : u ≡ text ++ (marker ++ rest)
-  pub completes : Completes s before places (c ++ more)
-  pub others : (next : List Place) × (others : List (List Place)) × (later ≡ next ∷ others)
+  pub code : SpellsMarker (0xd0 + (turn + length p.done) % 8) marker
+  pub behind : p.behind ≡ text ++ (marker ++ rest)
+  pub completes : Completes s before p.places (p.coded ++ more)
+  pub others : (next : List Place) × (others : List (List Place)) × (p.later ≡ next ∷ others)
 
 -- the second place isn't before the first
-abbrev pub IsAhead : (s : Scan) → (before : Blocks) → (turn : ℕ) → (done : List (List ℕ)) → (c u : List ℕ) → (places : List Place) → (later : List (List Place))
-    → (done' : List (List ℕ)) → (d v : List ℕ) → (places' : List Place) → (later' : List (List Place)) → Type 0
-IsAhead s before turn done c u places later done' d v places' later' =
-    InSame turn done c u places later done' d v places' later' ⊎ InLater s before turn done c u places later
+abbrev pub IsAhead : Scan → Blocks → ℕ → DataPlace → DataPlace → Type 0
+IsAhead s before turn p q = InSame p q ⊎ InLater s before turn p
 
-data_in_same : (turn : ℕ) (c t u d r v : List ℕ) (places places' : List Place) (later later' : List (List Place)) → places ≡ places' → later ≡ later' → DataGoOn c t u d r v
-    → InSame turn [] c u places later [] d v places' later'
-data_in_same turn c t u d r v places places' later later' e f g = record { more = g.more; text = g.text; same = (refl, e, f); joined = g.joined; spelled = g.spelled; behind = g.behind }
+-- places without more data between them are one
+pub one_place : (p q : DataPlace) → (g : InSame p q) → g.more ≡ [] → g.text ≡ [] → q ≡ p
+one_place p q g none empty =
+    g.place ∙ ap (λ m. further p m q.behind) none ∙ ap (λ b. further p [] b) (sym (g.behind ∙ ap (λ t. t ++ q.behind) empty))
+    ∙ ap (λ c. (let z : DataPlace = record p { coded = c } in z)) (append-nil p.coded)
 
--- the first place is in the first interval, the second is after it
-first_later : (s : Scan) (before : Blocks) (turn : ℕ) (places : List Place) (later all : List (List Place)) (c text u d : List ℕ) (done' : List (List ℕ)) (d' text' v : List ℕ) (places' : List Place) (later' : List (List Place))
-    → At s before all turn [] c places later text → At s before all turn (d ∷ done') d' places' later' text' → text ++ u ≡ text' ++ v → InLater s before turn [] c u places later
-first_later s before turn places later [] c text u d done' d' text' v places' later' a b e = absurd (no_places places later a.holds)
-first_later s before turn places later (p ∷ all) c text u d done' d' text' v places' later' a b e =
-    by (data_once c d text k.front u (k.marker ++ (k.rest ++ v)) a.spelled k.spelled
-    (e ∙ ap (λ l. l ++ v) k.cut ∙ append_assoc (k.front ++ k.marker) k.rest v ∙ append_assoc k.front k.marker (k.rest ++ v)))
+data_in_same : (p q : DataPlace) (t r : List ℕ) → p.places ≡ q.places → p.later ≡ q.later → DataGoOn p.coded t p.behind q.coded r q.behind → InSame (with_done [] p) (with_done [] q)
+data_in_same p q t r e f g = record {
+  more = g.more;
+  text = g.text;
+  place = ap (λ c. first c q.places q.later) g.joined ∙ ap (λ l. first (p.coded ++ g.more) l q.later) (sym e) ∙ ap (λ l. first (p.coded ++ g.more) p.places l) (sym f);
+  spelled = g.spelled;
+  behind = g.behind;
+}
   where
-    k : CutInterval turn d (done' ++ d' ∷ []) text'
-    k = cut_interval turn d done' d' text' b.spelled
+    first : List ℕ → List Place → List (List Place) → DataPlace
+    first coded places later = record { done = []; coded = coded; places = places; later = later; behind = q.behind }
 
-    h : (p ≡ places) × (all ≡ later)
-    h = places_apart p places all later a.holds
+module _ (s : Scan) (before : Blocks) where
+  -- the first place is in the first interval, the second is after it
+  first_later : (all : List (List Place)) (turn : ℕ) (d : List ℕ) (done : List (List ℕ)) (p q : DataPlace) → TwoPlaces s before all turn (with_done [] p) (with_done (d ∷ done) q)
+      → InLater s before turn (with_done [] p)
+  first_later [] turn d done p q w = absurd (no_places p.places p.later (w.first).holds)
+  first_later (here ∷ all) turn d done p q w = by (data_once p.coded d w.text k.front p.behind (k.marker ++ rest) (w.first).spelled k.spelled k.cut)
+    where
+      interval : CutInterval turn d (done ++ q.coded ∷ []) w.other
+      interval = cut_interval turn d done q.coded w.other (w.second).spelled
 
-    due : (next : List Place) × (others : List (List Place)) × (later ≡ next ∷ others)
-    due = (let r = some_due s before all done' places' later' b.holds.2 in (r.0, r.1, sym h.1 ∙ r.2))
+      rest : List ℕ
+      rest = interval.rest ++ q.behind
 
-    whole : Completes s before places d
-    whole = subst (λ q. Completes s before q d) h.0 (b.holds.0, b.holds.1)
+      k : Marked (0xd0 + turn % 8) d (w.text ++ p.behind) rest
+      k = marked turn d (done ++ q.coded ∷ []) w.other q.behind (w.text ++ p.behind) w.same interval
 
-    code : SpellsMarker (0xd0 + (turn + 0) % 8) k.marker
-    code = let z : turn ≡ turn + 0 = omega arith in subst (λ n. SpellsMarker (0xd0 + n % 8) k.marker) z k.code
+      h : (here ≡ p.places) × (all ≡ p.later)
+      h = places_apart here p.places all p.later (w.first).holds
 
-    by : DataGoOn c text u d k.front (k.marker ++ (k.rest ++ v)) ⊎ DataGoOn d k.front (k.marker ++ (k.rest ++ v)) c text u → InLater s before turn [] c u places later
-    by (inl g) = record {
-      more = g.more;
-      text = g.text;
-      marker = k.marker;
-      rest = k.rest ++ v;
-      spelled = g.spelled;
-      code = code;
-      behind = g.behind;
-      completes = subst (λ l. Completes s before places l) g.joined whole;
-      others = due;
-    }
-    by (inr g) =
-        let none = data_no_marker (0xd0 + turn % 8) g.more g.text k.marker u (k.rest ++ v) g.spelled k.code (sym g.behind) in
-        let same : c ++ [] ≡ d = append-nil c ∙ g.joined ∙ ap (λ l. d ++ l) none.0 ∙ append-nil d in
-        record {
-          more = [];
-          text = [];
-          marker = k.marker;
-          rest = k.rest ++ v;
-          spelled = refl;
-          code = code;
-          behind = ap (λ l. l ++ u) (sym none.1) ∙ sym g.behind;
-          completes = subst (λ l. Completes s before places l) (sym same) whole;
-          others = due;
-        }
+      due : (next : List Place) × (others : List (List Place)) × (p.later ≡ next ∷ others)
+      due = (let r = some_due s before all done q.places q.later (w.second).holds.2 in (r.0, r.1, sym h.1 ∙ r.2))
 
--- one more interval that is done before both
-pub more_done : (s : Scan) (before : Blocks) (turn : ℕ) (e f : List ℕ) (done : List (List ℕ)) (c u : List ℕ) (places : List Place) (later : List (List Place)) (done' : List (List ℕ)) (d v : List ℕ) (places' : List Place) (later' : List (List Place))
-    → e ≡ f → IsAhead s before (turn + 1) done c u places later done' d v places' later' → IsAhead s before turn (e ∷ done) c u places later (f ∷ done') d v places' later'
-more_done s before turn e f done c u places later done' d v places' later' same (inl g) =
-    inl (record {
-      more = g.more;
-      text = g.text;
-      same = (ap (λ n. n ∷ done) same ∙ ap (λ l. f ∷ l) g.same.0, g.same.1, g.same.2);
-      joined = g.joined;
-      spelled = g.spelled;
-      behind = g.behind;
-    })
-more_done s before turn e f done c u places later done' d v places' later' same (inr g) =
-    let z : turn + 1 + length done ≡ turn + length (e ∷ done) = omega arith in
-    inr (record {
-      more = g.more;
-      text = g.text;
-      marker = g.marker;
-      rest = g.rest;
-      spelled = g.spelled;
-      code = subst (λ n. SpellsMarker (0xd0 + n % 8) g.marker) z g.code;
-      behind = g.behind;
-      completes = g.completes;
-      others = g.others;
-    })
+      whole : Completes s before p.places d
+      whole = subst (λ l. Completes s before l d) h.0 ((w.second).holds.0, (w.second).holds.1)
 
--- data with a marker after them
-pub data_ends : (code code' : ℕ) (c d t r a b u v : List ℕ) → SpellsData c t → SpellsData d r → SpellsMarker code a → SpellsMarker code' b → t ++ (a ++ u) ≡ r ++ (b ++ v) → (c ≡ d) × (u ≡ v)
-data_ends code code' c d t r a b u v s k m n e =
-    ⊎_elim
-    (λ (g : DataGoOn c t (a ++ u) d r (b ++ v)). (let none = data_no_marker code g.more g.text a (b ++ v) u g.spelled m (sym g.behind) in
-    let rest : a ++ u ≡ b ++ v = g.behind ∙ ap (λ l. l ++ (b ++ v)) none.1 in
-    (sym (append-nil c) ∙ ap (λ l. c ++ l) (sym none.0) ∙ sym g.joined, (marker_once code code' a b u v m n rest).2)))
-    (λ (g : DataGoOn d r (b ++ v) c t (a ++ u)). (let none = data_no_marker code' g.more g.text b (a ++ u) v g.spelled n (sym g.behind) in
-    let rest : b ++ v ≡ a ++ u = g.behind ∙ ap (λ l. l ++ (a ++ u)) none.1 in
-    (g.joined ∙ ap (λ l. d ++ l) none.0 ∙ append-nil d, (marker_once code code' a b u v m n (sym rest)).2)))
-    (data_once c d t r (a ++ u) (b ++ v) s k e)
+      code : SpellsMarker (0xd0 + (turn + 0) % 8) k.marker
+      code = let z : turn ≡ turn + 0 = omega arith in subst (λ n. SpellsMarker (0xd0 + n % 8) k.marker) z k.marks
 
--- THE LAW
-pub scan_once : (s : Scan) (before : Blocks) (all : List (List Place)) (turn : ℕ) (done : List (List ℕ)) (c text u : List ℕ) (places : List Place) (later : List (List Place)) (done' : List (List ℕ)) (d text' v : List ℕ) (places' : List Place) (later' : List (List Place))
-    → At s before all turn done c places later text → At s before all turn done' d places' later' text' → text ++ u ≡ text' ++ v
-    → IsAhead s before turn done c u places later done' d v places' later' ⊎ IsAhead s before turn done' d v places' later' done c u places later
-scan_once s before all turn [] c text u places later [] d text' v places' later' a b e =
-    let h = places_apart places places' later later' (sym a.holds ∙ b.holds) in
-    ⊎_elim
-    (λ (g : DataGoOn c text u d text' v). inl (inl (data_in_same turn c text u d text' v places places' later later' h.0 h.1 g)))
-    (λ (g : DataGoOn d text' v c text u). inr (inl (data_in_same turn d text' v c text u places' places later' later (sym h.0) (sym h.1) g)))
-    (data_once c d text text' u v a.spelled b.spelled e)
-scan_once s before all turn [] c text u places later (e' ∷ done') d text' v places' later' a b e =
-    inl (inr (first_later s before turn places later all c text u e' done' d text' v places' later' a b e))
-scan_once s before all turn (f ∷ done) c text u places later [] d text' v places' later' a b e =
-    inr (inr (first_later s before turn places' later' all d text' v f done c text u places later b a (sym e)))
-scan_once s before [] turn (f ∷ done) c text u places later (g ∷ done') d text' v places' later' a b e = absurd a.holds
-scan_once s before (p ∷ all) turn (f ∷ done) c text u places later (g ∷ done') d text' v places' later' a b e =
-    let k = cut_interval turn f done c text a.spelled in
-    let l = cut_interval turn g done' d text' b.spelled in
-    let h = data_ends (0xd0 + turn % 8) (0xd0 + turn % 8) f g k.front l.front k.marker l.marker (k.rest ++ u) (l.rest ++ v) k.spelled l.spelled k.code l.code
-    (sym (parts k.front k.marker k.rest u) ∙ ap (λ z. z ++ u) (sym k.cut) ∙ e ∙ ap (λ z. z ++ v) l.cut ∙ parts l.front l.marker l.rest v) in
-    let r = scan_once s before all (turn + 1) done c k.rest u places later done' d l.rest v places' later'
-    (record { spelled = k.later; holds = a.holds.2 }) (record { spelled = l.later; holds = b.holds.2 }) h.1 in
-    ⊎_elim
-    (λ (z : IsAhead s before (turn + 1) done c u places later done' d v places' later'). inl (more_done s before turn f g done c u places later done' d v places' later' h.0 z))
-    (λ (z : IsAhead s before (turn + 1) done' d v places' later' done c u places later). inr (more_done s before turn g f done' d v places' later' done c u places later (sym h.0) z))
-    r
-  where
-    parts : (x y z w : List ℕ) → (x ++ y ++ z) ++ w ≡ x ++ (y ++ (z ++ w))
-    parts x y z w = append_assoc (x ++ y) z w ∙ append_assoc x y (z ++ w)
+      is_later : (more text : List ℕ) → SpellsData more text → p.behind ≡ text ++ (k.marker ++ rest) → d ≡ p.coded ++ more → InLater s before turn (with_done [] p)
+      is_later more text spelled behind same = record {
+        more = more;
+        text = text;
+        marker = k.marker;
+        rest = rest;
+        spelled = spelled;
+        code = code;
+        behind = behind;
+        completes = subst (λ l. Completes s before p.places l) same whole;
+        others = due;
+      }
+
+      by : DataGoOn p.coded w.text p.behind d k.front (k.marker ++ rest) ⊎ DataGoOn d k.front (k.marker ++ rest) p.coded w.text p.behind → InLater s before turn (with_done [] p)
+      by (inl g) = is_later g.more g.text g.spelled g.behind g.joined
+      by (inr g) =
+          let none = data_no_marker (0xd0 + turn % 8) g.more g.text k.marker p.behind rest g.spelled k.marks (sym g.behind) in
+          is_later [] [] refl (ap (λ l. l ++ p.behind) (sym none.1) ∙ sym g.behind) (sym (append-nil p.coded ∙ g.joined ∙ ap (λ l. d ++ l) none.0 ∙ append-nil d))
+
+  -- one more interval that is done before both
+  more_done : (turn : ℕ) (e f : List ℕ) (p q : DataPlace) → e ≡ f → IsAhead s before (turn + 1) p q → IsAhead s before turn (after_one e p) (after_one f q)
+  more_done turn e f p q same (inl g) =
+      inl (record {
+        more = g.more;
+        text = g.text;
+        place = ap (after_one f) g.place ∙ ap (λ c. after_one c (further p g.more q.behind)) (sym same);
+        spelled = g.spelled;
+        behind = g.behind;
+      })
+  more_done turn e f p q same (inr g) =
+      let z : turn + 1 + length p.done ≡ turn + length (e ∷ p.done) = omega arith in
+      inr (record {
+        more = g.more;
+        text = g.text;
+        marker = g.marker;
+        rest = g.rest;
+        spelled = g.spelled;
+        code = subst (λ n. SpellsMarker (0xd0 + n % 8) g.marker) z g.code;
+        behind = g.behind;
+        completes = g.completes;
+        others = g.others;
+      })
+
+  scan_from : (all : List (List Place)) (turn : ℕ) (done done' : List (List ℕ)) (p q : DataPlace) → TwoPlaces s before all turn (with_done done p) (with_done done' q)
+      → IsAhead s before turn (with_done done p) (with_done done' q) ⊎ IsAhead s before turn (with_done done' q) (with_done done p)
+  scan_from all turn [] [] p q w =
+      let h = places_apart p.places q.places p.later q.later (sym (w.first).holds ∙ (w.second).holds) in
+      ⊎_elim
+      (λ (g : DataGoOn p.coded w.text p.behind q.coded w.other q.behind). inl (inl (data_in_same p q w.text w.other h.0 h.1 g)))
+      (λ (g : DataGoOn q.coded w.other q.behind p.coded w.text p.behind). inr (inl (data_in_same q p w.other w.text (sym h.0) (sym h.1) g)))
+      (data_once p.coded q.coded w.text w.other p.behind q.behind (w.first).spelled (w.second).spelled w.same)
+  scan_from all turn [] (d ∷ done') p q w = inl (inr (first_later all turn d done' p q w))
+  scan_from all turn (c ∷ done) [] p q w = inr (inr (first_later all turn c done q p (swapped s before all turn (with_done (c ∷ done) p) (with_done [] q) w)))
+  scan_from [] turn (c ∷ done) (d ∷ done') p q w = absurd (w.first).holds
+  scan_from (here ∷ all) turn (c ∷ done) (d ∷ done') p q w =
+      let code = 0xd0 + turn % 8 in
+      let k = cut_interval turn c done p.coded w.text (w.first).spelled in
+      let l = cut_interval turn d done' q.coded w.other (w.second).spelled in
+      let stream = w.text ++ p.behind in
+      let h = marked_once code code c d stream (k.rest ++ p.behind) (l.rest ++ q.behind) (marked turn c (done ++ p.coded ∷ []) w.text p.behind stream refl k) (marked turn d (done' ++ q.coded ∷ []) w.other q.behind stream w.same l) in
+      ⊎_elim
+      (λ (z : IsAhead s before (turn + 1) (with_done done p) (with_done done' q)). inl (more_done turn c d (with_done done p) (with_done done' q) h.0 z))
+      (λ (z : IsAhead s before (turn + 1) (with_done done' q) (with_done done p)). inr (more_done turn d c (with_done done' q) (with_done done p) (sym h.0) z))
+      (scan_from all (turn + 1) done done' p q (record {
+        text = k.rest;
+        other = l.rest;
+        first = record { spelled = k.later; holds = (w.first).holds.2 };
+        second = record { spelled = l.later; holds = (w.second).holds.2 };
+        same = h.1;
+      }))
+
+  -- THE LAW
+  pub scan_once : (all : List (List Place)) (turn : ℕ) (p q : DataPlace) → TwoPlaces s before all turn p q → IsAhead s before turn p q ⊎ IsAhead s before turn q p
+  scan_once all turn p q w = scan_from all turn p.done q.done p q w

@@ -13,7 +13,7 @@ use Rattle.jpg_spec.specs.Sound.{AreTableCodes, IsSound, AreTables}
 use Rattle.jpg_spec.specs.declared.fault.Fault.{Fault}
 use Rattle.jpg_spec.proofs.Levels.{contains_none}
 use Rattle.jpg_spec.proofs.OneCode.{one_code}
-use Rattle.jpg_spec.proofs.Once.{OneWay, units_once}
+use Rattle.jpg_spec.proofs.Once.{BeginsElements, Decodes, OneWay, units_once}
 use Rattle.jpg_spec.proofs.Excludes.{data_excludes}
 use Rattle.jpg_spec.proofs.Facts.{facts}
 use Rattle.jpg_spec.proofs.Common.{both, lt_of}
@@ -38,17 +38,22 @@ pub one_due : (c : Coding) (u : UnitLeft) (has_dc : Bool) → IsSound c → OneW
 one_due c u true s = one_way (c.dc u.component) (s.dc u.component)
 one_due c u false s = one_way (c.ac u.component) (s.ac u.component)
 
+pub decodes : (c : Coding) → IsSound c → Decodes c
+decodes c s = record { facts = facts; fits = (s.categories, s.runs); one = λ u. one_due c u u.has_dc s }
+
 -- THE LAWS
 pub spelled_once : (c : Coding) (units : List UnitLeft) (told told' : List ℤ) (bits cits x y : List Bool) → IsSound c
     → SpellsUnits c units told bits → SpellsUnits c units told' cits → bits ++ x ≡ cits ++ y → (told ≡ told') × (bits ≡ cits)
 spelled_once c units told told' bits cits x y s h k e =
-    let r = units_once c (at_start units) h.0 k.0 told told' bits cits x y h.1 k.1 facts (s.categories, s.runs) (λ u. one_due c u u.has_dc s) h.2 h.3 k.2 k.3 e in
+    let a : BeginsElements c (at_start units) h.0 (bits ++ x) = record { told = told; front = bits; rest = x; standing = h.1; cut = refl; covers = h.2 } in
+    let b : BeginsElements c (at_start units) k.0 (bits ++ x) = record { told = told'; front = cits; rest = y; standing = k.1; cut = e; covers = k.2 } in
+    let r = units_once c (at_start units) h.0 k.0 (bits ++ x) (decodes c s) a h.3 b k.3 in
     (r.1, r.2)
 
 pub fault_excludes : (c : Coding) (units : List UnitLeft) (fault : Fault) (told : List ℤ) (bits cits x y : List Bool) → IsSound c
     → DataReveals c units fault bits → SpellsUnits c units told cits → bits ++ x ≡ cits ++ y → ⊥
 fault_excludes c units fault told bits cits x y s d k e =
-    data_excludes c units fault bits cits x y told facts (s.categories, s.runs) (λ u. one_due c u u.has_dc s) d k e
+    data_excludes c units fault bits cits x y told (decodes c s) d k e
 
 pub packed_once : (c : Coding) (units : List UnitLeft) (told told' : List ℤ) (bits cits : List Bool) (coded : List ℕ) → IsSound c
     → Packs bits coded → SpellsUnits c units told bits → Packs cits coded → SpellsUnits c units told' cits → (told ≡ told') × (bits ≡ cits)

@@ -2,12 +2,12 @@
 -- (T.81, F.2.2).
 use Rattle.std.proofs.Common.{◌≡◌, ℕ, ◌+◌, ◌*◌, ◌<◌, ◌≤◌, Bool, false, List, [], ◌∷◌, ◌++◌, length, take, drop, refl, sym, ap, ◌∙◌, subst, arith, inl, inr, ◌⊎◌, ℤ, pos}
 use Rattle.std.proofs.lemmas.List.{append_assoc, append-nil, length-append}
-use Rattle.jpg_spec.specs.Elements.{Coding, UnitLeft, Standing, Element, difference, dc_bit, value, long_run, ends, Covers, Tells, at_start, going_on, old_values, predictions_after, corrected, scaled, zeros_in}
+use Rattle.jpg_spec.specs.Elements.{Coding, UnitLeft, Standing, Element, difference, dc_bit, value, long_run, ends, Covers, Tells, at_start, going_on, old_values, predictions_after, corrected, scaled}
 use Rattle.jpg_spec.specs.Parts.{PartOfElement, in_code, in_difference, in_number, in_count, in_value, in_long, in_ends, StandsInUnits}
 use Rattle.jpg_spec.specs.RowsTold.{TellsFirst}
 use Rattle.jpg_spec.proofs.Common.{heads}
 use Rattle.jpg_spec.proofs.PartsCounted.{stands_all}
-use Rattle.jpg_spec.proofs.Within.{EndsOne, ends_one, length_corrected, one_band}
+use Rattle.jpg_spec.proofs.Within.{EndsOne, ends_one, length_corrected, one_band, sixteen}
 
 -- AN ELEMENT skips first values of the unit
 record PassesSome (u : UnitLeft) (units left : List UnitLeft) (here : List ℤ) : Type 0 where
@@ -26,13 +26,6 @@ passes_some c p (long_run bits) u units here left one t =
     let l : length here ≡ length t.0 = ap length t.5 ∙ length_corrected c.al t.0 bits in
     let o = sixteen u.old t.0 t.1 t.3 in
     record { old = t.1; left_is = t.6; size = omega (arith, l, o) }
-  where
-    sixteen : (all passed old : List ℤ)
-        → (((front : List ℤ) × (all ≡ front ++ pos 0 ∷ old) × (zeros_in front ≡ 15) × (passed ≡ front ++ pos 0 ∷ []))
-        ⊎ ((all ≡ passed) × (zeros_in passed < 16) × (old ≡ [])))
-        → length all ≡ length passed + length old
-    sixteen all passed old (inl f) = omega (arith, ap length f.1, length-append f.0 (pos 0 ∷ old), ap length f.3, length-append f.0 (pos 0 ∷ []))
-    sixteen all passed old (inr f) = omega (arith, ap length f.0, ap length f.2)
 passes_some c p (ends bands bits) u units here left one t =
     let told : here ≡ corrected c.al (u.old ++ []) bits = t.5 ∙ ap (λ n. corrected c.al (old_values (take n (u ∷ units))) bits) one in
     let rest : left ≡ units = t.6 ∙ ap (λ n. drop n (u ∷ units)) one in
@@ -66,40 +59,40 @@ CutAt c s told bits t values units = (length t.left ≡ 1 + length units) ⊎ Pa
 abbrev after_first : (c : Coding) (s t : Standing) (x : Element) (es : List Element) (told : List ℤ) (bits : List Bool) → Covers c s (x ∷ es) told bits t → Standing
 after_first c s t x es told bits k = record { predictions = predictions_after s.predictions (k.0).component x; left = k.3 }
 
--- the unit ends with it
-one_passed : (c : Coding) (s t : Standing) (x : Element) (es : List Element) (told : List ℤ) (bits : List Bool) (values : ℕ) (units : List UnitLeft) → (k : Covers c s (x ∷ es) told bits t) → length k.2 ≡ values → length t.left ≡ length units → Passed c s told bits t values units
-one_passed c s t x es told bits values units k size left = record {
-  elements = x ∷ [];
-  whole = k.2;
-  rest = k.4;
-  front = k.5;
-  behind = k.6;
-  mid = after_first c s t x es told bits k;
-  covers = (k.0, k.1, k.2, k.3, [], k.5, [], k.7, sym (append-nil k.2), sym (append-nil k.5), k.10, k.11, k.12, (refl, refl, refl));
-  told_is = k.8;
-  bits_is = k.9;
-  more = 0;
-  size = omega (arith, size);
-  left = omega (arith, left);
-}
+module _ (c : Coding) (s t : Standing) (x : Element) (es : List Element) (told : List ℤ) (bits : List Bool) (k : Covers c s (x ∷ es) told bits t) where
+  -- the unit ends with it
+  one_passed : (values : ℕ) (units : List UnitLeft) → length k.2 ≡ values → length t.left ≡ length units → Passed c s told bits t values units
+  one_passed values units size left = record {
+    elements = x ∷ [];
+    whole = k.2;
+    rest = k.4;
+    front = k.5;
+    behind = k.6;
+    mid = after_first c s t x es told bits k;
+    covers = (k.0, k.1, k.2, k.3, [], k.5, [], k.7, sym (append-nil k.2), sym (append-nil k.5), k.10, k.11, k.12, (refl, refl, refl));
+    told_is = k.8;
+    bits_is = k.9;
+    more = 0;
+    size = omega (arith, size);
+    left = omega (arith, left);
+  }
 
--- and other ones are passed after it
-more_passed : (c : Coding) (s t : Standing) (x : Element) (es : List Element) (told : List ℤ) (bits : List Bool) (values here more : ℕ) (units others : List UnitLeft) → (k : Covers c s (x ∷ es) told bits t)
-    → Passed c (after_first c s t x es told bits k) k.4 k.6 t here others → length k.2 + here ≡ values + 64 * more → length others + more ≡ length units → Passed c s told bits t values units
-more_passed c s t x es told bits values here more units others k q size left = record {
-  elements = x ∷ q.elements;
-  whole = k.2 ++ q.whole;
-  rest = q.rest;
-  front = k.5 ++ q.front;
-  behind = q.behind;
-  mid = q.mid;
-  covers = (k.0, k.1, k.2, k.3, q.whole, k.5, q.front, k.7, refl, refl, k.10, k.11, k.12, q.covers);
-  told_is = k.8 ∙ ap (λ l. k.2 ++ l) q.told_is ∙ sym (append_assoc k.2 q.whole q.rest);
-  bits_is = k.9 ∙ ap (λ l. k.5 ++ l) q.bits_is ∙ sym (append_assoc k.5 q.front q.behind);
-  more = q.more + more;
-  size = omega (arith, length-append k.2 q.whole, q.size, size);
-  left = omega (arith, q.left, left);
-}
+  -- and other ones are passed after it
+  more_passed : (values here more : ℕ) (units others : List UnitLeft) → Passed c (after_first c s t x es told bits k) k.4 k.6 t here others → length k.2 + here ≡ values + 64 * more → length others + more ≡ length units → Passed c s told bits t values units
+  more_passed values here more units others q size left = record {
+    elements = x ∷ q.elements;
+    whole = k.2 ++ q.whole;
+    rest = q.rest;
+    front = k.5 ++ q.front;
+    behind = q.behind;
+    mid = q.mid;
+    covers = (k.0, k.1, k.2, k.3, q.whole, k.5, q.front, k.7, refl, refl, k.10, k.11, k.12, q.covers);
+    told_is = k.8 ∙ ap (λ l. k.2 ++ l) q.told_is ∙ sym (append_assoc k.2 q.whole q.rest);
+    bits_is = k.9 ∙ ap (λ l. k.5 ++ l) q.bits_is ∙ sym (append_assoc k.5 q.front q.behind);
+    more = q.more + more;
+    size = omega (arith, length-append k.2 q.whole, q.size, size);
+    left = omega (arith, q.left, left);
+  }
 
 -- no element follows if no unit is left
 none_after : (c : Coding) (s t : Standing) (es : List Element) (told : List ℤ) (bits : List Bool) → s.left ≡ [] → Covers c s es told bits t → t.left ≡ []
@@ -139,15 +132,15 @@ cut_at c (x ∷ es) s t told bits u units run w e k =
 
         later_one : (length t.left ≡ 1 + length us) ⊎ Passed c (after_first c s t x es told bits k) k.4 k.6 t (length (o ∷ old)) us → Result us
         later_one (inl l) = inl l
-        later_one (inr q) = inr (more_passed c s t x es told bits (length u.old) (length (o ∷ old)) 0 us us k q (omega (arith, size)) (omega arith))
+        later_one (inr q) = inr (more_passed c s t x es told bits k (length u.old) (length (o ∷ old)) 0 us us q (omega (arith, size)) (omega arith))
     by [] z g [] left size later =
         let none : k.3 ≡ [] = left ∙ sym g.1 in
-        inr (one_passed c s t x es told bits (length u.old) [] k (omega (arith, size)) (ap length (none_after c (after_first c s t x es told bits k) t es k.4 k.6 none k.13)))
+        inr (one_passed c s t x es told bits k (length u.old) [] (omega (arith, size)) (ap length (none_after c (after_first c s t x es told bits k) t es k.4 k.6 none k.13)))
     by (v ∷ vs) z g [] left size later = next_one (later v vs z.1 (left ∙ sym g.1))
       where
         next_one : (length t.left ≡ 1 + length vs) ⊎ Passed c (after_first c s t x es told bits k) k.4 k.6 t (length v.old) vs → Result (v ∷ vs)
-        next_one (inl l) = inr (one_passed c s t x es told bits (length u.old) (v ∷ vs) k (omega (arith, size)) (omega (arith, l)))
-        next_one (inr q) = inr (more_passed c s t x es told bits (length u.old) (length v.old) 1 (v ∷ vs) vs k q (omega (arith, size, z.0)) (omega arith))
+        next_one (inl l) = inr (one_passed c s t x es told bits k (length u.old) (v ∷ vs) (omega (arith, size)) (omega (arith, l)))
+        next_one (inr q) = inr (more_passed c s t x es told bits k (length u.old) (length v.old) 1 (v ∷ vs) vs q (omega (arith, size, z.0)) (omega arith))
 
 -- A PART OF ONE MORE leaves as many units
 part_left : (c : Coding) (s : Standing) (u : UnitLeft) (others : List UnitLeft) (here : List ℤ) (bits : List Bool) → c.most_run ≡ 0 → PartOfElement c s u others here bits → length s.left ≡ 1 + length others

@@ -62,11 +62,14 @@ one_band bands h k =
 
 -- an EOB ends one band
 abbrev pub EndsOne : Element → Type 0
-EndsOne (difference d) = Unit {0}
-EndsOne (dc_bit b) = Unit {0}
-EndsOne (value run v bits) = Unit {0}
-EndsOne (long_run bits) = Unit {0}
 EndsOne (ends bands bits) = bands ≡ 1
+EndsOne e = Unit {0}
+
+-- a long run splits what is left
+pub sixteen : (all passed old : List ℤ) → (((front : List ℤ) × (all ≡ front ++ pos 0 ∷ old) × (zeros_in front ≡ 15) × (passed ≡ front ++ pos 0 ∷ [])) ⊎ ((all ≡ passed) × (zeros_in passed < 16) × (old ≡ [])))
+    → length all ≡ length passed + length old
+sixteen all passed old (inl f) = omega (arith, ap length f.1, length-append f.0 (pos 0 ∷ old), ap length f.3, length-append f.0 (pos 0 ∷ []))
+sixteen all passed old (inr f) = omega (arith, ap length f.0, ap length f.2)
 
 -- an element preserves this
 pub step : (c : Coding) (p : ℤ) (e : Element) (u : UnitLeft) (units : List UnitLeft) (here : List ℤ) (left : List UnitLeft) (more : List ℤ) → EndsOne e
@@ -83,13 +86,6 @@ step c p (long_run bits) u units here left more run t ok w =
     let l : length here ≡ length t.0 = ap length t.5 ∙ length_corrected c.al t.0 bits in
     let o = sixteen u.old t.0 t.1 t.3 in
     going c u t.1 units here more (omega (arith, l, o)) (joins_rest c u.has_dc here t.2 ok) (subst (λ l. AreWithin c l more) t.6 w)
-  where
-    sixteen : (all passed old : List ℤ)
-        → (((front : List ℤ) × (all ≡ front ++ pos 0 ∷ old) × (zeros_in front ≡ 15) × (passed ≡ front ++ pos 0 ∷ []))
-        ⊎ ((all ≡ passed) × (zeros_in passed < 16) × (old ≡ [])))
-        → length all ≡ length passed + length old
-    sixteen all passed old (inl f) = omega (arith, ap length f.1, length-append f.0 (pos 0 ∷ old), ap length f.3, length-append f.0 (pos 0 ∷ []))
-    sixteen all passed old (inr f) = omega (arith, ap length f.0, ap length f.2)
 step c p (ends bands bits) u units here left more run t ok w =
     let one : bands ≡ 1 = run in
     let told : here ≡ corrected c.al (u.old ++ []) bits = t.5 ∙ ap (λ n. corrected c.al (old_values (take n (u ∷ units))) bits) one in
@@ -98,11 +94,8 @@ step c p (ends bands bits) u units here left more run t ok w =
     (here, more, refl, l, ok, subst (λ l. AreWithin c l more) rest w)
 
 pub ends_one : (c : Coding) (p : ℤ) (e : Element) (u : UnitLeft) (units : List UnitLeft) (here : List ℤ) (left : List UnitLeft) → c.most_run ≡ 0 → Tells c p e u units here left → EndsOne e
-ends_one c p (difference d) u units here left run t = tt
-ends_one c p (dc_bit b) u units here left run t = tt
-ends_one c p (value run' v bits) u units here left run t = tt
-ends_one c p (long_run bits) u units here left run t = tt
 ends_one c p (ends bands bits) u units here left run t = one_band bands t.1 (omega (arith, t.2, run))
+ends_one c p e u units here left run t = tt
 
 -- MIRRORED BLOCKS
 

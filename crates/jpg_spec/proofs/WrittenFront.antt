@@ -5,21 +5,18 @@ use Rattle.std.specs.Prelude.{◌||◌, nat_lt, nat_le, Ok, is_none}
 use Rattle.std.specs.List.{All}
 use Rattle.std.proofs.lemmas.Bool.Decides.{nat_tests}
 use Rattle.std.proofs.lemmas.List.Elements.{All-nil, All-cons}
-use Rattle.jpg_spec.specs.Lists.{any_of, is_distinct}
-use Rattle.jpg_spec.specs.Faults.{Told, refuse}
+use Rattle.jpg_spec.specs.Lists.{any_of}
 use Rattle.jpg_spec.specs.Geometry.{Frame, padded_blocks}
-use Rattle.jpg_spec.specs.FrameHeader.{IsFrame, AreLimits, has_bad_factor, has_bad_slot, identifiers, checked_frame}
+use Rattle.jpg_spec.specs.FrameHeader.{IsFrame, AreLimits, has_bad_slot, checked_frame}
 use Rattle.jpg_spec.specs.Segments.{standard_limits}
 use Rattle.jpg_spec.specs.Markers.{Segment, Pass, code_fault_if, is_frame_code, is_within, kept_count}
 use Rattle.jpg_spec.specs.Header.{header_rule}
-use Rattle.jpg_spec.specs.declared.fault.Fault.TheVariants.{EmptyImage, TooLarge, Precision, ComponentCount, Sampling, DuplicateComponent, QuantSlot, TooManyBlocks}
 use Rattle.jpg_spec.specs.declared.frame.Component.{Component}
 use Rattle.jpg_spec.specs.declared.frame.Limits.{Limits}
 use Rattle.jpg_spec.proofs.Full.{passed}
 use Rattle.jpg_spec.proofs.KeptMarkers.{IsPassedOn, ArePassedOn, passes_more, kept_alone, may_keep}
-use Rattle.jpg_spec.proofs.TablesInForce.{affirmed}
-use Rattle.jpg_spec.proofs.Common.{both, negated, le_of, not_lt_of, same_of, neither, refused}
-use Rattle.jpg_spec.proofs.FrameFound.{all_factors}
+use Rattle.jpg_spec.proofs.Common.{both, negated, le_of, not_lt_of, same_of, neither}
+use Rattle.jpg_spec.proofs.FrameFound.{all_factors, checks}
 
 -- THE FRAME passes its checks
 
@@ -31,42 +28,27 @@ pub standard_are_limits : AreLimits standard_limits
 standard_are_limits = record { side = omega arith; blocks = omega arith; kept = omega arith; input = omega arith; some = omega arith }
 
 pub frame_is : (limits : Limits) (f g : Frame) → AreLimits limits → checked_frame limits f ≡ Ok g → IsFrame f
-unfolding checked_frame
 frame_is limits f g limited e =
-    let many : Told Frame = refuse TooManyBlocks (nat_lt limits.blocks (padded_blocks f)) (Ok f) in
-    let slots = refuse QuantSlot (any_of has_bad_slot f.components) many in
-    let twice = refuse DuplicateComponent (not (is_distinct (identifiers f.components))) slots in
-    let factors = refuse Sampling (any_of has_bad_factor f.components) twice in
-    let count = refuse ComponentCount (length f.components == 0 || nat_lt 4 (length f.components)) factors in
-    let precision = refuse Precision (not (f.precision == 8)) count in
-    let sides = refuse TooLarge (nat_lt limits.side f.width || nat_lt limits.side f.height) precision in
-    let a = refused EmptyImage (f.width == 0 || f.height == 0) sides g e in
-    let b = refused TooLarge (nat_lt limits.side f.width || nat_lt limits.side f.height) precision g a.1 in
-    let k = refused Precision (not (f.precision == 8)) count g b.1 in
-    let m = refused ComponentCount (length f.components == 0 || nat_lt 4 (length f.components)) factors g k.1 in
-    let n = refused Sampling (any_of has_bad_factor f.components) twice g m.1 in
-    let o = refused DuplicateComponent (not (is_distinct (identifiers f.components))) slots g n.1 in
-    let p = refused QuantSlot (any_of has_bad_slot f.components) many g o.1 in
-    let q = refused TooManyBlocks (nat_lt limits.blocks (padded_blocks f)) (Ok f) g p.1 in
-    let empty = neither (f.width == 0) (f.height == 0) a.0 in
-    let large = neither (nat_lt limits.side f.width) (nat_lt limits.side f.height) b.0 in
-    let none = neither (length f.components == 0) (nat_lt 4 (length f.components)) m.0 in
+    let is = (checks limits f g e).0 in
+    let empty = neither (f.width == 0) (f.height == 0) is.some in
+    let large = neither (nat_lt limits.side f.width) (nat_lt limits.side f.height) is.sides in
+    let none = neither (length f.components == 0) (nat_lt 4 (length f.components)) is.count in
     let s = limited.side in
     let t = limited.blocks in
     let w = not_lt_of limits.side f.width large.0 in
     let h = not_lt_of limits.side f.height large.1 in
-    let z = not_lt_of limits.blocks (padded_blocks f) q.0 in
+    let z = not_lt_of limits.blocks (padded_blocks f) is.blocks in
     record {
       width_low = some f.width empty.0;
       width_high = omega (arith, s, w);
       height_low = some f.height empty.1;
       height_high = omega (arith, s, h);
-      precision = same_of f.precision 8 (affirmed (f.precision == 8) k.0);
+      precision = is.precision;
       count_low = some (length f.components) none.0;
       count_high = not_lt_of 4 (length f.components) none.1;
-      factors = all_factors f.components n.0;
-      distinct = affirmed (is_distinct (identifiers f.components)) o.0;
-      slots = all_slots f.components p.0;
+      factors = all_factors f.components is.factors;
+      distinct = is.distinct;
+      slots = all_slots f.components is.slots;
       blocks = omega (arith, t, z);
     }
   where
@@ -93,7 +75,7 @@ marker_plain code e = by (code == 0xfe) refl e
         let z : 0xe0 + (code - 0xe0) ≡ code = omega (arith, low) in
         ap is_plain_code (sym z) ∙ passed 16 (λ n. is_plain_code (0xe0 + n)) refl (code - 0xe0) (omega (arith, high, low))
 
-no_fault : {X : Type 0} (o : Option X) → is_none o ≡ true → o ≡ None
+pub no_fault : {X : Type 0} (o : Option X) → is_none o ≡ true → o ≡ None
 no_fault None e = refl
 no_fault (Some x) e = cc
 

@@ -116,29 +116,30 @@ rounded_column x h =
     let u : int_shr (x +ℤ pos 16384) 15 ≤ℤ pos 8160 = rounded_high x 8160 (omega (arith, ints, h)) in
     omega (arith, ints, l, u)
 
-column_of : (lo : ℤ) (m n : ℕ) (d0 d1 d2 d3 d4 d5 d6 d7 : ℤ) → neg_ℤ (pos m) ≤ℤ (lo *ℤ pos 2) → ((lo +ℤ pos 8160) *ℤ pos 2) ≤ℤ pos n → LineIn lo 8160 d0 d1 d2 d3 d4 d5 d6 d7
-    → ColumnIn m n (map (λ f. int_shr (f +ℤ pos 16384) 15) (line_frequencies d0 d1 d2 d3 d4 d5 d6 d7))
-unfolding woven
-column_of lo m n d0 d1 d2 d3 d4 d5 d6 d7 hm hn line =
-    let b = line_below lo 8160 d0 d1 d2 d3 d4 d5 d6 d7 line in
-    let s : ℤ = sum_of d0 d1 d2 d3 d4 d5 d6 d7 in
-    let f : List ℤ = line_frequencies d0 d1 d2 d3 d4 d5 d6 d7 in
-    let e : number_at f 0 ≡ s *ℤ pos 8192 = first_is d0 d1 d2 d3 d4 d5 d6 d7 in
-    let l : (lo *ℤ pos 8) ≤ℤ s = sum_low lo 8160 d0 d1 d2 d3 d4 d5 d6 d7 line in
-    let h : s ≤ℤ ((lo +ℤ pos 8160) *ℤ pos 8) = sum_high lo 8160 d0 d1 d2 d3 d4 d5 d6 d7 line in
-    let low : neg_ℤ (pos (32768 * m)) ≤ℤ (s *ℤ pos 8192) = omega (arith, ints, l, hm) in
-    let high : (s *ℤ pos 8192) ≤ℤ pos (32768 * n) = omega (arith, ints, h, hn) in
-    record {
-      low = rounded_low (number_at f 0) m (subst (λ x. neg_ℤ (pos (32768 * m)) ≤ℤ x) (sym e) low);
-      high = rounded_high (number_at f 0) n (subst (λ x. x ≤ℤ pos (32768 * n)) (sym e) high);
-      at1 = rounded_column (number_at f 1) b.at1;
-      at2 = rounded_column (number_at f 2) b.at2;
-      at3 = rounded_column (number_at f 3) b.at3;
-      at4 = rounded_column (number_at f 4) b.at4;
-      at5 = rounded_column (number_at f 5) b.at5;
-      at6 = rounded_column (number_at f 6) b.at6;
-      at7 = rounded_column (number_at f 7) b.at7;
-    }
+module _ (d0 d1 d2 d3 d4 d5 d6 d7 : ℤ) where
+  column_of : (lo : ℤ) (m n : ℕ) → neg_ℤ (pos m) ≤ℤ (lo *ℤ pos 2) → ((lo +ℤ pos 8160) *ℤ pos 2) ≤ℤ pos n → LineIn lo 8160 d0 d1 d2 d3 d4 d5 d6 d7
+      → ColumnIn m n (map (λ f. int_shr (f +ℤ pos 16384) 15) (line_frequencies d0 d1 d2 d3 d4 d5 d6 d7))
+  unfolding woven
+  column_of lo m n hm hn line =
+      let b = line_below lo 8160 d0 d1 d2 d3 d4 d5 d6 d7 line in
+      let s : ℤ = sum_of d0 d1 d2 d3 d4 d5 d6 d7 in
+      let f : List ℤ = line_frequencies d0 d1 d2 d3 d4 d5 d6 d7 in
+      let e : number_at f 0 ≡ s *ℤ pos 8192 = first_is d0 d1 d2 d3 d4 d5 d6 d7 in
+      let l : (lo *ℤ pos 8) ≤ℤ s = sum_low lo 8160 d0 d1 d2 d3 d4 d5 d6 d7 line in
+      let h : s ≤ℤ ((lo +ℤ pos 8160) *ℤ pos 8) = sum_high lo 8160 d0 d1 d2 d3 d4 d5 d6 d7 line in
+      let low : neg_ℤ (pos (32768 * m)) ≤ℤ (s *ℤ pos 8192) = omega (arith, ints, l, hm) in
+      let high : (s *ℤ pos 8192) ≤ℤ pos (32768 * n) = omega (arith, ints, h, hn) in
+      record {
+        low = rounded_low (number_at f 0) m (subst (λ x. neg_ℤ (pos (32768 * m)) ≤ℤ x) (sym e) low);
+        high = rounded_high (number_at f 0) n (subst (λ x. x ≤ℤ pos (32768 * n)) (sym e) high);
+        at1 = rounded_column (number_at f 1) b.at1;
+        at2 = rounded_column (number_at f 2) b.at2;
+        at3 = rounded_column (number_at f 3) b.at3;
+        at4 = rounded_column (number_at f 4) b.at4;
+        at5 = rounded_column (number_at f 5) b.at5;
+        at6 = rounded_column (number_at f 6) b.at6;
+        at7 = rounded_column (number_at f 7) b.at7;
+      }
 
 -- number u of a row, except the first
 pub behind_first : (row : List ℤ) (u : ℕ) → RowIn row → 1 ≤ u → u < 8 → InWidth (neg_ℤ (pos 4080)) 8160 (number_at row u)
@@ -155,7 +156,7 @@ behind_first row (suc (suc (suc (suc (suc (suc (suc (suc u)))))))) h some few = 
 pub first_column : (samples : List ℕ) → All (λ s. s < 256) samples → ColumnIn 8192 8128 (frequency_column (frequency_rows samples) 0)
 unfolding frequency_column
 first_column samples all =
-    column_of (neg_ℤ (pos 4096)) 8192 8128 _ _ _ _ _ _ _ _ (omega (arith, ints)) (omega (arith, ints))
+    column_of _ _ _ _ _ _ _ _ (neg_ℤ (pos 4096)) 8192 8128 (omega (arith, ints)) (omega (arith, ints))
     (record {
       at0 = (row_in samples 0 all).at0;
       at1 = (row_in samples 1 all).at0;
@@ -170,7 +171,7 @@ first_column samples all =
 pub other_column : (samples : List ℕ) (u : ℕ) → All (λ s. s < 256) samples → 1 ≤ u → u < 8 → ColumnIn 8160 8160 (frequency_column (frequency_rows samples) u)
 unfolding frequency_column
 other_column samples u all some few =
-    column_of (neg_ℤ (pos 4080)) 8160 8160 _ _ _ _ _ _ _ _ (omega (arith, ints)) (omega (arith, ints))
+    column_of _ _ _ _ _ _ _ _ (neg_ℤ (pos 4080)) 8160 8160 (omega (arith, ints)) (omega (arith, ints))
     (record {
       at0 = behind_first _ u (row_in samples 0 all) some few;
       at1 = behind_first _ u (row_in samples 1 all) some few;

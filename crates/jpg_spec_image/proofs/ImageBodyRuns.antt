@@ -4,7 +4,6 @@ use Rattle.std.specs.Prelude.{◌||◌, nat_lt, nat_le}
 use Rattle.std.proofs.lemmas.Bool.Decides.{nat_tests}
 use Rattle.std.proofs.lemmas.List.{append_assoc, append-nil, length-append}
 use Rattle.std.proofs.Math.Seq.{take-append_seam}
-use Rattle.std.proofs.lemmas.Nat.{rows}
 use Rattle.jpg_spec.specs.Lists.{begins_with}
 use Rattle.jpg_spec.proofs.Common.{both, neither, or_right, le_of, not_lt_of, negated, lt_yes, lt_no, same_of}
 use Rattle.jpg_spec_image.specs.Images.{Image, sample_count, is_wrong, are_right, is_side, are_few_pixels}
@@ -18,6 +17,7 @@ use Rattle.jpg_spec.specs.declared.fault.Fault.{Fault}
 use Rattle.jpg_spec.specs.declared.fault.Fault.TheVariants.{ImageHeader, ImageUnsupported, ImageValue}
 use Rattle.jpg_spec_image.specs.declared.image.ImageKind.{ImageKind}
 use Rattle.jpg_spec_image.specs.declared.image.ImageKind.TheVariants.{Gray, Rgb}
+use Rattle.jpg_spec.proofs.PlacesSome.{product_some}
 
 -- A BODY, byte by byte
 
@@ -84,14 +84,8 @@ side_some : (n : ℕ) → is_side n ≡ true → 1 ≤ n
 side_some n e = le_of 1 n (both (nat_le 1 n) (nat_le n 65500) e).0
 
 row_some : (k : ImageKind) (w h : ℕ) → 1 ≤ w → 1 ≤ h → 1 ≤ sample_count (record { width = w; height = h; kind = k; x_metre = 0; y_metre = 0 })
-row_some Gray w h a b = product h w b a
-  where
-    product : (x y : ℕ) → 1 ≤ x → 1 ≤ y → 1 ≤ x * y
-    product x y p q = grind (arith, rows)
-row_some Rgb w h a b = product h (3 * w) b (omega (arith, a))
-  where
-    product : (x y : ℕ) → 1 ≤ x → 1 ≤ y → 1 ≤ x * y
-    product x y p q = grind (arith, rows)
+row_some Gray w h a b = product_some h w b a
+row_some Rgb w h a b = product_some h (3 * w) b (omega (arith, a))
 
 width_some : (n : ℕ) → number_fault [] n ≡ None → 1 ≤ n
 width_some n e = by (is_side n) refl e

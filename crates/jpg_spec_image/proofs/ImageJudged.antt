@@ -10,7 +10,7 @@ use Rattle.jpg_spec.proofs.Common.{both, take_shorter}
 use Rattle.jpg_spec_image.specs.Images.{Image}
 use Rattle.jpg_spec_image.specs.PnmText.{is_plain, is_number_due, number_fault, greatest_sample, AfterNumber}
 use Rattle.jpg_spec_image.specs.ImageFaults.{IsWholeImage, ShowsImageFault, EndShows, EndIsWhole, IsOpenImage, IsImage, IsEndFault, IsImageFault}
-use Rattle.jpg_spec_image.specs.ImageSteps.{ImageState, at_start, behind_first, in_gap, in_number, in_bmp_head, in_bmp_front, in_body, whole, failed, past, capped, plain_image, step, run, state_end, ended_by}
+use Rattle.jpg_spec_image.specs.ImageSteps.{ImageState, at_start, in_number, whole, failed, past, capped, plain_image, step, run, state_end, ended_by}
 use Rattle.jpg_spec_image.specs.ImageReading.{StandsForImage}
 use Rattle.jpg_spec_image.proofs.ImageRuns.{run_join, capped_fault, right_small}
 use Rattle.jpg_spec_image.proofs.ImageTextRuns.{greatest_byte, number_run}
@@ -99,16 +99,10 @@ is_least bytes fault n h s =
 
 -- no byte completed the image or revealed a fault
 abbrev pub IsLive : ImageState → Type 0
-IsLive at_start = Unit {0}
-IsLive (behind_first first) = Unit {0}
-IsLive (in_gap format numbers some commented) = Unit {0}
-IsLive (in_number format numbers n) = Unit {0}
-IsLive (in_bmp_head head) = Unit {0}
-IsLive (in_bmp_front head palette passed) = Unit {0}
-IsLive (in_body head body) = Unit {0}
 IsLive (whole image) = ⊥
 IsLive (failed fault) = ⊥
 IsLive past = ⊥
+IsLive s = Unit {0}
 
 live_no_stop : (s : ImageState) → IsLive s → IsStop s → ⊥
 live_no_stop s l (at_image image) = l
@@ -264,16 +258,11 @@ number_end bytes format numbers m r = by_fault (number_fault numbers m) refl (ca
         (subst (λ k. EndAnswer bytes (ended_by format numbers k None)) (sym (right_small numbers m byte e)) (by_plain (is_plain format && not (is_number_due format (numbers ++ m ∷ []))) refl e))
 
 end_by : (bytes : List ℕ) (s : ImageState) → run at_start bytes ≡ s → IsLive s → StandsForImage bytes s → EndAnswer bytes (state_end s)
-end_by bytes at_start e l h = short_end bytes at_start e (λ f n k g. cc)
-end_by bytes (behind_first first) e l h = short_end bytes (behind_first first) e (λ f n k g. cc)
-end_by bytes (in_gap format numbers some commented) e l h = short_end bytes (in_gap format numbers some commented) e (λ f n k g. cc)
 end_by bytes (in_number format numbers n) e l (m, r, c) = subst (λ k. EndAnswer bytes (state_end (in_number format numbers k))) (sym c) (number_end bytes format numbers m r)
-end_by bytes (in_bmp_head head) e l h = short_end bytes (in_bmp_head head) e (λ f n k g. cc)
-end_by bytes (in_bmp_front head palette passed) e l h = short_end bytes (in_bmp_front head palette passed) e (λ f n k g. cc)
-end_by bytes (in_body head body) e l h = short_end bytes (in_body head body) e (λ f n k g. cc)
 end_by bytes (whole image) e l h = absurd l
 end_by bytes (failed fault) e l h = absurd l
 end_by bytes past e l h = absurd l
+end_by bytes s e l h = short_end bytes s e (λ f n k g. cc)
 
 pub end_told : (bytes : List ℕ) (s : ImageState) → run at_start bytes ≡ s → IsLive s → EndAnswer bytes (state_end s)
 end_told bytes s e l = end_by bytes s e l (subst (StandsForImage bytes) e (stands bytes))

@@ -6,7 +6,7 @@ use Rattle.std.proofs.lemmas.List.Concat.{flat_map-append}
 use Rattle.std.proofs.Math.Seq.{take-append_seam}
 use Rattle.jpg_spec.specs.Lists.{all_of, is_empty, begins_with}
 use Rattle.jpg_spec.specs.NumberTexts.{is_digit, digits_from, in_comment, without_comments, NumberWord, number_text}
-use Rattle.jpg_spec.proofs.Common.{both, neither, and_intro, le_of, lt_of, not_lt_of, lt_yes, same_of}
+use Rattle.jpg_spec.proofs.Common.{both, neither, and_intro, le_of, lt_of, not_lt_of, lt_yes, same_of, or_alone}
 use Rattle.jpg_spec_image.specs.Images.{Image, Body, sample_count, is_wrong, are_right}
 use Rattle.jpg_spec_image.specs.PnmText.{is_plain, is_raw, is_read, is_left_out, is_pnm_space, begins_gap, ends_in_comment, is_gap_so_far, is_gap, is_number_word, number_told, pnm_info, greatest_sample, is_number_due, number_fault, may_follow, ended_fault, are_right_numbers, AfterNumbers, AfterNumber, AfterLast}
 use Rattle.jpg_spec_image.specs.BmpFile.{bmp_fault, palette_bytes, bmp_offset, IsBmpHead}
@@ -18,17 +18,7 @@ use Rattle.jpg_spec_image.proofs.ImageTextRuns.{greatest_byte, ended_capped}
 use Rattle.jpg_spec_image.proofs.ImageBodyRuns.{count, bmp_sides, some_count, palette_of, front_so_far, front_step}
 use Rattle.jpg_spec.specs.declared.fault.Fault.{Fault}
 use Rattle.jpg_spec.specs.declared.fault.Fault.TheVariants.{ImageText, ImageUnsupported, ImageValue}
-
--- LISTS
-
-all_join : {A : Type 0} (t : A → Bool) (a b : List A) → all_of t a ≡ true → all_of t b ≡ true → all_of t (a ++ b) ≡ true
-all_join t [] b e f = f
-all_join t (x ∷ a) b e f =
-    let s = both (t x) (all_of t a) e in
-    and_intro (t x) (all_of t (a ++ b)) s.0 (all_join t a b s.1 f)
-
-one_of : {A : Type 0} (t : A → Bool) (x : A) → t x ≡ true → all_of t (x ∷ []) ≡ true
-one_of t x e = and_intro (t x) true e refl
+use Rattle.jpg_spec.proofs.TextRuns.{all_join, one_of, digits_more}
 
 not_empty : (xs : List ℕ) (b : ℕ) → is_empty (xs ++ b ∷ []) ≡ false
 not_empty [] b = refl
@@ -65,11 +55,7 @@ space_yet false b e = by (b == 35) e
   where
     by : (v : Bool) → (is_pnm_space b || v) ≡ true → is_pnm_space (cond v 32 b) ≡ true
     by true e = refl
-    by false e = left (is_pnm_space b) e
-      where
-        left : (w : Bool) → (w || false) ≡ true → w ≡ true
-        left true e = refl
-        left false e = e
+    by false e = or_alone (is_pnm_space b) e
 
 gap_more : (gap : List ℕ) (commented : Bool) (b : ℕ) → is_gap_so_far gap ≡ true → ends_in_comment false gap ≡ commented → (commented || begins_gap b) ≡ true → is_gap_so_far (gap ++ b ∷ []) ≡ true
 gap_more gap commented b s c e =
@@ -101,10 +87,6 @@ byte_after bytes format numbers n b r = record {
   formed = r.formed;
   told = r.told;
 }
-
-digits_more : (v : ℕ) (ds : List ℕ) (b : ℕ) → digits_from v (ds ++ b ∷ []) ≡ 10 * digits_from v ds + (b - 48)
-digits_more v [] b = refl
-digits_more v (d ∷ ds) b = digits_more (10 * v + (d - 48)) ds b
 
 digit_more : (bytes : List ℕ) (format : ℕ) (numbers : List ℕ) (n b : ℕ) → AfterNumber bytes format numbers n [] → is_digit b ≡ true → AfterNumber (bytes ++ b ∷ []) format numbers (10 * n + (b - 48)) []
 digit_more bytes format numbers n b r d =

@@ -13,6 +13,7 @@ use Rattle.jpg_spec_image.specs.ImageSteps.{at_start, behind_first, in_gap, in_n
 use Rattle.jpg_spec_image.proofs.ImageRuns.{run_join, gap_no_digit, in_gap_yet, some_gap_run, word_run, capped_fault, right_small}
 use Rattle.jpg_spec.specs.declared.fault.Fault.{Fault}
 use Rattle.jpg_spec.specs.declared.fault.Fault.TheVariants.{ImageText, ImageHeader, ImageUnsupported}
+use Rattle.jpg_spec.proofs.WrittenFront.{no_fault}
 
 -- THE GREATEST SAMPLE of right numbers is a byte
 
@@ -27,10 +28,6 @@ greatest_more (w ∷ g ∷ []) n h e = by (n == 0) (nat_lt 255 n) refl e
     by false false p e = not_lt_of 255 n p
 greatest_more (w ∷ g ∷ m ∷ before) n h e = h
 
-none_of : {X : Type 0} (o : Option X) → is_none o ≡ true → o ≡ None
-none_of None e = refl
-none_of (Some x) e = cc
-
 pub record RightNumber (format : ℕ) (before : List ℕ) (n : ℕ) (numbers : List ℕ) : Type 0 where
   pub due : is_number_due format before ≡ true
   pub right : number_fault before n ≡ None
@@ -40,7 +37,7 @@ pub first_right : (format : ℕ) (before : List ℕ) (n : ℕ) (numbers : List �
 first_right format before n numbers e =
     let s = both (is_number_due format before && is_none (number_fault before n)) (are_right_numbers format (before ++ n ∷ []) numbers) e in
     let t = both (is_number_due format before) (is_none (number_fault before n)) s.0 in
-    record { due = t.0; right = none_of (number_fault before n) t.1; others = s.1 }
+    record { due = t.0; right = no_fault (number_fault before n) t.1; others = s.1 }
 
 greatest_right : (format : ℕ) (before numbers : List ℕ) → greatest_sample before ≤ 255 → are_right_numbers format before numbers ≡ true → greatest_sample (before ++ numbers) ≤ 255
 greatest_right format before [] h e = subst (λ x. greatest_sample x ≤ 255) (sym (append-nil before)) h

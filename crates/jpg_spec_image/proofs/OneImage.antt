@@ -7,7 +7,7 @@ use Rattle.std.proofs.Math.Seq.{take-append_seam}
 use Rattle.jpg_spec.proofs.Common.{take_shorter}
 use Rattle.jpg_spec_image.specs.Images.{Image}
 use Rattle.jpg_spec_image.specs.ImageFaults.{IsWholeImage, ShowsImageFault, EndIsWhole, IsOpenImage, IsImage, IsEndFault, IsImageFault}
-use Rattle.jpg_spec_image.specs.ImageSteps.{ImageState, at_start, behind_first, in_gap, in_number, in_bmp_head, in_bmp_front, in_body, whole, failed, past, run, state_end}
+use Rattle.jpg_spec_image.specs.ImageSteps.{ImageState, at_start, whole, failed, past, run, state_end}
 use Rattle.jpg_spec_image.specs.ImageReading.{StandsForImage, IsPast}
 use Rattle.jpg_spec_image.specs.ImageLaws.{HasImage, HasFault, ImageAnswer, to_image, to_fault, HasImageAnswer}
 use Rattle.jpg_spec_image.proofs.ImageBodyRuns.{whole_run, shows_run}
@@ -114,16 +114,10 @@ past_front limits bytes n h l (m, less, s) =
     (subst (λ front. ((image : Image) × IsWholeImage front image) ⊎ ((fault : Fault) × ShowsImageFault fault front)) (take_shorter m n bytes (omega (arith, less, long))) s)
 
 front_told : (limits : Limits) (bytes : List ℕ) (n : ℕ) (s : ImageState) → n ≤ length bytes → n ≤ limits.input → StandsForImage (take n bytes) s → (IsLive s → HasImage limits bytes ⊎ HasFault limits bytes) → HasImage limits bytes ⊎ HasFault limits bytes
-front_told limits bytes n at_start h l t live = live tt
-front_told limits bytes n (behind_first first) h l t live = live tt
-front_told limits bytes n (in_gap format numbers some commented) h l t live = live tt
-front_told limits bytes n (in_number format numbers k) h l t live = live tt
-front_told limits bytes n (in_bmp_head head) h l t live = live tt
-front_told limits bytes n (in_bmp_front head palette passed) h l t live = live tt
-front_told limits bytes n (in_body head body) h l t live = live tt
 front_told limits bytes n (whole image) h l t live = stopped_front limits bytes n h l (inl (image, t))
 front_told limits bytes n (failed fault) h l t live = stopped_front limits bytes n h l (inr (fault, t))
 front_told limits bytes n past h l t live = past_front limits bytes n h l t
+front_told limits bytes n s h l t live = live tt
 
 pub one_of_two : (limits : Limits) (bytes : List ℕ) → HasImage limits bytes ⊎ HasFault limits bytes
 one_of_two limits bytes =

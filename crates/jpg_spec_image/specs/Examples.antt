@@ -1,7 +1,6 @@
 -- WORKED EXAMPLES: small pictures, the bytes of their files, and the places of the blocks of a mirrored picture.
 use Rattle.std.specs.Prelude.{ℕ, zero, suc, ◌+◌, ◌*◌, ◌==◌, if◌then◌else◌, List, [], ◌∷◌, ◌++◌, replicate, slice_index_or, ℤ, pos, negsuc}
 use Rattle.jpg_spec.specs.Meaning.{Meaning}
-use Rattle.jpg_spec.specs.ExampleFiles.{Gray}
 use Rattle.jpg_spec_image.specs.declared.image.ImageKind.TheVariants as image
 use Rattle.jpg_spec_image.specs.declared.image.ImageInfo.{ImageInfo}
 use Rattle.jpg_spec.specs.Examples.{flat_block, three_components}

@@ -19,10 +19,11 @@ use Rattle.jpg_spec.proofs.QuantsInForce.{IsByte}
 use Rattle.jpg_spec.proofs.Ranges.{leads_in_range}
 use Rattle.jpg_spec_write.proofs.MovedWritten.{IsPicture}
 use Rattle.jpg_spec_move.proofs.MovedWritten.{moved_headed}
-use Rattle.jpg_spec.proofs.ReadPicture.{AreOfBytes, IsLeft, framed_end, leads_rules, one_more, segments_bytes}
+use Rattle.jpg_spec.proofs.ReadPicture.{AreOfBytes, IsLeft, leads_rules, one_more, segments_bytes}
 use Rattle.jpg_spec_write.proofs.ReadPicture.{left_picture}
 use Rattle.jpg_spec.proofs.EarlyBegun.{begun_behind, begun_inside}
 use Rattle.jpg_spec.proofs.EarlyRanges.{in_part_in_range}
+use Rattle.jpg_spec.proofs.FrameFound.{framed_end}
 
 -- what bytes leave, with segments of bytes if they are bytes
 abbrev pub LeavesPicture : Limits → List ℕ → Meaning → Type 0

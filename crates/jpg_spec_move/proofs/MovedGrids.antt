@@ -13,7 +13,7 @@ use Rattle.jpg_spec.specs.Grids.{Grids, frame_grids, picture_grids}
 use Rattle.jpg_spec_move.specs.Moved.{trimmed, whole_side, transformed_frame, exchanged_factors, columns_in, rows_in}
 use Rattle.jpg_spec.specs.declared.frame.Component.{Component}
 use Rattle.jpg_spec_move.specs.declared.transform.Transform.{Transform}
-use Rattle.jpg_spec_move.specs.declared.transform.Transform.TheVariants.{Keep, FlipH, FlipV, Transpose, Transverse, Rotate90, Rotate180, Rotate270}
+use Rattle.jpg_spec_move.specs.declared.transform.Transform.TheVariants.{Keep, FlipH, FlipV, Rotate180}
 use Rattle.jpg_spec.proofs.Rows.{map_map}
 use Rattle.jpg_spec_move.proofs.MovedFrames.{up_mono}
 use Rattle.jpg_spec.proofs.Common.{lt_yes, lt_no}
@@ -104,10 +104,7 @@ turned_picture Keep M = refl
 turned_picture FlipH M = refl
 turned_picture FlipV M = refl
 turned_picture Rotate180 M = refl
-turned_picture Transpose M = exchanged_picture M
-turned_picture Rotate90 M = exchanged_picture M
-turned_picture Rotate270 M = exchanged_picture M
-turned_picture Transverse M = exchanged_picture M
+turned_picture t M = exchanged_picture M
 
 pub cut_picture : (trim : Bool) (t : Transform) (M : Meaning) → picture_grids (trimmed trim t M) ≡ trim_grids trim t (picture_grids M)
 cut_picture false t M = refl

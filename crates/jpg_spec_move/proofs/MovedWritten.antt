@@ -39,6 +39,7 @@ use Rattle.jpg_spec.proofs.OutsideZeros.{alone}
 use Rattle.jpg_spec.proofs.SameNumbers.{numbers_of, SameNumbers, same_frame}
 use Rattle.jpg_spec.proofs.MovedWritten.{zeros_here, count_of}
 use Rattle.jpg_spec_write.proofs.MovedWritten.{IsPicture, may_be_written}
+use Rattle.jpg_spec.proofs.ReadPicture.{zero_slots}
 
 -- BLOCKS that are mirrored, exchanged, or left out
 
@@ -114,13 +115,9 @@ same_exchanged M = record {
       ∙ sym (ap (map numbers_of) (map_map _ exchanged_axes M.components) ∙ map_map numbers_of _ M.components);
 }
 
-no_slots : (cs : List PictureComponent) → All (λ c. c.quant ≤ 3) (map (λ c. (let k : Component = record { id = c.id; h = c.h; v = c.v; quant = 0 } in k)) cs)
-no_slots [] = All-nil (λ c. c.quant ≤ 3)
-no_slots (c ∷ cs) = All-cons (λ c. c.quant ≤ 3) _ _ (omega arith) (no_slots cs)
-
 over_picture : (M : Meaning) → IsPicture M → IsPicture (transpose M)
 over_picture M is =
-    let frame = same_frame (transformed_frame Transpose (picture_frame M)) (picture_frame (transpose M)) (same_exchanged M) (no_slots (map exchanged_axes M.components)) (transformed_is Transpose (picture_frame M) is.frame) in
+    let frame = same_frame (transformed_frame Transpose (picture_frame M)) (picture_frame (transpose M)) (same_exchanged M) (zero_slots (map exchanged_axes M.components)) (transformed_is Transpose (picture_frame M) is.frame) in
     record {
       frame = frame;
       quants = axes_exchanged M.components is.quants;
@@ -185,7 +182,7 @@ grayed_picture true M none is =
       components = ap (λ (c : Component). (let n : List (ℕ × ℕ × ℕ) = (c.id, 1, 1) ∷ [] in n)) (sym first);
     } in
     record {
-      frame = same_frame (grayed_frame true f) alone_frame same (no_slots (grayed true M).components) (grayed_is true f is.frame (λ e. h) (λ e. v));
+      frame = same_frame (grayed_frame true f) alone_frame same (zero_slots (grayed true M).components) (grayed_is true f is.frame (λ e. h) (λ e. v));
       quants = All-cons HasQuants _ [] (first_quants M.components is.quants (subst (λ n. 1 ≤ n) (count_of M) is.frame.count_low)) (All-nil HasQuants);
       markers = is.markers;
       count = is.count;
@@ -209,7 +206,7 @@ trimmed_picture true t M is =
       components = refl;
     } in
     record {
-      frame = same_frame (trimmed_frame true t f) (picture_frame N) same (no_slots M.components) (trimmed_is true t f is.frame);
+      frame = same_frame (trimmed_frame true t f) (picture_frame N) same (zero_slots M.components) (trimmed_is true t f is.frame);
       quants = is.quants;
       markers = is.markers;
       count = is.count;

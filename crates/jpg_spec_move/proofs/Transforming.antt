@@ -196,19 +196,17 @@ down_alone over blocks r x y = sym (ap (λ b. shape over blocks b (nat_lt y r) (
 neither : (over : Bool) (blocks : ℕ → ℕ → List ℤ) (x y : ℕ) → shape over blocks false false (0 - 1 - x) x (0 - 1 - y) y ≡ placed over 0 0 blocks x y
 neither over blocks x y = sym (ap (λ b. shape over blocks b false (0 - 1 - x) x (0 - 1 - y) y) (never x)) ∙ across_alone over blocks 0 x y
 
-one_across : (a : Bool) (there here : List ℤ) (over : Bool) (blocks : ℕ → ℕ → List ℤ) (x' x y' y : ℕ)
-    → there ≡ turned_over over (cond over (blocks y x') (blocks x' y)) → here ≡ turned_over over (cond over (blocks y x) (blocks x y)) → cond a (mirrored there) here ≡ shape over blocks a false x' x y' y
-one_across true there here over blocks x' x y' y e f = ap mirrored e
-one_across false there here over blocks x' x y' y e f = f
-
-one_down : (b : Bool) (there here : List ℤ) (over : Bool) (blocks : ℕ → ℕ → List ℤ) (x' x y' y : ℕ)
-    → there ≡ turned_over over (cond over (blocks y' x) (blocks x y')) → here ≡ turned_over over (cond over (blocks y x) (blocks x y)) → cond b (mirrored_down there) here ≡ shape over blocks false b x' x y' y
-one_down true there here over blocks x' x y' y e f = ap mirrored_down e
-one_down false there here over blocks x' x y' y e f = f
-
 -- a block of the transposed picture, or of the picture as it is
 abbrev moved_block : Bool → (ℕ → ℕ → List ℤ) → ℕ → ℕ → List ℤ
 moved_block over blocks x y = turned_over over (cond over (blocks y x) (blocks x y))
+
+one_across : (over a : Bool) (blocks : ℕ → ℕ → List ℤ) (x' x y' y : ℕ) → cond a (mirrored (moved_block over blocks x' y)) (moved_block over blocks x y) ≡ shape over blocks a false x' x y' y
+one_across over true blocks x' x y' y = refl
+one_across over false blocks x' x y' y = refl
+
+one_down : (over b : Bool) (blocks : ℕ → ℕ → List ℤ) (x' x y' y : ℕ) → cond b (mirrored_down (moved_block over blocks x y')) (moved_block over blocks x y) ≡ shape over blocks false b x' x y' y
+one_down over true blocks x' x y' y = refl
+one_down over false blocks x' x y' y = refl
 
 two : (over a b : Bool) (blocks : ℕ → ℕ → List ℤ) (x' x y' y : ℕ)
     → cond a (mirrored (cond b (mirrored_down (moved_block over blocks x' y')) (moved_block over blocks x' y))) (cond b (mirrored_down (moved_block over blocks x y')) (moved_block over blocks x y))
@@ -227,7 +225,7 @@ at_270 M w = subst (λ (N : Meaning). ByFormula Rotate270 M N) (v_over M w) here
     here : ByFormula Rotate270 M (flip_v (transpose M))
     here i x y =
         let r = whole_rows (transpose M) i in
-        one_down (nat_lt y r) (transposed (pos 0) (M.blocks i (r - 1 - y) x)) (transposed (pos 0) (M.blocks i y x)) true (M.blocks i) (0 - 1 - x) x (r - 1 - y) y refl refl ∙ down_alone true (M.blocks i) r x y
+        one_down true (nat_lt y r) (M.blocks i) (0 - 1 - x) x (r - 1 - y) y ∙ down_alone true (M.blocks i) r x y
 
 at_transverse : (M : Meaning) → HasWholeBlocks M → ByFormula Transverse M (transpose (flip_h (flip_v M)))
 at_transverse M w =
@@ -244,10 +242,10 @@ pub by_formula : (M : Meaning) (t : Transform) → HasWholeBlocks M → ByFormul
 by_formula M Keep w i x y = neither false (M.blocks i) x y
 by_formula M FlipH w i x y =
     let c = whole_columns M i in
-    one_across (nat_lt x c) (M.blocks i (c - 1 - x) y) (M.blocks i x y) false (M.blocks i) (c - 1 - x) x (0 - 1 - y) y refl refl ∙ across_alone false (M.blocks i) c x y
+    one_across false (nat_lt x c) (M.blocks i) (c - 1 - x) x (0 - 1 - y) y ∙ across_alone false (M.blocks i) c x y
 by_formula M FlipV w i x y =
     let r = whole_rows M i in
-    one_down (nat_lt y r) (M.blocks i x (r - 1 - y)) (M.blocks i x y) false (M.blocks i) (0 - 1 - x) x (r - 1 - y) y refl refl ∙ down_alone false (M.blocks i) r x y
+    one_down false (nat_lt y r) (M.blocks i) (0 - 1 - x) x (r - 1 - y) y ∙ down_alone false (M.blocks i) r x y
 by_formula M Rotate180 w i x y =
     let c = whole_columns M i in
     let r = whole_rows M i in
@@ -255,6 +253,6 @@ by_formula M Rotate180 w i x y =
 by_formula M Transpose w i x y = neither true (M.blocks i) x y
 by_formula M Rotate90 w i x y =
     let c = whole_columns (transpose M) i in
-    one_across (nat_lt x c) (transposed (pos 0) (M.blocks i y (c - 1 - x))) (transposed (pos 0) (M.blocks i y x)) true (M.blocks i) (c - 1 - x) x (0 - 1 - y) y refl refl ∙ across_alone true (M.blocks i) c x y
+    one_across true (nat_lt x c) (M.blocks i) (c - 1 - x) x (0 - 1 - y) y ∙ across_alone true (M.blocks i) c x y
 by_formula M Rotate270 w i x y = at_270 M w i x y
 by_formula M Transverse w i x y = at_transverse M w i x y

@@ -1,6 +1,6 @@
 -- FILES OF THE WORKED EXAMPLES: gray pictures with sides of complete blocks, what they mean, and the text before the
 -- data of their baseline files (T.81, B.2, JFIF 1.02).
-use Rattle.std.specs.Prelude.{ℕ, ◌+◌, List, [], ◌∷◌, ◌++◌}
+use Rattle.std.specs.Prelude.{ℕ, List, [], ◌∷◌, ◌++◌}
 use Rattle.jpg_spec.specs.Typical.{dc_luma_counts, dc_luma_values, ac_luma_counts, ac_luma_values}
 use Rattle.jpg_spec.specs.Markers.{soi}
 use Rattle.jpg_spec_move.specs.Moves.{flip_h}

@@ -109,16 +109,17 @@ IsChosen codes chosen = (e : Element) → is_dc e ≡ false → chosen e ≡ cod
 due_codes : (c : Coding) (i : ℕ) (u : UnitLeft) → u.component ≡ i → u.has_dc ≡ false → codes_due c u ≡ c.ac i
 due_codes c i u e f = ap (λ b. cond b (c.dc u.component) (c.ac u.component)) f ∙ ap c.ac e
 
-chosen_spells : (c : Coding) (p : ℤ) (codes : List Code) (chosen : Element → List Bool) (e : Element) (u : UnitLeft) (units : List UnitLeft) (here : List ℤ) (left : List UnitLeft) (front : List Bool)
-    → IsChosen codes chosen → u.has_dc ≡ false → Tells c p e u units here left → SpellsElement codes e front → SpellsElement codes e (chosen e)
-chosen_spells c p codes chosen (difference d) u units here left front is f t s = absurd (clash u.has_dc t.2 f)
-chosen_spells c p codes chosen (dc_bit b) u units here left front is f t s = absurd (clash u.has_dc t.2 f)
-chosen_spells c p codes chosen (value run v bits) u units here left front is f t s =
-    (code_of codes (symbol_of (value run v bits)), first_found codes (symbol_of (value run v bits)) s.0 s.1, is (value run v bits) refl)
-chosen_spells c p codes chosen (long_run bits) u units here left front is f t s =
-    (code_of codes (symbol_of (long_run bits)), first_found codes (symbol_of (long_run bits)) s.0 s.1, is (long_run bits) refl)
-chosen_spells c p codes chosen (ends bands bits) u units here left front is f t s =
-    (code_of codes (symbol_of (ends bands bits)), first_found codes (symbol_of (ends bands bits)) s.0 s.1, is (ends bands bits) refl)
+module _ (c : Coding) (p : ℤ) (codes : List Code) (chosen : Element → List Bool) where
+  chosen_spells : (e : Element) (u : UnitLeft) (units : List UnitLeft) (here : List ℤ) (left : List UnitLeft) (front : List Bool)
+      → IsChosen codes chosen → u.has_dc ≡ false → Tells c p e u units here left → SpellsElement codes e front → SpellsElement codes e (chosen e)
+  chosen_spells (difference d) u units here left front is f t s = absurd (clash u.has_dc t.2 f)
+  chosen_spells (dc_bit b) u units here left front is f t s = absurd (clash u.has_dc t.2 f)
+  chosen_spells (value run v bits) u units here left front is f t s =
+      (code_of codes (symbol_of (value run v bits)), first_found codes (symbol_of (value run v bits)) s.0 s.1, is (value run v bits) refl)
+  chosen_spells (long_run bits) u units here left front is f t s =
+      (code_of codes (symbol_of (long_run bits)), first_found codes (symbol_of (long_run bits)) s.0 s.1, is (long_run bits) refl)
+  chosen_spells (ends bands bits) u units here left front is f t s =
+      (code_of codes (symbol_of (ends bands bits)), first_found codes (symbol_of (ends bands bits)) s.0 s.1, is (ends bands bits) refl)
 
 pub covers_chosen : (c : Coding) (i : ℕ) (chosen : Element → List Bool) (s t : Standing) (es : List Element) (told : List ℤ) (bits : List Bool) → IsChosen (c.ac i) chosen → AllAfterDc i s.left
     → Covers c s es told bits t → Covers c s es told (flat_map chosen es) t

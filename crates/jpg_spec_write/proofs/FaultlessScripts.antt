@@ -18,7 +18,7 @@ use Rattle.jpg_spec_write.specs.ScriptFaults.{entry_head, ascend, has_wrong_comp
 use Rattle.jpg_spec_write.specs.ScriptLaws.{PassesSequential, PassesProgressive}
 use Rattle.jpg_spec.specs.declared.frame.ScanPart.{ScanPart}
 use Rattle.jpg_spec_write.specs.declared.picture_fault.PictureFault.TheVariants.{ScriptComponent, ScriptMcu, ScriptBand, ScriptIncomplete}
-use Rattle.jpg_spec.proofs.Common.{both, and_intro, neither, negated, lt_of, not_same}
+use Rattle.jpg_spec.proofs.Common.{both, and_intro, neither, negated, lt_of, not_same, all_append}
 use Rattle.jpg_spec.proofs.FirstPasses.{all_below}
 use Rattle.jpg_spec_write.proofs.WrittenScript.{among_join}
 
@@ -39,14 +39,6 @@ none_found g p (x ∷ xs) e = by (p x) (none_found g p xs) e
 all_map : {X Y : Type 0} (t : Y → Bool) (g : X → Y) (xs : List X) → all_of t (map g xs) ≡ all_of (λ x. t (g x)) xs
 all_map t g [] = refl
 all_map t g (x ∷ xs) = ap (λ b. t (g x) && b) (all_map t g xs)
-
-all_append : {X : Type 0} (t : X → Bool) (a b : List X) → all_of t (a ++ b) ≡ (all_of t a && all_of t b)
-all_append t [] b = refl
-all_append t (x ∷ a) b = ap (λ r. t x && r) (all_append t a b) ∙ assoc (t x) (all_of t a) (all_of t b)
-  where
-    assoc : (x y z : Bool) → (x && (y && z)) ≡ ((x && y) && z)
-    assoc true y z = refl
-    assoc false y z = refl
 
 all_flat : {X Y : Type 0} (t : Y → Bool) (g : X → List Y) (xs : List X) → all_of t (flat_map g xs) ≡ all_of (λ x. all_of t (g x)) xs
 all_flat t g [] = refl

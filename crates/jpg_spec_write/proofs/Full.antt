@@ -116,5 +116,5 @@ body_have c i (f ∷ front) (r ∷ rest) olds news full most h =
 pub band_have : (c : Coding) (i : ℕ) (band : List Sent) (olds news : List ℤ) → IsFull (c.ac i) → c.most_category ≤ 10 → AllSent c band olds news → AllHave (c.ac i) (band_elements 1 0 [] (band ∷ []))
 unfolding body
 band_have c i band olds news full most h =
-    let s = split c band olds news h in
-    body_have c i _ _ s.o1 s.n1 full most s.front
+    let s = (split c band olds news h).parts in
+    body_have c i _ _ s.o1 s.n1 full most s.front_sent

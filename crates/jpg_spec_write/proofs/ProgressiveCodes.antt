@@ -129,14 +129,14 @@ ended_ac (suc n) bits h = let k = few_digits 15 (suc n) (omega (arith, h)) in (r
 pub bands_ac : (c : Coding) (n : ℕ) (bits : List Bool) (bands : List (List Sent)) (olds news : List (List ℤ)) → c.most_category ≤ 10 → n < 32767 → AllBands c bands olds news → Each IsAc (band_elements 32767 n bits bands)
 bands_ac c n bits [] olds news most small h = ended_ac n bits (omega (arith, small))
 bands_ac c n bits (band ∷ later) olds news most small h =
-    let s = split c band h.0 h.2 h.7 in
+    let s = (split c band h.0 h.2 h.7).parts in
     let front = up_to_last band in
     let rest = after_last band in
     let waits = cond (is_empty front) n 0 in
     let waiting = cond (is_empty front) bits [] ++ corrections_of rest in
     each_join IsAc (cond (is_empty front) [] (ended_bands n bits ++ value_elements 0 [] front))
     (cond (is_empty rest) (band_elements 32767 0 [] later) (cond (waits + 1 == 32767 || nat_lt 937 (length waiting)) (ended_bands (waits + 1) waiting ++ band_elements 32767 0 [] later) (band_elements 32767 (waits + 1) waiting later)))
-    (first (is_empty front) (value_ac c 0 [] front s.o1 s.n1 most (lit≤ tt) s.front))
+    (first (is_empty front) (value_ac c 0 [] front s.o1 s.n1 most (lit≤ tt) s.front_sent))
     (second (is_empty rest) waits waiting (fewer (is_empty front)) (λ m bs l. bands_ac c m bs later h.1 h.3 most l h.8))
   where
     first : (b : Bool) → Each IsAc (value_elements 0 [] (up_to_last band)) → Each IsAc (cond b [] (ended_bands n bits ++ value_elements 0 [] (up_to_last band)))

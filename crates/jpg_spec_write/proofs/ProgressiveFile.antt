@@ -22,7 +22,7 @@ use Rattle.jpg_spec_write.proofs.WrittenMeans.{count_is, ends}
 use Rattle.jpg_spec_write.proofs.ProgressiveKnown.{IsKnown, known_whole}
 use Rattle.jpg_spec_write.proofs.ProgressiveScript.{IsFit, script_step}
 use Rattle.jpg_spec.proofs.FirstPasses.{all_below}
-use Rattle.jpg_spec.proofs.Common.{both, and_intro}
+use Rattle.jpg_spec.proofs.Common.{both, and_intro, or_right}
 
 -- AT THE START nothing is known
 pub none_known : (H : Meaning) → IsKnown H [] no_blocks
@@ -41,14 +41,10 @@ begun_by : (heads : List ScanHead) (i k al : ℕ) → known_to heads i k ≡ Som
 begun_by [] i k al e = cc
 begun_by (head ∷ heads) i k al e = by (has_coefficient head i k) refl e (begun_by heads i k al)
   where
-    or_second : (a b : Bool) → b ≡ true → (a || b) ≡ true
-    or_second true b e = refl
-    or_second false b e = e
-
     by : (b : Bool) → has_coefficient head i k ≡ b → option_map (λ (h : ScanHead). h.al) (cond b (Some head) (find (λ head. has_coefficient head i k) heads)) ≡ Some al
         → (known_to heads i k ≡ Some al → has_begun heads i ≡ true) → (names head i || has_begun heads i) ≡ true
     by true h z later = ap (λ b. b || has_begun heads i) (both (names head i) (nat_le head.ss k && nat_le k head.se) h).0
-    by false h z later = or_second (names head i) (has_begun heads i) (later z)
+    by false h z later = or_right (names head i) (has_begun heads i) (later z)
 
 all_by : (test : ℕ → Bool) (n : ℕ) → ((i : ℕ) → i < n → test i ≡ true) → all_of test (below n) ≡ true
 all_by test zero h = refl

@@ -5,7 +5,7 @@ use Rattle.jpg_spec.specs.Lists.{is_among}
 use Rattle.jpg_spec.specs.Codes.{Code, code_of}
 use Rattle.jpg_spec.specs.Geometry.{Frame, is_progressive}
 use Rattle.jpg_spec.specs.Segments.{HuffmanTable, ScanHead, head_components, table_codes}
-use Rattle.jpg_spec.specs.Elements.{Element, difference, dc_bit, value, long_run, ends, SpellsUnits, at_start, symbol_of, bits_after, scaled}
+use Rattle.jpg_spec.specs.Elements.{Element, difference, dc_bit, SpellsUnits, at_start, symbol_of, bits_after, scaled}
 use Rattle.jpg_spec_write.specs.Sending.{sent, divided, band_elements}
 use Rattle.jpg_spec.specs.Scan.{Blocks, Scan, TablesInForce, codes_of, part_of, scan_of, band, block_at, unit_at, SpellsInterval, SpellsIntervals, ScanMeans}
 use Rattle.jpg_spec_write.specs.ScanText.{UnitDue, Owned, units_due, last_dc, unit_elements, interval_elements, element_bits, is_dc, band_of}
@@ -75,20 +75,21 @@ abbrev RowSpelled : (ℕ → ℕ → HuffmanTable) → ScanHead → Blocks → S
 RowSpelled tables head blocks s before after row =
     (bits : List Bool) × (bits ≡ progressive_bits tables head (units_due blocks (λ i. pos 0) row)) × SpellsUnits s.coding (map (unit_at s before) row) (flat_map (λ p. band s (block_at after p)) row) bits
 
-row_interval : (tables : ℕ → ℕ → HuffmanTable) (head : ScanHead) (blocks : Blocks) (s : Scan) (before after : Blocks) (row : List Place) → RowSpelled tables head blocks s before after row → SpellsInterval s before after row (progressive_coded tables head blocks row)
-row_interval tables head blocks s before after row k =
-    let bits = progressive_bits tables head (units_due blocks (λ i. pos 0) row) in
-    (bits, packs bits, subst (λ b. SpellsUnits s.coding (map (unit_at s before) row) (flat_map (λ p. band s (block_at after p)) row) b) k.1 k.2)
-
 units_in : (test : ℕ → Bool) (s : Scan) (before : Blocks) (row : List Place) → Each (λ (p : Place). test p.component ≡ true) row → AllIn test (map (unit_at s before) row)
 units_in test s before [] h = tt
 units_in test s before (p ∷ row) h = (h.0, units_in test s before row h.1)
 
--- the same by the codes in force
-row_coded : (tables : ℕ → ℕ → HuffmanTable) (head : ScanHead) (blocks : Blocks) (s : Scan) (before after : Blocks) (dc ac : ℕ → List Code) (test : ℕ → Bool) (row : List Place) → AreSameCodes s.coding dc ac test → Each (λ (p : Place). test p.component ≡ true) row
-    → RowSpelled tables head blocks s before after row → RowSpelled tables head blocks (record s { coding = coded_by s.coding dc ac }) before after row
-row_coded tables head blocks s before after dc ac test row same named (bits, e, k) =
-    (bits, e, (k.0, k.1, covers_coded s.coding dc ac test (at_start (map (unit_at s before) row)) k.1 k.0 (flat_map (λ p. band s (block_at after p)) row) bits same (units_in test s before row named) k.2, k.3))
+module _ (tables : ℕ → ℕ → HuffmanTable) (head : ScanHead) (blocks : Blocks) (s : Scan) (before after : Blocks) where
+  row_interval : (row : List Place) → RowSpelled tables head blocks s before after row → SpellsInterval s before after row (progressive_coded tables head blocks row)
+  row_interval row k =
+      let bits = progressive_bits tables head (units_due blocks (λ i. pos 0) row) in
+      (bits, packs bits, subst (λ b. SpellsUnits s.coding (map (unit_at s before) row) (flat_map (λ p. band s (block_at after p)) row) b) k.1 k.2)
+
+  -- the same by the codes in force
+  row_coded : (dc ac : ℕ → List Code) (test : ℕ → Bool) (row : List Place) → AreSameCodes s.coding dc ac test → Each (λ (p : Place). test p.component ≡ true) row
+      → RowSpelled tables head blocks s before after row → RowSpelled tables head blocks (record s { coding = coded_by s.coding dc ac }) before after row
+  row_coded dc ac test row same named (bits, e, k) =
+      (bits, e, (k.0, k.1, covers_coded s.coding dc ac test (at_start (map (unit_at s before) row)) k.1 k.0 (flat_map (λ p. band s (block_at after p)) row) bits same (units_in test s before row named) k.2, k.3))
 
 -- DC FIRST
 
@@ -179,37 +180,36 @@ band_codes f tabs tables n head i = λ e h. other e h
     other : (e : Element) → is_dc e ≡ false → element_bits tables head (i, e) ≡ code_of ((scan_of f (with_class 1 tabs tables) n head).coding.ac i) (symbol_of e) ++ bits_after e
     other (difference d) h = cc
     other (dc_bit b) h = cc
-    other (value run v bits) h = refl
-    other (long_run bits) h = refl
-    other (ends bands bits) h = refl
+    other e h = refl
 
 to_have : (codes : List Code) (es : List Element) → Each (λ e. Has codes (symbol_of e)) es → AllHave codes es
 to_have codes [] h = tt
 to_have codes (e ∷ es) h = (h.0, to_have codes es h.1)
 
--- what the elements of a row have
-row_have : (H : Meaning) (head : ScanHead) (n : ℕ) (s : Scan) (i : ℕ) (old new : ℤ → ℤ) (before after : Blocks) (row : List Place) → nat_lt 0 head.ss ≡ true → s.ss ≡ head.ss → s.se ≡ head.se → s.coding.al ≡ head.al → s.coding.most_category ≤ 10
-    → ((v : ℤ) → nat_abs v ≤ 1023 → Sends s.coding (sent (nat_lt 0 head.ah) s.coding.al v) (old v) (new v)) → Each (IsBandDue s i old new before after) (placed_due H.blocks (λ i. pos 0) row)
-    → Each (IsCodedHere H head n) (interval_elements true head (units_due H.blocks (λ i. pos 0) row))
-    → AllHave (table_codes (progressive_tables H head n 1 (part_of head i).ac)) (band_elements 32767 0 [] (map (map (sent (nat_lt 0 head.ah) s.coding.al)) (bands_due s H.blocks (λ i. pos 0) row)))
-row_have H head n s i old new before after [] z a e same most step due coded = tt
-row_have H head n s i old new before after (p ∷ row) z a e same most step due coded =
-    let first : ℕ → ℤ = λ i. pos 0 in
-    let r = nat_lt 0 head.ah in
-    let units = units_due H.blocks first (p ∷ row) in
-    let block = block_due H.blocks first p in
-    let bands = map (map (sent r s.coding.al)) (bands_due s H.blocks first (p ∷ row)) in
-    let es = band_elements 32767 0 [] (map (λ (u : UnitDue). band_of head u.1) units) in
-    let eq : es ≡ band_elements 32767 0 [] bands = ap (band_elements 32767 0 []) (bands_are head s units a e ∙ ap (λ m. map (map (sent r m)) (map (λ (u : UnitDue). band s u.1) units)) (sym same)) in
-    let mine : Each (IsCodedHere H head n) (flat_map (λ (x : Element). (let o : Owned = (p.component, x) in o) ∷ []) es) =
-    subst (λ b. Each (IsCodedHere H head n) (cond b (flat_map (λ (x : Element). (let o : Owned = (p.component, x) in o) ∷ []) es) (unit_elements false r head.al first units))) z coded in
-    let all = each_map (λ (x : Element). Each (IsCodedHere H head n) ((let o : Owned = (p.component, x) in o) ∷ [])) (λ (x : Element). IsCodedHere H head n (i, x)) es (λ x h. subst (λ m. IsCodedHere H head n (m, x)) (due.0).component h.0)
-    (each_flat (IsCodedHere H head n) (λ (x : Element). (let o : Owned = (p.component, x) in o) ∷ []) es mine) in
-    let small = band_small s i old new H.blocks before after first (p ∷ row) due in
-    let acs = bands_ac s.coding 0 [] bands (map (map old) (bands_due s H.blocks first (p ∷ row))) (map (map new) (bands_due s H.blocks first (p ∷ row))) most (lit< tt) (all_bands s.coding r old new step (bands_due s H.blocks first (p ∷ row)) small) in
-    to_have (table_codes (progressive_tables H head n 1 (part_of head i).ac)) (band_elements 32767 0 [] bands)
-    (each_both (λ (x : Element). IsCodedHere H head n (i, x)) IsAc (λ x. Has (table_codes (progressive_tables H head n 1 (part_of head i).ac)) (symbol_of x)) (band_elements 32767 0 [] bands)
-    (λ x h d. h 1 (part_of head i).ac (own_ac head (i, x) d) d.byte) (subst (λ l. Each (λ (x : Element). IsCodedHere H head n (i, x)) l) eq all) acs)
+module _ (H : Meaning) (head : ScanHead) (n : ℕ) (s : Scan) (i : ℕ) (old new : ℤ → ℤ) where
+  -- what the elements of a row have
+  row_have : (before after : Blocks) (row : List Place) → nat_lt 0 head.ss ≡ true → s.ss ≡ head.ss → s.se ≡ head.se → s.coding.al ≡ head.al → s.coding.most_category ≤ 10
+      → ((v : ℤ) → nat_abs v ≤ 1023 → Sends s.coding (sent (nat_lt 0 head.ah) s.coding.al v) (old v) (new v)) → Each (IsBandDue s i old new before after) (placed_due H.blocks (λ i. pos 0) row)
+      → Each (IsCodedHere H head n) (interval_elements true head (units_due H.blocks (λ i. pos 0) row))
+      → AllHave (table_codes (progressive_tables H head n 1 (part_of head i).ac)) (band_elements 32767 0 [] (map (map (sent (nat_lt 0 head.ah) s.coding.al)) (bands_due s H.blocks (λ i. pos 0) row)))
+  row_have before after [] z a e same most step due coded = tt
+  row_have before after (p ∷ row) z a e same most step due coded =
+      let first : ℕ → ℤ = λ i. pos 0 in
+      let r = nat_lt 0 head.ah in
+      let units = units_due H.blocks first (p ∷ row) in
+      let block = block_due H.blocks first p in
+      let bands = map (map (sent r s.coding.al)) (bands_due s H.blocks first (p ∷ row)) in
+      let es = band_elements 32767 0 [] (map (λ (u : UnitDue). band_of head u.1) units) in
+      let eq : es ≡ band_elements 32767 0 [] bands = ap (band_elements 32767 0 []) (bands_are head s units a e ∙ ap (λ m. map (map (sent r m)) (map (λ (u : UnitDue). band s u.1) units)) (sym same)) in
+      let mine : Each (IsCodedHere H head n) (flat_map (λ (x : Element). (let o : Owned = (p.component, x) in o) ∷ []) es) =
+      subst (λ b. Each (IsCodedHere H head n) (cond b (flat_map (λ (x : Element). (let o : Owned = (p.component, x) in o) ∷ []) es) (unit_elements false r head.al first units))) z coded in
+      let all = each_map (λ (x : Element). Each (IsCodedHere H head n) ((let o : Owned = (p.component, x) in o) ∷ [])) (λ (x : Element). IsCodedHere H head n (i, x)) es (λ x h. subst (λ m. IsCodedHere H head n (m, x)) (due.0).component h.0)
+      (each_flat (IsCodedHere H head n) (λ (x : Element). (let o : Owned = (p.component, x) in o) ∷ []) es mine) in
+      let small = band_small s i old new H.blocks before after first (p ∷ row) due in
+      let acs = bands_ac s.coding 0 [] bands (map (map old) (bands_due s H.blocks first (p ∷ row))) (map (map new) (bands_due s H.blocks first (p ∷ row))) most (lit< tt) (all_bands s.coding r old new step (bands_due s H.blocks first (p ∷ row)) small) in
+      to_have (table_codes (progressive_tables H head n 1 (part_of head i).ac)) (band_elements 32767 0 [] bands)
+      (each_both (λ (x : Element). IsCodedHere H head n (i, x)) IsAc (λ x. Has (table_codes (progressive_tables H head n 1 (part_of head i).ac)) (symbol_of x)) (band_elements 32767 0 [] bands)
+      (λ x h d. h 1 (part_of head i).ac (own_ac head (i, x) d) d.byte) (subst (λ l. Each (λ (x : Element). IsCodedHere H head n (i, x)) l) eq all) acs)
 
 pub band_means : (H : Meaning) (heads : List ScanHead) (head : ScanHead) (i n : ℕ) (tabs : TablesInForce) (before : Blocks) → nat_lt 0 head.ss ≡ true
     → IsBandScan H heads (scan_of (frame_of_meaning H) (with_class 1 tabs (progressive_tables H head n)) n head) head i before → IsInForce 1 tabs (progressive_tables H head n) head
@@ -237,7 +237,7 @@ band_means H heads head i n tabs before z is force (most, step, ok) =
     each_both (λ row. Each (λ (p : Place). is_among p.component (head_components head) ≡ true) row) (λ row. RowSpelled tables head H.blocks s' before after row) (λ row. SpellsInterval s before after row (progressive_coded tables head H.blocks row)) rows
     (λ row a k. row_interval tables head H.blocks s before after row (row_coded tables head H.blocks s' before after dc ac test row same a k)) (rows_among H head n tabs)
     (each_both (λ row. Each (IsBandDue s' i old new before after) (placed_due H.blocks first row)) (λ row. Each (IsCodedHere H head n) (interval_elements true head (units_due H.blocks first row))) (λ row. RowSpelled tables head H.blocks s' before after row) rows
-    (λ row d k. band_row s' tables head i old new H.blocks before after row z sc.ss sc.se sc.al step ok sc.run (band_codes f tabs tables n head i) d
+    (λ row d k. band_row s' i old new H.blocks before after tables head row z sc.ss sc.se sc.al step ok sc.run (band_codes f tabs tables n head i) d
     (row_have H head n s' i old new before after row z sc.ss sc.se sc.al most step d k))
     (band_due H heads s' head i before is) (rows_coded H head n)) in
     renew_means s (band_renews s) H.blocks before (map (progressive_coded tables head H.blocks) rows) is.sizes (rows_spelled s before after (progressive_coded tables head H.blocks) rows spelled)

@@ -125,28 +125,6 @@ pub record IsBandDue (s : Scan) (i : ℕ) (old new : ℤ → ℤ) (before after 
 abbrev pub bands_due : Scan → Blocks → (ℕ → ℤ) → List Place → List (List ℤ)
 bands_due s blocks last places = map (λ (u : UnitDue). band s u.1) (units_due blocks last places)
 
-band_units : (s : Scan) (i : ℕ) (old new : ℤ → ℤ) (blocks before after : Blocks) (last : ℕ → ℤ) (places : List Place) → (s.ss == 0) ≡ false → Each (IsBandDue s i old new before after) (placed_due blocks last places)
-    → map (unit_at s before) places ≡ units_of i (map (map old) (bands_due s blocks last places))
-band_units s i old new blocks before after last [] z h = refl
-band_units s i old new blocks before after last (p ∷ places) z h =
-    let block = block_due blocks last p in
-    let later = map (unit_at s before) places in
-    ap (λ (n : ℕ). (let u : UnitLeft = record { component = n; has_dc = s.ss == 0; old = band s (block_at before p) } in u ∷ later)) (h.0).component
-    ∙ ap (λ (b : Bool). (let u : UnitLeft = record { component = i; has_dc = b; old = band s (block_at before p) } in u ∷ later)) z
-    ∙ ap (λ (l : List ℤ). (let u : UnitLeft = record { component = i; has_dc = false; old = l } in u ∷ later)) (h.0).was
-    ∙ ap (λ (us : List UnitLeft). (let u : UnitLeft = record { component = i; has_dc = false; old = map old (band s block) } in u ∷ us)) (band_units s i old new blocks before after (last_dc last p.component block) places z h.1)
-
-band_told : (s : Scan) (i : ℕ) (old new : ℤ → ℤ) (blocks before after : Blocks) (last : ℕ → ℤ) (places : List Place) → Each (IsBandDue s i old new before after) (placed_due blocks last places)
-    → flat_map (λ p. band s (block_at after p)) places ≡ flat (map (map new) (bands_due s blocks last places))
-band_told s i old new blocks before after last [] h = refl
-band_told s i old new blocks before after last (p ∷ places) h =
-    let block = block_due blocks last p in
-    ap (λ l. l ++ flat_map (λ p. band s (block_at after p)) places) (h.0).is ∙ ap (λ l. map new (band s block) ++ l) (band_told s i old new blocks before after (last_dc last p.component block) places h.1)
-
-pub band_small : (s : Scan) (i : ℕ) (old new : ℤ → ℤ) (blocks before after : Blocks) (last : ℕ → ℤ) (places : List Place) → Each (IsBandDue s i old new before after) (placed_due blocks last places) → Each IsBand (bands_due s blocks last places)
-band_small s i old new blocks before after last [] h = tt
-band_small s i old new blocks before after last (p ∷ places) h = ((h.0).small, band_small s i old new blocks before after (last_dc last p.component (block_due blocks last p)) places h.1)
-
 owned_bits : (chosen : Owned → List Bool) (i : ℕ) (es : List Element) → flat_map chosen (flat_map (λ (e : Element). (let o : Owned = (i, e) in o) ∷ []) es) ≡ flat_map (λ e. chosen (i, e)) es
 owned_bits chosen i [] = refl
 owned_bits chosen i (e ∷ es) = ap (λ l. chosen (i, e) ++ l) (owned_bits chosen i es)
@@ -179,29 +157,52 @@ elements_ac tables head s i due z a e own =
     taken (u ∷ due) own es n =
         ap (λ m. flat_map (element_bits tables head) (flat_map (λ (e : Element). (let o : Owned = (m, e) in o) ∷ []) es)) own.0 ∙ owned_bits (element_bits tables head) i es
 
-band_owned : (s : Scan) (i : ℕ) (old new : ℤ → ℤ) (blocks before after : Blocks) (last : ℕ → ℤ) (places : List Place) → Each (IsBandDue s i old new before after) (placed_due blocks last places) → Each (λ (u : UnitDue). u.0 ≡ i) (units_due blocks last places)
-band_owned s i old new blocks before after last [] h = tt
-band_owned s i old new blocks before after last (p ∷ places) h = ((h.0).component, band_owned s i old new blocks before after (last_dc last p.component (block_due blocks last p)) places h.1)
+module _ (s : Scan) (i : ℕ) (old new : ℤ → ℤ) (blocks before after : Blocks) where
+  band_units : (last : ℕ → ℤ) (places : List Place) → (s.ss == 0) ≡ false → Each (IsBandDue s i old new before after) (placed_due blocks last places)
+      → map (unit_at s before) places ≡ units_of i (map (map old) (bands_due s blocks last places))
+  band_units last [] z h = refl
+  band_units last (p ∷ places) z h =
+      let block = block_due blocks last p in
+      let later = map (unit_at s before) places in
+      ap (λ (n : ℕ). (let u : UnitLeft = record { component = n; has_dc = s.ss == 0; old = band s (block_at before p) } in u ∷ later)) (h.0).component
+      ∙ ap (λ (b : Bool). (let u : UnitLeft = record { component = i; has_dc = b; old = band s (block_at before p) } in u ∷ later)) z
+      ∙ ap (λ (l : List ℤ). (let u : UnitLeft = record { component = i; has_dc = false; old = l } in u ∷ later)) (h.0).was
+      ∙ ap (λ (us : List UnitLeft). (let u : UnitLeft = record { component = i; has_dc = false; old = map old (band s block) } in u ∷ us)) (band_units (last_dc last p.component block) places z h.1)
 
-pub band_row : (s : Scan) (tables : ℕ → ℕ → HuffmanTable) (head : ScanHead) (i : ℕ) (old new : ℤ → ℤ) (blocks before after : Blocks) (places : List Place) → nat_lt 0 head.ss ≡ true → s.ss ≡ head.ss → s.se ≡ head.se → s.coding.al ≡ head.al
-    → ((v : ℤ) → nat_abs v ≤ 1023 → Sends s.coding (sent (nat_lt 0 head.ah) s.coding.al v) (old v) (new v)) → ((v : ℤ) → nat_abs v ≤ 1023 → int_le (pos (nat_abs (new v))) s.coding.bounds.ac ≡ true)
-    → s.coding.most_run ≡ 14 → IsChosen (s.coding.ac i) (λ e. element_bits tables head (i, e)) → Each (IsBandDue s i old new before after) (placed_due blocks (λ i. pos 0) places)
-    → AllHave (s.coding.ac i) (band_elements 32767 0 [] (map (map (sent (nat_lt 0 head.ah) s.coding.al)) (bands_due s blocks (λ i. pos 0) places)))
-    → (bits : List Bool) × (bits ≡ progressive_bits tables head (units_due blocks (λ i. pos 0) places)) × SpellsUnits s.coding (map (unit_at s before) places) (flat_map (λ p. band s (block_at after p)) places) bits
-band_row s tables head i old new blocks before after places z a e same step ok run first due have =
-    let c = s.coding in
-    let p : ℕ → ℤ = λ i. pos 0 in
-    let r = nat_lt 0 head.ah in
-    let bands = bands_due s blocks p places in
-    let none : (s.ss == 0) ≡ false = ap (λ n. n == 0) a ∙ not_zero head.ss z in
-    let k = bands_spelled c r i old new bands (λ e. element_bits tables head (i, e)) step ok (band_small s i old new blocks before after p places due) run first have in
-    let bits = flat_map (λ e. element_bits tables head (i, e)) (band_elements 32767 0 [] (map (map (sent r c.al)) bands)) in (
-      bits,
-      ap (λ m. flat_map (λ e. element_bits tables head (i, e)) (band_elements 32767 0 [] (map (map (sent r m)) bands))) same
-          ∙ sym (elements_ac tables head s i (units_due blocks p places) z a e (band_owned s i old new blocks before after p places due)),
-      subst (λ us. SpellsUnits c us (flat_map (λ p. band s (block_at after p)) places) bits) (sym (band_units s i old new blocks before after p places none due))
-          (subst (λ vs. SpellsUnits c (units_of i (map (map old) bands)) vs bits) (sym (band_told s i old new blocks before after p places due)) k),
-    )
-  where
-    not_zero : (n : ℕ) → nat_lt 0 n ≡ true → (n == 0) ≡ false
-    not_zero n h = grind (arith, nat_tests, h)
+  band_told : (last : ℕ → ℤ) (places : List Place) → Each (IsBandDue s i old new before after) (placed_due blocks last places)
+      → flat_map (λ p. band s (block_at after p)) places ≡ flat (map (map new) (bands_due s blocks last places))
+  band_told last [] h = refl
+  band_told last (p ∷ places) h =
+      let block = block_due blocks last p in
+      ap (λ l. l ++ flat_map (λ p. band s (block_at after p)) places) (h.0).is ∙ ap (λ l. map new (band s block) ++ l) (band_told (last_dc last p.component block) places h.1)
+
+  pub band_small : (last : ℕ → ℤ) (places : List Place) → Each (IsBandDue s i old new before after) (placed_due blocks last places) → Each IsBand (bands_due s blocks last places)
+  band_small last [] h = tt
+  band_small last (p ∷ places) h = ((h.0).small, band_small (last_dc last p.component (block_due blocks last p)) places h.1)
+
+  band_owned : (last : ℕ → ℤ) (places : List Place) → Each (IsBandDue s i old new before after) (placed_due blocks last places) → Each (λ (u : UnitDue). u.0 ≡ i) (units_due blocks last places)
+  band_owned last [] h = tt
+  band_owned last (p ∷ places) h = ((h.0).component, band_owned (last_dc last p.component (block_due blocks last p)) places h.1)
+
+  pub band_row : (tables : ℕ → ℕ → HuffmanTable) (head : ScanHead) (places : List Place) → nat_lt 0 head.ss ≡ true → s.ss ≡ head.ss → s.se ≡ head.se → s.coding.al ≡ head.al
+      → ((v : ℤ) → nat_abs v ≤ 1023 → Sends s.coding (sent (nat_lt 0 head.ah) s.coding.al v) (old v) (new v)) → ((v : ℤ) → nat_abs v ≤ 1023 → int_le (pos (nat_abs (new v))) s.coding.bounds.ac ≡ true)
+      → s.coding.most_run ≡ 14 → IsChosen (s.coding.ac i) (λ e. element_bits tables head (i, e)) → Each (IsBandDue s i old new before after) (placed_due blocks (λ i. pos 0) places)
+      → AllHave (s.coding.ac i) (band_elements 32767 0 [] (map (map (sent (nat_lt 0 head.ah) s.coding.al)) (bands_due s blocks (λ i. pos 0) places)))
+      → (bits : List Bool) × (bits ≡ progressive_bits tables head (units_due blocks (λ i. pos 0) places)) × SpellsUnits s.coding (map (unit_at s before) places) (flat_map (λ p. band s (block_at after p)) places) bits
+  band_row tables head places z a e same step ok run first due have =
+      let c = s.coding in
+      let p : ℕ → ℤ = λ i. pos 0 in
+      let r = nat_lt 0 head.ah in
+      let bands = bands_due s blocks p places in
+      let none : (s.ss == 0) ≡ false = ap (λ n. n == 0) a ∙ not_zero head.ss z in
+      let k = bands_spelled c r i old new bands (λ e. element_bits tables head (i, e)) step ok (band_small p places due) run first have in
+      let bits = flat_map (λ e. element_bits tables head (i, e)) (band_elements 32767 0 [] (map (map (sent r c.al)) bands)) in (
+        bits,
+        ap (λ m. flat_map (λ e. element_bits tables head (i, e)) (band_elements 32767 0 [] (map (map (sent r m)) bands))) same
+            ∙ sym (elements_ac tables head s i (units_due blocks p places) z a e (band_owned p places due)),
+        subst (λ us. SpellsUnits c us (flat_map (λ p. band s (block_at after p)) places) bits) (sym (band_units p places none due))
+            (subst (λ vs. SpellsUnits c (units_of i (map (map old) bands)) vs bits) (sym (band_told p places due)) k),
+      )
+    where
+      not_zero : (n : ℕ) → nat_lt 0 n ≡ true → (n == 0) ≡ false
+      not_zero n h = grind (arith, nat_tests, h)

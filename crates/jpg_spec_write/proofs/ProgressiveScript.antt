@@ -332,7 +332,7 @@ entry_step limits H restart heads w text head fit small slots entry s =
         let spells : SpellsIntervalsText 0 (map coded all) (progressive_data H head n) =
         subst (λ (r : List (List Place)). SpellsIntervalsText 0 (map coded r) (intervals_text 0 (map stuffed (map coded r)))) (sym rows.2) (intervals_text_spelled 0 (coded rows.0) (map coded rows.1)) in (
           _,
-          scan_step limits H heads (IsKnown H heads) (IsKnown H (head ∷ heads)) now items t head (map coded all) (progressive_data H head n) k.0 st fit.frame.distinct spoken admits spells means
+          scan_step st (IsKnown H (head ∷ heads)) head (map coded all) (progressive_data H head n) k.0 fit.frame.distinct spoken admits spells means
               (known_step H heads head st.blocks k.0 entry.al st.picture k.2),
         )
       where

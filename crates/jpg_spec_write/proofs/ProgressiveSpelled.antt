@@ -133,7 +133,7 @@ pub bands_spelled : (c : Coding) (r : Bool) (i : ℕ) (old new : ℤ → ℤ) (b
 bands_spelled c r i old new bands chosen step ok is run first have =
     let p : ℕ → ℤ = λ i. pos 0 in
     let fits : (n : ℕ) → 1 ≤ n → n ≤ 32767 → digits n ≤ c.most_run + 1 = λ n a b. (let k = few_digits 15 n (omega (arith, b)) in omega (arith, k, run)) in
-    let k = bands_cover c p i 32767 (map (map (sent r c.al)) bands) (map (map old) bands) (map (map new) bands) [] [] fits (all_bands c r old new step bands is) (lit< tt) refl have (inside c new ok bands is) in (
+    let k = bands_cover c p i 32767 fits (map (map (sent r c.al)) bands) (map (map old) bands) (map (map new) bands) [] [] (all_bands c r old new step bands is) (lit< tt) refl have (inside c new ok bands is) in (
       band_elements 32767 0 [] (map (map (sent r c.al)) bands),
       at p [],
       covers_chosen c i chosen (at p (units_of i (map (map old) bands))) (at p []) (band_elements 32767 0 [] (map (map (sent r c.al)) bands)) (flat (map (map new) bands)) k.0 first (after_all i (map (map old) bands)) k.1,

@@ -26,6 +26,7 @@ use Rattle.jpg_spec.proofs.QuantsInForce.{AllContents, IsByte}
 use Rattle.jpg_spec.proofs.SameNumbers.{same_frame, is_place, same_places, file_numbers}
 use Rattle.jpg_spec_write.proofs.MovedWritten.{IsPicture}
 use Rattle.jpg_spec.proofs.ReadPicture.{AreShort, HasTable, has_table, table_is, AreOfBytes, block_in, zero_slots, IsLeft, left_frame}
+use Rattle.jpg_spec.proofs.OutsideZeros.{twice_real}
 
 -- KEPT MARKERS
 
@@ -63,17 +64,10 @@ left_picture limits segments blocks M limited of m =
       markers = all_reverse IsKeptMarker (kept_after segments) (0, []) (kept_markers segments of.0);
       count = subst (λ xs. kept_count xs ≤ 268435456) (sym (reverse-reverse (kept_after segments))) (let a = input_count limits segments m.headers in let b = limited.kept in omega (arith, a, b));
       blocks = λ i x y. shown (nat_lt i (length f.components) && is_real f i x y) (blocks i x y) (block_in (blocks i x y) (range.sizes i x y) (λ k. range.values i x y k));
-      others = λ i x y. ap (λ b. cond b (blocks i x y) (zeros 64)) (twice (is_place f i x y)) ∙ outer (is_place f i x y) (blocks i x y) ∙ ap (λ b. cond b (real_blocks f blocks i x y) (zeros 64)) (same_places f (picture_frame (meaning_of f segments blocks)) i x y same);
+      others = λ i x y. twice_real (is_place f i x y) (blocks i x y) ∙ ap (λ b. cond b (real_blocks f blocks i x y) (zeros 64)) (same_places f (picture_frame (meaning_of f segments blocks)) i x y same);
     } in
     subst (λ N. IsPicture N) (sym m.meaning) here
   where
     shown : (b : Bool) (block : List ℤ) → IsBlockIn (bounds_of 8) block → IsBlockIn (bounds_of 8) (cond b block (zeros 64))
     shown true block is = is
     shown false block is = (refl, refl)
-
-    twice : (b : Bool) → b ≡ b
-    twice b = refl
-
-    outer : (b : Bool) (block : List ℤ) → cond b block (zeros 64) ≡ cond b (cond b block (zeros 64)) (zeros 64)
-    outer true block = refl
-    outer false block = refl

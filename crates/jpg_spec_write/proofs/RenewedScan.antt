@@ -98,72 +98,73 @@ renew_block s new before q = renewed s.ss s.se new (block_at before q.0) q.1
 abbrev pub after_renewed : Scan → (ℤ → ℤ → ℤ) → Blocks → Blocks → Blocks
 after_renewed s new blocks before = blocks_after (all_renewed (renew_block s new before) (all_placed blocks (rows_of s))) before
 
-places_are : (s : Scan) (new : ℤ → ℤ → ℤ) (blocks before : Blocks) → map (λ (q : Placed). q.0) (all_renewed (renew_block s new before) (all_placed blocks (rows_of s))) ≡ s.places
-places_are s new blocks before = renewed_places (renew_block s new before) (all_placed blocks (rows_of s)) ∙ all_places blocks (rows_of s) ∙ joined_chunks s.interval s.places
+module _ (s : Scan) (new : ℤ → ℤ → ℤ) (blocks before : Blocks) where
+  places_are : map (λ (q : Placed). q.0) (all_renewed (renew_block s new before) (all_placed blocks (rows_of s))) ≡ s.places
+  places_are = renewed_places (renew_block s new before) (all_placed blocks (rows_of s)) ∙ all_places blocks (rows_of s) ∙ joined_chunks s.interval s.places
 
-pub after_found : (s : Scan) (new : ℤ → ℤ → ℤ) (blocks before : Blocks) → AreDistinct s.places → Each (λ (q : Placed). block_at (after_renewed s new blocks before) q.0 ≡ renew_block s new before q) (all_placed blocks (rows_of s))
-after_found s new blocks before d =
-    renewed_found (renew_block s new before) (after_renewed s new blocks before) (all_placed blocks (rows_of s))
-    (found_each before (all_renewed (renew_block s new before) (all_placed blocks (rows_of s))) (subst AreDistinct (sym (places_are s new blocks before)) d))
+  pub after_found : AreDistinct s.places → Each (λ (q : Placed). block_at (after_renewed s new blocks before) q.0 ≡ renew_block s new before q) (all_placed blocks (rows_of s))
+  after_found d =
+      renewed_found (renew_block s new before) (after_renewed s new blocks before) (all_placed blocks (rows_of s))
+      (found_each before (all_renewed (renew_block s new before) (all_placed blocks (rows_of s))) (subst AreDistinct (sym (places_are)) d))
 
-pub after_elsewhere : (s : Scan) (new : ℤ → ℤ → ℤ) (blocks before : Blocks) (i x y : ℕ) → any_of (is_at i x y) s.places ≡ false → after_renewed s new blocks before i x y ≡ before i x y
-after_elsewhere s new blocks before i x y e =
-    found_none (all_renewed (renew_block s new before) (all_placed blocks (rows_of s))) (before i x y) i x y (ap (any_of (is_at i x y)) (places_are s new blocks before) ∙ e)
+  pub after_elsewhere : (i x y : ℕ) → any_of (is_at i x y) s.places ≡ false → after_renewed s new blocks before i x y ≡ before i x y
+  after_elsewhere i x y e =
+      found_none (all_renewed (renew_block s new before) (all_placed blocks (rows_of s))) (before i x y) i x y (ap (any_of (is_at i x y)) (places_are) ∙ e)
 
-pub after_size : (s : Scan) (new : ℤ → ℤ → ℤ) (blocks before : Blocks) (i x y : ℕ) → length (before i x y) ≡ 64 → length (after_renewed s new blocks before i x y) ≡ 64
-after_size s new blocks before i x y l =
-    found_by (λ b. length b ≡ 64) (all_renewed (renew_block s new before) (all_placed blocks (rows_of s))) (before i x y) i x y
-    (each_renewed (λ (q : Placed). is_at i x y q.0 ≡ true → length q.1 ≡ 64) (renew_block s new before) (all_placed blocks (rows_of s)) (λ q e. renewed_size s.ss s.se new (block_at before q.0) q.1)) l
+  pub after_size : (i x y : ℕ) → length (before i x y) ≡ 64 → length (after_renewed s new blocks before i x y) ≡ 64
+  after_size i x y l =
+      found_by (λ b. length b ≡ 64) (all_renewed (renew_block s new before) (all_placed blocks (rows_of s))) (before i x y) i x y
+      (each_renewed (λ (q : Placed). is_at i x y q.0 ≡ true → length q.1 ≡ 64) (renew_block s new before) (all_placed blocks (rows_of s)) (λ q e. renewed_size s.ss s.se new (block_at before q.0) q.1)) l
 
--- what isn't in the band doesn't change
-pub after_outside : (s : Scan) (new : ℤ → ℤ → ℤ) (blocks before : Blocks) (i x y k : ℕ) → length (before i x y) ≡ 64 → (nat_le s.ss k && nat_le k s.se) ≡ false → coefficient (after_renewed s new blocks before) i x y k ≡ coefficient before i x y k
-after_outside s new blocks before i x y k l e =
-    ⊎_elim
-    (λ (m : k < 64). found_by (λ b. get_or b k (pos 0) ≡ coefficient before i x y k) (all_renewed (renew_block s new before) (all_placed blocks (rows_of s))) (before i x y) i x y
-    (each_renewed (λ (q : Placed). is_at i x y q.0 ≡ true → get_or q.1 k (pos 0) ≡ coefficient before i x y k) (renew_block s new before) (all_placed blocks (rows_of s))
-    (λ q a. renewed_get s.ss s.se new (block_at before q.0) q.1 k m
-    ∙ ap (λ b. cond b (new (get_or (block_at before q.0) k (pos 0)) (get_or q.1 k (pos 0))) (get_or (block_at before q.0) k (pos 0))) e
-    ∙ at_numbers ℤ (λ i x y. coefficient before i x y k) i x y q.0 a)) refl)
-    (λ (m : 64 ≤ k). get_or_past (after_renewed s new blocks before i x y) k (pos 0) (omega (arith, after_size s new blocks before i x y l, m)) ∙ sym (get_or_past (before i x y) k (pos 0) (omega (arith, l, m))))
-    (cases_lt k 64)
+  -- what isn't in the band doesn't change
+  pub after_outside : (i x y k : ℕ) → length (before i x y) ≡ 64 → (nat_le s.ss k && nat_le k s.se) ≡ false → coefficient (after_renewed s new blocks before) i x y k ≡ coefficient before i x y k
+  after_outside i x y k l e =
+      ⊎_elim
+      (λ (m : k < 64). found_by (λ b. get_or b k (pos 0) ≡ coefficient before i x y k) (all_renewed (renew_block s new before) (all_placed blocks (rows_of s))) (before i x y) i x y
+      (each_renewed (λ (q : Placed). is_at i x y q.0 ≡ true → get_or q.1 k (pos 0) ≡ coefficient before i x y k) (renew_block s new before) (all_placed blocks (rows_of s))
+      (λ q a. renewed_get s.ss s.se new (block_at before q.0) q.1 k m
+      ∙ ap (λ b. cond b (new (get_or (block_at before q.0) k (pos 0)) (get_or q.1 k (pos 0))) (get_or (block_at before q.0) k (pos 0))) e
+      ∙ at_numbers ℤ (λ i x y. coefficient before i x y k) i x y q.0 a)) refl)
+      (λ (m : 64 ≤ k). get_or_past (after_renewed s new blocks before i x y) k (pos 0) (omega (arith, after_size i x y l, m)) ∙ sym (get_or_past (before i x y) k (pos 0) (omega (arith, l, m))))
+      (cases_lt k 64)
 
-pub renew_means : (s : Scan) (new : ℤ → ℤ → ℤ) (blocks before : Blocks) (intervals : List (List ℕ)) → ((i x y : ℕ) → length (before i x y) ≡ 64)
-    → SpellsIntervals s before (after_renewed s new blocks before) (rows_of s) intervals → ScanMeans s intervals before (after_renewed s new blocks before)
-renew_means s new blocks before intervals sizes spelled = record {
-  spelled = spelled;
-  rest = λ i x y k h. stays i x y k h;
-  sizes = λ i x y. after_size s new blocks before i x y (sizes i x y);
-}
-  where
-    stays : (i x y k : ℕ) → is_named s i x y k ≡ false → coefficient (after_renewed s new blocks before) i x y k ≡ coefficient before i x y k
-    stays i x y k h = by (any_of (is_at i x y) s.places) refl h
-      where
-        assoc : (a b c : Bool) → ((a && b) && c) ≡ false → a ≡ true → (b && c) ≡ false
-        assoc true b c e h = e
-        assoc false b c e h = cc
+  pub renew_means : (intervals : List (List ℕ)) → ((i x y : ℕ) → length (before i x y) ≡ 64)
+      → SpellsIntervals s before (after_renewed s new blocks before) (rows_of s) intervals → ScanMeans s intervals before (after_renewed s new blocks before)
+  renew_means intervals sizes spelled = record {
+    spelled = spelled;
+    rest = λ i x y k h. stays i x y k h;
+    sizes = λ i x y. after_size i x y (sizes i x y);
+  }
+    where
+      stays : (i x y k : ℕ) → is_named s i x y k ≡ false → coefficient (after_renewed s new blocks before) i x y k ≡ coefficient before i x y k
+      stays i x y k h = by (any_of (is_at i x y) s.places) refl h
+        where
+          assoc : (a b c : Bool) → ((a && b) && c) ≡ false → a ≡ true → (b && c) ≡ false
+          assoc true b c e h = e
+          assoc false b c e h = cc
 
-        by : (b : Bool) → any_of (is_at i x y) s.places ≡ b → is_named s i x y k ≡ false → coefficient (after_renewed s new blocks before) i x y k ≡ coefficient before i x y k
-        by true z h = after_outside s new blocks before i x y k (sizes i x y) (assoc (any_of (is_at i x y) s.places) (nat_le s.ss k) (nat_le k s.se) h z)
-        by false z h = ap (λ b. get_or b k (pos 0)) (after_elsewhere s new blocks before i x y z)
+          by : (b : Bool) → any_of (is_at i x y) s.places ≡ b → is_named s i x y k ≡ false → coefficient (after_renewed s new blocks before) i x y k ≡ coefficient before i x y k
+          by true z h = after_outside i x y k (sizes i x y) (assoc (any_of (is_at i x y) s.places) (nat_le s.ss k) (nat_le k s.se) h z)
+          by false z h = ap (λ b. get_or b k (pos 0)) (after_elsewhere i x y z)
 
--- a coefficient of the band, at a place of the scan
-pub after_inside : (s : Scan) (new : ℤ → ℤ → ℤ) (blocks before : Blocks) (P : ℤ → Type 0) (i x y k : ℕ) → k < 64 → (nat_le s.ss k && nat_le k s.se) ≡ true → any_of (is_at i x y) s.places ≡ true
-    → Each (λ (q : Placed). is_at i x y q.0 ≡ true → P (new (coefficient before i x y k) (get_or q.1 k (pos 0)))) (all_placed blocks (rows_of s)) → P (coefficient (after_renewed s new blocks before) i x y k)
-after_inside s new blocks before P i x y k m e named h =
-    inner (all_placed blocks (rows_of s)) h (sym (ap (any_of (is_at i x y)) (renewed_places (renew_block s new before) (all_placed blocks (rows_of s)))) ∙ ap (any_of (is_at i x y)) (places_are s new blocks before) ∙ named)
-  where
-    inner : (placed : List Placed) → Each (λ (q : Placed). is_at i x y q.0 ≡ true → P (new (coefficient before i x y k) (get_or q.1 k (pos 0)))) placed → any_of (is_at i x y) (map (λ (q : Placed). q.0) placed) ≡ true
-        → P (get_or (found_at (all_renewed (renew_block s new before) placed) (before i x y) i x y) k (pos 0))
-    inner [] h z = cc
-    inner (q ∷ placed) h z = by (is_at i x y q.0) refl z (λ w. inner placed h.1 w)
-      where
-        by : (b : Bool) → is_at i x y q.0 ≡ b → (b || any_of (is_at i x y) (map (λ (q : Placed). q.0) placed)) ≡ true
-            → (any_of (is_at i x y) (map (λ (q : Placed). q.0) placed) ≡ true → P (get_or (found_at (all_renewed (renew_block s new before) placed) (before i x y) i x y) k (pos 0)))
-            → P (get_or (cond b (renew_block s new before q) (found_at (all_renewed (renew_block s new before) placed) (before i x y) i x y)) k (pos 0))
-        by true a z later =
-            let there : get_or (renew_block s new before q) k (pos 0) ≡ new (coefficient before i x y k) (get_or q.1 k (pos 0)) =
-            renewed_get s.ss s.se new (block_at before q.0) q.1 k m
-            ∙ ap (λ b. cond b (new (get_or (block_at before q.0) k (pos 0)) (get_or q.1 k (pos 0))) (get_or (block_at before q.0) k (pos 0))) e
-            ∙ at_numbers ℤ (λ i x y. new (coefficient before i x y k) (get_or q.1 k (pos 0))) i x y q.0 a in
-            subst P (sym there) (h.0 a)
-        by false a z later = later z
+  -- a coefficient of the band, at a place of the scan
+  pub after_inside : (P : ℤ → Type 0) (i x y k : ℕ) → k < 64 → (nat_le s.ss k && nat_le k s.se) ≡ true → any_of (is_at i x y) s.places ≡ true
+      → Each (λ (q : Placed). is_at i x y q.0 ≡ true → P (new (coefficient before i x y k) (get_or q.1 k (pos 0)))) (all_placed blocks (rows_of s)) → P (coefficient (after_renewed s new blocks before) i x y k)
+  after_inside P i x y k m e named h =
+      inner (all_placed blocks (rows_of s)) h (sym (ap (any_of (is_at i x y)) (renewed_places (renew_block s new before) (all_placed blocks (rows_of s)))) ∙ ap (any_of (is_at i x y)) (places_are) ∙ named)
+    where
+      inner : (placed : List Placed) → Each (λ (q : Placed). is_at i x y q.0 ≡ true → P (new (coefficient before i x y k) (get_or q.1 k (pos 0)))) placed → any_of (is_at i x y) (map (λ (q : Placed). q.0) placed) ≡ true
+          → P (get_or (found_at (all_renewed (renew_block s new before) placed) (before i x y) i x y) k (pos 0))
+      inner [] h z = cc
+      inner (q ∷ placed) h z = by (is_at i x y q.0) refl z (λ w. inner placed h.1 w)
+        where
+          by : (b : Bool) → is_at i x y q.0 ≡ b → (b || any_of (is_at i x y) (map (λ (q : Placed). q.0) placed)) ≡ true
+              → (any_of (is_at i x y) (map (λ (q : Placed). q.0) placed) ≡ true → P (get_or (found_at (all_renewed (renew_block s new before) placed) (before i x y) i x y) k (pos 0)))
+              → P (get_or (cond b (renew_block s new before q) (found_at (all_renewed (renew_block s new before) placed) (before i x y) i x y)) k (pos 0))
+          by true a z later =
+              let there : get_or (renew_block s new before q) k (pos 0) ≡ new (coefficient before i x y k) (get_or q.1 k (pos 0)) =
+              renewed_get s.ss s.se new (block_at before q.0) q.1 k m
+              ∙ ap (λ b. cond b (new (get_or (block_at before q.0) k (pos 0)) (get_or q.1 k (pos 0))) (get_or (block_at before q.0) k (pos 0))) e
+              ∙ at_numbers ℤ (λ i x y. new (coefficient before i x y k) (get_or q.1 k (pos 0))) i x y q.0 a in
+              subst P (sym there) (h.0 a)
+          by false a z later = later z

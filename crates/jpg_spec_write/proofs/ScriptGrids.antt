@@ -9,7 +9,7 @@ use Rattle.jpg_spec.specs.Grids.{Grids, frame_grids}
 use Rattle.jpg_spec_write.specs.Script.{Entry, of_all, sequential_script, is_progressive_script}
 use Rattle.jpg_spec_write.specs.ScriptFaults.{of_one, of_each, script_fault, three_colours_script, any_colours_script, standard_script}
 use Rattle.jpg_spec.specs.declared.frame.Colour.{Colour}
-use Rattle.jpg_spec.specs.declared.frame.Colour.TheVariants.{Gray, YCbCr, Rgb, Cmyk, Ycck, Unknown}
+use Rattle.jpg_spec.specs.declared.frame.Colour.TheVariants.{YCbCr}
 use Rattle.jpg_spec.specs.declared.frame.Component.{Component}
 use Rattle.jpg_spec_write.proofs.StandardScripts.{same_fault, after_by}
 
@@ -71,11 +71,7 @@ same_three f g e = ap (λ x. three_of_parts x (of_all f 0 0 1 0)) (same_all f g 
 
 pub same_standard : (f g : Frame) (colour : Colour) → frame_grids f ≡ frame_grids g → standard_script f colour ≡ standard_script g colour
 same_standard f g YCbCr e = same_three f g e
-same_standard f g Gray e = same_any f g e
-same_standard f g Rgb e = same_any f g e
-same_standard f g Cmyk e = same_any f g e
-same_standard f g Ycck e = same_any f g e
-same_standard f g Unknown e = same_any f g e
+same_standard f g colour e = same_any f g e
 
 pub same_script_fault : (f g : Frame) (script : List Entry) → frame_grids f ≡ frame_grids g → script_fault f script ≡ script_fault g script
 unfolding script_fault

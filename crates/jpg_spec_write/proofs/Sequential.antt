@@ -7,7 +7,7 @@ use Rattle.std.proofs.lemmas.List.Elements.{All-head, All-tail}
 use Rattle.jpg_spec.specs.Numbers.{category, digits, extra_bits}
 use Rattle.jpg_spec.specs.Geometry.{Frame, bounds_of, is_progressive}
 use Rattle.jpg_spec.specs.Segments.{ScanHead}
-use Rattle.jpg_spec.specs.Elements.{Coding, UnitLeft, Standing, Element, difference, dc_bit, value, long_run, ends, Covers, SpellsElement, is_zero, zeros, scaled, are_in_bounds, predicted, symbol_of, bits_after, new_unit}
+use Rattle.jpg_spec.specs.Elements.{Coding, UnitLeft, Standing, Element, difference, dc_bit, Covers, SpellsElement, is_zero, zeros, scaled, are_in_bounds, predicted, symbol_of, bits_after, new_unit}
 use Rattle.jpg_spec_write.specs.Sending.{sent, shifted, divided, band_elements}
 use Rattle.jpg_spec.specs.Scan.{scan_coding, part_of}
 use Rattle.jpg_spec_write.specs.ScanText.{UnitDue, Owned, unit_elements, element_bits, typical_table, is_dc, typical_tables}
@@ -76,7 +76,7 @@ band_spelled c s p i vs chosen us l ok is =
     let bands : AllBands c (band ∷ []) (zeros 63 ∷ []) (vs ∷ []) = (zeros 63, [], vs, [], refl, refl, omega (arith, some_sent vs, l), all, (refl, refl)) in
     let most : c.most_category ≤ 10 = omega (arith, s.most) in
     let fits : (n : ℕ) → 1 ≤ n → n ≤ 1 → digits n ≤ c.most_run + 1 = λ n a b. (let e : 1 ≡ n = omega arith in subst (λ m. digits m ≤ c.most_run + 1) e (omega (arith, one_digit))) in
-    let k = bands_cover c p i 1 (band ∷ []) (zeros 63 ∷ []) (vs ∷ []) [] [] fits bands (lit< tt) refl (band_have c i band (zeros 63) vs (s.ac i) most all) (ap (are_in_bounds c.bounds false) (append-nil vs) ∙ ok) in
+    let k = bands_cover c p i 1 fits (band ∷ []) (zeros 63 ∷ []) (vs ∷ []) [] [] bands (lit< tt) refl (band_have c i band (zeros 63) vs (s.ac i) most all) (ap (are_in_bounds c.bounds false) (append-nil vs) ∙ ok) in
     let covers : Covers c (at p (after_dc i ∷ [])) (band_sent vs) vs k.0 (at p []) = subst (λ x. Covers c (at p (after_dc i ∷ [])) (band_sent vs) x k.0 (at p [])) (append-nil vs) k.1 in
     covers_after c (at p (after_dc i ∷ [])) (at p []) us (band_sent vs) vs (flat_map chosen (band_sent vs))
     (covers_chosen c i chosen (at p (after_dc i ∷ [])) (at p []) (band_sent vs) vs k.0 is (refl, refl, tt) covers)
@@ -104,41 +104,42 @@ dc_predicted p i w all h j = by (j == i)
     by true = h
     by false = all j
 
--- a unit: its difference, and then its band
-unit_first : (c : Coding) → IsSequential c → (p : ℕ → ℤ) (i : ℕ) (v : ℤ) (vs : List ℤ) (us : List UnitLeft) (chosen : Owned → List Bool) (es : List Element) (told : List ℤ) (bits : List Bool) (t : Standing)
-    → IsDc (p i) → are_in_bounds c.bounds true (v ∷ vs) ≡ true → AreChosen c chosen
-    → Covers c (at (predicted p i (shifted 0 v)) (after_dc i ∷ us)) es told bits t
-    → Covers c (at p (new_unit i ∷ us)) (difference (shifted 0 v -ℤ p i) ∷ es) (v ∷ told) (chosen (i, difference (shifted 0 v -ℤ p i)) ++ bits) t
-unit_first c s p i v vs us chosen es told bits t dcp ok is later =
-    let d = shifted 0 v -ℤ p i in
-    let b = both (int_le c.bounds.dc_low v && int_le v c.bounds.dc_high) (are_in_bounds c.bounds false vs) ok in
-    let b' = both (int_le c.bounds.dc_low v) (int_le v c.bounds.dc_high) b.0 in
-    let low : int_le (neg_ℤ (pos 1024)) v ≡ true = subst (λ (k : Bounds). int_le k.dc_low v ≡ true) s.bounds b'.0 in
-    let high : int_le v (pos 1023) ≡ true = subst (λ (k : Bounds). int_le v k.dc_high ≡ true) s.bounds b'.1 in
-    let dcv : IsDc (shifted 0 v) = subst (λ w. IsDc w) (sym (shifted_none v)) (dc_small v low high) in
-    let few : category d ≤ 11 = dc_category (shifted 0 v) (p i) dcv dcp in
-    let cat : category d ≤ c.bounds.dc_cat = subst (λ (k : Bounds). category d ≤ k.dc_cat) (sym s.bounds) few in
-    let has = s.dc i (category d) few in
-    let spells : SpellsElement (c.dc i) (difference d) (chosen (i, difference d)) = (code_of (c.dc i) (category d), first_found (c.dc i) (category d) has.0 has.1, is.first i d) in
-    let there : p i +ℤ d ≡ shifted 0 v = back (shifted 0 v) (p i) in
-    let same : v ≡ scaled c.al (p i +ℤ d) = sym (ap (scaled c.al) (there ∙ shifted_none v) ∙ ap (λ a. scaled a v) s.al ∙ scaled_none v) in
-    let next : predicted p i (shifted 0 v) ≡ predicted p i (p i +ℤ d) = ap (λ w. (let q : ℕ → ℤ = predicted p i w in q)) (sym there) in
-    let inside : are_in_bounds c.bounds true (v ∷ []) ≡ true = and_intro (int_le c.bounds.dc_low v && int_le v c.bounds.dc_high) true b.0 refl in (
-      new_unit i,
-      us,
-      v ∷ [],
-      after_dc i ∷ us,
-      told,
-      chosen (i, difference d),
-      bits,
-      refl,
-      refl,
-      refl,
-      spells,
-      (pos 0, zeros 63, refl, s.refines, cat, refl, ap (λ w. w ∷ []) same, refl),
-      inside,
-      subst (λ q. Covers c (at q (after_dc i ∷ us)) es told bits t) next later,
-    )
+module _ (c : Coding) (s : IsSequential c) (p : ℕ → ℤ) (i : ℕ) where
+  -- a unit: its difference, and then its band
+  unit_first : (v : ℤ) (vs : List ℤ) (us : List UnitLeft) (chosen : Owned → List Bool) (es : List Element) (told : List ℤ) (bits : List Bool) (t : Standing)
+      → IsDc (p i) → are_in_bounds c.bounds true (v ∷ vs) ≡ true → AreChosen c chosen
+      → Covers c (at (predicted p i (shifted 0 v)) (after_dc i ∷ us)) es told bits t
+      → Covers c (at p (new_unit i ∷ us)) (difference (shifted 0 v -ℤ p i) ∷ es) (v ∷ told) (chosen (i, difference (shifted 0 v -ℤ p i)) ++ bits) t
+  unit_first v vs us chosen es told bits t dcp ok is later =
+      let d = shifted 0 v -ℤ p i in
+      let b = both (int_le c.bounds.dc_low v && int_le v c.bounds.dc_high) (are_in_bounds c.bounds false vs) ok in
+      let b' = both (int_le c.bounds.dc_low v) (int_le v c.bounds.dc_high) b.0 in
+      let low : int_le (neg_ℤ (pos 1024)) v ≡ true = subst (λ (k : Bounds). int_le k.dc_low v ≡ true) s.bounds b'.0 in
+      let high : int_le v (pos 1023) ≡ true = subst (λ (k : Bounds). int_le v k.dc_high ≡ true) s.bounds b'.1 in
+      let dcv : IsDc (shifted 0 v) = subst (λ w. IsDc w) (sym (shifted_none v)) (dc_small v low high) in
+      let few : category d ≤ 11 = dc_category (shifted 0 v) (p i) dcv dcp in
+      let cat : category d ≤ c.bounds.dc_cat = subst (λ (k : Bounds). category d ≤ k.dc_cat) (sym s.bounds) few in
+      let has = s.dc i (category d) few in
+      let spells : SpellsElement (c.dc i) (difference d) (chosen (i, difference d)) = (code_of (c.dc i) (category d), first_found (c.dc i) (category d) has.0 has.1, is.first i d) in
+      let there : p i +ℤ d ≡ shifted 0 v = back (shifted 0 v) (p i) in
+      let same : v ≡ scaled c.al (p i +ℤ d) = sym (ap (scaled c.al) (there ∙ shifted_none v) ∙ ap (λ a. scaled a v) s.al ∙ scaled_none v) in
+      let next : predicted p i (shifted 0 v) ≡ predicted p i (p i +ℤ d) = ap (λ w. (let q : ℕ → ℤ = predicted p i w in q)) (sym there) in
+      let inside : are_in_bounds c.bounds true (v ∷ []) ≡ true = and_intro (int_le c.bounds.dc_low v && int_le v c.bounds.dc_high) true b.0 refl in (
+        new_unit i,
+        us,
+        v ∷ [],
+        after_dc i ∷ us,
+        told,
+        chosen (i, difference d),
+        bits,
+        refl,
+        refl,
+        refl,
+        spells,
+        (pos 0, zeros 63, refl, s.refines, cat, refl, ap (λ w. w ∷ []) same, refl),
+        inside,
+        subst (λ q. Covers c (at q (after_dc i ∷ us)) es told bits t) next later,
+      )
 
 -- THE LAW, from any predictions within the bounds
 units_spelled : (c : Coding) → IsSequential c → (chosen : Owned → List Bool) → AreChosen c chosen → (p : ℕ → ℤ) (due : List UnitDue) → ((j : ℕ) → IsDc (p j)) → All (λ u. IsWritable c u) due
@@ -194,9 +195,7 @@ written_bits f head = record {
     other : (i : ℕ) (e : Element) → is_dc e ≡ false → element_bits typical_table head (i, e) ≡ code_of ((scan_coding f typical_tables head).ac i) (symbol_of e) ++ bits_after e
     other i (difference d) h = cc
     other i (dc_bit b) h = cc
-    other i (value run v bits) h = refl
-    other i (long_run bits) h = refl
-    other i (ends bands bits) h = refl
+    other i e h = refl
 
 zero_is_dc : IsDc (pos 0)
 zero_is_dc = dc_small (pos 0) refl refl

@@ -18,7 +18,7 @@ use Rattle.jpg_spec_write.specs.FileText.{frame_of_meaning}
 use Rattle.jpg_spec.proofs.Common.{same_of}
 use Rattle.std.proofs.lemmas.List.{length-map}
 use Rattle.jpg_spec.specs.declared.frame.Colour.{Colour}
-use Rattle.jpg_spec.specs.declared.frame.Colour.TheVariants.{Gray, YCbCr, Rgb, Cmyk, Ycck, Unknown}
+use Rattle.jpg_spec.specs.declared.frame.Colour.TheVariants.{Gray, YCbCr, Cmyk, Ycck, Unknown}
 use Rattle.jpg_spec_write.specs.declared.picture_fault.PictureFault.{PictureFault}
 use Rattle.jpg_spec_write.specs.declared.picture_fault.PictureFault.TheVariants.{ScriptComponent, ScriptMcu, ScriptBand, ScriptIncomplete}
 
@@ -118,14 +118,10 @@ all_pass (suc (suc (suc (suc (suc n))))) l h = absurd (omega (arith, h))
 -- both scripts begin with DC, in one scan or in more
 begins_any : (large : Bool) (n : ℕ) → 1 ≤ n → n ≤ 4 → is_progressive_script (any_by large n) ≡ true
 begins_any large zero l h = absurd (omega (arith, l))
-begins_any large (suc zero) l h = refl
-begins_any true (suc (suc zero)) l h = refl
-begins_any false (suc (suc zero)) l h = refl
-begins_any true (suc (suc (suc zero))) l h = refl
-begins_any false (suc (suc (suc zero))) l h = refl
-begins_any true (suc (suc (suc (suc zero)))) l h = refl
-begins_any false (suc (suc (suc (suc zero)))) l h = refl
 begins_any large (suc (suc (suc (suc (suc n))))) l h = absurd (omega (arith, h))
+begins_any large (suc zero) l h = refl
+begins_any true n l h = refl
+begins_any false n l h = refl
 
 any_passes : (f : Frame) → 1 ≤ length f.components → length f.components ≤ 4 → script_fault f (any_colours_script f) ≡ None
 unfolding script_fault Passes
@@ -151,11 +147,7 @@ three_passes f e =
 
 pub standard_passes : (f : Frame) (colour : Colour) → HasStandardScript f colour → script_fault f (standard_script f colour) ≡ None
 standard_passes f YCbCr is = three_passes f (is.three refl)
-standard_passes f Gray is = any_passes f is.some is.few
-standard_passes f Rgb is = any_passes f is.some is.few
-standard_passes f Cmyk is = any_passes f is.some is.few
-standard_passes f Ycck is = any_passes f is.some is.few
-standard_passes f Unknown is = any_passes f is.some is.few
+standard_passes f colour is = any_passes f is.some is.few
 
 any_begins : (f : Frame) → 1 ≤ length f.components → length f.components ≤ 4 → is_progressive_script (any_colours_script f) ≡ true
 any_begins f l h = begins_any (nat_lt 10 (factor_sum f (below (length f.components)))) (length f.components) l h
@@ -167,11 +159,7 @@ three_begins f e =
 
 pub standard_begins : (f : Frame) (colour : Colour) → HasStandardScript f colour → is_progressive_script (standard_script f colour) ≡ true
 standard_begins f YCbCr is = three_begins f (is.three refl)
-standard_begins f Gray is = any_begins f is.some is.few
-standard_begins f Rgb is = any_begins f is.some is.few
-standard_begins f Cmyk is = any_begins f is.some is.few
-standard_begins f Ycck is = any_begins f is.some is.few
-standard_begins f Unknown is = any_begins f is.some is.few
+standard_begins f colour is = any_begins f is.some is.few
 
 -- only three components are YCbCr
 four_not : (adobe : Option ℕ) → four_colours adobe ≡ YCbCr → ⊥
@@ -245,14 +233,10 @@ all_sequential (suc (suc (suc (suc (suc n))))) l h = absurd (omega (arith, h))
 
 begins_sequential : (large : Bool) (n : ℕ) → 1 ≤ n → n ≤ 4 → is_progressive_script (all_of_by large n 0 63 0 0) ≡ false
 begins_sequential large zero l h = absurd (omega (arith, l))
-begins_sequential large (suc zero) l h = refl
-begins_sequential true (suc (suc zero)) l h = refl
-begins_sequential false (suc (suc zero)) l h = refl
-begins_sequential true (suc (suc (suc zero))) l h = refl
-begins_sequential false (suc (suc (suc zero))) l h = refl
-begins_sequential true (suc (suc (suc (suc zero)))) l h = refl
-begins_sequential false (suc (suc (suc (suc zero)))) l h = refl
 begins_sequential large (suc (suc (suc (suc (suc n))))) l h = absurd (omega (arith, h))
+begins_sequential large (suc zero) l h = refl
+begins_sequential true n l h = refl
+begins_sequential false n l h = refl
 
 pub sequential_has_none : (f : Frame) → IsFrame f → PassesSequential f (sequential_script f)
 unfolding script_fault SequentialPasses

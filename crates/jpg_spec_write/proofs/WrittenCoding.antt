@@ -38,41 +38,42 @@ in_after c p test (value run v bits) u units here left t a = subst (λ l. AllIn 
 in_after c p test (long_run bits) u units here left t a = subst (λ l. AllIn test l) (sym t.6) (in_going test u t.1 units a)
 in_after c p test (ends bands bits) u units here left t a = subst (λ l. AllIn test l) (sym t.6) (in_drop test bands (u ∷ units) a)
 
-tells_coded : (c : Coding) (dc ac : ℕ → List Code) (p : ℤ) (e : Element) (u : UnitLeft) (units : List UnitLeft) (here : List ℤ) (left : List UnitLeft) → Tells c p e u units here left → Tells (coded_by c dc ac) p e u units here left
-tells_coded c dc ac p (difference d) u units here left t = t
-tells_coded c dc ac p (dc_bit b) u units here left t = t
-tells_coded c dc ac p (value run v bits) u units here left t = t
-tells_coded c dc ac p (long_run bits) u units here left t = t
-tells_coded c dc ac p (ends bands bits) u units here left t = t
-
 abbrev pub AreSameCodes : Coding → (ℕ → List Code) → (ℕ → List Code) → (ℕ → Bool) → Type 0
 AreSameCodes c dc ac test = (i : ℕ) → test i ≡ true → (c.dc i ≡ dc i) × (c.ac i ≡ ac i)
 
-due_coded : (c : Coding) (dc ac : ℕ → List Code) (test : ℕ → Bool) (u : UnitLeft) → AreSameCodes c dc ac test → test u.component ≡ true → codes_due c u ≡ codes_due (coded_by c dc ac) u
-due_coded c dc ac test u same h =
-    ap (λ q. cond u.has_dc q (c.ac u.component)) (same u.component h).0 ∙ ap (λ q. cond u.has_dc (dc u.component) q) (same u.component h).1
+module _ (c : Coding) (dc ac : ℕ → List Code) where
+  tells_coded : (p : ℤ) (e : Element) (u : UnitLeft) (units : List UnitLeft) (here : List ℤ) (left : List UnitLeft) → Tells c p e u units here left → Tells (coded_by c dc ac) p e u units here left
+  tells_coded p (difference d) u units here left t = t
+  tells_coded p (dc_bit b) u units here left t = t
+  tells_coded p (value run v bits) u units here left t = t
+  tells_coded p (long_run bits) u units here left t = t
+  tells_coded p (ends bands bits) u units here left t = t
 
-pub covers_coded : (c : Coding) (dc ac : ℕ → List Code) (test : ℕ → Bool) (s t : Standing) (es : List Element) (told : List ℤ) (bits : List Bool) → AreSameCodes c dc ac test → AllIn test s.left
-    → Covers c s es told bits t → Covers (coded_by c dc ac) s es told bits t
-covers_coded c dc ac test s t [] told bits same a k = k
-covers_coded c dc ac test s t (e ∷ es) told bits same a k =
-    let all : AllIn test (k.0 ∷ k.1) = subst (λ l. AllIn test l) k.7 a in (
-      k.0,
-      k.1,
-      k.2,
-      k.3,
-      k.4,
-      k.5,
-      k.6,
-      k.7,
-      k.8,
-      k.9,
-      subst (λ q. SpellsElement q e k.5) (due_coded c dc ac test k.0 same all.0) k.10,
-      tells_coded c dc ac (s.predictions (k.0).component) e k.0 k.1 k.2 k.3 k.11,
-      k.12,
-      covers_coded c dc ac test (record { predictions = predictions_after s.predictions (k.0).component e; left = k.3 }) t es k.4 k.6 same
-          (in_after c (s.predictions (k.0).component) test e k.0 k.1 k.2 k.3 k.11 all) k.13,
-    )
+  due_coded : (test : ℕ → Bool) (u : UnitLeft) → AreSameCodes c dc ac test → test u.component ≡ true → codes_due c u ≡ codes_due (coded_by c dc ac) u
+  due_coded test u same h =
+      ap (λ q. cond u.has_dc q (c.ac u.component)) (same u.component h).0 ∙ ap (λ q. cond u.has_dc (dc u.component) q) (same u.component h).1
+
+  pub covers_coded : (test : ℕ → Bool) (s t : Standing) (es : List Element) (told : List ℤ) (bits : List Bool) → AreSameCodes c dc ac test → AllIn test s.left
+      → Covers c s es told bits t → Covers (coded_by c dc ac) s es told bits t
+  covers_coded test s t [] told bits same a k = k
+  covers_coded test s t (e ∷ es) told bits same a k =
+      let all : AllIn test (k.0 ∷ k.1) = subst (λ l. AllIn test l) k.7 a in (
+        k.0,
+        k.1,
+        k.2,
+        k.3,
+        k.4,
+        k.5,
+        k.6,
+        k.7,
+        k.8,
+        k.9,
+        subst (λ q. SpellsElement q e k.5) (due_coded test k.0 same all.0) k.10,
+        tells_coded (s.predictions (k.0).component) e k.0 k.1 k.2 k.3 k.11,
+        k.12,
+        covers_coded test (record { predictions = predictions_after s.predictions (k.0).component e; left = k.3 }) t es k.4 k.6 same
+            (in_after c (s.predictions (k.0).component) test e k.0 k.1 k.2 k.3 k.11 all) k.13,
+      )
 
 -- THE TABLES in force are the typical ones for the components of the scan
 

@@ -1,6 +1,6 @@
 -- The beginning of a file that is written: its markers, its quantisation tables and its frame header, and what is in
 -- force after them.
-use Rattle.std.proofs.Common.{◌≡◌, ℕ, ◌+◌, ◌-◌, ◌*◌, ◌/◌, ◌%◌, ◌<◌, ◌≤◌, true, cond, not, List, [], ◌∷◌, ◌++◌, length, refl, ap, ◌∙◌, arith, ◌==◌}
+use Rattle.std.proofs.Common.{◌≡◌, ℕ, ◌+◌, ◌*◌, ◌/◌, ◌%◌, ◌<◌, ◌≤◌, true, cond, not, List, [], ◌∷◌, ◌++◌, length, refl, ap, ◌∙◌, arith, ◌==◌}
 use Rattle.std.specs.Prelude.{map, flat_map, reverse, Ok}
 use Rattle.std.specs.Int.{to_be_bytes, w16}
 use Rattle.std.specs.List.{All}

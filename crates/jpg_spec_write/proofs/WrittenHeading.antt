@@ -5,7 +5,6 @@ use Rattle.std.specs.List.{All}
 use Rattle.std.proofs.lemmas.List.{append-nil, reverse-append}
 use Rattle.std.proofs.lemmas.List.Elements.{filter-append, All-head, All-tail, All-nil, All-cons}
 use Rattle.jpg_spec.specs.Lists.{any_of, is_distinct}
-use Rattle.jpg_spec.specs.Faults.{Told, refuse}
 use Rattle.jpg_spec.specs.Geometry.{Frame, padded_blocks}
 use Rattle.jpg_spec.specs.FrameHeader.{has_bad_factor, has_bad_slot, identifiers, checked_frame}
 use Rattle.jpg_spec.specs.Jfif.{jfif_of, begins_jfif, begins_adobe}
@@ -22,7 +21,8 @@ use Rattle.jpg_spec.specs.declared.frame.Colour.{Colour}
 use Rattle.jpg_spec.specs.declared.frame.Colour.TheVariants.{Gray, YCbCr, Rgb, Cmyk, Ycck, Unknown}
 use Rattle.jpg_spec.specs.declared.frame.Limits.{Limits}
 use Rattle.jpg_spec.specs.declared.jfif.Jfif.{Jfif}
-use Rattle.jpg_spec.proofs.Common.{both, negated, neither, refused, not_refused, and_none}
+use Rattle.jpg_spec.proofs.Common.{both, negated, neither, not_refused, and_none}
+use Rattle.jpg_spec.proofs.FrameFound.{checks}
 
 -- THE PROCESS of a frame isn't checked
 
@@ -32,25 +32,12 @@ with_process p f = record f { process = p }
 pub other_process : (limits : Limits) (f g : Frame) (p : Process) → checked_frame limits f ≡ Ok g → checked_frame limits (with_process p f) ≡ Ok (with_process p f)
 unfolding checked_frame
 other_process limits f g p e =
-    let many : Told Frame = refuse TooManyBlocks (nat_lt limits.blocks (padded_blocks f)) (Ok f) in
-    let slots = refuse QuantSlot (any_of has_bad_slot f.components) many in
-    let twice = refuse DuplicateComponent (not (is_distinct (identifiers f.components))) slots in
-    let factors = refuse Sampling (any_of has_bad_factor f.components) twice in
-    let count = refuse ComponentCount (length f.components == 0 || nat_lt 4 (length f.components)) factors in
-    let precision = refuse Precision (not (f.precision == 8)) count in
-    let sides = refuse TooLarge (nat_lt limits.side f.width || nat_lt limits.side f.height) precision in
-    let a = refused EmptyImage (f.width == 0 || f.height == 0) sides g e in
-    let b = refused TooLarge (nat_lt limits.side f.width || nat_lt limits.side f.height) precision g a.1 in
-    let k = refused Precision (not (f.precision == 8)) count g b.1 in
-    let m = refused ComponentCount (length f.components == 0 || nat_lt 4 (length f.components)) factors g k.1 in
-    let n = refused Sampling (any_of has_bad_factor f.components) twice g m.1 in
-    let o = refused DuplicateComponent (not (is_distinct (identifiers f.components))) slots g n.1 in
-    let q = refused QuantSlot (any_of has_bad_slot f.components) many g o.1 in
-    let r = refused TooManyBlocks (nat_lt limits.blocks (padded_blocks f)) (Ok f) g q.1 in
-    not_refused EmptyImage (f.width == 0 || f.height == 0) _ a.0 ∙ not_refused TooLarge (nat_lt limits.side f.width || nat_lt limits.side f.height) _ b.0
-    ∙ not_refused Precision (not (f.precision == 8)) _ k.0 ∙ not_refused ComponentCount (length f.components == 0 || nat_lt 4 (length f.components)) _ m.0
-    ∙ not_refused Sampling (any_of has_bad_factor f.components) _ n.0 ∙ not_refused DuplicateComponent (not (is_distinct (identifiers f.components))) _ o.0
-    ∙ not_refused QuantSlot (any_of has_bad_slot f.components) _ q.0 ∙ not_refused TooManyBlocks (nat_lt limits.blocks (padded_blocks f)) _ r.0
+    let is = (checks limits f g e).0 in
+    let eight : not (f.precision == 8) ≡ false = ap (λ n. not (n == 8)) is.precision in
+    not_refused EmptyImage (f.width == 0 || f.height == 0) _ is.some ∙ not_refused TooLarge (nat_lt limits.side f.width || nat_lt limits.side f.height) _ is.sides
+    ∙ not_refused Precision (not (f.precision == 8)) _ eight ∙ not_refused ComponentCount (length f.components == 0 || nat_lt 4 (length f.components)) _ is.count
+    ∙ not_refused Sampling (any_of has_bad_factor f.components) _ is.factors ∙ not_refused DuplicateComponent (not (is_distinct (identifiers f.components))) _ (ap not is.distinct)
+    ∙ not_refused QuantSlot (any_of has_bad_slot f.components) _ is.slots ∙ not_refused TooManyBlocks (nat_lt limits.blocks (padded_blocks f)) _ is.blocks
 
 -- MARKERS that are left out
 

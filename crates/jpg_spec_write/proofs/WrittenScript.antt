@@ -35,7 +35,7 @@ use Rattle.jpg_spec.proofs.WrittenHead.{IsSpoken, head_contents}
 use Rattle.jpg_spec_write.proofs.WrittenState.{IsSent, Sends, quants_due, tables_step, interval_step}
 use Rattle.jpg_spec_write.proofs.WrittenStep.{ids_of, intervals_text_spelled, rule_is, head_in_is, scan_is, scan_step}
 use Rattle.jpg_spec_write.proofs.WrittenSequential.{plain_part, plain_head, plain_components, IsEntry, entry_is, among_below, plain_spoken, plain_needed, needed_tellable, IsGiven, all_given, typical_given, sequential_admitted, plain_data, scans_are}
-use Rattle.jpg_spec.proofs.Common.{both, neither}
+use Rattle.jpg_spec.proofs.Common.{both, neither, or_assoc}
 
 -- a meaning that may be written in sequential scans
 pub record IsFit (H : Meaning) : Type 0 where
@@ -50,11 +50,7 @@ IsShown H done blocks = (i x y : ℕ) → i < length H.components → is_among i
 
 pub among_join : (i : ℕ) (a b : List ℕ) → is_among i (a ++ b) ≡ (is_among i a || is_among i b)
 among_join i [] b = refl
-among_join i (x ∷ a) b = ap (λ t. (x == i) || t) (among_join i a b) ∙ assoc (x == i) (is_among i a) (is_among i b)
-  where
-    assoc : (x y z : Bool) → (x || (y || z)) ≡ ((x || y) || z)
-    assoc true y z = refl
-    assoc false y z = refl
+among_join i (x ∷ a) b = ap (λ t. (x == i) || t) (among_join i a b) ∙ or_assoc (x == i) (is_among i a) (is_among i b)
 
 each_plain : (P : ℕ → Type 0) (Q : ScanPart → Type 0) (colour : Colour) (components : List ℕ) → ((i : ℕ) → P i → Q (plain_part colour i)) → Each P components → Each Q (map (plain_part colour) components)
 each_plain P Q colour [] f h = tt
@@ -134,10 +130,10 @@ entry_step limits H restart heads done w text components fit small entry begun s
         (λ i l e. st.first i (subst (λ m. i < m) fit.count l) ∙ ap (λ b. cond b (Some (quants_due H i)) None) (begun i ∙ e)) entry.known (each_new done components entry.new) in
         let admits = sequential_admitted f before heads done head fit.sequential st.sent_heads begun (ap (any_of (λ i. is_among i done)) names_are ∙ entry.new) quants given
         (subst (λ l. Each (λ i. quant_of f before i ≡ None) l) (sym names_are) unsent) in
-        let rule = rule_is limits H heads (IsShown H done) now items t head st fit.frame.distinct spoken admits in
-        let told = head_in_is limits H heads (IsShown H done) now items t head st fit.frame.distinct spoken in
+        let rule = rule_is st head fit.frame.distinct spoken admits in
+        let told = head_in_is st head fit.frame.distinct spoken in
         let scan : scan_after limits before (head_contents (ids_of H) head) ≡ scan_of f tabs n head =
-        scan_is limits H heads (IsShown H done) now items t head st fit.frame.distinct spoken ∙ ap (λ m. scan_of f tabs m head) st.interval in
+        scan_is st head fit.frame.distinct spoken ∙ ap (λ m. scan_of f tabs m head) st.interval in
         let plain : is_progressive (frame_of limits before).process ≡ false = ap (λ (g : Frame). is_progressive g.process) st.frame ∙ fit.sequential in
         let new = each_units (IsNewUnit (scan_of f tabs n head) st.blocks) f (head_components head)
         (λ i x y e. subst (λ (z : Scan). unit_at z st.blocks (place f i x y) ≡ new_unit i) scan
@@ -152,7 +148,7 @@ entry_step limits H restart heads done w text components fit small entry begun s
         let spells : SpellsIntervalsText 0 (map coded all) (plain_data H head n) =
         subst (λ (r : List (List Place)). SpellsIntervalsText 0 (map coded r) (intervals_text 0 (map stuffed (map coded r)))) (sym rows.2) (intervals_text_spelled 0 (coded rows.0) (map coded rows.1)) in
         let shown : IsShown H (components ++ done) after = λ i x y l e real. show st i x y l (is_among i components) refl (sym (among_join i components done) ∙ e) real in
-        (_, scan_step limits H heads (IsShown H done) (IsShown H (components ++ done)) now items t head (map coded all) (plain_data H head n) after st fit.frame.distinct spoken admits spells means' shown)
+        (_, scan_step st (IsShown H (components ++ done)) head (map coded all) (plain_data H head n) after fit.frame.distinct spoken admits spells means' shown)
       where
         show : (st : IsSent limits H heads (IsShown H done) now items t) (i x y : ℕ) → i < length H.components → (b : Bool) → is_among i components ≡ b → (is_among i components || is_among i done) ≡ true → is_real f i x y ≡ true
             → scan_after_blocks f head n H.blocks st.blocks i x y ≡ H.blocks i x y

@@ -58,33 +58,6 @@ table_found false false table d later o e t h = h
 table_found true false table d later o e t h = cc
 table_found false true table d later o e t h = cc
 
-table_step : (limits : Limits) (H : Meaning) (heads : List ScanHead) (P : Blocks → Type 0) (given : ℕ → ℕ → Option HuffmanTable) (v : ℕ) (items : List Item) (text : List ℕ) (class slot : ℕ) (table : HuffmanTable) → IsTellable class slot table
-    → IsSent limits H heads P (record { tables = given; interval = v }) items text
-    → IsSent limits H heads P (record { tables = with_table given class slot table; interval = v }) (segment 0xc4 (table_contents class slot table) ∷ items) (text ++ segment_text 0xc4 (table_contents class slot table))
-table_step limits H heads P given v items text class slot table t s = record {
-  blocks = s.blocks;
-  spelled = item_after items text 0xc4 (table_contents class slot table) s.spelled (λ e. omega (arith, e), λ e. omega (arith, e)) (λ e. omega (arith, e)) (λ e. omega (arith, e)) t.short;
-  leads = (refl, ap fault_in t.told, s.leads);
-  frame = s.frame;
-  framed = s.framed;
-  kept = s.kept;
-  quants = s.quants;
-  first = s.first;
-  sent_heads = s.sent_heads;
-  tables = λ c n. found c n;
-  interval = s.interval;
-  picture = s.picture;
-}
-  where
-    found : (c n : ℕ) → huffman_in_force ((0xc4, table_contents class slot table) ∷ segments_of items) c n ≡ with_table given class slot table c n
-    found c n =
-        let d : HuffmanDefinition = record { class = class; slot = slot; table = table } in
-        let test : HuffmanDefinition → Bool = λ d. d.class == c && d.slot == n in
-        let older = huffmans_defined (segments_of items) in
-        let keys : (class == c && slot == n) ≡ (c == class && n == slot) = ap (λ b. b && slot == n) (eq_swap class c) ∙ ap (λ b. c == class && b) (eq_swap slot n) in
-        ap (λ (r : Told (List HuffmanDefinition)). option_map (λ (d : HuffmanDefinition). d.table) (find test (reverse (told_list r) ++ older))) t.told
-        ∙ table_found (class == c && slot == n) (c == class && n == slot) table d (find test older) (given c n) keys refl (s.tables c n)
-
 -- A TABLE that is in force already
 
 pub equal_lists : (a b : List ℕ) → are_equal a b ≡ true → a ≡ b
@@ -117,31 +90,61 @@ held given class slot table e = fun_ext (λ c. fun_ext (λ n. held_by given clas
 abbrev pub Sends : Limits → Meaning → List ScanHead → (Blocks → Type 0) → Written → List ℕ → Type 0
 Sends limits H heads P w text = (items : List Item) × IsSent limits H heads P w items text
 
-pub tables_step : (limits : Limits) (H : Meaning) (heads : List ScanHead) (P : Blocks → Type 0) (given : ℕ → ℕ → Option HuffmanTable) (due : ℕ → ℕ → HuffmanTable) (v : ℕ) (needed : List (ℕ × ℕ)) (text : List ℕ) → Each (λ (n : ℕ × ℕ). IsTellable n.0 n.1 (due n.0 n.1)) needed
-    → Sends limits H heads P (record { tables = given; interval = v }) text
-    → Sends limits H heads P (record { tables = tables_given given due needed; interval = v }) (text ++ tables_text given due needed)
-tables_step limits H heads P given due v [] text t s = subst (λ x. Sends limits H heads P (record { tables = given; interval = v }) x) (sym (append-nil text)) s
-tables_step limits H heads P given due v (n ∷ needed) text t s =
-    by (holds_table (given n.0 n.1) table) refl
-    (λ g s'. tables_step limits H heads P g due v needed text t.1 s')
-    (λ g x s'. tables_step limits H heads P g due v needed x t.1 s')
-  where
-    table : HuffmanTable
-    table = due n.0 n.1
+module _ (limits : Limits) (H : Meaning) (heads : List ScanHead) (P : Blocks → Type 0) where
+  -- one that isn't
+  table_step : (given : ℕ → ℕ → Option HuffmanTable) (v : ℕ) (items : List Item) (text : List ℕ) (class slot : ℕ) (table : HuffmanTable) → IsTellable class slot table
+      → IsSent limits H heads P (record { tables = given; interval = v }) items text
+      → IsSent limits H heads P (record { tables = with_table given class slot table; interval = v }) (segment 0xc4 (table_contents class slot table) ∷ items) (text ++ segment_text 0xc4 (table_contents class slot table))
+  table_step given v items text class slot table t s = record {
+    blocks = s.blocks;
+    spelled = item_after items text 0xc4 (table_contents class slot table) s.spelled (λ e. omega (arith, e), λ e. omega (arith, e)) (λ e. omega (arith, e)) (λ e. omega (arith, e)) t.short;
+    leads = (refl, ap fault_in t.told, s.leads);
+    frame = s.frame;
+    framed = s.framed;
+    kept = s.kept;
+    quants = s.quants;
+    first = s.first;
+    sent_heads = s.sent_heads;
+    tables = λ c n. found c n;
+    interval = s.interval;
+    picture = s.picture;
+  }
+    where
+      found : (c n : ℕ) → huffman_in_force ((0xc4, table_contents class slot table) ∷ segments_of items) c n ≡ with_table given class slot table c n
+      found c n =
+          let d : HuffmanDefinition = record { class = class; slot = slot; table = table } in
+          let test : HuffmanDefinition → Bool = λ d. d.class == c && d.slot == n in
+          let older = huffmans_defined (segments_of items) in
+          let keys : (class == c && slot == n) ≡ (c == class && n == slot) = ap (λ b. b && slot == n) (eq_swap class c) ∙ ap (λ b. c == class && b) (eq_swap slot n) in
+          ap (λ (r : Told (List HuffmanDefinition)). option_map (λ (d : HuffmanDefinition). d.table) (find test (reverse (told_list r) ++ older))) t.told
+          ∙ table_found (class == c && slot == n) (c == class && n == slot) table d (find test older) (given c n) keys refl (s.tables c n)
 
-    by : (b : Bool) → holds_table (given n.0 n.1) table ≡ b
-        → ((g : ℕ → ℕ → Option HuffmanTable) → Sends limits H heads P (record { tables = g; interval = v }) text → Sends limits H heads P (record { tables = tables_given g due needed; interval = v }) (text ++ tables_text g due needed))
-        → ((g : ℕ → ℕ → Option HuffmanTable) (x : List ℕ) → Sends limits H heads P (record { tables = g; interval = v }) x → Sends limits H heads P (record { tables = tables_given g due needed; interval = v }) (x ++ tables_text g due needed))
-        → Sends limits H heads P (record { tables = tables_given (with_table given n.0 n.1 table) due needed; interval = v })
-        (text ++ cond b (tables_text given due needed) (segment_text 0xc4 (table_contents n.0 n.1 table) ++ tables_text (with_table given n.0 n.1 table) due needed))
-    by true e same more =
-        subst (λ (g : ℕ → ℕ → Option HuffmanTable). Sends limits H heads P (record { tables = tables_given g due needed; interval = v }) (text ++ tables_text given due needed))
-        (held given n.0 n.1 table (holds_is (given n.0 n.1) table e)) (same given s)
-    by false e same more =
-        let g = with_table given n.0 n.1 table in
-        let here = segment_text 0xc4 (table_contents n.0 n.1 table) in
-        subst (λ x. Sends limits H heads P (record { tables = tables_given g due needed; interval = v }) x) (append_assoc text here (tables_text g due needed))
-        (more g (text ++ here) (segment 0xc4 (table_contents n.0 n.1 table) ∷ s.0, table_step limits H heads P given v s.0 text n.0 n.1 table t.0 s.1))
+  -- all of them
+  pub tables_step : (given : ℕ → ℕ → Option HuffmanTable) (due : ℕ → ℕ → HuffmanTable) (v : ℕ) (needed : List (ℕ × ℕ)) (text : List ℕ) → Each (λ (n : ℕ × ℕ). IsTellable n.0 n.1 (due n.0 n.1)) needed
+      → Sends limits H heads P (record { tables = given; interval = v }) text
+      → Sends limits H heads P (record { tables = tables_given given due needed; interval = v }) (text ++ tables_text given due needed)
+  tables_step given due v [] text t s = subst (λ x. Sends limits H heads P (record { tables = given; interval = v }) x) (sym (append-nil text)) s
+  tables_step given due v (n ∷ needed) text t s =
+      by (holds_table (given n.0 n.1) table) refl
+      (λ g s'. tables_step g due v needed text t.1 s')
+      (λ g x s'. tables_step g due v needed x t.1 s')
+    where
+      table : HuffmanTable
+      table = due n.0 n.1
+
+      by : (b : Bool) → holds_table (given n.0 n.1) table ≡ b
+          → ((g : ℕ → ℕ → Option HuffmanTable) → Sends limits H heads P (record { tables = g; interval = v }) text → Sends limits H heads P (record { tables = tables_given g due needed; interval = v }) (text ++ tables_text g due needed))
+          → ((g : ℕ → ℕ → Option HuffmanTable) (x : List ℕ) → Sends limits H heads P (record { tables = g; interval = v }) x → Sends limits H heads P (record { tables = tables_given g due needed; interval = v }) (x ++ tables_text g due needed))
+          → Sends limits H heads P (record { tables = tables_given (with_table given n.0 n.1 table) due needed; interval = v })
+          (text ++ cond b (tables_text given due needed) (segment_text 0xc4 (table_contents n.0 n.1 table) ++ tables_text (with_table given n.0 n.1 table) due needed))
+      by true e same more =
+          subst (λ (g : ℕ → ℕ → Option HuffmanTable). Sends limits H heads P (record { tables = tables_given g due needed; interval = v }) (text ++ tables_text given due needed))
+          (held given n.0 n.1 table (holds_is (given n.0 n.1) table e)) (same given s)
+      by false e same more =
+          let g = with_table given n.0 n.1 table in
+          let here = segment_text 0xc4 (table_contents n.0 n.1 table) in
+          subst (λ x. Sends limits H heads P (record { tables = tables_given g due needed; interval = v }) x) (append_assoc text here (tables_text g due needed))
+          (more g (text ++ here) (segment 0xc4 (table_contents n.0 n.1 table) ∷ s.0, table_step given v s.0 text n.0 n.1 table t.0 s.1))
 
 -- THE RESTART INTERVAL
 

@@ -59,59 +59,57 @@ first_step true false o q r e h = ap (λ x. first_some x None) h
 first_step false true o q r e h = ap (λ x. first_some x r) h ∙ e
 first_step false false o q r e h = ap (λ x. first_some x None) h
 
-pub rule_is : (limits : Limits) (H : Meaning) (heads : List ScanHead) (P : Blocks → Type 0) (w : Written) (items : List Item) (text : List ℕ) (head : ScanHead)
-    → (s : IsSent limits H heads P w items text) → is_distinct (ids_of H) ≡ true → IsSpoken (frame_of_meaning H) head
-    → admitted (frame_of_meaning H) (segments_of items) head ≡ Ok head → contents_rule limits (segments_of items) 0xda (head_contents (ids_of H) head) ≡ None
-rule_is limits H heads P w items text head s distinct spoken admits =
-    let f = frame_of_meaning H in
-    let before = segments_of items in
-    let contents = head_contents (ids_of H) head in
-    ap (λ g. fault_in (scan_header g contents >>= admitted g before)) s.frame ∙ ap (λ r. fault_in (r >>= admitted f before)) (head_spoken f head distinct spoken) ∙ ap fault_in admits
+-- A SCAN after what was sent
+module _ {limits : Limits} {H : Meaning} {heads : List ScanHead} {P : Blocks → Type 0} {w : Written} {items : List Item} {text : List ℕ} (s : IsSent limits H heads P w items text) where
+  pub rule_is : (head : ScanHead) → is_distinct (ids_of H) ≡ true → IsSpoken (frame_of_meaning H) head
+      → admitted (frame_of_meaning H) (segments_of items) head ≡ Ok head → contents_rule limits (segments_of items) 0xda (head_contents (ids_of H) head) ≡ None
+  rule_is head distinct spoken admits =
+      let f = frame_of_meaning H in
+      let before = segments_of items in
+      let contents = head_contents (ids_of H) head in
+      ap (λ g. fault_in (scan_header g contents >>= admitted g before)) s.frame ∙ ap (λ r. fault_in (r >>= admitted f before)) (head_spoken f head distinct spoken) ∙ ap fault_in admits
 
-pub head_in_is : (limits : Limits) (H : Meaning) (heads : List ScanHead) (P : Blocks → Type 0) (w : Written) (items : List Item) (text : List ℕ) (head : ScanHead)
-    → (s : IsSent limits H heads P w items text) → is_distinct (ids_of H) ≡ true → IsSpoken (frame_of_meaning H) head → head_in (frame_of limits (segments_of items)) (head_contents (ids_of H) head) ≡ head
-head_in_is limits H heads P w items text head s distinct spoken =
-    ap (λ g. head_in g (head_contents (ids_of H) head)) s.frame ∙ ap (told_or no_head) (head_spoken (frame_of_meaning H) head distinct spoken)
+  pub head_in_is : (head : ScanHead) → is_distinct (ids_of H) ≡ true → IsSpoken (frame_of_meaning H) head → head_in (frame_of limits (segments_of items)) (head_contents (ids_of H) head) ≡ head
+  head_in_is head distinct spoken =
+      ap (λ g. head_in g (head_contents (ids_of H) head)) s.frame ∙ ap (told_or no_head) (head_spoken (frame_of_meaning H) head distinct spoken)
 
-pub scan_is : (limits : Limits) (H : Meaning) (heads : List ScanHead) (P : Blocks → Type 0) (w : Written) (items : List Item) (text : List ℕ) (head : ScanHead)
-    → (s : IsSent limits H heads P w items text) → is_distinct (ids_of H) ≡ true → IsSpoken (frame_of_meaning H) head
-    → scan_after limits (segments_of items) (head_contents (ids_of H) head) ≡ scan_of (frame_of_meaning H) (huffman_in_force (segments_of items)) (restart_in_force (segments_of items)) head
-scan_is limits H heads P w items text head s distinct spoken =
-    let before = segments_of items in
-    let contents = head_contents (ids_of H) head in
-    ap (λ g. scan_of g (huffman_in_force before) (restart_in_force before) (head_in g contents)) s.frame
-    ∙ ap (scan_of (frame_of_meaning H) (huffman_in_force before) (restart_in_force before)) (ap (told_or no_head) (head_spoken (frame_of_meaning H) head distinct spoken))
+  pub scan_is : (head : ScanHead) → is_distinct (ids_of H) ≡ true → IsSpoken (frame_of_meaning H) head
+      → scan_after limits (segments_of items) (head_contents (ids_of H) head) ≡ scan_of (frame_of_meaning H) (huffman_in_force (segments_of items)) (restart_in_force (segments_of items)) head
+  scan_is head distinct spoken =
+      let before = segments_of items in
+      let contents = head_contents (ids_of H) head in
+      ap (λ g. scan_of g (huffman_in_force before) (restart_in_force before) (head_in g contents)) s.frame
+      ∙ ap (scan_of (frame_of_meaning H) (huffman_in_force before) (restart_in_force before)) (ap (told_or no_head) (head_spoken (frame_of_meaning H) head distinct spoken))
 
-pub scan_step : (limits : Limits) (H : Meaning) (heads : List ScanHead) (P Q : Blocks → Type 0) (w : Written) (items : List Item) (text : List ℕ) (head : ScanHead) (intervals : List (List ℕ)) (coded : List ℕ) (after : Blocks)
-    → (s : IsSent limits H heads P w items text) → is_distinct (ids_of H) ≡ true → IsSpoken (frame_of_meaning H) head
-    → admitted (frame_of_meaning H) (segments_of items) head ≡ Ok head → SpellsIntervalsText 0 intervals coded
-    → ScanMeans (scan_of (frame_of_meaning H) (huffman_in_force (segments_of items)) (restart_in_force (segments_of items)) head) intervals s.blocks after → Q after
-    → IsSent limits H (head ∷ heads) Q w (scan (head_contents (ids_of H) head) intervals ∷ items) (text ++ (head_text H head ++ coded))
-scan_step limits H heads P Q w items text head intervals coded after s distinct spoken admits spells means holds =
-    let f = frame_of_meaning H in
-    let before = segments_of items in
-    let contents = head_contents (ids_of H) head in
-    let told : scan_header f contents ≡ Ok head = head_spoken f head distinct spoken in
-    let here : head_in f contents ≡ head = ap (told_or no_head) told in
-    let rule = rule_is limits H heads P w items text head s distinct spoken admits in
-    let stands : code_fault before 0xda ≡ None = ap (λ b. code_fault_if b 0xda) s.framed in
-    let same = scan_is limits H heads P w items text head s distinct spoken in
-    let whole : text ++ (segment_text 0xda contents ++ coded) ≡ text ++ (head_text H head ++ coded) = ap (λ t. text ++ (t ++ coded)) (sym (head_text_is H head)) in
-    let marker : IsMarkerCode 0xda = (λ e. omega (arith, e), λ e. omega (arith, e)) in
-    let front : SpellsFront (scan contents intervals ∷ items) (text ++ (segment_text 0xda contents ++ coded)) =
-    (text, segment_text 0xda contents ++ coded, refl, s.spelled, (segment_text 0xda contents, coded, refl, text_spells 0xda contents marker (head_short f (ids_of H) head spoken), spells)) in
-    record {
-      blocks = after;
-      spelled = subst (λ t. SpellsFront (scan contents intervals ∷ items) t) whole front;
-      leads = (s.blocks, stands, rule, s.leads, subst (λ z. ScanMeans z intervals s.blocks after) (sym same) means);
-      frame = s.frame;
-      framed = s.framed;
-      kept = s.kept;
-      quants = s.quants;
-      first = λ i l. ap (λ h. first_some (quant_of f before i) (cond (names h i) (quant_in_force before (component_at f i).quant) None)) here
-          ∙ first_step (has_begun heads i) (names head i) (quant_of f before i) (quants_due H i) (quant_in_force before (component_at f i).quant) (s.quants i l) (s.first i l);
-      sent_heads = ap (λ h. h ∷ heads_of f before) here ∙ ap (λ hs. head ∷ hs) s.sent_heads;
-      tables = s.tables;
-      interval = s.interval;
-      picture = holds;
-    }
+  pub scan_step : (Q : Blocks → Type 0) (head : ScanHead) (intervals : List (List ℕ)) (coded : List ℕ) (after : Blocks) → is_distinct (ids_of H) ≡ true → IsSpoken (frame_of_meaning H) head
+      → admitted (frame_of_meaning H) (segments_of items) head ≡ Ok head → SpellsIntervalsText 0 intervals coded
+      → ScanMeans (scan_of (frame_of_meaning H) (huffman_in_force (segments_of items)) (restart_in_force (segments_of items)) head) intervals s.blocks after → Q after
+      → IsSent limits H (head ∷ heads) Q w (scan (head_contents (ids_of H) head) intervals ∷ items) (text ++ (head_text H head ++ coded))
+  scan_step Q head intervals coded after distinct spoken admits spells means holds =
+      let f = frame_of_meaning H in
+      let before = segments_of items in
+      let contents = head_contents (ids_of H) head in
+      let told : scan_header f contents ≡ Ok head = head_spoken f head distinct spoken in
+      let here : head_in f contents ≡ head = ap (told_or no_head) told in
+      let rule = rule_is head distinct spoken admits in
+      let stands : code_fault before 0xda ≡ None = ap (λ b. code_fault_if b 0xda) s.framed in
+      let same = scan_is head distinct spoken in
+      let whole : text ++ (segment_text 0xda contents ++ coded) ≡ text ++ (head_text H head ++ coded) = ap (λ t. text ++ (t ++ coded)) (sym (head_text_is H head)) in
+      let marker : IsMarkerCode 0xda = (λ e. omega (arith, e), λ e. omega (arith, e)) in
+      let front : SpellsFront (scan contents intervals ∷ items) (text ++ (segment_text 0xda contents ++ coded)) =
+      (text, segment_text 0xda contents ++ coded, refl, s.spelled, (segment_text 0xda contents, coded, refl, text_spells 0xda contents marker (head_short f (ids_of H) head spoken), spells)) in
+      record {
+        blocks = after;
+        spelled = subst (λ t. SpellsFront (scan contents intervals ∷ items) t) whole front;
+        leads = (s.blocks, stands, rule, s.leads, subst (λ z. ScanMeans z intervals s.blocks after) (sym same) means);
+        frame = s.frame;
+        framed = s.framed;
+        kept = s.kept;
+        quants = s.quants;
+        first = λ i l. ap (λ h. first_some (quant_of f before i) (cond (names h i) (quant_in_force before (component_at f i).quant) None)) here
+            ∙ first_step (has_begun heads i) (names head i) (quant_of f before i) (quants_due H i) (quant_in_force before (component_at f i).quant) (s.quants i l) (s.first i l);
+        sent_heads = ap (λ h. h ∷ heads_of f before) here ∙ ap (λ hs. head ∷ hs) s.sent_heads;
+        tables = s.tables;
+        interval = s.interval;
+        picture = holds;
+      }

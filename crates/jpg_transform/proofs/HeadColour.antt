@@ -24,10 +24,6 @@ nothing_found x e = cc
 abbrev HasNone : (Segment → Bool) → List Segment → Type 0
 HasNone t xs = find t xs ≡ None
 
-found_none : (t : Segment → Bool) (xs : List Segment) → any_of t xs ≡ false → HasNone t xs
-found_none t [] e = refl
-found_none t (x ∷ xs) e = (let n = neither (t x) (any_of t xs) e in ap (λ b. cond b (Some x) (find t xs)) n.0 ∙ found_none t xs n.1)
-
 none_any : (t : Segment → Bool) (xs : List Segment) → HasNone t xs → any_of t xs ≡ false
 none_any t [] e = refl
 none_any t (x ∷ xs) e = by (t x) e (λ h. none_any t xs h)
@@ -149,12 +145,15 @@ is_four adobe = by (is_some_zero adobe) (is_some_number adobe)
     by false true = inr refl
     by false false = inl refl
 
-keeps : (c : Colour) (seen one three four : Bool) (t f u g : Colour) → IsThree seen t → IsFour f → (IsThree seen c → u ≡ c) → (IsFour c → g ≡ c) → cond one Gray (cond three t (cond four f Unknown)) ≡ c
-    → cond one Gray (cond three u (cond four g Unknown)) ≡ c
-keeps c seen true three four t f u g a b x y h = h
-keeps c seen false true four t f u g a b x y h = x (subst (IsThree seen) h a)
-keeps c seen false false true t f u g a b x y h = y (subst IsFour h b)
-keeps c seen false false false t f u g a b x y h = h
+keeps : (c : Colour) (seen : Bool) (count : ℕ) (t f u g : Colour) → IsThree seen t → IsFour f → (IsThree seen c → u ≡ c) → (IsFour c → g ≡ c)
+    → cond (count == 1) Gray (cond (count == 3) t (cond (count == 4) f Unknown)) ≡ c → cond (count == 1) Gray (cond (count == 3) u (cond (count == 4) g Unknown)) ≡ c
+keeps c seen count t f u g a b x y h = by (count == 1) (count == 3) (count == 4) h
+  where
+    by : (one three four : Bool) → cond one Gray (cond three t (cond four f Unknown)) ≡ c → cond one Gray (cond three u (cond four g Unknown)) ≡ c
+    by true three four h = h
+    by false true four h = x (subst (IsThree seen) h a)
+    by false false true h = y (subst IsFour h b)
+    by false false false h = h
 
 abbrev own_kept : Colour → Copying → List Segment → List Segment
 own_kept c copying kept = headed_kept c (jfif_of kept) (copied copying kept)
@@ -175,7 +174,7 @@ tells_four c copying kept (inr e) = subst (λ k. four_colours (adobe_transform (
 own_colour : (count : ℕ) (ids : List ℕ) (c : Colour) (copying : Copying) (kept : List Segment) → colours_of count ids (jfif_of kept).seen (adobe_transform kept) ≡ c
     → colours_of count ids (jfif_of (own_kept c copying kept)).seen (adobe_transform (own_kept c copying kept)) ≡ c
 own_colour count ids c copying kept e =
-    keeps c (jfif_of kept).seen (count == 1) (count == 3) (count == 4) (three_colours ids (jfif_of kept).seen (adobe_transform kept)) (four_colours (adobe_transform kept)) _ _
+    keeps c (jfif_of kept).seen count (three_colours ids (jfif_of kept).seen (adobe_transform kept)) (four_colours (adobe_transform kept)) _ _
     (is_three ids (jfif_of kept).seen (adobe_transform kept)) (is_four (adobe_transform kept)) (tells_three c ids copying kept) (tells_four c copying kept) e
 
 pub headed_colour : (choice : Choice) (M : Meaning) → colour_of (headed_as choice M) ≡ colour_of M

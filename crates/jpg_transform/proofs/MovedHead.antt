@@ -1,5 +1,5 @@
 -- The head of the output: its components, tables, sides, kept markers and colours are those of the transformed picture.
-use Rattle.std.proofs.Common.{◌≡◌, ℕ, ◌≤◌, Bool, true, false, cond, List, [], ◌∷◌, length, get_or, map, refl, sym, ap, ◌∙◌, arith}
+use Rattle.std.proofs.Common.{◌≡◌, ◌≤◌, Bool, true, false, cond, List, [], ◌∷◌, length, get_or, map, refl, sym, ap, ◌∙◌, arith}
 use Rattle.std.proofs.lemmas.List.{length-map}
 use Rattle.jpg_spec.specs.Colours.{colours_of}
 use Rattle.jpg_spec_write.specs.FileText.{frame_of_meaning}
@@ -11,7 +11,6 @@ use Rattle.jpg_spec.specs.Meaning.{component_of}
 use Rattle.jpg_spec.specs.Segments.{QuantTable}
 use Rattle.jpg_spec_move.specs.Transforms.{exchanged_axes, transformed, transposes}
 use Rattle.jpg_spec.specs.Transposed.{transposed}
-use Rattle.jpg_spec.specs.declared.frame.Colour.{Colour}
 use Rattle.jpg_spec.specs.declared.frame.Component.{Component}
 use Rattle.jpg_spec_move.specs.declared.transform.Transform.{Transform}
 use Rattle.jpg_spec_move.specs.declared.transform.Transform.TheVariants.{Keep, FlipH, FlipV, Transpose, Transverse, Rotate90, Rotate180, Rotate270}
@@ -169,9 +168,6 @@ pub kept_stays : (choice : Choice) (M : Meaning) → (unheaded choice M).kept �
 kept_stays choice M = trimmed_kept choice.trim choice.transform (transformed choice.transform (grayed choice.gray M)) ∙ turned_kept choice.transform (grayed choice.gray M) ∙ gray_kept choice.gray M
 
 -- COLOURS
-
-ids_of : List PictureComponent → List ℕ
-ids_of cs = map (λ c. c.id) cs
 
 turned_ids : (t : Transform) (M : Meaning) → map (λ c. c.id) (transformed t M).components ≡ map (λ c. c.id) M.components
 turned_ids t M = ap (map (λ (c : PictureComponent). c.id)) (transformed_components t M) ∙ by (transposes t)

@@ -25,12 +25,25 @@ use Rattle.jpg_spec.proofs.Common.{lt_yes, clash}
 use Rattle.jpg_spec.proofs.WholeFiles.{shown_whole}
 
 -- THE ARGUMENTS OF `new`: the frame of the output, and the columns and rows that change places
+pub record Arguments : Type 0 where
+  pub frame : Frame
+  pub transform : Transform
+  pub over : Bool
+  pub columns : ℕ → ℕ
+  pub rows : ℕ → ℕ
 
-pub record Given (g : Frame) (t : Transform) (over : Bool) (columns rows : ℕ → ℕ) : Type 0 where
-  pub frame : IsFrame g
-  pub over_is : over ≡ transposes t
-  pub columns_are : (i : ℕ) → i < length g.components → columns i ≡ columns_in t g i
-  pub rows_are : (i : ℕ) → i < length g.components → rows i ≡ rows_in t g i
+pub record AreGiven (a : Arguments) : Type 0 where
+  pub frame : IsFrame a.frame
+  pub over : a.over ≡ transposes a.transform
+  pub columns : (i : ℕ) → i < length a.frame.components → a.columns i ≡ columns_in a.transform a.frame i
+  pub rows : (i : ℕ) → i < length a.frame.components → a.rows i ≡ rows_in a.transform a.frame i
+
+-- where the block at column x and row y of component i is, and the blocks put there
+abbrev pub Reaches : Arguments → Frame → ℕ → ℕ → ℕ → Type 0
+Reaches a f i x y = ComesFrom a.over f i (opposite (a.columns i) x) (opposite (a.rows i) y)
+
+abbrev pub placed_by : Arguments → Blocks → Blocks
+placed_by a blocks i x y = placed a.over (a.columns i) (a.rows i) (blocks i) x y
 
 abbrev pub IsMade : Bool → Transform → Frame → Frame → Type 0
 IsMade trim t f g = frame_grids g ≡ frame_grids (trimmed_frame trim t (transformed_frame t f))
@@ -66,12 +79,14 @@ place_before f g t trim i x y is m r =
     comes (transposes t) f i (opposite (columns_in t g i) x) (opposite (rows_in t g i) y)
     (untrimmed trim t N i (opposite (columns_in t g i) x) (opposite (rows_in t g i) y) h v (subst (λ (K : Grids). IsIn K i (opposite (columns_in t g i) x) (opposite (rows_in t g i) y)) e named))
 
-pub reached : (f g : Frame) (t : Transform) (over : Bool) (columns rows : ℕ → ℕ) (trim : Bool) (i x y : ℕ) → Given g t over columns rows → IsMade trim t f g → IsReal g i x y
-    → ComesFrom over f i (opposite (columns i) x) (opposite (rows i) y)
-reached f g t over columns rows trim i x y given m r =
-    subst (λ (b : Bool). ComesFrom b f i (opposite (columns i) x) (opposite (rows i) y)) (sym given.over_is)
-    (subst (λ (c : ℕ). ComesFrom (transposes t) f i (opposite c x) (opposite (rows i) y)) (sym (given.columns_are i r.component))
-    (subst (λ (c : ℕ). ComesFrom (transposes t) f i (opposite (columns_in t g i) x) (opposite c y)) (sym (given.rows_are i r.component)) (place_before f g t trim i x y given.frame m r)))
+reached : {a : Arguments} (f : Frame) (trim : Bool) (i x y : ℕ) → AreGiven a → IsMade trim a.transform f a.frame → IsReal a.frame i x y → Reaches a f i x y
+reached {a} f trim i x y given m r =
+    let t = a.transform in
+    let g = a.frame in
+    subst (λ (b : Bool). ComesFrom b f i (opposite (a.columns i) x) (opposite (a.rows i) y)) (sym given.over)
+    (subst (λ (c : ℕ). ComesFrom (transposes t) f i (opposite c x) (opposite (a.rows i) y)) (sym (given.columns i r.component))
+    (subst (λ (c : ℕ). ComesFrom (transposes t) f i (opposite (columns_in t g i) x) (opposite c y)) (sym (given.rows i r.component))
+    (place_before f g t trim i x y given.frame m r)))
 
 -- BLOCKS
 
@@ -95,39 +110,39 @@ placed_same : (over : Bool) (c r : ℕ) (A B : ℕ → ℕ → List ℤ) (x y : 
 placed_same true c r A B x y e f = ap (λ b. signed (nat_lt x c) (nat_lt y r) (turned_over true b)) (e refl)
 placed_same false c r A B x y e f = ap (λ b. signed (nat_lt x c) (nat_lt y r) b) (f refl)
 
-pub shown : (f g : Frame) (t : Transform) (over : Bool) (columns rows : ℕ → ℕ) (blocks : Blocks) (M : Meaning) (trim : Bool) → Given g t over columns rows → HasWholeBlocks M → IsSeenAs M f blocks → IsMade trim t f g
-    → IsSeenAs (trimmed trim t (transformed t M)) g (λ i x y. placed over (columns i) (rows i) (blocks i) x y)
-shown f g t over columns rows blocks M trim given w s m = record { grids = grids; same = same }
+shown : {a : Arguments} {f : Frame} {blocks : Blocks} (M : Meaning) (trim : Bool) → AreGiven a → HasWholeBlocks M → IsSeenAs M f blocks → IsMade trim a.transform f a.frame
+    → IsSeenAs (trimmed trim a.transform (transformed a.transform M)) a.frame (placed_by a blocks)
+shown {a} {f} {blocks} M trim given w s m = record { grids = grids; same = same }
   where
-    turned : picture_grids (transformed t M) ≡ over_grids (transposes t) (frame_grids f)
-    turned = turned_picture t M ∙ ap (over_grids (transposes t)) s.grids
+    turned : picture_grids (transformed a.transform M) ≡ over_grids (transposes a.transform) (frame_grids f)
+    turned = turned_picture a.transform M ∙ ap (over_grids (transposes a.transform)) s.grids
 
-    grids : picture_grids (trimmed trim t (transformed t M)) ≡ frame_grids g
-    grids = cut_picture trim t (transformed t M) ∙ ap (trim_grids trim t) turned ∙ sym (made trim t f g m)
+    grids : picture_grids (trimmed trim a.transform (transformed a.transform M)) ≡ frame_grids a.frame
+    grids = cut_picture trim a.transform (transformed a.transform M) ∙ ap (trim_grids trim a.transform) turned ∙ sym (made trim a.transform f a.frame m)
 
-    columns_same : (i : ℕ) → i < length g.components → changed_columns t (transformed t M) i ≡ columns i
+    columns_same : (i : ℕ) → i < length a.frame.components → changed_columns a.transform (transformed a.transform M) i ≡ a.columns i
     columns_same i n =
-        let e = made trim t f g m in
-        let K = over_grids (transposes t) (frame_grids f) in
-        let h : 0 < greatest K.across = subst (λ (L : Grids). 0 < greatest L.across) e (some_across g given.frame) in
-        columns_picture t (transformed t M) i ∙ ap (λ (L : Grids). columns_by t L i) turned ∙ sym (columns_cut trim t K i h) ∙ ap (λ (L : Grids). columns_by t L i) (sym e) ∙ sym (columns_frame t g i) ∙ sym (given.columns_are i n)
+        let e = made trim a.transform f a.frame m in
+        let K = over_grids (transposes a.transform) (frame_grids f) in
+        let h : 0 < greatest K.across = subst (λ (L : Grids). 0 < greatest L.across) e (some_across a.frame given.frame) in
+        columns_picture a.transform (transformed a.transform M) i ∙ ap (λ (L : Grids). columns_by a.transform L i) turned ∙ sym (columns_cut trim a.transform K i h) ∙ ap (λ (L : Grids). columns_by a.transform L i) (sym e) ∙ sym (columns_frame a.transform a.frame i) ∙ sym (given.columns i n)
 
-    rows_same : (i : ℕ) → i < length g.components → changed_rows t (transformed t M) i ≡ rows i
+    rows_same : (i : ℕ) → i < length a.frame.components → changed_rows a.transform (transformed a.transform M) i ≡ a.rows i
     rows_same i n =
-        let e = made trim t f g m in
-        let K = over_grids (transposes t) (frame_grids f) in
-        let v : 0 < greatest K.down = subst (λ (L : Grids). 0 < greatest L.down) e (some_down g given.frame) in
-        rows_picture t (transformed t M) i ∙ ap (λ (L : Grids). rows_by t L i) turned ∙ sym (rows_cut trim t K i v) ∙ ap (λ (L : Grids). rows_by t L i) (sym e) ∙ sym (rows_frame t g i) ∙ sym (given.rows_are i n)
+        let e = made trim a.transform f a.frame m in
+        let K = over_grids (transposes a.transform) (frame_grids f) in
+        let v : 0 < greatest K.down = subst (λ (L : Grids). 0 < greatest L.down) e (some_down a.frame given.frame) in
+        rows_picture a.transform (transformed a.transform M) i ∙ ap (λ (L : Grids). rows_by a.transform L i) turned ∙ sym (rows_cut trim a.transform K i v) ∙ ap (λ (L : Grids). rows_by a.transform L i) (sym e) ∙ sym (rows_frame a.transform a.frame i) ∙ sym (given.rows i n)
 
-    same : (i x y : ℕ) → IsReal g i x y → (trimmed trim t (transformed t M)).blocks i x y ≡ placed over (columns i) (rows i) (blocks i) x y
+    same : (i x y : ℕ) → IsReal a.frame i x y → (trimmed trim a.transform (transformed a.transform M)).blocks i x y ≡ placed_by a blocks i x y
     same i x y r =
-        let from = reached f g t over columns rows trim i x y given m r in
-        cut_block trim t (transformed t M) i x y (subst (λ (K : Grids). IsIn K i x y) (sym grids) (to_grids g i x y r))
-        ∙ by_formula M t w i x y
-        ∙ ap (λ c. placed (transposes t) c (changed_rows t (transformed t M) i) (M.blocks i) x y) (columns_same i r.component)
-        ∙ ap (λ c. placed (transposes t) (columns i) c (M.blocks i) x y) (rows_same i r.component)
-        ∙ ap (λ b. placed b (columns i) (rows i) (M.blocks i) x y) (sym given.over_is)
-        ∙ placed_same over (columns i) (rows i) (M.blocks i) (blocks i) x y (λ e. s.same i _ _ (from.turned e)) (λ e. s.same i _ _ (from.plain e))
+        let from = reached f trim i x y given m r in
+        cut_block trim a.transform (transformed a.transform M) i x y (subst (λ (K : Grids). IsIn K i x y) (sym grids) (to_grids a.frame i x y r))
+        ∙ by_formula M a.transform w i x y
+        ∙ ap (λ c. placed (transposes a.transform) c (changed_rows a.transform (transformed a.transform M) i) (M.blocks i) x y) (columns_same i r.component)
+        ∙ ap (λ c. placed (transposes a.transform) (a.columns i) c (M.blocks i) x y) (rows_same i r.component)
+        ∙ ap (λ b. placed b (a.columns i) (a.rows i) (M.blocks i) x y) (sym given.over)
+        ∙ placed_same a.over (a.columns i) (a.rows i) (M.blocks i) (blocks i) x y (λ e. s.same i _ _ (from.turned e)) (λ e. s.same i _ _ (from.plain e))
 
 -- GRAYSCALE: the first component, with all its blocks
 
@@ -192,22 +207,23 @@ may_gray choice t f g o = record { across = o.gray_across; down = o.gray_down }
 made_by : (choice : Choice) (t : Transform) (f g : Frame) → IsOutput choice t f g → IsMade choice.trim t (grayed_frame choice.gray f) g
 made_by choice t f g o = o.grids ∙ ap (λ (u : Transform). frame_grids (trimmed_frame choice.trim u (transformed_frame u (grayed_frame choice.gray f)))) o.transform_is
 
-pub reached_by : (choice : Choice) (f g : Frame) (t : Transform) (over : Bool) (columns rows : ℕ → ℕ) (i x y : ℕ) → IsFrame f → Given g t over columns rows → IsOutput choice t f g → IsReal g i x y
-    → ComesFrom over f i (opposite (columns i) x) (opposite (rows i) y)
-reached_by choice f g t over columns rows i x y is given o r =
-    gray_comes choice.gray over f i (opposite (columns i) x) (opposite (rows i) y) is (may_gray choice t f g o)
-    (reached (grayed_frame choice.gray f) g t over columns rows choice.trim i x y given (made_by choice t f g o) r)
+pub reached_by : {choice : Choice} {f : Frame} {a : Arguments} (i x y : ℕ) → IsFrame f → AreGiven a → IsOutput choice a.transform f a.frame → IsReal a.frame i x y
+    → Reaches a f i x y
+reached_by {choice} {f} {a} i x y is given o r =
+    gray_comes choice.gray a.over f i (opposite (a.columns i) x) (opposite (a.rows i) y) is (may_gray choice a.transform f a.frame o)
+    (reached (grayed_frame choice.gray f) choice.trim i x y given (made_by choice a.transform f a.frame o) r)
 
-pub shown_by : (choice : Choice) (f g : Frame) (t : Transform) (over : Bool) (columns rows : ℕ → ℕ) (blocks : Blocks) (M : Meaning) → IsFrame f → Given g t over columns rows → HasWholeBlocks M → IsSeenAs M f blocks → IsOutput choice t f g
-    → IsSeenAs (moved choice M) g (λ i x y. placed over (columns i) (rows i) (blocks i) x y)
-shown_by choice f g t over columns rows blocks M is given w s o =
-    let may = may_gray choice t f g o in
+pub shown_by : {choice : Choice} {f : Frame} {a : Arguments} {blocks : Blocks} (M : Meaning) → IsFrame f → AreGiven a → HasWholeBlocks M → IsSeenAs M f blocks
+    → IsOutput choice a.transform f a.frame → IsSeenAs (moved choice M) a.frame (placed_by a blocks)
+shown_by {choice} {f} {a} {blocks} M is given w s o =
+    let t = a.transform in
+    let may = may_gray choice t f a.frame o in
     let some : 0 < length M.components =
     (let e : length (map (λ c. c.h) M.components) ≡ length (map (λ c. c.h) f.components) = ap (λ (K : Grids). length K.across) s.grids in
     let l = length-map M.components (λ c. c.h) in let k = length-map f.components (λ c. c.h) in omega (arith, e, l, k, is.count_low)) in
-    subst (λ (u : Transform). IsSeenAs (headed_as choice (trimmed choice.trim u (transformed u (grayed choice.gray M)))) g (λ i x y. placed over (columns i) (rows i) (blocks i) x y)) (sym o.transform_is)
+    subst (λ (u : Transform). IsSeenAs (headed_as choice (trimmed choice.trim u (transformed u (grayed choice.gray M)))) a.frame (placed_by a blocks)) (sym o.transform_is)
     (headed (trimmed choice.trim t (transformed t (grayed choice.gray M)))
-    (shown (grayed_frame choice.gray f) g t over columns rows blocks (grayed choice.gray M) choice.trim given (gray_whole choice.gray M some w) (gray_shown choice.gray f M blocks is may s) (made_by choice t f g o)))
+    (shown (grayed choice.gray M) choice.trim given (gray_whole choice.gray M some w) (gray_shown choice.gray f M blocks is may s) (made_by choice t f a.frame o)))
   where
-    headed : (N : Meaning) → IsSeenAs N g (λ i x y. placed over (columns i) (rows i) (blocks i) x y) → IsSeenAs (headed_as choice N) g (λ i x y. placed over (columns i) (rows i) (blocks i) x y)
+    headed : (N : Meaning) → IsSeenAs N a.frame (placed_by a blocks) → IsSeenAs (headed_as choice N) a.frame (placed_by a blocks)
     headed N h = record { grids = h.grids; same = h.same }

@@ -211,89 +211,99 @@ pub record Work : Type 0 where
 abbrev pub at_work : ReaderState → Drawing → EndState → DeskState → Work
 at_work r d e desk = record { reader = r; image = d; end = e; now = desk }
 
+-- A RUN: the desk before it, and when the input was opened, the head of the picture, and all bytes that were read
+pub record Run : Type 0 where
+  pub old : DeskState
+  pub start : DeskState
+  pub head : Head
+  pub all : List ℕ
+
+abbrev pub more_read : Run → List ℕ → Run
+more_read run piece = record run { all = run.all ++ piece }
+
 -- the picture has the image of this one
 abbrev pub IsImageOf : Showing → Meaning → Meaning → Type 0
 IsImageOf s P M = end_text s.kind (info P s.gray) (pixels P s.gray s.smooth) ≡ shown_text s M
 
 -- THE STATE in which an answer of the reader is handled
-pub record IsShowing (s : Showing) (old start : DeskState) (h : Head) (all : List ℕ) (m : ℕ) (piece : List ℕ) (answer : Result FedRow Stop) (w : Work) : Type 0 where
+pub record IsShowing (s : Showing) (run : Run) (m : ℕ) (piece : List ℕ) (answer : Result FedRow Stop) (w : Work) : Type 0 where
   pub written : List ℕ
-  pub read : HasFedRows s.gray h all m piece answer w.reader
-  pub drawing : IsDrawing s h all m written w.image w.end
-  pub desk : HasCreated s old start all written w.now
-  pub early : IsInTime s all written
+  pub read : HasFedRows s.gray run.head run.all m piece answer w.reader
+  pub drawing : IsDrawing s run.head run.all m written w.image w.end
+  pub desk : HasCreated s run.old run.start run.all written w.now
+  pub early : IsInTime s run.all written
 
 -- The reader goes on: all MCU rows that are complete were drawn and written.
-pub record HasShown (s : Showing) (old start : DeskState) (h : Head) (all : List ℕ) (m : ℕ) (w : Work) : Type 0 where
+pub record HasShown (s : Showing) (run : Run) (m : ℕ) (w : Work) : Type 0 where
   pub written : List ℕ
   pub limits : (w.reader).limits ≡ standard_limits
-  pub read : HasReadRows all m w.reader
-  pub small : All (λ b. b < 256) all
-  pub head : IsHeadIn s.gray h all
-  pub drawing : IsDrawing s h all m written w.image w.end
-  pub desk : HasCreated s old start all written w.now
+  pub read : HasReadRows run.all m w.reader
+  pub small : All (λ b. b < 256) run.all
+  pub head : IsHeadIn s.gray run.head run.all
+  pub drawing : IsDrawing s run.head run.all m written w.image w.end
+  pub desk : HasCreated s run.old run.start run.all written w.now
   pub out : (w.image).out ≡ []
 
 -- The file is complete, and all its MCU rows were drawn.
-pub record HasShownAll (s : Showing) (old start : DeskState) (h : Head) (all : List ℕ) (m : ℕ) (w : Work) : Type 0 where
+pub record HasShownAll (s : Showing) (run : Run) (m : ℕ) (w : Work) : Type 0 where
   pub written : List ℕ
   pub front : List ℕ
   pub rest : List ℕ
-  pub cut : all ≡ front ++ rest
+  pub cut : run.all ≡ front ++ rest
   pub some : 1 ≤ length front
   pub few : length rest ≤ 16384
   pub limits : (w.reader).limits ≡ standard_limits
   pub done : IsDoneByRows front m w.reader
-  pub most : length all ≤ standard_limits.input
-  pub small : All (λ b. b < 256) all
-  pub short : IsShortRead (Image s.gray) all
-  pub head : IsHeadIn s.gray h all
-  pub drawing : IsDrawing s h all m written w.image w.end
-  pub desk : HasCreated s old start all written w.now
-  pub early : IsInTime s all written
+  pub most : length run.all ≤ standard_limits.input
+  pub small : All (λ b. b < 256) run.all
+  pub short : IsShortRead (Image s.gray) run.all
+  pub head : IsHeadIn s.gray run.head run.all
+  pub drawing : IsDrawing s run.head run.all m written w.image w.end
+  pub desk : HasCreated s run.old run.start run.all written w.now
+  pub early : IsInTime s run.all written
 
 -- The input ended early, after this many bytes, and all MCU rows that are complete were drawn and written.
-pub record HasShownEarly (s : Showing) (old start : DeskState) (h : Head) (all : List ℕ) (m n : ℕ) (w : Work) : Type 0 where
+pub record HasShownEarly (s : Showing) (run : Run) (m n : ℕ) (w : Work) : Type 0 where
   pub written : List ℕ
   pub limits : (w.reader).limits ≡ standard_limits
-  pub count : n ≡ length all
-  pub short : length all < standard_limits.input
-  pub done : IsEarlyByRows all m w.reader
-  pub small : All (λ b. b < 256) all
-  pub head : IsHeadIn s.gray h all
-  pub drawing : IsDrawing s h all m written w.image w.end
-  pub desk : HasCreated s old start all written w.now
-  pub early : IsInTime s all written
+  pub count : n ≡ length run.all
+  pub short : length run.all < standard_limits.input
+  pub done : IsEarlyByRows run.all m w.reader
+  pub small : All (λ b. b < 256) run.all
+  pub head : IsHeadIn s.gray run.head run.all
+  pub drawing : IsDrawing s run.head run.all m written w.image w.end
+  pub desk : HasCreated s run.old run.start run.all written w.now
+  pub early : IsInTime s run.all written
   pub ended : rest_of (w.now).left ≡ []
 
 -- This many MCU rows of the picture that the input means were drawn, also some that it doesn't have. All blocks from
 -- `gap` MCU rows further on are zero.
-pub record IsEnding (s : Showing) (old start : DeskState) (h : Head) (all : List ℕ) (n gap : ℕ) (d : Drawing) (e : EndState) (now : DeskState) : Type 0 where
+pub record IsEnding (s : Showing) (run : Run) (n gap : ℕ) (d : Drawing) (e : EndState) (now : DeskState) : Type 0 where
   pub rows : ℕ
   pub written : List ℕ
   pub meaning : Meaning
-  pub read : IsEarlyRead (Image s.gray) meaning n all
-  pub short : length all < standard_limits.input
-  pub head : IsHeadIn s.gray h all
-  pub few : rows ≤ mcu_rows (picture_so_far standard_limits h.before h.contents meaning.blocks)
-  pub later : (i x y : ℕ) → (rows + gap) * rows_in_mcu (frame_of standard_limits h.before) i ≤ y → meaning.blocks i x y ≡ zeros 64
+  pub read : IsEarlyRead (Image s.gray) meaning n run.all
+  pub short : length run.all < standard_limits.input
+  pub head : IsHeadIn s.gray run.head run.all
+  pub few : rows ≤ mcu_rows (picture_so_far standard_limits (run.head).before (run.head).contents meaning.blocks)
+  pub later : (i x y : ℕ) → (rows + gap) * rows_in_mcu (frame_of standard_limits (run.head).before) i ≤ y → meaning.blocks i x y ≡ zeros 64
   pub kind : e.kind ≡ s.kind
-  pub framed : d.strips.display.frame ≡ frame_of standard_limits h.before
+  pub framed : d.strips.display.frame ≡ frame_of standard_limits (run.head).before
   pub given : d.strips.given ≡ rows_made_ready d.strips.display d.strips.pushed
   pub end : IsEndOf d e
-  pub drawn : IsDrawnTo d e (picture_so_far standard_limits h.before h.contents meaning.blocks) s.gray s.smooth rows
-  pub text : written ++ d.out ≡ rows_text s.kind (picture_so_far standard_limits h.before h.contents meaning.blocks) s.gray s.smooth rows
-  pub image : IsImageOf s (picture_so_far standard_limits h.before h.contents meaning.blocks) meaning
-  pub desk : HasCreated s old start all written now
-  pub early : IsInTime s all written
+  pub drawn : IsDrawnTo d e (picture_so_far standard_limits (run.head).before (run.head).contents meaning.blocks) s.gray s.smooth rows
+  pub text : written ++ d.out ≡ rows_text s.kind (picture_so_far standard_limits (run.head).before (run.head).contents meaning.blocks) s.gray s.smooth rows
+  pub image : IsImageOf s (picture_so_far standard_limits (run.head).before (run.head).contents meaning.blocks) meaning
+  pub desk : HasCreated s run.old run.start run.all written now
+  pub early : IsInTime s run.all written
   pub ended : rest_of now.left ≡ []
 
 -- the result of a piece
-abbrev pub AfterShownPiece : Showing → DeskState → DeskState → Head → List ℕ → RowsStep → Work → Type 0
-AfterShownPiece s old start h all step.More w = (m : ℕ) × HasShown s old start h all m w
-AfterShownPiece s old start h all step.Whole w = (m : ℕ) × HasShownAll s old start h all m w
-AfterShownPiece s old start h all (step.Early n) w = (m : ℕ) × HasShownEarly s old start h all m n w
-AfterShownPiece s old start h all (step.Ended ended) w = Shown s old ended w.now
+abbrev pub AfterShownPiece : Showing → Run → RowsStep → Work → Type 0
+AfterShownPiece s run step.More w = (m : ℕ) × HasShown s run m w
+AfterShownPiece s run step.Whole w = (m : ℕ) × HasShownAll s run m w
+AfterShownPiece s run (step.Early n) w = (m : ℕ) × HasShownEarly s run m n w
+AfterShownPiece s run (step.Ended ended) w = Shown s run.old ended w.now
 
 -- Something was read and drawn before.
 pub record CanBeginRows (s : Showing) (piece : List ℕ) (answer : Result FedRow Stop) (r : ReaderState) (now : DeskState) : Type 0 where
@@ -304,68 +314,53 @@ pub record CanBeginRows (s : Showing) (piece : List ℕ) (answer : Result FedRow
   pub opened : HasOpened s old start all now
 
 pub record CanDrawPiece (s : Showing) (piece : List ℕ) (answer : Result FedRow Stop) (w : Work) : Type 0 where
-  pub old : DeskState
-  pub start : DeskState
-  pub head : Head
-  pub all : List ℕ
+  pub run : Run
   pub rows : ℕ
-  pub showing : IsShowing s old start head all rows piece answer w
+  pub showing : IsShowing s run rows piece answer w
 
 pub record CanReadRows (s : Showing) (w : Work) : Type 0 where
-  pub old : DeskState
-  pub start : DeskState
-  pub head : Head
-  pub all : List ℕ
+  pub run : Run
   pub rows : ℕ
-  pub shown : HasShown s old start head all rows w
+  pub shown : HasShown s run rows w
 
 pub record CanFinishImage (s : Showing) (w : Work) : Type 0 where
-  pub old : DeskState
-  pub start : DeskState
-  pub head : Head
-  pub all : List ℕ
+  pub run : Run
   pub rows : ℕ
-  pub shown : HasShownAll s old start head all rows w
+  pub shown : HasShownAll s run rows w
 
 pub record CanEnd (s : Showing) (n : ℕ) (w : Work) : Type 0 where
-  pub old : DeskState
-  pub start : DeskState
-  pub head : Head
-  pub all : List ℕ
+  pub run : Run
   pub rows : ℕ
-  pub shown : HasShownEarly s old start head all rows n w
+  pub shown : HasShownEarly s run rows n w
 
 -- All rows that are missing are zero.
 pub record CanEndInZeros (s : Showing) (n : ℕ) (d : Drawing) (e : EndState) (now : DeskState) : Type 0 where
-  pub old : DeskState
-  pub start : DeskState
-  pub head : Head
-  pub all : List ℕ
-  pub ending : IsEnding s old start head all n 0 d e now
+  pub run : Run
+  pub ending : IsEnding s run n 0 d e now
 
 -- WHATEVER the state was
 
 abbrev pub Draws : ShowWords → List ℕ → Result FedRow Stop → ReaderState → Drawing → EndState → DeskState
     → RowsStep → ReaderState → Drawing → EndState → DeskState → Type 0
 Draws words piece answer r d e s0 result new_r new_d new_e s1 =
-    (old start : DeskState) (h : Head) (all : List ℕ) (m : ℕ) → IsShowing (showing_told words) old start h all m piece answer (at_work r d e s0)
-    → AfterShownPiece (showing_told words) old start h all result (at_work new_r new_d new_e s1)
+    (run : Run) (m : ℕ) → IsShowing (showing_told words) run m piece answer (at_work r d e s0)
+    → AfterShownPiece (showing_told words) run result (at_work new_r new_d new_e s1)
 
 abbrev pub ReadsRows : Showing → ReaderState → Drawing → EndState → DeskState → RowsStep → ReaderState → Drawing → EndState → DeskState → Type 0
 ReadsRows s r d e s0 result new_r new_d new_e s1 =
-    (old start : DeskState) (h : Head) (all : List ℕ) (m : ℕ) → HasShown s old start h all m (at_work r d e s0)
-    → (more : List ℕ) × AfterShownPiece s old start h (all ++ more) result (at_work new_r new_d new_e s1)
+    (run : Run) (m : ℕ) → HasShown s run m (at_work r d e s0)
+    → (more : List ℕ) × AfterShownPiece s (more_read run more) result (at_work new_r new_d new_e s1)
 
 abbrev pub FinishesRows : Showing → ReaderState → Drawing → EndState → DeskState → Why → DeskState → Type 0
 FinishesRows s r d e s0 ended s1 =
-    (old start : DeskState) (h : Head) (all : List ℕ) (m : ℕ) → HasShownAll s old start h all m (at_work r d e s0) → Shown s old ended s1
+    (run : Run) (m : ℕ) → HasShownAll s run m (at_work r d e s0) → Shown s run.old ended s1
 
 abbrev pub FinishesEarly : Showing → ℕ → ReaderState → Drawing → EndState → DeskState → Why → DeskState → Type 0
 FinishesEarly s n r d e s0 ended s1 =
-    (old start : DeskState) (h : Head) (all : List ℕ) (m : ℕ) → HasShownEarly s old start h all m n (at_work r d e s0) → Shown s old ended s1
+    (run : Run) (m : ℕ) → HasShownEarly s run m n (at_work r d e s0) → Shown s run.old ended s1
 
 abbrev pub EndsInZeros : Showing → ℕ → Drawing → EndState → DeskState → Why → DeskState → Type 0
-EndsInZeros s n d e s0 ended s1 = (old start : DeskState) (h : Head) (all : List ℕ) → IsEnding s old start h all n 0 d e s0 → Shown s old ended s1
+EndsInZeros s n d e s0 ended s1 = (run : Run) → IsEnding s run n 0 d e s0 → Shown s run.old ended s1
 
 abbrev pub ShowsFrom : Showing → List ℕ → Result FedRow Stop → ReaderState → DeskState → Why → DeskState → Type 0
 ShowsFrom s piece answer r s0 ended s1 =
@@ -373,7 +368,7 @@ ShowsFrom s piece answer r s0 ended s1 =
 
 abbrev pub DrawsFrom : Showing → List ℕ → Result FedRow Stop → ReaderState → Drawing → EndState → DeskState → Why → DeskState → Type 0
 DrawsFrom s piece answer r d e s0 ended s1 =
-    (old start : DeskState) (h : Head) (all : List ℕ) (m : ℕ) → IsShowing s old start h all m piece answer (at_work r d e s0) → Shown s old ended s1
+    (run : Run) (m : ℕ) → IsShowing s run m piece answer (at_work r d e s0) → Shown s run.old ended s1
 
 abbrev pub why_of : Result (Unit {0}) DecodeStop → Why
 why_of (Ok u) = why.Done

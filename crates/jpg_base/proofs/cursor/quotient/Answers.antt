@@ -1,4 +1,4 @@
-use Rattle.std.proofs.Common.{rules, ◌≡◌, ◌<◌, ◌/◌, ◌^◌, ap, subst, sym, ◌∙◌, arith, ℕ}
+use Rattle.std.proofs.Common.{rules, ◌<◌, ◌/◌, ◌^◌, subst, sym, arith, ℕ}
 use Rattle.std.proofs.Math.Nat.{div-lt_iff_lt-mul}
 use Rattle.jpg_base.proofs.cursor.quotient.Goals as goal
 

@@ -22,7 +22,7 @@ returns-in_err-whole g c =
     let now = at c.take_some-n.new.state c.take_some-n.new.out in
     let n = c.loop-used.used + c.take_some-n.result.0 in
     let back = err_from_is_err_and c.from_residual-in_err-whole.result c.from_residual-in_err-whole.ensures.1 in
-    let fed = some_fed k from (c.loop-used.state, c.loop-used.out) now c.args.piece.now c.loop-used.used c.take_some-n.result.0 c.take_some-n.result.1 c.loop-used.invariant.0 c.take_some-n.ensures.some.1 c.loop-used.invariant.1 c.take_some-n.ensures.takes in
+    let fed = some_fed k from c.args.piece.now c.loop-used.used (c.loop-used.state, c.loop-used.out) now c.take_some-n.result.0 c.take_some-n.result.1 c.loop-used.invariant.0 c.take_some-n.ensures.some.1 c.loop-used.invariant.1 c.take_some-n.ensures.takes in
     rw (back.1, back.2) (n, fed.0, inl (subst (λ (a : Result Bool Stop). k.after from (take n c.args.piece.now) a now) c.in_err-whole.was fed.1))
 
 pub returns-then-branch : goal.returns-then-branch
@@ -32,7 +32,7 @@ returns-then-branch g c =
     let now = at c.take_some-n.new.state c.take_some-n.new.out in
     let piece = c.args.piece.now in
     let n = c.loop-used.used + c.take_some-n.result.0 in
-    let fed = some_fed k from (c.loop-used.state, c.loop-used.out) now piece c.loop-used.used c.take_some-n.result.0 c.take_some-n.result.1 c.loop-used.invariant.0 c.take_some-n.ensures.some.1 c.loop-used.invariant.1 c.take_some-n.ensures.takes in
+    let fed = some_fed k from piece c.loop-used.used (c.loop-used.state, c.loop-used.out) now c.take_some-n.result.0 c.take_some-n.result.1 c.loop-used.invariant.0 c.take_some-n.ensures.some.1 c.loop-used.invariant.1 c.take_some-n.ensures.takes in
     let some = c.take_some-n.ensures.some.0 in
     let whole = subst (λ (a : Result Bool Stop). k.after from (take n piece) a now) c.in_ok-whole.was fed.1 in
     (subst (λ (b : Bool). k.after from (take n piece) (Ok b) now) c.if-branch.true whole, omega (arith, some), fed.0)
@@ -44,6 +44,6 @@ loop-used-preserved g c =
     let now = at c.take_some-n.new.state c.take_some-n.new.out in
     let piece = c.args.piece.now in
     let n = c.loop-used.used + c.take_some-n.result.0 in
-    let fed = some_fed k from (c.loop-used.state, c.loop-used.out) now piece c.loop-used.used c.take_some-n.result.0 c.take_some-n.result.1 c.loop-used.invariant.0 c.take_some-n.ensures.some.1 c.loop-used.invariant.1 c.take_some-n.ensures.takes in
+    let fed = some_fed k from piece c.loop-used.used (c.loop-used.state, c.loop-used.out) now c.take_some-n.result.0 c.take_some-n.result.1 c.loop-used.invariant.0 c.take_some-n.ensures.some.1 c.loop-used.invariant.1 c.take_some-n.ensures.takes in
     let whole = subst (λ (a : Result Bool Stop). k.after from (take n piece) a now) c.in_ok-whole.was fed.1 in
     (fed.0, subst (λ (b : Bool). k.after from (take n piece) (Ok b) now) c.if-branch.false whole)

@@ -23,13 +23,10 @@ unit-requires g c =
     (due, sym same, subst (λ b. k.due (with_unit due (i, b)) (at c.args.sink.now c.args.out.now c.args.desk.now)) (sym e) n.2)
 
 pub returns : goal.returns
-returns g c d places h =
-    let blocks = g.V.BlockView.blocks c.args.view.now in
-    let p = c.args.place in
+returns g c =
     let last = c.args.last.now in
-    let q = to_z w16 (of_z w16 (slice_index_or last p.component (pos 0))) in
-    let same : q ≡ last_in last p.component = to_z-of_z w16 _ (search rules) in
+    let q = to_z w16 (of_z w16 (slice_index_or last c.args.place.component (pos 0))) in
     let fits : SFits w16 c.get.result = search rules in
     let value : to_z w16 (of_z w16 c.get.result) ≡ slice_index_or c.due-block.result 0 (pos 0) = to_z-of_z w16 c.get.result fits ∙ c.get.ensures.value in
-    goes_place g.S.UnitSink.kind d blocks last p places q (to_z w16 (of_z w16 c.get.result)) c.due-block.result (at c.args.sink.now c.args.out.now c.args.desk.now) (at c.unit.new.self c.unit.new.out c.unit.new.desk) c.unit.result
-    (omega (arith, c.told-last, c.requires.four)) same c.due-block.ensures value c.unit.ensures h
+    goes_place g.S.UnitSink.kind (g.V.BlockView.blocks c.args.view.now) (omega (arith, c.told-last, c.requires.four))
+    (record { before = q; block = c.due-block.result; same = to_z-of_z w16 _ (search rules); is = c.due-block.ensures; first = value; takes = c.unit.ensures })

@@ -1,8 +1,10 @@
 use Rattle.std.proofs.Common.{sym, subst, ◌∙◌}
+use Rattle.jpg_spec_image.specs.ImageText.{end_text}
 use Rattle.jpg_spec_image.specs.Pixels.{info, pixels}
 use Rattle.jpg_file.specs.Read.PictureRead.{picture_meaning}
 use Rattle.jpg_pnm_bmp.specs.EndState.{EndState, IsImageInfo}
-use Rattle.jpg_color.proofs.Decoded.{decodes_none, decoded_end, decoded_text, image_info, told_of}
+use Rattle.jpg_color.specs.DecodeRows.{Decodes, finished_end}
+use Rattle.jpg_color.proofs.Decoded.{decodes_none, if_ok_then, image_info, of_picture, told_of}
 use Rattle.jpg_color.proofs.decode.decode_rows.Goals as goal
 
 pub write_image-requires-clause-info : goal.write_image-requires-clause-info
@@ -12,16 +14,16 @@ pub returns-in_default-clause-written : goal.returns-in_default-clause-written
 returns-in_default-clause-written g c =
     let e : EndState = (goal.ImageEnd-dyn g (c.args.end.now.vtable, c.args.end.now.value)).progress c.args.end.now.value in
     let meaning = picture_meaning c.args.picture.now in
-    decodes_none _ e.kind (info meaning c.args.gray) (pixels meaning c.args.gray c.args.smooth)
+    decodes_none e.kind (info meaning c.args.gray) (pixels meaning c.args.gray c.args.smooth)
 
 pub returns-clause-written : goal.returns-clause-written
 returns-clause-written g c =
     let e : EndState = (goal.ImageEnd-dyn g (c.args.end.now.vtable, c.args.end.now.value)).progress c.args.end.now.value in
-    decoded_text (g.D.Desk.state c.args.desk.now) (g.D.Desk.state c.write_image.new.desk) e.kind c.args.picture.now c.args.gray c.args.smooth c.info_of-info.result c.in-Ok.rows c.write_image.result
-    (c.info_of-info.ensures ∙ told_of c.args.picture.now c.args.gray) c.in-Ok.ensures c.write_image.ensures.written
+    let all = of_picture (end_text e.kind) (c.info_of-info.ensures ∙ told_of c.args.picture.now c.args.gray) c.in-Ok.ensures in
+    subst (λ text. Decodes (g.D.Desk.state c.args.desk.now) text c.write_image.result (g.D.Desk.state c.write_image.new.desk)) all c.write_image.ensures.written
 
 pub returns-clause-end : goal.returns-clause-end
 returns-clause-end g c =
     let e : EndState = (goal.ImageEnd-dyn g (c.args.end.now.vtable, c.args.end.now.value)).progress c.args.end.now.value in
-    decoded_end _ e.kind c.args.picture.now c.args.gray c.args.smooth c.info_of-info.result c.in-Ok.rows c.write_image.result
-    (c.info_of-info.ensures ∙ told_of c.args.picture.now c.args.gray) c.in-Ok.ensures c.write_image.ensures.end
+    if_ok_then c.write_image.result (λ x. x ∙ of_picture (finished_end e.kind) (c.info_of-info.ensures ∙ told_of c.args.picture.now c.args.gray) c.in-Ok.ensures)
+    c.write_image.ensures.end

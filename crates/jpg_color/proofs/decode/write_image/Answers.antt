@@ -1,48 +1,37 @@
-use Rattle.std.proofs.Common.{◌++◌, ap, ◌∙◌}
 use Rattle.std.proofs.lemmas.Result.{err_from_is_err_and}
-use Rattle.jpg_spec_image.specs.ImageText.{first_piece}
 use Rattle.jpg_pnm_bmp.specs.EndState.{EndState}
 use Rattle.jpg_color.specs.DecodeRows.{rows_in_all}
-use Rattle.jpg_color.proofs.Decoded.{decodes_none, can_finish, rows_stop, end_stop, image_finished, image_sent}
+use Rattle.jpg_color.proofs.Decoded.{can_finish, decodes_none, end_stop, image_finished, image_sent, is_begun, rows_stop}
 use Rattle.jpg_color.proofs.decode.write_image.Goals as goal
 
 pub returns-in_default-clause-written : goal.returns-in_default-clause-written
 returns-in_default-clause-written g c =
     let e : EndState = (goal.ImageEnd-dyn g (c.args.end.now.vtable, c.args.end.now.value)).progress c.args.end.now.value in
-    decodes_none _ e.kind c.args.info.now (rows_in_all c.args.rows.now)
+    decodes_none e.kind c.args.info.now (rows_in_all c.args.rows.now)
 
 pub returns-in_err-send_rows-clause-written : goal.returns-in_err-send_rows-clause-written
 returns-in_err-send_rows-clause-written g c =
     let back = err_from_is_err_and c.from_residual.result c.from_residual.ensures.1 in
     let e : EndState = (goal.ImageEnd-dyn g (c.args.end.now.vtable, c.args.end.now.value)).progress c.args.end.now.value in
-    let i = c.args.info.now in
-    rw (back.1, back.2)
-    (rows_stop (g.D.Desk.state c.args.desk.now) (g.D.Desk.state c.send_rows.new.desk) i e _ _ c.start_image.new.out c.send_rows.new.out (rows_in_all c.args.rows.now) c.in_err-send_rows.field-0.0
-    c.in-Ok.ensures.0 (c.in-Ok.ensures.1 ∙ ap (λ o. o ++ first_piece e.kind i) c.requires.out) c.in_err-send_rows.ensures)
+    rw (back.1, back.2) (rows_stop (is_begun e c.requires.out c.in-Ok.ensures) c.in_err-send_rows.ensures)
 
 pub send_end-requires-clause-end : goal.send_end-requires-clause-end
 send_end-requires-clause-end g c =
     let e : EndState = (goal.ImageEnd-dyn g (c.args.end.now.vtable, c.args.end.now.value)).progress c.args.end.now.value in
-    can_finish c.args.info.now e _ _ c.args.rows.now c.requires.rows c.in-Ok.ensures.0 (c.in_ok-send_rows.ensures.end)
+    can_finish e c.requires.rows c.in-Ok.ensures.0 c.in_ok-send_rows.ensures.end
 
 pub returns-in_err-send_end-clause-written : goal.returns-in_err-send_end-clause-written
 returns-in_err-send_end-clause-written g c =
     let back = err_from_is_err_and c.from_residual-in_err-send_end.result c.from_residual-in_err-send_end.ensures.1 in
     let e : EndState = (goal.ImageEnd-dyn g (c.args.end.now.vtable, c.args.end.now.value)).progress c.args.end.now.value in
-    let i = c.args.info.now in
-    rw (back.1, back.2)
-    (end_stop (g.D.Desk.state c.args.desk.now) (g.D.Desk.state c.send_rows.new.desk) (g.D.Desk.state c.send_end.new.desk) i e _ _ c.start_image.new.out c.send_rows.new.out c.send_end.new.out (rows_in_all c.args.rows.now)
-    c.in_err-send_end.field-0.0 c.in-Ok.ensures.0 (c.in-Ok.ensures.1 ∙ ap (λ o. o ++ first_piece e.kind i) c.requires.out) c.in_ok-send_rows.ensures c.in_err-send_end.ensures.sent)
+    rw (back.1, back.2) (end_stop (is_begun e c.requires.out c.in-Ok.ensures) c.in_ok-send_rows.ensures c.in_err-send_end.ensures.sent)
 
 pub returns-clause-written : goal.returns-clause-written
 returns-clause-written g c =
     let e : EndState = (goal.ImageEnd-dyn g (c.args.end.now.vtable, c.args.end.now.value)).progress c.args.end.now.value in
-    let i = c.args.info.now in
-    image_sent (g.D.Desk.state c.args.desk.now) (g.D.Desk.state c.send_rows.new.desk) (g.D.Desk.state c.send_end.new.desk) (g.D.Desk.state c.send.new.desk) i e _ _ c.start_image.new.out c.send_rows.new.out c.send_end.new.out
-    c.send.new.out (rows_in_all c.args.rows.now) c.send.result c.in-Ok.ensures.0 (c.in-Ok.ensures.1 ∙ ap (λ o. o ++ first_piece e.kind i) c.requires.out) c.in_ok-send_rows.ensures c.in_ok-send_end.ensures.sent c.send.ensures.sent
-    c.send.ensures.all
+    image_sent (is_begun e c.requires.out c.in-Ok.ensures) c.in_ok-send_rows.ensures c.in_ok-send_end.ensures.sent c.send.ensures.sent c.send.ensures.all
 
 pub returns-clause-end : goal.returns-clause-end
 returns-clause-end g c =
     let e : EndState = (goal.ImageEnd-dyn g (c.args.end.now.vtable, c.args.end.now.value)).progress c.args.end.now.value in
-    image_finished c.args.info.now e _ _ _ (rows_in_all c.args.rows.now) c.send.result c.in-Ok.ensures.0 c.in_ok-send_rows.ensures.end c.in_ok-send_end.ensures.end
+    image_finished e (rows_in_all c.args.rows.now) c.send.result c.in-Ok.ensures.0 c.in_ok-send_rows.ensures.end c.in_ok-send_end.ensures.end

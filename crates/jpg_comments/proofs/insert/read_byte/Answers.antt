@@ -11,7 +11,7 @@ pub returns-in_err-byte-clause-answered : goal.returns-in_err-byte-clause-answer
 returns-in_err-byte-clause-answered c = λ limits bytes h.
     let r = reading_of c.args.reader.now in
     let back = err_from_is_err_and c.from_residual.result c.from_residual.ensures.1 in
-    rw (back.1, back.2) (kept_stop limits c.args.replace r (reading_of c.byte.new.self) bytes c.args.head.now c.args.byte c.in_err-byte.field-0.0 h c.requires c.in_err-byte.ensures.limits (c.in_err-byte.ensures.taken h.1.stands.0)
+    rw (back.1, back.2) (kept_stop limits c.args.replace r bytes c.args.head.now h (reading_of c.byte.new.self) c.args.byte c.in_err-byte.field-0.0 (record { short = c.requires; same = c.in_err-byte.ensures.limits; one = c.in_err-byte.ensures.taken h.1.stands.0 })
     (c.in_err-byte.ensures.answered bytes h.0 h.1.stands))
 
 pub returns-in_ok-keep_segment-in-Whole-clause-answered : goal.returns-in_ok-keep_segment-in-Whole-clause-answered
@@ -19,7 +19,7 @@ returns-in_ok-keep_segment-in-Whole-clause-answered c = λ limits bytes h.
     let r = reading_of c.args.reader.now in
     let next = reading_of c.byte.new.self in
     let comes = subst (λ (s : SegStep). Comes (bytes ++ c.args.byte ∷ []) h.0 (Ok s) next) c.in-Whole.is (c.in_ok-byte.ensures.answered bytes h.0 h.1.stands) in
-    kept_whole limits c.args.replace r next bytes c.args.head.now c.keep_segment.new.head c.args.byte h c.requires c.in_ok-byte.ensures.limits (c.in_ok-byte.ensures.taken h.1.stands.0)
+    kept_whole limits c.args.replace r bytes c.args.head.now h next c.keep_segment.new.head c.args.byte (record { short = c.requires; same = c.in_ok-byte.ensures.limits; one = c.in_ok-byte.ensures.taken h.1.stands.0 })
     (subst (λ (s : SegStep). AfterWhole {X = Stop} (Ok s) next) c.in-Whole.is c.in_ok-byte.ensures.whole) comes (λ fits. c.in_ok-keep_segment-in-Whole.ensures fits)
 
 pub returns-in-Frame-clause-answered : goal.returns-in-Frame-clause-answered
@@ -27,25 +27,25 @@ returns-in-Frame-clause-answered c = λ limits bytes h.
     let r = reading_of c.args.reader.now in
     let next = reading_of c.byte.new.self in
     let comes = subst (λ (s : SegStep). Comes (bytes ++ c.args.byte ∷ []) h.0 (Ok s) next) c.in-Frame.is (c.in_ok-byte.ensures.answered bytes h.0 h.1.stands) in
-    kept_frame limits c.args.replace r next bytes c.args.head.now c.args.byte h c.requires c.in_ok-byte.ensures.limits (c.in_ok-byte.ensures.taken h.1.stands.0) comes
+    kept_frame limits c.args.replace r bytes c.args.head.now h next c.args.byte (record { short = c.requires; same = c.in_ok-byte.ensures.limits; one = c.in_ok-byte.ensures.taken h.1.stands.0 }) comes
 
 pub returns-in-More-clause-answered : goal.returns-in-More-clause-answered
 returns-in-More-clause-answered c = λ limits bytes h.
     let r = reading_of c.args.reader.now in
     let next = reading_of c.byte.new.self in
     let comes = subst (λ (s : SegStep). Comes (bytes ++ c.args.byte ∷ []) h.0 (Ok s) next) c.in-More.is (c.in_ok-byte.ensures.answered bytes h.0 h.1.stands) in
-    kept_on limits c.args.replace r next bytes c.args.head.now c.args.byte at_part h c.requires c.in_ok-byte.ensures.limits (c.in_ok-byte.ensures.taken h.1.stands.0) refl comes.0 comes.1
+    kept_on limits c.args.replace r bytes c.args.head.now h next c.args.byte at_part (record { short = c.requires; same = c.in_ok-byte.ensures.limits; one = c.in_ok-byte.ensures.taken h.1.stands.0 }) refl comes.0 comes.1
 
 pub returns-in-Start-clause-answered : goal.returns-in-Start-clause-answered
 returns-in-Start-clause-answered c = λ limits bytes h.
     let r = reading_of c.args.reader.now in
     let next = reading_of c.byte.new.self in
     let comes = subst (λ (s : SegStep). Comes (bytes ++ c.args.byte ∷ []) h.0 (Ok s) next) c.in-Start.is (c.in_ok-byte.ensures.answered bytes h.0 h.1.stands) in
-    kept_on limits c.args.replace r next bytes c.args.head.now c.args.byte at_soi h c.requires c.in_ok-byte.ensures.limits (c.in_ok-byte.ensures.taken h.1.stands.0) refl comes.0 comes.1
+    kept_on limits c.args.replace r bytes c.args.head.now h next c.args.byte at_soi (record { short = c.requires; same = c.in_ok-byte.ensures.limits; one = c.in_ok-byte.ensures.taken h.1.stands.0 }) refl comes.0 comes.1
 
 pub returns-in-Eoi-clause-answered : goal.returns-in-Eoi-clause-answered
 returns-in-Eoi-clause-answered c = λ limits bytes h.
     let r = reading_of c.args.reader.now in
     let next = reading_of c.byte.new.self in
     let comes = subst (λ (s : SegStep). Comes (bytes ++ c.args.byte ∷ []) h.0 (Ok s) next) c.in-Eoi.is (c.in_ok-byte.ensures.answered bytes h.0 h.1.stands) in
-    absurd (kept_eoi limits c.args.replace r next bytes (bytes ++ c.args.byte ∷ []) c.args.head.now h comes.1)
+    absurd (kept_eoi limits c.args.replace r bytes c.args.head.now h next (bytes ++ c.args.byte ∷ []) comes.1)

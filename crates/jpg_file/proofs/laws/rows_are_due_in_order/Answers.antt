@@ -2,4 +2,4 @@ use Rattle.jpg_file.proofs.RowPlaces.{row_is_next}
 use Rattle.jpg_file.proofs.laws.rows_are_due_in_order.Goals as goal
 
 pub returns : goal.returns
-returns c = λ limits p w now row rows f ids d. row_is_next limits p w d.machine now row rows f ids d.is d.due d.work d.places d.framed d.at
+returns c = λ limits p w now row rows f ids d. row_is_next limits p f ids d.places row rows d.framed w d.machine now d.is d.due d.work d.at

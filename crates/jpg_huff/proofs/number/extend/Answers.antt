@@ -1,6 +1,5 @@
-use Rattle.std.proofs.Common.{◌^◌, ◌-◌, ◌∙◌, sym, ap, arith, pos, rules, neg_ℤ, ◌-ℤ◌}
+use Rattle.std.proofs.Common.{◌^◌, ◌-◌, ◌∙◌, sym, ap, arith, pos, rules, ◌-ℤ◌}
 use mir.Syntax.{w16}
-use mir.Val.{SFits}
 use Rattle.std.proofs.lemmas.Int.{to_z-of_z}
 use Rattle.std.proofs.lemmas.Nat.{one_shl}
 use Rattle.jpg_spec.specs.Bits.{bits_of}
@@ -19,31 +18,27 @@ returns-then-size-eq0-clause-extra c = ap (λ k. bits_of k c.args.bits) (sym c.i
 
 pub returns-then-bits-size-clause-category : goal.returns-then-bits-size-clause-category
 returns-then-bits-size-clause-category c =
-    let f : SFits w16 c.lowered.result = search rules in
     let s = one_shl (c.args.size - 1) 32 (omega arith) in
-    ap category (to_z-of_z w16 c.lowered.result f ∙ c.lowered.ensures ∙ lowered_by_none c.args.bits) ∙ digits_high c.args.size c.args.bits (omega arith) (omega arith) c.requires.bits
+    ap category (to_z-of_z w16 c.lowered.result (search rules) ∙ c.lowered.ensures ∙ lowered_by_none c.args.bits) ∙ digits_high c.args.size c.args.bits (omega arith) (omega arith) c.requires.bits
 
 pub returns-then-bits-size-clause-extra : goal.returns-then-bits-size-clause-extra
 returns-then-bits-size-clause-extra c =
-    let f : SFits w16 c.lowered.result = search rules in
     let s = one_shl (c.args.size - 1) 32 (omega arith) in
-    ap extra_bits (to_z-of_z w16 c.lowered.result f ∙ c.lowered.ensures ∙ lowered_by_none c.args.bits)
+    ap extra_bits (to_z-of_z w16 c.lowered.result (search rules) ∙ c.lowered.ensures ∙ lowered_by_none c.args.bits)
     ∙ ap (λ k. bits_of k c.args.bits) (digits_high c.args.size c.args.bits (omega arith) (omega arith) c.requires.bits)
 
 pub returns-else-bits-size-clause-category : goal.returns-else-bits-size-clause-category
 returns-else-bits-size-clause-category c =
     let r = c.lowered-else-bits-size.result in
-    let f : SFits w16 r = search rules in
     let s = one_shl (c.args.size - 1) 32 (omega arith) in
     let t = one_shl c.args.size 32 (omega arith) in
-    ap category (to_z-of_z w16 r f ∙ c.lowered-else-bits-size.ensures ∙ ap (λ p. pos c.args.bits -ℤ pos (p - 1)) t ∙ lowered_below c.args.bits (2 ^ c.args.size - 1) (omega (arith, c.requires.bits)))
+    ap category (to_z-of_z w16 r (search rules) ∙ c.lowered-else-bits-size.ensures ∙ ap (λ p. pos c.args.bits -ℤ pos (p - 1)) t ∙ lowered_below c.args.bits (2 ^ c.args.size - 1) (omega (arith, c.requires.bits)))
     ∙ category_negative (2 ^ c.args.size - 1 - c.args.bits) ∙ digits_low c.args.size c.args.bits (omega arith) (omega arith)
 
 pub returns-else-bits-size-clause-extra : goal.returns-else-bits-size-clause-extra
 returns-else-bits-size-clause-extra c =
     let r = c.lowered-else-bits-size.result in
-    let f : SFits w16 r = search rules in
     let s = one_shl (c.args.size - 1) 32 (omega arith) in
     let t = one_shl c.args.size 32 (omega arith) in
-    ap extra_bits (to_z-of_z w16 r f ∙ c.lowered-else-bits-size.ensures ∙ ap (λ p. pos c.args.bits -ℤ pos (p - 1)) t ∙ lowered_below c.args.bits (2 ^ c.args.size - 1) (omega (arith, c.requires.bits)))
+    ap extra_bits (to_z-of_z w16 r (search rules) ∙ c.lowered-else-bits-size.ensures ∙ ap (λ p. pos c.args.bits -ℤ pos (p - 1)) t ∙ lowered_below c.args.bits (2 ^ c.args.size - 1) (omega (arith, c.requires.bits)))
     ∙ extra_low c.args.size c.args.bits (omega arith) (omega arith)

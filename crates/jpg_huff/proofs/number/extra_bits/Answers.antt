@@ -1,6 +1,5 @@
 use Rattle.std.proofs.Common.{◌<◌, ◌^◌, ap, sym, subst, ◌∙◌, rules}
 use mir.Syntax.{w32}
-use mir.Val.{SFits}
 use Rattle.std.specs.Prelude.{nat_abs}
 use Rattle.std.proofs.lemmas.Int.{to_z-of_z}
 use Rattle.jpg_spec.specs.Numbers.{digits}
@@ -13,6 +12,5 @@ overflow_sub-below-2 c = shifted_fits c.unsigned_abs-magnitude.result c.binary_d
 
 pub returns-then-value-ge0-clause-fits : goal.returns-then-value-ge0-clause-fits
 returns-then-value-ge0-clause-fits c =
-    let f : SFits w32 c.args.value = search rules in
-    let e = to_z-of_z w32 c.args.value f in
+    let e = to_z-of_z w32 c.args.value (search rules) in
     subst (λ m. m < 2 ^ digits (nat_abs c.args.value)) (sym (c.unsigned_abs-magnitude.ensures.value ∙ ap nat_abs e)) (below_digits (nat_abs c.args.value))

@@ -1,6 +1,6 @@
 use Rattle.std.proofs.Common.{◌≡◌, ◌++◌, ap, ◌∙◌, arith, rules, pos}
 use mir.Syntax.{w16}
-use mir.Val.{SFits, to_z, of_z}
+use mir.Val.{to_z, of_z}
 use Rattle.std.specs.Prelude.{slice_index_or}
 use Rattle.std.proofs.lemmas.Int.{to_z-of_z}
 use Rattle.jpg_spec_write.specs.Sending.{sent, corrections_of}
@@ -13,8 +13,7 @@ use Rattle.jpg_prog_write.proofs.bands.wait_all.Goals as goal
 
 pub loop-k-preserved : goal.loop-k-preserved
 loop-k-preserved c =
-    let f : SFits w16 c.get.result = search rules in
-    let e : to_z w16 (of_z w16 c.get.result) ≡ slice_index_or c.args.block.now c.loop-k.k (pos 0) = to_z-of_z w16 c.get.result f ∙ c.get.ensures.value in
+    let e : to_z w16 (of_z w16 c.get.result) ≡ slice_index_or c.args.block.now c.loop-k.k (pos 0) = to_z-of_z w16 c.get.result (search rules) ∙ c.get.ensures.value in
     let is : sent_by c.sent.result ≡ sent_at c.args.band c.args.block.now c.loop-k.k = c.sent.ensures ∙ ap (sent c.args.band.refines c.args.band.al) e in
     record {
       from = omega (arith, c.loop-k.invariant.from);

@@ -1,10 +1,10 @@
-use Rattle.std.proofs.Common.{◌≡◌, ◌<◌, refl, sym, ap, subst, arith}
+use Rattle.std.proofs.Common.{◌≡◌, ◌<◌, refl, sym, ap, ◌∙◌, subst, arith}
 use Rattle.jpg_spec.specs.Segments.{ScanHead}
 use Rattle.jpg_spec.specs.Scan.{part_of}
 use Rattle.jpg_coefs.specs.Sinks.{intervals_due}
 use Rattle.jpg_coefs.proofs.BitSinks.{all_units}
-use Rattle.jpg_prog_write.specs.Counted.{AreCountedRows, Notes, owned_marks, scan_marks}
-use Rattle.jpg_prog_write.specs.ScanSinks.{IsBandUnit, dc_counter, ac_counter}
+use Rattle.jpg_prog_write.specs.Counted.{AreCountedRows, Notes, marks_of, owned_marks, scan_marks}
+use Rattle.jpg_prog_write.specs.ScanSinks.{IsBandUnit, bands_left, dc_counter, ac_counter}
 use Rattle.jpg_prog_write.proofs.DcUnits.{first_all}
 use Rattle.jpg_prog_write.proofs.BandUnits.{ac_head, bits_of_head, unit_fits}
 use Rattle.jpg_prog_write.proofs.Marks.{band_marks}
@@ -12,8 +12,8 @@ use Rattle.jpg_prog_write.proofs.SymbolsUsed.{rows_none}
 use Rattle.jpg_prog_write.proofs.Counting.{begins, slots_of, small_slot}
 use Rattle.jpg_prog_write.proofs.count.count_rows.Goals as goal
 
-pub no_bands-bands-requires : goal.no_bands-bands-requires
-no_bands-bands-requires g c =
+pub no_bands-requires : goal.no_bands-requires
+no_bands-requires g c =
     let head = c.args.head.now in
     let ss = ap (λ (h : ScanHead). h.ss) c.head.view_is in
     ac_head (g.V.BlockView.numbers c.args.view.now) head c.requires.scan (omega (arith, ss, c.if-head-gt0.true))
@@ -23,11 +23,11 @@ put_scan-counted-requires-clause-begins g c =
     let f = g.V.BlockView.numbers c.args.view.now in
     let head = c.args.head.now in
     let blocks = g.V.BlockView.blocks c.args.view.now in
-    let are = c.no_bands-bands.ensures.bands in
+    let are = c.no_bands.ensures.bands in
     let rows = subst AreCountedRows (sym c.no_marks-rows.ensures) rows_none in
-    begins ac_counter _ (intervals_due f head c.args.interval blocks) (refl, are, small_slot head c.requires.slots) rows
+    begins ac_counter _ (intervals_due f head c.args.interval blocks) (refl, are, c.first_slot.ensures, subst (λ n. n < 2) (sym c.first_slot.ensures) (small_slot head c.requires.slots)) rows
     (all_units (IsBandUnit head) f head c.args.interval blocks c.requires.scan.components (λ p last is. unit_fits f head blocks last p c.requires.blocks are.ac.one is))
-    (λ due fits. band_marks head c.no_bands-bands.result due are c.no_bands-bands.ensures.none fits)
+    (λ due fits. ap (λ slot. marks_of slot (bands_left c.no_bands.result due)) c.first_slot.ensures ∙ band_marks head c.no_bands.result due are c.no_bands.ensures.none fits)
 
 pub returns-then-head-gt0 : goal.returns-then-head-gt0
 unfolding scan_marks

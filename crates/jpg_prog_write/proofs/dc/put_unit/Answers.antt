@@ -1,6 +1,6 @@
 use Rattle.std.proofs.Common.{◌≤◌, ◌∷◌, ◌++◌, [], sym, ap, ◌∙◌, subst, arith, rules}
 use mir.Syntax.{w16, w32}
-use mir.Val.{SFits, to_z, of_z}
+use mir.Val.{to_z, of_z}
 use Rattle.std.specs.Prelude.{◌-ℤ◌}
 use Rattle.std.proofs.lemmas.Int.{to_z-of_z}
 use Rattle.jpg_spec.specs.Numbers.{category, extra_bits}
@@ -15,34 +15,26 @@ use Rattle.jpg_prog_write.proofs.dc.put_unit.Goals as goal
 
 pub put_difference-requires-clause-short : goal.put_difference-requires-clause-short
 put_difference-requires-clause-short g c =
-    let f : SFits w32 c.difference.result = search rules in
     let w = c.difference.ensures.within in
-    subst (λ d. category d ≤ 16) (sym (to_z-of_z w32 c.difference.result f)) (apart_16 c.difference.result w.0 w.1)
+    subst (λ d. category d ≤ 16) (sym (to_z-of_z w32 c.difference.result (search rules))) (apart_16 c.difference.result w.0 w.1)
 
 pub returns-then-head-gt0 : goal.returns-then-head-gt0
 returns-then-head-gt0 g c =
     let head = c.args.head.now in
-    let f : SFits w16 c.shifted-value.result = search rules in
-    let fv : SFits w16 c.args.value = search rules in
     let al = ap (λ (h : ScanHead). h.al) c.head.view_is in
     let ah = ap (λ (h : ScanHead). h.ah) c.head.view_is in
-    let e = to_z-of_z w16 c.shifted-value.result f ∙ c.shifted-value.ensures ∙ ap (λ n. shifted n (to_z w16 (of_z w16 c.args.value))) al ∙ ap (shifted head.al) (to_z-of_z w16 c.args.value fv) in
+    let e = to_z-of_z w16 c.shifted-value.result (search rules) ∙ c.shifted-value.ensures ∙ ap (λ n. shifted n (to_z w16 (of_z w16 c.args.value))) al ∙ ap (shifted head.al) (to_z-of_z w16 c.args.value (search rules)) in
     puts_same _ _ _ _ (c.is_odd.result ∷ []) _ _ (bit_unit c.args.tables.now head c.args.component c.args.last c.args.value (to_z w16 (of_z w16 c.shifted-value.result)) c.is_odd.result (lt_yes 0 head.ah (omega (arith, ah, c.if-head-gt0.true))) e c.is_odd.ensures) c.put_bit.ensures
 
 pub returns-else-head-gt0 : goal.returns-else-head-gt0
 returns-else-head-gt0 g c =
     let head = c.args.head.now in
-    let f : SFits w16 c.shifted-value.result = search rules in
-    let fp : SFits w16 c.shifted-prediction.result = search rules in
-    let fv : SFits w16 c.args.value = search rules in
-    let fl : SFits w16 c.args.last = search rules in
-    let fd : SFits w32 c.difference.result = search rules in
     let al = ap (λ (h : ScanHead). h.al) c.head.view_is in
     let ah = ap (λ (h : ScanHead). h.ah) c.head.view_is in
-    let v = to_z-of_z w16 c.shifted-value.result f ∙ c.shifted-value.ensures ∙ ap (λ n. shifted n (to_z w16 (of_z w16 c.args.value))) al ∙ ap (shifted head.al) (to_z-of_z w16 c.args.value fv) in
-    let l = to_z-of_z w16 c.shifted-prediction.result fp ∙ c.shifted-prediction.ensures ∙ ap (λ n. shifted n (to_z w16 (of_z w16 c.args.last))) al ∙ ap (shifted head.al) (to_z-of_z w16 c.args.last fl) in
+    let v = to_z-of_z w16 c.shifted-value.result (search rules) ∙ c.shifted-value.ensures ∙ ap (λ n. shifted n (to_z w16 (of_z w16 c.args.value))) al ∙ ap (shifted head.al) (to_z-of_z w16 c.args.value (search rules)) in
+    let l = to_z-of_z w16 c.shifted-prediction.result (search rules) ∙ c.shifted-prediction.ensures ∙ ap (λ n. shifted n (to_z w16 (of_z w16 c.args.last))) al ∙ ap (shifted head.al) (to_z-of_z w16 c.args.last (search rules)) in
     let d = to_z w32 (of_z w32 c.difference.result) in
-    let e = to_z-of_z w32 c.difference.result fd ∙ c.difference.ensures.value ∙ ap (λ x. x -ℤ to_z w16 (of_z w16 c.shifted-prediction.result)) v ∙ ap (λ x. shifted head.al c.args.value -ℤ x) l in
+    let e = to_z-of_z w32 c.difference.result (search rules) ∙ c.difference.ensures.value ∙ ap (λ x. x -ℤ to_z w16 (of_z w16 c.shifted-prediction.result)) v ∙ ap (λ x. shifted head.al c.args.value -ℤ x) l in
     let p = c.part_of-part.result in
     puts_same _ _ _ _ (code_of (codes_in c.args.tables.now 0 p.dc) (category d) ++ extra_bits d) _ _
     (code_unit c.args.tables.now head c.args.component c.args.last c.args.value d p (lt_no 0 head.ah (omega (arith, ah, c.if-head-gt0.false))) c.part_of-part.ensures e) c.put_difference.ensures

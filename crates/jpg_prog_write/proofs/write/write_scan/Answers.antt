@@ -1,17 +1,18 @@
-use Rattle.std.proofs.Common.{◌≡◌, refl, ap, arith, true}
+use Rattle.std.proofs.Common.{◌≡◌, refl, ap, ◌∙◌, arith, true}
 use Rattle.jpg_spec.specs.Segments.{ScanHead}
 use Rattle.jpg_spec_write.specs.ScanText.{element_bits}
 use Rattle.jpg_huff.proofs.Together.{sends_same}
 use Rattle.jpg_coefs.specs.Sinks.{intervals_due}
 use Rattle.jpg_coefs.proofs.BitSinks.{begins, all_units, written_text}
-use Rattle.jpg_prog_write.specs.Written.{tables_in}
-use Rattle.jpg_prog_write.specs.ScanSinks.{IsBandUnit, dc_units, ac_units}
+use Rattle.jpg_prog_write.specs.Items.{texts}
+use Rattle.jpg_prog_write.specs.Written.{codes_in, tables_in}
+use Rattle.jpg_prog_write.specs.ScanSinks.{IsBandUnit, bands_left, dc_units, ac_units}
 use Rattle.jpg_prog_write.proofs.DcUnits.{first_all}
 use Rattle.jpg_prog_write.proofs.BandUnits.{ac_head, bits_of_head, unit_fits, band_texts}
 use Rattle.jpg_prog_write.proofs.write.write_scan.Goals as goal
 
-pub no_bands-bands-requires : goal.no_bands-bands-requires
-no_bands-bands-requires g c =
+pub no_bands-requires : goal.no_bands-requires
+no_bands-requires g c =
     let head = c.args.head.now in
     let ss = ap (λ (h : ScanHead). h.ss) c.head.view_is in
     ac_head (g.V.BlockView.numbers c.args.view.now) head c.requires.scan (omega (arith, ss, c.if-head-gt0.true))
@@ -24,10 +25,10 @@ put_scan-requires-clause-begins g c =
     let f = g.V.BlockView.numbers c.args.view.now in
     let head = c.args.head.now in
     let blocks = g.V.BlockView.blocks c.args.view.now in
-    let are = c.no_bands-bands.ensures.bands in
-    begins ac_units g.D.Desk.state _ (intervals_due f head c.args.interval blocks) (refl, refl, are) c.requires.can
+    let are = c.no_bands.ensures.bands in
+    begins ac_units g.D.Desk.state _ (intervals_due f head c.args.interval blocks) (refl, refl, are, c.first_slot.ensures) c.requires.can
     (all_units (IsBandUnit head) f head c.args.interval blocks c.requires.scan.components (λ p last is. unit_fits f head blocks last p c.requires.blocks are.ac.one is))
-    (λ due fits. band_texts c.args.tables.now head c.no_bands-bands.result due are c.no_bands-bands.ensures.none fits)
+    (λ due fits. ap (λ slot. texts (codes_in c.args.tables.now 1 slot) (bands_left c.no_bands.result due)) c.first_slot.ensures ∙ band_texts c.args.tables.now head c.no_bands.result due are c.no_bands.ensures.none fits)
 
 pub returns-then-head-gt0 : goal.returns-then-head-gt0
 returns-then-head-gt0 g c =

@@ -1,5 +1,3 @@
-use Rattle.std.proofs.Common.{rules, ◌≡◌, ◌<◌, ◌≤◌, ◌+◌, ◌*◌, length, refl, sym, ap, ◌∙◌, subst, arith, List}
-use Rattle.jpg_spec.specs.declared.frame.Place.{Place}
 use Rattle.jpg_base.proofs.Places.{begins}
 use Rattle.jpg_base.proofs.cursor.Cursor.first.Goals as goal
 

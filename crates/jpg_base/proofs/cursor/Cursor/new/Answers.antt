@@ -1,10 +1,10 @@
-use Rattle.std.proofs.Common.{rules, ◌∷◌, [], ◌≡◌, ◌<◌, ◌≤◌, ◌+◌, ◌*◌, get_or, length, refl, sym, ap, ◌∙◌, subst, arith, List, ℕ}
+use Rattle.std.proofs.Common.{◌∷◌, [], ◌≡◌, ◌<◌, ◌≤◌, get_or, length, sym, ap, ◌∙◌, arith, List}
 use Rattle.std.specs.Prelude.{map}
 use Rattle.std.proofs.lemmas.List.{length-map}
 use Rattle.jpg_spec.specs.Segments.{ScanHead, head_components}
 use Rattle.jpg_spec.specs.declared.frame.ScanPart.{ScanPart}
-use Rattle.jpg_spec.specs.Geometry.{units, mcus_across, mcus_down}
-use Rattle.jpg_base.specs.Cursor.{all_spots, cursor_part_of, lone_part}
+use Rattle.jpg_spec.specs.Geometry.{units}
+use Rattle.jpg_base.specs.Cursor.{all_spots}
 use Rattle.jpg_base.specs.declared.cursor.CursorPart.{CursorPart}
 use Rattle.jpg_base.proofs.ScanPlaces.{all_parts, lone_units, several_units, only_one}
 use Rattle.jpg_base.proofs.cursor.Cursor.new.Goals as goal

@@ -1,4 +1,4 @@
-use Rattle.std.specs.Prelude.{◌≡◌, ◌≤◌, All, take, map}
+use Rattle.std.specs.Prelude.{◌≡◌, All, take, map}
 use Rattle.arrayvec.specs.ArrayVec.{array_vec_len}
 use Rattle.jpg_base.specs.Cursor.{HasPartFactors, cursor_part_of}
 use Rattle.jpg_base.proofs.frame.Frame.cursor_parts.Given as goal

@@ -1,15 +1,9 @@
-use Rattle.std.proofs.Common.{rules, ◌≡◌, ◌<◌, ◌≤◌, ◌+◌, ◌-◌, ◌*◌, ◌/◌, ◌%◌, ◌^◌, [], ◌∷◌, List, ℕ, length, drop, get_or, refl, sym, ap, ◌∙◌, subst, arith}
-use Rattle.std.specs.Prelude.{map, slice_index_or}
-use Rattle.std.specs.List.{All}
-use Rattle.std.proofs.lemmas.List.{length-map, drop_more}
-use Rattle.jpg_spec.specs.Geometry.{Frame, units, factor_sum, mcus_across, mcus_down, blocks_across, blocks_down, component_at, place}
-use Rattle.jpg_spec.specs.Segments.{ScanHead, head_components}
+use Rattle.std.proofs.Common.{◌≡◌, ◌<◌, ◌≤◌, ◌+◌, ◌-◌, ◌*◌, ◌/◌, ◌%◌, ℕ, drop, get_or, sym, ap, ◌∙◌, subst, arith}
+use Rattle.std.specs.Prelude.{map}
+use Rattle.jpg_spec.specs.Geometry.{factor_sum, component_at}
 use Rattle.jpg_spec.specs.declared.frame.ScanPart.{ScanPart}
-use Rattle.jpg_spec.specs.declared.frame.Place.{Place}
-use Rattle.jpg_spec.specs.declared.frame.Grid.{Grid}
 use Rattle.jpg_base.specs.declared.cursor.CursorPart.{CursorPart}
-use Rattle.jpg_base.specs.Cursor.{cursor_part_of, lone_part, spot_of}
-use Rattle.jpg_base.proofs.UnitCounts.{mcu_from, in_part, after_part}
+use Rattle.jpg_base.proofs.UnitCounts.{mcu_from}
 use Rattle.jpg_base.proofs.InMcu.{found_part, next_part, fewer_left, spot_same}
 use Rattle.jpg_base.proofs.frame.Frame.in_mcu.Goals as goal
 

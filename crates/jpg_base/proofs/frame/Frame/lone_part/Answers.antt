@@ -1,5 +1,4 @@
-use Rattle.std.proofs.Common.{rules, ◌≡◌, ◌≤◌, ap, sym, ◌∙◌, arith, subst, ◌^◌}
-use Rattle.std.specs.List.{All}
+use Rattle.std.proofs.Common.{◌≤◌, sym, arith, subst, ◌^◌}
 use Rattle.std.proofs.lemmas.List.Elements.{All-get_or}
 use Rattle.jpg_spec.specs.Geometry.{no_component, component_at, h_max, v_max}
 use Rattle.jpg_spec.specs.FrameHeader.{HasFactors}

@@ -1,10 +1,6 @@
-use Rattle.std.proofs.Common.{rules, ◌≡◌, ◌<◌, ◌≤◌, length, refl, sym, ap, ◌∙◌, subst, arith, List, ℕ, get_or, ◌∷◌, []}
-use Rattle.std.specs.Prelude.{map, slice_index_or}
-use Rattle.std.proofs.lemmas.List.{length-map}
-use Rattle.jpg_spec.specs.Geometry.{units}
-use Rattle.jpg_spec.specs.Segments.{ScanHead, head_components}
-use Rattle.jpg_spec.specs.declared.frame.ScanPart.{ScanPart}
-use Rattle.jpg_base.proofs.ScanPlaces.{all_parts, only_one}
+use Rattle.std.proofs.Common.{◌≡◌, ◌<◌, length, sym, ap, ◌∙◌}
+use Rattle.jpg_spec.specs.Segments.{ScanHead}
+use Rattle.jpg_base.proofs.ScanPlaces.{all_parts}
 use Rattle.jpg_base.proofs.frame.Frame.mcu_block.Goals as goal
 
 pub several_block-requires-clause-there : goal.several_block-requires-clause-there

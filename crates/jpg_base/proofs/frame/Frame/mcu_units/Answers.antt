@@ -1,8 +1,5 @@
-use Rattle.std.proofs.Common.{rules, ◌≡◌, ◌<◌, ◌≤◌, ◌+◌, ◌*◌, get_or, length, refl, sym, ap, ◌∙◌, subst, arith, List, ℕ}
-use Rattle.std.specs.Prelude.{map}
-use Rattle.std.proofs.lemmas.List.{length-map}
-use Rattle.jpg_spec.specs.Segments.{ScanHead, head_components}
-use Rattle.jpg_spec.specs.declared.frame.ScanPart.{ScanPart}
+use Rattle.std.proofs.Common.{◌≡◌, ◌<◌, length, sym, ap, ◌∙◌}
+use Rattle.jpg_spec.specs.Segments.{ScanHead}
 use Rattle.jpg_base.proofs.ScanPlaces.{all_parts}
 use Rattle.jpg_base.proofs.frame.Frame.mcu_units.Goals as goal
 

@@ -1,6 +1,5 @@
-use Rattle.std.proofs.Common.{rules, ◌≡◌, ◌*◌, ◌≤◌, ℕ, ap, sym, ◌∙◌, arith}
+use Rattle.std.proofs.Common.{sym}
 use Rattle.jpg_spec.specs.Segments.{head_components}
-use Rattle.jpg_spec.specs.Geometry.{mcu_units, scan_mcus_across}
 use Rattle.jpg_base.proofs.UnitCounts.{length_units}
 use Rattle.jpg_base.proofs.frame.Frame.scan_units.Goals as goal
 

@@ -1,4 +1,4 @@
-use Rattle.std.proofs.Common.{rules, ◌≡◌, ◌++◌, [], take, length, min, ap, sym, ◌∙◌, List, Bool, ℕ, arith}
+use Rattle.std.proofs.Common.{◌++◌, take, ap, sym, ◌∙◌, List, Bool, arith}
 use Rattle.std.proofs.lemmas.List.{append-nil, nil_from_length}
 use Rattle.jpg_spec.specs.Bits.{bits_of}
 use Rattle.jpg_base.proofs.BitsAt.{take_some}

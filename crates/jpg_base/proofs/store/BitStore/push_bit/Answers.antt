@@ -1,4 +1,4 @@
-use Rattle.std.proofs.Common.{rules, ◌≡◌, ◌++◌, ap, ◌∙◌, List, Bool, arith}
+use Rattle.std.proofs.Common.{◌++◌, ap, ◌∙◌, List, Bool, arith}
 use Rattle.jpg_base.proofs.BitsAt.{bit_bits, bit_small}
 use Rattle.jpg_base.proofs.store.BitStore.push_bit.Goals as goal
 

@@ -1,5 +1,4 @@
-use Rattle.std.proofs.Common.{rules, ◌≡◌, ◌⊎◌, ◌<◌, ◌≤◌, ◌+◌, ◌-◌, ◌*◌, ◌/◌, ◌%◌, ◌^◌, ◌++◌, [], List, Bool, ℕ, length, take, drop, refl, sym, ap, ◌∙◌, subst, arith, inl, inr}
-use Rattle.jpg_spec.specs.Bits.{bits_of}
+use Rattle.std.proofs.Common.{◌≡◌, length, drop, sym, ap, ◌∙◌, arith}
 use Rattle.jpg_spec.proofs.Strings.{length-bits_of}
 use Rattle.jpg_base.proofs.BitsAt.{behind}
 use Rattle.jpg_base.proofs.store.BitStore.skip.Goals as goal

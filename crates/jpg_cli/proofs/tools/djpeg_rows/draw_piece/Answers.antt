@@ -22,9 +22,9 @@ pub push-requires-clause-created : goal.push-requires-clause-created
 push-requires-clause-created g c = (((draws_still c.requires.draws c.loop-used.invariant.shows).showing).desk).created
 
 pub returns-in-Err-clause-drawn : goal.returns-in-Err-clause-drawn
-returns-in-Err-clause-drawn g c = λ old start h all m k.
-    subst (λ (w : Why). Shown (showing_told c.args.words.now) old w (g.D.Desk.state c.push.new.desk)) (sym c.why_of.ensures)
-    (row_stopped c.row_coefs.ensures c.in-Err.ensures (row_here c.in-Some.ensures (c.loop-used.invariant.shows old start h all m k).1))
+returns-in-Err-clause-drawn g c = λ run m k.
+    subst (λ (w : Why). Shown (showing_told c.args.words.now) run.old w (g.D.Desk.state c.push.new.desk)) (sym c.why_of.ensures)
+    (row_stopped c.row_coefs.ensures c.in-Err.ensures (row_here c.in-Some.ensures (c.loop-used.invariant.shows run m k).1))
 
 pub slice_bounds-rest-count : goal.slice_bounds-rest-count
 slice_bounds-rest-count g c = (at_row c.row_coefs.ensures (row_waits c.requires.draws c.loop-used.invariant.shows c.in-Some.ensures).showing).within
@@ -47,8 +47,8 @@ loop-used-preserved g c =
       opened = next.only.input_open ∙ so.invariant.opened;
       done = fed.done;
       by_row = fed.by_row;
-      shows = λ old start h all m k.
-          (let a = so.invariant.shows old start h all m k in
+      shows = λ run m k.
+          (let a = so.invariant.shows run m k in
           let b = row_here c.in-Some.ensures a.1 in
           (a.0 + 1, row_then (rest_of_piece so.rest.now c.in-Some.used) c.in_default-push.is c.row_coefs.ensures next fed.answered fed.limits b));
     }
@@ -57,6 +57,6 @@ pub end_piece-requires-clause-draws : goal.end_piece-requires-clause-draws
 end_piece-requires-clause-draws g c = draws_still c.requires.draws c.loop-used.invariant.shows
 
 pub returns-in_default-clause-drawn : goal.returns-in_default-clause-drawn
-returns-in_default-clause-drawn g c = λ old start h all m k.
-    let a = c.loop-used.invariant.shows old start h all m k in
-    c.end_piece.ensures.drawn old start h all a.0 a.1
+returns-in_default-clause-drawn g c = λ run m k.
+    let a = c.loop-used.invariant.shows run m k in
+    c.end_piece.ensures.drawn run a.0 a.1

@@ -1,13 +1,12 @@
-use Rattle.std.specs.Prelude.{◌≡◌, ◌-◌, ℕ, List, true}
-use Rattle.jpg_base.specs.Desk.{DeskState}
+use Rattle.std.specs.Prelude.{◌≡◌, ◌-◌, ℕ, true}
 use Rattle.jpg_file.specs.Read.ReadRows.{EndsDoneRow}
 use Rattle.jpg_color.specs.Shown.{all_rows}
 use Rattle.jpg_cli.specs.Tools.Showing.{showing_told}
-use Rattle.jpg_cli.specs.Tools.ShowingRows.{Head, IsShowing, at_work}
+use Rattle.jpg_cli.specs.Tools.ShowingRows.{IsShowing, at_work, Run}
 use Rattle.jpg_cli.specs.Stays.{OnlyWorks}
 use Rattle.jpg_cli.proofs.tools.djpeg_rows.draw_piece.Given as goal
 
--- Whatever was read and drawn before, all of it holds at the answer to what is left of the piece.
+-- Whatever was read and drawn before, run.all of it holds at the answer to what is left of the piece.
 abbrev pub invariant-loop-used : goal.invariant-loop-used
 invariant-loop-used g l =
     let state = g.D.Desk.state in
@@ -19,9 +18,9 @@ invariant-loop-used g l =
       opened : (state l.desk).input_open ≡ true;
       done : EndsDoneRow l.answer l.reader;
       by_row : l.reader.by_row ≡ true;
-      shows : (old start : DeskState) (h : Head) (all : List ℕ) (m : ℕ)
-          → IsShowing s old start h all m l.piece l.fn.answer (at_work l.initial.reader l.initial.image first (state l.initial.desk))
-          → (n : ℕ) × IsShowing s old start h all n l.rest l.answer (at_work l.reader l.image now (state l.desk));
+      shows : (run : Run) (m : ℕ)
+          → IsShowing s run m l.piece l.fn.answer (at_work l.initial.reader l.initial.image first (state l.initial.desk))
+          → (n : ℕ) × IsShowing s run n l.rest l.answer (at_work l.reader l.image now (state l.desk));
     }
 
 abbrev pub decreases-loop-used : goal.decreases-loop-used

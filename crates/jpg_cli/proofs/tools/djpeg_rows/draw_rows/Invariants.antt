@@ -1,7 +1,6 @@
 use Rattle.std.specs.Prelude.{◌≡◌, ℕ, List, length, take, true}
-use Rattle.jpg_base.specs.Desk.{DeskState}
 use Rattle.jpg_cli.specs.Tools.Showing.{showing_told}
-use Rattle.jpg_cli.specs.Tools.ShowingRows.{AfterShownPiece, GoesOnRows, Head, IsShowing, reads_left, at_work}
+use Rattle.jpg_cli.specs.Tools.ShowingRows.{AfterShownPiece, GoesOnRows, IsShowing, reads_left, at_work, Run}
 use Rattle.jpg_cli.specs.Stays.{OnlyWorks}
 use Rattle.jpg_cli.proofs.tools.djpeg_rows.draw_rows.Given as goal
 
@@ -17,9 +16,9 @@ invariant-loop-step g l =
       goes_on : GoesOnRows l.step l.reader (state l.desk);
       room : length l.buffer ≡ 16384;
       by_row : l.reader.by_row ≡ true;
-      shows : (old start : DeskState) (h : Head) (all : List ℕ) (m : ℕ)
-          → IsShowing s old start h all m (take l.count l.fn.buffer) l.fn.answer (at_work l.fn.reader l.fn.image first (state l.fn.desk))
-          → (so : List ℕ) × AfterShownPiece s old start h so l.step (at_work l.reader l.image now (state l.desk));
+      shows : (run : Run) (m : ℕ)
+          → IsShowing s run m (take l.count l.fn.buffer) l.fn.answer (at_work l.fn.reader l.fn.image first (state l.fn.desk))
+          → (so : List ℕ) × AfterShownPiece s (record run { all = so }) l.step (at_work l.reader l.image now (state l.desk));
     }
 
 abbrev pub decreases-loop-step : goal.decreases-loop-step

@@ -7,12 +7,12 @@ use Rattle.jpg_cli.proofs.RowsEnd.{rows_unwritten, rows_written}
 use Rattle.jpg_cli.proofs.tools.djpeg_rows.end_piece.Goals as goal
 
 pub returns-in-Ok-clause-drawn : goal.returns-in-Ok-clause-drawn
-returns-in-Ok-clause-drawn g c = λ old start h all m k.
+returns-in-Ok-clause-drawn g c = λ run m k.
     let e = (goal.ImageEnd-dyn g (c.args.end.now.vtable, c.args.end.now.value)).progress c.args.end.now.value in
     let so = c.in-Ok.ensures in
-    subst (λ (x : RowsStep). AfterShownPiece (showing_told c.args.words.now) old start h all x (at_work c.args.reader.now c.flush.new.self e (g.D.Desk.state c.flush.new.desk))) (sym c.last_step.ensures)
+    subst (λ (x : RowsStep). AfterShownPiece (showing_told c.args.words.now) run x (at_work c.args.reader.now c.flush.new.self e (g.D.Desk.state c.flush.new.desk))) (sym c.last_step.ensures)
     (rows_written c.flush.new.self c.requires.last so.stays.strips so.stays.info so.out so.sent k)
 
 pub returns-in-Err-clause-drawn : goal.returns-in-Err-clause-drawn
-returns-in-Err-clause-drawn g c = λ old start h all m k.
-    subst (λ (w : Why). Shown (showing_told c.args.words.now) old w (g.D.Desk.state c.flush.new.desk)) (sym c.why_of.ensures) (rows_unwritten c.in-Err.ensures.sent k)
+returns-in-Err-clause-drawn g c = λ run m k.
+    subst (λ (w : Why). Shown (showing_told c.args.words.now) run.old w (g.D.Desk.state c.flush.new.desk)) (sym c.why_of.ensures) (rows_unwritten c.in-Err.ensures.sent k)

@@ -8,8 +8,8 @@ pub finish-requires-clause-whole : goal.finish-requires-clause-whole
 finish-requires-clause-whole g c = ending_whole (ending_begins c.requires.early.shown) (sym c.if-is_whole.ensures)
 
 pub returns-then-is_whole-clause-shown : goal.returns-then-is_whole-clause-shown
-returns-then-is_whole-clause-shown g c = λ old start h all m x.
-    subst (λ (w : Why). Shown (showing_told c.args.words.now) old w (g.D.Desk.state c.finish.new.desk)) (sym c.warned_of.ensures)
+returns-then-is_whole-clause-shown g c = λ run m x.
+    subst (λ (w : Why). Shown (showing_told c.args.words.now) run.old w (g.D.Desk.state c.finish.new.desk)) (sym c.warned_of.ensures)
     (early_finished c.finish.ensures (sym c.if-is_whole.ensures) (ending_begins x))
 
 pub row_coefs-requires : goal.row_coefs-requires
@@ -28,16 +28,16 @@ finish_zeros-requires g c =
     let w = c.requires.early in
     let due = ending_due (ending_begins w.shown) (sym c.if-is_whole.ensures) in
     record {
-      zeros = record { old = w.old; start = w.start; head = w.head; all = w.all; ending = work_then c.in-Ok.is w.shown due c.row_coefs.ensures c.push.ensures };
+      zeros = record { run = w.run; ending = work_then c.in-Ok.is w.shown due c.row_coefs.ensures c.push.ensures };
     }
 
 pub returns-in-Ok-clause-shown : goal.returns-in-Ok-clause-shown
-returns-in-Ok-clause-shown g c = λ old start h all m x.
+returns-in-Ok-clause-shown g c = λ run m x.
     let due = ending_due (ending_begins x) (sym c.if-is_whole.ensures) in
-    c.finish_zeros.ensures.shown old start h all (work_then c.in-Ok.is x due c.row_coefs.ensures c.push.ensures)
+    c.finish_zeros.ensures.shown run (work_then c.in-Ok.is x due c.row_coefs.ensures c.push.ensures)
 
 pub returns-in-Err-clause-shown : goal.returns-in-Err-clause-shown
-returns-in-Err-clause-shown g c = λ old start h all m x.
+returns-in-Err-clause-shown g c = λ run m x.
     let due = ending_due (ending_begins x) (sym c.if-is_whole.ensures) in
-    subst (λ (w : Why). Shown (showing_told c.args.words.now) old w (g.D.Desk.state c.push.new.desk)) (sym c.why_of.ensures)
+    subst (λ (w : Why). Shown (showing_told c.args.words.now) run.old w (g.D.Desk.state c.push.new.desk)) (sym c.why_of.ensures)
     (work_stopped x due c.row_coefs.ensures c.in-Err.ensures)

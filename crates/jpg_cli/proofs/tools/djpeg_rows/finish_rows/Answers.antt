@@ -8,5 +8,5 @@ pub finish-requires-clause-whole : goal.finish-requires-clause-whole
 finish-requires-clause-whole g c = all_told c.requires.all.shown
 
 pub returns-clause-shown : goal.returns-clause-shown
-returns-clause-shown g c = λ old start h all m k.
-    subst (λ (w : Why). Shown (showing_told c.args.words.now) old w (g.D.Desk.state c.finish.new.desk)) (sym c.why_of.ensures) (rows_finished c.finish.ensures k)
+returns-clause-shown g c = λ run m k.
+    subst (λ (w : Why). Shown (showing_told c.args.words.now) run.old w (g.D.Desk.state c.finish.new.desk)) (sym c.why_of.ensures) (rows_finished c.finish.ensures k)

@@ -9,7 +9,7 @@ use Rattle.jpg_cli.proofs.RowsPushed.{less_rows}
 use Rattle.jpg_cli.proofs.tools.djpeg_rows.finish_zeros.Goals as goal
 
 pub loop-image-init : goal.loop-image-init
-loop-image-init g c = record { kept = ((reads_none (g.D.Desk.state c.args.desk.now)).copies).works; shows = λ old start h all k. k }
+loop-image-init g c = record { kept = ((reads_none (g.D.Desk.state c.args.desk.now)).copies).works; shows = λ run k. k }
 
 pub push_zero-requires-clause-due : goal.push_zero-requires-clause-due
 push_zero-requires-clause-due g c = ending_due (zeros_still c.requires.zeros c.loop-image.invariant.shows) (sym c.loop-image-test.ensures)
@@ -21,9 +21,9 @@ pub push_zero-requires-clause-created : goal.push_zero-requires-clause-created
 push_zero-requires-clause-created g c = ((zeros_still c.requires.zeros c.loop-image.invariant.shows).desk).created
 
 pub returns-in-Err-clause-shown : goal.returns-in-Err-clause-shown
-returns-in-Err-clause-shown g c = λ old start h all x.
-    let k = c.loop-image.invariant.shows old start h all x in
-    subst (λ (w : Why). Shown (showing_told c.args.words.now) old w (g.D.Desk.state c.push_zero.new.desk)) (sym c.why_of.ensures)
+returns-in-Err-clause-shown g c = λ run x.
+    let k = c.loop-image.invariant.shows run x in
+    subst (λ (w : Why). Shown (showing_told c.args.words.now) run.old w (g.D.Desk.state c.push_zero.new.desk)) (sym c.why_of.ensures)
     (ending_stopped k (ending_due k (sym c.loop-image-test.ensures)) (zeros_lend k) c.in-Err.ensures)
 
 pub loop-image-smaller : goal.loop-image-smaller
@@ -37,8 +37,8 @@ loop-image-preserved g c =
     let next = c.push_zero.ensures in
     record {
       kept = works_then so.invariant.kept (writes_work next.only);
-      shows = λ old start h all x.
-          (let k = so.invariant.shows old start h all x in zeros_then c.in_default.is k (ending_due k (sym c.loop-image-test.ensures)) next);
+      shows = λ run x.
+          (let k = so.invariant.shows run x in zeros_then c.in_default.is k (ending_due k (sym c.loop-image-test.ensures)) next);
     }
 
 pub finish-requires-clause-whole : goal.finish-requires-clause-whole
@@ -51,6 +51,6 @@ pub finish-requires-clause-created : goal.finish-requires-clause-created
 finish-requires-clause-created g c = ((zeros_still c.requires.zeros c.loop-image.invariant.shows).desk).created
 
 pub returns-clause-shown : goal.returns-clause-shown
-returns-clause-shown g c = λ old start h all x.
-    subst (λ (w : Why). Shown (showing_told c.args.words.now) old w (g.D.Desk.state c.finish.new.desk)) (sym c.warned_of.ensures)
-    (early_finished c.finish.ensures (sym c.loop-image-test.ensures) (c.loop-image.invariant.shows old start h all x))
+returns-clause-shown g c = λ run x.
+    subst (λ (w : Why). Shown (showing_told c.args.words.now) run.old w (g.D.Desk.state c.finish.new.desk)) (sym c.warned_of.ensures)
+    (early_finished c.finish.ensures (sym c.loop-image-test.ensures) (c.loop-image.invariant.shows run x))

@@ -1,8 +1,7 @@
-use Rattle.std.specs.Prelude.{◌-◌, ℕ, List}
-use Rattle.jpg_base.specs.Desk.{DeskState}
+use Rattle.std.specs.Prelude.{◌-◌}
 use Rattle.jpg_color.specs.Shown.{all_rows}
 use Rattle.jpg_cli.specs.Tools.Showing.{showing_told}
-use Rattle.jpg_cli.specs.Tools.ShowingRows.{Head, IsEnding}
+use Rattle.jpg_cli.specs.Tools.ShowingRows.{IsEnding, Run}
 use Rattle.jpg_cli.specs.Stays.{OnlyWorks}
 use Rattle.jpg_cli.proofs.tools.djpeg_rows.finish_zeros.Given as goal
 
@@ -15,8 +14,8 @@ invariant-loop-image g l =
     let now = (goal.ImageEnd-dyn g (l.end.vtable, l.end.value)).progress l.end.value in
     record {
       kept : OnlyWorks (state l.initial.desk) (state l.desk);
-      shows : (old start : DeskState) (h : Head) (all : List ℕ) → IsEnding s old start h all l.count 0 l.initial.image first (state l.initial.desk)
-          → IsEnding s old start h all l.count 0 l.image now (state l.desk);
+      shows : (run : Run) → IsEnding s run l.count 0 l.initial.image first (state l.initial.desk)
+          → IsEnding s run l.count 0 l.image now (state l.desk);
     }
 
 abbrev pub decreases-loop-image : goal.decreases-loop-image

@@ -34,12 +34,12 @@ draw_rows-requires-clause-draws g c =
     let k = w.begins in
     let strip = strip_told k.rows c.in-Some.is c.strip.ensures.some in
     let showing = rows_started k w.opened c.in-Done.ensures strip c.in-Ok.ensures c.requires.end c.in-Ok-start.ensures in
-    record { old = w.old; start = w.start; head = k.head; all = w.all; rows = 0; showing = showing }
+    record { run = record { old = w.old; start = w.start; head = k.head; all = w.all }; rows = 0; showing = showing }
 
 pub returns-in-Ok-start-clause-shown : goal.returns-in-Ok-start-clause-shown
 returns-in-Ok-start-clause-shown g c = λ old start all k h.
     let strip = strip_told k.rows c.in-Some.is c.strip.ensures.some in
-    c.draw_rows.ensures.shown old start k.head all 0 (rows_started k h c.in-Done.ensures strip c.in-Ok.ensures c.requires.end c.in-Ok-start.ensures)
+    c.draw_rows.ensures.shown (record { old = old; start = start; head = k.head; all = all }) 0 (rows_started k h c.in-Done.ensures strip c.in-Ok.ensures c.requires.end c.in-Ok-start.ensures)
 
 pub returns-clause-shown : goal.returns-clause-shown
 returns-clause-shown g c = λ old start all k h. not_started k h c.in-Done.ensures

@@ -1,6 +1,7 @@
-use Rattle.std.proofs.Common.{rules, subst, arith}
+use Rattle.std.proofs.Common.{rules, subst, arith, ap, ◌∙◌}
 use Rattle.jpg_coefs.specs.Picture.{map_of}
-use Rattle.jpg_color.specs.KeptRows.{stride, sample_in}
+use Rattle.jpg_spec_image.specs.Dct.{dequantised, inverse_dct}
+use Rattle.jpg_color.specs.KeptRows.{stride}
 use Rattle.jpg_color.specs.RowBytes.{PutsBlock}
 use Rattle.jpg_color.proofs.RowsPut.{columns_step}
 use Rattle.jpg_color.proofs.SamplesRead.{first_there, block_is, read_small, told_by}
@@ -22,7 +23,10 @@ loop-x-preserved c =
     let put : PutsBlock (stride c.args.wide) c.args.row x c.args.rows samples c.loop-x.samples c.put_block.new.samples =
     subst (λ line. PutsBlock line c.args.row x c.args.rows samples c.loop-x.samples c.put_block.new.samples) c.line_of-line.ensures.value c.put_block.ensures
     in
-    columns_step (stride c.args.wide) c.args.row c.args.rows x (sample_in c.args.quants.now (map_of q) c.args.i c.args.at) samples
-    c.args.samples.now c.loop-x.samples c.put_block.new.samples (search rules) c.loop-x.invariant put
-    (λ y k hy hk. told_by c.args.quants.now (map_of q) c.args.i c.args.at x c.block.result samples
-    (block_is q c.args.i x c.args.at c.block.result there c.block.ensures) c.samples_by-block.ensures y k (omega (arith, hy, c.requires.rows)) hk)
+    columns_step x (search rules) c.loop-x.invariant (record {
+      block = samples;
+      put = put;
+      told = λ y k hy hk. told_by c.args.quants.now (map_of q) c.args.i c.args.at x
+          (c.samples_by-block.ensures ∙ ap (λ b. inverse_dct (dequantised c.args.quants.now b)) (block_is q c.args.i x c.args.at c.block.result there c.block.ensures))
+          y k (omega (arith, hy, c.requires.rows)) hk;
+    })

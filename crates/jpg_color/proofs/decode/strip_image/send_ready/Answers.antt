@@ -1,29 +1,21 @@
 use Rattle.std.proofs.lemmas.Result.{err_from_is_err_and}
-use Rattle.jpg_pnm_bmp.specs.EndState.{EndState}
 use Rattle.jpg_color.proofs.RowsSending.{sends_none_yet, takes_row, row_goes, ready_sent, ready_stopped}
 use Rattle.jpg_color.proofs.Showing.{fits_so, sent_so}
 use Rattle.jpg_color.proofs.decode.strip_image.send_ready.Goals as goal
 
 pub loop-strips-init : goal.loop-strips-init
-loop-strips-init g c = sends_none_yet _ _ _ _ c.checked.ensures c.requires.some c.requires.end c.requires.created
+loop-strips-init g c = sends_none_yet c.checked.ensures c.requires.some c.requires.end c.requires.created
 
 pub send_row-requires-clause-end : goal.send_row-requires-clause-end
-send_row-requires-clause-end g c =
-    let e : EndState = (goal.ImageEnd-dyn g (c.loop-strips.end.vtable, c.loop-strips.end.value)).progress c.loop-strips.end.value in
-    fits_so e c.row.result.now c.advance.new.self.last c.row.ensures
-    (takes_row _ _ _ e _ _ _ c.loop-strips.strips c.advance.new.self c.loop-strips.invariant c.loop-strips-test.ensures)
+send_row-requires-clause-end g c = fits_so c.row.ensures (takes_row c.loop-strips.invariant c.loop-strips-test.ensures)
 
 pub loop-strips-preserved : goal.loop-strips-preserved
-loop-strips-preserved g c =
-    row_goes _ _ _ _ _ _ _ _ _ _ c.loop-strips.strips c.advance.new.self c.loop-strips.invariant c.loop-strips-test.ensures
-    (sent_so _ _ _ _ _ c.row.result.now c.advance.new.self.last _ _ c.row.ensures c.in_ok-send_row.ensures)
+loop-strips-preserved g c = row_goes c.loop-strips.invariant c.loop-strips-test.ensures (sent_so c.row.ensures c.in_ok-send_row.ensures)
 
 pub returns-in_err-send_row : goal.returns-in_err-send_row
 returns-in_err-send_row g c =
     let back = err_from_is_err_and c.from_residual.result c.from_residual.ensures.1 in
-    rw (back.1, back.2)
-    (ready_stopped _ _ _ _ _ _ _ _ _ _ c.loop-strips.strips c.advance.new.self c.in_err-send_row.field-0.0 c.loop-strips.invariant c.loop-strips-test.ensures
-    (sent_so _ _ _ _ _ c.row.result.now c.advance.new.self.last _ _ c.row.ensures c.in_err-send_row.ensures))
+    rw (back.1, back.2) (ready_stopped c.loop-strips.invariant c.loop-strips-test.ensures (sent_so c.row.ensures c.in_err-send_row.ensures))
 
 pub returns : goal.returns
-returns g c = ready_sent _ _ _ _ _ _ _ c.loop-strips.strips c.advance.new.self c.loop-strips.invariant c.loop-strips-test.ensures
+returns g c = ready_sent c.loop-strips.invariant c.loop-strips-test.ensures

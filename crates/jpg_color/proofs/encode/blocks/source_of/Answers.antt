@@ -1,13 +1,11 @@
 use Rattle.std.proofs.Common.{◌≡◌, ◌∙◌, ◌<◌, ◌*◌, ◌/◌, ℕ, List, length, arith, subst, ap, sym}
 use Rattle.jpg_spec_encode.specs.Encoded.{components_due}
-use Rattle.jpg_spec_image.specs.ForwardDct.{forward_dct, quantised_block}
-use Rattle.jpg_spec_encode.specs.Encoded.{samples_of_block}
 use Rattle.jpg_spec.specs.Geometry.{Frame, blocks_across, div_up, h_max, v_max, component_at}
 use Rattle.jpg_spec.specs.Meaning.{PictureComponent}
 use Rattle.jpg_spec.specs.declared.frame.Component.{Component}
 use Rattle.jpg_color.specs.Encode.{encoded_parts, image_told, encoding_request}
 use Rattle.jpg_color.specs.PlaneRows.{HasSamples}
-use Rattle.jpg_color.proofs.EncodeSources.{across_most, at_most_three, component_there, count_due, down_most, has_samples, plane_by, ratio_few, ratio_some, row_few, source_is}
+use Rattle.jpg_color.proofs.EncodeSources.{AreNumbers, Numbers, across_most, at_most_three, block_by, component_there, count_due, down_most, has_samples, ratio_few, ratio_some, row_few, source_is}
 use Rattle.jpg_color.proofs.McuSources.{whole_down}
 use Rattle.jpg_color.proofs.encode.blocks.source_of.Goals as goal
 
@@ -54,10 +52,18 @@ returns-clause-blocks c = λ x y.
     let e = encoding_request c.args.task.now.encoding.now in
     let there : i < components_due e image = subst (λ n. i < n) (ap (λ (g : Frame). length g.components) c.requires.task.frame ∙ count_due e image) c.requires.there in
     let k = c.component-component in
-    let H = encoded_parts c.args.task.now.image.now c.args.task.now.encoding.now in
-    let across = ap (λ n. n / k.result.h) c.h_max.ensures.value ∙ ap (λ (d : Component). h_max f / d.h) k.ensures.value in
-    let down = ap (λ n. n / k.result.v) c.v_max.ensures.value ∙ ap (λ (d : Component). v_max f / d.v) k.ensures.value in
-    let made = c.rows_made.ensures.value ∙ ap (λ n. div_up image.info.height n * k.result.v) c.v_max-2.ensures.value ∙ ap (λ (d : Component). div_up image.info.height (v_max f) * d.v) k.ensures.value in
-    let quants = c.divisors_of.ensures ∙ sym (ap (λ (d : PictureComponent). d.quants) (component_there e image i there)) in
-    ap (λ s. quantised_block c.divisors_of.result.now (forward_dct (samples_of_block (plane_by (record { info = image.info; samples = s }) i (c.h_max.result / k.result.h) (c.v_max.result / k.result.v) c.rows_made.result) x y))) c.as_slice.ensures
-    ∙ source_is H image f i (c.h_max.result / k.result.h) (c.v_max.result / k.result.v) c.rows_made.result c.divisors_of.result.now c.requires.task.frame across down made quants x y)
+    let n : Numbers = record {
+      across = c.h_max.result / k.result.h;
+      down = c.v_max.result / k.result.v;
+      made = c.rows_made.result;
+      quants = c.divisors_of.result.now;
+    } in
+    let are : AreNumbers (encoded_parts c.args.task.now.image.now c.args.task.now.encoding.now) f i n = record {
+      frame = c.requires.task.frame;
+      across = ap (λ m. m / k.result.h) c.h_max.ensures.value ∙ ap (λ (d : Component). h_max f / d.h) k.ensures.value;
+      down = ap (λ m. m / k.result.v) c.v_max.ensures.value ∙ ap (λ (d : Component). v_max f / d.v) k.ensures.value;
+      made = c.rows_made.ensures.value ∙ ap (λ m. div_up image.info.height m * k.result.v) c.v_max-2.ensures.value
+          ∙ ap (λ (d : Component). div_up image.info.height (v_max f) * d.v) k.ensures.value;
+      quants = c.divisors_of.ensures ∙ sym (ap (λ (d : PictureComponent). d.quants) (component_there e image i there));
+    } in
+    ap (λ s. block_by (record { info = image.info; samples = s }) i n x y) c.as_slice.ensures ∙ source_is image are x y)

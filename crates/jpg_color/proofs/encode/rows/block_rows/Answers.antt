@@ -1,6 +1,6 @@
-use Rattle.std.proofs.Common.{rules, ◌∙◌}
+use Rattle.std.proofs.Common.{rules, ◌*◌, ◌∙◌}
 use Rattle.jpg_color.specs.PlaneRows.{lower_row}
-use Rattle.jpg_color.proofs.PlaneRows.{eight_more, blocks_are}
+use Rattle.jpg_color.proofs.PlaneRows.{blocks_are, rows_more}
 use Rattle.jpg_color.proofs.PlaneWindows.{eight_under}
 use Rattle.jpg_color.proofs.encode.rows.block_rows.Goals as goal
 
@@ -11,7 +11,8 @@ pub loop-v-preserved : goal.loop-v-preserved
 loop-v-preserved c =
     let plane = lower_row c.args.plane.now c.args.made in (
       c.put_plane_row.ensures.long ∙ c.loop-v.invariant.0,
-      eight_more plane c.loop-v.out c.put_plane_row.new.out c.args.wide c.args.y c.loop-v.v c.loop-v.invariant.1 c.put_plane_row.ensures.here c.put_plane_row.ensures.before,
+      rows_more plane c.loop-v.out c.put_plane_row.new.out c.args.wide (8 * c.args.y) c.loop-v.v c.loop-v.invariant.1 c.put_plane_row.ensures.here
+          c.put_plane_row.ensures.before,
     )
 
 pub returns-clause-blocks : goal.returns-clause-blocks

@@ -1,5 +1,5 @@
 use Rattle.jpg_spec_image.specs.Luminance.{to_ycc}
-use Rattle.jpg_color.proofs.ColourRows.{three}
+use Rattle.jpg_color.proofs.Three.{three}
 use Rattle.jpg_color.proofs.encode.ycc.to_ycc.Goals as goal
 
 pub returns : goal.returns

@@ -10,7 +10,7 @@ pub returns-in_err-taken-in-Some-clause-answered : goal.returns-in_err-taken-in-
 returns-in_err-taken-in-Some-clause-answered c = λ comment bytes text h.
     let self = c.args.self.now in
     let back = err_from_is_err_and c.from_residual.result c.from_residual.ensures.1 in
-    rw (back.1, back.2) (copies_more comment bytes c.args.piece.now text c.args.out.now c.copy.new.out c.in-Some.taken self.limits.input self (Err c.in_err-taken-in-Some.field-0.0) refl c.in-Some.is h c.in_err-taken-in-Some.ensures)
+    rw (back.1, back.2) (copies_more comment bytes text self h c.args.piece.now c.args.out.now c.copy.new.out c.in-Some.taken self.limits.input (Err c.in_err-taken-in-Some.field-0.0) refl c.in-Some.is c.in_err-taken-in-Some.ensures)
 
 pub returns-in_ok-taken-in-Some-clause-answered : goal.returns-in_ok-taken-in-Some-clause-answered
 returns-in_ok-taken-in-Some-clause-answered c = λ comment bytes text h.
@@ -19,5 +19,5 @@ returns-in_ok-taken-in-Some-clause-answered c = λ comment bytes text h.
     let r = reading_of self.reader in
     let n = c.in_ok-taken-in-Some.taken in
     appends_as (λ all. AfterCopy self.limits comment self.replace (bytes ++ piece) all (Ok n)) (λ all. StandsWith self.limits comment self.replace self.stop self.segment (bytes ++ piece) all (Some n) self.head r) text c.args.out.now c.copy.new.out
-    (copies_more comment bytes piece text c.args.out.now c.copy.new.out c.in-Some.taken self.limits.input self (Ok n) refl c.in-Some.is h c.in_ok-taken-in-Some.ensures)
+    (copies_more comment bytes text self h piece c.args.out.now c.copy.new.out c.in-Some.taken self.limits.input (Ok n) refl c.in-Some.is c.in_ok-taken-in-Some.ensures)
     (λ all done. goes_on_after comment bytes piece all self.head n self r h.0 h.2 done)

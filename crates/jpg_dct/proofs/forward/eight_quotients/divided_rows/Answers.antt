@@ -1,45 +1,46 @@
 use Rattle.std.proofs.Common.{◌≡◌, ◌+◌, ◌*◌, ◌<◌, ℕ, arith}
 use Rattle.jpg_spec_image.specs.Dct.{number_at}
 use Rattle.jpg_dct.specs.Eights.{IsEight, vector, quotient_at}
-use Rattle.jpg_dct.proofs.Eights.{each_of_eight, seen_eight16}
+use Rattle.jpg_dct.proofs.Eights.{seen_eight16}
+use Rattle.jpg_dct.proofs.Several.{each_of_eight}
 use Rattle.jpg_dct.proofs.EightQuotients.{row_of}
 use Rattle.jpg_dct.proofs.forward.eight_quotients.divided_rows.Goals as goal
 
 pub quotients-v0-requires-clause-lanes : goal.quotients-v0-requires-clause-lanes
-quotients-v0-requires-clause-lanes c = seen_eight16 8192 c.args.d.v0 (omega arith) (c.requires.lanes 0 (omega arith))
+quotients-v0-requires-clause-lanes c = seen_eight16 (omega arith) (c.requires.lanes 0 (omega arith))
 
 pub quotients-v1-requires-clause-lanes : goal.quotients-v1-requires-clause-lanes
-quotients-v1-requires-clause-lanes c = seen_eight16 8192 c.args.d.v1 (omega arith) (c.requires.lanes 1 (omega arith))
+quotients-v1-requires-clause-lanes c = seen_eight16 (omega arith) (c.requires.lanes 1 (omega arith))
 
 pub quotients-v2-requires-clause-lanes : goal.quotients-v2-requires-clause-lanes
-quotients-v2-requires-clause-lanes c = seen_eight16 8192 c.args.d.v2 (omega arith) (c.requires.lanes 2 (omega arith))
+quotients-v2-requires-clause-lanes c = seen_eight16 (omega arith) (c.requires.lanes 2 (omega arith))
 
 pub quotients-v3-requires-clause-lanes : goal.quotients-v3-requires-clause-lanes
-quotients-v3-requires-clause-lanes c = seen_eight16 8192 c.args.d.v3 (omega arith) (c.requires.lanes 3 (omega arith))
+quotients-v3-requires-clause-lanes c = seen_eight16 (omega arith) (c.requires.lanes 3 (omega arith))
 
 pub quotients-v4-requires-clause-lanes : goal.quotients-v4-requires-clause-lanes
-quotients-v4-requires-clause-lanes c = seen_eight16 8192 c.args.d.v4 (omega arith) (c.requires.lanes 4 (omega arith))
+quotients-v4-requires-clause-lanes c = seen_eight16 (omega arith) (c.requires.lanes 4 (omega arith))
 
 pub quotients-v5-requires-clause-lanes : goal.quotients-v5-requires-clause-lanes
-quotients-v5-requires-clause-lanes c = seen_eight16 8192 c.args.d.v5 (omega arith) (c.requires.lanes 5 (omega arith))
+quotients-v5-requires-clause-lanes c = seen_eight16 (omega arith) (c.requires.lanes 5 (omega arith))
 
 pub quotients-v6-requires-clause-lanes : goal.quotients-v6-requires-clause-lanes
-quotients-v6-requires-clause-lanes c = seen_eight16 8192 c.args.d.v6 (omega arith) (c.requires.lanes 6 (omega arith))
+quotients-v6-requires-clause-lanes c = seen_eight16 (omega arith) (c.requires.lanes 6 (omega arith))
 
 pub quotients-v7-requires-clause-lanes : goal.quotients-v7-requires-clause-lanes
-quotients-v7-requires-clause-lanes c = seen_eight16 8192 c.args.d.v7 (omega arith) (c.requires.lanes 7 (omega arith))
+quotients-v7-requires-clause-lanes c = seen_eight16 (omega arith) (c.requires.lanes 7 (omega arith))
 
 pub returns-clause-all : goal.returns-clause-all
 returns-clause-all c =
     each_of_eight (λ v xs. IsEight 16384 xs)
-    (seen_eight16 16384 c.quotients-v0.result (omega arith) c.quotients-v0.ensures.all)
-    (seen_eight16 16384 c.quotients-v1.result (omega arith) c.quotients-v1.ensures.all)
-    (seen_eight16 16384 c.quotients-v2.result (omega arith) c.quotients-v2.ensures.all)
-    (seen_eight16 16384 c.quotients-v3.result (omega arith) c.quotients-v3.ensures.all)
-    (seen_eight16 16384 c.quotients-v4.result (omega arith) c.quotients-v4.ensures.all)
-    (seen_eight16 16384 c.quotients-v5.result (omega arith) c.quotients-v5.ensures.all)
-    (seen_eight16 16384 c.quotients-v6.result (omega arith) c.quotients-v6.ensures.all)
-    (seen_eight16 16384 c.quotients-v7.result (omega arith) c.quotients-v7.ensures.all)
+    (seen_eight16 (omega arith) c.quotients-v0.ensures.all)
+    (seen_eight16 (omega arith) c.quotients-v1.ensures.all)
+    (seen_eight16 (omega arith) c.quotients-v2.ensures.all)
+    (seen_eight16 (omega arith) c.quotients-v3.ensures.all)
+    (seen_eight16 (omega arith) c.quotients-v4.ensures.all)
+    (seen_eight16 (omega arith) c.quotients-v5.ensures.all)
+    (seen_eight16 (omega arith) c.quotients-v6.ensures.all)
+    (seen_eight16 (omega arith) c.quotients-v7.ensures.all)
 
 pub returns-clause-at : goal.returns-clause-at
 returns-clause-at c = λ k v lk lv. (

@@ -4,7 +4,7 @@ use Rattle.jpg_dct.proofs.Eights.{two_are, two_eight, plain_dots, seen_eight16, 
 use Rattle.jpg_dct.proofs.forward.lanes.two_products.Goals as goal
 
 pub dots-requires : goal.dots-requires
-dots-requires c = (seen_eight16 16384 c.args.a (omega arith) c.requires.lanes.0, seen_eight16 16384 c.args.b (omega arith) c.requires.lanes.1)
+dots-requires c = (seen_eight16 (omega arith) c.requires.lanes.0, seen_eight16 (omega arith) c.requires.lanes.1)
 
 pub rounded-requires : goal.rounded-requires
 rounded-requires c =
@@ -12,7 +12,7 @@ rounded-requires c =
     seen_eight32 c.dots.result (two_eight c.args.a c.args.b c.dots.result c.args.k c.args.l c.requires.lanes.0 c.requires.lanes.1 c.requires.factors c.dots.ensures.long at)
 
 pub returns-clause-all : goal.returns-clause-all
-returns-clause-all c = seen_eight16 8192 c.rounded.result (omega arith) c.rounded.ensures.all
+returns-clause-all c = seen_eight16 (omega arith) c.rounded.ensures.all
 
 pub returns-clause-at : goal.returns-clause-at
 returns-clause-at c = λ i lt. (

@@ -1,7 +1,8 @@
 use Rattle.std.proofs.Common.{◌≡◌, pos, ◌+ℤ◌, ◌-ℤ◌, ◌*ℤ◌, to_z, of_z}
 use Rattle.std.specs.Int.{w32, int_wrap}
 use Rattle.jpg_spec_image.specs.Dct.{even_sums}
-use Rattle.jpg_dct.proofs.Wrapped.{given, summed, less, scaled, four}
+use Rattle.jpg_dct.proofs.Several.{four}
+use Rattle.jpg_dct.proofs.Wrapped.{given, summed, less, scaled}
 use Rattle.jpg_dct.proofs.inverse.narrow.even.Goals as goal
 
 pub returns : goal.returns

@@ -1,7 +1,8 @@
 use Rattle.std.proofs.Common.{◌≡◌, List, ℤ, pos, to_z, of_z, ap, ◌∙◌, map, slice_index_or}
 use Rattle.std.specs.Int.{w64, int_wrap}
 use Rattle.jpg_spec_image.specs.Dct.{even_sums, odd_sums, joined_sums, number_at}
-use Rattle.jpg_dct.proofs.Wrapped.{start, summed, less, plain, eight}
+use Rattle.jpg_dct.proofs.Several.{eight}
+use Rattle.jpg_dct.proofs.Wrapped.{start, summed, less, plain}
 use Rattle.jpg_dct.proofs.inverse.wide.line.Goals as goal
 
 pub returns : goal.returns

@@ -9,4 +9,4 @@ returns g c =
     let k = g.M.ScanMachine.kind in
     let e : c.push.new.self ≡ bits_of 8 c.args.byte = c.push.ensures ∙ ap (λ (z : List Bool). z ++ bits_of 8 c.args.byte) c.new-store.ensures in
     let P : List Bool → Type 0 = λ z. GivesBits k c.args.machine.now c.args.coefs.now z c.bits.result [] c.bits.new.self c.bits.new.coefs in
-    subst P e (given_all k c.units_left-most.result c.args.machine.now c.bits.new.self c.args.coefs.now c.bits.new.coefs c.push.new.self c.bits.new.store c.bits.result c.units_left-most.ensures c.bits.ensures)
+    subst P e (given_all k c.args.machine.now c.args.coefs.now c.units_left-most.result c.bits.new.self c.bits.new.coefs c.push.new.self c.bits.new.store c.bits.result c.units_left-most.ensures c.bits.ensures)

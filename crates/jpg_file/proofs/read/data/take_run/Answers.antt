@@ -20,8 +20,8 @@ pub returns-then-rest-le8 : goal.returns-then-rest-le8
 returns-then-rest-le8 g c =
     let l = c.loop-rest in let t = c.bits-taken in let k = g.M.ScanMachine.kind in let front = take 8 l.rest.now in
     let B : List Bool → Type 0 = λ z. TakesBits k c.units_left-most.result l.machine l.coefs z t.result t.new.self t.new.coefs t.new.store in
-    run_after k c.args.machine.now l.machine t.new.self c.args.coefs.now l.coefs t.new.coefs c.args.bytes.now l.rest.now _ 8 _ t.result l.invariant
-    (run_all k c.units_left-most.result l.machine t.new.self l.coefs t.new.coefs front t.new.store (length front - length t.new.store / 8) t.result (some_first l.rest.now (l.invariant).some) (λ e. c.units_left-most.ensures) (omega arith) (subst B c.front_of-store.ensures t.ensures))
+    run_after k c.args.machine.now t.new.self c.args.coefs.now t.new.coefs l.machine l.coefs c.args.bytes.now l.rest.now _ 8 _ t.result l.invariant
+    (run_all k l.machine t.new.self l.coefs t.new.coefs c.units_left-most.result front t.new.store (length front - length t.new.store / 8) t.result (some_first l.rest.now (l.invariant).some) (λ e. c.units_left-most.ensures) (omega arith) (subst B c.front_of-store.ensures t.ensures))
     (omega (arith, c.len.ensures.value, c.few_of.ensures))
 
 pub loop-rest-preserved : goal.loop-rest-preserved
@@ -32,4 +32,4 @@ loop-rest-preserved g c =
     let more = subst (λ n. B n (bits_of_bytes (take 8 rest)) taken.More) c.units_left-most.ensures (subst (B c.units_left-most.result (bits_of_bytes (take 8 rest))) (c.is_over.ensures c.if-is_over.false) some) in
     let R : List ℕ → Type 0 = λ r. HasRun _ k c.args.machine.now c.args.coefs.now c.args.bytes.now t.new.self t.new.coefs r in
     subst R (sym (take_all (length rest - 8) (drop 8 rest) (omega (arith, length-drop 8 rest))))
-    (run_on k c.args.machine.now l.machine t.new.self c.args.coefs.now l.coefs t.new.coefs c.args.bytes.now rest t.new.store l.invariant (omega (arith, c.if-rest-le8.false)) more)
+    (run_on k c.args.machine.now t.new.self c.args.coefs.now t.new.coefs l.machine l.coefs c.args.bytes.now rest t.new.store l.invariant (omega (arith, c.if-rest-le8.false)) more)

@@ -20,8 +20,8 @@ unreachable-requires-in_default-coefs c =
 pub tables_of-quants-requires : goal.tables_of-quants-requires
 tables_of-quants-requires c = λ i low.
     let o = c.requires in
-    let same = left_framed o.0 o.1.0 o.1.1 c.args.file c.in-Some.frame o.1.2 c.in-Some.is in
-    table_left o.0 o.1.0 o.1.1 c.args.file i o.1.2 (subst (λ (g : Frame). length g.components ≤ 4) (sym same) c.checked.ensures.count_high) (subst (λ (g : Frame). i < length g.components) (sym same) low)
+    let same = left_framed o.0 o.1.0 o.1.1 c.args.file o.1.2 c.in-Some.frame c.in-Some.is in
+    table_left o.0 o.1.0 o.1.1 c.args.file o.1.2 i (subst (λ (g : Frame). length g.components ≤ 4) (sym same) c.checked.ensures.count_high) (subst (λ (g : Frame). i < length g.components) (sym same) low)
 
 pub returns : goal.returns
 returns c = λ limits segments blocks e.
@@ -34,7 +34,7 @@ returns c = λ limits segments blocks e.
       jfif = c.args.file.reading.items.held.jfif;
     } in
     let l : IsLeft c.args.file p = record { frame = c.in-Some.is; coefs = c.in-Some-coefs.is; kept = refl; few = c.checked.ensures.count_high; tables = c.tables_of-quants.ensures.tables } in
-    left_means limits segments blocks c.args.file p e l
+    left_means limits segments blocks c.args.file e p l
 
 pub invariant_of-result : goal.invariant_of-result
 invariant_of-result c =
@@ -53,9 +53,9 @@ invariant_of-result c =
       keeps = record {
         frame = c.checked.ensures;
         tables = c.tables_of-quants.ensures.count;
-        quants = λ i low. left_quants o.0 o.1.0 o.1.1 c.args.file p i o.1.2 l low;
-        grids = left_grids o.0 o.1.0 o.1.1 c.args.file p o.1.2 l;
-        range = left_range o.0 o.1.0 o.1.1 c.args.file p o.1.2 l;
+        quants = λ i low. left_quants o.0 o.1.0 o.1.1 c.args.file o.1.2 p i l low;
+        grids = left_grids o.0 o.1.0 o.1.1 c.args.file o.1.2 p l;
+        range = left_range o.0 o.1.0 o.1.1 c.args.file o.1.2 p l;
         colour = c.colours-colour.ensures ∙ colour_is p (sym jfif);
         jfif = jfif;
       };

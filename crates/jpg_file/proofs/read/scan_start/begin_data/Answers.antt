@@ -6,7 +6,7 @@ use Rattle.jpg_spec.proofs.PlacesSome.{head_units_some}
 use Rattle.jpg_file.specs.Read.ScanStart.{before_data}
 use Rattle.jpg_file.specs.Read.NewScan.{IsBareScan}
 use Rattle.jpg_file.specs.declared.read.scan.InScan.{InScan}
-use Rattle.jpg_file.proofs.ScanStarts.{start_of, first_interval, first_of_scan, in_data, counted, due_after}
+use Rattle.jpg_file.proofs.ScanStarts.{NewScan, start_of, first_interval, first_of_scan, in_data, counted, due_after}
 use Rattle.jpg_file.proofs.RowCounts.{begun_left}
 use Rattle.jpg_file.proofs.read.scan_start.begin_data.Goals as goal
 
@@ -29,10 +29,11 @@ restart-requires-clause-ready c =
     let o = c.requires.2 in
     let f = c.args.frame.now in
     let head = c.args.head.now in
-    let s = start_of o.0 o.1 o.2 o.3 o.4 f head c.args.tables.now c.args.interval now o.5 in
+    let x : NewScan = record { limits = o.0; items = o.1; blocks = o.2; contents = o.3; bytes = o.4; frame = f; head = head; set = c.args.tables.now; interval = c.args.interval; now = now; begins = o.5 } in
+    let s = start_of x in
     let n : c.from.result * c.from-2.result ≡ c.args.interval * mcu_units f (head_components head) = ap (λ (k : ℕ). k * c.from-2.result) c.from.ensures ∙ ap (λ (k : ℕ). c.args.interval * k) (c.from-2.ensures ∙ c.mcu_units.ensures.value) in (
-      first_interval o.0 o.1 o.2 o.3 (s.cut).first (s.cut).later now,
-      c.put_tables.ensures _ (first_of_scan o.0 o.1 o.2 o.3 o.4 f head c.args.tables.now c.args.interval now o.5 s sizes),
+      first_interval x s,
+      c.put_tables.ensures _ (first_of_scan x s sizes),
       counted _ _ _ _ _ _ (s.cut).many c.first_units-first.ensures.value n c.scan_units-all.ensures,
     )
 
@@ -56,13 +57,12 @@ returns c =
       begun_left w.work c.scan_units-all.result c.first_units-first.result (ap (λ (q : InScan). q.work.whole) (sym same)) (ap (λ (q : InScan). q.work.due) (sym same)) c.restart.ensures.left c.first_units-first.ensures.most ∙ c.scan_units-all.ensures,
       λ now sizes limits items blocks contents bytes b. (let f = c.args.frame.now in
           let head = c.args.head.now in
-          let set = c.args.tables.now in
-          let s = start_of limits items blocks contents bytes f head set c.args.interval now b in
+          let x : NewScan = record { limits = limits; items = items; blocks = blocks; contents = contents; bytes = bytes; frame = f; head = head; set = c.args.tables.now; interval = c.args.interval; now = now; begins = b } in
+          let s = start_of x in
           let n : c.from.result * c.from-2.result ≡ c.args.interval * mcu_units f (head_components head) = ap (λ (k : ℕ). k * c.from-2.result) c.from.ensures ∙ ap (λ (k : ℕ). c.args.interval * k) (c.from-2.ensures ∙ c.mcu_units.ensures.value) in
-          let i = first_interval limits items blocks contents (s.cut).first (s.cut).later now in
-          let ready = c.put_tables.ensures i (first_of_scan limits items blocks contents bytes f head set c.args.interval now b s sizes) in
+          let ready = c.put_tables.ensures (first_interval x s) (first_of_scan x s sizes) in
           let many = counted _ _ _ _ _ _ (s.cut).many c.first_units-first.ensures.value n c.scan_units-all.ensures in
-          in_data limits items blocks contents bytes f head set c.args.interval now w b s sizes (c.restart.ensures.begun i ready many) gate (ap (λ (q : InScan). q.work.whole) (sym same)) (ap (λ (q : InScan). q.work.turn) (sym same))
+          in_data x s sizes w (c.restart.ensures.begun (first_interval x s) ready many) gate (ap (λ (q : InScan). q.work.whole) (sym same)) (ap (λ (q : InScan). q.work.turn) (sym same))
           (ap (λ (q : InScan). q.work.interval) (sym same) ∙ n)
           (ap (λ (q : InScan). q.work.due) (sym same) ∙ due_after _ _ s.cut c.first_units-first.result c.scan_units-all.result many c.scan_units-all.ensures)),
     )

@@ -12,7 +12,7 @@ unreachable-requires c =
 pub tables_of-quants-requires : goal.tables_of-quants-requires
 tables_of-quants-requires c = λ i low.
     let o = c.requires in
-    held_table o.0 o.1 c.args.file.now c.copy-frame.result i o.2 (c.in-Some.is ∙ ap (λ (g : Frame). Some g) (sym c.copy-frame.ensures)) c.checked.ensures low
+    held_table o.0 o.1 c.args.file.now o.2 c.copy-frame.result i (c.in-Some.is ∙ ap (λ (g : Frame). Some g) (sym c.copy-frame.ensures)) c.checked.ensures low
 
 pub returns : goal.returns
 returns c = strip_tells c.args.file.now _

@@ -12,7 +12,7 @@ returns-then-behind-number c = λ e.
     let t = c.self.inside.table in let i = c.args.length - 1 in
     let lt : c.args.number < get_or t.limits i 0 = grind (arith, nat_tests, e) in
     let le : get_or t.firsts i 0 + get_or t.counts i 0 ≤ c.args.number = omega (arith, c.if-behind-number.true, c.from.ensures) in
-    let b = begins_code t.counts t.symbols t.firsts t.starts t.limits i c.args.number t.indexed (omega (arith, c.requires.few)) le lt in
+    let b = begins_code t.symbols t.indexed i c.args.number (omega (arith, c.requires.few)) le lt in
     let n : i + 1 ≡ c.args.length = omega (arith, c.requires.some) in
     let P : List Code → Type 0 = λ l. BeginsCode l (bits_of (i + 1) c.args.number) in
     let Q : ℕ → Type 0 = λ m. BeginsCode c.args.self.now (bits_of m c.args.number) in

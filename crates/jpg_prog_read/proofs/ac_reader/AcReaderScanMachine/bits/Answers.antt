@@ -8,7 +8,8 @@ read-requires-clause-open c = (c.requires.open.0, c.requires.open.1, inr (c.sett
 
 pub returns : goal.returns
 returns c =
-    settled c.args.most c.args.self.now c.settle.new.self c.args.coefs.now c.args.store.now c.read.result c.read.new.self c.read.new.coefs c.read.new.store c.settle.ensures.settles c.settle.ensures.count (omega (arith, c.if-len-eq0.false, c.len.ensures.value)) c.read.ensures
+    settled c.args.most c.args.self.now c.settle.new.self c.args.coefs.now c.settle.ensures.settles c.settle.ensures.count
+    c.args.store.now c.read.result c.read.new.self c.read.new.coefs c.read.new.store (omega (arith, c.if-len-eq0.false, c.len.ensures.value)) c.read.ensures
 
 pub returns-then-len-eq0 : goal.returns-then-len-eq0
 returns-then-len-eq0 c = ([], refl, ((refl, refl), omega (arith, c.requires.some), nil_of c.args.store.now (omega (arith, c.if-len-eq0.true, c.len.ensures.value))))

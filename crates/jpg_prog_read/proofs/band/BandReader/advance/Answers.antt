@@ -17,17 +17,17 @@ returns-in-Long-clause-open c = c.pass_last.ensures.open c.args.scan.now (c.in-A
 
 pub returns-in-Ends-clause-answered : goal.returns-in-Ends-clause-answered
 returns-in-Ends-clause-answered c = λ ac at bits k f.
-    absurd (ends_run at bits c.skip.new.self (sym c.in-Ends.ensures) c.in-AtZero.ensures.at.1 (c.in-AtZero.ensures.stands at bits (zero_in at.coding c.args.scan.now.most_magnitude k.bounds) f))
+    absurd (ends_run (c.in-AtZero.ensures.stands at bits (zero_in at.coding c.args.scan.now.most_magnitude k.bounds) f) (sym c.in-Ends.ensures) c.in-AtZero.ensures.at.1)
 
 pub returns-in-Long-stage-clause-answered : goal.returns-in-Long-stage-clause-answered
 returns-in-Long-stage-clause-answered c = λ ac at bits k f.
     subst (λ (n : InWork). BetweenUnits at.coding at.units (at.told ++ n.done) at.others bits n) (sym c.end_element.ensures)
-    (long_ended at bits c.skip.new.self (sym c.in-Long-stage.ensures) c.in-AtEnd.ensures.at (c.in-AtEnd.ensures.stands at bits (zero_in at.coding c.args.scan.now.most_magnitude k.bounds) f))
+    (long_ended (c.in-AtEnd.ensures.stands at bits (zero_in at.coding c.args.scan.now.most_magnitude k.bounds) f) (sym c.in-Long-stage.ensures) c.in-AtEnd.ensures.at)
 
 pub returns-in-Value-stage-clause-answered : goal.returns-in-Value-stage-clause-answered
 returns-in-Value-stage-clause-answered c = λ ac at bits k f.
-    absurd (value_not_ended at bits c.skip.new.self (sym c.in-Value-stage.ensures) c.in-AtEnd.ensures.at (c.in-AtEnd.ensures.stands at bits (zero_in at.coding c.args.scan.now.most_magnitude k.bounds) f))
+    absurd (value_not_ended (c.in-AtEnd.ensures.stands at bits (zero_in at.coding c.args.scan.now.most_magnitude k.bounds) f) (sym c.in-Value-stage.ensures) c.in-AtEnd.ensures.at)
 
 pub returns-in-Ends-clause-ends : goal.returns-in-Ends-clause-ends
 returns-in-Ends-clause-ends c = λ ac at bits k f e.
-    ends_run at bits c.skip.new.self (sym c.in-Ends.ensures) c.in-AtZero.ensures.at.1 (c.in-AtZero.ensures.stands at bits (zero_in at.coding c.args.scan.now.most_magnitude k.bounds) f)
+    ends_run (c.in-AtZero.ensures.stands at bits (zero_in at.coding c.args.scan.now.most_magnitude k.bounds) f) (sym c.in-Ends.ensures) c.in-AtZero.ensures.at.1

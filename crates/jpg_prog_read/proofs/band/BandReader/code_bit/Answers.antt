@@ -7,12 +7,11 @@ use Rattle.jpg_prog_read.proofs.BandBits.{walked_open, walked_back}
 use Rattle.jpg_prog_read.proofs.band.BandReader.code_bit.Goals as goal
 
 pub returns-in-More-clause-answered : goal.returns-in-More-clause-answered
-returns-in-More-clause-answered c = λ left at bits k l f.
-    more_read c.args.scan.now c.args.codes.now at bits c.args.self.now c.walk_bit.new.self c.args.bit k c.requires.stage f c.in-More.ensures.same c.in-More.ensures.answers.0 c.in-More.ensures.answers.1
+returns-in-More-clause-answered c = λ left.
+    more_read c.args.scan.now c.args.codes.now left c.args.self.now c.walk_bit.new.self c.args.bit c.requires.stage c.in-More.ensures.same c.in-More.ensures.answers.0 c.in-More.ensures.answers.1
 
 pub returns-in-NoCode-clause-answered : goal.returns-in-NoCode-clause-answered
-returns-in-NoCode-clause-answered c = λ left at bits k l f.
-    code_none c.args.scan.now c.args.codes.now at bits c.args.self.now c.args.bit k c.requires.stage f c.in-NoCode.ensures.answers.0
+returns-in-NoCode-clause-answered c = λ left at bits k l f. code_none f c.args.bit k c.requires.stage c.in-NoCode.ensures.answers.0
 
 pub symbol-requires-clause-open : goal.symbol-requires-clause-open
 symbol-requires-clause-open c =

@@ -10,4 +10,4 @@ pub returns-clause-answered : goal.returns-clause-answered
 returns-clause-answered c = λ ac at bits k f.
     let new = rw (to_z-of_z w16 c.whole_number-value.result (search rules)) at c.begin_value.ensures in
     c.advance.ensures.answered ac at bits k
-    (subst (λ (n : InWork). StandsInBand at bits n) (sym new) (value_begun at bits c.args.self.now c.whole_number-value.result c.requires.stage f c.whole_number-value.ensures.category c.whole_number-value.ensures.extra))
+    (subst (λ (n : InWork). StandsInBand at bits n) (sym new) (value_begun f c.whole_number-value.result c.requires.stage c.whole_number-value.ensures.category c.whole_number-value.ensures.extra))

@@ -10,7 +10,7 @@ pub returns-clause-answered : goal.returns-clause-answered
 returns-clause-answered c = λ b ac at bits k f.
     let e : c.end_element.new.self ≡ after_value c.args.self.now (pos 0) = c.end_element.ensures ∙ ap (λ (s : InWork). (let n : InWork = record s { stage = stage.Code } in n)) c.put.ensures in
     subst (λ (n : InWork). Answered at bits c.covered.result n) (sym e)
-    (long_whole at bits c.covered.result c.args.self.now c.requires.stage.0 c.requires.zero c.requires.stage.1 (zero_in at.coding b.most_magnitude k.bounds) f (subst (λ (n : InWork). AfterValue c.covered.result n) e c.covered.ensures))
+    (long_whole f c.covered.result c.requires.stage.0 c.requires.zero c.requires.stage.1 (zero_in at.coding b.most_magnitude k.bounds) (subst (λ (n : InWork). AfterValue c.covered.result n) e c.covered.ensures))
 
 pub returns-clause-open : goal.returns-clause-open
 returns-clause-open c = λ b fits.

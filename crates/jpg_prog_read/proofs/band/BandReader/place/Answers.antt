@@ -1,7 +1,7 @@
 use Rattle.std.proofs.Common.{rules, refl, sym, subst, ap, ◌≡◌, ◌∙◌, pos, ◌≤◌, ◌<◌, ℤ, ◌*ℤ◌}
 use Rattle.std.specs.Prelude.{nat_abs}
 use mir.Syntax.{w16}
-use mir.Val.{SFits, to_z, of_z}
+use mir.Val.{to_z, of_z}
 use Rattle.std.proofs.lemmas.Int.{to_z-of_z}
 use Rattle.jpg_spec.specs.Elements.{scaled}
 use Rattle.jpg_prog_read.specs.declared.stage.Stage.TheVariants as stage
@@ -14,10 +14,9 @@ use Rattle.jpg_prog_read.proofs.band.BandReader.place.Goals as goal
 pub returns-in-Beyond-clause-answered : goal.returns-in-Beyond-clause-answered
 returns-in-Beyond-clause-answered c = λ ac at bits k f.
     let s = c.args.self.now in
-    let j : SFits w16 c.due.result = search rules in
-    let x : to_z w16 (of_z w16 c.due.result) ≡ s.due = to_z-of_z w16 c.due.result j ∙ c.due.ensures in
+    let x : to_z w16 (of_z w16 c.due.result) ≡ s.due = to_z-of_z w16 c.due.result (search rules) ∙ c.due.ensures in
     let e : to_z w16 (of_z w16 c.due.result) *ℤ pos c.args.scan.now.scale ≡ scaled at.coding.al s.due = ap (λ (v : ℤ). v *ℤ pos c.args.scan.now.scale) x ∙ ap (λ n. s.due *ℤ pos n) k.scale in
-    value_out at bits s c.requires.stage.0 c.requires.zero c.requires.stage.1 (out_limit at.coding c.args.scan.now.most_magnitude (scaled at.coding.al s.due) k.bounds (subst (λ (y : ℤ). c.args.scan.now.most_magnitude < nat_abs y) e c.in-Beyond.ensures)) f
+    value_out f c.requires.stage.0 c.requires.zero c.requires.stage.1 (out_limit at.coding c.args.scan.now.most_magnitude (scaled at.coding.al s.due) k.bounds (subst (λ (y : ℤ). c.args.scan.now.most_magnitude < nat_abs y) e c.in-Beyond.ensures))
 
 pub returns-in-Within-clause-open : goal.returns-in-Within-clause-open
 returns-in-Within-clause-open c =
@@ -29,12 +28,10 @@ returns-in-Within-clause-open c =
 pub returns-in-Within-clause-answered : goal.returns-in-Within-clause-answered
 returns-in-Within-clause-answered c = λ ac at bits k f.
     let s = c.args.self.now in
-    let j : SFits w16 c.due.result = search rules in
-    let l : SFits w16 c.in-Within.value = search rules in
-    let x : to_z w16 (of_z w16 c.due.result) ≡ s.due = to_z-of_z w16 c.due.result j ∙ c.due.ensures in
+    let x : to_z w16 (of_z w16 c.due.result) ≡ s.due = to_z-of_z w16 c.due.result (search rules) ∙ c.due.ensures in
     let e : to_z w16 (of_z w16 c.due.result) *ℤ pos c.args.scan.now.scale ≡ scaled at.coding.al s.due = ap (λ (v : ℤ). v *ℤ pos c.args.scan.now.scale) x ∙ ap (λ n. s.due *ℤ pos n) k.scale in
-    let v : to_z w16 (of_z w16 c.in-Within.value) ≡ scaled at.coding.al s.due = to_z-of_z w16 c.in-Within.value l ∙ c.in-Within.ensures.0 ∙ e in
+    let v : to_z w16 (of_z w16 c.in-Within.value) ≡ scaled at.coding.al s.due = to_z-of_z w16 c.in-Within.value (search rules) ∙ c.in-Within.ensures.0 ∙ e in
     let m : c.end_element.new.self ≡ after_value s (scaled at.coding.al s.due) = c.end_element.ensures ∙ ap (λ (s : InWork). (let n : InWork = record s { stage = stage.Code } in n)) c.put.ensures ∙ ap (λ (y : ℤ). after_value s y) v in
     subst (λ (n : InWork). Answered at bits c.covered.result n) (sym m)
-    (value_whole at bits c.covered.result s c.requires.stage.0 c.requires.zero c.requires.stage.1
-    (in_limit at.coding c.args.scan.now.most_magnitude (scaled at.coding.al s.due) k.bounds (subst (λ (y : ℤ). nat_abs y ≤ c.args.scan.now.most_magnitude) e c.in-Within.ensures.1)) f (subst (λ (n : InWork). AfterValue c.covered.result n) m c.covered.ensures))
+    (value_whole f c.covered.result c.requires.stage.0 c.requires.zero c.requires.stage.1
+    (in_limit at.coding c.args.scan.now.most_magnitude (scaled at.coding.al s.due) k.bounds (subst (λ (y : ℤ). nat_abs y ≤ c.args.scan.now.most_magnitude) e c.in-Within.ensures.1)) (subst (λ (n : InWork). AfterValue c.covered.result n) m c.covered.ensures))

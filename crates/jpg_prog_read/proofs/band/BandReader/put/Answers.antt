@@ -1,6 +1,5 @@
 use Rattle.std.proofs.Common.{rules, ◌≡◌, ◌∙◌, ap, sym, arith, ◌+◌, ◌-◌, ◌<◌, [], ◌∷◌, ◌++◌, length, List, ℤ, take, drop, drop-drop, set, ◌≤◌, ◌/◌, ◌^◌}
 use mir.Syntax.{w16}
-use mir.Val.{SFits}
 use Rattle.std.proofs.lemmas.Int.{to_z-of_z}
 use Rattle.std.proofs.lemmas.List.{take-set-le, length-set}
 use Rattle.jpg_prog_read.specs.InWork.{InWork}
@@ -12,8 +11,7 @@ use Rattle.jpg_prog_read.proofs.band.BandReader.put.Goals as goal
 pub returns : goal.returns
 returns c =
     let i = c.self.inside in let k = c.self.invariant in
-    let f : SFits w16 c.args.value = search rules in
-    let e : c.set.new.self ≡ set i.values i.at c.args.value = c.set.ensures.value ∙ ap (λ (v : ℤ). set i.values i.at v) (to_z-of_z w16 c.args.value f) in
+    let e : c.set.new.self ≡ set i.values i.at c.args.value = c.set.ensures.value ∙ ap (λ (v : ℤ). set i.values i.at v) (to_z-of_z w16 c.args.value (search rules)) in
     let some : 1 ≤ length (take (i.end - i.at) (drop i.at i.values)) = rw (sym (ap (λ (s : InWork). length s.rest) c.self.view_is)) at c.requires in
     let h : i.at < i.end = rest_short i.values i.at i.end some in
     let w : List ℤ → InWork = λ xs. (let n : InWork = record { front = take i.start xs; done = take (i.at + 1 - i.start) (drop i.start xs); rest = take (i.end - (i.at + 1)) (drop (i.at + 1) xs); behind = drop i.end xs; stage = i.stage; walked = i.walk; run = i.run; size = i.extra.size; extra = i.extra.bits; due = i.due; bands = i.bands } in n) in
@@ -29,8 +27,7 @@ returns c =
 pub invariant_of-self : goal.invariant_of-self
 invariant_of-self c =
     let i = c.self.inside in let k = c.self.invariant in
-    let f : SFits w16 c.args.value = search rules in
-    let e : c.set.new.self ≡ set i.values i.at c.args.value = c.set.ensures.value ∙ ap (λ (v : ℤ). set i.values i.at v) (to_z-of_z w16 c.args.value f) in
+    let e : c.set.new.self ≡ set i.values i.at c.args.value = c.set.ensures.value ∙ ap (λ (v : ℤ). set i.values i.at v) (to_z-of_z w16 c.args.value (search rules)) in
     let some : 1 ≤ length (take (i.end - i.at) (drop i.at i.values)) = rw (sym (ap (λ (s : InWork). length s.rest) c.self.view_is)) at c.requires in
     let h : i.at < i.end = rest_short i.values i.at i.end some in
     record {

@@ -4,21 +4,13 @@ use Rattle.jpg_prog_read.proofs.BandBits.{gone_more, gone_then}
 use Rattle.jpg_prog_read.proofs.band.BandReader.take.Goals as goal
 
 pub returns-then-len-eq0-clause-takes : goal.returns-then-len-eq0-clause-takes
-returns-then-len-eq0-clause-takes c =
-    let l = c.loop-store in
-    gone_then c.args.scan.now c.args.codes.now c.args.left c.args.self.now c.args.store.now l.self l.store More c.take_some.new.self c.take_some.new.store l.invariant c.in-More.ensures
+returns-then-len-eq0-clause-takes c = gone_then c.args.scan.now c.args.codes.now c.args.left More c.loop-store.invariant c.in-More.ensures
 
 pub loop-store-preserved : goal.loop-store-preserved
-loop-store-preserved c =
-    let l = c.loop-store in
-    gone_more c.args.scan.now c.args.codes.now c.args.left c.args.self.now c.args.store.now l.self l.store c.take_some.new.self c.take_some.new.store l.invariant c.in-More.ensures (omega (arith, c.if-len-eq0.false, c.len.ensures.value))
+loop-store-preserved c = gone_more c.args.scan.now c.args.codes.now c.args.left c.loop-store.invariant c.in-More.ensures (omega (arith, c.if-len-eq0.false, c.len.ensures.value))
 
 pub returns-in-Done-clause-takes : goal.returns-in-Done-clause-takes
-returns-in-Done-clause-takes c =
-    let l = c.loop-store in
-    gone_then c.args.scan.now c.args.codes.now c.args.left c.args.self.now c.args.store.now l.self l.store Done c.take_some.new.self c.take_some.new.store l.invariant c.in-Done.ensures
+returns-in-Done-clause-takes c = gone_then c.args.scan.now c.args.codes.now c.args.left Done c.loop-store.invariant c.in-Done.ensures
 
 pub returns-in-Fault-clause-takes : goal.returns-in-Fault-clause-takes
-returns-in-Fault-clause-takes c =
-    let l = c.loop-store in
-    gone_then c.args.scan.now c.args.codes.now c.args.left c.args.self.now c.args.store.now l.self l.store (Fault c.in-Fault.fault) c.take_some.new.self c.take_some.new.store l.invariant c.in-Fault.ensures
+returns-in-Fault-clause-takes c = gone_then c.args.scan.now c.args.codes.now c.args.left (Fault c.in-Fault.fault) c.loop-store.invariant c.in-Fault.ensures

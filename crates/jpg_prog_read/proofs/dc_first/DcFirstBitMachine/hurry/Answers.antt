@@ -6,7 +6,7 @@ use Rattle.jpg_prog_read.proofs.DcMachines.{can_read, hurried}
 use Rattle.jpg_prog_read.proofs.dc_first.DcFirstBitMachine.hurry.Goals as goal
 
 pub hurry_unit-requires : goal.hurry_unit-requires
-hurry_unit-requires c = let o = c.requires.open in can_read c.args.self.now c.place-place.result c.args._coefs.now o.0 o.1 c.place-place.ensures o.2
+hurry_unit-requires c = let o = c.requires.open in can_read c.args.self.now c.place-place.result c.args._coefs.now c.place-place.ensures o.0 o.1 o.2
 
 pub returns : goal.returns
 returns c =

@@ -1,4 +1,4 @@
-use Rattle.std.proofs.Common.{subst, sym, ap, arith}
+use Rattle.std.proofs.Common.{subst, sym, arith}
 use Rattle.jpg_prog_read.specs.declared.dc_looks.DcLooks.{DcLooks}
 use Rattle.jpg_prog_read.proofs.DcLookedUp.{AreOf, none_of, one_of, all_looked_up}
 use Rattle.jpg_prog_read.proofs.dc_looks.DcLooks.look_up.Goals as goal

@@ -1,6 +1,5 @@
 use Rattle.std.proofs.Common.{rules, ◌≡◌, ◌∙◌, ap, sym, length}
 use mir.Syntax.{w16}
-use mir.Val.{SFits}
 use Rattle.std.proofs.lemmas.Int.{to_z-of_z}
 use Rattle.jpg_spec.specs.Bits.{bits_of}
 use Rattle.jpg_spec.specs.Numbers.{extra_bits}
@@ -18,5 +17,4 @@ pub returns-clause-extra : goal.returns-clause-extra
 returns-clause-extra c =
     let i = c.self.inside in
     let l : i.have ≡ i.size = sym (length-bits_of i.have i.number) ∙ ap (λ (s : ExtraWork). length s.bits) c.self.view_is ∙ c.requires ∙ ap (λ (s : ExtraWork). s.size) (sym c.self.view_is) in
-    let f : SFits w16 c.extend.result = search rules in
-    ap extra_bits (to_z-of_z w16 c.extend.result f) ∙ c.extend.ensures.extra ∙ ap (λ n. bits_of n i.number) (sym l) ∙ ap (λ (s : ExtraWork). s.bits) c.self.view_is
+    ap extra_bits (to_z-of_z w16 c.extend.result (search rules)) ∙ c.extend.ensures.extra ∙ ap (λ n. bits_of n i.number) (sym l) ∙ ap (λ (s : ExtraWork). s.bits) c.self.view_is

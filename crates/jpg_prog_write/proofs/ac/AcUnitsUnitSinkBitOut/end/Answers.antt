@@ -1,19 +1,14 @@
-use Rattle.std.proofs.Common.{◌∙◌, sym, ap, subst, arith, Ok, Err, true}
+use Rattle.std.proofs.Common.{◌∙◌, sym, ap, subst, true}
 use Rattle.std.proofs.lemmas.Result.{err_from_is_err_and}
 use Rattle.std.specs.Prelude.{All}
-use Rattle.jpg_spec_write.specs.Sending.{ended_bands}
-use Rattle.jpg_huff.specs.BitOut.{Puts}
 use Rattle.jpg_coefs.specs.Sinks.{at}
 use Rattle.jpg_coefs.specs.BitSinks.{interval_bits}
 use Rattle.jpg_coefs.proofs.BitSinks.{ends, ends_fault}
 use Rattle.jpg_prog_write.specs.Items.{texts}
 use Rattle.jpg_prog_write.specs.Written.{codes_in, tables_in}
-use Rattle.jpg_prog_write.specs.ScanSinks.{ac_units, IsBandUnit}
+use Rattle.jpg_prog_write.specs.ScanSinks.{ac_units, IsBandUnit, bands_left}
 use Rattle.jpg_prog_write.proofs.BandUnits.{band_texts}
 use Rattle.jpg_prog_write.proofs.ac.AcUnitsUnitSinkBitOut.end.Goals as goal
-
-pub first_slot-slot-requires : goal.first_slot-slot-requires
-first_slot-slot-requires g c = (let one = c.requires.open.1.sink.2.ac.one in omega (arith, one))
 
 pub put_end-requires-clause-ready : goal.put_end-requires-clause-ready
 put_end-requires-clause-ready g c = c.requires.open.1.sink.2.ready
@@ -26,20 +21,18 @@ returns-in_err-put_end g c =
     let state = g.D.Desk.state in
     let s = c.args.self.now in
     let back = err_from_is_err_and c.from_residual.result c.from_residual.ensures.1 in
-    let puts = subst (λ slot. Puts (state c.args.desk.now) c.args.out.now (texts (codes_in s.tables.now 1 slot) (ended_bands s.bands.bands s.bands.waiting.items)) (Err c.in_err-put_end.field-0.0) c.put_end.new.out (state c.put_end.new.desk)) c.first_slot-slot.ensures
-    c.in_err-put_end.ensures in
-    rw (back.1, back.2) (ends_fault ac_units state c.args.marker (at s c.args.out.now c.args.desk.now) (at (record s { bands = c.put_end.new.bands }) c.put_end.new.out c.put_end.new.desk) c.in_err-put_end.field-0.0 (λ last. puts))
+    rw (back.1, back.2) (ends_fault ac_units state c.args.marker (at s c.args.out.now c.args.desk.now) (at (record s { bands = c.put_end.new.bands }) c.put_end.new.out c.put_end.new.desk) c.in_err-put_end.field-0.0 (λ last. c.in_err-put_end.ensures))
 
 pub returns : goal.returns
 returns g c =
     let state = g.D.Desk.state in
     let s = c.args.self.now in
     let head = s.head.now in
-    let puts = subst (λ slot. Puts (state c.args.desk.now) c.args.out.now (texts (codes_in s.tables.now 1 slot) (ended_bands s.bands.bands s.bands.waiting.items)) (Ok tt) c.put_end.new.out (state c.put_end.new.desk)) c.first_slot-slot.ensures c.in_ok-put_end.ensures in
-    ends ac_units state c.args.marker (at s c.args.out.now c.args.desk.now) (at s c.put_end.new.out c.put_end.new.desk) (at (record s { bands = c.no_bands-self.result }) c.end_interval.new.out c.end_interval.new.desk) c.end_interval.result (λ last. puts)
+    ends ac_units state c.args.marker (at s c.args.out.now c.args.desk.now) (at s c.put_end.new.out c.put_end.new.desk) (at (record s { bands = c.no_bands-self.result }) c.end_interval.new.out c.end_interval.new.desk) c.end_interval.result (λ last. c.in_ok-put_end.ensures)
     c.end_interval.ensures
     (λ from due same fits. (
-      (same.0, same.1, c.no_bands-self.ensures.bands),
-      band_texts s.tables.now head c.no_bands-self.result due c.no_bands-self.ensures.bands c.no_bands-self.ensures.none (subst (λ h. All (IsBandUnit h) due) (sym (ap (λ h. h.now) same.0)) fits)
+      (same.0, same.1, c.no_bands-self.ensures.bands, same.3),
+      ap (λ slot. texts (codes_in s.tables.now 1 slot) (bands_left c.no_bands-self.result due)) same.3
+          ∙ band_texts s.tables.now head c.no_bands-self.result due c.no_bands-self.ensures.bands c.no_bands-self.ensures.none (subst (λ h. All (IsBandUnit h) due) (sym (ap (λ h. h.now) same.0)) fits)
           ∙ ap (λ h. interval_bits true (tables_in s.tables.now) h.now due) same.0 ∙ ap (λ t. interval_bits true (tables_in t.now) from.head.now due) same.1,
     ))

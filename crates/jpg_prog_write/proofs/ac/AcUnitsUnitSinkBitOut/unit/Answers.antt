@@ -1,18 +1,12 @@
-use Rattle.std.proofs.Common.{◌∷◌, ◌∙◌, sym, subst, arith}
+use Rattle.std.proofs.Common.{◌∙◌, sym, subst}
 use Rattle.std.proofs.lemmas.List.Elements.{All-head}
 use Rattle.jpg_spec_write.specs.ScanText.{UnitDue}
 use Rattle.jpg_coefs.specs.Sinks.{at}
-use Rattle.jpg_coefs.specs.BitSinks.{PutsUpTo}
 use Rattle.jpg_coefs.proofs.BitSinks.{takes_unit}
 use Rattle.jpg_prog_write.specs.Bands.{IsBandOf}
-use Rattle.jpg_prog_write.specs.Items.{texts}
-use Rattle.jpg_prog_write.specs.Written.{codes_in}
-use Rattle.jpg_prog_write.specs.ScanSinks.{ac_units, bands_left}
+use Rattle.jpg_prog_write.specs.ScanSinks.{ac_units}
 use Rattle.jpg_prog_write.proofs.BandUnits.{band_puts}
 use Rattle.jpg_prog_write.proofs.ac.AcUnitsUnitSinkBitOut.unit.Goals as goal
-
-pub first_slot-slot-requires : goal.first_slot-slot-requires
-first_slot-slot-requires g c = (let one = c.requires.2.sink.2.ac.one in omega (arith, one))
 
 pub begin-requires-clause-ready : goal.begin-requires-clause-ready
 begin-requires-clause-ready g c = c.requires.2.sink.2.ready
@@ -31,8 +25,6 @@ returns g c =
     let same_band = c.put_band.ensures.band ∙ c.begin.ensures.band in
     takes_unit ac_units state u c.args.last (at s c.args.out.now c.args.desk.now) (at (record s { bands = new }) c.put_band.new.out c.put_band.new.desk) c.put_band.result
     (λ from lasts rest same fits e. (
-      (λ v k. (same.0, same.1, record { ac = same.2.ac; ready = c.put_band.ensures.ready v k; band = subst (IsBandOf s.head.now) (sym same_band) same.2.band })),
-      subst (λ slot. PutsUpTo (state c.args.desk.now) c.args.out.now (texts (codes_in s.tables.now 1 slot) (bands_left s.bands (u ∷ rest))) (texts (codes_in s.tables.now 1 slot) (bands_left new rest)) c.put_band.result c.put_band.new.out (state c.put_band.new.desk))
-          c.first_slot-slot.ensures
-          (band_puts (state c.args.desk.now) (state c.put_band.new.desk) c.args.out.now c.put_band.new.out _ s.bands c.begin.new.self new u rest c.put_band.result c.put_band.ensures.band c.begin.ensures.band c.begin.ensures.left c.put_band.ensures.puts),
+      (λ v k. (same.0, same.1, record { ac = same.2.ac; ready = c.put_band.ensures.ready v k; band = subst (IsBandOf s.head.now) (sym same_band) same.2.band }, same.3)),
+      band_puts (state c.args.desk.now) (state c.put_band.new.desk) c.args.out.now c.put_band.new.out _ s.bands c.begin.new.self new u rest c.put_band.result c.put_band.ensures.band c.begin.ensures.band c.begin.ensures.left c.put_band.ensures.puts,
     ))

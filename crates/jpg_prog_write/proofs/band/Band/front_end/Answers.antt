@@ -1,6 +1,6 @@
 use Rattle.std.proofs.Common.{◌≡◌, ◌-◌, true, false, sym, ap, ◌∙◌, arith, pos, rules}
 use mir.Syntax.{w16}
-use mir.Val.{SFits, to_z, of_z}
+use mir.Val.{to_z, of_z}
 use Rattle.std.specs.Prelude.{slice_index_or}
 use Rattle.std.proofs.lemmas.Int.{to_z-of_z}
 use Rattle.jpg_spec_write.specs.Sending.{is_new, sent}
@@ -16,8 +16,7 @@ loop-end-init c =
 
 pub loop-end-preserved : goal.loop-end-preserved
 loop-end-preserved c =
-    let f : SFits w16 c.get.result = search rules in
-    let e : to_z w16 (of_z w16 c.get.result) ≡ slice_index_or c.args.block.now (c.loop-end.end - 1) (pos 0) = to_z-of_z w16 c.get.result f ∙ c.get.ensures.value in
+    let e : to_z w16 (of_z w16 c.get.result) ≡ slice_index_or c.args.block.now (c.loop-end.end - 1) (pos 0) = to_z-of_z w16 c.get.result (search rules) ∙ c.get.ensures.value in
     let old : is_new (sent_at c.args.self c.args.block.now (c.loop-end.end - 1)) ≡ false =
     ap (λ v. is_new (sent c.args.self.refines c.args.self.al v)) (sym e) ∙ sym c.is_newly_significant.ensures ∙ c.if-not-is_newly_significant.true in
     record {
@@ -28,8 +27,7 @@ loop-end-preserved c =
 
 pub returns-else-not-is_newly_significant-clause-new : goal.returns-else-not-is_newly_significant-clause-new
 returns-else-not-is_newly_significant-clause-new c =
-    let f : SFits w16 c.get.result = search rules in
-    let e : to_z w16 (of_z w16 c.get.result) ≡ slice_index_or c.args.block.now (c.loop-end.end - 1) (pos 0) = to_z-of_z w16 c.get.result f ∙ c.get.ensures.value in
+    let e : to_z w16 (of_z w16 c.get.result) ≡ slice_index_or c.args.block.now (c.loop-end.end - 1) (pos 0) = to_z-of_z w16 c.get.result (search rules) ∙ c.get.ensures.value in
     let new : is_new (sent_at c.args.self c.args.block.now (c.loop-end.end - 1)) ≡ true =
     ap (λ v. is_new (sent c.args.self.refines c.args.self.al v)) (sym e) ∙ sym c.is_newly_significant.ensures ∙ c.if-not-is_newly_significant.false in
     ends_before c.args.self c.args.self.start c.loop-end.end c.args.block.now (omega (arith, c.loop-end-test.true)) (omega (arith, c.requires.band.most, c.requires.long, c.loop-end.invariant.high)) new

@@ -1,4 +1,4 @@
-use Rattle.std.proofs.Common.{◌≡◌, ◌∷◌, ◌++◌, ◌∙◌, sym, ap, subst, arith}
+use Rattle.std.proofs.Common.{◌++◌, ◌∙◌, sym, ap, subst}
 use Rattle.std.proofs.lemmas.List.Elements.{All-head}
 use Rattle.std.specs.Prelude.{map}
 use Rattle.jpg_spec_write.specs.ScanText.{UnitDue}
@@ -8,9 +8,6 @@ use Rattle.jpg_prog_write.specs.Counted.{marks_of}
 use Rattle.jpg_prog_write.specs.ScanSinks.{ac_counter}
 use Rattle.jpg_prog_write.proofs.Counting.{takes_unit}
 use Rattle.jpg_prog_write.proofs.count.AcCounterUnitSinkRowsUnit.unit.Goals as goal
-
-pub first_slot-slot-requires : goal.first_slot-slot-requires
-first_slot-slot-requires c = (let one = c.requires.2.sink.1.ac.one in omega (arith, one))
 
 pub begin-requires-clause-ready : goal.begin-requires-clause-ready
 begin-requires-clause-ready c = c.requires.2.sink.1.ready
@@ -24,21 +21,20 @@ pub count_band-requires-clause-rows : goal.count_band-requires-clause-rows
 count_band-requires-clause-rows c = c.requires.2.counting.done.rows
 
 pub count_band-requires-clause-slot : goal.count_band-requires-clause-slot
-count_band-requires-clause-slot c = (let small = c.requires.2.sink.2 in omega (arith, small, c.first_slot-slot.ensures))
+count_band-requires-clause-slot c = c.requires.2.sink.3
 
 pub returns : goal.returns
 returns c =
     let s = c.args.self.now in
     let new = c.count_band.new.bands in
-    let slot = c.first_slot-slot.result in
     let same_band = c.count_band.ensures.band ∙ c.begin.ensures.band in
     takes_unit ac_counter (c.args.component, c.args.block.now) c.args.last (at s c.args.rows.now c.args.desk.now) (at (record s { bands = new }) c.count_band.new.rows c.args.desk.now)
     (λ from lasts rest same fits e.
     let later = map (λ (v : UnitDue). band_sents s.bands.band v.1) rest in
     let done = c.count_band.ensures.notes later in
-    let joined = ap (marks_of slot) (c.begin.ensures.left later) ∙ sym done.joined ∙ ap (λ band. done.front ++ marks_of slot (elements_waiting new (map (λ (v : UnitDue). band_sents band v.1) rest))) (sym same_band) in (
-      (same.0, record { ac = same.1.ac; ready = c.count_band.ensures.ready; band = subst (IsBandOf s.head.now) (sym same_band) same.1.band }, same.2),
+    let joined = ap (marks_of s.slot) (c.begin.ensures.left later) ∙ sym done.joined ∙ ap (λ band. done.front ++ marks_of s.slot (elements_waiting new (map (λ (v : UnitDue). band_sents band v.1) rest))) (sym same_band) in (
+      (same.0, record { ac = same.1.ac; ready = c.count_band.ensures.ready; band = subst (IsBandOf s.head.now) (sym same_band) same.1.band }, same.2, same.3),
       done.front,
-      subst (λ n. marks_of n (elements_waiting s.bands (band_sents s.bands.band c.args.block.now ∷ later)) ≡ done.front ++ marks_of n (elements_waiting new (map (λ (v : UnitDue). band_sents new.band v.1) rest))) c.first_slot-slot.ensures joined,
+      joined,
       done.done,
     ))

@@ -1,7 +1,7 @@
 use Rattle.std.proofs.Common.{rules, ◌≡◌, ◌<◌, ◌∙◌, sym, subst, pos}
 use Rattle.std.specs.Prelude.{slice_index_or}
 use mir.Syntax.{w16}
-use mir.Val.{SFits, to_z, of_z}
+use mir.Val.{to_z, of_z}
 use Rattle.std.proofs.lemmas.Int.{to_z-of_z}
 use Rattle.std.proofs.lemmas.List.Elements.{All-head}
 use Rattle.jpg_spec.specs.Scan.{part_of}
@@ -31,10 +31,8 @@ pub returns : goal.returns
 returns c =
     let s = c.args.self.now in
     let last = to_z w16 (of_z w16 c.args.last) in
-    let fl : SFits w16 c.args.last = search rules in
-    let same_last : last ≡ c.args.last = to_z-of_z w16 c.args.last fl in
+    let same_last : last ≡ c.args.last = to_z-of_z w16 c.args.last (search rules) in
     let value = to_z w16 (of_z w16 c.get.result) in
-    let fv : SFits w16 c.get.result = search rules in
-    let is : value ≡ slice_index_or c.args.block.now 0 (pos 0) = to_z-of_z w16 c.get.result fv ∙ c.get.ensures.value in
+    let is : value ≡ slice_index_or c.args.block.now 0 (pos 0) = to_z-of_z w16 c.get.result (search rules) ∙ c.get.ensures.value in
     takes_unit dc_counter (c.args.component, c.args.block.now) c.args.last (at s c.args.rows.now c.args.desk.now) (at s c.count_unit.new.rows c.args.desk.now)
     (λ from lasts rest same fits e. (same, _, next_unit (owned_marks s.head.now) s.head.now lasts c.args.component last value c.args.block.now rest (e ∙ sym same_last) is, c.count_unit.ensures))

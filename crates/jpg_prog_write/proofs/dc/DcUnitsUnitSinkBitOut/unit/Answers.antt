@@ -1,7 +1,7 @@
 use Rattle.std.proofs.Common.{rules, ◌≡◌, ◌∙◌, sym, pos}
 use Rattle.std.specs.Prelude.{slice_index_or}
 use mir.Syntax.{w16}
-use mir.Val.{SFits, to_z, of_z}
+use mir.Val.{to_z, of_z}
 use Rattle.std.proofs.lemmas.Int.{to_z-of_z}
 use Rattle.jpg_spec_write.specs.ScanText.{element_bits}
 use Rattle.jpg_coefs.specs.Sinks.{at}
@@ -19,11 +19,9 @@ returns g c =
     let state = g.D.Desk.state in
     let s = c.args.self.now in
     let last = to_z w16 (of_z w16 c.args.last) in
-    let fl : SFits w16 c.args.last = search rules in
-    let same_last : last ≡ c.args.last = to_z-of_z w16 c.args.last fl in
+    let same_last : last ≡ c.args.last = to_z-of_z w16 c.args.last (search rules) in
     let value = to_z w16 (of_z w16 c.get-value.result) in
-    let fv : SFits w16 c.get-value.result = search rules in
-    let is : value ≡ slice_index_or c.args.block.now 0 (pos 0) = to_z-of_z w16 c.get-value.result fv ∙ c.get-value.ensures.value in
+    let is : value ≡ slice_index_or c.args.block.now 0 (pos 0) = to_z-of_z w16 c.get-value.result (search rules) ∙ c.get-value.ensures.value in
     takes_unit dc_units state (c.args.component, c.args.block.now) c.args.last (at s c.args.out.now c.args.desk.now) (at s c.put_unit.new.out c.put_unit.new.desk) c.put_unit.result
     (λ from lasts rest same fits e. (
       (λ u k. same),

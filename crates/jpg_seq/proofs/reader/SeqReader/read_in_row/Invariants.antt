@@ -4,7 +4,8 @@ use Rattle.jpg_seq.specs.RowTaken.{ReadsRow}
 use Rattle.jpg_seq.proofs.reader.SeqReader.read_in_row.Given as goal
 
 abbrev pub invariant-loop-fault : goal.invariant-loop-fault
-invariant-loop-fault l = ReadsRow l.most l.tops (with_work l.fn.self l.fn.unit) l.fn.row (bits_in l.fn.source) (with_work l.self l.unit) l.row (bits_in l.source) l.done
+invariant-loop-fault l =
+    ReadsRow l.most l.tops (record { machine = with_work l.fn.self l.fn.unit; picture = l.fn.row; store = bits_in l.fn.source }) (record { machine = with_work l.self l.unit; picture = l.row; store = bits_in l.source }) l.done
 
 abbrev pub decreases-loop-fault : goal.decreases-loop-fault
 decreases-loop-fault l = l.self.left

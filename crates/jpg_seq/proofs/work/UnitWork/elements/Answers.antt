@@ -1,4 +1,4 @@
-use Rattle.std.proofs.Common.{rules, refl, subst, sym, ℤ}
+use Rattle.std.proofs.Common.{rules, subst, sym, ℤ}
 use mir.Syntax.{w16}
 use Rattle.std.proofs.lemmas.Int.{to_z-of_z}
 use Rattle.jpg_seq.specs.Coder.{env_in}

@@ -1,4 +1,4 @@
-use Rattle.std.proofs.Common.{refl, arith, ap, length, ◌∙◌, subst, sym}
+use Rattle.std.proofs.Common.{refl, arith, ap, length}
 use Rattle.jpg_seq.specs.declared.source.Source.{Source}
 use Rattle.jpg_seq.specs.declared.work.UnitProgress.TheVariants.{More, Done}
 use Rattle.jpg_seq.specs.Work.{Work}

@@ -3,8 +3,8 @@ use Rattle.std.proofs.lemmas.List.{with_items_is}
 use Rattle.std.specs.Vec.{with_items}
 use Rattle.jpg_spec.specs.Lists.{below}
 use Rattle.jpg_coefs.specs.Picture.{map_of}
-use Rattle.jpg_color.specs.KeptRows.{stride, kept_rows_of, last_row, row_in, sample_in}
-use Rattle.jpg_color.proofs.RowsPut.{rows_put, room_is, filled}
+use Rattle.jpg_color.specs.KeptRows.{KeptRows, stride, kept_rows_of, last_row, row_in, sample_in, with_block_rows}
+use Rattle.jpg_color.proofs.RowsPut.{kept_by, rows_put, room_is}
 use Rattle.jpg_color.proofs.decode.sample_rows.SampleRows.fill.Goals as goal
 
 pub returns : goal.returns
@@ -20,9 +20,10 @@ returns c =
     let l2 : length put ≡ r.samples.len = c.put_rows.ensures.long ∙ c.deref_mut-2.ensures.len in
     let long : length c.deref_mut-2.result.now ≡ r.room * stride r.wide = c.deref_mut-2.ensures.len ∙ c.self.invariant.4 in
     let few : kept + c.args.count ≤ r.room = search rules in
-    filled c.args.self.now c.args.quants.now blocks c.args.i c.args.first c.args.count r.wide r.room r.len r.samples.items _ c.self.view_is
+    ap (kept_by r.wide r.room)
     (ap (kept_rows_of r.wide (kept + c.args.count)) (with_items_is first put l2)
     ∙ rows_put r.wide kept c.args.count (sample_in c.args.quants.now blocks c.args.i c.args.first) c.deref_mut-2.result.now put (search rules)
     (room_is r.wide r.room (kept + c.args.count) c.deref_mut-2.result.now few long) c.put_rows.ensures
     ∙ ap (λ rows. rows ++ map (row_in r.wide c.args.quants.now blocks c.args.i c.args.first) (below c.args.count))
     (ap (kept_rows_of r.wide kept) i1 ∙ c.keep_last-kept.ensures.rows ∙ ap (λ bytes. last_row (kept_rows_of r.wide r.len bytes)) c.deref_mut.ensures.value))
+    ∙ ap (λ (k : KeptRows). with_block_rows k c.args.quants.now blocks c.args.i c.args.first c.args.count) c.self.view_is

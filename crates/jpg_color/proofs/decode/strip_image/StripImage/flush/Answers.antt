@@ -2,4 +2,4 @@ use Rattle.jpg_color.proofs.Drawn.{stays}
 use Rattle.jpg_color.proofs.decode.strip_image.StripImage.flush.Goals as goal
 
 pub returns-clause-stays : goal.returns-clause-stays
-returns-clause-stays g c = stays c.self.inside.strips c.self.inside.info c.self.inside.out c.send_any.new.out c.args.self.now c.self.view_is
+returns-clause-stays g c = stays c.self.view_is

@@ -4,7 +4,7 @@ use Rattle.jpg_spec.specs.Lists.{below, any_of}
 use Rattle.jpg_spec_image.specs.Upsampling.{has_far_rows}
 use Rattle.jpg_color.specs.PartState.{PartState}
 use Rattle.jpg_color.specs.StripsState.{coloured_length, part_at}
-use Rattle.jpg_color.proofs.StripsFresh.{showable, parts_there, sizes_told, fresh, is_fresh}
+use Rattle.jpg_color.proofs.StripsFresh.{are_new, display_is, fresh, is_fresh, parts_there, showable, sizes_told}
 use Rattle.jpg_color.proofs.decode.strips.Strips.new.Goals as goal
 
 pub new_parts-requires-clause-there : goal.new_parts-requires-clause-there
@@ -18,9 +18,9 @@ new_parts-requires-clause-sizes c =
 
 pub invariant_of-result : goal.invariant_of-result
 invariant_of-result c =
-    fresh c.args.head.now c.args.gray c.args.smooth c.copy-frame.result c.copied.result.items c.in_ok-parts.parts.items c.in_ok-last.last.items c.needed_parts-count.result
-    c.mcu_rows-all.result c.mcu_lines-lines.result c.is_any_waiting-waits.result (showable c.args.head.now c.args.gray c.args.smooth c.requires.head c.requires.admitted)
-    c.copy-frame.ensures (c.copied.ensures ∙ c.as_slice.ensures.value) c.needed_parts-count.ensures c.in_ok-parts.ensures
+    fresh
+    (are_new c.args.head.now (display_is c.args.head.now c.copy-frame.ensures (c.copied.ensures ∙ c.as_slice.ensures.value))
+    (showable c.args.head.now c.args.gray c.args.smooth c.requires.head c.requires.admitted) c.needed_parts-count.ensures c.in_ok-parts.ensures)
     (c.in_ok-last.ensures ∙ c.row_bytes.ensures.value ∙ ap (coloured_length c.args.head.now.colour c.args.gray) c.width.ensures)
     c.mcu_lines-lines.ensures.value (let bounds = c.mcu_lines-lines.ensures.bounds in bounds.1)
     (c.mcu_rows-all.ensures ∙ ap (λ n. div_up n c.mcu_lines-lines.result) c.height.ensures)
@@ -28,6 +28,6 @@ invariant_of-result c =
 
 pub returns : goal.returns
 returns c =
-    is_fresh c.args.head.now c.args.gray c.args.smooth c.copy-frame.result c.copied.result.items c.in_ok-parts.parts.items c.in_ok-last.last.items c.needed_parts-count.result
-    (showable c.args.head.now c.args.gray c.args.smooth c.requires.head c.requires.admitted)
-    c.copy-frame.ensures (c.copied.ensures ∙ c.as_slice.ensures.value) c.needed_parts-count.ensures c.in_ok-parts.ensures
+    let same = display_is c.args.head.now c.copy-frame.ensures (c.copied.ensures ∙ c.as_slice.ensures.value) in
+    is_fresh c.in_ok-last.last.items same
+    (are_new c.args.head.now same (showable c.args.head.now c.args.gray c.args.smooth c.requires.head c.requires.admitted) c.needed_parts-count.ensures c.in_ok-parts.ensures)

@@ -15,18 +15,18 @@ gray_parts-requires c =
     } in
     subst (All (CanFillGray c.self.inside.pushed)) (sym c.deref_mut.ensures.value)
     (can_gray (zero_row d) c.self.inside.pushed c.self.inside.parts.items
-    (can_fill _ c.self.inside.pushed c.self.inside.given c.self.inside.parts.items c.self.inside.last.items _ _ _ false (zero_row d) c.args.self.now c.self.invariant c.self.view_is c.requires.due there))
+    (can_fill c.self.invariant c.self.view_is c.requires.due there))
 
 pub invariant_of-self : goal.invariant_of-self
 invariant_of-self c =
     let q = zero_row c.args.self.now.display in
-    kept_more _ c.self.inside.pushed c.self.inside.given c.self.inside.parts.items _ c.self.inside.last.items _ _ _ false q c.args.self.now c.self.invariant c.self.view_is c.requires.due
-    (parts_written c.self.inside.parts.len (filled q false c.self.inside.pushed) c.self.inside.parts.items c.deref_mut.result.now c.gray_parts.new.parts c.self.inside.parts.ok.0 c.deref_mut.ensures.value
+    kept_more false q c.self.invariant c.self.view_is c.requires.due
+    (parts_written (filled q false c.self.inside.pushed) c.self.inside.parts.ok.0 c.deref_mut.ensures.value
     (c.gray_parts.ensures ∙ all_grayed c.args.self.now.display c.self.inside.pushed c.deref_mut.result.now))
 
 pub returns : goal.returns
 returns c =
     let q = zero_row c.args.self.now.display in
-    pushed _ c.self.inside.pushed c.self.inside.given c.self.inside.parts.items _ c.self.inside.last.items _ _ _ false q c.args.self.now c.self.invariant c.self.view_is c.requires.due
-    (parts_written c.self.inside.parts.len (filled q false c.self.inside.pushed) c.self.inside.parts.items c.deref_mut.result.now c.gray_parts.new.parts c.self.inside.parts.ok.0 c.deref_mut.ensures.value
+    pushed false q c.self.invariant c.self.view_is c.requires.due
+    (parts_written (filled q false c.self.inside.pushed) c.self.inside.parts.ok.0 c.deref_mut.ensures.value
     (c.gray_parts.ensures ∙ all_grayed c.args.self.now.display c.self.inside.pushed c.deref_mut.result.now))

@@ -6,14 +6,14 @@ use Rattle.jpg_color.proofs.decode.strips.Strips.take.Goals as goal
 pub fill_parts-requires : goal.fill_parts-requires
 fill_parts-requires c =
     subst (All (CanFill c.args.coefs.now c.args.whole c.self.inside.pushed)) (sym c.deref_mut.ensures.value)
-    (can_fill _ c.self.inside.pushed c.self.inside.given c.self.inside.parts.items c.self.inside.last.items _ _ _ c.args.whole c.args.coefs.now c.args.self.now c.self.invariant c.self.view_is c.requires.due c.requires.blocks)
+    (can_fill c.self.invariant c.self.view_is c.requires.due c.requires.blocks)
 
 pub invariant_of-self : goal.invariant_of-self
 invariant_of-self c =
-    kept_more _ c.self.inside.pushed c.self.inside.given c.self.inside.parts.items _ c.self.inside.last.items _ _ _ c.args.whole c.args.coefs.now c.args.self.now c.self.invariant c.self.view_is c.requires.due
-    (parts_written c.self.inside.parts.len (filled c.args.coefs.now c.args.whole c.self.inside.pushed) c.self.inside.parts.items c.deref_mut.result.now c.fill_parts.new.parts c.self.inside.parts.ok.0 c.deref_mut.ensures.value c.fill_parts.ensures)
+    kept_more c.args.whole c.args.coefs.now c.self.invariant c.self.view_is c.requires.due
+    (parts_written (filled c.args.coefs.now c.args.whole c.self.inside.pushed) c.self.inside.parts.ok.0 c.deref_mut.ensures.value c.fill_parts.ensures)
 
 pub returns : goal.returns
 returns c =
-    pushed _ c.self.inside.pushed c.self.inside.given c.self.inside.parts.items _ c.self.inside.last.items _ _ _ c.args.whole c.args.coefs.now c.args.self.now c.self.invariant c.self.view_is c.requires.due
-    (parts_written c.self.inside.parts.len (filled c.args.coefs.now c.args.whole c.self.inside.pushed) c.self.inside.parts.items c.deref_mut.result.now c.fill_parts.new.parts c.self.inside.parts.ok.0 c.deref_mut.ensures.value c.fill_parts.ensures)
+    pushed c.args.whole c.args.coefs.now c.self.invariant c.self.view_is c.requires.due
+    (parts_written (filled c.args.coefs.now c.args.whole c.self.inside.pushed) c.self.inside.parts.ok.0 c.deref_mut.ensures.value c.fill_parts.ensures)

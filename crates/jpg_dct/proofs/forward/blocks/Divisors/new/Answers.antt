@@ -9,7 +9,7 @@ loop-n-preserved c = (
   length-set c.loop-n.halves c.loop-n.n _ ∙ c.loop-n.invariant.0,
   length-set c.loop-n.factors c.loop-n.n _ ∙ c.loop-n.invariant.1,
   length-set c.loop-n.scales c.loop-n.n _ ∙ c.loop-n.invariant.2,
-  divides_more c.natural-quants.result c.loop-n.halves c.loop-n.factors c.loop-n.scales c.loop-n.n _ _ _ (search rules) c.loop-n.invariant.0 c.loop-n.invariant.1 c.loop-n.invariant.2 c.loop-n.invariant.3 c.divisor_of-half.ensures,
+  divides_more c.natural-quants.result (record { halves = c.loop-n.halves; factors = c.loop-n.factors; scales = c.loop-n.scales }) c.loop-n.n _ (search rules) c.loop-n.invariant.0 c.loop-n.invariant.1 c.loop-n.invariant.2 c.loop-n.invariant.3 c.divisor_of-half.ensures,
 )
 
 pub divisor_of-half-requires : goal.divisor_of-half-requires

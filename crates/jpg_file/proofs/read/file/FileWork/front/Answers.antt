@@ -1,8 +1,9 @@
 use Rattle.std.proofs.Common.{◌∙◌, sym, arith}
 use Rattle.jpg_file.proofs.PieceSteps.{front_fills, front_passes}
-use Rattle.jpg_file.proofs.FileSteps.{between_of, none_is}
+use Rattle.jpg_file.proofs.FileSteps.{between_of}
 use Rattle.jpg_file.specs.Read.File.{limits_of}
 use Rattle.jpg_file.proofs.read.file.FileWork.front.Goals as goal
+use Rattle.jpg_markers.proofs.Continuing.{not_some}
 
 pub returns-then-is_some-clause-after : goal.returns-then-is_some-clause-after
 returns-then-is_some-clause-after c =
@@ -13,7 +14,7 @@ front-requires-clause-can c =
     let w = c.args.self.now in
     let o = c.requires.stands in
     let s = between_of (limits_of w) o.0 w o.1 (sym c.is_some.ensures ∙ c.if-is_some.false) in
-    record { none = none_is w.reading.scan (sym c.is_some.ensures ∙ c.if-is_some.false); same = s.at.bounded.0; count = s.beside.same; limits = c.requires.limits; room = omega (arith, c.requires.room) }
+    record { none = not_some w.reading.scan (sym c.is_some.ensures ∙ c.if-is_some.false); same = s.at.bounded.0; count = s.beside.same; limits = c.requires.limits; room = omega (arith, c.requires.room) }
 
 pub returns-else-is_some-clause-after : goal.returns-else-is_some-clause-after
 returns-else-is_some-clause-after c = front_passes c.args.self.now c.front.new.self c.args.bytes.now c.front.result c.front.ensures.after c.front.ensures.less c.front.ensures.left

@@ -15,11 +15,11 @@ later_item-requires c =
     let o = c.requires.stands in
     let b = after_of (limits_of w) o.0 w o.1 o.2 c.requires.none in
     let a = c.item_byte-came.ensures.after o.0 (b.between).items (b.between).blocks (later_items (limits_of w) o.0 w o.1 b) in
-    later_there (limits_of w) o.0 c.args.byte w c.item_byte-came.new.self o.1 c.item_byte-came.result b a c.requires.room
+    later_there (limits_of w) o.0 w o.1 b c.args.byte c.item_byte-came.new.self c.item_byte-came.result a c.requires.room
 
 pub returns-clause-after : goal.returns-clause-after
 returns-clause-after c = λ bytes rows g.
     let w = c.args.self.now in
     let b = after_of (limits_of w) bytes w rows g c.requires.none in
     let a = c.item_byte-came.ensures.after bytes (b.between).items (b.between).blocks (later_items (limits_of w) bytes w rows b) in
-    later_goes (limits_of w) bytes c.args.byte w c.item_byte-came.new.self rows c.item_byte-came.result c.later_item.result g b a c.requires.room c.later_item.ensures.after
+    later_goes (limits_of w) bytes w rows b c.args.byte c.item_byte-came.new.self c.item_byte-came.result c.later_item.result g a c.requires.room c.later_item.ensures.after

@@ -19,20 +19,20 @@ pub byte_in_row-step-requires-clause-inside : goal.byte_in_row-step-requires-cla
 byte_in_row-step-requires-clause-inside c =
     let w = c.args.self.now in
     let g = c.requires.stands in
-    ready_row (limits_of w) g.0 w c.in-Some.scan c.args.rows.now (row_ready (limits_of w) g.0 w c.in-Some.scan c.args.rows.now g.1 c.in-Some.is) (g.1).none
+    ready_row g.0 w c.in-Some.scan c.args.rows.now (row_ready (limits_of w) g.0 w c.in-Some.scan c.in-Some.is c.args.rows.now g.1) (g.1).none
 
 pub marker-came-requires-clause-stands : goal.marker-came-requires-clause-stands
 marker-came-requires-clause-stands c =
     let w = c.args.self.now in
     let g = c.requires.stands in
-    let r = row_ready (limits_of w) g.0 w c.in-Some.scan c.args.rows.now g.1 c.in-Some.is in
+    let r = row_ready (limits_of w) g.0 w c.in-Some.scan c.in-Some.is c.args.rows.now g.1 in
     (r.items, r.contents, (r.held).head)
 
 pub marker-came-requires-clause-later : goal.marker-came-requires-clause-later
 marker-came-requires-clause-later c =
     let w = c.args.self.now in
     let g = c.requires.stands in
-    let r = row_ready (limits_of w) g.0 w c.in-Some.scan c.args.rows.now g.1 c.in-Some.is in
+    let r = row_ready (limits_of w) g.0 w c.in-Some.scan c.in-Some.is c.args.rows.now g.1 in
     omega (arith, (r.held).behind, ap waiting_bytes (c.byte_in_row-step.ensures.waited (c.in-Ok-true.is ∙ ap Ok c.in-Ok-true.field-0-test)))
 
 pub returns-in-Ok-false-clause-after : goal.returns-in-Ok-false-clause-after
@@ -41,7 +41,7 @@ returns-in-Ok-false-clause-after c = λ bytes g.
     let scan = c.in-Some.scan in
     let rows = c.args.rows.now in
     let took = c.byte_in_row-step in
-    byte_goes (limits_of w) bytes c.args.byte w scan took.new.self rows took.new.rows took.result.1 took.result.0 c.row_step.result (row_ready (limits_of w) bytes w scan rows g c.in-Some.is) g.none c.requires.room took.ensures.takes (c.in-Ok-false.is ∙ ap Ok c.in-Ok-false.field-0-test) took.ensures.counts c.row_step.ensures
+    byte_goes bytes w scan rows (row_ready (limits_of w) bytes w scan c.in-Some.is rows g) g.none c.args.byte took.new.self took.new.rows took.result.1 took.result.0 c.row_step.result c.requires.room took.ensures.takes (c.in-Ok-false.is ∙ ap Ok c.in-Ok-false.field-0-test) took.ensures.counts c.row_step.ensures
 
 pub returns-in-Err-clause-after : goal.returns-in-Err-clause-after
 returns-in-Err-clause-after c = λ bytes g.
@@ -50,7 +50,7 @@ returns-in-Err-clause-after c = λ bytes g.
     let rows = c.args.rows.now in
     let took = c.byte_in_row-step in
     subst (λ (a : Step). AfterRows (limits_of w) (bytes ++ c.args.byte ∷ []) a (file_with w took.new.self (w.reading.taken + 1)) took.new.rows) (sym c.fault_at.ensures)
-    (byte_stops (limits_of w) bytes c.args.byte w scan took.new.self rows took.new.rows took.result.0 c.in-Err.fault (row_ready (limits_of w) bytes w scan rows g c.in-Some.is) g.none took.ensures.takes c.in-Err.is)
+    (byte_stops bytes w scan rows (row_ready (limits_of w) bytes w scan c.in-Some.is rows g) g.none c.args.byte took.new.self took.new.rows took.result.0 c.in-Err.fault took.ensures.takes c.in-Err.is)
 
 pub returns-in-Ok-true-clause-after : goal.returns-in-Ok-true-clause-after
 returns-in-Ok-true-clause-after c = λ bytes g.
@@ -59,7 +59,7 @@ returns-in-Ok-true-clause-after c = λ bytes g.
     let rows = c.args.rows.now in
     let took = c.byte_in_row-step in
     let marker = c.marker-came in
-    byte_leaves bytes c.args.byte w scan took.new.self rows took.new.rows took.result.1 took.result.0 marker.new.self marker.result c.later_item.result (row_ready (limits_of w) bytes w scan rows g c.in-Some.is) g.none c.in-Some.is c.requires.room
+    byte_leaves bytes w scan rows (row_ready (limits_of w) bytes w scan c.in-Some.is rows g) g.none c.args.byte took.new.self took.new.rows took.result.1 took.result.0 marker.new.self marker.result c.later_item.result c.in-Some.is c.requires.room
     took.ensures.takes (c.in-Ok-true.is ∙ ap Ok c.in-Ok-true.field-0-test) took.ensures.counts marker.ensures.after marker.ensures.taken (took.ensures.done (c.in-Ok-true.is ∙ ap Ok c.in-Ok-true.field-0-test)) c.later_item.ensures.after
 
 pub returns-in-Ok-false-clause-rows : goal.returns-in-Ok-false-clause-rows
@@ -87,7 +87,7 @@ later_item-requires c = λ is. absurd
     let rows = c.args.rows.now in
     let took = c.byte_in_row-step in
     let g = c.requires.stands in
-    subst (λ (s : ItemStep). IsOfMarker s) is (leaves_kind g.0 c.args.byte w scan took.new.self rows took.new.rows took.result.0 c.marker-came.new.self c.marker-came.result (row_ready (limits_of w) g.0 w scan rows g.1 c.in-Some.is) (g.1).none took.ensures.takes (c.in-Ok-true.is ∙ ap Ok c.in-Ok-true.field-0-test) c.marker-came.ensures.after))
+    subst (λ (s : ItemStep). IsOfMarker s) is (leaves_kind g.0 w scan rows (row_ready (limits_of w) g.0 w scan c.in-Some.is rows g.1) (g.1).none c.args.byte took.new.self took.new.rows took.result.0 c.marker-came.new.self c.marker-came.result took.ensures.takes (c.in-Ok-true.is ∙ ap Ok c.in-Ok-true.field-0-test) c.marker-came.ensures.after))
 
 pub returns-in-Ok-true-clause-memory : goal.returns-in-Ok-true-clause-memory
 returns-in-Ok-true-clause-memory c =
@@ -96,7 +96,7 @@ returns-in-Ok-true-clause-memory c =
     let rows = c.args.rows.now in
     let took = c.byte_in_row-step in
     let g = c.requires.stands in
-    c.later_item.ensures.memory (λ is. subst (λ (s : ItemStep). IsOfMarker s) is (leaves_kind g.0 c.args.byte w scan took.new.self rows took.new.rows took.result.0 c.marker-came.new.self c.marker-came.result (row_ready (limits_of w) g.0 w scan rows g.1 c.in-Some.is) (g.1).none took.ensures.takes (c.in-Ok-true.is ∙ ap Ok c.in-Ok-true.field-0-test) c.marker-came.ensures.after))
+    c.later_item.ensures.memory (λ is. subst (λ (s : ItemStep). IsOfMarker s) is (leaves_kind g.0 w scan rows (row_ready (limits_of w) g.0 w scan c.in-Some.is rows g.1) (g.1).none c.args.byte took.new.self took.new.rows took.result.0 c.marker-came.new.self c.marker-came.result took.ensures.takes (c.in-Ok-true.is ∙ ap Ok c.in-Ok-true.field-0-test) c.marker-came.ensures.after))
 
 pub returns-in-Ok-false-clause-stops : goal.returns-in-Ok-false-clause-stops
 returns-in-Ok-false-clause-stops c = λ f bytes e g. absurd (no_stop c.byte_in_row-step.result.1 c.row_step.result (stop.Fault f) c.row_step.ensures e)
@@ -107,7 +107,7 @@ returns-in-Err-clause-stops c = λ f bytes e g.
     let scan = c.in-Some.scan in
     let rows = c.args.rows.now in
     let took = c.byte_in_row-step in
-    byte_at_fault (limits_of w) bytes c.args.byte w scan rows took.result.0 c.in-Err.fault (row_ready (limits_of w) bytes w scan rows g c.in-Some.is) g.none took.ensures.stops c.in-Err.is
+    byte_at_fault bytes w scan rows (row_ready (limits_of w) bytes w scan c.in-Some.is rows g) c.args.byte took.result.0 c.in-Err.fault g.none took.ensures.stops c.in-Err.is
 
 pub returns-in-Ok-true-clause-stops : goal.returns-in-Ok-true-clause-stops
 returns-in-Ok-true-clause-stops c = λ f bytes e g.
@@ -115,5 +115,5 @@ returns-in-Ok-true-clause-stops c = λ f bytes e g.
     let scan = c.in-Some.scan in
     let rows = c.args.rows.now in
     let took = c.byte_in_row-step in
-    marker_at_fault (limits_of w) bytes (bytes ++ c.args.byte ∷ []) w scan took.new.self rows took.new.rows took.result.1 (row_ready (limits_of w) bytes w scan rows g c.in-Some.is) took.ensures.counts
+    marker_at_fault bytes w scan rows (row_ready (limits_of w) bytes w scan c.in-Some.is rows g) (bytes ++ c.args.byte ∷ []) took.new.self took.new.rows took.result.1 took.ensures.counts
     (took.ensures.marker (c.in-Ok-true.is ∙ ap Ok c.in-Ok-true.field-0-test)) (took.ensures.done (c.in-Ok-true.is ∙ ap Ok c.in-Ok-true.field-0-test))

@@ -14,7 +14,7 @@ returns-then-len-eq0-clause-after c = λ bytes k.
     let w = c.args.self.now in
     let scan = c.in-Some.scan in
     let new = c.next.new.self in
-    ready_goes (limits_of w) bytes w scan new (next_ready (limits_of w) bytes w scan c.args.rows.now new k c.in-Some.is c.next.ensures.at c.next.ensures.of c.next.ensures.waiting) (nothing new.waiting (omega (arith, c.len.ensures.value, c.if-len-eq0.true)))
+    ready_goes (limits_of w) bytes w scan new (next_ready (limits_of w) bytes w scan c.in-Some.is c.args.rows.now new k c.next.ensures.at c.next.ensures.of c.next.ensures.waiting) (nothing new.waiting (omega (arith, c.len.ensures.value, c.if-len-eq0.true)))
 
 pub rest_in_row-step-requires : goal.rest_in_row-step-requires
 rest_in_row-step-requires c =
@@ -22,39 +22,39 @@ rest_in_row-step-requires c =
     let scan = c.in-Some.scan in
     let new = c.next.new.self in
     let o = c.requires in
-    ready_half (limits_of w) o.0 w scan new (next_ready (limits_of w) o.0 w scan c.args.rows.now new o.1 c.in-Some.is c.next.ensures.at c.next.ensures.of c.next.ensures.waiting) (omega (arith, c.len.ensures.value, c.if-len-eq0.false))
+    ready_half (limits_of w) o.0 w scan new (next_ready (limits_of w) o.0 w scan c.in-Some.is c.args.rows.now new o.1 c.next.ensures.at c.next.ensures.of c.next.ensures.waiting) (omega (arith, c.len.ensures.value, c.if-len-eq0.false))
 
 pub returns-in-Ok-clause-after : goal.returns-in-Ok-clause-after
 returns-in-Ok-clause-after c = λ bytes k.
     let w = c.args.self.now in
     let scan = c.in-Some.scan in
     let new = c.next.new.self in
-    let r = next_ready (limits_of w) bytes w scan c.args.rows.now new k c.in-Some.is c.next.ensures.at c.next.ensures.of c.next.ensures.waiting in
+    let r = next_ready (limits_of w) bytes w scan c.in-Some.is c.args.rows.now new k c.next.ensures.at c.next.ensures.of c.next.ensures.waiting in
     let took = c.rest_in_row-step in
-    rest_goes (limits_of w) bytes w scan took.new.self new took.new.rows took.result.1 took.result.0 c.row_step.result r (omega (arith, c.len.ensures.value, c.if-len-eq0.false)) took.ensures.takes c.in-Ok.is took.ensures.counts took.ensures.gate c.row_step.ensures
+    rest_goes (limits_of w) bytes w scan new r (omega (arith, c.len.ensures.value, c.if-len-eq0.false)) took.new.self took.new.rows took.result.1 took.result.0 c.row_step.result took.ensures.takes c.in-Ok.is took.ensures.counts took.ensures.gate c.row_step.ensures
 
 pub returns-in-Err-clause-after : goal.returns-in-Err-clause-after
 returns-in-Err-clause-after c = λ bytes k.
     let w = c.args.self.now in
     let scan = c.in-Some.scan in
     let new = c.next.new.self in
-    let r = next_ready (limits_of w) bytes w scan c.args.rows.now new k c.in-Some.is c.next.ensures.at c.next.ensures.of c.next.ensures.waiting in
+    let r = next_ready (limits_of w) bytes w scan c.in-Some.is c.args.rows.now new k c.next.ensures.at c.next.ensures.of c.next.ensures.waiting in
     let took = c.rest_in_row-step in
     subst (λ (a : Step). AfterRows (limits_of w) bytes a (file_with w took.new.self w.reading.taken) took.new.rows) (sym c.fault_at.ensures)
-    (rest_stops (limits_of w) bytes w scan took.new.self new took.new.rows took.result.0 c.in-Err.fault r (omega (arith, c.len.ensures.value, c.if-len-eq0.false)) took.ensures.takes c.in-Err.is)
+    (rest_stops (limits_of w) bytes w scan new r (omega (arith, c.len.ensures.value, c.if-len-eq0.false)) took.new.self took.new.rows took.result.0 c.in-Err.fault took.ensures.takes c.in-Err.is)
 
 pub returns-then-len-eq0-clause-rows : goal.returns-then-len-eq0-clause-rows
 returns-then-len-eq0-clause-rows c =
     let w = c.args.self.now in
     let o = c.requires in
-    next_counts (limits_of w) o.0 w c.in-Some.scan c.args.rows.now c.next.new.self o.1 c.in-Some.is c.next.ensures.at
+    next_counts (limits_of w) o.0 w c.in-Some.scan c.in-Some.is c.args.rows.now c.next.new.self o.1 c.next.ensures.at
 
 pub returns-in-Ok-clause-rows : goal.returns-in-Ok-clause-rows
 returns-in-Ok-clause-rows c =
     let w = c.args.self.now in
     let o = c.requires in
     let took = c.rest_in_row-step in
-    rows_then c.args.rows.now c.next.new.self took.new.rows c.row_step.result (next_counts (limits_of w) o.0 w c.in-Some.scan c.args.rows.now c.next.new.self o.1 c.in-Some.is c.next.ensures.at)
+    rows_then c.args.rows.now c.next.new.self took.new.rows c.row_step.result (next_counts (limits_of w) o.0 w c.in-Some.scan c.in-Some.is c.args.rows.now c.next.new.self o.1 c.next.ensures.at)
     (counts_rows c.in-Some.scan.work took.new.self.work c.next.new.self took.new.rows took.result.1 c.row_step.result took.ensures.counts c.row_step.ensures)
 
 pub returns-in-Err-clause-rows : goal.returns-in-Err-clause-rows
@@ -72,6 +72,6 @@ returns-in-Err-clause-stops c = λ f bytes e k.
     let scan = c.in-Some.scan in
     let rows = c.args.rows.now in
     let new = c.next.new.self in
-    let r = next_ready (limits_of w) bytes w scan rows new k c.in-Some.is c.next.ensures.at c.next.ensures.of c.next.ensures.waiting in
+    let r = next_ready (limits_of w) bytes w scan c.in-Some.is rows new k c.next.ensures.at c.next.ensures.of c.next.ensures.waiting in
     let took = c.rest_in_row-step in
-    rest_at_fault (limits_of w) bytes w scan rows new took.result.0 c.in-Err.fault r (omega (arith, c.len.ensures.value, c.if-len-eq0.false)) (next_counts (limits_of w) bytes w scan rows new k c.in-Some.is c.next.ensures.at) took.ensures.stops c.in-Err.is
+    rest_at_fault bytes w scan new r rows took.result.0 c.in-Err.fault (omega (arith, c.len.ensures.value, c.if-len-eq0.false)) (next_counts (limits_of w) bytes w scan c.in-Some.is rows new k c.next.ensures.at) took.ensures.stops c.in-Err.is

@@ -14,7 +14,7 @@ pub run_in_row-n-requires-clause-inside : goal.run_in_row-n-requires-clause-insi
 run_in_row-n-requires-clause-inside c =
     let w = c.args.self.now in
     let g = c.requires.stands in
-    ready_row (limits_of w) g.0 w c.in-Some.scan c.args.rows.now (row_ready (limits_of w) g.0 w c.in-Some.scan c.args.rows.now g.1 c.in-Some.is) (g.1).none
+    ready_row g.0 w c.in-Some.scan c.args.rows.now (row_ready (limits_of w) g.0 w c.in-Some.scan c.in-Some.is c.args.rows.now g.1) (g.1).none
 
 pub overflow_add-at : goal.overflow_add-at
 overflow_add-at c =
@@ -22,7 +22,7 @@ overflow_add-at c =
     let g = c.requires.stands in
     let rows = c.args.rows.now in
     let took = c.run_in_row-n in
-    let few = run_few (limits_of w) g.0 c.args.run.now took.result.0 w c.in-Some.scan took.new.self rows took.new.rows took.result.1 (row_ready (limits_of w) g.0 w c.in-Some.scan rows g.1 c.in-Some.is) (g.1).none took.ensures.takes in
+    let few = run_few g.0 w c.in-Some.scan rows (row_ready (limits_of w) g.0 w c.in-Some.scan c.in-Some.is rows g.1) (g.1).none c.args.run.now took.result.0 took.new.self took.new.rows took.result.1 took.ensures.takes in
     omega (arith, few, c.requires.room, c.requires.limits.input)
 
 pub returns-in-Ok-clause-after : goal.returns-in-Ok-clause-after
@@ -31,7 +31,7 @@ returns-in-Ok-clause-after c = λ bytes g.
     let scan = c.in-Some.scan in
     let rows = c.args.rows.now in
     let took = c.run_in_row-n in
-    run_goes (limits_of w) bytes c.args.run.now took.result.0 w scan took.new.self rows took.new.rows took.result.2 took.result.1 c.row_step.result (row_ready (limits_of w) bytes w scan rows g c.in-Some.is) g.none c.requires.room took.ensures.takes c.in-Ok.is took.ensures.counts c.row_step.ensures
+    run_goes bytes w scan rows (row_ready (limits_of w) bytes w scan c.in-Some.is rows g) g.none c.args.run.now took.result.0 took.new.self took.new.rows took.result.1 took.ensures.takes took.result.2 c.row_step.result c.requires.room c.in-Ok.is took.ensures.counts c.row_step.ensures
 
 pub returns-in-Err-clause-after : goal.returns-in-Err-clause-after
 returns-in-Err-clause-after c = λ bytes g.
@@ -39,7 +39,7 @@ returns-in-Err-clause-after c = λ bytes g.
     let scan = c.in-Some.scan in
     let rows = c.args.rows.now in
     let took = c.run_in_row-n in
-    run_stops (limits_of w) bytes c.args.run.now took.result.0 w scan took.new.self rows took.new.rows took.result.1 c.in-Err.fault c.fault_at.result (row_ready (limits_of w) bytes w scan rows g c.in-Some.is) g.none c.requires.room took.ensures.takes c.in-Err.is c.fault_at.ensures
+    run_stops bytes w scan rows (row_ready (limits_of w) bytes w scan c.in-Some.is rows g) g.none c.args.run.now took.result.0 took.new.self took.new.rows took.result.1 took.ensures.takes c.in-Err.fault c.fault_at.result c.requires.room c.in-Err.is c.fault_at.ensures
 
 pub returns-in-Ok-clause-rows : goal.returns-in-Ok-clause-rows
 returns-in-Ok-clause-rows c =
@@ -61,4 +61,4 @@ returns-in-Err-clause-stops c = λ f bytes e g.
     let scan = c.in-Some.scan in
     let rows = c.args.rows.now in
     let took = c.run_in_row-n in
-    run_at_fault (limits_of w) bytes c.args.run.now took.result.0 w scan rows took.result.1 c.in-Err.fault (row_ready (limits_of w) bytes w scan rows g c.in-Some.is) g.none took.ensures.stops c.in-Err.is
+    run_at_fault bytes w scan rows (row_ready (limits_of w) bytes w scan c.in-Some.is rows g) c.args.run.now took.result.0 took.result.1 c.in-Err.fault g.none took.ensures.stops c.in-Err.is

@@ -31,7 +31,7 @@ returns-clause-after c = λ front g.
     let same = filled_limits w.reading bytes n c.fill_in_scan-n.new.self p in
     let k = rows_filled (limits_of w) front bytes n w c.fill_in_scan-n.new.self c.args.rows.now g c.requires.inside refl p in
     let a = c.row_byte.ensures.after (front ++ take n bytes) (subst (λ l. GoesByRow l (front ++ take n bytes) mid c.args.rows.now) (sym same) k) in
-    later_row (limits_of w) front bytes n mid c.row_byte.new.self c.args.rows.now c.row_byte.new.rows c.row_byte.result k (subst (λ (t : ℕ). t < (limits_of w).input) (sym (ap (λ (r : Reading). r.taken) p.is)) p.room) p.less c.row_byte.ensures.head
+    later_row (limits_of w) front bytes c.row_byte.new.self c.row_byte.new.rows c.row_byte.result n mid c.args.rows.now k (subst (λ (t : ℕ). t < (limits_of w).input) (sym (ap (λ (r : Reading). r.taken) p.is)) p.room) p.less c.row_byte.ensures.head
     (subst (λ (l : Limits). AfterRows l ((front ++ take n bytes) ++ get_or bytes n 0 ∷ []) c.row_byte.result c.row_byte.new.self c.row_byte.new.rows) same a)
 
 pub returns-clause-stops : goal.returns-clause-stops

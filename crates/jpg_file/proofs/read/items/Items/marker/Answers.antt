@@ -1,77 +1,59 @@
-use Rattle.std.proofs.Common.{◌∷◌, List, Ok, Err, refl, subst}
-use Rattle.jpg_spec.specs.Items.{Item, scan, segments_of}
+use Rattle.std.proofs.Common.{◌∷◌, List, Ok, Err, subst}
+use Rattle.jpg_spec.specs.Markers.{Segment}
+use Rattle.jpg_spec.specs.Items.{segments_of}
 use Rattle.jpg_base.specs.declared.stop.Stop.{Stop}
 use Rattle.jpg_markers.specs.declared.segments.SegStep.{SegStep}
 use Rattle.jpg_markers.specs.Reading.{reading_of, Comes, NotWanting}
-use Rattle.jpg_file.specs.declared.read.items.Items.{Items}
-use Rattle.jpg_file.proofs.ScanLeft.{sent_with, left_at, left_more, left_fault, left_end, left_whole}
+use Rattle.jpg_file.proofs.ScanLeft.{sent_with, left_more, left_fault, left_end, left_whole}
 use Rattle.jpg_file.proofs.read.items.Items.marker.Goals as goal
 
 pub returns-in-Err-Fault-clause-after : goal.returns-in-Err-Fault-clause-after
 returns-in-Err-Fault-clause-after c = λ items contents bytes now k e.
     let w = c.args.self.now in
-    let r = reading_of c.marker.new.self in
-    let new : Items = record w { segments = c.marker.new.self } in
-    let l = left_at w.limits items contents bytes c.args.code now w k e in
-    let all : List Item = scan contents l.intervals ∷ items in (
-      l.intervals,
-      left_fault w.limits items contents bytes c.args.code now w new c.in-Err-Fault.fault k l
-          (subst (λ (s : Stop). Comes (sent_with k.sent c.args.code) (segments_of all) (Err s) r) c.in-Err-Fault.field-0-is (c.in-Err-Fault.ensures.answered k.sent (segments_of all) k.stands)) c.in-Err-Fault.ensures.limits,
-      tt,
-    )
+    let before : List Segment = (0xda, contents) ∷ segments_of items in
+    let C : Stop → Type 0 = λ s. Comes (sent_with k.sent c.args.code) before (Err s) (reading_of c.marker.new.self) in
+    let came = subst C c.in-Err-Fault.field-0-is (c.in-Err-Fault.ensures.answered k.sent before k.stands) in
+    left_fault w.limits items contents bytes c.args.code now w k c.marker.new.self c.in-Err-Fault.fault e came c.in-Err-Fault.ensures.limits
 
 pub returns-in-Ok-Whole-clause-after : goal.returns-in-Ok-Whole-clause-after
 returns-in-Ok-Whole-clause-after c = λ items contents bytes now k e.
     let w = c.args.self.now in
-    let r = reading_of c.marker.new.self in
-    let new : Items = record w { segments = c.marker.new.self } in
-    let l = left_at w.limits items contents bytes c.args.code now w k e in
-    let all : List Item = scan contents l.intervals ∷ items in
-    absurd (left_whole w.limits items contents bytes c.args.code now w new k l
-    (subst (λ (s : SegStep). Comes (sent_with k.sent c.args.code) (segments_of all) (Ok s) r) c.in-Ok-Whole.field-0-is (c.in-Ok-Whole.ensures.answered k.sent (segments_of all) k.stands)) c.in-Ok-Whole.ensures.limits)
+    let before : List Segment = (0xda, contents) ∷ segments_of items in
+    let C : SegStep → Type 0 = λ s. Comes (sent_with k.sent c.args.code) before (Ok s) (reading_of c.marker.new.self) in
+    let came = subst C c.in-Ok-Whole.field-0-is (c.in-Ok-Whole.ensures.answered k.sent before k.stands) in
+    absurd (left_whole w.limits items contents bytes c.args.code now w k c.marker.new.self e came c.in-Ok-Whole.ensures.limits)
 
 pub returns-in-Ok-Eoi-clause-after : goal.returns-in-Ok-Eoi-clause-after
 returns-in-Ok-Eoi-clause-after c = λ items contents bytes now k e.
     let w = c.args.self.now in
-    let r = reading_of c.marker.new.self in
-    let new : Items = record w { segments = c.marker.new.self } in
-    let l = left_at w.limits items contents bytes c.args.code now w k e in
-    let all : List Item = scan contents l.intervals ∷ items in (
-      l.intervals,
-      left_end w.limits items contents bytes c.args.code now w new k l
-          (subst (λ (s : SegStep). Comes (sent_with k.sent c.args.code) (segments_of all) (Ok s) r) c.in-Ok-Eoi.field-0-is (c.in-Ok-Eoi.ensures.answered k.sent (segments_of all) k.stands)) c.in-Ok-Eoi.ensures.limits refl,
-      tt,
-    )
+    let before : List Segment = (0xda, contents) ∷ segments_of items in
+    let C : SegStep → Type 0 = λ s. Comes (sent_with k.sent c.args.code) before (Ok s) (reading_of c.marker.new.self) in
+    let came = subst C c.in-Ok-Eoi.field-0-is (c.in-Ok-Eoi.ensures.answered k.sent before k.stands) in
+    left_end w.limits items contents bytes c.args.code now w k c.marker.new.self e came c.in-Ok-Eoi.ensures.limits
 
 pub returns-in-Ok-More-clause-after : goal.returns-in-Ok-More-clause-after
 returns-in-Ok-More-clause-after c = λ items contents bytes now k e.
     let w = c.args.self.now in
-    let r = reading_of c.marker.new.self in
-    let new : Items = record w { segments = c.marker.new.self } in
-    let l = left_at w.limits items contents bytes c.args.code now w k e in
-    let all : List Item = scan contents l.intervals ∷ items in
-    let came = subst (λ (s : SegStep). Comes (sent_with k.sent c.args.code) (segments_of all) (Ok s) r) c.in-Ok-More.field-0-is (c.in-Ok-More.ensures.answered k.sent (segments_of all) k.stands) in
-    (l.intervals, left_more w.limits items contents bytes c.args.code now w new k l came.1 c.in-Ok-More.ensures.limits refl refl, tt)
+    let before : List Segment = (0xda, contents) ∷ segments_of items in
+    let C : SegStep → Type 0 = λ s. Comes (sent_with k.sent c.args.code) before (Ok s) (reading_of c.marker.new.self) in
+    let came = subst C c.in-Ok-More.field-0-is (c.in-Ok-More.ensures.answered k.sent before k.stands) in
+    left_more w.limits items contents bytes c.args.code now w k c.marker.new.self e came.1 c.in-Ok-More.ensures.limits
 
 pub returns-in-Ok-Start-clause-after : goal.returns-in-Ok-Start-clause-after
 returns-in-Ok-Start-clause-after c = λ items contents bytes now k e.
     let w = c.args.self.now in
-    let r = reading_of c.marker.new.self in
-    let new : Items = record w { segments = c.marker.new.self } in
-    let l = left_at w.limits items contents bytes c.args.code now w k e in
-    let all : List Item = scan contents l.intervals ∷ items in
-    let came = subst (λ (s : SegStep). Comes (sent_with k.sent c.args.code) (segments_of all) (Ok s) r) c.in-Ok-Start.field-0-is (c.in-Ok-Start.ensures.answered k.sent (segments_of all) k.stands) in
-    (l.intervals, left_more w.limits items contents bytes c.args.code now w new k l came.1 c.in-Ok-Start.ensures.limits refl refl, tt)
+    let before : List Segment = (0xda, contents) ∷ segments_of items in
+    let C : SegStep → Type 0 = λ s. Comes (sent_with k.sent c.args.code) before (Ok s) (reading_of c.marker.new.self) in
+    let came = subst C c.in-Ok-Start.field-0-is (c.in-Ok-Start.ensures.answered k.sent before k.stands) in
+    left_more w.limits items contents bytes c.args.code now w k c.marker.new.self e came.1 c.in-Ok-Start.ensures.limits
 
 pub returns-in-Ok-Frame-clause-after : goal.returns-in-Ok-Frame-clause-after
 returns-in-Ok-Frame-clause-after c = λ items contents bytes now k e.
     let w = c.args.self.now in
-    let r = reading_of c.marker.new.self in
-    let new : Items = record w { segments = c.marker.new.self } in
-    let l = left_at w.limits items contents bytes c.args.code now w k e in
-    let all : List Item = scan contents l.intervals ∷ items in
-    let came = subst (λ (s : SegStep). Comes (sent_with k.sent c.args.code) (segments_of all) (Ok s) r) c.in-Ok-Frame.field-0-is (c.in-Ok-Frame.ensures.answered k.sent (segments_of all) k.stands) in
-    (l.intervals, left_more w.limits items contents bytes c.args.code now w new k l came.1 c.in-Ok-Frame.ensures.limits refl refl, tt)
+    let before : List Segment = (0xda, contents) ∷ segments_of items in
+    let C : SegStep → Type 0 = λ s. Comes (sent_with k.sent c.args.code) before (Ok s) (reading_of c.marker.new.self) in
+    let came = subst C c.in-Ok-Frame.field-0-is (c.in-Ok-Frame.ensures.answered k.sent before k.stands) in
+    left_more w.limits items contents bytes c.args.code now w k c.marker.new.self e came.1 c.in-Ok-Frame.ensures.limits
 
 pub returns-in-Err-NoMemory-clause-after : goal.returns-in-Err-NoMemory-clause-after
 returns-in-Err-NoMemory-clause-after c = λ items contents bytes now k e. absurd (subst (λ (s : Stop). NotWanting (Err s)) c.in-Err-NoMemory.field-0-is c.in-Err-NoMemory.ensures.memory)

@@ -20,7 +20,7 @@ returns-in-Done-clause-after c = λ bytes items blocks k.
     let t = c.in-Done.ensures.held before k.holds kept in
     let t1 = subst (λ (n : ℕ). TakesSegment w.limits before n c.contents.result.now took.Done (told_by new.held)) (sym e) t in
     let t2 = subst (λ (xs : List ℕ). TakesSegment w.limits before r.code xs took.Done (told_by new.held)) (sym f) t1 in
-    segment_taken w.limits bytes items blocks w new k (λ h. c.if-code.false (sym e ∙ h)) t2.0 refl refl t2.1
+    segment_taken w.limits bytes items blocks w k new (λ h. c.if-code.false (sym e ∙ h)) t2.0 refl refl t2.1
 
 pub returns-in-Fault-clause-after : goal.returns-in-Fault-clause-after
 returns-in-Fault-clause-after c = λ bytes items blocks k.
@@ -33,4 +33,4 @@ returns-in-Fault-clause-after c = λ bytes items blocks k.
     let t = c.in-Fault.ensures.held before k.holds kept in
     let t1 = subst (λ (n : ℕ). TakesSegment w.limits before n c.contents.result.now (took.Fault c.in-Fault.fault) (told_by c.take.new.self)) (sym e) t in
     let t2 = subst (λ (xs : List ℕ). TakesSegment w.limits before r.code xs (took.Fault c.in-Fault.fault) (told_by c.take.new.self)) (sym f) t1 in
-    (segment_fault w.limits bytes items blocks w c.in-Fault.fault k t2, c.taken.ensures)
+    (segment_fault w.limits bytes items blocks w k c.in-Fault.fault t2, c.taken.ensures)

@@ -14,7 +14,7 @@ bits_in_row-requires-clause-inside c =
 
 pub returns-clause-takes : goal.returns-clause-takes
 returns-clause-takes c =
-    row_takes c.args.most c.args.tops.now c.args.self.now c.in-Sequential.machine c.bits_in_row.new.self c.args.row.now c.bits_in_row.new.row c.args.store.now c.bits_in_row.new.store c.bits_in_row.result c.in-Sequential.is c.bits_in_row.ensures.takes
+    row_takes c.args.tops.now c.args.self.now c.in-Sequential.machine c.args.row.now c.in-Sequential.is c.args.most c.bits_in_row.new.self c.bits_in_row.new.row c.args.store.now c.bits_in_row.new.store c.bits_in_row.result c.bits_in_row.ensures.takes
 
 pub returns-clause-passes : goal.returns-clause-passes
 returns-clause-passes c = record { old_machine = c.in-Sequential.machine; new_machine = c.bits_in_row.new.self; old_is = c.in-Sequential.is; new_is = refl; passes = c.bits_in_row.ensures.passes }

@@ -15,7 +15,7 @@ bytes_in_row-requires-clause-inside c =
 
 pub returns-clause-takes : goal.returns-clause-takes
 returns-clause-takes c =
-    row_takes c.args.most c.args.tops.now c.args.self.now c.in-Sequential.machine c.bytes_in_row.new.self c.args.row.now c.bytes_in_row.new.row (bits_of_bytes c.args.bytes.now) (drop c.bytes_in_row.result.bits (bits_of_bytes c.args.bytes.now)) c.bytes_in_row.result.taken c.in-Sequential.is c.bytes_in_row.ensures.takes
+    row_takes c.args.tops.now c.args.self.now c.in-Sequential.machine c.args.row.now c.in-Sequential.is c.args.most c.bytes_in_row.new.self c.bytes_in_row.new.row (bits_of_bytes c.args.bytes.now) (drop c.bytes_in_row.result.bits (bits_of_bytes c.args.bytes.now)) c.bytes_in_row.result.taken c.bytes_in_row.ensures.takes
 
 pub returns-clause-passes : goal.returns-clause-passes
 returns-clause-passes c = record { old_machine = c.in-Sequential.machine; new_machine = c.bytes_in_row.new.self; old_is = c.in-Sequential.is; new_is = refl; passes = c.bytes_in_row.ensures.passes }

@@ -31,7 +31,7 @@ begin_data-requires c =
     let r = with_coefs c.args.self.now q in
     let b = c.args.begun.now in
     let f = c.copy-frame.result in
-    let w = found r.items.limits o.0 o.1 o.2 r b f c.in-Some.held q o.3 c.in-Some.is c.copy-frame.ensures refl in
+    let w = found r.items.limits o.0 o.1 o.2 r b f q c.in-Some.held o.3 c.in-Some.is c.copy-frame.ensures refl in
     let j = judged r.items.limits o.0 o.1 o.2 r b f q c.contents.result.now (Ok c.in-Ok.head) w c.contents.ensures c.in-Ok.ensures in
     (q, c.requires.stands.1, (r.items.limits, o.1, o.2, (reading_of r.items.segments).contents, o.0, head_begins r.items.limits o.0 o.1 o.2 r b f q c.in-Ok.head c.tables-tables.result c.tables-tables.ensures w j))
 
@@ -40,7 +40,7 @@ returns-in-Err-clause-after c = λ q sizes bytes items blocks k.
     let r = with_coefs c.args.self.now q in
     let b = c.args.begun.now in
     let f = c.copy-frame.result in
-    let w = found r.items.limits bytes items blocks r b f c.in-Some.held q k c.in-Some.is c.copy-frame.ensures refl in
+    let w = found r.items.limits bytes items blocks r b f q c.in-Some.held k c.in-Some.is c.copy-frame.ensures refl in
     head_shows r.items.limits bytes items blocks r b f q c.in-Err.fault w (judged r.items.limits bytes items blocks r b f q c.contents.result.now (Err c.in-Err.fault) w c.contents.ensures c.in-Err.ensures)
 
 pub returns-in-Ok-clause-left : goal.returns-in-Ok-clause-left
@@ -48,7 +48,7 @@ returns-in-Ok-clause-left c = λ bytes items blocks q scan k has more.
     let r = with_coefs c.args.self.now q in
     let b = c.args.begun.now in
     let f = c.copy-frame.result in
-    let w = found r.items.limits bytes items blocks r b f c.in-Some.held q k c.in-Some.is c.copy-frame.ensures refl in
+    let w = found r.items.limits bytes items blocks r b f q c.in-Some.held k c.in-Some.is c.copy-frame.ensures refl in
     let j = judged r.items.limits bytes items blocks r b f q c.contents.result.now (Ok c.in-Ok.head) w c.contents.ensures c.in-Ok.ensures in
     let begins = head_begins r.items.limits bytes items blocks r b f q c.in-Ok.head c.tables-tables.result c.tables-tables.ensures w j in
     let begun = c.begin_data.ensures in
@@ -62,7 +62,7 @@ returns-in-Ok-clause-after c = λ q sizes bytes items blocks k.
     let f = c.copy-frame.result in
     let head = c.in-Ok.head in
     let contents = (reading_of r.items.segments).contents in
-    let w = found r.items.limits bytes items blocks r b f c.in-Some.held q k c.in-Some.is c.copy-frame.ensures refl in
+    let w = found r.items.limits bytes items blocks r b f q c.in-Some.held k c.in-Some.is c.copy-frame.ensures refl in
     let j = judged r.items.limits bytes items blocks r b f q c.contents.result.now (Ok head) w c.contents.ensures c.in-Ok.ensures in
     let begins = head_begins r.items.limits bytes items blocks r b f q head c.tables-tables.result c.tables-tables.ensures w j in
     let begun = c.begin_data.ensures in

@@ -4,7 +4,7 @@ use Rattle.jpg_spec.specs.declared.fault.Fault.{Fault}
 use Rattle.jpg_spec.proofs.Common.{some_once}
 use Rattle.jpg_file.specs.Read.InData.{TakesRun}
 use Rattle.jpg_file.specs.declared.read.scan.InScan.{InScan}
-use Rattle.jpg_file.proofs.Scannings.{data_of, none_some, run_goes_on, run_shows}
+use Rattle.jpg_file.proofs.Scannings.{IsReading, data_of, none_some, run_goes_on, run_shows}
 use Rattle.jpg_file.proofs.read.reading.Reading.scan_run.Goals as goal
 
 pub unreachable-requires : goal.unreachable-requires
@@ -16,7 +16,9 @@ unreachable-requires-in_default-scan c = let s = c.requires.stands.3 in none_som
 pub run-n-requires-clause-inside : goal.run-n-requires-clause-inside
 run-n-requires-clause-inside c =
     let o = c.requires.stands in
-    (c.args.self.now.items.limits, o.0, o.1, o.2, data_of c.args.self.now.items.limits o.0 o.1 o.2 c.args.self.now c.in-Some.coefs c.in-Some-scan.scan c.in-Some.is c.in-Some-scan.is o.3)
+    let r = c.args.self.now in
+    let k : IsReading r = record { coefs = c.in-Some.coefs; scan = c.in-Some-scan.scan; has = c.in-Some.is; inside = c.in-Some-scan.is } in
+    (r.items.limits, o.0, o.1, o.2, data_of r k r.items.limits o.0 o.1 o.2 o.3)
 
 pub run-n-requires-clause-gate : goal.run-n-requires-clause-gate
 run-n-requires-clause-gate c =
@@ -29,7 +31,15 @@ run-n-requires-clause-due c =
     ap (λ (s : InScan). s.work.whole) (some_once c.in-Some-scan.scan o.scan (sym c.in-Some-scan.is ∙ o.inside)) ∙ o.due
 
 pub returns-in-Ok-clause-after : goal.returns-in-Ok-clause-after
-returns-in-Ok-clause-after c = run_goes_on c.args.self.now c.in-Some.coefs c.run-n.new.coefs c.in-Some-scan.scan c.run-n.new.self c.args.run.now c.run-n.result.0 c.in-Some.is c.in-Some-scan.is (subst (λ (a : Result (Unit {0}) Fault). TakesRun c.in-Some-scan.scan c.in-Some.coefs c.args.run.now c.run-n.result.0 a c.run-n.new.self c.run-n.new.coefs) c.in-Ok.is c.run-n.ensures)
+returns-in-Ok-clause-after c =
+    let run = c.args.run.now in let n = c.run-n.result.0 in
+    let k : IsReading c.args.self.now = record { coefs = c.in-Some.coefs; scan = c.in-Some-scan.scan; has = c.in-Some.is; inside = c.in-Some-scan.is } in
+    let T : Result (Unit {0}) Fault → Type 0 = λ a. TakesRun k.scan k.coefs run n a c.run-n.new.self c.run-n.new.coefs in
+    run_goes_on c.args.self.now k c.run-n.new.coefs c.run-n.new.self run n (subst T c.in-Ok.is c.run-n.ensures)
 
 pub returns-in-Err-clause-after : goal.returns-in-Err-clause-after
-returns-in-Err-clause-after c = run_shows c.args.self.now _ c.in-Some.coefs c.run-n.new.coefs c.in-Some-scan.scan c.run-n.new.self c.args.run.now c.run-n.result.0 c.in-Err.fault c.in-Some.is c.in-Some-scan.is (subst (λ (a : Result (Unit {0}) Fault). TakesRun c.in-Some-scan.scan c.in-Some.coefs c.args.run.now c.run-n.result.0 a c.run-n.new.self c.run-n.new.coefs) c.in-Err.is c.run-n.ensures)
+returns-in-Err-clause-after c =
+    let run = c.args.run.now in let n = c.run-n.result.0 in
+    let k : IsReading c.args.self.now = record { coefs = c.in-Some.coefs; scan = c.in-Some-scan.scan; has = c.in-Some.is; inside = c.in-Some-scan.is } in
+    let T : Result (Unit {0}) Fault → Type 0 = λ a. TakesRun k.scan k.coefs run n a c.run-n.new.self c.run-n.new.coefs in
+    run_shows c.args.self.now k c.run-n.new.coefs c.run-n.new.self run n _ c.in-Err.fault (subst T c.in-Err.is c.run-n.ensures)

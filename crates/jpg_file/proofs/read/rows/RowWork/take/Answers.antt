@@ -15,7 +15,7 @@ overflow_sub-self-2 c =
 pub returns-clause-takes : goal.returns-clause-takes
 returns-clause-takes c =
     let t = c.bits_in_row-taken in
-    data_takes c.args.self.now c.args.machine.now t.new.self t.new.row (c.args.self.now.left - (c.units_left-before.result - c.units_left.result)) c.args.store t.new.store c.waiting_of-self.result t.result c.waiting_of-self.ensures t.ensures.takes
+    data_takes c.args.self.now c.args.machine.now t.new.self t.new.row t.result (c.args.self.now.left - (c.units_left-before.result - c.units_left.result)) c.args.store t.new.store c.waiting_of-self.result c.waiting_of-self.ensures t.ensures.takes
 
 pub returns-clause-stops : goal.returns-clause-stops
 returns-clause-stops c =
@@ -28,4 +28,4 @@ returns-clause-counts c =
     let p = t.ensures.passes in
     let units = c.units_left-before.result - c.units_left.result in
     let count : any_scan.left c.args.machine.now ≡ any_scan.left t.new.self + units = omega (arith, units_passed _ _ _ _ p, c.units_left-before.ensures, c.units_left.ensures) in
-    counts_row c.args.self.now c.args.machine.now t.new.self t.new.row units c.waiting_of-self.result t.new.store t.result p count c.waiting_of-self.ensures
+    counts_row c.args.self.now c.args.machine.now t.new.self t.new.row t.result units c.waiting_of-self.result t.new.store p count c.waiting_of-self.ensures

@@ -17,18 +17,18 @@ overflow_sub-self-2 c =
 pub overflow_sub-given : goal.overflow_sub-given
 overflow_sub-given c =
     let g = c.bytes_in_row-got in
-    omega (arith, c.div_ceil-given.ensures, some_in_row c.args.self.now c.args.machine.now g.new.self g.new.row c.args.bytes.now g.result.bits g.result.taken c.requires.open c.requires.some g.ensures.within g.ensures.takes)
+    omega (arith, c.div_ceil-given.ensures, some_in_row c.args.self.now c.args.machine.now g.new.self g.new.row g.result.taken c.args.bytes.now g.result.bits c.requires.open c.requires.some g.ensures.within g.ensures.takes)
 
 pub overflow_sub-given-2 : goal.overflow_sub-given-2
 overflow_sub-given-2 c =
     let g = c.bytes_in_row-got in
-    omega (arith, c.div_ceil-given.ensures, some_in_row c.args.self.now c.args.machine.now g.new.self g.new.row c.args.bytes.now g.result.bits g.result.taken c.requires.open c.requires.some g.ensures.within g.ensures.takes)
+    omega (arith, c.div_ceil-given.ensures, some_in_row c.args.self.now c.args.machine.now g.new.self g.new.row g.result.taken c.args.bytes.now g.result.bits c.requires.open c.requires.some g.ensures.within g.ensures.takes)
 
 pub returns-clause-takes : goal.returns-clause-takes
 returns-clause-takes c =
     let g = c.bytes_in_row-got in
     let size = given_bytes c.args.bytes.now g.result.bits c.div_ceil-given.result g.ensures.within c.div_ceil-given.ensures in
-    run_takes_row c.args.self.now c.args.machine.now g.new.self g.new.row (c.args.self.now.left - (c.units_left-before.result - c.units_left.result)) c.args.bytes.now g.result.bits c.div_ceil-given.result c.last_bits-last.result c.waiting_of-self.result g.result.taken c.requires.some g.ensures.within size c.last_bits-last.ensures c.waiting_of-self.ensures g.ensures.takes
+    run_takes_row c.args.self.now c.args.machine.now g.new.self g.new.row g.result.taken (c.args.self.now.left - (c.units_left-before.result - c.units_left.result)) c.args.bytes.now g.result.bits c.div_ceil-given.result c.last_bits-last.result c.waiting_of-self.result c.requires.some g.ensures.within size c.last_bits-last.ensures c.waiting_of-self.ensures g.ensures.takes
 
 pub returns-clause-stops : goal.returns-clause-stops
 returns-clause-stops c =
@@ -42,4 +42,4 @@ returns-clause-counts c =
     let p = g.ensures.passes in
     let units = c.units_left-before.result - c.units_left.result in
     let count : any_scan.left c.args.machine.now ≡ any_scan.left g.new.self + units = omega (arith, units_passed _ _ _ _ p, c.units_left-before.ensures, c.units_left.ensures) in
-    counts_row c.args.self.now c.args.machine.now g.new.self g.new.row units c.waiting_of-self.result c.last_bits-last.result g.result.taken p count c.waiting_of-self.ensures
+    counts_row c.args.self.now c.args.machine.now g.new.self g.new.row g.result.taken units c.waiting_of-self.result c.last_bits-last.result p count c.waiting_of-self.ensures

@@ -11,4 +11,4 @@ returns c = λ limits p bytes at k.
     let w = c.args.self.now in
     let t = c.take_data-taken in
     as_stepped w c.stepped.new.self t.new.machine t.result c.stepped.result (λ a v. AfterData limits bytes (with_byte p c.args.byte) a v t.new.coefs) c.stepped.ensures.answer c.stepped.ensures.work
-    (due_data limits bytes p c.args.byte w t.new.machine c.args.coefs.now t.new.coefs t.result at c.if-self.false k t.ensures)
+    (due_data limits p w c.args.coefs.now c.if-self.false k bytes c.args.byte t.new.machine t.new.coefs t.result at t.ensures)

@@ -1,8 +1,8 @@
 use Rattle.jpg_file.specs.Read.File.{MakesPicture, limits_of}
 use Rattle.jpg_spec.specs.Items.{segments_of}
-use Rattle.std.proofs.Common.{[], ◌∷◌, ◌++◌}
+use Rattle.std.proofs.Common.{[], ◌∙◌, ◌∷◌, ◌++◌}
 use Rattle.jpg_file.specs.Read.Strips.{contents_held}
-use Rattle.jpg_file.proofs.StripTold.{rows_known}
+use Rattle.jpg_file.proofs.StripTold.{head_counts, rows_known}
 use Rattle.jpg_file.proofs.StripWorks.{begin_stops, plain_after}
 use Rattle.jpg_file.proofs.RowsNone.{none_after, none_begun, none_found}
 use Rattle.jpg_file.proofs.read.strip_work.StripWork.take_head.Goals as goal
@@ -36,7 +36,8 @@ pub returns-in-Ok-clause-known : goal.returns-in-Ok-clause-known
 returns-in-Ok-clause-known c = λ bytes h.
     let w = c.args.self.now.file in
     let k = c.in-Some.ensures.head (limits_of w) bytes h in
-    rows_known (limits_of w) bytes w c.begin_rows.new.self _ _ c.in-Ok.rows c.strip_of.result h k (c.in-Ok.ensures.told bytes h k) c.in-Ok.ensures.count c.strip_of.ensures
+    rows_known (limits_of w) bytes (segments_of h.items) (contents_held w) c.begin_rows.new.self c.in-Ok.rows c.strip_of.result (c.in-Ok.ensures.told bytes h k)
+    (c.in-Ok.ensures.count ∙ head_counts (limits_of w) h.items (contents_held w) _ _ k) c.strip_of.ensures
 
 pub returns-in_default-clause-none : goal.returns-in_default-clause-none
 returns-in_default-clause-none c = λ front byte none h.
