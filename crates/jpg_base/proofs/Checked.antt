@@ -1,11 +1,12 @@
 -- What a frame header that passed the checks guarantees.
-use Rattle.std.proofs.Common.{◌≡◌, ℕ, ◌≤◌, Bool, false, not, ◌||◌, ◌==◌, nat_lt, List, [], ◌∷◌, length, arith, All}
-use Rattle.std.proofs.lemmas.Bool.{or_parts, ltb-false, eqb-true, not-false}
+use Rattle.std.proofs.Common.{◌≡◌, ℕ, ◌≤◌, Bool, true, false, not, ◌||◌, ◌==◌, nat_lt, List, [], ◌∷◌, length, arith, All}
+use Rattle.std.proofs.lemmas.Bool.{or_parts, ltb-false, not-false}
 use Rattle.std.proofs.lemmas.Bool.Decides.{nat_tests}
 use Rattle.std.proofs.lemmas.List.Elements.{All-nil, All-cons}
 use Rattle.jpg_spec.specs.Lists.{any_of, is_distinct}
 use Rattle.jpg_spec.specs.Geometry.{Frame, h_max, v_max, padded_blocks}
-use Rattle.jpg_spec.specs.FrameHeader.{HasFactors, AreLimits, has_bad_factor, has_bad_slot, identifiers}
+use Rattle.jpg_spec.specs.FrameHeader.{is_precision, HasFactors, AreLimits, has_bad_factor, has_bad_slot, identifiers}
+use Rattle.jpg_spec.specs.declared.frame.Process.{Process}
 use Rattle.jpg_spec.specs.declared.frame.Component.{Component}
 use Rattle.jpg_spec.specs.declared.frame.Limits.{Limits}
 use Rattle.jpg_base.specs.Frame.{IsCheckedFrame}
@@ -25,7 +26,7 @@ good_slot c e = ltb-false 3 c.quant e
 pub whole : (limits : Limits) (f : Frame) (across down : ℕ) → AreLimits limits
     → (f.width == 0 || f.height == 0) ≡ false
     → (nat_lt limits.side f.width || nat_lt limits.side f.height) ≡ false
-    → not (f.precision == 8) ≡ false
+    → not (is_precision f.process f.precision) ≡ false
     → (length f.components == 0 || nat_lt 4 (length f.components)) ≡ false
     → any_of has_bad_factor f.components ≡ false
     → not (is_distinct (identifiers f.components)) ≡ false
@@ -42,7 +43,7 @@ whole limits f across down within empty large depth count factors same slots blo
         width_high = grind (arith, nat_tests, within.side);
         height_low = grind (arith, nat_tests);
         height_high = grind (arith, nat_tests, within.side);
-        precision = eqb-true f.precision 8 (not-false (f.precision == 8) depth);
+        precision = not-false (is_precision f.process f.precision) depth;
         count_low = some;
         count_high = grind (arith, nat_tests);
         factors = all;
@@ -57,3 +58,27 @@ whole limits f across down within empty large depth count factors same slots blo
       down_low = omega (arith, d, down_low f.components all some);
       down_high = omega (arith, d, down_high f.components all);
     }
+
+-- the same frame with another process
+pub with_process : (process : Process) (f : Frame) (across down : ℕ) → is_precision process f.precision ≡ true → IsCheckedFrame f across down → IsCheckedFrame (record f { process = process }) across down
+with_process process f across down allowed k = record {
+  checked = record {
+    width_low = k.checked.width_low;
+    width_high = k.checked.width_high;
+    height_low = k.checked.height_low;
+    height_high = k.checked.height_high;
+    precision = allowed;
+    count_low = k.checked.count_low;
+    count_high = k.checked.count_high;
+    factors = k.checked.factors;
+    distinct = k.checked.distinct;
+    slots = k.checked.slots;
+    blocks = k.checked.blocks;
+  };
+  across = k.across;
+  down = k.down;
+  across_low = k.across_low;
+  across_high = k.across_high;
+  down_low = k.down_low;
+  down_high = k.down_high;
+}

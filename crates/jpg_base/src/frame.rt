@@ -1,7 +1,7 @@
 //! The header of a frame, and the grids that it bounds (T.81, A.1, A.2, B.2.2).
-ghost use Rattle.std.specs.Prelude.{◌≡◌, ◌*◌, ◌<◌, ◌≤◌, length, IfOk};
+ghost use Rattle.std.specs.Prelude.{◌≡◌, ◌*◌, ◌<◌, ◌≤◌, true, length, IfOk};
 ghost use Rattle.jpg_spec.specs.Geometry.{h_max, v_max, bounds, is_progressive, component_at, padded_blocks, mcu_row_frame};
-ghost use Rattle.jpg_spec.specs.FrameHeader.{AreLimits, HasFactors, IsFrame, checked_frame, mcu_grid, real_grid, padded_grid, padded_across, padded_down};
+ghost use Rattle.jpg_spec.specs.FrameHeader.{AreLimits, is_precision, HasFactors, IsFrame, checked_frame, mcu_grid, real_grid, padded_grid, padded_across, padded_down};
 ghost use Rattle.jpg_base.specs.Frame.{numbers_of};
 
 use crate::frame_checks::{
@@ -13,8 +13,8 @@ use jpg_spec::{Bounds, Component, Fault, Grid, Limits, Process};
 use std::marker::Model;
 
 /// A frame header whose numbers passed all checks (T.81, B.2.2): width and height from 1 to 65500 samples, 8 bits per
-/// sample, one to four components with factors 1 to 4, distinct identifiers and quantisation slots 0 to 3, and at most
-/// 8388608 blocks in the padded grids.
+/// sample, or 12 where the process isn't baseline, one to four components with factors 1 to 4, distinct identifiers and
+/// quantisation slots 0 to 3, and at most 8388608 blocks in the padded grids.
 #[derive(Drop)]
 pub struct Frame {
     process: Process,
@@ -39,9 +39,9 @@ impl Model for Frame {
 
 impl Frame {
     /// The frame of these numbers, or the first of these faults: EmptyImage (a side is 0), TooLarge (a side above
-    /// `limits.side`), Precision (not 8), ComponentCount (not one to four), Sampling (a factor not 1 to 4),
-    /// DuplicateComponent (two equal identifiers), QuantSlot (above 3), TooManyBlocks (more than `limits.blocks` in the
-    /// padded grids) (T.81, B.2.2). It takes no memory.
+    /// `limits.side`), Precision (not 8, and not 12 with a process other than baseline), ComponentCount (not one to
+    /// four), Sampling (a factor not 1 to 4), DuplicateComponent (two equal identifiers), QuantSlot (above 3),
+    /// TooManyBlocks (more than `limits.blocks` in the padded grids) (T.81, B.2.2). It takes no memory.
     #[tactic(auto, unfolding(jpg_spec::specs::FrameHeader::checked_frame))]
     pub fn new(
         process: Process,
@@ -61,7 +61,7 @@ impl Frame {
         if is_larger(width, height, limits.side) {
             return Err(Fault::TooLarge);
         }
-        if is_unread(precision) {
+        if is_unread(process, precision) {
             return Err(Fault::Precision);
         }
         if has_wrong_count(components) {
@@ -106,8 +106,9 @@ impl Frame {
         }
     }
 
-    /// The same frame with this process.
+    /// The same frame with this process, which allows its precision.
     pub fn with_process(&self, process: Process) -> Frame
+        requires { is_precision process self.now.precision ≡ true }
         ensures { result ≡ record (self.now) { process = process } }
     {
         Frame {
@@ -274,17 +275,28 @@ impl Frame {
         }
     }
 
-    /// The ranges of coefficients that the precision allows.
+    /// The ranges of coefficients that the precision allows (T.81, F.1.2, F.1.5, G.1.1.1.1): with 8 bits DC from -1024
+    /// to 1023 and AC from -1023 to 1023, with 12 bits DC from -16384 to 16383 and AC from -16383 to 16383.
     pub fn bounds(&self) -> Bounds
         ensures { result ≡ bounds self.now }
     {
-        Bounds {
-            dc_low: -1024,
-            dc_high: 1023,
-            ac: 1023,
-            dc_cat: 11,
-            ac_cat: 10,
-            al: 10,
+        match self.precision {
+            12 => Bounds {
+                dc_low: -16384,
+                dc_high: 16383,
+                ac: 16383,
+                dc_cat: 15,
+                ac_cat: 14,
+                al: 13,
+            },
+            _ => Bounds {
+                dc_low: -1024,
+                dc_high: 1023,
+                ac: 1023,
+                dc_cat: 11,
+                ac_cat: 10,
+                al: 10,
+            },
         }
     }
 }

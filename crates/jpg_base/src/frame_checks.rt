@@ -2,10 +2,10 @@
 ghost use Rattle.std.specs.Prelude.{◌≡◌, ◌+◌, ◌*◌, ◌<◌, ◌≤◌, nat_lt, ◌||◌, ◌==◌, not, length, All};
 ghost use Rattle.jpg_spec.specs.Lists.{any_of, is_among, is_distinct};
 ghost use Rattle.jpg_spec.specs.Geometry.{div_up};
-ghost use Rattle.jpg_spec.specs.FrameHeader.{has_bad_factor, has_bad_slot, identifiers, HasFactors};
+ghost use Rattle.jpg_spec.specs.FrameHeader.{is_precision, has_bad_factor, has_bad_slot, identifiers, HasFactors};
 ghost use Rattle.jpg_base.specs.Frame.{greatest_across, greatest_down, blocks_of};
 
-use jpg_spec::Component;
+use jpg_spec::{Component, Process};
 
 /// Whether the width or the height is 0.
 pub(crate) fn is_empty(width: u32, height: u32) -> bool
@@ -21,11 +21,16 @@ pub(crate) fn is_larger(width: u32, height: u32, side: u32) -> bool
     width > side || height > side
 }
 
-/// Whether samples have a number of bits that isn't read, which is any but 8.
-pub(crate) fn is_unread(precision: u8) -> bool
-    ensures { result ≡ not (precision == 8) }
+/// Whether samples have a number of bits that isn't read, which is any but 8, and but 12 where the process isn't
+/// baseline.
+pub(crate) fn is_unread(process: Process, precision: u8) -> bool
+    ensures { result ≡ not (is_precision process precision) }
 {
-    precision != 8
+    match process {
+        Process::Baseline => precision != 8,
+        Process::Extended => precision != 8 && precision != 12,
+        Process::Progressive => precision != 8 && precision != 12,
+    }
 }
 
 /// Whether the number of components isn't from 1 to 4.

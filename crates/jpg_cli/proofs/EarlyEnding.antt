@@ -24,14 +24,12 @@ use Rattle.jpg_spec.specs.declared.fault.Fault.{Fault}
 use Rattle.jpg_spec.specs.declared.frame.Limits.{Limits}
 use Rattle.jpg_spec_image.specs.declared.image.EndKind.{EndKind}
 use Rattle.jpg_spec.proofs.Common.{same_itself, same_of}
-use Rattle.jpg_spec.proofs.Ranges.{in_range}
 use Rattle.jpg_spec.proofs.RowsHeader.{begun_once}
 use Rattle.jpg_spec.proofs.RowsOnce.{rows_once}
 use Rattle.jpg_spec_image.proofs.ShownAlike.{shown_alike}
 use Rattle.jpg_coefs.specs.Picture.{Picture as Coefs, map_of}
 use Rattle.jpg_coefs.proofs.Maps.{blank_is}
 use Rattle.jpg_seq.specs.Rows.{rows_in_mcu}
-use Rattle.jpg_file.specs.Read.ReadFile.{ReaderState}
 use Rattle.jpg_file.specs.Read.ReadRows.{AgreeInRows, LendsRow}
 use Rattle.jpg_file.specs.Read.RowTurns.{unfinished, zero_picture}
 use Rattle.jpg_file.specs.Read.RowsKnown.{rows_of_scan}
@@ -45,7 +43,7 @@ use Rattle.jpg_color.proofs.Drawn.{all_same}
 use Rattle.jpg_color.proofs.DrawnLaws.{drawn_alike, texts_join}
 use Rattle.jpg_cli.specs.Desk.Reading.{rest_of}
 use Rattle.jpg_cli.specs.Tools.Showing.{Showing, Shown, shown_text}
-use Rattle.jpg_cli.specs.Tools.ShowingRows.{CanEndInZeros, HasShownEarly, Head, IsEnding, at_work, warned_of, why_of, Run, Work}
+use Rattle.jpg_cli.specs.Tools.ShowingRows.{CanEndInZeros, HasShownEarly, Head, IsEnding, warned_of, why_of, Run, Work}
 use Rattle.jpg_cli.proofs.EarlyImage.{early_image}
 use Rattle.jpg_cli.proofs.EarlyRows.{early_first, early_text, rows_of_picture}
 use Rattle.jpg_cli.proofs.FirstRead.{not_shown}
@@ -54,6 +52,7 @@ use Rattle.jpg_cli.proofs.RowsAgree.{row_shown}
 use Rattle.jpg_cli.proofs.RowsDesk.{created_more}
 use Rattle.jpg_cli.proofs.RowsEnd.{shown_head}
 use Rattle.jpg_cli.proofs.RowsWhole.{few_told, so_far}
+use Rattle.jpg_color.proofs.GrayRows.{blank_range}
 
 -- AT ITS BEGINNING all MCU rows that were passed have been drawn
 
@@ -189,9 +188,6 @@ work_framed k due lent =
     ending_framed (ending_begins k) (work_lends k due lent)
 
 -- OR ONE OF ZERO BLOCKS
-
-blank_range : (f : Frame) → AreInRange (bounds f) no_blocks
-blank_range f = record { sizes = λ i x y. refl; values = λ i x y k. in_range standard_limits [] no_blocks refl i x y k }
 
 blank : (f : Frame) → map_of (zero_picture f) ≡ no_blocks
 blank f = blank_is (zero_picture f) (padded_blocks f) refl

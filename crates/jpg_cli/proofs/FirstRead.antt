@@ -10,7 +10,7 @@ use Rattle.jpg_spec.specs.Header.{IsHeader}
 use Rattle.jpg_spec.specs.UnfinishedFile.{IsWholeFile}
 use Rattle.jpg_spec.specs.Markers.{Segment}
 use Rattle.jpg_spec.specs.Meaning.{Meaning}
-use Rattle.jpg_spec.specs.InForce.{colours_after, factors_after}
+use Rattle.jpg_spec.specs.InForce.{colours_after, factors_after, frame_of}
 use Rattle.jpg_spec_image.specs.Pixels.{out_fault_of}
 use Rattle.jpg_spec.specs.RowsTold.{BeginsScanOfAll}
 use Rattle.jpg_spec.specs.Segments.{standard_limits}
@@ -96,7 +96,7 @@ pub not_shown : (gray : Bool) (all : List ℕ) (f : FaultAt) → IsUnwanted (Ima
 not_shown gray all f s h =
     let k = h.begins in
     let one = whole_once standard_limits (take f.at all) k.front (drop f.at all) k.rest s.before h.before s.contents h.contents s.header k.header (take-append-drop f.at all ∙ k.cut) in
-    none_told f.fault (sym h.shown ∙ sym (ap (λ (b : List Segment). out_fault_of (colours_after standard_limits b) gray (factors_after standard_limits b)) one.1) ∙ s.fault)
+    none_told f.fault (sym h.shown ∙ sym (ap (λ (b : List Segment). out_fault_of (frame_of standard_limits b).precision (colours_after standard_limits b) gray (factors_after standard_limits b)) one.1) ∙ s.fault)
 
 -- of all bytes so far, if the head reveals it
 told_in : (gray : Bool) (all : List ℕ) (r : ReaderState) (f : FaultAt) → r.limits ≡ standard_limits → HasHeadIn all r → unwanted_in (Image gray) (head_seen r) ≡ Some f → IsUnwanted (Image gray) all f
@@ -144,7 +144,7 @@ plain_or bytes piece m (Err stop.NoMemory) r (head, none, plain) = inl none
 -- its picture can be displayed, if the head doesn't reveal a fault
 begun_head : (gray : Bool) (front : List ℕ) (r : ReaderState) → r.limits ≡ standard_limits → (b : HasBegunRows front r) → unwanted_in (Image gray) (head_seen r) ≡ None
     → IsHeadIn gray (record { before = b.before; contents = b.contents }) front
-begun_head gray front r e b none = record { begins = begins; shown = by (out_fault_of (colours_after standard_limits b.before) gray (factors_after standard_limits b.before)) refl }
+begun_head gray front r e b none = record { begins = begins; shown = by (out_fault_of (frame_of standard_limits b.before).precision (colours_after standard_limits b.before) gray (factors_after standard_limits b.before)) refl }
   where
     begins : BeginsScanOfAll standard_limits front b.before b.contents
     begins = subst (λ (l : Limits). BeginsScanOfAll l front b.before b.contents) e b.begins
@@ -158,7 +158,7 @@ begun_head gray front r e b none = record { begins = begins; shown = by (out_fau
     first : take at front ≡ begins.front
     first = ap (take at) begins.cut ∙ take-append-le at begins.front begins.rest (omega arith) ∙ take_all at begins.front (omega arith)
 
-    by : (o : Option Fault) → out_fault_of (colours_after standard_limits b.before) gray (factors_after standard_limits b.before) ≡ o → o ≡ None
+    by : (o : Option Fault) → out_fault_of (frame_of standard_limits b.before).precision (colours_after standard_limits b.before) gray (factors_after standard_limits b.before) ≡ o → o ≡ None
     by None same = refl
     by (Some fault) same =
         absurd (wanted_head (Image gray) front r.file.head head none (record { fault = fault; at = at })

@@ -92,7 +92,7 @@ fault_same choice M =
 -- DISPLAYED
 
 pub out_same : (keeping : Copying) (gray : Bool) (M : Meaning) → out_fault gray (kept_for keeping M) ≡ out_fault gray M
-out_same keeping gray M = ap (λ (k : Colour). out_fault_of k gray (map (λ c. (c.h, c.v)) M.components)) (colour_same keeping M)
+out_same keeping gray M = ap (λ (k : Colour). out_fault_of M.precision k gray (map (λ c. (c.h, c.v)) M.components)) (colour_same keeping M)
 
 pub info_same : (keeping : Copying) (gray : Bool) (M : Meaning) → info (kept_for keeping M) gray ≡ info M gray
 info_same keeping gray M =

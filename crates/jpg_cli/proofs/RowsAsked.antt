@@ -17,8 +17,6 @@ use Rattle.jpg_spec.specs.declared.frame.Limits.{Limits}
 use Rattle.jpg_file.specs.Read.ReadFile.{IsRefusal, ReaderState}
 use Rattle.jpg_file.specs.Read.ReadRows.{AfterEndRow, HasReadAll, IsEarlyByRows, IsEarlyPlainly}
 use Rattle.jpg_file.specs.declared.read.ends.End.TheVariants as ends
-use Rattle.jpg_pnm_bmp.specs.EndState.{EndState}
-use Rattle.jpg_color.specs.StripImage.{Drawing}
 use Rattle.jpg_cli.specs.Endings.{Added}
 use Rattle.jpg_cli.specs.Desk.Reading.{rest_of}
 use Rattle.jpg_cli.specs.Desk.ReadPicture.{IsOpenRead, IsRefusedRead}

@@ -10,7 +10,7 @@ use Rattle.jpg_spec.specs.RowsTold.{BeginsScanOfAll, CompletesRows, TellsRows, p
 use Rattle.jpg_spec_image.specs.RowsShown.{rows_text}
 use Rattle.jpg_spec.specs.Scan.{Blocks}
 use Rattle.jpg_spec.specs.Markers.{Segment}
-use Rattle.jpg_spec.specs.InForce.{colours_after, factors_after}
+use Rattle.jpg_spec.specs.InForce.{colours_after, factors_after, frame_of}
 use Rattle.jpg_spec_image.specs.Pixels.{out_fault_of}
 use Rattle.jpg_spec.proofs.RowsOnce.{rows_once, rows_stay}
 use Rattle.jpg_spec.specs.Segments.{standard_limits}
@@ -139,7 +139,7 @@ shown_front s {h} {all} n {m} {blocks} head told k =
         before = k.before;
         contents = k.contents;
         begins = k.begins;
-        shown = ap (λ (b : List Segment). out_fault_of (colours_after standard_limits b) s.gray (factors_after standard_limits b)) one.0 ∙ head.shown;
+        shown = ap (λ (b : List Segment). out_fault_of (frame_of standard_limits b).precision (colours_after standard_limits b) s.gray (factors_after standard_limits b)) one.0 ∙ head.shown;
       },
       record {
         before = k.before;

@@ -21,7 +21,6 @@ use Rattle.jpg_spec_image.proofs.RowsCompleted.{complete_all}
 use Rattle.jpg_spec_image.proofs.RowsImage.{image_so_far}
 use Rattle.jpg_spec.proofs.RowsOnce.{completed_once, rows_once, rows_stay}
 use Rattle.jpg_spec_image.proofs.ShownAlike.{shown_alike}
-use Rattle.jpg_file.specs.Read.ReadFile.{ReaderState}
 use Rattle.jpg_pnm_bmp.specs.EndState.{EndState}
 use Rattle.jpg_color.specs.DecodeRows.{SendsImage}
 use Rattle.jpg_color.specs.StripImage.{Drawing, EndsDrawing, IsDrawnTo, IsAllGiven, rest_text}
@@ -30,7 +29,7 @@ use Rattle.jpg_color.proofs.Drawn.{all_same}
 use Rattle.jpg_color.proofs.DrawnLaws.{texts_join}
 use Rattle.jpg_cli.specs.Desk.ReadPicture.{IsWholeRead}
 use Rattle.jpg_cli.specs.Tools.Showing.{Showing, Shown, shown_text}
-use Rattle.jpg_cli.specs.Tools.ShowingRows.{HasShownAll, Head, why_of, at_work, Run, Work}
+use Rattle.jpg_cli.specs.Tools.ShowingRows.{HasShownAll, Head, why_of, Run, Work}
 use Rattle.jpg_cli.specs.declared.desk.picture.Wanted.TheVariants.{Image}
 use Rattle.jpg_cli.proofs.FirstRead.{not_shown}
 use Rattle.jpg_cli.proofs.ImageStopped.{IsImageText, image_stopped, image_whole}

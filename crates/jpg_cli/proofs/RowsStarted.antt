@@ -87,8 +87,8 @@ strip_shown {gray} smooth {h} {all} {x} head k =
     let after : List Segment = (0xda, h.contents) ∷ h.before in
     let colour : x.colour ≡ colours_after standard_limits h.before =
     (k.picture no_blocks).colour ∙ picture_colours standard_limits after no_blocks ∙ colours_stay standard_limits all h.before h.contents head.begins in
-    ap (λ (c : Colour). out_fault_of c gray (factors_of x.frame)) colour
-    ∙ ap (λ (f : Frame). out_fault_of (colours_after standard_limits h.before) gray (factors_of f)) k.frame ∙ head.shown
+    ap (λ (c : Colour). out_fault_of x.frame.precision c gray (factors_of x.frame)) colour
+    ∙ ap (λ (f : Frame). out_fault_of f.precision (colours_after standard_limits h.before) gray (factors_of f)) k.frame ∙ head.shown
 
 -- THE OUTPUT was created, and nothing is in it
 

@@ -40,9 +40,9 @@ abbrev pub head_of : Option Head → Option (Frame × Colour × ℕ)
 head_of o = option_map (λ (h : Head). (h.frame, h.colour, h.at)) o
 
 -- the fault of a first scan header, as its segments reveal it
-same_reason : (limits : Limits) (gray : Bool) (bytes : List ℕ) (h : Head) → (k : IsFirstHeader limits bytes h) → out_fault_of h.colour gray (factors_of h.frame) ≡ reason_after limits gray k.before
+same_reason : (limits : Limits) (gray : Bool) (bytes : List ℕ) (h : Head) → (k : IsFirstHeader limits bytes h) → out_fault_of h.frame.precision h.colour gray (factors_of h.frame) ≡ reason_after limits gray k.before
 same_reason limits gray bytes h k =
-    ap (λ (c : Colour). out_fault_of c gray (factors_of h.frame)) k.colour ∙ ap (λ (f : Frame). out_fault_of (colours_after limits k.before) gray (factors_of f)) k.frame
+    ap (λ (c : Colour). out_fault_of h.frame.precision c gray (factors_of h.frame)) k.colour ∙ ap (λ (f : Frame). out_fault_of f.precision (colours_after limits k.before) gray (factors_of f)) k.frame
 
 told_some : (o : Option Fault) (c : Colour) (gray : Bool) (at : ℕ) (f : FaultAt) → fault_told (kind_or o (kind_of c gray)) at ≡ Some f → (o ≡ Some f.fault) × (at ≡ f.at)
 told_some None c gray at f e = cc
@@ -58,7 +58,7 @@ told_none (Some fault) c gray at e = cc
 head_unwanted : (gray : Bool) (bytes : List ℕ) (o : Option Head) (f : FaultAt) → IsFirstHeaderOf standard_limits bytes o → unwanted_in (Image gray) (head_of o) ≡ Some f → IsUnwanted (Image gray) bytes f
 head_unwanted gray bytes None f k e = cc
 head_unwanted gray bytes (Some h) f k e =
-    let told = told_some (out_fault_of h.colour gray (factors_of h.frame)) h.colour gray h.at f e in
+    let told = told_some (out_fault_of h.frame.precision h.colour gray (factors_of h.frame)) h.colour gray h.at f e in
     let at = told.1 in
     record {
       before = k.before;
@@ -78,7 +78,7 @@ head_wanted gray bytes None k e f s = k s.before s.contents f.at s.header
 head_wanted gray bytes (Some h) k e f s =
     let cut = take-append-drop h.at bytes ∙ sym (take-append-drop f.at bytes) in
     let one = whole_once standard_limits (take h.at bytes) (take f.at bytes) (drop h.at bytes) (drop f.at bytes) k.before s.before k.contents s.contents k.header s.header cut in
-    let none = told_none (out_fault_of h.colour gray (factors_of h.frame)) h.colour gray h.at e in
+    let none = told_none (out_fault_of h.frame.precision h.colour gray (factors_of h.frame)) h.colour gray h.at e in
     no_fault f (sym none ∙ same_reason standard_limits gray bytes h k ∙ ap (reason_after standard_limits gray) one.1 ∙ s.fault)
 
 -- before any byte there is none

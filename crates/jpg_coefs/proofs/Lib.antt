@@ -3,6 +3,8 @@ pub mod BitSinks
 pub mod Chains
 pub mod Copied
 pub mod Maps
+pub mod MarkSinks
 pub mod Places
 pub mod ScanDue
 pub mod Stored
+pub mod SymbolsUsed

@@ -1,5 +1,6 @@
 pub mod BitSinks
 pub mod Copied
 pub mod Machine
+pub mod MarkSinks
 pub mod Picture
 pub mod Sinks

@@ -12,12 +12,13 @@ use Rattle.jpg_spec.specs.Scan.{Blocks}
 use Rattle.jpg_spec.specs.Meaning.{component_of, most_across, most_down}
 use Rattle.jpg_spec_image.specs.Pixels.{samples_across, samples_down, stretch_of, shows_gray, is_colour_out, is_fractional}
 use Rattle.jpg_spec_image.specs.Strips.{lines, block_rows, needed, IsCovered}
-use Rattle.jpg_spec.specs.declared.fault.Fault.TheVariants.{ColourOut, FractionalSampling}
+use Rattle.jpg_spec.specs.declared.fault.Fault.TheVariants.{Precision, ColourOut, FractionalSampling}
 use Rattle.jpg_spec.specs.declared.frame.Colour.{Colour}
 use Rattle.jpg_spec.specs.declared.frame.Colour.TheVariants.{Gray, YCbCr, Rgb, Cmyk, Ycck, Unknown}
 use Rattle.jpg_spec.specs.declared.frame.Component.{Component}
 use Rattle.jpg_spec.proofs.Common.{length_below, neither, clash, same_of}
 use Rattle.jpg_spec.proofs.Rows.{at_below, map_map, by_items}
+use Rattle.jpg_spec.proofs.TablesInForce.{affirmed}
 use Rattle.jpg_base.proofs.Grids.{across_low, across_high, down_low, down_high}
 use Rattle.jpg_file.specs.Read.PictureKept.{component_told}
 use Rattle.jpg_file.specs.Read.StripHead.{may_have}
@@ -111,19 +112,24 @@ enough_parts Cmyk gray n e out = absurd (clash true refl out)
 enough_parts Ycck gray n e out = absurd (clash true refl out)
 enough_parts Unknown gray n e out = absurd (clash true refl out)
 
-no_fault : (out bad : Bool) → (if out then Some ColourOut else if bad then Some FractionalSampling else None) ≡ None → (out ≡ false) × (bad ≡ false)
-no_fault true bad e = cc
-no_fault false true e = cc
-no_fault false false e = (refl, refl)
+no_fault : (deep out bad : Bool) → (if deep then Some Precision else if out then Some ColourOut else if bad then Some FractionalSampling else None) ≡ None → (deep ≡ false) × (out ≡ false) × (bad ≡ false)
+no_fault true out bad e = cc
+no_fault false true bad e = cc
+no_fault false false true e = cc
+no_fault false false false e = (refl, refl, refl)
 
 faults_none : (d : Display) → display_fault d ≡ None
-    → (is_colour_out d.colour d.gray ≡ false) × (any_of (is_fractional (greatest (map (λ c. c.0) (factors_of d.frame))) (greatest (map (λ c. c.1) (factors_of d.frame)))) (if shows_gray d.colour d.gray then take 1 (factors_of d.frame) else factors_of d.frame) ≡ false)
+    → (not (d.frame.precision == 8) ≡ false) × (is_colour_out d.colour d.gray ≡ false) × (any_of (is_fractional (greatest (map (λ c. c.0) (factors_of d.frame))) (greatest (map (λ c. c.1) (factors_of d.frame)))) (if shows_gray d.colour d.gray then take 1 (factors_of d.frame) else factors_of d.frame) ≡ false)
 faults_none d e =
-    no_fault (is_colour_out d.colour d.gray)
+    no_fault (not (d.frame.precision == 8)) (is_colour_out d.colour d.gray)
     (any_of (is_fractional (greatest (map (λ c. c.0) (factors_of d.frame))) (greatest (map (λ c. c.1) (factors_of d.frame)))) (if shows_gray d.colour d.gray then take 1 (factors_of d.frame) else factors_of d.frame)) e
 
 pub colour_in : (d : Display) → IsShowable d → is_colour_out d.colour d.gray ≡ false
-colour_in d s = let n = faults_none d s.admitted in n.0
+colour_in d s = let n = faults_none d s.admitted in n.1
+
+-- its samples have 8 bits
+pub eight_bits : (d : Display) → IsShowable d → d.frame.precision ≡ 8
+eight_bits d s = let n = faults_none d s.admitted in same_of d.frame.precision 8 (affirmed (d.frame.precision == 8) n.0)
 
 pub parts_fit : (d : Display) → IsShowable d → parts d ≤ length d.frame.components
 parts_fit d s = enough_parts d.colour d.gray (length d.frame.components) s.colour (colour_in d s)
@@ -151,11 +157,7 @@ none_needed t true (x ∷ xs) (suc i) default few h e = absurd (omega (arith, fe
 whole_of : (across down h v : ℕ) → is_fractional across down (h, v) ≡ false → (across % h ≡ 0) × (down % v ≡ 0)
 whole_of across down h v e =
     let n = neither (not (across % h == 0)) (not (down % v == 0)) e in
-    (same_of (across % h) 0 (not_not (across % h == 0) n.0), same_of (down % v) 0 (not_not (down % v == 0) n.1))
-  where
-    not_not : (b : Bool) → not b ≡ false → b ≡ true
-    not_not true e = refl
-    not_not false e = absurd (clash true refl e)
+    (same_of (across % h) 0 (affirmed (across % h == 0) n.0), same_of (down % v) 0 (affirmed (down % v == 0) n.1))
 
 pub factor_at : (f : Frame) (i : ℕ) → i < length f.components → get_or (factors_of f) i (1, 1) ≡ ((component_at f i).h, (component_at f i).v)
 factor_at f i h = get_or-map (λ c. (c.h, c.v)) f.components i no_component (1, 1) h
@@ -173,7 +175,7 @@ divides d i s h =
     let n = faults_none d s.admitted in
     let long : i < length (factors_of d.frame) = subst (λ n. i < n) (sym (length-map d.frame.components (λ c. (c.h, c.v)))) there in
     let e : test ((component_at d.frame i).h, (component_at d.frame i).v) ≡ false =
-    sym (ap test (factor_at d.frame i there)) ∙ none_needed test (shows_gray d.colour d.gray) (factors_of d.frame) i (1, 1) h long n.1 in
+    sym (ap test (factor_at d.frame i there)) ∙ none_needed test (shows_gray d.colour d.gray) (factors_of d.frame) i (1, 1) h long n.2 in
     let w = whole_of (greatest (map (λ c. c.0) (factors_of d.frame))) (greatest (map (λ c. c.1) (factors_of d.frame))) (component_at d.frame i).h (component_at d.frame i).v e in
     (subst (λ m. m % (component_at d.frame i).h ≡ 0) (most_first d.frame.components) w.0, subst (λ m. m % (component_at d.frame i).v ≡ 0) (most_second d.frame.components) w.1)
 

@@ -41,7 +41,8 @@ factors_same p =
 
 pub admits_display : (p : Picture) (gray smooth : Bool) → out_fault gray (picture_meaning p) ≡ None → display_fault (display_in p gray smooth) ≡ None
 admits_display p gray smooth none =
-    ap (λ f. out_fault_of p.colour gray f) (sym (factors_same p)) ∙ ap (λ c. out_fault_of c gray (map (λ c. (c.h, c.v)) (picture_meaning p).components)) p.keeps.colour ∙ none
+    ap (λ f. out_fault_of p.frame.precision p.colour gray f) (sym (factors_same p))
+    ∙ ap (λ c. out_fault_of p.frame.precision c gray (map (λ c. (c.h, c.v)) (picture_meaning p).components)) p.keeps.colour ∙ none
 
 pub is_showable : (p : Picture) (gray smooth : Bool) → out_fault gray (picture_meaning p) ≡ None → IsShowable (display_in p gray smooth)
 is_showable p gray smooth none = record { frame = p.keeps.frame; tables = p.keeps.tables; colour = picture_colours p; admitted = admits_display p gray smooth none }

@@ -31,6 +31,7 @@ use Rattle.jpg_spec_write.specs.declared.picture_fault.PictureFault.TheVariants.
 use Rattle.jpg_color.specs.EncodeHead.{fraction_at}
 use Rattle.jpg_spec.proofs.Common.{both, lt_of, lt_yes, lt_no}
 use Rattle.jpg_spec.proofs.Rows.{map_map}
+use Rattle.jpg_spec_encode.proofs.EncodedWritten.{eight_bits}
 
 -- ENCODINGS WITH THE SAME RESULT: of the scans only the kind counts
 
@@ -101,7 +102,7 @@ is_frame_by e process width height true wl wh hl hh all n few = record {
   width_high = wh;
   height_low = hl;
   height_high = hh;
-  precision = refl;
+  precision = eight_bits process;
   count_low = omega arith;
   count_high = omega arith;
   factors = All-cons HasFactors _ [] (has_factors e 0 all (omega (arith, n))) (All-nil HasFactors);
@@ -114,7 +115,7 @@ is_frame_by e process width height false wl wh hl hh all n few = record {
   width_high = wh;
   height_low = hl;
   height_high = hh;
-  precision = refl;
+  precision = eight_bits process;
   count_low = omega arith;
   count_high = omega arith;
   factors = all_three HasFactors (at 0) (at 1) (at 2) (has_factors e 0 all (omega (arith, n))) (has_factors e 1 all (omega (arith, n))) (has_factors e 2 all (omega (arith, n)));

@@ -6,7 +6,7 @@ use Rattle.jpg_spec.specs.Geometry.{Frame, greatest, component_at, h_max, v_max}
 use Rattle.jpg_spec_image.specs.Pixels.{is_colour_out, is_fractional, shows_gray}
 use Rattle.jpg_spec.specs.declared.fault.Fault.{Fault}
 use Rattle.jpg_spec.specs.declared.frame.Colour.{Colour}
-use Rattle.jpg_color.specs.Admits.{admitted_kind, first_fault, kind_of, kind_or, needed_factors}
+use Rattle.jpg_color.specs.Admits.{admitted_kind, first_fault, is_deep, kind_of, kind_or, needed_factors}
 use Rattle.jpg_color.specs.Shown.{factors_of}
 use Rattle.jpg_color.proofs.Coverage.{factor_at, most_first, most_second}
 
@@ -28,22 +28,23 @@ next_factors f i count bad h le e =
     ∙ ap (λ b. b || any_of t (drop (suc i) (take count (factors_of f)))) (ap t at ∙ sym e)
     ∙ ap (λ n. bad || any_of t (drop n (take count (factors_of f)))) (sym (add-one i))
 
-admitted_is : (colour : Colour) (gray : Bool) (f : Frame) (out bad : Bool) → out ≡ is_colour_out colour gray
+admitted_is : (colour : Colour) (gray : Bool) (f : Frame) (deep out bad : Bool) → deep ≡ is_deep f.precision → out ≡ is_colour_out colour gray
     → bad ≡ any_of (is_fractional (h_max f) (v_max f)) (needed_factors (shows_gray colour gray) (factors_of f))
-    → kind_or (first_fault out bad) (kind_of colour gray) ≡ admitted_kind colour gray (factors_of f)
-admitted_is colour gray f out bad o b =
+    → kind_or (first_fault deep out bad) (kind_of colour gray) ≡ admitted_kind f.precision colour gray (factors_of f)
+admitted_is colour gray f deep out bad d o b =
     let shown = kind_of colour gray in
     let needed = needed_factors (shows_gray colour gray) (factors_of f) in
-    ap (λ (x : Bool). kind_or (first_fault x bad) shown) o
-    ∙ ap (λ (x : Bool). kind_or (first_fault (is_colour_out colour gray) x) shown) b
-    ∙ ap (λ (n : ℕ). kind_or (first_fault (is_colour_out colour gray) (any_of (is_fractional n (v_max f)) needed)) shown) (sym (most_first f.components))
-    ∙ ap (λ (n : ℕ). kind_or (first_fault (is_colour_out colour gray) (any_of (is_fractional (greatest (map (λ (p : ℕ × ℕ). p.0) (factors_of f))) n) needed)) shown)
-    (sym (most_second f.components))
+    let told : Bool → Option Fault = first_fault (is_deep f.precision) (is_colour_out colour gray) in
+    ap (λ (x : Bool). kind_or (first_fault x out bad) shown) d
+    ∙ ap (λ (x : Bool). kind_or (first_fault (is_deep f.precision) x bad) shown) o
+    ∙ ap (λ (x : Bool). kind_or (told x) shown) b
+    ∙ ap (λ (n : ℕ). kind_or (told (any_of (is_fractional n (v_max f)) needed)) shown) (sym (most_first f.components))
+    ∙ ap (λ (n : ℕ). kind_or (told (any_of (is_fractional (greatest (map (λ (p : ℕ × ℕ). p.0) (factors_of f))) n) needed)) shown) (sym (most_second f.components))
 
 -- the same from the fault and the colours as a caller has them
-pub told_admitted : (colour : Colour) (gray alone : Bool) (f : Frame) (out bad : Bool) (o : Option Fault) → alone ≡ shows_gray colour gray → out ≡ is_colour_out colour gray
-    → bad ≡ any_of (is_fractional (h_max f) (v_max f)) (needed_factors alone (factors_of f)) → o ≡ first_fault out bad
-    → kind_or o (kind_of colour gray) ≡ admitted_kind colour gray (factors_of f)
-told_admitted colour gray alone f out bad o a e b is =
+pub told_admitted : (colour : Colour) (gray alone : Bool) (f : Frame) (deep out bad : Bool) (o : Option Fault) → alone ≡ shows_gray colour gray → deep ≡ is_deep f.precision
+    → out ≡ is_colour_out colour gray → bad ≡ any_of (is_fractional (h_max f) (v_max f)) (needed_factors alone (factors_of f)) → o ≡ first_fault deep out bad
+    → kind_or o (kind_of colour gray) ≡ admitted_kind f.precision colour gray (factors_of f)
+told_admitted colour gray alone f deep out bad o a d e b is =
     ap (λ (x : Option Fault). kind_or x (kind_of colour gray)) is
-    ∙ admitted_is colour gray f out bad e (b ∙ ap (λ (x : Bool). any_of (is_fractional (h_max f) (v_max f)) (needed_factors x (factors_of f))) a)
+    ∙ admitted_is colour gray f deep out bad d e (b ∙ ap (λ (x : Bool). any_of (is_fractional (h_max f) (v_max f)) (needed_factors x (factors_of f))) a)

@@ -1,5 +1,5 @@
 -- Rows of bytes written block by block, and the lists of rows that they are then.
-use Rattle.std.proofs.Common.{◌≡◌, ℕ, zero, suc, ◌+◌, ◌-◌, ◌*◌, ◌<◌, ◌≤◌, ◌⊎◌, inl, inr, Bool, true, false, cond, ◌&&◌, ◌==◌, List, [], ◌∷◌, ◌++◌, length, take, drop, map, get_or, slice_index, ℤ, pos, nat_abs, add-zero, add-suc, refl, sym, ap, ◌∙◌, arith, ⊎_elim}
+use Rattle.std.proofs.Common.{◌≡◌, ℕ, zero, suc, ◌+◌, ◌-◌, ◌*◌, ◌<◌, ◌≤◌, ◌⊎◌, inl, inr, Bool, true, false, cond, ◌&&◌, ◌==◌, List, [], ◌∷◌, ◌++◌, length, take, drop, map, get_or, slice_index, ℤ, pos, nat_abs, add-zero, add-suc, refl, sym, ap, ◌∙◌, subst, arith, ⊎_elim}
 use Rattle.std.specs.Prelude.{int_le, neg_ℤ, min, slice_index_or}
 use Rattle.std.specs.List.{All}
 use Rattle.std.proofs.Math.Seq.{drop-append_seam}
@@ -10,9 +10,9 @@ use Rattle.std.proofs.lemmas.Nat.{mul-add-lt, mul-le}
 use Rattle.std.proofs.lemmas.List.{append_assoc, append-nil, map-append, length-map, length-take, length-drop, get_or-take, get_or-drop, get_or-map}
 use Rattle.std.proofs.lemmas.List.Elements.{All-from_get_or}
 use Rattle.jpg_spec.specs.Lists.{below}
-use Rattle.jpg_spec.specs.Geometry.{Frame, bounds}
+use Rattle.jpg_spec.specs.Geometry.{Frame, bounds, bounds_of}
 use Rattle.jpg_spec.specs.Scan.{Blocks}
-use Rattle.jpg_spec.specs.Ranges.{AreInRange}
+use Rattle.jpg_spec.specs.Ranges.{AreInRange, is_coefficient}
 use Rattle.jpg_spec.proofs.Common.{both, from_test, length_below}
 use Rattle.jpg_spec.proofs.Rows.{by_items, at_below}
 use Rattle.jpg_color.specs.KeptRows.{KeptRows, stride, kept_rows_of, last_row}
@@ -162,7 +162,7 @@ last_kept wide len old new some fits room long same =
     let two : take wide (drop ((len - 1) * line) old) ≡ map f (below wide) = row_is old wide ((len - 1) * line) f (ends (len - 1) low) (λ x h. refl) in
     ap (λ xs. (let r : List (List ℕ) = xs ∷ [] in r)) (one ∙ sym two) ∙ sym (last_of (λ r. take wide (drop (r * line) old)) len some)
 
--- COEFFICIENTS that may be multiplied by their quantisers
+-- COEFFICIENTS of 8 bits, which may be multiplied by their quantisers
 
 bounded : (b : Bool) (v : ℤ) → cond b (int_le (neg_ℤ (pos 1024)) v && int_le v (pos 1023)) (int_le (pos (nat_abs v)) (pos 1023)) ≡ true → nat_abs v ≤ 1024
 bounded true v e =
@@ -170,9 +170,10 @@ bounded true v e =
     omega (arith, ints, from_test (neg_ℤ (pos 1024)) v t.0, from_test v (pos 1023) t.1)
 bounded false v e = omega (arith, ints, from_test (pos (nat_abs v)) (pos 1023) e)
 
-pub block_small : (f : Frame) (blocks : Blocks) (i x y : ℕ) → AreInRange (bounds f) blocks → All (λ v. nat_abs v ≤ 1024) (blocks i x y)
-block_small f blocks i x y range =
-    All-from_get_or (λ v. nat_abs v ≤ 1024) (blocks i x y) (pos 0) (λ k h. bounded (k == 0) (get_or (blocks i x y) k (pos 0)) (range.values i x y k))
+pub block_small : (f : Frame) (blocks : Blocks) (i x y : ℕ) → f.precision ≡ 8 → AreInRange (bounds f) blocks → All (λ v. nat_abs v ≤ 1024) (blocks i x y)
+block_small f blocks i x y eight range =
+    All-from_get_or (λ v. nat_abs v ≤ 1024) (blocks i x y) (pos 0)
+    (λ k h. bounded (k == 0) (get_or (blocks i x y) k (pos 0)) (subst (λ p. is_coefficient (bounds_of p) k (get_or (blocks i x y) k (pos 0)) ≡ true) eight (range.values i x y k)))
 
 -- ROWS OF STORAGE
 

@@ -18,7 +18,7 @@ pub block_is : (q : Picture) (i x y : ℕ) (block : List ℤ) → IsPadded q.fra
 block_is q i x y block p e = e ∙ sym (map_at q i x y p)
 
 pub read_small : (q : Picture) (i first wide count x : ℕ) (block : List ℤ) → HasRows q i first wide count → block ≡ map_of q i x first → All (λ v. nat_abs v ≤ 1024) block
-read_small q i first wide count x block h e = subst (All (λ v. nat_abs v ≤ 1024)) (sym e) (block_small q.frame (map_of q) i x first h.range)
+read_small q i first wide count x block h e = subst (All (λ v. nat_abs v ≤ 1024)) (sym e) (block_small q.frame (map_of q) i x first h.precision h.range)
 
 pub told_by : (quants : QuantTable) (blocks : Blocks) (i first c : ℕ) {samples : List ℕ} → samples ≡ inverse_dct (dequantised quants (blocks i c first))
     → (y x : ℕ) → y < 8 → x < 8 → slice_index samples (8 * y + x) ≡ sample_in quants blocks i first y (8 * c + x)

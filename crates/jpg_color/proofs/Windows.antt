@@ -16,7 +16,7 @@ use Rattle.jpg_base.proofs.Grids.{across_low, down_low}
 use Rattle.jpg_coefs.specs.Picture.{Picture, map_of}
 use Rattle.jpg_color.specs.KeptRows.{HasRows}
 use Rattle.jpg_color.specs.Shown.{Display, IsShowable, picture_of, parts, all_rows, rows_made_ready, rows_in}
-use Rattle.jpg_color.proofs.Coverage.{in_frame, factors_at, covered, lines_some, parts_some, rows_in_is, blocks_across_is, blocks_down_is}
+use Rattle.jpg_color.proofs.Coverage.{eight_bits, in_frame, factors_at, covered, lines_some, parts_some, rows_in_is, blocks_across_is, blocks_down_is}
 
 -- ROWS OF SAMPLES
 
@@ -130,6 +130,7 @@ rows_there d i m q s h lt e range =
       component = subst (λ (f : Frame). i < length f.components) (sym e) (in_frame d i s h);
       across = subst (λ (f : Frame). div_up (samples_across (picture_of d no_blocks) i) 8 ≤ padded_across f (component_at f i)) (sym e) (across_padded d i s h);
       down = subst (λ (f : Frame). m * rows_in d i + div_up (told_rows d i m) 8 ≤ padded_down f (component_at f i)) (sym e) c.padded;
+      precision = subst (λ (f : Frame). f.precision ≡ 8) (sym e) (eight_bits d s);
       range = subst (λ (f : Frame). AreInRange (bounds f) (map_of q)) (sym e) range;
     }
 
@@ -144,6 +145,7 @@ row_there d i m q s h lt e range =
       component = subst (λ (f : Frame). i < length f.components) (sym e) (in_frame d i s h);
       across = subst (λ (f : Frame). div_up (samples_across (picture_of d no_blocks) i) 8 ≤ padded_across f (component_at f i)) (sym e) (across_padded d i s h);
       down = subst (λ (f : Frame). 0 + div_up (told_rows d i m) 8 ≤ padded_down f (component_at f i)) (sym e) (from_top (div_up (told_rows d i m) 8) (padded_down (mcu_row_frame d.frame) (component_at (mcu_row_frame d.frame) i)) c.row);
+      precision = subst (λ (f : Frame). f.precision ≡ 8) (sym e) (eight_bits d s);
       range = subst (λ (f : Frame). AreInRange (bounds f) (map_of q)) (sym e) range;
     }
 

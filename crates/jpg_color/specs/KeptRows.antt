@@ -1,5 +1,5 @@
 -- Rows of samples of one component that are kept, and the rows made of blocks.
-use Rattle.std.specs.Prelude.{ℕ, ◌+◌, ◌-◌, ◌*◌, ◌/◌, ◌%◌, ◌<◌, ◌≤◌, List, ◌++◌, length, map, take, drop, slice_index}
+use Rattle.std.specs.Prelude.{◌≡◌, ℕ, ◌+◌, ◌-◌, ◌*◌, ◌/◌, ◌%◌, ◌<◌, ◌≤◌, List, ◌++◌, length, map, take, drop, slice_index}
 use Rattle.jpg_spec.specs.Lists.{below}
 use Rattle.jpg_spec.specs.Geometry.{bounds, component_at, div_up}
 use Rattle.jpg_spec.specs.FrameHeader.{padded_across, padded_down}
@@ -42,9 +42,11 @@ with_block_rows kept quants blocks i first count =
 abbrev pub with_gray : KeptRows → ℕ → KeptRows
 with_gray kept count = record kept { rows = last_row kept.rows ++ map (λ y. map (λ x. 128) (below kept.wide)) (below count) }
 
--- There are blocks for `count` rows of `wide` samples of component i, from row `first` of its blocks on.
+-- There are blocks for `count` rows of `wide` samples of component i, from row `first` of its blocks on. The samples have
+-- 8 bits.
 pub record HasRows (q : Picture) (i first wide count : ℕ) : Type 0 where
   pub component : i < length q.frame.components
   pub across : div_up wide 8 ≤ padded_across q.frame (component_at q.frame i)
   pub down : first + div_up count 8 ≤ padded_down q.frame (component_at q.frame i)
+  pub precision : q.frame.precision ≡ 8
   pub range : AreInRange (bounds q.frame) (map_of q)

@@ -60,9 +60,10 @@ abbrev pub factors_of : Frame → List (ℕ × ℕ)
 factors_of f = map (λ c. (c.h, c.v)) f.components
 
 abbrev pub display_fault : Display → Option Fault
-display_fault d = out_fault_of d.colour d.gray (factors_of d.frame)
+display_fault d = out_fault_of d.frame.precision d.colour d.gray (factors_of d.frame)
 
--- It can be displayed: one table for each component, colours that they may have, and no fault of the output's kind.
+-- It can be displayed: one table for each component, colours that they may have, and no fault of the output's kind, so
+-- that its samples have 8 bits.
 pub record IsShowable (d : Display) : Type 0 where
   pub frame : IsFrame d.frame
   pub tables : length d.quants ≡ length d.frame.components

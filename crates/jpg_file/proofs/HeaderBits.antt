@@ -22,13 +22,13 @@ use Rattle.jpg_spec.proofs.Untouched.{frame_stays}
 use Rattle.jpg_file.proofs.Parameters.{head_parameters}
 
 -- DC only, or a band of AC; and which bit
-pub record Says (head : ScanHead) : Type 0 where
+pub record Says (f : Frame) (head : ScanHead) : Type 0 where
   pub dc : (head.ss == 0) ≡ true → head.se ≡ 0
   pub band : (head.ss == 0) ≡ false → (head.ss ≤ head.se) × (head.se ≤ 63)
   pub later : (head.ah == 0) ≡ false → head.ah ≡ head.al + 1
-  pub al : head.al ≤ 10
+  pub al : head.al ≤ (bounds f).al
 
-pub says_of : (f : Frame) (count : ℕ) (head : ScanHead) → are_parameters f count head ≡ true → Says head
+pub says_of : (f : Frame) (count : ℕ) (head : ScanHead) → are_parameters f count head ≡ true → Says f head
 says_of f count head e =
     let p = both (is_band count head) (are_bits f head) e in
     let b = both (head.ah == 0 || head.ah == head.al + 1) (nat_le head.al (bounds f).al) p.1 in
@@ -38,14 +38,14 @@ says_of f count head e =
           let r = both (nat_le head.ss head.se) (nat_le head.se 63) q.1 in
           (le_of head.ss head.se r.0, le_of head.se 63 r.1));
       later = λ z. same_of head.ah (head.al + 1) (sym (ap (λ t. t || head.ah == head.al + 1) z) ∙ b.0);
-      al = le_of head.al 10 b.1;
+      al = le_of head.al (bounds f).al b.1;
     }
 
-pub head_says : (limits : Limits) (before : List Segment) (contents : List ℕ) → is_progressive (frame_of limits before).process ≡ true → contents_rule limits before 0xda contents ≡ None → Says (head_in (frame_of limits before) contents)
+pub head_says : (limits : Limits) (before : List Segment) (contents : List ℕ) → is_progressive (frame_of limits before).process ≡ true → contents_rule limits before 0xda contents ≡ None → Says (frame_of limits before) (head_in (frame_of limits before) contents)
 head_says limits before contents progressive rule =
     let f = frame_of limits before in
     let at = head_at limits before contents rule in
-    subst Says (sym at.is_head) (says_of f (length (at.head).parts) at.head (head_parameters f contents at.head at.told progressive))
+    subst (Says f) (sym at.is_head) (says_of f (length (at.head).parts) at.head (head_parameters f contents at.head at.told progressive))
 
 -- it is the next scan of each of its components
 pub head_is_next : (limits : Limits) (before : List Segment) (contents : List ℕ) (i : ℕ) → is_progressive (frame_of limits before).process ≡ true → contents_rule limits before 0xda contents ≡ None
@@ -60,43 +60,43 @@ head_is_next limits before contents i progressive rule =
 
 -- THE BIT down to which a coefficient is known
 
-abbrev pub IsLow : Option ℕ → Type 0
-IsLow None = Unit {0}
-IsLow (Some n) = n ≤ 10
+abbrev pub IsLow : Frame → Option ℕ → Type 0
+IsLow f None = Unit {0}
+IsLow f (Some n) = n ≤ (bounds f).al
 
-one_more : (heads : List ScanHead) (head : ScanHead) (i k : ℕ) → head.al ≤ 10 → IsLow (known_to heads i k) → IsLow (known_to (head ∷ heads) i k)
-one_more heads head i k low h = by (has_coefficient head i k) refl
+one_more : (f : Frame) (heads : List ScanHead) (head : ScanHead) (i k : ℕ) → head.al ≤ (bounds f).al → IsLow f (known_to heads i k) → IsLow f (known_to (head ∷ heads) i k)
+one_more f heads head i k low h = by (has_coefficient head i k) refl
   where
-    by : (b : Bool) → has_coefficient head i k ≡ b → IsLow (known_to (head ∷ heads) i k)
-    by true e = subst IsLow (sym (known_new heads head i k e)) low
-    by false e = subst IsLow (sym (known_old heads head i k e)) h
+    by : (b : Bool) → has_coefficient head i k ≡ b → IsLow f (known_to (head ∷ heads) i k)
+    by true e = subst (IsLow f) (sym (known_new heads head i k e)) low
+    by false e = subst (IsLow f) (sym (known_old heads head i k e)) h
 
-item_low : (limits : Limits) (before : List Segment) (contents : List ℕ) (f : Frame) → frame_of limits before ≡ f → is_progressive f.process ≡ true → contents_rule limits before 0xda contents ≡ None → (head_in f contents).al ≤ 10
+item_low : (limits : Limits) (before : List Segment) (contents : List ℕ) (f : Frame) → frame_of limits before ≡ f → is_progressive f.process ≡ true → contents_rule limits before 0xda contents ≡ None → (head_in f contents).al ≤ (bounds f).al
 item_low limits before contents f e progressive rule =
-    subst (λ (g : Frame). (head_in g contents).al ≤ 10) e (head_says limits before contents (ap (λ (g : Frame). is_progressive g.process) e ∙ progressive) rule).al
+    subst (λ (g : Frame). (head_in g contents).al ≤ (bounds g).al) e (head_says limits before contents (ap (λ (g : Frame). is_progressive g.process) e ∙ progressive) rule).al
 
 known_low : (limits : Limits) (items : List Item) (blocks : Blocks) (f : Frame) → Leads limits items blocks → (has_frame (segments_of items) ≡ true → frame_of limits (segments_of items) ≡ f) → is_progressive f.process ≡ true
-    → (i k : ℕ) → IsLow (known_to (heads_of f (segments_of items)) i k)
+    → (i k : ℕ) → IsLow f (known_to (heads_of f (segments_of items)) i k)
 known_low limits [] blocks f l same progressive i k = tt
 known_low limits (segment code contents ∷ items) blocks f l same progressive i k =
     by (code == 0xda) refl
     (known_low limits items blocks f l.2 (λ h. sym (frame_stays limits (segments_of items) code contents h l.0) ∙ same (or_right (is_frame_code code) (has_frame (segments_of items)) h)) progressive i k)
   where
-    by : (b : Bool) → (code == 0xda) ≡ b → IsLow (known_to (heads_of f (segments_of items)) i k) → IsLow (known_to (cond b (head_in f contents ∷ heads_of f (segments_of items)) (heads_of f (segments_of items))) i k)
+    by : (b : Bool) → (code == 0xda) ≡ b → IsLow f (known_to (heads_of f (segments_of items)) i k) → IsLow f (known_to (cond b (head_in f contents ∷ heads_of f (segments_of items)) (heads_of f (segments_of items))) i k)
     by false h old = old
     by true h old =
         let before = segments_of items in
         let sos : code ≡ 0xda = same_of code 0xda h in
         let found = framed before (subst (λ c. code_fault before c ≡ None) sos l.0) in
         let e = sym (frame_stays limits before code contents found l.0) ∙ same (or_right (is_frame_code code) (has_frame before) found) in
-        one_more (heads_of f before) (head_in f contents) i k (item_low limits before contents f e progressive (subst (λ c. contents_rule limits before c contents ≡ None) sos l.1)) old
+        one_more f (heads_of f before) (head_in f contents) i k (item_low limits before contents f e progressive (subst (λ c. contents_rule limits before c contents ≡ None) sos l.1)) old
 known_low limits (scan contents intervals ∷ items) blocks f l same progressive i k =
     let before = segments_of items in
     let found = framed before l.1 in
     let e : frame_of limits before ≡ f = sym (frame_stays limits before 0xda contents found l.1) ∙ same (or_right (is_frame_code 0xda) (has_frame before) found) in
-    one_more (heads_of f before) (head_in f contents) i k (item_low limits before contents f e progressive l.2) (known_low limits items l.0 f l.3 (λ h. e) progressive i k)
+    one_more f (heads_of f before) (head_in f contents) i k (item_low limits before contents f e progressive l.2) (known_low limits items l.0 f l.3 (λ h. e) progressive i k)
 
 -- THE LAW
 pub bits_low : (limits : Limits) (items : List Item) (blocks : Blocks) (i k : ℕ) → Leads limits items blocks → is_progressive (frame_of limits (segments_of items)).process ≡ true
-    → IsLow (known_to (heads_of (frame_of limits (segments_of items)) (segments_of items)) i k)
+    → IsLow (frame_of limits (segments_of items)) (known_to (heads_of (frame_of limits (segments_of items)) (segments_of items)) i k)
 bits_low limits items blocks i k l progressive = known_low limits items blocks (frame_of limits (segments_of items)) l (λ h. refl) progressive i k

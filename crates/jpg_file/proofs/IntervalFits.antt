@@ -91,7 +91,7 @@ plain_fits limits bytes p i w e =
 
 module _ (limits : Limits) (bytes : List ℕ) (p : ScanPlace) (i : Interval) (w : InWork limits bytes p i)
     (e : is_progressive (frame_at limits p).process ≡ true) where
-  says_at : Says (head_of limits p)
+  says_at : Says (frame_at limits p) (head_of limits p)
   says_at = head_says limits (segments_of p.items) p.contents e ((w.at).allowed).1
 
   ss_at : i.scan.ss ≡ (head_of limits p).ss

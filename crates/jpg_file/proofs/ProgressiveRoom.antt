@@ -1,6 +1,6 @@
 -- In a progressive frame the values of a scan's band, as the scan finds them, take its bits (T.81, G.1.2.1, G.1.2.3).
-use Rattle.std.proofs.Common.{◌≡◌, ℕ, ◌+◌, ◌<◌, ◌≤◌, Bool, true, false, cond, ◌==◌, ◌&&◌, List, refl, sym, ap, ◌∙◌, subst, arith, Option, Some, None, ℤ, pos, nat_abs, inl}
-use Rattle.std.specs.Prelude.{nat_le, int_le, neg_ℤ}
+use Rattle.std.proofs.Common.{◌≡◌, ℕ, ◌+◌, ◌-◌, ◌^◌, ◌<◌, ◌≤◌, Bool, true, false, cond, ◌==◌, ◌&&◌, List, refl, sym, ap, ◌∙◌, subst, arith, Option, Some, None, ℤ, pos, nat_abs, inl}
+use Rattle.std.specs.Prelude.{nat_le, int_le}
 use Rattle.std.proofs.lemmas.Bool.Decides.{nat_tests}
 use Rattle.std.proofs.lemmas.Int.{ints}
 use Rattle.jpg_spec.specs.Elements.{is_zero}
@@ -23,6 +23,7 @@ use Rattle.jpg_prog_read.specs.Known.{AreKnown, EachHasRoom, known_after}
 use Rattle.jpg_prog_read.proofs.DcRoom.{room_known}
 use Rattle.jpg_prog_read.proofs.Known.{band_room, gives_room}
 use Rattle.jpg_prog_read.proofs.KnownBits.{are_known}
+use Rattle.jpg_prog_read.proofs.Precisions.{fits_words}
 use Rattle.jpg_file.proofs.HeaderBits.{IsLow, bits_low, head_is_next, head_says}
 
 -- a scan of a progressive frame that may begin after these items, and a place of one of its components
@@ -43,18 +44,20 @@ was_known limits items blocks contents q k b low high small =
 
 -- a refinement's bit is below the greatest
 later_low : (limits : Limits) (items : List Item) (blocks : Blocks) (contents : List ℕ) (q : Place) (k : ℕ) → BeginsPass limits items blocks contents q → (let head = head_behind limits items contents in (head.ah == 0) ≡ false
-    → known_after limits items q.component k ≡ Some head.ah → head.al + 1 ≤ 10)
+    → known_after limits items q.component k ≡ Some head.ah → head.al + 1 ≤ (bounds (frame_of limits (segments_of items))).al)
 later_low limits items blocks contents q k b z was =
     let head = head_behind limits items contents in
     let says = head_says limits (segments_of items) contents b.progressive (b.begins).allowed in
-    subst (λ n. n ≤ 10) (says.later z) (subst IsLow was (bits_low limits items blocks q.component k (b.begins).leads b.progressive))
+    let f = frame_of limits (segments_of items) in
+    subst (λ n. n ≤ (bounds f).al) (says.later z) (subst (IsLow f) was (bits_low limits items blocks q.component k (b.begins).leads b.progressive))
 
 -- AC
 
-ac_bound : (k : ℕ) (v : ℤ) (low high : Bool) → 1 ≤ k → cond (k == 0) (low && high) (int_le (pos (nat_abs v)) (pos 1023)) ≡ true → nat_abs v ≤ 1023
-ac_bound k v low high some e =
+ac_bound : (n k : ℕ) (v b : ℤ) (low high : Bool) → b ≡ pos n → 1 ≤ k → cond (k == 0) (low && high) (int_le (pos (nat_abs v)) b) ≡ true → nat_abs v ≤ n
+ac_bound n k v b low high is some e =
     let t : (k == 0) ≡ false = grind (arith, nat_tests, some) in
-    omega (arith, ints, from_test (pos (nat_abs v)) (pos 1023) (sym (ap (λ b. cond b (low && high) (int_le (pos (nat_abs v)) (pos 1023))) t) ∙ e))
+    let h = from_test (pos (nat_abs v)) b (sym (ap (λ c. cond c (low && high) (int_le (pos (nat_abs v)) b)) t) ∙ e) in
+    omega (arith, ints, h, is)
 
 ac_room : (limits : Limits) (items : List Item) (blocks : Blocks) (contents : List ℕ) (q : Place) (k : ℕ) → BeginsPass limits items blocks contents q → (let head = head_behind limits items contents in 1 ≤ head.ss → head.ss ≤ k → k ≤ head.se → k < 64
     → HasCorrectionRoom (scan_after limits (segments_of items) contents).coding (coefficient blocks q.component q.x q.y k))
@@ -83,8 +86,14 @@ ac_room limits items blocks contents q k b some low high small = by (head.ah == 
         let c = (scan_after limits (segments_of items) contents).coding in
         let al : c.al ≡ head.al = ap (λ t. cond t head.al 0) b.progressive in
         let ah : head.ah ≡ c.al + 1 = says.later z ∙ ap (λ n. n + 1) (sym al) in
-        let few : c.al + 1 ≤ 10 = subst (λ n. n + 1 ≤ 10) (sym al) (later_low limits items blocks contents q k b z told) in
-        gives_room c 10 few refl v (known.told q.component q.x q.y k (c.al + 1) (told ∙ ap (λ n. (let o : Option ℕ = Some n in o)) ah)) (ac_bound k v (int_le (neg_ℤ (pos 1024)) v) (int_le v (pos 1023)) (omega (arith, some, low)) (in_range limits items blocks (b.begins).leads q.component q.x q.y k))
+        let f = frame_of limits (segments_of items) in
+        let w = fits_words f.precision in
+        let n = (bounds f).ac_cat in
+        let below = subst (λ n. n + 1 ≤ (bounds f).al) (sym al) (later_low limits items blocks contents q k b z told) in
+        let most = w.bits in
+        let few : c.al + 1 ≤ n = omega (arith, below, most) in
+        gives_room c n few w.ac v (known.told q.component q.x q.y k (c.al + 1) (told ∙ ap (λ n. (let o : Option ℕ = Some n in o)) ah))
+        (ac_bound (2 ^ n - 1) k v (bounds f).ac (int_le (bounds f).dc_low v) (int_le v (bounds f).dc_high) w.ac (omega (arith, some, low)) (in_range limits items blocks (b.begins).leads q.component q.x q.y k))
 
 -- the band of a block
 pub ac_band_room : (limits : Limits) (items : List Item) (blocks : Blocks) (contents : List ℕ) (q : Place) → BeginsPass limits items blocks contents q → (let head = head_behind limits items contents in 1 ≤ head.ss → head.se ≤ 63
@@ -119,7 +128,7 @@ dc_room limits items blocks contents q b none z =
     let says = head_says limits (segments_of items) contents b.progressive (b.begins).allowed in
     let al : c.al ≡ head.al = ap (λ t. cond t head.al 0) b.progressive in
     let ah : head.ah ≡ c.al + 1 = says.later z ∙ ap (λ n. n + 1) (sym al) in
-    let few : c.al + 1 ≤ 10 = subst (λ n. n + 1 ≤ 10) (sym al) (later_low limits items blocks contents q 0 b z told) in
+    let few : c.al + 1 ≤ (bounds f).al = subst (λ n. n + 1 ≤ (bounds f).al) (sym al) (later_low limits items blocks contents q 0 b z told) in
     let range = both (int_le (bounds f).dc_low v) (int_le v (bounds f).dc_high) (in_range limits items blocks (b.begins).leads q.component q.x q.y 0) in
     room_known f c v refl few (record {
       low = from_test (bounds f).dc_low v range.0;

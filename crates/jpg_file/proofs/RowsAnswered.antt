@@ -37,7 +37,6 @@ use Rattle.jpg_file.proofs.RowPieces.{no_rows_in}
 use Rattle.jpg_file.proofs.StripPieces.{open_head, strip_whole}
 use Rattle.jpg_file.proofs.RowsFed.{row_fed, rows_completed}
 use Rattle.jpg_file.proofs.RowsFedOn.{RowsBefore, fed_done_rows, fed_given_row, fed_more_rows, rows_before}
-use Rattle.jpg_file.proofs.RowsRange.{given_in_range}
 
 last_within : (limits : Limits) (bytes : List ℕ) → HasLastByte limits bytes → length bytes ≤ limits.input
 last_within limits bytes l = (let short = l.short in let one = length-append l.front (l.byte ∷ []) in omega (arith, ap (λ x. length x) l.cut, one, short))
@@ -112,7 +111,7 @@ module _ (r : ReaderState) (old new : StripWork) (bytes piece : List ℕ) (p : H
         last = 0;
         count = refl;
         framed = f.framed;
-        range = given_in_range r.limits all new.file rows (frame_of r.limits k.before) w;
+        range = f.range;
         row = f.row;
       }
 
@@ -227,7 +226,7 @@ module _ (r : ReaderState) (old new : StripWork) (bytes piece : List ℕ) (m : �
       by None is c g = absurd c
       by (Some rows) is c g =
           let all = bytes ++ take used piece in
-          fed_given_row (with_work r old) new bytes (take used piece) m b rows is (t.keeps.strip (ap is_some (b.begun).has)) c g.row g.last (last_within r.limits all g.last) (given_in_range r.limits all new.file rows (frame_of r.limits (b.begun).before) g.row)
+          fed_given_row (with_work r old) new bytes (take used piece) m b rows is (t.keeps.strip (ap is_some (b.begun).has)) c g.row g.last (last_within r.limits all g.last)
   row_answered used t (inl (p, z)) = by new.rows refl
     where
       by : (o : Option RowWork) → new.rows ≡ o → AfterFeedRow bytes m piece (Ok (fed.Row used)) (with_work r new)

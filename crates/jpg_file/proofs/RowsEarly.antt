@@ -168,7 +168,7 @@ inside_left : (limits : Limits) (bytes : List ℕ) (w : FileWork) (rows : RowWor
 inside_left limits bytes w rows whole m r of turned begins count = record {
   framed = framed;
   told = subst (λ n. TellsRows limits bytes n (blocks_in (row_places limits (segments_of r.items) r.contents n) (map_of whole))) is t.told;
-  work = λ due. record { framed = of.framed ∙ ap mcu_row_frame framed; range = inside_in_range limits bytes w rows whole f r of; row = lent due };
+  work = λ due. record { framed = of.framed ∙ ap mcu_row_frame framed; range = inside_in_range limits bytes w rows whole r of; row = lent due };
   later = λ i x y low. later_zero f (map_of whole) i x y (λ there down. blank i x y (subst (λ (g : Frame). i < length g.components) (sym framed) there) (deep i y there low));
 }
   where

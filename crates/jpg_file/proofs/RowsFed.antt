@@ -1,7 +1,8 @@
 -- From the MCU rows that were passed, and how many of the scan aren't complete yet, to those that the bytes complete.
 use Rattle.std.proofs.Common.{◌≡◌, ℕ, ◌+◌, ◌==◌, cond, List, [], ◌++◌, sym, ap, ◌∙◌, subst, arith}
 use Rattle.std.proofs.lemmas.List.{append_assoc}
-use Rattle.jpg_spec.specs.Geometry.{mcu_row_frame}
+use Rattle.jpg_spec.specs.Geometry.{bounds, mcu_row_frame}
+use Rattle.jpg_spec.specs.Ranges.{AreInRange}
 use Rattle.jpg_spec.specs.Markers.{Segment}
 use Rattle.jpg_spec.specs.InForce.{frame_of, head_in}
 use Rattle.jpg_spec.specs.Items.{segments_of}
@@ -21,6 +22,7 @@ use Rattle.jpg_file.specs.declared.read.file.FileWork.{FileWork}
 use Rattle.jpg_file.specs.declared.read.rows.RowWork.{RowWork}
 use Rattle.jpg_file.proofs.RowsGiven.{inside_completes, inside_tells, place_tells, row_blocks}
 use Rattle.jpg_file.proofs.RowAfter.{rest_framed}
+use Rattle.jpg_file.proofs.RowsRange.{given_in_range}
 
 -- what has begun remains begun
 pub begun_on : (limits : Limits) (bytes more : List ℕ) (before : List Segment) (contents : List ℕ) → BeginsScanOfAll limits bytes before contents → BeginsScanOfAll limits (bytes ++ more) before contents
@@ -49,6 +51,7 @@ pub record RowFed (limits : Limits) (bytes : List ℕ) (before : List Segment) (
   pub blocks : Blocks
   pub told : TellsRows limits bytes (m + 1) blocks
   pub framed : rows.coefs.frame ≡ mcu_row_frame (frame_of limits before)
+  pub range : AreInRange (bounds (frame_of limits before)) (map_of rows.coefs)
   pub row : AreOfRow (frame_of limits before) m rows.coefs blocks
 
 fed_here : (limits : Limits) (bytes : List ℕ) (w : FileWork) (rows : RowWork) (m : ℕ) → (k : RowIsWhole limits bytes w rows) → BeginsScanOfAll limits bytes (segments_of k.inside.items) k.inside.contents
@@ -66,6 +69,7 @@ fed_here limits bytes w rows m k begins count =
       blocks = blocks_in (row_places limits (segments_of r.items) r.contents (m + 1)) (map_of k.whole);
       told = subst (λ n. TellsRows limits bytes n (blocks_in (row_places limits (segments_of r.items) r.contents n) (map_of k.whole))) is t.told;
       framed = (k.row).framed ∙ ap mcu_row_frame framed;
+      range = given_in_range limits bytes w rows k;
       row = row_blocks limits r.items r.contents k.whole rows left m k.row framed (r.at).at last (λ i lt. head_names (frame_behind limits r.items) (head_in (frame_behind limits r.items) r.contents) i head ((r.at).at).all lt);
     }
 

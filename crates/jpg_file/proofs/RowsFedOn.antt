@@ -1,7 +1,5 @@
 -- A reader of MCU rows, from one piece to the next.
 use Rattle.std.proofs.Common.{◌≡◌, ◌⊎◌, ℕ, ◌+◌, ◌<◌, ◌≤◌, false, List, ◌++◌, length, true, refl, sym, ap, ◌∙◌, subst, arith, inl, inr, Some, None}
-use Rattle.jpg_spec.specs.Ranges.{AreInRange}
-use Rattle.jpg_spec.specs.Geometry.{bounds}
 use Rattle.jpg_spec.specs.Segments.{head_components}
 use Rattle.jpg_spec.specs.Markers.{Segment}
 use Rattle.jpg_spec.specs.InForce.{frame_of, head_in}
@@ -13,7 +11,6 @@ use Rattle.jpg_file.specs.declared.read.strip_head.StripHead.{StripHead}
 use Rattle.jpg_spec.specs.declared.frame.Limits.{Limits}
 use Rattle.jpg_spec.proofs.RowsHeader.{all_complete}
 use Rattle.jpg_spec.proofs.RowsOnce.{rows_stay}
-use Rattle.jpg_coefs.specs.Picture.{map_of}
 use Rattle.jpg_seq.proofs.ScanRows.{units_by_row}
 use Rattle.jpg_file.specs.Read.File.{with_picture}
 use Rattle.jpg_file.specs.Read.FirstHeader.{IsFirstHeaderOf}
@@ -123,8 +120,8 @@ module _ (r : ReaderState) (new : StripWork) (bytes piece : List ℕ) (m : ℕ) 
 
   -- A FURTHER ONE is complete
   pub fed_given_row : new.strip ≡ r.strip → unfinished (b.begun).rows ≡ unfinished rows + 1 → (k : RowIsWhole r.limits all new.file rows) → HasLastByte r.limits all
-      → length all ≤ r.limits.input → AreInRange (bounds (frame_of r.limits before)) (map_of rows.coefs) → HasGivenRow all (m + 1) (with_work r new)
-  fed_given_row strip fewer k last within range =
+      → length all ≤ r.limits.input → HasGivenRow all (m + 1) (with_work r new)
+  fed_given_row strip fewer k last within =
       let stands : StandsByRow r.limits all new.file rows = record { whole = k.whole; row = k.row; at = inl k.inside } in
       let f = row_fed r.limits all before contents new.file rows m begins k (omega (arith, b.count, fewer)) in
       record {
@@ -140,7 +137,7 @@ module _ (r : ReaderState) (new : StripWork) (bytes piece : List ℕ) (m : ℕ) 
         last = m;
         count = refl;
         framed = f.framed;
-        range = range;
+        range = f.range;
         row = f.row;
       }
 

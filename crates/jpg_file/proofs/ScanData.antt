@@ -19,9 +19,9 @@ use Rattle.jpg_spec.proofs.PlacesFound.{each_units}
 use Rattle.jpg_spec_write.specs.ScanText.{Owned, element_bits, interval_elements, intervals_text, is_dc, last_dc, scan_data, scan_elements, units_due}
 use Rattle.jpg_spec_write.proofs.PlacedBlocks.{block_due}
 use Rattle.jpg_spec_write.proofs.WrittenSequential.{among_below}
-use Rattle.jpg_prog_write.specs.Counted.{HasSlots}
+use Rattle.jpg_coefs.specs.MarkSinks.{HasSlots}
 use Rattle.jpg_file.proofs.SameUnits.{same_sizes, same_units}
-use Rattle.jpg_prog_write.proofs.Counting.{slots_of}
+use Rattle.jpg_coefs.proofs.MarkSinks.{slots_of}
 
 -- BY THE TABLES
 

@@ -1,5 +1,5 @@
 -- The header of a scan that is written, and which tables it needs.
-use Rattle.std.proofs.Common.{◌≡◌, ℕ, zero, suc, ◌<◌, ◌≤◌, Bool, true, false, cond, List, [], ◌∷◌, ◌++◌, length, get_or, refl, sym, ap, ◌∙◌, subst, arith, lit<, ◌==◌, ◌&&◌}
+use Rattle.std.proofs.Common.{◌≡◌, ℕ, ◌<◌, ◌≤◌, Bool, true, false, cond, List, [], ◌∷◌, ◌++◌, length, get_or, refl, sym, ap, ◌∙◌, subst, arith, lit<, ◌==◌, ◌&&◌}
 use Rattle.std.specs.Prelude.{flat_map, map, ◌||◌}
 use Rattle.std.specs.Int.{to_be_bytes, w16}
 use Rattle.std.specs.List.{All}
@@ -7,18 +7,19 @@ use Rattle.std.proofs.lemmas.List.{length-map}
 use Rattle.std.proofs.lemmas.List.Elements.{All-nil, All-cons, All-head, All-tail, All-append, All-map, All-weaker}
 use Rattle.jpg_spec.specs.Geometry.{Frame, is_progressive}
 use Rattle.jpg_spec.specs.Lists.{is_distinct}
-use Rattle.jpg_spec.specs.Scan.{Blocks, part_of}
+use Rattle.jpg_spec.specs.Scan.{Blocks}
 use Rattle.jpg_spec.specs.ScanContents.{are_parameters}
 use Rattle.jpg_spec.specs.Segments.{HuffmanTable, ScanHead, head_components, needs_dc, needs_ac}
 use Rattle.jpg_spec.specs.declared.frame.Colour.{Colour}
 use Rattle.jpg_spec.specs.declared.frame.ScanPart.{ScanPart}
 use Rattle.jpg_spec.proofs.Common.{same_itself, same_of}
+use Rattle.jpg_spec.proofs.Small.{are_bounds}
 use Rattle.jpg_spec_write.specs.FileText.{has_chroma, segment_text}
 use Rattle.jpg_spec_write.specs.Script.{Entry}
 use Rattle.jpg_huff.specs.declared.set.TableSet.{TableSet}
 use Rattle.jpg_base.specs.Cursor.{AreIn}
 use Rattle.jpg_seq.specs.NewReader.{HasTables, IsSeqScan}
-use Rattle.jpg_prog_write.specs.Counted.{HasSlots}
+use Rattle.jpg_coefs.specs.MarkSinks.{HasSlots}
 use Rattle.jpg_prog_write.specs.Written.{IsProgScan}
 use Rattle.jpg_file.specs.Write.Restarts.{interval_text}
 use Rattle.jpg_file.specs.Write.WriteTables.{GivesTables, IsTablePlace}
@@ -83,18 +84,23 @@ module _ (plan : Plan) (f : Frame) (blocks : Blocks) (e : Entry) (can : CanWrite
   pub in_file : AreIn plan.out.frame (head_components (head_for plan e))
   in_file = subst (AreIn plan.out.frame) (sym names) (record { some = can.seen.some; few = can.seen.few; there = can.there })
 
-  high_of : (head : ScanHead) → Says head → head.ah ≤ 13
-  high_of head says = by (head.ah == 0) refl
-    where
-      by : (b : Bool) → (head.ah == 0) ≡ b → head.ah ≤ 13
-      by true h = let z = same_of head.ah 0 h in omega (arith, z)
-      by false h = let one = says.later h in let al = says.al in omega (arith, one, al)
+  pub in_view : AreIn f (head_components (head_for plan e))
+  in_view = subst (AreIn f) (sym names) can.seen
 
-  bits_fit : (b : Bool) → is_progressive plan.out.frame.process ≡ b → ((head_for plan e).ah ≤ 13) × ((head_for plan e).al ≤ 13)
+  high_of : (head : ScanHead) → Says f head → head.al ≤ 13 → head.ah ≤ 14
+  high_of head says low = by (head.ah == 0) refl
+    where
+      by : (b : Bool) → (head.ah == 0) ≡ b → head.ah ≤ 14
+      by true h = let z = same_of head.ah 0 h in omega (arith, z)
+      by false h = let one = says.later h in omega (arith, one, low)
+
+  bits_fit : (b : Bool) → is_progressive plan.out.frame.process ≡ b → ((head_for plan e).ah ≤ 14) × ((head_for plan e).al ≤ 13)
   bits_fit true p =
       let says = says_of f (length e.components) (head_for plan e) (can.parameters (can.kind ∙ p)) in
       let al = says.al in
-      (high_of (head_for plan e) says, omega (arith, al))
+      let few = (are_bounds f.precision).al_few in
+      let low : (head_for plan e).al ≤ 13 = omega (arith, al, few) in
+      (high_of (head_for plan e) says low, low)
   bits_fit false s =
       let ah : (head_for plan e).ah ≡ 0 = ap (λ b. cond b e.ah 0) s in
       let al : (head_for plan e).al ≡ 0 = ap (λ b. cond b e.al 0) s in
@@ -117,7 +123,7 @@ module _ (plan : Plan) (f : Frame) (blocks : Blocks) (e : Entry) (can : CanWrite
   prog_scan p =
       record {
         progressive = p;
-        components = subst (AreIn f) (sym names) can.seen;
+        components = in_view;
         parameters = subst (λ n. are_parameters f n (head_for plan e) ≡ true) (sym count) (can.parameters p);
       }
 
@@ -125,7 +131,7 @@ module _ (plan : Plan) (f : Frame) (blocks : Blocks) (e : Entry) (can : CanWrite
   seq_scan set tables has s =
       record {
         sequential = s;
-        components = subst (AreIn f) (sym names) can.seen;
+        components = in_view;
         distinct = ap is_distinct names ∙ can.distinct;
         tables = All-weaker HasSlots (HasTables set) (λ p low. has_tables set tables p has low) (head_for plan e).parts (head_slots (is_progressive plan.out.frame.process) plan.out.colour e);
       }

@@ -10,7 +10,7 @@ use Rattle.jpg_spec_write.specs.FileText.{Written, interval_of, tables_given, ta
 use Rattle.jpg_spec_write.specs.ScanText.{scan_data, scan_elements, scan_tables}
 use Rattle.jpg_spec_write.specs.Script.{Entry}
 use Rattle.jpg_seq.specs.NewReader.{IsSeqScan}
-use Rattle.jpg_prog_write.specs.Counted.{HasSlots}
+use Rattle.jpg_coefs.specs.MarkSinks.{HasSlots}
 use Rattle.jpg_prog_write.specs.Written.{IsProgScan, tables_in}
 use Rattle.jpg_file.specs.Write.Restarts.{restart_of}
 use Rattle.jpg_file.specs.Write.WriteTables.{IsTablePlace}

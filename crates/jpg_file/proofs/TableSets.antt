@@ -1,5 +1,5 @@
 -- Sets that have the tables of a scan.
-use Rattle.std.proofs.Common.{◌≡◌, ℕ, zero, suc, ◌<◌, Bool, true, false, cond, not, ◌==◌, ◌&&◌, List, Option, Some, sym, ap, ◌∙◌, arith, lit<}
+use Rattle.std.proofs.Common.{◌≡◌, ℕ, zero, suc, ◌<◌, Bool, cond, not, ◌==◌, ◌&&◌, List, Option, Some, sym, ap, ◌∙◌, arith, lit<}
 use Rattle.std.specs.Prelude.{slice_set, unwrap_or}
 use Rattle.std.specs.Option.{option_map}
 use Rattle.jpg_spec.specs.FlatTable.{flat_table}
@@ -12,7 +12,7 @@ use Rattle.jpg_huff.specs.declared.set.TableSet.{TableSet}
 use Rattle.jpg_huff.specs.Sets.{dc_tables, ac_tables, in_slot, no_tables}
 use Rattle.jpg_huff.specs.Tables.{table_of}
 use Rattle.jpg_seq.specs.NewReader.{HasTables}
-use Rattle.jpg_prog_write.specs.Counted.{HasSlots}
+use Rattle.jpg_coefs.specs.MarkSinks.{HasSlots}
 use Rattle.jpg_prog_write.specs.Written.{no_codes, tables_in}
 use Rattle.jpg_file.specs.Write.WriteTables.{GivesTables, IsInSlot, class_tables}
 
@@ -51,18 +51,13 @@ has_tables set tables p has low =
     let ac = has 1 p.ac (lit< tt) low.ac in
     record { dc = dc.0; in_dc = dc.1; ac = ac.0; in_ac = ac.1 }
 
--- THE TABLES OF A FILE'S KIND
+-- THE TABLES OF A FILE'S KIND AND PRECISION
 
 abbrev pub tables_by : Bool → ScanHead → List (List Owned) → ℕ → ℕ → HuffmanTable
-tables_by is_prog head elements class slot = cond is_prog (flat_table (symbols_used head elements class slot)) (typical_table class slot)
+tables_by is_typical head elements class slot = cond is_typical (typical_table class slot) (flat_table (symbols_used head elements class slot))
 
-pub kind_given : (file : Frame) (head : ScanHead) (elements : List (List Owned)) (set : TableSet) (is_prog : Bool) → is_progressive file.process ≡ is_prog → file.precision ≡ 8 → GivesTables set (tables_by is_prog head elements)
-    → GivesTables set (scan_tables file head elements)
-kind_given file head elements set is_prog e eight has class slot hc hs = let at = has class slot hc hs in (at.0, at.1, at.2 ∙ by is_prog e)
-  where
-    of : Bool → ℕ → HuffmanTable
-    of b n = cond (not b && n == 8) (typical_table class slot) (flat_table (symbols_used head elements class slot))
-
-    by : (b : Bool) → is_progressive file.process ≡ b → tables_by b head elements class slot ≡ of (is_progressive file.process) file.precision
-    by true e = sym (ap (λ b. of b file.precision) e)
-    by false e = sym (ap (λ b. of b file.precision) e ∙ ap (of false) eight)
+pub kind_given : (file : Frame) (head : ScanHead) (elements : List (List Owned)) (set : TableSet) (is_typical : Bool) → (not (is_progressive file.process) && file.precision == 8) ≡ is_typical
+    → GivesTables set (tables_by is_typical head elements) → GivesTables set (scan_tables file head elements)
+kind_given file head elements set is_typical e has class slot hc hs =
+    let at = has class slot hc hs in
+    (at.0, at.1, at.2 ∙ ap (λ b. tables_by b head elements class slot) (sym e))

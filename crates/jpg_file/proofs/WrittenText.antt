@@ -1,18 +1,18 @@
 -- The text of a file that is written, scan by scan.
-use Rattle.std.proofs.Common.{◌≡◌, ℕ, ◌+◌, ◌*◌, ◌<◌, ◌≤◌, Bool, true, false, cond, List, [], ◌∷◌, ◌++◌, length, drop, Some, refl, sym, ap, ◌∙◌, subst, arith}
-use Rattle.std.specs.Prelude.{map, min, slice_get}
+use Rattle.std.proofs.Common.{◌≡◌, ℕ, ◌+◌, ◌*◌, ◌<◌, ◌≤◌, ◌==◌, ◌&&◌, Bool, true, false, cond, List, [], ◌∷◌, ◌++◌, length, drop, Some, refl, sym, ap, ◌∙◌, subst, arith}
+use Rattle.std.specs.Prelude.{map, min, nat_le, slice_get, ◌||◌}
 use Rattle.std.specs.List.{All}
 use Rattle.std.proofs.lemmas.List.{append_assoc}
 use Rattle.std.proofs.lemmas.List.Elements.{All-nil, All-cons, All-head, All-tail, All-get_or}
 use Rattle.std.proofs.lemmas.Option.{get_or_from_slice_get, slice_get_within}
 use Rattle.jpg_spec.specs.FrameHeader.{identifiers}
-use Rattle.jpg_spec.specs.Geometry.{Frame, is_progressive}
+use Rattle.jpg_spec.specs.Geometry.{Frame, bounds_of, is_progressive}
 use Rattle.jpg_spec.specs.Grids.{Grids, frame_grids}
 use Rattle.jpg_spec.specs.Lists.{is_distinct}
 use Rattle.jpg_spec.specs.Markers.{eoi}
 use Rattle.jpg_spec.specs.Meaning.{Meaning, PictureComponent, colour_of}
 use Rattle.jpg_spec.specs.Scan.{Blocks}
-use Rattle.jpg_spec.specs.ScanContents.{are_parameters}
+use Rattle.jpg_spec.specs.ScanContents.{are_parameters, is_band}
 use Rattle.jpg_spec.specs.Segments.{QuantTable, ScanHead, head_components}
 use Rattle.jpg_spec.specs.declared.frame.Component.{Component}
 use Rattle.jpg_spec.proofs.Common.{both, clash}
@@ -85,6 +85,10 @@ record IsAllowed (plan : Plan) (F : Frame) (e : Entry) : Type 0 where
   distinct : is_distinct e.components ≡ true
   parameters : is_progressive plan.out.frame.process ≡ true → are_parameters F (length e.components) (head_for plan e) ≡ true
 
+-- the parameters depend only on the precision
+same_parameters : (f F : Frame) (count : ℕ) (head : ScanHead) → f.precision ≡ F.precision → are_parameters f count head ≡ are_parameters F count head
+same_parameters f F count head e = ap (λ n. is_band count head && ((head.ah == 0 || head.ah == head.al + 1) && nat_le head.al (bounds_of n).al)) e
+
 module _ (plan : Plan) (kept : List (ℕ × List ℕ)) (f : Frame) (blocks : Blocks) (can : CanWriteFile plan kept f blocks) where
   abbrev H : Meaning
   H = file_meaning plan kept blocks
@@ -101,12 +105,11 @@ module _ (plan : Plan) (kept : List (ℕ × List ℕ)) (f : Frame) (blocks : Blo
       let Below : ℕ → Type 0 = λ n. All (λ i. i < n) e.components in
       let in_file : Below (length g.components) = subst Below (same_count F g grids) (each_all (λ i. i < length F.components) e.components is.known) in
       record {
-        precision = can.precision;
         kind = can.seen;
         seen = record { some = is.some; few = is.few; there = subst Below (sym (same_count f g can.grids)) in_file };
         there = in_file;
         distinct = is.distinct;
-        parameters = λ p. is.parameters (sym can.seen ∙ p);
+        parameters = λ p. same_parameters f F (length e.components) (head_for plan e) can.precision ∙ is.parameters (sym can.seen ∙ p);
         writable = can.writable;
       }
 

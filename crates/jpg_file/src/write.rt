@@ -32,10 +32,10 @@ pub struct Plan {
 /// Writes a complete file to the output that was created last: all up to the frame header as `file_head` does; for each
 /// entry of the script a DHT segment for each table that it needs and that isn't the last one of its class and slot, a
 /// DRI segment if its restart interval isn't the one before, the scan header, and the data of its scan; and EOI (T.81,
-/// B.2.1). In a sequential file slot 0 has K.3 and K.5, slot 1 K.4 and K.6, which components 2 and 3 of YCbCr and YCCK
-/// use; in a progressive one the slots have tables of codes of one length for what the scan writes. The blocks are
-/// those of the view, whose frame has the same grids. It takes no memory. After WriteFault a first part of the file is
-/// written.
+/// B.2.1). In a sequential file of precision 8 slot 0 has K.3 and K.5, slot 1 K.4 and K.6; in any other the slots have
+/// tables of codes of one length for what the scan writes. Components 2 and 3 of YCbCr and YCCK use slot 1. The blocks
+/// are those of the view, whose frame has the same precision and grids. It takes no memory. After WriteFault a first
+/// part of the file is written.
 pub fn write_file<V: BlockView, D: Desk>(
     plan: &Plan,
     kept: &KeptList,

@@ -10,6 +10,7 @@ pub mod InParts
 pub mod Levels
 pub mod LookedUp
 pub mod Made
+pub mod Marks
 pub mod OneAnswer
 pub mod Packed
 pub mod Putting

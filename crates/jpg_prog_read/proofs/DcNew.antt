@@ -4,7 +4,6 @@ use Rattle.std.specs.Prelude.{slice_index_or, nat_lt, Option, Some}
 use Rattle.std.specs.Option.{option_map}
 use Rattle.std.specs.List.{All}
 use Rattle.std.proofs.lemmas.Bool.{cases_eq, cases_lt}
-use Rattle.std.proofs.lemmas.Int.{ints}
 use Rattle.std.proofs.lemmas.List.{length-set, length-map, get_or-map}
 use Rattle.std.proofs.lemmas.List.Elements.{All-weaker}
 use Rattle.std.proofs.lemmas.Nat.{pow_pos}
@@ -35,6 +34,7 @@ use Rattle.jpg_prog_read.specs.DcStands.{IsDcCodingOf, IsDcRefinementOf}
 use Rattle.jpg_prog_read.specs.DcPlaces.{IsDcBand, IsSpot, IsNextInterval}
 use Rattle.jpg_prog_read.specs.DcFirstPass.{table_in, HasTable, ReadsBy, FirstReady}
 use Rattle.jpg_prog_read.specs.DcRefinement.{TakesOneBit, RefineReady}
+use Rattle.jpg_prog_read.proofs.Precisions.{fits_words}
 use Rattle.jpg_prog_read.proofs.Slots.{at_set, other_set, all_empty}
 use Rattle.jpg_prog_read.specs.DcLookedUp.{AreDcLookedUp}
 use Rattle.jpg_prog_read.specs.DcNew.{IsDcHead, HasPartTable, IsFirstHead, IsRefineHead, AreInSet, IsOfScan, dc_scan_of, part_at, AreDcTablesFilled}
@@ -96,7 +96,7 @@ part_found head j k d h e =
 -- WHAT THE MACHINES ARE BASED ON
 
 pub scan_sane : (f : Frame) (al : ℕ) → AreDcSane (dc_scan_of f al)
-scan_sane f al = record { low = omega (arith, ints); high = omega (arith, ints); some = pow_pos al; most = omega arith }
+scan_sane f al = let w = fits_words f.precision in record { low = w.low; high = w.high; some = pow_pos al; most = w.dc_cat }
 
 first_test : (f : Frame) (head : ScanHead) → head.ah ≡ 0 → (is_progressive f.process && nat_lt 0 head.ah) ≡ false
 first_test f head e = ap (λ (n : ℕ). is_progressive f.process && nat_lt 0 n) e ∙ none (is_progressive f.process)

@@ -18,6 +18,7 @@ pub mod Marked
 pub mod Multiples
 pub mod NewAcReaders
 pub mod Passing
+pub mod Precisions
 pub mod Reading
 pub mod Slots
 pub mod BandSteps

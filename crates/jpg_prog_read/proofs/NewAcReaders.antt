@@ -29,16 +29,17 @@ use Rattle.jpg_prog_read.specs.declared.scan.BandScan.{BandScan}
 use Rattle.jpg_prog_read.specs.ReaderSteps.{IsSaneBand}
 use Rattle.jpg_prog_read.specs.Stands.{IsCodingOf}
 use Rattle.jpg_prog_read.specs.AcStands.{IsReadable, AcReady}
+use Rattle.jpg_prog_read.proofs.Precisions.{fits_words}
 use Rattle.jpg_prog_read.specs.NewAcReader.{IsAcScan, AreAcTables, IsOfAcScan, IsBandOf}
 
 -- the conditions on the parameters of the header of a scan that isn't a DC scan
-pub record IsAcBand (head : ScanHead) : Type 0 where
+pub record IsAcBand (f : Frame) (head : ScanHead) : Type 0 where
   pub one : length head.parts ≡ 1
   pub rise : head.ss ≤ head.se
   pub most : head.se ≤ 63
-  pub low : head.al ≤ 10
+  pub low : head.al ≤ (bounds f).al
 
-pub ac_band : (f : Frame) (head : ScanHead) (set : TableSet) → IsAcScan f head set → IsAcBand head
+pub ac_band : (f : Frame) (head : ScanHead) (set : TableSet) → IsAcScan f head set → IsAcBand f head
 ac_band f head set is =
     let n = length head.parts in
     let p = both (is_band n head) (are_bits f head) is.parameters in
@@ -47,23 +48,23 @@ ac_band f head set is =
     let q = both (n == 1) (nat_le head.ss head.se && nat_le head.se 63) band in
     let r = both (nat_le head.ss head.se) (nat_le head.se 63) q.1 in
     let s = both (head.ah == 0 || head.ah == head.al + 1) (nat_le head.al (bounds f).al) p.1 in
-    record { one = same_of n 1 q.0; rise = le_of head.ss head.se r.0; most = le_of head.se 63 r.1; low = le_of head.al 10 s.1 }
+    record { one = same_of n 1 q.0; rise = le_of head.ss head.se r.0; most = le_of head.se 63 r.1; low = le_of head.al (bounds f).al s.1 }
 
 pub one_part : (parts : List ScanPart) (d : ScanPart) → length parts ≡ 1 → parts ≡ slice_index_or parts 0 d ∷ []
 one_part (p ∷ []) d e = refl
 one_part parts d e = absurd (omega (arith, e))
 
-few : (b : Bool) → cond b 1 10 ≤ 15
-few true = omega arith
-few false = omega arith
+few : (b : Bool) (f : Frame) → cond b 1 (bounds f).ac_cat ≤ 15
+few true f = omega arith
+few false f = let h = (fits_words f.precision).ac_cat in omega (arith, h)
 
-band_sane : (f : Frame) (head : ScanHead) (b : BandScan) → 1 ≤ head.ss → IsAcBand head → IsBandOf f head b → IsSaneBand b
+band_sane : (f : Frame) (head : ScanHead) (b : BandScan) → 1 ≤ head.ss → IsAcBand f head → IsBandOf f head b → IsSaneBand b
 band_sane f head b some is of = record {
   some = omega (arith, of.start, some);
   begun = omega (arith, of.start, of.end, is.rise);
   inside = omega (arith, of.end, is.most);
-  most = subst (λ n. n ≤ 15) (sym of.categories) (few (nat_lt 0 head.ah));
-  magnitude = omega (arith, ap nat_abs of.magnitude);
+  most = subst (λ n. n ≤ 15) (sym of.categories) (few (nat_lt 0 head.ah) f);
+  magnitude = (let h = (fits_words f.precision).magnitude in omega (arith, h, ap nat_abs of.magnitude));
 }
 
 part_found : (head : ScanHead) (p : ScanPart) → head.parts ≡ p ∷ [] → part_of head p.component ≡ p

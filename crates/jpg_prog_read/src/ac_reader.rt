@@ -1,5 +1,6 @@
 //! The machine that reads a progressive AC scan, first pass or refinement (T.81, G.1.2.2, G.1.2.3).
 ghost use Rattle.std.specs.Prelude.{◌≡◌, ◌≤◌, ◌+◌, false, [], Bool, List, Some, Ok, length};
+ghost use Rattle.jpg_spec.specs.Geometry.{bounds};
 ghost use Rattle.jpg_huff.specs.declared.table.Table.{Table};
 ghost use Rattle.jpg_huff.specs.Sets.{ac_tables, in_slot};
 ghost use Rattle.jpg_huff.specs.Tables.{symbol_codes};
@@ -32,7 +33,7 @@ pub struct AcReader {
 // The band of a header.
 fn band_of(frame: &Frame, head: &ScanHead) -> BandScan
     requires end { head.now.se ≤ 63 }
-    requires scale { head.now.al ≤ 10 }
+    requires scale { head.now.al ≤ (bounds frame.now).al }
     ensures { IsBandOf frame.now head.now result }
 {
     let bounds = frame.bounds();

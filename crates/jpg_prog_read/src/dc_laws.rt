@@ -17,5 +17,5 @@ pub fn dc_machines_keep_units()
 
 /// A DC value within the frame's bounds that is known down to bit al + 1 has room for bit al (T.81, G.1.1.1.1).
 pub fn known_dc_values_have_room()
-    ensures { (f : Frame) (c : Coding) (o : ℤ) → c.bounds ≡ bounds f → c.al + 1 ≤ 10 → IsKnownDc c o → HasDcRoom c o }
+    ensures { (f : Frame) (c : Coding) (o : ℤ) → c.bounds ≡ bounds f → c.al + 1 ≤ (bounds f).al → IsKnownDc c o → HasDcRoom c o }
 {}

@@ -1,6 +1,6 @@
 //! What both passes over the DC values do (T.81, G.1.2.1).
 ghost use Rattle.std.specs.Prelude.{◌≡◌, ◌≤◌, length};
-ghost use Rattle.jpg_spec.specs.Geometry.{padded_blocks};
+ghost use Rattle.jpg_spec.specs.Geometry.{bounds, padded_blocks};
 ghost use Rattle.jpg_base.specs.Cursor.{IsPadded};
 ghost use Rattle.jpg_coefs.specs.Picture.{block_in};
 ghost use Rattle.jpg_prog_read.specs.DcNew.{dc_scan_of};
@@ -13,7 +13,7 @@ use jpg_coefs::Coefs;
 
 /// The parameters of a DC scan of the frame, whose values are multiples of `2 ^ al`.
 pub fn dc_scan(frame: &Frame, al: u8) -> DcScan
-    requires { al ≤ 10 }
+    requires { al ≤ (bounds frame.now).al }
     ensures { result ≡ dc_scan_of frame.now al }
 {
     let bounds = frame.bounds();

@@ -21,6 +21,8 @@ use Rattle.jpg_spec.specs.declared.frame.Bounds.{Bounds}
 use Rattle.jpg_spec.specs.declared.frame.ScanPart.{ScanPart}
 use Rattle.jpg_spec.proofs.Common.{both, le_of, same_of, lt_yes, not_same, from_test}
 use Rattle.jpg_spec.proofs.Each.{Each, each_join}
+use Rattle.jpg_spec.proofs.Precisions.{of_bounds}
+use Rattle.jpg_spec.proofs.Small.{are_bounds}
 use Rattle.jpg_huff.specs.declared.set.TableSet.{TableSet}
 use Rattle.jpg_base.specs.Desk.{DeskState}
 use Rattle.jpg_base.specs.declared.stop.WriteFault.{WriteFault}
@@ -38,10 +40,13 @@ use Rattle.jpg_prog_write.specs.declared.bands.Bands.{Bands}
 
 -- THE HEADER of an AC scan
 
-few_bits : (f : Frame) (head : ScanHead) → are_bits f head ≡ true → head.al ≤ 10
-few_bits f head e = le_of head.al 10 (both (head.ah == 0 || head.ah == head.al + 1) (nat_le head.al 10) e).1
+few_bits : (f : Frame) (head : ScanHead) → are_bits f head ≡ true → head.al ≤ 13
+few_bits f head e =
+    let low = le_of head.al (bounds f).al (both (head.ah == 0 || head.ah == head.al + 1) (nat_le head.al (bounds f).al) e).1 in
+    let few = (are_bounds f.precision).al_few in
+    omega (arith, low, few)
 
-pub bits_of_head : (f : Frame) (head : ScanHead) → IsProgScan f head → head.al ≤ 10
+pub bits_of_head : (f : Frame) (head : ScanHead) → IsProgScan f head → head.al ≤ 13
 bits_of_head f head is = few_bits f head (both (is_band (length head.parts) head) (are_bits f head) is.parameters).1
 
 pub ac_head : (f : Frame) (head : ScanHead) → IsProgScan f head → 1 ≤ head.ss → IsAcHead head
@@ -180,23 +185,25 @@ module _ (s0 s1 : DeskState) (o0 o1 : Waiting) (codes : List Code) where
 
 -- BLOCKS
 
-small_at : (r : Bounds) → r.ac ≡ pos 1023 → (values : List ℤ) (k : ℕ) → are_in_bounds r false values ≡ true → nat_abs (slice_index_or values k (pos 0)) < 2 ^ 14
+small_at : (r : Bounds) → r.ac ≤ℤ pos 16383 → (values : List ℤ) (k : ℕ) → are_in_bounds r false values ≡ true → nat_abs (slice_index_or values k (pos 0)) < 2 ^ 14
 small_at r b [] k ok = lit< tt
 small_at r b (v ∷ values) k ok =
     let h = both (int_le (pos (nat_abs v)) r.ac) (are_in_bounds r false values) ok in
-    by k (from_test (pos (nat_abs v)) (pos 1023) (subst (λ w. int_le (pos (nat_abs v)) w ≡ true) b h.0)) (λ n. small_at r b values n h.1)
+    by k (from_test (pos (nat_abs v)) r.ac h.0) (λ n. small_at r b values n h.1)
   where
-    by : (k : ℕ) → pos (nat_abs v) ≤ℤ pos 1023 → ((n : ℕ) → nat_abs (slice_index_or values n (pos 0)) < 2 ^ 14) → nat_abs (slice_index_or (v ∷ values) k (pos 0)) < 2 ^ 14
-    by zero few ih = omega (arith, ints, few)
+    by : (k : ℕ) → pos (nat_abs v) ≤ℤ r.ac → ((n : ℕ) → nat_abs (slice_index_or values n (pos 0)) < 2 ^ 14) → nat_abs (slice_index_or (v ∷ values) k (pos 0)) < 2 ^ 14
+    by zero few ih = omega (arith, ints, few, b)
     by (suc n) few ih = ih n
 
-block_small : (r : Bounds) → r.ac ≡ pos 1023 → (block : List ℤ) → are_in_bounds r true block ≡ true → (k : ℕ) → 1 ≤ k → nat_abs (slice_index_or block k (pos 0)) < 2 ^ 14
+block_small : (r : Bounds) → r.ac ≤ℤ pos 16383 → (block : List ℤ) → are_in_bounds r true block ≡ true → (k : ℕ) → 1 ≤ k → nat_abs (slice_index_or block k (pos 0)) < 2 ^ 14
 block_small r b [] ok k h = lit< tt
 block_small r b (v ∷ values) ok zero h = absurd (omega (arith, h))
 block_small r b (v ∷ values) ok (suc k) h = small_at r b values k (both (int_le r.dc_low v && int_le v r.dc_high) (are_in_bounds r false values) ok).1
 
 block_short : (f : Frame) (block : List ℤ) → IsBlockIn (bounds f) block → IsShort block
-block_short f block is = record { long = is.0; short = λ k one few. block_small (bounds f) refl block is.1 k one }
+block_short f block is =
+    let most : (bounds f).ac ≤ℤ pos 16383 = of_bounds (λ b. b.ac ≤ℤ pos 16383) (omega (arith, ints)) (omega (arith, ints)) f.precision in
+    record { long = is.0; short = λ k one few. block_small (bounds f) most block is.1 k one }
 
 padded_short : (last : ℤ) → IsShort (last ∷ zeros 63)
 padded_short last = record { long = refl; short = at }

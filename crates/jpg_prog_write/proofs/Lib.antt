@@ -6,7 +6,6 @@ pub mod EndsItems
 pub mod Fronts
 pub mod KeptValues
 pub mod Marks
-pub mod SymbolsUsed
 pub mod Texts
 pub mod Values
 pub mod Zeros

@@ -42,7 +42,7 @@ value_whole run bits (negsuc m) later item n is = record { element = value run (
 
 -- ITS CATEGORY
 
-pub short_divided : (al : ℕ) (v : ℤ) → al ≤ 10 → nat_abs v < 2 ^ 14 → category (divided al v) ≤ 14
+pub short_divided : (al : ℕ) (v : ℤ) → al ≤ 13 → nat_abs v < 2 ^ 14 → category (divided al v) ≤ 14
 short_divided al v l small =
     let e : nat_abs (divided al v) ≡ nat_abs v / 2 ^ al = ap nat_abs (divided_is al v) ∙ abs_signed _ (nat_abs v / 2 ^ al) in
     few_digits 14 (nat_abs (divided al v)) (omega (arith, e, small, (shifts_less al l (nat_abs v)).0))

@@ -41,12 +41,12 @@ ends_new (s ∷ t ∷ band) = ends_new (t ∷ band)
 unfoldable pub sents : Band → ℕ → ℕ → List ℤ → List Sent
 sents band from end block = map (sent band.refines band.al) (take (end - from) (drop from block))
 
--- a band of AC, down to a bit
+-- a band of AC, down to a bit: 13 at most, with 12 bits per sample
 pub record IsBand (band : Band) : Type 0 where
   pub some : 1 ≤ band.start
   pub order : band.start < band.end
   pub most : band.end ≤ 64
-  pub bits : band.al ≤ 10
+  pub bits : band.al ≤ 13
 
 abbrev pub band_sents : Band → List ℤ → List Sent
 band_sents band block = sents band band.start band.end block

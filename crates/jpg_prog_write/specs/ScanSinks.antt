@@ -1,16 +1,16 @@
 -- WHAT THE STATES OF SINKS MEAN: of a scan's DC values and of its bands, written and counted.
-use Rattle.std.specs.Prelude.{◌≡◌, ℕ, ◌≤◌, ◌<◌, true, false, nat_lt, List, length, ◌++◌, map, flat_map, All, ℤ, Ok}
+use Rattle.std.specs.Prelude.{◌≡◌, ℕ, ◌≤◌, ◌<◌, true, false, nat_lt, List, length, map, flat_map, ℤ}
 use Rattle.jpg_spec.specs.Elements.{Element}
 use Rattle.jpg_spec.specs.Segments.{ScanHead}
 use Rattle.jpg_spec.specs.Scan.{part_of}
 use Rattle.jpg_spec_write.specs.Sending.{shifted, band_elements}
 use Rattle.jpg_spec_write.specs.ScanText.{UnitDue, Owned, unit_elements, element_bits}
-use Rattle.jpg_coefs.specs.Sinks.{At, Due, SinkKind}
 use Rattle.jpg_coefs.specs.BitSinks.{BitSink, interval_bits}
+use Rattle.jpg_coefs.specs.MarkSinks.{MarkSink, owned_marks, interval_marks}
 use Rattle.jpg_prog_write.specs.Bands.{IsReady, IsShort, IsBandOf, band_sents}
 use Rattle.jpg_prog_write.specs.Items.{texts}
 use Rattle.jpg_prog_write.specs.Written.{tables_in, codes_in, first_slot}
-use Rattle.jpg_prog_write.specs.Counted.{Rows, Mark, NotesBut, Notes, marks_of, owned_marks, interval_marks}
+use Rattle.jpg_prog_write.specs.Counted.{marks_of}
 use Rattle.jpg_prog_write.specs.declared.bands.Bands.{Bands}
 use Rattle.jpg_prog_write.specs.declared.dc.DcUnits.{DcUnits}
 use Rattle.jpg_prog_write.specs.declared.ac.AcUnits.{AcUnits}
@@ -21,7 +21,7 @@ use Rattle.jpg_prog_write.specs.declared.count.AcCounter.{AcCounter}
 
 pub record IsDcHead (head : ScanHead) : Type 0 where
   pub dc : head.ss ≡ 0
-  pub bits : head.al ≤ 10
+  pub bits : head.al ≤ 13
 
 -- the results of the elements of units after these DC values
 abbrev pub dc_all : {X : Type 0} → (Owned → List X) → ScanHead → (ℕ → ℤ) → List UnitDue → List X
@@ -42,7 +42,7 @@ pub record IsAcHead (head : ScanHead) : Type 0 where
   pub some : 1 ≤ head.ss
   pub order : head.ss ≤ head.se
   pub most : head.se ≤ 63
-  pub bits : head.al ≤ 10
+  pub bits : head.al ≤ 13
 
 -- a unit of the scan's component, with values whose symbols are bytes
 pub record IsBandUnit (head : ScanHead) (u : UnitDue) : Type 0 where
@@ -68,29 +68,9 @@ ac_units = record {
 
 -- COUNTERS
 
--- A sink whose results are marks: as a sink of bits.
-pub record MarkSink (S : Type 0) : Type 1 where
-  pub marks : S → List UnitDue → List Mark
-  pub fits : S → UnitDue → Type 0
-  pub rest : S → (ℕ → ℤ) → List UnitDue → List Mark
-  pub later : S → S → Type 0
-
-pub record CountsDue {S D : Type 0} (b : MarkSink S) (d : Due S Rows D) (now : At S Rows D) : Type 0 where
-  pub sink : b.later d.from.sink now.sink
-  pub rest_fits : All (b.fits d.from.sink) d.rest
-  pub later_fits : All (λ due. All (b.fits d.from.sink) due) d.later
-  pub counting : NotesBut d.from.out (flat_map (b.marks d.from.sink) d.all) (b.rest now.sink d.last d.rest ++ flat_map (b.marks d.from.sink) d.later) now.out
-
--- counting has no faults
-abbrev pub mark_kind : {S D : Type 0} → MarkSink S → SinkKind S Rows D
-mark_kind b = record {
-  due = λ d now. CountsDue b d now;
-  ended = λ from all result out desk. (result ≡ Ok tt) × Notes from.out (flat_map (b.marks from.sink) all) out;
-}
-
 abbrev pub dc_counter : MarkSink DcCounter
 dc_counter = record {
-  marks = λ s. interval_marks s.head.now;
+  marks = λ s. interval_marks true s.head.now;
   fits = λ s u. (part_of s.head.now u.0).dc < 2;
   rest = λ s. dc_all (owned_marks s.head.now) s.head.now;
   later = λ from now. (now ≡ from) × IsDcHead now.head.now × (now.head.now.ah ≡ 0);
@@ -98,7 +78,7 @@ dc_counter = record {
 
 abbrev pub ac_counter : MarkSink AcCounter
 ac_counter = record {
-  marks = λ s. interval_marks s.head.now;
+  marks = λ s. interval_marks true s.head.now;
   fits = λ s u. IsBandUnit s.head.now u;
   rest = λ s last due. marks_of s.slot (bands_left s.bands due);
   later = λ from now. (now.head ≡ from.head) × AreBandsOf now.head.now now.bands × (now.slot ≡ first_slot now.head.now) × (now.slot < 2);

@@ -29,7 +29,7 @@ pub(crate) enum Sending {
 impl Band {
     #[inline(always)]
     pub(crate) fn sent(self, value: i16) -> Sending
-        requires { self.al ≤ 10 }
+        requires { self.al ≤ 13 }
         ensures { sent_by result ≡ sent_of self.refines self.al value }
     {
         let sent = divided(value, self.al);
@@ -42,7 +42,7 @@ impl Band {
 
     #[inline(always)]
     pub(crate) fn is_newly_significant(self, value: i16) -> bool
-        requires { self.al ≤ 10 }
+        requires { self.al ≤ 13 }
         ensures { result ≡ is_new (sent_of self.refines self.al value) }
     {
         match self.sent(value) {
@@ -55,7 +55,7 @@ impl Band {
     #[inline(always)]
     #[inline(always)]
     pub(crate) fn kept(self, block: &Block) -> Block
-        requires { self.al ≤ 10 }
+        requires { self.al ≤ 13 }
         ensures short { IsShort block.now → IsShort result }
         ensures sent { band_sents self result ≡ band_sents self block.now }
     {

@@ -52,7 +52,7 @@ fn put_unit<D: Desk>(
     desk: &mut D,
 ) -> Result<(), WriteFault>
     requires created { (D.state desk.old).output_created ≡ true }
-    requires bits { head.now.al ≤ 10 }
+    requires bits { head.now.al ≤ 13 }
     ensures { Puts (D.state desk.old) out.old (element_bits (tables_in tables.now) head.now (dc_unit head.now component last value)) result out.new (D.state desk.new) }
 {
     let value = shifted(value, head.al);

@@ -11,5 +11,6 @@ mod numbers;
 mod put;
 mod write;
 
-pub use count::{Used, count_scan};
+pub use count::count_scan;
+pub use jpg_huff::Used;
 pub use write::write_scan;

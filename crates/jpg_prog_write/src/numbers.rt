@@ -6,7 +6,7 @@ ghost use Rattle.jpg_prog_write.specs.Bands.{kept_of};
 // A DC value shifted right by `al` bits.
 #[inline(always)]
 pub(crate) fn shifted(value: i16, al: u8) -> i16
-    requires { al ≤ 10 }
+    requires { al ≤ 13 }
     ensures { result ≡ shifted al value }
 {
     value >> al
@@ -15,7 +15,7 @@ pub(crate) fn shifted(value: i16, al: u8) -> i16
 // An AC value divided by `2 ^ al`, towards 0.
 #[inline(always)]
 pub(crate) fn divided(value: i16, al: u8) -> i32
-    requires { al ≤ 10 }
+    requires { al ≤ 13 }
     ensures { result ≡ divided al value }
 {
     let magnitude = i32::from(value.unsigned_abs() >> al);
@@ -25,7 +25,7 @@ pub(crate) fn divided(value: i16, al: u8) -> i32
 // The value, or 0 if its magnitude is 0 without its low bits.
 #[inline(always)]
 pub(crate) fn kept_value(value: i16, al: u8) -> i16
-    requires { al ≤ 10 }
+    requires { al ≤ 13 }
     ensures { result ≡ kept_of al value }
 {
     if value.unsigned_abs() >> al == 0 {

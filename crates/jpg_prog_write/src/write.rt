@@ -14,7 +14,7 @@ use jpg_huff::{BitOut, TableSet};
 /// a first pass or refined, by these tables, with a restart marker after each `interval` MCUs (0: none), each interval
 /// padded with ones. A padding block has the DC value of the block before it of its component, and no AC values. The
 /// header names one to four components of the frame, with a band and bits that are allowed; a symbol without a code is
-/// written as no bits; all values are in the range of precision 8; an output is created, and no bits wait, neither
+/// written as no bits; all values are in the frame's bounds; an output is created, and no bits wait, neither
 /// before nor afterwards. After a fault a first part of the data is written. It takes no memory.
 pub fn write_scan<V: BlockView, D: Desk>(
     view: &V,

@@ -6,6 +6,7 @@ use Rattle.std.proofs.lemmas.List.{length-map}
 use Rattle.std.proofs.lemmas.List.Elements.{All-nil, All-cons}
 use Rattle.jpg_spec.specs.Lists.{any_of, all_of, is_empty}
 use Rattle.jpg_spec.specs.Geometry.{Frame}
+use Rattle.jpg_spec.specs.FrameHeader.{is_precision}
 use Rattle.jpg_spec.specs.Segments.{ScanHead, head_components}
 use Rattle.jpg_spec.specs.ScanContents.{are_parameters}
 use Rattle.jpg_spec.specs.InForce.{first_some}
@@ -14,12 +15,14 @@ use Rattle.jpg_spec_write.specs.Script.{Entry}
 use Rattle.jpg_spec_write.specs.ScriptFaults.{ascend, entry_head, has_wrong_component, has_large_mcu, is_whole_scan, is_due_scan, entry_fault, fault_after}
 use Rattle.jpg_spec.specs.declared.fault.Fault.{Fault}
 use Rattle.jpg_spec.specs.declared.fault.Fault.TheVariants.{RepeatedScan, Progression}
+use Rattle.jpg_spec.specs.declared.frame.Process.{Process}
+use Rattle.jpg_spec.specs.declared.frame.Process.TheVariants.{Baseline, Extended, Progressive}
 use Rattle.jpg_spec.specs.declared.frame.ScanPart.{ScanPart}
 use Rattle.jpg_spec_write.specs.declared.picture_fault.PictureFault.{PictureFault}
 use Rattle.jpg_spec_write.specs.declared.picture_fault.PictureFault.TheVariants.{ScriptComponent, ScriptMcu, ScriptBand}
 use Rattle.jpg_spec.proofs.Common.{both, neither, lt_of}
 use Rattle.jpg_scans.specs.declared.progress.Progress.{Progress}
-use Rattle.jpg_scans.specs.Judged.{script_frame, has_numbers, IsEntryTaken}
+use Rattle.jpg_scans.specs.Judged.{script_process, script_frame, has_numbers, IsEntryTaken}
 use Rattle.jpg_scans.specs.Progress.{StandsForScans}
 
 -- COMPONENTS of an entry
@@ -51,6 +54,18 @@ known_components f e h =
 pub components_low : (f : Frame) (e : Entry) (head : ScanHead) → head ≡ entry_head e → length f.components ≤ 4 → has_wrong_component f e ≡ false → All (λ (p : ScanPart). p.component < 4) head.parts
 components_low f e head same l h =
     subst (λ (g : ScanHead). All (λ (p : ScanPart). p.component < 4) g.parts) (sym same) (low (length f.components) e.components l (known_components f e h))
+
+-- A PROCESS of the script's kind
+
+either_precision : (process : Process) (precision : ℕ) → is_precision process precision ≡ true → (precision == 8 || precision == 12) ≡ true
+either_precision Baseline precision e = ap (λ b. b || precision == 12) e
+either_precision Extended precision e = e
+either_precision Progressive precision e = e
+
+-- allows all precisions
+pub script_precision : (is_prog : Bool) (process : Process) (precision : ℕ) → is_precision process precision ≡ true → is_precision (script_process is_prog) precision ≡ true
+script_precision true process precision e = either_precision process precision e
+script_precision false process precision e = either_precision process precision e
 
 -- ITS BAND AND ITS PLACE in the history
 

@@ -6,7 +6,7 @@ use Rattle.jpg_spec.specs.ScanContents.{are_parameters}
 use Rattle.jpg_spec_write.specs.Script.{Entry}
 use Rattle.jpg_spec_write.specs.ScriptFaults.{entry_head, entry_fault}
 use Rattle.jpg_spec.specs.declared.frame.Process.{Process}
-use Rattle.jpg_spec.specs.declared.frame.Process.TheVariants.{Baseline, Progressive}
+use Rattle.jpg_spec.specs.declared.frame.Process.TheVariants.{Extended, Progressive}
 use Rattle.jpg_spec_write.specs.declared.picture_fault.PictureFault.{PictureFault}
 use Rattle.jpg_scans.specs.Progress.{StandsForScans}
 use Rattle.jpg_scans.specs.declared.progress.Progress.{Progress}
@@ -16,9 +16,9 @@ abbrev pub judged : Option PictureFault → Result (Unit {0}) PictureFault
 judged None = Ok tt
 judged (Some fault) = Err fault
 
--- the process of a frame of the script's kind
+-- a process of the script's kind that allows all precisions
 abbrev pub script_process : Bool → Process
-script_process is_prog = if is_prog then Progressive else Baseline
+script_process is_prog = if is_prog then Progressive else Extended
 
 -- the frame of the script's kind
 abbrev pub script_frame : Bool → Frame → Frame

@@ -16,6 +16,7 @@ pub fn fault_of(entries: &[Entry], is_progressive: bool, frame: &Frame) -> Optio
     requires { length entries.now ≤ 100 }
     ensures { result ≡ fault_after is_progressive frame.now [] 0 entries.now }
 {
+    frame.checked();
     let mut history = Progress::new(&frame.with_process(process_due(is_progressive)));
     let mut number = 0;
     for entry in entries {
@@ -28,13 +29,14 @@ pub fn fault_of(entries: &[Entry], is_progressive: bool, frame: &Frame) -> Optio
     history.first_unknown()
 }
 
+// A process of the script's kind that allows all precisions.
 fn process_due(is_progressive: bool) -> Process
     ensures { result ≡ script_process is_progressive }
 {
     if is_progressive {
         Process::Progressive
     } else {
-        Process::Baseline
+        Process::Extended
     }
 }
 

@@ -4,7 +4,6 @@ use Rattle.std.specs.Prelude.{map, flat_map, replicate, if◌then◌else◌}
 use Rattle.std.proofs.lemmas.Bool.{cases_eq}
 use Rattle.std.proofs.lemmas.Bool.Decides.{nat_tests}
 use Rattle.std.proofs.lemmas.List.{append_assoc, append-nil}
-use Rattle.std.proofs.lemmas.List.Concat.{flat_map-append}
 use Rattle.jpg_spec.specs.Bits.{bits_of}
 use Rattle.jpg_spec.specs.Codes.{Code}
 use Rattle.jpg_spec.specs.Lists.{any_of, is_empty}
@@ -13,7 +12,7 @@ use Rattle.jpg_spec.specs.Elements.{Element, value, long_run, ends, is_zero}
 use Rattle.jpg_spec_write.specs.Sending.{Sent, newly_significant, sent, is_new, up_to_last, after_last, corrections_of, value_elements, band_elements}
 use Rattle.jpg_spec.specs.Codes.{code_of}
 use Rattle.jpg_spec_write.proofs.Shifts.{divided_none}
-use Rattle.jpg_seq.specs.BlockBits.{spelled, run_bits, band_bits}
+use Rattle.jpg_seq.specs.BlockBits.{spelled, run_elements, run_bits, band_bits}
 
 -- zeros are left
 abbrev pub end_elements : ℕ → List Element
@@ -166,6 +165,34 @@ band_plain values =
     ∙ halves_are (up_to_last (map newly_significant values)) (after_last (map newly_significant values)) (none_behind values)
     ∙ (all_plain values).1
 
+value_plain : (v : ℤ) (values : List ℤ) (run : ℕ) → v ≢ pos 0 → plain_elements (v ∷ values) run ≡ replicate (run / 16) (long_run []) ++ value (run % 16) v [] ∷ plain_elements values 0
+value_plain (pos zero) values run n = absurd (n refl)
+value_plain (pos (suc m)) values run n = refl
+value_plain (negsuc m) values run n = refl
+
+-- a value that isn't 0
+pub plain_value : (v : ℤ) (values : List ℤ) (run : ℕ) → v ≢ pos 0 → plain_elements (v ∷ values) run ≡ run_elements run v ++ plain_elements values 0
+plain_value v values run n = value_plain v values run n ∙ sym (append_assoc (replicate (run / 16) (long_run [])) (value (run % 16) v [] ∷ []) (plain_elements values 0))
+
+-- results of elements that are the same for all elements of a band
+runs_same : {X : Type 0} (f g : Element → List X) → f (long_run []) ≡ g (long_run []) → (n : ℕ) (es : List Element) → flat_map f es ≡ flat_map g es → flat_map f (replicate n (long_run []) ++ es) ≡ flat_map g (replicate n (long_run []) ++ es)
+runs_same f g long zero es e = e
+runs_same f g long (suc n) es e = ap (λ t. t ++ flat_map f (replicate n (long_run []) ++ es)) long ∙ ap (λ t. g (long_run []) ++ t) (runs_same f g long n es e)
+
+pub plain_same : {X : Type 0} (f g : Element → List X) → ((r : ℕ) (v : ℤ) → f (value r v []) ≡ g (value r v [])) → f (long_run []) ≡ g (long_run []) → f (ends 1 []) ≡ g (ends 1 [])
+    → (values : List ℤ) (run : ℕ) → flat_map f (plain_elements values run) ≡ flat_map g (plain_elements values run)
+plain_same f g one long end [] zero = refl
+plain_same f g one long end [] (suc run) = ap (λ t. t ++ []) end
+plain_same f g one long end (v ∷ values) run = by (is_zero v) (plain_same f g one long end values (run + 1)) (plain_same f g one long end values 0)
+  where
+    by : (b : Bool) → flat_map f (plain_elements values (run + 1)) ≡ flat_map g (plain_elements values (run + 1)) → flat_map f (plain_elements values 0) ≡ flat_map g (plain_elements values 0)
+        → flat_map f (cond b (plain_elements values (run + 1)) (replicate (run / 16) (long_run []) ++ value (run % 16) v [] ∷ plain_elements values 0))
+        ≡ flat_map g (cond b (plain_elements values (run + 1)) (replicate (run / 16) (long_run []) ++ value (run % 16) v [] ∷ plain_elements values 0))
+    by true e h = e
+    by false e h =
+        runs_same f g long (run / 16) (value (run % 16) v [] ∷ plain_elements values 0)
+        (ap (λ t. t ++ flat_map f (plain_elements values 0)) (one (run % 16) v) ∙ ap (λ t. g (value (run % 16) v []) ++ t) h)
+
 -- ITS BITS
 
 -- those of these values, where a run of zeros waits
@@ -175,22 +202,6 @@ left_bits codes values run = flat_map (spelled codes) (plain_elements values run
 pub left_all : (codes : List Code) (values : List ℤ) → left_bits codes values 0 ≡ band_bits codes values
 unfolding left_bits band_bits
 left_all codes values = ap (flat_map (spelled codes)) (sym (band_plain values))
-
-pub left_zero : (codes : List Code) (values : List ℤ) (run : ℕ) → left_bits codes (pos 0 ∷ values) run ≡ left_bits codes values (run + 1)
-unfolding left_bits
-left_zero codes values run = refl
-
-value_plain : (v : ℤ) (values : List ℤ) (run : ℕ) → v ≢ pos 0 → plain_elements (v ∷ values) run ≡ replicate (run / 16) (long_run []) ++ value (run % 16) v [] ∷ plain_elements values 0
-value_plain (pos zero) values run n = absurd (n refl)
-value_plain (pos (suc m)) values run n = refl
-value_plain (negsuc m) values run n = refl
-
-pub left_value : (codes : List Code) (v : ℤ) (values : List ℤ) (run : ℕ) → v ≢ pos 0 → left_bits codes (v ∷ values) run ≡ run_bits codes run v ++ left_bits codes values 0
-unfolding left_bits run_bits
-left_value codes v values run n =
-    let front = replicate (run / 16) (long_run []) in
-    ap (flat_map (spelled codes)) (value_plain v values run n ∙ sym (append_assoc front (value (run % 16) v [] ∷ []) (plain_elements values 0)))
-    ∙ flat_map-append (spelled codes) (front ++ value (run % 16) v [] ∷ []) (plain_elements values 0)
 
 pub left_none : (codes : List Code) (run : ℕ) → run ≡ 0 → left_bits codes [] run ≡ []
 unfolding left_bits

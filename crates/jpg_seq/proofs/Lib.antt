@@ -1,5 +1,6 @@
 pub mod Bands
 pub mod Blocks
+pub mod Counted
 pub mod Due
 pub mod Elements
 pub mod Forced

@@ -1,6 +1,9 @@
 -- The values of a band that aren't 0, found by the bits of a word.
-use Rattle.std.proofs.Common.{◌≡◌, ◌≢◌, ℕ, zero, suc, ◌+◌, ◌-◌, ◌*◌, ◌/◌, ◌^◌, ◌<◌, ◌≤◌, List, [], ◌∷◌, ◌++◌, length, drop, drop-drop, get_or, refl, sym, ap, ◌∙◌, subst, arith, ℤ, pos, negsuc, ◌%◌, Bool, true, false, cond, lit≤, ⊎_elim}
+use Rattle.std.proofs.Common.{◌≡◌, ◌≢◌, ℕ, zero, suc, ◌+◌, ◌-◌, ◌*◌, ◌/◌, ◌^◌, ◌<◌, ◌≤◌, List, [], ◌∷◌, ◌++◌, length, drop, drop-drop, get_or, refl, sym, ap, ◌∙◌, subst, arith, add-one, ℤ, pos, negsuc, ◌%◌, Bool, true, false, cond, lit≤, ⊎_elim}
+use Rattle.std.specs.Prelude.{flat_map}
+use Rattle.std.proofs.Math.Seq.{drop-cons}
 use Rattle.std.proofs.lemmas.Bool.{cases_lt}
+use Rattle.std.proofs.lemmas.List.Concat.{flat_map-append}
 use Rattle.std.specs.Int.{trailing_zeros}
 use mir.Syntax.{w64}
 use Rattle.std.proofs.lemmas.List.{length-drop, drop_all, get_or-drop}
@@ -10,21 +13,23 @@ use Rattle.std.proofs.lemmas.Simd.{trailing_mask_l, leading_from_mask_l}
 use Rattle.jpg_spec.specs.Codes.{Code}
 use Rattle.jpg_base.specs.Marks.{is_some, marks}
 use Rattle.jpg_base.proofs.Marked.{zeros_first}
-use Rattle.jpg_seq.specs.BlockBits.{run_bits}
-use Rattle.jpg_seq.proofs.Bands.{left_bits, left_zero, left_value}
-use Rattle.jpg_seq.proofs.Blocks.{left_at}
+use Rattle.jpg_seq.specs.BlockBits.{spelled, run_elements, run_bits}
+use Rattle.jpg_seq.proofs.Bands.{plain_elements, plain_value, left_bits}
 
 -- THE LEADING ZEROS
 
-left_run : (codes : List Code) (values : List ℤ) (run : ℕ) → left_bits codes values run ≡ left_bits codes (drop (zeros_first values) values) (run + zeros_first values)
-left_run codes [] run = (let e : run ≡ run + 0 = omega arith in ap (left_bits codes []) e)
-left_run codes (pos zero ∷ values) run =
+left_run : (values : List ℤ) (run : ℕ) → plain_elements values run ≡ plain_elements (drop (zeros_first values) values) (run + zeros_first values)
+left_run [] run = (let e : run ≡ run + 0 = omega arith in ap (plain_elements []) e)
+left_run (pos zero ∷ values) run =
     let e : run + 1 + zeros_first values ≡ run + (1 + zeros_first values) = omega arith in
     let more : suc (zeros_first values) ≡ 1 + zeros_first values = omega arith in
-    left_zero codes values run ∙ left_run codes values (run + 1) ∙ ap (left_bits codes (drop (zeros_first values) values)) e
-    ∙ ap (λ m. left_bits codes (drop m (pos 0 ∷ values)) (run + (1 + zeros_first values))) more
-left_run codes (pos (suc n) ∷ values) run = (let e : run ≡ run + 0 = omega arith in ap (left_bits codes (pos (suc n) ∷ values)) e)
-left_run codes (negsuc n ∷ values) run = (let e : run ≡ run + 0 = omega arith in ap (left_bits codes (negsuc n ∷ values)) e)
+    left_run values (run + 1) ∙ ap (plain_elements (drop (zeros_first values) values)) e ∙ ap (λ m. plain_elements (drop m (pos 0 ∷ values)) (run + (1 + zeros_first values))) more
+left_run (pos (suc n) ∷ values) run = (let e : run ≡ run + 0 = omega arith in ap (plain_elements (pos (suc n) ∷ values)) e)
+left_run (negsuc n ∷ values) run = (let e : run ≡ run + 0 = omega arith in ap (plain_elements (negsuc n ∷ values)) e)
+
+-- the value at a place, and those after it
+left_at : (block : List ℤ) (k run : ℕ) → k < length block → plain_elements (drop k block) run ≡ plain_elements (get_or block k (pos 0) ∷ drop (k + 1) block) run
+left_at block k run h = ap (λ values. plain_elements values run) (drop-cons block k (pos 0) h ∙ ap (λ n. get_or block k (pos 0) ∷ drop n block) (sym (add-one k)))
 
 first_some : (values : List ℤ) → 0 < marks values → (zeros_first values < length values) × (get_or values (zeros_first values) (pos 0) ≢ pos 0)
 first_some [] h = absurd (omega (arith, h))
@@ -102,11 +107,11 @@ first_cleared (pos (suc n) ∷ values) h = one_cleared values
 first_cleared (negsuc n ∷ values) h = one_cleared values
 
 -- a value after zeros, from a place of a block on
-pub next_value : (codes : List Code) (block : List ℤ) (next k rest : ℕ) → length block ≡ 64 → next ≤ 64 → rest ≡ marks (blank next block) → 0 < rest → k ≡ trailing_zeros w64 rest
+pub next_elements : (block : List ℤ) (next k rest : ℕ) → length block ≡ 64 → next ≤ 64 → rest ≡ marks (blank next block) → 0 < rest → k ≡ trailing_zeros w64 rest
     → (next ≤ k) × (k < 64)
-    × (left_bits codes (drop next block) 0 ≡ run_bits codes (k - next) (get_or block k (pos 0)) ++ left_bits codes (drop (k + 1) block) 0)
+    × (plain_elements (drop next block) 0 ≡ run_elements (k - next) (get_or block k (pos 0)) ++ plain_elements (drop (k + 1) block) 0)
     × (bit_and rest (rest - 1) ≡ marks (blank (k + 1) block))
-next_value codes block next k rest long few is some first =
+next_elements block next k rest long few is some first =
     let values = drop next block in
     let size : length values ≡ 64 - next = length-drop next block ∙ ap (λ n. n - next) long in
     let whole : length (blank next block) ≡ 64 = length_blank next block ∙ long in
@@ -130,20 +135,40 @@ next_value codes block next k rest long few is some first =
     let after : suc (zeros_first (blank next block)) ≡ k + 1 = omega (arith, t) in (
       low,
       there,
-      left_run codes values 0 ∙ ap (λ m. left_bits codes (drop m values) (0 + zeros_first values)) (sym e) ∙ ap (left_bits codes (drop (k - next) values)) zero_run ∙ ap (λ vs. left_bits codes vs (k - next)) behind
-          ∙ left_at codes block k (k - next) inside ∙ left_value codes (get_or block k (pos 0)) (drop (k + 1) block) (k - next) n,
+      left_run values 0 ∙ ap (λ m. plain_elements (drop m values) (0 + zeros_first values)) (sym e) ∙ ap (plain_elements (drop (k - next) values)) zero_run ∙ ap (λ vs. plain_elements vs (k - next)) behind
+          ∙ left_at block k (k - next) inside ∙ plain_value (get_or block k (pos 0)) (drop (k + 1) block) (k - next) n,
       ap (λ m. bit_and m (m - 1)) is ∙ first_cleared (blank next block) above ∙ ap (λ m. marks (blank m (blank next block))) after ∙ ap marks (blank_more next (k + 1) block (omega (arith, low))),
     )
 
 -- zeros up to the end
-pub no_value : (codes : List Code) (block : List ℤ) (next rest : ℕ) → length block ≡ 64 → rest ≡ marks (blank next block) → rest ≡ 0 → left_bits codes (drop next block) 0 ≡ left_bits codes [] (64 - next)
-no_value codes block next rest long is none =
+pub no_elements : (block : List ℤ) (next rest : ℕ) → length block ≡ 64 → rest ≡ marks (blank next block) → rest ≡ 0 → plain_elements (drop next block) 0 ≡ plain_elements [] (64 - next)
+no_elements block next rest long is none =
     let values = drop next block in
     let size : length values ≡ 64 - next = length-drop next block ∙ ap (λ n. n - next) long in
     let empty : marks values ≡ 0 = (none_blank next block).0 (sym is ∙ none) in
     let e : zeros_first values ≡ length values = leading_from_mask_l is_some values empty in
     let f : 0 + zeros_first values ≡ 64 - next = omega (arith, e, size) in
-    left_run codes values 0 ∙ ap (λ vs. left_bits codes vs (0 + zeros_first values)) (drop_all (zeros_first values) values (omega (arith, e))) ∙ ap (left_bits codes []) f
+    left_run values 0 ∙ ap (λ vs. plain_elements vs (0 + zeros_first values)) (drop_all (zeros_first values) values (omega (arith, e))) ∙ ap (plain_elements []) f
+
+-- THE SAME BY BITS
+
+pub next_value : (codes : List Code) (block : List ℤ) (next k rest : ℕ) → length block ≡ 64 → next ≤ 64 → rest ≡ marks (blank next block) → 0 < rest → k ≡ trailing_zeros w64 rest
+    → (next ≤ k) × (k < 64)
+    × (left_bits codes (drop next block) 0 ≡ run_bits codes (k - next) (get_or block k (pos 0)) ++ left_bits codes (drop (k + 1) block) 0)
+    × (bit_and rest (rest - 1) ≡ marks (blank (k + 1) block))
+unfolding left_bits run_bits
+next_value codes block next k rest long few is some first =
+    let n = next_elements block next k rest long few is some first in
+    let all = ap (flat_map (spelled codes)) n.2 ∙ flat_map-append (spelled codes) (run_elements (k - next) (get_or block k (pos 0))) (plain_elements (drop (k + 1) block) 0) in (
+      n.0,
+      n.1,
+      all,
+      n.3,
+    )
+
+pub no_value : (codes : List Code) (block : List ℤ) (next rest : ℕ) → length block ≡ 64 → rest ≡ marks (blank next block) → rest ≡ 0 → left_bits codes (drop next block) 0 ≡ left_bits codes [] (64 - next)
+unfolding left_bits
+no_value codes block next rest long is none = ap (flat_map (spelled codes)) (no_elements block next rest long is none)
 
 -- the bits of a complete block, of which the first is set to 0
 pub first_blank : (block : List ℤ) (word : ℕ) → length block ≡ 64 → word ≡ marks block → word < 2 ^ 64 → word / 2 ^ 1 * 2 ^ 1 % 2 ^ 64 ≡ marks (blank 1 block)

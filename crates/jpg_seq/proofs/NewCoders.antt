@@ -17,6 +17,7 @@ use Rattle.jpg_spec.specs.declared.frame.Bounds.{Bounds}
 use Rattle.jpg_spec.specs.declared.frame.Place.{Place}
 use Rattle.jpg_spec.specs.declared.frame.ScanPart.{ScanPart}
 use Rattle.jpg_spec.specs.PictureInWork.{AreDistinct}
+use Rattle.jpg_spec.proofs.Precisions.{of_bounds}
 use Rattle.jpg_spec.proofs.PlacesDistinct.{units_distinct}
 use Rattle.jpg_spec.proofs.Sound.{sound}
 use Rattle.jpg_spec.proofs.Common.{not_same, same_itself}
@@ -142,7 +143,9 @@ coding_at f head set b j k coder is same lt comp of =
     }
 
 bounds_sane : (f : Frame) → AreSane (bounds f)
-bounds_sane f = record { low = omega (arith, ints); high = omega (arith, ints); ac = omega (arith, ints); dc_cat = omega arith; ac_cat = omega arith; nine = omega arith }
+bounds_sane f =
+    of_bounds AreSane (record { low = omega (arith, ints); high = omega (arith, ints); ac = omega (arith, ints); dc_cat = omega arith; ac_cat = omega arith; nine = omega arith })
+    (record { low = omega (arith, ints); high = omega (arith, ints); ac = omega (arith, ints); dc_cat = omega arith; ac_cat = omega arith; nine = omega arith }) f.precision
 
 pub new_ready : (f : Frame) (head : ScanHead) (set : TableSet) (m : SeqReader) → IsFrame f → IsSeqScan f head set → m.bounds ≡ bounds f → AreFilled set head.parts (length head.parts) m.coders → m.cursor ≡ units f (head_components head) → length m.predictions ≡ 4 → m.left ≡ 0
     → (i : Interval) → IsOfScan f head set i → SeqReady m i

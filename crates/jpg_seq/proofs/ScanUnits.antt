@@ -1,6 +1,6 @@
 -- The bits of a scan's units, one unit after another.
-use Rattle.std.proofs.Common.{◌≡◌, ℕ, zero, suc, ◌+◌, ◌/◌, ◌%◌, Bool, true, false, List, [], ◌∷◌, ◌++◌, drop, Option, None, Some, refl, sym, ap, ◌∙◌, subst, ℤ, pos, cond, ◌==◌}
-use Rattle.std.specs.Prelude.{map, flat_map, replicate, slice_index_or, ◌||◌, ◌-ℤ◌, unwrap_or}
+use Rattle.std.proofs.Common.{◌≡◌, ℕ, Bool, true, false, List, [], ◌∷◌, ◌++◌, drop, Option, None, Some, refl, sym, ap, ◌∙◌, subst, ℤ, pos, cond, ◌==◌}
+use Rattle.std.specs.Prelude.{map, flat_map, slice_index_or, ◌||◌, ◌-ℤ◌, unwrap_or}
 use Rattle.std.specs.List.{All}
 use Rattle.std.specs.Option.{option_map}
 use Rattle.std.proofs.lemmas.List.{append_assoc}
@@ -10,7 +10,7 @@ use Rattle.jpg_spec.specs.Lists.{is_among}
 use Rattle.jpg_spec.specs.Numbers.{category, extra_bits}
 use Rattle.jpg_spec.specs.Geometry.{Frame}
 use Rattle.jpg_spec.specs.Segments.{HuffmanTable, ScanHead, head_components, table_codes}
-use Rattle.jpg_spec.specs.Elements.{Element, difference, value, long_run, is_zero, predicted, zeros}
+use Rattle.jpg_spec.specs.Elements.{Element, difference, predicted, zeros}
 use Rattle.jpg_spec_write.specs.Sending.{sent, shifted, band_elements}
 use Rattle.jpg_spec.specs.Scan.{Blocks, block_at, part_of}
 use Rattle.jpg_spec_write.specs.ScanText.{UnitDue, Owned, last_dc, unit_elements, element_bits}
@@ -26,11 +26,12 @@ use Rattle.jpg_spec.proofs.Common.{some_once}
 use Rattle.jpg_spec_write.proofs.Shifts.{shifted_none}
 use Rattle.jpg_seq.specs.NewReader.{HasTables}
 use Rattle.jpg_seq.specs.BlockBits.{spelled, band_bits, block_bits, IsShort}
+use Rattle.jpg_seq.specs.Counted.{AreFew}
 use Rattle.jpg_seq.specs.ScanWritten.{tables_in, no_codes, unit_bits}
 use Rattle.jpg_coefs.specs.Sinks.{IsScanPlace, block_due}
 use Rattle.jpg_coefs.proofs.Places.{found_part, part_here, part_later, is_real_place}
-use Rattle.jpg_seq.proofs.Bands.{plain_elements, band_plain}
-use Rattle.jpg_seq.proofs.Blocks.{block_short, zeros_short}
+use Rattle.jpg_seq.proofs.Bands.{plain_elements, band_plain, plain_same}
+use Rattle.jpg_seq.proofs.Blocks.{block_few, zeros_few, few_short}
 
 -- THE BITS OF ONE UNIT, by the tables of its component
 
@@ -46,32 +47,18 @@ dc_at T head i = table_codes (T 0 (part_of head i).dc)
 abbrev pub ac_at : Tables → ScanHead → ℕ → List Code
 ac_at T head i = table_codes (T 1 (part_of head i).ac)
 
-runs_coded : (T : Tables) (head : ScanHead) (i n : ℕ) (es : List Element) → flat_map (coded_at T head i) es ≡ flat_map (spelled (ac_at T head i)) es
-    → flat_map (coded_at T head i) (replicate n (long_run []) ++ es) ≡ flat_map (spelled (ac_at T head i)) (replicate n (long_run []) ++ es)
-unfolding element_bits
-runs_coded T head i zero es e = e
-runs_coded T head i (suc n) es e = ap (λ t. spelled (ac_at T head i) (long_run []) ++ t) (runs_coded T head i n es e)
-
 plain_coded : (T : Tables) (head : ScanHead) (i : ℕ) (values : List ℤ) (run : ℕ) → flat_map (coded_at T head i) (plain_elements values run) ≡ flat_map (spelled (ac_at T head i)) (plain_elements values run)
 unfolding element_bits
-plain_coded T head i [] zero = refl
-plain_coded T head i [] (suc run) = refl
-plain_coded T head i (v ∷ values) run = by (is_zero v) (plain_coded T head i values (run + 1)) (plain_coded T head i values 0)
-  where
-    by : (b : Bool) → flat_map (coded_at T head i) (plain_elements values (run + 1)) ≡ flat_map (spelled (ac_at T head i)) (plain_elements values (run + 1))
-        → flat_map (coded_at T head i) (plain_elements values 0) ≡ flat_map (spelled (ac_at T head i)) (plain_elements values 0)
-        → flat_map (coded_at T head i) (cond b (plain_elements values (run + 1)) (replicate (run / 16) (long_run []) ++ value (run % 16) v [] ∷ plain_elements values 0))
-        ≡ flat_map (spelled (ac_at T head i)) (cond b (plain_elements values (run + 1)) (replicate (run / 16) (long_run []) ++ value (run % 16) v [] ∷ plain_elements values 0))
-    by true e f = e
-    by false e f = runs_coded T head i (run / 16) (value (run % 16) v [] ∷ plain_elements values 0) (ap (λ t. spelled (ac_at T head i) (value (run % 16) v []) ++ t) f)
+plain_coded T head i values run = plain_same (coded_at T head i) (spelled (ac_at T head i)) (λ r v. refl) refl refl values run
 
 pub band_coded : (T : Tables) (head : ScanHead) (i : ℕ) (values : List ℤ) → flat_map (coded_at T head i) (band_elements 1 0 [] (map (sent false 0) values ∷ [])) ≡ band_bits (ac_at T head i) values
 unfolding band_bits
 band_coded T head i values = ap (flat_map (coded_at T head i)) (band_plain values) ∙ plain_coded T head i values 0 ∙ ap (flat_map (spelled (ac_at T head i))) (sym (band_plain values))
 
-pub owned_bits : (f : Owned → List Bool) (i : ℕ) (es : List Element) (rest : List Owned) → flat_map f (map (λ e. (let o : Owned = (i, e) in o)) es ++ rest) ≡ flat_map (λ e. f (i, e)) es ++ flat_map f rest
-owned_bits f i [] rest = refl
-owned_bits f i (e ∷ es) rest = ap (λ t. f (i, e) ++ t) (owned_bits f i es rest) ∙ sym (append_assoc (f (i, e)) (flat_map (λ e. f (i, e)) es) (flat_map f rest))
+-- results of the elements of a component, and of those after them
+pub owned_each : {X : Type 0} (f : Owned → List X) (i : ℕ) (es : List Element) (rest : List Owned) → flat_map f (map (λ e. (let o : Owned = (i, e) in o)) es ++ rest) ≡ flat_map (λ e. f (i, e)) es ++ flat_map f rest
+owned_each f i [] rest = refl
+owned_each f i (e ∷ es) rest = ap (λ t. f (i, e) ++ t) (owned_each f i es rest) ∙ sym (append_assoc (f (i, e)) (flat_map (λ e. f (i, e)) es) (flat_map f rest))
 
 first_coded : (T : Tables) (head : ScanHead) (i : ℕ) (d : ℤ) → coded_at T head i (difference d) ≡ code_of (dc_at T head i) (category d) ++ extra_bits d
 unfolding element_bits
@@ -92,7 +79,7 @@ one_unit T head last i block due =
     let rest = unit_elements true false 0 q due in
     let d : shifted 0 v -ℤ last i ≡ v -ℤ last i = ap (λ w. w -ℤ last i) (shifted_none v) in
     let front = code_of (dc_at T head i) (category (v -ℤ last i)) ++ extra_bits (v -ℤ last i) in
-    ap (λ t. coded_at T head i (difference (shifted 0 v -ℤ last i)) ++ t) (owned_bits f i es rest)
+    ap (λ t. coded_at T head i (difference (shifted 0 v -ℤ last i)) ++ t) (owned_each f i es rest)
     ∙ ap (λ w. coded_at T head i (difference w) ++ (flat_map (coded_at T head i) es ++ flat_map f rest)) d
     ∙ ap (λ t. t ++ (flat_map (coded_at T head i) es ++ flat_map f rest)) (first_coded T head i (v -ℤ last i))
     ∙ ap (λ t. front ++ (t ++ flat_map f rest)) (band_coded T head i (drop 1 block))
@@ -118,12 +105,12 @@ codes_are None codes e = absurd cc
 codes_are (Some t) codes e = some_once (symbol_codes t) codes e
 
 -- A BLOCK of values in the bounds has short codes
-due_short : (f : Frame) (head : ScanHead) (blocks : Blocks) (last : ℤ) (p : Place) → HasBlocksIn f blocks → IsScanPlace f head p → IsShort (block_due blocks last p)
-due_short f head blocks last p all is = by p.real refl
+pub due_few : (f : Frame) (head : ScanHead) (blocks : Blocks) (last : ℤ) (p : Place) → HasBlocksIn f blocks → IsScanPlace f head p → AreFew (block_due blocks last p)
+due_few f head blocks last p all is = by p.real refl
   where
-    by : (b : Bool) → p.real ≡ b → IsShort (cond b (block_at blocks p) (last ∷ zeros 63))
-    by true e = block_short f (block_at blocks p) (all p.component p.x p.y (is_real_place f head p is e))
-    by false e = zeros_short last
+    by : (b : Bool) → p.real ≡ b → AreFew (cond b (block_at blocks p) (last ∷ zeros 63))
+    by true e = block_few f (block_at blocks p) (all p.component p.x p.y (is_real_place f head p is e))
+    by false e = zeros_few last
 
 -- THE CODES of a part, as they were found for the set
 pub unit_by : (set : TableSet) (head : ScanHead) (i : ℕ) (last : ℤ) (block : List ℤ) (p : ScanPart) (dc ac : List Code) → p ≡ part_of head i
@@ -142,4 +129,4 @@ next_unit set head lasts i last block due e =
 
 -- a unit at a place
 pub unit_fits : (f : Frame) (head : ScanHead) (set : TableSet) (blocks : Blocks) (last : ℤ) (p : Place) → HasBlocksIn f blocks → All (HasTables set) head.parts → IsScanPlace f head p → HasTables set (part_of head p.component) × IsShort (block_due blocks last p)
-unit_fits f head set blocks last p all tables is = (has_tables set head p.component tables is.named, due_short f head blocks last p all is)
+unit_fits f head set blocks last p all tables is = (has_tables set head p.component tables is.named, few_short (block_due blocks last p) (due_few f head blocks last p all is))

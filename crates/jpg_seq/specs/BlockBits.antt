@@ -15,8 +15,11 @@ abbrev pub spelled : List Code → Element → List Bool
 spelled codes e = code_of codes (symbol_of e) ++ bits_after e
 
 -- a value after a run of zeros, of which each sixteen are an element
+abbrev pub run_elements : ℕ → ℤ → List Element
+run_elements run v = replicate (run / 16) (long_run []) ++ value (run % 16) v [] ∷ []
+
 unfoldable pub run_bits : List Code → ℕ → ℤ → List Bool
-run_bits codes run v = flat_map (spelled codes) (replicate (run / 16) (long_run []) ++ value (run % 16) v [] ∷ [])
+run_bits codes run v = flat_map (spelled codes) (run_elements run v)
 
 -- the values after the first one
 unfoldable pub band_bits : List Code → List ℤ → List Bool

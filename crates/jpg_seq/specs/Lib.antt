@@ -1,5 +1,6 @@
 pub mod BytesTaken
 pub mod Coder
+pub mod Counted
 pub mod Judge
 pub mod BlockBits
 pub mod Source

@@ -1,6 +1,7 @@
-//! Sequential scans, read and written (T.81, F.1.2, F.2.2).
+//! Sequential scans: read, their symbols counted, and written (T.81, F.1.2, F.2.2).
 #![tactic(auto)]
 
+mod count;
 mod laws;
 mod reader;
 mod scan_write;
@@ -10,6 +11,7 @@ mod values;
 mod work;
 mod write;
 
+pub use count::count_seq_scan;
 pub use laws::{scans_have_rows, sequential_machines_keep_units};
 pub use reader::{BytesTaken, SeqReader};
 pub use scan_write::write_seq_scan;

@@ -72,8 +72,9 @@ impl<'a, D: Desk> UnitSink<BitOut, D> for SeqUnits<'a> {
 /// Writes the data of a sequential scan of a picture: its units by these tables, with a restart marker after each
 /// `interval` MCUs (0: none), each interval padded with ones (T.81, F.1.2 and E.1.4). A padding block has the DC value
 /// of the block before it of its component, and no AC values. The header names one to four distinct components of the
-/// frame, whose tables are there; all values are in the range of precision 8; an output is created, and no bits wait,
-/// neither before nor afterwards. After a fault a first part of the data is written.
+/// frame, whose tables are there; a symbol without a code is written as no bits; all values are in the range of the
+/// frame's precision; an output is created, and no bits wait, neither before nor afterwards. After a fault a first part of
+/// the data is written.
 pub fn write_seq_scan<V: BlockView, D: Desk>(
     view: &V,
     head: &ScanHead,

@@ -166,8 +166,9 @@ fn put_band<D: Desk>(
     }
 }
 
+/// The difference of two DC values.
 #[inline(always)]
-fn difference(value: i16, prediction: i16) -> i32
+pub(crate) fn difference(value: i16, prediction: i16) -> i32
     ensures value { result ≡ value -ℤ prediction }
     ensures within { (negsuc 65534 ≤ℤ result) × (result ≤ℤ pos 65535) }
 {

@@ -36,7 +36,7 @@ table_short counts symbols few = λ code h. omega (arith, codes_short counts 1 0
 pub record IsBrief (c : Coding) : Type 0 where
   pub dc : (i : ℕ) → AreShort (c.dc i)
   pub ac : (i : ℕ) → AreShort (c.ac i)
-  pub dc_cat : c.bounds.dc_cat ≤ 14
+  pub dc_cat : c.bounds.dc_cat ≤ 15
   pub categories : c.most_category ≤ 14
   pub runs : c.most_run ≤ 14
 

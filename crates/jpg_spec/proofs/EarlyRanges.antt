@@ -6,7 +6,7 @@ use Rattle.std.proofs.lemmas.Bool.{cases_lt}
 use Rattle.std.proofs.lemmas.List.{append_assoc, length-append, length-take, length-drop, length-replicate, get_or_past, replicate-append-replicate}
 use Rattle.jpg_spec.specs.Bits.{bits_of_bytes}
 use Rattle.jpg_spec.specs.Lists.{any_of, joined}
-use Rattle.jpg_spec.specs.Geometry.{bounds, bounds_of}
+use Rattle.jpg_spec.specs.Geometry.{Frame, bounds, bounds_of}
 use Rattle.jpg_spec.specs.Elements.{Coding, UnitLeft, Standing, Element, Covers, at_start, old_values, predictions_after, are_in_bounds, corrected, zeros}
 use Rattle.jpg_spec.specs.Parts.{PartOfElement, in_code, in_difference, in_number, in_count, in_value, in_long, in_ends, StandsInUnits}
 use Rattle.jpg_spec.specs.Scan.{Blocks, Scan, band, block_at, unit_at, coefficient}
@@ -24,6 +24,7 @@ use Rattle.jpg_spec.proofs.Common.{both, bounds_join, clash, le_of, same_of}
 use Rattle.jpg_spec.proofs.Once.{head_inj}
 use Rattle.jpg_spec.proofs.PartsCounted.{part_all}
 use Rattle.jpg_spec.proofs.PictureInWork.{leads_sizes}
+use Rattle.jpg_spec.proofs.Precisions.{of_bounds}
 use Rattle.jpg_spec.proofs.Ranges.{NoDc, DcAlone, IsMode, flat_within, any_step, mode_after, PlacesWithin, intervals_within, at_place, value_in, zero_in, scan_mode, leads_in_range, means_in_range, real_in_range}
 use Rattle.jpg_spec.proofs.Rows.{append_apart}
 use Rattle.jpg_spec.proofs.Within.{AreWithin, length_corrected, one_band}
@@ -162,17 +163,23 @@ front_within s before after (p ∷ whole) due rest sizes w =
 
 -- WHAT CHANGED is in the bounds
 
-abbrev pub InBounds : Blocks → Type 0
-InBounds blocks = (i x y k : ℕ) → is_coefficient (bounds_of 8) k (coefficient blocks i x y k) ≡ true
+abbrev pub InBounds : Frame → Blocks → Type 0
+InBounds f blocks = (i x y k : ℕ) → is_coefficient (bounds f) k (coefficient blocks i x y k) ≡ true
+
+zeros_in : (precision : ℕ) (b : Bool) (n : ℕ) → are_in_bounds (bounds_of precision) b (zeros n) ≡ true
+zeros_in precision b zero = refl
+zeros_in precision true (suc n) = of_bounds (λ c. are_in_bounds c true (zeros (suc n)) ≡ true) (zeros_in 8 false n) (zeros_in 12 false n) precision
+zeros_in precision false (suc n) = of_bounds (λ c. are_in_bounds c false (zeros (suc n)) ≡ true) (zeros_in 8 false n) (zeros_in 12 false n) precision
 
 module _ (limits : Limits) (items : List Item) (contents : List ℕ) where
+  abbrev f : Frame
+  f = frame_of limits (segments_of items)
+
   zeros_fit : ZerosFit (scan_after limits (segments_of items) contents).coding
-  zeros_fit b zero = refl
-  zeros_fit true (suc n) = zeros_fit false n
-  zeros_fit false (suc n) = zeros_fit false n
+  zeros_fit = zeros_in f.precision
 
   changed_in_range : (places : List Place) (old new : Blocks)
-      → OnlyChanges (scan_after limits (segments_of items) contents) places old new → PlacesWithin (scan_after limits (segments_of items) contents) new places → InBounds old → InBounds new
+      → OnlyChanges (scan_after limits (segments_of items) contents) places old new → PlacesWithin (scan_after limits (segments_of items) contents) new places → InBounds f old → InBounds f new
   changed_in_range places old new w within before i x y k = by (any_of (is_at i x y) places) refl
     where
       s : Scan
@@ -181,31 +188,31 @@ module _ (limits : Limits) (items : List Item) (contents : List ℕ) where
       size : length (new i x y) ≡ 64
       size = w.sizes i x y
 
-      named : any_of (is_at i x y) places ≡ true → s.ss ≤ k → k ≤ s.se → k < 64 → is_coefficient (bounds_of 8) k (coefficient new i x y k) ≡ true
+      named : any_of (is_at i x y) places ≡ true → s.ss ≤ k → k ≤ s.se → k < 64 → is_coefficient (bounds f) k (coefficient new i x y k) ≡ true
       named at low high small =
           let here = at_place (scan_after limits (segments_of items) contents) new places i x y within at in
           let d = length-drop s.ss (new i x y) in
           let long = length-take (s.se + 1 - s.ss) (drop s.ss (new i x y)) in
           let inside : k - s.ss < length (band s (new i x y)) = omega (arith, d, long, size, low, high, small) in
           let v = value_in s.coding (s.ss == 0) (band s (new i x y)) (k - s.ss) k here inside (λ e. (let z : s.ss ≡ 0 = same_of s.ss 0 e in omega (arith, z))) (λ e. positive s.ss k e low) in
-          subst (λ v. is_coefficient (bounds_of 8) k v ≡ true) (in_band s (new i x y) k low high) v
+          subst (λ v. is_coefficient (bounds f) k v ≡ true) (in_band s (new i x y) k low high) v
         where
           positive : (ss k : ℕ) → (ss == 0) ≡ false → ss ≤ k → 1 ≤ k
           positive ss k e h = grind (arith, nat_tests, e, h)
 
-      banded : any_of (is_at i x y) places ≡ true → (b : Bool) → is_in_band (scan_after limits (segments_of items) contents) k ≡ b → is_coefficient (bounds_of 8) k (coefficient new i x y k) ≡ true
-      banded at false e = subst (λ v. is_coefficient (bounds_of 8) k v ≡ true) (sym (w.outside i x y k e)) (before i x y k)
+      banded : any_of (is_at i x y) places ≡ true → (b : Bool) → is_in_band (scan_after limits (segments_of items) contents) k ≡ b → is_coefficient (bounds f) k (coefficient new i x y k) ≡ true
+      banded at false e = subst (λ v. is_coefficient (bounds f) k v ≡ true) (sym (w.outside i x y k e)) (before i x y k)
       banded at true e =
           let u = both (nat_le s.ss k) (nat_le k s.se) e in
           ⊎_elim (λ (small : k < 64). named at (le_of s.ss k u.0) (le_of k s.se u.1) small)
-          (λ (large : 64 ≤ k). subst (λ v. is_coefficient (bounds_of 8) k v ≡ true) (sym (get_or_past (new i x y) k (pos 0) (omega (arith, size, large)))) (zero_in k)) (cases_lt k 64)
+          (λ (large : 64 ≤ k). subst (λ v. is_coefficient (bounds f) k v ≡ true) (sym (get_or_past (new i x y) k (pos 0) (omega (arith, size, large)))) (zero_in f.precision k)) (cases_lt k 64)
 
-      by : (b : Bool) → any_of (is_at i x y) places ≡ b → is_coefficient (bounds_of 8) k (coefficient new i x y k) ≡ true
-      by false e = subst (λ l. is_coefficient (bounds_of 8) k (get_or l k (pos 0)) ≡ true) (sym (w.elsewhere i x y e)) (before i x y k)
+      by : (b : Bool) → any_of (is_at i x y) places ≡ b → is_coefficient (bounds f) k (coefficient new i x y k) ≡ true
+      by false e = subst (λ l. is_coefficient (bounds f) k (get_or l k (pos 0)) ≡ true) (sym (w.elsewhere i x y e)) (before i x y k)
       by true e = banded e (is_in_band (scan_after limits (segments_of items) contents) k) refl
 
   so_far_in_range : (before work : Blocks) (done : List (List ℕ)) (left : List (List Place)) → Leads limits items before → contents_rule limits (segments_of items) 0xda contents ≡ None
-      → ScanSoFar (scan_after limits (segments_of items) contents) before work done left → InBounds work
+      → ScanSoFar (scan_after limits (segments_of items) contents) before work done left → InBounds f work
   so_far_in_range before work done left l rule w =
       let s = scan_after limits (segments_of items) contents in
       let sizes : (i x y : ℕ) → length (before i x y) ≡ length (work i x y) = λ i x y. leads_sizes limits items before l i x y ∙ sym ((w.changes).sizes i x y) in
@@ -213,7 +220,7 @@ module _ (limits : Limits) (items : List Item) (contents : List ℕ) where
       changed_in_range (joined w.front) before work w.changes within (leads_in_range limits items before l).values
 
   pub in_part_in_range : (before after : Blocks) (done : List (List ℕ)) (coded : List ℕ) (places : List Place) (later : List (List Place)) → Leads limits items before
-      → contents_rule limits (segments_of items) 0xda contents ≡ None → ScanInPart (scan_after limits (segments_of items) contents) before done coded places later after → InBounds after × ((i x y : ℕ) → length (after i x y) ≡ 64)
+      → contents_rule limits (segments_of items) 0xda contents ≡ None → ScanInPart (scan_after limits (segments_of items) contents) before done coded places later after → InBounds f after × ((i x y : ℕ) → length (after i x y) ≡ 64)
   in_part_in_range before after done coded places later l rule (inr w) =
       (so_far_in_range before after (done ++ coded ∷ []) later l rule w, (w.changes).sizes)
   in_part_in_range before after done coded places later l rule (inl w) =

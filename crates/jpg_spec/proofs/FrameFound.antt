@@ -7,7 +7,7 @@ use Rattle.jpg_spec.specs.Lists.{any_of, is_distinct}
 use Rattle.jpg_spec.specs.Faults.{Told, refuse}
 use Rattle.jpg_spec.specs.Segments.{two_bytes}
 use Rattle.jpg_spec.specs.Geometry.{Frame, padded_blocks, div_up, component_at, no_component}
-use Rattle.jpg_spec.specs.FrameHeader.{has_bad_factor, has_bad_slot, identifiers, checked_frame, HasFactors}
+use Rattle.jpg_spec.specs.FrameHeader.{is_precision, has_bad_factor, has_bad_slot, identifiers, checked_frame, HasFactors}
 use Rattle.jpg_spec.specs.FrameContents.{frame_header, frame_told}
 use Rattle.jpg_spec.specs.Markers.{Segment, Pass, process_of_code, is_frame_code, has_frame, code_fault, code_fault_if}
 use Rattle.jpg_spec.specs.InForce.{told_some, first_some, frame_in, frame_after}
@@ -28,7 +28,7 @@ use Rattle.jpg_spec.specs.declared.frame.Component.{Component}
 pub record IsChecked (limits : Limits) (f : Frame) : Type 0 where
   pub some : (f.width == 0 || f.height == 0) ≡ false
   pub sides : (nat_lt limits.side f.width || nat_lt limits.side f.height) ≡ false
-  pub precision : f.precision ≡ 8
+  pub precision : is_precision f.process f.precision ≡ true
   pub count : (length f.components == 0 || nat_lt 4 (length f.components)) ≡ false
   pub factors : any_of has_bad_factor f.components ≡ false
   pub distinct : is_distinct (identifiers f.components) ≡ true
@@ -44,11 +44,11 @@ checks limits f g e =
     let twice = refuse DuplicateComponent (not (is_distinct (identifiers f.components))) slots in
     let factors = refuse Sampling (any_of has_bad_factor f.components) twice in
     let count = refuse ComponentCount (length f.components == 0 || nat_lt 4 (length f.components)) factors in
-    let precision = refuse Precision (not (f.precision == 8)) count in
+    let precision = refuse Precision (not (is_precision f.process f.precision)) count in
     let sides = refuse TooLarge (nat_lt limits.side f.width || nat_lt limits.side f.height) precision in
     let a = refused EmptyImage (f.width == 0 || f.height == 0) sides g e in
     let b = refused TooLarge (nat_lt limits.side f.width || nat_lt limits.side f.height) precision g a.1 in
-    let k = refused Precision (not (f.precision == 8)) count g b.1 in
+    let k = refused Precision (not (is_precision f.process f.precision)) count g b.1 in
     let m = refused ComponentCount (length f.components == 0 || nat_lt 4 (length f.components)) factors g k.1 in
     let n = refused Sampling (any_of has_bad_factor f.components) twice g m.1 in
     let o = refused DuplicateComponent (not (is_distinct (identifiers f.components))) slots g n.1 in
@@ -57,7 +57,7 @@ checks limits f g e =
     let checked : IsChecked limits f = record {
       some = a.0;
       sides = b.0;
-      precision = same_of f.precision 8 (affirmed (f.precision == 8) k.0);
+      precision = affirmed (is_precision f.process f.precision) k.0;
       count = m.0;
       factors = n.0;
       distinct = affirmed (is_distinct (identifiers f.components)) o.0;

@@ -54,6 +54,7 @@ pub mod PictureInWork
 pub mod PlacesDistinct
 pub mod PlacesFound
 pub mod PlacesSome
+pub mod Precisions
 pub mod ProgressiveShares
 pub mod QuantsInForce
 pub mod Ranges

@@ -5,10 +5,11 @@ use Rattle.std.proofs.lemmas.List.{length-map}
 use Rattle.std.proofs.lemmas.List.Elements.{All-nil, All-cons}
 use Rattle.jpg_spec.specs.Segments.{QuantTable}
 use Rattle.jpg_spec.specs.Geometry.{Frame, bounds}
-use Rattle.jpg_spec.specs.Elements.{zeros, IsBlockIn}
+use Rattle.jpg_spec.specs.Elements.{zeros, IsBlockIn, are_in_bounds}
 use Rattle.jpg_spec.specs.Meaning.{Meaning, picture_frame}
 use Rattle.jpg_spec.specs.Lists.{are_equal}
 use Rattle.jpg_spec.proofs.Common.{equal_itself}
+use Rattle.jpg_spec.proofs.Precisions.{of_bounds}
 use Rattle.jpg_spec.proofs.PlacesFound.{or_first, or_second}
 use Rattle.jpg_spec.proofs.WrittenQuants.{is_in}
 
@@ -21,4 +22,4 @@ pub count_of : (M : Meaning) → length (picture_frame M).components ≡ length 
 count_of M = length-map M.components _
 
 pub zeros_here : (f : Frame) → IsBlockIn (bounds f) (zeros 64)
-zeros_here f = (refl, refl)
+zeros_here f = (refl, of_bounds (λ b. are_in_bounds b true (zeros 64) ≡ true) refl refl f.precision)

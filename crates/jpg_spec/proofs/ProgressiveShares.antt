@@ -14,7 +14,7 @@ use Rattle.jpg_spec.proofs.Common.{same_of}
 -- of each padded grid.
 
 abbrev pub unsent : Option ℕ → ℕ
-unsent None = 11
+unsent None = 14
 unsent (Some al) = al
 
 -- DC counts ten times
@@ -41,23 +41,23 @@ sent_of head (suc k) = cond (is_in head k) (share k 1) 0 + sent_of head k
 
 -- AT THE START
 
-block_start : (i k : ℕ) → left_of_block [] i k ≤ 11 * k + 99
+block_start : (i k : ℕ) → left_of_block [] i k ≤ 14 * k + 126
 block_start i zero = omega arith
 block_start i (suc zero) = omega arith
 block_start i (suc (suc k)) = let h = block_start i (suc k) in omega (arith, h)
 
-pub all_start : (n : ℕ) → left_of_all [] n ≤ 803 * n
+pub all_start : (n : ℕ) → left_of_all [] n ≤ 1022 * n
 all_start zero = omega arith
 all_start (suc n) = let h = all_start n in omega (arith, h, block_start n 64)
 
 -- A SCAN THAT IS NEXT
 
 pub record Descends (heads : List ScanHead) (head : ScanHead) : Type 0 where
-  pub al : head.al ≤ 10
+  pub al : head.al ≤ 13
   pub bits : (head.ah == 0 || head.ah == head.al + 1) ≡ true
   pub next : (i : ℕ) → is_among i (head_components head) ≡ true → is_next heads head i ≡ true
 
-was_above : (head : ScanHead) → head.al ≤ 10 → (head.ah == 0 || head.ah == head.al + 1) ≡ true → head.al + 1 ≤ unsent (was_known head)
+was_above : (head : ScanHead) → head.al ≤ 13 → (head.ah == 0 || head.ah == head.al + 1) ≡ true → head.al + 1 ≤ unsent (was_known head)
 was_above head al bits = by (head.ah == 0) bits
   where
     by : (b : Bool) → (b || head.ah == head.al + 1) ≡ true → head.al + 1 ≤ unsent (cond b None (Some head.ah))

@@ -14,6 +14,7 @@ use Rattle.jpg_spec.specs.ScanContents.{scan_header, is_band, are_bits, are_para
 use Rattle.jpg_spec.specs.declared.fault.Fault.TheVariants.{BadLength, ScanComponent, McuTooLarge, ScanParameters}
 use Rattle.jpg_spec.proofs.FirstPasses.{IsHeadAt, head_at}
 use Rattle.jpg_spec.specs.InForce.{frame_of, head_in}
+use Rattle.jpg_spec.specs.Markers.{has_frame}
 use Rattle.jpg_spec.specs.Items.{Item, segment, scan, segments_of, contents_rule}
 use Rattle.jpg_spec.specs.FileMeaning.{scan_after, Leads, Means}
 use Rattle.jpg_spec.specs.PictureInWork.{is_at}
@@ -21,6 +22,9 @@ use Rattle.jpg_spec.specs.Ranges.{is_coefficient, AreInRange}
 use Rattle.jpg_spec.specs.Meaning.{Meaning, real_blocks, picture_frame}
 use Rattle.jpg_spec.specs.declared.frame.Limits.{Limits}
 use Rattle.jpg_spec.specs.declared.frame.Place.{Place}
+use Rattle.jpg_spec.proofs.Precisions.{of_bounds}
+use Rattle.jpg_spec.proofs.FrameFound.{framed}
+use Rattle.jpg_spec.proofs.Untouched.{frame_stays, unframed}
 use Rattle.jpg_spec.proofs.Rows.{append_apart}
 use Rattle.jpg_spec.proofs.Within.{AreWithin, ends_one, step, length_corrected}
 use Rattle.jpg_spec.proofs.BlocksOnce.{joined_chunks, length_band, in_band}
@@ -273,28 +277,44 @@ value_in c false (v ∷ l) j k e h a b =
     let w = get_or (v ∷ l) j (pos 0) in
     ap (λ t. cond t (int_le c.bounds.dc_low w && int_le w c.bounds.dc_high) (int_le (pos (nat_abs w)) c.bounds.ac)) some_k ∙ ac_value c (v ∷ l) j e h
 
-pub zero_in : (k : ℕ) → is_coefficient (bounds_of 8) k (pos 0) ≡ true
-zero_in k = by (k == 0)
+pub zero_in : (precision k : ℕ) → is_coefficient (bounds_of precision) k (pos 0) ≡ true
+zero_in precision k = of_bounds (λ b. is_coefficient b k (pos 0) ≡ true) (eight (k == 0)) (twelve (k == 0)) precision
   where
-    by : (b : Bool) → cond b (int_le (bounds_of 8).dc_low (pos 0) && int_le (pos 0) (bounds_of 8).dc_high) (int_le (pos (nat_abs (pos 0))) (bounds_of 8).ac) ≡ true
-    by true = refl
-    by false = refl
+    eight : (b : Bool) → cond b true true ≡ true
+    eight true = refl
+    eight false = refl
 
-zeros_in_bounds : (k : ℕ) → is_coefficient (bounds_of 8) k (get_or (zeros 64) k (pos 0)) ≡ true
-zeros_in_bounds k =
-    ⊎_elim (λ (h : k < 64). subst (λ v. is_coefficient (bounds_of 8) k v ≡ true) (sym (get_or-replicate 64 k (pos 0) (pos 0) h)) (zero_in k))
-    (λ (h : 64 ≤ k). subst (λ v. is_coefficient (bounds_of 8) k v ≡ true) (sym (get_or_past (zeros 64) k (pos 0) h)) (zero_in k)) (cases_lt k 64)
+    twelve : (b : Bool) → cond b true true ≡ true
+    twelve b = eight b
+
+zeros_in_bounds : (precision k : ℕ) → is_coefficient (bounds_of precision) k (get_or (zeros 64) k (pos 0)) ≡ true
+zeros_in_bounds precision k =
+    ⊎_elim (λ (h : k < 64). subst (λ v. is_coefficient (bounds_of precision) k v ≡ true) (sym (get_or-replicate 64 k (pos 0) (pos 0) h)) (zero_in precision k))
+    (λ (h : 64 ≤ k). subst (λ v. is_coefficient (bounds_of precision) k v ≡ true) (sym (get_or_past (zeros 64) k (pos 0) h)) (zero_in precision k)) (cases_lt k 64)
 
 -- THE LAW
-pub in_range : (limits : Limits) (items : List Item) (blocks : Blocks) → Leads limits items blocks → (i x y k : ℕ) → is_coefficient (bounds_of 8) k (coefficient blocks i x y k) ≡ true
-in_range limits [] blocks l i x y k = subst (λ (b : Blocks). is_coefficient (bounds_of 8) k (get_or (b i x y) k (pos 0)) ≡ true) (sym l) (zeros_in_bounds k)
-in_range limits (segment code contents ∷ items) blocks l i x y k = in_range limits items blocks l.2 i x y k
-in_range limits (scan contents intervals ∷ items) blocks l i x y k = by (is_named (scan_after limits (segments_of items) contents) i x y k) refl (in_range limits items l.0 l.3 i x y k)
+pub in_range : (limits : Limits) (items : List Item) (blocks : Blocks) → Leads limits items blocks → (i x y k : ℕ) → is_coefficient (bounds (frame_of limits (segments_of items))) k (coefficient blocks i x y k) ≡ true
+in_range limits [] blocks l i x y k = subst (λ (b : Blocks). is_coefficient (bounds_of 8) k (get_or (b i x y) k (pos 0)) ≡ true) (sym l) (zeros_in_bounds 8 k)
+in_range limits (segment code contents ∷ items) blocks l i x y k = by (has_frame (segments_of items)) refl (in_range limits items blocks l.2 i x y k)
   where
+    f : Frame
+    f = frame_of limits ((code, contents) ∷ segments_of items)
+
+    by : (b : Bool) → has_frame (segments_of items) ≡ b → is_coefficient (bounds (frame_of limits (segments_of items))) k (coefficient blocks i x y k) ≡ true
+        → is_coefficient (bounds (frame_of limits ((code, contents) ∷ segments_of items))) k (coefficient blocks i x y k) ≡ true
+    by true h old = subst (λ (g : Frame). is_coefficient (bounds g) k (coefficient blocks i x y k) ≡ true) (sym (frame_stays limits (segments_of items) code contents h l.0)) old
+    by false h old = subst (λ (b : Blocks). is_coefficient (bounds f) k (get_or (b i x y) k (pos 0)) ≡ true) (sym (unframed limits items blocks l.2 h)) (zeros_in_bounds f.precision k)
+in_range limits (scan contents intervals ∷ items) blocks l i x y k =
+    subst (λ (g : Frame). is_coefficient (bounds g) k (coefficient blocks i x y k) ≡ true) (sym (frame_stays limits (segments_of items) 0xda contents (framed (segments_of items) l.1) l.1))
+    (by (is_named (scan_after limits (segments_of items) contents) i x y k) refl (in_range limits items l.0 l.3 i x y k))
+  where
+    f : Frame
+    f = frame_of limits (segments_of items)
+
     s : Scan
     s = scan_after limits (segments_of items) contents
 
-    named : any_of (is_at i x y) (scan_after limits (segments_of items) contents).places ≡ true → (scan_after limits (segments_of items) contents).ss ≤ k → k ≤ (scan_after limits (segments_of items) contents).se → k < 64 → is_coefficient (bounds_of 8) k (coefficient blocks i x y k) ≡ true
+    named : any_of (is_at i x y) (scan_after limits (segments_of items) contents).places ≡ true → (scan_after limits (segments_of items) contents).ss ≤ k → k ≤ (scan_after limits (segments_of items) contents).se → k < 64 → is_coefficient (bounds (frame_of limits (segments_of items))) k (coefficient blocks i x y k) ≡ true
     named at low high small =
         let sizes : (i x y : ℕ) → length (l.0 i x y) ≡ length (blocks i x y) = λ i x y. leads_sizes limits items l.0 l.3 i x y ∙ sym ((l.4).sizes i x y) in
         let all = intervals_within s l.0 blocks (chunks s.interval s.places) intervals sizes (λ places. scan_mode limits items l.0 contents places l.3 l.2) (l.4).spelled in
@@ -304,20 +324,20 @@ in_range limits (scan contents intervals ∷ items) blocks l i x y k = by (is_na
         let long = length-take (s.se + 1 - s.ss) (drop s.ss (blocks i x y)) in
         let inside : k - s.ss < length (band s (blocks i x y)) = omega (arith, d, long, size, low, high, small) in
         let v = value_in s.coding (s.ss == 0) (band s (blocks i x y)) (k - s.ss) k here inside (λ e. (let z : s.ss ≡ 0 = same_of s.ss 0 e in omega (arith, z))) (λ e. positive s.ss k e low) in
-        subst (λ v. is_coefficient (bounds_of 8) k v ≡ true) (in_band s (blocks i x y) k low high) v
+        subst (λ v. is_coefficient (bounds (frame_of limits (segments_of items))) k v ≡ true) (in_band s (blocks i x y) k low high) v
       where
         positive : (ss k : ℕ) → (ss == 0) ≡ false → ss ≤ k → 1 ≤ k
         positive ss k e h = grind (arith, nat_tests, e, h)
 
-    by : (b : Bool) → is_named (scan_after limits (segments_of items) contents) i x y k ≡ b → is_coefficient (bounds_of 8) k (coefficient l.0 i x y k) ≡ true → is_coefficient (bounds_of 8) k (coefficient blocks i x y k) ≡ true
-    by false h old = subst (λ v. is_coefficient (bounds_of 8) k v ≡ true) (sym ((l.4).rest i x y k h)) old
+    by : (b : Bool) → is_named (scan_after limits (segments_of items) contents) i x y k ≡ b → is_coefficient (bounds (frame_of limits (segments_of items))) k (coefficient l.0 i x y k) ≡ true → is_coefficient (bounds (frame_of limits (segments_of items))) k (coefficient blocks i x y k) ≡ true
+    by false h old = subst (λ v. is_coefficient (bounds (frame_of limits (segments_of items))) k v ≡ true) (sym ((l.4).rest i x y k h)) old
     by true h old =
         let s = scan_after limits (segments_of items) contents in
         let u = both (any_of (is_at i x y) s.places && nat_le s.ss k) (nat_le k s.se) h in
         let v = both (any_of (is_at i x y) s.places) (nat_le s.ss k) u.0 in
         let size = (l.4).sizes i x y in
         ⊎_elim (λ (small : k < 64). named v.0 (le_of s.ss k v.1) (le_of k s.se u.1) small)
-        (λ (large : 64 ≤ k). subst (λ v. is_coefficient (bounds_of 8) k v ≡ true) (sym (get_or_past (blocks i x y) k (pos 0) (omega (arith, size, large)))) (zero_in k)) (cases_lt k 64)
+        (λ (large : 64 ≤ k). subst (λ v. is_coefficient (bounds (frame_of limits (segments_of items))) k v ≡ true) (sym (get_or_past (blocks i x y) k (pos 0) (omega (arith, size, large)))) (zero_in f.precision k)) (cases_lt k 64)
 
 pub leads_in_range : (limits : Limits) (items : List Item) (blocks : Blocks) → Leads limits items blocks → AreInRange (bounds (frame_of limits (segments_of items))) blocks
 leads_in_range limits items blocks l = record { sizes = leads_sizes limits items blocks l; values = in_range limits items blocks l }
@@ -331,7 +351,7 @@ real_in_range f blocks w = record {
   where
     value : (b : Bool) (block : List ℤ) (k : ℕ) → is_coefficient (bounds f) k (get_or block k (pos 0)) ≡ true → is_coefficient (bounds f) k (get_or (cond b block (zeros 64)) k (pos 0)) ≡ true
     value true block k e = e
-    value false block k e = zeros_in_bounds k
+    value false block k e = zeros_in_bounds f.precision k
 
 pub means_in_range : (limits : Limits) (bytes : List ℕ) (M : Meaning) → Means limits bytes M → AreInRange (bounds (picture_frame M)) M.blocks
 means_in_range limits bytes M w =

@@ -7,8 +7,9 @@ use Rattle.std.proofs.lemmas.Bool.Decides.{nat_tests}
 use Rattle.std.proofs.lemmas.List.Elements.{All-head, All-tail, All-nil, All-cons}
 use Rattle.jpg_spec.specs.Lists.{any_of, is_among}
 use Rattle.jpg_spec.specs.Segments.{QuantTable, ScanHead, IsQuantiser, AreQuantisers}
+use Rattle.jpg_spec.specs.declared.frame.Bounds.{Bounds}
 use Rattle.jpg_spec.specs.declared.frame.ScanPart.{ScanPart}
-use Rattle.jpg_spec.specs.Geometry.{Frame, bounds, bounds_of, component_at}
+use Rattle.jpg_spec.specs.Geometry.{Frame, bounds, component_at}
 use Rattle.jpg_spec.specs.FrameHeader.{IsFrame, AreLimits}
 use Rattle.jpg_spec.specs.Elements.{are_in_bounds, IsBlockIn}
 use Rattle.jpg_spec.specs.QuantContents.{is_zero_quant}
@@ -173,21 +174,22 @@ table_is f (s ∷ before) i table of e = by (s.0 == 0xda) e (λ k. table_is f be
 
 -- BLOCKS in their range
 
-ac_in : (block : List ℤ) → ((k : ℕ) → is_coefficient (bounds_of 8) (suc k) (get_or block k (pos 0)) ≡ true) → are_in_bounds (bounds_of 8) false block ≡ true
-ac_in [] h = refl
-ac_in (v ∷ block) h =
-    let one : int_le (pos (nat_abs v)) (pos 1023) ≡ true =
-    sym (ap (λ b. cond b (int_le (bounds_of 8).dc_low v && int_le v (bounds_of 8).dc_high) (int_le (pos (nat_abs v)) (bounds_of 8).ac)) (not_zero 0)) ∙ h 0 in
-    ap (λ b. b && are_in_bounds (bounds_of 8) false block) one ∙ ac_in block (λ k. later k (get_or block k (pos 0)) (h (suc k)))
-  where
-    later : (k : ℕ) (w : ℤ) → is_coefficient (bounds_of 8) (suc (suc k)) w ≡ true → is_coefficient (bounds_of 8) (suc k) w ≡ true
-    later k w e =
-        ap (λ b. cond b (int_le (bounds_of 8).dc_low w && int_le w (bounds_of 8).dc_high) (int_le (pos (nat_abs w)) (bounds_of 8).ac)) (not_zero k ∙ sym (not_zero (suc k))) ∙ e
+module _ (b : Bounds) where
+  ac_in : (block : List ℤ) → ((k : ℕ) → is_coefficient b (suc k) (get_or block k (pos 0)) ≡ true) → are_in_bounds b false block ≡ true
+  ac_in [] h = refl
+  ac_in (v ∷ block) h =
+      let one : int_le (pos (nat_abs v)) b.ac ≡ true =
+      sym (ap (λ t. cond t (int_le b.dc_low v && int_le v b.dc_high) (int_le (pos (nat_abs v)) b.ac)) (not_zero 0)) ∙ h 0 in
+      ap (λ t. t && are_in_bounds b false block) one ∙ ac_in block (λ k. later k (get_or block k (pos 0)) (h (suc k)))
+    where
+      later : (k : ℕ) (w : ℤ) → is_coefficient b (suc (suc k)) w ≡ true → is_coefficient b (suc k) w ≡ true
+      later k w e =
+          ap (λ t. cond t (int_le b.dc_low w && int_le w b.dc_high) (int_le (pos (nat_abs w)) b.ac)) (not_zero k ∙ sym (not_zero (suc k))) ∙ e
 
-pub block_in : (block : List ℤ) → length block ≡ 64 → ((k : ℕ) → is_coefficient (bounds_of 8) k (get_or block k (pos 0)) ≡ true) → IsBlockIn (bounds_of 8) block
-block_in [] l h = absurd (omega (arith, l))
-block_in (v ∷ block) l h =
-    (l, ap (λ b. b && are_in_bounds (bounds_of 8) false block) (h 0) ∙ ac_in block (λ k. h (suc k)))
+  pub block_in : (block : List ℤ) → length block ≡ 64 → ((k : ℕ) → is_coefficient b k (get_or block k (pos 0)) ≡ true) → IsBlockIn b block
+  block_in [] l h = absurd (omega (arith, l))
+  block_in (v ∷ block) l h =
+      (l, ap (λ t. t && are_in_bounds b false block) (h 0) ∙ ac_in block (λ k. h (suc k)))
 
 pub zero_slots : (cs : List PictureComponent) → All (λ c. c.quant ≤ 3) (map (λ c. (let k : Component = record { id = c.id; h = c.h; v = c.v; quant = 0 } in k)) cs)
 zero_slots [] = All-nil (λ c. c.quant ≤ 3)

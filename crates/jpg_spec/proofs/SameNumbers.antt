@@ -10,7 +10,7 @@ use Rattle.std.proofs.lemmas.List.Elements.{All-head, All-tail, All-nil, All-con
 use Rattle.jpg_spec.specs.Lists.{any_of, is_distinct, below}
 use Rattle.jpg_spec.specs.Segments.{standard_limits}
 use Rattle.jpg_spec.specs.Geometry.{Frame, greatest, div_up, mcus_across, mcus_down, padded_blocks, component_at, is_real, no_component}
-use Rattle.jpg_spec.specs.FrameHeader.{checked_frame, IsFrame, HasFactors, identifiers, has_bad_factor, has_bad_slot}
+use Rattle.jpg_spec.specs.FrameHeader.{is_precision, checked_frame, IsFrame, HasFactors, identifiers, has_bad_factor, has_bad_slot}
 use Rattle.jpg_spec.specs.Grids.{Grids, frame_grids}
 use Rattle.jpg_spec.specs.declared.fault.Fault.TheVariants.{EmptyImage, TooLarge, Precision, ComponentCount, Sampling, DuplicateComponent, QuantSlot, TooManyBlocks}
 use Rattle.jpg_spec.specs.declared.frame.Component.{Component}
@@ -27,6 +27,7 @@ abbrev pub numbers_of : Component → ℕ × ℕ × ℕ
 numbers_of c = (c.id, c.h, c.v)
 
 pub record SameNumbers (f g : Frame) : Type 0 where
+  pub process : f.process ≡ g.process
   pub width : f.width ≡ g.width
   pub height : f.height ≡ g.height
   pub precision : f.precision ≡ g.precision
@@ -90,7 +91,7 @@ same_frame f g s slots is =
       width_high = subst (λ n. n ≤ 65500) s.width is.width_high;
       height_low = subst (λ n. 1 ≤ n) s.height is.height_low;
       height_high = subst (λ n. n ≤ 65500) s.height is.height_high;
-      precision = sym s.precision ∙ is.precision;
+      precision = sym (ap (λ p. is_precision p f.precision) s.process ∙ ap (is_precision g.process) s.precision) ∙ is.precision;
       count_low = subst (λ n. 1 ≤ n) l is.count_low;
       count_high = subst (λ n. n ≤ 4) l is.count_high;
       factors = to_all g.components (subst (λ ns. All FactorsOf ns) s.components (of_all f.components is.factors));
@@ -125,7 +126,7 @@ unfolding checked_frame
 frame_passes f is =
     not_refused EmptyImage (f.width == 0 || f.height == 0) _ (either_false _ _ (some_not_zero f.width is.width_low) (some_not_zero f.height is.height_low))
     ∙ not_refused TooLarge (nat_lt 65500 f.width || nat_lt 65500 f.height) _ (either_false _ _ (lt_no 65500 f.width is.width_high) (lt_no 65500 f.height is.height_high))
-    ∙ not_refused Precision (not (f.precision == 8)) _ (ap (λ n. not (n == 8)) is.precision)
+    ∙ not_refused Precision (not (is_precision f.process f.precision)) _ (ap not is.precision)
     ∙ not_refused ComponentCount (length f.components == 0 || nat_lt 4 (length f.components)) _ (either_false _ _ (some_not_zero (length f.components) is.count_low) (lt_no 4 (length f.components) is.count_high))
     ∙ not_refused Sampling (any_of has_bad_factor f.components) _ (no_bad_factor f.components is.factors)
     ∙ not_refused DuplicateComponent (not (is_distinct (identifiers f.components))) _ (ap not is.distinct)
@@ -160,6 +161,7 @@ same_places f g i x y s = place_by f i x y ∙ ap (λ G. place_in G i x y) (same
 
 pub file_numbers : (f : Frame) (before : List Segment) (blocks : Blocks) → SameNumbers f (picture_frame (meaning_of f before blocks))
 file_numbers f before blocks = record {
+  process = refl;
   width = refl;
   height = refl;
   precision = refl;

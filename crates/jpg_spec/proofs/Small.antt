@@ -1,5 +1,5 @@
 -- Numbers within bounds have few binary digits, and a number consists of its bits from bit 0 up.
-use Rattle.std.proofs.Common.{◌≡◌, ℕ, zero, suc, ◌+◌, ◌*◌, ◌^◌, ◌<◌, ◌≤◌, true, false, sym, subst, arith, ℤ, pos, negsuc, ⊎_elim, lit<, [], refl}
+use Rattle.std.proofs.Common.{◌≡◌, ℕ, zero, suc, ◌+◌, ◌*◌, ◌^◌, ◌<◌, ◌≤◌, true, false, sym, subst, arith, ℤ, pos, negsuc, ⊎_elim, lit<, lit≤, [], refl}
 use Rattle.std.specs.Prelude.{nat_abs, neg_ℤ, ◌+ℤ◌, ◌-ℤ◌, ◌≤ℤ◌, int_le}
 use Rattle.std.proofs.lemmas.Bool.{cases_lt}
 use Rattle.std.proofs.lemmas.Bool.Decides.{nat_tests}
@@ -10,8 +10,12 @@ use lib.Dec.{T}
 use Rattle.std.proofs.Math.Nat.{pow-le-pow_right}
 use Rattle.std.proofs.Math.IntN.{*ℤ-one}
 use Rattle.jpg_spec.specs.Numbers.{digits, category, extra_bits}
+use Rattle.jpg_spec.specs.Geometry.{bounds_8, bounds_12, bounds_of}
 use Rattle.jpg_spec.specs.Elements.{is_zero, scaled}
 use Rattle.jpg_spec.specs.Bits.{bits_of}
+use Rattle.jpg_spec.specs.declared.frame.Bounds.{Bounds}
+use Rattle.jpg_spec.proofs.Common.{is_true}
+use Rattle.jpg_spec.proofs.Precisions.{of_bounds}
 use Rattle.jpg_spec.proofs.Facts.{above_digits, some_digits}
 
 pub few_digits : (k n : ℕ) → n < 2 ^ k → digits n ≤ k
@@ -48,38 +52,73 @@ scaled_none v = *ℤ-one v
 
 -- AC VALUES
 
-ac_small : (v : ℤ) → int_le (pos (nat_abs v)) (pos 1023) ≡ true → nat_abs v ≤ 1023
-ac_small v e = grind (arith, nat_tests)
-
-pub ac_category : (v : ℤ) → int_le (pos (nat_abs v)) (pos 1023) ≡ true → category v ≤ 10
-ac_category v e = let h = ac_small v e in few_digits 10 (nat_abs v) (omega (arith, h))
-
 pub some_category : (v : ℤ) → is_zero v ≡ false → 1 ≤ category v
 some_category (pos zero) e = cc
 some_category (pos (suc n)) e = some_digits (suc n) (omega arith)
 some_category (negsuc n) e = some_digits (suc n) (omega arith)
 
--- DC VALUES
+-- VALUES IN THE BOUNDS of a precision
 
-pub record IsDc (v : ℤ) : Type 0 where
-  pub low : neg_ℤ (pos 1024) ≤ℤ v
-  pub high : v ≤ℤ pos 1023
+pub record IsDc (b : Bounds) (v : ℤ) : Type 0 where
+  pub low : b.dc_low ≤ℤ v
+  pub high : v ≤ℤ b.dc_high
 
-pub dc_small : (v : ℤ) → int_le (neg_ℤ (pos 1024)) v ≡ true → int_le v (pos 1023) ≡ true → IsDc v
-dc_small v e f = record { low = le_z_yes (subst T (sym e) tt); high = le_z_yes (subst T (sym f) tt) }
+-- an AC value
+abbrev pub IsAcValue : Bounds → ℤ → Type 0
+IsAcValue b v = int_le (pos (nat_abs v)) b.ac ≡ true
 
-magnitude : (d : ℤ) → neg_ℤ (pos 2047) ≤ℤ d → d ≤ℤ pos 2047 → nat_abs d ≤ 2047
-magnitude (pos n) l h = omega (arith, ints)
-magnitude (negsuc n) l h = omega (arith, ints)
+pub ac_less : (b : Bounds) (v w : ℤ) → nat_abs w ≤ nat_abs v → IsAcValue b v → IsAcValue b w
+ac_less b v w l h =
+    let k : pos (nat_abs v) ≤ℤ b.ac = le_z_yes (subst T (sym h) tt) in
+    let m : pos (nat_abs w) ≤ℤ b.ac = omega (arith, ints, k, l) in
+    is_true (int_le (pos (nat_abs w)) b.ac) m.le
 
-pub dc_category : (v p : ℤ) → IsDc v → IsDc p → category (v -ℤ p) ≤ 11
-dc_category v p a b =
-    let l1 = a.low in
-    let h1 = a.high in
-    let l2 = b.low in
-    let h2 = b.high in
-    let m = magnitude (v -ℤ p) (omega (arith, ints)) (omega (arith, ints)) in
-    few_digits 11 (nat_abs (v -ℤ p)) (omega (arith, m))
+pub dc_small : (b : Bounds) (v : ℤ) → int_le b.dc_low v ≡ true → int_le v b.dc_high ≡ true → IsDc b v
+dc_small b v e f = record { low = le_z_yes (subst T (sym e) tt); high = le_z_yes (subst T (sym f) tt) }
+
+-- what the bounds guarantee: 0 is a DC value, and the categories of differences and of AC values are those
+pub record AreBounds (b : Bounds) : Type 0 where
+  pub zero_dc : IsDc b (pos 0)
+  pub differences : (v p : ℤ) → IsDc b v → IsDc b p → category (v -ℤ p) ≤ b.dc_cat
+  pub values : (v : ℤ) → int_le (pos (nat_abs v)) b.ac ≡ true → category v ≤ b.ac_cat
+  pub dc_few : b.dc_cat ≤ 15
+  pub ac_few : b.ac_cat ≤ 14
+  pub al_few : b.al ≤ 13
+
+magnitude : (k : ℕ) (d : ℤ) → neg_ℤ (pos k) ≤ℤ d → d ≤ℤ pos k → nat_abs d ≤ k
+magnitude k (pos n) l h = omega (arith, ints)
+magnitude zero (negsuc n) l h = absurd (omega (arith, ints, l))
+magnitude (suc k) (negsuc n) l h = omega (arith, ints)
+
+ac_small : (k : ℕ) (v : ℤ) → int_le (pos (nat_abs v)) (pos k) ≡ true → nat_abs v ≤ k
+ac_small k v e = grind (arith, nat_tests)
+
+pub are_bounds : (precision : ℕ) → AreBounds (bounds_of precision)
+are_bounds precision = of_bounds AreBounds eight twelve precision
+  where
+    eight : AreBounds bounds_8
+    eight = record {
+      zero_dc = dc_small bounds_8 (pos 0) refl refl;
+      differences = λ v p a b.
+          (let l1 = a.low in let h1 = a.high in let l2 = b.low in let h2 = b.high in
+          let m = magnitude 2047 (v -ℤ p) (omega (arith, ints)) (omega (arith, ints)) in few_digits 11 (nat_abs (v -ℤ p)) (omega (arith, m)));
+      values = λ v e. (let h = ac_small 1023 v e in few_digits 10 (nat_abs v) (omega (arith, h)));
+      dc_few = lit≤ tt;
+      ac_few = lit≤ tt;
+      al_few = lit≤ tt;
+    }
+
+    twelve : AreBounds bounds_12
+    twelve = record {
+      zero_dc = dc_small bounds_12 (pos 0) refl refl;
+      differences = λ v p a b.
+          (let l1 = a.low in let h1 = a.high in let l2 = b.low in let h2 = b.high in
+          let m = magnitude 32767 (v -ℤ p) (omega (arith, ints)) (omega (arith, ints)) in few_digits 15 (nat_abs (v -ℤ p)) (omega (arith, m)));
+      values = λ v e. (let h = ac_small 16383 v e in few_digits 14 (nat_abs v) (omega (arith, h)));
+      dc_few = lit≤ tt;
+      ac_few = lit≤ tt;
+      al_few = lit≤ tt;
+    }
 
 pub back : (v p : ℤ) → p +ℤ (v -ℤ p) ≡ v
 back v p = omega (arith, ints)

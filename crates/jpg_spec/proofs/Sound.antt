@@ -16,6 +16,7 @@ use Rattle.jpg_spec.proofs.OneCode.{one_code}
 use Rattle.jpg_spec.proofs.Once.{BeginsElements, Decodes, OneWay, units_once}
 use Rattle.jpg_spec.proofs.Excludes.{data_excludes}
 use Rattle.jpg_spec.proofs.Facts.{facts}
+use Rattle.jpg_spec.proofs.Precisions.{of_bounds}
 use Rattle.jpg_spec.proofs.Common.{both, lt_of}
 
 -- what passes the test are codes
@@ -81,7 +82,7 @@ sound_where f tables head few h = record {
 }
 
 pub sound : (f : Frame) (tables : TablesInForce) (head : ScanHead) → AreTables tables → IsSound (scan_coding f tables head)
-sound f tables head h = sound_where f tables head (lit≤ tt) h
+sound f tables head h = sound_where f tables head (of_bounds (λ b. b.ac_cat ≤ 14) (lit≤ tt) (lit≤ tt) f.precision) h
 
 -- THE TYPICAL TABLES are valid
 abbrev pub chosen : Bool → Bool → HuffmanTable

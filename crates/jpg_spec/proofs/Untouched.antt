@@ -40,7 +40,7 @@ frame_stays limits before code contents framed e =
     ap (λ o. unwrap_or (first_some (option_and_then (λ process. told_some (frame_header limits process contents)) o) (frame_after limits before)) no_frame) none
 
 -- before a frame's header there are no scans
-unframed : (limits : Limits) (items : List Item) (blocks : Blocks) → Leads limits items blocks → has_frame (segments_of items) ≡ false → blocks ≡ no_blocks
+pub unframed : (limits : Limits) (items : List Item) (blocks : Blocks) → Leads limits items blocks → has_frame (segments_of items) ≡ false → blocks ≡ no_blocks
 unframed limits [] blocks l e = l
 unframed limits (segment code contents ∷ items) blocks l e = unframed limits items blocks l.2 (neither (is_frame_code code) (has_frame (segments_of items)) e).1
 unframed limits (scan contents intervals ∷ items) blocks l e =

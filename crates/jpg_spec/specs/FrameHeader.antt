@@ -5,6 +5,8 @@ use Rattle.jpg_spec.specs.Faults.{Told, refuse}
 use Rattle.jpg_spec.specs.Segments.{standard_limits}
 use Rattle.jpg_spec.specs.Geometry.{Frame, mcus_across, mcus_down, blocks_across, blocks_down, padded_blocks}
 use Rattle.jpg_spec.specs.declared.fault.Fault.TheVariants.{EmptyImage, TooLarge, Precision, ComponentCount, Sampling, DuplicateComponent, QuantSlot, TooManyBlocks}
+use Rattle.jpg_spec.specs.declared.frame.Process.{Process}
+use Rattle.jpg_spec.specs.declared.frame.Process.TheVariants.{Baseline}
 use Rattle.jpg_spec.specs.declared.frame.Component.{Component}
 use Rattle.jpg_spec.specs.declared.frame.Limits.{Limits}
 use Rattle.jpg_spec.specs.declared.frame.Grid.{Grid}
@@ -20,11 +22,16 @@ has_bad_slot c = nat_lt 3 c.quant
 abbrev pub identifiers : List Component → List ℕ
 identifiers components = map (λ c. c.id) components
 
+-- 8 bits, or 12 where the process isn't baseline (T.81, B.2.2, table B.2)
+abbrev pub is_precision : Process → ℕ → Bool
+is_precision Baseline precision = precision == 8
+is_precision other precision = precision == 8 || precision == 12
+
 unfoldable pub checked_frame : Limits → Frame → Told Frame
 checked_frame limits f =
     refuse EmptyImage (f.width == 0 || f.height == 0)
     (refuse TooLarge (nat_lt limits.side f.width || nat_lt limits.side f.height)
-    (refuse Precision (not (f.precision == 8))
+    (refuse Precision (not (is_precision f.process f.precision))
     (refuse ComponentCount (length f.components == 0 || nat_lt 4 (length f.components))
     (refuse Sampling (any_of has_bad_factor f.components)
     (refuse DuplicateComponent (not (is_distinct (identifiers f.components)))
@@ -45,7 +52,7 @@ pub record IsFrame (f : Frame) : Type 0 where
   pub width_high : f.width ≤ 65500
   pub height_low : 1 ≤ f.height
   pub height_high : f.height ≤ 65500
-  pub precision : f.precision ≡ 8
+  pub precision : is_precision f.process f.precision ≡ true
   pub count_low : 1 ≤ length f.components
   pub count_high : length f.components ≤ 4
   pub factors : All HasFactors f.components

@@ -15,9 +15,16 @@ pub record Frame : Type 0 where
   pub height : ℕ
   pub components : List Component
 
--- What a precision allows. With 8 bits DC is from -1024 to 1023 and AC from -1023 to 1023.
+-- What a precision allows (T.81, F.1.2, F.1.5, G.1.1.1.1): with 8 bits DC is from -1024 to 1023 and AC from -1023 to
+-- 1023; with 12 bits each has four binary digits more.
+abbrev pub bounds_8 : Bounds
+bounds_8 = record { dc_low = neg_ℤ (pos 1024); dc_high = pos 1023; ac = pos 1023; dc_cat = 11; ac_cat = 10; al = 10 }
+
+abbrev pub bounds_12 : Bounds
+bounds_12 = record { dc_low = neg_ℤ (pos 16384); dc_high = pos 16383; ac = pos 16383; dc_cat = 15; ac_cat = 14; al = 13 }
+
 abbrev pub bounds_of : ℕ → Bounds
-bounds_of precision = record { dc_low = neg_ℤ (pos 1024); dc_high = pos 1023; ac = pos 1023; dc_cat = 11; ac_cat = 10; al = 10 }
+bounds_of precision = if precision == 12 then bounds_12 else bounds_8
 
 abbrev pub bounds : Frame → Bounds
 bounds f = bounds_of f.precision

@@ -10,7 +10,7 @@ use Rattle.std.proofs.lemmas.List.Sums.{sum_by-append}
 use Rattle.jpg_spec.specs.Lists.{below, is_distinct}
 use Rattle.jpg_spec.specs.Segments.{standard_limits, AreQuantisers}
 use Rattle.jpg_spec.specs.Geometry.{Frame, bounds, padded_blocks, is_real, is_progressive}
-use Rattle.jpg_spec.specs.FrameHeader.{IsFrame, HasFactors, identifiers}
+use Rattle.jpg_spec.specs.FrameHeader.{IsFrame, HasFactors, identifiers, is_precision}
 use Rattle.jpg_spec.specs.Elements.{zeros, IsBlockIn}
 use Rattle.jpg_spec.specs.FileMeaning.{Means}
 use Rattle.jpg_spec.specs.Meaning.{Meaning, PictureComponent, picture_frame, colour_of, component_of, most_across, most_down}
@@ -29,7 +29,8 @@ use Rattle.jpg_spec_encode.specs.EncodingLaws.{AreFactors, IsEncodable}
 use Rattle.jpg_spec.specs.declared.frame.Component.{Component}
 use Rattle.jpg_spec_image.specs.declared.image.ImageKind.{ImageKind}
 use Rattle.jpg_spec_image.specs.declared.image.ImageKind.TheVariants.{Gray, Rgb}
-use Rattle.jpg_spec.specs.declared.frame.Process.TheVariants.{Baseline, Extended}
+use Rattle.jpg_spec.specs.declared.frame.Process.{Process}
+use Rattle.jpg_spec.specs.declared.frame.Process.TheVariants.{Baseline, Extended, Progressive}
 use Rattle.jpg_spec_write.specs.declared.picture_fault.PictureFault.TheVariants.{TooManyBlocks}
 use Rattle.jpg_spec.proofs.Common.{both, same_of, lt_of, not_lt_of}
 use Rattle.jpg_spec_image.proofs.CodedBlocks.{all_at, coded_block_in}
@@ -171,13 +172,19 @@ due_is_frame e width height false wl wh hl hh all few = record {
   blocks = few;
 }
 
-with_process : (f : Frame) → IsFrame f → (g : Frame) → g.width ≡ f.width → g.height ≡ f.height → g.precision ≡ f.precision → g.components ≡ f.components → padded_blocks g ≤ 8388608 → IsFrame g
+-- every process has frames of 8 bits
+pub eight_bits : (process : Process) → is_precision process 8 ≡ true
+eight_bits Baseline = refl
+eight_bits Extended = refl
+eight_bits Progressive = refl
+
+with_process : (f : Frame) → IsFrame f → (g : Frame) → g.width ≡ f.width → g.height ≡ f.height → g.precision ≡ 8 → g.components ≡ f.components → padded_blocks g ≤ 8388608 → IsFrame g
 with_process f is g w h p c few = record {
   width_low = subst (λ n. 1 ≤ n) (sym w) is.width_low;
   width_high = subst (λ n. n ≤ 65500) (sym w) is.width_high;
   height_low = subst (λ n. 1 ≤ n) (sym h) is.height_low;
   height_high = subst (λ n. n ≤ 65500) (sym h) is.height_high;
-  precision = p ∙ is.precision;
+  precision = ap (is_precision g.process) p ∙ eight_bits g.process;
   count_low = subst (λ (cs : List Component). 1 ≤ length cs) (sym c) is.count_low;
   count_high = subst (λ (cs : List Component). length cs ≤ 4) (sym c) is.count_high;
   factors = subst (λ (cs : List Component). All HasFactors cs) (sym c) is.factors;

@@ -3,7 +3,7 @@ use Rattle.std.proofs.Common.{◌≡◌, ℕ, Bool, List, length, take, drop, sy
 use Rattle.std.proofs.lemmas.List.{take-append-drop, length-take-le}
 use Rattle.jpg_spec.specs.Markers.{Segment}
 use Rattle.jpg_spec_image.specs.NotShown.{IsNotShown}
-use Rattle.jpg_spec.specs.InForce.{colours_after, factors_after}
+use Rattle.jpg_spec.specs.InForce.{frame_of, colours_after, factors_after}
 use Rattle.jpg_spec_image.specs.Pixels.{out_fault_of}
 use Rattle.jpg_spec.specs.declared.fault.FaultAt.{FaultAt}
 use Rattle.jpg_spec.specs.declared.fault.Fault.{Fault}
@@ -13,7 +13,7 @@ use Rattle.jpg_spec.proofs.Common.{some_once}
 
 -- the fault, if any, for which a picture can't be displayed, by these segments
 abbrev pub reason_after : Limits → Bool → List Segment → Option Fault
-reason_after limits gray before = out_fault_of (colours_after limits before) gray (factors_after limits before)
+reason_after limits gray before = out_fault_of (frame_of limits before).precision (colours_after limits before) gray (factors_after limits before)
 
 pub one_reason : (limits : Limits) (gray : Bool) (bytes : List ℕ) (f g : FaultAt) → IsNotShown limits gray bytes f → IsNotShown limits gray bytes g → f ≡ g
 one_reason limits gray bytes f g s t =

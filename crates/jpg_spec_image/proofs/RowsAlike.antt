@@ -8,7 +8,7 @@ use Rattle.jpg_spec.specs.FrameHeader.{identifiers}
 use Rattle.jpg_spec.specs.Scan.{Blocks}
 use Rattle.jpg_spec.specs.Jfif.{adobe_transform, jfif_of}
 use Rattle.jpg_spec.specs.Colours.{colours_of}
-use Rattle.jpg_spec.specs.Meaning.{PictureComponent}
+use Rattle.jpg_spec.specs.Meaning.{PictureComponent, colour_of}
 use Rattle.jpg_spec.specs.Markers.{Segment, kept_after}
 use Rattle.jpg_spec.specs.InForce.{frame_of, colours_after, factors_after}
 use Rattle.jpg_spec.specs.Header.{IsHeader}
@@ -23,6 +23,7 @@ use Rattle.jpg_spec.specs.declared.frame.Limits.{Limits}
 use Rattle.jpg_spec.proofs.ColoursKept.{picture_colours, picture_factors}
 use Rattle.jpg_spec.proofs.FrameFound.{framed}
 use Rattle.jpg_spec.proofs.OneHeader.{whole_once}
+use Rattle.jpg_spec_image.proofs.OneReason.{reason_after}
 use Rattle.jpg_spec.proofs.Untouched.{frame_stays}
 
 -- WHAT THE SCAN HEADER CHANGES: neither frame nor kept markers
@@ -39,23 +40,25 @@ factors_stay : (limits : Limits) (bytes : List ℕ) (before : List Segment) (con
 factors_stay limits bytes before contents w = ap (λ (f : Frame). map (λ (c : Component). (c.h, c.v)) f.components) (header_stays limits bytes before contents w)
 
 so_far_reason : (limits : Limits) (gray : Bool) (bytes : List ℕ) (before : List Segment) (contents : List ℕ) (blocks : Blocks) → BeginsScanOfAll limits bytes before contents
-    → out_fault gray (picture_so_far limits before contents blocks) ≡ out_fault_of (colours_after limits before) gray (factors_after limits before)
+    → out_fault gray (picture_so_far limits before contents blocks) ≡ reason_after limits gray before
 so_far_reason limits gray bytes before contents blocks w =
     let after = (0xda, contents) ∷ before in
     let M = picture_so_far limits before contents blocks in
-    ap (λ c. out_fault_of c gray (map (λ (c : PictureComponent). (c.h, c.v)) M.components)) (picture_colours limits after blocks ∙ colours_stay limits bytes before contents w)
-    ∙ ap (out_fault_of (colours_after limits before) gray) (picture_factors limits after blocks ∙ factors_stay limits bytes before contents w)
+    let f = frame_of limits before in
+    ap (λ (g : Frame). out_fault_of g.precision (colour_of M) gray (map (λ (c : PictureComponent). (c.h, c.v)) M.components)) (header_stays limits bytes before contents w)
+    ∙ ap (λ c. out_fault_of f.precision c gray (map (λ (c : PictureComponent). (c.h, c.v)) M.components)) (picture_colours limits after blocks ∙ colours_stay limits bytes before contents w)
+    ∙ ap (out_fault_of f.precision (colours_after limits before) gray) (picture_factors limits after blocks ∙ factors_stay limits bytes before contents w)
 
 -- THE LAW: it can't be displayed for the reason that its file can't
 pub so_far_alike : (limits : Limits) (gray : Bool) (bytes : List ℕ) (before : List Segment) (contents : List ℕ) (blocks : Blocks) → BeginsScanOfAll limits bytes before contents
     → AreNotShownAlike limits gray bytes (picture_so_far limits before contents blocks)
 so_far_alike limits gray bytes before contents blocks w = record {
   same = λ f s. (let one = whole_once limits w.front (take f.at bytes) w.rest (drop f.at bytes) before s.before contents s.contents w.header s.header (sym w.cut ∙ sym (take-append-drop f.at bytes)) in
-      reason ∙ ap (λ xs. out_fault_of (colours_after limits xs) gray (factors_after limits xs)) one.1 ∙ s.fault);
+      reason ∙ ap (reason_after limits gray) one.1 ∙ s.fault);
   told = λ fault e. (let f : FaultAt = record { fault = fault; at = length w.front } in (f, told fault e, refl));
 }
   where
-    reason : out_fault gray (picture_so_far limits before contents blocks) ≡ out_fault_of (colours_after limits before) gray (factors_after limits before)
+    reason : out_fault gray (picture_so_far limits before contents blocks) ≡ reason_after limits gray before
     reason = so_far_reason limits gray bytes before contents blocks w
 
     told : (fault : Fault) → out_fault gray (picture_so_far limits before contents blocks) ≡ Some fault → (let f : FaultAt = record { fault = fault; at = length w.front } in IsNotShown limits gray bytes f)

@@ -16,7 +16,7 @@ use Rattle.jpg_spec.specs.FileMeaning.{meaning_of, picture_component}
 use Rattle.jpg_spec_image.specs.Pixels.{is_colour_out, is_fractional, out_fault, shows_gray}
 use Rattle.jpg_spec_image.specs.Strips.{IsCovered, block_rows, lines, mcu_rows, needed}
 use Rattle.jpg_spec_image.specs.RowLaws.{IsShownInRows}
-use Rattle.jpg_spec.specs.declared.fault.Fault.TheVariants.{ColourOut, FractionalSampling}
+use Rattle.jpg_spec.specs.declared.fault.Fault.TheVariants.{Precision, ColourOut, FractionalSampling}
 use Rattle.jpg_spec.specs.declared.frame.Colour.TheVariants.{Cmyk, Gray, Unknown, Ycck}
 use Rattle.jpg_spec.proofs.Common.{clash, length_below, neither, same_of}
 use Rattle.jpg_spec.proofs.PlacesFound.{covers, least}
@@ -59,10 +59,11 @@ enough_shown count ids seen adobe gray some out = by (count == 1) refl (count ==
         last true k = clash (is_colour_out (four_colours adobe) gray) (out_four adobe gray) k
         last false k = clash true refl k
 
-no_fault : (out bad : Bool) → cond out (Some ColourOut) (cond bad (Some FractionalSampling) None) ≡ None → (out ≡ false) × (bad ≡ false)
-no_fault true bad e = cc
-no_fault false true e = cc
-no_fault false false e = (refl, refl)
+no_fault : (deep out bad : Bool) → cond deep (Some Precision) (cond out (Some ColourOut) (cond bad (Some FractionalSampling) None)) ≡ None → (out ≡ false) × (bad ≡ false)
+no_fault true out bad e = cc
+no_fault false true bad e = cc
+no_fault false false true e = cc
+no_fault false false false e = (refl, refl)
 
 -- INTEGER RATIOS
 
@@ -178,7 +179,7 @@ shown_covered f segments blocks gray smooth is none = λ i few. covered M smooth
 
     faults : (is_colour_out (colour_of (meaning_of f segments blocks)) gray ≡ false)
         × (any_of (is_fractional (greatest (map (λ c. c.0) factors)) (greatest (map (λ c. c.1) factors))) (cond (shows_gray (colour_of (meaning_of f segments blocks)) gray) (take 1 factors) factors) ≡ false)
-    faults = no_fault (is_colour_out (colour_of M) gray) (any_of (is_fractional (greatest (map (λ c. c.0) factors)) (greatest (map (λ c. c.1) factors))) (cond (shows_gray (colour_of M) gray) (take 1 factors) factors)) none
+    faults = no_fault (not (f.precision == 8)) (is_colour_out (colour_of M) gray) (any_of (is_fractional (greatest (map (λ c. c.0) factors)) (greatest (map (λ c. c.1) factors))) (cond (shows_gray (colour_of M) gray) (take 1 factors) factors)) none
 
     there : (i : ℕ) → i < needed (colour_of (meaning_of f segments blocks)) gray → i < length (meaning_of f segments blocks).components
     there i few =

@@ -3,6 +3,7 @@ use Rattle.std.proofs.Common.{◌≡◌, ℕ, Bool, List, ◌∷◌, ◌++◌, l
 use Rattle.std.proofs.lemmas.List.{append_assoc, length-append, take-append-drop}
 use Rattle.std.proofs.Math.Seq.{take-append_seam}
 use Rattle.jpg_spec_image.specs.Laws.{AreNotShownAlike}
+use Rattle.jpg_spec.specs.Geometry.{Frame}
 use Rattle.jpg_spec.specs.Meaning.{Meaning, PictureComponent}
 use Rattle.jpg_spec.specs.Markers.{Segment, has_scan}
 use Rattle.jpg_spec.specs.Items.{Item, scan, segments_of, contents_rule}
@@ -23,14 +24,14 @@ use Rattle.jpg_spec.proofs.FileHeader.{HasFirstScan, file_header, first_scan, it
 use Rattle.jpg_spec.proofs.FrameAfter.{leads_pass}
 use Rattle.jpg_spec.proofs.HeaderFirst.{AreOfHeader, scan_passed, with_scan}
 use Rattle.jpg_spec.proofs.EarlyBegun.{begun_behind}
-use Rattle.jpg_spec.proofs.ColoursKept.{same_colours_after, same_factors_after, picture_colours, picture_factors}
+use Rattle.jpg_spec.proofs.ColoursKept.{same_frame_after, same_colours_after, same_factors_after, picture_colours, picture_factors}
 
 -- a picture can't be displayed because of its file's segments
 picture_reason : (limits : Limits) (gray : Bool) (before : List Segment) (blocks : Blocks) → out_fault gray (meaning_of (frame_of limits before) before blocks) ≡ reason_after limits gray before
 picture_reason limits gray before blocks =
     let M = meaning_of (frame_of limits before) before blocks in
-    ap (λ c. out_fault_of c gray (map (λ (c : PictureComponent). (c.h, c.v)) M.components)) (picture_colours limits before blocks)
-    ∙ ap (out_fault_of (colours_after limits before) gray) (picture_factors limits before blocks)
+    ap (λ c. out_fault_of M.precision c gray (map (λ (c : PictureComponent). (c.h, c.v)) M.components)) (picture_colours limits before blocks)
+    ∙ ap (out_fault_of M.precision (colours_after limits before) gray) (picture_factors limits before blocks)
 
 -- and because of those before the first scan header
 first_reason : (limits : Limits) (gray : Bool) (items : List Item) (blocks : Blocks) (bytes : List ℕ) → Leads limits items blocks → (w : HasFirstScan limits items bytes)
@@ -38,9 +39,11 @@ first_reason : (limits : Limits) (gray : Bool) (items : List Item) (blocks : Blo
 first_reason limits gray items blocks bytes l w =
     let leads : Leads limits (w.more ++ scan w.contents w.intervals ∷ w.before) blocks = subst (λ (z : List Item). Leads limits z blocks) w.joined l in
     let all = segments_of (w.more ++ scan w.contents w.intervals ∷ w.before) in
+    let first = frame_of limits (segments_of w.before) in
     ap (λ (z : List Item). reason_after limits gray (segments_of z)) w.joined
-    ∙ ap (λ c. out_fault_of c gray (factors_after limits all)) (same_colours_after limits w.more w.contents w.intervals w.before blocks leads)
-    ∙ ap (out_fault_of (colours_after limits (segments_of w.before)) gray) (same_factors_after limits w.more w.contents w.intervals w.before blocks leads)
+    ∙ ap (λ (f : Frame). out_fault_of f.precision (colours_after limits all) gray (factors_after limits all)) (same_frame_after limits w.more w.contents w.intervals w.before blocks leads)
+    ∙ ap (λ c. out_fault_of first.precision c gray (factors_after limits all)) (same_colours_after limits w.more w.contents w.intervals w.before blocks leads)
+    ∙ ap (out_fault_of first.precision (colours_after limits (segments_of w.before)) gray) (same_factors_after limits w.more w.contents w.intervals w.before blocks leads)
 
 -- BYTES THAT BEGIN with this header, and mean a picture that can't be displayed because of it
 alike_by : (limits : Limits) (gray : Bool) (bytes : List ℕ) (M : Meaning) (before : List Segment) (contents head rest : List ℕ) → bytes ≡ head ++ rest → IsHeader limits head before contents → contents_rule limits before 0xda contents ≡ None

@@ -7,7 +7,7 @@ use Rattle.jpg_spec.specs.Header.{IsHeader}
 use Rattle.jpg_spec_image.specs.Pixels.{out_fault_of}
 use Rattle.jpg_spec.specs.declared.fault.FaultAt.{FaultAt}
 use Rattle.jpg_spec.specs.declared.frame.Limits.{Limits}
-use Rattle.jpg_spec.specs.InForce.{colours_after, factors_after}
+use Rattle.jpg_spec.specs.InForce.{frame_of, colours_after, factors_after}
 
 -- This many first bytes are the file's header, whose scan header breaks no rule. Its picture can't be displayed,
 -- because of this fault.
@@ -17,4 +17,4 @@ pub record IsNotShown (limits : Limits) (gray : Bool) (bytes : List ℕ) (f : Fa
   pub within : f.at ≤ length bytes
   pub header : IsHeader limits (take f.at bytes) before contents
   pub unbroken : contents_rule limits before 0xda contents ≡ None
-  pub fault : out_fault_of (colours_after limits before) gray (factors_after limits before) ≡ Some f.fault
+  pub fault : out_fault_of (frame_of limits before).precision (colours_after limits before) gray (factors_after limits before) ≡ Some f.fault

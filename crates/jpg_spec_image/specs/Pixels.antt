@@ -11,7 +11,7 @@ use Rattle.jpg_spec_image.specs.RedGreenBlue.{rgb_row, interleaved_row}
 use Rattle.jpg_spec.specs.declared.frame.Colour.{Colour}
 use Rattle.jpg_spec.specs.declared.frame.Colour.TheVariants.{Gray, YCbCr, Rgb, Cmyk, Ycck, Unknown}
 use Rattle.jpg_spec.specs.declared.fault.Fault.{Fault}
-use Rattle.jpg_spec.specs.declared.fault.Fault.TheVariants.{ColourOut, FractionalSampling}
+use Rattle.jpg_spec.specs.declared.fault.Fault.TheVariants.{Precision, ColourOut, FractionalSampling}
 use Rattle.jpg_spec_image.specs.declared.image.ImageKind.TheVariants as kind
 use Rattle.jpg_spec_image.specs.declared.image.ImageInfo.{ImageInfo}
 use Rattle.jpg_spec.specs.declared.jfif.Jfif.{Jfif}
@@ -98,7 +98,8 @@ info M gray = record {
   y_metre = metre (jfif_of M.kept) (jfif_of M.kept).y;
 }
 
--- what is refused: colours that can't be displayed, and a needed component whose factors don't divide the greatest
+-- what is refused: samples that haven't 8 bits, colours that can't be displayed, and a needed component whose factors
+-- don't divide the greatest
 abbrev pub is_colour_out : Colour → Bool → Bool
 is_colour_out Gray gray = false
 is_colour_out YCbCr gray = false
@@ -111,15 +112,16 @@ is_colour_out Unknown gray = true
 abbrev pub is_fractional : ℕ → ℕ → ℕ × ℕ → Bool
 is_fractional across down c = not (across % c.0 == 0) || not (down % c.1 == 0)
 
--- by the colour, whether gray is asked for, and the horizontal and vertical factors of each component
-abbrev pub out_fault_of : Colour → Bool → List (ℕ × ℕ) → Option Fault
-out_fault_of colour gray factors =
+-- by the precision, the colour, whether gray is asked for, and the horizontal and vertical factors of each component
+abbrev pub out_fault_of : ℕ → Colour → Bool → List (ℕ × ℕ) → Option Fault
+out_fault_of precision colour gray factors =
     let across = greatest (map (λ c. c.0) factors) in
     let down = greatest (map (λ c. c.1) factors) in
     let needed = if shows_gray colour gray then take 1 factors else factors in
-    if is_colour_out colour gray then Some ColourOut
+    if not (precision == 8) then Some Precision
+    else if is_colour_out colour gray then Some ColourOut
     else if any_of (is_fractional across down) needed then Some FractionalSampling
     else None
 
 abbrev pub out_fault : Bool → Meaning → Option Fault
-out_fault gray M = out_fault_of (colour_of M) gray (map (λ c. (c.h, c.v)) M.components)
+out_fault gray M = out_fault_of M.precision (colour_of M) gray (map (λ c. (c.h, c.v)) M.components)

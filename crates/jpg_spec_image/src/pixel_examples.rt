@@ -8,7 +8,7 @@ ghost use Rattle.jpg_spec_image.specs.Pixels.{pixel_row, info, out_fault, out_fa
 ghost use Rattle.jpg_spec_image.specs.declared.image.ImageKind.TheVariants.{Rgb};
 ghost use Rattle.jpg_spec.specs.declared.frame.Colour.{Colour};
 ghost use Rattle.jpg_spec.specs.declared.frame.Colour.TheVariants.{YCbCr, Cmyk};
-ghost use Rattle.jpg_spec.specs.declared.fault.Fault.TheVariants.{ColourOut, FractionalSampling};
+ghost use Rattle.jpg_spec.specs.declared.fault.Fault.TheVariants.{Precision, ColourOut, FractionalSampling};
 ghost use Rattle.jpg_spec_image.specs.ImageText.{end_text};
 ghost use Rattle.jpg_spec_image.specs.declared.image.EndKind.TheVariants.{Pnm, Bmp};
 ghost use Rattle.jpg_spec.specs.Elements.{zeros};
@@ -62,11 +62,12 @@ pub fn pictures_have_their_pixels()
 {}
 
 /// Factors of 2 with a greatest factor of 3 can't be displayed, nor can four colours, nor red, green and blue in
-/// grayscale.
+/// grayscale. Samples of 12 bits can't be displayed either, and that comes first.
 pub fn some_pictures_are_not_shown()
     ensures shown { out_fault false flat_picture ≡ None }
-    ensures factors { out_fault_of YCbCr false ((3, 1) ∷ (2, 1) ∷ (1, 1) ∷ []) ≡ Some FractionalSampling }
-    ensures gray { out_fault_of YCbCr true ((3, 1) ∷ (2, 1) ∷ (1, 1) ∷ []) ≡ None }
-    ensures four { out_fault_of Cmyk false ((1, 1) ∷ (1, 1) ∷ (1, 1) ∷ (1, 1) ∷ []) ≡ Some ColourOut }
-    ensures no_gray { out_fault_of Colour.Rgb true ((1, 1) ∷ (1, 1) ∷ (1, 1) ∷ []) ≡ Some ColourOut }
+    ensures factors { out_fault_of 8 YCbCr false ((3, 1) ∷ (2, 1) ∷ (1, 1) ∷ []) ≡ Some FractionalSampling }
+    ensures gray { out_fault_of 8 YCbCr true ((3, 1) ∷ (2, 1) ∷ (1, 1) ∷ []) ≡ None }
+    ensures four { out_fault_of 8 Cmyk false ((1, 1) ∷ (1, 1) ∷ (1, 1) ∷ (1, 1) ∷ []) ≡ Some ColourOut }
+    ensures no_gray { out_fault_of 8 Colour.Rgb true ((1, 1) ∷ (1, 1) ∷ (1, 1) ∷ []) ≡ Some ColourOut }
+    ensures deep { out_fault_of 12 Cmyk false ((1, 1) ∷ (1, 1) ∷ (1, 1) ∷ (1, 1) ∷ []) ≡ Some Precision }
 {}

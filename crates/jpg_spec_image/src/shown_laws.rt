@@ -19,7 +19,7 @@ pub fn no_fault_comes_before_what_is_not_shown()
 {}
 
 /// A file that means a picture, also one that ends early, can't be displayed exactly if the picture can't, and for that
-/// reason: what follows its first scan header changes neither colours nor factors.
+/// reason: what follows its first scan header changes neither precision nor colours nor factors.
 pub fn pictures_are_not_shown_for_their_own_reason()
     ensures { (limits : Limits) (gray : Bool) (bytes : List ℕ) (M : Meaning) → IsMeaning limits bytes M → AreNotShownAlike limits gray bytes M }
 {}

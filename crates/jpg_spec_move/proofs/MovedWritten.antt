@@ -30,7 +30,7 @@ use Rattle.jpg_spec.proofs.Common.{same_of}
 use Rattle.jpg_spec.proofs.Rows.{map_map}
 use Rattle.jpg_spec_move.proofs.BlockLaws.{length_transposed}
 use Rattle.jpg_spec_move.proofs.Within.{mirrored_in}
-use Rattle.jpg_spec_write.proofs.WrittenHeading.{heading, other_process}
+use Rattle.jpg_spec_write.proofs.WrittenHeading.{heading, other_process, progressive_precision, sequential_precision}
 use Rattle.jpg_spec_move.proofs.MovedBounds.{transposed_in, mirrored_down_in}
 use Rattle.jpg_spec_move.proofs.MovedFrames.{transformed_is, trimmed_is, grayed_is}
 use Rattle.jpg_spec.proofs.MovedFrames.{across_low, down_low}
@@ -40,6 +40,7 @@ use Rattle.jpg_spec.proofs.SameNumbers.{numbers_of, SameNumbers, same_frame}
 use Rattle.jpg_spec.proofs.MovedWritten.{zeros_here, count_of}
 use Rattle.jpg_spec_write.proofs.MovedWritten.{IsPicture, may_be_written}
 use Rattle.jpg_spec.proofs.ReadPicture.{zero_slots}
+use Rattle.jpg_spec.specs.FrameHeader.{is_precision}
 
 -- BLOCKS that are mirrored, exchanged, or left out
 
@@ -107,6 +108,7 @@ down_picture M is = record {
 
 same_exchanged : (M : Meaning) → SameNumbers (transformed_frame Transpose (picture_frame M)) (picture_frame (transpose M))
 same_exchanged M = record {
+  process = refl;
   width = refl;
   height = refl;
   precision = refl;
@@ -176,6 +178,7 @@ grayed_picture true M none is =
     let h : (component_at f 0).h ≡ h_max f = ap (λ (c : Component). c.h) (sym first) ∙ g.across ∙ ap greatest (sym (map_map (λ c. c.h) _ M.components)) in
     let v : (component_at f 0).v ≡ v_max f = ap (λ (c : Component). c.v) (sym first) ∙ g.down ∙ ap greatest (sym (map_map (λ c. c.v) _ M.components)) in
     let same : SameNumbers (grayed_frame true f) alone_frame = record {
+      process = refl;
       width = refl;
       height = refl;
       precision = refl;
@@ -200,6 +203,7 @@ trimmed_picture true t M is =
     let across : h_max f ≡ most_across M = ap greatest (map_map (λ c. c.h) _ M.components) in
     let down : v_max f ≡ most_down M = ap greatest (map_map (λ c. c.v) _ M.components) in
     let same : SameNumbers (trimmed_frame true t f) (picture_frame N) = record {
+      process = refl;
       width = ap (λ n. cond (mirrors_across t) (whole_side M.width (8 * n)) M.width) across;
       height = ap (λ n. cond (mirrors_down t) (whole_side M.height (8 * n)) M.height) down;
       precision = refl;
@@ -224,10 +228,14 @@ moved_headed choice M none is =
     let cuts = trimmed_picture choice.trim choice.transform (transformed choice.transform (grayed choice.gray M)) turns in
     let headed = heading standard_limits choice.copying N (may_be_written N cuts) in
     record {
-      frame = other_process standard_limits (frame_of_meaning (headed_by choice.copying N)) (frame_of_meaning (headed_by choice.copying N)) (process_due (asks_progressive choice.scans) N) headed.frame;
+      frame = other_process standard_limits (frame_of_meaning (headed_by choice.copying N)) (frame_of_meaning (headed_by choice.copying N)) (process_due (asks_progressive choice.scans) N) (allowed N cuts.frame.precision (asks_progressive choice.scans)) headed.frame;
       quants = headed.quants;
       markers = headed.markers;
       count = headed.count;
       blocks = headed.blocks;
       others = headed.others;
     }
+  where
+    allowed : (N : Meaning) → is_precision N.process N.precision ≡ true → (b : Bool) → is_precision (process_due b N) N.precision ≡ true
+    allowed N e true = progressive_precision N e
+    allowed N e false = sequential_precision N e

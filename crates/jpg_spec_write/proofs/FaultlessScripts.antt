@@ -5,7 +5,7 @@ use Rattle.std.proofs.lemmas.Bool.Decides.{nat_tests}
 use Rattle.std.proofs.lemmas.List.{length-map}
 use Rattle.std.proofs.Math.Path.{fun_ext}
 use Rattle.jpg_spec.specs.Lists.{any_of, all_of, is_among, is_distinct, is_empty, below}
-use Rattle.jpg_spec.specs.Geometry.{Frame, factor_sum, is_progressive}
+use Rattle.jpg_spec.specs.Geometry.{Frame, factor_sum, is_progressive, bounds}
 use Rattle.jpg_spec.specs.Segments.{ScanHead, head_components, needs_dc, needs_ac}
 use Rattle.jpg_spec.specs.ScanContents.{are_parameters}
 use Rattle.jpg_spec.specs.InForce.{first_some}
@@ -246,16 +246,16 @@ next_alike g h gs hs i a same =
     ∙ ap (λ known. next_by h.ss h.ah known (has_coefficient g i)) (fun_ext (λ k. same i k))
     ∙ ap (λ has. next_by h.ss h.ah (known_to hs i) has) (fun_ext (λ k. has_alike g h i k a))
 
-abbrev parameters_by : ℕ → ℕ → ℕ → ℕ → ℕ → Bool
-parameters_by count ss se ah al =
-    (cond (ss == 0) (se == 0) (count == 1 && (nat_le ss se && nat_le se 63))) && ((ah == 0 || ah == al + 1) && nat_le al 10)
+abbrev parameters_by : Frame → ℕ → ℕ → ℕ → ℕ → ℕ → Bool
+parameters_by f count ss se ah al =
+    (cond (ss == 0) (se == 0) (count == 1 && (nat_le ss se && nat_le se 63))) && ((ah == 0 || ah == al + 1) && nat_le al (bounds f).al)
 
 parameters_alike : (f : Frame) (count : ℕ) (g h : ScanHead) → AreAlike g h → are_parameters f count g ≡ are_parameters f count h
 parameters_alike f count g h a =
-    ap (λ s. parameters_by count s g.se g.ah g.al) a.ss
-    ∙ ap (λ s. parameters_by count h.ss s g.ah g.al) a.se
-    ∙ ap (λ s. parameters_by count h.ss h.se s g.al) a.ah
-    ∙ ap (λ s. parameters_by count h.ss h.se h.ah s) a.al
+    ap (λ s. parameters_by f count s g.se g.ah g.al) a.ss
+    ∙ ap (λ s. parameters_by f count h.ss s g.ah g.al) a.se
+    ∙ ap (λ s. parameters_by f count h.ss h.se s g.al) a.ah
+    ∙ ap (λ s. parameters_by f count h.ss h.se h.ah s) a.al
 
 -- the test of an entry by its components and their number
 abbrev entry_by : Frame → List ScanHead → ScanHead → ℕ → List ℕ → Bool

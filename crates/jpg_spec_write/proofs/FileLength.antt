@@ -1,5 +1,5 @@
 -- A file that is written in a sequential script has fewer than 2^39 bytes.
-use Rattle.std.proofs.Common.{◌≡◌, ℕ, zero, suc, ◌+◌, ◌*◌, ◌%◌, ◌^◌, ◌<◌, ◌≤◌, Bool, true, false, cond, List, [], ◌∷◌, ◌++◌, length, refl, sym, ap, ◌∙◌, subst, arith, lit≤, ⊎_elim, ℤ, pos, Option, ◌==◌}
+use Rattle.std.proofs.Common.{◌≡◌, ℕ, zero, suc, ◌+◌, ◌*◌, ◌%◌, ◌^◌, ◌<◌, ◌≤◌, Bool, true, false, cond, List, [], ◌∷◌, ◌++◌, length, refl, sym, ap, ◌∙◌, subst, arith, lit≤, ⊎_elim, ℤ, pos, Option, ◌==◌, not, ◌&&◌}
 use Rattle.std.specs.Prelude.{◌||◌, map, flat_map, slice_index_or}
 use Rattle.std.specs.Int.{to_be_bytes, w16}
 use Rattle.std.specs.List.{All}
@@ -12,12 +12,12 @@ use Rattle.jpg_spec.specs.Geometry.{Frame, is_progressive, units, mcu_units}
 use Rattle.jpg_spec.specs.FrameHeader.{AreLimits}
 use Rattle.jpg_spec.specs.Segments.{HuffmanTable, ScanHead, head_components, standard_limits}
 use Rattle.jpg_spec.specs.Scan.{Blocks, scan_coding}
-use Rattle.jpg_spec_write.specs.ScanText.{units_due, last_dc, intervals_text, typical_table, typical_tables}
+use Rattle.jpg_spec_write.specs.ScanText.{units_due, last_dc, intervals_text, typical_table, Owned, scan_elements, symbols_used}
 use Rattle.jpg_spec.specs.Markers.{eoi}
 use Rattle.jpg_spec.specs.Meaning.{Meaning, PictureComponent, colour_of}
 use Rattle.jpg_spec_write.specs.Script.{Entry, sequential_script}
-use Rattle.jpg_spec_write.specs.Written.{IsWritable}
-use Rattle.jpg_spec_write.specs.FileText.{Written, nothing_written, Restart, segment_text, front_text, frame_of_meaning, head_text, tables_text, tables_given, with_table, holds_table, interval_of, scans_text, file_text}
+use Rattle.jpg_spec_write.specs.Written.{IsWritable, HasCode, all_in_force}
+use Rattle.jpg_spec_write.specs.FileText.{Written, nothing_written, Restart, segment_text, front_text, frame_of_meaning, head_text, tables_text, with_table, holds_table, interval_of, scans_text, file_text}
 use Rattle.jpg_spec_write.specs.WrittenFile.{HasQuants, IsHeaded, is_sequential_entry, is_script_after}
 use Rattle.jpg_spec.specs.declared.frame.Place.{Place}
 use Rattle.jpg_spec.specs.declared.frame.ScanPart.{ScanPart}
@@ -25,12 +25,12 @@ use Rattle.jpg_spec.specs.declared.frame.Limits.{Limits}
 use Rattle.jpg_spec.proofs.BlocksOnce.{joined_chunks}
 use Rattle.jpg_spec.proofs.Rows.{map_map}
 use Rattle.jpg_spec.proofs.PlacesFound.{each_units}
-use Rattle.jpg_spec.proofs.Each.{Each, each_map, each_rows}
-use Rattle.jpg_spec_write.proofs.PlacedBlocks.{each_all, block_due, placed_writable, due_writable, IsRealSendable}
+use Rattle.jpg_spec.proofs.Each.{Each}
+use Rattle.jpg_spec_write.proofs.PlacedBlocks.{block_due, IsRealSendable, each_both}
 use Rattle.jpg_spec.proofs.WrittenFront.{standard_are_limits, frame_is}
-use Rattle.jpg_spec_write.proofs.WrittenScan.{sequential_coded}
+use Rattle.jpg_spec_write.proofs.WrittenScan.{sequential_coded, rows_elements}
 use Rattle.jpg_spec_write.proofs.WrittenScript.{IsFit, among_join}
-use Rattle.jpg_spec_write.proofs.WrittenSequential.{plain_part, plain_head, plain_components, IsEntry, entry_is, among_below, plain_needed, plain_data, rows_of, scans_are}
+use Rattle.jpg_spec_write.proofs.WrittenSequential.{plain_part, plain_head, plain_components, IsEntry, entry_is, among_below, plain_needed, plain_data, rows_of, scans_are, plain_tables, plain_scan, plain_written}
 use Rattle.jpg_spec_write.proofs.WrittenMeans.{count_is, sequential_means}
 use Rattle.jpg_spec_write.proofs.FrontLength.{HasLength, length_segment, front_few}
 use Rattle.jpg_spec_write.proofs.ScanLength.{due_few}
@@ -39,6 +39,9 @@ use Rattle.jpg_spec.specs.FileMeaning.{Means}
 use Rattle.jpg_spec_write.specs.Laws.{IsOwnText}
 use Rattle.jpg_spec_write.proofs.WrittenScripts.{sequential_passes}
 use Rattle.jpg_spec.proofs.Common.{both, neither, same_itself}
+use Rattle.jpg_spec_write.proofs.SequentialCodes.{scan_coded, rows_writable}
+use Rattle.jpg_spec_write.proofs.ProgressiveCodes.{flat_tables, symbols_few}
+use Rattle.jpg_spec.proofs.FlatTables.{flat_valid}
 
 -- THE DATA of a scan
 
@@ -56,45 +59,57 @@ intervals_long coded turn (row ∷ next ∷ rows) h =
     let text = intervals_text (turn + 1) (map coded (next ∷ rows)) in
     omega (arith, h.0, later, length-append (coded row) (255 ∷ (0xd0 + turn % 8) ∷ text), length-append row (joined (next ∷ rows)))
 
-interval_long : (f : Frame) (head : ScanHead) (blocks : Blocks) (places : List Place) → is_progressive f.process ≡ false → f.precision ≡ 8 → Each (IsRealSendable (scan_coding f typical_tables head) blocks) places
-    → length (stuffed (sequential_coded head blocks places)) ≤ 496 * length places + 2
-interval_long f head blocks places e p ok =
-    let c = scan_coding f typical_tables head in
+-- a table of at most 272 counts and symbols
+abbrev pub IsSmallTable : HuffmanTable → Type 0
+IsSmallTable t = length t.counts + length t.symbols ≤ 272
+
+interval_long : (f : Frame) (tables : ℕ → ℕ → HuffmanTable) (head : ScanHead) (blocks : Blocks) (places : List Place) → is_progressive f.process ≡ false → ((class slot : ℕ) → length (tables class slot).counts ≤ 16)
+    → Each (IsWritable (scan_coding f (all_in_force tables) head)) (units_due blocks (λ i. pos 0) places) → Each (HasCode tables head) (rows_elements head blocks places)
+    → length (stuffed (sequential_coded tables head blocks places)) ≤ 496 * length places + 2
+interval_long f tables head blocks places e short ok coded =
     let first : ℕ → ℤ = λ i. pos 0 in
-    let due = units_due blocks first places in
-    let all = each_all (IsWritable c) due (due_writable c blocks first places (placed_writable c blocks first places refl (λ i. refl) ok)) in
-    omega (arith, due_few f head due e p all, length_due blocks first places)
+    omega (arith, due_few f tables head (units_due blocks first places) e short ok coded, length_due blocks first places)
+
+plain_counts : (H : Meaning) (head : ScanHead) (n class slot : ℕ) → IsSmallTable (plain_tables H head n class slot) × (length (plain_tables H head n class slot).counts ≤ 16)
+plain_counts H head n class slot = by (not (is_progressive H.process) && H.precision == 8)
+  where
+    es : List (List Owned)
+    es = scan_elements (frame_of_meaning H) head n H.blocks
+
+    IsGood : HuffmanTable → Type 0
+    IsGood t = IsSmallTable t × (length t.counts ≤ 16)
+
+    typical : (a b : Bool) → IsGood (cond a (cond b (typical_table 0 0) (typical_table 0 1)) (cond b (typical_table 1 0) (typical_table 1 1)))
+    typical true true = (lit≤ tt, lit≤ tt)
+    typical true false = (lit≤ tt, lit≤ tt)
+    typical false true = (lit≤ tt, lit≤ tt)
+    typical false false = (lit≤ tt, lit≤ tt)
+
+    by : (t : Bool) → IsGood (cond t (typical_table class slot) (flat_tables head es class slot))
+    by true = typical (class == 0) (slot == 0)
+    by false =
+        let valid = flat_valid (symbols_used head es class slot) (symbols_few head es class slot) in
+        (omega (arith, valid.counts, valid.few), omega (arith, valid.counts))
 
 data_long : (H : Meaning) (head : ScanHead) (n : ℕ) → IsFit H → ((i : ℕ) → is_among i (head_components head) ≡ true → i < length H.components)
     → length (plain_data H head n) ≤ 500 * length (units (frame_of_meaning H) (head_components head)) + 4
 data_long H head n fit known =
     let f = frame_of_meaning H in
     let parts = head_components head in
-    let c = scan_coding f typical_tables head in
+    let tables = plain_tables H head n in
+    let c = scan_coding f (all_in_force tables) head in
     let rows = rows_of H head n in
     let size = n * mcu_units f parts in
     let sendable = each_units (IsRealSendable c H.blocks) f parts
     (λ i x y e real. fit.blocks i x y (known i e) real) in
-    let each = each_map (λ row. Each (IsRealSendable c H.blocks) row) (λ row. length (stuffed (sequential_coded head H.blocks row)) ≤ 496 * length row + 2) rows
-    (λ row h. interval_long f head H.blocks row fit.sequential fit.frame.precision h) (each_rows (IsRealSendable c H.blocks) size (units f parts) sendable) in
-    let long = intervals_long (λ row. stuffed (sequential_coded head H.blocks row)) 0 rows each in
-    let same = ap (λ t. length (intervals_text 0 t)) (map_map stuffed (sequential_coded head H.blocks) rows) in
+    let writable = rows_writable f head n H.blocks sendable in
+    let each = each_both (λ row. Each (IsWritable c) (units_due H.blocks (λ i. pos 0) row)) (λ row. Each (HasCode tables head) (rows_elements head H.blocks row)) (λ row. length (stuffed (sequential_coded tables head H.blocks row)) ≤ 496 * length row + 2) rows
+    (λ row h k. interval_long f tables head H.blocks row fit.sequential (λ class slot. (plain_counts H head n class slot).1) h k) writable (scan_coded f head n H.blocks fit.sequential writable) in
+    let long = intervals_long (λ row. stuffed (sequential_coded tables head H.blocks row)) 0 rows each in
+    let same = ap (λ t. length (intervals_text 0 t)) (map_map stuffed (sequential_coded tables head H.blocks) rows) in
     omega (arith, long, same, ap length (joined_chunks size (units f parts)), intervals_few size (units f parts))
 
 -- ITS HEAD AND TABLES
-
-typical_few : (class slot : ℕ) → length (typical_table class slot).counts + length (typical_table class slot).symbols ≤ 272
-typical_few class slot = by (class == 0) (slot == 0)
-  where
-    by : (a b : Bool) → (let t : HuffmanTable = cond a (cond b (typical_table 0 0) (typical_table 0 1)) (cond b (typical_table 1 0) (typical_table 1 1)) in length t.counts + length t.symbols ≤ 272)
-    by true true = lit≤ tt
-    by true false = lit≤ tt
-    by false true = lit≤ tt
-    by false false = lit≤ tt
-
--- a table of at most 272 counts and symbols
-abbrev pub IsSmallTable : HuffmanTable → Type 0
-IsSmallTable t = length t.counts + length t.symbols ≤ 272
 
 table_few : (class slot : ℕ) (t : HuffmanTable) → IsSmallTable t → length (segment_text 0xc4 ((16 * class + slot) ∷ t.counts ++ t.symbols)) ≤ 277
 table_few class slot t few = omega (arith, few, length-append t.counts t.symbols, length_segment 0xc4 ((16 * class + slot) ∷ t.counts ++ t.symbols))
@@ -137,13 +152,13 @@ restart_few n false = omega (arith, length_segment 0xdd (to_be_bytes w16 n))
 -- A SCAN of a script, with its tables and its head
 scan_long : (H : Meaning) (restart : Restart) (w : Written) (done components : List ℕ) → IsFit H → IsEntry (frame_of_meaning H) done components
     → (let head = plain_head (colour_of H) components in let n = interval_of (frame_of_meaning H) head restart in
-    length (tables_text w.tables typical_table (plain_needed head.parts) ++ cond (n == w.interval) [] (segment_text 0xdd (to_be_bytes w16 n)) ++ head_text H head ++ plain_data H head n) ≤ 41943042242)
+    length (plain_scan H head n w) ≤ 41943042242)
 scan_long H restart w done components fit entry =
     let f = frame_of_meaning H in
     let colour = colour_of H in
     let head = plain_head colour components in
     let n = interval_of f head restart in
-    let tables = tables_text w.tables typical_table (plain_needed head.parts) in
+    let tables = tables_text w.tables (plain_tables H head n) (plain_needed head.parts) in
     let dri = cond (n == w.interval) [] (segment_text 0xdd (to_be_bytes w16 n)) in
     let names_are = plain_components colour components in
     let known : (i : ℕ) → is_among i (head_components head) ≡ true → i < length H.components = λ i e.
@@ -155,7 +170,7 @@ scan_long H restart w done components fit entry =
     let a = length-append tables dri in
     let b = length-append (tables ++ dri) (head_text H head) in
     let d = length-append (tables ++ dri ++ head_text H head) (plain_data H head n) in
-    omega (arith, data_long H head n fit known, units_are, few, fit.frame.blocks, tables_few w.tables typical_table (plain_needed head.parts) typical_few, needed, parts, entry.few, restart_few n (n == w.interval), head_few H head (omega (arith, parts, entry.few)), a, b, d)
+    omega (arith, data_long H head n fit known, units_are, few, fit.frame.blocks, tables_few w.tables (plain_tables H head n) (plain_needed head.parts) (λ c m. (plain_counts H head n c m).0), needed, parts, entry.few, restart_few n (n == w.interval), head_few H head (omega (arith, parts, entry.few)), a, b, d)
 
 -- THE SCRIPT: each scan takes a component that none before it had
 
@@ -220,11 +235,10 @@ scans_long H restart w done (entry ∷ script) fit e =
     let is = entry_is f done entry b.0 in
     let head = plain_head (colour_of H) entry.components in
     let n = interval_of f head restart in
-    let needed = plain_needed head.parts in
-    let next : Written = record { tables = tables_given w.tables typical_table needed; interval = n } in
-    let here = tables_text w.tables typical_table needed ++ cond (n == w.interval) [] (segment_text 0xdd (to_be_bytes w16 n)) ++ head_text H head ++ plain_data H head n in
+    let next = plain_written H head n w in
+    let here = plain_scan H head n w in
     let later = scans_long H restart next (entry.components ++ done) script fit b.1 in
-    let cut = ap length (scans_are H restart w entry script fit.sequential fit.frame.precision) in
+    let cut = ap length (scans_are H restart w entry script fit.sequential) in
     let few = entry_fewer (length f.components) entry.components done is.some is.known is.new in
     omega (arith, later, cut, length-append here (scans_text H restart next script), scan_long H restart w done entry.components fit is, few)
 

@@ -25,6 +25,7 @@ pub mod RenewedScan
 pub mod ScanLength
 pub mod ScriptGrids
 pub mod Sequential
+pub mod SequentialCodes
 pub mod Shifts
 pub mod Sound
 pub mod StandardScripts

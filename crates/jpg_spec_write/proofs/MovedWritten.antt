@@ -72,6 +72,7 @@ slots_low M few =
 
 same_slots : (M : Meaning) → SameNumbers (picture_frame M) (frame_of_meaning M)
 same_slots M = record {
+  process = refl;
   width = refl;
   height = refl;
   precision = refl;

@@ -18,6 +18,10 @@ pub each_all : {A : Type 0} (P : A → Type 0) (xs : List A) → Each P xs → A
 each_all P [] h = All-nil P
 each_all P (x ∷ xs) h = All-cons P x xs h.0 (each_all P xs h.1)
 
+pub each_both : {A : Type 0} (P Q R : A → Type 0) (xs : List A) → ((x : A) → P x → Q x → R x) → Each P xs → Each Q xs → Each R xs
+each_both P Q R [] f h k = tt
+each_both P Q R (x ∷ xs) f h k = (f x h.0 k.0, each_both P Q R xs f h.1 k.1)
+
 -- BLOCKS WITH THEIR PLACES, as an interval writes them
 
 abbrev pub Placed : Type 0

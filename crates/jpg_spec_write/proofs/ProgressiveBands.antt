@@ -1,7 +1,6 @@
 -- A progressive scan of a band of AC leads from what was known to what is known.
 use Rattle.std.proofs.Common.{◌≡◌, ℕ, zero, suc, ◌+◌, ◌-◌, ◌<◌, ◌≤◌, Bool, true, false, cond, List, [], ◌∷◌, length, take, drop, get_or, refl, sym, ap, ◌∙◌, subst, arith, ℤ, pos, ◌&&◌}
 use Rattle.std.specs.Prelude.{map, flat_map, nat_le, nat_lt, nat_abs, int_le}
-use Rattle.std.proofs.lemmas.Bool.Decides.{nat_tests}
 use Rattle.std.proofs.lemmas.List.{get_or-map, ext_get_or, get_or-take, get_or-drop, length-map, length-drop, length-take-le}
 use Rattle.jpg_spec.specs.Lists.{any_of, is_among, below}
 use Rattle.jpg_spec.specs.Geometry.{Frame, bounds_of, bounds, is_real, component_at, blocks_across, blocks_down, place, units}
@@ -18,14 +17,16 @@ use Rattle.jpg_spec.specs.PictureInWork.{is_at, AreDistinct}
 use Rattle.jpg_spec.specs.declared.frame.Place.{Place}
 use Rattle.jpg_spec.proofs.PlacesDistinct.{units_distinct, map_is_flat}
 use Rattle.jpg_spec.proofs.Each.{Each, each_map, each_join, each_flat}
-use Rattle.jpg_spec_write.proofs.PlacedBlocks.{Placed, block_due, placed_due, all_placed}
+use Rattle.jpg_spec.specs.declared.frame.Bounds.{Bounds}
+use Rattle.jpg_spec.proofs.Small.{IsAcValue}
+use Rattle.jpg_spec_write.proofs.PlacedBlocks.{Placed, block_due, placed_due, all_placed, each_both}
 use Rattle.jpg_spec.proofs.PlacesFound.{flat_below, each_units, real_found}
 use Rattle.jpg_spec_write.proofs.WrittenScan.{IsPlaceOf, IsPicture, all_real, none_other}
 use Rattle.jpg_spec_write.proofs.RenewedScan.{renew_block, renewed_band, rows_of, after_renewed, after_found, after_elsewhere, after_outside, after_inside}
 use Rattle.jpg_spec_write.proofs.ProgressiveRows.{IsBandDue}
 use Rattle.jpg_spec_write.proofs.ProgressiveKnown.{ac_known, IsRenewed}
 use Rattle.jpg_spec.proofs.Known.{was_known}
-use Rattle.jpg_spec_write.proofs.ProgressiveScan.{IsProgressiveScan, each_both, each_place, rows_each}
+use Rattle.jpg_spec_write.proofs.ProgressiveScan.{IsProgressiveScan, each_place, rows_each}
 use Rattle.jpg_spec.proofs.Common.{both, le_of, and_intro, lt_yes}
 
 -- BANDS
@@ -44,15 +45,9 @@ band_by s f a b low high la lb step =
     get_or-take n (drop s.ss a) k (pos 0) few ∙ get_or-drop s.ss a k (pos 0) ∙ step (s.ss + k) (omega arith) (omega (arith, few, low))
     ∙ sym (get_or-map f (band s b) k (pos 0) (pos 0) (subst (λ m. k < m) (sym l2) few) ∙ ap f (get_or-take n (drop s.ss b) k (pos 0) few ∙ get_or-drop s.ss b k (pos 0)))))
 
-acs_small : (vs : List ℤ) → are_in_bounds (bounds_of 8) false vs ≡ true → Each (λ v. nat_abs v ≤ 1023) vs
-acs_small [] e = tt
-acs_small (v ∷ vs) e =
-    let b = both (int_le (pos (nat_abs v)) (pos 1023)) (are_in_bounds (bounds_of 8) false vs) e in
-    let h = b.0 in
-    (small v h, acs_small vs b.1)
-  where
-    small : (v : ℤ) → int_le (pos (nat_abs v)) (pos 1023) ≡ true → nat_abs v ≤ 1023
-    small v h = grind (arith, nat_tests, h)
+acs_small : (b : Bounds) (vs : List ℤ) → are_in_bounds b false vs ≡ true → Each (IsAcValue b) vs
+acs_small b [] e = tt
+acs_small b (v ∷ vs) e = let k = both (int_le (pos (nat_abs v)) b.ac) (are_in_bounds b false vs) e in (k.0, acs_small b vs k.1)
 
 each_take : {A : Type 0} (P : A → Type 0) (n : ℕ) (xs : List A) → Each P xs → Each P (take n xs)
 each_take P zero xs h = tt
@@ -64,11 +59,10 @@ each_drop P zero xs h = h
 each_drop P (suc n) [] h = tt
 each_drop P (suc n) (x ∷ xs) h = each_drop P n xs h.1
 
-behind_first : (n : ℕ) (block : List ℤ) → 1 ≤ n → are_in_bounds (bounds_of 8) true block ≡ true → Each (λ v. nat_abs v ≤ 1023) (drop n block)
-behind_first zero block l e = absurd (omega (arith, l))
-behind_first (suc n) [] l e = tt
-behind_first (suc n) (v ∷ block) l e =
-    each_drop (λ v. nat_abs v ≤ 1023) n block (acs_small block (both (int_le (bounds_of 8).dc_low v && int_le v (bounds_of 8).dc_high) (are_in_bounds (bounds_of 8) false block) e).1)
+behind_first : (b : Bounds) (n : ℕ) (block : List ℤ) → 1 ≤ n → are_in_bounds b true block ≡ true → Each (IsAcValue b) (drop n block)
+behind_first b zero block l e = absurd (omega (arith, l))
+behind_first b (suc n) [] l e = tt
+behind_first b (suc n) (v ∷ block) l e = each_drop (IsAcValue b) n block (acs_small b block (both (int_le b.dc_low v && int_le v b.dc_high) (are_in_bounds b false block) e).1)
 
 -- PLACES of a scan of one component are real
 
@@ -105,6 +99,7 @@ pub record IsBandScan (H : Meaning) (heads : List ScanHead) (s : Scan) (head : S
   pub frame : IsFrame (frame_of_meaning H)
   pub count : length (frame_of_meaning H).components ≡ length H.components
   pub known : i < length H.components
+  pub bounded : s.coding.bounds ≡ bounds_of H.precision
   pub blocks : (i x y : ℕ) → i < length H.components → is_real (frame_of_meaning H) i x y ≡ true → IsBlockIn (bounds (frame_of_meaning H)) (H.blocks i x y)
   pub sizes : (i x y : ℕ) → length (before i x y) ≡ 64
   pub old : (x y k : ℕ) → is_real (frame_of_meaning H) i x y ≡ true → head.ss ≤ k → k ≤ head.se → coefficient before i x y k ≡ ac_known (was_known head) (coefficient H.blocks i x y k)
@@ -157,7 +152,7 @@ band_due H heads s head i before is =
           was = band_by s (ac_known (was_known head)) (block_at before p) q.1 low high (is.sizes p.component p.x p.y) fine.0
               (λ k a b. ap (λ n. coefficient before n p.x p.y k) c ∙ is.old p.x p.y k real_i (subst (λ n. n ≤ k) is.scan.ss a) (subst (λ n. k ≤ n) is.scan.se b) ∙ ap (λ t. ac_known (was_known head) (get_or t k (pos 0))) (sym there));
           is = ap (band s) found ∙ renewed_band s (band_renews s) g (block_at before p) q.1 low high fine.0 (λ k a b. refl);
-          small = (omega (arith, l, low), each_take (λ v. nat_abs v ≤ 1023) (s.se + 1 - s.ss) (drop s.ss q.1) (behind_first s.ss q.1 some fine.1));
+          small = (omega (arith, l, low), each_take (IsAcValue s.coding.bounds) (s.se + 1 - s.ss) (drop s.ss q.1) (subst (λ (b : Bounds). Each (IsAcValue b) (drop s.ss q.1)) (sym is.bounded) (behind_first (bounds f) s.ss q.1 some fine.1)));
         }
 
 pub band_renewed : (H : Meaning) (heads : List ScanHead) (s : Scan) (head : ScanHead) (i : ℕ) (before : Blocks) → IsBandScan H heads s head i before → IsRenewed H heads head before (after_renewed s (band_renews s) H.blocks before)

@@ -1,21 +1,24 @@
--- The flat tables of a progressive scan have codes for all that the scan writes.
+-- The flat tables of a scan have codes for all that the scan writes.
 use Rattle.std.proofs.Common.{◌≡◌, ◌≢◌, ℕ, zero, suc, ◌+◌, ◌<◌, ◌≤◌, Bool, true, false, cond, not, List, [], ◌∷◌, ◌++◌, length, refl, sym, ap, ◌∙◌, subst, arith, lit<, lit≤, ⊎_elim, ℤ, pos, negsuc, ◌==◌, ◌&&◌}
 use Rattle.std.specs.Prelude.{◌||◌, map, flat_map, filter, nat_lt, slice_index_or}
 use Rattle.std.proofs.lemmas.Bool.{cases_eq}
 use Rattle.std.proofs.lemmas.Bool.Decides.{nat_tests}
 use Rattle.jpg_spec.specs.Lists.{is_empty, is_among, below}
-use Rattle.jpg_spec.specs.Segments.{ScanHead, table_codes}
+use Rattle.jpg_spec.specs.Segments.{HuffmanTable, ScanHead, table_codes}
 use Rattle.jpg_spec.specs.Elements.{Coding, Element, long_run, is_dc_bit, symbol_of, predicted}
 use Rattle.jpg_spec_write.specs.Sending.{Sent, correction, newly_significant, shifted, up_to_last, after_last, corrections_of, value_elements, ended_bands, band_elements}
 use Rattle.jpg_spec_write.specs.ScanText.{UnitDue, Owned, unit_elements, is_dc, table_place, symbols_used}
 use Rattle.jpg_spec.specs.FlatTable.{flat_table}
-use Rattle.jpg_spec.proofs.Common.{same_of, length_below}
+use Rattle.jpg_spec.proofs.Common.{same_of, same_itself, length_below}
+use Rattle.jpg_spec_write.specs.Written.{HasCode}
+use Rattle.jpg_spec.proofs.WrittenState.{IsTellable}
 use Rattle.jpg_spec.proofs.Rows.{at_below}
-use Rattle.jpg_spec.proofs.Small.{few_digits, IsDc, dc_category}
+use Rattle.jpg_spec.specs.declared.frame.Bounds.{Bounds}
+use Rattle.jpg_spec.proofs.Small.{few_digits, AreBounds, IsDc}
 use Rattle.jpg_spec_write.proofs.Writing.{AllSent}
 use Rattle.jpg_spec_write.proofs.Bands.{AllBands, split}
 use Rattle.jpg_spec.proofs.Full.{Has}
-use Rattle.jpg_spec.proofs.FlatTables.{flat_has}
+use Rattle.jpg_spec.proofs.FlatTables.{flat_has, flat_valid, valid_tellable}
 use Rattle.jpg_spec.proofs.Each.{Each, each_map, each_join, each_flat}
 use Rattle.jpg_spec_write.proofs.Shifts.{dc_shifted}
 use Rattle.jpg_spec.proofs.WrittenHead.{at_among}
@@ -94,6 +97,43 @@ symbols_few head intervals class slot =
     let k = filter_less (λ symbol. is_among symbol (symbols_of (is_own head class slot) (flat_map (λ (es : List Owned). es) intervals))) (below 256) in
     omega (arith, k, length_below 256)
 
+-- EACH ELEMENT of a scan has its code
+
+each_forall : {A : Type 0} (P : ℕ → ℕ → A → Type 0) (xs : List A) → ((c n : ℕ) → Each (P c n) xs) → Each (λ x. (c n : ℕ) → P c n x) xs
+each_forall P [] h = tt
+each_forall P (x ∷ xs) h = (λ c n. (h c n).0, each_forall P xs (λ c n. (h c n).1))
+
+each_unmap : {A B : Type 0} (P : B → Type 0) (g : A → B) (xs : List A) → Each P (map g xs) → Each (λ x. P (g x)) xs
+each_unmap P g [] h = tt
+each_unmap P g (x ∷ xs) h = (h.0, each_unmap P g xs h.1)
+
+abbrev pub IsCodedAll : ScanHead → List (List Owned) → Owned → Type 0
+IsCodedAll head intervals o = (class slot : ℕ) → IsCoded head intervals class slot o
+
+pub elements_coded : {A : Type 0} (head : ScanHead) (g : A → List Owned) (rows : List A) → Each (λ row. Each (IsCodedAll head (map g rows)) (g row)) rows
+elements_coded head g rows =
+    let all = map g rows in
+    each_unmap (λ (es : List Owned). Each (IsCodedAll head all) es) g rows
+    (each_map (λ (es : List Owned). (c m : ℕ) → Each (IsCoded head all c m) es) (λ (es : List Owned). Each (IsCodedAll head all) es) all (λ es h. each_forall (λ c m o. IsCoded head all c m o) es h)
+    (each_forall (λ c m (es : List Owned). Each (IsCoded head all c m) es) all (λ c m. all_coded head all c m)))
+
+-- the flat tables of a scan
+abbrev pub flat_tables : ScanHead → List (List Owned) → ℕ → ℕ → HuffmanTable
+flat_tables head elements class slot = flat_table (symbols_used head elements class slot)
+
+-- a symbol of a byte that the scan writes by a table
+abbrev pub IsByte : Owned → Type 0
+IsByte o = (is_dc_bit o.1 ≡ false) × (symbol_of o.1 < 256)
+
+pub flat_coded : (head : ScanHead) (intervals : List (List Owned)) (o : Owned) → IsCodedAll head intervals o → IsByte o → HasCode (flat_tables head intervals) head o
+flat_coded head intervals o h b =
+    let c = (table_place head o).0 in
+    let n = (table_place head o).1 in
+    h c n (ap (λ t. not t && c == c && n == n) b.0 ∙ ap (λ t. t && n == n) (same_itself c) ∙ same_itself n) b.1
+
+pub flat_tell : (head : ScanHead) (elements : List (List Owned)) (c n : ℕ) → c ≤ 1 → n ≤ 1 → IsTellable c n (flat_tables head elements c n)
+flat_tell head elements c n lc ln = valid_tellable c n (flat_tables head elements c n) lc (omega (arith, ln)) (flat_valid (symbols_used head elements c n) (symbols_few head elements c n))
+
 -- THE ELEMENTS of bands are those of AC, with symbols of a byte
 
 pub record IsAc (e : Element) : Type 0 where
@@ -101,7 +141,7 @@ pub record IsAc (e : Element) : Type 0 where
   pub coded : is_dc_bit e ≡ false
   pub byte : symbol_of e < 256
 
-value_ac : (c : Coding) (run : ℕ) (bits : List Bool) (sents : List Sent) (olds news : List ℤ) → c.most_category ≤ 10 → run ≤ 15 → AllSent c sents olds news → Each IsAc (value_elements run bits sents)
+pub value_ac : (c : Coding) (run : ℕ) (bits : List Bool) (sents : List Sent) (olds news : List ℤ) → c.most_category ≤ 14 → run ≤ 15 → AllSent c sents olds news → Each IsAc (value_elements run bits sents)
 value_ac c run bits [] olds news most small h = tt
 value_ac c run bits (correction b ∷ sents) olds news most small h = value_ac c run (bits ++ b ∷ []) sents h.1 h.3 most small h.7
 value_ac c run bits (newly_significant (pos zero) ∷ sents) olds news most small h =
@@ -126,7 +166,7 @@ ended_ac : (n : ℕ) (bits : List Bool) → n ≤ 32767 → Each IsAc (ended_ban
 ended_ac zero bits h = tt
 ended_ac (suc n) bits h = let k = few_digits 15 (suc n) (omega (arith, h)) in (record { ac = refl; coded = refl; byte = omega (arith, k) }, tt)
 
-pub bands_ac : (c : Coding) (n : ℕ) (bits : List Bool) (bands : List (List Sent)) (olds news : List (List ℤ)) → c.most_category ≤ 10 → n < 32767 → AllBands c bands olds news → Each IsAc (band_elements 32767 n bits bands)
+pub bands_ac : (c : Coding) (n : ℕ) (bits : List Bool) (bands : List (List Sent)) (olds news : List (List ℤ)) → c.most_category ≤ 14 → n < 32767 → AllBands c bands olds news → Each IsAc (band_elements 32767 n bits bands)
 bands_ac c n bits [] olds news most small h = ended_ac n bits (omega (arith, small))
 bands_ac c n bits (band ∷ later) olds news most small h =
     let s = (split c band h.0 h.2 h.7).parts in
@@ -170,14 +210,15 @@ pub record IsDifference (e : Element) : Type 0 where
   pub coded : is_dc_bit e ≡ false
   pub byte : symbol_of e < 256
 
-pub differences : (al : ℕ) (p : ℕ → ℤ) (due : List UnitDue) → al ≤ 10 → ((j : ℕ) → IsDc (p j)) → Each (λ (u : UnitDue). IsDc (slice_index_or u.1 0 (pos 0))) due → Each (λ (o : Owned). IsDifference o.1) (unit_elements false false al p due)
-differences al p [] l dcs h = tt
-differences al p (u ∷ due) l dcs h =
+pub differences : {b : Bounds} → AreBounds b → (al : ℕ) (p : ℕ → ℤ) (due : List UnitDue) → al ≤ b.al → ((j : ℕ) → IsDc b (p j)) → Each (λ (u : UnitDue). IsDc b (slice_index_or u.1 0 (pos 0))) due → Each (λ (o : Owned). IsDifference o.1) (unit_elements false false al p due)
+differences are al p [] l dcs h = tt
+differences {b} are al p (u ∷ due) l dcs h =
     let w = shifted al (slice_index_or u.1 0 (pos 0)) in
-    let d = dc_shifted al (slice_index_or u.1 0 (pos 0)) l h.0 in
-    let few = dc_category w (p u.0) d (dcs u.0) in
-    (record { dc = refl; coded = refl; byte = omega (arith, few) }, differences al (predicted p u.0 w) due l (λ j. on j (j == u.0) d) h.1)
+    let d = dc_shifted are al (slice_index_or u.1 0 (pos 0)) l h.0 in
+    let few = are.differences w (p u.0) d (dcs u.0) in
+    let most = are.dc_few in
+    (record { dc = refl; coded = refl; byte = omega (arith, few, most) }, differences are al (predicted p u.0 w) due l (λ j. on j (j == u.0) d) h.1)
   where
-    on : (j : ℕ) (b : Bool) → IsDc (shifted al (slice_index_or u.1 0 (pos 0))) → IsDc (cond b (shifted al (slice_index_or u.1 0 (pos 0))) (p j))
+    on : (j : ℕ) (t : Bool) → IsDc b (shifted al (slice_index_or u.1 0 (pos 0))) → IsDc b (cond t (shifted al (slice_index_or u.1 0 (pos 0))) (p j))
     on j true d = d
     on j false d = dcs j

@@ -3,7 +3,7 @@ use Rattle.std.proofs.Common.{◌≡◌, ℕ, zero, suc, ◌<◌, ◌≤◌, Boo
 use Rattle.std.specs.Prelude.{◌||◌, nat_le, find, option_map}
 use Rattle.std.proofs.lemmas.List.{get_or-replicate}
 use Rattle.jpg_spec.specs.Lists.{all_of, below}
-use Rattle.jpg_spec.specs.Geometry.{is_progressive}
+use Rattle.jpg_spec.specs.Geometry.{is_progressive, bounds_of}
 use Rattle.jpg_spec.specs.FrameHeader.{AreLimits}
 use Rattle.jpg_spec.specs.Segments.{ScanHead}
 use Rattle.jpg_spec.specs.Scan.{Blocks}
@@ -33,7 +33,7 @@ none_known H = record {
   few = λ i k al e. nothing al e;
 }
   where
-    nothing : (al : ℕ) → (let o : Option ℕ = None in o) ≡ Some al → al ≤ 10
+    nothing : (al : ℕ) → (let o : Option ℕ = None in o) ≡ Some al → al ≤ (bounds_of H.precision).al
     nothing al e = cc
 
 -- AT THE END each component was in a scan

@@ -3,7 +3,7 @@ use Rattle.std.proofs.Common.{◌≡◌, ℕ, zero, suc, ◌+◌, ◌<◌, ◌�
 use Rattle.std.specs.Prelude.{◌||◌, nat_le, nat_lt}
 use Rattle.std.proofs.lemmas.List.{ext_get_or}
 use Rattle.jpg_spec.specs.Lists.{all_of, is_distinct, below}
-use Rattle.jpg_spec.specs.Geometry.{Frame, factor_sum, is_real}
+use Rattle.jpg_spec.specs.Geometry.{Frame, bounds, bounds_of, factor_sum, is_real}
 use Rattle.jpg_spec.specs.Segments.{ScanHead, head_components}
 use Rattle.jpg_spec.specs.Elements.{scaled}
 use Rattle.jpg_spec_write.specs.Sending.{shifted, divided}
@@ -32,15 +32,15 @@ dc_known_to None v = pos 0
 dc_known_to (Some al) v = scaled al (shifted al v)
 
 -- and of a padding block
-abbrev pub IsPad : Option ℕ → ℤ → Type 0
-IsPad None w = w ≡ pos 0
-IsPad (Some al) w = IsDc w × ((q : ℤ) × (w ≡ scaled al q))
+abbrev pub IsPad : ℕ → Option ℕ → ℤ → Type 0
+IsPad precision None w = w ≡ pos 0
+IsPad precision (Some al) w = IsDc (bounds_of precision) w × ((q : ℤ) × (w ≡ scaled al q))
 
 pub record IsKnown (H : Meaning) (heads : List ScanHead) (blocks : Blocks) : Type 0 where
   pub ac : (i x y k : ℕ) → i < length H.components → is_real (frame_of_meaning H) i x y ≡ true → 1 ≤ k → k < 64 → coefficient blocks i x y k ≡ ac_known (known_to heads i k) (coefficient H.blocks i x y k)
   pub dc : (i x y : ℕ) → i < length H.components → is_real (frame_of_meaning H) i x y ≡ true → coefficient blocks i x y 0 ≡ dc_known_to (known_to heads i 0) (coefficient H.blocks i x y 0)
-  pub pad : (i x y : ℕ) → i < length H.components → IsPad (known_to heads i 0) (coefficient blocks i x y 0)
-  pub few : (i k al : ℕ) → known_to heads i k ≡ Some al → al ≤ 10
+  pub pad : (i x y : ℕ) → i < length H.components → IsPad H.precision (known_to heads i 0) (coefficient blocks i x y 0)
+  pub few : (i k al : ℕ) → known_to heads i k ≡ Some al → al ≤ (bounds_of H.precision).al
 
 -- THE CONDITIONS OF AN ENTRY
 
@@ -52,7 +52,7 @@ pub record IsProgressiveEntry (f : Frame) (heads : List ScanHead) (head : ScanHe
   pub small : (nat_lt 1 (length head.parts) && nat_lt 10 (factor_sum f (head_components head))) ≡ false
   pub parameters : are_parameters f (length head.parts) head ≡ true
   pub next : all_of (is_next heads head) (head_components head) ≡ true
-  pub al : head.al ≤ 10
+  pub al : head.al ≤ (bounds f).al
 
 pub progressive_entry : (f : Frame) (heads : List ScanHead) (head : ScanHead) → is_progressive_entry f heads head ≡ true → IsProgressiveEntry f heads head
 progressive_entry f heads head h =
@@ -71,8 +71,8 @@ progressive_entry f heads head h =
     let o = both (not big) (par && next) m.1 in
     let q = both par next o.1 in
     let r = both (is_band n head) (are_bits f head) q.0 in
-    let t = both (head.ah == 0 || head.ah == head.al + 1) (nat_le head.al 10) r.1 in
-    record { some = le_of 1 n b.0; few = le_of n 4 b.1; known = each_below (length f.components) comps k.0; distinct = m.0; small = negated big o.0; parameters = q.0; next = q.1; al = le_of head.al 10 t.1 }
+    let t = both (head.ah == 0 || head.ah == head.al + 1) (nat_le head.al (bounds f).al) r.1 in
+    record { some = le_of 1 n b.0; few = le_of n 4 b.1; known = each_below (length f.components) comps k.0; distinct = m.0; small = negated big o.0; parameters = q.0; next = q.1; al = le_of head.al (bounds f).al t.1 }
 
 -- AT THE END all is known
 known_all : (H : Meaning) (heads : List ScanHead) (blocks : Blocks) (i x y : ℕ) → IsKnown H heads blocks → i < length H.components → is_real (frame_of_meaning H) i x y ≡ true
@@ -97,9 +97,9 @@ pub record IsRenewed (H : Meaning) (heads : List ScanHead) (head : ScanHead) (be
   pub stays : (i x y k : ℕ) → has_coefficient head i k ≡ false → coefficient after i x y k ≡ coefficient before i x y k
   pub ac : (i x y k : ℕ) → i < length H.components → is_real (frame_of_meaning H) i x y ≡ true → 1 ≤ k → k < 64 → has_coefficient head i k ≡ true → coefficient after i x y k ≡ scaled head.al (divided head.al (coefficient H.blocks i x y k))
   pub dc : (i x y : ℕ) → i < length H.components → is_real (frame_of_meaning H) i x y ≡ true → has_coefficient head i 0 ≡ true → coefficient after i x y 0 ≡ scaled head.al (shifted head.al (coefficient H.blocks i x y 0))
-  pub pad : (i x y : ℕ) → i < length H.components → has_coefficient head i 0 ≡ true → IsPad (Some head.al) (coefficient after i x y 0)
+  pub pad : (i x y : ℕ) → i < length H.components → has_coefficient head i 0 ≡ true → IsPad H.precision (Some head.al) (coefficient after i x y 0)
 
-pub known_step : (H : Meaning) (heads : List ScanHead) (head : ScanHead) (before after : Blocks) → head.al ≤ 10 → IsKnown H heads before → IsRenewed H heads head before after → IsKnown H (head ∷ heads) after
+pub known_step : (H : Meaning) (heads : List ScanHead) (head : ScanHead) (before after : Blocks) → head.al ≤ (bounds_of H.precision).al → IsKnown H heads before → IsRenewed H heads head before after → IsKnown H (head ∷ heads) after
 known_step H heads head before after low is r = record {
   ac = λ i x y k l real a b. ac_by i x y k l real a b (has_coefficient head i k) refl;
   dc = λ i x y l real. dc_by i x y l real (has_coefficient head i 0) refl;
@@ -115,12 +115,12 @@ known_step H heads head before after low is r = record {
     dc_by i x y l real true h = r.dc i x y l real h ∙ ap (λ o. dc_known_to o (coefficient H.blocks i x y 0)) (sym (known_new heads head i 0 h))
     dc_by i x y l real false h = r.stays i x y 0 h ∙ is.dc i x y l real ∙ ap (λ o. dc_known_to o (coefficient H.blocks i x y 0)) (sym (known_old heads head i 0 h))
 
-    pad_by : (i x y : ℕ) → i < length H.components → (b : Bool) → has_coefficient head i 0 ≡ b → IsPad (known_to (head ∷ heads) i 0) (coefficient after i x y 0)
-    pad_by i x y l true h = subst (λ o. IsPad o (coefficient after i x y 0)) (sym (known_new heads head i 0 h)) (r.pad i x y l h)
-    pad_by i x y l false h = subst (λ o. IsPad o (coefficient after i x y 0)) (sym (known_old heads head i 0 h)) (subst (λ v. IsPad (known_to heads i 0) v) (sym (r.stays i x y 0 h)) (is.pad i x y l))
+    pad_by : (i x y : ℕ) → i < length H.components → (b : Bool) → has_coefficient head i 0 ≡ b → IsPad H.precision (known_to (head ∷ heads) i 0) (coefficient after i x y 0)
+    pad_by i x y l true h = subst (λ o. IsPad H.precision o (coefficient after i x y 0)) (sym (known_new heads head i 0 h)) (r.pad i x y l h)
+    pad_by i x y l false h = subst (λ o. IsPad H.precision o (coefficient after i x y 0)) (sym (known_old heads head i 0 h)) (subst (λ v. IsPad H.precision (known_to heads i 0) v) (sym (r.stays i x y 0 h)) (is.pad i x y l))
 
-    few_by : (i k al : ℕ) → known_to (head ∷ heads) i k ≡ Some al → (b : Bool) → has_coefficient head i k ≡ b → al ≤ 10
-    few_by i k al e true h = let s : Some head.al ≡ Some al = sym (known_new heads head i k h) ∙ e in subst (λ n. n ≤ 10) (same head.al al s) low
+    few_by : (i k al : ℕ) → known_to (head ∷ heads) i k ≡ Some al → (b : Bool) → has_coefficient head i k ≡ b → al ≤ (bounds_of H.precision).al
+    few_by i k al e true h = let s : Some head.al ≡ Some al = sym (known_new heads head i k h) ∙ e in subst (λ n. n ≤ (bounds_of H.precision).al) (same head.al al s) low
       where
         same : (a b : ℕ) → Some a ≡ Some b → a ≡ b
         same a b e = cc

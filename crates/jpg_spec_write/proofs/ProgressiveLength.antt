@@ -5,7 +5,7 @@ use Rattle.std.specs.Int.{to_be_bytes, w16}
 use Rattle.std.proofs.lemmas.Nat.{mul-le}
 use Rattle.std.proofs.lemmas.List.{length-append, length-map, length-take, length-drop}
 use Rattle.jpg_spec.specs.Bits.{bits_of, bits_of_bytes, stuffed}
-use Rattle.jpg_spec.specs.Geometry.{Frame, is_progressive, factor_sum, single_units, units, mcu_units}
+use Rattle.jpg_spec.specs.Geometry.{Frame, is_progressive, factor_sum, single_units, units, mcu_units, bounds_of, bounds}
 use Rattle.jpg_spec.specs.FrameHeader.{AreLimits}
 use Rattle.jpg_spec.specs.Segments.{ScanHead, head_components}
 use Rattle.jpg_spec.specs.Scan.{Blocks, Scan, TablesInForce, codes_of, part_of, scan_coding, scan_of, band, block_at, unit_at, SpellsInterval, SpellsIntervals}
@@ -46,6 +46,7 @@ use Rattle.jpg_spec_write.proofs.ProgressiveScript.{IsFit, scan_leads, first_com
 use Rattle.jpg_spec_write.proofs.ProgressiveFile.{none_known}
 use Rattle.jpg_spec.proofs.ProgressiveShares.{left_of_all, sent_of, Descends, all_start, all_fewer, dc_sent, band_is_sent}
 use Rattle.jpg_spec.proofs.FirstPasses.{all_among}
+use Rattle.jpg_spec.proofs.Small.{are_bounds}
 use Rattle.jpg_spec.proofs.Common.{both, same_of}
 
 -- AN INTERVAL that spells its units, with this many values each
@@ -113,7 +114,7 @@ due_brief : (H : Meaning) (head : ScanHead) (n : ℕ) → IsBrief (scan_coding (
 due_brief H head n = record {
   dc = λ i. short 0 (part_of head i).dc;
   ac = λ i. short 1 (part_of head i).ac;
-  dc_cat = lit≤ tt;
+  dc_cat = (let few = (are_bounds H.precision).dc_few in omega (arith, few));
   categories = categories (is_progressive H.process && nat_lt 0 head.ah);
   runs = runs (is_progressive H.process);
 }
@@ -124,9 +125,9 @@ due_brief H head n = record {
         let valid = flat_valid (symbols_used head (progressive_elements H head n) class slot) (symbols_few head (progressive_elements H head n) class slot) in
         table_short t.counts t.symbols (omega (arith, valid.counts))
 
-    categories : (b : Bool) → cond b 1 10 ≤ 14
+    categories : (b : Bool) → cond b 1 (bounds_of H.precision).ac_cat ≤ 14
     categories true = lit≤ tt
-    categories false = lit≤ tt
+    categories false = (are_bounds H.precision).ac_few
 
     runs : (b : Bool) → cond b 14 0 ≤ 14
     runs true = lit≤ tt
@@ -238,8 +239,8 @@ scan_long H restart w heads head before fit entry sizes known =
 
 descends : (f : Frame) (heads : List ScanHead) (head : ScanHead) → IsProgressiveEntry f heads head → Descends heads head
 descends f heads head entry = record {
-  al = entry.al;
-  bits = (let r = both (is_band (length head.parts) head) (are_bits f head) entry.parameters in (both (head.ah == 0 || head.ah == head.al + 1) (nat_le head.al 10) r.1).0);
+  al = (let few = entry.al in let most = (are_bounds f.precision).al_few in omega (arith, few, most));
+  bits = (let r = both (is_band (length head.parts) head) (are_bits f head) entry.parameters in (both (head.ah == 0 || head.ah == head.al + 1) (nat_le head.al (bounds f).al) r.1).0);
   next = λ i e. all_among (is_next heads head) (head_components head) i entry.next e;
 }
 

@@ -12,46 +12,34 @@ use Rattle.jpg_spec_write.specs.ScanText.{UnitDue, Owned, units_due, last_dc, un
 use Rattle.jpg_spec.specs.Meaning.{Meaning}
 use Rattle.jpg_spec_write.specs.FileText.{frame_of_meaning}
 use Rattle.jpg_spec.specs.declared.frame.Place.{Place}
-use Rattle.jpg_spec.proofs.Small.{IsDc}
+use Rattle.jpg_spec.proofs.Small.{IsDc, AreBounds, IsAcValue, are_bounds}
 use Rattle.jpg_spec_write.proofs.Writing.{Sends, AllHave}
 use Rattle.jpg_spec_write.proofs.Behind.{IsChosen}
 use Rattle.jpg_spec.proofs.Full.{Has}
 use Rattle.jpg_spec.proofs.Packing.{packs}
 use Rattle.jpg_spec.proofs.PlacesFound.{each_units}
 use Rattle.jpg_spec.proofs.Each.{Each, each_map, each_flat}
-use Rattle.jpg_spec_write.proofs.PlacedBlocks.{block_due, placed_due}
+use Rattle.jpg_spec_write.proofs.PlacedBlocks.{block_due, placed_due, each_both}
 use Rattle.jpg_spec_write.proofs.WrittenCoding.{coded_by, AllIn, AreSameCodes, covers_coded}
 use Rattle.jpg_spec_write.proofs.WrittenScan.{scan_rows}
 use Rattle.jpg_spec_write.proofs.RenewedScan.{after_renewed, renew_means}
 use Rattle.jpg_spec_write.proofs.ProgressiveSpelled.{HasCode, IsFirstCode, all_bands}
-use Rattle.jpg_spec_write.proofs.ProgressiveRows.{IsDcDue, IsBandDue, progressive_bits, progressive_coded, elements_dc, dc_first_row, dc_refining_row, bands_due, bands_are, band_small, band_row, zero_dc}
-use Rattle.jpg_spec_write.proofs.ProgressiveCodes.{is_own, IsCoded, all_coded, IsAc, bands_ac, IsDifference, differences}
+use Rattle.jpg_spec_write.proofs.ProgressiveRows.{IsDcDue, IsBandDue, progressive_bits, progressive_coded, elements_dc, dc_first_row, dc_refining_row, bands_due, bands_are, band_small, band_row}
+use Rattle.jpg_spec_write.proofs.ProgressiveCodes.{is_own, IsCodedAll, elements_coded, IsAc, bands_ac, IsDifference, differences}
 use Rattle.jpg_spec_write.proofs.ProgressiveKnown.{ac_known}
 use Rattle.jpg_spec.proofs.Known.{was_known}
-use Rattle.jpg_spec_write.proofs.ProgressiveScan.{each_both, rows_each, IsDcScan, dc_renews, dc_due}
+use Rattle.jpg_spec_write.proofs.ProgressiveScan.{rows_each, IsDcScan, dc_renews, dc_due}
 use Rattle.jpg_spec_write.proofs.ProgressiveBands.{IsBandScan, band_renews, band_due}
 use Rattle.jpg_spec_write.proofs.ProgressiveText.{progressive_elements, progressive_tables}
 use Rattle.jpg_spec.proofs.Common.{same_itself}
 
 -- EACH ELEMENT has its code
 
-each_forall : {A : Type 0} (P : ℕ → ℕ → A → Type 0) (xs : List A) → ((c n : ℕ) → Each (P c n) xs) → Each (λ x. (c n : ℕ) → P c n x) xs
-each_forall P [] h = tt
-each_forall P (x ∷ xs) h = (λ c n. (h c n).0, each_forall P xs (λ c n. (h c n).1))
-
-each_unmap : {A B : Type 0} (P : B → Type 0) (g : A → B) (xs : List A) → Each P (map g xs) → Each (λ x. P (g x)) xs
-each_unmap P g [] h = tt
-each_unmap P g (x ∷ xs) h = (h.0, each_unmap P g xs h.1)
-
 abbrev pub IsCodedHere : Meaning → ScanHead → ℕ → Owned → Type 0
-IsCodedHere H head n o = (class slot : ℕ) → IsCoded head (progressive_elements H head n) class slot o
+IsCodedHere H head n o = IsCodedAll head (progressive_elements H head n) o
 
 rows_coded : (H : Meaning) (head : ScanHead) (n : ℕ) → Each (λ row. Each (IsCodedHere H head n) (interval_elements true head (units_due H.blocks (λ i. pos 0) row))) (scan_rows (frame_of_meaning H) head n)
-rows_coded H head n =
-    let all = progressive_elements H head n in
-    each_unmap (λ (es : List Owned). Each (IsCodedHere H head n) es) (λ places. interval_elements true head (units_due H.blocks (λ i. pos 0) places)) (scan_rows (frame_of_meaning H) head n)
-    (each_map (λ (es : List Owned). (c m : ℕ) → Each (IsCoded head all c m) es) (λ (es : List Owned). Each (IsCodedHere H head n) es) all (λ es h. each_forall (λ c m o. IsCoded head all c m o) es h)
-    (each_forall (λ c m (es : List Owned). Each (IsCoded head all c m) es) all (λ c m. all_coded head all c m)))
+rows_coded H head n = elements_coded head (λ places. interval_elements true head (units_due H.blocks (λ i. pos 0) places)) (scan_rows (frame_of_meaning H) head n)
 
 own_dc : (head : ScanHead) (o : Owned) → IsDifference o.1 → is_own head 0 (part_of head o.0).dc o ≡ true
 own_dc head o d =
@@ -96,7 +84,7 @@ module _ (tables : ℕ → ℕ → HuffmanTable) (head : ScanHead) (blocks : Blo
 abbrev pub with_class : ℕ → TablesInForce → (ℕ → ℕ → HuffmanTable) → TablesInForce
 with_class class tabs tables c n = cond (c == class) (Some (tables c n)) (tabs c n)
 
-due_values : (s : Scan) (r : Bool) (before after blocks : Blocks) (last : ℕ → ℤ) (places : List Place) → Each (IsDcDue s r before after) (placed_due blocks last places) → Each (λ (u : UnitDue). IsDc (slice_index_or u.1 0 (pos 0))) (units_due blocks last places)
+due_values : (s : Scan) (r : Bool) (before after blocks : Blocks) (last : ℕ → ℤ) (places : List Place) → Each (IsDcDue s r before after) (placed_due blocks last places) → Each (λ (u : UnitDue). IsDc s.coding.bounds (slice_index_or u.1 0 (pos 0))) (units_due blocks last places)
 due_values s r before after blocks last [] h = tt
 due_values s r before after blocks last (p ∷ places) h = ((h.0).due, due_values s r before after blocks (last_dc last p.component (block_due blocks last p)) places h.1)
 
@@ -132,7 +120,8 @@ dc_first_means H heads head n tabs before prog none is force =
     let dc = λ (i : ℕ). codes_of (tabs 0 (part_of head i).dc) in
     let ac = λ (i : ℕ). codes_of (tabs 1 (part_of head i).ac) in
     let same : AreSameCodes s'.coding dc ac test = λ i h. (sym (ap codes_of (force i h)), refl) in
-    let low : s'.coding.al ≤ 10 = subst (λ m. m ≤ 10) (sym sc.al) is.low in
+    let are : AreBounds s'.coding.bounds = are_bounds H.precision in
+    let low : s'.coding.al ≤ s'.coding.bounds.al = subst (λ m. m ≤ s'.coding.bounds.al) (sym sc.al) is.low in
     let due = subst (λ r. Each (λ row. Each (IsDcDue s' r before after) (placed_due H.blocks first row)) rows) none (dc_due H heads s' head before is) in
     let spelled : Each (λ row. SpellsInterval s before after row (progressive_coded tables head H.blocks row)) rows =
     each_both (λ row. Each (λ (p : Place). is_among p.component (head_components head) ≡ true) row) (λ row. RowSpelled tables head H.blocks s' before after row) (λ row. SpellsInterval s before after row (progressive_coded tables head H.blocks row)) rows
@@ -141,8 +130,8 @@ dc_first_means H heads head n tabs before prog none is force =
     (λ row d k. (let units = units_due H.blocks first row in
     let coded = subst (λ es. Each (IsCodedHere H head n) es) (elements_dc head units is.ss false none ∙ ap (λ m. unit_elements false false m first units) (sym sc.al)) k in
     let have = each_both (IsCodedHere H head n) (λ (o : Owned). IsDifference o.1) (HasCode s'.coding) (unit_elements false false s'.coding.al first units) (λ o h e. h 0 (part_of head o.0).dc (own_dc head o e) e.byte) coded
-    (differences s'.coding.al first units low (λ j. zero_dc) (due_values s' false before after H.blocks first row d)) in
-    dc_first_row s' tables head H.blocks before after row (sc.ss ∙ is.ss) (sc.se ∙ is.se) is.ss none sc.al (sc.refines ∙ none) low sc.bounds (first_codes f tabs tables n head) d have))
+    (differences are s'.coding.al first units low (λ j. are.zero_dc) (due_values s' false before after H.blocks first row d)) in
+    dc_first_row s' tables head H.blocks before after row (sc.ss ∙ is.ss) (sc.se ∙ is.se) is.ss none sc.al (sc.refines ∙ none) low are (first_codes f tabs tables n head) d have))
     due (rows_coded H head n)) in
     renew_means s (dc_renews s head) H.blocks before (map (progressive_coded tables head H.blocks) rows) is.sizes (rows_spelled s before after (progressive_coded tables head H.blocks) rows spelled)
 
@@ -168,7 +157,7 @@ dc_refined_means H heads head n tabs before set is =
     let spelled : Each (λ row. SpellsInterval s before after row (progressive_coded tables head H.blocks row)) rows =
     each_map (λ row. Each (IsDcDue s true before after) (placed_due H.blocks first row)) (λ row. SpellsInterval s before after row (progressive_coded tables head H.blocks row)) rows
     (λ row d. row_interval tables head H.blocks s before after row
-    (dc_refining_row s tables head H.blocks before after row (sc.ss ∙ is.ss) (sc.se ∙ is.se) is.ss set sc.al (sc.refines ∙ set) sc.bounds (bit_codes tables head) d)) due in
+    (dc_refining_row s tables head H.blocks before after row (sc.ss ∙ is.ss) (sc.se ∙ is.se) is.ss set sc.al (sc.refines ∙ set) (bit_codes tables head) d)) due in
     renew_means s (dc_renews s head) H.blocks before (map (progressive_coded tables head H.blocks) rows) is.sizes (rows_spelled s before after (progressive_coded tables head H.blocks) rows spelled)
 
 -- A BAND
@@ -188,8 +177,8 @@ to_have codes (e ∷ es) h = (h.0, to_have codes es h.1)
 
 module _ (H : Meaning) (head : ScanHead) (n : ℕ) (s : Scan) (i : ℕ) (old new : ℤ → ℤ) where
   -- what the elements of a row have
-  row_have : (before after : Blocks) (row : List Place) → nat_lt 0 head.ss ≡ true → s.ss ≡ head.ss → s.se ≡ head.se → s.coding.al ≡ head.al → s.coding.most_category ≤ 10
-      → ((v : ℤ) → nat_abs v ≤ 1023 → Sends s.coding (sent (nat_lt 0 head.ah) s.coding.al v) (old v) (new v)) → Each (IsBandDue s i old new before after) (placed_due H.blocks (λ i. pos 0) row)
+  row_have : (before after : Blocks) (row : List Place) → nat_lt 0 head.ss ≡ true → s.ss ≡ head.ss → s.se ≡ head.se → s.coding.al ≡ head.al → s.coding.most_category ≤ 14
+      → ((v : ℤ) → IsAcValue s.coding.bounds v → Sends s.coding (sent (nat_lt 0 head.ah) s.coding.al v) (old v) (new v)) → Each (IsBandDue s i old new before after) (placed_due H.blocks (λ i. pos 0) row)
       → Each (IsCodedHere H head n) (interval_elements true head (units_due H.blocks (λ i. pos 0) row))
       → AllHave (table_codes (progressive_tables H head n 1 (part_of head i).ac)) (band_elements 32767 0 [] (map (map (sent (nat_lt 0 head.ah) s.coding.al)) (bands_due s H.blocks (λ i. pos 0) row)))
   row_have before after [] z a e same most step due coded = tt
@@ -213,9 +202,9 @@ module _ (H : Meaning) (head : ScanHead) (n : ℕ) (s : Scan) (i : ℕ) (old new
 
 pub band_means : (H : Meaning) (heads : List ScanHead) (head : ScanHead) (i n : ℕ) (tabs : TablesInForce) (before : Blocks) → nat_lt 0 head.ss ≡ true
     → IsBandScan H heads (scan_of (frame_of_meaning H) (with_class 1 tabs (progressive_tables H head n)) n head) head i before → IsInForce 1 tabs (progressive_tables H head n) head
-    → (let s = scan_of (frame_of_meaning H) (with_class 1 tabs (progressive_tables H head n)) n head in (s.coding.most_category ≤ 10)
-    × ((v : ℤ) → nat_abs v ≤ 1023 → Sends s.coding (sent (nat_lt 0 head.ah) s.coding.al v) (ac_known (was_known head) v) (scaled s.coding.al (divided s.coding.al v)))
-    × ((v : ℤ) → nat_abs v ≤ 1023 → int_le (pos (nat_abs (scaled s.coding.al (divided s.coding.al v)))) s.coding.bounds.ac ≡ true))
+    → (let s = scan_of (frame_of_meaning H) (with_class 1 tabs (progressive_tables H head n)) n head in (s.coding.most_category ≤ 14)
+    × ((v : ℤ) → IsAcValue s.coding.bounds v → Sends s.coding (sent (nat_lt 0 head.ah) s.coding.al v) (ac_known (was_known head) v) (scaled s.coding.al (divided s.coding.al v)))
+    × ((v : ℤ) → IsAcValue s.coding.bounds v → int_le (pos (nat_abs (scaled s.coding.al (divided s.coding.al v)))) s.coding.bounds.ac ≡ true))
     → (let s = scan_of (frame_of_meaning H) tabs n head in
     ScanMeans s (map (progressive_coded (progressive_tables H head n) head H.blocks) (scan_rows (frame_of_meaning H) head n)) before (after_renewed s (band_renews s) H.blocks before))
 band_means H heads head i n tabs before z is force (most, step, ok) =

@@ -3,7 +3,6 @@ use Rattle.std.proofs.Common.{◌≡◌, ℕ, ◌+◌, ◌-◌, ◌≤◌, Bool,
 use Rattle.std.specs.Prelude.{map, flat_map, int_le, nat_abs, nat_le, nat_lt, slice_index_or}
 use Rattle.std.proofs.lemmas.Bool.Decides.{nat_tests}
 use Rattle.jpg_spec.specs.Bits.{whole_bytes, padded}
-use Rattle.jpg_spec.specs.Geometry.{bounds_of}
 use Rattle.jpg_spec.specs.Segments.{HuffmanTable, ScanHead}
 use Rattle.jpg_spec.specs.Elements.{UnitLeft, Element, SpellsUnits, dc_bit}
 use Rattle.jpg_spec_write.specs.Sending.{sent, band_elements}
@@ -11,7 +10,7 @@ use Rattle.jpg_spec.specs.Scan.{Blocks, Scan, band, block_at, unit_at}
 use Rattle.jpg_spec_write.specs.ScanText.{UnitDue, Owned, units_due, last_dc, unit_elements, band_of, interval_elements, element_bits}
 use Rattle.jpg_spec.specs.declared.frame.Place.{Place}
 use Rattle.jpg_spec.proofs.Rows.{map_map}
-use Rattle.jpg_spec.proofs.Small.{IsDc, dc_small}
+use Rattle.jpg_spec.proofs.Small.{AreBounds, IsAcValue, IsDc}
 use Rattle.jpg_spec_write.proofs.Writing.{Sends, AllHave}
 use Rattle.jpg_spec_write.proofs.Bands.{flat, units_of}
 use Rattle.jpg_spec_write.proofs.Behind.{IsChosen}
@@ -32,8 +31,8 @@ single_band s a e b l = ap (λ n. take (s.se + 1 - n) (drop n b)) a ∙ ap (λ n
 -- what a place of a DC scan needs
 pub record IsDcDue (s : Scan) (r : Bool) (before after : Blocks) (q : Placed) : Type 0 where
   pub size : length (block_at before q.0) ≡ 64
-  pub due : IsDc (slice_index_or q.1 0 (pos 0))
-  pub told : IsDc (dc_new r s.coding.al (get_or (block_at before q.0) 0 (pos 0)) (slice_index_or q.1 0 (pos 0)))
+  pub due : IsDc s.coding.bounds (slice_index_or q.1 0 (pos 0))
+  pub told : IsDc s.coding.bounds (dc_new r s.coding.al (get_or (block_at before q.0) 0 (pos 0)) (slice_index_or q.1 0 (pos 0)))
   pub found : block_at after q.0 ≡ renew_block s (dc_new r s.coding.al) before q
 
 dc_band : (s : Scan) (r : Bool) (before after : Blocks) (q : Placed) → s.ss ≡ 0 → s.se ≡ 0 → IsDcDue s r before after q
@@ -78,19 +77,16 @@ elements_dc head due e r h =
     ap (λ b. cond b (flat_map (λ (e : Element). map (λ (u : UnitDue). (let o : Owned = (u.0, e) in o)) (take 1 due)) (band_elements 32767 0 [] (map (λ (u : UnitDue). band_of head u.1) due))) (unit_elements false (nat_lt 0 head.ah) head.al (λ i. pos 0) due)) none
     ∙ ap (λ b. unit_elements false b head.al (λ i. pos 0) due) h
 
-pub zero_dc : IsDc (pos 0)
-zero_dc = dc_small (pos 0) refl refl
-
 -- a first pass of DC
 pub dc_first_row : (s : Scan) (tables : ℕ → ℕ → HuffmanTable) (head : ScanHead) (blocks before after : Blocks) (places : List Place) → s.ss ≡ 0 → s.se ≡ 0 → head.ss ≡ 0 → nat_lt 0 head.ah ≡ false → s.coding.al ≡ head.al
-    → s.coding.refines ≡ false → s.coding.al ≤ 10 → s.coding.bounds ≡ bounds_of 8 → IsFirstCode s.coding (element_bits tables head)
+    → s.coding.refines ≡ false → s.coding.al ≤ s.coding.bounds.al → AreBounds s.coding.bounds → IsFirstCode s.coding (element_bits tables head)
     → Each (IsDcDue s false before after) (placed_due blocks (λ i. pos 0) places) → Each (HasCode s.coding) (unit_elements false false s.coding.al (λ i. pos 0) (units_due blocks (λ i. pos 0) places))
     → (bits : List Bool) × (bits ≡ progressive_bits tables head (units_due blocks (λ i. pos 0) places)) × SpellsUnits s.coding (map (unit_at s before) places) (flat_map (λ p. band s (block_at after p)) places) bits
 dc_first_row s tables head blocks before after places a e z n same r l b first due have =
     let c = s.coding in
     let p : ℕ → ℤ = λ i. pos 0 in
     let units = units_due blocks p places in
-    let k = dc_first c r l b (element_bits tables head) first p (λ j. zero_dc) (map (unit_at s before) places) units (flat_map (λ p. band s (block_at after p)) places) (dc_units s false blocks before after p places a e due) have in
+    let k = dc_first c r l b (element_bits tables head) first p (λ j. b.zero_dc) (map (unit_at s before) places) units (flat_map (λ p. band s (block_at after p)) places) (dc_units s false blocks before after p places a e due) have in
     let bits = flat_map (element_bits tables head) (unit_elements false false c.al p units) in (
       bits,
       ap (λ m. flat_map (element_bits tables head) (unit_elements false false m p units)) same ∙ ap (flat_map (element_bits tables head)) (sym (elements_dc head units z false n)),
@@ -99,14 +95,14 @@ dc_first_row s tables head blocks before after places a e z n same r l b first d
 
 -- one more bit of DC
 pub dc_refining_row : (s : Scan) (tables : ℕ → ℕ → HuffmanTable) (head : ScanHead) (blocks before after : Blocks) (places : List Place) → s.ss ≡ 0 → s.se ≡ 0 → head.ss ≡ 0 → nat_lt 0 head.ah ≡ true → s.coding.al ≡ head.al
-    → s.coding.refines ≡ true → s.coding.bounds ≡ bounds_of 8 → ((i : ℕ) (b : Bool) → element_bits tables head (i, dc_bit b) ≡ b ∷ [])
+    → s.coding.refines ≡ true → ((i : ℕ) (b : Bool) → element_bits tables head (i, dc_bit b) ≡ b ∷ [])
     → Each (IsDcDue s true before after) (placed_due blocks (λ i. pos 0) places)
     → (bits : List Bool) × (bits ≡ progressive_bits tables head (units_due blocks (λ i. pos 0) places)) × SpellsUnits s.coding (map (unit_at s before) places) (flat_map (λ p. band s (block_at after p)) places) bits
-dc_refining_row s tables head blocks before after places a e z n same r b first due =
+dc_refining_row s tables head blocks before after places a e z n same r first due =
     let c = s.coding in
     let p : ℕ → ℤ = λ i. pos 0 in
     let units = units_due blocks p places in
-    let k = dc_refining c r b (element_bits tables head) first p p (map (unit_at s before) places) units (flat_map (λ p. band s (block_at after p)) places) (dc_units s true blocks before after p places a e due) in
+    let k = dc_refining c r (element_bits tables head) first p p (map (unit_at s before) places) units (flat_map (λ p. band s (block_at after p)) places) (dc_units s true blocks before after p places a e due) in
     let bits = flat_map (element_bits tables head) (unit_elements false true c.al p units) in (
       bits,
       ap (λ m. flat_map (element_bits tables head) (unit_elements false true m p units)) same ∙ ap (flat_map (element_bits tables head)) (sym (elements_dc head units z true n)),
@@ -120,7 +116,7 @@ pub record IsBandDue (s : Scan) (i : ℕ) (old new : ℤ → ℤ) (before after 
   pub component : (q.0).component ≡ i
   pub was : band s (block_at before q.0) ≡ map old (band s q.1)
   pub is : band s (block_at after q.0) ≡ map new (band s q.1)
-  pub small : IsBand (band s q.1)
+  pub small : IsBand s.coding.bounds (band s q.1)
 
 abbrev pub bands_due : Scan → Blocks → (ℕ → ℤ) → List Place → List (List ℤ)
 bands_due s blocks last places = map (λ (u : UnitDue). band s u.1) (units_due blocks last places)
@@ -176,7 +172,7 @@ module _ (s : Scan) (i : ℕ) (old new : ℤ → ℤ) (blocks before after : Blo
       let block = block_due blocks last p in
       ap (λ l. l ++ flat_map (λ p. band s (block_at after p)) places) (h.0).is ∙ ap (λ l. map new (band s block) ++ l) (band_told (last_dc last p.component block) places h.1)
 
-  pub band_small : (last : ℕ → ℤ) (places : List Place) → Each (IsBandDue s i old new before after) (placed_due blocks last places) → Each IsBand (bands_due s blocks last places)
+  pub band_small : (last : ℕ → ℤ) (places : List Place) → Each (IsBandDue s i old new before after) (placed_due blocks last places) → Each (IsBand s.coding.bounds) (bands_due s blocks last places)
   band_small last [] h = tt
   band_small last (p ∷ places) h = ((h.0).small, band_small (last_dc last p.component (block_due blocks last p)) places h.1)
 
@@ -185,7 +181,7 @@ module _ (s : Scan) (i : ℕ) (old new : ℤ → ℤ) (blocks before after : Blo
   band_owned last (p ∷ places) h = ((h.0).component, band_owned (last_dc last p.component (block_due blocks last p)) places h.1)
 
   pub band_row : (tables : ℕ → ℕ → HuffmanTable) (head : ScanHead) (places : List Place) → nat_lt 0 head.ss ≡ true → s.ss ≡ head.ss → s.se ≡ head.se → s.coding.al ≡ head.al
-      → ((v : ℤ) → nat_abs v ≤ 1023 → Sends s.coding (sent (nat_lt 0 head.ah) s.coding.al v) (old v) (new v)) → ((v : ℤ) → nat_abs v ≤ 1023 → int_le (pos (nat_abs (new v))) s.coding.bounds.ac ≡ true)
+      → ((v : ℤ) → IsAcValue s.coding.bounds v → Sends s.coding (sent (nat_lt 0 head.ah) s.coding.al v) (old v) (new v)) → ((v : ℤ) → IsAcValue s.coding.bounds v → int_le (pos (nat_abs (new v))) s.coding.bounds.ac ≡ true)
       → s.coding.most_run ≡ 14 → IsChosen (s.coding.ac i) (λ e. element_bits tables head (i, e)) → Each (IsBandDue s i old new before after) (placed_due blocks (λ i. pos 0) places)
       → AllHave (s.coding.ac i) (band_elements 32767 0 [] (map (map (sent (nat_lt 0 head.ah) s.coding.al)) (bands_due s blocks (λ i. pos 0) places)))
       → (bits : List Bool) × (bits ≡ progressive_bits tables head (units_due blocks (λ i. pos 0) places)) × SpellsUnits s.coding (map (unit_at s before) places) (flat_map (λ p. band s (block_at after p)) places) bits

@@ -23,10 +23,9 @@ use Rattle.jpg_spec_write.specs.FileText.{Written, segment_text, frame_of_meanin
 use Rattle.jpg_spec_write.specs.WrittenFile.{is_progressive_entry, is_progressive_after, IsRestart}
 use Rattle.jpg_spec.specs.declared.frame.Place.{Place}
 use Rattle.jpg_spec.specs.declared.frame.ScanPart.{ScanPart}
-use Rattle.jpg_spec.specs.declared.frame.Bounds.{Bounds}
 use Rattle.jpg_spec.specs.declared.frame.Limits.{Limits}
 use Rattle.jpg_spec_write.proofs.Writing.{Sends}
-use Rattle.jpg_spec.proofs.Small.{IsDc}
+use Rattle.jpg_spec.proofs.Small.{are_bounds, IsAcValue, IsDc}
 use Rattle.jpg_spec.proofs.PictureInWork.{leads_sizes}
 use Rattle.jpg_spec.proofs.PlacesSome.{chunks_some}
 use Rattle.jpg_spec.proofs.Each.{Each, each_map}
@@ -43,7 +42,8 @@ use Rattle.jpg_spec_write.proofs.ProgressiveKnown.{ac_known, dc_known_to, IsPad,
 use Rattle.jpg_spec.proofs.Known.{was_known, band_next}
 use Rattle.jpg_spec_write.proofs.ProgressiveScan.{IsProgressiveScan, progressive_scan, IsDcScan, dc_renewed, first_pad, refined_pad, zero_pad, less_pad}
 use Rattle.jpg_spec_write.proofs.ProgressiveBands.{IsBandScan, band_renewed}
-use Rattle.jpg_spec_write.proofs.ProgressiveText.{HasSlots, head_slots, entry_spoken, dc_due, ac_due, needed_of, needed_tell, IsGivenBy, needed_given, flat_tell, progressive_admitted, progressive_elements, progressive_tables, progressive_data, progressive_scans}
+use Rattle.jpg_spec_write.proofs.ProgressiveCodes.{flat_tell}
+use Rattle.jpg_spec_write.proofs.ProgressiveText.{HasSlots, head_slots, entry_spoken, dc_due, ac_due, needed_of, needed_tell, IsGivenBy, needed_given, progressive_admitted, progressive_elements, progressive_tables, progressive_data, progressive_scans}
 use Rattle.jpg_spec_write.proofs.ProgressiveMeans.{with_class, IsInForce, dc_first_means, dc_refined_means, band_means}
 use Rattle.jpg_spec.proofs.FirstPasses.{all_among}
 use Rattle.jpg_spec.proofs.Common.{both, le_of, same_of, same_itself}
@@ -93,7 +93,7 @@ record IsLater (head : ScanHead) : Type 0 where
 bits_say : (f : Frame) (heads : List ScanHead) (head : ScanHead) → IsProgressiveEntry f heads head → (head.ah == 0 || head.ah == head.al + 1) ≡ true
 bits_say f heads head e =
     let r = both (is_band (length head.parts) head) (are_bits f head) e.parameters in
-    (both (head.ah == 0 || head.ah == head.al + 1) (nat_le head.al 10) r.1).0
+    (both (head.ah == 0 || head.ah == head.al + 1) (nat_le head.al (bounds f).al) r.1).0
 
 first_of : (head : ScanHead) → (head.ah == 0) ≡ true → IsFirst head
 first_of head e = let z : head.ah ≡ 0 = same_of head.ah 0 e in record { first = ap (λ n. nat_lt 0 n) z; was = ap (λ b. cond b None (Some head.ah)) e }
@@ -108,16 +108,16 @@ pub first_component : (parts : List ScanPart) → 1 ≤ length parts → (i : �
 first_component [] l = absurd (omega (arith, l))
 first_component (p ∷ parts) l = (p.component, ap (λ b. b || is_among p.component (map (λ (p : ScanPart). p.component) parts)) (same_itself p.component))
 
-ah_few : (H : Meaning) (heads : List ScanHead) (head : ScanHead) (n : ℕ) (tabs : TablesInForce) (before : Blocks) → IsReady H heads head n tabs before → (k : ℕ) → head.ss ≤ k → k ≤ head.se → k < 64 → (head.ah == 0) ≡ false → head.ah ≤ 10
+ah_few : (H : Meaning) (heads : List ScanHead) (head : ScanHead) (n : ℕ) (tabs : TablesInForce) (before : Blocks) → IsReady H heads head n tabs before → (k : ℕ) → head.ss ≤ k → k ≤ head.se → k < 64 → (head.ah == 0) ≡ false → head.ah ≤ (bounds_of H.precision).al
 ah_few H heads head n tabs before is k a b l e =
     let c = first_component head.parts is.entry.some in
     is.known.few c.0 k head.ah (was_at H heads head n tabs before is c.0 k c.1 a b l ∙ ap (λ b. cond b None (Some head.ah)) e)
 
 -- A SCAN OF DC
 dc_scan : (H : Meaning) (heads : List ScanHead) (head : ScanHead) (n : ℕ) (tabs tabs' : TablesInForce) (before : Blocks) → IsReady H heads head n tabs before → head.ss ≡ 0 → head.se ≡ 0
-    → ((o v : ℤ) → IsPad (was_known head) o → IsDc v → IsPad (Some head.al) (dc_new (nat_lt 0 head.ah) head.al o v))
+    → ((o v : ℤ) → IsPad H.precision (was_known head) o → IsDc (bounds_of H.precision) v → IsPad H.precision (Some head.al) (dc_new (nat_lt 0 head.ah) head.al o v))
     → ((v : ℤ) → dc_new (nat_lt 0 head.ah) head.al (dc_known_to (was_known head) v) v ≡ scaled head.al (shifted head.al v))
-    → ((o : ℤ) → IsPad (was_known head) o → IsPad (Some head.al) o)
+    → ((o : ℤ) → IsPad H.precision (was_known head) o → IsPad H.precision (Some head.al) o)
     → IsDcScan H heads (scan_of (frame_of_meaning H) tabs' n head) head before
 dc_scan H heads head n tabs tabs' before is z w pad real old =
     let f = frame_of_meaning H in
@@ -126,21 +126,22 @@ dc_scan H heads head n tabs tabs' before is z w pad real old =
     let known = ready_known H heads head n tabs before is in
     let low : head.ss ≤ 0 = omega (arith, z) in
     let high : 0 ≤ head.se = omega arith in
-    let padded : (i x y : ℕ) → is_among i (head_components head) ≡ true → IsPad (was_known head) (coefficient before i x y 0) =
-    λ i x y e. subst (λ o. IsPad o (coefficient before i x y 0)) (at i 0 e low high (omega arith)) (is.known.pad i x y (known i e)) in
+    let padded : (i x y : ℕ) → is_among i (head_components head) ≡ true → IsPad H.precision (was_known head) (coefficient before i x y 0) =
+    λ i x y e. subst (λ o. IsPad H.precision o (coefficient before i x y 0)) (at i 0 e low high (omega arith)) (is.known.pad i x y (known i e)) in
     record {
       scan = sc;
       places = refl;
       ss = z;
       se = w;
       low = is.entry.al;
+      bounded = refl;
       frame = is.fit.frame;
       count = is.fit.count;
       distinct = is.entry.distinct;
       known = known;
       blocks = is.fit.blocks;
       sizes = is.sizes;
-      tells = λ i x y v e d. subst (λ a. IsPad (Some a) (dc_new (nat_lt 0 head.ah) a (coefficient before i x y 0) v)) (sym sc.al) (pad (coefficient before i x y 0) v (padded i x y e) d);
+      tells = λ i x y v e d. subst (λ a. IsPad H.precision (Some a) (dc_new (nat_lt 0 head.ah) a (coefficient before i x y 0) v)) (sym sc.al) (pad (coefficient before i x y 0) v (padded i x y e) d);
       real = λ i x y e r. ap (λ a. dc_new (nat_lt 0 head.ah) a (coefficient before i x y 0) (coefficient H.blocks i x y 0)) sc.al
           ∙ ap (λ o. dc_new (nat_lt 0 head.ah) head.al o (coefficient H.blocks i x y 0)) (is.known.dc i x y (known i e) r ∙ ap (λ o. dc_known_to o (coefficient H.blocks i x y 0)) (at i 0 e low high (omega arith)))
           ∙ real (coefficient H.blocks i x y 0);
@@ -150,31 +151,34 @@ dc_scan H heads head n tabs tabs' before is z w pad real old =
 dc_leads : (H : Meaning) (heads : List ScanHead) (head : ScanHead) (n : ℕ) (tabs : TablesInForce) (before : Blocks) → IsReady H heads head n tabs before → head.ss ≡ 0 → head.se ≡ 0 → Leads H heads head n tabs before
 dc_leads H heads head n tabs before is z w = by (head.ah == 0) refl
   where
-    al : head.al ≤ 10
+    al : head.al ≤ (bounds_of H.precision).al
     al = is.entry.al
+
+    few_bits : head.al ≤ 13
+    few_bits = (let most = (are_bounds H.precision).al_few in omega (arith, al, most))
 
     by : (b : Bool) → (head.ah == 0) ≡ b → Leads H heads head n tabs before
     by true e =
         let k = first_of head e in
         let tabs' = with_class 0 tabs (progressive_tables H head n) in
         let scan = dc_scan H heads head n tabs tabs' before is z w
-        (λ o v p d. subst (λ r. IsPad (Some head.al) (dc_new r head.al o v)) (sym k.first) (first_pad head.al o v al d))
+        (λ o v p d. subst (λ r. IsPad H.precision (Some head.al) (dc_new r head.al o v)) (sym k.first) (first_pad H.precision head.al o v al d))
         (λ v. ap (λ r. dc_new r head.al (dc_known_to (was_known head) v) v) k.first)
-        (λ o p. subst (IsPad (Some head.al)) (sym (subst (λ t. IsPad t o) k.was p)) (zero_pad head.al)) in
+        (λ o p. subst (IsPad H.precision (Some head.al)) (sym (subst (λ t. IsPad H.precision t o) k.was p)) (zero_pad H.precision head.al)) in
         let due : dc_due head ≡ true = ap (λ m. m == 0 && head.ah == 0) z ∙ e in
         let force : IsInForce 0 tabs (progressive_tables H head n) head = λ i h.
         (part_holds (IsGivenBy (dc_due head) (ac_due head) tabs (progressive_tables H head n)) i (record { component = i; dc = 0; ac = 0 }) head.parts is.given h).0 due in
         (_, dc_first_means H heads head n tabs before is.fit.progressive k.first scan force, dc_renewed H heads (scan_of (frame_of_meaning H) tabs' n head) head before scan)
     by false e =
         let k = later_of head e (bits_say (frame_of_meaning H) heads head is.entry) in
-        let more : head.al + 1 ≤ 10 = subst (λ m. m ≤ 10) k.next (few e) in
+        let more : head.al + 1 ≤ (bounds_of H.precision).al = subst (λ m. m ≤ (bounds_of H.precision).al) k.next (few e) in
         let scan = dc_scan H heads head n tabs tabs before is z w
-        (λ o v p d. subst (λ r. IsPad (Some head.al) (dc_new r head.al o v)) (sym k.later) (refined_pad head.al o v more (subst (λ t. IsPad t o) k.was p)))
-        (λ v. ap (λ r. dc_new r head.al (dc_known_to (was_known head) v) v) k.later ∙ ap (λ t. dc_new true head.al (dc_known_to t v) v) k.was ∙ dc_refined head.al v al)
-        (λ o p. less_pad head.al o more (subst (λ t. IsPad t o) k.was p)) in
+        (λ o v p d. subst (λ r. IsPad H.precision (Some head.al) (dc_new r head.al o v)) (sym k.later) (refined_pad H.precision head.al o v more (subst (λ t. IsPad H.precision t o) k.was p)))
+        (λ v. ap (λ r. dc_new r head.al (dc_known_to (was_known head) v) v) k.later ∙ ap (λ t. dc_new true head.al (dc_known_to t v) v) k.was ∙ dc_refined head.al v few_bits)
+        (λ o p. less_pad H.precision head.al o more (subst (λ t. IsPad H.precision t o) k.was p)) in
         (_, dc_refined_means H heads head n tabs before k.later scan, dc_renewed H heads (scan_of (frame_of_meaning H) tabs n head) head before scan)
       where
-        few : (head.ah == 0) ≡ false → head.ah ≤ 10
+        few : (head.ah == 0) ≡ false → head.ah ≤ (bounds_of H.precision).al
         few e = ah_few H heads head n tabs before is 0 (omega (arith, z)) (omega arith) (omega arith) e
 
 -- A SCAN OF A BAND
@@ -216,6 +220,7 @@ band_leads H heads head n tabs before is z =
       frame = is.fit.frame;
       count = is.fit.count;
       known = known;
+      bounded = refl;
       blocks = is.fit.blocks;
       sizes = is.sizes;
       old = λ x y k r a b. is.known.ac i x y k known r (omega (arith, some, a)) (omega (arith, b, high)) ∙ ap (λ o. ac_known o (coefficient H.blocks i x y k)) (was_at H heads head n tabs before is i k among a b (omega (arith, b, high)));
@@ -223,46 +228,42 @@ band_leads H heads head n tabs before is z =
     let force : IsInForce 1 tabs (progressive_tables H head n) head = λ j h.
     (part_holds (IsGivenBy (dc_due head) (ac_due head) tabs (progressive_tables H head n)) j (record { component = j; dc = 0; ac = 0 }) head.parts is.given h).1 is_ac in
     let c = (scan_of f tabs' n head).coding in
-    let al : c.al ≤ 10 = subst (λ m. m ≤ 10) (sym sc.al) is.entry.al in
+    let most_al = (are_bounds H.precision).al_few in
+    let al : c.al ≤ 13 = (let few = is.entry.al in omega (arith, ap (λ m. m) sc.al, few, most_al)) in
     (_, band_means H heads head i n tabs before is_ac scan force (sends c sc al (head.ah == 0) refl low high), band_renewed H heads (scan_of f tabs' n head) head i before scan)
   where
     not_none : (m : ℕ) → (m == 0) ≡ false → 1 ≤ m
     not_none zero e = cc
     not_none (suc m) e = omega arith
 
-    inside : (c : Coding) (v : ℤ) → c.bounds ≡ bounds_of 8 → c.al ≤ 10 → nat_abs v ≤ 1023 → int_le (pos (nat_abs (scaled c.al (divided c.al v)))) c.bounds.ac ≡ true
-    inside c v b l h =
-        let k = known_small c.al v l h in
-        subst (λ (w : Bounds). int_le (pos (nat_abs (scaled c.al (divided c.al v)))) w.ac ≡ true) (sym b) (small (nat_abs (scaled c.al (divided c.al v))) k)
-      where
-        small : (m : ℕ) → m ≤ 1023 → int_le (pos m) (pos 1023) ≡ true
-        small m k = grind (arith, nat_tests, k)
-
-    sends : (c : Coding) → IsProgressiveScan (scan_of (frame_of_meaning H) (with_class 1 tabs (progressive_tables H head n)) n head) head → (scan_of (frame_of_meaning H) (with_class 1 tabs (progressive_tables H head n)) n head).coding.al ≤ 10
+    sends : (c : Coding) → IsProgressiveScan (scan_of (frame_of_meaning H) (with_class 1 tabs (progressive_tables H head n)) n head) head → (scan_of (frame_of_meaning H) (with_class 1 tabs (progressive_tables H head n)) n head).coding.al ≤ 13
         → (b : Bool) → (head.ah == 0) ≡ b → head.ss ≤ head.se → head.se ≤ 63
-        → (let s = scan_of (frame_of_meaning H) (with_class 1 tabs (progressive_tables H head n)) n head in (s.coding.most_category ≤ 10)
-        × ((v : ℤ) → nat_abs v ≤ 1023 → Sends s.coding (sent (nat_lt 0 head.ah) s.coding.al v) (ac_known (was_known head) v) (scaled s.coding.al (divided s.coding.al v)))
-        × ((v : ℤ) → nat_abs v ≤ 1023 → int_le (pos (nat_abs (scaled s.coding.al (divided s.coding.al v)))) s.coding.bounds.ac ≡ true))
+        → (let s = scan_of (frame_of_meaning H) (with_class 1 tabs (progressive_tables H head n)) n head in (s.coding.most_category ≤ 14)
+        × ((v : ℤ) → IsAcValue s.coding.bounds v → Sends s.coding (sent (nat_lt 0 head.ah) s.coding.al v) (ac_known (was_known head) v) (scaled s.coding.al (divided s.coding.al v)))
+        × ((v : ℤ) → IsAcValue s.coding.bounds v → int_le (pos (nat_abs (scaled s.coding.al (divided s.coding.al v)))) s.coding.bounds.ac ≡ true))
     sends c sc al true e low high =
         let k = first_of head e in
         let d = (scan_of (frame_of_meaning H) (with_class 1 tabs (progressive_tables H head n)) n head).coding in
-        let most : d.most_category ≡ 10 = sc.most ∙ ap (λ b. cond b 1 10) k.first in (
-          omega (arith, most),
+        let are = are_bounds H.precision in
+        let ac_few = are.ac_few in
+        let most : d.most_category ≡ d.bounds.ac_cat = sc.most ∙ ap (λ b. cond b 1 d.bounds.ac_cat) k.first in (
+          omega (arith, most, ac_few),
           λ v h. subst (λ r. Sends d (sent r d.al v) (ac_known (was_known head) v) (scaled d.al (divided d.al v))) (sym k.first)
-              (subst (λ t. Sends d (sent false d.al v) (ac_known t v) (scaled d.al (divided d.al v))) (sym k.was) (first_sends d v al most h)),
-          λ v h. inside d v sc.bounds al h,
+              (subst (λ t. Sends d (sent false d.al v) (ac_known t v) (scaled d.al (divided d.al v))) (sym k.was) (first_sends d v are al most h)),
+          λ v h. known_small d.bounds d.al v al h,
         )
     sends c sc al false e low high =
         let k = later_of head e (bits_say (frame_of_meaning H) heads head is.entry) in
         let d = (scan_of (frame_of_meaning H) (with_class 1 tabs (progressive_tables H head n)) n head).coding in
-        let most : d.most_category ≡ 1 = sc.most ∙ ap (λ b. cond b 1 10) k.later in
+        let most : d.most_category ≡ 1 = sc.most ∙ ap (λ b. cond b 1 d.bounds.ac_cat) k.later in
         let few = ah_few H heads head n tabs before is head.ss (omega arith) low (omega (arith, low, high)) e in
-        let more : d.al + 1 ≤ 10 = subst (λ m. m + 1 ≤ 10) (sym sc.al) (subst (λ m. m ≤ 10) k.next few) in
+        let most_al = (are_bounds H.precision).al_few in
+        let more : d.al + 1 ≤ 13 = (let next = k.next in omega (arith, ap (λ m. m) sc.al, few, next, most_al)) in
         let was : was_known head ≡ Some (d.al + 1) = k.was ∙ ap (λ (m : ℕ). (let r : Option ℕ = Some (m + 1) in r)) (sym sc.al) in (
           omega (arith, most),
           λ v h. subst (λ r. Sends d (sent r d.al v) (ac_known (was_known head) v) (scaled d.al (divided d.al v))) (sym k.later)
-              (subst (λ t. Sends d (sent true d.al v) (ac_known t v) (scaled d.al (divided d.al v))) (sym was) (refined_sends d v more most h)),
-          λ v h. inside d v sc.bounds al h,
+              (subst (λ t. Sends d (sent true d.al v) (ac_known t v) (scaled d.al (divided d.al v))) (sym was) (refined_sends d v more most)),
+          λ v h. known_small d.bounds d.al v al h,
         )
 
 pub scan_leads : (H : Meaning) (heads : List ScanHead) (head : ScanHead) (n : ℕ) (tabs : TablesInForce) (before : Blocks) → IsReady H heads head n tabs before → Leads H heads head n tabs before

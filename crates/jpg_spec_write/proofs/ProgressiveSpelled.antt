@@ -5,13 +5,12 @@ use Rattle.std.specs.Prelude.{map, flat_map, int_le, nat_abs, nat_lt, neg_ℤ, �
 use Rattle.jpg_spec.proofs.PlacesSome.{product_some}
 use Rattle.std.proofs.lemmas.List.{length-map}
 use Rattle.jpg_spec.specs.Numbers.{category, digits, extra_bits}
-use Rattle.jpg_spec.specs.Geometry.{bounds_of}
 use Rattle.jpg_spec.specs.Elements.{Coding, UnitLeft, Standing, Element, difference, dc_bit, Covers, SpellsElement, SpellsUnits, is_zero, scaled, grown, are_in_bounds, predicted, symbol_of}
 use Rattle.jpg_spec_write.specs.Sending.{correction, newly_significant, sent, shifted, divided, band_elements}
 use Rattle.jpg_spec_write.specs.ScanText.{UnitDue, Owned, unit_elements}
 use Rattle.jpg_spec.specs.Codes.{code_of}
 use Rattle.jpg_spec.specs.declared.frame.Bounds.{Bounds}
-use Rattle.jpg_spec.proofs.Small.{few_digits, some_category, IsDc, dc_category, back}
+use Rattle.jpg_spec.proofs.Small.{few_digits, some_category, AreBounds, IsAcValue, IsDc, ac_less, back}
 use Rattle.jpg_spec_write.proofs.Writing.{Sends, AllSent, AllHave}
 use Rattle.jpg_spec_write.proofs.Bands.{AllBands, at, flat, units_of, bands_cover}
 use Rattle.jpg_spec_write.proofs.Behind.{first_found, IsChosen, AllAfterDc, covers_chosen}
@@ -26,20 +25,21 @@ use Rattle.jpg_spec.proofs.Common.{lt_of, not_lt_of, and_intro, is_true, last_bi
 abs_divided : (al : ℕ) (v : ℤ) → nat_abs (divided al v) ≡ nat_abs v / 2 ^ al
 abs_divided al v = ap nat_abs (divided_is al v) ∙ abs_signed (is_below v) (nat_abs v / 2 ^ al)
 
-known_is : (al : ℕ) (v : ℤ) → al ≤ 10 → scaled al (divided al v) ≡ signed (is_below v) (nat_abs v / 2 ^ al * 2 ^ al)
+known_is : (al : ℕ) (v : ℤ) → al ≤ 13 → scaled al (divided al v) ≡ signed (is_below v) (nat_abs v / 2 ^ al * 2 ^ al)
 known_is al v l = ap (scaled al) (divided_is al v) ∙ scaled_signed al (is_below v) (nat_abs v / 2 ^ al) l
 
-pub known_small : (al : ℕ) (v : ℤ) → al ≤ 10 → nat_abs v ≤ 1023 → nat_abs (scaled al (divided al v)) ≤ 1023
-known_small al v l h =
+pub known_small : (b : Bounds) (al : ℕ) (v : ℤ) → al ≤ 13 → IsAcValue b v → IsAcValue b (scaled al (divided al v))
+known_small b al v l h =
     let e = ap nat_abs (known_is al v l) ∙ abs_signed (is_below v) (nat_abs v / 2 ^ al * 2 ^ al) in
     let k = (shifts_less al l (nat_abs v)).1 in
-    omega (arith, e, k, h)
+    ac_less b v (scaled al (divided al v)) (omega (arith, e, k)) h
 
-pub first_sends : (c : Coding) (v : ℤ) → c.al ≤ 10 → c.most_category ≡ 10 → nat_abs v ≤ 1023 → Sends c (sent false c.al v) (pos 0) (scaled c.al (divided c.al v))
-first_sends c v l m h =
+pub first_sends : (c : Coding) (v : ℤ) → AreBounds c.bounds → c.al ≤ 13 → c.most_category ≡ c.bounds.ac_cat → IsAcValue c.bounds v → Sends c (sent false c.al v) (pos 0) (scaled c.al (divided c.al v))
+first_sends c v are l m h =
     let a = abs_divided c.al v in
     let k = (shifts_less c.al l (nat_abs v)).0 in
-    (refl, refl, λ z. (some_category (divided c.al v) z, subst (λ n. category (divided c.al v) ≤ n) (sym m) (few_digits 10 (nat_abs (divided c.al v)) (omega (arith, a, k, h)))))
+    let small = ac_less c.bounds v (divided c.al v) (omega (arith, a, k)) h in
+    (refl, refl, λ z. (some_category (divided c.al v) z, subst (λ n. category (divided c.al v) ≤ n) (sym m) (are.values (divided c.al v) small)))
 
 signed_some : (s : Bool) (k : ℕ) → 1 ≤ k → is_zero (signed s k) ≡ false
 signed_some s zero h = absurd (omega (arith, h))
@@ -52,8 +52,8 @@ signed_grown al false true (suc k) h = let e : suc k + 2 ^ al ≡ suc k + 1 * 2 
 signed_grown al true true (suc k) h = let e : suc (k + 2 ^ al) ≡ suc k + 1 * 2 ^ al = omega arith in ap (λ n. neg_ℤ (pos n)) e
 signed_grown al s false (suc k) h = let e : suc k ≡ suc k + 0 * 2 ^ al = omega arith in ap (signed s) e
 
-pub refined_sends : (c : Coding) (v : ℤ) → c.al + 1 ≤ 10 → c.most_category ≡ 1 → nat_abs v ≤ 1023 → Sends c (sent true c.al v) (scaled (c.al + 1) (divided (c.al + 1) v)) (scaled c.al (divided c.al v))
-refined_sends c v l most h = by (nat_lt 1 (nat_abs v / 2 ^ c.al)) refl
+pub refined_sends : (c : Coding) (v : ℤ) → c.al + 1 ≤ 13 → c.most_category ≡ 1 → Sends c (sent true c.al v) (scaled (c.al + 1) (divided (c.al + 1) v)) (scaled c.al (divided c.al v))
+refined_sends c v l most = by (nat_lt 1 (nat_abs v / 2 ^ c.al)) refl
   where
     al : ℕ
     al = c.al
@@ -64,7 +64,7 @@ refined_sends c v l most h = by (nat_lt 1 (nat_abs v / 2 ^ c.al)) refl
     m : ℕ
     m = nat_abs v / 2 ^ c.al
 
-    less : c.al ≤ 10
+    less : c.al ≤ 13
     less = omega (arith, l)
 
     old : scaled (c.al + 1) (divided (c.al + 1) v) ≡ signed (is_below v) (a / 2 ^ (al + 1) * 2 ^ (al + 1))
@@ -100,25 +100,25 @@ refined_sends c v l most h = by (nat_lt 1 (nat_abs v / 2 ^ c.al)) refl
 
 -- THE BANDS of an interval of one component
 
-all_sent : (c : Coding) (r : Bool) (old new : ℤ → ℤ) → ((v : ℤ) → nat_abs v ≤ 1023 → Sends c (sent r c.al v) (old v) (new v)) → (vs : List ℤ) → Each (λ v. nat_abs v ≤ 1023) vs → AllSent c (map (sent r c.al) vs) (map old vs) (map new vs)
+all_sent : (c : Coding) (r : Bool) (old new : ℤ → ℤ) → ((v : ℤ) → IsAcValue c.bounds v → Sends c (sent r c.al v) (old v) (new v)) → (vs : List ℤ) → Each (IsAcValue c.bounds) vs → AllSent c (map (sent r c.al) vs) (map old vs) (map new vs)
 all_sent c r old new step [] h = (refl, refl)
 all_sent c r old new step (v ∷ vs) h = (old v, map old vs, new v, map new vs, refl, refl, step v h.0, all_sent c r old new step vs h.1)
 
-abbrev pub IsBand : List ℤ → Type 0
-IsBand vs = (1 ≤ length vs) × Each (λ v. nat_abs v ≤ 1023) vs
+abbrev pub IsBand : Bounds → List ℤ → Type 0
+IsBand b vs = (1 ≤ length vs) × Each (IsAcValue b) vs
 
-pub all_bands : (c : Coding) (r : Bool) (old new : ℤ → ℤ) → ((v : ℤ) → nat_abs v ≤ 1023 → Sends c (sent r c.al v) (old v) (new v)) → (bands : List (List ℤ)) → Each IsBand bands
+pub all_bands : (c : Coding) (r : Bool) (old new : ℤ → ℤ) → ((v : ℤ) → IsAcValue c.bounds v → Sends c (sent r c.al v) (old v) (new v)) → (bands : List (List ℤ)) → Each (IsBand c.bounds) bands
     → AllBands c (map (map (sent r c.al)) bands) (map (map old) bands) (map (map new) bands)
 all_bands c r old new step [] h = (refl, refl)
 all_bands c r old new step (vs ∷ bands) h =
     let l = length-map vs (sent r c.al) in
     (map old vs, map (map old) bands, map new vs, map (map new) bands, refl, refl, omega (arith, l, (h.0).0), all_sent c r old new step vs (h.0).1, all_bands c r old new step bands h.1)
 
-inside : (c : Coding) (new : ℤ → ℤ) → ((v : ℤ) → nat_abs v ≤ 1023 → int_le (pos (nat_abs (new v))) c.bounds.ac ≡ true) → (bands : List (List ℤ)) → Each IsBand bands → are_in_bounds c.bounds false (flat (map (map new) bands)) ≡ true
+inside : (c : Coding) (new : ℤ → ℤ) → ((v : ℤ) → IsAcValue c.bounds v → int_le (pos (nat_abs (new v))) c.bounds.ac ≡ true) → (bands : List (List ℤ)) → Each (IsBand c.bounds) bands → are_in_bounds c.bounds false (flat (map (map new) bands)) ≡ true
 inside c new ok [] h = refl
 inside c new ok (vs ∷ bands) h = join vs (h.0).1 (inside c new ok bands h.1)
   where
-    join : (vs : List ℤ) → Each (λ v. nat_abs v ≤ 1023) vs → are_in_bounds c.bounds false (flat (map (map new) bands)) ≡ true → are_in_bounds c.bounds false (map new vs ++ flat (map (map new) bands)) ≡ true
+    join : (vs : List ℤ) → Each (IsAcValue c.bounds) vs → are_in_bounds c.bounds false (flat (map (map new) bands)) ≡ true → are_in_bounds c.bounds false (map new vs ++ flat (map (map new) bands)) ≡ true
     join [] a later = later
     join (v ∷ vs) a later = and_intro (int_le (pos (nat_abs (new v))) c.bounds.ac) (are_in_bounds c.bounds false (map new vs ++ flat (map (map new) bands))) (ok v a.0) (join vs a.1 later)
 
@@ -126,8 +126,8 @@ after_all : (i : ℕ) (olds : List (List ℤ)) → AllAfterDc i (units_of i olds
 after_all i [] = tt
 after_all i (o ∷ olds) = (refl, refl, after_all i olds)
 
-pub bands_spelled : (c : Coding) (r : Bool) (i : ℕ) (old new : ℤ → ℤ) (bands : List (List ℤ)) (chosen : Element → List Bool) → ((v : ℤ) → nat_abs v ≤ 1023 → Sends c (sent r c.al v) (old v) (new v))
-    → ((v : ℤ) → nat_abs v ≤ 1023 → int_le (pos (nat_abs (new v))) c.bounds.ac ≡ true) → Each IsBand bands → c.most_run ≡ 14 → IsChosen (c.ac i) chosen
+pub bands_spelled : (c : Coding) (r : Bool) (i : ℕ) (old new : ℤ → ℤ) (bands : List (List ℤ)) (chosen : Element → List Bool) → ((v : ℤ) → IsAcValue c.bounds v → Sends c (sent r c.al v) (old v) (new v))
+    → ((v : ℤ) → IsAcValue c.bounds v → int_le (pos (nat_abs (new v))) c.bounds.ac ≡ true) → Each (IsBand c.bounds) bands → c.most_run ≡ 14 → IsChosen (c.ac i) chosen
     → AllHave (c.ac i) (band_elements 32767 0 [] (map (map (sent r c.al)) bands))
     → SpellsUnits c (units_of i (map (map old) bands)) (flat (map (map new) bands)) (flat_map chosen (band_elements 32767 0 [] (map (map (sent r c.al)) bands)))
 bands_spelled c r i old new bands chosen step ok is run first have =
@@ -152,16 +152,14 @@ DcUnits c r [] [] told = told ≡ []
 DcUnits c r [] (d ∷ due) told = ⊥
 DcUnits c r (u ∷ units) [] told = ⊥
 DcUnits c r (u ∷ units) (d ∷ due) told =
-    (o : ℤ) × (more : List ℤ) × (u.component ≡ d.0) × (u.has_dc ≡ true) × (u.old ≡ o ∷ []) × IsDc (slice_index_or d.1 0 (pos 0)) × IsDc (dc_new r c.al o (slice_index_or d.1 0 (pos 0)))
+    (o : ℤ) × (more : List ℤ) × (u.component ≡ d.0) × (u.has_dc ≡ true) × (u.old ≡ o ∷ []) × IsDc c.bounds (slice_index_or d.1 0 (pos 0)) × IsDc c.bounds (dc_new r c.al o (slice_index_or d.1 0 (pos 0)))
     × (told ≡ dc_new r c.al o (slice_index_or d.1 0 (pos 0)) ∷ more) × DcUnits c r units due more
 
-dc_inside : (c : Coding) (v : ℤ) → c.bounds ≡ bounds_of 8 → IsDc v → (b : Bool) → b ≡ true → are_in_bounds c.bounds b (v ∷ []) ≡ true
-dc_inside c v e d b h =
-    let low : int_le (neg_ℤ (pos 1024)) v ≡ true = is_true (int_le (neg_ℤ (pos 1024)) v) (d.low).le in
-    let high : int_le v (pos 1023) ≡ true = is_true (int_le v (pos 1023)) (d.high).le in
-    ap (λ x. are_in_bounds c.bounds x (v ∷ [])) h
-    ∙ and_intro (int_le c.bounds.dc_low v && int_le v c.bounds.dc_high) true
-    (subst (λ (k : Bounds). (int_le k.dc_low v && int_le v k.dc_high) ≡ true) (sym e) (and_intro (int_le (neg_ℤ (pos 1024)) v) (int_le v (pos 1023)) low high)) refl
+dc_inside : (c : Coding) (v : ℤ) → IsDc c.bounds v → (b : Bool) → b ≡ true → are_in_bounds c.bounds b (v ∷ []) ≡ true
+dc_inside c v d b h =
+    let low : int_le c.bounds.dc_low v ≡ true = is_true (int_le c.bounds.dc_low v) (d.low).le in
+    let high : int_le v c.bounds.dc_high ≡ true = is_true (int_le v c.bounds.dc_high) (d.high).le in
+    ap (λ x. are_in_bounds c.bounds x (v ∷ [])) h ∙ and_intro (int_le c.bounds.dc_low v && int_le v c.bounds.dc_high) true (and_intro (int_le c.bounds.dc_low v) (int_le v c.bounds.dc_high) low high) refl
 
 abbrev pub HasCode : Coding → Owned → Type 0
 HasCode c o = Has (c.dc o.0) (symbol_of o.1)
@@ -173,7 +171,7 @@ IsFirstCode c chosen = (i : ℕ) (d : ℤ) → chosen (i, difference d) ≡ code
 due_dc : (c : Coding) (u : UnitLeft) (i : ℕ) → u.component ≡ i → u.has_dc ≡ true → cond u.has_dc (c.dc u.component) (c.ac u.component) ≡ c.dc i
 due_dc c u i e h = ap (λ b. cond b (c.dc u.component) (c.ac u.component)) h ∙ ap c.dc e
 
-pub dc_first : (c : Coding) → c.refines ≡ false → c.al ≤ 10 → c.bounds ≡ bounds_of 8 → (chosen : Owned → List Bool) → IsFirstCode c chosen → (p : ℕ → ℤ) → ((j : ℕ) → IsDc (p j))
+pub dc_first : (c : Coding) → c.refines ≡ false → c.al ≤ c.bounds.al → AreBounds c.bounds → (chosen : Owned → List Bool) → IsFirstCode c chosen → (p : ℕ → ℤ) → ((j : ℕ) → IsDc c.bounds (p j))
     → (units : List UnitLeft) (due : List UnitDue) (told : List ℤ) → DcUnits c false units due told → Each (HasCode c) (unit_elements false false c.al p due)
     → (t : Standing) × Covers c (at p units) (map (λ (o : Owned). o.1) (unit_elements false false c.al p due)) told (flat_map chosen (unit_elements false false c.al p due)) t × (t.left ≡ [])
 dc_first c r l b chosen is p dcs [] [] told h have = (at p [], (h, refl, refl), refl)
@@ -183,13 +181,12 @@ dc_first c r l b chosen is p dcs (u ∷ units) (d ∷ due) told h have =
     let v = slice_index_or d.1 0 (pos 0) in
     let w = shifted c.al v in
     let e = w -ℤ p d.0 in
-    let dcw = dc_shifted c.al v l h.5 in
-    let few : category e ≤ 11 = dc_category w (p d.0) dcw (dcs d.0) in
-    let cat : category e ≤ c.bounds.dc_cat = subst (λ (k : Bounds). category e ≤ k.dc_cat) (sym b) few in
+    let dcw = dc_shifted b c.al v l h.5 in
+    let cat : category e ≤ c.bounds.dc_cat = b.differences w (p d.0) dcw (dcs d.0) in
     let code = have.0 in
     let spells : SpellsElement (c.dc d.0) (difference e) (chosen (d.0, difference e)) = (code_of (c.dc d.0) (category e), first_found (c.dc d.0) (category e) code.0 code.1, is d.0 e) in
     let q = predicted p d.0 w in
-    let later = dc_first c r l b chosen is q (dc_predicted p d.0 w dcs dcw) units due h.1 h.8 have.1 in
+    let later = dc_first c r l b chosen is q (dc_predicted c.bounds p d.0 w dcs dcw) units due h.1 h.8 have.1 in
     let there : p u.component +ℤ e ≡ w = ap (λ i. p i +ℤ e) h.2 ∙ back w (p d.0) in
     let next : q ≡ predicted p u.component (p u.component +ℤ e) = ap (λ x. (let z : ℕ → ℤ = predicted p d.0 x in z)) (sym there) ∙ ap (λ i. (let z : ℕ → ℤ = predicted p i (p u.component +ℤ e) in z)) (sym h.2) in (
       later.0,
@@ -206,22 +203,22 @@ dc_first c r l b chosen is p dcs (u ∷ units) (d ∷ due) told h have =
         refl,
         subst (λ x. SpellsElement x (difference e) (chosen (d.0, difference e))) (sym (due_dc c u d.0 h.2 h.3)) spells,
         (h.0, [], h.3, r, cat, h.4, ap (λ x. scaled c.al x ∷ []) (sym there), refl),
-        dc_inside c (scaled c.al w) b h.6 u.has_dc h.3,
+        dc_inside c (scaled c.al w) h.6 u.has_dc h.3,
         subst (λ x. Covers c (at x units) (map (λ (o : Owned). o.1) (unit_elements false false c.al q due)) h.1 (flat_map chosen (unit_elements false false c.al q due)) later.0) next later.1,
       ),
       later.2,
     )
 
-pub dc_refining : (c : Coding) → c.refines ≡ true → c.bounds ≡ bounds_of 8 → (chosen : Owned → List Bool) → ((i : ℕ) (b : Bool) → chosen (i, dc_bit b) ≡ b ∷ []) → (p q : ℕ → ℤ)
+pub dc_refining : (c : Coding) → c.refines ≡ true → (chosen : Owned → List Bool) → ((i : ℕ) (b : Bool) → chosen (i, dc_bit b) ≡ b ∷ []) → (p q : ℕ → ℤ)
     → (units : List UnitLeft) (due : List UnitDue) (told : List ℤ) → DcUnits c true units due told
     → (t : Standing) × Covers c (at p units) (map (λ (o : Owned). o.1) (unit_elements false true c.al q due)) told (flat_map chosen (unit_elements false true c.al q due)) t × (t.left ≡ [])
-dc_refining c r b chosen is p q [] [] told h = (at p [], (h, refl, refl), refl)
-dc_refining c r b chosen is p q [] (d ∷ due) told h = absurd h
-dc_refining c r b chosen is p q (u ∷ units) [] told h = absurd h
-dc_refining c r b chosen is p q (u ∷ units) (d ∷ due) told h =
+dc_refining c r chosen is p q [] [] told h = (at p [], (h, refl, refl), refl)
+dc_refining c r chosen is p q [] (d ∷ due) told h = absurd h
+dc_refining c r chosen is p q (u ∷ units) [] told h = absurd h
+dc_refining c r chosen is p q (u ∷ units) (d ∷ due) told h =
     let v = slice_index_or d.1 0 (pos 0) in
     let bit = nat_abs (shifted c.al v) % 2 == 1 in
-    let later = dc_refining c r b chosen is p (predicted q d.0 (shifted c.al v)) units due h.1 h.8 in (
+    let later = dc_refining c r chosen is p (predicted q d.0 (shifted c.al v)) units due h.1 h.8 in (
       later.0,
       (
         u,
@@ -236,7 +233,7 @@ dc_refining c r b chosen is p q (u ∷ units) (d ∷ due) told h =
         refl,
         is d.0 bit,
         (h.0, [], h.3, r, h.4, refl, refl),
-        dc_inside c (dc_new true c.al h.0 v) b h.6 u.has_dc h.3,
+        dc_inside c (dc_new true c.al h.0 v) h.6 u.has_dc h.3,
         later.1,
       ),
       later.2,

@@ -24,10 +24,10 @@ use Rattle.jpg_spec.proofs.WrittenHead.{IsPartOf, IsSpoken}
 use Rattle.jpg_spec_write.proofs.WrittenScan.{scan_rows}
 use Rattle.jpg_spec.proofs.WrittenState.{IsTellable}
 use Rattle.jpg_spec_write.proofs.WrittenSequential.{given_stays, given_now, length_ids, slot_few}
-use Rattle.jpg_spec.proofs.FlatTables.{flat_valid, valid_tellable}
 use Rattle.jpg_spec_write.proofs.ProgressiveRows.{progressive_coded}
-use Rattle.jpg_spec_write.proofs.ProgressiveCodes.{symbols_few}
+use Rattle.jpg_spec_write.proofs.ProgressiveCodes.{flat_tables}
 use Rattle.jpg_spec_write.proofs.ProgressiveKnown.{IsProgressiveEntry}
+use Rattle.jpg_spec.proofs.Small.{are_bounds}
 use Rattle.jpg_spec.proofs.Common.{not_refused, equal_itself}
 
 -- THE HEAD
@@ -56,13 +56,14 @@ parts_spoken f (p ∷ parts) s h =
 pub entry_spoken : (f : Frame) (heads : List ScanHead) (head : ScanHead) → is_progressive f.process ≡ true → Each HasSlots head.parts → IsProgressiveEntry f heads head → IsSpoken f head
 entry_spoken f heads head p s e =
     let l = e.al in
+    let most = (are_bounds f.precision).al_few in
     record {
       some = e.some;
       few = e.few;
       parts = parts_spoken f head.parts s e.known;
       distinct = e.distinct;
       small = e.small;
-      al = omega (arith, l);
+      al = omega (arith, l, most);
       allowed = ap (λ b. b && not (are_parameters f (length head.parts) head)) p ∙ ap not e.parameters;
     }
 
@@ -106,13 +107,6 @@ needed_given due false true (p ∷ parts) given =
     let h = with_table given 1 p.ac (due 1 p.ac) in
     ((λ e. absurd_test e, λ e. given_stays due (needed_of false true parts) h 1 p.ac (given_now due given 1 p.ac)), needed_given due false true parts h)
 needed_given due false false (p ∷ parts) given = ((λ e. absurd_test e, λ e. absurd_test e), needed_given due false false parts given)
-
--- the flat tables of a scan
-abbrev pub flat_tables : ScanHead → List (List Owned) → ℕ → ℕ → HuffmanTable
-flat_tables head elements class slot = flat_table (symbols_used head elements class slot)
-
-pub flat_tell : (head : ScanHead) (elements : List (List Owned)) (c n : ℕ) → c ≤ 1 → n ≤ 1 → IsTellable c n (flat_tables head elements c n)
-flat_tell head elements c n lc ln = valid_tellable c n (flat_tables head elements c n) lc (omega (arith, ln)) (flat_valid (symbols_used head elements c n) (symbols_few head elements c n))
 
 -- THE SCAN IS ALLOWED
 

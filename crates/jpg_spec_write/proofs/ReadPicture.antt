@@ -6,7 +6,7 @@ use Rattle.std.proofs.lemmas.List.{get_or-map, length-map, reverse-reverse}
 use Rattle.std.proofs.lemmas.List.Elements.{All-nil, All-cons, All-from_get_or}
 use Rattle.jpg_spec.specs.Lists.{below}
 use Rattle.jpg_spec.specs.Segments.{QuantTable, AreQuantisers}
-use Rattle.jpg_spec.specs.Geometry.{Frame, bounds_of, is_real}
+use Rattle.jpg_spec.specs.Geometry.{Frame, is_real, bounds}
 use Rattle.jpg_spec.specs.FrameHeader.{AreLimits}
 use Rattle.jpg_spec.specs.Elements.{zeros, IsBlockIn}
 use Rattle.jpg_spec.specs.Markers.{Segment, Pass, is_kept, kept_after, kept_count}
@@ -25,6 +25,7 @@ use Rattle.jpg_spec.proofs.KeptMarkers.{may_keep, input_count}
 use Rattle.jpg_spec.proofs.QuantsInForce.{AllContents, IsByte}
 use Rattle.jpg_spec.proofs.SameNumbers.{same_frame, is_place, same_places, file_numbers}
 use Rattle.jpg_spec_write.proofs.MovedWritten.{IsPicture}
+use Rattle.jpg_spec.proofs.MovedWritten.{zeros_here}
 use Rattle.jpg_spec.proofs.ReadPicture.{AreShort, HasTable, has_table, table_is, AreOfBytes, block_in, zero_slots, IsLeft, left_frame}
 use Rattle.jpg_spec.proofs.OutsideZeros.{twice_real}
 
@@ -63,11 +64,14 @@ left_picture limits segments blocks M limited of m =
       quants = file_tables limits f segments of.1 m.rules refl m.complete;
       markers = all_reverse IsKeptMarker (kept_after segments) (0, []) (kept_markers segments of.0);
       count = subst (λ xs. kept_count xs ≤ 268435456) (sym (reverse-reverse (kept_after segments))) (let a = input_count limits segments m.headers in let b = limited.kept in omega (arith, a, b));
-      blocks = λ i x y. shown (nat_lt i (length f.components) && is_real f i x y) (blocks i x y) (block_in (blocks i x y) (range.sizes i x y) (λ k. range.values i x y k));
+      blocks = λ i x y. shown (nat_lt i (length f.components) && is_real f i x y) (blocks i x y) (block_in (bounds f) (blocks i x y) (range.sizes i x y) (λ k. range.values i x y k));
       others = λ i x y. twice_real (is_place f i x y) (blocks i x y) ∙ ap (λ b. cond b (real_blocks f blocks i x y) (zeros 64)) (same_places f (picture_frame (meaning_of f segments blocks)) i x y same);
     } in
     subst (λ N. IsPicture N) (sym m.meaning) here
   where
-    shown : (b : Bool) (block : List ℤ) → IsBlockIn (bounds_of 8) block → IsBlockIn (bounds_of 8) (cond b block (zeros 64))
+    f : Frame
+    f = frame_of limits segments
+
+    shown : (b : Bool) (block : List ℤ) → IsBlockIn (bounds f) block → IsBlockIn (bounds f) (cond b block (zeros 64))
     shown true block is = is
-    shown false block is = (refl, refl)
+    shown false block is = zeros_here f

@@ -1,5 +1,5 @@
--- Scripts depend only on the number of components and their factors.
-use Rattle.std.proofs.Common.{◌≡◌, ℕ, zero, suc, ◌*◌, cond, List, [], ◌∷◌, ◌++◌, length, refl, sym, ap, ◌∙◌, ◌&&◌}
+-- Scripts depend only on the number of components, their factors and the precision.
+use Rattle.std.proofs.Common.{◌≡◌, ℕ, zero, suc, ◌*◌, cond, List, [], ◌∷◌, ◌++◌, length, refl, sym, ap, ◌∙◌, ◌&&◌, ◌==◌}
 use Rattle.std.specs.Prelude.{map, nat_lt, slice_index_or, sum_by}
 use Rattle.std.proofs.lemmas.List.{length-map}
 use Rattle.std.proofs.Math.Path.{fun_ext}
@@ -73,10 +73,12 @@ pub same_standard : (f g : Frame) (colour : Colour) → frame_grids f ≡ frame_
 same_standard f g YCbCr e = same_three f g e
 same_standard f g colour e = same_any f g e
 
-pub same_script_fault : (f g : Frame) (script : List Entry) → frame_grids f ≡ frame_grids g → script_fault f script ≡ script_fault g script
+pub same_script_fault : (f g : Frame) (script : List Entry) → frame_grids f ≡ frame_grids g → f.precision ≡ g.precision → script_fault f script ≡ script_fault g script
 unfolding script_fault
-same_script_fault f g script e =
-    same_fault (is_progressive_script script) f [] 0 script
-    ∙ ap (λ n. after_by (is_progressive_script script) n (factor_sum f) [] 0 script) (same_count f g e)
-    ∙ ap (λ (sum : List ℕ → ℕ). after_by (is_progressive_script script) (length g.components) sum [] 0 script) (same_sum f g e)
-    ∙ sym (same_fault (is_progressive_script script) g [] 0 script)
+same_script_fault f g script e p =
+    let is_prog = is_progressive_script script in
+    same_fault is_prog f [] 0 script
+    ∙ ap (λ n. after_by is_prog (n == 12) (length f.components) (factor_sum f) [] 0 script) p
+    ∙ ap (λ n. after_by is_prog (g.precision == 12) n (factor_sum f) [] 0 script) (same_count f g e)
+    ∙ ap (λ (sum : List ℕ → ℕ). after_by is_prog (g.precision == 12) (length g.components) sum [] 0 script) (same_sum f g e)
+    ∙ sym (same_fault is_prog g [] 0 script)

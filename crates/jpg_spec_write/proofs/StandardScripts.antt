@@ -2,7 +2,7 @@
 use Rattle.std.proofs.Common.{◌≡◌, ℕ, zero, suc, ◌+◌, ◌≤◌, Bool, true, false, cond, not, List, [], ◌∷◌, ◌++◌, length, refl, ap, ◌∙◌, arith, Option, Some, None, ◌==◌, ◌&&◌}
 use Rattle.std.specs.Prelude.{◌||◌, map, nat_lt, nat_le, find, option_map}
 use Rattle.jpg_spec.specs.Lists.{all_of, is_empty, below}
-use Rattle.jpg_spec.specs.Geometry.{Frame, factor_sum}
+use Rattle.jpg_spec.specs.Geometry.{Frame, factor_sum, bounds_12, bounds_8}
 use Rattle.jpg_spec.specs.FrameHeader.{IsFrame}
 use Rattle.jpg_spec.specs.Segments.{ScanHead}
 use Rattle.jpg_spec.specs.ScanContents.{is_band}
@@ -24,25 +24,25 @@ use Rattle.jpg_spec_write.specs.declared.picture_fault.PictureFault.TheVariants.
 
 -- THE SAME CHECK, of a number of components and the sums of their factors
 
-abbrev pub is_due : List ScanHead → Entry → Bool
-is_due heads e =
-    (is_band (length e.components) (entry_head e) && ((e.ah == 0 || e.ah == e.al + 1) && nat_le e.al 10)) && all_of (is_next heads (entry_head e)) e.components
+abbrev pub is_due : Bool → List ScanHead → Entry → Bool
+is_due wide heads e =
+    (is_band (length e.components) (entry_head e) && ((e.ah == 0 || e.ah == e.al + 1) && nat_le e.al (cond wide bounds_12 bounds_8).al)) && all_of (is_next heads (entry_head e)) e.components
 
-abbrev pub entry_by : Bool → ℕ → (List ℕ → ℕ) → List ScanHead → ℕ → Entry → Option PictureFault
-entry_by is_prog count sum heads n e =
+abbrev pub entry_by : Bool → Bool → ℕ → (List ℕ → ℕ) → List ScanHead → ℕ → Entry → Option PictureFault
+entry_by is_prog wide count sum heads n e =
     cond (is_empty e.components || (not (all_of (λ i. nat_lt i count) e.components) || not (ascend e.components))) (Some (ScriptComponent n))
     (cond (nat_lt 1 (length e.components) && nat_lt 10 (sum e.components)) (Some (ScriptMcu n))
-    (cond (cond is_prog (is_due heads e) (is_whole_scan heads e)) None (Some (ScriptBand n))))
+    (cond (cond is_prog (is_due wide heads e) (is_whole_scan heads e)) None (Some (ScriptBand n))))
 
 abbrev pub incomplete_by : ℕ → List ScanHead → Option PictureFault
 incomplete_by count heads =
     option_map (λ (c : ℕ × ℕ). ScriptIncomplete c.0 c.1 (known_to heads c.0 c.1)) (find (λ (c : ℕ × ℕ). not (is_known_to (known_to heads c.0 c.1) 0)) (coefficients count))
 
-abbrev pub after_by : Bool → ℕ → (List ℕ → ℕ) → List ScanHead → ℕ → List Entry → Option PictureFault
-after_by is_prog count sum heads n [] = incomplete_by count heads
-after_by is_prog count sum heads n (e ∷ script) = first_some (entry_by is_prog count sum heads n e) (after_by is_prog count sum (entry_head e ∷ heads) (n + 1) script)
+abbrev pub after_by : Bool → Bool → ℕ → (List ℕ → ℕ) → List ScanHead → ℕ → List Entry → Option PictureFault
+after_by is_prog wide count sum heads n [] = incomplete_by count heads
+after_by is_prog wide count sum heads n (e ∷ script) = first_some (entry_by is_prog wide count sum heads n e) (after_by is_prog wide count sum (entry_head e ∷ heads) (n + 1) script)
 
-pub same_fault : (is_prog : Bool) (f : Frame) (heads : List ScanHead) (n : ℕ) (script : List Entry) → fault_after is_prog f heads n script ≡ after_by is_prog (length f.components) (factor_sum f) heads n script
+pub same_fault : (is_prog : Bool) (f : Frame) (heads : List ScanHead) (n : ℕ) (script : List Entry) → fault_after is_prog f heads n script ≡ after_by is_prog (f.precision == 12) (length f.components) (factor_sum f) heads n script
 same_fault is_prog f heads n [] = refl
 same_fault is_prog f heads n (e ∷ script) = ap (first_some (entry_fault is_prog f heads n e)) (same_fault is_prog f (entry_head e ∷ heads) (n + 1) script)
 
@@ -69,51 +69,60 @@ three_by large n =
 abbrev by_mcu : Bool → ℕ → Option PictureFault
 by_mcu large n = first_some (cond large (Some (ScriptMcu 0)) None) (first_some (cond large (Some (ScriptMcu n)) None) None)
 
-Passes : ℕ → Type 0
-Passes n = (sum : List ℕ → ℕ) → after_by true n sum [] 0 (any_by (nat_lt 10 (sum (below n))) n) ≡ None
+Passes : Bool → ℕ → Type 0
+Passes wide n = (sum : List ℕ → ℕ) → after_by true wide n sum [] 0 (any_by (nat_lt 10 (sum (below n))) n) ≡ None
 
-passes_one : Passes 1
+passes_one : (wide : Bool) → Passes wide 1
 unfolding Passes
-passes_one sum = refl
+passes_one true sum = refl
+passes_one false sum = refl
 
-passes_two : Passes 2
+passes_two : (wide : Bool) → Passes wide 2
 unfolding Passes
-passes_two sum = by (nat_lt 10 (sum (below 2))) refl
+passes_two wide sum = by wide (nat_lt 10 (sum (below 2))) refl
   where
-    by : (b : Bool) → nat_lt 10 (sum (below 2)) ≡ b → after_by true 2 sum [] 0 (any_by b 2) ≡ None
-    by true e = refl
-    by false e = ap (λ b. by_mcu b 7) e
+    by : (wide b : Bool) → nat_lt 10 (sum (below 2)) ≡ b → after_by true wide 2 sum [] 0 (any_by b 2) ≡ None
+    by true true e = refl
+    by false true e = refl
+    by true false e = ap (λ b. by_mcu b 7) e
+    by false false e = ap (λ b. by_mcu b 7) e
 
-passes_three : Passes 3
+passes_three : (wide : Bool) → Passes wide 3
 unfolding Passes
-passes_three sum = by (nat_lt 10 (sum (below 3))) refl
+passes_three wide sum = by wide (nat_lt 10 (sum (below 3))) refl
   where
-    by : (b : Bool) → nat_lt 10 (sum (below 3)) ≡ b → after_by true 3 sum [] 0 (any_by b 3) ≡ None
-    by true e = refl
-    by false e = ap (λ b. by_mcu b 10) e
+    by : (wide b : Bool) → nat_lt 10 (sum (below 3)) ≡ b → after_by true wide 3 sum [] 0 (any_by b 3) ≡ None
+    by true true e = refl
+    by false true e = refl
+    by true false e = ap (λ b. by_mcu b 10) e
+    by false false e = ap (λ b. by_mcu b 10) e
 
-passes_four : Passes 4
+passes_four : (wide : Bool) → Passes wide 4
 unfolding Passes
-passes_four sum = by (nat_lt 10 (sum (below 4))) refl
+passes_four wide sum = by wide (nat_lt 10 (sum (below 4))) refl
   where
-    by : (b : Bool) → nat_lt 10 (sum (below 4)) ≡ b → after_by true 4 sum [] 0 (any_by b 4) ≡ None
-    by true e = refl
-    by false e = ap (λ b. by_mcu b 13) e
+    by : (wide b : Bool) → nat_lt 10 (sum (below 4)) ≡ b → after_by true wide 4 sum [] 0 (any_by b 4) ≡ None
+    by true true e = refl
+    by false true e = refl
+    by true false e = ap (λ b. by_mcu b 13) e
+    by false false e = ap (λ b. by_mcu b 13) e
 
-colours_pass : (sum : List ℕ → ℕ) → after_by true 3 sum [] 0 (three_by (nat_lt 10 (sum (below 3))) 3) ≡ None
-colours_pass sum = by (nat_lt 10 (sum (below 3))) refl
+colours_pass : (wide : Bool) (sum : List ℕ → ℕ) → after_by true wide 3 sum [] 0 (three_by (nat_lt 10 (sum (below 3))) 3) ≡ None
+colours_pass wide sum = by wide (nat_lt 10 (sum (below 3))) refl
   where
-    by : (b : Bool) → nat_lt 10 (sum (below 3)) ≡ b → after_by true 3 sum [] 0 (three_by b 3) ≡ None
-    by true e = refl
-    by false e = ap (λ b. by_mcu b 6) e
+    by : (wide b : Bool) → nat_lt 10 (sum (below 3)) ≡ b → after_by true wide 3 sum [] 0 (three_by b 3) ≡ None
+    by true true e = refl
+    by false true e = refl
+    by true false e = ap (λ b. by_mcu b 6) e
+    by false false e = ap (λ b. by_mcu b 6) e
 
-all_pass : (n : ℕ) → 1 ≤ n → n ≤ 4 → Passes n
-all_pass zero l h = absurd (omega (arith, l))
-all_pass (suc zero) l h = passes_one
-all_pass (suc (suc zero)) l h = passes_two
-all_pass (suc (suc (suc zero))) l h = passes_three
-all_pass (suc (suc (suc (suc zero)))) l h = passes_four
-all_pass (suc (suc (suc (suc (suc n))))) l h = absurd (omega (arith, h))
+all_pass : (wide : Bool) (n : ℕ) → 1 ≤ n → n ≤ 4 → Passes wide n
+all_pass wide zero l h = absurd (omega (arith, l))
+all_pass wide (suc zero) l h = passes_one wide
+all_pass wide (suc (suc zero)) l h = passes_two wide
+all_pass wide (suc (suc (suc zero))) l h = passes_three wide
+all_pass wide (suc (suc (suc (suc zero)))) l h = passes_four wide
+all_pass wide (suc (suc (suc (suc (suc n))))) l h = absurd (omega (arith, h))
 
 -- both scripts begin with DC, in one scan or in more
 begins_any : (large : Bool) (n : ℕ) → 1 ≤ n → n ≤ 4 → is_progressive_script (any_by large n) ≡ true
@@ -128,7 +137,7 @@ unfolding script_fault Passes
 any_passes f l h =
     let n = length f.components in
     ap (λ b. fault_after b f [] 0 (any_colours_script f)) (begins_any (nat_lt 10 (factor_sum f (below n))) n l h)
-    ∙ same_fault true f [] 0 (any_colours_script f) ∙ all_pass n l h (factor_sum f)
+    ∙ same_fault true f [] 0 (any_colours_script f) ∙ all_pass (f.precision == 12) n l h (factor_sum f)
 
 begins_three : (large : Bool) → is_progressive_script (three_by large 3) ≡ true
 begins_three true = refl
@@ -142,8 +151,8 @@ three_passes f e =
     ap (λ b. fault_after b f [] 0 (three_colours_script f))
     (ap (λ m. is_progressive_script (three_by (nat_lt 10 (sum (below m))) m)) e ∙ begins_three (nat_lt 10 (sum (below 3))))
     ∙ same_fault true f [] 0 (three_colours_script f)
-    ∙ ap (λ m. after_by true m sum [] 0 (three_by (nat_lt 10 (sum (below m))) m)) e
-    ∙ colours_pass sum
+    ∙ ap (λ m. after_by true (f.precision == 12) m sum [] 0 (three_by (nat_lt 10 (sum (below m))) m)) e
+    ∙ colours_pass (f.precision == 12) sum
 
 pub standard_passes : (f : Frame) (colour : Colour) → HasStandardScript f colour → script_fault f (standard_script f colour) ≡ None
 standard_passes f YCbCr is = three_passes f (is.three refl)
@@ -193,33 +202,33 @@ meaning_has H is =
 -- THE SEQUENTIAL SCRIPT
 
 SequentialPasses : ℕ → Type 0
-SequentialPasses n = (sum : List ℕ → ℕ) → after_by false n sum [] 0 (all_of_by (nat_lt 10 (sum (below n))) n 0 63 0 0) ≡ None
+SequentialPasses n = (wide : Bool) (sum : List ℕ → ℕ) → after_by false wide n sum [] 0 (all_of_by (nat_lt 10 (sum (below n))) n 0 63 0 0) ≡ None
 
 sequential_one : SequentialPasses 1
 unfolding SequentialPasses
-sequential_one sum = refl
+sequential_one wide sum = refl
 
 sequential_two : SequentialPasses 2
 unfolding SequentialPasses
-sequential_two sum = by (nat_lt 10 (sum (below 2))) refl
+sequential_two wide sum = by (nat_lt 10 (sum (below 2))) refl
   where
-    by : (b : Bool) → nat_lt 10 (sum (below 2)) ≡ b → after_by false 2 sum [] 0 (all_of_by b 2 0 63 0 0) ≡ None
+    by : (b : Bool) → nat_lt 10 (sum (below 2)) ≡ b → after_by false wide 2 sum [] 0 (all_of_by b 2 0 63 0 0) ≡ None
     by true e = refl
     by false e = ap (λ b. first_some (cond b (Some (ScriptMcu 0)) None) None) e
 
 sequential_three : SequentialPasses 3
 unfolding SequentialPasses
-sequential_three sum = by (nat_lt 10 (sum (below 3))) refl
+sequential_three wide sum = by (nat_lt 10 (sum (below 3))) refl
   where
-    by : (b : Bool) → nat_lt 10 (sum (below 3)) ≡ b → after_by false 3 sum [] 0 (all_of_by b 3 0 63 0 0) ≡ None
+    by : (b : Bool) → nat_lt 10 (sum (below 3)) ≡ b → after_by false wide 3 sum [] 0 (all_of_by b 3 0 63 0 0) ≡ None
     by true e = refl
     by false e = ap (λ b. first_some (cond b (Some (ScriptMcu 0)) None) None) e
 
 sequential_four : SequentialPasses 4
 unfolding SequentialPasses
-sequential_four sum = by (nat_lt 10 (sum (below 4))) refl
+sequential_four wide sum = by (nat_lt 10 (sum (below 4))) refl
   where
-    by : (b : Bool) → nat_lt 10 (sum (below 4)) ≡ b → after_by false 4 sum [] 0 (all_of_by b 4 0 63 0 0) ≡ None
+    by : (b : Bool) → nat_lt 10 (sum (below 4)) ≡ b → after_by false wide 4 sum [] 0 (all_of_by b 4 0 63 0 0) ≡ None
     by true e = refl
     by false e = ap (λ b. first_some (cond b (Some (ScriptMcu 0)) None) None) e
 
@@ -246,5 +255,5 @@ sequential_has_none f is =
     record {
       few = is.count_high;
       sequential = kind;
-      faultless = ap (λ b. fault_after b f [] 0 (sequential_script f)) kind ∙ same_fault false f [] 0 (sequential_script f) ∙ all_sequential n is.count_low is.count_high (factor_sum f);
+      faultless = ap (λ b. fault_after b f [] 0 (sequential_script f)) kind ∙ same_fault false f [] 0 (sequential_script f) ∙ all_sequential n is.count_low is.count_high (f.precision == 12) (factor_sum f);
     }

@@ -1,17 +1,16 @@
 -- What a sequential scan writes is in the grammar, by the tables in force for its components.
-use Rattle.std.proofs.Common.{◌≡◌, ℕ, zero, suc, Bool, true, false, cond, List, [], ◌∷◌, drop, Some, sym, ap, ◌∙◌, subst, ℤ}
+use Rattle.std.proofs.Common.{◌≡◌, ℕ, zero, suc, Bool, true, false, cond, List, [], ◌∷◌, drop, Some, sym, ap, ◌∙◌, subst, ℤ, pos}
 use Rattle.std.specs.Prelude.{map, flat_map}
 use Rattle.jpg_spec.specs.Codes.{Code}
 use Rattle.jpg_spec.specs.Lists.{is_among}
 use Rattle.jpg_spec.specs.Geometry.{Frame, is_progressive}
-use Rattle.jpg_spec.specs.Segments.{ScanHead, head_components}
+use Rattle.jpg_spec.specs.Segments.{HuffmanTable, ScanHead, head_components}
 use Rattle.jpg_spec.specs.Elements.{Coding, UnitLeft, Standing, Element, difference, dc_bit, value, long_run, ends, Covers, Tells, SpellsElement, codes_due, going_on, predictions_after, at_start, new_unit}
 use Rattle.jpg_spec.specs.Scan.{TablesInForce, codes_of, part_of, scan_coding}
-use Rattle.jpg_spec_write.specs.ScanText.{UnitDue, typical_table, typical_tables}
-use Rattle.jpg_spec_write.specs.Written.{IsWritable, sequential_bits, SpellsDue}
+use Rattle.jpg_spec_write.specs.ScanText.{UnitDue, unit_elements}
+use Rattle.jpg_spec_write.specs.Written.{IsWritable, HasCode, all_in_force, sequential_bits, SpellsDue}
 use Rattle.jpg_spec_write.proofs.Sequential.{written_spells}
 use Rattle.jpg_spec.proofs.Each.{Each}
-use Rattle.jpg_spec_write.proofs.PlacedBlocks.{each_all}
 
 -- ONLY THE CODES of the components of the units matter
 
@@ -75,25 +74,25 @@ module _ (c : Coding) (dc ac : ℕ → List Code) where
             (in_after c (s.predictions (k.0).component) test e k.0 k.1 k.2 k.3 k.11 all) k.13,
       )
 
--- THE TABLES in force are the typical ones for the components of the scan
+-- THE TABLES in force are those that the scan is written by, for its components
 
-abbrev pub GivesTypical : TablesInForce → ScanHead → Type 0
-GivesTypical tables head =
+abbrev pub Gives : (ℕ → ℕ → HuffmanTable) → TablesInForce → ScanHead → Type 0
+Gives due tables head =
     (i : ℕ) → is_among i (head_components head) ≡ true
-    → (tables 0 (part_of head i).dc ≡ Some (typical_table 0 (part_of head i).dc)) × (tables 1 (part_of head i).ac ≡ Some (typical_table 1 (part_of head i).ac))
+    → (tables 0 (part_of head i).dc ≡ Some (due 0 (part_of head i).dc)) × (tables 1 (part_of head i).ac ≡ Some (due 1 (part_of head i).ac))
 
 units_in : (test : ℕ → Bool) (due : List UnitDue) → Each (λ (u : UnitDue). test u.0 ≡ true) due → AllIn test (map (λ (u : UnitDue). new_unit u.0) due)
 units_in test [] h = tt
 units_in test (u ∷ due) h = (h.0, units_in test due h.1)
 
-pub scan_spells : (f : Frame) (tables : TablesInForce) (head : ScanHead) (due : List UnitDue) → is_progressive f.process ≡ false → f.precision ≡ 8 → GivesTypical tables head
-    → Each (λ (u : UnitDue). is_among u.0 (head_components head) ≡ true) due → Each (IsWritable (scan_coding f typical_tables head)) due
-    → SpellsDue (scan_coding f tables head) due (sequential_bits head due)
-scan_spells f tables head due e p given named ok =
-    let c = scan_coding f typical_tables head in
+pub scan_spells : (f : Frame) (by : ℕ → ℕ → HuffmanTable) (tables : TablesInForce) (head : ScanHead) (due : List UnitDue) → is_progressive f.process ≡ false → Gives by tables head
+    → Each (λ (u : UnitDue). is_among u.0 (head_components head) ≡ true) due → Each (IsWritable (scan_coding f (all_in_force by) head)) due → Each (HasCode by head) (unit_elements true false 0 (λ i. pos 0) due)
+    → SpellsDue (scan_coding f tables head) due (sequential_bits by head due)
+scan_spells f by tables head due e given named ok coded =
+    let c = scan_coding f (all_in_force by) head in
     let dc = λ (i : ℕ). codes_of (tables 0 (part_of head i).dc) in
     let ac = λ (i : ℕ). codes_of (tables 1 (part_of head i).ac) in
-    let k = written_spells f head due e p (each_all (IsWritable c) due ok) in
+    let k = written_spells f by head due e ok coded in
     let test : ℕ → Bool = λ i. is_among i (head_components head) in
     let same : AreSameCodes c dc ac test = λ i h. (sym (ap codes_of (given i h).0), sym (ap codes_of (given i h).1)) in
-    (k.0, k.1, covers_coded c dc ac test (at_start (map (λ (u : UnitDue). new_unit u.0) due)) k.1 k.0 (flat_map (λ (u : UnitDue). u.1) due) (sequential_bits head due) same (units_in test due named) k.2, k.3)
+    (k.0, k.1, covers_coded c dc ac test (at_start (map (λ (u : UnitDue). new_unit u.0) due)) k.1 k.0 (flat_map (λ (u : UnitDue). u.1) due) (sequential_bits by head due) same (units_in test due named) k.2, k.3)

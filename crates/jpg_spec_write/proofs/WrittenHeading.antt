@@ -6,10 +6,10 @@ use Rattle.std.proofs.lemmas.List.{append-nil, reverse-append}
 use Rattle.std.proofs.lemmas.List.Elements.{filter-append, All-head, All-tail, All-nil, All-cons}
 use Rattle.jpg_spec.specs.Lists.{any_of, is_distinct}
 use Rattle.jpg_spec.specs.Geometry.{Frame, padded_blocks}
-use Rattle.jpg_spec.specs.FrameHeader.{has_bad_factor, has_bad_slot, identifiers, checked_frame}
+use Rattle.jpg_spec.specs.FrameHeader.{has_bad_factor, has_bad_slot, identifiers, checked_frame, is_precision}
 use Rattle.jpg_spec.specs.Jfif.{jfif_of, begins_jfif, begins_adobe}
-use Rattle.jpg_spec.specs.Meaning.{Meaning, colour_of}
-use Rattle.jpg_spec_write.specs.Headed.{jfif_contents, adobe_contents, headed_kept, copied, sequential_process, headed_by}
+use Rattle.jpg_spec.specs.Meaning.{Meaning, colour_of, PictureComponent}
+use Rattle.jpg_spec_write.specs.Headed.{jfif_contents, adobe_contents, headed_kept, copied, sequential_process, headed_by, is_wide}
 use Rattle.jpg_spec.specs.Markers.{Segment, is_plain_jfif, is_plain_adobe, counts_nothing, kept_count}
 use Rattle.jpg_spec_write.specs.FileText.{frame_of_meaning}
 use Rattle.jpg_spec_write.specs.WrittenFile.{IsHeaded, IsKeptMarker}
@@ -23,21 +23,44 @@ use Rattle.jpg_spec.specs.declared.frame.Limits.{Limits}
 use Rattle.jpg_spec.specs.declared.jfif.Jfif.{Jfif}
 use Rattle.jpg_spec.proofs.Common.{both, negated, neither, not_refused, and_none}
 use Rattle.jpg_spec.proofs.FrameFound.{checks}
+use Rattle.jpg_spec.specs.declared.frame.Process.TheVariants.{Baseline, Extended, Progressive}
 
 -- THE PROCESS of a frame isn't checked
 
 abbrev pub with_process : Process → Frame → Frame
 with_process p f = record f { process = p }
 
-pub other_process : (limits : Limits) (f g : Frame) (p : Process) → checked_frame limits f ≡ Ok g → checked_frame limits (with_process p f) ≡ Ok (with_process p f)
+pub other_process : (limits : Limits) (f g : Frame) (p : Process) → is_precision p f.precision ≡ true → checked_frame limits f ≡ Ok g → checked_frame limits (with_process p f) ≡ Ok (with_process p f)
 unfolding checked_frame
-other_process limits f g p e =
+other_process limits f g p allowed e =
     let is = (checks limits f g e).0 in
-    let eight : not (f.precision == 8) ≡ false = ap (λ n. not (n == 8)) is.precision in
     not_refused EmptyImage (f.width == 0 || f.height == 0) _ is.some ∙ not_refused TooLarge (nat_lt limits.side f.width || nat_lt limits.side f.height) _ is.sides
-    ∙ not_refused Precision (not (f.precision == 8)) _ eight ∙ not_refused ComponentCount (length f.components == 0 || nat_lt 4 (length f.components)) _ is.count
+    ∙ not_refused Precision (not (is_precision p f.precision)) _ (ap not allowed) ∙ not_refused ComponentCount (length f.components == 0 || nat_lt 4 (length f.components)) _ is.count
     ∙ not_refused Sampling (any_of has_bad_factor f.components) _ is.factors ∙ not_refused DuplicateComponent (not (is_distinct (identifiers f.components))) _ (ap not is.distinct)
     ∙ not_refused QuantSlot (any_of has_bad_slot f.components) _ is.slots ∙ not_refused TooManyBlocks (nat_lt limits.blocks (padded_blocks f)) _ is.blocks
+
+-- a process that has the precision
+wider : (p : Process) (n : ℕ) → is_precision p n ≡ true → (n == 8 || n == 12) ≡ true
+wider Baseline n e = ap (λ b. b || n == 12) e
+wider Extended n e = e
+wider Progressive n e = e
+
+pub sequential_precision : (M : Meaning) → is_precision M.process M.precision ≡ true → is_precision (sequential_process M) M.precision ≡ true
+sequential_precision M e = by (M.precision == 8) refl (wider M.process M.precision e)
+  where
+    wide : Bool
+    wide = any_of (λ (c : PictureComponent). is_wide c.quants) M.components
+
+    other : (t : Bool) → (M.precision == 8) ≡ true → is_precision (cond t Extended Baseline) M.precision ≡ true
+    other true h = ap (λ b. b || M.precision == 12) h
+    other false h = h
+
+    by : (b : Bool) → (M.precision == 8) ≡ b → (M.precision == 8 || M.precision == 12) ≡ true → is_precision (cond (not (M.precision == 8) || wide) Extended Baseline) M.precision ≡ true
+    by true h e = subst (λ b. is_precision (cond (not b || wide) Extended Baseline) M.precision ≡ true) (sym h) (other wide h)
+    by false h e = subst (λ b. is_precision (cond (not b || wide) Extended Baseline) M.precision ≡ true) (sym h) e
+
+pub progressive_precision : (M : Meaning) → is_precision M.process M.precision ≡ true → is_precision Progressive M.precision ≡ true
+progressive_precision M e = wider M.process M.precision e
 
 -- MARKERS that are left out
 
@@ -173,7 +196,7 @@ unfolding AreFit
 heading limits copying M is =
     let fit = heading_fit limits (colour_of M) (jfif_of M.kept) (copied copying M.kept) (copied_fit limits copying M.kept (is.markers, is.count)) in
     record {
-      frame = other_process limits (frame_of_meaning M) (frame_of_meaning M) (sequential_process M) is.frame;
+      frame = other_process limits (frame_of_meaning M) (frame_of_meaning M) (sequential_process M) (sequential_precision M (checks limits (frame_of_meaning M) (frame_of_meaning M) is.frame).0.precision) is.frame;
       quants = is.quants;
       markers = fit.0;
       count = fit.1;

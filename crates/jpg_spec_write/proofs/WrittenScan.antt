@@ -9,11 +9,11 @@ use Rattle.jpg_spec.specs.Bits.{whole_bytes, padded}
 use Rattle.jpg_spec.specs.Lists.{any_of, chunks, is_among, is_distinct}
 use Rattle.jpg_spec.specs.Geometry.{Frame, units, is_progressive, is_real, mcu_units}
 use Rattle.jpg_spec.specs.FrameHeader.{IsFrame}
-use Rattle.jpg_spec.specs.Segments.{ScanHead, head_components}
+use Rattle.jpg_spec.specs.Segments.{HuffmanTable, ScanHead, head_components}
 use Rattle.jpg_spec.specs.Elements.{SpellsUnits, zeros, new_unit}
 use Rattle.jpg_spec.specs.Scan.{Blocks, Scan, TablesInForce, scan_coding, scan_of, band, block_at, unit_at, SpellsInterval, SpellsIntervals, coefficient, is_named, ScanMeans}
-use Rattle.jpg_spec_write.specs.ScanText.{UnitDue, units_due, last_dc, typical_tables}
-use Rattle.jpg_spec_write.specs.Written.{sequential_bits}
+use Rattle.jpg_spec_write.specs.ScanText.{UnitDue, Owned, units_due, unit_elements, last_dc}
+use Rattle.jpg_spec_write.specs.Written.{HasCode, all_in_force, sequential_bits}
 use Rattle.jpg_spec.specs.PictureInWork.{is_at, AreDistinct}
 use Rattle.jpg_spec.specs.Laws.{IsNewUnit}
 use Rattle.jpg_spec.specs.declared.frame.Place.{Place}
@@ -23,13 +23,18 @@ use Rattle.jpg_spec.proofs.PlacesDistinct.{units_distinct}
 use Rattle.jpg_spec.proofs.PlacesFound.{each_units, real_found}
 use Rattle.jpg_spec.proofs.Each.{Each, each_map, each_rows, each_flat}
 use Rattle.jpg_spec_write.proofs.PlacedBlocks.{Placed, block_due, placed_due, all_placed, all_places, blocks_after, found_none, IsFound, found_each, found_size, IsRealSendable, IsPlacedWritable, placed_writable, due_writable, placed_sizes, found_real}
-use Rattle.jpg_spec_write.proofs.WrittenCoding.{GivesTypical, scan_spells}
+use Rattle.jpg_spec_write.proofs.WrittenCoding.{Gives, scan_spells}
+use Rattle.jpg_spec.proofs.Precisions.{zero_ac, zero_dc}
 use Rattle.jpg_spec.proofs.Common.{both, same_of, and_intro}
 
 -- AN INTERVAL
 
-abbrev pub sequential_coded : ScanHead → Blocks → List Place → List ℕ
-sequential_coded head blocks places = whole_bytes (padded (sequential_bits head (units_due blocks (λ i. pos 0) places)))
+-- its elements
+abbrev pub rows_elements : ScanHead → Blocks → List Place → List Owned
+rows_elements head blocks row = unit_elements true false 0 (λ i. pos 0) (units_due blocks (λ i. pos 0) row)
+
+abbrev pub sequential_coded : (ℕ → ℕ → HuffmanTable) → ScanHead → Blocks → List Place → List ℕ
+sequential_coded by head blocks places = whole_bytes (padded (sequential_bits by head (units_due blocks (λ i. pos 0) places)))
 
 units_new : (s : Scan) (before blocks : Blocks) (last : ℕ → ℤ) (places : List Place) → Each (IsNewUnit s before) places → map (unit_at s before) places ≡ map (λ (u : UnitDue). new_unit u.0) (units_due blocks last places)
 units_new s before blocks last [] h = refl
@@ -52,45 +57,44 @@ due_among test blocks last [] h = tt
 due_among test blocks last (p ∷ places) h = (h.0, due_among test blocks (last_dc last p.component (block_due blocks last p)) places h.1)
 
 -- what an interval of a scan of the frame needs
-record IsIntervalDue (f : Frame) (s : Scan) (head : ScanHead) (before after blocks : Blocks) (places : List Place) : Type 0 where
+record IsIntervalDue (f : Frame) (s : Scan) (by : ℕ → ℕ → HuffmanTable) (head : ScanHead) (before after blocks : Blocks) (places : List Place) : Type 0 where
   new : Each (IsNewUnit s before) places
   among : Each (λ (p : Place). is_among p.component (head_components head) ≡ true) places
-  writable : Each (IsPlacedWritable (scan_coding f typical_tables head)) (placed_due blocks (λ i. pos 0) places)
+  writable : Each (IsPlacedWritable (scan_coding f (all_in_force by) head)) (placed_due blocks (λ i. pos 0) places)
+  coded : Each (HasCode by head) (rows_elements head blocks places)
   found : Each (IsFound after) (placed_due blocks (λ i. pos 0) places)
 
-interval_spelled : (f : Frame) (tables : TablesInForce) (restart : ℕ) (head : ScanHead) (before after blocks : Blocks) (places : List Place) → is_progressive f.process ≡ false → f.precision ≡ 8 → GivesTypical tables head
-    → IsIntervalDue f (scan_of f tables restart head) head before after blocks places → SpellsInterval (scan_of f tables restart head) before after places (sequential_coded head blocks places)
-interval_spelled f tables restart head before after blocks places e p given is =
-    let s = scan_of f tables restart head in
-    let c = scan_coding f typical_tables head in
-    let first : ℕ → ℤ = λ i. pos 0 in
-    let due = units_due blocks first places in
-    let bits = sequential_bits head due in
-    let sizes = each_map (IsPlacedWritable c) (λ (q : Placed). length q.1 ≡ 64) (placed_due blocks first places) (λ q w. w.0) is.writable in
-    let k = scan_spells f tables head due e p given (due_among (λ i. is_among i (head_components head)) blocks first places is.among) (due_writable c blocks first places is.writable) in
-    let units = units_new s before blocks first places is.new in
-    let bands = bands_new s after blocks first places (ap (λ b. cond b head.ss 0) e) (ap (λ b. cond b head.se 63) e) is.found sizes in (
-      bits,
-      packs bits,
-      subst (λ us. SpellsUnits s.coding us (flat_map (λ p. band s (block_at after p)) places) bits) (sym units)
-          (subst (λ vs. SpellsUnits s.coding (map (λ (u : UnitDue). new_unit u.0) due) vs bits) (sym bands) k),
-    )
+module _ (f : Frame) (by : ℕ → ℕ → HuffmanTable) (tables : TablesInForce) (restart : ℕ) (head : ScanHead) (before after blocks : Blocks) where
+  interval_spelled : (places : List Place) → is_progressive f.process ≡ false → Gives by tables head → IsIntervalDue f (scan_of f tables restart head) by head before after blocks places → SpellsInterval (scan_of f tables restart head) before after places (sequential_coded by head blocks places)
+  interval_spelled places e given is =
+      let s = scan_of f tables restart head in
+      let c = scan_coding f (all_in_force by) head in
+      let first : ℕ → ℤ = λ i. pos 0 in
+      let due = units_due blocks first places in
+      let bits = sequential_bits by head due in
+      let sizes = each_map (IsPlacedWritable c) (λ (q : Placed). length q.1 ≡ 64) (placed_due blocks first places) (λ q w. w.0) is.writable in
+      let k = scan_spells f by tables head due e given (due_among (λ i. is_among i (head_components head)) blocks first places is.among) (due_writable c blocks first places is.writable) is.coded in
+      let units = units_new s before blocks first places is.new in
+      let bands = bands_new s after blocks first places (ap (λ b. cond b head.ss 0) e) (ap (λ b. cond b head.se 63) e) is.found sizes in (
+        bits,
+        packs bits,
+        subst (λ us. SpellsUnits s.coding us (flat_map (λ p. band s (block_at after p)) places) bits) (sym units)
+            (subst (λ vs. SpellsUnits s.coding (map (λ (u : UnitDue). new_unit u.0) due) vs bits) (sym bands) k),
+      )
 
--- ALL INTERVALS
+  -- ALL INTERVALS
+  intervals_spelled : (rows : List (List Place)) → is_progressive f.process ≡ false → Gives by tables head → Each (IsIntervalDue f (scan_of f tables restart head) by head before after blocks) rows → SpellsIntervals (scan_of f tables restart head) before after rows (map (sequential_coded by head blocks) rows)
+  intervals_spelled [] e given is = tt
+  intervals_spelled (places ∷ rows) e given is = (interval_spelled places e given is.0, intervals_spelled rows e given is.1)
 
-intervals_spelled : (f : Frame) (tables : TablesInForce) (restart : ℕ) (head : ScanHead) (before after blocks : Blocks) (rows : List (List Place)) → is_progressive f.process ≡ false → f.precision ≡ 8 → GivesTypical tables head
-    → Each (IsIntervalDue f (scan_of f tables restart head) head before after blocks) rows → SpellsIntervals (scan_of f tables restart head) before after rows (map (sequential_coded head blocks) rows)
-intervals_spelled f tables restart head before after blocks [] e p given is = tt
-intervals_spelled f tables restart head before after blocks (places ∷ rows) e p given is =
-    (interval_spelled f tables restart head before after blocks places e p given is.0, intervals_spelled f tables restart head before after blocks rows e p given is.1)
-
-all_due : (f : Frame) (s : Scan) (head : ScanHead) (before after blocks : Blocks) (rows : List (List Place)) → Each (λ row. Each (IsNewUnit s before) row) rows
+all_due : (f : Frame) (s : Scan) (by : ℕ → ℕ → HuffmanTable) (head : ScanHead) (before after blocks : Blocks) (rows : List (List Place)) → Each (λ row. Each (IsNewUnit s before) row) rows
     → Each (λ row. Each (λ (p : Place). is_among p.component (head_components head) ≡ true) row) rows
-    → Each (λ row. Each (IsPlacedWritable (scan_coding f typical_tables head)) (placed_due blocks (λ i. pos 0) row)) rows
+    → Each (λ row. Each (IsPlacedWritable (scan_coding f (all_in_force by) head)) (placed_due blocks (λ i. pos 0) row)) rows
+    → Each (λ row. Each (HasCode by head) (rows_elements head blocks row)) rows
     → Each (λ row. Each (IsFound after) (placed_due blocks (λ i. pos 0) row)) rows
-    → Each (IsIntervalDue f s head before after blocks) rows
-all_due f s head before after blocks [] a b c d = tt
-all_due f s head before after blocks (row ∷ rows) a b c d = (record { new = a.0; among = b.0; writable = c.0; found = d.0 }, all_due f s head before after blocks rows a.1 b.1 c.1 d.1)
+    → Each (IsIntervalDue f s by head before after blocks) rows
+all_due f s by head before after blocks [] a b c k d = tt
+all_due f s by head before after blocks (row ∷ rows) a b c k d = (record { new = a.0; among = b.0; writable = c.0; coded = k.0; found = d.0 }, all_due f s by head before after blocks rows a.1 b.1 c.1 k.1 d.1)
 
 -- THE SCAN
 
@@ -162,13 +166,13 @@ real_after f head restart blocks before i x y is known among real =
     (ap (any_of (is_at i x y)) (placed_are f head restart blocks) ∙ real_found f parts i x y is known among real)
 
 -- THE LAW
-pub scan_means : (f : Frame) (tables : TablesInForce) (restart : ℕ) (head : ScanHead) (before blocks : Blocks) → is_progressive f.process ≡ false → f.precision ≡ 8 → GivesTypical tables head
+pub scan_means : (f : Frame) (by : ℕ → ℕ → HuffmanTable) (tables : TablesInForce) (restart : ℕ) (head : ScanHead) (before blocks : Blocks) → is_progressive f.process ≡ false → Gives by tables head
     → is_distinct (head_components head) ≡ true → ((i x y : ℕ) → length (before i x y) ≡ 64) → Each (IsNewUnit (scan_of f tables restart head) before) (units f (head_components head))
-    → Each (IsRealSendable (scan_coding f typical_tables head) blocks) (units f (head_components head))
-    → ScanMeans (scan_of f tables restart head) (map (sequential_coded head blocks) (scan_rows f head restart)) before (scan_after_blocks f head restart blocks before)
-scan_means f tables restart head before blocks e p given distinct size new sendable =
+    → Each (IsRealSendable (scan_coding f (all_in_force by) head) blocks) (units f (head_components head)) → Each (λ row. Each (HasCode by head) (rows_elements head blocks row)) (scan_rows f head restart)
+    → ScanMeans (scan_of f tables restart head) (map (sequential_coded by head blocks) (scan_rows f head restart)) before (scan_after_blocks f head restart blocks before)
+scan_means f by tables restart head before blocks e given distinct size new sendable coded =
     let s = scan_of f tables restart head in
-    let c = scan_coding f typical_tables head in
+    let c = scan_coding f (all_in_force by) head in
     let parts = head_components head in
     let n = restart * mcu_units f parts in
     let rows = scan_rows f head restart in
@@ -176,13 +180,13 @@ scan_means f tables restart head before blocks e p given distinct size new senda
     let after = scan_after_blocks f head restart blocks before in
     let apart : AreDistinct (map (λ (q : Placed). q.0) placed) = subst AreDistinct (sym (placed_are f head restart blocks)) (units_distinct f parts distinct) in
     let writable = each_map (λ row. Each (IsRealSendable c blocks) row) (λ row. Each (IsPlacedWritable c) (placed_due blocks (λ i. pos 0) row)) rows
-    (λ row h. placed_writable c blocks (λ i. pos 0) row refl (λ i. refl) h) (each_rows (IsRealSendable c blocks) n (units f parts) sendable) in
+    (λ row h. placed_writable c blocks (λ i. pos 0) row (zero_ac f.precision) (λ i. zero_dc f.precision) h) (each_rows (IsRealSendable c blocks) n (units f parts) sendable) in
     let found = each_flat (IsFound after) (λ row. placed_due blocks (λ i. pos 0) row) rows (found_each before placed apart) in
     let sizes = placed_sizes c blocks rows writable in
     let long : (i x y : ℕ) → length (after i x y) ≡ 64 = λ i x y. found_size placed (before i x y) i x y (size i x y) sizes in
     record {
-      spelled = intervals_spelled f tables restart head before after blocks rows e p given
-          (all_due f s head before after blocks rows (each_rows (IsNewUnit s before) n (units f parts) new) (each_rows (λ (p : Place). is_among p.component parts ≡ true) n (units f parts) (units_among f parts)) writable found);
+      spelled = intervals_spelled f by tables restart head before after blocks rows e given
+          (all_due f s by head before after blocks rows (each_rows (IsNewUnit s before) n (units f parts) new) (each_rows (λ (p : Place). is_among p.component parts ≡ true) n (units f parts) (units_among f parts)) writable coded found);
       rest = λ i x y k h. stays i x y k h (long i x y);
       sizes = long;
     }
@@ -195,14 +199,14 @@ scan_means f tables restart head before blocks e p given distinct size new senda
 
     stays : (i x y k : ℕ) → is_named (scan_of f tables restart head) i x y k ≡ false → length (scan_after_blocks f head restart blocks before i x y) ≡ 64
         → coefficient (scan_after_blocks f head restart blocks before) i x y k ≡ coefficient before i x y k
-    stays i x y k h l = by (any_of (is_at i x y) (units f (head_components head))) refl
+    stays i x y k h l = here (any_of (is_at i x y) (units f (head_components head))) refl
       where
         s : Scan
         s = scan_of f tables restart head
 
-        by : (b : Bool) → any_of (is_at i x y) (units f (head_components head)) ≡ b → coefficient (scan_after_blocks f head restart blocks before) i x y k ≡ coefficient before i x y k
-        by false z = ap (λ block. get_or block k (pos 0)) (found_none (all_placed blocks (scan_rows f head restart)) (before i x y) i x y (ap (any_of (is_at i x y)) (placed_are f head restart blocks) ∙ z))
-        by true z =
+        here : (b : Bool) → any_of (is_at i x y) (units f (head_components head)) ≡ b → coefficient (scan_after_blocks f head restart blocks before) i x y k ≡ coefficient before i x y k
+        here false z = ap (λ block. get_or block k (pos 0)) (found_none (all_placed blocks (scan_rows f head restart)) (before i x y) i x y (ap (any_of (is_at i x y)) (placed_are f head restart blocks) ∙ z))
+        here true z =
             ⊎_elim
             (λ (m : k < 64). (let yes : is_named s i x y k ≡ true = and_intro (any_of (is_at i x y) s.places && nat_le s.ss k) (nat_le k s.se) (and_intro (any_of (is_at i x y) s.places) (nat_le s.ss k) z (low s.ss k (ap (λ b. cond b head.ss 0) e))) (high s.se k (ap (λ b. cond b head.se 63) e) m) in
             let f : true ≡ false = sym yes ∙ h in

@@ -7,9 +7,9 @@ use Rattle.jpg_spec.specs.Bits.{stuffed}
 use Rattle.jpg_spec.specs.Lists.{any_of, all_of, is_among, is_distinct, below}
 use Rattle.jpg_spec.specs.Geometry.{Frame, bounds, component_at, is_progressive, is_real, place, units, mcu_units}
 use Rattle.jpg_spec.specs.FrameHeader.{IsFrame}
-use Rattle.jpg_spec.specs.Segments.{QuantTable, ScanHead, head_components}
+use Rattle.jpg_spec.specs.Segments.{HuffmanTable, QuantTable, ScanHead, head_components}
 use Rattle.jpg_spec.specs.Scan.{Blocks, Scan, scan_coding, scan_of, unit_at, ScanMeans}
-use Rattle.jpg_spec_write.specs.ScanText.{intervals_text, typical_table, typical_tables}
+use Rattle.jpg_spec_write.specs.ScanText.{intervals_text}
 use Rattle.jpg_spec.specs.Meaning.{Meaning, colour_of}
 use Rattle.jpg_spec_write.specs.Script.{Entry}
 use Rattle.jpg_spec.specs.InForce.{frame_of, huffman_in_force, quant_in_force}
@@ -29,12 +29,14 @@ use Rattle.jpg_spec.proofs.FirstPasses.{sequential_unit}
 use Rattle.jpg_spec.proofs.PlacesSome.{units_some, chunks_some}
 use Rattle.jpg_spec.proofs.PlacesFound.{each_units}
 use Rattle.jpg_spec.proofs.Each.{Each, each_map}
-use Rattle.jpg_spec_write.proofs.PlacedBlocks.{IsRealSendable}
+use Rattle.jpg_spec_write.proofs.PlacedBlocks.{IsRealSendable, each_both}
 use Rattle.jpg_spec_write.proofs.WrittenScan.{sequential_coded, scan_rows, scan_after_blocks, other_after, real_after, scan_means}
 use Rattle.jpg_spec.proofs.WrittenHead.{IsSpoken, head_contents}
 use Rattle.jpg_spec_write.proofs.WrittenState.{IsSent, Sends, quants_due, tables_step, interval_step}
 use Rattle.jpg_spec_write.proofs.WrittenStep.{ids_of, intervals_text_spelled, rule_is, head_in_is, scan_is, scan_step}
-use Rattle.jpg_spec_write.proofs.WrittenSequential.{plain_part, plain_head, plain_components, IsEntry, entry_is, among_below, plain_spoken, plain_needed, needed_tellable, IsGiven, all_given, typical_given, sequential_admitted, plain_data, scans_are}
+use Rattle.jpg_spec_write.proofs.WrittenSequential.{plain_part, plain_head, plain_components, IsEntry, entry_is, among_below, plain_spoken, plain_needed, needed_tellable, IsGiven, all_given, parts_given, plain_tables, plain_scan, plain_written, sequential_admitted, plain_data, scans_are}
+use Rattle.jpg_spec_write.proofs.SequentialCodes.{scan_coded, rows_writable}
+use Rattle.jpg_spec_write.specs.Written.{all_in_force}
 use Rattle.jpg_spec.proofs.Common.{both, neither, or_assoc}
 
 -- a meaning that may be written in sequential scans
@@ -60,10 +62,6 @@ each_new : (done components : List ℕ) → any_of (λ i. is_among i done) compo
 each_new done [] e = tt
 each_new done (i ∷ components) e = let n = neither (is_among i done) (any_of (λ i. is_among i done) components) e in (n.0, each_new done components n.1)
 
-each_both : (P Q R : ℕ → Type 0) (xs : List ℕ) → ((i : ℕ) → P i → Q i → R i) → Each P xs → Each Q xs → Each R xs
-each_both P Q R [] f h k = tt
-each_both P Q R (x ∷ xs) f h k = (f x h.0 k.0, each_both P Q R xs f h.1 k.1)
-
 pub units_many : (f : Frame) (components : List ℕ) → IsFrame f → 1 ≤ length components → Each (λ i. i < length f.components) components → 1 ≤ length (units f components)
 units_many f [] is some h = absurd (omega (arith, some))
 units_many f (i ∷ components) is some h = units_some f i components is h.0
@@ -80,16 +78,15 @@ joined_text a b d e g = simp append_assoc
 
 entry_step : (limits : Limits) (H : Meaning) (restart : Restart) (heads : List ScanHead) (done : List ℕ) (w : Written) (text : List ℕ) (components : List ℕ) → IsFit H → IsRestart restart → IsEntry (frame_of_meaning H) done components
     → ((i : ℕ) → has_begun heads i ≡ is_among i done) → Sends limits H heads (IsShown H done) w text
-    → (let head = plain_head (colour_of H) components in let n = interval_of (frame_of_meaning H) head restart in let needed = plain_needed head.parts in
-    Sends limits H (head ∷ heads) (IsShown H (components ++ done)) (record { tables = tables_given w.tables typical_table needed; interval = n })
-    (text ++ (tables_text w.tables typical_table needed ++ cond (n == w.interval) [] (segment_text 0xdd (to_be_bytes w16 n)) ++ head_text H head ++ plain_data H head n)))
+    → (let head = plain_head (colour_of H) components in let n = interval_of (frame_of_meaning H) head restart in
+    Sends limits H (head ∷ heads) (IsShown H (components ++ done)) (plain_written H head n w) (text ++ plain_scan H head n w))
 entry_step limits H restart heads done w text components fit small entry begun s =
-    let tables = tables_text w.tables typical_table needed in
+    let tables = tables_text w.tables by needed in
     let dri = cond (n == w.interval) [] (segment_text 0xdd (to_be_bytes w16 n)) in
-    let s1 = tables_step limits H heads (IsShown H done) w.tables typical_table w.interval needed text (needed_tellable (colour_of H) components) s in
-    let s2 = interval_step limits H heads (IsShown H done) (record { tables = tables_given w.tables typical_table needed; interval = w.interval }) n (text ++ tables) (interval_small f head restart small) s1 in
+    let s1 = tables_step limits H heads (IsShown H done) w.tables by w.interval needed text (needed_tellable H head n (colour_of H) components) s in
+    let s2 = interval_step limits H heads (IsShown H done) (record { tables = tables_given w.tables by needed; interval = w.interval }) n (text ++ tables) (interval_small f head restart small) s1 in
     let k = last s2.0 ((text ++ tables) ++ dri) s2.1 in
-    subst (λ t. Sends limits H (head ∷ heads) (IsShown H (components ++ done)) (record { tables = tables_given w.tables typical_table needed; interval = n }) t)
+    subst (λ t. Sends limits H (head ∷ heads) (IsShown H (components ++ done)) now t)
     (joined_text text tables dri (head_text H head) (plain_data H head n)) k
   where
     f : Frame
@@ -104,8 +101,11 @@ entry_step limits H restart heads done w text components fit small entry begun s
     n : ℕ
     n = interval_of (frame_of_meaning H) (plain_head (colour_of H) components) restart
 
+    by : ℕ → ℕ → HuffmanTable
+    by = plain_tables H head n
+
     now : Written
-    now = record { tables = tables_given w.tables typical_table needed; interval = n }
+    now = plain_written H (plain_head (colour_of H) components) (interval_of (frame_of_meaning H) (plain_head (colour_of H) components) restart) w
 
     names_are : head_components (plain_head (colour_of H) components) ≡ components
     names_are = plain_components (colour_of H) components
@@ -117,18 +117,18 @@ entry_step limits H restart heads done w text components fit small entry begun s
     last items t st =
         let before = segments_of items in
         let tabs = huffman_in_force before in
-        let coded = sequential_coded head H.blocks in
+        let coded = sequential_coded by head H.blocks in
         let all = scan_rows f head n in
         let after = scan_after_blocks f head n H.blocks st.blocks in
         let spoken : IsSpoken f head = plain_spoken f (colour_of H) done components fit.sequential entry in
-        let given : Each (IsGiven tabs typical_table) head.parts =
-        each_map (IsGiven now.tables typical_table) (IsGiven tabs typical_table) head.parts (λ p h. (st.tables 0 p.dc ∙ h.0, st.tables 1 p.ac ∙ h.1)) (all_given typical_table head.parts w.tables) in
+        let given : Each (IsGiven tabs by) head.parts =
+        each_map (IsGiven now.tables by) (IsGiven tabs by) head.parts (λ p h. (st.tables 0 p.dc ∙ h.0, st.tables 1 p.ac ∙ h.1)) (all_given by head.parts w.tables) in
         let quants = each_plain (λ i. i < length f.components) (λ (p : ScanPart). (q : QuantTable) × (quant_in_force before (component_at f p.component).quant ≡ Some q)) (colour_of H) components
         (λ i l. (quants_due H i, st.quants i (subst (λ m. i < m) fit.count l))) entry.known in
         let unsent : Each (λ i. quant_of f before i ≡ None) components =
         each_both (λ i. i < length f.components) (λ i. is_among i done ≡ false) (λ i. quant_of f before i ≡ None) components
         (λ i l e. st.first i (subst (λ m. i < m) fit.count l) ∙ ap (λ b. cond b (Some (quants_due H i)) None) (begun i ∙ e)) entry.known (each_new done components entry.new) in
-        let admits = sequential_admitted f before heads done head fit.sequential st.sent_heads begun (ap (any_of (λ i. is_among i done)) names_are ∙ entry.new) quants given
+        let admits = sequential_admitted f before heads done head by fit.sequential st.sent_heads begun (ap (any_of (λ i. is_among i done)) names_are ∙ entry.new) quants given
         (subst (λ l. Each (λ i. quant_of f before i ≡ None) l) (sym names_are) unsent) in
         let rule = rule_is st head fit.frame.distinct spoken admits in
         let told = head_in_is st head fit.frame.distinct spoken in
@@ -138,10 +138,10 @@ entry_step limits H restart heads done w text components fit small entry begun s
         let new = each_units (IsNewUnit (scan_of f tabs n head) st.blocks) f (head_components head)
         (λ i x y e. subst (λ (z : Scan). unit_at z st.blocks (place f i x y) ≡ new_unit i) scan
         (sequential_unit limits items st.blocks (head_contents (ids_of H) head) (place f i x y) st.leads rule plain (ap (λ (h : ScanHead). is_among i (head_components h)) told ∙ e))) in
-        let sendable = each_units (IsRealSendable (scan_coding f typical_tables head) H.blocks) f (head_components head)
+        let sendable = each_units (IsRealSendable (scan_coding f (all_in_force by) head) H.blocks) f (head_components head)
         (λ i x y e real. fit.blocks i x y (known i e) real) in
         let distinct : is_distinct (head_components head) ≡ true = ap is_distinct names_are ∙ entry.distinct in
-        let means = scan_means f tabs n head st.blocks H.blocks fit.sequential fit.frame.precision (typical_given tabs head given) distinct (leads_sizes limits items st.blocks st.leads) new sendable in
+        let means = scan_means f by tabs n head st.blocks H.blocks fit.sequential (parts_given by tabs head given) distinct (leads_sizes limits items st.blocks st.leads) new sendable (scan_coded f head n H.blocks fit.sequential (rows_writable f head n H.blocks sendable)) in
         let means' = subst (λ m. ScanMeans (scan_of f tabs m head) (map coded all) st.blocks after) (sym st.interval) means in
         let some : 1 ≤ length (units f (head_components head)) = subst (λ l. 1 ≤ length (units f l)) (sym names_are) (units_many f components fit.frame entry.some entry.known) in
         let rows = chunks_some (n * mcu_units f (head_components head)) (units f (head_components head)) some in
@@ -180,9 +180,8 @@ script_step limits H restart heads done w text (entry ∷ script) fit small e be
     let b = both (is_sequential_entry f done entry) (is_script_after f (entry.components ++ done) script) e in
     let head = plain_head (colour_of H) entry.components in
     let n = interval_of f head restart in
-    let needed = plain_needed head.parts in
-    let next : Written = record { tables = tables_given w.tables typical_table needed; interval = n } in
-    let here = tables_text w.tables typical_table needed ++ cond (n == w.interval) [] (segment_text 0xdd (to_be_bytes w16 n)) ++ head_text H head ++ plain_data H head n in
+    let next = plain_written H head n w in
+    let here = plain_scan H head n w in
     let k = entry_step limits H restart heads done w text entry.components fit small (entry_is f done entry b.0) begun s in
     let all = script_step limits H restart (head ∷ heads) (entry.components ++ done) next (text ++ here) script fit small b.1 (begun_next heads (colour_of H) done entry.components begun) k in
-    subst (λ t. IsAllSent limits H t) (append_assoc text here (scans_text H restart next script) ∙ ap (λ t. text ++ t) (sym (scans_are H restart w entry script fit.sequential fit.frame.precision))) all
+    subst (λ t. IsAllSent limits H t) (append_assoc text here (scans_text H restart next script) ∙ ap (λ t. text ++ t) (sym (scans_are H restart w entry script fit.sequential))) all

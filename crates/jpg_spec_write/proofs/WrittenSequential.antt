@@ -10,8 +10,7 @@ use Rattle.jpg_spec.specs.Geometry.{Frame, component_at, factor_sum, is_progress
 use Rattle.jpg_spec.specs.FrameHeader.{identifiers}
 use Rattle.jpg_spec.specs.Segments.{HuffmanTable, QuantTable, ScanHead, head_components, needs_dc, needs_ac}
 use Rattle.jpg_spec.specs.Scan.{TablesInForce}
-use Rattle.jpg_spec_write.specs.ScanText.{Owned, units_due, interval_elements, scan_elements, element_bits, intervals_text, scan_data, typical_table, scan_tables, symbols_used}
-use Rattle.jpg_spec.specs.FlatTable.{flat_table}
+use Rattle.jpg_spec_write.specs.ScanText.{Owned, units_due, interval_elements, scan_elements, element_bits, intervals_text, scan_data, typical_table, scan_tables}
 use Rattle.jpg_spec.specs.Meaning.{Meaning, colour_of}
 use Rattle.jpg_spec_write.specs.Script.{Entry}
 use Rattle.jpg_spec.specs.HuffContents.{huffman_table_of, huffman_tables_of}
@@ -27,11 +26,12 @@ use Rattle.jpg_spec.specs.declared.frame.Place.{Place}
 use Rattle.jpg_spec.specs.declared.frame.ScanPart.{ScanPart}
 use Rattle.jpg_spec.proofs.Rows.{map_map}
 use Rattle.jpg_spec.proofs.Each.{Each}
-use Rattle.jpg_spec_write.proofs.WrittenCoding.{GivesTypical}
+use Rattle.jpg_spec_write.proofs.WrittenCoding.{Gives}
 use Rattle.jpg_spec_write.proofs.WrittenScan.{sequential_coded, scan_rows}
 use Rattle.jpg_spec.proofs.WrittenHead.{IsPartOf, IsSpoken}
 use Rattle.jpg_spec.proofs.WrittenState.{IsTellable}
 use Rattle.jpg_spec.proofs.Common.{both, negated, le_of, lt_of, same_of, same_itself, not_refused}
+use Rattle.jpg_spec_write.proofs.ProgressiveCodes.{flat_tables, flat_tell}
 
 -- THE HEAD
 
@@ -124,7 +124,10 @@ plain_spoken f colour done components p e =
       allowed = ap (λ b. b && not (are_parameters f (length head.parts) head)) p;
     }
 
--- THE TABLES
+-- THE TABLES: typical or flat
+
+abbrev pub plain_tables : Meaning → ScanHead → ℕ → ℕ → ℕ → HuffmanTable
+plain_tables H head n = scan_tables (frame_of_meaning H) head (scan_elements (frame_of_meaning H) head n H.blocks)
 
 typical_tellable : (a b : Bool) → IsTellable (cond a 1 0) (cond b 1 0) (typical_table (cond a 1 0) (cond b 1 0))
 unfolding huffman_tables_of huffman_table_of are_codes
@@ -133,13 +136,26 @@ typical_tellable false true = record { told = refl; short = lit< tt }
 typical_tellable true false = record { told = refl; short = lit< tt }
 typical_tellable true true = record { told = refl; short = lit< tt }
 
+plain_tellable : (H : Meaning) (head : ScanHead) (n : ℕ) (a b : Bool) → IsTellable (cond a 1 0) (cond b 1 0) (plain_tables H head n (cond a 1 0) (cond b 1 0))
+plain_tellable H head n a b = by (not (is_progressive H.process) && H.precision == 8)
+  where
+    low : (t : Bool) → cond t 1 0 ≤ 1
+    low true = lit≤ tt
+    low false = lit≤ tt
+
+    by : (t : Bool) → IsTellable (cond a 1 0) (cond b 1 0) (cond t (typical_table (cond a 1 0) (cond b 1 0)) (flat_tables head (scan_elements (frame_of_meaning H) head n H.blocks) (cond a 1 0) (cond b 1 0)))
+    by true = typical_tellable a b
+    by false = flat_tell head (scan_elements (frame_of_meaning H) head n H.blocks) (cond a 1 0) (cond b 1 0) (low a) (low b)
+
 abbrev pub plain_needed : List ScanPart → List (ℕ × ℕ)
 plain_needed parts = flat_map (λ (p : ScanPart). (0, p.dc) ∷ (1, p.ac) ∷ []) parts
 
-pub needed_tellable : (colour : Colour) (components : List ℕ) → Each (λ (n : ℕ × ℕ). IsTellable n.0 n.1 (typical_table n.0 n.1)) (plain_needed (map (plain_part colour) components))
-needed_tellable colour [] = tt
-needed_tellable colour (i ∷ components) =
-    (typical_tellable false (has_chroma colour && (i == 1 || i == 2)), (typical_tellable true (has_chroma colour && (i == 1 || i == 2)), needed_tellable colour components))
+pub needed_tellable : (H : Meaning) (head : ScanHead) (k : ℕ) (colour : Colour) (components : List ℕ)
+    → Each (λ (n : ℕ × ℕ). IsTellable n.0 n.1 (plain_tables H head k n.0 n.1)) (plain_needed (map (plain_part colour) components))
+needed_tellable H head k colour [] = tt
+needed_tellable H head k colour (i ∷ components) =
+    let chroma = has_chroma colour && (i == 1 || i == 2) in
+    (plain_tellable H head k false chroma, (plain_tellable H head k true chroma, needed_tellable H head k colour components))
 
 -- a table that was given remains
 pub given_stays : (due : ℕ → ℕ → HuffmanTable) (needed : List (ℕ × ℕ)) (given : ℕ → ℕ → Option HuffmanTable) (c n : ℕ) → given c n ≡ Some (due c n) → tables_given given due needed c n ≡ Some (due c n)
@@ -182,8 +198,8 @@ part_holds P i d (p ∷ parts) h e = by (p.component == i) e (λ k. part_holds P
     by true k later = h.0
     by false k later = next (index_of i (map (λ (p : ScanPart). p.component) parts)) (later k)
 
-pub typical_given : (tables : TablesInForce) (head : ScanHead) → Each (IsGiven tables typical_table) head.parts → GivesTypical tables head
-typical_given tables head h = λ i e. part_holds (IsGiven tables typical_table) i (record { component = i; dc = 0; ac = 0 }) head.parts h e
+pub parts_given : (due : ℕ → ℕ → HuffmanTable) (tables : TablesInForce) (head : ScanHead) → Each (IsGiven tables due) head.parts → Gives due tables head
+parts_given due tables head h = λ i e. part_holds (IsGiven tables due) i (record { component = i; dc = 0; ac = 0 }) head.parts h e
 
 -- THE SCAN IS ALLOWED
 
@@ -191,15 +207,15 @@ none_begun : (heads : List ScanHead) (done components : List ℕ) → ((i : ℕ)
 none_begun heads done [] h = refl
 none_begun heads done (i ∷ components) h = ap (λ b. b || any_of (has_begun heads) components) (h i) ∙ ap (λ b. is_among i done || b) (none_begun heads done components h)
 
-lacks_none : (f : Frame) (before : List Segment) (head : ScanHead) (parts : List ScanPart) → Each (λ (p : ScanPart). (q : QuantTable) × (quant_in_force before (component_at f p.component).quant ≡ Some q)) parts → Each (IsGiven (huffman_in_force before) typical_table) parts
+lacks_none : (f : Frame) (before : List Segment) (head : ScanHead) (due : ℕ → ℕ → HuffmanTable) (parts : List ScanPart) → Each (λ (p : ScanPart). (q : QuantTable) × (quant_in_force before (component_at f p.component).quant ≡ Some q)) parts → Each (IsGiven (huffman_in_force before) due) parts
     → any_of (λ (p : ScanPart). is_none (quant_in_force before (component_at f p.component).quant) || (needs_dc_table f head && is_none (huffman_in_force before 0 p.dc) || needs_ac_table f head && is_none (huffman_in_force before 1 p.ac))) parts ≡ false
-lacks_none f before head [] q g = refl
-lacks_none f before head (p ∷ parts) q g =
+lacks_none f before head due [] q g = refl
+lacks_none f before head due (p ∷ parts) q g =
     let rest = any_of (λ (p : ScanPart). is_none (quant_in_force before (component_at f p.component).quant) || (needs_dc_table f head && is_none (huffman_in_force before 0 p.dc) || needs_ac_table f head && is_none (huffman_in_force before 1 p.ac))) parts in
     ap (λ o. (is_none o || (needs_dc_table f head && is_none (huffman_in_force before 0 p.dc) || needs_ac_table f head && is_none (huffman_in_force before 1 p.ac))) || rest) (q.0).1
     ∙ ap (λ o. (needs_dc_table f head && is_none o || needs_ac_table f head && is_none (huffman_in_force before 1 p.ac)) || rest) (g.0).0
     ∙ ap (λ o. (needs_dc_table f head && false || needs_ac_table f head && is_none o) || rest) (g.0).1
-    ∙ ap (λ b. b || rest) (none (needs_dc_table f head) (needs_ac_table f head)) ∙ lacks_none f before head parts q.1 g.1
+    ∙ ap (λ b. b || rest) (none (needs_dc_table f head) (needs_ac_table f head)) ∙ lacks_none f before head due parts q.1 g.1
   where
     none : (a b : Bool) → (a && false || b && false) ≡ false
     none true true = refl
@@ -211,15 +227,15 @@ same_quants : (f : Frame) (before : List Segment) (components : List ℕ) → Ea
 same_quants f before [] h = refl
 same_quants f before (i ∷ components) h = ap (λ o. is_same_table o (quant_in_force before (component_at f i).quant) && all_of (λ i. is_same_table (quant_of f before i) (quant_in_force before (component_at f i).quant)) components) h.0 ∙ same_quants f before components h.1
 
-pub sequential_admitted : (f : Frame) (before : List Segment) (heads : List ScanHead) (done : List ℕ) (head : ScanHead) → is_progressive f.process ≡ false → heads_of f before ≡ heads
+pub sequential_admitted : (f : Frame) (before : List Segment) (heads : List ScanHead) (done : List ℕ) (head : ScanHead) (due : ℕ → ℕ → HuffmanTable) → is_progressive f.process ≡ false → heads_of f before ≡ heads
     → ((i : ℕ) → has_begun heads i ≡ is_among i done) → any_of (λ i. is_among i done) (head_components head) ≡ false
-    → Each (λ (p : ScanPart). (q : QuantTable) × (quant_in_force before (component_at f p.component).quant ≡ Some q)) head.parts → Each (IsGiven (huffman_in_force before) typical_table) head.parts
+    → Each (λ (p : ScanPart). (q : QuantTable) × (quant_in_force before (component_at f p.component).quant ≡ Some q)) head.parts → Each (IsGiven (huffman_in_force before) due) head.parts
     → Each (λ i. quant_of f before i ≡ None) (head_components head) → admitted f before head ≡ Ok head
-sequential_admitted f before heads done head p h begun new q g unsent =
+sequential_admitted f before heads done head due p h begun new q g unsent =
     let a : (not (is_progressive f.process) && any_of (has_begun (heads_of f before)) (head_components head)) ≡ false =
     ap (λ b. not b && any_of (has_begun (heads_of f before)) (head_components head)) p ∙ ap (λ hs. any_of (has_begun hs) (head_components head)) h ∙ none_begun heads done (head_components head) begun ∙ new in
     not_refused RepeatedScan _ _ a ∙ not_refused Progression _ _ (ap (λ b. b && not (all_of (is_next (heads_of f before) head) (head_components head))) p)
-    ∙ not_refused MissingTable (lacks_table f before head) _ (lacks_none f before head head.parts q g) ∙ not_refused QuantChanged _ _ (ap not (same_quants f before (head_components head) unsent))
+    ∙ not_refused MissingTable (lacks_table f before head) _ (lacks_none f before head due head.parts q g) ∙ not_refused QuantChanged _ _ (ap not (same_quants f before (head_components head) unsent))
 
 -- ITS TEXT
 
@@ -227,24 +243,32 @@ abbrev pub rows_of : Meaning → ScanHead → ℕ → List (List Place)
 rows_of H head interval = scan_rows (frame_of_meaning H) head interval
 
 abbrev pub plain_data : Meaning → ScanHead → ℕ → List ℕ
-plain_data H head interval = intervals_text 0 (map stuffed (map (sequential_coded head H.blocks) (rows_of H head interval)))
+plain_data H head interval = intervals_text 0 (map stuffed (map (sequential_coded (plain_tables H head interval) head H.blocks) (rows_of H head interval)))
 
-data_is : (H : Meaning) (head : ScanHead) (interval : ℕ) → is_progressive H.process ≡ false → scan_data typical_table head (scan_elements (frame_of_meaning H) head interval H.blocks) ≡ plain_data H head interval
+data_is : (H : Meaning) (tables : ℕ → ℕ → HuffmanTable) (head : ScanHead) (interval : ℕ) → is_progressive H.process ≡ false
+    → scan_data tables head (scan_elements (frame_of_meaning H) head interval H.blocks) ≡ intervals_text 0 (map stuffed (map (sequential_coded tables head H.blocks) (rows_of H head interval)))
 unfolding scan_data
-data_is H head interval e =
+data_is H tables head interval e =
     let rows = rows_of H head interval in
     let first : ℕ → ℤ = λ i. pos 0 in
-    let coded : Bool → List Place → List ℕ = λ b places. data_of (flat_map (element_bits typical_table head) (interval_elements b head (units_due H.blocks first places))) in
-    ap (intervals_text 0) (map_map (λ (es : List Owned). data_of (flat_map (element_bits typical_table head) es)) (λ (places : List Place). interval_elements (is_progressive H.process) head (units_due H.blocks first places)) rows
-    ∙ ap (λ b. map (coded b) rows) e ∙ sym (map_map stuffed (sequential_coded head H.blocks) rows))
+    let coded : Bool → List Place → List ℕ = λ b places. data_of (flat_map (element_bits tables head) (interval_elements b head (units_due H.blocks first places))) in
+    ap (intervals_text 0) (map_map (λ (es : List Owned). data_of (flat_map (element_bits tables head) es)) (λ (places : List Place). interval_elements (is_progressive H.process) head (units_due H.blocks first places)) rows
+    ∙ ap (λ b. map (coded b) rows) e ∙ sym (map_map stuffed (sequential_coded tables head H.blocks) rows))
 
-pub scans_are : (H : Meaning) (restart : Restart) (w : Written) (e : Entry) (script : List Entry) → is_progressive H.process ≡ false → H.precision ≡ 8
-    → (let head = plain_head (colour_of H) e.components in let n = interval_of (frame_of_meaning H) head restart in let needed = plain_needed head.parts in
-    scans_text H restart w (e ∷ script)
-    ≡ tables_text w.tables typical_table needed ++ cond (n == w.interval) [] (segment_text 0xdd (to_be_bytes w16 n)) ++ head_text H head ++ plain_data H head n
-    ++ scans_text H restart (record { tables = tables_given w.tables typical_table needed; interval = n }) script)
+-- what a scan writes: its tables, its restart interval, its header and its data
+abbrev pub plain_scan : Meaning → ScanHead → ℕ → Written → List ℕ
+plain_scan H head n w =
+    tables_text w.tables (plain_tables H head n) (plain_needed head.parts) ++ cond (n == w.interval) [] (segment_text 0xdd (to_be_bytes w16 n)) ++ head_text H head ++ plain_data H head n
+
+-- and what was written after it
+abbrev pub plain_written : Meaning → ScanHead → ℕ → Written → Written
+plain_written H head n w = record { tables = tables_given w.tables (plain_tables H head n) (plain_needed head.parts); interval = n }
+
+pub scans_are : (H : Meaning) (restart : Restart) (w : Written) (e : Entry) (script : List Entry) → is_progressive H.process ≡ false
+    → (let head = plain_head (colour_of H) e.components in let n = interval_of (frame_of_meaning H) head restart in
+    scans_text H restart w (e ∷ script) ≡ plain_scan H head n w ++ scans_text H restart (plain_written H head n w) script)
 unfolding scans_text
-scans_are H restart w e script s p =
+scans_are H restart w e script s =
     let f = frame_of_meaning H in
     let head = plain_head (colour_of H) e.components in
     let n = interval_of f head restart in
@@ -252,13 +276,6 @@ scans_are H restart w e script s p =
     tables_text w.tables tables needed ++ cond (interval_of f head restart == w.interval) [] (segment_text 0xdd (to_be_bytes w16 (interval_of f head restart))) ++ head_text H head ++ coded
     ++ scans_text H restart (record { tables = tables_given w.tables tables needed; interval = interval_of f head restart }) script in
     let elements : ScanHead → List (List Owned) = λ head. scan_elements f head (interval_of f head restart) H.blocks in
-    let typical : scan_tables f head (elements head) ≡ typical_table =
-    ap (λ (b : Bool). (let t : ℕ → ℕ → HuffmanTable = λ class slot. cond (not b && H.precision == 8) (typical_table class slot) (flat_of class slot) in t)) s
-    ∙ ap (λ (b : Bool). (let t : ℕ → ℕ → HuffmanTable = λ class slot. cond b (typical_table class slot) (flat_of class slot) in t)) (ap (λ m. m == 8) p) in
     ap (λ h. whole h (scan_tables f h (elements h)) (tables_needed (is_progressive H.process) e h) (scan_data (scan_tables f h (elements h)) h (elements h))) (head_is_plain H e s)
-    ∙ ap (λ t. whole head t (tables_needed (is_progressive H.process) e head) (scan_data t head (elements head))) typical
-    ∙ ap (λ b. whole head typical_table (tables_needed b e head) (scan_data typical_table head (elements head))) s
-    ∙ ap (λ d. whole head typical_table (plain_needed head.parts) d) (data_is H head n s)
-  where
-    flat_of : ℕ → ℕ → HuffmanTable
-    flat_of class slot = flat_table (symbols_used (plain_head (colour_of H) e.components) (scan_elements (frame_of_meaning H) (plain_head (colour_of H) e.components) (interval_of (frame_of_meaning H) (plain_head (colour_of H) e.components) restart) H.blocks) class slot)
+    ∙ ap (λ b. whole head (plain_tables H head n) (tables_needed b e head) (scan_data (plain_tables H head n) head (elements head))) s
+    ∙ ap (λ d. whole head (plain_tables H head n) (plain_needed head.parts) d) (data_is H (plain_tables H head n) head n s)

@@ -1,12 +1,12 @@
 -- TERMS OF THE LAWS: what holds together in their premises, and what they conclude. No definition uses them.
 use Rattle.std.specs.Prelude.{◌≡◌, ℕ, ◌≤◌, false, List, length, All}
-use Rattle.jpg_spec.specs.Geometry.{Frame, is_progressive}
-use Rattle.jpg_spec.specs.Segments.{ScanHead}
+use Rattle.jpg_spec.specs.Geometry.{Frame, bounds, is_progressive}
+use Rattle.jpg_spec.specs.Segments.{HuffmanTable, ScanHead}
 use Rattle.jpg_spec.specs.FrameHeader.{AreLimits}
-use Rattle.jpg_spec.specs.Elements.{Coding}
+use Rattle.jpg_spec.specs.Elements.{Coding, IsBlockIn}
 use Rattle.jpg_spec.specs.Scan.{scan_coding}
-use Rattle.jpg_spec_write.specs.ScanText.{UnitDue, typical_tables}
-use Rattle.jpg_spec_write.specs.Written.{IsWritable}
+use Rattle.jpg_spec_write.specs.ScanText.{UnitDue, interval_elements}
+use Rattle.jpg_spec_write.specs.Written.{HasCode, all_in_force}
 use Rattle.jpg_spec.specs.Meaning.{Meaning}
 use Rattle.jpg_spec_write.specs.Script.{Entry, sequential_script}
 use Rattle.jpg_spec_write.specs.FileText.{Restart, frame_of_meaning, file_text}
@@ -14,15 +14,18 @@ use Rattle.jpg_spec_write.specs.WrittenFile.{IsHeaded, IsRestart, IsSequentialFi
 use Rattle.jpg_spec_write.specs.ScansAsked.{Scans, sequential, standard, given}
 use Rattle.jpg_spec.specs.declared.frame.Limits.{Limits}
 
--- the coding of a scan by the typical tables
-abbrev pub typical_coding : Frame → ScanHead → Coding
-typical_coding f head = scan_coding f typical_tables head
+-- the coding of a scan by tables
+abbrev pub coding_by : (ℕ → ℕ → HuffmanTable) → Frame → ScanHead → Coding
+coding_by tables f head = scan_coding f (all_in_force tables) head
 
--- Units that a sequential scan of precision 8 can write by the typical tables.
+-- Units of an interval that a sequential scan can write.
 pub record AreWritable (f : Frame) (head : ScanHead) (due : List UnitDue) : Type 0 where
   pub sequential : is_progressive f.process ≡ false
-  pub precision : f.precision ≡ 8
-  pub each : All (λ u. IsWritable (typical_coding f head) u) due
+  pub each : All (λ u. IsBlockIn (bounds f) u.1) due
+
+-- Tables with a code for each symbol that is written of the units.
+abbrev pub HaveCodes : (ℕ → ℕ → HuffmanTable) → ScanHead → List UnitDue → Type 0
+HaveCodes tables head due = All (HasCode tables head) (interval_elements false head due)
 
 -- WRITTEN FILES (T.81, B.2.1)
 

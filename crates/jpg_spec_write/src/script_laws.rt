@@ -27,10 +27,10 @@ pub fn own_scripts_have_no_fault()
     ensures colours { (H : Meaning) → HasFewComponents H → HasStandardScript (frame_of_meaning H) (colour_of H) }
 {}
 
-/// Frames of the same grids have the same default scripts, and a script has the same fault on both: only the
-/// components' number and factors count.
+/// Frames of the same grids have the same default scripts, and with the same precision a script has the same fault on
+/// both: only the precision and the components' number and factors count.
 pub fn scripts_look_at_grids()
     ensures sequential { (f g : Frame) → frame_grids f ≡ frame_grids g → sequential_script f ≡ sequential_script g }
     ensures standard { (f g : Frame) (colour : Colour) → frame_grids f ≡ frame_grids g → standard_script f colour ≡ standard_script g colour }
-    ensures fault { (f g : Frame) (script : List Entry) → frame_grids f ≡ frame_grids g → script_fault f script ≡ script_fault g script }
+    ensures fault { (f g : Frame) (script : List Entry) → frame_grids f ≡ frame_grids g → f.precision ≡ g.precision → script_fault f script ≡ script_fault g script }
 {}

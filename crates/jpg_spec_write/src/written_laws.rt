@@ -33,7 +33,7 @@ pub fn progressive_files_mean_their_picture()
 {}
 
 /// Such a file has fewer than 2^39 bytes too, however many scans its script has: each scan takes what it names down by
-/// a bit, of which a value has eleven. So within the standard limits it means the meaning.
+/// a bit, of which a value has eleven, or fifteen with 12 bits per sample. So within the standard limits it means the meaning.
 pub fn progressive_files_are_short()
     ensures short { (limits : Limits) (H : Meaning) (bytes : List ℕ) → AreLimits limits → IsProgressiveText limits H bytes → length bytes < 2 ^ 39 }
     ensures means { (H : Meaning) (bytes : List ℕ) → IsProgressiveText standard_limits H bytes → Means standard_limits bytes H }

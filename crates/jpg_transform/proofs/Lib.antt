@@ -6,6 +6,7 @@ pub mod MovedBlocks
 pub mod MovedFile
 pub mod MovedHead
 pub mod MovedScript
+pub mod Opposites
 pub mod OneBlock
 pub mod Planned
 pub mod SeenPicture

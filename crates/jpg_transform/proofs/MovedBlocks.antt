@@ -4,7 +4,7 @@ use Rattle.std.specs.Prelude.{nat_lt}
 use Rattle.std.proofs.lemmas.List.{length-map}
 use Rattle.jpg_spec.specs.Elements.{IsBlockIn, zeros}
 use Rattle.jpg_spec.specs.FrameHeader.{IsFrame}
-use Rattle.jpg_spec.specs.Geometry.{Frame, bounds_of, greatest}
+use Rattle.jpg_spec.specs.Geometry.{Frame, bounds, greatest}
 use Rattle.jpg_spec.specs.Lists.{below}
 use Rattle.jpg_spec.specs.Meaning.{Meaning, picture_frame, real_blocks}
 use Rattle.jpg_spec_move.specs.Moved.{Choice, grayed, moved, trimmed}
@@ -28,52 +28,55 @@ use Rattle.jpg_file.specs.Read.PictureRead.{picture_meaning}
 use Rattle.jpg_file.specs.declared.read.picture.Picture.{Picture}
 use Rattle.jpg_transform.proofs.Planned.{whole_picture}
 use Rattle.jpg_transform.proofs.Showing.{gray_whole, some_across, some_down}
+use Rattle.jpg_spec.proofs.MovedWritten.{zeros_here}
 
 -- IN THE BOUNDS
 
-abbrev AreBounded : Meaning → Type 0
-AreBounded M = (i x y : ℕ) → IsBlockIn (bounds_of 8) (M.blocks i x y)
+module _ (g : Frame) where
+  abbrev AreBounded : Meaning → Type 0
+  AreBounded M = (i x y : ℕ) → IsBlockIn (bounds g) (M.blocks i x y)
 
-chosen : (b : Bool) (one other : List ℤ) → IsBlockIn (bounds_of 8) one → IsBlockIn (bounds_of 8) other → IsBlockIn (bounds_of 8) (cond b one other)
-chosen true one other is are = is
-chosen false one other is are = are
+  chosen : (b : Bool) (one other : List ℤ) → IsBlockIn (bounds g) one → IsBlockIn (bounds g) other → IsBlockIn (bounds g) (cond b one other)
+  chosen true one other is are = is
+  chosen false one other is are = are
 
-real_bounded : (f : Frame) (blocks : Blocks) → ((i x y : ℕ) → IsBlockIn (bounds_of 8) (blocks i x y)) → (i x y : ℕ) → IsBlockIn (bounds_of 8) (real_blocks f blocks i x y)
-real_bounded f blocks are i x y = chosen (is_place f i x y) (blocks i x y) (zeros 64) (are i x y) (refl, refl)
+  real_bounded : (f : Frame) (blocks : Blocks) → ((i x y : ℕ) → IsBlockIn (bounds g) (blocks i x y)) → (i x y : ℕ) → IsBlockIn (bounds g) (real_blocks f blocks i x y)
+  real_bounded f blocks are i x y = chosen (is_place f i x y) (blocks i x y) (zeros 64) (are i x y) (zeros_here g)
 
-across_bounded : (M : Meaning) → AreBounded M → AreBounded (flip_h M)
-across_bounded M are i x y = chosen (nat_lt x (whole_columns M i)) _ _ (mirrored_in (bounds_of 8) _ (are i _ y)) (are i x y)
+  across_bounded : (M : Meaning) → AreBounded M → AreBounded (flip_h M)
+  across_bounded M are i x y = chosen (nat_lt x (whole_columns M i)) _ _ (mirrored_in (bounds g) _ (are i _ y)) (are i x y)
 
-down_bounded : (M : Meaning) → AreBounded M → AreBounded (flip_v M)
-down_bounded M are i x y = chosen (nat_lt y (whole_rows M i)) _ _ (mirrored_down_in (bounds_of 8) _ (are i x _)) (are i x y)
+  down_bounded : (M : Meaning) → AreBounded M → AreBounded (flip_v M)
+  down_bounded M are i x y = chosen (nat_lt y (whole_rows M i)) _ _ (mirrored_down_in (bounds g) _ (are i x _)) (are i x y)
 
-over_bounded : (M : Meaning) → AreBounded M → AreBounded (transpose M)
-over_bounded M are i x y = transposed_in (bounds_of 8) (M.blocks i y x) (are i y x)
+  over_bounded : (M : Meaning) → AreBounded M → AreBounded (transpose M)
+  over_bounded M are i x y = transposed_in (bounds g) (M.blocks i y x) (are i y x)
 
-turned_bounded : (t : Transform) (M : Meaning) → AreBounded M → AreBounded (transformed t M)
-turned_bounded Keep M are = are
-turned_bounded FlipH M are = across_bounded M are
-turned_bounded FlipV M are = down_bounded M are
-turned_bounded Transpose M are = over_bounded M are
-turned_bounded Rotate90 M are = across_bounded (transpose M) (over_bounded M are)
-turned_bounded Rotate270 M are = over_bounded (flip_h M) (across_bounded M are)
-turned_bounded Rotate180 M are = across_bounded (flip_v M) (down_bounded M are)
-turned_bounded Transverse M are = over_bounded (flip_h (flip_v M)) (across_bounded (flip_v M) (down_bounded M are))
+  turned_bounded : (t : Transform) (M : Meaning) → AreBounded M → AreBounded (transformed t M)
+  turned_bounded Keep M are = are
+  turned_bounded FlipH M are = across_bounded M are
+  turned_bounded FlipV M are = down_bounded M are
+  turned_bounded Transpose M are = over_bounded M are
+  turned_bounded Rotate90 M are = across_bounded (transpose M) (over_bounded M are)
+  turned_bounded Rotate270 M are = over_bounded (flip_h M) (across_bounded M are)
+  turned_bounded Rotate180 M are = across_bounded (flip_v M) (down_bounded M are)
+  turned_bounded Transverse M are = over_bounded (flip_h (flip_v M)) (across_bounded (flip_v M) (down_bounded M are))
 
-gray_bounded : (gray : Bool) (M : Meaning) → AreBounded M → AreBounded (grayed gray M)
-gray_bounded false M are = are
-gray_bounded true M are = real_bounded (picture_frame (grayed true M)) M.blocks are
+  gray_bounded : (gray : Bool) (M : Meaning) → AreBounded M → AreBounded (grayed gray M)
+  gray_bounded false M are = are
+  gray_bounded true M are = real_bounded (picture_frame (grayed true M)) M.blocks are
 
-cut_bounded : (trim : Bool) (t : Transform) (M : Meaning) → AreBounded M → AreBounded (trimmed trim t M)
-cut_bounded false t M are = are
-cut_bounded true t M are = real_bounded (picture_frame (trimmed true t M)) M.blocks are
+  cut_bounded : (trim : Bool) (t : Transform) (M : Meaning) → AreBounded M → AreBounded (trimmed trim t M)
+  cut_bounded false t M are = are
+  cut_bounded true t M are = real_bounded (picture_frame (trimmed true t M)) M.blocks are
 
 -- those of a picture, transformed
-pub moved_bounded : (p : Picture) (c : Choice) (i x y : ℕ) → IsBlockIn (bounds_of 8) ((moved c (picture_meaning p)).blocks i x y)
+pub moved_bounded : (p : Picture) (c : Choice) (i x y : ℕ) → IsBlockIn (bounds p.frame) ((moved c (picture_meaning p)).blocks i x y)
 moved_bounded p c =
     let M = picture_meaning p in
-    let own : AreBounded M = real_bounded p.frame (map_of p.coefs) (λ i x y. block_in (map_of p.coefs i x y) (p.keeps.range.sizes i x y) (λ k. p.keeps.range.values i x y k)) in
-    cut_bounded c.trim c.transform (transformed c.transform (grayed c.gray M)) (turned_bounded c.transform (grayed c.gray M) (gray_bounded c.gray M own))
+    let f = p.frame in
+    let own : AreBounded f M = real_bounded f f (map_of p.coefs) (λ i x y. block_in (bounds f) (map_of p.coefs i x y) (p.keeps.range.sizes i x y) (λ k. p.keeps.range.values i x y k)) in
+    cut_bounded f c.trim c.transform (transformed c.transform (grayed c.gray M)) (turned_bounded f c.transform (grayed c.gray M) (gray_bounded f c.gray M own))
 
 -- ZEROS OUTSIDE
 

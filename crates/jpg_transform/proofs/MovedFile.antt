@@ -6,7 +6,7 @@ use Rattle.std.specs.Prelude.{◌||◌, nat_lt, zip}
 use Rattle.std.proofs.lemmas.List.{length-map}
 use Rattle.std.proofs.lemmas.Slice.Zip.{get_or-zip, length-zip}
 use Rattle.jpg_spec.specs.Lists.{any_of, below}
-use Rattle.jpg_spec.specs.Geometry.{Frame, bounds, IsReal, is_progressive, blocks_across, blocks_down, component_at, is_real, no_component}
+use Rattle.jpg_spec.specs.Geometry.{Frame, bounds, IsReal, is_progressive, blocks_across, blocks_down, component_at, is_real, no_component, bounds_of}
 use Rattle.jpg_spec.specs.Elements.{zeros, IsBlockIn}
 use Rattle.jpg_spec_write.specs.FileText.{file_text, frame_of_meaning}
 use Rattle.jpg_spec.specs.FrameHeader.{IsFrame}
@@ -46,8 +46,8 @@ use Rattle.jpg_transform.specs.Places.{IsSeenAs}
 use Rattle.jpg_transform.specs.Planned.{IsJobFor, IsOutHeadOf, process_in, process_of}
 use Rattle.jpg_transform.specs.declared.choice.Job.{Job}
 use Rattle.jpg_transform.proofs.MovedBlocks.{moved_bounded, moved_real}
-use Rattle.jpg_transform.proofs.MovedHead.{unheaded, numbers_with, moved_components, moved_count, meaning_numbers, precision_stays, frame_precision_stays, kept_stays}
-use Rattle.jpg_transform.proofs.MovedScript.{moved_colour_is, out_colour, script_none, script_same}
+use Rattle.jpg_transform.proofs.MovedHead.{unheaded, numbers_with, moved_components, moved_count, meaning_numbers, precision_stays, kept_stays, frame_precision_stays}
+use Rattle.jpg_transform.proofs.MovedScript.{moved_colour_is, out_colour, script_none, script_same, out_precision}
 use Rattle.jpg_file.specs.Write.Restarts.{restart_of}
 use Rattle.jpg_file.specs.Write.WriteFile.{CanWriteFile, does_pass, file_bytes, file_meaning}
 use Rattle.jpg_file.specs.declared.write.Plan.{Plan}
@@ -95,30 +95,31 @@ out_count : (p : Picture) (c : Choice) (out : OutHead) → IsOutHeadOf c p out �
 out_count p c out h =
     ap length h.tables ∙ moved_count c p.frame p.quants.items p.keeps.tables p.keeps.frame.count_low ∙ sym (ap (λ (g : Frame). length g.components) h.frame)
 
-out_precision : (p : Picture) (c : Choice) (out : OutHead) → IsOutHeadOf c p out → out.frame.precision ≡ (out_meaning p c).precision
-out_precision p c out h =
-    ap (λ (g : Frame). g.precision) h.frame ∙ frame_precision_stays c p.frame ∙ sym (precision_stays c (picture_meaning p))
+kind_is : (b : Bool) (n : ℕ) (tables : List QuantTable) (N : Meaning) → process_of n tables ≡ sequential_process N → cond b Progressive (process_of n tables) ≡ process_due b N
+kind_is true n tables N e = refl
+kind_is false n tables N e = e
+
+process_is : (p : Picture) (c : Choice) (out : OutHead) → IsOutHeadOf c p out → process_in c.scans p.frame.precision out.quants.items ≡ process_due (asks_progressive c.scans) (unheaded c (picture_meaning p))
+process_is p c out h =
+    let N = unheaded c (picture_meaning p) in
+    let n = p.frame.precision in
+    let tables : map (λ (d : PictureComponent). d.quants) N.components ≡ out.quants.items = ap (map (λ (d : PictureComponent). d.quants)) (sym (out_components p c out h)) ∙ tables_of out.frame.components out.quants.items (out_count p c out h) in
+    let stays : N.precision ≡ n = precision_stays c (picture_meaning p) in
+    kind_is (asks_progressive c.scans) n out.quants.items N
+    (ap (process_of n) (sym tables) ∙ ap (λ b. cond (not (n == 8) || b) Extended Baseline) (sym (any_map is_wide (λ (d : PictureComponent). d.quants) N.components))
+    ∙ ap (λ m. cond (not (m == 8) || any_of (λ (d : PictureComponent). is_wide d.quants) N.components) Extended Baseline) (sym stays))
+
+out_process : (p : Picture) (c : Choice) (out : OutHead) → IsOutHeadOf c p out → out.frame.process ≡ (out_meaning p c).process
+out_process p c out h = ap (λ (g : Frame). g.process) h.frame ∙ process_is p c out h
 
 same_numbers : (p : Picture) (c : Choice) (out : OutHead) (blocks : Blocks) → IsWritten p c out blocks → SameNumbers out.frame (frame_of_meaning (out_meaning p c))
 same_numbers p c out blocks w = record {
+  process = out_process p c out w.head;
   width = sym (ap (λ (g : Grids). g.width) w.seen.grids);
   height = sym (ap (λ (g : Grids). g.height) w.seen.grids);
   precision = out_precision p c out w.head;
   components = meaning_numbers out.frame.components out.quants.items (out_meaning p c) (out_components p c out w.head) (out_count p c out w.head);
 }
-
-kind_is : (b : Bool) (tables : List QuantTable) (N : Meaning) → process_of tables ≡ sequential_process N → cond b Progressive (process_of tables) ≡ process_due b N
-kind_is true tables N e = refl
-kind_is false tables N e = e
-
-process_is : (p : Picture) (c : Choice) (out : OutHead) → IsOutHeadOf c p out → process_in c.scans out.quants.items ≡ process_due (asks_progressive c.scans) (unheaded c (picture_meaning p))
-process_is p c out h =
-    let N = unheaded c (picture_meaning p) in
-    let tables : map (λ (d : PictureComponent). d.quants) N.components ≡ out.quants.items = ap (map (λ (d : PictureComponent). d.quants)) (sym (out_components p c out h)) ∙ tables_of out.frame.components out.quants.items (out_count p c out h) in
-    let eight : N.precision ≡ 8 = precision_stays c (picture_meaning p) ∙ p.keeps.frame.precision in
-    kind_is (asks_progressive c.scans) out.quants.items N
-    (ap process_of (sym tables) ∙ ap (λ b. cond b Extended Baseline) (sym (any_map is_wide (λ (d : PictureComponent). d.quants) N.components))
-    ∙ ap (λ n. cond (not (n == 8) || any_of (λ (d : PictureComponent). is_wide d.quants) N.components) Extended Baseline) (sym eight))
 
 place_real : (f : Frame) (i x y : ℕ) → is_place f i x y ≡ true → IsReal f i x y
 place_real f i x y e =
@@ -132,6 +133,7 @@ own_numbers p =
     let N = picture_meaning p in
     let q = p.quants.items in
     record {
+      process = refl;
       width = refl;
       height = refl;
       precision = refl;
@@ -144,6 +146,7 @@ picture_numbers p c out blocks w =
     let N = out_meaning p c in
     let s = same_numbers p c out blocks w in
     record {
+      process = s.process;
       width = s.width;
       height = s.height;
       precision = s.precision;
@@ -165,7 +168,10 @@ blocks_are p c out blocks w = fun_ext (λ i. fun_ext (λ x. fun_ext (λ y. by i 
         sym (real i x y ∙ ap (λ b. cond b (N.blocks i x y) (zeros 64)) (sym (same_places out.frame (picture_frame N) i x y (picture_numbers p c out blocks w)) ∙ e))
 
 in_bounds : (p : Picture) (c : Choice) (out : OutHead) (blocks : Blocks) → IsWritten p c out blocks → HasBlocksIn out.frame blocks
-in_bounds p c out blocks w i x y r = subst (IsBlockIn (bounds out.frame)) (w.seen.same i x y r) (moved_bounded p c i x y)
+in_bounds p c out blocks w i x y r =
+    let h = w.head in
+    let same : out.frame.precision ≡ p.frame.precision = ap (λ (g : Frame). g.precision) h.frame ∙ frame_precision_stays c p.frame in
+    subst (λ n. IsBlockIn (bounds_of n) (blocks i x y)) (sym same) (subst (IsBlockIn (bounds p.frame)) (w.seen.same i x y r) (moved_bounded p c i x y))
 
 kept_are : (p : Picture) (c : Choice) (out : OutHead) → IsOutHeadOf c p out → headed_kept out.colour out.jfif (copied out.copying p.kept) ≡ (out_meaning p c).kept
 kept_are p c out h =
@@ -181,7 +187,7 @@ meaning_is p c plan blocks w =
     let H = file_meaning plan p.kept blocks in
     let N = out_meaning p c in
     let h = w.head in
-    ap (λ (v : Process). let m : Meaning = record H { process = v } in m) (ap (λ (g : Frame). g.process) h.frame ∙ process_is p c plan.out h)
+    ap (λ (v : Process). let m : Meaning = record H { process = v } in m) (out_process p c plan.out h)
     ∙ ap (λ v. let m : Meaning = record H { process = N.process; precision = v } in m) (out_precision p c plan.out h)
     ∙ ap (λ v. let m : Meaning = record H { process = N.process; precision = N.precision; width = v } in m) (sym (ap (λ (g : Grids). g.width) w.seen.grids))
     ∙ ap (λ v. let m : Meaning = record H { process = N.process; precision = N.precision; width = N.width; height = v } in m) (sym (ap (λ (g : Grids). g.height) w.seen.grids))
@@ -233,7 +239,7 @@ can_write p c plan blocks k =
     let h = w.head in
     let m = meaning_is p c plan blocks w in
     record {
-      precision = out_precision p c plan.out h ∙ precision_stays c (picture_meaning p) ∙ p.keeps.frame.precision;
+      precision = refl;
       tables = out_count p c plan.out h;
       colour = moved_colour_is p c plan.out h ∙ sym (ap colour_of m);
       passes = ap (λ (H : Meaning). does_pass H plan.script) m ∙ script_passes p c plan blocks k;

@@ -1,5 +1,5 @@
 -- The head of the output: its components, tables, sides, kept markers and colours are those of the transformed picture.
-use Rattle.std.proofs.Common.{◌≡◌, ◌≤◌, Bool, true, false, cond, List, [], ◌∷◌, length, get_or, map, refl, sym, ap, ◌∙◌, arith}
+use Rattle.std.proofs.Common.{◌≡◌, ◌≤◌, Bool, true, false, cond, List, [], ◌∷◌, length, get_or, map, refl, sym, ap, ◌∙◌, arith, ℕ, not, ◌==◌, ◌||◌}
 use Rattle.std.proofs.lemmas.List.{length-map}
 use Rattle.jpg_spec.specs.Colours.{colours_of}
 use Rattle.jpg_spec_write.specs.FileText.{frame_of_meaning}
@@ -17,7 +17,12 @@ use Rattle.jpg_spec_move.specs.declared.transform.Transform.TheVariants.{Keep, F
 use Rattle.jpg_spec.proofs.Rows.{map_map}
 use Rattle.jpg_spec.proofs.SameNumbers.{numbers_of}
 use Rattle.jpg_markers.specs.OutHead.{with_tables}
-use Rattle.jpg_transform.specs.Planned.{grayed_tables, moved_colour, moved_tables, turned_tables}
+use Rattle.jpg_transform.specs.Planned.{grayed_tables, moved_colour, moved_tables, turned_tables, process_in, process_of}
+use Rattle.jpg_spec_write.specs.ScansAsked.{Scans, asks_progressive}
+use Rattle.jpg_spec.specs.FrameHeader.{is_precision}
+use Rattle.jpg_spec.specs.declared.frame.Process.TheVariants.{Baseline, Extended, Progressive}
+use Rattle.jpg_spec.specs.Lists.{any_of}
+use Rattle.jpg_spec_write.specs.Headed.{is_wide}
 
 -- THE PICTURE before it gets its head
 abbrev pub unheaded : Choice → Meaning → Meaning
@@ -194,3 +199,17 @@ colour_moves choice M =
     same_colour (trimmed choice.trim choice.transform T) G (ap (map (λ (c : PictureComponent). c.id)) (trimmed_components choice.trim choice.transform T) ∙ turned_ids choice.transform G)
     (trimmed_kept choice.trim choice.transform T ∙ turned_kept choice.transform G)
     ∙ gray_colour choice.gray M
+
+-- THE PROCESS of the output has the precision
+
+pub process_allows : (s : Scans) (n : ℕ) (tables : List QuantTable) → is_precision Progressive n ≡ true → is_precision (process_in s n tables) n ≡ true
+process_allows s n tables e = kind (asks_progressive s)
+  where
+    sequential : (b : Bool) → (n == 8) ≡ b → (w : Bool) → is_precision (cond (not b || w) Extended Baseline) n ≡ true
+    sequential true h true = e
+    sequential true h false = h
+    sequential false h w = e
+
+    kind : (b : Bool) → is_precision (cond b Progressive (process_of n tables)) n ≡ true
+    kind true = e
+    kind false = sequential (n == 8) refl (any_of is_wide tables)

@@ -21,7 +21,7 @@ use Rattle.jpg_file.specs.Read.PictureRead.{picture_meaning}
 use Rattle.jpg_file.specs.declared.read.picture.Picture.{Picture}
 use Rattle.jpg_transform.specs.Planned.{IsOutHeadOf, moved_colour}
 use Rattle.jpg_transform.proofs.HeadColour.{headed_colour}
-use Rattle.jpg_transform.proofs.MovedHead.{colour_moves, unheaded}
+use Rattle.jpg_transform.proofs.MovedHead.{colour_moves, unheaded, frame_precision_stays, precision_stays}
 use Rattle.jpg_transform.proofs.SeenPicture.{seen_grids}
 
 -- THE FIRST of two faults
@@ -77,12 +77,15 @@ script_same p choice out h =
     let H = moved choice (picture_meaning p) in
     same_due choice.scans out.frame (frame_of_meaning H) out.colour (colour_of H) (out_grids p choice out h) (moved_colour_is p choice out h)
 
+pub out_precision : (p : Picture) (choice : Choice) (out : OutHead) → IsOutHeadOf choice p out → out.frame.precision ≡ (moved choice (picture_meaning p)).precision
+out_precision p choice out h = ap (λ (g : Frame). g.precision) h.frame ∙ frame_precision_stays choice p.frame ∙ sym (precision_stays choice (picture_meaning p))
+
 pub fault_same : (p : Picture) (choice : Choice) (out : OutHead) (f : Frame) (script : List Entry) → IsOutHeadOf choice p out → f ≡ out.frame → script ≡ script_due choice.scans out.frame out.colour
     → script_fault f script ≡ moved_script_fault choice (picture_meaning p)
 fault_same p choice out f script h same e =
     let H = moved choice (picture_meaning p) in
     ap (λ (g : Frame). script_fault g script) same ∙ ap (script_fault out.frame) (e ∙ script_same p choice out h)
-    ∙ same_script_fault out.frame (frame_of_meaning H) (moved_script choice (picture_meaning p)) (out_grids p choice out h)
+    ∙ same_script_fault out.frame (frame_of_meaning H) (moved_script choice (picture_meaning p)) (out_grids p choice out h) (out_precision p choice out h)
 
 -- WHAT THE CHECK ANSWERS
 

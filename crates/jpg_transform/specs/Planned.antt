@@ -1,6 +1,6 @@
 -- HOW A TRANSFORMED PICTURE IS WRITTEN (the manual of jpegtran): what is asked for, what the head of the output is
 -- written from, and its scans.
-use Rattle.std.specs.Prelude.{◌≡◌, ◌==◌, ◌&&◌, Bool, if◌then◌else◌, List, map, take, Result, Ok, Err, None, Some}
+use Rattle.std.specs.Prelude.{◌≡◌, ◌==◌, ◌&&◌, Bool, if◌then◌else◌, List, map, take, Result, Ok, Err, None, Some, not, ◌||◌, ℕ}
 use Rattle.jpg_spec.specs.Geometry.{Frame, component_at, h_max, v_max}
 use Rattle.jpg_spec.specs.Lists.{any_of}
 use Rattle.jpg_spec_move.specs.Moved.{Choice, moved_frame, picture_fault}
@@ -46,13 +46,13 @@ is_first_greatest f = (component_at f 0).h == h_max f && (component_at f 0).v ==
 
 -- THE HEAD of the output
 
--- SOF1 if a quantiser exceeds 255, otherwise SOF0
-abbrev pub process_of : List QuantTable → Process
-process_of tables = if any_of is_wide tables then Extended else Baseline
+-- SOF1 with 12 bits or if a quantiser exceeds 255, otherwise SOF0
+abbrev pub process_of : ℕ → List QuantTable → Process
+process_of precision tables = if not (precision == 8) || any_of is_wide tables then Extended else Baseline
 
 -- SOF2 if the scans are those of a progressive file
-abbrev pub process_in : Scans → List QuantTable → Process
-process_in scans tables = if asks_progressive scans then Progressive else process_of tables
+abbrev pub process_in : Scans → ℕ → List QuantTable → Process
+process_in scans precision tables = if asks_progressive scans then Progressive else process_of precision tables
 
 -- the table of only the first component, if a picture is converted to grayscale
 abbrev pub grayed_tables : Bool → List QuantTable → List QuantTable
@@ -71,7 +71,7 @@ moved_colour gray colour = if gray then Gray else colour
 -- What the head of the output is written from: the frame, tables and colours of the transformed picture, its JFIF
 -- header, and the markers that are passed on.
 pub record IsOutHeadOf (choice : Choice) (p : Picture) (out : OutHead) : Type 0 where
-  pub frame : out.frame ≡ record (moved_frame choice p.frame) { process = process_in choice.scans out.quants.items }
+  pub frame : out.frame ≡ record (moved_frame choice p.frame) { process = process_in choice.scans p.frame.precision out.quants.items }
   pub tables : out.quants.items ≡ moved_tables choice p.quants.items
   pub colour : out.colour ≡ moved_colour choice.gray p.colour
   pub jfif : out.jfif ≡ p.jfif

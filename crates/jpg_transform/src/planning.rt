@@ -99,7 +99,7 @@ fn head_of(picture: &Picture, choice: &Choice) -> OutHead
     ensures { IsOutHeadOf (choice_told choice.now) picture.now result }
 {
     let quants = moved_tables(picture.quants.as_slice(), choice);
-    let process = process_in(&choice.scans, quants.as_slice());
+    let process = process_in(&choice.scans, picture.frame.precision(), quants.as_slice());
     OutHead {
         frame: moved_frame(&picture.frame, choice).with_process(process),
         colour: if choice.gray {
@@ -142,21 +142,24 @@ fn turned(tables: &[QuantTable]) -> ArrayVec<QuantTable, 4>
     list
 }
 
-// The process of a file in these scans with these tables.
-fn process_in(scans: &Scans, tables: &[QuantTable]) -> Process
-    ensures { result ≡ process_in (scans_told scans.now) tables.now }
+// The process of a file of this precision in these scans with these tables.
+fn process_in(scans: &Scans, precision: u8, tables: &[QuantTable]) -> Process
+    ensures { result ≡ process_in (scans_told scans.now) precision tables.now }
 {
     if scans.progressive() {
         Process::Progressive
     } else {
-        process_of(tables)
+        process_of(precision, tables)
     }
 }
 
-// The process of a sequential file with these tables.
-fn process_of(tables: &[QuantTable]) -> Process
-    ensures { result ≡ process_of tables.now }
+// The process of a sequential file of this precision with these tables.
+fn process_of(precision: u8, tables: &[QuantTable]) -> Process
+    ensures { result ≡ process_of precision tables.now }
 {
+    if precision != 8 {
+        return Process::Extended;
+    }
     for table in tables {
         if is_wide(table) {
             return Process::Extended;

@@ -72,6 +72,9 @@ fn send(
     if is_progressive(frame.process()) {
         return Err(WriteFault);
     }
+    if frame.precision() != 8 {
+        return Err(WriteFault);
+    }
     let Put::Done = desk.create(&Name::Out) else {
         return Err(WriteFault);
     };

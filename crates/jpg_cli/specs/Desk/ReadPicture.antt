@@ -223,7 +223,7 @@ fault_told (Err fault) at = Some (record { fault = fault; at = at })
 abbrev pub unwanted_in : Wanted → Option (Frame × Colour × ℕ) → Option FaultAt
 unwanted_in Coefficients head = None
 unwanted_in (Image gray) None = None
-unwanted_in (Image gray) (Some h) = fault_told (admitted_kind h.1 gray (factors_of h.0)) h.2
+unwanted_in (Image gray) (Some h) = fault_told (admitted_kind (h.0).precision h.1 gray (factors_of h.0)) h.2
 
 -- a step, where nothing is unwanted
 abbrev pub step_unless : Option FaultAt → PictureStep → PictureStep

@@ -7,7 +7,7 @@ use Rattle.jpg_base.specs.Laws.{Grows}
 use Rattle.jpg_spec_image.specs.ImageText.{end_text}
 use Rattle.jpg_spec.specs.Markers.{Segment}
 use Rattle.jpg_spec.specs.Meaning.{Meaning}
-use Rattle.jpg_spec.specs.InForce.{colours_after, factors_after}
+use Rattle.jpg_spec.specs.InForce.{colours_after, factors_after, frame_of}
 use Rattle.jpg_spec_image.specs.Pixels.{info, out_fault_of, pixels}
 use Rattle.jpg_spec_image.specs.RowsShown.{ShowsRows, rows_text}
 use Rattle.jpg_spec.specs.RowsTold.{picture_so_far}
@@ -53,7 +53,7 @@ pub record IsShownByRows (gray : Bool) (bytes : List ℕ) : Type 0 where
   pub before : List Segment
   pub contents : List ℕ
   pub begins : BeginsScanOfAll standard_limits bytes before contents
-  pub shown : out_fault_of (colours_after standard_limits before) gray (factors_after standard_limits before) ≡ None
+  pub shown : out_fault_of (frame_of standard_limits before).precision (colours_after standard_limits before) gray (factors_after standard_limits before) ≡ None
 
 -- The text of all MCU rows that these bytes complete.
 abbrev pub IsRowsText : Showing → List ℕ → List ℕ → Type 0

@@ -77,7 +77,7 @@ pub record Head : Type 0 where
 
 pub record IsHeadIn (gray : Bool) (h : Head) (bytes : List ℕ) : Type 0 where
   pub begins : BeginsScanOfAll standard_limits bytes h.before h.contents
-  pub shown : out_fault_of (colours_after standard_limits h.before) gray (factors_after standard_limits h.before) ≡ None
+  pub shown : out_fault_of (frame_of standard_limits h.before).precision (colours_after standard_limits h.before) gray (factors_after standard_limits h.before) ≡ None
 
 -- A reader was fed bytes, of whose scan this many MCU rows were given, and then a piece, with this answer. That is all
 -- that was read.

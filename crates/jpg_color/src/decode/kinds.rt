@@ -3,12 +3,19 @@ ghost use Rattle.std.specs.Prelude.{◌≡◌, ◌<◌, ◌≤◌, length, take}
 ghost use Rattle.jpg_spec.specs.Lists.{any_of};
 ghost use Rattle.jpg_spec.specs.Geometry.{component_at, h_max, v_max};
 ghost use Rattle.jpg_spec_image.specs.Pixels.{is_colour_out, is_fractional, shows_gray};
-ghost use Rattle.jpg_color.specs.Admits.{admitted_kind, first_fault, kind_of, needed_factors};
+ghost use Rattle.jpg_color.specs.Admits.{admitted_kind, first_fault, is_deep, kind_of, needed_factors};
 ghost use Rattle.jpg_color.specs.Shown.{factors_of};
 
 use jpg_base::Frame;
 use jpg_spec::{Colour, Fault};
 use jpg_spec_image::ImageKind;
+
+// Whether the samples have other than 8 bits.
+fn is_deep(frame: &Frame) -> bool
+    ensures { result ≡ is_deep frame.now.precision }
+{
+    frame.precision() != 8
+}
 
 fn is_out(colour: Colour, gray: bool) -> bool
     ensures { result ≡ is_colour_out colour gray }
@@ -80,10 +87,13 @@ pub(crate) fn shown_kind(colour: Colour, gray: bool) -> ImageKind
     }
 }
 
-// Colours that can't be displayed come before factors.
-fn first_fault(out: bool, partial: bool) -> Option<Fault>
-    ensures { result ≡ first_fault out partial }
+// Samples of other than 8 bits come before colours that can't be displayed, and these before factors.
+fn first_fault(deep: bool, out: bool, partial: bool) -> Option<Fault>
+    ensures { result ≡ first_fault deep out partial }
 {
+    if deep {
+        return Some(Fault::Precision);
+    }
     if out {
         return Some(Fault::ColourOut);
     }
@@ -95,14 +105,14 @@ fn first_fault(out: bool, partial: bool) -> Option<Fault>
 
 /// The kind of image that a picture of this frame and these colours is displayed as: gray, which takes only the first
 /// component, for gray pictures and, if `gray` asks for it, for those of luminance and chrominance; otherwise red,
-/// green and blue. The faults, in this order: ColourOut (colours that can't be displayed: four or two components, or
-/// red, green and blue if gray is asked for), and FractionalSampling (a component that is needed has factors that don't
-/// divide the greatest ones) (T.81, A.1.1; JFIF 1.02). It takes no memory.
+/// green and blue. The faults, in this order: Precision (samples that haven't 8 bits), ColourOut (colours that can't be
+/// displayed: four or two components, or red, green and blue if gray is asked for), and FractionalSampling (a component
+/// that is needed has factors that don't divide the greatest ones) (T.81, A.1.1; JFIF 1.02). It takes no memory.
 pub fn admits(frame: &Frame, colour: Colour, gray: bool) -> Result<ImageKind, Fault>
-    ensures { result ≡ admitted_kind colour gray (factors_of frame.now) }
+    ensures { result ≡ admitted_kind frame.now.precision colour gray (factors_of frame.now) }
 {
     let partial = needs_partial(frame, is_gray(colour, gray));
-    match first_fault(is_out(colour, gray), partial) {
+    match first_fault(is_deep(frame), is_out(colour, gray), partial) {
         Some(fault) => Err(fault),
         None => Ok(shown_kind(colour, gray)),
     }

@@ -27,10 +27,10 @@ file_bytes plan kept blocks = file_text (file_meaning plan kept blocks) plan.scr
 abbrev pub does_pass : Meaning → List Entry → Bool
 does_pass H script = if is_progressive H.process then is_progressive_after H [] script else is_script_after (frame_of_meaning H) [] script
 
--- A plan of precision 8, with a table for each component and the colours that the file means, whose script passes; and
--- blocks viewed in a frame of the same grids, which is progressive if the file's is, and that can be written.
+-- A plan with a table for each component and the colours that the file means, whose script passes; and blocks viewed in
+-- a frame of the same precision and grids, which is progressive if the file's is, and that can be written.
 pub record CanWriteFile (plan : Plan) (kept : List (ℕ × List ℕ)) (f : Frame) (blocks : Blocks) : Type 0 where
-  pub precision : plan.out.frame.precision ≡ 8
+  pub precision : f.precision ≡ plan.out.frame.precision
   pub tables : length plan.out.quants.items ≡ length plan.out.frame.components
   pub colour : plan.out.colour ≡ colour_of (file_meaning plan kept blocks)
   pub passes : does_pass (file_meaning plan kept blocks) plan.script ≡ true

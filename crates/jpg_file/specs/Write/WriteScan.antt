@@ -14,7 +14,7 @@ use Rattle.jpg_spec_write.specs.Script.{Entry}
 use Rattle.jpg_spec_write.specs.WrittenFile.{HasBlocksIn}
 use Rattle.jpg_base.specs.Cursor.{AreIn}
 use Rattle.jpg_seq.specs.NewReader.{IsSeqScan}
-use Rattle.jpg_prog_write.specs.Counted.{HasSlots}
+use Rattle.jpg_coefs.specs.MarkSinks.{HasSlots}
 use Rattle.jpg_prog_write.specs.Written.{IsProgScan, tables_in, written_data}
 use Rattle.jpg_file.specs.Write.Restarts.{interval_text, restart_of}
 use Rattle.jpg_file.specs.Write.WriteTables.{GivesTables, IsTablePlace, given_by}
@@ -41,7 +41,7 @@ pub record IsHeadOf (f : Frame) (head : ScanHead) : Type 0 where
   pub few : length head.parts ≤ 4
   pub there : All (λ p. p.component < length f.components) head.parts
   pub slots : All HasSlots head.parts
-  pub high : head.ah ≤ 13
+  pub high : head.ah ≤ 14
   pub low : head.al ≤ 13
 
 -- the contents of its segment, by the identifiers of the components
@@ -95,7 +95,6 @@ scans_due plan f blocks = scans_bytes plan f blocks nothing_written plan.script
 -- Components of the file's frame and of the view's, which have one scan, and in a progressive file a band and bits that
 -- are allowed.
 pub record CanWriteScan (plan : Plan) (f : Frame) (blocks : Blocks) (e : Entry) : Type 0 where
-  pub precision : plan.out.frame.precision ≡ 8
   pub kind : is_progressive f.process ≡ is_progressive plan.out.frame.process
   pub seen : AreIn f e.components
   pub there : All (λ i. i < length plan.out.frame.components) e.components

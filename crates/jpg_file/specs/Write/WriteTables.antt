@@ -1,10 +1,13 @@
 -- The tables of scans that are written: sets that have them, and the last ones of each class and slot (T.81, B.2.4.2).
-use Rattle.std.specs.Prelude.{◌≡◌, ℕ, ◌<◌, ◌==◌, if◌then◌else◌, List, length, Option, Some, None}
+use Rattle.std.specs.Prelude.{◌≡◌, ℕ, ◌<◌, ◌≤◌, ◌==◌, if◌then◌else◌, List, length, Option, Some, None}
 use Rattle.std.specs.Option.{option_map}
 use Rattle.jpg_spec.specs.Scan.{TablesInForce}
 use Rattle.jpg_spec.specs.Segments.{HuffmanTable}
 use Rattle.jpg_huff.specs.declared.table.Table.{Table}
 use Rattle.jpg_huff.specs.declared.set.TableSet.{TableSet}
+use Rattle.jpg_huff.specs.Flat.{symbols_in}
+use Rattle.jpg_huff.specs.Used.{row}
+use Rattle.jpg_huff.specs.declared.used.Used.{Used}
 use Rattle.jpg_huff.specs.Sets.{dc_tables, ac_tables, in_slot}
 use Rattle.jpg_huff.specs.Tables.{table_of}
 
@@ -19,6 +22,16 @@ IsInSlot tables slot table = (t : Table) × (in_slot tables slot ≡ Some t) × 
 -- slots 0 and 1 of both classes have these tables
 abbrev pub GivesTables : TableSet → (ℕ → ℕ → HuffmanTable) → Type 0
 GivesTables set tables = (class slot : ℕ) → class < 2 → slot < 2 → IsInSlot (class_tables set class) slot (tables class slot)
+
+-- by slots 0 and 1 and class, the symbols that are used are these
+pub record UsesSymbols (used : Used) (symbols : ℕ → ℕ → List ℕ) : Type 0 where
+  pub dc : (slot : ℕ) → slot < 2 → symbols_in (row used.dc slot) ≡ symbols 0 slot
+  pub ac : (slot : ℕ) → slot < 2 → symbols_in (row used.ac slot) ≡ symbols 1 slot
+
+-- few enough for codes of one length
+pub record AreFew (used : Used) : Type 0 where
+  pub dc : (slot : ℕ) → slot < 2 → length (symbols_in (row used.dc slot)) ≤ 255
+  pub ac : (slot : ℕ) → slot < 2 → length (symbols_in (row used.ac slot)) ≤ 255
 
 -- they have the first two for DC, and the other two for AC
 abbrev pub HasFourTables : TableSet → HuffmanTable → HuffmanTable → HuffmanTable → HuffmanTable → Type 0

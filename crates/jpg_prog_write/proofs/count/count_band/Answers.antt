@@ -1,7 +1,8 @@
 use Rattle.std.proofs.Common.{◌∷◌, [], sym, ap, ◌∙◌, subst}
 use Rattle.jpg_prog_write.specs.Bands.{IsReady, elements_left, cleared}
 use Rattle.jpg_prog_write.specs.Counted.{marks_of}
-use Rattle.jpg_prog_write.proofs.Marks.{but_then, but_same, marks_first}
+use Rattle.jpg_huff.proofs.Marks.{but_then, but_same}
+use Rattle.jpg_prog_write.proofs.Marks.{marks_first}
 use Rattle.jpg_prog_write.proofs.count.count_band.Goals as goal
 
 pub loop-item-preserved : goal.loop-item-preserved
@@ -12,14 +13,14 @@ loop-item-preserved c =
     let gives = c.in-Some.ensures.some in
     record {
       ready = subst IsReady (sym c.clear.ensures) gives.ready;
-      rows = c.mark.ensures.rows;
+      used = c.mark_ac.ensures.used;
       band = ap (λ x. x.band) c.clear.ensures ∙ gives.band ∙ c.loop-item.invariant.band;
       part = λ later.
           let all = marks_of slot (elements_left c.args.bands.now later) in
           let e = marks_first slot (elements_left b later) c.in-Some.item new.waiting.items (elements_left (cleared new) later) (gives.first later) in
-          but_same c.args.rows.now c.mark.new.rows all _ (marks_of slot (elements_left c.clear.new.self later)) (ap (λ x. marks_of slot (elements_left x later)) (sym c.clear.ensures))
-          (but_then c.args.rows.now c.loop-item.rows c.mark.new.rows all (marks_of slot (elements_left b later)) ((slot, c.in-Some.item.symbol) ∷ []) (marks_of slot (elements_left (cleared new) later)) e (c.loop-item.invariant.part later) c.mark.ensures);
+          but_same c.args.used.now c.mark_ac.new.self all _ (marks_of slot (elements_left c.clear.new.self later)) (ap (λ x. marks_of slot (elements_left x later)) (sym c.clear.ensures))
+          (but_then c.args.used.now c.loop-item.used c.mark_ac.new.self all (marks_of slot (elements_left b later)) (((1, slot), c.in-Some.item.symbol) ∷ []) (marks_of slot (elements_left (cleared new) later)) e (c.loop-item.invariant.part later) c.mark_ac.ensures);
     }
 
-pub mark-requires-clause-small : goal.mark-requires-clause-small
-mark-requires-clause-small c = (c.in-Some.ensures.some.first []).is.small
+pub mark_ac-requires-clause-small : goal.mark_ac-requires-clause-small
+mark_ac-requires-clause-small c = (c.in-Some.ensures.some.first []).is.small

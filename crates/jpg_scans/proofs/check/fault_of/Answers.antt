@@ -1,8 +1,14 @@
-use Rattle.std.proofs.Common.{◌≡◌, ◌+◌, ◌∷◌, drop, sym, ap, ◌∙◌, subst}
+use Rattle.std.proofs.Common.{◌≡◌, ◌+◌, ◌∷◌, drop, true, sym, ap, ◌∙◌, subst}
 use Rattle.std.proofs.lemmas.List.{drop_more}
+use Rattle.jpg_spec.specs.FrameHeader.{is_precision}
 use Rattle.jpg_scans.specs.Judged.{IsEntryTaken}
-use Rattle.jpg_scans.proofs.Checks.{fault_shown, one_taken}
+use Rattle.jpg_scans.proofs.Checks.{script_precision, fault_shown, one_taken}
 use Rattle.jpg_scans.proofs.check.fault_of.Goals as goal
+
+pub with_process-requires : goal.with_process-requires
+with_process-requires c =
+    let f = c.args.frame.now in
+    subst (λ q. is_precision q f.precision ≡ true) (sym c.process_due.ensures) (script_precision c.args.is_progressive f.process f.precision c.checked.ensures.precision)
 
 pub returns-then-is_some : goal.returns-then-is_some
 returns-then-is_some c =

@@ -1,5 +1,8 @@
-use Rattle.jpg_spec_write.proofs.Sequential.{written_spells}
+use Rattle.jpg_spec_write.proofs.SequentialCodes.{all_written_spell, all_typical_coded}
 use Rattle.jpg_spec_write.proofs.scan_text_laws.written_scans_are_in_the_grammar.Goals as goal
 
-pub returns : goal.returns
-returns c = λ f head due w. written_spells f head due w.sequential w.precision w.each
+pub returns-clause-any : goal.returns-clause-any
+returns-clause-any c = all_written_spell
+
+pub returns-clause-typical : goal.returns-clause-typical
+returns-clause-typical c = all_typical_coded

@@ -3,4 +3,4 @@ use Rattle.jpg_transform.specs.Planned.{process_of}
 use Rattle.jpg_transform.proofs.planning.process_of.Given as goal
 
 abbrev pub invariant-loop-table : goal.invariant-loop-table
-invariant-loop-table l = process_of (drop l.table-index l.tables) ≡ process_of l.fn.tables
+invariant-loop-table l = process_of 8 (drop l.table-index l.tables) ≡ process_of l.fn.precision l.fn.tables

@@ -1,0 +1,114 @@
+//! The symbols that a sequential scan writes, counted (T.81, F.1.2).
+ghost use Rattle.std.specs.Prelude.{◌≡◌, ◌≤◌, ◌<◌, false, drop, All};
+ghost use Rattle.jpg_spec.specs.Numbers.{category as category_of};
+ghost use Rattle.jpg_spec.specs.Geometry.{is_progressive};
+ghost use Rattle.jpg_spec.specs.Segments.{head_components};
+ghost use Rattle.jpg_spec_write.specs.WrittenFile.{HasBlocksIn};
+ghost use Rattle.jpg_base.specs.Cursor.{AreIn};
+ghost use Rattle.jpg_huff.specs.Used.{AreUsed, Notes};
+ghost use Rattle.jpg_coefs.specs.MarkSinks.{HasSlots, CountsClass, mark_kind};
+ghost use Rattle.jpg_seq.specs.Counted.{AreFew, run_marks, band_marks, block_marks, seq_counter};
+
+use crate::write::difference;
+use jpg_base::{Block, ScanHead, ScanPart, WriteFault};
+use jpg_coefs::{BlockView, UnitSink, part_of, put_scan};
+use jpg_huff::{Used, category};
+
+// Marks the symbols of a value after a run of zeros, of which each sixteen have one of their own.
+#[inline(always)]
+fn count_run(slot: u8, run: u8, value: i16, used: &mut Used)
+    requires used { AreUsed used.old }
+    requires slot { slot < 2 }
+    requires few { category_of value ≤ 14 }
+    ensures { Notes used.old (run_marks slot run value) used.new }
+{
+    let mut left = run;
+    while left >= 16 {
+        used.mark_ac(slot, 0xf0);
+        left -= 16;
+    }
+    used.mark_ac(slot, 16 * left + category(i32::from(value)));
+}
+
+// Marks the symbols of the values after the first one, and that of an EOB if zeros are left.
+#[inline(always)]
+fn count_band(slot: u8, block: &Block, used: &mut Used)
+    requires used { AreUsed used.old }
+    requires slot { slot < 2 }
+    requires few { AreFew block.now }
+    ensures { Notes used.old (band_marks slot (drop 1 block.now)) used.new }
+{
+    block.long();
+    let mut next = 1;
+    let mut rest = (block.nonzero() >> 1) << 1;
+    while rest != 0 {
+        let k = rest.trailing_zeros() as u8;
+        count_run(slot, k - next, block.get(k), used);
+        next = k + 1;
+        rest &= rest - 1;
+    }
+    if next < 64 {
+        used.mark_ac(slot, 0);
+    }
+}
+
+// Marks the symbols of a block, by the tables of its part, after this DC value.
+fn count_block(part: ScanPart, prediction: i16, block: &Block, used: &mut Used)
+    requires used { AreUsed used.old }
+    requires slots { HasSlots part }
+    requires few { AreFew block.now }
+    ensures { Notes used.old (block_marks part prediction block.now) used.new }
+{
+    let difference = difference(block.get(0), prediction);
+    used.mark_dc(part.dc, category(difference));
+    count_band(part.ac, block, used);
+}
+
+// What counts the symbols of the units of a sequential scan.
+#[derive(Drop)]
+pub(crate) struct SeqCounter<'a> {
+    pub(crate) head: &'a ScanHead,
+}
+
+impl<'a> UnitSink<Used, ()> for SeqCounter<'a> {
+    ghost kind = { mark_kind seq_counter };
+
+    #[inline(always)]
+    fn unit(
+        &mut self,
+        component: u8,
+        last: i16,
+        block: &Block,
+        used: &mut Used,
+        desk: &mut (),
+    ) -> Result<(), WriteFault> {
+        count_block(part_of(self.head, component), last, block, used);
+        Ok(())
+    }
+
+    fn end(
+        &mut self,
+        marker: Option<u8>,
+        used: &mut Used,
+        desk: &mut (),
+    ) -> Result<(), WriteFault> {
+        Ok(())
+    }
+}
+
+/// The symbols that `write_seq_scan` writes of this scan, by class and slot (T.81, F.1.2). The header names one to four
+/// components of the frame, with slots 0 or 1; all values are in the range of the frame's precision. It takes no memory.
+pub fn count_seq_scan<V: BlockView>(view: &V, head: &ScanHead, interval: u16) -> Used
+    requires sequential { is_progressive (V.numbers view.now).process ≡ false }
+    requires components { AreIn (V.numbers view.now) (head_components head.now) }
+    requires slots { All HasSlots head.now.parts }
+    requires blocks { HasBlocksIn (V.numbers view.now) (V.blocks view.now) }
+    ensures dc { CountsClass (V.numbers view.now) head.now interval (V.blocks view.now) 0 result.dc }
+    ensures ac { CountsClass (V.numbers view.now) head.now interval (V.blocks view.now) 1 result.ac }
+{
+    let mut used = Used::none();
+    let mut units = SeqCounter { head };
+    let counted = put_scan(view, head, interval, &mut units, &mut used, &mut ());
+    let _ = counted;
+    used
+}
