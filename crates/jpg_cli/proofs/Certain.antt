@@ -112,4 +112,4 @@ shown_certain s old new w has none shown =
 
 pub turned_back : (t : Transform) (M : Meaning) (w : WasTurnedBack t M) → MeanSame (text_back w) M
 turned_back t M w =
-    (moved w.turning.choice w.picture, w.turned.2, moved_back w.picture M t w.turning.choice w.made.whole w.back.transform w.back.untrimmed w.back.ungrayed w.made.same)
+    (moved w.turning.choice w.picture, w.turned.2, moved_back w.picture M t w.turning.choice w.made.whole w.back w.made.same)

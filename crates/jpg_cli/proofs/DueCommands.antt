@@ -63,7 +63,7 @@ by_due : (a : EncodeAsked) (scans : Scans) (s0 s1 : DeskState) (w : Why) → Non
 by_due a scans s0 s1 w n (inl h) = stop_due (Option (List QuantTable)) (HasTablesFault a.tables) (HasTables a.tables) (due_by a scans) s0 w (tables_stop (names_before a.scans) a.tables s0 s1 w n h)
 by_due a scans s0 s1 w n (inr (tables, has, h)) =
     due_taken (Option (List QuantTable)) (HasTablesFault a.tables) (HasTables a.tables) (due_by a scans) s0 w tables has
-    (converted_due Picture (encoding_conversion (task_after (names_before a.scans ++ tables_names a.tables) a scans tables)) image_judged s0 s1 w n h)
+    (converted_due Picture (encoding_conversion (task_after (names_before a.scans ++ tables_names a.tables) a scans tables)) (image_judged a.targa) s0 s1 w n h)
 
 pub encode_due : (a : EncodeAsked) (s0 s1 : DeskState) (w : Why) → NoneRose s0.counts s1.counts → EncodedAsAsked a s0 w s1 → IsDueOrNoMemory a s0 w
 encode_due a s0 s1 w n (inl h) = stop_due Scans (HasScansFault a.scans) (HasScans a.scans) (IsEncodeDueIn a) s0 w (scans_stop a.scans s0 s1 w n h)
@@ -73,7 +73,7 @@ encode_due a s0 s1 w n (inr (inr (wanting, same))) = inr wanting
 in_once : (a : EncodeAsked) (s : DeskState) (v w : Why) (scans : Scans) → TellsFiles s → IsEncodeDueIn a scans s v → IsEncodeDueIn a scans s w → w ≡ v
 in_once a s v w scans t h k =
     after_once (Option (List QuantTable)) (HasTablesFault a.tables) (HasTables a.tables) (due_by a scans) s v w (one_tables s a.tables t) (tables_fault s a.tables t) (tables_or_fault s a.tables t)
-    (λ tables. due_once Picture (encoding_conversion (task_after (names_before a.scans ++ tables_names a.tables) a scans tables)) image_judged s v w t) h k
+    (λ tables. due_once Picture (encoding_conversion (task_after (names_before a.scans ++ tables_names a.tables) a scans tables)) (image_judged a.targa) s v w t) h k
 
 pub encode_answered : (a : EncodeAsked) (due w : Why) (s0 s1 : DeskState) → TellsFiles s0 → IsEncodeDue a s0 due → NoneRose s0.counts s1.counts → EncodedAsAsked a s0 w s1 → IsOrNoMemory due w
 encode_answered a due w s0 s1 t h n k =

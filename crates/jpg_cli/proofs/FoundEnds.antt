@@ -1,7 +1,9 @@
 -- The image writer of a format, among writers that are tried one after another.
-use Rattle.std.proofs.Common.{◌≡◌, ◌||◌, suc, arith, length, true, false, List, [], ◌∷◌, map, refl, sym, ap, ◌∙◌, subst}
+use Rattle.std.proofs.Common.{◌≡◌, ◌||◌, suc, arith, length, true, false, List, [], ◌∷◌, ◌++◌, map, refl, sym, ap, ◌∙◌, subst}
+use Rattle.std.proofs.lemmas.List.{map-append}
+use Rattle.std.proofs.lemmas.List.Elements.{All-push}
 use Rattle.jpg_spec_image.specs.declared.image.EndKind.{EndKind}
-use Rattle.jpg_spec_image.specs.declared.image.EndKind.TheVariants.{Pnm, Bmp}
+use Rattle.jpg_spec_image.specs.declared.image.EndKind.TheVariants.{Pnm, Bmp, Targa}
 use Rattle.jpg_pnm_bmp.specs.EndState.{new_end, EndState}
 use Rattle.jpg_cli.specs.Tools.Ends.{AreNewEnds, formats_of, has_format, is_same_format}
 
@@ -11,8 +13,18 @@ HasSameFormat all left at kind = has_format kind (formats_of (map at all)) ≡ h
 pub same_format : (a b : EndKind) → is_same_format a b ≡ true → a ≡ b
 same_format Pnm Pnm e = refl
 same_format Bmp Bmp e = refl
+same_format Targa Targa e = refl
 same_format Pnm Bmp e = cc
+same_format Pnm Targa e = cc
 same_format Bmp Pnm e = cc
+same_format Bmp Targa e = cc
+same_format Targa Pnm e = cc
+same_format Targa Bmp e = cc
+
+-- ONE MORE image writer, a new one
+pub one_more_new : {X : Type 0} (at : X → EndState) (now more : List X) (x : X) → more ≡ now ++ x ∷ [] → AreNewEnds (map at now) → at x ≡ new_end (at x).kind → AreNewEnds (map at more)
+one_more_new at now more x is new one =
+    subst (λ xs. AreNewEnds (map at xs)) (sym is) (subst AreNewEnds (sym (map-append at now (x ∷ []))) (All-push (λ e. e ≡ new_end e.kind) (map at now) (at x) new one))
 
 -- THE NEXT of the image writers that are left
 

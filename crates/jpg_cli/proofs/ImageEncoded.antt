@@ -1,5 +1,5 @@
 -- Encoding an image: reading it, making its picture, and then writing it.
-use Rattle.std.proofs.Common.{◌≡◌, ◌⊎◌, ℕ, All, List, [], ◌++◌, Option, None, Some, Err, refl, sym, ap, subst, inl, inr}
+use Rattle.std.proofs.Common.{◌≡◌, ◌⊎◌, ℕ, Bool, All, List, [], ◌++◌, Option, None, Some, Err, refl, sym, ap, subst, inl, inr}
 use Rattle.jpg_base.specs.declared.names.Name.{Name}
 use Rattle.jpg_base.specs.declared.names.Put.TheVariants as put
 use Rattle.jpg_base.specs.Desk.{DeskState}
@@ -83,32 +83,32 @@ is_encodable e i a right asks can counted = record {
 
 -- AN IMAGE, encoded and written
 
-abbrev pub task_by : Name → Name → (Image → Encoding) → EncodeTask
-task_by input output encoding = record { before = []; input = input; output = output; encoding = encoding }
+abbrev pub task_by : Name → Bool → Name → (Image → Encoding) → EncodeTask
+task_by input targa output encoding = record { before = []; input = input; targa = targa; output = output; encoding = encoding }
 
 -- it was read up to its last piece
-short_image : (I : Image) (early : Option ℕ) (rest bytes : List ℕ) → has_image I early rest bytes → IsShortImageRead bytes
-short_image I None rest bytes h = h.read
-short_image I (Some n) rest bytes h = absurd h
+short_image : (targa : Bool) (I : Image) (early : Option ℕ) (rest bytes : List ℕ) → has_image targa I early rest bytes → IsShortImageRead targa bytes
+short_image targa I None rest bytes h = h.read
+short_image targa I (Some n) rest bytes h = absurd h
 
-pub encoded_after : (input output : Name) (encoding : Image → Encoding) (I : Image) (s0 s1 s2 : DeskState) (w : Why) → HasValueRead Image (encoding_conversion (task_by input output encoding)) I None s0 s1 s2 → AfterEncoding (encoding I) I output s1 w s2 → Encoded (task_by input output encoding) s0 w s2
-encoded_after input output encoding I s0 s1 s2 w h (inl k) =
-    let c = encoding_conversion (task_by input output encoding) in
+pub encoded_after : (input : Name) (targa : Bool) (output : Name) (encoding : Image → Encoding) (I : Image) (s0 s1 s2 : DeskState) (w : Why) → HasValueRead Image (encoding_conversion (task_by input targa output encoding)) I None s0 s1 s2 → AfterEncoding (encoding I) I output s1 w s2 → Encoded (task_by input targa output encoding) s0 w s2
+encoded_after input targa output encoding I s0 s1 s2 w h (inl k) =
+    let c = encoding_conversion (task_by input targa output encoding) in
     subst (λ (v : Why). Converted c s0 v s2) (none_early w) (converted_made Image c I None s0 s1 s2 h w k)
-encoded_after input output encoding I s0 s1 s2 w h (inr (e, same)) =
-    let c = encoding_conversion (task_by input output encoding) in
-    subst (λ (v : Why). Converted c s0 v s2) (sym e) (converted_short Image c I None s0 s1 s2 h (short_image I None) same)
+encoded_after input targa output encoding I s0 s1 s2 w h (inr (e, same)) =
+    let c = encoding_conversion (task_by input targa output encoding) in
+    subst (λ (v : Why). Converted c s0 v s2) (sym e) (converted_short Image c I None s0 s1 s2 h (short_image targa I None) same)
 
 -- BY THE TABLES and in the scans that are asked for
 
 asked_names : (a : EncodeAsked) (input output : Name) (scans : Scans) (tables : Option (List QuantTable)) (s0 s2 : DeskState) (w : Why) → input ≡ name_of a.files.input → output ≡ name_of a.files.output
-    → Encoded (task_by input output (encoding_asked a scans tables)) s0 w s2 → Encoded (task_after [] a scans tables) s0 w s2
+    → Encoded (task_by input a.targa output (encoding_asked a scans tables)) s0 w s2 → Encoded (task_after [] a scans tables) s0 w s2
 asked_names a input output scans tables s0 s2 w is os h =
-    subst (λ o. Encoded (task_by (name_of a.files.input) o (encoding_asked a scans tables)) s0 w s2) os
-    (subst (λ i. Encoded (task_by i output (encoding_asked a scans tables)) s0 w s2) is h)
+    subst (λ o. Encoded (task_by (name_of a.files.input) a.targa o (encoding_asked a scans tables)) s0 w s2) os
+    (subst (λ i. Encoded (task_by i a.targa output (encoding_asked a scans tables)) s0 w s2) is h)
 
 -- by the files that the words name
-pub told_names : (w : EncodeWords) (scans : Scans) (tables : Option (List QuantTable)) (s0 s2 : DeskState) (ended : Why) → Encoded (task_by w.files.input w.files.output (encoding_asked (encode_told w) scans tables)) s0 ended s2
+pub told_names : (w : EncodeWords) (scans : Scans) (tables : Option (List QuantTable)) (s0 s2 : DeskState) (ended : Why) → Encoded (task_by w.files.input w.targa w.files.output (encoding_asked (encode_told w) scans tables)) s0 ended s2
     → Encoded (task_after [] (encode_told w) scans tables) s0 ended s2
 told_names w scans tables s0 s2 ended h = asked_names (encode_told w) w.files.input w.files.output scans tables s0 s2 ended (sym (same_name w.files.input)) (sym (same_name w.files.output)) h
 

@@ -1,5 +1,5 @@
 -- What reading pieces of an image file does, over the states of a desk.
-use Rattle.std.proofs.Common.{◌≡◌, ℕ, ◌<◌, ◌≤◌, List, [], ◌++◌, length, take, drop, Result, Ok, Err, refl, sym, ap, ◌∙◌, subst, arith, inl, inr}
+use Rattle.std.proofs.Common.{◌≡◌, ℕ, ◌<◌, ◌≤◌, Bool, true, false, List, [], ◌++◌, length, take, drop, Result, Ok, Err, refl, sym, ap, ◌∙◌, subst, arith, inl, inr}
 use Rattle.std.specs.Io.KnownBytes.{Consumes, IsAtEnd}
 use Rattle.std.specs.Prelude.{IfOk}
 use Rattle.std.proofs.lemmas.List.{append-nil, length-take-le, length-drop, length-append, take-append-drop, take-take}
@@ -10,28 +10,26 @@ use Rattle.jpg_base.specs.declared.names.Got.TheVariants as got
 use Rattle.jpg_base.specs.Desk.{DeskState, Opens, Reads, Rose}
 use Rattle.jpg_base.specs.Laws.{Consumes-then}
 use Rattle.jpg_spec_image.specs.Images.{Image}
-use Rattle.jpg_spec_image.specs.ImageFaults.{IsImage, IsImageFault, IsOpenImage, IsWholeImage, ShowsImageFault}
+use Rattle.jpg_spec_image.specs.ImageFaults.{IsOpenImage, IsWholeImage, ShowsImageFault}
 use Rattle.jpg_spec.specs.Segments.{standard_limits}
-use Rattle.jpg_spec.specs.declared.frame.Limits.{Limits}
-use Rattle.jpg_spec.specs.declared.fault.FaultAt.{FaultAt}
 use Rattle.jpg_spec.specs.declared.fault.Fault.TheVariants.{InputTooLong}
 use Rattle.jpg_spec_words.specs.declared.answers.Why.{Why}
 use Rattle.jpg_spec_words.specs.declared.answers.Why.TheVariants as why
 use Rattle.jpg_spec_words.specs.declared.answers.Which.TheVariants as which
 use Rattle.jpg_color.specs.Encode.{image_told}
-use Rattle.jpg_pnm_bmp.specs.Made.{AreBytes, IsRightImage}
-use Rattle.jpg_pnm_bmp.specs.PixelsRead.{HasFedImage, image_read}
+use Rattle.jpg_pnm_bmp.specs.Made.{IsRightImage}
 use Rattle.jpg_pnm_bmp.specs.declared.read.pixels.Image.{Image as Read}
-use Rattle.jpg_pnm_bmp.specs.declared.read.pixels.PixelReader.{PixelReader}
-use Rattle.jpg_pnm_bmp.proofs.EndRead.{fed_open}
-use Rattle.jpg_pnm_bmp.proofs.ImageRight.{image_right}
 use Rattle.jpg_cli.specs.Desk.Reading.{rest_of}
-use Rattle.jpg_cli.specs.Desk.ReadImage.{AfterImageEnd, AfterNextImagePiece, AfterTakingImagePiece, EndDone, EndsEarly, EndsImageReading, ImageGoesOn, HoldsImage, ImageRead, IsFaultRead, IsImageRead, IsOpenImageRead, IsShortImageRead, image_judging}
+use Rattle.jpg_cli.specs.Desk.ImageLoop.{AfterNextImagePiece, EndsEarly, HoldsImage, ImageGoesOn}
+use Rattle.jpg_cli.specs.Desk.ImageSource.{AfterImageEnd, AfterTakingImagePiece, EndDone, HasFed, source_read}
+use Rattle.jpg_cli.specs.Desk.ReadImage.{EndsImageReading, ImageRead, IsFaultRead, IsImageRead, IsOpenImageRead, IsShortImageRead, image_judging}
 use Rattle.jpg_cli.specs.Desk.Judging.{TakesPieces}
 use Rattle.jpg_cli.specs.Stays.{OnlyReads}
-use Rattle.jpg_cli.specs.declared.desk.image.ImageStep.{ImageStep}
-use Rattle.jpg_cli.specs.declared.desk.image.ImageStep.TheVariants as step
+use Rattle.jpg_cli.specs.declared.desk.image_source.ImageSource.{ImageSource}
+use Rattle.jpg_cli.specs.declared.desk.image_source.ImageStep.{ImageStep}
+use Rattle.jpg_cli.specs.declared.desk.image_source.ImageStep.TheVariants as step
 use Rattle.jpg_cli.proofs.CommentsCopied.{left_still, some_taken}
+use Rattle.jpg_cli.proofs.ImageFed.{fed_open, never_full}
 use Rattle.jpg_cli.proofs.Input.{none_left, noted}
 use Rattle.jpg_cli.proofs.PictureTaken.{none_taken, reads_from}
 
@@ -44,25 +42,25 @@ open_front bytes n le h m few =
     let k = h m (omega (arith, few, long, le)) in
     (λ fault s. k.0 fault (subst (ShowsImageFault fault) same s), λ image w. k.1 image (subst (λ x. IsWholeImage x image) same w))
 
-pub open_fed : (bytes : List ℕ) (r : PixelReader) → HasFedImage bytes r → length bytes < standard_limits.input → IsOpenImageRead bytes
-open_fed bytes r h short = record { short = short; stands = fed_open bytes r h }
+pub open_fed : (targa : Bool) (bytes : List ℕ) (r : ImageSource) → HasFed targa bytes r → length bytes < standard_limits.input → IsOpenImageRead targa bytes
+open_fed targa bytes r h short = record { short = short; stands = fed_open targa bytes r h }
 
 -- with one more piece
-pub short_more : (bytes piece : List ℕ) (r : PixelReader) → HasFedImage bytes r → length bytes < standard_limits.input → length piece ≤ 65536 → IsShortImageRead (bytes ++ piece)
-short_more bytes piece r h short few = record { front = bytes; piece = piece; cut = refl; few = few; before = open_fed bytes r h short }
+pub short_more : (targa : Bool) (bytes piece : List ℕ) (r : ImageSource) → HasFed targa bytes r → length bytes < standard_limits.input → length piece ≤ 65536 → IsShortImageRead targa (bytes ++ piece)
+short_more targa bytes piece r h short few = record { front = bytes; piece = piece; cut = refl; few = few; before = open_fed targa bytes r h short }
 
 -- with none
-pub short_end : (bytes : List ℕ) (r : PixelReader) → HasFedImage bytes r → length bytes < standard_limits.input → IsShortImageRead bytes
-short_end bytes r h short = record {
+pub short_end : (targa : Bool) (bytes : List ℕ) (r : ImageSource) → HasFed targa bytes r → length bytes < standard_limits.input → IsShortImageRead targa bytes
+short_end targa bytes r h short = record {
   front = bytes;
   piece = [];
   cut = sym (append-nil bytes);
   few = omega arith;
-  before = open_fed bytes r h short;
+  before = open_fed targa bytes r h short;
 }
 
 -- as many as may be taken
-short_full : (bytes : List ℕ) (r : PixelReader) → HasFedImage bytes r → length bytes ≡ standard_limits.input → IsShortImageRead bytes
+short_full : (bytes : List ℕ) (r : ImageSource) → HasFed false bytes r → length bytes ≡ standard_limits.input → IsShortImageRead false bytes
 short_full bytes r h full =
     let n : ℕ = 1099511627775 in
     let le : n ≤ length bytes = omega (arith, full) in
@@ -72,97 +70,73 @@ short_full bytes r h full =
       piece = drop n bytes;
       cut = sym (take-append-drop n bytes);
       few = (let d = length-drop n bytes in omega (arith, d, full));
-      before = record { short = omega (arith, long); stands = open_front bytes n le (fed_open bytes r h) };
+      before = record { short = omega (arith, long); stands = open_front bytes n le (fed_open false bytes r h) };
     }
 
-pub too_long : (bytes rest : List ℕ) (r : PixelReader) → HasFedImage bytes r → length bytes ≡ standard_limits.input → IsFaultRead (record { fault = InputTooLong; at = standard_limits.input }) rest bytes
-too_long bytes rest r h full =
+pub too_long : (targa : Bool) (bytes rest : List ℕ) (r : ImageSource) → HasFed targa bytes r → length bytes ≡ standard_limits.input → IsFaultRead targa (record { fault = InputTooLong; at = standard_limits.input }) rest bytes
+too_long true bytes rest r h full = absurd (never_full bytes r h full)
+too_long false bytes rest r h full =
     let front : take standard_limits.input (bytes ++ rest) ≡ bytes = ap (λ n. take n (bytes ++ rest)) (sym full) ∙ take-append_seam bytes rest in
     let longer : standard_limits.input ≤ length (bytes ++ rest) = (let l = length-append bytes rest in omega (arith, l, full)) in
     record {
-      is = inr (inl (refl, refl, longer, subst IsOpenImage (sym front) (fed_open bytes r h)));
+      is = inr (inl (refl, refl, longer, subst IsOpenImage (sym front) (fed_open false bytes r h)));
       read = short_full bytes r h full;
     }
 
 -- A PIECE
 
-after_piece : (start s1 : DeskState) (bytes piece : List ℕ) (answer : ImageStep) (r : PixelReader) → 0 < length piece → length (bytes ++ piece) ≤ standard_limits.input → Consumes start.left s1.left (bytes ++ piece) → AfterTakingImagePiece (bytes ++ piece) answer r → AfterNextImagePiece start bytes answer r s1
-after_piece start s1 bytes piece step.More r some most read h = (piece, some, h, read, most)
-after_piece start s1 bytes piece step.Whole r some most read h = ((bytes ++ piece, read, most, h.0 (rest_of s1.left)), h.1)
-after_piece start s1 bytes piece (step.Ended (why.Refused f)) r some most read h = (bytes ++ piece, read, most, h (rest_of s1.left))
-after_piece start s1 bytes piece (step.Ended why.NoMemory) r some most read h = (bytes ++ piece, read, most, h)
-after_piece start s1 bytes piece other r some most read h = absurd h
+after_piece : (targa : Bool) (start s1 : DeskState) (bytes piece : List ℕ) (answer : ImageStep) (r : ImageSource) → 0 < length piece → length (bytes ++ piece) ≤ standard_limits.input → Consumes start.left s1.left (bytes ++ piece) → AfterTakingImagePiece targa (bytes ++ piece) answer r → AfterNextImagePiece targa start bytes answer r s1
+after_piece targa start s1 bytes piece step.More r some most read h = (piece, some, h, read, most)
+after_piece targa start s1 bytes piece step.Whole r some most read h = ((bytes ++ piece, read, most, h.0 (rest_of s1.left)), h.1)
+after_piece targa start s1 bytes piece (step.Ended (why.Refused f)) r some most read h = (bytes ++ piece, read, most, h (rest_of s1.left))
+after_piece targa start s1 bytes piece (step.Ended why.NoMemory) r some most read h = (bytes ++ piece, read, most, h)
+after_piece targa start s1 bytes piece other r some most read h = absurd h
 
-pub piece_taken : (start s0 s1 : DeskState) (n : ℕ) (buf bytes : List ℕ) (answer : ImageStep) (r : PixelReader) → length (bytes ++ take n buf) ≤ standard_limits.input → Reads s0 (got.Bytes n) buf s1 → Consumes start.left s0.left bytes → AfterTakingImagePiece (bytes ++ take n buf) answer r
-    → AfterNextImagePiece start bytes answer r s1
-piece_taken start s0 s1 n buf bytes answer r most read had h =
-    after_piece start s1 bytes (take n buf) answer r (some_taken n buf read.after.0 read.after.1) most (Consumes-then start.left s0.left s1.left bytes (take n buf) had read.after.2) h
+pub piece_taken : (targa : Bool) (start s0 s1 : DeskState) (n : ℕ) (buf bytes : List ℕ) (answer : ImageStep) (r : ImageSource) → length (bytes ++ take n buf) ≤ standard_limits.input → Reads s0 (got.Bytes n) buf s1 → Consumes start.left s0.left bytes → AfterTakingImagePiece targa (bytes ++ take n buf) answer r
+    → AfterNextImagePiece targa start bytes answer r s1
+piece_taken targa start s0 s1 n buf bytes answer r most read had h =
+    after_piece targa start s1 bytes (take n buf) answer r (some_taken n buf read.after.0 read.after.1) most (Consumes-then start.left s0.left s1.left bytes (take n buf) had read.after.2) h
 
 -- AT THE END
 
-pub image_end : (start s0 s1 : DeskState) (bytes : List ℕ) (answer : ImageStep) (r : PixelReader) → length bytes < standard_limits.input → IsAtEnd s0.left → s1.left ≡ s0.left → Consumes start.left s0.left bytes → AfterImageEnd bytes answer r → AfterNextImagePiece start bytes answer r s1
-image_end start s0 s1 bytes step.Whole r short end left had h =
+pub image_end : (targa : Bool) (start s0 s1 : DeskState) (bytes : List ℕ) (answer : ImageStep) (r : ImageSource) → length bytes < standard_limits.input → IsAtEnd s0.left → s1.left ≡ s0.left → Consumes start.left s0.left bytes → AfterImageEnd targa bytes answer r → AfterNextImagePiece targa start bytes answer r s1
+image_end targa start s0 s1 bytes step.Whole r short end left had h =
     let none : rest_of s1.left ≡ [] = ap rest_of left ∙ none_left s0.left end in
-    ((bytes, left_still s0 s1 bytes start left had, omega (arith, short), subst (λ (rest : List ℕ). IsImageRead (image_read r) rest bytes) (sym none) h.0), h.1)
-image_end start s0 s1 bytes (step.Ended (why.Refused f)) r short end left had h =
+    ((bytes, left_still s0 s1 bytes start left had, omega (arith, short), subst (λ (rest : List ℕ). IsImageRead targa (source_read r) rest bytes) (sym none) h.0), h.1)
+image_end targa start s0 s1 bytes (step.Ended (why.Refused f)) r short end left had h =
     let none : rest_of s1.left ≡ [] = ap rest_of left ∙ none_left s0.left end in
-    (bytes, left_still s0 s1 bytes start left had, omega (arith, short), subst (λ (rest : List ℕ). IsFaultRead f rest bytes) (sym none) h)
-image_end start s0 s1 bytes (step.Ended why.NoMemory) r short end left had h = (bytes, left_still s0 s1 bytes start left had, omega (arith, short), h)
-image_end start s0 s1 bytes other r short end left had h = absurd h
+    (bytes, left_still s0 s1 bytes start left had, omega (arith, short), subst (λ (rest : List ℕ). IsFaultRead targa f rest bytes) (sym none) h)
+image_end targa start s0 s1 bytes (step.Ended why.NoMemory) r short end left had h = (bytes, left_still s0 s1 bytes start left had, omega (arith, short), h)
+image_end targa start s0 s1 bytes other r short end left had h = absurd h
 
 -- A READ that failed
-pub image_unread : (start s0 s1 : DeskState) (bytes : List ℕ) (r : PixelReader) → HasFedImage bytes r → length bytes < standard_limits.input → OnlyReads start s0 → Consumes start.left s0.left bytes → Rose s0.counts.reads s1.counts.reads → s1.left ≡ s0.left
-    → EndsEarly start (why.ReadFault which.Input) s1
-image_unread start s0 s1 bytes r h short still had rose left = (
-  (bytes, left_still s0 s1 bytes start left had, omega (arith, short), open_fed bytes r h short),
+pub image_unread : (targa : Bool) (start s0 s1 : DeskState) (bytes : List ℕ) (r : ImageSource) → HasFed targa bytes r → length bytes < standard_limits.input → OnlyReads start s0 → Consumes start.left s0.left bytes → Rose s0.counts.reads s1.counts.reads → s1.left ≡ s0.left
+    → EndsEarly targa start (why.ReadFault which.Input) s1
+image_unread targa start s0 s1 bytes r h short still had rose left = (
+  (bytes, left_still s0 s1 bytes start left had, omega (arith, short), open_fed targa bytes r h short),
   (let f = still.copies.works.stays.counts.reads in omega (arith, rose, f)),
 )
 
 -- MORE than may be taken
-pub image_too_long : (start s0 : DeskState) (bytes : List ℕ) (r : PixelReader) → HasFedImage bytes r → length bytes ≡ standard_limits.input → Consumes start.left s0.left bytes → EndsEarly start (why.Refused (record { fault = InputTooLong; at = standard_limits.input })) s0
-image_too_long start s0 bytes r h full had = (bytes, had, omega (arith, full), too_long bytes (rest_of s0.left) r h full)
+pub image_too_long : (targa : Bool) (start s0 : DeskState) (bytes : List ℕ) (r : ImageSource) → HasFed targa bytes r → length bytes ≡ standard_limits.input → Consumes start.left s0.left bytes → EndsEarly targa start (why.Refused (record { fault = InputTooLong; at = standard_limits.input })) s0
+image_too_long targa start s0 bytes r h full had = (bytes, had, omega (arith, full), too_long targa bytes (rest_of s0.left) r h full)
 
 -- THE IMAGE of the reader
-pub image_taken : (s0 s1 : DeskState) (r : PixelReader) (i : Read) → image_told i ≡ image_read r → HoldsImage s0 r s1 → EndsImageReading s0 (Ok i) s1
-image_taken s0 s1 r i e h =
-    subst (λ (I : Image). TakesPieces (IsImageRead I (rest_of s1.left)) s0 s1 × IsRightImage I) (sym e) h
+pub image_taken : (targa : Bool) (s0 s1 : DeskState) (r : ImageSource) (i : Read) → image_told i ≡ source_read r → HoldsImage targa s0 r s1 → EndsImageReading targa s0 (Ok i) s1
+image_taken targa s0 s1 r i e h =
+    subst (λ (I : Image). TakesPieces (IsImageRead targa I (rest_of s1.left)) s0 s1 × IsRightImage I) (sym e) h
 
-pub goes_on_end : (answer : ImageStep) (r : PixelReader) (now : DeskState) → EndDone answer r → ImageGoesOn answer r now
+pub goes_on_end : (answer : ImageStep) (r : ImageSource) (now : DeskState) → EndDone answer r → ImageGoesOn answer r now
 goes_on_end step.More r now h = absurd h
 goes_on_end step.Whole r now h = h
 goes_on_end (step.Ended ended) r now h = tt
 
 -- FROM THE NAME
 
-pub image_read_from : (s0 s1 s2 : DeskState) (file : Name) (answer : Result Read Why) → Opens s0 file put.Done s1 → OnlyReads s1 s2 → EndsImageReading s1 answer s2 → ImageRead file s0 answer s2
-image_read_from s0 s1 s2 file (Ok i) h k e = (noted s0 s1 s2 file h k, reads_from s0 s1 s2 file (IsImageRead (image_told i) (rest_of s2.left)) h e.0)
-image_read_from s0 s1 s2 file (Err ended) h k e = none_taken Image image_judging s0 s1 s2 file ended h k e
+pub image_read_from : (targa : Bool) (s0 s1 s2 : DeskState) (file : Name) (answer : Result Read Why) → Opens s0 file put.Done s1 → OnlyReads s1 s2 → EndsImageReading targa s1 answer s2 → ImageRead targa file s0 answer s2
+image_read_from targa s0 s1 s2 file (Ok i) h k e = (noted s0 s1 s2 file h k, reads_from s0 s1 s2 file (IsImageRead targa (image_told i) (rest_of s2.left)) h e.0)
+image_read_from targa s0 s1 s2 file (Err ended) h k e = none_taken Image (image_judging targa) s0 s1 s2 file ended h k e
 
-pub right_of : (s0 s1 : DeskState) (answer : Result Read Why) → EndsImageReading s0 answer s1 → IfOk answer (λ i. IsRightImage (image_told i))
-right_of s0 s1 (Ok i) h = h.1
-right_of s0 s1 (Err ended) h = tt
-
--- THE RESULT OF A PIECE that was fed
-
-pub whole_shown : (bytes piece : List ℕ) (old : PixelReader) (image : Image) → HasFedImage bytes old → length bytes < standard_limits.input → length piece ≤ 65536 → length (bytes ++ piece) ≤ standard_limits.input → AreBytes (bytes ++ piece)
-    → ((limits : Limits) (rest : List ℕ) → length (bytes ++ piece) ≤ limits.input → IsImage limits ((bytes ++ piece) ++ rest) image) → ((rest : List ℕ) → IsImageRead image rest (bytes ++ piece)) × IsRightImage image
-whole_shown bytes piece old image h short few most small is = (
-  (λ rest. record { is = is standard_limits rest most; read = short_more bytes piece old h short few }),
-  image_right standard_limits ((bytes ++ piece) ++ []) image (is standard_limits [] most) (subst AreBytes (sym (append-nil (bytes ++ piece))) small),
-)
-
-pub fault_shown : (bytes piece : List ℕ) (old : PixelReader) (f : FaultAt) → HasFedImage bytes old → length bytes < standard_limits.input → length piece ≤ 65536 → length (bytes ++ piece) ≤ standard_limits.input
-    → ((limits : Limits) (rest : List ℕ) → length (bytes ++ piece) ≤ limits.input → IsImageFault limits ((bytes ++ piece) ++ rest) f.fault f.at) → (rest : List ℕ) → IsFaultRead f rest (bytes ++ piece)
-fault_shown bytes piece old f h short few most is = λ rest. record { is = is standard_limits rest most; read = short_more bytes piece old h short few }
-
--- and of bytes where the input ends
-
-pub whole_ended : (bytes : List ℕ) (old : PixelReader) (image : Image) → HasFedImage bytes old → length bytes < standard_limits.input → ((limits : Limits) → length bytes < limits.input → IsImage limits bytes image) → IsImageRead image [] bytes × IsRightImage image
-whole_ended bytes old image h short is = (
-  record { is = subst (λ (b : List ℕ). IsImage standard_limits b image) (sym (append-nil bytes)) (is standard_limits short); read = short_end bytes old h short },
-  image_right standard_limits bytes image (is standard_limits short) h.2,
-)
-
-pub fault_ended : (bytes : List ℕ) (old : PixelReader) (f : FaultAt) → HasFedImage bytes old → length bytes < standard_limits.input → ((limits : Limits) → length bytes < limits.input → IsImageFault limits bytes f.fault f.at) → IsFaultRead f [] bytes
-fault_ended bytes old f h short is =
-    record { is = subst (λ (b : List ℕ). IsImageFault standard_limits b f.fault f.at) (sym (append-nil bytes)) (is standard_limits short); read = short_end bytes old h short }
+pub right_of : (targa : Bool) (s0 s1 : DeskState) (answer : Result Read Why) → EndsImageReading targa s0 answer s1 → IfOk answer (λ i. IsRightImage (image_told i))
+right_of targa s0 s1 (Ok i) h = h.1
+right_of targa s0 s1 (Err ended) h = tt

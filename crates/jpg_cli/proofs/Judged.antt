@@ -1,6 +1,6 @@
 -- What is judged of an input is one: it has one value, or one fault; and what was judged of the bytes that were read
 -- holds of the file.
-use Rattle.std.proofs.Common.{◌≡◌, ℕ, List, ◌++◌, take, drop, Option, None, Some, refl, sym, ap, ◌∙◌, subst, arith, inl, inr}
+use Rattle.std.proofs.Common.{◌≡◌, ℕ, Bool, true, false, List, ◌++◌, take, drop, Option, None, Some, refl, sym, ap, ◌∙◌, subst, arith, inl, inr}
 use Rattle.std.proofs.lemmas.List.{append-nil, append_assoc, take-append-drop}
 use Rattle.jpg_base.specs.Desk.{DeskState}
 use Rattle.jpg_spec.specs.Early.{IsMeaning, MeansAs}
@@ -11,10 +11,11 @@ use Rattle.jpg_spec.specs.declared.fault.FaultAt.{FaultAt}
 use Rattle.jpg_spec.proofs.EarlyOnce.{meaning_once, means_not_early}
 use Rattle.jpg_spec.proofs.FileLaws.{early_no_fault, means_more, means_no_fault}
 use Rattle.jpg_spec_image.specs.Images.{Image as Picture}
-use Rattle.jpg_spec_image.specs.ImageFaults.{IsImageFault}
 use Rattle.jpg_spec_image.proofs.OneImage.{never_both, one_fault, one_image}
+use Rattle.jpg_spec_image.proofs.OneTarga.{never_both as never_both_targa, one_fault as one_targa_fault, one_image as one_targa_image}
 use Rattle.jpg_spec_image.proofs.OneReason.{one_reason}
 use Rattle.jpg_spec_image.proofs.ShownAlike.{shown_alike}
+use Rattle.jpg_cli.specs.Desk.ImageFile.{HasFaultIn, HasImageIn}
 use Rattle.jpg_cli.specs.Desk.Judging.{IsAllRead, Judging}
 use Rattle.jpg_cli.specs.Desk.ReadImage.{has_image, image_judging, means_image}
 use Rattle.jpg_cli.specs.Desk.ReadPicture.{IsReadPicture, IsRefused, IsRefusedFor, IsUnwanted, picture_judging, unwanted_for}
@@ -92,35 +93,41 @@ picture_judged w = record {
   never_both = λ bytes early M f h k. none_refused_for w bytes M f (meaning_of_as early bytes M h.0) h.1 k;
 }
 
--- AN IMAGE
+-- AN IMAGE, by the format of its file
 
-image_read : (I : Picture) (early : Option ℕ) (bytes rest : List ℕ) → has_image I early rest bytes → means_image early I (bytes ++ rest)
-image_read I None bytes rest h = h.is
-image_read I (Some n) bytes rest h = absurd h
+one_in : (targa : Bool) (bytes : List ℕ) (I J : Picture) → HasImageIn targa bytes I → HasImageIn targa bytes J → I ≡ J
+one_in false bytes I J h k = one_image standard_limits bytes I J h k
+one_in true bytes I J h k = one_targa_image bytes I J h k
 
-image_once : (bytes : List ℕ) (early other : Option ℕ) (I J : Picture) → means_image early I bytes → means_image other J bytes → J ≡ I
-image_once bytes None None I J h k = one_image standard_limits bytes J I k h
-image_once bytes None (Some m) I J h k = absurd k
-image_once bytes (Some n) other I J h k = absurd h
+image_read : (targa : Bool) (I : Picture) (early : Option ℕ) (bytes rest : List ℕ) → has_image targa I early rest bytes → means_image targa early I (bytes ++ rest)
+image_read targa I None bytes rest h = h.is
+image_read targa I (Some n) bytes rest h = absurd h
 
-image_end : (bytes : List ℕ) (early other : Option ℕ) (I J : Picture) → means_image early I bytes → means_image other J bytes → other ≡ early
-image_end bytes None None I J h k = refl
-image_end bytes None (Some m) I J h k = absurd k
-image_end bytes (Some n) other I J h k = absurd h
+image_once : (targa : Bool) (bytes : List ℕ) (early other : Option ℕ) (I J : Picture) → means_image targa early I bytes → means_image targa other J bytes → J ≡ I
+image_once targa bytes None None I J h k = one_in targa bytes J I k h
+image_once targa bytes None (Some m) I J h k = absurd k
+image_once targa bytes (Some n) other I J h k = absurd h
 
-image_fault : (bytes : List ℕ) (f g : FaultAt) → IsImageFault standard_limits bytes f.fault f.at → IsImageFault standard_limits bytes g.fault g.at → g ≡ f
-image_fault bytes f g h k = let one = one_fault standard_limits bytes g.fault f.fault g.at f.at k h in same_refusal g f one.0 one.1
+image_end : (targa : Bool) (bytes : List ℕ) (early other : Option ℕ) (I J : Picture) → means_image targa early I bytes → means_image targa other J bytes → other ≡ early
+image_end targa bytes None None I J h k = refl
+image_end targa bytes None (Some m) I J h k = absurd k
+image_end targa bytes (Some n) other I J h k = absurd h
 
-image_never : (bytes : List ℕ) (early : Option ℕ) (I : Picture) (f : FaultAt) → means_image early I bytes → IsImageFault standard_limits bytes f.fault f.at → ⊥
-image_never bytes None I f h k = never_both standard_limits bytes I f.fault f.at h k
-image_never bytes (Some n) I f h k = absurd h
+image_fault : (targa : Bool) (bytes : List ℕ) (f g : FaultAt) → HasFaultIn targa bytes f → HasFaultIn targa bytes g → g ≡ f
+image_fault false bytes f g h k = let one = one_fault standard_limits bytes g.fault f.fault g.at f.at k h in same_refusal g f one.0 one.1
+image_fault true bytes f g h k = let one = one_targa_fault bytes g.fault f.fault g.at f.at k h in same_refusal g f one.0 one.1
 
-pub image_judged : IsJudged Picture image_judging
-image_judged = record {
-  read = λ I early bytes now h all. image_read I early bytes (rest_of now.left) h;
+image_never : (targa : Bool) (bytes : List ℕ) (early : Option ℕ) (I : Picture) (f : FaultAt) → means_image targa early I bytes → HasFaultIn targa bytes f → ⊥
+image_never false bytes None I f h k = never_both standard_limits bytes I f.fault f.at h k
+image_never true bytes None I f h k = never_both_targa bytes I f.fault f.at h k
+image_never targa bytes (Some n) I f h k = absurd h
+
+pub image_judged : (targa : Bool) → IsJudged Picture (image_judging targa)
+image_judged targa = record {
+  read = λ I early bytes now h all. image_read targa I early bytes (rest_of now.left) h;
   refused = λ f rest bytes h. h.is;
-  value_once = image_once;
-  early_once = image_end;
-  fault_once = image_fault;
-  never_both = image_never;
+  value_once = image_once targa;
+  early_once = image_end targa;
+  fault_once = image_fault targa;
+  never_both = image_never targa;
 }

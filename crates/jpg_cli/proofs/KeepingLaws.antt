@@ -7,7 +7,9 @@ use Rattle.jpg_spec.specs.Jfif.{jfif_of}
 use Rattle.jpg_spec.specs.Lists.{below}
 use Rattle.jpg_spec.specs.Markers.{Segment}
 use Rattle.jpg_spec.specs.Meaning.{Meaning, colour_of, component_of, most_across, most_down}
-use Rattle.jpg_spec_move.specs.Moved.{Choice, gray_fault, grayed, headed_as, is_gray_or_ycbcr, moved, moved_script_fault, moved_text, picture_fault, trimmed}
+use Rattle.jpg_spec_move.specs.Cropped.{crop_fault, cropped_by}
+use Rattle.jpg_spec_move.specs.declared.area.Area.{Area}
+use Rattle.jpg_spec_move.specs.Moved.{Choice, gray_fault, grayed, headed_as, is_gray_or_ycbcr, moved, moved_script_fault, moved_text, picture_fault, trimmed, uncropped}
 use Rattle.jpg_spec_write.specs.ScansAsked.{asks_progressive, process_due, script_due}
 use Rattle.jpg_spec_write.specs.Headed.{copied, headed_kept}
 use Rattle.jpg_spec_image.specs.Pixels.{info, metre, out_fault, out_fault_of, pixels, shown_row, shows_gray}
@@ -43,14 +45,21 @@ trimmed_with : (trim : Bool) (t : Transform) (kept : List Segment) (M : Meaning)
 trimmed_with false t kept M = refl
 trimmed_with true t kept M = refl
 
-abbrev unheaded : Choice → Meaning → Meaning
-unheaded choice M = trimmed choice.trim choice.transform (transformed choice.transform (grayed choice.gray M))
-
-unheaded_with : (choice : Choice) (kept : List Segment) (M : Meaning) → unheaded choice (with_kept kept M) ≡ with_kept kept (unheaded choice M)
-unheaded_with choice kept M =
+uncropped_with : (choice : Choice) (kept : List Segment) (M : Meaning) → uncropped choice (with_kept kept M) ≡ with_kept kept (uncropped choice M)
+uncropped_with choice kept M =
     let t = choice.transform in
     ap (λ (N : Meaning). trimmed choice.trim t (transformed t N)) (grayed_with choice.gray kept M)
     ∙ ap (trimmed choice.trim t) (transformed_with t kept (grayed choice.gray M)) ∙ trimmed_with choice.trim t kept (transformed t (grayed choice.gray M))
+
+cropped_with : (crop : Option Area) (kept : List Segment) (M : Meaning) → cropped_by crop (with_kept kept M) ≡ with_kept kept (cropped_by crop M)
+cropped_with None kept M = refl
+cropped_with (Some area) kept M = refl
+
+abbrev unheaded : Choice → Meaning → Meaning
+unheaded choice M = cropped_by choice.crop (uncropped choice M)
+
+unheaded_with : (choice : Choice) (kept : List Segment) (M : Meaning) → unheaded choice (with_kept kept M) ≡ with_kept kept (unheaded choice M)
+unheaded_with choice kept M = ap (cropped_by choice.crop) (uncropped_with choice kept M) ∙ cropped_with choice.crop kept (uncropped choice M)
 
 kept_stays : (choice : Choice) (M : Meaning) → (unheaded choice M).kept ≡ M.kept
 kept_stays choice M = ap (λ (N : Meaning). N.kept) (unheaded_with choice M.kept M)
@@ -84,10 +93,22 @@ gray_same : (gray : Bool) (keeping : Copying) (M : Meaning) → gray_fault gray 
 gray_same gray keeping M =
     ap (λ (k : Colour). cond (gray && not (is_gray_or_ycbcr k)) (Some GrayColour) (cond (gray && not ((component_of M 0).h == most_across M && (component_of M 0).v == most_down M)) (Some GrayFactors) None)) (colour_same keeping M)
 
+crop_same : (crop : Option Area) (kept : List Segment) (M : Meaning) → crop_fault crop (with_kept kept M) ≡ crop_fault crop M
+crop_same None kept M = refl
+crop_same (Some area) kept M = refl
+
+area_same : (choice : Choice) (M : Meaning) → crop_fault choice.crop (uncropped choice (kept_for choice.copying M)) ≡ crop_fault choice.crop (uncropped choice M)
+area_same choice M =
+    let kept = filter (is_wanted choice.copying) M.kept in
+    ap (crop_fault choice.crop) (uncropped_with choice kept M) ∙ crop_same choice.crop kept (uncropped choice M)
+
 pub fault_same : (choice : Choice) (M : Meaning) → picture_fault choice (kept_for choice.copying M) ≡ picture_fault choice M
 fault_same choice M =
-    ap (λ (o : Option PictureFault). first_some o (moved_script_fault choice (kept_for choice.copying M))) (gray_same choice.gray choice.copying M)
-    ∙ ap (λ (N : Meaning). first_some (gray_fault choice.gray M) (script_fault (frame_of_meaning N) (script_due choice.scans (frame_of_meaning N) (colour_of N)))) (moved_same choice M)
+    let N = kept_for choice.copying M in
+    let gray = gray_fault choice.gray M in
+    ap (λ (o : Option PictureFault). first_some o (first_some (moved_script_fault choice N) (crop_fault choice.crop (uncropped choice N)))) (gray_same choice.gray choice.copying M)
+    ∙ ap (λ (o : Option PictureFault). first_some gray (first_some (moved_script_fault choice N) o)) (area_same choice M)
+    ∙ ap (λ (H : Meaning). first_some gray (first_some (script_fault (frame_of_meaning H) (script_due choice.scans (frame_of_meaning H) (colour_of H))) (crop_fault choice.crop (uncropped choice M)))) (moved_same choice M)
 
 -- DISPLAYED
 

@@ -19,7 +19,9 @@ pub mod FirstShown
 pub mod FirstSteps
 pub mod FoundEnds
 pub mod HeadTaken
+pub mod ImageAnswers
 pub mod ImageEncoded
+pub mod ImageFed
 pub mod ImageShown
 pub mod ImageStopped
 pub mod ImageTaken
@@ -29,6 +31,7 @@ pub mod InsertedThen
 pub mod Judged
 pub mod KeepingLaws
 pub mod Matching
+pub mod MovedWritten
 pub mod Names
 pub mod NamesBefore
 pub mod Naming

@@ -1,12 +1,12 @@
 -- The text of the decoded MCU rows is a first part of the text of the complete file, and the image of all of them is
 -- its image.
-use Rattle.std.proofs.Common.{◌≡◌, ℕ, ◌+◌, ◌≤◌, Bool, List, ◌++◌, length, take, drop, refl, sym, ap, ◌∙◌, subst, arith, Option, Some, None}
+use Rattle.std.proofs.Common.{◌≡◌, ℕ, ◌+◌, ◌≤◌, Bool, true, false, List, ◌++◌, length, take, drop, refl, sym, ap, ◌∙◌, subst, arith, Option, Some, None}
 use Rattle.std.proofs.lemmas.List.{length-append, take-append-drop}
 use Rattle.jpg_spec.specs.UnfinishedFile.{IsWholeFile}
 use Rattle.jpg_spec_image.specs.ImageText.{end_text}
 use Rattle.jpg_spec.specs.Meaning.{Meaning}
 use Rattle.jpg_spec_image.specs.Pixels.{info, out_fault, pixels}
-use Rattle.jpg_spec_image.specs.RowLaws.{CompletesAll, GoesOnFrom, TellsTwice}
+use Rattle.jpg_spec_image.specs.RowLaws.{CompletesAll, GoesOnFrom, TellsTwice, is_by_rows}
 use Rattle.jpg_spec.specs.RowLaws.{IsReadByRows}
 use Rattle.jpg_spec.specs.RowsTold.{BeginsScanOfAll, TellsRows, picture_so_far}
 use Rattle.jpg_spec_image.specs.RowsShown.{rows_text}
@@ -15,12 +15,12 @@ use Rattle.jpg_spec.specs.Segments.{standard_limits}
 use Rattle.jpg_spec_image.specs.Strips.{mcu_rows}
 use Rattle.jpg_spec.specs.declared.fault.Fault.{Fault}
 use Rattle.jpg_spec_image.specs.declared.image.EndKind.{EndKind}
-use Rattle.jpg_spec_image.specs.declared.image.EndKind.TheVariants.{Bmp, Pnm}
+use Rattle.jpg_spec_image.specs.declared.image.EndKind.TheVariants.{Bmp, Pnm, Targa}
 use Rattle.jpg_spec_image.proofs.RowsAlike.{so_far_alike}
 use Rattle.jpg_spec_image.proofs.RowsCompleted.{complete_all}
 use Rattle.jpg_spec_image.proofs.RowsHeader.{begun_rows}
 use Rattle.jpg_spec.proofs.RowsHeader.{rows_few}
-use Rattle.jpg_spec_image.proofs.RowsImage.{image_of_all, nothing_sent}
+use Rattle.jpg_spec_image.proofs.RowsImage.{image_of_all, late_rows}
 use Rattle.jpg_spec.proofs.RowsOnce.{rows_stay}
 use Rattle.jpg_spec_image.proofs.RowsText.{texts_go_on}
 use Rattle.jpg_spec.proofs.WrittenFront.{standard_are_limits}
@@ -95,21 +95,27 @@ fits_file s h all front rest m blocks M head told cut whole = by s.kind
     few : m ≤ mcu_rows M
     few = subst (λ n. m ≤ n) (ap mcu_rows k.same) (few_told h all m blocks k.blocks head.begins told)
 
-    pnm : length (rows_text Pnm (so_far h blocks) s.gray s.smooth m) ≤ length (end_text Pnm (info M s.gray) (pixels M s.gray s.smooth))
-    pnm =
-        let text = rows_text Pnm (so_far h blocks) s.gray s.smooth m in
-        let more = rows_text Pnm (so_far h k.blocks) s.gray s.smooth (mcu_rows M) in
-        let on = goes_on s.gray s.smooth Pnm h all m (mcu_rows M) blocks k.blocks head few told there in
+    Fits : EndKind → Type 0
+    Fits kind = length (rows_text kind (so_far h blocks) s.gray s.smooth m) ≤ length (end_text kind (info M s.gray) (pixels M s.gray s.smooth))
+
+    by_rows : (kind : EndKind) → is_by_rows kind ≡ true → Fits kind
+    by_rows kind rows =
+        let text = rows_text kind (so_far h blocks) s.gray s.smooth m in
+        let more = rows_text kind (so_far h k.blocks) s.gray s.smooth (mcu_rows M) in
+        let on = goes_on s.gray s.smooth kind h all m (mcu_rows M) blocks k.blocks head few told there in
         let longer : length more ≡ length text + length on.0 = ap length on.1 ∙ length-append text on.0 in
-        let same : length more ≡ length (end_text Pnm (info M s.gray) (pixels M s.gray s.smooth)) = ap length (image_of_all standard_limits front M w s.gray s.smooth k.blocks k.completed) in
+        let same : length more ≡ length (end_text kind (info M s.gray) (pixels M s.gray s.smooth)) = ap length (image_of_all standard_limits front M w kind s.gray s.smooth k.blocks rows k.completed) in
         omega (arith, longer, same)
 
-    bmp : length (rows_text Bmp (so_far h blocks) s.gray s.smooth m) ≤ length (end_text Bmp (info M s.gray) (pixels M s.gray s.smooth))
-    bmp = let none : length (rows_text Bmp (so_far h blocks) s.gray s.smooth m) ≡ 0 = ap length (nothing_sent (so_far h blocks) s.gray s.smooth m) in omega (arith, none)
+    late : (kind : EndKind) → is_by_rows kind ≡ false → Fits kind
+    late kind rows =
+        let none : length (rows_text kind (so_far h blocks) s.gray s.smooth m) ≡ 0 = ap length (late_rows (so_far h blocks) kind s.gray s.smooth m rows) in
+        omega (arith, none)
 
-    by : (kind : EndKind) → length (rows_text kind (so_far h blocks) s.gray s.smooth m) ≤ length (end_text kind (info M s.gray) (pixels M s.gray s.smooth))
-    by Pnm = pnm
-    by Bmp = bmp
+    by : (kind : EndKind) → Fits kind
+    by Pnm = by_rows Pnm refl
+    by Bmp = late Bmp refl
+    by Targa = by_rows Targa refl
 
 pub fits_whole : (s : Showing) (h : Head) (all : List ℕ) (m : ℕ) (blocks : Blocks) → IsHeadIn s.gray h all → TellsRows standard_limits all m blocks → FitsWhole s all (rows_text s.kind (so_far h blocks) s.gray s.smooth m)
 fits_whole s h all m blocks head told M read =

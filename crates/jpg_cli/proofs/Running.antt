@@ -1,23 +1,14 @@
 -- Transforming a picture: reading it, and then writing it.
-use Rattle.std.proofs.Common.{◌≡◌, ◌⊎◌, ℕ, ◌<◌, Bool, true, false, List, [], ◌∷◌, take, Option, Err, Some, None, refl, sym, ap, ◌∙◌, subst, arith, zero, suc, inl, inr}
+use Rattle.std.proofs.Common.{◌≡◌, ◌⊎◌, ℕ, ◌<◌, Bool, true, false, List, [], ◌∷◌, take, Option, Err, Some, None, refl, sym, subst, arith, zero, suc, inl, inr}
 use Rattle.std.specs.List.{All}
 use Rattle.jpg_base.specs.declared.names.Name.{Name}
 use Rattle.jpg_base.specs.Desk.{DeskState}
-use Rattle.jpg_spec_move.specs.Laws.{IsMovable}
 use Rattle.jpg_spec.specs.Meaning.{Meaning}
 use Rattle.jpg_spec_move.specs.Moved.{Choice, moved_text, picture_fault}
 use Rattle.jpg_spec_write.specs.ScansAsked.{Scans}
 use Rattle.jpg_spec_words.specs.TransformWords.{TransformAsked, choice_asked}
-use Rattle.jpg_spec_write.specs.WrittenFile.{IsRestart}
-use Rattle.jpg_spec.specs.Segments.{standard_limits}
 use Rattle.jpg_spec_words.specs.declared.answers.Why.{Why}
 use Rattle.jpg_spec_words.specs.declared.answers.Why.TheVariants as why
-use Rattle.jpg_spec_move.proofs.MeaningLeft.{read_moved}
-use Rattle.jpg_spec_move.proofs.MovedText.{moved_means}
-use Rattle.jpg_spec.proofs.WrittenFront.{standard_are_limits}
-use Rattle.jpg_file.specs.Read.Keeping.{kept_for}
-use Rattle.jpg_cli.proofs.KeepingLaws.{fault_same, text_same}
-use Rattle.jpg_transform.proofs.MovedScript.{gray_none, script_none}
 use Rattle.jpg_cli.specs.Endings.{GoesOnAfter}
 use Rattle.jpg_cli.specs.declared.desk.picture.Wanted.TheVariants.{Coefficients}
 use Rattle.jpg_cli.specs.Desk.ReadPicture.{IsReadPicture}
@@ -34,8 +25,8 @@ use Rattle.jpg_cli.specs.Desk.ScriptTaken.{HasScans, StopsAtScans, names_before}
 use Rattle.jpg_cli.specs.Words.TransformWords.{script_told, transform_told}
 use Rattle.jpg_cli.specs.Outcome.{Converted}
 use Rattle.jpg_cli.specs.Tools.Turned.{Transformed, Turned, Turning, turning_conversion}
-use Rattle.jpg_cli.specs.declared.words.jpegtran.TransformWords.{TransformWords}
-use Rattle.jpg_cli.specs.Desk.Writing.{AfterMade, AfterMoved, AfterOutput, IsMeant, MeansMoved, as_early, why_wrote}
+use Rattle.jpg_cli.specs.declared.words.jpegtran_request.TransformWords.{TransformWords}
+use Rattle.jpg_cli.specs.Desk.Writing.{AfterMade, AfterMoved, IsMeant, MeansMoved, as_early, why_wrote}
 use Rattle.jpg_cli.specs.declared.desk.moved.Wrote.{Wrote}
 use Rattle.jpg_cli.specs.declared.desk.moved.Wrote.TheVariants as wrote
 use Rattle.jpg_cli.proofs.CommentInserted.{none_noted}
@@ -54,31 +45,6 @@ front_small (x ∷ xs) (suc n) h (suc k) d l = front_small xs n (λ i e m. h (su
 meant : (M : Meaning) (early : Option ℕ) (bytes : List ℕ) → IsReadPicture Coefficients M early bytes → IsMeant M
 meant M None bytes h = (take h.count bytes, front_small bytes h.count h.small, inl h.whole.0)
 meant M (Some n) bytes h = (bytes, h.small, inr h.early)
-
-movable : (M : Meaning) (c : Choice) → IsMeant M → picture_fault c M ≡ None → IsMovable c M
-movable M c (bytes, small, means) none = record { limits = standard_limits; bytes = bytes; limited = standard_are_limits; are_bytes = small; means = means; admitted = gray_none c M none }
-
--- the picture that was read, with the markers that are passed on
-no_fault : (c : Choice) (N M : Meaning) → N ≡ kept_for c.copying M → picture_fault c N ≡ None → picture_fault c M ≡ None
-no_fault c N M shows none = sym (fault_same c M) ∙ ap (picture_fault c) (sym shows) ∙ none
-
-pub moved_for : (c : Choice) (N M : Meaning) → N ≡ kept_for c.copying M → IsRestart c.restart → picture_fault c N ≡ None → IsMeant M → MeansMoved c M
-moved_for c N M shows small none meant =
-    let fine = no_fault c N M shows none in
-    let m = movable M c meant fine in
-    moved_means c M (read_moved m.limits m.bytes M c m.limited m.are_bytes m.means m.admitted) (script_none c M fine) small
-
-pub wrote_for : (c : Choice) (N M : Meaning) (output : Name) (s0 s1 : DeskState) (w : Wrote) → N ≡ kept_for c.copying M → picture_fault c N ≡ None → AfterOutput output s0 (moved_text c N) w s1 → (IsMeant M → MeansMoved c M) → AfterMoved c M output s0 w s1
-wrote_for c N M output s0 s1 w shows none h means = by w (subst (λ (due : List ℕ). AfterOutput output s0 due w s1) (ap (moved_text c) shows ∙ text_same c M) h)
-  where
-    fine : picture_fault c M ≡ None
-    fine = no_fault c N M shows none
-
-    by : (v : Wrote) → AfterOutput output s0 (moved_text c M) v s1 → AfterMoved c M output s0 v s1
-    by wrote.Done k = (fine, k, means)
-    by (wrote.Picture fault) k = absurd k
-    by wrote.OpenFault k = (fine, k)
-    by wrote.WriteFault k = (fine, k)
 
 -- A PICTURE that was read, written
 

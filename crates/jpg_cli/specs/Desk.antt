@@ -1,5 +1,8 @@
 pub mod CommentTaken
 pub mod FileTaken
+pub mod ImageFile
+pub mod ImageLoop
+pub mod ImageSource
 pub mod ImageWritten
 pub mod Judging
 pub mod ReadImage

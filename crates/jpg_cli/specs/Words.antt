@@ -1,3 +1,4 @@
+pub mod Areas
 pub mod CommentWords
 pub mod EncodeWords
 pub mod Files

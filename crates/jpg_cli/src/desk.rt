@@ -3,6 +3,7 @@
 pub mod comment;
 pub mod file;
 pub mod image;
+pub mod image_source;
 pub mod moved;
 pub mod picture;
 pub mod script;

@@ -42,10 +42,10 @@ pub fn pictures_are_turned()
     ensures read { (asked : TransformAsked) (old : DeskState) → HasFile asked old → WhateverRose (Transformed asked) old IsNotRefused }
 {}
 
-/// A transform and then its inverse, without trimming and conversion to grayscale, restore a picture: if the input's
-/// picture is a transform of another one, and a run that asks for the inverse ends with Done or Warned, the output
-/// means a picture with the other's sides, identifiers, factors, quantisation tables and blocks, in whatever scans both
-/// are written and whatever is passed on.
+/// A transform and then its inverse, without trimming, conversion to grayscale and cropping, restore a picture: if the
+/// input's picture is a transform of another one, and a run that asks for the inverse ends with Done or Warned, the
+/// output means a picture with the other's sides, identifiers, factors, quantisation tables and blocks, in whatever
+/// scans both are written and whatever is passed on.
 pub fn pictures_are_turned_back()
     ensures { (t : Transform) (M : Meaning) (run : WasTurnedBack t M) → MeanSame (text_back run) M }
 {}

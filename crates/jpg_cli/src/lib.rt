@@ -17,11 +17,12 @@ pub use laws::{
     printed_comments_are_due, shown_answers_are_due, unwanted_markers_are_not_missed,
     whole_files_have_their_comments_printed,
 };
-pub use program::run_program;
+pub use program::{add_end, run_program};
 pub use top::{Ended, run};
 pub use words::cjpeg_request::EncodeWords;
 pub use words::comments::{CommentFrom, WriteWords};
 pub use words::djpeg::ShowWords;
 pub use words::files::{Files, WordsStop};
-pub use words::jpegtran::{ScriptFrom, TransformWords};
+pub use words::jpegtran::ScriptFrom;
+pub use words::jpegtran_request::TransformWords;
 pub use words::{Asked, read_words};

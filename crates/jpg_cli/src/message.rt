@@ -124,7 +124,10 @@ fn add_numbers(message: &mut Message, fault: PictureFault)
     ensures room { array_vec_len message.new ≤ 122 }
 {
     match fault {
-        PictureFault::GrayColour | PictureFault::GrayFactors | PictureFault::TooManyBlocks => {}
+        PictureFault::GrayColour
+        | PictureFault::GrayFactors
+        | PictureFault::TooManyBlocks
+        | PictureFault::CropOutside => {}
         PictureFault::FractionalFactors { component } => then_number(message, component),
         PictureFault::ScriptComponent { entry }
         | PictureFault::ScriptMcu { entry }

@@ -1,7 +1,12 @@
 //! The program: its words, real files and the standard streams, and its exit status.
+ghost use Rattle.std.specs.Prelude.{◌≡◌, OnOk, map};
+ghost use Rattle.jpg_pnm_bmp.specs.EndState.{new_end};
+ghost use Rattle.jpg_cli.specs.Tools.Ends.{AreNewEnds};
+
 use crate::top::run;
-use jpg_base::StdDesk;
+use jpg_base::{NoMemory, StdDesk};
 use jpg_pnm_bmp::{BmpEnd, ImageEnd, PnmEnd};
+use jpg_targa::TargaEnd;
 use std::alloc::Global;
 use std::env;
 use std::io::ErrorKind;
@@ -12,11 +17,11 @@ const VERSION: &str = "jpgsuite 0.8.0\n";
 
 const HELP: &str = "\
 jpegtran [-flip horizontal | -flip vertical | -rotate 90 | -rotate 180 | -rotate 270 | -transpose | -transverse]
-    [-trim] [-grayscale] [-copy none | -copy comments | -copy all] [-progressive | -scans SCRIPT] [-restart N[B]]
-    [-outfile NAME] [FILE] > OUTPUT
-djpeg [-pnm | -ppm | -bmp] [-grayscale] [-nosmooth] [-dct int] [-scale 1/1] [-outfile NAME] [FILE] > OUTPUT
-cjpeg [-quality N] [-grayscale] [-baseline] [-progressive | -scans SCRIPT] [-restart N[B]] [-sample HxV,..] [-qtables TABLES]
-    [-dct int] [-outfile NAME] [FILE] > OUTPUT
+    [-trim] [-grayscale] [-crop WxH+X+Y] [-copy none | -copy comments | -copy all] [-progressive | -scans SCRIPT]
+    [-restart N[B]] [-outfile NAME] [FILE] > OUTPUT
+djpeg [-pnm | -ppm | -bmp | -targa] [-grayscale] [-nosmooth] [-dct int] [-scale 1/1] [-outfile NAME] [FILE] > OUTPUT
+cjpeg [-targa] [-quality N] [-grayscale] [-baseline] [-progressive | -scans SCRIPT] [-restart N[B]] [-sample HxV,..]
+    [-qtables TABLES] [-dct int] [-outfile NAME] [FILE] > OUTPUT
 rdjpgcom [FILE] > OUTPUT
 wrjpgcom [-replace] [-comment TEXT | -cfile FILE] [FILE] > OUTPUT
 ";
@@ -49,6 +54,19 @@ fn words<R: Runtime<A = Global>>(rt: &R) -> Result<Vec<String>, u8> {
     Ok(words)
 }
 
+/// Adds an image writer.
+#[tactic(auto, using(crate::proofs::FoundEnds::one_more_new))]
+pub fn add_end(ends: &mut Vec<Box<dyn ImageEnd>>, end: Box<dyn ImageEnd>) -> Result<(), NoMemory>
+    requires ends { AreNewEnds (map (λ e. progress e) ends.old.items) }
+    requires end { progress end ≡ new_end (progress end).kind }
+    ensures { OnOk result (AreNewEnds (map (λ e. progress e) ends.new.items)) }
+{
+    match ends.push(end) {
+        Ok(()) => Ok(()),
+        Err(_) => Err(NoMemory),
+    }
+}
+
 /// Runs the command that the program's words ask for over real files and the standard streams, and ends with its exit
 /// status. A single `--help` or `--version` prints the help or the version. If there is no memory for the words the
 /// status is 3, and if a word isn't UTF-8 it is 1, both without a message.
@@ -71,7 +89,13 @@ pub fn run_program<R: Runtime<A = Global>>(rt: R) -> ExitCode {
     let Ok(bmp) = Box::new(alloc, BmpEnd::new(alloc)) else {
         return ExitCode::from(3);
     };
-    if ends.push(pnm).is_err() || ends.push(bmp).is_err() {
+    let Ok(targa) = Box::new(alloc, TargaEnd::new(alloc)) else {
+        return ExitCode::from(3);
+    };
+    if add_end(&mut ends, pnm).is_err()
+        || add_end(&mut ends, bmp).is_err()
+        || add_end(&mut ends, targa).is_err()
+    {
         return ExitCode::from(3);
     }
     let mut desk = StdDesk::new(rt);

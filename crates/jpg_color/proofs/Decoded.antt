@@ -10,7 +10,7 @@ use Rattle.jpg_spec_image.specs.Pixels.{info, out_fault, out_fault_of, pixel_row
 use Rattle.jpg_spec.specs.declared.frame.Colour.{Colour}
 use Rattle.jpg_spec.specs.declared.frame.Component.{Component}
 use Rattle.jpg_spec_image.specs.declared.image.EndKind.{EndKind}
-use Rattle.jpg_spec_image.specs.declared.image.EndKind.TheVariants.{Pnm, Bmp}
+use Rattle.jpg_spec_image.specs.declared.image.EndKind.TheVariants.{Pnm, Bmp, Targa}
 use Rattle.jpg_spec_image.specs.declared.image.ImageInfo.{ImageInfo}
 use Rattle.jpg_spec_image.specs.declared.image.ImageKind.TheVariants as kind
 use Rattle.jpg_spec.specs.declared.jfif.Jfif.{Jfif}
@@ -67,6 +67,7 @@ told_of p gray =
 pub none_held : (kind : EndKind) → [] ≡ held_of kind []
 none_held Pnm = refl
 none_held Bmp = refl
+none_held Targa = refl
 
 pub started_end : (e : EndState) (info : ImageInfo) → e ≡ new_end e.kind → started e info ≡ end_at e.kind info []
 started_end e info new =
@@ -92,6 +93,7 @@ all_pixels p gray smooth r first =
 pub rest_held : (kind : EndKind) (i : ImageInfo) (rows : List (List ℕ)) → rest kind i (held_of kind rows) ≡ rest kind i rows
 rest_held Pnm i rows = refl
 rest_held Bmp i rows = refl
+rest_held Targa i rows = refl
 
 long_rows : (r : RowsLeft) → length (rows_in_all r) ≡ r.strips.display.frame.height
 long_rows r =

@@ -13,7 +13,7 @@ use Rattle.jpg_spec_image.specs.Upsampling.{has_far_rows}
 use Rattle.jpg_spec_image.specs.Strips.{lines, mcu_rows, needed, ready, rows_from}
 use Rattle.jpg_spec.specs.declared.frame.Colour.{Colour}
 use Rattle.jpg_spec_image.specs.declared.image.EndKind.{EndKind}
-use Rattle.jpg_spec_image.specs.declared.image.EndKind.TheVariants.{Pnm, Bmp}
+use Rattle.jpg_spec_image.specs.declared.image.EndKind.TheVariants.{Pnm, Bmp, Targa}
 use Rattle.jpg_spec_image.specs.declared.image.ImageInfo.{ImageInfo}
 use Rattle.jpg_spec.proofs.Common.{same_itself}
 use Rattle.jpg_spec_image.specs.RowsShown.{ready_rows as rows_ready}
@@ -181,6 +181,7 @@ begins {strips} {i} out {e = e} e2 (Ok u) is shown new first h =
 held_join : (kind : EndKind) (rows more : List (List ℕ)) → held_of kind rows ++ held_of kind more ≡ held_of kind (rows ++ more)
 held_join Pnm rows more = refl
 held_join Bmp rows more = refl
+held_join Targa rows more = refl
 
 end_with : (kind : EndKind) (i : ImageInfo) (rows more : List (List ℕ)) → with_rows (end_at kind i rows) more ≡ end_at kind i (rows ++ more)
 end_with kind i rows more =

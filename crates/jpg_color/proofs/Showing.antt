@@ -5,7 +5,7 @@ use Rattle.std.proofs.lemmas.Grind.{flat_map-append}
 use Rattle.jpg_spec.specs.Lists.{below}
 use Rattle.jpg_spec_image.specs.ImageText.{row_piece}
 use Rattle.jpg_spec_image.specs.declared.image.EndKind.{EndKind}
-use Rattle.jpg_spec_image.specs.declared.image.EndKind.TheVariants.{Pnm, Bmp}
+use Rattle.jpg_spec_image.specs.declared.image.EndKind.TheVariants.{Pnm, Bmp, Targa}
 use Rattle.jpg_spec_image.specs.declared.image.ImageInfo.{ImageInfo}
 use Rattle.jpg_spec.proofs.Common.{length_below}
 use Rattle.jpg_coefs.specs.Picture.{Picture as Coefs}
@@ -52,6 +52,7 @@ more_rows r n =
 pub held_more : (kind : EndKind) (rows : List (List ℕ)) (row : List ℕ) → held_of kind rows ++ held_of kind (row ∷ []) ≡ held_of kind (rows ++ row ∷ [])
 held_more Pnm rows row = refl
 held_more Bmp rows row = refl
+held_more Targa rows row = refl
 
 taken_more : (kind : EndKind) (info : ImageInfo) (rows : List (List ℕ)) (row : List ℕ) → with_row (end_at kind info rows) row ≡ end_at kind info (rows ++ row ∷ [])
 taken_more kind info rows row =

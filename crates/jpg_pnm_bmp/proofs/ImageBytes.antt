@@ -81,21 +81,21 @@ one_right count most place (b ∷ body) e h =
 
 -- PARTS OF BYTES
 
-front_bytes : (xs ys : List ℕ) → AreBytes (xs ++ ys) → AreBytes xs
+pub front_bytes : (xs ys : List ℕ) → AreBytes (xs ++ ys) → AreBytes xs
 front_bytes [] ys h = All-nil (λ b. b < 256)
 front_bytes (x ∷ xs) ys h = All-cons (λ b. b < 256) x xs (All-head (λ b. b < 256) x (xs ++ ys) h) (front_bytes xs ys (All-tail (λ b. b < 256) x (xs ++ ys) h))
 
-rest_bytes : (xs ys : List ℕ) → AreBytes (xs ++ ys) → AreBytes ys
+pub rest_bytes : (xs ys : List ℕ) → AreBytes (xs ++ ys) → AreBytes ys
 rest_bytes [] ys h = h
 rest_bytes (x ∷ xs) ys h = rest_bytes xs ys (All-tail (λ b. b < 256) x (xs ++ ys) h)
 
-flat_bytes : (f : ℕ → List ℕ) (ys : List ℕ) → ((y : ℕ) → AreBytes (f y)) → AreBytes (flat_map f ys)
+pub flat_bytes : (f : ℕ → List ℕ) (ys : List ℕ) → ((y : ℕ) → AreBytes (f y)) → AreBytes (flat_map f ys)
 flat_bytes f [] all = All-nil (λ b. b < 256)
 flat_bytes f (y ∷ ys) all = subst AreBytes (sym (flat_map-cons f y ys)) (All-append (λ b. b < 256) (f y) (flat_map f ys) (all y) (flat_bytes f ys all))
 
 -- BMP
 
-turned_bytes : (xs : List ℕ) → AreBytes xs → AreBytes (turned_round xs)
+pub turned_bytes : (xs : List ℕ) → AreBytes xs → AreBytes (turned_round xs)
 turned_bytes [] h = h
 turned_bytes (a ∷ []) h = h
 turned_bytes (a ∷ b ∷ []) h = h

@@ -14,17 +14,18 @@ use Rattle.jpg_spec_image.specs.ImageFaults.{pnm, bmp, image_of, IsPlainWhole, I
 use Rattle.jpg_spec.proofs.Common.{both, le_of, lt_of, not_lt_of, length_below}
 use Rattle.jpg_spec_image.proofs.ImageTextRuns.{first_right}
 use Rattle.jpg_spec_image.proofs.ImageBodyRuns.{last_three, bmp_sides}
+use Rattle.jpg_spec_image.proofs.TargaText.{turned_long}
 use Rattle.jpg_spec.specs.declared.fault.Fault.TheVariants.{ImageHeader}
 use Rattle.jpg_spec.specs.declared.frame.Limits.{Limits}
 use Rattle.jpg_pnm_bmp.specs.Made.{AreBytes, IsRightImage}
 use Rattle.jpg_pnm_bmp.proofs.ImageBytes.{plain_bytes, body_bytes}
 
-record AreSides (w h : ℕ) : Type 0 where
-  wide : is_side w ≡ true
-  high : is_side h ≡ true
-  few : are_few_pixels w h ≡ true
+pub record AreSides (w h : ℕ) : Type 0 where
+  pub wide : is_side w ≡ true
+  pub high : is_side h ≡ true
+  pub few : are_few_pixels w h ≡ true
 
-right_image : (image : Image) → AreSides image.info.width image.info.height → length image.samples ≡ sample_count image.info → AreBytes image.samples → IsRightImage image
+pub right_image : (image : Image) → AreSides image.info.width image.info.height → length image.samples ≡ sample_count image.info → AreBytes image.samples → IsRightImage image
 right_image image s count bytes =
     let w = both (nat_le 1 image.info.width) (nat_le image.info.width 65500) s.wide in
     let h = both (nat_le 1 image.info.height) (nat_le image.info.height 65500) s.high in
@@ -101,13 +102,7 @@ plain_right bytes after image (format, numbers, l, plain, e) =
 
 -- BMP
 
-long_turned : (xs : List ℕ) → length (turned_round xs) ≡ length xs
-long_turned [] = refl
-long_turned (a ∷ []) = refl
-long_turned (a ∷ b ∷ []) = refl
-long_turned (a ∷ b ∷ c ∷ xs) = ap (λ n. suc (suc (suc n))) (long_turned xs)
-
-long_all : (f : ℕ → List ℕ) (n : ℕ) (ys : List ℕ) → ((y : ℕ) → length (f y) ≡ n) → length (flat_map f ys) ≡ length ys * n
+pub long_all : (f : ℕ → List ℕ) (n : ℕ) (ys : List ℕ) → ((y : ℕ) → length (f y) ≡ n) → length (flat_map f ys) ≡ length ys * n
 long_all f n [] all = omega arith
 long_all f n (y ∷ ys) all =
     ap length (flat_map-cons f y ys) ∙ length-append (f y) (flat_map f ys) ∙ ap (λ k. k + length (flat_map f ys)) (all y) ∙ ap (λ k. n + k) (long_all f n ys all) ∙ more (length ys) n
@@ -126,7 +121,7 @@ long_row head palette row long = by (bmp_depth head == 8) long
   where
     by : (v : Bool) → length row ≡ cond v (width head) (3 * width head) → length (cond v (flat_map (colour palette) row) (turned_round row)) ≡ 3 * width head
     by true e = (let a = long_all (colour palette) 3 row (λ n. refl) in omega (arith, a, e))
-    by false e = long_turned row ∙ e
+    by false e = turned_long row ∙ e
 
 bmp_count : (head palette body : List ℕ) → length body ≡ line head * (height head - 1) + used head → length (bmp_body_samples head palette body) ≡ height head * (3 * width head)
 bmp_count head palette body long =

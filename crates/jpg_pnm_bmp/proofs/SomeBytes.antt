@@ -2,9 +2,9 @@
 use Rattle.std.proofs.Common.{◌≡◌, ℕ, zero, suc, ◌-◌, ◌*◌, ◌<◌, ◌≤◌, List, [], ◌∷◌, ◌++◌, length, get_or, replicate, sym, ap, ◌∙◌, subst, arith, Option}
 use Rattle.std.specs.Prelude.{nat_lt, false, map, flat_map, reverse}
 use Rattle.std.proofs.lemmas.List.{length-append}
-use Rattle.jpg_spec_image.specs.ImageText.{bmp_header, bmp_row, bmp_samples, end_text, padding, pnm_header, rest, row_bytes, row_piece, turned_round}
+use Rattle.jpg_spec_image.specs.ImageText.{bmp_header, bmp_row, file_samples, end_text, padding, pnm_header, rest, row_bytes, row_piece, targa_header, turned_round}
 use Rattle.jpg_spec_image.specs.declared.image.EndKind.{EndKind}
-use Rattle.jpg_spec_image.specs.declared.image.EndKind.TheVariants.{Pnm, Bmp}
+use Rattle.jpg_spec_image.specs.declared.image.EndKind.TheVariants.{Pnm, Bmp, Targa}
 use Rattle.jpg_spec_image.specs.declared.image.ImageKind.{ImageKind}
 use Rattle.jpg_spec_image.specs.declared.image.ImageKind.TheVariants.{Gray, Rgb}
 use Rattle.jpg_spec_image.specs.declared.image.ImageInfo.{ImageInfo}
@@ -31,6 +31,10 @@ bmp_header_some : (info : ImageInfo) → 0 < length (bmp_header info)
 unfolding bmp_header
 bmp_header_some info = omega arith
 
+targa_header_some : (info : ImageInfo) → 0 < length (targa_header info)
+unfolding targa_header
+targa_header_some info = omega arith
+
 pub text_some : (kind : EndKind) (info : ImageInfo) (rows : List (List ℕ)) → 0 < length (end_text kind info rows)
 text_some Pnm info rows =
     let pieces = flat_map (row_piece Pnm info) rows in
@@ -39,6 +43,9 @@ text_some Bmp info rows =
     let pieces = flat_map (row_piece Bmp info) rows in
     let others = flat_map (λ part. part) (map (bmp_row info) (reverse rows)) in
     omega (arith, length-append pieces (bmp_header info ++ others), more_after (bmp_header info) others (bmp_header_some info))
+text_some Targa info rows =
+    let pieces = flat_map (row_piece Targa info) rows in
+    more_after (targa_header info ++ pieces) [] (more_after (targa_header info) pieces (targa_header_some info))
 
 -- ROWS
 
@@ -46,7 +53,7 @@ by_kind : (kind : ImageKind) (info : ImageInfo) → 1 ≤ info.width → 1 ≤ r
 by_kind Gray info h = h
 by_kind Rgb info h = omega (arith, h)
 
-row_some : (info : ImageInfo) → 1 ≤ info.height → info.height ≤ 65500 * info.width → 1 ≤ row_bytes info
+pub row_some : (info : ImageInfo) → 1 ≤ info.height → info.height ≤ 65500 * info.width → 1 ≤ row_bytes info
 row_some info high wide = by_kind info.kind info (omega (arith, high, wide))
 
 turned_some : (row : List ℕ) → 1 ≤ length row → 1 ≤ length (turned_round row)
@@ -55,12 +62,12 @@ turned_some (r ∷ []) h = h
 turned_some (r ∷ g ∷ []) h = h
 turned_some (r ∷ g ∷ b ∷ others) h = omega arith
 
-samples_some : (kind : ImageKind) (row : List ℕ) → 1 ≤ length row → 1 ≤ length (bmp_samples kind row)
+pub samples_some : (kind : ImageKind) (row : List ℕ) → 1 ≤ length row → 1 ≤ length (file_samples kind row)
 samples_some Gray row h = h
 samples_some Rgb row h = turned_some row h
 
 bmp_row_some : (info : ImageInfo) (row : List ℕ) → 1 ≤ length row → 0 < length (bmp_row info row)
-bmp_row_some info row h = more_after (bmp_samples info.kind row) (replicate (padding (length row)) 0) (samples_some info.kind row h)
+bmp_row_some info row h = more_after (file_samples info.kind row) (replicate (padding (length row)) 0) (samples_some info.kind row h)
 
 -- THE PARTS OF A BMP FILE
 

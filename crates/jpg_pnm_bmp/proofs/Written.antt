@@ -7,7 +7,7 @@ use Rattle.std.proofs.lemmas.Grind.{flat_map-append}
 use Rattle.std.proofs.lemmas.List.{append-nil, length-append, take_all, take_more, get_or_past}
 use Rattle.jpg_spec_image.specs.ImageText.{first_piece, row_piece, rest, end_text}
 use Rattle.jpg_spec_image.specs.declared.image.EndKind.{EndKind}
-use Rattle.jpg_spec_image.specs.declared.image.EndKind.TheVariants.{Pnm, Bmp}
+use Rattle.jpg_spec_image.specs.declared.image.EndKind.TheVariants.{Pnm, Bmp, Targa}
 use Rattle.jpg_spec_image.specs.declared.image.ImageInfo.{ImageInfo}
 use Rattle.jpg_pnm_bmp.specs.EndState.{EndState, info_given, held_of, new_end, with_part, is_last, parts_due, next_part, CanTakeRow, CanFinish, Starts, TakesRow, Finishes}
 use Rattle.jpg_pnm_bmp.specs.Written.{WrittenImage, Wrote, PartsGoOn, begun, with_next, text_up_to}
@@ -20,6 +20,7 @@ flat parts = flat_map (λ part. part) parts
 none_held : (kind : EndKind) → [] ≡ held_of kind []
 none_held Pnm = refl
 none_held Bmp = refl
+none_held Targa = refl
 
 pub text_begins : (k : EndKind) (i : ImageInfo) (s t : List ℕ) (e : EndState) → Starts (new_end k) s i (Ok tt) e t → Wrote e (begun i s) t
 text_begins k i s t e h =
@@ -31,6 +32,7 @@ text_begins k i s t e h =
 more_held : (kind : EndKind) (rows : List (List ℕ)) (row : List ℕ) → held_of kind rows ++ held_of kind (row ∷ []) ≡ held_of kind (rows ++ row ∷ [])
 more_held Pnm rows row = refl
 more_held Bmp rows row = refl
+more_held Targa rows row = refl
 
 row_text : (k : EndKind) (i : WrittenImage) (r : List ℕ) → text_up_to k i 0 ++ row_piece k i.info r ≡ text_up_to k (with_next i r) 0
 row_text k i r =
@@ -63,6 +65,7 @@ text_grows i r s t e n w c h =
 due_held : (kind : EndKind) (info : ImageInfo) (rows : List (List ℕ)) → rest kind info (held_of kind rows) ≡ rest kind info rows
 due_held Pnm info rows = refl
 due_held Bmp info rows = refl
+due_held Targa info rows = refl
 
 due_is : (i : WrittenImage) (s : List ℕ) (e : EndState) → Wrote e i s → parts_due e ≡ rest e.kind i.info i.rows
 due_is i s e w = ap (rest e.kind (info_given e.info)) w.held ∙ due_held e.kind (info_given e.info) i.rows ∙ ap (λ o. rest e.kind (info_given o) i.rows) w.told

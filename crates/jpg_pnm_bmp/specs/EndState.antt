@@ -2,7 +2,7 @@
 use Rattle.std.specs.Prelude.{◌≡◌, ℕ, ◌+◌, ◌*◌, ◌<◌, ◌≤◌, min, Bool, true, false, nat_le, if◌then◌else◌, List, [], ◌∷◌, ◌++◌, length, slice_index_or, Option, None, Some, is_some, Result, Ok, Err}
 use Rattle.jpg_spec_image.specs.ImageText.{row_bytes, first_piece, row_piece, rest}
 use Rattle.jpg_spec_image.specs.declared.image.EndKind.{EndKind}
-use Rattle.jpg_spec_image.specs.declared.image.EndKind.TheVariants.{Pnm, Bmp}
+use Rattle.jpg_spec_image.specs.declared.image.EndKind.TheVariants.{Pnm, Bmp, Targa}
 use Rattle.jpg_spec_image.specs.declared.image.ImageKind.TheVariants.{Gray}
 use Rattle.jpg_spec_image.specs.declared.image.ImageInfo.{ImageInfo}
 use Rattle.jpg_base.specs.declared.names.NoMemory.{NoMemory}
@@ -42,6 +42,7 @@ pub record IsImageInfo (info : ImageInfo) : Type 0 where
 abbrev pub held_of : EndKind → List (List ℕ) → List (List ℕ)
 held_of Pnm rows = []
 held_of Bmp rows = rows
+held_of Targa rows = []
 
 -- THE ORDER OF CALLS: `start`, then all rows, then `finish` until it is done
 

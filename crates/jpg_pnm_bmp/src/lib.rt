@@ -12,4 +12,5 @@ pub use read::piece::Fed2;
 pub use read::pixels::{Image, PixelReader};
 pub use write::bmp::BmpEnd;
 pub use write::end::{Finish, ImageEnd};
+pub use write::file_row::file_row;
 pub use write::pnm::PnmEnd;

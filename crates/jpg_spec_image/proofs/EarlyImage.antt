@@ -1,6 +1,6 @@
 -- THE LAW: the image of a file that ends early in a scan of all components, or after it, is that of its blocks at the
 -- end of the scan header.
-use Rattle.std.proofs.Common.{◌≡◌, ℕ, Bool, List, ◌∷◌, sym, ap, ◌∙◌, subst, inl, inr}
+use Rattle.std.proofs.Common.{◌≡◌, ℕ, Bool, true, List, ◌∷◌, sym, ap, ◌∙◌, subst, inl, inr}
 use Rattle.std.specs.Prelude.{◌⊎◌, reverse}
 use Rattle.jpg_spec.specs.Scan.{Blocks}
 use Rattle.jpg_spec.specs.Meaning.{Meaning, colour_of}
@@ -16,10 +16,9 @@ use Rattle.jpg_spec.specs.Early.{EndsAfter, EndsInside, segments_with}
 use Rattle.jpg_spec.specs.RowsTold.{BeginsScanOfAll, picture_so_far}
 use Rattle.jpg_spec_image.specs.RowsShown.{rows_text}
 use Rattle.jpg_spec.specs.RowLaws.{EndsEarlyByRows, early_so_far}
-use Rattle.jpg_spec_image.specs.RowLaws.{image_text, text_in}
+use Rattle.jpg_spec_image.specs.RowLaws.{early_text, is_by_rows, text_in}
 use Rattle.jpg_spec.specs.declared.frame.Limits.{Limits}
 use Rattle.jpg_spec_image.specs.declared.image.EndKind.{EndKind}
-use Rattle.jpg_spec_image.specs.declared.image.EndKind.TheVariants.{Pnm}
 use Rattle.jpg_spec.proofs.ColoursKept.{picture_colours, same_colours_after, same_jfif_after}
 use Rattle.jpg_spec.proofs.EarlyBegun.{AllNamed, begun_behind}
 use Rattle.jpg_spec.proofs.EarlySoFar.{IsItemsScan, inside_scan, items_scan, so_far_early}
@@ -74,11 +73,12 @@ same_shown limits bytes M w = by w.early.1
     by (inr p) = inside_shown limits bytes M w.before w.contents w.begins p
 
 -- of all MCU rows, and in any format
-pub early_rows_text : (limits : Limits) (bytes : List ℕ) (M : Meaning) (w : EndsEarlyByRows limits bytes M) (gray smooth : Bool) → rows_text Pnm (early_so_far limits bytes M w) gray smooth (mcu_rows M) ≡ image_text M gray smooth
-early_rows_text limits bytes M w gray smooth =
+pub early_rows_text : (limits : Limits) (bytes : List ℕ) (M : Meaning) (w : EndsEarlyByRows limits bytes M) (kind : EndKind) (gray smooth : Bool) → is_by_rows kind ≡ true
+    → early_text kind limits bytes M w gray smooth ≡ text_in kind M gray smooth
+early_rows_text limits bytes M w kind gray smooth by =
     let R = early_so_far limits bytes M w in
     let same = so_far_early limits bytes M w in
-    ap (λ (N : Meaning). rows_text Pnm N gray smooth (mcu_rows M)) same ∙ same_text M R.kept gray smooth (ap colour_of (sym same) ∙ (same_shown limits bytes M w).colours M.blocks)
+    ap (λ (N : Meaning). rows_text kind N gray smooth (mcu_rows M)) same ∙ same_text M R.kept kind gray smooth by (ap colour_of (sym same) ∙ (same_shown limits bytes M w).colours M.blocks)
 
 pub early_text_in : (limits : Limits) (bytes : List ℕ) (M : Meaning) (w : EndsEarlyByRows limits bytes M) (kind : EndKind) (gray smooth : Bool) → text_in kind (early_so_far limits bytes M w) gray smooth ≡ text_in kind M gray smooth
 early_text_in limits bytes M w kind gray smooth =

@@ -80,10 +80,10 @@ body_all head body (b ∷ c ∷ more) e some h =
 
 -- A BODY IS NEVER EMPTY
 
-side_some : (n : ℕ) → is_side n ≡ true → 1 ≤ n
+pub side_some : (n : ℕ) → is_side n ≡ true → 1 ≤ n
 side_some n e = le_of 1 n (both (nat_le 1 n) (nat_le n 65500) e).0
 
-row_some : (k : ImageKind) (w h : ℕ) → 1 ≤ w → 1 ≤ h → 1 ≤ sample_count (record { width = w; height = h; kind = k; x_metre = 0; y_metre = 0 })
+pub row_some : (k : ImageKind) (w h : ℕ) → 1 ≤ w → 1 ≤ h → 1 ≤ sample_count (record { width = w; height = h; kind = k; x_metre = 0; y_metre = 0 })
 row_some Gray w h a b = product_some h w b a
 row_some Rgb w h a b = product_some h (3 * w) b (omega (arith, a))
 

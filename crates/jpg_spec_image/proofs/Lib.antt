@@ -1,6 +1,7 @@
 pub mod CodedBlocks
 pub mod EarlyImage
 pub mod Frequencies
+pub mod Fronts
 pub mod ImageBodyRuns
 pub mod ImageJudged
 pub mod ImageRuns
@@ -8,6 +9,8 @@ pub mod ImageStands
 pub mod ImageTextRuns
 pub mod OneImage
 pub mod OneReason
+pub mod OneTarga
+pub mod OpenTarga
 pub mod RowCounts
 pub mod RowsAlike
 pub mod RowsCompleted
@@ -18,3 +21,7 @@ pub mod RowsReady
 pub mod RowsText
 pub mod ShownAlike
 pub mod Strips
+pub mod TargaJudged
+pub mod TargaRuns
+pub mod TargaStands
+pub mod TargaText

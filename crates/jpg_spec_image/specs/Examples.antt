@@ -14,12 +14,15 @@ flat_values (suc (suc i)) = negsuc 299 ∷ pos 400 ∷ []
 abbrev pub flat_picture : Meaning
 flat_picture = three_components (λ i x y. flat_block (slice_index_or (flat_values i) (if i == 0 then 3 * y + x else x) (pos 0)))
 
--- an image of 8 by 8 gray pixels of 128, and one of 3 by 1 colours
+-- an image of 8 by 8 gray pixels of 128, and one of 2 by 1 colours
 abbrev pub gray_square : ImageInfo
 gray_square = record { width = 8; height = 8; kind = image.Gray; x_metre = 0; y_metre = 0 }
 
 abbrev pub gray_rows : List (List ℕ)
 gray_rows = replicate 8 (replicate 8 128)
+
+abbrev pub two_colours : ImageInfo
+two_colours = record { width = 2; height = 1; kind = image.Rgb; x_metre = 0; y_metre = 0 }
 
 -- the ninth row of the flat picture's pixels
 abbrev pub ninth_row : List (List ℕ)

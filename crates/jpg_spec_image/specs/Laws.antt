@@ -1,13 +1,16 @@
 -- TERMS OF THE LAWS: what holds together in their premises, and what they conclude. No definition uses them.
-use Rattle.std.specs.Prelude.{◌≡◌, ℕ, ◌*◌, ◌<◌, ◌≤◌, Bool, List, Some}
+use Rattle.std.specs.Prelude.{◌≡◌, ℕ, ◌*◌, ◌<◌, ◌≤◌, Bool, List, length, Some}
 use Rattle.jpg_spec.specs.Scan.{Blocks}
 use Rattle.jpg_spec.specs.Meaning.{Meaning}
+use Rattle.jpg_spec.specs.FirstFault.{IsFirstFault, RevealsNone}
+use Rattle.jpg_spec_image.specs.Front.{EndsScan, IsFront}
 use Rattle.jpg_spec_image.specs.Upsampling.{Stretch, upsampled_row}
 use Rattle.jpg_spec_image.specs.NotShown.{IsNotShown}
 use Rattle.jpg_spec_image.specs.Pixels.{out_fault, stretch_of, upsampled}
 use Rattle.jpg_spec_image.specs.Strips.{IsRowReady, ready, IsCovered}
 use Rattle.jpg_spec.specs.declared.fault.FaultAt.{FaultAt}
 use Rattle.jpg_spec.specs.declared.fault.Fault.{Fault}
+use Rattle.jpg_spec.specs.declared.fault.Fault.TheVariants.{Truncated}
 use Rattle.jpg_spec.specs.declared.frame.Limits.{Limits}
 use Rattle.jpg_spec.specs.Laws.{with_blocks}
 
@@ -46,3 +49,18 @@ pub record MakesReady (M : Meaning) (count : ℕ) (smooth : Bool) (all m i y : �
 pub record AreNotShownAlike (limits : Limits) (gray : Bool) (bytes : List ℕ) (M : Meaning) : Type 0 where
   pub same : (f : FaultAt) → IsNotShown limits gray bytes f → out_fault gray M ≡ Some f.fault
   pub told : (fault : Fault) → out_fault gray M ≡ Some fault → (f : FaultAt) × IsNotShown limits gray bytes f × (f.fault ≡ fault)
+
+-- THE FRONT OF A FILE
+
+-- The file has this first fault, which isn't that of its end, at a place inside its front.
+pub record IsStoppedIn (limits : Limits) (scans : ℕ) (bytes front : List ℕ) (f : Fault) (n : ℕ) : Type 0 where
+  pub front_of : IsFront limits scans bytes front
+  pub shown : IsFirstFault limits bytes f n
+  pub other : f ≡ Truncated → ⊥
+  pub inside : n ≤ length front
+
+-- The bytes end with a marker after a scan, are fewer than may be taken, and have no fault.
+pub record EndsShort (limits : Limits) (scans : ℕ) (front : List ℕ) : Type 0 where
+  pub ends : EndsScan limits scans front
+  pub short : length front < limits.input
+  pub faultless : RevealsNone limits front

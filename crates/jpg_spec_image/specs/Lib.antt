@@ -4,6 +4,8 @@ pub mod Downsampling
 pub mod EncodingExamples
 pub mod Examples
 pub mod ForwardDct
+pub mod Front
+pub mod FrontExamples
 pub mod ImageExamples
 pub mod ImageFaults
 pub mod ImageLaws
@@ -22,4 +24,10 @@ pub mod RowLaws
 pub mod RowsShown
 pub mod Strips
 pub mod TableText
+pub mod TargaExamples
+pub mod TargaFaults
+pub mod TargaFile
+pub mod TargaLaws
+pub mod TargaReading
+pub mod TargaSteps
 pub mod Upsampling

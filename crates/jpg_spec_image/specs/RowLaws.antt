@@ -1,6 +1,6 @@
 -- TERMS OF THE LAWS on MCU rows that are decoded: what holds together in their premises, and what they conclude. No
 -- definition uses them.
-use Rattle.std.specs.Prelude.{◌≡◌, ℕ, Bool, ◌<◌, ◌≤◌, List, ◌++◌, length, None}
+use Rattle.std.specs.Prelude.{◌≡◌, ℕ, Bool, true, false, ◌<◌, ◌≤◌, List, ◌++◌, length, None}
 use Rattle.jpg_spec.specs.Scan.{Blocks}
 use Rattle.jpg_spec.specs.FrameHeader.{AreLimits}
 use Rattle.jpg_spec.specs.Meaning.{Meaning, colour_of}
@@ -12,7 +12,7 @@ use Rattle.jpg_spec_image.specs.Strips.{IsCovered, mcu_rows, needed}
 use Rattle.jpg_spec.specs.RowsTold.{BeginsScanOfAll, CompletesRows, TellsBlocks, TellsRows, row_places, picture_so_far}
 use Rattle.jpg_spec_image.specs.RowsShown.{rows_text}
 use Rattle.jpg_spec_image.specs.declared.image.EndKind.{EndKind}
-use Rattle.jpg_spec_image.specs.declared.image.EndKind.TheVariants.{Pnm}
+use Rattle.jpg_spec_image.specs.declared.image.EndKind.TheVariants.{Pnm, Bmp, Targa}
 use Rattle.jpg_spec.specs.declared.frame.Limits.{Limits}
 use Rattle.jpg_spec.specs.declared.frame.Place.{Place}
 use Rattle.jpg_spec.specs.RowLaws.{IsReadByRows, read_so_far, EndsEarlyByRows, early_so_far}
@@ -77,12 +77,15 @@ more_text limits gray smooth bytes kind w = rows_text kind (picture_so_far limit
 abbrev pub GoesOnFrom : List ℕ → List ℕ → Type 0
 GoesOnFrom front bytes = (rest : List ℕ) × (bytes ≡ front ++ rest)
 
--- of all MCU rows of a complete file, and of its image
-abbrev pub all_rows_text : (limits : Limits) → (bytes : List ℕ) → (M : Meaning) → IsReadByRows limits bytes M → (gray smooth : Bool) → Blocks → List ℕ
-all_rows_text limits bytes M w gray smooth blocks = rows_text Pnm (read_so_far limits bytes M w blocks) gray smooth (mcu_rows M)
+-- The formats that are written row by row: a header, and then each row when it is ready.
+abbrev pub is_by_rows : EndKind → Bool
+is_by_rows Pnm = true
+is_by_rows Bmp = false
+is_by_rows Targa = true
 
-abbrev pub image_text : Meaning → Bool → Bool → List ℕ
-image_text M gray smooth = end_text Pnm (info M gray) (pixels M gray smooth)
+-- of all MCU rows of a complete file
+abbrev pub all_rows_text : EndKind → (limits : Limits) → (bytes : List ℕ) → (M : Meaning) → IsReadByRows limits bytes M → (gray smooth : Bool) → Blocks → List ℕ
+all_rows_text kind limits bytes M w gray smooth blocks = rows_text kind (read_so_far limits bytes M w blocks) gray smooth (mcu_rows M)
 
 -- the image in any format: that of a picture, and of these blocks with what is in force at the end of its scan header
 abbrev pub text_in : EndKind → Meaning → Bool → Bool → List ℕ
@@ -92,5 +95,5 @@ abbrev pub so_far_in : EndKind → (limits : Limits) → (bytes : List ℕ) → 
 so_far_in kind limits bytes M w gray smooth blocks = text_in kind (read_so_far limits bytes M w blocks) gray smooth
 
 -- the text of all its MCU rows
-abbrev pub early_text : (limits : Limits) → (bytes : List ℕ) → (M : Meaning) → EndsEarlyByRows limits bytes M → (gray smooth : Bool) → List ℕ
-early_text limits bytes M w gray smooth = rows_text Pnm (early_so_far limits bytes M w) gray smooth (mcu_rows M)
+abbrev pub early_text : EndKind → (limits : Limits) → (bytes : List ℕ) → (M : Meaning) → EndsEarlyByRows limits bytes M → (gray smooth : Bool) → List ℕ
+early_text kind limits bytes M w gray smooth = rows_text kind (early_so_far limits bytes M w) gray smooth (mcu_rows M)

@@ -22,4 +22,5 @@ pub struct ImageInfo {
 pub enum EndKind {
     Pnm,
     Bmp,
+    Targa,
 }

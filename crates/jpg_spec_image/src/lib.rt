@@ -4,6 +4,8 @@
 
 pub mod encoding_examples;
 pub mod encoding_laws;
+pub mod front_examples;
+pub mod front_laws;
 mod image;
 pub mod image_examples;
 pub mod image_laws;
@@ -11,5 +13,7 @@ pub mod pixel_examples;
 pub mod row_laws;
 pub mod shown_laws;
 pub mod strip_laws;
+pub mod targa_examples;
+pub mod targa_laws;
 
 pub use image::{EndKind, ImageInfo, ImageKind};

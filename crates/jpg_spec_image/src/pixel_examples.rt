@@ -1,16 +1,16 @@
 //! Worked examples of samples and colours, by computation.
-#![tactic(auto, unfolding(crate::specs::Dct::column, crate::specs::Dct::dequantised, crate::specs::Dct::even_sums, crate::specs::Dct::inverse_dct, crate::specs::Dct::joined_sums, crate::specs::Dct::odd_sums, crate::specs::Dct::sample_row, crate::specs::ImageText::bmp_header, crate::specs::ImageText::palette, crate::specs::ImageText::pnm_header, jpg_spec::specs::Numbers::digits, crate::specs::RedGreenBlue::to_rgb, crate::specs::Upsampling::repeat_row, crate::specs::Upsampling::up_row, crate::specs::Upsampling::up_rows2))]
+#![tactic(auto, unfolding(crate::specs::Dct::column, crate::specs::Dct::dequantised, crate::specs::Dct::even_sums, crate::specs::Dct::inverse_dct, crate::specs::Dct::joined_sums, crate::specs::Dct::odd_sums, crate::specs::Dct::sample_row, crate::specs::ImageText::bmp_header, crate::specs::ImageText::palette, crate::specs::ImageText::pnm_header, crate::specs::ImageText::targa_header, jpg_spec::specs::Numbers::digits, crate::specs::RedGreenBlue::to_rgb, crate::specs::Upsampling::repeat_row, crate::specs::Upsampling::up_row, crate::specs::Upsampling::up_rows2))]
 
 ghost use Rattle.std.specs.Prelude.{◌≡◌, ℕ, List, [], ◌∷◌, ◌++◌, pos, replicate, length, codes, true, false, None, Some};
 ghost use Rattle.jpg_spec.specs.Lists.{joined};
-ghost use Rattle.jpg_spec_image.specs.Examples.{gray_square, gray_rows, flat_picture, ninth_row};
+ghost use Rattle.jpg_spec_image.specs.Examples.{gray_square, gray_rows, two_colours, flat_picture, ninth_row};
 ghost use Rattle.jpg_spec_image.specs.Pixels.{pixel_row, info, out_fault, out_fault_of};
 ghost use Rattle.jpg_spec_image.specs.declared.image.ImageKind.TheVariants.{Rgb};
 ghost use Rattle.jpg_spec.specs.declared.frame.Colour.{Colour};
 ghost use Rattle.jpg_spec.specs.declared.frame.Colour.TheVariants.{YCbCr, Cmyk};
 ghost use Rattle.jpg_spec.specs.declared.fault.Fault.TheVariants.{Precision, ColourOut, FractionalSampling};
 ghost use Rattle.jpg_spec_image.specs.ImageText.{end_text};
-ghost use Rattle.jpg_spec_image.specs.declared.image.EndKind.TheVariants.{Pnm, Bmp};
+ghost use Rattle.jpg_spec_image.specs.declared.image.EndKind.TheVariants.{Pnm, Bmp, Targa};
 ghost use Rattle.jpg_spec.specs.Elements.{zeros};
 ghost use Rattle.jpg_spec_image.specs.Dct.{inverse_dct, dequantised};
 ghost use Rattle.jpg_spec_image.specs.Upsampling.{up_row, up_rows2, repeat_row};
@@ -46,10 +46,13 @@ pub fn large_values_wrap()
     ensures { inverse_dct (dequantised (replicate 64 255) (pos 1023 ∷ zeros 63)) ≡ replicate 64 0 }
 {}
 
-/// A gray image of 8 by 8 pixels has a PNM of 75 bytes and a BMP of 1142.
+/// A gray image of 8 by 8 pixels has a PNM of 75 bytes, a BMP of 1142, and a Targa of 82. Targa has blue before red.
 pub fn images_have_their_texts()
     ensures pnm { end_text Pnm gray_square gray_rows ≡ codes "P5" ++ 10 ∷ codes "8 8" ++ 10 ∷ codes "255" ++ 10 ∷ replicate 64 128 }
     ensures bmp { length (end_text Bmp gray_square gray_rows) ≡ 1142 }
+    ensures targa { end_text Targa gray_square gray_rows ≡ 0 ∷ 0 ∷ 3 ∷ replicate 9 0 ++ 8 ∷ 0 ∷ 8 ∷ 0 ∷ 8 ∷ 32 ∷ replicate 64 128 }
+    ensures colours { end_text Targa two_colours ((1 ∷ 2 ∷ 3 ∷ 4 ∷ 5 ∷ 6 ∷ []) ∷ [])
+        ≡ 0 ∷ 0 ∷ 2 ∷ replicate 9 0 ++ 2 ∷ 0 ∷ 1 ∷ 0 ∷ 24 ∷ 32 ∷ 3 ∷ 2 ∷ 1 ∷ 6 ∷ 5 ∷ 4 ∷ [] }
 {}
 
 /// Rows of 17 by 16 pixels of three components with factors 2x2,1x1,1x1, whose blocks have only a DC value: the ninth

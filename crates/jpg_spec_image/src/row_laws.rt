@@ -1,5 +1,5 @@
 //! Laws on the MCU rows of a first scan of all components that the bytes of a file encode (T.81, A.2.3, E.1.4, F.2.2).
-ghost use Rattle.std.specs.Prelude.{◌≡◌, ◌≤◌, ◌*◌, ℕ, Bool, List, [], length, None};
+ghost use Rattle.std.specs.Prelude.{◌≡◌, ◌≤◌, ◌*◌, ℕ, Bool, true, false, List, [], length, None};
 ghost use Rattle.jpg_spec.specs.Scan.{Blocks};
 ghost use Rattle.jpg_spec.specs.Meaning.{Meaning};
 ghost use Rattle.jpg_spec.specs.Markers.{Segment};
@@ -11,10 +11,9 @@ ghost use Rattle.jpg_spec_image.specs.Strips.{mcu_rows};
 ghost use Rattle.jpg_spec.specs.RowsTold.{TellsRows, CompletesRows, BeginsScanOfAll, row_places, picture_so_far};
 ghost use Rattle.jpg_spec_image.specs.RowsShown.{rows_text, ShowsRows};
 ghost use Rattle.jpg_spec_image.specs.Laws.{AreNotShownAlike};
-ghost use Rattle.jpg_spec_image.specs.RowLaws.{TellsEnough, HasBegunPicture, begun_picture, begun_rows, IsShownInRows, CompletesAll, early_text, TellsTwice, fewer_text, more_text, GoesOnFrom, all_rows_text, image_text, so_far_in, text_in};
+ghost use Rattle.jpg_spec_image.specs.RowLaws.{TellsEnough, HasBegunPicture, begun_picture, begun_rows, IsShownInRows, CompletesAll, early_text, TellsTwice, fewer_text, more_text, GoesOnFrom, all_rows_text, is_by_rows, so_far_in, text_in};
 ghost use Rattle.jpg_spec.specs.RowLaws.{HasRows, IsReadByRows, EndsEarlyByRows, early_so_far};
 ghost use Rattle.jpg_spec_image.specs.declared.image.EndKind.{EndKind};
-ghost use Rattle.jpg_spec_image.specs.declared.image.EndKind.TheVariants.{Bmp};
 ghost use Rattle.jpg_spec.specs.declared.frame.Limits.{Limits};
 ghost use Rattle.jpg_spec.specs.declared.frame.Place.{Place};
 
@@ -60,15 +59,17 @@ pub fn pictures_so_far_are_shown_as_their_files()
 /// The text of all MCU rows of a complete file is that of its image, if the format is written row by row. In any
 /// format, the image of their blocks, with what is in force at the end of the scan header, is that of the file.
 pub fn files_show_all_rows()
-    ensures rows { (limits : Limits) (bytes : List ℕ) (M : Meaning) (w : IsReadByRows limits bytes M) (gray smooth : Bool) (blocks : Blocks)
-        → CompletesRows limits bytes (mcu_rows M) blocks → all_rows_text limits bytes M w gray smooth blocks ≡ image_text M gray smooth }
+    ensures rows { (limits : Limits) (bytes : List ℕ) (M : Meaning) (w : IsReadByRows limits bytes M) (kind : EndKind) (gray smooth : Bool) (blocks : Blocks)
+        → is_by_rows kind ≡ true → CompletesRows limits bytes (mcu_rows M) blocks
+        → all_rows_text kind limits bytes M w gray smooth blocks ≡ text_in kind M gray smooth }
     ensures image { (limits : Limits) (bytes : List ℕ) (M : Meaning) (w : IsReadByRows limits bytes M) (kind : EndKind) (gray smooth : Bool) (blocks : Blocks)
         → CompletesRows limits bytes (mcu_rows M) blocks → so_far_in kind limits bytes M w gray smooth blocks ≡ text_in kind M gray smooth }
 {}
 
-/// Bytes have one text of rows, and none for a BMP file, whose header and rows are written at its end.
+/// Bytes have one text of rows, and none in a format that isn't written row by row: a BMP file has its header and its
+/// rows at its end.
 pub fn rows_show_one_text()
-    ensures bmp { (M : Meaning) (gray smooth : Bool) (rows : ℕ) → rows_text Bmp M gray smooth rows ≡ [] }
+    ensures late { (M : Meaning) (kind : EndKind) (gray smooth : Bool) (rows : ℕ) → is_by_rows kind ≡ false → rows_text kind M gray smooth rows ≡ [] }
     ensures one { (limits : Limits) (kind : EndKind) (gray smooth : Bool) (bytes a b : List ℕ)
         → ShowsRows limits kind gray smooth bytes a → ShowsRows limits kind gray smooth bytes b → a ≡ b }
 {}
@@ -76,8 +77,8 @@ pub fn rows_show_one_text()
 /// The text of all MCU rows of such a file is that of its image, if the format is written row by row. In any format,
 /// the image of its blocks, with what is in force at the end of the scan header, is that of the file.
 pub fn early_files_show_all_rows()
-    ensures rows { (limits : Limits) (bytes : List ℕ) (M : Meaning) (w : EndsEarlyByRows limits bytes M) (gray smooth : Bool)
-        → early_text limits bytes M w gray smooth ≡ image_text M gray smooth }
+    ensures rows { (limits : Limits) (bytes : List ℕ) (M : Meaning) (w : EndsEarlyByRows limits bytes M) (kind : EndKind) (gray smooth : Bool)
+        → is_by_rows kind ≡ true → early_text kind limits bytes M w gray smooth ≡ text_in kind M gray smooth }
     ensures image { (limits : Limits) (bytes : List ℕ) (M : Meaning) (w : EndsEarlyByRows limits bytes M) (kind : EndKind) (gray smooth : Bool)
         → text_in kind (early_so_far limits bytes M w) gray smooth ≡ text_in kind M gray smooth }
 {}

@@ -1,4 +1,8 @@
 pub mod BlockLaws
+pub mod CroppedFrames
+pub mod CroppedGrids
+pub mod CroppedScripts
+pub mod CutApart
 pub mod MeaningLeft
 pub mod MirroredBlocks
 pub mod MovedBack

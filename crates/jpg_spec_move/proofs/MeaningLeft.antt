@@ -1,5 +1,5 @@
 -- What bytes mean, as a complete file or as one that ends early, may be written.
-use Rattle.std.proofs.Common.{◌≡◌, ℕ, List, ◌++◌, inl, inr, subst, None}
+use Rattle.std.proofs.Common.{ℕ, List, ◌++◌, inl, inr, subst}
 use Rattle.std.specs.List.{All}
 use Rattle.jpg_spec.specs.Segments.{standard_limits}
 use Rattle.jpg_spec.specs.FrameHeader.{AreLimits}
@@ -11,7 +11,8 @@ use Rattle.jpg_spec.specs.FileMeaning.{Means}
 use Rattle.jpg_spec.specs.FirstFault.{HaveBegun}
 use Rattle.jpg_spec.specs.Early.{EndsAfter, EndsInside, segments_with, IsMeaning}
 use Rattle.jpg_spec_write.specs.WrittenFile.{IsHeaded}
-use Rattle.jpg_spec_move.specs.Moved.{Choice, moved, gray_fault}
+use Rattle.jpg_spec_move.specs.Laws.{IsMovable}
+use Rattle.jpg_spec_move.specs.Moved.{Choice, moved}
 use Rattle.jpg_spec.specs.declared.frame.Limits.{Limits}
 use Rattle.jpg_spec.proofs.Rows.{all_front, all_back}
 use Rattle.jpg_spec.proofs.FrameAfter.{header_too, leads_pass}
@@ -92,5 +93,5 @@ pub read_picture : (limits : Limits) (bytes : List ℕ) (M : Meaning) → AreLim
 read_picture limits bytes M limited all m = let l = meaning_leaves limits bytes M m in left_picture limits l.0 l.1 M limited (l.3 all) l.2
 
 -- what bytes mean may be written, transformed as a choice asks for it
-pub read_moved : (limits : Limits) (bytes : List ℕ) (M : Meaning) (choice : Choice) → AreLimits limits → All IsByte bytes → IsMeaning limits bytes M → gray_fault choice.gray M ≡ None → IsHeaded standard_limits (moved choice M)
-read_moved limits bytes M choice limited all m none = moved_headed choice M none (read_picture limits bytes M limited all m)
+pub read_moved : (M : Meaning) (choice : Choice) → IsMovable choice M → IsHeaded standard_limits (moved choice M)
+read_moved M choice is = moved_headed choice M is.admitted is.inside (read_picture is.limits is.bytes M is.limited is.are_bytes is.means)

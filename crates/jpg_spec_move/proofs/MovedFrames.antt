@@ -11,7 +11,7 @@ use Rattle.jpg_spec.specs.Geometry.{Frame, div_up, greatest, h_max, v_max, compo
 use Rattle.jpg_spec.specs.FrameHeader.{IsFrame, HasFactors}
 use Rattle.jpg_spec.specs.Lists.{is_distinct}
 use Rattle.jpg_spec_move.specs.Transforms.{transposes, mirrors_across, mirrors_down}
-use Rattle.jpg_spec_move.specs.Moved.{Choice, moved_frame, transformed_frame, trimmed_frame, grayed_frame, exchanged_factors, whole_side}
+use Rattle.jpg_spec_move.specs.Moved.{transformed_frame, trimmed_frame, grayed_frame, exchanged_factors, whole_side}
 use Rattle.jpg_spec.specs.declared.frame.Component.{Component}
 use Rattle.jpg_spec_move.specs.declared.transform.Transform.{Transform}
 use Rattle.jpg_spec.proofs.Rows.{map_map}
@@ -78,7 +78,7 @@ up_mono a b d some h =
     let under : m / d * d ≤ m = div-mul-le_self m d in
     le-div (m / d) (b + d - 1) d some (omega (arith, h, under))
 
-sum_mono : (a b c d : ℕ) (cs : List Component) → a ≤ c → b ≤ d → sum_by (blocks_by a b) cs ≤ sum_by (blocks_by c d) cs
+pub sum_mono : (a b c d : ℕ) (cs : List Component) → a ≤ c → b ≤ d → sum_by (blocks_by a b) cs ≤ sum_by (blocks_by c d) cs
 sum_mono a b c d [] h k = omega arith
 sum_mono a b c d (x ∷ cs) h k =
     let one : (a * x.h) * (b * x.v) ≤ (c * x.h) * (d * x.v) = mul-le (a * x.h) (b * x.v) (c * x.h) (d * x.v) (mul-le a x.h c x.h h (omega arith)) (mul-le b x.v d x.v k (omega arith)) in
@@ -171,6 +171,3 @@ grayed_is true f is h v =
       slots = All-cons (λ c. c.quant ≤ 3) _ [] (first_slot f.components is.slots some) (All-nil (λ c. c.quant ≤ 3));
       blocks = omega (arith, all, product, under, is.blocks);
     }
-
-pub moved_is : (choice : Choice) (f : Frame) → IsFrame f → (choice.gray ≡ true → (component_at f 0).h ≡ h_max f) → (choice.gray ≡ true → (component_at f 0).v ≡ v_max f) → IsFrame (moved_frame choice f)
-moved_is choice f is h v = trimmed_is choice.trim choice.transform (transformed_frame choice.transform (grayed_frame choice.gray f)) (transformed_is choice.transform (grayed_frame choice.gray f) (grayed_is choice.gray f is h v))

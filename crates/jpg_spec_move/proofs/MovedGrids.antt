@@ -118,10 +118,10 @@ framed_picture M =
 
 -- columns and rows by grids
 
-part_across : (M : Meaning) (i : ℕ) → (component_of M i).h ≡ get_or (map (λ c. c.h) M.components) i 1
+pub part_across : (M : Meaning) (i : ℕ) → (component_of M i).h ≡ get_or (map (λ c. c.h) M.components) i 1
 part_across M i = sym (listn.get_or-map (λ c. c.h) M.components i (record { id = 0; h = 1; v = 1; quants = [] }))
 
-part_down : (M : Meaning) (i : ℕ) → (component_of M i).v ≡ get_or (map (λ c. c.v) M.components) i 1
+pub part_down : (M : Meaning) (i : ℕ) → (component_of M i).v ≡ get_or (map (λ c. c.v) M.components) i 1
 part_down M i = sym (listn.get_or-map (λ c. c.v) M.components i (record { id = 0; h = 1; v = 1; quants = [] }))
 
 pub columns_picture : (t : Transform) (M : Meaning) (i : ℕ) → changed_columns t M i ≡ columns_by t (picture_grids M) i

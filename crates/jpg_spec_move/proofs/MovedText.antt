@@ -5,10 +5,10 @@ use Rattle.jpg_spec.specs.Meaning.{Meaning, colour_of}
 use Rattle.jpg_spec.specs.FileMeaning.{Means}
 use Rattle.jpg_spec_write.specs.FileText.{frame_of_meaning}
 use Rattle.jpg_spec_write.specs.Laws.{AreOwn}
-use Rattle.jpg_spec_move.specs.Moved.{Choice, grayed, moved, moved_script, moved_script_fault, moved_text, trimmed}
+use Rattle.jpg_spec_move.specs.Cropped.{cropped_by}
+use Rattle.jpg_spec_move.specs.Moved.{Choice, moved, moved_script, moved_script_fault, moved_text, uncropped}
 use Rattle.jpg_spec_write.specs.ScansAsked.{asks_progressive, process_due}
 use Rattle.jpg_spec.specs.Segments.{standard_limits}
-use Rattle.jpg_spec_move.specs.Transforms.{transformed}
 use Rattle.jpg_spec_write.specs.WrittenFile.{IsHeaded, IsRestart}
 use Rattle.jpg_spec.specs.declared.frame.Process.TheVariants.{Baseline, Extended}
 use Rattle.jpg_spec_write.proofs.MovedText.{headed_frame, has_standard, own_by, same_kind, does_pass_as, passes_by, means_by}
@@ -28,7 +28,7 @@ moved_kind : (choice : Choice) (M : Meaning) → is_progressive (moved choice M)
 moved_kind choice M = by (asks_progressive choice.scans)
   where
     N : Meaning
-    N = trimmed choice.trim choice.transform (transformed choice.transform (grayed choice.gray M))
+    N = cropped_by choice.crop (uncropped choice M)
 
     by : (b : Bool) → is_progressive (process_due b N) ≡ b
     by true = refl

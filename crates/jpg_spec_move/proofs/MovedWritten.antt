@@ -1,5 +1,5 @@
 -- A picture that may be written may be written transformed, as a choice asks for it.
-use Rattle.std.proofs.Common.{◌≡◌, ℕ, ◌*◌, ◌<◌, ◌≤◌, Bool, true, false, cond, not, ◌&&◌, ◌==◌, List, [], ◌∷◌, length, get_or, map, refl, sym, ap, ◌∙◌, subst, arith, ℤ, Some, None}
+use Rattle.std.proofs.Common.{◌≡◌, ℕ, ◌+◌, ◌*◌, ◌<◌, ◌≤◌, Bool, true, false, cond, not, ◌&&◌, ◌==◌, List, [], ◌∷◌, length, get_or, map, refl, sym, ap, ◌∙◌, subst, arith, ℤ, Some, None, Option}
 use Rattle.std.specs.Prelude.{nat_lt}
 use Rattle.std.specs.List.{All}
 use Rattle.std.proofs.lemmas.List.{get_or-map}
@@ -15,7 +15,8 @@ use Rattle.jpg_spec_move.specs.Moves.{whole_columns, whole_rows, flip_h, flip_v}
 use Rattle.jpg_spec_write.specs.Headed.{headed_by}
 use Rattle.jpg_spec.specs.Transposed.{exchanged, transposed}
 use Rattle.jpg_spec_move.specs.Transforms.{transformed, transpose, exchanged_axes, mirrors_across, mirrors_down}
-use Rattle.jpg_spec_move.specs.Moved.{Choice, grayed, trimmed, whole_side, moved, gray_fault, is_gray_or_ycbcr, transformed_frame, trimmed_frame, grayed_frame, exchanged_factors}
+use Rattle.jpg_spec_move.specs.Cropped.{columns_before, crop_fault, cropped, cropped_by, cropped_frame, cropped_side, is_inside, rows_before}
+use Rattle.jpg_spec_move.specs.Moved.{Choice, grayed, trimmed, uncropped, whole_side, moved, gray_fault, is_gray_or_ycbcr, transformed_frame, trimmed_frame, grayed_frame, exchanged_factors}
 use Rattle.jpg_spec.specs.Grids.{picture_grids}
 use Rattle.jpg_spec_write.specs.ScansAsked.{process_due, asks_progressive}
 use Rattle.jpg_spec_write.specs.FileText.{frame_of_meaning}
@@ -23,7 +24,8 @@ use Rattle.jpg_spec_write.specs.WrittenFile.{HasQuants, IsHeaded}
 use Rattle.jpg_spec.specs.WholeBlocks.{HasWholeBlocks}
 use Rattle.jpg_spec.specs.declared.frame.Component.{Component}
 use Rattle.jpg_spec.specs.declared.frame.Bounds.{Bounds}
-use Rattle.jpg_spec_write.specs.declared.picture_fault.PictureFault.TheVariants.{GrayColour, GrayFactors}
+use Rattle.jpg_spec_write.specs.declared.picture_fault.PictureFault.TheVariants.{CropOutside, GrayColour, GrayFactors}
+use Rattle.jpg_spec_move.specs.declared.area.Area.{Area}
 use Rattle.jpg_spec_move.specs.declared.transform.Transform.{Transform}
 use Rattle.jpg_spec_move.specs.declared.transform.Transform.TheVariants.{Keep, FlipH, FlipV, Transpose, Transverse, Rotate90, Rotate180, Rotate270}
 use Rattle.jpg_spec.proofs.Common.{same_of}
@@ -32,6 +34,7 @@ use Rattle.jpg_spec_move.proofs.BlockLaws.{length_transposed}
 use Rattle.jpg_spec_move.proofs.Within.{mirrored_in}
 use Rattle.jpg_spec_write.proofs.WrittenHeading.{heading, other_process, progressive_precision, sequential_precision}
 use Rattle.jpg_spec_move.proofs.MovedBounds.{transposed_in, mirrored_down_in}
+use Rattle.jpg_spec_move.proofs.CroppedFrames.{cropped_is}
 use Rattle.jpg_spec_move.proofs.MovedFrames.{transformed_is, trimmed_is, grayed_is}
 use Rattle.jpg_spec.proofs.MovedFrames.{across_low, down_low}
 use Rattle.jpg_spec_move.proofs.OutsideZeros.{transformed_real}
@@ -218,17 +221,59 @@ trimmed_picture true t M is =
       others = alone (record M { width = N.width; height = N.height });
     }
 
+-- CROPPED
+
+-- an area that has no fault is inside
+pub inside_of : (area : Area) (M : Meaning) → crop_fault (Some area) M ≡ None → is_inside area M ≡ true
+inside_of area M e = by (is_inside area M) e
+  where
+    by : (b : Bool) → cond b None (Some CropOutside) ≡ None → b ≡ true
+    by true e = refl
+    by false e = cc
+
+cropped_picture : (area : Area) (M : Meaning) → is_inside area M ≡ true → IsPicture M → IsPicture (cropped area M)
+cropped_picture area M inside is =
+    let f = picture_frame M in
+    let N = cropped area M in
+    let across : h_max f ≡ most_across M = ap greatest (map_map (λ c. c.h) _ M.components) in
+    let down : v_max f ≡ most_down M = ap greatest (map_map (λ c. c.v) _ M.components) in
+    let same : SameNumbers (cropped_frame area f) (picture_frame N) = record {
+      process = refl;
+      width = ap (λ n. cropped_side (8 * n) area.x area.w) across;
+      height = ap (λ n. cropped_side (8 * n) area.y area.h) down;
+      precision = refl;
+      components = refl;
+    } in
+    let moved_there : Meaning = record M {
+      width = N.width;
+      height = N.height;
+      blocks = λ i x y. M.blocks i (x + columns_before area M i) (y + rows_before area M i);
+    } in
+    record {
+      frame = same_frame (cropped_frame area f) (picture_frame N) same (zero_slots M.components) (cropped_is area f inside is.frame);
+      quants = is.quants;
+      markers = is.markers;
+      count = is.count;
+      blocks = real_here (picture_frame N) moved_there (λ i x y. is.blocks i (x + columns_before area M i) (y + rows_before area M i));
+      others = alone moved_there;
+    }
+
+cropped_by_picture : (crop : Option Area) (M : Meaning) → crop_fault crop M ≡ None → IsPicture M → IsPicture (cropped_by crop M)
+cropped_by_picture None M none is = is
+cropped_by_picture (Some area) M none is = cropped_picture area M (inside_of area M none) is
+
 -- THE LAW
 
-pub moved_headed : (choice : Choice) (M : Meaning) → gray_fault choice.gray M ≡ None → IsPicture M → IsHeaded standard_limits (moved choice M)
-moved_headed choice M none is =
+pub moved_headed : (choice : Choice) (M : Meaning) → gray_fault choice.gray M ≡ None → crop_fault choice.crop (uncropped choice M) ≡ None → IsPicture M → IsHeaded standard_limits (moved choice M)
+moved_headed choice M none inside is =
     let grays = grayed_picture choice.gray M none is in
     let turns = transformed_picture choice.transform (grayed choice.gray M) grays in
-    let N = trimmed choice.trim choice.transform (transformed choice.transform (grayed choice.gray M)) in
-    let cuts = trimmed_picture choice.trim choice.transform (transformed choice.transform (grayed choice.gray M)) turns in
-    let headed = heading standard_limits choice.copying N (may_be_written N cuts) in
+    let trims = trimmed_picture choice.trim choice.transform (transformed choice.transform (grayed choice.gray M)) turns in
+    let N = cropped_by choice.crop (uncropped choice M) in
+    let crops = cropped_by_picture choice.crop (uncropped choice M) inside trims in
+    let headed = heading standard_limits choice.copying N (may_be_written N crops) in
     record {
-      frame = other_process standard_limits (frame_of_meaning (headed_by choice.copying N)) (frame_of_meaning (headed_by choice.copying N)) (process_due (asks_progressive choice.scans) N) (allowed N cuts.frame.precision (asks_progressive choice.scans)) headed.frame;
+      frame = other_process standard_limits (frame_of_meaning (headed_by choice.copying N)) (frame_of_meaning (headed_by choice.copying N)) (process_due (asks_progressive choice.scans) N) (allowed N crops.frame.precision (asks_progressive choice.scans)) headed.frame;
       quants = headed.quants;
       markers = headed.markers;
       count = headed.count;

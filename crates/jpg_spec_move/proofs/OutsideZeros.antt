@@ -5,7 +5,8 @@ use Rattle.std.proofs.lemmas.Bool.{cases_lt, ltb-true}
 use Rattle.std.proofs.lemmas.List.{length-map}
 use Rattle.jpg_spec.specs.Geometry.{Frame, greatest, blocks_across, blocks_down, component_at, is_real, IsReal}
 use Rattle.jpg_spec.specs.Elements.{zeros}
-use Rattle.jpg_spec.specs.Meaning.{Meaning, picture_frame}
+use Rattle.jpg_spec.specs.Meaning.{Meaning, picture_frame, real_blocks}
+use Rattle.jpg_spec.specs.Scan.{Blocks}
 use Rattle.jpg_spec_move.specs.Moves.{mirrored, mirrored_down}
 use Rattle.jpg_spec.specs.Transposed.{transposed}
 use Rattle.jpg_spec_move.specs.Transforms.{transformed, transposes, opposite, changed_columns, changed_rows, signed, turned_over}
@@ -55,11 +56,14 @@ is_test f i x y e =
       down = ltb-true y (blocks_down f (component_at f i)) p.2;
     }
 
-true_test : (f : Frame) (i x y : ℕ) → IsReal f i x y → test f i x y ≡ true
+pub true_test : (f : Frame) (i x y : ℕ) → IsReal f i x y → test f i x y ≡ true
 true_test f i x y r =
     ap (λ b. b && is_real f i x y) (lt_yes i (length f.components) r.component)
     ∙ ap (λ b. b && nat_lt y (blocks_down f (component_at f i))) (lt_yes x (blocks_across f (component_at f i)) r.across)
     ∙ lt_yes y (blocks_down f (component_at f i)) r.down
+
+pub real_true : (f : Frame) (blocks : Blocks) (i x y : ℕ) → IsReal f i x y → real_blocks f blocks i x y ≡ blocks i x y
+real_true f blocks i x y r = ap (λ b. cond b (blocks i x y) (zeros 64)) (true_test f i x y r)
 
 pub opposite_twice : (w x : ℕ) → opposite w (opposite w x) ≡ x
 opposite_twice w x = ⊎_elim inside outside (cases_lt x w)
@@ -76,10 +80,10 @@ opposite_twice w x = ⊎_elim inside outside (cases_lt x w)
 -- THE LAW
 
 -- the real places of a picture, by its grids
-in_picture : (M : Meaning) (i x y : ℕ) → IsIn (picture_grids M) i x y → IsReal (picture_frame M) i x y
+pub in_picture : (M : Meaning) (i x y : ℕ) → IsIn (picture_grids M) i x y → IsReal (picture_frame M) i x y
 in_picture M i x y r = from_grids (picture_frame M) i x y (subst (λ (K : Grids). IsIn K i x y) (sym (framed_picture M)) r)
 
-of_picture : (M : Meaning) (i x y : ℕ) → IsReal (picture_frame M) i x y → IsIn (picture_grids M) i x y
+pub of_picture : (M : Meaning) (i x y : ℕ) → IsReal (picture_frame M) i x y → IsIn (picture_grids M) i x y
 of_picture M i x y r = subst (λ (K : Grids). IsIn K i x y) (framed_picture M) (to_grids (picture_frame M) i x y r)
 
 over_in : (over : Bool) (G : Grids) (i x y : ℕ) → length G.across ≡ length G.down → IsIn G i (cond over y x) (cond over x y) → IsIn (over_grids over G) i x y

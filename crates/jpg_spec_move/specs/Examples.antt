@@ -1,16 +1,20 @@
 -- WORKED EXAMPLES: small pictures, the bytes of their files, and the places of the blocks of a mirrored picture.
-use Rattle.std.specs.Prelude.{ℕ, List, [], ◌∷◌, ◌++◌, ℤ, pos, negsuc}
+use Rattle.std.specs.Prelude.{ℕ, List, [], ◌∷◌, ◌++◌, ℤ, pos, negsuc, Some}
 use Rattle.jpg_spec.specs.Elements.{zeros}
 use Rattle.jpg_spec.specs.Meaning.{Meaning}
 use Rattle.jpg_spec.specs.ExampleFiles.{Gray, gray_meaning}
+use Rattle.jpg_spec.specs.Scan.{Blocks}
 use Rattle.jpg_spec_move.specs.ExampleFiles.{gray_front}
+use Rattle.jpg_spec_move.specs.Moved.{Choice, as_it_is, moved_text}
+use Rattle.jpg_spec_move.specs.declared.area.Area.{Area}
 use Rattle.jpg_spec.specs.Markers.{eoi}
 use Rattle.jpg_spec_write.specs.Headed.{headed}
 use Rattle.jpg_spec_move.specs.Transforms.{transformed}
 use Rattle.jpg_spec_move.specs.declared.transform.Transform.{Transform}
 use Rattle.jpg_spec.specs.declared.frame.Process.TheVariants.{Baseline}
-use Rattle.jpg_spec_write.specs.FileText.{sequential_text}
-use Rattle.jpg_spec.specs.Examples.{gray_of, flat_block, ones}
+use Rattle.jpg_spec_write.specs.FileText.{off, sequential_text}
+use Rattle.jpg_spec_write.specs.ScansAsked.{sequential}
+use Rattle.jpg_spec.specs.Examples.{gray_of, flat_block, ones, three_components}
 
 -- 8 by 8, with the values 5 and 2 in places 1 and 2 of the zigzag order
 abbrev pub two_values : Gray
@@ -63,3 +67,21 @@ two_transformed t = sequential_text (headed (transformed t (gray_meaning two_val
 -- a block of two AC values
 abbrev pub low_values : List ℤ
 low_values = pos 0 ∷ pos 5 ∷ pos 2 ∷ zeros 61
+
+-- CROPPED
+
+-- width, height, and the corner
+abbrev pub area_of : ℕ → ℕ → ℕ → ℕ → Area
+area_of w h x y = record { w = w; h = h; x = x; y = y }
+
+-- nothing but cropped
+abbrev pub cropping : Area → Choice
+cropping area = record (as_it_is sequential off) { crop = Some area }
+
+-- the file of the two blocks of DC -1024 and 1023, cropped
+abbrev pub extremes_cropped : Area → List ℕ
+extremes_cropped area = moved_text (cropping area) (gray_meaning extremes)
+
+-- 48 by 32 in three components, with iMCUs of 16 by 16
+abbrev pub six_mcus : Blocks → Meaning
+six_mcus blocks = record (three_components blocks) { width = 48; height = 32 }

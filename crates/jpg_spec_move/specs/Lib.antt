@@ -1,3 +1,4 @@
+pub mod Cropped
 pub mod ExampleFiles
 pub mod Examples
 pub mod Laws

@@ -1,9 +1,10 @@
--- A TRANSFORMED PICTURE, by a choice (the manual of jpegtran): converted to grayscale, transformed, trimmed, and given
--- a header for writing.
+-- A TRANSFORMED PICTURE, by a choice (the manual of jpegtran): converted to grayscale, transformed, trimmed, cropped, and
+-- given a header for writing.
 use Rattle.std.specs.Prelude.{◌≡◌, ℕ, ◌*◌, ◌/◌, Bool, true, false, not, ◌&&◌, ◌==◌, if◌then◌else◌, List, [], ◌∷◌, map, Option, Some, None}
 use Rattle.jpg_spec.specs.Geometry.{Frame, component_at, h_max, v_max}
 use Rattle.jpg_spec.specs.Meaning.{Meaning, colour_of, most_across, most_down, component_of, real_alone}
 use Rattle.jpg_spec_write.specs.Headed.{headed_by}
+use Rattle.jpg_spec_move.specs.Cropped.{crop_fault, cropped_by, cropped_frame_by}
 use Rattle.jpg_spec_move.specs.Transforms.{transformed, transposes, mirrors_across, mirrors_down}
 use Rattle.jpg_spec.specs.InForce.{first_some}
 use Rattle.jpg_spec_write.specs.Script.{Entry}
@@ -14,6 +15,7 @@ use Rattle.jpg_spec.specs.declared.frame.Copying.{Copying}
 use Rattle.jpg_spec.specs.declared.frame.Copying.TheVariants as copying
 use Rattle.jpg_spec.specs.declared.frame.Colour.{Colour}
 use Rattle.jpg_spec.specs.declared.frame.Colour.TheVariants.{Gray, YCbCr, Rgb, Cmyk, Ycck, Unknown}
+use Rattle.jpg_spec_move.specs.declared.area.Area.{Area}
 use Rattle.jpg_spec_move.specs.declared.transform.Transform.{Transform}
 use Rattle.jpg_spec_move.specs.declared.transform.Transform.TheVariants.{Keep}
 use Rattle.jpg_spec_write.specs.declared.picture_fault.PictureFault.{PictureFault}
@@ -29,6 +31,7 @@ pub record Choice : Type 0 where
   pub copying : Copying
   pub scans : Scans
   pub restart : Restart
+  pub crop : Option Area
 
 -- nothing transformed, and no kept marker passed on
 abbrev pub as_it_is : Scans → Restart → Choice
@@ -39,6 +42,7 @@ as_it_is scans restart = record {
   copying = copying.None;
   scans = scans;
   restart = restart;
+  crop = None;
 }
 
 abbrev pub grayed : Bool → Meaning → Meaning
@@ -62,8 +66,12 @@ headed_as choice M = record (headed_by choice.copying M) { process = process_due
 
 -- TRANSFORMED
 
+-- before it is cropped
+abbrev pub uncropped : Choice → Meaning → Meaning
+uncropped choice M = trimmed choice.trim choice.transform (transformed choice.transform (grayed choice.gray M))
+
 abbrev pub moved : Choice → Meaning → Meaning
-moved choice M = headed_as choice (trimmed choice.trim choice.transform (transformed choice.transform (grayed choice.gray M)))
+moved choice M = headed_as choice (cropped_by choice.crop (uncropped choice M))
 
 -- The same picture: sides, identifiers, factors, quantisers and blocks, whatever its process and kept markers.
 pub record IsSamePicture (M N : Meaning) : Type 0 where
@@ -97,9 +105,10 @@ moved_script choice M = script_due choice.scans (frame_of_meaning (moved choice 
 abbrev pub moved_script_fault : Choice → Meaning → Option PictureFault
 moved_script_fault choice M = script_fault (frame_of_meaning (moved choice M)) (moved_script choice M)
 
--- THE FIRST FAULT of a picture for a choice: of the conversion to grayscale, and then of the script
+-- THE FIRST FAULT of a picture for a choice: of the conversion to grayscale, then of the script, and then of the area
 abbrev pub picture_fault : Choice → Meaning → Option PictureFault
-picture_fault choice M = first_some (gray_fault choice.gray M) (moved_script_fault choice M)
+picture_fault choice M =
+    first_some (gray_fault choice.gray M) (first_some (moved_script_fault choice M) (crop_fault choice.crop (uncropped choice M)))
 
 -- THE TEXT of the file of a transformed picture
 abbrev pub moved_text : Choice → Meaning → List ℕ
@@ -123,8 +132,11 @@ trimmed_frame trim t f = record f {
 abbrev pub grayed_frame : Bool → Frame → Frame
 grayed_frame gray f = if gray then record f { components = record (component_at f 0) { h = 1; v = 1 } ∷ [] } else f
 
+abbrev pub uncropped_frame : Choice → Frame → Frame
+uncropped_frame choice f = trimmed_frame choice.trim choice.transform (transformed_frame choice.transform (grayed_frame choice.gray f))
+
 abbrev pub moved_frame : Choice → Frame → Frame
-moved_frame choice f = trimmed_frame choice.trim choice.transform (transformed_frame choice.transform (grayed_frame choice.gray f))
+moved_frame choice f = cropped_frame_by choice.crop (uncropped_frame choice f)
 
 -- the columns and rows of a component that are mirrored, by the output's frame
 abbrev pub columns_in : Transform → Frame → ℕ → ℕ

@@ -1,12 +1,12 @@
 //! Laws over the transforms of pictures: the inverse of each, and the one formula for all eight (the manual of
 //! jpegtran).
-ghost use Rattle.std.specs.Prelude.{◌≡◌, ℕ, ℤ, Bool, true, List};
+ghost use Rattle.std.specs.Prelude.{◌≡◌, ℕ, ℤ, Bool, List};
 ghost use Rattle.jpg_spec.specs.Geometry.{Frame};
 ghost use Rattle.jpg_spec.specs.FrameHeader.{IsFrame};
 ghost use Rattle.jpg_spec_move.specs.Moved.{Choice, moved, moved_frame, IsSamePicture};
 ghost use Rattle.jpg_spec.specs.Meaning.{Meaning};
 ghost use Rattle.jpg_spec_move.specs.Transforms.{transformed, inverse, signed, turned_over};
-ghost use Rattle.jpg_spec_move.specs.Laws.{IsTransformOf, UndoesTransform, formula_block, HasSampling, IsZeroOutside, FirstIsGreatest};
+ghost use Rattle.jpg_spec_move.specs.Laws.{IsTransformOf, UndoesTransform, formula_block, HasSampling, IsZeroOutside, IsMovableFrame};
 ghost use Rattle.jpg_spec.specs.declared.frame.Bounds.{Bounds};
 ghost use Rattle.jpg_spec.specs.Elements.{IsBlockIn};
 ghost use Rattle.jpg_spec.specs.WholeBlocks.{HasWholeBlocks};
@@ -18,8 +18,8 @@ pub fn transforms_are_undone()
     ensures { (M : Meaning) (t : Transform) → HasWholeBlocks M → transformed (inverse t) (transformed t M) ≡ M }
 {}
 
-/// So if a picture is a transform of another, the inverse without trimming and conversion to grayscale restores it,
-/// whatever is copied and in whatever scans both are written.
+/// So if a picture is a transform of another, the inverse without trimming, conversion to grayscale and cropping restores
+/// it, whatever is copied and in whatever scans both are written.
 pub fn pictures_are_moved_back()
     ensures { (M N : Meaning) (t : Transform) (choice : Choice) → IsTransformOf t M N → UndoesTransform t choice → IsSamePicture (moved choice N) M }
 {}
@@ -35,9 +35,10 @@ pub fn transformed_pictures_are_zero_outside()
     ensures { (M : Meaning) (t : Transform) → HasWholeBlocks M → HasSampling (transformed t M) → IsZeroOutside M → IsZeroOutside (transformed t M) }
 {}
 
-/// The frame of a transformed picture passes the checks of a frame header, if the picture's frame does.
+/// The frame of a transformed picture passes the checks of a frame header, if the picture's frame does, and can be
+/// converted to grayscale and cropped if that is asked for.
 pub fn frames_moved_are_frames()
-    ensures { (choice : Choice) (f : Frame) → IsFrame f → (choice.gray ≡ true → FirstIsGreatest f) → IsFrame (moved_frame choice f) }
+    ensures { (choice : Choice) (f : Frame) → IsMovableFrame choice f → IsFrame (moved_frame choice f) }
 {}
 
 /// Each block that the formula makes of one within the bounds of a frame is within them: its DC is the same, and no AC

@@ -8,6 +8,7 @@ use Rattle.jpg_spec.specs.Jfif.{jfif_of, adobe_transform}
 use Rattle.jpg_spec.specs.Colours.{colours_of}
 use Rattle.jpg_spec.specs.Meaning.{Meaning, colour_of}
 use Rattle.jpg_spec_write.specs.Headed.{jfif_contents, headed_kept}
+use Rattle.jpg_spec_move.proofs.CroppedScripts.{without_area}
 use Rattle.jpg_spec_move.specs.Moved.{as_it_is, moved, moved_text, picture_fault}
 use Rattle.jpg_spec_write.specs.ScansAsked.{asks_progressive, process_due, script_due}
 use Rattle.jpg_spec.specs.InForce.{first_some}
@@ -69,5 +70,6 @@ stays_text e image = ap (λ (H : Meaning). file_text H (script_due e.scans (fram
 
 pub stays_fault : (e : Encoding) (image : Image) → sampling_fault e image ≡ None → picture_fault (as_it_is e.scans e.restart) (encoded e image) ≡ encode_fault e image
 stays_fault e image none =
-    ap (λ (H : Meaning). script_fault (frame_of_meaning H) (script_due e.scans (frame_of_meaning H) (colour_of H))) (stays e image)
+    without_area (as_it_is e.scans e.restart) (encoded e image) refl
+    ∙ ap (λ (H : Meaning). script_fault (frame_of_meaning H) (script_due e.scans (frame_of_meaning H) (colour_of H))) (stays e image)
     ∙ sym (ap (λ f. first_some f (script_fault (frame_of_meaning (encoded e image)) (encoded_script e image))) none)

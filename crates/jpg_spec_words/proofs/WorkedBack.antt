@@ -67,7 +67,7 @@ whole n = record { blocks = blocks_long n; quants = quants_long n }
 
 same_picture : (n : ℕ) → IsSamePicture (back_picture n) (first_picture n)
 same_picture n =
-    moved_back (turned_picture n) (first_picture n) Rotate90 back_choice (whole n) refl refl refl
+    moved_back (turned_picture n) (first_picture n) Rotate90 back_choice (whole n) (record { transform = refl; untrimmed = refl; ungrayed = refl; whole = refl })
     (record { width = refl; height = refl; components = refl; blocks = refl })
 
 abbrev as_first : ℕ → ℕ → ℕ → List PictureComponent → Blocks → Meaning

@@ -23,6 +23,7 @@ cjpeg_switches =
     record { name = codes "quality"; shortest = 1; purpose = Valued setting.Quality }
     ∷ record { name = codes "grayscale"; shortest = 2; purpose = Alone flag.Gray }
     ∷ record { name = codes "greyscale"; shortest = 2; purpose = Alone flag.Gray }
+    ∷ record { name = codes "targa"; shortest = 1; purpose = Alone flag.Targa }
     ∷ record { name = codes "baseline"; shortest = 1; purpose = Alone flag.Baseline }
     ∷ record { name = codes "progressive"; shortest = 1; purpose = Alone flag.Progressive }
     ∷ record { name = codes "scans"; shortest = 4; purpose = Valued setting.Scans }
@@ -38,14 +39,14 @@ cjpeg_switches =
     ∷ record { name = codes "debug"; shortest = 1; purpose = LeftOut }
     ∷ record { name = codes "maxmemory"; shortest = 3; purpose = LeftOut }
     ∷ record { name = codes "smooth"; shortest = 2; purpose = LeftOut }
-    ∷ record { name = codes "qslots"; shortest = 2; purpose = LeftOut }
-    ∷ record { name = codes "targa"; shortest = 1; purpose = LeftOut } ∷ []
+    ∷ record { name = codes "qslots"; shortest = 2; purpose = LeftOut } ∷ []
 
--- files; the quality, if it is given; whether the picture is in grayscale, and whether no quantiser has more than one
+-- files; whether the input is a Targa file; the quality, if it is given; whether the picture is in grayscale, and whether no quantiser has more than one
 -- byte; in which scans and with which restart intervals it is written; factors of the first components, and the name of
 -- a file that has tables, if they are given
 pub record EncodeAsked : Type 0 where
   pub files : FilesAsked
+  pub targa : Bool
   pub quality : Option ℕ
   pub gray : Bool
   pub baseline : Bool
@@ -58,6 +59,7 @@ pub record EncodeAsked : Type 0 where
 abbrev pub encode_default : EncodeAsked
 encode_default = record {
   files = from_to standard_input;
+  targa = false;
   quality = None;
   gray = false;
   baseline = false;
@@ -97,6 +99,7 @@ factors_named value = factors_from 4 value
 -- SWITCHES
 
 abbrev pub encode_flag : Flag → ℕ → EncodeAsked → WordsTold EncodeAsked
+encode_flag flag.Targa index a = words_right (record a { targa = true })
 encode_flag flag.Gray index a = words_right (record a { gray = true })
 encode_flag flag.Baseline index a = words_right (record a { baseline = true })
 encode_flag flag.Progressive index a = words_right (record a { scans = with_progressive a.scans })

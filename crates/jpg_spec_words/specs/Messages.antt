@@ -8,7 +8,7 @@ use Rattle.jpg_spec_words.specs.declared.answers.Which.{Which}
 use Rattle.jpg_spec_words.specs.declared.answers.Which.TheVariants.{Input, Script, Tables, Comment, Output}
 use Rattle.jpg_spec_words.specs.declared.answers.Why.{Why}
 use Rattle.jpg_spec_write.specs.declared.picture_fault.PictureFault.{PictureFault}
-use Rattle.jpg_spec_write.specs.declared.picture_fault.PictureFault.TheVariants.{GrayColour, GrayFactors, FractionalFactors, TooManyBlocks, ScriptComponent, ScriptMcu, ScriptBand, ScriptIncomplete}
+use Rattle.jpg_spec_write.specs.declared.picture_fault.PictureFault.TheVariants.{GrayColour, GrayFactors, FractionalFactors, TooManyBlocks, ScriptComponent, ScriptMcu, ScriptBand, ScriptIncomplete, CropOutside}
 use Rattle.jpg_spec_words.specs.declared.answers.Why.TheVariants.{Done, Warned, Usage, Refused, Picture, OpenFault, ReadFault, WriteFault, NoMemory}
 use Rattle.jpg_spec_write.specs.PictureFaults.{picture_name}
 
@@ -51,6 +51,7 @@ picture_numbers (ScriptComponent entry) = then_number entry
 picture_numbers (ScriptMcu entry) = then_number entry
 picture_numbers (ScriptBand entry) = then_number entry
 picture_numbers (ScriptIncomplete component coefficient bit) = then_number component ++ then_number coefficient ++ then_bit bit
+picture_numbers CropOutside = []
 
 -- the text after the command's name and `: `
 abbrev pub text_of : Why → List ℕ

@@ -4,7 +4,7 @@ use Rattle.std.specs.Str.{bytes_eq}
 use Rattle.jpg_spec_words.specs.Requests.{FilesAsked, Tool, WordsTold, from_to, is_int, request, standard_input, usage_at, where_good, with_input, with_output, words_right}
 use Rattle.jpg_spec_words.specs.Switches.{Switch}
 use Rattle.jpg_spec_image.specs.declared.image.EndKind.{EndKind}
-use Rattle.jpg_spec_image.specs.declared.image.EndKind.TheVariants.{Pnm, Bmp}
+use Rattle.jpg_spec_image.specs.declared.image.EndKind.TheVariants.{Pnm, Bmp, Targa}
 use Rattle.jpg_spec_words.specs.declared.answers.UsageFault.TheVariants.{UnknownSwitch}
 use Rattle.jpg_spec_words.specs.declared.switch.Flag.{Flag}
 use Rattle.jpg_spec_words.specs.declared.switch.Flag.TheVariants as flag
@@ -17,6 +17,7 @@ djpeg_switches =
     record { name = codes "pnm"; shortest = 1; purpose = Alone flag.Pnm }
     ∷ record { name = codes "ppm"; shortest = 1; purpose = Alone flag.Pnm }
     ∷ record { name = codes "bmp"; shortest = 1; purpose = Alone flag.Bmp }
+    ∷ record { name = codes "targa"; shortest = 1; purpose = Alone flag.Targa }
     ∷ record { name = codes "grayscale"; shortest = 2; purpose = Alone flag.Gray }
     ∷ record { name = codes "greyscale"; shortest = 2; purpose = Alone flag.Gray }
     ∷ record { name = codes "nosmooth"; shortest = 3; purpose = Alone flag.NoSmooth }
@@ -35,8 +36,7 @@ djpeg_switches =
     ∷ record { name = codes "os2"; shortest = 3; purpose = LeftOut }
     ∷ record { name = codes "rle"; shortest = 1; purpose = LeftOut }
     ∷ record { name = codes "verbose"; shortest = 1; purpose = LeftOut }
-    ∷ record { name = codes "debug"; shortest = 1; purpose = LeftOut }
-    ∷ record { name = codes "targa"; shortest = 1; purpose = LeftOut } ∷ []
+    ∷ record { name = codes "debug"; shortest = 1; purpose = LeftOut } ∷ []
 
 -- files; the format of the image, and the index of the word that a fault of it has; whether it is in grayscale, and
 -- whether samples are smoothed
@@ -58,6 +58,7 @@ is_whole_scale value = bytes_eq value (codes "1/1")
 abbrev pub show_flag : Flag → ℕ → ShowAsked → WordsTold ShowAsked
 show_flag flag.Pnm index a = words_right (record a { kind = Pnm; kind_word = index })
 show_flag flag.Bmp index a = words_right (record a { kind = Bmp; kind_word = index })
+show_flag flag.Targa index a = words_right (record a { kind = Targa; kind_word = index })
 show_flag flag.Gray index a = words_right (record a { gray = true })
 show_flag flag.NoSmooth index a = words_right (record a { smooth = false })
 show_flag other index a = usage_at UnknownSwitch index

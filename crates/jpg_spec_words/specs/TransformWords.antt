@@ -1,5 +1,5 @@
 -- WHAT THE WORDS of jpegtran ask for, after the command's own (its manual in release 6b).
-use Rattle.std.specs.Prelude.{ℕ, Bool, true, false, ◌||◌, ◌==◌, if◌then◌else◌, List, [], ◌∷◌, Option, None, Some, option_and_then, codes}
+use Rattle.std.specs.Prelude.{ℕ, Bool, true, false, ◌||◌, ◌==◌, if◌then◌else◌, List, [], ◌∷◌, Option, None, Some, option_and_then, option_map, codes}
 use Rattle.jpg_spec_write.specs.FileText.{Restart, off}
 use Rattle.jpg_spec_write.specs.ScansAsked.{Scans}
 use Rattle.jpg_spec_move.specs.Moved.{Choice}
@@ -7,6 +7,7 @@ use Rattle.jpg_spec_words.specs.Requests.{FilesAsked, Tool, WordsTold, from_to, 
 use Rattle.jpg_spec_words.specs.Switches.{Switch, stands_for}
 use Rattle.jpg_spec.specs.declared.frame.Copying.{Copying}
 use Rattle.jpg_spec.specs.declared.frame.Copying.TheVariants as copying
+use Rattle.jpg_spec_move.specs.declared.area.Area.{Area}
 use Rattle.jpg_spec_move.specs.declared.transform.Transform.{Transform}
 use Rattle.jpg_spec_move.specs.declared.transform.Transform.TheVariants.{Keep, FlipH, FlipV, Transpose, Transverse, Rotate90, Rotate180, Rotate270}
 use Rattle.jpg_spec_words.specs.declared.answers.UsageFault.TheVariants.{TwoTransforms, UnknownSwitch}
@@ -19,6 +20,7 @@ use Rattle.jpg_spec_words.specs.declared.switch.Setting.TheVariants as setting
 abbrev pub jpegtran_switches : List Switch
 jpegtran_switches =
     record { name = codes "copy"; shortest = 1; purpose = Valued setting.Copy }
+    ∷ record { name = codes "crop"; shortest = 2; purpose = Valued setting.Crop }
     ∷ record { name = codes "flip"; shortest = 1; purpose = Valued setting.Flip }
     ∷ record { name = codes "grayscale"; shortest = 1; purpose = Alone flag.Gray }
     ∷ record { name = codes "greyscale"; shortest = 1; purpose = Alone flag.Gray }
@@ -49,20 +51,29 @@ abbrev pub with_progressive : ScansSource → ScansSource
 with_progressive (in_file name) = in_file name
 with_progressive other = own_progressive
 
--- files, a transform, trimming, conversion to grayscale, which kept markers are passed on, and in which scans and with
--- which restart intervals it is written
+-- files, a transform, trimming, conversion to grayscale, the area that is cut out, which kept markers are passed on, and
+-- in which scans and with which restart intervals it is written
 pub record TransformAsked : Type 0 where
   pub files : FilesAsked
   pub transform : Transform
   pub trim : Bool
   pub gray : Bool
+  pub crop : Option Area
   pub copying : Copying
   pub scans : ScansSource
   pub restart : Restart
 
 -- the choice, in these scans
 abbrev pub choice_asked : TransformAsked → Scans → Choice
-choice_asked a scans = record { transform = a.transform; trim = a.trim; gray = a.gray; copying = a.copying; scans = scans; restart = a.restart }
+choice_asked a scans = record {
+  transform = a.transform;
+  trim = a.trim;
+  gray = a.gray;
+  copying = a.copying;
+  scans = scans;
+  restart = a.restart;
+  crop = a.crop;
+}
 
 -- if no switch is given
 abbrev pub transform_default : TransformAsked
@@ -71,6 +82,7 @@ transform_default = record {
   transform = Keep;
   trim = false;
   gray = false;
+  crop = None;
   copying = copying.Comments;
   scans = own_sequential;
   restart = off;
@@ -97,6 +109,28 @@ rotation_of degrees = if degrees == 90 then Some Rotate90 else if degrees == 180
 
 abbrev pub rotation_named : List ℕ → Option Transform
 rotation_named value = option_and_then rotation_of (number_of value)
+
+-- the text before the first of these bytes and the text after it, if there is one
+abbrev pub cut_at : ℕ → List ℕ → Option (List ℕ × List ℕ)
+cut_at byte [] = None
+cut_at byte (b ∷ text) = if b == byte then Some ([], text) else option_map (λ cut. (b ∷ cut.0, cut.1)) (cut_at byte text)
+
+-- the number before the first of these bytes, and the text after it
+abbrev pub number_before : ℕ → List ℕ → Option (ℕ × List ℕ)
+number_before byte text = option_and_then (λ cut. option_map (λ n. (n, cut.1)) (number_of cut.0)) (cut_at byte text)
+
+-- AN AREA, WxH+X+Y (120 is x, 43 is +): its sides, of which none is 0, and the place of its corner
+abbrev pub area_of : ℕ → ℕ → ℕ → ℕ → Area
+area_of w h x y = record { w = w; h = h; x = x; y = y }
+
+abbrev pub area_at : ℕ → ℕ → List ℕ → Option Area
+area_at w h text = option_and_then (λ x. option_map (area_of w h x.0) (number_of x.1)) (number_before 43 text)
+
+abbrev pub area_with : ℕ → List ℕ → Option Area
+area_with w text = option_and_then (λ h. if w == 0 || h.0 == 0 then None else area_at w h.0 h.1) (number_before 43 text)
+
+abbrev pub area_named : List ℕ → Option Area
+area_named value = option_and_then (λ w. area_with w.0 w.1) (number_before 120 value)
 
 -- which of the eight transforms this is
 abbrev pub transform_number : Transform → ℕ
@@ -127,6 +161,7 @@ transform_flag other index a = usage_at UnknownSwitch index
 
 abbrev pub transform_setting : Setting → ℕ → List ℕ → TransformAsked → WordsTold TransformAsked
 transform_setting setting.Copy index value a = with_value index (copying_named value) (λ c. words_right (record a { copying = c }))
+transform_setting setting.Crop index value a = with_value index (area_named value) (λ area. words_right (record a { crop = Some area }))
 transform_setting setting.Flip index value a = with_value index (flip_named value) (λ t. with_transform index t a)
 transform_setting setting.Rotate index value a = with_value index (rotation_named value) (λ t. with_transform index t a)
 transform_setting setting.Output index value a = words_right (record a { files = with_output value a.files })

@@ -30,6 +30,8 @@ pub enum Flag {
     Pnm,
     /// `-bmp`: the image is written as BMP.
     Bmp,
+    /// `-targa`: the image is written, or read, as Targa.
+    Targa,
     /// `-nosmooth`: rows of samples are repeated when they are upsampled.
     NoSmooth,
     /// `-baseline`: no quantiser of more than one byte.
@@ -45,6 +47,8 @@ pub enum Setting {
     CommentFile,
     /// `-copy`: which kept markers are passed on.
     Copy,
+    /// `-crop`: the area that is cut out.
+    Crop,
     /// `-flip`: the direction.
     Flip,
     /// `-rotate`: the number of degrees.

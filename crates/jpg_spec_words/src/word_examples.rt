@@ -1,18 +1,18 @@
 //! Worked examples of words: what the words of jpegtran, djpeg and cjpeg ask for, by computation.
 #![tactic(auto, unfolding(jpg_spec::specs::Codes::are_codes, jpg_spec::specs::HuffContents::huffman_table_of, jpg_spec::specs::HuffContents::huffman_tables_of, jpg_spec::specs::QuantContents::quant_tables_of))]
 
-ghost use Rattle.std.specs.Prelude.{◌≡◌, [], ◌∷◌, ◌++◌, true, false, Some, codes};
+ghost use Rattle.std.specs.Prelude.{◌≡◌, [], ◌∷◌, ◌++◌, true, false, None, Some, codes};
 ghost use Rattle.jpg_spec_words.specs.CommentWords.{read_asked, write_asked};
 ghost use Rattle.jpg_spec_words.specs.EncodeWords.{encode_asked, encode_default, factors_due};
 ghost use Rattle.jpg_spec_words.specs.Requests.{from_to, named, standard_input, usage_at, with_output, words_right};
 ghost use Rattle.jpg_spec_words.specs.ShowWords.{show_asked, show_default};
 ghost use Rattle.jpg_spec_write.specs.FileText.{rows, mcus};
-ghost use Rattle.jpg_spec_words.specs.TransformWords.{transform_asked, transform_default, own_progressive, in_file};
+ghost use Rattle.jpg_spec_words.specs.TransformWords.{area_named, area_of, transform_asked, transform_default, own_progressive, in_file};
 ghost use Rattle.jpg_spec_words.specs.Work.{back_asked, first_asked, sides_line, turned_asked, work_info};
 ghost use Rattle.jpg_spec_words.specs.WorkWords.{work_asked};
 ghost use Rattle.jpg_spec_words.specs.declared.answers.UsageFault.TheVariants.{BadValue, LeftOutSwitch, MissingValue, TooManyFiles, TwoTransforms, UnknownSwitch};
 ghost use Rattle.jpg_spec.specs.declared.frame.Copying.TheVariants as copying;
-ghost use Rattle.jpg_spec_image.specs.declared.image.EndKind.TheVariants.{Pnm, Bmp};
+ghost use Rattle.jpg_spec_image.specs.declared.image.EndKind.TheVariants.{Pnm, Bmp, Targa};
 ghost use Rattle.jpg_spec_move.specs.declared.transform.Transform.TheVariants.{FlipH, Rotate90, Transpose, Transverse};
 ghost use Rattle.jpg_spec_words.specs.declared.answers.UsageFault.TheVariants as usage;
 
@@ -59,6 +59,31 @@ pub fn wrong_words_have_their_places()
     ensures files { transform_asked (codes "a" ∷ codes "-trim" ∷ []) ≡ usage_at TooManyFiles 2 }
 {}
 
+/// An area is four numbers; the switch that is repeated takes its last value, and `-co` is `-copy`.
+pub fn areas_are_four_numbers()
+    ensures least { transform_asked (codes "-cr" ∷ codes "1x1+0+0" ∷ []) ≡ words_right (record transform_default { crop = Some (area_of 1 1 0 0) }) }
+    ensures most { area_named (codes "99999x00008+00+16") ≡ Some (area_of 99999 8 0 16) }
+    ensures again { transform_asked (codes "-crop" ∷ codes "8x8+0+0" ∷ codes "-CRO" ∷ codes "9x9+9+0" ∷ [])
+        ≡ words_right (record transform_default { crop = Some (area_of 9 9 9 0) }) }
+    ensures copy { transform_asked (codes "-co" ∷ codes "a" ∷ []) ≡ words_right (record transform_default { copying = copying.All }) }
+{}
+
+/// Other values aren't areas: without pixels, with a number of six digits, with a part missing or left over, or with
+/// another sign.
+pub fn other_values_are_not_areas()
+    ensures none { transform_asked (codes "-crop" ∷ codes "0x8+0+0" ∷ []) ≡ usage_at BadValue 2 }
+    ensures flat { area_named (codes "8x0+0+0") ≡ None }
+    ensures long { area_named (codes "8x8+100000+0") ≡ None }
+    ensures six { area_named (codes "8x8+0+000000") ≡ None }
+    ensures side { area_named (codes "x8+0+0") ≡ None }
+    ensures corner { area_named (codes "8x8+0") ≡ None }
+    ensures last { area_named (codes "8x8+0+") ≡ None }
+    ensures more { area_named (codes "8x8+0+0+0") ≡ None }
+    ensures capital { area_named (codes "8X8+0+0") ≡ None }
+    ensures before { area_named (codes "8x8-8+0") ≡ None }
+    ensures missing { transform_asked (codes "-cr" ∷ []) ≡ usage_at MissingValue 1 }
+{}
+
 /// A picture is decoded to PNM if no word asks for a format, otherwise to the last one; its fault is at that word, or
 /// after all words.
 pub fn the_last_format_counts()
@@ -66,6 +91,7 @@ pub fn the_last_format_counts()
     ensures pnm { (show_default 1).kind ≡ Pnm }
     ensures place { (show_default 1).kind_word ≡ 1 }
     ensures bmp { show_asked (codes "-B" ∷ []) ≡ words_right (record (show_default 2) { kind = Bmp; kind_word = 1 }) }
+    ensures targa { show_asked (codes "-t" ∷ []) ≡ words_right (record (show_default 2) { kind = Targa; kind_word = 1 }) }
     ensures last { show_asked (codes "-bmp" ∷ codes "-ppm" ∷ []) ≡ words_right (record (show_default 3) { kind_word = 2 }) }
     ensures gray { show_asked (codes "-gr" ∷ []) ≡ words_right (record (show_default 2) { gray = true }) }
     ensures smooth { show_asked (codes "-nos" ∷ []) ≡ words_right (record (show_default 2) { smooth = false }) }
@@ -78,7 +104,6 @@ pub fn wrong_words_of_djpeg_have_their_places()
     ensures fast { show_asked (codes "-dct" ∷ codes "fast" ∷ []) ≡ usage_at BadValue 2 }
     ensures half { show_asked (codes "-bmp" ∷ codes "-scale" ∷ codes "1/2" ∷ []) ≡ usage_at BadValue 3 }
     ensures debug { show_asked (codes "-d" ∷ []) ≡ usage_at LeftOutSwitch 1 }
-    ensures targa { show_asked (codes "-t" ∷ []) ≡ usage_at LeftOutSwitch 1 }
     ensures flip { show_asked (codes "-flip" ∷ codes "h" ∷ []) ≡ usage_at UnknownSwitch 1 }
     ensures files { show_asked (codes "a" ∷ codes "b" ∷ []) ≡ usage_at TooManyFiles 2 }
 {}
@@ -95,6 +120,7 @@ pub fn values_of_cjpeg_are_numbers()
     ensures gray { factors_due ((4, 3) ∷ (1, 2) ∷ []) 1 ≡ (4, 3) ∷ [] }
     ensures own { factors_due [] 3 ≡ (2, 2) ∷ (1, 1) ∷ (1, 1) ∷ [] }
     ensures tables { encode_asked (codes "-QT" ∷ codes "t" ∷ []) ≡ words_right (record encode_default { tables = Some (codes "t") }) }
+    ensures targa { encode_asked (codes "-T" ∷ []) ≡ words_right (record encode_default { targa = true }) }
     ensures baseline { encode_asked (codes "-b" ∷ []) ≡ words_right (record encode_default { baseline = true }) }
     ensures script { encode_asked (codes "-scan" ∷ codes "a" ∷ codes "-p" ∷ []) ≡ words_right (record encode_default { scans = in_file (codes "a") }) }
 {}

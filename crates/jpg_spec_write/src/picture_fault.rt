@@ -33,6 +33,8 @@ pub enum PictureFault {
         coefficient: u8,
         bit: Option<u8>,
     },
+    /// The area that is cut out isn't inside the transformed picture.
+    CropOutside,
 }
 
 impl PictureFault {
@@ -49,6 +51,7 @@ impl PictureFault {
             PictureFault::ScriptMcu { .. } => "ScriptMcu",
             PictureFault::ScriptBand { .. } => "ScriptBand",
             PictureFault::ScriptIncomplete { .. } => "ScriptIncomplete",
+            PictureFault::CropOutside => "CropOutside",
         }
     }
 }

@@ -9,7 +9,7 @@ use Rattle.jpg_coefs.proofs.Copied.{all_real}
 use Rattle.jpg_file.specs.declared.read.picture.Picture.{Picture as Read}
 use Rattle.jpg_transform.specs.MovedBlocks.{ShowsJob}
 use Rattle.jpg_transform.specs.declared.choice.Job.{Job}
-use Rattle.jpg_transform.proofs.Showing.{real_true}
+use Rattle.jpg_spec_move.proofs.OutsideZeros.{real_true}
 
 pub shows_all : (p : Read) (job : Job) (seen : Blocks) (old new : Picture) (n : ℕ) → ShowsJob p job seen → old.blocks ≡ replicate n (zeros 64) → CopiesBlocks (in_grids job.plan.out.frame) seen old new → ShowsJob p job (map_of new)
 shows_all p job seen old new n shows none all = λ choice is.

@@ -1,5 +1,5 @@
 -- The blocks of a transformed picture are in the bounds, and are zeros outside the real grids.
-use Rattle.std.proofs.Common.{◌≡◌, ℕ, ◌<◌, Bool, true, false, cond, List, [], ◌∷◌, length, refl, sym, ap, ◌∙◌, subst, arith, ℤ}
+use Rattle.std.proofs.Common.{◌≡◌, ℕ, ◌+◌, ◌<◌, Bool, true, false, cond, List, [], ◌∷◌, length, refl, sym, ap, ◌∙◌, subst, arith, ℤ, Option, None, Some}
 use Rattle.std.specs.Prelude.{nat_lt}
 use Rattle.std.proofs.lemmas.List.{length-map}
 use Rattle.jpg_spec.specs.Elements.{IsBlockIn, zeros}
@@ -7,12 +7,14 @@ use Rattle.jpg_spec.specs.FrameHeader.{IsFrame}
 use Rattle.jpg_spec.specs.Geometry.{Frame, bounds, greatest}
 use Rattle.jpg_spec.specs.Lists.{below}
 use Rattle.jpg_spec.specs.Meaning.{Meaning, picture_frame, real_blocks}
-use Rattle.jpg_spec_move.specs.Moved.{Choice, grayed, moved, trimmed}
+use Rattle.jpg_spec_move.specs.Cropped.{columns_before, cropped, cropped_by, rows_before}
+use Rattle.jpg_spec_move.specs.Moved.{Choice, grayed, moved, trimmed, uncropped}
 use Rattle.jpg_spec.specs.Grids.{Grids, frame_grids, picture_grids}
 use Rattle.jpg_spec.specs.Meaning.{component_of}
 use Rattle.jpg_spec_move.specs.Moves.{flip_h, flip_v, whole_columns, whole_rows}
 use Rattle.jpg_spec.specs.Scan.{Blocks}
 use Rattle.jpg_spec_move.specs.Transforms.{transformed, transpose}
+use Rattle.jpg_spec_move.specs.declared.area.Area.{Area}
 use Rattle.jpg_spec_move.specs.declared.transform.Transform.{Transform}
 use Rattle.jpg_spec_move.specs.declared.transform.Transform.TheVariants.{Keep, FlipH, FlipV, Transpose, Transverse, Rotate90, Rotate180, Rotate270}
 use Rattle.jpg_spec.proofs.Common.{length_below}
@@ -70,13 +72,19 @@ module _ (g : Frame) where
   cut_bounded false t M are = are
   cut_bounded true t M are = real_bounded (picture_frame (trimmed true t M)) M.blocks are
 
+  crop_bounded : (crop : Option Area) (M : Meaning) → AreBounded M → AreBounded (cropped_by crop M)
+  crop_bounded None M are = are
+  crop_bounded (Some area) M are =
+      real_bounded (picture_frame (cropped area M)) (λ i x y. M.blocks i (x + columns_before area M i) (y + rows_before area M i)) (λ i x y. are i (x + columns_before area M i) (y + rows_before area M i))
+
 -- those of a picture, transformed
 pub moved_bounded : (p : Picture) (c : Choice) (i x y : ℕ) → IsBlockIn (bounds p.frame) ((moved c (picture_meaning p)).blocks i x y)
 moved_bounded p c =
     let M = picture_meaning p in
     let f = p.frame in
     let own : AreBounded f M = real_bounded f f (map_of p.coefs) (λ i x y. block_in (bounds f) (map_of p.coefs i x y) (p.keeps.range.sizes i x y) (λ k. p.keeps.range.values i x y k)) in
-    cut_bounded f c.trim c.transform (transformed c.transform (grayed c.gray M)) (turned_bounded f c.transform (grayed c.gray M) (gray_bounded f c.gray M own))
+    crop_bounded f c.crop (uncropped c M)
+    (cut_bounded f c.trim c.transform (transformed c.transform (grayed c.gray M)) (turned_bounded f c.transform (grayed c.gray M) (gray_bounded f c.gray M own)))
 
 -- ZEROS OUTSIDE
 
@@ -96,6 +104,19 @@ cut_real : (trim : Bool) (t : Transform) (M : Meaning) → HasRealBlocks M → H
 cut_real false t M real = real
 cut_real true t M real = alone (record M { width = (trimmed true t M).width; height = (trimmed true t M).height })
 
+crop_real : (crop : Option Area) (M : Meaning) → HasRealBlocks M → HasRealBlocks (cropped_by crop M)
+crop_real None M real = real
+crop_real (Some area) M real =
+    alone (record M { width = (cropped area M).width; height = (cropped area M).height; blocks = λ i x y. M.blocks i (x + columns_before area M i) (y + rows_before area M i) })
+
+crop_across : (crop : Option Area) (M : Meaning) → (picture_grids (cropped_by crop M)).across ≡ (picture_grids M).across
+crop_across None M = refl
+crop_across (Some area) M = refl
+
+crop_down : (crop : Option Area) (M : Meaning) → (picture_grids (cropped_by crop M)).down ≡ (picture_grids M).down
+crop_down None M = refl
+crop_down (Some area) M = refl
+
 cut_across : (trim : Bool) (t : Transform) (M : Meaning) → (picture_grids (trimmed trim t M)).across ≡ (picture_grids M).across
 cut_across true t M = refl
 cut_across false t M = refl
@@ -114,6 +135,6 @@ moved_real p c out same is grids =
     let n = length p.frame.components in
     let some : 0 < length M.components =
     (let l = length-map (below n) (component_told p.frame p.quants.items) in let m = length_below n in let low = p.keeps.frame.count_low in omega (arith, l, m, low)) in
-    let across : 0 < greatest (picture_grids T).across = subst (λ hs. 0 < greatest hs) (ap (λ (K : Grids). K.across) (sym grids) ∙ cut_across c.trim c.transform T) (some_across out is) in
-    let down : 0 < greatest (picture_grids T).down = subst (λ vs. 0 < greatest vs) (ap (λ (K : Grids). K.down) (sym grids) ∙ cut_down c.trim c.transform T) (some_down out is) in
-    cut_real c.trim c.transform T (transformed_real G c.transform (gray_whole c.gray M some (whole_picture p)) across down (gray_real c.gray M (own_real p same)))
+    let across : 0 < greatest (picture_grids T).across = subst (λ hs. 0 < greatest hs) (ap (λ (K : Grids). K.across) (sym grids) ∙ crop_across c.crop (uncropped c M) ∙ cut_across c.trim c.transform T) (some_across out is) in
+    let down : 0 < greatest (picture_grids T).down = subst (λ vs. 0 < greatest vs) (ap (λ (K : Grids). K.down) (sym grids) ∙ crop_down c.crop (uncropped c M) ∙ cut_down c.trim c.transform T) (some_down out is) in
+    crop_real c.crop (uncropped c M) (cut_real c.trim c.transform T (transformed_real G c.transform (gray_whole c.gray M some (whole_picture p)) across down (gray_real c.gray M (own_real p same))))

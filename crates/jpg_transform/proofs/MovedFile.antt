@@ -43,8 +43,7 @@ use Rattle.jpg_file.specs.Read.PictureRead.{picture_meaning}
 use Rattle.jpg_file.specs.declared.read.picture.Picture.{Picture}
 use Rattle.jpg_transform.specs.MovedBlocks.{IsWrittenAs}
 use Rattle.jpg_transform.specs.Places.{IsSeenAs}
-use Rattle.jpg_transform.specs.Planned.{IsJobFor, IsOutHeadOf, process_in, process_of}
-use Rattle.jpg_transform.specs.declared.choice.Job.{Job}
+use Rattle.jpg_transform.specs.Planned.{IsOutHeadOf, IsPlanFor, process_in, process_of}
 use Rattle.jpg_transform.proofs.MovedBlocks.{moved_bounded, moved_real}
 use Rattle.jpg_transform.proofs.MovedHead.{unheaded, numbers_with, moved_components, moved_count, meaning_numbers, precision_stays, kept_stays, frame_precision_stays}
 use Rattle.jpg_transform.proofs.MovedScript.{moved_colour_is, out_colour, script_none, script_same, out_precision}
@@ -255,18 +254,17 @@ text_is p c plan blocks k =
     ∙ ap (λ (s : List Entry). file_text (out_meaning p c) s c.restart) (script_is p c plan blocks k)
 
 -- on a frame that is the output's
-pub writes_job : (p : Picture) (c : Choice) (job : Job) (f : Frame) (blocks : Blocks) → f ≡ job.plan.out.frame → IsFrame job.plan.out.frame → IsJobFor p c job → IsSeenAs (out_meaning p c) job.plan.out.frame blocks
-    → IsWrittenAs p c job f blocks
-writes_job p c job f blocks same is h shows =
-    let k : IsPlanned p c job.plan blocks = record {
+pub writes_plan : (p : Picture) (c : Choice) (plan : Plan) (f : Frame) (blocks : Blocks) → f ≡ plan.out.frame → IsFrame plan.out.frame → IsPlanFor p c plan → IsSeenAs (out_meaning p c) plan.out.frame blocks
+    → IsWrittenAs p c plan f blocks
+writes_plan p c plan f blocks same is h shows =
+    let k : IsPlanned p c plan blocks = record {
       written = record { head = h.head; framed = is; seen = shows };
       script = h.script;
       faultless = script_none c (picture_meaning p) h.admitted;
       restart = h.restart;
     } in
     record {
-      can = subst (λ (g : Frame). CanWriteFile job.plan p.kept g blocks) (sym same) (can_write p c job.plan blocks k);
-      text = text_is p c job.plan blocks k;
-      means = λ movable.
-          moved_means c (picture_meaning p) (read_moved movable.limits movable.bytes (picture_meaning p) c movable.limited movable.are_bytes movable.means movable.admitted) k.faultless h.counted;
+      can = subst (λ (g : Frame). CanWriteFile plan p.kept g blocks) (sym same) (can_write p c plan blocks k);
+      text = text_is p c plan blocks k;
+      means = λ movable. moved_means c (picture_meaning p) (read_moved (picture_meaning p) c movable) k.faultless h.counted;
     }

@@ -1,17 +1,19 @@
 -- The head of the output: its components, tables, sides, kept markers and colours are those of the transformed picture.
-use Rattle.std.proofs.Common.{◌≡◌, ◌≤◌, Bool, true, false, cond, List, [], ◌∷◌, length, get_or, map, refl, sym, ap, ◌∙◌, arith, ℕ, not, ◌==◌, ◌||◌}
+use Rattle.std.proofs.Common.{◌≡◌, ◌≤◌, Bool, true, false, cond, List, [], ◌∷◌, length, get_or, map, refl, sym, ap, ◌∙◌, arith, ℕ, not, ◌==◌, ◌||◌, Option, None, Some}
 use Rattle.std.proofs.lemmas.List.{length-map}
 use Rattle.jpg_spec.specs.Colours.{colours_of}
 use Rattle.jpg_spec_write.specs.FileText.{frame_of_meaning}
 use Rattle.jpg_spec.specs.Geometry.{Frame, component_at, no_component}
 use Rattle.jpg_spec.specs.Jfif.{adobe_transform, jfif_of}
 use Rattle.jpg_spec.specs.Meaning.{Meaning, PictureComponent, colour_of}
-use Rattle.jpg_spec_move.specs.Moved.{Choice, exchanged_factors, grayed, grayed_frame, moved, moved_frame, trimmed}
+use Rattle.jpg_spec_move.specs.Cropped.{cropped_by, cropped_frame_by}
+use Rattle.jpg_spec_move.specs.Moved.{Choice, exchanged_factors, grayed, grayed_frame, moved, moved_frame, trimmed, uncropped, uncropped_frame}
 use Rattle.jpg_spec.specs.Meaning.{component_of}
 use Rattle.jpg_spec.specs.Segments.{QuantTable}
 use Rattle.jpg_spec_move.specs.Transforms.{exchanged_axes, transformed, transposes}
 use Rattle.jpg_spec.specs.Transposed.{transposed}
 use Rattle.jpg_spec.specs.declared.frame.Component.{Component}
+use Rattle.jpg_spec_move.specs.declared.area.Area.{Area}
 use Rattle.jpg_spec_move.specs.declared.transform.Transform.{Transform}
 use Rattle.jpg_spec_move.specs.declared.transform.Transform.TheVariants.{Keep, FlipH, FlipV, Transpose, Transverse, Rotate90, Rotate180, Rotate270}
 use Rattle.jpg_spec.proofs.Rows.{map_map}
@@ -26,7 +28,7 @@ use Rattle.jpg_spec_write.specs.Headed.{is_wide}
 
 -- THE PICTURE before it gets its head
 abbrev pub unheaded : Choice → Meaning → Meaning
-unheaded choice M = trimmed choice.trim choice.transform (transformed choice.transform (grayed choice.gray M))
+unheaded choice M = cropped_by choice.crop (uncropped choice M)
 
 -- COMPONENTS with their tables
 
@@ -51,7 +53,15 @@ trimmed_components : (trim : Bool) (t : Transform) (M : Meaning) → (trimmed tr
 trimmed_components true t M = refl
 trimmed_components false t M = refl
 
+cropped_components : (crop : Option Area) (M : Meaning) → (cropped_by crop M).components ≡ M.components
+cropped_components None M = refl
+cropped_components (Some area) M = refl
+
 -- of the frame
+cropped_frame_components : (crop : Option Area) (f : Frame) → (cropped_frame_by crop f).components ≡ f.components
+cropped_frame_components None f = refl
+cropped_frame_components (Some area) f = refl
+
 frame_components : (b : Bool) (f : Frame) → (cond b (record f { width = f.height; height = f.width; components = map exchanged_factors f.components }) f).components ≡ cond b (map exchanged_factors f.components) f.components
 frame_components true f = refl
 frame_components false f = refl
@@ -85,10 +95,11 @@ moved_components choice f q M e l some =
     let g = grayed_frame choice.gray f in
     let grays : with_tables g.components (grayed_tables choice.gray q) ≡ (grayed choice.gray M).components =
     ap (λ (cs : List Component). with_tables cs (grayed_tables choice.gray q)) (gray_components choice.gray f) ∙ gray_with choice.gray f.components q M.components e l some ∙ sym (grayed_components choice.gray M) in
-    ap (λ (cs : List Component). with_tables cs (moved_tables choice q)) (frame_components (transposes t) g)
+    ap (λ (cs : List Component). with_tables cs (moved_tables choice q)) (cropped_frame_components choice.crop (uncropped_frame choice f) ∙ frame_components (transposes t) g)
     ∙ turned_with (transposes t) g.components (grayed_tables choice.gray q)
     ∙ ap (λ (cs : List PictureComponent). cond (transposes t) (map exchanged_axes cs) cs) grays
     ∙ sym (transformed_components t (grayed choice.gray M)) ∙ sym (trimmed_components choice.trim t (transformed t (grayed choice.gray M)))
+    ∙ sym (cropped_components choice.crop (uncropped choice M))
 
 -- how many tables there are
 counts : (b gray : Bool) (cs : List Component) (q : List QuantTable) → length q ≡ length cs → 1 ≤ length cs
@@ -104,7 +115,7 @@ pub moved_count : (choice : Choice) (f : Frame) (q : List QuantTable) → length
 moved_count choice f q l some =
     counts (transposes choice.transform) choice.gray f.components q l some
     ∙ ap (λ (cs : List Component). length (cond (transposes choice.transform) (map exchanged_factors cs) cs)) (sym (gray_components choice.gray f))
-    ∙ ap length (sym (frame_components (transposes choice.transform) (grayed_frame choice.gray f)))
+    ∙ ap length (sym (cropped_frame_components choice.crop (uncropped_frame choice f) ∙ frame_components (transposes choice.transform) (grayed_frame choice.gray f)))
 
 -- NUMBERS
 
@@ -136,9 +147,14 @@ trimmed_precision : (trim : Bool) (t : Transform) (M : Meaning) → (trimmed tri
 trimmed_precision true t M = refl
 trimmed_precision false t M = refl
 
+cropped_precision : (crop : Option Area) (M : Meaning) → (cropped_by crop M).precision ≡ M.precision
+cropped_precision None M = refl
+cropped_precision (Some area) M = refl
+
 pub precision_stays : (choice : Choice) (M : Meaning) → (unheaded choice M).precision ≡ M.precision
 precision_stays choice M =
-    trimmed_precision choice.trim choice.transform (transformed choice.transform (grayed choice.gray M)) ∙ turned_precision choice.transform (grayed choice.gray M) ∙ gray_precision choice.gray M
+    cropped_precision choice.crop (uncropped choice M)
+    ∙ trimmed_precision choice.trim choice.transform (transformed choice.transform (grayed choice.gray M)) ∙ turned_precision choice.transform (grayed choice.gray M) ∙ gray_precision choice.gray M
 
 frame_precision : (b : Bool) (f : Frame) → (cond b (record f { width = f.height; height = f.width; components = map exchanged_factors f.components }) f).precision ≡ f.precision
 frame_precision true f = refl
@@ -148,8 +164,13 @@ gray_frame_precision : (gray : Bool) (f : Frame) → (grayed_frame gray f).preci
 gray_frame_precision true f = refl
 gray_frame_precision false f = refl
 
+cropped_frame_precision : (crop : Option Area) (f : Frame) → (cropped_frame_by crop f).precision ≡ f.precision
+cropped_frame_precision None f = refl
+cropped_frame_precision (Some area) f = refl
+
 pub frame_precision_stays : (choice : Choice) (f : Frame) → (moved_frame choice f).precision ≡ f.precision
-frame_precision_stays choice f = frame_precision (transposes choice.transform) (grayed_frame choice.gray f) ∙ gray_frame_precision choice.gray f
+frame_precision_stays choice f =
+    cropped_frame_precision choice.crop (uncropped_frame choice f) ∙ frame_precision (transposes choice.transform) (grayed_frame choice.gray f) ∙ gray_frame_precision choice.gray f
 
 gray_kept : (gray : Bool) (M : Meaning) → (grayed gray M).kept ≡ M.kept
 gray_kept true M = refl
@@ -169,8 +190,13 @@ trimmed_kept : (trim : Bool) (t : Transform) (M : Meaning) → (trimmed trim t M
 trimmed_kept true t M = refl
 trimmed_kept false t M = refl
 
+cropped_kept : (crop : Option Area) (M : Meaning) → (cropped_by crop M).kept ≡ M.kept
+cropped_kept None M = refl
+cropped_kept (Some area) M = refl
+
 pub kept_stays : (choice : Choice) (M : Meaning) → (unheaded choice M).kept ≡ M.kept
-kept_stays choice M = trimmed_kept choice.trim choice.transform (transformed choice.transform (grayed choice.gray M)) ∙ turned_kept choice.transform (grayed choice.gray M) ∙ gray_kept choice.gray M
+kept_stays choice M =
+    cropped_kept choice.crop (uncropped choice M) ∙ trimmed_kept choice.trim choice.transform (transformed choice.transform (grayed choice.gray M)) ∙ turned_kept choice.transform (grayed choice.gray M) ∙ gray_kept choice.gray M
 
 -- COLOURS
 
@@ -196,8 +222,10 @@ pub colour_moves : (choice : Choice) (M : Meaning) → colour_of (unheaded choic
 colour_moves choice M =
     let G = grayed choice.gray M in
     let T = transformed choice.transform G in
-    same_colour (trimmed choice.trim choice.transform T) G (ap (map (λ (c : PictureComponent). c.id)) (trimmed_components choice.trim choice.transform T) ∙ turned_ids choice.transform G)
-    (trimmed_kept choice.trim choice.transform T ∙ turned_kept choice.transform G)
+    let U = uncropped choice M in
+    same_colour (cropped_by choice.crop U) G
+    (ap (map (λ (c : PictureComponent). c.id)) (cropped_components choice.crop U ∙ trimmed_components choice.trim choice.transform T) ∙ turned_ids choice.transform G)
+    (cropped_kept choice.crop U ∙ trimmed_kept choice.trim choice.transform T ∙ turned_kept choice.transform G)
     ∙ gray_colour choice.gray M
 
 -- THE PROCESS of the output has the precision

@@ -4,7 +4,8 @@ use Rattle.jpg_spec_write.specs.FileText.{frame_of_meaning}
 use Rattle.jpg_spec.specs.Geometry.{Frame}
 use Rattle.jpg_spec.specs.InForce.{first_some}
 use Rattle.jpg_spec.specs.Meaning.{Meaning, colour_of}
-use Rattle.jpg_spec_move.specs.Moved.{Choice, gray_fault, grayed, grayed_frame, moved, moved_frame, moved_script, moved_script_fault, picture_fault}
+use Rattle.jpg_spec_move.specs.Cropped.{crop_fault, cropped_by, cropped_frame_by}
+use Rattle.jpg_spec_move.specs.Moved.{Choice, gray_fault, grayed, grayed_frame, moved, moved_frame, moved_script, moved_script_fault, picture_fault, uncropped, uncropped_frame}
 use Rattle.jpg_spec.specs.Grids.{Grids, frame_grids, picture_grids}
 use Rattle.jpg_spec_write.specs.ScansAsked.{Scans, sequential, standard, given, script_due}
 use Rattle.jpg_spec_write.specs.Script.{Entry}
@@ -12,6 +13,9 @@ use Rattle.jpg_spec_write.specs.ScriptFaults.{script_fault, standard_script}
 use Rattle.jpg_spec_move.specs.Transforms.{transformed, transposes}
 use Rattle.jpg_spec.specs.declared.frame.Colour.{Colour}
 use Rattle.jpg_spec_write.specs.declared.picture_fault.PictureFault.{PictureFault}
+use Rattle.jpg_spec_move.specs.declared.area.Area.{Area}
+use Rattle.jpg_spec_move.proofs.CroppedGrids.{crop_grids}
+use Rattle.jpg_spec_move.proofs.CroppedScripts.{without_area}
 use Rattle.jpg_spec_move.proofs.MovedGrids.{cut_picture, over_grids, trim_grids, turned_frame, turned_picture}
 use Rattle.jpg_spec.proofs.Rows.{map_map}
 use Rattle.jpg_spec_write.proofs.ScriptGrids.{same_script_fault, same_sequential, same_standard}
@@ -24,17 +28,24 @@ use Rattle.jpg_transform.proofs.HeadColour.{headed_colour}
 use Rattle.jpg_transform.proofs.MovedHead.{colour_moves, unheaded, frame_precision_stays, precision_stays}
 use Rattle.jpg_transform.proofs.SeenPicture.{seen_grids}
 
--- THE FIRST of two faults
+-- THE FIRST of three faults
 
-pub none_both : (a b : Option PictureFault) → first_some a b ≡ None → (a ≡ None) × (b ≡ None)
+none_both : (a b : Option PictureFault) → first_some a b ≡ None → (a ≡ None) × (b ≡ None)
 none_both None b e = (refl, e)
 none_both (Some fault) b e = cc
 
+-- those after the conversion to grayscale
+abbrev later_fault : Choice → Meaning → Option PictureFault
+later_fault choice M = first_some (moved_script_fault choice M) (crop_fault choice.crop (uncropped choice M))
+
 pub gray_none : (choice : Choice) (M : Meaning) → picture_fault choice M ≡ None → gray_fault choice.gray M ≡ None
-gray_none choice M none = (none_both (gray_fault choice.gray M) (moved_script_fault choice M) none).0
+gray_none choice M none = (none_both (gray_fault choice.gray M) (later_fault choice M) none).0
 
 pub script_none : (choice : Choice) (M : Meaning) → picture_fault choice M ≡ None → moved_script_fault choice M ≡ None
-script_none choice M none = (none_both (gray_fault choice.gray M) (moved_script_fault choice M) none).1
+script_none choice M none = (none_both (moved_script_fault choice M) (crop_fault choice.crop (uncropped choice M)) (none_both (gray_fault choice.gray M) (later_fault choice M) none).1).0
+
+pub area_none : (choice : Choice) (M : Meaning) → picture_fault choice M ≡ None → crop_fault choice.crop (uncropped choice M) ≡ None
+area_none choice M none = (none_both (moved_script_fault choice M) (crop_fault choice.crop (uncropped choice M)) (none_both (gray_fault choice.gray M) (later_fault choice M) none).1).1
 
 -- THE GRIDS of the transformed picture are those of the transformed frame
 
@@ -47,11 +58,18 @@ gray_grids : (gray : Bool) (f : Frame) (M : Meaning) → picture_grids M ≡ fra
 gray_grids false f M e = e
 gray_grids true f M e = ap (λ (K : Grids). (let G : Grids = record { width = K.width; height = K.height; across = 1 ∷ []; down = 1 ∷ [] } in G)) e
 
-moved_grids : (choice : Choice) (f : Frame) (M : Meaning) → picture_grids M ≡ frame_grids f → picture_grids (moved choice M) ≡ frame_grids (moved_frame choice f)
-moved_grids choice f M e =
+crop_same : (crop : Option Area) (f : Frame) (M : Meaning) → picture_grids M ≡ frame_grids f → picture_grids (cropped_by crop M) ≡ frame_grids (cropped_frame_by crop f)
+crop_same None f M e = e
+crop_same (Some area) f M e = ap (crop_grids area) e
+
+pub uncropped_grids : (choice : Choice) (f : Frame) (M : Meaning) → picture_grids M ≡ frame_grids f → picture_grids (uncropped choice M) ≡ frame_grids (uncropped_frame choice f)
+uncropped_grids choice f M e =
     let t = choice.transform in
     cut_picture choice.trim t (transformed t (grayed choice.gray M))
     ∙ ap (trim_grids choice.trim t) (turned_picture t (grayed choice.gray M) ∙ ap (over_grids (transposes t)) (gray_grids choice.gray f M e) ∙ sym (turned_frame t (grayed_frame choice.gray f)))
+
+moved_grids : (choice : Choice) (f : Frame) (M : Meaning) → picture_grids M ≡ frame_grids f → picture_grids (moved choice M) ≡ frame_grids (moved_frame choice f)
+moved_grids choice f M e = crop_same choice.crop (uncropped_frame choice f) (uncropped choice M) (uncropped_grids choice f M e)
 
 out_grids : (p : Picture) (choice : Choice) (out : OutHead) → IsOutHeadOf choice p out → frame_grids out.frame ≡ frame_grids (frame_of_meaning (moved choice (picture_meaning p)))
 out_grids p choice out h =
@@ -103,16 +121,16 @@ judged_err : (o : Option PictureFault) (fault : PictureFault) → Err fault ≡ 
 judged_err None fault e = absurd (no_fault fault (sym e))
 judged_err (Some other) fault e = ap Some (sym (err_same fault other e))
 
--- after a picture that may be converted to grayscale
-after_gray : (choice : Choice) (M : Meaning) (fault : Option PictureFault) → gray_fault choice.gray M ≡ None → moved_script_fault choice M ≡ fault → picture_fault choice M ≡ fault
-after_gray choice M fault none e = ap (λ g. first_some g (moved_script_fault choice M)) none ∙ e
+-- of a picture that may be converted to grayscale, and isn't cropped
+after_gray : (choice : Choice) (M : Meaning) (fault : Option PictureFault) → choice.crop ≡ None → gray_fault choice.gray M ≡ None → moved_script_fault choice M ≡ fault → picture_fault choice M ≡ fault
+after_gray choice M fault whole none e = without_area choice M whole ∙ ap (λ g. first_some g (moved_script_fault choice M)) none ∙ e
 
-pub checked_none : (p : Picture) (choice : Choice) (out : OutHead) (script : List Entry) → IsOutHeadOf choice p out → script ≡ script_due choice.scans out.frame out.colour → gray_fault choice.gray (picture_meaning p) ≡ None
+pub checked_none : (p : Picture) (choice : Choice) (out : OutHead) (script : List Entry) → choice.crop ≡ None → IsOutHeadOf choice p out → script ≡ script_due choice.scans out.frame out.colour → gray_fault choice.gray (picture_meaning p) ≡ None
     → Ok tt ≡ judged (script_fault out.frame script) → picture_fault choice (picture_meaning p) ≡ None
-checked_none p choice out script h e none ok =
-    after_gray choice (picture_meaning p) None none (sym (fault_same p choice out out.frame script h refl e) ∙ judged_ok (script_fault out.frame script) ok)
+checked_none p choice out script whole h e none ok =
+    after_gray choice (picture_meaning p) None whole none (sym (fault_same p choice out out.frame script h refl e) ∙ judged_ok (script_fault out.frame script) ok)
 
-pub checked_fault : (p : Picture) (choice : Choice) (out : OutHead) (script : List Entry) (fault : PictureFault) → IsOutHeadOf choice p out → script ≡ script_due choice.scans out.frame out.colour → gray_fault choice.gray (picture_meaning p) ≡ None
+pub checked_fault : (p : Picture) (choice : Choice) (out : OutHead) (script : List Entry) (fault : PictureFault) → choice.crop ≡ None → IsOutHeadOf choice p out → script ≡ script_due choice.scans out.frame out.colour → gray_fault choice.gray (picture_meaning p) ≡ None
     → Err fault ≡ judged (script_fault out.frame script) → picture_fault choice (picture_meaning p) ≡ Some fault
-checked_fault p choice out script fault h e none err =
-    after_gray choice (picture_meaning p) (Some fault) none (sym (fault_same p choice out out.frame script h refl e) ∙ judged_err (script_fault out.frame script) fault err)
+checked_fault p choice out script fault whole h e none err =
+    after_gray choice (picture_meaning p) (Some fault) whole none (sym (fault_same p choice out out.frame script h refl e) ∙ judged_err (script_fault out.frame script) fault err)

@@ -24,9 +24,10 @@ use Rattle.jpg_transform.proofs.MovedScript.{gray_none}
 pub is_output : (p : Picture) (choice : Choice) (job : Job) → IsJobFor p choice job → IsOutput choice job.transform p.frame job.plan.out.frame
 is_output p choice job h = record {
   transform_is = sym h.transform;
-  gray_across = λ e. (first_greatest choice.gray p (gray_none choice (picture_meaning p) h.admitted) e).across;
-  gray_down = λ e. (first_greatest choice.gray p (gray_none choice (picture_meaning p) h.admitted) e).down;
-  grids = ap frame_grids h.head.frame;
+  whole = h.whole;
+  gray_across = λ e. (first_greatest choice.gray p (gray_none choice (picture_meaning p) h.planned.admitted) e).across;
+  gray_down = λ e. (first_greatest choice.gray p (gray_none choice (picture_meaning p) h.planned.admitted) e).down;
+  grids = ap frame_grids h.planned.head.frame;
 }
 
 -- its blocks and tables are complete

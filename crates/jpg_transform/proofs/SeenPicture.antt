@@ -11,7 +11,7 @@ use Rattle.jpg_file.specs.Read.PictureKept.{component_told}
 use Rattle.jpg_file.specs.Read.PictureRead.{picture_meaning}
 use Rattle.jpg_file.specs.declared.read.picture.Picture.{Picture}
 use Rattle.jpg_transform.specs.Places.{IsSeenAs}
-use Rattle.jpg_transform.proofs.Showing.{real_true}
+use Rattle.jpg_spec_move.proofs.OutsideZeros.{real_true}
 
 pub seen_grids : (p : Picture) → picture_grids (picture_meaning p) ≡ frame_grids p.frame
 seen_grids p =

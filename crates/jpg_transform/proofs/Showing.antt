@@ -1,19 +1,20 @@
 -- A view of a transformed picture is that of the transformed meaning.
-use Rattle.std.proofs.Common.{◌≡◌, ℕ, ◌+◌, ◌-◌, ◌*◌, ◌/◌, ◌<◌, Bool, true, false, cond, ◌&&◌, List, [], ◌∷◌, length, get_or, map, refl, sym, ap, ◌∙◌, subst, arith, ℤ}
+use Rattle.std.proofs.Common.{◌≡◌, ℕ, ◌+◌, ◌-◌, ◌*◌, ◌/◌, ◌<◌, Bool, true, false, cond, List, [], ◌∷◌, length, get_or, map, refl, sym, ap, ◌∙◌, subst, arith, ℤ, Option}
 use Rattle.std.specs.Prelude.{nat_lt}
 use Rattle.std.proofs.lemmas.List.{length-map}
 use Rattle.std.proofs.lemmas.List.Elements.{All-head, All-nil, All-cons}
 use Rattle.std.proofs.lemmas.Nat.{div-mul-add}
 use Rattle.std.specs.List.{All}
-use Rattle.jpg_spec.specs.Geometry.{Frame, IsReal, div_up, greatest, h_max, v_max, blocks_across, blocks_down, component_at, is_real}
-use Rattle.jpg_spec.specs.Elements.{zeros}
+use Rattle.jpg_spec.specs.Geometry.{Frame, IsReal, div_up, greatest, h_max, v_max, component_at}
 use Rattle.jpg_spec.specs.FrameHeader.{IsFrame}
-use Rattle.jpg_spec.specs.Meaning.{Meaning, PictureComponent, picture_frame, real_blocks}
+use Rattle.jpg_spec.specs.Meaning.{Meaning, PictureComponent, picture_frame}
 use Rattle.jpg_spec.specs.Meaning.{most_across, most_down, component_of}
 use Rattle.jpg_spec_move.specs.Transforms.{transformed, transposes, mirrors_across, mirrors_down, opposite, changed_columns, changed_rows, placed, signed, turned_over}
 use Rattle.jpg_spec.specs.Grids.{Grids, frame_grids, picture_grids}
-use Rattle.jpg_spec_move.specs.Moved.{trimmed, whole_side, trimmed_frame, transformed_frame, grayed, grayed_frame, Choice, moved, headed_as, columns_in, rows_in}
+use Rattle.jpg_spec_move.specs.Cropped.{cropped_by, cropped_frame_by}
+use Rattle.jpg_spec_move.specs.Moved.{trimmed, whole_side, trimmed_frame, transformed_frame, grayed, grayed_frame, Choice, moved, headed_as, columns_in, rows_in, uncropped, uncropped_frame}
 use Rattle.jpg_spec.specs.WholeBlocks.{HasWholeBlocks}
+use Rattle.jpg_spec_move.specs.declared.area.Area.{Area}
 use Rattle.jpg_spec_move.specs.declared.transform.Transform.{Transform}
 use Rattle.jpg_spec_move.proofs.Transforming.{by_formula}
 use Rattle.jpg_base.proofs.Grids.{across_low, down_low}
@@ -21,7 +22,8 @@ use Rattle.jpg_spec.specs.Scan.{Blocks}
 use Rattle.jpg_transform.specs.Places.{IsOutput, IsSeenAs, ComesFrom}
 use Rattle.jpg_spec.proofs.FrameFound.{real_side}
 use Rattle.jpg_spec_move.proofs.MovedGrids.{over_grids, trim_grids, columns_by, rows_by, turned_frame, turned_picture, cut_picture, framed_picture, columns_picture, rows_picture, columns_frame, rows_frame, columns_cut, rows_cut, IsIn, to_grids, from_grids, untrimmed, opposite_in}
-use Rattle.jpg_spec.proofs.Common.{lt_yes, clash}
+use Rattle.jpg_spec_move.proofs.OutsideZeros.{real_true}
+use Rattle.jpg_spec.proofs.Common.{clash}
 use Rattle.jpg_spec.proofs.WholeFiles.{shown_whole}
 
 -- THE ARGUMENTS OF `new`: the frame of the output, and the columns and rows that change places
@@ -89,12 +91,6 @@ reached {a} f trim i x y given m r =
     (place_before f g t trim i x y given.frame m r)))
 
 -- BLOCKS
-
-pub real_true : (f : Frame) (blocks : Blocks) (i x y : ℕ) → IsReal f i x y → real_blocks f blocks i x y ≡ blocks i x y
-real_true f blocks i x y r =
-    ap (λ b. cond (b && is_real f i x y) (blocks i x y) (zeros 64)) (lt_yes i (length f.components) r.component)
-    ∙ ap (λ b. cond (b && nat_lt y (blocks_down f (component_at f i))) (blocks i x y) (zeros 64)) (lt_yes x (blocks_across f (component_at f i)) r.across)
-    ∙ ap (λ b. cond b (blocks i x y) (zeros 64)) (lt_yes y (blocks_down f (component_at f i)) r.down)
 
 cut_block : (trim : Bool) (t : Transform) (M : Meaning) (i x y : ℕ) → IsIn (picture_grids (trimmed trim t M)) i x y → (trimmed trim t M).blocks i x y ≡ M.blocks i x y
 cut_block false t M i x y r = refl
@@ -205,7 +201,9 @@ may_gray : (choice : Choice) (t : Transform) (f g : Frame) → IsOutput choice t
 may_gray choice t f g o = record { across = o.gray_across; down = o.gray_down }
 
 made_by : (choice : Choice) (t : Transform) (f g : Frame) → IsOutput choice t f g → IsMade choice.trim t (grayed_frame choice.gray f) g
-made_by choice t f g o = o.grids ∙ ap (λ (u : Transform). frame_grids (trimmed_frame choice.trim u (transformed_frame u (grayed_frame choice.gray f)))) o.transform_is
+made_by choice t f g o =
+    o.grids ∙ ap (λ (crop : Option Area). frame_grids (cropped_frame_by crop (uncropped_frame choice f))) o.whole
+    ∙ ap (λ (u : Transform). frame_grids (trimmed_frame choice.trim u (transformed_frame u (grayed_frame choice.gray f)))) o.transform_is
 
 pub reached_by : {choice : Choice} {f : Frame} {a : Arguments} (i x y : ℕ) → IsFrame f → AreGiven a → IsOutput choice a.transform f a.frame → IsReal a.frame i x y
     → Reaches a f i x y
@@ -221,9 +219,10 @@ shown_by {choice} {f} {a} {blocks} M is given w s o =
     let some : 0 < length M.components =
     (let e : length (map (λ c. c.h) M.components) ≡ length (map (λ c. c.h) f.components) = ap (λ (K : Grids). length K.across) s.grids in
     let l = length-map M.components (λ c. c.h) in let k = length-map f.components (λ c. c.h) in omega (arith, e, l, k, is.count_low)) in
-    subst (λ (u : Transform). IsSeenAs (headed_as choice (trimmed choice.trim u (transformed u (grayed choice.gray M)))) a.frame (placed_by a blocks)) (sym o.transform_is)
+    subst (λ (crop : Option Area). IsSeenAs (headed_as choice (cropped_by crop (uncropped choice M))) a.frame (placed_by a blocks)) (sym o.whole)
+    (subst (λ (u : Transform). IsSeenAs (headed_as choice (trimmed choice.trim u (transformed u (grayed choice.gray M)))) a.frame (placed_by a blocks)) (sym o.transform_is)
     (headed (trimmed choice.trim t (transformed t (grayed choice.gray M)))
-    (shown (grayed choice.gray M) choice.trim given (gray_whole choice.gray M some w) (gray_shown choice.gray f M blocks is may s) (made_by choice t f a.frame o)))
+    (shown (grayed choice.gray M) choice.trim given (gray_whole choice.gray M some w) (gray_shown choice.gray f M blocks is may s) (made_by choice t f a.frame o))))
   where
     headed : (N : Meaning) → IsSeenAs N a.frame (placed_by a blocks) → IsSeenAs (headed_as choice N) a.frame (placed_by a blocks)
     headed N h = record { grids = h.grids; same = h.same }

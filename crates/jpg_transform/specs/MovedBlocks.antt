@@ -11,6 +11,7 @@ use Rattle.jpg_coefs.specs.Picture.{map_of}
 use Rattle.jpg_file.specs.Read.PictureRead.{picture_meaning}
 use Rattle.jpg_file.specs.Write.WriteFile.{CanWriteFile, file_bytes}
 use Rattle.jpg_file.specs.declared.read.picture.Picture.{Picture}
+use Rattle.jpg_file.specs.declared.write.Plan.{Plan}
 use Rattle.jpg_transform.specs.Places.{IsSeenAs}
 use Rattle.jpg_transform.specs.Planned.{IsJobFor}
 use Rattle.jpg_transform.specs.declared.choice.Job.{Job}
@@ -27,13 +28,13 @@ moved_numbers m = m.frame.now
 abbrev pub ShowsJob : Picture → Job → Blocks → Type 0
 ShowsJob p job seen = (choice : Choice) → IsJobFor p choice job → IsSeenAs (moved choice (picture_meaning p)) job.plan.out.frame seen
 
--- The file of the job may be written from these blocks, and its text is that of the transformed picture; if some bytes
+-- The file of the plan may be written from these blocks, and its text is that of the transformed picture; if some bytes
 -- mean the picture, the text means the transformed picture.
-pub record IsWrittenAs (p : Picture) (choice : Choice) (job : Job) (f : Frame) (seen : Blocks) : Type 0 where
-  pub can : CanWriteFile job.plan p.kept f seen
-  pub text : file_bytes job.plan p.kept seen ≡ moved_text choice (picture_meaning p)
+pub record IsWrittenAs (p : Picture) (choice : Choice) (plan : Plan) (f : Frame) (seen : Blocks) : Type 0 where
+  pub can : CanWriteFile plan p.kept f seen
+  pub text : file_bytes plan p.kept seen ≡ moved_text choice (picture_meaning p)
   pub means : IsMovable choice (picture_meaning p) → Means standard_limits (moved_text choice (picture_meaning p)) (moved choice (picture_meaning p))
 
 -- The same for any choice that this job is for.
 abbrev pub WritesJob : Picture → Job → Frame → Blocks → Type 0
-WritesJob p job f seen = (choice : Choice) → IsJobFor p choice job → IsWrittenAs p choice job f seen
+WritesJob p job f seen = (choice : Choice) → IsJobFor p choice job → IsWrittenAs p choice job.plan f seen

@@ -1,5 +1,5 @@
 -- Places of the real grids, and a picture as it is viewed block by block (T.81, A.2).
-use Rattle.std.specs.Prelude.{◌≡◌, ℕ, ◌≤◌, Bool, true, false, List, length, slice_index, ◌≤ℤ◌, negsuc, All}
+use Rattle.std.specs.Prelude.{◌≡◌, ℕ, ◌≤◌, Bool, true, false, List, length, slice_index, ◌≤ℤ◌, negsuc, All, None}
 use Rattle.jpg_spec.specs.Geometry.{Frame, IsReal, component_at, h_max, v_max}
 use Rattle.jpg_spec.specs.Meaning.{Meaning}
 use Rattle.jpg_spec.specs.Scan.{Blocks}
@@ -8,15 +8,20 @@ use Rattle.jpg_spec.specs.Grids.{frame_grids, picture_grids}
 use Rattle.jpg_spec_move.specs.Transforms.{opposite}
 use Rattle.jpg_spec_move.specs.declared.transform.Transform.{Transform}
 
+-- a frame with other sides
+abbrev pub with_sides : Frame → ℕ → ℕ → Frame
+with_sides f width height = record f { width = width; height = height }
+
 -- A view of a meaning: it has these sides and factors, and at the real places these blocks.
 pub record IsSeenAs (M : Meaning) (f : Frame) (blocks : Blocks) : Type 0 where
   pub grids : picture_grids M ≡ frame_grids f
   pub same : (i x y : ℕ) → IsReal f i x y → M.blocks i x y ≡ blocks i x y
 
--- The output's frame for this choice: its sides and factors are those of the source's frame transformed, and a picture
--- that is converted to grayscale has the first component untrimmed.
+-- The output's frame for this choice, which crops nothing: its sides and factors are those of the source's frame
+-- transformed, and a picture that is converted to grayscale has the first component untrimmed.
 pub record IsOutput (choice : Choice) (transform : Transform) (source out : Frame) : Type 0 where
   pub transform_is : choice.transform ≡ transform
+  pub whole : choice.crop ≡ None
   pub gray_across : choice.gray ≡ true → (component_at source 0).h ≡ h_max source
   pub gray_down : choice.gray ≡ true → (component_at source 0).v ≡ v_max source
   pub grids : frame_grids out ≡ frame_grids (moved_frame choice source)

@@ -19,6 +19,7 @@ use Rattle.jpg_markers.specs.declared.writing.head.OutHead.{OutHead}
 use Rattle.jpg_file.specs.Read.PictureRead.{picture_meaning}
 use Rattle.jpg_file.specs.Write.Restarts.{restart_of}
 use Rattle.jpg_file.specs.declared.read.picture.Picture.{Picture}
+use Rattle.jpg_file.specs.declared.write.Plan.{Plan}
 use Rattle.jpg_transform.specs.declared.choice.Choice.{Choice as Asked}
 use Rattle.jpg_transform.specs.declared.choice.Job.{Job}
 use Rattle.jpg_transform.specs.declared.choice.Scans.{Scans as AskedScans}
@@ -38,6 +39,7 @@ choice_told c = record {
   copying = c.copying;
   scans = scans_told c.scans;
   restart = restart_of c.restart;
+  crop = None;
 }
 
 -- Whether the first component has the greatest factors.
@@ -77,13 +79,18 @@ pub record IsOutHeadOf (choice : Choice) (p : Picture) (out : OutHead) : Type 0 
   pub jfif : out.jfif ≡ p.jfif
   pub copying : out.copying ≡ choice.copying
 
--- THE JOB: the picture has no fault for the choice, and is written in this way, with intervals that fit into two bytes.
-pub record IsJobFor (p : Picture) (choice : Choice) (job : Job) : Type 0 where
+-- THE PLAN: the picture has no fault for the choice, and is written in this way, with intervals that fit into two bytes.
+pub record IsPlanFor (p : Picture) (choice : Choice) (plan : Plan) : Type 0 where
   pub admitted : picture_fault choice (picture_meaning p) ≡ None
-  pub head : IsOutHeadOf choice p job.plan.out
-  pub script : job.plan.script ≡ script_due choice.scans job.plan.out.frame job.plan.out.colour
-  pub restart : restart_of job.plan.restart ≡ choice.restart
+  pub head : IsOutHeadOf choice p plan.out
+  pub script : plan.script ≡ script_due choice.scans plan.out.frame plan.out.colour
+  pub restart : restart_of plan.restart ≡ choice.restart
   pub counted : IsRestart choice.restart
+
+-- THE JOB: its plan, with nothing cropped.
+pub record IsJobFor (p : Picture) (choice : Choice) (job : Job) : Type 0 where
+  pub planned : IsPlanFor p choice job.plan
+  pub whole : choice.crop ≡ None
   pub transform : job.transform ≡ choice.transform
   pub gray : job.gray ≡ choice.gray
 

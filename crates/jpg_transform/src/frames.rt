@@ -4,6 +4,7 @@ ghost use Rattle.jpg_spec.specs.FrameHeader.{IsFrame};
 ghost use Rattle.jpg_spec_move.specs.Laws.{FirstIsGreatest};
 ghost use Rattle.jpg_spec_move.specs.Moved.{exchanged_factors, grayed_frame, moved_frame, transformed_frame, trimmed_frame, whole_side};
 ghost use Rattle.jpg_base.specs.Frame.{numbers_of};
+ghost use Rattle.jpg_transform.specs.Places.{with_sides};
 ghost use Rattle.jpg_transform.specs.Planned.{choice_told};
 
 use crate::Choice;
@@ -30,6 +31,14 @@ fn made(like: &Frame, width: u32, height: u32, components: &[Component]) -> Fram
         Ok(frame) => frame,
         Err(_) => unreachable!(),
     }
+}
+
+/// The frame with other sides.
+pub fn with_sides(frame: &Frame, width: u32, height: u32) -> Frame
+    requires { IsFrame (with_sides frame.now width height) }
+    ensures { result ≡ with_sides frame.now width height }
+{
+    made(frame, width, height, components_of(frame).as_slice())
 }
 
 // The components of a frame.
@@ -131,7 +140,7 @@ fn trimmed(frame: &Frame, trim: bool, transform: Transform) -> Frame
     frame.checked();
     let width = trimmed_width(frame, trim, transform);
     let height = trimmed_height(frame, trim, transform);
-    made(frame, width, height, components_of(frame).as_slice())
+    with_sides(frame, width, height)
 }
 
 /// The frame of a picture converted to grayscale, transformed and trimmed.

@@ -12,6 +12,7 @@ mod table;
 
 pub use applying::apply;
 pub use choice::{Choice, Job, Scans};
+pub use frames::with_sides;
 pub use jpg_base::{Block, Frame, NoMemory};
 pub use jpg_coefs::{BlockView, Coefs};
 pub use jpg_file::{Picture, Restart};

@@ -10,7 +10,10 @@ const WHOLE: &str = "4294967295";
 pub enum Ends {
     None,
     Pnm,
+    /// Those for PNM and BMP.
     Both,
+    /// Those for PNM, BMP and Targa.
+    All,
 }
 
 #[derive(Drop)]
@@ -57,7 +60,7 @@ pub fn read_row(alloc: Global, line: &str) -> Result<Row<'_>, Stop<'_>> {
         first: usize::MAX,
         fail: 0,
         after: None,
-        ends: Ends::Both,
+        ends: Ends::All,
         due: None,
         why: None,
         out: None,

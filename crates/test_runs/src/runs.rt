@@ -3,8 +3,9 @@ use crate::asked::run_asked;
 use crate::cut_desk::CutDesk;
 use crate::row::{Ends, Row};
 use jpg_base::{Bytes, Desk, MemoryDesk, Name, NoMemory, Text};
-use jpg_cli::{Ended, run};
+use jpg_cli::{Ended, add_end, run};
 use jpg_pnm_bmp::{BmpEnd, ImageEnd, PnmEnd};
+use jpg_targa::TargaEnd;
 use std::alloc::{AllocError, Global};
 use test_rows::{Named, Other, Stop, keep, spelled};
 
@@ -126,6 +127,7 @@ fn run_with<D: Desk>(
         Ends::None => Ok(run_without(alloc, words, desk)),
         Ends::Pnm => run_pnm(alloc, words, desk),
         Ends::Both => run_both(alloc, words, desk),
+        Ends::All => run_all(alloc, words, desk),
     }
 }
 
@@ -155,6 +157,23 @@ fn run_both<D: Desk>(alloc: Global, words: &[String], desk: &mut D) -> Result<En
     if ends.push(pnm).is_err() || ends.push(bmp).is_err() {
         return Err(NoMemory);
     }
+    Ok(run(alloc, words, desk, ends))
+}
+
+fn run_all<D: Desk>(alloc: Global, words: &[String], desk: &mut D) -> Result<Ended, NoMemory> {
+    let mut ends: Vec<Box<dyn ImageEnd>> = Vec::new(alloc);
+    let Ok(pnm) = Box::new(alloc, PnmEnd::new()) else {
+        return Err(NoMemory);
+    };
+    let Ok(bmp) = Box::new(alloc, BmpEnd::new(alloc)) else {
+        return Err(NoMemory);
+    };
+    let Ok(targa) = Box::new(alloc, TargaEnd::new(alloc)) else {
+        return Err(NoMemory);
+    };
+    add_end(&mut ends, pnm)?;
+    add_end(&mut ends, bmp)?;
+    add_end(&mut ends, targa)?;
     Ok(run(alloc, words, desk, ends))
 }
 

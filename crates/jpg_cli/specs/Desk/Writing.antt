@@ -12,6 +12,7 @@ use Rattle.jpg_spec_words.specs.declared.answers.Why.TheVariants as why
 use Rattle.jpg_spec_words.specs.declared.answers.Which.TheVariants as which
 use Rattle.jpg_spec_write.specs.declared.picture_fault.PictureFault.{PictureFault}
 use Rattle.jpg_spec_move.specs.Moved.{Choice, moved, moved_text, picture_fault}
+use Rattle.jpg_spec_move.specs.declared.area.Area.{Area}
 use Rattle.jpg_spec.specs.Segments.{standard_limits}
 use Rattle.jpg_file.specs.Read.PictureRead.{MeansFor}
 use Rattle.jpg_file.specs.declared.read.picture.Picture.{Picture}
@@ -60,6 +61,10 @@ why_wrote wrote.Done = why.Done
 why_wrote (wrote.Picture fault) = why.Picture fault
 why_wrote wrote.OpenFault = why.OpenFault which.Output
 why_wrote wrote.WriteFault = why.WriteFault
+
+-- a choice with an area to crop to, or none
+abbrev pub in_area : Option Area → Choice → Choice
+in_area area choice = record choice { crop = area }
 
 -- THE ANSWERS for a transformed picture, whose text means it if some bytes mean the picture
 abbrev pub AfterMoved : Choice → Meaning → Name → DeskState → Wrote → DeskState → Type 0

@@ -1,5 +1,5 @@
 -- HOW ENCODING AN IMAGE ENDS (the manual of cjpeg), by why it ended.
-use Rattle.std.specs.Prelude.{◌≡◌, ◌⊎◌, List, ◌++◌, Option}
+use Rattle.std.specs.Prelude.{◌≡◌, ◌⊎◌, Bool, List, ◌++◌, Option}
 use Rattle.jpg_base.specs.declared.names.Name.{Name}
 use Rattle.jpg_base.specs.Desk.{DeskState}
 use Rattle.jpg_spec_encode.specs.Encoded.{Encoding, encode_fault, encoded, encoded_text}
@@ -18,10 +18,12 @@ use Rattle.jpg_cli.specs.Desk.ScriptTaken.{HasScans, StopsAtScans, names_before}
 use Rattle.jpg_cli.specs.Stays.{Untouched}
 use Rattle.jpg_cli.specs.Desk.TablesTaken.{HasTables, StopsAtTables, tables_names}
 
--- which image is encoded, how, and where its file goes; and the names that were opened before
+-- which image is encoded, whether its file is a Targa file, how it is encoded, and where its file goes; and the names
+-- that were opened before
 pub record EncodeTask : Type 0 where
   pub before : List Name
   pub input : Name
+  pub targa : Bool
   pub output : Name
   pub encoding : Image → Encoding
 
@@ -36,7 +38,7 @@ encoding_conversion t = record {
   before = t.before;
   input = t.input;
   output = t.output;
-  judging = image_judging;
+  judging = image_judging t.targa;
   fault = λ I. encode_fault (t.encoding I) I;
   text = λ I. encoded_text (t.encoding I) I;
   right = MeansEncoded t;
@@ -51,6 +53,7 @@ abbrev pub task_after : List Name → EncodeAsked → Scans → Option (List Qua
 task_after before a scans tables = record {
   before = before;
   input = name_of a.files.input;
+  targa = a.targa;
   output = name_of a.files.output;
   encoding = encoding_asked a scans tables;
 }

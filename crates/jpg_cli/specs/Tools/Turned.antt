@@ -4,6 +4,7 @@ use Rattle.jpg_base.specs.declared.names.Name.{Name}
 use Rattle.jpg_base.specs.Desk.{DeskState}
 use Rattle.jpg_spec.specs.Meaning.{Meaning}
 use Rattle.jpg_spec_move.specs.Moved.{Choice, moved_text, picture_fault}
+use Rattle.jpg_spec_move.specs.declared.area.Area.{Area}
 use Rattle.jpg_spec_write.specs.ScansAsked.{Scans}
 use Rattle.jpg_spec_words.specs.TransformWords.{TransformAsked, choice_asked}
 use Rattle.jpg_spec_words.specs.declared.answers.Why.{Why}
@@ -14,23 +15,23 @@ use Rattle.jpg_cli.specs.declared.words.files.Files.{Files}
 use Rattle.jpg_cli.specs.Commands.{name_of}
 use Rattle.jpg_cli.specs.Desk.ReadPicture.{picture_judging}
 use Rattle.jpg_cli.specs.Desk.ScriptTaken.{HasScans, StopsAtScans, names_before}
-use Rattle.jpg_cli.specs.Desk.Writing.{MeansMoved}
+use Rattle.jpg_cli.specs.Desk.Writing.{MeansMoved, in_area}
 use Rattle.jpg_cli.specs.Outcome.{Conversion, Converted, WritesValue, at_end}
 use Rattle.jpg_cli.specs.Stays.{Untouched}
 use Rattle.jpg_cli.specs.declared.desk.picture.Wanted.TheVariants.{Coefficients}
 
--- which picture is transformed, how, and where it goes; and the names that were opened before
+-- which picture is transformed and cropped, how, and where it goes; and the names that were opened before
 pub record Turning : Type 0 where
   pub before : List Name
   pub input : Name
   pub output : Name
   pub choice : Choice
 
-abbrev pub turning_told : Files → Asked → Turning
-turning_told files choice = record { before = []; input = files.input; output = files.output; choice = choice_told choice }
+abbrev pub turning_told : Files → Asked → Option Area → Turning
+turning_told files choice area = record { before = []; input = files.input; output = files.output; choice = in_area area (choice_told choice) }
 
 -- THE CONVERSION: the picture has no fault for this choice; the text is that of the file of it transformed as the
--- choice says, which means the transformed picture
+-- choice says, and cropped if it asks for an area, which means the transformed picture
 abbrev pub turning_conversion : Turning → Conversion Meaning
 turning_conversion t = record {
   before = t.before;

@@ -18,6 +18,7 @@ use Rattle.jpg_cli.specs.declared.words.cjpeg_request.EncodeWords.{EncodeWords}
 abbrev pub encode_told : EncodeWords → EncodeAsked
 encode_told w = record {
   files = files_view w.files;
+  targa = w.targa;
   quality = w.quality;
   gray = w.gray;
   baseline = w.baseline;
@@ -37,6 +38,7 @@ factors_said text = unwrap_or (option_and_then factors_named text) []
 abbrev pub encode_said : EncodeSaid → EncodeAsked
 encode_said s = record {
   files = files_said s.files;
+  targa = s.targa;
   quality = quality_said (text_told s.quality);
   gray = s.gray;
   baseline = s.baseline;

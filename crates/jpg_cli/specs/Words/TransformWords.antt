@@ -1,13 +1,15 @@
 -- What the words of jpegtran ask for, as the functions answer it.
-use Rattle.jpg_spec_words.specs.TransformWords.{ScansSource, own_sequential, own_progressive, in_file, TransformAsked}
+use Rattle.std.specs.Prelude.{ℕ, List, Option, option_and_then}
+use Rattle.jpg_spec_move.specs.declared.area.Area.{Area}
+use Rattle.jpg_spec_words.specs.TransformWords.{ScansSource, own_sequential, own_progressive, in_file, TransformAsked, area_named}
 use Rattle.jpg_file.specs.Write.Restarts.{restart_of}
-use Rattle.jpg_cli.specs.Words.Files.{files_said, files_view}
+use Rattle.jpg_cli.specs.Words.Files.{files_said, files_view, text_told}
 use Rattle.jpg_cli.specs.declared.words.jpegtran.ScriptFrom.{ScriptFrom}
 use Rattle.jpg_cli.specs.declared.words.jpegtran.ScriptFrom.TheVariants as from
 use Rattle.jpg_cli.specs.declared.words.jpegtran.ScriptSaid.{ScriptSaid}
 use Rattle.jpg_cli.specs.declared.words.jpegtran.ScriptSaid.TheVariants as said
 use Rattle.jpg_cli.specs.declared.words.jpegtran.TransformSaid.{TransformSaid}
-use Rattle.jpg_cli.specs.declared.words.jpegtran.TransformWords.{TransformWords}
+use Rattle.jpg_cli.specs.declared.words.jpegtran_request.TransformWords.{TransformWords}
 
 -- the source of the scans
 abbrev pub script_told : ScriptFrom → ScansSource
@@ -22,6 +24,7 @@ transform_told w = record {
   transform = w.transform;
   trim = w.trim;
   gray = w.gray;
+  crop = w.crop;
   copying = w.copying;
   scans = script_told w.script;
   restart = restart_of w.restart;
@@ -33,12 +36,17 @@ script_said said.Sequential = own_sequential
 script_said said.Standard = own_progressive
 script_said (said.File name) = in_file name.now
 
+-- the area of this text, if there is one
+abbrev pub area_said : Option (List ℕ) → Option Area
+area_said text = option_and_then area_named text
+
 abbrev pub transform_said : TransformSaid → TransformAsked
 transform_said s = record {
   files = files_said s.files;
   transform = s.transform;
   trim = s.trim;
   gray = s.gray;
+  crop = area_said (text_told s.crop);
   copying = s.copying;
   scans = script_said s.script;
   restart = restart_of s.restart;

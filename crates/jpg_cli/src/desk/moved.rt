@@ -1,17 +1,19 @@
 //! A picture that was read, transformed and written (the manual of jpegtran).
-ghost use Rattle.std.specs.Prelude.{◌≡◌};
-ghost use Rattle.jpg_spec.specs.Meaning.{Meaning};
-ghost use Rattle.jpg_file.specs.Read.PictureRead.{MeansFor, picture_meaning};
+ghost use Rattle.std.specs.Prelude.{◌≡◌, IfSome};
+ghost use Rattle.jpg_file.specs.Write.WriteFile.{CanWriteFile, file_bytes};
 ghost use Rattle.jpg_transform.specs.Planned.{choice_told};
+ghost use Rattle.jpg_crop.specs.CropPlanned.{IsArea};
 ghost use Rattle.jpg_cli.specs.Stays.{OnlyWorks};
-ghost use Rattle.jpg_cli.specs.Desk.Writing.{AfterOutput, IsMeant, MeansMoved, WritesMoved};
-ghost use Rattle.jpg_spec_move.specs.Moved.{moved_text};
-ghost use Rattle.jpg_transform.specs.Planned.{IsJobFor};
+ghost use Rattle.jpg_cli.specs.Desk.Writing.{AfterOutput, WritesMoved, in_area};
 
 use jpg_base::{Desk, Name, Put};
-use jpg_file::{Picture, write_file};
+use jpg_coefs::BlockView;
+use jpg_crop::{Cropped, crop_plan};
+use jpg_file::{Picture, Plan, write_file};
+use jpg_markers::KeptList;
+use jpg_spec_move::Area;
 use jpg_spec_write::PictureFault;
-use jpg_transform::{Choice, Job, Moved, plan};
+use jpg_transform::{Choice, Moved, plan};
 
 /// The result of writing a transformed picture.
 #[derive(Clone, Copy, Debug, PartialEq, Eq)]
@@ -26,45 +28,57 @@ pub enum Wrote {
     WriteFault,
 }
 
-/// Writes a picture to an output of this name, transformed as the choice says: the text of its file, in the scans of
-/// the choice. If some bytes mean the picture, as those that it was read from, the text means the transformed picture,
-/// also if markers that the choice doesn't pass on weren't kept. The output is created when it is known that the
-/// picture has no fault. It takes no memory.
+/// Writes a picture to an output of this name, transformed as the choice says and cropped to the area, if there is one:
+/// the text of its file, in the scans of the choice. If some bytes mean the picture, as those that it was read from, the
+/// text means the transformed picture, also if markers that the choice doesn't pass on weren't kept. The output is
+/// created when it is known that the picture has no fault and the area is inside. It takes no memory.
 #[inline(never)]
 pub fn write_moved<D: Desk>(
     picture: &Picture,
     choice: &Choice,
     output: &Name,
+    area: &Option<Area>,
     desk: &mut D,
 ) -> Wrote
+    requires { IfSome area.now IsArea }
     ensures kept { OnlyWorks (D.state desk.old) (D.state desk.new) }
     ensures left { (D.state desk.new).left ≡ (D.state desk.old).left }
-    ensures wrote { WritesMoved (choice_told choice.now) picture.now output.now (D.state desk.old) result (D.state desk.new) }
+    ensures wrote { WritesMoved (in_area area.now (choice_told choice.now)) picture.now output.now (D.state desk.old) result (D.state desk.new) }
 {
     match plan(picture, choice) {
         Err(fault) => Wrote::Picture(fault),
-        Ok(job) => write_job(picture, choice, &job, output, desk),
+        Ok(job) => {
+            let moved = Moved::new(picture, &job);
+            match area {
+                None => write_view(&job.plan, &picture.kept, &moved, output, desk),
+                Some(area) => match crop_plan(picture, &job, area) {
+                    Err(fault) => Wrote::Picture(fault),
+                    Ok(crop) => {
+                        let cropped = Cropped::new(&moved, &crop);
+                        write_view(&crop.plan, &picture.kept, &cropped, output, desk)
+                    }
+                },
+            }
+        }
     }
 }
 
-// Creates the output, and writes the picture to it as the job says.
-fn write_job<D: Desk>(
-    picture: &Picture,
-    choice: &Choice,
-    job: &Job,
+// Creates the output, and writes to it the file of the plan with these blocks and kept markers.
+fn write_view<V: BlockView, D: Desk>(
+    plan: &Plan,
+    kept: &KeptList,
+    view: &V,
     output: &Name,
     desk: &mut D,
 ) -> Wrote
-    requires { IsJobFor picture.now (choice_told choice.now) job.now }
+    requires { CanWriteFile plan.now kept.now (V.numbers view.now) (V.blocks view.now) }
     ensures kept { OnlyWorks (D.state desk.old) (D.state desk.new) }
     ensures left { (D.state desk.new).left ≡ (D.state desk.old).left }
-    ensures means { (M : Meaning) → MeansFor choice.now.copying picture.now M → IsMeant M → MeansMoved (choice_told choice.now) M }
-    ensures output { AfterOutput output.now (D.state desk.old) (moved_text (choice_told choice.now) (picture_meaning picture.now)) result (D.state desk.new) }
+    ensures output { AfterOutput output.now (D.state desk.old) (file_bytes plan.now kept.now (V.blocks view.now)) result (D.state desk.new) }
 {
-    let moved = Moved::new(picture, job);
     match desk.create(output) {
         Put::Failed => Wrote::OpenFault,
-        Put::Done => match write_file(&job.plan, &picture.kept, &moved, desk) {
+        Put::Done => match write_file(plan, kept, view, desk) {
             Ok(()) => Wrote::Done,
             Err(_) => Wrote::WriteFault,
         },

@@ -63,7 +63,7 @@ fn encode_by<D: Desk>(
     ensures kept { OnlyWorks (D.state desk.old) (D.state desk.new) }
     ensures encoded { Encoded (task_after [] (encode_told words.now) (scans_told scans) (lent_tables tables.entry)) (D.state desk.old) result (D.state desk.new) }
 {
-    match read_image(alloc, &words.files.input, desk) {
+    match read_image(alloc, &words.files.input, words.targa, desk) {
         Err(why) => why,
         Ok(image) => write_encoded(alloc, &image, words, scans, tables, desk),
     }
@@ -115,7 +115,7 @@ fn write_picture<D: Desk>(picture: &Picture, words: &EncodeWords, scans: Scans, 
         scans,
         restart: words.restart,
     };
-    match write_moved(picture, &choice, &words.files.output, desk) {
+    match write_moved(picture, &choice, &words.files.output, &None, desk) {
         Wrote::Done => Why::Done,
         Wrote::Picture(fault) => Why::Picture(fault),
         Wrote::OpenFault => Why::OpenFault(Which::Output),

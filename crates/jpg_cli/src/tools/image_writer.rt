@@ -16,14 +16,9 @@ fn is_same_format(a: EndKind, b: EndKind) -> bool
     ensures { result ≡ is_same_format a b }
 {
     match a {
-        EndKind::Pnm => match b {
-            EndKind::Pnm => true,
-            EndKind::Bmp => false,
-        },
-        EndKind::Bmp => match b {
-            EndKind::Pnm => false,
-            EndKind::Bmp => true,
-        },
+        EndKind::Pnm => matches!(b, EndKind::Pnm),
+        EndKind::Bmp => matches!(b, EndKind::Bmp),
+        EndKind::Targa => matches!(b, EndKind::Targa),
     }
 }
 

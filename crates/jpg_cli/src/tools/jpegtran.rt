@@ -1,6 +1,8 @@
 //! A picture read, transformed and written (the manual of jpegtran).
-ghost use Rattle.std.specs.Prelude.{◌≡◌};
+ghost use Rattle.std.specs.Prelude.{◌≡◌, IfSome};
 ghost use Rattle.jpg_transform.specs.Planned.{choice_told, scans_told};
+ghost use Rattle.jpg_crop.specs.CropPlanned.{IsArea};
+ghost use Rattle.jpg_cli.specs.Desk.Writing.{in_area};
 ghost use Rattle.jpg_cli.specs.Stays.{OnlyWorks};
 ghost use Rattle.jpg_cli.specs.Words.TransformWords.{transform_told};
 ghost use Rattle.jpg_cli.specs.Tools.Turned.{Transformed, Turned, turning_told};
@@ -10,17 +12,18 @@ use crate::desk::moved::{Wrote, write_moved};
 use crate::desk::picture::{Wanted, done_as, read_picture};
 use crate::desk::script::take_scans;
 use crate::words::files::Files;
-use crate::words::jpegtran::TransformWords;
+use crate::words::jpegtran_request::TransformWords;
 use jpg_base::Desk;
+use jpg_spec_move::Area;
 use jpg_spec_words::{Which, Why};
 use jpg_transform::{Choice, Scans};
 use std::alloc::Global;
 
-/// Takes the scans of the output, reads the picture of the input, and writes it to the output, transformed as the words
-/// ask for it. A script's file is read and judged before the input is opened. The input is read in pieces of at most
-/// 16,384 bytes, up to the one that completes it or reveals a fault, or up to its end; from then on no memory is asked
-/// for. An input that ends early is transformed with what it has, and the answer warns of it. The output is created
-/// when the picture is complete and has no fault, so it may have the input's name.
+/// Takes the scans of the output, reads the picture of the input, and writes it to the output, transformed and cropped
+/// as the words ask for it. A script's file is read and judged before the input is opened. The input is read in pieces
+/// of at most 16,384 bytes, up to the one that completes it or reveals a fault, or up to its end; from then on no memory
+/// is asked for. An input that ends early is transformed with what it has, and the answer warns of it. The output is
+/// created when the picture is complete and has no fault, so it may have the input's name.
 #[inline(never)]
 pub fn transform<D: Desk>(alloc: Global, words: &TransformWords, desk: &mut D) -> Why
     ensures kept { OnlyWorks (D.state desk.old) (D.state desk.new) }
@@ -28,13 +31,19 @@ pub fn transform<D: Desk>(alloc: Global, words: &TransformWords, desk: &mut D) -
 {
     match take_scans(alloc, &words.script, desk) {
         Err(why) => why,
-        Ok(scans) => turn(alloc, &words.files, &choice_of(words, scans), desk),
+        Ok(scans) => turn(
+            alloc,
+            &words.files,
+            &choice_of(words, scans),
+            &words.crop,
+            desk,
+        ),
     }
 }
 
-// What the words ask for, in these scans.
+// What the words ask for but the area, in these scans.
 fn choice_of(words: &TransformWords, scans: Scans) -> Choice
-    ensures { choice_told result ≡ choice_asked (transform_told words.now) (scans_told scans) }
+    ensures { in_area words.now.crop (choice_told result) ≡ choice_asked (transform_told words.now) (scans_told scans) }
 {
     Choice {
         transform: words.transform,
@@ -46,15 +55,22 @@ fn choice_of(words: &TransformWords, scans: Scans) -> Choice
     }
 }
 
-// Reads the picture of the input, and writes it to the output, transformed as the choice says.
-fn turn<D: Desk>(alloc: Global, files: &Files, choice: &Choice, desk: &mut D) -> Why
+// Reads the picture of the input, and writes it to the output, transformed as the choice says and cropped to the area.
+fn turn<D: Desk>(
+    alloc: Global,
+    files: &Files,
+    choice: &Choice,
+    area: &Option<Area>,
+    desk: &mut D,
+) -> Why
+    requires { IfSome area.now IsArea }
     ensures kept { OnlyWorks (D.state desk.old) (D.state desk.new) }
-    ensures turned { Turned (turning_told files.now choice.now) (D.state desk.old) result (D.state desk.new) }
+    ensures turned { Turned (turning_told files.now choice.now area.now) (D.state desk.old) result (D.state desk.new) }
 {
     let copying = choice.copying;
     match read_picture(alloc, &files.input, Wanted::Coefficients, copying, desk) {
         Err(why) => why,
-        Ok((picture, early)) => match write_moved(&picture, choice, &files.output, desk) {
+        Ok((picture, early)) => match write_moved(&picture, choice, &files.output, area, desk) {
             Wrote::Done => done_as(early),
             Wrote::Picture(fault) => Why::Picture(fault),
             Wrote::OpenFault => Why::OpenFault(Which::Output),

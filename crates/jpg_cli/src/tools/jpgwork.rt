@@ -17,7 +17,8 @@ use crate::words::cjpeg_request::EncodeWords;
 use crate::words::cjpeg_values::Factors;
 use crate::words::djpeg::ShowWords;
 use crate::words::files::Files;
-use crate::words::jpegtran::{ScriptFrom, TransformWords};
+use crate::words::jpegtran::ScriptFrom;
+use crate::words::jpegtran_request::TransformWords;
 use jpg_base::{Bytes, Desk, MemoryDesk, Name, Put};
 use jpg_pnm_bmp::ImageEnd;
 use jpg_spec::Copying;
@@ -124,6 +125,7 @@ fn first_file(alloc: Global, size: u16) -> Option<MemoryDesk>
             input: Name::In,
             output: Name::Out,
         },
+        targa: false,
         quality: None,
         gray: false,
         baseline: false,
@@ -181,6 +183,7 @@ fn turned_file(
         transform: transformed,
         trim: false,
         gray: false,
+        crop: None,
         copying: Copying::Comments,
         script: scans_from(progressive),
         restart: Restart::Off,

@@ -24,6 +24,7 @@ static CJPEG_SWITCHES: [Switch<'static>; 20] = [
     ("quality", 1, Valued(Setting::Quality)),
     ("grayscale", 2, Alone(Flag::Gray)),
     ("greyscale", 2, Alone(Flag::Gray)),
+    ("targa", 1, Alone(Flag::Targa)),
     ("baseline", 1, Alone(Flag::Baseline)),
     ("progressive", 1, Alone(Flag::Progressive)),
     ("scans", 4, Valued(Setting::Scans)),
@@ -40,7 +41,6 @@ static CJPEG_SWITCHES: [Switch<'static>; 20] = [
     ("maxmemory", 3, LeftOut),
     ("smooth", 2, LeftOut),
     ("qslots", 2, LeftOut),
-    ("targa", 1, LeftOut),
 ];
 
 /// What the words of cjpeg ask for; the word with index 0 is the command. Words that are wrong give their first fault
@@ -50,6 +50,7 @@ pub fn cjpeg_words(alloc: Global, words: &[String]) -> Result<EncodeWords, Words
 {
     let start = EncodeSaid {
         files: NO_FILES,
+        targa: false,
         quality: None,
         gray: false,
         baseline: false,
@@ -65,6 +66,7 @@ pub fn cjpeg_words(alloc: Global, words: &[String]) -> Result<EncodeWords, Words
 #[derive(Clone, Copy)]
 struct EncodeSaid<'a> {
     files: FilesSaid<'a>,
+    targa: bool,
     quality: Option<&'a str>,
     gray: bool,
     baseline: bool,
@@ -95,6 +97,10 @@ impl<'a> Asks<'a> for EncodeSaid<'a> {
     fn flag(self, flag: Flag, index: usize) -> Result<Self, Usage> {
         match flag {
             Flag::Gray => Ok(EncodeSaid { gray: true, ..self }),
+            Flag::Targa => Ok(EncodeSaid {
+                targa: true,
+                ..self
+            }),
             Flag::Baseline => Ok(EncodeSaid {
                 baseline: true,
                 ..self
@@ -150,6 +156,7 @@ impl<'a> Asks<'a> for EncodeSaid<'a> {
     fn to_words(self, alloc: Global) -> Result<EncodeWords, NoMemory> {
         Ok(EncodeWords {
             files: self.files.to_files(alloc)?,
+            targa: self.targa,
             quality: quality_of(self.quality),
             gray: self.gray,
             baseline: self.baseline,

@@ -12,6 +12,8 @@ use jpg_transform::Restart;
 #[derive(Drop)]
 pub struct EncodeWords {
     pub files: Files,
+    /// The input is a Targa file.
+    pub targa: bool,
     /// The quality from 1 to 100, if it is given.
     pub quality: Option<u8>,
     /// Only luminance is encoded.

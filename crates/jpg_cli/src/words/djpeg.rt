@@ -18,6 +18,7 @@ static DJPEG_SWITCHES: [Switch<'static>; 23] = [
     ("pnm", 1, Alone(Flag::Pnm)),
     ("ppm", 1, Alone(Flag::Pnm)),
     ("bmp", 1, Alone(Flag::Bmp)),
+    ("targa", 1, Alone(Flag::Targa)),
     ("grayscale", 2, Alone(Flag::Gray)),
     ("greyscale", 2, Alone(Flag::Gray)),
     ("nosmooth", 3, Alone(Flag::NoSmooth)),
@@ -37,7 +38,6 @@ static DJPEG_SWITCHES: [Switch<'static>; 23] = [
     ("rle", 1, LeftOut),
     ("verbose", 1, LeftOut),
     ("debug", 1, LeftOut),
-    ("targa", 1, LeftOut),
 ];
 
 /// What the words of djpeg ask for.
@@ -106,6 +106,11 @@ impl<'a> Asks<'a> for ShowSaid<'a> {
             }),
             Flag::Bmp => Ok(ShowSaid {
                 kind: EndKind::Bmp,
+                kind_word: index as u64,
+                ..self
+            }),
+            Flag::Targa => Ok(ShowSaid {
+                kind: EndKind::Targa,
                 kind_word: index as u64,
                 ..self
             }),

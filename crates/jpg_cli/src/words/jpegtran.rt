@@ -1,24 +1,30 @@
 //! The words of jpegtran (its manual in release 6b).
 ghost use Rattle.std.specs.Prelude.{◌≡◌, ◌<◌, IfOk, map, drop, string_bytes};
+ghost use Rattle.jpg_crop.specs.CropPlanned.{IsArea};
+ghost use Rattle.jpg_cli.specs.Words.Areas.{area_or_one};
 ghost use Rattle.jpg_spec_words.specs.Requests.{with_value};
 ghost use Rattle.jpg_spec_words.specs.TransformWords.{TransformAsked, copying_named, flip_named, jpegtran, rotation_named, transform_asked, transform_number, with_progressive, with_transform};
+ghost use Rattle.jpg_cli.specs.Words.Files.{text_told};
 ghost use Rattle.jpg_cli.specs.Words.Requests.{AnswersWords, IsAnswer};
-ghost use Rattle.jpg_cli.specs.Words.TransformWords.{script_said, script_told, transform_said, transform_told};
+ghost use Rattle.jpg_cli.specs.Words.TransformWords.{area_said, script_said, script_told, transform_said, transform_told};
 
+use crate::words::areas::area_named;
 use crate::words::files::{Files, FilesSaid, NO_FILES, WordsStop};
+use crate::words::jpegtran_request::TransformWords;
 use crate::words::requests::{Asks, bad_value, read_words, usage};
 use crate::words::switches::{Switch, stands_for};
 use crate::words::values::{number_of, restart_named};
 use jpg_base::{NoMemory, Text};
 use jpg_spec::Copying;
-use jpg_spec_move::Transform;
+use jpg_spec_move::{Area, Transform};
 use jpg_spec_words::Purpose::{Alone, LeftOut, Valued};
 use jpg_spec_words::{Flag, Setting, Usage, UsageFault};
 use jpg_transform::Restart;
 use std::alloc::Global;
 
-static JPEGTRAN_SWITCHES: [Switch<'static>; 18] = [
+static JPEGTRAN_SWITCHES: [Switch<'static>; 19] = [
     ("copy", 1, Valued(Setting::Copy)),
+    ("crop", 2, Valued(Setting::Crop)),
     ("flip", 1, Valued(Setting::Flip)),
     ("grayscale", 1, Alone(Flag::Gray)),
     ("greyscale", 1, Alone(Flag::Gray)),
@@ -47,20 +53,6 @@ pub enum ScriptFrom {
     File(Text),
 }
 
-/// What the words of jpegtran ask for.
-#[derive(Drop)]
-pub struct TransformWords {
-    pub files: Files,
-    pub transform: Transform,
-    /// Partial iMCUs that would remain in place, at the right and at the bottom, are left out.
-    pub trim: bool,
-    /// Only the first component is kept.
-    pub gray: bool,
-    pub copying: Copying,
-    pub script: ScriptFrom,
-    pub restart: Restart,
-}
-
 /// What the words of jpegtran ask for; the word with index 0 is the command. Words that are wrong give their first
 /// fault and take no memory.
 pub fn jpegtran_words(alloc: Global, words: &[String]) -> Result<TransformWords, WordsStop>
@@ -71,6 +63,7 @@ pub fn jpegtran_words(alloc: Global, words: &[String]) -> Result<TransformWords,
         transform: Transform::Keep,
         trim: false,
         gray: false,
+        crop: None,
         copying: Copying::Comments,
         script: ScriptSaid::Sequential,
         restart: Restart::Off,
@@ -78,13 +71,14 @@ pub fn jpegtran_words(alloc: Global, words: &[String]) -> Result<TransformWords,
     read_words(alloc, start, &JPEGTRAN_SWITCHES, words)
 }
 
-// The same by the words so far.
+// The same by the words so far; the area as it is written.
 #[derive(Clone, Copy)]
 struct TransformSaid<'a> {
     files: FilesSaid<'a>,
     transform: Transform,
     trim: bool,
     gray: bool,
+    crop: Option<&'a str>,
     copying: Copying,
     script: ScriptSaid<'a>,
     restart: Restart,
@@ -128,6 +122,13 @@ impl<'a> Asks<'a> for TransformSaid<'a> {
                 Some(copying) => Ok(TransformSaid { copying, ..self }),
                 None => Err(bad_value(index)),
             },
+            Setting::Crop => match area_named(value.as_bytes()) {
+                Some(_) => Ok(TransformSaid {
+                    crop: Some(value),
+                    ..self
+                }),
+                None => Err(bad_value(index)),
+            },
             Setting::Flip => self.turned_by(flip_named(value), index),
             Setting::Rotate => self.turned_by(rotation_named(value.as_bytes()), index),
             Setting::Output => Ok(TransformSaid {
@@ -152,6 +153,7 @@ impl<'a> Asks<'a> for TransformSaid<'a> {
             transform: self.transform,
             trim: self.trim,
             gray: self.gray,
+            crop: area_of(self.crop),
             copying: self.copying,
             script: self.script.to_script(alloc)?,
             restart: self.restart,
@@ -181,6 +183,17 @@ impl<'a> TransformSaid<'a> {
             Some(transform) => self.turned(transform, index),
             None => Err(bad_value(index)),
         }
+    }
+}
+
+// The area of this text, if there is one.
+fn area_of(value: Option<&str>) -> Option<Area>
+    ensures value { result ≡ area_said (text_told value.entry) }
+    ensures area { IsArea (area_or_one result) }
+{
+    match value {
+        Some(value) => area_named(value.as_bytes()),
+        None => None,
     }
 }
 

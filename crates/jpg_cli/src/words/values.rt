@@ -1,5 +1,5 @@
 //! Values of switches that several commands have (the manuals of release 6b).
-ghost use Rattle.std.specs.Prelude.{◌≡◌, option_map};
+ghost use Rattle.std.specs.Prelude.{◌≡◌, ◌≤◌, IfSome, option_map};
 ghost use Rattle.jpg_spec_words.specs.Requests.{ends_with_b, is_int, number_of, restart_by, restart_named, without_b};
 ghost use Rattle.jpg_file.specs.Write.Restarts.{restart_of};
 
@@ -60,7 +60,8 @@ fn without_b(text: &[u8]) -> &[u8]
 
 /// The number of one to five decimal digits.
 pub(crate) fn number_of(text: &[u8]) -> Option<u32>
-    ensures { result ≡ number_of text.now }
+    ensures number { result ≡ number_of text.now }
+    ensures most { IfSome result (λ n. n ≤ 99999) }
 {
     if text.is_empty() || text.len() > 5 {
         return None;

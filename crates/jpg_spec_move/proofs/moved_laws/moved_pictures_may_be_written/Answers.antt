@@ -7,10 +7,9 @@ use Rattle.jpg_spec_move.proofs.MeaningLeft.{read_moved}
 use Rattle.jpg_spec_move.proofs.moved_laws.moved_pictures_may_be_written.Goals as goal
 
 pub returns-clause-headed : goal.returns-clause-headed
-returns-clause-headed c = λ choice M is. read_moved is.limits is.bytes M choice is.limited is.are_bytes is.means is.admitted
+returns-clause-headed c = λ choice M is. read_moved M choice is
 
 pub returns-clause-means : goal.returns-clause-means
 returns-clause-means c = λ choice M bytes w.
-    let is = w.movable in
-    let headed = read_moved is.limits is.bytes M choice is.limited is.are_bytes is.means is.admitted in
+    let headed = read_moved M choice w.movable in
     subst (λ (l : List ℕ). Means standard_limits l (moved choice M)) (sym w.text) (moved_means choice M headed w.faultless w.small)

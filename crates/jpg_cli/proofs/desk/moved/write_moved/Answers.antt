@@ -1,17 +1,65 @@
-use Rattle.std.proofs.Common.{◌∙◌, refl, sym, ap}
-use Rattle.jpg_spec_move.specs.Moved.{picture_fault}
+use Rattle.std.proofs.Common.{IfSome, ℕ, List, Option, refl, sym, subst}
+use Rattle.jpg_spec.specs.Geometry.{Frame}
+use Rattle.jpg_spec_move.specs.declared.area.Area.{Area}
 use Rattle.jpg_file.specs.Read.PictureRead.{picture_meaning}
-use Rattle.jpg_cli.proofs.KeepingLaws.{fault_same}
+use Rattle.jpg_cli.specs.Desk.Writing.{AfterOutput, WritesMoved, in_area}
+use Rattle.jpg_cli.specs.declared.desk.moved.Wrote.TheVariants as wrote
 use Rattle.jpg_transform.specs.Planned.{choice_told}
-use Rattle.jpg_cli.proofs.Running.{wrote_for}
+use Rattle.jpg_crop.specs.CropPlanned.{IsArea, IsCutFrom, with_area}
+use Rattle.jpg_cli.proofs.MovedWritten.{fault_in, faulty, written}
 use Rattle.jpg_cli.proofs.desk.moved.write_moved.Goals as goal
 
-pub returns-in-Ok-clause-wrote : goal.returns-in-Ok-clause-wrote
-returns-in-Ok-clause-wrote g c = λ M shows.
-    let state = g.D.Desk.state in
-    wrote_for (choice_told c.args.choice.now) (picture_meaning c.args.picture.now) M c.args.output.now (state c.args.desk.now) (state c.write_job.new.desk) c.write_job.result shows c.in-Ok.ensures.admitted c.write_job.ensures.output (c.write_job.ensures.means M shows)
+pub write_view-requires : goal.write_view-requires
+write_view-requires g c = (c.new-moved.ensures.writes (choice_told c.args.choice.now) c.in-Ok.ensures).can
+
+pub crop_plan-requires-clause-area : goal.crop_plan-requires-clause-area
+crop_plan-requires-clause-area g c = subst (λ (o : Option Area). IfSome o IsArea) c.in-Some.is c.requires
+
+pub new-cropped-requires : goal.new-cropped-requires
+new-cropped-requires g c =
+    (c.in-Some.area, subst (λ (f : Frame). IsCutFrom c.in-Some.area f c.in-Ok-crop_plan.crop) (sym c.new-moved.ensures.frame) (c.in-Ok-crop_plan.ensures.plan (choice_told c.args.choice.now) c.in-Ok.ensures).cut)
+
+pub write_view-requires-in-Ok-crop_plan : goal.write_view-requires-in-Ok-crop_plan
+write_view-requires-in-Ok-crop_plan g c =
+    let choice = choice_told c.args.choice.now in
+    (c.new-cropped.ensures.writes c.args.picture.now choice c.in-Some.area
+    (record { base = c.in-Ok.job; job = c.in-Ok.ensures; cropped = c.in-Ok-crop_plan.ensures.plan choice c.in-Ok.ensures; frame = c.new-moved.ensures.frame; shows = c.new-moved.ensures.shows })).can
 
 pub returns-in-Err-clause-wrote : goal.returns-in-Err-clause-wrote
-returns-in-Err-clause-wrote g c = λ M shows.
-    let a = choice_told c.args.choice.now in
-    (sym (fault_same a M) ∙ ap (picture_fault a) (sym shows) ∙ c.in-Err.ensures, record { asked = refl; outputs = refl; left = refl })
+returns-in-Err-clause-wrote g c =
+    let choice = choice_told c.args.choice.now in
+    faulty (in_area c.args.area.now choice) c.args.picture.now c.args.output.now (g.D.Desk.state c.args.desk.now) c.in-Err.fault
+    (fault_in c.args.area.now choice (picture_meaning c.args.picture.now) c.in-Err.fault refl c.in-Err.ensures)
+
+pub returns-in-None-clause-wrote : goal.returns-in-None-clause-wrote
+returns-in-None-clause-wrote g c =
+    let choice = choice_told c.args.choice.now in
+    let old = g.D.Desk.state c.args.desk.now in
+    let new = g.D.Desk.state c.write_view.new.desk in
+    let w = c.write_view.result in
+    let writes = c.new-moved.ensures.writes choice c.in-Ok.ensures in
+    subst (λ (o : Option Area). WritesMoved (in_area o choice) c.args.picture.now c.args.output.now old w new) (sym c.in-None.is)
+    (written choice c.args.picture.now c.in-Ok.job.plan c.args.output.now old new w c.in-Ok.ensures.planned
+    (subst (λ (due : List ℕ). AfterOutput c.args.output.now old due w new) writes.text c.write_view.ensures.output))
+
+pub returns-in-Err-crop_plan-clause-wrote : goal.returns-in-Err-crop_plan-clause-wrote
+returns-in-Err-crop_plan-clause-wrote g c =
+    let choice = choice_told c.args.choice.now in
+    let old = g.D.Desk.state c.args.desk.now in
+    let w = wrote.Picture c.in-Err-crop_plan.fault in
+    subst (λ (o : Option Area). WritesMoved (in_area o choice) c.args.picture.now c.args.output.now old w old) (sym c.in-Some.is)
+    (faulty (with_area c.in-Some.area choice) c.args.picture.now c.args.output.now old c.in-Err-crop_plan.fault (c.in-Err-crop_plan.ensures.plan choice c.in-Ok.ensures))
+
+pub returns-in-Ok-crop_plan-clause-wrote : goal.returns-in-Ok-crop_plan-clause-wrote
+returns-in-Ok-crop_plan-clause-wrote g c =
+    let choice = choice_told c.args.choice.now in
+    let p = c.args.picture.now in
+    let old = g.D.Desk.state c.args.desk.now in
+    let new = g.D.Desk.state c.write_view-in-Ok-crop_plan.new.desk in
+    let w = c.write_view-in-Ok-crop_plan.result in
+    let cropped = c.in-Ok-crop_plan.ensures.plan choice c.in-Ok.ensures in
+    let writes = c.new-cropped.ensures.writes p choice c.in-Some.area
+    (record { base = c.in-Ok.job; job = c.in-Ok.ensures; cropped = cropped; frame = c.new-moved.ensures.frame; shows = c.new-moved.ensures.shows }) in
+    subst (λ (o : Option Area). WritesMoved (in_area o choice) p c.args.output.now old w new) (sym c.in-Some.is)
+    (written (with_area c.in-Some.area choice) p c.in-Ok-crop_plan.crop.plan c.args.output.now old new w cropped.planned
+    (subst (λ (due : List ℕ). AfterOutput c.args.output.now old due w new) writes.text c.write_view-in-Ok-crop_plan.ensures.output))

@@ -15,7 +15,7 @@ returns-in-Ok-clause-encoded g c =
     let scans = scans_told c.args.scans in
     let tables = lent_tables c.args.tables in
     told_names w scans tables (state c.args.desk.now) (state c.write_encoded.new.desk) c.write_encoded.result
-    (encoded_after w.files.input w.files.output (encoding_asked (encode_told w) scans tables) (image_told c.in-Ok.image) (state c.args.desk.now) (state c.read_image.new.desk) (state c.write_encoded.new.desk) c.write_encoded.result
+    (encoded_after w.files.input w.targa w.files.output (encoding_asked (encode_told w) scans tables) (image_told c.in-Ok.image) (state c.args.desk.now) (state c.read_image.new.desk) (state c.write_encoded.new.desk) c.write_encoded.result
     (record { kept = c.in-Ok.ensures.kept; asked = c.in-Ok.ensures.read.0; read = c.in-Ok.ensures.read.1; all = tt; left = c.write_encoded.ensures.left }) c.write_encoded.ensures.wrote)
 
 pub returns-in-Err-clause-encoded : goal.returns-in-Err-clause-encoded
@@ -25,4 +25,4 @@ returns-in-Err-clause-encoded g c =
     let scans = scans_told c.args.scans in
     let tables = lent_tables c.args.tables in
     told_names w scans tables (state c.args.desk.now) (state c.read_image.new.desk) c.in-Err.why
-    (converted_unread Image (encoding_conversion (task_by w.files.input w.files.output (encoding_asked (encode_told w) scans tables))) (state c.args.desk.now) (state c.read_image.new.desk) c.in-Err.why c.in-Err.ensures.read)
+    (converted_unread Image (encoding_conversion (task_by w.files.input w.targa w.files.output (encoding_asked (encode_told w) scans tables))) (state c.args.desk.now) (state c.read_image.new.desk) c.in-Err.why c.in-Err.ensures.read)

@@ -1,5 +1,5 @@
 use Rattle.std.proofs.Common.{sym, ◌∙◌}
-use Rattle.jpg_cli.proofs.FoundEnds.{new_left, one_less}
+use Rattle.jpg_cli.proofs.FoundEnds.{first_of, new_left, one_less}
 use Rattle.jpg_cli.proofs.tools.image_writer.show_by.Goals as goal
 
 pub loop-end-preserved : goal.loop-end-preserved
@@ -15,3 +15,10 @@ loop-end-preserved g c =
       same = one_less c.args.ends.items now rest c.in-Some.end (λ e. (goal.ImageEnd-dyn g (e.vtable, e.value)).progress e.value) c.args.words.now.kind steps so.same (sym c.is_of.ensures ∙ c.if-is_of.false);
       desk = so.desk;
     }
+
+pub show_picture-requires : goal.show_picture-requires
+show_picture-requires g c =
+    let now = c.loop-end.end-iterator.rest.items in
+    let rest = c.next.new.self.rest.items in
+    first_of now rest c.in-Some.end (λ e. (goal.ImageEnd-dyn g (e.vtable, e.value)).progress e.value) c.args.words.now.kind c.in-Some.ensures.steps.0 c.loop-end.invariant.new
+    (sym c.is_of.ensures ∙ c.if-is_of.true)

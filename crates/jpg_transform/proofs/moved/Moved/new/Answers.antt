@@ -1,7 +1,7 @@
 use Rattle.std.proofs.Common.{refl}
 use Rattle.std.specs.Prelude.{slice_index}
 use Rattle.jpg_file.specs.Read.PictureRead.{picture_meaning}
-use Rattle.jpg_transform.proofs.MovedFile.{writes_job}
+use Rattle.jpg_transform.proofs.MovedFile.{writes_plan}
 use Rattle.jpg_transform.proofs.Planned.{is_output, whole_picture}
 use Rattle.jpg_transform.proofs.SeenPicture.{seen_meaning}
 use Rattle.jpg_transform.proofs.Showing.{AreGiven, Arguments, reached_by, shown_by}
@@ -37,4 +37,4 @@ returns-clause-shows c = λ choice h.
     shown_by (picture_meaning p) p.keeps.frame (given (goal.at.returns-clause-shows c).After-all_rows) (whole_picture p) (seen_meaning p) (is_output p choice c.args.job.now h))
 
 pub returns-clause-writes : goal.returns-clause-writes
-returns-clause-writes c = λ choice h. writes_job c.args.picture.now choice c.args.job.now _ _ refl c.checked.ensures h (returns-clause-shows c choice h)
+returns-clause-writes c = λ choice h. writes_plan c.args.picture.now choice c.args.job.now.plan _ _ refl c.checked.ensures h.planned (returns-clause-shows c choice h)

@@ -1,0 +1,26 @@
+//! What the words of jpegtran ask for (its manual in release 6b).
+ghost use Rattle.jpg_crop.specs.CropPlanned.{IsArea};
+ghost use Rattle.jpg_cli.specs.Words.Areas.{area_or_one};
+
+use crate::words::files::Files;
+use crate::words::jpegtran::ScriptFrom;
+use jpg_spec::Copying;
+use jpg_spec_move::{Area, Transform};
+use jpg_transform::Restart;
+
+/// What the words of jpegtran ask for.
+#[derive(Drop)]
+pub struct TransformWords {
+    pub files: Files,
+    pub transform: Transform,
+    /// Partial iMCUs that would remain in place, at the right and at the bottom, are left out.
+    pub trim: bool,
+    /// Only the first component is kept.
+    pub gray: bool,
+    /// The area that is cut out of the transformed picture.
+    pub crop: Option<Area>,
+    pub copying: Copying,
+    pub script: ScriptFrom,
+    pub restart: Restart,
+    ghost area: { IsArea (area_or_one crop) },
+}

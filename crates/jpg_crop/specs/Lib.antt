@@ -1,0 +1,2 @@
+pub mod CropPlanned
+pub mod CroppedBlocks

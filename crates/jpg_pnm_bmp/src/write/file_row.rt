@@ -1,0 +1,37 @@
+//! A row's samples as BMP and Targa files have them: blue before red.
+ghost use Rattle.std.specs.Prelude.{◌≡◌, length, OnOk};
+ghost use Rattle.jpg_spec_image.specs.ImageText.{turned_round, file_samples};
+
+use jpg_base::NoMemory;
+use jpg_spec_image::ImageKind;
+
+// Exchanges the first and the third byte of each pixel.
+fn turn_round(line: &mut [u8])
+    ensures turned { line.new ≡ turned_round line.old }
+    ensures long { length line.new ≡ length line.old }
+{
+    let mut at: usize = 0;
+    while line.len() - at >= 3 {
+        let red = line[at];
+        line[at] = line[at + 2];
+        line[at + 2] = red;
+        at += 3;
+    }
+}
+
+/// Makes `part` this row of an image: gray samples as they are, and colours as blue, green, red.
+pub fn file_row(part: &mut Vec<u8>, kind: ImageKind, row: &[u8]) -> Result<(), NoMemory>
+    ensures samples { OnOk result (part.new.items ≡ file_samples kind row.now) }
+    ensures long { OnOk result (length part.new.items ≡ length row.now) }
+{
+    part.clear();
+    match part.extend_from_slice(row) {
+        Ok(()) => {}
+        Err(_) => return Err(NoMemory),
+    }
+    match kind {
+        ImageKind::Gray => {}
+        ImageKind::Rgb => turn_round(part.as_mut_slice()),
+    }
+    Ok(())
+}

@@ -1,0 +1,10 @@
+pub mod BeforeData
+pub mod BeforeItems
+pub mod CountData
+pub mod CountSteps
+pub mod FedSteps
+pub mod FindSteps
+pub mod FrontShown
+pub mod PartSteps
+pub mod PieceSteps
+pub mod ViewSteps

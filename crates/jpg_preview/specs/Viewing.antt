@@ -1,0 +1,133 @@
+-- A PREVIEW of a file that is fed piece by piece: what it means where its front ends (T.81, B.2.1).
+use Rattle.std.specs.Prelude.{◌≡◌, ◌⊎◌, ℕ, suc, ◌<◌, ◌≤◌, Bool, true, false, List, ◌++◌, length, take, Option, Some, None, Result, Ok, Err}
+use Rattle.jpg_spec.specs.FrameHeader.{AreLimits}
+use Rattle.jpg_spec.specs.FirstFault.{HaveBegun}
+use Rattle.jpg_spec.specs.UnfinishedFile.{UnfinishedFile}
+use Rattle.jpg_spec.specs.declared.fault.FaultAt.{FaultAt}
+use Rattle.jpg_spec.specs.declared.frame.Limits.{Limits}
+use Rattle.jpg_spec_image.specs.Front.{EndsNotBefore, EndsScan, IsFront}
+use Rattle.jpg_base.specs.declared.stop.Fed.{Fed}
+use Rattle.jpg_base.specs.declared.stop.Fed.TheVariants as fed
+use Rattle.jpg_base.specs.declared.stop.Stop.{Stop}
+use Rattle.jpg_base.specs.declared.stop.Stop.TheVariants as stop
+use Rattle.jpg_file.specs.Read.ReadFile.{AfterFeed, HasRead, IsDone, IsEarlyEnd, IsRefusal, KeepsHead, KeepsHeadAt, ReaderState}
+use Rattle.jpg_file.specs.Read.ReadRows.{IsPlain}
+use Rattle.jpg_file.specs.declared.read.ends.End.{End}
+use Rattle.jpg_file.specs.declared.read.ends.End.TheVariants as ends
+use Rattle.jpg_preview.specs.declared.view.Part.{Part}
+use Rattle.jpg_preview.specs.declared.view.Part.TheVariants as part
+use Rattle.jpg_preview.specs.Counting.{Count, CountsScans, IsSteady}
+
+-- what contracts see of a preview: its reader, its counter, how many scans are wanted, and why it stopped, if it did
+pub record PreviewState : Type 0 where
+  pub reader : ReaderState
+  pub count : Count
+  pub scans : ℕ
+  pub stop : Option Stop
+
+-- whatever it was fed
+pub record IsReady (p : PreviewState) : Type 0 where
+  pub limited : AreLimits p.reader.limits
+  pub plain : IsPlain p.reader
+  pub steady : IsSteady p.count
+  pub bounded : p.count.limits ≡ p.reader.limits
+
+-- THE BYTES SO FAR have no fault, aren't a complete file, and don't end with the marker after a scan that is wanted, nor
+-- do fewer of them. This is what a reader and a counter make of them.
+pub record Views (scans : ℕ) (bytes : List ℕ) (r : ReaderState) (c : Count) : Type 0 where
+  pub read : HasRead bytes r
+  pub counted : CountsScans r.limits scans bytes c
+  pub none : EndsNotBefore r.limits scans bytes (suc (length bytes))
+
+abbrev pub HasViewed : List ℕ → PreviewState → Type 0
+HasViewed bytes p = (p.stop ≡ None) × Views p.scans bytes p.reader p.count
+
+-- THE FRONT is there: the bytes are a complete file, or end with the marker after a scan that is wanted, and fewer
+-- don't. The reader has what they mean: as a complete file, or as one that ends early there.
+pub record IsShown (scans : ℕ) (bytes : List ℕ) (r : ReaderState) : Type 0 where
+  pub meaning : IsDone bytes r ⊎ (IsEarlyEnd bytes r × EndsScan r.limits scans bytes)
+  pub first : EndsNotBefore r.limits scans bytes (length bytes)
+
+-- THE STOP: the first fault of the front, whatever follows
+abbrev pub StopsFront : Limits → ℕ → List ℕ → FaultAt → Type 0
+StopsFront limits scans bytes f = (rest front : List ℕ) → IsFront limits scans (bytes ++ rest) front → IsRefusal limits front f
+
+-- a fault after so many bytes, or no memory
+abbrev pub AfterStop : ℕ → ℕ → List ℕ → Stop → ReaderState → Type 0
+AfterStop scans before bytes (stop.Fault f) r = StopsFront r.limits scans bytes f × (before < f.at) × KeepsHeadAt r.limits bytes f r.file.head
+AfterStop scans before bytes stop.NoMemory r = KeepsHead r.limits before bytes r.file.head
+
+-- THE ANSWER to a piece that is fed, by all bytes so far
+abbrev pub AfterPiece : ℕ → List ℕ → List ℕ → Result Fed Stop → ReaderState → Count → Type 0
+AfterPiece scans bytes piece (Ok fed.More) r c = Views scans (bytes ++ piece) r c
+AfterPiece scans bytes piece (Ok (fed.Done used)) r c = IsShown scans (bytes ++ take used piece) r × (1 ≤ used) × (used ≤ length piece)
+AfterPiece scans bytes piece (Err stop) r c = AfterStop scans (length bytes) (bytes ++ piece) stop r
+
+abbrev pub ViewsPiece : ReaderState → Count → List ℕ → Result Fed Stop → ReaderState → Count → Type 0
+ViewsPiece old before piece answer new now = (scans : ℕ) (bytes : List ℕ) → Views scans bytes old before → AfterPiece scans bytes piece answer new now
+
+-- of a preview
+abbrev pub AfterView : List ℕ → List ℕ → Result Fed Stop → PreviewState → Type 0
+AfterView bytes piece (Ok fed.More) p = HasViewed (bytes ++ piece) p
+AfterView bytes piece (Ok (fed.Done used)) p = IsShown p.scans (bytes ++ take used piece) p.reader × (1 ≤ used) × (used ≤ length piece)
+AfterView bytes piece (Err stop) p = AfterStop p.scans (length bytes) (bytes ++ piece) stop p.reader
+
+-- for all bytes that were fed before
+abbrev pub ViewsFile : PreviewState → List ℕ → Result Fed Stop → PreviewState → Type 0
+ViewsFile old piece answer new = (bytes : List ℕ) → HasViewed bytes old → AfterView bytes piece answer new
+
+-- where the file ends
+abbrev pub EndsView : End → PreviewState → Type 0
+EndsView (ends.Early n) p = p.reader.done ≡ true
+EndsView (ends.Stop stop) p = (p.reader.done ≡ false) × (p.stop ≡ Some stop)
+
+-- A PART of a piece
+
+abbrev pub AfterPart : ℕ → List ℕ → List ℕ → Part → ReaderState → Count → Type 0
+AfterPart scans bytes next (part.More n) r c = Views scans (bytes ++ take n next) r c
+AfterPart scans bytes next (part.Done n) r c = IsShown scans (bytes ++ take n next) r × (1 ≤ n)
+AfterPart scans bytes next (part.Stopped stop) r c = AfterStop scans (length bytes) (bytes ++ next) stop r
+
+abbrev pub ViewsPart : ReaderState → Count → List ℕ → Part → ReaderState → Count → Type 0
+ViewsPart old before next answer new now = (scans : ℕ) (bytes : List ℕ) → Views scans bytes old before → AfterPart scans bytes next answer new now
+
+-- how many bytes were taken, and the word that keeps `done`
+abbrev pub PartEnds : List ℕ → Part → ReaderState → Type 0
+PartEnds next (part.More n) r = (1 ≤ n) × (n ≤ length next) × (r.done ≡ false)
+PartEnds next (part.Done n) r = (n ≤ length next) × (r.done ≡ true)
+PartEnds next (part.Stopped stop) r = r.done ≡ false
+
+-- BYTES that a reader was fed: what its own answer says
+abbrev pub AfterFed : List ℕ → List ℕ → Part → ReaderState → Type 0
+AfterFed bytes next (part.More n) r = (n ≡ length next) × HasRead (bytes ++ next) r
+AfterFed bytes next (part.Done n) r = IsDone (bytes ++ take n next) r × (1 ≤ n) × (n ≤ length next)
+AfterFed bytes next (part.Stopped stop) r = AfterFeed bytes next (Err stop) r
+
+abbrev pub FeedsPart : ReaderState → List ℕ → Part → ReaderState → Type 0
+FeedsPart old next answer new = (bytes : List ℕ) → HasRead bytes old → AfterFed bytes next answer new
+
+-- whether each component has begun in the bytes that a reader was fed
+abbrev pub HasBegun : ReaderState → Type 0
+HasBegun r = (bytes : List ℕ) → HasRead bytes r → HaveBegun r.limits bytes
+
+abbrev pub HasNotBegun : ReaderState → Type 0
+HasNotBegun r = (bytes : List ℕ) → HasRead bytes r → HaveBegun r.limits bytes → ⊥
+
+-- bytes that end with the marker after a scan: if it is wanted, and each component has begun, the file ends early there
+abbrev pub AfterScanFed : Bool → List ℕ → List ℕ → Part → ReaderState → Type 0
+AfterScanFed wanted bytes next (part.More n) r = (n ≡ length next) × HasRead (bytes ++ next) r × ((wanted ≡ false) ⊎ (HaveBegun r.limits (bytes ++ next) → ⊥))
+AfterScanFed wanted bytes next (part.Done n) r =
+    (IsDone (bytes ++ take n next) r × (1 ≤ n) × (n ≤ length next))
+    ⊎ ((n ≡ length next) × (wanted ≡ true) × HaveBegun r.limits (bytes ++ next) × UnfinishedFile r.limits (bytes ++ next) × IsEarlyEnd (bytes ++ next) r)
+AfterScanFed wanted bytes next (part.Stopped stop) r = AfterFeed bytes next (Err stop) r
+
+abbrev pub FeedsScan : ReaderState → Bool → List ℕ → Part → ReaderState → Type 0
+FeedsScan old wanted next answer new = (bytes : List ℕ) → HasRead bytes old → AfterScanFed wanted bytes next answer new
+
+-- THE FRONT OF THE FILE, whatever follows the bytes that are shown: these; or all bytes, where they are a complete file
+-- and none end with the marker after a scan that is wanted.
+abbrev pub IsFrontOf : ℕ → List ℕ → List ℕ → List ℕ → ReaderState → Type 0
+IsFrontOf scans bytes rest front r = (front ≡ bytes) ⊎ ((front ≡ bytes ++ rest) × IsDone bytes r)
+
+abbrev pub ShowsFront : ℕ → List ℕ → ReaderState → Type 0
+ShowsFront scans bytes r = (rest front : List ℕ) → IsFront r.limits scans (bytes ++ rest) front → IsFrontOf scans bytes rest front r

@@ -1,0 +1,12 @@
+//! The law over what a preview shows: it is of the front of the file (T.81, B.2.1).
+ghost use Rattle.std.specs.Prelude.{◌++◌, ◌⊎◌, ℕ, List};
+ghost use Rattle.jpg_spec_image.specs.Front.{IsFront};
+ghost use Rattle.jpg_file.specs.Read.ReadFile.{IsDone, ReaderState};
+ghost use Rattle.jpg_preview.specs.Viewing.{IsShown, ShowsFront};
+
+/// The bytes that are shown are the front of the file, whatever follows them; or the file is complete with them, and no
+/// marker of it after a scan ends the front before.
+pub fn previews_show_the_front()
+    ensures front { (scans : ℕ) (bytes : List ℕ) (r : ReaderState) → IsShown scans bytes r → ShowsFront scans bytes r }
+    ensures some { (scans : ℕ) (bytes rest : List ℕ) (r : ReaderState) → IsShown scans bytes r → IsDone bytes r ⊎ IsFront r.limits scans (bytes ++ rest) bytes }
+{}

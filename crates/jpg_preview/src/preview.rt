@@ -1,0 +1,139 @@
+//! A preview of a file: its picture after so many scans, once each component has one (T.81, B.2.1, G.1.1.1).
+ghost use Rattle.std.specs.Prelude.{◌≡◌, ◌≤◌, ◌+◌, [], ℕ, List, length, Some, None, true, false, Err};
+ghost use Rattle.jpg_spec.specs.FrameHeader.{AreLimits};
+ghost use Rattle.jpg_spec.specs.declared.frame.Copying.TheVariants.{All};
+ghost use Rattle.jpg_base.specs.declared.stop.Stop.{Stop as Stopped};
+ghost use Rattle.jpg_file.specs.Read.File.{keeping_of};
+ghost use Rattle.jpg_file.specs.Read.PictureRead.{TakesEarly, TakesPicture};
+ghost use Rattle.jpg_file.specs.Read.ReadFile.{AfterEnd, EndsDone, head_seen};
+ghost use Rattle.jpg_file.specs.declared.read.ends.End.TheVariants as ends;
+ghost use Rattle.jpg_preview.specs.Viewing.{EndsView, HasViewed, ViewsFile};
+
+use crate::counter::ScanCounter;
+use crate::view::view_piece;
+use jpg_base::{Colour, Fed, Frame, Limits, Stop};
+use jpg_file::{End, Picture, Reader};
+use std::alloc::Global;
+use std::marker::Model;
+
+/// Reads a file up to the marker that ends the data of its scan of this number, or of the first later one with which
+/// each component is in some scan. What follows isn't read.
+#[derive(Drop)]
+pub struct Preview {
+    reader: Reader,
+    count: ScanCounter,
+    scans: u16,
+    stop: Option<Stop>,
+}
+
+impl Model for Preview {
+    ghost use Rattle.jpg_preview.specs.Counting.{count_of};
+    ghost use Rattle.jpg_preview.specs.Viewing.{IsReady, PreviewState};
+
+    ghost Value = { PreviewState };
+
+    ghost view = { λ p. record { reader = p.reader; count = count_of p.count; scans = p.scans; stop = p.stop } };
+
+    ghost invariant = { λ p. IsReady (record { reader = p.reader; count = count_of p.count; scans = p.scans; stop = p.stop }) };
+}
+
+impl Preview {
+    /// A preview of this many scans that was given no bytes. It keeps all markers. It takes no memory yet.
+    pub fn new(alloc: Global, limits: Limits, scans: u16) -> Preview
+        requires limited { AreLimits limits }
+        requires some { 1 ≤ scans }
+        ensures viewed { HasViewed [] result }
+        ensures limits { result.reader.limits ≡ limits }
+        ensures scans { result.scans ≡ scans }
+        ensures keeping { keeping_of result.reader.file ≡ All }
+    {
+        Preview {
+            reader: Reader::new(alloc, limits),
+            count: ScanCounter::new(alloc, limits, scans),
+            scans,
+            stop: None,
+        }
+    }
+
+    /// Takes a further piece of the file, of any length. It answers Done if the front of the file for so many scans is
+    /// complete then and has no fault, or if the file is, and how many bytes of the piece were used, the last one of
+    /// these among them. Otherwise it answers the first fault of the front, at its place, or NoMemory. Otherwise it
+    /// answers More. After a stop it answers the same stop. It may not be called once it is done (`is_done`).
+    pub fn feed(&mut self, piece: &[u8]) -> Result<Fed, Stop>
+        requires undone { self.old.reader.done ≡ false }
+        ensures answered { ViewsFile self.old piece.now result self.new }
+        ensures done { EndsDone result self.new.reader }
+        ensures stopped { (stop : Stopped) → result ≡ Err stop → self.new.stop ≡ Some stop }
+        ensures again { (stop : Stopped) → self.old.stop ≡ Some stop → (result ≡ Err stop) × (self.new ≡ self.old) }
+        ensures limits { self.new.reader.limits ≡ self.old.reader.limits }
+        ensures keeping { keeping_of self.new.reader.file ≡ keeping_of self.old.reader.file }
+        ensures scans { self.new.scans ≡ self.old.scans }
+    {
+        if let Some(stop) = self.stop {
+            return Err(stop);
+        }
+        match view_piece(&mut self.reader, &mut self.count, piece) {
+            Ok(fed) => Ok(fed),
+            Err(stop) => {
+                self.stop = Some(stop);
+                Err(stop)
+            }
+        }
+    }
+
+    /// How many bytes more may be taken: the limit minus those that were taken.
+    pub fn room(&self) -> u64
+        ensures { (bytes : List ℕ) → HasViewed bytes self.now → result + length bytes ≡ self.now.reader.limits.input }
+    {
+        self.reader.room()
+    }
+
+    /// Whether the front or the file is complete, or the file ended early, so that neither `feed` nor `end` may be
+    /// called any more.
+    pub fn is_done(&self) -> bool
+        ensures { result ≡ self.now.reader.done }
+    {
+        self.reader.is_done()
+    }
+
+    /// The file ends here. It answers Early with the number of bytes taken if each component has begun: its picture may
+    /// be taken then. Otherwise it answers Truncated at the number of bytes taken, or the earlier stop. It may not be
+    /// called once it is done (`is_done`).
+    pub fn end(&mut self) -> End
+        requires { self.old.reader.done ≡ false }
+        ensures answered { (bytes : List ℕ) → HasViewed bytes self.old → AfterEnd bytes result self.new.reader }
+        ensures done { EndsView result self.new }
+        ensures again { (stop : Stopped) → self.old.stop ≡ Some stop → (result ≡ ends.Stop stop) × (self.new ≡ self.old) }
+        ensures file { self.new.reader.file ≡ self.old.reader.file }
+        ensures limits { self.new.reader.limits ≡ self.old.reader.limits }
+        ensures scans { self.new.scans ≡ self.old.scans }
+    {
+        if let Some(stop) = self.stop {
+            return End::Stop(stop);
+        }
+        let end = self.reader.end();
+        match end {
+            End::Early(_) => {}
+            End::Stop(stop) => self.stop = Some(stop),
+        }
+        end
+    }
+
+    /// The frame, the colours, and the place of the end of the first scan header, once it is complete and breaks no
+    /// rule; also after a later stop.
+    pub fn head(&self) -> Option<(Frame, Colour, u64)>
+        ensures { result ≡ head_seen self.now.reader }
+    {
+        self.reader.head()
+    }
+
+    /// The picture of the front, or of the complete file, or of one that ended early, with the markers that were kept.
+    /// It may be called only after `feed` answered Done or `end` answered Early (`is_done`).
+    pub fn take(self) -> Picture
+        requires { self.reader.done ≡ true }
+        ensures meaning { TakesPicture self.reader result }
+        ensures early { TakesEarly self.reader result }
+    {
+        self.reader.take()
+    }
+}

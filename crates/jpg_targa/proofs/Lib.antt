@@ -1,0 +1,5 @@
+pub mod Copies
+pub mod Led
+pub mod MadeRows
+pub mod PiecesRead
+pub mod TargaRight

@@ -1,0 +1,56 @@
+use Rattle.std.proofs.Common.{◌≡◌, ℕ, ◌+◌, ◌-◌, ◌≤◌, List, ◌++◌, length, take, drop, sym, ap, ◌∙◌, subst, arith}
+use Rattle.std.proofs.lemmas.List.{length-drop, take_rest}
+use Rattle.jpg_spec_image.specs.TargaFaults.{IsTargaFault}
+use Rattle.jpg_spec_image.specs.TargaSteps.{TargaState, at_start, run}
+use Rattle.jpg_targa.specs.Reader.{standing, IsReached, Reaches, image_told}
+use Rattle.jpg_targa.specs.declared.read.work.Answer.{Answer}
+use Rattle.jpg_targa.specs.declared.read.work.Answer.TheVariants as answer
+use Rattle.jpg_targa.specs.declared.read.work.Work.{Work}
+use Rattle.jpg_targa.proofs.PiecesRead.{part_on, image_read, fault_read}
+use Rattle.jpg_targa.proofs.read.piece.read_piece.Goals as goal
+
+further : (piece : List ℕ) (at used : ℕ) → at ≤ length piece → used ≤ length (take (length piece - at) (drop at piece)) → at + used ≤ length piece
+further piece at used h l =
+    let d = length-drop at piece in
+    let k : used ≤ length (drop at piece) = subst (λ (x : List ℕ). used ≤ length x) (take_rest piece at) l in
+    omega (arith, d, h, k)
+
+reached : (s : TargaState) (bytes : List ℕ) → s ≡ run at_start bytes → IsReached s
+reached s bytes e = (bytes, sym e)
+
+told : (s : TargaState) (piece : List ℕ) (at used : ℕ) (a b : Answer) (w : Work) → a ≡ b → Reaches (run s (take used (take (length piece - at) (drop at piece)))) a w → Reaches (run s (take used (drop at piece))) b w
+told s piece at used a b w e r = subst (λ x. Reaches (run s (take used x)) b w) (take_rest piece at) (subst (λ x. Reaches (run s (take used (take (length piece - at) (drop at piece)))) x w) e r)
+
+pub loop-at-preserved : goal.loop-at-preserved
+loop-at-preserved c =
+    let at = c.loop-at.at in
+    let piece = c.args.piece.now in
+    let used = c.advance-step.result.used in
+    record {
+      inside = further piece at used c.loop-at.invariant.inside c.advance-step.ensures.within;
+      stands = λ bytes h.
+          (let s = c.loop-at.invariant.stands bytes h in
+          told (standing c.loop-at.work) piece at used c.advance-step.result.answer answer.More c.advance-step.new.self c.in-More.is (c.advance-step.ensures.led (reached (standing c.loop-at.work) (bytes ++ take at piece) s))
+          ∙ part_on bytes piece at used (standing c.loop-at.work) s);
+    }
+
+pub returns-in-Whole : goal.returns-in-Whole
+returns-in-Whole c = λ bytes h rest.
+    let at = c.loop-at.at in
+    let piece = c.args.piece.now in
+    let used = c.advance-step.result.used in
+    let s = c.loop-at.invariant.stands bytes h.stands in
+    image_read bytes piece rest (at + used) (image_told c.advance-step.new.self) (further piece at used c.loop-at.invariant.inside c.advance-step.ensures.within)
+    (sym (part_on bytes piece at used (standing c.loop-at.work) s)
+    ∙ told (standing c.loop-at.work) piece at used c.advance-step.result.answer answer.Whole c.advance-step.new.self c.in-Whole.is (c.advance-step.ensures.led (reached (standing c.loop-at.work) (bytes ++ take at piece) s)))
+
+pub returns-in-Fault : goal.returns-in-Fault
+returns-in-Fault c = λ bytes h rest.
+    let at = c.loop-at.at in
+    let piece = c.args.piece.now in
+    let used = c.advance-step.result.used in
+    let s = c.loop-at.invariant.stands bytes h.stands in
+    subst (IsTargaFault ((bytes ++ piece) ++ rest) c.in-Fault.fault) (ap (λ n. n + (at + used)) (sym h.taken_is))
+    (fault_read bytes piece rest (at + used) c.in-Fault.fault (further piece at used c.loop-at.invariant.inside c.advance-step.ensures.within)
+    (sym (part_on bytes piece at used (standing c.loop-at.work) s)
+    ∙ told (standing c.loop-at.work) piece at used c.advance-step.result.answer (answer.Fault c.in-Fault.fault) c.advance-step.new.self c.in-Fault.is (c.advance-step.ensures.led (reached (standing c.loop-at.work) (bytes ++ take at piece) s))))

@@ -1,0 +1,4 @@
+pub mod Pieces
+pub mod Reader
+pub mod TargaRead
+pub mod TargaState

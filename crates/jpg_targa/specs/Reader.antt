@@ -1,0 +1,58 @@
+-- A reader of Targa files: its state after the bytes that it was given.
+use Rattle.std.specs.Prelude.{◌≡◌, ℕ, ◌<◌, ◌≤◌, ◌==◌, if◌then◌else◌, List, ◌++◌, length, take, flat_map, Result, Ok, Err}
+use Rattle.jpg_spec.specs.Lists.{below}
+use Rattle.jpg_spec_image.specs.Images.{Image}
+use Rattle.jpg_spec_image.specs.TargaFile.{targa_image}
+use Rattle.jpg_spec_image.specs.TargaSteps.{TargaState, in_head, in_identifier, at_packet, in_copies, in_pixels, whole, failed, at_start, total, grown, run}
+use Rattle.jpg_base.specs.declared.names.NoMemory.{NoMemory}
+use Rattle.jpg_targa.specs.declared.read.work.Stage.{Stage}
+use Rattle.jpg_targa.specs.declared.read.work.Stage.TheVariants as stage
+use Rattle.jpg_targa.specs.declared.read.work.Answer.{Answer}
+use Rattle.jpg_targa.specs.declared.read.work.Answer.TheVariants as answer
+use Rattle.jpg_targa.specs.declared.read.work.Moved.{Moved}
+use Rattle.jpg_targa.specs.declared.read.work.Work.{Work}
+
+abbrev pub standing_of : Stage → Work → TargaState
+standing_of (stage.Head n) w = in_head (take n w.head)
+standing_of (stage.Identifier left) w = in_identifier w.head left
+standing_of stage.Packet w = at_packet w.head w.pixels
+standing_of (stage.Copies count) w = in_copies w.head w.pixels count w.pixel
+standing_of (stage.Pixels left) w = in_pixels w.head w.pixels left
+
+abbrev pub standing : Work → TargaState
+standing w = standing_of w.stage w
+
+-- after pixels of a packet, of which so many bytes are left
+abbrev pub after_pixels : ℕ → Work → TargaState
+after_pixels left w = if left == 0 then at_packet w.head w.pixels else in_pixels w.head w.pixels left
+
+-- the result of some bytes
+abbrev pub IsReached : TargaState → Type 0
+IsReached s = (bytes : List ℕ) × (run at_start bytes ≡ s)
+
+-- the image, once all pixels are there
+abbrev pub image_told : Work → Image
+image_told w = targa_image w.head w.pixels
+
+abbrev pub Reaches : TargaState → Answer → Work → Type 0
+Reaches s answer.More w = standing w ≡ s
+Reaches s answer.Whole w = s ≡ whole (image_told w)
+Reaches s (answer.Fault fault) w = s ≡ failed fault
+Reaches s answer.NoMemory w = Unit {0}
+
+-- it goes on at this stage, or its pixels are all there
+abbrev pub Grows : Work → Stage → Answer → Work → Type 0
+Grows old s a new = Reaches (grown old.head old.pixels (standing_of s old)) a new
+
+-- the bytes of pixels, and copies of a pixel up to the end
+abbrev pub AddsCopies : ℕ → ℕ → List ℕ → Result (Unit {0}) NoMemory → List ℕ → List ℕ → Type 0
+AddsCopies end count pixel (Ok u) old new = length old ≤ end → new ≡ take end (old ++ flat_map (λ n. pixel) (below count))
+AddsCopies end count pixel (Err fault) old new = Unit {0}
+
+-- bytes of pixels are left, and missing
+pub record CanStretch (left : ℕ) (w : Work) : Type 0 where
+  pub some : 0 < left
+  pub room : length w.pixels < total w.head
+
+abbrev pub StretchesBy : ℕ → Work → List ℕ → Moved → Work → Type 0
+StretchesBy left old piece m new = Reaches (run (in_pixels old.head old.pixels left) (take m.used piece)) m.answer new

@@ -1,0 +1,8 @@
+//! Targa files read piece by piece.
+
+pub mod head;
+pub mod laws;
+pub mod make;
+pub mod piece;
+pub mod reader;
+pub mod work;

@@ -1,0 +1,96 @@
+//! The samples of an image, from those of its Targa file.
+ghost use Rattle.std.specs.Prelude.{◌≡◌, ◌++◌, true, OnOk, IfSome};
+ghost use Rattle.jpg_spec_image.specs.ImageText.{file_samples};
+ghost use Rattle.jpg_spec_image.specs.TargaFile.{targa_row, targa_image};
+ghost use Rattle.jpg_targa.specs.TargaRead.{Makes};
+
+use crate::read::head::{height, info, is_from_top, kind, row_bytes, total};
+use crate::read::work::Work;
+use jpg_base::{Bytes, NoMemory};
+use jpg_pnm_bmp::file_row;
+use jpg_spec_image::{ImageInfo, ImageKind};
+use std::mem;
+
+// Row y from the top, if the bytes have it, which those of a complete image do.
+fn targa_row<'a>(head: &[u8; 18], pixels: &'a [u8], y: u16) -> Option<&'a [u8]>
+    ensures { IfSome result (λ row. row.now ≡ targa_row head.now pixels.now y) }
+{
+    let at = if is_from_top(head) {
+        y
+    } else {
+        height(head).saturating_sub(1).saturating_sub(y)
+    };
+    let start = row_bytes(head) * u64::from(at);
+    let end = start + row_bytes(head);
+    if end > pixels.len() as u64 {
+        return None;
+    }
+    Some(&pixels[start as usize..end as usize])
+}
+
+// Appends a row's samples, which are made in `line` first.
+fn add_row(
+    kind: ImageKind,
+    row: &[u8],
+    line: &mut Vec<u8>,
+    made: &mut Bytes,
+) -> Result<(), NoMemory>
+    ensures { OnOk result (made.new ≡ made.old ++ file_samples kind row.now) }
+{
+    match file_row(line, kind, row) {
+        Ok(()) => made.push_all(line.as_slice()),
+        Err(fault) => Err(fault),
+    }
+}
+
+// Appends the rows from the top.
+fn add_rows(
+    head: &[u8; 18],
+    pixels: &[u8],
+    line: &mut Vec<u8>,
+    made: &mut Bytes,
+) -> Result<(), NoMemory>
+    ensures { OnOk result (made.new ≡ made.old ++ (targa_image head.now pixels.now).samples) }
+{
+    let mut y: u16 = 0;
+    while y < height(head) {
+        match targa_row(head, pixels, y) {
+            Some(row) => match add_row(kind(head), row, line, made) {
+                Ok(()) => {}
+                Err(fault) => return Err(fault),
+            },
+            None => return Err(NoMemory),
+        }
+        y += 1;
+    }
+    Ok(())
+}
+
+// Whether the bytes are the samples as they are: those of grays, with rows from the top.
+fn are_samples(work: &Work) -> bool
+    ensures { result ≡ true → (targa_image work.now.head work.now.pixels).samples ≡ work.now.pixels }
+{
+    match kind(&work.head) {
+        ImageKind::Gray => {
+            is_from_top(&work.head) && work.pixels.as_slice().len() as u64 == total(&work.head)
+        }
+        ImageKind::Rgb => false,
+    }
+}
+
+// Makes the image whose last pixel is known, and answers its sides and kind. Samples that stand as in the image are moved
+// instead of copied. Fewer bytes than the rows have aren't those of such an image: the answer is NoMemory then.
+pub(crate) fn make_image(work: &mut Work, made: &mut Bytes) -> Result<ImageInfo, NoMemory>
+    ensures { Makes (targa_image work.old.head work.old.pixels) result made.new }
+{
+    made.clear();
+    let info = info(&work.head);
+    if are_samples(work) {
+        mem::swap(&mut work.pixels, made);
+        return Ok(info);
+    }
+    match add_rows(&work.head, work.pixels.as_slice(), &mut work.line, made) {
+        Ok(()) => Ok(info),
+        Err(fault) => Err(fault),
+    }
+}
