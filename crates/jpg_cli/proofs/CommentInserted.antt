@@ -21,13 +21,14 @@ use Rattle.jpg_spec_words.specs.declared.answers.Why.TheVariants as why
 use Rattle.jpg_spec_words.specs.declared.answers.Which.TheVariants as which
 use Rattle.jpg_comments.specs.WriteInserted.{HasInserted, StandsAt}
 use Rattle.jpg_comments.specs.declared.insert.Insert.{Insert}
-use Rattle.jpg_cli.specs.Tools.CommentInserted.{AfterFrameMarker, Inserted, IsOutOfMemory, IsComment, IsCommentRead, IsReading, IsShortComment, IsWriting, ReadsAlone, ReadsComment, ReadsInput, ReadsLast, Task, WritesText, names_of, names_to_input, names_to_output}
-use Rattle.jpg_cli.specs.Endings.{Asks, Stopped, Unopened, Unread}
+use Rattle.jpg_cli.specs.Tools.CommentInserted.{AfterFrameMarker, Inserted, IsOutOfMemory, IsComment, IsCommentRead, IsReading, IsShortComment, IsWriting, ReadsAlone, ReadsComment, ReadsInput, ReadsLast, Task, names_of, names_to_input, names_to_output}
+use Rattle.jpg_cli.specs.Copies.{Copies, CopiesText, HasCopied}
+use Rattle.jpg_cli.specs.Endings.{Asks, Copied, Stopped, Unopened, Unread}
+use Rattle.jpg_cli.proofs.Copies.{texts_from}
 use Rattle.jpg_cli.proofs.Endings.{asks_next, asks_still}
 use Rattle.jpg_cli.specs.Desk.CommentTaken.{AfterComment, AfterWords}
 use Rattle.jpg_cli.specs.Desk.FileTaken.{AfterFile}
-use Rattle.jpg_cli.specs.Tools.InsertComment.{AfterFed, EndsBefore, EndsInserting, IsAtHead, IsBegunWith, IsFaultBefore, IsFilePart, IsLongFile, IsNoHead, IsInsertedWhole}
-use Rattle.jpg_cli.specs.Tools.ReadComments.{CopiesText, HasCopied}
+use Rattle.jpg_cli.specs.Tools.InsertComment.{AfterFed, EndsBefore, EndsInserting, IsAtHead, IsBegunWith, IsFaultBefore, IsFilePart, IsLongFile, IsNoHead, inserted_texts}
 use Rattle.jpg_cli.specs.Stays.{Keeps, OnlyCopies, OnlyReads, Untouched}
 use Rattle.jpg_cli.specs.Desk.Reading.{IsFile, ReadsPart, rest_of}
 use Rattle.jpg_cli.proofs.Input.{file_read}
@@ -87,18 +88,18 @@ written_first {task} {bytes} text {old} {s0} {s1} {s2} r k w appended = record {
 }
 
 -- what was written is in the output when the run ends
-writes : {task : Task} {comment bytes text : List ℕ} {old now : DeskState} (Is : List ℕ → List ℕ → List ℕ → Type 0) → IsWriting task comment bytes text old now → Is comment bytes text → WritesText task Is old now
-writes {task} {comment} {bytes} {text} {old} {now} Is w is = record {
-  comment = comment;
-  source = w.source;
-  copied = record {
-    bytes = bytes;
-    text = text;
-    read = (w.most, file_read old.files task.input w.left now.left bytes w.opened w.read);
-    wrote = record { asked = w.names; outputs = Grows-from old.outputs w.created now.outputs task.output text w.adds w.written };
-    is = is;
-  };
+copied_with : {task : Task} {comment bytes text : List ℕ} {old now : DeskState} (Is : List ℕ → List ℕ → Type 0) → IsWriting task comment bytes text old now → Is bytes text → Copied (names_of task.comment) task.input task.output Is old now
+copied_with {task} {bytes} {text} {old} {now} Is w is = record {
+  bytes = bytes;
+  text = text;
+  read = (w.most, file_read old.files task.input w.left now.left bytes w.opened w.read);
+  wrote = record { asked = w.names; outputs = Grows-from old.outputs w.created now.outputs task.output text w.adds w.written };
+  is = is;
 }
+
+with_output : {task : Task} {comment bytes text : List ℕ} {old now s : DeskState} (ended : Why) → IsWriting task comment bytes text old s → Copies (inserted_texts comment task.replace) (Copied (names_of task.comment) task.input task.output) old ended now
+    → Inserted task old ended now
+with_output {comment} ended w h = inr (record { comment = comment; source = w.source; copied = h })
 
 -- AT THE MARKER of the frame header
 
@@ -106,12 +107,12 @@ due_first : {task : Task} {comment bytes text : List ℕ} {old now : DeskState} 
 due_first {bytes} {text} None c some h w = (bytes, text, some, h, w)
 due_first {text} (Some (why.Refused f)) c some (of, inl (none, faults)) w = absurd (not_none text none some)
 due_first {task} {comment} {bytes} {text} {now} (Some (why.Refused f)) c some (of, inr (long, is)) w =
-    inr (inr (writes (λ with. IsLongFile with task.replace f (rest_of now.left)) w (long_file comment bytes text (rest_of now.left) task.replace f of long is)))
-due_first {task} {comment} {bytes} {text} (Some why.NoMemory) c some h w = inr (writes (λ with. IsFilePart with task.replace) w (file_part comment bytes text task.replace some h))
+    with_output (why.Refused f) w (copied_with (IsLongFile comment task.replace f (rest_of now.left)) w (long_file comment bytes text (rest_of now.left) task.replace f of long is))
+due_first {task} {comment} {bytes} {text} (Some why.NoMemory) c some h w = with_output why.NoMemory w (copied_with (IsFilePart comment task.replace) w (file_part comment bytes text task.replace some h))
 due_first other c some h w = absurd h
 
-pub first_uncreated : (task : Task) (comment bytes : List ℕ) (old s0 s1 : DeskState) (output : Name) → task.output ≡ output → IsAtHead bytes → IsReading task comment bytes old s0 → Creates s0 output put.Failed s1 → Unopened (names_to_output task) old s1 × ReadsInput task IsAtHead old s1
-first_uncreated task comment bytes old s0 s1 output e at r k = uncreated at r (subst (λ (n : Name). Creates s0 n put.Failed s1) (sym e) k)
+pub first_uncreated : (task : Task) (comment bytes : List ℕ) (old s0 s1 : DeskState) (output : Name) → task.output ≡ output → IsAtHead bytes → IsReading task comment bytes old s0 → Creates s0 output put.Failed s1 → Inserted task old (why.OpenFault which.Output) s1
+first_uncreated task comment bytes old s0 s1 output e at r k = inl (uncreated at r (subst (λ (n : Name). Creates s0 n put.Failed s1) (sym e) k))
 
 module _ (task : Task) (comment bytes text : List ℕ) (old s0 s1 s2 : DeskState) where
   pub first_written : (output : Name) (due : Option Why) (c : Insert) → task.output ≡ output → 0 < length text → IsReading task comment bytes old s0 → AfterFed comment task.replace bytes text due c
@@ -121,12 +122,12 @@ module _ (task : Task) (comment bytes text : List ℕ) (old s0 s1 s2 : DeskState
 
   pub first_unwritten : (output : Name) (due : Option Why) (c : Insert) → task.output ≡ output → 0 < length text → c.limits ≡ standard_limits → c.replace ≡ task.replace → IsReading task comment bytes old s0
       → AfterFed comment task.replace bytes text due c → Creates s0 output put.Done s1 → OnlyWrites s1 s2 → AfterWrite s1 text put.Failed s2 → Inserted task old why.WriteFault s2
-  first_unwritten output due c e some limits same r h k w (rose, (n, part)) = (
-    writes (λ with. IsFilePart with task.replace)
-        (written_first (take n text) r (subst (λ (m : Name). Creates s0 m put.Done s1) (sym e) k) w part)
-        (part_of_part comment bytes text task.replace n (file_part comment bytes text task.replace some (fed_part comment bytes text task.replace due c limits same h))),
-    (let f = r.counts.writes in let g = k.counts.writes in omega (arith, rose, f, g)),
-  )
+  first_unwritten output due c e some limits same r h k w (rose, (n, part)) =
+      let written = written_first (take n text) r (subst (λ (m : Name). Creates s0 m put.Done s1) (sym e) k) w part in
+      with_output why.WriteFault written (
+        copied_with (IsFilePart comment task.replace) written (part_of_part comment bytes text task.replace n (file_part comment bytes text task.replace some (fed_part comment bytes text task.replace due c limits same h))),
+        (let f = r.counts.writes in let g = k.counts.writes in omega (arith, rose, f, g)),
+      )
 
 -- AFTER IT
 
@@ -155,18 +156,8 @@ module _ {task : Task} {comment bytes text : List ℕ} {old s0 s1 : DeskState} w
 
   -- why the writing ended
   pub ends : (w : IsWriting task comment bytes text old s0) (ended : Why) → OnlyCopies s0 s1 → EndsInserting comment task.replace (begun w) ended s1 → Inserted task old ended s1
-  ends w ended k h = by ended h
-    where
-      copies : (Is : List ℕ → List ℕ → List ℕ → Type 0) → CopiesText (Is comment) (begun w) s1 → WritesText task Is old s1
-      copies Is c = writes Is (writing_more w k c.2) c.3
-
-      by : (ended : Why) → EndsInserting comment task.replace (begun w) ended s1 → Inserted task old ended s1
-      by why.Done h = (copies (λ with. IsInsertedWhole with task.replace) h.0, h.1)
-      by (why.Refused f) h = inr (inr (copies (λ with. IsLongFile with task.replace f (rest_of s1.left)) h))
-      by (why.ReadFault which.Input) h = (inr (copies (λ with. IsInsertedWhole with task.replace) h.0), (let r = h.1 in let f = w.counts.reads in omega (arith, r, f)))
-      by why.WriteFault h = (copies (λ with. IsFilePart with task.replace) h.0, (let r = h.1 in let f = w.counts.writes in omega (arith, r, f)))
-      by why.NoMemory h = inr (copies (λ with. IsFilePart with task.replace) h)
-      by other h = absurd h
+  ends w ended k h =
+      with_output ended w (texts_from (inserted_texts comment task.replace) CopiesText (Copied (names_of task.comment) task.input task.output) old (begun w) s1 w.counts (λ Is c. copied_with Is (writing_more w k c.2) c.3) ended h)
 
 -- WHERE NOTHING IS WRITTEN
 
@@ -201,9 +192,9 @@ out_of_memory {task} {bytes} {old} {now} r =
 
 pub ended_before : {task : Task} {comment bytes : List ℕ} {old s0 s1 : DeskState} (w : Why) → IsReading task comment bytes old s0 → OnlyReads s0 s1 → EndsBefore bytes s0 w s1 → Inserted task old w s1
 ended_before {s1} (why.Refused f) r k (piece, more, most, is) =
-    inr (inl (reads_alone (IsFaultBefore f (rest_of s1.left)) (reading_more piece most r k more) is))
-ended_before (why.ReadFault which.Input) r k (same, nothing, rose) = (
-  inl (reads_alone IsNoHead (reading_still r k same) nothing),
+    inl (inr (reads_alone (IsFaultBefore f (rest_of s1.left)) (reading_more piece most r k more) is))
+ended_before (why.ReadFault which.Input) r k (same, nothing, rose) = inl (
+  reads_alone IsNoHead (reading_still r k same) nothing,
   (let f = r.counts.reads in omega (arith, rose, f)),
 )
 ended_before why.NoMemory r k (piece, more, most) = inl (out_of_memory (reading_more piece most r k more))
@@ -288,7 +279,7 @@ same_fault f fault at = ap (λ (x : Fault). (let y : FaultAt = record { fault = 
 comment_long : (task : Task) (old now : DeskState) (bytes : List ℕ) (f : FaultAt) → Keeps old now → AfterComment old task.comment (Ok bytes) now → f.fault ≡ CommentTooLong → f.at ≡ 65001 → 65000 < length bytes → Inserted task old (why.Refused f) now
 comment_long task old now bytes f k h fault at long =
     let t = took old now task.comment bytes h in
-    inl (record { comment = t.0; stopped = record { asked = t.2; outputs = k.outputs }; source = t.1; read = t.4; long = long_comment bytes t.0 t.3 long; fault = same_fault f fault at })
+    inl (inl (record { comment = t.0; stopped = record { asked = t.2; outputs = k.outputs }; source = t.1; read = t.4; long = long_comment bytes t.0 t.3 long; fault = same_fault f fault at }))
 
 front_of : (xs ys : List Name) → take (length xs) (xs ++ ys) ≡ xs
 front_of xs ys = take-append-le (length xs) xs ys (omega arith) ∙ take_all (length xs) xs (omega arith)
@@ -317,17 +308,17 @@ not_begun task old now bytes other k h b = absurd b
 
 file_untaken : (task : Task) (old now : DeskState) (file : Name) (w : Why) → is_given task.comment ≡ false → names_of task.comment ≡ file ∷ [] → ((bytes : List ℕ) → IsFile old.files file bytes → IsComment old task.comment bytes)
     → (ReadsPart 65001 file old now → ReadsComment task.comment old now) → Keeps old now → AfterFile file 65001 which.Comment old (Err w) now → Inserted task old w now
-file_untaken task old now file (why.OpenFault which.Comment) from same is part k h = (subst (λ (names : List Name). Unopened names old now) (sym same) h.1, from)
+file_untaken task old now file (why.OpenFault which.Comment) from same is part k h = inl (subst (λ (names : List Name). Unopened names old now) (sym same) h.1, from)
 file_untaken task old now file (why.OpenFault which.Input) from same is part k h = absurd (let z : which.Input ≡ which.Comment = h.0 in cc)
 file_untaken task old now file (why.OpenFault which.Script) from same is part k h = absurd (let z : which.Script ≡ which.Comment = h.0 in cc)
 file_untaken task old now file (why.OpenFault which.Tables) from same is part k h = absurd (let z : which.Tables ≡ which.Comment = h.0 in cc)
 file_untaken task old now file (why.OpenFault which.Output) from same is part k h = absurd (let z : which.Output ≡ which.Comment = h.0 in cc)
-file_untaken task old now file (why.ReadFault which.Comment) from same is part k h = record {
+file_untaken task old now file (why.ReadFault which.Comment) from same is part k h = inl (record {
   bytes = h.2.0;
   unread = subst (λ (names : List Name). Unread names old now) (sym same) h.1;
   from = from;
   source = (h.2.1.0, is (h.2.0 ++ rest_of now.left) h.2.1.1);
-}
+})
 file_untaken task old now file (why.ReadFault which.Input) from same is part k h = absurd (let z : which.Input ≡ which.Comment = h.0 in cc)
 file_untaken task old now file (why.ReadFault which.Script) from same is part k h = absurd (let z : which.Script ≡ which.Comment = h.0 in cc)
 file_untaken task old now file (why.ReadFault which.Tables) from same is part k h = absurd (let z : which.Tables ≡ which.Comment = h.0 in cc)
@@ -363,7 +354,7 @@ input_names : (task : Task) (old s1 s2 : DeskState) (bytes : List ℕ) (answer :
 input_names task old s1 s2 bytes answer h o = asks_next old s1 s2 (names_of task.comment) task.input answer (took old s1 task.comment bytes h).2 o.asked
 
 pub input_unopened : (task : Task) (old s1 s2 : DeskState) (bytes : List ℕ) → Keeps old s1 → AfterComment old task.comment (Ok bytes) s1 → length bytes ≤ 65000 → Opens s1 task.input put.Failed s2 → Inserted task old (why.OpenFault which.Input) s2
-input_unopened task old s1 s2 bytes k h short o = (
+input_unopened task old s1 s2 bytes k h short o = inl (
   record {
     stopped = record { asked = input_names task old s1 s2 bytes put.Failed h o; outputs = o.outputs ∙ k.outputs };
     opens = (let rose = o.after.0 in let f = k.works.stays.counts.opens in omega (arith, rose, f));

@@ -17,7 +17,8 @@ use Rattle.jpg_comments.specs.SegmentsSoFar.{Appends}
 use Rattle.jpg_comments.specs.ReadComments.{HasRead}
 use Rattle.jpg_comments.specs.declared.comments.Comments.{Comments}
 use Rattle.jpg_cli.specs.Desk.Reading.{rest_of}
-use Rattle.jpg_cli.specs.Tools.ReadComments.{AfterEnd, AfterNext, AfterTaking, EndsCopying, HasCopied, IsFaultText}
+use Rattle.jpg_cli.specs.Tools.ReadComments.{AfterEnd, AfterNext, AfterTaking, EndsCopying, IsFaultText}
+use Rattle.jpg_cli.specs.Copies.{HasCopied}
 use Rattle.jpg_cli.specs.Stays.{OnlyCopies, OnlyWorks}
 use Rattle.jpg_cli.proofs.Input.{none_left}
 use Rattle.jpg_cli.proofs.CommentsRead.{part_of_part, taken_part, text_so_far}

@@ -5,8 +5,8 @@ use Rattle.std.proofs.lemmas.List.{length-append, take-append-le}
 use Rattle.jpg_base.specs.declared.names.Name.{Name}
 use Rattle.jpg_base.specs.declared.names.Put.{Put}
 use Rattle.jpg_base.specs.declared.names.Put.TheVariants as put
-use Rattle.jpg_base.specs.Desk.{DeskState, Creates, Opens}
-use Rattle.jpg_base.specs.Laws.{Grows, Grows-from}
+use Rattle.jpg_base.specs.Desk.{DeskState, Creates, NoneFell, Opens}
+use Rattle.jpg_base.specs.Laws.{Grows, Grows-from, NoneFell-then}
 use Rattle.jpg_spec_words.specs.declared.answers.Why.{Why}
 use Rattle.jpg_spec_words.specs.declared.answers.Why.TheVariants as why
 use Rattle.jpg_spec_words.specs.declared.answers.Which.TheVariants as which
@@ -15,8 +15,10 @@ use Rattle.jpg_spec.specs.Segments.{standard_limits}
 use Rattle.jpg_spec_write.specs.CommentText.{IsReadWhole}
 use Rattle.jpg_cli.specs.Stays.{OnlyCopies, OnlySays}
 use Rattle.jpg_cli.specs.Due.{NoneRose}
-use Rattle.jpg_cli.specs.Tools.ReadComments.{CopiesText, EndsCopying, IsFaultText, IsPrintDue, IsTextPart, IsTextSoFar, IsWholeText, Printed}
+use Rattle.jpg_cli.specs.Tools.ReadComments.{EndsCopying, IsPrintDue, IsWholeText, Printed, printed_texts}
+use Rattle.jpg_cli.specs.Copies.{Copies, CopiesText}
 use Rattle.jpg_cli.specs.Endings.{Asks, Copied}
+use Rattle.jpg_cli.proofs.Copies.{texts_from, texts_then}
 use Rattle.jpg_cli.proofs.Endings.{copied_then, asks_next, asks_still, unopened_then}
 use Rattle.jpg_cli.proofs.Input.{file_read, notes_one}
 
@@ -42,32 +44,21 @@ prints_from s0 s1 s2 s3 input output Is h k w c =
     }
 
 pub printed_from : (s0 s1 s2 s3 : DeskState) (input output : Name) (w : Why) → Opens s0 input put.Done s1 → Creates s1 output put.Done s2 → OnlyCopies s2 s3 → EndsCopying s2 w s3 → Printed input output s0 w s3
-printed_from s0 s1 s2 s3 input output why.Done h k c e = prints_from s0 s1 s2 s3 input output IsWholeText h k c e
-printed_from s0 s1 s2 s3 input output (why.Refused f) h k c e = prints_from s0 s1 s2 s3 input output (IsFaultText f (rest_of s3.left)) h k c e
-printed_from s0 s1 s2 s3 input output (why.ReadFault which.Input) h k c e = (
-  prints_from s0 s1 s2 s3 input output IsTextSoFar h k c e.0,
-  (let r = e.1 in let f = h.counts.reads in let g = k.counts.reads in omega arith),
-)
-printed_from s0 s1 s2 s3 input output why.WriteFault h k c e = (
-  prints_from s0 s1 s2 s3 input output IsTextPart h k c e.0,
-  (let r = e.1 in let f = h.counts.writes in let g = k.counts.writes in omega arith),
-)
-printed_from s0 s1 s2 s3 input output why.NoMemory h k c e = prints_from s0 s1 s2 s3 input output IsTextPart h k c e
-printed_from s0 s1 s2 s3 input output other h k c e = absurd e
+printed_from s0 s1 s2 s3 input output w h k c e = by w (texts_from printed_texts CopiesText (Copied [] input output) s0 s2 s3 fell (λ Is. prints_from s0 s1 s2 s3 input output Is h k c) w e)
+  where
+    fell : NoneFell s0.counts s2.counts
+    fell = NoneFell-then s0.counts s1.counts s2.counts h.counts k.counts
+
+    by : (w : Why) → Copies printed_texts (Copied [] input output) s0 w s3 → Printed input output s0 w s3
+    by (why.OpenFault which) t = absurd t
+    by other t = t
 
 -- A MESSAGE THEN
 
 pub printed_then : (s0 s1 s2 : DeskState) (input output : Name) (w : Why) → OnlySays s1 s2 → Printed input output s0 w s1 → Printed input output s0 w s2
-printed_then s0 s1 s2 input output why.Done k h = copied_then s0 s1 s2 [] input output IsWholeText k h
-printed_then s0 s1 s2 input output (why.Refused f) k h =
-    let P : Option (List ℕ) → Type 0 = λ l. Copied [] input output (IsFaultText f (rest_of l)) s0 s2 in
-    subst P (sym k.same.left) (copied_then s0 s1 s2 [] input output (IsFaultText f (rest_of s1.left)) k h)
 printed_then s0 s1 s2 input output (why.OpenFault which.Input) k h = unopened_then s0 s1 s2 (input ∷ []) k h
 printed_then s0 s1 s2 input output (why.OpenFault which.Output) k h = unopened_then s0 s1 s2 (input ∷ output ∷ []) k h
-printed_then s0 s1 s2 input output (why.ReadFault which.Input) k h = (copied_then s0 s1 s2 [] input output IsTextSoFar k h.0, (let r = h.1 in let f = k.stays.counts.reads in omega arith))
-printed_then s0 s1 s2 input output why.WriteFault k h = (copied_then s0 s1 s2 [] input output IsTextPart k h.0, (let r = h.1 in let f = k.stays.counts.writes in omega arith))
-printed_then s0 s1 s2 input output why.NoMemory k h = copied_then s0 s1 s2 [] input output IsTextPart k h
-printed_then s0 s1 s2 input output other k h = absurd h
+printed_then s0 s1 s2 input output w k h = texts_then printed_texts (Copied [] input output) s0 s1 s2 k (λ Is. copied_then s0 s1 s2 [] input output Is k) w h
 
 -- WHERE NOTHING FAILED
 

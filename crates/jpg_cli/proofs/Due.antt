@@ -1,17 +1,17 @@
 -- If nothing failed, the answer is the one that is due; and only one is.
 use Rattle.std.proofs.Common.{◌≡◌, ◌⊎◌, ℕ, List, ◌++◌, Option, None, Some, refl, sym, ap, ◌∙◌, subst, inl, inr}
 use Rattle.jpg_base.specs.declared.names.Name.{Name}
-use Rattle.jpg_base.specs.Desk.{DeskState}
+use Rattle.jpg_base.specs.Desk.{DeskState, Rose}
 use Rattle.jpg_spec.specs.declared.fault.FaultAt.{FaultAt}
 use Rattle.jpg_spec_words.specs.declared.answers.Why.{Why}
 use Rattle.jpg_spec_words.specs.declared.answers.Why.TheVariants as why
 use Rattle.jpg_spec_words.specs.declared.answers.Which.TheVariants as which
 use Rattle.jpg_spec_write.specs.declared.picture_fault.PictureFault.{PictureFault}
 use Rattle.jpg_cli.specs.Certain.{IsOrNoMemory, IsTold}
-use Rattle.jpg_cli.specs.Desk.Judging.{done_as}
-use Rattle.jpg_cli.specs.Desk.Reading.{IsFile, rest_of}
+use Rattle.jpg_cli.specs.Desk.Judging.{IsAllRead, IsInput, done_as, left_of}
+use Rattle.jpg_cli.specs.Desk.Reading.{IsFile}
 use Rattle.jpg_cli.specs.Due.{InputHas, InputRefused, IsDueFor, IsDueAfter, IsFaultOf, NoneRose, OrNoMemory, TellsFiles}
-use Rattle.jpg_cli.specs.Outcome.{Conversion, Converted, ReadsValue, bytes_before}
+use Rattle.jpg_cli.specs.Outcome.{Conversion, Converted, InputUnopened, ReadsValue, bytes_before}
 use Rattle.jpg_cli.proofs.Input.{some_inj}
 use Rattle.jpg_cli.proofs.Judged.{IsJudged}
 use Rattle.jpg_cli.proofs.Outcome.{so_read}
@@ -41,29 +41,46 @@ is_file (Some files) n bytes h = h
 pub same_bytes : (s : DeskState) (n : Name) (a b : List ℕ) → TellsFiles s → IsFile s.files n a → IsFile s.files n b → b ≡ a
 same_bytes s n a b t h k = one_file s.files n a b (is_told s n a t h) k
 
+pub one_input : (s : DeskState) (input : Option Name) (a b : List ℕ) → TellsFiles s → IsInput s.files input a → IsInput s.files input b → b ≡ a
+one_input s None a b t h k = k ∙ sym h
+one_input s (Some file) a b t h k = same_bytes s file a b t h k
+
 -- A CONVERSION
 
 module _ (V : Type 0) (c : Conversion V) (law : IsJudged V c.judging) where
+  -- what was judged of the bytes that were read holds of the input, or of no bytes if there is none
+  none_left : (early : Option ℕ) (s : DeskState) → IsAllRead early (record s { left = None })
+  none_left None s = tt
+  none_left (Some n) s = refl
+
+  read_means : (input : Option Name) (x : V) (early : Option ℕ) (bytes : List ℕ) (s : DeskState) → c.judging.has x early (left_of input s) bytes → IsAllRead early s → c.judging.means early x (bytes ++ left_of input s)
+  read_means None x early bytes s is all = law.read x early bytes (record s { left = None }) is (none_left early s)
+  read_means (Some file) x early bytes s is all = law.read x early bytes s is all
+
   input_has : (x : V) (early : Option ℕ) (fault : Option PictureFault) (s0 s1 : DeskState) → ReadsValue V c x early fault s0 s1 → InputHas V c early fault s0
   input_has x early fault s0 s1 h = record {
     value = x;
-    bytes = (h.read).bytes ++ rest_of s1.left;
+    bytes = (h.read).bytes ++ left_of c.input s1;
     file = (h.read).read;
-    means = law.read x early (h.read).bytes s1 (h.read).is h.all;
+    means = read_means c.input x early (h.read).bytes s1 (h.read).is h.all;
     is = h.is;
   }
 
   pub input_refused : (f : FaultAt) (s0 s1 : DeskState) → Converted c s0 (why.Refused f) s1 → InputRefused V c f s0
   input_refused f s0 s1 h =
-      let k = so_read V c c.writing (bytes_before f) (c.judging.refused f (rest_of s1.left)) s0 s1 h in
-      record { bytes = k.bytes ++ rest_of s1.left; file = k.read; refused = law.refused f (rest_of s1.left) k.bytes k.is }
+      let k = so_read V c c.writing (bytes_before f) (c.judging.refused f (left_of c.input s1)) s0 s1 h in
+      record { bytes = k.bytes ++ left_of c.input s1; file = k.read; refused = law.refused f (left_of c.input s1) k.bytes k.is }
 
   pub converted_due : (s0 s1 : DeskState) (w : Why) → NoneRose s0.counts s1.counts → Converted c s0 w s1 → OrNoMemory (IsDueFor c) s0 w
   converted_due s0 s1 why.Done n (x, (read, wrote, right)) = inl (input_has x None None s0 s1 read)
   converted_due s0 s1 (why.Warned m) n (x, (read, wrote, right)) = inl (input_has x (Some m) None s0 s1 read)
   converted_due s0 s1 (why.Refused f) n h = inl (input_refused f s0 s1 h)
   converted_due s0 s1 (why.Picture p) n (stopped, (x, early, h)) = inl (early, input_has x early (Some p) s0 s1 h)
-  converted_due s0 s1 (why.OpenFault which.Input) n h = absurd (n.0 h.opens)
+  converted_due s0 s1 (why.OpenFault which.Input) n h = absurd (n.0 (unopened c.before c.input h))
+    where
+      unopened : (before : List Name) (input : Option Name) → InputUnopened before input s0 s1 → Rose s0.counts.opens s1.counts.opens
+      unopened before None k = absurd k
+      unopened before (Some input) k = k.opens
   converted_due s0 s1 (why.OpenFault which.Output) n h = absurd (n.0 h.0.opens)
   converted_due s0 s1 (why.ReadFault which.Input) n h = absurd (n.1 h.0)
   converted_due s0 s1 why.WriteFault n h = absurd (n.2 h.0)
@@ -71,9 +88,10 @@ module _ (V : Type 0) (c : Conversion V) (law : IsJudged V c.judging) where
   converted_due s0 s1 other n h = absurd h
 
   -- a run refused the known input
-  pub refuses_told : (s0 s1 : DeskState) (bytes : List ℕ) (f : FaultAt) → IsTold s0.files c.input bytes → Converted c s0 (why.Refused f) s1 → c.judging.refuses f bytes
+  pub refuses_told : (s0 s1 : DeskState) (bytes : List ℕ) (f : FaultAt) → ((other : List ℕ) → IsInput s0.files c.input other → other ≡ bytes) → Converted c s0 (why.Refused f) s1
+      → c.judging.refuses f bytes
   refuses_told s0 s1 bytes f told h =
-      let k = input_refused f s0 s1 h in subst (λ (b : List ℕ). c.judging.refuses f b) (one_file s0.files c.input bytes k.bytes told k.file) k.refused
+      let k = input_refused f s0 s1 h in subst (λ (b : List ℕ). c.judging.refuses f b) (told k.bytes k.file) k.refused
 
   -- a value that is made without a fault
   pub due_as : (s : DeskState) (early : Option ℕ) → InputHas V c early None s → IsDueFor c s (done_as early)
@@ -82,8 +100,8 @@ module _ (V : Type 0) (c : Conversion V) (law : IsJudged V c.judging) where
 
   -- the answer of one file
 
-  bytes_once : (s : DeskState) (a b : List ℕ) → TellsFiles s → IsFile s.files c.input a → IsFile s.files c.input b → b ≡ a
-  bytes_once s a b t h k = same_bytes s c.input a b t h k
+  bytes_once : (s : DeskState) (a b : List ℕ) → TellsFiles s → IsInput s.files c.input a → IsInput s.files c.input b → b ≡ a
+  bytes_once s a b t h k = one_input s c.input a b t h k
 
   early_once : (s : DeskState) (e d : Option ℕ) (p q : Option PictureFault) → TellsFiles s → InputHas V c e p s → InputHas V c d q s → d ≡ e
   early_once s e d p q t h k =

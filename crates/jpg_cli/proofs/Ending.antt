@@ -1,16 +1,12 @@
 -- A run is its work, and then its message.
-use Rattle.std.proofs.Common.{◌≡◌, ℕ, Bool, true, false, List, [], ◌∷◌, take, Option, ◌∙◌, subst, arith, inl, inr}
+use Rattle.std.proofs.Common.{◌≡◌, ℕ, Bool, true, false, List, take, Option, ◌∙◌, subst, arith, inl, inr}
 use Rattle.std.specs.Io.KnownBytes.{Appends}
-use Rattle.jpg_base.specs.declared.names.Name.TheVariants as name
 use Rattle.jpg_base.specs.Desk.{DeskState, NoneFell}
 use Rattle.jpg_base.specs.Laws.{NoneFell-then}
 use Rattle.jpg_spec_words.specs.declared.answers.Why.{Why}
-use Rattle.jpg_spec_words.specs.declared.answers.Why.TheVariants as why
-use Rattle.jpg_spec_words.specs.declared.answers.Which.TheVariants as which
 use Rattle.jpg_spec_words.specs.ShowWords.{ShowAsked}
 use Rattle.jpg_spec_image.specs.declared.image.EndKind.{EndKind}
 use Rattle.jpg_spec_image.specs.declared.image.EndKind.TheVariants.{Pnm}
-use Rattle.jpg_spec_words.specs.Work.{work_text}
 use Rattle.jpg_spec_words.specs.Words.{tool_of}
 use Rattle.jpg_spec_words.specs.Requests.{WordsTold, words_right, words_wrong}
 use Rattle.jpg_cli.specs.Commands.{encode_image, Command, transform_picture, show_picture, print_comments, insert_comment, do_work, command_asked, name_of}
@@ -21,10 +17,10 @@ use Rattle.jpg_cli.specs.Tools.Turned.{Transformed, turning_conversion, turning_
 use Rattle.jpg_cli.proofs.ScriptTaken.{stopped_scans_then}
 use Rattle.jpg_spec.specs.Meaning.{Meaning}
 use Rattle.jpg_spec_words.specs.Messages.{message, status_of}
-use Rattle.jpg_cli.proofs.Endings.{unopened_then, untouched_then, wrote_then}
+use Rattle.jpg_cli.proofs.Endings.{untouched_then}
 use Rattle.jpg_cli.specs.Run.{SaysText, task_of, showing_of, RanShow, Worked, Works, Ran}
 use Rattle.jpg_cli.specs.Tools.Ends.{has_format}
-use Rattle.jpg_cli.specs.Tools.Worked.{DidWork, ReportEnds}
+use Rattle.jpg_cli.specs.Tools.Worked.{DidWork, work_conversion}
 use Rattle.jpg_cli.specs.Tools.Showing.{showing_conversion}
 use Rattle.jpg_cli.proofs.ImageEncoded.{encoding_then}
 use Rattle.jpg_cli.proofs.Outcome.{converted_then}
@@ -42,15 +38,9 @@ show_then true a s0 s1 s2 w k (inl t) = inl (converted_then Meaning (showing_con
 show_then true a s0 s1 s2 w k (inr t) = inr (t.0, untouched_then s0 s1 s2 k t.1)
 show_then false a s0 s1 s2 w k t = (t.0, untouched_then s0 s1 s2 k t.1)
 
-report_then : (text : List ℕ) (s0 s1 s2 : DeskState) (w : Why) → OnlySays s1 s2 → ReportEnds text s0 w s1 → ReportEnds text s0 w s2
-report_then text s0 s1 s2 why.Done k h = wrote_then s0 s1 s2 [] name.Out text k h
-report_then text s0 s1 s2 (why.OpenFault which.Output) k h = unopened_then s0 s1 s2 (name.Out ∷ []) k h
-report_then text s0 s1 s2 why.WriteFault k h = ((let rose = h.0 in let f = k.stays.counts.writes in omega (arith, rose, f)), (h.1.0, wrote_then s0 s1 s2 [] name.Out (take h.1.0 text) k h.1.1))
-report_then text s0 s1 s2 why.NoMemory k h = untouched_then s0 s1 s2 k h
-report_then text s0 s1 s2 other k h = absurd h
-
 work_then : (has : Bool) (n : ℕ) (s0 s1 s2 : DeskState) (w : Why) → OnlySays s1 s2 → DidWork has n s0 w s1 → DidWork has n s0 w s2
-work_then true n s0 s1 s2 w k t = report_then (work_text n) s0 s1 s2 w k t
+work_then true n s0 s1 s2 w k (inl t) = inl (converted_then ℕ (work_conversion n) s0 s1 s2 k w t)
+work_then true n s0 s1 s2 w k (inr t) = inr (t.0, untouched_then s0 s1 s2 k t.1)
 work_then false n s0 s1 s2 w k t = (t.0, untouched_then s0 s1 s2 k t.1)
 
 worked_then : (formats : List EndKind) (a : WordsTold Command) (s0 s1 s2 : DeskState) (w : Why) → OnlySays s1 s2 → Worked formats a s0 w s1 → Worked formats a s0 w s2

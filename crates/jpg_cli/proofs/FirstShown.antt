@@ -113,7 +113,7 @@ module _ (s : Showing) (early : Option ℕ) (old start now new : DeskState) wher
   pub taken_shown : (r : ReaderState) (p : Picture) (ended : Why) → Opens old s.input put.Done start → OnlyReads start now → IsTaken s early start now r p → new.left ≡ now.left
       → AfterImage s.output early now (end_text s.kind (info (picture_meaning p) s.gray) (pixels (picture_meaning p) s.gray s.smooth)) ended new → Shown s old ended new
   taken_shown r p ended h k t left wrote =
-      let read : ReadsFrom s.input (IsReadPicture (Image s.gray) t.meaning early) old now = record { bytes = t.bytes; read = file_read old.files s.input start.left now.left t.bytes h.after.2 t.read; most = t.most; is = t.is } in
+      let read : ReadsFrom (Some s.input) (IsReadPicture (Image s.gray) t.meaning early) old now = record { bytes = t.bytes; read = file_read old.files s.input start.left now.left t.bytes h.after.2 t.read; most = t.most; is = t.is } in
       shown_written s t.meaning early old now new ended
       (record { value = record { kept = keeps_after old start now s.input h k; asked = noted old start now s.input h k; read = read; all = t.all; left = left }; plain = t.plain })
       (subst (λ (due : List ℕ). AfterImage s.output early now due ended new) (ap (shown_text s) t.means ∙ text_shown s (keeping_of r.file) t.meaning) wrote)

@@ -22,9 +22,10 @@ use Rattle.jpg_comments.specs.WriteInserted.{HasInserted, StandsAt}
 use Rattle.jpg_comments.specs.declared.insert.Insert.{Insert}
 use Rattle.jpg_cli.specs.Desk.Reading.{rest_of}
 use Rattle.jpg_cli.specs.Tools.InsertComment.{AfterAll, AfterFed, AfterRest, EndsInserting, IsFilePart, IsLongFile}
-use Rattle.jpg_cli.specs.Tools.ReadComments.{HasCopied}
+use Rattle.jpg_cli.specs.Copies.{HasCopied}
 use Rattle.jpg_cli.specs.Stays.{OnlyCopies}
 use Rattle.jpg_cli.proofs.CommentsRead.{fault_within, take_again}
+use Rattle.jpg_cli.proofs.Input.{none_left}
 use Rattle.jpg_cli.proofs.CommentsCopied.{copied, copied_still, left_still, outputs_still, some_taken, text_added, within_most}
 
 -- THE TEXT
@@ -122,6 +123,6 @@ rest_unread {start} {s0} s1 comment {bytes} {text} c e some h still had rose lef
 
 pub rest_ends : {start s0 : DeskState} (s1 : DeskState) (comment : List ℕ) {bytes text : List ℕ} (replace : Bool) (w : Why) → 0 < length text → HasCopied start bytes text s0 → IsAtEnd s0.left → s1.left ≡ s0.left → s1.outputs ≡ s0.outputs → AfterAll comment replace bytes text w → EndsInserting comment replace start w s1
 rest_ends {start} {s0} s1 comment {bytes} {text} replace why.Done some had end left outputs h =
-    ((bytes, text, copied_still start s0 s1 bytes text had left outputs, h), (let P : Option (List ℕ) → Type 0 = λ l. IsAtEnd l in subst P (sym left) end))
+    (bytes, text, copied_still start s0 s1 bytes text had left outputs, (ap rest_of left ∙ none_left s0.left end, h))
 rest_ends s1 comment {text} replace (why.Refused f) some had end left outputs h = absurd (not_none text h.1 some)
 rest_ends s1 comment replace other some had end left outputs h = absurd h

@@ -1,7 +1,6 @@
 -- What was done to insert a comment still holds after a message, and is the expected result if nothing failed.
-use Rattle.std.proofs.Common.{◌≡◌, ℕ, List, ◌++◌, take, Option, refl, sym, ap, ◌∙◌, subst, arith, inl, inr}
+use Rattle.std.proofs.Common.{◌≡◌, ℕ, List, [], ◌++◌, take, Option, refl, sym, ap, ◌∙◌, subst, arith, inl, inr}
 use Rattle.std.proofs.lemmas.List.{append-nil}
-use Rattle.std.specs.Io.KnownBytes.{IsAtEnd}
 use Rattle.jpg_base.specs.declared.names.Name.{Name}
 use Rattle.jpg_base.specs.declared.names.Name.TheVariants as name
 use Rattle.jpg_base.specs.declared.names.Put.TheVariants as put
@@ -14,8 +13,10 @@ use Rattle.jpg_spec.specs.Segments.{standard_limits}
 use Rattle.jpg_spec_words.specs.CommentWords.{CommentSource, from_input, from_words, from_file}
 use Rattle.jpg_cli.specs.Stays.{OnlySays}
 use Rattle.jpg_cli.specs.Desk.Reading.{IsFile, rest_of}
-use Rattle.jpg_cli.specs.Tools.InsertComment.{IsAtHead, IsFaultBefore, IsFilePart, IsLongFile, IsNoHead, IsInsertedWhole}
-use Rattle.jpg_cli.specs.Tools.CommentInserted.{Inserted, IsComment, IsCommentRead, IsInsertDue, ReadsAlone, ReadsComment, ReadsInput, ReadsLast, Task, WritesText, names_of, names_to_input, names_to_output, task_told}
+use Rattle.jpg_cli.specs.Tools.InsertComment.{IsAtHead, IsFaultBefore, IsNoHead, inserted_texts}
+use Rattle.jpg_cli.specs.Copies.{Copies}
+use Rattle.jpg_cli.specs.Endings.{Copied}
+use Rattle.jpg_cli.specs.Tools.CommentInserted.{EndsBeforeOutput, EndsWithOutput, Inserted, IsComment, IsCommentRead, IsInsertDue, IsShortComment, ReadsAlone, ReadsComment, ReadsInput, ReadsLast, Task, names_of, names_to_input, names_to_output, task_told}
 use Rattle.jpg_cli.specs.Words.CommentWords.{comment_told, write_told}
 use Rattle.jpg_cli.specs.Words.Files.{file_told}
 use Rattle.jpg_cli.specs.declared.words.comments.WriteWords.{WriteWords}
@@ -23,7 +24,8 @@ use Rattle.jpg_cli.specs.Commands.{name_of}
 use Rattle.jpg_cli.specs.Due.{NoneRose}
 use Rattle.jpg_cli.specs.Run.{task_of}
 use Rattle.jpg_cli.proofs.Endings.{bytes_then, copied_then, stopped_then, unopened_then, unread_then}
-use Rattle.jpg_cli.proofs.Input.{none_left, part_still, read_still}
+use Rattle.jpg_cli.proofs.Copies.{texts_then}
+use Rattle.jpg_cli.proofs.Input.{part_still, read_still}
 
 -- A MESSAGE THEN
 
@@ -39,12 +41,11 @@ input_then s0 s1 s2 task Is k h = record {
 reads_then : (s0 s1 s2 : DeskState) (task : Task) (Is : List ℕ → Type 0) → OnlySays s1 s2 → ReadsAlone task Is s0 s1 → ReadsAlone task Is s0 s2
 reads_then s0 s1 s2 task Is k h = (stopped_then s0 s1 s2 (names_to_input task) put.Done k h.0, input_then s0 s1 s2 task Is k h.1)
 
-writes_then : (s0 s1 s2 : DeskState) (task : Task) (Is : List ℕ → List ℕ → List ℕ → Type 0) → OnlySays s1 s2 → WritesText task Is s0 s1 → WritesText task Is s0 s2
-writes_then s0 s1 s2 task Is k h = record {
-  comment = h.comment;
-  source = h.source;
-  copied = copied_then s0 s1 s2 (names_of task.comment) task.input task.output (Is h.comment) k h.copied;
-}
+output_then : (s0 s1 s2 : DeskState) (task : Task) (w : Why) → OnlySays s1 s2 → EndsWithOutput task s0 w s1 → EndsWithOutput task s0 w s2
+output_then s0 s1 s2 task w k h =
+    let names = names_of task.comment in
+    let still = λ (Is : List ℕ → List ℕ → Type 0). copied_then s0 s1 s2 names task.input task.output Is k in
+    record { comment = h.comment; source = h.source; copied = texts_then (inserted_texts h.comment task.replace) (Copied names task.input task.output) s0 s1 s2 k still w h.copied }
 
 comment_read_then : (s1 s2 : DeskState) (source : CommentSource) (comment : List ℕ) → s2.left ≡ s1.left → IsCommentRead source comment s1 → IsCommentRead source comment s2
 comment_read_then s1 s2 from_input comment e h = read_still 65001 comment s1 s2 e h
@@ -61,7 +62,7 @@ reads_last_then s0 s1 s2 task e (inl same) = inl (e ∙ same)
 reads_last_then s0 s1 s2 task e (inr (inl h)) = inr (inl (reads_comment_then s0 s1 s2 task.comment e h))
 reads_last_then s0 s1 s2 task e (inr (inr h)) = inr (inr (part_still standard_limits.input task.input s0 s1 s2 e h))
 
-refused_then : (s0 s1 s2 : DeskState) (task : Task) (f : FaultAt) → OnlySays s1 s2 → Inserted task s0 (why.Refused f) s1 → Inserted task s0 (why.Refused f) s2
+refused_then : (s0 s1 s2 : DeskState) (task : Task) (f : FaultAt) → OnlySays s1 s2 → EndsBeforeOutput task s0 (why.Refused f) s1 → EndsBeforeOutput task s0 (why.Refused f) s2
 refused_then s0 s1 s2 task f k (inl h) = inl (record {
   comment = h.comment;
   stopped = stopped_then s0 s1 s2 (names_of task.comment) put.Done k h.stopped;
@@ -70,61 +71,63 @@ refused_then s0 s1 s2 task f k (inl h) = inl (record {
   long = h.long;
   fault = h.fault;
 })
-refused_then s0 s1 s2 task f k (inr (inl h)) =
+refused_then s0 s1 s2 task f k (inr h) =
     let P : Option (List ℕ) → Type 0 = λ l. ReadsAlone task (IsFaultBefore f (rest_of l)) s0 s2 in
-    inr (inl (subst P (sym k.same.left) (reads_then s0 s1 s2 task (IsFaultBefore f (rest_of s1.left)) k h)))
-refused_then s0 s1 s2 task f k (inr (inr h)) =
-    let P : Option (List ℕ) → Type 0 = λ l. WritesText task (λ comment. IsLongFile comment task.replace f (rest_of l)) s0 s2 in
-    inr (inr (subst P (sym k.same.left) (writes_then s0 s1 s2 task (λ comment. IsLongFile comment task.replace f (rest_of s1.left)) k h)))
+    inr (subst P (sym k.same.left) (reads_then s0 s1 s2 task (IsFaultBefore f (rest_of s1.left)) k h))
 
-pub inserted_then : (s0 s1 s2 : DeskState) (task : Task) (w : Why) → OnlySays s1 s2 → Inserted task s0 w s1 → Inserted task s0 w s2
-inserted_then s0 s1 s2 task why.Done k h =
-    (writes_then s0 s1 s2 task (λ comment. IsInsertedWhole comment task.replace) k h.0, (let P : Option (List ℕ) → Type 0 = λ l. IsAtEnd l in subst P (sym k.same.left) h.1))
-inserted_then s0 s1 s2 task (why.Refused f) k h = refused_then s0 s1 s2 task f k h
-inserted_then s0 s1 s2 task (why.OpenFault which.Input) k h = (unopened_then s0 s1 s2 (names_to_input task) k h.0, h.1)
-inserted_then s0 s1 s2 task (why.OpenFault which.Comment) k h = (unopened_then s0 s1 s2 (names_of task.comment) k h.0, h.1)
-inserted_then s0 s1 s2 task (why.OpenFault which.Output) k h = (unopened_then s0 s1 s2 (names_to_output task) k h.0, input_then s0 s1 s2 task IsAtHead k h.1)
-inserted_then s0 s1 s2 task (why.ReadFault which.Input) k (inl h, rose) =
-    (inl (reads_then s0 s1 s2 task IsNoHead k h), (let f = k.stays.counts.reads in omega (arith, rose, f)))
-inserted_then s0 s1 s2 task (why.ReadFault which.Input) k (inr h, rose) =
-    (inr (writes_then s0 s1 s2 task (λ comment. IsInsertedWhole comment task.replace) k h), (let f = k.stays.counts.reads in omega (arith, rose, f)))
-inserted_then s0 s1 s2 task (why.ReadFault which.Comment) k h = record {
+before_then : (s0 s1 s2 : DeskState) (task : Task) (w : Why) → OnlySays s1 s2 → EndsBeforeOutput task s0 w s1 → EndsBeforeOutput task s0 w s2
+before_then s0 s1 s2 task (why.Refused f) k h = refused_then s0 s1 s2 task f k h
+before_then s0 s1 s2 task (why.OpenFault which.Input) k h = (unopened_then s0 s1 s2 (names_to_input task) k h.0, h.1)
+before_then s0 s1 s2 task (why.OpenFault which.Comment) k h = (unopened_then s0 s1 s2 (names_of task.comment) k h.0, h.1)
+before_then s0 s1 s2 task (why.OpenFault which.Output) k h = (unopened_then s0 s1 s2 (names_to_output task) k h.0, input_then s0 s1 s2 task IsAtHead k h.1)
+before_then s0 s1 s2 task (why.ReadFault which.Input) k (h, rose) = (reads_then s0 s1 s2 task IsNoHead k h, (let f = k.stays.counts.reads in omega (arith, rose, f)))
+before_then s0 s1 s2 task (why.ReadFault which.Comment) k h = record {
   unread = unread_then s0 s1 s2 (names_of task.comment) k h.unread;
   from = h.from;
   bytes = h.bytes;
   source = (h.source.0, (let P : Option (List ℕ) → Type 0 = λ l. IsComment s0 task.comment (h.bytes ++ rest_of l) in subst P (sym k.same.left) h.source.1));
 }
-inserted_then s0 s1 s2 task why.WriteFault k h =
-    (writes_then s0 s1 s2 task (λ comment. IsFilePart comment task.replace) k h.0, (let r = h.1 in let f = k.stays.counts.writes in omega (arith, r, f)))
-inserted_then s0 s1 s2 task why.NoMemory k (inl h) = inl (record {
+before_then s0 s1 s2 task why.NoMemory k h = record {
   count = h.count;
   stopped = stopped_then s0 s1 s2 (take h.count (names_to_input task)) put.Done k h.stopped;
   read = reads_last_then s0 s1 s2 task k.same.left h.read;
-})
-inserted_then s0 s1 s2 task why.NoMemory k (inr h) = inr (writes_then s0 s1 s2 task (λ comment. IsFilePart comment task.replace) k h)
-inserted_then s0 s1 s2 task other k h = absurd h
+}
+before_then s0 s1 s2 task other k h = absurd h
+
+pub inserted_then : (s0 s1 s2 : DeskState) (task : Task) (w : Why) → OnlySays s1 s2 → Inserted task s0 w s1 → Inserted task s0 w s2
+inserted_then s0 s1 s2 task w k (inl h) = inl (before_then s0 s1 s2 task w k h)
+inserted_then s0 s1 s2 task w k (inr h) = inr (output_then s0 s1 s2 task w k h)
 
 -- WHERE NOTHING FAILED
 
-whole_input : (s0 s1 : DeskState) (input : Name) (bytes : List ℕ) → IsFile s0.files input (bytes ++ rest_of s1.left) → IsAtEnd s1.left → IsFile s0.files input bytes
-whole_input s0 s1 input bytes h end =
-    let e : bytes ++ rest_of s1.left ≡ bytes = ap (λ (rest : List ℕ). bytes ++ rest) (none_left s1.left end) ∙ append-nil bytes in
+whole_input : (s0 s1 : DeskState) (input : Name) (bytes : List ℕ) → IsFile s0.files input (bytes ++ rest_of s1.left) → rest_of s1.left ≡ [] → IsFile s0.files input bytes
+whole_input s0 s1 input bytes h none =
+    let e : bytes ++ rest_of s1.left ≡ bytes = ap (λ (rest : List ℕ). bytes ++ rest) none ∙ append-nil bytes in
     subst (λ (b : List ℕ). IsFile s0.files input b) e h
 
+before_due : (s0 s1 : DeskState) (task : Task) (w : Why) → NoneRose s0.counts s1.counts → EndsBeforeOutput task s0 w s1 → IsInsertDue task s0 w
+before_due s0 s1 task (why.Refused f) n (inl h) = inl (h.comment, h.source, h.long, h.fault)
+before_due s0 s1 task (why.Refused f) n (inr (stopped, h)) = inr (h.comment, h.bytes ++ rest_of s1.left, h.source, h.read.1, inl h.is.0)
+before_due s0 s1 task (why.OpenFault which.Input) n h = absurd (n.0 h.0.opens)
+before_due s0 s1 task (why.OpenFault which.Comment) n h = absurd (n.0 h.0.opens)
+before_due s0 s1 task (why.OpenFault which.Output) n h = absurd (n.0 h.0.opens)
+before_due s0 s1 task (why.ReadFault which.Input) n h = absurd (n.1 h.1)
+before_due s0 s1 task (why.ReadFault which.Comment) n h = absurd (n.1 h.unread.reads)
+before_due s0 s1 task why.NoMemory n h = tt
+before_due s0 s1 task other n h = absurd h
+
+output_due : (s0 s1 : DeskState) (task : Task) (w : Why) (comment : List ℕ) → IsShortComment s0 task.comment comment → NoneRose s0.counts s1.counts
+    → Copies (inserted_texts comment task.replace) (Copied (names_of task.comment) task.input task.output) s0 w s1 → IsInsertDue task s0 w
+output_due s0 s1 task why.Done comment source n h = (comment, h.bytes, h.text, source, whole_input s0 s1 task.input h.bytes h.read.1 h.is.0, h.is.1)
+output_due s0 s1 task (why.Refused f) comment source n h = inr (comment, h.bytes ++ rest_of s1.left, source, h.read.1, h.is.0)
+output_due s0 s1 task (why.ReadFault which.Input) comment source n h = absurd (n.1 h.1)
+output_due s0 s1 task why.WriteFault comment source n h = absurd (n.2 h.1)
+output_due s0 s1 task why.NoMemory comment source n h = tt
+output_due s0 s1 task other comment source n h = absurd h
+
 pub insert_due : (s0 s1 : DeskState) (task : Task) (w : Why) → NoneRose s0.counts s1.counts → Inserted task s0 w s1 → IsInsertDue task s0 w
-insert_due s0 s1 task why.Done n (h, end) =
-    (let copied = h.copied in (h.comment, copied.bytes, copied.text, h.source, whole_input s0 s1 task.input copied.bytes copied.read.1 end, copied.is))
-insert_due s0 s1 task (why.Refused f) n (inl h) = inl (h.comment, h.source, h.long, h.fault)
-insert_due s0 s1 task (why.Refused f) n (inr (inl (stopped, h))) = inr (h.comment, h.bytes ++ rest_of s1.left, h.source, h.read.1, inl h.is.0)
-insert_due s0 s1 task (why.Refused f) n (inr (inr h)) = let copied = h.copied in inr (h.comment, copied.bytes ++ rest_of s1.left, h.source, copied.read.1, copied.is.0)
-insert_due s0 s1 task (why.OpenFault which.Input) n h = absurd (n.0 h.0.opens)
-insert_due s0 s1 task (why.OpenFault which.Comment) n h = absurd (n.0 h.0.opens)
-insert_due s0 s1 task (why.OpenFault which.Output) n h = absurd (n.0 h.0.opens)
-insert_due s0 s1 task (why.ReadFault which.Input) n h = absurd (n.1 h.1)
-insert_due s0 s1 task (why.ReadFault which.Comment) n h = absurd (n.1 h.unread.reads)
-insert_due s0 s1 task why.WriteFault n h = absurd (n.2 h.1)
-insert_due s0 s1 task why.NoMemory n h = tt
-insert_due s0 s1 task other n h = absurd h
+insert_due s0 s1 task w n (inl h) = before_due s0 s1 task w n h
+insert_due s0 s1 task w n (inr h) = output_due s0 s1 task w h.comment h.source n h.copied
 
 -- WHAT THE WORDS ASK FOR
 

@@ -4,6 +4,7 @@ pub mod CommentInserted
 pub mod CommentsCopied
 pub mod CommentsPrinted
 pub mod CommentsRead
+pub mod Copies
 pub mod Decimal
 pub mod EarlyEnding
 pub mod EarlyImage

@@ -7,8 +7,8 @@ use Rattle.jpg_base.specs.declared.names.Put.TheVariants as put
 use Rattle.jpg_base.specs.Desk.{DeskState}
 use Rattle.jpg_base.specs.Laws.{Grows, NotesNames}
 use Rattle.jpg_cli.specs.Endings.{Added, asked_for, Asks, GoesOnAfter, Stopped, Unopened, Unread}
-use Rattle.jpg_cli.specs.Desk.Judging.{ReadsFrom}
-use Rattle.jpg_cli.specs.Desk.Reading.{IsFile, rest_of}
+use Rattle.jpg_cli.specs.Desk.Judging.{IsInput, ReadsFrom, left_of}
+use Rattle.jpg_cli.specs.Outcome.{InputUnopened}
 use Rattle.jpg_cli.specs.Stays.{Keeps}
 use Rattle.jpg_cli.proofs.CommentsCopied.{works_then}
 
@@ -61,16 +61,39 @@ unread_more xs y ys s0 s1 s2 b h = record {
   reads = (let r = h.reads in let f = b.kept.works.stays.counts.reads in omega (arith, r, f));
 }
 
-pub from_before : (xs : List Name) (file : Name) (Is : List ℕ → Type 0) (s0 s1 s2 : DeskState) → GoesOnAfter xs s0 s1 → ReadsFrom file Is s1 s2 → ReadsFrom file Is s0 s2
-from_before xs file Is s0 s1 s2 b h = record {
+pub from_before : (xs : List Name) (input : Option Name) (Is : List ℕ → Type 0) (s0 s1 s2 : DeskState) → GoesOnAfter xs s0 s1 → ReadsFrom input Is s1 s2 → ReadsFrom input Is s0 s2
+from_before xs input Is s0 s1 s2 b h = record {
   bytes = h.bytes;
-  read = subst (λ (files : Option (Name → Option (List ℕ))). IsFile files file (h.bytes ++ rest_of s2.left)) b.kept.works.stays.files h.read;
+  read = subst (λ (files : Option (Name → Option (List ℕ))). IsInput files input (h.bytes ++ left_of input s2)) b.kept.works.stays.files h.read;
   most = h.most;
   is = h.is;
 }
 
-pub added_more : (xs : List Name) (y output : Name) (text : List ℕ) (s0 s1 s2 : DeskState) → GoesOnAfter xs s0 s1 → Added (y ∷ []) output text s1 s2 → Added (xs ++ y ∷ []) output text s0 s2
-added_more xs y output text s0 s1 s2 b h = record {
-  asked = subst (λ (names : List Name). Asks names put.Done s0 s2) (sym (append_assoc xs (y ∷ []) (output ∷ []))) (asks_more xs y (output ∷ []) put.Done s0 s1 s2 b h.asked);
+-- THE NAMES OF AN INPUT, if there is one, and then an output
+
+pub stopped_after : (xs ys : List Name) (s0 s1 s2 : DeskState) → GoesOnAfter xs s0 s1 → Stopped ys put.Done s1 s2 → Stopped (xs ++ ys) put.Done s0 s2
+stopped_after xs [] s0 s1 s2 b h = record { asked = after_none xs s0 s1 s2 b h.asked; outputs = h.outputs ∙ b.kept.outputs }
+stopped_after xs (y ∷ ys) s0 s1 s2 b h = stopped_more xs y ys put.Done s0 s1 s2 b h
+
+pub input_unopened : (xs : List Name) (input : Option Name) (s0 s1 s2 : DeskState) → GoesOnAfter xs s0 s1 → InputUnopened [] input s1 s2 → InputUnopened xs input s0 s2
+input_unopened xs None s0 s1 s2 b h = absurd h
+input_unopened xs (Some input) s0 s1 s2 b h = unopened_more xs input [] s0 s1 s2 b h
+
+asks_output : (xs ys : List Name) (output : Name) (answer : Put) (s0 s1 s2 : DeskState) → GoesOnAfter xs s0 s1 → Asks (ys ++ output ∷ []) answer s1 s2 → Asks ((xs ++ ys) ++ output ∷ []) answer s0 s2
+asks_output xs ys output answer s0 s1 s2 b h = subst (λ (names : List Name). Asks names answer s0 s2) (sym (append_assoc xs ys (output ∷ []))) (by ys h)
+  where
+    by : (ys : List Name) → Asks (ys ++ output ∷ []) answer s1 s2 → Asks (xs ++ (ys ++ output ∷ [])) answer s0 s2
+    by [] h = asks_more xs output [] answer s0 s1 s2 b h
+    by (y ∷ ys) h = asks_more xs y (ys ++ output ∷ []) answer s0 s1 s2 b h
+
+pub output_uncreated : (xs ys : List Name) (output : Name) (s0 s1 s2 : DeskState) → GoesOnAfter xs s0 s1 → Unopened (ys ++ output ∷ []) s1 s2 → Unopened ((xs ++ ys) ++ output ∷ []) s0 s2
+output_uncreated xs ys output s0 s1 s2 b h = record {
+  stopped = record { asked = asks_output xs ys output put.Failed s0 s1 s2 b h.stopped.asked; outputs = h.stopped.outputs ∙ b.kept.outputs };
+  opens = (let r = h.opens in let f = b.kept.works.stays.counts.opens in omega (arith, r, f));
+}
+
+pub added_after : (xs ys : List Name) (output : Name) (text : List ℕ) (s0 s1 s2 : DeskState) → GoesOnAfter xs s0 s1 → Added ys output text s1 s2 → Added (xs ++ ys) output text s0 s2
+added_after xs ys output text s0 s1 s2 b h = record {
+  asked = asks_output xs ys output put.Done s0 s1 s2 b h.asked;
   outputs = subst (λ (had : Option (List (Name × List ℕ))). Grows had (output, text) s2.outputs) b.kept.outputs h.outputs;
 }

@@ -17,20 +17,20 @@ use Rattle.jpg_spec_words.specs.TransformWords.{ScansSource, in_file, TransformA
 use Rattle.jpg_cli.specs.Desk.ScriptTaken.{HasScansFault, StopsAtScans}
 use Rattle.jpg_cli.specs.Tools.Turned.{Transformed, Turned, Turning, turning_conversion, turning_of}
 use Rattle.jpg_cli.proofs.RefusedOnce.{one_refusal}
-use Rattle.jpg_cli.proofs.Due.{refuses_told, tells_files}
+use Rattle.jpg_cli.proofs.Due.{one_file, refuses_told, tells_files}
 use Rattle.jpg_cli.proofs.Judged.{none_faulty, none_refused_for, picture_judged, refused_alone, refused_for_one}
 use Rattle.jpg_cli.proofs.TakenOnce.{scans_or_fault, told_scans}
 
 -- OF RUNS
 
 run_refused : (t : Turning) (old new : DeskState) (bytes : List ℕ) (f : FaultAt) → IsTold old.files t.input bytes → Turned t old (why.Refused f) new → IsRefused bytes f
-run_refused t old new bytes f told h = refused_alone bytes f (refuses_told Meaning (turning_conversion t) (picture_judged Coefficients) old new bytes f told h)
+run_refused t old new bytes f told h = refused_alone bytes f (refuses_told Meaning (turning_conversion t) (picture_judged Coefficients) old new bytes f (λ other is. one_file old.files t.input bytes other told is) h)
 
 pub runs_refuse_once : (input : List ℕ) (f g : FaultAt) → WasRefused input f → WasRefused input g → f ≡ g
 runs_refuse_once input f g a b = one_refusal input f g (run_refused a.turning a.old a.new input f a.told a.turned) (run_refused b.turning b.old b.new input g b.told b.turned)
 
 shown_refusal : (gray : Bool) (input : List ℕ) (f : FaultAt) → WasRefusedShown gray input f → IsRefusedFor (Image gray) input f
-shown_refusal gray input f a = subst (λ (g : Bool). IsRefusedFor (Image g) input f) a.grayed (refuses_told Meaning (showing_conversion a.showing) (picture_judged (Image a.showing.gray)) a.old a.new input f a.told a.shown)
+shown_refusal gray input f a = subst (λ (g : Bool). IsRefusedFor (Image g) input f) a.grayed (refuses_told Meaning (showing_conversion a.showing) (picture_judged (Image a.showing.gray)) a.old a.new input f (λ other is. one_file a.old.files (a.showing).input input other a.told is) a.shown)
 
 pub runs_show_once : (gray : Bool) (input : List ℕ) (f g : FaultAt) → WasRefusedShown gray input f → WasRefusedShown gray input g → f ≡ g
 runs_show_once gray input f g a b = refused_for_one (Image gray) input f g (shown_refusal gray input f a) (shown_refusal gray input g b)

@@ -114,7 +114,7 @@ picture_taken w keeping s0 s1 r p (Some n) e same whole cut (bytes, read, most, 
 
 -- FROM THE NAME
 
-pub reads_from : (s0 s1 s2 : DeskState) (file : Name) (Is : List ℕ → Type 0) → Opens s0 file put.Done s1 → TakesPieces Is s1 s2 → ReadsFrom file Is s0 s2
+pub reads_from : (s0 s1 s2 : DeskState) (file : Name) (Is : List ℕ → Type 0) → Opens s0 file put.Done s1 → TakesPieces Is s1 s2 → ReadsFrom (Some file) Is s0 s2
 reads_from s0 s1 s2 file Is h (bytes, read, most, is) = record { bytes = bytes; read = file_read s0.files file s1.left s2.left bytes h.after.2 read; most = most; is = is }
 
 pub stopped_there : (s0 s1 s2 : DeskState) (file : Name) → Opens s0 file put.Done s1 → OnlyReads s1 s2 → Stopped (file ∷ []) put.Done s0 s2

@@ -1,5 +1,5 @@
 -- The case that rows begin and the output isn't created, over the states of a desk.
-use Rattle.std.proofs.Common.{ℕ, List, [], ◌∷◌, ◌∙◌, arith, inl, inr, Result}
+use Rattle.std.proofs.Common.{ℕ, List, [], ◌∷◌, ◌∙◌, arith, inl, inr, Result, Some}
 use Rattle.jpg_base.specs.declared.names.Put.TheVariants as put
 use Rattle.jpg_base.specs.declared.stop.Stop.{Stop}
 use Rattle.jpg_base.specs.Desk.{Creates, DeskState}
@@ -20,7 +20,7 @@ use Rattle.jpg_cli.proofs.Outcome.{reads_still}
 
 -- what was read
 abbrev opened_read : {s : Showing} {old start : DeskState} {all : List ℕ} {piece : List ℕ} {answer : Result FedRow Stop} {r : ReaderState} {now : DeskState} (Is : List ℕ → Type 0) → BeginsShownRows s.gray all piece answer r → HasOpened s old start all now → Is all
-    → ReadsFrom s.input Is old now
+    → ReadsFrom (Some s.input) Is old now
 opened_read {s} {old} {start} {all} {now} Is k h is = record { bytes = all; read = file_read old.files s.input start.left now.left all (h.opened).after.2 h.left; most = (k.rows).most; is = is }
 
 -- NO MEMORY for an image
@@ -39,6 +39,6 @@ module _ {s : Showing} {old start : DeskState} {all : List ℕ} {piece : List �
       };
       opens = (let rose = made.after.0 in let a = (h.opened).counts.opens in let b = ((h.reads).copies).works.stays.counts.opens in omega (arith, rose, a, b));
     },
-    inr (reads_still old now new s.input (λ rest bytes. IsShortRead (Image s.gray) bytes × IsShownByRows s.gray bytes) made.left
+    inr (reads_still old now new (Some s.input) (λ rest bytes. IsShortRead (Image s.gray) bytes × IsShownByRows s.gray bytes) made.left
         (opened_read (λ bytes. IsShortRead (Image s.gray) bytes × IsShownByRows s.gray bytes) k h ((k.rows).short, shown_head (k.rows).head))),
   )

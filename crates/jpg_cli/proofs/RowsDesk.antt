@@ -43,5 +43,5 @@ created_added {s} {old} {start} {written} {now} h = record {
   outputs = (let P : Option (List (Name × List ℕ)) → Type 0 = λ a. Grows a (s.output, written) now.outputs in subst P (h.opened).outputs h.outputs);
 }
 
-abbrev pub created_read : {s : Showing} {old start : DeskState} {all written : List ℕ} {now : DeskState} (Is : List ℕ → Type 0) → HasCreated s old start all written now → length all ≤ standard_limits.input → Is all → ReadsFrom s.input Is old now
+abbrev pub created_read : {s : Showing} {old start : DeskState} {all written : List ℕ} {now : DeskState} (Is : List ℕ → Type 0) → HasCreated s old start all written now → length all ≤ standard_limits.input → Is all → ReadsFrom (Some s.input) Is old now
 created_read {s} {old} {start} {all} {now} Is h most is = record { bytes = all; read = file_read old.files s.input start.left now.left all (h.opened).after.2 h.left; most = most; is = is }

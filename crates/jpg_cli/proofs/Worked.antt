@@ -10,8 +10,8 @@ use Rattle.jpg_base.specs.declared.names.Name.TheVariants as name
 use Rattle.jpg_base.specs.declared.names.Put.{Put}
 use Rattle.jpg_base.specs.declared.names.Put.TheVariants as put
 use Rattle.jpg_base.specs.declared.memory.MemoryDesk.{MemoryDesk}
-use Rattle.jpg_base.specs.Desk.{AppendsLast, Creates, DeskState, NotesName, Writes}
-use Rattle.jpg_base.specs.Laws.{Grows, Grows-from, NotesNames}
+use Rattle.jpg_base.specs.Desk.{Creates, DeskState, NotesName, Writes}
+use Rattle.jpg_base.specs.Laws.{Grows, Grows-from}
 use Rattle.jpg_base.specs.Memory.{HasNothing, memory_outputs, memory_state, with_file}
 use Rattle.jpg_base.specs.Name.{is_same_name}
 use Rattle.jpg_spec.specs.Lists.{joined}
@@ -40,17 +40,20 @@ use Rattle.jpg_cli.specs.Desk.ImageWritten.{AfterEncoding}
 use Rattle.jpg_cli.specs.Desk.Judging.{ReadsFrom}
 use Rattle.jpg_cli.specs.Desk.Reading.{rest_of}
 use Rattle.jpg_cli.specs.Desk.ReadPicture.{IsReadPicture}
-use Rattle.jpg_cli.specs.Endings.{Added}
+use Rattle.jpg_cli.specs.Outcome.{Converted}
 use Rattle.jpg_cli.specs.Stays.{Untouched}
 use Rattle.jpg_cli.specs.Tools.Showing.{Showing, Shown, ShownBy, showing_told}
 use Rattle.jpg_cli.specs.Tools.Turned.{Transformed, Turned, Turning}
-use Rattle.jpg_cli.specs.Tools.Worked.{DidWork, HasFile, HasOutput, HoldsInput, IsReport, IsShown, ReportEnds, ReportsShown, ShowsFile, TurnsFile, work_choice, scans_by}
+use Rattle.jpg_cli.specs.Tools.Worked.{DidWork, HasFile, HasOutput, HoldsInput, IsReport, IsShown, ReportsShown, ShowsFile, TurnsFile, WritesReport, work_choice, work_conversion, scans_by}
 use Rattle.jpg_cli.specs.declared.desk.picture.Wanted.{Wanted}
 use Rattle.jpg_cli.specs.declared.desk.picture.Wanted.TheVariants.{Coefficients, Image}
 use Rattle.jpg_cli.specs.declared.words.djpeg.ShowWords.{ShowWords}
+use Rattle.jpg_cli.proofs.CommentInserted.{none_noted}
 use Rattle.jpg_cli.proofs.Due.{one_file}
 use Rattle.jpg_cli.proofs.Judged.{picture_judged}
 use Rattle.jpg_cli.proofs.Input.{some_inj}
+use Rattle.jpg_cli.proofs.Outcome.{HasValueRead, converted_made, none_early}
+use Rattle.jpg_cli.proofs.PictureTaken.{reads_none}
 
 -- THE ONLY OUTPUT of a desk without outputs
 
@@ -59,17 +62,6 @@ Outputs = List (Name × List ℕ)
 
 grown : (old : Option Outputs) (new : Outputs) (text : List ℕ) → old ≡ Some [] → Grows old (name.Out, text) (Some new) → new ≡ (name.Out, text) ∷ []
 grown old new text e h = let P : Option Outputs → Type 0 = λ o. Grows o (name.Out, text) (Some new) in subst P e h
-
-noted_one : (a b : Option (List (Name × Put))) (answer : Put) → NotesName a (name.Out, answer) b → NotesNames a ((name.Out, answer) ∷ []) b
-noted_one a None answer h = tt
-noted_one None (Some b) answer h = h
-noted_one (Some a) (Some b) answer h = h
-
-added : (s0 s1 s2 : DeskState) (text : List ℕ) → Creates s0 name.Out put.Done s1 → s2.asked ≡ s1.asked → AppendsLast s1.outputs text s2.outputs → Added [] name.Out text s0 s2
-added s0 s1 s2 text h still appends = record {
-  asked = noted_one s0.asked s2.asked put.Done (let P : Option (List (Name × Put)) → Type 0 = λ a. NotesName s0.asked (name.Out, put.Done) a in subst P (sym still) h.asked);
-  outputs = Grows-from s0.outputs s1.outputs s2.outputs name.Out text h.after.1 appends;
-}
 
 -- the bytes of that output
 pub output_is : (text : List ℕ) (desk : MemoryDesk) (r : List ℕ) → HasOutput text desk → option_map (λ p. p.1) (slice_get (memory_outputs desk) 0) ≡ Some r → r ≡ text
@@ -86,7 +78,7 @@ holds_input input desk now nothing e =
 
 -- WHAT WAS READ of an input that means a picture is that picture
 
-read_once : (w : Wanted) (input : List ℕ) (s0 s1 : DeskState) (M N : Meaning) → IsTold s0.files name.In input → Means standard_limits input M → ReadsFrom name.In (IsReadPicture w N None) s0 s1 → M ≡ N
+read_once : (w : Wanted) (input : List ℕ) (s0 s1 : DeskState) (M N : Meaning) → IsTold s0.files name.In input → Means standard_limits input M → ReadsFrom (Some name.In) (IsReadPicture w N None) s0 s1 → M ≡ N
 read_once w input s0 s1 M N told means read =
     let bytes = read.bytes ++ rest_of s1.left in
     let same : bytes ≡ input = one_file s0.files name.In input bytes told read.read in
@@ -216,16 +208,39 @@ untouched s = record { asked = refl; outputs = refl; left = refl }
 pub work_none : (has : Bool) (n : ℕ) (ended : Why) (s : DeskState) → IsReport has n (Err ended) → DidWork has n s ended s
 work_none true n (why.Usage u) s h = absurd (let e : true ≡ false = h.0 in cc)
 work_none false n (why.Usage u) s h = (inl (ap (λ v. why.Usage v) h.1), untouched s)
-work_none true n why.NoMemory s h = untouched s
+work_none true n why.NoMemory s h = inr (refl, untouched s)
 work_none false n why.NoMemory s h = (inr refl, untouched s)
 work_none has n other s h = absurd h
 
-pub work_done : (has : Bool) (n : ℕ) (text : List ℕ) (ended : Why) (s0 s1 : DeskState) → IsReport has n (Ok text) → ReportEnds text s0 ended s1 → DidWork has n s0 ended s1
-work_done true n text ended s0 s1 h wrote = subst (λ t. ReportEnds t s0 ended s1) h.1 wrote
-work_done false n text ended s0 s1 h wrote = absurd (let e : false ≡ true = h.0 in cc)
+-- the value is there, and nothing is read
+nothing_read : (n : ℕ) (s0 s1 : DeskState) → s1.left ≡ s0.left → HasValueRead ℕ (work_conversion n) n None s0 s0 s1
+nothing_read n s0 s1 left = record {
+  kept = record { works = (reads_none s0).copies.works; outputs = refl };
+  asked = none_noted s0.asked s0.asked refl;
+  read = record { bytes = []; read = refl; most = omega arith; is = (refl, refl) };
+  all = tt;
+  left = left;
+}
 
-pub report_written : (text : List ℕ) (s0 s1 s2 : DeskState) → Creates s0 name.Out put.Done s1 → Writes s1 text put.Done s2 → ReportEnds text s0 why.Done s2
-report_written text s0 s1 s2 h k = added s0 s1 s2 text h k.asked k.after
+pub work_done : (has : Bool) (n : ℕ) (text : List ℕ) (ended : Why) (s0 s1 : DeskState) → IsReport has n (Ok text) → s1.left ≡ s0.left → WritesReport text s0 ended s1 → DidWork has n s0 ended s1
+work_done true n text ended s0 s1 h left wrote =
+    let c = work_conversion n in
+    let made = converted_made ℕ c n None s0 s0 s1 (nothing_read n s0 s1 left) ended (subst (λ t. WritesReport t s0 ended s1) h.1 wrote) in
+    inl (subst (λ (w : Why). Converted c s0 w s1) (none_early ended) made)
+work_done false n text ended s0 s1 h left wrote = absurd (let e : false ≡ true = h.0 in cc)
 
-pub report_unwritten : (text : List ℕ) (s0 s1 s2 : DeskState) → Creates s0 name.Out put.Done s1 → Writes s1 text put.Failed s2 → ReportEnds text s0 why.WriteFault s2
-report_unwritten text s0 s1 s2 h k = ((let r = k.after.0 in let f = h.counts.writes in omega arith), (k.after.1.0, added s0 s1 s2 (take k.after.1.0 text) h k.asked k.after.1.1))
+noted_then : (s0 s1 s2 : DeskState) → Creates s0 name.Out put.Done s1 → s2.asked ≡ s1.asked → NotesName s0.asked (name.Out, put.Done) s2.asked
+noted_then s0 s1 s2 h still = let P : Option (List (Name × Put)) → Type 0 = λ a. NotesName s0.asked (name.Out, put.Done) a in subst P (sym still) h.asked
+
+pub report_written : (text : List ℕ) (s0 s1 s2 : DeskState) → Creates s0 name.Out put.Done s1 → Writes s1 text put.Done s2 → WritesReport text s0 why.Done s2
+report_written text s0 s1 s2 h k = (refl, (noted_then s0 s1 s2 h k.asked, Grows-from s0.outputs s1.outputs s2.outputs name.Out text h.after.1 k.after), tt)
+
+pub report_unwritten : (text : List ℕ) (s0 s1 s2 : DeskState) → Creates s0 name.Out put.Done s1 → Writes s1 text put.Failed s2 → WritesReport text s0 why.WriteFault s2
+report_unwritten text s0 s1 s2 h k = (
+  refl,
+  (
+    noted_then s0 s1 s2 h k.asked,
+    (let r = k.after.0 in let f = h.counts.writes in omega (arith, r, f)),
+    (k.after.1.0, Grows-from s0.outputs s1.outputs s2.outputs name.Out (take k.after.1.0 text) h.after.1 k.after.1.1),
+  ),
+)

@@ -10,7 +10,7 @@ use Rattle.jpg_spec_words.specs.declared.answers.Why.{Why}
 use Rattle.jpg_spec_words.specs.declared.answers.Why.TheVariants as why
 use Rattle.jpg_spec_write.specs.ScansAsked.{Scans}
 use Rattle.jpg_spec_write.specs.declared.picture_fault.PictureFault.{PictureFault}
-use Rattle.jpg_cli.specs.Desk.Reading.{IsFile}
+use Rattle.jpg_cli.specs.Desk.Judging.{IsInput}
 use Rattle.jpg_cli.specs.Desk.ScriptTaken.{HasScans, HasScansFault, names_before}
 use Rattle.jpg_cli.specs.Desk.TablesTaken.{HasTables, HasTablesFault, tables_names}
 use Rattle.jpg_cli.specs.Outcome.{Conversion}
@@ -34,14 +34,14 @@ pub record TellsFiles (s : DeskState) : Type 0 where
 pub record InputHas (V : Type 0) (c : Conversion V) (early : Option ℕ) (fault : Option PictureFault) (old : DeskState) : Type 0 where
   pub value : V
   pub bytes : List ℕ
-  pub file : IsFile old.files c.input bytes
+  pub file : IsInput old.files c.input bytes
   pub means : c.judging.means early value bytes
   pub is : c.fault value ≡ fault
 
 -- Or it is refused with this fault.
 pub record InputRefused (V : Type 0) (c : Conversion V) (f : FaultAt) (old : DeskState) : Type 0 where
   pub bytes : List ℕ
-  pub file : IsFile old.files c.input bytes
+  pub file : IsInput old.files c.input bytes
   pub refused : c.judging.refuses f bytes
 
 abbrev pub IsDueFor : {V : Type 0} → Conversion V → DeskState → Why → Type 0

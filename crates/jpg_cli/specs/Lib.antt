@@ -1,5 +1,6 @@
 pub mod Certain
 pub mod Commands
+pub mod Copies
 pub mod Desk
 pub mod Due
 pub mod Endings

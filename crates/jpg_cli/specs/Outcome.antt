@@ -1,5 +1,5 @@
--- HOW A CONVERSION ENDS: a command that reads an input, makes something of it and writes its text to an output, by why
--- it ended. jpegtran, djpeg and cjpeg are such commands.
+-- HOW A CONVERSION ENDS: a command that reads an input, or has none, makes something of it and writes its text to an
+-- output, by why it ended. jpegtran, djpeg and cjpeg are such commands, and jpgwork, which has no input.
 use Rattle.std.specs.Prelude.{◌≡◌, ◌⊎◌, ◌<◌, ◌≤◌, ℕ, List, [], ◌∷◌, ◌++◌, length, take, Option, None, Some}
 use Rattle.jpg_base.specs.declared.names.Name.{Name}
 use Rattle.jpg_base.specs.declared.names.Put.TheVariants as put
@@ -10,8 +10,7 @@ use Rattle.jpg_spec_words.specs.declared.answers.Why.TheVariants as why
 use Rattle.jpg_spec_words.specs.declared.answers.Which.TheVariants as which
 use Rattle.jpg_spec_write.specs.declared.picture_fault.PictureFault.{PictureFault}
 use Rattle.jpg_cli.specs.Endings.{Added, Stopped, Unopened}
-use Rattle.jpg_cli.specs.Desk.Judging.{IsAllRead, Judging, ReadsFrom}
-use Rattle.jpg_cli.specs.Desk.Reading.{rest_of}
+use Rattle.jpg_cli.specs.Desk.Judging.{IsAllRead, Judging, ReadsFrom, input_names, left_of}
 
 -- WHAT IS WRITTEN BEFORE THE END of the input, where the output is written while it is read: whether it begins in these
 -- bytes; the text of all rows that they complete; and the text of some first rows, which they determine
@@ -25,11 +24,12 @@ pub data Writing : Type 1 where
   at_end : Writing
   by_rows : RowTexts → Writing
 
--- A CONVERSION: the names that are opened before, and those of the input and the output; what is judged of the bytes;
--- the fault of what is made of a value, its text, and what holds of that; and when the output is written
+-- A CONVERSION: the names that are opened before, that of the input, if there is one, and that of the output; what is
+-- judged of the bytes; the fault of what is made of a value, its text, and what holds of that; and when the output is
+-- written
 pub record Conversion (V : Type 0) : Type 1 where
   pub before : List Name
-  pub input : Name
+  pub input : Option Name
   pub output : Name
   pub judging : Judging V
   pub fault : V → Option PictureFault
@@ -38,16 +38,21 @@ pub record Conversion (V : Type 0) : Type 1 where
   pub writing : Writing
 
 abbrev pub names_to_read : {V : Type 0} → Conversion V → List Name
-names_to_read c = c.before ++ c.input ∷ []
+names_to_read c = c.before ++ input_names c.input
 
 abbrev pub names_to_write : {V : Type 0} → Conversion V → List Name
 names_to_write c = names_to_read c ++ c.output ∷ []
+
+-- There is an input, and it wasn't opened after these names.
+abbrev pub InputUnopened : List Name → Option Name → DeskState → DeskState → Type 0
+InputUnopened before None old new = ⊥
+InputUnopened before (Some input) old new = Unopened (before ++ input ∷ []) old new
 
 -- WHEN THE INPUT WAS READ
 
 -- It has this value, also if it ends early after this many bytes. What is made of it has this fault, or none.
 pub record ReadsValue (V : Type 0) (c : Conversion V) (x : V) (early : Option ℕ) (fault : Option PictureFault) (old new : DeskState) : Type 0 where
-  pub read : ReadsFrom c.input (c.judging.has x early (rest_of new.left)) old new
+  pub read : ReadsFrom c.input (c.judging.has x early (left_of c.input new)) old new
   pub all : IsAllRead early new
   pub is : c.fault x ≡ fault
 
@@ -101,7 +106,7 @@ pub record WritesRowsInPart (V : Type 0) (c : Conversion V) (r : RowTexts) (old 
 -- and not all of the text, if the bytes have a value
 pub record WritesLessRows (V : Type 0) (c : Conversion V) (r : RowTexts) (old new : DeskState) : Type 0 where
   pub part : WritesRowsInPart V c r old new
-  pub left : (x : V) → c.judging.has x None (rest_of new.left) (part.read).bytes → length (take part.count part.text) < length (c.text x)
+  pub left : (x : V) → c.judging.has x None (left_of c.input new) (part.read).bytes → length (take part.count part.text) < length (c.text x)
 
 -- What was written is at least the text of these bytes without their last 65,536.
 abbrev pub IsWrittenInTime : RowTexts → List ℕ → List ℕ → Type 0
@@ -153,10 +158,10 @@ RunsShort {V} c (by_rows r) old new = StopsShort c old new ⊎ (WritesLess V c o
 abbrev pub Converted : {V : Type 0} → Conversion V → DeskState → Why → DeskState → Type 0
 Converted {V} c old why.Done new = (x : V) × WritesValue c x None old new
 Converted {V} c old (why.Warned n) new = (x : V) × WritesValue c x (Some n) old new
-Converted c old (why.Refused f) new = StopsReading c c.writing (bytes_before f) (c.judging.refused f (rest_of new.left)) old new
+Converted c old (why.Refused f) new = StopsReading c c.writing (bytes_before f) (c.judging.refused f (left_of c.input new)) old new
 Converted {V} c old (why.Picture fault) new =
     Stopped (names_to_read c) put.Done old new × ((x : V) × (early : Option ℕ) × ReadsValue V c x early (Some fault) old new)
-Converted c old (why.OpenFault which.Input) new = Unopened (names_to_read c) old new
+Converted c old (why.OpenFault which.Input) new = InputUnopened c.before c.input old new
 Converted c old (why.OpenFault which.Output) new = Unopened (names_to_write c) old new × MayCreate c c.writing old new
 Converted c old (why.ReadFault which.Input) new = Rose old.counts.reads new.counts.reads × StopsReading c c.writing all_bytes c.judging.unfinished old new
 Converted c old why.WriteFault new = Rose old.counts.writes new.counts.writes × StopsWriting c c.writing old new

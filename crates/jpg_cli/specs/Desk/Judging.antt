@@ -23,10 +23,26 @@ pub record Judging (V : Type 0) : Type 1 where
   pub unfinished : List ℕ → Type 0
   pub short : List ℕ → Type 0
 
--- Bytes of the file of this name, no more than may be, were read; this holds of them, and the others are left.
-pub record ReadsFrom (file : Name) (Is : List ℕ → Type 0) (old new : DeskState) : Type 0 where
+-- AN INPUT: the file of this name, or none
+
+abbrev pub input_names : Option Name → List Name
+input_names None = []
+input_names (Some file) = file ∷ []
+
+-- These are its bytes, if the files are known. Where there is no input, there are no bytes.
+abbrev pub IsInput : Option (Name → Option (List ℕ)) → Option Name → List ℕ → Type 0
+IsInput files None bytes = bytes ≡ []
+IsInput files (Some file) bytes = IsFile files file bytes
+
+-- those of them that are left
+abbrev pub left_of : Option Name → DeskState → List ℕ
+left_of None new = []
+left_of (Some file) new = rest_of new.left
+
+-- Bytes of it, no more than may be, were read; this holds of them, and the others are left.
+pub record ReadsFrom (input : Option Name) (Is : List ℕ → Type 0) (old new : DeskState) : Type 0 where
   pub bytes : List ℕ
-  pub read : IsFile old.files file (bytes ++ rest_of new.left)
+  pub read : IsInput old.files input (bytes ++ left_of input new)
   pub most : length bytes ≤ standard_limits.input
   pub is : Is bytes
 
@@ -42,10 +58,10 @@ done_as (Some n) = why.Warned n
 
 -- WHY THERE IS NO VALUE of the file of this name: nothing was done but reading
 abbrev pub NoValueRead : {V : Type 0} → Judging V → Name → DeskState → Why → DeskState → Type 0
-NoValueRead j file old (why.Refused f) new = Stopped (file ∷ []) put.Done old new × ReadsFrom file (j.refused f (rest_of new.left)) old new
+NoValueRead j file old (why.Refused f) new = Stopped (file ∷ []) put.Done old new × ReadsFrom (Some file) (j.refused f (rest_of new.left)) old new
 NoValueRead j file old (why.OpenFault which.Input) new = Unopened (file ∷ []) old new
-NoValueRead j file old (why.ReadFault which.Input) new = Unread (file ∷ []) old new × ReadsFrom file j.unfinished old new
-NoValueRead j file old why.NoMemory new = Stopped (file ∷ []) put.Done old new × ReadsFrom file j.short old new
+NoValueRead j file old (why.ReadFault which.Input) new = Unread (file ∷ []) old new × ReadsFrom (Some file) j.unfinished old new
+NoValueRead j file old why.NoMemory new = Stopped (file ∷ []) put.Done old new × ReadsFrom (Some file) j.short old new
 NoValueRead j file old other new = ⊥
 
 -- FROM A DESK whose input is open: bytes of it, no more than may be, are read, and this holds of them

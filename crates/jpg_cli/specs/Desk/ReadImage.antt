@@ -62,7 +62,7 @@ image_judging targa = record {
 
 -- THE ANSWERS: the image of the file, or why there is none
 abbrev pub ImageRead : Bool → Name → DeskState → Result Read Why → DeskState → Type 0
-ImageRead targa file old (Ok i) new = Asks (file ∷ []) put.Done old new × ReadsFrom file (IsImageRead targa (image_told i) (rest_of new.left)) old new
+ImageRead targa file old (Ok i) new = Asks (file ∷ []) put.Done old new × ReadsFrom (Some file) (IsImageRead targa (image_told i) (rest_of new.left)) old new
 ImageRead targa file old (Err ended) new = NoValueRead (image_judging targa) file old ended new
 
 -- from a desk whose input is open

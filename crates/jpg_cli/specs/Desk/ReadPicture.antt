@@ -114,7 +114,8 @@ picture_judging w = record {
 -- why there is none
 abbrev pub PictureRead : Wanted → Copying → Name → DeskState → Result (Picture × Option ℕ) Why → DeskState → Type 0
 PictureRead w keeping file old (Ok found) new =
-    Asks (file ∷ []) put.Done old new × ((M : Meaning) × MeansFor keeping found.0 M × ReadsFrom file (IsReadPicture w M found.1) old new) × IsAllRead found.1 new
+    Asks (file ∷ []) put.Done old new
+    × ((M : Meaning) × MeansFor keeping found.0 M × ReadsFrom (Some file) (IsReadPicture w M found.1) old new) × IsAllRead found.1 new
 PictureRead w keeping file old (Err ended) new = NoValueRead (picture_judging w) file old ended new
 
 -- STEP BY STEP, from a desk whose input is open

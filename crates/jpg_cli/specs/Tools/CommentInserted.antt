@@ -1,7 +1,7 @@
 -- WHAT INSERTING A COMMENT into a file does to a desk (T.81, B.2.4.5, the manual of wrjpgcom in release 6b), by why it
 -- ended.
 use Rattle.std.specs.Prelude.{◌≡◌, ◌⊎◌, ℕ, ◌<◌, ◌≤◌, Bool, false, List, [], ◌∷◌, ◌++◌, length, take, Option, None, Some, ◌+◌}
-use Rattle.std.specs.Io.KnownBytes.{Consumes, IsAtEnd}
+use Rattle.std.specs.Io.KnownBytes.{Consumes}
 use Rattle.jpg_base.specs.declared.names.Name.{Name}
 use Rattle.jpg_base.specs.declared.names.Name.TheVariants as name
 use Rattle.jpg_base.specs.declared.names.Put.TheVariants as put
@@ -18,7 +18,8 @@ use Rattle.jpg_comments.specs.WriteInserted.{insert_limits, is_replacing, HasIns
 use Rattle.jpg_comments.specs.declared.insert.Insert.{Insert}
 use Rattle.jpg_cli.specs.Words.CommentWords.{comment_told}
 use Rattle.jpg_cli.specs.declared.words.comments.WriteWords.{WriteWords}
-use Rattle.jpg_cli.specs.Tools.InsertComment.{AfterFed, IsAtHead, IsFaultBefore, IsFilePart, IsLongFile, IsNoHead, IsInsertedWhole}
+use Rattle.jpg_cli.specs.Tools.InsertComment.{AfterFed, IsAtHead, IsFaultBefore, IsNoHead, IsInsertedWhole, inserted_texts}
+use Rattle.jpg_cli.specs.Copies.{Copies}
 use Rattle.jpg_cli.specs.Endings.{Asks, Copied, Stopped, Unopened, Unread}
 use Rattle.jpg_cli.specs.Desk.Reading.{IsFile, IsReadTo, ReadsBytes, ReadsPart, rest_of}
 
@@ -92,12 +93,6 @@ pub record ReadsInput (task : Task) (Is : List ℕ → Type 0) (old new : DeskSt
 abbrev pub ReadsAlone : Task → (List ℕ → Type 0) → DeskState → DeskState → Type 0
 ReadsAlone task Is old new = Stopped (names_to_input task) put.Done old new × ReadsInput task Is old new
 
--- The output has a text, and this holds of the comment, the bytes of the input that were read, and the text.
-pub record WritesText (task : Task) (Is : List ℕ → List ℕ → List ℕ → Type 0) (old new : DeskState) : Type 0 where
-  pub comment : List ℕ
-  pub source : IsShortComment old task.comment comment
-  pub copied : Copied (names_of task.comment) task.input task.output (Is comment) old new
-
 -- the comment is too long; the input wasn't opened
 pub record IsCommentLong (task : Task) (f : FaultAt) (old new : DeskState) : Type 0 where
   pub comment : List ℕ
@@ -124,22 +119,27 @@ pub record IsOutOfMemory (task : Task) (old new : DeskState) : Type 0 where
   pub stopped : Stopped (take count (names_to_input task)) put.Done old new
   pub read : ReadsLast task old new
 
+-- WITHOUT AN OUTPUT, by why it ended
+abbrev pub EndsBeforeOutput : Task → DeskState → Why → DeskState → Type 0
+EndsBeforeOutput task old (why.Refused f) new = IsCommentLong task f old new ⊎ ReadsAlone task (IsFaultBefore f (rest_of new.left)) old new
+EndsBeforeOutput task old (why.OpenFault which.Comment) new = Unopened (names_of task.comment) old new × (is_given task.comment ≡ false)
+EndsBeforeOutput task old (why.OpenFault which.Input) new =
+    Unopened (names_to_input task) old new × ((comment : List ℕ) × IsShortComment old task.comment comment)
+EndsBeforeOutput task old (why.OpenFault which.Output) new = Unopened (names_to_output task) old new × ReadsInput task IsAtHead old new
+EndsBeforeOutput task old (why.ReadFault which.Comment) new = IsCommentUnread task old new
+EndsBeforeOutput task old (why.ReadFault which.Input) new = ReadsAlone task IsNoHead old new × Rose old.counts.reads new.counts.reads
+EndsBeforeOutput task old why.NoMemory new = IsOutOfMemory task old new
+EndsBeforeOutput task old other new = ⊥
+
+-- WITH AN OUTPUT: the comment was taken, and the input was copied with it, or some of it.
+pub record EndsWithOutput (task : Task) (old : DeskState) (ended : Why) (new : DeskState) : Type 0 where
+  pub comment : List ℕ
+  pub source : IsShortComment old task.comment comment
+  pub copied : Copies (inserted_texts comment task.replace) (Copied (names_of task.comment) task.input task.output) old ended new
+
 -- THE ANSWERS
 abbrev pub Inserted : Task → DeskState → Why → DeskState → Type 0
-Inserted task old why.Done new = WritesText task (λ comment. IsInsertedWhole comment task.replace) old new × IsAtEnd new.left
-Inserted task old (why.Refused f) new =
-    IsCommentLong task f old new
-    ⊎ (ReadsAlone task (IsFaultBefore f (rest_of new.left)) old new ⊎ WritesText task (λ comment. IsLongFile comment task.replace f (rest_of new.left)) old new)
-Inserted task old (why.OpenFault which.Comment) new = Unopened (names_of task.comment) old new × (is_given task.comment ≡ false)
-Inserted task old (why.OpenFault which.Input) new =
-    Unopened (names_to_input task) old new × ((comment : List ℕ) × IsShortComment old task.comment comment)
-Inserted task old (why.OpenFault which.Output) new = Unopened (names_to_output task) old new × ReadsInput task IsAtHead old new
-Inserted task old (why.ReadFault which.Comment) new = IsCommentUnread task old new
-Inserted task old (why.ReadFault which.Input) new =
-    (ReadsAlone task IsNoHead old new ⊎ WritesText task (λ comment. IsInsertedWhole comment task.replace) old new) × Rose old.counts.reads new.counts.reads
-Inserted task old why.WriteFault new = WritesText task (λ comment. IsFilePart comment task.replace) old new × Rose old.counts.writes new.counts.writes
-Inserted task old why.NoMemory new = IsOutOfMemory task old new ⊎ WritesText task (λ comment. IsFilePart comment task.replace) old new
-Inserted task old other new = ⊥
+Inserted task old ended new = EndsBeforeOutput task old ended new ⊎ EndsWithOutput task old ended new
 
 -- If no count of open, read or write rose, the answer is that of the comment and the input, or NoMemory.
 

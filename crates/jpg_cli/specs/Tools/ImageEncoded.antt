@@ -1,5 +1,5 @@
 -- HOW ENCODING AN IMAGE ENDS (the manual of cjpeg), by why it ended.
-use Rattle.std.specs.Prelude.{◌≡◌, ◌⊎◌, Bool, List, ◌++◌, Option}
+use Rattle.std.specs.Prelude.{◌≡◌, ◌⊎◌, Bool, List, ◌++◌, Option, Some}
 use Rattle.jpg_base.specs.declared.names.Name.{Name}
 use Rattle.jpg_base.specs.Desk.{DeskState}
 use Rattle.jpg_spec_encode.specs.Encoded.{Encoding, encode_fault, encoded, encoded_text}
@@ -36,7 +36,7 @@ MeansEncoded t I = Means standard_limits (encoded_text (t.encoding I) I) (encode
 abbrev pub encoding_conversion : EncodeTask → Conversion Image
 encoding_conversion t = record {
   before = t.before;
-  input = t.input;
+  input = Some t.input;
   output = t.output;
   judging = image_judging t.targa;
   fault = λ I. encode_fault (t.encoding I) I;

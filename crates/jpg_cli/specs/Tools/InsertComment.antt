@@ -1,6 +1,6 @@
 -- HOW A FILE WITH A COMMENT INSERTED is written piece by piece (T.81, B.2.4.5, the manual of wrjpgcom in release 6b).
 use Rattle.std.specs.Prelude.{◌≡◌, ℕ, ◌<◌, ◌≤◌, ◌+◌, Bool, true, List, [], ◌++◌, length, take, Option, None, Some, Result, Ok, Err}
-use Rattle.std.specs.Io.KnownBytes.{Consumes, IsAtEnd}
+use Rattle.std.specs.Io.KnownBytes.{Consumes}
 use Rattle.jpg_base.specs.Desk.{DeskState, Rose}
 use Rattle.jpg_base.specs.declared.stop.Stop.TheVariants as stop
 use Rattle.jpg_spec.specs.Segments.{standard_limits}
@@ -16,7 +16,7 @@ use Rattle.jpg_comments.specs.WriteInserted.{is_replacing, HasInserted}
 use Rattle.jpg_comments.specs.declared.insert.Insert.{Insert}
 use Rattle.jpg_cli.specs.declared.tools.wrjpgcom.AtHead.{AtHead}
 use Rattle.jpg_cli.specs.declared.tools.wrjpgcom.AtHead.TheVariants as at_head
-use Rattle.jpg_cli.specs.Tools.ReadComments.{CopiesText, HasCopied}
+use Rattle.jpg_cli.specs.Copies.{Copies, CopiesText, CopyTexts, HasCopied}
 use Rattle.jpg_cli.specs.Stays.{OnlyCopies}
 use Rattle.jpg_cli.specs.Desk.Reading.{rest_of}
 
@@ -57,13 +57,17 @@ IsLongFile comment replace f rest bytes text =
     IsInsertFault standard_limits (bytes ++ rest) f.fault f.at × (f.fault ≡ InputTooLong)
     × IsInserted standard_limits (take f.at (bytes ++ rest)) comment replace text
 
+-- which text is written, by why that ended; if it is complete, no rest is left
+abbrev pub inserted_texts : List ℕ → Bool → CopyTexts
+inserted_texts comment replace = record {
+  whole = λ rest bytes text. (rest ≡ []) × IsInsertedWhole comment replace bytes text;
+  refused = IsLongFile comment replace;
+  unread = IsInsertedWhole comment replace;
+  part = IsFilePart comment replace;
+}
+
 abbrev pub EndsInserting : List ℕ → Bool → DeskState → Why → DeskState → Type 0
-EndsInserting comment replace old why.Done new = CopiesText (IsInsertedWhole comment replace) old new × IsAtEnd new.left
-EndsInserting comment replace old (why.Refused f) new = CopiesText (IsLongFile comment replace f (rest_of new.left)) old new
-EndsInserting comment replace old (why.ReadFault which.Input) new = CopiesText (IsInsertedWhole comment replace) old new × Rose old.counts.reads new.counts.reads
-EndsInserting comment replace old why.WriteFault new = CopiesText (IsFilePart comment replace) old new × Rose old.counts.writes new.counts.writes
-EndsInserting comment replace old why.NoMemory new = CopiesText (IsFilePart comment replace) old new
-EndsInserting comment replace old other new = ⊥
+EndsInserting comment replace old ended new = Copies (inserted_texts comment replace) CopiesText old ended new
 
 -- From these bytes on: one more piece was read and written, or why the writing ends.
 abbrev pub AfterRest : List ℕ → Bool → DeskState → List ℕ → Option Why → Insert → DeskState → Type 0

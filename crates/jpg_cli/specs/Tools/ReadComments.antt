@@ -1,9 +1,8 @@
 -- WHAT PRINTING THE COMMENTS of a file does to a desk (T.81, B.2.4.5, the manual of rdjpgcom in release 6b), by why it
 -- ended.
 use Rattle.std.specs.Prelude.{◌≡◌, ◌⊎◌, ℕ, ◌+◌, ◌<◌, ◌≤◌, List, [], ◌∷◌, ◌++◌, length, take, Option, None, Some}
-use Rattle.std.specs.Io.KnownBytes.{Consumes}
 use Rattle.jpg_base.specs.declared.names.Name.{Name}
-use Rattle.jpg_base.specs.Desk.{DeskState, Rose, AppendsLast}
+use Rattle.jpg_base.specs.Desk.{DeskState}
 use Rattle.jpg_spec.specs.Segments.{standard_limits}
 use Rattle.jpg_spec.specs.Markers.{Segment, kept_rule}
 use Rattle.jpg_spec_write.specs.CommentText.{comments_text, IsReadWhole, IsReadFault, RevealsNothing}
@@ -16,8 +15,9 @@ use Rattle.jpg_comments.specs.SegmentsSoFar.{Appends, IsBegun, AreWholeBefore}
 use Rattle.jpg_comments.specs.Printing.{HoldsWhole}
 use Rattle.jpg_comments.specs.ReadComments.{HasRead}
 use Rattle.jpg_comments.specs.declared.comments.Comments.{Comments}
+use Rattle.jpg_cli.specs.Copies.{Copies, CopiesText, CopyTexts, HasCopied}
 use Rattle.jpg_cli.specs.Endings.{Copied, Unopened}
-use Rattle.jpg_cli.specs.Desk.Reading.{IsFile, rest_of}
+use Rattle.jpg_cli.specs.Desk.Reading.{IsFile}
 use Rattle.jpg_cli.specs.Stays.{OnlyCopies}
 
 -- THE TEXT that was printed, by the bytes that were read
@@ -63,18 +63,16 @@ pub record IsTextPart (bytes text : List ℕ) : Type 0 where
   pub whole : AreCompleteSegments (take front bytes) before
   pub is : text ≡ take count (comments_text before)
 
--- BY WHY IT ENDED
+-- which text is printed, by why it ended
+abbrev pub printed_texts : CopyTexts
+printed_texts = record { whole = λ rest. IsWholeText; refused = IsFaultText; unread = IsTextSoFar; part = IsTextPart }
 
--- THE ANSWERS: the comments of the input were printed to the output, or some of them, by the answer
+-- THE ANSWERS: the comments of the input were printed to the output, or some of them, by the answer; or the input wasn't
+-- opened, or the output wasn't created
 abbrev pub Printed : Name → Name → DeskState → Why → DeskState → Type 0
-Printed input output old why.Done new = Copied [] input output IsWholeText old new
-Printed input output old (why.Refused f) new = Copied [] input output (IsFaultText f (rest_of new.left)) old new
 Printed input output old (why.OpenFault which.Input) new = Unopened (input ∷ []) old new
 Printed input output old (why.OpenFault which.Output) new = Unopened (input ∷ output ∷ []) old new
-Printed input output old (why.ReadFault which.Input) new = Copied [] input output IsTextSoFar old new × Rose old.counts.reads new.counts.reads
-Printed input output old why.WriteFault new = Copied [] input output IsTextPart old new × Rose old.counts.writes new.counts.writes
-Printed input output old why.NoMemory new = Copied [] input output IsTextPart old new
-Printed input output old other new = ⊥
+Printed input output old ended new = Copies printed_texts (Copied [] input output) old ended new
 
 -- If no count of open, read or write rose, the answer is that of the input, or NoMemory.
 abbrev pub IsPrintDue : Name → DeskState → Why → Type 0
@@ -87,22 +85,8 @@ IsPrintDue input old other = ⊥
 
 -- STEP BY STEP, from a desk whose input is open and whose output is created
 
--- These bytes were read, no more than may be, and this text was written.
-pub record HasCopied (old : DeskState) (bytes text : List ℕ) (new : DeskState) : Type 0 where
-  pub most : length bytes ≤ standard_limits.input
-  pub read : Consumes old.left new.left bytes
-  pub written : AppendsLast old.outputs text new.outputs
-
-abbrev pub CopiesText : (List ℕ → List ℕ → Type 0) → DeskState → DeskState → Type 0
-CopiesText Is old new = (bytes : List ℕ) × (text : List ℕ) × HasCopied old bytes text new × Is bytes text
-
 abbrev pub EndsCopying : DeskState → Why → DeskState → Type 0
-EndsCopying old why.Done new = CopiesText IsWholeText old new
-EndsCopying old (why.Refused f) new = CopiesText (IsFaultText f (rest_of new.left)) old new
-EndsCopying old (why.ReadFault which.Input) new = CopiesText IsTextSoFar old new × Rose old.counts.reads new.counts.reads
-EndsCopying old why.WriteFault new = CopiesText IsTextPart old new × Rose old.counts.writes new.counts.writes
-EndsCopying old why.NoMemory new = CopiesText IsTextPart old new
-EndsCopying old other new = ⊥
+EndsCopying old ended new = Copies printed_texts CopiesText old ended new
 
 -- The result of a piece: the text for all the bytes so far, or why the reading ends.
 abbrev pub AfterTaking : List ℕ → List ℕ → Option Why → Comments → Type 0

@@ -75,7 +75,7 @@ row_texts s = record { begin = IsShownByRows s.gray; complete = IsRowsText s; de
 abbrev pub showing_conversion : Showing → Conversion Meaning
 showing_conversion s = record {
   before = [];
-  input = s.input;
+  input = Some s.input;
   output = s.output;
   judging = picture_judging (Image s.gray);
   fault = λ M. None;

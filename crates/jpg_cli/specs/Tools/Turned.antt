@@ -1,5 +1,5 @@
 -- HOW TRANSFORMING A PICTURE ENDS (the manual of jpegtran), by why it ended.
-use Rattle.std.specs.Prelude.{◌≡◌, ◌⊎◌, ℕ, List, [], Option}
+use Rattle.std.specs.Prelude.{◌≡◌, ◌⊎◌, ℕ, List, [], Option, Some}
 use Rattle.jpg_base.specs.declared.names.Name.{Name}
 use Rattle.jpg_base.specs.Desk.{DeskState}
 use Rattle.jpg_spec.specs.Meaning.{Meaning}
@@ -35,7 +35,7 @@ turning_told files choice area = record { before = []; input = files.input; outp
 abbrev pub turning_conversion : Turning → Conversion Meaning
 turning_conversion t = record {
   before = t.before;
-  input = t.input;
+  input = Some t.input;
   output = t.output;
   judging = picture_judging Coefficients;
   fault = picture_fault t.choice;

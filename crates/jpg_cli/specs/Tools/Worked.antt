@@ -1,9 +1,9 @@
 -- HOW THE WORK OF jpgwork ENDS, by why it ended; and its steps, each over a desk in memory of its own.
-use Rattle.std.specs.Prelude.{◌≡◌, ◌⊎◌, ℕ, Bool, true, false, List, [], ◌∷◌, drop, length, sum, take, if◌then◌else◌, Option, Some, IfSome, Result, Ok, Err}
+use Rattle.std.specs.Prelude.{◌≡◌, ◌⊎◌, ℕ, Bool, true, false, List, [], ◌∷◌, drop, length, sum, if◌then◌else◌, Option, None, Some, IfSome, Result, Ok, Err}
 use Rattle.std.specs.Str.{bytes_eq}
 use Rattle.jpg_base.specs.declared.memory.MemoryDesk.{MemoryDesk}
 use Rattle.jpg_base.specs.declared.names.Name.TheVariants as name
-use Rattle.jpg_base.specs.Desk.{DeskState, Rose}
+use Rattle.jpg_base.specs.Desk.{DeskState}
 use Rattle.jpg_base.specs.Memory.{memory_outputs, memory_state}
 use Rattle.jpg_spec.specs.FileMeaning.{Means}
 use Rattle.jpg_spec.specs.Meaning.{Meaning}
@@ -21,27 +21,49 @@ use Rattle.jpg_spec_words.specs.declared.answers.Usage.{Usage}
 use Rattle.jpg_spec_words.specs.declared.answers.UsageFault.TheVariants.{NoEnd}
 use Rattle.jpg_spec_words.specs.declared.answers.Why.{Why}
 use Rattle.jpg_spec_words.specs.declared.answers.Why.TheVariants as why
-use Rattle.jpg_spec_words.specs.declared.answers.Which.TheVariants as which
-use Rattle.jpg_cli.specs.Endings.{Added, Unopened}
+use Rattle.jpg_cli.specs.Desk.Judging.{Judging}
+use Rattle.jpg_cli.specs.Desk.Writing.{AfterMade}
+use Rattle.jpg_cli.specs.Outcome.{Conversion, Converted, at_end}
 use Rattle.jpg_cli.specs.Stays.{Untouched}
 
--- A text is written to standard output, or a first part of it; or the output wasn't created. Without memory nothing is
--- opened or created.
-abbrev pub ReportEnds : List ℕ → DeskState → Why → DeskState → Type 0
-ReportEnds text old why.Done new = Added [] name.Out text old new
-ReportEnds text old (why.OpenFault which.Output) new = Unopened (name.Out ∷ []) old new
-ReportEnds text old why.WriteFault new = Rose old.counts.writes new.counts.writes × ((count : ℕ) × Added [] name.Out (take count text) old new)
-ReportEnds text old why.NoMemory new = Untouched old new
-ReportEnds text old other new = ⊥
+-- THE CONVERSION of a number, which has no input: its value is this number. Nothing is refused; as nothing is read,
+-- reading neither fails nor lacks memory.
+abbrev pub number_judging : ℕ → Judging ℕ
+number_judging n = record {
+  means = λ early m bytes. (early ≡ None) × (m ≡ n);
+  refuses = λ f bytes. ⊥;
+  has = λ m early rest bytes. (early ≡ None) × (m ≡ n);
+  refused = λ f rest bytes. ⊥;
+  unfinished = λ bytes. ⊥;
+  short = λ bytes. ⊥;
+}
+
+-- The text is that of its five lines, and goes to standard output.
+abbrev pub work_conversion : ℕ → Conversion ℕ
+work_conversion n = record {
+  before = [];
+  input = None;
+  output = name.Out;
+  judging = number_judging n;
+  fault = λ m. None;
+  text = work_text;
+  right = λ m. Unit {0};
+  writing = at_end;
+}
 
 -- no image writer has the format; this is after the two words
 abbrev pub no_end : Usage
 no_end = record { fault = NoEnd; word = 2 }
 
--- THE WORK by this number: its five lines are written, if one of the image writers makes PNM.
+-- THE WORK by this number: its lines are written, if one of the image writers makes PNM; or there was no memory, and
+-- nothing was done.
 abbrev pub DidWork : Bool → ℕ → DeskState → Why → DeskState → Type 0
-DidWork true n old ended new = ReportEnds (work_text n) old ended new
+DidWork true n old ended new = Converted (work_conversion n) old ended new ⊎ ((ended ≡ why.NoMemory) × Untouched old new)
 DidWork false n old ended new = ((ended ≡ why.Usage no_end) ⊎ (ended ≡ why.NoMemory)) × Untouched old new
+
+-- a text was written to standard output, by why that ended
+abbrev pub WritesReport : List ℕ → DeskState → Why → DeskState → Type 0
+WritesReport text old ended new = AfterMade None text (Unit {0}) name.Out old ended new
 
 -- ITS STEPS, which answer nothing if there was no memory
 

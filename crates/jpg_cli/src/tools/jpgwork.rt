@@ -6,7 +6,7 @@ ghost use Rattle.jpg_spec_words.specs.Work.{first_picture, first_text, work_info
 ghost use Rattle.jpg_cli.specs.Stays.{OnlyWorks};
 ghost use Rattle.jpg_cli.specs.Words.TransformWords.{script_told};
 ghost use Rattle.jpg_cli.specs.Tools.Ends.{AreNewEnds, formats_of, has_format};
-ghost use Rattle.jpg_cli.specs.Tools.Worked.{DidWork, HasFile, HoldsInput, IsReport, ReportEnds, ReportsShown, ShowsFile, TurnsFile, work_choice, scans_by};
+ghost use Rattle.jpg_cli.specs.Tools.Worked.{DidWork, HasFile, HoldsInput, IsReport, ReportsShown, ShowsFile, TurnsFile, WritesReport, work_choice, scans_by};
 
 use crate::tools::cjpeg::write_encoded;
 use crate::tools::image_writer::show_by;
@@ -51,7 +51,8 @@ pub fn do_work<D: Desk>(alloc: Global, size: u16, desk: &mut D, ends: Vec<Box<dy
 // Writes a text to standard output.
 fn write_report<D: Desk>(report: &[u8], desk: &mut D) -> Why
     ensures kept { OnlyWorks (D.state desk.old) (D.state desk.new) }
-    ensures wrote { ReportEnds report.now (D.state desk.old) result (D.state desk.new) }
+    ensures left { (D.state desk.new).left ≡ (D.state desk.old).left }
+    ensures wrote { WritesReport report.now (D.state desk.old) result (D.state desk.new) }
 {
     match desk.create(&Name::Out) {
         Put::Failed => Why::OpenFault(Which::Output),

@@ -25,4 +25,4 @@ returns-in-Err-clause-encoded g c =
     let scans = scans_told c.args.scans in
     let tables = lent_tables c.args.tables in
     told_names w scans tables (state c.args.desk.now) (state c.read_image.new.desk) c.in-Err.why
-    (converted_unread Image (encoding_conversion (task_by w.files.input w.targa w.files.output (encoding_asked (encode_told w) scans tables))) (state c.args.desk.now) (state c.read_image.new.desk) c.in-Err.why c.in-Err.ensures.read)
+    (converted_unread Image (encoding_conversion (task_by w.files.input w.targa w.files.output (encoding_asked (encode_told w) scans tables))) w.files.input (state c.args.desk.now) (state c.read_image.new.desk) c.in-Err.why c.in-Err.ensures.read)

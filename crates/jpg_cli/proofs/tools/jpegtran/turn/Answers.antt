@@ -10,7 +10,7 @@ use Rattle.jpg_cli.proofs.tools.jpegtran.turn.Goals as goal
 pub returns-in-Err-clause-turned : goal.returns-in-Err-clause-turned
 returns-in-Err-clause-turned g c =
     let state = g.D.Desk.state in
-    converted_unread Meaning (turning_conversion (turning_told c.args.files.now c.args.choice.now c.args.area.now)) (state c.args.desk.now) (state c.read_picture.new.desk) c.in-Err.why c.in-Err.ensures.read
+    converted_unread Meaning (turning_conversion (turning_told c.args.files.now c.args.choice.now c.args.area.now)) c.args.files.now.input (state c.args.desk.now) (state c.read_picture.new.desk) c.in-Err.why c.in-Err.ensures.read
 
 pub returns-in-Done-clause-turned : goal.returns-in-Done-clause-turned
 returns-in-Done-clause-turned g c =
