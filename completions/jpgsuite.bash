@@ -24,6 +24,7 @@ _jpgsuite_rows=(
     'djpeg -dct 2 int'
     'djpeg -scale 1 1/1'
     'djpeg -outfile 4 FILE'
+    'djpeg -preview 3 TEXT'
     'cjpeg -targa 1 -'
     'cjpeg -quality 1 TEXT'
     'cjpeg -grayscale 2 -'

@@ -13,13 +13,14 @@ use Rattle.jpg_spec_words.specs.declared.answers.Why.TheVariants as why
 use Rattle.jpg_comments.specs.Inserting.{HoldsHead}
 use Rattle.jpg_comments.specs.Printing.{HoldsWhole}
 use Rattle.jpg_comments.proofs.OneAnswer.{heads_sound, reading_sound, whole_no_fault}
-use Rattle.jpg_cli.specs.Certain.{HasFrameHeader, HasImage, HasPicture, HasWholeFile, IsDoneAsOrWanting, IsDoneOrWanting, IsOrNoMemory, IsToldComment}
+use Rattle.jpg_cli.specs.Certain.{HasFrameHeader, HasImage, HasPicture, HasShownFront, HasWholeFile, IsDoneAsOrWanting, IsDoneOrWanting, IsOrNoMemory, IsToldComment}
 use Rattle.jpg_cli.specs.Desk.Judging.{done_as}
 use Rattle.jpg_cli.specs.Tools.CommentInserted.{HasInputFault, HasLongComment, Inserted, IsComment, IsInsertDue, Task}
 use Rattle.jpg_cli.specs.Tools.ReadComments.{IsPrintDue, Printed}
 use Rattle.jpg_cli.specs.Laws.{MeanSame, WasTurnedBack, text_back}
 use Rattle.jpg_cli.specs.Due.{NoneRose}
 use Rattle.jpg_cli.specs.Commands.{name_of}
+use Rattle.jpg_cli.specs.Tools.FrontShown.{FrontShown, front_conversion}
 use Rattle.jpg_cli.specs.Tools.Showing.{Showing, Shown, showing_conversion}
 use Rattle.jpg_cli.specs.Tools.Turned.{Transformed, turning_conversion, turning_of}
 use Rattle.jpg_cli.specs.declared.desk.picture.Wanted.TheVariants.{Coefficients, Image}
@@ -30,7 +31,8 @@ use Rattle.jpg_spec_move.specs.declared.transform.Transform.{Transform}
 use Rattle.jpg_spec_move.proofs.MovedBack.{moved_back}
 use Rattle.jpg_cli.proofs.CommentsPrinted.{print_due}
 use Rattle.jpg_cli.proofs.Due.{due_as, is_file, one_file, tells_files}
-use Rattle.jpg_cli.proofs.DueCommands.{show_answered, turn_answered}
+use Rattle.jpg_cli.proofs.DueCommands.{front_answered, show_answered, turn_answered}
+use Rattle.jpg_cli.proofs.FrontJudged.{front_judged}
 use Rattle.jpg_cli.proofs.Judged.{picture_judged}
 use Rattle.jpg_cli.proofs.TakenOnce.{told_scans}
 use Rattle.jpg_cli.proofs.InsertedThen.{insert_due}
@@ -105,6 +107,13 @@ pub shown_certain : (s : Showing) (old new : DeskState) (w : Why) → (has : Has
 shown_certain s old new w has none shown =
     as_done has.early w (show_answered s (done_as has.early) w old new (tells_files old s.input has.bytes has.told)
     (due_as Meaning (showing_conversion s) (picture_judged (Image s.gray)) old has.early
+    (record { value = has.meaning; bytes = has.bytes; file = is_file old.files s.input has.bytes has.told; means = (has.means, has.shown); is = refl }))
+    none shown)
+
+pub front_certain : (scans : ℕ) (s : Showing) (old new : DeskState) (w : Why) → (has : HasShownFront scans s old) → NoneRose old.counts new.counts → FrontShown scans s old w new → IsDoneAsOrWanting has.early w
+front_certain scans s old new w has none shown =
+    as_done has.early w (front_answered scans s (done_as has.early) w old new (tells_files old s.input has.bytes has.told)
+    (due_as Meaning (front_conversion scans s) (front_judged scans s.gray) old has.early
     (record { value = has.meaning; bytes = has.bytes; file = is_file old.files s.input has.bytes has.told; means = (has.means, has.shown); is = refl }))
     none shown)
 

@@ -1,5 +1,5 @@
 -- Of each command that converts, if nothing failed, the answer is the one that is due.
-use Rattle.std.proofs.Common.{◌≡◌, List, ◌++◌, Option, inl, inr}
+use Rattle.std.proofs.Common.{◌≡◌, ℕ, List, ◌++◌, Option, inl, inr}
 use Rattle.jpg_base.specs.Desk.{DeskState}
 use Rattle.jpg_spec.specs.Meaning.{Meaning}
 use Rattle.jpg_spec.specs.Segments.{QuantTable}
@@ -12,12 +12,14 @@ use Rattle.jpg_spec_write.specs.ScansAsked.{Scans}
 use Rattle.jpg_cli.specs.Certain.{IsOrNoMemory}
 use Rattle.jpg_cli.specs.Desk.ScriptTaken.{HasScans, HasScansFault, names_before}
 use Rattle.jpg_cli.specs.Desk.TablesTaken.{HasTables, HasTablesFault, tables_names}
-use Rattle.jpg_cli.specs.Due.{IsAnswerDue, IsDueFor, IsDueAfter, IsDueOrNoMemory, IsEncodeDue, IsEncodeDueIn, IsShowDue, IsTurnDue, NoneRose, OrNoMemory, TellsFiles}
+use Rattle.jpg_cli.specs.Due.{IsAnswerDue, IsDueFor, IsDueAfter, IsDueOrNoMemory, IsEncodeDue, IsEncodeDueIn, IsFrontDue, IsShowDue, IsTurnDue, NoneRose, OrNoMemory, TellsFiles}
 use Rattle.jpg_cli.specs.Tools.ImageEncoded.{EncodedAsAsked, EncodedBy, encoding_conversion, task_after}
+use Rattle.jpg_cli.specs.Tools.FrontShown.{FrontShown, front_conversion}
 use Rattle.jpg_cli.specs.Tools.Showing.{Showing, Shown, showing_conversion}
 use Rattle.jpg_cli.specs.Tools.Turned.{Transformed, turning_conversion, turning_of}
 use Rattle.jpg_cli.specs.declared.desk.picture.Wanted.TheVariants.{Coefficients, Image}
 use Rattle.jpg_cli.proofs.Due.{after_once, converted_due, due_once, due_taken, only_answer}
+use Rattle.jpg_cli.proofs.FrontJudged.{front_judged}
 use Rattle.jpg_cli.proofs.Judged.{image_judged, picture_judged}
 use Rattle.jpg_cli.proofs.TextTaken.{FaultOrNoMemory}
 use Rattle.jpg_cli.proofs.TakenOnce.{one_scans, one_tables, scans_fault, scans_or_fault, scans_stop, tables_fault, tables_or_fault, tables_stop}
@@ -53,6 +55,15 @@ show_due s s0 s1 w n h = converted_due Meaning (showing_conversion s) (picture_j
 pub show_answered : (s : Showing) (due w : Why) (s0 s1 : DeskState) → TellsFiles s0 → IsDueFor (showing_conversion s) s0 due → NoneRose s0.counts s1.counts → Shown s s0 w s1 → IsOrNoMemory due w
 show_answered s due w s0 s1 t h n k =
     only_answer (IsDueFor (showing_conversion s)) s0 due w (λ v. due_once Meaning (showing_conversion s) (picture_judged (Image s.gray)) s0 due v t) h (show_due s s0 s1 w n k)
+
+-- of a front
+
+pub front_due : (scans : ℕ) (s : Showing) (s0 s1 : DeskState) (w : Why) → NoneRose s0.counts s1.counts → FrontShown scans s s0 w s1 → IsFrontDue scans s s0 w
+front_due scans s s0 s1 w n h = converted_due Meaning (front_conversion scans s) (front_judged scans s.gray) s0 s1 w n h
+
+pub front_answered : (scans : ℕ) (s : Showing) (due w : Why) (s0 s1 : DeskState) → TellsFiles s0 → IsDueFor (front_conversion scans s) s0 due → NoneRose s0.counts s1.counts → FrontShown scans s s0 w s1 → IsOrNoMemory due w
+front_answered scans s due w s0 s1 t h n k =
+    only_answer (IsDueFor (front_conversion scans s)) s0 due w (λ v. due_once Meaning (front_conversion scans s) (front_judged scans s.gray) s0 due v t) h (front_due scans s s0 s1 w n k)
 
 -- CJPEG
 

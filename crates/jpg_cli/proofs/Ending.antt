@@ -1,5 +1,5 @@
 -- A run is its work, and then its message.
-use Rattle.std.proofs.Common.{◌≡◌, ℕ, Bool, true, false, List, take, Option, ◌∙◌, subst, arith, inl, inr}
+use Rattle.std.proofs.Common.{◌≡◌, ℕ, Bool, true, false, List, take, Option, ◌∙◌, subst, arith, inl, inr, [], ◌∷◌, None, Some}
 use Rattle.std.specs.Io.KnownBytes.{Appends}
 use Rattle.jpg_base.specs.Desk.{DeskState, NoneFell}
 use Rattle.jpg_base.specs.Laws.{NoneFell-then}
@@ -21,7 +21,8 @@ use Rattle.jpg_cli.proofs.Endings.{untouched_then}
 use Rattle.jpg_cli.specs.Run.{SaysText, task_of, showing_of, RanShow, Worked, Works, Ran}
 use Rattle.jpg_cli.specs.Tools.Ends.{has_format}
 use Rattle.jpg_cli.specs.Tools.Worked.{DidWork, work_conversion}
-use Rattle.jpg_cli.specs.Tools.Showing.{showing_conversion}
+use Rattle.jpg_cli.specs.Tools.Showing.{showing_conversion, Showing}
+use Rattle.jpg_cli.specs.Tools.FrontShown.{ShownAs, front_conversion}
 use Rattle.jpg_cli.proofs.ImageEncoded.{encoding_then}
 use Rattle.jpg_cli.proofs.Outcome.{converted_then}
 use Rattle.jpg_cli.specs.Stays.{OnlySays}
@@ -33,8 +34,12 @@ transformed_then a s0 s1 s2 w k (inl h) = inl (stopped_scans_then a.scans s0 s1 
 transformed_then a s0 s1 s2 w k (inr (inl (scans, has, turned))) = inr (inl (scans, has, converted_then Meaning (turning_conversion (turning_of a scans)) s0 s1 s2 k w turned))
 transformed_then a s0 s1 s2 w k (inr (inr t)) = inr (inr (t.0, untouched_then s0 s1 s2 k t.1))
 
+shown_then : (preview : Option ℕ) (s : Showing) (s0 s1 s2 : DeskState) (w : Why) → OnlySays s1 s2 → ShownAs preview s s0 w s1 → ShownAs preview s s0 w s2
+shown_then None s s0 s1 s2 w k h = converted_then Meaning (showing_conversion s) s0 s1 s2 k w h
+shown_then (Some scans) s s0 s1 s2 w k h = converted_then Meaning (front_conversion scans s) s0 s1 s2 k w h
+
 show_then : (b : Bool) (a : ShowAsked) (s0 s1 s2 : DeskState) (w : Why) → OnlySays s1 s2 → RanShow b a s0 w s1 → RanShow b a s0 w s2
-show_then true a s0 s1 s2 w k (inl t) = inl (converted_then Meaning (showing_conversion (showing_of a)) s0 s1 s2 k w t)
+show_then true a s0 s1 s2 w k (inl t) = inl (shown_then a.preview (showing_of a) s0 s1 s2 w k t)
 show_then true a s0 s1 s2 w k (inr t) = inr (t.0, untouched_then s0 s1 s2 k t.1)
 show_then false a s0 s1 s2 w k t = (t.0, untouched_then s0 s1 s2 k t.1)
 

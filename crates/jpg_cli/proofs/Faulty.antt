@@ -10,13 +10,14 @@ use Rattle.jpg_spec.specs.declared.fault.FaultAt.{FaultAt}
 use Rattle.jpg_spec_words.specs.declared.answers.Why.{Why}
 use Rattle.jpg_spec_words.specs.declared.answers.Why.TheVariants as why
 use Rattle.jpg_spec_write.specs.declared.picture_fault.PictureFault.{PictureFault}
-use Rattle.jpg_cli.specs.Certain.{HasFaultyImage, HasFaultyInput, HasFaultyPicture, HasFaultyScript, IsOrNoMemory}
+use Rattle.jpg_cli.specs.Certain.{HasFaultyFront, HasFaultyImage, HasFaultyInput, HasFaultyPicture, HasFaultyScript, IsOrNoMemory}
 use Rattle.jpg_cli.specs.Commands.{name_of}
 use Rattle.jpg_cli.specs.Due.{NoneRose, TellsFiles}
+use Rattle.jpg_cli.specs.Tools.FrontShown.{FrontShown}
 use Rattle.jpg_cli.specs.Tools.Showing.{Showing, Shown}
 use Rattle.jpg_cli.specs.Tools.Turned.{Transformed}
 use Rattle.jpg_cli.proofs.Due.{is_file, tells_files}
-use Rattle.jpg_cli.proofs.DueCommands.{show_answered, turn_answered}
+use Rattle.jpg_cli.proofs.DueCommands.{front_answered, show_answered, turn_answered}
 use Rattle.jpg_cli.proofs.TakenOnce.{told_fault, told_scans}
 
 -- THE SCRIPT'S FILE has a fault
@@ -60,3 +61,7 @@ picture_answered a f old new w has none turned =
 pub image_answered : (s : Showing) (f : FaultAt) (old new : DeskState) (w : Why) → HasFaultyImage s f old → NoneRose old.counts new.counts → Shown s old w new → IsOrNoMemory (why.Refused f) w
 image_answered s f old new w has none shown =
     show_answered s (why.Refused f) w old new (tells_files old s.input has.bytes has.told) (record { bytes = has.bytes; file = is_file old.files s.input has.bytes has.told; refused = has.refused }) none shown
+
+pub front_faulty : (scans : ℕ) (s : Showing) (f : FaultAt) (old new : DeskState) (w : Why) → HasFaultyFront scans s f old → NoneRose old.counts new.counts → FrontShown scans s old w new → IsOrNoMemory (why.Refused f) w
+front_faulty scans s f old new w has none shown =
+    front_answered scans s (why.Refused f) w old new (tells_files old s.input has.bytes has.told) (record { bytes = has.bytes; file = is_file old.files s.input has.bytes has.told; refused = has.refused }) none shown

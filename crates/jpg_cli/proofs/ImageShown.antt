@@ -30,8 +30,9 @@ use Rattle.jpg_cli.specs.Desk.Judging.{done_as}
 use Rattle.jpg_cli.specs.Run.{RanShow}
 use Rattle.jpg_cli.specs.Words.ShowWords.{show_told}
 use Rattle.jpg_cli.specs.Outcome.{WritesPart}
-use Rattle.jpg_cli.specs.Tools.Showing.{AfterImage, IsInTime, ReadsShown, Shown, ShownBy, Showing, showing_conversion, shown_text}
-use Rattle.jpg_cli.specs.declared.words.djpeg.ShowWords.{ShowWords}
+use Rattle.jpg_cli.specs.Tools.FrontShown.{ShownAs, ShownBy}
+use Rattle.jpg_cli.specs.Tools.Showing.{AfterImage, IsInTime, ReadsShown, Shown, Showing, showing_conversion, shown_text}
+use Rattle.jpg_cli.specs.declared.words.djpeg_request.ShowWords.{ShowWords}
 use Rattle.jpg_cli.proofs.Endings.{asks_next}
 use Rattle.jpg_cli.proofs.InsertedThen.{same_name}
 use Rattle.jpg_cli.proofs.Outcome.{HasValueRead, value_on, wrote_on}
@@ -127,6 +128,6 @@ shown_written s M early s0 s1 s2 other h k = absurd k
 pub asked_shown : (b : Bool) (w : ShowWords) (s0 s1 : DeskState) (ended : Why) → ShownBy b w s0 ended s1 → RanShow b (show_told w) s0 ended s1
 asked_shown true w s0 s1 ended h =
     let of : Name → Name → Showing = λ i o. record { input = i; output = o; kind = w.kind; gray = w.gray; smooth = w.smooth } in
-    inl (subst (λ i. Shown (of i (name_of (file_told w.files.output))) s0 ended s1) (sym (same_name w.files.input))
-    (subst (λ o. Shown (of w.files.input o) s0 ended s1) (sym (same_name w.files.output)) h))
+    inl (subst (λ i. ShownAs w.preview (of i (name_of (file_told w.files.output))) s0 ended s1) (sym (same_name w.files.input))
+    (subst (λ o. ShownAs w.preview (of w.files.input o) s0 ended s1) (sym (same_name w.files.output)) h))
 asked_shown false w s0 s1 ended h = (inl h.0, h.1)

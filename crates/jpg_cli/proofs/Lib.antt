@@ -14,11 +14,16 @@ pub mod DueCommands
 pub mod Ending
 pub mod Endings
 pub mod FactorsNamed
+pub mod FaultNumbers
 pub mod Faulty
 pub mod FirstRead
 pub mod FirstShown
 pub mod FirstSteps
 pub mod FoundEnds
+pub mod FrontBytes
+pub mod FrontJudged
+pub mod FrontShown
+pub mod FrontTaken
 pub mod HeadTaken
 pub mod ImageAnswers
 pub mod ImageEncoded

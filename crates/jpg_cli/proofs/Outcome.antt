@@ -8,10 +8,10 @@ use Rattle.jpg_spec_words.specs.declared.answers.Why.{Why}
 use Rattle.jpg_spec_words.specs.declared.answers.Why.TheVariants as why
 use Rattle.jpg_spec_words.specs.declared.answers.Which.TheVariants as which
 use Rattle.jpg_spec_write.specs.declared.picture_fault.PictureFault.{PictureFault}
-use Rattle.jpg_cli.specs.Endings.{Added, Asks, GoesOnAfter, Stopped}
+use Rattle.jpg_cli.specs.Endings.{Added, Asks, GoesOnAfter, Stopped, Unopened}
 use Rattle.jpg_cli.specs.Desk.Judging.{IsAllRead, IsInput, NoValueRead, ReadsFrom, done_as, input_names, left_of}
-use Rattle.jpg_cli.specs.Desk.Reading.{rest_of}
-use Rattle.jpg_cli.specs.Outcome.{Conversion, Converted, InputUnopened, MayCreate, ReadsValue, RowTexts, Writing, at_end, by_rows, RunsShort, StopsReading, StopsWriting, WritesPart, WritesRowsInPart, WritesValue, all_bytes, bytes_before, names_to_read, names_to_write}
+use Rattle.jpg_cli.specs.Desk.Reading.{rest_of, IsFile}
+use Rattle.jpg_cli.specs.Outcome.{Conversion, Converted, InputUnopened, MayCreate, ReadsValue, RowTexts, Writing, at_end, by_rows, RunsShort, StopsReading, StopsWriting, WritesPart, WritesRowsInPart, WritesValue, all_bytes, bytes_before, names_to_read, names_to_write, drawn}
 use Rattle.jpg_cli.specs.Desk.Writing.{AfterMade, AfterOutput, as_early}
 use Rattle.jpg_cli.specs.declared.desk.moved.Wrote.TheVariants as wrote
 use Rattle.jpg_cli.specs.Stays.{Keeps, OnlySays, Untouched}
@@ -40,9 +40,9 @@ value_still V c x early fault s0 s1 s2 e h = record { read = reads_still s0 s1 s
 
 -- whenever the output is written
 pub so_read : (V : Type 0) (c : Conversion V) (w : Writing) (upto : List ℕ → List ℕ) (Is : List ℕ → Type 0) (s0 s1 : DeskState) → StopsReading c w upto Is s0 s1 → ReadsFrom c.input Is s0 s1
-so_read V c at_end upto Is s0 s1 h = h.1
 so_read V c (by_rows r) upto Is s0 s1 (inl h) = record { bytes = h.1.bytes; read = h.1.read; most = h.1.most; is = h.1.is.0 }
 so_read V c (by_rows r) upto Is s0 s1 (inr h) = record { bytes = (h.read).bytes; read = (h.read).read; most = (h.read).most; is = (h.read).is.0 }
+so_read V c other upto Is s0 s1 h = h.1
 
 -- A MESSAGE THEN
 
@@ -68,7 +68,6 @@ module _ (V : Type 0) (c : Conversion V) (s0 s1 s2 : DeskState) (k : OnlySays s1
   }
 
   reading_then : (w : Writing) (upto : List ℕ → List ℕ) (Is : List ℕ → List ℕ → Type 0) → StopsReading c w upto (Is (left_of c.input s1)) s0 s1 → StopsReading c w upto (Is (left_of c.input s2)) s0 s2
-  reading_then at_end upto Is h = (stopped_then s0 s1 s2 (names_to_read c) put.Done k h.0, reads_still s0 s1 s2 c.input Is k.same.left h.1)
   reading_then (by_rows r) upto Is (inl h) =
       inl (stopped_then s0 s1 s2 (names_to_read c) put.Done k h.0, reads_still s0 s1 s2 c.input (λ rest bytes. Is rest bytes × (r.begin (upto bytes) → ⊥)) k.same.left h.1)
   reading_then (by_rows r) upto Is (inr h) = inr (record {
@@ -76,19 +75,22 @@ module _ (V : Type 0) (c : Conversion V) (s0 s1 s2 : DeskState) (k : OnlySays s1
     read = reads_still s0 s1 s2 c.input (λ rest bytes. Is rest bytes × r.begin (upto bytes) × r.complete (upto bytes) h.text) k.same.left h.read;
     wrote = wrote_then s0 s1 s2 (names_to_read c) c.output h.text k h.wrote;
   })
+  reading_then other upto Is h = (stopped_then s0 s1 s2 (names_to_read c) put.Done k h.0, reads_still s0 s1 s2 c.input Is k.same.left h.1)
 
   create_then : (w : Writing) → MayCreate c w s0 s1 → MayCreate c w s0 s2
-  create_then at_end (x, early, h) = (x, early, value_still V c x early None s0 s1 s2 k.same.left h)
   create_then (by_rows r) (inl (x, early, h)) = inl (x, early, value_still V c x early None s0 s1 s2 k.same.left h)
   create_then (by_rows r) (inr h) = inr (reads_still s0 s1 s2 c.input (λ rest bytes. c.judging.short bytes × r.begin bytes) k.same.left h)
+  create_then other h = (h.0, h.1, value_still V c h.0 h.1 None s0 s1 s2 k.same.left h.2)
 
   writing_then : (w : Writing) → StopsWriting c w s0 s1 → StopsWriting c w s0 s2
-  writing_then at_end h = part_then h
   writing_then (by_rows r) (inl h) = inl (record { part = part_then h.part; early = h.early })
   writing_then (by_rows r) (inr h) = inr (record { part = rows_then r h.part; early = h.early })
+  writing_then other h = part_then h
 
   short_then : (w : Writing) → RunsShort c w s0 s1 → RunsShort c w s0 s2
   short_then at_end h = (stopped_then s0 s1 s2 (names_to_read c) put.Done k h.0, reads_still s0 s1 s2 c.input (λ rest. c.judging.short) k.same.left h.1)
+  short_then drawn (inl h) = inl (stopped_then s0 s1 s2 (names_to_read c) put.Done k h.0, reads_still s0 s1 s2 c.input (λ rest. c.judging.short) k.same.left h.1)
+  short_then drawn (inr h) = inr (record { part = part_then h.part; left = h.left })
   short_then (by_rows r) (inl h) = inl (stopped_then s0 s1 s2 (names_to_read c) put.Done k h.0, reads_still s0 s1 s2 c.input (λ rest. c.judging.short) k.same.left h.1)
   short_then (by_rows r) (inr (inl h)) = inr (inl (record { part = part_then h.part; left = h.left }))
   short_then (by_rows r) (inr (inr h)) = inr (inr (record {
@@ -153,6 +155,17 @@ converted_unread V c input s0 s1 (why.OpenFault which.Input) h = h
 converted_unread V c input s0 s1 (why.ReadFault which.Input) h = (h.0.reads, (h.0.stopped, h.1))
 converted_unread V c input s0 s1 why.NoMemory h = h
 converted_unread V c input s0 s1 other h = absurd h
+
+-- where the output would have been drawn
+abbrev pub drawn_from : (V : Type 0) → Name → Conversion V → Conversion V
+drawn_from V input c = record c { before = []; input = Some input; writing = drawn }
+
+pub drawn_unread : (V : Type 0) (c : Conversion V) (input : Name) (s0 s1 : DeskState) (w : Why) → NoValueRead c.judging input s0 w s1 → Converted (drawn_from V input c) s0 w s1
+drawn_unread V c input s0 s1 (why.Refused f) h = h
+drawn_unread V c input s0 s1 (why.OpenFault which.Input) h = h
+drawn_unread V c input s0 s1 (why.ReadFault which.Input) h = (h.0.reads, (h.0.stopped, h.1))
+drawn_unread V c input s0 s1 why.NoMemory h = inl h
+drawn_unread V c input s0 s1 other h = absurd h
 
 -- A VALUE was read, and its desk is used further
 

@@ -176,6 +176,14 @@ fault_or w bytes piece old r f o e h short s told = by o told
     by None told = λ rest. refused_piece w bytes piece r.file.head f short stop told rest
     by (Some g) told = λ rest. unwanted_stop w bytes piece old r.file.head f g h short stop told rest
 
+-- WHAT BYTES MEAN can be displayed, if nothing in them says that it can't
+pub can_be_shown : (gray : Bool) (bytes : List ℕ) (M : Meaning) → IsMeaning standard_limits bytes M → ((f : FaultAt) → IsNotShown standard_limits gray bytes f → ⊥) → out_fault gray M ≡ None
+can_be_shown gray bytes M means shown = by (out_fault gray M) refl
+  where
+    by : (o : Option Fault) → out_fault gray M ≡ o → o ≡ None
+    by None same = refl
+    by (Some fault) same = let t = (shown_alike standard_limits gray bytes M means).told fault same in absurd (shown t.0 t.1)
+
 -- THE END
 
 pub fault_at_end : (bytes : List ℕ) (f : Fault) (n : ℕ) → UnfinishedFile standard_limits bytes → length bytes < standard_limits.input → IsFirstFault standard_limits bytes f n → n ≡ length bytes
@@ -206,10 +214,6 @@ early_end w bytes r new n e h (count, early) = record { count = count; ended = e
     means : IsMeaning standard_limits bytes (meaning_of (frame_of new.limits early.segments) early.segments early.blocks)
     means = inr (subst (λ (l : Limits). MeansEarly l bytes (meaning_of (frame_of new.limits early.segments) early.segments early.blocks)) e early.early)
 
-    none : (gray : Bool) (o : Option Fault) → out_fault gray M ≡ o → ((f : FaultAt) → IsNotShown standard_limits gray bytes f → ⊥) → o ≡ None
-    none gray None same shown = refl
-    none gray (Some fault) same shown = let t = (shown_alike standard_limits gray bytes M means).told fault same in absurd (shown t.0 t.1)
-
     by : (w : Wanted) → ((f : FaultAt) → IsUnwanted w bytes f → ⊥) → unwanted_for w M ≡ None
     by Coefficients shown = refl
-    by (Image gray) shown = none gray (out_fault gray M) refl shown
+    by (Image gray) shown = can_be_shown gray bytes M means shown

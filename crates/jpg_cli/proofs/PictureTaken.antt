@@ -24,7 +24,7 @@ use Rattle.jpg_file.specs.declared.read.picture.Picture.{Picture}
 use Rattle.jpg_cli.specs.Endings.{Stopped}
 use Rattle.jpg_cli.specs.Desk.Reading.{rest_of}
 use Rattle.jpg_cli.specs.Desk.Judging.{IsAllRead, Judging, NoValueRead, NoValueTaken, ReadsFrom, TakesPieces}
-use Rattle.jpg_cli.specs.Desk.ReadPicture.{AfterFileEnd, AfterNextPiece, AfterPictureEnd, AfterTakingPiece, EndDone, EndsEarly, EndsReading, PictureGoesOn, HasFed, HoldsPicture, HoldsEarly, HoldsFile, IsEarlyRead, IsReadPicture, IsRefusedRead, IsWholeRead, PictureRead, picture_judging}
+use Rattle.jpg_cli.specs.Desk.ReadPicture.{AfterFileEnd, AfterNextPiece, AfterPictureEnd, AfterTakingPiece, EndDone, EndsEarly, EndsMeaning, EndsReading, PictureGoesOn, HasFed, HoldsPicture, HoldsEarly, HoldsFile, IsEarlyRead, IsRefusedRead, IsWholeRead, MeaningRead}
 use Rattle.jpg_cli.specs.Stays.{OnlyReads}
 use Rattle.jpg_cli.specs.declared.desk.picture.PictureStep.{PictureStep}
 use Rattle.jpg_cli.specs.declared.desk.picture.Wanted.{Wanted}
@@ -129,6 +129,6 @@ none_taken V j s0 s1 s2 file (why.ReadFault which.Input) h k e = (
 none_taken V j s0 s1 s2 file why.NoMemory h k e = (stopped_there s0 s1 s2 file h k, reads_from s0 s1 s2 file j.short h e)
 none_taken V j s0 s1 s2 file other h k e = absurd e
 
-pub picture_read : (w : Wanted) (keeping : Copying) (s0 s1 s2 : DeskState) (file : Name) (answer : Result (Picture × Option ℕ) Why) → Opens s0 file put.Done s1 → OnlyReads s1 s2 → EndsReading w keeping s1 answer s2 → PictureRead w keeping file s0 answer s2
-picture_read w keeping s0 s1 s2 file (Ok found) h k ((M, means, e), all) = (noted s0 s1 s2 file h k, (M, means, reads_from s0 s1 s2 file (IsReadPicture w M found.1) h e), all)
-picture_read w keeping s0 s1 s2 file (Err ended) h k e = none_taken Meaning (picture_judging w) s0 s1 s2 file ended h k e
+pub meaning_read : (j : Judging Meaning) (keeping : Copying) (s0 s1 s2 : DeskState) (file : Name) (answer : Result (Picture × Option ℕ) Why) → Opens s0 file put.Done s1 → OnlyReads s1 s2 → EndsMeaning j keeping s1 answer s2 → MeaningRead j keeping file s0 answer s2
+meaning_read j keeping s0 s1 s2 file (Ok found) h k ((M, means, e), all) = (noted s0 s1 s2 file h k, (M, means, reads_from s0 s1 s2 file (j.has M found.1 (rest_of s2.left)) h e), all)
+meaning_read j keeping s0 s1 s2 file (Err ended) h k e = none_taken Meaning j s0 s1 s2 file ended h k e

@@ -42,13 +42,14 @@ use Rattle.jpg_cli.specs.Desk.Reading.{rest_of}
 use Rattle.jpg_cli.specs.Desk.ReadPicture.{IsReadPicture}
 use Rattle.jpg_cli.specs.Outcome.{Converted}
 use Rattle.jpg_cli.specs.Stays.{Untouched}
-use Rattle.jpg_cli.specs.Tools.Showing.{Showing, Shown, ShownBy, showing_told}
+use Rattle.jpg_cli.specs.Tools.FrontShown.{ShownAs, ShownBy}
+use Rattle.jpg_cli.specs.Tools.Showing.{Showing, Shown, showing_told}
 use Rattle.jpg_cli.specs.Tools.Turned.{Transformed, Turned, Turning}
 use Rattle.jpg_cli.specs.Tools.Worked.{DidWork, HasFile, HasOutput, HoldsInput, IsReport, IsShown, ReportsShown, ShowsFile, TurnsFile, WritesReport, work_choice, work_conversion, scans_by}
 use Rattle.jpg_cli.specs.declared.desk.picture.Wanted.{Wanted}
 use Rattle.jpg_cli.specs.declared.desk.picture.Wanted.TheVariants.{Coefficients, Image}
-use Rattle.jpg_cli.specs.declared.words.djpeg.ShowWords.{ShowWords}
 use Rattle.jpg_cli.proofs.CommentInserted.{none_noted}
+use Rattle.jpg_cli.specs.declared.words.djpeg_request.ShowWords.{ShowWords}
 use Rattle.jpg_cli.proofs.Due.{one_file}
 use Rattle.jpg_cli.proofs.Judged.{picture_judged}
 use Rattle.jpg_cli.proofs.Input.{some_inj}
@@ -152,10 +153,11 @@ showing = record { input = name.In; output = name.Out; kind = Pnm; gray = false;
 not_usage : (u : Usage) → (why.Done ≡ why.Usage u) → ⊥
 not_usage u e = cc
 
-pub shown_done : (has : Bool) (w : ShowWords) (input : List ℕ) (desk now : MemoryDesk) → showing_told w ≡ showing → HoldsInput input desk → ShownBy has w (memory_state desk) why.Done (memory_state now) → ShowsFile has input (Ok now)
-shown_done false w input desk now is holds shown M means = absurd (not_usage _ shown.0)
-shown_done true w input desk now is holds shown M means =
-    let done : Shown showing (memory_state desk) why.Done (memory_state now) = subst (λ (s : Showing). Shown s (memory_state desk) why.Done (memory_state now)) is shown in
+pub shown_done : (has : Bool) (w : ShowWords) (input : List ℕ) (desk now : MemoryDesk) → showing_told w ≡ showing → w.preview ≡ None → HoldsInput input desk → ShownBy has w (memory_state desk) why.Done (memory_state now) → ShowsFile has input (Ok now)
+shown_done false w input desk now is all holds shown M means = absurd (not_usage _ shown.0)
+shown_done true w input desk now is all holds shown M means =
+    let done : Shown showing (memory_state desk) why.Done (memory_state now) = subst (λ (s : Showing). Shown s (memory_state desk) why.Done (memory_state now)) is
+    (subst (λ (o : Option ℕ). ShownAs o (showing_told w) (memory_state desk) why.Done (memory_state now)) all shown) in
     let N : Meaning = done.0 in
     let same : M ≡ N = read_once (Image false) input (memory_state desk) (memory_state now) M N holds.told means done.1.0.read in
     let here : HasOutput (end_text Pnm (info N false) (pixels N false true)) now =

@@ -15,6 +15,7 @@ use Rattle.jpg_spec_write.specs.ScriptGrammar.{TellsScript}
 use Rattle.jpg_spec_words.specs.TransformWords.{ScansSource, own_sequential, own_progressive, in_file, TransformAsked, choice_asked}
 use Rattle.jpg_spec_image.specs.Pixels.{out_fault}
 use Rattle.jpg_cli.specs.Tools.CommentInserted.{Task}
+use Rattle.jpg_cli.specs.Desk.ReadFront.{FrontMeansAs, IsFrontRefused}
 use Rattle.jpg_cli.specs.Desk.ReadPicture.{IsRefusedFor}
 use Rattle.jpg_cli.specs.Tools.Showing.{Showing}
 use Rattle.jpg_cli.specs.declared.desk.picture.Wanted.TheVariants.{Coefficients, Image}
@@ -104,6 +105,16 @@ pub record HasImage (s : Showing) (old : DeskState) : Type 0 where
   pub means : MeansAs standard_limits early bytes meaning
   pub shown : out_fault s.gray meaning ≡ None
 
+-- The input is known, and its front for so many scans means a picture that can be displayed; or the input ends early
+-- before, and means one.
+pub record HasShownFront (scans : ℕ) (s : Showing) (old : DeskState) : Type 0 where
+  pub early : Option ℕ
+  pub bytes : List ℕ
+  pub meaning : Meaning
+  pub told : IsTold old.files s.input bytes
+  pub means : FrontMeansAs scans early bytes meaning
+  pub shown : out_fault s.gray meaning ≡ None
+
 -- bytes that mean something, complete or ending early
 abbrev pub HasSomeMeaning : List ℕ → Type 0
 HasSomeMeaning bytes = (M : Meaning) × IsMeaning standard_limits bytes M
@@ -159,3 +170,9 @@ pub record HasFaultyImage (s : Showing) (f : FaultAt) (old : DeskState) : Type 0
   pub bytes : List ℕ
   pub told : IsTold old.files s.input bytes
   pub refused : IsRefusedFor (Image s.gray) bytes f
+
+-- The front of the input is refused with this fault, where its image is asked for.
+pub record HasFaultyFront (scans : ℕ) (s : Showing) (f : FaultAt) (old : DeskState) : Type 0 where
+  pub bytes : List ℕ
+  pub told : IsTold old.files s.input bytes
+  pub refused : IsFrontRefused scans s.gray bytes f

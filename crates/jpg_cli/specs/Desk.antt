@@ -5,6 +5,7 @@ pub mod ImageLoop
 pub mod ImageSource
 pub mod ImageWritten
 pub mod Judging
+pub mod ReadFront
 pub mod ReadImage
 pub mod ReadPicture
 pub mod Reading

@@ -15,6 +15,7 @@ use Rattle.jpg_cli.specs.Desk.ScriptTaken.{HasScans, HasScansFault, names_before
 use Rattle.jpg_cli.specs.Desk.TablesTaken.{HasTables, HasTablesFault, tables_names}
 use Rattle.jpg_cli.specs.Outcome.{Conversion}
 use Rattle.jpg_cli.specs.Tools.ImageEncoded.{encoding_conversion, task_after}
+use Rattle.jpg_cli.specs.Tools.FrontShown.{front_conversion}
 use Rattle.jpg_cli.specs.Tools.Showing.{Showing, showing_conversion}
 use Rattle.jpg_cli.specs.Tools.Turned.{turning_conversion, turning_of}
 
@@ -75,6 +76,10 @@ IsAnswerDue a old ended = OrNoMemory (IsTurnDue a) old ended
 -- djpeg
 abbrev pub IsShowDue : Showing → DeskState → Why → Type 0
 IsShowDue s old ended = OrNoMemory (IsDueFor (showing_conversion s)) old ended
+
+-- of a front for so many scans
+abbrev pub IsFrontDue : ℕ → Showing → DeskState → Why → Type 0
+IsFrontDue scans s old ended = OrNoMemory (IsDueFor (front_conversion scans s)) old ended
 
 -- cjpeg: by its scans, and then by its tables
 abbrev pub IsEncodeDueIn : EncodeAsked → Scans → DeskState → Why → Type 0

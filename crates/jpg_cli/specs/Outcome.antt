@@ -19,9 +19,11 @@ pub record RowTexts : Type 1 where
   pub complete : List ℕ → List ℕ → Type 0
   pub determine : List ℕ → List ℕ → Type 0
 
--- whether the output is created after the input was read, or written while it is
+-- whether the output is created after the input was read, with all that it needs at hand; or while memory is still
+-- asked for; or written while the input is read
 pub data Writing : Type 1 where
   at_end : Writing
+  drawn : Writing
   by_rows : RowTexts → Writing
 
 -- A CONVERSION: the names that are opened before, that of the input, if there is one, and that of the output; what is
@@ -125,22 +127,22 @@ pub record WritesRowsInTime (V : Type 0) (c : Conversion V) (r : RowTexts) (old 
 
 -- This holds of the bytes that were read: no output was added, or it has the rows that those that count complete.
 abbrev pub StopsReading : {V : Type 0} → Conversion V → Writing → (List ℕ → List ℕ) → (List ℕ → Type 0) → DeskState → DeskState → Type 0
-StopsReading c at_end upto Is old new = Stopped (names_to_read c) put.Done old new × ReadsFrom c.input Is old new
 StopsReading {V} c (by_rows r) upto Is old new =
     (Stopped (names_to_read c) put.Done old new × ReadsFrom c.input (IsNotBegun r upto Is) old new) ⊎ WritesRows V c r upto Is old new
+StopsReading c other upto Is old new = Stopped (names_to_read c) put.Done old new × ReadsFrom c.input Is old new
 
 -- when the output is created: a value was read whose result has no fault, or rows begin
 abbrev pub ReadsAdmitted : {V : Type 0} → Conversion V → DeskState → DeskState → Type 0
 ReadsAdmitted {V} c old new = (x : V) × (early : Option ℕ) × ReadsValue V c x early None old new
 
 abbrev pub MayCreate : {V : Type 0} → Conversion V → Writing → DeskState → DeskState → Type 0
-MayCreate c at_end old new = ReadsAdmitted c old new
 MayCreate c (by_rows r) old new = ReadsAdmitted c old new ⊎ ReadsFrom c.input (λ bytes. c.judging.short bytes × r.begin bytes) old new
+MayCreate c other old new = ReadsAdmitted c old new
 
 -- the output wasn't written to its end
 abbrev pub StopsWriting : {V : Type 0} → Conversion V → Writing → DeskState → DeskState → Type 0
-StopsWriting {V} c at_end old new = WritesPart V c old new
 StopsWriting {V} c (by_rows r) old new = WritesPartInTime V c r old new ⊎ WritesRowsInTime V c r old new
+StopsWriting {V} c other old new = WritesPart V c old new
 
 -- there was no memory
 abbrev pub StopsShort : {V : Type 0} → Conversion V → DeskState → DeskState → Type 0
@@ -148,13 +150,14 @@ StopsShort c old new = Stopped (names_to_read c) put.Done old new × ReadsFrom c
 
 abbrev pub RunsShort : {V : Type 0} → Conversion V → Writing → DeskState → DeskState → Type 0
 RunsShort c at_end old new = StopsShort c old new
+RunsShort {V} c drawn old new = StopsShort c old new ⊎ WritesLess V c old new
 RunsShort {V} c (by_rows r) old new = StopsShort c old new ⊎ (WritesLess V c old new ⊎ WritesLessRows V c r old new)
 
 -- THE ANSWERS: Done, or Warned if the input ended early: the output has the text of what is made of the input's value,
 -- which has no fault. If the output wasn't written to its end, it has a first part of that text. It is created only
 -- after a value was read whose result has no fault; or, where rows are written before, it has those that are ready
--- before a fault's place, or if reading fails, those of all bytes that were read, and after NoMemory not all of the
--- text.
+-- before a fault's place, or if reading fails, those of all bytes that were read. After NoMemory it has not all of the
+-- text, and there is none where all that it needs was at hand.
 abbrev pub Converted : {V : Type 0} → Conversion V → DeskState → Why → DeskState → Type 0
 Converted {V} c old why.Done new = (x : V) × WritesValue c x None old new
 Converted {V} c old (why.Warned n) new = (x : V) × WritesValue c x (Some n) old new

@@ -17,7 +17,8 @@ use Rattle.jpg_cli.specs.Tools.CommentInserted.{Inserted, Task}
 use Rattle.jpg_cli.specs.Tools.ImageEncoded.{EncodedAsAsked}
 use Rattle.jpg_cli.specs.Tools.ReadComments.{Printed}
 use Rattle.jpg_cli.specs.Tools.Ends.{has_format}
-use Rattle.jpg_cli.specs.Tools.Showing.{Showing, Shown}
+use Rattle.jpg_cli.specs.Tools.FrontShown.{ShownAs}
+use Rattle.jpg_cli.specs.Tools.Showing.{Showing}
 use Rattle.jpg_cli.specs.Stays.{FilesStay, OnlyWorks, Untouched}
 use Rattle.jpg_cli.specs.Tools.Turned.{Transformed}
 use Rattle.jpg_cli.specs.Tools.Worked.{DidWork}
@@ -28,12 +29,13 @@ abbrev pub SaysText : DeskState → List ℕ → DeskState → Type 0
 SaysText old text new =
     Appends old.said new.said text ⊎ (Rose old.counts.says new.counts.says × ((n : ℕ) × Appends old.said new.said (take n text)))
 
--- A picture is decoded, if one of the image writers has the format, or there was no memory for the names of its files.
+-- A picture is decoded, or the front of its file, if one of the image writers has the format, or there was no memory
+-- for the names of its files.
 abbrev pub showing_of : ShowAsked → Showing
 showing_of a = record { input = name_of a.files.input; output = name_of a.files.output; kind = a.kind; gray = a.gray; smooth = a.smooth }
 
 abbrev pub RanShow : Bool → ShowAsked → DeskState → Why → DeskState → Type 0
-RanShow true a old ended new = Shown (showing_of a) old ended new ⊎ ((ended ≡ why.NoMemory) × Untouched old new)
+RanShow true a old ended new = ShownAs a.preview (showing_of a) old ended new ⊎ ((ended ≡ why.NoMemory) × Untouched old new)
 RanShow false a old ended new = ((ended ≡ why.Usage (record { fault = NoEnd; word = a.kind_word })) ⊎ (ended ≡ why.NoMemory)) × Untouched old new
 
 -- The comments of the input are printed, or there was no memory for its name.

@@ -1,5 +1,6 @@
 pub mod CommentInserted
 pub mod Ends
+pub mod FrontShown
 pub mod ImageEncoded
 pub mod InsertComment
 pub mod ReadComments

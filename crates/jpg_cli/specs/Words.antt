@@ -3,6 +3,7 @@ pub mod CommentWords
 pub mod EncodeWords
 pub mod Files
 pub mod Requests
+pub mod Scans
 pub mod ShowWords
 pub mod Switches
 pub mod TransformWords

@@ -2,6 +2,7 @@
 
 pub mod comment;
 pub mod file;
+pub mod front;
 pub mod image;
 pub mod image_source;
 pub mod moved;

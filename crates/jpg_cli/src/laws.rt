@@ -7,7 +7,7 @@ ghost use Rattle.jpg_spec_move.specs.declared.transform.Transform.{Transform};
 ghost use Rattle.jpg_spec.specs.declared.fault.FaultAt.{FaultAt};
 ghost use Rattle.jpg_spec_words.specs.declared.answers.Why.TheVariants as why;
 ghost use Rattle.jpg_spec_write.specs.declared.picture_fault.PictureFault.{PictureFault};
-ghost use Rattle.jpg_cli.specs.Due.{IsAnswerDue, IsDueOrNoMemory, IsEncodeDue, IsShowDue, TellsFiles};
+ghost use Rattle.jpg_cli.specs.Due.{IsAnswerDue, IsDueOrNoMemory, IsEncodeDue, IsFrontDue, IsShowDue, TellsFiles};
 ghost use Rattle.jpg_cli.specs.Tools.Turned.{Transformed};
 ghost use Rattle.jpg_spec_words.specs.EncodeWords.{EncodeAsked};
 ghost use Rattle.jpg_spec_words.specs.TransformWords.{TransformAsked};
@@ -15,14 +15,16 @@ ghost use Rattle.jpg_spec_words.specs.declared.answers.Why.{Why};
 ghost use Rattle.jpg_cli.specs.Tools.ImageEncoded.{EncodedAsAsked};
 ghost use Rattle.jpg_cli.specs.Tools.ReadComments.{IsPrintDue, Printed};
 ghost use Rattle.jpg_cli.specs.Tools.CommentInserted.{Inserted, IsInsertDue, Task};
+ghost use Rattle.jpg_cli.specs.Desk.ReadFront.{IsFrontRefused};
 ghost use Rattle.jpg_cli.specs.Desk.ReadPicture.{IsRefusedFor};
+ghost use Rattle.jpg_cli.specs.Tools.FrontShown.{FrontShown};
 ghost use Rattle.jpg_cli.specs.Tools.Showing.{Showing, Shown};
 ghost use Rattle.jpg_cli.specs.declared.desk.picture.Wanted.{Wanted};
 ghost use Rattle.jpg_cli.specs.declared.desk.picture.Wanted.TheVariants.{Coefficients, Image};
 ghost use Rattle.jpg_cli.specs.KeepingLaws.{MissNothing};
 ghost use Rattle.jpg_cli.specs.Laws.{AnswersOrNoMemory, MeanSame, MeanShown, WasRefused, WasRefusedShown, WasTurnedBack, WhateverRose, WhereNoneRose, text_back};
-ghost use Rattle.jpg_cli.specs.Certain.{HasFaultyImage, HasFaultyInput, HasFaultyPicture, HasFaultyScript};
-ghost use Rattle.jpg_cli.specs.Certain.{HasFile, HasFrameHeader, HasImage, HasPicture, HasWholeFile};
+ghost use Rattle.jpg_cli.specs.Certain.{HasFaultyFront, HasFaultyImage, HasFaultyInput, HasFaultyPicture, HasFaultyScript};
+ghost use Rattle.jpg_cli.specs.Certain.{HasFile, HasFrameHeader, HasImage, HasPicture, HasShownFront, HasWholeFile};
 ghost use Rattle.jpg_cli.specs.Certain.{HasSomeMeaning, IsNotRefused, IsDoneAsOrWanting, IsDoneOrWanting};
 
 /// If no count of open, read or write rose, a run that transforms a picture ends as its scans and its input determine:
@@ -61,6 +63,23 @@ pub fn shown_answers_are_due()
 /// read or write rose, the run ends with Done, if it ends early with Warned and its length, or with NoMemory.
 pub fn pictures_are_shown()
     ensures { (s : Showing) (old : DeskState) → (has : HasImage s old) → WhereNoneRose (Shown s) old (IsDoneAsOrWanting has.early) }
+{}
+
+/// If no count of open, read or write rose, a run that shows the front of a picture's file for so many scans ends as its
+/// input determines: Done if the front means a picture that can be displayed, as a complete file or up to the marker
+/// after these scans; Warned if the input ends early before and means one; Refused with the front's first fault or
+/// because it can't be displayed, whichever comes first, or NoMemory.
+pub fn shown_fronts_are_due()
+    ensures { (scans : ℕ) (showing : Showing) (old : DeskState) → WhereNoneRose (FrontShown scans showing) old (IsFrontDue scans showing old) }
+{}
+
+/// A front that means a picture that can be displayed has its image written, whatever follows it: if the desk knows the
+/// file, and no count of open, read or write rose, the run ends with Done, if the file ends early before with Warned and
+/// its length, or with NoMemory. A front with a fault is refused with that.
+pub fn fronts_are_shown()
+    ensures certain { (scans : ℕ) (s : Showing) (old : DeskState) → (has : HasShownFront scans s old) → WhereNoneRose (FrontShown scans s) old (IsDoneAsOrWanting has.early) }
+    ensures faulty { (scans : ℕ) (s : Showing) (f : FaultAt) (old : DeskState) → HasFaultyFront scans s f old → AnswersOrNoMemory (FrontShown scans s) old (why.Refused f) }
+    ensures one { (scans : ℕ) (gray : Bool) (input : List ℕ) (f g : FaultAt) → IsFrontRefused scans gray input f → IsFrontRefused scans gray input g → f ≡ g }
 {}
 
 /// If no count of open, read or write rose, a run that encodes an image ends as its scans, its tables and its image

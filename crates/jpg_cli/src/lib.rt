@@ -13,15 +13,15 @@ pub use desk::moved::{Wrote, write_moved};
 pub use desk::picture::Wanted;
 pub use laws::{
     answers_are_due, encodings_are_due, files_with_a_frame_header_have_the_comment_inserted,
-    inserted_comments_are_due, pictures_are_shown, pictures_are_turned, pictures_are_turned_back,
-    printed_comments_are_due, shown_answers_are_due, unwanted_markers_are_not_missed,
-    whole_files_have_their_comments_printed,
+    fronts_are_shown, inserted_comments_are_due, pictures_are_shown, pictures_are_turned,
+    pictures_are_turned_back, printed_comments_are_due, shown_answers_are_due,
+    shown_fronts_are_due, unwanted_markers_are_not_missed, whole_files_have_their_comments_printed,
 };
 pub use program::{add_end, run_program};
 pub use top::{Ended, run};
 pub use words::cjpeg_request::EncodeWords;
 pub use words::comments::{CommentFrom, WriteWords};
-pub use words::djpeg::ShowWords;
+pub use words::djpeg_request::ShowWords;
 pub use words::files::{Files, WordsStop};
 pub use words::jpegtran::ScriptFrom;
 pub use words::jpegtran_request::TransformWords;

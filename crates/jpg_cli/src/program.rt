@@ -19,7 +19,8 @@ const HELP: &str = "\
 jpegtran [-flip horizontal | -flip vertical | -rotate 90 | -rotate 180 | -rotate 270 | -transpose | -transverse]
     [-trim] [-grayscale] [-crop WxH+X+Y] [-copy none | -copy comments | -copy all] [-progressive | -scans SCRIPT]
     [-restart N[B]] [-outfile NAME] [FILE] > OUTPUT
-djpeg [-pnm | -ppm | -bmp | -targa] [-grayscale] [-nosmooth] [-dct int] [-scale 1/1] [-outfile NAME] [FILE] > OUTPUT
+djpeg [-pnm | -ppm | -bmp | -targa] [-grayscale] [-nosmooth] [-preview N] [-dct int] [-scale 1/1] [-outfile NAME]
+    [FILE] > OUTPUT
 cjpeg [-targa] [-quality N] [-grayscale] [-baseline] [-progressive | -scans SCRIPT] [-restart N[B]] [-sample HxV,..]
     [-qtables TABLES] [-dct int] [-outfile NAME] [FILE] > OUTPUT
 rdjpgcom [FILE] > OUTPUT

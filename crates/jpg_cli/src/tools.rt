@@ -3,6 +3,7 @@
 pub mod cjpeg;
 pub mod cjpeg_encoding;
 pub mod djpeg;
+pub mod djpeg_front;
 pub mod djpeg_rows;
 pub mod image_writer;
 pub mod jpegtran;

@@ -62,10 +62,3 @@ shown_front scans bytes rest front r w k = by w.meaning
     by : IsDone bytes r ⊎ (IsEarlyEnd bytes r × EndsScan r.limits scans bytes) → IsFrontOf scans bytes rest front r
     by (inl d) = shown_done scans bytes rest front r w d k
     by (inr e) = inl (one_front r.limits scans (bytes ++ rest) front bytes k (inl (shown_begins scans bytes rest r w e.1)))
-
-pub shown_is_front : (scans : ℕ) (bytes rest : List ℕ) (r : ReaderState) → IsShown scans bytes r → IsDone bytes r ⊎ IsFront r.limits scans (bytes ++ rest) bytes
-shown_is_front scans bytes rest r w = by w.meaning
-  where
-    by : IsDone bytes r ⊎ (IsEarlyEnd bytes r × EndsScan r.limits scans bytes) → IsDone bytes r ⊎ IsFront r.limits scans (bytes ++ rest) bytes
-    by (inl d) = inl d
-    by (inr e) = inr (inl (shown_begins scans bytes rest r w e.1))

@@ -4,6 +4,7 @@ pub mod CountData
 pub mod CountSteps
 pub mod FedSteps
 pub mod FindSteps
+pub mod FrontFound
 pub mod FrontShown
 pub mod PartSteps
 pub mod PieceSteps

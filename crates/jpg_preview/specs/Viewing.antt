@@ -131,3 +131,7 @@ IsFrontOf scans bytes rest front r = (front ≡ bytes) ⊎ ((front ≡ bytes ++ 
 
 abbrev pub ShowsFront : ℕ → List ℕ → ReaderState → Type 0
 ShowsFront scans bytes r = (rest front : List ℕ) → IsFront r.limits scans (bytes ++ rest) front → IsFrontOf scans bytes rest front r
+
+-- It has one: these bytes, or all bytes, where these are a complete file.
+abbrev pub HasFront : ℕ → List ℕ → List ℕ → ReaderState → Type 0
+HasFront scans bytes rest r = IsFront r.limits scans (bytes ++ rest) bytes ⊎ (IsDone bytes r × IsFront r.limits scans (bytes ++ rest) (bytes ++ rest))

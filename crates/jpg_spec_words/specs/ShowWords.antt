@@ -1,7 +1,7 @@
 -- WHAT THE WORDS of djpeg ask for, after the command's own (its manual in release 6b).
-use Rattle.std.specs.Prelude.{ℕ, ◌+◌, Bool, true, false, List, [], ◌∷◌, length, codes}
+use Rattle.std.specs.Prelude.{ℕ, ◌+◌, Bool, true, false, nat_le, ◌&&◌, if◌then◌else◌, List, [], ◌∷◌, length, Option, Some, None, option_and_then, codes}
 use Rattle.std.specs.Str.{bytes_eq}
-use Rattle.jpg_spec_words.specs.Requests.{FilesAsked, Tool, WordsTold, from_to, is_int, request, standard_input, usage_at, where_good, with_input, with_output, words_right}
+use Rattle.jpg_spec_words.specs.Requests.{FilesAsked, Tool, WordsTold, from_to, is_int, number_of, request, standard_input, usage_at, where_good, with_input, with_output, with_value, words_right}
 use Rattle.jpg_spec_words.specs.Switches.{Switch}
 use Rattle.jpg_spec_image.specs.declared.image.EndKind.{EndKind}
 use Rattle.jpg_spec_image.specs.declared.image.EndKind.TheVariants.{Pnm, Bmp, Targa}
@@ -24,6 +24,7 @@ djpeg_switches =
     ∷ record { name = codes "dct"; shortest = 2; purpose = Valued setting.Dct }
     ∷ record { name = codes "scale"; shortest = 1; purpose = Valued setting.Scale }
     ∷ record { name = codes "outfile"; shortest = 4; purpose = Valued setting.Output }
+    ∷ record { name = codes "preview"; shortest = 3; purpose = Valued setting.Preview }
     ∷ record { name = codes "colors"; shortest = 1; purpose = LeftOut }
     ∷ record { name = codes "colours"; shortest = 1; purpose = LeftOut }
     ∷ record { name = codes "quantize"; shortest = 1; purpose = LeftOut }
@@ -39,21 +40,29 @@ djpeg_switches =
     ∷ record { name = codes "debug"; shortest = 1; purpose = LeftOut } ∷ []
 
 -- files; the format of the image, and the index of the word that a fault of it has; whether it is in grayscale, and
--- whether samples are smoothed
+-- whether samples are smoothed; and how many scans are shown, if not all are
 pub record ShowAsked : Type 0 where
   pub files : FilesAsked
   pub kind : EndKind
   pub kind_word : ℕ
   pub gray : Bool
   pub smooth : Bool
+  pub preview : Option ℕ
 
 -- If no switch is given, it is PNM, and a fault of it is after all words: this many, the command's own among them.
 abbrev pub show_default : ℕ → ShowAsked
-show_default count = record { files = from_to standard_input; kind = Pnm; kind_word = count; gray = false; smooth = true }
+show_default count = record { files = from_to standard_input; kind = Pnm; kind_word = count; gray = false; smooth = true; preview = None }
 
 -- no scale but one
 abbrev pub is_whole_scale : List ℕ → Bool
 is_whole_scale value = bytes_eq value (codes "1/1")
+
+-- how many scans a preview shows: from 1 to 65535
+abbrev pub scans_from : ℕ → Option ℕ
+scans_from n = if nat_le 1 n && nat_le n 65535 then Some n else None
+
+abbrev pub scans_named : List ℕ → Option ℕ
+scans_named value = option_and_then scans_from (number_of value)
 
 abbrev pub show_flag : Flag → ℕ → ShowAsked → WordsTold ShowAsked
 show_flag flag.Pnm index a = words_right (record a { kind = Pnm; kind_word = index })
@@ -67,6 +76,7 @@ abbrev pub show_setting : Setting → ℕ → List ℕ → ShowAsked → WordsTo
 show_setting setting.Output index value a = words_right (record a { files = with_output value a.files })
 show_setting setting.Dct index value a = where_good index (is_int value) a
 show_setting setting.Scale index value a = where_good index (is_whole_scale value) a
+show_setting setting.Preview index value a = with_value index (scans_named value) (λ scans. words_right (record a { preview = Some scans }))
 show_setting other index value a = usage_at UnknownSwitch index
 
 abbrev pub djpeg : Tool ShowAsked

@@ -63,6 +63,8 @@ pub enum Setting {
     Dct,
     /// `-scale`: the size, only `1/1`.
     Scale,
+    /// `-preview`: how many scans are shown.
+    Preview,
     /// `-quality`: the quality of the quantisers.
     Quality,
     /// `-sample`: the factors of the components.

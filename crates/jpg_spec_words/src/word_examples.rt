@@ -5,7 +5,7 @@ ghost use Rattle.std.specs.Prelude.{◌≡◌, [], ◌∷◌, ◌++◌, true, fa
 ghost use Rattle.jpg_spec_words.specs.CommentWords.{read_asked, write_asked};
 ghost use Rattle.jpg_spec_words.specs.EncodeWords.{encode_asked, encode_default, factors_due};
 ghost use Rattle.jpg_spec_words.specs.Requests.{from_to, named, standard_input, usage_at, with_output, words_right};
-ghost use Rattle.jpg_spec_words.specs.ShowWords.{show_asked, show_default};
+ghost use Rattle.jpg_spec_words.specs.ShowWords.{scans_named, show_asked, show_default};
 ghost use Rattle.jpg_spec_write.specs.FileText.{rows, mcus};
 ghost use Rattle.jpg_spec_words.specs.TransformWords.{area_named, area_of, transform_asked, transform_default, own_progressive, in_file};
 ghost use Rattle.jpg_spec_words.specs.Work.{back_asked, first_asked, sides_line, turned_asked, work_info};
@@ -97,6 +97,23 @@ pub fn the_last_format_counts()
     ensures smooth { show_asked (codes "-nos" ∷ []) ≡ words_right (record (show_default 2) { smooth = false }) }
     ensures int { show_asked (codes "-dct" ∷ codes "INT" ∷ []) ≡ words_right (show_default 3) }
     ensures scale { show_asked (codes "-s" ∷ codes "1/1" ∷ []) ≡ words_right (show_default 3) }
+{}
+
+/// A preview shows from 1 to 65535 scans, and the switch that is repeated takes its last value.
+pub fn a_preview_shows_some_scans()
+    ensures all { (show_default 1).preview ≡ None }
+    ensures one { show_asked (codes "-preview" ∷ codes "1" ∷ []) ≡ words_right (record (show_default 3) { preview = Some 1 }) }
+    ensures most { show_asked (codes "-PRE" ∷ codes "65535" ∷ []) ≡ words_right (record (show_default 3) { preview = Some 65535 }) }
+    ensures zeros { scans_named (codes "00009") ≡ Some 9 }
+    ensures again { show_asked (codes "-pre" ∷ codes "3" ∷ codes "-prev" ∷ codes "2" ∷ []) ≡ words_right (record (show_default 5) { preview = Some 2 }) }
+    ensures none { show_asked (codes "-preview" ∷ codes "0" ∷ []) ≡ usage_at BadValue 2 }
+    ensures large { show_asked (codes "-bmp" ∷ codes "-preview" ∷ codes "65536" ∷ []) ≡ usage_at BadValue 3 }
+    ensures letter { scans_named (codes "1a") ≡ None }
+    ensures empty { scans_named (codes "") ≡ None }
+    ensures long { scans_named (codes "000001") ≡ None }
+    ensures missing { show_asked (codes "-preview" ∷ []) ≡ usage_at MissingValue 1 }
+    ensures short { show_asked (codes "-pr" ∷ codes "1" ∷ []) ≡ usage_at UnknownSwitch 1 }
+    ensures format { show_asked (codes "-p" ∷ []) ≡ words_right (record (show_default 2) { kind_word = 1 }) }
 {}
 
 /// The first wrong word of djpeg is reported.

@@ -1,7 +1,8 @@
 //! The examples of docs/CALLING.md.
 use crate::row::Row;
 use example_callers::{
-    Listed, NotTurned, comments_of, comments_of_pieces, encode, list_segments, turn, turn_coefs,
+    Listed, NotTurned, comments_of, comments_of_pieces, encode, first_scans, list_segments, turn,
+    turn_coefs,
 };
 use jpg_base::{Bytes, MemoryDesk};
 use jpg_transform::{BlockView, Choice, Coefs, Copying, Restart, Scans, Transform};
@@ -113,6 +114,23 @@ pub fn coefficient<'a>(alloc: Global, names: &[Named], row: &Row<'a>) -> Result<
     let text = match turn_coefs(alloc, file.as_slice(), &choice) {
         Ok(coefs) => value_text(alloc, value_at(&coefs, x, y, k))?,
         Err(why) => not_turned(alloc, why)?,
+    };
+    Ok(text)
+}
+
+/// A value of the first component after the first scans of a file, as above.
+pub fn shown<'a>(alloc: Global, names: &[Named], row: &Row<'a>) -> Result<String, Stop<'a>> {
+    let file = spelled(alloc, names, row.second)?;
+    let (x, y, k) = place_of(row.third).ok_or(Stop::Unread(row.third))?;
+    let Ok(scans) = row.first.parse::<u16>() else {
+        return Err(Stop::Unread(row.first));
+    };
+    if scans == 0 {
+        return Err(Stop::Unread(row.first));
+    }
+    let text = match first_scans(alloc, file.as_slice(), scans) {
+        Ok(picture) => value_text(alloc, value_at(&picture.coefs, x, y, k))?,
+        Err(stop) => stopped(alloc, stop)?,
     };
     Ok(text)
 }

@@ -6,7 +6,7 @@ mod callers;
 mod parts;
 mod row;
 
-use callers::{coefficient, comments, encoded, pieces, segments, turned};
+use callers::{coefficient, comments, encoded, pieces, segments, shown, turned};
 use parts::{flat, repeat, rgb, up, up2};
 use row::{Row, read_row};
 use std::alloc::Global;
@@ -47,6 +47,7 @@ fn answer_of<'a>(alloc: Global, names: &[Named], row: &Row<'a>) -> Result<String
         "pieces" => pieces(alloc, names, row.first),
         "turn" => turned(alloc, names, row.first, row.second),
         "coefficient" => coefficient(alloc, names, row),
+        "scans" => shown(alloc, names, row),
         "encode" => encoded(alloc, names, row.first, row.second),
         _ => Err(Stop::Unread(row.kind)),
     }

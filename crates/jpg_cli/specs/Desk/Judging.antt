@@ -46,6 +46,14 @@ pub record ReadsFrom (input : Option Name) (Is : List ℕ → Type 0) (old new :
   pub most : length bytes ≤ standard_limits.input
   pub is : Is bytes
 
+-- Up to the last piece of them, of at most 65,536, this holds of the bytes.
+pub record UpToPiece (Is : List ℕ → Type 0) (bytes : List ℕ) : Type 0 where
+  pub front : List ℕ
+  pub piece : List ℕ
+  pub cut : bytes ≡ front ++ piece
+  pub few : length piece ≤ 65536
+  pub before : Is front
+
 -- if they end early, they are all of the file
 abbrev pub IsAllRead : Option ℕ → DeskState → Type 0
 IsAllRead None new = Unit {0}

@@ -26,7 +26,7 @@ use Rattle.jpg_file.specs.Read.PictureRead.{MeansFor}
 use Rattle.jpg_file.specs.Read.ReadFile.{HasRead, IsDone, IsEarlyEnd, IsRefusal, ReaderState}
 use Rattle.jpg_file.specs.declared.read.picture.Picture.{Picture}
 use Rattle.jpg_cli.specs.Endings.{Asks}
-use Rattle.jpg_cli.specs.Desk.Judging.{IsAllRead, Judging, NoValueRead, NoValueTaken, ReadsFrom, TakesPieces}
+use Rattle.jpg_cli.specs.Desk.Judging.{IsAllRead, Judging, NoValueRead, NoValueTaken, ReadsFrom, TakesPieces, UpToPiece}
 use Rattle.jpg_cli.specs.Desk.Reading.{rest_of}
 use Rattle.jpg_cli.specs.Stays.{OnlyReads}
 use Rattle.jpg_cli.specs.declared.desk.picture.PictureStep.{PictureStep}
@@ -90,14 +90,10 @@ pub record IsOpenRead (w : Wanted) (bytes : List ℕ) : Type 0 where
   pub stands : UnfinishedFile standard_limits bytes
   pub wanted : (f : FaultAt) → IsUnwanted w bytes f → ⊥
 
--- Up to the last piece of them, of at most 65,536, they are such bytes: so fewer than 65,536 were read after the end of
--- a complete file or what it is refused for.
-pub record IsShortRead (w : Wanted) (bytes : List ℕ) : Type 0 where
-  pub front : List ℕ
-  pub piece : List ℕ
-  pub cut : bytes ≡ front ++ piece
-  pub few : length piece ≤ 65536
-  pub before : IsOpenRead w front
+-- Up to the last piece of them they are such bytes: so fewer than 65,536 were read after the end of a complete file or
+-- what it is refused for.
+abbrev pub IsShortRead : Wanted → List ℕ → Type 0
+IsShortRead w bytes = UpToPiece (IsOpenRead w) bytes
 
 -- ALL THAT IS JUDGED of them, and of the file
 abbrev pub picture_judging : Wanted → Judging Meaning
@@ -110,22 +106,27 @@ picture_judging w = record {
   short = IsShortRead w;
 }
 
--- THE ANSWERS: the picture means what the file means, except for markers that aren't kept when these are passed on; or
--- why there is none
+-- THE ANSWERS: the picture means what is judged of the file, except for markers that aren't kept when these are passed
+-- on; or why there is none
+abbrev pub MeaningRead : Judging Meaning → Copying → Name → DeskState → Result (Picture × Option ℕ) Why → DeskState → Type 0
+MeaningRead j keeping file old (Ok found) new =
+    Asks (file ∷ []) put.Done old new × ((M : Meaning) × MeansFor keeping found.0 M × ReadsFrom (Some file) (j.has M found.1 (rest_of new.left)) old new) × IsAllRead found.1 new
+MeaningRead j keeping file old (Err ended) new = NoValueRead j file old ended new
+
 abbrev pub PictureRead : Wanted → Copying → Name → DeskState → Result (Picture × Option ℕ) Why → DeskState → Type 0
-PictureRead w keeping file old (Ok found) new =
-    Asks (file ∷ []) put.Done old new
-    × ((M : Meaning) × MeansFor keeping found.0 M × ReadsFrom (Some file) (IsReadPicture w M found.1) old new) × IsAllRead found.1 new
-PictureRead w keeping file old (Err ended) new = NoValueRead (picture_judging w) file old ended new
+PictureRead w keeping file old result new = MeaningRead (picture_judging w) keeping file old result new
 
 -- STEP BY STEP, from a desk whose input is open
 
 abbrev pub EndsEarly : Wanted → DeskState → Why → DeskState → Type 0
 EndsEarly w old ended new = NoValueTaken (picture_judging w) old ended new
 
+abbrev pub EndsMeaning : Judging Meaning → Copying → DeskState → Result (Picture × Option ℕ) Why → DeskState → Type 0
+EndsMeaning j keeping old (Ok found) new = ((M : Meaning) × MeansFor keeping found.0 M × TakesPieces (j.has M found.1 (rest_of new.left)) old new) × IsAllRead found.1 new
+EndsMeaning j keeping old (Err ended) new = NoValueTaken j old ended new
+
 abbrev pub EndsReading : Wanted → Copying → DeskState → Result (Picture × Option ℕ) Why → DeskState → Type 0
-EndsReading w keeping old (Ok found) new = ((M : Meaning) × MeansFor keeping found.0 M × TakesPieces (IsReadPicture w M found.1) old new) × IsAllRead found.1 new
-EndsReading w keeping old (Err ended) new = EndsEarly w old ended new
+EndsReading w keeping old result new = EndsMeaning (picture_judging w) keeping old result new
 
 -- The reader was fed these bytes, fewer than may be taken, whose picture isn't unwanted, and goes on.
 pub record HasFed (w : Wanted) (r : ReaderState) (bytes : List ℕ) : Type 0 where

@@ -1,5 +1,5 @@
 -- HOW DECODING A PICTURE ENDS (the manual of djpeg), by why it ended.
-use Rattle.std.specs.Prelude.{◌≡◌, ◌<◌, ℕ, Bool, true, false, List, [], length, take, Option, None, Some}
+use Rattle.std.specs.Prelude.{◌≡◌, ◌<◌, ℕ, Bool, List, [], length, take, Option, None, Some}
 use Rattle.jpg_base.specs.declared.names.Name.{Name}
 use Rattle.jpg_base.specs.declared.names.Put.TheVariants as put
 use Rattle.jpg_base.specs.Desk.{DeskState, NotesName, Rose}
@@ -16,16 +16,14 @@ use Rattle.jpg_spec.specs.Scan.{Blocks}
 use Rattle.jpg_spec.specs.Segments.{standard_limits}
 use Rattle.jpg_spec_words.specs.declared.answers.Why.{Why}
 use Rattle.jpg_spec_words.specs.declared.answers.Why.TheVariants as why
-use Rattle.jpg_spec_words.specs.declared.answers.UsageFault.TheVariants.{NoEnd}
 use Rattle.jpg_spec_words.specs.declared.answers.Which.TheVariants as which
 use Rattle.jpg_spec_image.specs.declared.image.EndKind.{EndKind}
 use Rattle.jpg_color.specs.DecodeRows.{picture_text}
 use Rattle.jpg_file.specs.declared.read.picture.Picture.{Picture}
 use Rattle.jpg_cli.specs.declared.desk.picture.Wanted.TheVariants.{Image}
-use Rattle.jpg_cli.specs.declared.words.djpeg.ShowWords.{ShowWords}
+use Rattle.jpg_cli.specs.declared.words.djpeg_request.ShowWords.{ShowWords}
 use Rattle.jpg_cli.specs.Desk.ReadPicture.{picture_judging}
 use Rattle.jpg_cli.specs.Outcome.{Conversion, Converted, IsSoFar, IsWrittenInTime, ReadsValue, RowTexts, by_rows}
-use Rattle.jpg_cli.specs.Stays.{Untouched}
 use Rattle.jpg_cli.specs.Desk.Writing.{GrowsInPart}
 
 -- which picture is decoded, how, and where its image goes
@@ -99,11 +97,6 @@ IsShownUpTo s upto Is text bytes = IsSoFar (row_texts s) upto Is text bytes
 
 abbrev pub IsInTime : Showing → List ℕ → List ℕ → Type 0
 IsInTime s bytes written = IsWrittenInTime (row_texts s) bytes written
-
--- with an image writer of the format that the words ask for, or none
-abbrev pub ShownBy : Bool → ShowWords → DeskState → Why → DeskState → Type 0
-ShownBy true w old ended new = Shown (showing_told w) old ended new
-ShownBy false w old ended new = (ended ≡ why.Usage (record { fault = NoEnd; word = w.kind_word })) × Untouched old new
 
 -- Outputs grew by one of this name, which has a first part of the bytes, and not all.
 abbrev pub GrowsByLess : Name → DeskState → List ℕ → DeskState → Type 0

@@ -1,13 +1,20 @@
 -- What the words of djpeg ask for, as the functions answer it.
-use Rattle.jpg_spec_words.specs.ShowWords.{ShowAsked}
+use Rattle.jpg_spec_words.specs.ShowWords.{ShowAsked, scans_from}
 use Rattle.jpg_cli.specs.Words.Files.{files_said, files_view}
 use Rattle.jpg_cli.specs.declared.words.djpeg.ShowSaid.{ShowSaid}
-use Rattle.jpg_cli.specs.declared.words.djpeg.ShowWords.{ShowWords}
+use Rattle.jpg_cli.specs.declared.words.djpeg_request.ShowWords.{ShowWords}
 
 -- words with their files, as they ask for a picture to be decoded
 abbrev pub show_told : ShowWords → ShowAsked
-show_told w = record { files = files_view w.files; kind = w.kind; kind_word = w.kind_word; gray = w.gray; smooth = w.smooth }
+show_told w = record { files = files_view w.files; kind = w.kind; kind_word = w.kind_word; gray = w.gray; smooth = w.smooth; preview = w.preview }
 
 -- the same by the words so far
 abbrev pub show_said : ShowSaid → ShowAsked
-show_said s = record { files = files_said s.files; kind = s.kind; kind_word = s.kind_word; gray = s.gray; smooth = s.smooth }
+show_said s = record {
+  files = files_said s.files;
+  kind = s.kind;
+  kind_word = s.kind_word;
+  gray = s.gray;
+  smooth = s.smooth;
+  preview = scans_from s.preview;
+}

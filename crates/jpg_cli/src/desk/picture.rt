@@ -7,9 +7,10 @@ ghost use Rattle.jpg_file.specs.Read.ReadRows.{IsPlain};
 ghost use Rattle.jpg_cli.specs.Stays.{Keeps, OnlyReads};
 ghost use Rattle.jpg_cli.specs.Desk.Judging.{done_as};
 ghost use Rattle.jpg_cli.specs.Desk.ReadPicture.{AfterPictureEnd, EndDone, EndsReading, EndsCompletePicture, PictureGoesOn, HasFed, PictureRead, ReadsNext, ReadsPictureBytes, StepDone, step_unless, unwanted_in};
+ghost use Rattle.jpg_cli.specs.declared.desk.picture.Wanted.TheVariants.{Image};
 
 use crate::desk::file::read_within;
-use jpg_base::{Desk, Fed, Got, Name, Put, Stop};
+use jpg_base::{Colour, Desk, Fed, Frame, Got, Name, Put, Stop};
 use jpg_color::admits;
 use jpg_file::{End, Picture, Reader};
 use jpg_spec::{Copying, FaultAt, Limits};
@@ -25,7 +26,7 @@ pub enum Wanted {
 
 // The result of a piece.
 #[derive(Clone, Copy, Debug, PartialEq, Eq)]
-enum PictureStep {
+pub(crate) enum PictureStep {
     More,
     Whole,
     Early(u64),
@@ -138,18 +139,25 @@ fn unwanted(reader: &Reader, wanted: Wanted) -> Option<FaultAt>
 {
     match wanted {
         Wanted::Coefficients => None,
-        Wanted::Image { gray } => match reader.head() {
-            None => None,
-            Some((frame, colour, at)) => match admits(&frame, colour, gray) {
-                Ok(_) => None,
-                Err(fault) => Some(FaultAt { fault, at }),
-            },
+        Wanted::Image { gray } => not_shown(reader.head(), gray),
+    }
+}
+
+// Why the picture can't be displayed, once the first scan header was read.
+pub(crate) fn not_shown(head: Option<(Frame, Colour, u64)>, gray: bool) -> Option<FaultAt>
+    ensures { result ≡ unwanted_in (Image gray) head }
+{
+    match head {
+        None => None,
+        Some((frame, colour, at)) => match admits(&frame, colour, gray) {
+            Ok(_) => None,
+            Err(fault) => Some(FaultAt { fault, at }),
         },
     }
 }
 
 // A step, where nothing is unwanted.
-fn step_unless(fault: Option<FaultAt>, step: PictureStep) -> PictureStep
+pub(crate) fn step_unless(fault: Option<FaultAt>, step: PictureStep) -> PictureStep
     ensures { result ≡ step_unless fault step }
 {
     match fault {

@@ -15,11 +15,11 @@ ghost use Rattle.jpg_cli.specs.Stays.{OnlyReads, OnlyWorks};
 ghost use Rattle.jpg_cli.specs.declared.desk.picture.Wanted.TheVariants.{Image};
 
 use crate::desk::file::read_within;
-use crate::desk::picture::done_as;
+use crate::desk::picture::{done_as, not_shown};
 use crate::tools::djpeg_rows::show_rows;
-use crate::words::djpeg::ShowWords;
+use crate::words::djpeg_request::ShowWords;
 use jpg_base::{Desk, Got, Put, Stop};
-use jpg_color::{DecodeStop, admits, decode_rows};
+use jpg_color::{DecodeStop, decode_rows};
 use jpg_file::{End, FedRow, Picture, Reader};
 use jpg_pnm_bmp::ImageEnd;
 use jpg_spec::{FaultAt, Limits};
@@ -188,13 +188,7 @@ fn step_of(answer: Result<FedRow, Stop>) -> FirstStep
 fn unwanted(reader: &Reader, gray: bool) -> Option<FaultAt>
     ensures { result ≡ unwanted_in (Image gray) (head_seen reader.now) }
 {
-    match reader.head() {
-        None => None,
-        Some((frame, colour, at)) => match admits(&frame, colour, gray) {
-            Ok(_) => None,
-            Err(fault) => Some(FaultAt { fault, at }),
-        },
-    }
+    not_shown(reader.head(), gray)
 }
 
 // The result of the end of the input, before rows are read.
@@ -214,8 +208,8 @@ fn at_first_end(reader: &mut Reader, gray: bool) -> FirstStep
     }
 }
 
-// Creates the output, and writes the image to it; if the input ended early, after how many bytes.
-fn write_image<D: Desk>(
+/// Creates the output, and writes the image to it; if the input ended early, after how many bytes.
+pub(crate) fn write_image<D: Desk>(
     alloc: Global,
     picture: &Picture,
     early: Option<u64>,

@@ -8,7 +8,7 @@ ghost use Rattle.jpg_cli.specs.Tools.ShowingRows.{AfterRowsEnd, CanBeginRows, Ca
 ghost use Rattle.jpg_cli.specs.Stays.{OnlyWorks};
 
 use crate::desk::file::read_within;
-use crate::words::djpeg::ShowWords;
+use crate::words::djpeg_request::ShowWords;
 use jpg_base::{Desk, Got, Put, Stop};
 use jpg_color::{DecodeStop, StripImage};
 use jpg_file::{End, FedRow, Reader};

@@ -1,11 +1,14 @@
 //! A picture decoded by the image writers that a call is given.
 ghost use Rattle.std.specs.Prelude.{◌≡◌, map};
 ghost use Rattle.jpg_cli.specs.Tools.Ends.{AreNewEnds, formats_of, has_format, is_same_format};
-ghost use Rattle.jpg_cli.specs.Tools.Showing.{ShownBy};
+ghost use Rattle.jpg_pnm_bmp.specs.EndState.{new_end};
+ghost use Rattle.jpg_cli.specs.Tools.FrontShown.{ShownAs, ShownBy};
+ghost use Rattle.jpg_cli.specs.Tools.Showing.{showing_told};
 ghost use Rattle.jpg_cli.specs.Stays.{OnlyWorks};
 
 use crate::tools::djpeg::show_picture;
-use crate::words::djpeg::ShowWords;
+use crate::tools::djpeg_front::show_front;
+use crate::words::djpeg_request::ShowWords;
 use jpg_base::Desk;
 use jpg_pnm_bmp::ImageEnd;
 use jpg_spec_image::EndKind;
@@ -28,7 +31,24 @@ fn is_of(end: &Box<dyn ImageEnd>, kind: EndKind) -> bool
     is_same_format(kind, end.kind())
 }
 
-/// Decodes the picture with the first image writer of the format that is asked for. If there is none, the words are
+// Decodes the picture, or the front of its file, as the words ask for it.
+fn show_as<D: Desk>(
+    alloc: Global,
+    words: &ShowWords,
+    end: &mut Box<dyn ImageEnd>,
+    desk: &mut D,
+) -> Why
+    requires { progress end.old ≡ new_end words.now.kind }
+    ensures kept { OnlyWorks (D.state desk.old) (D.state desk.new) }
+    ensures shown { ShownAs words.now.preview (showing_told words.now) (D.state desk.old) result (D.state desk.new) }
+{
+    match words.preview {
+        None => show_picture(alloc, words, end, desk),
+        Some(scans) => show_front(alloc, scans, words, end, desk),
+    }
+}
+
+/// Decodes the picture, or the front of its file, with the first image writer of the format that is asked for. If there is none, the words are
 /// wrong, and no file is opened or created.
 #[inline(never)]
 pub fn show_by<D: Desk>(
@@ -44,7 +64,7 @@ pub fn show_by<D: Desk>(
     for end in ends {
         if is_of(&end, words.kind) {
             let mut end = end;
-            return show_picture(alloc, words, &mut end, desk);
+            return show_as(alloc, words, &mut end, desk);
         }
     }
     Why::Usage(Usage {

@@ -15,7 +15,7 @@ use crate::tools::work_image::image_of;
 use crate::tools::work_lines::{lines_of, samples_sum};
 use crate::words::cjpeg_request::EncodeWords;
 use crate::words::cjpeg_values::Factors;
-use crate::words::djpeg::ShowWords;
+use crate::words::djpeg_request::ShowWords;
 use crate::words::files::Files;
 use crate::words::jpegtran::ScriptFrom;
 use crate::words::jpegtran_request::TransformWords;
@@ -212,6 +212,7 @@ fn shown_file(alloc: Global, input: &[u8], ends: Vec<Box<dyn ImageEnd>>) -> Resu
         kind_word: 2,
         gray: false,
         smooth: true,
+        preview: None,
     };
     match show_by(alloc, &words, &mut desk, ends) {
         Why::Done => Ok(desk),

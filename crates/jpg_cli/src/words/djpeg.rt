@@ -1,20 +1,22 @@
 //! The words of djpeg (its manual in release 6b).
-ghost use Rattle.std.specs.Prelude.{◌≡◌, map, drop, string_bytes};
-ghost use Rattle.jpg_spec_words.specs.ShowWords.{ShowAsked, djpeg, is_whole_scale, show_asked};
+ghost use Rattle.std.specs.Prelude.{◌≡◌, ◌≤◌, map, drop, string_bytes};
+ghost use Rattle.jpg_spec_words.specs.ShowWords.{ShowAsked, djpeg, is_whole_scale, scans_from, show_asked};
 ghost use Rattle.jpg_cli.specs.Words.Requests.{IsAnswer};
+ghost use Rattle.jpg_cli.specs.Words.Scans.{scans_or_one};
 ghost use Rattle.jpg_cli.specs.Words.ShowWords.{show_said, show_told};
 
-use crate::words::files::{Files, FilesSaid, NO_FILES, WordsStop};
+use crate::words::djpeg_request::ShowWords;
+use crate::words::files::{FilesSaid, NO_FILES, WordsStop};
 use crate::words::requests::{Asks, bad_value, read_words, usage};
 use crate::words::switches::Switch;
-use crate::words::values::is_int;
+use crate::words::values::{is_int, scans_named};
 use jpg_base::NoMemory;
 use jpg_spec_image::EndKind;
 use jpg_spec_words::Purpose::{Alone, LeftOut, Valued};
 use jpg_spec_words::{Flag, Setting, Usage, UsageFault};
 use std::alloc::Global;
 
-static DJPEG_SWITCHES: [Switch<'static>; 23] = [
+static DJPEG_SWITCHES: [Switch<'static>; 24] = [
     ("pnm", 1, Alone(Flag::Pnm)),
     ("ppm", 1, Alone(Flag::Pnm)),
     ("bmp", 1, Alone(Flag::Bmp)),
@@ -25,6 +27,7 @@ static DJPEG_SWITCHES: [Switch<'static>; 23] = [
     ("dct", 2, Valued(Setting::Dct)),
     ("scale", 1, Valued(Setting::Scale)),
     ("outfile", 4, Valued(Setting::Output)),
+    ("preview", 3, Valued(Setting::Preview)),
     ("colors", 1, LeftOut),
     ("colours", 1, LeftOut),
     ("quantize", 1, LeftOut),
@@ -40,20 +43,6 @@ static DJPEG_SWITCHES: [Switch<'static>; 23] = [
     ("debug", 1, LeftOut),
 ];
 
-/// What the words of djpeg ask for.
-#[derive(Drop)]
-pub struct ShowWords {
-    pub files: Files,
-    /// The format of the image, PNM where no word asks for one.
-    pub kind: EndKind,
-    /// The index of the word that asks for the format, or the number of words if none does.
-    pub kind_word: u64,
-    /// Whether the image is in grayscale.
-    pub gray: bool,
-    /// Whether rows of samples that are upsampled are smoothed.
-    pub smooth: bool,
-}
-
 /// What the words of djpeg ask for; the word with index 0 is the command. Words that are wrong give their first fault
 /// and take no memory.
 pub fn djpeg_words(alloc: Global, words: &[String]) -> Result<ShowWords, WordsStop>
@@ -65,11 +54,12 @@ pub fn djpeg_words(alloc: Global, words: &[String]) -> Result<ShowWords, WordsSt
         kind_word: words.len().max(1) as u64,
         gray: false,
         smooth: true,
+        preview: 0,
     };
     read_words(alloc, start, &DJPEG_SWITCHES, words)
 }
 
-// The same by the words so far.
+// The same by the words so far; where all scans are shown, `preview` is 0.
 #[derive(Clone, Copy)]
 struct ShowSaid<'a> {
     files: FilesSaid<'a>,
@@ -77,6 +67,7 @@ struct ShowSaid<'a> {
     kind_word: u64,
     gray: bool,
     smooth: bool,
+    preview: u16,
 }
 
 impl<'a> Asks<'a> for ShowSaid<'a> {
@@ -137,6 +128,10 @@ impl<'a> Asks<'a> for ShowSaid<'a> {
                 true => Ok(self),
                 false => Err(bad_value(index)),
             },
+            Setting::Preview => match scans_named(value.as_bytes()) {
+                Some(preview) => Ok(ShowSaid { preview, ..self }),
+                None => Err(bad_value(index)),
+            },
             _ => Err(usage(UsageFault::UnknownSwitch, index)),
         }
     }
@@ -148,7 +143,19 @@ impl<'a> Asks<'a> for ShowSaid<'a> {
             kind_word: self.kind_word,
             gray: self.gray,
             smooth: self.smooth,
+            preview: scans_from(self.preview),
         })
+    }
+}
+
+// How many scans are shown, if not all are.
+fn scans_from(n: u16) -> Option<u16>
+    ensures scans { result ≡ scans_from n }
+    ensures some { 1 ≤ scans_or_one result }
+{
+    match n {
+        0 => None,
+        n => Some(n),
     }
 }
 

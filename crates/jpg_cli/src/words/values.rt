@@ -1,6 +1,7 @@
 //! Values of switches that several commands have (the manuals of release 6b).
-ghost use Rattle.std.specs.Prelude.{◌≡◌, ◌≤◌, IfSome, option_map};
+ghost use Rattle.std.specs.Prelude.{◌≡◌, ◌≤◌, IfSome, Some, option_map};
 ghost use Rattle.jpg_spec_words.specs.Requests.{ends_with_b, is_int, number_of, restart_by, restart_named, without_b};
+ghost use Rattle.jpg_spec_words.specs.ShowWords.{scans_from, scans_named};
 ghost use Rattle.jpg_file.specs.Write.Restarts.{restart_of};
 
 use crate::words::switches::{lower, stands_for};
@@ -28,6 +29,17 @@ fn restart_by(in_mcus: bool, n: u32) -> Option<Restart>
         Some(Restart::Mcus(n as u16))
     } else {
         Some(Restart::Rows(n as u16))
+    }
+}
+
+/// How many scans a preview shows: from 1 to 65535.
+pub(crate) fn scans_named(value: &[u8]) -> Option<u16>
+    ensures value { result ≡ scans_named value.now }
+    ensures some { IfSome result (λ n. scans_from n ≡ Some n) }
+{
+    match number_of(value) {
+        Some(n) if 1 <= n && n <= 65535 => Some(n as u16),
+        _ => None,
     }
 }
 

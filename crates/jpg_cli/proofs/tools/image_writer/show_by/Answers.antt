@@ -16,8 +16,8 @@ loop-end-preserved g c =
       desk = so.desk;
     }
 
-pub show_picture-requires : goal.show_picture-requires
-show_picture-requires g c =
+pub show_as-requires : goal.show_as-requires
+show_as-requires g c =
     let now = c.loop-end.end-iterator.rest.items in
     let rest = c.next.new.self.rest.items in
     first_of now rest c.in-Some.end (λ e. (goal.ImageEnd-dyn g (e.vtable, e.value)).progress e.value) c.args.words.now.kind c.in-Some.ensures.steps.0 c.loop-end.invariant.new
