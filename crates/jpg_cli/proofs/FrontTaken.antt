@@ -93,12 +93,12 @@ module _ (scans : ℕ) (gray : Bool) where
         whole : IsWholeFile standard_limits (take h.count bytes) d.meaning
         whole = subst (λ (l : Limits). IsWholeFile l (take h.count bytes) d.meaning) e d.whole
 
-        of : (s : FrontMeans scans (bytes ++ rest) d.meaning) → (s.front ≡ take h.count bytes) ⊎ IsWholeFile standard_limits (take h.count bytes) d.meaning → IsFrontRead scans gray d.meaning rest bytes
-        of s ends = record { shown = s; count = h.count; within = h.within; last = h.last; ends = ends; wanted = can_be_shown gray (take h.count bytes) d.meaning (inl whole.0) h.wanted }
+        of : FrontMeans scans (bytes ++ rest) d.meaning → IsFrontRead scans gray d.meaning rest bytes
+        of s = record { shown = s; count = h.count; within = h.within; last = h.last; ends = inr whole; wanted = can_be_shown gray (take h.count bytes) d.meaning (inl whole.0) h.wanted }
 
         by : HasFront scans held behind r → IsFrontRead scans gray d.meaning rest bytes
-        by (inl is) = of (record { front = held; is = front_there held is; means = inl whole.0 }) (inl refl)
-        by (inr (again, is)) = of (record { front = held ++ behind; is = front_there (held ++ behind) is; means = inl (means_more standard_limits held behind d.meaning whole.0) }) (inr whole)
+        by (inl is) = of (record { front = held; is = front_there held is; means = inl whole.0 })
+        by (inr (again, is)) = of (record { front = held ++ behind; is = front_there (held ++ behind) is; means = inl (means_more standard_limits held behind d.meaning whole.0) })
 
     abbrev meaning_held : IsEarlyEnd held r → Meaning
     meaning_held k = meaning_of (frame_of r.limits k.segments) k.segments k.blocks
@@ -112,7 +112,7 @@ module _ (scans : ℕ) (gray : Bool) where
           count = h.count;
           within = h.within;
           last = h.last;
-          ends = inl refl;
+          ends = inl (refl, subst (λ (l : Limits). EndsScan l scans held) e ends);
           wanted = can_be_shown gray held (meaning_held k) (inr early) h.wanted;
         }
 

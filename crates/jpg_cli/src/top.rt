@@ -64,10 +64,11 @@ fn work<D: Desk>(alloc: Global, words: &[String], desk: &mut D, ends: Vec<Box<dy
 /// or standard output. An input is refused with its first fault, and nothing is written then. One that ends early is
 /// written with what it has, and the status is 2. `djpeg` writes the image of such a file, or with `-preview` that of
 /// its first scans, as PNM, BMP or Targa, with the first of the image writers `ends` that has the format; if none has
-/// it, the words are wrong at the one that asks for it. `cjpeg` writes the file of an image, PNM or BMP, encoded as its switches say. `rdjpgcom [FILE]` prints the
-/// comments of a file, or of standard input, to standard output. `wrjpgcom` writes a file, or standard input, with a
-/// comment inserted before its frame header to standard output. `jpgwork N` makes an image from its number, encodes,
-/// rotates, rotates back and decodes it, and writes to standard output what came of it. What is wrong or refused is named in a message.
+/// it, the words are wrong at the one that asks for it. `cjpeg` writes the file of an image, PNM, BMP or with `-targa`
+/// Targa, encoded as its switches say. `rdjpgcom [FILE]` prints the comments of a file, or of standard input, to
+/// standard output. `wrjpgcom` writes a file, or standard input, with a comment inserted before its frame header to
+/// standard output. `jpgwork N` makes an image from its number, encodes, rotates, rotates back and decodes it, and
+/// writes to standard output what came of it. What is wrong or refused is named in a message.
 pub fn run<D: Desk>(
     alloc: Global,
     words: &[String],

@@ -57,14 +57,14 @@ IsFrontRefused scans gray input f = (front : List ℕ) → IsFront standard_limi
 
 -- THE BYTES that were read, after which the file has this rest
 
--- The file's front means this, which can be displayed. The front, or a complete file, ends with this many of the bytes,
--- and fewer than 65,536 were read after it.
+-- The file's front means this, which can be displayed. The front that ends with the marker after a scan, or a complete
+-- file, ends with this many of the bytes, and fewer than 65,536 were read after it.
 pub record IsFrontRead (scans : ℕ) (gray : Bool) (M : Meaning) (rest bytes : List ℕ) : Type 0 where
   pub shown : FrontMeans scans (bytes ++ rest) M
   pub count : ℕ
   pub within : count ≤ length bytes
   pub last : length bytes < count + 65536
-  pub ends : (shown.front ≡ take count bytes) ⊎ IsWholeFile standard_limits (take count bytes) M
+  pub ends : ((shown.front ≡ take count bytes) × EndsScan standard_limits scans (take count bytes)) ⊎ IsWholeFile standard_limits (take count bytes) M
   pub wanted : out_fault gray M ≡ None
 
 -- They are this many bytes, which end early before the front does, and mean this, which can be displayed.

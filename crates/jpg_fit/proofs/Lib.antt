@@ -1,0 +1,5 @@
+pub mod Joins
+pub mod Lists
+pub mod Made
+pub mod Sorts
+pub mod Splits

@@ -1,0 +1,12 @@
+//! Huffman tables made for counts of how often each symbol is sent (T.81, Annex K.2).
+#![tactic(auto)]
+
+mod adjust;
+mod counted;
+mod join;
+mod least;
+mod sizes;
+mod sort;
+mod table;
+
+pub use table::fitted;

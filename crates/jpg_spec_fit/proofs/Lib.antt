@@ -1,0 +1,9 @@
+pub mod FewestSizes
+pub mod FewestSteps
+pub mod FittedCodes
+pub mod FittedCounts
+pub mod FittedGroups
+pub mod FittedShort
+pub mod FittedSizes
+pub mod FittedSteps
+pub mod FittedTables

@@ -1,0 +1,3 @@
+pub mod FewestBits
+pub mod Fitted
+pub mod FittedExamples
