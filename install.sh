@@ -1,5 +1,5 @@
 #!/usr/bin/env bash
-# Proves jpgsuite, builds it and installs it: the program, a small command for each tool, manual pages and completions. Then it
+# Proves jpgsuite, builds it and installs it: the program, a link to it for each tool, manual pages and completions. Then it
 # rotates a picture with what it installed.
 set -euo pipefail
 unset CDPATH
@@ -10,12 +10,16 @@ tools=(jpegtran djpeg cjpeg rdjpgcom wrjpgcom)
 usage() {
     cat <<END
 ./install.sh [PREFIX]               proves jpgsuite, builds it, installs it into PREFIX (default: ~/.local) and tries it
+./install.sh --cpu NAME [PREFIX]    the same for other processors, as a package needs it: x86-64-v2 or x86-64-v3
 ./install.sh --uninstall [PREFIX]   removes what was installed there
 ./install.sh --help                 prints this
 
 PREFIX/bin gets jpgsuite, jpegtran, djpeg, cjpeg, rdjpgcom and wrjpgcom, PREFIX/share their manual pages and completions
 for bash and zsh. A file that is there already and isn't of jpgsuite is never replaced: nothing is installed then.
 At the end the installed jpegtran rotates example/colour.jpg, and the status is 1 unless that gives example/turned.jpg.
+
+Without --cpu the program is built for this processor: x86-64-v3 where it has what that asks for (vectors of 256 bits),
+otherwise x86-64-v2, which it needs at least. A program ends with status 127 where the processor lacks something.
 
 It needs rt, the command of the Rattle kit ($kits), on PATH. What rt prints
 goes to crates/jpg_suite/out/install.log.
@@ -31,9 +35,13 @@ fail() {
     exit 1
 }
 
-# Whether there is nothing of this name, or a file of jpgsuite: each of them names it.
+# Whether there is nothing of this name, or a file of jpgsuite: each of them names it, and links of commands are to it.
 is_ours() {
-    [ ! -L "$1" ] && [ ! -e "$1" ] || { [ -f "$1" ] && grep -aqs jpgsuite "$1"; }
+    if [ -L "$1" ]; then
+        [ "$(readlink -- "$1")" = jpgsuite ]
+    else
+        [ ! -e "$1" ] || { [ -f "$1" ] && grep -aqs jpgsuite "$1"; }
+    fi
 }
 
 # Whether a file or a folder of this name can be made.
@@ -44,24 +52,12 @@ can_be_made() {
     [ -d "$above" ] && [ -w "$above" ]
 }
 
-# The command of a tool: it calls the program in its own folder, wherever that is, and through links to the command too.
-small_command() {
-    cat <<END
-#!/bin/sh
-# $1, a command of jpgsuite: the program beside this file has it.
-here=\$0
-if [ -L "\$here" ]; then here=\$(readlink -f -- "\$here"); fi
-case \$here in */*) ;; *) here=./\$here ;; esac
-exec "\${here%/*}/jpgsuite" $1 "\$@"
-END
-}
-
 # Makes a folder with all that is installed, except the program.
 stage() {
     local tool to=$1
     mkdir -p "$to/bin" "$to/share/man/man1" "$to/share/bash-completion/completions" "$to/share/zsh/site-functions"
     for tool in "${tools[@]}"; do
-        small_command "$tool" > "$to/bin/$tool"
+        ln -s jpgsuite "$to/bin/$tool"
         cp "man/$tool.1" "$to/share/man/man1/"
     done
     cp man/jpgsuite.1 "$to/share/man/man1/"
@@ -70,7 +66,6 @@ stage() {
     done
     cp completions/_jpgsuite "$to/share/zsh/site-functions/"
     chmod -R u=rwX,go=rX "$to"
-    chmod 755 "$to"/bin/*
 }
 
 # Appends to `order` the crates that a crate uses, directly or not, and then the crate itself: rt builds them in this order.
@@ -114,11 +109,21 @@ show_crates() {
     [ -z "$crate" ] || echo " not proved"
 }
 
+# The processor that the program is built for, if none was named.
+own_cpu() {
+    local feature
+    for feature in avx avx2 bmi1 bmi2 f16c fma abm movbe xsave; do
+        grep -m 1 '^flags' /proc/cpuinfo 2> /dev/null | grep -qw "$feature" || { echo x86-64-v2; return; }
+    done
+    echo x86-64-v3
+}
+
 # Proves and builds the program, and runs it once, on the input that is stored with it.
 build() {
     local found log=$PWD/crates/jpg_suite/out/install.log
     command -v rt > /dev/null ||
-        fail "rt isn't on PATH: it is the command of the Rattle kit ($kits), which proves and builds jpgsuite"
+        fail "rt isn't on PATH: it is the command of the Rattle kit ($kits), which proves and builds jpgsuite.
+With JPGSUITE_PROGRAM=FILE ./install.sh installs FILE, a jpgsuite that was built before, and needs no kit."
     found=$(rt version 2>&1) || true
     case $found in
     "rattle-kit-13b logic dac8208d650f15bf" | "rattle-kit-13f logic dac8208d650f15bf") ;;
@@ -127,9 +132,10 @@ build() {
     order_of jpg_suite
     mkdir -p "${log%/*}"
     : > "$log"
-    echo "proving the ${#order[@]} crates of jpgsuite with $found (what an earlier run proved isn't proved again)"
+    [ -n "$cpu" ] || cpu=$(own_cpu)
+    echo "proving the ${#order[@]} crates of jpgsuite with $found (what an earlier run proved isn't proved again), for $cpu"
     echo "log: $log"
-    if ! (cd crates/jpg_suite && rt run -- "${words[@]}" < stdin 2>&1 > "$work/answer") | show_crates "$log"; then
+    if ! (cd crates/jpg_suite && rt run --cpu="$cpu" -- "${words[@]}" < stdin 2>&1 > "$work/answer") | show_crates "$log"; then
         grep -v ': proved$' "$log" >&2 || true
         fail "jpgsuite wasn't built: what rt printed is above, and in $log"
     fi
@@ -148,7 +154,7 @@ try_it() {
 install_all() {
     local dir name line names=() folders=() made=() above=0
     stage "$work/stage"
-    mapfile -t names < <(cd "$work/stage" && find . -type f | sed 's,^\./,,' | LC_ALL=C sort)
+    mapfile -t names < <(cd "$work/stage" && find . -type f -o -type l | sed 's,^\./,,' | LC_ALL=C sort)
     names=(bin/jpgsuite "${names[@]}" "$list")
     for name in "${names[@]}"; do
         is_ours "$root/$name" || fail "$root/$name is there already and isn't of jpgsuite: nothing was installed"
@@ -204,7 +210,8 @@ install_all() {
     install -m 644 "$work/stage/$list" "$root/$list"
     for name in "${names[@]}"; do
         case $name in
-        bin/*) install -m 755 "$work/stage/$name" "$root/$name" ;;
+        bin/jpgsuite) install -m 755 "$work/stage/$name" "$root/$name" ;;
+        bin/*) ln -sfn jpgsuite "$root/$name" ;;
         "$list") ;;
         *) install -m 644 "$work/stage/$name" "$root/$name" ;;
         esac
@@ -212,10 +219,14 @@ install_all() {
 
     cat <<END
 $("$program" --version) is installed in $root:
-  bin: jpgsuite, and its commands ${tools[*]}
+  bin: jpgsuite, and links to it, its commands ${tools[*]}
   share/man/man1: a manual page of each
-  share/bash-completion/completions, share/zsh/site-functions: completions (zsh wants the latter on its fpath)
+  share/bash-completion/completions, share/zsh/site-functions: completions
 Where PREFIX/bin comes first on PATH it hides others of these names.
+bash loads completions of ~/.local, /usr/local and /usr by itself; for another PREFIX, ~/.bashrc needs this line:
+  . $(printf %q "$prefix/share/bash-completion/completions/jpgsuite")
+zsh needs this one in ~/.zshrc, before compinit, unless the folder is on its fpath:
+  fpath=($(printf %q "$prefix/share/zsh/site-functions") \$fpath)
 ./install.sh --uninstall removes all of it.
 END
     case ":$PATH:" in
@@ -256,10 +267,19 @@ uninstall() {
 
 action=install_all
 prefix=""
-for word in "$@"; do
+cpu=""
+while [ $# -gt 0 ]; do
+    word=$1
+    shift
     case $word in
     --help) usage && exit 0 ;;
     --uninstall) action=uninstall ;;
+    --cpu)
+        case ${1:-} in
+        x86-64-v2 | x86-64-v3) cpu=$1 && shift ;;
+        *) fail "--cpu takes x86-64-v2 or x86-64-v3" ;;
+        esac
+        ;;
     -*) fail "unknown option $word (./install.sh --help lists them)" ;;
     "") fail "PREFIX is empty" ;;
     *)

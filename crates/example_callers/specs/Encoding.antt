@@ -2,6 +2,7 @@
 use Rattle.std.specs.Prelude.{◌≡◌, ℕ, false, List, [], ◌∷◌, Result, Ok, Err, None, Some}
 use Rattle.jpg_spec_encode.specs.Encoded.{Encoding, count_due, encode_fault, encoded_text}
 use Rattle.jpg_spec_words.specs.EncodeWords.{factors_due}
+use Rattle.jpg_spec_write.specs.declared.huffman.Huffman.TheVariants.{Plain}
 use Rattle.jpg_spec_write.specs.FileText.{off}
 use Rattle.jpg_spec_image.specs.Images.{Image}
 use Rattle.jpg_spec_image.specs.ImageFaults.{IsImage, IsImageFault}
@@ -33,6 +34,7 @@ abbrev pub encoding_at : ℕ → Image → Encoding
 encoding_at quality image = record {
   gray = false;
   scans = sequential;
+  huffman = Plain;
   restart = off;
   factors = factors_due [] (count_due false image.info.kind);
   first = (encoding_tables (Some quality) false None).0;
@@ -40,7 +42,7 @@ encoding_at quality image = record {
 }
 
 abbrev pub nothing_moved : Choice
-nothing_moved = as_it_is sequential off
+nothing_moved = as_it_is sequential Plain off
 
 -- the desk has one output, which has the text of the untransformed picture; or the picture has a fault
 abbrev pub HoldsAsItIs : Meaning → Result MemoryDesk NotTurned → Type 0

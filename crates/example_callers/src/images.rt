@@ -15,7 +15,7 @@ use jpg_color::{EncodeStop, Encoding, encode_picture};
 use jpg_dct::encoding_tables;
 use jpg_file::Picture;
 use jpg_pnm_bmp::{Fed2, Image, ImageKind, PixelReader};
-use jpg_transform::{Choice, Copying, Restart, Scans, Transform, plan};
+use jpg_transform::{Choice, Copying, Huffman, Restart, Scans, Transform, plan};
 use std::alloc::Global;
 
 /// The image of a file, PNM or BMP. It answers the file's first fault, at the number of bytes that reveal it,
@@ -103,6 +103,7 @@ fn write_as_it_is(alloc: Global, picture: &Picture) -> Result<MemoryDesk, NotTur
         gray: false,
         copying: Copying::None,
         scans: Scans::Sequential,
+        huffman: Huffman::Plain,
         restart: Restart::Off,
     };
     match plan(picture, &choice) {

@@ -1,13 +1,15 @@
 //! Real files and the standard streams. Contracts see only the counts.
 ghost use Rattle.std.specs.Prelude.{◌≡◌, ◌≤◌, ◌<◌, None, true, length};
 ghost use Rattle.jpg_base.specs.Desk.{raised, Rose};
-ghost use Rattle.jpg_base.specs.Standard.{ReadsSome, WritesAll};
+ghost use Rattle.jpg_base.specs.Standard.{ReadsSome, WritesAll, std_state, TellsNothing};
 
+use crate::beside::{Beside, create_beside};
 use crate::{Counts, Desk, Got, Name, Put};
 use std::alloc::AllocError;
+use std::fs::OpenFile;
 use std::io::{Read, Write};
 use std::rt::Runtime;
-use std::{fs, io};
+use std::{fs, io, mem};
 
 #[derive(Drop)]
 enum Source<R: Runtime> {
@@ -16,12 +18,13 @@ enum Source<R: Runtime> {
     File(R::File),
 }
 
-// Where bytes are written: standard output or a file.
+// Where bytes are written: standard output, a file, or a file beside the one that it will replace.
 #[derive(Drop)]
 enum Sink<R: Runtime> {
     Closed,
     Standard(R),
     File(R::File),
+    Beside(R::File, Beside),
 }
 
 impl<R: Runtime> Write for Sink<R> {
@@ -30,6 +33,7 @@ impl<R: Runtime> Write for Sink<R> {
             Sink::Closed => Ok(0),
             Sink::Standard(rt) => io::writer(rt).write(piece),
             Sink::File(file) => file.write(piece),
+            Sink::Beside(file, _) => file.write(piece),
         }
     }
 
@@ -54,6 +58,7 @@ pub struct StdDesk<R: Runtime> {
     rt: R,
     source: Source<R>,
     sink: Sink<R>,
+    replaces: bool,
     told: Told,
 }
 
@@ -65,28 +70,102 @@ fn raise(count: &mut u64)
     *count = count.saturating_add(1);
 }
 
+// A desk at which no call was made.
+fn unused<R: Runtime>(rt: R, replaces: bool) -> StdDesk<R>
+    ensures { TellsNothing (std_state result.told) }
+{
+    StdDesk {
+        rt,
+        source: Source::Closed,
+        sink: Sink::Closed,
+        replaces,
+        told: Told {
+            counts: Counts {
+                opens: 0,
+                reads: 0,
+                writes: 0,
+                says: 0,
+            },
+            input_open: false,
+            output_created: false,
+        },
+    }
+}
+
 impl<R: Runtime> StdDesk<R> {
+    ghost use Rattle.jpg_base.specs.Desk.{counted_write};
     ghost use Rattle.jpg_base.specs.Standard.{std_state, TellsNothing};
 
-    /// A desk with no input, no output and no failures yet.
+    /// A desk with no input, no output and no failures yet. An output with a name is written under this name.
     pub fn new(rt: R) -> Self
         ensures { TellsNothing (std_state result.told) }
     {
-        StdDesk {
-            rt,
-            source: Source::Closed,
-            sink: Sink::Closed,
-            told: Told {
-                counts: Counts {
-                    opens: 0,
-                    reads: 0,
-                    writes: 0,
-                    says: 0,
-                },
-                input_open: false,
-                output_created: false,
-            },
+        unused(rt, false)
+    }
+
+    /// As `new`, but an output with a name is written into a new file beside it, `NAME.jpgsuite-N`, which takes its
+    /// place at `keep`, or when one more output is created; until then a file of this name stays as it is. The new file
+    /// has the owner, the group and the mode of the one that it replaces. Where that can't be, where no file can be made
+    /// there, and where the name is of something else than a plain file with one name that may be written, the output
+    /// is written under its name.
+    pub fn replacing(rt: R) -> Self
+        ensures { TellsNothing (std_state result.told) }
+    {
+        unused(rt, true)
+    }
+
+    /// Ends the output. One that stands beside its place takes it, if it has any bytes, and else is removed. It is
+    /// removed too if it can't take its place: that is `Failed`, and counts as a write.
+    pub fn keep(&mut self) -> Put
+        ensures { std_state self.new.told ≡ record (std_state self.old.told) { counts = counted_write result (std_state self.old.told).counts } }
+    {
+        let sink = mem::replace(&mut self.sink, Sink::Closed);
+        let answer = put_in_place(&self.rt, sink);
+        match answer {
+            Put::Done => {}
+            Put::Failed => raise(&mut self.told.counts.writes),
         }
+        answer
+    }
+
+    /// Ends the output. One that stands beside its place is removed; if that fails, it is left there.
+    pub fn discard(&mut self)
+        ensures { std_state self.new.told ≡ std_state self.old.told }
+    {
+        let sink = mem::replace(&mut self.sink, Sink::Closed);
+        if let Sink::Beside(file, beside) = sink {
+            drop(file);
+            beside.remove(&self.rt);
+        }
+    }
+}
+
+// An output that stands beside its place takes it, if it has any bytes.
+fn put_in_place<R: Runtime>(rt: &R, sink: Sink<R>) -> Put {
+    let (file, beside) = match sink {
+        Sink::Beside(file, beside) => (file, beside),
+        _ => return Put::Done,
+    };
+    let is_empty = match file.metadata() {
+        Ok(found) => found.len() == 0,
+        Err(_) => false,
+    };
+    drop(file);
+    if is_empty {
+        beside.remove(rt);
+        return Put::Done;
+    }
+    beside.take_place(rt)
+}
+
+// Where the file of this name is written: beside its place, if it replaces what is there and that can be.
+fn file_sink<R: Runtime>(rt: &R, path: &str, replaces: bool) -> Option<Sink<R>> {
+    if replaces && let Some((file, beside)) = create_beside(rt, path) {
+        return Some(Sink::Beside(file, beside));
+    }
+    match fs::create(rt, path) {
+        Ok(file) => Some(Sink::File(file)),
+        Err(_) => None,
     }
 }
 
@@ -187,22 +266,20 @@ impl<R: Runtime> Desk for StdDesk<R> {
         let sink = match name {
             Name::Out => standard_output(&self.rt),
             Name::In => None,
-            Name::File(path) => match fs::create(&self.rt, path.as_str()) {
-                Ok(file) => Some(Sink::File(file)),
-                Err(_) => None,
-            },
+            Name::File(path) => file_sink(&self.rt, path.as_str(), self.replaces),
         };
-        match sink {
+        let answer = match sink {
             Some(sink) => {
-                self.sink = sink;
-                self.told.output_created = true;
-                Put::Done
+                let before = mem::replace(&mut self.sink, sink);
+                put_in_place(&self.rt, before)
             }
-            None => {
-                raise(&mut self.told.counts.opens);
-                Put::Failed
-            }
+            None => Put::Failed,
+        };
+        match answer {
+            Put::Done => self.told.output_created = true,
+            Put::Failed => raise(&mut self.told.counts.opens),
         }
+        answer
     }
 
     fn write(&mut self, piece: &[u8]) -> Put

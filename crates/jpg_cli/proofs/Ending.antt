@@ -1,5 +1,5 @@
 -- A run is its work, and then its message.
-use Rattle.std.proofs.Common.{◌≡◌, ℕ, Bool, true, false, List, take, Option, ◌∙◌, subst, arith, inl, inr, [], ◌∷◌, None, Some}
+use Rattle.std.proofs.Common.{◌≡◌, ℕ, Bool, true, false, List, take, Option, ◌∙◌, subst, arith, inl, inr, None, Some}
 use Rattle.std.specs.Io.KnownBytes.{Appends}
 use Rattle.jpg_base.specs.Desk.{DeskState, NoneFell}
 use Rattle.jpg_base.specs.Laws.{NoneFell-then}

@@ -13,7 +13,8 @@ use Rattle.jpg_spec.specs.InForce.{first_some}
 use Rattle.jpg_spec_write.specs.ScriptFaults.{script_fault}
 use Rattle.jpg_spec_image.specs.Images.{Image}
 use Rattle.jpg_spec_write.specs.ScansAsked.{Scans}
-use Rattle.jpg_spec_move.specs.Moved.{as_it_is, moved_text, picture_fault}
+use Rattle.jpg_spec_move.specs.Moved.{moved_text, picture_fault}
+use Rattle.jpg_spec_words.specs.EncodedKept.{as_encoded}
 use Rattle.jpg_spec.specs.FileMeaning.{Means}
 use Rattle.jpg_spec_words.specs.declared.answers.Why.{Why}
 use Rattle.jpg_spec_words.specs.declared.answers.Why.TheVariants as why
@@ -48,12 +49,12 @@ use Rattle.jpg_cli.proofs.TablesTaken.{stopped_tables_then, stops_after, tables_
 
 -- WRITING an encoded image: it isn't transformed
 
-written_fault : (e : Encoding) (I : Image) → sampling_fault e I ≡ None → encode_fault e I ≡ picture_fault (as_it_is e.scans e.restart) (encoded e I)
+written_fault : (e : Encoding) (I : Image) → sampling_fault e I ≡ None → encode_fault e I ≡ picture_fault (as_encoded e) (encoded e I)
 written_fault e I none = sym (stays_fault e I none)
 
-pub encoded_written : (e : Encoding) (I : Image) (output : Name) (s1 s2 : DeskState) (w : Why) → IsEncodable e I → sampling_fault e I ≡ None → AfterWritten (as_it_is e.scans e.restart) (encoded e I) output s1 w s2 → AfterEncoding e I output s1 w s2
+pub encoded_written : (e : Encoding) (I : Image) (output : Name) (s1 s2 : DeskState) (w : Why) → IsEncodable e I → sampling_fault e I ≡ None → AfterWritten (as_encoded e) (encoded e I) output s1 w s2 → AfterEncoding e I output s1 w s2
 encoded_written e I output s1 s2 w can none h =
-    let choice = as_it_is e.scans e.restart in
+    let choice = as_encoded e in
     inl (made_same (picture_fault choice (encoded e I)) (encode_fault e I) (moved_text choice (encoded e I)) (encoded_text e I)
     (IsMeant (encoded e I) → MeansMoved choice (encoded e I)) (Means standard_limits (encoded_text e I) (encoded e I)) output s1 s2 (written_fault e I none) (stays_text e I) (λ no means. encoded_means e I can no) w h)
 

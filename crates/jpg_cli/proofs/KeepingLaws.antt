@@ -87,7 +87,7 @@ moved_same choice M =
     ∙ headed_same choice N
 
 pub text_same : (choice : Choice) (M : Meaning) → moved_text choice (kept_for choice.copying M) ≡ moved_text choice M
-text_same choice M = ap (λ (N : Meaning). file_text N (script_due choice.scans (frame_of_meaning N) (colour_of N)) choice.restart) (moved_same choice M)
+text_same choice M = ap (λ (N : Meaning). file_text choice.huffman N (script_due choice.scans (frame_of_meaning N) (colour_of N)) choice.restart) (moved_same choice M)
 
 gray_same : (gray : Bool) (keeping : Copying) (M : Meaning) → gray_fault gray (kept_for keeping M) ≡ gray_fault gray M
 gray_same gray keeping M =

@@ -8,9 +8,9 @@ use Rattle.jpg_spec_words.specs.declared.answers.Why.{Why}
 use Rattle.jpg_spec_words.specs.declared.answers.Why.TheVariants as why
 use Rattle.jpg_spec_words.specs.declared.answers.Which.TheVariants as which
 use Rattle.jpg_spec_write.specs.declared.picture_fault.PictureFault.{PictureFault}
-use Rattle.jpg_cli.specs.Endings.{Added, Asks, GoesOnAfter, Stopped, Unopened}
+use Rattle.jpg_cli.specs.Endings.{Added, Asks, GoesOnAfter, Stopped}
 use Rattle.jpg_cli.specs.Desk.Judging.{IsAllRead, IsInput, NoValueRead, ReadsFrom, done_as, input_names, left_of}
-use Rattle.jpg_cli.specs.Desk.Reading.{rest_of, IsFile}
+use Rattle.jpg_cli.specs.Desk.Reading.{rest_of}
 use Rattle.jpg_cli.specs.Outcome.{Conversion, Converted, InputUnopened, MayCreate, ReadsValue, RowTexts, Writing, at_end, by_rows, RunsShort, StopsReading, StopsWriting, WritesPart, WritesRowsInPart, WritesValue, all_bytes, bytes_before, names_to_read, names_to_write, drawn}
 use Rattle.jpg_cli.specs.Desk.Writing.{AfterMade, AfterOutput, as_early}
 use Rattle.jpg_cli.specs.declared.desk.moved.Wrote.TheVariants as wrote

@@ -3,9 +3,11 @@ ghost use Rattle.std.specs.Prelude.{◌≡◌, OnOk, map};
 ghost use Rattle.jpg_pnm_bmp.specs.EndState.{new_end};
 ghost use Rattle.jpg_cli.specs.Tools.Ends.{AreNewEnds};
 
-use crate::top::run;
-use jpg_base::{NoMemory, StdDesk};
+use crate::top::{Ended, run, tell};
+use crate::words::{known_tool, tool_name};
+use jpg_base::{NoMemory, Put, StdDesk};
 use jpg_pnm_bmp::{BmpEnd, ImageEnd, PnmEnd};
+use jpg_spec_words::Why;
 use jpg_targa::TargaEnd;
 use std::alloc::Global;
 use std::env;
@@ -13,40 +15,102 @@ use std::io::ErrorKind;
 use std::process::ExitCode;
 use std::rt::Runtime;
 
-const VERSION: &str = "jpgsuite 0.8.0\n";
+const VERSION: &str = "jpgsuite 1.0.0\n";
 
-const HELP: &str = "\
+const JPEGTRAN: &str = "\
 jpegtran [-flip horizontal | -flip vertical | -rotate 90 | -rotate 180 | -rotate 270 | -transpose | -transverse]
     [-trim] [-grayscale] [-crop WxH+X+Y] [-copy none | -copy comments | -copy all] [-progressive | -scans SCRIPT]
-    [-restart N[B]] [-outfile NAME] [FILE] > OUTPUT
-djpeg [-pnm | -ppm | -bmp | -targa] [-grayscale] [-nosmooth] [-preview N] [-dct int] [-scale 1/1] [-outfile NAME]
-    [FILE] > OUTPUT
-cjpeg [-targa] [-quality N] [-grayscale] [-baseline] [-progressive | -scans SCRIPT] [-restart N[B]] [-sample HxV,..]
-    [-qtables TABLES] [-dct int] [-outfile NAME] [FILE] > OUTPUT
-rdjpgcom [FILE] > OUTPUT
-wrjpgcom [-replace] [-comment TEXT | -cfile FILE] [FILE] > OUTPUT
+    [-huffman plain | -huffman fitted] [-restart N[B]] [-outfile NAME] [FILE] > OUTPUT
 ";
 
-// The text about the program itself, if the words ask only for that.
-fn told(words: &[String]) -> Option<&'static str> {
-    match words {
-        [word] if word.as_str() == "--help" => Some(HELP),
-        [word] if word.as_str() == "--version" => Some(VERSION),
+const DJPEG: &str = "\
+djpeg [-pnm | -ppm | -bmp | -targa] [-grayscale] [-nosmooth] [-preview N] [-dct int] [-scale 1/1] [-outfile NAME]
+    [FILE] > OUTPUT
+";
+
+const CJPEG: &str = "\
+cjpeg [-targa] [-quality N] [-grayscale] [-baseline] [-progressive | -scans SCRIPT] [-huffman plain | -huffman fitted]
+    [-restart N[B]] [-sample HxV,..] [-qtables TABLES] [-dct int] [-outfile NAME] [FILE] > OUTPUT
+";
+
+const RDJPGCOM: &str = "rdjpgcom [FILE] > OUTPUT\n";
+
+const WRJPGCOM: &str = "wrjpgcom [-replace] [-comment TEXT | -cfile FILE] [FILE] > OUTPUT\n";
+
+static HELP: [&str; 5] = [JPEGTRAN, DJPEG, CJPEG, RDJPGCOM, WRJPGCOM];
+
+static ABOUT: [&str; 1] = [VERSION];
+
+// The help for a command; none for a trial of the program itself.
+fn help_for(tool: &str) -> Option<&'static [&'static str]> {
+    match tool {
+        "jpegtran" => Some(&HELP[0..1]),
+        "djpeg" => Some(&HELP[1..2]),
+        "cjpeg" => Some(&HELP[2..3]),
+        "rdjpgcom" => Some(&HELP[3..4]),
+        "wrjpgcom" => Some(&HELP[4..5]),
         _ => None,
     }
 }
 
-// The words after the program's name; or the exit status.
+// The texts that one word asks for: this help, or the version.
+fn asked(word: &str, help: &'static [&'static str]) -> Option<&'static [&'static str]> {
+    match word {
+        "--help" | "-help" | "-?" => Some(help),
+        "--version" => Some(&ABOUT),
+        _ => None,
+    }
+}
+
+// The texts about the program itself, or one of its commands, if the words ask only for that.
+fn told(words: &[String]) -> Option<&'static [&'static str]> {
+    match words {
+        [word] => asked(word.as_str(), &HELP),
+        [tool, word] => asked(word.as_str(), help_for(tool.as_str())?),
+        _ => None,
+    }
+}
+
+// Prints the texts; the exit status.
+fn print_all<R: Runtime>(rt: &R, texts: &[&str]) -> u8 {
+    for text in texts {
+        if print!(rt; "{text}").is_err() {
+            return 1;
+        }
+    }
+    0
+}
+
+// The command of the name that the program was called by, the last part of a path: none if no command has it.
+fn own_command(called: &str) -> Option<&'static str> {
+    match called.rsplit_once('/') {
+        Some((_, name)) => known_tool(name),
+        None => known_tool(called),
+    }
+}
+
+// The words of a call: those after the program's name, and that name before them where it is a command's. Or the exit
+// status.
 fn words<R: Runtime<A = Global>>(rt: &R) -> Result<Vec<String>, u8> {
     let mut words = Vec::new(rt.alloc());
-    let args = match env::args(rt) {
+    let mut args = match env::args(rt) {
         Ok(args) => args,
         Err(error) => match error.kind() {
             ErrorKind::OutOfMemory => return Err(3),
             _ => return Err(1),
         },
     };
-    for word in args.skip(1) {
+    if let Some(called) = args.next()
+        && let Some(tool) = own_command(called.as_str())
+    {
+        let Ok(tool) = String::from_str(rt.alloc(), tool) else {
+            return Err(3);
+        };
+        if words.push(tool).is_err() {
+            return Err(3);
+        }
+    }
+    for word in args {
         match words.push(word) {
             Ok(()) => {}
             Err(_) => return Err(3),
@@ -68,20 +132,58 @@ pub fn add_end(ends: &mut Vec<Box<dyn ImageEnd>>, end: Box<dyn ImageEnd>) -> Res
     }
 }
 
+// Whether the last word, which may name the input, stands before too, as the name of the output may.
+fn is_named_twice(words: &[String]) -> bool {
+    let Some((last, before)) = words.split_last() else {
+        return false;
+    };
+    for word in before {
+        if word.as_str() == last.as_str() {
+            return true;
+        }
+    }
+    false
+}
+
+// Whether an output has no place after a run that ended so: it isn't complete, or it has the first rows of a file that was
+// refused, and would replace that file.
+fn is_discarded(words: &[String], why: Why) -> bool {
+    match why {
+        Why::WriteFault | Why::ReadFault(_) | Why::NoMemory => true,
+        Why::Refused(_) => is_named_twice(words),
+        _ => false,
+    }
+}
+
+// Puts the output of a run into its place, or removes it. The exit status; if the output can't take its place, that of a
+// failed write, whose message is said.
+fn end_output<R: Runtime>(words: &[String], ended: Ended, desk: &mut StdDesk<R>) -> u8 {
+    if is_discarded(words, ended.why) {
+        desk.discard();
+        return ended.code;
+    }
+    match desk.keep() {
+        Put::Done => ended.code,
+        Put::Failed => {
+            tell(tool_name(words), Why::WriteFault, desk);
+            Why::WriteFault.code()
+        }
+    }
+}
+
 /// Runs the command that the program's words ask for over real files and the standard streams, and ends with its exit
-/// status. A single `--help` or `--version` prints the help or the version. If there is no memory for the words the
-/// status is 3, and if a word isn't UTF-8 it is 1, both without a message.
+/// status. Where the program was called by the name of a command, that is the first word. A single `--help`, `-help`,
+/// `-?` or `--version`, also after the name of a command, prints the help, all of it or that for the command, or the
+/// version. An output with a name takes its place when it is complete (`StdDesk::replacing`). If there is no memory for
+/// the words the status is 3, and if a word isn't UTF-8 it is 1, both without a message.
 pub fn run_program<R: Runtime<A = Global>>(rt: R) -> ExitCode {
     let alloc = rt.alloc();
     let words = match words(&rt) {
         Ok(words) => words,
         Err(code) => return ExitCode::from(code),
     };
-    if let Some(text) = told(words.as_slice()) {
-        return match print!(rt; "{text}") {
-            Ok(()) => ExitCode::from(0),
-            Err(_) => ExitCode::from(1),
-        };
+    if let Some(texts) = told(words.as_slice()) {
+        return ExitCode::from(print_all(&rt, texts));
     }
     let mut ends: Vec<Box<dyn ImageEnd>> = Vec::new(alloc);
     let Ok(pnm) = Box::new(alloc, PnmEnd::new()) else {
@@ -99,7 +201,7 @@ pub fn run_program<R: Runtime<A = Global>>(rt: R) -> ExitCode {
     {
         return ExitCode::from(3);
     }
-    let mut desk = StdDesk::new(rt);
+    let mut desk = StdDesk::replacing(rt);
     let ended = run(alloc, words.as_slice(), &mut desk, ends);
-    ExitCode::from(ended.code)
+    ExitCode::from(end_output(words.as_slice(), ended, &mut desk))
 }

@@ -26,8 +26,8 @@ pub struct Ended {
     pub why: Why,
 }
 
-// Says why a command ended; nothing for Done.
-fn tell<D: Desk>(tool: &str, why: Why, desk: &mut D)
+/// Says why a command ended; nothing for Done.
+pub fn tell<D: Desk>(tool: &str, why: Why, desk: &mut D)
     requires { length tool.now ≤ 8 }
     ensures kept { OnlySays (D.state desk.old) (D.state desk.new) }
     ensures said { SaysText (D.state desk.old) (message tool.now why) (D.state desk.new) }

@@ -48,8 +48,8 @@ pub enum Asked {
     Jpgwork(u16),
 }
 
-// The command of this name.
-fn known_tool(word: &str) -> Option<&'static str>
+/// The command of this name.
+pub fn known_tool(word: &str) -> Option<&'static str>
     ensures known { IfSome result (λ tool. (is_tool word.now ≡ true) × (tool.now ≡ word.now) × (length tool.now ≤ 8)) }
     ensures unknown { IfNone result (is_tool word.now ≡ false) }
 {

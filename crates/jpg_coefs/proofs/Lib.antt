@@ -7,4 +7,4 @@ pub mod MarkSinks
 pub mod Places
 pub mod ScanDue
 pub mod Stored
-pub mod SymbolsUsed
+pub mod SymbolCounts

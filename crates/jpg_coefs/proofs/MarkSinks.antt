@@ -1,5 +1,5 @@
 -- Sinks that count, one call after another, and the slots of a scan.
-use Rattle.std.proofs.Common.{◌≡◌, ℕ, ◌<◌, ◌==◌, Bool, true, false, List, [], ◌∷◌, ◌++◌, Option, None, Some, Ok, refl, sym, ap, ◌∙◌, subst, ℤ, lit<}
+use Rattle.std.proofs.Common.{◌≡◌, ℕ, ◌==◌, Bool, true, false, List, [], ◌∷◌, ◌++◌, Option, None, Some, Ok, refl, sym, ap, ◌∙◌, subst, ℤ, lit<}
 use Rattle.std.specs.Prelude.{flat_map, All}
 use Rattle.std.proofs.lemmas.List.{append_assoc, append-nil}
 use Rattle.std.proofs.lemmas.List.Elements.{All-head, All-tail, All-same}
@@ -7,16 +7,16 @@ use Rattle.jpg_spec.specs.Segments.{ScanHead}
 use Rattle.jpg_spec.specs.Scan.{part_of}
 use Rattle.jpg_spec.specs.declared.frame.ScanPart.{ScanPart}
 use Rattle.jpg_spec_write.specs.ScanText.{UnitDue, last_dc}
-use Rattle.jpg_huff.specs.Used.{Mark, AreUsed, Notes}
-use Rattle.jpg_huff.specs.declared.used.Used.{Used}
+use Rattle.jpg_huff.specs.Counts.{Mark, AreCounts, Notes}
+use Rattle.jpg_huff.specs.declared.counts.Counts.{Counts}
 use Rattle.jpg_huff.proofs.Marks.{but_start, but_then, but_same, but_last}
 use Rattle.jpg_coefs.specs.Sinks.{no_last, At, TakesUnit, Ends, Begins}
 use Rattle.jpg_coefs.specs.MarkSinks.{HasSlots, MarkSink, mark_kind}
 use Rattle.jpg_coefs.proofs.Places.{found_part, part_here, part_later}
 
-pub begins : {S D : Type 0} (b : MarkSink S) (now : At S Used D) (all : List (List UnitDue)) → b.later now.sink now.sink → AreUsed now.out → All (λ due. All (b.fits now.sink) due) all
+pub begins : {S D : Type 0} (b : MarkSink S) (now : At S Counts D) (all : List (List UnitDue)) → b.later now.sink now.sink → AreCounts now.out → All (λ due. All (b.fits now.sink) due) all
     → ((due : List UnitDue) → All (b.fits now.sink) due → b.rest now.sink no_last due ≡ b.marks now.sink due) → Begins (mark_kind b) all now
-begins b now all same used fits start first later e =
+begins b now all same are fits start first later e =
     let P : List UnitDue → Type 0 = λ due. All (b.fits now.sink) due in
     let each = All-same P (first ∷ later) all (sym e) fits in
     let marks = b.marks now.sink in
@@ -24,10 +24,10 @@ begins b now all same used fits start first later e =
       sink = same;
       rest_fits = All-head P first later each;
       later_fits = All-tail P first later each;
-      counting = but_start now.out (flat_map marks all) _ used (ap (λ m. m ++ flat_map marks later) (start first (All-head P first later each)) ∙ ap (flat_map marks) (sym e));
+      counting = but_start now.out (flat_map marks all) _ are (ap (λ m. m ++ flat_map marks later) (start first (All-head P first later each)) ∙ ap (flat_map marks) (sym e));
     }
 
-pub takes_unit : {S D : Type 0} (b : MarkSink S) (u : UnitDue) (last : ℤ) (old new : At S Used D)
+pub takes_unit : {S D : Type 0} (b : MarkSink S) (u : UnitDue) (last : ℤ) (old new : At S Counts D)
     → ((from : S) (lasts : ℕ → ℤ) (rest : List UnitDue) → b.later from old.sink → b.fits from u → lasts u.0 ≡ last
     → b.later from new.sink × (piece : List Mark) × (b.rest old.sink lasts (u ∷ rest) ≡ piece ++ b.rest new.sink (last_dc lasts u.0 u.1) rest) × Notes old.out piece new.out)
     → TakesUnit (mark_kind b) u last old (Ok tt) new
@@ -41,7 +41,7 @@ takes_unit b u last old new notes d e w =
       counting = but_then d.from.out old.out new.out _ _ h.1 _ (ap (λ m. m ++ more) h.2 ∙ append_assoc h.1 (b.rest new.sink (last_dc d.last u.0 u.1) d.rest) more) w.counting h.3;
     }
 
-pub ends : {S D : Type 0} (b : MarkSink S) (marker : Option ℕ) (old new : At S Used D) → ((last : ℕ → ℤ) → Notes old.out (b.rest old.sink last []) new.out)
+pub ends : {S D : Type 0} (b : MarkSink S) (marker : Option ℕ) (old new : At S Counts D) → ((last : ℕ → ℤ) → Notes old.out (b.rest old.sink last []) new.out)
     → ((from : S) (due : List UnitDue) → b.later from old.sink → All (b.fits from) due → b.later from new.sink × (b.rest new.sink no_last due ≡ b.marks from due)) → Ends (mark_kind b) marker old (Ok tt) new
 ends b (Some n) old new notes start = λ d next t w.
     let P : List UnitDue → Type 0 = λ due. All (b.fits d.from.sink) due in

@@ -1,14 +1,14 @@
--- WHAT COUNTING SINKS MARK: the symbols that a scan writes, by the tables of their codes (T.81, F.1.2, G.1.2).
-use Rattle.std.specs.Prelude.{◌≡◌, ℕ, ◌<◌, ◌≤◌, Bool, if◌then◌else◌, List, [], ◌∷◌, ◌++◌, length, flat_map, All, ℤ, Ok}
+-- WHAT COUNTING SINKS MARK: each symbol that a scan writes, by the tables of their codes (T.81, F.1.2, G.1.2).
+use Rattle.std.specs.Prelude.{◌≡◌, ℕ, ◌<◌, ◌≤◌, Bool, if◌then◌else◌, List, [], ◌∷◌, ◌++◌, length, map, flat_map, All, ℤ, Ok}
 use Rattle.jpg_spec.specs.Geometry.{Frame, is_progressive}
 use Rattle.jpg_spec.specs.Segments.{ScanHead}
 use Rattle.jpg_spec.specs.Elements.{symbol_of, is_dc_bit}
 use Rattle.jpg_spec.specs.Scan.{Blocks}
 use Rattle.jpg_spec.specs.declared.frame.ScanPart.{ScanPart}
-use Rattle.jpg_spec_write.specs.ScanText.{UnitDue, Owned, table_place, interval_elements, scan_elements, symbols_used}
+use Rattle.jpg_spec_write.specs.ScanText.{UnitDue, Owned, table_place, interval_elements, scan_elements, symbols_used, symbol_counts}
 use Rattle.jpg_huff.specs.Flat.{symbols_in}
-use Rattle.jpg_huff.specs.Used.{Rows, row, Mark, Notes, NotesBut}
-use Rattle.jpg_huff.specs.declared.used.Used.{Used}
+use Rattle.jpg_huff.specs.Counts.{Rows, row, capped, Mark, Notes, NotesBut}
+use Rattle.jpg_huff.specs.declared.counts.Counts.{Counts}
 use Rattle.jpg_coefs.specs.Sinks.{intervals_due, At, Due, SinkKind}
 
 -- the slots of a part
@@ -16,8 +16,9 @@ pub record HasSlots (p : ScanPart) : Type 0 where
   pub dc : p.dc < 2
   pub ac : p.ac < 2
 
--- by slots, the symbols of a class that the scan writes
+-- by slots, how often the scan writes each symbol of a class, and so which ones it writes
 pub record CountsClass (f : Frame) (head : ScanHead) (interval : ℕ) (blocks : Blocks) (class : ℕ) (rows : Rows) : Type 0 where
+  pub counts : (slot : ℕ) → slot < 2 → row rows slot ≡ map capped (symbol_counts head (scan_elements f head interval blocks) class slot)
   pub used : (slot : ℕ) → slot < 2 → symbols_in (row rows slot) ≡ symbols_used head (scan_elements f head interval blocks) class slot
   -- no symbol is 255
   pub few : (slot : ℕ) → slot < 2 → length (symbols_in (row rows slot)) ≤ 255
@@ -40,14 +41,14 @@ pub record MarkSink (S : Type 0) : Type 1 where
   pub rest : S → (ℕ → ℤ) → List UnitDue → List Mark
   pub later : S → S → Type 0
 
-pub record CountsDue {S D : Type 0} (b : MarkSink S) (d : Due S Used D) (now : At S Used D) : Type 0 where
+pub record CountsDue {S D : Type 0} (b : MarkSink S) (d : Due S Counts D) (now : At S Counts D) : Type 0 where
   pub sink : b.later d.from.sink now.sink
   pub rest_fits : All (b.fits d.from.sink) d.rest
   pub later_fits : All (λ due. All (b.fits d.from.sink) due) d.later
   pub counting : NotesBut d.from.out (flat_map (b.marks d.from.sink) d.all) (b.rest now.sink d.last d.rest ++ flat_map (b.marks d.from.sink) d.later) now.out
 
 -- counting has no faults
-abbrev pub mark_kind : {S D : Type 0} → MarkSink S → SinkKind S Used D
+abbrev pub mark_kind : {S D : Type 0} → MarkSink S → SinkKind S Counts D
 mark_kind b = record {
   due = λ d now. CountsDue b d now;
   ended = λ from all result out desk. (result ≡ Ok tt) × Notes from.out (flat_map (b.marks from.sink) all) out;

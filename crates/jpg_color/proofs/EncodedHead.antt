@@ -7,6 +7,7 @@ use Rattle.std.proofs.Math.ListN.{get_or-map}
 use Rattle.std.proofs.lemmas.List.{length-map}
 use Rattle.std.proofs.lemmas.List.Elements.{All-nil, All-cons, All-get_or}
 use Rattle.jpg_spec.specs.Lists.{below, any_of}
+use Rattle.jpg_spec_write.specs.declared.huffman.Huffman.TheVariants.{Plain}
 use Rattle.jpg_spec_write.specs.FileText.{off}
 use Rattle.jpg_spec.specs.FrameHeader.{IsFrame, HasFactors}
 use Rattle.jpg_spec.specs.Geometry.{Frame, greatest, h_max, v_max, component_at, padded_blocks}
@@ -37,7 +38,7 @@ use Rattle.jpg_spec_encode.proofs.EncodedWritten.{eight_bits}
 
 abbrev head_by : Image → Bool → Bool → List (ℕ × ℕ) → QuantTable → QuantTable → Meaning
 head_by image progressive gray factors first others =
-    let e : Encoding = record { gray = gray; scans = sequential; restart = off; factors = factors; first = first; others = others } in
+    let e : Encoding = record { gray = gray; scans = sequential; huffman = Plain; restart = off; factors = factors; first = first; others = others } in
     record (any_process e image) { process = process_due progressive (any_process e image) }
 
 same_head : (d e : Encoding) (image : Image) → asks_progressive d.scans ≡ asks_progressive e.scans → d.gray ≡ e.gray → d.factors ≡ e.factors → d.first ≡ e.first → d.others ≡ e.others

@@ -1,14 +1,13 @@
 -- A block filled in natural order from one in zigzag order.
-use Rattle.std.proofs.Common.{◌≡◌, ℕ, ◌+◌, ◌<◌, ◌≤◌, List, [], ◌∷◌, ◌++◌, length, take, set, map, nat_lt, true, get_or, slice_index, ℤ, pos, ◌*ℤ◌, nat_abs, add-one, refl, sym, ap, subst, ◌∙◌, arith, All, to_z, of_z}
-use Rattle.std.specs.Int.{w16}
+use Rattle.std.proofs.Common.{◌≡◌, ℕ, ◌+◌, ◌<◌, ◌≤◌, List, [], ◌∷◌, ◌++◌, length, take, set, map, nat_lt, true, get_or, slice_index, ℤ, pos, ◌*ℤ◌, nat_abs, add-one, refl, sym, ap, subst, ◌∙◌, arith, All}
 use Rattle.std.proofs.lemmas.Bool.{ltb-true}
-use Rattle.std.proofs.lemmas.Int.{to_z-of_z, fits_signed_from_abs}
-use Rattle.std.proofs.lemmas.List.Elements.{All-get_or}
+use Rattle.std.proofs.lemmas.List.Elements.{All-get_or, All-from_get_or}
 use Rattle.std.proofs.lemmas.List.Sums.{AllPass-from_list_all}
 use Rattle.std.proofs.lemmas.List.{take_more_set, take_more, take_all, map-append, get_or-map, length-map}
 use Rattle.jpg_spec.specs.Lists.{below, index_of}
 use Rattle.jpg_spec.specs.Zigzag.{zigzag}
 use Rattle.jpg_spec_image.specs.Dct.{number_at, dequantised}
+use Rattle.jpg_spec.proofs.Common.{length_below}
 use Rattle.jpg_spec.proofs.Rows.{at_below, by_items}
 use Rattle.jpg_dct.proofs.Bounds.{all_at}
 use Rattle.jpg_dct.specs.Natural.{natural, natural_table}
@@ -48,18 +47,9 @@ pub quants_done : (quants steps : List ℕ) (n : ℕ) → length steps ≡ 64 �
 quants_done quants steps n long is e =
     sym (take_all n steps (omega (arith, long, is))) ∙ e ∙ ap (λ m. map (λ k. slice_index quants (index_of k zigzag)) (below m)) is
 
--- products, one more of them
+-- products
 abbrev pub scaled : List ℤ → List ℕ → ℕ → ℤ
 scaled given steps n = number_at given n *ℤ pos (slice_index steps n)
-
-pub scaled_step : (given : List ℤ) (steps : List ℕ) (values : List ℤ) (n : ℕ) (v : ℤ) → length values ≡ 64 → n < 64 → take n values ≡ map (scaled given steps) (below n)
-    → v ≡ scaled given steps n → take (n + 1) (set values n v) ≡ map (scaled given steps) (below (n + 1))
-scaled_step given steps values n v long lt e is =
-    take_more_set values n v (omega (arith, long, lt))
-    ∙ ap (λ ys. ys ++ v ∷ []) e
-    ∙ ap (λ y. map (scaled given steps) (below n) ++ y ∷ []) is
-    ∙ sym (map-append (scaled given steps) (below n) (n ∷ []))
-    ∙ ap (λ m. map (scaled given steps) (below m)) (sym (add-one n))
 
 natural_at : (block : List ℤ) (n : ℕ) → n < 64 → number_at (natural block) n ≡ number_at block (index_of n zigzag)
 natural_at block n lt = get_or-map (λ m. number_at block (index_of m zigzag)) (below 64) n 0 (pos 0) lt ∙ ap (λ m. number_at block (index_of m zigzag)) (at_below 64 n lt)
@@ -73,24 +63,17 @@ each_scaled quants block n lt =
     ∙ ap (λ q. number_at block (index_of n zigzag) *ℤ pos q) (quant_at quants n lt)
     ∙ sym (get_or-map (value_of quants block) (below 64) n 0 (pos 0) lt ∙ ap (value_of quants block) (at_below 64 n lt))
 
-pub scaled_done : (quants : List ℕ) (block given : List ℤ) (steps : List ℕ) (values : List ℤ) (n : ℕ) → length values ≡ 64 → n ≡ 64 → take n values ≡ map (scaled given steps) (below n)
-    → given ≡ natural block → steps ≡ natural_table quants → values ≡ dequantised quants block
+pub whole_scaled : (quants : List ℕ) (block : List ℤ) → map (scaled (natural block) (natural_table quants)) (below 64) ≡ dequantised quants block
 unfolding dequantised
-scaled_done quants block given steps values n long is e eg es =
-    sym (take_all n values (omega (arith, long, is))) ∙ e ∙ ap (λ m. map (scaled given steps) (below m)) is
-    ∙ ap (λ g. map (scaled g steps) (below 64)) eg
-    ∙ ap (λ s. map (scaled (natural block) s) (below 64)) es
-    ∙ by_items 64 (scaled (natural block) (natural_table quants)) (map (value_of quants block) (below 64)) (pos 0) (length-map (below 64) (value_of quants block)) (each_scaled quants block)
+whole_scaled quants block =
+    by_items 64 (scaled (natural block) (natural_table quants)) (map (value_of quants block) (below 64)) (pos 0) (length-map (below 64) (value_of quants block)) (each_scaled quants block)
 
 -- numbers in natural order are as small as they were
-pub given_small : (block given : List ℤ) (n : ℕ) → n < 64 → given ≡ natural block → All (λ x. nat_abs x ≤ 1024) block → nat_abs (number_at given n) ≤ 1024
-given_small block given n lt e small =
-    subst (λ x. nat_abs x ≤ 1024) (sym (ap (λ (xs : List ℤ). number_at xs n) e ∙ natural_at block n lt)) (all_at (λ x. nat_abs x ≤ 1024) block (index_of n zigzag) (pos 0) small (omega arith))
-
-pub given_seen : (block given : List ℤ) (n : ℕ) → n < 64 → given ≡ natural block → All (λ x. nat_abs x ≤ 1024) block → to_z w16 (of_z w16 (number_at given n)) ≡ number_at given n
-given_seen block given n lt e small =
-    let few : nat_abs (number_at given n) ≤ 1024 = given_small block given n lt e small in
-    to_z-of_z w16 (number_at given n) (fits_signed_from_abs w16 (number_at given n) (omega (arith, few)))
+pub natural_small : (block : List ℤ) → All (λ x. nat_abs x ≤ 1024) block → All (λ x. nat_abs x ≤ 1024) (natural block)
+natural_small block small =
+    All-from_get_or (λ x. nat_abs x ≤ 1024) (natural block) (pos 0)
+    (λ n h. (let lt : n < 64 = omega (arith, h, length-map (below 64) (λ m. number_at block (index_of m zigzag)), length_below 64) in
+    subst (λ x. nat_abs x ≤ 1024) (sym (natural_at block n lt)) (all_at (λ x. nat_abs x ≤ 1024) block (index_of n zigzag) (pos 0) small (omega arith))))
 
 pub place_low : (n : ℕ) → n < 64 → get_or places n 0 < 64
 place_low n lt = ltb-true (get_or places n 0) 64 (All-get_or (λ x. nat_lt x 64 ≡ true) places n 0 lt (AllPass-from_list_all (λ x. nat_lt x 64) places refl))

@@ -1,5 +1,6 @@
 -- A PICTURE MADE OF AN IMAGE (the manual of cjpeg): what is asked for, when it can be made, and the result.
 use Rattle.std.specs.Prelude.{◌≡◌, Bool, true, false, [], length, slice_index_or, All, Option, Some, None, Result, Ok, Err}
+use Rattle.jpg_spec_write.specs.declared.huffman.Huffman.TheVariants.{Plain}
 use Rattle.jpg_spec_write.specs.FileText.{off}
 use Rattle.jpg_spec.specs.Geometry.{Frame}
 use Rattle.jpg_spec_image.specs.Images.{Image}
@@ -18,7 +19,7 @@ use Rattle.jpg_color.specs.declared.encode.Encoding.{Encoding as Asked}
 abbrev pub image_told : Read → Image
 image_told i = record { info = i.info; samples = i.samples }
 
--- WHAT IS ASKED FOR, in the terms of the definitions: default scans, and no restarts
+-- WHAT IS ASKED FOR, in the terms of the definitions: default scans, plain tables, and no restarts
 
 abbrev pub scans_asked : Bool → Scans
 scans_asked true = standard
@@ -28,13 +29,14 @@ abbrev pub encoding_request : Asked → Encoding
 encoding_request a = record {
   gray = a.gray;
   scans = scans_asked a.progressive;
+  huffman = Plain;
   restart = off;
   factors = a.factors.items;
   first = slice_index_or a.tables 0 [];
   others = slice_index_or a.tables 1 [];
 }
 
--- The same is asked for, whatever its scans and restarts are, if the scans are of the same kind.
+-- The same is asked for, whatever its scans, Huffman tables and restarts are, if the scans are of the same kind.
 pub record AsksFor (a : Asked) (e : Encoding) : Type 0 where
   pub gray : e.gray ≡ a.gray
   pub scans : asks_progressive e.scans ≡ a.progressive

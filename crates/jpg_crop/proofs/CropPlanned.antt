@@ -60,6 +60,7 @@ pub record IsCopied (area : Area) (plan crop : Plan) : Type 0 where
   pub jfif : crop.out.jfif ≡ plan.out.jfif
   pub copying : crop.out.copying ≡ plan.out.copying
   pub script : crop.script ≡ plan.script
+  pub huffman : crop.huffman ≡ plan.huffman
   pub restart : restart_of crop.restart ≡ restart_of plan.restart
 
 of_process : Frame → Process → Frame
@@ -85,6 +86,7 @@ planned_for p choice job area crop h inside k =
       script =
           k.script ∙ h.planned.script ∙ ap (script_due choice.scans out.frame) (sym k.colour)
           ∙ due_same choice.scans out.frame crop.out.frame crop.out.colour (sym (ap (λ (f : Frame). f.components) k.frame));
+      huffman = k.huffman ∙ h.planned.huffman;
       restart = k.restart ∙ h.planned.restart;
       counted = h.planned.counted;
     }

@@ -47,6 +47,7 @@ pub fn crop_plan(picture: &Picture, job: &Job, area: &Area) -> Result<CropJob, P
                 copying: out.copying,
             },
             script: job.plan.script.copy(),
+            huffman: job.plan.huffman,
             restart: job.plan.restart,
         },
         x0: corner_across(area, &out.frame),

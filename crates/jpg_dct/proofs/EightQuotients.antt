@@ -23,10 +23,10 @@ use Rattle.jpg_dct.specs.Eights.{IsEight, vector, quotient_at}
 use Rattle.jpg_dct.proofs.Eights.{lane, lane_is, second_is, eight_at, fits16, seen, same16}
 
 -- a function of lanes, eight times
-eight_naturals : (f : ℕ → ℕ) (k : ℕ) → k < 8 → slice_index (map f (below 8)) k ≡ f k
+pub eight_naturals : (f : ℕ → ℕ) (k : ℕ) → k < 8 → slice_index (map f (below 8)) k ≡ f k
 eight_naturals f k lt = get_or-map f (below 8) k 0 0 (omega (arith, length_below 8, lt)) ∙ ap f (at_below 8 k lt)
 
-plain_lane : (a : List ℕ) (k : ℕ) → length a ≡ 8 → k < 8 → get_or (a ++ a) k 0 ≡ slice_index a k
+pub plain_lane : (a : List ℕ) (k : ℕ) → length a ≡ 8 → k < 8 → get_or (a ++ a) k 0 ≡ slice_index a k
 plain_lane a k long lt = get_or_append_left a a 0 k (omega (arith, long, lt))
 
 pub plain_sums : (a b : List ℕ) → length a ≡ 8 → length b ≡ 8 → ((k : ℕ) → k < 8 → slice_index a k + slice_index b k < 65536) → (k : ℕ) → k < 8
@@ -61,7 +61,7 @@ opposite m = (0 + (65536 - m)) % 65536
 opposite_is : (x : ℤ) → nat_abs x ≤ 16384 → to_z w16 (opposite (of_z w16 x)) ≡ neg_ℤ x
 opposite_is x h =
     let e : pos 0 -ℤ x ≡ neg_ℤ x = omega (arith, ints) in
-    wrapping_sub_is w16 (pos 0) x (fits16 (pos 0) (omega arith)) (fits16 x h) ∙ int_wrap_fits w16 (pos 0 -ℤ x) (fits16 (pos 0 -ℤ x) (omega (arith, ints, h))) ∙ e
+    wrapping_sub_is w16 (pos 0) x (fits16 (pos 0) (omega arith)) (fits16 x (omega (arith, h))) ∙ int_wrap_fits w16 (pos 0 -ℤ x) (fits16 (pos 0 -ℤ x) (omega (arith, ints, h))) ∙ e
 
 chosen : (b : Bool) (p q : ℕ) → to_z w16 (cond (top 15 (cond b 65535 0)) p q) ≡ cond b (to_z w16 p) (to_z w16 q)
 chosen true p q = refl
@@ -118,7 +118,7 @@ as_signed (pos n) q h few =
     ap (λ s. to_z w16 ((bit_xor q (of_z w16 (shr_z s 32768)) + (65536 - of_z w16 (shr_z s 32768))) % 65536)) (to_z-of_z w16 (pos n) (fits16 (pos n) (omega (arith, h))))
     ∙ ap (λ m. to_z w16 ((bit_xor q (of_z w16 (pos m)) + (65536 - of_z w16 (pos m))) % 65536)) z
     ∙ ap (to_z w16) e
-    ∙ to_z-of_z w16 (pos q) (fits16 (pos q) few)
+    ∙ to_z-of_z w16 (pos q) (fits16 (pos q) (omega (arith, few)))
 as_signed (negsuc n) q h few =
     let z : n / 32768 ≡ 0 = omega (arith, h) in
     let e : (bit_xor q 65535 + 1) % 65536 ≡ (0 + (65536 - q)) % 65536 = omega (arith, few, all_bits q few) in
@@ -177,7 +177,7 @@ block_lane_is d all n few =
     let k : ℕ = n % 8 in
     let li : i < 8 = omega (arith, few) in
     let lk : k < 8 = omega arith in
-    let fit : to_z w16 (of_z w16 (number_at (vector d i) k)) ≡ number_at (vector d i) k = to_z-of_z w16 (number_at (vector d i) k) (fits16 (number_at (vector d i) k) ((all i li).small k lk)) in
+    let fit : to_z w16 (of_z w16 (number_at (vector d i) k)) ≡ number_at (vector d i) k = to_z-of_z w16 (number_at (vector d i) k) (fits16 (number_at (vector d i) k) (omega (arith, (all i li).small k lk))) in
     ⊎_elim
     (λ (a : n % 16 < 8). (let q : 2 * (n / 16) ≡ i = omega (arith, a) in
     let r : n % 16 ≡ k = omega (arith, a) in

@@ -30,7 +30,7 @@ lane_is w a b k long lt =
 pub eight_at : (f : ℕ → ℤ) (k : ℕ) → k < 8 → number_at (map f (below 8)) k ≡ f k
 eight_at f k lt = get_or-map f (below 8) k 0 (pos 0) (omega (arith, length_below 8, lt)) ∙ ap f (at_below 8 k lt)
 
-pub fits16 : (x : ℤ) → nat_abs x ≤ 16384 → FitsSigned w16 x
+pub fits16 : (x : ℤ) → nat_abs x ≤ 32767 → FitsSigned w16 x
 fits16 x h = fits_signed_from_abs w16 x (omega (arith, h))
 
 fits32 : (x : ℤ) → nat_abs x ≤ 1073741824 → FitsSigned w32 x
@@ -74,13 +74,13 @@ second_is w a b k la lb lt =
 abbrev pub product_lane : ℕ → ℤ → ℕ
 product_lane m k = of_z w32 (to_z w16 m) * of_z w32 k % 4294967296
 
-product_is : (m : ℕ) (x k : ℤ) → m ≡ of_z w16 x → nat_abs x ≤ 16384 → FitsSigned w32 k → to_z w32 (product_lane m k) ≡ int_wrap w32 (x *ℤ k)
+product_is : (m : ℕ) (x k : ℤ) → m ≡ of_z w16 x → nat_abs x ≤ 32767 → FitsSigned w32 k → to_z w32 (product_lane m k) ≡ int_wrap w32 (x *ℤ k)
 product_is m x k e h fk =
     ap (λ n. to_z w32 (product_lane n k)) e
     ∙ ap (λ z. to_z w32 (of_z w32 z * of_z w32 k % 4294967296)) (to_z-of_z w16 x (fits16 x h))
     ∙ wrapping_mul_is w32 x k (fits32 x (omega (arith, h))) fk
 
-pub dots_are : (a b : List ℤ) (p q : ℤ) → IsEight 16384 a → IsEight 16384 b → FitsSigned w32 p → FitsSigned w32 q → (k : ℕ) → k < 8
+pub dots_are : (a b : List ℤ) (p q : ℤ) → IsEight 32767 a → IsEight 32767 b → FitsSigned w32 p → FitsSigned w32 q → (k : ℕ) → k < 8
     → number_at (map (λ n. to_z w32 ((product_lane (lane w16 a b n) p + product_lane (lane w16 a b (8 + n)) q) % 4294967296)) (below 8)) k
     ≡ int_wrap w32 ((number_at a k *ℤ p) +ℤ (number_at b k *ℤ q))
 dots_are a b p q ea eb fp fq k lt =
@@ -146,7 +146,7 @@ all_fit x e =
 abbrev pub again : ℤ → ℤ
 again x = to_z w16 (of_z w16 x)
 
-thrice : (x : ℤ) → nat_abs x ≤ 8192 → again (again (again (again x))) ≡ x
+thrice : (x : ℤ) → nat_abs x ≤ 32767 → again (again (again (again x))) ≡ x
 thrice x h =
     let once : again x ≡ x = to_z-of_z w16 x (fits16 x (omega (arith, h))) in
     ap (λ z. again (again (again z))) once ∙ ap (λ z. again (again z)) once ∙ ap again once ∙ once
@@ -154,7 +154,7 @@ thrice x h =
 abbrev pub turned_lane : Eight → ℕ → ℕ → ℤ
 turned_lane d v u = again (again (again (to_z w16 (lane w16 (vector d (u % 4)) (vector d (4 + u % 4)) (8 * (u / 4) + v)))))
 
-turned_lane_is : (d : Eight) → ((u : ℕ) → u < 8 → IsEight 8192 (vector d u)) → (u v : ℕ) → u < 8 → v < 8 → turned_lane d v u ≡ number_at (vector d u) v
+turned_lane_is : (d : Eight) → ((u : ℕ) → u < 8 → IsEight 32767 (vector d u)) → (u v : ℕ) → u < 8 → v < 8 → turned_lane d v u ≡ number_at (vector d u) v
 turned_lane_is d all u v lu lv =
     ap (λ z. again (again (again z))) to_z_lane ∙ thrice (number_at (vector d u) v) ((all u lu).small v lv)
   where
@@ -184,7 +184,7 @@ vectors_long f v lv =
     ap length (get_or-map (λ v. map (f v) (below 8)) (below 8) v 0 [] (omega (arith, length_below 8, lv)))
     ∙ length-map (below 8) (f (get_or (below 8) v 0)) ∙ length_below 8
 
-pub turned_are : (d : Eight) → ((u : ℕ) → u < 8 → IsEight 8192 (vector d u)) → (u v : ℕ) → u < 8 → v < 8
+pub turned_are : (d : Eight) → ((u : ℕ) → u < 8 → IsEight 32767 (vector d u)) → (u v : ℕ) → u < 8 → v < 8
     → number_at (slice_index_or (map (λ v. map (turned_lane d v) (below 8)) (below 8)) v []) u ≡ number_at (vector d u) v
 turned_are d all u v lu lv = vector_at (turned_lane d) u v lu lv ∙ turned_lane_is d all u v lu lv
 
@@ -249,7 +249,7 @@ all_rounded x r e long at = record {
   small = λ k lt. subst (λ z. nat_abs z ≤ 8192) (sym (at k lt)) (rounded_small (number_at x k) (e.small k lt));
 }
 
-scaled_small : (a k : ℤ) (m : ℕ) → nat_abs a ≤ m → nat_abs (a *ℤ k) ≤ m * nat_abs k
+pub scaled_small : (a k : ℤ) (m : ℕ) → nat_abs a ≤ m → nat_abs (a *ℤ k) ≤ m * nat_abs k
 scaled_small a k m h =
     let e : nat_abs (a *ℤ k) ≡ nat_abs a * nat_abs k = unsigned_abs-mul a k in
     let l : nat_abs a * nat_abs k ≤ m * nat_abs k = mul-le (nat_abs a) (nat_abs k) m (nat_abs k) h (omega arith) in
@@ -291,7 +291,7 @@ wide_sums_are a b la lb i lt x y ex ey =
 abbrev pub seen : Width → List ℤ → List ℤ
 seen w xs = map (to_z w) (map (of_z w) xs)
 
-same_seen : (w : Width) (xs : List ℤ) → ((k : ℕ) → k < length xs → FitsSigned w (number_at xs k)) → seen w xs ≡ xs
+pub same_seen : (w : Width) (xs : List ℤ) → ((k : ℕ) → k < length xs → FitsSigned w (number_at xs k)) → seen w xs ≡ xs
 same_seen w xs fit =
     let l1 : length (seen w xs) ≡ length (map (of_z w) xs) = length-map (map (of_z w) xs) (to_z w) in
     let l2 : length (map (of_z w) xs) ≡ length xs = length-map xs (of_z w) in
@@ -301,24 +301,24 @@ same_seen w xs fit =
     ∙ ap (to_z w) (get_or-map (of_z w) xs k (pos 0) 0 here)
     ∙ to_z-of_z w (number_at xs k) (fit k here)))
 
-pub same16 : (n : ℕ) (xs : List ℤ) → n ≤ 16384 → IsEight n xs → seen w16 xs ≡ xs
+pub same16 : (n : ℕ) (xs : List ℤ) → n ≤ 32767 → IsEight n xs → seen w16 xs ≡ xs
 same16 n xs few e = same_seen w16 xs (λ k lt. fits16 (number_at xs k) (omega (arith, few, e.small k (omega (arith, lt, e.long)))))
 
 pub same32 : (xs : List ℤ) → IsEight 536870912 xs → seen w32 xs ≡ xs
 same32 xs e = same_seen w32 xs (λ k lt. fits32 (number_at xs k) (omega (arith, e.small k (omega (arith, lt, e.long)))))
 
 -- the same of products, of what a call sees
-pub plain_dots : (a b r : List ℤ) (k l : ℤ) → IsEight 16384 a → IsEight 16384 b → FitsSigned w32 k → FitsSigned w32 l
+pub plain_dots : (a b r : List ℤ) (k l : ℤ) → IsEight 32767 a → IsEight 32767 b → FitsSigned w32 k → FitsSigned w32 l
     → ((i : ℕ) → i < 8 → number_at r i ≡ int_wrap w32 ((number_at (seen w16 a) i *ℤ to_z w32 (of_z w32 k)) +ℤ (number_at (seen w16 b) i *ℤ to_z w32 (of_z w32 l))))
     → (i : ℕ) → i < 8 → number_at r i ≡ int_wrap w32 ((number_at a i *ℤ k) +ℤ (number_at b i *ℤ l))
 plain_dots a b r k l ea eb fk fl at i lt =
     at i lt
-    ∙ ap (λ xs. int_wrap w32 ((number_at xs i *ℤ to_z w32 (of_z w32 k)) +ℤ (number_at (seen w16 b) i *ℤ to_z w32 (of_z w32 l)))) (same16 16384 a (omega arith) ea)
-    ∙ ap (λ xs. int_wrap w32 ((number_at a i *ℤ to_z w32 (of_z w32 k)) +ℤ (number_at xs i *ℤ to_z w32 (of_z w32 l)))) (same16 16384 b (omega arith) eb)
+    ∙ ap (λ xs. int_wrap w32 ((number_at xs i *ℤ to_z w32 (of_z w32 k)) +ℤ (number_at (seen w16 b) i *ℤ to_z w32 (of_z w32 l)))) (same16 32767 a (omega arith) ea)
+    ∙ ap (λ xs. int_wrap w32 ((number_at a i *ℤ to_z w32 (of_z w32 k)) +ℤ (number_at xs i *ℤ to_z w32 (of_z w32 l)))) (same16 32767 b (omega arith) eb)
     ∙ ap (λ z. int_wrap w32 ((number_at a i *ℤ z) +ℤ (number_at b i *ℤ to_z w32 (of_z w32 l)))) (to_z-of_z w32 k fk)
     ∙ ap (λ z. int_wrap w32 ((number_at a i *ℤ k) +ℤ (number_at b i *ℤ z))) (to_z-of_z w32 l fl)
 
-pub seen_eight16 : {n : ℕ} {xs : List ℤ} → n ≤ 16384 → IsEight n xs → IsEight n (seen w16 xs)
+pub seen_eight16 : {n : ℕ} {xs : List ℤ} → n ≤ 32767 → IsEight n xs → IsEight n (seen w16 xs)
 seen_eight16 {n} {xs} few e = subst (IsEight n) (sym (same16 n xs few e)) e
 
 pub seen_eight32 : (xs : List ℤ) → IsEight 536870912 xs → IsEight 536870912 (seen w32 xs)
@@ -338,7 +338,7 @@ pub seen_long : (w : Width) (r : List ℤ) → length r ≡ 8 → length (seen w
 seen_long w r long = length-map (map (of_z w) r) (to_z w) ∙ length-map r (of_z w) ∙ long
 
 -- two products, as a call sees them
-pub seen_dots : (a b r : List ℤ) (k l : ℤ) → IsEight 16384 a → IsEight 16384 b → FitsSigned w32 k → FitsSigned w32 l → length r ≡ 8
+pub seen_dots : (a b r : List ℤ) (k l : ℤ) → IsEight 32767 a → IsEight 32767 b → FitsSigned w32 k → FitsSigned w32 l → length r ≡ 8
     → ((i : ℕ) → i < 8 → number_at r i ≡ int_wrap w32 ((number_at (seen w16 a) i *ℤ to_z w32 (of_z w32 k)) +ℤ (number_at (seen w16 b) i *ℤ to_z w32 (of_z w32 l))))
     → (i : ℕ) → i < 8 → number_at (seen w32 r) i ≡ int_wrap w32 ((number_at a i *ℤ k) +ℤ (number_at b i *ℤ l))
 seen_dots a b r k l ea eb fk fl long at i lt =
@@ -514,7 +514,7 @@ quarter_sums_are a b ea eb room k lt =
     ∙ ap (λ m. quarter_lane ((m + lane w16 b b k) % 65536)) (lane_is w16 a a k ea.long lt)
     ∙ ap (λ m. quarter_lane ((of_z w16 x + m) % 65536)) (lane_is w16 b b k eb.long lt)
     ∙ quarter_lane_is ((of_z w16 x + of_z w16 y) % 65536) (x +ℤ y) (mod_below (of_z w16 x + of_z w16 y) 65536 (omega arith))
-    (wrapping_add_is w16 x y (fits16 x (ea.small k lt)) (fits16 y (eb.small k lt)) ∙ int_wrap_fits w16 (x +ℤ y) (room_fits (x +ℤ y) (room k lt))) (room k lt)
+    (wrapping_add_is w16 x y (fits16 x (omega (arith, ea.small k lt))) (fits16 y (omega (arith, eb.small k lt))) ∙ int_wrap_fits w16 (x +ℤ y) (room_fits (x +ℤ y) (room k lt))) (room k lt)
 
 pub quarter_differences_are : (a b : List ℤ) → IsEight 16384 a → IsEight 16384 b → ((k : ℕ) → k < 8 → HasRoom (number_at a k -ℤ number_at b k)) → (k : ℕ) → k < 8
     → number_at (map (λ n. quarter_lane ((lane w16 a a n + (65536 - lane w16 b b n)) % 65536)) (below 8)) k ≡ quarter (number_at a k -ℤ number_at b k)
@@ -525,7 +525,7 @@ quarter_differences_are a b ea eb room k lt =
     ∙ ap (λ m. quarter_lane ((m + (65536 - lane w16 b b k)) % 65536)) (lane_is w16 a a k ea.long lt)
     ∙ ap (λ m. quarter_lane ((of_z w16 x + (65536 - m)) % 65536)) (lane_is w16 b b k eb.long lt)
     ∙ quarter_lane_is ((of_z w16 x + (65536 - of_z w16 y)) % 65536) (x -ℤ y) (mod_below (of_z w16 x + (65536 - of_z w16 y)) 65536 (omega arith))
-    (wrapping_sub_is w16 x y (fits16 x (ea.small k lt)) (fits16 y (eb.small k lt)) ∙ int_wrap_fits w16 (x -ℤ y) (room_fits (x -ℤ y) (room k lt))) (room k lt)
+    (wrapping_sub_is w16 x y (fits16 x (omega (arith, ea.small k lt))) (fits16 y (omega (arith, eb.small k lt))) ∙ int_wrap_fits w16 (x -ℤ y) (room_fits (x -ℤ y) (room k lt))) (room k lt)
 
 pub quarters_eight : (f : ℕ → ℤ) (r : List ℤ) → length r ≡ 8 → ((k : ℕ) → k < 8 → HasRoom (f k)) → ((k : ℕ) → k < 8 → number_at r k ≡ quarter (f k)) → IsEight 8192 r
 quarters_eight f r long room at = record { long = long; small = λ k lt. subst (λ z. nat_abs z ≤ 8192) (sym (at k lt)) (quarter_small (f k) (room k lt)) }

@@ -3,13 +3,17 @@ pub mod Division
 pub mod EightFrequencies
 pub mod EightQuotients
 pub mod Eights
+pub mod LaneSamples
 pub mod Lines
 pub mod Loops
+pub mod LongSums
 pub mod Lows
+pub mod Multiplied
 pub mod Natural
 pub mod Samples
 pub mod Scaled
 pub mod Several
+pub mod ShortBlocks
 pub mod TableLists
 pub mod TableRuns
 pub mod Wrapped

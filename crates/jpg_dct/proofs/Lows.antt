@@ -28,7 +28,7 @@ row_more lows old new v lt e is =
     ∙ sym (flat_map-append (map natural_of) (take v lows) (get_or lows v [] ∷ []))
     ∙ ap (flat_map (map natural_of)) (sym (take_more lows v [] lt))
 
-joined_is : {X : Type 0} (f : X → List ℕ) (xs : List X) → flat_map f xs ≡ flat_map (λ y. y) (map f xs)
+pub joined_is : {X : Type 0} (f : X → List ℕ) (xs : List X) → flat_map f xs ≡ flat_map (λ y. y) (map f xs)
 joined_is f [] = refl
 joined_is f (x ∷ xs) = ap (λ ys. f x ++ ys) (joined_is f xs)
 

@@ -7,7 +7,7 @@ use lib.Signed.{mag_shr}
 use Rattle.jpg_spec_image.specs.Dct.{ranged, sample_of}
 use Rattle.jpg_dct.proofs.Wrapped.{start}
 
-shifted_fits : (w : Width) (z : ℤ) (m : ℕ) → FitsSigned w z → FitsSigned w (int_shr z m)
+pub shifted_fits : (w : Width) (z : ℤ) (m : ℕ) → FitsSigned w z → FitsSigned w (int_shr z m)
 shifted_fits w z m f = record { sfits = omega (arith, mag_shr z (2 ^ m), f.sfits) }
 
 -- x is the sum s, wrapped to the width
@@ -25,7 +25,7 @@ pub one_bound : (s : ℤ) (n top : ℕ) → nat_abs s ≤ n → n + 1024 < top �
 one_bound s n top h l = omega (arith, ints, h, l)
 
 -- ten bits of a number, of the number wrapped to 32 bits, and to 64
-low32 : (z : ℤ) → of_z w32 (int_wrap w32 z) / 262144 % 1024 ≡ nat_abs (int_rem_euclid (int_shr z 18) (pos 1024))
+pub low32 : (z : ℤ) → of_z w32 (int_wrap w32 z) / 262144 % 1024 ≡ nat_abs (int_rem_euclid (int_shr z 18) (pos 1024))
 unfolding int_wrap
 low32 (pos a) =
     ap (λ n. n / 262144 % 1024) (of_z-to_z w32 (a % 4294967296) (omega arith)) ∙ omega arith

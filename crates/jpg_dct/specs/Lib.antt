@@ -2,8 +2,10 @@ pub mod Both
 pub mod Division
 pub mod Eights
 pub mod Lines
+pub mod Multipliers
 pub mod Natural
 pub mod ReadTables
+pub mod Sums
 pub mod TableState
 pub mod Told
 pub mod TriedTexts

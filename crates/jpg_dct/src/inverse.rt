@@ -3,7 +3,9 @@ ghost use Rattle.std.specs.Prelude.{◌≡◌, ◌≤◌, ◌*ℤ◌, pos, All, 
 ghost use Rattle.jpg_spec_image.specs.Dct.{inverse_dct};
 
 pub mod flat;
+pub mod multipliers;
 pub mod narrow;
+pub mod short;
 pub mod wide;
 
 /// A coefficient times its quantiser.
@@ -31,12 +33,28 @@ fn greatest(values: &[i32; 64]) -> u32
     greatest
 }
 
+// Small numbers in 16 bits.
+#[inline(always)]
+fn shortened(values: &[i32; 64]) -> [i16; 64]
+    requires { All (λ x. nat_abs x ≤ 1090) values.now }
+    ensures { result ≡ values.now }
+{
+    let mut short = [0; 64];
+    for n in 0..64 {
+        short[n] = values[n] as i16;
+    }
+    short
+}
+
 /// The 64 samples of a block of dequantised coefficients, both in natural order.
 pub fn idct(values: &[i32; 64]) -> [u8; 64]
     requires { All (λ x. nat_abs x ≤ 67108864) values.now }
     ensures { result ≡ inverse_dct values.now }
 {
-    if greatest(values) <= 8191 {
+    let most = greatest(values);
+    if most <= 1090 {
+        short::idct_short(&shortened(values))
+    } else if most <= 8191 {
         narrow::block(values)
     } else {
         wide::block(values)

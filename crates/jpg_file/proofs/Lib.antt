@@ -52,6 +52,7 @@ pub mod RowTurns
 pub mod RowWorks
 pub mod Runs
 pub mod ScanRuns
+pub mod CountsKept
 pub mod DueTables
 pub mod TableSets
 pub mod ScanHeads
@@ -74,3 +75,6 @@ pub mod StripWorks
 pub mod RowsNone
 pub mod RowsEarly
 pub mod RowsEnd
+pub mod UnitsWithin
+pub mod FewElements
+pub mod FewSymbols

@@ -24,7 +24,7 @@ use Rattle.jpg_file.proofs.TableSets.{given_own, given_same as set_same}
 
 module _ (plan : Plan) (f : Frame) (blocks : Blocks) (e : Entry) (due : ScanDue) (is : IsDue plan f blocks e due) where
   abbrev tables : ℕ → ℕ → HuffmanTable
-  tables = scan_tables plan.out.frame due.head (scan_elements f due.head due.interval blocks)
+  tables = scan_tables plan.huffman plan.out.frame due.head (scan_elements f due.head due.interval blocks)
 
   slots : All HasSlots due.head.parts
   slots = subst (λ (h : ScanHead). All HasSlots h.parts) (sym is.head) (head_slots (is_progressive plan.out.frame.process) plan.out.colour e)
@@ -62,10 +62,10 @@ module _ (plan : Plan) (f : Frame) (blocks : Blocks) (e : Entry) (due : ScanDue)
       let text : (ℕ → ℕ → HuffmanTable) → ScanHead → ℕ → List (ℕ × ℕ) → List ℕ → List ℕ = λ tables h n ns d. tables_text w.tables tables ns ++ (head_due ids h w.interval n ++ d) in
       ap (λ t. t ++ (head_due ids due.head w.interval due.interval ++ scan_data (tables_in due.tables) due.head (scan_elements f due.head due.interval blocks))) (text_same w.tables (tables_in due.tables) tables due.needed.items same)
       ∙ ap (text tables due.head due.interval due.needed.items) (data_same (tables_in due.tables) tables due.head (scan_elements f due.head due.interval blocks) slots (set_same due.tables tables is.tables))
-      ∙ by_entry (λ h n ns. (let es = scan_elements f h n blocks in text (scan_tables file h es) h n ns (scan_data (scan_tables file h es) h es)))
+      ∙ by_entry (λ h n ns. (let es = scan_elements f h n blocks in text (scan_tables plan.huffman file h es) h n ns (scan_data (scan_tables plan.huffman file h es) h es)))
 
   pub written_is : (w : Written) → due_written w due ≡ written_after plan f blocks w e
   written_is w =
       let both : (ℕ → ℕ → HuffmanTable) → ℕ → List (ℕ × ℕ) → Written = λ tables n ns. record { tables = tables_given w.tables tables ns; interval = n } in
       ap (λ t. (let w : Written = record { tables = t; interval = due.interval } in w)) (given_same w.tables (tables_in due.tables) tables due.needed.items same)
-      ∙ by_entry (λ h n ns. both (scan_tables plan.out.frame h (scan_elements f h n blocks)) n ns)
+      ∙ by_entry (λ h n ns. both (scan_tables plan.huffman plan.out.frame h (scan_elements f h n blocks)) n ns)

@@ -151,7 +151,7 @@ module _ (plan : Plan) (kept : List (ℕ × List ℕ)) (f : Frame) (blocks : Blo
 
   -- a scan and the remaining ones
   pub scans_are_text : (w : Written) (script : List Entry) → All (CanWriteScan plan f blocks) script
-      → scans_bytes plan f blocks w script ≡ scans_text H (restart_of plan.restart) w script
+      → scans_bytes plan f blocks w script ≡ scans_text plan.huffman H (restart_of plan.restart) w script
   unfolding scans_text
   scans_are_text w [] all = refl
   scans_are_text w (e ∷ script) all =
@@ -164,9 +164,9 @@ module _ (plan : Plan) (kept : List (ℕ × List ℕ)) (f : Frame) (blocks : Blo
       let needed = tables_needed is_prog e head in
       let names = head_names is_prog (colour_of H) e in
       let there : Each (λ i. i < length g.components) (head_components head) = subst (Each (λ i. i < length g.components)) (sym names) (each_of (λ i. i < length g.components) e.components (All-head (CanWriteScan plan f blocks) e script all).there) in
-      let after : ScanHead → ℕ → List (List Owned) → Written = λ h n es. record { tables = tables_given w.tables (scan_tables g h es) (tables_needed is_prog e h); interval = n } in
+      let after : ScanHead → ℕ → List (List Owned) → Written = λ h n es. record { tables = tables_given w.tables (scan_tables plan.huffman g h es) (tables_needed is_prog e h); interval = n } in
       let own : ScanHead → ℕ → List ℕ → List (List Owned) → List ℕ = λ h n ids es.
-      tables_text w.tables (scan_tables g h es) (tables_needed is_prog e h) ++ ((interval_text w.interval n ++ segment_text 0xda (head_bytes ids h)) ++ scan_data (scan_tables g h es) h es) in
+      tables_text w.tables (scan_tables plan.huffman g h es) (tables_needed is_prog e h) ++ ((interval_text w.interval n ++ segment_text 0xda (head_bytes ids h)) ++ scan_data (scan_tables plan.huffman g h es) h es) in
       let whole : ScanHead → ℕ → List ℕ → List (List Owned) → List ℕ = λ h n ids es. own h n ids es ++ scans_bytes plan f blocks (after h n es) script in
       let ids = map (λ c. c.id) H.components in
       ap (λ c. (let h = scan_head is_prog c e in let n = interval_of g h restart in whole h n (identifiers g.components) (scan_elements f h n blocks))) can.colour
@@ -174,13 +174,13 @@ module _ (plan : Plan) (kept : List (ℕ × List ℕ)) (f : Frame) (blocks : Blo
       ∙ ap (λ i. whole head N i (scan_elements f head N blocks)) (sym (meaning_ids plan kept blocks can.tables))
       ∙ ap (whole head N ids) (elements_same g f F head N blocks can.seen can.grids grids there)
       ∙ ap (λ r. own head N ids E ++ r) (scans_are_text (after head N E) script (All-tail (CanWriteScan plan f blocks) e script all))
-      ∙ in_order (tables_text w.tables (scan_tables g head E) needed) (interval_text w.interval N) (segment_text 0xda (head_bytes ids head)) (scan_data (scan_tables g head E) head E) (scans_text H restart (after head N E) script)
+      ∙ in_order (tables_text w.tables (scan_tables plan.huffman g head E) needed) (interval_text w.interval N) (segment_text 0xda (head_bytes ids head)) (scan_data (scan_tables plan.huffman g head E) head E) (scans_text plan.huffman H restart (after head N E) script)
 
   pub file_is : front_text (head_meaning plan.out kept) ++ (scans_due plan f blocks ++ eoi) ≡ file_bytes plan kept blocks
   unfolding file_text
   file_is =
       let front = front_text (head_meaning plan.out kept) in
-      ap (λ t. front ++ (t ++ eoi)) (scans_are_text nothing_written plan.script can_scans) ∙ sym (append_assoc front (scans_text H (restart_of plan.restart) nothing_written plan.script) eoi)
+      ap (λ t. front ++ (t ++ eoi)) (scans_are_text nothing_written plan.script can_scans) ∙ sym (append_assoc front (scans_text plan.huffman H (restart_of plan.restart) nothing_written plan.script) eoi)
 
 -- A SCAN THAT IS LEFT, and the remaining ones
 

@@ -19,21 +19,24 @@ use jpg_coefs::BlockView;
 use jpg_huff::BitOut;
 use jpg_markers::{KeptList, OutHead, file_head};
 use jpg_scans::Script;
+use jpg_spec_write::Huffman;
 
-/// How a file is written: what its head is written from, the scans that it is written in, and where restart markers are
-/// in them.
+/// How a file is written: what its head is written from, the scans that it is written in, which Huffman tables they
+/// have, and where restart markers are in them.
 #[derive(Drop)]
 pub struct Plan {
     pub out: OutHead,
     pub script: Script,
+    pub huffman: Huffman,
     pub restart: Restart,
 }
 
 /// Writes a complete file to the output that was created last: all up to the frame header as `file_head` does; for each
 /// entry of the script a DHT segment for each table that it needs and that isn't the last one of its class and slot, a
 /// DRI segment if its restart interval isn't the one before, the scan header, and the data of its scan; and EOI (T.81,
-/// B.2.1). In a sequential file of precision 8 slot 0 has K.3 and K.5, slot 1 K.4 and K.6; in any other the slots have
-/// tables of codes of one length for what the scan writes. Components 2 and 3 of YCbCr and YCCK use slot 1. The blocks
+/// B.2.1). If fitted tables are asked for, the slots have those that are made for the scan (K.2). Otherwise in a
+/// sequential file of precision 8 slot 0 has K.3 and K.5, slot 1 K.4 and K.6; in any other the slots have tables of codes
+/// of one length for what the scan writes. Components 2 and 3 of YCbCr and YCCK use slot 1. The blocks
 /// are those of the view, whose frame has the same precision and grids. It takes no memory. After WriteFault a first
 /// part of the file is written.
 pub fn write_file<V: BlockView, D: Desk>(

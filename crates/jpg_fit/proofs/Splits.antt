@@ -1,11 +1,14 @@
 -- Sizes adjusted place by place are adjusted as they are defined.
-use Rattle.std.proofs.Common.{◌≡◌, ℕ, zero, suc, ◌+◌, ◌-◌, ◌<◌, ◌≤◌, List, [], ◌∷◌, ◌++◌, length, get_or, take, drop, refl, sym, ap, ◌∙◌, subst, arith, ◌==◌}
-use Rattle.std.specs.Prelude.{sum, set, count_by, slice_index}
-use Rattle.std.proofs.lemmas.List.{append_assoc, append-nil, take_more, take_all, drop_more, drop_all, take-append-drop, set_at, length-take-le, length_push, length-drop, get_or-drop, get_or-set_other, drop_at, drop-set-lt, drop-set, get_or-set_same, length-set}
-use Rattle.std.proofs.lemmas.List.Sums.{sum_by-cons, get_or-le-sum_by}
+use Rattle.std.proofs.Common.{◌≡◌, ℕ, zero, suc, ◌+◌, ◌-◌, ◌<◌, ◌≤◌, Bool, true, false, cond, ◌&&◌, ⊎_elim, List, [], ◌∷◌, ◌++◌, length, get_or, take, drop, refl, sym, ap, ◌∙◌, subst, arith, ◌==◌}
+use Rattle.std.specs.Prelude.{nat_lt, nat_le, sum, set, count_by, replicate, slice_index}
+use Rattle.std.proofs.lemmas.Bool.{cases_eq}
+use Rattle.std.proofs.lemmas.Bool.Decides.{nat_tests}
+use Rattle.std.proofs.lemmas.List.{append_assoc, append-nil, take_more, take_all, drop_more, drop_all, take-append-drop, set_at, length-take-le, length-take, length_push, length-drop, get_or-drop, get_or-set_other, drop_at, drop-set-lt, get_or-set_same, length-set}
+use Rattle.std.proofs.lemmas.List.Sums.{sum_by-cons, sum_by_push, get_or-le-sum_by}
+use Rattle.jpg_spec.proofs.Common.{lt_of, lt_yes, le_of, not_lt_of, not_same, same_itself, and_none}
 use Rattle.jpg_spec_fit.specs.Fitted.{code_split, longest_moved, limited, one_less, sizes_counted, fitted_counts}
 use Rattle.jpg_spec_fit.proofs.FittedSizes.{sum_counted, insides_few}
-use Rattle.jpg_fit.specs.Sizes.{all_sizes}
+use Rattle.jpg_fit.specs.Sizes.{all_sizes, with_size}
 use Rattle.jpg_fit.specs.Split.{split_at}
 
 -- a list around two places
@@ -157,16 +160,110 @@ pub counts_are : (sizes long short less : List ℕ) → drop 256 long ≡ limite
 unfolding fitted_counts all_sizes
 counts_are sizes long short less a e f = f ∙ ap one_less (e ∙ a)
 
-pub counted_more : (sizes counts : List ℕ) (done n : ℕ) → done < 272 → length counts ≡ 272 → n ≡ count_by (λ s. s == done + 1) sizes → drop (272 - done) counts ≡ sizes_counted done sizes → drop (272 - (done + 1)) (set counts (271 - done) n) ≡ sizes_counted (done + 1) sizes
-counted_more sizes counts done n l size e same =
-    let at : 272 - (done + 1) ≡ 271 - done = omega (arith, l) in
-    let past : 271 - done + 1 ≡ 272 - done = omega (arith, l) in
-    let next : done + 1 ≡ suc done = omega arith in
-    ap (λ k. drop k (set counts (271 - done) n)) at ∙ drop-set counts (271 - done) n (omega (arith, l, size)) ∙ ap (λ k. n ∷ drop k counts) past ∙ ap (λ r. n ∷ r) same
-    ∙ ap (λ k. k ∷ sizes_counted done sizes) (e ∙ ap (λ k. count_by (λ s. s == k) sizes) next) ∙ sym (ap (λ k. sizes_counted k sizes) next)
+-- of another size
+counted_other : (n size : ℕ) (sizes : List ℕ) → ((k : ℕ) → 1 ≤ k → k ≤ n → size ≡ k → ⊥) → sizes_counted n (sizes ++ size ∷ []) ≡ sizes_counted n sizes
+counted_other zero size sizes other = refl
+counted_other (suc n) size sizes other =
+    let p = sum_by_push (λ s. cond (s == suc n) 1 0) sizes size in
+    let one : ℕ = 1 in
+    let none : ℕ = 0 in
+    let no : cond (size == suc n) one none ≡ none = ap (λ b. cond b one none) (not_same size (suc n) (other (suc n) (omega arith) (omega arith))) in
+    let same : count_by (λ s. s == suc n) (sizes ++ size ∷ []) ≡ count_by (λ s. s == suc n) sizes = omega (arith, p, no) in
+    ap (λ k. k ∷ sizes_counted n (sizes ++ size ∷ [])) same ∙ ap (λ r. count_by (λ s. s == suc n) sizes ∷ r) (counted_other n size sizes (λ k low high. other k low (omega (arith, high))))
 
-pub counted_all : (sizes counts : List ℕ) (done : ℕ) → done ≡ 272 → drop (272 - done) counts ≡ sizes_counted done sizes → counts ≡ all_sizes sizes
+counted_here : (n size : ℕ) (sizes : List ℕ) → 1 ≤ size → size ≤ n → sizes_counted n (sizes ++ size ∷ []) ≡ set (sizes_counted n sizes) (n - size) (slice_index (sizes_counted n sizes) (n - size) + 1)
+counted_here zero size sizes low high = (let never : ⊥ = omega (arith, low, high) in absurd never)
+counted_here (suc n) size sizes low high = ⊎_elim longest (shorter (counted_here n size sizes low)) (cases_eq size (suc n))
+  where
+    rest : List ℕ
+    rest = sizes_counted n sizes
+
+    first : ℕ
+    first = count_by (λ s. s == suc n) sizes
+
+    added : count_by (λ s. s == suc n) (sizes ++ size ∷ []) ≡ first + cond (size == suc n) 1 0
+    added = sum_by_push (λ s. cond (s == suc n) 1 0) sizes size
+
+    raised : List ℕ → ℕ → List ℕ
+    raised counts at = set counts at (slice_index counts at + 1)
+
+    longest : size ≡ suc n → sizes_counted (suc n) (sizes ++ size ∷ []) ≡ set (first ∷ rest) (suc n - size) (slice_index (first ∷ rest) (suc n - size) + 1)
+    longest e =
+        let z : 0 ≡ suc n - size = omega (arith, e) in
+        let yes = added ∙ ap (λ b. first + cond b 1 0) (ap (λ k. size == k) (sym e) ∙ same_itself size) in
+        ap (λ k. k ∷ sizes_counted n (sizes ++ size ∷ [])) yes ∙ ap (λ r. (first + 1) ∷ r) (counted_other n size sizes (λ k l h same. omega (arith, e, h, same)))
+        ∙ ap (λ at. set (first ∷ rest) at (slice_index (first ∷ rest) at + 1)) z
+
+    shorter : (size ≤ n → sizes_counted n (sizes ++ size ∷ []) ≡ raised rest (n - size)) → (size ≡ suc n → ⊥) → sizes_counted (suc n) (sizes ++ size ∷ []) ≡ set (first ∷ rest) (suc n - size) (slice_index (first ∷ rest) (suc n - size) + 1)
+    shorter before apart =
+        let l : size ≤ n = omega (arith, high, apart) in
+        let s : suc (n - size) ≡ suc n - size = omega (arith, l) in
+        let no : first + cond (size == suc n) 1 0 ≡ first = ap (λ b. first + cond b 1 0) (not_same size (suc n) apart) ∙ omega arith in
+        ap (λ k. k ∷ sizes_counted n (sizes ++ size ∷ [])) (added ∙ no) ∙ ap (λ r. first ∷ r) (before l)
+        ∙ ap (λ at. set (first ∷ rest) at (slice_index (first ∷ rest) at + 1)) s
+
+le_yes : (a b : ℕ) → a ≤ b → nat_le a b ≡ true
+le_yes a b h = grind (arith, nat_tests)
+
+le_no : (a b : ℕ) → b < a → nat_le a b ≡ false
+le_no a b h = grind (arith, nat_tests)
+
+not_le_of : (a b : ℕ) → nat_le a b ≡ false → b < a
+not_le_of a b e = grind (arith, nat_tests)
+
+counted_more : (size : ℕ) (sizes : List ℕ) → sizes_counted 272 (sizes ++ size ∷ []) ≡ with_size (sizes_counted 272 sizes) size
+unfolding with_size
+counted_more size sizes = by (nat_lt 0 size) (nat_le size 272) refl refl
+  where
+    counts : List ℕ
+    counts = sizes_counted 272 sizes
+
+    by : (a b : Bool) → nat_lt 0 size ≡ a → nat_le size 272 ≡ b → sizes_counted 272 (sizes ++ size ∷ []) ≡ cond (nat_lt 0 size && nat_le size 272) (set counts (272 - size) (slice_index counts (272 - size) + 1)) counts
+    by false b e f =
+        counted_other 272 size sizes (λ k l h same. (let z = not_lt_of 0 size e in omega (arith, z, l, same)))
+        ∙ sym (ap (λ t. cond (t && nat_le size 272) (set counts (272 - size) (slice_index counts (272 - size) + 1)) counts) e)
+    by true false e f =
+        counted_other 272 size sizes (λ k l h same. (let far = not_le_of size 272 f in omega (arith, far, h, same)))
+        ∙ sym (ap (λ t. cond (t && nat_le size 272) (set counts (272 - size) (slice_index counts (272 - size) + 1)) counts) e ∙ ap (λ t. cond t (set counts (272 - size) (slice_index counts (272 - size) + 1)) counts) f)
+    by true true e f =
+        counted_here 272 size sizes (let l = lt_of 0 size e in omega (arith, l)) (le_of size 272 f)
+        ∙ sym (ap (λ t. cond (t && nat_le size 272) (set counts (272 - size) (slice_index counts (272 - size) + 1)) counts) e ∙ ap (λ t. cond t (set counts (272 - size) (slice_index counts (272 - size) + 1)) counts) f)
+
+pub none_counted : (sizes : List ℕ) → replicate 272 0 ≡ all_sizes (take 0 sizes)
 unfolding all_sizes
-counted_all sizes counts done e same =
-    let z : 272 - done ≡ 0 = omega (arith, e) in
-    sym (ap (λ k. drop k counts) z) ∙ same ∙ ap (λ k. sizes_counted k sizes) e
+none_counted sizes = refl
+
+pub size_counted : (sizes counts new : List ℕ) (i : ℕ) → i < length sizes → counts ≡ all_sizes (take i sizes) → new ≡ with_size counts (slice_index sizes i) → new ≡ all_sizes (take (i + 1) sizes)
+unfolding all_sizes
+size_counted sizes counts new i l e h =
+    h ∙ ap (λ c. with_size c (slice_index sizes i)) e ∙ sym (counted_more (slice_index sizes i) (take i sizes)) ∙ sym (ap (sizes_counted 272) (take_more sizes i 0 l))
+
+few_within : (n m : ℕ) (sizes : List ℕ) → length sizes ≤ m → sum (sizes_counted n sizes) ≤ m
+few_within n m sizes h = (let few = few_of n (length sizes) sizes refl in omega (arith, few, h))
+
+pub few_so_far : (sizes counts : List ℕ) (i : ℕ) → length sizes ≡ 257 → counts ≡ all_sizes (take i sizes) → sum counts ≤ 257
+unfolding all_sizes
+few_so_far sizes counts i l e =
+    let t = length-take i sizes in
+    subst (λ c. sum c ≤ 257) (sym e) (few_within 272 257 (take i sizes) (omega (arith, t, l)))
+
+pub small_count : (counts : List ℕ) (i : ℕ) → i < length counts → sum counts ≤ 257 → slice_index counts i ≤ 257
+small_count counts i l few = (let most = get_or-le-sum_by (λ n. n) counts i 0 l in omega (arith, most, few))
+
+pub size_written : (counts : List ℕ) (size : ℕ) → 0 < size → size ≤ 272 → set counts (272 - size) (slice_index counts (272 - size) + 1) ≡ with_size counts size
+unfolding with_size
+size_written counts size low high = sym (ap (λ t. cond (t && nat_le size 272) raised counts) (lt_yes 0 size low) ∙ ap (λ t. cond t raised counts) (le_yes size 272 high))
+  where
+    raised : List ℕ
+    raised = set counts (272 - size) (slice_index counts (272 - size) + 1)
+
+pub size_none : (counts : List ℕ) (size : ℕ) → size ≡ 0 → counts ≡ with_size counts size
+unfolding with_size
+size_none counts size e = sym (ap (λ n. cond (nat_lt 0 n && nat_le n 272) (set counts (272 - n) (slice_index counts (272 - n) + 1)) counts) e)
+
+pub size_long : (counts : List ℕ) (size : ℕ) → 272 < size → counts ≡ with_size counts size
+unfolding with_size
+size_long counts size h = sym (ap (λ t. cond t raised counts) (ap (λ t. nat_lt 0 size && t) (le_no size 272 h) ∙ and_none (nat_lt 0 size)))
+  where
+    raised : List ℕ
+    raised = set counts (272 - size) (slice_index counts (272 - size) + 1)

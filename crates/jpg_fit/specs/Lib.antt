@@ -1,3 +1,4 @@
 pub mod Groups
+pub mod Parts
 pub mod Sizes
 pub mod Split

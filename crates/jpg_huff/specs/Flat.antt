@@ -1,7 +1,7 @@
--- The symbols that are used, for a table of codes of one length.
-use Rattle.std.specs.Prelude.{ℕ, Bool, false, List, filter, slice_index_or}
+-- The symbols that are sent, for a table of codes of one length.
+use Rattle.std.specs.Prelude.{ℕ, nat_lt, List, filter, slice_index}
 use Rattle.jpg_spec.specs.Lists.{below}
 
--- the symbols that are true, ascending
-unfoldable pub symbols_in : List Bool → List ℕ
-symbols_in used = filter (λ symbol. slice_index_or used symbol false) (below 256)
+-- the symbols whose count isn't 0, ascending
+unfoldable pub symbols_in : List ℕ → List ℕ
+symbols_in counts = filter (λ symbol. nat_lt 0 (slice_index counts symbol)) (below 256)

@@ -6,13 +6,13 @@ ghost use Rattle.jpg_huff.specs.Flat.{symbols_in};
 
 use crate::{Table, Typical, typical};
 
-// Adds a symbol to the first ones, if it is used. Answers how many there are then.
-fn keep(used: bool, symbol: u8, symbols: &mut [u8; 256], count: u16) -> u16
+// Adds a symbol to the first ones, if it is sent. Answers how many there are then.
+fn keep(is_sent: bool, symbol: u8, symbols: &mut [u8; 256], count: u16) -> u16
     requires { count < 256 }
-    ensures kept { take result symbols.new ≡ take count symbols.old ++ (if used then symbol ∷ [] else []) }
+    ensures kept { take result symbols.new ≡ take count symbols.old ++ (if is_sent then symbol ∷ [] else []) }
     ensures most { result ≤ count + 1 }
 {
-    if used {
+    if is_sent {
         symbols[count as usize] = symbol;
         count + 1
     } else {
@@ -20,14 +20,14 @@ fn keep(used: bool, symbol: u8, symbols: &mut [u8; 256], count: u16) -> u16
     }
 }
 
-// Puts the symbols that are used at the start of the list, and answers how many they are.
-fn gather(used: &[bool; 256], symbols: &mut [u8; 256]) -> u16
-    ensures kept { take result symbols.new ≡ symbols_in used.now }
+// Puts the symbols that are sent at the start of the list, and answers how many they are.
+fn gather(counts: &[u32; 256], symbols: &mut [u8; 256]) -> u16
+    ensures kept { take result symbols.new ≡ symbols_in counts.now }
     ensures most { result ≤ 256 }
 {
     let mut count = 0;
     for symbol in 0..256usize {
-        count = keep(used[symbol], symbol as u8, symbols, count);
+        count = keep(counts[symbol] > 0, symbol as u8, symbols, count);
     }
     count
 }
@@ -55,14 +55,14 @@ fn flat_counts(count: u8) -> [u8; 16]
     counts
 }
 
-/// The table of these symbols, at most 255, in ascending order with codes of one length: the least of which there are
-/// more codes than symbols, since none may be all ones (T.81, Annex C).
-pub fn flat(used: &[bool; 256]) -> Table
-    requires { length (symbols_in used.now) ≤ 255 }
-    ensures { table_of result ≡ flat_table (symbols_in used.now) }
+/// The table of the symbols whose count isn't 0, at most 255, in ascending order with codes of one length: the least of
+/// which there are more codes than symbols, since none may be all ones (T.81, Annex C).
+pub fn flat(counts: &[u32; 256]) -> Table
+    requires { length (symbols_in counts.now) ≤ 255 }
+    ensures { table_of result ≡ flat_table (symbols_in counts.now) }
 {
     let mut symbols = [0; 256];
-    let count = gather(used, &mut symbols) as u8;
+    let count = gather(counts, &mut symbols) as u8;
     match Table::new(&flat_counts(count), &symbols[..count as usize]) {
         Ok(table) => table,
         Err(_) => typical(Typical::DcLuma),

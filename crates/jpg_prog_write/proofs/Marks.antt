@@ -7,8 +7,8 @@ use Rattle.jpg_spec.specs.Segments.{ScanHead}
 use Rattle.jpg_spec.specs.Elements.{Element, difference, dc_bit, value, long_run, ends, symbol_of, predicted}
 use Rattle.jpg_spec.specs.Scan.{Blocks, part_of}
 use Rattle.jpg_spec.proofs.Common.{lt_yes}
-use Rattle.jpg_huff.specs.Used.{AreUsed, Mark, Notes, no_symbols}
-use Rattle.jpg_huff.specs.declared.used.Used.{Used}
+use Rattle.jpg_huff.specs.Counts.{AreCounts, Mark, Notes, no_counts}
+use Rattle.jpg_huff.specs.declared.counts.Counts.{Counts}
 use Rattle.jpg_huff.proofs.Marks.{notes_nothing, notes_same}
 use Rattle.jpg_coefs.specs.MarkSinks.{owned_marks, interval_marks, scan_marks}
 use Rattle.jpg_coefs.specs.Sinks.{intervals_due}
@@ -71,5 +71,5 @@ no_marks f head interval blocks progressive dc refines =
     let all = intervals_due f head interval blocks in
     ap (λ p. flat_map (interval_marks p head) all) progressive ∙ none_marked head all dc refines
 
-pub unmarked_used : (used : Used) (marks : List Mark) → marks ≡ [] → used ≡ no_symbols → AreUsed used → Notes no_symbols marks used
-unmarked_used used marks none e are = subst (λ (u : Used). Notes u marks used) e (notes_same used used [] marks (sym none) (notes_nothing used are))
+pub unmarked_counts : (counts : Counts) (marks : List Mark) → marks ≡ [] → counts ≡ no_counts → AreCounts counts → Notes no_counts marks counts
+unmarked_counts counts marks none e are = subst (λ (u : Counts). Notes u marks counts) e (notes_same counts counts [] marks (sym none) (notes_nothing counts are))

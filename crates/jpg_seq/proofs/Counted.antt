@@ -12,7 +12,7 @@ use Rattle.jpg_spec_write.specs.Sending.{sent, shifted, band_elements}
 use Rattle.jpg_spec_write.specs.ScanText.{UnitDue, last_dc, unit_elements}
 use Rattle.jpg_spec_write.specs.WrittenFile.{HasBlocksIn}
 use Rattle.jpg_spec_write.proofs.Shifts.{shifted_none}
-use Rattle.jpg_huff.specs.Used.{Mark}
+use Rattle.jpg_huff.specs.Counts.{Mark}
 use Rattle.jpg_coefs.specs.Sinks.{IsScanPlace, block_due}
 use Rattle.jpg_coefs.specs.MarkSinks.{HasSlots, owned_marks}
 use Rattle.jpg_coefs.proofs.MarkSinks.{slots_of}

@@ -7,7 +7,7 @@ use Rattle.jpg_spec.specs.Scan.{part_of}
 use Rattle.jpg_spec.specs.declared.frame.ScanPart.{ScanPart}
 use Rattle.jpg_spec_write.specs.Sending.{sent, band_elements}
 use Rattle.jpg_spec_write.specs.ScanText.{UnitDue, unit_elements}
-use Rattle.jpg_huff.specs.Used.{Mark}
+use Rattle.jpg_huff.specs.Counts.{Mark}
 use Rattle.jpg_coefs.specs.MarkSinks.{HasSlots, MarkSink, owned_marks, interval_marks}
 use Rattle.jpg_seq.specs.BlockBits.{run_elements}
 use Rattle.jpg_seq.specs.declared.count.SeqCounter.{SeqCounter}

@@ -5,63 +5,63 @@ ghost use Rattle.jpg_spec.specs.Geometry.{is_progressive};
 ghost use Rattle.jpg_spec.specs.Segments.{head_components};
 ghost use Rattle.jpg_spec_write.specs.WrittenFile.{HasBlocksIn};
 ghost use Rattle.jpg_base.specs.Cursor.{AreIn};
-ghost use Rattle.jpg_huff.specs.Used.{AreUsed, Notes};
+ghost use Rattle.jpg_huff.specs.Counts.{AreCounts, Notes};
 ghost use Rattle.jpg_coefs.specs.MarkSinks.{HasSlots, CountsClass, mark_kind};
 ghost use Rattle.jpg_seq.specs.Counted.{AreFew, run_marks, band_marks, block_marks, seq_counter};
 
 use crate::write::difference;
 use jpg_base::{Block, ScanHead, ScanPart, WriteFault};
 use jpg_coefs::{BlockView, UnitSink, part_of, put_scan};
-use jpg_huff::{Used, category};
+use jpg_huff::{Counts, category};
 
-// Marks the symbols of a value after a run of zeros, of which each sixteen have one of their own.
+// Counts the symbols of a value after a run of zeros, of which each sixteen have one of their own.
 #[inline(always)]
-fn count_run(slot: u8, run: u8, value: i16, used: &mut Used)
-    requires used { AreUsed used.old }
+fn count_run(slot: u8, run: u8, value: i16, counts: &mut Counts)
+    requires counts { AreCounts counts.old }
     requires slot { slot < 2 }
     requires few { category_of value ≤ 14 }
-    ensures { Notes used.old (run_marks slot run value) used.new }
+    ensures { Notes counts.old (run_marks slot run value) counts.new }
 {
     let mut left = run;
     while left >= 16 {
-        used.mark_ac(slot, 0xf0);
+        counts.count_ac(slot, 0xf0);
         left -= 16;
     }
-    used.mark_ac(slot, 16 * left + category(i32::from(value)));
+    counts.count_ac(slot, 16 * left + category(i32::from(value)));
 }
 
-// Marks the symbols of the values after the first one, and that of an EOB if zeros are left.
+// Counts the symbols of the values after the first one, and that of an EOB if zeros are left.
 #[inline(always)]
-fn count_band(slot: u8, block: &Block, used: &mut Used)
-    requires used { AreUsed used.old }
+fn count_band(slot: u8, block: &Block, counts: &mut Counts)
+    requires counts { AreCounts counts.old }
     requires slot { slot < 2 }
     requires few { AreFew block.now }
-    ensures { Notes used.old (band_marks slot (drop 1 block.now)) used.new }
+    ensures { Notes counts.old (band_marks slot (drop 1 block.now)) counts.new }
 {
     block.long();
     let mut next = 1;
     let mut rest = (block.nonzero() >> 1) << 1;
     while rest != 0 {
         let k = rest.trailing_zeros() as u8;
-        count_run(slot, k - next, block.get(k), used);
+        count_run(slot, k - next, block.get(k), counts);
         next = k + 1;
         rest &= rest - 1;
     }
     if next < 64 {
-        used.mark_ac(slot, 0);
+        counts.count_ac(slot, 0);
     }
 }
 
-// Marks the symbols of a block, by the tables of its part, after this DC value.
-fn count_block(part: ScanPart, prediction: i16, block: &Block, used: &mut Used)
-    requires used { AreUsed used.old }
+// Counts the symbols of a block, by the tables of its part, after this DC value.
+fn count_block(part: ScanPart, prediction: i16, block: &Block, counts: &mut Counts)
+    requires counts { AreCounts counts.old }
     requires slots { HasSlots part }
     requires few { AreFew block.now }
-    ensures { Notes used.old (block_marks part prediction block.now) used.new }
+    ensures { Notes counts.old (block_marks part prediction block.now) counts.new }
 {
     let difference = difference(block.get(0), prediction);
-    used.mark_dc(part.dc, category(difference));
-    count_band(part.ac, block, used);
+    counts.count_dc(part.dc, category(difference));
+    count_band(part.ac, block, counts);
 }
 
 // What counts the symbols of the units of a sequential scan.
@@ -70,7 +70,7 @@ pub(crate) struct SeqCounter<'a> {
     pub(crate) head: &'a ScanHead,
 }
 
-impl<'a> UnitSink<Used, ()> for SeqCounter<'a> {
+impl<'a> UnitSink<Counts, ()> for SeqCounter<'a> {
     ghost kind = { mark_kind seq_counter };
 
     #[inline(always)]
@@ -79,26 +79,27 @@ impl<'a> UnitSink<Used, ()> for SeqCounter<'a> {
         component: u8,
         last: i16,
         block: &Block,
-        used: &mut Used,
+        counts: &mut Counts,
         desk: &mut (),
     ) -> Result<(), WriteFault> {
-        count_block(part_of(self.head, component), last, block, used);
+        count_block(part_of(self.head, component), last, block, counts);
         Ok(())
     }
 
     fn end(
         &mut self,
         marker: Option<u8>,
-        used: &mut Used,
+        counts: &mut Counts,
         desk: &mut (),
     ) -> Result<(), WriteFault> {
         Ok(())
     }
 }
 
-/// The symbols that `write_seq_scan` writes of this scan, by class and slot (T.81, F.1.2). The header names one to four
-/// components of the frame, with slots 0 or 1; all values are in the range of the frame's precision. It takes no memory.
-pub fn count_seq_scan<V: BlockView>(view: &V, head: &ScanHead, interval: u16) -> Used
+/// How often `write_seq_scan` writes each symbol of this scan, by class and slot, at most 2^32 - 1 (T.81, F.1.2). The header
+/// names one to four components of the frame, with slots 0 or 1; all values are in the range of the frame's precision. It
+/// takes no memory.
+pub fn count_seq_scan<V: BlockView>(view: &V, head: &ScanHead, interval: u16) -> Counts
     requires sequential { is_progressive (V.numbers view.now).process ≡ false }
     requires components { AreIn (V.numbers view.now) (head_components head.now) }
     requires slots { All HasSlots head.now.parts }
@@ -106,9 +107,9 @@ pub fn count_seq_scan<V: BlockView>(view: &V, head: &ScanHead, interval: u16) ->
     ensures dc { CountsClass (V.numbers view.now) head.now interval (V.blocks view.now) 0 result.dc }
     ensures ac { CountsClass (V.numbers view.now) head.now interval (V.blocks view.now) 1 result.ac }
 {
-    let mut used = Used::none();
+    let mut counts = Counts::none();
     let mut units = SeqCounter { head };
-    let counted = put_scan(view, head, interval, &mut units, &mut used, &mut ());
+    let counted = put_scan(view, head, interval, &mut units, &mut counts, &mut ());
     let _ = counted;
-    used
+    counts
 }

@@ -263,5 +263,5 @@ encoded_means e image can none =
     let parts = first_none (sampling_fault e image) (script_fault (frame_of_meaning H) (encoded_script e image)) none in
     let headed = encoded_headed e image can parts.0 in
     let kind = same_kind e.scans (frame_of_meaning H) (colour_of H) (headed_frame H headed) (has_standard H headed) ∙ sym (encoded_kind e image) in
-    means_by H (encoded_script e image) e.restart (is_progressive H.process) refl headed
+    means_by e.huffman H (encoded_script e image) e.restart (is_progressive H.process) refl headed
     (passes_by H (encoded_script e image) (is_progressive H.process) (headed_frame H headed).count_high refl kind parts.1) can.restart

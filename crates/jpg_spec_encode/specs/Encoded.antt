@@ -8,6 +8,7 @@ use Rattle.jpg_spec.specs.Elements.{zeros}
 use Rattle.jpg_spec.specs.Meaning.{Meaning, PictureComponent, colour_of, picture_frame, real_blocks, component_of, most_across, most_down}
 use Rattle.jpg_spec_write.specs.Headed.{jfif_contents}
 use Rattle.jpg_spec_write.specs.ScansAsked.{Scans, asks_progressive, process_due, script_due}
+use Rattle.jpg_spec_write.specs.declared.huffman.Huffman.{Huffman}
 use Rattle.jpg_spec_image.specs.Images.{Image}
 use Rattle.jpg_spec.specs.InForce.{first_some}
 use Rattle.jpg_spec_write.specs.Script.{Entry}
@@ -25,11 +26,12 @@ use Rattle.jpg_spec.specs.declared.jfif.Jfif.{Jfif}
 use Rattle.jpg_spec_write.specs.declared.picture_fault.PictureFault.{PictureFault}
 use Rattle.jpg_spec_write.specs.declared.picture_fault.PictureFault.TheVariants.{FractionalFactors, TooManyBlocks}
 
--- WHAT IS ASKED FOR: grayscale or not, the scans and restarts of the file, the horizontal and vertical factors of each
+-- WHAT IS ASKED FOR: grayscale or not, the scans, Huffman tables and restarts of the file, the horizontal and vertical factors of each
 -- component, and two tables of quantisers
 pub record Encoding : Type 0 where
   pub gray : Bool
   pub scans : Scans
+  pub huffman : Huffman
   pub restart : Restart
   pub factors : List (ℕ × ℕ)
   pub first : QuantTable
@@ -121,7 +123,7 @@ abbrev pub encoded_script : Encoding → Image → List Entry
 encoded_script e image = script_due e.scans (frame_of_meaning (encoded e image)) (colour_of (encoded e image))
 
 abbrev pub encoded_text : Encoding → Image → List ℕ
-encoded_text e image = file_text (encoded e image) (encoded_script e image) e.restart
+encoded_text e image = file_text e.huffman (encoded e image) (encoded_script e image) e.restart
 
 -- THE FIRST FAULT: of the factors, the first component whose ratio to the greatest isn't an integer; of the padded
 -- grids; and of the script

@@ -2,6 +2,7 @@
 use Rattle.std.specs.Prelude.{ℕ, false, Bool, List, [], ◌∷◌, ℤ, pos, negsuc}
 use Rattle.jpg_spec.specs.Elements.{zeros}
 use Rattle.jpg_spec_write.specs.ScansAsked.{sequential}
+use Rattle.jpg_spec_write.specs.declared.huffman.Huffman.TheVariants.{Plain}
 use Rattle.jpg_spec_write.specs.FileText.{off}
 use Rattle.jpg_spec_image.specs.Quality.{quality_scale, scaled_table, luminance_table, chrominance_table}
 use Rattle.jpg_spec_encode.specs.Encoded.{Encoding}
@@ -24,6 +25,7 @@ abbrev pub of_quality : ℕ → Bool → List (ℕ × ℕ) → Encoding
 of_quality quality baseline factors = record {
   gray = false;
   scans = sequential;
+  huffman = Plain;
   restart = off;
   factors = factors;
   first = scaled_table (quality_scale quality) baseline luminance_table;

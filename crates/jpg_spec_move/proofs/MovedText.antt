@@ -43,4 +43,4 @@ moved_passes choice M headed none =
 
 pub moved_means : (choice : Choice) (M : Meaning) → IsHeaded standard_limits (moved choice M) → moved_script_fault choice M ≡ None → IsRestart choice.restart → Means standard_limits (moved_text choice M) (moved choice M)
 moved_means choice M headed none small =
-    means_by (moved choice M) (moved_script choice M) choice.restart (is_progressive (moved choice M).process) refl headed (moved_passes choice M headed none) small
+    means_by choice.huffman (moved choice M) (moved_script choice M) choice.restart (is_progressive (moved choice M).process) refl headed (moved_passes choice M headed none) small

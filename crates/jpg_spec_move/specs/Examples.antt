@@ -12,6 +12,7 @@ use Rattle.jpg_spec_write.specs.Headed.{headed}
 use Rattle.jpg_spec_move.specs.Transforms.{transformed}
 use Rattle.jpg_spec_move.specs.declared.transform.Transform.{Transform}
 use Rattle.jpg_spec.specs.declared.frame.Process.TheVariants.{Baseline}
+use Rattle.jpg_spec_write.specs.declared.huffman.Huffman.TheVariants.{Plain}
 use Rattle.jpg_spec_write.specs.FileText.{off, sequential_text}
 use Rattle.jpg_spec_write.specs.ScansAsked.{sequential}
 use Rattle.jpg_spec.specs.Examples.{gray_of, flat_block, ones, three_components}
@@ -76,7 +77,7 @@ area_of w h x y = record { w = w; h = h; x = x; y = y }
 
 -- nothing but cropped
 abbrev pub cropping : Area → Choice
-cropping area = record (as_it_is sequential off) { crop = Some area }
+cropping area = record (as_it_is sequential Plain off) { crop = Some area }
 
 -- the file of the two blocks of DC -1024 and 1023, cropped
 abbrev pub extremes_cropped : Area → List ℕ

@@ -21,6 +21,7 @@ use Rattle.jpg_spec_move.specs.declared.transform.Transform.TheVariants.{Keep}
 use Rattle.jpg_spec_write.specs.declared.picture_fault.PictureFault.{PictureFault}
 use Rattle.jpg_spec_write.specs.declared.picture_fault.PictureFault.TheVariants.{GrayColour, GrayFactors}
 use Rattle.jpg_spec_write.specs.ScansAsked.{Scans, asks_progressive, process_due, script_due}
+use Rattle.jpg_spec_write.specs.declared.huffman.Huffman.{Huffman}
 
 -- WHAT IS ASKED FOR
 
@@ -30,17 +31,19 @@ pub record Choice : Type 0 where
   pub gray : Bool
   pub copying : Copying
   pub scans : Scans
+  pub huffman : Huffman
   pub restart : Restart
   pub crop : Option Area
 
 -- nothing transformed, and no kept marker passed on
-abbrev pub as_it_is : Scans → Restart → Choice
-as_it_is scans restart = record {
+abbrev pub as_it_is : Scans → Huffman → Restart → Choice
+as_it_is scans huffman restart = record {
   transform = Keep;
   trim = false;
   gray = false;
   copying = copying.None;
   scans = scans;
+  huffman = huffman;
   restart = restart;
   crop = None;
 }
@@ -112,7 +115,7 @@ picture_fault choice M =
 
 -- THE TEXT of the file of a transformed picture
 abbrev pub moved_text : Choice → Meaning → List ℕ
-moved_text choice M = file_text (moved choice M) (moved_script choice M) choice.restart
+moved_text choice M = file_text choice.huffman (moved choice M) (moved_script choice M) choice.restart
 
 -- THE FRAME of the transformed picture, from the numbers of its frame
 

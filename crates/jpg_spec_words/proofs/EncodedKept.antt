@@ -9,7 +9,8 @@ use Rattle.jpg_spec.specs.Colours.{colours_of}
 use Rattle.jpg_spec.specs.Meaning.{Meaning, colour_of}
 use Rattle.jpg_spec_write.specs.Headed.{jfif_contents, headed_kept}
 use Rattle.jpg_spec_move.proofs.CroppedScripts.{without_area}
-use Rattle.jpg_spec_move.specs.Moved.{as_it_is, moved, moved_text, picture_fault}
+use Rattle.jpg_spec_move.specs.Moved.{moved, moved_text, picture_fault}
+use Rattle.jpg_spec_words.specs.EncodedKept.{as_encoded}
 use Rattle.jpg_spec_write.specs.ScansAsked.{asks_progressive, process_due, script_due}
 use Rattle.jpg_spec.specs.InForce.{first_some}
 use Rattle.jpg_spec_write.specs.ScriptFaults.{script_fault}
@@ -58,18 +59,18 @@ process_again : (e : Encoding) (image : Image) (b : Bool) → process_due b (enc
 process_again e image true = refl
 process_again e image false = refl
 
-pub stays : (e : Encoding) (image : Image) → moved (as_it_is e.scans e.restart) (encoded e image) ≡ encoded e image
+pub stays : (e : Encoding) (image : Image) → moved (as_encoded e) (encoded e image) ≡ encoded e image
 stays e image =
     ap (λ p. (let M : Meaning = record (encoded e image) { process = p; kept = headed_kept (colour_of (encoded e image)) (jfif_of (encoded e image).kept) [] } in M))
     (process_again e image (asks_progressive e.scans))
     ∙ ap (λ (k : List (ℕ × List ℕ)). (let M : Meaning = record (encoded e image) { kept = k } in M))
     (ap (λ j. headed_kept (colour_of (encoded e image)) j []) (density_again image.info) ∙ headed_again e image)
 
-pub stays_text : (e : Encoding) (image : Image) → moved_text (as_it_is e.scans e.restart) (encoded e image) ≡ encoded_text e image
-stays_text e image = ap (λ (H : Meaning). file_text H (script_due e.scans (frame_of_meaning H) (colour_of H)) e.restart) (stays e image)
+pub stays_text : (e : Encoding) (image : Image) → moved_text (as_encoded e) (encoded e image) ≡ encoded_text e image
+stays_text e image = ap (λ (H : Meaning). file_text e.huffman H (script_due e.scans (frame_of_meaning H) (colour_of H)) e.restart) (stays e image)
 
-pub stays_fault : (e : Encoding) (image : Image) → sampling_fault e image ≡ None → picture_fault (as_it_is e.scans e.restart) (encoded e image) ≡ encode_fault e image
+pub stays_fault : (e : Encoding) (image : Image) → sampling_fault e image ≡ None → picture_fault (as_encoded e) (encoded e image) ≡ encode_fault e image
 stays_fault e image none =
-    without_area (as_it_is e.scans e.restart) (encoded e image) refl
+    without_area (as_encoded e) (encoded e image) refl
     ∙ ap (λ (H : Meaning). script_fault (frame_of_meaning H) (script_due e.scans (frame_of_meaning H) (colour_of H))) (stays e image)
     ∙ sym (ap (λ f. first_some f (script_fault (frame_of_meaning (encoded e image)) (encoded_script e image))) none)

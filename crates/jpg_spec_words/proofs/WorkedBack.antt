@@ -17,6 +17,7 @@ use Rattle.jpg_spec.specs.Zigzag.{zigzag}
 use Rattle.jpg_spec_image.specs.Dct.{number_at}
 use Rattle.jpg_spec_image.specs.ForwardDct.{forward_dct, quantised, quantised_block}
 use Rattle.jpg_spec_write.specs.FileText.{file_text, frame_of_meaning, off}
+use Rattle.jpg_spec_write.specs.declared.huffman.Huffman.TheVariants.{Plain}
 use Rattle.jpg_spec_write.specs.ScansAsked.{script_due, standard}
 use Rattle.jpg_spec_encode.specs.Encoded.{component_due, component_plane, encoded_block, encoded_head, samples_of_block}
 use Rattle.jpg_spec_move.specs.Moved.{IsSamePicture}
@@ -83,7 +84,7 @@ picture_back n =
     ∙ ap (λ cs. as_first n N.width N.height cs M.blocks) s.components ∙ ap (λ bs. as_first n N.width N.height N.components bs) s.blocks
 
 pub text_back : (n : ℕ) → back_text n ≡ first_text n
-text_back n = ap (λ (M : Meaning). file_text M (script_due standard (frame_of_meaning M) (colour_of M)) off) (picture_back n)
+text_back n = ap (λ (M : Meaning). file_text Plain M (script_due standard (frame_of_meaning M) (colour_of M)) off) (picture_back n)
 
 same_line : (n : ℕ) → bytes_eq (back_text n) (first_text n) ≡ true
 same_line n = (bytes_eq-Decides (back_text n) (first_text n)).1 (text_back n)

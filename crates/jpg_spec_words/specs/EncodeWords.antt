@@ -5,10 +5,12 @@ use Rattle.jpg_spec.specs.Markers.{is_within}
 use Rattle.jpg_spec.specs.Segments.{QuantTable}
 use Rattle.jpg_spec_write.specs.FileText.{Restart, off}
 use Rattle.jpg_spec_write.specs.ScansAsked.{Scans}
+use Rattle.jpg_spec_write.specs.declared.huffman.Huffman.{Huffman}
+use Rattle.jpg_spec_write.specs.declared.huffman.Huffman.TheVariants.{Plain}
 use Rattle.jpg_spec_image.specs.Images.{Image}
 use Rattle.jpg_spec_image.specs.TableText.{encoding_tables}
 use Rattle.jpg_spec_encode.specs.Encoded.{Encoding, count_due}
-use Rattle.jpg_spec_words.specs.Requests.{FilesAsked, Tool, WordsTold, from_to, is_int, number_of, request, restart_named, standard_input, usage_at, where_good, with_input, with_output, with_value, words_right}
+use Rattle.jpg_spec_words.specs.Requests.{FilesAsked, Tool, WordsTold, from_to, huffman_named, is_int, number_of, request, restart_named, standard_input, usage_at, where_good, with_input, with_output, with_value, words_right}
 use Rattle.jpg_spec_words.specs.Switches.{Switch}
 use Rattle.jpg_spec_words.specs.TransformWords.{ScansSource, in_file, own_sequential, with_progressive}
 use Rattle.jpg_spec_words.specs.declared.answers.UsageFault.TheVariants.{UnknownSwitch}
@@ -28,6 +30,7 @@ cjpeg_switches =
     ∷ record { name = codes "progressive"; shortest = 1; purpose = Alone flag.Progressive }
     ∷ record { name = codes "scans"; shortest = 4; purpose = Valued setting.Scans }
     ∷ record { name = codes "restart"; shortest = 1; purpose = Valued setting.Restart }
+    ∷ record { name = codes "huffman"; shortest = 1; purpose = Valued setting.Huffman }
     ∷ record { name = codes "sample"; shortest = 2; purpose = Valued setting.Sample }
     ∷ record { name = codes "qtables"; shortest = 2; purpose = Valued setting.Tables }
     ∷ record { name = codes "dct"; shortest = 2; purpose = Valued setting.Dct }
@@ -42,8 +45,8 @@ cjpeg_switches =
     ∷ record { name = codes "qslots"; shortest = 2; purpose = LeftOut } ∷ []
 
 -- files; whether the input is a Targa file; the quality, if it is given; whether the picture is in grayscale, and whether no quantiser has more than one
--- byte; in which scans and with which restart intervals it is written; factors of the first components, and the name of
--- a file that has tables, if they are given
+-- byte; in which scans, with which Huffman tables and with which restart intervals it is written; factors of the first
+-- components, and the name of a file that has tables of quantisers, if they are given
 pub record EncodeAsked : Type 0 where
   pub files : FilesAsked
   pub targa : Bool
@@ -51,6 +54,7 @@ pub record EncodeAsked : Type 0 where
   pub gray : Bool
   pub baseline : Bool
   pub scans : ScansSource
+  pub huffman : Huffman
   pub restart : Restart
   pub factors : List (ℕ × ℕ)
   pub tables : Option (List ℕ)
@@ -64,6 +68,7 @@ encode_default = record {
   gray = false;
   baseline = false;
   scans = own_sequential;
+  huffman = Plain;
   restart = off;
   factors = [];
   tables = None;
@@ -109,6 +114,7 @@ abbrev pub encode_setting : Setting → ℕ → List ℕ → EncodeAsked → Wor
 encode_setting setting.Quality index value a = with_value index (quality_named value) (λ q. words_right (record a { quality = Some q }))
 encode_setting setting.Scans index value a = words_right (record a { scans = in_file value })
 encode_setting setting.Restart index value a = with_value index (restart_named value) (λ r. words_right (record a { restart = r }))
+encode_setting setting.Huffman index value a = with_value index (huffman_named value) (λ h. words_right (record a { huffman = h }))
 encode_setting setting.Sample index value a = with_value index (factors_named value) (λ f. words_right (record a { factors = f }))
 encode_setting setting.Tables index value a = words_right (record a { tables = Some value })
 encode_setting setting.Dct index value a = where_good index (is_int value) a
@@ -140,6 +146,7 @@ abbrev pub encoding_asked : EncodeAsked → Scans → Option (List QuantTable) �
 encoding_asked a scans tables image = record {
   gray = a.gray;
   scans = scans;
+  huffman = a.huffman;
   restart = a.restart;
   factors = factors_due a.factors (count_due a.gray image.info.kind);
   first = (encoding_tables a.quality a.baseline tables).0;

@@ -1,5 +1,6 @@
 pub mod CommentWords
 pub mod EncodeWords
+pub mod EncodedKept
 pub mod Messages
 pub mod Requests
 pub mod ShowWords

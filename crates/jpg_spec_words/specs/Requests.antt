@@ -4,6 +4,8 @@ use Rattle.std.specs.Prelude.{ℕ, ◌+◌, Bool, true, false, not, nat_le, ◌&
 use Rattle.jpg_spec.specs.Lists.{all_of}
 use Rattle.jpg_spec.specs.NumberTexts.{is_digit, digits_from}
 use Rattle.jpg_spec_write.specs.FileText.{Restart, off, rows, mcus}
+use Rattle.jpg_spec_write.specs.declared.huffman.Huffman.{Huffman}
+use Rattle.jpg_spec_write.specs.declared.huffman.Huffman.TheVariants.{Plain, Fitted}
 use Rattle.jpg_spec_words.specs.Switches.{Switch, is_switch, lower, purpose_of, stands_for}
 use Rattle.jpg_spec_words.specs.declared.answers.Usage.{Usage}
 use Rattle.jpg_spec_words.specs.declared.answers.UsageFault.{UsageFault}
@@ -82,6 +84,13 @@ restart_by in_mcus n =
 
 abbrev pub restart_named : List ℕ → Option Restart
 restart_named value = option_and_then (restart_by (ends_with_b value)) (number_of (without_b value))
+
+-- which Huffman tables; a prefix of their name is enough
+abbrev pub huffman_named : List ℕ → Option Huffman
+huffman_named value =
+    if stands_for 1 (codes "plain") value then Some Plain
+    else if stands_for 1 (codes "fitted") value then Some Fitted
+    else None
 
 -- only release 6b's `int`
 abbrev pub is_int : List ℕ → Bool

@@ -2,8 +2,10 @@
 use Rattle.std.specs.Prelude.{ℕ, Bool, true, false, ◌||◌, ◌==◌, if◌then◌else◌, List, [], ◌∷◌, Option, None, Some, option_and_then, option_map, codes}
 use Rattle.jpg_spec_write.specs.FileText.{Restart, off}
 use Rattle.jpg_spec_write.specs.ScansAsked.{Scans}
+use Rattle.jpg_spec_write.specs.declared.huffman.Huffman.{Huffman}
+use Rattle.jpg_spec_write.specs.declared.huffman.Huffman.TheVariants.{Plain}
 use Rattle.jpg_spec_move.specs.Moved.{Choice}
-use Rattle.jpg_spec_words.specs.Requests.{FilesAsked, Tool, WordsTold, from_to, number_of, request, restart_named, standard_input, usage_at, with_input, with_output, with_value, words_right}
+use Rattle.jpg_spec_words.specs.Requests.{FilesAsked, Tool, WordsTold, from_to, huffman_named, number_of, request, restart_named, standard_input, usage_at, with_input, with_output, with_value, words_right}
 use Rattle.jpg_spec_words.specs.Switches.{Switch, stands_for}
 use Rattle.jpg_spec.specs.declared.frame.Copying.{Copying}
 use Rattle.jpg_spec.specs.declared.frame.Copying.TheVariants as copying
@@ -24,6 +26,7 @@ jpegtran_switches =
     ∷ record { name = codes "flip"; shortest = 1; purpose = Valued setting.Flip }
     ∷ record { name = codes "grayscale"; shortest = 1; purpose = Alone flag.Gray }
     ∷ record { name = codes "greyscale"; shortest = 1; purpose = Alone flag.Gray }
+    ∷ record { name = codes "huffman"; shortest = 1; purpose = Valued setting.Huffman }
     ∷ record { name = codes "outfile"; shortest = 4; purpose = Valued setting.Output }
     ∷ record { name = codes "progressive"; shortest = 1; purpose = Alone flag.Progressive }
     ∷ record { name = codes "restart"; shortest = 1; purpose = Valued setting.Restart }
@@ -52,7 +55,7 @@ with_progressive (in_file name) = in_file name
 with_progressive other = own_progressive
 
 -- files, a transform, trimming, conversion to grayscale, the area that is cut out, which kept markers are passed on, and
--- in which scans and with which restart intervals it is written
+-- in which scans, with which Huffman tables and with which restart intervals it is written
 pub record TransformAsked : Type 0 where
   pub files : FilesAsked
   pub transform : Transform
@@ -61,6 +64,7 @@ pub record TransformAsked : Type 0 where
   pub crop : Option Area
   pub copying : Copying
   pub scans : ScansSource
+  pub huffman : Huffman
   pub restart : Restart
 
 -- the choice, in these scans
@@ -71,6 +75,7 @@ choice_asked a scans = record {
   gray = a.gray;
   copying = a.copying;
   scans = scans;
+  huffman = a.huffman;
   restart = a.restart;
   crop = a.crop;
 }
@@ -85,6 +90,7 @@ transform_default = record {
   crop = None;
   copying = copying.Comments;
   scans = own_sequential;
+  huffman = Plain;
   restart = off;
 }
 
@@ -164,6 +170,7 @@ transform_setting setting.Copy index value a = with_value index (copying_named v
 transform_setting setting.Crop index value a = with_value index (area_named value) (λ area. words_right (record a { crop = Some area }))
 transform_setting setting.Flip index value a = with_value index (flip_named value) (λ t. with_transform index t a)
 transform_setting setting.Rotate index value a = with_value index (rotation_named value) (λ t. with_transform index t a)
+transform_setting setting.Huffman index value a = with_value index (huffman_named value) (λ h. words_right (record a { huffman = h }))
 transform_setting setting.Output index value a = words_right (record a { files = with_output value a.files })
 transform_setting setting.Scans index value a = words_right (record a { scans = in_file value })
 transform_setting setting.Restart index value a = with_value index (restart_named value) (λ r. words_right (record a { restart = r }))

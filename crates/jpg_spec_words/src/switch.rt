@@ -59,6 +59,8 @@ pub enum Setting {
     Scans,
     /// `-restart`: how many MCUs or rows of them an interval has.
     Restart,
+    /// `-huffman`: which Huffman tables the scans are written with.
+    Huffman,
     /// `-dct`: the arithmetic, only `int`.
     Dct,
     /// `-scale`: the size, only `1/1`.

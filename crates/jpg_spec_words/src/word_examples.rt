@@ -7,6 +7,7 @@ ghost use Rattle.jpg_spec_words.specs.EncodeWords.{encode_asked, encode_default,
 ghost use Rattle.jpg_spec_words.specs.Requests.{from_to, named, standard_input, usage_at, with_output, words_right};
 ghost use Rattle.jpg_spec_words.specs.ShowWords.{scans_named, show_asked, show_default};
 ghost use Rattle.jpg_spec_write.specs.FileText.{rows, mcus};
+ghost use Rattle.jpg_spec_write.specs.declared.huffman.Huffman.TheVariants.{Fitted};
 ghost use Rattle.jpg_spec_words.specs.TransformWords.{area_named, area_of, transform_asked, transform_default, own_progressive, in_file};
 ghost use Rattle.jpg_spec_words.specs.Work.{back_asked, first_asked, sides_line, turned_asked, work_info};
 ghost use Rattle.jpg_spec_words.specs.WorkWords.{work_asked};
@@ -31,6 +32,8 @@ pub fn beginnings_are_enough()
     ensures rows { transform_asked (codes "-r" ∷ codes "65535" ∷ []) ≡ words_right (record transform_default { restart = rows 65535 }) }
     ensures mcus { transform_asked (codes "-r" ∷ codes "7b" ∷ []) ≡ words_right (record transform_default { restart = mcus 7 }) }
     ensures off { transform_asked (codes "-restart" ∷ codes "0B" ∷ []) ≡ words_right transform_default }
+    ensures fitted { transform_asked (codes "-h" ∷ codes "F" ∷ []) ≡ words_right (record transform_default { huffman = Fitted }) }
+    ensures plain { transform_asked (codes "-huffman" ∷ codes "pl" ∷ []) ≡ words_right transform_default }
 {}
 
 /// A switch that is repeated takes its last value, the word after `-outfile` is a name whatever it is, and the last
@@ -55,6 +58,7 @@ pub fn wrong_words_have_their_places()
     ensures empty { transform_asked (codes "-copy" ∷ codes "" ∷ []) ≡ usage_at BadValue 2 }
     ensures large { transform_asked (codes "-restart" ∷ codes "65536" ∷ []) ≡ usage_at BadValue 2 }
     ensures letter { transform_asked (codes "-restart" ∷ codes "B" ∷ []) ≡ usage_at BadValue 2 }
+    ensures huffman { transform_asked (codes "-huffman" ∷ codes "optimal" ∷ []) ≡ usage_at BadValue 2 }
     ensures long { transform_asked (codes "-rotate" ∷ codes "000090" ∷ []) ≡ usage_at BadValue 2 }
     ensures files { transform_asked (codes "a" ∷ codes "-trim" ∷ []) ≡ usage_at TooManyFiles 2 }
 {}
@@ -139,6 +143,7 @@ pub fn values_of_cjpeg_are_numbers()
     ensures tables { encode_asked (codes "-QT" ∷ codes "t" ∷ []) ≡ words_right (record encode_default { tables = Some (codes "t") }) }
     ensures targa { encode_asked (codes "-T" ∷ []) ≡ words_right (record encode_default { targa = true }) }
     ensures baseline { encode_asked (codes "-b" ∷ []) ≡ words_right (record encode_default { baseline = true }) }
+    ensures huffman { encode_asked (codes "-huff" ∷ codes "fit" ∷ []) ≡ words_right (record encode_default { huffman = Fitted }) }
     ensures script { encode_asked (codes "-scan" ∷ codes "a" ∷ codes "-p" ∷ []) ≡ words_right (record encode_default { scans = in_file (codes "a") }) }
 {}
 

@@ -12,7 +12,8 @@ use Rattle.jpg_spec.specs.Geometry.{Frame, is_progressive, units, mcu_units}
 use Rattle.jpg_spec.specs.FrameHeader.{AreLimits}
 use Rattle.jpg_spec.specs.Segments.{HuffmanTable, ScanHead, head_components, standard_limits}
 use Rattle.jpg_spec.specs.Scan.{Blocks, scan_coding}
-use Rattle.jpg_spec_write.specs.ScanText.{units_due, last_dc, intervals_text, typical_table, Owned, scan_elements, symbols_used}
+use Rattle.jpg_spec_write.specs.declared.huffman.Huffman.{Huffman}
+use Rattle.jpg_spec_write.specs.ScanText.{units_due, last_dc, intervals_text, typical_table, Owned, scan_elements, is_plain, own_table}
 use Rattle.jpg_spec.specs.Markers.{eoi}
 use Rattle.jpg_spec.specs.Meaning.{Meaning, PictureComponent, colour_of}
 use Rattle.jpg_spec_write.specs.Script.{Entry, sequential_script}
@@ -40,8 +41,7 @@ use Rattle.jpg_spec_write.specs.Laws.{IsOwnText}
 use Rattle.jpg_spec_write.proofs.WrittenScripts.{sequential_passes}
 use Rattle.jpg_spec.proofs.Common.{both, neither, same_itself}
 use Rattle.jpg_spec_write.proofs.SequentialCodes.{scan_coded, rows_writable}
-use Rattle.jpg_spec_write.proofs.ProgressiveCodes.{flat_tables, symbols_few}
-use Rattle.jpg_spec.proofs.FlatTables.{flat_valid}
+use Rattle.jpg_spec_write.proofs.ProgressiveCodes.{own_valid}
 
 -- THE DATA of a scan
 
@@ -70,8 +70,8 @@ interval_long f tables head blocks places e short ok coded =
     let first : ℕ → ℤ = λ i. pos 0 in
     omega (arith, due_few f tables head (units_due blocks first places) e short ok coded, length_due blocks first places)
 
-plain_counts : (H : Meaning) (head : ScanHead) (n class slot : ℕ) → IsSmallTable (plain_tables H head n class slot) × (length (plain_tables H head n class slot).counts ≤ 16)
-plain_counts H head n class slot = by (not (is_progressive H.process) && H.precision == 8)
+plain_counts : (huffman : Huffman) (H : Meaning) (head : ScanHead) (n class slot : ℕ) → IsSmallTable (plain_tables huffman H head n class slot) × (length (plain_tables huffman H head n class slot).counts ≤ 16)
+plain_counts huffman H head n class slot = by (not (is_progressive H.process) && (H.precision == 8 && is_plain huffman))
   where
     es : List (List Owned)
     es = scan_elements (frame_of_meaning H) head n H.blocks
@@ -85,18 +85,18 @@ plain_counts H head n class slot = by (not (is_progressive H.process) && H.preci
     typical false true = (lit≤ tt, lit≤ tt)
     typical false false = (lit≤ tt, lit≤ tt)
 
-    by : (t : Bool) → IsGood (cond t (typical_table class slot) (flat_tables head es class slot))
+    by : (t : Bool) → IsGood (cond t (typical_table class slot) (own_table huffman head es class slot))
     by true = typical (class == 0) (slot == 0)
     by false =
-        let valid = flat_valid (symbols_used head es class slot) (symbols_few head es class slot) in
+        let valid = own_valid huffman head es class slot in
         (omega (arith, valid.counts, valid.few), omega (arith, valid.counts))
 
-data_long : (H : Meaning) (head : ScanHead) (n : ℕ) → IsFit H → ((i : ℕ) → is_among i (head_components head) ≡ true → i < length H.components)
-    → length (plain_data H head n) ≤ 500 * length (units (frame_of_meaning H) (head_components head)) + 4
-data_long H head n fit known =
+data_long : (huffman : Huffman) (H : Meaning) (head : ScanHead) (n : ℕ) → IsFit H → ((i : ℕ) → is_among i (head_components head) ≡ true → i < length H.components)
+    → length (plain_data huffman H head n) ≤ 500 * length (units (frame_of_meaning H) (head_components head)) + 4
+data_long huffman H head n fit known =
     let f = frame_of_meaning H in
     let parts = head_components head in
-    let tables = plain_tables H head n in
+    let tables = plain_tables huffman H head n in
     let c = scan_coding f (all_in_force tables) head in
     let rows = rows_of H head n in
     let size = n * mcu_units f parts in
@@ -104,7 +104,7 @@ data_long H head n fit known =
     (λ i x y e real. fit.blocks i x y (known i e) real) in
     let writable = rows_writable f head n H.blocks sendable in
     let each = each_both (λ row. Each (IsWritable c) (units_due H.blocks (λ i. pos 0) row)) (λ row. Each (HasCode tables head) (rows_elements head H.blocks row)) (λ row. length (stuffed (sequential_coded tables head H.blocks row)) ≤ 496 * length row + 2) rows
-    (λ row h k. interval_long f tables head H.blocks row fit.sequential (λ class slot. (plain_counts H head n class slot).1) h k) writable (scan_coded f head n H.blocks fit.sequential writable) in
+    (λ row h k. interval_long f tables head H.blocks row fit.sequential (λ class slot. (plain_counts huffman H head n class slot).1) h k) writable (scan_coded huffman f head n H.blocks fit.sequential writable) in
     let long = intervals_long (λ row. stuffed (sequential_coded tables head H.blocks row)) 0 rows each in
     let same = ap (λ t. length (intervals_text 0 t)) (map_map stuffed (sequential_coded tables head H.blocks) rows) in
     omega (arith, long, same, ap length (joined_chunks size (units f parts)), intervals_few size (units f parts))
@@ -150,15 +150,15 @@ restart_few n true = lit≤ tt
 restart_few n false = omega (arith, length_segment 0xdd (to_be_bytes w16 n))
 
 -- A SCAN of a script, with its tables and its head
-scan_long : (H : Meaning) (restart : Restart) (w : Written) (done components : List ℕ) → IsFit H → IsEntry (frame_of_meaning H) done components
+scan_long : (huffman : Huffman) (H : Meaning) (restart : Restart) (w : Written) (done components : List ℕ) → IsFit H → IsEntry (frame_of_meaning H) done components
     → (let head = plain_head (colour_of H) components in let n = interval_of (frame_of_meaning H) head restart in
-    length (plain_scan H head n w) ≤ 41943042242)
-scan_long H restart w done components fit entry =
+    length (plain_scan huffman H head n w) ≤ 41943042242)
+scan_long huffman H restart w done components fit entry =
     let f = frame_of_meaning H in
     let colour = colour_of H in
     let head = plain_head colour components in
     let n = interval_of f head restart in
-    let tables = tables_text w.tables (plain_tables H head n) (plain_needed head.parts) in
+    let tables = tables_text w.tables (plain_tables huffman H head n) (plain_needed head.parts) in
     let dri = cond (n == w.interval) [] (segment_text 0xdd (to_be_bytes w16 n)) in
     let names_are = plain_components colour components in
     let known : (i : ℕ) → is_among i (head_components head) ≡ true → i < length H.components = λ i e.
@@ -169,8 +169,8 @@ scan_long H restart w done components fit entry =
     let needed = length_needed head.parts in
     let a = length-append tables dri in
     let b = length-append (tables ++ dri) (head_text H head) in
-    let d = length-append (tables ++ dri ++ head_text H head) (plain_data H head n) in
-    omega (arith, data_long H head n fit known, units_are, few, fit.frame.blocks, tables_few w.tables (plain_tables H head n) (plain_needed head.parts) (λ c m. (plain_counts H head n c m).0), needed, parts, entry.few, restart_few n (n == w.interval), head_few H head (omega (arith, parts, entry.few)), a, b, d)
+    let d = length-append (tables ++ dri ++ head_text H head) (plain_data huffman H head n) in
+    omega (arith, data_long huffman H head n fit known, units_are, few, fit.frame.blocks, tables_few w.tables (plain_tables huffman H head n) (plain_needed head.parts) (λ c m. (plain_counts huffman H head n c m).0), needed, parts, entry.few, restart_few n (n == w.interval), head_few H head (omega (arith, parts, entry.few)), a, b, d)
 
 -- THE SCRIPT: each scan takes a component that none before it had
 
@@ -225,22 +225,22 @@ entry_fewer n (i ∷ components) done some known new =
     let k = neither (is_among i done) (any_of (λ i. is_among i done) components) new in
     left_fewer n i (i ∷ components) done known.0 (ap (λ b. b || is_among i components) (same_itself i)) k.0
 
-scans_long : (H : Meaning) (restart : Restart) (w : Written) (done : List ℕ) (script : List Entry) → IsFit H → is_script_after (frame_of_meaning H) done script ≡ true
-    → length (scans_text H restart w script) ≤ 41943042242 * left_of (length (frame_of_meaning H).components) done
+scans_long : (huffman : Huffman) (H : Meaning) (restart : Restart) (w : Written) (done : List ℕ) (script : List Entry) → IsFit H → is_script_after (frame_of_meaning H) done script ≡ true
+    → length (scans_text huffman H restart w script) ≤ 41943042242 * left_of (length (frame_of_meaning H).components) done
 unfolding scans_text
-scans_long H restart w done [] fit e = omega arith
-scans_long H restart w done (entry ∷ script) fit e =
+scans_long huffman H restart w done [] fit e = omega arith
+scans_long huffman H restart w done (entry ∷ script) fit e =
     let f = frame_of_meaning H in
     let b = both (is_sequential_entry f done entry) (is_script_after f (entry.components ++ done) script) e in
     let is = entry_is f done entry b.0 in
     let head = plain_head (colour_of H) entry.components in
     let n = interval_of f head restart in
-    let next = plain_written H head n w in
-    let here = plain_scan H head n w in
-    let later = scans_long H restart next (entry.components ++ done) script fit b.1 in
-    let cut = ap length (scans_are H restart w entry script fit.sequential) in
+    let next = plain_written huffman H head n w in
+    let here = plain_scan huffman H head n w in
+    let later = scans_long huffman H restart next (entry.components ++ done) script fit b.1 in
+    let cut = ap length (scans_are huffman H restart w entry script fit.sequential) in
     let few = entry_fewer (length f.components) entry.components done is.some is.known is.new in
-    omega (arith, later, cut, length-append here (scans_text H restart next script), scan_long H restart w done entry.components fit is, few)
+    omega (arith, later, cut, length-append here (scans_text huffman H restart next script), scan_long huffman H restart w done entry.components fit is, few)
 
 -- THE LAW
 
@@ -248,19 +248,19 @@ pub quants_each : (cs : List PictureComponent) → All HasQuants cs → Each Has
 quants_each [] all = tt
 quants_each (c ∷ cs) all = ((All-head HasQuants c cs all).0, quants_each cs (All-tail HasQuants c cs all))
 
-pub sequential_short : (limits : Limits) (H : Meaning) (script : List Entry) (restart : Restart) → AreLimits limits → IsHeaded limits H → is_progressive H.process ≡ false → is_script_after (frame_of_meaning H) [] script ≡ true
-    → length (file_text H script restart) < 2 ^ 39
+pub sequential_short : (huffman : Huffman) (limits : Limits) (H : Meaning) (script : List Entry) (restart : Restart) → AreLimits limits → IsHeaded limits H → is_progressive H.process ≡ false → is_script_after (frame_of_meaning H) [] script ≡ true
+    → length (file_text huffman H script restart) < 2 ^ 39
 unfolding file_text
-sequential_short limits H script restart limited headed sequential passes =
+sequential_short huffman limits H script restart limited headed sequential passes =
     let f = frame_of_meaning H in
     let is = frame_is limits f f limited headed.frame in
     let fit : IsFit H = record { frame = is; sequential = sequential; blocks = headed.blocks; count = count_is H } in
     let few : length H.components ≤ 4 = omega (arith, is.count_high, count_is H) in
     let front = front_few H few (quants_each H.components headed.quants) in
-    let scans = scans_long H restart nothing_written [] script fit passes in
+    let scans = scans_long huffman H restart nothing_written [] script fit passes in
     let left = left_most (length f.components) [] in
-    let a = length-append (front_text H) (scans_text H restart nothing_written script) in
-    let b = length-append (front_text H ++ scans_text H restart nothing_written script) eoi in
+    let a = length-append (front_text H) (scans_text huffman H restart nothing_written script) in
+    let b = length-append (front_text H ++ scans_text huffman H restart nothing_written script) eoi in
     omega (arith, front, headed.count, limited.kept, scans, left, is.count_high, a, b)
 
 -- THE DEFAULT FILE within the standard limits means its picture
@@ -269,6 +269,6 @@ own_means H bytes w =
     let f = frame_of_meaning H in
     let script = sequential_script f in
     let passes = sequential_passes f (frame_is standard_limits f f standard_are_limits w.headed.frame) in
-    let short = sequential_short standard_limits H script w.restart standard_are_limits w.headed w.sequential passes in
+    let short = sequential_short w.huffman standard_limits H script w.restart standard_are_limits w.headed w.sequential passes in
     subst (λ (l : List ℕ). Means standard_limits l H) (sym w.text)
-    (sequential_means standard_limits H script w.restart standard_are_limits w.headed w.sequential passes w.small (omega (arith, short)))
+    (sequential_means w.huffman standard_limits H script w.restart standard_are_limits w.headed w.sequential passes w.small (omega (arith, short)))

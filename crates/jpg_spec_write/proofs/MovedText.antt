@@ -4,6 +4,7 @@ use Rattle.jpg_spec.specs.Geometry.{Frame, is_progressive}
 use Rattle.jpg_spec.specs.FrameHeader.{IsFrame}
 use Rattle.jpg_spec.specs.Meaning.{Meaning, colour_of}
 use Rattle.jpg_spec.specs.FileMeaning.{Means}
+use Rattle.jpg_spec_write.specs.declared.huffman.Huffman.{Huffman}
 use Rattle.jpg_spec_write.specs.FileText.{Restart, file_text, frame_of_meaning}
 use Rattle.jpg_spec_write.specs.Laws.{AreOwn}
 use Rattle.jpg_spec_write.specs.ScansAsked.{Scans, sequential, standard, given, asks_progressive, script_due}
@@ -55,11 +56,11 @@ passes_by H script false few process kind none = sequential_without_fault (frame
 
 -- WHAT IS WRITTEN means the transformed picture
 
-pub means_by : (H : Meaning) (script : List Entry) (restart : Restart) (b : Bool) → is_progressive H.process ≡ b → IsHeaded standard_limits H → does_pass_as b H script ≡ true → IsRestart restart
-    → Means standard_limits (file_text H script restart) H
-means_by H script restart true process headed passes small =
-    let short = progressive_short standard_limits H script restart standard_are_limits headed process passes small in
-    progressive_means standard_limits H script restart standard_are_limits headed process passes small (omega (arith, short))
-means_by H script restart false process headed passes small =
-    let short = sequential_short standard_limits H script restart standard_are_limits headed process passes in
-    sequential_means standard_limits H script restart standard_are_limits headed process passes small (omega (arith, short))
+pub means_by : (huffman : Huffman) (H : Meaning) (script : List Entry) (restart : Restart) (b : Bool) → is_progressive H.process ≡ b → IsHeaded standard_limits H → does_pass_as b H script ≡ true → IsRestart restart
+    → Means standard_limits (file_text huffman H script restart) H
+means_by huffman H script restart true process headed passes small =
+    let short = progressive_short huffman standard_limits H script restart standard_are_limits headed process passes small in
+    progressive_means huffman standard_limits H script restart standard_are_limits headed process passes small (omega (arith, short))
+means_by huffman H script restart false process headed passes small =
+    let short = sequential_short huffman standard_limits H script restart standard_are_limits headed process passes in
+    sequential_means huffman standard_limits H script restart standard_are_limits headed process passes small (omega (arith, short))

@@ -1,14 +1,18 @@
--- The flat tables of a scan have codes for all that the scan writes.
+-- The tables that a scan has of its own have codes for all that the scan writes.
 use Rattle.std.proofs.Common.{◌≡◌, ◌≢◌, ℕ, zero, suc, ◌+◌, ◌<◌, ◌≤◌, Bool, true, false, cond, not, List, [], ◌∷◌, ◌++◌, length, refl, sym, ap, ◌∙◌, subst, arith, lit<, lit≤, ⊎_elim, ℤ, pos, negsuc, ◌==◌, ◌&&◌}
-use Rattle.std.specs.Prelude.{◌||◌, map, flat_map, filter, nat_lt, slice_index_or}
+use Rattle.std.specs.Prelude.{◌||◌, map, flat_map, filter, nat_lt, slice_index_or, slice_index, count_by}
 use Rattle.std.proofs.lemmas.Bool.{cases_eq}
 use Rattle.std.proofs.lemmas.Bool.Decides.{nat_tests}
+use Rattle.std.proofs.lemmas.List.{length-map, get_or-map}
+use Rattle.std.proofs.lemmas.List.Sums.{sum_by-cons}
 use Rattle.jpg_spec.specs.Lists.{is_empty, is_among, below}
-use Rattle.jpg_spec.specs.Segments.{HuffmanTable, ScanHead, table_codes}
+use Rattle.jpg_spec.specs.Segments.{ScanHead, table_codes}
 use Rattle.jpg_spec.specs.Elements.{Coding, Element, long_run, is_dc_bit, symbol_of, predicted}
 use Rattle.jpg_spec_write.specs.Sending.{Sent, correction, newly_significant, shifted, up_to_last, after_last, corrections_of, value_elements, ended_bands, band_elements}
-use Rattle.jpg_spec_write.specs.ScanText.{UnitDue, Owned, unit_elements, is_dc, table_place, symbols_used}
-use Rattle.jpg_spec.specs.FlatTable.{flat_table}
+use Rattle.jpg_spec_write.specs.ScanText.{UnitDue, Owned, unit_elements, is_dc, table_place, symbols_used, symbol_counts, own_table}
+use Rattle.jpg_spec_fit.proofs.FittedCodes.{fitted_has, fitted_valid}
+use Rattle.jpg_spec_write.specs.declared.huffman.Huffman.{Huffman}
+use Rattle.jpg_spec_write.specs.declared.huffman.Huffman.TheVariants.{Plain, Fitted}
 use Rattle.jpg_spec.proofs.Common.{same_of, same_itself, length_below}
 use Rattle.jpg_spec_write.specs.Written.{HasCode}
 use Rattle.jpg_spec.proofs.WrittenState.{IsTellable}
@@ -18,7 +22,7 @@ use Rattle.jpg_spec.proofs.Small.{few_digits, AreBounds, IsDc}
 use Rattle.jpg_spec_write.proofs.Writing.{AllSent}
 use Rattle.jpg_spec_write.proofs.Bands.{AllBands, split}
 use Rattle.jpg_spec.proofs.Full.{Has}
-use Rattle.jpg_spec.proofs.FlatTables.{flat_has, flat_valid, valid_tellable}
+use Rattle.jpg_spec.proofs.FlatTables.{IsValid, flat_has, flat_valid, valid_tellable}
 use Rattle.jpg_spec.proofs.Each.{Each, each_map, each_join, each_flat}
 use Rattle.jpg_spec_write.proofs.Shifts.{dc_shifted}
 use Rattle.jpg_spec.proofs.WrittenHead.{at_among}
@@ -69,19 +73,52 @@ among_filter test s (x ∷ xs) h t = by (x == s) refl h (λ k. among_filter test
 among_all : (n s : ℕ) → s < n → is_among s (below n) ≡ true
 among_all n s h = subst (λ k. is_among k (below n) ≡ true) (at_below n s h) (at_among (below n) s (subst (λ m. s < m) (sym (length_below n)) h))
 
--- an element that the scan writes by a table has a code in the flat table
-abbrev pub IsCoded : ScanHead → List (List Owned) → ℕ → ℕ → Owned → Type 0
-IsCoded head intervals class slot e = is_own head class slot e ≡ true → symbol_of e.1 < 256 → Has (table_codes (flat_table (symbols_used head intervals class slot))) (symbol_of e.1)
+-- THE TABLES have codes for the symbols that are used
 
-pub all_coded : (head : ScanHead) (intervals : List (List Owned)) (class slot : ℕ) → Each (λ (es : List Owned). Each (IsCoded head intervals class slot) es) intervals
-unfolding IsUsed symbols_used
-all_coded head intervals class slot =
+counted_some : (written : List ℕ) (symbol : ℕ) → is_among symbol written ≡ true → 0 < count_by (λ s. s == symbol) written
+counted_some [] symbol e = cc
+counted_some (s ∷ written) symbol e = subst (λ n. 0 < n) (sym (sum_by-cons (λ t. cond (t == symbol) 1 0) s written)) (by (s == symbol) e (λ k. counted_some written symbol k))
+  where
+    by : (b : Bool) → (b || is_among symbol written) ≡ true → (is_among symbol written ≡ true → 0 < count_by (λ s. s == symbol) written) → 0 < cond b 1 0 + count_by (λ s. s == symbol) written
+    by true h later = omega arith
+    by false h later = let r = later h in omega (arith, r)
+
+counts_long : (head : ScanHead) (intervals : List (List Owned)) (class slot : ℕ) → length (symbol_counts head intervals class slot) ≡ 256
+unfolding symbol_counts
+counts_long head intervals class slot =
+    let written = symbols_of (is_own head class slot) (flat_map (λ (es : List Owned). es) intervals) in
+    length-map (below 256) (λ symbol. count_by (λ s. s == symbol) written) ∙ length_below 256
+
+counts_some : (head : ScanHead) (intervals : List (List Owned)) (class slot symbol : ℕ) → symbol < 256 → is_among symbol (symbols_of (is_own head class slot) (flat_map (λ (es : List Owned). es) intervals)) ≡ true
+    → 0 < slice_index (symbol_counts head intervals class slot) symbol
+unfolding symbol_counts
+counts_some head intervals class slot symbol l e =
+    let written = symbols_of (is_own head class slot) (flat_map (λ (es : List Owned). es) intervals) in
+    let count : ℕ → ℕ = λ symbol. count_by (λ s. s == symbol) written in
+    let at = get_or-map count (below 256) symbol 0 0 (subst (λ n. symbol < n) (sym (length_below 256)) l) ∙ ap count (at_below 256 symbol l) in
+    subst (λ n. 0 < n) (sym at) (counted_some written symbol e)
+
+own_has : (huffman : Huffman) (head : ScanHead) (intervals : List (List Owned)) (class slot symbol : ℕ) → symbol < 256 → is_among symbol (symbols_of (is_own head class slot) (flat_map (λ (es : List Owned). es) intervals)) ≡ true
+    → Has (table_codes (own_table huffman head intervals class slot)) symbol
+unfolding symbols_used
+own_has Plain head intervals class slot symbol l e =
+    let written = symbols_of (is_own head class slot) (flat_map (λ (es : List Owned). es) intervals) in
+    flat_has (symbols_used head intervals class slot) symbol (among_filter (λ s. is_among s written) symbol (below 256) (among_all 256 symbol l) e)
+own_has Fitted head intervals class slot symbol l e =
+    let long = counts_long head intervals class slot in
+    fitted_has (symbol_counts head intervals class slot) symbol (omega (arith, long)) (counts_some head intervals class slot symbol l e)
+
+-- an element that the scan writes by a table has a code in it
+abbrev pub IsCoded : Huffman → ScanHead → List (List Owned) → ℕ → ℕ → Owned → Type 0
+IsCoded huffman head intervals class slot e = is_own head class slot e ≡ true → symbol_of e.1 < 256 → Has (table_codes (own_table huffman head intervals class slot)) (symbol_of e.1)
+
+pub all_coded : (huffman : Huffman) (head : ScanHead) (intervals : List (List Owned)) (class slot : ℕ) → Each (λ (es : List Owned). Each (IsCoded huffman head intervals class slot) es) intervals
+unfolding IsUsed
+all_coded huffman head intervals class slot =
     let own = is_own head class slot in
     let all = flat_map (λ (es : List Owned). es) intervals in
-    each_flat (IsCoded head intervals class slot) (λ (es : List Owned). es) intervals
-    (each_map (IsUsed own all) (IsCoded head intervals class slot) all
-    (λ e h o l. flat_has (symbols_used head intervals class slot) (symbol_of e.1) (among_filter (λ s. is_among s (symbols_of own all)) (symbol_of e.1) (below 256) (among_all 256 (symbol_of e.1) l) (h o)))
-    (used_each own all))
+    each_flat (IsCoded huffman head intervals class slot) (λ (es : List Owned). es) intervals
+    (each_map (IsUsed own all) (IsCoded huffman head intervals class slot) all (λ e h o l. own_has huffman head intervals class slot (symbol_of e.1) l (h o)) (used_each own all))
 
 filter_less : (test : ℕ → Bool) (xs : List ℕ) → length (filter test xs) ≤ length xs
 filter_less test [] = omega arith
@@ -107,32 +144,34 @@ each_unmap : {A B : Type 0} (P : B → Type 0) (g : A → B) (xs : List A) → E
 each_unmap P g [] h = tt
 each_unmap P g (x ∷ xs) h = (h.0, each_unmap P g xs h.1)
 
-abbrev pub IsCodedAll : ScanHead → List (List Owned) → Owned → Type 0
-IsCodedAll head intervals o = (class slot : ℕ) → IsCoded head intervals class slot o
+abbrev pub IsCodedAll : Huffman → ScanHead → List (List Owned) → Owned → Type 0
+IsCodedAll huffman head intervals o = (class slot : ℕ) → IsCoded huffman head intervals class slot o
 
-pub elements_coded : {A : Type 0} (head : ScanHead) (g : A → List Owned) (rows : List A) → Each (λ row. Each (IsCodedAll head (map g rows)) (g row)) rows
-elements_coded head g rows =
+pub elements_coded : {A : Type 0} (huffman : Huffman) (head : ScanHead) (g : A → List Owned) (rows : List A) → Each (λ row. Each (IsCodedAll huffman head (map g rows)) (g row)) rows
+elements_coded huffman head g rows =
     let all = map g rows in
-    each_unmap (λ (es : List Owned). Each (IsCodedAll head all) es) g rows
-    (each_map (λ (es : List Owned). (c m : ℕ) → Each (IsCoded head all c m) es) (λ (es : List Owned). Each (IsCodedAll head all) es) all (λ es h. each_forall (λ c m o. IsCoded head all c m o) es h)
-    (each_forall (λ c m (es : List Owned). Each (IsCoded head all c m) es) all (λ c m. all_coded head all c m)))
-
--- the flat tables of a scan
-abbrev pub flat_tables : ScanHead → List (List Owned) → ℕ → ℕ → HuffmanTable
-flat_tables head elements class slot = flat_table (symbols_used head elements class slot)
+    each_unmap (λ (es : List Owned). Each (IsCodedAll huffman head all) es) g rows
+    (each_map (λ (es : List Owned). (c m : ℕ) → Each (IsCoded huffman head all c m) es) (λ (es : List Owned). Each (IsCodedAll huffman head all) es) all (λ es h. each_forall (λ c m o. IsCoded huffman head all c m o) es h)
+    (each_forall (λ c m (es : List Owned). Each (IsCoded huffman head all c m) es) all (λ c m. all_coded huffman head all c m)))
 
 -- a symbol of a byte that the scan writes by a table
 abbrev pub IsByte : Owned → Type 0
 IsByte o = (is_dc_bit o.1 ≡ false) × (symbol_of o.1 < 256)
 
-pub flat_coded : (head : ScanHead) (intervals : List (List Owned)) (o : Owned) → IsCodedAll head intervals o → IsByte o → HasCode (flat_tables head intervals) head o
-flat_coded head intervals o h b =
+pub own_coded : (huffman : Huffman) (head : ScanHead) (intervals : List (List Owned)) (o : Owned) → IsCodedAll huffman head intervals o → IsByte o → HasCode (own_table huffman head intervals) head o
+own_coded huffman head intervals o h b =
     let c = (table_place head o).0 in
     let n = (table_place head o).1 in
     h c n (ap (λ t. not t && c == c && n == n) b.0 ∙ ap (λ t. t && n == n) (same_itself c) ∙ same_itself n) b.1
 
-pub flat_tell : (head : ScanHead) (elements : List (List Owned)) (c n : ℕ) → c ≤ 1 → n ≤ 1 → IsTellable c n (flat_tables head elements c n)
-flat_tell head elements c n lc ln = valid_tellable c n (flat_tables head elements c n) lc (omega (arith, ln)) (flat_valid (symbols_used head elements c n) (symbols_few head elements c n))
+-- THE TABLES are valid
+
+pub own_valid : (huffman : Huffman) (head : ScanHead) (intervals : List (List Owned)) (class slot : ℕ) → IsValid (own_table huffman head intervals class slot)
+own_valid Plain head intervals class slot = flat_valid (symbols_used head intervals class slot) (symbols_few head intervals class slot)
+own_valid Fitted head intervals class slot = (let long = counts_long head intervals class slot in fitted_valid (symbol_counts head intervals class slot) (omega (arith, long)))
+
+pub own_tell : (huffman : Huffman) (head : ScanHead) (intervals : List (List Owned)) (c n : ℕ) → c ≤ 1 → n ≤ 1 → IsTellable c n (own_table huffman head intervals c n)
+own_tell huffman head intervals c n lc ln = valid_tellable c n (own_table huffman head intervals c n) lc (omega (arith, ln)) (own_valid huffman head intervals c n)
 
 -- THE ELEMENTS of bands are those of AC, with symbols of a byte
 

@@ -8,6 +8,7 @@ use Rattle.jpg_spec.specs.FrameHeader.{AreLimits}
 use Rattle.jpg_spec.specs.Segments.{ScanHead}
 use Rattle.jpg_spec.specs.Scan.{Blocks}
 use Rattle.jpg_spec.specs.Meaning.{Meaning}
+use Rattle.jpg_spec_write.specs.declared.huffman.Huffman.{Huffman}
 use Rattle.jpg_spec_write.specs.Script.{Entry}
 use Rattle.jpg_spec.specs.History.{names, has_begun, has_coefficient, known_to, is_known_to}
 use Rattle.jpg_spec.specs.FileMeaning.{no_blocks, Means}
@@ -82,16 +83,16 @@ sized limits H heads P w text (items, s) = (
 )
 
 -- THE LAW
-pub progressive_means : (limits : Limits) (H : Meaning) (script : List Entry) (restart : Restart) → AreLimits limits → IsHeaded limits H → is_progressive H.process ≡ true → is_progressive_after H [] script ≡ true → IsRestart restart
-    → length (file_text H script restart) ≤ limits.input → Means limits (file_text H script restart) H
+pub progressive_means : (huffman : Huffman) (limits : Limits) (H : Meaning) (script : List Entry) (restart : Restart) → AreLimits limits → IsHeaded limits H → is_progressive H.process ≡ true → is_progressive_after H [] script ≡ true → IsRestart restart
+    → length (file_text huffman H script restart) ≤ limits.input → Means limits (file_text huffman H script restart) H
 unfolding file_text
-progressive_means limits H script restart limited headed progressive passes small long =
+progressive_means huffman limits H script restart limited headed progressive passes small long =
     let f = frame_of_meaning H in
     let fit : IsFit H = record { frame = frame_is limits f f limited headed.frame; progressive = progressive; blocks = headed.blocks; count = count_is H } in
-    let k = script_step limits H restart [] nothing_written (front_text H) script fit small passes (starts limits H (IsKnown H []) limited headed (none_known H)) in
+    let k = script_step huffman limits H restart [] nothing_written (front_text H) script fit small passes (starts limits H (IsKnown H []) limited headed (none_known H)) in
     let begun = all_by (has_begun k.heads) (length H.components) (λ i l.
     (let here = all_below (λ i. all_of (λ k'. is_known_to (known_to k.heads i k') 0) (below 64)) (length H.components) i k.complete l in
     let o = is_known (known_to k.heads i 0) (all_below (λ k'. is_known_to (known_to k.heads i k') 0) 64 0 here (omega arith)) in
     begun_by k.heads i 0 o.0 o.1)) in
-    ends limits H k.heads (AreSized (IsKnown H k.heads)) k.w (front_text H ++ scans_text H restart nothing_written script) headed (sized limits H k.heads (IsKnown H k.heads) k.w (front_text H ++ scans_text H restart nothing_written script) k.sends) begun
+    ends limits H k.heads (AreSized (IsKnown H k.heads)) k.w (front_text H ++ scans_text huffman H restart nothing_written script) headed (sized limits H k.heads (IsKnown H k.heads) k.w (front_text H ++ scans_text huffman H restart nothing_written script) k.sends) begun
     (λ blocks s i x y l real. known_whole H k.heads blocks i x y s.0 l real k.complete (s.1 i x y) (headed.blocks i x y l real).0) long

@@ -9,7 +9,8 @@ use Rattle.jpg_spec.specs.Geometry.{Frame, is_progressive, factor_sum, single_un
 use Rattle.jpg_spec.specs.FrameHeader.{AreLimits}
 use Rattle.jpg_spec.specs.Segments.{ScanHead, head_components}
 use Rattle.jpg_spec.specs.Scan.{Blocks, Scan, TablesInForce, codes_of, part_of, scan_coding, scan_of, band, block_at, unit_at, SpellsInterval, SpellsIntervals}
-use Rattle.jpg_spec_write.specs.ScanText.{intervals_text, symbols_used}
+use Rattle.jpg_spec_write.specs.declared.huffman.Huffman.{Huffman}
+use Rattle.jpg_spec_write.specs.ScanText.{intervals_text}
 use Rattle.jpg_spec.specs.Markers.{eoi}
 use Rattle.jpg_spec.specs.Meaning.{Meaning}
 use Rattle.jpg_spec_write.specs.Script.{Entry}
@@ -36,8 +37,7 @@ use Rattle.jpg_spec_write.proofs.FrontLength.{front_few}
 use Rattle.jpg_spec_write.proofs.ScanLength.{units_few}
 use Rattle.jpg_spec.proofs.UnitsCount.{intervals_few, single_few, scan_few}
 use Rattle.jpg_spec_write.proofs.FileLength.{tables_few, head_few, restart_few, quants_each}
-use Rattle.jpg_spec.proofs.FlatTables.{flat_valid}
-use Rattle.jpg_spec_write.proofs.ProgressiveCodes.{symbols_few}
+use Rattle.jpg_spec_write.proofs.ProgressiveCodes.{own_valid}
 use Rattle.jpg_spec_write.proofs.ProgressiveKnown.{IsKnown, IsProgressiveEntry, progressive_entry}
 use Rattle.jpg_spec_write.proofs.ProgressiveRows.{progressive_coded}
 use Rattle.jpg_spec_write.proofs.ProgressiveScan.{progressive_scan}
@@ -107,11 +107,11 @@ intervals_long s m before after turn (row ∷ next ∷ rows) (c ∷ d ∷ coded)
 
 -- THE DATA OF A SCAN
 
-abbrev tables_due : Meaning → ScanHead → ℕ → TablesInForce
-tables_due H head n class slot = Some (progressive_tables H head n class slot)
+abbrev tables_due : Huffman → Meaning → ScanHead → ℕ → TablesInForce
+tables_due huffman H head n class slot = Some (progressive_tables huffman H head n class slot)
 
-due_brief : (H : Meaning) (head : ScanHead) (n : ℕ) → IsBrief (scan_coding (frame_of_meaning H) (tables_due H head n) head)
-due_brief H head n = record {
+due_brief : (huffman : Huffman) (H : Meaning) (head : ScanHead) (n : ℕ) → IsBrief (scan_coding (frame_of_meaning H) (tables_due huffman H head n) head)
+due_brief huffman H head n = record {
   dc = λ i. short 0 (part_of head i).dc;
   ac = λ i. short 1 (part_of head i).ac;
   dc_cat = (let few = (are_bounds H.precision).dc_few in omega (arith, few));
@@ -119,10 +119,10 @@ due_brief H head n = record {
   runs = runs (is_progressive H.process);
 }
   where
-    short : (class slot : ℕ) → AreShort (codes_of (tables_due H head n class slot))
+    short : (class slot : ℕ) → AreShort (codes_of (tables_due huffman H head n class slot))
     short class slot =
-        let t = progressive_tables H head n class slot in
-        let valid = flat_valid (symbols_used head (progressive_elements H head n) class slot) (symbols_few head (progressive_elements H head n) class slot) in
+        let t = progressive_tables huffman H head n class slot in
+        let valid = own_valid huffman head (progressive_elements H head n) class slot in
         table_short t.counts t.symbols (omega (arith, valid.counts))
 
     categories : (b : Bool) → cond b 1 (bounds_of H.precision).ac_cat ≤ 14
@@ -136,9 +136,9 @@ due_brief H head n = record {
 band_is : (s : Scan) → s.ss ≤ s.se → s.se ≤ 63 → HasBands s (s.se + 1 - s.ss)
 band_is s low high = (omega (arith, low), λ block l. omega (arith, low, high, l, length-take (s.se + 1 - s.ss) (drop s.ss block), length-drop s.ss block))
 
-all_given : (H : Meaning) (head : ScanHead) (n : ℕ) (a b : Bool) (parts : List ScanPart) → Each (IsGivenBy a b (tables_due H head n) (progressive_tables H head n)) parts
-all_given H head n a b [] = tt
-all_given H head n a b (p ∷ parts) = ((λ e. refl, λ e. refl), all_given H head n a b parts)
+all_given : (huffman : Huffman) (H : Meaning) (head : ScanHead) (n : ℕ) (a b : Bool) (parts : List ScanPart) → Each (IsGivenBy a b (tables_due huffman H head n) (progressive_tables huffman H head n)) parts
+all_given huffman H head n a b [] = tt
+all_given huffman H head n a b (p ∷ parts) = ((λ e. refl, λ e. refl), all_given huffman H head n a b parts)
 
 -- the values that a scan sends, of this many units
 record IsCounted (H : Meaning) (head : ScanHead) : Type 0 where
@@ -186,22 +186,22 @@ counted H heads head fit entry = by (head.ss == 0) refl
         not_none zero e = cc
         not_none (suc n) e = omega arith
 
-data_long : (H : Meaning) (heads : List ScanHead) (head : ScanHead) (n : ℕ) (before : Blocks) → IsFit H → IsProgressiveEntry (frame_of_meaning H) heads head → AreWhole before → IsKnown H heads before
-    → length (progressive_data H head n) ≤ 12 * (sent_of head 64 * 8388608) + 4
-data_long H heads head n before fit entry sizes known =
+data_long : (huffman : Huffman) (H : Meaning) (heads : List ScanHead) (head : ScanHead) (n : ℕ) (before : Blocks) → IsFit H → IsProgressiveEntry (frame_of_meaning H) heads head → AreWhole before → IsKnown H heads before
+    → length (progressive_data huffman H head n) ≤ 12 * (sent_of head 64 * 8388608) + 4
+data_long huffman H heads head n before fit entry sizes known =
     let f = frame_of_meaning H in
     let comps = head_components head in
-    let tabs = tables_due H head n in
+    let tabs = tables_due huffman H head n in
     let s = scan_of f tabs n head in
     let sc = progressive_scan f tabs n head fit.progressive in
-    let k = scan_leads H heads head n tabs before (record { fit = fit; entry = entry; sizes = sizes; known = known; given = all_given H head n (dc_due head) (ac_due head) head.parts }) in
+    let k = scan_leads huffman H heads head n tabs before (record { fit = fit; entry = entry; sizes = sizes; known = known; given = all_given huffman H head n (dc_due head) (ac_due head) head.parts }) in
     let c = counted H heads head fit entry in
     let m = s.se + 1 - s.ss in
     let rows = scan_rows f head n in
     let size = n * mcu_units f comps in
-    let coded = map (progressive_coded (progressive_tables H head n) head H.blocks) rows in
+    let coded = map (progressive_coded (progressive_tables huffman H head n) head H.blocks) rows in
     let bands = band_is s (omega (arith, sc.ss, sc.se, c.low)) (omega (arith, sc.se, c.high)) in
-    let long = intervals_long s m before k.0 0 rows coded (due_brief H head n) bands sizes (k.1).sizes (k.1).spelled in
+    let long = intervals_long s m before k.0 0 rows coded (due_brief huffman H head n) bands sizes (k.1).sizes (k.1).spelled in
     let same : m ≡ head.se + 1 - head.ss = omega (arith, sc.ss, sc.se) in
     let whole = ap (λ (l : List Place). m * length l) (joined_chunks size (units f comps)) in
     let there = ap (λ j. j * length (units f comps)) same in
@@ -219,23 +219,23 @@ length_needed true false (p ∷ parts) = let h = length_needed true false parts 
 length_needed false true (p ∷ parts) = let h = length_needed false true parts in omega (arith, h)
 length_needed false false (p ∷ parts) = let h = length_needed false false parts in omega (arith, h)
 
-scan_long : (H : Meaning) (restart : Restart) (w : Written) (heads : List ScanHead) (head : ScanHead) (before : Blocks) → IsFit H → IsProgressiveEntry (frame_of_meaning H) heads head → AreWhole before → IsKnown H heads before
-    → (let n = interval_of (frame_of_meaning H) head restart in let tables = progressive_tables H head n in
-    length (tables_text w.tables tables (needed_of (dc_due head) (ac_due head) head.parts) ++ cond (n == w.interval) [] (segment_text 0xdd (to_be_bytes w16 n)) ++ head_text H head ++ progressive_data H head n)
+scan_long : (huffman : Huffman) (H : Meaning) (restart : Restart) (w : Written) (heads : List ScanHead) (head : ScanHead) (before : Blocks) → IsFit H → IsProgressiveEntry (frame_of_meaning H) heads head → AreWhole before → IsKnown H heads before
+    → (let n = interval_of (frame_of_meaning H) head restart in let tables = progressive_tables huffman H head n in
+    length (tables_text w.tables tables (needed_of (dc_due head) (ac_due head) head.parts) ++ cond (n == w.interval) [] (segment_text 0xdd (to_be_bytes w16 n)) ++ head_text H head ++ progressive_data huffman H head n)
     ≤ 100665538 * sent_of head 64)
-scan_long H restart w heads head before fit entry sizes known =
+scan_long huffman H restart w heads head before fit entry sizes known =
     let n = interval_of (frame_of_meaning H) head restart in
-    let tables = progressive_tables H head n in
+    let tables = progressive_tables huffman H head n in
     let needed = needed_of (dc_due head) (ac_due head) head.parts in
     let dht = tables_text w.tables tables needed in
     let dri = cond (n == w.interval) [] (segment_text 0xdd (to_be_bytes w16 n)) in
     let small : (c s : ℕ) → length (tables c s).counts + length (tables c s).symbols ≤ 272 = λ c s.
-    (let valid = flat_valid (symbols_used head (progressive_elements H head n) c s) (symbols_few head (progressive_elements H head n) c s) in omega (arith, valid.counts, valid.few)) in
+    (let valid = own_valid huffman head (progressive_elements H head n) c s in omega (arith, valid.counts, valid.few)) in
     let a = length-append dht dri in
     let b = length-append (dht ++ dri) (head_text H head) in
-    let d = length-append (dht ++ dri ++ head_text H head) (progressive_data H head n) in
+    let d = length-append (dht ++ dri ++ head_text H head) (progressive_data huffman H head n) in
     let some = (counted H heads head fit entry).some in
-    omega (arith, data_long H heads head n before fit entry sizes known, tables_few w.tables tables needed small, length_needed (dc_due head) (ac_due head) head.parts, entry.few, restart_few n (n == w.interval), head_few H head entry.few, a, b, d, some)
+    omega (arith, data_long huffman H heads head n before fit entry sizes known, tables_few w.tables tables needed small, length_needed (dc_due head) (ac_due head) head.parts, entry.few, restart_few n (n == w.interval), head_few H head entry.few, a, b, d, some)
 
 descends : (f : Frame) (heads : List ScanHead) (head : ScanHead) → IsProgressiveEntry f heads head → Descends heads head
 descends f heads head entry = record {
@@ -245,41 +245,41 @@ descends f heads head entry = record {
 }
 
 -- THE SCRIPT
-scans_long : (limits : Limits) (H : Meaning) (restart : Restart) (heads : List ScanHead) (w : Written) (text : List ℕ) (script : List Entry) → IsFit H → IsRestart restart → is_progressive_after H heads script ≡ true
-    → state.Sends limits H heads (IsKnown H heads) w text → length (scans_text H restart w script) ≤ 100665538 * left_of_all heads (length (frame_of_meaning H).components)
+scans_long : (huffman : Huffman) (limits : Limits) (H : Meaning) (restart : Restart) (heads : List ScanHead) (w : Written) (text : List ℕ) (script : List Entry) → IsFit H → IsRestart restart → is_progressive_after H heads script ≡ true
+    → state.Sends limits H heads (IsKnown H heads) w text → length (scans_text huffman H restart w script) ≤ 100665538 * left_of_all heads (length (frame_of_meaning H).components)
 unfolding scans_text
-scans_long limits H restart heads w text [] fit small e s = omega arith
-scans_long limits H restart heads w text (entry ∷ script) fit small e s =
+scans_long huffman limits H restart heads w text [] fit small e s = omega arith
+scans_long huffman limits H restart heads w text (entry ∷ script) fit small e s =
     let f = frame_of_meaning H in
     let head = written_head H entry in
     let b = both (is_progressive_entry f heads head) (is_progressive_after H (head ∷ heads) script) e in
     let is = progressive_entry f heads head b.0 in
     let n = interval_of f head restart in
-    let tables = progressive_tables H head n in
+    let tables = progressive_tables huffman H head n in
     let needed = needed_of (dc_due head) (ac_due head) head.parts in
     let next : Written = record { tables = tables_given w.tables tables needed; interval = n } in
-    let here = tables_text w.tables tables needed ++ cond (n == w.interval) [] (segment_text 0xdd (to_be_bytes w16 n)) ++ head_text H head ++ progressive_data H head n in
-    let k = entry_step limits H restart heads w text head fit small (head_slots H entry) is s in
-    let later = scans_long limits H restart (head ∷ heads) next (text ++ here) script fit small b.1 k in
+    let here = tables_text w.tables tables needed ++ cond (n == w.interval) [] (segment_text 0xdd (to_be_bytes w16 n)) ++ head_text H head ++ progressive_data huffman H head n in
+    let k = entry_step huffman limits H restart heads w text head fit small (head_slots H entry) is s in
+    let later = scans_long huffman limits H restart (head ∷ heads) next (text ++ here) script fit small b.1 k in
     let st = s.1 in
-    let scan = scan_long H restart w heads head st.blocks fit is (leads_sizes limits s.0 st.blocks st.leads) st.picture in
-    let cut = ap length (progressive_scans H restart w entry script fit.progressive) in
+    let scan = scan_long huffman H restart w heads head st.blocks fit is (leads_sizes limits s.0 st.blocks st.leads) st.picture in
+    let cut = ap length (progressive_scans huffman H restart w entry script fit.progressive) in
     let i = first_component head.parts is.some in
     let few = all_fewer heads head (length f.components) i.0 (descends f heads head is) (among_below (length f.components) i.0 (head_components head) is.known i.1) i.1 in
-    omega (arith, later, scan, cut, length-append here (scans_text H restart next script), few)
+    omega (arith, later, scan, cut, length-append here (scans_text huffman H restart next script), few)
 
 -- THE LAW
-pub progressive_short : (limits : Limits) (H : Meaning) (script : List Entry) (restart : Restart) → AreLimits limits → IsHeaded limits H → is_progressive H.process ≡ true → is_progressive_after H [] script ≡ true → IsRestart restart
-    → length (file_text H script restart) < 2 ^ 39
+pub progressive_short : (huffman : Huffman) (limits : Limits) (H : Meaning) (script : List Entry) (restart : Restart) → AreLimits limits → IsHeaded limits H → is_progressive H.process ≡ true → is_progressive_after H [] script ≡ true → IsRestart restart
+    → length (file_text huffman H script restart) < 2 ^ 39
 unfolding file_text
-progressive_short limits H script restart limited headed progressive passes small =
+progressive_short huffman limits H script restart limited headed progressive passes small =
     let f = frame_of_meaning H in
     let is = frame_is limits f f limited headed.frame in
     let fit : IsFit H = record { frame = is; progressive = progressive; blocks = headed.blocks; count = count_is H } in
     let few : length H.components ≤ 4 = omega (arith, is.count_high, count_is H) in
     let front = front_few H few (quants_each H.components headed.quants) in
-    let scans = scans_long limits H restart [] nothing_written (front_text H) script fit small passes (starts limits H (IsKnown H []) limited headed (none_known H)) in
+    let scans = scans_long huffman limits H restart [] nothing_written (front_text H) script fit small passes (starts limits H (IsKnown H []) limited headed (none_known H)) in
     let left = all_start (length f.components) in
-    let a = length-append (front_text H) (scans_text H restart nothing_written script) in
-    let b = length-append (front_text H ++ scans_text H restart nothing_written script) eoi in
+    let a = length-append (front_text H) (scans_text huffman H restart nothing_written script) in
+    let b = length-append (front_text H ++ scans_text huffman H restart nothing_written script) eoi in
     omega (arith, front, headed.count, limited.kept, scans, left, is.count_high, a, b)

@@ -6,6 +6,7 @@ use Rattle.jpg_spec.specs.Codes.{Code, code_of}
 use Rattle.jpg_spec.specs.Geometry.{Frame, is_progressive}
 use Rattle.jpg_spec.specs.Segments.{HuffmanTable, ScanHead, head_components, table_codes}
 use Rattle.jpg_spec.specs.Elements.{Element, difference, dc_bit, SpellsUnits, at_start, symbol_of, bits_after, scaled}
+use Rattle.jpg_spec_write.specs.declared.huffman.Huffman.{Huffman}
 use Rattle.jpg_spec_write.specs.Sending.{sent, divided, band_elements}
 use Rattle.jpg_spec.specs.Scan.{Blocks, Scan, TablesInForce, codes_of, part_of, scan_of, band, block_at, unit_at, SpellsInterval, SpellsIntervals, ScanMeans}
 use Rattle.jpg_spec_write.specs.ScanText.{UnitDue, Owned, units_due, last_dc, unit_elements, interval_elements, element_bits, is_dc, band_of}
@@ -35,11 +36,11 @@ use Rattle.jpg_spec.proofs.Common.{same_itself}
 
 -- EACH ELEMENT has its code
 
-abbrev pub IsCodedHere : Meaning → ScanHead → ℕ → Owned → Type 0
-IsCodedHere H head n o = IsCodedAll head (progressive_elements H head n) o
+abbrev pub IsCodedHere : Huffman → Meaning → ScanHead → ℕ → Owned → Type 0
+IsCodedHere huffman H head n o = IsCodedAll huffman head (progressive_elements H head n) o
 
-rows_coded : (H : Meaning) (head : ScanHead) (n : ℕ) → Each (λ row. Each (IsCodedHere H head n) (interval_elements true head (units_due H.blocks (λ i. pos 0) row))) (scan_rows (frame_of_meaning H) head n)
-rows_coded H head n = elements_coded head (λ places. interval_elements true head (units_due H.blocks (λ i. pos 0) places)) (scan_rows (frame_of_meaning H) head n)
+rows_coded : (huffman : Huffman) (H : Meaning) (head : ScanHead) (n : ℕ) → Each (λ row. Each (IsCodedHere huffman H head n) (interval_elements true head (units_due H.blocks (λ i. pos 0) row))) (scan_rows (frame_of_meaning H) head n)
+rows_coded huffman H head n = elements_coded huffman head (λ places. interval_elements true head (units_due H.blocks (λ i. pos 0) places)) (scan_rows (frame_of_meaning H) head n)
 
 own_dc : (head : ScanHead) (o : Owned) → IsDifference o.1 → is_own head 0 (part_of head o.0).dc o ≡ true
 own_dc head o d =
@@ -103,13 +104,13 @@ first_codes f tabs tables n head = λ i d. refl
 abbrev pub IsInForce : ℕ → TablesInForce → (ℕ → ℕ → HuffmanTable) → ScanHead → Type 0
 IsInForce class tabs tables head = (i : ℕ) → is_among i (head_components head) ≡ true → (let slot = cond (class == 0) (part_of head i).dc (part_of head i).ac in tabs class slot ≡ Some (tables class slot))
 
-pub dc_first_means : (H : Meaning) (heads : List ScanHead) (head : ScanHead) (n : ℕ) (tabs : TablesInForce) (before : Blocks) → is_progressive H.process ≡ true → nat_lt 0 head.ah ≡ false
-    → IsDcScan H heads (scan_of (frame_of_meaning H) (with_class 0 tabs (progressive_tables H head n)) n head) head before → IsInForce 0 tabs (progressive_tables H head n) head
+pub dc_first_means : (huffman : Huffman) (H : Meaning) (heads : List ScanHead) (head : ScanHead) (n : ℕ) (tabs : TablesInForce) (before : Blocks) → is_progressive H.process ≡ true → nat_lt 0 head.ah ≡ false
+    → IsDcScan H heads (scan_of (frame_of_meaning H) (with_class 0 tabs (progressive_tables huffman H head n)) n head) head before → IsInForce 0 tabs (progressive_tables huffman H head n) head
     → (let s = scan_of (frame_of_meaning H) tabs n head in
-    ScanMeans s (map (progressive_coded (progressive_tables H head n) head H.blocks) (scan_rows (frame_of_meaning H) head n)) before (after_renewed s (dc_renews s head) H.blocks before))
-dc_first_means H heads head n tabs before prog none is force =
+    ScanMeans s (map (progressive_coded (progressive_tables huffman H head n) head H.blocks) (scan_rows (frame_of_meaning H) head n)) before (after_renewed s (dc_renews s head) H.blocks before))
+dc_first_means huffman H heads head n tabs before prog none is force =
     let f = frame_of_meaning H in
-    let tables = progressive_tables H head n in
+    let tables = progressive_tables huffman H head n in
     let s' = scan_of f (with_class 0 tabs tables) n head in
     let s = scan_of f tabs n head in
     let rows = scan_rows f head n in
@@ -126,13 +127,13 @@ dc_first_means H heads head n tabs before prog none is force =
     let spelled : Each (λ row. SpellsInterval s before after row (progressive_coded tables head H.blocks row)) rows =
     each_both (λ row. Each (λ (p : Place). is_among p.component (head_components head) ≡ true) row) (λ row. RowSpelled tables head H.blocks s' before after row) (λ row. SpellsInterval s before after row (progressive_coded tables head H.blocks row)) rows
     (λ row a k. row_interval tables head H.blocks s before after row (row_coded tables head H.blocks s' before after dc ac test row same a k)) (rows_among H head n tabs)
-    (each_both (λ row. Each (IsDcDue s' false before after) (placed_due H.blocks first row)) (λ row. Each (IsCodedHere H head n) (interval_elements true head (units_due H.blocks first row))) (λ row. RowSpelled tables head H.blocks s' before after row) rows
+    (each_both (λ row. Each (IsDcDue s' false before after) (placed_due H.blocks first row)) (λ row. Each (IsCodedHere huffman H head n) (interval_elements true head (units_due H.blocks first row))) (λ row. RowSpelled tables head H.blocks s' before after row) rows
     (λ row d k. (let units = units_due H.blocks first row in
-    let coded = subst (λ es. Each (IsCodedHere H head n) es) (elements_dc head units is.ss false none ∙ ap (λ m. unit_elements false false m first units) (sym sc.al)) k in
-    let have = each_both (IsCodedHere H head n) (λ (o : Owned). IsDifference o.1) (HasCode s'.coding) (unit_elements false false s'.coding.al first units) (λ o h e. h 0 (part_of head o.0).dc (own_dc head o e) e.byte) coded
+    let coded = subst (λ es. Each (IsCodedHere huffman H head n) es) (elements_dc head units is.ss false none ∙ ap (λ m. unit_elements false false m first units) (sym sc.al)) k in
+    let have = each_both (IsCodedHere huffman H head n) (λ (o : Owned). IsDifference o.1) (HasCode s'.coding) (unit_elements false false s'.coding.al first units) (λ o h e. h 0 (part_of head o.0).dc (own_dc head o e) e.byte) coded
     (differences are s'.coding.al first units low (λ j. are.zero_dc) (due_values s' false before after H.blocks first row d)) in
     dc_first_row s' tables head H.blocks before after row (sc.ss ∙ is.ss) (sc.se ∙ is.se) is.ss none sc.al (sc.refines ∙ none) low are (first_codes f tabs tables n head) d have))
-    due (rows_coded H head n)) in
+    due (rows_coded huffman H head n)) in
     renew_means s (dc_renews s head) H.blocks before (map (progressive_coded tables head H.blocks) rows) is.sizes (rows_spelled s before after (progressive_coded tables head H.blocks) rows spelled)
 
 -- DC REFINED
@@ -141,13 +142,13 @@ bit_codes : (tables : ℕ → ℕ → HuffmanTable) (head : ScanHead) (i : ℕ) 
 unfolding element_bits
 bit_codes tables head i b = refl
 
-pub dc_refined_means : (H : Meaning) (heads : List ScanHead) (head : ScanHead) (n : ℕ) (tabs : TablesInForce) (before : Blocks) → nat_lt 0 head.ah ≡ true
+pub dc_refined_means : (huffman : Huffman) (H : Meaning) (heads : List ScanHead) (head : ScanHead) (n : ℕ) (tabs : TablesInForce) (before : Blocks) → nat_lt 0 head.ah ≡ true
     → IsDcScan H heads (scan_of (frame_of_meaning H) tabs n head) head before
     → (let s = scan_of (frame_of_meaning H) tabs n head in
-    ScanMeans s (map (progressive_coded (progressive_tables H head n) head H.blocks) (scan_rows (frame_of_meaning H) head n)) before (after_renewed s (dc_renews s head) H.blocks before))
-dc_refined_means H heads head n tabs before set is =
+    ScanMeans s (map (progressive_coded (progressive_tables huffman H head n) head H.blocks) (scan_rows (frame_of_meaning H) head n)) before (after_renewed s (dc_renews s head) H.blocks before))
+dc_refined_means huffman H heads head n tabs before set is =
     let f = frame_of_meaning H in
-    let tables = progressive_tables H head n in
+    let tables = progressive_tables huffman H head n in
     let s = scan_of f tabs n head in
     let rows = scan_rows f head n in
     let after = after_renewed s (dc_renews s head) H.blocks before in
@@ -175,12 +176,12 @@ to_have : (codes : List Code) (es : List Element) → Each (λ e. Has codes (sym
 to_have codes [] h = tt
 to_have codes (e ∷ es) h = (h.0, to_have codes es h.1)
 
-module _ (H : Meaning) (head : ScanHead) (n : ℕ) (s : Scan) (i : ℕ) (old new : ℤ → ℤ) where
+module _ (huffman : Huffman) (H : Meaning) (head : ScanHead) (n : ℕ) (s : Scan) (i : ℕ) (old new : ℤ → ℤ) where
   -- what the elements of a row have
   row_have : (before after : Blocks) (row : List Place) → nat_lt 0 head.ss ≡ true → s.ss ≡ head.ss → s.se ≡ head.se → s.coding.al ≡ head.al → s.coding.most_category ≤ 14
       → ((v : ℤ) → IsAcValue s.coding.bounds v → Sends s.coding (sent (nat_lt 0 head.ah) s.coding.al v) (old v) (new v)) → Each (IsBandDue s i old new before after) (placed_due H.blocks (λ i. pos 0) row)
-      → Each (IsCodedHere H head n) (interval_elements true head (units_due H.blocks (λ i. pos 0) row))
-      → AllHave (table_codes (progressive_tables H head n 1 (part_of head i).ac)) (band_elements 32767 0 [] (map (map (sent (nat_lt 0 head.ah) s.coding.al)) (bands_due s H.blocks (λ i. pos 0) row)))
+      → Each (IsCodedHere huffman H head n) (interval_elements true head (units_due H.blocks (λ i. pos 0) row))
+      → AllHave (table_codes (progressive_tables huffman H head n 1 (part_of head i).ac)) (band_elements 32767 0 [] (map (map (sent (nat_lt 0 head.ah) s.coding.al)) (bands_due s H.blocks (λ i. pos 0) row)))
   row_have before after [] z a e same most step due coded = tt
   row_have before after (p ∷ row) z a e same most step due coded =
       let first : ℕ → ℤ = λ i. pos 0 in
@@ -190,26 +191,26 @@ module _ (H : Meaning) (head : ScanHead) (n : ℕ) (s : Scan) (i : ℕ) (old new
       let bands = map (map (sent r s.coding.al)) (bands_due s H.blocks first (p ∷ row)) in
       let es = band_elements 32767 0 [] (map (λ (u : UnitDue). band_of head u.1) units) in
       let eq : es ≡ band_elements 32767 0 [] bands = ap (band_elements 32767 0 []) (bands_are head s units a e ∙ ap (λ m. map (map (sent r m)) (map (λ (u : UnitDue). band s u.1) units)) (sym same)) in
-      let mine : Each (IsCodedHere H head n) (flat_map (λ (x : Element). (let o : Owned = (p.component, x) in o) ∷ []) es) =
-      subst (λ b. Each (IsCodedHere H head n) (cond b (flat_map (λ (x : Element). (let o : Owned = (p.component, x) in o) ∷ []) es) (unit_elements false r head.al first units))) z coded in
-      let all = each_map (λ (x : Element). Each (IsCodedHere H head n) ((let o : Owned = (p.component, x) in o) ∷ [])) (λ (x : Element). IsCodedHere H head n (i, x)) es (λ x h. subst (λ m. IsCodedHere H head n (m, x)) (due.0).component h.0)
-      (each_flat (IsCodedHere H head n) (λ (x : Element). (let o : Owned = (p.component, x) in o) ∷ []) es mine) in
+      let mine : Each (IsCodedHere huffman H head n) (flat_map (λ (x : Element). (let o : Owned = (p.component, x) in o) ∷ []) es) =
+      subst (λ b. Each (IsCodedHere huffman H head n) (cond b (flat_map (λ (x : Element). (let o : Owned = (p.component, x) in o) ∷ []) es) (unit_elements false r head.al first units))) z coded in
+      let all = each_map (λ (x : Element). Each (IsCodedHere huffman H head n) ((let o : Owned = (p.component, x) in o) ∷ [])) (λ (x : Element). IsCodedHere huffman H head n (i, x)) es (λ x h. subst (λ m. IsCodedHere huffman H head n (m, x)) (due.0).component h.0)
+      (each_flat (IsCodedHere huffman H head n) (λ (x : Element). (let o : Owned = (p.component, x) in o) ∷ []) es mine) in
       let small = band_small s i old new H.blocks before after first (p ∷ row) due in
       let acs = bands_ac s.coding 0 [] bands (map (map old) (bands_due s H.blocks first (p ∷ row))) (map (map new) (bands_due s H.blocks first (p ∷ row))) most (lit< tt) (all_bands s.coding r old new step (bands_due s H.blocks first (p ∷ row)) small) in
-      to_have (table_codes (progressive_tables H head n 1 (part_of head i).ac)) (band_elements 32767 0 [] bands)
-      (each_both (λ (x : Element). IsCodedHere H head n (i, x)) IsAc (λ x. Has (table_codes (progressive_tables H head n 1 (part_of head i).ac)) (symbol_of x)) (band_elements 32767 0 [] bands)
-      (λ x h d. h 1 (part_of head i).ac (own_ac head (i, x) d) d.byte) (subst (λ l. Each (λ (x : Element). IsCodedHere H head n (i, x)) l) eq all) acs)
+      to_have (table_codes (progressive_tables huffman H head n 1 (part_of head i).ac)) (band_elements 32767 0 [] bands)
+      (each_both (λ (x : Element). IsCodedHere huffman H head n (i, x)) IsAc (λ x. Has (table_codes (progressive_tables huffman H head n 1 (part_of head i).ac)) (symbol_of x)) (band_elements 32767 0 [] bands)
+      (λ x h d. h 1 (part_of head i).ac (own_ac head (i, x) d) d.byte) (subst (λ l. Each (λ (x : Element). IsCodedHere huffman H head n (i, x)) l) eq all) acs)
 
-pub band_means : (H : Meaning) (heads : List ScanHead) (head : ScanHead) (i n : ℕ) (tabs : TablesInForce) (before : Blocks) → nat_lt 0 head.ss ≡ true
-    → IsBandScan H heads (scan_of (frame_of_meaning H) (with_class 1 tabs (progressive_tables H head n)) n head) head i before → IsInForce 1 tabs (progressive_tables H head n) head
-    → (let s = scan_of (frame_of_meaning H) (with_class 1 tabs (progressive_tables H head n)) n head in (s.coding.most_category ≤ 14)
+pub band_means : (huffman : Huffman) (H : Meaning) (heads : List ScanHead) (head : ScanHead) (i n : ℕ) (tabs : TablesInForce) (before : Blocks) → nat_lt 0 head.ss ≡ true
+    → IsBandScan H heads (scan_of (frame_of_meaning H) (with_class 1 tabs (progressive_tables huffman H head n)) n head) head i before → IsInForce 1 tabs (progressive_tables huffman H head n) head
+    → (let s = scan_of (frame_of_meaning H) (with_class 1 tabs (progressive_tables huffman H head n)) n head in (s.coding.most_category ≤ 14)
     × ((v : ℤ) → IsAcValue s.coding.bounds v → Sends s.coding (sent (nat_lt 0 head.ah) s.coding.al v) (ac_known (was_known head) v) (scaled s.coding.al (divided s.coding.al v)))
     × ((v : ℤ) → IsAcValue s.coding.bounds v → int_le (pos (nat_abs (scaled s.coding.al (divided s.coding.al v)))) s.coding.bounds.ac ≡ true))
     → (let s = scan_of (frame_of_meaning H) tabs n head in
-    ScanMeans s (map (progressive_coded (progressive_tables H head n) head H.blocks) (scan_rows (frame_of_meaning H) head n)) before (after_renewed s (band_renews s) H.blocks before))
-band_means H heads head i n tabs before z is force (most, step, ok) =
+    ScanMeans s (map (progressive_coded (progressive_tables huffman H head n) head H.blocks) (scan_rows (frame_of_meaning H) head n)) before (after_renewed s (band_renews s) H.blocks before))
+band_means huffman H heads head i n tabs before z is force (most, step, ok) =
     let f = frame_of_meaning H in
-    let tables = progressive_tables H head n in
+    let tables = progressive_tables huffman H head n in
     let s' = scan_of f (with_class 1 tabs tables) n head in
     let s = scan_of f tabs n head in
     let rows = scan_rows f head n in
@@ -225,8 +226,8 @@ band_means H heads head i n tabs before z is force (most, step, ok) =
     let spelled : Each (λ row. SpellsInterval s before after row (progressive_coded tables head H.blocks row)) rows =
     each_both (λ row. Each (λ (p : Place). is_among p.component (head_components head) ≡ true) row) (λ row. RowSpelled tables head H.blocks s' before after row) (λ row. SpellsInterval s before after row (progressive_coded tables head H.blocks row)) rows
     (λ row a k. row_interval tables head H.blocks s before after row (row_coded tables head H.blocks s' before after dc ac test row same a k)) (rows_among H head n tabs)
-    (each_both (λ row. Each (IsBandDue s' i old new before after) (placed_due H.blocks first row)) (λ row. Each (IsCodedHere H head n) (interval_elements true head (units_due H.blocks first row))) (λ row. RowSpelled tables head H.blocks s' before after row) rows
+    (each_both (λ row. Each (IsBandDue s' i old new before after) (placed_due H.blocks first row)) (λ row. Each (IsCodedHere huffman H head n) (interval_elements true head (units_due H.blocks first row))) (λ row. RowSpelled tables head H.blocks s' before after row) rows
     (λ row d k. band_row s' i old new H.blocks before after tables head row z sc.ss sc.se sc.al step ok sc.run (band_codes f tabs tables n head i) d
-    (row_have H head n s' i old new before after row z sc.ss sc.se sc.al most step d k))
-    (band_due H heads s' head i before is) (rows_coded H head n)) in
+    (row_have huffman H head n s' i old new before after row z sc.ss sc.se sc.al most step d k))
+    (band_due H heads s' head i before is) (rows_coded huffman H head n)) in
     renew_means s (band_renews s) H.blocks before (map (progressive_coded tables head H.blocks) rows) is.sizes (rows_spelled s before after (progressive_coded tables head H.blocks) rows spelled)

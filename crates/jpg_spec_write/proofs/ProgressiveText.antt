@@ -6,8 +6,8 @@ use Rattle.jpg_spec.specs.Bits.{data_of, stuffed}
 use Rattle.jpg_spec.specs.Lists.{any_of, all_of}
 use Rattle.jpg_spec.specs.Geometry.{Frame, component_at, is_progressive}
 use Rattle.jpg_spec.specs.Segments.{HuffmanTable, QuantTable, ScanHead, head_components, needs_dc, needs_ac}
-use Rattle.jpg_spec_write.specs.ScanText.{Owned, units_due, interval_elements, element_bits, intervals_text, scan_data, typical_table, symbols_used}
-use Rattle.jpg_spec.specs.FlatTable.{flat_table}
+use Rattle.jpg_spec_write.specs.declared.huffman.Huffman.{Huffman}
+use Rattle.jpg_spec_write.specs.ScanText.{Owned, units_due, interval_elements, element_bits, intervals_text, scan_data, typical_table, is_plain, own_table}
 use Rattle.jpg_spec.specs.Meaning.{Meaning, colour_of}
 use Rattle.jpg_spec_write.specs.Script.{Entry}
 use Rattle.jpg_spec.specs.ScanContents.{are_parameters}
@@ -25,7 +25,6 @@ use Rattle.jpg_spec_write.proofs.WrittenScan.{scan_rows}
 use Rattle.jpg_spec.proofs.WrittenState.{IsTellable}
 use Rattle.jpg_spec_write.proofs.WrittenSequential.{given_stays, given_now, length_ids, slot_few}
 use Rattle.jpg_spec_write.proofs.ProgressiveRows.{progressive_coded}
-use Rattle.jpg_spec_write.proofs.ProgressiveCodes.{flat_tables}
 use Rattle.jpg_spec_write.proofs.ProgressiveKnown.{IsProgressiveEntry}
 use Rattle.jpg_spec.proofs.Small.{are_bounds}
 use Rattle.jpg_spec.proofs.Common.{not_refused, equal_itself}
@@ -150,11 +149,11 @@ progressive_admitted f before heads head due p h next q g sent =
 abbrev pub progressive_elements : Meaning → ScanHead → ℕ → List (List Owned)
 progressive_elements H head n = map (λ places. interval_elements true head (units_due H.blocks (λ i. pos 0) places)) (scan_rows (frame_of_meaning H) head n)
 
-abbrev pub progressive_tables : Meaning → ScanHead → ℕ → ℕ → ℕ → HuffmanTable
-progressive_tables H head n = flat_tables head (progressive_elements H head n)
+abbrev pub progressive_tables : Huffman → Meaning → ScanHead → ℕ → ℕ → ℕ → HuffmanTable
+progressive_tables huffman H head n = own_table huffman head (progressive_elements H head n)
 
-abbrev pub progressive_data : Meaning → ScanHead → ℕ → List ℕ
-progressive_data H head n = intervals_text 0 (map stuffed (map (progressive_coded (progressive_tables H head n) head H.blocks) (scan_rows (frame_of_meaning H) head n)))
+abbrev pub progressive_data : Huffman → Meaning → ScanHead → ℕ → List ℕ
+progressive_data huffman H head n = intervals_text 0 (map stuffed (map (progressive_coded (progressive_tables huffman H head n) head H.blocks) (scan_rows (frame_of_meaning H) head n)))
 
 data_is : (H : Meaning) (head : ScanHead) (n : ℕ) (tables : ℕ → ℕ → HuffmanTable) → scan_data tables head (progressive_elements H head n) ≡ intervals_text 0 (map stuffed (map (progressive_coded tables head H.blocks) (scan_rows (frame_of_meaning H) head n)))
 unfolding scan_data
@@ -170,20 +169,20 @@ needed_is H e s =
     let b : nat_lt 0 e.ss ≡ ac_due (written_head H e) = sym (ap (λ b. nat_lt 0 (cond b e.ss 0)) s) in
     ap (λ x. needed_of x (nat_lt 0 e.ss) parts) a ∙ ap (λ x. needed_of (dc_due (written_head H e)) x parts) b
 
-pub progressive_scans : (H : Meaning) (restart : Restart) (w : Written) (e : Entry) (script : List Entry) → is_progressive H.process ≡ true
-    → (let head = written_head H e in let n = interval_of (frame_of_meaning H) head restart in let tables = progressive_tables H head n in let needed = needed_of (dc_due head) (ac_due head) head.parts in
-    scans_text H restart w (e ∷ script)
-    ≡ tables_text w.tables tables needed ++ cond (n == w.interval) [] (segment_text 0xdd (to_be_bytes w16 n)) ++ head_text H head ++ progressive_data H head n
-    ++ scans_text H restart (record { tables = tables_given w.tables tables needed; interval = n }) script)
+pub progressive_scans : (huffman : Huffman) (H : Meaning) (restart : Restart) (w : Written) (e : Entry) (script : List Entry) → is_progressive H.process ≡ true
+    → (let head = written_head H e in let n = interval_of (frame_of_meaning H) head restart in let tables = progressive_tables huffman H head n in let needed = needed_of (dc_due head) (ac_due head) head.parts in
+    scans_text huffman H restart w (e ∷ script)
+    ≡ tables_text w.tables tables needed ++ cond (n == w.interval) [] (segment_text 0xdd (to_be_bytes w16 n)) ++ head_text H head ++ progressive_data huffman H head n
+    ++ scans_text huffman H restart (record { tables = tables_given w.tables tables needed; interval = n }) script)
 unfolding scans_text
-progressive_scans H restart w e script s =
+progressive_scans huffman H restart w e script s =
     let f = frame_of_meaning H in
     let head = written_head H e in
     let n = interval_of f head restart in
     let elements : Bool → List (List Owned) = λ b. map (λ places. interval_elements b head (units_due H.blocks (λ i. pos 0) places)) (scan_rows f head n) in
-    let tables : Bool → ℕ → ℕ → HuffmanTable = λ b class slot. cond (not b && H.precision == 8) (typical_table class slot) (flat_table (symbols_used head (elements b) class slot)) in
+    let tables : Bool → ℕ → ℕ → HuffmanTable = λ b class slot. cond (not b && (H.precision == 8 && is_plain huffman)) (typical_table class slot) (own_table huffman head (elements b) class slot) in
     let whole : (ℕ → ℕ → HuffmanTable) → List (ℕ × ℕ) → List ℕ → List ℕ = λ t needed coded.
-    tables_text w.tables t needed ++ cond (n == w.interval) [] (segment_text 0xdd (to_be_bytes w16 n)) ++ head_text H head ++ coded ++ scans_text H restart (record { tables = tables_given w.tables t needed; interval = n }) script in
+    tables_text w.tables t needed ++ cond (n == w.interval) [] (segment_text 0xdd (to_be_bytes w16 n)) ++ head_text H head ++ coded ++ scans_text huffman H restart (record { tables = tables_given w.tables t needed; interval = n }) script in
     ap (λ b. whole (tables b) (tables_needed b e head) (scan_data (tables b) head (elements b))) s
-    ∙ ap (λ needed. whole (progressive_tables H head n) needed (scan_data (progressive_tables H head n) head (progressive_elements H head n))) (needed_is H e s)
-    ∙ ap (whole (progressive_tables H head n) (needed_of (dc_due head) (ac_due head) head.parts)) (data_is H head n (progressive_tables H head n))
+    ∙ ap (λ needed. whole (progressive_tables huffman H head n) needed (scan_data (progressive_tables huffman H head n) head (progressive_elements H head n))) (needed_is H e s)
+    ∙ ap (whole (progressive_tables huffman H head n) (needed_of (dc_due head) (ac_due head) head.parts)) (data_is H head n (progressive_tables huffman H head n))

@@ -1,4 +1,4 @@
--- All that a sequential scan writes has a code: in the typical tables with 8 bits, in flat tables otherwise.
+-- All that a sequential scan writes has a code: in the typical tables with 8 bits, in its own tables otherwise.
 use Rattle.std.proofs.Common.{◌≡◌, ℕ, ◌≤◌, Bool, true, false, cond, not, List, [], ◌∷◌, length, refl, sym, ap, ◌∙◌, subst, arith, pos, ◌==◌, ◌&&◌, ◌*◌}
 use Rattle.std.specs.Prelude.{map}
 use Rattle.jpg_spec.specs.Numbers.{category}
@@ -8,16 +8,17 @@ use Rattle.jpg_spec.specs.Elements.{Element, symbol_of, zeros}
 use Rattle.jpg_spec.specs.Scan.{Blocks, part_of, scan_coding}
 use Rattle.jpg_spec.specs.declared.frame.Place.{Place}
 use Rattle.jpg_spec.specs.declared.frame.Bounds.{Bounds}
+use Rattle.jpg_spec_write.specs.declared.huffman.Huffman.{Huffman}
 use Rattle.jpg_spec_write.specs.Sending.{sent}
-use Rattle.jpg_spec_write.specs.ScanText.{UnitDue, Owned, units_due, unit_elements, interval_elements, scan_elements, typical_table, scan_tables}
+use Rattle.jpg_spec_write.specs.ScanText.{UnitDue, Owned, units_due, unit_elements, interval_elements, scan_elements, typical_table, is_plain, own_table, scan_tables}
 use Rattle.jpg_spec_write.specs.Written.{IsWritable, HasCode, all_in_force, SpellsDue, sequential_bits}
 use Rattle.jpg_spec.proofs.Small.{are_bounds}
 use Rattle.jpg_spec.proofs.Full.{Has}
 use Rattle.jpg_spec.proofs.Each.{Each, each_map, each_rows}
-use Rattle.jpg_spec.proofs.Common.{same_of}
+use Rattle.jpg_spec.proofs.Common.{both, same_of}
 use Rattle.jpg_spec_write.proofs.Writing.{AllHave}
 use Rattle.jpg_spec_write.proofs.Full.{ac_full, dc_full, band_have}
-use Rattle.jpg_spec_write.proofs.ProgressiveCodes.{IsAc, IsByte, IsCodedAll, elements_coded, flat_coded, flat_tables}
+use Rattle.jpg_spec_write.proofs.ProgressiveCodes.{IsAc, IsByte, IsCodedAll, elements_coded, own_coded}
 use Rattle.jpg_spec_write.proofs.Sequential.{band_sent, all_sent, sent_ac, each_element, sequential_coding, written_spells}
 use Rattle.jpg_spec_write.proofs.PlacedBlocks.{each_both, IsRealSendable, placed_writable, due_writable, each_all}
 use Rattle.jpg_spec_write.proofs.WrittenScan.{scan_rows, rows_elements}
@@ -45,7 +46,7 @@ module _ (f : Frame) (head : ScanHead) (e : is_progressive f.process ≡ false) 
       (λ i vs inside. ac_coded typical_table head i (band_sent vs) (sent_ac c s vs inside) (band_have c i (map (sent false 0) vs) (zeros (length vs)) vs (ac_full (part_of head i).ac) most (all_sent c s vs inside)))
       (λ i. pos 0) due (λ j. zero) ok
 
-  -- FLAT TABLES: the symbols are bytes
+  -- THE SCAN'S OWN TABLES: the symbols are bytes
 
   pub symbols_bytes : Each IsByte (unit_elements true false 0 (λ i. pos 0) due)
   symbols_bytes =
@@ -57,7 +58,7 @@ module _ (f : Frame) (head : ScanHead) (e : is_progressive f.process ≡ false) 
 
 -- THE TABLES OF A SCAN
 
-module _ (f : Frame) (head : ScanHead) (n : ℕ) (blocks : Blocks) (e : is_progressive f.process ≡ false) where
+module _ (huffman : Huffman) (f : Frame) (head : ScanHead) (n : ℕ) (blocks : Blocks) (e : is_progressive f.process ≡ false) where
   -- the elements of the scan
   all : List (List Owned)
   all = scan_elements f head n blocks
@@ -65,16 +66,16 @@ module _ (f : Frame) (head : ScanHead) (n : ℕ) (blocks : Blocks) (e : is_progr
   plain_all : scan_elements f head n blocks ≡ map (rows_elements head blocks) (scan_rows f head n)
   plain_all = ap (λ b. map (λ places. interval_elements b head (units_due blocks (λ i. pos 0) places)) (scan_rows f head n)) e
 
-  -- typical or flat
-  tables_by : (b : Bool) → (f.precision == 8) ≡ b → scan_tables f head (scan_elements f head n blocks) ≡ (λ class slot. cond b (typical_table class slot) (flat_tables head (map (rows_elements head blocks) (scan_rows f head n)) class slot))
+  -- typical ones, or its own
+  tables_by : (b : Bool) → (f.precision == 8 && is_plain huffman) ≡ b → scan_tables huffman f head (scan_elements f head n blocks) ≡ (λ class slot. cond b (typical_table class slot) (own_table huffman head (map (rows_elements head blocks) (scan_rows f head n)) class slot))
   tables_by b p =
-      ap (λ t. (let due : ℕ → ℕ → HuffmanTable = λ class slot. cond (not t && f.precision == 8) (typical_table class slot) (flat_tables head (scan_elements f head n blocks) class slot) in due)) e
-      ∙ ap (λ t. (let due : ℕ → ℕ → HuffmanTable = λ class slot. cond t (typical_table class slot) (flat_tables head (scan_elements f head n blocks) class slot) in due)) p
-      ∙ ap (λ es. (let due : ℕ → ℕ → HuffmanTable = λ class slot. cond b (typical_table class slot) (flat_tables head es class slot) in due)) plain_all
+      ap (λ t. (let due : ℕ → ℕ → HuffmanTable = λ class slot. cond (not t && (f.precision == 8 && is_plain huffman)) (typical_table class slot) (own_table huffman head (scan_elements f head n blocks) class slot) in due)) e
+      ∙ ap (λ t. (let due : ℕ → ℕ → HuffmanTable = λ class slot. cond t (typical_table class slot) (own_table huffman head (scan_elements f head n blocks) class slot) in due)) p
+      ∙ ap (λ es. (let due : ℕ → ℕ → HuffmanTable = λ class slot. cond b (typical_table class slot) (own_table huffman head es class slot) in due)) plain_all
 
   pub scan_coded : Each (λ row. Each (IsWritable (scan_coding f (all_in_force typical_table) head)) (units_due blocks (λ i. pos 0) row)) (scan_rows f head n)
-      → Each (λ row. Each (HasCode (scan_tables f head (scan_elements f head n blocks)) head) (rows_elements head blocks row)) (scan_rows f head n)
-  scan_coded ok = by (f.precision == 8) refl
+      → Each (λ row. Each (HasCode (scan_tables huffman f head (scan_elements f head n blocks)) head) (rows_elements head blocks row)) (scan_rows f head n)
+  scan_coded ok = by (f.precision == 8 && is_plain huffman) refl
     where
       rows : List (List Place)
       rows = scan_rows f head n
@@ -82,15 +83,15 @@ module _ (f : Frame) (head : ScanHead) (n : ℕ) (blocks : Blocks) (e : is_progr
       Is : List Place → Type 0
       Is row = Each (IsWritable (scan_coding f (all_in_force typical_table) head)) (units_due blocks (λ i. pos 0) row)
 
-      by : (b : Bool) → (f.precision == 8) ≡ b → Each (λ row. Each (HasCode (scan_tables f head (scan_elements f head n blocks)) head) (rows_elements head blocks row)) (scan_rows f head n)
+      by : (b : Bool) → (f.precision == 8 && is_plain huffman) ≡ b → Each (λ row. Each (HasCode (scan_tables huffman f head (scan_elements f head n blocks)) head) (rows_elements head blocks row)) (scan_rows f head n)
       by true p =
           subst (λ t. Each (λ row. Each (HasCode t head) (rows_elements head blocks row)) rows) (sym (tables_by true p))
-          (each_map Is (λ row. Each (HasCode typical_table head) (rows_elements head blocks row)) rows (λ row h. typical_coded f head e (units_due blocks (λ i. pos 0) row) h (ap bounds_of (same_of f.precision 8 p))) ok)
+          (each_map Is (λ row. Each (HasCode typical_table head) (rows_elements head blocks row)) rows (λ row h. typical_coded f head e (units_due blocks (λ i. pos 0) row) h (ap bounds_of (same_of f.precision 8 (both (f.precision == 8) (is_plain huffman) p).0))) ok)
       by false p =
           subst (λ t. Each (λ row. Each (HasCode t head) (rows_elements head blocks row)) rows) (sym (tables_by false p))
-          (each_both Is (λ row. Each (IsCodedAll head (map (rows_elements head blocks) rows)) (rows_elements head blocks row)) (λ row. Each (HasCode (flat_tables head (map (rows_elements head blocks) rows)) head) (rows_elements head blocks row)) rows
-          (λ row h k. each_both IsByte (IsCodedAll head (map (rows_elements head blocks) rows)) (HasCode (flat_tables head (map (rows_elements head blocks) rows)) head) (rows_elements head blocks row) (λ o b c. flat_coded head (map (rows_elements head blocks) rows) o c b)
-          (symbols_bytes f head e (units_due blocks (λ i. pos 0) row) h) k) ok (elements_coded head (rows_elements head blocks) rows))
+          (each_both Is (λ row. Each (IsCodedAll huffman head (map (rows_elements head blocks) rows)) (rows_elements head blocks row)) (λ row. Each (HasCode (own_table huffman head (map (rows_elements head blocks) rows)) head) (rows_elements head blocks row)) rows
+          (λ row h k. each_both IsByte (IsCodedAll huffman head (map (rows_elements head blocks) rows)) (HasCode (own_table huffman head (map (rows_elements head blocks) rows)) head) (rows_elements head blocks row) (λ o b c. own_coded huffman head (map (rows_elements head blocks) rows) o c b)
+          (symbols_bytes f head e (units_due blocks (λ i. pos 0) row) h) k) ok (elements_coded huffman head (rows_elements head blocks) rows))
 
 -- the units of each interval may be written
 pub rows_writable : (f : Frame) (head : ScanHead) (n : ℕ) (blocks : Blocks) → Each (IsRealSendable (scan_coding f (all_in_force typical_table) head) blocks) (units f (head_components head))

@@ -11,6 +11,7 @@ use Rattle.jpg_spec.specs.Segments.{ScanHead}
 use Rattle.jpg_spec.specs.Elements.{zeros}
 use Rattle.jpg_spec.specs.Scan.{Blocks}
 use Rattle.jpg_spec.specs.Meaning.{Meaning, PictureComponent, real_blocks, component_of}
+use Rattle.jpg_spec_write.specs.declared.huffman.Huffman.{Huffman}
 use Rattle.jpg_spec_write.specs.Script.{Entry}
 use Rattle.jpg_spec.specs.Markers.{Segment, code_fault_if, kept_after, eoi}
 use Rattle.jpg_spec.specs.History.{has_begun, quant_of, is_complete}
@@ -115,17 +116,17 @@ ends limits H heads P w text headed (items, s) begun shown long =
     }
 
 -- THE LAW
-pub sequential_means : (limits : Limits) (H : Meaning) (script : List Entry) (restart : Restart) → AreLimits limits → IsHeaded limits H → is_progressive H.process ≡ false → is_script_after (frame_of_meaning H) [] script ≡ true → IsRestart restart
-    → length (file_text H script restart) ≤ limits.input → Means limits (file_text H script restart) H
+pub sequential_means : (huffman : Huffman) (limits : Limits) (H : Meaning) (script : List Entry) (restart : Restart) → AreLimits limits → IsHeaded limits H → is_progressive H.process ≡ false → is_script_after (frame_of_meaning H) [] script ≡ true → IsRestart restart
+    → length (file_text huffman H script restart) ≤ limits.input → Means limits (file_text huffman H script restart) H
 unfolding file_text
-sequential_means limits H script restart limited headed sequential passes small long =
+sequential_means huffman limits H script restart limited headed sequential passes small long =
     let f = frame_of_meaning H in
     let fit : IsFit H = record { frame = frame_is limits f f limited headed.frame; sequential = sequential; blocks = headed.blocks; count = count_is H } in
     let start = starts limits H (IsShown H []) limited headed (λ i x y h e r. none e) in
-    let k = script_step limits H restart [] [] nothing_written (front_text H) script fit small passes (λ i. refl) start in
+    let k = script_step huffman limits H restart [] [] nothing_written (front_text H) script fit small passes (λ i. refl) start in
     let begun : all_of (has_begun k.heads) (below (length H.components)) ≡ true =
     same_tests (has_begun k.heads) (λ i. is_among i k.done) (below (length H.components)) k.begun ∙ ap (λ n. all_of (λ i. is_among i k.done) (below n)) (sym (count_is H)) ∙ k.complete in
-    ends limits H k.heads (IsShown H k.done) k.w (front_text H ++ scans_text H restart nothing_written script) headed k.sends begun
+    ends limits H k.heads (IsShown H k.done) k.w (front_text H ++ scans_text huffman H restart nothing_written script) headed k.sends begun
     (λ blocks s i x y h r. s i x y h (all_below (λ i. is_among i k.done) (length H.components) i (ap (λ n. all_of (λ i. is_among i k.done) (below n)) (sym (count_is H)) ∙ k.complete) h) r)
     long
   where

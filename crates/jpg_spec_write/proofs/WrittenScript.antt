@@ -9,6 +9,7 @@ use Rattle.jpg_spec.specs.Geometry.{Frame, bounds, component_at, is_progressive,
 use Rattle.jpg_spec.specs.FrameHeader.{IsFrame}
 use Rattle.jpg_spec.specs.Segments.{HuffmanTable, QuantTable, ScanHead, head_components}
 use Rattle.jpg_spec.specs.Scan.{Blocks, Scan, scan_coding, scan_of, unit_at, ScanMeans}
+use Rattle.jpg_spec_write.specs.declared.huffman.Huffman.{Huffman}
 use Rattle.jpg_spec_write.specs.ScanText.{intervals_text}
 use Rattle.jpg_spec.specs.Meaning.{Meaning, colour_of}
 use Rattle.jpg_spec_write.specs.Script.{Entry}
@@ -76,18 +77,18 @@ joined_text a b d e g = simp append_assoc
 
 -- AN ENTRY
 
-entry_step : (limits : Limits) (H : Meaning) (restart : Restart) (heads : List ScanHead) (done : List ℕ) (w : Written) (text : List ℕ) (components : List ℕ) → IsFit H → IsRestart restart → IsEntry (frame_of_meaning H) done components
+entry_step : (huffman : Huffman) (limits : Limits) (H : Meaning) (restart : Restart) (heads : List ScanHead) (done : List ℕ) (w : Written) (text : List ℕ) (components : List ℕ) → IsFit H → IsRestart restart → IsEntry (frame_of_meaning H) done components
     → ((i : ℕ) → has_begun heads i ≡ is_among i done) → Sends limits H heads (IsShown H done) w text
     → (let head = plain_head (colour_of H) components in let n = interval_of (frame_of_meaning H) head restart in
-    Sends limits H (head ∷ heads) (IsShown H (components ++ done)) (plain_written H head n w) (text ++ plain_scan H head n w))
-entry_step limits H restart heads done w text components fit small entry begun s =
+    Sends limits H (head ∷ heads) (IsShown H (components ++ done)) (plain_written huffman H head n w) (text ++ plain_scan huffman H head n w))
+entry_step huffman limits H restart heads done w text components fit small entry begun s =
     let tables = tables_text w.tables by needed in
     let dri = cond (n == w.interval) [] (segment_text 0xdd (to_be_bytes w16 n)) in
-    let s1 = tables_step limits H heads (IsShown H done) w.tables by w.interval needed text (needed_tellable H head n (colour_of H) components) s in
+    let s1 = tables_step limits H heads (IsShown H done) w.tables by w.interval needed text (needed_tellable huffman H head n (colour_of H) components) s in
     let s2 = interval_step limits H heads (IsShown H done) (record { tables = tables_given w.tables by needed; interval = w.interval }) n (text ++ tables) (interval_small f head restart small) s1 in
     let k = last s2.0 ((text ++ tables) ++ dri) s2.1 in
     subst (λ t. Sends limits H (head ∷ heads) (IsShown H (components ++ done)) now t)
-    (joined_text text tables dri (head_text H head) (plain_data H head n)) k
+    (joined_text text tables dri (head_text H head) (plain_data huffman H head n)) k
   where
     f : Frame
     f = frame_of_meaning H
@@ -102,10 +103,10 @@ entry_step limits H restart heads done w text components fit small entry begun s
     n = interval_of (frame_of_meaning H) (plain_head (colour_of H) components) restart
 
     by : ℕ → ℕ → HuffmanTable
-    by = plain_tables H head n
+    by = plain_tables huffman H head n
 
     now : Written
-    now = plain_written H (plain_head (colour_of H) components) (interval_of (frame_of_meaning H) (plain_head (colour_of H) components) restart) w
+    now = plain_written huffman H (plain_head (colour_of H) components) (interval_of (frame_of_meaning H) (plain_head (colour_of H) components) restart) w
 
     names_are : head_components (plain_head (colour_of H) components) ≡ components
     names_are = plain_components (colour_of H) components
@@ -113,7 +114,7 @@ entry_step limits H restart heads done w text components fit small entry begun s
     known : (i : ℕ) → is_among i (head_components head) ≡ true → i < length H.components
     known i e = subst (λ m. i < m) fit.count (among_below (length f.components) i components entry.known (ap (is_among i) (sym names_are) ∙ e))
 
-    last : (items : List Item) (t : List ℕ) → IsSent limits H heads (IsShown H done) now items t → Sends limits H (head ∷ heads) (IsShown H (components ++ done)) now (t ++ (head_text H head ++ plain_data H head n))
+    last : (items : List Item) (t : List ℕ) → IsSent limits H heads (IsShown H done) now items t → Sends limits H (head ∷ heads) (IsShown H (components ++ done)) now (t ++ (head_text H head ++ plain_data huffman H head n))
     last items t st =
         let before = segments_of items in
         let tabs = huffman_in_force before in
@@ -141,14 +142,14 @@ entry_step limits H restart heads done w text components fit small entry begun s
         let sendable = each_units (IsRealSendable (scan_coding f (all_in_force by) head) H.blocks) f (head_components head)
         (λ i x y e real. fit.blocks i x y (known i e) real) in
         let distinct : is_distinct (head_components head) ≡ true = ap is_distinct names_are ∙ entry.distinct in
-        let means = scan_means f by tabs n head st.blocks H.blocks fit.sequential (parts_given by tabs head given) distinct (leads_sizes limits items st.blocks st.leads) new sendable (scan_coded f head n H.blocks fit.sequential (rows_writable f head n H.blocks sendable)) in
+        let means = scan_means f by tabs n head st.blocks H.blocks fit.sequential (parts_given by tabs head given) distinct (leads_sizes limits items st.blocks st.leads) new sendable (scan_coded huffman f head n H.blocks fit.sequential (rows_writable f head n H.blocks sendable)) in
         let means' = subst (λ m. ScanMeans (scan_of f tabs m head) (map coded all) st.blocks after) (sym st.interval) means in
         let some : 1 ≤ length (units f (head_components head)) = subst (λ l. 1 ≤ length (units f l)) (sym names_are) (units_many f components fit.frame entry.some entry.known) in
         let rows = chunks_some (n * mcu_units f (head_components head)) (units f (head_components head)) some in
-        let spells : SpellsIntervalsText 0 (map coded all) (plain_data H head n) =
+        let spells : SpellsIntervalsText 0 (map coded all) (plain_data huffman H head n) =
         subst (λ (r : List (List Place)). SpellsIntervalsText 0 (map coded r) (intervals_text 0 (map stuffed (map coded r)))) (sym rows.2) (intervals_text_spelled 0 (coded rows.0) (map coded rows.1)) in
         let shown : IsShown H (components ++ done) after = λ i x y l e real. show st i x y l (is_among i components) refl (sym (among_join i components done) ∙ e) real in
-        (_, scan_step st (IsShown H (components ++ done)) head (map coded all) (plain_data H head n) after fit.frame.distinct spoken admits spells means' shown)
+        (_, scan_step st (IsShown H (components ++ done)) head (map coded all) (plain_data huffman H head n) after fit.frame.distinct spoken admits spells means' shown)
       where
         show : (st : IsSent limits H heads (IsShown H done) now items t) (i x y : ℕ) → i < length H.components → (b : Bool) → is_among i components ≡ b → (is_among i components || is_among i done) ≡ true → is_real f i x y ≡ true
             → scan_after_blocks f head n H.blocks st.blocks i x y ≡ H.blocks i x y
@@ -170,18 +171,18 @@ begun_next : (heads : List ScanHead) (colour : Colour) (done components : List �
 begun_next heads colour done components h i =
     ap (λ l. is_among i l || has_begun heads i) (plain_components colour components) ∙ ap (λ b. is_among i components || b) (h i) ∙ sym (among_join i components done)
 
-pub script_step : (limits : Limits) (H : Meaning) (restart : Restart) (heads : List ScanHead) (done : List ℕ) (w : Written) (text : List ℕ) (script : List Entry) → IsFit H → IsRestart restart → is_script_after (frame_of_meaning H) done script ≡ true
-    → ((i : ℕ) → has_begun heads i ≡ is_among i done) → Sends limits H heads (IsShown H done) w text → IsAllSent limits H (text ++ scans_text H restart w script)
+pub script_step : (huffman : Huffman) (limits : Limits) (H : Meaning) (restart : Restart) (heads : List ScanHead) (done : List ℕ) (w : Written) (text : List ℕ) (script : List Entry) → IsFit H → IsRestart restart → is_script_after (frame_of_meaning H) done script ≡ true
+    → ((i : ℕ) → has_begun heads i ≡ is_among i done) → Sends limits H heads (IsShown H done) w text → IsAllSent limits H (text ++ scans_text huffman H restart w script)
 unfolding scans_text
-script_step limits H restart heads done w text [] fit small e begun s =
+script_step huffman limits H restart heads done w text [] fit small e begun s =
     record { heads = heads; done = done; w = w; sends = subst (λ t. Sends limits H heads (IsShown H done) w t) (sym (append-nil text)) s; begun = begun; complete = e }
-script_step limits H restart heads done w text (entry ∷ script) fit small e begun s =
+script_step huffman limits H restart heads done w text (entry ∷ script) fit small e begun s =
     let f = frame_of_meaning H in
     let b = both (is_sequential_entry f done entry) (is_script_after f (entry.components ++ done) script) e in
     let head = plain_head (colour_of H) entry.components in
     let n = interval_of f head restart in
-    let next = plain_written H head n w in
-    let here = plain_scan H head n w in
-    let k = entry_step limits H restart heads done w text entry.components fit small (entry_is f done entry b.0) begun s in
-    let all = script_step limits H restart (head ∷ heads) (entry.components ++ done) next (text ++ here) script fit small b.1 (begun_next heads (colour_of H) done entry.components begun) k in
-    subst (λ t. IsAllSent limits H t) (append_assoc text here (scans_text H restart next script) ∙ ap (λ t. text ++ t) (sym (scans_are H restart w entry script fit.sequential))) all
+    let next = plain_written huffman H head n w in
+    let here = plain_scan huffman H head n w in
+    let k = entry_step huffman limits H restart heads done w text entry.components fit small (entry_is f done entry b.0) begun s in
+    let all = script_step huffman limits H restart (head ∷ heads) (entry.components ++ done) next (text ++ here) script fit small b.1 (begun_next heads (colour_of H) done entry.components begun) k in
+    subst (λ t. IsAllSent limits H t) (append_assoc text here (scans_text huffman H restart next script) ∙ ap (λ t. text ++ t) (sym (scans_are huffman H restart w entry script fit.sequential))) all

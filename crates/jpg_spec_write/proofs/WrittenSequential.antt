@@ -10,7 +10,8 @@ use Rattle.jpg_spec.specs.Geometry.{Frame, component_at, factor_sum, is_progress
 use Rattle.jpg_spec.specs.FrameHeader.{identifiers}
 use Rattle.jpg_spec.specs.Segments.{HuffmanTable, QuantTable, ScanHead, head_components, needs_dc, needs_ac}
 use Rattle.jpg_spec.specs.Scan.{TablesInForce}
-use Rattle.jpg_spec_write.specs.ScanText.{Owned, units_due, interval_elements, scan_elements, element_bits, intervals_text, scan_data, typical_table, scan_tables}
+use Rattle.jpg_spec_write.specs.declared.huffman.Huffman.{Huffman}
+use Rattle.jpg_spec_write.specs.ScanText.{Owned, units_due, interval_elements, scan_elements, element_bits, intervals_text, scan_data, typical_table, is_plain, own_table, scan_tables}
 use Rattle.jpg_spec.specs.Meaning.{Meaning, colour_of}
 use Rattle.jpg_spec_write.specs.Script.{Entry}
 use Rattle.jpg_spec.specs.HuffContents.{huffman_table_of, huffman_tables_of}
@@ -31,7 +32,7 @@ use Rattle.jpg_spec_write.proofs.WrittenScan.{sequential_coded, scan_rows}
 use Rattle.jpg_spec.proofs.WrittenHead.{IsPartOf, IsSpoken}
 use Rattle.jpg_spec.proofs.WrittenState.{IsTellable}
 use Rattle.jpg_spec.proofs.Common.{both, negated, le_of, lt_of, same_of, same_itself, not_refused}
-use Rattle.jpg_spec_write.proofs.ProgressiveCodes.{flat_tables, flat_tell}
+use Rattle.jpg_spec_write.proofs.ProgressiveCodes.{own_tell}
 
 -- THE HEAD
 
@@ -124,10 +125,10 @@ plain_spoken f colour done components p e =
       allowed = ap (λ b. b && not (are_parameters f (length head.parts) head)) p;
     }
 
--- THE TABLES: typical or flat
+-- THE TABLES: typical ones, or the scan's own
 
-abbrev pub plain_tables : Meaning → ScanHead → ℕ → ℕ → ℕ → HuffmanTable
-plain_tables H head n = scan_tables (frame_of_meaning H) head (scan_elements (frame_of_meaning H) head n H.blocks)
+abbrev pub plain_tables : Huffman → Meaning → ScanHead → ℕ → ℕ → ℕ → HuffmanTable
+plain_tables huffman H head n = scan_tables huffman (frame_of_meaning H) head (scan_elements (frame_of_meaning H) head n H.blocks)
 
 typical_tellable : (a b : Bool) → IsTellable (cond a 1 0) (cond b 1 0) (typical_table (cond a 1 0) (cond b 1 0))
 unfolding huffman_tables_of huffman_table_of are_codes
@@ -136,26 +137,26 @@ typical_tellable false true = record { told = refl; short = lit< tt }
 typical_tellable true false = record { told = refl; short = lit< tt }
 typical_tellable true true = record { told = refl; short = lit< tt }
 
-plain_tellable : (H : Meaning) (head : ScanHead) (n : ℕ) (a b : Bool) → IsTellable (cond a 1 0) (cond b 1 0) (plain_tables H head n (cond a 1 0) (cond b 1 0))
-plain_tellable H head n a b = by (not (is_progressive H.process) && H.precision == 8)
+plain_tellable : (huffman : Huffman) (H : Meaning) (head : ScanHead) (n : ℕ) (a b : Bool) → IsTellable (cond a 1 0) (cond b 1 0) (plain_tables huffman H head n (cond a 1 0) (cond b 1 0))
+plain_tellable huffman H head n a b = by (not (is_progressive H.process) && (H.precision == 8 && is_plain huffman))
   where
     low : (t : Bool) → cond t 1 0 ≤ 1
     low true = lit≤ tt
     low false = lit≤ tt
 
-    by : (t : Bool) → IsTellable (cond a 1 0) (cond b 1 0) (cond t (typical_table (cond a 1 0) (cond b 1 0)) (flat_tables head (scan_elements (frame_of_meaning H) head n H.blocks) (cond a 1 0) (cond b 1 0)))
+    by : (t : Bool) → IsTellable (cond a 1 0) (cond b 1 0) (cond t (typical_table (cond a 1 0) (cond b 1 0)) (own_table huffman head (scan_elements (frame_of_meaning H) head n H.blocks) (cond a 1 0) (cond b 1 0)))
     by true = typical_tellable a b
-    by false = flat_tell head (scan_elements (frame_of_meaning H) head n H.blocks) (cond a 1 0) (cond b 1 0) (low a) (low b)
+    by false = own_tell huffman head (scan_elements (frame_of_meaning H) head n H.blocks) (cond a 1 0) (cond b 1 0) (low a) (low b)
 
 abbrev pub plain_needed : List ScanPart → List (ℕ × ℕ)
 plain_needed parts = flat_map (λ (p : ScanPart). (0, p.dc) ∷ (1, p.ac) ∷ []) parts
 
-pub needed_tellable : (H : Meaning) (head : ScanHead) (k : ℕ) (colour : Colour) (components : List ℕ)
-    → Each (λ (n : ℕ × ℕ). IsTellable n.0 n.1 (plain_tables H head k n.0 n.1)) (plain_needed (map (plain_part colour) components))
-needed_tellable H head k colour [] = tt
-needed_tellable H head k colour (i ∷ components) =
+pub needed_tellable : (huffman : Huffman) (H : Meaning) (head : ScanHead) (k : ℕ) (colour : Colour) (components : List ℕ)
+    → Each (λ (n : ℕ × ℕ). IsTellable n.0 n.1 (plain_tables huffman H head k n.0 n.1)) (plain_needed (map (plain_part colour) components))
+needed_tellable huffman H head k colour [] = tt
+needed_tellable huffman H head k colour (i ∷ components) =
     let chroma = has_chroma colour && (i == 1 || i == 2) in
-    (plain_tellable H head k false chroma, (plain_tellable H head k true chroma, needed_tellable H head k colour components))
+    (plain_tellable huffman H head k false chroma, (plain_tellable huffman H head k true chroma, needed_tellable huffman H head k colour components))
 
 -- a table that was given remains
 pub given_stays : (due : ℕ → ℕ → HuffmanTable) (needed : List (ℕ × ℕ)) (given : ℕ → ℕ → Option HuffmanTable) (c n : ℕ) → given c n ≡ Some (due c n) → tables_given given due needed c n ≡ Some (due c n)
@@ -242,8 +243,8 @@ sequential_admitted f before heads done head due p h begun new q g unsent =
 abbrev pub rows_of : Meaning → ScanHead → ℕ → List (List Place)
 rows_of H head interval = scan_rows (frame_of_meaning H) head interval
 
-abbrev pub plain_data : Meaning → ScanHead → ℕ → List ℕ
-plain_data H head interval = intervals_text 0 (map stuffed (map (sequential_coded (plain_tables H head interval) head H.blocks) (rows_of H head interval)))
+abbrev pub plain_data : Huffman → Meaning → ScanHead → ℕ → List ℕ
+plain_data huffman H head interval = intervals_text 0 (map stuffed (map (sequential_coded (plain_tables huffman H head interval) head H.blocks) (rows_of H head interval)))
 
 data_is : (H : Meaning) (tables : ℕ → ℕ → HuffmanTable) (head : ScanHead) (interval : ℕ) → is_progressive H.process ≡ false
     → scan_data tables head (scan_elements (frame_of_meaning H) head interval H.blocks) ≡ intervals_text 0 (map stuffed (map (sequential_coded tables head H.blocks) (rows_of H head interval)))
@@ -256,26 +257,26 @@ data_is H tables head interval e =
     ∙ ap (λ b. map (coded b) rows) e ∙ sym (map_map stuffed (sequential_coded tables head H.blocks) rows))
 
 -- what a scan writes: its tables, its restart interval, its header and its data
-abbrev pub plain_scan : Meaning → ScanHead → ℕ → Written → List ℕ
-plain_scan H head n w =
-    tables_text w.tables (plain_tables H head n) (plain_needed head.parts) ++ cond (n == w.interval) [] (segment_text 0xdd (to_be_bytes w16 n)) ++ head_text H head ++ plain_data H head n
+abbrev pub plain_scan : Huffman → Meaning → ScanHead → ℕ → Written → List ℕ
+plain_scan huffman H head n w =
+    tables_text w.tables (plain_tables huffman H head n) (plain_needed head.parts) ++ cond (n == w.interval) [] (segment_text 0xdd (to_be_bytes w16 n)) ++ head_text H head ++ plain_data huffman H head n
 
 -- and what was written after it
-abbrev pub plain_written : Meaning → ScanHead → ℕ → Written → Written
-plain_written H head n w = record { tables = tables_given w.tables (plain_tables H head n) (plain_needed head.parts); interval = n }
+abbrev pub plain_written : Huffman → Meaning → ScanHead → ℕ → Written → Written
+plain_written huffman H head n w = record { tables = tables_given w.tables (plain_tables huffman H head n) (plain_needed head.parts); interval = n }
 
-pub scans_are : (H : Meaning) (restart : Restart) (w : Written) (e : Entry) (script : List Entry) → is_progressive H.process ≡ false
+pub scans_are : (huffman : Huffman) (H : Meaning) (restart : Restart) (w : Written) (e : Entry) (script : List Entry) → is_progressive H.process ≡ false
     → (let head = plain_head (colour_of H) e.components in let n = interval_of (frame_of_meaning H) head restart in
-    scans_text H restart w (e ∷ script) ≡ plain_scan H head n w ++ scans_text H restart (plain_written H head n w) script)
+    scans_text huffman H restart w (e ∷ script) ≡ plain_scan huffman H head n w ++ scans_text huffman H restart (plain_written huffman H head n w) script)
 unfolding scans_text
-scans_are H restart w e script s =
+scans_are huffman H restart w e script s =
     let f = frame_of_meaning H in
     let head = plain_head (colour_of H) e.components in
     let n = interval_of f head restart in
     let whole : ScanHead → (ℕ → ℕ → HuffmanTable) → List (ℕ × ℕ) → List ℕ → List ℕ = λ head tables needed coded.
     tables_text w.tables tables needed ++ cond (interval_of f head restart == w.interval) [] (segment_text 0xdd (to_be_bytes w16 (interval_of f head restart))) ++ head_text H head ++ coded
-    ++ scans_text H restart (record { tables = tables_given w.tables tables needed; interval = interval_of f head restart }) script in
+    ++ scans_text huffman H restart (record { tables = tables_given w.tables tables needed; interval = interval_of f head restart }) script in
     let elements : ScanHead → List (List Owned) = λ head. scan_elements f head (interval_of f head restart) H.blocks in
-    ap (λ h. whole h (scan_tables f h (elements h)) (tables_needed (is_progressive H.process) e h) (scan_data (scan_tables f h (elements h)) h (elements h))) (head_is_plain H e s)
-    ∙ ap (λ b. whole head (plain_tables H head n) (tables_needed b e head) (scan_data (plain_tables H head n) head (elements head))) s
-    ∙ ap (λ d. whole head (plain_tables H head n) (plain_needed head.parts) d) (data_is H (plain_tables H head n) head n s)
+    ap (λ h. whole h (scan_tables huffman f h (elements h)) (tables_needed (is_progressive H.process) e h) (scan_data (scan_tables huffman f h (elements h)) h (elements h))) (head_is_plain H e s)
+    ∙ ap (λ b. whole head (plain_tables huffman H head n) (tables_needed b e head) (scan_data (plain_tables huffman H head n) head (elements head))) s
+    ∙ ap (λ d. whole head (plain_tables huffman H head n) (plain_needed head.parts) d) (data_is H (plain_tables huffman H head n) head n s)

@@ -9,6 +9,8 @@ use Rattle.jpg_spec.specs.Meaning.{Meaning, PictureComponent, colour_of, picture
 use Rattle.jpg_spec_write.specs.Headed.{is_wide}
 use Rattle.jpg_spec_write.specs.Script.{Entry, sequential_script}
 use Rattle.jpg_spec_write.specs.ScanText.{scan_elements, scan_tables, scan_data, is_same}
+use Rattle.jpg_spec_write.specs.declared.huffman.Huffman.{Huffman}
+use Rattle.jpg_spec_write.specs.declared.huffman.Huffman.TheVariants.{Plain}
 use Rattle.jpg_spec.specs.declared.frame.Process.{Process}
 use Rattle.jpg_spec.specs.declared.frame.Process.TheVariants.{Baseline, Extended, Progressive}
 use Rattle.jpg_spec.specs.declared.frame.Colour.{Colour}
@@ -136,27 +138,27 @@ interval_of f head (rows n) = min (n * scan_mcus_across f (head_components head)
 interval_of f head (mcus n) = n
 
 -- the scans of a script, after what was written so far
-unfoldable pub scans_text : Meaning → Restart → Written → List Entry → List ℕ
-scans_text H restart written [] = []
-scans_text H restart written (e ∷ script) =
+unfoldable pub scans_text : Huffman → Meaning → Restart → Written → List Entry → List ℕ
+scans_text huffman H restart written [] = []
+scans_text huffman H restart written (e ∷ script) =
     let f = frame_of_meaning H in
     let head = written_head H e in
     let interval = interval_of f head restart in
     let elements = scan_elements f head interval H.blocks in
-    let tables = scan_tables f head elements in
+    let tables = scan_tables huffman f head elements in
     let needed = tables_needed (is_progressive H.process) e head in
     tables_text written.tables tables needed
     ++ (if interval == written.interval then [] else segment_text 0xdd (to_be_bytes w16 interval))
     ++ head_text H head ++ scan_data tables head elements
-    ++ scans_text H restart (record { tables = tables_given written.tables tables needed; interval = interval }) script
+    ++ scans_text huffman H restart (record { tables = tables_given written.tables tables needed; interval = interval }) script
 
 abbrev pub nothing_written : Written
 nothing_written = record { tables = λ class slot. None; interval = 0 }
 
-unfoldable pub file_text : Meaning → List Entry → Restart → List ℕ
-file_text H script restart =
-    front_text H ++ scans_text H restart nothing_written script ++ eoi
+unfoldable pub file_text : Huffman → Meaning → List Entry → Restart → List ℕ
+file_text huffman H script restart =
+    front_text H ++ scans_text huffman H restart nothing_written script ++ eoi
 
--- the text of a meaning with its header in one sequential scan without restarts
+-- the text of a meaning with its header in one sequential scan with plain tables and without restarts
 abbrev pub sequential_text : Meaning → List ℕ
-sequential_text H = file_text H (sequential_script (frame_of_meaning H)) off
+sequential_text H = file_text Plain H (sequential_script (frame_of_meaning H)) off

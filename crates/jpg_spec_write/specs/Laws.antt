@@ -12,6 +12,7 @@ use Rattle.jpg_spec_write.specs.Script.{Entry, sequential_script}
 use Rattle.jpg_spec_write.specs.FileText.{Restart, frame_of_meaning, file_text}
 use Rattle.jpg_spec_write.specs.WrittenFile.{IsHeaded, IsRestart, IsSequentialFile, IsProgressiveFile}
 use Rattle.jpg_spec_write.specs.ScansAsked.{Scans, sequential, standard, given}
+use Rattle.jpg_spec_write.specs.declared.huffman.Huffman.{Huffman}
 use Rattle.jpg_spec.specs.declared.frame.Limits.{Limits}
 
 -- the coding of a scan by tables
@@ -29,12 +30,13 @@ HaveCodes tables head due = All (HasCode tables head) (interval_elements false h
 
 -- WRITTEN FILES (T.81, B.2.1)
 
--- the file of a meaning in some sequential script, with any restarts
+-- the file of a meaning in some sequential script, with any tables and restarts
 pub record HasSequentialScript (limits : Limits) (H : Meaning) (bytes : List ℕ) : Type 0 where
+  pub huffman : Huffman
   pub script : List Entry
   pub restart : Restart
   pub file : IsSequentialFile limits H script
-  pub text : bytes ≡ file_text H script restart
+  pub text : bytes ≡ file_text huffman H script restart
 
 -- with restarts whose MCUs fit into two bytes
 pub record IsSequentialText (limits : Limits) (H : Meaning) (bytes : List ℕ) : Type 0 where
@@ -43,19 +45,21 @@ pub record IsSequentialText (limits : Limits) (H : Meaning) (bytes : List ℕ) :
 
 -- the same in the script of one scan, or of one for each component
 pub record IsOwnText (limits : Limits) (H : Meaning) (bytes : List ℕ) : Type 0 where
+  pub huffman : Huffman
   pub restart : Restart
   pub headed : IsHeaded limits H
   pub sequential : is_progressive H.process ≡ false
   pub small : IsRestart restart
-  pub text : bytes ≡ file_text H (sequential_script (frame_of_meaning H)) restart
+  pub text : bytes ≡ file_text huffman H (sequential_script (frame_of_meaning H)) restart
 
 -- and in some progressive script
 pub record IsProgressiveText (limits : Limits) (H : Meaning) (bytes : List ℕ) : Type 0 where
+  pub huffman : Huffman
   pub script : List Entry
   pub restart : Restart
   pub file : IsProgressiveFile limits H script
   pub small : IsRestart restart
-  pub text : bytes ≡ file_text H script restart
+  pub text : bytes ≡ file_text huffman H script restart
 
 -- the bytes are within the input's limit
 pub record Fits (limits : Limits) (bytes : List ℕ) : Type 0 where

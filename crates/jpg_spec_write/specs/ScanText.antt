@@ -1,6 +1,6 @@
 -- WRITTEN SCANS: their elements, the tables of their codes, and their data (T.81, F.1.2, E.1.4; the choices are this
 -- writer's).
-use Rattle.std.specs.Prelude.{ℕ, ◌+◌, ◌-◌, ◌*◌, ◌%◌, Bool, true, false, not, nat_lt, ◌&&◌, ◌==◌, if◌then◌else◌, List, [], ◌∷◌, ◌++◌, take, drop, map, flat_map, filter, slice_index_or, Some, ℤ, pos, nat_abs, ◌-ℤ◌}
+use Rattle.std.specs.Prelude.{ℕ, ◌+◌, ◌-◌, ◌*◌, ◌%◌, Bool, true, false, not, nat_lt, ◌&&◌, ◌==◌, if◌then◌else◌, List, [], ◌∷◌, ◌++◌, take, drop, map, flat_map, filter, count_by, slice_index_or, Some, ℤ, pos, nat_abs, ◌-ℤ◌}
 use Rattle.jpg_spec.specs.Bits.{data_of}
 use Rattle.jpg_spec.specs.Lists.{below, chunks, are_equal, is_among}
 use Rattle.jpg_spec.specs.Typical.{dc_luma_counts, dc_luma_values, ac_luma_counts, ac_luma_values, dc_chroma_counts, dc_chroma_values, ac_chroma_counts, ac_chroma_values}
@@ -12,6 +12,9 @@ use Rattle.jpg_spec.specs.Scan.{Blocks, TablesInForce, block_at, part_of}
 use Rattle.jpg_spec.specs.declared.frame.Place.{Place}
 use Rattle.jpg_spec.specs.Codes.{code_of}
 use Rattle.jpg_spec.specs.FlatTable.{flat_table}
+use Rattle.jpg_spec_fit.specs.Fitted.{fitted}
+use Rattle.jpg_spec_write.specs.declared.huffman.Huffman.{Huffman}
+use Rattle.jpg_spec_write.specs.declared.huffman.Huffman.TheVariants.{Plain, Fitted}
 
 -- A SCAN's elements, each with its component
 
@@ -86,12 +89,21 @@ scan_data tables head intervals = intervals_text 0 (map (λ elements. data_of (f
 
 -- TABLES
 
--- the symbols that the scan writes by the table of a class and slot, ascending
+-- the symbols that the scan writes by the table of a class and slot, in their order
+abbrev pub symbols_written : ScanHead → List (List Owned) → ℕ → ℕ → List ℕ
+symbols_written head intervals class slot =
+    let own = λ (e : Owned). not (is_dc_bit e.1) && (table_place head e).0 == class && (table_place head e).1 == slot in
+    map (λ (e : Owned). symbol_of e.1) (filter own (flat_map (λ elements. elements) intervals))
+
+-- which they are, ascending
 unfoldable pub symbols_used : ScanHead → List (List Owned) → ℕ → ℕ → List ℕ
 symbols_used head intervals class slot =
-    let own = λ (e : Owned). not (is_dc_bit e.1) && (table_place head e).0 == class && (table_place head e).1 == slot in
-    let written = map (λ (e : Owned). symbol_of e.1) (filter own (flat_map (λ elements. elements) intervals)) in
-    filter (λ symbol. is_among symbol written) (below 256)
+    let written = symbols_written head intervals class slot in filter (λ symbol. is_among symbol written) (below 256)
+
+-- by symbol, how often it is written
+unfoldable pub symbol_counts : ScanHead → List (List Owned) → ℕ → ℕ → List ℕ
+symbol_counts head intervals class slot =
+    let written = symbols_written head intervals class slot in map (λ symbol. count_by (λ s. s == symbol) written) (below 256)
 
 abbrev pub typical_table : ℕ → ℕ → HuffmanTable
 typical_table class slot =
@@ -103,10 +115,20 @@ typical_table class slot =
 abbrev pub typical_tables : TablesInForce
 typical_tables class slot = Some (typical_table class slot)
 
--- typical tables in sequential scans of precision 8, otherwise the flat table of what the scan writes
-abbrev pub scan_tables : Frame → ScanHead → List (List Owned) → ℕ → ℕ → HuffmanTable
-scan_tables f head intervals class slot =
-    if not (is_progressive f.process) && f.precision == 8 then typical_table class slot else flat_table (symbols_used head intervals class slot)
+abbrev pub is_plain : Huffman → Bool
+is_plain Plain = true
+is_plain Fitted = false
+
+-- the flat table of what the scan writes, or the one that is made for how often it writes each symbol
+abbrev pub own_table : Huffman → ScanHead → List (List Owned) → ℕ → ℕ → HuffmanTable
+own_table Plain head intervals class slot = flat_table (symbols_used head intervals class slot)
+own_table Fitted head intervals class slot = fitted (symbol_counts head intervals class slot)
+
+-- if plain ones are asked for, typical tables in sequential scans of precision 8; otherwise tables of the scan's own
+abbrev pub scan_tables : Huffman → Frame → ScanHead → List (List Owned) → ℕ → ℕ → HuffmanTable
+scan_tables huffman f head intervals class slot =
+    if not (is_progressive f.process) && (f.precision == 8 && is_plain huffman) then typical_table class slot
+    else own_table huffman head intervals class slot
 
 abbrev pub is_same : HuffmanTable → HuffmanTable → Bool
 is_same a b = are_equal a.counts b.counts && are_equal a.symbols b.symbols

@@ -3,6 +3,7 @@
 #![tactic(auto)]
 
 pub mod file_examples;
+mod huffman;
 mod picture_fault;
 pub mod scan_text_laws;
 pub mod script_examples;
@@ -10,4 +11,5 @@ pub mod script_laws;
 pub mod segment_examples;
 pub mod written_laws;
 
+pub use huffman::Huffman;
 pub use picture_fault::PictureFault;

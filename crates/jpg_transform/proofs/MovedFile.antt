@@ -9,6 +9,7 @@ use Rattle.jpg_spec.specs.Lists.{any_of, below}
 use Rattle.jpg_spec.specs.Geometry.{Frame, bounds, IsReal, is_progressive, blocks_across, blocks_down, component_at, is_real, no_component, bounds_of}
 use Rattle.jpg_spec.specs.Elements.{zeros, IsBlockIn}
 use Rattle.jpg_spec_write.specs.FileText.{file_text, frame_of_meaning}
+use Rattle.jpg_spec_write.specs.declared.huffman.Huffman.{Huffman}
 use Rattle.jpg_spec.specs.FrameHeader.{IsFrame}
 use Rattle.jpg_spec.specs.Jfif.{jfif_of}
 use Rattle.jpg_spec.specs.Meaning.{Meaning, PictureComponent, colour_of, picture_frame, real_blocks}
@@ -201,6 +202,7 @@ record IsPlanned (p : Picture) (c : Choice) (plan : Plan) (blocks : Blocks) : Ty
   pub written : IsWritten p c plan.out blocks
   pub script : plan.script ≡ script_due c.scans plan.out.frame plan.out.colour
   pub faultless : moved_script_fault c (picture_meaning p) ≡ None
+  pub huffman : plan.huffman ≡ c.huffman
   pub restart : restart_of plan.restart ≡ c.restart
 
 script_is : (p : Picture) (c : Choice) (plan : Plan) (blocks : Blocks) → IsPlanned p c plan blocks → plan.script ≡ moved_script c (picture_meaning p)
@@ -249,9 +251,10 @@ can_write p c plan blocks k =
 
 text_is : (p : Picture) (c : Choice) (plan : Plan) (blocks : Blocks) → IsPlanned p c plan blocks → file_bytes plan p.kept blocks ≡ moved_text c (picture_meaning p)
 text_is p c plan blocks k =
-    ap (file_text (file_meaning plan p.kept blocks) plan.script) k.restart
-    ∙ ap (λ (H : Meaning). file_text H plan.script c.restart) (meaning_is p c plan blocks k.written)
-    ∙ ap (λ (s : List Entry). file_text (out_meaning p c) s c.restart) (script_is p c plan blocks k)
+    ap (file_text plan.huffman (file_meaning plan p.kept blocks) plan.script) k.restart
+    ∙ ap (λ (h : Huffman). file_text h (file_meaning plan p.kept blocks) plan.script c.restart) k.huffman
+    ∙ ap (λ (H : Meaning). file_text c.huffman H plan.script c.restart) (meaning_is p c plan blocks k.written)
+    ∙ ap (λ (s : List Entry). file_text c.huffman (out_meaning p c) s c.restart) (script_is p c plan blocks k)
 
 -- on a frame that is the output's
 pub writes_plan : (p : Picture) (c : Choice) (plan : Plan) (f : Frame) (blocks : Blocks) → f ≡ plan.out.frame → IsFrame plan.out.frame → IsPlanFor p c plan → IsSeenAs (out_meaning p c) plan.out.frame blocks
@@ -261,6 +264,7 @@ writes_plan p c plan f blocks same is h shows =
       written = record { head = h.head; framed = is; seen = shows };
       script = h.script;
       faultless = script_none c (picture_meaning p) h.admitted;
+      huffman = h.huffman;
       restart = h.restart;
     } in
     record {

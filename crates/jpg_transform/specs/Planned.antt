@@ -38,6 +38,7 @@ choice_told c = record {
   gray = c.gray;
   copying = c.copying;
   scans = scans_told c.scans;
+  huffman = c.huffman;
   restart = restart_of c.restart;
   crop = None;
 }
@@ -84,6 +85,7 @@ pub record IsPlanFor (p : Picture) (choice : Choice) (plan : Plan) : Type 0 wher
   pub admitted : picture_fault choice (picture_meaning p) ≡ None
   pub head : IsOutHeadOf choice p plan.out
   pub script : plan.script ≡ script_due choice.scans plan.out.frame plan.out.colour
+  pub huffman : plan.huffman ≡ choice.huffman
   pub restart : restart_of plan.restart ≡ choice.restart
   pub counted : IsRestart choice.restart
 

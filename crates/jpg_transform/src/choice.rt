@@ -7,6 +7,7 @@ use jpg_file::{Plan, Restart};
 use jpg_scans::Script;
 use jpg_spec::Copying;
 use jpg_spec_move::Transform;
+use jpg_spec_write::Huffman;
 
 /// The scans that a picture is written in.
 #[derive(Drop)]
@@ -32,7 +33,7 @@ impl Scans {
 }
 
 /// What is asked for a picture: whether it is converted to grayscale, transformed and trimmed, in this order; which of
-/// its kept markers are passed on; the scans that it is written in, and the restart interval.
+/// its kept markers are passed on; the scans that it is written in, their Huffman tables, and the restart interval.
 #[derive(Drop)]
 pub struct Choice {
     pub transform: Transform,
@@ -42,6 +43,7 @@ pub struct Choice {
     pub gray: bool,
     pub copying: Copying,
     pub scans: Scans,
+    pub huffman: Huffman,
     pub restart: Restart,
 }
 

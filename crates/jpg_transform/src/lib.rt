@@ -19,6 +19,6 @@ pub use jpg_file::{Picture, Restart};
 pub use jpg_scans::Script;
 pub use jpg_spec::Copying;
 pub use jpg_spec_move::Transform;
-pub use jpg_spec_write::PictureFault;
+pub use jpg_spec_write::{Huffman, PictureFault};
 pub use moved::Moved;
 pub use planning::{counted, plan};

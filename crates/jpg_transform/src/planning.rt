@@ -38,6 +38,7 @@ pub fn plan(picture: &Picture, choice: &Choice) -> Result<Job, PictureFault>
             plan: Plan {
                 out,
                 script,
+                huffman: choice.huffman,
                 restart: choice.restart,
             },
             transform: choice.transform,

@@ -5,7 +5,7 @@ use example_callers::{
     turn_coefs,
 };
 use jpg_base::{Bytes, MemoryDesk};
-use jpg_transform::{BlockView, Choice, Coefs, Copying, Restart, Scans, Transform};
+use jpg_transform::{BlockView, Choice, Coefs, Copying, Huffman, Restart, Scans, Transform};
 use std::alloc::{AllocError, Global};
 use test_rows::{Named, Stop, spelled};
 
@@ -171,6 +171,7 @@ fn choice_of(way: &str) -> Option<Choice> {
         gray: false,
         copying: Copying::Comments,
         scans: Scans::Sequential,
+        huffman: Huffman::Plain,
         restart: Restart::Off,
     })
 }

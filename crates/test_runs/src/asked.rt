@@ -55,6 +55,7 @@ fn transform_part(alloc: Global, words: &TransformWords, part: &str) -> Result<S
         "trim" => format!(in alloc; "{}", words.trim),
         "gray" => format!(in alloc; "{}", words.gray),
         "copying" => format!(in alloc; "{:?}", words.copying),
+        "huffman" => format!(in alloc; "{:?}", words.huffman),
         "restart" => format!(in alloc; "{:?}", words.restart),
         "scans" => match &words.script {
             ScriptFrom::Sequential => String::from_str(alloc, "sequential"),

@@ -36,7 +36,7 @@ IsWritten choice p output old ended new = (M : Meaning) → MeansFor choice.copy
 
 -- as the words ask for it, in these scans
 abbrev pub WritesAsItIs : EncodeWords → Scans → Picture → DeskState → Why → DeskState → Type 0
-WritesAsItIs w scans p old ended new = IsWritten (as_it_is scans (restart_of w.restart)) p w.files.output old ended new
+WritesAsItIs w scans p old ended new = IsWritten (as_it_is scans w.huffman (restart_of w.restart)) p w.files.output old ended new
 
 -- why no picture was made
 abbrev pub why_none : EncodeStop → Why

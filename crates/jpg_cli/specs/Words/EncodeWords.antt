@@ -2,6 +2,8 @@
 use Rattle.std.specs.Prelude.{◌≡◌, ℕ, ◌-◌, true, List, [], ◌∷◌, Option, None, Some, option_and_then, option_copied, option_map, unwrap_or}
 use Rattle.std.specs.Borrow.{Bor}
 use Rattle.arrayvec.specs.ArrayVec.{ArrayVec}
+use Rattle.jpg_spec_write.specs.declared.huffman.Huffman.{Huffman}
+use Rattle.jpg_spec_words.specs.Requests.{WordsTold, words_right}
 use Rattle.jpg_spec_words.specs.EncodeWords.{EncodeAsked, are_factors, encoding_asked, factors_from, factors_named, quality_named}
 use Rattle.jpg_spec_encode.specs.Encoded.{Encoding}
 use Rattle.jpg_spec_write.specs.ScansAsked.{Scans}
@@ -23,6 +25,7 @@ encode_told w = record {
   gray = w.gray;
   baseline = w.baseline;
   scans = script_told w.script;
+  huffman = w.huffman;
   restart = restart_of w.restart;
   factors = w.factors.items;
   tables = w.tables;
@@ -43,10 +46,15 @@ encode_said s = record {
   gray = s.gray;
   baseline = s.baseline;
   scans = script_said s.script;
+  huffman = s.huffman;
   restart = restart_of s.restart;
   factors = factors_said (text_told s.factors);
   tables = text_told s.tables;
 }
+
+-- what is asked for with these Huffman tables too
+abbrev pub huffman_asked : EncodeAsked → Huffman → WordsTold EncodeAsked
+huffman_asked a huffman = words_right (record a { huffman = huffman })
 
 -- The pair of factors that a text begins with, and the rest of the text; or none, and the text has no factors.
 abbrev pub IsFirstPair : List ℕ → Option ((ℕ × ℕ) × Bor (List ℕ)) → Type 0

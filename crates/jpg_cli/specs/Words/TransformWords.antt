@@ -27,6 +27,7 @@ transform_told w = record {
   crop = w.crop;
   copying = w.copying;
   scans = script_told w.script;
+  huffman = w.huffman;
   restart = restart_of w.restart;
 }
 
@@ -49,5 +50,6 @@ transform_said s = record {
   crop = area_said (text_told s.crop);
   copying = s.copying;
   scans = script_said s.script;
+  huffman = s.huffman;
   restart = restart_of s.restart;
 }

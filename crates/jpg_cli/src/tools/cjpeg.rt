@@ -113,6 +113,7 @@ fn write_picture<D: Desk>(picture: &Picture, words: &EncodeWords, scans: Scans, 
         gray: false,
         copying: Copying::None,
         scans,
+        huffman: words.huffman,
         restart: words.restart,
     };
     match write_moved(picture, &choice, &words.files.output, &None, desk) {

@@ -51,6 +51,7 @@ fn choice_of(words: &TransformWords, scans: Scans) -> Choice
         gray: words.gray,
         copying: words.copying,
         scans,
+        huffman: words.huffman,
         restart: words.restart,
     }
 }

@@ -25,7 +25,7 @@ use jpg_spec::Copying;
 use jpg_spec_image::EndKind;
 use jpg_spec_move::Transform;
 use jpg_spec_words::{Which, Why};
-use jpg_transform::{Restart, Scans};
+use jpg_transform::{Huffman, Restart, Scans};
 use std::alloc::Global;
 
 // The most bytes that a desk in memory gives in a read.
@@ -131,6 +131,7 @@ fn first_file(alloc: Global, size: u16) -> Option<MemoryDesk>
         gray: false,
         baseline: false,
         script: ScriptFrom::Standard,
+        huffman: Huffman::Plain,
         restart: Restart::Off,
         factors: Factors::new(),
         tables: None,
@@ -187,6 +188,7 @@ fn turned_file(
         crop: None,
         copying: Copying::Comments,
         script: scans_from(progressive),
+        huffman: Huffman::Plain,
         restart: Restart::Off,
     };
     match transform(alloc, &words, &mut desk) {

@@ -1,10 +1,11 @@
 //! The words of cjpeg (its manual in release 6b).
-ghost use Rattle.std.specs.Prelude.{◌≡◌, ◌≤◌, All, IfOk, IfSome, map, drop, string_bytes};
+ghost use Rattle.std.specs.Prelude.{◌≡◌, ◌<◌, ◌≤◌, All, IfOk, IfSome, map, drop, string_bytes};
 ghost use Rattle.jpg_spec_words.specs.EncodeWords.{EncodeAsked, cjpeg, encode_asked};
 ghost use Rattle.jpg_spec_encode.specs.EncodingLaws.{AreFactors};
-ghost use Rattle.jpg_cli.specs.Words.EncodeWords.{encode_said, encode_told, factors_said, quality_said};
+ghost use Rattle.jpg_cli.specs.Words.EncodeWords.{encode_said, encode_told, factors_said, huffman_asked, quality_said};
 ghost use Rattle.jpg_cli.specs.Words.Files.{text_told};
-ghost use Rattle.jpg_cli.specs.Words.Requests.{IsAnswer};
+ghost use Rattle.jpg_cli.specs.Words.Requests.{AnswersWords, IsAnswer};
+ghost use Rattle.jpg_spec_words.specs.Requests.{with_value};
 
 use crate::words::cjpeg_request::EncodeWords;
 use crate::words::cjpeg_values::{Factors, factors_named, quality_named};
@@ -12,15 +13,15 @@ use crate::words::files::{FilesSaid, NO_FILES, WordsStop};
 use crate::words::jpegtran::ScriptSaid;
 use crate::words::requests::{Asks, bad_value, read_words, usage};
 use crate::words::switches::Switch;
-use crate::words::values::{is_int, restart_named};
+use crate::words::values::{huffman_named, is_int, restart_named};
 use arrayvec::ArrayVec;
 use jpg_base::{NoMemory, Text};
 use jpg_spec_words::Purpose::{Alone, LeftOut, Valued};
 use jpg_spec_words::{Flag, Setting, Usage, UsageFault};
-use jpg_transform::Restart;
+use jpg_transform::{Huffman, Restart};
 use std::alloc::Global;
 
-static CJPEG_SWITCHES: [Switch<'static>; 20] = [
+static CJPEG_SWITCHES: [Switch<'static>; 21] = [
     ("quality", 1, Valued(Setting::Quality)),
     ("grayscale", 2, Alone(Flag::Gray)),
     ("greyscale", 2, Alone(Flag::Gray)),
@@ -29,6 +30,7 @@ static CJPEG_SWITCHES: [Switch<'static>; 20] = [
     ("progressive", 1, Alone(Flag::Progressive)),
     ("scans", 4, Valued(Setting::Scans)),
     ("restart", 1, Valued(Setting::Restart)),
+    ("huffman", 1, Valued(Setting::Huffman)),
     ("sample", 2, Valued(Setting::Sample)),
     ("qtables", 2, Valued(Setting::Tables)),
     ("dct", 2, Valued(Setting::Dct)),
@@ -55,6 +57,7 @@ pub fn cjpeg_words(alloc: Global, words: &[String]) -> Result<EncodeWords, Words
         gray: false,
         baseline: false,
         script: ScriptSaid::Sequential,
+        huffman: Huffman::Plain,
         restart: Restart::Off,
         factors: None,
         tables: None,
@@ -71,6 +74,7 @@ struct EncodeSaid<'a> {
     gray: bool,
     baseline: bool,
     script: ScriptSaid<'a>,
+    huffman: Huffman,
     restart: Restart,
     factors: Option<&'a str>,
     tables: Option<&'a str>,
@@ -126,6 +130,7 @@ impl<'a> Asks<'a> for EncodeSaid<'a> {
                 script: ScriptSaid::File(value),
                 ..self
             }),
+            Setting::Huffman => self.with_huffman(huffman_named(value), index),
             Setting::Restart => match restart_named(value.as_bytes()) {
                 Some(restart) => Ok(EncodeSaid { restart, ..self }),
                 None => Err(bad_value(index)),
@@ -161,10 +166,24 @@ impl<'a> Asks<'a> for EncodeSaid<'a> {
             gray: self.gray,
             baseline: self.baseline,
             script: self.script.to_script(alloc)?,
+            huffman: self.huffman,
             restart: self.restart,
             factors: factors_of(self.factors),
             tables: tables_from(alloc, self.tables)?,
         })
+    }
+}
+
+impl<'a> EncodeSaid<'a> {
+    // The same with the Huffman tables that the value after the switch names, if it names any.
+    fn with_huffman(self, huffman: Option<Huffman>, index: usize) -> Result<Self, Usage>
+        requires { index < 18446744073709551615 }
+        ensures { AnswersWords encode_said (with_value index huffman (huffman_asked (encode_said self.entry))) result }
+    {
+        match huffman {
+            Some(huffman) => Ok(EncodeSaid { huffman, ..self }),
+            None => Err(bad_value(index)),
+        }
     }
 }
 

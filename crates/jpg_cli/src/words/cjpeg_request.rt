@@ -6,7 +6,7 @@ use crate::words::cjpeg_values::Factors;
 use crate::words::files::Files;
 use crate::words::jpegtran::ScriptFrom;
 use jpg_base::Text;
-use jpg_transform::Restart;
+use jpg_transform::{Huffman, Restart};
 
 /// What the words of cjpeg ask for.
 #[derive(Drop)]
@@ -21,6 +21,7 @@ pub struct EncodeWords {
     /// No quantiser has more than one byte.
     pub baseline: bool,
     pub script: ScriptFrom,
+    pub huffman: Huffman,
     pub restart: Restart,
     /// The factors that are given, from 1 to 4 horizontally and vertically, of the first components.
     pub factors: Factors,

@@ -13,21 +13,22 @@ use crate::words::files::{Files, FilesSaid, NO_FILES, WordsStop};
 use crate::words::jpegtran_request::TransformWords;
 use crate::words::requests::{Asks, bad_value, read_words, usage};
 use crate::words::switches::{Switch, stands_for};
-use crate::words::values::{number_of, restart_named};
+use crate::words::values::{huffman_named, number_of, restart_named};
 use jpg_base::{NoMemory, Text};
 use jpg_spec::Copying;
 use jpg_spec_move::{Area, Transform};
 use jpg_spec_words::Purpose::{Alone, LeftOut, Valued};
 use jpg_spec_words::{Flag, Setting, Usage, UsageFault};
-use jpg_transform::Restart;
+use jpg_transform::{Huffman, Restart};
 use std::alloc::Global;
 
-static JPEGTRAN_SWITCHES: [Switch<'static>; 19] = [
+static JPEGTRAN_SWITCHES: [Switch<'static>; 20] = [
     ("copy", 1, Valued(Setting::Copy)),
     ("crop", 2, Valued(Setting::Crop)),
     ("flip", 1, Valued(Setting::Flip)),
     ("grayscale", 1, Alone(Flag::Gray)),
     ("greyscale", 1, Alone(Flag::Gray)),
+    ("huffman", 1, Valued(Setting::Huffman)),
     ("outfile", 4, Valued(Setting::Output)),
     ("progressive", 1, Alone(Flag::Progressive)),
     ("restart", 1, Valued(Setting::Restart)),
@@ -66,6 +67,7 @@ pub fn jpegtran_words(alloc: Global, words: &[String]) -> Result<TransformWords,
         crop: None,
         copying: Copying::Comments,
         script: ScriptSaid::Sequential,
+        huffman: Huffman::Plain,
         restart: Restart::Off,
     };
     read_words(alloc, start, &JPEGTRAN_SWITCHES, words)
@@ -81,6 +83,7 @@ struct TransformSaid<'a> {
     crop: Option<&'a str>,
     copying: Copying,
     script: ScriptSaid<'a>,
+    huffman: Huffman,
     restart: Restart,
 }
 
@@ -139,6 +142,10 @@ impl<'a> Asks<'a> for TransformSaid<'a> {
                 script: ScriptSaid::File(value),
                 ..self
             }),
+            Setting::Huffman => match huffman_named(value) {
+                Some(huffman) => Ok(TransformSaid { huffman, ..self }),
+                None => Err(bad_value(index)),
+            },
             Setting::Restart => match restart_named(value.as_bytes()) {
                 Some(restart) => Ok(TransformSaid { restart, ..self }),
                 None => Err(bad_value(index)),
@@ -156,6 +163,7 @@ impl<'a> Asks<'a> for TransformSaid<'a> {
             crop: area_of(self.crop),
             copying: self.copying,
             script: self.script.to_script(alloc)?,
+            huffman: self.huffman,
             restart: self.restart,
         })
     }

@@ -6,7 +6,7 @@ use crate::words::files::Files;
 use crate::words::jpegtran::ScriptFrom;
 use jpg_spec::Copying;
 use jpg_spec_move::{Area, Transform};
-use jpg_transform::Restart;
+use jpg_transform::{Huffman, Restart};
 
 /// What the words of jpegtran ask for.
 #[derive(Drop)]
@@ -21,6 +21,7 @@ pub struct TransformWords {
     pub crop: Option<Area>,
     pub copying: Copying,
     pub script: ScriptFrom,
+    pub huffman: Huffman,
     pub restart: Restart,
     ghost area: { IsArea (area_or_one crop) },
 }

@@ -1,11 +1,11 @@
 //! Values of switches that several commands have (the manuals of release 6b).
 ghost use Rattle.std.specs.Prelude.{◌≡◌, ◌≤◌, IfSome, Some, option_map};
-ghost use Rattle.jpg_spec_words.specs.Requests.{ends_with_b, is_int, number_of, restart_by, restart_named, without_b};
+ghost use Rattle.jpg_spec_words.specs.Requests.{ends_with_b, huffman_named, is_int, number_of, restart_by, restart_named, without_b};
 ghost use Rattle.jpg_spec_words.specs.ShowWords.{scans_from, scans_named};
 ghost use Rattle.jpg_file.specs.Write.Restarts.{restart_of};
 
 use crate::words::switches::{lower, stands_for};
-use jpg_transform::Restart;
+use jpg_transform::{Huffman, Restart};
 
 // The restart interval of a value: a number of rows of MCUs, or of MCUs with a B after it, at most 65535. For 0 there
 // is none.
@@ -15,6 +15,20 @@ pub(crate) fn restart_named(value: &[u8]) -> Option<Restart>
     match number_of(without_b(value)) {
         Some(n) => restart_by(ends_with_b(value), n),
         None => None,
+    }
+}
+
+/// Which Huffman tables the scans have; a prefix of the name is enough.
+pub(crate) fn huffman_named(value: &str) -> Option<Huffman>
+    ensures { result ≡ huffman_named value.now }
+{
+    let letters = value.as_bytes();
+    if stands_for(1, b"plain", letters) {
+        Some(Huffman::Plain)
+    } else if stands_for(1, b"fitted", letters) {
+        Some(Huffman::Fitted)
+    } else {
+        None
     }
 }
 

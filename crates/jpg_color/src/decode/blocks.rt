@@ -1,10 +1,10 @@
 //! Blocks of coefficients as blocks of samples (T.81, A.3.3, A.3.4).
-ghost use Rattle.std.specs.Prelude.{◌≡◌, ◌≤◌, ◌*ℤ◌, pos, nat_abs, All, List, ℕ, length, slice_index};
+ghost use Rattle.std.specs.Prelude.{◌≡◌, ◌≤◌, ◌*ℤ◌, pos, nat_abs, All, length, slice_index};
 ghost use Rattle.jpg_spec_image.specs.Dct.{number_at, dequantised, inverse_dct};
 ghost use Rattle.jpg_dct.specs.Natural.{natural, natural_table};
 
 use jpg_base::{Block, QuantTable};
-use jpg_dct::{dequantise, flat_block, idct};
+use jpg_dct::{Multipliers, dequantise, flat_block};
 use std::simd::i16x64;
 
 // The place in zigzag order of each natural index.
@@ -37,8 +37,8 @@ fn in_order(values: &[i16; 64]) -> [i16; 64]
     i16x64::from_array(*values).swizzle(PLACES).to_array()
 }
 
-/// The quantisers in natural order.
-pub(crate) fn natural_quants(quants: &QuantTable) -> [u16; 64]
+// The quantisers in natural order.
+fn natural_quants(quants: &QuantTable) -> [u16; 64]
     ensures { result ≡ natural_table quants.now }
 {
     let mut steps = [0; 64];
@@ -46,15 +46,6 @@ pub(crate) fn natural_quants(quants: &QuantTable) -> [u16; 64]
         steps[n] = quants.get(PLACES[n] as u8);
     }
     steps
-}
-
-#[inline(always)]
-fn product(value: i16, q: u16) -> i32
-    requires small { nat_abs value ≤ 1024 }
-    ensures value { result ≡ value *ℤ pos q }
-    ensures bound { nat_abs result ≤ 67108864 }
-{
-    dequantise(value, q)
 }
 
 // The first coefficient times its quantiser.
@@ -67,23 +58,15 @@ fn first(block: &Block, quants: &QuantTable) -> i32
     dequantise(block.get(0), quants.get(0))
 }
 
-// A block in natural order, each coefficient times its quantiser.
-#[inline(always)]
-fn dequantised(block: &Block, steps: &[u16; 64]) -> [i32; 64]
-    requires { All (λ x. nat_abs x ≤ 1024) block.now }
-    ensures value { (quants : List ℕ) → steps.now ≡ natural_table quants → result ≡ dequantised quants block.now }
-    ensures bound { All (λ x. nat_abs x ≤ 67108864) result }
+/// The quantisers in natural order, prepared for multiplication.
+pub(crate) fn multipliers(quants: &QuantTable) -> Multipliers
+    ensures { result ≡ natural_table quants.now }
 {
-    let given = in_order(&numbers(block));
-    let mut values = [0; 64];
-    for n in 0..64 {
-        values[n] = product(given[n], steps[n]);
-    }
-    values
+    Multipliers::new(&natural_quants(quants))
 }
 
 /// The 64 samples of a block, row by row, by its quantisers, given also in natural order.
-pub(crate) fn samples_by(block: &Block, quants: &QuantTable, steps: &[u16; 64]) -> [u8; 64]
+pub(crate) fn samples_by(block: &Block, quants: &QuantTable, steps: &Multipliers) -> [u8; 64]
     requires small { All (λ x. nat_abs x ≤ 1024) block.now }
     requires steps { steps.now ≡ natural_table quants.now }
     ensures { result ≡ inverse_dct (dequantised quants.now block.now) }
@@ -92,7 +75,8 @@ pub(crate) fn samples_by(block: &Block, quants: &QuantTable, steps: &[u16; 64]) 
     if block.nonzero() < 2 {
         return flat_block(first(block, quants));
     }
-    idct(&dequantised(block, steps))
+    let given = in_order(&numbers(block));
+    steps.block(&given)
 }
 
 /// The 64 samples of a block, row by row.
@@ -100,5 +84,5 @@ pub fn block_samples(block: &Block, quants: &QuantTable) -> [u8; 64]
     requires { All (λ x. nat_abs x ≤ 1024) block.now }
     ensures { result ≡ inverse_dct (dequantised quants.now block.now) }
 {
-    samples_by(block, quants, &natural_quants(quants))
+    samples_by(block, quants, &multipliers(quants))
 }

@@ -60,8 +60,8 @@ fn minus(a: i16x8, b: i16x8) -> i16x8
 
 // Two products of each lane, added in 32 bits.
 #[inline(always)]
-fn dots(a: i16x8, b: i16x8, k: i32, l: i32) -> i32x8
-    requires { (IsEight 16384 a) × (IsEight 16384 b) }
+pub(crate) fn dots(a: i16x8, b: i16x8, k: i32, l: i32) -> i32x8
+    requires { (IsEight 32767 a) × (IsEight 32767 b) }
     ensures long { length result ≡ 8 }
     ensures at { (i : ℕ) → i < 8 → number_at result i ≡ int_wrap w32 ((number_at a i *ℤ k) +ℤ (number_at b i *ℤ l)) }
 {
@@ -72,7 +72,7 @@ fn dots(a: i16x8, b: i16x8, k: i32, l: i32) -> i32x8
 
 // Sums of 32 bits, each right in its low ones.
 #[inline(always)]
-fn both(a: i32x8, b: i32x8) -> i32x8
+pub(crate) fn both(a: i32x8, b: i32x8) -> i32x8
     requires { (length a ≡ 8) × (length b ≡ 8) }
     ensures long { length result ≡ 8 }
     ensures at { (i : ℕ) → i < 8 → (x y : ℤ) → number_at a i ≡ int_wrap w32 x → number_at b i ≡ int_wrap w32 y → number_at result i ≡ int_wrap w32 (x +ℤ y) }
@@ -202,7 +202,7 @@ pub(crate) fn lines(d: Eight) -> Eight
 // The vectors transposed.
 #[inline(always)]
 pub(crate) fn turned(d: Eight) -> Eight
-    requires { (u : ℕ) → u < 8 → IsEight 8192 (vector d u) }
+    requires { (u : ℕ) → u < 8 → IsEight 32767 (vector d u) }
     ensures long { (v : ℕ) → v < 8 → length (vector result v) ≡ 8 }
     ensures at { (u v : ℕ) → u < 8 → v < 8 → number_at (vector result v) u ≡ number_at (vector d u) v }
 {

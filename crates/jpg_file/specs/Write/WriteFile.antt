@@ -21,7 +21,7 @@ file_meaning plan kept blocks = record (head_meaning plan.out kept) { blocks = r
 
 -- its text
 abbrev pub file_bytes : Plan → List (ℕ × List ℕ) → Blocks → List ℕ
-file_bytes plan kept blocks = file_text (file_meaning plan kept blocks) plan.script (restart_of plan.restart)
+file_bytes plan kept blocks = file_text plan.huffman (file_meaning plan kept blocks) plan.script (restart_of plan.restart)
 
 -- the test of a script for files of this meaning's process
 abbrev pub does_pass : Meaning → List Entry → Bool

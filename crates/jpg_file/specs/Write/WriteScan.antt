@@ -71,7 +71,7 @@ abbrev pub elements_for : Plan → Frame → Blocks → Entry → List (List Own
 elements_for plan f blocks e = scan_elements f (head_for plan e) (interval_for plan e) blocks
 
 abbrev pub tables_for : Plan → Frame → Blocks → Entry → ℕ → ℕ → HuffmanTable
-tables_for plan f blocks e = scan_tables plan.out.frame (head_for plan e) (elements_for plan f blocks e)
+tables_for plan f blocks e = scan_tables plan.huffman plan.out.frame (head_for plan e) (elements_for plan f blocks e)
 
 -- its tables, its header and its data
 abbrev pub scan_bytes : Plan → Frame → Blocks → Written → Entry → List ℕ
@@ -116,7 +116,7 @@ pub record IsDue (plan : Plan) (f : Frame) (blocks : Blocks) (e : Entry) (due : 
   pub head : due.head ≡ head_for plan e
   pub interval : due.interval ≡ interval_of plan.out.frame due.head (restart_of plan.restart)
   pub needed : due.needed.items ≡ tables_needed (is_progressive plan.out.frame.process) e due.head
-  pub tables : GivesTables due.tables (scan_tables plan.out.frame due.head (scan_elements f due.head due.interval blocks))
+  pub tables : GivesTables due.tables (scan_tables plan.huffman plan.out.frame due.head (scan_elements f due.head due.interval blocks))
 
 -- it can be written
 pub record CanWriteDue (file f : Frame) (blocks : Blocks) (due : ScanDue) : Type 0 where

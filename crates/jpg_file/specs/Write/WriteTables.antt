@@ -1,13 +1,17 @@
 -- The tables of scans that are written: sets that have them, and the last ones of each class and slot (T.81, B.2.4.2).
 use Rattle.std.specs.Prelude.{◌≡◌, ℕ, ◌<◌, ◌≤◌, ◌==◌, if◌then◌else◌, List, length, Option, Some, None}
 use Rattle.std.specs.Option.{option_map}
+use Rattle.jpg_spec.specs.FlatTable.{flat_table}
 use Rattle.jpg_spec.specs.Scan.{TablesInForce}
 use Rattle.jpg_spec.specs.Segments.{HuffmanTable}
+use Rattle.jpg_spec_fit.specs.Fitted.{fitted}
+use Rattle.jpg_spec_write.specs.declared.huffman.Huffman.{Huffman}
+use Rattle.jpg_spec_write.specs.declared.huffman.Huffman.TheVariants.{Plain, Fitted}
 use Rattle.jpg_huff.specs.declared.table.Table.{Table}
 use Rattle.jpg_huff.specs.declared.set.TableSet.{TableSet}
 use Rattle.jpg_huff.specs.Flat.{symbols_in}
-use Rattle.jpg_huff.specs.Used.{row}
-use Rattle.jpg_huff.specs.declared.used.Used.{Used}
+use Rattle.jpg_huff.specs.Counts.{row}
+use Rattle.jpg_huff.specs.declared.counts.Counts.{Counts}
 use Rattle.jpg_huff.specs.Sets.{dc_tables, ac_tables, in_slot}
 use Rattle.jpg_huff.specs.Tables.{table_of}
 
@@ -24,14 +28,24 @@ abbrev pub GivesTables : TableSet → (ℕ → ℕ → HuffmanTable) → Type 0
 GivesTables set tables = (class slot : ℕ) → class < 2 → slot < 2 → IsInSlot (class_tables set class) slot (tables class slot)
 
 -- by slots 0 and 1 and class, the symbols that are used are these
-pub record UsesSymbols (used : Used) (symbols : ℕ → ℕ → List ℕ) : Type 0 where
-  pub dc : (slot : ℕ) → slot < 2 → symbols_in (row used.dc slot) ≡ symbols 0 slot
-  pub ac : (slot : ℕ) → slot < 2 → symbols_in (row used.ac slot) ≡ symbols 1 slot
+pub record UsesSymbols (counts : Counts) (symbols : ℕ → ℕ → List ℕ) : Type 0 where
+  pub dc : (slot : ℕ) → slot < 2 → symbols_in (row counts.dc slot) ≡ symbols 0 slot
+  pub ac : (slot : ℕ) → slot < 2 → symbols_in (row counts.ac slot) ≡ symbols 1 slot
+
+-- and each is counted so often
+pub record HasCounts (counts : Counts) (numbers : ℕ → ℕ → List ℕ) : Type 0 where
+  pub dc : (slot : ℕ) → slot < 2 → row counts.dc slot ≡ numbers 0 slot
+  pub ac : (slot : ℕ) → slot < 2 → row counts.ac slot ≡ numbers 1 slot
+
+-- the tables of a scan's own, by the symbols that it uses, and by how often it sends each
+abbrev pub own_tables : Huffman → (ℕ → ℕ → List ℕ) → (ℕ → ℕ → List ℕ) → ℕ → ℕ → HuffmanTable
+own_tables Plain symbols numbers class slot = flat_table (symbols class slot)
+own_tables Fitted symbols numbers class slot = fitted (numbers class slot)
 
 -- few enough for codes of one length
-pub record AreFew (used : Used) : Type 0 where
-  pub dc : (slot : ℕ) → slot < 2 → length (symbols_in (row used.dc slot)) ≤ 255
-  pub ac : (slot : ℕ) → slot < 2 → length (symbols_in (row used.ac slot)) ≤ 255
+pub record AreFew (counts : Counts) : Type 0 where
+  pub dc : (slot : ℕ) → slot < 2 → length (symbols_in (row counts.dc slot)) ≤ 255
+  pub ac : (slot : ℕ) → slot < 2 → length (symbols_in (row counts.ac slot)) ≤ 255
 
 -- they have the first two for DC, and the other two for AC
 abbrev pub HasFourTables : TableSet → HuffmanTable → HuffmanTable → HuffmanTable → HuffmanTable → Type 0

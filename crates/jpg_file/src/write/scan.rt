@@ -75,7 +75,7 @@ fn due_of<V: BlockView>(plan: &Plan, entry: &Entry, view: &V) -> ScanDue
     let is_prog = plan.out.frame.is_progressive();
     let head = head_of(is_prog, plan.out.colour, entry);
     let interval = interval_of(&plan.out.frame, &head, plan.restart);
-    let tables = tables_of(&plan.out.frame, view, &head, interval);
+    let tables = tables_of(plan.huffman, &plan.out.frame, view, &head, interval);
     let needed = needed_of(is_prog, entry, &head);
     ScanDue {
         head,

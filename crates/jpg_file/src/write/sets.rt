@@ -1,56 +1,81 @@
-//! The tables of a scan that is written: typical ones, or those of codes of one length (T.81, Annexes C and K.3).
+//! The tables of a scan that is written: typical ones, those of codes of one length, or those made for how often each
+//! symbol is sent (T.81, Annexes C, K.2 and K.3).
 ghost use Rattle.std.specs.Prelude.{◌≡◌, ◌==◌, ◌&&◌, not, true, ℕ, List, All};
 ghost use Rattle.jpg_spec.specs.FlatTable.{flat_table};
 ghost use Rattle.jpg_spec.specs.Geometry.{is_progressive};
 ghost use Rattle.jpg_spec.specs.Segments.{head_components};
 ghost use Rattle.jpg_base.specs.Cursor.{AreIn};
-ghost use Rattle.jpg_spec_write.specs.ScanText.{scan_elements, scan_tables, symbols_used, typical_table};
+ghost use Rattle.jpg_spec.specs.Lists.{is_distinct};
+ghost use Rattle.jpg_spec_fit.specs.Fitted.{fitted};
+ghost use Rattle.jpg_spec_write.specs.ScanText.{is_plain, scan_elements, scan_tables, symbol_counts, symbols_used, typical_table};
 ghost use Rattle.jpg_spec_write.specs.WrittenFile.{HasBlocksIn};
 ghost use Rattle.jpg_huff.specs.Tables.{table_of};
 ghost use Rattle.jpg_coefs.specs.MarkSinks.{HasSlots};
 ghost use Rattle.jpg_prog_write.specs.Written.{IsProgScan};
-ghost use Rattle.jpg_file.specs.Write.WriteTables.{AreFew, UsesSymbols, GivesTables, HasFourTables};
+ghost use Rattle.jpg_file.specs.Write.WriteTables.{AreFew, HasCounts, UsesSymbols, GivesTables, HasFourTables, own_tables};
 
 use jpg_base::{Frame, ScanHead};
 use jpg_coefs::BlockView;
-use jpg_huff::{Table, TableSet, Typical, Used, flat, typical};
+use jpg_fit::fitted;
+use jpg_huff::{Counts, Table, TableSet, Typical, flat, typical};
 use jpg_prog_write::count_scan;
 use jpg_seq::count_seq_scan;
+use jpg_spec_write::Huffman;
 
-/// The tables of a scan, in slots 0 and 1: in a sequential file of precision 8 the typical ones, otherwise those of
-/// codes of one length for what the scan writes.
-pub fn tables_of<V: BlockView>(frame: &Frame, view: &V, head: &ScanHead, interval: u16) -> TableSet
+/// The tables of a scan, in slots 0 and 1: those that are made for it, if they are asked for; otherwise in a sequential
+/// file of precision 8 the typical ones, and in any other those of codes of one length for what the scan writes.
+pub fn tables_of<V: BlockView>(
+    huffman: Huffman,
+    frame: &Frame,
+    view: &V,
+    head: &ScanHead,
+    interval: u16,
+) -> TableSet
     requires kind { is_progressive (V.numbers view.now).process ≡ is_progressive frame.now.process }
     requires components { AreIn (V.numbers view.now) (head_components head.now) }
     requires scan { is_progressive frame.now.process ≡ true → IsProgScan (V.numbers view.now) head.now }
+    requires distinct { is_distinct (head_components head.now) ≡ true }
     requires slots { All HasSlots head.now.parts }
     requires blocks { HasBlocksIn (V.numbers view.now) (V.blocks view.now) }
-    ensures { GivesTables result (scan_tables frame.now head.now (scan_elements (V.numbers view.now) head.now interval (V.blocks view.now))) }
+    ensures { GivesTables result (scan_tables huffman frame.now head.now (scan_elements (V.numbers view.now) head.now interval (V.blocks view.now))) }
 {
-    if has_typical(frame) {
+    if has_typical(huffman, frame) {
         typical_set()
     } else {
-        flat_set(&used_by(frame, view, head, interval))
+        own_set(huffman, &counts_of(frame, view, head, interval))
+    }
+}
+
+// Whether no tables of a scan's own are asked for where typical ones are enough.
+fn is_plain(huffman: Huffman) -> bool
+    ensures { result ≡ is_plain huffman }
+{
+    match huffman {
+        Huffman::Plain => true,
+        Huffman::Fitted => false,
     }
 }
 
 // Whether a file has the typical tables.
-fn has_typical(frame: &Frame) -> bool
-    ensures { result ≡ (not (is_progressive frame.now.process) && frame.now.precision == 8) }
+fn has_typical(huffman: Huffman, frame: &Frame) -> bool
+    ensures { result ≡ (not (is_progressive frame.now.process) && (frame.now.precision == 8 && is_plain huffman)) }
 {
-    !frame.is_progressive() && frame.precision() == 8
+    !frame.is_progressive() && (frame.precision() == 8 && is_plain(huffman))
 }
 
-// The symbols that the scan writes.
-fn used_by<V: BlockView>(frame: &Frame, view: &V, head: &ScanHead, interval: u16) -> Used
+// How often the scan writes each symbol.
+fn counts_of<V: BlockView>(frame: &Frame, view: &V, head: &ScanHead, interval: u16) -> Counts
     requires kind { is_progressive (V.numbers view.now).process ≡ is_progressive frame.now.process }
     requires components { AreIn (V.numbers view.now) (head_components head.now) }
     requires scan { is_progressive frame.now.process ≡ true → IsProgScan (V.numbers view.now) head.now }
+    requires distinct { is_distinct (head_components head.now) ≡ true }
     requires slots { All HasSlots head.now.parts }
     requires blocks { HasBlocksIn (V.numbers view.now) (V.blocks view.now) }
     ensures symbols { UsesSymbols result (symbols_used head.now (scan_elements (V.numbers view.now) head.now interval (V.blocks view.now))) }
+    ensures counts { HasCounts result (symbol_counts head.now (scan_elements (V.numbers view.now) head.now interval (V.blocks view.now))) }
     ensures few { AreFew result }
 {
+    view.frame().checked();
     if frame.is_progressive() {
         count_scan(view, head, interval)
     } else {
@@ -70,16 +95,39 @@ fn typical_set() -> TableSet
     )
 }
 
+// The tables of a scan's own, for these counts.
+fn own_set(huffman: Huffman, counts: &Counts) -> TableSet
+    requires { AreFew counts.now }
+    ensures { (symbols numbers : ℕ → ℕ → List ℕ) → UsesSymbols counts.now symbols → HasCounts counts.now numbers → GivesTables result (own_tables huffman symbols numbers) }
+{
+    match huffman {
+        Huffman::Plain => flat_set(counts),
+        Huffman::Fitted => fitted_set(counts),
+    }
+}
+
 // The tables of codes of one length for the symbols that are used.
-fn flat_set(used: &Used) -> TableSet
-    requires { AreFew used.now }
-    ensures { (symbols : ℕ → ℕ → List ℕ) → UsesSymbols used.now symbols → GivesTables result (λ class slot. flat_table (symbols class slot)) }
+fn flat_set(counts: &Counts) -> TableSet
+    requires { AreFew counts.now }
+    ensures { (symbols : ℕ → ℕ → List ℕ) → UsesSymbols counts.now symbols → GivesTables result (λ class slot. flat_table (symbols class slot)) }
 {
     set_of(
-        &flat(&used.dc[0]),
-        &flat(&used.dc[1]),
-        &flat(&used.ac[0]),
-        &flat(&used.ac[1]),
+        &flat(&counts.dc[0]),
+        &flat(&counts.dc[1]),
+        &flat(&counts.ac[0]),
+        &flat(&counts.ac[1]),
+    )
+}
+
+// The tables that are made for these counts.
+fn fitted_set(counts: &Counts) -> TableSet
+    ensures { (numbers : ℕ → ℕ → List ℕ) → HasCounts counts.now numbers → GivesTables result (λ class slot. fitted (numbers class slot)) }
+{
+    set_of(
+        &fitted(&counts.dc[0]),
+        &fitted(&counts.dc[1]),
+        &fitted(&counts.ac[0]),
+        &fitted(&counts.ac[1]),
     )
 }
 

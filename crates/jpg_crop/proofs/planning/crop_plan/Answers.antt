@@ -17,6 +17,7 @@ returns-clause-plan c = λ choice h.
             jfif = refl;
             copying = refl;
             script = c.copy.ensures;
+            huffman = refl;
             restart = refl;
           });
       cut = record { inside = inside; frame = c.cropped_frame.ensures; across = c.corner_across.ensures; down = c.corner_down.ensures };

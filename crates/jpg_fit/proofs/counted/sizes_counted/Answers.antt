@@ -1,13 +1,14 @@
-use Rattle.std.proofs.Common.{◌∙◌, arith}
-use Rattle.std.proofs.lemmas.List.{length-set}
-use Rattle.jpg_fit.proofs.Splits.{counted_more, counted_all}
+use Rattle.std.proofs.Common.{◌≡◌, length, arith, rules}
+use Rattle.jpg_fit.proofs.Splits.{none_counted, size_counted, few_so_far}
 use Rattle.jpg_fit.proofs.counted.sizes_counted.Goals as goal
 
-pub loop-done-preserved : goal.loop-done-preserved
-loop-done-preserved c = record {
-  same = counted_more c.args.sizes.now c.loop-done.counts c.loop-done.done c.count_of.result c.loop-done-test.true c.loop-done.invariant.size c.count_of.ensures c.loop-done.invariant.same;
-  size = length-set c.loop-done.counts _ _ ∙ c.loop-done.invariant.size;
-}
+pub loop-size-init : goal.loop-size-init
+loop-size-init c = none_counted c.args.sizes.now
 
-pub returns : goal.returns
-returns c = counted_all c.args.sizes.now c.loop-done.counts c.loop-done.done (omega (arith, c.loop-done-test.false, c.loop-done.auto.done-end)) c.loop-done.invariant.same
+pub count_size-requires : goal.count_size-requires
+count_size-requires c =
+    let l : length c.args.sizes.now ≡ 257 = search rules in
+    few_so_far c.args.sizes.now c.loop-size.counts c.loop-size.size-index l c.loop-size.invariant
+
+pub loop-size-preserved : goal.loop-size-preserved
+loop-size-preserved c = size_counted c.args.sizes.now c.loop-size.counts c.count_size.new.counts c.loop-size.size-index (omega (arith, c.loop-size-test.true)) c.loop-size.invariant c.count_size.ensures

@@ -6,13 +6,13 @@ use Rattle.jpg_huff.proofs.flat_codes.flat.Goals as goal
 pub returns-in-Ok : goal.returns-in-Ok
 returns-in-Ok c =
     let all = c.gather-count.new.symbols in
-    let symbols = symbols_in c.args.used.now in
+    let symbols = symbols_in c.args.counts.now in
     let n = kept_count all symbols c.gather-count.result c.gather-count.ensures.kept (omega (arith, c.gather-count.ensures.most, c.gather-count.array_long)) in
     made_flat symbols c.flat_counts.result _ c.gather-count.result c.in-Ok.table c.requires n c.flat_counts.ensures c.gather-count.ensures.kept c.in-Ok.ensures
 
 pub returns-in-Err : goal.returns-in-Err
 returns-in-Err c =
     let all = c.gather-count.new.symbols in
-    let symbols = symbols_in c.args.used.now in
+    let symbols = symbols_in c.args.counts.now in
     let n = kept_count all symbols c.gather-count.result c.gather-count.ensures.kept (omega (arith, c.gather-count.ensures.most, c.gather-count.array_long)) in
     absurd (never_bad symbols c.flat_counts.result _ c.gather-count.result c.in-Err.field-0 c.requires n c.flat_counts.ensures c.gather-count.ensures.kept c.in-Err.ensures)

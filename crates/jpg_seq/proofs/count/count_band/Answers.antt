@@ -17,8 +17,8 @@ loop-rest-init c =
     let block = c.args.block.now in
     let small : c.nonzero.result < 2 ^ 64 = search rules in
     record {
-      used = c.requires.used;
-      part = but_start c.args.used.now (band_marks c.args.slot (drop 1 block)) (left_marks c.args.slot (drop 1 block)) c.requires.used (left_all c.args.slot (drop 1 block));
+      counts = c.requires.counts;
+      part = but_start c.args.counts.now (band_marks c.args.slot (drop 1 block)) (left_marks c.args.slot (drop 1 block)) c.requires.counts (left_all c.args.slot (drop 1 block));
       marked = first_blank block c.nonzero.result c.long.ensures (marks_are block c.nonzero.result c.long.ensures small c.nonzero.ensures) small;
       some = omega arith;
       few = omega arith;
@@ -64,8 +64,8 @@ loop-rest-preserved c =
     let later = left_marks slot (drop (k + 1) block) in
     let piece = left_value slot z (slice_index_or block k (pos 0)) (drop next block) (drop (k + 1) block) n.2 ∙ ap (λ w. run_marks slot z w ++ later) (sym e) in
     record {
-      used = c.count_run.ensures.used;
-      part = but_then c.args.used.now c.loop-rest.used c.count_run.new.used (band_marks slot (drop 1 block)) (left_marks slot (drop next block)) (run_marks slot z v) later piece c.loop-rest.invariant.part c.count_run.ensures;
+      counts = c.count_run.ensures.counts;
+      part = but_then c.args.counts.now c.loop-rest.counts c.count_run.new.counts (band_marks slot (drop 1 block)) (left_marks slot (drop next block)) (run_marks slot z v) later piece c.loop-rest.invariant.part c.count_run.ensures;
       marked = n.3;
       some = omega arith;
       few = omega (arith, n.1);
@@ -77,8 +77,8 @@ returns-then-next-lt64 c =
     let slot = c.args.slot in
     let next = c.loop-rest.next in
     let none = no_elements block next c.loop-rest.rest c.long.ensures c.loop-rest.invariant.marked (omega (arith, c.loop-rest-test.false)) in
-    but_last c.args.used.now c.loop-rest.used c.mark_ac.new.self (band_marks slot (drop 1 block)) (left_marks slot (drop next block)) (((1, slot), 0) ∷ [])
-    (left_zeros slot (64 - next) (drop next block) none (omega (arith, c.if-next-lt64.true))) c.loop-rest.invariant.part c.mark_ac.ensures
+    but_last c.args.counts.now c.loop-rest.counts c.count_ac.new.self (band_marks slot (drop 1 block)) (left_marks slot (drop next block)) (((1, slot), 0) ∷ [])
+    (left_zeros slot (64 - next) (drop next block) none (omega (arith, c.if-next-lt64.true))) c.loop-rest.invariant.part c.count_ac.ensures
 
 pub returns-else-next-lt64 : goal.returns-else-next-lt64
 returns-else-next-lt64 c =
@@ -86,5 +86,5 @@ returns-else-next-lt64 c =
     let slot = c.args.slot in
     let next = c.loop-rest.next in
     let none = no_elements block next c.loop-rest.rest c.long.ensures c.loop-rest.invariant.marked (omega (arith, c.loop-rest-test.false)) in
-    but_last c.args.used.now c.loop-rest.used c.loop-rest.used (band_marks slot (drop 1 block)) (left_marks slot (drop next block)) []
-    (left_none slot (64 - next) (drop next block) none (omega (arith, c.if-next-lt64.false))) c.loop-rest.invariant.part (notes_nothing c.loop-rest.used c.loop-rest.invariant.used)
+    but_last c.args.counts.now c.loop-rest.counts c.loop-rest.counts (band_marks slot (drop 1 block)) (left_marks slot (drop next block)) []
+    (left_none slot (64 - next) (drop next block) none (omega (arith, c.if-next-lt64.false))) c.loop-rest.invariant.part (notes_nothing c.loop-rest.counts c.loop-rest.invariant.counts)

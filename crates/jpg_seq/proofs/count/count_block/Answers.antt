@@ -4,7 +4,7 @@ use mir.Syntax.{w16, w32}
 use mir.Val.{SFits, to_z, of_z}
 use Rattle.std.proofs.lemmas.Int.{to_z-of_z}
 use Rattle.jpg_spec.specs.Numbers.{category}
-use Rattle.jpg_huff.specs.Used.{Mark}
+use Rattle.jpg_huff.specs.Counts.{Mark}
 use Rattle.jpg_huff.proofs.Marks.{notes_then, notes_same}
 use Rattle.jpg_seq.specs.Counted.{band_marks, block_marks}
 use Rattle.jpg_seq.proofs.count.count_block.Goals as goal
@@ -24,5 +24,5 @@ returns c =
     let band = band_marks part.ac (drop 1 block) in
     let first : Mark = ((0, part.dc), c.category.result) in
     let q = ap (λ n. (let m : Mark = ((0, part.dc), n) in m ∷ band)) (c.category.ensures.category ∙ ap category e) in
-    notes_same c.args.used.now c.count_band.new.used (first ∷ band) (block_marks part c.args.prediction block) q
-    (notes_then c.args.used.now c.mark_dc.new.self c.count_band.new.used (first ∷ []) band c.mark_dc.ensures c.count_band.ensures)
+    notes_same c.args.counts.now c.count_band.new.counts (first ∷ band) (block_marks part c.args.prediction block) q
+    (notes_then c.args.counts.now c.count_dc.new.self c.count_band.new.counts (first ∷ []) band c.count_dc.ensures c.count_band.ensures)

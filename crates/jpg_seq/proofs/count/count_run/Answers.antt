@@ -3,7 +3,7 @@ use mir.Syntax.{w16, w32}
 use mir.Val.{SFits, to_z, of_z}
 use Rattle.std.proofs.lemmas.Int.{to_z-of_z}
 use Rattle.jpg_spec.specs.Numbers.{category}
-use Rattle.jpg_huff.specs.Used.{Mark}
+use Rattle.jpg_huff.specs.Counts.{Mark}
 use Rattle.jpg_huff.proofs.Marks.{but_start, but_then, but_last, notes_same}
 use Rattle.jpg_seq.specs.Counted.{run_marks}
 use Rattle.jpg_seq.proofs.Counted.{run_more, run_last}
@@ -12,7 +12,7 @@ use Rattle.jpg_seq.proofs.count.count_run.Goals as goal
 pub loop-left-init : goal.loop-left-init
 loop-left-init c =
     let all = run_marks c.args.slot c.args.run (to_z w16 (of_z w16 c.args.value)) in
-    record { used = c.requires.used; part = but_start c.args.used.now all all c.requires.used refl }
+    record { counts = c.requires.counts; part = but_start c.args.counts.now all all c.requires.counts refl }
 
 pub loop-left-preserved : goal.loop-left-preserved
 loop-left-preserved c =
@@ -20,9 +20,9 @@ loop-left-preserved c =
     let v = to_z w16 (of_z w16 c.args.value) in
     let left = c.loop-left.left in
     record {
-      used = c.mark_ac.ensures.used;
-      part = but_then c.args.used.now c.loop-left.used c.mark_ac.new.self (run_marks slot c.args.run v) (run_marks slot left v) (((1, slot), 0xf0) ∷ []) (run_marks slot (left - 16) v)
-          (run_more slot left v c.loop-left-test.true) c.loop-left.invariant.part c.mark_ac.ensures;
+      counts = c.count_ac.ensures.counts;
+      part = but_then c.args.counts.now c.loop-left.counts c.count_ac.new.self (run_marks slot c.args.run v) (run_marks slot left v) (((1, slot), 0xf0) ∷ []) (run_marks slot (left - 16) v)
+          (run_more slot left v c.loop-left-test.true) c.loop-left.invariant.part c.count_ac.ensures;
     }
 
 pub returns : goal.returns
@@ -36,5 +36,5 @@ returns c =
     let fw : SFits w32 c.from.result = search rules in
     let same : w ≡ v = to_z-of_z w32 c.from.result fw ∙ c.from.ensures in
     let e = run_last slot left v l ∙ ap (λ x. (let m : Mark = ((1, slot), 16 * left + category x) in m ∷ [])) (sym same) ∙ ap (λ n. (let m : Mark = ((1, slot), 16 * left + n) in m ∷ [])) (sym c.category.ensures.category) in
-    let h = but_last c.args.used.now c.loop-left.used c.mark_ac-2.new.self (run_marks slot c.args.run v) (run_marks slot left v) (((1, slot), 16 * left + c.category.result) ∷ []) e c.loop-left.invariant.part c.mark_ac-2.ensures in
-    notes_same c.args.used.now c.mark_ac-2.new.self _ _ (ap (run_marks slot c.args.run) (to_z-of_z w16 c.args.value f)) h
+    let h = but_last c.args.counts.now c.loop-left.counts c.count_ac-2.new.self (run_marks slot c.args.run v) (run_marks slot left v) (((1, slot), 16 * left + c.category.result) ∷ []) e c.loop-left.invariant.part c.count_ac-2.ensures in
+    notes_same c.args.counts.now c.count_ac-2.new.self _ _ (ap (run_marks slot c.args.run) (to_z-of_z w16 c.args.value f)) h

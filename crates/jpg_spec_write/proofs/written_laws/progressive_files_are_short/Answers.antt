@@ -8,10 +8,10 @@ use Rattle.jpg_spec_write.proofs.written_laws.progressive_files_are_short.Goals 
 
 pub returns-clause-short : goal.returns-clause-short
 returns-clause-short c = λ limits H bytes limited w.
-    subst (λ (l : List ℕ). length l < 2 ^ 39) (sym w.text) (progressive_short limits H w.script w.restart limited w.file.headed w.file.progressive w.file.passes w.small)
+    subst (λ (l : List ℕ). length l < 2 ^ 39) (sym w.text) (progressive_short w.huffman limits H w.script w.restart limited w.file.headed w.file.progressive w.file.passes w.small)
 
 pub returns-clause-means : goal.returns-clause-means
 returns-clause-means c = λ H bytes w.
-    let short = progressive_short standard_limits H w.script w.restart standard_are_limits w.file.headed w.file.progressive w.file.passes w.small in
+    let short = progressive_short w.huffman standard_limits H w.script w.restart standard_are_limits w.file.headed w.file.progressive w.file.passes w.small in
     subst (λ (l : List ℕ). Means standard_limits l H) (sym w.text)
-    (progressive_means standard_limits H w.script w.restart standard_are_limits w.file.headed w.file.progressive w.file.passes w.small (omega (arith, short)))
+    (progressive_means w.huffman standard_limits H w.script w.restart standard_are_limits w.file.headed w.file.progressive w.file.passes w.small (omega (arith, short)))

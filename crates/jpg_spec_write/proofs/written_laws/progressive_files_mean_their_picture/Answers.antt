@@ -6,5 +6,5 @@ use Rattle.jpg_spec_write.proofs.written_laws.progressive_files_mean_their_pictu
 pub returns : goal.returns
 returns c = λ limits H bytes w fits.
     subst (λ (l : List ℕ). Means limits l H) (sym w.text)
-    (progressive_means limits H w.script w.restart fits.limited w.file.headed w.file.progressive w.file.passes w.small
+    (progressive_means w.huffman limits H w.script w.restart fits.limited w.file.headed w.file.progressive w.file.passes w.small
     (subst (λ (l : List ℕ). length l ≤ limits.input) w.text fits.long))

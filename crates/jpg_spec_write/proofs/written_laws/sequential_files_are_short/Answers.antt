@@ -8,14 +8,14 @@ use Rattle.jpg_spec_write.proofs.written_laws.sequential_files_are_short.Goals a
 
 pub returns-clause-short : goal.returns-clause-short
 returns-clause-short c = λ limits H bytes limited w.
-    subst (λ (l : List ℕ). length l < 2 ^ 39) (sym w.text) (sequential_short limits H w.script w.restart limited w.file.headed w.file.sequential w.file.passes)
+    subst (λ (l : List ℕ). length l < 2 ^ 39) (sym w.text) (sequential_short w.huffman limits H w.script w.restart limited w.file.headed w.file.sequential w.file.passes)
 
 pub returns-clause-means : goal.returns-clause-means
 returns-clause-means c = λ H bytes is.
     let w = is.written in
-    let short = sequential_short standard_limits H w.script w.restart standard_are_limits w.file.headed w.file.sequential w.file.passes in
+    let short = sequential_short w.huffman standard_limits H w.script w.restart standard_are_limits w.file.headed w.file.sequential w.file.passes in
     subst (λ (l : List ℕ). Means standard_limits l H) (sym w.text)
-    (sequential_means standard_limits H w.script w.restart standard_are_limits w.file.headed w.file.sequential w.file.passes is.small (omega (arith, short)))
+    (sequential_means w.huffman standard_limits H w.script w.restart standard_are_limits w.file.headed w.file.sequential w.file.passes is.small (omega (arith, short)))
 
 pub returns-clause-own : goal.returns-clause-own
 returns-clause-own c = own_means

@@ -13,6 +13,7 @@ returns-in-Ok c = record {
     admitted = checked_none c.args.picture.now (choice_told c.args.choice.now) c.head_of-out.result c.script_due-script.result refl c.head_of-out.ensures c.script_due-script.ensures (sym c.in_default.ensures) c.in-Ok.ensures;
     head = c.head_of-out.ensures;
     script = c.script_due-script.ensures;
+    huffman = refl;
     restart = refl;
     counted = c.counted.ensures;
   };

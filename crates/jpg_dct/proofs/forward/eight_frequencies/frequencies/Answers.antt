@@ -1,4 +1,6 @@
+use Rattle.std.proofs.Common.{arith}
 use Rattle.jpg_dct.specs.Eights.{vector}
+use Rattle.jpg_dct.proofs.Eights.{more_eight}
 use Rattle.jpg_dct.proofs.EightFrequencies.{small_line, row_at, rows_small, number_at_is}
 use Rattle.jpg_dct.proofs.forward.eight_frequencies.frequencies.Goals as goal
 
@@ -6,7 +8,7 @@ pub lines-rows-requires : goal.lines-rows-requires
 lines-rows-requires c = λ u lu. small_line (vector c.levels-columns.result u) (c.levels-columns.ensures.all u lu)
 
 pub turned-across-requires : goal.turned-across-requires
-turned-across-requires c = c.lines-rows.ensures.all
+turned-across-requires c = λ u lu. more_eight (omega arith) (c.lines-rows.ensures.all u lu)
 
 pub lines-requires : goal.lines-requires
 lines-requires c =

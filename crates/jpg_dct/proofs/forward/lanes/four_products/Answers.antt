@@ -29,10 +29,10 @@ both-requires c = (seen_long w32 c.dots-first.result c.dots-first.ensures.long, 
 
 sums : (c : After-both) → AreLanes (products (vectors c) (factors c)) c.both.result
 sums c =
-    let ea : IsEight 16384 c.args.a = more_eight (omega arith) c.requires.lanes.0 in
-    let eb : IsEight 16384 c.args.b = more_eight (omega arith) c.requires.lanes.1 in
-    let ec : IsEight 16384 c.args.c = more_eight (omega arith) c.requires.lanes.2 in
-    let ed : IsEight 16384 c.args.d = more_eight (omega arith) c.requires.lanes.3 in
+    let ea : IsEight 32767 c.args.a = more_eight (omega arith) c.requires.lanes.0 in
+    let eb : IsEight 32767 c.args.b = more_eight (omega arith) c.requires.lanes.1 in
+    let ec : IsEight 32767 c.args.c = more_eight (omega arith) c.requires.lanes.2 in
+    let ed : IsEight 32767 c.args.d = more_eight (omega arith) c.requires.lanes.3 in
     let first = seen_dots c.args.a c.args.b c.dots-first.result c.args.k c.args.l ea eb c.ranges.k c.ranges.l c.dots-first.ensures.long c.dots-first.ensures.at in
     let second = seen_dots c.args.c c.args.d c.dots-second.result c.args.m c.args.n ec ed c.ranges.m c.ranges.n c.dots-second.ensures.long c.dots-second.ensures.at in
     four_are (vectors c) (factors c) c.both.result c.requires.lanes.0 c.requires.lanes.1 c.requires.lanes.2 c.requires.lanes.3

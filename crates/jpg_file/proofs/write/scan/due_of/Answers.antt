@@ -1,13 +1,14 @@
-use Rattle.std.proofs.Common.{◌≡◌, ◌≤◌, length, sym, ap, ◌∙◌, subst}
+use Rattle.std.proofs.Common.{◌≡◌, ◌≤◌, true, length, sym, ap, ◌∙◌, subst}
 use Rattle.std.specs.List.{All}
 use Rattle.jpg_spec.specs.Geometry.{is_progressive}
+use Rattle.jpg_spec.specs.Lists.{is_distinct}
 use Rattle.jpg_spec.specs.Segments.{ScanHead, head_components}
 use Rattle.jpg_spec_write.specs.FileText.{tables_needed}
 use Rattle.jpg_base.specs.Cursor.{AreIn}
 use Rattle.jpg_coefs.specs.MarkSinks.{HasSlots}
 use Rattle.jpg_prog_write.specs.Written.{IsProgScan}
 use Rattle.jpg_file.specs.Write.WriteScan.{head_for, scan_head}
-use Rattle.jpg_file.proofs.ScanHeads.{head_is_of, head_slots, in_file, in_view, prog_scan}
+use Rattle.jpg_file.proofs.ScanHeads.{head_is_of, head_names, head_slots, in_file, in_view, prog_scan}
 use Rattle.jpg_file.proofs.write.scan.due_of.Goals as goal
 
 pub interval_of-interval-requires : goal.interval_of-interval-requires
@@ -32,6 +33,14 @@ tables_of-tables-requires-clause-components g c =
     let f = g.V.BlockView.numbers c.args.view.now in
     let head : c.head_of-head.result ≡ head_for plan e = c.head_of-head.ensures ∙ ap (λ b. scan_head b plan.out.colour e) c.is_progressive-is_prog.ensures in
     subst (λ (h : ScanHead). AreIn f (head_components h)) (sym head) (in_view plan _ _ e c.requires)
+
+pub tables_of-tables-requires-clause-distinct : goal.tables_of-tables-requires-clause-distinct
+tables_of-tables-requires-clause-distinct g c =
+    let plan = c.args.plan.now in
+    let e = c.args.entry.now in
+    let can = c.requires in
+    let head : c.head_of-head.result ≡ head_for plan e = c.head_of-head.ensures ∙ ap (λ b. scan_head b plan.out.colour e) c.is_progressive-is_prog.ensures in
+    subst (λ (h : ScanHead). is_distinct (head_components h) ≡ true) (sym head) (ap is_distinct (head_names (is_progressive plan.out.frame.process) plan.out.colour e) ∙ can.distinct)
 
 pub tables_of-tables-requires-clause-slots : goal.tables_of-tables-requires-clause-slots
 tables_of-tables-requires-clause-slots g c =

@@ -1,0 +1,141 @@
+//! Quantisers prepared for multiplication, and blocks of coefficients as samples by them (T.81, A.3.3, A.3.4).
+ghost use Rattle.std.specs.Prelude.{◌≡◌, ◌*◌, ◌<◌, ◌≤◌, ◌*ℤ◌, ℕ, pos, nat_abs, All, IsTrue, length, slice_index};
+ghost use Rattle.std.specs.Int.{int_wrap, w16};
+ghost use Rattle.jpg_spec_image.specs.Dct.{number_at, inverse_dct};
+ghost use Rattle.jpg_dct.specs.Multipliers.{AreMultipliers, Multiplies, AreLimited, scaled};
+
+use crate::inverse::short::idct_short;
+use crate::inverse::{dequantise, idct};
+use std::marker::Model;
+
+/// 64 quantisers in natural order, prepared for multiplication.
+#[derive(Drop)]
+pub struct Multipliers {
+    quants: [u16; 64],
+    factors: [i16; 64],
+    limits: [u16; 64],
+}
+
+impl Model for Multipliers {
+    ghost use Rattle.std.specs.Prelude.{List, ℕ};
+    ghost use Rattle.jpg_dct.specs.Multipliers.{AreMultipliers};
+
+    ghost Value = { List ℕ };
+
+    ghost view = { λ m. m.quants };
+
+    ghost invariant = { λ m. AreMultipliers m.quants m.factors m.limits };
+}
+
+// A quantiser as a factor of 16 bits, and the greatest coefficient whose product is at most 1090.
+struct Multiplier {
+    factor: i16,
+    limit: u16,
+}
+
+fn multiplier_of(q: u16) -> Multiplier
+    ensures { Multiplies q result.factor result.limit }
+{
+    if q == 0 {
+        Multiplier {
+            factor: 0,
+            limit: 1024,
+        }
+    } else if q <= 1090 {
+        Multiplier {
+            factor: q as i16,
+            limit: 1090 / q,
+        }
+    } else {
+        Multiplier {
+            factor: 0,
+            limit: 0,
+        }
+    }
+}
+
+// Whether each coefficient is at most its limit.
+#[inline(always)]
+fn are_limited(given: &[i16; 64], limits: &[u16; 64]) -> bool
+    ensures { IsTrue result → AreLimited given.now limits.now }
+{
+    let mut large = false;
+    for n in 0..64 {
+        large = large | (limits[n] < given[n].unsigned_abs());
+    }
+    !large
+}
+
+#[inline(always)]
+fn times(value: i16, factor: i16) -> i16
+    ensures { result ≡ int_wrap w16 (value *ℤ factor) }
+{
+    value.wrapping_mul(factor)
+}
+
+// The products in 16 bits.
+#[inline(always)]
+fn products(given: &[i16; 64], factors: &[i16; 64]) -> [i16; 64]
+    ensures long { length result ≡ 64 }
+    ensures at { (n : ℕ) → n < 64 → number_at result n ≡ int_wrap w16 (number_at given.now n *ℤ number_at factors.now n) }
+{
+    let mut values = [0; 64];
+    for n in 0..64 {
+        values[n] = times(given[n], factors[n]);
+    }
+    values
+}
+
+// The products in 32 bits.
+fn long_products(given: &[i16; 64], quants: &[u16; 64]) -> [i32; 64]
+    requires { All (λ x. nat_abs x ≤ 1024) given.now }
+    ensures { result ≡ scaled quants.now given.now }
+{
+    let mut values = [0; 64];
+    for n in 0..64 {
+        values[n] = dequantise(given[n], quants[n]);
+    }
+    values
+}
+
+// It remains a call: it is rare.
+#[inline(never)]
+fn large_block(given: &[i16; 64], quants: &[u16; 64]) -> [u8; 64]
+    requires { All (λ x. nat_abs x ≤ 1024) given.now }
+    ensures { result ≡ inverse_dct (scaled quants.now given.now) }
+{
+    idct(&long_products(given, quants))
+}
+
+impl Multipliers {
+    /// The quantisers of a table in natural order.
+    pub fn new(quants: &[u16; 64]) -> Multipliers
+        ensures { result ≡ quants.now }
+    {
+        let mut factors = [0; 64];
+        let mut limits = [0; 64];
+        for n in 0..64 {
+            let Multiplier { factor, limit } = multiplier_of(quants[n]);
+            factors[n] = factor;
+            limits[n] = limit;
+        }
+        Multipliers {
+            quants: *quants,
+            factors,
+            limits,
+        }
+    }
+
+    /// The 64 samples of quantised coefficients, both in natural order.
+    #[inline(always)]
+    pub fn block(&self, given: &[i16; 64]) -> [u8; 64]
+        requires { All (λ x. nat_abs x ≤ 1024) given.now }
+        ensures { result ≡ inverse_dct (scaled self.now given.now) }
+    {
+        if are_limited(given, &self.limits) {
+            idct_short(&products(given, &self.factors))
+        } else {
+            large_block(given, &self.quants)
+        }
+    }
+}
