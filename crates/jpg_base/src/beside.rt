@@ -13,6 +13,9 @@ const TRIES: u32 = 1000;
 // The mode of a new file, less the bits of the process's mask.
 const NEW_MODE: u32 = 0o666;
 
+// The mode of a new file that replaces another, until it has that one's owner, group and mode.
+const OWN_MODE: u32 = 0o600;
+
 // What has a name: nothing, a file that a new one may replace, or anything else.
 enum There {
     Nothing,
@@ -129,7 +132,7 @@ pub fn create_beside<R: Files>(files: &R, path: &str) -> Option<(R::File, Beside
     match found_at(files, path) {
         There::Nothing => new_file(files, path, NEW_MODE),
         There::Plain(old) => {
-            let (file, beside) = new_file(files, path, old.mode() & 0o777)?;
+            let (file, beside) = new_file(files, path, OWN_MODE)?;
             if make_like(files, &file, &beside, &old) {
                 Some((file, beside))
             } else {

@@ -8,13 +8,13 @@ use Rattle.jpg_spec.specs.Scan.{part_of}
 use Rattle.jpg_spec.specs.declared.frame.ScanPart.{ScanPart}
 use Rattle.jpg_spec_write.specs.ScanText.{UnitDue, last_dc}
 use Rattle.jpg_huff.specs.Counts.{Mark, AreCounts, Notes}
-use Rattle.jpg_huff.specs.declared.counts.Counts.{Counts}
+use Rattle.jpg_huff.specs.declared.counts.SymbolCounts.{SymbolCounts}
 use Rattle.jpg_huff.proofs.Marks.{but_start, but_then, but_same, but_last}
 use Rattle.jpg_coefs.specs.Sinks.{no_last, At, TakesUnit, Ends, Begins}
 use Rattle.jpg_coefs.specs.MarkSinks.{HasSlots, MarkSink, mark_kind}
 use Rattle.jpg_coefs.proofs.Places.{found_part, part_here, part_later}
 
-pub begins : {S D : Type 0} (b : MarkSink S) (now : At S Counts D) (all : List (List UnitDue)) → b.later now.sink now.sink → AreCounts now.out → All (λ due. All (b.fits now.sink) due) all
+pub begins : {S D : Type 0} (b : MarkSink S) (now : At S SymbolCounts D) (all : List (List UnitDue)) → b.later now.sink now.sink → AreCounts now.out → All (λ due. All (b.fits now.sink) due) all
     → ((due : List UnitDue) → All (b.fits now.sink) due → b.rest now.sink no_last due ≡ b.marks now.sink due) → Begins (mark_kind b) all now
 begins b now all same are fits start first later e =
     let P : List UnitDue → Type 0 = λ due. All (b.fits now.sink) due in
@@ -27,7 +27,7 @@ begins b now all same are fits start first later e =
       counting = but_start now.out (flat_map marks all) _ are (ap (λ m. m ++ flat_map marks later) (start first (All-head P first later each)) ∙ ap (flat_map marks) (sym e));
     }
 
-pub takes_unit : {S D : Type 0} (b : MarkSink S) (u : UnitDue) (last : ℤ) (old new : At S Counts D)
+pub takes_unit : {S D : Type 0} (b : MarkSink S) (u : UnitDue) (last : ℤ) (old new : At S SymbolCounts D)
     → ((from : S) (lasts : ℕ → ℤ) (rest : List UnitDue) → b.later from old.sink → b.fits from u → lasts u.0 ≡ last
     → b.later from new.sink × (piece : List Mark) × (b.rest old.sink lasts (u ∷ rest) ≡ piece ++ b.rest new.sink (last_dc lasts u.0 u.1) rest) × Notes old.out piece new.out)
     → TakesUnit (mark_kind b) u last old (Ok tt) new
@@ -41,7 +41,7 @@ takes_unit b u last old new notes d e w =
       counting = but_then d.from.out old.out new.out _ _ h.1 _ (ap (λ m. m ++ more) h.2 ∙ append_assoc h.1 (b.rest new.sink (last_dc d.last u.0 u.1) d.rest) more) w.counting h.3;
     }
 
-pub ends : {S D : Type 0} (b : MarkSink S) (marker : Option ℕ) (old new : At S Counts D) → ((last : ℕ → ℤ) → Notes old.out (b.rest old.sink last []) new.out)
+pub ends : {S D : Type 0} (b : MarkSink S) (marker : Option ℕ) (old new : At S SymbolCounts D) → ((last : ℕ → ℤ) → Notes old.out (b.rest old.sink last []) new.out)
     → ((from : S) (due : List UnitDue) → b.later from old.sink → All (b.fits from) due → b.later from new.sink × (b.rest new.sink no_last due ≡ b.marks from due)) → Ends (mark_kind b) marker old (Ok tt) new
 ends b (Some n) old new notes start = λ d next t w.
     let P : List UnitDue → Type 0 = λ due. All (b.fits d.from.sink) due in

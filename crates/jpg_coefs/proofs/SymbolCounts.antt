@@ -16,7 +16,7 @@ use Rattle.jpg_spec.proofs.Common.{lt_yes}
 use Rattle.jpg_spec_write.specs.ScanText.{Owned, units_due, table_place, interval_elements, scan_elements, symbols_used, symbol_counts}
 use Rattle.jpg_huff.specs.Flat.{symbols_in}
 use Rattle.jpg_huff.specs.Counts.{Rows, row, count_of, capped, AreRows, no_rows, no_counts, Mark, is_mark, CountsToo, Notes}
-use Rattle.jpg_huff.specs.declared.counts.Counts.{Counts}
+use Rattle.jpg_huff.specs.declared.counts.SymbolCounts.{SymbolCounts}
 use Rattle.jpg_huff.proofs.Marks.{no_count, few_symbols}
 use Rattle.jpg_coefs.specs.Sinks.{no_last}
 use Rattle.jpg_coefs.specs.MarkSinks.{CountsClass, owned_marks, interval_marks, scan_marks}
@@ -145,7 +145,7 @@ counted_class f head interval blocks class rows are marked = record {
         }
 
 -- the counts of a scan, of both classes
-pub counted : (f : Frame) (head : ScanHead) (interval : ℕ) (blocks : Blocks) (counts : Counts) → Notes no_counts (scan_marks f head interval blocks) counts
+pub counted : (f : Frame) (head : ScanHead) (interval : ℕ) (blocks : Blocks) (counts : SymbolCounts) → Notes no_counts (scan_marks f head interval blocks) counts
     → CountsClass f head interval blocks 0 counts.dc × CountsClass f head interval blocks 1 counts.ac
 counted f head interval blocks counts notes = (
   counted_class f head interval blocks 0 counts.dc notes.counts.dc notes.dc,

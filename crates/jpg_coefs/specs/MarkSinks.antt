@@ -8,7 +8,7 @@ use Rattle.jpg_spec.specs.declared.frame.ScanPart.{ScanPart}
 use Rattle.jpg_spec_write.specs.ScanText.{UnitDue, Owned, table_place, interval_elements, scan_elements, symbols_used, symbol_counts}
 use Rattle.jpg_huff.specs.Flat.{symbols_in}
 use Rattle.jpg_huff.specs.Counts.{Rows, row, capped, Mark, Notes, NotesBut}
-use Rattle.jpg_huff.specs.declared.counts.Counts.{Counts}
+use Rattle.jpg_huff.specs.declared.counts.SymbolCounts.{SymbolCounts}
 use Rattle.jpg_coefs.specs.Sinks.{intervals_due, At, Due, SinkKind}
 
 -- the slots of a part
@@ -41,14 +41,14 @@ pub record MarkSink (S : Type 0) : Type 1 where
   pub rest : S → (ℕ → ℤ) → List UnitDue → List Mark
   pub later : S → S → Type 0
 
-pub record CountsDue {S D : Type 0} (b : MarkSink S) (d : Due S Counts D) (now : At S Counts D) : Type 0 where
+pub record CountsDue {S D : Type 0} (b : MarkSink S) (d : Due S SymbolCounts D) (now : At S SymbolCounts D) : Type 0 where
   pub sink : b.later d.from.sink now.sink
   pub rest_fits : All (b.fits d.from.sink) d.rest
   pub later_fits : All (λ due. All (b.fits d.from.sink) due) d.later
   pub counting : NotesBut d.from.out (flat_map (b.marks d.from.sink) d.all) (b.rest now.sink d.last d.rest ++ flat_map (b.marks d.from.sink) d.later) now.out
 
 -- counting has no faults
-abbrev pub mark_kind : {S D : Type 0} → MarkSink S → SinkKind S Counts D
+abbrev pub mark_kind : {S D : Type 0} → MarkSink S → SinkKind S SymbolCounts D
 mark_kind b = record {
   due = λ d now. CountsDue b d now;
   ended = λ from all result out desk. (result ≡ Ok tt) × Notes from.out (flat_map (b.marks from.sink) all) out;

@@ -9,7 +9,7 @@ use Rattle.jpg_spec.specs.Lists.{below}
 use Rattle.jpg_spec.proofs.Common.{length_below, not_same, same_itself, and_none}
 use Rattle.jpg_huff.specs.Flat.{symbols_in}
 use Rattle.jpg_huff.specs.Counts.{Rows, row, count_of, capped, AreRows, AreCounts, no_rows, Mark, is_mark, CountsToo, Notes, NotesBut}
-use Rattle.jpg_huff.specs.declared.counts.Counts.{Counts}
+use Rattle.jpg_huff.specs.declared.counts.SymbolCounts.{SymbolCounts}
 
 -- CAPPED COUNTS
 
@@ -25,7 +25,7 @@ capped_more n k m = omega arith
 nothing_more : (class : ℕ) (rows : Rows) → AreRows rows → CountsToo class rows [] rows
 nothing_more class rows are = λ slot symbol s few. capped_same (count_of rows slot symbol) (are.within slot symbol s few)
 
-pub notes_nothing : (counts : Counts) → AreCounts counts → Notes counts [] counts
+pub notes_nothing : (counts : SymbolCounts) → AreCounts counts → Notes counts [] counts
 notes_nothing counts are = record { counts = are; dc = nothing_more 0 counts.dc are.dc; ac = nothing_more 1 counts.ac are.ac }
 
 too_then : (class : ℕ) (old mid new : Rows) (xs ys : List Mark) → CountsToo class old xs mid → CountsToo class mid ys new → CountsToo class old (xs ++ ys) new
@@ -34,26 +34,26 @@ too_then class old mid new xs ys h k = λ slot symbol s few.
     k slot symbol s few ∙ ap (λ n. capped (n + count_by t ys)) (h slot symbol s few) ∙ capped_more (count_of old slot symbol) (count_by t xs) (count_by t ys)
     ∙ ap (λ n. capped (count_of old slot symbol + n)) (sym (sum_by-append (λ m. cond (t m) 1 0) xs ys))
 
-pub notes_then : (old mid new : Counts) (xs ys : List Mark) → Notes old xs mid → Notes mid ys new → Notes old (xs ++ ys) new
+pub notes_then : (old mid new : SymbolCounts) (xs ys : List Mark) → Notes old xs mid → Notes mid ys new → Notes old (xs ++ ys) new
 notes_then old mid new xs ys h k = record { counts = k.counts; dc = too_then 0 old.dc mid.dc new.dc xs ys h.dc k.dc; ac = too_then 1 old.ac mid.ac new.ac xs ys h.ac k.ac }
 
-pub notes_same : (old new : Counts) (xs ys : List Mark) → xs ≡ ys → Notes old xs new → Notes old ys new
+pub notes_same : (old new : SymbolCounts) (xs ys : List Mark) → xs ≡ ys → Notes old xs new → Notes old ys new
 notes_same old new xs ys e h = subst (λ x. Notes old x new) e h
 
-pub but_start : (counts : Counts) (all rest : List Mark) → AreCounts counts → rest ≡ all → NotesBut counts all rest counts
+pub but_start : (counts : SymbolCounts) (all rest : List Mark) → AreCounts counts → rest ≡ all → NotesBut counts all rest counts
 but_start counts all rest are e = record { front = []; joined = e; done = notes_nothing counts are }
 
-pub but_then : (old mid new : Counts) (all rest piece left : List Mark) → rest ≡ piece ++ left → NotesBut old all rest mid → Notes mid piece new → NotesBut old all left new
+pub but_then : (old mid new : SymbolCounts) (all rest piece left : List Mark) → rest ≡ piece ++ left → NotesBut old all rest mid → Notes mid piece new → NotesBut old all left new
 but_then old mid new all rest piece left e h k = record {
   front = h.front ++ piece;
   joined = append_assoc h.front piece left ∙ ap (λ x. h.front ++ x) (sym e) ∙ h.joined;
   done = notes_then old mid new h.front piece h.done k;
 }
 
-pub but_same : (old new : Counts) (all rest left : List Mark) → rest ≡ left → NotesBut old all rest new → NotesBut old all left new
+pub but_same : (old new : SymbolCounts) (all rest left : List Mark) → rest ≡ left → NotesBut old all rest new → NotesBut old all left new
 but_same old new all rest left e h = subst (λ x. NotesBut old all x new) e h
 
-pub but_last : (old mid new : Counts) (all rest piece : List Mark) → rest ≡ piece → NotesBut old all rest mid → Notes mid piece new → Notes old all new
+pub but_last : (old mid new : SymbolCounts) (all rest piece : List Mark) → rest ≡ piece → NotesBut old all rest mid → Notes mid piece new → Notes old all new
 but_last old mid new all rest piece e h k = notes_same old new (h.front ++ piece) all (ap (λ x. h.front ++ x) (sym e) ∙ h.joined) (notes_then old mid new h.front piece h.done k)
 
 -- ROWS

@@ -4,7 +4,7 @@ ghost use Rattle.jpg_huff.specs.Counts.{AreRows, AreCounts, Notes, capped, count
 
 /// By slot 0 or 1, how often each symbol of DC tables and of AC tables is sent, at most 2^32 - 1.
 #[derive(Clone, Copy, Debug, PartialEq, Eq)]
-pub struct Counts {
+pub struct SymbolCounts {
     pub dc: [[u32; 256]; 2],
     pub ac: [[u32; 256]; 2],
 }
@@ -22,13 +22,13 @@ fn count(rows: &mut [[u32; 256]; 2], slot: u8, symbol: u8)
     rows[slot as usize][symbol as usize] = count.saturating_add(1);
 }
 
-impl Counts {
+impl SymbolCounts {
     /// No symbols.
-    pub fn none() -> Counts
+    pub fn none() -> SymbolCounts
         ensures value { result ≡ no_counts }
         ensures counts { AreCounts result }
     {
-        Counts {
+        SymbolCounts {
             dc: [[0; 256]; 2],
             ac: [[0; 256]; 2],
         }

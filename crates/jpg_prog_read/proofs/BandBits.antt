@@ -130,6 +130,11 @@ module _ (b : BandScan) (ac : List Code) (left : ℕ) where
       let t = gone_then More x y in
       record { bits = t.bits; split = t.split; more = more; goes_on = t.stays; through = t.comes }
 
+  -- bits after which the unit continues, and further ones
+  pub both_taken : {old : InWork} {store : List Bool} {mid : InWork} {here : List Bool} (step : BandStep) {new : InWork} {rest : List Bool}
+      → TakesBand b ac left old store More mid here → 1 ≤ length here → TakesBand b ac left mid here step new rest → TakesBand b ac left old store step new rest
+  both_taken step x more y = gone_then step (record { bits = x.bits; split = x.split; more = more; goes_on = x.stays; through = x.comes }) y
+
   -- SOME BITS AND THEIR ANSWER
 
   comes_to : (old : InWork) (bits : List Bool) (step : BandStep) (new : InWork) → EndsAt b ac left old bits step new → StaysOpen b step new

@@ -12,6 +12,7 @@ pub mod DcRoom
 pub mod DcUnits
 pub mod Due
 pub mod Known
+pub mod Extended
 pub mod KnownBits
 pub mod Leaf
 pub mod Marked

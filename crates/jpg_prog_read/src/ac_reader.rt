@@ -147,6 +147,7 @@ impl AcReader {
 
 impl AcReader {
     // Takes bits of the current unit from the start of a store.
+    #[inline(always)]
     fn unit_bits(&mut self, store: &mut BitStore) -> BandStep
         requires unit { (i : Interval) × (bits : List Bool) × (now : Picture) × IsInUnit self.old i bits now }
         requires some { 1 ≤ length store.old }
@@ -154,15 +155,11 @@ impl AcReader {
         ensures takes { TakesBand self.old.scan self.old.codes self.old.left self.old.unit store.old result self.new.unit store.new }
         ensures all { result ≡ BandStep.More → store.new ≡ [] }
     {
-        let mut here = store.copy();
-        let step = self
-            .unit
-            .take(&self.scan, &self.codes, self.left, &mut here);
-        *store = here;
-        step
+        self.unit.take(&self.scan, &self.codes, self.left, store)
     }
 
     // Takes bits of a store, as `bits` does, where the first unit was begun.
+    #[inline(always)]
     fn read(&mut self, store: &mut BitStore, coefs: &mut Coefs, most: u64) -> Taken
         requires begun { self.old.fresh ≡ false }
         requires open { (i : Interval) × (bits : List Bool) × AcStands self.old i bits coefs.old }
@@ -206,7 +203,10 @@ impl ScanMachine for AcReader {
             return Taken::More;
         }
         self.settle(coefs);
-        self.read(store, coefs, most)
+        let mut here = store.copy();
+        let taken = self.read(&mut here, coefs, most);
+        *store = here;
+        taken
     }
 
     fn restart(&mut self, units: u64) {

@@ -105,17 +105,20 @@ impl BandReader {
         step
     }
 
-    // Puts the next value of the band.
+    // Puts the next value of the band. The block is written last: what goes before it can stay in registers.
+    #[inline(always)]
     fn put(&mut self, value: i16)
         requires { 1 ≤ length self.old.rest }
         ensures { self.new ≡ record (self.old) { done = self.old.done ++ value ∷ []; rest = drop 1 self.old.rest } }
     {
-        self.values.set(self.at, value);
-        self.at += 1;
+        let at = self.at;
+        self.at = at + 1;
         self.olds = self.olds >> 1;
+        self.values.set(at, value);
     }
 
     // How many zeros are left.
+    #[inline(always)]
     fn zeros_left(&self) -> u8
         ensures { result ≡ zeros_in self.now.rest }
     {
@@ -125,6 +128,7 @@ impl BandReader {
     }
 
     // How many zeros are next.
+    #[inline(always)]
     fn zeros_next(&self) -> u8
         ensures next { ZerosComeNext result self.now.rest }
         ensures short { result ≤ 63 }
@@ -135,6 +139,7 @@ impl BandReader {
     }
 
     // Skips zeros.
+    #[inline(always)]
     fn pass_zeros(&mut self, count: u8)
         requires some { count ≤ length self.old.rest }
         requires next { take count self.old.rest ≡ zeros count }
@@ -148,6 +153,7 @@ impl BandReader {
     }
 
     // Whether values are left.
+    #[inline(always)]
     fn is_left(&self) -> bool
         ensures left { result ≡ true → 1 ≤ length self.now.rest }
         ensures none { result ≡ false → self.now.rest ≡ [] }
@@ -155,18 +161,21 @@ impl BandReader {
         self.at < self.end
     }
 
+    #[inline(always)]
     fn stage(&self) -> Stage
         ensures { result ≡ self.now.stage }
     {
         self.stage
     }
 
+    #[inline(always)]
     fn run_left(&self) -> u8
         ensures { result ≡ self.now.run }
     {
         self.run
     }
 
+    #[inline(always)]
     fn due(&self) -> i16
         ensures { result ≡ self.now.due }
     {
@@ -174,6 +183,7 @@ impl BandReader {
     }
 
     // Begins a number of this category.
+    #[inline(always)]
     fn begin(&mut self, stage: Stage, run: u8, size: u8)
         requires { size ≤ 15 }
         ensures { self.new ≡ record (self.old) { stage = stage; run = run; size = size; extra = [] } }
@@ -213,6 +223,7 @@ impl BandReader {
     }
 
     // Begins the run before a value.
+    #[inline(always)]
     fn begin_value(&mut self, value: i16)
         ensures { self.new ≡ record (self.old) { stage = Stage.Value; due = value } }
     {
@@ -236,6 +247,7 @@ impl BandReader {
         self.bands = bands;
     }
 
+    #[inline(always)]
     fn end_element(&mut self)
         ensures { self.new ≡ record (self.old) { stage = Stage.Code } }
     {
@@ -257,6 +269,7 @@ impl BandReader {
     }
 
     // Whether values are left.
+    #[inline(always)]
     fn covered(&self) -> BandStep
         ensures { AfterValue result self.now }
     {
@@ -268,6 +281,7 @@ impl BandReader {
     }
 
     // Skips the zeros that are next, as many as the run has.
+    #[inline(always)]
     fn skip(&mut self) -> Skipped
         requires passing { IsPassing self.old.stage self.old }
         ensures at { IsSkipped result self.new }
@@ -289,6 +303,7 @@ impl BandReader {
     }
 
     // Puts the value after the run at its place.
+    #[inline(always)]
     fn place(&mut self, scan: &BandScan) -> BandStep
         requires sane { IsSaneBand scan.now }
         requires zero { self.old.rest ≡ pos 0 ∷ drop 1 self.old.rest }
@@ -301,8 +316,8 @@ impl BandReader {
         match scaled_within(self.due(), scan.scale, scan.most_magnitude) {
             Scaled::Beyond => BandStep::Fault(UnitFault::CoefRange),
             Scaled::Within(value) => {
-                self.put(value);
                 self.end_element();
+                self.put(value);
                 self.covered()
             }
         }
@@ -337,6 +352,7 @@ impl BandReader {
     }
 
     // Goes on to the next value that needs a correction, or to the end of the element.
+    #[inline(always)]
     fn advance(&mut self, scan: &BandScan) -> BandStep
         requires sane { IsSaneBand scan.now }
         requires moving { IsMoving scan.now self.old }
@@ -380,6 +396,7 @@ impl BandReader {
     }
 
     // Goes on after a code.
+    #[inline(always)]
     fn symbol(&mut self, scan: &BandScan, symbol: u8) -> BandStep
         requires sane { IsSaneBand scan.now }
         requires open { IsOpenBand scan.now self.old }
@@ -429,6 +446,7 @@ impl BandReader {
     }
 
     // Goes on after the bits of a value's number.
+    #[inline(always)]
     fn number(&mut self, scan: &BandScan) -> BandStep
         requires sane { IsSaneBand scan.now }
         requires open { (1 ≤ length self.old.rest) × AreRefinable scan.now self.old.rest }
@@ -485,6 +503,7 @@ impl BandReader {
     }
 
     // Takes the correction of an old value.
+    #[inline(always)]
     fn correction_bit(&mut self, scan: &BandScan, bit: bool) -> BandStep
         requires sane { IsSaneBand scan.now }
         requires open { IsOpenBand scan.now self.old }
@@ -518,6 +537,8 @@ impl BandReader {
     }
 
     // Takes one bit from the start of a store.
+    #[cold]
+    #[inline(never)]
     fn take_bit(
         &mut self,
         scan: &BandScan,
@@ -535,7 +556,28 @@ impl BandReader {
         self.bit(scan, codes, left, bit)
     }
 
+    // Takes one bit from the start of a store, which goes there and back as a copy, so that it can stay in registers.
+    #[inline(always)]
+    fn take_one(
+        &mut self,
+        scan: &BandScan,
+        codes: &Codes,
+        left: u64,
+        store: &mut BitStore,
+    ) -> BandStep
+        requires sane { IsSaneBand scan.now }
+        requires open { IsOpenBand scan.now self.old }
+        requires some { 1 ≤ length store.old }
+        ensures { TakesBand scan.now codes.now left self.old store.old result self.new store.new }
+    {
+        let mut here = store.copy();
+        let step = self.take_bit(scan, codes, left, &mut here);
+        *store = here;
+        step
+    }
+
     // Takes a complete code if the bits begin with one and none is begun, or one bit.
+    #[inline(always)]
     fn take_code(
         &mut self,
         scan: &BandScan,
@@ -550,19 +592,20 @@ impl BandReader {
         ensures { TakesBand scan.now codes.now left self.old store.old result self.new store.new }
     {
         if self.begun {
-            return self.take_bit(scan, codes, left, store);
+            return self.take_one(scan, codes, left, store);
         }
         match codes.spot(store) {
             Spotted::Symbol { length, symbol } => {
                 store.skip(length);
                 self.symbol(scan, symbol)
             }
-            Spotted::Part => self.take_bit(scan, codes, left, store),
-            Spotted::NoCode { .. } => self.take_bit(scan, codes, left, store),
+            Spotted::Part => self.take_one(scan, codes, left, store),
+            Spotted::NoCode { .. } => self.take_one(scan, codes, left, store),
         }
     }
 
     // Takes all bits of a number if they are there and none was taken, or one bit.
+    #[inline(always)]
     fn take_number(
         &mut self,
         scan: &BandScan,
@@ -582,10 +625,56 @@ impl BandReader {
             store.skip(size);
             return self.number(scan);
         }
-        self.take_bit(scan, codes, left, store)
+        self.take_one(scan, codes, left, store)
+    }
+
+    // Takes a complete element, as far as its bits are there, or one bit.
+    #[inline(always)]
+    fn take_element(
+        &mut self,
+        scan: &BandScan,
+        codes: &Codes,
+        left: u64,
+        store: &mut BitStore,
+    ) -> BandStep
+        requires sane { IsSaneBand scan.now }
+        requires open { IsOpenBand scan.now self.old }
+        requires stage { self.old.stage ≡ Stage.Code }
+        requires some { 1 ≤ length store.old }
+        ensures { TakesBand scan.now codes.now left self.old store.old result self.new store.new }
+    {
+        match self.take_code(scan, codes, left, store) {
+            BandStep::More => {
+                if store.len() == 0 {
+                    return BandStep::More;
+                }
+                match self.stage() {
+                    Stage::Number => self.take_number(scan, codes, left, store),
+                    _ => BandStep::More,
+                }
+            }
+            BandStep::Done => BandStep::Done,
+            BandStep::Fault(fault) => BandStep::Fault(fault),
+        }
+    }
+
+    // Takes the correction of an old value from the start of a store.
+    #[inline(always)]
+    fn take_correction(&mut self, scan: &BandScan, store: &mut BitStore) -> BandStep
+        requires sane { IsSaneBand scan.now }
+        requires open { IsOpenBand scan.now self.old }
+        requires passing { IsPassing self.old.stage self.old }
+        requires old { is_zero (slice_index_or self.old.rest 0 (pos 0)) ≡ false }
+        requires some { 1 ≤ length store.old }
+        ensures { (ac : List Code) (left : ℕ) → TakesBand scan.now ac left self.old store.old result self.new store.new }
+    {
+        let bit = store.bit(0);
+        store.skip(1);
+        self.correction_bit(scan, bit)
     }
 
     // Takes some bits from the start of a store.
+    #[inline(always)]
     fn take_some(
         &mut self,
         scan: &BandScan,
@@ -599,17 +688,18 @@ impl BandReader {
         ensures { TakesBand scan.now codes.now left self.old store.old result self.new store.new }
     {
         match self.stage() {
-            Stage::Code => self.take_code(scan, codes, left, store),
+            Stage::Code => self.take_element(scan, codes, left, store),
             Stage::Number => self.take_number(scan, codes, left, store),
-            Stage::Count => self.take_bit(scan, codes, left, store),
-            Stage::Value => self.take_bit(scan, codes, left, store),
-            Stage::Long => self.take_bit(scan, codes, left, store),
-            Stage::Ends => self.take_bit(scan, codes, left, store),
+            Stage::Count => self.take_one(scan, codes, left, store),
+            Stage::Value => self.take_correction(scan, store),
+            Stage::Long => self.take_correction(scan, store),
+            Stage::Ends => self.take_correction(scan, store),
         }
     }
 
     /// Takes bits from the start of a store, up to the one that completes the unit or reveals a fault, or all of them.
     /// `left` is how many units are left, including this one.
+    #[inline(always)]
     pub fn take(
         &mut self,
         scan: &BandScan,

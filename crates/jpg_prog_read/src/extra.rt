@@ -1,17 +1,40 @@
 //! The extra bits of a number, collected bit by bit (T.81, F.2.2.1, G.1.2.2).
-ghost use Rattle.std.specs.Prelude.{◌≡◌, ◌<◌, ◌≤◌, ◌+◌, ◌^◌, true, [], ◌∷◌, ◌++◌, length};
+ghost use Rattle.std.specs.Prelude.{◌≡◌, ◌<◌, ◌≤◌, ◌+◌, ◌-◌, ◌*◌, ◌^◌, true, [], ◌∷◌, ◌++◌, length, pos, ◌-ℤ◌};
 ghost use Rattle.jpg_spec.specs.Bits.{bits_of};
 ghost use Rattle.jpg_spec.specs.Lists.{is_empty};
 ghost use Rattle.jpg_spec.specs.Numbers.{category, extra_bits, digits};
 ghost use Rattle.jpg_prog_read.specs.ExtraWork.{IsWanting};
 
-use jpg_huff::extend;
 use std::marker::Model;
 
 /// Whether more bits are needed.
 pub enum Extra {
     Wanting,
     Enough,
+}
+
+// By how much these extra bits, read as a number, exceed the number that they encode (F.2.2.1, Figure F.12): by
+// 2 ^ size - 1 if the first of them is 0, by nothing if it is 1. It is a product, as no branch on that bit is foreseen.
+#[inline(always)]
+fn excess(size: u8, number: u32) -> u32
+    requires size { size ≤ 15 }
+    requires fits { number < 2 ^ size }
+    ensures high { 2 ^ size ≤ 2 * number → result ≡ 0 }
+    ensures low { 2 * number < 2 ^ size → result ≡ 2 ^ size - 1 }
+    ensures few { result < 2 ^ size }
+{
+    let ones = (1 << size) - 1;
+    ones * (1 - (2 * number >> size))
+}
+
+// The number minus another one.
+#[inline(always)]
+fn lowered(number: u32, less: u32) -> i16
+    requires number { number < 2 ^ 15 }
+    requires less { less < 2 ^ 15 }
+    ensures { result ≡ pos number -ℤ pos less }
+{
+    number as i16 - less as i16
 }
 
 /// The extra bits of a number of some category, 0 to 15, that were taken so far.
@@ -108,7 +131,7 @@ impl ExtraBits {
         ensures category { category result ≡ self.now.size }
         ensures extra { extra_bits result ≡ self.now.bits }
     {
-        extend(self.size, self.number)
+        lowered(self.number, excess(self.size, self.number))
     }
 
     /// How many bands end after the code of EOBn if these are its n bits (G.1.2.2).

@@ -1,8 +1,10 @@
+pub mod After
 pub mod BandUnits
 pub mod Counting
 pub mod DcUnits
 pub mod ElementsDue
 pub mod EndsItems
+pub mod FrontElements
 pub mod Fronts
 pub mod KeptValues
 pub mod Marks

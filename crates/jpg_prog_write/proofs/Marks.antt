@@ -2,13 +2,14 @@
 use Rattle.std.proofs.Common.{◌≡◌, ℕ, ◌≤◌, Bool, true, false, cond, List, [], ◌∷◌, ◌++◌, take, refl, sym, ap, ◌∙◌, subst, pos, ℤ}
 use Rattle.std.specs.Prelude.{flat_map, map, nat_lt, slice_index_or}
 use Rattle.std.specs.List.{All}
+use Rattle.std.proofs.lemmas.List.Concat.{flat_map-append}
 use Rattle.jpg_spec.specs.Geometry.{Frame, is_progressive}
 use Rattle.jpg_spec.specs.Segments.{ScanHead}
 use Rattle.jpg_spec.specs.Elements.{Element, difference, dc_bit, value, long_run, ends, symbol_of, predicted}
 use Rattle.jpg_spec.specs.Scan.{Blocks, part_of}
 use Rattle.jpg_spec.proofs.Common.{lt_yes}
 use Rattle.jpg_huff.specs.Counts.{AreCounts, Mark, Notes, no_counts}
-use Rattle.jpg_huff.specs.declared.counts.Counts.{Counts}
+use Rattle.jpg_huff.specs.declared.counts.SymbolCounts.{SymbolCounts}
 use Rattle.jpg_huff.proofs.Marks.{notes_nothing, notes_same}
 use Rattle.jpg_coefs.specs.MarkSinks.{owned_marks, interval_marks, scan_marks}
 use Rattle.jpg_coefs.specs.Sinks.{intervals_due}
@@ -27,6 +28,10 @@ use Rattle.jpg_prog_write.specs.declared.item.Item.{Item}
 pub marks_first : (slot : ℕ) (all : List Element) (item : Item) (bits : List Bool) (others : List Element) → IsFirst all item bits others → marks_of slot all ≡ (((1, slot), item.symbol) ∷ []) ++ marks_of slot others
 unfolding marks_of
 marks_first slot all item bits others f = ap (marks_of slot) f.first ∙ ap (λ n. ((1, slot), n) ∷ marks_of slot others) (sym f.is.symbol)
+
+pub marks_join : (slot : ℕ) (xs ys : List Element) → marks_of slot (xs ++ ys) ≡ marks_of slot xs ++ marks_of slot ys
+unfolding marks_of
+marks_join slot xs ys = flat_map-append (λ e. ((1, slot), symbol_of e) ∷ []) xs ys
 
 pub marks_none : (slot : ℕ) → marks_of slot [] ≡ []
 unfolding marks_of
@@ -71,5 +76,5 @@ no_marks f head interval blocks progressive dc refines =
     let all = intervals_due f head interval blocks in
     ap (λ p. flat_map (interval_marks p head) all) progressive ∙ none_marked head all dc refines
 
-pub unmarked_counts : (counts : Counts) (marks : List Mark) → marks ≡ [] → counts ≡ no_counts → AreCounts counts → Notes no_counts marks counts
-unmarked_counts counts marks none e are = subst (λ (u : Counts). Notes u marks counts) e (notes_same counts counts [] marks (sym none) (notes_nothing counts are))
+pub unmarked_counts : (counts : SymbolCounts) (marks : List Mark) → marks ≡ [] → counts ≡ no_counts → AreCounts counts → Notes no_counts marks counts
+unmarked_counts counts marks none e are = subst (λ (u : SymbolCounts). Notes u marks counts) e (notes_same counts counts [] marks (sym none) (notes_nothing counts are))

@@ -4,6 +4,7 @@ use Rattle.std.proofs.lemmas.Grind.{pow_more}
 use Rattle.std.specs.Prelude.{unwrap_or}
 use Rattle.std.specs.Option.{option_map}
 use Rattle.std.proofs.lemmas.List.{append_assoc}
+use Rattle.std.proofs.lemmas.List.Concat.{flat_map-append}
 use Rattle.jpg_spec.specs.Bits.{bits_of}
 use Rattle.jpg_spec.specs.Codes.{Code}
 use Rattle.jpg_spec.specs.Segments.{table_codes}
@@ -29,6 +30,10 @@ item_text codes e item bits code is same =
 pub texts_first : (codes : List Code) (all : List Element) (item : Item) (bits : List Bool) (others : List Element) (f : IsFirst all item bits others) → texts codes all ≡ spelled codes f.element ++ texts codes others
 unfolding texts
 texts_first codes all item bits others f = ap (texts codes) f.first
+
+pub texts_join : (codes : List Code) (xs ys : List Element) → texts codes (xs ++ ys) ≡ texts codes xs ++ texts codes ys
+unfolding texts
+texts_join codes xs ys = flat_map-append (spelled codes) xs ys
 
 pub texts_none : (codes : List Code) → texts codes [] ≡ []
 unfolding texts

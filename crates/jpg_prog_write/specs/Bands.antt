@@ -51,6 +51,10 @@ pub record IsBand (band : Band) : Type 0 where
 abbrev pub band_sents : Band → List ℤ → List Sent
 band_sents band block = sents band band.start band.end block
 
+-- the elements of the values from one place up to another, where no run of zeros is before them
+abbrev pub front_elements : Band → ℕ → ℕ → List ℤ → List Element
+front_elements band from last block = value_elements 0 [] (sents band from last block)
+
 -- 64 values whose symbols are bytes
 pub record IsShort (block : List ℤ) : Type 0 where
   pub long : length block ≡ 64

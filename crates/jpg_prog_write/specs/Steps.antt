@@ -49,3 +49,9 @@ pub record LeavesBand (old new : Bands) : Type 0 where
   pub left : (later : List (List Sent)) → elements_left old later ≡ band_elements 32767 new.bands new.waiting.items later
   pub ready : IsReady new
   pub band : new.band ≡ old.band
+
+-- the values up to the last newly sent one are done with, unless an EOB run waits before them
+pub record PassesValues (old new : Bands) : Type 0 where
+  pub ready : IsReady new
+  pub band : new.band ≡ old.band
+  pub fewer : steps_left new ≤ steps_left old

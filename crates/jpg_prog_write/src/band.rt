@@ -53,7 +53,6 @@ impl Band {
 
     // The block with 0 for the values of which nothing is sent: what is sent of it is the same.
     #[inline(always)]
-    #[inline(always)]
     pub(crate) fn kept(self, block: &Block) -> Block
         requires { self.al ≤ 13 }
         ensures short { IsShort block.now → IsShort result }

@@ -99,7 +99,7 @@ fn zeros_ahead(block: &Block, marks: u64, at: u8, last: u8, run: u8) -> u8
 
 // The next element of the values from one place up to another.
 #[inline(always)]
-fn value_from(
+pub(crate) fn value_from(
     band: Band,
     block: &Block,
     marks: u64,
@@ -233,7 +233,7 @@ impl Bands {
     }
 
     // The next element of the part up to the last newly sent value, where no EOB run waits.
-    #[inline(always)]
+    #[inline(never)]
     fn next_value(&mut self) -> Option<Item>
         requires ready { IsReady self.old }
         requires some { self.old.at < self.old.last }

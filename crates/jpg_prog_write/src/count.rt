@@ -1,25 +1,81 @@
 //! The symbols that a progressive scan writes, counted (T.81, G.1.2).
-ghost use Rattle.std.specs.Prelude.{◌≡◌, ◌<◌, ◌≤◌, List, All};
+ghost use Rattle.std.specs.Prelude.{◌≡◌, ◌<◌, ◌≤◌, true, List, [], All};
 ghost use Rattle.jpg_spec.specs.Scan.{part_of as part_in};
 ghost use Rattle.jpg_spec_write.specs.Sending.{Sent, ended_bands};
 ghost use Rattle.jpg_spec_write.specs.WrittenFile.{HasBlocksIn};
 ghost use Rattle.jpg_huff.specs.Counts.{AreCounts, Notes, NotesBut};
 ghost use Rattle.jpg_coefs.specs.MarkSinks.{HasSlots, CountsClass, mark_kind, owned_marks, scan_marks};
-ghost use Rattle.jpg_prog_write.specs.Bands.{IsReady, elements_left, elements_waiting};
+ghost use Rattle.jpg_prog_write.specs.Bands.{IsBand, IsShort, AreMarks, IsReady, sents, ends_new, front_elements, elements_left, elements_waiting};
+ghost use Rattle.jpg_prog_write.specs.Steps.{PassesValues};
 ghost use Rattle.jpg_prog_write.specs.Written.{IsProgScan, dc_unit};
 ghost use Rattle.jpg_prog_write.specs.Counted.{marks_of};
 ghost use Rattle.jpg_prog_write.specs.ScanSinks.{dc_counter, ac_counter};
 
 use crate::ac::{first_slot, no_bands};
-use crate::bands::Bands;
+use crate::band::Band;
+use crate::bands::{Bands, Waiting, value_from};
 use crate::dc::difference;
 use crate::numbers::shifted;
 use jpg_base::{Block, ScanHead, WriteFault};
 use jpg_coefs::{BlockView, UnitSink, part_of, put_scan};
-use jpg_huff::{Counts, category};
+use jpg_huff::{SymbolCounts, category};
+
+// Counts the values from one place up to another, where no corrections wait.
+#[inline(always)]
+fn count_from(
+    band: Band,
+    block: &Block,
+    marks: u64,
+    from: u8,
+    last: u8,
+    waiting: &mut Waiting,
+    slot: u8,
+    counts: &mut SymbolCounts,
+)
+    requires band { IsBand band }
+    requires short { IsShort block.now }
+    requires marks { AreMarks marks block.now }
+    requires places { (1 ≤ from) × (from ≤ last) × (last ≤ band.end) }
+    requires front { ends_new (sents band from last block.now) ≡ true }
+    requires none { waiting.old.items ≡ [] }
+    requires counts { AreCounts counts.old }
+    requires slot { slot < 2 }
+    ensures notes { Notes counts.old (marks_of slot (front_elements band from last block.now)) counts.new }
+    ensures none { waiting.new.items ≡ [] }
+{
+    let mut at = from;
+    while at < last {
+        match value_from(band, block, marks, at, last, waiting) {
+            Some(whole) => {
+                counts.count_ac(slot, whole.item.symbol);
+                waiting.clear();
+                at = whole.at;
+            }
+            None => return,
+        }
+    }
+}
+
+// Counts the values of a band that is begun up to its last newly sent one, if no EOB run waits before them.
+#[inline(always)]
+fn count_values(bands: &mut Bands, slot: u8, counts: &mut SymbolCounts)
+    requires ready { IsReady bands.old }
+    requires counts { AreCounts counts.old }
+    requires slot { slot < 2 }
+    ensures passes { PassesValues bands.old bands.new }
+    ensures counts { AreCounts counts.new }
+    ensures notes { (later : List (List Sent)) → NotesBut counts.old (marks_of slot (elements_left bands.old later)) (marks_of slot (elements_left bands.new later)) counts.new }
+{
+    if bands.bands == 0 {
+        let (band, marks, at, last) = (bands.band, bands.marks, bands.at, bands.last);
+        let waiting = &mut bands.waiting;
+        count_from(band, &bands.block, marks, at, last, waiting, slot, counts);
+        bands.at = last;
+    }
+}
 
 // Counts all of a band that is begun, except for the EOB run that waits then.
-fn count_band(bands: &mut Bands, slot: u8, counts: &mut Counts)
+fn count_band(bands: &mut Bands, slot: u8, counts: &mut SymbolCounts)
     requires ready { IsReady bands.old }
     requires counts { AreCounts counts.old }
     requires slot { slot < 2 }
@@ -27,14 +83,16 @@ fn count_band(bands: &mut Bands, slot: u8, counts: &mut Counts)
     ensures band { bands.new.band ≡ bands.old.band }
     ensures notes { (later : List (List Sent)) → NotesBut counts.old (marks_of slot (elements_left bands.old later)) (marks_of slot (elements_waiting bands.new later)) counts.new }
 {
+    count_values(bands, slot, counts);
     while let Some(item) = bands.next() {
         counts.count_ac(slot, item.symbol);
         bands.clear();
+        count_values(bands, slot, counts);
     }
 }
 
 // Counts the EOB run that waits after the last band.
-fn count_end(bands: &mut Bands, slot: u8, counts: &mut Counts)
+fn count_end(bands: &mut Bands, slot: u8, counts: &mut SymbolCounts)
     requires ready { IsReady bands.old }
     requires counts { AreCounts counts.old }
     requires slot { slot < 2 }
@@ -48,7 +106,7 @@ fn count_end(bands: &mut Bands, slot: u8, counts: &mut Counts)
 
 // Counts the DC difference of a unit after another of its component, in a first pass.
 #[inline(always)]
-fn count_unit(head: &ScanHead, component: u8, last: i16, value: i16, counts: &mut Counts)
+fn count_unit(head: &ScanHead, component: u8, last: i16, value: i16, counts: &mut SymbolCounts)
     requires bits { head.now.al ≤ 13 }
     requires first { head.now.ah ≡ 0 }
     requires slot { (part_in head.now component).dc < 2 }
@@ -67,7 +125,7 @@ pub(crate) struct DcCounter<'a> {
     pub(crate) head: &'a ScanHead,
 }
 
-impl<'a> UnitSink<Counts, ()> for DcCounter<'a> {
+impl<'a> UnitSink<SymbolCounts, ()> for DcCounter<'a> {
     ghost kind = { mark_kind dc_counter };
 
     #[inline(always)]
@@ -76,7 +134,7 @@ impl<'a> UnitSink<Counts, ()> for DcCounter<'a> {
         component: u8,
         last: i16,
         block: &Block,
-        counts: &mut Counts,
+        counts: &mut SymbolCounts,
         desk: &mut (),
     ) -> Result<(), WriteFault> {
         count_unit(self.head, component, last, block.get(0), counts);
@@ -86,7 +144,7 @@ impl<'a> UnitSink<Counts, ()> for DcCounter<'a> {
     fn end(
         &mut self,
         marker: Option<u8>,
-        counts: &mut Counts,
+        counts: &mut SymbolCounts,
         desk: &mut (),
     ) -> Result<(), WriteFault> {
         Ok(())
@@ -102,7 +160,7 @@ pub(crate) struct AcCounter<'a> {
     pub(crate) bands: Bands,
 }
 
-impl<'a> UnitSink<Counts, ()> for AcCounter<'a> {
+impl<'a> UnitSink<SymbolCounts, ()> for AcCounter<'a> {
     ghost kind = { mark_kind ac_counter };
 
     #[inline(always)]
@@ -111,7 +169,7 @@ impl<'a> UnitSink<Counts, ()> for AcCounter<'a> {
         component: u8,
         last: i16,
         block: &Block,
-        counts: &mut Counts,
+        counts: &mut SymbolCounts,
         desk: &mut (),
     ) -> Result<(), WriteFault> {
         self.bands.begin(block);
@@ -122,7 +180,7 @@ impl<'a> UnitSink<Counts, ()> for AcCounter<'a> {
     fn end(
         &mut self,
         marker: Option<u8>,
-        counts: &mut Counts,
+        counts: &mut SymbolCounts,
         desk: &mut (),
     ) -> Result<(), WriteFault> {
         count_end(&mut self.bands, self.slot, counts);
@@ -132,7 +190,7 @@ impl<'a> UnitSink<Counts, ()> for AcCounter<'a> {
 }
 
 // Counts the bands of a scan.
-fn count_bands<V: BlockView>(view: &V, head: &ScanHead, interval: u16, counts: &mut Counts)
+fn count_bands<V: BlockView>(view: &V, head: &ScanHead, interval: u16, counts: &mut SymbolCounts)
     requires scan { IsProgScan (V.numbers view.now) head.now }
     requires some { 1 ≤ head.now.ss }
     requires slots { All HasSlots head.now.parts }
@@ -150,7 +208,12 @@ fn count_bands<V: BlockView>(view: &V, head: &ScanHead, interval: u16, counts: &
 }
 
 // Counts the DC differences of a scan, in a first pass.
-fn count_differences<V: BlockView>(view: &V, head: &ScanHead, interval: u16, counts: &mut Counts)
+fn count_differences<V: BlockView>(
+    view: &V,
+    head: &ScanHead,
+    interval: u16,
+    counts: &mut SymbolCounts,
+)
     requires scan { IsProgScan (V.numbers view.now) head.now }
     requires dc { head.now.ss ≡ 0 }
     requires first { head.now.ah ≡ 0 }
@@ -166,14 +229,14 @@ fn count_differences<V: BlockView>(view: &V, head: &ScanHead, interval: u16, cou
 /// How often `write_scan` writes each symbol of this scan, by class and slot, at most 2^32 - 1: none of a class that the
 /// scan has no codes of. The header names one to four components of the frame, with a band and bits that are allowed and
 /// slots 0 or 1; all values are in the frame's bounds. It takes no memory.
-pub fn count_scan<V: BlockView>(view: &V, head: &ScanHead, interval: u16) -> Counts
+pub fn count_scan<V: BlockView>(view: &V, head: &ScanHead, interval: u16) -> SymbolCounts
     requires scan { IsProgScan (V.numbers view.now) head.now }
     requires slots { All HasSlots head.now.parts }
     requires blocks { HasBlocksIn (V.numbers view.now) (V.blocks view.now) }
     ensures dc { CountsClass (V.numbers view.now) head.now interval (V.blocks view.now) 0 result.dc }
     ensures ac { CountsClass (V.numbers view.now) head.now interval (V.blocks view.now) 1 result.ac }
 {
-    let mut counts = Counts::none();
+    let mut counts = SymbolCounts::none();
     if head.ss > 0 {
         count_bands(view, head, interval, &mut counts);
     } else if head.ah == 0 {

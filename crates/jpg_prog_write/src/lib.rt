@@ -12,5 +12,5 @@ mod put;
 mod write;
 
 pub use count::count_scan;
-pub use jpg_huff::Counts;
+pub use jpg_huff::SymbolCounts;
 pub use write::write_scan;

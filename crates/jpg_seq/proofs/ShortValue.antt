@@ -1,5 +1,5 @@
 -- Values that ten bits determine at once.
-use Rattle.std.proofs.Common.{◌≡◌, ℕ, ◌+◌, ◌-◌, ◌*◌, ◌/◌, ◌%◌, ◌<◌, ◌≤◌, Bool, List, [], ◌∷◌, ◌++◌, length, take, drop, get_or, set, sym, ap, ◌∙◌, subst, arith, ⊎_elim, inl, inr}
+use Rattle.std.proofs.Common.{◌≡◌, ◌⊎◌, ℕ, ◌+◌, ◌-◌, ◌*◌, ◌/◌, ◌%◌, ◌<◌, ◌≤◌, Bool, List, [], ◌∷◌, ◌++◌, length, take, drop, get_or, set, refl, sym, ap, ◌∙◌, subst, arith, ⊎_elim, inl, inr}
 use Rattle.std.specs.Prelude.{◌==◌}
 use Rattle.std.specs.List.{Contains}
 use Rattle.std.proofs.lemmas.Bool.{cases_lt}
@@ -11,7 +11,7 @@ use Rattle.jpg_spec.specs.Parts.{IsFront}
 use Rattle.jpg_spec.proofs.Strings.{bits_of-split, length-bits_of}
 use Rattle.jpg_huff.specs.Laws.{AreApart}
 use Rattle.jpg_huff.specs.Walk.{BeginsNoCode}
-use Rattle.jpg_seq.specs.Values.{StandsToldFirst, TellsNone, TellsOrNone, told_none}
+use Rattle.jpg_seq.specs.Values.{StandsToldFirst, StandsEndFirst, StandsShortFirst, TellsNone, TellsOrNone, told_end, told_none}
 use Rattle.jpg_seq.specs.declared.values.ShortValue.{ShortValue}
 
 -- the bits of a number below 1024, and those of its parts
@@ -59,18 +59,47 @@ same_ten codes a b t is long f =
       extra = f.extra ∙ behind;
     }
 
+same_ten_end : (codes : List Code) (a b : List Bool) (t : ShortValue) → take 10 a ≡ take 10 b → 10 ≤ length b → StandsEndFirst codes a t → StandsEndFirst codes b t
+same_ten_end codes a b t is long f =
+    let n = t.length in
+    let C : List Bool → Type 0 = λ x. Contains codes (x, 0) in
+    let front : take n a ≡ take n b = sym (take-take n 10 a f.few) ∙ ap (take n) is ∙ take-take n 10 b f.few in
+    record { some = f.some; few = f.few; there = omega (arith, f.few, long); run = f.run; in_codes = subst C front f.in_codes }
+
+same_short : (codes : List Code) (a b : List Bool) (t : ShortValue) → take 10 a ≡ take 10 b → 10 ≤ length b → StandsShortFirst codes a t → StandsShortFirst codes b t
+same_short codes a b t is long (inl f) = inl (same_ten codes a b t is long f)
+same_short codes a b t is long (inr f) = inr (same_ten_end codes a b t is long f)
+
+-- some bits encode it
+some_short : (codes : List Code) (bits : List Bool) (t : ShortValue) → StandsShortFirst codes bits t → 1 ≤ t.length
+some_short codes bits t (inl f) = omega (arith, f.sum, f.some)
+some_short codes bits t (inr f) = f.some
+
+pub short_there : (codes : List Code) (bits : List Bool) (t : ShortValue) → StandsShortFirst codes bits t → t.length ≤ length bits
+short_there codes bits t (inl f) = omega (arith, f.sum, f.there)
+short_there codes bits t (inr f) = f.there
+
+-- which it is, by its run
+pub short_value : (codes : List Code) (bits : List Bool) (t : ShortValue) → StandsShortFirst codes bits t → t.run < 64 → StandsToldFirst codes bits t
+short_value codes bits t (inl f) less = f
+short_value codes bits t (inr f) less = absurd (omega (arith, f.run, less))
+
+pub short_end : (codes : List Code) (bits : List Bool) (t : ShortValue) → StandsShortFirst codes bits t → t.run ≡ 64 → StandsEndFirst codes bits t
+short_end codes bits t (inl f) is = absurd (omega (arith, f.run, is))
+short_end codes bits t (inr f) is = f
+
 first_ten : (bits : List Bool) (ten : ℕ) → bits_of 10 ten ≡ take 10 bits → take 10 (bits_of 10 ten) ≡ take 10 bits
 first_ten bits ten is = take_all 10 (bits_of 10 ten) (omega (arith, length-bits_of 10 ten)) ∙ is
 
 -- the first ten bits determine it, so all do
-pub told_first : (codes : List Code) (bits : List Bool) (ten : ℕ) (t : ShortValue) → 10 ≤ length bits → bits_of 10 ten ≡ take 10 bits → TellsOrNone codes (bits_of 10 ten) t → (t.length ≡ 0 → ⊥) → StandsToldFirst codes bits t
+pub told_first : (codes : List Code) (bits : List Bool) (ten : ℕ) (t : ShortValue) → 10 ≤ length bits → bits_of 10 ten ≡ take 10 bits → TellsOrNone codes (bits_of 10 ten) t → (t.length ≡ 0 → ⊥) → StandsShortFirst codes bits t
 told_first codes bits ten t long is (inl none) some = absurd (some none.0)
-told_first codes bits ten t long is (inr f) some = same_ten codes (bits_of 10 ten) bits t (first_ten bits ten is) long f
+told_first codes bits ten t long is (inr f) some = same_short codes (bits_of 10 ten) bits t (first_ten bits ten is) long f
 
 -- they determine none
 pub told_not : (codes : List Code) (bits : List Bool) (ten : ℕ) (t : ShortValue) → bits_of 10 ten ≡ take 10 bits → TellsOrNone codes (bits_of 10 ten) t → t.length ≡ 0 → TellsNone codes bits
-told_not codes bits ten t is (inl none) e = λ u f. none.1 u (same_ten codes bits (bits_of 10 ten) u (sym (first_ten bits ten is)) (omega (arith, length-bits_of 10 ten)) f)
-told_not codes bits ten t is (inr f) e = absurd (omega (arith, f.sum, f.some, e))
+told_not codes bits ten t is (inl none) e = λ u f. none.1 u (same_short codes bits (bits_of 10 ten) u (sym (first_ten bits ten is)) (omega (arith, length-bits_of 10 ten)) f)
+told_not codes bits ten t is (inr f) e = absurd (omega (arith, some_short codes (bits_of 10 ten) t f, e))
 
 -- WHERE NONE COMES FIRST
 
@@ -81,9 +110,19 @@ code_apart codes apart bits k n s t a b h g =
     let l = ap (λ (c : Code). length c.0) e in
     (omega (arith, l, length-take-le k bits a, length-take-le n bits b), ap (λ (c : Code). c.1) e)
 
--- another code comes first, whose symbol gives no value that short
-pub none_symbol : (codes : List Code) (bits : List Bool) (n symbol : ℕ) → AreApart codes → n ≤ length bits → Contains codes (take n bits, symbol) → ((1 ≤ symbol % 16) × (n + symbol % 16 ≤ 10) → ⊥) → TellsNone codes bits
-none_symbol codes bits n symbol apart l h not = λ u f.
+-- a code comes first, and its symbol
+abbrev pub CodeFirst : List Code → List Bool → ℕ → ℕ → Type 0
+CodeFirst codes bits k symbol = (1 ≤ k) × (k ≤ length bits) × Contains codes (take k bits, symbol)
+
+-- a value and the end of a block have codes
+short_code : (codes : List Code) (bits : List Bool) (t : ShortValue) → StandsShortFirst codes bits t → (k : ℕ) × (symbol : ℕ) × CodeFirst codes bits k symbol
+short_code codes bits t (inl f) = (f.code, 16 * t.run + f.size, (f.some, omega (arith, f.there), f.in_codes))
+short_code codes bits t (inr f) = (t.length, 0, (f.some, f.there, f.in_codes))
+
+-- another code comes first, whose symbol gives no value that short, nor the end
+pub none_symbol : (codes : List Code) (bits : List Bool) (n symbol : ℕ) → AreApart codes → n ≤ length bits → Contains codes (take n bits, symbol) → (symbol ≡ 0 → ⊥) → ((1 ≤ symbol % 16) × (n + symbol % 16 ≤ 10) → ⊥) → TellsNone codes bits
+none_symbol codes bits n symbol apart l h other not u (inr f) = other (sym (code_apart codes apart bits u.length n 0 symbol f.there l f.in_codes h).1)
+none_symbol codes bits n symbol apart l h other not u (inl f) =
     let e = code_apart codes apart bits f.code n (16 * u.run + f.size) symbol (omega (arith, f.there)) l f.in_codes h in
     let m : (16 * u.run + f.size) % 16 ≡ f.size = omega (arith, f.few, f.some) in
     let z : f.size ≡ symbol % 16 = sym m ∙ ap (λ q. q % 16) e.1 in
@@ -100,20 +139,31 @@ front_apart codes bits k symbol apart (inr b) some low h =
     omega (arith, l, ap length b.4, length-append bits more, length-take-le k bits low, low)
 
 pub none_part : (codes : List Code) (bits : List Bool) → AreApart codes → IsFront codes bits → TellsNone codes bits
-none_part codes bits apart front = λ u f. front_apart codes bits f.code (16 * u.run + f.size) apart front f.some (omega (arith, f.there)) f.in_codes
+none_part codes bits apart front = λ u f.
+    let c = short_code codes bits u f in
+    front_apart codes bits c.0 c.1 apart front c.2.0 c.2.1 c.2.2
 
 -- they begin none with their nth bit
 pub none_begins : (codes : List Code) (bits : List Bool) (n : ℕ) → AreApart codes → 1 ≤ n → n ≤ length bits → IsFront codes (take (n - 1) bits) → BeginsNoCode codes (take n bits) → TellsNone codes bits
 none_begins codes bits n apart some low front none = λ u f.
-    let k = f.code in
-    let C : List Bool → Type 0 = λ x. Contains codes (x, 16 * u.run + f.size) in
+    let c = short_code codes bits u f in
+    let k = c.0 in let symbol = c.1 in
+    let C : List Bool → Type 0 = λ x. Contains codes (x, symbol) in
     ⊎_elim
     (λ (a : k < n). (let le : k ≤ n - 1 = omega (arith, a) in
-    front_apart codes (take (n - 1) bits) k (16 * u.run + f.size) apart front f.some (omega (arith, le, low, length-take-le (n - 1) bits (omega (arith, low))))
-    (subst C (sym (take-take k (n - 1) bits le)) f.in_codes)))
-    (λ (b : n ≤ k). none (take k bits, 16 * u.run + f.size) (drop n (take k bits)) f.in_codes (sym (take-append-drop n (take k bits)) ∙ ap (λ x. x ++ drop n (take k bits)) (take-take n k bits b)))
+    front_apart codes (take (n - 1) bits) k symbol apart front c.2.0 (omega (arith, le, low, length-take-le (n - 1) bits (omega (arith, low))))
+    (subst C (sym (take-take k (n - 1) bits le)) c.2.2)))
+    (λ (b : n ≤ k). none (take k bits, symbol) (drop n (take k bits)) c.2.2 (sym (take-append-drop n (take k bits)) ∙ ap (λ x. x ++ drop n (take k bits)) (take-take n k bits b)))
     (cases_lt k n)
 
 -- nothing is kept for bits that determine none
 pub kept_none : (codes : List Code) (bits ten : List Bool) (t : ShortValue) → bits ≡ ten → t.length ≡ 0 → TellsNone codes bits → TellsOrNone codes ten t
 kept_none codes bits ten t is zero none = inl (zero, subst (λ b. TellsNone codes b) is none)
+
+-- the code of the end of a block comes first
+pub kept_end : (codes : List Code) (bits ten : List Bool) (n symbol : ℕ) (t : ShortValue) → bits ≡ ten → t ≡ told_end n → 1 ≤ n → n ≤ length bits → length ten ≡ 10 → Contains codes (take n bits, symbol) → symbol ≡ 0 → TellsOrNone codes ten t
+kept_end codes bits ten n symbol t is end some low long h zero =
+    let C : ℕ → Type 0 = λ s. Contains codes (take n bits, s) in
+    let E : ShortValue → Type 0 = λ u. TellsOrNone codes bits u in
+    let few : n ≤ 10 = omega (arith, low, ap (λ (l : List Bool). length l) is, long) in
+    subst (λ b. TellsOrNone codes b t) is (subst E (sym end) (inr (inr (record { some = some; few = few; there = low; run = refl; in_codes = subst C zero h }))))

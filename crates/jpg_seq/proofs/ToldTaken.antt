@@ -1,6 +1,7 @@
 -- Values that ten bits determine, taken one after another.
-use Rattle.std.proofs.Common.{◌≡◌, ℕ, ℤ, ◌+◌, ◌<◌, ◌≤◌, Bool, List, [], ◌∷◌, ◌++◌, length, take, drop, sym, ap, ◌∙◌, subst, arith}
-use Rattle.std.proofs.lemmas.List.{append_assoc, length-append}
+use Rattle.std.proofs.Common.{◌≡◌, ℕ, ℤ, ◌+◌, ◌-◌, ◌<◌, ◌≤◌, Bool, List, [], ◌∷◌, ◌++◌, length, take, drop, refl, sym, ap, ◌∙◌, subst, arith, pos}
+use Rattle.std.specs.List.{Contains}
+use Rattle.std.proofs.lemmas.List.{append_assoc, length-append, length-replicate, length-take-le}
 use Rattle.jpg_spec.specs.Bits.{bits_of_bytes}
 use Rattle.jpg_spec.specs.Codes.{Code}
 use Rattle.jpg_spec.specs.Elements.{zeros}
@@ -12,9 +13,9 @@ use Rattle.jpg_seq.specs.declared.work.UnitProgress.TheVariants.{More, Empty, Do
 use Rattle.jpg_seq.specs.Source.{bits_in}
 use Rattle.jpg_seq.specs.Range.{AreSane}
 use Rattle.jpg_seq.specs.ToldTaken.{GoesTold, IsTaken, TakesTold, TakesToldFrom}
-use Rattle.jpg_seq.specs.Values.{StandsToldFirst}
+use Rattle.jpg_seq.specs.Values.{StandsToldFirst, StandsEndFirst}
 use Rattle.jpg_seq.specs.Work.{Env, IsElement, IsUnitCovered, TakesFromStore, Work}
-use Rattle.jpg_seq.proofs.Items.{value_taken}
+use Rattle.jpg_seq.proofs.Items.{end_element, value_taken}
 use Rattle.jpg_seq.proofs.Takings.{direct_element, takes_then}
 
 -- ONE VALUE
@@ -42,6 +43,26 @@ value_told ac s t store rest told answer apart some less none first room left is
     (direct_element e s t store rest told.length here answer none (omega (arith, sum, one)) (omega (arith, sum, there))
     (told_element e s.values store told sane (subst A (sym same) apart) some less (subst S (sym same) first) room) left
     (is ∙ ap (λ (p : List Bool). (let n : Work = record { values = s.values ++ here; part = p } in n)) none) covered))
+
+-- THE END OF THE BLOCK
+pub end_told : (ac : List Code) (s t : Work) (store rest : List Bool) (told : ShortValue) (answer : UnitProgress) → AreApart ac → 1 ≤ length s.values → length s.values < 64 → s.part ≡ [] → StandsEndFirst ac store told
+    → rest ≡ drop told.length store → t ≡ record s { values = s.values ++ zeros (64 - length s.values) } → IsUnitCovered t answer → TakesTold ac s store answer t rest
+end_told ac s t store rest told answer apart some less none first left is covered = λ e sane same.
+    (let n = told.length in let here = zeros (64 - length s.values) in
+    let A : List Code → Type 0 = λ l. AreApart l in
+    let C : List Code → Type 0 = λ l. Contains l (take n store, 0) in
+    let long : 1 ≤ length (take n store) = omega (arith, first.some, length-take-le n store first.there) in
+    taken_by e s t store rest answer covered
+    (direct_element e s t store rest n here answer none first.some first.there
+    (end_element e s.values (take n store) 0 (64 - length s.values) sane (subst A (sym same) apart) some less (subst C (sym same) first.in_codes) long refl refl) left
+    (is ∙ ap (λ (p : List Bool). (let n : Work = record { values = s.values ++ here; part = p } in n)) none) covered))
+
+pub end_goes : (s t : Work) (answer : UnitProgress) → length s.values < 64 → t ≡ record s { values = s.values ++ zeros (64 - length s.values) } → IsUnitCovered t answer → GoesTold answer s t
+end_goes s t More less is covered =
+    absurd (omega (arith, less, covered, ap (λ (w : Work). length w.values) is, length-append s.values (zeros (64 - length s.values)), length-replicate (64 - length s.values) (pos 0)))
+end_goes s t Done less is covered = covered
+end_goes s t Empty less is covered = absurd covered
+end_goes s t (Fault fault) less is covered = absurd covered
 
 pub value_goes : (s t : Work) (run : ℕ) (v : ℤ) (answer : UnitProgress) → s.part ≡ [] → t ≡ record s { values = s.values ++ (zeros run ++ v ∷ []) } → IsUnitCovered t answer → GoesTold answer s t
 value_goes s t run v More none is covered =

@@ -19,18 +19,33 @@ pub record StandsToldFirst (codes : List Code) (bits : List Bool) (t : ShortValu
   pub category : category t.value ≡ size
   pub extra : extra_bits t.value ≡ take size (drop code bits)
 
--- the bits begin with no such value
+-- the code of the end of a block (EOB), of at most ten bits
+pub record StandsEndFirst (codes : List Code) (bits : List Bool) (t : ShortValue) : Type 0 where
+  pub some : 1 ≤ t.length
+  pub few : t.length ≤ 10
+  pub there : t.length ≤ length bits
+  pub run : t.run ≡ 64
+  pub in_codes : Contains codes (take t.length bits, 0)
+
+-- a value, or the end of a block
+abbrev pub StandsShortFirst : List Code → List Bool → ShortValue → Type 0
+StandsShortFirst codes bits t = StandsToldFirst codes bits t ⊎ StandsEndFirst codes bits t
+
+-- the bits begin with neither
 abbrev pub TellsNone : List Code → List Bool → Type 0
-TellsNone codes bits = (t : ShortValue) → StandsToldFirst codes bits t → ⊥
+TellsNone codes bits = (t : ShortValue) → StandsShortFirst codes bits t → ⊥
 
--- the answer is no value exactly if the bits begin with none
+-- the answer is no value exactly if the bits begin with neither
 abbrev pub TellsOrNone : List Code → List Bool → ShortValue → Type 0
-TellsOrNone codes bits t = ((t.length ≡ 0) × TellsNone codes bits) ⊎ StandsToldFirst codes bits t
+TellsOrNone codes bits t = ((t.length ≡ 0) × TellsNone codes bits) ⊎ StandsShortFirst codes bits t
 
--- the value that the first ten of the bits encode, if there are ten
+-- the value that the first ten of the bits encode, or the end of a block, if there are ten
 abbrev pub TellsShortValue : List Code → List Bool → Option ShortValue → Type 0
 TellsShortValue codes bits None = (length bits < 10) ⊎ TellsNone codes bits
-TellsShortValue codes bits (Some t) = StandsToldFirst codes bits t
+TellsShortValue codes bits (Some t) = StandsShortFirst codes bits t
+
+abbrev pub told_end : ℕ → ShortValue
+told_end n = record { value = pos 0; run = 64; length = n }
 
 abbrev pub told_none : ShortValue
 told_none = record { value = pos 0; run = 0; length = 0 }

@@ -12,11 +12,11 @@ ghost use Rattle.jpg_seq.specs.Counted.{AreFew, run_marks, band_marks, block_mar
 use crate::write::difference;
 use jpg_base::{Block, ScanHead, ScanPart, WriteFault};
 use jpg_coefs::{BlockView, UnitSink, part_of, put_scan};
-use jpg_huff::{Counts, category};
+use jpg_huff::{SymbolCounts, category};
 
 // Counts the symbols of a value after a run of zeros, of which each sixteen have one of their own.
 #[inline(always)]
-fn count_run(slot: u8, run: u8, value: i16, counts: &mut Counts)
+fn count_run(slot: u8, run: u8, value: i16, counts: &mut SymbolCounts)
     requires counts { AreCounts counts.old }
     requires slot { slot < 2 }
     requires few { category_of value ≤ 14 }
@@ -32,7 +32,7 @@ fn count_run(slot: u8, run: u8, value: i16, counts: &mut Counts)
 
 // Counts the symbols of the values after the first one, and that of an EOB if zeros are left.
 #[inline(always)]
-fn count_band(slot: u8, block: &Block, counts: &mut Counts)
+fn count_band(slot: u8, block: &Block, counts: &mut SymbolCounts)
     requires counts { AreCounts counts.old }
     requires slot { slot < 2 }
     requires few { AreFew block.now }
@@ -53,7 +53,7 @@ fn count_band(slot: u8, block: &Block, counts: &mut Counts)
 }
 
 // Counts the symbols of a block, by the tables of its part, after this DC value.
-fn count_block(part: ScanPart, prediction: i16, block: &Block, counts: &mut Counts)
+fn count_block(part: ScanPart, prediction: i16, block: &Block, counts: &mut SymbolCounts)
     requires counts { AreCounts counts.old }
     requires slots { HasSlots part }
     requires few { AreFew block.now }
@@ -70,7 +70,7 @@ pub(crate) struct SeqCounter<'a> {
     pub(crate) head: &'a ScanHead,
 }
 
-impl<'a> UnitSink<Counts, ()> for SeqCounter<'a> {
+impl<'a> UnitSink<SymbolCounts, ()> for SeqCounter<'a> {
     ghost kind = { mark_kind seq_counter };
 
     #[inline(always)]
@@ -79,7 +79,7 @@ impl<'a> UnitSink<Counts, ()> for SeqCounter<'a> {
         component: u8,
         last: i16,
         block: &Block,
-        counts: &mut Counts,
+        counts: &mut SymbolCounts,
         desk: &mut (),
     ) -> Result<(), WriteFault> {
         count_block(part_of(self.head, component), last, block, counts);
@@ -89,7 +89,7 @@ impl<'a> UnitSink<Counts, ()> for SeqCounter<'a> {
     fn end(
         &mut self,
         marker: Option<u8>,
-        counts: &mut Counts,
+        counts: &mut SymbolCounts,
         desk: &mut (),
     ) -> Result<(), WriteFault> {
         Ok(())
@@ -99,7 +99,7 @@ impl<'a> UnitSink<Counts, ()> for SeqCounter<'a> {
 /// How often `write_seq_scan` writes each symbol of this scan, by class and slot, at most 2^32 - 1 (T.81, F.1.2). The header
 /// names one to four components of the frame, with slots 0 or 1; all values are in the range of the frame's precision. It
 /// takes no memory.
-pub fn count_seq_scan<V: BlockView>(view: &V, head: &ScanHead, interval: u16) -> Counts
+pub fn count_seq_scan<V: BlockView>(view: &V, head: &ScanHead, interval: u16) -> SymbolCounts
     requires sequential { is_progressive (V.numbers view.now).process ≡ false }
     requires components { AreIn (V.numbers view.now) (head_components head.now) }
     requires slots { All HasSlots head.now.parts }
@@ -107,7 +107,7 @@ pub fn count_seq_scan<V: BlockView>(view: &V, head: &ScanHead, interval: u16) ->
     ensures dc { CountsClass (V.numbers view.now) head.now interval (V.blocks view.now) 0 result.dc }
     ensures ac { CountsClass (V.numbers view.now) head.now interval (V.blocks view.now) 1 result.ac }
 {
-    let mut counts = Counts::none();
+    let mut counts = SymbolCounts::none();
     let mut units = SeqCounter { head };
     let counted = put_scan(view, head, interval, &mut units, &mut counts, &mut ());
     let _ = counted;

@@ -5,13 +5,17 @@ ghost use Rattle.jpg_spec.specs.Codes.{Code};
 ghost use Rattle.jpg_huff.specs.Laws.{AreApart};
 ghost use Rattle.jpg_huff.specs.Look.{Spots};
 ghost use Rattle.jpg_huff.specs.Tables.{symbol_codes};
-ghost use Rattle.jpg_seq.specs.Values.{AreTold, TellsShortValue, TellsOrNone};
+ghost use Rattle.jpg_seq.specs.Values.{AreTold, TellsShortValue, TellsOrNone, told_end};
 
 use jpg_base::BitStore;
 use jpg_huff::{Decoder, Spotted, Table, extend};
 use std::marker::Model;
 
-/// A value that bits begin with: how many zeros are before it, and how many bits encode it, 0 if there is none.
+/// The run of an entry that is the end of a block: more than any other has.
+pub const END_RUN: u8 = 64;
+
+/// A value that bits begin with: how many zeros are before it, and how many bits encode it, 0 if there is none. A run of
+/// `END_RUN` is the end of a block, which has no value.
 #[derive(Clone, Copy)]
 pub struct ShortValue {
     pub value: i16,
@@ -61,6 +65,17 @@ fn nothing() -> ShortValue
     }
 }
 
+// The end of a block, by a code of this many bits.
+fn end_of(length: u8) -> ShortValue
+    ensures { result ≡ told_end length }
+{
+    ShortValue {
+        value: 0,
+        run: END_RUN,
+        length,
+    }
+}
+
 // The entry of these ten bits.
 fn told_by(codes: &Decoder, ten: u16) -> ShortValue
     requires { ten < 1024 }
@@ -71,7 +86,9 @@ fn told_by(codes: &Decoder, ten: u16) -> ShortValue
     match codes.spot(&bits) {
         Spotted::Symbol { length, symbol } => {
             let size = symbol % 16;
-            if size > 0 && length + size <= 10 {
+            if symbol == 0 {
+                end_of(length)
+            } else if size > 0 && length + size <= 10 {
                 ShortValue {
                     value: extend(size, bits.peek_after(length, size)),
                     run: symbol / 16,
@@ -117,7 +134,8 @@ impl ValueDecoder {
         self.decoder.spot(bits)
     }
 
-    /// The value that the first ten of these bits encode: None if they encode none, or if there are fewer.
+    /// The value that the first ten of these bits encode, or the end of a block: None if they encode neither, or if there
+    /// are fewer.
     #[inline(always)]
     pub fn told(&self, bits: &BitStore) -> Option<ShortValue>
         ensures { TellsShortValue self.now bits.now result }

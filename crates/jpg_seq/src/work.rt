@@ -11,7 +11,7 @@ ghost use Rattle.jpg_spec.specs.Codes.{Code};
 
 use crate::source::Source;
 use crate::symbols::{SequentialSymbol, judge};
-use crate::values::ValueDecoder;
+use crate::values::{END_RUN, ValueDecoder};
 use jpg_base::{BitStore, Block, Bounds};
 use jpg_coefs::UnitFault;
 use jpg_huff::{Decoder, Spotted, extend};
@@ -361,7 +361,7 @@ impl UnitWork {
         }
     }
 
-    // Takes a value that ten bits encode: Empty if they encode none that has a place.
+    // Takes a value that ten bits encode, or the end of the block: Empty if they encode neither, or none that has a place.
     #[inline(always)]
     fn told_value(&mut self, ac: &ValueDecoder, store: &mut BitStore) -> UnitProgress
         requires left { (1 ≤ length self.old.values) × (length self.old.values < 64) }
@@ -376,6 +376,10 @@ impl UnitWork {
                 if at + told.run < 64 {
                     store.skip(told.length);
                     self.place(told.run, told.value);
+                    self.covered()
+                } else if told.run == END_RUN {
+                    store.skip(told.length);
+                    self.cover(64 - at);
                     self.covered()
                 } else {
                     UnitProgress::Empty

@@ -11,7 +11,7 @@ use Rattle.jpg_huff.specs.declared.table.Table.{Table}
 use Rattle.jpg_huff.specs.declared.set.TableSet.{TableSet}
 use Rattle.jpg_huff.specs.Flat.{symbols_in}
 use Rattle.jpg_huff.specs.Counts.{row}
-use Rattle.jpg_huff.specs.declared.counts.Counts.{Counts}
+use Rattle.jpg_huff.specs.declared.counts.SymbolCounts.{SymbolCounts}
 use Rattle.jpg_huff.specs.Sets.{dc_tables, ac_tables, in_slot}
 use Rattle.jpg_huff.specs.Tables.{table_of}
 
@@ -28,12 +28,12 @@ abbrev pub GivesTables : TableSet → (ℕ → ℕ → HuffmanTable) → Type 0
 GivesTables set tables = (class slot : ℕ) → class < 2 → slot < 2 → IsInSlot (class_tables set class) slot (tables class slot)
 
 -- by slots 0 and 1 and class, the symbols that are used are these
-pub record UsesSymbols (counts : Counts) (symbols : ℕ → ℕ → List ℕ) : Type 0 where
+pub record UsesSymbols (counts : SymbolCounts) (symbols : ℕ → ℕ → List ℕ) : Type 0 where
   pub dc : (slot : ℕ) → slot < 2 → symbols_in (row counts.dc slot) ≡ symbols 0 slot
   pub ac : (slot : ℕ) → slot < 2 → symbols_in (row counts.ac slot) ≡ symbols 1 slot
 
 -- and each is counted so often
-pub record HasCounts (counts : Counts) (numbers : ℕ → ℕ → List ℕ) : Type 0 where
+pub record HasCounts (counts : SymbolCounts) (numbers : ℕ → ℕ → List ℕ) : Type 0 where
   pub dc : (slot : ℕ) → slot < 2 → row counts.dc slot ≡ numbers 0 slot
   pub ac : (slot : ℕ) → slot < 2 → row counts.ac slot ≡ numbers 1 slot
 
@@ -43,7 +43,7 @@ own_tables Plain symbols numbers class slot = flat_table (symbols class slot)
 own_tables Fitted symbols numbers class slot = fitted (numbers class slot)
 
 -- few enough for codes of one length
-pub record AreFew (counts : Counts) : Type 0 where
+pub record AreFew (counts : SymbolCounts) : Type 0 where
   pub dc : (slot : ℕ) → slot < 2 → length (symbols_in (row counts.dc slot)) ≤ 255
   pub ac : (slot : ℕ) → slot < 2 → length (symbols_in (row counts.ac slot)) ≤ 255
 

@@ -17,7 +17,7 @@ ghost use Rattle.jpg_file.specs.Write.WriteTables.{AreFew, HasCounts, UsesSymbol
 use jpg_base::{Frame, ScanHead};
 use jpg_coefs::BlockView;
 use jpg_fit::fitted;
-use jpg_huff::{Counts, Table, TableSet, Typical, flat, typical};
+use jpg_huff::{SymbolCounts, Table, TableSet, Typical, flat, typical};
 use jpg_prog_write::count_scan;
 use jpg_seq::count_seq_scan;
 use jpg_spec_write::Huffman;
@@ -46,7 +46,7 @@ pub fn tables_of<V: BlockView>(
     }
 }
 
-// Whether no tables of a scan's own are asked for where typical ones are enough.
+// Whether plain tables are asked for.
 fn is_plain(huffman: Huffman) -> bool
     ensures { result ≡ is_plain huffman }
 {
@@ -64,7 +64,7 @@ fn has_typical(huffman: Huffman, frame: &Frame) -> bool
 }
 
 // How often the scan writes each symbol.
-fn counts_of<V: BlockView>(frame: &Frame, view: &V, head: &ScanHead, interval: u16) -> Counts
+fn counts_of<V: BlockView>(frame: &Frame, view: &V, head: &ScanHead, interval: u16) -> SymbolCounts
     requires kind { is_progressive (V.numbers view.now).process ≡ is_progressive frame.now.process }
     requires components { AreIn (V.numbers view.now) (head_components head.now) }
     requires scan { is_progressive frame.now.process ≡ true → IsProgScan (V.numbers view.now) head.now }
@@ -96,7 +96,7 @@ fn typical_set() -> TableSet
 }
 
 // The tables of a scan's own, for these counts.
-fn own_set(huffman: Huffman, counts: &Counts) -> TableSet
+fn own_set(huffman: Huffman, counts: &SymbolCounts) -> TableSet
     requires { AreFew counts.now }
     ensures { (symbols numbers : ℕ → ℕ → List ℕ) → UsesSymbols counts.now symbols → HasCounts counts.now numbers → GivesTables result (own_tables huffman symbols numbers) }
 {
@@ -107,7 +107,7 @@ fn own_set(huffman: Huffman, counts: &Counts) -> TableSet
 }
 
 // The tables of codes of one length for the symbols that are used.
-fn flat_set(counts: &Counts) -> TableSet
+fn flat_set(counts: &SymbolCounts) -> TableSet
     requires { AreFew counts.now }
     ensures { (symbols : ℕ → ℕ → List ℕ) → UsesSymbols counts.now symbols → GivesTables result (λ class slot. flat_table (symbols class slot)) }
 {
@@ -120,7 +120,7 @@ fn flat_set(counts: &Counts) -> TableSet
 }
 
 // The tables that are made for these counts.
-fn fitted_set(counts: &Counts) -> TableSet
+fn fitted_set(counts: &SymbolCounts) -> TableSet
     ensures { (numbers : ℕ → ℕ → List ℕ) → HasCounts counts.now numbers → GivesTables result (λ class slot. fitted (numbers class slot)) }
 {
     set_of(

@@ -7,7 +7,7 @@ use Rattle.std.proofs.lemmas.Int.{to_z-of_z}
 use Rattle.jpg_spec.specs.Bits.{bits_of}
 use Rattle.jpg_spec.proofs.Strings.{length-bits_of}
 use Rattle.jpg_seq.specs.Values.{TellsOrNone}
-use Rattle.jpg_seq.proofs.ShortValue.{kept_none, none_symbol, none_part, none_begins}
+use Rattle.jpg_seq.proofs.ShortValue.{kept_end, kept_none, none_symbol, none_part, none_begins}
 use Rattle.jpg_seq.proofs.values.told_by.Goals as goal
 use Rattle.jpg_seq.proofs.values.told_by.Goals.{else-size-gt0-via-then-size-gt0+else-length-size-le10, else-size-gt0-via-else-size-gt0}
 
@@ -24,7 +24,7 @@ returns-then-length-size-le10 c =
     let C : ℕ → Type 0 = λ k. Contains c.args.codes.now (take n c.ten_bits-bits.result, k) in
     let V : ℤ → Type 0 = λ w. TellsOrNone c.args.codes.now c.ten_bits-bits.result (record { value = w; run = symbol / 16; length = n + size }) in
     let B : List Bool → Type 0 = λ b. TellsOrNone c.args.codes.now b (record { value = to_z w16 (of_z w16 v); run = symbol / 16; length = n + size }) in
-    subst B c.ten_bits-bits.ensures (subst V (sym (to_z-of_z w16 v f)) (inr (record {
+    subst B c.ten_bits-bits.ensures (subst V (sym (to_z-of_z w16 v f)) (inr (inl (record {
       code = n;
       size = size;
       some = s.0;
@@ -36,7 +36,7 @@ returns-then-length-size-le10 c =
       in_codes = subst C split s.3;
       category = c.extend.ensures.category;
       extra = c.extend.ensures.extra ∙ c.peek_after.ensures.value;
-    })))
+    }))))
 
 pub returns-else-size-gt0 : goal.returns-else-size-gt0
 returns-else-size-gt0 c =
@@ -44,7 +44,12 @@ returns-else-size-gt0 c =
     let past : (symbol % 16 ≡ 0) ⊎ (10 < n + symbol % 16) =
     elim c.else-size-gt0.branch [ else-size-gt0-via-then-size-gt0+else-length-size-le10 w ↦ inr (omega (arith, w.if-length-size-le10.false)) | else-size-gt0-via-else-size-gt0 w ↦ inl (omega (arith, w.if-size-gt0.false)) ] in
     kept_none c.args.codes.now bits (bits_of 10 c.args.ten) c.nothing.result c.ten_bits-bits.ensures c.nothing.ensures
-    (none_symbol c.args.codes.now bits n symbol c.apart.ensures.one s.2 s.3 (λ h. ⊎_elim (λ (a : symbol % 16 ≡ 0). omega (arith, a, h.0)) (λ (b : 10 < n + symbol % 16). omega (arith, b, h.1)) past))
+    (none_symbol c.args.codes.now bits n symbol c.apart.ensures.one s.2 s.3 c.if-symbol-eq0.false (λ h. ⊎_elim (λ (a : symbol % 16 ≡ 0). omega (arith, a, h.0)) (λ (b : 10 < n + symbol % 16). omega (arith, b, h.1)) past))
+
+pub returns-then-symbol-eq0 : goal.returns-then-symbol-eq0
+returns-then-symbol-eq0 c =
+    let s = c.in-Symbol.ensures in
+    kept_end c.args.codes.now c.ten_bits-bits.result (bits_of 10 c.args.ten) c.in-Symbol.length c.in-Symbol.symbol c.end_of.result c.ten_bits-bits.ensures c.end_of.ensures s.0 s.2 (length-bits_of 10 c.args.ten) s.3 c.if-symbol-eq0.true
 
 pub returns-in-Part : goal.returns-in-Part
 returns-in-Part c =
