@@ -15,7 +15,8 @@ usage() {
 ./install.sh --help                 prints this
 
 PREFIX/bin gets jpgsuite, jpegtran, djpeg, cjpeg, rdjpgcom and wrjpgcom, PREFIX/share their manual pages and completions
-for bash and zsh. A file that is there already and isn't of jpgsuite is never replaced: nothing is installed then.
+for bash and zsh. PREFIX/share/jpgsuite/installed lists all of it, for --uninstall: a package leaves that file out.
+A file that is there already and isn't of jpgsuite is never replaced: nothing is installed then.
 At the end the installed jpegtran rotates example/colour.jpg, and the status is 1 unless that gives example/turned.jpg.
 
 Without --cpu the program is built for this processor: x86-64-v3 where it has what that asks for (vectors of 256 bits),
@@ -223,11 +224,11 @@ $("$program" --version) is installed in $root:
   share/man/man1: a manual page of each
   share/bash-completion/completions, share/zsh/site-functions: completions
 Where PREFIX/bin comes first on PATH it hides others of these names.
-bash loads completions of ~/.local, /usr/local and /usr by itself; for another PREFIX, ~/.bashrc needs this line:
+With the package bash-completion, bash loads completions of ~/.local, /usr/local and /usr by itself; otherwise ~/.bashrc needs this line:
   . $(printf %q "$prefix/share/bash-completion/completions/jpgsuite")
 zsh needs this one in ~/.zshrc, before compinit, unless the folder is on its fpath:
   fpath=($(printf %q "$prefix/share/zsh/site-functions") \$fpath)
-./install.sh --uninstall removes all of it.
+${DESTDIR:+DESTDIR=$(printf %q "$DESTDIR") }./install.sh --uninstall $(printf %q "$prefix") removes all of it.
 END
     case ":$PATH:" in
     *":$prefix/bin:"*) ;;

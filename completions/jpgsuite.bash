@@ -60,6 +60,8 @@ _jpgsuite_value() {
 _jpgsuite() {
     local tool=${1##*/} from=1 word=$2 value=- taken=0 at row name
     COMPREPLY=()
+    # Another program of the same name has other switches.
+    [[ $tool == jpgsuite || $(readlink -f -- "$(type -P -- "$1")") == */jpgsuite ]] || return
     if [[ $tool == jpgsuite ]]; then
         if ((COMP_CWORD == 1)); then
             COMPREPLY=($(compgen -W "$_jpgsuite_commands --help --version" -- "$word"))
