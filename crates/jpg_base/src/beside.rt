@@ -24,7 +24,8 @@ enum There {
 }
 
 /// The name of a file beside another one: the other's name, which is a first part of it, and an ending. The system takes
-/// names of at most 4,095 bytes, so there is room for any that it takes.
+/// names of at most 4,095 bytes, so there is room for any that it takes. It isn't moved, since it would take that room of
+/// the stack again at each call.
 #[derive(Drop)]
 pub struct Beside {
     name: ArrayString<4200>,
@@ -32,16 +33,19 @@ pub struct Beside {
 }
 
 impl Beside {
-    // The name of this number beside a name; none if that is too long.
-    fn new(path: &str, number: u32) -> Option<Beside> {
-        let mut name = ArrayString::new();
-        match write!(name, "{path}.jpgsuite-{number}") {
-            Ok(()) => Some(Beside {
-                name,
-                first: path.len(),
-            }),
-            Err(_) => None,
+    /// No name yet.
+    pub fn new() -> Beside {
+        Beside {
+            name: ArrayString::new(),
+            first: 0,
         }
+    }
+
+    // Takes the name of this number beside a name; false if that is too long.
+    fn put(&mut self, path: &str, number: u32) -> bool {
+        self.name.clear();
+        self.first = path.len();
+        write!(self.name, "{path}.jpgsuite-{number}").is_ok()
     }
 
     /// Puts the file into the place of the other one, whose name it takes. If that fails, it is removed.
@@ -87,13 +91,15 @@ fn found_at<R: Files>(files: &R, path: &str) -> There {
 
 // A file that wasn't there before, with the first name that is free. Its mode is this one, less the bits of the process's
 // mask.
-fn new_file<R: Files>(files: &R, path: &str, mode: u32) -> Option<(R::File, Beside)> {
+fn new_file<R: Files>(files: &R, path: &str, mode: u32, beside: &mut Beside) -> Option<R::File> {
     let mut options = OpenOptions::new();
     options.write(true).create_new(true).mode(mode);
     for number in 0..TRIES {
-        let beside = Beside::new(path, number)?;
+        if !beside.put(path, number) {
+            return None;
+        }
         match options.open(files, beside.name.as_str()) {
-            Ok(file) => return Some((file, beside)),
+            Ok(file) => return Some(file),
             Err(error) => match error.kind() {
                 ErrorKind::AlreadyExists => {}
                 _ => return None,
@@ -123,18 +129,18 @@ fn make_like<R: Files>(files: &R, file: &R::File, beside: &Beside, old: &Metadat
     owned && new.dev() == old.dev() && file.set_permissions(mode).is_ok()
 }
 
-/// An empty file beside the one of this name, or beside where it would be. There is none where the name is of something
-/// else than a plain file with one name that may be written, and where no such file can be made.
-pub fn create_beside<R: Files>(files: &R, path: &str) -> Option<(R::File, Beside)> {
+/// An empty file beside the one of this name, or beside where it would be, and its name. There is none where the name is
+/// of something else than a plain file with one name that may be written, and where no such file can be made.
+pub fn create_beside<R: Files>(files: &R, path: &str, beside: &mut Beside) -> Option<R::File> {
     if path.is_empty() {
         return None;
     }
     match found_at(files, path) {
-        There::Nothing => new_file(files, path, NEW_MODE),
+        There::Nothing => new_file(files, path, NEW_MODE, beside),
         There::Plain(old) => {
-            let (file, beside) = new_file(files, path, OWN_MODE)?;
-            if make_like(files, &file, &beside, &old) {
-                Some((file, beside))
+            let file = new_file(files, path, OWN_MODE, beside)?;
+            if make_like(files, &file, beside, &old) {
+                Some(file)
             } else {
                 beside.remove(files);
                 None

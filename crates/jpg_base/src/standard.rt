@@ -24,7 +24,7 @@ enum Sink<R: Runtime> {
     Closed,
     Standard(R),
     File(R::File),
-    Beside(R::File, Beside),
+    Beside(R::File),
 }
 
 impl<R: Runtime> Write for Sink<R> {
@@ -33,7 +33,7 @@ impl<R: Runtime> Write for Sink<R> {
             Sink::Closed => Ok(0),
             Sink::Standard(rt) => io::writer(rt).write(piece),
             Sink::File(file) => file.write(piece),
-            Sink::Beside(file, _) => file.write(piece),
+            Sink::Beside(file) => file.write(piece),
         }
     }
 
@@ -58,6 +58,7 @@ pub struct StdDesk<R: Runtime> {
     rt: R,
     source: Source<R>,
     sink: Sink<R>,
+    beside: Beside,
     replaces: bool,
     told: Told,
 }
@@ -78,6 +79,7 @@ fn unused<R: Runtime>(rt: R, replaces: bool) -> StdDesk<R>
         rt,
         source: Source::Closed,
         sink: Sink::Closed,
+        beside: Beside::new(),
         replaces,
         told: Told {
             counts: Counts {
@@ -119,8 +121,7 @@ impl<R: Runtime> StdDesk<R> {
     pub fn keep(&mut self) -> Put
         ensures { std_state self.new.told ≡ record (std_state self.old.told) { counts = counted_write result (std_state self.old.told).counts } }
     {
-        let sink = mem::replace(&mut self.sink, Sink::Closed);
-        let answer = put_in_place(&self.rt, sink);
+        let answer = put_in_place(&self.rt, &mut self.sink, &self.beside);
         match answer {
             Put::Done => {}
             Put::Failed => raise(&mut self.told.counts.writes),
@@ -133,17 +134,17 @@ impl<R: Runtime> StdDesk<R> {
         ensures { std_state self.new.told ≡ std_state self.old.told }
     {
         let sink = mem::replace(&mut self.sink, Sink::Closed);
-        if let Sink::Beside(file, beside) = sink {
+        if let Sink::Beside(file) = sink {
             drop(file);
-            beside.remove(&self.rt);
+            self.beside.remove(&self.rt);
         }
     }
 }
 
-// An output that stands beside its place takes it, if it has any bytes.
-fn put_in_place<R: Runtime>(rt: &R, sink: Sink<R>) -> Put {
-    let (file, beside) = match sink {
-        Sink::Beside(file, beside) => (file, beside),
+// Ends an output. One that stands beside its place takes it, if it has any bytes.
+fn put_in_place<R: Runtime>(rt: &R, sink: &mut Sink<R>, beside: &Beside) -> Put {
+    let file = match mem::replace(sink, Sink::Closed) {
+        Sink::Beside(file) => file,
         _ => return Put::Done,
     };
     let is_empty = match file.metadata() {
@@ -159,9 +160,14 @@ fn put_in_place<R: Runtime>(rt: &R, sink: Sink<R>) -> Put {
 }
 
 // Where the file of this name is written: beside its place, if it replaces what is there and that can be.
-fn file_sink<R: Runtime>(rt: &R, path: &str, replaces: bool) -> Option<Sink<R>> {
-    if replaces && let Some((file, beside)) = create_beside(rt, path) {
-        return Some(Sink::Beside(file, beside));
+fn file_sink<R: Runtime>(
+    rt: &R,
+    path: &str,
+    replaces: bool,
+    beside: &mut Beside,
+) -> Option<Sink<R>> {
+    if replaces && let Some(file) = create_beside(rt, path, beside) {
+        return Some(Sink::Beside(file));
     }
     match fs::create(rt, path) {
         Ok(file) => Some(Sink::File(file)),
@@ -263,23 +269,29 @@ impl<R: Runtime> Desk for StdDesk<R> {
         ensures counts { (std_state self.new.told).counts ≡ counted_open result (std_state self.old.told).counts }
         ensures input { name.now ≡ Name.In → result ≡ Put.Failed }
     {
-        let sink = match name {
-            Name::Out => standard_output(&self.rt),
-            Name::In => None,
-            Name::File(path) => file_sink(&self.rt, path.as_str(), self.replaces),
+        let before = put_in_place(&self.rt, &mut self.sink, &self.beside);
+        let sink = match (before, name) {
+            (Put::Failed, _) => None,
+            (Put::Done, Name::Out) => standard_output(&self.rt),
+            (Put::Done, Name::In) => None,
+            (Put::Done, Name::File(path)) => file_sink(
+                &self.rt,
+                path.as_str(),
+                self.replaces,
+                &mut self.beside,
+            ),
         };
-        let answer = match sink {
+        match sink {
             Some(sink) => {
-                let before = mem::replace(&mut self.sink, sink);
-                put_in_place(&self.rt, before)
+                self.sink = sink;
+                self.told.output_created = true;
+                Put::Done
             }
-            None => Put::Failed,
-        };
-        match answer {
-            Put::Done => self.told.output_created = true,
-            Put::Failed => raise(&mut self.told.counts.opens),
+            None => {
+                raise(&mut self.told.counts.opens);
+                Put::Failed
+            }
         }
-        answer
     }
 
     fn write(&mut self, piece: &[u8]) -> Put

@@ -26,11 +26,10 @@ use Rattle.jpg_cli.specs.Tools.ShowingRows.{EndsPlainly, HoldsEarlyPlainly, Hold
 use Rattle.jpg_cli.specs.Stays.{Keeps, OnlyReads}
 use Rattle.jpg_cli.specs.declared.desk.picture.Wanted.{Wanted}
 use Rattle.jpg_cli.specs.declared.desk.picture.Wanted.TheVariants.{Image}
-use Rattle.jpg_cli.proofs.CommentsCopied.{none_read, works_then}
+use Rattle.jpg_cli.proofs.CommentsCopied.{works_then}
 use Rattle.jpg_cli.proofs.ImageShown.{shown_written, text_shown}
 use Rattle.jpg_cli.proofs.Input.{file_read, noted}
-use Rattle.jpg_cli.proofs.PictureTaken.{early_meaning, early_taken, file_taken, reads_from, reads_none, stopped_there}
-use Rattle.jpg_cli.proofs.Unwanted.{no_header}
+use Rattle.jpg_cli.proofs.PictureTaken.{early_meaning, early_taken, file_taken, reads_from, stopped_there}
 
 -- IT ENDS
 
@@ -41,19 +40,6 @@ ends_plainly s old start new (why.ReadFault which.Input) h k e =
     ((let r = e.1 in let f = h.counts.reads in omega arith), inl (stopped_there old start new s.input h k, reads_from old start new s.input (IsPlain s.gray all_bytes (IsOpenRead (Image s.gray))) h e.0))
 ends_plainly s old start new why.NoMemory h k e = inl (stopped_there old start new s.input h k, reads_from old start new s.input (IsShortRead (Image s.gray)) h e)
 ends_plainly s old start new other h k e = absurd e
-
--- NO MEMORY for a reader
-pub nothing_read : (s : Showing) (old start : DeskState) → Opens old s.input put.Done start → Shown s old why.NoMemory start
-nothing_read s old start h =
-    let short : IsShortRead (Image s.gray) [] =
-    record {
-      front = [];
-      piece = [];
-      cut = refl;
-      few = omega arith;
-      before = record { short = omega arith; stands = inl (inl refl); wanted = λ f u. no_header u.before u.contents f.at u.header };
-    } in
-    inl (stopped_there old start start s.input h (reads_none start), reads_from old start start s.input (IsShortRead (Image s.gray)) h ([], none_read start.left, omega arith, short))
 
 -- IT IS COMPLETE
 

@@ -3,6 +3,7 @@ pub mod Categories
 pub mod Computed
 pub mod Emitted
 pub mod Encoded
+pub mod EncoderSlots
 pub mod FlatMade
 pub mod Fronts
 pub mod Gates

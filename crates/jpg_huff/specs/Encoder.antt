@@ -7,7 +7,7 @@ use Rattle.jpg_spec.specs.Codes.{Code}
 use Rattle.jpg_spec.specs.Numbers.{category, extra_bits}
 use Rattle.jpg_spec.specs.Codes.{code_of}
 use Rattle.jpg_huff.specs.declared.set.TableSet.{TableSet}
-use Rattle.jpg_huff.specs.Sets.{dc_tables, ac_tables, in_slot}
+use Rattle.jpg_huff.specs.Sets.{ac_tables, in_slot}
 use Rattle.jpg_huff.specs.Tables.{symbol_codes}
 
 -- 32 times the bits, plus how many they are: the first code of the value's symbol, if any, and its extra bits
@@ -19,7 +19,6 @@ pub record IsValueEntry (codes : List Code) (run : ℕ) (value : ℤ) (entry : �
 abbrev pub AreValueEntries : List Code → List ℕ → Type 0
 AreValueEntries codes entries = (i : ℕ) → i < 1024 → IsValueEntry codes (i / 64) (pos (i % 64) -ℤ pos 32) (slice_index entries i)
 
--- by slots, the codes of the tables of a set
-pub record AreEncodersOf (tables : TableSet) (dc ac : List (Option (List Code))) : Type 0 where
-  pub of_dc : (slot : ℕ) → slot_value (slice_get dc slot) ≡ option_map symbol_codes (in_slot (dc_tables tables) slot)
+-- by slots, the codes of the AC tables of a set
+pub record AreEncodersOf (tables : TableSet) (ac : List (Option (List Code))) : Type 0 where
   pub of_ac : (slot : ℕ) → slot_value (slice_get ac slot) ≡ option_map symbol_codes (in_slot (ac_tables tables) slot)

@@ -72,30 +72,36 @@ impl DefinitionSet {
     }
 
     /// The tables of all definitions, each in its slot.
+    #[cold]
+    #[inline(never)]
     pub fn tables(&self) -> TableSet
         ensures { slots_of result ≡ definitions_of self.now }
     {
-        TableSet {
-            dc: build_all(&self.dc),
-            ac: build_all(&self.ac),
-        }
+        let mut set = TableSet::new();
+        build_all(&self.dc, &mut set.dc);
+        build_all(&self.ac, &mut set.ac);
+        set
     }
 }
 
-// The tables of four slots.
-fn build_all(slots: &[Option<Definition>; 4]) -> [Option<Table>; 4]
-    ensures { map (option_map table_of) result ≡ map (option_map definition_of) slots.now }
+// Puts the tables of four slots into places, where they stay: they take some kilobytes.
+fn build_all(slots: &[Option<Definition>; 4], places: &mut [Option<Table>; 4])
+    ensures { map (option_map table_of) places.new ≡ map (option_map definition_of) slots.now }
 {
     let [first, second, third, fourth] = slots;
-    [build(first), build(second), build(third), build(fourth)]
+    build(first, &mut places[0]);
+    build(second, &mut places[1]);
+    build(third, &mut places[2]);
+    build(fourth, &mut places[3]);
 }
 
-// The table of a slot, if any.
-fn build(slot: &Option<Definition>) -> Option<Table>
-    ensures { option_map table_of result ≡ option_map definition_of slot.now }
+// Puts the table of a slot into a place, if there is one.
+#[inline(never)]
+fn build(slot: &Option<Definition>, place: &mut Option<Table>)
+    ensures { option_map table_of place.new ≡ option_map definition_of slot.now }
 {
-    match slot {
+    *place = match slot {
         Some(definition) => Some(definition.table()),
         None => None,
-    }
+    };
 }

@@ -5,7 +5,7 @@ ghost use Rattle.jpg_spec.specs.Numbers.{category as category_of, extra_bits as 
 ghost use Rattle.jpg_spec.specs.Codes.{code_of};
 ghost use Rattle.jpg_huff.specs.Tables.{symbol_codes};
 ghost use Rattle.std.specs.Option.{option_map};
-ghost use Rattle.jpg_huff.specs.Encoder.{IsValueEntry, AreValueEntries};
+ghost use Rattle.jpg_huff.specs.Encoder.{AreEncodersOf, AreValueEntries, IsValueEntry};
 ghost use Rattle.jpg_huff.specs.Sets.{dc_tables, ac_tables, in_slot};
 
 use crate::out::joined;
@@ -108,32 +108,54 @@ impl Encoder {
     }
 }
 
-// The encoder of the DC table in a slot.
-fn dc_encoder(tables: &TableSet, slot: u8) -> Option<Encoder>
-    ensures { result ≡ option_map symbol_codes (in_slot (dc_tables tables.now) slot) }
+// Puts the encoder of a table into a place, if there is one.
+#[cold]
+#[inline(never)]
+fn put_encoder(place: &mut Option<Encoder>, table: Option<&Table>)
+    ensures { place.new ≡ option_map symbol_codes (option_map (λ t. t.now) table.entry) }
 {
-    match tables.dc(slot) {
+    *place = match table {
         Some(table) => Some(Encoder::new(table)),
         None => None,
+    };
+}
+
+// Puts the encoders of the AC tables of a set into places.
+fn put_encoders(places: &mut [Option<Encoder>; 4], tables: &TableSet)
+    ensures { AreEncodersOf tables.now places.new }
+{
+    for slot in 0..4usize {
+        put_encoder(&mut places[slot], tables.ac(slot as u8));
     }
 }
 
-// The encoder of the AC table in a slot.
-fn ac_encoder(tables: &TableSet, slot: u8) -> Option<Encoder>
-    ensures { result ≡ option_map symbol_codes (in_slot (ac_tables tables.now) slot) }
-{
-    match tables.ac(slot) {
-        Some(table) => Some(Encoder::new(table)),
-        None => None,
+/// A place for the encoders of AC tables. They take tens of kilobytes, so they are made where they stay.
+#[derive(Drop)]
+pub struct EncoderPlaces {
+    ac: [Option<Encoder>; 4],
+}
+
+impl EncoderPlaces {
+    /// No encoders yet.
+    pub fn new() -> EncoderPlaces {
+        EncoderPlaces {
+            ac: [None, None, None, None],
+        }
+    }
+
+    /// Makes the encoders of the AC tables of a set.
+    pub fn fill(&mut self, tables: &TableSet)
+        ensures { AreEncodersOf tables.now self.new.ac }
+    {
+        put_encoders(&mut self.ac, tables);
     }
 }
 
-/// The tables of a set, each with what is written for small values.
+/// The tables of a set, those for AC with what is written for small values.
 #[derive(Drop)]
 pub struct EncoderSet<'a> {
     tables: &'a TableSet,
-    dc: [Option<Encoder>; 4],
-    ac: [Option<Encoder>; 4],
+    places: &'a EncoderPlaces,
 }
 
 impl<'a> Model for EncoderSet<'a> {
@@ -144,41 +166,24 @@ impl<'a> Model for EncoderSet<'a> {
 
     ghost view = { λ e. e.tables.now };
 
-    ghost invariant = { λ e. AreEncodersOf e.tables.now e.dc e.ac };
+    ghost invariant = { λ e. AreEncodersOf e.tables.now e.places.now.ac };
 }
 
 impl<'a> EncoderSet<'a> {
-    /// The encoders of the tables of this set.
-    pub fn new(tables: &'a TableSet) -> EncoderSet<'a>
+    /// The encoders of the tables of this set, made by `fill`.
+    pub fn new(tables: &'a TableSet, places: &'a EncoderPlaces) -> EncoderSet<'a>
+        requires { AreEncodersOf tables.now places.now.ac }
         ensures { result ≡ tables.now }
     {
-        EncoderSet {
-            tables,
-            dc: [
-                dc_encoder(tables, 0),
-                dc_encoder(tables, 1),
-                dc_encoder(tables, 2),
-                dc_encoder(tables, 3),
-            ],
-            ac: [
-                ac_encoder(tables, 0),
-                ac_encoder(tables, 1),
-                ac_encoder(tables, 2),
-                ac_encoder(tables, 3),
-            ],
-        }
+        EncoderSet { tables, places }
     }
 
-    /// The encoder of the DC table in a slot, None if there is none, and for slots from 4 on.
+    /// The DC table in a slot, None if there is none, and for slots from 4 on.
     #[inline(always)]
-    pub fn dc(&self, slot: u8) -> Option<&Encoder>
-        ensures { option_map (λ e. e.now) result ≡ option_map symbol_codes (in_slot (dc_tables self.now) slot) }
+    pub fn dc(&self, slot: u8) -> Option<&Table>
+        ensures { option_map (λ t. t.now) result ≡ in_slot (dc_tables self.now) slot }
     {
-        match self.dc.get(slot as usize) {
-            Some(Some(encoder)) => Some(encoder),
-            Some(None) => None,
-            None => None,
-        }
+        self.tables.dc(slot)
     }
 
     /// The encoder of the AC table in a slot, None if there is none, and for slots from 4 on.
@@ -186,7 +191,7 @@ impl<'a> EncoderSet<'a> {
     pub fn ac(&self, slot: u8) -> Option<&Encoder>
         ensures { option_map (λ e. e.now) result ≡ option_map symbol_codes (in_slot (ac_tables self.now) slot) }
     {
-        match self.ac.get(slot as usize) {
+        match self.places.ac.get(slot as usize) {
             Some(Some(encoder)) => Some(encoder),
             Some(None) => None,
             None => None,

@@ -128,12 +128,15 @@ impl Preview {
     }
 
     /// The picture of the front, or of the complete file, or of one that ended early, with the markers that were kept.
-    /// It may be called only after `feed` answered Done or `end` answered Early (`is_done`).
-    pub fn take(self) -> Picture
-        requires { self.reader.done ≡ true }
-        ensures meaning { TakesPicture self.reader result }
-        ensures early { TakesEarly self.reader result }
+    /// It may be called only after `feed` answered Done or `end` answered Early (`is_done`). The preview has nothing left
+    /// then, and answers further pieces with NoMemory.
+    pub fn take(&mut self) -> Picture
+        requires { self.old.reader.done ≡ true }
+        ensures meaning { TakesPicture self.old.reader result }
+        ensures early { TakesEarly self.old.reader result }
+        ensures over { (self.new.reader.done ≡ false) × (self.new.stop ≡ Some Stopped.NoMemory) }
     {
+        self.stop = Some(Stop::NoMemory);
         self.reader.take()
     }
 }

@@ -12,7 +12,7 @@ ghost use Rattle.jpg_seq.specs.SeqUnits.{seq_units};
 use crate::write::put_block;
 use jpg_base::{Block, Desk, ScanHead, WriteFault};
 use jpg_coefs::{BlockView, UnitSink, end_interval, part_of, put_scan};
-use jpg_huff::{BitOut, EncoderSet, TableSet};
+use jpg_huff::{BitOut, EncoderPlaces, EncoderSet, TableSet};
 
 // Writes a block of a component, by its tables, after this DC value.
 #[inline(always)]
@@ -75,10 +75,11 @@ impl<'a, D: Desk> UnitSink<BitOut, D> for SeqUnits<'a> {
 /// frame, whose tables are there; a symbol without a code is written as no bits; all values are in the range of the
 /// frame's precision; an output is created, and no bits wait, neither before nor afterwards. After a fault a first part of
 /// the data is written.
-pub fn write_seq_scan<V: BlockView, D: Desk>(
+#[inline(never)]
+pub fn write_seq_scan<'x, V: BlockView, D: Desk>(
     view: &V,
-    head: &ScanHead,
-    tables: &TableSet,
+    head: &'x ScanHead,
+    tables: &'x TableSet,
     interval: u16,
     out: &mut BitOut,
     desk: &mut D,
@@ -88,7 +89,9 @@ pub fn write_seq_scan<V: BlockView, D: Desk>(
     requires blocks { HasBlocksIn (V.numbers view.now) (V.blocks view.now) }
     ensures { Sends (D.state desk.old) out.old (written_data (V.numbers view.now) head.now tables.now interval (V.blocks view.now)) result out.new (D.state desk.new) }
 {
-    let encoders = EncoderSet::new(tables);
+    let mut places = EncoderPlaces::new();
+    places.fill(tables);
+    let encoders = EncoderSet::new(tables, &places);
     let mut units = SeqUnits { head, encoders };
     put_scan(view, head, interval, &mut units, out, desk)
 }

@@ -3,10 +3,11 @@ ghost use Rattle.std.specs.Prelude.{◌≡◌, ◌≤◌, ◌++◌, [], drop, tr
 ghost use Rattle.jpg_spec.specs.Numbers.{category as category_of, extra_bits as extra_of};
 ghost use Rattle.jpg_spec.specs.Codes.{code_of};
 ghost use Rattle.jpg_huff.specs.BitOut.{Puts, PutsAfter};
+ghost use Rattle.jpg_huff.specs.Tables.{symbol_codes};
 ghost use Rattle.jpg_seq.specs.BlockBits.{IsShort, run_bits, band_bits, block_bits};
 
 use jpg_base::{Block, Desk, WriteFault};
-use jpg_huff::{BitOut, Encoder, PendingBits, category, extra_bits};
+use jpg_huff::{BitOut, Encoder, PendingBits, Table, category, extra_bits};
 
 // Writes the first code of a symbol, if any.
 #[inline(always)]
@@ -175,8 +176,25 @@ pub(crate) fn difference(value: i16, prediction: i16) -> i32
     i32::from(value) - i32::from(prediction)
 }
 
+// Writes the category of a difference of DC values, and then its extra bits.
+#[inline(always)]
+fn put_difference<D: Desk>(
+    dc: &Table,
+    value: i32,
+    out: &mut BitOut,
+    desk: &mut D,
+) -> Result<(), WriteFault>
+    requires created { (D.state desk.old).output_created ≡ true }
+    requires short { category_of value ≤ 16 }
+    ensures { Puts (D.state desk.old) out.old (code_of (symbol_codes dc.now) (category_of value) ++ extra_of value) result out.new (D.state desk.new) }
+{
+    let size = category(value);
+    out.put_code(dc.written(size), extra_bits(value), size, desk)
+}
+
+// Writes a block by these tables, after this DC value of its component.
 pub(crate) fn put_block<D: Desk>(
-    dc: &Encoder,
+    dc: &Table,
     ac: &Encoder,
     prediction: i16,
     block: &Block,
@@ -185,9 +203,9 @@ pub(crate) fn put_block<D: Desk>(
 ) -> Result<(), WriteFault>
     requires created { (D.state desk.old).output_created ≡ true }
     requires short { IsShort block.now }
-    ensures { Puts (D.state desk.old) out.old (block_bits dc.now ac.now prediction block.now) result out.new (D.state desk.new) }
+    ensures { Puts (D.state desk.old) out.old (block_bits (symbol_codes dc.now) ac.now prediction block.now) result out.new (D.state desk.new) }
 {
     let value = difference(block.get(0), prediction);
-    put_value(dc, category(value), value, out, desk)?;
+    put_difference(dc, value, out, desk)?;
     put_band(ac, block, out, desk)
 }

@@ -10,7 +10,7 @@ mod planning;
 mod signs;
 mod table;
 
-pub use applying::apply;
+pub use applying::{apply, turned_copy};
 pub use choice::{Choice, Job, Scans};
 pub use frames::with_sides;
 pub use jpg_base::{Block, Frame, NoMemory};

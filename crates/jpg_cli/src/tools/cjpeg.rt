@@ -87,7 +87,7 @@ pub fn write_encoded<D: Desk>(
     let encoding = encoding_of(words, &scans, tables, image);
     match encode_picture(alloc, image, &encoding) {
         Err(stop) => why_none(stop),
-        Ok(picture) => write_picture(&picture, words, scans, desk),
+        Ok(picture) => write_picture(alloc, &picture, words, scans, desk),
     }
 }
 
@@ -102,7 +102,13 @@ fn why_none(stop: EncodeStop) -> Why
 }
 
 // Writes a picture as it is, in these scans.
-fn write_picture<D: Desk>(picture: &Picture, words: &EncodeWords, scans: Scans, desk: &mut D) -> Why
+fn write_picture<D: Desk>(
+    alloc: Global,
+    picture: &Picture,
+    words: &EncodeWords,
+    scans: Scans,
+    desk: &mut D,
+) -> Why
     ensures kept { OnlyWorks (D.state desk.old) (D.state desk.new) }
     ensures left { (D.state desk.new).left ≡ (D.state desk.old).left }
     ensures wrote { WritesAsItIs words.now (scans_told scans) picture.now (D.state desk.old) result (D.state desk.new) }
@@ -116,7 +122,7 @@ fn write_picture<D: Desk>(picture: &Picture, words: &EncodeWords, scans: Scans, 
         huffman: words.huffman,
         restart: words.restart,
     };
-    match write_moved(picture, &choice, &words.files.output, &None, desk) {
+    match write_moved(alloc, picture, &choice, &words.files.output, &None, desk) {
         Wrote::Done => Why::Done,
         Wrote::Picture(fault) => Why::Picture(fault),
         Wrote::OpenFault => Why::OpenFault(Which::Output),

@@ -75,9 +75,7 @@ fn show_input<D: Desk>(
     ensures kept { OnlyWorks (D.state desk.old) (D.state desk.new) }
     ensures shown { (old : DeskState) → Opens old words.now.files.input put.Done (D.state desk.old) → Shown (showing_told words.now) old result (D.state desk.new) }
 {
-    let Ok(mut reader) = Reader::strips(alloc, Limits::standard()) else {
-        return Why::NoMemory;
-    };
+    let mut reader = Reader::strips(alloc, Limits::standard());
     let mut buffer = [0u8; 16384];
     match read_first(&mut reader, words.gray, &mut buffer, desk) {
         FirstStep::More => unreachable!(),

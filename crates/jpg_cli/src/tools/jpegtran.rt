@@ -22,7 +22,7 @@ use std::alloc::Global;
 /// Takes the scans of the output, reads the picture of the input, and writes it to the output, transformed and cropped
 /// as the words ask for it. A script's file is read and judged before the input is opened. The input is read in pieces
 /// of at most 16,384 bytes, up to the one that completes it or reveals a fault, or up to its end; from then on no memory
-/// is asked for. An input that ends early is transformed with what it has, and the answer warns of it. The output is
+/// is needed. An input that ends early is transformed with what it has, and the answer warns of it. The output is
 /// created when the picture is complete and has no fault, so it may have the input's name.
 #[inline(never)]
 pub fn transform<D: Desk>(alloc: Global, words: &TransformWords, desk: &mut D) -> Why
@@ -71,7 +71,14 @@ fn turn<D: Desk>(
     let copying = choice.copying;
     match read_picture(alloc, &files.input, Wanted::Coefficients, copying, desk) {
         Err(why) => why,
-        Ok((picture, early)) => match write_moved(&picture, choice, &files.output, area, desk) {
+        Ok((picture, early)) => match write_moved(
+            alloc,
+            &picture,
+            choice,
+            &files.output,
+            area,
+            desk,
+        ) {
             Wrote::Done => done_as(early),
             Wrote::Picture(fault) => Why::Picture(fault),
             Wrote::OpenFault => Why::OpenFault(Which::Output),

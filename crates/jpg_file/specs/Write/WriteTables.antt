@@ -12,7 +12,7 @@ use Rattle.jpg_huff.specs.declared.set.TableSet.{TableSet}
 use Rattle.jpg_huff.specs.Flat.{symbols_in}
 use Rattle.jpg_huff.specs.Counts.{row}
 use Rattle.jpg_huff.specs.declared.counts.SymbolCounts.{SymbolCounts}
-use Rattle.jpg_huff.specs.Sets.{dc_tables, ac_tables, in_slot}
+use Rattle.jpg_huff.specs.Sets.{dc_tables, ac_tables, in_slot, no_tables}
 use Rattle.jpg_huff.specs.Tables.{table_of}
 
 -- the slots of a class (0 is DC, 1 is AC)
@@ -22,6 +22,11 @@ class_tables set class = if class == 0 then dc_tables set else ac_tables set
 -- a slot has a table of these counts and symbols
 abbrev pub IsInSlot : List (Option Table) → ℕ → HuffmanTable → Type 0
 IsInSlot tables slot table = (t : Table) × (in_slot tables slot ≡ Some t) × (table_of t ≡ table)
+
+-- a set without tables
+pub record IsEmptySet (set : TableSet) : Type 0 where
+  pub dc : dc_tables set ≡ no_tables
+  pub ac : ac_tables set ≡ no_tables
 
 -- slots 0 and 1 of both classes have these tables
 abbrev pub GivesTables : TableSet → (ℕ → ℕ → HuffmanTable) → Type 0

@@ -8,34 +8,29 @@ ghost use Rattle.jpg_file.specs.Read.PictureRead.{RevealsFile};
 use crate::read::file::FileWork;
 use crate::read::first_header::colours;
 use crate::read::picture::Picture;
-use crate::read::reading::Reading;
 use crate::read::scan_history::ScanHistory;
-use crate::read::segment_state::SegmentState;
 use arrayvec::ArrayVec;
 use jpg_base::{Frame, QuantTable};
+use jpg_markers::KeptList;
+use std::mem;
 
-/// The picture of a file that is complete or ended early.
-pub fn picture_of(file: FileWork) -> Picture
-    requires { (limits : Limits) × LeavesPicture limits file }
-    ensures { RevealsFile file result }
+/// The picture of a file that is complete or ended early. It is moved out of the state, which is of no use then.
+pub fn picture_of(file: &mut FileWork) -> Picture
+    requires { (limits : Limits) × LeavesPicture limits file.old }
+    ensures { RevealsFile file.old result }
 {
-    let FileWork { reading, begun, .. } = file;
-    let Reading { items, coefs, .. } = reading;
-    let SegmentState {
-        frame,
-        kept,
-        jfif,
-        ..
-    } = items.held;
-    let Some(frame) = frame else {
+    let held = &mut file.reading.items.held;
+    let Some(frame) = held.frame.take() else {
         unreachable!();
     };
     frame.checked();
-    let Some(coefs) = coefs else {
+    let Some(coefs) = file.reading.coefs.take() else {
         unreachable!();
     };
+    let kept = mem::replace(&mut held.kept, KeptList::new(file.alloc));
+    let jfif = held.jfif;
     let colour = colours(&frame, &jfif, &kept);
-    let quants = tables_of(&frame, &begun);
+    let quants = tables_of(&frame, &file.begun);
     Picture {
         frame,
         colour,

@@ -1,5 +1,5 @@
 //! A file, fed in pieces of any length; read into a picture, or MCU row by MCU row (T.81, A.2.3, B.2.1).
-ghost use Rattle.std.specs.Prelude.{◌≡◌, ◌+◌, ◌-◌, length, [], ℕ, List, Some, None, true, false, Err, IfOk};
+ghost use Rattle.std.specs.Prelude.{◌≡◌, ◌+◌, ◌-◌, length, [], ℕ, List, Some, None, true, false, Err};
 ghost use Rattle.jpg_spec.specs.FrameHeader.{AreLimits};
 ghost use Rattle.jpg_spec.specs.InForce.{frame_of};
 ghost use Rattle.jpg_spec.specs.declared.frame.Copying.TheVariants.{All, None as NoMarkers};
@@ -19,7 +19,7 @@ use crate::read::row_pieces::{FedRow, read_rows};
 use crate::read::rows::RowWork;
 use crate::read::strip_head::StripHead;
 use crate::read::strip_work::StripWork;
-use jpg_base::{Fed, Frame, Limits, NoMemory, Stop};
+use jpg_base::{Fed, Frame, Limits, Stop};
 use jpg_coefs::Coefs;
 use jpg_spec::{Colour, Copying};
 use std::alloc::Global;
@@ -81,14 +81,14 @@ impl Reader {
     }
 
     /// A reader for `feed_row` in place of `feed`, which keeps no markers but JFIF and Adobe segments.
-    pub fn strips(alloc: Global, limits: Limits) -> Result<Reader, NoMemory>
+    pub fn strips(alloc: Global, limits: Limits) -> Reader
         requires { AreLimits limits }
-        ensures read { IfOk result (λ r. HasReadPlainly [] r) }
-        ensures limits { IfOk result (λ r. r.limits ≡ limits) }
-        ensures keeping { IfOk result (λ r. keeping_of r.file ≡ NoMarkers) }
-        ensures by_row { IfOk result (λ r. r.by_row ≡ true) }
+        ensures read { HasReadPlainly [] result }
+        ensures limits { result.limits ≡ limits }
+        ensures keeping { keeping_of result.file ≡ NoMarkers }
+        ensures by_row { result.by_row ≡ true }
     {
-        Ok(Reader {
+        Reader {
             limits,
             work: StripWork {
                 file: FileWork::new(alloc, limits, Copying::None),
@@ -98,7 +98,7 @@ impl Reader {
             },
             done: false,
             stop: None,
-        })
+        }
     }
 
     /// Takes a further piece of the file, of any length. It answers Done if the file is complete then, and how many
@@ -253,12 +253,19 @@ impl Reader {
 
     /// The picture of the complete file, or of one that ended early, with the markers that were kept. It may be called
     /// only after `feed` or `feed_row` answered Done or `end` answered Early (`is_done`), and if no MCU rows are read.
-    pub fn take(self) -> Picture
-        requires done { self.done ≡ true }
-        requires plain { self.rows ≡ None }
-        ensures meaning { TakesPicture self result }
-        ensures early { TakesEarly self result }
+    /// The reader has nothing left then, and answers further pieces with NoMemory.
+    pub fn take(&mut self) -> Picture
+        requires done { self.old.done ≡ true }
+        requires plain { self.old.rows ≡ None }
+        ensures meaning { TakesPicture self.old result }
+        ensures early { TakesEarly self.old result }
+        ensures over { (self.new.done ≡ false) × (self.new.stop ≡ Some Stopped.NoMemory) }
+        ensures plain { IsPlain self.new }
+        ensures limits { self.new.limits ≡ self.old.limits }
     {
-        picture_of(self.work.file)
+        self.done = false;
+        self.stop = Some(Stop::NoMemory);
+        self.work.by_row = false;
+        picture_of(&mut self.work.file)
     }
 }

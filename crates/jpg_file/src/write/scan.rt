@@ -8,7 +8,7 @@ ghost use Rattle.jpg_file.specs.Write.WriteScan.{CanWriteDue, CanWriteScan, IsDu
 use crate::write::Plan;
 use crate::write::head::{Needed, head_of, needed_of, write_head};
 use crate::write::restart::interval_of;
-use crate::write::sets::tables_of;
+use crate::write::sets::put_tables;
 use crate::write::tables::write_due;
 use jpg_base::{Desk, Frame, ScanHead, WriteFault};
 use jpg_coefs::BlockView;
@@ -75,14 +75,22 @@ fn due_of<V: BlockView>(plan: &Plan, entry: &Entry, view: &V) -> ScanDue
     let is_prog = plan.out.frame.is_progressive();
     let head = head_of(is_prog, plan.out.colour, entry);
     let interval = interval_of(&plan.out.frame, &head, plan.restart);
-    let tables = tables_of(plan.huffman, &plan.out.frame, view, &head, interval);
     let needed = needed_of(is_prog, entry, &head);
-    ScanDue {
+    let mut due = ScanDue {
         head,
         interval,
-        tables,
+        tables: TableSet::new(),
         needed,
-    }
+    };
+    put_tables(
+        plan.huffman,
+        &plan.out.frame,
+        view,
+        &due.head,
+        interval,
+        &mut due.tables,
+    );
+    due
 }
 
 // Writes the tables, the header and the data.

@@ -12,7 +12,7 @@ ghost use Rattle.jpg_spec_write.specs.WrittenFile.{HasBlocksIn};
 ghost use Rattle.jpg_huff.specs.Tables.{table_of};
 ghost use Rattle.jpg_coefs.specs.MarkSinks.{HasSlots};
 ghost use Rattle.jpg_prog_write.specs.Written.{IsProgScan};
-ghost use Rattle.jpg_file.specs.Write.WriteTables.{AreFew, HasCounts, UsesSymbols, GivesTables, HasFourTables, own_tables};
+ghost use Rattle.jpg_file.specs.Write.WriteTables.{AreFew, HasCounts, UsesSymbols, GivesTables, HasFourTables, IsEmptySet, own_tables};
 
 use jpg_base::{Frame, ScanHead};
 use jpg_coefs::BlockView;
@@ -22,27 +22,30 @@ use jpg_prog_write::count_scan;
 use jpg_seq::count_seq_scan;
 use jpg_spec_write::Huffman;
 
-/// The tables of a scan, in slots 0 and 1: those that are made for it, if they are asked for; otherwise in a sequential
-/// file of precision 8 the typical ones, and in any other those of codes of one length for what the scan writes.
-pub fn tables_of<V: BlockView>(
+/// Puts the tables of a scan into slots 0 and 1 of an empty set: those that are made for it, if they are asked for;
+/// otherwise in a sequential file of precision 8 the typical ones, and in any other those of codes of one length for what
+/// the scan writes.
+pub fn put_tables<V: BlockView>(
     huffman: Huffman,
     frame: &Frame,
     view: &V,
     head: &ScanHead,
     interval: u16,
-) -> TableSet
+    set: &mut TableSet,
+)
+    requires empty { IsEmptySet set.old }
     requires kind { is_progressive (V.numbers view.now).process ≡ is_progressive frame.now.process }
     requires components { AreIn (V.numbers view.now) (head_components head.now) }
     requires scan { is_progressive frame.now.process ≡ true → IsProgScan (V.numbers view.now) head.now }
     requires distinct { is_distinct (head_components head.now) ≡ true }
     requires slots { All HasSlots head.now.parts }
     requires blocks { HasBlocksIn (V.numbers view.now) (V.blocks view.now) }
-    ensures { GivesTables result (scan_tables huffman frame.now head.now (scan_elements (V.numbers view.now) head.now interval (V.blocks view.now))) }
+    ensures { GivesTables set.new (scan_tables huffman frame.now head.now (scan_elements (V.numbers view.now) head.now interval (V.blocks view.now))) }
 {
     if has_typical(huffman, frame) {
-        typical_set()
+        put_typical(set);
     } else {
-        own_set(huffman, &counts_of(frame, view, head, interval))
+        put_own(huffman, &counts_of(frame, view, head, interval), set);
     }
 }
 
@@ -83,62 +86,71 @@ fn counts_of<V: BlockView>(frame: &Frame, view: &V, head: &ScanHead, interval: u
     }
 }
 
-// K.3 and K.5 in slot 0, K.4 and K.6 in slot 1.
-fn typical_set() -> TableSet
-    ensures { GivesTables result typical_table }
+// Puts K.3 and K.5 into slot 0, K.4 and K.6 into slot 1.
+#[inline(never)]
+fn put_typical(set: &mut TableSet)
+    requires { IsEmptySet set.old }
+    ensures { GivesTables set.new typical_table }
 {
-    set_of(
+    put_four(
         &typical(Typical::DcLuma),
         &typical(Typical::DcChroma),
         &typical(Typical::AcLuma),
         &typical(Typical::AcChroma),
-    )
+        set,
+    );
 }
 
-// The tables of a scan's own, for these counts.
-fn own_set(huffman: Huffman, counts: &SymbolCounts) -> TableSet
-    requires { AreFew counts.now }
-    ensures { (symbols numbers : ℕ → ℕ → List ℕ) → UsesSymbols counts.now symbols → HasCounts counts.now numbers → GivesTables result (own_tables huffman symbols numbers) }
+// Puts the tables of a scan's own, for these counts.
+fn put_own(huffman: Huffman, counts: &SymbolCounts, set: &mut TableSet)
+    requires empty { IsEmptySet set.old }
+    requires few { AreFew counts.now }
+    ensures { (symbols numbers : ℕ → ℕ → List ℕ) → UsesSymbols counts.now symbols → HasCounts counts.now numbers → GivesTables set.new (own_tables huffman symbols numbers) }
 {
     match huffman {
-        Huffman::Plain => flat_set(counts),
-        Huffman::Fitted => fitted_set(counts),
+        Huffman::Plain => put_flat(counts, set),
+        Huffman::Fitted => put_fitted(counts, set),
     }
 }
 
-// The tables of codes of one length for the symbols that are used.
-fn flat_set(counts: &SymbolCounts) -> TableSet
-    requires { AreFew counts.now }
-    ensures { (symbols : ℕ → ℕ → List ℕ) → UsesSymbols counts.now symbols → GivesTables result (λ class slot. flat_table (symbols class slot)) }
+// Puts the tables of codes of one length for the symbols that are used.
+#[inline(never)]
+fn put_flat(counts: &SymbolCounts, set: &mut TableSet)
+    requires empty { IsEmptySet set.old }
+    requires few { AreFew counts.now }
+    ensures { (symbols : ℕ → ℕ → List ℕ) → UsesSymbols counts.now symbols → GivesTables set.new (λ class slot. flat_table (symbols class slot)) }
 {
-    set_of(
+    put_four(
         &flat(&counts.dc[0]),
         &flat(&counts.dc[1]),
         &flat(&counts.ac[0]),
         &flat(&counts.ac[1]),
-    )
+        set,
+    );
 }
 
-// The tables that are made for these counts.
-fn fitted_set(counts: &SymbolCounts) -> TableSet
-    ensures { (numbers : ℕ → ℕ → List ℕ) → HasCounts counts.now numbers → GivesTables result (λ class slot. fitted (numbers class slot)) }
+// Puts the tables that are made for these counts.
+#[inline(never)]
+fn put_fitted(counts: &SymbolCounts, set: &mut TableSet)
+    requires { IsEmptySet set.old }
+    ensures { (numbers : ℕ → ℕ → List ℕ) → HasCounts counts.now numbers → GivesTables set.new (λ class slot. fitted (numbers class slot)) }
 {
-    set_of(
+    put_four(
         &fitted(&counts.dc[0]),
         &fitted(&counts.dc[1]),
         &fitted(&counts.ac[0]),
         &fitted(&counts.ac[1]),
-    )
+        set,
+    );
 }
 
-// A set of these tables in slots 0 and 1, two for DC and two for AC.
-fn set_of(dc: &Table, dc_chroma: &Table, ac: &Table, ac_chroma: &Table) -> TableSet
-    ensures { HasFourTables result (table_of dc.now) (table_of dc_chroma.now) (table_of ac.now) (table_of ac_chroma.now) }
+// Puts these tables into slots 0 and 1, two for DC and two for AC.
+fn put_four(dc: &Table, dc_chroma: &Table, ac: &Table, ac_chroma: &Table, set: &mut TableSet)
+    requires { IsEmptySet set.old }
+    ensures { HasFourTables set.new (table_of dc.now) (table_of dc_chroma.now) (table_of ac.now) (table_of ac_chroma.now) }
 {
-    let mut set = TableSet::new();
     set.set_dc(0, dc);
     set.set_dc(1, dc_chroma);
     set.set_ac(0, ac);
     set.set_ac(1, ac_chroma);
-    set
 }

@@ -6,13 +6,14 @@ use Rattle.std.proofs.lemmas.Int.{to_z-of_z}
 use Rattle.std.proofs.lemmas.Result.{err_from_is_err_and}
 use Rattle.jpg_spec.specs.Numbers.{category, extra_bits}
 use Rattle.jpg_spec.specs.Codes.{code_of}
+use Rattle.jpg_huff.specs.Tables.{symbol_codes}
 use Rattle.jpg_seq.specs.BlockBits.{band_bits, block_bits}
 use Rattle.jpg_huff.proofs.Together.{puts_same, puts_then, puts_fault}
 use Rattle.jpg_seq.proofs.Blocks.{apart_16}
 use Rattle.jpg_seq.proofs.write.put_block.Goals as goal
 
-pub put_value-requires-clause-short : goal.put_value-requires-clause-short
-put_value-requires-clause-short g c =
+pub put_difference-requires-clause-short : goal.put_difference-requires-clause-short
+put_difference-requires-clause-short g c =
     let f : SFits w32 c.difference-value.result = search rules in
     let w = c.difference-value.ensures.within in
     subst (λ d. category d ≤ 16) (sym (to_z-of_z w32 c.difference-value.result f)) (apart_16 c.difference-value.result w.0 w.1)
@@ -23,29 +24,29 @@ returns g c =
     let state = g.D.Desk.state in
     let d = slice_index_or c.args.block.now 0 (pos 0) -ℤ c.args.prediction in
     let w = to_z w32 (of_z w32 c.difference-value.result) in
-    let dc = c.args.dc.now in
+    let dc = symbol_codes c.args.dc.now in
     let f : SFits w32 c.difference-value.result = search rules in
     let fv : SFits w16 c.get.result = search rules in
     let fp : SFits w16 c.args.prediction = search rules in
     let e : w ≡ d = to_z-of_z w32 c.difference-value.result f ∙ c.difference-value.ensures.value
     ∙ ap (λ x. x -ℤ to_z w16 (of_z w16 c.args.prediction)) (to_z-of_z w16 c.get.result fv ∙ c.get.ensures.value) ∙ ap (λ x. slice_index_or c.args.block.now 0 (pos 0) -ℤ x) (to_z-of_z w16 c.args.prediction fp) in
-    let q = ap (λ n. code_of dc n ++ extra_bits w) c.category.ensures.category ∙ ap (λ x. code_of dc (category x) ++ extra_bits x) e in
-    puts_then (state c.args.desk.now) (state c.put_value.new.desk) (state c.put_band.new.desk) c.args.out.now c.put_value.new.out c.put_band.new.out (code_of dc (category d) ++ extra_bits d)
-    (band_bits c.args.ac.now (drop 1 c.args.block.now)) c.put_band.result (puts_same _ _ _ _ _ _ _ q c.in_ok-put_value.ensures) c.put_band.ensures
+    let q = ap (λ x. code_of dc (category x) ++ extra_bits x) e in
+    puts_then (state c.args.desk.now) (state c.put_difference.new.desk) (state c.put_band.new.desk) c.args.out.now c.put_difference.new.out c.put_band.new.out (code_of dc (category d) ++ extra_bits d)
+    (band_bits c.args.ac.now (drop 1 c.args.block.now)) c.put_band.result (puts_same _ _ _ _ _ _ _ q c.in_ok-put_difference.ensures) c.put_band.ensures
 
-pub returns-in_err-put_value : goal.returns-in_err-put_value
+pub returns-in_err-put_difference : goal.returns-in_err-put_difference
 unfolding block_bits
-returns-in_err-put_value g c =
+returns-in_err-put_difference g c =
     let state = g.D.Desk.state in
     let d = slice_index_or c.args.block.now 0 (pos 0) -ℤ c.args.prediction in
     let w = to_z w32 (of_z w32 c.difference-value.result) in
-    let dc = c.args.dc.now in
+    let dc = symbol_codes c.args.dc.now in
     let f : SFits w32 c.difference-value.result = search rules in
     let fv : SFits w16 c.get.result = search rules in
     let fp : SFits w16 c.args.prediction = search rules in
     let e : w ≡ d = to_z-of_z w32 c.difference-value.result f ∙ c.difference-value.ensures.value
     ∙ ap (λ x. x -ℤ to_z w16 (of_z w16 c.args.prediction)) (to_z-of_z w16 c.get.result fv ∙ c.get.ensures.value) ∙ ap (λ x. slice_index_or c.args.block.now 0 (pos 0) -ℤ x) (to_z-of_z w16 c.args.prediction fp) in
-    let q = ap (λ n. code_of dc n ++ extra_bits w) c.category.ensures.category ∙ ap (λ x. code_of dc (category x) ++ extra_bits x) e in
+    let q = ap (λ x. code_of dc (category x) ++ extra_bits x) e in
     let back = err_from_is_err_and c.from_residual.result c.from_residual.ensures.1 in
-    rw (back.1, back.2) (puts_fault (state c.args.desk.now) (state c.put_value.new.desk) c.args.out.now c.put_value.new.out (code_of dc (category d) ++ extra_bits d) (band_bits c.args.ac.now (drop 1 c.args.block.now)) c.in_err-put_value.field-0.0
-    (puts_same _ _ _ _ _ _ _ q c.in_err-put_value.ensures))
+    rw (back.1, back.2) (puts_fault (state c.args.desk.now) (state c.put_difference.new.desk) c.args.out.now c.put_difference.new.out (code_of dc (category d) ++ extra_bits d) (band_bits c.args.ac.now (drop 1 c.args.block.now)) c.in_err-put_difference.field-0.0
+    (puts_same _ _ _ _ _ _ _ q c.in_err-put_difference.ensures))

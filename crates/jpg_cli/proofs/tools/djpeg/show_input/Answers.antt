@@ -1,10 +1,7 @@
 use Rattle.std.proofs.Common.{None, Some}
 use Rattle.jpg_cli.specs.Tools.Showing.{showing_told}
-use Rattle.jpg_cli.proofs.FirstShown.{cut_taken, ends_plainly, nothing_read, taken_admitted, taken_shown, whole_taken}
+use Rattle.jpg_cli.proofs.FirstShown.{cut_taken, ends_plainly, taken_admitted, taken_shown, whole_taken}
 use Rattle.jpg_cli.proofs.tools.djpeg.show_input.Goals as goal
-
-pub returns-in_default-clause-shown : goal.returns-in_default-clause-shown
-returns-in_default-clause-shown g c = λ old h. nothing_read (showing_told c.args.words.now) old (g.D.Desk.state c.args.desk.now) h
 
 pub write_image-requires-clause-admitted : goal.write_image-requires-clause-admitted
 write_image-requires-clause-admitted g c =

@@ -1,4 +1,5 @@
-use Rattle.std.proofs.Common.{◌<◌, ◌≤◌, ◌∙◌, length, refl, sym, subst}
+use Rattle.std.proofs.Common.{◌<◌, ◌≤◌, ◌∙◌, length, ap, sym, subst}
+use Rattle.jpg_spec.specs.Jfif.{jfif_of}
 use Rattle.jpg_spec.specs.Geometry.{Frame}
 use Rattle.jpg_file.specs.Read.PictureKept.{PictureParts}
 use Rattle.jpg_file.proofs.PictureSteps.{IsLeft, colour_is, left_framed, left_grids, left_jfif, left_means, left_quants, left_range, table_left}
@@ -9,19 +10,19 @@ pub unreachable-requires : goal.unreachable-requires
 unreachable-requires c =
     let o = c.requires in
     let e = o.1.2 in
-    none_some c.args.file.reading.items.held.frame e.frame e.held c.in_default.is
+    none_some c.args.file.now.reading.items.held.frame e.frame e.held (sym c.take.ensures.value ∙ c.in_default.is)
 
-pub unreachable-requires-in_default-coefs : goal.unreachable-requires-in_default-coefs
-unreachable-requires-in_default-coefs c =
+pub unreachable-requires-in_default-take : goal.unreachable-requires-in_default-take
+unreachable-requires-in_default-take c =
     let o = c.requires in
     let e = o.1.2 in
-    none_some c.args.file.reading.coefs e.coefs e.has c.in_default-coefs.is
+    none_some c.args.file.now.reading.coefs e.coefs e.has (sym c.take-2.ensures.value ∙ c.in_default-take.is)
 
 pub tables_of-quants-requires : goal.tables_of-quants-requires
 tables_of-quants-requires c = λ i low.
     let o = c.requires in
-    let same = left_framed o.0 o.1.0 o.1.1 c.args.file o.1.2 c.in-Some.frame c.in-Some.is in
-    table_left o.0 o.1.0 o.1.1 c.args.file o.1.2 i (subst (λ (g : Frame). length g.components ≤ 4) (sym same) c.checked.ensures.count_high) (subst (λ (g : Frame). i < length g.components) (sym same) low)
+    let same = left_framed o.0 o.1.0 o.1.1 c.args.file.now o.1.2 c.in-Some.frame (sym c.take.ensures.value ∙ c.in-Some.is) in
+    table_left o.0 o.1.0 o.1.1 c.args.file.now o.1.2 i (subst (λ (g : Frame). length g.components ≤ 4) (sym same) c.checked.ensures.count_high) (subst (λ (g : Frame). i < length g.components) (sym same) low)
 
 pub returns : goal.returns
 returns c = λ limits segments blocks e.
@@ -29,12 +30,12 @@ returns c = λ limits segments blocks e.
       frame = c.in-Some.frame;
       colour = c.colours-colour.result;
       quants = c.tables_of-quants.result.items;
-      coefs = c.in-Some-coefs.coefs;
-      kept = c.args.file.reading.items.held.kept;
-      jfif = c.args.file.reading.items.held.jfif;
+      coefs = c.in-Some-take.coefs;
+      kept = c.replace-kept.result;
+      jfif = c.args.file.now.reading.items.held.jfif;
     } in
-    let l : IsLeft c.args.file p = record { frame = c.in-Some.is; coefs = c.in-Some-coefs.is; kept = refl; few = c.checked.ensures.count_high; tables = c.tables_of-quants.ensures.tables } in
-    left_means limits segments blocks c.args.file e p l
+    let l : IsLeft c.args.file.now p = record { frame = sym c.take.ensures.value ∙ c.in-Some.is; coefs = sym c.take-2.ensures.value ∙ c.in-Some-take.is; kept = c.replace-kept.ensures.value; few = c.checked.ensures.count_high; tables = c.tables_of-quants.ensures.tables } in
+    left_means limits segments blocks c.args.file.now e p l
 
 pub invariant_of-result : goal.invariant_of-result
 invariant_of-result c =
@@ -43,19 +44,19 @@ invariant_of-result c =
       frame = c.in-Some.frame;
       colour = c.colours-colour.result;
       quants = c.tables_of-quants.result.items;
-      coefs = c.in-Some-coefs.coefs;
-      kept = c.args.file.reading.items.held.kept;
-      jfif = c.args.file.reading.items.held.jfif;
+      coefs = c.in-Some-take.coefs;
+      kept = c.replace-kept.result;
+      jfif = c.args.file.now.reading.items.held.jfif;
     } in
-    let l : IsLeft c.args.file p = record { frame = c.in-Some.is; coefs = c.in-Some-coefs.is; kept = refl; few = c.checked.ensures.count_high; tables = c.tables_of-quants.ensures.tables } in
-    let jfif = left_jfif o.0 o.1.0 o.1.1 c.args.file o.1.2 in
+    let l : IsLeft c.args.file.now p = record { frame = sym c.take.ensures.value ∙ c.in-Some.is; coefs = sym c.take-2.ensures.value ∙ c.in-Some-take.is; kept = c.replace-kept.ensures.value; few = c.checked.ensures.count_high; tables = c.tables_of-quants.ensures.tables } in
+    let jfif = left_jfif o.0 o.1.0 o.1.1 c.args.file.now o.1.2 ∙ ap jfif_of (sym c.replace-kept.ensures.value) in
     record {
       keeps = record {
         frame = c.checked.ensures;
         tables = c.tables_of-quants.ensures.count;
-        quants = λ i low. left_quants o.0 o.1.0 o.1.1 c.args.file o.1.2 p i l low;
-        grids = left_grids o.0 o.1.0 o.1.1 c.args.file o.1.2 p l;
-        range = left_range o.0 o.1.0 o.1.1 c.args.file o.1.2 p l;
+        quants = λ i low. left_quants o.0 o.1.0 o.1.1 c.args.file.now o.1.2 p i l low;
+        grids = left_grids o.0 o.1.0 o.1.1 c.args.file.now o.1.2 p l;
+        range = left_range o.0 o.1.0 o.1.1 c.args.file.now o.1.2 p l;
         colour = c.colours-colour.ensures ∙ colour_is p (sym jfif);
         jfif = jfif;
       };

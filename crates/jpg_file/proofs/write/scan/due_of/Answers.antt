@@ -18,32 +18,32 @@ interval_of-interval-requires g c =
     let head : c.head_of-head.result ≡ head_for plan e = c.head_of-head.ensures ∙ ap (λ b. scan_head b plan.out.colour e) c.is_progressive-is_prog.ensures in
     subst (λ (h : ScanHead). AreIn plan.out.frame (head_components h)) (sym head) (in_file plan _ _ e c.requires)
 
-pub tables_of-tables-requires-clause-scan : goal.tables_of-tables-requires-clause-scan
-tables_of-tables-requires-clause-scan g c p =
+pub put_tables-requires-clause-scan : goal.put_tables-requires-clause-scan
+put_tables-requires-clause-scan g c p =
     let plan = c.args.plan.now in
     let e = c.args.entry.now in
     let can = c.requires in
     let head : c.head_of-head.result ≡ head_for plan e = c.head_of-head.ensures ∙ ap (λ b. scan_head b plan.out.colour e) c.is_progressive-is_prog.ensures in
     subst (IsProgScan (g.V.BlockView.numbers c.args.view.now)) (sym head) (prog_scan plan _ _ e c.requires (can.kind ∙ p))
 
-pub tables_of-tables-requires-clause-components : goal.tables_of-tables-requires-clause-components
-tables_of-tables-requires-clause-components g c =
+pub put_tables-requires-clause-components : goal.put_tables-requires-clause-components
+put_tables-requires-clause-components g c =
     let plan = c.args.plan.now in
     let e = c.args.entry.now in
     let f = g.V.BlockView.numbers c.args.view.now in
     let head : c.head_of-head.result ≡ head_for plan e = c.head_of-head.ensures ∙ ap (λ b. scan_head b plan.out.colour e) c.is_progressive-is_prog.ensures in
     subst (λ (h : ScanHead). AreIn f (head_components h)) (sym head) (in_view plan _ _ e c.requires)
 
-pub tables_of-tables-requires-clause-distinct : goal.tables_of-tables-requires-clause-distinct
-tables_of-tables-requires-clause-distinct g c =
+pub put_tables-requires-clause-distinct : goal.put_tables-requires-clause-distinct
+put_tables-requires-clause-distinct g c =
     let plan = c.args.plan.now in
     let e = c.args.entry.now in
     let can = c.requires in
     let head : c.head_of-head.result ≡ head_for plan e = c.head_of-head.ensures ∙ ap (λ b. scan_head b plan.out.colour e) c.is_progressive-is_prog.ensures in
     subst (λ (h : ScanHead). is_distinct (head_components h) ≡ true) (sym head) (ap is_distinct (head_names (is_progressive plan.out.frame.process) plan.out.colour e) ∙ can.distinct)
 
-pub tables_of-tables-requires-clause-slots : goal.tables_of-tables-requires-clause-slots
-tables_of-tables-requires-clause-slots g c =
+pub put_tables-requires-clause-slots : goal.put_tables-requires-clause-slots
+put_tables-requires-clause-slots g c =
     let plan = c.args.plan.now in
     let e = c.args.entry.now in
     let head : c.head_of-head.result ≡ head_for plan e = c.head_of-head.ensures ∙ ap (λ b. scan_head b plan.out.colour e) c.is_progressive-is_prog.ensures in
@@ -66,5 +66,5 @@ returns g c =
       head = c.head_of-head.ensures ∙ ap (λ b. scan_head b plan.out.colour e) is_prog;
       interval = c.interval_of-interval.ensures;
       needed = c.needed_of-needed.ensures ∙ ap (λ b. tables_needed b e c.head_of-head.result) is_prog;
-      tables = c.tables_of-tables.ensures;
+      tables = c.put_tables.ensures;
     }

@@ -1,16 +1,16 @@
 use Rattle.std.proofs.Common.{sym, ◌∙◌, true, false}
 use Rattle.jpg_spec_write.specs.ScanText.{scan_elements, symbol_counts, symbols_used}
 use Rattle.jpg_file.proofs.TableSets.{kind_given, own_given}
-use Rattle.jpg_file.proofs.write.sets.tables_of.Goals as goal
+use Rattle.jpg_file.proofs.write.sets.put_tables.Goals as goal
 
 pub returns-then-has_typical : goal.returns-then-has_typical
 returns-then-has_typical g c =
     let elements = scan_elements (g.V.BlockView.numbers c.args.view.now) c.args.head.now c.args.interval (g.V.BlockView.blocks c.args.view.now) in
-    kind_given c.args.huffman c.args.frame.now c.args.head.now elements c.typical_set.result true (sym c.has_typical.ensures ∙ c.if-has_typical.true) c.typical_set.ensures
+    kind_given c.args.huffman c.args.frame.now c.args.head.now elements c.put_typical.new.set true (sym c.has_typical.ensures ∙ c.if-has_typical.true) c.put_typical.ensures
 
 pub returns-else-has_typical : goal.returns-else-has_typical
 returns-else-has_typical g c =
     let elements = scan_elements (g.V.BlockView.numbers c.args.view.now) c.args.head.now c.args.interval (g.V.BlockView.blocks c.args.view.now) in
-    kind_given c.args.huffman c.args.frame.now c.args.head.now elements c.own_set.result false (sym c.has_typical.ensures ∙ c.if-has_typical.false)
-    (own_given c.args.huffman c.args.head.now elements c.own_set.result
-    (c.own_set.ensures (symbols_used c.args.head.now elements) (symbol_counts c.args.head.now elements) c.counts_of.ensures.symbols c.counts_of.ensures.counts))
+    kind_given c.args.huffman c.args.frame.now c.args.head.now elements c.put_own.new.set false (sym c.has_typical.ensures ∙ c.if-has_typical.false)
+    (own_given c.args.huffman c.args.head.now elements c.put_own.new.set
+    (c.put_own.ensures (symbols_used c.args.head.now elements) (symbol_counts c.args.head.now elements) c.counts_of.ensures.symbols c.counts_of.ensures.counts))

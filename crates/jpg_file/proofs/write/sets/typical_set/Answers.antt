@@ -1,5 +1,0 @@
-use Rattle.jpg_spec_write.specs.ScanText.{typical_table}
-use Rattle.jpg_file.proofs.write.sets.typical_set.Goals as goal
-
-pub returns : goal.returns
-returns c = c.set_of.ensures typical_table c.typical.ensures.table c.typical-2.ensures.table c.typical-3.ensures.table c.typical-4.ensures.table
