@@ -1,5 +1,5 @@
 -- Encoding an image: reading it, making its picture, and then writing it.
-use Rattle.std.proofs.Common.{◌≡◌, ◌⊎◌, ℕ, Bool, All, List, [], ◌++◌, Option, None, Some, Err, refl, sym, ap, subst, inl, inr}
+use Rattle.std.proofs.Common.{◌≡◌, ◌⊎◌, ℕ, Bool, All, List, [], ◌++◌, Option, None, Some, Err, refl, sym, ap, ◌∙◌, subst, inl, inr}
 use Rattle.jpg_base.specs.declared.names.Name.{Name}
 use Rattle.jpg_base.specs.declared.names.Put.TheVariants as put
 use Rattle.jpg_base.specs.Desk.{DeskState}
@@ -13,7 +13,14 @@ use Rattle.jpg_spec.specs.InForce.{first_some}
 use Rattle.jpg_spec_write.specs.ScriptFaults.{script_fault}
 use Rattle.jpg_spec_image.specs.Images.{Image}
 use Rattle.jpg_spec_write.specs.ScansAsked.{Scans}
-use Rattle.jpg_spec_move.specs.Moved.{moved_text, picture_fault}
+use Rattle.jpg_spec_move.specs.Moved.{Choice, as_it_is, moved_text, picture_fault}
+use Rattle.jpg_file.specs.Read.PictureRead.{picture_meaning}
+use Rattle.jpg_file.specs.Write.Restarts.{restart_of}
+use Rattle.jpg_file.specs.declared.read.picture.Picture.{Picture}
+use Rattle.jpg_spec_words.specs.declared.answers.Which.TheVariants as which
+use Rattle.jpg_color.specs.EncodeView.{view_meaning}
+use Rattle.jpg_color.specs.declared.encode.view.EncodedImage.{EncodedImage}
+use Rattle.jpg_cli.specs.Desk.EncodedRead.{EncodedRead, IsEncodedImage}
 use Rattle.jpg_spec_words.specs.EncodedKept.{as_encoded}
 use Rattle.jpg_spec.specs.FileMeaning.{Means}
 use Rattle.jpg_spec_words.specs.declared.answers.Why.{Why}
@@ -34,7 +41,7 @@ use Rattle.jpg_cli.specs.declared.words.cjpeg_request.EncodeWords.{EncodeWords}
 use Rattle.jpg_cli.specs.Endings.{Asks, GoesOnAfter}
 use Rattle.jpg_cli.specs.Outcome.{Converted}
 use Rattle.jpg_cli.specs.Tools.ImageEncoded.{Encoded, EncodedAfter, EncodedAsAsked, EncodedBy, EncodeTask, encoding_conversion, task_after}
-use Rattle.jpg_cli.specs.Desk.ImageWritten.{AfterEncoding, AfterWritten, why_none}
+use Rattle.jpg_cli.specs.Desk.ImageWritten.{AfterEncoding, AfterWritten, IsAskedBy, WritesAsItIs, why_none}
 use Rattle.jpg_cli.specs.Desk.ReadImage.{IsShortImageRead, has_image}
 use Rattle.jpg_cli.specs.Desk.ScriptTaken.{HasScans, StopsAtScans, names_before}
 use Rattle.jpg_cli.specs.Stays.{Keeps, OnlySays, Untouched}
@@ -43,7 +50,7 @@ use Rattle.jpg_cli.specs.Desk.Writing.{IsMeant, MeansMoved}
 use Rattle.jpg_cli.proofs.Endings.{untouched_then}
 use Rattle.jpg_cli.proofs.InsertedThen.{same_name}
 use Rattle.jpg_cli.proofs.NamesBefore.{goes_on_more}
-use Rattle.jpg_cli.proofs.Outcome.{HasValueRead, converted_after, converted_made, converted_short, converted_then, made_same, none_early}
+use Rattle.jpg_cli.proofs.Outcome.{HasValueRead, converted_after, converted_made, converted_short, converted_then, converted_unread, made_same, none_early}
 use Rattle.jpg_cli.proofs.ScriptTaken.{stopped_scans_then}
 use Rattle.jpg_cli.proofs.TablesTaken.{stopped_tables_then, stops_after, tables_before}
 
@@ -57,6 +64,14 @@ encoded_written e I output s1 s2 w can none h =
     let choice = as_encoded e in
     inl (made_same (picture_fault choice (encoded e I)) (encode_fault e I) (moved_text choice (encoded e I)) (encoded_text e I)
     (IsMeant (encoded e I) → MeansMoved choice (encoded e I)) (Means standard_limits (encoded_text e I) (encoded e I)) output s1 s2 (written_fault e I none) (stays_text e I) (λ no means. encoded_means e I can no) w h)
+
+-- all its blocks, from an encoded image
+pub picture_written : {w : EncodeWords} {scans : Scans} {e : Encoding} {I : Image} {v : EncodedImage} → IsAskedBy w scans e → IsEncodedImage e I v → (p : Picture) (s1 s2 : DeskState) (ended : Why) → picture_meaning p ≡ view_meaning v → WritesAsItIs w scans p s1 ended s2
+    → AfterEncoding e I w.files.output s1 ended s2
+picture_written {w} {scans} {e} {I} asked h p s1 s2 ended same wrote =
+    let choice : as_it_is scans w.huffman (restart_of w.restart) ≡ as_encoded e =
+    ap (λ s. as_it_is s w.huffman (restart_of w.restart)) (sym asked.scans_are) ∙ ap (λ t. as_it_is e.scans t (restart_of w.restart)) (sym asked.huffman) ∙ ap (as_it_is e.scans e.huffman) (sym asked.restart) in
+    encoded_written e I w.files.output s1 s2 ended h.can h.faultless (subst (λ (c : Choice). AfterWritten c (encoded e I) w.files.output s1 ended s2) choice (wrote (encoded e I) (same ∙ h.means)))
 
 -- a fault of the factors or grids comes first
 fault_first : (e : Encoding) (I : Image) (f : PictureFault) → sampling_fault e I ≡ Some f → encode_fault e I ≡ Some f
@@ -99,6 +114,17 @@ encoded_after input targa output encoding I s0 s1 s2 w h (inl k) =
 encoded_after input targa output encoding I s0 s1 s2 w h (inr (e, same)) =
     let c = encoding_conversion (task_by input targa output encoding) in
     subst (λ (v : Why). Converted c s0 v s2) (sym e) (converted_short Image c I None s0 s1 s2 h (short_image targa I None) same)
+
+-- none was read, or one with a fault of its factors and grids
+pub encoded_unread : (input : Name) (targa : Bool) (output : Name) (encoding : Image → Encoding) (s0 s1 : DeskState) (w : Why) → Keeps s0 s1 → EncodedRead targa encoding input s0 (Err w) s1 → Encoded (task_by input targa output encoding) s0 w s1
+encoded_unread input targa output encoding s0 s1 (why.Picture f) k (asked, (I, read, is)) =
+    encoded_after input targa output encoding I s0 s1 s1 (why.Picture f) (record { kept = k; asked = asked; read = read; all = tt; left = refl })
+    (inl (fault_first (encoding I) I f is, record { asked = refl; outputs = refl; left = refl }))
+encoded_unread input targa output encoding s0 s1 (why.Refused f) k h = converted_unread Image (encoding_conversion (task_by input targa output encoding)) input s0 s1 (why.Refused f) h
+encoded_unread input targa output encoding s0 s1 (why.OpenFault which.Input) k h = converted_unread Image (encoding_conversion (task_by input targa output encoding)) input s0 s1 (why.OpenFault which.Input) h
+encoded_unread input targa output encoding s0 s1 (why.ReadFault which.Input) k h = converted_unread Image (encoding_conversion (task_by input targa output encoding)) input s0 s1 (why.ReadFault which.Input) h
+encoded_unread input targa output encoding s0 s1 why.NoMemory k h = converted_unread Image (encoding_conversion (task_by input targa output encoding)) input s0 s1 why.NoMemory h
+encoded_unread input targa output encoding s0 s1 other k h = absurd h
 
 -- BY THE TABLES and in the scans that are asked for
 

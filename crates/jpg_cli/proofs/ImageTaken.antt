@@ -1,39 +1,32 @@
 -- What reading pieces of an image file does, over the states of a desk.
-use Rattle.std.proofs.Common.{◌≡◌, ℕ, ◌<◌, ◌≤◌, Bool, true, false, List, [], ◌++◌, length, take, drop, Result, Ok, Err, refl, sym, ap, ◌∙◌, subst, arith, inl, inr}
+use Rattle.std.proofs.Common.{◌≡◌, ℕ, ◌<◌, ◌≤◌, Bool, true, false, List, [], ◌++◌, length, take, drop, refl, sym, ap, ◌∙◌, subst, arith, inl, inr, ⊎_elim}
 use Rattle.std.specs.Io.KnownBytes.{Consumes, IsAtEnd}
-use Rattle.std.specs.Prelude.{IfOk}
+use Rattle.std.proofs.lemmas.Bool.{cases_lt}
 use Rattle.std.proofs.lemmas.List.{append-nil, length-take-le, length-drop, length-append, take-append-drop, take-take}
 use Rattle.std.proofs.Math.Seq.{take-append_seam}
-use Rattle.jpg_base.specs.declared.names.Name.{Name}
-use Rattle.jpg_base.specs.declared.names.Put.TheVariants as put
 use Rattle.jpg_base.specs.declared.names.Got.TheVariants as got
-use Rattle.jpg_base.specs.Desk.{DeskState, Opens, Reads, Rose}
+use Rattle.jpg_base.specs.Desk.{DeskState, Reads, Rose}
 use Rattle.jpg_base.specs.Laws.{Consumes-then}
-use Rattle.jpg_spec_image.specs.Images.{Image}
 use Rattle.jpg_spec_image.specs.ImageFaults.{IsOpenImage, IsWholeImage, ShowsImageFault}
 use Rattle.jpg_spec.specs.Segments.{standard_limits}
 use Rattle.jpg_spec.specs.declared.fault.Fault.TheVariants.{InputTooLong}
 use Rattle.jpg_spec_words.specs.declared.answers.Why.{Why}
 use Rattle.jpg_spec_words.specs.declared.answers.Why.TheVariants as why
 use Rattle.jpg_spec_words.specs.declared.answers.Which.TheVariants as which
-use Rattle.jpg_color.specs.Encode.{image_told}
-use Rattle.jpg_pnm_bmp.specs.Made.{IsRightImage}
-use Rattle.jpg_pnm_bmp.specs.declared.read.pixels.Image.{Image as Read}
+use Rattle.jpg_cli.specs.Desk.ImageFile.{IsOpenIn}
 use Rattle.jpg_cli.specs.Desk.Reading.{rest_of}
 use Rattle.jpg_cli.specs.Desk.ImageLoop.{AfterNextImagePiece, EndsEarly, HoldsImage, ImageGoesOn}
 use Rattle.jpg_cli.specs.Desk.ImageSource.{AfterImageEnd, AfterTakingImagePiece, EndDone, HasFed, source_read}
-use Rattle.jpg_cli.specs.Desk.ReadImage.{EndsImageReading, ImageRead, IsFaultRead, IsImageRead, IsOpenImageRead, IsShortImageRead, image_judging}
-use Rattle.jpg_cli.specs.Desk.Judging.{TakesPieces}
+use Rattle.jpg_cli.specs.Desk.ReadImage.{IsFaultRead, IsImageRead, IsOpenImageRead, IsShortImageRead}
 use Rattle.jpg_cli.specs.Stays.{OnlyReads}
 use Rattle.jpg_cli.specs.declared.desk.image_source.ImageSource.{ImageSource}
 use Rattle.jpg_cli.specs.declared.desk.image_source.ImageStep.{ImageStep}
 use Rattle.jpg_cli.specs.declared.desk.image_source.ImageStep.TheVariants as step
 use Rattle.jpg_cli.proofs.CommentsCopied.{left_still, some_taken}
 use Rattle.jpg_cli.proofs.ImageFed.{fed_open, never_full}
-use Rattle.jpg_cli.proofs.Input.{none_left, noted}
-use Rattle.jpg_cli.proofs.PictureTaken.{none_taken, reads_from}
+use Rattle.jpg_cli.proofs.Input.{none_left}
 
--- BYTES THAT WERE FED
+-- BYTES that have no complete image and no fault
 
 open_front : (bytes : List ℕ) (n : ℕ) → n ≤ length bytes → IsOpenImage bytes → IsOpenImage (take n bytes)
 open_front bytes n le h m few =
@@ -42,26 +35,26 @@ open_front bytes n le h m few =
     let k = h m (omega (arith, few, long, le)) in
     (λ fault s. k.0 fault (subst (ShowsImageFault fault) same s), λ image w. k.1 image (subst (λ x. IsWholeImage x image) same w))
 
-pub open_fed : (targa : Bool) (bytes : List ℕ) (r : ImageSource) → HasFed targa bytes r → length bytes < standard_limits.input → IsOpenImageRead targa bytes
-open_fed targa bytes r h short = record { short = short; stands = fed_open targa bytes r h }
+pub open_read : (targa : Bool) (bytes : List ℕ) → IsOpenIn targa bytes → length bytes < standard_limits.input → IsOpenImageRead targa bytes
+open_read targa bytes o short = record { short = short; stands = o }
 
 -- with one more piece
-pub short_more : (targa : Bool) (bytes piece : List ℕ) (r : ImageSource) → HasFed targa bytes r → length bytes < standard_limits.input → length piece ≤ 65536 → IsShortImageRead targa (bytes ++ piece)
-short_more targa bytes piece r h short few = record { front = bytes; piece = piece; cut = refl; few = few; before = open_fed targa bytes r h short }
+pub open_more : (targa : Bool) (bytes piece : List ℕ) → IsOpenIn targa bytes → length bytes < standard_limits.input → length piece ≤ 65536 → IsShortImageRead targa (bytes ++ piece)
+open_more targa bytes piece o short few = record { front = bytes; piece = piece; cut = refl; few = few; before = open_read targa bytes o short }
 
 -- with none
-pub short_end : (targa : Bool) (bytes : List ℕ) (r : ImageSource) → HasFed targa bytes r → length bytes < standard_limits.input → IsShortImageRead targa bytes
-short_end targa bytes r h short = record {
+pub open_end : (targa : Bool) (bytes : List ℕ) → IsOpenIn targa bytes → length bytes < standard_limits.input → IsShortImageRead targa bytes
+open_end targa bytes o short = record {
   front = bytes;
   piece = [];
   cut = sym (append-nil bytes);
   few = omega arith;
-  before = open_fed targa bytes r h short;
+  before = open_read targa bytes o short;
 }
 
 -- as many as may be taken
-short_full : (bytes : List ℕ) (r : ImageSource) → HasFed false bytes r → length bytes ≡ standard_limits.input → IsShortImageRead false bytes
-short_full bytes r h full =
+open_full : (bytes : List ℕ) → IsOpenImage bytes → length bytes ≡ standard_limits.input → IsShortImageRead false bytes
+open_full bytes o full =
     let n : ℕ = 1099511627775 in
     let le : n ≤ length bytes = omega (arith, full) in
     let long = length-take-le n bytes le in
@@ -70,18 +63,29 @@ short_full bytes r h full =
       piece = drop n bytes;
       cut = sym (take-append-drop n bytes);
       few = (let d = length-drop n bytes in omega (arith, d, full));
-      before = record { short = omega (arith, long); stands = open_front bytes n le (fed_open false bytes r h) };
+      before = record { short = omega (arith, long); stands = open_front bytes n le o };
     }
 
-pub too_long : (targa : Bool) (bytes rest : List ℕ) (r : ImageSource) → HasFed targa bytes r → length bytes ≡ standard_limits.input → IsFaultRead targa (record { fault = InputTooLong; at = standard_limits.input }) rest bytes
-too_long true bytes rest r h full = absurd (never_full bytes r h full)
-too_long false bytes rest r h full =
+pub open_within : (bytes : List ℕ) → IsOpenImage bytes → length bytes ≤ standard_limits.input → IsShortImageRead false bytes
+open_within bytes o most =
+    ⊎_elim
+    (λ (a : length bytes < standard_limits.input). open_end false bytes o a)
+    (λ (a : standard_limits.input ≤ length bytes). (let full : length bytes ≡ standard_limits.input = omega (arith, a, most) in open_full bytes o full))
+    (cases_lt (length bytes) standard_limits.input)
+
+pub open_too_long : (bytes rest : List ℕ) → IsOpenImage bytes → length bytes ≡ standard_limits.input → IsFaultRead false (record { fault = InputTooLong; at = standard_limits.input }) rest bytes
+open_too_long bytes rest o full =
     let front : take standard_limits.input (bytes ++ rest) ≡ bytes = ap (λ n. take n (bytes ++ rest)) (sym full) ∙ take-append_seam bytes rest in
     let longer : standard_limits.input ≤ length (bytes ++ rest) = (let l = length-append bytes rest in omega (arith, l, full)) in
     record {
-      is = inr (inl (refl, refl, longer, subst IsOpenImage (sym front) (fed_open false bytes r h)));
-      read = short_full bytes r h full;
+      is = inr (inl (refl, refl, longer, subst IsOpenImage (sym front) o));
+      read = open_full bytes o full;
     }
+
+-- that were fed
+pub too_long : (targa : Bool) (bytes rest : List ℕ) (r : ImageSource) → HasFed targa bytes r → length bytes ≡ standard_limits.input → IsFaultRead targa (record { fault = InputTooLong; at = standard_limits.input }) rest bytes
+too_long true bytes rest r h full = absurd (never_full bytes r h full)
+too_long false bytes rest r h full = open_too_long bytes rest (fed_open false bytes r h) full
 
 -- A PIECE
 
@@ -110,10 +114,10 @@ image_end targa start s0 s1 bytes (step.Ended why.NoMemory) r short end left had
 image_end targa start s0 s1 bytes other r short end left had h = absurd h
 
 -- A READ that failed
-pub image_unread : (targa : Bool) (start s0 s1 : DeskState) (bytes : List ℕ) (r : ImageSource) → HasFed targa bytes r → length bytes < standard_limits.input → OnlyReads start s0 → Consumes start.left s0.left bytes → Rose s0.counts.reads s1.counts.reads → s1.left ≡ s0.left
+pub image_unread : (targa : Bool) (start s0 s1 : DeskState) (bytes : List ℕ) → IsOpenIn targa bytes → length bytes < standard_limits.input → OnlyReads start s0 → Consumes start.left s0.left bytes → Rose s0.counts.reads s1.counts.reads → s1.left ≡ s0.left
     → EndsEarly targa start (why.ReadFault which.Input) s1
-image_unread targa start s0 s1 bytes r h short still had rose left = (
-  (bytes, left_still s0 s1 bytes start left had, omega (arith, short), open_fed targa bytes r h short),
+image_unread targa start s0 s1 bytes o short still had rose left = (
+  (bytes, left_still s0 s1 bytes start left had, omega (arith, short), open_read targa bytes o short),
   (let f = still.copies.works.stays.counts.reads in omega (arith, rose, f)),
 )
 
@@ -121,22 +125,7 @@ image_unread targa start s0 s1 bytes r h short still had rose left = (
 pub image_too_long : (targa : Bool) (start s0 : DeskState) (bytes : List ℕ) (r : ImageSource) → HasFed targa bytes r → length bytes ≡ standard_limits.input → Consumes start.left s0.left bytes → EndsEarly targa start (why.Refused (record { fault = InputTooLong; at = standard_limits.input })) s0
 image_too_long targa start s0 bytes r h full had = (bytes, had, omega (arith, full), too_long targa bytes (rest_of s0.left) r h full)
 
--- THE IMAGE of the reader
-pub image_taken : (targa : Bool) (s0 s1 : DeskState) (r : ImageSource) (i : Read) → image_told i ≡ source_read r → HoldsImage targa s0 r s1 → EndsImageReading targa s0 (Ok i) s1
-image_taken targa s0 s1 r i e h =
-    subst (λ (I : Image). TakesPieces (IsImageRead targa I (rest_of s1.left)) s0 s1 × IsRightImage I) (sym e) h
-
 pub goes_on_end : (answer : ImageStep) (r : ImageSource) (now : DeskState) → EndDone answer r → ImageGoesOn answer r now
 goes_on_end step.More r now h = absurd h
 goes_on_end step.Whole r now h = h
 goes_on_end (step.Ended ended) r now h = tt
-
--- FROM THE NAME
-
-pub image_read_from : (targa : Bool) (s0 s1 s2 : DeskState) (file : Name) (answer : Result Read Why) → Opens s0 file put.Done s1 → OnlyReads s1 s2 → EndsImageReading targa s1 answer s2 → ImageRead targa file s0 answer s2
-image_read_from targa s0 s1 s2 file (Ok i) h k e = (noted s0 s1 s2 file h k, reads_from s0 s1 s2 file (IsImageRead targa (image_told i) (rest_of s2.left)) h e.0)
-image_read_from targa s0 s1 s2 file (Err ended) h k e = none_taken Image (image_judging targa) s0 s1 s2 file ended h k e
-
-pub right_of : (targa : Bool) (s0 s1 : DeskState) (answer : Result Read Why) → EndsImageReading targa s0 answer s1 → IfOk answer (λ i. IsRightImage (image_told i))
-right_of targa s0 s1 (Ok i) h = h.1
-right_of targa s0 s1 (Err ended) h = tt

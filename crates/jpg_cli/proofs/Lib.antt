@@ -9,6 +9,9 @@ pub mod Decimal
 pub mod EarlyEnding
 pub mod EarlyImage
 pub mod EarlyRows
+pub mod EncodedRead
+pub mod EncodedWritten
+pub mod SamplesFed
 pub mod Due
 pub mod DueCommands
 pub mod Ending

@@ -1,4 +1,5 @@
 pub mod CommentTaken
+pub mod EncodedRead
 pub mod FileTaken
 pub mod ImageFile
 pub mod ImageLoop
@@ -9,6 +10,7 @@ pub mod ReadFront
 pub mod ReadImage
 pub mod ReadPicture
 pub mod Reading
+pub mod SamplesFed
 pub mod ScriptTaken
 pub mod TablesTaken
 pub mod TextTaken

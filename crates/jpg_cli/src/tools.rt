@@ -2,6 +2,7 @@
 
 pub mod cjpeg;
 pub mod cjpeg_encoding;
+pub mod cjpeg_image;
 pub mod djpeg;
 pub mod djpeg_front;
 pub mod djpeg_rows;

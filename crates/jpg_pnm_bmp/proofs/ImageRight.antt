@@ -10,14 +10,16 @@ use Rattle.jpg_spec_image.specs.Images.{Image, is_side, are_few_pixels, sample_c
 use Rattle.jpg_spec_image.specs.ImageText.{turned_round}
 use Rattle.jpg_spec_image.specs.PnmText.{is_plain, pnm_info, is_number_due, number_fault, are_right_numbers, AfterLast, greatest_sample, scaled_sample}
 use Rattle.jpg_spec_image.specs.BmpFile.{bmp_depth, colour, colours, bmp_line, bmp_body_samples, used, line, height, width}
-use Rattle.jpg_spec_image.specs.ImageFaults.{pnm, bmp, image_of, IsPlainWhole, IsBodyWhole, IsImage}
+use Rattle.jpg_spec_image.specs.ImageFaults.{pnm, bmp, image_of, IsBodyFront, IsPlainWhole, IsBodyWhole, IsImage}
 use Rattle.jpg_spec.proofs.Common.{both, le_of, lt_of, not_lt_of, length_below}
 use Rattle.jpg_spec_image.proofs.ImageTextRuns.{first_right}
 use Rattle.jpg_spec_image.proofs.ImageBodyRuns.{last_three, bmp_sides}
 use Rattle.jpg_spec_image.proofs.TargaText.{turned_long}
 use Rattle.jpg_spec.specs.declared.fault.Fault.TheVariants.{ImageHeader}
 use Rattle.jpg_spec.specs.declared.frame.Limits.{Limits}
+use Rattle.jpg_spec_image.specs.declared.image.ImageInfo.{ImageInfo}
 use Rattle.jpg_pnm_bmp.specs.Made.{AreBytes, IsRightImage}
+use Rattle.jpg_pnm_bmp.specs.PlainSamples.{AreRightNumbers}
 use Rattle.jpg_pnm_bmp.proofs.ImageBytes.{plain_bytes, body_bytes}
 
 pub record AreSides (w h : ℕ) : Type 0 where
@@ -25,16 +27,27 @@ pub record AreSides (w h : ℕ) : Type 0 where
   pub high : is_side h ≡ true
   pub few : are_few_pixels w h ≡ true
 
+pub right_numbers : (info : ImageInfo) → AreSides info.width info.height → AreRightNumbers info
+right_numbers info s =
+    let w = both (nat_le 1 info.width) (nat_le info.width 65500) s.wide in
+    let h = both (nat_le 1 info.height) (nat_le info.height 65500) s.high in
+    record {
+      width_low = le_of 1 info.width w.0;
+      width_high = le_of info.width 65500 w.1;
+      height_low = le_of 1 info.height h.0;
+      height_high = le_of info.height 65500 h.1;
+      pixels = le_of (info.width * info.height) 268435456 s.few;
+    }
+
 pub right_image : (image : Image) → AreSides image.info.width image.info.height → length image.samples ≡ sample_count image.info → AreBytes image.samples → IsRightImage image
 right_image image s count bytes =
-    let w = both (nat_le 1 image.info.width) (nat_le image.info.width 65500) s.wide in
-    let h = both (nat_le 1 image.info.height) (nat_le image.info.height 65500) s.high in
+    let n = right_numbers image.info s in
     record {
-      width_low = le_of 1 image.info.width w.0;
-      width_high = le_of image.info.width 65500 w.1;
-      height_low = le_of 1 image.info.height h.0;
-      height_high = le_of image.info.height 65500 h.1;
-      pixels = le_of (image.info.width * image.info.height) 268435456 s.few;
+      width_low = n.width_low;
+      width_high = n.width_high;
+      height_low = n.height_low;
+      height_high = n.height_high;
+      pixels = n.pixels;
       count = count;
       bytes = bytes;
     }
@@ -130,12 +143,15 @@ bmp_count head palette body long =
 
 -- BODIES
 
+pub raw_sides : (format : ℕ) (numbers front : List ℕ) → IsBodyFront (pnm format numbers) front → AreSides (pnm_info format numbers).width (pnm_info format numbers).height
+raw_sides format numbers front (b, l, raw, space) =
+    let t = last_three front format numbers (b ∷ []) raw l in
+    subst (λ (ns : List ℕ). AreSides (pnm_info format ns).width (pnm_info format ns).height) (sym t.all) (subst SidesSoFar t.all (sides_last front format numbers (b ∷ []) l))
+
 body_right : (bytes : List ℕ) (image : Image) → IsBodyWhole bytes image → AreBytes bytes → IsRightImage image
 body_right bytes image (pnm format numbers, front, body, f, cut, long, right, e) all =
     let samples = body_bytes bytes (image_of (pnm format numbers) body) (pnm format numbers, front, body, f, cut, long, right, refl) all in
-    let t = last_three front format numbers (f.0 ∷ []) f.2 f.1 in
-    let s : AreSides (pnm_info format numbers).width (pnm_info format numbers).height = subst (λ (ns : List ℕ). AreSides (pnm_info format ns).width (pnm_info format ns).height) (sym t.all) (subst SidesSoFar t.all (sides_last front format numbers (f.0 ∷ []) f.1)) in
-    subst IsRightImage (sym e) (right_image (image_of (pnm format numbers) body) s (length-map body (scaled_sample (greatest_sample numbers)) ∙ long) samples)
+    subst IsRightImage (sym e) (right_image (image_of (pnm format numbers) body) (raw_sides format numbers front f) (length-map body (scaled_sample (greatest_sample numbers)) ∙ long) samples)
 body_right bytes image (bmp head palette, front, body, f, cut, long, right, e) all =
     let samples = body_bytes bytes (image_of (bmp head palette) body) (bmp head palette, front, body, f, cut, long, right, refl) all in
     let b = bmp_sides head f.header.right in

@@ -14,3 +14,4 @@ pub mod DueNumbers
 pub mod EndRead
 pub mod PiecesRead
 pub mod Stretch
+pub mod PlainSamples

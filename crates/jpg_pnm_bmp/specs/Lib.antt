@@ -8,3 +8,4 @@ pub mod Pieces
 pub mod PixelsRead
 pub mod Reader
 pub mod Shapes
+pub mod PlainSamples

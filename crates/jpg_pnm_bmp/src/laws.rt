@@ -6,6 +6,7 @@ ghost use Rattle.jpg_spec_image.specs.Images.{Image as ImageRead};
 ghost use Rattle.jpg_spec_image.specs.ImageFaults.{IsImage, IsOpenImage};
 ghost use Rattle.jpg_spec.specs.declared.frame.Limits.{Limits};
 ghost use Rattle.jpg_pnm_bmp.specs.PixelsRead.{HasFedImage, pixels_taken};
+ghost use Rattle.jpg_pnm_bmp.specs.PlainSamples.{GoesOnPlain, HasFedSamples};
 ghost use Rattle.jpg_pnm_bmp.specs.declared.read.pixels.PixelReader.{PixelReader};
 ghost use Rattle.jpg_pnm_bmp.specs.Made.{AreBytes, IsRightImage};
 ghost use Rattle.jpg_pnm_bmp.specs.EndState.{EndState, new_end, CanTakeRow, CanFinish, Starts, Finishes};
@@ -34,4 +35,11 @@ pub fn fed_bytes_are_open()
 /// as many as its sides say, each a byte.
 pub fn images_are_right()
     ensures { (limits : Limits) (bytes : List ℕ) (image : ImageRead) → IsImage limits bytes image → AreBytes bytes → IsRightImage image }
+{}
+
+/// Of a P5 or P6 file whose greatest value is 255 (`PixelReader::plain`) each further byte is a sample: with the last
+/// one the file is complete, whatever follows it, before that no prefix is, and where the bytes end the file is too
+/// short.
+pub fn plain_samples_are_read()
+    ensures { (info : ImageInfo) (bytes given : List ℕ) → HasFedSamples info bytes given → GoesOnPlain info bytes given }
 {}

@@ -7,7 +7,9 @@ mod write;
 
 pub use jpg_base::{Bytes, NoMemory};
 pub use jpg_spec_image::{EndKind, ImageInfo, ImageKind};
-pub use laws::{fed_bytes_are_open, images_are_right, images_are_written_whole};
+pub use laws::{
+    fed_bytes_are_open, images_are_right, images_are_written_whole, plain_samples_are_read,
+};
 pub use read::piece::Fed2;
 pub use read::pixels::{Image, PixelReader};
 pub use write::bmp::BmpEnd;

@@ -61,7 +61,7 @@ any_map t f (x ∷ xs) = ap (λ b. t (f x) || b) (any_map t f xs)
 abbrev with_table : Component × QuantTable → PictureComponent
 with_table c = record { id = c.0.id; h = c.0.h; v = c.0.v; quants = c.1 }
 
-tables_are : (f : Frame) (q : List QuantTable) → length q ≡ length f.components → with_tables f.components q ≡ map (component_told f q) (below (length f.components))
+pub tables_are : (f : Frame) (q : List QuantTable) → length q ≡ length f.components → with_tables f.components q ≡ map (component_told f q) (below (length f.components))
 tables_are f q l =
     let both_long : length (zip f.components q) ≡ length f.components = (let z = length-zip f.components q in omega (arith, z, l)) in
     sym (by_items (length f.components) (component_told f q) (with_tables f.components q) (with_table (no_component, [])) (length-map (zip f.components q) with_table ∙ both_long)

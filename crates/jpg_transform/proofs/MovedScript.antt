@@ -49,7 +49,7 @@ area_none choice M none = (none_both (moved_script_fault choice M) (crop_fault c
 
 -- THE GRIDS of the transformed picture are those of the transformed frame
 
-meaning_grids : (H : Meaning) → frame_grids (frame_of_meaning H) ≡ picture_grids H
+pub meaning_grids : (H : Meaning) → frame_grids (frame_of_meaning H) ≡ picture_grids H
 meaning_grids H =
     let of : List ℕ → List ℕ → Grids = λ a d. record { width = H.width; height = H.height; across = a; down = d } in
     ap (λ a. of a (map (λ c. c.v) (frame_of_meaning H).components)) (map_map (λ c. c.h) _ H.components) ∙ ap (λ d. of (map (λ c. c.h) H.components) d) (map_map (λ c. c.v) _ H.components)
@@ -85,7 +85,7 @@ moved_colour_is p choice out h = out_colour p choice out h ∙ sym (headed_colou
 
 -- SCRIPTS
 
-same_due : (s : Scans) (f g : Frame) (a b : Colour) → frame_grids f ≡ frame_grids g → a ≡ b → script_due s f a ≡ script_due s g b
+pub same_due : (s : Scans) (f g : Frame) (a b : Colour) → frame_grids f ≡ frame_grids g → a ≡ b → script_due s f a ≡ script_due s g b
 same_due sequential f g a b e c = same_sequential f g e
 same_due standard f g a b e c = ap (standard_script f) c ∙ same_standard f g b e
 same_due (given script) f g a b e c = refl
@@ -110,14 +110,14 @@ fault_same p choice out f script h same e =
 no_fault : (fault : PictureFault) → (let r : Result (Unit {0}) PictureFault = Ok tt in r) ≡ Err fault → ⊥
 no_fault fault e = cc
 
-judged_ok : (o : Option PictureFault) → Ok tt ≡ judged o → o ≡ None
+pub judged_ok : (o : Option PictureFault) → Ok tt ≡ judged o → o ≡ None
 judged_ok None e = refl
 judged_ok (Some fault) e = absurd (no_fault fault e)
 
 err_same : (a b : PictureFault) → (let r : Result (Unit {0}) PictureFault = Err a in r) ≡ Err b → a ≡ b
 err_same a b e = cc
 
-judged_err : (o : Option PictureFault) (fault : PictureFault) → Err fault ≡ judged o → o ≡ Some fault
+pub judged_err : (o : Option PictureFault) (fault : PictureFault) → Err fault ≡ judged o → o ≡ Some fault
 judged_err None fault e = absurd (no_fault fault (sym e))
 judged_err (Some other) fault e = ap Some (sym (err_same fault other e))
 

@@ -21,4 +21,4 @@ pub use jpg_spec::Copying;
 pub use jpg_spec_move::Transform;
 pub use jpg_spec_write::{Huffman, PictureFault};
 pub use moved::Moved;
-pub use planning::{counted, plan};
+pub use planning::{counted, plan, script_due};

@@ -54,8 +54,8 @@ pub fn counted(restart: Restart)
     let _ = restart;
 }
 
-// The scans for the output's frame and colours.
-fn script_due(scans: &Scans, frame: &Frame, colour: Colour) -> Script
+/// The scans for the output's frame and colours.
+pub fn script_due(scans: &Scans, frame: &Frame, colour: Colour) -> Script
     ensures { result ≡ script_due (scans_told scans.now) frame.now colour }
 {
     match scans {

@@ -1,5 +1,5 @@
 -- READING AN IMAGE STEP BY STEP, from a desk whose input is open.
-use Rattle.std.specs.Prelude.{◌≡◌, ℕ, ◌<◌, ◌≤◌, Bool, true, false, List, ◌++◌, length, Result, Ok, Err}
+use Rattle.std.specs.Prelude.{◌≡◌, ℕ, ◌<◌, ◌≤◌, Bool, true, false, List, ◌++◌, length}
 use Rattle.std.specs.Io.KnownBytes.{Consumes}
 use Rattle.jpg_base.specs.Desk.{DeskState}
 use Rattle.jpg_spec.specs.Segments.{standard_limits}
@@ -20,10 +20,6 @@ EndsEarly targa old ended new = NoValueTaken (image_judging targa) old ended new
 -- The reader's image is that of the bytes.
 abbrev pub HoldsImage : Bool → DeskState → ImageSource → DeskState → Type 0
 HoldsImage targa old r new = TakesPieces (IsImageRead targa (source_read r) (rest_of new.left)) old new × IsRightImage (source_read r)
-
-abbrev pub EndsCompleteImage : Bool → DeskState → Result ImageSource Why → DeskState → Type 0
-EndsCompleteImage targa old (Ok r) new = (is_source_read r ≡ true) × HoldsImage targa old r new
-EndsCompleteImage targa old (Err ended) new = EndsEarly targa old ended new
 
 -- From these bytes on: one more piece was read, or why the reading ends.
 abbrev pub AfterNextImagePiece : Bool → DeskState → List ℕ → ImageStep → ImageSource → DeskState → Type 0

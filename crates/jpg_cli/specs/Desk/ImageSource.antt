@@ -6,6 +6,8 @@ use Rattle.jpg_spec.specs.Segments.{standard_limits}
 use Rattle.jpg_spec_image.specs.Images.{Image}
 use Rattle.jpg_spec_words.specs.declared.answers.Why.TheVariants as why
 use Rattle.jpg_pnm_bmp.specs.Made.{IsRightImage}
+use Rattle.jpg_spec_image.specs.declared.image.ImageInfo.{ImageInfo}
+use Rattle.jpg_pnm_bmp.specs.PlainSamples.{HasFedSamples, samples_so_far}
 use Rattle.jpg_pnm_bmp.specs.PixelsRead.{HasFedImage, image_read, is_image_read, pixels_taken}
 use Rattle.jpg_pnm_bmp.specs.declared.read.piece.Fed2.{Fed2}
 use Rattle.jpg_pnm_bmp.specs.declared.read.piece.Fed2.TheVariants as fed
@@ -23,6 +25,22 @@ abbrev pub HasFed : Bool → List ℕ → ImageSource → Type 0
 HasFed false bytes (source.Pixels r) = HasFedImage bytes r
 HasFed true bytes (source.Targa r) = HasFedTarga bytes r
 HasFed targa bytes other = ⊥
+
+-- Some bytes were given.
+abbrev pub HasFedSome : Bool → ImageSource → Type 0
+HasFedSome targa r = (bytes : List ℕ) × HasFed targa bytes r
+
+-- the samples so far, of PNM
+abbrev pub source_samples : ImageSource → List ℕ
+source_samples (source.Pixels r) = samples_so_far r
+source_samples (source.Targa r) = []
+
+-- The bytes that follow are the rest of the samples of an image with these numbers; or there are none of which that is so.
+abbrev pub TellsSamples : ImageSource → ImageInfo → Type 0
+TellsSamples r info = (targa : Bool) (bytes : List ℕ) → HasFed targa bytes r → (targa ≡ false) × HasFedSamples info bytes (source_samples r)
+
+abbrev pub TellsNoSamples : ImageSource → Type 0
+TellsNoSamples r = (bytes given : List ℕ) (info : ImageInfo) → HasFed false bytes r → HasFedSamples info bytes given → ⊥
 
 -- the image, once it is complete
 abbrev pub source_read : ImageSource → Image

@@ -1,5 +1,5 @@
 -- WHAT WRITING AN UNTRANSFORMED PICTURE does to a desk, and making it of an image before (the manual of cjpeg).
-use Rattle.std.specs.Prelude.{◌≡◌, ◌⊎◌, Option}
+use Rattle.std.specs.Prelude.{◌≡◌, ◌⊎◌, List, Option}
 use Rattle.std.specs.Borrow.{Bor}
 use Rattle.arrayvec.specs.ArrayVec.{ArrayVec}
 use Rattle.jpg_base.specs.declared.names.Name.{Name}
@@ -13,17 +13,23 @@ use Rattle.jpg_spec_write.specs.ScansAsked.{Scans}
 use Rattle.jpg_spec.specs.Segments.{QuantTable, standard_limits}
 use Rattle.jpg_spec_words.specs.declared.answers.Why.{Why}
 use Rattle.jpg_spec_words.specs.declared.answers.Why.TheVariants as why
+use Rattle.jpg_spec.specs.declared.frame.Copying.TheVariants as copying
+use Rattle.jpg_spec_write.specs.Script.{Entry}
 use Rattle.jpg_file.specs.Read.PictureRead.{MeansFor}
+use Rattle.jpg_file.specs.declared.write.Plan.{Plan}
 use Rattle.jpg_file.specs.Write.Restarts.{restart_of}
 use Rattle.jpg_color.specs.Encode.{image_told}
 use Rattle.jpg_pnm_bmp.specs.declared.read.pixels.Image.{Image as Read}
 use Rattle.jpg_file.specs.declared.read.picture.Picture.{Picture}
+use Rattle.jpg_color.specs.declared.encode.view.EncodedImage.{EncodedImage}
 use Rattle.jpg_color.specs.declared.encode.EncodeStop.{EncodeStop}
 use Rattle.jpg_color.specs.declared.encode.EncodeStop.TheVariants as stop
 use Rattle.jpg_cli.specs.Words.EncodeWords.{asked_of}
 use Rattle.jpg_cli.specs.declared.words.cjpeg_request.EncodeWords.{EncodeWords}
 use Rattle.jpg_cli.specs.Stays.{Untouched}
-use Rattle.jpg_cli.specs.Desk.Writing.{AfterMade, IsMeant, MeansMoved}
+use Rattle.jpg_cli.specs.Desk.EncodedRead.{IsEncodedImage}
+use Rattle.jpg_cli.specs.Desk.Writing.{AfterMade, IsMeant, MeansMoved, why_wrote}
+use Rattle.jpg_cli.specs.declared.desk.moved.Wrote.{Wrote}
 
 -- a picture that was written untransformed, by why that ended
 abbrev pub AfterWritten : Choice → Meaning → Name → DeskState → Why → DeskState → Type 0
@@ -53,3 +59,31 @@ AfterEncoding e I output old ended new =
 -- an image that was read, as the words ask for it
 abbrev pub EncodesImage : EncodeWords → Scans → Option (Bor (ArrayVec QuantTable)) → Read → DeskState → Why → DeskState → Type 0
 EncodesImage w scans tables i old ended new = AfterEncoding (asked_of w scans tables i) (image_told i) w.files.output old ended new
+
+-- AN ENCODED IMAGE written as the words ask for it: in these scans, with their Huffman tables and restarts
+pub record IsAskedBy (w : EncodeWords) (scans : Scans) (e : Encoding) : Type 0 where
+  pub scans_are : e.scans ≡ scans
+  pub huffman : e.huffman ≡ w.huffman
+  pub restart : e.restart ≡ restart_of w.restart
+
+-- it is that of an image
+abbrev pub IsEncodedBy : EncodeWords → Scans → EncodedImage → Type 0
+IsEncodedBy w scans v = (e : Encoding) × (I : Image) × IsAskedBy w scans e × IsEncodedImage e I v
+
+-- for each image that it is that of
+abbrev pub WritesEncoded : EncodeWords → Scans → EncodedImage → DeskState → Why → DeskState → Type 0
+WritesEncoded w scans v old ended new = (e : Encoding) (I : Image) → IsAskedBy w scans e → IsEncodedImage e I v → AfterEncoding e I w.files.output old ended new
+
+abbrev pub WritesView : EncodeWords → Scans → EncodedImage → DeskState → Wrote → DeskState → Type 0
+WritesView w scans v old answer new = WritesEncoded w scans v old (why_wrote answer) new
+
+-- THE PLAN of its file in these scans: its parts, and no kept marker that is passed on
+pub record IsPlanOf (w : EncodeWords) (v : EncodedImage) (script : List Entry) (plan : Plan) : Type 0 where
+  pub frame : plan.out.frame ≡ v.frame
+  pub colour : plan.out.colour ≡ v.colour
+  pub quants : plan.out.quants.items ≡ v.quants.items
+  pub jfif : plan.out.jfif ≡ v.jfif
+  pub copying : plan.out.copying ≡ copying.None
+  pub script_is : plan.script ≡ script
+  pub huffman : plan.huffman ≡ w.huffman
+  pub restart : plan.restart ≡ w.restart

@@ -1,19 +1,10 @@
--- WHAT READING AN IMAGE does to a desk (release 6b's image files, and Targa), by its result.
-use Rattle.std.specs.Prelude.{◌≡◌, ℕ, ◌<◌, ◌≤◌, Bool, List, [], ◌∷◌, ◌++◌, length, Option, None, Some, Result, Ok, Err}
-use Rattle.jpg_base.specs.declared.names.Name.{Name}
-use Rattle.jpg_base.specs.declared.names.Put.TheVariants as put
-use Rattle.jpg_base.specs.Desk.{DeskState}
+-- WHAT IS JUDGED of the file of an image (release 6b's image files, and Targa), and of its bytes that were read.
+use Rattle.std.specs.Prelude.{◌≡◌, ℕ, ◌<◌, ◌≤◌, Bool, List, ◌++◌, length, Option, None, Some}
 use Rattle.jpg_spec_image.specs.Images.{Image}
 use Rattle.jpg_spec.specs.Segments.{standard_limits}
 use Rattle.jpg_spec.specs.declared.fault.FaultAt.{FaultAt}
-use Rattle.jpg_spec_words.specs.declared.answers.Why.{Why}
-use Rattle.jpg_color.specs.Encode.{image_told}
-use Rattle.jpg_pnm_bmp.specs.Made.{IsRightImage}
-use Rattle.jpg_pnm_bmp.specs.declared.read.pixels.Image.{Image as Read}
-use Rattle.jpg_cli.specs.Endings.{Asks}
 use Rattle.jpg_cli.specs.Desk.ImageFile.{HasFaultIn, HasImageIn, IsOpenIn}
-use Rattle.jpg_cli.specs.Desk.Reading.{rest_of}
-use Rattle.jpg_cli.specs.Desk.Judging.{Judging, NoValueRead, NoValueTaken, ReadsFrom, TakesPieces}
+use Rattle.jpg_cli.specs.Desk.Judging.{Judging}
 
 -- THE BYTES that were read, of a Targa file if that is asked for
 
@@ -59,13 +50,3 @@ image_judging targa = record {
   unfinished = IsOpenImageRead targa;
   short = IsShortImageRead targa;
 }
-
--- THE ANSWERS: the image of the file, or why there is none
-abbrev pub ImageRead : Bool → Name → DeskState → Result Read Why → DeskState → Type 0
-ImageRead targa file old (Ok i) new = Asks (file ∷ []) put.Done old new × ReadsFrom (Some file) (IsImageRead targa (image_told i) (rest_of new.left)) old new
-ImageRead targa file old (Err ended) new = NoValueRead (image_judging targa) file old ended new
-
--- from a desk whose input is open
-abbrev pub EndsImageReading : Bool → DeskState → Result Read Why → DeskState → Type 0
-EndsImageReading targa old (Ok i) new = TakesPieces (IsImageRead targa (image_told i) (rest_of new.left)) old new × IsRightImage (image_told i)
-EndsImageReading targa old (Err ended) new = NoValueTaken (image_judging targa) old ended new

@@ -1,14 +1,18 @@
 -- What the words of cjpeg ask for, as the functions answer it.
-use Rattle.std.specs.Prelude.{◌≡◌, ℕ, ◌-◌, true, List, [], ◌∷◌, Option, None, Some, option_and_then, option_copied, option_map, unwrap_or}
+use Rattle.std.specs.Prelude.{◌≡◌, ℕ, ◌-◌, true, All, List, [], ◌∷◌, length, slice_index_or, Option, None, Some, option_and_then, option_copied, option_map, unwrap_or}
 use Rattle.std.specs.Borrow.{Bor}
 use Rattle.arrayvec.specs.ArrayVec.{ArrayVec}
 use Rattle.jpg_spec_write.specs.declared.huffman.Huffman.{Huffman}
 use Rattle.jpg_spec_words.specs.Requests.{WordsTold, words_right}
 use Rattle.jpg_spec_words.specs.EncodeWords.{EncodeAsked, are_factors, encoding_asked, factors_from, factors_named, quality_named}
-use Rattle.jpg_spec_encode.specs.Encoded.{Encoding}
+use Rattle.jpg_spec_encode.specs.Encoded.{Encoding, count_due}
+use Rattle.jpg_spec_encode.specs.EncodingLaws.{AreFactors}
+use Rattle.jpg_spec_image.specs.Images.{Image}
+use Rattle.jpg_spec_image.specs.declared.image.ImageKind.{ImageKind}
 use Rattle.jpg_spec_write.specs.ScansAsked.{Scans}
-use Rattle.jpg_spec.specs.Segments.{QuantTable}
+use Rattle.jpg_spec.specs.Segments.{AreQuantisers, QuantTable}
 use Rattle.jpg_color.specs.Encode.{image_told}
+use Rattle.jpg_color.specs.declared.encode.Encoding.{Encoding as Asked}
 use Rattle.jpg_pnm_bmp.specs.declared.read.pixels.Image.{Image as Read}
 use Rattle.jpg_file.specs.Write.Restarts.{restart_of}
 use Rattle.jpg_cli.specs.Words.Files.{files_said, files_view, text_told}
@@ -65,6 +69,18 @@ IsFirstPair text (Some found) = (a x d : ℕ) × (text ≡ a ∷ x ∷ d ∷ fou
 abbrev pub lent_tables : Option (Bor (ArrayVec QuantTable)) → Option (List QuantTable)
 lent_tables tables = option_map (λ v. v.items) (option_copied tables)
 
--- how an image that was read is encoded then
+-- how an image is encoded then
+abbrev pub encoding_by : EncodeWords → Scans → Option (Bor (ArrayVec QuantTable)) → Image → Encoding
+encoding_by w scans tables image = encoding_asked (encode_told w) scans (lent_tables tables) image
+
+-- one that was read
 abbrev pub asked_of : EncodeWords → Scans → Option (Bor (ArrayVec QuantTable)) → Read → Encoding
-asked_of w scans tables i = encoding_asked (encode_told w) scans (lent_tables tables) (image_told i)
+asked_of w scans tables i = encoding_by w scans tables (image_told i)
+
+-- An image of this kind can be encoded like this, if its sides are right: factors from 1 to 4 for each component, and
+-- tables.
+pub record CanEncodeKind (kind : ImageKind) (a : Asked) : Type 0 where
+  pub factors : All AreFactors a.factors.items
+  pub pairs : length a.factors.items ≡ count_due a.gray kind
+  pub first : AreQuantisers (slice_index_or a.tables 0 [])
+  pub others : AreQuantisers (slice_index_or a.tables 1 [])

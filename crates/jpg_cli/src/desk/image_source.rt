@@ -1,12 +1,13 @@
 //! Readers of image files that are given pieces, by the format of the file (release 6b's image files; Truevision TGA File
 //! Format Specification, version 2.0).
-ghost use Rattle.std.specs.Prelude.{◌≡◌, ◌≤◌, ◌<◌, ◌+◌, [], ℕ, length, true, false};
+ghost use Rattle.std.specs.Prelude.{◌≡◌, ◌≤◌, ◌<◌, ◌+◌, [], ℕ, IfNone, IfSome, length, true, false};
 ghost use Rattle.jpg_pnm_bmp.specs.PixelsRead.{image_by_parts, is_image_read, pixels_taken};
 ghost use Rattle.jpg_targa.specs.TargaRead.{is_targa_read, targa_taken};
 ghost use Rattle.jpg_cli.specs.Desk.ImageSource.{EndDone, EndsPixels, EndsTarga, StepDone, TakesPixels, TakesTarga, step_of, stopped};
 
 use jpg_base::Stop;
 use jpg_pnm_bmp::{Fed2, Image, PixelReader};
+use jpg_spec_image::ImageInfo;
 use jpg_spec_words::Why;
 use jpg_targa::TargaReader;
 use std::alloc::Global;
@@ -29,7 +30,7 @@ pub enum ImageSource {
 }
 
 impl ImageSource {
-    ghost use Rattle.jpg_cli.specs.Desk.ImageSource.{EndsImage, HasFed, TakesImagePiece, is_source_read, source_read, source_taken};
+    ghost use Rattle.jpg_cli.specs.Desk.ImageSource.{EndsImage, HasFed, TakesImagePiece, TellsNoSamples, TellsSamples, is_source_read, source_read, source_samples, source_taken};
 
     /// A reader that was given no bytes. It takes no memory yet.
     pub fn new(alloc: Global, targa: bool) -> ImageSource
@@ -64,6 +65,28 @@ impl ImageSource {
         match self {
             ImageSource::Pixels(reader) => feed_pixels(reader, piece),
             ImageSource::Targa(reader) => feed_targa(reader, piece),
+        }
+    }
+
+    /// The numbers of the image, if the bytes that follow are the rest of its samples, in the same order, none of which
+    /// can be wrong (`PixelReader::plain`).
+    pub fn plain(&self) -> Option<ImageInfo>
+        ensures some { IfSome result (TellsSamples self.now) }
+        ensures none { IfNone result (TellsNoSamples self.now) }
+    {
+        match self {
+            ImageSource::Pixels(reader) => reader.plain(),
+            ImageSource::Targa(_) => None,
+        }
+    }
+
+    /// Its samples so far, where `plain` tells its numbers.
+    pub fn samples(&self) -> &[u8]
+        ensures { result.now ≡ source_samples self.now }
+    {
+        match self {
+            ImageSource::Pixels(reader) => reader.samples(),
+            ImageSource::Targa(_) => &[],
         }
     }
 

@@ -69,8 +69,8 @@ pub fn write_moved<D: Desk>(
     }
 }
 
-// Creates the output, and writes to it the file of the plan with these blocks and kept markers.
-fn write_view<V: BlockView, D: Desk>(
+/// Creates the output, and writes to it the file of the plan with these blocks and kept markers.
+pub fn write_view<V: BlockView, D: Desk>(
     plan: &Plan,
     kept: &KeptList,
     view: &V,

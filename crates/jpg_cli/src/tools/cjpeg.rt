@@ -5,23 +5,26 @@ ghost use Rattle.jpg_color.specs.Encode.{image_told};
 ghost use Rattle.jpg_pnm_bmp.specs.Made.{IsRightImage};
 ghost use Rattle.jpg_cli.specs.Words.EncodeWords.{encode_told, lent_tables};
 ghost use Rattle.jpg_cli.specs.Tools.ImageEncoded.{Encoded, EncodedAfter, EncodedAsAsked, task_after};
-ghost use Rattle.jpg_cli.specs.Desk.ImageWritten.{EncodesImage, WritesAsItIs, why_none};
+ghost use Rattle.jpg_cli.specs.Desk.ImageWritten.{EncodesImage, IsEncodedBy, IsPlanOf, WritesAsItIs, WritesEncoded, WritesView};
+ghost use Rattle.jpg_cli.specs.Desk.Writing.{why_wrote};
 ghost use Rattle.jpg_cli.specs.Stays.{OnlyWorks};
 
-use crate::desk::image::read_image;
-use crate::desk::moved::{Wrote, write_moved};
+use crate::desk::moved::{Wrote, write_moved, write_view};
 use crate::desk::script::take_scans;
 use crate::desk::tables::{Tables, take_tables};
 use crate::tools::cjpeg_encoding::encoding_of;
+use crate::tools::cjpeg_image::{read_encoded, why_none};
 use crate::words::cjpeg_request::EncodeWords;
-use jpg_base::Desk;
-use jpg_color::{EncodeStop, encode_picture};
-use jpg_file::Picture;
+use jpg_base::{Desk, QuantTable};
+use jpg_color::{EncodedImage, encode_picture};
+use jpg_file::{Picture, Plan};
+use jpg_markers::OutHead;
 use jpg_pnm_bmp::Image;
+use jpg_scans::Script;
 use jpg_spec::Copying;
 use jpg_spec_move::Transform;
 use jpg_spec_words::{Which, Why};
-use jpg_transform::{Choice, Scans, counted};
+use jpg_transform::{Choice, Scans, counted, script_due};
 use std::alloc::Global;
 
 /// Takes the scans and the tables, reads the image of the input, and writes the file of its picture to the output, as
@@ -63,9 +66,73 @@ fn encode_by<D: Desk>(
     ensures kept { OnlyWorks (D.state desk.old) (D.state desk.new) }
     ensures encoded { Encoded (task_after [] (encode_told words.now) (scans_told scans) (lent_tables tables.entry)) (D.state desk.old) result (D.state desk.new) }
 {
-    match read_image(alloc, &words.files.input, words.targa, desk) {
+    match read_encoded(alloc, words, &scans, tables, desk) {
         Err(why) => why,
-        Ok(image) => write_encoded(alloc, &image, words, scans, tables, desk),
+        Ok(image) => write_image(alloc, image, words, scans, desk),
+    }
+}
+
+// Writes the encoded image to the output: a sequential file block by block as they are encoded, a progressive one from
+// all its blocks.
+fn write_image<D: Desk>(
+    alloc: Global,
+    image: EncodedImage,
+    words: &EncodeWords,
+    scans: Scans,
+    desk: &mut D,
+) -> Why
+    requires { IsEncodedBy words.now (scans_told scans) image }
+    ensures kept { OnlyWorks (D.state desk.old) (D.state desk.new) }
+    ensures left { (D.state desk.new).left ≡ (D.state desk.old).left }
+    ensures wrote { WritesEncoded words.now (scans_told scans) image (D.state desk.old) result (D.state desk.new) }
+{
+    if scans.progressive() {
+        return match image.picture(alloc) {
+            Ok(picture) => write_picture(alloc, &picture, words, scans, desk),
+            Err(_) => Why::NoMemory,
+        };
+    }
+    why_wrote(write_blocks(&image, words, &scans, desk))
+}
+
+// The same, block by block as they are encoded.
+fn write_blocks<D: Desk>(
+    image: &EncodedImage,
+    words: &EncodeWords,
+    scans: &Scans,
+    desk: &mut D,
+) -> Wrote
+    requires { IsEncodedBy words.now (scans_told scans.now) image.now }
+    ensures kept { OnlyWorks (D.state desk.old) (D.state desk.new) }
+    ensures left { (D.state desk.new).left ≡ (D.state desk.old).left }
+    ensures wrote { WritesView words.now (scans_told scans.now) image.now (D.state desk.old) result (D.state desk.new) }
+{
+    let script = script_due(scans, &image.frame, image.colour);
+    match script.check(&image.frame) {
+        Err(fault) => Wrote::Picture(fault),
+        Ok(()) => {
+            let plan = plan_of(image, script, words);
+            write_view(&plan, &image.kept, image, &words.files.output, desk)
+        }
+    }
+}
+
+// How the file is written in these scans: no kept marker is passed on.
+fn plan_of(image: &EncodedImage, script: Script, words: &EncodeWords) -> Plan
+    ensures { IsPlanOf words.now image.now script result }
+{
+    image.frame.checked();
+    Plan {
+        out: OutHead {
+            frame: image.frame.copy(),
+            colour: image.colour,
+            quants: QuantTable::copied(image.quants.as_slice()),
+            jfif: image.jfif,
+            copying: Copying::None,
+        },
+        script,
+        huffman: words.huffman,
+        restart: words.restart,
     }
 }
 
@@ -84,20 +151,10 @@ pub fn write_encoded<D: Desk>(
     ensures wrote { EncodesImage words.now (scans_told scans) tables.entry image.now (D.state desk.old) result (D.state desk.new) }
 {
     counted(words.restart);
-    let encoding = encoding_of(words, &scans, tables, image);
+    let encoding = encoding_of(words, &scans, tables, image.info.kind);
     match encode_picture(alloc, image, &encoding) {
         Err(stop) => why_none(stop),
         Ok(picture) => write_picture(alloc, &picture, words, scans, desk),
-    }
-}
-
-// Why there is no picture.
-fn why_none(stop: EncodeStop) -> Why
-    ensures { result ≡ why_none stop }
-{
-    match stop {
-        EncodeStop::Picture(fault) => Why::Picture(fault),
-        EncodeStop::NoMemory => Why::NoMemory,
     }
 }
 
@@ -122,7 +179,14 @@ fn write_picture<D: Desk>(
         huffman: words.huffman,
         restart: words.restart,
     };
-    match write_moved(alloc, picture, &choice, &words.files.output, &None, desk) {
+    why_wrote(write_moved(alloc, picture, &choice, &words.files.output, &None, desk))
+}
+
+// Why the writing ended.
+fn why_wrote(wrote: Wrote) -> Why
+    ensures { result ≡ why_wrote wrote }
+{
+    match wrote {
         Wrote::Done => Why::Done,
         Wrote::Picture(fault) => Why::Picture(fault),
         Wrote::OpenFault => Why::OpenFault(Which::Output),

@@ -4,9 +4,9 @@ ghost use Rattle.jpg_spec_encode.specs.Encoded.{count_due};
 ghost use Rattle.jpg_spec_words.specs.EncodeWords.{factors_at, factors_due};
 ghost use Rattle.jpg_spec_encode.specs.EncodingLaws.{AreFactors};
 ghost use Rattle.jpg_transform.specs.Planned.{scans_told};
-ghost use Rattle.jpg_color.specs.Encode.{AsksFor, CanEncode, image_told};
-ghost use Rattle.jpg_pnm_bmp.specs.Made.{IsRightImage};
-ghost use Rattle.jpg_cli.specs.Words.EncodeWords.{asked_of};
+ghost use Rattle.jpg_color.specs.Encode.{AsksFor};
+ghost use Rattle.jpg_spec_image.specs.Images.{Image as ImageRead};
+ghost use Rattle.jpg_cli.specs.Words.EncodeWords.{CanEncodeKind, encoding_by};
 
 use crate::desk::tables::Tables;
 use crate::words::cjpeg_request::EncodeWords;
@@ -14,25 +14,23 @@ use crate::words::cjpeg_values::Factors;
 use arrayvec::ArrayVec;
 use jpg_color::Encoding;
 use jpg_dct::encoding_tables;
-use jpg_pnm_bmp::Image;
 use jpg_spec_image::ImageKind;
 use jpg_transform::Scans;
 
-/// How this image is encoded, in these scans and by the tables of a file, if there is one.
+/// How an image of this kind is encoded, in these scans and by the tables of a file, if there is one.
 pub fn encoding_of(
     words: &EncodeWords,
     scans: &Scans,
     tables: Option<&Tables>,
-    image: &Image,
+    kind: ImageKind,
 ) -> Encoding
-    requires { IsRightImage (image_told image.now) }
-    ensures asks { AsksFor result (asked_of words.now (scans_told scans.now) tables.entry image.now) }
-    ensures can { CanEncode image.now result }
+    ensures asks { (I : ImageRead) → I.info.kind ≡ kind → AsksFor result (encoding_by words.now (scans_told scans.now) tables.entry I) }
+    ensures can { CanEncodeKind kind result }
 {
     Encoding {
         gray: words.gray,
         progressive: scans.progressive(),
-        factors: factors_due(&words.factors, count_due(words.gray, image.info.kind)),
+        factors: factors_due(&words.factors, count_due(words.gray, kind)),
         tables: encoding_tables(words.quality, words.baseline, tables),
     }
 }

@@ -5,6 +5,7 @@ ghost use Rattle.jpg_spec.specs.NumberTexts.{is_digit};
 ghost use Rattle.jpg_spec_image.specs.Images.{is_side, sample_count, are_few_pixels};
 ghost use Rattle.jpg_spec_image.specs.PnmText.{is_plain, is_read, is_left_out, is_pnm_space, begins_gap, pnm_info, is_number_due, number_fault};
 ghost use Rattle.jpg_pnm_bmp.specs.Known.{list_of};
+ghost use Rattle.jpg_pnm_bmp.specs.PlainSamples.{unscaled_info};
 
 use jpg_spec::Fault;
 use jpg_spec_image::{ImageInfo, ImageKind};
@@ -167,5 +168,22 @@ pub(crate) fn pnm_info(format: u8, width: u16, height: u16) -> ImageInfo
         kind,
         x_metre: 0,
         y_metre: 0,
+    }
+}
+
+// The numbers of an image whose samples aren't scaled.
+pub(crate) fn unscaled_info(format: u8, numbers: Numbers) -> Option<ImageInfo>
+    ensures { result ≡ unscaled_info format numbers }
+{
+    match numbers {
+        Numbers::All(width, height, most) => {
+            if most == 255 {
+                return Some(pnm_info(format, width, height));
+            }
+            None
+        }
+        Numbers::Nothing => None,
+        Numbers::Width(_) => None,
+        Numbers::Sides(_, _) => None,
     }
 }

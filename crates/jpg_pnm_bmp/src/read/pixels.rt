@@ -1,5 +1,5 @@
 //! Image files that are read piece by piece (release 6b's image files).
-ghost use Rattle.std.specs.Prelude.{◌≡◌, ◌≤◌, ◌+◌, [], ℕ, List, length, Some, true, false, Ok, Err};
+ghost use Rattle.std.specs.Prelude.{◌≡◌, ◌≤◌, ◌+◌, [], ℕ, List, length, Some, true, false, Ok, Err, IfSome, IfNone};
 ghost use Rattle.jpg_base.specs.declared.stop.Stop.{Stop as Stopped};
 ghost use Rattle.jpg_pnm_bmp.specs.PixelsRead.{Reads, EndsRead, image_by_parts};
 
@@ -31,6 +31,7 @@ pub struct PixelReader {
 
 impl PixelReader {
     ghost use Rattle.jpg_pnm_bmp.specs.PixelsRead.{image_read, pixels_taken, pixels_stop, is_image_read, HasFedImage, Feeds, Ends, KeepsDone, EndsDone};
+    ghost use Rattle.jpg_pnm_bmp.specs.PlainSamples.{samples_so_far, TellsPlain, TellsNotPlain};
 
     /// A reader that was given no bytes. It takes no memory yet.
     pub fn new(alloc: Global) -> PixelReader
@@ -98,6 +99,27 @@ impl PixelReader {
         ensures { result ≡ is_image_read self.now }
     {
         self.done
+    }
+
+    /// The numbers of the image, if the bytes so far are the header of a P5 or P6 file whose greatest value is 255 and
+    /// some of its samples, not all: the bytes that follow are the rest of its samples, in the same order, and none can
+    /// be wrong. Otherwise None, as after a stop, or once the image is complete.
+    pub fn plain(&self) -> Option<ImageInfo>
+        ensures some { IfSome result (TellsPlain self.now) }
+        ensures none { IfNone result (TellsNotPlain self.now) }
+        ensures more { IfSome result (λ info. is_image_read self.now ≡ false) }
+    {
+        if self.done || self.stop.is_some() {
+            return None;
+        }
+        self.work.unscaled()
+    }
+
+    /// The samples so far, of a file of which `plain` tells.
+    pub fn samples(&self) -> &[u8]
+        ensures { result.now ≡ samples_so_far self.now }
+    {
+        self.work.samples.as_slice()
     }
 
     /// The file ends here. It answers Ok if the image is complete now, which it is if the last number of P2 or P3 ends

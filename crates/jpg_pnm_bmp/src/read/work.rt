@@ -6,15 +6,17 @@ ghost use Rattle.jpg_spec_image.specs.ImageSteps.{at_start, in_body, first_byte,
 ghost use Rattle.jpg_pnm_bmp.specs.Known.{list_of};
 ghost use Rattle.jpg_pnm_bmp.specs.Reader.{standing, numbers_list, IsReached, KeepsStage, Reaches, AddsNumber, CanStretch, HoldsBodyPart, StretchesBy, EndsAs, number_ended_at};
 ghost use Rattle.jpg_pnm_bmp.specs.Shapes.{body_told};
+ghost use Rattle.jpg_pnm_bmp.specs.PlainSamples.{unscaled_told};
 
 use crate::read::bmp::{bmp_offset, bmp_shape, head_fault, palette_bytes};
 use crate::read::body::{Shape, part_long, pnm_shape, wrong_in};
 use crate::read::numbers::{
     Numbers, begins_gap, is_digit, is_due_after, is_left_out, is_plain, is_read, may_follow,
-    number_fault,
+    number_fault, unscaled_info,
 };
 use jpg_base::{Bytes, NoMemory};
 use jpg_spec::Fault;
+use jpg_spec_image::ImageInfo;
 use std::alloc::Global;
 
 // The state after the bytes so far: see ImageState of the definitions.
@@ -301,6 +303,22 @@ impl Work {
                 let answer = self.hold(shape.count, &piece[..long]);
                 Moved { used: long, answer }
             }
+        }
+    }
+
+    // The numbers of an image whose samples aren't scaled, in its body.
+    pub fn unscaled(&self) -> Option<ImageInfo>
+        ensures { result ≡ unscaled_told self.now }
+    {
+        match self.stage {
+            Stage::Start => None,
+            Stage::First(_) => None,
+            Stage::Gap { .. } => None,
+            Stage::Number(_) => None,
+            Stage::BmpHead => None,
+            Stage::BmpFront(_) => None,
+            Stage::PnmBody => unscaled_info(self.format, self.numbers),
+            Stage::BmpBody => None,
         }
     }
 

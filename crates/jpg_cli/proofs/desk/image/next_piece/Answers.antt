@@ -5,7 +5,7 @@ use Rattle.jpg_spec.specs.declared.fault.Fault.TheVariants.{InputTooLong}
 use Rattle.jpg_spec_words.specs.declared.answers.Why.TheVariants as why
 use Rattle.jpg_cli.specs.Desk.ImageLoop.{EndsEarly}
 use Rattle.jpg_cli.proofs.CommentsCopied.{within_most}
-use Rattle.jpg_cli.proofs.ImageFed.{fed_taken}
+use Rattle.jpg_cli.proofs.ImageFed.{fed_open, fed_taken}
 use Rattle.jpg_cli.proofs.ImageTaken.{goes_on_end, image_end, image_too_long, image_unread, piece_taken}
 use Rattle.jpg_cli.proofs.desk.image.next_piece.Goals as goal
 
@@ -22,7 +22,7 @@ returns-in-Failed-clause-after g c = λ targa start bytes h most still had.
     let read = c.in-Failed.ensures.read in
     let m = ap (λ (l : Limits). l.input) c.standard-most.ensures in
     let short : length bytes < standard_limits.input = (let t = fed_taken targa bytes c.args.reader.now h in let z = c.if-room-eq0.false in omega arith) in
-    image_unread targa start (state c.args.desk.now) (state c.read_within.new.desk) bytes c.args.reader.now h short still had read.after.0 read.after.1
+    image_unread targa start (state c.args.desk.now) (state c.read_within.new.desk) bytes (fed_open targa bytes c.args.reader.now h) short still had read.after.0 read.after.1
 
 pub returns-in-End-clause-goes_on : goal.returns-in-End-clause-goes_on
 returns-in-End-clause-goes_on g c =

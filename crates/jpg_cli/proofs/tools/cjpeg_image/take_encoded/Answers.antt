@@ -1,0 +1,41 @@
+use Rattle.std.proofs.Common.{◌≡◌, ◌-◌, ◌^◌, ◌<◌, ◌++◌, arith}
+use Rattle.std.proofs.lemmas.List.{length-append}
+use Rattle.jpg_transform.specs.Planned.{scans_told}
+use Rattle.jpg_color.specs.Encode.{image_told}
+use Rattle.jpg_cli.specs.Desk.ImageSource.{source_taken}
+use Rattle.jpg_cli.specs.Words.EncodeWords.{encoding_by}
+use Rattle.jpg_cli.proofs.EncodedRead.{whole_encoded}
+use Rattle.jpg_cli.proofs.ImageFed.{fed_taken}
+use Rattle.jpg_cli.proofs.tools.cjpeg_image.take_encoded.Goals as goal
+
+pub encode_rest-requires-clause-within : goal.encode_rest-requires-clause-within
+encode_rest-requires-clause-within g c =
+    let state = g.D.Desk.state in
+    let so = c.loop-reader.invariant in
+    let targa = c.args.words.now.targa in
+    let after = c.in-More.ensures.after targa (state c.args.desk.now) so.read.0 so.read.1 so.read.3 so.kept so.read.2 in
+    let t = fed_taken targa (so.read.0 ++ after.0) c.next_piece.new.reader after.2 in
+    let m = after.4 in
+    omega (arith, t, m)
+
+pub loop-reader-smaller : goal.loop-reader-smaller
+loop-reader-smaller g c =
+    let state = g.D.Desk.state in
+    let so = c.loop-reader.invariant in
+    let targa = c.args.words.now.targa in
+    let after = c.in-More.ensures.after targa (state c.args.desk.now) so.read.0 so.read.1 so.read.3 so.kept so.read.2 in
+    let had = fed_taken targa so.read.0 c.loop-reader.reader so.read.1 in
+    let has = fed_taken targa (so.read.0 ++ after.0) c.next_piece.new.reader after.2 in
+    let some = after.1 in
+    let most = after.4 in
+    let less : 2 ^ 40 - source_taken c.next_piece.new.reader < 2 ^ 40 - source_taken c.loop-reader.reader = omega (arith, had, has, some, most, length-append so.read.0 after.0) in
+    less
+
+pub returns-in-Whole-clause-read : goal.returns-in-Whole-clause-read
+returns-in-Whole-clause-read g c =
+    let state = g.D.Desk.state in
+    let so = c.loop-reader.invariant in
+    let w = c.args.words.now in
+    let holds = c.in-Whole.ensures.after w.targa (state c.args.desk.now) so.read.0 so.read.1 so.read.3 so.kept so.read.2 in
+    whole_encoded w.targa (encoding_by w (scans_told c.args.scans.now) c.args.tables) (state c.args.desk.now) (state c.next_piece.new.desk) c.next_piece.new.reader (image_told c.take.result) c.encode_whole.result
+    c.take.ensures holds c.encode_whole.ensures
