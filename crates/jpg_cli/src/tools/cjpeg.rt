@@ -95,7 +95,8 @@ fn write_image<D: Desk>(
     why_wrote(write_blocks(&image, words, &scans, desk))
 }
 
-// The same, block by block as they are encoded.
+// The same, block by block as they are encoded. It remains a call, so that a progressive file doesn't need its stack.
+#[inline(never)]
 fn write_blocks<D: Desk>(
     image: &EncodedImage,
     words: &EncodeWords,
