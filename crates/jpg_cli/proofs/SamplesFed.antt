@@ -1,5 +1,5 @@
 -- Samples given to a sampler while they are read, over the states of a desk.
-use Rattle.std.proofs.Common.{◌≡◌, ℕ, ◌+◌, ◌-◌, ◌<◌, ◌≤◌, min, Bool, true, false, List, [], ◌++◌, length, take, Result, Ok, Err, refl, sym, ap, ◌∙◌, subst, arith, inl, inr, ⊎_elim}
+use Rattle.std.proofs.Common.{◌≡◌, ℕ, ◌+◌, ◌-◌, ◌<◌, ◌≤◌, min, false, List, [], ◌++◌, length, take, Ok, sym, ap, ◌∙◌, subst, arith, inl, inr, ⊎_elim}
 use Rattle.std.specs.Io.KnownBytes.{Consumes, IsAtEnd}
 use Rattle.std.proofs.lemmas.Bool.{cases_lt}
 use Rattle.std.proofs.lemmas.List.{append-nil, length-append, length-take-le, take_all}
@@ -11,24 +11,23 @@ use Rattle.jpg_base.specs.Laws.{Consumes-then}
 use Rattle.jpg_spec.specs.Segments.{standard_limits}
 use Rattle.jpg_spec.specs.declared.fault.Fault.TheVariants.{ImageShort, InputTooLong}
 use Rattle.jpg_spec.specs.declared.fault.FaultAt.{FaultAt}
-use Rattle.jpg_spec_image.specs.Images.{Image, sample_count}
+use Rattle.jpg_spec_image.specs.Images.{sample_count}
 use Rattle.jpg_spec_image.specs.declared.image.ImageInfo.{ImageInfo}
-use Rattle.jpg_spec_words.specs.declared.answers.Why.{Why}
 use Rattle.jpg_spec_words.specs.declared.answers.Why.TheVariants as why
 use Rattle.jpg_spec_words.specs.declared.answers.Which.TheVariants as which
 use Rattle.jpg_color.specs.Encode.{image_of}
-use Rattle.jpg_color.specs.EncodeSampling.{AddsSamples, HasSampled, samples_left}
+use Rattle.jpg_color.specs.EncodeSampling.{HasSampled, samples_left}
 use Rattle.jpg_color.specs.declared.encode.Encoding.{Encoding as Asked}
 use Rattle.jpg_color.specs.declared.encode.sampler.Sampler.{Sampler}
 use Rattle.jpg_pnm_bmp.specs.Made.{AreBytes, IsRightImage}
-use Rattle.jpg_pnm_bmp.specs.PlainSamples.{CompletesPlain, GoesOnPlain, HasFedSamples, plain_image}
+use Rattle.jpg_pnm_bmp.specs.PlainSamples.{CompletesPlain, GoesOnPlain}
 use Rattle.jpg_pnm_bmp.proofs.PlainSamples.{goes_on_plain}
 use Rattle.jpg_cli.specs.Desk.ImageFile.{HasFaultIn}
 use Rattle.jpg_cli.specs.Desk.ImageLoop.{EndsEarly}
 use Rattle.jpg_cli.specs.Desk.Judging.{NoValueTaken, TakesPieces}
 use Rattle.jpg_cli.specs.Desk.ReadImage.{IsFaultRead, IsImageRead, image_judging}
 use Rattle.jpg_cli.specs.Desk.Reading.{rest_of}
-use Rattle.jpg_cli.specs.Desk.SamplesFed.{AfterNextSamples, AfterSamples, IsAllGiven, IsGiven, SoFarGiven, TakesSome}
+use Rattle.jpg_cli.specs.Desk.SamplesFed.{AfterNextSamples, IsAllGiven, IsGiven, SoFarGiven, TakesSome}
 use Rattle.jpg_cli.specs.Stays.{OnlyReads}
 use Rattle.jpg_cli.proofs.CommentsCopied.{left_still}
 use Rattle.jpg_cli.proofs.ImageTaken.{image_unread, open_end, open_more, open_too_long, open_within}
