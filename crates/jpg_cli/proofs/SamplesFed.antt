@@ -47,12 +47,15 @@ only_reads read = record {
 
 -- HOW MANY ARE LEFT
 
+count_of : {info : ImageInfo} {a : Asked} {given : List ℕ} {s : Sampler} → HasSampled info a given s → length given + samples_left s ≡ sample_count info
+count_of h = (h.has).count
+
 -- some, where not all were given
 pub some_left : {info : ImageInfo} {a : Asked} {start : DeskState} {bytes given : List ℕ} {s : Sampler} {taken : ℕ} {now : DeskState} → IsGiven info a start bytes given s taken now → samples_left s ≡ 0 → ⊥
-some_left g none = (let few = (g.fed).few in let c = (g.sampled).count in omega (arith, few, c, none))
+some_left g none = (let few = (g.fed).few in let c = count_of g.sampled in omega (arith, few, c, none))
 
 none_left_of : {info : ImageInfo} {a : Asked} {start : DeskState} {s : Sampler} {now : DeskState} → IsAllGiven info a start s now → samples_left s ≡ 0
-none_left_of g = (let l = g.count in let c = (g.sampled).count in omega (arith, l, c))
+none_left_of g = (let l = g.count in let c = count_of g.sampled in omega (arith, l, c))
 
 module _ (info : ImageInfo) (a : Asked) (start : DeskState) where
   -- those that were given so far, if some are left; and all, if none are
@@ -72,7 +75,7 @@ module _ {info : ImageInfo} {a : Asked} {start : DeskState} {bytes given : List 
 
   -- the samples that it has
   count_is : length given + samples_left s0 ≡ sample_count info
-  count_is = (g.sampled).count
+  count_is = count_of g.sampled
 
   more_given : (s1 : Sampler) (d1 : DeskState) (piece : List ℕ) → AreBytes piece → length (bytes ++ piece) ≤ standard_limits.input → length (given ++ piece) < sample_count info → Consumes d0.left d1.left piece → OnlyReads d0 d1 → TakesSome s0 piece s1
       → IsGiven info a start (bytes ++ piece) (given ++ piece) s1 (taken + length piece) d1
