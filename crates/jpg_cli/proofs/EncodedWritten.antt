@@ -1,9 +1,7 @@
 -- The file of an encoded image, written block by block: its plan, and its text.
-use Rattle.std.proofs.Common.{◌≡◌, ◌≤◌, ℕ, Bool, true, false, cond, List, [], length, map, refl, sym, ap, ◌∙◌, subst, arith, inl, inr, Option, None, Some, Ok, Err}
-use Rattle.std.proofs.lemmas.List.{length-map}
+use Rattle.std.proofs.Common.{◌≡◌, ℕ, Bool, true, false, cond, List, [], length, refl, sym, ap, ◌∙◌, subst, inl, None, Ok, Err}
 use Rattle.jpg_base.specs.declared.names.Name.{Name}
 use Rattle.jpg_base.specs.Desk.{DeskState}
-use Rattle.jpg_spec.specs.FrameHeader.{IsFrame}
 use Rattle.jpg_spec.specs.FileMeaning.{Means}
 use Rattle.jpg_spec.specs.Geometry.{Frame, is_progressive}
 use Rattle.jpg_spec.specs.Grids.{frame_grids, picture_grids}
@@ -15,18 +13,16 @@ use Rattle.jpg_spec.specs.Meaning.{Meaning, colour_of, real_blocks}
 use Rattle.jpg_spec.specs.Segments.{QuantTable, standard_limits}
 use Rattle.jpg_spec.specs.declared.frame.Colour.{Colour}
 use Rattle.jpg_spec.specs.declared.frame.Copying.{Copying}
-use Rattle.jpg_spec.specs.declared.frame.Copying.TheVariants as copying
 use Rattle.jpg_spec.specs.declared.frame.Process.TheVariants.{Baseline, Extended}
 use Rattle.jpg_spec.specs.declared.jfif.Jfif.{Jfif}
-use Rattle.jpg_spec_encode.specs.Encoded.{Encoding, any_process, encode_fault, encoded, encoded_script, encoded_text, sampling_fault}
+use Rattle.jpg_spec_encode.specs.Encoded.{Encoding, any_process, encode_fault, encoded, encoded_script, encoded_text}
 use Rattle.jpg_spec_encode.proofs.EncodedWritten.{encoded_headed, encoded_means}
 use Rattle.jpg_spec_image.specs.Images.{Image}
-use Rattle.jpg_spec_write.specs.FileText.{Restart, file_text, frame_of_meaning}
+use Rattle.jpg_spec_write.specs.FileText.{file_text, frame_of_meaning}
 use Rattle.jpg_spec_write.specs.Headed.{copied, headed_kept}
 use Rattle.jpg_spec_write.specs.ScansAsked.{Scans, asks_progressive, process_due, script_due}
-use Rattle.jpg_spec_write.specs.Script.{Entry, is_progressive_script}
+use Rattle.jpg_spec_write.specs.Script.{Entry}
 use Rattle.jpg_spec_write.specs.ScriptFaults.{script_fault}
-use Rattle.jpg_spec_write.specs.declared.huffman.Huffman.{Huffman}
 use Rattle.jpg_spec_write.specs.declared.picture_fault.PictureFault.{PictureFault}
 use Rattle.jpg_spec_write.proofs.MovedText.{has_standard, headed_frame, passes_by, same_kind}
 use Rattle.jpg_spec_write.proofs.ScriptGrids.{same_script_fault}
@@ -42,7 +38,7 @@ use Rattle.jpg_transform.proofs.MovedFile.{tables_are}
 use Rattle.jpg_transform.proofs.MovedScript.{judged_err, judged_ok, meaning_grids, same_due}
 use Rattle.jpg_transform.proofs.SeenPicture.{told_grids}
 use Rattle.jpg_cli.specs.Desk.EncodedRead.{IsEncodedImage}
-use Rattle.jpg_cli.specs.Desk.ImageWritten.{AfterEncoding, IsAskedBy, IsEncodedBy, IsPlanOf, WritesEncoded, WritesView}
+use Rattle.jpg_cli.specs.Desk.ImageWritten.{AfterEncoding, IsAskedBy, IsPlanOf}
 use Rattle.jpg_cli.specs.Desk.Writing.{AfterMade, AfterOutput, why_wrote}
 use Rattle.jpg_cli.specs.declared.desk.moved.Wrote.{Wrote}
 use Rattle.jpg_cli.specs.declared.desk.moved.Wrote.TheVariants as wrote

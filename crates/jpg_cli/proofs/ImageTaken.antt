@@ -10,12 +10,11 @@ use Rattle.jpg_base.specs.Laws.{Consumes-then}
 use Rattle.jpg_spec_image.specs.ImageFaults.{IsOpenImage, IsWholeImage, ShowsImageFault}
 use Rattle.jpg_spec.specs.Segments.{standard_limits}
 use Rattle.jpg_spec.specs.declared.fault.Fault.TheVariants.{InputTooLong}
-use Rattle.jpg_spec_words.specs.declared.answers.Why.{Why}
 use Rattle.jpg_spec_words.specs.declared.answers.Why.TheVariants as why
 use Rattle.jpg_spec_words.specs.declared.answers.Which.TheVariants as which
 use Rattle.jpg_cli.specs.Desk.ImageFile.{IsOpenIn}
 use Rattle.jpg_cli.specs.Desk.Reading.{rest_of}
-use Rattle.jpg_cli.specs.Desk.ImageLoop.{AfterNextImagePiece, EndsEarly, HoldsImage, ImageGoesOn}
+use Rattle.jpg_cli.specs.Desk.ImageLoop.{AfterNextImagePiece, EndsEarly, ImageGoesOn}
 use Rattle.jpg_cli.specs.Desk.ImageSource.{AfterImageEnd, AfterTakingImagePiece, EndDone, HasFed, source_read}
 use Rattle.jpg_cli.specs.Desk.ReadImage.{IsFaultRead, IsImageRead, IsOpenImageRead, IsShortImageRead}
 use Rattle.jpg_cli.specs.Stays.{OnlyReads}

@@ -1,5 +1,5 @@
 -- Samples given to a sampler while they are read, over the states of a desk.
-use Rattle.std.proofs.Common.{◌≡◌, ℕ, ◌+◌, ◌-◌, ◌<◌, ◌≤◌, min, Bool, true, false, List, [], ◌++◌, length, take, Result, Ok, Err, refl, sym, ap, ◌∙◌, subst, arith, inl, inr, ⊎_elim}
+use Rattle.std.proofs.Common.{◌≡◌, ℕ, ◌+◌, ◌<◌, ◌≤◌, min, false, List, [], ◌++◌, length, take, Ok, sym, ap, ◌∙◌, subst, arith, inl, inr, ⊎_elim}
 use Rattle.std.specs.Io.KnownBytes.{Consumes, IsAtEnd}
 use Rattle.std.proofs.lemmas.Bool.{cases_lt}
 use Rattle.std.proofs.lemmas.List.{append-nil, length-append, length-take-le, take_all}
@@ -11,24 +11,23 @@ use Rattle.jpg_base.specs.Laws.{Consumes-then}
 use Rattle.jpg_spec.specs.Segments.{standard_limits}
 use Rattle.jpg_spec.specs.declared.fault.Fault.TheVariants.{ImageShort, InputTooLong}
 use Rattle.jpg_spec.specs.declared.fault.FaultAt.{FaultAt}
-use Rattle.jpg_spec_image.specs.Images.{Image, sample_count}
+use Rattle.jpg_spec_image.specs.Images.{sample_count}
 use Rattle.jpg_spec_image.specs.declared.image.ImageInfo.{ImageInfo}
-use Rattle.jpg_spec_words.specs.declared.answers.Why.{Why}
 use Rattle.jpg_spec_words.specs.declared.answers.Why.TheVariants as why
 use Rattle.jpg_spec_words.specs.declared.answers.Which.TheVariants as which
 use Rattle.jpg_color.specs.Encode.{image_of}
-use Rattle.jpg_color.specs.EncodeSampling.{AddsSamples, HasSampled, samples_left}
+use Rattle.jpg_color.specs.EncodeSampling.{HasSampled, samples_left}
 use Rattle.jpg_color.specs.declared.encode.Encoding.{Encoding as Asked}
 use Rattle.jpg_color.specs.declared.encode.sampler.Sampler.{Sampler}
 use Rattle.jpg_pnm_bmp.specs.Made.{AreBytes, IsRightImage}
-use Rattle.jpg_pnm_bmp.specs.PlainSamples.{CompletesPlain, GoesOnPlain, HasFedSamples, plain_image}
+use Rattle.jpg_pnm_bmp.specs.PlainSamples.{CompletesPlain, GoesOnPlain}
 use Rattle.jpg_pnm_bmp.proofs.PlainSamples.{goes_on_plain}
 use Rattle.jpg_cli.specs.Desk.ImageFile.{HasFaultIn}
 use Rattle.jpg_cli.specs.Desk.ImageLoop.{EndsEarly}
 use Rattle.jpg_cli.specs.Desk.Judging.{NoValueTaken, TakesPieces}
 use Rattle.jpg_cli.specs.Desk.ReadImage.{IsFaultRead, IsImageRead, image_judging}
 use Rattle.jpg_cli.specs.Desk.Reading.{rest_of}
-use Rattle.jpg_cli.specs.Desk.SamplesFed.{AfterNextSamples, AfterSamples, IsAllGiven, IsGiven, SoFarGiven, TakesSome}
+use Rattle.jpg_cli.specs.Desk.SamplesFed.{AfterNextSamples, IsAllGiven, IsGiven, SoFarGiven, TakesSome}
 use Rattle.jpg_cli.specs.Stays.{OnlyReads}
 use Rattle.jpg_cli.proofs.CommentsCopied.{left_still}
 use Rattle.jpg_cli.proofs.ImageTaken.{image_unread, open_end, open_more, open_too_long, open_within}
@@ -48,12 +47,15 @@ only_reads read = record {
 
 -- HOW MANY ARE LEFT
 
+count_of : {info : ImageInfo} {a : Asked} {given : List ℕ} {s : Sampler} → HasSampled info a given s → length given + samples_left s ≡ sample_count info
+count_of h = (h.has).count
+
 -- some, where not all were given
 pub some_left : {info : ImageInfo} {a : Asked} {start : DeskState} {bytes given : List ℕ} {s : Sampler} {taken : ℕ} {now : DeskState} → IsGiven info a start bytes given s taken now → samples_left s ≡ 0 → ⊥
-some_left g none = (let few = (g.fed).few in let c = (g.sampled).count in omega (arith, few, c, none))
+some_left g none = (let few = (g.fed).few in let c = count_of g.sampled in omega (arith, few, c, none))
 
 none_left_of : {info : ImageInfo} {a : Asked} {start : DeskState} {s : Sampler} {now : DeskState} → IsAllGiven info a start s now → samples_left s ≡ 0
-none_left_of g = (let l = g.count in let c = (g.sampled).count in omega (arith, l, c))
+none_left_of g = (let l = g.count in let c = count_of g.sampled in omega (arith, l, c))
 
 module _ (info : ImageInfo) (a : Asked) (start : DeskState) where
   -- those that were given so far, if some are left; and all, if none are
@@ -73,7 +75,7 @@ module _ {info : ImageInfo} {a : Asked} {start : DeskState} {bytes given : List 
 
   -- the samples that it has
   count_is : length given + samples_left s0 ≡ sample_count info
-  count_is = (g.sampled).count
+  count_is = count_of g.sampled
 
   more_given : (s1 : Sampler) (d1 : DeskState) (piece : List ℕ) → AreBytes piece → length (bytes ++ piece) ≤ standard_limits.input → length (given ++ piece) < sample_count info → Consumes d0.left d1.left piece → OnlyReads d0 d1 → TakesSome s0 piece s1
       → IsGiven info a start (bytes ++ piece) (given ++ piece) s1 (taken + length piece) d1
