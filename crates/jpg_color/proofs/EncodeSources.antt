@@ -1,31 +1,23 @@
 -- The sources of the blocks of a component, and the places where they are put.
 use Rattle.std.proofs.Common.{◌≡◌, ℕ, zero, suc, ◌+◌, ◌-◌, ◌*◌, ◌/◌, ◌<◌, ◌≤◌, min, Bool, true, false, cond, ◌&&◌, ◌||◌, ◌==◌, List, [], ◌∷◌, length, map, slice_index_or, refl, sym, ap, ◌∙◌, subst, arith, ℤ}
-use Rattle.std.specs.Prelude.{replicate}
 use Rattle.std.proofs.Math.Nat.{div-le_self}
-use Rattle.std.proofs.Math.Path.{fun_ext}
 use Rattle.std.proofs.lemmas.Nat.{div_below, le-div, mul-le}
 use Rattle.std.proofs.lemmas.List.{get_or-map, length-map}
 use Rattle.jpg_spec_image.specs.Downsampling.{downsampled}
-use Rattle.jpg_spec.specs.Elements.{zeros}
-use Rattle.jpg_spec_encode.specs.Encoded.{Encoding, component_due, components_due, encoded_block, encoded_head, full_plane, is_gray, rows_made, samples_of_block}
-use Rattle.jpg_spec_image.specs.ForwardDct.{forward_dct, quantised_block}
+use Rattle.jpg_spec_encode.specs.Encoded.{Encoding, component_due, component_plane, components_due, encoded_head, full_plane, is_gray, rows_made}
 use Rattle.jpg_spec.specs.Geometry.{Frame, component_at, div_up, greatest, h_max, v_max, no_component}
 use Rattle.jpg_spec_image.specs.Images.{Image, sample_count}
 use Rattle.jpg_spec.specs.Lists.{below}
-use Rattle.jpg_spec.specs.Meaning.{Meaning, picture_frame, real_blocks}
+use Rattle.jpg_spec.specs.Meaning.{Meaning, picture_frame}
 use Rattle.jpg_spec.specs.Meaning.{component_of, most_across, most_down}
-use Rattle.jpg_spec.specs.Scan.{Blocks}
 use Rattle.jpg_spec.specs.declared.frame.Component.{Component}
 use Rattle.jpg_spec_image.specs.declared.image.ImageKind.{ImageKind}
 use Rattle.jpg_spec_image.specs.declared.image.ImageKind.TheVariants.{Gray, Rgb}
-use Rattle.jpg_spec.proofs.Common.{length_below, same_of}
+use Rattle.jpg_spec.proofs.Common.{length_below}
 use Rattle.jpg_spec.proofs.Rows.{at_below}
 use Rattle.jpg_pnm_bmp.specs.Made.{IsRightImage}
-use Rattle.jpg_coefs.specs.Picture.{Picture, map_of}
-use Rattle.jpg_coefs.proofs.Maps.{blank_is}
-use Rattle.jpg_coefs.specs.Copied.{CopiesBlocks, in_grids}
 use Rattle.jpg_color.specs.ColourRows.{numbers_of_pixel}
-use Rattle.jpg_color.specs.McuRows.{in_span}
+use Rattle.jpg_color.specs.EncodeBlocks.{lower_plane}
 use Rattle.jpg_color.specs.PlaneRows.{HasSamples}
 use Rattle.jpg_color.proofs.EncodedHead.{frame_across, frame_component, frame_down}
 
@@ -73,43 +65,22 @@ has_samples image is = record {
     counted w h x y Gray = ap (λ n. h * n) (omega arith)
     counted w h x y Rgb = refl
 
--- THE BLOCKS of a plane in a number of rows, by ratios and quantisers
+-- THE PLANE of a component, as the definitions have it
 
-abbrev pub plane_by : Image → ℕ → ℕ → ℕ → ℕ → ℕ → ℕ → ℕ
-plane_by image i across down made x y = downsampled across down (full_plane image i) x (min y (made - 1))
-
--- these numbers of a component
-pub record Numbers : Type 0 where
-  pub across : ℕ
-  pub down : ℕ
-  pub made : ℕ
-  pub quants : List ℕ
-
-abbrev pub block_by : Image → ℕ → Numbers → ℕ → ℕ → List ℤ
-block_by image i n x y = quantised_block n.quants (forward_dct (samples_of_block (plane_by image i n.across n.down n.made) x y))
-
-pub record AreNumbers (H : Meaning) (f : Frame) (i : ℕ) (n : Numbers) : Type 0 where
-  pub frame : f ≡ picture_frame H
-  pub across : n.across ≡ h_max f / (component_at f i).h
-  pub down : n.down ≡ v_max f / (component_at f i).v
-  pub made : n.made ≡ div_up H.height (v_max f) * (component_at f i).v
-  pub quants : n.quants ≡ (component_of H i).quants
-
-pub source_is : {H : Meaning} {f : Frame} {i : ℕ} {n : Numbers} (image : Image) → AreNumbers H f i n → (x y : ℕ)
-    → block_by image i n x y ≡ encoded_block H image i x y
-source_is {H} {f} {i} {n} image are x y =
+pub plane_due : (H : Meaning) {f : Frame} (image : Image) (i : ℕ) → f ≡ picture_frame H → H.height ≡ image.info.height → (x y : ℕ) → lower_plane f image i x y ≡ component_plane H image i x y
+plane_due H {f} image i e high x y =
     let c = component_of H i in
-    let h : (component_at f i).h ≡ c.h = ap (λ (g : Frame). (component_at g i).h) are.frame ∙ ap (λ (k : Component). k.h) (frame_component H i) in
-    let v : (component_at f i).v ≡ c.v = ap (λ (g : Frame). (component_at g i).v) are.frame ∙ ap (λ (k : Component). k.v) (frame_component H i) in
-    let hm : h_max f ≡ most_across H = ap h_max are.frame ∙ frame_across H in
-    let vm : v_max f ≡ most_down H = ap v_max are.frame ∙ frame_down H in
-    let across : n.across ≡ most_across H / c.h = are.across ∙ ap (λ k. k / (component_at f i).h) hm ∙ ap (λ k. most_across H / k) h in
-    let down : n.down ≡ most_down H / c.v = are.down ∙ ap (λ k. k / (component_at f i).v) vm ∙ ap (λ k. most_down H / k) v in
-    let made : n.made ≡ rows_made H i = are.made ∙ ap (λ k. div_up H.height k * (component_at f i).v) vm ∙ ap (λ k. div_up H.height (most_down H) * k) v in
-    ap (λ k. block_by image i (record n { across = k }) x y) across
-    ∙ ap (λ k. block_by image i (record n { across = most_across H / c.h; down = k }) x y) down
-    ∙ ap (λ k. block_by image i (record n { across = most_across H / c.h; down = most_down H / c.v; made = k }) x y) made
-    ∙ ap (λ q. quantised_block q (forward_dct (samples_of_block (plane_by image i (most_across H / c.h) (most_down H / c.v) (rows_made H i)) x y))) are.quants
+    let h : (component_at f i).h ≡ c.h = ap (λ (g : Frame). (component_at g i).h) e ∙ ap (λ (k : Component). k.h) (frame_component H i) in
+    let v : (component_at f i).v ≡ c.v = ap (λ (g : Frame). (component_at g i).v) e ∙ ap (λ (k : Component). k.v) (frame_component H i) in
+    let hm : h_max f ≡ most_across H = ap h_max e ∙ frame_across H in
+    let vm : v_max f ≡ most_down H = ap v_max e ∙ frame_down H in
+    let across : h_max f / (component_at f i).h ≡ most_across H / c.h = ap (λ k. k / (component_at f i).h) hm ∙ ap (λ k. most_across H / k) h in
+    let down : v_max f / (component_at f i).v ≡ most_down H / c.v = ap (λ k. k / (component_at f i).v) vm ∙ ap (λ k. most_down H / k) v in
+    let made : div_up image.info.height (v_max f) * (component_at f i).v ≡ rows_made H i =
+    ap (λ k. div_up k (v_max f) * (component_at f i).v) (sym high) ∙ ap (λ k. div_up H.height k * (component_at f i).v) vm ∙ ap (λ k. div_up H.height (most_down H) * k) v in
+    ap (λ k. downsampled k (v_max f / (component_at f i).v) (full_plane image i) x (min y (div_up image.info.height (v_max f) * (component_at f i).v - 1))) across
+    ∙ ap (λ k. downsampled (most_across H / c.h) k (full_plane image i) x (min y (div_up image.info.height (v_max f) * (component_at f i).v - 1))) down
+    ∙ ap (λ k. downsampled (most_across H / c.h) (most_down H / c.v) (full_plane image i) x (min y (k - 1))) made
 
 -- THE COMPONENTS of the definitions
 
@@ -136,22 +107,3 @@ pub component_there : (e : Encoding) (image : Image) (i : ℕ) → i < component
 component_there e image i h =
     get_or-map (component_due e) (below (components_due e image)) i 0 (record { id = 0; h = 1; v = 1; quants = [] }) (subst (λ n. i < n) (sym (length_below (components_due e image))) h)
     ∙ ap (component_due e) (at_below (components_due e image) i h)
-
--- PUT: only the blocks of component i count in its grid
-
-never : (here rest : Bool) (a b old : List ℤ) → here ≡ false → cond (here && rest) a old ≡ cond (here && rest) b old
-never true rest a b old e = cc
-never false rest a b old e = refl
-
-pub same_blocks : (f : Frame) (i first last : ℕ) (s t : Blocks) (old new : Picture) → ((x y : ℕ) → s i x y ≡ t i x y) → CopiesBlocks (in_span f i first last) s old new → CopiesBlocks (in_span f i first last) t old new
-same_blocks f i first last s t old new e c = record { frame = c.frame; blocks = λ j u v. c.blocks j u v ∙ by j u v (j == i) refl }
-  where
-    by : (j u v : ℕ) (b : Bool) → (j == i) ≡ b → cond (in_span f i first last j u v) (s j u v) (map_of old j u v) ≡ cond (in_span f i first last j u v) (t j u v) (map_of old j u v)
-    by j u v true h =
-        let is = same_of j i h in
-        ap (λ block. cond (in_span f i first last j u v) block (map_of old j u v)) (ap (λ k. s k u v) is ∙ e u v ∙ sym (ap (λ k. t k u v) is))
-    by j u v false h = never (j == i) _ (s j u v) (t j u v) (map_of old j u v) h
-
-pub all_put : (f : Frame) (seen : Blocks) (old new : Picture) (n : ℕ) → old.blocks ≡ replicate n (zeros 64) → CopiesBlocks (in_grids f) seen old new → map_of new ≡ real_blocks f seen
-all_put f seen old new n none c =
-    fun_ext (λ i. fun_ext (λ x. fun_ext (λ y. c.blocks i x y ∙ ap (λ (b : Blocks). cond (in_grids f i x y) (seen i x y) (b i x y)) (blank_is old n none))))

@@ -1,4 +1,4 @@
--- The picture that the code assembles for an image is that of the definitions.
+-- The parts that the code assembles for an image mean the picture of the definitions.
 use Rattle.std.proofs.Common.{◌≡◌, ℕ, ◌<◌, ◌≤◌, Bool, true, false, cond, ◌||◌, ◌==◌, List, [], ◌∷◌, length, map, slice_index_or, refl, sym, ap, ◌∙◌, subst, arith, None}
 use Rattle.std.specs.List.{All}
 use Rattle.std.proofs.lemmas.Bool.Decides.{nat_tests}
@@ -7,14 +7,12 @@ use Rattle.std.proofs.lemmas.List.Elements.{All-head, All-tail}
 use Rattle.jpg_spec.specs.Lists.{any_of, below}
 use Rattle.jpg_spec_encode.specs.Encoded.{Encoding, components_due, density_of, encoded, sampling_fault}
 use Rattle.jpg_spec.specs.FrameHeader.{IsFrame}
-use Rattle.jpg_spec.specs.Geometry.{Frame, bounds}
+use Rattle.jpg_spec.specs.Geometry.{Frame}
 use Rattle.jpg_spec.specs.Jfif.{jfif_of}
-use Rattle.jpg_spec_write.specs.Laws.{AreOwn}
 use Rattle.jpg_spec.specs.Meaning.{Meaning, PictureComponent, colour_of, real_blocks}
 use Rattle.jpg_spec_write.specs.ScansAsked.{asks_progressive}
 use Rattle.jpg_spec.specs.Meaning.{component_of}
 use Rattle.jpg_spec.specs.QuantContents.{is_zero_quant}
-use Rattle.jpg_spec.specs.Ranges.{AreInRange}
 use Rattle.jpg_spec.specs.Scan.{Blocks}
 use Rattle.jpg_spec.specs.Segments.{QuantTable}
 use Rattle.jpg_spec.specs.Segments.{AreQuantisers, IsQuantiser}
@@ -23,39 +21,28 @@ use Rattle.jpg_spec.specs.declared.frame.Component.{Component}
 use Rattle.jpg_spec.specs.declared.jfif.Jfif.{Jfif}
 use Rattle.jpg_spec.proofs.Common.{length_below}
 use Rattle.jpg_spec.proofs.Rows.{at_below, by_items}
-use Rattle.jpg_coefs.specs.Picture.{Picture as Coefs, map_of}
-use Rattle.jpg_pnm_bmp.specs.declared.read.pixels.Image.{Image as Read}
-use Rattle.jpg_file.specs.Read.PictureKept.{ArePictureParts, IsQuantTable, PictureParts, component_told, parts_meaning}
-use Rattle.jpg_file.specs.Read.PictureRead.{picture_meaning}
-use Rattle.jpg_file.specs.declared.read.picture.Picture.{Picture}
-use Rattle.jpg_color.specs.EncodeAnswer.{IsEncodedAs}
-use Rattle.jpg_color.specs.Encode.{AsksFor, CanEncode, blocks_due, fault_due, encoded_frame, encoded_parts, image_told, picture_due, encoding_request, scans_asked}
+use Rattle.jpg_file.specs.Read.PictureKept.{IsQuantTable, component_told}
+use Rattle.jpg_spec_image.specs.Images.{Image}
+use Rattle.jpg_spec_image.specs.declared.image.ImageInfo.{ImageInfo}
+use Rattle.jpg_spec_write.specs.WrittenFile.{HasBlocksIn}
+use Rattle.jpg_color.specs.EncodedParts.{AreViewParts, ViewParts, viewed_meaning}
+use Rattle.jpg_color.specs.Encode.{AsksFor, CanSample, fault_due, encoded_frame, encoded_parts, image_of, picture_due, encoding_request, scans_asked}
 use Rattle.jpg_color.specs.EncodeHead.{colour_asked, table_asked, tables_asked}
 use Rattle.jpg_color.specs.declared.encode.Encoding.{Encoding as Asked}
-use Rattle.jpg_color.proofs.EncodedBlocks.{encoded_in_range, real_again}
 use Rattle.jpg_color.proofs.EncodedHead.{colour_is, density_again, frame_component, header, same_encoded}
-use Rattle.jpg_color.proofs.EncodeFrames.{is_encodable}
 use Rattle.jpg_color.proofs.EncodeSources.{component_there, count_due}
 
--- WHAT WAS ASSEMBLED of an image and what is asked
+-- WHAT WAS ASSEMBLED of the numbers of an image and what is asked, all but the blocks
 
-pub record IsPutTogether (i : Read) (a : Asked) (p : PictureParts) : Type 0 where
-  pub can : CanEncode i a
-  pub none : fault_due i a ≡ None
-  pub frame : p.frame ≡ encoded_frame i a
+pub record IsPutTogether (info : ImageInfo) (a : Asked) (p : ViewParts) : Type 0 where
+  pub can : CanSample info a
+  pub none : fault_due info a ≡ None
+  pub frame : p.frame ≡ encoded_frame info a
   pub checked : IsFrame p.frame
   pub colour : p.colour ≡ colour_asked a
   pub quants : p.quants ≡ tables_asked a
-  pub grids : p.coefs.frame ≡ encoded_frame i a
-  pub blocks : map_of p.coefs ≡ real_blocks (encoded_frame i a) (blocks_due i a)
-  pub kept : p.kept ≡ header i.info
-  pub jfif : p.jfif ≡ density_of i.info
-
-pub put_together : (i : Read) (a : Asked) (f : Frame) (c : Colour) (t : List QuantTable) (q : Coefs) (k : List (ℕ × List ℕ)) (j : Jfif) → CanEncode i a → fault_due i a ≡ None → f ≡ encoded_frame i a → IsFrame f
-    → c ≡ colour_asked a → t ≡ tables_asked a → q.frame ≡ encoded_frame i a → map_of q ≡ real_blocks (encoded_frame i a) (blocks_due i a) → k ≡ header i.info → j ≡ density_of i.info
-    → IsPutTogether i a (record { frame = f; colour = c; quants = t; coefs = q; kept = k; jfif = j })
-put_together i a f c t q k j can none frame checked colour quants grids blocks kept jfif =
-    record { can = can; none = none; frame = frame; checked = checked; colour = colour; quants = quants; grids = grids; blocks = blocks; kept = kept; jfif = jfif }
+  pub kept : p.kept ≡ header info
+  pub jfif : p.jfif ≡ density_of info
 
 -- TABLES
 
@@ -79,23 +66,23 @@ table_by a false first others = is_table _ others
 
 -- COMPONENTS
 
-count_asked : (i : Read) (a : Asked) → CanEncode i a → length a.factors.items ≡ length (encoded_frame i a).components
-count_asked i a can = can.pairs ∙ sym (count_due (encoding_request a) (image_told i))
+count_asked : (info : ImageInfo) (a : Asked) → CanSample info a → length a.factors.items ≡ length (encoded_frame info a).components
+count_asked info a can = can.pairs ∙ sym (count_due (encoding_request a) (image_of info []))
 
 abbrev told_by : ℕ → ℕ → ℕ → QuantTable → PictureComponent
 told_by id h v quants = record { id = id; h = h; v = v; quants = quants }
 
-component_same : (i : Read) (a : Asked) (k : ℕ) → CanEncode i a → k < length (encoded_frame i a).components → component_told (encoded_frame i a) (tables_asked a) k ≡ component_of (encoded_parts i a) k
-component_same i a k can h =
-    let there : k < components_due (encoding_request a) (image_told i) = subst (λ n. k < n) (count_due (encoding_request a) (image_told i)) h in
-    let c = component_of (encoded_parts i a) k in
-    ap (λ (d : Component). told_by d.id d.h d.v (slice_index_or (tables_asked a) k [])) (frame_component (encoded_parts i a) k)
-    ∙ ap (told_by c.id c.h c.v) (table_at a k (subst (λ n. k < n) (sym (count_asked i a can)) h) ∙ sym (ap (λ (d : PictureComponent). d.quants) (component_there (encoding_request a) (image_told i) k there)))
+component_same : (info : ImageInfo) (a : Asked) (k : ℕ) → CanSample info a → k < length (encoded_frame info a).components → component_told (encoded_frame info a) (tables_asked a) k ≡ component_of (encoded_parts info a) k
+component_same info a k can h =
+    let there : k < components_due (encoding_request a) (image_of info []) = subst (λ n. k < n) (count_due (encoding_request a) (image_of info [])) h in
+    let c = component_of (encoded_parts info a) k in
+    ap (λ (d : Component). told_by d.id d.h d.v (slice_index_or (tables_asked a) k [])) (frame_component (encoded_parts info a) k)
+    ∙ ap (told_by c.id c.h c.v) (table_at a k (subst (λ n. k < n) (sym (count_asked info a can)) h) ∙ sym (ap (λ (d : PictureComponent). d.quants) (component_there (encoding_request a) (image_of info []) k there)))
 
-components_same : (i : Read) (a : Asked) → CanEncode i a → map (component_told (encoded_frame i a) (tables_asked a)) (below (length (encoded_frame i a).components)) ≡ (encoded_parts i a).components
-components_same i a can =
-    by_items (length (encoded_frame i a).components) (component_told (encoded_frame i a) (tables_asked a)) (encoded_parts i a).components (told_by 0 1 1 [])
-    (sym (length-map (encoded_parts i a).components (λ c. (let d : Component = record { id = c.id; h = c.h; v = c.v; quant = 0 } in d)))) (λ k h. component_same i a k can h)
+components_same : (info : ImageInfo) (a : Asked) → CanSample info a → map (component_told (encoded_frame info a) (tables_asked a)) (below (length (encoded_frame info a).components)) ≡ (encoded_parts info a).components
+components_same info a can =
+    by_items (length (encoded_frame info a).components) (component_told (encoded_frame info a) (tables_asked a)) (encoded_parts info a).components (told_by 0 1 1 [])
+    (sym (length-map (encoded_parts info a).components (λ c. (let d : Component = record { id = c.id; h = c.h; v = c.v; quant = 0 } in d)))) (λ k h. component_same info a k can h)
 
 -- ITS MEANING
 
@@ -110,55 +97,37 @@ meaning_by f components blocks kept = record {
   kept = kept;
 }
 
-pub means_due : (i : Read) (a : Asked) (p : PictureParts) → IsPutTogether i a p → parts_meaning p ≡ picture_due i a
-means_due i a p is =
-    let due = encoded_frame i a in
-    let blocks = real_blocks due (blocks_due i a) in
-    ap (λ (f : Frame). meaning_by f (map (component_told f p.quants) (below (length f.components))) (real_blocks f (map_of p.coefs)) p.kept) is.frame
-    ∙ ap (λ (t : List QuantTable). meaning_by due (map (component_told due t) (below (length due.components))) (real_blocks due (map_of p.coefs)) p.kept) is.quants
-    ∙ ap (λ (b : Blocks). meaning_by due (map (component_told due (tables_asked a)) (below (length due.components))) (real_blocks due b) p.kept) is.blocks
-    ∙ ap (λ (b : Blocks). meaning_by due (map (component_told due (tables_asked a)) (below (length due.components))) b p.kept) (real_again due (blocks_due i a))
-    ∙ ap (λ (cs : List PictureComponent). meaning_by due cs blocks p.kept) (components_same i a is.can)
-    ∙ ap (λ (k : List (ℕ × List ℕ)). meaning_by due (encoded_parts i a).components blocks k) is.kept
+abbrev pub meaning_due : ImageInfo → Asked → Blocks → Meaning
+meaning_due info a blocks = record (encoded_parts info a) { blocks = real_blocks (encoded_frame info a) blocks }
 
-own_by : (b : Bool) → AreOwn (scans_asked b)
-own_by true = tt
-own_by false = tt
+pub means_due : (info : ImageInfo) (a : Asked) (p : ViewParts) → IsPutTogether info a p → viewed_meaning p ≡ meaning_due info a p.blocks
+means_due info a p is =
+    let due = encoded_frame info a in
+    ap (λ (f : Frame). meaning_by f (map (component_told f p.quants) (below (length f.components))) (real_blocks f p.blocks) p.kept) is.frame
+    ∙ ap (λ (t : List QuantTable). meaning_by due (map (component_told due t) (below (length due.components))) (real_blocks due p.blocks) p.kept) is.quants
+    ∙ ap (λ (cs : List PictureComponent). meaning_by due cs (real_blocks due p.blocks) p.kept) (components_same info a is.can)
+    ∙ ap (λ (k : List (ℕ × List ℕ)). meaning_by due (encoded_parts info a).components (real_blocks due p.blocks) k) is.kept
 
-in_range_due : (i : Read) (a : Asked) (p : PictureParts) → IsPutTogether i a p → AreInRange (bounds p.frame) (map_of p.coefs)
-in_range_due i a p is =
-    subst (λ (f : Frame). AreInRange (bounds f) (map_of p.coefs)) (sym is.frame)
-    (subst (λ (b : Blocks). AreInRange (bounds (encoded_frame i a)) b) (sym is.blocks) (encoded_in_range (encoding_request a) (image_told i) (is_encodable i a is.can) (own_by a.progressive) is.none))
-
-pub parts_due : (i : Read) (a : Asked) (p : PictureParts) → IsPutTogether i a p → ArePictureParts p
-parts_due i a p is = record {
+pub parts_due : (info : ImageInfo) (a : Asked) (p : ViewParts) → IsPutTogether info a p → HasBlocksIn p.frame p.blocks → AreViewParts p
+parts_due info a p is range = record {
   frame = is.checked;
-  tables = ap length is.quants ∙ length-map (below (length a.factors.items)) (table_asked a) ∙ length_below (length a.factors.items) ∙ count_asked i a is.can ∙ sym (ap (λ (f : Frame). length f.components) is.frame);
+  tables = ap length is.quants ∙ length-map (below (length a.factors.items)) (table_asked a) ∙ length_below (length a.factors.items) ∙ count_asked info a is.can ∙ sym (ap (λ (f : Frame). length f.components) is.frame);
   quants = λ k h.
-      (let given : k < length a.factors.items = subst (λ n. k < n) (ap (λ (f : Frame). length f.components) is.frame ∙ sym (count_asked i a is.can)) h in
+      (let given : k < length a.factors.items = subst (λ n. k < n) (ap (λ (f : Frame). length f.components) is.frame ∙ sym (count_asked info a is.can)) h in
       subst IsQuantTable (sym (ap (λ (t : List QuantTable). slice_index_or t k []) is.quants ∙ table_at a k given)) (table_by a (k == 0) is.can.first is.can.others));
-  grids = is.grids ∙ sym is.frame;
-  range = in_range_due i a p is;
-  colour = is.colour ∙ colour_is (encoding_request a) (image_told i) (length a.factors.items) is.can.pairs ∙ ap colour_of (sym (means_due i a p is));
-  jfif = is.jfif ∙ sym (density_again i.info) ∙ sym (ap jfif_of is.kept);
+  range = range;
+  colour = is.colour ∙ colour_is (encoding_request a) (image_of info []) (length a.factors.items) is.can.pairs ∙ ap colour_of (sym (means_due info a p is));
+  jfif = is.jfif ∙ sym (density_again info) ∙ sym (ap jfif_of is.kept);
 }
 
--- THE ANSWER, for all words that ask for the same
+-- FOR ALL WORDS that ask for the same
 
 kind_asked : (b : Bool) → b ≡ asks_progressive (scans_asked b)
 kind_asked true = refl
 kind_asked false = refl
 
-pub means_all : (i : Read) (a : Asked) (e : Encoding) → AsksFor a e → encoded e (image_told i) ≡ picture_due i a
-means_all i a e asks = (same_encoded e (encoding_request a) (image_told i) (asks.scans ∙ kind_asked a.progressive) asks.gray asks.factors asks.first asks.others).0
+pub means_all : (image : Image) (a : Asked) (e : Encoding) → AsksFor a e → encoded e image ≡ picture_due image a
+means_all image a e asks = (same_encoded e (encoding_request a) image (asks.scans ∙ kind_asked a.progressive) asks.gray asks.factors asks.first asks.others).0
 
-pub faults_all : (i : Read) (a : Asked) (e : Encoding) → AsksFor a e → sampling_fault e (image_told i) ≡ fault_due i a
-faults_all i a e asks = (same_encoded e (encoding_request a) (image_told i) (asks.scans ∙ kind_asked a.progressive) asks.gray asks.factors asks.first asks.others).1
-
-pub is_encoded : (i : Read) (a : Asked) (p : Picture) → fault_due i a ≡ None → picture_meaning p ≡ picture_due i a → p.jfif ≡ density_of i.info → IsEncodedAs i a p
-is_encoded i a p none means jfif = record {
-  means = λ e asks. means ∙ sym (means_all i a e asks);
-  faultless = λ e asks. faults_all i a e asks ∙ none;
-  kept = ap (λ (M : Meaning). M.kept) means;
-  jfif = jfif;
-}
+pub faults_all : (image : Image) (a : Asked) (e : Encoding) → AsksFor a e → sampling_fault e image ≡ fault_due image.info a
+faults_all image a e asks = (same_encoded e (encoding_request a) image (asks.scans ∙ kind_asked a.progressive) asks.gray asks.factors asks.first asks.others).1

@@ -3,7 +3,6 @@ pub mod PixelLanes
 pub mod CutBlocks
 pub mod PlaneRows
 pub mod PlaneWindows
-pub mod McuRows
 pub mod McuSources
 pub mod Coverage
 pub mod Decoded
@@ -40,4 +39,9 @@ pub mod EncodeSources
 pub mod EncodedBlocks
 pub mod EncodedHead
 pub mod EncodedPictures
+pub mod PicturesEncoded
 pub mod FirstBelow
+pub mod StripPlanes
+pub mod StripRows
+pub mod Sampling
+pub mod EncodedViews

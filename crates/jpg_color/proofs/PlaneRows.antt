@@ -146,7 +146,7 @@ placed p out made y row wide u n eo long er lu =
     ap (λ l. slice_index l u) eo ∙ get_or-map f (below n) u 0 0 (omega (arith, length_below n, en, lu)) ∙ ap f (at_below n u (omega (arith, en, lu)))
     ∙ ap (λ r. narrow_plane p u r) er
 
-flat_below : (f g : ℕ → List ℕ) (n : ℕ) → ((k : ℕ) → k < n → f k ≡ g k) → flat_map f (below n) ≡ flat_map g (below n)
+pub flat_below : (f g : ℕ → List ℕ) (n : ℕ) → ((k : ℕ) → k < n → f k ≡ g k) → flat_map f (below n) ≡ flat_map g (below n)
 flat_below f g zero same = refl
 flat_below f g (suc n) same =
     flat_map-append f (below n) (n ∷ []) ∙ ap (λ t. t ++ (f n ++ [])) (flat_below f g n (λ k h. same k (omega (arith, h)))) ∙ ap (λ t. flat_map g (below n) ++ (t ++ [])) (same n (omega arith))

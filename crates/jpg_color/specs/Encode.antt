@@ -1,14 +1,15 @@
 -- A PICTURE MADE OF AN IMAGE (the manual of cjpeg): what is asked for, when it can be made, and the result.
-use Rattle.std.specs.Prelude.{◌≡◌, Bool, true, false, [], length, slice_index_or, All, Option, Some, None, Result, Ok, Err}
+use Rattle.std.specs.Prelude.{◌≡◌, ℕ, ◌≤◌, Bool, true, false, List, [], length, slice_index_or, All, Option, Some, None, Result, Ok, Err}
 use Rattle.jpg_spec_write.specs.declared.huffman.Huffman.TheVariants.{Plain}
 use Rattle.jpg_spec_write.specs.FileText.{off}
 use Rattle.jpg_spec.specs.Geometry.{Frame}
 use Rattle.jpg_spec_image.specs.Images.{Image}
+use Rattle.jpg_spec_image.specs.declared.image.ImageInfo.{ImageInfo}
 use Rattle.jpg_spec.specs.Meaning.{Meaning, picture_frame}
 use Rattle.jpg_spec_write.specs.ScansAsked.{Scans, sequential, standard, asks_progressive}
 use Rattle.jpg_spec.specs.Scan.{Blocks}
 use Rattle.jpg_spec.specs.Segments.{AreQuantisers}
-use Rattle.jpg_spec_encode.specs.Encoded.{Encoding, components_due, encoded, encoded_block, encoded_head, sampling_fault}
+use Rattle.jpg_spec_encode.specs.Encoded.{Encoding, components_due, count_due, encoded, encoded_block, encoded_head, sampling_fault}
 use Rattle.jpg_spec_encode.specs.EncodingLaws.{AreFactors}
 use Rattle.jpg_spec_write.specs.declared.picture_fault.PictureFault.{PictureFault}
 use Rattle.jpg_pnm_bmp.specs.Made.{IsRightImage}
@@ -18,6 +19,10 @@ use Rattle.jpg_color.specs.declared.encode.Encoding.{Encoding as Asked}
 -- an image that was read
 abbrev pub image_told : Read → Image
 image_told i = record { info = i.info; samples = i.samples }
+
+-- an image of these numbers and samples
+abbrev pub image_of : ImageInfo → List ℕ → Image
+image_of info samples = record { info = info; samples = samples }
 
 -- WHAT IS ASKED FOR, in the terms of the definitions: default scans, plain tables, and no restarts
 
@@ -52,24 +57,35 @@ pub record CanEncode (i : Read) (a : Asked) : Type 0 where
   pub first : AreQuantisers (slice_index_or a.tables 0 [])
   pub others : AreQuantisers (slice_index_or a.tables 1 [])
 
--- THE RESULT: all but the blocks, the frame, and the blocks
+-- The same of an image whose samples aren't there yet: sides that a frame can have, factors, and tables.
+pub record CanSample (info : ImageInfo) (a : Asked) : Type 0 where
+  pub wide : 1 ≤ info.width
+  pub wide_few : info.width ≤ 65500
+  pub high : 1 ≤ info.height
+  pub high_few : info.height ≤ 65500
+  pub factors : All AreFactors a.factors.items
+  pub pairs : length a.factors.items ≡ count_due a.gray info.kind
+  pub first : AreQuantisers (slice_index_or a.tables 0 [])
+  pub others : AreQuantisers (slice_index_or a.tables 1 [])
 
-abbrev pub encoded_parts : Read → Asked → Meaning
-encoded_parts i a = encoded_head (encoding_request a) (image_told i)
+-- THE RESULT: all but the blocks, the frame, and the fault, which the image's numbers determine; the blocks, and all
 
-abbrev pub encoded_frame : Read → Asked → Frame
-encoded_frame i a = picture_frame (encoded_parts i a)
+abbrev pub encoded_parts : ImageInfo → Asked → Meaning
+encoded_parts info a = encoded_head (encoding_request a) (image_of info [])
 
-abbrev pub blocks_due : Read → Asked → Blocks
-blocks_due i a = encoded_block (encoded_parts i a) (image_told i)
+abbrev pub encoded_frame : ImageInfo → Asked → Frame
+encoded_frame info a = picture_frame (encoded_parts info a)
 
-abbrev pub picture_due : Read → Asked → Meaning
-picture_due i a = encoded (encoding_request a) (image_told i)
+abbrev pub fault_due : ImageInfo → Asked → Option PictureFault
+fault_due info a = sampling_fault (encoding_request a) (image_of info [])
 
-abbrev pub fault_due : Read → Asked → Option PictureFault
-fault_due i a = sampling_fault (encoding_request a) (image_told i)
+abbrev pub blocks_due : Image → Asked → Blocks
+blocks_due image a = encoded_block (encoded_parts image.info a) image
+
+abbrev pub picture_due : Image → Asked → Meaning
+picture_due image a = encoded (encoding_request a) image
 
 -- the frame, or its fault
-abbrev pub IsFramed : Read → Asked → Result Frame PictureFault → Type 0
-IsFramed i a (Ok f) = (f ≡ encoded_frame i a) × (fault_due i a ≡ None)
-IsFramed i a (Err fault) = fault_due i a ≡ Some fault
+abbrev pub IsFramed : ImageInfo → Asked → Result Frame PictureFault → Type 0
+IsFramed info a (Ok f) = (f ≡ encoded_frame info a) × (fault_due info a ≡ None)
+IsFramed info a (Err fault) = fault_due info a ≡ Some fault

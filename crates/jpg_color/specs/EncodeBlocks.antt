@@ -1,40 +1,113 @@
--- The blocks of the components of an image, as they are made MCU row by MCU row.
-use Rattle.std.specs.Prelude.{◌≡◌, ℕ, ◌*◌, ◌==◌, ◌<◌, ◌≤◌, if◌then◌else◌, List, [], length, None, slice_index_or}
-use Rattle.jpg_spec_encode.specs.Encoded.{samples_of_block}
-use Rattle.jpg_spec_image.specs.ForwardDct.{forward_dct, quantised_block}
-use Rattle.jpg_spec.specs.Geometry.{Frame, blocks_across, blocks_down, component_at, div_up, mcus_down, v_max}
-use Rattle.jpg_spec.specs.Scan.{Blocks}
-use Rattle.jpg_pnm_bmp.specs.declared.read.pixels.Image.{Image as Read}
-use Rattle.jpg_color.specs.Encode.{CanEncode, fault_due, encoded_frame}
-use Rattle.jpg_color.specs.PlaneRows.{HasPlaneRows, IsImagePlane, lower_row}
-use Rattle.jpg_color.specs.declared.encode.blocks.Source.{Source}
-use Rattle.jpg_color.specs.declared.encode.blocks.Task.{Task}
-use Rattle.jpg_color.specs.declared.encode.blocks.Windows.{Windows}
-use Rattle.jpg_color.specs.declared.encode.rows.Window.{Window}
+-- The planes of the components of an image, as they are made MCU row by MCU row, in rows of whole blocks.
+use Rattle.std.specs.Prelude.{◌≡◌, ℕ, ◌*◌, ◌+◌, ◌-◌, ◌/◌, ◌==◌, ◌<◌, ◌≤◌, min, if◌then◌else◌, List, [], length, slice_index_or}
+use Rattle.jpg_spec.specs.EncodingLaws.{AreSamples}
+use Rattle.jpg_spec.specs.Geometry.{Frame, blocks_across, component_at, div_up, h_max, v_max}
+use Rattle.jpg_spec_encode.specs.Encoded.{full_plane, samples_of_block}
+use Rattle.jpg_spec_image.specs.Downsampling.{downsampled, in_rows}
+use Rattle.jpg_spec_image.specs.Images.{Image}
+use Rattle.jpg_color.specs.ColourRows.{numbers_of_pixel}
+use Rattle.jpg_color.specs.PlaneRows.{HasPlaneRows, HasSamples, IsImagePlane, lower_row}
+use Rattle.jpg_spec_image.specs.declared.image.ImageKind.TheVariants.{Rgb}
+use Rattle.jpg_color.specs.declared.encode.strips.Planes.{Planes}
+use Rattle.jpg_color.specs.declared.encode.strips.Source.{Source}
+use Rattle.jpg_color.specs.declared.encode.strips.Strip.{Strip}
+use Rattle.jpg_color.specs.declared.encode.strips.Windows.{Windows}
 
--- an image that can be encoded in this frame, and the quantisers of its tables
-pub record IsTask (t : Task) : Type 0 where
-  pub can : CanEncode t.image.now t.encoding.now
-  pub frame : t.frame.now ≡ encoded_frame t.image.now t.encoding.now
-  pub none : fault_due t.image.now t.encoding.now ≡ None
-  pub first : t.first ≡ slice_index_or t.encoding.now.tables 0 []
-  pub others : t.others ≡ slice_index_or t.encoding.now.tables 1 []
+-- PLANES
 
--- the blocks of a component, for any component and frame
-abbrev pub source_blocks : Source → Blocks
-source_blocks s i x y = quantised_block s.divisors.now (forward_dct (samples_of_block (lower_row s.plane s.made) x y))
+-- the rows of blocks of component i
+abbrev pub plane_at : Planes → ℕ → List (List ℕ)
+plane_at p i = if i == 0 then p.ys.items else if i == 1 then p.cbs.items else p.crs.items
 
--- the plane of component i of an image, in rows of complete blocks
+-- how many samples a row of component i has, in whole blocks
+abbrev pub row_wide : Frame → ℕ → ℕ
+row_wide f i = 8 * blocks_across f (component_at f i)
+
+-- eight rows of bytes, one after another
+pub record IsRow (f : Frame) (i : ℕ) (row : List ℕ) : Type 0 where
+  pub long : length row ≡ 8 * row_wide f i
+  pub bytes : AreSamples row
+
+-- only such rows
+abbrev pub AreRows : Frame → ℕ → List (List ℕ) → Type 0
+AreRows f i rows = (y : ℕ) → y < length rows → IsRow f i (slice_index_or rows y [])
+
+-- in each component, and there are those of m rows of MCUs
+pub record HasPlanes (f : Frame) (m : ℕ) (p : Planes) : Type 0 where
+  pub rows : (i : ℕ) → i < length f.components → AreRows f i (plane_at p i)
+  pub enough : (i : ℕ) → i < length f.components → (component_at f i).v * m ≤ length (plane_at p i)
+
+-- THE ROWS OF AN IMAGE
+
+-- component i of an image, downsampled, where the last row made from the image is repeated
+abbrev pub lower_plane : Frame → Image → ℕ → ℕ → ℕ → ℕ
+lower_plane f image i x y =
+    let c = component_at f i in
+    downsampled (h_max f / c.h) (v_max f / c.v) (full_plane image i) x (min y (div_up image.info.height (v_max f) * c.v - 1))
+
+-- the blocks of a row are those of row y
+abbrev pub IsRowOf : Frame → Image → ℕ → ℕ → List ℕ → Type 0
+IsRowOf f image i y row =
+    (x : ℕ) → x < blocks_across f (component_at f i) → samples_of_block (in_rows (row_wide f i) row) x 0 ≡ samples_of_block (lower_plane f image i) x y
+
+-- the rows of component i are the first ones, this many
+pub record AreRowsOf (f : Frame) (image : Image) (i count : ℕ) (rows : List (List ℕ)) : Type 0 where
+  pub long : length rows ≡ count
+  pub each : (y : ℕ) → y < count → IsRowOf f image i y (slice_index_or rows y [])
+
+-- of all components, in m rows of MCUs
+abbrev pub ArePlanesOf : Frame → Image → ℕ → Planes → Type 0
+ArePlanesOf f image m p = (i : ℕ) → i < length f.components → AreRowsOf f image i ((component_at f i).v * m) (plane_at p i)
+
+-- STRIPS: the rows of an image that a row of MCUs is made from, as an image
+
+abbrev pub strip_image : Strip → Image
+strip_image s = record { info = s.info.now; samples = s.samples.now }
+
+-- all its samples are there, it is as wide as the frame and at most as high as a row of MCUs; and it has colours if there
+-- is chrominance
+pub record IsStrip (s : Strip) : Type 0 where
+  pub image : HasSamples s.info.now s.samples.now
+  pub wide : s.info.now.width ≡ s.frame.now.width
+  pub high : s.info.now.height ≤ 8 * v_max s.frame.now
+  pub count : length s.frame.now.components ≤ 3
+  pub colours : 1 < length s.frame.now.components → (2 < length s.frame.now.components) × (s.info.now.kind ≡ Rgb)
+  pub whole : (i : ℕ) → i < length s.frame.now.components → v_max s.frame.now / (component_at s.frame.now i).v * (component_at s.frame.now i).v ≡ v_max s.frame.now
+
+-- the rows of blocks of component i of a strip are appended to its plane
+pub record AppendsRows (f : Frame) (strip : Image) (i count : ℕ) (old new : List (List ℕ)) : Type 0 where
+  pub long : length new ≡ length old + count
+  pub same : (y : ℕ) → y < length old → slice_index_or new y [] ≡ slice_index_or old y []
+  pub each : (y : ℕ) → y < count → IsRowOf f strip i y (slice_index_or new (length old + y) [])
+
+-- of all components
+abbrev pub AppendsStrip : Frame → Image → Planes → Planes → Type 0
+AppendsStrip f strip old new = (i : ℕ) → i < length f.components → AppendsRows f strip i (component_at f i).v (plane_at old i) (plane_at new i)
+
+-- whatever is appended, it is rows of blocks
+pub record GrowsPlane (f : Frame) (i : ℕ) (old new : List (List ℕ)) : Type 0 where
+  pub rows : AreRows f i old → AreRows f i new
+  pub more : length old ≤ length new
+
+abbrev pub GrowsPlanes : Frame → Planes → Planes → Type 0
+GrowsPlanes f old new = (i : ℕ) → i < length f.components → GrowsPlane f i (plane_at old i) (plane_at new i)
+
+-- the image that a source is of
+abbrev pub source_image : Source → Image
+source_image s = record { info = s.plane.info.now; samples = s.plane.samples.now }
+
+-- the plane of component i of a strip, in rows of complete blocks
 pub record IsSource (f : Frame) (i : ℕ) (s : Source) : Type 0 where
   pub there : i < length f.components
   pub plane : IsImagePlane s.plane
+  pub component : s.plane.component ≡ i
   pub factor : 1 ≤ (component_at f i).v
   pub whole : s.plane.ratio.down * (component_at f i).v ≡ v_max f
   pub some : (1 ≤ s.made) × (s.made ≤ 1000000)
-  pub made : s.made ≡ div_up f.height (v_max f) * (component_at f i).v
-  pub wide : s.wide ≡ 8 * blocks_across f (component_at f i)
+  pub wide : s.wide ≡ row_wide f i
   pub few : 8 * s.wide ≤ 1000000
-  pub rows : blocks_down f (component_at f i) ≤ 1000000
+  pub count : s.count ≡ (component_at f i).v
+  pub rows : lower_row s.plane s.made ≡ lower_plane f (source_image s) i
 
 -- WINDOWS
 
@@ -46,11 +119,7 @@ window_at w i = if i == 0 then w.ys.items else if i == 1 then w.cbs.items else w
 abbrev pub AreWindows : Frame → Windows → Type 0
 AreWindows f w = (i : ℕ) → i < length f.components → length (window_at w i) ≡ 8 * v_max f * f.width
 
--- and has those of row m
-abbrev pub HasMcuRowOfImage : Frame → Read → ℕ → Windows → Type 0
-HasMcuRowOfImage f image m w = (i : ℕ) → i < length f.components → HasPlaneRows image.info image.samples i (8 * v_max f) m (window_at w i)
-
--- a window of a row of MCUs of the frame
-pub record IsOfMcuRow (f : Frame) (w : Window) : Type 0 where
-  pub lines : w.lines ≡ 8 * v_max f
-  pub there : w.at < mcus_down f
+-- and has those of a strip
+abbrev pub HasRowsOfStrip : Strip → Windows → Type 0
+HasRowsOfStrip s w =
+    (i : ℕ) → i < length s.frame.now.components → HasPlaneRows s.info.now s.samples.now i (8 * v_max s.frame.now) 0 (window_at w i)

@@ -13,4 +13,7 @@ pub mod Encode
 pub mod EncodeAnswer
 pub mod EncodeBlocks
 pub mod EncodeHead
-pub mod McuRows
+pub mod EncodedParts
+pub mod SamplerState
+pub mod EncodeSampling
+pub mod EncodeView

@@ -1,21 +1,23 @@
 //! A picture made of an image (the manual of cjpeg; T.81, A.1.1, A.2, A.3).
-ghost use Rattle.std.specs.Prelude.{◌≡◌, None, IfOk};
-ghost use Rattle.jpg_file.specs.Read.PictureRead.{picture_meaning};
-ghost use Rattle.jpg_spec_encode.specs.Encoded.{density_of};
-ghost use Rattle.jpg_color.specs.Encode.{CanEncode, fault_due, encoded_frame, picture_due};
-ghost use Rattle.jpg_color.specs.EncodeAnswer.{IsEncoded};
+ghost use Rattle.std.specs.Prelude.{◌≡◌, ◌≤◌, [], IfOk, length};
+ghost use Rattle.jpg_color.specs.Encode.{CanEncode, image_told};
+ghost use Rattle.jpg_color.specs.EncodeAnswer.{IsEncoded, IsEncodedAs};
+ghost use Rattle.jpg_color.specs.EncodeSampling.{HasSampled, samples_left};
+ghost use Rattle.jpg_color.specs.declared.encode.Encoding.{Encoding as Asked};
 
-pub mod blocks;
+pub mod filling;
 pub mod head;
 pub mod lanes;
 pub mod planes;
 pub mod rows;
+pub mod sampler;
+pub mod strips;
+pub mod view;
 pub mod ycc;
 
-use crate::encode::blocks::coefs_of;
-use crate::encode::head::{colour_of, density_of, frame_of, kept_of, quants_of};
+use crate::encode::sampler::Sampler;
 use arrayvec::ArrayVec;
-use jpg_base::{Frame, NoMemory, QuantTable};
+use jpg_base::{NoMemory, QuantTable};
 use jpg_file::Picture;
 use jpg_pnm_bmp::Image;
 use jpg_spec_write::PictureFault;
@@ -31,6 +33,25 @@ pub struct Encoding {
     pub tables: [QuantTable; 2],
 }
 
+impl Encoding {
+    /// A copy of it.
+    pub fn copy(&self) -> Encoding
+        ensures gray { result.gray ≡ self.now.gray }
+        ensures progressive { result.progressive ≡ self.now.progressive }
+        ensures factors { result.factors.items ≡ self.now.factors.items }
+        ensures tables { result.tables ≡ self.now.tables }
+    {
+        let mut factors = ArrayVec::new();
+        let _ = factors.try_extend_from_slice(self.factors.as_slice());
+        Encoding {
+            gray: self.gray,
+            progressive: self.progressive,
+            factors,
+            tables: self.tables,
+        }
+    }
+}
+
 /// Why no picture was made.
 #[derive(Clone, Copy, Debug, PartialEq, Eq)]
 pub enum EncodeStop {
@@ -40,7 +61,7 @@ pub enum EncodeStop {
 
 /// The picture of an image. It answers FractionalFactors with the first component whose ratio to the greatest factors
 /// isn't an integer, and then TooManyBlocks if the padded grids have more than 8388608 blocks. In addition to the
-/// picture it takes memory for the rows of an MCU row of each component.
+/// picture it takes memory for the planes of the components and for the rows of an MCU row.
 pub fn encode_picture(
     alloc: Global,
     image: &Image,
@@ -49,40 +70,21 @@ pub fn encode_picture(
     requires { CanEncode image.now encoding.now }
     ensures { IsEncoded image.now encoding.now result }
 {
-    match frame_of(image, encoding) {
-        Ok(frame) => match picture_of(alloc, image, encoding, frame) {
+    match Sampler::new(alloc, image.info, encoding.copy()) {
+        Ok(sampler) => match picture_of(alloc, image, sampler) {
             Ok(picture) => Ok(picture),
             Err(NoMemory) => Err(EncodeStop::NoMemory),
         },
-        Err(fault) => Err(EncodeStop::Picture(fault)),
+        Err(stop) => Err(stop),
     }
 }
 
-// The picture in this frame.
-fn picture_of(
-    alloc: Global,
-    image: &Image,
-    encoding: &Encoding,
-    frame: Frame,
-) -> Result<Picture, NoMemory>
-    requires can { CanEncode image.now encoding.now }
-    requires frame { frame ≡ encoded_frame image.now encoding.now }
-    requires none { fault_due image.now encoding.now ≡ None }
-    ensures means { IfOk result (λ p. picture_meaning p ≡ picture_due image.now encoding.now) }
-    ensures jfif { IfOk result (λ p. p.jfif ≡ density_of image.now.info) }
+// The picture of an image whose samples are still to come.
+fn picture_of(alloc: Global, image: &Image, sampler: Sampler) -> Result<Picture, NoMemory>
+    requires { length image.now.samples ≤ samples_left sampler }
+    ensures { IfOk result (λ p. (a : Asked) → HasSampled image.now.info a [] sampler → IsEncodedAs image.now a p) }
 {
-    let coefs = coefs_of(alloc, image, encoding, &frame)?;
-    let jfif = density_of(&image.info);
-    let kept = kept_of(alloc, &jfif)?;
-    let colour = colour_of(encoding);
-    let quants = quants_of(encoding);
-    frame.checked();
-    Ok(Picture {
-        frame,
-        colour,
-        quants,
-        coefs,
-        kept,
-        jfif,
-    })
+    let mut sampler = sampler;
+    sampler.feed(image.samples.as_slice())?;
+    sampler.finish()?.picture(alloc)
 }

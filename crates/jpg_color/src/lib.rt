@@ -14,6 +14,8 @@ pub use decode::strips::Strips;
 pub use decode::{DecodeStop, decode_rows};
 pub use encode::planes::{block_at, component_row};
 pub use encode::rows::{ImagePlane, Window, block_rows};
+pub use encode::sampler::Sampler;
+pub use encode::view::EncodedImage;
 pub use encode::ycc::{blue_row, gray_row, red_row, to_ycc, ycc_row};
 pub use encode::{EncodeStop, Encoding, encode_picture};
 pub use jpg_spec_image::ImageKind;

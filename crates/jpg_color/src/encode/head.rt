@@ -6,7 +6,7 @@ ghost use Rattle.jpg_spec_write.specs.Headed.{jfif_contents};
 ghost use Rattle.jpg_spec_encode.specs.Encoded.{is_density, density_of};
 ghost use Rattle.jpg_spec.specs.FrameHeader.{HasFactors};
 ghost use Rattle.jpg_base.specs.Frame.{greatest_across, greatest_down};
-ghost use Rattle.jpg_color.specs.Encode.{CanEncode, IsFramed};
+ghost use Rattle.jpg_color.specs.Encode.{CanSample, IsFramed};
 ghost use Rattle.jpg_color.specs.EncodeHead.{components_asked, component_asked, colour_asked, fraction_at, process_asked, table_asked, tables_asked};
 
 use crate::encode::Encoding;
@@ -14,23 +14,22 @@ use arrayvec::ArrayVec;
 use jpg_base::codes::APP0;
 use jpg_base::{Frame, NoMemory, QuantTable, greatest_factors};
 use jpg_markers::{KeptList, is_wide};
-use jpg_pnm_bmp::Image;
 use jpg_spec::{Colour, Component, Jfif, Limits, Process};
 use jpg_spec_image::ImageInfo;
 use jpg_spec_write::PictureFault;
 use std::alloc::Global;
 
 /// The frame of the picture of an image.
-pub(crate) fn frame_of(image: &Image, encoding: &Encoding) -> Result<Frame, PictureFault>
-    requires { CanEncode image.now encoding.now }
-    ensures { IsFramed image.now encoding.now result }
+pub(crate) fn frame_of(info: &ImageInfo, encoding: &Encoding) -> Result<Frame, PictureFault>
+    requires { CanSample info.now encoding.now }
+    ensures { IsFramed info.now encoding.now result }
 {
     let components = components_of(encoding);
     if let Some(component) = first_fraction(components.as_slice()) {
         return Err(PictureFault::FractionalFactors { component });
     }
     let process = process_of(encoding);
-    let (height, width) = (image.info.height, image.info.width);
+    let (height, width) = (info.height, info.width);
     match Frame::new(
         process,
         8,

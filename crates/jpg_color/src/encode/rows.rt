@@ -27,8 +27,8 @@ pub struct Window<'a> {
     pub at: u32,
 }
 
-// How many numbers a pixel has.
-fn numbers(kind: ImageKind) -> usize
+/// How many numbers a pixel has.
+pub(crate) fn numbers(kind: ImageKind) -> usize
     ensures value { result ≡ numbers_of_pixel kind }
     ensures few { result ≤ 3 }
 {

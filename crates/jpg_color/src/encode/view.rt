@@ -1,0 +1,117 @@
+//! An encoded image as a view of blocks, each made when it is asked for (T.81, A.3.3, A.3.4).
+ghost use Rattle.std.specs.Prelude.{◌≡◌, ◌+◌, ◌*◌, ◌/◌, ◌≤◌, IfOk, length};
+ghost use Rattle.jpg_color.specs.EncodeBlocks.{plane_at};
+ghost use Rattle.jpg_color.specs.EncodedParts.{AreViewParts, HasAllRows, blocks_of, row_block, table_by};
+
+use crate::encode::filling::coefs_of;
+use crate::encode::planes::cut_block;
+use crate::encode::strips::Planes;
+use arrayvec::ArrayVec;
+use jpg_base::{Block, Bytes, Frame, NoMemory, QuantTable};
+use jpg_coefs::BlockView;
+use jpg_dct::Divisors;
+use jpg_file::Picture;
+use jpg_markers::{Jfif, KeptList};
+use jpg_spec::Colour;
+use std::alloc::Global;
+
+/// What the picture of an image has, with the planes of its components in place of its coefficients: a view whose
+/// blocks are cut from the planes, transformed and quantised each time that they are asked for. The invariant of each
+/// encoded image: it has one table for each component, without zeros, its real blocks are in the frame's bounds, and
+/// its colours and its JFIF header are those that its components and kept markers determine.
+#[derive(Drop)]
+pub struct EncodedImage {
+    pub frame: Frame,
+    pub colour: Colour,
+    pub quants: ArrayVec<QuantTable, 4>,
+    pub kept: KeptList,
+    pub jfif: Jfif,
+    pub(crate) planes: Planes,
+    pub(crate) first: Divisors,
+    pub(crate) others: Divisors,
+    pub ghost keeps: { AreViewParts (record { frame = frame; colour = colour; quants = quants.items; blocks = blocks_of frame planes first others; kept = kept; jfif = jfif }) },
+    pub ghost rows: { HasAllRows frame planes },
+}
+
+impl EncodedImage {
+    ghost use Rattle.jpg_spec.specs.Geometry.{IsReal};
+    ghost use Rattle.jpg_file.specs.Read.PictureRead.{picture_meaning};
+    ghost use Rattle.jpg_color.specs.EncodeView.{view_blocks, view_meaning};
+
+    // The rows of blocks of a component.
+    fn rows(&self, component: u8) -> &[Bytes]
+        ensures { result.now ≡ plane_at self.now.planes component }
+    {
+        match component {
+            0 => self.planes.ys.as_slice(),
+            1 => self.planes.cbs.as_slice(),
+            _ => self.planes.crs.as_slice(),
+        }
+    }
+
+    // The quantisers of a component.
+    fn divisors(&self, component: u8) -> &Divisors
+        ensures { result.now ≡ table_by self.now.first self.now.others component }
+    {
+        if component == 0 {
+            &self.first
+        } else {
+            &self.others
+        }
+    }
+
+    /// The block at a place, by a name other than that of the trait.
+    pub(crate) fn real_block(&self, component: u8, x: u32, y: u32) -> Block
+        requires { IsReal self.now.frame component x y }
+        ensures { result ≡ view_blocks self.now component x y }
+    {
+        block_of(
+            self.rows(component)[y as usize].as_slice(),
+            x as usize,
+            self.divisors(component),
+        )
+    }
+
+    /// The same as a picture with its coefficients.
+    pub fn picture(self, alloc: Global) -> Result<Picture, NoMemory>
+        ensures means { IfOk result (λ p. picture_meaning p ≡ view_meaning self) }
+        ensures jfif { IfOk result (λ p. p.jfif ≡ self.jfif) }
+    {
+        let coefs = coefs_of(alloc, &self)?;
+        Ok(Picture {
+            frame: self.frame,
+            colour: self.colour,
+            quants: self.quants,
+            coefs,
+            kept: self.kept,
+            jfif: self.jfif,
+        })
+    }
+}
+
+// Block x of a row of blocks, quantised.
+fn block_of(row: &[u8], x: usize, divisors: &Divisors) -> Block
+    requires there { 8 * x + 8 ≤ length row.now / 8 }
+    requires long { length row.now ≡ 8 * (length row.now / 8) }
+    ensures { result ≡ row_block divisors.now (length row.now / 8) row.now x }
+{
+    let mut samples = [0; 64];
+    cut_block(row, row.len() / 8, x, &mut samples);
+    Block::of(divisors.block(&samples))
+}
+
+impl BlockView for EncodedImage {
+    ghost use Rattle.jpg_color.specs.EncodeView.{view_blocks};
+
+    ghost numbers = { λ v. v.frame };
+
+    ghost blocks = { view_blocks };
+
+    fn frame(&self) -> &Frame {
+        &self.frame
+    }
+
+    fn block(&self, component: u8, x: u32, y: u32) -> Block {
+        self.real_block(component, x, y)
+    }
+}
