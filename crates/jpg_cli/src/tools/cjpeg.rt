@@ -119,6 +119,7 @@ fn write_blocks<D: Desk>(
 }
 
 // How the file is written in these scans: no kept marker is passed on.
+#[inline(never)]
 fn plan_of(image: &EncodedImage, script: Script, words: &EncodeWords) -> Plan
     ensures { IsPlanOf words.now image.now script result }
 {

@@ -61,6 +61,7 @@ impl EncodedImage {
     }
 
     /// The block at a place, by a name other than that of the trait.
+    #[inline(never)]
     pub(crate) fn real_block(&self, component: u8, x: u32, y: u32) -> Block
         requires { IsReal self.now.frame component x y }
         ensures { result ≡ view_blocks self.now component x y }

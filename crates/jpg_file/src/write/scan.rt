@@ -63,8 +63,14 @@ pub fn write_scan<V: BlockView, D: Desk>(
     ensures sends { Sends (D.state desk.old) out.old (scan_bytes plan.now (V.numbers view.now) (V.blocks view.now) (so_far given.old) entry.now) result out.new (D.state desk.new) }
     ensures given { (u : Unit {0}) → result ≡ Ok u → so_far given.new ≡ written_after plan.now (V.numbers view.now) (V.blocks view.now) (so_far given.old) entry.now }
 {
-    let due = due_of(plan, entry, view);
-    write_parts(&plan.out.frame, &due, given, view, out, desk)
+    write_parts(
+        &plan.out.frame,
+        &due_of(plan, entry, view),
+        given,
+        view,
+        out,
+        desk,
+    )
 }
 
 // What the scan is written with.
