@@ -1,24 +1,19 @@
--- The sources of the blocks of a component, and the places where they are put.
-use Rattle.std.proofs.Common.{◌≡◌, ℕ, zero, suc, ◌+◌, ◌-◌, ◌*◌, ◌/◌, ◌<◌, ◌≤◌, min, Bool, true, false, cond, ◌&&◌, ◌||◌, ◌==◌, List, [], ◌∷◌, length, map, slice_index_or, refl, sym, ap, ◌∙◌, subst, arith, ℤ}
+-- The components of the definitions: their ratios, their sizes, and their planes.
+use Rattle.std.proofs.Common.{◌≡◌, ℕ, zero, suc, ◌+◌, ◌-◌, ◌*◌, ◌/◌, ◌<◌, ◌≤◌, min, Bool, true, false, cond, ◌||◌, List, [], ◌∷◌, length, map, slice_index_or, sym, ap, ◌∙◌, subst, arith}
 use Rattle.std.proofs.Math.Nat.{div-le_self}
 use Rattle.std.proofs.lemmas.Nat.{div_below, le-div, mul-le}
 use Rattle.std.proofs.lemmas.List.{get_or-map, length-map}
 use Rattle.jpg_spec_image.specs.Downsampling.{downsampled}
 use Rattle.jpg_spec_encode.specs.Encoded.{Encoding, component_due, component_plane, components_due, encoded_head, full_plane, is_gray, rows_made}
 use Rattle.jpg_spec.specs.Geometry.{Frame, component_at, div_up, greatest, h_max, v_max, no_component}
-use Rattle.jpg_spec_image.specs.Images.{Image, sample_count}
+use Rattle.jpg_spec_image.specs.Images.{Image}
 use Rattle.jpg_spec.specs.Lists.{below}
 use Rattle.jpg_spec.specs.Meaning.{Meaning, picture_frame}
 use Rattle.jpg_spec.specs.Meaning.{component_of, most_across, most_down}
 use Rattle.jpg_spec.specs.declared.frame.Component.{Component}
-use Rattle.jpg_spec_image.specs.declared.image.ImageKind.{ImageKind}
-use Rattle.jpg_spec_image.specs.declared.image.ImageKind.TheVariants.{Gray, Rgb}
 use Rattle.jpg_spec.proofs.Common.{length_below}
 use Rattle.jpg_spec.proofs.Rows.{at_below}
-use Rattle.jpg_pnm_bmp.specs.Made.{IsRightImage}
-use Rattle.jpg_color.specs.ColourRows.{numbers_of_pixel}
 use Rattle.jpg_color.specs.EncodeBlocks.{lower_plane}
-use Rattle.jpg_color.specs.PlaneRows.{HasSamples}
 use Rattle.jpg_color.proofs.EncodedHead.{frame_across, frame_component, frame_down}
 
 -- RATIOS of the greatest factors
@@ -51,19 +46,6 @@ samples_few w h most low high =
 
 pub row_few : (w h most : ℕ) → w ≤ 65500 → 1 ≤ most → h ≤ most → 8 * (8 * div_up (div_up (w * h) most) 8) ≤ 1000000
 row_few w h most few low high = (let s = samples_few w h most low high in omega (arith, s, few))
-
-pub has_samples : (image : Image) → IsRightImage image → HasSamples image.info image.samples
-has_samples image is = record {
-  wide = is.width_low;
-  wide_few = is.width_high;
-  high = is.height_low;
-  high_few = is.height_high;
-  all = is.count ∙ counted image.info.width image.info.height image.info.x_metre image.info.y_metre image.info.kind;
-}
-  where
-    counted : (w h x y : ℕ) (k : ImageKind) → sample_count (record { width = w; height = h; kind = k; x_metre = x; y_metre = y }) ≡ h * (numbers_of_pixel k * w)
-    counted w h x y Gray = ap (λ n. h * n) (omega arith)
-    counted w h x y Rgb = refl
 
 -- THE PLANE of a component, as the definitions have it
 

@@ -16,9 +16,7 @@ use Rattle.jpg_spec.specs.QuantContents.{is_zero_quant}
 use Rattle.jpg_spec.specs.Scan.{Blocks}
 use Rattle.jpg_spec.specs.Segments.{QuantTable}
 use Rattle.jpg_spec.specs.Segments.{AreQuantisers, IsQuantiser}
-use Rattle.jpg_spec.specs.declared.frame.Colour.{Colour}
 use Rattle.jpg_spec.specs.declared.frame.Component.{Component}
-use Rattle.jpg_spec.specs.declared.jfif.Jfif.{Jfif}
 use Rattle.jpg_spec.proofs.Common.{length_below}
 use Rattle.jpg_spec.proofs.Rows.{at_below, by_items}
 use Rattle.jpg_file.specs.Read.PictureKept.{IsQuantTable, component_told}

@@ -1,5 +1,5 @@
 -- The blocks of an encoded image, and what it means.
-use Rattle.std.proofs.Common.{◌≡◌, ℕ, zero, suc, ◌+◌, ◌*◌, ◌/◌, ◌==◌, ◌<◌, ◌≤◌, Bool, true, false, cond, List, [], ◌∷◌, length, map, refl, sym, ap, ◌∙◌, subst, arith, slice_index_or, ℤ}
+use Rattle.std.proofs.Common.{◌≡◌, ℕ, zero, suc, ◌+◌, ◌*◌, ◌/◌, ◌==◌, ◌<◌, Bool, true, false, cond, List, [], ◌∷◌, length, map, refl, sym, ap, ◌∙◌, subst, arith, slice_index_or, ℤ}
 use Rattle.std.specs.Prelude.{flat_map}
 use Rattle.std.specs.List.{All}
 use Rattle.std.proofs.Math.Path.{fun_ext}
@@ -10,20 +10,20 @@ use Rattle.jpg_spec.specs.EncodingLaws.{AreSamples}
 use Rattle.jpg_spec.specs.FrameHeader.{IsFrame}
 use Rattle.jpg_spec.specs.Geometry.{Frame, IsReal, bounds_of, component_at, mcus_down, v_max}
 use Rattle.jpg_spec.specs.Lists.{below}
-use Rattle.jpg_spec.specs.Meaning.{Meaning, PictureComponent, component_of}
+use Rattle.jpg_spec.specs.Meaning.{PictureComponent, component_of}
 use Rattle.jpg_spec.specs.Scan.{Blocks}
 use Rattle.jpg_spec.specs.Segments.{AreQuantisers, QuantTable}
 use Rattle.jpg_spec.proofs.MovedFrames.{down_low}
 use Rattle.jpg_spec.proofs.PlacesFound.{real_in_padded}
-use Rattle.jpg_spec_encode.specs.Encoded.{Encoding, component_plane, samples_of_block}
+use Rattle.jpg_spec_encode.specs.Encoded.{component_plane, samples_of_block}
 use Rattle.jpg_spec_image.proofs.CodedBlocks.{all_at, coded_block_in}
 use Rattle.jpg_spec_image.specs.Downsampling.{in_rows}
 use Rattle.jpg_spec_image.specs.ForwardDct.{forward_dct, quantised_block}
 use Rattle.jpg_spec_image.specs.Images.{Image}
 use Rattle.jpg_spec_image.specs.declared.image.ImageInfo.{ImageInfo}
 use Rattle.jpg_spec_write.specs.WrittenFile.{HasBlocksIn}
-use Rattle.jpg_color.specs.Encode.{CanSample, blocks_due, encoded_frame, encoded_parts, encoding_request, image_of}
-use Rattle.jpg_color.specs.EncodeBlocks.{AreRows, HasPlanes, IsRow, lower_plane, plane_at, row_wide}
+use Rattle.jpg_color.specs.Encode.{blocks_due, encoded_frame, encoded_parts, encoding_request, image_of}
+use Rattle.jpg_color.specs.EncodeBlocks.{AreRows, HasPlanes, lower_plane, plane_at, row_wide}
 use Rattle.jpg_color.specs.EncodedParts.{HasAllRows, blocks_of, row_block, table_by}
 use Rattle.jpg_color.specs.EncodeSampling.{HasGiven, HasSampled}
 use Rattle.jpg_color.specs.EncodeView.{IsEncodedView, view_blocks, view_parts}
@@ -33,7 +33,7 @@ use Rattle.jpg_color.specs.declared.encode.strips.Planes.{Planes}
 use Rattle.jpg_color.specs.declared.encode.view.EncodedImage.{EncodedImage}
 use Rattle.jpg_color.proofs.EncodeSources.{component_there, count_due, plane_due}
 use Rattle.jpg_color.proofs.EncodedBlocks.{real_alike}
-use Rattle.jpg_color.proofs.EncodedPictures.{IsPutTogether, faults_all, meaning_due, means_all, means_due}
+use Rattle.jpg_color.proofs.EncodedPictures.{IsPutTogether, faults_all, means_all, means_due}
 
 -- A BLOCK
 

@@ -1,5 +1,5 @@
 -- The picture made of an encoded image, and the answer to an image that is to be encoded.
-use Rattle.std.proofs.Common.{◌≡◌, List, [], length, refl, sym, ap, ◌∙◌, subst, Result, Ok, Err, slice_index_or}
+use Rattle.std.proofs.Common.{◌≡◌, [], length, sym, ap, ◌∙◌, subst, Result, Ok, Err, slice_index_or}
 use Rattle.std.specs.Prelude.{IfOk}
 use Rattle.jpg_base.specs.declared.names.NoMemory.{NoMemory}
 use Rattle.std.specs.List.{All}

@@ -1,10 +1,10 @@
 -- Samples that are given one after another.
-use Rattle.std.proofs.Common.{◌≡◌, ◌⊎◌, ℕ, zero, suc, ◌+◌, ◌-◌, ◌*◌, ◌/◌, ◌<◌, ◌≤◌, min, Bool, true, false, cond, ◌||◌, ◌==◌, List, [], ◌++◌, length, take, drop, slice_index_or, refl, sym, ap, ◌∙◌, subst, arith, ⊎_elim, inl, inr, None}
+use Rattle.std.proofs.Common.{◌≡◌, ◌⊎◌, ℕ, ◌+◌, ◌-◌, ◌*◌, ◌/◌, ◌<◌, ◌≤◌, min, Bool, true, false, cond, ◌||◌, ◌==◌, List, [], ◌++◌, length, take, drop, slice_index_or, refl, sym, ap, ◌∙◌, subst, arith, ⊎_elim, inl, inr, None}
 use Rattle.std.proofs.Math.Seq.{take-append_seam}
 use Rattle.std.proofs.lemmas.Bool.{cases_lt}
 use Rattle.std.proofs.lemmas.Bool.Decides.{nat_tests}
 use Rattle.std.proofs.lemmas.Nat.{mul-le}
-use Rattle.std.proofs.lemmas.List.{append-nil, append_assoc, drop-append-le, drop_all, length-append, length-drop}
+use Rattle.std.proofs.lemmas.List.{append_assoc, drop-append-le, drop_all, length-append, length-drop}
 use Rattle.jpg_spec.specs.FrameHeader.{IsFrame}
 use Rattle.jpg_spec.specs.Geometry.{Frame, component_at, no_component, v_max}
 use Rattle.jpg_spec.proofs.MovedFrames.{down_low}
@@ -15,7 +15,7 @@ use Rattle.jpg_spec_image.specs.declared.image.ImageKind.{ImageKind}
 use Rattle.jpg_spec_image.specs.declared.image.ImageKind.TheVariants.{Gray, Rgb}
 use Rattle.jpg_color.specs.ColourRows.{numbers_of_pixel}
 use Rattle.jpg_color.specs.Encode.{CanSample, encoded_frame, encoded_parts, encoding_request, fault_due, image_of}
-use Rattle.jpg_color.specs.EncodeBlocks.{AppendsStrip, ArePlanesOf, AreRowsOf, AppendsRows, GrowsPlanes, HasPlanes, IsRowOf, IsStrip, plane_at}
+use Rattle.jpg_color.specs.EncodeBlocks.{AppendsStrip, AreRowsOf, AppendsRows, IsRowOf, IsStrip, plane_at}
 use Rattle.jpg_color.specs.EncodeSampling.{AddsSamples, Completes, HasGiven, HasSampled, MakesRow}
 use Rattle.jpg_color.specs.SamplerState.{IsWhole, KeepsSampler, row_length, strip_numbers, strip_room}
 use Rattle.jpg_color.specs.declared.encode.Encoding.{Encoding as Asked}
@@ -92,13 +92,6 @@ complete_yes n room left e = by (n == room) refl e
     by : (b : Bool) → (n == room) ≡ b → (b || left == 0) ≡ true → (n ≡ room) ⊎ (left ≡ 0)
     by true h e = inl (grind (arith, nat_tests, h))
     by false h e = inr (grind (arith, nat_tests, e))
-
-pub complete_no : (n room left : ℕ) → (n == room || left == 0) ≡ false → n ≤ room → (n < room) × (1 ≤ left)
-complete_no n room left e most = by (n == room) refl e
-  where
-    by : (b : Bool) → (n == room) ≡ b → (b || left == 0) ≡ false → (n < room) × (1 ≤ left)
-    by true h e = cc
-    by false h e = (grind (arith, nat_tests, h, most), grind (arith, nat_tests, e))
 
 -- by numbers: rows of MCUs of `room` samples, in `lines` rows of `row` samples each, of `high` in all
 whole_by : (lines row high made pending left : ℕ) → 1 ≤ row → 1 ≤ pending → pending ≤ lines * row → made * (lines * row) + pending + left ≡ high * row → (pending ≡ lines * row) ⊎ (left ≡ 0)
@@ -275,68 +268,8 @@ adds_row old mid after new more some info asked planes made pending factors whol
         (subst AreFactorsOf mid.keeps.frame factors) long (subst (λ (g : Frame). IsWhole mid.info g mid.pending mid.made) mid.keeps.frame whole) here
         (subst (λ (g : Frame). AppendsStrip g (image_of (strip_numbers mid.info g mid.made) mid.pending) mid.planes after.planes) mid.keeps.frame makes.planes)
 
-pub adds_none : (s : Sampler) → AddsSamples s [] s
-adds_none s i a given has = subst (λ (l : List ℕ). HasSampled i a l s) (sym (append-nil given)) has
-
 pub adds_then : (old mid new : Sampler) (xs ys : List ℕ) → AddsSamples old xs mid → AddsSamples mid ys new → AddsSamples old (xs ++ ys) new
 adds_then old mid new xs ys one other i a given has = subst (λ (l : List ℕ). HasSampled i a l new) (append_assoc given xs ys) (other i a (given ++ xs) (one i a given has))
-
--- THE FACTS, after rows were appended
-
-pub planes_grown : {f : Frame} {m : ℕ} {old new : Planes} → HasPlanes f m old → GrowsPlanes f old new → HasPlanes f m new
-planes_grown has grows = record {
-  rows = λ i there. (grows i there).rows (has.rows i there);
-  enough = λ i there. (let a = has.enough i there in let b = (grows i there).more in omega (arith, a, b));
-}
-
-pub planes_more : {f : Frame} {m : ℕ} {strip : Image} {old new : Planes} → HasPlanes f m old → GrowsPlanes f old new → AppendsStrip f strip old new → HasPlanes f (m + 1) new
-planes_more {f} {m} has grows more = record {
-  rows = λ i there. (grows i there).rows (has.rows i there);
-  enough = λ i there.
-      (let a = has.enough i there in
-      let b = (more i there).long in
-      let e : (component_at f i).v * (m + 1) ≡ (component_at f i).v * m + (component_at f i).v = grind arith in
-      omega (arith, a, b, e));
-}
-
-pub keeps_stopped : {info : ImageInfo} {a : Asked} {f : Frame} {pending other : List ℕ} {old new : Planes} {made next left : ℕ} → KeepsSampler info a f pending old made left → HasPlanes f next new → KeepsSampler info a f other new next 0
-keeps_stopped keeps has = record {
-  can = keeps.can;
-  frame = keeps.frame;
-  none = keeps.none;
-  checked = keeps.checked;
-  planes = has;
-  short = λ some. absurd (omega (arith, some));
-  count = λ some. absurd (omega (arith, some));
-}
-
--- and where an MCU row is not complete, or was made
-pub keeps_part : {info : ImageInfo} {a : Asked} {f : Frame} {pending : List ℕ} (more : List ℕ) {p : Planes} {made left after : ℕ} → KeepsSampler info a f pending p made left → 1 ≤ left → length more + after ≡ left → length pending + length more < strip_room info f
-    → KeepsSampler info a f (pending ++ more) p made after
-keeps_part {info} {a} {f} {pending} more keeps some left less = record {
-  can = keeps.can;
-  frame = keeps.frame;
-  none = keeps.none;
-  checked = keeps.checked;
-  planes = keeps.planes;
-  short = λ h. (let l = length-append pending more in omega (arith, l, less));
-  count = λ h. (let l = length-append pending more in let c = keeps.count some in omega (arith, l, c, left));
-}
-
-pub keeps_row : {info : ImageInfo} {a : Asked} {f : Frame} {pending waiting : List ℕ} {old new : Planes} {made after left : ℕ} (n : ℕ) → KeepsSampler info a f pending old made left → 1 ≤ left → HasPlanes f (made + 1) new → waiting ≡ []
-    → n + after ≡ left → (length pending + n ≡ strip_room info f) ⊎ (after ≡ 0) → KeepsSampler info a f waiting new (made + 1) after
-keeps_row {info} {a} {f} {pending} {waiting} {old} {new} {made} {after} {left} n keeps some has nothing e full = record {
-  can = keeps.can;
-  frame = keeps.frame;
-  none = keeps.none;
-  checked = keeps.checked;
-  planes = has;
-  short = λ h. (let z : length waiting ≡ 0 = ap length nothing in let r = room_some info f keeps.checked keeps.can.wide in omega (arith, z, r));
-  count = λ h. (let z : length waiting ≡ 0 = ap length nothing in
-      let c = keeps.count some in
-      let s : (made + 1) * strip_room info f ≡ made * strip_room info f + strip_room info f = grind arith in
-      ⊎_elim (λ (w : length pending + n ≡ strip_room info f). (let r : (made + 1) * strip_room info f + length waiting + after ≡ info.height * row_length info = omega (arith, z, c, s, w, e) in r)) (λ (w : after ≡ 0). absurd (omega (arith, w, h))) full);
-}
 
 -- THE STRIP that is pending
 

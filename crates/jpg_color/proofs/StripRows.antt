@@ -9,7 +9,7 @@ use Rattle.jpg_spec.specs.Geometry.{Frame, component_at, div_up, h_max, v_max}
 use Rattle.jpg_spec_encode.specs.Encoded.{full_plane, samples_of_block}
 use Rattle.jpg_spec_image.specs.Downsampling.{downsampled, in_rows}
 use Rattle.jpg_spec_image.specs.Images.{Image}
-use Rattle.jpg_color.specs.EncodeBlocks.{AppendsRows, AreRows, GrowsPlane, IsRow, IsRowOf, IsSource, lower_plane, source_image}
+use Rattle.jpg_color.specs.EncodeBlocks.{AppendsRows, GrowsPlane, IsRow, IsRowOf, IsSource, lower_plane, source_image}
 use Rattle.jpg_color.specs.PlaneRows.{AreUnder, HasBlocks, HasPlaneRows, IsWindow}
 use Rattle.jpg_color.specs.declared.encode.rows.ImagePlane.{ImagePlane}
 use Rattle.jpg_color.specs.declared.encode.rows.Window.{Window}
@@ -81,9 +81,6 @@ grows_more {f} {i} {old} {mid} {new} row has is e =
           (cases_lt k (length mid)));
       more = omega (arith, one, has.more);
     }
-
-pub grows_then : {f : Frame} {i : ℕ} {old mid new : List (List ℕ)} → GrowsPlane f i old mid → GrowsPlane f i mid new → GrowsPlane f i old new
-grows_then one other = record { rows = λ are. other.rows (one.rows are); more = omega (arith, one.more, other.more) }
 
 -- THE ROWS OF A STRIP as a window
 

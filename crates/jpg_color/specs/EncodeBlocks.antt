@@ -5,7 +5,6 @@ use Rattle.jpg_spec.specs.Geometry.{Frame, blocks_across, component_at, div_up, 
 use Rattle.jpg_spec_encode.specs.Encoded.{full_plane, samples_of_block}
 use Rattle.jpg_spec_image.specs.Downsampling.{downsampled, in_rows}
 use Rattle.jpg_spec_image.specs.Images.{Image}
-use Rattle.jpg_color.specs.ColourRows.{numbers_of_pixel}
 use Rattle.jpg_color.specs.PlaneRows.{HasPlaneRows, HasSamples, IsImagePlane, lower_row}
 use Rattle.jpg_spec_image.specs.declared.image.ImageKind.TheVariants.{Rgb}
 use Rattle.jpg_color.specs.declared.encode.strips.Planes.{Planes}
@@ -80,9 +79,12 @@ pub record AppendsRows (f : Frame) (strip : Image) (i count : ℕ) (old new : Li
   pub same : (y : ℕ) → y < length old → slice_index_or new y [] ≡ slice_index_or old y []
   pub each : (y : ℕ) → y < count → IsRowOf f strip i y (slice_index_or new (length old + y) [])
 
--- of all components
+-- all of them, and those of all components
+abbrev pub AppendsAll : Frame → Image → ℕ → List (List ℕ) → List (List ℕ) → Type 0
+AppendsAll f strip i = AppendsRows f strip i (component_at f i).v
+
 abbrev pub AppendsStrip : Frame → Image → Planes → Planes → Type 0
-AppendsStrip f strip old new = (i : ℕ) → i < length f.components → AppendsRows f strip i (component_at f i).v (plane_at old i) (plane_at new i)
+AppendsStrip f strip old new = (i : ℕ) → i < length f.components → AppendsAll f strip i (plane_at old i) (plane_at new i)
 
 -- whatever is appended, it is rows of blocks
 pub record GrowsPlane (f : Frame) (i : ℕ) (old new : List (List ℕ)) : Type 0 where

@@ -1,5 +1,5 @@
 -- SAMPLES OF AN IMAGE taken in pieces: what was made of those that were given, for all images that begin with them.
-use Rattle.std.specs.Prelude.{◌≡◌, ℕ, ◌+◌, ◌*◌, ◌≤◌, ◌<◌, List, [], ◌++◌, length, drop, None, Some, Result, Ok, Err}
+use Rattle.std.specs.Prelude.{◌≡◌, ℕ, ◌+◌, ◌*◌, List, [], ◌++◌, length, drop, Some, Result, Ok, Err}
 use Rattle.jpg_spec_encode.specs.Encoded.{Encoding, sampling_fault}
 use Rattle.jpg_spec_image.specs.Images.{sample_count}
 use Rattle.jpg_spec_image.specs.declared.image.ImageInfo.{ImageInfo}
@@ -9,8 +9,10 @@ use Rattle.jpg_color.specs.SamplerState.{strip_numbers, strip_room}
 use Rattle.jpg_color.specs.declared.encode.Encoding.{Encoding as Asked}
 use Rattle.jpg_color.specs.declared.encode.EncodeStop.{EncodeStop}
 use Rattle.jpg_color.specs.declared.encode.EncodeStop.TheVariants as stop
+use Rattle.jpg_color.specs.EncodeView.{IsEncodedView}
 use Rattle.jpg_color.specs.declared.encode.sampler.Sampler.{Sampler}
 use Rattle.jpg_color.specs.declared.encode.strips.Planes.{Planes}
+use Rattle.jpg_color.specs.declared.encode.view.EncodedImage.{EncodedImage}
 
 -- how many samples are still to come
 abbrev pub samples_left : Sampler → ℕ
@@ -46,6 +48,10 @@ pub record MakesRow (old new : Sampler) : Type 0 where
 -- more samples were given
 abbrev pub AddsSamples : Sampler → List ℕ → Sampler → Type 0
 AddsSamples old samples new = (info : ImageInfo) (a : Asked) (given : List ℕ) → HasSampled info a given old → HasSampled info a (given ++ samples) new
+
+-- AT THE END: the encoded image of all the samples that were given
+abbrev pub EncodesSampled : Sampler → EncodedImage → Type 0
+EncodesSampled s v = (info : ImageInfo) (a : Asked) (given : List ℕ) → HasSampled info a given s → IsEncodedView (image_of info given) a v
 
 -- THE ANSWER at the beginning: a sampler that was given nothing, or the first fault of the factors and the grids
 abbrev pub BeginsSampling : ImageInfo → Asked → Result Sampler EncodeStop → Type 0

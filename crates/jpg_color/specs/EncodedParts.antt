@@ -46,6 +46,9 @@ pub record ViewParts : Type 0 where
   pub kept : List Segment
   pub jfif : Jfif
 
+abbrev pub parts_by : Frame → Colour → List QuantTable → Blocks → List Segment → Jfif → ViewParts
+parts_by f colour quants blocks kept jfif = record { frame = f; colour = colour; quants = quants; blocks = blocks; kept = kept; jfif = jfif }
+
 -- what they mean
 abbrev pub viewed_meaning : ViewParts → Meaning
 viewed_meaning p = record {

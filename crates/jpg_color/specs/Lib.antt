@@ -15,5 +15,5 @@ pub mod EncodeBlocks
 pub mod EncodeHead
 pub mod EncodedParts
 pub mod SamplerState
-pub mod EncodeSampling
 pub mod EncodeView
+pub mod EncodeSampling

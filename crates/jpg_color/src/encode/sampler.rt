@@ -1,10 +1,9 @@
 //! The samples of an image taken as they come, and made the planes of its components (T.81, A.1.1, A.2).
-ghost use Rattle.std.specs.Prelude.{◌≡◌, ◌+◌, ◌*◌, ◌≤◌, ◌<◌, ◌==◌, ◌||◌, ◌&&◌, ℕ, List, [], None, OnOk, IfOk, length, take};
-ghost use Rattle.jpg_spec_image.specs.declared.image.ImageInfo.{ImageInfo as Info};
+ghost use Rattle.std.specs.Prelude.{◌≡◌, ◌+◌, ◌*◌, ◌≤◌, ◌<◌, ◌==◌, ◌||◌, ◌&&◌, [], None, OnOk, IfOk, length, take};
 ghost use Rattle.jpg_spec.specs.Geometry.{mcus_down, v_max};
 ghost use Rattle.jpg_spec.specs.Segments.{AreQuantisers};
 ghost use Rattle.jpg_color.specs.EncodeHead.{table_asked};
-ghost use Rattle.jpg_color.specs.Encode.{CanSample, encoded_frame, fault_due, image_of};
+ghost use Rattle.jpg_color.specs.Encode.{CanSample, encoded_frame, fault_due};
 ghost use Rattle.jpg_color.specs.SamplerState.{IsWhole, KeepsSampler, row_length, strip_numbers, strip_room};
 
 use crate::encode::head::{colour_of, density_of, frame_of, kept_of, quants_of, table_of};
@@ -36,9 +35,7 @@ pub struct Sampler {
 
 impl Sampler {
     ghost use Rattle.jpg_spec_image.specs.Images.{sample_count};
-    ghost use Rattle.jpg_color.specs.EncodeSampling.{AddsSamples, BeginsSampling, HasSampled, MakesRow, samples_left};
-    ghost use Rattle.jpg_color.specs.EncodeView.{IsEncodedView};
-    ghost use Rattle.jpg_color.specs.declared.encode.Encoding.{Encoding as Asked};
+    ghost use Rattle.jpg_color.specs.EncodeSampling.{AddsSamples, BeginsSampling, EncodesSampled, HasSampled, MakesRow, samples_left};
 
     /// A sampler of an image with these numbers, encoded like this, that was given no samples. It answers
     /// FractionalFactors with the first component whose ratio to the greatest factors isn't an integer, and then
@@ -141,7 +138,7 @@ impl Sampler {
 
     /// The encoded image. It answers NoMemory too if samples are missing, as after NoMemory of `feed`.
     pub fn finish(self) -> Result<EncodedImage, NoMemory>
-        ensures { IfOk result (λ v. (info : Info) (a : Asked) (given : List ℕ) → HasSampled info a given self → IsEncodedView (image_of info given) a v) }
+        ensures { IfOk result (EncodesSampled self) }
     {
         if !is_all(self.left, self.made, &self.frame) {
             return Err(NoMemory);

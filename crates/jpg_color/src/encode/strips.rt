@@ -1,9 +1,9 @@
 //! The planes of a row of MCUs, made of the samples of the image for it (T.81, A.1.1, A.2).
 ghost use Rattle.std.specs.Prelude.{◌≡◌, ◌+◌, ◌*◌, ◌/◌, ◌≤◌, ◌<◌, ◌++◌, ◌∷◌, [], ℕ, OnErr, OnOk, IfOk, length};
 ghost use Rattle.jpg_spec.specs.EncodingLaws.{AreSamples};
-ghost use Rattle.jpg_spec.specs.Geometry.{component_at, div_up, v_max};
+ghost use Rattle.jpg_spec.specs.Geometry.{div_up, v_max};
 ghost use Rattle.jpg_color.specs.PlaneRows.{HasBlocks, HasPlaneRows, IsWindow};
-ghost use Rattle.jpg_color.specs.EncodeBlocks.{AppendsRows, AppendsStrip, AreWindows, GrowsPlane, GrowsPlanes, HasRowsOfStrip, IsRow, IsSource, IsStrip, source_image, strip_image};
+ghost use Rattle.jpg_color.specs.EncodeBlocks.{AppendsAll, AppendsStrip, AreWindows, GrowsPlane, GrowsPlanes, HasRowsOfStrip, IsSource, IsStrip, source_image, strip_image};
 
 use crate::decode::part::bytes;
 use crate::encode::rows::{ImagePlane, Window, block_rows, put_colour_rows, put_rows};
@@ -175,7 +175,7 @@ fn put_part(
     requires there { i < length strip.now.frame.now.components }
     requires long { length rows.now ≡ 8 * v_max strip.now.frame.now * strip.now.frame.now.width }
     requires rows { HasPlaneRows strip.now.info.now strip.now.samples.now i (8 * v_max strip.now.frame.now) 0 rows.now }
-    ensures rows { OnOk result (AppendsRows strip.now.frame.now (strip_image strip.now) i (component_at strip.now.frame.now i).v plane.old.items plane.new.items) }
+    ensures rows { OnOk result (AppendsAll strip.now.frame.now (strip_image strip.now) i plane.old.items plane.new.items) }
     ensures grows { GrowsPlane strip.now.frame.now i plane.old.items plane.new.items }
 {
     let source = source_of(strip, i);
@@ -200,7 +200,7 @@ fn put_blocks(
     requires window { IsWindow source.now.plane window.now }
     requires lines { window.now.lines ≡ 8 * v_max frame.now }
     requires at { window.now.at ≡ 0 }
-    ensures rows { OnOk result (AppendsRows frame.now (source_image source.now) i (component_at frame.now i).v plane.old.items plane.new.items) }
+    ensures rows { OnOk result (AppendsAll frame.now (source_image source.now) i plane.old.items plane.new.items) }
     ensures grows { GrowsPlane frame.now i plane.old.items plane.new.items }
 {
     let mut out = bytes(alloc, 8 * source.wide)?;

@@ -1,7 +1,7 @@
 //! An encoded image as a view of blocks, each made when it is asked for (T.81, A.3.3, A.3.4).
 ghost use Rattle.std.specs.Prelude.{◌≡◌, ◌+◌, ◌*◌, ◌/◌, ◌≤◌, IfOk, length};
 ghost use Rattle.jpg_color.specs.EncodeBlocks.{plane_at};
-ghost use Rattle.jpg_color.specs.EncodedParts.{AreViewParts, HasAllRows, blocks_of, row_block, table_by};
+ghost use Rattle.jpg_color.specs.EncodedParts.{AreViewParts, HasAllRows, blocks_of, parts_by, row_block, table_by};
 
 use crate::encode::filling::coefs_of;
 use crate::encode::planes::cut_block;
@@ -29,7 +29,7 @@ pub struct EncodedImage {
     pub(crate) planes: Planes,
     pub(crate) first: Divisors,
     pub(crate) others: Divisors,
-    pub ghost keeps: { AreViewParts (record { frame = frame; colour = colour; quants = quants.items; blocks = blocks_of frame planes first others; kept = kept; jfif = jfif }) },
+    pub ghost keeps: { AreViewParts (parts_by frame colour quants.items (blocks_of frame planes first others) kept jfif) },
     pub ghost rows: { HasAllRows frame planes },
 }
 

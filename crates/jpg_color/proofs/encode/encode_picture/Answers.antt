@@ -1,4 +1,4 @@
-use Rattle.jpg_color.proofs.PicturesEncoded.{AsksSame, can_sample, encoded_same, stopped_same}
+use Rattle.jpg_color.proofs.PicturesEncoded.{can_sample, encoded_same, stopped_same}
 use Rattle.jpg_color.proofs.encode.encode_picture.Goals as goal
 
 pub new-requires : goal.new-requires

@@ -1,7 +1,7 @@
-use Rattle.std.proofs.Common.{◌≡◌, ◌∙◌, ◌*◌, ℕ, List, length, arith, subst, ap, sym}
+use Rattle.std.proofs.Common.{◌≡◌, ◌∙◌, ◌*◌, ℕ, List, arith, subst, sym}
 use Rattle.std.specs.Vec.{with_items}
 use Rattle.std.proofs.lemmas.List.{with_items_is}
-use Rattle.jpg_spec.specs.Geometry.{Frame, v_max}
+use Rattle.jpg_spec.specs.Geometry.{v_max}
 use Rattle.jpg_color.specs.PlaneRows.{HasPlaneRows}
 use Rattle.jpg_color.proofs.McuSources.{by_three}
 use Rattle.jpg_color.proofs.encode.strips.fill.Goals as goal

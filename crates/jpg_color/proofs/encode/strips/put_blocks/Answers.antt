@@ -1,4 +1,4 @@
-use Rattle.std.proofs.Common.{rules, ◌≡◌, ◌∙◌, ◌*◌, ℕ, List, length, subst, ap, sym, arith}
+use Rattle.std.proofs.Common.{rules, ◌≡◌, ◌∙◌, ◌*◌, length, subst, ap, sym, arith}
 use Rattle.std.proofs.lemmas.List.{with_items_is}
 use Rattle.jpg_spec.specs.Geometry.{component_at}
 use Rattle.jpg_color.specs.EncodeBlocks.{AppendsRows, GrowsPlane, IsRow, IsRowOf, source_image}

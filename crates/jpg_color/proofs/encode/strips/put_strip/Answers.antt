@@ -1,4 +1,4 @@
-use Rattle.std.proofs.Common.{◌≡◌, ◌<◌, length, arith}
+use Rattle.std.proofs.Common.{arith}
 use Rattle.jpg_color.specs.EncodeBlocks.{GrowsPlane}
 use Rattle.jpg_color.proofs.StripRows.{only_first}
 use Rattle.jpg_color.proofs.encode.strips.put_strip.Goals as goal

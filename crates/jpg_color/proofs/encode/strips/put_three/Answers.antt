@@ -1,4 +1,4 @@
-use Rattle.std.proofs.Common.{◌≡◌, ◌∙◌, ◌<◌, ◌*◌, ap, arith, length}
+use Rattle.std.proofs.Common.{arith}
 use Rattle.jpg_spec.specs.Geometry.{component_at}
 use Rattle.jpg_color.specs.EncodeBlocks.{AppendsRows, GrowsPlane, strip_image}
 use Rattle.jpg_color.proofs.StripRows.{by_planes, grows_none, on_ok}

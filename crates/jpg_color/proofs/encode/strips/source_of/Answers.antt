@@ -1,4 +1,4 @@
-use Rattle.std.proofs.Common.{◌≡◌, ◌∙◌, ◌<◌, ◌*◌, ◌/◌, ℕ, length, refl, arith, ap}
+use Rattle.std.proofs.Common.{◌≡◌, ◌∙◌, ◌*◌, ◌/◌, refl, arith, ap}
 use Rattle.jpg_spec.specs.Geometry.{blocks_across, div_up, h_max, v_max, component_at}
 use Rattle.jpg_spec.specs.declared.frame.Component.{Component}
 use Rattle.jpg_color.specs.EncodeBlocks.{strip_image}

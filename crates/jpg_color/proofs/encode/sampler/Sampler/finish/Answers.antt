@@ -1,4 +1,4 @@
-use Rattle.std.proofs.Common.{◌≡◌, ◌∙◌, ◌==◌, true, [], ◌∷◌, refl, ap, subst, sym, slice_index_or}
+use Rattle.std.proofs.Common.{◌≡◌, ◌∙◌, ◌==◌, [], ◌∷◌, refl, ap, subst, sym}
 use Rattle.jpg_spec.specs.Geometry.{Frame, mcus_down}
 use Rattle.jpg_spec.specs.Segments.{AreQuantisers}
 use Rattle.jpg_spec.specs.declared.jfif.Jfif.{Jfif}

@@ -1,4 +1,4 @@
-use Rattle.std.proofs.Common.{◌≡◌, ◌⊎◌, ◌∙◌, ◌+◌, ◌-◌, ◌≤◌, List, ℕ, length, take, refl, sym, ap, arith, inl, inr, ⊎_elim}
+use Rattle.std.proofs.Common.{◌≡◌, ◌⊎◌, ◌∙◌, ◌+◌, ◌-◌, ◌≤◌, length, take, refl, sym, ap, arith, inl, inr, ⊎_elim}
 use Rattle.std.proofs.lemmas.List.{length-take-le}
 use Rattle.jpg_color.specs.SamplerState.{strip_room}
 use Rattle.jpg_color.proofs.Sampling.{adds_part, adds_row, complete_yes, factors_of, keeps_after, whole_now}
