@@ -21,14 +21,14 @@ returns-in-Early c =
     scans_early c.args.scans file c.in-Early.field-0 c.feed.new.self c.end.new.self c.take-in-Early.result limits (c.in-Early.ensures.limits ∙ limits) (c.in-Ok-More.ensures.scans ∙ c.new-preview.ensures.scans) k
     (ap keeping_of c.in-Early.ensures.file ∙ c.in-Ok-More.ensures.keeping ∙ c.new-preview.ensures.keeping) c.take-in-Early.ensures.early (c.in-Early.ensures.answered file k)
 
-pub returns-in-Stop : goal.returns-in-Stop
-returns-in-Stop c =
+pub returns-in-Ok-More : goal.returns-in-Ok-More
+returns-in-Ok-More c =
     let file = c.args.file.now in
     let k = subst (λ (fed : Fed). AfterView [] file (Ok fed) c.feed.new.self) c.in-Ok-More.field-0-is (c.in-Ok-More.ensures.answered [] c.new-preview.ensures.viewed) in
     let limits = c.in-Ok-More.ensures.limits ∙ c.new-preview.ensures.limits ∙ c.standard.ensures in
     scans_ended c.args.scans file c.in-Stop.stop c.feed.new.self c.end.new.self.reader.limits limits (c.in-Stop.ensures.limits ∙ limits) (c.in-Ok-More.ensures.scans ∙ c.new-preview.ensures.scans) k (c.in-Stop.ensures.answered file k)
 
-pub returns-in-Err : goal.returns-in-Err
-returns-in-Err c =
+pub returns : goal.returns
+returns c =
     scans_stopped c.args.scans c.args.file.now c.in-Err.stop c.feed.new.self (c.in-Err.ensures.limits ∙ c.new-preview.ensures.limits ∙ c.standard.ensures) (c.in-Err.ensures.scans ∙ c.new-preview.ensures.scans)
     (c.in-Err.ensures.answered [] c.new-preview.ensures.viewed)

@@ -18,12 +18,12 @@ returns-in-Early c =
     picture_early file c.in-Early.field-0 c.end.new.self c.take-in-Early.result (c.in-Early.ensures.limits ∙ c.in-Ok-More.ensures.limits ∙ c.new-reader.ensures.limits ∙ c.standard.ensures)
     (c.in-Early.ensures.keeping ∙ c.in-Ok-More.ensures.keeping ∙ c.new-reader.ensures.keeping) c.take-in-Early.ensures.early (c.in-Early.ensures.answered file k)
 
-pub returns-in-Stop : goal.returns-in-Stop
-returns-in-Stop c =
+pub returns-in-Ok-More : goal.returns-in-Ok-More
+returns-in-Ok-More c =
     let file = c.args.file.now in
     let k = subst (λ (fed : Fed). AfterFeed [] file (Ok fed) c.feed.new.self) c.in-Ok-More.field-0-is (c.in-Ok-More.ensures.answered [] c.new-reader.ensures.read) in
     picture_ended file c.in-Stop.stop c.end.new.self.limits (c.in-Stop.ensures.limits ∙ c.in-Ok-More.ensures.limits ∙ c.new-reader.ensures.limits ∙ c.standard.ensures) (c.in-Stop.ensures.answered file k)
 
-pub returns-in-Err : goal.returns-in-Err
-returns-in-Err c =
+pub returns : goal.returns
+returns c =
     picture_stopped c.args.file.now c.in-Err.stop c.feed.new.self (c.in-Err.ensures.limits ∙ c.new-reader.ensures.limits ∙ c.standard.ensures) (c.in-Err.ensures.answered [] c.new-reader.ensures.read)

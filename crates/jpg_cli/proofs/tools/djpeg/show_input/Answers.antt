@@ -33,3 +33,8 @@ pub returns-in-Rows-clause-shown : goal.returns-in-Rows-clause-shown
 returns-in-Rows-clause-shown g c = λ old h.
     let read = c.in-Rows.ensures.read.2 in
     c.show_rows.ensures.shown old (g.D.Desk.state c.args.desk.now) read.0 read.3 (record { opened = h; reads = c.in-Rows.ensures.kept; left = read.1 })
+
+pub returns-clause-shown : goal.returns-clause-shown
+returns-clause-shown g c = λ old h.
+    let state = g.D.Desk.state in
+    ends_plainly (showing_told c.args.words.now) old (state c.args.desk.now) (state c.read_first.new.desk) _ h c.in-Ended.ensures.kept c.in-Ended.ensures.read
