@@ -171,6 +171,20 @@ fn end_output<R: Runtime>(words: &[String], ended: Ended, desk: &mut StdDesk<R>)
     }
 }
 
+// Runs the command that the words ask for over real files and the standard streams; the exit status.
+fn run_over_files<R: Runtime>(
+    rt: R,
+    alloc: Global,
+    words: &[String],
+    ends: Vec<Box<dyn ImageEnd>>,
+) -> u8
+    requires { AreNewEnds (map (λ e. progress e) ends.items) }
+{
+    let mut desk = StdDesk::replacing(rt);
+    let ended = run(alloc, words, &mut desk, ends);
+    end_output(words, ended, &mut desk)
+}
+
 /// Runs the command that the program's words ask for over real files and the standard streams, and ends with its exit
 /// status. Where the program was called by the name of a command, that is the first word. A single `--help`, `-help`,
 /// `-?` or `--version`, also after the name of a command, prints the help, all of it or that for the command, or the
@@ -201,7 +215,5 @@ pub fn run_program<R: Runtime<A = Global>>(rt: R) -> ExitCode {
     {
         return ExitCode::from(3);
     }
-    let mut desk = StdDesk::replacing(rt);
-    let ended = run(alloc, words.as_slice(), &mut desk, ends);
-    ExitCode::from(end_output(words.as_slice(), ended, &mut desk))
+    ExitCode::from(run_over_files(rt, alloc, words.as_slice(), ends))
 }
