@@ -15,7 +15,7 @@ use std::io::ErrorKind;
 use std::process::ExitCode;
 use std::rt::Runtime;
 
-const VERSION: &str = "jpgsuite 1.0.0\n";
+const VERSION: &str = "jpgsuite 1.1.0\n";
 
 const JPEGTRAN: &str = "\
 jpegtran [-flip horizontal | -flip vertical | -rotate 90 | -rotate 180 | -rotate 270 | -transpose | -transverse]

@@ -4,6 +4,10 @@ use Rattle.std.specs.Prelude.{flat_map}
 use Rattle.std.proofs.lemmas.Nat.{mul-le}
 use Rattle.std.proofs.lemmas.List.{take_all, append-nil, length-drop, length-take-le, get_or-take, get_or-drop}
 use Rattle.std.proofs.lemmas.Grind.{flat_map-append}
+use Rattle.std.proofs.lemmas.Simd.{length-put_chunk, put_chunk_whole}
+use Rattle.std.proofs.lemmas.Slice.{take-put_mid}
+use borrow.Rule.Slice.PartMut.{put_mid}
+use lib.Lanes.{chunk, put_chunk}
 use Rattle.jpg_spec.specs.Lists.{below}
 use Rattle.jpg_spec_image.specs.Downsampling.{in_rows}
 use Rattle.jpg_spec_encode.specs.Encoded.{samples_of_block, pixel_component}
@@ -11,6 +15,7 @@ use Rattle.jpg_spec_image.specs.declared.image.ImageKind.{ImageKind}
 use Rattle.jpg_spec_image.specs.declared.image.ImageKind.TheVariants.{Gray}
 use Rattle.jpg_color.specs.ColourRows.{numbers_of_pixel, row_component}
 use Rattle.jpg_spec.proofs.Rows.{by_items}
+use Rattle.jpg_color.proofs.PlaneRows.{put_long}
 
 abbrev pub block_row : List ℕ → ℕ → ℕ → ℕ → List ℕ
 block_row rows wide x v = map (λ u. in_rows wide rows (8 * x + u) (8 * 0 + v)) (below 8)
@@ -24,6 +29,20 @@ row_more rows samples new row wide x v e is er =
 
 pub block_done : (rows samples : List ℕ) (wide x v : ℕ) → v ≡ 8 → length samples ≡ 64 → take (8 * v) samples ≡ flat_map (block_row rows wide x) (below v) → samples ≡ samples_of_block (in_rows wide rows) x 0
 block_done rows samples wide x v ev long e = sym (take_all (8 * v) samples (omega (arith, ev, long))) ∙ e ∙ ap (λ n. flat_map (block_row rows wide x) (below n)) ev
+
+-- eight samples that are stored as a vector
+eight_stored : (mid row : List ℕ) → length mid ≡ 8 → length row ≡ 8 → put_chunk 0 mid (chunk 0 8 row) ≡ row
+eight_stored mid row lm lr = ap (put_chunk 0 mid) (take_all 8 row (omega (arith, lr))) ∙ put_chunk_whole mid row (lm ∙ sym lr)
+
+pub row_stored : (v n : ℕ) (samples row mid : List ℕ) → v < 8 → length samples ≡ 64 → length row ≡ 8 → length mid ≡ 8
+    → take (8 * v + 8) (put_mid (8 * v) n samples (put_chunk 0 mid (chunk 0 8 row))) ≡ take (8 * v) samples ++ row
+row_stored v n samples row mid lv long lr lm =
+    ap (λ r. take (8 * v + 8) (put_mid (8 * v) n samples r)) (eight_stored mid row lm lr) ∙ take-put_mid (8 * v) n samples row (8 * v + 8) (omega (arith, lr)) (omega (arith, lv, long))
+
+pub stored_long : (v n : ℕ) (samples row mid : List ℕ) → v < 8 → n ≡ 8 → length samples ≡ 64 → length mid ≡ 8
+    → length (put_mid (8 * v) n samples (put_chunk 0 mid (chunk 0 8 row))) ≡ 64
+stored_long v n samples row mid lv en long lm =
+    put_long (8 * v) n samples (put_chunk 0 mid (chunk 0 8 row)) (omega (arith, lv, en, long)) (length-put_chunk 0 mid (chunk 0 8 row) ∙ lm ∙ sym en) ∙ long
 
 -- a grayscale row is its component
 pub gray_is : (kind : ImageKind) (row : List ℕ) (i n : ℕ) → kind ≡ Gray → length row ≡ numbers_of_pixel kind * n → row ≡ row_component kind row i n

@@ -1,29 +1,23 @@
 -- The blocks of an encoded image, and what it means.
-use Rattle.std.proofs.Common.{◌≡◌, ℕ, zero, suc, ◌+◌, ◌*◌, ◌/◌, ◌==◌, ◌<◌, Bool, true, false, cond, List, [], ◌∷◌, length, map, refl, sym, ap, ◌∙◌, subst, arith, slice_index_or, ℤ}
-use Rattle.std.specs.Prelude.{flat_map}
-use Rattle.std.specs.List.{All}
+use Rattle.std.proofs.Common.{◌≡◌, ℕ, zero, suc, ◌*◌, ◌==◌, ◌<◌, Bool, true, false, cond, List, [], ◌∷◌, length, refl, sym, ap, ◌∙◌, subst, arith, slice_index_or, ℤ}
 use Rattle.std.proofs.Math.Path.{fun_ext}
 use Rattle.std.proofs.lemmas.List.{append-nil}
-use Rattle.std.proofs.lemmas.List.Elements.{All-append, All-cons, All-nil}
 use Rattle.jpg_spec.specs.Elements.{IsBlockIn}
-use Rattle.jpg_spec.specs.EncodingLaws.{AreSamples}
 use Rattle.jpg_spec.specs.FrameHeader.{IsFrame}
 use Rattle.jpg_spec.specs.Geometry.{Frame, IsReal, bounds_of, component_at, mcus_down, v_max}
-use Rattle.jpg_spec.specs.Lists.{below}
 use Rattle.jpg_spec.specs.Meaning.{PictureComponent, component_of}
 use Rattle.jpg_spec.specs.Scan.{Blocks}
 use Rattle.jpg_spec.specs.Segments.{AreQuantisers, QuantTable}
 use Rattle.jpg_spec.proofs.MovedFrames.{down_low}
 use Rattle.jpg_spec.proofs.PlacesFound.{real_in_padded}
 use Rattle.jpg_spec_encode.specs.Encoded.{component_plane, samples_of_block}
-use Rattle.jpg_spec_image.proofs.CodedBlocks.{all_at, coded_block_in}
-use Rattle.jpg_spec_image.specs.Downsampling.{in_rows}
+use Rattle.jpg_spec_image.proofs.CodedBlocks.{coded_block_in}
 use Rattle.jpg_spec_image.specs.ForwardDct.{forward_dct, quantised_block}
 use Rattle.jpg_spec_image.specs.Images.{Image}
 use Rattle.jpg_spec_image.specs.declared.image.ImageInfo.{ImageInfo}
 use Rattle.jpg_spec_write.specs.WrittenFile.{HasBlocksIn}
 use Rattle.jpg_color.specs.Encode.{blocks_due, encoded_frame, encoded_parts, encoding_request, image_of}
-use Rattle.jpg_color.specs.EncodeBlocks.{AreRows, HasPlanes, lower_plane, plane_at, row_wide}
+use Rattle.jpg_color.specs.EncodeBlocks.{HasPlanes, lower_plane, plane_at}
 use Rattle.jpg_color.specs.EncodedParts.{HasAllRows, blocks_of, row_block, table_by}
 use Rattle.jpg_color.specs.EncodeSampling.{HasGiven, HasSampled}
 use Rattle.jpg_color.specs.EncodeView.{IsEncodedView, view_blocks, view_parts}
@@ -42,15 +36,11 @@ any_default [] k d e h = absurd (omega (arith, h))
 any_default (x ∷ xs) zero d e h = refl
 any_default (x ∷ xs) (suc k) d e h = any_default xs k d e (omega (arith, h))
 
-eighth : (n w : ℕ) → n ≡ 8 * w → n / 8 ≡ w
-eighth n w e = omega (arith, e)
-
-pub block_is : (f : Frame) (p : Planes) (first others : QuantTable) (i x y : ℕ) (row : List ℕ) (table : QuantTable) (block : List ℤ) → row ≡ slice_index_or (plane_at p i) y [] → table ≡ table_by first others i
-    → AreRows f i (plane_at p i) → y < length (plane_at p i) → block ≡ row_block table (length row / 8) row x → block ≡ blocks_of f p first others i x y
+pub block_is : (p : Planes) (first others : QuantTable) (i x y : ℕ) (row : List (List ℕ)) (table : QuantTable) (block : List ℤ) → row ≡ slice_index_or (plane_at p i) y [] → table ≡ table_by first others i
+    → block ≡ row_block table row x → block ≡ blocks_of p first others i x y
 unfolding blocks_of
-block_is f p first others i x y row table block of by are there e =
-    let wide : length row / 8 ≡ row_wide f i = eighth (length row) (row_wide f i) (ap length of ∙ (are y there).long) in
-    e ∙ ap (λ w. row_block table w row x) wide ∙ ap (λ t. row_block t (row_wide f i) row x) by ∙ ap (λ r. row_block (table_by first others i) (row_wide f i) r x) of
+block_is p first others i x y row table block of by e =
+    e ∙ ap (λ t. row_block t row x) by ∙ ap (λ r. row_block (table_by first others i) r x) of
 
 -- THE ROWS of all blocks
 
@@ -64,19 +54,6 @@ all_rows {f} {made} {p} is e has i there =
 
 -- THE BOUNDS
 
-all_map : {X Y : Type 0} (P : Y → Type 0) (f : X → Y) (xs : List X) → ((x : X) → P (f x)) → All P (map f xs)
-all_map P f [] h = All-nil P
-all_map P f (x ∷ xs) h = All-cons P (f x) (map f xs) (h x) (all_map P f xs h)
-
-all_flat : {X Y : Type 0} (P : Y → Type 0) (f : X → List Y) (xs : List X) → ((x : X) → All P (f x)) → All P (flat_map f xs)
-all_flat P f [] h = All-nil P
-all_flat P f (x ∷ xs) h = All-append P (f x) (flat_map f xs) (h x) (all_flat P f xs h)
-
-cut_samples : (wide : ℕ) (row : List ℕ) (x y : ℕ) → AreSamples row → AreSamples (samples_of_block (in_rows wide row) x y)
-cut_samples wide row x y all =
-    all_flat (λ s. s < 256) (λ v. map (λ u. in_rows wide row (8 * x + u) (8 * y + v)) (below 8)) (below 8)
-    (λ v. all_map (λ s. s < 256) (λ u. in_rows wide row (8 * x + u) (8 * y + v)) (below 8) (λ u. all_at (λ s. s < 256) row _ 0 all (omega arith)))
-
 right_table : (first others : QuantTable) (i : ℕ) → AreQuantisers first → AreQuantisers others → AreQuantisers (table_by first others i)
 right_table first others i a b = by (i == 0)
   where
@@ -84,22 +61,23 @@ right_table first others i a b = by (i == 0)
     by true = a
     by false = b
 
-pub blocks_in : (f : Frame) (p : Planes) (first others : QuantTable) → f.precision ≡ 8 → AreQuantisers first → AreQuantisers others → HasAllRows f p → HasBlocksIn f (blocks_of f p first others)
+pub blocks_in : (f : Frame) (p : Planes) (first others : QuantTable) → f.precision ≡ 8 → AreQuantisers first → AreQuantisers others → HasAllRows f p → HasBlocksIn f (blocks_of p first others)
 unfolding blocks_of
 blocks_in f p first others eight a b has i x y real =
     let table = table_by first others i in
     let right = right_table first others i a b in
     let row = slice_index_or (plane_at p i) y [] in
     let rows = has i real.component in
-    let samples = samples_of_block (in_rows (row_wide f i) row) x 0 in
+    let whole = rows.1 y (omega (arith, rows.0, real.down)) in
+    let samples = slice_index_or row x [] in
     subst (λ n. IsBlockIn (bounds_of n) (quantised_block table (forward_dct samples))) (sym eight)
-    (coded_block_in table samples right.0 right.1 (cut_samples (row_wide f i) row x 0 (rows.1 y (omega (arith, rows.0, real.down))).bytes))
+    (coded_block_in table samples right.0 right.1 (whole.bytes x (omega (arith, whole.long, real.across))))
 
 -- WHAT IT MEANS
 
 -- the blocks are those of the image
 due_block : (info : ImageInfo) (a : Asked) (p : Planes) (given pending : List ℕ) (made : ℕ) → IsFrame (encoded_frame info a) → made ≡ mcus_down (encoded_frame info a) → HasGiven info a given pending p made 0
-    → (i x y : ℕ) → IsReal (encoded_frame info a) i x y → blocks_of (encoded_frame info a) p (slice_index_or a.tables 0 []) (slice_index_or a.tables 1 []) i x y ≡ blocks_due (image_of info given) a i x y
+    → (i x y : ℕ) → IsReal (encoded_frame info a) i x y → blocks_of p (slice_index_or a.tables 0 []) (slice_index_or a.tables 1 []) i x y ≡ blocks_due (image_of info given) a i x y
 unfolding blocks_of
 due_block info a p given pending made is e has i x y real =
     let f = encoded_frame info a in
@@ -114,7 +92,7 @@ due_block info a p given pending made is e has i x y real =
     let turned : c.v * made ≡ mcus_down f * c.v = ap (λ n. c.v * n) e ∙ grind arith in
     let rows = has.planes given (record { rest = []; cut = append-nil given; all = omega (arith, count) }) i real.component in
     let planes : lower_plane f image i ≡ component_plane H image i = fun_ext (λ u. fun_ext (λ v. plane_due H image i refl refl u v)) in
-    ap (λ t. quantised_block t (forward_dct (samples_of_block (in_rows (row_wide f i) (slice_index_or (plane_at p i) y [])) x 0))) table
+    ap (λ t. quantised_block t (forward_dct (slice_index_or (slice_index_or (plane_at p i) y []) x []))) table
     ∙ ap (λ s. quantised_block (component_of H i).quants (forward_dct s)) (rows.each y (omega (arith, high, turned, real.down)) x real.across ∙ ap (λ (q : ℕ → ℕ → ℕ). samples_of_block q x y) planes)
 
 -- what was assembled of the parts of a sampler that was given all samples
@@ -135,9 +113,8 @@ view_due v info a given pending made is rows first others has = record {
 
     same : (i x y : ℕ) → IsReal (encoded_frame info a) i x y → view_blocks v i x y ≡ blocks_due (image_of info given) a i x y
     same i x y real =
-        ap (λ (f : Frame). blocks_of f v.planes v.first v.others i x y) is.frame
-        ∙ ap (λ t. blocks_of (encoded_frame info a) v.planes t v.others i x y) first
-        ∙ ap (λ t. blocks_of (encoded_frame info a) v.planes (slice_index_or a.tables 0 []) t i x y) others
+        ap (λ t. blocks_of v.planes t v.others i x y) first
+        ∙ ap (λ t. blocks_of v.planes (slice_index_or a.tables 0 []) t i x y) others
         ∙ due_block info a v.planes given pending made (subst IsFrame is.frame is.checked) (rows ∙ ap mcus_down is.frame) has i x y real
 
 pub finished : (s : Sampler) (v : EncodedImage) → IsPutTogether s.info s.encoding (view_parts v) → v.planes ≡ s.planes → s.made ≡ mcus_down v.frame → s.left ≡ 0 → v.first ≡ slice_index_or s.encoding.tables 0 [] → v.others ≡ slice_index_or s.encoding.tables 1 []

@@ -1,5 +1,7 @@
 pub mod ColourRows
 pub mod PixelLanes
+pub mod BlockRows
+pub mod PlainRows
 pub mod CutBlocks
 pub mod PlaneRows
 pub mod PlaneWindows

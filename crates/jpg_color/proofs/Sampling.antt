@@ -148,7 +148,7 @@ part_of_all : (n : ℕ) (given rest samples pending : List ℕ) → n ≤ length
 part_of_all n given rest samples pending low cut is =
     ap (λ l. take (length pending) (drop n l)) (sym cut) ∙ ap (take (length pending)) (drop-append-le n given rest low ∙ ap (λ (l : List ℕ). l ++ rest) (sym is)) ∙ take-append_seam pending rest
 
-first_rows : {f : Frame} {strip image : Image} {i : ℕ} (m : ℕ) {old new : List (List ℕ)} → ((y : ℕ) (row : List ℕ) → y < (component_at f i).v → IsRowOf f strip i y row → IsRowOf f image i ((component_at f i).v * m + y) row)
+first_rows : {f : Frame} {strip image : Image} {i : ℕ} (m : ℕ) {old new : List (List (List ℕ))} → ((y : ℕ) (row : List (List ℕ)) → y < (component_at f i).v → IsRowOf f strip i y row → IsRowOf f image i ((component_at f i).v * m + y) row)
     → AreRowsOf f image i ((component_at f i).v * m) old → AppendsRows f strip i (component_at f i).v old new → AreRowsOf f image i ((component_at f i).v * (m + 1)) new
 first_rows {f} {strip} {image} {i} m {old} {new} moved are more =
     let v = (component_at f i).v in

@@ -170,7 +170,7 @@ lower_of_strip info f m i samples is x q there =
     ∙ ap (downsampled h d (full_plane (image_of info samples) i) x) (sym (made_of_strip most m v info.height q is.low is.factor is.more there))
 
 -- the blocks of a row
-pub row_of_strip : (info : ImageInfo) (f : Frame) (m i y : ℕ) (samples row : List ℕ) → IsPart info f m i → y < (component_at f i).v → IsRowOf f (strip_at info f m samples) i y row
+pub row_of_strip : (info : ImageInfo) (f : Frame) (m i y : ℕ) (samples : List ℕ) (row : List (List ℕ)) → IsPart info f m i → y < (component_at f i).v → IsRowOf f (strip_at info f m samples) i y row
     → IsRowOf f (image_of info samples) i ((component_at f i).v * m + y) row
 row_of_strip info f m i y samples row is there has x lx =
     let v = (component_at f i).v in

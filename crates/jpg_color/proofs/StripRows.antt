@@ -5,15 +5,17 @@ use Rattle.jpg_base.specs.declared.names.NoMemory.{NoMemory}
 use Rattle.std.proofs.lemmas.Bool.{cases_lt}
 use Rattle.std.proofs.lemmas.Nat.{mul-le}
 use Rattle.std.proofs.lemmas.List.{get_or_append_left, get_or-append_right, length-append}
+use Rattle.jpg_spec.specs.EncodingLaws.{AreSamples}
 use Rattle.jpg_spec.specs.Geometry.{Frame, component_at, div_up, h_max, v_max}
 use Rattle.jpg_spec_encode.specs.Encoded.{full_plane, samples_of_block}
-use Rattle.jpg_spec_image.specs.Downsampling.{downsampled, in_rows}
+use Rattle.jpg_spec_image.specs.Downsampling.{downsampled}
 use Rattle.jpg_spec_image.specs.Images.{Image}
 use Rattle.jpg_color.specs.EncodeBlocks.{AppendsRows, GrowsPlane, IsRow, IsRowOf, IsSource, lower_plane, source_image}
-use Rattle.jpg_color.specs.PlaneRows.{AreUnder, HasBlocks, HasPlaneRows, IsWindow}
+use Rattle.jpg_color.specs.PlaneRows.{AreUnder, HasBlocks, HasPlaneRows, IsWindow, cut_in_blocks}
 use Rattle.jpg_color.specs.declared.encode.rows.ImagePlane.{ImagePlane}
 use Rattle.jpg_color.specs.declared.encode.rows.Window.{Window}
 use Rattle.jpg_color.specs.declared.encode.strips.Source.{Source}
+use Rattle.jpg_color.proofs.BlockRows.{cut_at, cut_bytes, cut_long}
 
 -- SOURCES
 
@@ -27,10 +29,14 @@ source_rows f image i across down made a d m =
     let v : ℕ = v_max f / (component_at f i).v in
     ap (λ k. plane_by image i k down made) a ∙ ap (λ k. plane_by image i h k made) d ∙ ap (λ k. plane_by image i h v k) m
 
--- the eight rows that were made are those of the component
-pub row_made : {f : Frame} {i : ℕ} {s : Source} (y : ℕ) (row : List ℕ) → IsSource f i s → HasBlocks s.plane s.made s.wide y row → IsRowOf f (source_image s) i y row
-row_made {f} {i} {s} y row is has x lx =
-    ap (λ w. samples_of_block (in_rows w row) x 0) (sym is.wide) ∙ has x (omega (arith, is.wide, lx)) ∙ ap (λ p. samples_of_block p x y) is.rows
+-- the blocks of the eight rows that were made are those of the component
+pub row_made : {f : Frame} {i : ℕ} {s : Source} (y : ℕ) (rows : List ℕ) → IsSource f i s → HasBlocks s.plane s.made s.wide y rows → IsRowOf f (source_image s) i y (cut_in_blocks s.wide rows)
+row_made {f} {i} {s} y rows is has x lx =
+    cut_at s.wide rows x (omega (arith, is.wide, lx)) ∙ has x (omega (arith, is.wide, lx)) ∙ ap (λ p. samples_of_block p x y) is.rows
+
+pub row_whole : {f : Frame} {i : ℕ} {s : Source} (rows : List ℕ) → IsSource f i s → AreSamples rows → IsRow f i (cut_in_blocks s.wide rows)
+row_whole {f} {i} {s} rows is all =
+    record { long = cut_long s.wide rows ∙ omega (arith, is.wide); bytes = λ x lx. cut_bytes s.wide rows x all lx }
 
 -- the rows for the eight rows are among those of the strip
 pub all_under : {f : Frame} {i : ℕ} {s : Source} (w : Window) (y : ℕ) → IsSource f i s → w.lines ≡ 8 * v_max f → w.at ≡ 0 → y < s.count → AreUnder s.plane w s.made y
@@ -44,10 +50,10 @@ all_under {f} {i} {s} w y is lines at there =
 
 -- APPENDED
 
-pub appends_none : (f : Frame) (strip : Image) (i : ℕ) (old : List (List ℕ)) → AppendsRows f strip i 0 old old
+pub appends_none : (f : Frame) (strip : Image) (i : ℕ) (old : List (List (List ℕ))) → AppendsRows f strip i 0 old old
 appends_none f strip i old = record { long = omega arith; same = λ y h. refl; each = λ y h. absurd (omega (arith, h)) }
 
-pub appends_more : {f : Frame} {strip : Image} {i y : ℕ} {old mid new : List (List ℕ)} (row : List ℕ) → AppendsRows f strip i y old mid → IsRowOf f strip i y row → new ≡ mid ++ row ∷ [] → AppendsRows f strip i (y + 1) old new
+pub appends_more : {f : Frame} {strip : Image} {i y : ℕ} {old mid new : List (List (List ℕ))} (row : List (List ℕ)) → AppendsRows f strip i y old mid → IsRowOf f strip i y row → new ≡ mid ++ row ∷ [] → AppendsRows f strip i (y + 1) old new
 appends_more {f} {strip} {i} {y} {old} {mid} {new} row has is e =
     let one : length new ≡ length mid + 1 = ap length e ∙ length-append mid (row ∷ []) in
     let before : (k : ℕ) → k < length mid → slice_index_or new k [] ≡ slice_index_or mid k [] = λ k lk. ap (λ rows. slice_index_or rows k []) e ∙ get_or_append_left mid (row ∷ []) [] k lk in
@@ -66,10 +72,10 @@ appends_more {f} {strip} {i} {y} {old} {mid} {new} row has is e =
           (cases_lt k y));
     }
 
-pub grows_none : (f : Frame) (i : ℕ) (old : List (List ℕ)) → GrowsPlane f i old old
+pub grows_none : (f : Frame) (i : ℕ) (old : List (List (List ℕ))) → GrowsPlane f i old old
 grows_none f i old = record { rows = λ are. are; more = omega arith }
 
-pub grows_more : {f : Frame} {i : ℕ} {old mid new : List (List ℕ)} (row : List ℕ) → GrowsPlane f i old mid → IsRow f i row → new ≡ mid ++ row ∷ [] → GrowsPlane f i old new
+pub grows_more : {f : Frame} {i : ℕ} {old mid new : List (List (List ℕ))} (row : List (List ℕ)) → GrowsPlane f i old mid → IsRow f i row → new ≡ mid ++ row ∷ [] → GrowsPlane f i old new
 grows_more {f} {i} {old} {mid} {new} row has is e =
     let one : length new ≡ length mid + 1 = ap length e ∙ length-append mid (row ∷ []) in
     record {
@@ -97,14 +103,14 @@ first_window p w image i lines same component high few at long has = record {
 
 -- ALL COMPONENTS
 
-pub by_planes : (P : ℕ → List (List ℕ) → List (List ℕ) → Type 0) (a b c d e f : List (List ℕ)) (i : ℕ) → i < 3 → P 0 a d → P 1 b e → P 2 c f
+pub by_planes : (P : ℕ → List (List (List ℕ)) → List (List (List ℕ)) → Type 0) (a b c d e f : List (List (List ℕ))) (i : ℕ) → i < 3 → P 0 a d → P 1 b e → P 2 c f
     → P i (if i == 0 then a else if i == 1 then b else c) (if i == 0 then d else if i == 1 then e else f)
 by_planes P a b c d e f zero h p q r = p
 by_planes P a b c d e f (suc zero) h p q r = q
 by_planes P a b c d e f (suc (suc zero)) h p q r = r
 by_planes P a b c d e f (suc (suc (suc i))) h p q r = absurd (omega (arith, h))
 
-pub only_first : (P : ℕ → List (List ℕ) → List (List ℕ) → Type 0) (a b c d e f : List (List ℕ)) (i : ℕ) → i < 1 → P 0 a d
+pub only_first : (P : ℕ → List (List (List ℕ)) → List (List (List ℕ)) → Type 0) (a b c d e f : List (List (List ℕ))) (i : ℕ) → i < 1 → P 0 a d
     → P i (if i == 0 then a else if i == 1 then b else c) (if i == 0 then d else if i == 1 then e else f)
 only_first P a b c d e f zero h p = p
 only_first P a b c d e f (suc i) h p = absurd (omega (arith, h))

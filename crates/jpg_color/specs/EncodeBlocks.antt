@@ -3,7 +3,7 @@ use Rattle.std.specs.Prelude.{◌≡◌, ℕ, ◌*◌, ◌+◌, ◌-◌, ◌/◌
 use Rattle.jpg_spec.specs.EncodingLaws.{AreSamples}
 use Rattle.jpg_spec.specs.Geometry.{Frame, blocks_across, component_at, div_up, h_max, v_max}
 use Rattle.jpg_spec_encode.specs.Encoded.{full_plane, samples_of_block}
-use Rattle.jpg_spec_image.specs.Downsampling.{downsampled, in_rows}
+use Rattle.jpg_spec_image.specs.Downsampling.{downsampled}
 use Rattle.jpg_spec_image.specs.Images.{Image}
 use Rattle.jpg_color.specs.PlaneRows.{HasPlaneRows, HasSamples, IsImagePlane, lower_row}
 use Rattle.jpg_spec_image.specs.declared.image.ImageKind.TheVariants.{Rgb}
@@ -15,20 +15,20 @@ use Rattle.jpg_color.specs.declared.encode.strips.Windows.{Windows}
 -- PLANES
 
 -- the rows of blocks of component i
-abbrev pub plane_at : Planes → ℕ → List (List ℕ)
+abbrev pub plane_at : Planes → ℕ → List (List (List ℕ))
 plane_at p i = if i == 0 then p.ys.items else if i == 1 then p.cbs.items else p.crs.items
 
 -- how many samples a row of component i has, in whole blocks
 abbrev pub row_wide : Frame → ℕ → ℕ
 row_wide f i = 8 * blocks_across f (component_at f i)
 
--- eight rows of bytes, one after another
-pub record IsRow (f : Frame) (i : ℕ) (row : List ℕ) : Type 0 where
-  pub long : length row ≡ 8 * row_wide f i
-  pub bytes : AreSamples row
+-- all blocks of a row, of bytes
+pub record IsRow (f : Frame) (i : ℕ) (row : List (List ℕ)) : Type 0 where
+  pub long : length row ≡ blocks_across f (component_at f i)
+  pub bytes : (x : ℕ) → x < length row → AreSamples (slice_index_or row x [])
 
 -- only such rows
-abbrev pub AreRows : Frame → ℕ → List (List ℕ) → Type 0
+abbrev pub AreRows : Frame → ℕ → List (List (List ℕ)) → Type 0
 AreRows f i rows = (y : ℕ) → y < length rows → IsRow f i (slice_index_or rows y [])
 
 -- in each component, and there are those of m rows of MCUs
@@ -45,12 +45,12 @@ lower_plane f image i x y =
     downsampled (h_max f / c.h) (v_max f / c.v) (full_plane image i) x (min y (div_up image.info.height (v_max f) * c.v - 1))
 
 -- the blocks of a row are those of row y
-abbrev pub IsRowOf : Frame → Image → ℕ → ℕ → List ℕ → Type 0
+abbrev pub IsRowOf : Frame → Image → ℕ → ℕ → List (List ℕ) → Type 0
 IsRowOf f image i y row =
-    (x : ℕ) → x < blocks_across f (component_at f i) → samples_of_block (in_rows (row_wide f i) row) x 0 ≡ samples_of_block (lower_plane f image i) x y
+    (x : ℕ) → x < blocks_across f (component_at f i) → slice_index_or row x [] ≡ samples_of_block (lower_plane f image i) x y
 
 -- the rows of component i are the first ones, this many
-pub record AreRowsOf (f : Frame) (image : Image) (i count : ℕ) (rows : List (List ℕ)) : Type 0 where
+pub record AreRowsOf (f : Frame) (image : Image) (i count : ℕ) (rows : List (List (List ℕ))) : Type 0 where
   pub long : length rows ≡ count
   pub each : (y : ℕ) → y < count → IsRowOf f image i y (slice_index_or rows y [])
 
@@ -74,20 +74,20 @@ pub record IsStrip (s : Strip) : Type 0 where
   pub whole : (i : ℕ) → i < length s.frame.now.components → v_max s.frame.now / (component_at s.frame.now i).v * (component_at s.frame.now i).v ≡ v_max s.frame.now
 
 -- the rows of blocks of component i of a strip are appended to its plane
-pub record AppendsRows (f : Frame) (strip : Image) (i count : ℕ) (old new : List (List ℕ)) : Type 0 where
+pub record AppendsRows (f : Frame) (strip : Image) (i count : ℕ) (old new : List (List (List ℕ))) : Type 0 where
   pub long : length new ≡ length old + count
   pub same : (y : ℕ) → y < length old → slice_index_or new y [] ≡ slice_index_or old y []
   pub each : (y : ℕ) → y < count → IsRowOf f strip i y (slice_index_or new (length old + y) [])
 
 -- all of them, and those of all components
-abbrev pub AppendsAll : Frame → Image → ℕ → List (List ℕ) → List (List ℕ) → Type 0
+abbrev pub AppendsAll : Frame → Image → ℕ → List (List (List ℕ)) → List (List (List ℕ)) → Type 0
 AppendsAll f strip i = AppendsRows f strip i (component_at f i).v
 
 abbrev pub AppendsStrip : Frame → Image → Planes → Planes → Type 0
 AppendsStrip f strip old new = (i : ℕ) → i < length f.components → AppendsAll f strip i (plane_at old i) (plane_at new i)
 
 -- whatever is appended, it is rows of blocks
-pub record GrowsPlane (f : Frame) (i : ℕ) (old new : List (List ℕ)) : Type 0 where
+pub record GrowsPlane (f : Frame) (i : ℕ) (old new : List (List (List ℕ))) : Type 0 where
   pub rows : AreRows f i old → AreRows f i new
   pub more : length old ≤ length new
 
@@ -109,7 +109,14 @@ pub record IsSource (f : Frame) (i : ℕ) (s : Source) : Type 0 where
   pub wide : s.wide ≡ row_wide f i
   pub few : 8 * s.wide ≤ 1000000
   pub count : s.count ≡ (component_at f i).v
+  pub made : s.made ≡ div_up s.plane.info.now.height (v_max f) * (component_at f i).v
   pub rows : lower_row s.plane s.made ≡ lower_plane f (source_image s) i
+
+-- no samples are averaged, and none are repeated to make blocks whole
+pub record IsPlain (s : Source) : Type 0 where
+  pub across : s.plane.ratio.across ≡ 1
+  pub down : s.plane.ratio.down ≡ 1
+  pub wide : s.wide ≡ s.plane.info.now.width
 
 -- WINDOWS
 

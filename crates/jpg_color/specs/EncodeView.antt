@@ -11,7 +11,7 @@ use Rattle.jpg_color.specs.declared.encode.Encoding.{Encoding as Asked}
 use Rattle.jpg_color.specs.declared.encode.view.EncodedImage.{EncodedImage}
 
 abbrev pub view_blocks : EncodedImage → Blocks
-view_blocks v = blocks_of v.frame v.planes v.first v.others
+view_blocks v = blocks_of v.planes v.first v.others
 
 abbrev pub view_parts : EncodedImage → ViewParts
 view_parts v = record { frame = v.frame; colour = v.colour; quants = v.quants.items; blocks = view_blocks v; kept = v.kept; jfif = v.jfif }

@@ -11,12 +11,10 @@ use Rattle.jpg_spec.specs.Scan.{Blocks}
 use Rattle.jpg_spec.specs.Segments.{QuantTable}
 use Rattle.jpg_spec.specs.declared.frame.Colour.{Colour}
 use Rattle.jpg_spec.specs.declared.jfif.Jfif.{Jfif}
-use Rattle.jpg_spec_encode.specs.Encoded.{samples_of_block}
-use Rattle.jpg_spec_image.specs.Downsampling.{in_rows}
 use Rattle.jpg_spec_image.specs.ForwardDct.{forward_dct, quantised_block}
 use Rattle.jpg_spec_write.specs.WrittenFile.{HasBlocksIn}
 use Rattle.jpg_file.specs.Read.PictureKept.{IsQuantTable, component_told}
-use Rattle.jpg_color.specs.EncodeBlocks.{AreRows, plane_at, row_wide}
+use Rattle.jpg_color.specs.EncodeBlocks.{AreRows, plane_at}
 use Rattle.jpg_color.specs.declared.encode.strips.Planes.{Planes}
 
 -- THE BLOCKS, of planes and two tables of quantisers
@@ -24,13 +22,12 @@ use Rattle.jpg_color.specs.declared.encode.strips.Planes.{Planes}
 abbrev pub table_by : QuantTable → QuantTable → ℕ → QuantTable
 table_by first others i = if i == 0 then first else others
 
--- block x of a row of blocks, whose lines are this wide
-abbrev pub row_block : QuantTable → ℕ → List ℕ → ℕ → List ℤ
-row_block table wide row x = quantised_block table (forward_dct (samples_of_block (in_rows wide row) x 0))
+-- block x of a row of blocks
+abbrev pub row_block : QuantTable → List (List ℕ) → ℕ → List ℤ
+row_block table row x = quantised_block table (forward_dct (slice_index_or row x []))
 
-unfoldable pub blocks_of : Frame → Planes → QuantTable → QuantTable → Blocks
-blocks_of f p first others i x y =
-    row_block (table_by first others i) (row_wide f i) (slice_index_or (plane_at p i) y []) x
+unfoldable pub blocks_of : Planes → QuantTable → QuantTable → Blocks
+blocks_of p first others i x y = row_block (table_by first others i) (slice_index_or (plane_at p i) y []) x
 
 -- all rows of blocks of the real grids are there
 abbrev pub HasAllRows : Frame → Planes → Type 0

@@ -1,5 +1,5 @@
 -- Rows of an image, and the plane of a component.
-use Rattle.std.specs.Prelude.{◌≡◌, ℕ, ◌*◌, ◌+◌, ◌≤◌, ◌<◌, ◌-◌, min, List, length, map, take, drop, slice_index}
+use Rattle.std.specs.Prelude.{◌≡◌, ℕ, ◌*◌, ◌+◌, ◌≤◌, ◌<◌, ◌-◌, ◌/◌, min, List, length, map, take, drop, slice_index}
 use Rattle.jpg_spec.specs.Lists.{below}
 use Rattle.jpg_spec_image.specs.Downsampling.{downsampled, in_rows}
 use Rattle.jpg_spec_encode.specs.Encoded.{full_plane, samples_of_block}
@@ -56,6 +56,10 @@ downsampled_row p y count = map (λ x. narrow_plane p x y) (below count)
 -- the rows from row 8 * y on, as blocks
 abbrev pub HasBlocks : ImagePlane → ℕ → ℕ → ℕ → List ℕ → Type 0
 HasBlocks p made wide y rows = (x : ℕ) → 8 * x + 8 ≤ wide → samples_of_block (in_rows wide rows) x 0 ≡ samples_of_block (lower_row p made) x y
+
+-- the blocks of eight rows of samples, from the left
+unfoldable pub cut_in_blocks : ℕ → List ℕ → List (List ℕ)
+cut_in_blocks wide rows = map (λ x. samples_of_block (in_rows wide rows) x 0) (below (wide / 8))
 
 -- WINDOWS of the rows of the plane's component
 

@@ -5,6 +5,7 @@ ghost use Rattle.jpg_color.specs.EncodeAnswer.{IsEncoded, IsEncodedAs};
 ghost use Rattle.jpg_color.specs.EncodeSampling.{HasSampled, samples_left};
 ghost use Rattle.jpg_color.specs.declared.encode.Encoding.{Encoding as Asked};
 
+pub mod block_row;
 pub mod filling;
 pub mod head;
 pub mod lanes;

@@ -4,7 +4,7 @@ use Rattle.std.proofs.lemmas.Bool.{cases_eq}
 use Rattle.std.proofs.lemmas.Bool.Decides.{nat_tests}
 use Rattle.jpg_spec.specs.Bits.{stuffed_byte}
 
-stuffed_other : (byte : ℕ) → byte ≢ 255 → stuffed_byte byte ≡ byte ∷ []
+pub stuffed_other : (byte : ℕ) → byte ≢ 255 → stuffed_byte byte ≡ byte ∷ []
 stuffed_other byte n = grind (arith, nat_tests)
 
 pub length-stuffed_byte : (byte : ℕ) → length (stuffed_byte byte) ≤ 2

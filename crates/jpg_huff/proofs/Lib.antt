@@ -19,3 +19,4 @@ pub mod Sets
 pub mod Steps
 pub mod Tables
 pub mod Together
+mod Words

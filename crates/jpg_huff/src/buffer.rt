@@ -1,10 +1,12 @@
 //! The buffer of bytes that wait to be written.
-ghost use Rattle.std.specs.Prelude.{◌≡◌, ◌≤◌, ◌<◌, ◌+◌, [], ◌∷◌, ◌++◌, length, true};
+ghost use Rattle.std.specs.Prelude.{◌≡◌, ◌≤◌, ◌<◌, ◌+◌, [], ◌∷◌, ◌++◌, length, false, true};
 ghost use Rattle.jpg_spec.specs.Bits.{bits_of, stuffed, stuffed_byte, whole_bytes};
 ghost use Rattle.jpg_huff.specs.Out.{Emits, OnlyWrites};
 
 use jpg_base::{Desk, Put, WriteFault};
 use std::marker::Model;
+use std::simd::cmp::SimdPartialEq;
+use std::simd::u8x8;
 
 #[derive(Drop)]
 pub(crate) struct Buffer {
@@ -20,6 +22,17 @@ impl Model for Buffer {
     ghost view = { λ b. take b.used b.bytes };
 
     ghost invariant = { λ b. b.used ≤ 4096 };
+}
+
+// Whether one of the bytes is FF.
+#[inline(always)]
+fn has_ff(bytes: &[u8; 8]) -> bool
+    ensures { result ≡ false → stuffed bytes.now ≡ bytes.now }
+{
+    u8x8::from_array(*bytes)
+        .simd_eq(u8x8::splat(255))
+        .to_bitmask()
+        != 0
 }
 
 impl Buffer {
@@ -87,67 +100,38 @@ impl Buffer {
         }
     }
 
-    // Adds four bytes as they are.
+    // Adds the 64 bits of a word as stuffed bytes, where there is room.
     #[inline(always)]
-    fn add_four(&mut self, a: u8, b: u8, c: u8, d: u8)
-        requires { length self.old + 4 ≤ 4096 }
-        ensures { self.new ≡ self.old ++ a ∷ b ∷ c ∷ d ∷ [] }
+    fn add_word(&mut self, word: u64)
+        requires { length self.old + 16 ≤ 4096 }
+        ensures { self.new ≡ self.old ++ stuffed (whole_bytes (bits_of 64 word)) }
     {
-        let used = self.used;
-        self.bytes[used] = a;
-        self.bytes[used + 1] = b;
-        self.bytes[used + 2] = c;
-        self.bytes[used + 3] = d;
-        self.used = used + 4;
-    }
-
-    // Adds four bytes, and 00 after each FF, of which there are few.
-    #[cold]
-    #[inline(never)]
-    fn add_four_stuffed(&mut self, a: u8, b: u8, c: u8, d: u8)
-        requires { length self.old + 8 ≤ 4096 }
-        ensures { self.new ≡ self.old ++ stuffed (a ∷ b ∷ c ∷ d ∷ []) }
-    {
-        self.add_stuffed(a);
-        self.add_stuffed(b);
-        self.add_stuffed(c);
-        self.add_stuffed(d);
-    }
-
-    // Adds four bytes, and 00 after each FF.
-    #[inline(always)]
-    fn add_word(&mut self, a: u8, b: u8, c: u8, d: u8)
-        requires { length self.old + 8 ≤ 4096 }
-        ensures { self.new ≡ self.old ++ stuffed (a ∷ b ∷ c ∷ d ∷ []) }
-    {
-        if a != 255 && b != 255 && c != 255 && d != 255 {
-            self.add_four(a, b, c, d);
+        let bytes = word.to_be_bytes();
+        if has_ff(&bytes) {
+            self.add_bits(word, 64);
         } else {
-            self.add_four_stuffed(a, b, c, d);
+            self.add_piece(&bytes);
         }
     }
 
-    // Adds the low 32 bits of a word as stuffed bytes.
+    // Adds the 64 bits of a word as stuffed bytes.
     #[inline(always)]
     pub(crate) fn push_word<D: Desk>(&mut self, word: u64, desk: &mut D) -> Result<(), WriteFault>
         requires { (D.state desk.old).output_created ≡ true }
         ensures kept { OnlyWrites (D.state desk.old) (D.state desk.new) }
-        ensures emits { Emits (D.state desk.old) self.old (stuffed (whole_bytes (bits_of 32 word))) result self.new (D.state desk.new) }
+        ensures emits { Emits (D.state desk.old) self.old (stuffed (whole_bytes (bits_of 64 word))) result self.new (D.state desk.new) }
     {
-        self.make_room(8, desk)?;
-        let low = (word % (1 << 32)) as u32;
-        let a = ((low >> 24) % 256) as u8;
-        let b = ((low >> 16) % 256) as u8;
-        let c = ((low >> 8) % 256) as u8;
-        let d = (low % 256) as u8;
-        self.add_word(a, b, c, d);
+        self.make_room(16, desk)?;
+        self.add_word(word);
         Ok(())
     }
 
     // Adds the complete bytes of the low `count` bits, stuffed, where there is room.
+    #[cold]
+    #[inline(never)]
     fn add_bits(&mut self, word: u64, count: u8)
-        requires count { count ≤ 32 }
-        requires room { length self.old + 8 ≤ 4096 }
+        requires count { count ≤ 64 }
+        requires room { length self.old + 16 ≤ 4096 }
         ensures { self.new ≡ self.old ++ stuffed (whole_bytes (bits_of count word)) }
     {
         let mut left = count;
@@ -165,16 +149,17 @@ impl Buffer {
         desk: &mut D,
     ) -> Result<(), WriteFault>
         requires created { (D.state desk.old).output_created ≡ true }
-        requires count { count ≤ 32 }
+        requires count { count ≤ 64 }
         ensures kept { OnlyWrites (D.state desk.old) (D.state desk.new) }
         ensures emits { Emits (D.state desk.old) self.old (stuffed (whole_bytes (bits_of count word))) result self.new (D.state desk.new) }
     {
-        self.make_room(8, desk)?;
+        self.make_room(16, desk)?;
         self.add_bits(word, count);
         Ok(())
     }
 
     // Adds bytes, where there is room.
+    #[inline(always)]
     fn add_piece(&mut self, piece: &[u8])
         requires { length self.old + length piece.now ≤ 4096 }
         ensures { self.new ≡ self.old ++ piece.now }

@@ -63,28 +63,17 @@ fn value_entry(table: &Table, run: u8, value: i32) -> u32
     32 * joined(code, extra_bits(value), size) + u32::from(code.length + size)
 }
 
-// The entries of all values.
-fn value_entries(table: &Table) -> [u32; 1024]
-    ensures { AreValueEntries (symbol_codes table.now) result }
+// Makes the entries of all values where they stay.
+#[inline(never)]
+fn fill_values(values: &mut [u32; 1024], table: &Table)
+    ensures { AreValueEntries (symbol_codes table.now) values.new }
 {
-    let mut values = [0; 1024];
     for i in 0..1024usize {
         values[i] = value_entry(table, (i / 64) as u8, lowered(i % 64));
     }
-    values
 }
 
 impl Encoder {
-    /// The encoder of this table's codes.
-    pub fn new(table: &Table) -> Encoder
-        ensures { result ≡ symbol_codes table.now }
-    {
-        Encoder {
-            table: table.copy(),
-            values: value_entries(table),
-        }
-    }
-
     /// What is written for a symbol: its first code, or no bits where there is none.
     #[inline(always)]
     pub fn code(&self, symbol: u8) -> Code
@@ -108,16 +97,23 @@ impl Encoder {
     }
 }
 
-// Puts the encoder of a table into a place, if there is one.
+// Puts the encoder of a table into a place, if there is one. It is copied once on the way.
 #[cold]
 #[inline(never)]
 fn put_encoder(place: &mut Option<Encoder>, table: Option<&Table>)
     ensures { place.new ≡ option_map symbol_codes (option_map (λ t. t.now) table.entry) }
 {
-    *place = match table {
-        Some(table) => Some(Encoder::new(table)),
-        None => None,
-    };
+    match table {
+        Some(table) => {
+            let mut encoder = Encoder {
+                table: table.copy(),
+                values: [0; 1024],
+            };
+            fill_values(&mut encoder.values, table);
+            *place = Some(encoder);
+        }
+        None => *place = None,
+    }
 }
 
 // Puts the encoders of the AC tables of a set into places.

@@ -1,5 +1,5 @@
 //! Bits written as stuffed bytes.
-ghost use Rattle.std.specs.Prelude.{◌≡◌, ◌≤◌, ◌<◌, ◌+◌, ◌^◌, [], ◌++◌, true};
+ghost use Rattle.std.specs.Prelude.{◌≡◌, ◌≤◌, ◌<◌, ◌+◌, ◌-◌, ◌^◌, [], ◌++◌, true};
 ghost use Rattle.jpg_spec.specs.Bits.{bits_of};
 ghost use Rattle.jpg_huff.specs.BitOut.{CanSend, Puts, PutsAfter, PutsInto, Pads, Sends, nothing_waits, waiting, holding};
 
@@ -8,7 +8,7 @@ use crate::buffer::Buffer;
 use jpg_base::{Desk, WriteFault};
 use std::marker::Model;
 
-/// Fewer than 32 bits that wait, kept by the caller of `put_after` and `put_code_after`.
+/// Fewer than 64 bits that wait, kept by the caller of `put_after` and `put_code_after`.
 #[derive(Drop)]
 pub struct PendingBits {
     word: u64,
@@ -23,7 +23,20 @@ impl Model for PendingBits {
 
     ghost view = { λ h. bits_of h.count h.word };
 
-    ghost invariant = { λ h. (h.count < 32) × (h.word < 2 ^ h.count) };
+    ghost invariant = { λ h. (h.count < 64) × (h.word < 2 ^ h.count) };
+}
+
+// A number of `held` bits, followed by the first of `count` bits, so that they are 64 in all.
+#[inline(always)]
+fn filled(word: u64, held: u8, bits: u32, count: u8) -> u64
+    requires held { held < 64 }
+    requires word { word < 2 ^ held }
+    requires count { (count ≤ 32) × (64 ≤ held + count) }
+    requires bits { bits < 2 ^ count }
+    ensures { bits_of 64 result ++ bits_of (held + count - 64) bits ≡ bits_of held word ++ bits_of count bits }
+{
+    let left = held + count - 64;
+    (word << (count - left)) + (u64::from(bits) >> left)
 }
 
 impl PendingBits {
@@ -61,17 +74,17 @@ impl PendingBits {
         ensures { PutsInto (D.state desk.old) buffer.old self (bits_of count bits) result buffer.new (D.state desk.new) }
     {
         let total = self.count + count;
-        let all = (self.word << count) + u64::from(bits);
-        if total < 32 {
+        if total < 64 {
             Ok(PendingBits {
-                word: all,
+                word: (self.word << count) + u64::from(bits),
                 count: total,
             })
         } else {
-            let left = total - 32;
-            match buffer.push_word(all >> left, desk) {
+            let left = total - 64;
+            let word = filled(self.word, self.count, bits, count);
+            match buffer.push_word(word, desk) {
                 Ok(()) => Ok(PendingBits {
-                    word: all % (1 << left),
+                    word: u64::from(bits) % (1 << left),
                     count: left,
                 }),
                 Err(fault) => Err(fault),
@@ -90,7 +103,7 @@ impl PendingBits {
     }
 }
 
-/// Bits and bytes that wait to be written: at most 4,096 bytes, followed by fewer than 32 bits.
+/// Bits and bytes that wait to be written: at most 4,096 bytes, followed by fewer than 64 bits.
 #[derive(Drop)]
 pub struct BitOut {
     buffer: Buffer,

@@ -30,6 +30,8 @@ impl Model for Codes {
 
 impl Codes {
     /// The codes of this table.
+    #[cold]
+    #[inline(never)]
     pub fn new(table: &Table) -> Codes
         ensures { result ≡ symbol_codes table.now }
     {

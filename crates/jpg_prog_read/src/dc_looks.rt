@@ -12,15 +12,15 @@ pub struct DcLooks {
     each: [Option<Codes>; 4],
 }
 
-// The codes of the DC table in a slot, if any.
+// Puts the codes of the DC table in a slot into a place, if there are any.
 #[cold]
 #[inline(never)]
-fn codes_of(tables: &TableSet, slot: u8) -> Option<Codes>
-    ensures { IsOfSlot tables.now slot result }
+fn put_codes(place: &mut Option<Codes>, tables: &TableSet, slot: u8)
+    ensures { IsOfSlot tables.now slot place.new }
 {
     match tables.dc(slot) {
-        Some(table) => Some(Codes::new(table)),
-        None => None,
+        Some(table) => *place = Some(Codes::new(table)),
+        None => *place = None,
     }
 }
 
@@ -41,7 +41,7 @@ impl DcLooks {
         ensures { AreDcLookedUp tables.now self.new }
     {
         for slot in 0..4u8 {
-            self.each[slot as usize] = codes_of(tables, slot);
+            put_codes(&mut self.each[slot as usize], tables, slot);
         }
     }
 

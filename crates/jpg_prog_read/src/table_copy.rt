@@ -5,6 +5,8 @@ ghost use Rattle.jpg_huff.specs.Tables.{symbol_codes};
 use jpg_huff::Table;
 
 /// A table with the same codes.
+#[cold]
+#[inline(never)]
 pub fn copy_of(table: &Table) -> Table
     ensures { symbol_codes result ≡ symbol_codes table.now }
 {

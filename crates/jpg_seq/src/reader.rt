@@ -16,7 +16,7 @@ ghost use Rattle.jpg_seq.specs.RowTaken.{CanReadRow, PassesPlaces, TakesBytesInR
 ghost use Rattle.jpg_seq.specs.Reader.{CanRead, ReadsOn, SeqStands, behind, with_work, sequential};
 
 use crate::source::Source;
-use crate::values::ValueDecoder;
+use crate::values::{ValueDecoder, fill, nothing};
 use crate::work::{Coder, UnitProgress, UnitWork};
 use jpg_base::{BitStore, Bounds, Cursor, Frame, Place, ScanHead, ScanPart};
 use jpg_coefs::{Coefs, ScanMachine, Taken, UnitFault, UnitStep};
@@ -34,7 +34,8 @@ pub struct SeqReader {
     left: u64,
 }
 
-// Puts the decoders of a part's tables into a place.
+// Puts the decoders of a part's tables into a place. They take some kilobytes, so the values by ten bits are filled in
+// there.
 #[cold]
 #[inline(never)]
 fn put_coder(place: &mut Option<Coder>, part: &ScanPart, tables: &TableSet)
@@ -44,9 +45,14 @@ fn put_coder(place: &mut Option<Coder>, part: &ScanPart, tables: &TableSet)
     let (Some(dc), Some(ac)) = (tables.dc(part.dc), tables.ac(part.ac)) else {
         unreachable!();
     };
+    let mut ac = ValueDecoder {
+        decoder: Decoder::new(ac),
+        told: [nothing(); 1024],
+    };
+    fill(&ac.decoder, &mut ac.told);
     *place = Some(Coder {
         dc: Decoder::new(dc),
-        ac: ValueDecoder::new(ac),
+        ac,
     });
 }
 

@@ -4,11 +4,10 @@ ghost use Rattle.jpg_spec.specs.Bits.{bits_of};
 ghost use Rattle.jpg_spec.specs.Codes.{Code};
 ghost use Rattle.jpg_huff.specs.Laws.{AreApart};
 ghost use Rattle.jpg_huff.specs.Look.{Spots};
-ghost use Rattle.jpg_huff.specs.Tables.{symbol_codes};
 ghost use Rattle.jpg_seq.specs.Values.{AreTold, TellsShortValue, TellsOrNone, told_end};
 
 use jpg_base::BitStore;
-use jpg_huff::{Decoder, Spotted, Table, extend};
+use jpg_huff::{Decoder, Spotted, extend};
 use std::marker::Model;
 
 /// The run of an entry that is the end of a block: more than any other has.
@@ -26,8 +25,9 @@ pub struct ShortValue {
 /// The codes of an AC table, and the values by the next ten bits.
 #[derive(Drop)]
 pub struct ValueDecoder {
-    decoder: Decoder,
-    told: [ShortValue; 1024],
+    pub(crate) decoder: Decoder,
+    // filled in by `fill`
+    pub(crate) told: [ShortValue; 1024],
 }
 
 impl Model for ValueDecoder {
@@ -54,8 +54,8 @@ fn ten_bits(ten: u16) -> BitStore
     bits
 }
 
-// No value.
-fn nothing() -> ShortValue
+/// No value.
+pub(crate) fn nothing() -> ShortValue
     ensures { result.length ≡ 0 }
 {
     ShortValue {
@@ -103,21 +103,18 @@ fn told_by(codes: &Decoder, ten: u16) -> ShortValue
     }
 }
 
-impl ValueDecoder {
-    /// The decoder of this table's codes.
-    #[cold]
-    #[inline(never)]
-    pub fn new(table: &Table) -> ValueDecoder
-        ensures { result ≡ symbol_codes table.now }
-    {
-        let decoder = Decoder::new(table);
-        let mut told = [nothing(); 1024];
-        for ten in 0..1024usize {
-            told[ten] = told_by(&decoder, ten as u16);
-        }
-        ValueDecoder { decoder, told }
+/// Fills in the values of a decoder by the next ten bits, in their place.
+#[cold]
+#[inline(never)]
+pub(crate) fn fill(decoder: &Decoder, told: &mut [ShortValue; 1024])
+    ensures { AreTold decoder.now told.new }
+{
+    for ten in 0..1024usize {
+        told[ten] = told_by(decoder, ten as u16);
     }
+}
 
+impl ValueDecoder {
     /// States, for proofs, that no code is a prefix of another, and none is empty. It does nothing.
     pub fn apart(&self)
         ensures one { AreApart self.now }

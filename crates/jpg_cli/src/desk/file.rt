@@ -27,7 +27,7 @@ pub enum Taken {
 fn read_piece<D: Desk>(
     desk: &mut D,
     most: usize,
-    buffer: &mut [u8; 65536],
+    buffer: &mut [u8; 16384],
     bytes: &mut Bytes,
 ) -> Piece
     requires open { (D.state desk.old).input_open ≡ true }
@@ -53,7 +53,7 @@ pub fn read_up_to<D: Desk>(desk: &mut D, limit: usize, bytes: &mut Bytes) -> Tak
     ensures kept { OnlyReads (D.state desk.old) (D.state desk.new) }
     ensures after { AfterReading limit (D.state desk.old) result bytes.new (D.state desk.new) }
 {
-    let mut buffer = [0u8; 65536];
+    let mut buffer = [0u8; 16384];
     while bytes.as_slice().len() < limit {
         match read_piece(desk, limit - bytes.as_slice().len(), &mut buffer, bytes) {
             Piece::Some => {}

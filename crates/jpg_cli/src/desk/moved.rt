@@ -1,5 +1,6 @@
 //! A picture that was read, transformed and written (the manual of jpegtran).
 ghost use Rattle.std.specs.Prelude.{◌≡◌, IfSome};
+ghost use Rattle.jpg_base.specs.Desk.{Creates};
 ghost use Rattle.jpg_file.specs.Write.WriteFile.{CanWriteFile, file_bytes};
 ghost use Rattle.jpg_transform.specs.Planned.{choice_told};
 ghost use Rattle.jpg_crop.specs.CropPlanned.{IsArea};
@@ -69,6 +70,14 @@ pub fn write_moved<D: Desk>(
     }
 }
 
+// Creates the output. It remains a call, so that its stack is free again when the file is written.
+#[inline(never)]
+fn create_output<D: Desk>(output: &Name, desk: &mut D) -> Put
+    ensures { Creates (D.state desk.old) output.now result (D.state desk.new) }
+{
+    desk.create(output)
+}
+
 /// Creates the output, and writes to it the file of the plan with these blocks and kept markers.
 pub fn write_view<V: BlockView, D: Desk>(
     plan: &Plan,
@@ -82,7 +91,7 @@ pub fn write_view<V: BlockView, D: Desk>(
     ensures left { (D.state desk.new).left ≡ (D.state desk.old).left }
     ensures output { AfterOutput output.now (D.state desk.old) (file_bytes plan.now kept.now (V.blocks view.now)) result (D.state desk.new) }
 {
-    match desk.create(output) {
+    match create_output(output, desk) {
         Put::Failed => Wrote::OpenFault,
         Put::Done => match write_file(plan, kept, view, desk) {
             Ok(()) => Wrote::Done,

@@ -39,14 +39,14 @@ pub fn encode<D: Desk>(alloc: Global, words: EncodeWords, desk: &mut D) -> Why
 {
     match take_scans(alloc, &words.script, desk) {
         Err(why) => why,
-        Ok(scans) => encode_in(alloc, words, scans, desk),
+        Ok(scans) => encode_in(alloc, words, &scans, desk),
     }
 }
 
 // The same in these scans.
-fn encode_in<D: Desk>(alloc: Global, words: EncodeWords, scans: Scans, desk: &mut D) -> Why
+fn encode_in<D: Desk>(alloc: Global, words: EncodeWords, scans: &Scans, desk: &mut D) -> Why
     ensures kept { OnlyWorks (D.state desk.old) (D.state desk.new) }
-    ensures encoded { EncodedAfter (encode_told words) (scans_told scans) (D.state desk.old) result (D.state desk.new) }
+    ensures encoded { EncodedAfter (encode_told words) (scans_told scans.now) (D.state desk.old) result (D.state desk.new) }
 {
     let mut words = words;
     match take_tables(alloc, words.tables.take(), desk) {
@@ -59,14 +59,14 @@ fn encode_in<D: Desk>(alloc: Global, words: EncodeWords, scans: Scans, desk: &mu
 fn encode_by<D: Desk>(
     alloc: Global,
     words: &EncodeWords,
-    scans: Scans,
+    scans: &Scans,
     tables: Option<&Tables>,
     desk: &mut D,
 ) -> Why
     ensures kept { OnlyWorks (D.state desk.old) (D.state desk.new) }
-    ensures encoded { Encoded (task_after [] (encode_told words.now) (scans_told scans) (lent_tables tables.entry)) (D.state desk.old) result (D.state desk.new) }
+    ensures encoded { Encoded (task_after [] (encode_told words.now) (scans_told scans.now) (lent_tables tables.entry)) (D.state desk.old) result (D.state desk.new) }
 {
-    match read_encoded(alloc, words, &scans, tables, desk) {
+    match read_encoded(alloc, words, scans, tables, desk) {
         Err(why) => why,
         Ok(image) => write_image(alloc, image, words, scans, desk),
     }
@@ -78,13 +78,13 @@ fn write_image<D: Desk>(
     alloc: Global,
     image: EncodedImage,
     words: &EncodeWords,
-    scans: Scans,
+    scans: &Scans,
     desk: &mut D,
 ) -> Why
-    requires { IsEncodedBy words.now (scans_told scans) image }
+    requires { IsEncodedBy words.now (scans_told scans.now) image }
     ensures kept { OnlyWorks (D.state desk.old) (D.state desk.new) }
     ensures left { (D.state desk.new).left ≡ (D.state desk.old).left }
-    ensures wrote { WritesEncoded words.now (scans_told scans) image (D.state desk.old) result (D.state desk.new) }
+    ensures wrote { WritesEncoded words.now (scans_told scans.now) image (D.state desk.old) result (D.state desk.new) }
 {
     if scans.progressive() {
         return match image.picture(alloc) {
@@ -92,7 +92,7 @@ fn write_image<D: Desk>(
             Err(_) => Why::NoMemory,
         };
     }
-    why_wrote(write_blocks(&image, words, &scans, desk))
+    why_wrote(write_blocks(&image, words, scans, desk))
 }
 
 // The same, block by block as they are encoded. It remains a call, so that a progressive file doesn't need its stack.
@@ -156,28 +156,41 @@ pub fn write_encoded<D: Desk>(
     let encoding = encoding_of(words, &scans, tables, image.info.kind);
     match encode_picture(alloc, image, &encoding) {
         Err(stop) => why_none(stop),
-        Ok(picture) => write_picture(alloc, &picture, words, scans, desk),
+        Ok(picture) => write_picture(alloc, &picture, words, &scans, desk),
     }
 }
 
-// Writes a picture as it is, in these scans.
+// A copy of the scans.
+#[inline(never)]
+fn copy_of(scans: &Scans) -> Scans
+    ensures { scans_told result ≡ scans_told scans.now }
+{
+    match scans {
+        Scans::Sequential => Scans::Sequential,
+        Scans::Standard => Scans::Standard,
+        Scans::Given(script) => Scans::Given(script.copy()),
+    }
+}
+
+// Writes a picture as it is, in these scans. It remains a call, so that a sequential file doesn't need its stack.
+#[inline(never)]
 fn write_picture<D: Desk>(
     alloc: Global,
     picture: &Picture,
     words: &EncodeWords,
-    scans: Scans,
+    scans: &Scans,
     desk: &mut D,
 ) -> Why
     ensures kept { OnlyWorks (D.state desk.old) (D.state desk.new) }
     ensures left { (D.state desk.new).left ≡ (D.state desk.old).left }
-    ensures wrote { WritesAsItIs words.now (scans_told scans) picture.now (D.state desk.old) result (D.state desk.new) }
+    ensures wrote { WritesAsItIs words.now (scans_told scans.now) picture.now (D.state desk.old) result (D.state desk.new) }
 {
     let choice = Choice {
         transform: Transform::Keep,
         trim: false,
         gray: false,
         copying: Copying::None,
-        scans,
+        scans: copy_of(scans),
         huffman: words.huffman,
         restart: words.restart,
     };

@@ -113,7 +113,9 @@ fn report_shown(
     }
 }
 
-// A desk whose output is the first file; none if there is no memory.
+// A desk whose output is the first file; none if there is no memory. It remains a call, as do the next steps, so that no
+// step needs the stack of another.
+#[inline(never)]
 fn first_file(alloc: Global, size: u16) -> Option<MemoryDesk>
     requires { size ≤ 400 }
     ensures { IfSome result (HasFile (first_picture size) (first_text size)) }
@@ -166,6 +168,7 @@ fn scans_from(progressive: bool) -> ScriptFrom
 }
 
 // A desk whose output is the file of the transformed picture of another file; none if there is no memory.
+#[inline(never)]
 fn turned_file(
     alloc: Global,
     input: &[u8],
@@ -198,6 +201,7 @@ fn turned_file(
 }
 
 // A desk whose output is the image of a file, or why there is none.
+#[inline(never)]
 fn shown_file(alloc: Global, input: &[u8], ends: Vec<Box<dyn ImageEnd>>) -> Result<MemoryDesk, Why>
     requires { AreNewEnds (map (λ e. progress e) ends.items) }
     ensures { ShowsFile (has_format kind.Pnm (formats_of (map (λ e. progress e) ends.items))) input.now result }

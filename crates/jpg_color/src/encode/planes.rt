@@ -6,6 +6,7 @@ ghost use Rattle.jpg_color.specs.ColourRows.{numbers_of_pixel, row_component};
 
 use crate::encode::ycc::{blue_row, gray_row, red_row};
 use jpg_spec_image::ImageKind;
+use std::simd::u8x8;
 
 /// Component `i` of a row of an image: gray as it is, otherwise luminance or one of the two chrominance components.
 #[tactic(auto, unfolding(crate::specs::ColourRows::row_component))]
@@ -31,12 +32,12 @@ fn put_row(samples: &mut [u8; 64], v: usize, row: &[u8])
     ensures long { length samples.new ≡ 64 }
     ensures value { take (8 * v + 8) samples.new ≡ take (8 * v) samples.old ++ row.now }
 {
-    samples[8 * v..8 * v + 8].copy_from_slice(row);
+    u8x8::from_slice(row).copy_to_slice(&mut samples[8 * v..8 * v + 8]);
 }
 
-/// Puts block x of eight rows of samples, one after another.
+// Puts block x of eight rows of samples, one after another.
 #[inline(always)]
-pub(crate) fn cut_block(rows: &[u8], wide: usize, x: usize, samples: &mut [u8; 64])
+fn cut_block(rows: &[u8], wide: usize, x: usize, samples: &mut [u8; 64])
     requires there { 8 * x + 8 ≤ wide }
     requires long { length rows.now ≡ 8 * wide }
     ensures { samples.new ≡ samples_of_block (in_rows wide rows.now) x 0 }
@@ -47,6 +48,7 @@ pub(crate) fn cut_block(rows: &[u8], wide: usize, x: usize, samples: &mut [u8; 6
 }
 
 /// Block x of eight rows of samples, one after another.
+#[inline(always)]
 pub fn block_at(rows: &[u8], wide: usize, x: usize) -> [u8; 64]
     requires there { 8 * x + 8 ≤ wide }
     requires long { length rows.now ≡ 8 * wide }

@@ -8,7 +8,7 @@ ghost use Rattle.jpg_color.specs.SamplerState.{IsWhole, KeepsSampler, row_length
 
 use crate::encode::head::{colour_of, density_of, frame_of, kept_of, quants_of, table_of};
 use crate::encode::rows::numbers;
-use crate::encode::strips::{Planes, Strip, put_strip};
+use crate::encode::strips::{Planes, Strip, Windows, put_strip};
 use crate::encode::view::EncodedImage;
 use crate::encode::{EncodeStop, Encoding};
 use jpg_base::{Bytes, Frame, NoMemory};
@@ -27,6 +27,7 @@ pub struct Sampler {
     encoding: Encoding,
     frame: Frame,
     pending: Bytes,
+    windows: Windows,
     planes: Planes,
     made: u32,
     left: usize,
@@ -66,6 +67,7 @@ impl Sampler {
             encoding,
             frame,
             pending: Bytes::new(alloc),
+            windows: Windows::new(alloc),
             planes: no_planes(alloc),
             made: 0,
             left: info.height as usize * row_length(&info),
@@ -129,6 +131,7 @@ impl Sampler {
                 info: &info,
                 frame: &self.frame,
             },
+            &mut self.windows,
             &mut self.planes,
         )?;
         self.pending.clear();

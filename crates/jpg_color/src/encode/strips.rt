@@ -1,24 +1,24 @@
 //! The planes of a row of MCUs, made of the samples of the image for it (T.81, A.1.1, A.2).
-ghost use Rattle.std.specs.Prelude.{◌≡◌, ◌+◌, ◌*◌, ◌/◌, ◌≤◌, ◌<◌, ◌++◌, ◌∷◌, [], ℕ, OnErr, OnOk, IfOk, length};
+ghost use Rattle.std.specs.Prelude.{◌≡◌, ◌+◌, ◌*◌, ◌/◌, ◌≤◌, ◌<◌, ◌++◌, ◌∷◌, [], ℕ, OnErr, OnOk, IfOk, IsTrue, length, take, drop};
 ghost use Rattle.jpg_spec.specs.EncodingLaws.{AreSamples};
 ghost use Rattle.jpg_spec.specs.Geometry.{div_up, v_max};
-ghost use Rattle.jpg_color.specs.PlaneRows.{HasBlocks, HasPlaneRows, IsWindow};
-ghost use Rattle.jpg_color.specs.EncodeBlocks.{AppendsAll, AppendsStrip, AreWindows, GrowsPlane, GrowsPlanes, HasRowsOfStrip, IsSource, IsStrip, source_image, strip_image};
+ghost use Rattle.jpg_color.specs.PlaneRows.{HasBlocks, HasPlaneRows, IsWindow, cut_in_blocks};
+ghost use Rattle.jpg_color.specs.EncodeBlocks.{AppendsAll, AppendsStrip, AreWindows, GrowsPlane, GrowsPlanes, HasRowsOfStrip, IsPlain, IsSource, IsStrip, source_image, strip_image};
 
-use crate::decode::part::bytes;
+use crate::encode::block_row::BlockRow;
 use crate::encode::rows::{ImagePlane, Window, block_rows, put_colour_rows, put_rows};
-use jpg_base::{Bytes, Frame, NoMemory};
+use jpg_base::{Frame, NoMemory};
 use jpg_sample::Ratio;
 use jpg_spec_image::ImageInfo;
 use std::alloc::Global;
 use std::vec::Vec;
 
-/// The planes of the components so far, in rows of whole blocks: eight rows of samples each.
+/// The planes of the components so far, in rows of whole blocks.
 #[derive(Drop)]
 pub(crate) struct Planes {
-    pub ys: Vec<Bytes>,
-    pub cbs: Vec<Bytes>,
-    pub crs: Vec<Bytes>,
+    pub ys: Vec<BlockRow>,
+    pub cbs: Vec<BlockRow>,
+    pub crs: Vec<BlockRow>,
 }
 
 /// Rows of an image that a row of MCUs is made from, as an image, and the frame.
@@ -29,12 +29,26 @@ pub(crate) struct Strip<'a> {
     pub frame: &'a Frame,
 }
 
-// The rows of each component of a strip.
+/// The rows of each component of a strip, and room for eight rows of a component in whole blocks. It is kept from one
+/// strip to the next: whatever is in it before is replaced.
 #[derive(Drop)]
-struct Windows {
+pub(crate) struct Windows {
     ys: Vec<u8>,
     cbs: Vec<u8>,
     crs: Vec<u8>,
+    eight: Vec<u8>,
+}
+
+impl Windows {
+    /// No room for any rows. It takes no memory yet.
+    pub(crate) fn new(alloc: Global) -> Windows {
+        Windows {
+            ys: Vec::new(alloc),
+            cbs: Vec::new(alloc),
+            crs: Vec::new(alloc),
+            eight: Vec::new(alloc),
+        }
+    }
 }
 
 // How many samples a window has: those of all rows of the image in an MCU row.
@@ -46,17 +60,25 @@ fn window_room(frame: &Frame) -> usize
     8 * frame.v_max() as usize * frame.width() as usize
 }
 
-// Room for the rows of each component.
-fn windows_of(alloc: Global, frame: &Frame) -> Result<Windows, NoMemory>
-    ensures { IfOk result (λ w. AreWindows frame.now w) }
+// Makes the length this one, by bytes that are anything.
+fn resize(bytes: &mut Vec<u8>, count: usize) -> Result<(), NoMemory>
+    ensures { OnOk result (length bytes.new.items ≡ count) }
+{
+    match bytes.resize(count, 0) {
+        Ok(()) => Ok(()),
+        Err(_) => Err(NoMemory),
+    }
+}
+
+// Makes room for the rows of each component, where it isn't there yet.
+fn open(windows: &mut Windows, frame: &Frame) -> Result<(), NoMemory>
+    ensures { OnOk result (AreWindows frame.now windows.new) }
 {
     let room = window_room(frame);
     let others = if frame.count() == 1 { 0 } else { room };
-    Ok(Windows {
-        ys: bytes(alloc, room)?,
-        cbs: bytes(alloc, others)?,
-        crs: bytes(alloc, others)?,
-    })
+    resize(&mut windows.ys, room)?;
+    resize(&mut windows.cbs, others)?;
+    resize(&mut windows.crs, others)
 }
 
 // Puts the rows of the strip into the windows.
@@ -83,17 +105,29 @@ fn fill(strip: &Strip, windows: &mut Windows)
 }
 
 /// Appends the rows of blocks of the strip to the planes.
-pub(crate) fn put_strip(alloc: Global, strip: &Strip, planes: &mut Planes) -> Result<(), NoMemory>
+pub(crate) fn put_strip(
+    alloc: Global,
+    strip: &Strip,
+    windows: &mut Windows,
+    planes: &mut Planes,
+) -> Result<(), NoMemory>
     requires { IsStrip strip.now }
     ensures rows { OnOk result (AppendsStrip strip.now.frame.now (strip_image strip.now) planes.old planes.new) }
     ensures grows { GrowsPlanes strip.now.frame.now planes.old planes.new }
 {
-    let mut windows = windows_of(alloc, strip.frame)?;
-    fill(strip, &mut windows);
+    open(windows, strip.frame)?;
+    fill(strip, windows);
     if strip.frame.count() == 1 {
-        put_part(alloc, strip, 0, windows.ys.as_slice(), &mut planes.ys)
+        put_part(
+            alloc,
+            strip,
+            0,
+            windows.ys.as_slice(),
+            &mut windows.eight,
+            &mut planes.ys,
+        )
     } else {
-        put_three(alloc, strip, &windows, planes)
+        put_three(alloc, strip, windows, planes)
     }
 }
 
@@ -101,19 +135,41 @@ pub(crate) fn put_strip(alloc: Global, strip: &Strip, planes: &mut Planes) -> Re
 fn put_three(
     alloc: Global,
     strip: &Strip,
-    windows: &Windows,
+    windows: &mut Windows,
     planes: &mut Planes,
 ) -> Result<(), NoMemory>
     requires strip { IsStrip strip.now }
     requires three { 2 < length strip.now.frame.now.components }
-    requires windows { AreWindows strip.now.frame.now windows.now }
-    requires filled { HasRowsOfStrip strip.now windows.now }
+    requires windows { AreWindows strip.now.frame.now windows.old }
+    requires filled { HasRowsOfStrip strip.now windows.old }
     ensures rows { OnOk result (AppendsStrip strip.now.frame.now (strip_image strip.now) planes.old planes.new) }
     ensures grows { GrowsPlanes strip.now.frame.now planes.old planes.new }
 {
-    put_part(alloc, strip, 0, windows.ys.as_slice(), &mut planes.ys)?;
-    put_part(alloc, strip, 1, windows.cbs.as_slice(), &mut planes.cbs)?;
-    put_part(alloc, strip, 2, windows.crs.as_slice(), &mut planes.crs)
+    let eight = &mut windows.eight;
+    put_part(
+        alloc,
+        strip,
+        0,
+        windows.ys.as_slice(),
+        eight,
+        &mut planes.ys,
+    )?;
+    put_part(
+        alloc,
+        strip,
+        1,
+        windows.cbs.as_slice(),
+        eight,
+        &mut planes.cbs,
+    )?;
+    put_part(
+        alloc,
+        strip,
+        2,
+        windows.crs.as_slice(),
+        eight,
+        &mut planes.crs,
+    )
 }
 
 // What the rows of blocks of a component are made from: its plane, how many rows are made of the strip, how many
@@ -163,13 +219,25 @@ fn rows_made(height: u32, down: u8, factor: u8) -> usize
     ((height + u32::from(down) - 1) / u32::from(down) * u32::from(factor)) as usize
 }
 
+// Makes the length at least this one, by bytes that are anything.
+fn make_room(bytes: &mut Vec<u8>, count: usize) -> Result<(), NoMemory>
+    ensures { OnOk result (count ≤ length bytes.new.items) }
+{
+    if bytes.len() < count {
+        resize(bytes, count)
+    } else {
+        Ok(())
+    }
+}
+
 // Appends the rows of blocks of component i of the strip, whose rows are given.
 fn put_part(
     alloc: Global,
     strip: &Strip,
     i: u8,
     rows: &[u8],
-    plane: &mut Vec<Bytes>,
+    eight: &mut Vec<u8>,
+    plane: &mut Vec<BlockRow>,
 ) -> Result<(), NoMemory>
     requires strip { IsStrip strip.now }
     requires there { i < length strip.now.frame.now.components }
@@ -184,17 +252,18 @@ fn put_part(
         lines: 8 * strip.frame.v_max() as usize,
         at: 0,
     };
-    put_blocks(alloc, &source, strip.frame, i, &window, plane)
+    put_rows_of(alloc, &source, strip.frame, i, &window, eight, plane)
 }
 
-// Appends the rows of blocks of a component.
-fn put_blocks(
+// Appends the rows of blocks of a component, of the rows in the window as they are or of rows that are made of them.
+fn put_rows_of(
     alloc: Global,
     source: &Source,
     frame: &Frame,
     i: u8,
     window: &Window,
-    plane: &mut Vec<Bytes>,
+    eight: &mut Vec<u8>,
+    plane: &mut Vec<BlockRow>,
 ) -> Result<(), NoMemory>
     requires source { IsSource frame.now i source.now }
     requires window { IsWindow source.now.plane window.now }
@@ -203,30 +272,111 @@ fn put_blocks(
     ensures rows { OnOk result (AppendsAll frame.now (source_image source.now) i plane.old.items plane.new.items) }
     ensures grows { GrowsPlane frame.now i plane.old.items plane.new.items }
 {
-    let mut out = bytes(alloc, 8 * source.wide)?;
+    if is_plain(source) {
+        return put_plain(alloc, source, frame, i, window, plane);
+    }
+    make_room(eight, 8 * source.wide)?;
+    put_blocks(
+        alloc,
+        source,
+        frame,
+        i,
+        window,
+        &mut eight[..8 * source.wide],
+        plane,
+    )
+}
+
+// Appends the rows of blocks of a component, by room for eight rows of samples.
+fn put_blocks(
+    alloc: Global,
+    source: &Source,
+    frame: &Frame,
+    i: u8,
+    window: &Window,
+    eight: &mut [u8],
+    plane: &mut Vec<BlockRow>,
+) -> Result<(), NoMemory>
+    requires source { IsSource frame.now i source.now }
+    requires window { IsWindow source.now.plane window.now }
+    requires lines { window.now.lines ≡ 8 * v_max frame.now }
+    requires at { window.now.at ≡ 0 }
+    requires eight { length eight.old ≡ 8 * source.now.wide }
+    ensures rows { OnOk result (AppendsAll frame.now (source_image source.now) i plane.old.items plane.new.items) }
+    ensures grows { GrowsPlane frame.now i plane.old.items plane.new.items }
+{
     for y in 0..source.count {
         block_rows(
             &source.plane,
             source.made,
             y as usize,
             window,
-            &mut out,
+            eight,
             source.wide,
         );
-        push_row(alloc, &out, plane)?;
+        push_row(alloc, eight, source.wide, plane)?;
     }
     Ok(())
 }
 
-// Appends a row of blocks.
-fn push_row(alloc: Global, row: &[u8], plane: &mut Vec<Bytes>) -> Result<(), NoMemory>
-    ensures pushed { OnOk result (plane.new.items ≡ plane.old.items ++ row.now ∷ []) }
-    ensures same { OnErr result (plane.new.items ≡ plane.old.items) }
-    ensures bytes { AreSamples row.now }
+// Whether the rows of a component are those of the image as they are: no samples are averaged, and none are repeated
+// to make blocks whole.
+fn is_plain(source: &Source) -> bool
+    ensures { IsTrue result → IsPlain source.now }
 {
-    let mut bytes = Bytes::new(alloc);
-    bytes.push_all(row)?;
-    match plane.push(bytes) {
+    let ratio = &source.plane.ratio;
+    ratio.across == 1 && ratio.down == 1 && source.wide == source.plane.info.width as usize
+}
+
+// Row y of blocks of such a component, as eight rows of samples.
+fn plain_rows<'a>(source: &Source, window: &'a Window, y: u8) -> &'a [u8]
+    requires plane { IsWindow source.now.plane window.now }
+    requires plain { IsPlain source.now }
+    requires there { 8 * y + 8 ≤ window.now.lines }
+    ensures long { length result.now ≡ 8 * source.now.wide }
+    ensures rows { result.now ≡ take (8 * source.now.wide) (drop (8 * y * source.now.wide) window.now.rows.now) }
+{
+    let first = 8 * y as usize * source.wide;
+    &window.rows[first..first + 8 * source.wide]
+}
+
+// Appends the rows of blocks of such a component.
+fn put_plain(
+    alloc: Global,
+    source: &Source,
+    frame: &Frame,
+    i: u8,
+    window: &Window,
+    plane: &mut Vec<BlockRow>,
+) -> Result<(), NoMemory>
+    requires source { IsSource frame.now i source.now }
+    requires window { IsWindow source.now.plane window.now }
+    requires lines { window.now.lines ≡ 8 * v_max frame.now }
+    requires at { window.now.at ≡ 0 }
+    requires plain { IsPlain source.now }
+    ensures rows { OnOk result (AppendsAll frame.now (source_image source.now) i plane.old.items plane.new.items) }
+    ensures grows { GrowsPlane frame.now i plane.old.items plane.new.items }
+{
+    for y in 0..source.count {
+        push_row(alloc, plain_rows(source, window, y), source.wide, plane)?;
+    }
+    Ok(())
+}
+
+// Appends the row of blocks of eight rows of samples.
+fn push_row(
+    alloc: Global,
+    rows: &[u8],
+    wide: usize,
+    plane: &mut Vec<BlockRow>,
+) -> Result<(), NoMemory>
+    requires { length rows.now ≡ 8 * wide }
+    ensures pushed { OnOk result (plane.new.items ≡ plane.old.items ++ cut_in_blocks wide rows.now ∷ []) }
+    ensures same { OnErr result (plane.new.items ≡ plane.old.items) }
+    ensures bytes { AreSamples rows.now }
+{
+    let row = BlockRow::of(alloc, rows, wide)?;
+    match plane.push(row) {
         Ok(()) => Ok(()),
         Err(_) => Err(NoMemory),
     }

@@ -1,13 +1,13 @@
 //! An encoded image as a view of blocks, each made when it is asked for (T.81, A.3.3, A.3.4).
-ghost use Rattle.std.specs.Prelude.{◌≡◌, ◌+◌, ◌*◌, ◌/◌, ◌≤◌, IfOk, length};
+ghost use Rattle.std.specs.Prelude.{◌≡◌, IfOk};
 ghost use Rattle.jpg_color.specs.EncodeBlocks.{plane_at};
-ghost use Rattle.jpg_color.specs.EncodedParts.{AreViewParts, HasAllRows, blocks_of, parts_by, row_block, table_by};
+ghost use Rattle.jpg_color.specs.EncodedParts.{AreViewParts, HasAllRows, blocks_of, parts_by, table_by};
 
+use crate::encode::block_row::BlockRow;
 use crate::encode::filling::coefs_of;
-use crate::encode::planes::cut_block;
 use crate::encode::strips::Planes;
 use arrayvec::ArrayVec;
-use jpg_base::{Block, Bytes, Frame, NoMemory, QuantTable};
+use jpg_base::{Block, Frame, NoMemory, QuantTable};
 use jpg_coefs::BlockView;
 use jpg_dct::Divisors;
 use jpg_file::Picture;
@@ -16,7 +16,7 @@ use jpg_spec::Colour;
 use std::alloc::Global;
 
 /// What the picture of an image has, with the planes of its components in place of its coefficients: a view whose
-/// blocks are cut from the planes, transformed and quantised each time that they are asked for. The invariant of each
+/// blocks are taken from the planes, transformed and quantised each time that they are asked for. The invariant of each
 /// encoded image: it has one table for each component, without zeros, its real blocks are in the frame's bounds, and
 /// its colours and its JFIF header are those that its components and kept markers determine.
 #[derive(Drop)]
@@ -29,7 +29,7 @@ pub struct EncodedImage {
     pub(crate) planes: Planes,
     pub(crate) first: Divisors,
     pub(crate) others: Divisors,
-    pub ghost keeps: { AreViewParts (parts_by frame colour quants.items (blocks_of frame planes first others) kept jfif) },
+    pub ghost keeps: { AreViewParts (parts_by frame colour quants.items (blocks_of planes first others) kept jfif) },
     pub ghost rows: { HasAllRows frame planes },
 }
 
@@ -39,7 +39,7 @@ impl EncodedImage {
     ghost use Rattle.jpg_color.specs.EncodeView.{view_blocks, view_meaning};
 
     // The rows of blocks of a component.
-    fn rows(&self, component: u8) -> &[Bytes]
+    fn rows(&self, component: u8) -> &[BlockRow]
         ensures { result.now ≡ plane_at self.now.planes component }
     {
         match component {
@@ -66,11 +66,8 @@ impl EncodedImage {
         requires { IsReal self.now.frame component x y }
         ensures { result ≡ view_blocks self.now component x y }
     {
-        block_of(
-            self.rows(component)[y as usize].as_slice(),
-            x as usize,
-            self.divisors(component),
-        )
+        let samples = self.rows(component)[y as usize].block(x as usize);
+        Block::of(self.divisors(component).block(samples))
     }
 
     /// The same as a picture with its coefficients.
@@ -88,17 +85,6 @@ impl EncodedImage {
             jfif: self.jfif,
         })
     }
-}
-
-// Block x of a row of blocks, quantised.
-fn block_of(row: &[u8], x: usize, divisors: &Divisors) -> Block
-    requires there { 8 * x + 8 ≤ length row.now / 8 }
-    requires long { length row.now ≡ 8 * (length row.now / 8) }
-    ensures { result ≡ row_block divisors.now (length row.now / 8) row.now x }
-{
-    let mut samples = [0; 64];
-    cut_block(row, row.len() / 8, x, &mut samples);
-    Block::of(divisors.block(&samples))
 }
 
 impl BlockView for EncodedImage {

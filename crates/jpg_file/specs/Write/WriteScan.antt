@@ -13,6 +13,7 @@ use Rattle.jpg_spec_write.specs.ScanText.{Owned, scan_data, scan_elements, scan_
 use Rattle.jpg_spec_write.specs.Script.{Entry}
 use Rattle.jpg_spec_write.specs.WrittenFile.{HasBlocksIn}
 use Rattle.jpg_base.specs.Cursor.{AreIn}
+use Rattle.jpg_huff.specs.declared.set.TableSet.{TableSet}
 use Rattle.jpg_seq.specs.NewReader.{IsSeqScan}
 use Rattle.jpg_coefs.specs.MarkSinks.{HasSlots}
 use Rattle.jpg_prog_write.specs.Written.{IsProgScan, tables_in, written_data}
@@ -112,29 +113,35 @@ abbrev pub so_far : Given → Written
 so_far given = record { tables = given_by given.tables; interval = given.interval }
 
 -- it is what the entry asks for
-pub record IsDue (plan : Plan) (f : Frame) (blocks : Blocks) (e : Entry) (due : ScanDue) : Type 0 where
+pub record IsDue (plan : Plan) (e : Entry) (due : ScanDue) : Type 0 where
   pub head : due.head ≡ head_for plan e
   pub interval : due.interval ≡ interval_of plan.out.frame due.head (restart_of plan.restart)
   pub needed : due.needed.items ≡ tables_needed (is_progressive plan.out.frame.process) e due.head
-  pub tables : GivesTables due.tables (scan_tables plan.huffman plan.out.frame due.head (scan_elements f due.head due.interval blocks))
 
--- it can be written
-pub record CanWriteDue (file f : Frame) (blocks : Blocks) (due : ScanDue) : Type 0 where
+-- the tables that it is written with, by its elements
+abbrev pub tables_due : Plan → Frame → Blocks → ScanDue → ℕ → ℕ → HuffmanTable
+tables_due plan f blocks due = scan_tables plan.huffman plan.out.frame due.head (scan_elements f due.head due.interval blocks)
+
+-- it can be written with these tables
+pub record CanWriteDue (file f : Frame) (blocks : Blocks) (due : ScanDue) (set : TableSet) : Type 0 where
   pub head : IsHeadOf file due.head
   pub needed : All IsTablePlace due.needed.items
-  pub tables : GivesTables due.tables (tables_in due.tables)
-  pub sequential : is_progressive file.process ≡ false → IsSeqScan f due.head due.tables
+  pub tables : GivesTables set (tables_in set)
+  pub sequential : is_progressive file.process ≡ false → IsSeqScan f due.head set
   pub progressive : is_progressive file.process ≡ true → IsProgScan f due.head
   pub writable : HasBlocksIn f blocks
 
--- its data, its text, and what was written with it
-abbrev pub due_data : Frame → Blocks → ScanDue → List ℕ
-due_data f blocks due = written_data f due.head due.tables due.interval blocks
+-- its data, its text after what was written so far, and what was written with it
+abbrev pub due_data : Frame → Blocks → ScanDue → TableSet → List ℕ
+due_data f blocks due set = written_data f due.head set due.interval blocks
 
-abbrev pub due_text : Frame → Frame → Blocks → Written → ScanDue → List ℕ
-due_text file f blocks w due =
-    tables_text w.tables (tables_in due.tables) due.needed.items
-    ++ (head_due (identifiers file.components) due.head w.interval due.interval ++ due_data f blocks due)
+abbrev pub due_text : Frame → Frame → Blocks → Written → ScanDue → TableSet → List ℕ
+due_text file f blocks w due set =
+    tables_text w.tables (tables_in set) due.needed.items
+    ++ (head_due (identifiers file.components) due.head w.interval due.interval ++ due_data f blocks due set)
 
-abbrev pub due_written : Written → ScanDue → Written
-due_written w due = record { tables = tables_given w.tables (tables_in due.tables) due.needed.items; interval = due.interval }
+abbrev pub due_after : Frame → Frame → Blocks → Given → ScanDue → TableSet → List ℕ
+due_after file f blocks given due set = due_text file f blocks (so_far given) due set
+
+abbrev pub due_written : Written → ScanDue → TableSet → Written
+due_written w due set = record { tables = tables_given w.tables (tables_in set) due.needed.items; interval = due.interval }

@@ -1,9 +1,13 @@
 //! The start of a scan: its machine, its tables and its first interval (T.81, A.2, E.1.4).
-ghost use Rattle.std.specs.Prelude.{◌≡◌, ◌≤◌, ◌==◌, if◌then◌else◌, min, false, ℕ, List, Some};
+ghost use Rattle.std.specs.Prelude.{◌≡◌, ◌<◌, ◌≤◌, ◌==◌, if◌then◌else◌, min, false, true, ℕ, List, Some};
+ghost use Rattle.jpg_spec.specs.Geometry.{is_progressive};
 ghost use Rattle.jpg_spec.specs.Items.{Item};
 ghost use Rattle.jpg_spec.specs.Scan.{Blocks};
 ghost use Rattle.jpg_spec.specs.declared.frame.Limits.{Limits};
 ghost use Rattle.jpg_coefs.specs.Picture.{Picture};
+ghost use Rattle.jpg_prog_read.specs.DcNew.{IsBare as IsBareFirst, IsDcHead};
+ghost use Rattle.jpg_prog_read.specs.declared.dc_first.DcFirst.{DcFirst as First};
+ghost use Rattle.jpg_file.specs.declared.read.machine.ScanReader.TheVariants.{DcFirst as FirstPass};
 ghost use Rattle.jpg_file.specs.Read.ScanStart.{IsAtFirstByte, CanBegin, HasSizes, IsBareIn, IsBegun, before_data};
 ghost use Rattle.jpg_file.specs.Read.NewScan.{IsScanHeader};
 
@@ -78,6 +82,38 @@ fn put_scan(place: &mut Option<InScan>, machine: ScanReader, interval: u64, due:
     });
 }
 
+// Puts the scan of a first pass of DC into the place, without its tables. It remains a call, as does `put_band`, so that
+// no scan needs the stack of another kind.
+#[cold]
+#[inline(never)]
+fn put_first(place: &mut Option<InScan>, frame: &Frame, head: &ScanHead, interval: u64, due: u64)
+    requires { IsDcHead frame.now head.now }
+    ensures { (m : First) × (place.new ≡ Some (before_data (FirstPass m) interval due)) × IsBareFirst frame.now head.now m }
+{
+    let machine = DcFirst::bare(frame, head);
+    put_scan(place, ScanReader::DcFirst(machine), interval, due);
+}
+
+// Puts the scan of a band of AC into the place.
+#[cold]
+#[inline(never)]
+fn put_band(
+    place: &mut Option<InScan>,
+    frame: &Frame,
+    head: &ScanHead,
+    tables: &TableSet,
+    interval: u64,
+    due: u64,
+)
+    requires header { IsScanHeader frame.now head.now tables.now }
+    requires kind { is_progressive frame.now.process ≡ true }
+    requires band { 0 < head.now.ss }
+    ensures { IsBareIn frame.now head.now tables.now interval due place.new }
+{
+    let machine = AcReader::new(frame, head, tables);
+    put_scan(place, ScanReader::Ac(machine), interval, due);
+}
+
 // Puts the scan without its tables into the place, by the kind of the scan.
 #[cold]
 #[inline(never)]
@@ -96,14 +132,12 @@ fn put_bare(
         let machine = SeqReader::bare(frame, head);
         put_scan(place, ScanReader::Sequential(machine), interval, due);
     } else if head.ss > 0 {
-        let machine = AcReader::new(frame, head, tables);
-        put_scan(place, ScanReader::Ac(machine), interval, due);
+        put_band(place, frame, head, tables, interval, due);
     } else if head.ah > 0 {
         let machine = DcRefine::new(frame, head);
         put_scan(place, ScanReader::DcRefine(machine), interval, due);
     } else {
-        let machine = DcFirst::bare(frame, head);
-        put_scan(place, ScanReader::DcFirst(machine), interval, due);
+        put_first(place, frame, head, interval, due);
     }
 }
 

@@ -1,9 +1,11 @@
 //! A scan of a file that is written (T.81, B.2.3).
 ghost use Rattle.std.specs.Prelude.{◌≡◌, Ok};
+ghost use Rattle.jpg_spec.specs.Geometry.{Frame as FrameOf};
+ghost use Rattle.jpg_spec.specs.Scan.{Blocks};
 ghost use Rattle.jpg_spec_write.specs.FileText.{nothing_written};
 ghost use Rattle.jpg_huff.specs.BitOut.{CanSend, Sends};
 ghost use Rattle.jpg_file.specs.Write.WriteTables.{HasFour};
-ghost use Rattle.jpg_file.specs.Write.WriteScan.{CanWriteDue, CanWriteScan, IsDue, due_data, due_text, due_written, scan_bytes, so_far, written_after};
+ghost use Rattle.jpg_file.specs.Write.WriteScan.{CanWriteDue, CanWriteScan, IsDue, due_after, due_data, due_written, scan_bytes, so_far, written_after};
 
 use crate::write::Plan;
 use crate::write::head::{Needed, head_of, needed_of, write_head};
@@ -37,12 +39,11 @@ impl Given {
     }
 }
 
-/// What a scan is written with: its header, its restart interval, its tables, and which of them it needs.
+/// What a scan is written with beside its tables: its header, its restart interval, and which tables it needs.
 #[derive(Drop)]
 pub struct ScanDue {
     pub head: ScanHead,
     pub interval: u16,
-    pub tables: TableSet,
     pub needed: Needed,
 }
 
@@ -63,46 +64,40 @@ pub fn write_scan<V: BlockView, D: Desk>(
     ensures sends { Sends (D.state desk.old) out.old (scan_bytes plan.now (V.numbers view.now) (V.blocks view.now) (so_far given.old) entry.now) result out.new (D.state desk.new) }
     ensures given { (u : Unit {0}) → result ≡ Ok u → so_far given.new ≡ written_after plan.now (V.numbers view.now) (V.blocks view.now) (so_far given.old) entry.now }
 {
-    write_parts(
-        &plan.out.frame,
-        &due_of(plan, entry, view),
-        given,
-        view,
-        out,
-        desk,
-    )
-}
-
-// What the scan is written with.
-fn due_of<V: BlockView>(plan: &Plan, entry: &Entry, view: &V) -> ScanDue
-    requires { CanWriteScan plan.now (V.numbers view.now) (V.blocks view.now) entry.now }
-    ensures { IsDue plan.now (V.numbers view.now) (V.blocks view.now) entry.now result }
-{
-    let is_prog = plan.out.frame.is_progressive();
-    let head = head_of(is_prog, plan.out.colour, entry);
-    let interval = interval_of(&plan.out.frame, &head, plan.restart);
-    let needed = needed_of(is_prog, entry, &head);
-    let mut due = ScanDue {
-        head,
-        interval,
-        tables: TableSet::new(),
-        needed,
-    };
+    let due = due_of(plan, entry);
+    let mut tables = TableSet::new();
     put_tables(
         plan.huffman,
         &plan.out.frame,
         view,
         &due.head,
-        interval,
-        &mut due.tables,
+        due.interval,
+        &mut tables,
     );
-    due
+    write_parts(&plan.out.frame, &due, &tables, given, view, out, desk)
+}
+
+// What the scan is written with beside its tables.
+fn due_of(plan: &Plan, entry: &Entry) -> ScanDue
+    requires { (f : FrameOf) × (blocks : Blocks) × CanWriteScan plan.now f blocks entry.now }
+    ensures { IsDue plan.now entry.now result }
+{
+    let is_prog = plan.out.frame.is_progressive();
+    let head = head_of(is_prog, plan.out.colour, entry);
+    let interval = interval_of(&plan.out.frame, &head, plan.restart);
+    let needed = needed_of(is_prog, entry, &head);
+    ScanDue {
+        head,
+        interval,
+        needed,
+    }
 }
 
 // Writes the tables, the header and the data.
 fn write_parts<V: BlockView, D: Desk>(
     frame: &Frame,
     due: &ScanDue,
+    tables: &TableSet,
     given: &mut Given,
     view: &V,
     out: &mut BitOut,
@@ -110,38 +105,33 @@ fn write_parts<V: BlockView, D: Desk>(
 ) -> Result<(), WriteFault>
     requires can { CanSend (D.state desk.old) out.old }
     requires four { HasFour given.old.tables }
-    requires due { CanWriteDue frame.now (V.numbers view.now) (V.blocks view.now) due.now }
+    requires due { CanWriteDue frame.now (V.numbers view.now) (V.blocks view.now) due.now tables.now }
     ensures four { HasFour given.new.tables }
-    ensures sends { Sends (D.state desk.old) out.old (due_text frame.now (V.numbers view.now) (V.blocks view.now) (so_far given.old) due.now) result out.new (D.state desk.new) }
-    ensures given { (u : Unit {0}) → result ≡ Ok u → so_far given.new ≡ due_written (so_far given.old) due.now }
+    ensures sends { Sends (D.state desk.old) out.old (due_after frame.now (V.numbers view.now) (V.blocks view.now) given.old due.now tables.now) result out.new (D.state desk.new) }
+    ensures given { (u : Unit {0}) → result ≡ Ok u → so_far given.new ≡ due_written (so_far given.old) due.now tables.now }
 {
-    write_due(
-        due.needed.as_slice(),
-        &due.tables,
-        &mut given.tables,
-        out,
-        desk,
-    )?;
+    write_due(due.needed.as_slice(), tables, &mut given.tables, out, desk)?;
     write_head(frame, &due.head, given.interval, due.interval, out, desk)?;
     given.interval = due.interval;
-    write_data(frame, due, view, out, desk)
+    write_data(frame, due, tables, view, out, desk)
 }
 
 // Writes the data.
 fn write_data<V: BlockView, D: Desk>(
     frame: &Frame,
     due: &ScanDue,
+    tables: &TableSet,
     view: &V,
     out: &mut BitOut,
     desk: &mut D,
 ) -> Result<(), WriteFault>
     requires can { CanSend (D.state desk.old) out.old }
-    requires due { CanWriteDue frame.now (V.numbers view.now) (V.blocks view.now) due.now }
-    ensures { Sends (D.state desk.old) out.old (due_data (V.numbers view.now) (V.blocks view.now) due.now) result out.new (D.state desk.new) }
+    requires due { CanWriteDue frame.now (V.numbers view.now) (V.blocks view.now) due.now tables.now }
+    ensures { Sends (D.state desk.old) out.old (due_data (V.numbers view.now) (V.blocks view.now) due.now tables.now) result out.new (D.state desk.new) }
 {
     if frame.is_progressive() {
-        write_prog_scan(view, &due.head, &due.tables, due.interval, out, desk)
+        write_prog_scan(view, &due.head, tables, due.interval, out, desk)
     } else {
-        write_seq_scan(view, &due.head, &due.tables, due.interval, out, desk)
+        write_seq_scan(view, &due.head, tables, due.interval, out, desk)
     }
 }

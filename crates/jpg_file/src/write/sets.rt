@@ -24,7 +24,8 @@ use jpg_spec_write::Huffman;
 
 /// Puts the tables of a scan into slots 0 and 1 of an empty set: those that are made for it, if they are asked for;
 /// otherwise in a sequential file of precision 8 the typical ones, and in any other those of codes of one length for what
-/// the scan writes.
+/// the scan writes. It remains a call, so that its stack is free again when the scan is written.
+#[inline(never)]
 pub fn put_tables<V: BlockView>(
     huffman: Huffman,
     frame: &Frame,

@@ -11,7 +11,7 @@ invariant-loop-buffer g l =
       taken : Consumes (state l.fn.desk).left (state l.desk).left l.bytes;
       most : length l.bytes ≤ l.limit;
       opened : (state l.desk).input_open ≡ true;
-      room : length l.buffer ≡ 65536;
+      room : length l.buffer ≡ 16384;
     }
 
 abbrev pub decreases-loop-buffer : goal.decreases-loop-buffer

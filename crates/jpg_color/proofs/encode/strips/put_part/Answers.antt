@@ -6,8 +6,8 @@ use Rattle.jpg_color.specs.EncodeBlocks.{AppendsRows, strip_image}
 use Rattle.jpg_color.proofs.StripRows.{first_window}
 use Rattle.jpg_color.proofs.encode.strips.put_part.Goals as goal
 
-pub put_blocks-requires-clause-window : goal.put_blocks-requires-clause-window
-put_blocks-requires-clause-window c =
+pub put_rows_of-requires-clause-window : goal.put_rows_of-requires-clause-window
+put_rows_of-requires-clause-window c =
     let strip = c.args.strip.now in
     let is = c.source_of-source.ensures in
     let high : 8 * c.v_max.result ≡ 8 * v_max strip.frame.now = ap (λ n. 8 * n) c.v_max.ensures.value in
@@ -17,4 +17,4 @@ put_blocks-requires-clause-window c =
 pub returns-clause-rows : goal.returns-clause-rows
 returns-clause-rows c =
     let f = c.args.strip.now.frame.now in
-    subst (λ (image : Image). OnOk c.put_blocks.result (AppendsRows f image c.args.i (component_at f c.args.i).v c.args.plane.now.items c.put_blocks.new.plane.items)) c.source_of-source.ensures.image c.put_blocks.ensures.rows
+    subst (λ (image : Image). OnOk c.put_rows_of.result (AppendsRows f image c.args.i (component_at f c.args.i).v c.args.plane.now.items c.put_rows_of.new.plane.items)) c.source_of-source.ensures.image c.put_rows_of.ensures.rows

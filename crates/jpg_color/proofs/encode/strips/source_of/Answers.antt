@@ -38,5 +38,6 @@ returns-clause-is c =
       wide = ap (λ n. 8 * n) wide;
       few = omega (arith, wide, row_few f.width (component_at f i).h (h_max f) c.checked.ensures.width_high (omega (arith, hm, c.h_max.ensures.low)) across);
       count = v;
+      made = made;
       rows = source_rows f (strip_image strip) i (c.h_max.result / k.result.h) (c.v_max.result / k.result.v) c.rows_made.result ratio ratio_down made;
     }

@@ -7,7 +7,7 @@ invariant-loop-left l =
     record {
       so_far : l.self ++ stuffed (whole_bytes (bits_of l.left l.word)) ≡ l.fn.self ++ stuffed (whole_bytes (bits_of l.count l.word));
       room : length l.self + 2 * (l.left / 8) ≤ 4096;
-      few : l.left ≤ 32;
+      few : l.left ≤ 64;
     }
 
 abbrev pub decreases-loop-left : goal.decreases-loop-left

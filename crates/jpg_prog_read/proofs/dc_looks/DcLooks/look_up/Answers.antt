@@ -7,7 +7,7 @@ pub loop-slot-init : goal.loop-slot-init
 loop-slot-init c = subst (λ (l : DcLooks). AreOf c.args.tables.now l.each) (sym c.requires) (none_of c.args.tables.now)
 
 pub loop-slot-preserved : goal.loop-slot-preserved
-loop-slot-preserved c = one_of c.args.tables.now c.loop-slot.self.each c.loop-slot.slot c.codes_of.result c.loop-slot.invariant (omega (arith, c.loop-slot-test.true)) c.codes_of.ensures
+loop-slot-preserved c = one_of c.args.tables.now c.loop-slot.self.each c.loop-slot.slot c.put_codes.new.place c.loop-slot.invariant (omega (arith, c.loop-slot-test.true)) c.put_codes.ensures
 
 pub returns : goal.returns
 returns c = all_looked_up c.args.tables.now _ c.loop-slot.invariant

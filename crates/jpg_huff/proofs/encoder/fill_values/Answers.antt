@@ -6,7 +6,7 @@ use Rattle.std.specs.Prelude.{◌-ℤ◌}
 use Rattle.jpg_huff.specs.Tables.{symbol_codes}
 use Rattle.jpg_huff.specs.Encoder.{IsValueEntry}
 use Rattle.jpg_huff.proofs.Encoded.{each_more}
-use Rattle.jpg_huff.proofs.encoder.value_entries.Goals as goal
+use Rattle.jpg_huff.proofs.encoder.fill_values.Goals as goal
 
 pub returns : goal.returns
 returns c = λ n h. c.loop-i.invariant.1 n (omega (arith, h, c.loop-i-test.false))
