@@ -1,5 +1,6 @@
 pub mod ColourRows
 pub mod PixelLanes
+mod BlockNumbers
 pub mod BlockRows
 pub mod PlainRows
 pub mod CutBlocks
@@ -20,7 +21,6 @@ pub mod OnlyFirst
 pub mod PartNumbers
 pub mod PartsShown
 pub mod Pixels
-pub mod Places
 pub mod Products
 pub mod Refused
 pub mod RowRanges
@@ -33,7 +33,6 @@ pub mod StripParts
 pub mod StripsFresh
 pub mod StripsKept
 pub mod StripsNext
-mod Swizzled
 pub mod Three
 pub mod Windows
 pub mod EncodeFrames

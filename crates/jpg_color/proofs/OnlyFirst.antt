@@ -13,7 +13,10 @@ use Rattle.jpg_spec.specs.Elements.{is_zero}
 use Rattle.jpg_spec.specs.Zigzag.{zigzag}
 use Rattle.jpg_spec_image.specs.Dct.{number_at, dequantised}
 use Rattle.jpg_spec.proofs.Rows.{by_items}
-use Rattle.jpg_color.proofs.Places.{places, place_is, place_low, value_of}
+use Rattle.jpg_dct.proofs.Zigzag.{places, place_is, place_low}
+
+abbrev value_of : List ℕ → List ℤ → ℕ → ℤ
+value_of quants block n = number_at block (index_of n zigzag) *ℤ pos (slice_index quants (index_of n zigzag))
 
 zero_value : (v : ℤ) → ◌≡◌ {A = ℕ} (cond (is_zero v) 0 1) 0 → v ≡ pos 0
 zero_value (pos zero) e = refl

@@ -14,6 +14,7 @@ pub mod Samples
 pub mod Scaled
 pub mod Several
 pub mod ShortBlocks
+pub mod Swizzled
 pub mod TableLists
 pub mod TableRuns
 pub mod Wrapped

@@ -1,17 +1,20 @@
 -- Coefficients times quantisers, in 32 bits and in 16.
-use Rattle.std.proofs.Common.{◌≡◌, ℕ, zero, suc, ◌<◌, ◌≤◌, List, length, slice_index, ℤ, pos, negsuc, ◌*ℤ◌, nat_abs, All, refl, sym, ap, ◌∙◌, subst, arith, ⊎_elim}
+use Rattle.std.proofs.Common.{◌≡◌, ℕ, zero, suc, ◌<◌, ◌≤◌, List, length, map, slice_index, ℤ, pos, negsuc, ◌*ℤ◌, nat_abs, All, refl, sym, ap, ◌∙◌, subst, arith, ⊎_elim}
 use Rattle.std.specs.Int.{w16, int_wrap}
 use Rattle.std.proofs.lemmas.Bool.{cases_lt}
 use Rattle.std.proofs.lemmas.Int.{ints, int_wrap_fits}
 use Rattle.std.proofs.lemmas.List.{get_or-map, length-map}
 use Rattle.std.proofs.lemmas.List.Elements.{All-from_get_or}
-use Rattle.jpg_spec.specs.Lists.{below}
+use Rattle.jpg_spec.specs.Lists.{below, index_of}
+use Rattle.jpg_spec.specs.Zigzag.{zigzag}
 use Rattle.jpg_spec.proofs.Common.{length_below}
 use Rattle.jpg_spec.proofs.Rows.{at_below, by_items}
-use Rattle.jpg_spec_image.specs.Dct.{number_at}
+use Rattle.jpg_spec_image.specs.Dct.{number_at, dequantised}
 use Rattle.jpg_dct.specs.Multipliers.{Multiplies, AreMultipliers, AreLimited, scaled}
+use Rattle.jpg_dct.specs.Natural.{natural}
 use Rattle.jpg_dct.proofs.Bounds.{abs_scaled, all_at}
 use Rattle.jpg_dct.proofs.Eights.{fits16}
+use Rattle.jpg_dct.proofs.Swizzled.{low, natural_all}
 
 abbrev scaled_number : List ℕ → List ℤ → ℕ → ℤ
 scaled_number quants given n = number_at given n *ℤ pos (slice_index quants n)
@@ -28,13 +31,28 @@ each_scaled P quants given each =
     All-from_get_or P (scaled quants given) (pos 0)
     (λ k h. (let lt : k < 64 = omega (arith, h, scaled_long quants given) in subst P (sym (scaled_at quants given k lt)) (each k lt)))
 
-pub scaled_bound : (quants : List ℕ) (given : List ℤ) → ((i : ℕ) → slice_index quants i < 65536) → All (λ x. nat_abs x ≤ 1024) given → All (λ x. nat_abs x ≤ 67108864) (scaled quants given)
+-- in natural order they are the dequantised block
+abbrev value_of : List ℕ → List ℤ → ℕ → ℤ
+value_of quants given n = scaled_number quants given (index_of n zigzag)
+
+pub in_natural : (quants : List ℕ) (given : List ℤ) → natural (scaled quants given) ≡ dequantised quants given
+unfolding dequantised
+in_natural quants given =
+    by_items 64 (λ n. number_at (scaled quants given) (index_of n zigzag)) (map (value_of quants given) (below 64)) (pos 0) (length-map (below 64) (value_of quants given))
+    (λ n lt. scaled_at quants given (index_of n zigzag) (low n lt) ∙ sym (get_or-map (value_of quants given) (below 64) n 0 (pos 0) lt ∙ ap (value_of quants given) (at_below 64 n lt)))
+
+scaled_bound : (quants : List ℕ) (given : List ℤ) → ((i : ℕ) → slice_index quants i < 65536) → All (λ x. nat_abs x ≤ 1024) given → All (λ x. nat_abs x ≤ 67108864) (scaled quants given)
 scaled_bound quants given fit small =
     each_scaled (λ x. nat_abs x ≤ 67108864) quants given
     (λ k lt. (let q : ℕ = slice_index quants k in
     let few : q < 65536 = fit k in
     let h : nat_abs (number_at given k) ≤ 1024 = all_at (λ x. nat_abs x ≤ 1024) given k (pos 0) small (omega arith) in
     omega (arith, abs_scaled (number_at given k) q 1024 h, few)))
+
+pub dequantised_bound : (quants : List ℕ) (given : List ℤ) → ((i : ℕ) → slice_index quants i < 65536) → All (λ x. nat_abs x ≤ 1024) given → All (λ x. nat_abs x ≤ 67108864) (dequantised quants given)
+dequantised_bound quants given fit small =
+    subst (All (λ x. nat_abs x ≤ 67108864)) (in_natural quants given)
+    (natural_all (λ x. nat_abs x ≤ 67108864) (scaled quants given) (omega arith) (scaled_bound quants given fit small))
 
 -- PRODUCTS of 16 bits
 

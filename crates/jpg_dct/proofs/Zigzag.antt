@@ -1,5 +1,5 @@
 -- Blocks in natural order and in zigzag order.
-use Rattle.std.proofs.Common.{◌≡◌, ℕ, ◌+◌, ◌*◌, ◌/◌, ◌%◌, ◌<◌, ◌≤◌, true, List, [], ◌∷◌, ◌++◌, length, take, set, get_or, slice_index, map, add-one, refl, sym, ap, ◌∙◌, subst, arith, ⊎_elim, ◌≢◌, All, ℤ, pos, nat_lt, nat_abs, negsuc, neg_ℤ}
+use Rattle.std.proofs.Common.{◌≡◌, ℕ, ◌+◌, ◌*◌, ◌/◌, ◌%◌, ◌^◌, ◌<◌, ◌≤◌, true, List, [], ◌∷◌, ◌++◌, length, take, set, get_or, slice_index, map, add-one, refl, sym, ap, ◌∙◌, subst, arith, ⊎_elim, ◌≢◌, All, ℤ, pos, nat_lt, nat_abs, negsuc, neg_ℤ}
 use Rattle.std.specs.Prelude.{zip}
 use Rattle.std.proofs.lemmas.Bool.{ltb-true, cases_lt}
 use Rattle.std.proofs.lemmas.List.{get_or-map, take_more_set, take_all, map-append, get_or-set_same, get_or-set_other}
@@ -25,6 +25,9 @@ place_is n lt = get_or-map (λ m. index_of m zigzag) (below 64) n 0 0 lt ∙ ap 
 
 pub place_low : (n : ℕ) → n < 64 → get_or places n 0 < 64
 place_low n lt = ltb-true (get_or places n 0) 64 (All-get_or (λ x. nat_lt x 64 ≡ true) places n 0 lt (AllPass-from_list_all (λ x. nat_lt x 64) places refl))
+
+pub pair_fits : (k : ℕ) → k < 64 → k * 2 < 2 ^ 64
+pair_fits k lt = omega (arith, lt)
 
 abbrev pub value_of : List ℕ → ℕ → ℕ
 value_of table n = slice_index table (index_of n zigzag)

@@ -15,6 +15,6 @@ pub record AreMultipliers (quants : List ℕ) (factors : List ℤ) (limits : Lis
 abbrev pub AreLimited : List ℤ → List ℕ → Type 0
 AreLimited given limits = (n : ℕ) → n < 64 → nat_abs (number_at given n) ≤ slice_index limits n
 
--- each coefficient times its quantiser, all in natural order
+-- each coefficient times its quantiser, all in zigzag order
 abbrev pub scaled : List ℕ → List ℤ → List ℤ
 scaled quants given = map (λ n. number_at given n *ℤ pos (slice_index quants n)) (below 64)

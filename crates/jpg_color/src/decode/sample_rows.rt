@@ -6,9 +6,10 @@ ghost use Rattle.jpg_coefs.specs.Picture.{map_of};
 ghost use Rattle.jpg_color.specs.KeptRows.{HasRows, stride, kept_rows_of, last_row, sample_in, with_gray, with_block_rows};
 ghost use Rattle.jpg_color.specs.RowBytes.{PutsBlock, PutsRows};
 
-use crate::decode::blocks::{multipliers, samples_by};
+use crate::decode::blocks::samples_by;
 use jpg_base::{NoMemory, QuantTable};
 use jpg_coefs::{BlockView, Coefs};
+use jpg_dct::Multipliers;
 use std::alloc::Global;
 use std::marker::Model;
 use std::vec::Vec;
@@ -102,7 +103,7 @@ fn put_row_of_blocks(
     ensures { PutsRows (stride wide) row rows (stride wide) (sample_in quants.now (map_of coefs.now) i at) samples.old samples.new }
 {
     let line = line_of(wide);
-    let steps = multipliers(quants);
+    let steps = Multipliers::new(&quants.values());
     for x in 0..wide.div_ceil(8) {
         let block = samples_by(&coefs.block(i, x, at), quants, &steps);
         put_block(samples, line, row, x as usize, &block, rows);

@@ -1,14 +1,23 @@
 //! Quantisers prepared for multiplication, and blocks of coefficients as samples by them (T.81, A.3.3, A.3.4).
 ghost use Rattle.std.specs.Prelude.{◌≡◌, ◌*◌, ◌<◌, ◌≤◌, ◌*ℤ◌, ℕ, pos, nat_abs, All, IsTrue, length, slice_index};
 ghost use Rattle.std.specs.Int.{int_wrap, w16};
-ghost use Rattle.jpg_spec_image.specs.Dct.{number_at, inverse_dct};
-ghost use Rattle.jpg_dct.specs.Multipliers.{AreMultipliers, Multiplies, AreLimited, scaled};
+ghost use Rattle.jpg_spec_image.specs.Dct.{number_at, dequantised, inverse_dct};
+ghost use Rattle.jpg_dct.specs.Multipliers.{AreMultipliers, Multiplies, AreLimited};
+ghost use Rattle.jpg_dct.specs.Natural.{natural};
 
 use crate::inverse::short::idct_short;
 use crate::inverse::{dequantise, idct};
 use std::marker::Model;
+use std::simd::i16x64;
 
-/// 64 quantisers in natural order, prepared for multiplication.
+// The place in zigzag order of each natural index.
+const PLACES: [usize; 64] = [
+    0, 1, 5, 6, 14, 15, 27, 28, 2, 4, 7, 13, 16, 26, 29, 42, 3, 8, 12, 17, 25, 30, 41, 43, 9, 11,
+    18, 24, 31, 40, 44, 53, 10, 19, 23, 32, 39, 45, 52, 54, 20, 22, 33, 38, 46, 51, 55, 60, 21, 34,
+    37, 47, 50, 56, 59, 61, 35, 36, 48, 49, 57, 58, 62, 63,
+];
+
+/// 64 quantisers in zigzag order, prepared for multiplication.
 #[derive(Drop)]
 pub struct Multipliers {
     quants: [u16; 64],
@@ -86,14 +95,25 @@ fn products(given: &[i16; 64], factors: &[i16; 64]) -> [i16; 64]
     values
 }
 
-// The products in 32 bits.
+// Numbers put from zigzag order into natural order. They are products already: what has just been loaded the compiler
+// would take from memory number by number.
+#[inline(always)]
+fn in_order(values: &[i16; 64]) -> [i16; 64]
+    requires { All (λ x. nat_abs x ≤ 1090) values.now }
+    ensures { result ≡ natural values.now }
+{
+    i16x64::from_array(*values).swizzle(PLACES).to_array()
+}
+
+// The products in 32 bits, in natural order.
 fn long_products(given: &[i16; 64], quants: &[u16; 64]) -> [i32; 64]
     requires { All (λ x. nat_abs x ≤ 1024) given.now }
-    ensures { result ≡ scaled quants.now given.now }
+    ensures { result ≡ dequantised quants.now given.now }
 {
     let mut values = [0; 64];
     for n in 0..64 {
-        values[n] = dequantise(given[n], quants[n]);
+        let k = PLACES[n];
+        values[n] = dequantise(given[k], quants[k]);
     }
     values
 }
@@ -102,13 +122,13 @@ fn long_products(given: &[i16; 64], quants: &[u16; 64]) -> [i32; 64]
 #[inline(never)]
 fn large_block(given: &[i16; 64], quants: &[u16; 64]) -> [u8; 64]
     requires { All (λ x. nat_abs x ≤ 1024) given.now }
-    ensures { result ≡ inverse_dct (scaled quants.now given.now) }
+    ensures { result ≡ inverse_dct (dequantised quants.now given.now) }
 {
     idct(&long_products(given, quants))
 }
 
 impl Multipliers {
-    /// The quantisers of a table in natural order.
+    /// The quantisers of a table in zigzag order.
     pub fn new(quants: &[u16; 64]) -> Multipliers
         ensures { result ≡ quants.now }
     {
@@ -126,14 +146,15 @@ impl Multipliers {
         }
     }
 
-    /// The 64 samples of quantised coefficients, both in natural order.
+    /// The 64 samples, row by row, of quantised coefficients in zigzag order.
     #[inline(always)]
     pub fn block(&self, given: &[i16; 64]) -> [u8; 64]
         requires { All (λ x. nat_abs x ≤ 1024) given.now }
-        ensures { result ≡ inverse_dct (scaled self.now given.now) }
+        ensures { result ≡ inverse_dct (dequantised self.now given.now) }
     {
         if are_limited(given, &self.limits) {
-            idct_short(&products(given, &self.factors))
+            let products = products(given, &self.factors);
+            idct_short(&in_order(&products))
         } else {
             large_block(given, &self.quants)
         }

@@ -2,7 +2,7 @@ use Rattle.std.proofs.Common.{rules, ◌≡◌, to_z, of_z, FitsSigned, ◌∙�
 use Rattle.std.specs.Int.{w16}
 use Rattle.std.proofs.lemmas.Int.{to_z-of_z}
 use Rattle.std.proofs.lemmas.List.{length-set}
-use Rattle.jpg_color.proofs.Places.{number_step, numbers_done}
+use Rattle.jpg_color.proofs.BlockNumbers.{number_step, numbers_done}
 use Rattle.jpg_color.proofs.decode.blocks.numbers.Goals as goal
 
 pub loop-k-preserved : goal.loop-k-preserved

@@ -1,6 +1,6 @@
 use Rattle.std.proofs.Common.{rules, ◌≡◌, length}
-use Rattle.jpg_color.proofs.Swizzled.{swizzled}
-use Rattle.jpg_color.proofs.decode.blocks.in_order.Goals as goal
+use Rattle.jpg_dct.proofs.Swizzled.{swizzled}
+use Rattle.jpg_dct.proofs.inverse.multipliers.in_order.Goals as goal
 
 pub returns : goal.returns
 returns c =
