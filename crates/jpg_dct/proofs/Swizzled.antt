@@ -1,10 +1,10 @@
 -- Numbers and lanes put from zigzag order into natural order.
-use Rattle.std.proofs.Common.{◌≡◌, ℕ, ◌<◌, ◌≤◌, true, List, ◌++◌, length, get_or, map, refl, sym, subst, ap, ◌∙◌, arith, ℤ, pos, nat_lt, nat_abs, to_z, of_z, All}
+use Rattle.std.proofs.Common.{◌≡◌, ℕ, ◌<◌, ◌≤◌, true, List, ◌++◌, length, take, get_or, map, refl, sym, subst, ap, ◌∙◌, arith, ℤ, pos, nat_lt, nat_abs, to_z, of_z, All}
 use Rattle.std.specs.Int.{w16}
 use Rattle.std.specs.Simd.Lanes.{pick_l}
 use Rattle.std.proofs.lemmas.Bool.{ltb-true}
 use Rattle.std.proofs.lemmas.Int.{to_z-of_z, fits_signed_from_abs}
-use Rattle.std.proofs.lemmas.List.{get_or-map, get_or_append_left, length-map}
+use Rattle.std.proofs.lemmas.List.{get_or-map, get_or_append_left, length-map, take_all}
 use Rattle.std.proofs.lemmas.List.Elements.{All-from_get_or}
 use Rattle.std.proofs.lemmas.List.Sums.{AllPass-from_list_all}
 use Rattle.jpg_spec.specs.Lists.{below, index_of}
@@ -45,3 +45,8 @@ swizzled xs l small =
         let few : nat_abs (get_or xs k (pos 0)) ≤ 1090 = all_at (λ x. nat_abs x ≤ 1090) xs k (pos 0) small (omega arith) in
         ap (to_z w16) (get_or_append_left (lanes xs) (lanes xs) 0 k (omega (arith, m, l, lt)) ∙ get_or-map (of_z w16) xs k (pos 0) 0 (omega (arith, l, lt)))
         ∙ to_z-of_z w16 (get_or xs k (pos 0)) (fits_signed_from_abs w16 (get_or xs k (pos 0)) (omega (arith, few)))
+
+-- the same, of lanes that were loaded from a slice
+pub swizzled_slice : (xs : List ℤ) → length xs ≡ 64 → All (λ x. nat_abs x ≤ 1090) xs → map (to_z w16) (pick_l 0 (lanes (take 64 xs) ++ lanes (take 64 xs)) places) ≡ natural xs
+swizzled_slice xs l small =
+    subst (λ ys. map (to_z w16) (pick_l 0 (lanes ys ++ lanes ys) places) ≡ natural xs) (sym (take_all 64 xs (omega (arith, l)))) (swizzled xs l small)

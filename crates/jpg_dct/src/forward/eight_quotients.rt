@@ -146,5 +146,6 @@ pub(crate) fn in_zigzag(d: Eight) -> [i16; 64]
     let fourth = d.v6.shuffle::<16>(d.v7, ALL_OF_TWO);
     let upper = first.shuffle::<32>(second, ALL_OF_FOUR);
     let lower = third.shuffle::<32>(fourth, ALL_OF_FOUR);
-    upper.shuffle::<64>(lower, ZIGZAG).to_array()
+    let all = upper.shuffle::<64>(lower, ZIGZAG);
+    *all.as_array()
 }

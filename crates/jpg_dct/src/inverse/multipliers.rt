@@ -96,13 +96,14 @@ fn products(given: &[i16; 64], factors: &[i16; 64]) -> [i16; 64]
 }
 
 // Numbers put from zigzag order into natural order. They are products already: what has just been loaded the compiler
-// would take from memory number by number.
+// would take from memory number by number; and `as_array` remains one vector, where `to_array` makes 64 numbers.
 #[inline(always)]
 fn in_order(values: &[i16; 64]) -> [i16; 64]
     requires { All (λ x. nat_abs x ≤ 1090) values.now }
     ensures { result ≡ natural values.now }
 {
-    i16x64::from_array(*values).swizzle(PLACES).to_array()
+    let lanes = i16x64::from_slice(values).swizzle(PLACES);
+    *lanes.as_array()
 }
 
 // The products in 32 bits, in natural order.

@@ -247,7 +247,8 @@ fn block_of(p0: u8x16, p1: u8x16, p2: u8x16, p3: u8x16) -> [u8; 64]
     let (g2, g3) = e1.interleave(f1);
     let upper = g0.shuffle::<32>(g1, ALL_OF_FOUR);
     let lower = g2.shuffle::<32>(g3, ALL_OF_FOUR);
-    upper.shuffle::<64>(lower, ALL_OF_EIGHT).to_array()
+    let all = upper.shuffle::<64>(lower, ALL_OF_EIGHT);
+    *all.as_array()
 }
 
 // Row v of 64 coefficients.
