@@ -10,7 +10,7 @@ use Rattle.jpg_spec.specs.UnfinishedFile.{IsWholeFile}
 use Rattle.jpg_spec.specs.declared.frame.Copying.{Copying}
 use Rattle.jpg_spec.specs.declared.frame.Copying.TheVariants.{All}
 use Rattle.jpg_spec.specs.declared.frame.Limits.{Limits}
-use Rattle.jpg_spec.proofs.FileLaws.{means_more}
+use Rattle.jpg_spec.proofs.Files.FileLaws.{means_more}
 use Rattle.jpg_spec_image.specs.Front.{EndsNotBefore, EndsScan, IsFront}
 use Rattle.jpg_spec_image.proofs.Fronts.{one_front}
 use Rattle.jpg_base.specs.declared.stop.Fed.TheVariants as fed
@@ -22,7 +22,7 @@ use Rattle.jpg_file.specs.Read.PictureRead.{MeansFor, TakesEarly, TakesPicture, 
 use Rattle.jpg_file.specs.Read.ReadFile.{AfterEnd, IsDone, IsEarlyEnd, IsRefusal, ReaderState, StopsAt}
 use Rattle.jpg_file.specs.declared.read.ends.End.TheVariants as ends
 use Rattle.jpg_file.specs.declared.read.picture.Picture.{Picture}
-use Rattle.jpg_file.proofs.Keeping.{kept_for_all}
+use Rattle.jpg_file.proofs.Files.Keeping.{kept_for_all}
 use Rattle.jpg_preview.specs.Viewing.{AfterView, HasFront, HasViewed, IsShown, PreviewState, StopsFront}
 use Rattle.jpg_preview.proofs.FrontFound.{shown_has_front}
 use Rattle.example_callers.specs.FirstScans.{IsFirstScansOf}

@@ -1,6 +1,6 @@
 //! A picture read, and transformed without loss, by `jpg_file` and `jpg_transform` (T.81, B.2; the manual of jpegtran).
 ghost use Rattle.jpg_file.specs.Read.PictureRead.{picture_meaning};
-ghost use Rattle.jpg_transform.specs.Planned.{IsJobFor, choice_told};
+ghost use Rattle.jpg_transform.specs.Planned.{IsJobFor, choice_view};
 ghost use Rattle.example_callers.specs.Calling.{IsPictureOf, IsTurned, IsTurnedCoefs, HoldsTurned};
 
 use jpg_base::{Desk, MemoryDesk, Name, Put};
@@ -37,7 +37,7 @@ pub fn read_picture(alloc: Global, file: &[u8]) -> Result<Picture, Stop>
 /// A desk whose one output, named `Name::Out`, has the file of the transformed picture. It answers what `read_picture`
 /// stops at, the picture's fault if it can't be converted to grayscale, or NoMemory.
 pub fn turn(alloc: Global, file: &[u8], choice: &Choice) -> Result<MemoryDesk, NotTurned>
-    ensures { IsTurned file.now (choice_told choice.now) result }
+    ensures { IsTurned file.now (choice_view choice.now) result }
 {
     let picture = match read_picture(alloc, file) {
         Ok(picture) => picture,
@@ -56,8 +56,8 @@ pub fn write_turned(
     choice: &Choice,
     job: &Job,
 ) -> Result<MemoryDesk, NotTurned>
-    requires { IsJobFor picture.now (choice_told choice.now) job.now }
-    ensures { HoldsTurned (choice_told choice.now) (picture_meaning picture.now) result }
+    requires { IsJobFor picture.now (choice_view choice.now) job.now }
+    ensures { HoldsTurned (choice_view choice.now) (picture_meaning picture.now) result }
 {
     let moved = Moved::new(picture, job);
     let mut desk = MemoryDesk::new(alloc, 1);
@@ -72,7 +72,7 @@ pub fn write_turned(
 
 /// The coefficients of the transformed picture, without a file. It answers the same stops and faults.
 pub fn turn_coefs(alloc: Global, file: &[u8], choice: &Choice) -> Result<Coefs, NotTurned>
-    ensures { IsTurnedCoefs file.now (choice_told choice.now) result }
+    ensures { IsTurnedCoefs file.now (choice_view choice.now) result }
 {
     let picture = match read_picture(alloc, file) {
         Ok(picture) => picture,

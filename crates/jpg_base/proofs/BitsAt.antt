@@ -7,8 +7,8 @@ use Rattle.std.proofs.lemmas.Nat.{shr_high, pow-add, or_shifted, mod-mul-add, po
 use Rattle.std.proofs.Math.Nat.{div-div-eq-div-mul, pow-succ', mod-lt, mul-lt-mul_of_pos_right, mul_assoc, add-mul}
 use Rattle.std.proofs.Math.Seq.{drop-append_seam}
 use Rattle.jpg_spec.specs.Bits.{bits_of}
-use Rattle.jpg_spec.proofs.Strings.{length-bits_of}
-use Rattle.jpg_spec.proofs.Common.{take_front}
+use Rattle.jpg_spec.proofs.Basics.Strings.{length-bits_of}
+use Rattle.jpg_spec.proofs.Basics.Common.{take_front}
 
 -- a prefix and the rest of a string
 pub bits_of-add : (d t n : ℕ) → bits_of (d + t) n ≡ bits_of d (n / 2 ^ t) ++ bits_of t n

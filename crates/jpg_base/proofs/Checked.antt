@@ -11,7 +11,7 @@ use Rattle.jpg_spec.specs.declared.frame.Component.{Component}
 use Rattle.jpg_spec.specs.declared.frame.Limits.{Limits}
 use Rattle.jpg_base.specs.Frame.{IsCheckedFrame}
 use Rattle.jpg_base.proofs.Grids.{across_low, across_high, down_low, down_high}
-use Rattle.jpg_spec.proofs.FrameFound.{all_factors}
+use Rattle.jpg_spec.proofs.Headers.FrameFound.{all_factors}
 
 -- a test that nothing passes
 none_meet : {X : Type 0} (test : X → Bool) (P : X → Type 0) → ((x : X) → test x ≡ false → P x) → (xs : List X) → any_of test xs ≡ false → All P xs

@@ -10,8 +10,8 @@ use Rattle.jpg_spec.specs.Lists.{below}
 use Rattle.jpg_spec.specs.declared.frame.Place.{Place}
 use Rattle.jpg_base.specs.declared.cursor.CursorPart.{CursorPart}
 use Rattle.jpg_base.specs.Cursor.{IsAt, HasPartFactors, no_part, spot_of, row_left, part_row, below_row, part_spots, after_part, mcu_spots, after_mcu, line_spots, after_line, all_spots, spots_from, spots_left}
-use Rattle.jpg_spec.proofs.Rows.{at_below}
-use Rattle.jpg_spec.proofs.Common.{length_below}
+use Rattle.jpg_spec.proofs.Basics.Rows.{at_below}
+use Rattle.jpg_spec.proofs.Basics.Common.{length_below}
 
 -- the numbers from i on
 pub next_below : (n i : ℕ) → i < n → drop i (below n) ≡ i ∷ drop (i + 1) (below n)

@@ -13,7 +13,7 @@ use Rattle.jpg_spec.specs.Lists.{below}
 use Rattle.jpg_spec.specs.Geometry.{Frame, div_up, place, mcu_part, interleaved_units, units, component_at, blocks_across, blocks_down, mcus_across, mcus_down, h_max, v_max, IsReal}
 use Rattle.jpg_spec.specs.FrameHeader.{IsFrame, padded_across, padded_down}
 use Rattle.jpg_base.proofs.Grids.{across_low, down_low}
-use Rattle.jpg_spec.proofs.PlacesFound.{real_in_padded}
+use Rattle.jpg_spec.proofs.Places.PlacesFound.{real_in_padded}
 use Rattle.jpg_spec.specs.declared.frame.Place.{Place}
 use Rattle.jpg_spec.specs.declared.frame.ScanPart.{ScanPart}
 use Rattle.jpg_base.specs.Cursor.{AreIn, IsPadded, lone_part, cursor_part_of, part_spots, mcu_spots, line_spots, all_spots}

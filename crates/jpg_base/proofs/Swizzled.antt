@@ -9,7 +9,7 @@ use Rattle.std.proofs.lemmas.List.{get_or-map, get_or_append_left, length-map}
 use Rattle.std.proofs.lemmas.List.Sums.{AllPass-from_list_all}
 use Rattle.jpg_spec.specs.Zigzag.{zigzag}
 use Rattle.jpg_spec.specs.Transposed.{exchanged, transposed}
-use Rattle.jpg_spec.proofs.Rows.{map_map, map_alike}
+use Rattle.jpg_spec.proofs.Basics.Rows.{map_map, map_alike}
 use Rattle.jpg_base.proofs.Exchanged.{places}
 
 abbrev pub lanes : List ℤ → List ℕ

@@ -14,8 +14,8 @@ use Rattle.jpg_spec.specs.Lists.{below}
 use Rattle.jpg_spec.specs.Geometry.{Frame, no_component, place, mcu_part, units, component_at, blocks_across, blocks_down, mcus_across, mcus_down, factor_sum, mcu_units, scan_mcus_across}
 use Rattle.jpg_spec.specs.declared.frame.Place.{Place}
 use Rattle.jpg_base.specs.Cursor.{scan_mcus_down}
-use Rattle.jpg_spec.proofs.Rows.{at_below}
-use Rattle.jpg_spec.proofs.Common.{length_below}
+use Rattle.jpg_spec.proofs.Basics.Rows.{at_below}
+use Rattle.jpg_spec.proofs.Basics.Common.{length_below}
 
 pub length_rows : {A : Type 0} (g : ℕ → List A) (n m : ℕ) → ((k : ℕ) → length (g k) ≡ m) → length (flat_map g (below n)) ≡ n * m
 length_rows g zero m each = omega arith

@@ -24,8 +24,8 @@ named s = (s.name, s.bytes.items)
 abbrev pub answered : Asked → Name × Put
 answered a = (a.name, a.answer)
 
-abbrev pub told_names : Option (Vec Asked Global) → Option (List (Name × Put))
-told_names asked = option_map (λ v. map answered v.items) asked
+abbrev pub names_view : Option (Vec Asked Global) → Option (List (Name × Put))
+names_view asked = option_map (λ v. map answered v.items) asked
 
 abbrev pub memory_state : MemoryDesk → DeskState
 memory_state d = record {
@@ -33,7 +33,7 @@ memory_state d = record {
   left = option_map input_rest d.input;
   outputs = Some (map named d.outputs.items);
   said = Some d.said.items;
-  asked = told_names d.asked;
+  asked = names_view d.asked;
   counts = d.counts;
   input_open = is_some d.input;
   output_created = nat_lt 0 (length d.outputs.items);

@@ -5,10 +5,10 @@ use Rattle.jpg_base.specs.declared.names.Put.{Put}
 use Rattle.jpg_base.specs.declared.names.Put.TheVariants.{Done, Failed}
 use Rattle.jpg_base.specs.declared.names.Got.{Got}
 use Rattle.jpg_base.specs.declared.names.Got.TheVariants as got
-use Rattle.jpg_base.specs.declared.standard.Told.{Told}
+use Rattle.jpg_base.specs.declared.standard.Parsed.{Parsed}
 use Rattle.jpg_base.specs.Desk.{DeskState}
 
-abbrev pub std_state : Told → DeskState
+abbrev pub std_state : Parsed → DeskState
 std_state told = record {
   files = None;
   left = None;

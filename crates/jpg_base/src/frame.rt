@@ -6,7 +6,7 @@ ghost use Rattle.jpg_base.specs.Frame.{numbers_of};
 
 use crate::frame_checks::{
     greatest_factors, has_more_blocks, has_same_ids, has_wrong_count, has_wrong_factors,
-    has_wrong_slots, is_empty, is_larger, is_unread, mcu_side, padded_side, real_side,
+    has_wrong_precision, has_wrong_slots, is_empty, is_larger, mcu_side, padded_side, real_side,
 };
 use arrayvec::ArrayVec;
 use jpg_spec::{Bounds, Component, Fault, Grid, Limits, Process};
@@ -61,7 +61,7 @@ impl Frame {
         if is_larger(width, height, limits.side) {
             return Err(Fault::TooLarge);
         }
-        if is_unread(process, precision) {
+        if has_wrong_precision(process, precision) {
             return Err(Fault::Precision);
         }
         if has_wrong_count(components) {

@@ -23,7 +23,7 @@ pub(crate) fn is_larger(width: u32, height: u32, side: u32) -> bool
 
 /// Whether samples have a number of bits that isn't read, which is any but 8, and but 12 where the process isn't
 /// baseline.
-pub(crate) fn is_unread(process: Process, precision: u8) -> bool
+pub(crate) fn has_wrong_precision(process: Process, precision: u8) -> bool
     ensures { result ≡ not (is_precision process precision) }
 {
     match process {

@@ -44,7 +44,7 @@ impl<R: Runtime> Write for Sink<R> {
 
 /// All of the desk's state that contracts see.
 #[derive(Clone, Copy)]
-pub struct Told {
+pub struct Parsed {
     pub counts: Counts,
     pub input_open: bool,
     pub output_created: bool,
@@ -60,7 +60,7 @@ pub struct StdDesk<R: Runtime> {
     sink: Sink<R>,
     beside: Beside,
     replaces: bool,
-    told: Told,
+    told: Parsed,
 }
 
 fn raise(count: &mut u64)
@@ -81,7 +81,7 @@ fn unused<R: Runtime>(rt: R, replaces: bool) -> StdDesk<R>
         sink: Sink::Closed,
         beside: Beside::new(),
         replaces,
-        told: Told {
+        told: Parsed {
             counts: Counts {
                 opens: 0,
                 reads: 0,

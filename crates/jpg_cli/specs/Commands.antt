@@ -7,15 +7,15 @@ use Rattle.jpg_spec_words.specs.Words.{is_tool}
 use Rattle.jpg_spec_words.specs.EncodeWords.{EncodeAsked, encode_asked}
 use Rattle.jpg_spec_words.specs.ShowWords.{ShowAsked, show_asked}
 use Rattle.jpg_spec_words.specs.TransformWords.{TransformAsked, transform_asked}
-use Rattle.jpg_spec_words.specs.Requests.{FileName, standard_input, standard_output, named, FilesAsked, WordsTold, words_right, words_wrong, usage_at}
+use Rattle.jpg_spec_words.specs.Requests.{FileName, standard_input, standard_output, named, FilesAsked, ParsedWords, words_right, words_wrong, usage_at}
 use Rattle.jpg_spec_words.specs.CommentWords.{WriteAsked, read_asked, write_asked}
 use Rattle.jpg_spec_words.specs.WorkWords.{work_asked}
 use Rattle.jpg_spec_words.specs.declared.answers.UsageFault.TheVariants.{NoTool, UnknownTool}
 use Rattle.jpg_cli.specs.Words.Files.{files_view}
-use Rattle.jpg_cli.specs.Words.CommentWords.{write_told}
-use Rattle.jpg_cli.specs.Words.EncodeWords.{encode_told}
-use Rattle.jpg_cli.specs.Words.ShowWords.{show_told}
-use Rattle.jpg_cli.specs.Words.TransformWords.{transform_told}
+use Rattle.jpg_cli.specs.Words.CommentWords.{write_words_view}
+use Rattle.jpg_cli.specs.Words.EncodeWords.{encode_view}
+use Rattle.jpg_cli.specs.Words.ShowWords.{show_view}
+use Rattle.jpg_cli.specs.Words.TransformWords.{transform_view}
 use Rattle.jpg_cli.specs.declared.words.Asked.{Asked}
 use Rattle.jpg_cli.specs.declared.words.Asked.TheVariants as asked
 use Rattle.jpg_cli.specs.declared.words.files.WordsStop.{WordsStop}
@@ -31,11 +31,11 @@ pub data Command : Type 0 where
   do_work : ℕ → Command
 
 -- what words ask for, as a command
-abbrev pub as_command : {X : Type 0} → (X → Command) → WordsTold X → WordsTold Command
+abbrev pub as_command : {X : Type 0} → (X → Command) → ParsedWords X → ParsedWords Command
 as_command command (words_wrong usage) = words_wrong usage
 as_command command (words_right asked) = words_right (command asked)
 
-abbrev pub known_command : List ℕ → List (List ℕ) → WordsTold Command
+abbrev pub known_command : List ℕ → List (List ℕ) → ParsedWords Command
 known_command tool words =
     if bytes_eq tool (codes "jpegtran") then as_command transform_picture (transform_asked words)
     else if bytes_eq tool (codes "djpeg") then as_command show_picture (show_asked words)
@@ -44,7 +44,7 @@ known_command tool words =
     else if bytes_eq tool (codes "wrjpgcom") then as_command insert_comment (write_asked words)
     else as_command do_work (work_asked words)
 
-abbrev pub command_asked : List (List ℕ) → WordsTold Command
+abbrev pub command_asked : List (List ℕ) → ParsedWords Command
 command_asked [] = usage_at NoTool 0
 command_asked (tool ∷ words) = if is_tool tool then known_command tool words else usage_at UnknownTool 0
 
@@ -56,13 +56,13 @@ name_of (named text) = name.File text
 
 -- ANSWERS
 
-abbrev pub command_told : Asked → Command
-command_told (asked.Jpegtran words) = transform_picture (transform_told words)
-command_told (asked.Djpeg words) = show_picture (show_told words)
-command_told (asked.Cjpeg words) = encode_image (encode_told words)
-command_told (asked.Rdjpgcom files) = print_comments (files_view files)
-command_told (asked.Wrjpgcom words) = insert_comment (write_told words)
-command_told (asked.Jpgwork n) = do_work n
+abbrev pub command_view : Asked → Command
+command_view (asked.Jpegtran words) = transform_picture (transform_view words)
+command_view (asked.Djpeg words) = show_picture (show_view words)
+command_view (asked.Cjpeg words) = encode_image (encode_view words)
+command_view (asked.Rdjpgcom files) = print_comments (files_view files)
+command_view (asked.Wrjpgcom words) = insert_comment (write_words_view words)
+command_view (asked.Jpgwork n) = do_work n
 
 -- a number of jpgwork is one from 1 to 400
 abbrev pub IsSized : Asked → Type 0
@@ -71,8 +71,8 @@ IsSized other = Unit {0}
 
 -- If the words are right, what they ask for; if they aren't, what is wrong. NoMemory is possible if a file is named, or
 -- a comment given.
-abbrev pub IsCommand : WordsTold Command → Result Asked WordsStop → Type 0
-IsCommand told (Ok a) = told ≡ words_right (command_told a)
+abbrev pub IsCommand : ParsedWords Command → Result Asked WordsStop → Type 0
+IsCommand told (Ok a) = told ≡ words_right (command_view a)
 IsCommand told (Err (stop.Usage usage)) = told ≡ words_wrong usage
 IsCommand told (Err stop.NoMemory) =
     ((a : TransformAsked) × (told ≡ words_right (transform_picture a)))

@@ -4,7 +4,7 @@ use Rattle.std.specs.Io.KnownBytes.{Appends}
 use Rattle.jpg_base.specs.Desk.{DeskState, Rose}
 use Rattle.jpg_spec_words.specs.declared.answers.Why.{Why}
 use Rattle.jpg_spec_words.specs.declared.answers.Why.TheVariants as why
-use Rattle.jpg_spec_words.specs.Requests.{FilesAsked, WordsTold, words_right, words_wrong}
+use Rattle.jpg_spec_words.specs.Requests.{FilesAsked, ParsedWords, words_right, words_wrong}
 use Rattle.jpg_spec_words.specs.CommentWords.{WriteAsked}
 use Rattle.jpg_spec_words.specs.Messages.{message, status_of}
 use Rattle.jpg_spec_words.specs.ShowWords.{ShowAsked}
@@ -47,7 +47,7 @@ abbrev pub task_of : WriteAsked → Task
 task_of asked = record { comment = asked.comment; input = name_of asked.files.input; output = name_of asked.files.output; replace = asked.replace }
 
 -- by the formats of the image writers, and what the words ask for
-abbrev pub Worked : List EndKind → WordsTold Command → DeskState → Why → DeskState → Type 0
+abbrev pub Worked : List EndKind → ParsedWords Command → DeskState → Why → DeskState → Type 0
 Worked formats (words_wrong usage) old ended new = (ended ≡ why.Usage usage) × Untouched old new
 Worked formats (words_right (transform_picture asked)) old ended new = Transformed asked old ended new
 Worked formats (words_right (show_picture asked)) old ended new = RanShow (has_format asked.kind formats) asked old ended new

@@ -62,7 +62,7 @@ pub fn add_number(message: &mut Message, number: u64)
     }
 }
 
-#[tactic(auto, using(crate::proofs::Names::usage_short))]
+#[tactic(auto, using(crate::proofs::Messages::Names::usage_short))]
 fn add_usage(message: &mut Message, usage: Usage)
     requires room { array_vec_len message.old ≤ 10 }
     ensures text { message.new.items ≡ message.old.items ++ text_of (why.Usage usage) }
@@ -83,7 +83,7 @@ fn add_warning(message: &mut Message, at: u64)
     add_number(message, at);
 }
 
-#[tactic(auto, using(crate::proofs::Names::fault_short))]
+#[tactic(auto, using(crate::proofs::Messages::Names::fault_short))]
 fn add_refusal(message: &mut Message, fault: FaultAt)
     requires room { array_vec_len message.old ≤ 10 }
     ensures text { message.new.items ≡ message.old.items ++ text_of (why.Refused fault) }
@@ -144,7 +144,7 @@ fn add_numbers(message: &mut Message, fault: PictureFault)
     }
 }
 
-#[tactic(auto, using(crate::proofs::Names::picture_short))]
+#[tactic(auto, using(crate::proofs::Messages::Names::picture_short))]
 fn add_picture(message: &mut Message, fault: PictureFault)
     requires room { array_vec_len message.old ≤ 10 }
     ensures text { message.new.items ≡ message.old.items ++ text_of (why.Picture fault) }
@@ -155,7 +155,7 @@ fn add_picture(message: &mut Message, fault: PictureFault)
     add_numbers(message, fault);
 }
 
-#[tactic(auto, using(crate::proofs::Names::which_short))]
+#[tactic(auto, using(crate::proofs::Messages::Names::which_short))]
 fn add_text(message: &mut Message, why: Why)
     requires room { array_vec_len message.old ≤ 10 }
     ensures text { message.new.items ≡ message.old.items ++ text_of why }

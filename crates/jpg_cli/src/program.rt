@@ -120,7 +120,7 @@ fn words<R: Runtime<A = Global>>(rt: &R) -> Result<Vec<String>, u8> {
 }
 
 /// Adds an image writer.
-#[tactic(auto, using(crate::proofs::FoundEnds::one_more_new))]
+#[tactic(auto, using(crate::proofs::ByRow::FoundEnds::one_more_new))]
 pub fn add_end(ends: &mut Vec<Box<dyn ImageEnd>>, end: Box<dyn ImageEnd>) -> Result<(), NoMemory>
     requires ends { AreNewEnds (map (λ e. progress e) ends.old.items) }
     requires end { progress end ≡ new_end (progress end).kind }

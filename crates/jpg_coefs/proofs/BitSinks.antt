@@ -12,8 +12,8 @@ use Rattle.jpg_spec.specs.Geometry.{Frame, units, mcu_units, is_progressive}
 use Rattle.jpg_spec.specs.Segments.{HuffmanTable, ScanHead, head_components}
 use Rattle.jpg_spec.specs.Scan.{Blocks}
 use Rattle.jpg_spec.specs.declared.frame.Place.{Place}
-use Rattle.jpg_spec.proofs.Rows.{map_map}
-use Rattle.jpg_spec.proofs.Each.{Each, each_rows}
+use Rattle.jpg_spec.proofs.Basics.Rows.{map_map}
+use Rattle.jpg_spec.proofs.Basics.Each.{Each, each_rows}
 use Rattle.jpg_spec_write.specs.ScanText.{UnitDue, Owned, units_due, last_dc, interval_elements, element_bits, scan_elements, scan_data, intervals_text}
 use Rattle.jpg_huff.specs.Waiting.{Waiting}
 use Rattle.jpg_huff.specs.BitOut.{CanSend, Puts, Pads, Sends}

@@ -10,7 +10,7 @@ use Rattle.jpg_spec.specs.Meaning.{real_blocks}
 use Rattle.jpg_spec.specs.Scan.{Blocks}
 use Rattle.jpg_spec.specs.PictureInWork.{is_at}
 use Rattle.jpg_spec.specs.declared.frame.Place.{Place}
-use Rattle.jpg_spec.proofs.Common.{both, same_of}
+use Rattle.jpg_spec.proofs.Basics.Common.{both, same_of}
 use Rattle.jpg_base.specs.Cursor.{IsPadded}
 use Rattle.jpg_base.proofs.ScanPlaces.{padded_of}
 use Rattle.jpg_coefs.specs.Picture.{Picture, HasPlace, map_of, with_block}

@@ -13,7 +13,7 @@ use Rattle.jpg_spec.specs.FrameHeader.{padded_across, padded_down}
 use Rattle.jpg_spec.specs.Scan.{Scan, block_at}
 use Rattle.jpg_spec.specs.PictureInWork.{is_at, OneChanges}
 use Rattle.jpg_spec.specs.declared.frame.Place.{Place}
-use Rattle.jpg_spec.proofs.Common.{both, lt_of, lt_yes}
+use Rattle.jpg_spec.proofs.Basics.Common.{both, lt_of, lt_yes}
 use Rattle.jpg_base.specs.Cursor.{IsPadded}
 use Rattle.jpg_coefs.specs.Picture.{Picture, HasPlace, KeepsOutside, is_padded, block_index, block_in, map_of, put_at}
 use Rattle.jpg_coefs.proofs.Apart.{changed, stays}

@@ -10,10 +10,10 @@ use Rattle.jpg_spec.specs.Segments.{ScanHead, head_components}
 use Rattle.jpg_spec.specs.declared.frame.Place.{Place}
 use Rattle.jpg_spec.specs.declared.frame.ScanPart.{ScanPart}
 use Rattle.jpg_base.specs.Cursor.{AreIn}
-use Rattle.jpg_spec.proofs.Common.{both, lt_of, same_of}
-use Rattle.jpg_spec.proofs.Each.{Each}
-use Rattle.jpg_spec.proofs.PlacesSome.{units_some}
-use Rattle.jpg_spec.proofs.PlacesFound.{each_units}
+use Rattle.jpg_spec.proofs.Basics.Common.{both, lt_of, same_of}
+use Rattle.jpg_spec.proofs.Basics.Each.{Each}
+use Rattle.jpg_spec.proofs.Places.PlacesSome.{units_some}
+use Rattle.jpg_spec.proofs.Places.PlacesFound.{each_units}
 use Rattle.jpg_coefs.specs.Sinks.{IsScanPlace}
 
 -- THE PART OF A COMPONENT

@@ -11,7 +11,7 @@ use Rattle.jpg_spec.specs.Lists.{chunks, chunks_of}
 use Rattle.jpg_spec.specs.Segments.{ScanHead}
 use Rattle.jpg_spec.specs.Scan.{Blocks}
 use Rattle.jpg_spec.specs.declared.frame.Place.{Place}
-use Rattle.jpg_spec.proofs.Common.{not_same, same_itself}
+use Rattle.jpg_spec.proofs.Basics.Common.{not_same, same_itself}
 use Rattle.jpg_spec_write.specs.ScanText.{UnitDue, units_due, last_dc}
 use Rattle.jpg_base.specs.declared.stop.WriteFault.{WriteFault}
 use Rattle.jpg_coefs.specs.Sinks.{IsScanPlace, block_due, no_last, last_in, At, Due, SinkKind, Goes, with_unit, TakesUnit, of_places, before_next, at_end, Begins, Ends, IsNextPlace, TakesPlace}

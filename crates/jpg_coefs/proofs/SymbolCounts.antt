@@ -12,7 +12,7 @@ use Rattle.jpg_spec.specs.Segments.{ScanHead, head_components}
 use Rattle.jpg_spec.specs.Elements.{symbol_of, is_dc_bit}
 use Rattle.jpg_spec.specs.Scan.{Blocks}
 use Rattle.jpg_spec.specs.declared.frame.Place.{Place}
-use Rattle.jpg_spec.proofs.Common.{lt_yes}
+use Rattle.jpg_spec.proofs.Basics.Common.{lt_yes}
 use Rattle.jpg_spec_write.specs.ScanText.{Owned, units_due, table_place, interval_elements, scan_elements, symbols_used, symbol_counts}
 use Rattle.jpg_huff.specs.Flat.{symbols_in}
 use Rattle.jpg_huff.specs.Counts.{Rows, row, count_of, capped, AreRows, no_rows, no_counts, Mark, is_mark, CountsToo, Notes}

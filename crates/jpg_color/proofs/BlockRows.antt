@@ -6,8 +6,8 @@ use Rattle.std.proofs.lemmas.List.{get_or-map, length-map, map-append}
 use Rattle.std.proofs.lemmas.List.Elements.{All-append, All-cons, All-nil}
 use Rattle.jpg_spec.specs.EncodingLaws.{AreSamples}
 use Rattle.jpg_spec.specs.Lists.{below}
-use Rattle.jpg_spec.proofs.Common.{length_below}
-use Rattle.jpg_spec.proofs.Rows.{at_below}
+use Rattle.jpg_spec.proofs.Basics.Common.{length_below}
+use Rattle.jpg_spec.proofs.Basics.Rows.{at_below}
 use Rattle.jpg_spec_encode.specs.Encoded.{samples_of_block}
 use Rattle.jpg_spec_image.proofs.CodedBlocks.{all_at}
 use Rattle.jpg_spec_image.specs.Downsampling.{in_rows}

@@ -16,11 +16,11 @@ use Rattle.jpg_spec.specs.declared.fault.Fault.TheVariants.{Precision, ColourOut
 use Rattle.jpg_spec.specs.declared.frame.Colour.{Colour}
 use Rattle.jpg_spec.specs.declared.frame.Colour.TheVariants.{Gray, YCbCr, Rgb, Cmyk, Ycck, Unknown}
 use Rattle.jpg_spec.specs.declared.frame.Component.{Component}
-use Rattle.jpg_spec.proofs.Common.{length_below, neither, clash, same_of}
-use Rattle.jpg_spec.proofs.Rows.{at_below, map_map, by_items}
-use Rattle.jpg_spec.proofs.TablesInForce.{affirmed}
+use Rattle.jpg_spec.proofs.Basics.Common.{length_below, neither, clash, same_of}
+use Rattle.jpg_spec.proofs.Basics.Rows.{at_below, map_map, by_items}
+use Rattle.jpg_spec.proofs.Segments.TablesInForce.{affirmed}
 use Rattle.jpg_base.proofs.Grids.{across_low, across_high, down_low, down_high}
-use Rattle.jpg_file.specs.Read.PictureKept.{component_told}
+use Rattle.jpg_file.specs.Read.PictureKept.{component_view}
 use Rattle.jpg_file.specs.Read.StripHead.{may_have}
 use Rattle.jpg_color.specs.Shown.{Display, IsShowable, picture_of, parts, all_rows, rows_in, factors_of, display_fault}
 use Rattle.jpg_spec.specs.FileMeaning.{no_blocks}
@@ -28,26 +28,26 @@ use Rattle.jpg_spec.specs.FileMeaning.{no_blocks}
 -- COMPONENTS
 
 pub count_is : (d : Display) (blocks : Blocks) → length (picture_of d blocks).components ≡ length d.frame.components
-count_is d blocks = length-map (below (length d.frame.components)) (component_told d.frame d.quants) ∙ length_below (length d.frame.components)
+count_is d blocks = length-map (below (length d.frame.components)) (component_view d.frame d.quants) ∙ length_below (length d.frame.components)
 
-pub component_is : (d : Display) (blocks : Blocks) (i : ℕ) → i < length d.frame.components → component_of (picture_of d blocks) i ≡ component_told d.frame d.quants i
+pub component_is : (d : Display) (blocks : Blocks) (i : ℕ) → i < length d.frame.components → component_of (picture_of d blocks) i ≡ component_view d.frame d.quants i
 component_is d blocks i h =
     let n = length d.frame.components in
-    get_or-map (component_told d.frame d.quants) (below n) i 0 (record { id = 0; h = 1; v = 1; quants = [] }) (subst (λ m. i < m) (sym (length_below n)) h)
-    ∙ ap (component_told d.frame d.quants) (at_below n i h)
+    get_or-map (component_view d.frame d.quants) (below n) i 0 (record { id = 0; h = 1; v = 1; quants = [] }) (subst (λ m. i < m) (sym (length_below n)) h)
+    ∙ ap (component_view d.frame d.quants) (at_below n i h)
 
-pub numbers_told : {A : Type 0} (f : Frame) (number : Component → A) → map (λ i. number (component_at f i)) (below (length f.components)) ≡ map number f.components
-numbers_told f number =
+pub parsed_numbers : {A : Type 0} (f : Frame) (number : Component → A) → map (λ i. number (component_at f i)) (below (length f.components)) ≡ map number f.components
+parsed_numbers f number =
     by_items (length f.components) (λ i. number (component_at f i)) (map number f.components) (number no_component) (length-map f.components number)
     (λ (i : ℕ) (h : i < length f.components). sym (get_or-map number f.components i no_component (number no_component) h))
 
 pub most_across_is : (d : Display) (blocks : Blocks) → most_across (picture_of d blocks) ≡ h_max d.frame
 most_across_is d blocks =
-    ap greatest (map_map (λ c. c.h) (component_told d.frame d.quants) (below (length d.frame.components)) ∙ numbers_told d.frame (λ c. c.h))
+    ap greatest (map_map (λ c. c.h) (component_view d.frame d.quants) (below (length d.frame.components)) ∙ parsed_numbers d.frame (λ c. c.h))
 
 pub most_down_is : (d : Display) (blocks : Blocks) → most_down (picture_of d blocks) ≡ v_max d.frame
 most_down_is d blocks =
-    ap greatest (map_map (λ c. c.v) (component_told d.frame d.quants) (below (length d.frame.components)) ∙ numbers_told d.frame (λ c. c.v))
+    ap greatest (map_map (λ c. c.v) (component_view d.frame d.quants) (below (length d.frame.components)) ∙ parsed_numbers d.frame (λ c. c.v))
 
 pub samples_across_is : (d : Display) (blocks : Blocks) (i : ℕ) → i < length d.frame.components
     → samples_across (picture_of d blocks) i ≡ div_up (d.frame.width * (component_at d.frame i).h) (h_max d.frame)

@@ -14,7 +14,7 @@ use Rattle.jpg_spec_encode.specs.Encoded.{samples_of_block, pixel_component}
 use Rattle.jpg_spec_image.specs.declared.image.ImageKind.{ImageKind}
 use Rattle.jpg_spec_image.specs.declared.image.ImageKind.TheVariants.{Gray}
 use Rattle.jpg_color.specs.ColourRows.{numbers_of_pixel, row_component}
-use Rattle.jpg_spec.proofs.Rows.{by_items}
+use Rattle.jpg_spec.proofs.Basics.Rows.{by_items}
 use Rattle.jpg_color.proofs.PlaneRows.{put_long}
 
 abbrev pub block_row : List ℕ → ℕ → ℕ → ℕ → List ℕ

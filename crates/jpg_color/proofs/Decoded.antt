@@ -14,21 +14,21 @@ use Rattle.jpg_spec_image.specs.declared.image.EndKind.TheVariants.{Pnm, Bmp, Ta
 use Rattle.jpg_spec_image.specs.declared.image.ImageInfo.{ImageInfo}
 use Rattle.jpg_spec_image.specs.declared.image.ImageKind.TheVariants as kind
 use Rattle.jpg_spec.specs.declared.jfif.Jfif.{Jfif}
-use Rattle.jpg_spec.proofs.Common.{length_below}
+use Rattle.jpg_spec.proofs.Basics.Common.{length_below}
 use Rattle.jpg_coefs.specs.Picture.{Picture as Coefs}
-use Rattle.jpg_file.specs.Read.PictureKept.{component_told}
+use Rattle.jpg_file.specs.Read.PictureKept.{component_view}
 use Rattle.jpg_file.specs.Read.PictureRead.{picture_meaning}
 use Rattle.jpg_file.specs.declared.read.picture.Picture.{Picture}
-use Rattle.jpg_file.proofs.StripHeads.{picture_colours}
+use Rattle.jpg_file.proofs.ByRow.StripHeads.{picture_colours}
 use Rattle.jpg_pnm_bmp.specs.EndState.{EndState, CanFinish, IsImageInfo, held_of, info_of, new_end, started}
 use Rattle.jpg_pnm_bmp.proofs.SomeBytes.{text_some}
 use Rattle.jpg_color.specs.Shown.{Display, IsShowable, display_fault, factors_of, row_of_blocks}
 use Rattle.jpg_color.specs.PictureRows.{RowsLeft, IsFirstRow, display_in, shown_blocks}
-use Rattle.jpg_color.specs.DecodeRows.{AreRowsOf, Decodes, end_at, end_parts, finished, finished_end, row_pieces, rows_in_all, told_info}
+use Rattle.jpg_color.specs.DecodeRows.{AreRowsOf, Decodes, end_at, end_parts, finished, finished_end, row_pieces, rows_in_all, info_for}
 use Rattle.jpg_color.specs.declared.decode.DecodeStop.{DecodeStop}
 use Rattle.jpg_color.specs.declared.decode.DecodeStop.TheVariants as stop
-use Rattle.jpg_spec.proofs.Rows.{map_map}
-use Rattle.jpg_color.proofs.Coverage.{numbers_told}
+use Rattle.jpg_spec.proofs.Basics.Rows.{map_map}
+use Rattle.jpg_color.proofs.Coverage.{parsed_numbers}
 use Rattle.jpg_color.proofs.Products.{pixels_few}
 use Rattle.jpg_color.proofs.RowsPut.{map_below}
 use Rattle.jpg_color.proofs.Sent.{Output, PassesRows, Sends, Writing, sends_none, sends_piece, sends_rest, sends_same, sends_stop, sends_then}
@@ -37,7 +37,7 @@ use Rattle.jpg_color.proofs.Sent.{Output, PassesRows, Sends, Writing, sends_none
 
 pub factors_same : (p : Picture) → map (λ c. (c.h, c.v)) (picture_meaning p).components ≡ factors_of p.frame
 factors_same p =
-    map_map (λ (c : PictureComponent). (c.h, c.v)) (component_told p.frame p.quants.items) (below (length p.frame.components)) ∙ numbers_told p.frame (λ (c : Component). (c.h, c.v))
+    map_map (λ (c : PictureComponent). (c.h, c.v)) (component_view p.frame p.quants.items) (below (length p.frame.components)) ∙ parsed_numbers p.frame (λ (c : Component). (c.h, c.v))
 
 pub admits_display : (p : Picture) (gray smooth : Bool) → out_fault gray (picture_meaning p) ≡ None → display_fault (display_in p gray smooth) ≡ None
 admits_display p gray smooth none =
@@ -58,9 +58,9 @@ image_info p gray none =
       pixels = pixels_few (display_in p gray true) (is_showable p gray true none);
     }
 
-pub told_of : (p : Picture) (gray : Bool) → told_info p.frame p.colour p.jfif gray ≡ info (picture_meaning p) gray
+pub told_of : (p : Picture) (gray : Bool) → info_for p.frame p.colour p.jfif gray ≡ info (picture_meaning p) gray
 told_of p gray =
-    ap (λ (c : Colour). told_info p.frame c p.jfif gray) p.keeps.colour ∙ ap (λ (j : Jfif). told_info p.frame (colour_of (picture_meaning p)) j gray) p.keeps.jfif
+    ap (λ (c : Colour). info_for p.frame c p.jfif gray) p.keeps.colour ∙ ap (λ (j : Jfif). info_for p.frame (colour_of (picture_meaning p)) j gray) p.keeps.jfif
 
 -- AN IMAGE WRITER THAT WAS STARTED
 

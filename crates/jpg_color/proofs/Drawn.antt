@@ -15,14 +15,14 @@ use Rattle.jpg_spec.specs.declared.frame.Colour.{Colour}
 use Rattle.jpg_spec_image.specs.declared.image.EndKind.{EndKind}
 use Rattle.jpg_spec_image.specs.declared.image.EndKind.TheVariants.{Pnm, Bmp, Targa}
 use Rattle.jpg_spec_image.specs.declared.image.ImageInfo.{ImageInfo}
-use Rattle.jpg_spec.proofs.Common.{same_itself}
+use Rattle.jpg_spec.proofs.Basics.Common.{same_itself}
 use Rattle.jpg_spec_image.specs.RowsShown.{ready_rows as rows_ready}
 use Rattle.jpg_coefs.specs.Picture.{Picture as Coefs}
 use Rattle.jpg_file.specs.Read.StripHead.{IsStripHead}
 use Rattle.jpg_file.specs.declared.read.strip_head.StripHead.{StripHead}
 use Rattle.jpg_pnm_bmp.specs.EndState.{EndState, Starts, held_of, info_of, new_end}
-use Rattle.jpg_color.specs.Shown.{AreMcuRow, Display, IsNextRowDue, IsFreshRows, IsPushed, IsShowable, ShownState, StandsForPicture, all_rows, at_top, display_fault, display_of, picture_of, rows_made_ready, row_of_blocks}
-use Rattle.jpg_color.specs.DecodeRows.{end_at, end_parts, finished, row_pieces, told_info}
+use Rattle.jpg_color.specs.Shown.{AreMcuRow, Display, IsNextRowDue, IsFreshRows, IsPushed, IsShowable, ShownState, RepresentsPicture, all_rows, at_top, display_fault, display_of, picture_of, rows_made_ready, row_of_blocks}
+use Rattle.jpg_color.specs.DecodeRows.{end_at, end_parts, finished, row_pieces, info_for}
 use Rattle.jpg_color.specs.StripImage.{AreGiven, BeginsDrawing, Drawing, DrawsImage, DrawsRow, EndsDrawing, GoesOnDrawing, IsDrawnTo, IsEndOf, IsNewDrawing, IsToldOf, SendsReady, StaysDrawn}
 use Rattle.jpg_color.specs.StripImage.{first_image_rows, next_rows, next_text, rest_text, rows_due, with_rows}
 use Rattle.jpg_color.specs.declared.decode.DecodeStop.{DecodeStop}
@@ -39,11 +39,11 @@ drawing strips i out = record { strips = strips; info = i; out = out }
 
 -- A NEW ONE
 
-pub told_of_head : (h : StripHead) (gray smooth : Bool) (s : ShownState) (i : ImageInfo) → IsStripHead h → display_fault (display_of h gray smooth) ≡ None → IsFreshRows h gray smooth s → i ≡ told_info h.frame h.colour h.jfif gray → IsToldOf s.display i
+pub told_of_head : (h : StripHead) (gray smooth : Bool) (s : ShownState) (i : ImageInfo) → IsStripHead h → display_fault (display_of h gray smooth) ≡ None → IsFreshRows h gray smooth s → i ≡ info_for h.frame h.colour h.jfif gray → IsToldOf s.display i
 told_of_head h gray smooth s i head admitted fresh is =
     let d : Display = display_of h gray smooth in
     let shown : IsShowable d = showable h gray smooth head admitted in
-    let j : ImageInfo = told_info h.frame h.colour h.jfif gray in
+    let j : ImageInfo = info_for h.frame h.colour h.jfif gray in
     let told : IsToldOf d j = record {
       valid = record {
         width_low = head.frame.width_low;
@@ -233,7 +233,7 @@ due_rows {d} p {M} {gray} {smooth} {m} h same given up =
 record AddsRow (a : Canvas) (p : ShownState) (M : Meaning) (gray smooth : Bool) (m : ℕ) : Type 0 where
   drawn : IsDrawnTo a.drawing a.end M gray smooth m
   up : GoesUp M gray smooth m
-  stands : StandsForPicture p M.blocks
+  stands : RepresentsPicture p M.blocks
   ready : rows_made_ready p.display p.pushed ≡ rows_ready M gray smooth (m + 1)
   due : rows_due p M.blocks (rows_made_ready p.display p.pushed) ≡ next_rows M gray smooth m
 

@@ -18,7 +18,7 @@ use Rattle.jpg_spec_image.specs.declared.image.EndKind.{EndKind}
 use Rattle.jpg_spec_image.specs.RowsShown.{ready_rows as rows_ready, rows_text}
 use Rattle.jpg_spec_image.proofs.Strips.{window, ready_told}
 use Rattle.jpg_pnm_bmp.specs.EndState.{EndState}
-use Rattle.jpg_color.specs.Shown.{Display, IsShowable, StandsForPicture, all_rows, parts, picture_of, rows_made_ready, row_of_blocks}
+use Rattle.jpg_color.specs.Shown.{Display, IsShowable, RepresentsPicture, all_rows, parts, picture_of, rows_made_ready, row_of_blocks}
 use Rattle.jpg_color.specs.DecodeRows.{end_at}
 use Rattle.jpg_color.specs.StripImage.{AgreeInFirstRows, AreDrawnAlike, Drawing, DrawsImage, IsDrawnTo, TextsJoin, first_image_rows, next_rows, next_text, rest_text, whole_text}
 use Rattle.jpg_color.proofs.Coverage.{count_is, covered, in_frame, whole_ratios}
@@ -132,7 +132,7 @@ same_row d blocks others m y shown agree le lt =
 
 -- WHAT IS DRAWN OF ONE IS DRAWN OF THE OTHER
 
-stands_too : (d : Drawing) (blocks others : Blocks) (m : ℕ) → IsShowable d.strips.display → Agree (picture_of d.strips.display blocks) others m → d.strips.pushed ≡ m → StandsForPicture d.strips blocks → StandsForPicture d.strips others
+stands_too : (d : Drawing) (blocks others : Blocks) (m : ℕ) → IsShowable d.strips.display → Agree (picture_of d.strips.display blocks) others m → d.strips.pushed ≡ m → RepresentsPicture d.strips blocks → RepresentsPicture d.strips others
 stands_too d blocks others m shown agree is h =
     let x = d.strips.display in
     let M = picture_of x blocks in

@@ -17,8 +17,8 @@ use Rattle.jpg_spec.specs.declared.frame.Limits.{Limits}
 use Rattle.jpg_spec.specs.declared.frame.Process.{Process}
 use Rattle.jpg_spec.specs.declared.frame.Process.TheVariants.{Baseline, Extended, Progressive}
 use Rattle.jpg_spec_write.specs.declared.picture_fault.PictureFault.TheVariants.{TooManyBlocks}
-use Rattle.jpg_spec.proofs.Rows.{map_map}
-use Rattle.jpg_spec.proofs.SameNumbers.{frame_passes}
+use Rattle.jpg_spec.proofs.Basics.Rows.{map_map}
+use Rattle.jpg_spec.proofs.Headers.SameNumbers.{frame_passes}
 use Rattle.jpg_base.specs.Frame.{numbers_of}
 use Rattle.jpg_spec_image.specs.declared.image.ImageInfo.{ImageInfo}
 use Rattle.jpg_color.specs.Encode.{CanSample, fault_due, encoded_frame, encoded_parts, image_of, encoding_request, scans_asked}

@@ -11,8 +11,8 @@ use Rattle.jpg_spec.specs.Lists.{below}
 use Rattle.jpg_spec.specs.Meaning.{Meaning, picture_frame}
 use Rattle.jpg_spec.specs.Meaning.{component_of, most_across, most_down}
 use Rattle.jpg_spec.specs.declared.frame.Component.{Component}
-use Rattle.jpg_spec.proofs.Common.{length_below}
-use Rattle.jpg_spec.proofs.Rows.{at_below}
+use Rattle.jpg_spec.proofs.Basics.Common.{length_below}
+use Rattle.jpg_spec.proofs.Basics.Rows.{at_below}
 use Rattle.jpg_color.specs.EncodeBlocks.{lower_plane}
 use Rattle.jpg_color.proofs.EncodedHead.{frame_across, frame_component, frame_down}
 

@@ -11,8 +11,8 @@ use Rattle.jpg_spec.specs.Meaning.{real_blocks}
 use Rattle.jpg_spec.specs.Ranges.{AreInRange, is_coefficient}
 use Rattle.jpg_spec.specs.Scan.{Blocks}
 use Rattle.jpg_spec.specs.declared.frame.Bounds.{Bounds}
-use Rattle.jpg_spec.proofs.Common.{both, lt_of}
-use Rattle.jpg_spec.proofs.Ranges.{zero_in}
+use Rattle.jpg_spec.proofs.Basics.Common.{both, lt_of}
+use Rattle.jpg_spec.proofs.Files.Ranges.{zero_in}
 use Rattle.jpg_spec_write.specs.WrittenFile.{HasBlocksIn}
 
 -- REAL PLACES

@@ -30,8 +30,8 @@ use Rattle.jpg_spec_image.specs.declared.image.ImageInfo.{ImageInfo}
 use Rattle.jpg_spec.specs.declared.jfif.Jfif.{Jfif}
 use Rattle.jpg_spec_write.specs.declared.picture_fault.PictureFault.TheVariants.{FractionalFactors, TooManyBlocks}
 use Rattle.jpg_color.specs.EncodeHead.{fraction_at}
-use Rattle.jpg_spec.proofs.Common.{both, lt_of, lt_yes, lt_no}
-use Rattle.jpg_spec.proofs.Rows.{map_map}
+use Rattle.jpg_spec.proofs.Basics.Common.{both, lt_of, lt_yes, lt_no}
+use Rattle.jpg_spec.proofs.Basics.Rows.{map_map}
 use Rattle.jpg_spec_encode.proofs.EncodedWritten.{eight_bits}
 
 -- ENCODINGS WITH THE SAME RESULT: of the scans only the kind counts

@@ -17,9 +17,9 @@ use Rattle.jpg_spec.specs.Scan.{Blocks}
 use Rattle.jpg_spec.specs.Segments.{QuantTable}
 use Rattle.jpg_spec.specs.Segments.{AreQuantisers, IsQuantiser}
 use Rattle.jpg_spec.specs.declared.frame.Component.{Component}
-use Rattle.jpg_spec.proofs.Common.{length_below}
-use Rattle.jpg_spec.proofs.Rows.{at_below, by_items}
-use Rattle.jpg_file.specs.Read.PictureKept.{IsQuantTable, component_told}
+use Rattle.jpg_spec.proofs.Basics.Common.{length_below}
+use Rattle.jpg_spec.proofs.Basics.Rows.{at_below, by_items}
+use Rattle.jpg_file.specs.Read.PictureKept.{IsQuantTable, component_view}
 use Rattle.jpg_spec_image.specs.Images.{Image}
 use Rattle.jpg_spec_image.specs.declared.image.ImageInfo.{ImageInfo}
 use Rattle.jpg_spec_write.specs.WrittenFile.{HasBlocksIn}
@@ -70,16 +70,16 @@ count_asked info a can = can.pairs ∙ sym (count_due (encoding_request a) (imag
 abbrev told_by : ℕ → ℕ → ℕ → QuantTable → PictureComponent
 told_by id h v quants = record { id = id; h = h; v = v; quants = quants }
 
-component_same : (info : ImageInfo) (a : Asked) (k : ℕ) → CanSample info a → k < length (encoded_frame info a).components → component_told (encoded_frame info a) (tables_asked a) k ≡ component_of (encoded_parts info a) k
+component_same : (info : ImageInfo) (a : Asked) (k : ℕ) → CanSample info a → k < length (encoded_frame info a).components → component_view (encoded_frame info a) (tables_asked a) k ≡ component_of (encoded_parts info a) k
 component_same info a k can h =
     let there : k < components_due (encoding_request a) (image_of info []) = subst (λ n. k < n) (count_due (encoding_request a) (image_of info [])) h in
     let c = component_of (encoded_parts info a) k in
     ap (λ (d : Component). told_by d.id d.h d.v (slice_index_or (tables_asked a) k [])) (frame_component (encoded_parts info a) k)
     ∙ ap (told_by c.id c.h c.v) (table_at a k (subst (λ n. k < n) (sym (count_asked info a can)) h) ∙ sym (ap (λ (d : PictureComponent). d.quants) (component_there (encoding_request a) (image_of info []) k there)))
 
-components_same : (info : ImageInfo) (a : Asked) → CanSample info a → map (component_told (encoded_frame info a) (tables_asked a)) (below (length (encoded_frame info a).components)) ≡ (encoded_parts info a).components
+components_same : (info : ImageInfo) (a : Asked) → CanSample info a → map (component_view (encoded_frame info a) (tables_asked a)) (below (length (encoded_frame info a).components)) ≡ (encoded_parts info a).components
 components_same info a can =
-    by_items (length (encoded_frame info a).components) (component_told (encoded_frame info a) (tables_asked a)) (encoded_parts info a).components (told_by 0 1 1 [])
+    by_items (length (encoded_frame info a).components) (component_view (encoded_frame info a) (tables_asked a)) (encoded_parts info a).components (told_by 0 1 1 [])
     (sym (length-map (encoded_parts info a).components (λ c. (let d : Component = record { id = c.id; h = c.h; v = c.v; quant = 0 } in d)))) (λ k h. component_same info a k can h)
 
 -- ITS MEANING
@@ -101,8 +101,8 @@ meaning_due info a blocks = record (encoded_parts info a) { blocks = real_blocks
 pub means_due : (info : ImageInfo) (a : Asked) (p : ViewParts) → IsPutTogether info a p → viewed_meaning p ≡ meaning_due info a p.blocks
 means_due info a p is =
     let due = encoded_frame info a in
-    ap (λ (f : Frame). meaning_by f (map (component_told f p.quants) (below (length f.components))) (real_blocks f p.blocks) p.kept) is.frame
-    ∙ ap (λ (t : List QuantTable). meaning_by due (map (component_told due t) (below (length due.components))) (real_blocks due p.blocks) p.kept) is.quants
+    ap (λ (f : Frame). meaning_by f (map (component_view f p.quants) (below (length f.components))) (real_blocks f p.blocks) p.kept) is.frame
+    ∙ ap (λ (t : List QuantTable). meaning_by due (map (component_view due t) (below (length due.components))) (real_blocks due p.blocks) p.kept) is.quants
     ∙ ap (λ (cs : List PictureComponent). meaning_by due cs (real_blocks due p.blocks) p.kept) (components_same info a is.can)
     ∙ ap (λ (k : List (ℕ × List ℕ)). meaning_by due (encoded_parts info a).components (real_blocks due p.blocks) k) is.kept
 

@@ -8,8 +8,8 @@ use Rattle.jpg_spec.specs.Geometry.{Frame, IsReal, bounds_of, component_at, mcus
 use Rattle.jpg_spec.specs.Meaning.{PictureComponent, component_of}
 use Rattle.jpg_spec.specs.Scan.{Blocks}
 use Rattle.jpg_spec.specs.Segments.{AreQuantisers, QuantTable}
-use Rattle.jpg_spec.proofs.MovedFrames.{down_low}
-use Rattle.jpg_spec.proofs.PlacesFound.{real_in_padded}
+use Rattle.jpg_spec.proofs.Writing.MovedFrames.{down_low}
+use Rattle.jpg_spec.proofs.Places.PlacesFound.{real_in_padded}
 use Rattle.jpg_spec_encode.specs.Encoded.{component_plane, samples_of_block}
 use Rattle.jpg_spec_image.proofs.CodedBlocks.{coded_block_in}
 use Rattle.jpg_spec_image.specs.ForwardDct.{forward_dct, quantised_block}

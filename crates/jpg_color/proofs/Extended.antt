@@ -8,10 +8,10 @@ use Rattle.jpg_spec.specs.Scan.{Blocks}
 use Rattle.jpg_spec.specs.Geometry.{component_at, blocks_across, blocks_down}
 use Rattle.jpg_spec_image.specs.Pixels.{plane_row, samples_down}
 use Rattle.jpg_spec_image.specs.Strips.{rows_from, known_rows, first_kept}
-use Rattle.jpg_spec.proofs.Common.{not_same, same_itself}
+use Rattle.jpg_spec.proofs.Basics.Common.{not_same, same_itself}
 use Rattle.jpg_spec_image.proofs.Strips.{same_samples}
 use Rattle.jpg_coefs.specs.Picture.{Picture, map_of}
-use Rattle.jpg_color.specs.Shown.{Display, ShownState, IsShowable, StandsForPicture, AreMcuRow, picture_of, parts, rows_in}
+use Rattle.jpg_color.specs.Shown.{Display, ShownState, IsShowable, RepresentsPicture, AreMcuRow, picture_of, parts, rows_in}
 use Rattle.jpg_color.proofs.Windows.{rows_in_some}
 
 abbrev pub extended : Display → ℕ → (ℕ → ℕ) → Picture → Blocks → Blocks
@@ -49,7 +49,7 @@ rows_below rows others first (suc n) e =
     ∙ ap (λ y. rows_from others first n ++ y ∷ []) (e (first + n) (omega arith))
     ∙ sym (map-append (λ k. others (first + k)) (below n) (n ∷ []))
 
-pub stands_on : (s : ShownState) (first : ℕ → ℕ) (q : Picture) (blocks : Blocks) → IsShowable s.display → StandsForPicture s blocks → StandsForPicture s (extended s.display s.pushed first q blocks)
+pub stands_on : (s : ShownState) (first : ℕ → ℕ) (q : Picture) (blocks : Blocks) → IsShowable s.display → RepresentsPicture s blocks → RepresentsPicture s (extended s.display s.pushed first q blocks)
 stands_on s first q blocks shown h =
     let d = s.display in
     let m = s.pushed in

@@ -18,7 +18,7 @@ use Rattle.jpg_spec.specs.Zigzag.{zigzag}
 use Rattle.jpg_spec.specs.Ranges.{AreInRange, is_coefficient}
 use Rattle.jpg_spec.specs.Scan.{Blocks}
 use Rattle.jpg_spec.specs.Segments.{QuantTable}
-use Rattle.jpg_spec.proofs.Ranges.{zero_in}
+use Rattle.jpg_spec.proofs.Files.Ranges.{zero_in}
 use Rattle.jpg_coefs.specs.Picture.{Picture, map_of}
 use Rattle.jpg_coefs.proofs.Maps.{blank_is}
 use Rattle.jpg_color.specs.KeptRows.{KeptRows, last_row, row_in, sample_in, with_gray, with_block_rows}

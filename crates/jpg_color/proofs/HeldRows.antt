@@ -13,11 +13,11 @@ use Rattle.jpg_spec_image.specs.Dct.{dequantised, inverse_dct}
 use Rattle.jpg_spec_image.specs.Upsampling.{Stretch, is_smoothed, has_far_rows, near_row, far_row}
 use Rattle.jpg_spec_image.specs.Pixels.{samples_across, samples_down, plane, plane_row, stretch_of}
 use Rattle.jpg_spec_image.specs.Strips.{IsRowReady, rows_from, lines, block_rows, known_rows, first_kept, IsHeld}
-use Rattle.jpg_spec.proofs.Common.{length_below, both, same_of, clash}
+use Rattle.jpg_spec.proofs.Basics.Common.{length_below, both, same_of, clash}
 use Rattle.jpg_spec_image.proofs.Strips.{kept_is, ready_told}
 use Rattle.jpg_coefs.specs.Picture.{Picture, map_of}
 use Rattle.jpg_color.specs.KeptRows.{sample_in, row_in, last_row}
-use Rattle.jpg_color.specs.Shown.{Display, ShownState, IsShowable, StandsForPicture, IsNextRowDue, AreMcuRow, picture_of, parts, all_rows, rows_made_ready, rows_in, held_rows}
+use Rattle.jpg_color.specs.Shown.{Display, ShownState, IsShowable, RepresentsPicture, IsNextRowDue, AreMcuRow, picture_of, parts, all_rows, rows_made_ready, rows_in, held_rows}
 use Rattle.jpg_color.proofs.RowsPut.{map_below}
 use Rattle.jpg_color.proofs.Coverage.{in_frame, whole_ratios, covered, component_is, blocks_across_is}
 use Rattle.jpg_color.proofs.Windows.{count_fits, told_rows, rows_missing, all_some, ready_none, ready_low, ready_more}
@@ -125,7 +125,7 @@ reaches d blocks i m y s h le late early =
 pub long_from : (rows : ℕ → List ℕ) (first count : ℕ) → length (rows_from rows first count) ≡ count
 long_from rows first count = length-map (below count) (λ k. rows (first + k)) ∙ length_below count
 
-pub sources : (s : ShownState) (blocks : Blocks) (i : ℕ) → IsShowable s.display → StandsForPicture s blocks → i < parts s.display
+pub sources : (s : ShownState) (blocks : Blocks) (i : ℕ) → IsShowable s.display → RepresentsPicture s blocks → i < parts s.display
     → s.given < rows_made_ready s.display s.pushed → HasSources s blocks i
 sources s blocks i shown stands h lt =
     let d = s.display in
@@ -162,7 +162,7 @@ pub held_same : (M : Meaning) (shown : ℕ) (smooth : Bool) (all m given : ℕ) 
 held_same M shown smooth all m given held others same h =
     record { some = h.some; early = h.early; late = h.late; rows = λ (i : ℕ) (lt : i < shown). same i lt ∙ h.rows i lt }
 
-pub given_stands : (s : ShownState) (blocks : Blocks) → StandsForPicture s blocks → s.given < rows_made_ready s.display s.pushed
+pub given_stands : (s : ShownState) (blocks : Blocks) → RepresentsPicture s blocks → s.given < rows_made_ready s.display s.pushed
     → IsHeld (picture_of s.display blocks) (parts s.display) s.display.smooth (all_rows s.display) s.pushed (s.given + 1) (held_rows s)
 given_stands s blocks h lt =
     record { some = h.some; early = next s.given (rows_made_ready s.display s.pushed) lt; late = later (rows_made_ready s.display (s.pushed - 1)) s.given h.late; rows = h.rows }
@@ -280,7 +280,7 @@ told_row d i m first q blocks y s h missing mcu lt =
     column_below : (x wide : ℕ) → x < wide → x / 8 < div_up wide 8
     column_below x wide l = omega (arith, l)
 
-pub pushed_stands : (s : ShownState) (first : ℕ → ℕ) (q : Picture) (blocks : Blocks) → IsShowable s.display → IsNextRowDue s → AreMcuRow s.display s.pushed first q blocks → StandsForPicture s blocks
+pub pushed_stands : (s : ShownState) (first : ℕ → ℕ) (q : Picture) (blocks : Blocks) → IsShowable s.display → IsNextRowDue s → AreMcuRow s.display s.pushed first q blocks → RepresentsPicture s blocks
     → IsHeld (picture_of s.display blocks) (parts s.display) s.display.smooth (all_rows s.display) (s.pushed + 1) s.given (λ i. pushed_rows s.display i s.pushed first q (held_rows s i))
 pushed_stands s first q blocks shown due mcu stands =
     let d = s.display in

@@ -7,7 +7,7 @@ use Rattle.jpg_spec.specs.Ranges.{AreInRange}
 use Rattle.jpg_coefs.specs.Picture.{Picture as Coefs, map_of}
 use Rattle.jpg_file.specs.declared.read.picture.Picture.{Picture}
 use Rattle.jpg_file.specs.declared.read.strip_head.StripHead.{StripHead}
-use Rattle.jpg_color.specs.Shown.{ShownState, Display, IsFreshRows, StandsForPicture, IsNextRowDue, IsGiven, IsPushed, IsShowable, Advances, all_rows, at_due, parts, rows_made_ready, rows_in, row_length, row_of_blocks}
+use Rattle.jpg_color.specs.Shown.{ShownState, Display, IsFreshRows, RepresentsPicture, IsNextRowDue, IsGiven, IsPushed, IsShowable, Advances, all_rows, at_due, parts, rows_made_ready, rows_in, row_length, row_of_blocks}
 use Rattle.jpg_color.specs.PictureRows.{ArePictureRows, RowGoesOn, shown_blocks}
 use Rattle.jpg_color.proofs.Coverage.{in_frame}
 use Rattle.jpg_color.proofs.Windows.{ready_high}
@@ -42,7 +42,7 @@ rows_pushed s s1 q shown h p =
     record {
       frame = subst (λ (d : Display). q.frame ≡ d.frame) (sym p.display) h.frame;
       range = subst (λ (d : Display). AreInRange (bounds d.frame) (map_of q)) (sym p.display) h.range;
-      stands = subst (λ (d : Display). StandsForPicture s1 (shown_blocks d q)) (sym p.display)
+      stands = subst (λ (d : Display). RepresentsPicture s1 (shown_blocks d q)) (sym p.display)
           (p.stands (shown_blocks s.display q) h.stands (record { same = λ (i x y : ℕ) a b c e. real_same s.display q i x (s.pushed * rows_in s.display i + y) shown a b e }));
     }
 

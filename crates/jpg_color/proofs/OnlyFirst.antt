@@ -12,7 +12,7 @@ use Rattle.jpg_spec.specs.Lists.{index_of}
 use Rattle.jpg_spec.specs.Elements.{is_zero}
 use Rattle.jpg_spec.specs.Zigzag.{zigzag}
 use Rattle.jpg_spec_image.specs.Dct.{number_at, dequantised}
-use Rattle.jpg_spec.proofs.Rows.{by_items}
+use Rattle.jpg_spec.proofs.Basics.Rows.{by_items}
 use Rattle.jpg_dct.proofs.Zigzag.{places, place_is, place_low}
 
 abbrev value_of : List ℕ → List ℤ → ℕ → ℤ

@@ -81,9 +81,9 @@ new_part h smooth i s n quants kept line there es en eq is = record {
   none = ap (λ k. k.rows) is;
 }
 
-pub quants_told : (h : StripHead) (i : ℕ) (tables : List QuantTable) (table : QuantTable) → i < length h.frame.components → length h.quants.items ≡ length h.frame.components
+pub parsed_quants : (h : StripHead) (i : ℕ) (tables : List QuantTable) (table : QuantTable) → i < length h.frame.components → length h.quants.items ≡ length h.frame.components
     → tables ≡ h.quants.items → table ≡ slice_index_or tables i table → table ≡ (component_of (meant h) i).quants
-quants_told h i tables table there long et is =
+parsed_quants h i tables table there long et is =
     is ∙ ap (λ (ts : List QuantTable). slice_index_or ts i table) et
     ∙ get_or_default h.quants.items i table [] (subst (λ n. i < n) (sym long) there)
     ∙ sym (ap (λ c. c.quants) (component_is (display_of h (i == i) (i == i)) no_blocks i there))

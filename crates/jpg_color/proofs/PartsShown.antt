@@ -13,7 +13,7 @@ use Rattle.jpg_spec_image.specs.Strips.{block_rows, known_rows, first_kept, kept
 use Rattle.jpg_coefs.specs.Picture.{Picture, map_of}
 use Rattle.jpg_color.specs.KeptRows.{KeptRows, HasRows, row_in, last_row}
 use Rattle.jpg_color.specs.PartState.{PartState, IsPart, CanFill, CanDraw, no_drawn_part, no_rows, known, rows_so_far_of, top, begins, filled, drawn}
-use Rattle.jpg_color.specs.Shown.{Display, IsShowable, ShownState, StandsForPicture, IsNextRowDue, picture_of, parts, rows_in, held_rows, rows_made_ready}
+use Rattle.jpg_color.specs.Shown.{Display, IsShowable, ShownState, RepresentsPicture, IsNextRowDue, picture_of, parts, rows_in, held_rows, rows_made_ready}
 use Rattle.jpg_color.specs.StripsState.{AreStrips, HasMcuRow, part_at, shown_of, start_of}
 use Rattle.jpg_color.proofs.Coverage.{in_frame, component_is}
 use Rattle.jpg_color.proofs.Windows.{count_fits, told_rows}
@@ -43,8 +43,8 @@ PartOf d i p = IsPart (picture_of d no_blocks) d.smooth i p
 
 pub is_early : {t : Strips} → AreKept t → t.pushed < 65536
 is_early {t} k =
-    let old : (blocks : Blocks) × StandsForPicture (shown t) blocks = k.stands in
-    let stands : StandsForPicture (shown t) old.0 = old.1 in
+    let old : (blocks : Blocks) × RepresentsPicture (shown t) blocks = k.stands in
+    let stands : RepresentsPicture (shown t) old.0 = old.1 in
     omega (arith, stands.some, k.all, k.few)
 
 pub there : {t : Strips} {i : ℕ} → AreKept t → i < parts t.display → i < length t.parts
@@ -154,7 +154,7 @@ part_draws {t} {blocks} i k h lt =
     (subst (λ (rows : List (List ℕ)). Draws s (first_kept M i m) y rows) (held_at t.parts i) all)) in
     record { early = is_early k; low = own.low; high = own.high; far_low = own.far_low; far_high = own.far_high }
 
-pub all_draw : {t : Strips} (blocks : Blocks) → AreKept t → StandsForPicture (shown t) blocks → t.given < rows_made_ready t.display t.pushed
+pub all_draw : {t : Strips} (blocks : Blocks) → AreKept t → RepresentsPicture (shown t) blocks → t.given < rows_made_ready t.display t.pushed
     → All (CanDraw t.given t.pushed) t.parts
 all_draw {t} blocks k stands lt =
     All-from_get_or (CanDraw t.given t.pushed) t.parts no_drawn_part
@@ -168,7 +168,7 @@ by_way true c across near far other_near other_far en ef = ap (λ x. up_rows2 x 
 by_way false true across near far other_near other_far en ef = ap up_row en
 by_way false false across near far other_near other_far en ef = ap (repeat_row across) en
 
-pub drawn_line : {t : Strips} (blocks : Blocks) (i : ℕ) → AreKept t → StandsForPicture (shown t) blocks → t.given < rows_made_ready t.display t.pushed → i < parts t.display
+pub drawn_line : {t : Strips} (blocks : Blocks) (i : ℕ) → AreKept t → RepresentsPicture (shown t) blocks → t.given < rows_made_ready t.display t.pushed → i < parts t.display
     → (part_at (map (drawn t.given t.pushed) t.parts) i).line
     ≡ upsampled_row (stretch_of (picture_of t.display blocks) t.display.smooth i) (plane_row (picture_of t.display blocks) i) t.given
 drawn_line {t} blocks i k stands early h =

@@ -7,8 +7,8 @@ use Rattle.jpg_spec.specs.Lists.{below}
 use Rattle.jpg_spec_image.specs.Luminance.{luminance, blue_difference, red_difference, to_ycc}
 use Rattle.jpg_spec_encode.specs.Encoded.{pixel_component}
 use Rattle.jpg_spec_image.specs.declared.image.ImageKind.TheVariants.{Rgb}
-use Rattle.jpg_spec.proofs.Common.{length_below}
-use Rattle.jpg_spec.proofs.Rows.{by_items, at_below}
+use Rattle.jpg_spec.proofs.Basics.Common.{length_below}
+use Rattle.jpg_spec.proofs.Basics.Rows.{by_items, at_below}
 use Rattle.jpg_sample.proofs.Sums.{made_more}
 use Rattle.jpg_color.specs.ColourRows.{component_row, PutsSixteen, HasMade}
 use Rattle.jpg_color.proofs.ColourRows.{luminance_first, blue_second, red_third}

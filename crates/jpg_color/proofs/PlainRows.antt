@@ -3,7 +3,7 @@ use Rattle.std.proofs.Common.{◌≡◌, ℕ, ◌+◌, ◌-◌, ◌*◌, ◌/◌
 use Rattle.std.proofs.lemmas.List.{get_or-take, get_or-drop}
 use Rattle.std.proofs.lemmas.Nat.{mul-le, mul-add-lt}
 use Rattle.jpg_spec.specs.Geometry.{Frame, component_at, div_up, v_max}
-use Rattle.jpg_spec.proofs.PlacesFound.{covers}
+use Rattle.jpg_spec.proofs.Places.PlacesFound.{covers}
 use Rattle.jpg_spec_encode.specs.Encoded.{pixel_component}
 use Rattle.jpg_spec_image.specs.Downsampling.{downsampled, sum_under}
 use Rattle.jpg_color.specs.EncodeBlocks.{IsPlain, IsSource}

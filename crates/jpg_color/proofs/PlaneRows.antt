@@ -15,8 +15,8 @@ use Rattle.jpg_spec_encode.specs.Encoded.{pixel_component, samples_of_block}
 use Rattle.jpg_spec_image.specs.declared.image.ImageInfo.{ImageInfo}
 use Rattle.jpg_spec_image.specs.declared.image.ImageKind.{ImageKind}
 use Rattle.jpg_spec_image.specs.declared.image.ImageKind.TheVariants.{Gray, Rgb}
-use Rattle.jpg_spec.proofs.Common.{length_below}
-use Rattle.jpg_spec.proofs.Rows.{at_below}
+use Rattle.jpg_spec.proofs.Basics.Common.{length_below}
+use Rattle.jpg_spec.proofs.Basics.Rows.{at_below}
 use Rattle.jpg_sample.proofs.Sums.{sum_alike}
 use Rattle.jpg_color.specs.ColourRows.{numbers_of_pixel, row_component}
 use Rattle.jpg_color.specs.PlaneRows.{row_of, plane_of, narrow_plane, lower_row, downsampled_row, HasSamples, HasPlaneRows}

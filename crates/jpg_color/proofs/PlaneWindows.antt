@@ -10,7 +10,7 @@ use Rattle.jpg_spec_image.specs.Images.{Image}
 use Rattle.jpg_spec_image.specs.declared.image.ImageInfo.{ImageInfo}
 use Rattle.jpg_spec_image.specs.declared.image.ImageKind.{ImageKind}
 use Rattle.jpg_spec_image.specs.declared.image.ImageKind.TheVariants.{Rgb}
-use Rattle.jpg_spec.proofs.Common.{length_below}
+use Rattle.jpg_spec.proofs.Basics.Common.{length_below}
 use Rattle.jpg_color.specs.ColourRows.{component_row}
 use Rattle.jpg_color.specs.PlaneRows.{row_of, plane_of, AreUnder, HasPlaneRows, IsUnder, IsWindow, PutsRow}
 use Rattle.jpg_color.specs.declared.encode.rows.ImagePlane.{ImagePlane}

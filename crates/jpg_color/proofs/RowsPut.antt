@@ -13,8 +13,8 @@ use Rattle.jpg_spec.specs.Lists.{below}
 use Rattle.jpg_spec.specs.Geometry.{Frame, bounds, bounds_of}
 use Rattle.jpg_spec.specs.Scan.{Blocks}
 use Rattle.jpg_spec.specs.Ranges.{AreInRange, is_coefficient}
-use Rattle.jpg_spec.proofs.Common.{both, from_test, length_below}
-use Rattle.jpg_spec.proofs.Rows.{by_items, at_below}
+use Rattle.jpg_spec.proofs.Basics.Common.{both, from_test, length_below}
+use Rattle.jpg_spec.proofs.Basics.Rows.{by_items, at_below}
 use Rattle.jpg_color.specs.KeptRows.{KeptRows, stride, kept_rows_of, last_row}
 use Rattle.jpg_color.specs.RowBytes.{byte_in, PutsBlock, PutsRows}
 

@@ -9,7 +9,7 @@ use Rattle.jpg_spec.specs.Scan.{Blocks}
 use Rattle.jpg_spec_image.specs.declared.image.EndKind.{EndKind}
 use Rattle.jpg_spec_image.specs.declared.image.ImageInfo.{ImageInfo}
 use Rattle.jpg_pnm_bmp.specs.EndState.{EndState, CanTakeRow, held_of, info_of, info_given, with_row}
-use Rattle.jpg_color.specs.Shown.{Advances, Display, IsGiven, IsShowable, ShownState, StandsForPicture, all_rows, rows_made_ready, row_length, row_of_blocks}
+use Rattle.jpg_color.specs.Shown.{Advances, Display, IsGiven, IsShowable, ShownState, RepresentsPicture, all_rows, rows_made_ready, row_length, row_of_blocks}
 use Rattle.jpg_color.specs.DecodeRows.{row_pieces}
 use Rattle.jpg_color.specs.StripImage.{CanTakeNext, SendsReady, rows_due, with_rows}
 use Rattle.jpg_color.specs.declared.decode.DecodeStop.{DecodeStop}
@@ -31,9 +31,9 @@ pub record IsSending (v0 : Writing) (r0 : ShownState) (v : Writing) (r : ShownSt
   pub told : v.end.info ≡ v0.end.info
   pub created : v.out.desk.output_created ≡ true
   pub only : OnlyWrites v0.out.desk v.out.desk
-  pub stands : (blocks : Blocks) → StandsForPicture r0 blocks → StandsForPicture r blocks
-  pub end_is : (blocks : Blocks) → StandsForPicture r0 blocks → v.end ≡ with_rows v0.end (rows_due r0 blocks r.given)
-  pub sent : (blocks : Blocks) → StandsForPicture r0 blocks → Sends v0.out (row_pieces v0.end (rows_due r0 blocks r.given)) (Ok tt) v.out
+  pub stands : (blocks : Blocks) → RepresentsPicture r0 blocks → RepresentsPicture r blocks
+  pub end_is : (blocks : Blocks) → RepresentsPicture r0 blocks → v.end ≡ with_rows v0.end (rows_due r0 blocks r.given)
+  pub sent : (blocks : Blocks) → RepresentsPicture r0 blocks → Sends v0.out (row_pieces v0.end (rows_due r0 blocks r.given)) (Ok tt) v.out
 
 with_none : (e : EndState) → e ≡ with_rows e []
 with_none e =
@@ -55,9 +55,9 @@ sends_none_yet {v} {r} shown some can created =
       told = refl;
       created = created;
       only = OnlyWrites-same v.out.desk;
-      stands = λ (blocks : Blocks) (b : StandsForPicture r blocks). b;
-      end_is = λ (blocks : Blocks) (b : StandsForPicture r blocks). with_none v.end ∙ ap (with_rows v.end) (none blocks);
-      sent = λ (blocks : Blocks) (b : StandsForPicture r blocks). sends_same (ap (row_pieces v.end) (none blocks)) sends_nothing;
+      stands = λ (blocks : Blocks) (b : RepresentsPicture r blocks). b;
+      end_is = λ (blocks : Blocks) (b : RepresentsPicture r blocks). with_none v.end ∙ ap (with_rows v.end) (none blocks);
+      sent = λ (blocks : Blocks) (b : RepresentsPicture r blocks). sends_same (ap (row_pieces v.end) (none blocks)) sends_nothing;
     }
 
 -- ONE MORE ROW
@@ -102,7 +102,7 @@ with_more e rows row =
     count rows row = let l = length-append rows (row ∷ []) in omega (arith, l)
 
 -- the rows with the one that is passed
-rows_more : (r0 : ShownState) {r r1 : ShownState} (blocks : Blocks) → r.display ≡ r0.display → r0.given ≤ r.given → StandsForPicture r blocks
+rows_more : (r0 : ShownState) {r r1 : ShownState} (blocks : Blocks) → r.display ≡ r0.display → r0.given ≤ r.given → RepresentsPicture r blocks
     → IsGiven r r1.last r1 → rows_due r0 blocks r.given ++ r1.last ∷ [] ≡ rows_due r0 blocks r1.given
 rows_more r0 {r} {r1} blocks d late stands g =
     ap (λ (x : List ℕ). rows_due r0 blocks r.given ++ x ∷ []) (g.value blocks stands ∙ ap (λ (x : Display). row_of_blocks x blocks r.given) d)
@@ -113,7 +113,7 @@ piece_same e0 e row k i = ap (λ (x : EndKind). row_piece x (info_of e) row) k �
 
 -- and it was sent, or sending stopped
 one_more : {v0 v v2 : Writing} {r0 r r1 : ShownState} {result : Result (Unit {0}) DecodeStop} (blocks : Blocks) → IsSending v0 r0 v r → IsGiven r r1.last r1
-    → PassesRow v r1.last result v2 → StandsForPicture r0 blocks → Sends v0.out (row_pieces v0.end (rows_due r0 blocks r1.given)) result v2.out
+    → PassesRow v r1.last result v2 → RepresentsPicture r0 blocks → Sends v0.out (row_pieces v0.end (rows_due r0 blocks r1.given)) result v2.out
 one_more {v0} {v} {r0 = r0} {r = r} {r1 = r1} blocks h g k b =
     let rows = rows_due r0 blocks r.given in
     sends_same (pieces_more v0.end rows r1.last ∙ ap (row_pieces v0.end) (rows_more r0 blocks h.display h.late (h.stands blocks b) g))
@@ -132,11 +132,11 @@ row_goes {v0} {v} {v2} {r0} {r} {r1} h g k =
       told = ap (λ (x : EndState). x.info) k.end ∙ h.told;
       created = k.sent.only.output_created ∙ h.created;
       only = OnlyWrites-then v0.out.desk v.out.desk v2.out.desk h.only k.sent.only;
-      stands = λ (blocks : Blocks) (b : StandsForPicture r0 blocks). g.stands blocks (h.stands blocks b);
-      end_is = λ (blocks : Blocks) (b : StandsForPicture r0 blocks).
+      stands = λ (blocks : Blocks) (b : RepresentsPicture r0 blocks). g.stands blocks (h.stands blocks b);
+      end_is = λ (blocks : Blocks) (b : RepresentsPicture r0 blocks).
           k.end ∙ ap (λ (x : EndState). with_row x r1.last) (h.end_is blocks b) ∙ with_more v0.end (rows_due r0 blocks r.given) r1.last
           ∙ ap (with_rows v0.end) (rows_more r0 blocks h.display h.late (h.stands blocks b) g);
-      sent = λ (blocks : Blocks) (b : StandsForPicture r0 blocks). one_more blocks h g k b;
+      sent = λ (blocks : Blocks) (b : RepresentsPicture r0 blocks). one_more blocks h g k b;
     }
   where
     later : (a b c : ℕ) → a ≤ b → c ≡ b + 1 → a ≤ c
@@ -155,7 +155,7 @@ ready_sent {v0} {v} {r0} {r} h a =
       only = h.only;
       display = h.display;
       given = record { pushed = h.pushed; given = all; kind = h.kind; told = h.told; can = h.can; stands = h.stands; rows = h.end_is };
-      sent = λ (blocks : Blocks) (b : StandsForPicture r0 blocks).
+      sent = λ (blocks : Blocks) (b : RepresentsPicture r0 blocks).
           subst (λ n. Sends v0.out (row_pieces v0.end (rows_due r0 blocks n)) (Ok tt) v.out) all (h.sent blocks b);
     })
 
@@ -169,7 +169,7 @@ ready_stopped {v0} {v} {v2} {r0} {r} {r1} h g k =
       only = OnlyWrites-then v0.out.desk v.out.desk v2.out.desk h.only k.sent.only;
       display = g.display ∙ h.display;
       given = tt;
-      sent = λ (blocks : Blocks) (b : StandsForPicture r0 blocks).
+      sent = λ (blocks : Blocks) (b : RepresentsPicture r0 blocks).
           (let more = others_from (row_of_blocks r0.display blocks) r0.given r1.given end low high in
           let rows = rows_due r0 blocks r1.given in
           sends_same (sym (flat_map-append (row_piece v0.end.kind (info_of v0.end)) rows more.0) ∙ ap (row_pieces v0.end) (sym more.1))

@@ -7,7 +7,7 @@ use Rattle.std.proofs.lemmas.Nat.{mul-le}
 use Rattle.std.proofs.lemmas.List.{append_assoc, drop-append-le, drop_all, length-append, length-drop}
 use Rattle.jpg_spec.specs.FrameHeader.{IsFrame}
 use Rattle.jpg_spec.specs.Geometry.{Frame, component_at, no_component, v_max}
-use Rattle.jpg_spec.proofs.MovedFrames.{down_low}
+use Rattle.jpg_spec.proofs.Writing.MovedFrames.{down_low}
 use Rattle.jpg_spec_encode.specs.Encoded.{components_due, count_due}
 use Rattle.jpg_spec_image.specs.Images.{Image, sample_count}
 use Rattle.jpg_spec_image.specs.declared.image.ImageInfo.{ImageInfo}
@@ -36,12 +36,12 @@ counted info = by info.width info.height info.x_metre info.y_metre info.kind
     by w h x y Gray = ap (λ n. h * n) (omega arith)
     by w h x y Rgb = refl
 
-row_some : (k : ImageKind) (w : ℕ) → 1 ≤ w → 1 ≤ numbers_of_pixel k * w
-row_some Gray w h = omega (arith, h)
-row_some Rgb w h = omega (arith, h)
+take_in_row : (k : ImageKind) (w : ℕ) → 1 ≤ w → 1 ≤ numbers_of_pixel k * w
+take_in_row Gray w h = omega (arith, h)
+take_in_row Rgb w h = omega (arith, h)
 
 pub some_in_row : (info : ImageInfo) → 1 ≤ info.width → 1 ≤ row_length info
-some_in_row info h = row_some info.kind info.width h
+some_in_row info h = take_in_row info.kind info.width h
 
 pub room_some : (info : ImageInfo) (f : Frame) → IsFrame f → 1 ≤ info.width → 1 ≤ strip_room info f
 room_some info f is wide = mul-le 1 1 (8 * v_max f) (row_length info) (let d = down_low f.components is.factors is.count_low in omega (arith, d)) (some_in_row info wide)

@@ -7,7 +7,7 @@ use Rattle.jpg_spec_image.specs.ImageText.{row_piece}
 use Rattle.jpg_spec_image.specs.declared.image.EndKind.{EndKind}
 use Rattle.jpg_spec_image.specs.declared.image.EndKind.TheVariants.{Pnm, Bmp, Targa}
 use Rattle.jpg_spec_image.specs.declared.image.ImageInfo.{ImageInfo}
-use Rattle.jpg_spec.proofs.Common.{length_below}
+use Rattle.jpg_spec.proofs.Basics.Common.{length_below}
 use Rattle.jpg_coefs.specs.Picture.{Picture as Coefs}
 use Rattle.jpg_pnm_bmp.specs.EndState.{EndState, CanTakeRow, held_of, info_of, with_row}
 use Rattle.jpg_color.specs.Shown.{Display, row_length, row_of_blocks}

@@ -6,7 +6,7 @@ use Rattle.std.proofs.lemmas.Nat.{mul-le}
 use Rattle.std.proofs.Math.Nat.{mul-add-div_right}
 use Rattle.jpg_spec.specs.Geometry.{Frame, component_at, div_up, h_max, v_max}
 use Rattle.jpg_spec.specs.Lists.{below}
-use Rattle.jpg_spec.proofs.PlacesFound.{covers, least}
+use Rattle.jpg_spec.proofs.Places.PlacesFound.{covers, least}
 use Rattle.jpg_spec_encode.specs.Encoded.{full_plane, pixel_component}
 use Rattle.jpg_spec_image.specs.Downsampling.{downsampled}
 use Rattle.jpg_spec_image.specs.Images.{Image}

@@ -9,12 +9,12 @@ use Rattle.jpg_spec.specs.Scan.{Blocks}
 use Rattle.jpg_spec_image.specs.Upsampling.{Stretch, has_far_rows}
 use Rattle.jpg_spec_image.specs.Pixels.{stretch_of}
 use Rattle.jpg_spec_image.specs.Strips.{block_rows, lines, needed}
-use Rattle.jpg_spec.proofs.Common.{any_append}
+use Rattle.jpg_spec.proofs.Basics.Common.{any_append}
 use Rattle.jpg_file.specs.Read.StripHead.{IsStripHead, bare_picture}
 use Rattle.jpg_file.specs.declared.read.strip_head.StripHead.{StripHead}
 use Rattle.jpg_color.specs.PartState.{PartState, AreSizes, head_picture, no_rows}
 use Rattle.jpg_color.specs.Shown.{Display, IsShowable, IsFreshRows, display_of, display_fault, picture_of, parts, rows_in, row_length, held_rows}
-use Rattle.jpg_color.specs.StripsState.{AreNewParts, AreStrips, told_display, part_at, shown_of}
+use Rattle.jpg_color.specs.StripsState.{AreNewParts, AreStrips, display_for, part_at, shown_of}
 use Rattle.jpg_color.proofs.Coverage.{whole_ratios, in_frame, factors_at, parts_fit, samples_across_is, samples_down_is, lines_is, lines_some, up_covers, up_least}
 use Rattle.jpg_color.proofs.Windows.{rows_in_some, rows_in_few}
 use Rattle.jpg_color.proofs.HeldRows.{fresh_stands}
@@ -87,10 +87,10 @@ few_rows height count some few =
     omega (arith, l, few)
 
 pub display_is : (h : StripHead) {gray smooth : Bool} {f : Frame} {quants : List QuantTable} → f ≡ h.frame → quants ≡ h.quants.items
-    → told_display f h.colour quants gray smooth ≡ display_of h gray smooth
+    → display_for f h.colour quants gray smooth ≡ display_of h gray smooth
 display_is h {gray} {smooth} {quants = quants} ef eq =
-    ap (λ (k : Frame). told_display k h.colour quants gray smooth) ef
-    ∙ ap (λ (ts : List QuantTable). told_display h.frame h.colour ts gray smooth) eq
+    ap (λ (k : Frame). display_for k h.colour quants gray smooth) ef
+    ∙ ap (λ (ts : List QuantTable). display_for h.frame h.colour ts gray smooth) eq
 
 -- It can be displayed, and these are its parts, of which none has a row.
 pub record AreNew (d : Display) (ps : List PartState) : Type 0 where

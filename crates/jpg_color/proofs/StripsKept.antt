@@ -11,7 +11,7 @@ use Rattle.jpg_spec.specs.declared.frame.Colour.{Colour}
 use Rattle.jpg_coefs.specs.Picture.{Picture}
 use Rattle.jpg_color.specs.KeptRows.{KeptRows}
 use Rattle.jpg_color.specs.PartState.{PartState, CanFill, CanDraw, no_drawn_part, filled, drawn}
-use Rattle.jpg_color.specs.Shown.{ShownState, StandsForPicture, AreMcuRow, IsNextRowDue, IsPushed, IsGiven, picture_of, parts, all_rows, rows_in, rows_made_ready, row_of_blocks, held_rows}
+use Rattle.jpg_color.specs.Shown.{ShownState, RepresentsPicture, AreMcuRow, IsNextRowDue, IsPushed, IsGiven, picture_of, parts, all_rows, rows_in, rows_made_ready, row_of_blocks, held_rows}
 use Rattle.jpg_color.specs.StripsState.{AreWide, HasMcuRow, coloured, line_at, part_at, start_of}
 use Rattle.jpg_color.proofs.HeldRows.{pushed_stands, held_same, given_stands, long_from, pushed_rows}
 use Rattle.jpg_color.proofs.Products.{wide_enough}
@@ -46,8 +46,8 @@ pub can_fill : {t : Strips} {whole : Bool} {q : Picture} {s : ShownState} → Ar
     → All (CanFill q whole t.pushed) t.parts
 can_fill {whole = whole} {q} k e due blocks = all_fill k (subst IsNextRowDue (sym e) due) (subst (λ x. HasMcuRow x whole q) (sym e) blocks)
 
-stands_more : {t : Strips} (whole : Bool) (q : Picture) (blocks : Blocks) → AreKept t → IsNextRowDue (shown t) → StandsForPicture (shown t) blocks
-    → AreMcuRow t.display t.pushed (start_of whole (shown t)) q blocks → StandsForPicture (shown (filled_strips q whole t)) blocks
+stands_more : {t : Strips} (whole : Bool) (q : Picture) (blocks : Blocks) → AreKept t → IsNextRowDue (shown t) → RepresentsPicture (shown t) blocks
+    → AreMcuRow t.display t.pushed (start_of whole (shown t)) q blocks → RepresentsPicture (shown (filled_strips q whole t)) blocks
 stands_more {t} whole q blocks k due stands mcu =
     let d = t.display in
     let first = start_of whole (shown t) in
@@ -61,7 +61,7 @@ kept_more {t} whole q k e due is =
     let d = t.display in
     let due' : IsNextRowDue (shown t) = subst IsNextRowDue (sym e) due in
     let first : ℕ → ℕ = start_of whole (shown t) in
-    let old : (blocks : Blocks) × StandsForPicture (shown t) blocks = k.stands in
+    let old : (blocks : Blocks) × RepresentsPicture (shown t) blocks = k.stands in
     let more : Blocks = extended d t.pushed first q old.0 in
     subst (λ (ns : List PartState). AreKept (record t { pushed = t.pushed + 1; parts = ns })) (sym is) (record {
       showable = k.showable;
@@ -90,7 +90,7 @@ pushed {t} {new} whole q k e due is =
       display = refl;
       pushed = refl;
       given = refl;
-      stands = λ (blocks : Blocks) (stands : StandsForPicture (shown t) blocks) (mcu : AreMcuRow t.display t.pushed (start_of whole (shown t)) q blocks).
+      stands = λ (blocks : Blocks) (stands : RepresentsPicture (shown t) blocks) (mcu : AreMcuRow t.display t.pushed (start_of whole (shown t)) q blocks).
           stands_more whole q blocks k due' stands mcu;
     }))
 
@@ -112,7 +112,7 @@ is_due {t} {ready = ready} k e is low other =
 
 pub can_draw : {t : Strips} → AreKept t → t.given < rows_made_ready t.display t.pushed → All (CanDraw t.given t.pushed) t.parts
 can_draw {t} k lt =
-    let old : (blocks : Blocks) × StandsForPicture (shown t) blocks = k.stands in
+    let old : (blocks : Blocks) × RepresentsPicture (shown t) blocks = k.stands in
     all_draw old.0 k old.1 lt
 
 pub drawn_wide : {t : Strips} {new : List PartState} → AreKept t → new ≡ map (drawn t.given t.pushed) t.parts
@@ -147,7 +147,7 @@ some_part false = omega arith
 three_parts : (b : Bool) (i : ℕ) → i < 3 → b ≡ false → i < (if b then 1 else 3)
 three_parts b i lt e = subst (λ c. i < (if c then 1 else 3)) (sym e) lt
 
-row_drawn : {t : Strips} (blocks : Blocks) → AreKept t → t.given < rows_made_ready t.display t.pushed → StandsForPicture (shown t) blocks
+row_drawn : {t : Strips} (blocks : Blocks) → AreKept t → t.given < rows_made_ready t.display t.pushed → RepresentsPicture (shown t) blocks
     → coloured t.display.colour t.display.gray t.display.frame.width (map (drawn t.given t.pushed) t.parts) ≡ row_of_blocks t.display blocks t.given
 row_drawn {t} blocks k early stands =
     let d = t.display in
@@ -165,8 +165,8 @@ row_drawn {t} blocks k early stands =
 abbrev given_strips : Strips → List PartState → List ℕ → Strips
 given_strips t parts last = record t { given = t.given + 1; parts = parts; last = last }
 
-stands_given : {t : Strips} (last : List ℕ) (blocks : Blocks) → AreKept t → t.given < rows_made_ready t.display t.pushed → StandsForPicture (shown t) blocks
-    → StandsForPicture (shown (given_strips t (map (drawn t.given t.pushed) t.parts) last)) blocks
+stands_given : {t : Strips} (last : List ℕ) (blocks : Blocks) → AreKept t → t.given < rows_made_ready t.display t.pushed → RepresentsPicture (shown t) blocks
+    → RepresentsPicture (shown (given_strips t (map (drawn t.given t.pushed) t.parts) last)) blocks
 stands_given {t} last blocks k early stands =
     let d = t.display in
     let new = map (drawn t.given t.pushed) t.parts in
@@ -181,7 +181,7 @@ pub kept_given : {t : Strips} {new : List PartState} {last : List ℕ} → AreKe
     → new ≡ map (drawn t.given t.pushed) t.parts → length last ≡ length t.last → AreKept (record t { given = t.given + 1; parts = new; last = last })
 kept_given {t} {last = last} k early is long =
     let d = t.display in
-    let old : (blocks : Blocks) × StandsForPicture (shown t) blocks = k.stands in
+    let old : (blocks : Blocks) × RepresentsPicture (shown t) blocks = k.stands in
     subst (λ (ns : List PartState). AreKept (given_strips t ns last)) (sym is) (record {
       showable = k.showable;
       all = k.all;
@@ -209,9 +209,9 @@ given {t} {new} {last} k e early is long made =
       pushed = refl;
       given = refl;
       last = refl;
-      value = λ (blocks : Blocks) (stands : StandsForPicture (shown t) blocks).
+      value = λ (blocks : Blocks) (stands : RepresentsPicture (shown t) blocks).
           made ∙ ap (coloured d.colour d.gray d.frame.width) is ∙ row_drawn blocks k early stands;
-      stands = λ (blocks : Blocks) (stands : StandsForPicture (shown t) blocks). stands_given last blocks k early stands;
+      stands = λ (blocks : Blocks) (stands : RepresentsPicture (shown t) blocks). stands_given last blocks k early stands;
     }))
 
 -- FEW ROWS are kept
@@ -230,8 +230,8 @@ held_few {t} {s} {i} {p} {kept} k e lt is same =
     let d = t.display in
     let m = t.pushed in
     let h : i < parts d = subst (λ x. i < parts x.display) (sym e) lt in
-    let old : (blocks : Blocks) × StandsForPicture (shown t) blocks = k.stands in
-    let stands : StandsForPicture (shown t) old.0 = old.1 in
+    let old : (blocks : Blocks) × RepresentsPicture (shown t) blocks = k.stands in
+    let stands : RepresentsPicture (shown t) old.0 = old.1 in
     let M = picture_of d old.0 in
     let f = first_kept M i m in
     let here : p ≡ part_at t.parts i = is ∙ get_or_default t.parts i p no_drawn_part (there k h) in

@@ -10,8 +10,8 @@ use Rattle.jpg_spec.specs.Ranges.{AreInRange}
 use Rattle.jpg_spec_image.specs.Upsampling.{has_far_rows}
 use Rattle.jpg_spec_image.specs.Pixels.{samples_across, samples_down, stretch_of}
 use Rattle.jpg_spec_image.specs.Strips.{lines, known_rows}
-use Rattle.jpg_spec.proofs.Common.{not_same, same_itself}
-use Rattle.jpg_spec.proofs.PlacesFound.{real_in_padded}
+use Rattle.jpg_spec.proofs.Basics.Common.{not_same, same_itself}
+use Rattle.jpg_spec.proofs.Places.PlacesFound.{real_in_padded}
 use Rattle.jpg_base.proofs.Grids.{across_low, down_low}
 use Rattle.jpg_coefs.specs.Picture.{Picture, map_of}
 use Rattle.jpg_color.specs.KeptRows.{HasRows}

@@ -24,8 +24,8 @@ use Rattle.jpg_color.specs.declared.decode.DecodeStop.{DecodeStop}
 use Rattle.jpg_color.specs.declared.decode.DecodeStop.TheVariants as stop
 
 -- the info of an image, from its frame, its colours and the JFIF header
-abbrev pub told_info : Frame → Colour → Jfif → Bool → ImageInfo
-told_info f colour j gray = record { width = f.width; height = f.height; kind = kind_of colour gray; x_metre = metre j j.x; y_metre = metre j j.y }
+abbrev pub info_for : Frame → Colour → Jfif → Bool → ImageInfo
+info_for f colour j gray = record { width = f.width; height = f.height; kind = kind_of colour gray; x_metre = metre j j.x; y_metre = metre j j.y }
 
 -- the text of the image of a picture
 abbrev pub picture_text : EndKind → Picture → Bool → Bool → List ℕ

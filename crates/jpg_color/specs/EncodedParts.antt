@@ -13,7 +13,7 @@ use Rattle.jpg_spec.specs.declared.frame.Colour.{Colour}
 use Rattle.jpg_spec.specs.declared.jfif.Jfif.{Jfif}
 use Rattle.jpg_spec_image.specs.ForwardDct.{forward_dct, quantised_block}
 use Rattle.jpg_spec_write.specs.WrittenFile.{HasBlocksIn}
-use Rattle.jpg_file.specs.Read.PictureKept.{IsQuantTable, component_told}
+use Rattle.jpg_file.specs.Read.PictureKept.{IsQuantTable, component_view}
 use Rattle.jpg_color.specs.EncodeBlocks.{AreRows, plane_at}
 use Rattle.jpg_color.specs.declared.encode.strips.Planes.{Planes}
 
@@ -53,7 +53,7 @@ viewed_meaning p = record {
   precision = p.frame.precision;
   width = p.frame.width;
   height = p.frame.height;
-  components = map (component_told p.frame p.quants) (below (length p.frame.components));
+  components = map (component_view p.frame p.quants) (below (length p.frame.components));
   blocks = real_blocks p.frame p.blocks;
   kept = p.kept;
 }

@@ -6,7 +6,7 @@ use Rattle.jpg_spec.specs.Ranges.{AreInRange}
 use Rattle.jpg_spec.specs.Scan.{Blocks}
 use Rattle.jpg_coefs.specs.Picture.{Picture as Coefs, map_of}
 use Rattle.jpg_file.specs.declared.read.picture.Picture.{Picture}
-use Rattle.jpg_color.specs.Shown.{ShownState, Display, StandsForPicture, row_length, row_of_blocks}
+use Rattle.jpg_color.specs.Shown.{ShownState, Display, RepresentsPicture, row_length, row_of_blocks}
 
 pub record RowsLeft : Type 0 where
   pub strips : ShownState
@@ -20,7 +20,7 @@ shown_blocks d q = real_blocks d.frame (map_of q)
 pub record ArePictureRows (s : ShownState) (q : Coefs) : Type 0 where
   pub frame : q.frame ≡ s.display.frame
   pub range : AreInRange (bounds s.display.frame) (map_of q)
-  pub stands : StandsForPicture s (shown_blocks s.display q)
+  pub stands : RepresentsPicture s (shown_blocks s.display q)
 
 -- the picture except for its blocks, and how it is displayed
 abbrev pub display_in : Picture → Bool → Bool → Display

@@ -75,8 +75,8 @@ abbrev pub held_rows : ShownState → ℕ → List (List ℕ)
 held_rows s i = (slice_index_or s.held i (record { wide = 0; room = 0; rows = [] })).rows
 
 -- THE MEANING OF ITS STATES: any picture whose MCU rows were taken so far
-abbrev pub StandsForPicture : ShownState → Blocks → Type 0
-StandsForPicture s blocks = IsHeld (picture_of s.display blocks) (parts s.display) s.display.smooth (all_rows s.display) s.pushed s.given (held_rows s)
+abbrev pub RepresentsPicture : ShownState → Blocks → Type 0
+RepresentsPicture s blocks = IsHeld (picture_of s.display blocks) (parts s.display) s.display.smooth (all_rows s.display) s.pushed s.given (held_rows s)
 
 -- From row `first i` on, the blocks of component i are those of MCU row m of a picture.
 pub record AreMcuRow (d : Display) (m : ℕ) (first : ℕ → ℕ) (q : Picture) (blocks : Blocks) : Type 0 where
@@ -106,7 +106,7 @@ pub record IsPushed (old : ShownState) (first : ℕ → ℕ) (q : Picture) (new 
   pub display : new.display ≡ old.display
   pub pushed : new.pushed ≡ old.pushed + 1
   pub given : new.given ≡ old.given
-  pub stands : (blocks : Blocks) → StandsForPicture old blocks → AreMcuRow old.display old.pushed first q blocks → StandsForPicture new blocks
+  pub stands : (blocks : Blocks) → RepresentsPicture old blocks → AreMcuRow old.display old.pushed first q blocks → RepresentsPicture new blocks
 
 -- only the MCU row, and the next one of a complete picture
 abbrev pub at_top : ℕ → ℕ
@@ -123,8 +123,8 @@ pub record IsGiven (old : ShownState) (row : List ℕ) (new : ShownState) : Type
   pub pushed : new.pushed ≡ old.pushed
   pub given : new.given ≡ old.given + 1
   pub last : new.last ≡ row
-  pub value : (blocks : Blocks) → StandsForPicture old blocks → row ≡ row_of_blocks old.display blocks old.given
-  pub stands : (blocks : Blocks) → StandsForPicture old blocks → StandsForPicture new blocks
+  pub value : (blocks : Blocks) → RepresentsPicture old blocks → row ≡ row_of_blocks old.display blocks old.given
+  pub stands : (blocks : Blocks) → RepresentsPicture old blocks → RepresentsPicture new blocks
 
 -- none, exactly if all that are ready were given
 abbrev pub GivesRow : ShownState → Option (List ℕ) → ShownState → Type 0
@@ -145,4 +145,4 @@ pub record IsFreshRows (h : StripHead) (gray smooth : Bool) (s : ShownState) : T
   pub display : s.display ≡ display_of h gray smooth
   pub pushed : s.pushed ≡ 0
   pub given : s.given ≡ 0
-  pub stands : (blocks : Blocks) → StandsForPicture s blocks
+  pub stands : (blocks : Blocks) → RepresentsPicture s blocks

@@ -17,9 +17,9 @@ use Rattle.jpg_coefs.specs.Picture.{Picture as Coefs}
 use Rattle.jpg_file.specs.Read.StripHead.{IsHeadOfPicture}
 use Rattle.jpg_file.specs.declared.read.strip_head.StripHead.{StripHead}
 use Rattle.jpg_pnm_bmp.specs.EndState.{EndState, IsImageInfo, held_of, info_of}
-use Rattle.jpg_color.specs.Shown.{AreMcuRow, Display, IsNextRowDue, IsShowable, ShownState, StandsForPicture}
+use Rattle.jpg_color.specs.Shown.{AreMcuRow, Display, IsNextRowDue, IsShowable, ShownState, RepresentsPicture}
 use Rattle.jpg_color.specs.Shown.{all_rows, at_top, display_of, picture_of, rows_made_ready, row_length, row_of_blocks}
-use Rattle.jpg_color.specs.DecodeRows.{SendsImage, end_at, end_parts, finished, row_pieces, told_info}
+use Rattle.jpg_color.specs.DecodeRows.{SendsImage, end_at, end_parts, finished, row_pieces, info_for}
 use Rattle.jpg_color.specs.declared.decode.DecodeStop.{DecodeStop}
 
 -- the rows, the info of the image, and the pending part of its text
@@ -77,7 +77,7 @@ pub record IsDrawnTo (d : Drawing) (e : EndState) (M : Meaning) (gray smooth : B
   pub image : DrawsImage d M gray smooth
   pub pushed : d.strips.pushed ≡ m
   pub given : d.strips.given ≡ rows_ready M gray smooth m
-  pub stands : StandsForPicture d.strips M.blocks
+  pub stands : RepresentsPicture d.strips M.blocks
   pub end : e ≡ end_at e.kind (info M gray) (first_image_rows M gray smooth m)
 
 -- for any picture: the image writer was given this image, and took the rows that were given
@@ -91,13 +91,13 @@ pub record IsEndOf (d : Drawing) (e : EndState) : Type 0 where
 pub record IsNewDrawing (d : Drawing) : Type 0 where
   pub pushed : d.strips.pushed ≡ 0
   pub given : d.strips.given ≡ 0
-  pub stands : (blocks : Blocks) → StandsForPicture d.strips blocks
+  pub stands : (blocks : Blocks) → RepresentsPicture d.strips blocks
   pub out : d.out ≡ []
 
 pub record IsNewOf (h : StripHead) (gray smooth : Bool) (d : Drawing) : Type 0 where
   pub new : IsNewDrawing d
   pub display : d.strips.display ≡ display_of h gray smooth
-  pub info : d.info ≡ told_info h.frame h.colour h.jfif gray
+  pub info : d.info ≡ info_for h.frame h.colour h.jfif gray
   pub draws : (M : Meaning) → IsHeadOfPicture h M → DrawsImage d M gray smooth
 
 -- ITS BEGINNING
@@ -173,14 +173,14 @@ pub record AreGiven (old : ShownState) (e : EndState) (new : ShownState) (new_en
   pub kind : new_end.kind ≡ e.kind
   pub told : new_end.info ≡ e.info
   pub can : CanTakeNext new new_end
-  pub stands : (blocks : Blocks) → StandsForPicture old blocks → StandsForPicture new blocks
-  pub rows : (blocks : Blocks) → StandsForPicture old blocks → new_end ≡ with_rows e (rows_due old blocks new.given)
+  pub stands : (blocks : Blocks) → RepresentsPicture old blocks → RepresentsPicture new blocks
+  pub rows : (blocks : Blocks) → RepresentsPicture old blocks → new_end ≡ with_rows e (rows_due old blocks new.given)
 
 pub record SendsReady (s0 : DeskState) (old : ShownState) (e : EndState) (out : List ℕ) (result : Result (Unit {0}) DecodeStop) (new : ShownState) (new_end : EndState) (new_out : List ℕ) (s1 : DeskState) : Type 0 where
   pub only : OnlyWrites s0 s1
   pub display : new.display ≡ old.display
   pub given : IfOk result (λ u. AreGiven old e new new_end)
-  pub sent : (blocks : Blocks) → StandsForPicture old blocks → SendsImage s0 out (row_pieces e (rows_due old blocks (rows_made_ready old.display old.pushed))) result new_out s1
+  pub sent : (blocks : Blocks) → RepresentsPicture old blocks → SendsImage s0 out (row_pieces e (rows_due old blocks (rows_made_ready old.display old.pushed))) result new_out s1
 
 -- PICTURES WITH THE SAME FIRST MCU ROWS: all but blocks the same, and the real blocks of these
 pub record AgreeInFirstRows (M N : Meaning) (m : ℕ) : Type 0 where

@@ -13,7 +13,7 @@ use Rattle.jpg_spec.specs.declared.frame.Colour.{Colour}
 use Rattle.jpg_coefs.specs.Picture.{Picture}
 use Rattle.jpg_color.specs.KeptRows.{HasRows}
 use Rattle.jpg_color.specs.PartState.{PartState, IsPart, IsNewPart, no_drawn_part}
-use Rattle.jpg_color.specs.Shown.{Display, ShownState, IsShowable, StandsForPicture, all_rows, parts, picture_of, rows_made_ready, row_length, row_of_blocks, rows_in}
+use Rattle.jpg_color.specs.Shown.{Display, ShownState, IsShowable, RepresentsPicture, all_rows, parts, picture_of, rows_made_ready, row_length, row_of_blocks, rows_in}
 
 abbrev pub part_at : List PartState → ℕ → PartState
 part_at ps i = slice_index_or ps i no_drawn_part
@@ -23,8 +23,8 @@ pub record AreNewParts (M : Meaning) (smooth : Bool) (n : ℕ) (ps : List PartSt
   pub count : length ps ≡ n
   pub new : (i : ℕ) → i < n → IsNewPart M smooth i (part_at ps i)
 
-abbrev pub told_display : Frame → Colour → List QuantTable → Bool → Bool → Display
-told_display f colour quants gray smooth = record { frame = f; colour = colour; quants = quants; gray = gray; smooth = smooth }
+abbrev pub display_for : Frame → Colour → List QuantTable → Bool → Bool → Display
+display_for f colour quants gray smooth = record { frame = f; colour = colour; quants = quants; gray = gray; smooth = smooth }
 
 -- what is displayed with these parts
 abbrev pub shown_of : Display → ℕ → ℕ → List PartState → List ℕ → ShownState
@@ -44,7 +44,7 @@ pub record AreStrips (d : Display) (pushed given : ℕ) (ps : List PartState) (r
   pub count : length ps ≡ parts d
   pub parts : (i : ℕ) → i < parts d → IsPart (picture_of d no_blocks) d.smooth i (part_at ps i)
   pub last : length row ≡ row_length d
-  pub stands : (blocks : Blocks) × StandsForPicture (shown_of d pushed given ps row) blocks
+  pub stands : (blocks : Blocks) × RepresentsPicture (shown_of d pushed given ps row) blocks
 
 -- where the blocks of the next MCU row begin
 abbrev pub start_of : Bool → ShownState → ℕ → ℕ
@@ -77,7 +77,7 @@ pub record AreWide (colour : Colour) (gray : Bool) (width : ℕ) (ps : List Part
 pub record IsNextRow (old : ShownState) (row : List ℕ) : Type 0 where
   pub early : old.given < rows_made_ready old.display old.pushed
   pub long : length row ≡ row_length old.display
-  pub value : (blocks : Blocks) → StandsForPicture old blocks → row ≡ row_of_blocks old.display blocks old.given
+  pub value : (blocks : Blocks) → RepresentsPicture old blocks → row ≡ row_of_blocks old.display blocks old.given
 
 abbrev pub TellsRow : ShownState → Option (List ℕ) → Type 0
 TellsRow old (Some row) = IsNextRow old row

@@ -4,7 +4,7 @@ ghost use Rattle.jpg_spec_image.specs.ImageText.{end_text};
 ghost use Rattle.jpg_spec_image.specs.Pixels.{out_fault};
 ghost use Rattle.jpg_file.specs.Read.PictureRead.{picture_meaning};
 ghost use Rattle.jpg_pnm_bmp.specs.EndState.{CanFinish, CanTakeRow, Finishes, IsImageInfo, Starts, TakesRow, new_end};
-ghost use Rattle.jpg_color.specs.DecodeRows.{AreRowsOf, Decodes, IsEndFor, SendsImage, SendsPart, SendsRow, SendsRows, end_parts, finished, finished_end, picture_end, picture_text, rows_in_all, told_info};
+ghost use Rattle.jpg_color.specs.DecodeRows.{AreRowsOf, Decodes, IsEndFor, SendsImage, SendsPart, SendsRow, SendsRows, end_parts, finished, finished_end, picture_end, picture_text, rows_in_all, info_for};
 
 pub mod blocks;
 pub mod kinds;
@@ -98,7 +98,7 @@ pub(crate) fn start_image(
 
 // The size, kind and density of the image.
 pub(crate) fn info_of(frame: &Frame, colour: Colour, jfif: Jfif, gray: bool) -> ImageInfo
-    ensures { result ≡ told_info frame.now colour jfif gray }
+    ensures { result ≡ info_for frame.now colour jfif gray }
 {
     ImageInfo {
         width: frame.width(),

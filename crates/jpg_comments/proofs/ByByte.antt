@@ -10,7 +10,7 @@ use Rattle.jpg_base.specs.declared.stop.Stop.{Stop}
 use Rattle.jpg_base.specs.declared.stop.Stop.TheVariants as stop
 use Rattle.jpg_markers.specs.declared.segments.Phase.TheVariants as phase
 use Rattle.jpg_markers.specs.declared.segments.SegStep.TheVariants as step
-use Rattle.jpg_markers.specs.Reading.{Reading, AtPhase, StandsForSegments, RevealsAfter, Comes, PassesSome}
+use Rattle.jpg_markers.specs.Reading.{Reading, AtPhase, RepresentsSegments, RevealsAfter, Comes, PassesSome}
 use Rattle.jpg_comments.specs.SegmentsSoFar.{IsBegun, Appends}
 use Rattle.jpg_comments.specs.Printing.{HoldsWhole, HasPrinted, PrintsSegment, due_text, StopsPrinting, AfterPrinted}
 use Rattle.jpg_comments.proofs.Taken.{OneMore, Tells, nothing_first, taken_on, taken_some, fault_shown, within, begun, whole_front}
@@ -33,7 +33,7 @@ abbrev pub reading_tells : (limits : Limits) → Tells limits (HoldsWhole limits
 reading_tells limits = record { goes = reads_on; faulty = λ f. refl; wholes = λ bytes w. read_wholes limits bytes w.0 w.1 }
 
 -- at the start
-pub printed_start : (limits : Limits) (r : Reading) → StandsForSegments [] [] r → r.limits ≡ limits → r.taken ≡ 0 → HasPrinted limits [] [] r
+pub printed_start : (limits : Limits) (r : Reading) → RepresentsSegments [] [] r → r.limits ≡ limits → r.taken ≡ 0 → HasPrinted limits [] [] r
 printed_start limits r stands same none = (
   [],
   record { stands = stands; limited = same; taken = none; most = omega (arith, none); nothing = nothing_first limits (HoldsWhole limits) (reading_tells limits) refl },
@@ -51,7 +51,7 @@ printed_some limits r next bytes text piece n h room same some passes =
 
 module _ (limits : Limits) (r next : Reading) (bytes text : List ℕ) (byte : ℕ) (h : HasPrinted limits bytes text r) (m : OneMore r next) where
   -- nothing is complete with it
-  pub printed_on : (x : Reached) → reads_on x ≡ true → Reaches (kept_rule next.limits) (bytes ++ byte ∷ []) x → StandsForSegments (bytes ++ byte ∷ []) h.0 next
+  pub printed_on : (x : Reached) → reads_on x ≡ true → Reaches (kept_rule next.limits) (bytes ++ byte ∷ []) x → RepresentsSegments (bytes ++ byte ∷ []) h.0 next
       → HasPrinted limits (bytes ++ byte ∷ []) text next
   printed_on x going reaches stands =
       (h.0, taken_on limits (HoldsWhole limits) (reading_tells limits) r next bytes byte h.0 h.0 x h.1 m going reaches stands, h.2, h.3)

@@ -10,14 +10,14 @@ use Rattle.jpg_spec.specs.Markers.{Segment, Rule, kept_rule, soi, has_frame, is_
 use Rattle.jpg_spec_write.specs.CommentText.{RevealsNothing, IsFileFront}
 use Rattle.jpg_spec.specs.declared.frame.Limits.{Limits}
 use Rattle.jpg_spec.specs.declared.fault.Fault.TheVariants.{UnexpectedMarker}
-use Rattle.jpg_spec.proofs.Reached.{reached_once}
-use Rattle.jpg_spec.proofs.Common.{clash}
+use Rattle.jpg_spec.proofs.Segments.Reached.{reached_once}
+use Rattle.jpg_spec.proofs.Basics.Common.{clash}
 use Rattle.jpg_base.specs.declared.stop.Stop.{Stop}
 use Rattle.jpg_base.specs.declared.stop.Stop.TheVariants as stop
 use Rattle.jpg_markers.specs.declared.segments.Phase.{Phase}
 use Rattle.jpg_markers.specs.declared.segments.Phase.TheVariants as phase
 use Rattle.jpg_markers.specs.declared.segments.SegStep.TheVariants as step
-use Rattle.jpg_markers.specs.Reading.{Reading, AtPhase, StandsForSegments, EndsAtEoi, Comes, PassesSome}
+use Rattle.jpg_markers.specs.Reading.{Reading, AtPhase, RepresentsSegments, EndsAtEoi, Comes, PassesSome}
 use Rattle.jpg_comments.specs.Inserting.{HoldsHead, copied_head, copied_segment, HasKept, IsAtFrame, StopsHead}
 use Rattle.jpg_comments.proofs.Taken.{OneMore, Tells, taken_on, taken_some, fault_shown, within, whole_front, frame_or_not}
 
@@ -134,7 +134,7 @@ kept_more replace code contents before = by replace
         (ap (flat_map text) turned ∙ flat_map-append text (reverse before) (new ∷ []) ∙ ap (λ l. flat_map text (reverse before) ++ l) (append-nil (segment_text code contents)))
 
 -- the segment's spelling
-whole_at : (r : Reading) (bytes : List ℕ) (before : List Segment) → r.phase ≡ phase.Between → StandsForSegments bytes before r → SpellsSegments before bytes × Pass (kept_rule r.limits) before
+whole_at : (r : Reading) (bytes : List ℕ) (before : List Segment) → r.phase ≡ phase.Between → RepresentsSegments bytes before r → SpellsSegments before bytes × Pass (kept_rule r.limits) before
 whole_at r bytes before between s =
     let at = subst (λ p. AtPhase r p bytes before) between s.1 in
     (subst (λ l. SpellsSegments before l) (sym (at.1.cut ∙ ap (λ t. at.1.front ++ t) at.3 ∙ append-nil at.1.front)) at.1.spelled, at.1.passed)
@@ -142,7 +142,7 @@ whole_at r bytes before between s =
 module _ (limits : Limits) (replace : Bool) (r : Reading) (bytes head : List ℕ) (h : HasKept limits replace bytes head r) where
   -- nothing is complete with it
   pub kept_on : (next : Reading) (byte : ℕ) (x : Reached) → OneMore r next → heads_on x ≡ true → Reaches (kept_rule next.limits) (bytes ++ byte ∷ []) x
-      → StandsForSegments (bytes ++ byte ∷ []) h.0 next → HasKept limits replace (bytes ++ byte ∷ []) head next
+      → RepresentsSegments (bytes ++ byte ∷ []) h.0 next → HasKept limits replace (bytes ++ byte ∷ []) head next
   kept_on next byte x m going reaches stands =
       (h.0, taken_on limits (HoldsHead limits) (head_tells limits) r next bytes byte h.0 h.0 x h.1 m going reaches stands, h.2, h.3)
 

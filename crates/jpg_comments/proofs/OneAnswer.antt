@@ -6,8 +6,8 @@ use Rattle.jpg_spec_write.specs.CommentText.{IsReadWhole, IsInsertFault, Reveals
 use Rattle.jpg_spec.specs.declared.fault.Fault.{Fault}
 use Rattle.jpg_spec.specs.declared.fault.Fault.TheVariants.{Truncated, InputTooLong}
 use Rattle.jpg_spec.specs.declared.frame.Limits.{Limits}
-use Rattle.jpg_spec.proofs.Reached.{reached_once, fault_once, fronts_clean}
-use Rattle.jpg_spec.proofs.Common.{take_shorter}
+use Rattle.jpg_spec.proofs.Segments.Reached.{reached_once, fault_once, fronts_clean}
+use Rattle.jpg_spec.proofs.Basics.Common.{take_shorter}
 use Rattle.jpg_comments.specs.Printing.{HoldsWhole}
 use Rattle.jpg_comments.specs.Inserting.{HoldsHead}
 use Rattle.jpg_comments.proofs.Taken.{upto}

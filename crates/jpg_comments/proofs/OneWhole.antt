@@ -7,8 +7,8 @@ use Rattle.jpg_spec.specs.Markers.{Segment, has_frame, has_scan, is_frame_code, 
 use Rattle.jpg_spec_write.specs.CommentText.{IsReadWhole, IsInserted, inserted_head, IsFileFront}
 use Rattle.jpg_spec.specs.declared.fault.Fault.TheVariants.{UnexpectedMarker, UnsupportedProcess, SecondFrame, SosBeforeSof}
 use Rattle.jpg_spec.specs.declared.frame.Limits.{Limits}
-use Rattle.jpg_spec.proofs.MarkersOnce.{SpellsMore, GoesOn, marker_once, oldest, segments_once}
-use Rattle.jpg_spec.proofs.Common.{clash, or_right}
+use Rattle.jpg_spec.proofs.Segments.MarkersOnce.{SpellsMore, GoesOn, marker_once, oldest, segments_once}
+use Rattle.jpg_spec.proofs.Basics.Common.{clash, or_right}
 
 -- AMONG SEGMENTS
 

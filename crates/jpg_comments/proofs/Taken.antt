@@ -7,11 +7,11 @@ use Rattle.jpg_spec.specs.declared.fault.Fault.{Fault}
 use Rattle.jpg_spec.specs.declared.fault.FaultAt.{FaultAt}
 use Rattle.jpg_spec.specs.declared.fault.Fault.TheVariants.{Truncated, InputTooLong}
 use Rattle.jpg_spec.specs.declared.frame.Limits.{Limits}
-use Rattle.jpg_spec.proofs.Reached.{reached_once, least}
-use Rattle.jpg_spec.proofs.Common.{clash}
+use Rattle.jpg_spec.proofs.Segments.Reached.{reached_once, least}
+use Rattle.jpg_spec.proofs.Basics.Common.{clash}
 use Rattle.jpg_markers.specs.declared.segments.Phase.{Phase}
 use Rattle.jpg_markers.specs.declared.segments.Phase.TheVariants as phase
-use Rattle.jpg_markers.specs.Reading.{Reading, AtPhase, PassesSome, StandsForSegments}
+use Rattle.jpg_markers.specs.Reading.{Reading, AtPhase, PassesSome, RepresentsSegments}
 use Rattle.jpg_comments.specs.SegmentsSoFar.{IsBegun, HasTaken, ShowsFault, Appends}
 
 -- APPENDING
@@ -57,14 +57,14 @@ some_pass r next piece most n few (low, stands, parts) =
     let size = length-take-le most piece few in
     let same : (m : ℕ) → m ≤ n → take m (take most piece) ≡ take m piece = λ m less. take-take m most piece (omega (arith, size, low, less)) in (
       omega (arith, few, size, low),
-      λ bytes before s. subst (λ l. StandsForSegments (bytes ++ l) before next) (same n (omega arith)) (stands bytes before s),
+      λ bytes before s. subst (λ l. RepresentsSegments (bytes ++ l) before next) (same n (omega arith)) (stands bytes before s),
       λ front before m s some less. subst (λ l. Reaches (kept_rule r.limits) (front ++ l) at_part) (same m less) (parts front before m s some less),
     )
 
 pub none_pass : (r next : Reading) (piece : List ℕ) → next ≡ r → PassesSome r piece (Ok 0) next
 none_pass r next piece same = (
   omega arith,
-  λ bytes before s. subst (λ (q : Reading). StandsForSegments (bytes ++ []) before q) (sym same) (subst (λ l. StandsForSegments l before r) (sym (append-nil bytes)) s),
+  λ bytes before s. subst (λ (q : Reading). RepresentsSegments (bytes ++ []) before q) (sym same) (subst (λ l. RepresentsSegments l before r) (sym (append-nil bytes)) s),
   λ front before m s some less. absurd (omega (arith, some, less)),
 )
 
@@ -110,7 +110,7 @@ module _ (limits : Limits) (is_whole : List ℕ → Type 0) (t : Tells limits is
 
   -- one more byte is taken
   pub taken_on : (r next : Reading) (bytes : List ℕ) (byte : ℕ) (before more : List Segment) (x : Reached) → HasTaken limits is_whole bytes before r
-      → OneMore r next → t.goes x ≡ true → Reaches (kept_rule next.limits) (bytes ++ byte ∷ []) x → StandsForSegments (bytes ++ byte ∷ []) more next
+      → OneMore r next → t.goes x ≡ true → Reaches (kept_rule next.limits) (bytes ++ byte ∷ []) x → RepresentsSegments (bytes ++ byte ∷ []) more next
       → HasTaken limits is_whole (bytes ++ byte ∷ []) more next
   taken_on r next bytes byte before more x h m going reaches stands =
       let e : next.limits ≡ limits = m.same ∙ h.limited in
@@ -241,5 +241,5 @@ begun_at r phase.Contents bytes before h =
     inr (h.0, h.1, inl (inr (r.code, k.0, k.3, inr (inr (k.1, k.2, r.contents, k.4, k.5, k.6, omega (arith, long, some))))))
 begun_at r phase.Ended bytes before h = absurd h
 
-pub begun : (limits : Limits) (r : Reading) (bytes : List ℕ) (before : List Segment) → r.limits ≡ limits → StandsForSegments bytes before r → IsBegun (kept_rule limits) bytes before
+pub begun : (limits : Limits) (r : Reading) (bytes : List ℕ) (before : List Segment) → r.limits ≡ limits → RepresentsSegments bytes before r → IsBegun (kept_rule limits) bytes before
 begun limits r bytes before e s = subst (λ l. IsBegun (kept_rule l) bytes before) e (begun_at r r.phase bytes before s.1)

@@ -5,7 +5,7 @@ use Rattle.jpg_spec_write.specs.CommentText.{RevealsNothing, IsMarkerFault}
 use Rattle.jpg_spec.specs.declared.fault.Fault.{Fault}
 use Rattle.jpg_spec.specs.declared.fault.FaultAt.{FaultAt}
 use Rattle.jpg_spec.specs.declared.frame.Limits.{Limits}
-use Rattle.jpg_markers.specs.Reading.{Reading, StandsForSegments, RevealsAfter}
+use Rattle.jpg_markers.specs.Reading.{Reading, RepresentsSegments, RevealsAfter}
 
 -- These segments are complete, and the bytes after them begin one more, or are none.
 abbrev pub IsBegun : Rule → List ℕ → List Segment → Type 0
@@ -21,7 +21,7 @@ AreWholeBefore limits bytes fault before = RevealsAfter (kept_rule limits) befor
 -- A reader was given these bytes, no prefix of which has a fault or is complete. The complete segments among them are
 -- these.
 pub record HasTaken (limits : Limits) (is_whole : List ℕ → Type 0) (bytes : List ℕ) (before : List Segment) (r : Reading) : Type 0 where
-  pub stands : StandsForSegments bytes before r
+  pub stands : RepresentsSegments bytes before r
   pub limited : r.limits ≡ limits
   pub taken : r.taken ≡ length bytes
   pub most : r.taken ≤ limits.input

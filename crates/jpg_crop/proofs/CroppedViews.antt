@@ -14,7 +14,7 @@ use Rattle.jpg_spec.specs.declared.frame.Component.{Component}
 use Rattle.jpg_spec_move.specs.Cropped.{columns_before, columns_cropped, cropped, cropped_by, on_grid, rows_before, rows_cropped}
 use Rattle.jpg_spec_move.specs.Moved.{Choice, headed_as, moved, uncropped}
 use Rattle.jpg_spec_move.specs.declared.area.Area.{Area}
-use Rattle.jpg_spec.proofs.PlacesFound.{least}
+use Rattle.jpg_spec.proofs.Places.PlacesFound.{least}
 use Rattle.jpg_spec_move.proofs.CroppedFrames.{IsAreaOf, area_of}
 use Rattle.jpg_spec_move.proofs.CroppedGrids.{columns_of_frame, columns_of_picture, columns_out, crop_grids, cropped_block, real_before, rows_of_frame, rows_of_picture, rows_out}
 use Rattle.jpg_spec_move.proofs.MovedGrids.{IsIn, to_grids}

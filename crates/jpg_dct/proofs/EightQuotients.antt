@@ -15,8 +15,8 @@ use Rattle.std.proofs.lemmas.Simd.{Each1-get_or}
 use Rattle.jpg_spec.specs.Lists.{below}
 use Rattle.jpg_spec.specs.Zigzag.{zigzag}
 use Rattle.jpg_spec_image.specs.Dct.{number_at}
-use Rattle.jpg_spec.proofs.Common.{length_below}
-use Rattle.jpg_spec.proofs.Rows.{at_below, map_alike}
+use Rattle.jpg_spec.proofs.Basics.Common.{length_below}
+use Rattle.jpg_spec.proofs.Basics.Rows.{at_below, map_alike}
 use Rattle.jpg_dct.specs.Division.{with_sign, high_part}
 use Rattle.jpg_dct.specs.declared.forward.lanes.Eight.{Eight}
 use Rattle.jpg_dct.specs.Eights.{IsEight, vector, quotient_at}

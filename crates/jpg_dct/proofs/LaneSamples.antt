@@ -12,8 +12,8 @@ use Rattle.std.proofs.lemmas.Int.{to_z-of_z, fits_signed_from_abs, int_wrap_fits
 use Rattle.std.proofs.lemmas.Nat.{and_mask}
 use Rattle.std.proofs.lemmas.List.{get_or-map, get_or_append_left, get_or-append-add, get_or-replicate}
 use Rattle.jpg_spec.specs.Lists.{below}
-use Rattle.jpg_spec.proofs.Common.{length_below}
-use Rattle.jpg_spec.proofs.Rows.{at_below}
+use Rattle.jpg_spec.proofs.Basics.Common.{length_below}
+use Rattle.jpg_spec.proofs.Basics.Rows.{at_below}
 use Rattle.jpg_spec_image.specs.Dct.{number_at}
 use Rattle.jpg_dct.specs.Eights.{IsEight}
 use Rattle.jpg_dct.specs.Sums.{AreWords, low_of}

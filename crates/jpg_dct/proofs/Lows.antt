@@ -1,10 +1,8 @@
 -- Samples that are determined by rows of low bits.
-use Rattle.std.proofs.Common.{◌≡◌, ℕ, ◌+◌, ◌*◌, ◌<◌, List, [], ◌∷◌, ◌++◌, length, take, set, get_or, map, flat_map, ℤ, refl, sym, ap, ◌∙◌, arith}
-use Rattle.std.proofs.lemmas.List.{take_more_set, take_more, take_all, map-append, append_assoc, append-nil}
+use Rattle.std.proofs.Common.{◌≡◌, ℕ, ◌+◌, ◌*◌, ◌<◌, List, [], ◌∷◌, ◌++◌, length, take, set, get_or, map, flat_map, refl, sym, ap, ◌∙◌, arith}
+use Rattle.std.proofs.lemmas.List.{take_more_set, take_more, map-append, append_assoc, append-nil}
 use Rattle.std.proofs.lemmas.Grind.{flat_map-append}
-use Rattle.jpg_spec.specs.Lists.{below}
-use Rattle.jpg_spec_image.specs.Dct.{column, columns, sample_row, inverse_dct}
-use Rattle.jpg_dct.specs.Told.{natural_of}
+use Rattle.jpg_dct.specs.LowBits.{natural_of}
 
 pub one_more : (start samples row : List ℕ) (at k r : ℕ) → at + k < length samples → k < length row → take (at + k) samples ≡ start ++ map natural_of (take k row) → r ≡ natural_of (get_or row k 0)
     → take (at + (k + 1)) (set samples (at + k) r) ≡ start ++ map natural_of (take (k + 1) row)
@@ -31,11 +29,3 @@ row_more lows old new v lt e is =
 pub joined_is : {X : Type 0} (f : X → List ℕ) (xs : List X) → flat_map f xs ≡ flat_map (λ y. y) (map f xs)
 joined_is f [] = refl
 joined_is f (x ∷ xs) = ap (λ ys. f x ++ ys) (joined_is f xs)
-
-pub told_block : (values : List ℤ) (done : List (List ℤ)) (lows : List (List ℕ)) (samples : List ℕ) (u v : ℕ) → u ≡ 8 → v ≡ 8 → length done ≡ 8 → take u done ≡ map (column values) (below u)
-    → length lows ≡ 8 → map (map natural_of) (take v lows) ≡ map (sample_row done) (below v) → samples ≡ flat_map (map natural_of) lows → samples ≡ inverse_dct values
-unfolding inverse_dct
-told_block values done lows samples u v eu ev ld du ll dv e =
-    let d : done ≡ columns values = sym (take_all u done (omega (arith, eu, ld))) ∙ du ∙ ap (λ n. map (column values) (below n)) eu in
-    let rows : map (map natural_of) lows ≡ map (sample_row done) (below 8) = ap (map (map natural_of)) (sym (take_all v lows (omega (arith, ev, ll)))) ∙ dv ∙ ap (λ n. map (sample_row done) (below n)) ev in
-    e ∙ joined_is (map natural_of) lows ∙ ap (flat_map (λ y. y)) rows ∙ sym (joined_is (sample_row done) (below 8)) ∙ ap (λ ds. flat_map (sample_row ds) (below 8)) d

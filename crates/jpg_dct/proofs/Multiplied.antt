@@ -7,8 +7,8 @@ use Rattle.std.proofs.lemmas.List.{get_or-map, length-map}
 use Rattle.std.proofs.lemmas.List.Elements.{All-from_get_or}
 use Rattle.jpg_spec.specs.Lists.{below, index_of}
 use Rattle.jpg_spec.specs.Zigzag.{zigzag}
-use Rattle.jpg_spec.proofs.Common.{length_below}
-use Rattle.jpg_spec.proofs.Rows.{at_below, by_items}
+use Rattle.jpg_spec.proofs.Basics.Common.{length_below}
+use Rattle.jpg_spec.proofs.Basics.Rows.{at_below, by_items}
 use Rattle.jpg_spec_image.specs.Dct.{number_at, dequantised}
 use Rattle.jpg_dct.specs.Multipliers.{Multiplies, AreMultipliers, AreLimited, scaled}
 use Rattle.jpg_dct.specs.Natural.{natural}

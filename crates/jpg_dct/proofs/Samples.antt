@@ -39,13 +39,6 @@ low64 (pos a) =
 low64 (negsuc a) =
     ap (λ n. n / 262144 % 1024) (of_z-to_z w64 (18446744073709551616 - 1 - a % 18446744073709551616) (omega arith)) ∙ omega arith
 
-pub one_sample32 : {x : ℤ} (s : ℤ) {r : ℕ} → x ≡ int_wrap w32 s → r ≡ ranged (of_z w32 (int_wrap w32 (to_z w32 (of_z w32 x) +ℤ pos 131072)) / 262144 % 1024)
-    → r ≡ sample_of (int_shr (s +ℤ pos 131072) 18)
-one_sample32 {x} s ex e =
-    e ∙ ap (λ y. ranged (of_z w32 (int_wrap w32 (y +ℤ pos 131072)) / 262144 % 1024)) (start w32 x s ex)
-    ∙ ap (λ y. ranged (of_z w32 y / 262144 % 1024)) (int_wrap-add_left w32 s (pos 131072))
-    ∙ ap ranged (low32 (s +ℤ pos 131072))
-
 pub one_sample64 : {x : ℤ} (s : ℤ) {r : ℕ} → x ≡ int_wrap w64 s → r ≡ ranged (of_z w64 (int_wrap w64 (to_z w64 (of_z w64 x) +ℤ pos 131072)) / 262144 % 1024)
     → r ≡ sample_of (int_shr (s +ℤ pos 131072) 18)
 one_sample64 {x} s ex e =

@@ -9,7 +9,7 @@ use Rattle.std.proofs.lemmas.List.{length-map, get_or-map, get_or_append_left, g
 use Rattle.std.proofs.lemmas.List.Sums.{AllPass-from_list_all}
 use Rattle.std.proofs.lemmas.Simd.{length-chunk, get_or-chunk}
 use Rattle.jpg_spec.specs.Lists.{below}
-use Rattle.jpg_spec.proofs.Rows.{map_alike}
+use Rattle.jpg_spec.proofs.Basics.Rows.{map_alike}
 use Rattle.jpg_spec_image.specs.Dct.{number_at, even_sums, odd_sums, joined_sums, line_sums, column, columns, column_at, ranged, sample_of, sample_row, inverse_dct}
 use Rattle.jpg_dct.specs.declared.forward.lanes.Eight.{Eight}
 use Rattle.jpg_dct.specs.declared.inverse.short.Sums.{Sums}
@@ -212,7 +212,7 @@ line_is h v lv =
     same8 line_sums (at 0 (omega arith)) (at 1 (omega arith)) (at 2 (omega arith)) (at 3 (omega arith)) (at 4 (omega arith)) (at 5 (omega arith)) (at 6 (omega arith)) (at 7 (omega arith))
 
 -- two columns of samples
-pub record AreTold (a b : List ℤ) (p : List ℕ) : Type 0 where
+pub record AreShortValues (a b : List ℤ) (p : List ℕ) : Type 0 where
   pub first : (k : ℕ) → k < 8 → slice_index p k ≡ told_at (number_at (seen w32 a) k)
   pub second : (k : ℕ) → k < 8 → slice_index p (8 + k) ≡ told_at (number_at (seen w32 b) k)
 
@@ -220,7 +220,7 @@ sum_told : (r : List ℤ) (e : ℤ) (v : ℕ) → length r ≡ 8 → v < 8 → n
 sum_told r e v long lt at = sample_is (number_at (seen w32 r) v) e (wrapped_at r v (e +ℤ pos 134348800) long lt at)
 
 pub block_is : {values : List ℤ} {given done across : Eight} {s : Sums} (p0 p1 p2 p3 : List ℕ) → Stages values given done across s
-    → AreTold s.v0 s.v1 p0 → AreTold s.v2 s.v3 p1 → AreTold s.v4 s.v5 p2 → AreTold s.v6 s.v7 p3 → flat_map (told_row p0 p1 p2 p3) (below 8) ≡ inverse_dct values
+    → AreShortValues s.v0 s.v1 p0 → AreShortValues s.v2 s.v3 p1 → AreShortValues s.v4 s.v5 p2 → AreShortValues s.v6 s.v7 p3 → flat_map (told_row p0 p1 p2 p3) (below 8) ≡ inverse_dct values
 unfolding inverse_dct sample_row joined_sums
 block_is {values} {given} {done} {across} {s} p0 p1 p2 p3 h t0 t1 t2 t3 =
     flat_alike (told_row p0 p1 p2 p3) (sample_row (columns values))

@@ -9,8 +9,8 @@ use Rattle.std.proofs.lemmas.List.Elements.{All-from_get_or}
 use Rattle.std.proofs.lemmas.List.Sums.{AllPass-from_list_all}
 use Rattle.jpg_spec.specs.Lists.{below, index_of}
 use Rattle.jpg_spec.specs.Zigzag.{zigzag}
-use Rattle.jpg_spec.proofs.Common.{length_below}
-use Rattle.jpg_spec.proofs.Rows.{at_below, map_map, map_alike}
+use Rattle.jpg_spec.proofs.Basics.Common.{length_below}
+use Rattle.jpg_spec.proofs.Basics.Rows.{at_below, map_map, map_alike}
 use Rattle.jpg_spec_image.specs.Dct.{number_at}
 use Rattle.jpg_dct.proofs.Bounds.{all_at}
 use Rattle.jpg_dct.specs.Natural.{natural}

@@ -8,10 +8,10 @@ use Rattle.jpg_spec.specs.Lists.{all_of, is_empty}
 use Rattle.jpg_spec.specs.NumberTexts.{is_digit, digits_from, without_comments, is_space, NumberWord, number_text}
 use Rattle.jpg_spec.specs.Segments.{QuantTable}
 use Rattle.jpg_spec_image.specs.TableText.{is_quantiser_number, is_first_quantiser, is_further_quantiser, are_apart, is_count, tables_of, SpellsTables}
-use Rattle.jpg_spec.proofs.Common.{both, and_intro, same_of, le_of, lt_of, some_once}
+use Rattle.jpg_spec.proofs.Basics.Common.{both, and_intro, same_of, le_of, lt_of, some_once}
 use Rattle.jpg_spec.specs.TextReaders.{run}
-use Rattle.jpg_spec.proofs.TextRuns.{all_join, one_of, value_of, digits_more, run_front}
-use Rattle.jpg_dct.specs.TableState.{NumbersState, no_numbers, ended, digit_step, number_step, tables_told}
+use Rattle.jpg_spec.proofs.Texts.TextRuns.{all_join, one_of, value_of, digits_more, run_front}
+use Rattle.jpg_dct.specs.TableState.{NumbersState, no_numbers, ended, digit_step, number_step, parsed_tables}
 use Rattle.jpg_dct.proofs.TableRuns.{at, ended_in}
 
 -- TESTS of lists
@@ -229,7 +229,7 @@ front_step t s u b f e = by (is_digit b) (is_space b) refl refl e
 pub read_as : (text : List ℕ) (s : NumbersState) → run number_step no_numbers text ≡ Some s → IsEnded text s
 read_as text s e = front_ended text s (run_front number_step IsFront front_step [] text no_numbers s front_none e)
 
-pub told_spells : (text : List ℕ) (s : NumbersState) (tables : List QuantTable) → run number_step no_numbers (without_comments false text) ≡ Some s → tables_told s ≡ Some tables → SpellsTables text tables
+pub told_spells : (text : List ℕ) (s : NumbersState) (tables : List QuantTable) → run number_step no_numbers (without_comments false text) ≡ Some s → parsed_tables s ≡ Some tables → SpellsTables text tables
 told_spells text s tables e told = by (is_count (length (ended s).numbers)) refl told
   where
     by : (v : Bool) → is_count (length (ended s).numbers) ≡ v → cond v (Some (tables_of (ended s).numbers)) None ≡ Some tables → SpellsTables text tables

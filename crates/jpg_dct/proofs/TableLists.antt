@@ -9,7 +9,7 @@ use Rattle.jpg_spec.specs.Zigzag.{zigzag}
 use Rattle.jpg_spec.specs.Segments.{QuantTable}
 use Rattle.jpg_spec_image.specs.Quality.{in_zigzag}
 use Rattle.jpg_spec_image.specs.TableText.{table_at}
-use Rattle.jpg_spec.proofs.Common.{length_below}
+use Rattle.jpg_spec.proofs.Basics.Common.{length_below}
 
 -- IN ZIGZAG ORDER
 

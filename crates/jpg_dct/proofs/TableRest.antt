@@ -6,8 +6,8 @@ use Rattle.std.proofs.lemmas.List.{length-append, length-map}
 use Rattle.jpg_spec.specs.NumberTexts.{without_comments}
 use Rattle.jpg_spec.specs.Segments.{QuantTable}
 use Rattle.jpg_spec.specs.TextReaders.{reader_step, run, plain}
-use Rattle.jpg_spec.proofs.TextRuns.{run_cons, run_nil, value_of}
-use Rattle.jpg_spec.proofs.TextsRead.{Finishes, ReadsForm}
+use Rattle.jpg_spec.proofs.Texts.TextRuns.{run_cons, run_nil, value_of}
+use Rattle.jpg_spec.proofs.Texts.TextsRead.{Finishes, ReadsForm}
 use Rattle.jpg_spec_image.specs.TableText.{is_count, tables_of, tables_form}
 use Rattle.jpg_dct.specs.TableState.{NumbersState, no_numbers, ended, number_step, table_reader}
 use Rattle.jpg_dct.proofs.TableRuns.{at, digit_taken, number_space, told_by, spelled_run}

@@ -4,14 +4,14 @@ use Rattle.std.specs.Prelude.{◌||◌, nat_lt, nat_le, flat_map}
 use Rattle.std.proofs.lemmas.Bool.Decides.{nat_tests}
 use Rattle.std.proofs.lemmas.List.{append_assoc, length-append, length-map}
 use Rattle.jpg_spec.specs.Lists.{all_of, is_empty}
-use Rattle.jpg_spec.specs.NumberTexts.{is_digit, digits_from, without_comments, is_space, NumberWord, number_text, numbers_told}
+use Rattle.jpg_spec.specs.NumberTexts.{is_digit, digits_from, without_comments, is_space, NumberWord, number_text, parsed_numbers}
 use Rattle.jpg_spec.specs.Segments.{QuantTable}
 use Rattle.jpg_spec_image.specs.TableText.{is_quantiser_number, is_first_quantiser, is_further_quantiser, are_apart, is_count, tables_of, SpellsTables}
-use Rattle.jpg_spec.proofs.Common.{both, and_intro, same_of, le_of, lt_yes}
+use Rattle.jpg_spec.proofs.Basics.Common.{both, and_intro, same_of, le_of, lt_yes}
 use Rattle.jpg_spec.specs.TextReaders.{run}
-use Rattle.jpg_spec.proofs.TextRuns.{run_two, run_cons, run_nil, space_no_digit, grows, value_of}
-use Rattle.jpg_spec.proofs.TextsRead.{ReadsAs}
-use Rattle.jpg_dct.specs.TableState.{NumbersState, no_numbers, ended, digit_step, number_step, tables_told, table_reader}
+use Rattle.jpg_spec.proofs.Texts.TextRuns.{run_two, run_cons, run_nil, space_no_digit, grows, value_of}
+use Rattle.jpg_spec.proofs.Texts.TextsRead.{ReadsAs}
+use Rattle.jpg_dct.specs.TableState.{NumbersState, no_numbers, ended, digit_step, number_step, parsed_tables, table_reader}
 
 -- ONE BYTE of numbers
 
@@ -157,7 +157,7 @@ counted n e = by (n == 64) (n == 128) (n == 192) refl refl refl e
     by false false true a b c e = let s = same_of n 192 c in (omega (arith, s), omega (arith, s))
     by false false false a b c e = let s = same_of n 256 e in (omega (arith, s), omega (arith, s))
 
-pub told_by : (s : NumbersState) (ns : List ℕ) → (ended s).numbers ≡ ns → is_count (length ns) ≡ true → tables_told s ≡ Some (tables_of ns)
+pub told_by : (s : NumbersState) (ns : List ℕ) → (ended s).numbers ≡ ns → is_count (length ns) ≡ true → parsed_tables s ≡ Some (tables_of ns)
 told_by s ns e count = ap (λ (l : List ℕ). cond (is_count (length l)) (Some (tables_of l)) None) e ∙ ap (λ t. cond t (Some (tables_of ns)) None) count
 
 pub spelled_run : (text : List ℕ) (tables : List QuantTable) → SpellsTables text tables → ReadsAs (List QuantTable) NumbersState table_reader (without_comments false text) tables
@@ -169,9 +169,9 @@ spelled_run text tables sp =
     let all = words_run w.numbers p.0 bounds.0 bounds.1 in
     let last = at all.numbers all.digits all.value in
     let end = spaces_after last w.after p.1 in
-    let whole : (ended end.state).numbers ≡ numbers_told w = ap (λ (t : NumbersState). t.numbers) (end.same ∙ ended_in all.numbers all.digits all.value all.some) ∙ all.all in
+    let whole : (ended end.state).numbers ≡ parsed_numbers w = ap (λ (t : NumbersState). t.numbers) (end.same ∙ ended_in all.numbers all.digits all.value all.some) ∙ all.all in
     record {
       state = end.state;
       run = ap (run number_step no_numbers) sp.spelled ∙ run_two number_step no_numbers last (flat_map number_text w.numbers) w.after all.run ∙ end.run;
-      is = told_by end.state (numbers_told w) whole (ap is_count (length-map w.numbers value_of) ∙ s.1) ∙ ap (λ (l : List QuantTable). Some l) sp.told;
+      is = told_by end.state (parsed_numbers w) whole (ap is_count (length-map w.numbers value_of) ∙ s.1) ∙ ap (λ (l : List QuantTable). Some l) sp.told;
     }

@@ -9,7 +9,7 @@ use Rattle.jpg_spec.specs.Lists.{below, index_of}
 use Rattle.jpg_spec.specs.Zigzag.{zigzag}
 use Rattle.jpg_spec_image.specs.Dct.{number_at}
 use Rattle.jpg_spec_image.specs.ForwardDct.{multiples, quantised, quantised_block, forward_dct}
-use Rattle.jpg_spec.proofs.Rows.{at_below, map_alike, by_items}
+use Rattle.jpg_spec.proofs.Basics.Rows.{at_below, map_alike, by_items}
 use Rattle.jpg_dct.specs.Natural.{natural_table}
 use Rattle.jpg_dct.specs.Division.{with_sign, divided, Divides, AreDivisors, AreFewer}
 use Rattle.jpg_dct.specs.declared.forward.lanes.Eight.{Eight}

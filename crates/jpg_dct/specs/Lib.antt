@@ -7,5 +7,5 @@ pub mod Natural
 pub mod ReadTables
 pub mod Sums
 pub mod TableState
-pub mod Told
+pub mod LowBits
 pub mod TriedTexts

@@ -29,12 +29,12 @@ abbrev pub number_step : NumbersState → ℕ → Option NumbersState
 number_step s b = if is_digit b then digit_step s (b - 48) else if is_space b then Some (ended s) else None
 
 -- the tables, if the text ends here
-abbrev pub tables_told : NumbersState → Option (List QuantTable)
-tables_told s = if is_count (length (ended s).numbers) then Some (tables_of (ended s).numbers) else None
+abbrev pub parsed_tables : NumbersState → Option (List QuantTable)
+parsed_tables s = if is_count (length (ended s).numbers) then Some (tables_of (ended s).numbers) else None
 
 -- the current number is one of 256 at most
 abbrev pub HasRoom : List ℕ → ℕ → Type 0
 HasRoom numbers digits = 1 ≤ digits → length numbers < 256
 
 abbrev pub table_reader : TextReader (List QuantTable) NumbersState
-table_reader = record { start = no_numbers; step = number_step; told = tables_told }
+table_reader = record { start = no_numbers; step = number_step; told = parsed_tables }

@@ -4,7 +4,6 @@ ghost use Rattle.jpg_spec_image.specs.Dct.{inverse_dct};
 
 pub mod flat;
 pub mod multipliers;
-pub mod narrow;
 pub mod short;
 pub mod wide;
 
@@ -54,8 +53,6 @@ pub fn idct(values: &[i32; 64]) -> [u8; 64]
     let most = greatest(values);
     if most <= 1090 {
         short::idct_short(&shortened(values))
-    } else if most <= 8191 {
-        narrow::block(values)
     } else {
         wide::block(values)
     }

@@ -6,7 +6,7 @@ ghost use Rattle.jpg_spec.specs.TextReaders.{IsRead, plain, reader_step, taken};
 ghost use Rattle.jpg_spec_image.specs.TableText.{TellsTables, is_count, tables_form, tables_of};
 ghost use Rattle.jpg_spec.specs.declared.fault.Fault.TheVariants.{TableText};
 ghost use Rattle.jpg_dct.specs.ReadTables.{tables_or_fault};
-ghost use Rattle.jpg_dct.specs.TableState.{digit_step, ended, no_numbers, number_step, table_reader, tables_told};
+ghost use Rattle.jpg_dct.specs.TableState.{digit_step, ended, no_numbers, number_step, table_reader, parsed_tables};
 
 use crate::forward::blocks::ZIGZAG;
 use arrayvec::ArrayVec;
@@ -147,7 +147,7 @@ impl TableReader {
 
     // The tables, if the text ends here.
     fn end(mut self) -> Option<ArrayVec<QuantTable, 4>>
-        ensures { option_map (λ v. v.items) result ≡ tables_told self.text }
+        ensures { option_map (λ v. v.items) result ≡ parsed_tables self.text }
     {
         self.end_number();
         if !is_count(self.numbers.len()) {

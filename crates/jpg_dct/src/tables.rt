@@ -95,7 +95,7 @@ fn table_due(
 }
 
 // A table of a file, if it has one at this index.
-fn table_told(file: Option<&ArrayVec<QuantTable, 4>>, i: usize) -> Option<QuantTable>
+fn parsed_table(file: Option<&ArrayVec<QuantTable, 4>>, i: usize) -> Option<QuantTable>
     ensures { result ≡ slice_get (file_tables (option_map (λ v. v.items) (option_copied file.entry))) i }
 {
     match file {
@@ -116,7 +116,12 @@ pub fn encoding_tables(
     ensures tables { result ≡ both (encoding_tables quality baseline (option_map (λ v. v.items) (option_copied file.entry))) }
     ensures quantisers { All AreQuantisers result }
 {
-    let first = table_due(quality, baseline, &luminance_table(), table_told(file, 0));
-    let others = table_due(quality, baseline, &chrominance_table(), table_told(file, 1));
+    let first = table_due(quality, baseline, &luminance_table(), parsed_table(file, 0));
+    let others = table_due(
+        quality,
+        baseline,
+        &chrominance_table(),
+        parsed_table(file, 1),
+    );
     [first, others]
 }

@@ -7,7 +7,7 @@ use Rattle.std.proofs.lemmas.List.Sums.{sum_by-cons}
 use Rattle.jpg_spec.specs.Lists.{any_of, is_among}
 use Rattle.jpg_spec.specs.Codes.{are_codes}
 use Rattle.jpg_spec.specs.Segments.{HuffmanTable}
-use Rattle.jpg_spec.proofs.Common.{clash, neither, not_lt_of, same_itself}
+use Rattle.jpg_spec.proofs.Basics.Common.{clash, neither, not_lt_of, same_itself}
 use Rattle.jpg_spec_fit.specs.Fitted.{code_sizes, fitted_counts, symbols_up_to, fitted}
 use Rattle.jpg_spec_fit.proofs.FittedCounts.{reversed_all}
 use Rattle.jpg_spec_fit.proofs.FittedTables.{fitted_whole, fitted_only}

@@ -5,7 +5,7 @@ use Rattle.std.proofs.lemmas.Bool.{cases_eq}
 use Rattle.std.proofs.lemmas.Bool.Decides.{nat_tests}
 use Rattle.std.proofs.lemmas.List.{append_assoc, append-nil, take_more, take_all, drop_more, drop_all, take-append-drop, set_at, length-take-le, length-take, length_push, length-drop, get_or-drop, get_or-set_other, drop_at, drop-set-lt, get_or-set_same, length-set}
 use Rattle.std.proofs.lemmas.List.Sums.{sum_by-cons, sum_by_push, get_or-le-sum_by}
-use Rattle.jpg_spec.proofs.Common.{lt_of, lt_yes, le_of, not_lt_of, not_same, same_itself, and_none}
+use Rattle.jpg_spec.proofs.Basics.Common.{lt_of, lt_yes, le_of, not_lt_of, not_same, same_itself, and_none}
 use Rattle.jpg_spec_fit.specs.Fitted.{code_split, longest_moved, limited, one_less, sizes_counted, fitted_counts}
 use Rattle.jpg_spec_fit.proofs.FittedSizes.{sum_counted, insides_few}
 use Rattle.jpg_fit.specs.Sizes.{all_sizes, with_size}

@@ -6,9 +6,9 @@ use Rattle.std.proofs.lemmas.Nat.{leading_top, one_shl, pow_pos}
 use Rattle.std.proofs.Math.Nat.{pow-succ'}
 use Rattle.jpg_spec.specs.Bits.{bits_of}
 use Rattle.jpg_spec.specs.Numbers.{digits, category, extra_bits}
-use Rattle.jpg_spec.proofs.Facts.{below_digits}
-use Rattle.jpg_spec.proofs.Strings.{bit_value}
-use Rattle.jpg_spec.proofs.ExtraBits.{digits_high, double}
+use Rattle.jpg_spec.proofs.Basics.Facts.{below_digits}
+use Rattle.jpg_spec.proofs.Basics.Strings.{bit_value}
+use Rattle.jpg_spec.proofs.Bits.ExtraBits.{digits_high, double}
 use Rattle.jpg_huff.proofs.Levels.{bit_small}
 
 -- the digits of a number of 32 bits

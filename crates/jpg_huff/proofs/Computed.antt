@@ -6,7 +6,7 @@ use Rattle.std.specs.List.{sum}
 use Rattle.std.proofs.lemmas.Bool.Decides.{nat_tests}
 use Rattle.jpg_spec.specs.Codes.{Code, first_code}
 use Rattle.jpg_huff.specs.Index.{IsIndexed, limit_from, IsEncoder, entry_code}
-use Rattle.jpg_spec.proofs.Common.{both}
+use Rattle.jpg_spec.proofs.Basics.Common.{both}
 
 abbrev pub all_below : ℕ → (ℕ → Bool) → Bool
 all_below zero p = true

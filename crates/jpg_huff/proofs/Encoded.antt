@@ -9,7 +9,7 @@ use Rattle.jpg_spec.specs.Bits.{bits_of}
 use Rattle.jpg_spec.specs.Codes.{Code}
 use Rattle.jpg_spec.specs.Numbers.{category, extra_bits}
 use Rattle.jpg_spec.specs.Codes.{code_of}
-use Rattle.jpg_spec.proofs.Small.{few_digits}
+use Rattle.jpg_spec.proofs.Basics.Small.{few_digits}
 use Rattle.jpg_huff.specs.Encoder.{IsValueEntry, AreValueEntries}
 
 small_category : (v : ℤ) → negsuc 31 ≤ℤ v → v ≤ℤ pos 31 → category v ≤ 6

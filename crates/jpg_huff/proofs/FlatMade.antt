@@ -7,8 +7,8 @@ use Rattle.std.proofs.lemmas.List.{length-take-le}
 use Rattle.jpg_spec.specs.Codes.{are_codes}
 use Rattle.jpg_spec.specs.Segments.{HuffmanTable}
 use Rattle.jpg_spec.specs.FlatTable.{flat_length_from, flat_table}
-use Rattle.jpg_spec.proofs.Common.{lt_no, clash}
-use Rattle.jpg_spec.proofs.FlatTables.{flat_valid}
+use Rattle.jpg_spec.proofs.Basics.Common.{lt_no, clash}
+use Rattle.jpg_spec.proofs.Bits.FlatTables.{flat_valid}
 use Rattle.jpg_huff.specs.declared.table.Table.{Table}
 use Rattle.jpg_huff.specs.declared.new.TableFault.{TableFault}
 use Rattle.jpg_huff.specs.declared.new.TableFault.TheVariants.{TooManyCodes, ShortValues, OverfullCodes}

@@ -7,9 +7,9 @@ use Rattle.jpg_spec.specs.Codes.{Code}
 use Rattle.jpg_spec.specs.Elements.{Coding, UnitLeft, codes_due}
 use Rattle.jpg_spec.specs.ScanFaults.{BeginsNone}
 use Rattle.jpg_spec.specs.Sound.{AreTableCodes, IsSound}
-use Rattle.jpg_spec.proofs.Once.{OneWay}
-use Rattle.jpg_spec.proofs.Sound.{one_way}
-use Rattle.jpg_spec.proofs.PartStands.{codes_some}
+use Rattle.jpg_spec.proofs.Bits.Once.{OneWay}
+use Rattle.jpg_spec.proofs.Bits.Sound.{one_way}
+use Rattle.jpg_spec.proofs.Bits.PartStands.{codes_some}
 use Rattle.jpg_huff.specs.Walk.{BeginsNoCode}
 use Rattle.jpg_spec.specs.Parts.{IsFront}
 

@@ -9,8 +9,8 @@ use Rattle.std.proofs.Math.Nat.{pow-succ'}
 use Rattle.jpg_spec.specs.Bits.{bits_of}
 use Rattle.jpg_spec.specs.Codes.{Code, codes_at, codes_from, AreCodes}
 use Rattle.jpg_huff.specs.Index.{limit_from}
-use Rattle.jpg_spec.proofs.Strings.{bit_value, length-bits_of, bits_of-more, bits_of_inj}
-use Rattle.jpg_spec.proofs.Levels.{contains_none, in_level, from_level, front_not_below}
+use Rattle.jpg_spec.proofs.Basics.Strings.{bit_value, length-bits_of, bits_of-more, bits_of_inj}
+use Rattle.jpg_spec.proofs.Bits.Levels.{contains_none, in_level, from_level, front_not_below}
 
 -- a number below the limit begins a code
 pub reach : (counts : List ℕ) (len c n : ℕ) (symbols : List ℕ) → sum counts ≤ length symbols → c ≤ n → n < limit_from c counts

@@ -12,10 +12,10 @@ use Rattle.std.proofs.lemmas.List.{length-append, length-take-le, take_more, tak
 use Rattle.std.proofs.lemmas.List.Elements.{Contains-append_cases}
 use Rattle.jpg_spec.specs.Bits.{bits_of}
 use Rattle.jpg_spec.specs.Codes.{Code, codes}
-use Rattle.jpg_spec.proofs.Strings.{length-bits_of, bits_of_inj}
-use Rattle.jpg_spec.proofs.DataLength.{codes_short}
-use Rattle.jpg_spec.proofs.Levels.{from_level, front_not_below}
-use Rattle.jpg_spec.proofs.Common.{take_front}
+use Rattle.jpg_spec.proofs.Basics.Strings.{length-bits_of, bits_of_inj}
+use Rattle.jpg_spec.proofs.Bits.DataLength.{codes_short}
+use Rattle.jpg_spec.proofs.Bits.Levels.{from_level, front_not_below}
+use Rattle.jpg_spec.proofs.Basics.Common.{take_front}
 use Rattle.jpg_spec.specs.Parts.{IsFront}
 use Rattle.jpg_huff.specs.Index.{IsIndexed}
 use Rattle.jpg_huff.specs.Walk.{BeginsNoCode}

@@ -9,7 +9,7 @@ use Rattle.jpg_spec.specs.Codes.{Code, codes_at, codes_from, codes, are_codes, f
 use Rattle.jpg_huff.proofs.Tables.{level_take}
 use Rattle.jpg_huff.specs.Index.{IsIndexed, limit_from, entry_code}
 use Rattle.jpg_huff.specs.New.{first_number, AreFirsts, AreStarts, AreCodeLimits, AreEntries, or_else}
-use Rattle.jpg_spec.proofs.Common.{and_false, lt_no, lt_yes}
+use Rattle.jpg_spec.proofs.Basics.Common.{and_false, lt_no, lt_yes}
 
 pub first_more : (counts : List ℕ) (i : ℕ) → first_number counts (i + 1) ≡ 2 * (first_number counts i + get_or counts i 0)
 unfolding first_number

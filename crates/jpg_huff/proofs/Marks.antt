@@ -6,7 +6,7 @@ use Rattle.std.proofs.lemmas.List.{append_assoc, append-nil, get_or-replicate, g
 use Rattle.std.proofs.lemmas.List.Elements.{filter-append}
 use Rattle.std.proofs.lemmas.List.Sums.{sum_by-append}
 use Rattle.jpg_spec.specs.Lists.{below}
-use Rattle.jpg_spec.proofs.Common.{length_below, not_same, same_itself, and_none}
+use Rattle.jpg_spec.proofs.Basics.Common.{length_below, not_same, same_itself, and_none}
 use Rattle.jpg_huff.specs.Flat.{symbols_in}
 use Rattle.jpg_huff.specs.Counts.{Rows, row, count_of, capped, AreRows, AreCounts, no_rows, Mark, is_mark, CountsToo, Notes, NotesBut}
 use Rattle.jpg_huff.specs.declared.counts.SymbolCounts.{SymbolCounts}

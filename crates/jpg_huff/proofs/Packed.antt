@@ -2,7 +2,7 @@
 use Rattle.std.proofs.Common.{◌≡◌, ℕ, zero, suc, ◌+◌, ◌*◌, ◌/◌, ◌%◌, ◌^◌, ◌<◌, Bool, cond, List, [], ◌∷◌, ◌++◌, length, refl, ap, ◌∙◌, arith, add-one, ◌==◌}
 use Rattle.std.proofs.lemmas.Nat.{mod-pow-add}
 use Rattle.jpg_spec.specs.Bits.{bits_of, number_from, whole_bytes}
-use Rattle.jpg_spec.proofs.Common.{last_bit}
+use Rattle.jpg_spec.proofs.Basics.Common.{last_bit}
 
 number_from-push : (a : ℕ) (bits : List Bool) (b : Bool) → number_from a (bits ++ b ∷ []) ≡ 2 * number_from a bits + cond b 1 0
 number_from-push a [] b = refl

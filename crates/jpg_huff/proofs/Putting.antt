@@ -10,7 +10,7 @@ use Rattle.jpg_base.specs.declared.stop.WriteFault.{WriteFault}
 use Rattle.jpg_huff.specs.Out.{Emits, OnlyWrites}
 use Rattle.jpg_huff.specs.Waiting.{Waiting}
 use Rattle.jpg_huff.specs.BitOut.{Puts, Pads}
-use Rattle.jpg_spec.proofs.Strings.{length-bits_of}
+use Rattle.jpg_spec.proofs.Basics.Strings.{length-bits_of}
 use Rattle.jpg_huff.proofs.Emitted.{emits_nothing, OnlyWrites-same}
 use Rattle.jpg_base.proofs.BitsAt.{bits_of-add, bits_of-beside, bits_of-low, bits_of-mod}
 use Rattle.jpg_huff.proofs.Packed.{whole_bytes-front}

@@ -11,7 +11,7 @@ use Rattle.jpg_huff.specs.Tables.{table_of}
 use Rattle.jpg_huff.specs.Laws.{IsTable, HaveTables}
 use Rattle.jpg_huff.proofs.Tables.{is_table}
 use Rattle.jpg_huff.specs.declared.table.Table.{Table}
-use Rattle.jpg_spec.proofs.Common.{some_once}
+use Rattle.jpg_spec.proofs.Basics.Common.{some_once}
 
 right_at : (o : Option (Option Table)) (table : HuffmanTable) → option_map (option_map table_of) o ≡ Some (Some table) → IsTable table
 right_at None table e = absurd cc

@@ -12,9 +12,9 @@ use Rattle.jpg_spec.specs.Codes.{Code, codes, codes_at, codes_from, AreCodes}
 use Rattle.jpg_spec.specs.Parts.{BeginsCode}
 use Rattle.jpg_huff.specs.Index.{limit_from, IsIndexed}
 use Rattle.jpg_huff.specs.Walk.{BeginsNoCode}
-use Rattle.jpg_spec.proofs.Strings.{bit_value, length-bits_of, bits_of-more, bits_of-split, bits_of_inj}
-use Rattle.jpg_spec.proofs.Levels.{in_level, from_level, front_not_below}
-use Rattle.jpg_spec.proofs.Common.{append_inj}
+use Rattle.jpg_spec.proofs.Basics.Strings.{bit_value, length-bits_of, bits_of-more, bits_of-split, bits_of_inj}
+use Rattle.jpg_spec.proofs.Bits.Levels.{in_level, from_level, front_not_below}
+use Rattle.jpg_spec.proofs.Basics.Common.{append_inj}
 use Rattle.jpg_huff.proofs.Levels.{reach, below_limit, bit_small}
 
 -- the codes longer than i bits

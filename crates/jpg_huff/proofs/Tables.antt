@@ -10,7 +10,7 @@ use Rattle.jpg_spec.specs.Codes.{code_of}
 use Rattle.std.proofs.lemmas.List.{length-take, drop-take}
 use Rattle.jpg_spec.specs.Codes.{AreCodes}
 use Rattle.jpg_spec.specs.Codes as test
-use Rattle.jpg_spec.proofs.OneCode.{one_code}
+use Rattle.jpg_spec.proofs.Bits.OneCode.{one_code}
 use Rattle.jpg_huff.specs.Tables.{symbol_codes, table_of}
 use Rattle.jpg_huff.specs.Index.{entry_code}
 use Rattle.jpg_huff.specs.Laws.{IsTable, AreApart}

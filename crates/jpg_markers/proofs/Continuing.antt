@@ -6,7 +6,7 @@ use Rattle.std.proofs.Math.Dec.{eqb}
 use Rattle.std.proofs.Math.Seq.{take-append_seam}
 use lib.Pointwise.{pointwise}
 use Rattle.std.specs.Prelude.{min, not, is_some}
-use Rattle.jpg_spec.proofs.Common.{both, clash, heads, same_of, take_shorter}
+use Rattle.jpg_spec.proofs.Basics.Common.{both, clash, heads, same_of, take_shorter}
 use Rattle.jpg_spec.specs.Segments.{two_bytes}
 use Rattle.jpg_spec.specs.Markers.{Segment, SpellsMarker, SpellsSegment, SpellsSegments, code_fault, code_fault_if, kept_rule, Pass, Reaches, at_part}
 use Rattle.jpg_base.specs.declared.names.NoMemory.{NoMemory}
@@ -14,7 +14,7 @@ use Rattle.jpg_markers.specs.declared.seen.Seen.{Seen}
 use Rattle.jpg_markers.specs.declared.segments.Phase.{Phase}
 use Rattle.jpg_markers.specs.declared.segments.Phase.TheVariants as phase
 use Rattle.jpg_markers.specs.Seen.{Leaves}
-use Rattle.jpg_markers.specs.Reading.{Reading, AtPhase, StandsForSegments, Continues, IsSized, MayFollow, PassesParts, PassesSegment, PassesSome, continued, due_of, filled, with_contents, with_taken}
+use Rattle.jpg_markers.specs.Reading.{Reading, AtPhase, RepresentsSegments, Continues, IsSized, MayFollow, PassesParts, PassesSegment, PassesSome, continued, due_of, filled, with_contents, with_taken}
 use Rattle.jpg_markers.proofs.Taking.{at_is, content_more, contents_more, fill_again, further, spelled}
 use Rattle.jpg_base.proofs.FedPiece.{take_both}
 
@@ -81,7 +81,7 @@ filled_stops (x ∷ xs) b rest e is = by (x == 255) refl (filled_stops xs b rest
         let k = heads x b xs rest (sym (ap (λ (k : ℕ). drop k (x ∷ xs)) (ap (λ (c : Bool). cond c (suc (filled xs)) 0) f)) ∙ e) in
         clash (x == 255) (eq-eqb x 255 (k.0 ∙ is)) f
 
-fills_more : (r : Reading) (bytes : List ℕ) (before : List Segment) (n m : ℕ) → r.phase ≡ phase.Fill → StandsForSegments bytes before r → StandsForSegments (bytes ++ replicate n 255) before (with_taken r m)
+fills_more : (r : Reading) (bytes : List ℕ) (before : List Segment) (n m : ℕ) → r.phase ≡ phase.Fill → RepresentsSegments bytes before r → RepresentsSegments (bytes ++ replicate n 255) before (with_taken r m)
 fills_more r bytes before n m e s =
     let (tail, between, seen, (fill, is)) = at_is r phase.Fill bytes before e s in
     let next = further (kept_rule r.limits) bytes before tail (replicate n 255) between in
@@ -92,23 +92,23 @@ fills_more r bytes before n m e s =
     (s.0, subst P (sym e) (tail ++ replicate n 255, next, seen, (fill + n, cut)))
 
 -- none of them
-none_more : (r : Reading) (bytes : List ℕ) (before : List Segment) (m : ℕ) → StandsForSegments bytes before r → StandsForSegments (bytes ++ []) before (with_taken r m)
-none_more r bytes before m s = subst (λ (b : List ℕ). StandsForSegments b before (with_taken r m)) (sym (append-nil bytes)) s
+none_more : (r : Reading) (bytes : List ℕ) (before : List Segment) (m : ℕ) → RepresentsSegments bytes before r → RepresentsSegments (bytes ++ []) before (with_taken r m)
+none_more r bytes before m s = subst (λ (b : List ℕ). RepresentsSegments b before (with_taken r m)) (sym (append-nil bytes)) s
 
 -- SOME BYTES that only continue
-pub some_stands : (r : Reading) (bytes : List ℕ) (before : List Segment) (piece : List ℕ) (n : ℕ) → n ≡ due_of r.phase r.left piece → StandsForSegments bytes before r → StandsForSegments (bytes ++ take n piece) before (continued r.phase r (take n piece))
+pub some_stands : (r : Reading) (bytes : List ℕ) (before : List Segment) (piece : List ℕ) (n : ℕ) → n ≡ due_of r.phase r.left piece → RepresentsSegments bytes before r → RepresentsSegments (bytes ++ take n piece) before (continued r.phase r (take n piece))
 some_stands r bytes before piece n is s = by r.phase refl
   where
-    idle : (p : Phase) → r.phase ≡ p → due_of p r.left piece ≡ 0 → StandsForSegments (bytes ++ take n piece) before (with_taken r (length (take n piece)))
+    idle : (p : Phase) → r.phase ≡ p → due_of p r.left piece ≡ 0 → RepresentsSegments (bytes ++ take n piece) before (with_taken r (length (take n piece)))
     idle p e none =
         let z : n ≡ 0 = is ∙ ap (λ q. due_of q r.left piece) e ∙ none in
         rw z (none_more r bytes before 0 s)
 
-    by : (p : Phase) → r.phase ≡ p → StandsForSegments (bytes ++ take n piece) before (continued p r (take n piece))
+    by : (p : Phase) → r.phase ≡ p → RepresentsSegments (bytes ++ take n piece) before (continued p r (take n piece))
     by phase.Fill e =
         let m : n ≡ filled piece = is ∙ ap (λ q. due_of q r.left piece) e in
         let front : take n piece ≡ replicate n 255 = rw m (filled_front piece) in
-        subst (λ (l : List ℕ). StandsForSegments (bytes ++ l) before (with_taken r (length l))) (sym front) (fills_more r bytes before n (length (replicate {A = ℕ} n 255)) e s)
+        subst (λ (l : List ℕ). RepresentsSegments (bytes ++ l) before (with_taken r (length l))) (sym front) (fills_more r bytes before n (length (replicate {A = ℕ} n 255)) e s)
     by phase.Contents e =
         let (tail, between, seen, (marker, high, low, begins, cut, h, l, long, least)) = at_is r phase.Contents bytes before e s in
         let m : n ≡ min (r.left - 1) (length piece) = is ∙ ap (λ q. due_of q r.left piece) e in
@@ -221,7 +221,7 @@ fills_continue r piece n e is =
 last_of_take : (m : ℕ) (xs : List ℕ) → m < length xs → take (suc m) xs ≡ take m xs ++ get_or xs m 0 ∷ []
 last_of_take m xs h = let one : suc m ≡ m + 1 = omega arith in ap (λ (k : ℕ). take k xs) one ∙ take_more xs m 0 h
 
-fill_reached : (r : Reading) (front : List ℕ) (before : List Segment) (piece : List ℕ) (m : ℕ) → r.phase ≡ phase.Fill → StandsForSegments front before r → suc m ≤ filled piece → Reaches (kept_rule r.limits) (front ++ take (suc m) piece) at_part
+fill_reached : (r : Reading) (front : List ℕ) (before : List Segment) (piece : List ℕ) (m : ℕ) → r.phase ≡ phase.Fill → RepresentsSegments front before r → suc m ≤ filled piece → Reaches (kept_rule r.limits) (front ++ take (suc m) piece) at_part
 fill_reached r front before piece m e s few =
     let within = filled_within piece in
     let some = take_shorter (suc m) (filled piece) piece few in
@@ -234,7 +234,7 @@ fill_reached r front before piece m e s few =
     append_assoc front (replicate m 255) (255 ∷ []) ∙ ap (λ (l : List ℕ). front ++ l) (replicate-append-replicate {A = ℕ} m 1 255 ∙ ap (λ (k : ℕ). replicate {A = ℕ} k 255) up ∙ sym one) in
     subst (λ (l : List ℕ). Reaches (kept_rule r.limits) l at_part) joined reached
 
-content_reached : (r : Reading) (front : List ℕ) (before : List Segment) (piece : List ℕ) (m : ℕ) → r.phase ≡ phase.Contents → StandsForSegments front before r → suc m ≤ min (r.left - 1) (length piece)
+content_reached : (r : Reading) (front : List ℕ) (before : List Segment) (piece : List ℕ) (m : ℕ) → r.phase ≡ phase.Contents → RepresentsSegments front before r → suc m ≤ min (r.left - 1) (length piece)
     → Reaches (kept_rule r.limits) (front ++ take (suc m) piece) at_part
 content_reached r front before piece m e s few =
     let size = length-take-le m piece (omega (arith, few)) in
@@ -265,7 +265,7 @@ pub continues_stands : (old : Reading) (piece : List ℕ) (answer : Result ℕ N
 continues_stands old piece (Err e) new is = tt
 continues_stands old piece (Ok n) new is = (
   some_within old.phase old.left n piece is.0,
-  λ bytes before s. subst (λ (r : Reading). StandsForSegments (bytes ++ take n piece) before r) (sym is.1) (some_stands old bytes before piece n is.0 s),
+  λ bytes before s. subst (λ (r : Reading). RepresentsSegments (bytes ++ take n piece) before r) (sym is.1) (some_stands old bytes before piece n is.0 s),
   parts_reached old piece n is.0,
 )
 

@@ -3,15 +3,15 @@ use Rattle.std.proofs.Common.{◌≡◌, ℕ, zero, suc, ◌-◌, ◌≤◌, ◌
 use Rattle.std.specs.Prelude.{◌/◌, ◌%◌, ◌==◌, Option}
 use Rattle.std.proofs.lemmas.Bool.{eq-eqb, ne_eqb}
 use Rattle.std.proofs.lemmas.List.{length-drop, take_all}
-use Rattle.jpg_spec.specs.Faults.{Told}
+use Rattle.jpg_spec.specs.Faults.{Parsed}
 use Rattle.jpg_spec.specs.Segments.{HuffmanTable}
 use Rattle.jpg_spec.specs.QuantContents.{◌>>=◌}
-use Rattle.jpg_spec.specs.HuffContents.{HuffmanDefinition, HuffmanSlots, definition_size, huffman_table_of, huffman_tables_of, huffman_tables, put_definition, put_definitions, huffmans_told}
+use Rattle.jpg_spec.specs.HuffContents.{HuffmanDefinition, HuffmanSlots, definition_size, huffman_table_of, huffman_tables_of, huffman_tables, put_definition, put_definitions, parsed_huffmans}
 use Rattle.jpg_spec.specs.declared.fault.Fault.{Fault}
 use Rattle.jpg_markers.specs.Huffmans.{tables_judged}
 
 abbrev AllTold : Type 0
-AllTold = Told (List HuffmanDefinition)
+AllTold = Parsed (List HuffmanDefinition)
 
 -- the bound of the recursion doesn't matter if it is at least the length
 enough : (m n : ℕ) (bytes : List ℕ) → length bytes ≤ m → length bytes ≤ n → huffman_tables_of m bytes ≡ huffman_tables_of n bytes
@@ -67,7 +67,7 @@ none_left_at (tc ∷ bytes) high = absurd (omega (arith, high))
 
 -- CHECKED
 
-abbrev judge : AllTold → Told (Unit {0})
+abbrev judge : AllTold → Parsed (Unit {0})
 judge told = told >>= λ ds. Ok tt
 
 judge_first : (d : HuffmanDefinition) (told : AllTold) → judge (with_first d told) ≡ judge told
@@ -88,7 +88,7 @@ judged_all rest high = ap judge (none_left_at rest high)
 
 -- PUT
 
-abbrev put : HuffmanSlots → AllTold → Told HuffmanSlots
+abbrev put : HuffmanSlots → AllTold → Parsed HuffmanSlots
 put slots told = told >>= λ ds. Ok (put_definitions slots ds)
 
 put_first : (slots : HuffmanSlots) (d : HuffmanDefinition) (told : AllTold) → put slots (with_first d told) ≡ put (put_definition slots d) told
@@ -97,16 +97,16 @@ put_first slots d (Err fault) = refl
 
 pub put_on : (slots next : HuffmanSlots) (rest : List ℕ) (n : ℕ) (d : HuffmanDefinition) → 1 ≤ length rest → n ≡ length rest - 1
     → Ok d ≡ huffman_table_of (get_or rest 0 0) (take n (drop 1 rest)) → next ≡ put_definition slots d
-    → huffmans_told slots rest ≡ huffmans_told next (drop (definition_size (take n (drop 1 rest))) (take n (drop 1 rest)))
+    → parsed_huffmans slots rest ≡ parsed_huffmans next (drop (definition_size (take n (drop 1 rest))) (take n (drop 1 rest)))
 put_on slots next rest n d low n-is told same =
     let others = huffman_tables (drop (definition_size (take n (drop 1 rest))) (take n (drop 1 rest))) in
     ap (put slots) (after_at rest n d low n-is told) ∙ put_first slots d others ∙ ap (λ (s : HuffmanSlots). put s others) (sym same)
 
 pub put_bad : (slots : HuffmanSlots) (rest : List ℕ) (n : ℕ) (fault : Fault) → 1 ≤ length rest → n ≡ length rest - 1
-    → Err fault ≡ huffman_table_of (get_or rest 0 0) (take n (drop 1 rest)) → huffmans_told slots rest ≡ Err fault
+    → Err fault ≡ huffman_table_of (get_or rest 0 0) (take n (drop 1 rest)) → parsed_huffmans slots rest ≡ Err fault
 put_bad slots rest n fault low n-is told = ap (put slots) (refused_at rest n fault low n-is told)
 
-pub put_none : (slots : HuffmanSlots) (rest : List ℕ) → length rest < 1 → huffmans_told slots rest ≡ Ok slots
+pub put_none : (slots : HuffmanSlots) (rest : List ℕ) → length rest < 1 → parsed_huffmans slots rest ≡ Ok slots
 put_none slots rest high = ap (put slots) (none_left_at rest high)
 
 -- ONE SLOT

@@ -6,7 +6,7 @@ use Rattle.std.proofs.lemmas.List.{append_assoc, append-nil, reverse-append}
 use Rattle.jpg_spec.specs.Lists.{any_of, are_equal}
 use Rattle.jpg_spec_write.specs.FileText.{distinct_after}
 use Rattle.jpg_spec.specs.Segments.{QuantTable}
-use Rattle.jpg_spec.proofs.Common.{any_append}
+use Rattle.jpg_spec.proofs.Basics.Common.{any_append}
 
 -- those that are left: one, and the remaining ones
 pub left_at : {X : Type 0} (xs : List X) (i : ℕ) (x : X) → i < length xs → x ≡ get_or xs i x → drop i xs ≡ x ∷ drop (i + 1) xs

@@ -8,14 +8,14 @@ use Rattle.byteorder.specs.Endian.{big_number}
 use Rattle.jpg_spec.specs.Lists.{begins_with}
 use Rattle.jpg_spec.specs.Segments.{two_bytes}
 use Rattle.jpg_spec.specs.FrameHeader.{checked_frame}
-use Rattle.jpg_spec.specs.FrameContents.{frame_told, frame_header}
+use Rattle.jpg_spec.specs.FrameContents.{parsed_frame, frame_header}
 use Rattle.jpg_spec.specs.declared.frame.Process.{Process}
 use Rattle.jpg_spec.specs.declared.frame.Limits.{Limits}
 
 -- a header of at least six bytes whose length is right, where n bytes follow these six
 pub frame_is : (limits : Limits) (process : Process) (contents : List ℕ) (n count height width : ℕ) → 6 ≤ length contents → n ≡ length contents - 6 → count ≡ get_or contents 5 0
     → length (take n (drop 6 contents)) ≡ 3 * count → height ≡ two_bytes (get_or contents 1 0) (get_or contents 2 0) → width ≡ two_bytes (get_or contents 3 0) (get_or contents 4 0)
-    → checked_frame limits (frame_told process (get_or contents 0 0) height width (take n (drop 6 contents))) ≡ frame_header limits process contents
+    → checked_frame limits (parsed_frame process (get_or contents 0 0) height width (take n (drop 6 contents))) ≡ frame_header limits process contents
 frame_is limits process [] n count height width long n-is count-is right high wide = absurd (omega (arith, long))
 frame_is limits process (a ∷ []) n count height width long n-is count-is right high wide = absurd (omega (arith, long))
 frame_is limits process (a ∷ b ∷ []) n count height width long n-is count-is right high wide = absurd (omega (arith, long))

@@ -11,11 +11,11 @@ use Rattle.jpg_markers.specs.declared.segments.Phase.{Phase}
 use Rattle.jpg_markers.specs.declared.segments.Phase.TheVariants as phase
 use Rattle.jpg_markers.specs.declared.segments.SegStep.TheVariants as step
 use Rattle.jpg_markers.specs.Seen.{HasSeen}
-use Rattle.jpg_markers.specs.Reading.{Reading, AtPhase, StandsForSegments, HasWholeSegment, RevealsAfter, EndsAtEoi, Comes, with_contents}
+use Rattle.jpg_markers.specs.Reading.{Reading, AtPhase, RepresentsSegments, HasWholeSegment, RevealsAfter, EndsAtEoi, Comes, with_contents}
 
 -- BETWEEN segments
 
-pub at_is : (r : Reading) (p : Phase) (bytes : List ℕ) (before : List Segment) → r.phase ≡ p → StandsForSegments bytes before r → AtPhase r p bytes before
+pub at_is : (r : Reading) (p : Phase) (bytes : List ℕ) (before : List Segment) → r.phase ≡ p → RepresentsSegments bytes before r → AtPhase r p bytes before
 at_is r p bytes before e s = subst (λ (q : Phase). AtPhase r q bytes before) e s.1
 
 -- a fault after these segments, and the bytes that have it
@@ -41,26 +41,26 @@ same_more b (suc n) = ap (λ (xs : List ℕ). b ∷ xs) (same_more b n)
 
 -- AT THE START
 
-pub start_fault : (r : Reading) (bytes : List ℕ) (before : List Segment) (byte : ℕ) → r.phase ≡ phase.Empty → StandsForSegments bytes before r → (byte ≡ 255 → ⊥) → SegmentsReveal (kept_rule r.limits) NotJpeg (bytes ++ byte ∷ []) × RevealsAfter (kept_rule r.limits) before NotJpeg (bytes ++ byte ∷ [])
+pub start_fault : (r : Reading) (bytes : List ℕ) (before : List Segment) (byte : ℕ) → r.phase ≡ phase.Empty → RepresentsSegments bytes before r → (byte ≡ 255 → ⊥) → SegmentsReveal (kept_rule r.limits) NotJpeg (bytes ++ byte ∷ []) × RevealsAfter (kept_rule r.limits) before NotJpeg (bytes ++ byte ∷ [])
 start_fault r bytes before byte e s ne =
     let a = at_is r phase.Empty bytes before e s in
     shown (kept_rule r.limits) before NotJpeg (bytes ++ byte ∷ []) (inl (refl, a.1, inl (byte, ap (λ (b : List ℕ). b ++ byte ∷ []) a.0, ne)))
 
-pub second_start : (r : Reading) (bytes : List ℕ) (before : List Segment) → r.phase ≡ phase.HalfStart → StandsForSegments bytes before r → Comes (bytes ++ 0xd8 ∷ []) before (Ok step.Start) (record r { phase = phase.Between })
+pub second_start : (r : Reading) (bytes : List ℕ) (before : List Segment) → r.phase ≡ phase.HalfStart → RepresentsSegments bytes before r → Comes (bytes ++ 0xd8 ∷ []) before (Ok step.Start) (record r { phase = phase.Between })
 second_start r bytes before e s =
     let a = at_is r phase.HalfStart bytes before e s in
     let cut : bytes ++ 0xd8 ∷ [] ≡ soi = ap (λ (b : List ℕ). b ++ 0xd8 ∷ []) a.0 in
     let P : List Segment → Type 0 = λ b. AtPhase (record r { phase = phase.Between }) phase.Between (bytes ++ 0xd8 ∷ []) b in
     (cut, (s.0, subst P (sym a.1) ([], record { front = soi; cut = cut; spelled = refl; passed = tt }, a.2, refl)))
 
-pub second_fault : (r : Reading) (bytes : List ℕ) (before : List Segment) (byte : ℕ) → r.phase ≡ phase.HalfStart → StandsForSegments bytes before r → (byte ≡ 0xd8 → ⊥) → SegmentsReveal (kept_rule r.limits) NotJpeg (bytes ++ byte ∷ []) × RevealsAfter (kept_rule r.limits) before NotJpeg (bytes ++ byte ∷ [])
+pub second_fault : (r : Reading) (bytes : List ℕ) (before : List Segment) (byte : ℕ) → r.phase ≡ phase.HalfStart → RepresentsSegments bytes before r → (byte ≡ 0xd8 → ⊥) → SegmentsReveal (kept_rule r.limits) NotJpeg (bytes ++ byte ∷ []) × RevealsAfter (kept_rule r.limits) before NotJpeg (bytes ++ byte ∷ [])
 second_fault r bytes before byte e s ne =
     let a = at_is r phase.HalfStart bytes before e s in
     shown (kept_rule r.limits) before NotJpeg (bytes ++ byte ∷ []) (inl (refl, a.1, inr (byte, ap (λ (b : List ℕ). b ++ byte ∷ []) a.0, ne)))
 
 -- AFTER A SEGMENT
 
-pub item_more : (r : Reading) (bytes : List ℕ) (before : List Segment) → r.phase ≡ phase.Between → StandsForSegments bytes before r → Comes (bytes ++ 255 ∷ []) before (Ok step.More) (record r { phase = phase.Fill })
+pub item_more : (r : Reading) (bytes : List ℕ) (before : List Segment) → r.phase ≡ phase.Between → RepresentsSegments bytes before r → Comes (bytes ++ 255 ∷ []) before (Ok step.More) (record r { phase = phase.Fill })
 item_more r bytes before e s =
     let (tail, between, seen, none) = at_is r phase.Between bytes before e s in
     let next = further (kept_rule r.limits) bytes before tail (255 ∷ []) between in
@@ -69,7 +69,7 @@ item_more r bytes before e s =
 
 -- AFTER FF
 
-pub fill_again : (r : Reading) (bytes : List ℕ) (before : List Segment) → r.phase ≡ phase.Fill → StandsForSegments bytes before r → Comes (bytes ++ 255 ∷ []) before (Ok step.More) r
+pub fill_again : (r : Reading) (bytes : List ℕ) (before : List Segment) → r.phase ≡ phase.Fill → RepresentsSegments bytes before r → Comes (bytes ++ 255 ∷ []) before (Ok step.More) r
 fill_again r bytes before e s =
     let (tail, between, seen, (fill, is)) = at_is r phase.Fill bytes before e s in
     let next = further (kept_rule r.limits) bytes before tail (255 ∷ []) between in
@@ -77,7 +77,7 @@ fill_again r bytes before e s =
     let P : Phase → Type 0 = λ p. AtPhase r p (bytes ++ 255 ∷ []) before in
     (inr (before, tail ++ 255 ∷ [], next, inl (suc (suc fill), more), not_nil tail 255), (s.0, subst P (sym e) (tail ++ 255 ∷ [], next, seen, (suc fill, more))))
 
-pub fill_stuffed : (r : Reading) (bytes : List ℕ) (before : List Segment) → r.phase ≡ phase.Fill → StandsForSegments bytes before r → SegmentsReveal (kept_rule r.limits) NoMarker (bytes ++ 0 ∷ []) × RevealsAfter (kept_rule r.limits) before NoMarker (bytes ++ 0 ∷ [])
+pub fill_stuffed : (r : Reading) (bytes : List ℕ) (before : List Segment) → r.phase ≡ phase.Fill → RepresentsSegments bytes before r → SegmentsReveal (kept_rule r.limits) NoMarker (bytes ++ 0 ∷ []) × RevealsAfter (kept_rule r.limits) before NoMarker (bytes ++ 0 ∷ [])
 fill_stuffed r bytes before e s =
     let (tail, between, seen, (fill, is)) = at_is r phase.Fill bytes before e s in
     let next = further (kept_rule r.limits) bytes before tail (0 ∷ []) between in
@@ -96,7 +96,7 @@ pub record Marks (r : Reading) (bytes : List ℕ) (before : List Segment) (code 
   pub marker : SpellsMarker code tail
   pub some : tail ≡ [] → ⊥
 
-marks : (r : Reading) (bytes : List ℕ) (before : List Segment) (code : ℕ) → r.phase ≡ phase.Fill → StandsForSegments bytes before r → (code ≡ 0 → ⊥) → (code ≡ 255 → ⊥) → Marks r bytes before code
+marks : (r : Reading) (bytes : List ℕ) (before : List Segment) (code : ℕ) → r.phase ≡ phase.Fill → RepresentsSegments bytes before r → (code ≡ 0 → ⊥) → (code ≡ 255 → ⊥) → Marks r bytes before code
 marks r bytes before code e s low high =
     let (tail, between, seen, (fill, is)) = at_is r phase.Fill bytes before e s in
     record {
@@ -107,13 +107,13 @@ marks r bytes before code e s low high =
       some = not_nil tail code;
     }
 
-pub code_wrong : (r : Reading) (bytes : List ℕ) (before : List Segment) (code : ℕ) (fault : Fault) → r.phase ≡ phase.Fill → StandsForSegments bytes before r → (code ≡ 0 → ⊥) → (code ≡ 255 → ⊥)
+pub code_wrong : (r : Reading) (bytes : List ℕ) (before : List Segment) (code : ℕ) (fault : Fault) → r.phase ≡ phase.Fill → RepresentsSegments bytes before r → (code ≡ 0 → ⊥) → (code ≡ 255 → ⊥)
     → ((before : List Segment) → HasSeen r.limits r.seen before → code_fault before code ≡ Some fault) → SegmentsReveal (kept_rule r.limits) fault (bytes ++ code ∷ []) × RevealsAfter (kept_rule r.limits) before fault (bytes ++ code ∷ [])
 code_wrong r bytes before code fault e s low high wrong =
     let m = marks r bytes before code e s low high in
     shown (kept_rule r.limits) before fault (bytes ++ code ∷ []) (inr (m.tail, m.between, inr (inl (code, m.marker, wrong before m.seen))))
 
-pub code_ends : (r : Reading) (bytes : List ℕ) (before : List Segment) (code : ℕ) → r.phase ≡ phase.Fill → StandsForSegments bytes before r → (code ≡ 0 → ⊥) → (code ≡ 255 → ⊥) → code ≡ 0xd9
+pub code_ends : (r : Reading) (bytes : List ℕ) (before : List Segment) (code : ℕ) → r.phase ≡ phase.Fill → RepresentsSegments bytes before r → (code ≡ 0 → ⊥) → (code ≡ 255 → ⊥) → code ≡ 0xd9
     → ((before : List Segment) → HasSeen r.limits r.seen before → code_fault before code ≡ None) → Reaches (kept_rule r.limits) (bytes ++ code ∷ []) at_eoi × EndsAtEoi (kept_rule r.limits) before (bytes ++ code ∷ [])
 code_ends r bytes before code e s low high is good =
     let m = marks r bytes before code e s low high in
@@ -121,7 +121,7 @@ code_ends r bytes before code e s low high is good =
     let fine : code_fault before 0xd9 ≡ None = subst (λ (k : ℕ). code_fault before k ≡ None) is (good before m.seen) in
     ((before, m.tail, m.between, marker, fine), (m.tail, m.between, marker, fine))
 
-pub code_frame : (r : Reading) (bytes : List ℕ) (before : List Segment) (code : ℕ) → r.phase ≡ phase.Fill → StandsForSegments bytes before r → (code ≡ 0 → ⊥) → (code ≡ 255 → ⊥) → (code ≡ 0xd9 → ⊥)
+pub code_frame : (r : Reading) (bytes : List ℕ) (before : List Segment) (code : ℕ) → r.phase ≡ phase.Fill → RepresentsSegments bytes before r → (code ≡ 0 → ⊥) → (code ≡ 255 → ⊥) → (code ≡ 0xd9 → ⊥)
     → ((before : List Segment) → HasSeen r.limits r.seen before → code_fault before code ≡ None) → is_frame_code code ≡ true
     → Comes (bytes ++ code ∷ []) before (Ok step.Frame) (record r { code = code; phase = phase.Coded })
 code_frame r bytes before code e s low high end good is =
@@ -129,7 +129,7 @@ code_frame r bytes before code e s low high end good is =
     let begins : BeginsSegment before code m.tail = (m.marker, good before m.seen, end) in
     ((before, m.tail, m.between, (code, begins, is)), (s.0, (m.tail, m.between, m.seen, begins)))
 
-pub code_more : (r : Reading) (bytes : List ℕ) (before : List Segment) (code : ℕ) → r.phase ≡ phase.Fill → StandsForSegments bytes before r → (code ≡ 0 → ⊥) → (code ≡ 255 → ⊥) → (code ≡ 0xd9 → ⊥)
+pub code_more : (r : Reading) (bytes : List ℕ) (before : List Segment) (code : ℕ) → r.phase ≡ phase.Fill → RepresentsSegments bytes before r → (code ≡ 0 → ⊥) → (code ≡ 255 → ⊥) → (code ≡ 0xd9 → ⊥)
     → ((before : List Segment) → HasSeen r.limits r.seen before → code_fault before code ≡ None) → is_frame_code code ≡ false
     → Comes (bytes ++ code ∷ []) before (Ok step.More) (record r { code = code; phase = phase.Coded })
 code_more r bytes before code e s low high end good is =
@@ -139,7 +139,7 @@ code_more r bytes before code e s low high end good is =
 
 -- THE LENGTH
 
-pub high_more : (r : Reading) (bytes : List ℕ) (before : List Segment) (byte : ℕ) → r.phase ≡ phase.Coded → StandsForSegments bytes before r → byte < 256
+pub high_more : (r : Reading) (bytes : List ℕ) (before : List Segment) (byte : ℕ) → r.phase ≡ phase.Coded → RepresentsSegments bytes before r → byte < 256
     → Comes (bytes ++ byte ∷ []) before (Ok step.More) (record r { high = byte; phase = phase.HalfLength })
 high_more r bytes before byte e s fits =
     let (tail, between, seen, begins) = at_is r phase.Coded bytes before e s in
@@ -148,14 +148,14 @@ high_more r bytes before byte e s fits =
       (s.0, (tail ++ byte ∷ [], next, seen, (tail, begins, refl, fits))),
     )
 
-pub low_fault : (r : Reading) (bytes : List ℕ) (before : List Segment) (byte : ℕ) → r.phase ≡ phase.HalfLength → StandsForSegments bytes before r → two_bytes r.high byte < 2 → SegmentsReveal (kept_rule r.limits) BadLength (bytes ++ byte ∷ []) × RevealsAfter (kept_rule r.limits) before BadLength (bytes ++ byte ∷ [])
+pub low_fault : (r : Reading) (bytes : List ℕ) (before : List Segment) (byte : ℕ) → r.phase ≡ phase.HalfLength → RepresentsSegments bytes before r → two_bytes r.high byte < 2 → SegmentsReveal (kept_rule r.limits) BadLength (bytes ++ byte ∷ []) × RevealsAfter (kept_rule r.limits) before BadLength (bytes ++ byte ∷ [])
 low_fault r bytes before byte e s short =
     let (tail, between, seen, (marker, begins, is, fits)) = at_is r phase.HalfLength bytes before e s in
     let next = further (kept_rule r.limits) bytes before tail (byte ∷ []) between in
     let cut : tail ++ byte ∷ [] ≡ marker ++ r.high ∷ byte ∷ [] = ap (λ (t : List ℕ). t ++ byte ∷ []) is ∙ append_assoc marker (r.high ∷ []) (byte ∷ []) in
     shown (kept_rule r.limits) before BadLength (bytes ++ byte ∷ []) (inr (tail ++ byte ∷ [], next, inr (inr (inl (refl, (r.code, marker, r.high, byte, begins, cut, short))))))
 
-pub low_more : (r : Reading) (bytes : List ℕ) (before : List Segment) (byte left : ℕ) → r.phase ≡ phase.HalfLength → StandsForSegments bytes before r → byte < 256 → left + 2 ≡ two_bytes r.high byte → 1 ≤ left
+pub low_more : (r : Reading) (bytes : List ℕ) (before : List Segment) (byte left : ℕ) → r.phase ≡ phase.HalfLength → RepresentsSegments bytes before r → byte < 256 → left + 2 ≡ two_bytes r.high byte → 1 ≤ left
     → Comes (bytes ++ byte ∷ []) before (Ok step.More) (record r { left = left; contents = []; phase = phase.Contents })
 low_more r bytes before byte left e s small long some =
     let (tail, between, seen, (marker, begins, is, fits)) = at_is r phase.HalfLength bytes before e s in
@@ -177,7 +177,7 @@ pub spelled : (code high low : ℕ) (marker contents : List ℕ) → SpellsMarke
 spelled code high low marker contents m h l e =
     (marker, m, omega (arith, h, l, e), sym (append_assoc marker (high ∷ low ∷ []) contents) ∙ ap (λ (bytes : List ℕ). (marker ++ bytes) ++ contents) (sym (length_is high low (length contents + 2) h l e)))
 
-pub low_whole : (r : Reading) (bytes : List ℕ) (before : List Segment) (byte : ℕ) → r.phase ≡ phase.HalfLength → StandsForSegments bytes before r → byte < 256 → two_bytes r.high byte ≡ 2
+pub low_whole : (r : Reading) (bytes : List ℕ) (before : List Segment) (byte : ℕ) → r.phase ≡ phase.HalfLength → RepresentsSegments bytes before r → byte < 256 → two_bytes r.high byte ≡ 2
     → HasWholeSegment (bytes ++ byte ∷ []) before (record r { left = 0; contents = [] })
 low_whole r bytes before byte e s small two =
     let (tail, between, seen, (marker, begins, is, fits)) = at_is r phase.HalfLength bytes before e s in
@@ -195,7 +195,7 @@ grown : (high low byte : ℕ) (marker contents tail : List ℕ) → tail ≡ mar
 grown high low byte marker contents tail e = grown_by high low marker contents tail (byte ∷ []) e
 
 -- some of them at once, without the last one
-pub contents_more : (r : Reading) (bytes : List ℕ) (before : List Segment) (more : List ℕ) → r.phase ≡ phase.Contents → StandsForSegments bytes before r → length more + 1 ≤ r.left → StandsForSegments (bytes ++ more) before (with_contents r more)
+pub contents_more : (r : Reading) (bytes : List ℕ) (before : List Segment) (more : List ℕ) → r.phase ≡ phase.Contents → RepresentsSegments bytes before r → length more + 1 ≤ r.left → RepresentsSegments (bytes ++ more) before (with_contents r more)
 contents_more r bytes before more e s few =
     let (tail, between, seen, (marker, high, low, begins, is, h, l, long, least)) = at_is r phase.Contents bytes before e s in
     let next = further (kept_rule r.limits) bytes before tail more between in
@@ -206,7 +206,7 @@ contents_more r bytes before more e s few =
     let P : Phase → Type 0 = λ p. AtPhase (with_contents r more) p (bytes ++ more) before in
     (s.0, subst P (sym e) (tail ++ more, next, seen, (marker, high, low, begins, cut, h, l, all, some)))
 
-pub content_more : (r : Reading) (bytes : List ℕ) (before : List Segment) (byte left : ℕ) → r.phase ≡ phase.Contents → StandsForSegments bytes before r → left + 1 ≡ r.left → 1 ≤ left
+pub content_more : (r : Reading) (bytes : List ℕ) (before : List Segment) (byte left : ℕ) → r.phase ≡ phase.Contents → RepresentsSegments bytes before r → left + 1 ≡ r.left → 1 ≤ left
     → Comes (bytes ++ byte ∷ []) before (Ok step.More) (record r { left = left; contents = r.contents ++ byte ∷ [] })
 content_more r bytes before byte left e s one some =
     let (tail, between, seen, (marker, high, low, begins, is, h, l, long, least)) = at_is r phase.Contents bytes before e s in
@@ -218,7 +218,7 @@ content_more r bytes before byte left e s one some =
       (s.0, subst P (sym e) (tail ++ byte ∷ [], next, seen, (marker, high, low, begins, cut, h, l, more, some))),
     )
 
-pub content_whole : (r : Reading) (bytes : List ℕ) (before : List Segment) (byte : ℕ) → r.phase ≡ phase.Contents → StandsForSegments bytes before r → r.left ≤ 1
+pub content_whole : (r : Reading) (bytes : List ℕ) (before : List Segment) (byte : ℕ) → r.phase ≡ phase.Contents → RepresentsSegments bytes before r → r.left ≤ 1
     → HasWholeSegment (bytes ++ byte ∷ []) before (record r { contents = r.contents ++ byte ∷ [] })
 content_whole r bytes before byte e s last =
     let (tail, between, seen, (marker, high, low, begins, is, h, l, long, least)) = at_is r phase.Contents bytes before e s in

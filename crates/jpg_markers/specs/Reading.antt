@@ -77,8 +77,8 @@ AtPhase r phase.Contents bytes before = IsBetween r phase.Contents bytes before
 AtPhase r phase.Ended bytes before = ⊥
 
 -- The reader was given these bytes, scan data left out. The complete segments among them are these.
-abbrev pub StandsForSegments : List ℕ → List Segment → Reading → Type 0
-StandsForSegments bytes before r = (r.stop ≡ None) × AtPhase r r.phase bytes before
+abbrev pub RepresentsSegments : List ℕ → List Segment → Reading → Type 0
+RepresentsSegments bytes before r = (r.stop ≡ None) × AtPhase r r.phase bytes before
 
 -- THE RESULT of the bytes, after these complete segments
 
@@ -99,11 +99,11 @@ abbrev pub EndsAtEoi : Rule → List Segment → List ℕ → Type 0
 EndsAtEoi rule before bytes = (tail : List ℕ) × Between rule bytes before tail × SpellsMarker 0xd9 tail × (code_fault before 0xd9 ≡ None)
 
 abbrev pub Comes : List ℕ → List Segment → Result SegStep Stop → Reading → Type 0
-Comes bytes before (Ok step.More) r = Reaches (kept_rule r.limits) bytes at_part × StandsForSegments bytes before r
-Comes bytes before (Ok step.Start) r = Reaches (kept_rule r.limits) bytes at_soi × StandsForSegments bytes before r
-Comes bytes before (Ok step.Frame) r = Reaches (kept_rule r.limits) bytes at_frame × StandsForSegments bytes before r
+Comes bytes before (Ok step.More) r = Reaches (kept_rule r.limits) bytes at_part × RepresentsSegments bytes before r
+Comes bytes before (Ok step.Start) r = Reaches (kept_rule r.limits) bytes at_soi × RepresentsSegments bytes before r
+Comes bytes before (Ok step.Frame) r = Reaches (kept_rule r.limits) bytes at_frame × RepresentsSegments bytes before r
 Comes bytes before (Ok step.Eoi) r = Reaches (kept_rule r.limits) bytes at_eoi × EndsAtEoi (kept_rule r.limits) before bytes
-Comes bytes before (Ok step.Whole) r = Reaches (kept_rule r.limits) bytes (at_segment (r.code, r.contents)) × StandsForSegments bytes ((r.code, r.contents) ∷ before) r
+Comes bytes before (Ok step.Whole) r = Reaches (kept_rule r.limits) bytes (at_segment (r.code, r.contents)) × RepresentsSegments bytes ((r.code, r.contents) ∷ before) r
 Comes bytes before (Err (stop.Fault f)) r =
     Reaches (kept_rule r.limits) bytes (at_fault f.fault) × RevealsAfter (kept_rule r.limits) before f.fault bytes × (f.at ≡ r.taken)
 Comes bytes before (Err stop.NoMemory) r = Unit {0}
@@ -116,10 +116,10 @@ Goes bytes before (Err halt.NoMemory) r = Unit {0}
 
 -- For all bytes that a reader was given, its answer is the result of these and further ones.
 abbrev pub ComesWith : Reading → List ℕ → Result SegStep Stop → Reading → Type 0
-ComesWith old more answer new = (bytes : List ℕ) (before : List Segment) → StandsForSegments bytes before old → Comes (bytes ++ more) before answer new
+ComesWith old more answer new = (bytes : List ℕ) (before : List Segment) → RepresentsSegments bytes before old → Comes (bytes ++ more) before answer new
 
 abbrev pub GoesWith : Reading → List ℕ → Result SegStep Halt → Reading → Type 0
-GoesWith old more answer new = (bytes : List ℕ) (before : List Segment) → StandsForSegments bytes before old → Goes (bytes ++ more) before answer new
+GoesWith old more answer new = (bytes : List ℕ) (before : List Segment) → RepresentsSegments bytes before old → Goes (bytes ++ more) before answer new
 
 -- Where a segment is complete, the answer is the result of the bytes.
 abbrev pub GoesWhole : Reading → Result SegStep Halt → Reading → Type 0
@@ -139,10 +139,10 @@ AfterWhole (Ok step.Whole) r = r.phase ≡ phase.Between
 AfterWhole (Err e) r = Unit {0}
 
 -- an answer other than NoMemory
-abbrev pub NotWanting : Result SegStep Stop → Type 0
-NotWanting (Ok s) = Unit {0}
-NotWanting (Err (stop.Fault f)) = Unit {0}
-NotWanting (Err stop.NoMemory) = ⊥
+abbrev pub HasMemory : Result SegStep Stop → Type 0
+HasMemory (Ok s) = Unit {0}
+HasMemory (Err (stop.Fault f)) = Unit {0}
+HasMemory (Err stop.NoMemory) = ⊥
 
 abbrev pub HaltsNot : Result SegStep Halt → Type 0
 HaltsNot (Ok s) = Unit {0}
@@ -198,12 +198,12 @@ Continues old bytes (Err e) new = new ≡ old
 -- For all bytes that it was given before, it was given these and those that were taken, as if `byte` had answered More
 -- to each.
 abbrev pub PassesBytes : Reading → List ℕ → Reading → Type 0
-PassesBytes old more new = (bytes : List ℕ) (before : List Segment) → StandsForSegments bytes before old → StandsForSegments (bytes ++ more) before new
+PassesBytes old more new = (bytes : List ℕ) (before : List Segment) → RepresentsSegments bytes before old → RepresentsSegments (bytes ++ more) before new
 
 -- and none of them completed anything
 abbrev pub PassesParts : Reading → List ℕ → ℕ → Type 0
 PassesParts old bytes n =
-    (front : List ℕ) (before : List Segment) (m : ℕ) → StandsForSegments front before old → 1 ≤ m → m ≤ n → Reaches (kept_rule old.limits) (front ++ take m bytes) at_part
+    (front : List ℕ) (before : List Segment) (m : ℕ) → RepresentsSegments front before old → 1 ≤ m → m ≤ n → Reaches (kept_rule old.limits) (front ++ take m bytes) at_part
 
 abbrev pub PassesSome : Reading → List ℕ → Result ℕ NoMemory → Reading → Type 0
 PassesSome old bytes (Ok n) new = (n ≤ length bytes) × PassesBytes old (take n bytes) new × PassesParts old bytes n
@@ -228,5 +228,5 @@ pub record PassesSegment (old : Reading) (code : ℕ) (contents : List ℕ) (n :
   pub between : new.phase ≡ phase.Between
   pub limits : new.limits ≡ old.limits
   pub taken : new.taken ≡ old.taken + n
-  pub kept : (bytes : List ℕ) (before : List Segment) → StandsForSegments bytes before old → kept_rule old.limits before code contents ≡ None
-  pub stands : (bytes tail : List ℕ) (before : List Segment) → StandsForSegments bytes before old → SpellsSegment code contents tail → StandsForSegments (bytes ++ tail) ((code, contents) ∷ before) new
+  pub kept : (bytes : List ℕ) (before : List Segment) → RepresentsSegments bytes before old → kept_rule old.limits before code contents ≡ None
+  pub stands : (bytes tail : List ℕ) (before : List Segment) → RepresentsSegments bytes before old → SpellsSegment code contents tail → RepresentsSegments (bytes ++ tail) ((code, contents) ∷ before) new

@@ -1,7 +1,7 @@
 //! Application segments, parsed (JFIF 1.02, Adobe's APP14).
 ghost use Rattle.std.specs.Prelude.{◌≡◌, ◌≤◌, ℕ, Some, length};
 ghost use Rattle.jpg_spec.specs.Lists.{begins_with};
-ghost use Rattle.jpg_spec.specs.Jfif.{begins_adobe, begins_jfif, is_jfif, is_adobe, jfif_told};
+ghost use Rattle.jpg_spec.specs.Jfif.{begins_adobe, begins_jfif, is_jfif, is_adobe, parsed_jfif};
 ghost use Rattle.jpg_markers.specs.Apps.{IsApp};
 
 use byteorder::{BigEndian, ByteOrder};
@@ -34,7 +34,7 @@ pub fn read_app(code: u8, contents: &[u8]) -> App
 // The JFIF header of these contents.
 fn header_of(contents: &[u8]) -> Jfif
     requires { 14 ≤ length contents.now }
-    ensures { (code : ℕ) → result ≡ jfif_told (Some (code, contents.now)) }
+    ensures { (code : ℕ) → result ≡ parsed_jfif (Some (code, contents.now)) }
 {
     Jfif {
         seen: true,

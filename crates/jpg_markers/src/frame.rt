@@ -1,7 +1,7 @@
 //! The frame header, parsed (T.81, B.2.2).
 ghost use Rattle.std.specs.Prelude.{◌≡◌, ◌≤◌, length};
 ghost use Rattle.jpg_spec.specs.FrameHeader.{AreLimits};
-ghost use Rattle.jpg_spec.specs.FrameContents.{components_told, frame_header};
+ghost use Rattle.jpg_spec.specs.FrameContents.{parsed_components, frame_header};
 
 use arrayvec::ArrayVec;
 use byteorder::{BigEndian, ByteOrder};
@@ -38,7 +38,7 @@ pub fn read_sof(process: Process, contents: &[u8], limits: &Limits) -> Result<Fr
 // The components, of three bytes each.
 fn components_of(parts: &[u8]) -> ArrayVec<Component, 255>
     requires { length parts.now ≤ 765 }
-    ensures { result.items ≡ components_told parts.now }
+    ensures { result.items ≡ parsed_components parts.now }
 {
     let mut components = ArrayVec::new();
     let mut rest = parts;

@@ -1,9 +1,9 @@
 //! Huffman tables, parsed (T.81, B.2.4.2).
 ghost use Rattle.std.specs.Prelude.{◌≡◌, ◌%◌, ◌<◌, Ok, Err, drop, IfOk, IfErr};
-ghost use Rattle.jpg_spec.specs.HuffContents.{definition_size, huffman_table_of, huffmans_told, put_definition};
+ghost use Rattle.jpg_spec.specs.HuffContents.{definition_size, huffman_table_of, parsed_huffmans, put_definition};
 ghost use Rattle.jpg_huff.specs.Definitions.{definitions_of};
 ghost use Rattle.jpg_huff.specs.New.{AreRight};
-ghost use Rattle.jpg_markers.specs.Huffmans.{definition_in, table_told, tables_judged};
+ghost use Rattle.jpg_markers.specs.Huffmans.{definition_in, parsed_table, tables_judged};
 
 use jpg_huff::{DefinitionSet, TableFault, judged_total};
 use jpg_spec::Fault;
@@ -22,8 +22,8 @@ struct Definition<'a> {
 /// (the segment ends inside its values), BadHuffman (a code doesn't fit its length, or is all ones) (T.81, B.2.4.2 and
 /// Annex C). It takes no memory.
 pub fn read_dht(contents: &[u8], tables: &mut DefinitionSet) -> Result<(), Fault>
-    ensures accepted { IfOk result (λ _. huffmans_told (definitions_of tables.old) contents.now ≡ Ok (definitions_of tables.new)) }
-    ensures refused { IfErr result (λ fault. huffmans_told (definitions_of tables.old) contents.now ≡ Err fault) }
+    ensures accepted { IfOk result (λ _. parsed_huffmans (definitions_of tables.old) contents.now ≡ Ok (definitions_of tables.new)) }
+    ensures refused { IfErr result (λ fault. parsed_huffmans (definitions_of tables.old) contents.now ≡ Err fault) }
     ensures unchanged { IfErr result (λ _. tables.new ≡ tables.old) }
 {
     // All tables are judged before the first one is put.
@@ -49,8 +49,8 @@ fn judge(contents: &[u8]) -> Result<(), Fault>
 
 // Puts the tables of these contents into their slots, up to the first fault.
 fn put_all(contents: &[u8], tables: &mut DefinitionSet) -> Result<(), Fault>
-    ensures accepted { IfOk result (λ _. huffmans_told (definitions_of tables.old) contents.now ≡ Ok (definitions_of tables.new)) }
-    ensures refused { IfErr result (λ fault. huffmans_told (definitions_of tables.old) contents.now ≡ Err fault) }
+    ensures accepted { IfOk result (λ _. parsed_huffmans (definitions_of tables.old) contents.now ≡ Ok (definitions_of tables.new)) }
+    ensures refused { IfErr result (λ fault. parsed_huffmans (definitions_of tables.old) contents.now ≡ Err fault) }
 {
     let mut rest = contents;
     while let [head, tail @ ..] = rest {
@@ -82,7 +82,7 @@ fn put(tables: &mut DefinitionSet, head: u8, table: &Definition)
 // The table after the byte of its class and slot.
 #[tactic(auto, unfolding(jpg_spec::specs::HuffContents::huffman_table_of))]
 fn table_at(head: u8, bytes: &[u8]) -> Result<Definition, Fault>
-    ensures value { table_told head result ≡ huffman_table_of head bytes.now }
+    ensures value { parsed_table head result ≡ huffman_table_of head bytes.now }
     ensures slot { IfOk result (λ _. head % 16 < 4) }
     ensures right { IfOk result (λ table. AreRight table.counts.now table.symbols.now) }
     ensures rest { IfOk result (λ table. table.rest.now ≡ drop (definition_size bytes.now) bytes.now) }

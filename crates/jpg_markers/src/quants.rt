@@ -2,7 +2,7 @@
 ghost use Rattle.std.specs.Prelude.{◌≡◌, ◌<◌, ◌≤◌, Some, Ok, Err, length, slice_set, drop, IfOk, IfErr};
 ghost use Rattle.std.specs.Option.{option_map};
 ghost use Rattle.jpg_spec.specs.Lists.{any_of};
-ghost use Rattle.jpg_spec.specs.QuantContents.{no_quants, pairs_told, quant_in, quant_table_of, quant_told, quants_told, table_entries, table_size, is_zero_quant};
+ghost use Rattle.jpg_spec.specs.QuantContents.{no_quants, parsed_pairs, quant_in, quant_table_of, parsed_quant, parsed_quants, table_entries, table_size, is_zero_quant};
 
 use byteorder::{BigEndian, ByteOrder};
 use jpg_base::QuantTable;
@@ -60,8 +60,8 @@ impl QuantSet {
 /// precision above 1 or its slot above 3), BadLength (the segment ends inside it), BadQuant (a quantiser 0) (T.81,
 /// B.2.4.1). It takes no memory.
 pub fn read_dqt(contents: &[u8], quants: &mut QuantSet) -> Result<(), Fault>
-    ensures accepted { IfOk result (λ _. quants_told quants.old contents.now ≡ Ok quants.new) }
-    ensures refused { IfErr result (λ fault. quants_told quants.old contents.now ≡ Err fault) }
+    ensures accepted { IfOk result (λ _. parsed_quants quants.old contents.now ≡ Ok quants.new) }
+    ensures refused { IfErr result (λ fault. parsed_quants quants.old contents.now ≡ Err fault) }
     ensures unchanged { IfErr result (λ _. quants.new ≡ quants.old) }
 {
     match all_tables(contents, quants) {
@@ -75,7 +75,7 @@ pub fn read_dqt(contents: &[u8], quants: &mut QuantSet) -> Result<(), Fault>
 
 // The slots after all tables of these contents.
 fn all_tables(contents: &[u8], quants: &QuantSet) -> Result<QuantSet, Fault>
-    ensures { result ≡ quants_told quants.now contents.now }
+    ensures { result ≡ parsed_quants quants.now contents.now }
 {
     let mut set = *quants;
     let mut rest = contents;
@@ -91,7 +91,7 @@ fn all_tables(contents: &[u8], quants: &QuantSet) -> Result<QuantSet, Fault>
 
 // The slots after the table that begins with these bytes.
 fn with_table(quants: &QuantSet, head: u8, bytes: &[u8]) -> Result<QuantSet, Fault>
-    ensures value { result ≡ quant_told quants.now head bytes.now }
+    ensures value { result ≡ parsed_quant quants.now head bytes.now }
     ensures long { IfOk result (λ _. table_size head ≤ length bytes.now) }
 {
     match table_of(head, bytes) {
@@ -166,7 +166,7 @@ fn from_bytes(bytes: &[u8]) -> QuantTable
 // Quantisers of two bytes each.
 fn from_pairs(bytes: &[u8]) -> QuantTable
     requires { length bytes.now ≡ 128 }
-    ensures { result ≡ pairs_told bytes.now }
+    ensures { result ≡ parsed_pairs bytes.now }
 {
     let mut table = QuantTable::ones();
     for k in 0..64 {

@@ -5,7 +5,7 @@ ghost use Rattle.jpg_spec.specs.Segments.{ScanHead as Head};
 ghost use Rattle.jpg_spec.specs.Lists.{index_of, is_among, is_distinct};
 ghost use Rattle.jpg_spec.specs.Geometry.{factor_sum};
 ghost use Rattle.jpg_spec.specs.FrameHeader.{identifiers};
-ghost use Rattle.jpg_spec.specs.ScanContents.{IsHead, are_among, are_bits, are_parameters, checked_head, head_told, ids_told, is_band, parts_told, scan_header};
+ghost use Rattle.jpg_spec.specs.ScanContents.{IsHead, are_among, are_bits, are_parameters, checked_head, parsed_scan_header, parsed_ids, is_band, parsed_parts, scan_header};
 
 use arrayvec::ArrayVec;
 use jpg_base::{Frame, ScanHead};
@@ -36,7 +36,7 @@ pub fn read_sos(contents: &[u8], frame: &Frame) -> Result<ScanHead, Fault>
 fn head_of(frame: &Frame, count: u8, parts: &[u8], band: &[u8]) -> Result<ScanHead, Fault>
     requires parts { length parts.now ≡ 2 * count }
     requires band { length band.now ≡ 3 }
-    ensures { result ≡ checked_head frame.now count (ids_told parts.now) (head_told frame.now parts.now band.now) }
+    ensures { result ≡ checked_head frame.now count (parsed_ids parts.now) (parsed_scan_header frame.now parts.now band.now) }
 {
     if count == 0 || count > 4 || !are_known(frame, parts) || has_same(parts) {
         return Err(Fault::ScanComponent);
@@ -106,7 +106,7 @@ fn place_of(frame: &Frame, id: u8) -> u8
 
 // Whether the frame has all components of the scan.
 fn are_known(frame: &Frame, parts: &[u8]) -> bool
-    ensures { result ≡ are_among frame.now (ids_told parts.now) }
+    ensures { result ≡ are_among frame.now (parsed_ids parts.now) }
 {
     let mut rest = parts;
     while let [id, _, tail @ ..] = rest {
@@ -120,7 +120,7 @@ fn are_known(frame: &Frame, parts: &[u8]) -> bool
 
 // Whether the identifier is one of the scan's components.
 fn stands(id: u8, parts: &[u8]) -> bool
-    ensures { result ≡ is_among id (ids_told parts.now) }
+    ensures { result ≡ is_among id (parsed_ids parts.now) }
 {
     let mut rest = parts;
     while let [other, _, tail @ ..] = rest {
@@ -134,7 +134,7 @@ fn stands(id: u8, parts: &[u8]) -> bool
 
 // Whether a component occurs twice in the scan.
 fn has_same(parts: &[u8]) -> bool
-    ensures { result ≡ not (is_distinct (ids_told parts.now)) }
+    ensures { result ≡ not (is_distinct (parsed_ids parts.now)) }
 {
     let mut rest = parts;
     while let [id, _, tail @ ..] = rest {
@@ -149,7 +149,7 @@ fn has_same(parts: &[u8]) -> bool
 // The scan's components by their indexes in the frame.
 fn parts_of(frame: &Frame, parts: &[u8]) -> ArrayVec<ScanPart, 4>
     requires { length parts.now ≤ 8 }
-    ensures { result.items ≡ parts_told frame.now parts.now }
+    ensures { result.items ≡ parsed_parts frame.now parts.now }
 {
     let mut list = ArrayVec::new();
     let mut rest = parts;

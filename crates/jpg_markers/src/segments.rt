@@ -5,7 +5,7 @@ ghost use Rattle.jpg_spec.specs.Markers.{Segment};
 ghost use Rattle.jpg_base.specs.declared.stop.Stop.{Stop as Stopped};
 ghost use Rattle.jpg_base.specs.declared.stop.Stop.TheVariants as stop;
 ghost use Rattle.jpg_markers.specs.declared.segments.Phase.TheVariants as phase;
-ghost use Rattle.jpg_markers.specs.Reading.{reading_of, AfterWhole, StandsForSegments, Continues, Comes, PassesSome, MayFollow, PassesSegment, Goes, HasRoom, IsAfterScan, HaltsNot, NotWanting, Stays, ComesWith, GoesWith, GoesWhole};
+ghost use Rattle.jpg_markers.specs.Reading.{reading_of, AfterWhole, RepresentsSegments, Continues, Comes, PassesSome, MayFollow, PassesSegment, Goes, HasRoom, IsAfterScan, HaltsNot, HasMemory, Stays, ComesWith, GoesWith, GoesWhole};
 
 use crate::seen::{Seen, code_fault, is_frame_code};
 use crate::whole::{WholeSegment, fill_length};
@@ -69,7 +69,7 @@ impl SegmentReader {
     /// A reader that was given no bytes. It takes no memory yet.
     pub fn new(alloc: Global, limits: Limits) -> SegmentReader
         requires { AreLimits limits }
-        ensures stands { StandsForSegments [] [] (reading_of result) }
+        ensures stands { RepresentsSegments [] [] (reading_of result) }
         ensures limits { (reading_of result).limits ≡ limits }
         ensures taken { (reading_of result).taken ≡ 0 }
     {
@@ -102,7 +102,7 @@ impl SegmentReader {
         ensures stopped { IfErr result (λ stop. (reading_of self.new).stop ≡ Some stop) }
         ensures limits { (reading_of self.new).limits ≡ (reading_of self.old).limits }
         ensures room { HasRoom self.old → HasRoom self.new }
-        ensures memory { (bytes : List ℕ) (before : List Segment) → StandsForSegments bytes before (reading_of self.old) → HasRoom self.old → NotWanting result }
+        ensures memory { (bytes : List ℕ) (before : List Segment) → RepresentsSegments bytes before (reading_of self.old) → HasRoom self.old → HasMemory result }
     {
         if let Some(stop) = self.stop {
             return Err(stop);
@@ -126,7 +126,7 @@ impl SegmentReader {
         ensures stopped { IfErr result (λ stop. (reading_of self.new).stop ≡ Some stop) }
         ensures limits { (reading_of self.new).limits ≡ (reading_of self.old).limits }
         ensures room { HasRoom self.old → HasRoom self.new }
-        ensures memory { NotWanting result }
+        ensures memory { HasMemory result }
     {
         self.phase = Phase::Fill;
         self.taken = at;
@@ -276,7 +276,7 @@ impl SegmentReader {
         ensures limits { (reading_of self.new).limits ≡ (reading_of self.old).limits }
         ensures taken { (reading_of self.new).taken ≡ (reading_of self.old).taken }
         ensures room { HasRoom self.old → HasRoom self.new }
-        ensures memory { HaltsNot next → NotWanting result }
+        ensures memory { HaltsNot next → HasMemory result }
     {
         match next {
             Ok(step) => Ok(step),
@@ -300,7 +300,7 @@ impl SegmentReader {
         ensures goes { GoesWith (reading_of self.old) (byte ∷ []) result (reading_of self.new) }
         ensures stays { Stays self.old self.new }
         ensures whole { AfterWhole result (reading_of self.new) }
-        ensures memory { (bytes : List ℕ) (before : List Segment) → StandsForSegments bytes before (reading_of self.old) → HasRoom self.old → HaltsNot result }
+        ensures memory { (bytes : List ℕ) (before : List Segment) → RepresentsSegments bytes before (reading_of self.old) → HasRoom self.old → HaltsNot result }
     {
         match self.phase {
             Phase::Contents => self.content_byte(byte),
@@ -427,7 +427,7 @@ impl SegmentReader {
         ensures goes { GoesWith (reading_of self.old) (byte ∷ []) result (reading_of self.new) }
         ensures stays { Stays self.old self.new }
         ensures whole { AfterWhole result (reading_of self.new) }
-        ensures memory { (bytes : List ℕ) (before : List Segment) → StandsForSegments bytes before (reading_of self.old) → HasRoom self.old → HaltsNot result }
+        ensures memory { (bytes : List ℕ) (before : List Segment) → RepresentsSegments bytes before (reading_of self.old) → HasRoom self.old → HaltsNot result }
     {
         match self.contents.push(byte) {
             Ok(()) => {

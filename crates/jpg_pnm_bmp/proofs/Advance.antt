@@ -6,10 +6,10 @@ use Rattle.jpg_spec_image.specs.PnmText.{is_number_due}
 use Rattle.jpg_spec_image.specs.BmpFile.{height, width, bmp_depth, used}
 use Rattle.jpg_spec_image.specs.ImageFaults.{ImageHead, pnm, bmp, image_of, IsBodyFront}
 use Rattle.jpg_spec_image.specs.ImageSteps.{ImageState, in_number, in_body, whole, step, run}
-use Rattle.jpg_spec_image.specs.ImageReading.{StandsForImage, InBody}
+use Rattle.jpg_spec_image.specs.ImageReading.{RepresentsImage, InBody}
 use Rattle.jpg_spec_image.proofs.ImageBodyRuns.{ThreeNumbers, last_three, bmp_sides}
 use Rattle.jpg_spec_image.proofs.ImageStands.{stands}
-use Rattle.jpg_spec.proofs.Common.{both, le_of}
+use Rattle.jpg_spec.proofs.Basics.Common.{both, le_of}
 use Rattle.jpg_pnm_bmp.specs.Known.{list_of}
 use Rattle.jpg_pnm_bmp.specs.Reader.{standing, image_told, IsReached, Reaches, CanStretch, Stretches}
 use Rattle.jpg_pnm_bmp.specs.declared.read.numbers.Numbers.{Numbers}
@@ -24,13 +24,13 @@ pub one_led : (s : ImageState) (piece : List ℕ) (a : Answer) (w : Work) (m : M
 one_led s piece a w m e h r = subst (λ (x : Moved). Reaches (run s (take x.used piece)) x.answer w) (sym e) (subst (λ t. Reaches t a w) (sym (first_run s piece h)) r)
 
 pub due_reached : (format : ℕ) (numbers : List ℕ) (n : ℕ) → IsReached (in_number format numbers n) → is_number_due format numbers ≡ true
-due_reached format numbers n (bytes, e) = due bytes (subst (StandsForImage bytes) e (stands bytes))
+due_reached format numbers n (bytes, e) = due bytes (subst (RepresentsImage bytes) e (stands bytes))
   where
-    due : (bytes : List ℕ) → StandsForImage bytes (in_number format numbers n) → is_number_due format numbers ≡ true
+    due : (bytes : List ℕ) → RepresentsImage bytes (in_number format numbers n) → is_number_due format numbers ≡ true
     due bytes (m, r, c) = r.before.due
 
 pub body_reached : (head : ImageHead) (body : List ℕ) → IsReached (in_body head body) → (bytes : List ℕ) × InBody bytes head body
-body_reached head body (bytes, e) = (bytes, subst (StandsForImage bytes) e (stands bytes))
+body_reached head body (bytes, e) = (bytes, subst (RepresentsImage bytes) e (stands bytes))
 
 side_some : (n : ℕ) → is_side n ≡ true → 1 ≤ n
 side_some n e = le_of 1 n (both (nat_le 1 n) (nat_le n 65500) e).0

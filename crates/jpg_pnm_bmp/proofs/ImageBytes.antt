@@ -14,7 +14,7 @@ use Rattle.jpg_spec_image.specs.ImageText.{turned_round}
 use Rattle.jpg_spec_image.specs.PnmText.{pnm_info, greatest_sample, number_fault, are_right_numbers, scaled_sample, AfterLast}
 use Rattle.jpg_spec_image.specs.BmpFile.{bmp_depth, colour, colours, bmp_line, bmp_body_samples, used, line, height}
 use Rattle.jpg_spec_image.specs.ImageFaults.{pnm, bmp, one_line, IsPlainWhole, IsBodyWhole, IsImage}
-use Rattle.jpg_spec.proofs.Common.{both, negated, lt_yes, not_lt_of}
+use Rattle.jpg_spec.proofs.Basics.Common.{both, negated, lt_yes, not_lt_of}
 use Rattle.jpg_spec_image.proofs.ImageTextRuns.{first_right}
 use Rattle.jpg_spec.specs.declared.fault.Fault.TheVariants.{ImageValue}
 use Rattle.jpg_spec.specs.declared.frame.Limits.{Limits}

@@ -11,7 +11,7 @@ use Rattle.jpg_spec_image.specs.ImageText.{turned_round}
 use Rattle.jpg_spec_image.specs.PnmText.{is_plain, pnm_info, is_number_due, number_fault, are_right_numbers, AfterLast, greatest_sample, scaled_sample}
 use Rattle.jpg_spec_image.specs.BmpFile.{bmp_depth, colour, colours, bmp_line, bmp_body_samples, used, line, height, width}
 use Rattle.jpg_spec_image.specs.ImageFaults.{pnm, bmp, image_of, IsBodyFront, IsPlainWhole, IsBodyWhole, IsImage}
-use Rattle.jpg_spec.proofs.Common.{both, le_of, lt_of, not_lt_of, length_below}
+use Rattle.jpg_spec.proofs.Basics.Common.{both, le_of, lt_of, not_lt_of, length_below}
 use Rattle.jpg_spec_image.proofs.ImageTextRuns.{first_right}
 use Rattle.jpg_spec_image.proofs.ImageBodyRuns.{last_three, bmp_sides}
 use Rattle.jpg_spec_image.proofs.TargaText.{turned_long}

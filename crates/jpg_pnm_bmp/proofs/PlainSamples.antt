@@ -5,14 +5,14 @@ use Rattle.std.proofs.lemmas.Bool.Decides.{nat_tests}
 use Rattle.std.proofs.lemmas.List.{append_assoc, length-append, length-take-le, take_all}
 use Rattle.std.proofs.lemmas.List.Elements.{All-nil, All-drop, All-get_or, All-append}
 use Rattle.std.proofs.Math.Seq.{take-append-add, drop-append_seam}
-use Rattle.jpg_spec.proofs.Common.{same_of}
+use Rattle.jpg_spec.proofs.Basics.Common.{same_of}
 use Rattle.jpg_spec.specs.declared.fault.Fault.TheVariants.{ImageShort}
 use Rattle.jpg_spec.specs.declared.frame.Limits.{Limits}
 use Rattle.jpg_spec_image.specs.Images.{Image, sample_count, are_right}
 use Rattle.jpg_spec_image.specs.PnmText.{pnm_info, greatest_sample, scaled_sample}
 use Rattle.jpg_spec_image.specs.ImageFaults.{pnm, body_of, image_of, IsImage, IsImageFault, IsOpenImage}
 use Rattle.jpg_spec_image.specs.ImageSteps.{at_start, in_body, whole, run}
-use Rattle.jpg_spec_image.specs.ImageReading.{StandsForImage, InBody}
+use Rattle.jpg_spec_image.specs.ImageReading.{RepresentsImage, InBody}
 use Rattle.jpg_spec_image.specs.declared.image.ImageInfo.{ImageInfo}
 use Rattle.jpg_spec_image.proofs.ImageBodyRuns.{front_run, body_run, body_all}
 use Rattle.jpg_spec_image.proofs.ImageRuns.{run_join}
@@ -22,7 +22,7 @@ use Rattle.jpg_pnm_bmp.specs.Known.{list_of}
 use Rattle.jpg_pnm_bmp.specs.Made.{AreBytes}
 use Rattle.jpg_pnm_bmp.specs.Shapes.{AreBelow}
 use Rattle.jpg_pnm_bmp.specs.Reader.{pnm_head, standing_of}
-use Rattle.jpg_pnm_bmp.specs.PlainSamples.{HasFedSamples, AreRightNumbers, CompletesPlain, GoesOnPlain, plain_image, unscaled_info, info_at, unscaled_told, TellsPlain, TellsNotPlain}
+use Rattle.jpg_pnm_bmp.specs.PlainSamples.{HasFedSamples, AreRightNumbers, CompletesPlain, GoesOnPlain, plain_image, unscaled_info, info_at, unscaled_view, TellsPlain, TellsNotPlain}
 use Rattle.jpg_pnm_bmp.specs.declared.read.numbers.Numbers.{Numbers}
 use Rattle.jpg_pnm_bmp.specs.declared.read.numbers.Numbers.TheVariants.{Nothing, Width, Sides, All}
 use Rattle.jpg_pnm_bmp.specs.declared.read.pixels.PixelReader.{PixelReader}
@@ -142,7 +142,7 @@ told_numbers format (All w h m) info e = by (m == 255) refl e
 
 told_body : (w : Work) (info : ImageInfo) (bytes : List ℕ) → unscaled_info w.format w.numbers ≡ Some info → in_body (pnm_head w) w.samples ≡ run at_start bytes → AreBytes bytes → HasFedSamples info bytes w.samples
 told_body w info bytes t e all =
-    let i : InBody bytes (pnm_head w) w.samples = subst (StandsForImage bytes) (sym e) (stands bytes) in
+    let i : InBody bytes (pnm_head w) w.samples = subst (RepresentsImage bytes) (sym e) (stands bytes) in
     let n = told_numbers w.format w.numbers info t in
     record {
       format = w.format;
@@ -156,7 +156,7 @@ told_body w info bytes t e all =
       bytes_all = all;
     }
 
-pub told_plain : (r : PixelReader) (info : ImageInfo) → unscaled_told r.work ≡ Some info → TellsPlain r info
+pub told_plain : (r : PixelReader) (info : ImageInfo) → unscaled_view r.work ≡ Some info → TellsPlain r info
 told_plain r info t = λ bytes h. by r.work.stage t bytes h.3.stands h.2
   where
     by : (st : Stage) → info_at st r.work ≡ Some info → (bytes : List ℕ) → standing_of st r.work ≡ run at_start bytes → AreBytes bytes → HasFedSamples info bytes r.work.samples
@@ -182,7 +182,7 @@ clash_numbers format (All w h m) e g = by (m == 255) refl e
 same_numbers : (h g : ℕ) (xs ys body given : List ℕ) → in_body (pnm h xs) body ≡ in_body (pnm g ys) given → xs ≡ ys
 same_numbers h g xs ys body given e = cc
 
-pub told_not_plain : (r : PixelReader) → unscaled_told r.work ≡ None → TellsNotPlain r
+pub told_not_plain : (r : PixelReader) → unscaled_view r.work ≡ None → TellsNotPlain r
 told_not_plain r t = λ bytes given info h f. by r.work.stage t (h.3.stands ∙ fed_run info bytes given f) f.greatest
   where
     by : (st : Stage) → info_at st r.work ≡ None → {format : ℕ} → {numbers given : List ℕ} → standing_of st r.work ≡ in_body (pnm format numbers) given → greatest_sample numbers ≡ 255 → ⊥
@@ -195,11 +195,11 @@ told_not_plain r t = λ bytes given info h f. by r.work.stage t (h.3.stands ∙ 
     by stage.PnmBody e {format} {numbers} {given} s g = clash_numbers r.work.format r.work.numbers e (ap greatest_sample (same_numbers r.work.format format (list_of r.work.numbers []) numbers r.work.samples given s) ∙ g)
     by stage.BmpBody e s g = cc
 
-pub tells_plain : (r : PixelReader) (o : Option ImageInfo) → o ≡ unscaled_told r.work → IfSome o (TellsPlain r)
+pub tells_plain : (r : PixelReader) (o : Option ImageInfo) → o ≡ unscaled_view r.work → IfSome o (TellsPlain r)
 tells_plain r None e = cc
 tells_plain r (Some info) e = told_plain r info (sym e)
 
-pub tells_not_plain : (r : PixelReader) (o : Option ImageInfo) → o ≡ unscaled_told r.work → IfNone o (TellsNotPlain r)
+pub tells_not_plain : (r : PixelReader) (o : Option ImageInfo) → o ≡ unscaled_view r.work → IfNone o (TellsNotPlain r)
 tells_not_plain r None e = told_not_plain r (sym e)
 tells_not_plain r (Some info) e = cc
 

@@ -53,8 +53,8 @@ by_kind : (kind : ImageKind) (info : ImageInfo) → 1 ≤ info.width → 1 ≤ r
 by_kind Gray info h = h
 by_kind Rgb info h = omega (arith, h)
 
-pub row_some : (info : ImageInfo) → 1 ≤ info.height → info.height ≤ 65500 * info.width → 1 ≤ row_bytes info
-row_some info high wide = by_kind info.kind info (omega (arith, high, wide))
+pub take_in_row : (info : ImageInfo) → 1 ≤ info.height → info.height ≤ 65500 * info.width → 1 ≤ row_bytes info
+take_in_row info high wide = by_kind info.kind info (omega (arith, high, wide))
 
 turned_some : (row : List ℕ) → 1 ≤ length row → 1 ≤ length (turned_round row)
 turned_some [] h = h
@@ -86,4 +86,4 @@ pub part_some : (of : Option ImageInfo) (taken parts : ℕ) (bytes : List ℕ) �
 part_some of taken zero bytes whole few wide before = bmp_header_some (info_given of)
 part_some of taken (suc part) bytes whole few wide before =
     let most : suc part ≤ taken = not_done taken (suc part) before in
-    row_due (info_given of) taken part bytes (omega (arith, most)) whole (row_some (info_given of) (omega (arith, most, few)) wide)
+    row_due (info_given of) taken part bytes (omega (arith, most)) whole (take_in_row (info_given of) (omega (arith, most, few)) wide)

@@ -5,7 +5,7 @@ use Rattle.std.proofs.lemmas.Bool.{cases_lt}
 use Rattle.std.proofs.lemmas.Bool.Decides.{nat_tests}
 use Rattle.std.proofs.lemmas.List.{length-append, length-take-le, take_more, take_all}
 use Rattle.std.proofs.lemmas.Nat.{mod-mul-add, div-add-mod'}
-use Rattle.jpg_spec.proofs.Common.{and_intro, lt_yes, lt_no}
+use Rattle.jpg_spec.proofs.Basics.Common.{and_intro, lt_yes, lt_no}
 use Rattle.jpg_spec_image.specs.Images.{Body, is_wrong, are_right}
 use Rattle.jpg_spec_image.specs.ImageFaults.{ImageHead, body_of, image_of}
 use Rattle.jpg_spec_image.specs.ImageSteps.{ImageState, in_body, whole, failed, step, run, body_so_far}

@@ -78,8 +78,8 @@ info_at stage.PnmBody w = unscaled_info w.format w.numbers
 info_at stage.BmpBody w = None
 
 -- where the state is that of a body
-abbrev pub unscaled_told : Work → Option ImageInfo
-unscaled_told w = info_at w.stage w
+abbrev pub unscaled_view : Work → Option ImageInfo
+unscaled_view w = info_at w.stage w
 
 -- THE ANSWERS of a reader, for all that was fed to it
 

@@ -9,10 +9,10 @@ use Rattle.jpg_spec.specs.Markers.{SpellsMarker, is_within}
 use Rattle.jpg_spec.specs.Items.{SpellsIntervalsText}
 use Rattle.jpg_spec.specs.FirstFault.{HoldsAll}
 use Rattle.jpg_spec.specs.declared.frame.Place.{Place}
-use Rattle.jpg_spec.proofs.Common.{heads}
-use Rattle.jpg_spec.proofs.MarkersOnce.{no_head}
-use Rattle.jpg_spec.proofs.ScanSteps.{fill_more}
-use Rattle.jpg_spec.proofs.ScansOnce.{CutInterval, cut_interval, join_interval}
+use Rattle.jpg_spec.proofs.Basics.Common.{heads}
+use Rattle.jpg_spec.proofs.Segments.MarkersOnce.{no_head}
+use Rattle.jpg_spec.proofs.Files.ScanSteps.{fill_more}
+use Rattle.jpg_spec.proofs.Files.ScansOnce.{CutInterval, cut_interval, join_interval}
 
 -- THE LAST ONE of a list
 

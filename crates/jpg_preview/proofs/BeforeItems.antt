@@ -14,10 +14,10 @@ use Rattle.jpg_spec.specs.FirstFault.{AfterItems, HoldsAll}
 use Rattle.jpg_spec.specs.UnfinishedFile.{PartOfItem}
 use Rattle.jpg_spec.specs.ScanReading.{LeadingMarker, ScanAt, ScanPlace, scan_at, scan_item}
 use Rattle.jpg_spec.specs.declared.frame.Limits.{Limits}
-use Rattle.jpg_spec.proofs.Common.{clash}
-use Rattle.jpg_spec.proofs.ItemsOnce.{end_holds, ends_at}
-use Rattle.jpg_spec.proofs.MarkersOnce.{no_head}
-use Rattle.jpg_spec.proofs.ScanSteps.{fill_more}
+use Rattle.jpg_spec.proofs.Basics.Common.{clash}
+use Rattle.jpg_spec.proofs.Files.ItemsOnce.{end_holds, ends_at}
+use Rattle.jpg_spec.proofs.Segments.MarkersOnce.{no_head}
+use Rattle.jpg_spec.proofs.Files.ScanSteps.{fill_more}
 use Rattle.jpg_preview.specs.Counting.{EndsBetween, EndsInData}
 use Rattle.jpg_preview.proofs.BeforeData.{one_last, none_last, last_cut, last_fill, TextBefore, plain, stuffed, restarted, text_before, holds_before}
 

@@ -10,13 +10,13 @@ use Rattle.jpg_spec.specs.Items.{Item, segments_of, ends_in_scan}
 use Rattle.jpg_spec.specs.UnfinishedFile.{PartOfItem}
 use Rattle.jpg_spec.specs.ScanReading.{ScanPlace, scan_item}
 use Rattle.jpg_spec.specs.declared.fault.Fault.TheVariants.{UnexpectedMarker}
-use Rattle.jpg_spec.proofs.Common.{clash}
-use Rattle.jpg_spec.proofs.ItemSteps.{fill_begin, same_tail}
-use Rattle.jpg_spec.proofs.MarkersOnce.{fill_no_marker, marker_once, no_head}
-use Rattle.jpg_spec.proofs.Reached.{reached_once}
+use Rattle.jpg_spec.proofs.Basics.Common.{clash}
+use Rattle.jpg_spec.proofs.Files.ItemSteps.{fill_begin, same_tail}
+use Rattle.jpg_spec.proofs.Segments.MarkersOnce.{fill_no_marker, marker_once, no_head}
+use Rattle.jpg_spec.proofs.Segments.Reached.{reached_once}
 use Rattle.jpg_base.specs.declared.stop.Stop.{Stop}
 use Rattle.jpg_base.specs.declared.stop.Stop.TheVariants as stop
-use Rattle.jpg_markers.specs.Reading.{AtPhase, Comes, ComesWith, IsBetween, NotWanting, PartRead, Reading, StandsForSegments}
+use Rattle.jpg_markers.specs.Reading.{AtPhase, Comes, ComesWith, IsBetween, HasMemory, PartRead, Reading, RepresentsSegments}
 use Rattle.jpg_markers.specs.declared.segments.Phase.{Phase}
 use Rattle.jpg_markers.specs.declared.segments.Phase.TheVariants as phase
 use Rattle.jpg_markers.specs.declared.segments.SegStep.{SegStep}
@@ -145,7 +145,7 @@ module _ (old new : Count) (byte : ℕ) (x : Passed) (w : DataByte old byte x ne
         inside = w.still;
         due = w.due ∙ k.due ∙ ap (λ l. scans - scans_in l) same.items;
         segments =
-            subst (λ r. (sent : List ℕ) × StandsForSegments sent ((0xda, p.contents) ∷ segments_of p.items) r × Between (kept_rule old.limits) sent ((0xda, p.contents) ∷ segments_of p.items) []) (sym w.reading)
+            subst (λ r. (sent : List ℕ) × RepresentsSegments sent ((0xda, p.contents) ∷ segments_of p.items) r × Between (kept_rule old.limits) sent ((0xda, p.contents) ∷ segments_of p.items) []) (sym w.reading)
             (subst (λ l. HoldsSegments old.limits ((0xda, p.contents) ∷ segments_of l) [] old) same.items (subst (λ c. HoldsSegments old.limits ((0xda, c) ∷ segments_of q.items) [] old) same.contents k.segments));
         waits = waits;
       }
@@ -185,20 +185,20 @@ pub record EndByte (old : Count) (byte : ℕ) (answer : Result SegStep Stop) (ne
   pub code : IsMarkerCode byte
   pub other : is_within 0xd0 0xd7 byte ≡ false
   pub comes : ComesWith old.reading (255 ∷ byte ∷ []) answer new.reading
-  pub answered : NotWanting answer
+  pub answered : HasMemory answer
   pub bounded : new.reading.limits ≡ old.limits
   pub taken : new.taken ≡ old.taken + 1
   pub due : new.due ≡ old.due - 1
   pub outside : new.inside ≡ false
 
-part_stands : (sent : List ℕ) (before : List Segment) (answer : Result SegStep Stop) (r : Reading) → Comes sent before answer r → NotWanting answer → ReachesPart (kept_rule r.limits) sent → StandsForSegments sent before r
+part_stands : (sent : List ℕ) (before : List Segment) (answer : Result SegStep Stop) (r : Reading) → Comes sent before answer r → HasMemory answer → ReachesPart (kept_rule r.limits) sent → RepresentsSegments sent before r
 part_stands sent before answer r k n p = by answer k n
   where
     apart : (x : Reached) → Reaches (kept_rule r.limits) sent x → (x ≡ at_part → ⊥) → (x ≡ at_frame → ⊥) → ReachesPart (kept_rule r.limits) sent → ⊥
     apart x s wrong worse (part t) = wrong (reached_once (kept_rule r.limits) sent x at_part s t)
     apart x s wrong worse (frame t) = worse (reached_once (kept_rule r.limits) sent x at_frame s t)
 
-    by : (answer : Result SegStep Stop) → Comes sent before answer r → NotWanting answer → StandsForSegments sent before r
+    by : (answer : Result SegStep Stop) → Comes sent before answer r → HasMemory answer → RepresentsSegments sent before r
     by (Ok step.More) k n = k.1
     by (Ok step.Start) k n = k.1
     by (Ok step.Frame) k n = k.1
@@ -224,8 +224,8 @@ fill_read r phase.Contents before t fill some k =
     (replicate fill 255 ++ k.0, k.1, k.2, fill_begin fill before r.code k.0 k.3, filled_behind fill t k.0 (k.1 ∷ k.2 ∷ r.contents) k.4, k.5, k.6, k.7, k.8)
 fill_read r phase.Ended before t fill some k = k
 
-fill_stands : (r : Reading) (sent t : List ℕ) (s : Segment) (before : List Segment) (fill : ℕ) → (t ≡ [] → ⊥) → Between (kept_rule r.limits) sent (s ∷ before) [] → StandsForSegments (sent ++ t) (s ∷ before) r
-    → StandsForSegments (sent ++ (replicate fill 255 ++ t)) (s ∷ before) r
+fill_stands : (r : Reading) (sent t : List ℕ) (s : Segment) (before : List Segment) (fill : ℕ) → (t ≡ [] → ⊥) → Between (kept_rule r.limits) sent (s ∷ before) [] → RepresentsSegments (sent ++ t) (s ∷ before) r
+    → RepresentsSegments (sent ++ (replicate fill 255 ++ t)) (s ∷ before) r
 fill_stands r sent t s before fill some w k = (k.0, by r.phase k.1)
   where
     all : List Segment

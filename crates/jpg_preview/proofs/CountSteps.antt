@@ -8,14 +8,14 @@ use Rattle.jpg_spec.specs.UnfinishedFile.{PartOfItem}
 use Rattle.jpg_spec.specs.ScanReading.{ScanPlace}
 use Rattle.jpg_spec.specs.declared.fault.Fault.{Fault}
 use Rattle.jpg_spec.specs.declared.frame.Limits.{Limits}
-use Rattle.jpg_spec.proofs.Common.{clash, not_same}
-use Rattle.jpg_spec.proofs.HeadersOnce.{after_front}
-use Rattle.jpg_spec.proofs.ItemSteps.{kept_is_rule}
-use Rattle.jpg_spec.proofs.MarkersOnce.{no_head}
-use Rattle.jpg_spec.proofs.Reached.{reached_once}
+use Rattle.jpg_spec.proofs.Basics.Common.{clash, not_same}
+use Rattle.jpg_spec.proofs.Headers.HeadersOnce.{after_front}
+use Rattle.jpg_spec.proofs.Files.ItemSteps.{kept_is_rule}
+use Rattle.jpg_spec.proofs.Segments.MarkersOnce.{no_head}
+use Rattle.jpg_spec.proofs.Segments.Reached.{reached_once}
 use Rattle.jpg_base.specs.declared.stop.Stop.{Stop}
 use Rattle.jpg_base.specs.declared.stop.Stop.TheVariants as stop
-use Rattle.jpg_markers.specs.Reading.{Comes, ComesWith, StandsForSegments}
+use Rattle.jpg_markers.specs.Reading.{Comes, ComesWith, RepresentsSegments}
 use Rattle.jpg_markers.specs.declared.segments.SegStep.{SegStep}
 use Rattle.jpg_markers.specs.declared.segments.SegStep.TheVariants as step
 use Rattle.jpg_preview.specs.declared.counter.Counted.TheVariants as counted
@@ -40,10 +40,10 @@ now_by a b c e k = subst (λ x. NowInside x c) (sym e) k
 
 -- a result with which the segments go on
 abbrev pub HoldsReached : List ℕ → List Segment → Count → Reached → Type 0
-HoldsReached sent before c at_soi = StandsForSegments sent before c.reading × (c.inside ≡ false)
-HoldsReached sent before c at_frame = StandsForSegments sent before c.reading × (c.inside ≡ false)
-HoldsReached sent before c at_part = StandsForSegments sent before c.reading × (c.inside ≡ false)
-HoldsReached sent before c (at_segment s) = StandsForSegments sent (s ∷ before) c.reading × (c.inside ≡ (s.0 == 0xda))
+HoldsReached sent before c at_soi = RepresentsSegments sent before c.reading × (c.inside ≡ false)
+HoldsReached sent before c at_frame = RepresentsSegments sent before c.reading × (c.inside ≡ false)
+HoldsReached sent before c at_part = RepresentsSegments sent before c.reading × (c.inside ≡ false)
+HoldsReached sent before c (at_segment s) = RepresentsSegments sent (s ∷ before) c.reading × (c.inside ≡ (s.0 == 0xda))
 HoldsReached sent before c at_eoi = Unit {0}
 HoldsReached sent before c (at_fault f) = Unit {0}
 
@@ -71,7 +71,7 @@ part_reached rule sent items tail w (inl k) some = by (is_frame_code k.0) refl
 part_reached rule sent items tail w (inr k) some = part (inr (segments_of items, tail, w, k, some))
 
 part_holds : (sent : List ℕ) (before : List Segment) (answer : Result SegStep Stop) (c : Count) → Comes sent before answer c.reading → NowInside answer c → ReachesPart (kept_rule c.reading.limits) sent
-    → StandsForSegments sent before c.reading × (c.inside ≡ false)
+    → RepresentsSegments sent before c.reading × (c.inside ≡ false)
 part_holds sent before answer c k now (part r) = reached_by sent before answer c at_part k now r
 part_holds sent before answer c k now (frame r) = reached_by sent before answer c at_frame k now r
 
@@ -121,10 +121,10 @@ module _ (old new : Count) (byte : ℕ) (answer : Result SegStep Stop) (w : Outs
   not_inside : (q : ScanPlace) (n : ℕ) → EndsInData old.limits bytes q n → ⊥
   not_inside q n d = clash old.inside (v.inside q n d).inside w.outside
 
-  comes_to : (sent : List ℕ) (before : List Segment) (x : Reached) → StandsForSegments sent before old.reading → Reaches (kept_rule old.limits) (sent ++ byte ∷ []) x → HoldsReached (sent ++ byte ∷ []) before new x
+  comes_to : (sent : List ℕ) (before : List Segment) (x : Reached) → RepresentsSegments sent before old.reading → Reaches (kept_rule old.limits) (sent ++ byte ∷ []) x → HoldsReached (sent ++ byte ∷ []) before new x
   comes_to sent before x s r = reached_by (sent ++ byte ∷ []) before answer new x (w.comes sent before s) w.now (subst (λ l. Reaches (kept_rule l) (sent ++ byte ∷ []) x) (sym w.bounded) r)
 
-  comes_on : (sent : List ℕ) (before : List Segment) → StandsForSegments sent before old.reading → ReachesPart (kept_rule old.limits) (sent ++ byte ∷ []) → StandsForSegments (sent ++ byte ∷ []) before new.reading × (new.inside ≡ false)
+  comes_on : (sent : List ℕ) (before : List Segment) → RepresentsSegments sent before old.reading → ReachesPart (kept_rule old.limits) (sent ++ byte ∷ []) → RepresentsSegments (sent ++ byte ∷ []) before new.reading × (new.inside ≡ false)
   comes_on sent before s r = part_holds (sent ++ byte ∷ []) before answer new (w.comes sent before s) w.now (subst (λ l. ReachesPart (kept_rule l) (sent ++ byte ∷ [])) (sym w.bounded) r)
 
   outside_start : (bytes ++ byte ∷ [] ≡ []) ⊎ (bytes ++ byte ∷ [] ≡ 255 ∷ []) → CountsStart scans (bytes ++ byte ∷ []) new
@@ -191,7 +191,7 @@ pub outside_counts : (old new : Count) (byte : ℕ) (answer : Result SegStep Sto
 outside_counts old new byte answer w = λ scans bytes v. outside_all old new byte answer w scans bytes v
 
 -- BEFORE ANY BYTE
-pub none_counted : (most : Limits) (scans : ℕ) (c : Count) → c.inside ≡ false → c.due ≡ scans → c.taken ≡ 0 → StandsForSegments [] [] c.reading → CountsScans most scans [] c
+pub none_counted : (most : Limits) (scans : ℕ) (c : Count) → c.inside ≡ false → c.due ≡ scans → c.taken ≡ 0 → RepresentsSegments [] [] c.reading → CountsScans most scans [] c
 none_counted most scans c outside due taken s = record {
   taken = taken;
   start = λ e. record { outside = outside; due = due; segments = s };

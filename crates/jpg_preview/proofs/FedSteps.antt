@@ -5,8 +5,8 @@ use Rattle.std.proofs.lemmas.Bool.{cases_lt}
 use Rattle.std.proofs.lemmas.List.{length-take-le}
 use Rattle.jpg_spec.specs.FirstFault.{HaveBegun, IsFirstFault}
 use Rattle.jpg_spec.specs.UnfinishedFile.{UnfinishedFile}
-use Rattle.jpg_spec.proofs.Common.{clash, same_of}
-use Rattle.jpg_spec.proofs.FileLaws.{early_no_fault, stands_early}
+use Rattle.jpg_spec.proofs.Basics.Common.{clash, same_of}
+use Rattle.jpg_spec.proofs.Files.FileLaws.{early_no_fault, stands_early}
 use Rattle.jpg_base.specs.declared.stop.Fed.{Fed}
 use Rattle.jpg_base.specs.declared.stop.Fed.TheVariants as fed
 use Rattle.jpg_base.specs.declared.stop.Stop.{Stop}

@@ -10,9 +10,9 @@ use Rattle.jpg_spec.specs.FileMeaning.{Means}
 use Rattle.jpg_spec.specs.FirstFault.{AfterItems}
 use Rattle.jpg_spec.specs.declared.fault.Fault.{Fault}
 use Rattle.jpg_spec.specs.declared.frame.Limits.{Limits}
-use Rattle.jpg_spec.proofs.Common.{clash, same_of}
-use Rattle.jpg_spec.proofs.FilesOnce.{ends_apart, items_end_once}
-use Rattle.jpg_spec.proofs.TailsOnce.{Ends}
+use Rattle.jpg_spec.proofs.Basics.Common.{clash, same_of}
+use Rattle.jpg_spec.proofs.Files.FilesOnce.{ends_apart, items_end_once}
+use Rattle.jpg_spec.proofs.Files.TailsOnce.{Ends}
 use Rattle.jpg_spec_image.specs.Front.{EndsNotBefore, EndsScan, IsFront, scans_in}
 use Rattle.jpg_spec_image.proofs.Fronts.{none_after}
 use Rattle.jpg_file.specs.Read.ReadFile.{IsDone, IsEarlyEnd, ReaderState}

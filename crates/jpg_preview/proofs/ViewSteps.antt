@@ -16,11 +16,11 @@ use Rattle.jpg_spec.specs.ScanReading.{LeadingMarker, ScanAt, ScanPlace}
 use Rattle.jpg_spec.specs.declared.fault.Fault.{Fault}
 use Rattle.jpg_spec.specs.declared.fault.FaultAt.{FaultAt}
 use Rattle.jpg_spec.specs.declared.frame.Limits.{Limits}
-use Rattle.jpg_spec.proofs.Common.{clash, heads, same_of}
-use Rattle.jpg_spec.proofs.EarlyBegun.{begun_behind}
-use Rattle.jpg_spec.proofs.FileLaws.{shown_not_standing, whole_not_standing}
-use Rattle.jpg_spec.proofs.HeadersOnce.{after_front}
-use Rattle.jpg_spec.proofs.MarkersOnce.{no_head}
+use Rattle.jpg_spec.proofs.Basics.Common.{clash, heads, same_of}
+use Rattle.jpg_spec.proofs.EndsEarly.EarlyBegun.{begun_behind}
+use Rattle.jpg_spec.proofs.Files.FileLaws.{shown_not_standing, whole_not_standing}
+use Rattle.jpg_spec.proofs.Headers.HeadersOnce.{after_front}
+use Rattle.jpg_spec.proofs.Segments.MarkersOnce.{no_head}
 use Rattle.jpg_spec_image.specs.Front.{BeginsWith, EndsNotBefore, EndsScan, IsFront}
 use Rattle.jpg_spec_image.proofs.Fronts.{fault_inside}
 use Rattle.jpg_file.specs.Read.File.{IsStop}

@@ -9,7 +9,7 @@ use Rattle.jpg_spec.specs.UnfinishedFile.{PartOfItem}
 use Rattle.jpg_spec.specs.ScanReading.{LeadingMarker, ScanAt, ScanPlace}
 use Rattle.jpg_spec.specs.declared.frame.Limits.{Limits}
 use Rattle.jpg_spec_image.specs.Front.{scans_in}
-use Rattle.jpg_markers.specs.Reading.{IsAfterScan, Reading, StandsForSegments, reading_of}
+use Rattle.jpg_markers.specs.Reading.{IsAfterScan, Reading, RepresentsSegments, reading_of}
 use Rattle.jpg_preview.specs.declared.counter.Counted.{Counted}
 use Rattle.jpg_preview.specs.declared.counter.Counted.TheVariants as counted
 use Rattle.jpg_preview.specs.declared.counter.Found.{Found}
@@ -54,7 +54,7 @@ EndsInData limits bytes p fill = ScanAt limits bytes p (replicate fill 255)
 -- WHAT THE COUNTER KEEPS there: its reader of segments was given the same segments
 
 abbrev pub HoldsSegments : Limits → List Segment → List ℕ → Count → Type 0
-HoldsSegments limits before tail c = (sent : List ℕ) × StandsForSegments sent before c.reading × Between (kept_rule limits) sent before tail
+HoldsSegments limits before tail c = (sent : List ℕ) × RepresentsSegments sent before c.reading × Between (kept_rule limits) sent before tail
 
 pub record CountsBetween (limits : Limits) (scans : ℕ) (items : List Item) (tail : List ℕ) (c : Count) : Type 0 where
   pub outside : c.inside ≡ false
@@ -71,7 +71,7 @@ pub record CountsInData (limits : Limits) (scans : ℕ) (p : ScanPlace) (fill : 
 pub record CountsStart (scans : ℕ) (bytes : List ℕ) (c : Count) : Type 0 where
   pub outside : c.inside ≡ false
   pub due : c.due ≡ scans
-  pub segments : StandsForSegments bytes [] c.reading
+  pub segments : RepresentsSegments bytes [] c.reading
 
 -- The counter of so many scans was given these bytes.
 pub record CountsScans (limits : Limits) (scans : ℕ) (bytes : List ℕ) (c : Count) : Type 0 where

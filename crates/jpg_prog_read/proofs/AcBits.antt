@@ -16,7 +16,7 @@ use Rattle.jpg_prog_read.specs.declared.band.BandStep.TheVariants.{More, Done, F
 use Rattle.jpg_prog_read.specs.InWork.{InWork}
 use Rattle.jpg_prog_read.specs.ReaderSteps.{StaysOpen}
 use Rattle.jpg_prog_read.specs.BandBits.{BandGoesOn, Through, EndsAt, TakesBand}
-use Rattle.jpg_prog_read.specs.AcStands.{AcStands, IsInUnit, HasWhole, BandsGoOn, Settles, progressive_ac, with_unit_of}
+use Rattle.jpg_prog_read.specs.RepresentsAcScan.{RepresentsAcScan, IsInUnit, HasWhole, BandsGoOn, Settles, progressive_ac, with_unit_of}
 use Rattle.jpg_prog_read.specs.BitsTaken.{HurriesOn}
 use Rattle.jpg_prog_read.proofs.AcUnits.{unit_read, in_unit_of}
 use Rattle.jpg_prog_read.proofs.Takings.{HurriesTo}
@@ -31,7 +31,7 @@ chain_within m [] t now e x = (ap (λ (s : InWork). with_unit_of m s) x, refl)
 chain_within m (bit ∷ bits) t now e x = (with_unit_of m x.0, now, step_within m bit x.0 now e x.1, chain_within (with_unit_of m x.0) bits t now e x.2)
 
 -- the current unit after them
-pub in_unit_after : (m : AcReader) (bits : List Bool) (t : InWork) (now : Picture) (i : Interval) (so_far : List Bool) → m.fresh ≡ false → Through m.scan m.codes m.left m.unit bits t → AcStands m i so_far now → IsInUnit (with_unit_of m t) i (so_far ++ bits) now
+pub in_unit_after : (m : AcReader) (bits : List Bool) (t : InWork) (now : Picture) (i : Interval) (so_far : List Bool) → m.fresh ≡ false → Through m.scan m.codes m.left m.unit bits t → RepresentsAcScan m i so_far now → IsInUnit (with_unit_of m t) i (so_far ++ bits) now
 in_unit_after m bits t now i so_far e x s = in_unit_of (with_unit_of m t) i (so_far ++ bits) now e (chain_stands progressive_ac m (with_unit_of m t) now now i so_far bits (chain_within m bits t now e x) s)
 
 -- the last one of them
@@ -46,7 +46,7 @@ done_step m bits new now answer next after e o x goes = λ i so_far s. goes i (s
 
 -- after a unit that is complete
 pub whole_after : (m n : AcReader) (bits : List Bool) (now : Picture) (i : Interval) (so_far : List Bool) → m.fresh ≡ false → n ≡ with_unit_of m n.unit
-    → StaysOpen m.scan Done n.unit → EndsAt m.scan m.codes m.left m.unit bits Done n.unit → AcStands m i so_far now
+    → StaysOpen m.scan Done n.unit → EndsAt m.scan m.codes m.left m.unit bits Done n.unit → RepresentsAcScan m i so_far now
     → (whole : List Bool) × HasWhole n i whole now
 whole_after m n bits now i so_far e same o x s =
     let last = in_unit_after m x.front x.mid now i so_far e x.through s in

@@ -10,7 +10,7 @@ use Rattle.jpg_prog_read.specs.declared.ac_reader.AcReader.{AcReader}
 use Rattle.jpg_prog_read.specs.declared.stage.Stage.{Stage}
 use Rattle.jpg_prog_read.specs.declared.stage.Stage.TheVariants as stage
 use Rattle.jpg_prog_read.specs.Stands.{BetweenUnits, unit_left}
-use Rattle.jpg_prog_read.specs.AcStands.{units_at, place_of, AcStands, progressive_ac}
+use Rattle.jpg_prog_read.specs.RepresentsAcScan.{units_at, place_of, RepresentsAcScan, progressive_ac}
 use Rattle.jpg_prog_read.proofs.Due.{band_due, next_due}
 
 not_ends : (g : Stage) → g ≡ stage.Code → g ≡ stage.Ends → ⊥
@@ -23,7 +23,7 @@ next_stands m i bits whole [] code some between = absurd (omega (arith, some))
 next_stands m i bits whole (p ∷ more) code some between =
     next_due m.unit i.scan.coding (units_of i) whole (unit_at i.scan (map_of i.before) p) (units_at i more) bits (λ e. absurd (not_ends m.unit.stage code e)) between
 
-unfinished : (m : AcReader) (i : Interval) (bits : List Bool) (now : Picture) → AcStands m i bits now → IsUnfinished i bits now m.left
+unfinished : (m : AcReader) (i : Interval) (bits : List Bool) (now : Picture) → RepresentsAcScan m i bits now → IsUnfinished i bits now m.left
 unfinished m i bits now (inl b) =
     let w = b.between in
     let d = w.has_due in
@@ -61,6 +61,6 @@ unfinished m i bits now (inr u) =
 pub keeps_units : KeepsUnits AcReader progressive_ac
 keeps_units = record { unfinished = unfinished; fits = fits }
   where
-    fits : (m : AcReader) (i : Interval) (bits : List Bool) (now : Picture) → AcStands m i bits now → progressive_ac.fits i
+    fits : (m : AcReader) (i : Interval) (bits : List Bool) (now : Picture) → RepresentsAcScan m i bits now → progressive_ac.fits i
     fits m i bits now (inl b) = ((b.between).has_due).kind
     fits m i bits now (inr u) = (u.has_due).kind

@@ -6,11 +6,11 @@ use Rattle.jpg_spec.specs.Lists.{any_of}
 use Rattle.jpg_spec.specs.Scan.{Blocks, Scan, band, block_at}
 use Rattle.jpg_spec.specs.PictureInWork.{is_at, AreDistinct}
 use Rattle.jpg_spec.specs.declared.frame.Place.{Place}
-use Rattle.jpg_spec.proofs.PictureInWork.{AreApart, apart_of, apart_swap}
-use Rattle.jpg_spec.proofs.Rows.{all_back}
+use Rattle.jpg_spec.proofs.Places.PictureInWork.{AreApart, apart_of, apart_swap}
+use Rattle.jpg_spec.proofs.Basics.Rows.{all_back}
 use Rattle.jpg_coefs.specs.Picture.{Picture, map_of}
 use Rattle.jpg_coefs.specs.Machine.{Interval}
-use Rattle.jpg_prog_read.specs.AcStands.{HasCorrectionRoom, BandHasRoom, IsAcInterval, NextIsAc}
+use Rattle.jpg_prog_read.specs.RepresentsAcScan.{HasCorrectionRoom, BandHasRoom, IsAcInterval, NextIsAc}
 
 room_kept : (s : Scan) (old new : Blocks) (places later : List Place) → ((i x y : ℕ) → any_of (is_at i x y) places ≡ false → new i x y ≡ old i x y) → AreApart later places → All (BandHasRoom s old) later → All (BandHasRoom s new) later
 room_kept s old new places [] same apart room = All-nil (BandHasRoom s new)

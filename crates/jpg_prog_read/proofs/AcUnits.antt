@@ -13,11 +13,11 @@ use Rattle.jpg_spec.specs.Parts.{band_unit}
 use Rattle.jpg_spec.specs.Scan.{Blocks, Scan, band, block_at, unit_at}
 use Rattle.jpg_spec.specs.PictureInWork.{is_at, is_in_band, AreDistinct, UnitsRead}
 use Rattle.jpg_spec.specs.declared.frame.Place.{Place}
-use Rattle.jpg_spec.proofs.Common.{not_same, some_once, clash}
-use Rattle.jpg_spec.proofs.Once.{no_units}
-use Rattle.jpg_spec.proofs.PictureInWork.{apart_of, apart_swap, distinct_behind}
-use Rattle.jpg_spec.proofs.Rows.{all_back}
-use Rattle.jpg_spec.proofs.UnitsRead.{units_first, units_next, units_last}
+use Rattle.jpg_spec.proofs.Basics.Common.{not_same, some_once, clash}
+use Rattle.jpg_spec.proofs.Bits.Once.{no_units}
+use Rattle.jpg_spec.proofs.Places.PictureInWork.{apart_of, apart_swap, distinct_behind}
+use Rattle.jpg_spec.proofs.Basics.Rows.{all_back}
+use Rattle.jpg_spec.proofs.Bits.UnitsRead.{units_first, units_next, units_last}
 use Rattle.jpg_base.specs.Cursor.{IsPadded}
 use Rattle.jpg_coefs.specs.Picture.{Picture, map_of, block_in, with_block, put_at, HasPlace, KeepsOutside}
 use Rattle.jpg_coefs.specs.Machine.{Interval, units_of, Follows, IsWholeInterval}
@@ -32,7 +32,7 @@ use Rattle.jpg_prog_read.specs.declared.band.BandStep.TheVariants.{More, Done, F
 use Rattle.jpg_prog_read.specs.InWork.{InWork, IsBeforeUnits, IsWholeUnit, IsEnd, IsRefinable, AreRefinable, band_values}
 use Rattle.jpg_prog_read.specs.ReaderSteps.{IsSaneBand, StaysOpen, KeepsOtherValues}
 use Rattle.jpg_prog_read.specs.Stands.{IsCodingOf, BetweenUnits, IsRest, Answered, AnswersBit, AnswersBand, BeginsQuietly, IsNoFault}
-use Rattle.jpg_prog_read.specs.AcStands.{HasCorrectionRoom, BandHasRoom, IsAcInterval, ReadsBy, IsReadable, units_at, HasDue, place_of, IsOfBlock, IsInUnit, HasWhole, IsBetweenUnits, IsBefore, AcStands, AcReady, UnitAnswered}
+use Rattle.jpg_prog_read.specs.RepresentsAcScan.{HasCorrectionRoom, BandHasRoom, IsAcInterval, ReadsBy, IsReadable, units_at, HasDue, place_of, IsOfBlock, IsInUnit, HasWhole, IsBetweenUnits, IsBefore, RepresentsAcScan, AcReady, UnitAnswered}
 
 -- THE UNIT AT A PLACE
 
@@ -303,7 +303,7 @@ fresh_between : (c : Coding) (units : List UnitLeft) (s : InWork) → IsBeforeUn
 fresh_between c units s f =
     record { elements = []; before = []; front = []; mid = at_start units; here = []; part = []; covers = (refl, refl, refl); split = refl; same = refl; in_bounds = refl; quiet = f.quiet; is_rest = subst (λ g. IsRest c (at_start units) units [] [] s g) (sym f.code) (refl, refl, refl) }
 
-pub begins : (m : AcReader) (n : InWork) (i : Interval) (units : ℕ) → AcReady m i → length i.places ≡ units → 1 ≤ units → IsBeforeUnits n → AcStands (record m { unit = n; left = units; fresh = true }) i [] i.before
+pub begins : (m : AcReader) (n : InWork) (i : Interval) (units : ℕ) → AcReady m i → length i.places ≡ units → 1 ≤ units → IsBeforeUnits n → RepresentsAcScan (record m { unit = n; left = units; fresh = true }) i [] i.before
 begins m n i units r count some f =
     inl
     (record {
@@ -332,17 +332,17 @@ begins m n i units r count some f =
 
 -- THE FIRST UNIT IS TAKEN
 
-pub before_of : (m : AcReader) (i : Interval) (bits : List Bool) (now : Picture) → m.fresh ≡ true → AcStands m i bits now → IsBefore m i bits now
+pub before_of : (m : AcReader) (i : Interval) (bits : List Bool) (now : Picture) → m.fresh ≡ true → RepresentsAcScan m i bits now → IsBefore m i bits now
 before_of m i bits now e (inl b) = b
 before_of m i bits now e (inr u) = absurd (clash m.fresh e u.begun)
 
-pub in_unit_of : (m : AcReader) (i : Interval) (bits : List Bool) (now : Picture) → m.fresh ≡ false → AcStands m i bits now → IsInUnit m i bits now
+pub in_unit_of : (m : AcReader) (i : Interval) (bits : List Bool) (now : Picture) → m.fresh ≡ false → RepresentsAcScan m i bits now → IsInUnit m i bits now
 in_unit_of m i bits now e (inl b) = absurd (clash m.fresh b.fresh e)
 in_unit_of m i bits now e (inr u) = u
 
 pub first_taken : (m : AcReader) (i : Interval) (bits : List Bool) (now : Picture) (step : BandStep) → step ≡ More → UnitAnswered m i bits now step → IsInUnit m i bits now
 first_taken m i bits now step e a = subst (λ s. UnitAnswered m i bits now s) e a
 
-pub some_left : (m : AcReader) (i : Interval) (bits : List Bool) (now : Picture) → AcStands m i bits now → 1 ≤ m.left
+pub some_left : (m : AcReader) (i : Interval) (bits : List Bool) (now : Picture) → RepresentsAcScan m i bits now → 1 ≤ m.left
 some_left m i bits now (inl b) = b.some
 some_left m i bits now (inr u) = omega (arith, (u.has_due).left)

@@ -13,7 +13,7 @@ use Rattle.jpg_prog_read.specs.declared.band.BandStep.{BandStep}
 use Rattle.jpg_prog_read.specs.declared.band.BandStep.TheVariants.{More, Done, Fault}
 use Rattle.jpg_prog_read.specs.InWork.{InWork, IsOpenBand, DoesWait}
 use Rattle.jpg_prog_read.specs.ReaderSteps.{StaysOpen, KeepsOtherValues}
-use Rattle.jpg_prog_read.specs.Stands.{StandsInBand, AnswersBit, AnswersStep}
+use Rattle.jpg_prog_read.specs.Stands.{RepresentsBandUnit, AnswersBit, AnswersStep}
 use Rattle.jpg_prog_read.specs.BandBits.{AnswersSymbol, Through, EndsAt, BandComesTo, TakesBand}
 use Rattle.jpg_prog_read.proofs.BandSteps.{code_more, number_more}
 
@@ -228,6 +228,6 @@ module _ (b : BandScan) (ac : List Code) (left : ℕ) where
         cut = refl;
         through = x;
         outside = (keeps.0 ∙ ap (λ (s : InWork). s.front) whole, keeps.1 ∙ ap (λ (s : InWork). s.behind) whole);
-        answered = λ at bits k l u. answers ac at (bits ++ c.1 ∷ []) k (subst (λ (s : InWork). StandsInBand at (bits ++ c.1 ∷ []) s) (sym f) (number_more u c.1 e));
+        answered = λ at bits k l u. answers ac at (bits ++ c.1 ∷ []) k (subst (λ (s : InWork). RepresentsBandUnit at (bits ++ c.1 ∷ []) s) (sym f) (number_more u c.1 e));
       } in
       takes_to old (c.0 ++ c.1 ∷ []) step new store rest last stays (c.3 ∙ ap (λ (l : List Bool). (c.0 ++ c.1 ∷ []) ++ l) (sym r))

@@ -12,17 +12,17 @@ use Rattle.jpg_spec.specs.Parts.{BeginsCode, IsFront, band_unit, InEnds}
 use Rattle.jpg_spec.specs.ScanFaults.{BitsShow, DataReveals}
 use Rattle.jpg_spec.specs.declared.fault.Fault.{Fault}
 use Rattle.jpg_spec.specs.declared.fault.Fault.TheVariants as fault
-use Rattle.jpg_spec.proofs.Values.{zeros_push, nonzeros_push}
-use Rattle.jpg_spec.proofs.Common.{bounds_join, part_more, and_false}
-use Rattle.jpg_spec.proofs.Once.{head_inj}
-use Rattle.jpg_spec.proofs.Small.{one_digit}
+use Rattle.jpg_spec.proofs.Bits.Values.{zeros_push, nonzeros_push}
+use Rattle.jpg_spec.proofs.Basics.Common.{bounds_join, part_more, and_false}
+use Rattle.jpg_spec.proofs.Bits.Once.{head_inj}
+use Rattle.jpg_spec.proofs.Basics.Small.{one_digit}
 use Rattle.jpg_huff.specs.Walk.{BeginsNoCode}
 use Rattle.jpg_huff.proofs.Fronts.{due_apart, walk_shows}
 use Rattle.jpg_prog_read.specs.declared.stage.Stage.{Stage}
 use Rattle.jpg_prog_read.specs.declared.stage.Stage.TheVariants as stage
 use Rattle.jpg_prog_read.specs.declared.scan.BandScan.{BandScan}
 use Rattle.jpg_prog_read.specs.InWork.{InWork, with_band}
-use Rattle.jpg_prog_read.specs.Stands.{IsCodingOf, UnitPlace, unit_left, IsElementPart, IsRest, StandsInBand, BetweenUnits}
+use Rattle.jpg_prog_read.specs.Stands.{IsCodingOf, UnitPlace, unit_left, IsElementPart, IsRest, RepresentsBandUnit, BetweenUnits}
 
 -- LISTS
 
@@ -63,7 +63,7 @@ coded : {b : BandScan} {ac : List Code} {c : Coding} {i : ℕ} (w : List Bool) (
 coded w symbol k h = subst (λ t. Contains t (w, symbol)) (sym k.ac_codes) h
 
 -- FROM THE BITS OF A UNIT, and its state
-module _ {at : UnitPlace} {bits : List Bool} {s : InWork} (f : StandsInBand at bits s) where
+module _ {at : UnitPlace} {bits : List Bool} {s : InWork} (f : RepresentsBandUnit at bits s) where
   -- the part of an element that the machine has at this stage
   pub part_of : (g : Stage) → s.stage ≡ g → IsElementPart at f.mid f.here f.part s g
   part_of g e = subst (λ x. IsElementPart at f.mid f.here f.part s x) e f.is_part
@@ -81,7 +81,7 @@ module _ {at : UnitPlace} {bits : List Bool} {s : InWork} (f : StandsInBand at b
 
   -- the same complete elements, and another part of the next
   follows : (more part : List Bool) (here : List ℤ) (n : InWork) (g : Stage) → n.stage ≡ g → more ≡ f.front ++ part → f.before ++ here ≡ at.told ++ n.done
-      → are_in_bounds at.coding.bounds false here ≡ true → IsElementPart at f.mid here part n g → StandsInBand at more n
+      → are_in_bounds at.coding.bounds false here ≡ true → IsElementPart at f.mid here part n g → RepresentsBandUnit at more n
   follows more part here n g e split same ok p = record {
     elements = f.elements;
     before = f.before;
@@ -98,17 +98,17 @@ module _ {at : UnitPlace} {bits : List Bool} {s : InWork} (f : StandsInBand at b
 
   -- with the same values, and with one more
   further : (more part : List Bool) (n : InWork) (g : Stage) → n.stage ≡ g → n.done ≡ s.done → more ≡ f.front ++ part → IsElementPart at f.mid f.here part n g
-      → StandsInBand at more n
+      → RepresentsBandUnit at more n
   further more part n g e done split p = follows more part f.here n g e split (f.same ∙ ap (λ l. at.told ++ l) (sym done)) f.in_bounds p
 
   pub passed_on : (more part : List Bool) (n : InWork) (g : Stage) (v : ℤ) → n.stage ≡ g → n.done ≡ s.done ++ v ∷ [] → more ≡ f.front ++ part
-      → are_in_bounds at.coding.bounds false (v ∷ []) ≡ true → IsElementPart at f.mid (f.here ++ v ∷ []) part n g → StandsInBand at more n
+      → are_in_bounds at.coding.bounds false (v ∷ []) ≡ true → IsElementPart at f.mid (f.here ++ v ∷ []) part n g → RepresentsBandUnit at more n
   passed_on more part n g v e done split ok p =
       follows more part (f.here ++ v ∷ []) n g e split (same_more f.before f.here at.told s.done v f.same ∙ ap (λ l. at.told ++ l) (sym done)) (bounds_join at.coding f.here (v ∷ []) f.in_bounds ok) p
 
   -- one more bit of a code
   pub code_more : (next : Bool) → s.stage ≡ stage.Code → BeginsCode (at.coding.ac at.component) (s.walked ++ next ∷ [])
-      → StandsInBand at (bits ++ next ∷ []) (record s { walked = s.walked ++ next ∷ [] })
+      → RepresentsBandUnit at (bits ++ next ∷ []) (record s { walked = s.walked ++ next ∷ [] })
   code_more next e h =
       let p = code_of e in
       further (bits ++ next ∷ []) (s.walked ++ next ∷ []) (record s { walked = s.walked ++ next ∷ [] }) stage.Code e refl (p.2 next)
@@ -160,7 +160,7 @@ module _ {at : UnitPlace} {bits : List Bool} {s : InWork} (f : StandsInBand at b
   -- the code of a value, and that of ends of bands, is complete
   pub number_begun : {b : BandScan} {ac : List Code} (next : Bool) (run size : ℕ) → IsCodingOf b ac at.coding at.component → s.stage ≡ stage.Code
       → Contains ac (s.walked ++ next ∷ [], 16 * run + size) → 1 ≤ size → size ≤ b.most_category → run ≤ 15 → run < zeros_in s.rest
-      → StandsInBand at (bits ++ next ∷ []) (record s { walked = []; stage = stage.Number; run = run; size = size; extra = [] })
+      → RepresentsBandUnit at (bits ++ next ∷ []) (record s { walked = []; stage = stage.Number; run = run; size = size; extra = [] })
   number_begun next run size k e h some most short room =
       let p = code_of e in let code = s.walked ++ next ∷ [] in
       further (bits ++ next ∷ []) code (record s { walked = []; stage = stage.Number; run = run; size = size; extra = [] }) stage.Number refl refl (p.2 next)
@@ -168,20 +168,20 @@ module _ {at : UnitPlace} {bits : List Bool} {s : InWork} (f : StandsInBand at b
 
   pub count_begun : {b : BandScan} {ac : List Code} (next : Bool) (size run : ℕ) → IsCodingOf b ac at.coding at.component → s.stage ≡ stage.Code
       → Contains ac (s.walked ++ next ∷ [], 16 * size) → size ≤ 14
-      → StandsInBand at (bits ++ next ∷ []) (record s { walked = []; stage = stage.Count; run = run; size = size; extra = [] })
+      → RepresentsBandUnit at (bits ++ next ∷ []) (record s { walked = []; stage = stage.Count; run = run; size = size; extra = [] })
   count_begun next size run k e h most =
       let p = code_of e in let code = s.walked ++ next ∷ [] in
       further (bits ++ next ∷ []) code (record s { walked = []; stage = stage.Count; run = run; size = size; extra = [] }) stage.Count refl refl (p.2 next)
       (refl, record { code = code; left = p.0; none = p.1; no_dc = refl; coded = coded code (16 * size) k h; split = sym (append-nil code); most = omega (arith, most, k.runs) })
 
   -- one more extra bit
-  pub number_more : (next : Bool) → s.stage ≡ stage.Number → StandsInBand at (bits ++ next ∷ []) (record s { extra = s.extra ++ next ∷ [] })
+  pub number_more : (next : Bool) → s.stage ≡ stage.Number → RepresentsBandUnit at (bits ++ next ∷ []) (record s { extra = s.extra ++ next ∷ [] })
   number_more next e =
       let p = part_of stage.Number e in let q = p.1 in
       further (bits ++ next ∷ []) (f.part ++ next ∷ []) (record s { extra = s.extra ++ next ∷ [] }) stage.Number e refl (part_more bits f.front f.part next f.split)
       (p.0, record { code = q.code; left = q.left; none = q.none; no_dc = q.no_dc; coded = q.coded; split = part_more f.part q.code s.extra next q.split; some = q.some; most = q.most; short = q.short; room = q.room })
 
-  pub count_more : (next : Bool) → s.stage ≡ stage.Count → StandsInBand at (bits ++ next ∷ []) (record s { extra = s.extra ++ next ∷ [] })
+  pub count_more : (next : Bool) → s.stage ≡ stage.Count → RepresentsBandUnit at (bits ++ next ∷ []) (record s { extra = s.extra ++ next ∷ [] })
   count_more next e =
       let p = part_of stage.Count e in let q = p.1 in
       further (bits ++ next ∷ []) (f.part ++ next ∷ []) (record s { extra = s.extra ++ next ∷ [] }) stage.Count e refl (part_more bits f.front f.part next f.split)
@@ -189,7 +189,7 @@ module _ {at : UnitPlace} {bits : List Bool} {s : InWork} (f : StandsInBand at b
 
   -- the number of a value is complete
   pub value_begun : (v : ℤ) → s.stage ≡ stage.Number → category v ≡ s.size → extra_bits v ≡ s.extra
-      → StandsInBand at bits (record s { stage = stage.Value; due = v })
+      → RepresentsBandUnit at bits (record s { stage = stage.Value; due = v })
   value_begun v e size extra =
       let p = part_of stage.Number e in let q = p.1 in
       further bits f.part (record s { stage = stage.Value; due = v }) stage.Value refl refl f.split (
@@ -215,7 +215,7 @@ module _ {at : UnitPlace} {bits : List Bool} {s : InWork} (f : StandsInBand at b
 
   -- sixteen zeros follow
   pub long_begun : {b : BandScan} {ac : List Code} (next : Bool) → IsCodingOf b ac at.coding at.component → s.stage ≡ stage.Code
-      → Contains ac (s.walked ++ next ∷ [], 0xf0) → StandsInBand at (bits ++ next ∷ []) (record s { walked = []; stage = stage.Long; run = 15 })
+      → Contains ac (s.walked ++ next ∷ [], 0xf0) → RepresentsBandUnit at (bits ++ next ∷ []) (record s { walked = []; stage = stage.Long; run = 15 })
   long_begun next k e h =
       let p = code_of e in let code = s.walked ++ next ∷ [] in
       further (bits ++ next ∷ []) code (record s { walked = []; stage = stage.Long; run = 15 }) stage.Long refl refl (p.2 next)
@@ -248,7 +248,7 @@ module _ {at : UnitPlace} {bits : List Bool} {s : InWork} (f : StandsInBand at b
 
   pub end_begun : {b : BandScan} {ac : List Code} (next : Bool) → IsCodingOf b ac at.coding at.component → s.stage ≡ stage.Code
       → Contains ac (s.walked ++ next ∷ [], 0) → zeros_in s.rest < 255
-      → StandsInBand at (bits ++ next ∷ []) (record s { walked = []; stage = stage.Ends; run = 255; bands = 1 })
+      → RepresentsBandUnit at (bits ++ next ∷ []) (record s { walked = []; stage = stage.Ends; run = 255; bands = 1 })
   end_begun next k e h small =
       let p = code_of e in let code = s.walked ++ next ∷ [] in
       let z : 16 * (digits 1 - 1) ≡ 0 = omega (arith, one_digit) in
@@ -259,7 +259,7 @@ module _ {at : UnitPlace} {bits : List Bool} {s : InWork} (f : StandsInBand at b
 
   pub ends_begun : {b : BandScan} {ac : List Code} (total : ℕ) → IsCodingOf b ac at.coding at.component → s.stage ≡ stage.Count → 1 ≤ total
       → digits total ≡ s.size + 1 → bits_of s.size total ≡ s.extra → total ≤ 1 + length at.others → zeros_in s.rest < 255
-      → StandsInBand at bits (record s { stage = stage.Ends; run = 255; bands = total })
+      → RepresentsBandUnit at bits (record s { stage = stage.Ends; run = 255; bands = total })
   ends_begun total k e some size extra fits small =
       let p = part_of stage.Count e in let q = p.1 in
       let m : digits total - 1 ≡ s.size = omega (arith, size) in
@@ -291,8 +291,8 @@ module _ {at : UnitPlace} {bits : List Bool} {s : InWork} (f : StandsInBand at b
 
 -- ends of bands that continue, at the next unit
 pub ends_next : (at : UnitPlace) (bits : List Bool) (s n : InWork) (front band behind : List ℤ) → n ≡ with_band s front band behind → stage.Ends ≡ n.stage → zeros_in band < 255
-    → BetweenUnits at.coding at.units at.told (band_unit at.component band ∷ at.others) bits s → StandsInBand at bits n × (s.stage ≡ stage.Ends)
-ends_next at bits s n front band behind is ends small f = (subst (λ (m : InWork). StandsInBand at bits m) (sym is) there, code)
+    → BetweenUnits at.coding at.units at.told (band_unit at.component band ∷ at.others) bits s → RepresentsBandUnit at bits n × (s.stage ≡ stage.Ends)
+ends_next at bits s n front band behind is ends small f = (subst (λ (m : InWork). RepresentsBandUnit at bits m) (sym is) there, code)
   where
     new : InWork
     new = with_band s front band behind
@@ -310,7 +310,7 @@ ends_next at bits s n front band behind is ends small f = (subst (λ (m : InWork
         let e : InEnds at.coding f.mid r.0 at.others f.here f.part s.bands = subst (λ us. InEnds at.coding f.mid r.0 us f.here f.part s.bands) (sym h.1) r.3 in
         subst (λ v. InEnds at.coding f.mid v at.others f.here f.part s.bands) (sym h.0) e
 
-    there : StandsInBand at bits new
+    there : RepresentsBandUnit at bits new
     there = record {
       elements = f.elements;
       before = f.before;

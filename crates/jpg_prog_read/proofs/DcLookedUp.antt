@@ -8,7 +8,7 @@ use Rattle.jpg_spec.specs.Codes.{Code}
 use Rattle.jpg_huff.specs.Look.{Spots}
 use Rattle.jpg_huff.specs.declared.look.Spotted.TheVariants.{Symbol}
 use Rattle.jpg_spec.specs.Lists.{slot_value}
-use Rattle.jpg_spec.proofs.Common.{some_once}
+use Rattle.jpg_spec.proofs.Basics.Common.{some_once}
 use Rattle.jpg_huff.specs.declared.set.TableSet.{TableSet}
 use Rattle.jpg_huff.specs.declared.table.Table.{Table}
 use Rattle.jpg_huff.specs.Sets.{dc_tables, in_slot}

@@ -10,7 +10,7 @@ use Rattle.jpg_spec.specs.Geometry.{padded_blocks}
 use Rattle.jpg_spec.specs.Parts.{StandsInUnits}
 use Rattle.jpg_spec.specs.Scan.{Scan, unit_at}
 use Rattle.jpg_spec.specs.declared.frame.Place.{Place}
-use Rattle.jpg_spec.proofs.Common.{not_same, same_itself}
+use Rattle.jpg_spec.proofs.Basics.Common.{not_same, same_itself}
 use Rattle.jpg_coefs.specs.Picture.{Picture, block_in, map_of}
 use Rattle.jpg_coefs.specs.Machine.{Interval, Kind, Answered, Chain, Step, IsUnfinished, KeepsUnits, units_of}
 use Rattle.jpg_coefs.specs.declared.machine.UnitFault.{UnitFault}
@@ -21,14 +21,14 @@ use Rattle.jpg_prog_read.specs.declared.dc.DcStep.TheVariants.{More, Done, Fault
 use Rattle.jpg_prog_read.specs.declared.dc_first.DcFirst.{DcFirst}
 use Rattle.jpg_prog_read.specs.declared.dc_refine.DcRefine.{DcRefine}
 use Rattle.jpg_prog_read.specs.DcWork.{DcWork, IsDcOpen, fresh}
-use Rattle.jpg_prog_read.specs.DcStands.{DcAnswered, AnswersDcRefinement, DcBetween, IsDcRefinementOf, dc_unit}
+use Rattle.jpg_prog_read.specs.RepresentsDcUnit.{DcAnswered, AnswersDcRefinement, DcBetween, IsDcRefinementOf, dc_unit}
 use Rattle.jpg_prog_read.specs.DcPlaces.{IsSpot, with_dc, InInterval, next_of, old_dc, IsWithin}
 use Rattle.jpg_huff.specs.Tables.{symbol_codes}
 use Rattle.jpg_huff.specs.declared.table.Table.{Table}
 use Rattle.jpg_prog_read.specs.BitsTaken.{HurriesOn}
 use Rattle.jpg_prog_read.specs.DcLookedUp.{DcThrough}
-use Rattle.jpg_prog_read.specs.DcFirstPass.{table_in, prediction_at, HurriesUnit, HasTable, ReadsBy, ReadsBit, CanRead, FirstStands, FirstReady, first_pass, with_unit, behind_unit}
-use Rattle.jpg_prog_read.specs.DcRefinement.{HasDcRoom, HasRoomAt, RefineStands, RefineReady, refinement, after_bit}
+use Rattle.jpg_prog_read.specs.DcFirstPass.{table_in, prediction_at, HurriesUnit, HasTable, ReadsBy, ReadsBit, CanRead, RepresentsDcFirst, FirstReady, first_pass, with_unit, behind_unit}
+use Rattle.jpg_prog_read.specs.DcRefinement.{HasDcRoom, HasRoomAt, RepresentsDcRefine, RefineReady, refinement, after_bit}
 use Rattle.jpg_prog_read.proofs.DcPlaces.{next_is, next_spot, old_still, on_to, within_next, whole_next, interval_read, next_ready, first_place, at_first, within_first, whole_first}
 use Rattle.jpg_prog_read.proofs.DcUnits.{dc_begins}
 use Rattle.jpg_prog_read.proofs.Due.{dc_due, dc_next_due}
@@ -52,11 +52,11 @@ predicts_more predictions q c k v four lt h =
 
 -- where the next place is this one
 module _ (m : DcFirst) (p : Place) (now : Picture) (first : slice_get m.cursor 0 ≡ Some p) where
-  first_small : {i : Interval} {bits : List Bool} → (o : FirstStands m i bits now) → o.within.next.component < 4
+  first_small : {i : Interval} {bits : List Bool} → (o : RepresentsDcFirst m i bits now) → o.within.next.component < 4
   first_small o = (next_spot o.places).small
 
   answered : (b : Bool) (answer : DcStep) (new : DcWork) → ReadsBit m p.component b answer new → (i : Interval) (bits : List Bool)
-      → (o : FirstStands m i bits now) → DcAnswered (next_of i o.within) o.predictions (old_dc i o.within) (bits ++ b ∷ []) answer new
+      → (o : RepresentsDcFirst m i bits now) → DcAnswered (next_of i o.within) o.predictions (old_dc i o.within) (bits ++ b ∷ []) answer new
   answered b answer new r i bits o =
       let k = o.within.next.component in
       let R : ℕ → Type 0 = λ q. ReadsBit m q b answer new in
@@ -88,7 +88,7 @@ module _ (m : DcFirst) (p : Place) (now : Picture) (first : slice_get m.cursor 0
       let l = first_place o.within.more (omega (arith, (o.places).count, many)) in
       let at = on_to o.within v l.0 l.1 in
       let q = predicted o.predictions k w in
-      let T : Place → Type 0 = λ s. FirstStands (behind_unit m s.component w) i (bits ++ b ∷ []) (with_dc now s v) in
+      let T : Place → Type 0 = λ s. RepresentsDcFirst (behind_unit m s.component w) i (bits ++ b ∷ []) (with_dc now s v) in
       subst T (next_is o.places p first) (record {
         reads = o.reads;
         looks = o.looks;
@@ -120,31 +120,31 @@ module _ (m : DcFirst) (p : Place) (now : Picture) (first : slice_get m.cursor 0
       )
 
   -- before a bit
-  pub can_read : (i : Interval) (bits : List Bool) → FirstStands m i bits now → CanRead m p.component
+  pub can_read : (i : Interval) (bits : List Bool) → RepresentsDcFirst m i bits now → CanRead m p.component
   can_read i bits o =
       let all = subst (λ (l : List Place). All (HasTable m.tables) l) (o.places).left o.tables in
       let t = all 0 o.within.next (omega arith) in
       subst (λ (q : Place). CanRead m q.component) (next_is o.places p first)
       (record { small = first_small o; sane = (o.reads).sane; table = t.table; there = t.there; looks = o.looks; at_work = o.at_work })
 
-  pub first_spot : (i : Interval) (bits : List Bool) → FirstStands m i bits now → IsSpot now.frame p
+  pub first_spot : (i : Interval) (bits : List Bool) → RepresentsDcFirst m i bits now → IsSpot now.frame p
   first_spot i bits o = subst (λ (q : Place). IsSpot now.frame q) (next_is o.places p first) (next_spot o.places)
 
 -- THE BIT OF A REFINEMENT
 
 -- where the next place is this one, and its value is x
 module _ (m : DcRefine) (p : Place) (now : Picture) (x : ℤ) (first : slice_get m.cursor 0 ≡ Some p) (old : x ≡ slice_index_or (block_in now p.component p.x p.y) 0 (pos 0)) where
-  old_is : {i : Interval} {bits : List Bool} → (o : RefineStands m i bits now) → x ≡ old_dc i o.within
+  old_is : {i : Interval} {bits : List Bool} → (o : RepresentsDcRefine m i bits now) → x ≡ old_dc i o.within
   old_is o = old ∙ ap (λ (q : Place). slice_index_or (block_in now q.component q.x q.y) 0 (pos 0)) (sym (next_is o.places p first)) ∙ old_still o.places
 
-  refined : (b : Bool) (v : ℤ) → AnswersDcRefinement m.scan x b v → (i : Interval) (bits : List Bool) → (o : RefineStands m i bits now)
+  refined : (b : Bool) (v : ℤ) → AnswersDcRefinement m.scan x b v → (i : Interval) (bits : List Bool) → (o : RepresentsDcRefine m i bits now)
       → DcBetween i.scan.coding (units_of i) (o.within.whole ++ v ∷ []) o.predictions (next_of i o.within).others (bits ++ b ∷ [])
   refined b v r i bits o =
       let R : ℤ → Type 0 = λ y. AnswersDcRefinement m.scan y b v in
       subst R (old_is o) r (next_of i o.within) o.predictions bits o.coded o.between
 
   -- it has room
-  pub next_room : (i : Interval) (bits : List Bool) → RefineStands m i bits now → (m.scan.low ≤ℤ x) × ((x +ℤ pos m.scan.scale) ≤ℤ m.scan.high)
+  pub next_room : (i : Interval) (bits : List Bool) → RepresentsDcRefine m i bits now → (m.scan.low ≤ℤ x) × ((x +ℤ pos m.scan.scale) ≤ℤ m.scan.high)
   next_room i bits o =
       let e = old_is o in
       let c = i.scan.coding in
@@ -164,7 +164,7 @@ module _ (m : DcRefine) (p : Place) (now : Picture) (x : ℤ) (first : slice_get
       → Step refinement m now b (Ok step.More) (after_bit m) (with_dc now p v)
   step_bit b v count r many i bits o =
       let l = first_place o.within.more (omega (arith, (o.places).count, many)) in
-      let T : Place → Type 0 = λ s. RefineStands (after_bit m) i (bits ++ b ∷ []) (with_dc now s v) in
+      let T : Place → Type 0 = λ s. RepresentsDcRefine (after_bit m) i (bits ++ b ∷ []) (with_dc now s v) in
       subst T (next_is o.places p first) (record {
         sane = o.sane;
         coded = o.coded;
@@ -190,7 +190,7 @@ module _ (m : DcRefine) (p : Place) (now : Picture) (x : ℤ) (first : slice_get
         },
       )
 
-pub refine_spot : (m : DcRefine) (p : Place) (now : Picture) (i : Interval) (bits : List Bool) → slice_get m.cursor 0 ≡ Some p → RefineStands m i bits now
+pub refine_spot : (m : DcRefine) (p : Place) (now : Picture) (i : Interval) (bits : List Bool) → slice_get m.cursor 0 ≡ Some p → RepresentsDcRefine m i bits now
     → IsSpot now.frame p
 refine_spot m p now i bits first o = subst (λ (q : Place). IsSpot now.frame q) (next_is o.places p first) (next_spot o.places)
 
@@ -207,11 +207,11 @@ zeros_at (suc (suc (suc (suc k)))) = refl
 abbrev pub begun : DcFirst → ℕ → DcFirst
 begun m units = record m { predictions = pos 0 ∷ pos 0 ∷ pos 0 ∷ pos 0 ∷ []; unit = fresh; left = units }
 
-pub first_begins : (m new : DcFirst) (i : Interval) (units : ℕ) → FirstReady m i → length i.places ≡ units → 1 ≤ units → new ≡ begun m units → FirstStands new i [] i.before
+pub first_begins : (m new : DcFirst) (i : Interval) (units : ℕ) → FirstReady m i → length i.places ≡ units → 1 ≤ units → new ≡ begun m units → RepresentsDcFirst new i [] i.before
 first_begins m new i units r count some is =
     let l = first_place i.places (omega (arith, count, some)) in
     let at = at_first l.0 l.1 in
-    subst (λ (q : DcFirst). FirstStands q i [] i.before) (sym is) (record {
+    subst (λ (q : DcFirst). RepresentsDcFirst q i [] i.before) (sym is) (record {
       reads = r.reads;
       looks = r.looks;
       tables = r.tables;
@@ -224,10 +224,10 @@ first_begins m new i units r count some is =
       stands = dc_begins (next_of i at) (λ k. pos 0) (old_dc i at) [] (whole_first m.cursor m.left i l.0 l.1 r.places l.2);
     })
 
-pub refine_begins : (m new : DcRefine) (i : Interval) (units : ℕ) → RefineReady m i → length i.places ≡ units → 1 ≤ units → new ≡ record m { left = units } → RefineStands new i [] i.before
+pub refine_begins : (m new : DcRefine) (i : Interval) (units : ℕ) → RefineReady m i → length i.places ≡ units → 1 ≤ units → new ≡ record m { left = units } → RepresentsDcRefine new i [] i.before
 refine_begins m new i units r count some is =
     let l = first_place i.places (omega (arith, count, some)) in
-    subst (λ (q : DcRefine). RefineStands q i [] i.before) (sym is) (record {
+    subst (λ (q : DcRefine). RepresentsDcRefine q i [] i.before) (sym is) (record {
       sane = r.sane;
       coded = r.coded;
       kind = r.kind;

@@ -16,10 +16,10 @@ use Rattle.jpg_spec.specs.Scan.{TablesInForce, codes_of, part_of, scan_coding}
 use Rattle.jpg_spec.specs.declared.frame.Place.{Place}
 use Rattle.jpg_spec.specs.declared.frame.ScanPart.{ScanPart}
 use Rattle.jpg_spec.specs.PictureInWork.{AreDistinct}
-use Rattle.jpg_spec.proofs.PlacesDistinct.{units_distinct}
-use Rattle.jpg_spec.proofs.Sound.{sound}
-use Rattle.jpg_spec.proofs.WrittenHead.{index_at}
-use Rattle.jpg_spec.proofs.Common.{lt_yes, some_once}
+use Rattle.jpg_spec.proofs.Places.PlacesDistinct.{units_distinct}
+use Rattle.jpg_spec.proofs.Bits.Sound.{sound}
+use Rattle.jpg_spec.proofs.Writing.WrittenHead.{index_at}
+use Rattle.jpg_spec.proofs.Basics.Common.{lt_yes, some_once}
 use Rattle.jpg_base.proofs.ScanPlaces.{IsOneOf, units_in}
 use Rattle.jpg_huff.specs.declared.table.Table.{Table}
 use Rattle.jpg_huff.specs.declared.set.TableSet.{TableSet}
@@ -30,7 +30,7 @@ use Rattle.jpg_prog_read.specs.declared.dc_first.DcFirst.{DcFirst}
 use Rattle.jpg_prog_read.specs.declared.dc_refine.DcRefine.{DcRefine}
 use Rattle.jpg_prog_read.specs.declared.scan.DcScan.{DcScan}
 use Rattle.jpg_prog_read.specs.DcWork.{AreDcSane}
-use Rattle.jpg_prog_read.specs.DcStands.{IsDcCodingOf, IsDcRefinementOf}
+use Rattle.jpg_prog_read.specs.RepresentsDcUnit.{IsDcCodingOf, IsDcRefinementOf}
 use Rattle.jpg_prog_read.specs.DcPlaces.{IsDcBand, IsSpot, IsNextInterval}
 use Rattle.jpg_prog_read.specs.DcFirstPass.{table_in, HasTable, ReadsBy, FirstReady}
 use Rattle.jpg_prog_read.specs.DcRefinement.{TakesOneBit, RefineReady}

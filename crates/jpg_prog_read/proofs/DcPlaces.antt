@@ -11,13 +11,13 @@ use Rattle.jpg_spec.specs.Lists.{any_of}
 use Rattle.jpg_spec.specs.Scan.{Blocks, Scan, band, block_at, unit_at}
 use Rattle.jpg_spec.specs.PictureInWork.{is_at, is_in_band, AreDistinct, UnitsRead}
 use Rattle.jpg_spec.specs.declared.frame.Place.{Place}
-use Rattle.jpg_spec.proofs.PictureInWork.{apart_of, apart_swap, distinct_behind}
-use Rattle.jpg_spec.proofs.UnitsRead.{units_first, units_next, units_last}
-use Rattle.jpg_spec.proofs.Common.{and_intro, clash, some_once}
+use Rattle.jpg_spec.proofs.Places.PictureInWork.{apart_of, apart_swap, distinct_behind}
+use Rattle.jpg_spec.proofs.Bits.UnitsRead.{units_first, units_next, units_last}
+use Rattle.jpg_spec.proofs.Basics.Common.{and_intro, clash, some_once}
 use Rattle.jpg_coefs.specs.Picture.{Picture, block_in, map_of, HasPlace, KeepsOutside}
 use Rattle.jpg_coefs.specs.Machine.{Interval, units_of, IsWholeInterval, Follows}
 use Rattle.jpg_coefs.proofs.Maps.{map_at, put_here, put_changes}
-use Rattle.jpg_prog_read.specs.DcStands.{DcBetween, dc_unit}
+use Rattle.jpg_prog_read.specs.RepresentsDcUnit.{DcBetween, dc_unit}
 use Rattle.jpg_prog_read.specs.DcPlaces.{IsDcBand, IsSpot, dc_at, with_dc, InInterval, next_of, old_dc, AreCompleteUnits, IsWithin, IsNextInterval}
 
 -- THE BAND

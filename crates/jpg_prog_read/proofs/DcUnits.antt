@@ -13,7 +13,7 @@ use Rattle.jpg_spec.specs.Elements.{Element, difference, dc_bit, Coding, Standin
 use Rattle.jpg_spec.specs.ScanFaults.{BitsShow, DataReveals}
 use Rattle.jpg_spec.specs.declared.fault.Fault.{Fault}
 use Rattle.jpg_spec.specs.declared.fault.Fault.TheVariants as fault
-use Rattle.jpg_spec.proofs.Values.{covers_then}
+use Rattle.jpg_spec.proofs.Bits.Values.{covers_then}
 use Rattle.jpg_huff.specs.Walk.{BeginsNoCode}
 use Rattle.jpg_coefs.specs.declared.machine.UnitFault.TheVariants as unit_fault
 use Rattle.jpg_spec.specs.Parts.{BeginsCode, IsFront, InDifference}
@@ -24,10 +24,10 @@ use Rattle.jpg_prog_read.specs.declared.dc.DcValue.{DcValue}
 use Rattle.jpg_prog_read.specs.declared.dc.DcValue.TheVariants.{Within, Beyond}
 use Rattle.jpg_prog_read.specs.Stands.{UnitPlace}
 use Rattle.jpg_prog_read.specs.DcWork.{DcWork, InDcRange, IsDcValue, fresh}
-use Rattle.jpg_prog_read.specs.DcStands.{BeginsDc, IsDcCodingOf, AnswersDcBit, AnswersDcRefinement, dc_unit, IsDcPart, DcBetween, DcStands}
+use Rattle.jpg_prog_read.specs.RepresentsDcUnit.{BeginsDc, IsDcCodingOf, AnswersDcBit, AnswersDcRefinement, dc_unit, IsDcPart, DcBetween, RepresentsDcUnit}
 use Rattle.jpg_huff.proofs.Fronts.{due_apart, walk_shows}
-use Rattle.jpg_spec.proofs.Common.{and_intro, clash, part_more, in_order, from_test, both_false}
-use Rattle.jpg_spec.proofs.Small.{zero_bits, zero_category}
+use Rattle.jpg_spec.proofs.Basics.Common.{and_intro, clash, part_more, in_order, from_test, both_false}
+use Rattle.jpg_spec.proofs.Basics.Small.{zero_bits, zero_category}
 use Rattle.jpg_prog_read.proofs.Multiples.{neg_abs, one_scaled}
 
 -- NUMBERS
@@ -90,7 +90,7 @@ predicted_same p q i w x h e j = ap (λ (y : ℤ). cond (j == i) y (p j)) e ∙ 
 -- With this bit this difference is complete, whatever bits the unit was given.
 abbrev pub Completes : DcScan → List Code → DcWork → Bool → ℤ → Type 0
 Completes b dc s next d =
-    (at : UnitPlace) (p : ℕ → ℤ) (o : ℤ) (bits : List Bool) → IsDcCodingOf b dc at.coding at.component → DcStands at p o bits s
+    (at : UnitPlace) (p : ℕ → ℤ) (o : ℤ) (bits : List Bool) → IsDcCodingOf b dc at.coding at.component → RepresentsDcUnit at p o bits s
     → HasElement at p o (bits ++ next ∷ []) (difference d) × (category d ≤ at.coding.bounds.dc_cat)
 
 -- the step of its value
@@ -169,7 +169,7 @@ code_part at mid o part s z (inl h) = (sym h.1, subst (λ x. IsFront (at.coding.
 code_part at mid o part s z (inr h) = absurd (omega (arith, h.0, z))
 
 -- one more bit of a code, of which some were walked
-in_code : {at : UnitPlace} {p : ℕ → ℤ} {o : ℤ} {bits : List Bool} {s : DcWork} → s.size ≡ 0 → (f : DcStands at p o bits s)
+in_code : {at : UnitPlace} {p : ℕ → ℤ} {o : ℤ} {bits : List Bool} {s : DcWork} → s.size ≡ 0 → (f : RepresentsDcUnit at p o bits s)
     → ((next : Bool) → bits ++ next ∷ [] ≡ f.front ++ (s.walked ++ next ∷ [])) × IsFront (at.coding.dc at.component) s.walked
 in_code {at} {p} {o} {bits} {s} z f =
     let h = code_part at f.whole.mid o f.part s z f.is_part in
@@ -209,7 +209,7 @@ dc_more b dc prediction s mid next z same begins w at p o bits k q f = record {
 }
 
 dc_shows : {at : UnitPlace} {p : ℕ → ℤ} {o : ℤ} {bits : List Bool} {s : DcWork} (next : Bool) (shown : Fault) → at.coding.refines ≡ false → s.size ≡ 0
-    → DcStands at p o bits s → ((q : Standing) → BitsShow at.coding q (dc_unit at.component o) at.others shown (s.walked ++ next ∷ []))
+    → RepresentsDcUnit at p o bits s → ((q : Standing) → BitsShow at.coding q (dc_unit at.component o) at.others shown (s.walked ++ next ∷ []))
     → DataReveals at.coding at.units shown (bits ++ next ∷ [])
 dc_shows {at} {p} {o} {bits} {s} next shown first z f h = record {
   elements = f.whole.elements;
@@ -246,7 +246,7 @@ pub dc_begun : (b : DcScan) (dc : List Code) (prediction : ℤ) (s mid new : DcW
     → AnswersDcBit b dc prediction s next More new
 dc_begun b dc prediction s mid new next size z w known some most begun at p o bits k q f =
     let n : Contains (at.coding.dc at.component) (s.walked ++ next ∷ [], size) = subst (λ t. Contains t (s.walked ++ next ∷ [], size)) (sym k.dc_codes) known in
-    subst (λ (x : DcWork). DcStands at p o (bits ++ next ∷ []) x) (sym begun) (record {
+    subst (λ (x : DcWork). RepresentsDcUnit at p o (bits ++ next ∷ []) x) (sym begun) (record {
       front = f.front;
       part = s.walked ++ next ∷ [];
       whole = f.whole;
@@ -273,7 +273,7 @@ pub dc_wanting : (b : DcScan) (dc : List Code) (prediction : ℤ) (s new : DcWor
 dc_wanting b dc prediction s new next z e at p o bits k q f =
     let j = in_number at f.whole.mid o f.part s z f.is_part in
     let h = j.1 in
-    subst (λ (x : DcWork). DcStands at p o (bits ++ next ∷ []) x) (sym e) (record {
+    subst (λ (x : DcWork). RepresentsDcUnit at p o (bits ++ next ∷ []) x) (sym e) (record {
       front = f.front;
       part = f.part ++ next ∷ [];
       whole = f.whole;

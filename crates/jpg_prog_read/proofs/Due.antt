@@ -3,7 +3,7 @@ use Rattle.std.proofs.Common.{◌≡◌, ℕ, ◌≤◌, Bool, false, List, [], 
 use Rattle.std.specs.Prelude.{slice_index_or}
 use Rattle.std.proofs.lemmas.List.{append-nil}
 use Rattle.jpg_spec.specs.Elements.{Coding, UnitLeft, Standing, is_zero}
-use Rattle.jpg_spec.proofs.Once.{head_inj}
+use Rattle.jpg_spec.proofs.Bits.Once.{head_inj}
 use Rattle.jpg_spec.specs.Parts.{InEnds, band_unit, WantsCorrection, PartOfElement, in_code, in_difference, in_number, in_count, in_value, in_long, in_ends}
 use Rattle.jpg_prog_read.specs.declared.stage.Stage.{Stage}
 use Rattle.jpg_prog_read.specs.declared.stage.Stage.TheVariants as stage
@@ -11,7 +11,7 @@ use Rattle.jpg_prog_read.specs.declared.scan.BandScan.{BandScan}
 use Rattle.jpg_prog_read.specs.InWork.{InWork, IsOpenBand, DoesWait}
 use Rattle.jpg_prog_read.specs.DcWork.{DcWork, IsDcOpen}
 use Rattle.jpg_prog_read.specs.Stands.{UnitPlace, unit_left, IsElementPart, IsRest}
-use Rattle.jpg_prog_read.specs.DcStands.{IsDcPart, dc_unit}
+use Rattle.jpg_prog_read.specs.RepresentsDcUnit.{IsDcPart, dc_unit}
 use Rattle.jpg_prog_read.specs.Due.{BandIsDue, NextIsDue, DcIsDue, NextDcIsDue}
 
 wants : (i : ℕ) (rest : List ℤ) → 1 ≤ length rest → is_zero (slice_index_or rest 0 (pos 0)) ≡ false → WantsCorrection (band_unit i rest)

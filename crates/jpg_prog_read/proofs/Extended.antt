@@ -3,7 +3,7 @@ use Rattle.std.proofs.Common.{◌≡◌, ℕ, zero, suc, ◌-◌, ◌*◌, ◌^�
 use Rattle.std.proofs.lemmas.Bool.{cases_lt}
 use Rattle.jpg_spec.specs.Bits.{bits_of}
 use Rattle.jpg_spec.specs.Numbers.{digits, category, extra_bits}
-use Rattle.jpg_spec.proofs.ExtraBits.{digits_high, double}
+use Rattle.jpg_spec.proofs.Bits.ExtraBits.{digits_high, double}
 use Rattle.jpg_huff.proofs.Categories.{category_negative, digits_low, extra_low, lowered_by_none, lowered_below}
 
 none_is : (n : ℕ) → n < 2 ^ 0 → (category (pos n -ℤ pos 0) ≡ 0) × (extra_bits (pos n -ℤ pos 0) ≡ bits_of 0 n)

@@ -10,7 +10,7 @@ use Rattle.jpg_spec.specs.Elements.{Coding}
 use Rattle.jpg_spec.specs.Scan.{Blocks, Scan, band, block_at}
 use Rattle.jpg_spec.specs.PictureInWork.{is_in_band}
 use Rattle.jpg_spec.specs.declared.frame.Place.{Place}
-use Rattle.jpg_prog_read.specs.AcStands.{HasCorrectionRoom, BandHasRoom}
+use Rattle.jpg_prog_read.specs.RepresentsAcScan.{HasCorrectionRoom, BandHasRoom}
 use Rattle.jpg_prog_read.specs.Known.{GivesRoom, EachHasRoom}
 
 -- a multiple of a power of two below a greater one has room for one more

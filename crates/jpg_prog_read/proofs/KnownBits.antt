@@ -9,7 +9,7 @@ use Rattle.jpg_spec.specs.Geometry.{Frame, is_progressive, bounds, factor_sum}
 use Rattle.jpg_spec.specs.Segments.{ScanHead, head_components}
 use Rattle.jpg_spec.specs.Elements.{at_start, old_values}
 use Rattle.jpg_spec.specs.Scan.{Blocks, Scan, band, block_at, unit_at, coefficient, is_named, SpellsIntervals, ScanMeans}
-use Rattle.jpg_spec.specs.ScanContents.{scan_header, checked_head, is_band, are_bits, are_parameters, are_among, ids_told, head_told}
+use Rattle.jpg_spec.specs.ScanContents.{scan_header, checked_head, is_band, are_bits, are_parameters, are_among, parsed_ids, parsed_scan_header}
 use Rattle.jpg_spec.specs.Markers.{Segment, is_frame_code, has_frame, code_fault}
 use Rattle.jpg_spec.specs.InForce.{frame_of, head_in, heads_of}
 use Rattle.jpg_spec.specs.History.{names, has_coefficient, known_to, is_next}
@@ -19,17 +19,17 @@ use Rattle.jpg_spec.specs.PictureInWork.{is_at}
 use Rattle.jpg_spec.specs.declared.fault.Fault.TheVariants.{BadLength, ScanComponent, McuTooLarge, ScanParameters}
 use Rattle.jpg_spec.specs.declared.frame.Limits.{Limits}
 use Rattle.jpg_spec.specs.declared.frame.Place.{Place}
-use Rattle.jpg_spec.proofs.BlocksOnce.{joined_chunks, in_band}
-use Rattle.jpg_spec.proofs.Common.{both, and_intro, le_of, same_of, or_right, refused, same_told}
-use Rattle.jpg_spec.proofs.FirstPasses.{head_at, all_among}
-use Rattle.jpg_spec.proofs.FrameFound.{framed}
-use Rattle.jpg_spec.proofs.PictureInWork.{leads_sizes}
-use Rattle.jpg_spec.proofs.Each.{Each, each_join}
-use Rattle.jpg_spec.proofs.PlacesFound.{each_units}
-use Rattle.jpg_spec.proofs.Known.{band_next, known_new, known_old}
-use Rattle.jpg_spec.proofs.TablesInForce.{affirmed}
-use Rattle.jpg_spec.proofs.Untouched.{frame_stays}
-use Rattle.jpg_spec.proofs.Each.{each_rows}
+use Rattle.jpg_spec.proofs.Files.BlocksOnce.{joined_chunks, in_band}
+use Rattle.jpg_spec.proofs.Basics.Common.{both, and_intro, le_of, same_of, or_right, refused, same_told}
+use Rattle.jpg_spec.proofs.Bits.FirstPasses.{head_at, all_among}
+use Rattle.jpg_spec.proofs.Headers.FrameFound.{framed}
+use Rattle.jpg_spec.proofs.Places.PictureInWork.{leads_sizes}
+use Rattle.jpg_spec.proofs.Basics.Each.{Each, each_join}
+use Rattle.jpg_spec.proofs.Places.PlacesFound.{each_units}
+use Rattle.jpg_spec.proofs.Places.Known.{band_next, known_new, known_old}
+use Rattle.jpg_spec.proofs.Segments.TablesInForce.{affirmed}
+use Rattle.jpg_spec.proofs.Places.Untouched.{frame_stays}
+use Rattle.jpg_spec.proofs.Basics.Each.{each_rows}
 use Rattle.jpg_prog_read.specs.Known.{IsMultiple, AreMultiples, IsProgressiveAfter, known_after, LeadsToKnown}
 use Rattle.jpg_prog_read.proofs.Known.{in_band as is_inside}
 use Rattle.jpg_prog_read.proofs.Multiples.{multiple_down, multiples_join, multiples_split, covers_multiples}
@@ -85,8 +85,8 @@ checked_bits f count ids made head prog told =
 header_bits : (f : Frame) (contents : List ℕ) (head : ScanHead) → is_progressive f.process ≡ true → scan_header f contents ≡ Ok head → are_bits f head ≡ true
 header_bits f [] head prog told = cc
 header_bits f (count ∷ bytes) head prog told =
-    let ids = ids_told (take (2 * count) bytes) in
-    let made = head_told f (take (2 * count) bytes) (drop (2 * count) bytes) in
+    let ids = parsed_ids (take (2 * count) bytes) in
+    let made = parsed_scan_header f (take (2 * count) bytes) (drop (2 * count) bytes) in
     let e = refused BadLength (not (length bytes == 2 * count + 3)) (checked_head f count ids made) head told in
     checked_bits f count ids made head prog e.1
 

@@ -5,7 +5,7 @@ use Rattle.std.proofs.lemmas.List.{length-take-le, take-take, drop-drop, take-ap
 use Rattle.std.proofs.lemmas.Grind.{take-set_at}
 use Rattle.jpg_spec.specs.Lists.{is_empty}
 use Rattle.jpg_spec.specs.Elements.{is_zero}
-use Rattle.jpg_spec.proofs.Common.{not_same}
+use Rattle.jpg_spec.proofs.Basics.Common.{not_same}
 
 -- what is left begins with the value at its place
 pub rest_more : (values : List ℤ) (at most : ℕ) → most ≤ length values → at < most → take (most - at) (drop at values) ≡ get_or values at (pos 0) ∷ take (most - (at + 1)) (drop (at + 1) values)

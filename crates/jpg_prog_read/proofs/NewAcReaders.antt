@@ -15,9 +15,9 @@ use Rattle.jpg_spec.specs.Scan.{TablesInForce, codes_of, part_of, scan_coding}
 use Rattle.jpg_spec.specs.ScanContents.{is_band, are_bits}
 use Rattle.jpg_spec.specs.declared.frame.Place.{Place}
 use Rattle.jpg_spec.specs.declared.frame.ScanPart.{ScanPart}
-use Rattle.jpg_spec.proofs.Common.{both, le_of, same_of, not_same, same_itself}
-use Rattle.jpg_spec.proofs.PlacesDistinct.{units_distinct}
-use Rattle.jpg_spec.proofs.Sound.{sound}
+use Rattle.jpg_spec.proofs.Basics.Common.{both, le_of, same_of, not_same, same_itself}
+use Rattle.jpg_spec.proofs.Places.PlacesDistinct.{units_distinct}
+use Rattle.jpg_spec.proofs.Bits.Sound.{sound}
 use Rattle.jpg_base.proofs.ScanPlaces.{IsOneOf, units_in}
 use Rattle.jpg_huff.specs.declared.set.TableSet.{TableSet}
 use Rattle.jpg_huff.specs.declared.table.Table.{Table}
@@ -28,7 +28,7 @@ use Rattle.jpg_prog_read.specs.declared.ac_reader.AcReader.{AcReader}
 use Rattle.jpg_prog_read.specs.declared.scan.BandScan.{BandScan}
 use Rattle.jpg_prog_read.specs.ReaderSteps.{IsSaneBand}
 use Rattle.jpg_prog_read.specs.Stands.{IsCodingOf}
-use Rattle.jpg_prog_read.specs.AcStands.{IsReadable, AcReady}
+use Rattle.jpg_prog_read.specs.RepresentsAcScan.{IsReadable, AcReady}
 use Rattle.jpg_prog_read.proofs.Precisions.{fits_words}
 use Rattle.jpg_prog_read.specs.NewAcReader.{IsAcScan, AreAcTables, IsOfAcScan, IsBandOf}
 

@@ -12,10 +12,10 @@ use Rattle.jpg_spec.specs.Elements.{Element, value, long_run, ends, Coding, Unit
 use Rattle.jpg_spec.specs.Parts.{band_unit, InValue, InLong, InEnds}
 use Rattle.jpg_spec.specs.ScanFaults.{DataReveals}
 use Rattle.jpg_spec.specs.declared.fault.Fault.TheVariants as fault
-use Rattle.jpg_spec.proofs.Values.{covers_then}
-use Rattle.jpg_spec.proofs.Parts.{ac_due, ends_are, ends_fit}
-use Rattle.jpg_spec.proofs.Values.{corrected_push, corrected_zero, going_same}
-use Rattle.jpg_spec.proofs.Common.{bounds_join, in_order, from_test}
+use Rattle.jpg_spec.proofs.Bits.Values.{covers_then}
+use Rattle.jpg_spec.proofs.Bits.Parts.{ac_due, ends_are, ends_fit}
+use Rattle.jpg_spec.proofs.Bits.Values.{corrected_push, corrected_zero, going_same}
+use Rattle.jpg_spec.proofs.Basics.Common.{bounds_join, in_order, from_test}
 use Rattle.jpg_prog_read.specs.declared.stage.Stage.{Stage}
 use Rattle.jpg_prog_read.specs.declared.stage.Stage.TheVariants as stage
 use Rattle.jpg_prog_read.specs.declared.scan.BandScan.{BandScan}
@@ -23,7 +23,7 @@ use Rattle.jpg_prog_read.specs.declared.band.BandStep.{BandStep}
 use Rattle.jpg_prog_read.specs.declared.band.BandStep.TheVariants.{More, Done, Fault as Shown}
 use Rattle.jpg_prog_read.specs.InWork.{InWork, IsPassing, IsOpenBand, IsEnd, DoesWait, AreRefinable, IsRefinable}
 use Rattle.jpg_prog_read.specs.ReaderSteps.{AfterValue, StaysOpen, HasSkipped}
-use Rattle.jpg_prog_read.specs.Stands.{UnitPlace, unit_left, IsElementPart, StandsInBand, IsRest, Answered}
+use Rattle.jpg_prog_read.specs.Stands.{UnitPlace, unit_left, IsElementPart, RepresentsBandUnit, IsRest, Answered}
 use Rattle.jpg_prog_read.proofs.BandSteps.{same_more, join_more, zeros_zero, nonzeros_zero, zeros_old, nonzeros_old, zeros_skip, length_push, part_of, passed_on}
 
 -- a unit of which this is left, with its first value moved to those that are skipped
@@ -146,9 +146,9 @@ ends_on at mid here bits s k r h =
       told = ap (λ l. l ++ k.new ∷ []) h.told ∙ sym (ap (λ l. corrected at.coding.al l (h.corrections ++ k.bits)) join ∙ k.told passed h.corrections h.each);
     }
 
-skipped : {at : UnitPlace} {bits : List Bool} {s : InWork} (f : StandsInBand at bits s) (g : Stage) (k : Skip at.coding.al) → s.stage ≡ g
+skipped : {at : UnitPlace} {bits : List Bool} {s : InWork} (f : RepresentsBandUnit at bits s) (g : Stage) (k : Skip at.coding.al) → s.stage ≡ g
     → s.rest ≡ k.old ∷ drop 1 s.rest → k.zeros ≤ s.run → are_in_bounds at.coding.bounds false (k.new ∷ []) ≡ true → IsPassing g s
-    → StandsInBand at (bits ++ k.bits) (after_skip s k)
+    → RepresentsBandUnit at (bits ++ k.bits) (after_skip s k)
 skipped {at} {bits} {s} f stage.Value k e r some ok g =
     let p = part_of f stage.Value e in
     passed_on f (bits ++ k.bits) (f.part ++ k.bits) (after_skip s k) stage.Value k.new e refl (behind_two bits f.front f.part k.bits f.split) ok (p.0, value_on at f.mid f.here f.part s k r some p.1)
@@ -168,16 +168,16 @@ with_value s v = record s { done = s.done ++ v ∷ []; rest = drop 1 s.rest }
 abbrev pub with_zero : InWork → InWork
 with_zero s = record s { done = s.done ++ pos 0 ∷ []; rest = drop 1 s.rest; run = s.run - 1 }
 
-pub zero_passed : {at : UnitPlace} {bits : List Bool} {s : InWork} (f : StandsInBand at bits s) (g : Stage) → s.stage ≡ g → s.rest ≡ pos 0 ∷ drop 1 s.rest
-    → 1 ≤ s.run → are_in_bounds at.coding.bounds false (pos 0 ∷ []) ≡ true → IsPassing g s → StandsInBand at bits (with_zero s)
-zero_passed {at} {bits} {s} f g e r some ok p = subst (λ b. StandsInBand at b (with_zero s)) (append-nil bits) (skipped f g (a_zero at.coding.al) e r some ok p)
+pub zero_passed : {at : UnitPlace} {bits : List Bool} {s : InWork} (f : RepresentsBandUnit at bits s) (g : Stage) → s.stage ≡ g → s.rest ≡ pos 0 ∷ drop 1 s.rest
+    → 1 ≤ s.run → are_in_bounds at.coding.bounds false (pos 0 ∷ []) ≡ true → IsPassing g s → RepresentsBandUnit at bits (with_zero s)
+zero_passed {at} {bits} {s} f g e r some ok p = subst (λ b. RepresentsBandUnit at b (with_zero s)) (append-nil bits) (skipped f g (a_zero at.coding.al) e r some ok p)
 
-pub old_corrected : {at : UnitPlace} {bits : List Bool} {s : InWork} (f : StandsInBand at bits s) (g : Stage) (o : ℤ) (b : Bool) → s.stage ≡ g
+pub old_corrected : {at : UnitPlace} {bits : List Bool} {s : InWork} (f : RepresentsBandUnit at bits s) (g : Stage) (o : ℤ) (b : Bool) → s.stage ≡ g
     → s.rest ≡ o ∷ drop 1 s.rest → is_zero o ≡ false → are_in_bounds at.coding.bounds false (grown at.coding.al b o ∷ []) ≡ true → IsPassing g s
-    → StandsInBand at (bits ++ b ∷ []) (with_value s (grown at.coding.al b o))
+    → RepresentsBandUnit at (bits ++ b ∷ []) (with_value s (grown at.coding.al b o))
 old_corrected {at} {bits} {s} f g o b e r z ok p =
     let run : s.run - 0 ≡ s.run = omega arith in
-    subst (λ n. StandsInBand at (bits ++ b ∷ []) (record s { done = s.done ++ grown at.coding.al b o ∷ []; rest = drop 1 s.rest; run = n })) run (skipped f g (an_old at.coding.al o b z) e r (omega arith) ok p)
+    subst (λ n. RepresentsBandUnit at (bits ++ b ∷ []) (record s { done = s.done ++ grown at.coding.al b o ∷ []; rest = drop 1 s.rest; run = n })) run (skipped f g (an_old at.coding.al o b z) e r (omega arith) ok p)
 
 -- COMPLETE ELEMENTS
 
@@ -186,7 +186,7 @@ some_going i [] others h = absurd (omega arith)
 some_going i (o ∷ rest) others h = refl
 
 -- The last bits of a unit's state are a complete element of the units that are left, with the values that it tells; and the state after it.
-record EndsElement {at : UnitPlace} {bits : List Bool} {s : InWork} (f : StandsInBand at bits s) (n : InWork) : Type 0 where
+record EndsElement {at : UnitPlace} {bits : List Bool} {s : InWork} (f : RepresentsBandUnit at bits s) (n : InWork) : Type 0 where
   element : Element
   unit : UnitLeft
   units : List UnitLeft
@@ -199,7 +199,7 @@ record EndsElement {at : UnitPlace} {bits : List Bool} {s : InWork} (f : StandsI
   code : n.stage ≡ stage.Code
   quiet : n.walked ≡ []
 
-module _ {at : UnitPlace} {bits : List Bool} {s : InWork} (f : StandsInBand at bits s) where
+module _ {at : UnitPlace} {bits : List Bool} {s : InWork} (f : RepresentsBandUnit at bits s) where
   -- the standing after it
   abbrev standing_of : (n : InWork) → EndsElement f n → Standing
   standing_of n e = record { predictions = predictions_after f.mid.predictions e.unit.component e.element; left = going_on (band_unit at.component []) n.rest at.others }
@@ -259,7 +259,7 @@ all_passed i bands others whole first rest one r =
     ap (λ n. old_values (whole ++ take n (band_unit i (first ++ rest) ∷ others))) one ∙ flat_map-append (λ (v : UnitLeft). v.old) whole (band_unit i (first ++ rest) ∷ [])
     ∙ ap (λ l. old_values whole ++ l) (append-nil (first ++ rest) ∙ ap (λ l. first ++ l) r ∙ append-nil first)
 
-module _ {at : UnitPlace} {bits : List Bool} {s : InWork} (f : StandsInBand at bits s) where
+module _ {at : UnitPlace} {bits : List Bool} {s : InWork} (f : RepresentsBandUnit at bits s) where
   -- A VALUE
 
   value_tells : (q : ℤ) → s.rest ≡ pos 0 ∷ drop 1 s.rest → s.run ≡ 0 → (h : InValue at.coding f.mid (unit_left at s) at.others f.here f.part s.run s.due)
@@ -457,7 +457,7 @@ next_begun at mid s next others here bits r some h =
       told = h.told ∙ ap (λ l. corrected at.coding.al l h.corrections) (sym passed);
     }
 
-pub ends_go_on : {at : UnitPlace} {bits : List Bool} {s : InWork} (f : StandsInBand at bits s) → s.stage ≡ stage.Ends → s.rest ≡ [] → 2 ≤ s.bands
+pub ends_go_on : {at : UnitPlace} {bits : List Bool} {s : InWork} (f : RepresentsBandUnit at bits s) → s.stage ≡ stage.Ends → s.rest ≡ [] → 2 ≤ s.bands
     → Answered at bits Done (record s { bands = s.bands - 1 })
 ends_go_on {at} {bits} {s} f e r some =
     let p = part_of f stage.Ends e in

@@ -4,7 +4,7 @@ use Rattle.std.specs.Prelude.{◌≤ℤ◌}
 use Rattle.std.proofs.lemmas.Int.{ints}
 use Rattle.jpg_spec.specs.Geometry.{bounds_8, bounds_12, bounds_of}
 use Rattle.jpg_spec.specs.declared.frame.Bounds.{Bounds}
-use Rattle.jpg_spec.proofs.Precisions.{of_bounds}
+use Rattle.jpg_spec.proofs.Headers.Precisions.{of_bounds}
 
 -- the greatest values are powers of two less 1, and all fit words of 16 bits
 pub record FitsWords (b : Bounds) : Type 0 where

@@ -8,15 +8,15 @@ use Rattle.jpg_spec.specs.Codes.{Code}
 use Rattle.jpg_spec.specs.Numbers.{digits}
 use Rattle.jpg_spec.specs.Elements.{Coding, is_zero, zeros_in, grown}
 use Rattle.jpg_coefs.specs.declared.machine.UnitFault.TheVariants as unit_fault
-use Rattle.jpg_spec.proofs.Facts.{top, bits_high}
-use Rattle.jpg_spec.proofs.Common.{clash}
+use Rattle.jpg_spec.proofs.Basics.Facts.{top, bits_high}
+use Rattle.jpg_spec.proofs.Basics.Common.{clash}
 use Rattle.jpg_spec.specs.Parts.{BeginsCode}
 use Rattle.jpg_prog_read.specs.declared.stage.Stage.TheVariants as stage
 use Rattle.jpg_prog_read.specs.declared.scan.BandScan.{BandScan}
 use Rattle.jpg_prog_read.specs.declared.band.BandStep.TheVariants.{More, Fault}
 use Rattle.jpg_prog_read.specs.InWork.{InWork, IsOpenBand, IsMoving, IsPassing, AreRefinable, IsRefinable}
 use Rattle.jpg_prog_read.specs.ReaderSteps.{IsWithinBand}
-use Rattle.jpg_prog_read.specs.Stands.{IsCodingOf, UnitPlace, StandsInBand, AnswersBit}
+use Rattle.jpg_prog_read.specs.Stands.{IsCodingOf, UnitPlace, RepresentsBandUnit, AnswersBit}
 use Rattle.jpg_prog_read.specs.BandBits.{AnswersSymbol}
 use Rattle.jpg_prog_read.proofs.BandSteps.{code_more, number_begun, count_begun, count_more, long_begun, end_begun, ends_begun, run_past}
 use Rattle.jpg_prog_read.proofs.BandBits.{walked, walked_none}
@@ -38,7 +38,7 @@ walked_is s mid w e h = e ∙ ap (λ (x : List Bool). (let n : InWork = record s
 pub more_read : (b : BandScan) (ac : List Code) (left : ℕ) (s mid : InWork) (next : Bool) → s.stage ≡ stage.Code → mid ≡ record s { walked = mid.walked }
     → BeginsCode ac (s.walked ++ next ∷ []) → mid.walked ≡ s.walked ++ next ∷ [] → AnswersBit b ac left s next More mid
 more_read b ac left s mid next e same begins w at bits k l f =
-    subst (λ (n : InWork). StandsInBand at (bits ++ next ∷ []) n) (sym (walked_is s mid (s.walked ++ next ∷ []) same w))
+    subst (λ (n : InWork). RepresentsBandUnit at (bits ++ next ∷ []) n) (sym (walked_is s mid (s.walked ++ next ∷ []) same w))
     (code_more f next e (subst (λ t. BeginsCode t (s.walked ++ next ∷ [])) (sym k.ac_codes) begins))
 
 -- THE LAST BIT OF A CODE, by whatever bits before it the machine came to the state
@@ -51,25 +51,25 @@ pub number_read : (b : BandScan) (old new : InWork) (symbol run size : ℕ) → 
     → size ≤ b.most_category → run ≤ 15 → run < zeros_in old.rest → new ≡ record old { stage = stage.Number; run = run; size = size; extra = [] }
     → AnswersSymbol b old symbol More new
 number_read b old new symbol run size e w is some most short room begun ac at bits front last k known f =
-    subst (λ (n : InWork). StandsInBand at (bits ++ last ∷ []) n) (quiet_is old new (λ m. record m { stage = stage.Number; run = run; size = size; extra = [] }) w begun)
+    subst (λ (n : InWork). RepresentsBandUnit at (bits ++ last ∷ []) n) (quiet_is old new (λ m. record m { stage = stage.Number; run = run; size = size; extra = [] }) w begun)
     (number_begun f last run size k e (subst (λ (y : ℕ). Contains ac (front ++ last ∷ [], y)) is known) some most short room)
 
 pub count_read : (b : BandScan) (old new : InWork) (symbol run size : ℕ) → old.stage ≡ stage.Code → old.walked ≡ [] → symbol ≡ 16 * size → size ≤ 14
     → new ≡ record old { stage = stage.Count; run = run; size = size; extra = [] } → AnswersSymbol b old symbol More new
 count_read b old new symbol run size e w is most begun ac at bits front last k known f =
-    subst (λ (n : InWork). StandsInBand at (bits ++ last ∷ []) n) (quiet_is old new (λ m. record m { stage = stage.Count; run = run; size = size; extra = [] }) w begun)
+    subst (λ (n : InWork). RepresentsBandUnit at (bits ++ last ∷ []) n) (quiet_is old new (λ m. record m { stage = stage.Count; run = run; size = size; extra = [] }) w begun)
     (count_begun f last size run k e (subst (λ (y : ℕ). Contains ac (front ++ last ∷ [], y)) is known) most)
 
 pub long_read : (b : BandScan) (old new : InWork) (symbol : ℕ) → old.stage ≡ stage.Code → old.walked ≡ [] → symbol ≡ 0xf0
     → new ≡ record old { stage = stage.Long; run = 15 } → AnswersSymbol b old symbol More new
 long_read b old new symbol e w is begun ac at bits front last k known f =
-    subst (λ (n : InWork). StandsInBand at (bits ++ last ∷ []) n) (quiet_is old new (λ m. record m { stage = stage.Long; run = 15 }) w begun)
+    subst (λ (n : InWork). RepresentsBandUnit at (bits ++ last ∷ []) n) (quiet_is old new (λ m. record m { stage = stage.Long; run = 15 }) w begun)
     (long_begun f last k e (subst (λ (y : ℕ). Contains ac (front ++ last ∷ [], y)) is known))
 
 pub end_read : (b : BandScan) (old new : InWork) (symbol : ℕ) → old.stage ≡ stage.Code → old.walked ≡ [] → symbol ≡ 0 → zeros_in old.rest < 255
     → new ≡ record old { stage = stage.Ends; run = 255; bands = 1 } → AnswersSymbol b old symbol More new
 end_read b old new symbol e w is small begun ac at bits front last k known f =
-    subst (λ (n : InWork). StandsInBand at (bits ++ last ∷ []) n) (quiet_is old new (λ m. record m { stage = stage.Ends; run = 255; bands = 1 }) w begun)
+    subst (λ (n : InWork). RepresentsBandUnit at (bits ++ last ∷ []) n) (quiet_is old new (λ m. record m { stage = stage.Ends; run = 255; bands = 1 }) w begun)
     (end_begun f last k e (subst (λ (y : ℕ). Contains ac (front ++ last ∷ [], y)) is known) small)
 
 -- the reader continues
@@ -83,16 +83,16 @@ count_opened b s new run size o some few begun = subst (λ (n : InWork). IsOpenB
 
 -- AN EXTRA BIT
 
-count_mid : {at : UnitPlace} {bits : List Bool} {s : InWork} (mid : InWork) (next : Bool) → s.stage ≡ stage.Count → StandsInBand at bits s
-    → mid ≡ record s { extra = s.extra ++ next ∷ [] } → StandsInBand at (bits ++ next ∷ []) mid × (mid.stage ≡ stage.Count)
-count_mid {at} {bits} {s} mid next e f same = (subst (λ (n : InWork). StandsInBand at (bits ++ next ∷ []) n) (sym same) (count_more f next e), ap (λ (n : InWork). n.stage) same ∙ e)
+count_mid : {at : UnitPlace} {bits : List Bool} {s : InWork} (mid : InWork) (next : Bool) → s.stage ≡ stage.Count → RepresentsBandUnit at bits s
+    → mid ≡ record s { extra = s.extra ++ next ∷ [] } → RepresentsBandUnit at (bits ++ next ∷ []) mid × (mid.stage ≡ stage.Count)
+count_mid {at} {bits} {s} mid next e f same = (subst (λ (n : InWork). RepresentsBandUnit at (bits ++ next ∷ []) n) (sym same) (count_more f next e), ap (λ (n : InWork). n.stage) same ∙ e)
 
 pub ends_read : (b : BandScan) (ac : List Code) (left : ℕ) (s mid new : InWork) (next : Bool) (total : ℕ) → s.stage ≡ stage.Count
     → mid ≡ record s { extra = s.extra ++ next ∷ [] } → 1 ≤ total → digits total ≡ mid.size + 1 → bits_of mid.size total ≡ mid.extra → total ≤ left
     → zeros_in mid.rest < 255 → new ≡ record mid { stage = stage.Ends; run = 255; bands = total } → AnswersBit b ac left s next More new
 ends_read b ac left s mid new next total e same some size extra fits small begun at bits k l f =
     let m = count_mid mid next e f same in
-    subst (λ (n : InWork). StandsInBand at (bits ++ next ∷ []) n) (sym begun) (ends_begun m.0 total k m.1 some size extra (omega (arith, l, fits)) small)
+    subst (λ (n : InWork). RepresentsBandUnit at (bits ++ next ∷ []) n) (sym begun) (ends_begun m.0 total k m.1 some size extra (omega (arith, l, fits)) small)
 
 pub past_read : (b : BandScan) (ac : List Code) (left : ℕ) (s mid : InWork) (next : Bool) (total : ℕ) → s.stage ≡ stage.Count
     → mid ≡ record s { extra = s.extra ++ next ∷ [] } → 1 ≤ total → digits total ≡ mid.size + 1 → bits_of mid.size total ≡ mid.extra → left < total
@@ -110,10 +110,10 @@ past_read b ac left s mid next total e same some size extra past at bits k l f =
 -- AN OLD VALUE and its correction
 
 pub old_read : {at : UnitPlace} {bits : List Bool} {s : InWork} (new : InWork) (o v : ℤ) (next : Bool) → IsPassing s.stage s → s.rest ≡ o ∷ drop 1 s.rest
-    → is_zero o ≡ false → StandsInBand at bits s → IsWithinBand at.coding v → v ≡ grown at.coding.al next o
-    → new ≡ record s { done = s.done ++ v ∷ []; rest = drop 1 s.rest } → StandsInBand at (bits ++ next ∷ []) new
+    → is_zero o ≡ false → RepresentsBandUnit at bits s → IsWithinBand at.coding v → v ≡ grown at.coding.al next o
+    → new ≡ record s { done = s.done ++ v ∷ []; rest = drop 1 s.rest } → RepresentsBandUnit at (bits ++ next ∷ []) new
 old_read {at} {bits} {s} new o v next p r z f ok g e =
-    subst (λ (n : InWork). StandsInBand at (bits ++ next ∷ []) n) (sym (e ∙ ap (λ (y : ℤ). with_value s y) g))
+    subst (λ (n : InWork). RepresentsBandUnit at (bits ++ next ∷ []) n) (sym (e ∙ ap (λ (y : ℤ). with_value s y) g))
     (old_corrected f s.stage o next refl r z (subst (λ (y : ℤ). IsWithinBand at.coding y) g ok) p)
 
 pub moving_put : (b : BandScan) (s new : InWork) (v : ℤ) → IsPassing s.stage s → AreRefinable b s.rest → new ≡ record s { done = s.done ++ v ∷ []; rest = drop 1 s.rest } → IsMoving b new

@@ -4,7 +4,7 @@ use Rattle.std.specs.Prelude.{take, sum}
 use Rattle.std.proofs.lemmas.List.{ext_get_or, take_all}
 use Rattle.jpg_spec.specs.Segments.{HuffmanTable, table_codes}
 use Rattle.jpg_spec.specs.Codes.{are_codes}
-use Rattle.jpg_spec.proofs.Common.{clash}
+use Rattle.jpg_spec.proofs.Basics.Common.{clash}
 use Rattle.jpg_huff.specs.declared.table.Table.{Table}
 use Rattle.jpg_huff.specs.declared.new.TableFault.{TableFault}
 use Rattle.jpg_huff.specs.declared.new.TableFault.TheVariants as fault

@@ -7,7 +7,7 @@ use Rattle.jpg_spec.specs.Elements.{is_zero, zeros}
 use Rattle.jpg_prog_read.specs.declared.scan.BandScan.{BandScan}
 use Rattle.jpg_prog_read.specs.InWork.{InWork, IsPassing, AreRefinable, IsRefinable}
 use Rattle.jpg_prog_read.specs.ReaderSteps.{HasSkipped, PassesZeros, HasZero}
-use Rattle.jpg_prog_read.specs.Stands.{UnitPlace, StandsInBand}
+use Rattle.jpg_prog_read.specs.Stands.{UnitPlace, RepresentsBandUnit}
 use Rattle.jpg_prog_read.specs.ZerosPassed.{after_zeros}
 use Rattle.jpg_prog_read.proofs.Passing.{zero_passed, with_zero, passing_more}
 
@@ -32,13 +32,13 @@ none_passed s =
     ap (λ (l : List ℤ). (let m : InWork = record s { done = l; rest = s.rest; run = s.run - 0 } in m)) (append-nil s.done)
     ∙ ap (λ (x : ℕ). (let m : InWork = record s { run = x } in m)) k
 
-pub zeros_passed : (at : UnitPlace) (bits : List Bool) (s : InWork) (n : ℕ) → n ≤ length s.rest → take n s.rest ≡ zeros n → n ≤ s.run → HasZero at.coding → StandsInBand at bits s → IsPassing s.stage s → StandsInBand at bits (after_zeros s n)
-zeros_passed at bits s zero some next run ok f g = subst (λ (m : InWork). StandsInBand at bits m) (sym (none_passed s)) f
+pub zeros_passed : (at : UnitPlace) (bits : List Bool) (s : InWork) (n : ℕ) → n ≤ length s.rest → take n s.rest ≡ zeros n → n ≤ s.run → HasZero at.coding → RepresentsBandUnit at bits s → IsPassing s.stage s → RepresentsBandUnit at bits (after_zeros s n)
+zeros_passed at bits s zero some next run ok f g = subst (λ (m : InWork). RepresentsBandUnit at bits m) (sym (none_passed s)) f
 zeros_passed at bits s (suc n) some next run ok f g =
     let z = zero_next n s.rest some next in
-    let here : StandsInBand at bits (with_zero s) = zero_passed f s.stage refl z.0 (omega (arith, run)) ok g in
+    let here : RepresentsBandUnit at bits (with_zero s) = zero_passed f s.stage refl z.0 (omega (arith, run)) ok g in
     let short : n ≤ length (drop 1 s.rest) = (let e : length s.rest ≡ suc (length (drop 1 s.rest)) = ap length z.0 in omega (arith, some, e)) in
-    subst (λ (m : InWork). StandsInBand at bits m) (sym (one_less s n run)) (zeros_passed at bits (with_zero s) n short z.1 (omega (arith, run)) ok here (passing_more s (with_zero s) refl g))
+    subst (λ (m : InWork). RepresentsBandUnit at bits m) (sym (one_less s n run)) (zeros_passed at bits (with_zero s) n short z.1 (omega (arith, run)) ok here (passing_more s (with_zero s) refl g))
 
 -- what else doesn't change
 fits_after : (b : BandScan) (n : ℕ) (rest : List ℤ) → AreRefinable b rest → AreRefinable b (drop n rest)
@@ -56,7 +56,7 @@ skipped s new n e = record {
 }
 
 pub passes : (s new : InWork) (n : ℕ) → n ≤ length s.rest → take n s.rest ≡ zeros n → n ≤ s.run → IsPassing s.stage s → new ≡ after_zeros s n → PassesZeros s new
-passes s new n some next run g e = λ at bits ok f. subst (λ (m : InWork). StandsInBand at bits m) (sym e) (zeros_passed at bits s n some next run ok f g)
+passes s new n some next run g e = λ at bits ok f. subst (λ (m : InWork). RepresentsBandUnit at bits m) (sym e) (zeros_passed at bits s n some next run ok f g)
 
 -- the same for fewer zeros, and one after them
 pub fewer_come : (n r : ℕ) (rest : List ℤ) → r < n → n ≤ length rest → take n rest ≡ zeros n → (take r rest ≡ zeros r) × (drop r rest ≡ pos 0 ∷ drop 1 (drop r rest))

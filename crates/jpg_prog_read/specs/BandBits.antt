@@ -6,13 +6,13 @@ use Rattle.jpg_prog_read.specs.declared.band.BandStep.{BandStep}
 use Rattle.jpg_prog_read.specs.declared.band.BandStep.TheVariants.{More, Done, Fault}
 use Rattle.jpg_prog_read.specs.InWork.{InWork, IsOpenBand}
 use Rattle.jpg_prog_read.specs.ReaderSteps.{StaysOpen, KeepsOtherValues}
-use Rattle.jpg_prog_read.specs.Stands.{IsCodingOf, UnitPlace, StandsInBand, Answered, AnswersBit}
+use Rattle.jpg_prog_read.specs.Stands.{IsCodingOf, UnitPlace, RepresentsBandUnit, Answered, AnswersBit}
 
 -- The last bit of a code has this answer, whatever proper prefix of the code was walked before it.
 abbrev pub AnswersSymbol : BandScan → InWork → ℕ → BandStep → InWork → Type 0
 AnswersSymbol b old symbol step new =
     (ac : List Code) (at : UnitPlace) (bits front : List Bool) (last : Bool) → IsCodingOf b ac at.coding at.component
-    → Contains ac (front ++ last ∷ [], symbol) → StandsInBand at bits (record old { walked = front }) → Answered at (bits ++ last ∷ []) step new
+    → Contains ac (front ++ last ∷ [], symbol) → RepresentsBandUnit at bits (record old { walked = front }) → Answered at (bits ++ last ∷ []) step new
 
 -- a bit after which the unit goes on
 pub record BandGoesOn (b : BandScan) (ac : List Code) (left : ℕ) (old : InWork) (bit : Bool) (new : InWork) : Type 0 where

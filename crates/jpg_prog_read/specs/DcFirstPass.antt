@@ -12,7 +12,7 @@ use Rattle.jpg_prog_read.specs.declared.scan.DcScan.{DcScan}
 use Rattle.jpg_prog_read.specs.declared.dc.DcStep.{DcStep}
 use Rattle.jpg_prog_read.specs.declared.dc_first.DcFirst.{DcFirst}
 use Rattle.jpg_prog_read.specs.DcWork.{DcWork, AreDcSane, IsDcOpen, fresh}
-use Rattle.jpg_prog_read.specs.DcStands.{IsDcCodingOf, DcStands, AnswersDcBit}
+use Rattle.jpg_prog_read.specs.RepresentsDcUnit.{IsDcCodingOf, RepresentsDcUnit, AnswersDcBit}
 use Rattle.jpg_prog_read.specs.DcLookedUp.{AreDcLookedUp, Hurries}
 use Rattle.jpg_prog_read.specs.DcPlaces.{IsDcBand, InInterval, next_of, old_dc, IsWithin, IsNextInterval}
 
@@ -34,7 +34,7 @@ pub record ReadsBy (b : DcScan) (tables : TableSet) (c : Coding) : Type 0 where
   pub codes : (k : ℕ) (table : Table) → table_in tables k ≡ Some table → IsDcCodingOf b (symbol_codes table) c k
 
 -- Complete units, and a part of the next.
-pub record FirstStands (m : DcFirst) (i : Interval) (bits : List Bool) (now : Picture) : Type 0 where
+pub record RepresentsDcFirst (m : DcFirst) (i : Interval) (bits : List Bool) (now : Picture) : Type 0 where
   pub reads : ReadsBy m.scan m.tables i.scan.coding
   pub looks : AreDcLookedUp m.tables m.looks
   pub tables : All (HasTable m.tables) m.cursor
@@ -44,7 +44,7 @@ pub record FirstStands (m : DcFirst) (i : Interval) (bits : List Bool) (now : Pi
   pub places : IsWithin m.cursor m.left i now within
   pub predictions : ℕ → ℤ
   pub predicts : (k : ℕ) → k < 4 → prediction_at m k ≡ predictions k
-  pub stands : DcStands (next_of i within) predictions (old_dc i within) bits m.unit
+  pub stands : RepresentsDcUnit (next_of i within) predictions (old_dc i within) bits m.unit
 
 -- an interval that it may begin
 pub record FirstReady (m : DcFirst) (i : Interval) : Type 0 where
@@ -55,7 +55,7 @@ pub record FirstReady (m : DcFirst) (i : Interval) : Type 0 where
   pub places : IsNextInterval m.cursor m.left i
 
 abbrev pub first_pass : Kind DcFirst
-first_pass = record { stands = FirstStands; ready = FirstReady; left = λ m. m.left; fits = λ i. IsDcBand i.scan }
+first_pass = record { stands = RepresentsDcFirst; ready = FirstReady; left = λ m. m.left; fits = λ i. IsDcBand i.scan }
 
 -- THE RESULTS OF ITS CALLS
 

@@ -10,7 +10,7 @@ use Rattle.jpg_prog_read.specs.declared.scan.DcScan.{DcScan}
 use Rattle.jpg_prog_read.specs.declared.dc.DcStep.TheVariants.{More}
 use Rattle.jpg_prog_read.specs.declared.dc_looks.DcLooks.{DcLooks}
 use Rattle.jpg_prog_read.specs.DcWork.{DcWork, IsDcOpen}
-use Rattle.jpg_prog_read.specs.DcStands.{AnswersDcBit}
+use Rattle.jpg_prog_read.specs.RepresentsDcUnit.{AnswersDcBit}
 
 -- the codes in a slot, if any
 abbrev pub dc_codes_at : DcLooks → ℕ → Option (List Code)

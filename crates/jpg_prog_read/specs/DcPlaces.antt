@@ -8,7 +8,7 @@ use Rattle.jpg_base.specs.Cursor.{IsPadded}
 use Rattle.jpg_coefs.specs.Picture.{Picture, block_in, map_of, put_at}
 use Rattle.jpg_coefs.specs.Machine.{Interval, units_of}
 use Rattle.jpg_prog_read.specs.Stands.{UnitPlace}
-use Rattle.jpg_prog_read.specs.DcStands.{DcBetween, dc_unit}
+use Rattle.jpg_prog_read.specs.RepresentsDcUnit.{DcBetween, dc_unit}
 
 -- only the first coefficient of each block
 pub record IsDcBand (s : Scan) : Type 0 where

@@ -8,7 +8,7 @@ use Rattle.jpg_coefs.specs.Machine.{Interval, Kind}
 use Rattle.jpg_prog_read.specs.declared.dc_refine.DcRefine.{DcRefine}
 use Rattle.jpg_prog_read.specs.Known.{IsMultiple}
 use Rattle.jpg_prog_read.specs.DcWork.{AreDcSane}
-use Rattle.jpg_prog_read.specs.DcStands.{IsDcRefinementOf}
+use Rattle.jpg_prog_read.specs.RepresentsDcUnit.{IsDcRefinementOf}
 use Rattle.jpg_prog_read.specs.DcPlaces.{IsDcBand, dc_at, InInterval, AreCompleteUnits, IsWithin, IsNextInterval}
 
 -- a DC value that is within the bounds, whichever bit al it gets
@@ -32,7 +32,7 @@ pub record TakesOneBit (i : Interval) : Type 0 where
   pub room : All (HasRoomAt i.scan.coding (map_of i.before)) i.places
 
 -- Complete units, after which the next one's bit follows.
-pub record RefineStands (m : DcRefine) (i : Interval) (bits : List Bool) (now : Picture) : Type 0 where
+pub record RepresentsDcRefine (m : DcRefine) (i : Interval) (bits : List Bool) (now : Picture) : Type 0 where
   pub sane : AreDcSane m.scan
   pub coded : IsDcRefinementOf m.scan i.scan.coding
   pub kind : TakesOneBit i
@@ -49,7 +49,7 @@ pub record RefineReady (m : DcRefine) (i : Interval) : Type 0 where
   pub places : IsNextInterval m.cursor m.left i
 
 abbrev pub refinement : Kind DcRefine
-refinement = record { stands = RefineStands; ready = RefineReady; left = λ m. m.left; fits = TakesOneBit }
+refinement = record { stands = RepresentsDcRefine; ready = RefineReady; left = λ m. m.left; fits = TakesOneBit }
 
 -- after a complete unit
 abbrev pub after_bit : DcRefine → DcRefine

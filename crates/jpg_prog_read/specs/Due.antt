@@ -5,14 +5,14 @@ use Rattle.jpg_spec.specs.Parts.{WantsCorrection, StandsInUnits}
 use Rattle.jpg_prog_read.specs.declared.stage.Stage.TheVariants.{Ends}
 use Rattle.jpg_prog_read.specs.InWork.{InWork}
 use Rattle.jpg_prog_read.specs.DcWork.{DcWork}
-use Rattle.jpg_prog_read.specs.Stands.{UnitPlace, unit_left, StandsInBand, BetweenUnits}
-use Rattle.jpg_prog_read.specs.DcStands.{DcStands, DcBetween, dc_unit}
+use Rattle.jpg_prog_read.specs.Stands.{UnitPlace, unit_left, RepresentsBandUnit, BetweenUnits}
+use Rattle.jpg_prog_read.specs.RepresentsDcUnit.{RepresentsDcUnit, DcBetween, dc_unit}
 
 -- in a unit of a band: the bits encode what is done of it, and the rest of it is left
 abbrev pub BandIsDue : InWork → Type 0
 BandIsDue s =
     (at : UnitPlace) (bits : List Bool)
-    → StandsInBand at bits s → StandsInUnits at.coding at.units (at.told ++ s.done) (unit_left at s ∷ at.others) bits
+    → RepresentsBandUnit at bits s → StandsInUnits at.coding at.units (at.told ++ s.done) (unit_left at s ∷ at.others) bits
 
 -- between two of them, if an end-of-band run that goes on has a correction next
 abbrev pub NextIsDue : InWork → Type 0
@@ -24,7 +24,7 @@ NextIsDue s =
 abbrev pub DcIsDue : DcWork → Type 0
 DcIsDue s =
     (at : UnitPlace) (p : ℕ → ℤ) (o : ℤ) (bits : List Bool)
-    → DcStands at p o bits s → StandsInUnits at.coding at.units at.told (dc_unit at.component o ∷ at.others) bits
+    → RepresentsDcUnit at p o bits s → StandsInUnits at.coding at.units at.told (dc_unit at.component o ∷ at.others) bits
 
 -- between two of them, in first passes and refinements
 abbrev pub NextDcIsDue : Type 0

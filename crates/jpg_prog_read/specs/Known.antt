@@ -11,7 +11,7 @@ use Rattle.jpg_spec.specs.PictureInWork.{is_in_band}
 use Rattle.jpg_spec.specs.Laws.{frame_of_items}
 use Rattle.jpg_spec.specs.declared.frame.Limits.{Limits}
 use Rattle.jpg_spec.specs.declared.frame.Place.{Place}
-use Rattle.jpg_prog_read.specs.AcStands.{HasCorrectionRoom}
+use Rattle.jpg_prog_read.specs.RepresentsAcScan.{HasCorrectionRoom}
 
 abbrev pub IsMultiple : ℕ → ℤ → Type 0
 IsMultiple al v = (m : ℕ) × (nat_abs v ≡ m * 2 ^ al)

@@ -1,4 +1,4 @@
-pub mod AcStands
+pub mod RepresentsAcScan
 pub mod BandBits
 pub mod BitsTaken
 pub mod DcFirstPass
@@ -6,7 +6,7 @@ pub mod DcLookedUp
 pub mod DcNew
 pub mod DcPlaces
 pub mod DcRefinement
-pub mod DcStands
+pub mod RepresentsDcUnit
 pub mod DcWork
 pub mod Due
 pub mod ExtraWork

@@ -15,7 +15,7 @@ use Rattle.jpg_huff.specs.Tables.{table_of}
 use Rattle.jpg_coefs.specs.Picture.{map_of}
 use Rattle.jpg_coefs.specs.Machine.{Interval}
 use Rattle.jpg_prog_read.specs.declared.scan.BandScan.{BandScan}
-use Rattle.jpg_prog_read.specs.AcStands.{IsAcInterval}
+use Rattle.jpg_prog_read.specs.RepresentsAcScan.{IsAcInterval}
 
 -- the AC table of a part is there
 pub record HasAcTable (set : TableSet) (p : ScanPart) : Type 0 where

@@ -10,7 +10,7 @@ use Rattle.jpg_prog_read.specs.declared.band.Skipped.TheVariants.{AtEnd, AtOld, 
 use Rattle.jpg_prog_read.specs.declared.band.BandStep.{BandStep}
 use Rattle.jpg_prog_read.specs.declared.band.BandStep.TheVariants.{More, Done, Fault}
 use Rattle.jpg_prog_read.specs.InWork.{InWork, IsOpenBand, IsWholeUnit, AreRefinable}
-use Rattle.jpg_prog_read.specs.Stands.{UnitPlace, StandsInBand}
+use Rattle.jpg_prog_read.specs.Stands.{UnitPlace, RepresentsBandUnit}
 
 -- numbers that fit the reader's types
 pub record IsSaneBand (b : BandScan) : Type 0 where
@@ -64,4 +64,4 @@ pub record HasSkipped (old new : InWork) : Type 0 where
 
 -- zeros were skipped, and the unit is that of the same bits
 abbrev pub PassesZeros : InWork → InWork → Type 0
-PassesZeros old new = (at : UnitPlace) (bits : List Bool) → HasZero at.coding → StandsInBand at bits old → StandsInBand at bits new
+PassesZeros old new = (at : UnitPlace) (bits : List Bool) → HasZero at.coding → RepresentsBandUnit at bits old → RepresentsBandUnit at bits new

@@ -47,7 +47,7 @@ IsElementPart at mid here bits s stage.Ends =
 
 -- The bits are complete elements and a part of the next. They encode the values of complete units, and those of the
 -- current one that are done.
-pub record StandsInBand (at : UnitPlace) (bits : List Bool) (s : InWork) : Type 0 where
+pub record RepresentsBandUnit (at : UnitPlace) (bits : List Bool) (s : InWork) : Type 0 where
   pub elements : List Element
   pub before : List ℤ
   pub front : List Bool
@@ -87,7 +87,7 @@ pub record BetweenUnits (c : Coding) (units : List UnitLeft) (told : List ℤ) (
 
 -- the answer at these bits of an interval
 abbrev pub Answered : UnitPlace → List Bool → BandStep → InWork → Type 0
-Answered at bits More new = StandsInBand at bits new
+Answered at bits More new = RepresentsBandUnit at bits new
 Answered at bits Done new = BetweenUnits at.coding at.units (at.told ++ new.done) at.others bits new
 Answered at bits (Shown f) new = DataReveals at.coding at.units (fault_of f) bits
 
@@ -96,12 +96,12 @@ Answered at bits (Shown f) new = DataReveals at.coding at.units (fault_of f) bit
 -- no bit is taken; and one is taken while this many units are left
 abbrev pub AnswersStep : BandScan → InWork → BandStep → InWork → Type 0
 AnswersStep b old step new =
-    (ac : List Code) (at : UnitPlace) (bits : List Bool) → IsCodingOf b ac at.coding at.component → StandsInBand at bits old → Answered at bits step new
+    (ac : List Code) (at : UnitPlace) (bits : List Bool) → IsCodingOf b ac at.coding at.component → RepresentsBandUnit at bits old → Answered at bits step new
 
 abbrev pub AnswersBit : BandScan → List Code → ℕ → InWork → Bool → BandStep → InWork → Type 0
 AnswersBit b ac left old bit step new =
     (at : UnitPlace) (bits : List Bool) → IsCodingOf b ac at.coding at.component → left ≡ 1 + length at.others
-    → StandsInBand at bits old → Answered at (bits ++ bit ∷ []) step new
+    → RepresentsBandUnit at bits old → Answered at (bits ++ bit ∷ []) step new
 
 -- this band follows the previous unit
 abbrev pub AnswersBand : BandScan → List ℤ → InWork → BandStep → InWork → Type 0
@@ -118,7 +118,7 @@ IsNoFault (Shown f) = ⊥
 -- an end-of-band run has none as it goes on, in the current unit and in the next
 abbrev pub PassesEnds : BandScan → InWork → BandStep → Type 0
 PassesEnds b old step =
-    (ac : List Code) (at : UnitPlace) (bits : List Bool) → IsCodingOf b ac at.coding at.component → StandsInBand at bits old → old.stage ≡ stage.Ends → IsNoFault step
+    (ac : List Code) (at : UnitPlace) (bits : List Bool) → IsCodingOf b ac at.coding at.component → RepresentsBandUnit at bits old → old.stage ≡ stage.Ends → IsNoFault step
 
 abbrev pub BeginsQuietly : BandScan → List ℤ → InWork → BandStep → Type 0
 BeginsQuietly b band old step =

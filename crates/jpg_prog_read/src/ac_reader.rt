@@ -7,7 +7,7 @@ ghost use Rattle.jpg_huff.specs.Tables.{symbol_codes};
 ghost use Rattle.jpg_prog_read.specs.NewAcReader.{HasAcTable, IsAcScan, IsOfAcScan, IsBandOf};
 ghost use Rattle.jpg_coefs.specs.Machine.{Interval, TakesBits};
 ghost use Rattle.jpg_coefs.specs.Picture.{Picture};
-ghost use Rattle.jpg_prog_read.specs.AcStands.{IsInUnit, HasWhole, IsBetweenUnits, AcStands, ReadsBit, PutsUnit, TakesQuietly, TakesUnit, Settles, BandsGoOn, progressive_ac, with_unit_of};
+ghost use Rattle.jpg_prog_read.specs.RepresentsAcScan.{IsInUnit, HasWhole, IsBetweenUnits, RepresentsAcScan, ReadsBit, PutsUnit, TakesQuietly, TakesUnit, Settles, BandsGoOn, progressive_ac, with_unit_of};
 ghost use Rattle.jpg_prog_read.specs.BandBits.{TakesBand};
 ghost use Rattle.jpg_prog_read.specs.declared.stage.Stage.TheVariants as stages;
 
@@ -134,7 +134,7 @@ impl AcReader {
 
     // Begins the first unit, if it wasn't begun yet.
     fn settle(&mut self, coefs: &Coefs)
-        requires { (i : Interval) × (bits : List Bool) × AcStands self.old i bits coefs.now }
+        requires { (i : Interval) × (bits : List Bool) × RepresentsAcScan self.old i bits coefs.now }
         ensures begun { self.new.fresh ≡ false }
         ensures count { self.new.left ≡ self.old.left }
         ensures settles { Settles self.old coefs.now self.new }
@@ -162,7 +162,7 @@ impl AcReader {
     #[inline(always)]
     fn read(&mut self, store: &mut BitStore, coefs: &mut Coefs, most: u64) -> Taken
         requires begun { self.old.fresh ≡ false }
-        requires open { (i : Interval) × (bits : List Bool) × AcStands self.old i bits coefs.old }
+        requires open { (i : Interval) × (bits : List Bool) × RepresentsAcScan self.old i bits coefs.old }
         requires some { 1 ≤ most }
         ensures { TakesBits progressive_ac most self.old coefs.old store.old result self.new coefs.new store.new }
     {

@@ -9,7 +9,7 @@ ghost use Rattle.jpg_prog_read.specs.InWork.{IsOpenBand, IsMoving, IsPassing, Is
 ghost use Rattle.jpg_prog_read.specs.ReaderSteps.{IsSaneBand, IsSkipped, AfterBandEnd, AfterValue, StaysOpen, KeepsOtherValues, HasSkipped, PassesZeros};
 ghost use Rattle.jpg_prog_read.specs.ExtraWork.{IsWanting};
 ghost use Rattle.jpg_prog_read.specs.declared.scan.BandScan.{BandScan};
-ghost use Rattle.jpg_prog_read.specs.Stands.{UnitPlace, StandsInBand, Answered, AnswersStep, AnswersBit, AnswersBand, PassesEnds, BeginsQuietly, IsNoFault};
+ghost use Rattle.jpg_prog_read.specs.Stands.{UnitPlace, RepresentsBandUnit, Answered, AnswersStep, AnswersBit, AnswersBand, PassesEnds, BeginsQuietly, IsNoFault};
 ghost use Rattle.jpg_prog_read.specs.BandBits.{AnswersSymbol, TakesBand};
 ghost use Rattle.jpg_prog_read.specs.ZerosPassed.{ZerosComeNext, after_zeros};
 
@@ -342,7 +342,7 @@ impl BandReader {
         requires stage { (self.old.stage ≡ Stage.Ends) × (1 ≤ self.old.bands) }
         ensures open { (b : BandScan) → StaysOpen b result self.new }
         ensures outside { KeepsOtherValues self.old self.new }
-        ensures answered { (at : UnitPlace) (bits : List Bool) → StandsInBand at bits self.old → Answered at bits result self.new }
+        ensures answered { (at : UnitPlace) (bits : List Bool) → RepresentsBandUnit at bits self.old → Answered at bits result self.new }
         ensures quiet { IsNoFault result }
     {
         match self.end_band() {

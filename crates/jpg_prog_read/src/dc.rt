@@ -5,7 +5,7 @@ ghost use Rattle.jpg_spec.specs.Numbers.{category, extra_bits};
 ghost use Rattle.jpg_huff.specs.Walk.{WalkAnswers};
 ghost use Rattle.jpg_huff.specs.Tables.{symbol_codes};
 ghost use Rattle.jpg_prog_read.specs.DcWork.{DcWork, IsDcOpen, AreDcSane, IsDcValue, IsDcSide, DcStaysOpen, AfterDcExtra, IsDcStage, fresh};
-ghost use Rattle.jpg_prog_read.specs.DcStands.{AnswersDcBit, AnswersDcRefinement, BeginsDc};
+ghost use Rattle.jpg_prog_read.specs.RepresentsDcUnit.{AnswersDcBit, AnswersDcRefinement, BeginsDc};
 ghost use Rattle.jpg_prog_read.specs.DcLookedUp.{Hurries};
 ghost use Rattle.jpg_prog_read.specs.declared.scan.DcScan.{DcScan};
 

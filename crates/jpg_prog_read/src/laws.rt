@@ -6,7 +6,7 @@ ghost use Rattle.jpg_spec.specs.PictureInWork.{AreDistinct};
 ghost use Rattle.jpg_prog_read.specs.declared.ac_reader.AcReader.{AcReader};
 ghost use Rattle.jpg_prog_read.specs.declared.scan.BandScan.{BandScan};
 ghost use Rattle.jpg_prog_read.specs.DcWork.{DcWork, IsDcOpen};
-ghost use Rattle.jpg_prog_read.specs.AcStands.{BandHasRoom, IsAcInterval, NextIsAc, progressive_ac};
+ghost use Rattle.jpg_prog_read.specs.RepresentsAcScan.{BandHasRoom, IsAcInterval, NextIsAc, progressive_ac};
 ghost use Rattle.jpg_prog_read.specs.Due.{BandIsDue, NextIsDue, DcIsDue, NextDcIsDue};
 ghost use Rattle.jpg_prog_read.specs.Known.{LeavesRoom, TellsMultiples, GivesRoom, EachHasRoom, IsProgressiveAfter, LeadsToKnown};
 ghost use Rattle.jpg_spec.specs.Items.{Item};

@@ -19,10 +19,10 @@ use Rattle.jpg_spec_write.specs.WrittenFile.{HasBlocksIn}
 use Rattle.jpg_spec.specs.declared.frame.Place.{Place}
 use Rattle.jpg_spec.specs.declared.frame.Bounds.{Bounds}
 use Rattle.jpg_spec.specs.declared.frame.ScanPart.{ScanPart}
-use Rattle.jpg_spec.proofs.Common.{both, le_of, same_of, lt_yes, not_same, from_test}
-use Rattle.jpg_spec.proofs.Each.{Each, each_join}
-use Rattle.jpg_spec.proofs.Precisions.{of_bounds}
-use Rattle.jpg_spec.proofs.Small.{are_bounds}
+use Rattle.jpg_spec.proofs.Basics.Common.{both, le_of, same_of, lt_yes, not_same, from_test}
+use Rattle.jpg_spec.proofs.Basics.Each.{Each, each_join}
+use Rattle.jpg_spec.proofs.Headers.Precisions.{of_bounds}
+use Rattle.jpg_spec.proofs.Basics.Small.{are_bounds}
 use Rattle.jpg_huff.specs.declared.set.TableSet.{TableSet}
 use Rattle.jpg_base.specs.Desk.{DeskState}
 use Rattle.jpg_base.specs.declared.stop.WriteFault.{WriteFault}

@@ -11,7 +11,7 @@ use Rattle.jpg_spec.specs.Scan.{part_of}
 use Rattle.jpg_spec_write.specs.ScanText.{UnitDue, Owned, last_dc, dc_element, band_of, unit_elements, interval_elements, element_bits}
 use Rattle.jpg_spec.specs.Codes.{code_of}
 use Rattle.jpg_spec.specs.declared.frame.ScanPart.{ScanPart}
-use Rattle.jpg_spec.proofs.Small.{few_digits}
+use Rattle.jpg_spec.proofs.Basics.Small.{few_digits}
 use Rattle.jpg_huff.specs.declared.set.TableSet.{TableSet}
 use Rattle.jpg_coefs.specs.Sinks.{no_last}
 use Rattle.jpg_prog_write.specs.Written.{tables_in, codes_in, dc_unit}

@@ -9,7 +9,7 @@ use Rattle.arrayvec.specs.ArrayVec.{ArrayVec}
 use Rattle.jpg_spec.specs.Lists.{any_of}
 use Rattle.jpg_spec.specs.Elements.{Element, ends, is_zero, zeros}
 use Rattle.jpg_spec_write.specs.Sending.{Sent, is_new, up_to_last, after_last, corrections_of, value_elements, ended_bands, band_elements}
-use Rattle.jpg_spec.proofs.Common.{neither, not_lt_of}
+use Rattle.jpg_spec.proofs.Basics.Common.{neither, not_lt_of}
 use Rattle.jpg_prog_write.specs.Items.{IsItem}
 use Rattle.jpg_prog_write.specs.Bands.{IsBand, IsShort, AreMarks, IsReady, sents, elements_after, elements_due, elements_left, ends_new, cleared}
 use Rattle.jpg_prog_write.specs.Steps.{IsFirst, IsCompleteElement, GivesElement, LeavesBand}

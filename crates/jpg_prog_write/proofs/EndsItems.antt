@@ -6,8 +6,8 @@ use Rattle.jpg_base.proofs.BitsAt.{bits_of-mod}
 use Rattle.jpg_spec.specs.Bits.{bits_of}
 use Rattle.jpg_spec.specs.Numbers.{digits}
 use Rattle.jpg_spec.specs.Elements.{ends}
-use Rattle.jpg_spec.proofs.Facts.{some_digits}
-use Rattle.jpg_spec.proofs.Small.{few_digits}
+use Rattle.jpg_spec.proofs.Basics.Facts.{some_digits}
+use Rattle.jpg_spec.proofs.Basics.Small.{few_digits}
 use Rattle.jpg_prog_write.specs.Items.{IsItem}
 
 pub some_bands : (bands : ℕ) → 1 ≤ bands → 1 ≤ digits bands

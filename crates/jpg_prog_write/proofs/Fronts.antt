@@ -4,7 +4,7 @@ use Rattle.std.specs.Prelude.{slice_index_or}
 use Rattle.std.proofs.Math.Seq.{drop-cons}
 use Rattle.jpg_spec.specs.Lists.{any_of}
 use Rattle.jpg_spec_write.specs.Sending.{Sent, sent, is_new, up_to_last, after_last}
-use Rattle.jpg_spec.proofs.Common.{or_right}
+use Rattle.jpg_spec.proofs.Basics.Common.{or_right}
 use Rattle.jpg_prog_write.specs.Bands.{sents, ends_new}
 use Rattle.jpg_prog_write.specs.declared.band.Band.{Band}
 

@@ -4,8 +4,8 @@ use Rattle.std.specs.Prelude.{nat_lt}
 use Rattle.std.proofs.Math.Path.{fun_ext}
 use Rattle.std.proofs.lemmas.List.{append-nil, append_assoc, drop-map, drop_all, drop_more, get_or-map, length-map, length-take-le, set_at, take-map, take_all, take_more}
 use Rattle.jpg_spec_write.specs.Sending.{Sent, correction, divided, newly_significant, sent}
-use Rattle.jpg_spec.proofs.Common.{same_of}
-use Rattle.jpg_spec.proofs.Rows.{map_map}
+use Rattle.jpg_spec.proofs.Basics.Common.{same_of}
+use Rattle.jpg_spec.proofs.Basics.Rows.{map_map}
 use Rattle.jpg_prog_write.specs.Bands.{IsShort, band_sents, kept_of, sents}
 use Rattle.jpg_prog_write.specs.declared.band.Band.{Band}
 

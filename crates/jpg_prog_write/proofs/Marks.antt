@@ -7,7 +7,7 @@ use Rattle.jpg_spec.specs.Geometry.{Frame, is_progressive}
 use Rattle.jpg_spec.specs.Segments.{ScanHead}
 use Rattle.jpg_spec.specs.Elements.{Element, difference, dc_bit, value, long_run, ends, symbol_of, predicted}
 use Rattle.jpg_spec.specs.Scan.{Blocks, part_of}
-use Rattle.jpg_spec.proofs.Common.{lt_yes}
+use Rattle.jpg_spec.proofs.Basics.Common.{lt_yes}
 use Rattle.jpg_huff.specs.Counts.{AreCounts, Mark, Notes, no_counts}
 use Rattle.jpg_huff.specs.declared.counts.SymbolCounts.{SymbolCounts}
 use Rattle.jpg_huff.proofs.Marks.{notes_nothing, notes_same}

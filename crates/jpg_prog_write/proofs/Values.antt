@@ -7,7 +7,7 @@ use Rattle.std.proofs.lemmas.List.{append_assoc, append-nil}
 use Rattle.jpg_spec.specs.Numbers.{category}
 use Rattle.jpg_spec.specs.Elements.{Element, value, long_run}
 use Rattle.jpg_spec_write.specs.Sending.{Sent, correction, newly_significant, sent, divided, corrections_of, value_elements}
-use Rattle.jpg_spec.proofs.Small.{few_digits}
+use Rattle.jpg_spec.proofs.Basics.Small.{few_digits}
 use Rattle.jpg_spec_write.proofs.Shifts.{shifts_less, divided_is, abs_signed}
 use Rattle.jpg_prog_write.specs.Bands.{IsBand, IsShort, sents, ends_new}
 use Rattle.jpg_prog_write.specs.Steps.{IsFirst, IsElementStep, IsShortSending}

@@ -7,8 +7,8 @@ use Rattle.std.proofs.lemmas.List.{take_more_set, take_all, map-append, length-t
 use Rattle.std.proofs.lemmas.List.Sums.{sum_by-append}
 use Rattle.jpg_spec.specs.Lists.{below}
 use Rattle.jpg_spec_image.specs.Downsampling.{mean_of, edge_repeated, in_rows, sum_under, downsampled, down_rows}
-use Rattle.jpg_spec.proofs.Common.{lt_yes, lt_no, length_below}
-use Rattle.jpg_spec.proofs.Rows.{by_items, at_below}
+use Rattle.jpg_spec.proofs.Basics.Common.{lt_yes, lt_no, length_below}
+use Rattle.jpg_spec.proofs.Basics.Rows.{by_items, at_below}
 use Rattle.jpg_sample.specs.Means.{row_part, block_part, quarter_at, quarter_of}
 
 sum_one : (f : ℕ → ℕ) (n : ℕ) → sum_by f (n ∷ []) ≡ f n

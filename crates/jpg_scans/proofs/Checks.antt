@@ -20,10 +20,10 @@ use Rattle.jpg_spec.specs.declared.frame.Process.TheVariants.{Baseline, Extended
 use Rattle.jpg_spec.specs.declared.frame.ScanPart.{ScanPart}
 use Rattle.jpg_spec_write.specs.declared.picture_fault.PictureFault.{PictureFault}
 use Rattle.jpg_spec_write.specs.declared.picture_fault.PictureFault.TheVariants.{ScriptComponent, ScriptMcu, ScriptBand}
-use Rattle.jpg_spec.proofs.Common.{both, neither, lt_of}
+use Rattle.jpg_spec.proofs.Basics.Common.{both, neither, lt_of}
 use Rattle.jpg_scans.specs.declared.progress.Progress.{Progress}
 use Rattle.jpg_scans.specs.Judged.{script_process, script_frame, has_numbers, IsEntryTaken}
-use Rattle.jpg_scans.specs.Progress.{StandsForScans}
+use Rattle.jpg_scans.specs.Progress.{RepresentsScans}
 
 -- COMPONENTS of an entry
 
@@ -115,7 +115,7 @@ entry_out_of_order is_prog f heads n e head fault same w l numbers order =
 
 pub record HasTaken (is_prog : Bool) (f : Frame) (script : List Entry) (n : ℕ) (p : Progress) : Type 0 where
   pub heads : List ScanHead
-  pub stands : StandsForScans p (script_frame is_prog f) heads
+  pub stands : RepresentsScans p (script_frame is_prog f) heads
   pub same : fault_after is_prog f [] 0 script ≡ fault_after is_prog f heads n (drop n script)
 
 module _ (is_prog : Bool) (f : Frame) (script : List Entry) (n : ℕ) where

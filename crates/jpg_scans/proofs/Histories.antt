@@ -7,17 +7,17 @@ use Rattle.std.proofs.lemmas.Bool.Decides.{nat_tests}
 use Rattle.jpg_spec.specs.Lists.{any_of, all_of, is_among, below}
 use Rattle.jpg_spec.specs.Geometry.{Frame, component_at, is_progressive}
 use Rattle.jpg_spec.specs.History.{names, has_begun, has_coefficient, known_to, is_next, is_repeated, is_out_of_order, order_fault, admitted, lacks_table, is_same_table, quant_of}
-use Rattle.jpg_spec.specs.Faults.{Told, refuse}
+use Rattle.jpg_spec.specs.Faults.{Parsed, refuse}
 use Rattle.jpg_spec.specs.InForce.{heads_of, quant_in_force}
 use Rattle.jpg_spec.specs.Markers.{Segment}
 use Rattle.jpg_spec.specs.Segments.{ScanHead, head_components}
 use Rattle.jpg_spec.specs.declared.fault.Fault.{Fault}
 use Rattle.jpg_spec.specs.declared.fault.Fault.TheVariants.{RepeatedScan, Progression, MissingTable, QuantChanged}
 use Rattle.jpg_spec.specs.declared.frame.ScanPart.{ScanPart}
-use Rattle.jpg_spec.proofs.FirstPasses.{all_join}
+use Rattle.jpg_spec.proofs.Bits.FirstPasses.{all_join}
 use Rattle.jpg_scans.specs.declared.progress.Progress.{Progress}
 use Rattle.jpg_scans.specs.declared.sent.Sent.{Sent}
-use Rattle.jpg_scans.specs.Progress.{sent_of, begun_at, known_at, StandsForScans}
+use Rattle.jpg_scans.specs.Progress.{sent_of, begun_at, known_at, RepresentsScans}
 use Rattle.jpg_scans.specs.Sent.{nothing_sent, known_in, has_in_band, is_due, are_due, is_next_in}
 
 -- TESTS with the same answers
@@ -74,7 +74,7 @@ due_more s head k =
 coefficient_is : (head : ScanHead) (i k : ℕ) → names head i ≡ true → has_coefficient head i k ≡ has_in_band head k
 coefficient_is head i k e = ap (λ t. t && has_in_band head k) e
 
-pub next_is : (p : Progress) (f : Frame) (heads : List ScanHead) (head : ScanHead) (i : ℕ) → StandsForScans p f heads → i < 4 → names head i ≡ true → is_next_in (sent_of p i) head ≡ is_next heads head i
+pub next_is : (p : Progress) (f : Frame) (heads : List ScanHead) (head : ScanHead) (i : ℕ) → RepresentsScans p f heads → i < 4 → names head i ≡ true → is_next_in (sent_of p i) head ≡ is_next heads head i
 unfolding are_due
 next_is p f heads head i s low named =
     ap (λ (t : Option ℕ). (head.ss == 0 || is_some t) && all_of (λ k. not (has_in_band head k) || is_due head.ah (known_at p i k)) (below 64)) (s.known i 0 low (omega arith))
@@ -82,20 +82,20 @@ next_is p f heads head i s low named =
     ap (λ t. not t || is_due head.ah (known_at p i k)) (sym (coefficient_is head i k named))
     ∙ ap (λ t. not (has_coefficient head i k) || is_due head.ah t) (s.known i k low h)))
 
-pub all_next : (p : Progress) (f : Frame) (heads : List ScanHead) (head : ScanHead) → StandsForScans p f heads → All (λ p. p.component < 4) head.parts
+pub all_next : (p : Progress) (f : Frame) (heads : List ScanHead) (head : ScanHead) → RepresentsScans p f heads → All (λ p. p.component < 4) head.parts
     → all_of (λ i. is_next_in (sent_of p i) head) (head_components head) ≡ all_of (is_next heads head) (head_components head)
 all_next p f heads head s low = same_all (λ i. is_next_in (sent_of p i) head) (is_next heads head) head head.parts (λ i h named. next_is p f heads head i s h named) low (λ i h. h)
 
 -- THE FAULT of a scan, by the process
 
-pub sequential_fault : (p : Progress) (f : Frame) (heads : List ScanHead) (head : ScanHead) → StandsForScans p f heads → All (λ p. p.component < 4) head.parts → p.is_progressive ≡ false
+pub sequential_fault : (p : Progress) (f : Frame) (heads : List ScanHead) (head : ScanHead) → RepresentsScans p f heads → All (λ p. p.component < 4) head.parts → p.is_progressive ≡ false
     → order_fault f heads head ≡ cond (any_of (begun_at p) (head_components head)) (Some RepeatedScan) None
 sequential_fault p f heads head s low e =
     let process : is_progressive f.process ≡ false = sym s.process ∙ e in
     ap (λ t. cond (not t && any_of (has_begun heads) (head_components head)) (Some RepeatedScan) (cond (t && not (all_of (is_next heads head) (head_components head))) (Some Progression) None)) process
     ∙ ap (λ t. cond t (Some RepeatedScan) None) (sym (same_any (begun_at p) (has_begun heads) head.parts s.begun low))
 
-pub progressive_fault : (p : Progress) (f : Frame) (heads : List ScanHead) (head : ScanHead) → StandsForScans p f heads → All (λ p. p.component < 4) head.parts → p.is_progressive ≡ true
+pub progressive_fault : (p : Progress) (f : Frame) (heads : List ScanHead) (head : ScanHead) → RepresentsScans p f heads → All (λ p. p.component < 4) head.parts → p.is_progressive ≡ true
     → order_fault f heads head ≡ cond (not (all_of (λ i. is_next_in (sent_of p i) head) (head_components head))) (Some Progression) None
 progressive_fault p f heads head s low e =
     let process : is_progressive f.process ≡ true = sym s.process ∙ e in
@@ -117,7 +117,7 @@ found_is : (head : ScanHead) (heads : List ScanHead) (i k : ℕ) (b : Bool) → 
 found_is head heads i k true = refl
 found_is head heads i k false = refl
 
-pub longer : (old new : Progress) (f : Frame) (heads : List ScanHead) (head : ScanHead) → IsLongerBy old head [] new → StandsForScans old f heads → StandsForScans new f (head ∷ heads)
+pub longer : (old new : Progress) (f : Frame) (heads : List ScanHead) (head : ScanHead) → IsLongerBy old head [] new → RepresentsScans old f heads → RepresentsScans new f (head ∷ heads)
 longer old new f heads head l s = record {
   process = l.process ∙ s.process;
   count = l.count ∙ s.count;
@@ -141,7 +141,7 @@ unsent zero k none = refl
 unsent (suc n) zero none = refl
 unsent (suc n) (suc k) none = unsent n k none
 
-pub before_all : (p : Progress) (f : Frame) (s : Sent) → s ≡ nothing_sent → p.components ≡ s ∷ s ∷ s ∷ s ∷ [] → p.is_progressive ≡ is_progressive f.process → p.count ≡ length f.components → StandsForScans p f []
+pub before_all : (p : Progress) (f : Frame) (s : Sent) → s ≡ nothing_sent → p.components ≡ s ∷ s ∷ s ∷ s ∷ [] → p.is_progressive ≡ is_progressive f.process → p.count ≡ length f.components → RepresentsScans p f []
 before_all p f s e parts process count = record {
   process = process;
   count = count;
@@ -161,7 +161,7 @@ before_all p f s e parts process count = record {
 
 -- AT THE END
 
-pub complete_is : (p : Progress) (f : Frame) (heads : List ScanHead) → StandsForScans p f heads → p.count ≤ 4 → all_of (begun_at p) (below p.count) ≡ all_of (has_begun heads) (below (length f.components))
+pub complete_is : (p : Progress) (f : Frame) (heads : List ScanHead) → RepresentsScans p f heads → p.count ≤ 4 → all_of (begun_at p) (below p.count) ≡ all_of (has_begun heads) (below (length f.components))
 complete_is p f heads s few =
     ap (λ n. all_of (begun_at p) (below n)) s.count
     ∙ same_below (begun_at p) (has_begun heads) (length f.components) (λ k h. s.begun k (omega (arith, h, few, s.count)))
@@ -171,7 +171,7 @@ complete_is p f heads s few =
 pub refused_is : (f : Frame) (before : List Segment) (head : ScanHead) (fault : Fault) → order_fault f (heads_of f before) head ≡ Some fault → admitted f before head ≡ Err fault
 refused_is f before head fault e = by (is_repeated f (heads_of f before) head) (is_out_of_order f (heads_of f before) head) _ e
   where
-    by : (r o : Bool) (rest : Told ScanHead) → cond r (Some RepeatedScan) (cond o (Some Progression) None) ≡ Some fault → refuse RepeatedScan r (refuse Progression o rest) ≡ Err fault
+    by : (r o : Bool) (rest : Parsed ScanHead) → cond r (Some RepeatedScan) (cond o (Some Progression) None) ≡ Some fault → refuse RepeatedScan r (refuse Progression o rest) ≡ Err fault
     by true o rest e = ap (λ (x : Option Fault). Err (unwrap_or x RepeatedScan)) e
     by false true rest e = ap (λ (x : Option Fault). Err (unwrap_or x Progression)) e
     by false false rest e = cc
@@ -182,18 +182,18 @@ pub passed_is : (f : Frame) (before : List Segment) (head : ScanHead) → order_
     (refuse QuantChanged (not (all_of (λ i. is_same_table (quant_of f before i) (quant_in_force before (component_at f i).quant)) (head_components head))) (Ok head))
 passed_is f before head e = by (is_repeated f (heads_of f before) head) (is_out_of_order f (heads_of f before) head) _ e
   where
-    by : (r o : Bool) (rest : Told ScanHead) → cond r (Some RepeatedScan) (cond o (Some Progression) None) ≡ None → refuse RepeatedScan r (refuse Progression o rest) ≡ rest
+    by : (r o : Bool) (rest : Parsed ScanHead) → cond r (Some RepeatedScan) (cond o (Some Progression) None) ≡ None → refuse RepeatedScan r (refuse Progression o rest) ≡ rest
     by true o rest e = cc
     by false true rest e = cc
     by false false rest e = refl
 
-abbrev fault_told : Told ScanHead → Fault
+abbrev fault_told : Parsed ScanHead → Fault
 fault_told (Ok head) = MissingTable
 fault_told (Err fault) = fault
 
 neither : (fault : Fault) (m q : Bool) (head : ScanHead) → (fault ≡ MissingTable → ⊥) → (fault ≡ QuantChanged → ⊥) → refuse MissingTable m (refuse QuantChanged q (Ok head)) ≡ Err fault → ⊥
-neither fault true q head no_missing no_changed e = no_missing (sym (ap (λ (t : Told ScanHead). fault_told t) e))
-neither fault false true head no_missing no_changed e = no_changed (sym (ap (λ (t : Told ScanHead). fault_told t) e))
+neither fault true q head no_missing no_changed e = no_missing (sym (ap (λ (t : Parsed ScanHead). fault_told t) e))
+neither fault false true head no_missing no_changed e = no_changed (sym (ap (λ (t : Parsed ScanHead). fault_told t) e))
 neither fault false false head no_missing no_changed e = cc
 
 pub passed_not : (f : Frame) (before : List Segment) (head : ScanHead) (fault : Fault) → order_fault f (heads_of f before) head ≡ None → (fault ≡ MissingTable → ⊥) → (fault ≡ QuantChanged → ⊥) → admitted f before head ≡ Err fault → ⊥
@@ -204,4 +204,4 @@ shown_is f before head fault no_missing no_changed a = by (order_fault f (heads_
   where
     by : (o : Option Fault) → order_fault f (heads_of f before) head ≡ o → order_fault f (heads_of f before) head ≡ Some fault
     by None e = absurd (passed_not f before head fault e no_missing no_changed a)
-    by (Some x) e = e ∙ ap (λ (y : Fault). Some y) (ap (λ (t : Told ScanHead). fault_told t) (sym (refused_is f before head x e) ∙ a))
+    by (Some x) e = e ∙ ap (λ (y : Fault). Some y) (ap (λ (t : Parsed ScanHead). fault_told t) (sym (refused_is f before head x e) ∙ a))

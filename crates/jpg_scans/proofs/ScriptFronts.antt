@@ -5,12 +5,12 @@ use Rattle.std.proofs.lemmas.Bool.Decides.{nat_tests}
 use Rattle.std.proofs.lemmas.List.{append_assoc, append-nil, length-append, length-map, map-append}
 use Rattle.std.proofs.lemmas.List.Concat.{flat_map-append}
 use Rattle.jpg_spec.specs.Lists.{all_of, is_empty}
-use Rattle.jpg_spec.specs.NumberTexts.{is_digit, digits_from, is_space, without_comments, NumbersWord, numbers_text, numbers_told}
+use Rattle.jpg_spec.specs.NumberTexts.{is_digit, digits_from, is_space, without_comments, NumbersWord, numbers_text, parsed_numbers}
 use Rattle.jpg_spec_write.specs.Script.{Entry}
-use Rattle.jpg_spec_write.specs.ScriptGrammar.{is_joint, EntryWord, entry_text, ended_text, are_numbers, is_entry, banded, entry_told, Spells}
-use Rattle.jpg_spec.proofs.Common.{and_intro, same_of, lt_of, some_once}
+use Rattle.jpg_spec_write.specs.ScriptGrammar.{is_joint, EntryWord, entry_text, ended_text, are_numbers, is_entry, banded, parsed_entry, Spells}
+use Rattle.jpg_spec.proofs.Basics.Common.{and_intro, same_of, lt_of, some_once}
 use Rattle.jpg_spec.specs.TextReaders.{run}
-use Rattle.jpg_spec.proofs.TextRuns.{all_join, one_of, run_front}
+use Rattle.jpg_spec.proofs.Texts.TextRuns.{all_join, one_of, run_front}
 use Rattle.jpg_scans.specs.declared.standing.Standing.{Standing}
 use Rattle.jpg_scans.specs.declared.standing.Standing.TheVariants.{Before, InNumber, Behind, Joined}
 use Rattle.jpg_scans.specs.TextState.{NumbersState, ended_by, ended, digit_by, joint_by, number_step, EntryState, no_numbers, new_entry, is_before, is_after, is_new_entry, is_new_by, entry_by, whole_entry, colon_by, entry_step, TextState, one_more, text_step, script_told, new_text}
@@ -25,7 +25,7 @@ pub record IsAfterColon (t cs : List ℕ) (list : NumbersState) : Type 0 where
   pub text : t ≡ numbers_text components ++ 58 ∷ behind
   pub numbers : are_numbers components ≡ true
   pub few : nat_le (length components.numbers) 4 ≡ true
-  pub told : numbers_told components ≡ cs
+  pub told : parsed_numbers components ≡ cs
   pub front : Front behind list
 
 abbrev pub EntryFront : List ℕ → Option (List ℕ) → NumbersState → Type 0
@@ -92,7 +92,7 @@ pub record IsEntryText (t : List ℕ) (e : Entry) : Type 0 where
   pub word : EntryWord
   pub text : entry_text word ≡ t
   pub formed : is_entry word ≡ true
-  pub told : entry_told word ≡ e
+  pub told : parsed_entry word ≡ e
 
 entry_end_by : (t : List ℕ) (cs : Option (List ℕ)) (s : NumbersState) (e : Entry) → EntryFront t cs s → is_after (ended s).standing ≡ true → entry_by cs (ended s).numbers ≡ Some e → IsEntryText t e
 entry_end_by t None s e f a h =
@@ -114,7 +114,7 @@ entry_end_by t (Some cs) s e f a h = by (length (ended s).numbers == 4) refl h
           text = ap (λ x. numbers_text f.components ++ 58 ∷ x) w.text ∙ sym f.text;
           formed = and_intro (are_numbers f.components && nat_le (length f.components.numbers) 4) (are_numbers w.word && length w.word.numbers == 4)
               (and_intro (are_numbers f.components) (nat_le (length f.components.numbers) 4) f.numbers f.few) (and_intro (are_numbers w.word) (length w.word.numbers == 4) w.numbers four);
-          told = ap (λ ns. banded ns (numbers_told w.word)) f.told ∙ ap (banded cs) w.told ∙ some_once (banded cs (ended s).numbers) e h;
+          told = ap (λ ns. banded ns (parsed_numbers w.word)) f.told ∙ ap (banded cs) w.told ∙ some_once (banded cs (ended s).numbers) e h;
         }
     by false p h = cc
 
@@ -132,7 +132,7 @@ pub record TextFront (t : List ℕ) (s : TextState) : Type 0 where
   pub behind : List ℕ
   pub text : t ≡ flat_map ended_text ended ++ behind
   pub formed : all_of is_entry ended ≡ true
-  pub told : map entry_told ended ≡ s.entries
+  pub told : map parsed_entry ended ≡ s.entries
   pub few : length ended ≤ 100
   pub entry : EntryFront behind s.entry.components s.entry.list
   pub room : is_new_entry s.entry ≡ false → length s.entries < 100
@@ -157,7 +157,7 @@ at_semicolon t s u f e =
     let w = entry_end f.behind s.entry one.0 f.entry one.2 in
     let room = one.1 in
     let long = length-append f.ended (w.word ∷ []) in
-    let count = sym (length-map f.ended entry_told) ∙ ap length f.told in
+    let count = sym (length-map f.ended parsed_entry) ∙ ap length f.told in
     subst (TextFront (t ++ 59 ∷ [])) m.2 (record {
       ended = f.ended ++ w.word ∷ [];
       behind = [];
@@ -167,7 +167,7 @@ at_semicolon t s u f e =
           ∙ sym (flat_map-append ended_text f.ended (w.word ∷ []))
           ∙ sym (append-nil (flat_map ended_text (f.ended ++ w.word ∷ [])));
       formed = all_join is_entry f.ended (w.word ∷ []) f.formed (one_of is_entry w.word w.formed);
-      told = map-append entry_told f.ended (w.word ∷ []) ∙ ap (λ l. l ++ entry_told w.word ∷ []) f.told ∙ ap (λ e. s.entries ++ e ∷ []) w.told ∙ one.3;
+      told = map-append parsed_entry f.ended (w.word ∷ []) ∙ ap (λ l. l ++ parsed_entry w.word ∷ []) f.told ∙ ap (λ e. s.entries ++ e ∷ []) w.told ∙ one.3;
       few = omega (arith, room, long, count);
       entry = no_numbers_front;
       room = λ e. cc;
@@ -269,14 +269,14 @@ ends_new text s script f new e = by s.entries refl e
     by : (es : List Entry) → s.entries ≡ es → cond (is_empty es) None (Some es) ≡ Some script → Spells text script
     by [] a e = cc
     by (x ∷ es) a e =
-        let count : length f.ended ≡ length (x ∷ es) = sym (length-map f.ended entry_told) ∙ ap length f.told ∙ ap length a in
+        let count : length f.ended ≡ length (x ∷ es) = sym (length-map f.ended parsed_entry) ∙ ap length f.told ∙ ap length a in
         let few = f.few in
         record {
           word = record { ended = f.ended; last = None; after = f.behind };
           formed = subst (λ (ws : List EntryWord). (all_of is_entry ws && ((nat_le 1 (length ws) && nat_le (length ws) 100) && all_of is_space f.behind)) ≡ true) (sym (append-nil f.ended))
               (formed_of f.ended f.behind f.formed (omega (arith, count)) few (new_spaces f.behind s.entry.components s.entry.list.numbers s.entry.list.standing f.entry new));
           spelled = f.text ∙ ap (λ l. l ++ f.behind) (sym (append-nil (flat_map ended_text f.ended)));
-          told = ap (map entry_told) (append-nil f.ended) ∙ f.told ∙ a ∙ some_once (x ∷ es) script e;
+          told = ap (map parsed_entry) (append-nil f.ended) ∙ f.told ∙ a ∙ some_once (x ∷ es) script e;
         }
 
 -- without one
@@ -286,12 +286,12 @@ ends_open text s script f e =
     let w = entry_end f.behind s.entry one.0 f.entry one.2 in
     let room = one.1 in
     let long = length-append f.ended (w.word ∷ []) in
-    let count = sym (length-map f.ended entry_told) ∙ ap length f.told in
+    let count = sym (length-map f.ended parsed_entry) ∙ ap length f.told in
     record {
       word = record { ended = f.ended; last = Some w.word; after = [] };
       formed = formed_of (f.ended ++ w.word ∷ []) [] (all_join is_entry f.ended (w.word ∷ []) f.formed (one_of is_entry w.word w.formed)) (omega (arith, long)) (omega (arith, room, long, count)) refl;
       spelled = f.text ∙ ap (λ x. flat_map ended_text f.ended ++ x) (sym w.text) ∙ sym (append-nil (flat_map ended_text f.ended ++ entry_text w.word));
-      told = map-append entry_told f.ended (w.word ∷ []) ∙ ap (λ l. l ++ entry_told w.word ∷ []) f.told ∙ ap (λ e. s.entries ++ e ∷ []) w.told ∙ one.3;
+      told = map-append parsed_entry f.ended (w.word ∷ []) ∙ ap (λ l. l ++ parsed_entry w.word ∷ []) f.told ∙ ap (λ e. s.entries ++ e ∷ []) w.told ∙ one.3;
     }
 
 ends : (text : List ℕ) (s : TextState) (script : List Entry) → TextFront (without_comments false text) s → script_told s ≡ Some script → Spells text script

@@ -6,10 +6,10 @@ use Rattle.std.proofs.lemmas.List.{length-append, length-map}
 use Rattle.jpg_spec_write.specs.Script.{Entry}
 use Rattle.jpg_spec.specs.NumberTexts.{NumberWord, without_comments}
 use Rattle.jpg_spec_write.specs.ScriptGrammar.{are_joined, banded, script_form}
-use Rattle.jpg_spec.proofs.Common.{lt_yes}
+use Rattle.jpg_spec.proofs.Basics.Common.{lt_yes}
 use Rattle.jpg_spec.specs.TextReaders.{ReaderState, reader_step, run, plain}
-use Rattle.jpg_spec.proofs.TextRuns.{value_of}
-use Rattle.jpg_spec.proofs.TextsRead.{Finishes, ReadsForm}
+use Rattle.jpg_spec.proofs.Texts.TextRuns.{value_of}
+use Rattle.jpg_spec.proofs.Texts.TextsRead.{Finishes, ReadsForm}
 use Rattle.jpg_scans.specs.declared.standing.Standing.{Standing}
 use Rattle.jpg_scans.specs.declared.standing.Standing.TheVariants.{Before, InNumber, Behind, Joined}
 use Rattle.jpg_scans.specs.TextState.{NumbersState, ended_by, EntryState, is_new_by, one_more, TextState, text_step, script_told, script_reader}

@@ -4,13 +4,13 @@ use Rattle.std.specs.Prelude.{nat_le, option_map, option_and_then, flat_map}
 use Rattle.std.proofs.lemmas.Bool.Decides.{nat_tests}
 use Rattle.std.proofs.lemmas.List.{append_assoc, append-nil, length-append, length-map}
 use Rattle.jpg_spec.specs.Lists.{all_of, is_empty}
-use Rattle.jpg_spec.specs.NumberTexts.{is_digit, without_comments, is_space, NumbersWord, numbers_text, numbers_told}
+use Rattle.jpg_spec.specs.NumberTexts.{is_digit, without_comments, is_space, NumbersWord, numbers_text, parsed_numbers}
 use Rattle.jpg_spec_write.specs.Script.{Entry}
-use Rattle.jpg_spec_write.specs.ScriptGrammar.{EntryWord, entry_text, ended_text, last_text, are_numbers, is_entry, last_entry, entries, banded, entry_told, Spells}
-use Rattle.jpg_spec.proofs.Common.{both, same_of, le_of, lt_yes}
+use Rattle.jpg_spec_write.specs.ScriptGrammar.{EntryWord, entry_text, ended_text, last_text, are_numbers, is_entry, last_entry, entries, banded, parsed_entry, Spells}
+use Rattle.jpg_spec.proofs.Basics.Common.{both, same_of, le_of, lt_yes}
 use Rattle.jpg_spec.specs.TextReaders.{run}
-use Rattle.jpg_spec.proofs.TextRuns.{run_two, run_cons, run_nil, space_low, space_no_digit, value_of}
-use Rattle.jpg_spec.proofs.TextsRead.{ReadsAs}
+use Rattle.jpg_spec.proofs.Texts.TextRuns.{run_two, run_cons, run_nil, space_low, space_no_digit, value_of}
+use Rattle.jpg_spec.proofs.Texts.TextsRead.{ReadsAs}
 use Rattle.jpg_scans.specs.declared.standing.Standing.{Standing}
 use Rattle.jpg_scans.specs.declared.standing.Standing.TheVariants.{Before, InNumber, Behind, Joined}
 use Rattle.jpg_scans.specs.TextState.{NumbersState, ended_by, ended, number_step, EntryState, no_numbers, new_entry, is_before, is_after, is_new_entry, is_new_by, entry_by, whole_entry, colon_by, entry_step, TextState, one_more, text_step, script_told, new_text, script_reader}
@@ -79,7 +79,7 @@ colon_step : (es : List Entry) (s : NumbersState) (ns : List ℕ) → ended s �
 colon_step es s ns e = ap (λ (t : NumbersState). option_map (λ (entry : EntryState). record { entries = es; entry = entry }) (cond (is_after t.standing) (colon_by None t.numbers) None)) e
 
 entry_run : (es : List Entry) (c : NumbersWord) (band : Option NumbersWord) → length es < 100 → is_entry (record { components = c; band = band }) ≡ true
-    → EntryRun es (entry_text (record { components = c; band = band })) (entry_told (record { components = c; band = band }))
+    → EntryRun es (entry_text (record { components = c; band = band })) (parsed_entry (record { components = c; band = band }))
 entry_run es c None l e =
     let s = both (are_numbers c && nat_le (length c.numbers) 4) true e in
     let p = both (are_numbers c) (nat_le (length c.numbers) 4) s.0 in
@@ -87,8 +87,8 @@ entry_run es c None l e =
     record {
       state = record { components = None; list = r.state };
       run = ap (run text_step (record { entries = es; entry = new_entry })) (append-nil (numbers_text c)) ∙ lift es None no_numbers r.state (numbers_text c) l r.run;
-      whole = whole_by None r.state (numbers_told c) r.whole;
-      begun = begun_by r.state.numbers r.state.standing (numbers_told c) r.whole;
+      whole = whole_by None r.state (parsed_numbers c) r.whole;
+      begun = begun_by r.state.numbers r.state.standing (parsed_numbers c) r.whole;
     }
 entry_run es c (Some b) l e =
     let s = both (are_numbers c && nat_le (length c.numbers) 4) (are_numbers b && length b.numbers == 4) e in
@@ -99,14 +99,14 @@ entry_run es c (Some b) l e =
     let t = list_run b q.0 (omega (arith, four)) in
     let start : TextState = record { entries = es; entry = new_entry } in
     let first : TextState = record { entries = es; entry = record { components = None; list = r.state } } in
-    let next : TextState = record { entries = es; entry = record { components = Some (numbers_told c); list = no_numbers } } in
+    let next : TextState = record { entries = es; entry = record { components = Some (parsed_numbers c); list = no_numbers } } in
     record {
-      state = record { components = Some (numbers_told c); list = t.state };
+      state = record { components = Some (parsed_numbers c); list = t.state };
       run = run_two text_step start first (numbers_text c) (58 ∷ numbers_text b) (lift es None no_numbers r.state (numbers_text c) l r.run)
-          ∙ run_cons text_step first next 58 (numbers_text b) (colon_step es r.state (numbers_told c) r.whole)
-          ∙ lift es (Some (numbers_told c)) no_numbers t.state (numbers_text b) l t.run;
-      whole = whole_by (Some (numbers_told c)) t.state (numbers_told b) t.whole
-          ∙ ap (λ n. cond (n == 4) (Some (banded (numbers_told c) (numbers_told b))) None) (length-map b.numbers value_of ∙ four);
+          ∙ run_cons text_step first next 58 (numbers_text b) (colon_step es r.state (parsed_numbers c) r.whole)
+          ∙ lift es (Some (parsed_numbers c)) no_numbers t.state (numbers_text b) l t.run;
+      whole = whole_by (Some (parsed_numbers c)) t.state (parsed_numbers b) t.whole
+          ∙ ap (λ n. cond (n == 4) (Some (banded (parsed_numbers c) (parsed_numbers b))) None) (length-map b.numbers value_of ∙ four);
       begun = refl;
     }
 
@@ -116,25 +116,25 @@ pub more_yes : (es : List Entry) (e : Entry) → length es < 100 → one_more es
 more_yes es e l = ap (λ v. cond v (Some (es ++ e ∷ [])) None) (lt_yes (length es) 100 l)
 
 ended_one : (es : List Entry) (w : EntryWord) → length es < 100 → is_entry w ≡ true
-    → run text_step (record { entries = es; entry = new_entry }) (ended_text w) ≡ Some (record { entries = es ++ entry_told w ∷ []; entry = new_entry })
+    → run text_step (record { entries = es; entry = new_entry }) (ended_text w) ≡ Some (record { entries = es ++ parsed_entry w ∷ []; entry = new_entry })
 ended_one es w l e =
     let r = entry_run es w.components w.band l e in
     let last : TextState = record { entries = es; entry = r.state } in
-    let next : TextState = record { entries = es ++ entry_told w ∷ []; entry = new_entry } in
+    let next : TextState = record { entries = es ++ parsed_entry w ∷ []; entry = new_entry } in
     run_two text_step (record { entries = es; entry = new_entry }) last (entry_text w) (59 ∷ []) r.run
     ∙ run_cons text_step last next 59 [] (ap (λ (o : Option Entry). option_map (λ (all : List Entry). record { entries = all; entry = new_entry }) (one_more es o)) r.whole
-    ∙ ap (λ (o : Option (List Entry)). option_map (λ (all : List Entry). record { entries = all; entry = new_entry }) o) (more_yes es (entry_told w) l))
+    ∙ ap (λ (o : Option (List Entry)). option_map (λ (all : List Entry). record { entries = all; entry = new_entry }) o) (more_yes es (parsed_entry w) l))
     ∙ run_nil text_step next
 
 ended_run : (es : List Entry) (ws : List EntryWord) → length es + length ws ≤ 100 → all_of is_entry ws ≡ true
-    → run text_step (record { entries = es; entry = new_entry }) (flat_map ended_text ws) ≡ Some (record { entries = es ++ map entry_told ws; entry = new_entry })
+    → run text_step (record { entries = es; entry = new_entry }) (flat_map ended_text ws) ≡ Some (record { entries = es ++ map parsed_entry ws; entry = new_entry })
 ended_run es [] l e = run_nil text_step (record { entries = es; entry = new_entry }) ∙ ap (λ (all : List Entry). Some (record { entries = all; entry = new_entry })) (sym (append-nil es))
 ended_run es (w ∷ ws) l e =
     let s = both (is_entry w) (all_of is_entry ws) e in
-    let more = length-append es (entry_told w ∷ []) in
-    run_two text_step (record { entries = es; entry = new_entry }) (record { entries = es ++ entry_told w ∷ []; entry = new_entry }) (ended_text w) (flat_map ended_text ws) (ended_one es w (omega (arith, l)) s.0)
-    ∙ ended_run (es ++ entry_told w ∷ []) ws (omega (arith, l, more)) s.1
-    ∙ ap (λ (all : List Entry). Some (record { entries = all; entry = new_entry })) (append_assoc es (entry_told w ∷ []) (map entry_told ws))
+    let more = length-append es (parsed_entry w ∷ []) in
+    run_two text_step (record { entries = es; entry = new_entry }) (record { entries = es ++ parsed_entry w ∷ []; entry = new_entry }) (ended_text w) (flat_map ended_text ws) (ended_one es w (omega (arith, l)) s.0)
+    ∙ ended_run (es ++ parsed_entry w ∷ []) ws (omega (arith, l, more)) s.1
+    ∙ ap (λ (all : List Entry). Some (record { entries = all; entry = new_entry })) (append_assoc es (parsed_entry w ∷ []) (map parsed_entry ws))
 
 -- SPACE at the end
 
@@ -198,33 +198,33 @@ all_front t (x ∷ a) b e =
     (ap (λ v. v && all_of t a) s.0 ∙ r.0, r.1)
 
 body_run : (ws : List EntryWord) (last : Option EntryWord) → all_of is_entry (ws ++ last_entry last) ≡ true → 1 ≤ length (ws ++ last_entry last) → length (ws ++ last_entry last) ≤ 100
-    → TextRun new_text (flat_map ended_text ws ++ last_text last) (map entry_told (ws ++ last_entry last))
+    → TextRun new_text (flat_map ended_text ws ++ last_text last) (map parsed_entry (ws ++ last_entry last))
 body_run ws None e some few =
     let most = subst (λ (l : List EntryWord). length l ≤ 100) (append-nil ws) few in
     let all = ended_run [] ws (omega (arith, most)) (subst (λ (l : List EntryWord). all_of is_entry l ≡ true) (append-nil ws) e) in
-    let same : map entry_told (ws ++ []) ≡ map entry_told ws = ap (map entry_told) (append-nil ws) in
-    let long = length-map ws entry_told in
+    let same : map parsed_entry (ws ++ []) ≡ map parsed_entry ws = ap (map parsed_entry) (append-nil ws) in
+    let long = length-map ws parsed_entry in
     record {
-      state = record { entries = map entry_told ws; entry = new_entry };
+      state = record { entries = map parsed_entry ws; entry = new_entry };
       run = ap (run text_step new_text) (append-nil (flat_map ended_text ws)) ∙ all;
-      told = some_told (map entry_told ws) (subst (λ n. 1 ≤ n) (sym long) (subst (λ (l : List EntryWord). 1 ≤ length l) (append-nil ws) some)) ∙ ap (λ (l : List Entry). Some l) (sym same);
+      told = some_told (map parsed_entry ws) (subst (λ n. 1 ≤ n) (sym long) (subst (λ (l : List EntryWord). 1 ≤ length l) (append-nil ws) some)) ∙ ap (λ (l : List Entry). Some l) (sym same);
     }
 body_run ws (Some w) e some few =
     let parts = all_front is_entry ws (w ∷ []) e in
     let more = length-append ws (w ∷ []) in
     let all = ended_run [] ws (omega (arith, few, more)) parts.0 in
-    let es = map entry_told ws in
-    let long = length-map ws entry_told in
+    let es = map parsed_entry ws in
+    let long = length-map ws parsed_entry in
     let r = entry_run es w.components w.band (omega (arith, few, more, long)) (both (is_entry w) true parts.1).0 in
     record {
       state = record { entries = es; entry = r.state };
       run = run_two text_step new_text (record { entries = es; entry = new_entry }) (flat_map ended_text ws) (entry_text w) all ∙ r.run;
-      told = last_told es r.state (entry_told w) (omega (arith, few, more, long)) r.begun r.whole ∙ ap (λ (l : List Entry). Some l) (joined ws);
+      told = last_told es r.state (parsed_entry w) (omega (arith, few, more, long)) r.begun r.whole ∙ ap (λ (l : List Entry). Some l) (joined ws);
     }
   where
-    joined : (ws : List EntryWord) → map entry_told ws ++ entry_told w ∷ [] ≡ map entry_told (ws ++ w ∷ [])
+    joined : (ws : List EntryWord) → map parsed_entry ws ++ parsed_entry w ∷ [] ≡ map parsed_entry (ws ++ w ∷ [])
     joined [] = refl
-    joined (x ∷ ws) = ap (λ (l : List Entry). entry_told x ∷ l) (joined ws)
+    joined (x ∷ ws) = ap (λ (l : List Entry). parsed_entry x ∷ l) (joined ws)
 
 pub spelled_run : (text : List ℕ) (script : List Entry) → Spells text script → ReadsAs (List Entry) TextState script_reader (without_comments false text) script
 spelled_run text script sp =
@@ -233,7 +233,7 @@ spelled_run text script sp =
     let p = both (nat_le 1 (length (entries w)) && nat_le (length (entries w)) 100) (all_of is_space w.after) s.1 in
     let q = both (nat_le 1 (length (entries w))) (nat_le (length (entries w)) 100) p.0 in
     let body = body_run w.ended w.last s.0 (le_of 1 (length (entries w)) q.0) (le_of (length (entries w)) 100 q.1) in
-    let end = spaces_run body.state w.after (map entry_told (entries w)) p.1 body.told in
+    let end = spaces_run body.state w.after (map parsed_entry (entries w)) p.1 body.told in
     record {
       state = end.state;
       run = ap (run text_step new_text) sp.spelled ∙ run_two text_step new_text body.state (flat_map ended_text w.ended ++ last_text w.last) w.after body.run ∙ end.run;

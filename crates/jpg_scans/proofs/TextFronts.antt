@@ -5,10 +5,10 @@ use Rattle.std.proofs.lemmas.Bool.Decides.{nat_tests}
 use Rattle.std.proofs.lemmas.List.{append_assoc, append-nil, length-append, length-map, map-append}
 use Rattle.std.proofs.lemmas.List.Concat.{flat_map-append}
 use Rattle.jpg_spec.specs.Lists.{all_of, is_empty}
-use Rattle.jpg_spec.specs.NumberTexts.{is_digit, digits_from, is_space, NumberWord, NumbersWord, number_text, numbers_text, numbers_told}
+use Rattle.jpg_spec.specs.NumberTexts.{is_digit, digits_from, is_space, NumberWord, NumbersWord, number_text, numbers_text, parsed_numbers}
 use Rattle.jpg_spec_write.specs.ScriptGrammar.{is_joint, is_between, is_script_number, is_first, is_further, are_joined, are_numbers}
-use Rattle.jpg_spec.proofs.Common.{both, and_intro, le_of, lt_of, some_once}
-use Rattle.jpg_spec.proofs.TextRuns.{all_join, one_of, value_of, digits_more}
+use Rattle.jpg_spec.proofs.Basics.Common.{both, and_intro, le_of, lt_of, some_once}
+use Rattle.jpg_spec.proofs.Texts.TextRuns.{all_join, one_of, value_of, digits_more}
 use Rattle.jpg_scans.specs.declared.standing.Standing.{Standing}
 use Rattle.jpg_scans.specs.declared.standing.Standing.TheVariants.{Before, InNumber, Behind, Joined}
 use Rattle.jpg_scans.specs.TextState.{NumbersState, ended_by, ended, first_digit, further_digit, digit_by, joint_by, number_step, is_after}
@@ -288,7 +288,7 @@ pub record IsWhole (t ns : List ℕ) : Type 0 where
   pub text : numbers_text word ≡ t
   pub numbers : are_numbers word ≡ true
   pub few : nat_le (length word.numbers) 4 ≡ true
-  pub told : numbers_told word ≡ ns
+  pub told : parsed_numbers word ≡ ns
 
 whole_list : (t ns tail : List ℕ) → IsList t ns tail → all_of is_space tail ≡ true → IsWhole t ns
 whole_list t ns tail l e =

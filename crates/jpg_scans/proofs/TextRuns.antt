@@ -4,11 +4,11 @@ use Rattle.std.specs.Prelude.{◌||◌, nat_lt, nat_le, flat_map}
 use Rattle.std.proofs.lemmas.Bool.Decides.{nat_tests}
 use Rattle.std.proofs.lemmas.List.{append_assoc, length-append}
 use Rattle.jpg_spec.specs.Lists.{all_of, is_empty}
-use Rattle.jpg_spec.specs.NumberTexts.{is_digit, digits_from, is_space, NumberWord, NumbersWord, number_text, numbers_text, numbers_told}
+use Rattle.jpg_spec.specs.NumberTexts.{is_digit, digits_from, is_space, NumberWord, NumbersWord, number_text, numbers_text, parsed_numbers}
 use Rattle.jpg_spec_write.specs.ScriptGrammar.{is_joint, is_between, is_script_number, is_first, is_further, are_joined, are_numbers}
-use Rattle.jpg_spec.proofs.Common.{both, same_of, le_of, lt_yes}
+use Rattle.jpg_spec.proofs.Basics.Common.{both, same_of, le_of, lt_yes}
 use Rattle.jpg_spec.specs.TextReaders.{run}
-use Rattle.jpg_spec.proofs.TextRuns.{run_two, run_cons, run_nil, space_no_digit, grows, value_of}
+use Rattle.jpg_spec.proofs.Texts.TextRuns.{run_two, run_cons, run_nil, space_no_digit, grows, value_of}
 use Rattle.jpg_scans.specs.declared.standing.Standing.{Standing}
 use Rattle.jpg_scans.specs.declared.standing.Standing.TheVariants.{Before, InNumber, Behind, Joined}
 use Rattle.jpg_scans.specs.TextState.{NumbersState, ended_by, ended, first_digit, digit_by, joint_by, number_step, no_numbers}
@@ -234,7 +234,7 @@ joined_run (w ∷ ws) e l =
       all = rest.all;
     }
 
-pub list_run : (w : NumbersWord) → are_numbers w ≡ true → length w.numbers ≤ 4 → ListRun (numbers_text w) (numbers_told w)
+pub list_run : (w : NumbersWord) → are_numbers w ≡ true → length w.numbers ≤ 4 → ListRun (numbers_text w) (parsed_numbers w)
 list_run w e l =
     let s = both (are_joined w.numbers) (all_of is_space w.after) e in
     let all = joined_run w.numbers s.0 l in

@@ -14,7 +14,7 @@ use Rattle.jpg_spec_write.specs.declared.picture_fault.PictureFault.TheVariants.
 use Rattle.jpg_base.proofs.Places.{next_below, none_below}
 use Rattle.jpg_scans.specs.declared.progress.Progress.{Progress}
 use Rattle.jpg_scans.specs.declared.sent.Sent.{Sent}
-use Rattle.jpg_scans.specs.Progress.{sent_of, known_at, unknown_from, StandsForScans}
+use Rattle.jpg_scans.specs.Progress.{sent_of, known_at, unknown_from, RepresentsScans}
 use Rattle.jpg_scans.specs.Sent.{is_unknown, first_unknown, known_in}
 
 -- OF ONE COMPONENT
@@ -107,7 +107,7 @@ same_rows a b (suc n) same =
     ∙ sym (row_by b n))
     ∙ sym (rows_more b n)
 
-pub incomplete_is : (p : Progress) (f : Frame) (heads : List ScanHead) → StandsForScans p f heads → p.count ≤ 4 → unknown_from p p.count 0 ≡ incomplete f heads
+pub incomplete_is : (p : Progress) (f : Frame) (heads : List ScanHead) → RepresentsScans p f heads → p.count ≤ 4 → unknown_from p p.count 0 ≡ incomplete f heads
 unfolding unknown_from
 incomplete_is p f heads s few =
     ap (λ n. by_known (known_at p) (flat_map row (below n))) s.count

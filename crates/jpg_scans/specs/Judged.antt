@@ -8,7 +8,7 @@ use Rattle.jpg_spec_write.specs.ScriptFaults.{entry_head, entry_fault}
 use Rattle.jpg_spec.specs.declared.frame.Process.{Process}
 use Rattle.jpg_spec.specs.declared.frame.Process.TheVariants.{Extended, Progressive}
 use Rattle.jpg_spec_write.specs.declared.picture_fault.PictureFault.{PictureFault}
-use Rattle.jpg_scans.specs.Progress.{StandsForScans}
+use Rattle.jpg_scans.specs.Progress.{RepresentsScans}
 use Rattle.jpg_scans.specs.declared.progress.Progress.{Progress}
 
 -- the answer of a check that found this fault, if any
@@ -33,9 +33,9 @@ has_numbers is_prog f head =
 abbrev pub IsEntryTaken : Bool → Frame → List ScanHead → ℕ → Entry → Option PictureFault → Progress → Type 0
 IsEntryTaken is_prog f heads n e (Some fault) new = entry_fault is_prog f heads n e ≡ Some fault
 IsEntryTaken is_prog f heads n e None new =
-    (entry_fault is_prog f heads n e ≡ None) × StandsForScans new (script_frame is_prog f) (entry_head e ∷ heads)
+    (entry_fault is_prog f heads n e ≡ None) × RepresentsScans new (script_frame is_prog f) (entry_head e ∷ heads)
 
 -- whatever scans there were
 abbrev pub TakesEntry : Bool → Frame → Progress → ℕ → Entry → Option PictureFault → Progress → Type 0
 TakesEntry is_prog f old n e answer new =
-    (heads : List ScanHead) → StandsForScans old (script_frame is_prog f) heads → IsEntryTaken is_prog f heads n e answer new
+    (heads : List ScanHead) → RepresentsScans old (script_frame is_prog f) heads → IsEntryTaken is_prog f heads n e answer new

@@ -23,7 +23,7 @@ abbrev pub known_at : Progress → ℕ → ℕ → Option ℕ
 known_at p i k = known_in (sent_of p i) k
 
 -- the scans of a frame so far had these heads, the newest first
-pub record StandsForScans (p : Progress) (f : Frame) (heads : List ScanHead) : Type 0 where
+pub record RepresentsScans (p : Progress) (f : Frame) (heads : List ScanHead) : Type 0 where
   pub process : p.is_progressive ≡ is_progressive f.process
   pub count : p.count ≡ length f.components
   pub begun : (i : ℕ) → i < 4 → begun_at p i ≡ has_begun heads i
@@ -31,12 +31,12 @@ pub record StandsForScans (p : Progress) (f : Frame) (heads : List ScanHead) : T
 
 -- what an answer says of a head, and the history afterwards
 abbrev pub IsJudged : Frame → List ScanHead → ScanHead → Result (Unit {0}) Fault → Progress → Type 0
-IsJudged f heads head (Ok done) new = (order_fault f heads head ≡ None) × StandsForScans new f (head ∷ heads)
+IsJudged f heads head (Ok done) new = (order_fault f heads head ≡ None) × RepresentsScans new f (head ∷ heads)
 IsJudged f heads head (Err fault) new = order_fault f heads head ≡ Some fault
 
 -- whatever scans of whatever frame there were
 abbrev pub Admits : Progress → ScanHead → Result (Unit {0}) Fault → Progress → Type 0
-Admits old head answer new = (f : Frame) (heads : List ScanHead) → StandsForScans old f heads → IsJudged f heads head answer new
+Admits old head answer new = (f : Frame) (heads : List ScanHead) → RepresentsScans old f heads → IsJudged f heads head answer new
 
 -- the first coefficient that isn't known down to bit 0, of n components from component i on
 unfoldable pub unknown_from : Progress → ℕ → ℕ → Option PictureFault

@@ -22,12 +22,12 @@ pub struct Progress {
 }
 
 impl Progress {
-    ghost use Rattle.jpg_scans.specs.Progress.{begun_at, known_at, sent_of, Admits, StandsForScans};
+    ghost use Rattle.jpg_scans.specs.Progress.{begun_at, known_at, sent_of, Admits, RepresentsScans};
     ghost use Rattle.jpg_scans.specs.Sent.{first_unknown, is_next_in};
 
     /// The history of a file of this frame before its first scan.
     pub fn new(frame: &Frame) -> Progress
-        ensures { StandsForScans result frame.now [] }
+        ensures { RepresentsScans result frame.now [] }
     {
         frame.checked();
         Progress {
@@ -57,7 +57,7 @@ impl Progress {
     /// The fault of a scan after those so far, as `admit` answers it.
     pub fn fault(&self, head: &ScanHead) -> Option<Fault>
         requires { All (λ p. p.component < 4) head.now.parts }
-        ensures { (f : Numbers) (heads : List Head) → StandsForScans self.now f heads → result ≡ order_fault f heads head.now }
+        ensures { (f : Numbers) (heads : List Head) → RepresentsScans self.now f heads → result ≡ order_fault f heads head.now }
     {
         if self.is_progressive {
             if self.are_next(head) {
@@ -75,7 +75,7 @@ impl Progress {
     /// Takes a scan that has no fault.
     pub fn note(&mut self, head: &ScanHead)
         requires { All (λ p. p.component < 4) head.now.parts }
-        ensures { (f : Numbers) (heads : List Head) → StandsForScans self.old f heads → StandsForScans self.new f (head.now ∷ heads) }
+        ensures { (f : Numbers) (heads : List Head) → RepresentsScans self.old f heads → RepresentsScans self.new f (head.now ∷ heads) }
     {
         for part in head.parts.as_slice() {
             self.components[part.component as usize].note(head);
@@ -84,7 +84,7 @@ impl Progress {
 
     /// Whether each component of the frame was in a scan.
     pub fn is_complete(&self) -> bool
-        ensures { (f : Numbers) (heads : List Head) → StandsForScans self.now f heads → result ≡ all_of (has_begun heads) (below (length f.components)) }
+        ensures { (f : Numbers) (heads : List Head) → RepresentsScans self.now f heads → result ≡ all_of (has_begun heads) (below (length f.components)) }
     {
         let mut all = true;
         for i in 0..self.count {
@@ -97,7 +97,7 @@ impl Progress {
     /// a script's check answers.
     #[tactic(auto, using(crate::proofs::Unknown::next_component, crate::proofs::Unknown::no_component, crate::proofs::Unknown::incomplete_is))]
     pub fn first_unknown(&self) -> Option<PictureFault>
-        ensures { (f : Numbers) (heads : List Head) → StandsForScans self.now f heads → result ≡ incomplete f heads }
+        ensures { (f : Numbers) (heads : List Head) → RepresentsScans self.now f heads → result ≡ incomplete f heads }
     {
         for i in 0..self.count {
             let fault = self.unknown_of(i);

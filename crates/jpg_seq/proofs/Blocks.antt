@@ -7,8 +7,8 @@ use Rattle.jpg_spec.specs.Numbers.{category}
 use Rattle.jpg_spec.specs.Geometry.{Frame, bounds}
 use Rattle.jpg_spec.specs.Elements.{are_in_bounds, IsBlockIn, zeros}
 use Rattle.jpg_spec.specs.declared.frame.Bounds.{Bounds}
-use Rattle.jpg_spec.proofs.Small.{AreBounds, are_bounds, few_digits}
-use Rattle.jpg_spec.proofs.Common.{both}
+use Rattle.jpg_spec.proofs.Basics.Small.{AreBounds, are_bounds, few_digits}
+use Rattle.jpg_spec.proofs.Basics.Common.{both}
 use Rattle.jpg_seq.specs.BlockBits.{IsShort}
 use Rattle.jpg_seq.specs.Counted.{AreFew}
 

@@ -4,16 +4,16 @@ use Rattle.std.proofs.lemmas.List.{append_assoc, append-nil, length-map}
 use Rattle.std.proofs.lemmas.List.Elements.{All-head}
 use Rattle.jpg_spec.specs.Elements.{Standing, at_start}
 use Rattle.jpg_spec.specs.Parts.{StandsInUnits}
-use Rattle.jpg_spec.proofs.Values.{covers_then}
+use Rattle.jpg_spec.proofs.Bits.Values.{covers_then}
 use Rattle.jpg_coefs.specs.Picture.{Picture}
 use Rattle.jpg_coefs.specs.Machine.{Interval, units_of, IsUnfinished, KeepsUnits}
 use Rattle.jpg_seq.specs.declared.reader.SeqReader.{SeqReader}
 use Rattle.jpg_seq.specs.Stands.{standing_at, unit_in_work}
 use Rattle.jpg_seq.specs.Coder.{env_in}
-use Rattle.jpg_seq.specs.Reader.{SeqStands, IsPlaceReadable, new_at, new_units_at, prediction_at, sequential}
+use Rattle.jpg_seq.specs.Reader.{RepresentsSeqScan, IsPlaceReadable, new_at, new_units_at, prediction_at, sequential}
 use Rattle.jpg_seq.proofs.Parts.{work_part}
 
-stands_is : (m : SeqReader) (i : Interval) (bits : List Bool) (now : Picture) → (o : SeqStands m i bits now)
+stands_is : (m : SeqReader) (i : Interval) (bits : List Bool) (now : Picture) → (o : RepresentsSeqScan m i bits now)
     → StandsInUnits i.scan.coding (units_of i) (o.whole ++ m.unit.values) (unit_in_work o.next.component m.unit.values ∷ new_units_at o.more) bits
 stands_is m i bits now o =
     let r = All-head (IsPlaceReadable m i.before.frame) o.next (o.more ++ i.later) o.spots in
@@ -38,7 +38,7 @@ stands_is m i bits now o =
       in_bounds = refl;
     }
 
-unfinished : (m : SeqReader) (i : Interval) (bits : List Bool) (now : Picture) → SeqStands m i bits now → IsUnfinished i bits now m.left
+unfinished : (m : SeqReader) (i : Interval) (bits : List Bool) (now : Picture) → RepresentsSeqScan m i bits now → IsUnfinished i bits now m.left
 unfinished m i bits now o = record {
   done = o.done;
   due = o.next ∷ o.more;

@@ -7,9 +7,9 @@ use Rattle.jpg_spec.specs.Codes.{Code}
 use Rattle.jpg_spec.specs.Numbers.{category}
 use Rattle.jpg_spec.specs.Elements.{Element, difference, value, long_run, ends, Coding, UnitLeft, Standing, Covers, Tells, SpellsElement, codes_due, going_on, predictions_after, zeros, zeros_in, nonzeros_in, corrected, scaled, are_in_bounds, new_unit}
 use Rattle.jpg_spec.specs.declared.frame.Bounds.{Bounds}
-use Rattle.jpg_spec.proofs.Values.{going_same}
-use Rattle.jpg_spec.proofs.Common.{bounds_join}
-use Rattle.jpg_spec.proofs.Small.{one_digit}
+use Rattle.jpg_spec.proofs.Bits.Values.{going_same}
+use Rattle.jpg_spec.proofs.Basics.Common.{bounds_join}
+use Rattle.jpg_spec.proofs.Basics.Small.{one_digit}
 use Rattle.jpg_seq.specs.Range.{AreSane}
 use Rattle.jpg_seq.specs.Stands.{IsCodingOf, open_unit, unit_in_work, standing_at}
 use Rattle.jpg_seq.proofs.Tests.{zeros_in_bounds, value_in_bounds}

@@ -7,7 +7,7 @@ use Rattle.jpg_spec.specs.Codes.{AreCodes, are_codes}
 use Rattle.jpg_spec.specs.Segments.{HuffmanTable}
 use Rattle.jpg_spec.specs.Scan.{codes_of}
 use Rattle.jpg_spec.specs.Sound.{AreTables}
-use Rattle.jpg_spec.proofs.Common.{and_intro, some_once}
+use Rattle.jpg_spec.proofs.Basics.Common.{and_intro, some_once}
 use Rattle.jpg_huff.specs.declared.table.Table.{Table}
 use Rattle.jpg_huff.specs.declared.set.TableSet.{TableSet}
 use Rattle.jpg_huff.specs.Sets.{dc_tables, ac_tables, in_slot}

@@ -19,7 +19,7 @@ use Rattle.jpg_seq.specs.declared.work.NextElement.TheVariants.{Part, Value, Zer
 use Rattle.jpg_seq.specs.Range.{AreSane, InRange}
 use Rattle.jpg_seq.specs.Judge.{IsBadSymbol, IsBadRun}
 use Rattle.jpg_seq.specs.Stands.{IsCodingOf, MayStand, standing_at, unit_in_work, open_unit, codes_next}
-use Rattle.jpg_seq.specs.Work.{Env, next_codes, IsPartOf, ReadsComponent, Adds, FrontsAre, NoPartBegins, IsElement, IsShownFault, StandsFirst, IsFirstValue}
+use Rattle.jpg_seq.specs.Work.{Env, next_codes, IsPartOf, ReadsComponent, Adds, FrontsAre, NoPartBegins, IsElement, IsShownFault, IsNextElement, IsFirstValue}
 use Rattle.jpg_huff.proofs.Fronts.{due_apart, walk_shows}
 use Rattle.jpg_seq.proofs.Tests.{first_out, not_first_symbol, first_in_bounds}
 use Rattle.jpg_seq.proofs.Elements.{TellsHere, value_tells, run_tells, end_tells, first_tells, one_element, some_left}
@@ -332,7 +332,7 @@ waits e values bits n run size few there c may small short =
 
 -- the result of the first value
 pub first_comes : (e : Env) (bits : List Bool) (n size number : ℕ) (d : ℤ) (next : NextElement) → huff_laws.AreApart e.dc → 1 ≤ n → n + size ≤ length bits → Contains e.dc (take n bits, size) → size ≤ e.bounds.dc_cat → category d ≡ size → extra_bits d ≡ take size (drop n bits)
-    → number ≡ n + size → IsFirstValue e.bounds e.prediction d number next → StandsFirst e [] bits next
+    → number ≡ n + size → IsFirstValue e.bounds e.prediction d number next → IsNextElement e [] bits next
 first_comes e bits n size number d Part apart low there c few cat x m first = absurd first
 first_comes e bits n size number d (Zeros count k) apart low there c few cat x m first = absurd first
 first_comes e bits n size number d (Value run v k) apart low there c few cat x m first =

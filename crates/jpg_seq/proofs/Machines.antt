@@ -9,13 +9,13 @@ use Rattle.std.proofs.lemmas.Bool.Decides.{nat_tests}
 use Rattle.jpg_spec.specs.Elements.{Element, UnitLeft, Standing, Covers, going_on, predicted, zeros, at_start}
 use Rattle.jpg_spec.specs.Geometry.{Frame, padded_blocks}
 use Rattle.jpg_spec.specs.declared.frame.Place.{Place}
-use Rattle.jpg_spec.proofs.Values.{covers_then}
+use Rattle.jpg_spec.proofs.Bits.Values.{covers_then}
 use Rattle.jpg_spec.specs.Lists.{any_of, slot_value}
 use Rattle.jpg_spec.specs.Scan.{Scan, band, block_at, coefficient}
 use Rattle.jpg_spec.specs.PictureInWork.{is_at, is_in_band, AreDistinct, UnitsRead}
-use Rattle.jpg_spec.proofs.PictureInWork.{apart_of, apart_swap, distinct_behind}
-use Rattle.jpg_spec.proofs.UnitsRead.{units_next, units_last}
-use Rattle.jpg_spec.proofs.Common.{clash, part_more, some_once, not_same, same_itself}
+use Rattle.jpg_spec.proofs.Places.PictureInWork.{apart_of, apart_swap, distinct_behind}
+use Rattle.jpg_spec.proofs.Bits.UnitsRead.{units_next, units_last}
+use Rattle.jpg_spec.proofs.Basics.Common.{clash, part_more, some_once, not_same, same_itself}
 use Rattle.jpg_base.specs.Cursor.{IsPadded}
 use Rattle.jpg_coefs.specs.Picture.{Picture, map_of, with_block, HasPlace, put_at}
 use Rattle.jpg_coefs.specs.Machine.{Interval, units_of, Step, Chain}
@@ -27,28 +27,28 @@ use Rattle.jpg_coefs.specs.declared.machine.UnitFault.{UnitFault}
 use Rattle.jpg_seq.specs.Stands.{standing_at, unit_in_work, open_unit}
 use Rattle.jpg_seq.specs.Work.{Work, Env, IsPartOf, ReadsComponent, Adds, StepsTo, StepsThrough, IsLast, IsWrong, IsAtWork, no_work}
 use Rattle.jpg_seq.specs.Coder.{env_in}
-use Rattle.jpg_seq.specs.Reader.{coder_at, prediction_at, behind, new_units_at, IsPlaceReadable, ReadsBy, SeqStands, sequential}
+use Rattle.jpg_seq.specs.Reader.{coder_at, prediction_at, behind, new_units_at, IsPlaceReadable, ReadsBy, RepresentsSeqScan, sequential}
 use Rattle.jpg_seq.proofs.Elements.{left_at}
 
 abbrev pub env_at : SeqReader → Coder → ℕ → Env
 env_at m coder k = env_in m.bounds coder (prediction_at m k)
 
 -- the current unit is of the cursor's place
-pub next_is : (m : SeqReader) (i : Interval) (bits : List Bool) (now : Picture) (p : Place) → slice_get m.cursor 0 ≡ Some p → (o : SeqStands m i bits now) → o.next ≡ p
+pub next_is : (m : SeqReader) (i : Interval) (bits : List Bool) (now : Picture) (p : Place) → slice_get m.cursor 0 ≡ Some p → (o : RepresentsSeqScan m i bits now) → o.next ≡ p
 next_is m i bits now p e o = some_once o.next p (sym (ap (λ (l : List Place). slice_get l 0) o.cursor) ∙ e)
 
-pub reads_of : (m : SeqReader) (i : Interval) (bits : List Bool) (now : Picture) (coder : Coder) → (o : SeqStands m i bits now) → coder_at m o.next.component ≡ Some coder
+pub reads_of : (m : SeqReader) (i : Interval) (bits : List Bool) (now : Picture) (coder : Coder) → (o : RepresentsSeqScan m i bits now) → coder_at m o.next.component ≡ Some coder
     → ReadsComponent (env_at m coder o.next.component) i.scan.coding o.next.component o.predictions
 reads_of m i bits now coder o there =
     let r = All-head (IsPlaceReadable m i.before.frame) o.next (o.more ++ i.later) o.spots in
     (o.reads.codes o.next.component coder there, sym (o.predicts o.next.component r.small))
 
 -- with the unit's further bits
-module _ {m : SeqReader} {i : Interval} {bits : List Bool} {now : Picture} (o : SeqStands m i bits now) where
+module _ {m : SeqReader} {i : Interval} {bits : List Bool} {now : Picture} (o : RepresentsSeqScan m i bits now) where
   with_unit : (b : Bool) (t : Work) (elements : List Element) (front : List Bool)
       → Covers i.scan.coding (standing_at o.predictions o.next.component (new_units_at o.more) []) elements t.values front (standing_at o.predictions o.next.component (new_units_at o.more) t.values)
       → o.part ++ b ∷ [] ≡ front ++ t.part → ((coder : Coder) → coder_at m o.next.component ≡ Some coder → IsAtWork (env_at m coder o.next.component) t)
-      → SeqStands (record m { unit = t }) i (bits ++ b ∷ []) now
+      → RepresentsSeqScan (record m { unit = t }) i (bits ++ b ∷ []) now
   with_unit b t elements front covers split work =
       record {
         reads = record { sane = o.reads.sane; codes = o.reads.codes };
@@ -170,12 +170,12 @@ next_apart : (done : List Place) (next : Place) (more : List Place) → AreDisti
 next_apart done next more d = (apart_swap done (next ∷ more) (apart_of done (next ∷ more) d)).0
 
 -- what is true after a complete unit
-pub record UnitRead (m : SeqReader) (i : Interval) (bits : List Bool) (now : Picture) (p : Place) (block : List ℤ) (b : Bool) (o : SeqStands m i bits now) : Type 0 where
+pub record UnitRead (m : SeqReader) (i : Interval) (bits : List Bool) (now : Picture) (p : Place) (block : List ℤ) (b : Bool) (o : RepresentsSeqScan m i bits now) : Type 0 where
   pub elements : List Element
   pub covers : Covers i.scan.coding (at_start (units_of i)) elements (o.whole ++ block) (bits ++ b ∷ []) (record { predictions = after_block o.predictions p.component block; left = new_units_at o.more })
   pub read : UnitsRead i.scan (o.done ++ p ∷ []) (map_of i.before) (map_of (put_at now p block)) (o.whole ++ block)
 
-module _ {m : SeqReader} {i : Interval} {bits : List Bool} {now : Picture} (o : SeqStands m i bits now) where
+module _ {m : SeqReader} {i : Interval} {bits : List Bool} {now : Picture} (o : RepresentsSeqScan m i bits now) where
   unit_read : (p : Place) (coder : Coder) (block : List ℤ) (b : Bool) → o.next ≡ p → coder_at m p.component ≡ Some coder
       → length now.blocks ≡ padded_blocks now.frame → IsLast (env_at m coder p.component) m.unit b block → UnitRead m i bits now p block b o
   unit_read p coder block b n there count h =

@@ -17,10 +17,10 @@ use Rattle.jpg_spec.specs.declared.frame.Bounds.{Bounds}
 use Rattle.jpg_spec.specs.declared.frame.Place.{Place}
 use Rattle.jpg_spec.specs.declared.frame.ScanPart.{ScanPart}
 use Rattle.jpg_spec.specs.PictureInWork.{AreDistinct}
-use Rattle.jpg_spec.proofs.Precisions.{of_bounds}
-use Rattle.jpg_spec.proofs.PlacesDistinct.{units_distinct}
-use Rattle.jpg_spec.proofs.Sound.{sound}
-use Rattle.jpg_spec.proofs.Common.{not_same, same_itself}
+use Rattle.jpg_spec.proofs.Headers.Precisions.{of_bounds}
+use Rattle.jpg_spec.proofs.Places.PlacesDistinct.{units_distinct}
+use Rattle.jpg_spec.proofs.Bits.Sound.{sound}
+use Rattle.jpg_spec.proofs.Basics.Common.{not_same, same_itself}
 use Rattle.jpg_base.proofs.ScanPlaces.{IsOneOf, units_in}
 use Rattle.jpg_huff.specs.declared.set.TableSet.{TableSet}
 use Rattle.jpg_huff.specs.Sets.{dc_tables, ac_tables, in_slot}

@@ -15,8 +15,8 @@ use Rattle.jpg_spec.specs.Geometry.{Frame, blocks_across, component_at, div_up, 
 use Rattle.jpg_spec.specs.FrameHeader.{HasFactors, IsFrame, padded_across, padded_down}
 use Rattle.jpg_spec.specs.ScanRows.{scan_row}
 use Rattle.jpg_spec.specs.declared.frame.Place.{Place}
-use Rattle.jpg_spec.proofs.Common.{length_below}
-use Rattle.jpg_spec.proofs.PlacesFound.{real_in_padded}
+use Rattle.jpg_spec.proofs.Basics.Common.{length_below}
+use Rattle.jpg_spec.proofs.Places.PlacesFound.{real_in_padded}
 use Rattle.jpg_base.specs.Cursor.{AreIn, scan_mcus_down}
 use Rattle.jpg_base.proofs.Grids.{across_low, down_low}
 use Rattle.jpg_base.proofs.UnitCounts.{length_rows}

@@ -22,7 +22,7 @@ use Rattle.jpg_huff.specs.declared.table.Table.{Table}
 use Rattle.jpg_huff.specs.declared.set.TableSet.{TableSet}
 use Rattle.jpg_huff.specs.Sets.{dc_tables, ac_tables, in_slot}
 use Rattle.jpg_huff.specs.Tables.{table_of, symbol_codes}
-use Rattle.jpg_spec.proofs.Common.{some_once}
+use Rattle.jpg_spec.proofs.Basics.Common.{some_once}
 use Rattle.jpg_spec_write.proofs.Shifts.{shifted_none}
 use Rattle.jpg_seq.specs.NewReader.{HasTables}
 use Rattle.jpg_seq.specs.BlockBits.{spelled, band_bits, block_bits, IsShort}

@@ -8,10 +8,10 @@ use Rattle.std.proofs.lemmas.List.{append_assoc, append-nil, drop-take, length-a
 use Rattle.jpg_spec.specs.Bits.{bits_of}
 use Rattle.jpg_spec.specs.Codes.{Code}
 use Rattle.jpg_spec.specs.Parts.{IsFront}
-use Rattle.jpg_spec.proofs.Strings.{bits_of-split, length-bits_of}
+use Rattle.jpg_spec.proofs.Basics.Strings.{bits_of-split, length-bits_of}
 use Rattle.jpg_huff.specs.Laws.{AreApart}
 use Rattle.jpg_huff.specs.Walk.{BeginsNoCode}
-use Rattle.jpg_seq.specs.Values.{StandsToldFirst, StandsEndFirst, StandsShortFirst, TellsNone, TellsOrNone, told_end, told_none}
+use Rattle.jpg_seq.specs.Values.{BeginsWithShortValue, IsNextEnd, IsNextShortValue, TellsNone, TellsOrNone, end_entry, no_entry}
 use Rattle.jpg_seq.specs.declared.values.ShortValue.{ShortValue}
 
 -- the bits of a number below 1024, and those of its parts
@@ -22,19 +22,19 @@ ten_split ten store first second third none a b c =
     ∙ sym (bits_of-split 9 ten)
 
 -- a further entry
-pub told_more : (codes : List Code) (told : List ShortValue) (i : ℕ) (t : ShortValue) → i < length told → ((n : ℕ) → n < i → TellsOrNone codes (bits_of 10 n) (get_or told n told_none)) → TellsOrNone codes (bits_of 10 i) t
-    → (n : ℕ) → n < i + 1 → TellsOrNone codes (bits_of 10 n) (get_or (set told i t) n told_none)
+pub told_more : (codes : List Code) (told : List ShortValue) (i : ℕ) (t : ShortValue) → i < length told → ((n : ℕ) → n < i → TellsOrNone codes (bits_of 10 n) (get_or told n no_entry)) → TellsOrNone codes (bits_of 10 i) t
+    → (n : ℕ) → n < i + 1 → TellsOrNone codes (bits_of 10 n) (get_or (set told i t) n no_entry)
 told_more codes told i t lt so_far here n h =
     ⊎_elim
-    (λ (a : n < i). let e : get_or (set told i t) n told_none ≡ get_or told n told_none = grind (arith, elements) in subst (λ x. TellsOrNone codes (bits_of 10 n) x) (sym e) (so_far n a))
+    (λ (a : n < i). let e : get_or (set told i t) n no_entry ≡ get_or told n no_entry = grind (arith, elements) in subst (λ x. TellsOrNone codes (bits_of 10 n) x) (sym e) (so_far n a))
     (λ (b : i ≤ n). (let e : i ≡ n = omega arith in
-    let w : get_or (set told i t) i told_none ≡ t = grind (arith, elements) in
-    let P : ℕ → Type 0 = λ m. TellsOrNone codes (bits_of 10 m) (get_or (set told i t) m told_none) in
+    let w : get_or (set told i t) i no_entry ≡ t = grind (arith, elements) in
+    let P : ℕ → Type 0 = λ m. TellsOrNone codes (bits_of 10 m) (get_or (set told i t) m no_entry) in
     subst P e (subst (λ x. TellsOrNone codes (bits_of 10 i) x) (sym w) here)))
     (cases_lt n i)
 
 -- the first ten bits are enough to determine it
-same_ten : (codes : List Code) (a b : List Bool) (t : ShortValue) → take 10 a ≡ take 10 b → 10 ≤ length b → StandsToldFirst codes a t → StandsToldFirst codes b t
+same_ten : (codes : List Code) (a b : List Bool) (t : ShortValue) → take 10 a ≡ take 10 b → 10 ≤ length b → BeginsWithShortValue codes a t → BeginsWithShortValue codes b t
 same_ten codes a b t is long f =
     let k = f.code in let size = f.size in
     let few = f.few in
@@ -59,32 +59,32 @@ same_ten codes a b t is long f =
       extra = f.extra ∙ behind;
     }
 
-same_ten_end : (codes : List Code) (a b : List Bool) (t : ShortValue) → take 10 a ≡ take 10 b → 10 ≤ length b → StandsEndFirst codes a t → StandsEndFirst codes b t
+same_ten_end : (codes : List Code) (a b : List Bool) (t : ShortValue) → take 10 a ≡ take 10 b → 10 ≤ length b → IsNextEnd codes a t → IsNextEnd codes b t
 same_ten_end codes a b t is long f =
     let n = t.length in
     let C : List Bool → Type 0 = λ x. Contains codes (x, 0) in
     let front : take n a ≡ take n b = sym (take-take n 10 a f.few) ∙ ap (take n) is ∙ take-take n 10 b f.few in
     record { some = f.some; few = f.few; there = omega (arith, f.few, long); run = f.run; in_codes = subst C front f.in_codes }
 
-same_short : (codes : List Code) (a b : List Bool) (t : ShortValue) → take 10 a ≡ take 10 b → 10 ≤ length b → StandsShortFirst codes a t → StandsShortFirst codes b t
+same_short : (codes : List Code) (a b : List Bool) (t : ShortValue) → take 10 a ≡ take 10 b → 10 ≤ length b → IsNextShortValue codes a t → IsNextShortValue codes b t
 same_short codes a b t is long (inl f) = inl (same_ten codes a b t is long f)
 same_short codes a b t is long (inr f) = inr (same_ten_end codes a b t is long f)
 
 -- some bits encode it
-some_short : (codes : List Code) (bits : List Bool) (t : ShortValue) → StandsShortFirst codes bits t → 1 ≤ t.length
+some_short : (codes : List Code) (bits : List Bool) (t : ShortValue) → IsNextShortValue codes bits t → 1 ≤ t.length
 some_short codes bits t (inl f) = omega (arith, f.sum, f.some)
 some_short codes bits t (inr f) = f.some
 
-pub short_there : (codes : List Code) (bits : List Bool) (t : ShortValue) → StandsShortFirst codes bits t → t.length ≤ length bits
+pub short_there : (codes : List Code) (bits : List Bool) (t : ShortValue) → IsNextShortValue codes bits t → t.length ≤ length bits
 short_there codes bits t (inl f) = omega (arith, f.sum, f.there)
 short_there codes bits t (inr f) = f.there
 
 -- which it is, by its run
-pub short_value : (codes : List Code) (bits : List Bool) (t : ShortValue) → StandsShortFirst codes bits t → t.run < 64 → StandsToldFirst codes bits t
+pub short_value : (codes : List Code) (bits : List Bool) (t : ShortValue) → IsNextShortValue codes bits t → t.run < 64 → BeginsWithShortValue codes bits t
 short_value codes bits t (inl f) less = f
 short_value codes bits t (inr f) less = absurd (omega (arith, f.run, less))
 
-pub short_end : (codes : List Code) (bits : List Bool) (t : ShortValue) → StandsShortFirst codes bits t → t.run ≡ 64 → StandsEndFirst codes bits t
+pub short_end : (codes : List Code) (bits : List Bool) (t : ShortValue) → IsNextShortValue codes bits t → t.run ≡ 64 → IsNextEnd codes bits t
 short_end codes bits t (inl f) is = absurd (omega (arith, f.run, is))
 short_end codes bits t (inr f) is = f
 
@@ -92,7 +92,7 @@ first_ten : (bits : List Bool) (ten : ℕ) → bits_of 10 ten ≡ take 10 bits �
 first_ten bits ten is = take_all 10 (bits_of 10 ten) (omega (arith, length-bits_of 10 ten)) ∙ is
 
 -- the first ten bits determine it, so all do
-pub told_first : (codes : List Code) (bits : List Bool) (ten : ℕ) (t : ShortValue) → 10 ≤ length bits → bits_of 10 ten ≡ take 10 bits → TellsOrNone codes (bits_of 10 ten) t → (t.length ≡ 0 → ⊥) → StandsShortFirst codes bits t
+pub told_first : (codes : List Code) (bits : List Bool) (ten : ℕ) (t : ShortValue) → 10 ≤ length bits → bits_of 10 ten ≡ take 10 bits → TellsOrNone codes (bits_of 10 ten) t → (t.length ≡ 0 → ⊥) → IsNextShortValue codes bits t
 told_first codes bits ten t long is (inl none) some = absurd (some none.0)
 told_first codes bits ten t long is (inr f) some = same_short codes (bits_of 10 ten) bits t (first_ten bits ten is) long f
 
@@ -115,7 +115,7 @@ abbrev pub CodeFirst : List Code → List Bool → ℕ → ℕ → Type 0
 CodeFirst codes bits k symbol = (1 ≤ k) × (k ≤ length bits) × Contains codes (take k bits, symbol)
 
 -- a value and the end of a block have codes
-short_code : (codes : List Code) (bits : List Bool) (t : ShortValue) → StandsShortFirst codes bits t → (k : ℕ) × (symbol : ℕ) × CodeFirst codes bits k symbol
+short_code : (codes : List Code) (bits : List Bool) (t : ShortValue) → IsNextShortValue codes bits t → (k : ℕ) × (symbol : ℕ) × CodeFirst codes bits k symbol
 short_code codes bits t (inl f) = (f.code, 16 * t.run + f.size, (f.some, omega (arith, f.there), f.in_codes))
 short_code codes bits t (inr f) = (t.length, 0, (f.some, f.there, f.in_codes))
 
@@ -161,7 +161,7 @@ pub kept_none : (codes : List Code) (bits ten : List Bool) (t : ShortValue) → 
 kept_none codes bits ten t is zero none = inl (zero, subst (λ b. TellsNone codes b) is none)
 
 -- the code of the end of a block comes first
-pub kept_end : (codes : List Code) (bits ten : List Bool) (n symbol : ℕ) (t : ShortValue) → bits ≡ ten → t ≡ told_end n → 1 ≤ n → n ≤ length bits → length ten ≡ 10 → Contains codes (take n bits, symbol) → symbol ≡ 0 → TellsOrNone codes ten t
+pub kept_end : (codes : List Code) (bits ten : List Bool) (n symbol : ℕ) (t : ShortValue) → bits ≡ ten → t ≡ end_entry n → 1 ≤ n → n ≤ length bits → length ten ≡ 10 → Contains codes (take n bits, symbol) → symbol ≡ 0 → TellsOrNone codes ten t
 kept_end codes bits ten n symbol t is end some low long h zero =
     let C : ℕ → Type 0 = λ s. Contains codes (take n bits, s) in
     let E : ShortValue → Type 0 = λ u. TellsOrNone codes bits u in

@@ -3,7 +3,7 @@ use Rattle.std.proofs.Common.{◌≡◌, ℕ, ◌+◌, ◌-◌, ◌*◌, ◌<◌
 use Rattle.std.proofs.lemmas.List.{append_assoc, length-append, length-drop, take_all}
 use Rattle.std.proofs.Math.Seq.{drop-append_seam}
 use Rattle.jpg_spec.specs.Bits.{bits_of, bits_of_bytes}
-use Rattle.jpg_spec.proofs.Strings.{length-bits_of}
+use Rattle.jpg_spec.proofs.Basics.Strings.{length-bits_of}
 use Rattle.jpg_seq.specs.declared.source.Source.{Source}
 use Rattle.jpg_seq.specs.declared.work.UnitProgress.{UnitProgress}
 use Rattle.jpg_seq.specs.declared.work.UnitProgress.TheVariants.{Empty}

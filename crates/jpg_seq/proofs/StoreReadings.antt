@@ -7,7 +7,7 @@ use Rattle.std.proofs.lemmas.List.Elements.{All-head, All-weaker}
 use Rattle.jpg_spec.specs.Elements.{UnitLeft, Standing, Covers, at_start}
 use Rattle.jpg_spec.specs.Geometry.{Frame, padded_blocks}
 use Rattle.jpg_spec.specs.declared.frame.Place.{Place}
-use Rattle.jpg_spec.proofs.UnitsRead.{units_first}
+use Rattle.jpg_spec.proofs.Bits.UnitsRead.{units_first}
 use Rattle.jpg_base.specs.Cursor.{IsPadded}
 use Rattle.jpg_coefs.specs.Picture.{Picture, map_of, with_block}
 use Rattle.jpg_coefs.proofs.Chains.{chain_then, chain_stands}
@@ -20,11 +20,11 @@ use Rattle.jpg_seq.specs.declared.work.Coder.{Coder}
 use Rattle.jpg_seq.specs.declared.work.UnitProgress.TheVariants as took
 use Rattle.jpg_coefs.specs.declared.machine.UnitFault.{UnitFault}
 use Rattle.jpg_seq.specs.Work.{Work, StepsThrough, no_work}
-use Rattle.jpg_seq.specs.Reader.{coder_at, behind, with_work, new_units_at, IsPlaceReadable, CanRead, ReadsOn, SeqStands, SeqReady, sequential}
+use Rattle.jpg_seq.specs.Reader.{coder_at, behind, with_work, new_units_at, IsPlaceReadable, CanRead, ReadsOn, RepresentsSeqScan, SeqReady, sequential}
 use Rattle.jpg_seq.specs.SoFar.{Spot, SoFar}
 use Rattle.jpg_seq.proofs.Machines.{env_at, next_is, after_unit, chain_within, step_unit, step_last, step_fault, some_places, fresh_work}
 
-pub starts : (most : ℕ) (s : Spot) → 1 ≤ most → (stands : (i : Interval) × (bits : List Bool) × SeqStands s.machine i bits s.picture) → SoFar most s s 0
+pub starts : (most : ℕ) (s : Spot) → 1 ≤ most → (stands : (i : Interval) × (bits : List Bool) × RepresentsSeqScan s.machine i bits s.picture) → SoFar most s s 0
 starts most s some o = record { taken = []; split = refl; chain = (refl, refl); count = omega arith; few = omega arith; interval = o.0; bits = o.1; standing = o.2 }
 
 -- up to the last bit of a unit
@@ -201,12 +201,12 @@ zeros_at (suc (suc zero)) = refl
 zeros_at (suc (suc (suc zero))) = refl
 zeros_at (suc (suc (suc (suc k)))) = refl
 
-pub begins : (m new : SeqReader) (i : Interval) (units : ℕ) → SeqReady m i → length i.places ≡ units → 1 ≤ units → new ≡ record m { unit = no_work; predictions = pos 0 ∷ pos 0 ∷ pos 0 ∷ pos 0 ∷ []; left = units } → SeqStands new i [] i.before
+pub begins : (m new : SeqReader) (i : Interval) (units : ℕ) → SeqReady m i → length i.places ≡ units → 1 ≤ units → new ≡ record m { unit = no_work; predictions = pos 0 ∷ pos 0 ∷ pos 0 ∷ pos 0 ∷ []; left = units } → RepresentsSeqScan new i [] i.before
 begins m new i units r count some is =
     let l = some_places i.places (omega arith) in
     let target : SeqReader = record m { unit = no_work; predictions = pos 0 ∷ pos 0 ∷ pos 0 ∷ pos 0 ∷ []; left = units } in
     let places : i.places ++ i.later ≡ l.0 ∷ (l.1 ++ i.later) = ap (λ (z : List Place). z ++ i.later) l.2 in
-    let P : SeqReader → Type 0 = λ q. SeqStands q i [] i.before in
+    let P : SeqReader → Type 0 = λ q. RepresentsSeqScan q i [] i.before in
     let T : List Place → Type 0 = λ z. All (IsPlaceReadable target i.before.frame) z in
     let S : List Place → Type 0 = λ z. Covers i.scan.coding (at_start (units_of i)) [] [] [] (record { predictions = λ k. pos 0; left = new_units_at z }) in
     let all = All-weaker (IsPlaceReadable m i.before.frame) (IsPlaceReadable target i.before.frame) (λ q s. record { small = s.small; padded = s.padded; coder = s.coder; there = s.there }) (i.places ++ i.later) r.spots in

@@ -9,7 +9,7 @@ use Rattle.jpg_seq.specs.declared.work.UnitProgress.{UnitProgress}
 use Rattle.jpg_seq.specs.declared.work.UnitProgress.TheVariants.{More, Empty, Done, Fault}
 use Rattle.jpg_seq.specs.Work.{Work, Env, IsPartOf, Adds, BitsRevealAfter, FrontsAre, NoPartBegins, IsElement, IsShownFault, StepsTo, StepsThrough, BitsComeTo, IsAtWork, StaysAtWork, IsUnitCovered, GrowsOn, TakesFromStore}
 use Rattle.jpg_seq.proofs.Items.{cut, some_of}
-use Rattle.jpg_spec.proofs.Common.{last_split}
+use Rattle.jpg_spec.proofs.Basics.Common.{last_split}
 
 abbrev at : List ℤ → List Bool → Work
 at values part = record { values = values; part = part }

@@ -9,8 +9,8 @@ use Rattle.jpg_spec.specs.Numbers.{category}
 use Rattle.jpg_spec.specs.Elements.{Coding, are_in_bounds, zeros}
 use Rattle.jpg_spec.specs.ScanFaults.{is_symbol}
 use Rattle.jpg_spec.specs.declared.frame.Bounds.{Bounds}
-use Rattle.jpg_spec.proofs.Facts.{below_digits}
-use Rattle.jpg_spec.proofs.Common.{and_intro, both_false, in_order, from_test, and_false}
+use Rattle.jpg_spec.proofs.Basics.Facts.{below_digits}
+use Rattle.jpg_spec.proofs.Basics.Common.{and_intro, both_false, in_order, from_test, and_false}
 use Rattle.jpg_seq.specs.Range.{AreSane, InRange}
 use Rattle.jpg_seq.specs.Judge.{IsBadSymbol}
 

@@ -5,7 +5,7 @@ pub mod Judge
 pub mod BlockBits
 pub mod Source
 pub mod SourceTaken
-pub mod ToldTaken
+pub mod ShortTaken
 pub mod Stands
 pub mod Range
 pub mod Values

@@ -75,7 +75,7 @@ pub record IsSequential (i : Interval) : Type 0 where
   pub se : i.scan.se ≡ 63
 
 -- Complete units, and a part of the next.
-pub record SeqStands (m : SeqReader) (i : Interval) (bits : List Bool) (now : Picture) : Type 0 where
+pub record RepresentsSeqScan (m : SeqReader) (i : Interval) (bits : List Bool) (now : Picture) : Type 0 where
   pub reads : ReadsBy m i.scan.coding
   pub kind : IsSequential i
   pub distinct : AreDistinct (i.places ++ i.later)
@@ -115,4 +115,4 @@ pub record SeqReady (m : SeqReader) (i : Interval) : Type 0 where
   pub four : length m.predictions ≡ 4
 
 abbrev pub sequential : Kind SeqReader
-sequential = record { stands = SeqStands; ready = SeqReady; left = λ m. m.left; fits = IsSequential }
+sequential = record { stands = RepresentsSeqScan; ready = SeqReady; left = λ m. m.left; fits = IsSequential }

@@ -6,7 +6,7 @@ use Rattle.jpg_coefs.specs.Machine.{Interval, TakesBits}
 use Rattle.jpg_coefs.specs.Picture.{Picture}
 use Rattle.jpg_coefs.specs.declared.machine.Taken.{Taken}
 use Rattle.jpg_coefs.specs.declared.machine.Taken.TheVariants as taken
-use Rattle.jpg_seq.specs.Reader.{SeqStands, sequential}
+use Rattle.jpg_seq.specs.Reader.{RepresentsSeqScan, sequential}
 use Rattle.jpg_seq.specs.Rows.{IsRowOf}
 use Rattle.jpg_seq.specs.SoFar.{Spot, SoFar}
 use Rattle.jpg_seq.specs.declared.reader.BytesTaken.{BytesTaken}
@@ -14,7 +14,7 @@ use Rattle.jpg_seq.specs.declared.reader.SeqReader.{SeqReader}
 
 -- The machine was given some bits, and the complete picture has what they encode.
 abbrev pub IsOpenRow : SeqReader → Picture → Type 0
-IsOpenRow m whole = (i : Interval) × (bits : List Bool) × SeqStands m i bits whole
+IsOpenRow m whole = (i : Interval) × (bits : List Bool) × RepresentsSeqScan m i bits whole
 
 -- there is a picture of which these blocks are the MCU row
 abbrev pub CanReadRow : List ℕ → SeqReader → Picture → Type 0

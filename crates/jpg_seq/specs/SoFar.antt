@@ -3,7 +3,7 @@ use Rattle.std.specs.Prelude.{◌≡◌, ℕ, ◌+◌, ◌<◌, Bool, List, ◌+
 use Rattle.jpg_coefs.specs.Picture.{Picture}
 use Rattle.jpg_coefs.specs.Machine.{Interval, Chain}
 use Rattle.jpg_seq.specs.declared.reader.SeqReader.{SeqReader}
-use Rattle.jpg_seq.specs.Reader.{SeqStands, sequential}
+use Rattle.jpg_seq.specs.Reader.{RepresentsSeqScan, sequential}
 
 -- a machine, the picture in which its blocks are stored, and the bits that it is given
 pub record Spot : Type 0 where
@@ -20,4 +20,4 @@ pub record SoFar (most : ℕ) (from now : Spot) (done : ℕ) : Type 0 where
   pub few : done < most
   pub interval : Interval
   pub bits : List Bool
-  pub standing : SeqStands now.machine interval bits now.picture
+  pub standing : RepresentsSeqScan now.machine interval bits now.picture

@@ -6,7 +6,7 @@ use Rattle.jpg_spec.specs.Numbers.{category, extra_bits}
 use Rattle.jpg_seq.specs.declared.values.ShortValue.{ShortValue}
 
 -- a code, and as many extra bits as its symbol has, at most ten bits in all
-pub record StandsToldFirst (codes : List Code) (bits : List Bool) (t : ShortValue) : Type 0 where
+pub record BeginsWithShortValue (codes : List Code) (bits : List Bool) (t : ShortValue) : Type 0 where
   pub code : ℕ
   pub size : ℕ
   pub some : 1 ≤ code
@@ -20,7 +20,7 @@ pub record StandsToldFirst (codes : List Code) (bits : List Bool) (t : ShortValu
   pub extra : extra_bits t.value ≡ take size (drop code bits)
 
 -- the code of the end of a block (EOB), of at most ten bits
-pub record StandsEndFirst (codes : List Code) (bits : List Bool) (t : ShortValue) : Type 0 where
+pub record IsNextEnd (codes : List Code) (bits : List Bool) (t : ShortValue) : Type 0 where
   pub some : 1 ≤ t.length
   pub few : t.length ≤ 10
   pub there : t.length ≤ length bits
@@ -28,29 +28,29 @@ pub record StandsEndFirst (codes : List Code) (bits : List Bool) (t : ShortValue
   pub in_codes : Contains codes (take t.length bits, 0)
 
 -- a value, or the end of a block
-abbrev pub StandsShortFirst : List Code → List Bool → ShortValue → Type 0
-StandsShortFirst codes bits t = StandsToldFirst codes bits t ⊎ StandsEndFirst codes bits t
+abbrev pub IsNextShortValue : List Code → List Bool → ShortValue → Type 0
+IsNextShortValue codes bits t = BeginsWithShortValue codes bits t ⊎ IsNextEnd codes bits t
 
 -- the bits begin with neither
 abbrev pub TellsNone : List Code → List Bool → Type 0
-TellsNone codes bits = (t : ShortValue) → StandsShortFirst codes bits t → ⊥
+TellsNone codes bits = (t : ShortValue) → IsNextShortValue codes bits t → ⊥
 
 -- the answer is no value exactly if the bits begin with neither
 abbrev pub TellsOrNone : List Code → List Bool → ShortValue → Type 0
-TellsOrNone codes bits t = ((t.length ≡ 0) × TellsNone codes bits) ⊎ StandsShortFirst codes bits t
+TellsOrNone codes bits t = ((t.length ≡ 0) × TellsNone codes bits) ⊎ IsNextShortValue codes bits t
 
 -- the value that the first ten of the bits encode, or the end of a block, if there are ten
 abbrev pub TellsShortValue : List Code → List Bool → Option ShortValue → Type 0
 TellsShortValue codes bits None = (length bits < 10) ⊎ TellsNone codes bits
-TellsShortValue codes bits (Some t) = StandsShortFirst codes bits t
+TellsShortValue codes bits (Some t) = IsNextShortValue codes bits t
 
-abbrev pub told_end : ℕ → ShortValue
-told_end n = record { value = pos 0; run = 64; length = n }
+abbrev pub end_entry : ℕ → ShortValue
+end_entry n = record { value = pos 0; run = 64; length = n }
 
-abbrev pub told_none : ShortValue
-told_none = record { value = pos 0; run = 0; length = 0 }
+abbrev pub no_entry : ShortValue
+no_entry = record { value = pos 0; run = 0; length = 0 }
 
 -- the entries of all ten bits
-pub record AreTold (codes : List Code) (told : List ShortValue) : Type 0 where
+pub record AreShortValues (codes : List Code) (told : List ShortValue) : Type 0 where
   pub long : length told ≡ 1024
-  pub each : (n : ℕ) → n < 1024 → TellsOrNone codes (bits_of 10 n) (slice_index_or told n told_none)
+  pub each : (n : ℕ) → n < 1024 → TellsOrNone codes (bits_of 10 n) (slice_index_or told n no_entry)

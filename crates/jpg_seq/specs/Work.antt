@@ -74,16 +74,16 @@ pub record IsShownFault (e : Env) (values : List ℤ) (bits : List Bool) (fault 
   pub ends : NoPartBegins e values bits
 
 -- what bits begin with
-abbrev pub StandsFirst : Env → List ℤ → List Bool → NextElement → Type 0
-StandsFirst e values bits Part = IsPartOf e values bits × (length bits < 32)
-StandsFirst e values bits (Value run v n) = (1 ≤ n) × (n ≤ length bits) × IsElement e values (take n bits) (zeros run ++ v ∷ [])
-StandsFirst e values bits (Zeros count n) = (1 ≤ n) × (n ≤ length bits) × IsElement e values (take n bits) (zeros count)
-StandsFirst e values bits (Bad fault n) = (1 ≤ n) × (n ≤ length bits) × IsShownFault e values (take n bits) fault
+abbrev pub IsNextElement : Env → List ℤ → List Bool → NextElement → Type 0
+IsNextElement e values bits Part = IsPartOf e values bits × (length bits < 32)
+IsNextElement e values bits (Value run v n) = (1 ≤ n) × (n ≤ length bits) × IsElement e values (take n bits) (zeros run ++ v ∷ [])
+IsNextElement e values bits (Zeros count n) = (1 ≤ n) × (n ≤ length bits) × IsElement e values (take n bits) (zeros count)
+IsNextElement e values bits (Bad fault n) = (1 ≤ n) × (n ≤ length bits) × IsShownFault e values (take n bits) fault
 
 -- what bits begin with after the first value, where this many values are left
 abbrev pub IsLaterNext : Bounds → List Code → ℕ → List Bool → NextElement → Type 0
 IsLaterNext b ac left bits next =
-    (dc : List Code) (prediction : ℤ) (values : List ℤ) → length values + left ≡ 64 → StandsFirst (record { bounds = b; dc = dc; ac = ac; prediction = prediction }) values bits next
+    (dc : List Code) (prediction : ℤ) (values : List ℤ) → length values + left ≡ 64 → IsNextElement (record { bounds = b; dc = dc; ac = ac; prediction = prediction }) values bits next
 
 -- ONE BIT of a unit that goes on: a part of an element, or the last bit of one
 abbrev pub StepsTo : Env → Work → Bool → Work → Type 0

@@ -13,10 +13,10 @@ ghost use Rattle.jpg_seq.specs.Source.{bits_in};
 ghost use Rattle.jpg_seq.specs.BytesTaken.{TakesBytes};
 ghost use Rattle.jpg_seq.specs.Rows.{AreInRow, IsInRow, lowered};
 ghost use Rattle.jpg_seq.specs.RowTaken.{CanReadRow, PassesPlaces, TakesBytesInRow, TakesInRow};
-ghost use Rattle.jpg_seq.specs.Reader.{CanRead, ReadsOn, SeqStands, behind, with_work, sequential};
+ghost use Rattle.jpg_seq.specs.Reader.{CanRead, ReadsOn, RepresentsSeqScan, behind, with_work, sequential};
 
 use crate::source::Source;
-use crate::values::{ValueDecoder, fill, nothing};
+use crate::values::{ValueDecoder, fill, no_short_value};
 use crate::work::{Coder, UnitProgress, UnitWork};
 use jpg_base::{BitStore, Bounds, Cursor, Frame, Place, ScanHead, ScanPart};
 use jpg_coefs::{Coefs, ScanMachine, Taken, UnitFault, UnitStep};
@@ -47,7 +47,7 @@ fn put_coder(place: &mut Option<Coder>, part: &ScanPart, tables: &TableSet)
     };
     let mut ac = ValueDecoder {
         decoder: Decoder::new(ac),
-        told: [nothing(); 1024],
+        told: [no_short_value(); 1024],
     };
     fill(&ac.decoder, &mut ac.told);
     *place = Some(Coder {
@@ -157,7 +157,7 @@ impl SeqReader {
         coefs: &mut Coefs,
         most: u64,
     ) -> Taken
-        requires open { (i : Interval) × (bits : List Bool) × SeqStands (with_work self.old unit.old) i bits coefs.old }
+        requires open { (i : Interval) × (bits : List Bool) × RepresentsSeqScan (with_work self.old unit.old) i bits coefs.old }
         requires some { 1 ≤ most }
         ensures { TakesBits sequential most (with_work self.old unit.old) coefs.old (bits_in source.old) result (with_work self.new unit.new) coefs.new (bits_in source.new) }
     {
@@ -312,7 +312,7 @@ pub struct BytesTaken {
 impl SeqReader {
     /// Takes the bits of data bytes, without stuffing, as `bits` takes those of a store.
     pub fn bytes(&mut self, bytes: &[u8], coefs: &mut Coefs, most: u64) -> BytesTaken
-        requires open { (i : Interval) × (bits : List Bool) × SeqStands self.old i bits coefs.old }
+        requires open { (i : Interval) × (bits : List Bool) × RepresentsSeqScan self.old i bits coefs.old }
         requires some { 1 ≤ most }
         requires few { length bytes.now < 4294967296 }
         ensures takes { TakesBytes most self.old coefs.old bytes.now result self.new coefs.new }

@@ -4,7 +4,7 @@ ghost use Rattle.jpg_spec.specs.Bits.{bits_of};
 ghost use Rattle.jpg_spec.specs.Codes.{Code};
 ghost use Rattle.jpg_huff.specs.Laws.{AreApart};
 ghost use Rattle.jpg_huff.specs.Look.{Spots};
-ghost use Rattle.jpg_seq.specs.Values.{AreTold, TellsShortValue, TellsOrNone, told_end};
+ghost use Rattle.jpg_seq.specs.Values.{AreShortValues, TellsShortValue, TellsOrNone, end_entry};
 
 use jpg_base::BitStore;
 use jpg_huff::{Decoder, Spotted, extend};
@@ -33,13 +33,13 @@ pub struct ValueDecoder {
 impl Model for ValueDecoder {
     ghost use Rattle.std.specs.Prelude.{List};
     ghost use Rattle.jpg_spec.specs.Codes.{Code};
-    ghost use Rattle.jpg_seq.specs.Values.{AreTold};
+    ghost use Rattle.jpg_seq.specs.Values.{AreShortValues};
 
     ghost Value = { List Code };
 
     ghost view = { λ d. d.decoder };
 
-    ghost invariant = { λ d. AreTold d.decoder d.told };
+    ghost invariant = { λ d. AreShortValues d.decoder d.told };
 }
 
 // The bits of a number below 1024.
@@ -55,7 +55,7 @@ fn ten_bits(ten: u16) -> BitStore
 }
 
 /// No value.
-pub(crate) fn nothing() -> ShortValue
+pub(crate) fn no_short_value() -> ShortValue
     ensures { result.length ≡ 0 }
 {
     ShortValue {
@@ -67,7 +67,7 @@ pub(crate) fn nothing() -> ShortValue
 
 // The end of a block, by a code of this many bits.
 fn end_of(length: u8) -> ShortValue
-    ensures { result ≡ told_end length }
+    ensures { result ≡ end_entry length }
 {
     ShortValue {
         value: 0,
@@ -95,11 +95,11 @@ fn told_by(codes: &Decoder, ten: u16) -> ShortValue
                     length: length + size,
                 }
             } else {
-                nothing()
+                no_short_value()
             }
         }
-        Spotted::Part => nothing(),
-        Spotted::NoCode { .. } => nothing(),
+        Spotted::Part => no_short_value(),
+        Spotted::NoCode { .. } => no_short_value(),
     }
 }
 
@@ -107,7 +107,7 @@ fn told_by(codes: &Decoder, ten: u16) -> ShortValue
 #[cold]
 #[inline(never)]
 pub(crate) fn fill(decoder: &Decoder, told: &mut [ShortValue; 1024])
-    ensures { AreTold decoder.now told.new }
+    ensures { AreShortValues decoder.now told.new }
 {
     for ten in 0..1024usize {
         told[ten] = told_by(decoder, ten as u16);

@@ -2,10 +2,10 @@
 ghost use Rattle.std.specs.Prelude.{◌≡◌, ◌<◌, ◌≤◌, ◌≤ℤ◌, ◌+◌, ◌+ℤ◌, negsuc, pos, [], ◌∷◌, ◌++◌, length, take, List, ℤ};
 ghost use Rattle.jpg_spec.specs.Elements.{zeros};
 ghost use Rattle.jpg_seq.specs.Range.{AreSane};
-ghost use Rattle.jpg_seq.specs.Work.{IsLaterNext, StandsFirst, TakesFromStore, IsAtWork, IsUnitCovered, IsFirstValue, GrowsOn, EndsUnit, env_of, no_work};
+ghost use Rattle.jpg_seq.specs.Work.{IsLaterNext, IsNextElement, TakesFromStore, IsAtWork, IsUnitCovered, IsFirstValue, GrowsOn, EndsUnit, env_of, no_work};
 ghost use Rattle.jpg_seq.specs.Coder.{env_in};
 ghost use Rattle.jpg_seq.specs.SourceTaken.{TakesFrom};
-ghost use Rattle.jpg_seq.specs.ToldTaken.{GoesTold, KeepsOn, TakesTold, TakesToldFrom};
+ghost use Rattle.jpg_seq.specs.ShortTaken.{GoesOnAfterShortValue, KeepsOn, TakesShortValue, TakesShortValues};
 ghost use Rattle.jpg_seq.specs.declared.work.UnitProgress.TheVariants.{Empty};
 ghost use Rattle.jpg_spec.specs.Codes.{Code};
 
@@ -85,9 +85,9 @@ fn first_value(bounds: &Bounds, prediction: i16, difference: i16, length: u8) ->
 
 // What the bits of a unit begin with.
 #[inline(always)]
-fn first_next(bounds: &Bounds, dc: &Decoder, prediction: i16, bits: &BitStore) -> NextElement
+fn next_dc(bounds: &Bounds, dc: &Decoder, prediction: i16, bits: &BitStore) -> NextElement
     requires sane { AreSane bounds.now }
-    ensures { (ac : List Code) → StandsFirst (env_of bounds.now dc.now ac prediction) [] bits.now result }
+    ensures { (ac : List Code) → IsNextElement (env_of bounds.now dc.now ac prediction) [] bits.now result }
 {
     dc.apart();
     match dc.spot(bits) {
@@ -116,7 +116,7 @@ fn first_next(bounds: &Bounds, dc: &Decoder, prediction: i16, bits: &BitStore) -
 
 // What bits after the first value begin with, where `left` values are left.
 #[inline(always)]
-fn later_next(bounds: &Bounds, ac: &ValueDecoder, left: u8, bits: &BitStore) -> NextElement
+fn next_ac(bounds: &Bounds, ac: &ValueDecoder, left: u8, bits: &BitStore) -> NextElement
     requires sane { AreSane bounds.now }
     requires left { (1 ≤ left) × (left ≤ 63) }
     ensures { IsLaterNext bounds.now ac.now left bits.now result }
@@ -273,13 +273,13 @@ impl UnitWork {
     fn next(&self, bounds: &Bounds, coder: &Coder, prediction: i16, bits: &BitStore) -> NextElement
         requires sane { AreSane bounds.now }
         requires left { length self.now.values < 64 }
-        ensures { StandsFirst (env_in bounds.now coder.now prediction) self.now.values bits.now result }
+        ensures { IsNextElement (env_in bounds.now coder.now prediction) self.now.values bits.now result }
     {
         let at = self.count();
         if at == 0 {
-            first_next(bounds, &coder.dc, prediction, bits)
+            next_dc(bounds, &coder.dc, prediction, bits)
         } else {
-            later_next(bounds, &coder.ac, 64 - at, bits)
+            next_ac(bounds, &coder.ac, 64 - at, bits)
         }
     }
 
@@ -323,7 +323,7 @@ impl UnitWork {
 
     // Takes the bits of an element, where the part isn't empty.
     #[inline(always)]
-    fn waited_element(
+    fn split_element(
         &mut self,
         bounds: &Bounds,
         coder: &Coder,
@@ -363,11 +363,11 @@ impl UnitWork {
 
     // Takes a value that ten bits encode, or the end of the block: Empty if they encode neither, or none that has a place.
     #[inline(always)]
-    fn told_value(&mut self, ac: &ValueDecoder, store: &mut BitStore) -> UnitProgress
+    fn value_by_ten(&mut self, ac: &ValueDecoder, store: &mut BitStore) -> UnitProgress
         requires left { (1 ≤ length self.old.values) × (length self.old.values < 64) }
         requires none { self.old.part ≡ [] }
-        ensures takes { TakesTold ac.now self.old store.old result self.new store.new }
-        ensures goes { GoesTold result self.old self.new }
+        ensures takes { TakesShortValue ac.now self.old store.old result self.new store.new }
+        ensures goes { GoesOnAfterShortValue result self.old self.new }
     {
         ac.apart();
         let at = self.count();
@@ -392,16 +392,16 @@ impl UnitWork {
     // Takes values that ten bits encode, one after another, up to the end of the unit, or until there are too few bits
     // or they encode none.
     #[inline(always)]
-    fn told_values(&mut self, ac: &ValueDecoder, source: &mut Source<'_>) -> UnitProgress
+    fn values_by_ten(&mut self, ac: &ValueDecoder, source: &mut Source<'_>) -> UnitProgress
         requires left { (1 ≤ length self.old.values) × (length self.old.values < 64) }
         requires none { self.old.part ≡ [] }
-        ensures takes { TakesToldFrom ac.now self.old source.old result self.new source.new }
+        ensures takes { TakesShortValues ac.now self.old source.old result self.new source.new }
         ensures grows { KeepsOn result self.old self.new }
     {
         let mut here = source.copy();
         loop {
             here.more();
-            match self.told_value(ac, &mut here.store) {
+            match self.value_by_ten(ac, &mut here.store) {
                 UnitProgress::More => {}
                 UnitProgress::Done => {
                     *source = here;
@@ -433,7 +433,7 @@ impl UnitWork {
     {
         source.fill();
         match self.element(bounds, coder, prediction, &mut source.store) {
-            UnitProgress::More => self.told_values(&coder.ac, source),
+            UnitProgress::More => self.values_by_ten(&coder.ac, source),
             UnitProgress::Empty => UnitProgress::Empty,
             UnitProgress::Done => UnitProgress::Done,
             UnitProgress::Fault(fault) => UnitProgress::Fault(fault),
@@ -483,7 +483,7 @@ impl UnitWork {
             return self.elements(bounds, coder, prediction, source);
         }
         source.fill();
-        match self.waited_element(bounds, coder, prediction, &mut source.store) {
+        match self.split_element(bounds, coder, prediction, &mut source.store) {
             UnitProgress::More => self.elements(bounds, coder, prediction, source),
             UnitProgress::Empty => UnitProgress::Empty,
             UnitProgress::Done => UnitProgress::Done,

@@ -103,8 +103,8 @@ fault_name ImageValue = codes "ImageValue"
 
 -- A value, or the first fault instead of it. `refuse f bad rest` means: if the test holds the fault is f, otherwise go
 -- on.
-abbrev pub Told : Type 0 → Type 0
-Told X = Result X Fault
+abbrev pub Parsed : Type 0 → Type 0
+Parsed X = Result X Fault
 
-abbrev pub refuse : {X : Type 0} → Fault → Bool → Told X → Told X
+abbrev pub refuse : {X : Type 0} → Fault → Bool → Parsed X → Parsed X
 refuse f bad rest = if bad then Err f else rest

@@ -1,7 +1,7 @@
 -- The checks of a frame header in their order, and the padded grids (T.81, B.2.2).
 use Rattle.std.specs.Prelude.{◌≡◌, ℕ, ◌*◌, ◌≤◌, Bool, true, nat_lt, not, ◌||◌, ◌==◌, List, length, map, All, Ok}
 use Rattle.jpg_spec.specs.Lists.{any_of, is_distinct}
-use Rattle.jpg_spec.specs.Faults.{Told, refuse}
+use Rattle.jpg_spec.specs.Faults.{Parsed, refuse}
 use Rattle.jpg_spec.specs.Segments.{standard_limits}
 use Rattle.jpg_spec.specs.Geometry.{Frame, mcus_across, mcus_down, blocks_across, blocks_down, padded_blocks}
 use Rattle.jpg_spec.specs.declared.fault.Fault.TheVariants.{EmptyImage, TooLarge, Precision, ComponentCount, Sampling, DuplicateComponent, QuantSlot, TooManyBlocks}
@@ -27,7 +27,7 @@ abbrev pub is_precision : Process → ℕ → Bool
 is_precision Baseline precision = precision == 8
 is_precision other precision = precision == 8 || precision == 12
 
-unfoldable pub checked_frame : Limits → Frame → Told Frame
+unfoldable pub checked_frame : Limits → Frame → Parsed Frame
 checked_frame limits f =
     refuse EmptyImage (f.width == 0 || f.height == 0)
     (refuse TooLarge (nat_lt limits.side f.width || nat_lt limits.side f.height)

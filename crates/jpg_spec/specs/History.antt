@@ -2,7 +2,7 @@
 -- first.
 use Rattle.std.specs.Prelude.{ℕ, Bool, true, false, nat_le, not, ◌&&◌, ◌||◌, ◌==◌, if◌then◌else◌, List, [], ◌∷◌, length, Option, Some, None, Ok, find, is_some, is_none, option_map}
 use Rattle.jpg_spec.specs.Lists.{any_of, all_of, is_among, are_equal, below}
-use Rattle.jpg_spec.specs.Faults.{Told, refuse}
+use Rattle.jpg_spec.specs.Faults.{Parsed, refuse}
 use Rattle.jpg_spec.specs.Geometry.{Frame, component_at, is_progressive}
 use Rattle.jpg_spec.specs.Segments.{QuantTable, ScanHead, head_components, needs_dc, needs_ac}
 use Rattle.jpg_spec.specs.Markers.{Segment}
@@ -74,7 +74,7 @@ order_fault f heads head =
     if is_repeated f heads head then Some RepeatedScan else if is_out_of_order f heads head then Some Progression else None
 
 -- a head that is admitted after these segments
-abbrev pub admitted : Frame → List Segment → ScanHead → Told ScanHead
+abbrev pub admitted : Frame → List Segment → ScanHead → Parsed ScanHead
 admitted f before head =
     refuse RepeatedScan (is_repeated f (heads_of f before) head)
     (refuse Progression (is_out_of_order f (heads_of f before) head)

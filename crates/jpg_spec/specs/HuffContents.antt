@@ -2,7 +2,7 @@
 use Rattle.std.specs.Prelude.{ℕ, zero, suc, ◌+◌, ◌/◌, ◌%◌, nat_lt, not, ◌||◌, ◌==◌, if◌then◌else◌, List, [], ◌∷◌, length, sum, take, drop, slice_get, slice_set, Option, Some, Ok, Err}
 use Rattle.jpg_spec.specs.Lists.{slot_value}
 use Rattle.jpg_spec.specs.Codes.{are_codes}
-use Rattle.jpg_spec.specs.Faults.{Told, refuse}
+use Rattle.jpg_spec.specs.Faults.{Parsed, refuse}
 use Rattle.jpg_spec.specs.Segments.{HuffmanTable}
 use Rattle.jpg_spec.specs.QuantContents.{◌>>=◌}
 use Rattle.jpg_spec.specs.declared.fault.Fault.TheVariants.{BadLength, BadHuffman}
@@ -23,22 +23,22 @@ symbols_size bytes = sum (counts_of bytes)
 abbrev pub definition_size : List ℕ → ℕ
 definition_size bytes = 16 + symbols_size bytes
 
-abbrev pub definition_told : ℕ → List ℕ → HuffmanDefinition
-definition_told tc bytes =
+abbrev pub parsed_definition : ℕ → List ℕ → HuffmanDefinition
+parsed_definition tc bytes =
     record { class = tc / 16; slot = tc % 16; table = record { counts = counts_of bytes; symbols = take (symbols_size bytes) (drop 16 bytes) } }
 
 -- At most 256 codes, each of which fits its length and none of which is all ones.
-unfoldable pub huffman_table_of : ℕ → List ℕ → Told HuffmanDefinition
+unfoldable pub huffman_table_of : ℕ → List ℕ → Parsed HuffmanDefinition
 huffman_table_of tc bytes =
     refuse BadHuffman (nat_lt 1 (tc / 16) || nat_lt 3 (tc % 16))
     (refuse BadLength (nat_lt (length bytes) 16)
     (refuse BadHuffman (nat_lt 256 (symbols_size bytes))
     (refuse BadLength (nat_lt (length bytes) (definition_size bytes))
     (refuse BadHuffman (not (are_codes 1 0 (counts_of bytes)))
-    (Ok (definition_told tc bytes))))))
+    (Ok (parsed_definition tc bytes))))))
 
 -- The tables of this many bytes or fewer. (The number only bounds the recursion.)
-unfoldable pub huffman_tables_of : ℕ → List ℕ → Told (List HuffmanDefinition)
+unfoldable pub huffman_tables_of : ℕ → List ℕ → Parsed (List HuffmanDefinition)
 huffman_tables_of zero [] = Ok []
 huffman_tables_of zero (tc ∷ bytes) = Err BadLength
 huffman_tables_of (suc most) [] = Ok []
@@ -47,7 +47,7 @@ huffman_tables_of (suc most) (tc ∷ bytes) =
     huffman_tables_of most (drop (definition_size bytes) bytes) >>= λ others.
     Ok (first ∷ others)
 
-abbrev pub huffman_tables : List ℕ → Told (List HuffmanDefinition)
+abbrev pub huffman_tables : List ℕ → Parsed (List HuffmanDefinition)
 huffman_tables contents = huffman_tables_of (length contents) contents
 
 -- The slots of both classes, and their tables after a segment: a later table of a slot replaces an earlier one.
@@ -68,5 +68,5 @@ abbrev pub put_definitions : HuffmanSlots → List HuffmanDefinition → Huffman
 put_definitions slots [] = slots
 put_definitions slots (d ∷ ds) = put_definitions (put_definition slots d) ds
 
-abbrev pub huffmans_told : HuffmanSlots → List ℕ → Told HuffmanSlots
-huffmans_told slots contents = huffman_tables contents >>= λ ds. Ok (put_definitions slots ds)
+abbrev pub parsed_huffmans : HuffmanSlots → List ℕ → Parsed HuffmanSlots
+parsed_huffmans slots contents = huffman_tables contents >>= λ ds. Ok (put_definitions slots ds)

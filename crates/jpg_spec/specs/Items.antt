@@ -2,7 +2,7 @@
 -- items have the newest first.
 use Rattle.std.specs.Prelude.{◌≡◌, ℕ, ◌+◌, ◌%◌, Bool, true, false, ◌==◌, if◌then◌else◌, List, [], ◌∷◌, ◌++◌, map, Option, Some, None, Ok, Err}
 use Rattle.jpg_spec.specs.Bits.{SpellsData}
-use Rattle.jpg_spec.specs.Faults.{Told}
+use Rattle.jpg_spec.specs.Faults.{Parsed}
 use Rattle.jpg_spec.specs.FrameContents.{frame_header}
 use Rattle.jpg_spec.specs.QuantContents.{◌>>=◌, quant_tables}
 use Rattle.jpg_spec.specs.HuffContents.{huffman_tables}
@@ -55,7 +55,7 @@ ends_in_scan (scan contents intervals ∷ before) = true
 
 -- THE RULES for contents
 
-abbrev pub fault_in : {X : Type 0} → Told X → Option Fault
+abbrev pub fault_in : {X : Type 0} → Parsed X → Option Fault
 fault_in (Ok x) = None
 fault_in (Err fault) = Some fault
 

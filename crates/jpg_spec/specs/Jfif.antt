@@ -18,9 +18,9 @@ abbrev pub is_adobe : ℕ × List ℕ → Bool
 is_adobe s = begins_adobe s.0 s.1 && nat_le 12 (length s.1)
 
 -- that of the last JFIF segment
-abbrev pub jfif_told : Option (ℕ × List ℕ) → Jfif
-jfif_told None = record { seen = false; major = 1; minor = 1; unit = 0; x = 1; y = 1 }
-jfif_told (Some s) = record {
+abbrev pub parsed_jfif : Option (ℕ × List ℕ) → Jfif
+parsed_jfif None = record { seen = false; major = 1; minor = 1; unit = 0; x = 1; y = 1 }
+parsed_jfif (Some s) = record {
   seen = true;
   major = slice_index s.1 5;
   minor = slice_index s.1 6;
@@ -30,7 +30,7 @@ jfif_told (Some s) = record {
 }
 
 abbrev pub jfif_of : List (ℕ × List ℕ) → Jfif
-jfif_of kept = jfif_told (find is_jfif (reverse kept))
+jfif_of kept = parsed_jfif (find is_jfif (reverse kept))
 
 abbrev pub adobe_transform : List (ℕ × List ℕ) → Option ℕ
 adobe_transform kept = adobe_told (find is_adobe (reverse kept))

@@ -34,7 +34,7 @@ pub mod PictureInWork
 pub mod QuantContents
 pub mod Ranges
 pub mod RowLaws
-pub mod RowsTold
+pub mod RowsParsed
 pub mod Scan
 pub mod ScanContents
 pub mod ScanFaults

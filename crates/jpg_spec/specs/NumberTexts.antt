@@ -40,5 +40,5 @@ number_text w = w.gap ++ w.digits
 abbrev pub numbers_text : NumbersWord → List ℕ
 numbers_text w = flat_map number_text w.numbers ++ w.after
 
-abbrev pub numbers_told : NumbersWord → List ℕ
-numbers_told w = map (λ n. digits_from 0 n.digits) w.numbers
+abbrev pub parsed_numbers : NumbersWord → List ℕ
+parsed_numbers w = map (λ n. digits_from 0 n.digits) w.numbers

@@ -17,7 +17,7 @@ use Rattle.jpg_spec.specs.FirstFault.{HoldsUnits}
 use Rattle.jpg_spec.specs.Early.{MeansEarly}
 use Rattle.jpg_spec.specs.PictureInWork.{AreDistinct, ScanSoFar, UnitsRead}
 use Rattle.jpg_spec.specs.ScanReading.{LeadingMarker, ScanAt, ScanPlace, scan_at}
-use Rattle.jpg_spec.specs.RowsTold.{BeginsScanOfAll, CompletesRows, IsScanOfAll, TellsBlocks, TellsFirst, TellsRows, blocks_in, row_places, picture_so_far}
+use Rattle.jpg_spec.specs.RowsParsed.{BeginsScanOfAll, CompletesRows, IsScanOfAll, TellsBlocks, TellsFirst, TellsRows, blocks_in, row_places, picture_so_far}
 use Rattle.jpg_spec.specs.declared.fault.Fault.{Fault}
 use Rattle.jpg_spec.specs.declared.frame.Limits.{Limits}
 use Rattle.jpg_spec.specs.declared.frame.Place.{Place}

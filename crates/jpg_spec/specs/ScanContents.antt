@@ -2,7 +2,7 @@
 -- B.2.4.4).
 use Rattle.std.specs.Prelude.{◌≡◌, ℕ, ◌<◌, ◌≤◌, ◌+◌, ◌*◌, ◌/◌, ◌%◌, Bool, true, nat_lt, nat_le, not, ◌&&◌, ◌||◌, ◌==◌, if◌then◌else◌, List, [], ◌∷◌, length, slice_index, take, drop, All, Ok, Err}
 use Rattle.jpg_spec.specs.Lists.{all_of, is_among, is_distinct, index_of}
-use Rattle.jpg_spec.specs.Faults.{Told, refuse}
+use Rattle.jpg_spec.specs.Faults.{Parsed, refuse}
 use Rattle.jpg_spec.specs.Segments.{ScanHead, head_components, two_bytes}
 use Rattle.jpg_spec.specs.Geometry.{Frame, bounds, factor_sum, is_progressive}
 use Rattle.jpg_spec.specs.FrameHeader.{identifiers}
@@ -11,25 +11,25 @@ use Rattle.jpg_spec.specs.declared.frame.ScanPart.{ScanPart}
 
 -- RESTART INTERVAL
 
-abbrev pub restart_interval : List ℕ → Told ℕ
+abbrev pub restart_interval : List ℕ → Parsed ℕ
 restart_interval (high ∷ low ∷ []) = Ok (two_bytes high low)
 restart_interval contents = Err BadLength
 
 -- SCAN HEADER
 
 -- Two bytes per component: its identifier and its table slots.
-abbrev pub ids_told : List ℕ → List ℕ
-ids_told [] = []
-ids_told (id ∷ []) = []
-ids_told (id ∷ slots ∷ bytes) = id ∷ ids_told bytes
+abbrev pub parsed_ids : List ℕ → List ℕ
+parsed_ids [] = []
+parsed_ids (id ∷ []) = []
+parsed_ids (id ∷ slots ∷ bytes) = id ∷ parsed_ids bytes
 
-abbrev pub part_told : Frame → ℕ → ℕ → ScanPart
-part_told f id slots = record { component = index_of id (identifiers f.components); dc = slots / 16; ac = slots % 16 }
+abbrev pub parsed_part : Frame → ℕ → ℕ → ScanPart
+parsed_part f id slots = record { component = index_of id (identifiers f.components); dc = slots / 16; ac = slots % 16 }
 
-abbrev pub parts_told : Frame → List ℕ → List ScanPart
-parts_told f [] = []
-parts_told f (id ∷ []) = []
-parts_told f (id ∷ slots ∷ bytes) = part_told f id slots ∷ parts_told f bytes
+abbrev pub parsed_parts : Frame → List ℕ → List ScanPart
+parsed_parts f [] = []
+parsed_parts f (id ∷ []) = []
+parsed_parts f (id ∷ slots ∷ bytes) = parsed_part f id slots ∷ parsed_parts f bytes
 
 -- DC, or a band of AC of one component; Ah is 0 or one more than Al (T.81, G.1.1.1)
 abbrev pub is_band : ℕ → ScanHead → Bool
@@ -45,7 +45,7 @@ abbrev pub are_among : Frame → List ℕ → Bool
 are_among f ids = all_of (λ id. is_among id (identifiers f.components)) ids
 
 -- a header of this many components with these identifiers
-unfoldable pub checked_head : Frame → ℕ → List ℕ → ScanHead → Told ScanHead
+unfoldable pub checked_head : Frame → ℕ → List ℕ → ScanHead → Parsed ScanHead
 checked_head f count ids head =
     refuse ScanComponent (count == 0 || nat_lt 4 count)
     (refuse ScanComponent (not (are_among f ids))
@@ -54,15 +54,15 @@ checked_head f count ids head =
     (refuse ScanParameters (is_progressive f.process && not (are_parameters f count head))
     (Ok head)))))
 
-abbrev pub head_told : Frame → List ℕ → List ℕ → ScanHead
-head_told f parts band =
-    record { parts = parts_told f parts; ss = slice_index band 0; se = slice_index band 1; ah = slice_index band 2 / 16; al = slice_index band 2 % 16 }
+abbrev pub parsed_scan_header : Frame → List ℕ → List ℕ → ScanHead
+parsed_scan_header f parts band =
+    record { parts = parsed_parts f parts; ss = slice_index band 0; se = slice_index band 1; ah = slice_index band 2 / 16; al = slice_index band 2 % 16 }
 
-abbrev pub scan_header : Frame → List ℕ → Told ScanHead
+abbrev pub scan_header : Frame → List ℕ → Parsed ScanHead
 scan_header f [] = Err BadLength
 scan_header f (count ∷ bytes) =
     refuse BadLength (not (length bytes == 2 * count + 3))
-    (checked_head f count (ids_told (take (2 * count) bytes)) (head_told f (take (2 * count) bytes) (drop (2 * count) bytes)))
+    (checked_head f count (parsed_ids (take (2 * count) bytes)) (parsed_scan_header f (take (2 * count) bytes) (drop (2 * count) bytes)))
 
 -- WHAT AN ACCEPTED SCAN HEADER IS: one to four distinct components of the frame, and several of at most ten blocks per
 -- MCU

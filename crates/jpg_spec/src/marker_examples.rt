@@ -4,7 +4,7 @@
 ghost use Rattle.std.specs.Prelude.{◌≡◌, [], ◌∷◌, ◌++◌, Some, None, Ok, Err, codes, replicate};
 ghost use Rattle.jpg_spec.specs.Segments.{standard_limits};
 ghost use Rattle.jpg_spec.specs.Typical.{dc_luma_counts, dc_luma_values};
-ghost use Rattle.jpg_spec.specs.HuffContents.{definition_told, huffman_tables};
+ghost use Rattle.jpg_spec.specs.HuffContents.{parsed_definition, huffman_tables};
 ghost use Rattle.jpg_spec.specs.QuantContents.{quant_tables};
 ghost use Rattle.jpg_spec.specs.Markers.{code_fault, kept_count, kept_rule, Reaches, at_fault};
 ghost use Rattle.jpg_spec.specs.declared.fault.Fault.TheVariants as fault;
@@ -42,7 +42,7 @@ pub fn lengths_count_themselves()
 pub fn table_segments_are_told()
     ensures none { huffman_tables [] ≡ Ok [] }
     ensures no_quantisers { quant_tables [] ≡ Ok [] }
-    ensures one { huffman_tables (0 ∷ dc_luma_counts ++ dc_luma_values) ≡ Ok (definition_told 0 (dc_luma_counts ++ dc_luma_values) ∷ []) }
+    ensures one { huffman_tables (0 ∷ dc_luma_counts ++ dc_luma_values) ≡ Ok (parsed_definition 0 (dc_luma_counts ++ dc_luma_values) ∷ []) }
     ensures overfull { huffman_tables (0 ∷ 2 ∷ replicate 15 0 ++ 0 ∷ 1 ∷ []) ≡ Err fault.BadHuffman }
     ensures class { huffman_tables (0x20 ∷ dc_luma_counts ++ dc_luma_values) ≡ Err fault.BadHuffman }
     ensures short { huffman_tables (0 ∷ 1 ∷ replicate 15 0) ≡ Err fault.BadLength }

@@ -8,7 +8,7 @@ ghost use Rattle.jpg_spec.specs.Items.{Item, segments_of, contents_rule};
 ghost use Rattle.jpg_spec.specs.Markers.{Segment};
 ghost use Rattle.jpg_spec.specs.ScanReading.{ScanPlace, scan_at};
 ghost use Rattle.jpg_spec.specs.Lists.{joined};
-ghost use Rattle.jpg_spec.specs.RowsTold.{TellsRows, CompletesRows, TellsBlocks, BeginsScanOfAll};
+ghost use Rattle.jpg_spec.specs.RowsParsed.{TellsRows, CompletesRows, TellsBlocks, BeginsScanOfAll};
 ghost use Rattle.jpg_spec.specs.Laws.{frame_of_items};
 ghost use Rattle.jpg_spec.specs.RowLaws.{TellsMore, first_blocks, HasScanOfAll, ReadsUnits, ReadsInterval, StopsInRows, stopped_blocks, ReadsAtLeast, ReadsUnitsOfRows, ReadsWholeRows, blocks_read, EndsEarlyByRows, EndsEarlyInRows, complete_rows, early_rows, early_so_far};
 ghost use Rattle.jpg_spec.specs.declared.fault.Fault.TheVariants.{RepeatedScan};

@@ -32,13 +32,13 @@ use Rattle.jpg_spec_image.specs.declared.image.ImageKind.TheVariants.{Gray, Rgb}
 use Rattle.jpg_spec.specs.declared.frame.Process.{Process}
 use Rattle.jpg_spec.specs.declared.frame.Process.TheVariants.{Baseline, Extended, Progressive}
 use Rattle.jpg_spec_write.specs.declared.picture_fault.PictureFault.TheVariants.{TooManyBlocks}
-use Rattle.jpg_spec.proofs.Common.{both, same_of, lt_of, not_lt_of}
+use Rattle.jpg_spec.proofs.Basics.Common.{both, same_of, lt_of, not_lt_of}
 use Rattle.jpg_spec_image.proofs.CodedBlocks.{all_at, coded_block_in}
 use Rattle.jpg_spec_write.proofs.FaultlessScripts.{first_none}
 use Rattle.jpg_spec_write.proofs.MovedText.{headed_frame, has_standard, own_by, same_kind, passes_by, means_by}
 use Rattle.jpg_spec_write.proofs.MovedWritten.{IsPicture, may_be_written}
-use Rattle.jpg_spec.proofs.MovedWritten.{zeros_here}
-use Rattle.jpg_spec.proofs.OutsideZeros.{alone}
+use Rattle.jpg_spec.proofs.Writing.MovedWritten.{zeros_here}
+use Rattle.jpg_spec.proofs.Places.OutsideZeros.{alone}
 
 -- SAMPLES are bytes
 

@@ -4,7 +4,7 @@ use Rattle.std.specs.Prelude.{◌||◌, nat_lt, slice_index, set, option_map}
 use Rattle.std.proofs.lemmas.Bool.{cases_lt, cases_eq}
 use Rattle.std.proofs.lemmas.Nat.{mul-le, pow-add, pow_pos}
 use Rattle.std.proofs.lemmas.List.{length-set, get_or-set_same, get_or-set_other, set-get_or}
-use Rattle.jpg_spec.proofs.Common.{not_lt_of, lt_of, same_of, not_same}
+use Rattle.jpg_spec.proofs.Basics.Common.{not_lt_of, lt_of, same_of, not_same}
 use Rattle.jpg_spec_fit.specs.Fitted.{lesser, least_below, least, with_next, least_two}
 use Rattle.jpg_spec_fit.proofs.FittedCounts.{doubled}
 use Rattle.jpg_spec_fit.proofs.FittedGroups.{AreTwo, joined_counts}

@@ -4,7 +4,7 @@ use Rattle.std.specs.Prelude.{◌||◌, slice_index}
 use Rattle.std.proofs.lemmas.Bool.{cases_lt, cases_eq}
 use Rattle.std.proofs.lemmas.List.{get_or_past, length-map, length-take-le, map_push, take_more, take_all}
 use Rattle.jpg_spec.specs.Lists.{below}
-use Rattle.jpg_spec.proofs.Common.{same_of, same_itself, not_same, length_below}
+use Rattle.jpg_spec.proofs.Basics.Common.{same_of, same_itself, not_same, length_below}
 use Rattle.jpg_spec_fit.specs.Fitted.{Groups, alone, least_two, joined_member, joined, joined_if, step, steps, code_sizes}
 use Rattle.jpg_spec_fit.proofs.FittedGroups.{AreTwo, AreLeast, two_found, joined_counts, at_first, at_next, at_other}
 use Rattle.jpg_spec_fit.specs.FewestBits.{bits_sent, AreCodeSizes}

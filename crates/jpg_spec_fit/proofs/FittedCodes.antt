@@ -9,9 +9,9 @@ use Rattle.jpg_spec.specs.Bits.{bits_of}
 use Rattle.jpg_spec.specs.Lists.{is_among}
 use Rattle.jpg_spec.specs.Codes.{Code, codes_at, codes_from, codes}
 use Rattle.jpg_spec.specs.Segments.{table_codes}
-use Rattle.jpg_spec.proofs.Common.{same_of, any_append}
-use Rattle.jpg_spec.proofs.FlatTables.{IsValid}
-use Rattle.jpg_spec.proofs.Full.{Has}
+use Rattle.jpg_spec.proofs.Basics.Common.{same_of, any_append}
+use Rattle.jpg_spec.proofs.Bits.FlatTables.{IsValid}
+use Rattle.jpg_spec.proofs.Bits.Full.{Has}
 use Rattle.jpg_spec_fit.specs.Fitted.{fitted}
 use Rattle.jpg_spec_fit.proofs.FittedTables.{fitted_whole, fitted_found}
 

@@ -8,7 +8,7 @@ use Rattle.std.proofs.lemmas.List.{length-reverse, reverse-append}
 use Rattle.std.proofs.lemmas.List.Sums.{sum_by-cons, sum_by_push}
 use Rattle.std.proofs.lemmas.List.Elements.{All-nil, All-cons, All-push, All-head, All-tail}
 use Rattle.jpg_spec.specs.Codes.{are_codes}
-use Rattle.jpg_spec.proofs.Common.{lt_yes, and_intro, both}
+use Rattle.jpg_spec.proofs.Basics.Common.{lt_yes, and_intro, both}
 use Rattle.jpg_spec_fit.specs.Fitted.{code_split, longest_moved, limited, one_less}
 
 -- how many strings of the longest size begin with a code, by how many codes there are of each size, the longest first

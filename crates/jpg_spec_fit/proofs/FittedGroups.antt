@@ -5,7 +5,7 @@ use Rattle.std.proofs.lemmas.Bool.{cases_lt, cases_eq}
 use Rattle.std.proofs.lemmas.List.{length-set, get_or-set_same, get_or-set_other, get_or_past}
 use Rattle.std.proofs.lemmas.List.Sums.{sum_by-set, get_or-le-sum_by, count_by-le-length}
 use Rattle.std.proofs.lemmas.List.Elements.{All-head, All-tail}
-use Rattle.jpg_spec.proofs.Common.{lt_yes, same_of, same_itself, not_same}
+use Rattle.jpg_spec.proofs.Basics.Common.{lt_yes, same_of, same_itself, not_same}
 use Rattle.jpg_spec_fit.specs.Fitted.{lesser, least_below, least, with_next, least_two, joined_member}
 use Rattle.jpg_spec_fit.proofs.FittedCounts.{doubled}
 

@@ -3,7 +3,7 @@ use Rattle.std.proofs.Common.{◌≡◌, ℕ, zero, suc, ◌+◌, ◌<◌, ◌�
 use Rattle.std.specs.Prelude.{All, count_by, reverse}
 use Rattle.std.proofs.lemmas.List.Sums.{sum_by-cons}
 use Rattle.std.proofs.lemmas.List.Elements.{All-head, All-tail}
-use Rattle.jpg_spec.proofs.Common.{not_same}
+use Rattle.jpg_spec.proofs.Basics.Common.{not_same}
 use Rattle.jpg_spec_fit.specs.Fitted.{code_sizes, sizes_counted, limited, longest_moved, one_less, fitted_counts, fitted}
 
 abbrev tally : Bool → ℕ

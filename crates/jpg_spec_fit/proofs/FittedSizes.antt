@@ -6,7 +6,7 @@ use Rattle.std.proofs.lemmas.List.{length-map, get_or-map, get_or_append_left, g
 use Rattle.std.proofs.lemmas.List.Sums.{sum_by-cons, sum_by_more}
 use Rattle.std.proofs.lemmas.List.Elements.{All-map, All-head, All-tail, All-from_get_or}
 use Rattle.jpg_spec.specs.Lists.{below}
-use Rattle.jpg_spec.proofs.Common.{lt_yes, lt_no, same_itself, not_same}
+use Rattle.jpg_spec.proofs.Basics.Common.{lt_yes, lt_no, same_itself, not_same}
 use Rattle.jpg_spec_fit.specs.Fitted.{Groups, alone, steps, code_sizes, sizes_counted}
 use Rattle.jpg_spec_fit.proofs.FittedCounts.{strings, doubled}
 use Rattle.jpg_spec_fit.proofs.FittedGroups.{IsSingle, live_few, filled, share}

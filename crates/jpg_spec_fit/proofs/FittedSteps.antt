@@ -5,8 +5,8 @@ use Rattle.std.proofs.lemmas.Bool.{cases_lt, cases_eq}
 use Rattle.std.proofs.lemmas.List.{length-set, length-map, get_or-map, get_or_past, map_push}
 use Rattle.std.proofs.lemmas.List.Elements.{All-map, All-weaker}
 use Rattle.jpg_spec.specs.Lists.{below}
-use Rattle.jpg_spec.proofs.Common.{same_of, same_itself, not_same, clash, length_below}
-use Rattle.jpg_spec.proofs.Rows.{at_below}
+use Rattle.jpg_spec.proofs.Basics.Common.{same_of, same_itself, not_same, clash, length_below}
+use Rattle.jpg_spec.proofs.Basics.Rows.{at_below}
 use Rattle.jpg_spec_fit.specs.Fitted.{Groups, alone, least_two, joined_member, joined, joined_if, step, steps}
 use Rattle.jpg_spec_fit.proofs.FittedGroups.{AreTwo, IsSingle, AreLeast, two_found, joined_counts, at_first, at_next, at_other, live, live_joined, two_live, filled, share, share_joined, share_other}
 

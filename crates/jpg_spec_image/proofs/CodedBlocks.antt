@@ -17,8 +17,8 @@ use Rattle.jpg_spec.specs.Geometry.{bounds_of}
 use Rattle.jpg_spec.specs.Segments.{IsQuantiser}
 use Rattle.jpg_spec_image.specs.Dct.{number_at, column_at}
 use Rattle.jpg_spec_image.specs.ForwardDct.{level, woven, line_frequencies, frequency_row, frequency_rows, frequency_column, frequency_columns, across_columns, forward_dct, multiples, quantised, quantised_block}
-use Rattle.jpg_spec.proofs.Common.{length_below, and_intro, both, in_order, le_of, lt_of}
-use Rattle.jpg_spec.proofs.Rows.{at_below}
+use Rattle.jpg_spec.proofs.Basics.Common.{length_below, and_intro, both, in_order, le_of, lt_of}
+use Rattle.jpg_spec.proofs.Basics.Rows.{at_below}
 use Rattle.jpg_spec_image.proofs.Frequencies.{InWidth, LineIn, line_below, sum_of, first_is, sum_low, sum_high, rounded_row, rounded_low, rounded_high}
 
 -- ROWS of samples

@@ -13,16 +13,16 @@ use Rattle.jpg_spec_image.specs.ImageText.{end_text}
 use Rattle.jpg_spec_image.specs.Strips.{mcu_rows}
 use Rattle.jpg_spec.specs.FirstFault.{AfterItems, HaveBegun}
 use Rattle.jpg_spec.specs.Early.{EndsAfter, EndsInside, segments_with}
-use Rattle.jpg_spec.specs.RowsTold.{BeginsScanOfAll, picture_so_far}
+use Rattle.jpg_spec.specs.RowsParsed.{BeginsScanOfAll, picture_so_far}
 use Rattle.jpg_spec_image.specs.RowsShown.{rows_text}
 use Rattle.jpg_spec.specs.RowLaws.{EndsEarlyByRows, early_so_far}
 use Rattle.jpg_spec_image.specs.RowLaws.{early_text, is_by_rows, text_in}
 use Rattle.jpg_spec.specs.declared.frame.Limits.{Limits}
 use Rattle.jpg_spec_image.specs.declared.image.EndKind.{EndKind}
-use Rattle.jpg_spec.proofs.ColoursKept.{picture_colours, same_colours_after, same_jfif_after}
-use Rattle.jpg_spec.proofs.EarlyBegun.{AllNamed, begun_behind}
-use Rattle.jpg_spec.proofs.EarlySoFar.{IsItemsScan, inside_scan, items_scan, so_far_early}
-use Rattle.jpg_spec.proofs.FileHeader.{HasFirstScan, items_header}
+use Rattle.jpg_spec.proofs.Headers.ColoursKept.{picture_colours, same_colours_after, same_jfif_after}
+use Rattle.jpg_spec.proofs.EndsEarly.EarlyBegun.{AllNamed, begun_behind}
+use Rattle.jpg_spec.proofs.EndsEarly.EarlySoFar.{IsItemsScan, inside_scan, items_scan, so_far_early}
+use Rattle.jpg_spec.proofs.Headers.FileHeader.{HasFirstScan, items_header}
 use Rattle.jpg_spec_image.proofs.RowsAlike.{colours_stay}
 use Rattle.jpg_spec_image.proofs.RowsImage.{same_info, same_pixels, same_text}
 

@@ -14,11 +14,11 @@ use Rattle.jpg_spec.specs.FirstFault.{AfterItems, HasMeaning, HaveBegun, IsEarly
 use Rattle.jpg_spec.specs.declared.fault.Fault.{Fault}
 use Rattle.jpg_spec.specs.declared.fault.Fault.TheVariants.{Truncated}
 use Rattle.jpg_spec.specs.declared.frame.Limits.{Limits}
-use Rattle.jpg_spec.proofs.Common.{clash, same_of}
-use Rattle.jpg_spec.proofs.FileLaws.{means_more}
-use Rattle.jpg_spec.proofs.FilesOnce.{ends_apart, items_end_once}
-use Rattle.jpg_spec.proofs.MarkersOnce.{no_head}
-use Rattle.jpg_spec.proofs.TailsOnce.{Ends}
+use Rattle.jpg_spec.proofs.Basics.Common.{clash, same_of}
+use Rattle.jpg_spec.proofs.Files.FileLaws.{means_more}
+use Rattle.jpg_spec.proofs.Files.FilesOnce.{ends_apart, items_end_once}
+use Rattle.jpg_spec.proofs.Segments.MarkersOnce.{no_head}
+use Rattle.jpg_spec.proofs.Files.TailsOnce.{Ends}
 use Rattle.jpg_spec_image.specs.Front.{BeginsWith, EndsNotBefore, EndsScan, IsFront}
 use Rattle.jpg_spec_image.specs.Laws.{EndsShort, IsStoppedIn}
 

@@ -5,10 +5,10 @@ use Rattle.std.proofs.lemmas.Bool.Decides.{nat_tests}
 use Rattle.std.proofs.lemmas.List.{append_assoc, append-nil, length-append}
 use Rattle.std.proofs.Math.Seq.{take-append_seam}
 use Rattle.jpg_spec.specs.Lists.{begins_with}
-use Rattle.jpg_spec.proofs.Common.{both, neither, or_right, le_of, not_lt_of, negated, lt_yes, lt_no, same_of}
+use Rattle.jpg_spec.proofs.Basics.Common.{both, neither, or_right, le_of, not_lt_of, negated, lt_yes, lt_no, same_of}
 use Rattle.jpg_spec_image.specs.Images.{Image, sample_count, is_wrong, are_right, is_side, are_few_pixels}
 use Rattle.jpg_spec_image.specs.PnmText.{is_plain, is_raw, is_pnm_space, pnm_info, pnm_kind, is_number_due, number_fault, are_right_numbers, AfterLast}
-use Rattle.jpg_spec_image.specs.BmpFile.{bmp_fault, is_unread, is_forbidden, palette_bytes, bmp_offset, width, height, bmp_depth, planes, colours_used, used}
+use Rattle.jpg_spec_image.specs.BmpFile.{bmp_fault, has_wrong_precision, is_forbidden, palette_bytes, bmp_offset, width, height, bmp_depth, planes, colours_used, used}
 use Rattle.jpg_spec_image.specs.ImageFaults.{ImageHead, pnm, bmp, body_of, image_of, IsBodyFront, IsWholeImage, ShowsImageFault}
 use Rattle.jpg_spec_image.specs.ImageSteps.{ImageState, at_start, in_bmp_head, in_bmp_front, in_body, whole, failed, fault_or, plain_image, step, run, body_so_far, bmp_front}
 use Rattle.jpg_spec_image.proofs.ImageRuns.{run_join, gap_no_digit}
@@ -17,7 +17,7 @@ use Rattle.jpg_spec.specs.declared.fault.Fault.{Fault}
 use Rattle.jpg_spec.specs.declared.fault.Fault.TheVariants.{ImageHeader, ImageUnsupported, ImageValue}
 use Rattle.jpg_spec_image.specs.declared.image.ImageKind.{ImageKind}
 use Rattle.jpg_spec_image.specs.declared.image.ImageKind.TheVariants.{Gray, Rgb}
-use Rattle.jpg_spec.proofs.PlacesSome.{product_some}
+use Rattle.jpg_spec.proofs.Places.PlacesSome.{product_some}
 
 -- A BODY, byte by byte
 
@@ -83,9 +83,9 @@ body_all head body (b ∷ c ∷ more) e some h =
 pub side_some : (n : ℕ) → is_side n ≡ true → 1 ≤ n
 side_some n e = le_of 1 n (both (nat_le 1 n) (nat_le n 65500) e).0
 
-pub row_some : (k : ImageKind) (w h : ℕ) → 1 ≤ w → 1 ≤ h → 1 ≤ sample_count (record { width = w; height = h; kind = k; x_metre = 0; y_metre = 0 })
-row_some Gray w h a b = product_some h w b a
-row_some Rgb w h a b = product_some h (3 * w) b (omega (arith, a))
+pub take_in_row : (k : ImageKind) (w h : ℕ) → 1 ≤ w → 1 ≤ h → 1 ≤ sample_count (record { width = w; height = h; kind = k; x_metre = 0; y_metre = 0 })
+take_in_row Gray w h a b = product_some h w b a
+take_in_row Rgb w h a b = product_some h (3 * w) b (omega (arith, a))
 
 width_some : (n : ℕ) → number_fault [] n ≡ None → 1 ≤ n
 width_some n e = by (is_side n) refl e
@@ -151,7 +151,7 @@ last_three bytes format numbers after raw l =
 
 -- the sides of a BMP
 pub record BmpSides (head : List ℕ) : Type 0 where
-  pub read : is_unread head ≡ false
+  pub read : has_wrong_precision head ≡ false
   pub allowed : is_forbidden head ≡ false
   pub wide : is_side (width head) ≡ true
   pub high : is_side (height head) ≡ true
@@ -160,9 +160,9 @@ pub record BmpSides (head : List ℕ) : Type 0 where
   pub colours : (bmp_depth head == 8 && nat_lt 256 (colours_used head)) ≡ false
 
 pub bmp_sides : (head : List ℕ) → bmp_fault head ≡ None → BmpSides head
-bmp_sides head e = by (is_unread head) (is_forbidden head) refl refl e
+bmp_sides head e = by (has_wrong_precision head) (is_forbidden head) refl refl e
   where
-    by : (u v : Bool) → is_unread head ≡ u → is_forbidden head ≡ v → cond u (Some ImageUnsupported) (cond v (Some ImageHeader) None) ≡ None → BmpSides head
+    by : (u v : Bool) → has_wrong_precision head ≡ u → is_forbidden head ≡ v → cond u (Some ImageUnsupported) (cond v (Some ImageHeader) None) ≡ None → BmpSides head
     by true v p q e = cc
     by false true p q e = cc
     by false false p q e =
@@ -187,7 +187,7 @@ used_some head w = by (bmp_depth head == 8)
 pub some_count : (head : ImageHead) (front : List ℕ) → IsBodyFront head front → 1 ≤ count head
 some_count (pnm format numbers) front (b, l, raw, space) =
     let t = last_three front format numbers (b ∷ []) raw l in
-    subst (λ ns. 1 ≤ sample_count (pnm_info format ns)) (sym t.all) (row_some (pnm_kind format) t.width t.height t.wide t.high)
+    subst (λ ns. 1 ≤ sample_count (pnm_info format ns)) (sym t.all) (take_in_row (pnm_kind format) t.width t.height t.wide t.high)
 some_count (bmp head palette) front f =
     let s = bmp_sides head f.header.right in
     let u = used_some head (side_some (width head) s.wide) in

@@ -6,12 +6,12 @@ use Rattle.std.proofs.lemmas.List.{take-append-drop, length-take-le, length-drop
 use Rattle.jpg_spec.specs.Faults.{number_of}
 use Rattle.jpg_spec.specs.Markers.{IsLeast}
 use Rattle.jpg_spec.specs.NumberTexts.{number_text}
-use Rattle.jpg_spec.proofs.Common.{both, take_shorter}
+use Rattle.jpg_spec.proofs.Basics.Common.{both, take_shorter}
 use Rattle.jpg_spec_image.specs.Images.{Image}
 use Rattle.jpg_spec_image.specs.PnmText.{is_plain, is_number_due, number_fault, greatest_sample, AfterNumber}
 use Rattle.jpg_spec_image.specs.ImageFaults.{IsWholeImage, ShowsImageFault, EndShows, EndIsWhole, IsOpenImage, IsImage, IsEndFault, IsImageFault}
 use Rattle.jpg_spec_image.specs.ImageSteps.{ImageState, at_start, in_number, whole, failed, past, capped, plain_image, step, run, state_end, ended_by}
-use Rattle.jpg_spec_image.specs.ImageReading.{StandsForImage}
+use Rattle.jpg_spec_image.specs.ImageReading.{RepresentsImage}
 use Rattle.jpg_spec_image.proofs.ImageRuns.{run_join, capped_fault, right_small}
 use Rattle.jpg_spec_image.proofs.ImageTextRuns.{greatest_byte, number_run}
 use Rattle.jpg_spec_image.proofs.ImageBodyRuns.{whole_run, shows_run}
@@ -257,7 +257,7 @@ number_end bytes format numbers m r = by_fault (number_fault numbers m) refl (ca
         subst (λ x. EndAnswer bytes (ended_by format numbers (capped m) x)) (sym (c ∙ e))
         (subst (λ k. EndAnswer bytes (ended_by format numbers k None)) (sym (right_small numbers m byte e)) (by_plain (is_plain format && not (is_number_due format (numbers ++ m ∷ []))) refl e))
 
-end_by : (bytes : List ℕ) (s : ImageState) → run at_start bytes ≡ s → IsLive s → StandsForImage bytes s → EndAnswer bytes (state_end s)
+end_by : (bytes : List ℕ) (s : ImageState) → run at_start bytes ≡ s → IsLive s → RepresentsImage bytes s → EndAnswer bytes (state_end s)
 end_by bytes (in_number format numbers n) e l (m, r, c) = subst (λ k. EndAnswer bytes (state_end (in_number format numbers k))) (sym c) (number_end bytes format numbers m r)
 end_by bytes (whole image) e l h = absurd l
 end_by bytes (failed fault) e l h = absurd l
@@ -265,15 +265,15 @@ end_by bytes past e l h = absurd l
 end_by bytes s e l h = short_end bytes s e (λ f n k g. cc)
 
 pub end_told : (bytes : List ℕ) (s : ImageState) → run at_start bytes ≡ s → IsLive s → EndAnswer bytes (state_end s)
-end_told bytes s e l = end_by bytes s e l (subst (StandsForImage bytes) e (stands bytes))
+end_told bytes s e l = end_by bytes s e l (subst (RepresentsImage bytes) e (stands bytes))
 
 -- THE ANSWERS, by the result of the bytes
 
 pub image_at : (limits : Limits) (bytes : List ℕ) (n : ℕ) (image : Image) → n ≤ length bytes → n ≤ limits.input → run at_start (take n bytes) ≡ whole image → IsImage limits bytes image
-image_at limits bytes n image h l e = inl (n, h, l, subst (StandsForImage (take n bytes)) e (stands (take n bytes)))
+image_at limits bytes n image h l e = inl (n, h, l, subst (RepresentsImage (take n bytes)) e (stands (take n bytes)))
 
 pub fault_at : (limits : Limits) (bytes : List ℕ) (n : ℕ) (fault : Fault) → n ≤ length bytes → n ≤ limits.input → run at_start (take n bytes) ≡ failed fault → IsImageFault limits bytes fault n
-fault_at limits bytes n fault h l e = inl (l, is_least bytes fault n h (subst (StandsForImage (take n bytes)) e (stands (take n bytes))))
+fault_at limits bytes n fault h l e = inl (l, is_least bytes fault n h (subst (RepresentsImage (take n bytes)) e (stands (take n bytes))))
 
 pub too_long_at : (limits : Limits) (bytes : List ℕ) → limits.input ≤ length bytes → IsLive (run at_start (take limits.input bytes)) → IsImageFault limits bytes InputTooLong limits.input
 too_long_at limits bytes h l = inr (inl (refl, refl, h, live_shows_nothing (take limits.input bytes) l))

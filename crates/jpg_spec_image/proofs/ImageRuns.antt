@@ -4,9 +4,9 @@ use Rattle.std.specs.Prelude.{◌||◌, nat_lt, nat_le}
 use Rattle.std.proofs.lemmas.Bool.Decides.{nat_tests}
 use Rattle.jpg_spec.specs.Lists.{all_of, is_empty}
 use Rattle.jpg_spec.specs.NumberTexts.{is_digit, digits_from, in_comment, without_comments, NumberWord, number_text}
-use Rattle.jpg_spec.proofs.Common.{both, or_right, le_of, not_lt_of, negated}
+use Rattle.jpg_spec.proofs.Basics.Common.{both, or_right, le_of, not_lt_of, negated}
 use Rattle.jpg_spec_image.specs.Images.{is_side, are_few_pixels}
-use Rattle.jpg_spec_image.specs.PnmText.{is_pnm_space, begins_gap, ends_in_comment, is_gap_so_far, is_gap, is_number_word, number_told, number_fault, greatest_sample, ended_fault}
+use Rattle.jpg_spec_image.specs.PnmText.{is_pnm_space, begins_gap, ends_in_comment, is_gap_so_far, is_gap, is_number_word, parsed_number, number_fault, greatest_sample, ended_fault}
 use Rattle.jpg_spec_image.specs.ImageSteps.{ImageState, in_gap, in_number, failed, fault_or, capped, after_number, step, run}
 use Rattle.jpg_spec.specs.declared.fault.Fault.TheVariants.{ImageText, ImageHeader, ImageUnsupported, ImageValue}
 
@@ -93,7 +93,7 @@ first_digit format numbers d e =
     ∙ ap (in_number format numbers) c
 
 pub word_run : (format : ℕ) (numbers : List ℕ) (w : NumberWord) → is_number_word w ≡ true
-    → run (in_gap format numbers false false) (number_text w) ≡ in_number format numbers (capped (number_told w))
+    → run (in_gap format numbers false false) (number_text w) ≡ in_number format numbers (capped (parsed_number w))
 unfolding run
 word_run format numbers w e =
     let s = both (is_gap w.gap) (not (is_empty w.digits) && all_of is_digit w.digits) e in

@@ -5,15 +5,15 @@ use Rattle.std.proofs.lemmas.Bool.Decides.{nat_tests}
 use Rattle.std.proofs.lemmas.List.{append_assoc, append-nil, length-append}
 use Rattle.jpg_spec.specs.Lists.{all_of, is_empty}
 use Rattle.jpg_spec.specs.NumberTexts.{is_digit, in_comment, without_comments, NumberWord, number_text}
-use Rattle.jpg_spec.proofs.Common.{both, not_lt_of, negated, lt_yes}
+use Rattle.jpg_spec.proofs.Basics.Common.{both, not_lt_of, negated, lt_yes}
 use Rattle.jpg_spec_image.specs.Images.{sample_count}
-use Rattle.jpg_spec_image.specs.PnmText.{is_plain, is_read, is_left_out, is_pnm_space, begins_gap, ends_in_comment, is_gap_so_far, is_gap, is_number_word, number_told, pnm_info, greatest_sample, numbers_due, is_number_due, number_fault, may_follow, ended_fault, are_right_numbers, AfterNumbers, AfterNumber, AfterLast}
+use Rattle.jpg_spec_image.specs.PnmText.{is_plain, is_read, is_left_out, is_pnm_space, begins_gap, ends_in_comment, is_gap_so_far, is_gap, is_number_word, parsed_number, pnm_info, greatest_sample, numbers_due, is_number_due, number_fault, may_follow, ended_fault, are_right_numbers, AfterNumbers, AfterNumber, AfterLast}
 use Rattle.jpg_spec_image.specs.ImageFaults.{pnm, ShowsNoFormat, ShowsLeftOut, ShowsNoNumber, ShowsNumber}
 use Rattle.jpg_spec_image.specs.ImageSteps.{at_start, behind_first, in_gap, in_number, in_bmp_head, in_body, whole, failed, fault_or, capped, after_number, plain_image, step, run}
 use Rattle.jpg_spec_image.proofs.ImageRuns.{run_join, gap_no_digit, in_gap_yet, some_gap_run, word_run, capped_fault, right_small}
 use Rattle.jpg_spec.specs.declared.fault.Fault.{Fault}
 use Rattle.jpg_spec.specs.declared.fault.Fault.TheVariants.{ImageText, ImageHeader, ImageUnsupported}
-use Rattle.jpg_spec.proofs.WrittenFront.{no_fault}
+use Rattle.jpg_spec.proofs.Writing.WrittenFront.{no_fault}
 
 -- THE GREATEST SAMPLE of right numbers is a byte
 
@@ -107,16 +107,16 @@ abbrev pub StartsAfter : List NumberWord → List ℕ → Type 0
 StartsAfter [] tail = Unit {0}
 StartsAfter (w ∷ words) tail = Begins tail
 
-words_run : (format : ℕ) (before : List ℕ) (words : List NumberWord) (tail : List ℕ) → greatest_sample before ≤ 255 → all_of is_number_word words ≡ true → are_right_numbers format before (map number_told words) ≡ true
-    → is_number_due format (before ++ map number_told words) ≡ true → StartsAfter words tail
-    → run (in_gap format before false false) (flat_map number_text words ++ tail) ≡ run (in_gap format (before ++ map number_told words) false false) tail
+words_run : (format : ℕ) (before : List ℕ) (words : List NumberWord) (tail : List ℕ) → greatest_sample before ≤ 255 → all_of is_number_word words ≡ true → are_right_numbers format before (map parsed_number words) ≡ true
+    → is_number_due format (before ++ map parsed_number words) ≡ true → StartsAfter words tail
+    → run (in_gap format before false false) (flat_map number_text words ++ tail) ≡ run (in_gap format (before ++ map parsed_number words) false false) tail
 words_run format before [] tail g f r due st = ap (λ x. run (in_gap format x false false) tail) (sym (append-nil before))
 words_run format before (w ∷ words) tail g f r due st =
     let s = both (is_number_word w) (all_of is_number_word words) f in
-    let n = number_told w in
-    let q = first_right format before n (map number_told words) r in
-    let again : (before ++ n ∷ []) ++ map number_told words ≡ before ++ n ∷ map number_told words = append_assoc before (n ∷ []) (map number_told words) in
-    let due' : is_number_due format ((before ++ n ∷ []) ++ map number_told words) ≡ true = ap (is_number_due format) again ∙ due in
+    let n = parsed_number w in
+    let q = first_right format before n (map parsed_number words) r in
+    let again : (before ++ n ∷ []) ++ map parsed_number words ≡ before ++ n ∷ map parsed_number words = append_assoc before (n ∷ []) (map parsed_number words) in
+    let due' : is_number_due format ((before ++ n ∷ []) ++ map parsed_number words) ≡ true = ap (is_number_due format) again ∙ due in
     ap (run (in_gap format before false false)) (append_assoc (number_text w) (flat_map number_text words) tail)
     ∙ run_join (in_gap format before false false) (number_text w) (flat_map number_text words ++ tail)
     ∙ ap (λ x. run x (flat_map number_text words ++ tail)) (word_run format before w s.0)
@@ -124,9 +124,9 @@ words_run format before (w ∷ words) tail g f r due st =
     ∙ words_run format (before ++ n ∷ []) words tail (greatest_more before n g q.right) s.1 q.others due' (starts words st)
     ∙ ap (λ x. run (in_gap format x false false) tail) again
   where
-    due_next : (words : List NumberWord) → is_number_due format ((before ++ number_told w ∷ []) ++ map number_told words) ≡ true → are_right_numbers format (before ++ number_told w ∷ []) (map number_told words) ≡ true → is_number_due format (before ++ number_told w ∷ []) ≡ true
-    due_next [] d a = ap (is_number_due format) (sym (append-nil (before ++ number_told w ∷ []))) ∙ d
-    due_next (v ∷ words) d a = (first_right format (before ++ number_told w ∷ []) (number_told v) (map number_told words) a).due
+    due_next : (words : List NumberWord) → is_number_due format ((before ++ parsed_number w ∷ []) ++ map parsed_number words) ≡ true → are_right_numbers format (before ++ parsed_number w ∷ []) (map parsed_number words) ≡ true → is_number_due format (before ++ parsed_number w ∷ []) ≡ true
+    due_next [] d a = ap (is_number_due format) (sym (append-nil (before ++ parsed_number w ∷ []))) ∙ d
+    due_next (v ∷ words) d a = (first_right format (before ++ parsed_number w ∷ []) (parsed_number v) (map parsed_number words) a).due
 
     rest_begins : (words : List NumberWord) → all_of is_number_word words ≡ true → Begins tail → Begins (flat_map number_text words ++ tail)
     rest_begins [] f b = b
@@ -150,7 +150,7 @@ after_run bytes format numbers tail b st =
     ∙ words_run format [] b.words tail (omega arith) b.formed (ap (are_right_numbers format []) b.told ∙ b.right) (ap (is_number_due format) b.told ∙ b.due) (starts b.words b.told st)
     ∙ ap (λ x. run (in_gap format x false false) tail) b.told
   where
-    starts : (words : List NumberWord) → map number_told words ≡ numbers → (numbers ≡ []) ⊎ Begins tail → StartsAfter words tail
+    starts : (words : List NumberWord) → map parsed_number words ≡ numbers → (numbers ≡ []) ⊎ Begins tail → StartsAfter words tail
     starts [] e s = tt
     starts (w ∷ words) e (inl n) = let f : ⊥ = cc in absurd f
     starts (w ∷ words) e (inr s) = s

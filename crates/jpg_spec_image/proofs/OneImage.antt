@@ -4,11 +4,11 @@ use Rattle.std.specs.Prelude.{◌⊎◌, Result}
 use Rattle.std.proofs.lemmas.Bool.{cases_lt}
 use Rattle.std.proofs.lemmas.List.{length-append, length-take-le, take_all}
 use Rattle.std.proofs.Math.Seq.{take-append_seam}
-use Rattle.jpg_spec.proofs.Common.{take_shorter}
+use Rattle.jpg_spec.proofs.Basics.Common.{take_shorter}
 use Rattle.jpg_spec_image.specs.Images.{Image}
 use Rattle.jpg_spec_image.specs.ImageFaults.{IsWholeImage, ShowsImageFault, EndIsWhole, IsOpenImage, IsImage, IsEndFault, IsImageFault}
 use Rattle.jpg_spec_image.specs.ImageSteps.{ImageState, at_start, whole, failed, past, run, state_end}
-use Rattle.jpg_spec_image.specs.ImageReading.{StandsForImage, IsPast}
+use Rattle.jpg_spec_image.specs.ImageReading.{RepresentsImage, IsPast}
 use Rattle.jpg_spec_image.specs.ImageLaws.{HasImage, HasFault, ImageAnswer, to_image, to_fault, HasImageAnswer}
 use Rattle.jpg_spec_image.proofs.ImageBodyRuns.{whole_run, shows_run}
 use Rattle.jpg_spec_image.proofs.ImageStands.{stands}
@@ -113,7 +113,7 @@ past_front limits bytes n h l (m, less, s) =
     stopped_front limits bytes m (omega (arith, less, long, h)) (omega (arith, less, long, l))
     (subst (λ front. ((image : Image) × IsWholeImage front image) ⊎ ((fault : Fault) × ShowsImageFault fault front)) (take_shorter m n bytes (omega (arith, less, long))) s)
 
-front_told : (limits : Limits) (bytes : List ℕ) (n : ℕ) (s : ImageState) → n ≤ length bytes → n ≤ limits.input → StandsForImage (take n bytes) s → (IsLive s → HasImage limits bytes ⊎ HasFault limits bytes) → HasImage limits bytes ⊎ HasFault limits bytes
+front_told : (limits : Limits) (bytes : List ℕ) (n : ℕ) (s : ImageState) → n ≤ length bytes → n ≤ limits.input → RepresentsImage (take n bytes) s → (IsLive s → HasImage limits bytes ⊎ HasFault limits bytes) → HasImage limits bytes ⊎ HasFault limits bytes
 front_told limits bytes n (whole image) h l t live = stopped_front limits bytes n h l (inl (image, t))
 front_told limits bytes n (failed fault) h l t live = stopped_front limits bytes n h l (inr (fault, t))
 front_told limits bytes n past h l t live = past_front limits bytes n h l t
@@ -123,7 +123,7 @@ pub one_of_two : (limits : Limits) (bytes : List ℕ) → HasImage limits bytes 
 one_of_two limits bytes =
     ⊎_elim
     (λ (short : length bytes < limits.input). (let all : take (length bytes) bytes ≡ bytes = take_all (length bytes) bytes (omega arith) in
-    front_told limits bytes (length bytes) (run at_start bytes) (omega arith) (omega (arith, short)) (subst (λ x. StandsForImage x (run at_start bytes)) (sym all) (stands bytes))
+    front_told limits bytes (length bytes) (run at_start bytes) (omega arith) (omega (arith, short)) (subst (λ x. RepresentsImage x (run at_start bytes)) (sym all) (stands bytes))
     (λ live. by_end (state_end (run at_start bytes)) (end_judged limits bytes (run at_start bytes) short refl live))))
     (λ (long : limits.input ≤ length bytes).
     front_told limits bytes limits.input (run at_start (take limits.input bytes)) long (omega arith) (stands (take limits.input bytes))

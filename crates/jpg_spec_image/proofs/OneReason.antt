@@ -8,8 +8,8 @@ use Rattle.jpg_spec_image.specs.Pixels.{out_fault_of}
 use Rattle.jpg_spec.specs.declared.fault.FaultAt.{FaultAt}
 use Rattle.jpg_spec.specs.declared.fault.Fault.{Fault}
 use Rattle.jpg_spec.specs.declared.frame.Limits.{Limits}
-use Rattle.jpg_spec.proofs.OneHeader.{whole_once}
-use Rattle.jpg_spec.proofs.Common.{some_once}
+use Rattle.jpg_spec.proofs.Headers.OneHeader.{whole_once}
+use Rattle.jpg_spec.proofs.Basics.Common.{some_once}
 
 -- the fault, if any, for which a picture can't be displayed, by these segments
 abbrev pub reason_after : Limits → Bool → List Segment → Option Fault

@@ -6,7 +6,7 @@ use Rattle.jpg_spec.specs.Laws.{AtMostOneFault}
 use Rattle.jpg_spec_image.specs.Images.{Image}
 use Rattle.jpg_spec_image.specs.TargaFaults.{IsWholeTarga, TargaMeans, ShowsTargaFault, IsOpenTarga, IsTargaFault}
 use Rattle.jpg_spec_image.specs.TargaSteps.{TargaState, whole, failed, past, at_start, run}
-use Rattle.jpg_spec_image.specs.TargaReading.{StandsForTarga, IsAnswered}
+use Rattle.jpg_spec_image.specs.TargaReading.{RepresentsTarga, IsAnswered}
 use Rattle.jpg_spec_image.specs.TargaLaws.{HasTarga, HasTargaFault}
 use Rattle.jpg_spec_image.proofs.TargaRuns.{whole_run, shows_run}
 use Rattle.jpg_spec_image.proofs.TargaStands.{stands}
@@ -48,7 +48,7 @@ answered bytes n h (inr (fault, s)) = inr (fault, n, inl (is_least bytes fault n
 all_of_them : (bytes : List ℕ) → IsAnswered bytes → IsAnswered (take (length bytes) bytes)
 all_of_them bytes a = let same : length bytes ≤ length bytes = omega arith in subst IsAnswered (sym (take_all (length bytes) bytes same)) a
 
-state_told : (bytes : List ℕ) (s : TargaState) → StandsForTarga bytes s → (IsLive s → HasTarga bytes ⊎ HasTargaFault bytes) → HasTarga bytes ⊎ HasTargaFault bytes
+state_told : (bytes : List ℕ) (s : TargaState) → RepresentsTarga bytes s → (IsLive s → HasTarga bytes ⊎ HasTargaFault bytes) → HasTarga bytes ⊎ HasTargaFault bytes
 state_told bytes (whole image) t live = answered bytes (length bytes) (omega arith) (all_of_them bytes (inl (image, t)))
 state_told bytes (failed fault) t live = answered bytes (length bytes) (omega arith) (all_of_them bytes (inr (fault, t)))
 state_told bytes past (n, less, a) live = answered bytes n (omega (arith, less)) a
@@ -62,7 +62,7 @@ answer_clash bytes n h (inl (image, w)) q = (q n h).1 image w
 answer_clash bytes n h (inr (fault, s)) q = (q n h).0 fault s
 
 -- of bytes without an image or a fault the state is live
-pub open_live : (bytes : List ℕ) (s : TargaState) → StandsForTarga bytes s → IsOpenTarga bytes → IsLive s
+pub open_live : (bytes : List ℕ) (s : TargaState) → RepresentsTarga bytes s → IsOpenTarga bytes → IsLive s
 open_live bytes (whole image) t q = answer_clash bytes (length bytes) (omega arith) (all_of_them bytes (inl (image, t))) q
 open_live bytes (failed fault) t q = answer_clash bytes (length bytes) (omega arith) (all_of_them bytes (inr (fault, t))) q
 open_live bytes past (n, less, a) q = answer_clash bytes n (omega (arith, less)) a q

@@ -5,12 +5,12 @@ use Rattle.std.proofs.lemmas.List.{append_assoc, length-append, get_or_append_le
 use Rattle.std.proofs.lemmas.List.Elements.{All-get_or}
 use Rattle.std.proofs.lemmas.Nat.{mul-le}
 use Rattle.jpg_spec.specs.Lists.{all_of, below}
-use Rattle.jpg_spec.proofs.Common.{both, le_of, same_of, length_below}
+use Rattle.jpg_spec.proofs.Basics.Common.{both, le_of, same_of, length_below}
 use Rattle.jpg_spec_image.specs.Images.{sample_count}
 use Rattle.jpg_spec_image.specs.TargaFile.{Packet, copies, pixels, identifier_length, pixel_size, targa_kind, targa_width, targa_height, targa_fault, is_packet, packet_text, packet_bytes, IsTargaFront}
 use Rattle.jpg_spec_image.specs.TargaFaults.{IsOpenTarga}
 use Rattle.jpg_spec_image.specs.TargaSteps.{TargaState, in_head, in_identifier, at_packet, in_copies, in_pixels, whole, failed, past, lost, at_start, total, size, run}
-use Rattle.jpg_spec_image.specs.TargaReading.{StandsForTarga, InPackets, InPacket, InRaw}
+use Rattle.jpg_spec_image.specs.TargaReading.{RepresentsTarga, InPackets, InPacket, InRaw}
 use Rattle.jpg_spec_image.proofs.TargaRuns.{right_header, size_some}
 use Rattle.jpg_spec_image.proofs.TargaStands.{stands}
 use Rattle.jpg_spec_image.proofs.TargaJudged.{IsLive}
@@ -124,7 +124,7 @@ pixels_few bytes head done left all (inr r) =
     let t = total_few head r.header.right in
     omega (arith, f, l, long, t)
 
-state_few : (bytes : List ℕ) (s : TargaState) → All (λ b. b < 256) bytes → StandsForTarga bytes s → IsLive s → length bytes < 2147483648
+state_few : (bytes : List ℕ) (s : TargaState) → All (λ b. b < 256) bytes → RepresentsTarga bytes s → IsLive s → length bytes < 2147483648
 state_few bytes (in_head head) all (e, short) l = let k = ap length e in omega (arith, k, short)
 state_few bytes (in_identifier head left) all i l =
     let k = ap length i.cut ∙ length-append head i.part in

@@ -9,8 +9,8 @@ use Rattle.jpg_spec.specs.Markers.{Segment}
 use Rattle.jpg_spec.specs.FileMeaning.{meaning_of}
 use Rattle.jpg_spec.specs.Meaning.{most_down}
 use Rattle.jpg_spec_image.specs.Strips.{lines, mcu_rows}
-use Rattle.jpg_spec.proofs.Common.{length_below}
-use Rattle.jpg_spec.proofs.RowCounts.{AreBelow, rows_down, single_down, picture_down, several}
+use Rattle.jpg_spec.proofs.Basics.Common.{length_below}
+use Rattle.jpg_spec.proofs.McuRows.RowCounts.{AreBelow, rows_down, single_down, picture_down, several}
 
 pub picture_rows : (f : Frame) (ids : List ℕ) (before : List Segment) (blocks : Blocks) → IsFrame f → AreBelow (length f.components) ids → length ids ≡ length f.components
     → mcu_rows (meaning_of f before blocks) ≡ rows_down f ids

@@ -15,16 +15,16 @@ use Rattle.jpg_spec.specs.Header.{IsHeader}
 use Rattle.jpg_spec_image.specs.NotShown.{IsNotShown}
 use Rattle.jpg_spec_image.specs.Pixels.{out_fault, out_fault_of}
 use Rattle.jpg_spec_image.specs.Laws.{AreNotShownAlike}
-use Rattle.jpg_spec.specs.RowsTold.{BeginsScanOfAll, picture_so_far}
+use Rattle.jpg_spec.specs.RowsParsed.{BeginsScanOfAll, picture_so_far}
 use Rattle.jpg_spec.specs.declared.fault.FaultAt.{FaultAt}
 use Rattle.jpg_spec.specs.declared.fault.Fault.{Fault}
 use Rattle.jpg_spec.specs.declared.frame.Component.{Component}
 use Rattle.jpg_spec.specs.declared.frame.Limits.{Limits}
-use Rattle.jpg_spec.proofs.ColoursKept.{picture_colours, picture_factors}
-use Rattle.jpg_spec.proofs.FrameFound.{framed}
-use Rattle.jpg_spec.proofs.OneHeader.{whole_once}
+use Rattle.jpg_spec.proofs.Headers.ColoursKept.{picture_colours, picture_factors}
+use Rattle.jpg_spec.proofs.Headers.FrameFound.{framed}
+use Rattle.jpg_spec.proofs.Headers.OneHeader.{whole_once}
 use Rattle.jpg_spec_image.proofs.OneReason.{reason_after}
-use Rattle.jpg_spec.proofs.Untouched.{frame_stays}
+use Rattle.jpg_spec.proofs.Places.Untouched.{frame_stays}
 
 -- WHAT THE SCAN HEADER CHANGES: neither frame nor kept markers
 

@@ -15,22 +15,22 @@ use Rattle.jpg_spec.specs.FileMeaning.{Leads, Means, meaning_of}
 use Rattle.jpg_spec.specs.PictureInWork.{is_at}
 use Rattle.jpg_spec_image.specs.Strips.{mcu_rows}
 use Rattle.jpg_spec.specs.ScanRows.{first_rows}
-use Rattle.jpg_spec.specs.RowsTold.{CompletesRows, IsScanOfAll, blocks_in, row_places, picture_so_far}
+use Rattle.jpg_spec.specs.RowsParsed.{CompletesRows, IsScanOfAll, blocks_in, row_places, picture_so_far}
 use Rattle.jpg_spec_image.specs.RowLaws.{CompletesAll}
 use Rattle.jpg_spec.specs.RowLaws.{IsReadByRows}
 use Rattle.jpg_spec.specs.declared.frame.Limits.{Limits}
 use Rattle.jpg_spec.specs.declared.frame.Place.{Place}
-use Rattle.jpg_spec.proofs.ColoursKept.{same_frame_after}
-use Rattle.jpg_spec.proofs.FileHeader.{HasFirstScan, file_header}
-use Rattle.jpg_spec.proofs.FirstScan.{first_some_places}
-use Rattle.jpg_spec.proofs.FrameFound.{framed}
-use Rattle.jpg_spec.proofs.OneHeader.{whole_once}
-use Rattle.jpg_spec.proofs.PlacesFound.{real_found}
-use Rattle.jpg_spec.proofs.Untouched.{frame_stays}
-use Rattle.jpg_spec.proofs.RowCounts.{head_below, head_names, units_by_row}
+use Rattle.jpg_spec.proofs.Headers.ColoursKept.{same_frame_after}
+use Rattle.jpg_spec.proofs.Headers.FileHeader.{HasFirstScan, file_header}
+use Rattle.jpg_spec.proofs.Headers.FirstScan.{first_some_places}
+use Rattle.jpg_spec.proofs.Headers.FrameFound.{framed}
+use Rattle.jpg_spec.proofs.Headers.OneHeader.{whole_once}
+use Rattle.jpg_spec.proofs.Places.PlacesFound.{real_found}
+use Rattle.jpg_spec.proofs.Places.Untouched.{frame_stays}
+use Rattle.jpg_spec.proofs.McuRows.RowCounts.{head_below, head_names, units_by_row}
 use Rattle.jpg_spec_image.proofs.RowCounts.{picture_rows}
-use Rattle.jpg_spec.proofs.RowsLater.{FrontCut, blocks_stay, frame_there, front_cut, head_there, none_later, quants_stay}
-use Rattle.jpg_spec.proofs.RowsWhole.{WholeScan, real_in_rows, same_meaning, scan_rows, scan_rows_all}
+use Rattle.jpg_spec.proofs.McuRows.RowsLater.{FrontCut, blocks_stay, frame_there, front_cut, head_there, none_later, quants_stay}
+use Rattle.jpg_spec.proofs.McuRows.RowsWhole.{WholeScan, real_in_rows, same_meaning, scan_rows, scan_rows_all}
 
 -- THE FIRST SCAN of the file is that of its header
 pub record IsFileScan (limits : Limits) (bytes : List ℕ) (M : Meaning) (w : IsReadByRows limits bytes M) (first : HasFirstScan limits (w.means).items (w.means).front) : Type 0 where

@@ -18,11 +18,11 @@ use Rattle.jpg_spec_image.specs.Strips.{IsCovered, block_rows, lines, mcu_rows, 
 use Rattle.jpg_spec_image.specs.RowLaws.{IsShownInRows}
 use Rattle.jpg_spec.specs.declared.fault.Fault.TheVariants.{Precision, ColourOut, FractionalSampling}
 use Rattle.jpg_spec.specs.declared.frame.Colour.TheVariants.{Cmyk, Gray, Unknown, Ycck}
-use Rattle.jpg_spec.proofs.Common.{clash, length_below, neither, same_of}
-use Rattle.jpg_spec.proofs.PlacesFound.{covers, least}
-use Rattle.jpg_spec.proofs.PlacesSome.{factors_at, v_max_some}
-use Rattle.jpg_spec.proofs.Rows.{at_below, map_map}
-use Rattle.jpg_spec.proofs.RowCounts.{picture_down}
+use Rattle.jpg_spec.proofs.Basics.Common.{clash, length_below, neither, same_of}
+use Rattle.jpg_spec.proofs.Places.PlacesFound.{covers, least}
+use Rattle.jpg_spec.proofs.Places.PlacesSome.{factors_at, v_max_some}
+use Rattle.jpg_spec.proofs.Basics.Rows.{at_below, map_map}
+use Rattle.jpg_spec.proofs.McuRows.RowCounts.{picture_down}
 
 -- HOW MANY are displayed: no more than there are
 

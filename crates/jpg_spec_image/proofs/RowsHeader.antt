@@ -9,19 +9,19 @@ use Rattle.jpg_spec.specs.FileMeaning.{meaning_of, scan_after}
 use Rattle.jpg_spec_image.specs.Pixels.{out_fault}
 use Rattle.jpg_spec_image.specs.Strips.{mcu_rows}
 use Rattle.jpg_spec.specs.ScanRows.{first_rows}
-use Rattle.jpg_spec.specs.RowsTold.{BeginsScanOfAll, row_places, picture_so_far}
+use Rattle.jpg_spec.specs.RowsParsed.{BeginsScanOfAll, row_places, picture_so_far}
 use Rattle.jpg_spec_image.specs.RowsShown.{ShowsRows, rows_text}
 use Rattle.jpg_spec_image.specs.RowLaws.{IsShownInRows}
 use Rattle.jpg_spec_image.specs.declared.image.EndKind.{EndKind}
 use Rattle.jpg_spec.specs.declared.frame.Limits.{Limits}
-use Rattle.jpg_spec.proofs.FrameFound.{framed}
-use Rattle.jpg_spec.proofs.Untouched.{frame_stays}
-use Rattle.jpg_spec.proofs.RowCounts.{head_below, units_by_row}
+use Rattle.jpg_spec.proofs.Headers.FrameFound.{framed}
+use Rattle.jpg_spec.proofs.Places.Untouched.{frame_stays}
+use Rattle.jpg_spec.proofs.McuRows.RowCounts.{head_below, units_by_row}
 use Rattle.jpg_spec_image.proofs.RowCounts.{picture_rows}
 use Rattle.jpg_spec_image.proofs.RowsCovered.{shown_covered}
-use Rattle.jpg_spec.proofs.RowsLater.{head_there}
-use Rattle.jpg_spec.proofs.RowsOnce.{completed_once}
-use Rattle.jpg_spec.proofs.RowsHeader.{begun_frame, begun_once}
+use Rattle.jpg_spec.proofs.McuRows.RowsLater.{head_there}
+use Rattle.jpg_spec.proofs.McuRows.RowsOnce.{completed_once}
+use Rattle.jpg_spec.proofs.McuRows.RowsHeader.{begun_frame, begun_once}
 
 -- ITS PICTURE has as many MCU rows
 

@@ -15,7 +15,7 @@ use Rattle.jpg_spec_image.specs.Upsampling.{has_far_rows}
 use Rattle.jpg_spec_image.specs.Pixels.{info, metre, pixel_row, pixels, shown_row, shows_gray, stretch_of}
 use Rattle.jpg_spec_image.specs.ImageText.{depth, end_text, file_samples, first_piece, pnm_header, pnm_letter, row_piece, short, targa_header, targa_type}
 use Rattle.jpg_spec_image.specs.Strips.{lines, mcu_rows, needed}
-use Rattle.jpg_spec.specs.RowsTold.{CompletesRows}
+use Rattle.jpg_spec.specs.RowsParsed.{CompletesRows}
 use Rattle.jpg_spec_image.specs.RowsShown.{ready_rows, rows_text}
 use Rattle.jpg_spec_image.specs.RowLaws.{CompletesAll, all_rows_text, is_by_rows, so_far_in, text_in}
 use Rattle.jpg_spec.specs.RowLaws.{IsReadByRows, read_so_far}
@@ -26,12 +26,12 @@ use Rattle.jpg_spec_image.specs.declared.image.EndKind.TheVariants.{Bmp, Pnm, Ta
 use Rattle.jpg_spec_image.specs.declared.image.ImageInfo.{ImageInfo}
 use Rattle.jpg_spec_image.specs.declared.image.ImageKind.TheVariants as samples
 use Rattle.jpg_spec.specs.declared.jfif.Jfif.{Jfif}
-use Rattle.jpg_spec.proofs.ColoursKept.{picture_colours, same_colours_after, same_jfif_after}
-use Rattle.jpg_spec.proofs.Common.{length_below, same_itself}
-use Rattle.jpg_spec.proofs.FileHeader.{file_header}
+use Rattle.jpg_spec.proofs.Headers.ColoursKept.{picture_colours, same_colours_after, same_jfif_after}
+use Rattle.jpg_spec.proofs.Basics.Common.{length_below, same_itself}
+use Rattle.jpg_spec.proofs.Headers.FileHeader.{file_header}
 use Rattle.jpg_spec_image.proofs.RowsAlike.{colours_stay}
 use Rattle.jpg_spec_image.proofs.RowsCompleted.{complete_all, file_scan}
-use Rattle.jpg_spec.proofs.RowsOnce.{completed_once}
+use Rattle.jpg_spec.proofs.McuRows.RowsOnce.{completed_once}
 
 -- the header of an image has its size and its kind
 record IsSameSize (a b : ImageInfo) : Type 0 where

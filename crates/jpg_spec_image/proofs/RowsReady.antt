@@ -18,10 +18,10 @@ use Rattle.jpg_spec_image.specs.Strips.{IsCovered, block_rows, known_rows, lines
 use Rattle.jpg_spec_image.specs.RowsShown.{ready_rows, rows_text}
 use Rattle.jpg_spec_image.specs.RowLaws.{GoesOnFrom, IsShownInRows}
 use Rattle.jpg_spec_image.specs.declared.image.EndKind.{EndKind}
-use Rattle.jpg_spec.proofs.Common.{length_below}
+use Rattle.jpg_spec.proofs.Basics.Common.{length_below}
 use Rattle.jpg_spec_image.proofs.Strips.{ready_told, same_rows}
-use Rattle.jpg_spec.proofs.RowsOnce.{below_more}
-use Rattle.jpg_spec.proofs.RowsWhole.{map_below}
+use Rattle.jpg_spec.proofs.McuRows.RowsOnce.{below_more}
+use Rattle.jpg_spec.proofs.McuRows.RowsWhole.{map_below}
 
 -- HOW MANY are ready
 

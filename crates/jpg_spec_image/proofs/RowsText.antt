@@ -15,22 +15,22 @@ use Rattle.jpg_spec.specs.Items.{segments_of}
 use Rattle.jpg_spec.specs.FileMeaning.{meaning_of, no_blocks, picture_component}
 use Rattle.jpg_spec.specs.PictureInWork.{is_at}
 use Rattle.jpg_spec_image.specs.Strips.{block_rows, mcu_rows}
-use Rattle.jpg_spec.specs.RowsTold.{blocks_in, row_places, picture_so_far}
+use Rattle.jpg_spec.specs.RowsParsed.{blocks_in, row_places, picture_so_far}
 use Rattle.jpg_spec_image.specs.RowLaws.{GoesOnFrom, IsShownInRows, TellsTwice, fewer_text, more_text}
 use Rattle.jpg_spec.specs.RowLaws.{TellsMore, first_blocks}
 use Rattle.jpg_spec.specs.declared.frame.Limits.{Limits}
 use Rattle.jpg_spec.specs.declared.frame.Place.{Place}
 use Rattle.jpg_spec_image.specs.declared.image.EndKind.{EndKind}
-use Rattle.jpg_spec.proofs.Common.{both, length_below, lt_of}
-use Rattle.jpg_spec.proofs.FrameFound.{framed}
-use Rattle.jpg_spec.proofs.Rows.{at_below}
-use Rattle.jpg_spec.proofs.Untouched.{frame_stays}
-use Rattle.jpg_spec.proofs.RowCounts.{head_names}
-use Rattle.jpg_spec.proofs.RowsFound.{found_first}
+use Rattle.jpg_spec.proofs.Basics.Common.{both, length_below, lt_of}
+use Rattle.jpg_spec.proofs.Headers.FrameFound.{framed}
+use Rattle.jpg_spec.proofs.Basics.Rows.{at_below}
+use Rattle.jpg_spec.proofs.Places.Untouched.{frame_stays}
+use Rattle.jpg_spec.proofs.McuRows.RowCounts.{head_names}
+use Rattle.jpg_spec.proofs.McuRows.RowsFound.{found_first}
 use Rattle.jpg_spec_image.proofs.RowsHeader.{begun_covered, begun_rows}
-use Rattle.jpg_spec.proofs.RowsHeader.{begun_frame, begun_once, rows_begin, rows_few}
-use Rattle.jpg_spec.proofs.RowsLater.{head_there}
-use Rattle.jpg_spec.proofs.RowsOnce.{first_told, rows_once}
+use Rattle.jpg_spec.proofs.McuRows.RowsHeader.{begun_frame, begun_once, rows_begin, rows_few}
+use Rattle.jpg_spec.proofs.McuRows.RowsLater.{head_there}
+use Rattle.jpg_spec.proofs.McuRows.RowsOnce.{first_told, rows_once}
 use Rattle.jpg_spec_image.proofs.RowsReady.{AgreeInRows, text_goes_on}
 
 -- BLOCKS of the first rows, where they are real

@@ -18,13 +18,13 @@ use Rattle.jpg_spec_image.specs.Pixels.{out_fault_of, out_fault}
 use Rattle.jpg_spec.specs.declared.fault.FaultAt.{FaultAt}
 use Rattle.jpg_spec.specs.declared.fault.Fault.{Fault}
 use Rattle.jpg_spec.specs.declared.frame.Limits.{Limits}
-use Rattle.jpg_spec.proofs.OneHeader.{whole_once}
+use Rattle.jpg_spec.proofs.Headers.OneHeader.{whole_once}
 use Rattle.jpg_spec_image.proofs.OneReason.{reason_after}
-use Rattle.jpg_spec.proofs.FileHeader.{HasFirstScan, file_header, first_scan, items_header, no_scan_spelled}
-use Rattle.jpg_spec.proofs.FrameAfter.{leads_pass}
-use Rattle.jpg_spec.proofs.HeaderFirst.{AreOfHeader, scan_passed, with_scan}
-use Rattle.jpg_spec.proofs.EarlyBegun.{begun_behind}
-use Rattle.jpg_spec.proofs.ColoursKept.{same_frame_after, same_colours_after, same_factors_after, picture_colours, picture_factors}
+use Rattle.jpg_spec.proofs.Headers.FileHeader.{HasFirstScan, file_header, first_scan, items_header, no_scan_spelled}
+use Rattle.jpg_spec.proofs.Headers.FrameAfter.{leads_pass}
+use Rattle.jpg_spec.proofs.Headers.HeaderFirst.{AreOfHeader, scan_passed, with_scan}
+use Rattle.jpg_spec.proofs.EndsEarly.EarlyBegun.{begun_behind}
+use Rattle.jpg_spec.proofs.Headers.ColoursKept.{same_frame_after, same_colours_after, same_factors_after, picture_colours, picture_factors}
 
 -- a picture can't be displayed because of its file's segments
 picture_reason : (limits : Limits) (gray : Bool) (before : List Segment) (blocks : Blocks) → out_fault gray (meaning_of (frame_of limits before) before blocks) ≡ reason_after limits gray before

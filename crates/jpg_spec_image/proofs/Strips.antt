@@ -5,15 +5,15 @@ use Rattle.std.proofs.lemmas.List.{get_or-map}
 use Rattle.std.proofs.Math.Nat.{le-div_iff_mul-le, div-lt_iff_lt-mul}
 use Rattle.std.proofs.lemmas.Bool.{cases_lt, eqb-true, false≢true}
 use Rattle.jpg_spec.specs.Lists.{below, any_of}
-use Rattle.jpg_spec.proofs.Rows.{at_below}
+use Rattle.jpg_spec.proofs.Basics.Rows.{at_below}
 use Rattle.jpg_spec.specs.Scan.{Blocks}
 use Rattle.jpg_spec.specs.Meaning.{Meaning, component_of}
 use Rattle.jpg_spec_image.specs.Dct.{dequantised, inverse_dct}
 use Rattle.jpg_spec_image.specs.Upsampling.{Stretch, is_smoothed, has_far_rows, near_row, far_row, upsampled_row, up_row, up_rows2, repeat_row}
 use Rattle.jpg_spec_image.specs.Pixels.{plane, plane_row, stretch_of, upsampled, samples_across}
 use Rattle.jpg_spec_image.specs.Strips.{ready_of, IsRowReady, Agree, rows_from, kept_row, lines, block_rows, known_rows, ready, IsCovered}
-use Rattle.jpg_spec.proofs.PlacesFound.{or_second}
-use Rattle.jpg_spec.proofs.Common.{any_append, length_below}
+use Rattle.jpg_spec.proofs.Places.PlacesFound.{or_second}
+use Rattle.jpg_spec.proofs.Basics.Common.{any_append, length_below}
 
 -- TWO ROWS
 

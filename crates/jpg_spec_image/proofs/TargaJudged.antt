@@ -4,11 +4,11 @@ use Rattle.std.proofs.lemmas.Bool.{cases_lt}
 use Rattle.std.proofs.lemmas.List.{take-append-drop, length-take-le, length-drop, take_all}
 use Rattle.jpg_spec.specs.Faults.{number_of}
 use Rattle.jpg_spec.specs.Markers.{IsLeast}
-use Rattle.jpg_spec.proofs.Common.{take_shorter}
+use Rattle.jpg_spec.proofs.Basics.Common.{take_shorter}
 use Rattle.jpg_spec_image.specs.Images.{Image}
 use Rattle.jpg_spec_image.specs.TargaFaults.{IsWholeTarga, TargaMeans, ShowsTargaFault, IsOpenTarga, IsTargaFault}
 use Rattle.jpg_spec_image.specs.TargaSteps.{TargaState, whole, failed, past, at_start, step, run}
-use Rattle.jpg_spec_image.specs.TargaReading.{StandsForTarga}
+use Rattle.jpg_spec_image.specs.TargaReading.{RepresentsTarga}
 use Rattle.jpg_spec_image.proofs.TargaRuns.{run_join, whole_run, shows_run}
 use Rattle.jpg_spec_image.proofs.TargaStands.{stands}
 use Rattle.jpg_spec.specs.declared.fault.Fault.{Fault}
@@ -123,10 +123,10 @@ live_open bytes l = λ n h. (
 -- THE ANSWERS, by the result of the bytes
 
 pub targa_at : (bytes : List ℕ) (n : ℕ) (image : Image) → n ≤ length bytes → run at_start (take n bytes) ≡ whole image → TargaMeans bytes image
-targa_at bytes n image h e = (n, h, subst (StandsForTarga (take n bytes)) e (stands (take n bytes)))
+targa_at bytes n image h e = (n, h, subst (RepresentsTarga (take n bytes)) e (stands (take n bytes)))
 
 pub fault_at : (bytes : List ℕ) (n : ℕ) (fault : Fault) → n ≤ length bytes → run at_start (take n bytes) ≡ failed fault → IsTargaFault bytes fault n
-fault_at bytes n fault h e = inl (is_least bytes fault n h (subst (StandsForTarga (take n bytes)) e (stands (take n bytes))))
+fault_at bytes n fault h e = inl (is_least bytes fault n h (subst (RepresentsTarga (take n bytes)) e (stands (take n bytes))))
 
 pub short_at : (bytes : List ℕ) → IsLive (run at_start bytes) → IsTargaFault bytes ImageShort (length bytes)
 short_at bytes l = inr (refl, refl, live_open bytes l)

@@ -5,17 +5,17 @@ use Rattle.std.proofs.lemmas.Bool.Decides.{nat_tests}
 use Rattle.std.proofs.lemmas.List.{append_assoc, append-nil, length-append, length-take-le, take_all}
 use Rattle.std.proofs.Math.Seq.{take-append-add}
 use Rattle.jpg_spec.specs.Lists.{all_of}
-use Rattle.jpg_spec.proofs.Common.{both, le_of, lt_yes, lt_no, same_of}
+use Rattle.jpg_spec.proofs.Basics.Common.{both, le_of, lt_yes, lt_no, same_of}
 use Rattle.jpg_spec_image.specs.Images.{Image, is_side, are_few_pixels}
 use Rattle.jpg_spec_image.specs.TargaFile.{Packet, copies, pixels, identifier_length, is_packed, pixel_size, targa_kind, targa_width, targa_height, targa_fault, targa_image, is_left_out_targa, has_targa_sides, is_packet, packet_text, packet_bytes, last_text, IsPackedBody, IsBodyOf, IsTargaBody, IsTargaFront}
 use Rattle.jpg_spec_image.specs.TargaFaults.{IsWholeTarga, ShowsTargaFault}
 use Rattle.jpg_spec_image.specs.TargaSteps.{TargaState, in_head, in_identifier, at_packet, in_copies, in_pixels, whole, failed, lost, at_start, fault_or, total, size, grown, body_begun, identifier_left, packet_byte, with_copies, copied, copies_so_far, pixels_so_far, step, run}
-use Rattle.jpg_spec_image.proofs.ImageBodyRuns.{side_some, row_some}
+use Rattle.jpg_spec_image.proofs.ImageBodyRuns.{side_some, take_in_row}
 use Rattle.jpg_spec.specs.declared.fault.Fault.{Fault}
 use Rattle.jpg_spec.specs.declared.fault.Fault.TheVariants.{ImageHeader, ImageUnsupported}
 use Rattle.jpg_spec_image.specs.declared.image.ImageKind.{ImageKind}
 use Rattle.jpg_spec_image.specs.declared.image.ImageKind.TheVariants.{Gray, Rgb}
-use Rattle.jpg_spec.proofs.PlacesSome.{product_some}
+use Rattle.jpg_spec.proofs.Places.PlacesSome.{product_some}
 
 pub run_join : (s : TargaState) (xs ys : List ℕ) → run s (xs ++ ys) ≡ run (run s xs) ys
 unfolding run
@@ -45,7 +45,7 @@ right_header head e = by (is_left_out_targa head) (has_targa_sides head) refl re
 pub total_some : (head : List ℕ) → targa_fault head ≡ None → 1 ≤ total head
 total_some head e =
     let r = right_header head e in
-    row_some (targa_kind head) (targa_width head) (targa_height head) (side_some (targa_width head) r.wide) (side_some (targa_height head) r.high)
+    take_in_row (targa_kind head) (targa_width head) (targa_height head) (side_some (targa_width head) r.wide) (side_some (targa_height head) r.high)
 
 kind_some : (kind : ImageKind) → 1 ≤ pixel_size kind
 kind_some Gray = omega arith

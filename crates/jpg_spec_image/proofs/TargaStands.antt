@@ -6,12 +6,12 @@ use Rattle.std.proofs.lemmas.Bool.Decides.{nat_tests}
 use Rattle.std.proofs.lemmas.List.{append_assoc, append-nil, length-append, length-replicate, length-take-le, take_all, take-append-le, get_or_at, get_or_append_left}
 use Rattle.std.proofs.lemmas.List.Concat.{flat_map-append}
 use Rattle.std.proofs.Math.Seq.{take-append_seam}
-use Rattle.jpg_spec.proofs.Common.{and_intro, lt_of, not_lt_of, same_of}
-use Rattle.jpg_spec.proofs.TextRuns.{all_join, one_of}
+use Rattle.jpg_spec.proofs.Basics.Common.{and_intro, lt_of, not_lt_of, same_of}
+use Rattle.jpg_spec.proofs.Texts.TextRuns.{all_join, one_of}
 use Rattle.jpg_spec_image.specs.TargaFile.{Packet, copies, pixels, identifier_length, is_packed, targa_fault, targa_image, is_packet, packet_text, packet_bytes, last_text, IsPackedBody, IsBodyOf, IsTargaFront}
 use Rattle.jpg_spec_image.specs.TargaFaults.{IsWholeTarga}
 use Rattle.jpg_spec_image.specs.TargaSteps.{TargaState, in_head, in_identifier, at_packet, in_copies, in_pixels, whole, failed, past, lost, at_start, fault_or, total, size, body_begun, identifier_left, head_so_far, packet_byte, with_copies, copied, copies_so_far, pixels_so_far, step, run}
-use Rattle.jpg_spec_image.specs.TargaReading.{StandsForTarga, IsAnswered, IsPastTarga, InIdentifier, InPackets, InCopies, InPacket, InRaw, InPixels, HasNoByte}
+use Rattle.jpg_spec_image.specs.TargaReading.{RepresentsTarga, IsAnswered, IsPastTarga, InIdentifier, InPackets, InCopies, InPacket, InRaw, InPixels, HasNoByte}
 use Rattle.jpg_spec_image.proofs.TargaRuns.{HasCount, total_some, size_some, some_pixels, one_more}
 use Rattle.jpg_spec.specs.declared.fault.Fault.{Fault}
 
@@ -20,13 +20,13 @@ zero_is n e = grind (arith, nat_tests)
 
 -- THE HEADER, AND THE IDENTIFIER
 
-begun_stands : (bytes head : List ℕ) → IsTargaFront head bytes → StandsForTarga bytes (body_begun head)
+begun_stands : (bytes head : List ℕ) → IsTargaFront head bytes → RepresentsTarga bytes (body_begun head)
 begun_stands bytes head f = by (is_packed head) refl
   where
     some : 1 ≤ total head
     some = total_some head f.right
 
-    by : (v : Bool) → is_packed head ≡ v → StandsForTarga bytes (cond v (at_packet head []) (in_pixels head [] (total head)))
+    by : (v : Bool) → is_packed head ≡ v → RepresentsTarga bytes (cond v (at_packet head []) (in_pixels head [] (total head)))
     by true p = record { front = bytes; packets = []; header = f; packed = p; cut = sym (append-nil bytes); formed = refl; same = refl; room = some }
     by false p = record {
       where_it_is = inr (record { front = bytes; header = f; raw = p; cut = sym (append-nil bytes); long = omega arith });
@@ -40,38 +40,38 @@ record BehindHeader (bytes head part : List ℕ) (left : ℕ) : Type 0 where
   right : targa_fault head ≡ None
   identifier_long : length part + left ≡ identifier_length head
 
-identifier_stands : (bytes head part : List ℕ) (left : ℕ) → BehindHeader bytes head part left → StandsForTarga bytes (identifier_left head left)
+identifier_stands : (bytes head part : List ℕ) (left : ℕ) → BehindHeader bytes head part left → RepresentsTarga bytes (identifier_left head left)
 identifier_stands bytes head part left h = by (left == 0) refl
   where
-    by : (v : Bool) → (left == 0) ≡ v → StandsForTarga bytes (cond v (body_begun head) (in_identifier head left))
+    by : (v : Bool) → (left == 0) ≡ v → RepresentsTarga bytes (cond v (body_begun head) (in_identifier head left))
     by true p =
         let none = same_of left 0 p in
         let l = h.identifier_long in
         begun_stands bytes head (record { identifier = part; cut = h.cut; long = h.long; right = h.right; identifier_long = omega (arith, l, none) })
     by false p = record { part = part; cut = h.cut; long = h.long; right = h.right; identifier_long = h.identifier_long; room = zero_is left p }
 
-head_stands : (bytes head : List ℕ) (b : ℕ) → bytes ≡ head → length head < 18 → StandsForTarga (bytes ++ b ∷ []) (head_so_far (head ++ b ∷ []))
+head_stands : (bytes head : List ℕ) (b : ℕ) → bytes ≡ head → length head < 18 → RepresentsTarga (bytes ++ b ∷ []) (head_so_far (head ++ b ∷ []))
 head_stands bytes head b e short = by (nat_lt (length (head ++ b ∷ [])) 18) refl
   where
     new : bytes ++ b ∷ [] ≡ head ++ b ∷ []
     new = ap (λ x. x ++ b ∷ []) e
 
     by_fault : (o : Option Fault) → targa_fault (head ++ b ∷ []) ≡ o → length (head ++ b ∷ []) ≡ 18
-        → StandsForTarga (bytes ++ b ∷ []) (fault_or o (identifier_left (head ++ b ∷ []) (identifier_length (head ++ b ∷ []))))
+        → RepresentsTarga (bytes ++ b ∷ []) (fault_or o (identifier_left (head ++ b ∷ []) (identifier_length (head ++ b ∷ []))))
     by_fault (Some fault) f l = (ap length new ∙ l, ap targa_fault new ∙ f)
     by_fault None f l =
         identifier_stands (bytes ++ b ∷ []) (head ++ b ∷ []) [] (identifier_length (head ++ b ∷ []))
         (record { cut = new ∙ sym (append-nil (head ++ b ∷ [])); long = l; right = f; identifier_long = omega arith })
 
     by : (v : Bool) → nat_lt (length (head ++ b ∷ [])) 18 ≡ v
-        → StandsForTarga (bytes ++ b ∷ []) (cond v (in_head (head ++ b ∷ [])) (fault_or (targa_fault (head ++ b ∷ [])) (identifier_left (head ++ b ∷ []) (identifier_length (head ++ b ∷ [])))))
+        → RepresentsTarga (bytes ++ b ∷ []) (cond v (in_head (head ++ b ∷ [])) (fault_or (targa_fault (head ++ b ∷ [])) (identifier_left (head ++ b ∷ []) (identifier_length (head ++ b ∷ [])))))
     by true p = (new, lt_of (length (head ++ b ∷ [])) 18 p)
     by false p =
         let l = length-append head (b ∷ []) in
         let g = not_lt_of (length (head ++ b ∷ [])) 18 p in
         by_fault (targa_fault (head ++ b ∷ [])) refl (omega (arith, l, g, short))
 
-more_identifier : (bytes head : List ℕ) (left b : ℕ) → InIdentifier bytes head left → StandsForTarga (bytes ++ b ∷ []) (identifier_left head (left - 1))
+more_identifier : (bytes head : List ℕ) (left b : ℕ) → InIdentifier bytes head left → RepresentsTarga (bytes ++ b ∷ []) (identifier_left head (left - 1))
 more_identifier bytes head left b i =
     let l = length-append i.part (b ∷ []) in
     let long = i.identifier_long in
@@ -154,13 +154,13 @@ no_byte bytes b h =
     let e : slice_index (bytes ++ b ∷ []) (length bytes) ≡ b = get_or_at bytes b [] 0 (length bytes) refl in
     (length bytes, omega (arith, l), omega (arith, e, h))
 
-packet_stands : (bytes head before : List ℕ) (b : ℕ) → InPackets bytes head before [] → StandsForTarga (bytes ++ b ∷ []) (packet_byte head before b)
+packet_stands : (bytes head before : List ℕ) (b : ℕ) → InPackets bytes head before [] → RepresentsTarga (bytes ++ b ∷ []) (packet_byte head before b)
 packet_stands bytes head before b i = by (nat_lt b 128) (nat_lt b 256) refl refl
   where
     new : InPackets (bytes ++ b ∷ []) head before (b ∷ [])
     new = part_more bytes head before [] b i
 
-    by : (u v : Bool) → nat_lt b 128 ≡ u → nat_lt b 256 ≡ v → StandsForTarga (bytes ++ b ∷ []) (cond u (in_pixels head before ((b + 1) * size head)) (cond v (in_copies head before (b - 127) []) lost))
+    by : (u v : Bool) → nat_lt b 128 ≡ u → nat_lt b 256 ≡ v → RepresentsTarga (bytes ++ b ∷ []) (cond u (in_pixels head before ((b + 1) * size head)) (cond v (in_copies head before (b - 127) []) lost))
     by true v p q =
         let h = lt_of b 128 p in
         let c : HasCount (b + 1) = record { some = omega arith; few = omega (arith, h) } in
@@ -194,7 +194,7 @@ packet_stands bytes head before b i = by (nat_lt b 128) (nat_lt b 256) refl refl
 -- A PIXEL TO BE COPIED
 
 copied_stands : (bytes head before : List ℕ) (count : ℕ) (pixel : List ℕ) → InPackets bytes head before ((127 + count) ∷ pixel) → HasCount count → length pixel ≡ size head
-    → StandsForTarga bytes (copied head (with_copies head before count pixel))
+    → RepresentsTarga bytes (copied head (with_copies head before count pixel))
 copied_stands bytes head before count pixel i c long = by (cases_lt (length all) (total head))
   where
     p : Packet
@@ -207,7 +207,7 @@ copied_stands bytes head before count pixel i c long = by (cases_lt (length all)
     formed = is_counted count (length pixel) (size head) c long
 
     done : (v : Bool) → nat_lt (length (take (total head) all)) (total head) ≡ v
-        → StandsForTarga bytes (cond v (at_packet head (take (total head) all)) (whole (targa_image head (take (total head) all))))
+        → RepresentsTarga bytes (cond v (at_packet head (take (total head) all)) (whole (targa_image head (take (total head) all))))
     done true e =
         let h : length all < total head = shorter (lt_of (length (take (total head) all)) (total head) e) in
         subst (λ x. InPackets bytes head x []) (sym (take_all (total head) all (omega (arith, h)))) (packet_more bytes head before (copies count pixel) i formed h)
@@ -219,17 +219,17 @@ copied_stands bytes head before count pixel i c long = by (cases_lt (length all)
         longer : total head ≤ length (take (total head) all) → total head ≤ length all
         longer l = ⊎_elim (λ (a : length all < total head). (let k = ap length (take_all (total head) all (omega (arith, a))) in absurd (omega (arith, k, l, a)))) (λ (a : total head ≤ length all). a) (cases_lt (length all) (total head))
 
-    by : (length all < total head) ⊎ (total head ≤ length all) → StandsForTarga bytes (copied head (with_copies head before count pixel))
+    by : (length all < total head) ⊎ (total head ≤ length all) → RepresentsTarga bytes (copied head (with_copies head before count pixel))
     by x = done (nat_lt (length (take (total head) all)) (total head)) refl
 
-copies_stand : (bytes head before : List ℕ) (count : ℕ) (pixel : List ℕ) (b : ℕ) → InCopies bytes head before count pixel → StandsForTarga (bytes ++ b ∷ []) (copies_so_far head before count (pixel ++ b ∷ []))
+copies_stand : (bytes head before : List ℕ) (count : ℕ) (pixel : List ℕ) (b : ℕ) → InCopies bytes head before count pixel → RepresentsTarga (bytes ++ b ∷ []) (copies_so_far head before count (pixel ++ b ∷ []))
 copies_stand bytes head before count pixel b i = by (nat_lt (length (pixel ++ b ∷ [])) (size head)) refl
   where
     new : InPackets (bytes ++ b ∷ []) head before ((127 + count) ∷ (pixel ++ b ∷ []))
     new = part_more bytes head before ((127 + count) ∷ pixel) b i.packets
 
     by : (v : Bool) → nat_lt (length (pixel ++ b ∷ [])) (size head) ≡ v
-        → StandsForTarga (bytes ++ b ∷ []) (cond v (in_copies head before count (pixel ++ b ∷ [])) (copied head (with_copies head before count (pixel ++ b ∷ []))))
+        → RepresentsTarga (bytes ++ b ∷ []) (cond v (in_copies head before count (pixel ++ b ∷ [])) (copied head (with_copies head before count (pixel ++ b ∷ []))))
     by true p = record { packets = new; some = i.some; few = i.few; unfinished = lt_of (length (pixel ++ b ∷ [])) (size head) p }
     by false p =
         let l = length-append pixel (b ∷ []) in
@@ -240,7 +240,7 @@ copies_stand bytes head before count pixel b i = by (nat_lt (length (pixel ++ b 
 -- PIXELS
 
 -- raw pixels, with one more byte
-raw_stands : (bytes head done : List ℕ) (left b : ℕ) → InRaw bytes head done left → 0 < left → StandsForTarga (bytes ++ b ∷ []) (pixels_so_far head (done ++ b ∷ []) (left - 1))
+raw_stands : (bytes head done : List ℕ) (left b : ℕ) → InRaw bytes head done left → 0 < left → RepresentsTarga (bytes ++ b ∷ []) (pixels_so_far head (done ++ b ∷ []) (left - 1))
 raw_stands bytes head done left b r some = by (nat_lt (length (done ++ b ∷ [])) (total head)) refl (left - 1 == 0) refl
   where
     long : length (done ++ b ∷ []) + (left - 1) ≡ total head
@@ -254,7 +254,7 @@ raw_stands bytes head done left b r some = by (nat_lt (length (done ++ b ∷ [])
     all false e l = (refl, l)
 
     by : (v : Bool) → nat_lt (length (done ++ b ∷ [])) (total head) ≡ v → (z : Bool) → (left - 1 == 0) ≡ z
-        → StandsForTarga (bytes ++ b ∷ []) (cond v (cond z (at_packet head (done ++ b ∷ [])) (in_pixels head (done ++ b ∷ []) (left - 1))) (whole (targa_image head (done ++ b ∷ []))))
+        → RepresentsTarga (bytes ++ b ∷ []) (cond v (cond z (at_packet head (done ++ b ∷ [])) (in_pixels head (done ++ b ∷ []) (left - 1))) (whole (targa_image head (done ++ b ∷ []))))
     by true p true q =
         let h = lt_of (length (done ++ b ∷ [])) (total head) p in
         let n = same_of (left - 1) 0 q in
@@ -296,7 +296,7 @@ part_last bytes head done left next all =
     let formed = is_counted i.count (length behind) (i.count * size head) (record { some = i.some; few = i.few }) (omega (arith, l, z, long)) in
     subst (λ x. IsWholeTarga bytes (targa_image head x)) bytes_are (packet_last bytes head i.before p (subst (InPackets bytes head i.before) text i.packets) formed (omega (arith, b, a, d, l, all)))
 
-part_stands : (bytes head done : List ℕ) (left : ℕ) → InPart bytes head done left → StandsForTarga bytes (pixels_so_far head done left)
+part_stands : (bytes head done : List ℕ) (left : ℕ) → InPart bytes head done left → RepresentsTarga bytes (pixels_so_far head done left)
 part_stands bytes head done left next = by (nat_lt (length done) (total head)) refl (left == 0) refl
   where
     ended : InPacket bytes head done left → left ≡ 0 → length done < total head → InPackets bytes head done []
@@ -306,7 +306,7 @@ part_stands bytes head done left next = by (nat_lt (length done) (total head)) r
         subst (λ x. InPackets bytes head x []) i.so_far (packet_more bytes head i.before (pixels i.count i.part) i.packets f (subst (λ x. length x < total head) (sym i.so_far) h))
 
     by : (v : Bool) → nat_lt (length done) (total head) ≡ v → (z : Bool) → (left == 0) ≡ z
-        → StandsForTarga bytes (cond v (cond z (at_packet head done) (in_pixels head done left)) (whole (targa_image head done)))
+        → RepresentsTarga bytes (cond v (cond z (at_packet head done) (in_pixels head done left)) (whole (targa_image head done)))
     by true q true r = ended next.is (same_of left 0 r) (lt_of (length done) (total head) q)
     by true q false r = record { where_it_is = inl next.is; some = zero_is left r; room = lt_of (length done) (total head) q }
     by false q z r =
@@ -314,10 +314,10 @@ part_stands bytes head done left next = by (nat_lt (length done) (total head)) r
         let few = next.few in
         part_last bytes head done left next (omega (arith, g, few))
 
-pixels_stand : (bytes head done : List ℕ) (left b : ℕ) → InPixels bytes head done left → StandsForTarga (bytes ++ b ∷ []) (pixels_so_far head (done ++ b ∷ []) (left - 1))
+pixels_stand : (bytes head done : List ℕ) (left b : ℕ) → InPixels bytes head done left → RepresentsTarga (bytes ++ b ∷ []) (pixels_so_far head (done ++ b ∷ []) (left - 1))
 pixels_stand bytes head done left b i = by i.where_it_is
   where
-    by : InPacket bytes head done left ⊎ InRaw bytes head done left → StandsForTarga (bytes ++ b ∷ []) (pixels_so_far head (done ++ b ∷ []) (left - 1))
+    by : InPacket bytes head done left ⊎ InRaw bytes head done left → RepresentsTarga (bytes ++ b ∷ []) (pixels_so_far head (done ++ b ∷ []) (left - 1))
     by (inl k) =
         let l = length-append k.part (b ∷ []) in
         let m = length-append done (b ∷ []) in
@@ -358,7 +358,7 @@ still_none bytes b (n, h, s) =
     let e = get_or_append_left bytes (b ∷ []) 0 n h in
     (n, omega (arith, l, h), omega (arith, e, s))
 
-pub byte_stands : (bytes : List ℕ) (s : TargaState) (b : ℕ) → StandsForTarga bytes s → StandsForTarga (bytes ++ b ∷ []) (step s b)
+pub byte_stands : (bytes : List ℕ) (s : TargaState) (b : ℕ) → RepresentsTarga bytes s → RepresentsTarga (bytes ++ b ∷ []) (step s b)
 byte_stands bytes (in_head head) b (e, short) = head_stands bytes head b e short
 byte_stands bytes (in_identifier head left) b i = more_identifier bytes head left b i
 byte_stands bytes (at_packet head done) b i = packet_stands bytes head done b i
@@ -369,10 +369,10 @@ byte_stands bytes (failed fault) b s = now_past bytes b (inr (fault, s))
 byte_stands bytes past b s = still_past bytes b s
 byte_stands bytes lost b s = still_none bytes b s
 
-pub bytes_stand : (done : List ℕ) (s : TargaState) (bytes : List ℕ) → StandsForTarga done s → StandsForTarga (done ++ bytes) (run s bytes)
+pub bytes_stand : (done : List ℕ) (s : TargaState) (bytes : List ℕ) → RepresentsTarga done s → RepresentsTarga (done ++ bytes) (run s bytes)
 unfolding run
-bytes_stand done s [] h = subst (λ x. StandsForTarga x s) (sym (append-nil done)) h
-bytes_stand done s (b ∷ bytes) h = subst (λ x. StandsForTarga x (run (step s b) bytes)) (append_assoc done (b ∷ []) bytes) (bytes_stand (done ++ b ∷ []) (step s b) bytes (byte_stands done s b h))
+bytes_stand done s [] h = subst (λ x. RepresentsTarga x s) (sym (append-nil done)) h
+bytes_stand done s (b ∷ bytes) h = subst (λ x. RepresentsTarga x (run (step s b) bytes)) (append_assoc done (b ∷ []) bytes) (bytes_stand (done ++ b ∷ []) (step s b) bytes (byte_stands done s b h))
 
-pub stands : (bytes : List ℕ) → StandsForTarga bytes (run at_start bytes)
+pub stands : (bytes : List ℕ) → RepresentsTarga bytes (run at_start bytes)
 stands bytes = bytes_stand [] at_start bytes (refl, omega arith)

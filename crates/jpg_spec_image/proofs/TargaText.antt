@@ -5,7 +5,7 @@ use Rattle.std.proofs.lemmas.List.{append-nil, length-append, take_all, take_at,
 use Rattle.std.proofs.lemmas.List.Elements.{All-head, All-tail}
 use Rattle.std.proofs.lemmas.List.Concat.{flat_map-append}
 use Rattle.jpg_spec.specs.Lists.{below, joined}
-use Rattle.jpg_spec.proofs.Common.{and_intro, both, le_of}
+use Rattle.jpg_spec.proofs.Basics.Common.{and_intro, both, le_of}
 use Rattle.jpg_spec_image.specs.Images.{Image, sample_count, is_side, are_few_pixels}
 use Rattle.jpg_spec_image.specs.ImageText.{row_bytes, turned_round, file_samples, targa_header, end_text}
 use Rattle.jpg_spec_image.specs.TargaFile.{identifier_length, is_packed, is_from_top, pixel_size, targa_kind, targa_width, targa_height, targa_info, targa_image, is_left_out_targa, has_targa_sides, IsBodyOf, IsTargaFront}

@@ -59,8 +59,8 @@ colour palette n = slice_index palette (4 * n + 2) ∷ slice_index palette (4 * 
 
 -- WHAT IS WRONG with a header
 
-abbrev pub is_unread : List ℕ → Bool
-is_unread head = not (header_size head == 40) || (not (is_among (bmp_depth head) (8 ∷ 24 ∷ [])) || not (compression head == 0))
+abbrev pub has_wrong_precision : List ℕ → Bool
+has_wrong_precision head = not (header_size head == 40) || (not (is_among (bmp_depth head) (8 ∷ 24 ∷ [])) || not (compression head == 0))
 
 abbrev pub is_forbidden : List ℕ → Bool
 is_forbidden head =
@@ -68,7 +68,7 @@ is_forbidden head =
     || (not (planes head == 1) || (bmp_depth head == 8 && nat_lt 256 (colours_used head) || nat_lt (bmp_offset head) (54 + palette_bytes head)))
 
 abbrev pub bmp_fault : List ℕ → Option Fault
-bmp_fault head = if is_unread head then Some ImageUnsupported else if is_forbidden head then Some ImageHeader else None
+bmp_fault head = if has_wrong_precision head then Some ImageUnsupported else if is_forbidden head then Some ImageHeader else None
 
 -- ROWS, from the bottom up, each a multiple of four bytes
 

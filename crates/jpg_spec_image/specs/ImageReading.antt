@@ -35,14 +35,14 @@ pub record InBody (bytes : List ℕ) (head : ImageHead) (body : List ℕ) : Type
   pub right : are_right (body_of head) 0 body ≡ true
   pub room : length body < (body_of head).count
 
-abbrev pub StandsForImage : List ℕ → ImageState → Type 0
-StandsForImage bytes at_start = bytes ≡ []
-StandsForImage bytes (behind_first first) = (bytes ≡ first ∷ []) × ((first == 80 || first == 66) ≡ true)
-StandsForImage bytes (in_gap format numbers some commented) = InGap bytes format numbers some commented
-StandsForImage bytes (in_number format numbers n) = (m : ℕ) × AfterNumber bytes format numbers m [] × (n ≡ capped m)
-StandsForImage bytes (in_bmp_head head) = (bytes ≡ head) × (length head < 54) × (begins_with (66 ∷ 77 ∷ []) head ≡ true)
-StandsForImage bytes (in_bmp_front head palette passed) = InFront bytes head palette passed
-StandsForImage bytes (in_body head body) = InBody bytes head body
-StandsForImage bytes (whole image) = IsWholeImage bytes image
-StandsForImage bytes (failed fault) = ShowsImageFault fault bytes
-StandsForImage bytes past = IsPast bytes
+abbrev pub RepresentsImage : List ℕ → ImageState → Type 0
+RepresentsImage bytes at_start = bytes ≡ []
+RepresentsImage bytes (behind_first first) = (bytes ≡ first ∷ []) × ((first == 80 || first == 66) ≡ true)
+RepresentsImage bytes (in_gap format numbers some commented) = InGap bytes format numbers some commented
+RepresentsImage bytes (in_number format numbers n) = (m : ℕ) × AfterNumber bytes format numbers m [] × (n ≡ capped m)
+RepresentsImage bytes (in_bmp_head head) = (bytes ≡ head) × (length head < 54) × (begins_with (66 ∷ 77 ∷ []) head ≡ true)
+RepresentsImage bytes (in_bmp_front head palette passed) = InFront bytes head palette passed
+RepresentsImage bytes (in_body head body) = InBody bytes head body
+RepresentsImage bytes (whole image) = IsWholeImage bytes image
+RepresentsImage bytes (failed fault) = ShowsImageFault fault bytes
+RepresentsImage bytes past = IsPast bytes

@@ -54,8 +54,8 @@ is_gap gap = (is_gap_so_far gap && not (ends_in_comment false gap)) && not (is_e
 abbrev pub is_number_word : NumberWord → Bool
 is_number_word w = is_gap w.gap && (not (is_empty w.digits) && all_of is_digit w.digits)
 
-abbrev pub number_told : NumberWord → ℕ
-number_told w = digits_from 0 w.digits
+abbrev pub parsed_number : NumberWord → ℕ
+parsed_number w = digits_from 0 w.digits
 
 -- the meaning of the first two
 abbrev pub pnm_info : ℕ → List ℕ → ImageInfo
@@ -109,7 +109,7 @@ pub record AfterNumbers (bytes : List ℕ) (format : ℕ) (numbers : List ℕ) (
   pub cut : bytes ≡ 80 ∷ format ∷ (flat_map number_text words ++ tail)
   pub known : is_read format ≡ true
   pub formed : all_of is_number_word words ≡ true
-  pub told : map number_told words ≡ numbers
+  pub told : map parsed_number words ≡ numbers
   pub right : are_right_numbers format [] numbers ≡ true
   pub due : is_number_due format numbers ≡ true
 
@@ -118,7 +118,7 @@ pub record AfterNumber (bytes : List ℕ) (format : ℕ) (numbers : List ℕ) (n
   pub word : NumberWord
   pub before : AfterNumbers bytes format numbers (number_text word ++ after)
   pub formed : is_number_word word ≡ true
-  pub told : number_told word ≡ n
+  pub told : parsed_number word ≡ n
 
 -- It is the last one.
 pub record AfterLast (bytes : List ℕ) (format : ℕ) (numbers : List ℕ) (after : List ℕ) : Type 0 where

@@ -9,7 +9,7 @@ use Rattle.jpg_spec.specs.FileMeaning.{scan_after}
 use Rattle.jpg_spec_image.specs.ImageText.{end_text}
 use Rattle.jpg_spec_image.specs.Pixels.{info, out_fault, pixels}
 use Rattle.jpg_spec_image.specs.Strips.{IsCovered, mcu_rows, needed}
-use Rattle.jpg_spec.specs.RowsTold.{BeginsScanOfAll, CompletesRows, TellsBlocks, TellsRows, row_places, picture_so_far}
+use Rattle.jpg_spec.specs.RowsParsed.{BeginsScanOfAll, CompletesRows, TellsBlocks, TellsRows, row_places, picture_so_far}
 use Rattle.jpg_spec_image.specs.RowsShown.{rows_text}
 use Rattle.jpg_spec_image.specs.declared.image.EndKind.{EndKind}
 use Rattle.jpg_spec_image.specs.declared.image.EndKind.TheVariants.{Pnm, Bmp, Targa}

@@ -7,7 +7,7 @@ use Rattle.jpg_spec.specs.Markers.{Segment}
 use Rattle.jpg_spec_image.specs.Pixels.{info, pixels}
 use Rattle.jpg_spec_image.specs.Strips.{mcu_rows, needed, ready}
 use Rattle.jpg_spec_image.specs.ImageText.{first_piece, row_piece}
-use Rattle.jpg_spec.specs.RowsTold.{BeginsScanOfAll, CompletesRows, picture_so_far}
+use Rattle.jpg_spec.specs.RowsParsed.{BeginsScanOfAll, CompletesRows, picture_so_far}
 use Rattle.jpg_spec.specs.declared.frame.Limits.{Limits}
 use Rattle.jpg_spec_image.specs.declared.image.EndKind.{EndKind}
 

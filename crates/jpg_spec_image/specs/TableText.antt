@@ -3,7 +3,7 @@
 -- space around them.
 use Rattle.std.specs.Prelude.{◌≡◌, ℕ, ◌*◌, ◌/◌, ◌≤◌, Bool, true, false, not, nat_le, ◌&&◌, ◌||◌, ◌==◌, List, [], ◌∷◌, length, map, take, drop, slice_get, Option, None, Some, IfSome, Result}
 use Rattle.jpg_spec.specs.Lists.{all_of, is_empty, below}
-use Rattle.jpg_spec.specs.NumberTexts.{is_digit, digits_from, without_comments, is_space, NumberWord, NumbersWord, numbers_text, numbers_told}
+use Rattle.jpg_spec.specs.NumberTexts.{is_digit, digits_from, without_comments, is_space, NumberWord, NumbersWord, numbers_text, parsed_numbers}
 use Rattle.jpg_spec.specs.Segments.{QuantTable}
 use Rattle.jpg_spec.specs.TextForms.{TextForm, Tells}
 use Rattle.jpg_spec_image.specs.Quality.{in_zigzag, luminance_table, chrominance_table, quality_scale, scaled_table}
@@ -46,7 +46,7 @@ pub record SpellsTables (text : List ℕ) (tables : List QuantTable) : Type 0 wh
   pub word : NumbersWord
   pub formed : are_tables word ≡ true
   pub spelled : without_comments false text ≡ numbers_text word
-  pub told : tables_of (numbers_told word) ≡ tables
+  pub told : tables_of (parsed_numbers word) ≡ tables
 
 -- the form of tables
 abbrev pub tables_form : TextForm (List QuantTable)

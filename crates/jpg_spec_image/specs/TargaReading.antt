@@ -70,13 +70,13 @@ pub record InPixels (bytes head pixels : List ℕ) (left : ℕ) : Type 0 where
 abbrev pub HasNoByte : List ℕ → Type 0
 HasNoByte bytes = (n : ℕ) × (n < length bytes) × (256 ≤ slice_index bytes n)
 
-abbrev pub StandsForTarga : List ℕ → TargaState → Type 0
-StandsForTarga bytes (in_head head) = (bytes ≡ head) × (length head < 18)
-StandsForTarga bytes (in_identifier head left) = InIdentifier bytes head left
-StandsForTarga bytes (at_packet head pixels) = InPackets bytes head pixels []
-StandsForTarga bytes (in_copies head pixels count pixel) = InCopies bytes head pixels count pixel
-StandsForTarga bytes (in_pixels head pixels left) = InPixels bytes head pixels left
-StandsForTarga bytes (whole image) = IsWholeTarga bytes image
-StandsForTarga bytes (failed fault) = ShowsTargaFault fault bytes
-StandsForTarga bytes past = IsPastTarga bytes
-StandsForTarga bytes lost = HasNoByte bytes
+abbrev pub RepresentsTarga : List ℕ → TargaState → Type 0
+RepresentsTarga bytes (in_head head) = (bytes ≡ head) × (length head < 18)
+RepresentsTarga bytes (in_identifier head left) = InIdentifier bytes head left
+RepresentsTarga bytes (at_packet head pixels) = InPackets bytes head pixels []
+RepresentsTarga bytes (in_copies head pixels count pixel) = InCopies bytes head pixels count pixel
+RepresentsTarga bytes (in_pixels head pixels left) = InPixels bytes head pixels left
+RepresentsTarga bytes (whole image) = IsWholeTarga bytes image
+RepresentsTarga bytes (failed fault) = ShowsTargaFault fault bytes
+RepresentsTarga bytes past = IsPastTarga bytes
+RepresentsTarga bytes lost = HasNoByte bytes

@@ -8,7 +8,7 @@ ghost use Rattle.jpg_spec.specs.Geometry.{Frame as Numbers};
 ghost use Rattle.jpg_spec.specs.ScanRows.{first_rows, scan_row};
 ghost use Rattle.jpg_spec_image.specs.Pixels.{out_fault};
 ghost use Rattle.jpg_spec_image.specs.Strips.{mcu_rows};
-ghost use Rattle.jpg_spec.specs.RowsTold.{TellsRows, CompletesRows, BeginsScanOfAll, row_places, picture_so_far};
+ghost use Rattle.jpg_spec.specs.RowsParsed.{TellsRows, CompletesRows, BeginsScanOfAll, row_places, picture_so_far};
 ghost use Rattle.jpg_spec_image.specs.RowsShown.{rows_text, ShowsRows};
 ghost use Rattle.jpg_spec_image.specs.Laws.{AreNotShownAlike};
 ghost use Rattle.jpg_spec_image.specs.RowLaws.{TellsEnough, HasBegunPicture, begun_picture, begun_rows, IsShownInRows, CompletesAll, early_text, TellsTwice, fewer_text, more_text, GoesOnFrom, all_rows_text, is_by_rows, so_far_in, text_in};

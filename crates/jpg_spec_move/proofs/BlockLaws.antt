@@ -6,7 +6,7 @@ use Rattle.std.proofs.lemmas.Simd.{pick_l_whole}
 use Rattle.jpg_spec.specs.Zigzag.{zigzag}
 use Rattle.jpg_spec_move.specs.Moves.{mirrored, mirrored_down}
 use Rattle.jpg_spec.specs.Transposed.{exchanged, transposed}
-use Rattle.jpg_spec.proofs.MirroredBlocks.{IsBlock}
+use Rattle.jpg_spec.proofs.Writing.MirroredBlocks.{IsBlock}
 use Rattle.jpg_spec_move.proofs.MirroredBlocks.{mirrored_block, mirrored_twice}
 
 -- 64 numbers, given by a function of their place

@@ -7,8 +7,8 @@ use Rattle.jpg_spec_move.specs.Cropped.{is_area_of, cropped_side, cropped_frame,
 use Rattle.jpg_spec_move.specs.Laws.{HasArea}
 use Rattle.jpg_spec_move.specs.Moved.{Choice, moved_frame, grayed_frame, transformed_frame, uncropped_frame}
 use Rattle.jpg_spec_move.specs.declared.area.Area.{Area}
-use Rattle.jpg_spec.proofs.Common.{both, le_of, lt_of}
-use Rattle.jpg_spec.proofs.MovedFrames.{across_low, down_low}
+use Rattle.jpg_spec.proofs.Basics.Common.{both, le_of, lt_of}
+use Rattle.jpg_spec.proofs.Writing.MovedFrames.{across_low, down_low}
 use Rattle.jpg_spec_move.proofs.MovedFrames.{grayed_is, sum_mono, transformed_is, trimmed_is, up_mono}
 
 -- AN AREA that is inside

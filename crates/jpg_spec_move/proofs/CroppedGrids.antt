@@ -6,7 +6,7 @@ use Rattle.jpg_spec.specs.Grids.{Grids, frame_grids, picture_grids}
 use Rattle.jpg_spec.specs.Meaning.{Meaning, most_across, most_down, picture_frame}
 use Rattle.jpg_spec_move.specs.Cropped.{columns_before, columns_cropped, cropped, cropped_frame, cropped_side, rows_before, rows_cropped}
 use Rattle.jpg_spec_move.specs.declared.area.Area.{Area}
-use Rattle.jpg_spec.proofs.FrameFound.{real_side, factor_across, factor_down}
+use Rattle.jpg_spec.proofs.Headers.FrameFound.{real_side, factor_across, factor_down}
 use Rattle.jpg_spec_move.proofs.CroppedFrames.{IsAreaOf}
 use Rattle.jpg_spec_move.proofs.MovedGrids.{IsIn, from_grids, part_across, part_down, real_mono, to_grids}
 use Rattle.jpg_spec_move.proofs.OutsideZeros.{real_true}

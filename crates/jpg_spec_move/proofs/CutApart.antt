@@ -7,7 +7,7 @@ use Rattle.jpg_spec.specs.Meaning.{Meaning, component_of, most_across, most_down
 use Rattle.jpg_spec_move.specs.Cropped.{columns_before, cropped_side, rows_before}
 use Rattle.jpg_spec_move.specs.Laws.{AreParts, HasSampling, left_columns, left_part, right_part}
 use Rattle.jpg_spec_move.specs.declared.area.Area.{Area}
-use Rattle.jpg_spec.proofs.FrameFound.{real_side}
+use Rattle.jpg_spec.proofs.Headers.FrameFound.{real_side}
 use Rattle.jpg_spec_move.proofs.CroppedGrids.{cropped_block, longer}
 use Rattle.jpg_spec_move.proofs.MovedGrids.{part_across, real_mono}
 use Rattle.jpg_spec_move.proofs.OutsideZeros.{in_picture, of_picture}

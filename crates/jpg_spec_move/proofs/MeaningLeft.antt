@@ -14,17 +14,17 @@ use Rattle.jpg_spec_write.specs.WrittenFile.{IsHeaded}
 use Rattle.jpg_spec_move.specs.Laws.{IsMovable}
 use Rattle.jpg_spec_move.specs.Moved.{Choice, moved}
 use Rattle.jpg_spec.specs.declared.frame.Limits.{Limits}
-use Rattle.jpg_spec.proofs.Rows.{all_front, all_back}
-use Rattle.jpg_spec.proofs.FrameAfter.{header_too, leads_pass}
-use Rattle.jpg_spec.proofs.QuantsInForce.{IsByte}
-use Rattle.jpg_spec.proofs.Ranges.{leads_in_range}
+use Rattle.jpg_spec.proofs.Basics.Rows.{all_front, all_back}
+use Rattle.jpg_spec.proofs.Headers.FrameAfter.{header_too, leads_pass}
+use Rattle.jpg_spec.proofs.Segments.QuantsInForce.{IsByte}
+use Rattle.jpg_spec.proofs.Files.Ranges.{leads_in_range}
 use Rattle.jpg_spec_write.proofs.MovedWritten.{IsPicture}
 use Rattle.jpg_spec_move.proofs.MovedWritten.{moved_headed}
-use Rattle.jpg_spec.proofs.ReadPicture.{AreOfBytes, IsLeft, leads_rules, one_more, segments_bytes}
+use Rattle.jpg_spec.proofs.Files.ReadPicture.{AreOfBytes, IsLeft, leads_rules, one_more, segments_bytes}
 use Rattle.jpg_spec_write.proofs.ReadPicture.{left_picture}
-use Rattle.jpg_spec.proofs.EarlyBegun.{begun_behind, begun_inside}
-use Rattle.jpg_spec.proofs.EarlyRanges.{in_part_in_range}
-use Rattle.jpg_spec.proofs.FrameFound.{framed_end}
+use Rattle.jpg_spec.proofs.EndsEarly.EarlyBegun.{begun_behind, begun_inside}
+use Rattle.jpg_spec.proofs.EndsEarly.EarlyRanges.{in_part_in_range}
+use Rattle.jpg_spec.proofs.Headers.FrameFound.{framed_end}
 
 -- what bytes leave, with segments of bytes if they are bytes
 abbrev pub LeavesPicture : Limits → List ℕ → Meaning → Type 0

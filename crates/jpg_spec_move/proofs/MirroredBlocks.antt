@@ -2,7 +2,7 @@
 use Rattle.std.proofs.Common.{◌≡◌, List, length, refl, ap, ◌∙◌, arith, ℤ}
 use Rattle.jpg_spec.specs.Zigzag.{zigzag}
 use Rattle.jpg_spec_move.specs.Moves.{mirrored}
-use Rattle.jpg_spec.proofs.MirroredBlocks.{mirror_at, length_mirror, IsBlock, mirror_twice}
+use Rattle.jpg_spec.proofs.Writing.MirroredBlocks.{mirror_at, length_mirror, IsBlock, mirror_twice}
 
 pub mirrored_is : (block : List ℤ) → mirrored block ≡ mirror_at zigzag block
 unfolding mirrored

@@ -11,7 +11,7 @@ use Rattle.jpg_spec_move.specs.Moves.{mirrored, mirrored_down}
 use Rattle.jpg_spec.specs.Transposed.{exchanged, transposed}
 use Rattle.jpg_spec_move.specs.Transforms.{signed, turned_over}
 use Rattle.jpg_spec.specs.declared.frame.Bounds.{Bounds}
-use Rattle.jpg_spec.proofs.MirroredBlocks.{IsBlock}
+use Rattle.jpg_spec.proofs.Writing.MirroredBlocks.{IsBlock}
 use Rattle.jpg_spec_move.proofs.Within.{mirrored_in}
 use Rattle.jpg_spec_move.proofs.BlockLaws.{length_transposed, down_is}
 

@@ -14,10 +14,10 @@ use Rattle.jpg_spec_move.specs.Transforms.{transposes, mirrors_across, mirrors_d
 use Rattle.jpg_spec_move.specs.Moved.{transformed_frame, trimmed_frame, grayed_frame, exchanged_factors, whole_side}
 use Rattle.jpg_spec.specs.declared.frame.Component.{Component}
 use Rattle.jpg_spec_move.specs.declared.transform.Transform.{Transform}
-use Rattle.jpg_spec.proofs.Rows.{map_map}
-use Rattle.jpg_spec.proofs.PlacesFound.{covers, least}
-use Rattle.jpg_spec.proofs.Common.{not_zero}
-use Rattle.jpg_spec.proofs.MovedFrames.{across_low, down_low}
+use Rattle.jpg_spec.proofs.Basics.Rows.{map_map}
+use Rattle.jpg_spec.proofs.Places.PlacesFound.{covers, least}
+use Rattle.jpg_spec.proofs.Basics.Common.{not_zero}
+use Rattle.jpg_spec.proofs.Writing.MovedFrames.{across_low, down_low}
 
 -- TRANSPOSED
 

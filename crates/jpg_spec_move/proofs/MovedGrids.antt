@@ -14,10 +14,10 @@ use Rattle.jpg_spec_move.specs.Moved.{trimmed, whole_side, transformed_frame, ex
 use Rattle.jpg_spec.specs.declared.frame.Component.{Component}
 use Rattle.jpg_spec_move.specs.declared.transform.Transform.{Transform}
 use Rattle.jpg_spec_move.specs.declared.transform.Transform.TheVariants.{Keep, FlipH, FlipV, Rotate180}
-use Rattle.jpg_spec.proofs.Rows.{map_map}
+use Rattle.jpg_spec.proofs.Basics.Rows.{map_map}
 use Rattle.jpg_spec_move.proofs.MovedFrames.{up_mono}
-use Rattle.jpg_spec.proofs.Common.{lt_yes, lt_no}
-use Rattle.jpg_spec.proofs.FrameFound.{real_side, factor_across, factor_down}
+use Rattle.jpg_spec.proofs.Basics.Common.{lt_yes, lt_no}
+use Rattle.jpg_spec.proofs.Headers.FrameFound.{real_side, factor_across, factor_down}
 
 -- ALONG ONE SIDE
 

@@ -28,21 +28,21 @@ use Rattle.jpg_spec_write.specs.declared.picture_fault.PictureFault.TheVariants.
 use Rattle.jpg_spec_move.specs.declared.area.Area.{Area}
 use Rattle.jpg_spec_move.specs.declared.transform.Transform.{Transform}
 use Rattle.jpg_spec_move.specs.declared.transform.Transform.TheVariants.{Keep, FlipH, FlipV, Transpose, Transverse, Rotate90, Rotate180, Rotate270}
-use Rattle.jpg_spec.proofs.Common.{same_of}
-use Rattle.jpg_spec.proofs.Rows.{map_map}
+use Rattle.jpg_spec.proofs.Basics.Common.{same_of}
+use Rattle.jpg_spec.proofs.Basics.Rows.{map_map}
 use Rattle.jpg_spec_move.proofs.BlockLaws.{length_transposed}
 use Rattle.jpg_spec_move.proofs.Within.{mirrored_in}
 use Rattle.jpg_spec_write.proofs.WrittenHeading.{heading, other_process, progressive_precision, sequential_precision}
 use Rattle.jpg_spec_move.proofs.MovedBounds.{transposed_in, mirrored_down_in}
 use Rattle.jpg_spec_move.proofs.CroppedFrames.{cropped_is}
 use Rattle.jpg_spec_move.proofs.MovedFrames.{transformed_is, trimmed_is, grayed_is}
-use Rattle.jpg_spec.proofs.MovedFrames.{across_low, down_low}
+use Rattle.jpg_spec.proofs.Writing.MovedFrames.{across_low, down_low}
 use Rattle.jpg_spec_move.proofs.OutsideZeros.{transformed_real}
-use Rattle.jpg_spec.proofs.OutsideZeros.{alone}
-use Rattle.jpg_spec.proofs.SameNumbers.{numbers_of, SameNumbers, same_frame}
-use Rattle.jpg_spec.proofs.MovedWritten.{zeros_here, count_of}
+use Rattle.jpg_spec.proofs.Places.OutsideZeros.{alone}
+use Rattle.jpg_spec.proofs.Headers.SameNumbers.{numbers_of, SameNumbers, same_frame}
+use Rattle.jpg_spec.proofs.Writing.MovedWritten.{zeros_here, count_of}
 use Rattle.jpg_spec_write.proofs.MovedWritten.{IsPicture, may_be_written}
-use Rattle.jpg_spec.proofs.ReadPicture.{zero_slots}
+use Rattle.jpg_spec.proofs.Files.ReadPicture.{zero_slots}
 use Rattle.jpg_spec.specs.FrameHeader.{is_precision}
 
 -- BLOCKS that are mirrored, exchanged, or left out

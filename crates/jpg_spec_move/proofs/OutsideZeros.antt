@@ -15,8 +15,8 @@ use Rattle.jpg_spec.specs.WholeBlocks.{HasWholeBlocks}
 use Rattle.jpg_spec_move.specs.declared.transform.Transform.{Transform}
 use Rattle.jpg_spec_move.proofs.Transforming.{by_formula}
 use Rattle.jpg_spec_move.proofs.MovedGrids.{over_grids, columns_by, rows_by, turned_picture, framed_picture, columns_picture, rows_picture, IsIn, to_grids, from_grids, opposite_in}
-use Rattle.jpg_spec.proofs.Common.{lt_yes, lt_no}
-use Rattle.jpg_spec.proofs.OutsideZeros.{test, HasRealBlocks}
+use Rattle.jpg_spec.proofs.Basics.Common.{lt_yes, lt_no}
+use Rattle.jpg_spec.proofs.Places.OutsideZeros.{test, HasRealBlocks}
 
 -- zero blocks don't change
 

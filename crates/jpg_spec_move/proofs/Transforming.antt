@@ -14,11 +14,11 @@ use Rattle.jpg_spec.specs.WholeBlocks.{HasWholeBlocks}
 use Rattle.jpg_spec.specs.Laws.{with_blocks}
 use Rattle.jpg_spec_move.specs.declared.transform.Transform.{Transform}
 use Rattle.jpg_spec_move.specs.declared.transform.Transform.TheVariants.{Keep, FlipH, FlipV, Transpose, Transverse, Rotate90, Rotate180, Rotate270}
-use Rattle.jpg_spec.proofs.Rows.{map_map, map_alike}
-use Rattle.jpg_spec.proofs.MirroredBlocks.{IsBlock}
+use Rattle.jpg_spec.proofs.Basics.Rows.{map_map, map_alike}
+use Rattle.jpg_spec.proofs.Writing.MirroredBlocks.{IsBlock}
 use Rattle.jpg_spec_move.proofs.MirroredBlocks.{mirrored_block, mirrored_twice}
 use Rattle.jpg_spec_move.proofs.BlockLaws.{length_transposed, transposed_twice, mirrored_transposed, mirrored_down_transposed, mirrored_both, mirrored_down_block, mirrored_down_twice}
-use Rattle.jpg_spec.proofs.Common.{lt_yes, lt_no}
+use Rattle.jpg_spec.proofs.Basics.Common.{lt_yes, lt_no}
 
 -- BLOCKS IN A LINE, some of which change places
 

@@ -19,7 +19,7 @@ use Rattle.jpg_spec_encode.specs.Encoded.{Encoding, is_density, is_gray, any_pro
 use Rattle.jpg_spec_image.specs.Images.{Image}
 use Rattle.jpg_spec_image.specs.declared.image.ImageInfo.{ImageInfo}
 use Rattle.jpg_spec.specs.declared.jfif.Jfif.{Jfif}
-use Rattle.jpg_spec.proofs.Common.{both, lt_of}
+use Rattle.jpg_spec.proofs.Basics.Common.{both, lt_of}
 
 abbrev told_density : Bool → ImageInfo → Jfif
 told_density told info = record { seen = true; major = 1; minor = 1; unit = cond told 2 0; x = cond told (info.x_metre / 100) 1; y = cond told (info.y_metre / 100) 1 }

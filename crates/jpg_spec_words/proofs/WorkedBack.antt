@@ -22,7 +22,7 @@ use Rattle.jpg_spec_write.specs.ScansAsked.{script_due, standard}
 use Rattle.jpg_spec_encode.specs.Encoded.{component_due, component_plane, encoded_block, encoded_head, samples_of_block}
 use Rattle.jpg_spec_move.specs.Moved.{IsSamePicture}
 use Rattle.jpg_spec_move.specs.declared.transform.Transform.TheVariants.{Rotate90}
-use Rattle.jpg_spec.proofs.Common.{lt_no}
+use Rattle.jpg_spec.proofs.Basics.Common.{lt_no}
 use Rattle.jpg_spec_move.proofs.MovedBack.{moved_back}
 use Rattle.jpg_spec_words.specs.Work.{back_choice, back_picture, back_text, first_encoding, first_picture, first_text, lines, samples_sum, turned_picture, turned_text, work_image, work_info, work_text}
 

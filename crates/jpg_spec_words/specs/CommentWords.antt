@@ -1,6 +1,6 @@
 -- WHAT THE WORDS of rdjpgcom and wrjpgcom ask for, after the command's own (their manuals in release 6b).
 use Rattle.std.specs.Prelude.{ℕ, ◌+◌, Bool, true, false, if◌then◌else◌, List, [], ◌∷◌, length, codes}
-use Rattle.jpg_spec_words.specs.Requests.{FileName, standard_input, FilesAsked, Tool, WordsTold, from_to, request, then_asks, usage_at, with_input, words_right}
+use Rattle.jpg_spec_words.specs.Requests.{FileName, standard_input, FilesAsked, Tool, ParsedWords, from_to, request, then_asks, usage_at, with_input, words_right}
 use Rattle.jpg_spec_words.specs.Switches.{Switch}
 use Rattle.jpg_spec_words.specs.declared.answers.UsageFault.TheVariants.{UnknownSwitch, TwoComments, NeedsInput}
 use Rattle.jpg_spec_words.specs.declared.switch.Flag.{Flag}
@@ -22,7 +22,7 @@ rdjpgcom = record {
   setting = λ setting index value files. usage_at UnknownSwitch index;
 }
 
-abbrev pub read_asked : List (List ℕ) → WordsTold FilesAsked
+abbrev pub read_asked : List (List ℕ) → ParsedWords FilesAsked
 read_asked words = request rdjpgcom (from_to standard_input) words
 
 -- WRJPGCOM
@@ -58,11 +58,11 @@ is_in_file from_input = false
 is_in_file (from_words text) = false
 is_in_file (from_file name) = true
 
-abbrev pub write_flag : Flag → ℕ → WriteAsked → WordsTold WriteAsked
+abbrev pub write_flag : Flag → ℕ → WriteAsked → ParsedWords WriteAsked
 write_flag flag.Replace index a = words_right (record a { replace = true })
 write_flag other index a = usage_at UnknownSwitch index
 
-abbrev pub write_setting : Setting → ℕ → List ℕ → WriteAsked → WordsTold WriteAsked
+abbrev pub write_setting : Setting → ℕ → List ℕ → WriteAsked → ParsedWords WriteAsked
 write_setting setting.Comment index value a = if is_in_file a.comment then usage_at TwoComments index else words_right (record a { comment = from_words value })
 write_setting setting.CommentFile index value a = if is_given a.comment then usage_at TwoComments index else words_right (record a { comment = from_file value })
 write_setting other index value a = usage_at UnknownSwitch index
@@ -81,6 +81,6 @@ are_both_input from_input standard_input = true
 are_both_input source input = false
 
 -- the fault is after all words then, the command's own among them
-abbrev pub write_asked : List (List ℕ) → WordsTold WriteAsked
+abbrev pub write_asked : List (List ℕ) → ParsedWords WriteAsked
 write_asked words =
     then_asks (request wrjpgcom write_default words) (λ a. if are_both_input a.comment a.files.input then usage_at NeedsInput (length words + 1) else words_right a)

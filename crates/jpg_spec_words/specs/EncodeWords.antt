@@ -10,7 +10,7 @@ use Rattle.jpg_spec_write.specs.declared.huffman.Huffman.TheVariants.{Plain}
 use Rattle.jpg_spec_image.specs.Images.{Image}
 use Rattle.jpg_spec_image.specs.TableText.{encoding_tables}
 use Rattle.jpg_spec_encode.specs.Encoded.{Encoding, count_due}
-use Rattle.jpg_spec_words.specs.Requests.{FilesAsked, Tool, WordsTold, from_to, huffman_named, is_int, number_of, request, restart_named, standard_input, usage_at, where_good, with_input, with_output, with_value, words_right}
+use Rattle.jpg_spec_words.specs.Requests.{FilesAsked, Tool, ParsedWords, from_to, huffman_named, is_int, number_of, request, restart_named, standard_input, usage_at, where_good, with_input, with_output, with_value, words_right}
 use Rattle.jpg_spec_words.specs.Switches.{Switch}
 use Rattle.jpg_spec_words.specs.TransformWords.{ScansSource, in_file, own_sequential, with_progressive}
 use Rattle.jpg_spec_words.specs.declared.answers.UsageFault.TheVariants.{UnknownSwitch}
@@ -103,14 +103,14 @@ factors_named value = factors_from 4 value
 
 -- SWITCHES
 
-abbrev pub encode_flag : Flag → ℕ → EncodeAsked → WordsTold EncodeAsked
+abbrev pub encode_flag : Flag → ℕ → EncodeAsked → ParsedWords EncodeAsked
 encode_flag flag.Targa index a = words_right (record a { targa = true })
 encode_flag flag.Gray index a = words_right (record a { gray = true })
 encode_flag flag.Baseline index a = words_right (record a { baseline = true })
 encode_flag flag.Progressive index a = words_right (record a { scans = with_progressive a.scans })
 encode_flag other index a = usage_at UnknownSwitch index
 
-abbrev pub encode_setting : Setting → ℕ → List ℕ → EncodeAsked → WordsTold EncodeAsked
+abbrev pub encode_setting : Setting → ℕ → List ℕ → EncodeAsked → ParsedWords EncodeAsked
 encode_setting setting.Quality index value a = with_value index (quality_named value) (λ q. words_right (record a { quality = Some q }))
 encode_setting setting.Scans index value a = words_right (record a { scans = in_file value })
 encode_setting setting.Restart index value a = with_value index (restart_named value) (λ r. words_right (record a { restart = r }))
@@ -129,7 +129,7 @@ cjpeg = record {
   setting = encode_setting;
 }
 
-abbrev pub encode_asked : List (List ℕ) → WordsTold EncodeAsked
+abbrev pub encode_asked : List (List ℕ) → ParsedWords EncodeAsked
 encode_asked words = request cjpeg encode_default words
 
 -- THE ENCODING of an image, in these scans and by the tables of a file, if there is one

@@ -6,7 +6,7 @@ use Rattle.jpg_spec.specs.NumberTexts.{is_digit, digits_from}
 use Rattle.jpg_spec_write.specs.FileText.{Restart, off, rows, mcus}
 use Rattle.jpg_spec_write.specs.declared.huffman.Huffman.{Huffman}
 use Rattle.jpg_spec_write.specs.declared.huffman.Huffman.TheVariants.{Plain, Fitted}
-use Rattle.jpg_spec_words.specs.Switches.{Switch, is_switch, lower, purpose_of, stands_for}
+use Rattle.jpg_spec_words.specs.Switches.{Switch, is_switch, lower, purpose_of, abbreviates}
 use Rattle.jpg_spec_words.specs.declared.answers.Usage.{Usage}
 use Rattle.jpg_spec_words.specs.declared.answers.UsageFault.{UsageFault}
 use Rattle.jpg_spec_words.specs.declared.answers.UsageFault.TheVariants.{UnknownSwitch, LeftOutSwitch, MissingValue, BadValue, TooManyFiles}
@@ -33,11 +33,11 @@ abbrev pub with_output : List ℕ → FilesAsked → FilesAsked
 with_output name files = record { input = files.input; output = named name }
 
 -- what words ask for, or what is wrong with which of them
-pub data WordsTold (X : Type 0) : Type 0 where
-  words_wrong : Usage → WordsTold X
-  words_right : X → WordsTold X
+pub data ParsedWords (X : Type 0) : Type 0 where
+  words_wrong : Usage → ParsedWords X
+  words_right : X → ParsedWords X
 
-abbrev pub usage_at : {X : Type 0} → UsageFault → ℕ → WordsTold X
+abbrev pub usage_at : {X : Type 0} → UsageFault → ℕ → ParsedWords X
 usage_at fault index = words_wrong (record { fault = fault; word = index })
 
 -- from the input to standard output
@@ -45,19 +45,19 @@ abbrev pub from_to : FileName → FilesAsked
 from_to input = record { input = input; output = standard_output }
 
 -- words that are right ask for what follows from their meaning
-abbrev pub then_asks : {X Y : Type 0} → WordsTold X → (X → WordsTold Y) → WordsTold Y
+abbrev pub then_asks : {X Y : Type 0} → ParsedWords X → (X → ParsedWords Y) → ParsedWords Y
 then_asks (words_wrong usage) asks = words_wrong usage
 then_asks (words_right x) asks = asks x
 
 -- VALUES
 
 -- with the value after the switch of this index
-abbrev pub with_value : {X R : Type 0} → ℕ → Option X → (X → WordsTold R) → WordsTold R
+abbrev pub with_value : {X R : Type 0} → ℕ → Option X → (X → ParsedWords R) → ParsedWords R
 with_value index (Some x) asks = asks x
 with_value index None asks = usage_at BadValue (index + 1)
 
 -- if the value after it is allowed
-abbrev pub where_good : {R : Type 0} → ℕ → Bool → R → WordsTold R
+abbrev pub where_good : {R : Type 0} → ℕ → Bool → R → ParsedWords R
 where_good index true a = words_right a
 where_good index false a = usage_at BadValue (index + 1)
 
@@ -88,38 +88,38 @@ restart_named value = option_and_then (restart_by (ends_with_b value)) (number_o
 -- which Huffman tables; a prefix of their name is enough
 abbrev pub huffman_named : List ℕ → Option Huffman
 huffman_named value =
-    if stands_for 1 (codes "plain") value then Some Plain
-    else if stands_for 1 (codes "fitted") value then Some Fitted
+    if abbreviates 1 (codes "plain") value then Some Plain
+    else if abbreviates 1 (codes "fitted") value then Some Fitted
     else None
 
 -- only release 6b's `int`
 abbrev pub is_int : List ℕ → Bool
-is_int value = stands_for 1 (codes "int") value
+is_int value = abbreviates 1 (codes "int") value
 
 -- A COMMAND: its switches; and what is asked for after what was asked for so far, with an input of this name, with a
 -- switch without a value at this index, and with one at this index that has this value
 pub record Tool (R : Type 0) : Type 0 where
   pub switches : List Switch
   pub named : List ℕ → R → R
-  pub flag : Flag → ℕ → R → WordsTold R
-  pub setting : Setting → ℕ → List ℕ → R → WordsTold R
+  pub flag : Flag → ℕ → R → ParsedWords R
+  pub setting : Setting → ℕ → List ℕ → R → ParsedWords R
 
 -- by the last word, a switch of this purpose
-abbrev pub last_switch : {R : Type 0} → Tool R → ℕ → Option Purpose → R → WordsTold R
+abbrev pub last_switch : {R : Type 0} → Tool R → ℕ → Option Purpose → R → ParsedWords R
 last_switch tool index (Some (Alone flag)) a = tool.flag flag index a
 last_switch tool index (Some (Valued setting)) a = usage_at MissingValue index
 last_switch tool index (Some LeftOut) a = usage_at LeftOutSwitch index
 last_switch tool index None a = usage_at UnknownSwitch index
 
 -- by a switch and the word after it, and then by the words from that one on, or by those after it
-abbrev pub next_switch : {R : Type 0} → Tool R → ℕ → Option Purpose → List ℕ → R → (R → WordsTold R) → (R → WordsTold R) → WordsTold R
+abbrev pub next_switch : {R : Type 0} → Tool R → ℕ → Option Purpose → List ℕ → R → (R → ParsedWords R) → (R → ParsedWords R) → ParsedWords R
 next_switch tool index (Some (Alone flag)) next a from after = then_asks (tool.flag flag index a) from
 next_switch tool index (Some (Valued setting)) next a from after = then_asks (tool.setting setting index next a) after
 next_switch tool index (Some LeftOut) next a from after = usage_at LeftOutSwitch index
 next_switch tool index None next a from after = usage_at UnknownSwitch index
 
 -- From the word of this index on, after the switches before. A file's name is the last word.
-abbrev pub request_from : {R : Type 0} → Tool R → ℕ → R → List (List ℕ) → WordsTold R
+abbrev pub request_from : {R : Type 0} → Tool R → ℕ → R → List (List ℕ) → ParsedWords R
 request_from tool index a [] = words_right a
 request_from tool index a (word ∷ []) =
     if is_switch word then last_switch tool index (purpose_of tool.switches word) a else words_right (tool.named word a)
@@ -131,5 +131,5 @@ request_from tool index a (word ∷ next ∷ words) =
     else usage_at TooManyFiles (index + 1)
 
 -- from the word after the command on; if there are none, this is asked for
-abbrev pub request : {R : Type 0} → Tool R → R → List (List ℕ) → WordsTold R
+abbrev pub request : {R : Type 0} → Tool R → R → List (List ℕ) → ParsedWords R
 request tool start words = request_from tool 1 start words

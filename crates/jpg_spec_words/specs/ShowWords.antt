@@ -1,7 +1,7 @@
 -- WHAT THE WORDS of djpeg ask for, after the command's own (its manual in release 6b).
 use Rattle.std.specs.Prelude.{ℕ, ◌+◌, Bool, true, false, nat_le, ◌&&◌, if◌then◌else◌, List, [], ◌∷◌, length, Option, Some, None, option_and_then, codes}
 use Rattle.std.specs.Str.{bytes_eq}
-use Rattle.jpg_spec_words.specs.Requests.{FilesAsked, Tool, WordsTold, from_to, is_int, number_of, request, standard_input, usage_at, where_good, with_input, with_output, with_value, words_right}
+use Rattle.jpg_spec_words.specs.Requests.{FilesAsked, Tool, ParsedWords, from_to, is_int, number_of, request, standard_input, usage_at, where_good, with_input, with_output, with_value, words_right}
 use Rattle.jpg_spec_words.specs.Switches.{Switch}
 use Rattle.jpg_spec_image.specs.declared.image.EndKind.{EndKind}
 use Rattle.jpg_spec_image.specs.declared.image.EndKind.TheVariants.{Pnm, Bmp, Targa}
@@ -64,7 +64,7 @@ scans_from n = if nat_le 1 n && nat_le n 65535 then Some n else None
 abbrev pub scans_named : List ℕ → Option ℕ
 scans_named value = option_and_then scans_from (number_of value)
 
-abbrev pub show_flag : Flag → ℕ → ShowAsked → WordsTold ShowAsked
+abbrev pub show_flag : Flag → ℕ → ShowAsked → ParsedWords ShowAsked
 show_flag flag.Pnm index a = words_right (record a { kind = Pnm; kind_word = index })
 show_flag flag.Bmp index a = words_right (record a { kind = Bmp; kind_word = index })
 show_flag flag.Targa index a = words_right (record a { kind = Targa; kind_word = index })
@@ -72,7 +72,7 @@ show_flag flag.Gray index a = words_right (record a { gray = true })
 show_flag flag.NoSmooth index a = words_right (record a { smooth = false })
 show_flag other index a = usage_at UnknownSwitch index
 
-abbrev pub show_setting : Setting → ℕ → List ℕ → ShowAsked → WordsTold ShowAsked
+abbrev pub show_setting : Setting → ℕ → List ℕ → ShowAsked → ParsedWords ShowAsked
 show_setting setting.Output index value a = words_right (record a { files = with_output value a.files })
 show_setting setting.Dct index value a = where_good index (is_int value) a
 show_setting setting.Scale index value a = where_good index (is_whole_scale value) a
@@ -87,5 +87,5 @@ djpeg = record {
   setting = show_setting;
 }
 
-abbrev pub show_asked : List (List ℕ) → WordsTold ShowAsked
+abbrev pub show_asked : List (List ℕ) → ParsedWords ShowAsked
 show_asked words = request djpeg (show_default (length words + 1)) words

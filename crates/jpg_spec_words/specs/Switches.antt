@@ -20,11 +20,11 @@ pub record Switch : Type 0 where
   pub purpose : Purpose
 
 -- Letters match a name of which they are a prefix, in any case, if there are no fewer than its shortest form has.
-abbrev pub stands_for : ℕ → List ℕ → List ℕ → Bool
-stands_for shortest name letters = nat_le shortest (length letters) && begins_with (map lower letters) name
+abbrev pub abbreviates : ℕ → List ℕ → List ℕ → Bool
+abbreviates shortest name letters = nat_le shortest (length letters) && begins_with (map lower letters) name
 
 abbrev pub is_match : List ℕ → Switch → Bool
-is_match letters s = stands_for s.shortest s.name letters
+is_match letters s = abbreviates s.shortest s.name letters
 
 -- the purpose of a word that begins with a hyphen, in a command with these switches
 abbrev pub purpose_of : List Switch → List ℕ → Option Purpose

@@ -5,8 +5,8 @@ use Rattle.jpg_spec_write.specs.ScansAsked.{Scans}
 use Rattle.jpg_spec_write.specs.declared.huffman.Huffman.{Huffman}
 use Rattle.jpg_spec_write.specs.declared.huffman.Huffman.TheVariants.{Plain}
 use Rattle.jpg_spec_move.specs.Moved.{Choice}
-use Rattle.jpg_spec_words.specs.Requests.{FilesAsked, Tool, WordsTold, from_to, huffman_named, number_of, request, restart_named, standard_input, usage_at, with_input, with_output, with_value, words_right}
-use Rattle.jpg_spec_words.specs.Switches.{Switch, stands_for}
+use Rattle.jpg_spec_words.specs.Requests.{FilesAsked, Tool, ParsedWords, from_to, huffman_named, number_of, request, restart_named, standard_input, usage_at, with_input, with_output, with_value, words_right}
+use Rattle.jpg_spec_words.specs.Switches.{Switch, abbreviates}
 use Rattle.jpg_spec.specs.declared.frame.Copying.{Copying}
 use Rattle.jpg_spec.specs.declared.frame.Copying.TheVariants as copying
 use Rattle.jpg_spec_move.specs.declared.area.Area.{Area}
@@ -99,15 +99,15 @@ transform_default = record {
 -- names, of which a prefix is enough
 abbrev pub copying_named : List ℕ → Option Copying
 copying_named value =
-    if stands_for 1 (codes "none") value then Some copying.None
-    else if stands_for 1 (codes "comments") value then Some copying.Comments
-    else if stands_for 1 (codes "all") value then Some copying.All
+    if abbreviates 1 (codes "none") value then Some copying.None
+    else if abbreviates 1 (codes "comments") value then Some copying.Comments
+    else if abbreviates 1 (codes "all") value then Some copying.All
     else None
 
 abbrev pub flip_named : List ℕ → Option Transform
 flip_named value =
-    if stands_for 1 (codes "horizontal") value then Some FlipH
-    else if stands_for 1 (codes "vertical") value then Some FlipV
+    if abbreviates 1 (codes "horizontal") value then Some FlipH
+    else if abbreviates 1 (codes "vertical") value then Some FlipV
     else None
 
 abbrev pub rotation_of : ℕ → Option Transform
@@ -152,12 +152,12 @@ transform_number Rotate270 = 7
 -- SWITCHES
 
 -- a transform may be asked for again, and no other one
-abbrev pub with_transform : ℕ → Transform → TransformAsked → WordsTold TransformAsked
+abbrev pub with_transform : ℕ → Transform → TransformAsked → ParsedWords TransformAsked
 with_transform index t a =
     if transform_number a.transform == 0 || transform_number a.transform == transform_number t then words_right (record a { transform = t })
     else usage_at TwoTransforms index
 
-abbrev pub transform_flag : Flag → ℕ → TransformAsked → WordsTold TransformAsked
+abbrev pub transform_flag : Flag → ℕ → TransformAsked → ParsedWords TransformAsked
 transform_flag flag.Transpose index a = with_transform index Transpose a
 transform_flag flag.Transverse index a = with_transform index Transverse a
 transform_flag flag.Trim index a = words_right (record a { trim = true })
@@ -165,7 +165,7 @@ transform_flag flag.Gray index a = words_right (record a { gray = true })
 transform_flag flag.Progressive index a = words_right (record a { scans = with_progressive a.scans })
 transform_flag other index a = usage_at UnknownSwitch index
 
-abbrev pub transform_setting : Setting → ℕ → List ℕ → TransformAsked → WordsTold TransformAsked
+abbrev pub transform_setting : Setting → ℕ → List ℕ → TransformAsked → ParsedWords TransformAsked
 transform_setting setting.Copy index value a = with_value index (copying_named value) (λ c. words_right (record a { copying = c }))
 transform_setting setting.Crop index value a = with_value index (area_named value) (λ area. words_right (record a { crop = Some area }))
 transform_setting setting.Flip index value a = with_value index (flip_named value) (λ t. with_transform index t a)
@@ -184,5 +184,5 @@ jpegtran = record {
   setting = transform_setting;
 }
 
-abbrev pub transform_asked : List (List ℕ) → WordsTold TransformAsked
+abbrev pub transform_asked : List (List ℕ) → ParsedWords TransformAsked
 transform_asked words = request jpegtran transform_default words

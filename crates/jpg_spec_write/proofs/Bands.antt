@@ -10,7 +10,7 @@ use Rattle.jpg_spec.specs.Lists.{is_empty, any_of}
 use Rattle.jpg_spec.specs.Elements.{Coding, UnitLeft, Standing, Element, ends, Covers, nonzeros_in, grown, corrected, going_on, old_values, bits_after, are_in_bounds}
 use Rattle.jpg_spec_write.specs.Sending.{Sent, correction, newly_significant, is_new, up_to_last, after_last, corrections_of, value_elements, ended_bands, band_elements}
 use Rattle.jpg_spec_write.proofs.Writing.{Sends, AllSent, AllHave, Fronted, bare, front_covers, zero_scaled}
-use Rattle.jpg_spec.proofs.Values.{bounds_split, covers_then, nonzeros-append}
+use Rattle.jpg_spec.proofs.Bits.Values.{bounds_split, covers_then, nonzeros-append}
 
 abbrev pub flat : List (List ℤ) → List ℤ
 flat [] = []

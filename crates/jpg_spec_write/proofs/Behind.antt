@@ -8,8 +8,8 @@ use Rattle.std.proofs.lemmas.List.Elements.{Contains-append_right}
 use Rattle.jpg_spec.specs.Codes.{Code, first_code, code_of}
 use Rattle.jpg_spec.specs.Elements.{Coding, UnitLeft, Standing, Element, difference, dc_bit, value, long_run, ends, Covers, Tells, SpellsElement, codes_due, going_on, old_values, nonzeros_in, corrected, predictions_after, symbol_of, bits_after}
 use Rattle.jpg_spec_write.specs.ScanText.{is_dc}
-use Rattle.jpg_spec.proofs.Levels.{contains_none, contains_cons}
-use Rattle.jpg_spec.proofs.Common.{same_of, clash}
+use Rattle.jpg_spec.proofs.Bits.Levels.{contains_none, contains_cons}
+use Rattle.jpg_spec.proofs.Basics.Common.{same_of, clash}
 
 -- FURTHER UNITS AFTER
 

@@ -18,8 +18,8 @@ use Rattle.jpg_spec_write.specs.ScriptFaults.{entry_head, ascend, has_wrong_comp
 use Rattle.jpg_spec_write.specs.ScriptLaws.{PassesSequential, PassesProgressive}
 use Rattle.jpg_spec.specs.declared.frame.ScanPart.{ScanPart}
 use Rattle.jpg_spec_write.specs.declared.picture_fault.PictureFault.TheVariants.{ScriptComponent, ScriptMcu, ScriptBand, ScriptIncomplete}
-use Rattle.jpg_spec.proofs.Common.{both, and_intro, neither, negated, lt_of, not_same, all_append}
-use Rattle.jpg_spec.proofs.FirstPasses.{all_below}
+use Rattle.jpg_spec.proofs.Basics.Common.{both, and_intro, neither, negated, lt_of, not_same, all_append}
+use Rattle.jpg_spec.proofs.Bits.FirstPasses.{all_below}
 use Rattle.jpg_spec_write.proofs.WrittenScript.{among_join}
 
 -- WHERE NOTHING IS FOUND

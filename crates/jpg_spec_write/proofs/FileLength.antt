@@ -23,23 +23,23 @@ use Rattle.jpg_spec_write.specs.WrittenFile.{HasQuants, IsHeaded, is_sequential_
 use Rattle.jpg_spec.specs.declared.frame.Place.{Place}
 use Rattle.jpg_spec.specs.declared.frame.ScanPart.{ScanPart}
 use Rattle.jpg_spec.specs.declared.frame.Limits.{Limits}
-use Rattle.jpg_spec.proofs.BlocksOnce.{joined_chunks}
-use Rattle.jpg_spec.proofs.Rows.{map_map}
-use Rattle.jpg_spec.proofs.PlacesFound.{each_units}
-use Rattle.jpg_spec.proofs.Each.{Each}
+use Rattle.jpg_spec.proofs.Files.BlocksOnce.{joined_chunks}
+use Rattle.jpg_spec.proofs.Basics.Rows.{map_map}
+use Rattle.jpg_spec.proofs.Places.PlacesFound.{each_units}
+use Rattle.jpg_spec.proofs.Basics.Each.{Each}
 use Rattle.jpg_spec_write.proofs.PlacedBlocks.{block_due, IsRealSendable, each_both}
-use Rattle.jpg_spec.proofs.WrittenFront.{standard_are_limits, frame_is}
+use Rattle.jpg_spec.proofs.Writing.WrittenFront.{standard_are_limits, frame_is}
 use Rattle.jpg_spec_write.proofs.WrittenScan.{sequential_coded, rows_elements}
 use Rattle.jpg_spec_write.proofs.WrittenScript.{IsFit, among_join}
 use Rattle.jpg_spec_write.proofs.WrittenSequential.{plain_part, plain_head, plain_components, IsEntry, entry_is, among_below, plain_needed, plain_data, rows_of, scans_are, plain_tables, plain_scan, plain_written}
 use Rattle.jpg_spec_write.proofs.WrittenMeans.{count_is, sequential_means}
 use Rattle.jpg_spec_write.proofs.FrontLength.{HasLength, length_segment, front_few}
 use Rattle.jpg_spec_write.proofs.ScanLength.{due_few}
-use Rattle.jpg_spec.proofs.UnitsCount.{intervals_few, scan_few}
+use Rattle.jpg_spec.proofs.Bits.UnitsCount.{intervals_few, scan_few}
 use Rattle.jpg_spec.specs.FileMeaning.{Means}
 use Rattle.jpg_spec_write.specs.Laws.{IsOwnText}
 use Rattle.jpg_spec_write.proofs.WrittenScripts.{sequential_passes}
-use Rattle.jpg_spec.proofs.Common.{both, neither, same_itself}
+use Rattle.jpg_spec.proofs.Basics.Common.{both, neither, same_itself}
 use Rattle.jpg_spec_write.proofs.SequentialCodes.{scan_coded, rows_writable}
 use Rattle.jpg_spec_write.proofs.ProgressiveCodes.{own_valid}
 

@@ -11,9 +11,9 @@ use Rattle.jpg_spec_write.specs.Headed.{is_wide}
 use Rattle.jpg_spec.specs.Jfif.{is_jfif, is_adobe}
 use Rattle.jpg_spec.specs.Markers.{Segment, is_plain_jfif, is_plain_adobe, kept_count}
 use Rattle.jpg_spec_write.specs.FileText.{segment_text, kept_text, distinct_after, distinct_quants, slot_in, quant_text, quants_text, sof_code, component_bytes, frame_text, front_text}
-use Rattle.jpg_spec.proofs.Each.{Each}
+use Rattle.jpg_spec.proofs.Basics.Each.{Each}
 use Rattle.jpg_spec_write.proofs.WrittenFront.{length_components}
-use Rattle.jpg_spec.proofs.Common.{both, same_of}
+use Rattle.jpg_spec.proofs.Basics.Common.{both, same_of}
 
 pub length_segment : (code : ℕ) (contents : List ℕ) → length (segment_text code contents) ≡ 4 + length contents
 length_segment code contents = omega arith

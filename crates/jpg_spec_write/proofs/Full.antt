@@ -12,8 +12,8 @@ use Rattle.jpg_spec.specs.Typical.{dc_luma_counts, dc_luma_values, ac_luma_count
 use Rattle.jpg_spec_write.specs.ScanText.{typical_table}
 use Rattle.jpg_spec_write.proofs.Writing.{AllSent, AllHave}
 use Rattle.jpg_spec_write.proofs.Bands.{body, split}
-use Rattle.jpg_spec.proofs.Common.{same_of}
-use Rattle.jpg_spec.proofs.Full.{Has, all_pass, passed}
+use Rattle.jpg_spec.proofs.Basics.Common.{same_of}
+use Rattle.jpg_spec.proofs.Bits.Full.{Has, all_pass, passed}
 
 -- SYMBOLS that have a code
 

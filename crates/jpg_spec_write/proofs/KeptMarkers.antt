@@ -7,7 +7,7 @@ use Rattle.std.proofs.lemmas.Grind.{flat_map-append}
 use Rattle.jpg_spec.specs.Bits.{IsMarkerCode}
 use Rattle.jpg_spec_write.specs.FileText.{segment_text, kept_text}
 use Rattle.jpg_spec.specs.Markers.{Segment, soi, SpellsSegment, SpellsSegments}
-use Rattle.jpg_spec.proofs.KeptMarkers.{ArePassedOn}
+use Rattle.jpg_spec.proofs.Segments.KeptMarkers.{ArePassedOn}
 
 -- A SEGMENT that is written spells itself
 pub text_spells : (code : ℕ) (contents : List ℕ) → IsMarkerCode code → length contents + 2 < 65536 → SpellsSegment code contents (segment_text code contents)

@@ -19,7 +19,7 @@ use Rattle.jpg_spec_write.proofs.FileLength.{sequential_short}
 use Rattle.jpg_spec_write.proofs.ProgressiveFile.{progressive_means}
 use Rattle.jpg_spec_write.proofs.ProgressiveLength.{progressive_short}
 use Rattle.jpg_spec_write.proofs.StandardScripts.{meaning_has, sequential_has_none, standard_begins, standard_passes}
-use Rattle.jpg_spec.proofs.WrittenFront.{frame_is, standard_are_limits}
+use Rattle.jpg_spec.proofs.Writing.WrittenFront.{frame_is, standard_are_limits}
 use Rattle.jpg_spec_write.proofs.WrittenMeans.{count_is, sequential_means}
 
 -- THE FRAME of what is written

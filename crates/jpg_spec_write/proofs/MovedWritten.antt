@@ -13,13 +13,13 @@ use Rattle.jpg_spec.specs.Meaning.{Meaning, PictureComponent, picture_frame}
 use Rattle.jpg_spec_write.specs.FileText.{frame_of_meaning, distinct_after, distinct_quants, slot_in}
 use Rattle.jpg_spec_write.specs.WrittenFile.{HasQuants, IsKeptMarker, IsHeaded}
 use Rattle.jpg_spec.specs.declared.frame.Component.{Component}
-use Rattle.jpg_spec.proofs.Rows.{map_map}
-use Rattle.jpg_spec.proofs.WrittenQuants.{is_in}
+use Rattle.jpg_spec.proofs.Basics.Rows.{map_map}
+use Rattle.jpg_spec.proofs.Writing.WrittenQuants.{is_in}
 use Rattle.jpg_spec_write.proofs.WrittenQuants.{equal_swap, distinct_has}
 use Rattle.jpg_spec_write.proofs.WrittenFront.{frame_component}
-use Rattle.jpg_spec.proofs.OutsideZeros.{HasRealBlocks}
-use Rattle.jpg_spec.proofs.SameNumbers.{numbers_of, SameNumbers, same_frame, frame_passes, is_place, same_places}
-use Rattle.jpg_spec.proofs.MovedWritten.{each_among, count_of}
+use Rattle.jpg_spec.proofs.Places.OutsideZeros.{HasRealBlocks}
+use Rattle.jpg_spec.proofs.Headers.SameNumbers.{numbers_of, SameNumbers, same_frame, frame_passes, is_place, same_places}
+use Rattle.jpg_spec.proofs.Writing.MovedWritten.{each_among, count_of}
 
 -- what a picture has that may be written, whatever its head
 pub record IsPicture (M : Meaning) : Type 0 where

@@ -10,9 +10,9 @@ use Rattle.jpg_spec_write.specs.ScanText.{units_due, last_dc}
 use Rattle.jpg_spec_write.specs.Written.{IsWritable}
 use Rattle.jpg_spec.specs.PictureInWork.{is_at, AreDistinct}
 use Rattle.jpg_spec.specs.declared.frame.Place.{Place}
-use Rattle.jpg_spec.proofs.PictureInWork.{is_at_same, is_at_swap}
-use Rattle.jpg_spec.proofs.Common.{both, and_intro, neither}
-use Rattle.jpg_spec.proofs.Each.{Each, each_map, each_join}
+use Rattle.jpg_spec.proofs.Places.PictureInWork.{is_at_same, is_at_swap}
+use Rattle.jpg_spec.proofs.Basics.Common.{both, and_intro, neither}
+use Rattle.jpg_spec.proofs.Basics.Each.{Each, each_map, each_join}
 
 pub each_all : {A : Type 0} (P : A → Type 0) (xs : List A) → Each P xs → All P xs
 each_all P [] h = All-nil P

@@ -15,19 +15,19 @@ use Rattle.jpg_spec.specs.History.{names, has_coefficient}
 use Rattle.jpg_spec_write.specs.FileText.{frame_of_meaning}
 use Rattle.jpg_spec.specs.PictureInWork.{is_at, AreDistinct}
 use Rattle.jpg_spec.specs.declared.frame.Place.{Place}
-use Rattle.jpg_spec.proofs.PlacesDistinct.{units_distinct, map_is_flat}
-use Rattle.jpg_spec.proofs.Each.{Each, each_map, each_join, each_flat}
+use Rattle.jpg_spec.proofs.Places.PlacesDistinct.{units_distinct, map_is_flat}
+use Rattle.jpg_spec.proofs.Basics.Each.{Each, each_map, each_join, each_flat}
 use Rattle.jpg_spec.specs.declared.frame.Bounds.{Bounds}
-use Rattle.jpg_spec.proofs.Small.{IsAcValue}
+use Rattle.jpg_spec.proofs.Basics.Small.{IsAcValue}
 use Rattle.jpg_spec_write.proofs.PlacedBlocks.{Placed, block_due, placed_due, all_placed, each_both}
-use Rattle.jpg_spec.proofs.PlacesFound.{flat_below, each_units, real_found}
+use Rattle.jpg_spec.proofs.Places.PlacesFound.{flat_below, each_units, real_found}
 use Rattle.jpg_spec_write.proofs.WrittenScan.{IsPlaceOf, IsPicture, all_real, none_other}
 use Rattle.jpg_spec_write.proofs.RenewedScan.{renew_block, renewed_band, rows_of, after_renewed, after_found, after_elsewhere, after_outside, after_inside}
 use Rattle.jpg_spec_write.proofs.ProgressiveRows.{IsBandDue}
 use Rattle.jpg_spec_write.proofs.ProgressiveKnown.{ac_known, IsRenewed}
-use Rattle.jpg_spec.proofs.Known.{was_known}
+use Rattle.jpg_spec.proofs.Places.Known.{was_known}
 use Rattle.jpg_spec_write.proofs.ProgressiveScan.{IsProgressiveScan, each_place, rows_each}
-use Rattle.jpg_spec.proofs.Common.{both, le_of, and_intro, lt_yes}
+use Rattle.jpg_spec.proofs.Basics.Common.{both, le_of, and_intro, lt_yes}
 
 -- BANDS
 

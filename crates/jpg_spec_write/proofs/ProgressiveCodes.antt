@@ -13,20 +13,20 @@ use Rattle.jpg_spec_write.specs.ScanText.{UnitDue, Owned, unit_elements, is_dc, 
 use Rattle.jpg_spec_fit.proofs.FittedCodes.{fitted_has, fitted_valid}
 use Rattle.jpg_spec_write.specs.declared.huffman.Huffman.{Huffman}
 use Rattle.jpg_spec_write.specs.declared.huffman.Huffman.TheVariants.{Plain, Fitted}
-use Rattle.jpg_spec.proofs.Common.{same_of, same_itself, length_below}
+use Rattle.jpg_spec.proofs.Basics.Common.{same_of, same_itself, length_below}
 use Rattle.jpg_spec_write.specs.Written.{HasCode}
-use Rattle.jpg_spec.proofs.WrittenState.{IsTellable}
-use Rattle.jpg_spec.proofs.Rows.{at_below}
+use Rattle.jpg_spec.proofs.Writing.WrittenState.{IsTellable}
+use Rattle.jpg_spec.proofs.Basics.Rows.{at_below}
 use Rattle.jpg_spec.specs.declared.frame.Bounds.{Bounds}
-use Rattle.jpg_spec.proofs.Small.{few_digits, AreBounds, IsDc}
+use Rattle.jpg_spec.proofs.Basics.Small.{few_digits, AreBounds, IsDc}
 use Rattle.jpg_spec_write.proofs.Writing.{AllSent}
 use Rattle.jpg_spec_write.proofs.Bands.{AllBands, split}
-use Rattle.jpg_spec.proofs.Full.{Has}
-use Rattle.jpg_spec.proofs.FlatTables.{IsValid, flat_has, flat_valid, valid_tellable}
-use Rattle.jpg_spec.proofs.Each.{Each, each_map, each_join, each_flat}
+use Rattle.jpg_spec.proofs.Bits.Full.{Has}
+use Rattle.jpg_spec.proofs.Bits.FlatTables.{IsValid, flat_has, flat_valid, valid_tellable}
+use Rattle.jpg_spec.proofs.Basics.Each.{Each, each_map, each_join, each_flat}
 use Rattle.jpg_spec_write.proofs.Shifts.{dc_shifted}
-use Rattle.jpg_spec.proofs.WrittenHead.{at_among}
-use Rattle.jpg_spec.proofs.PlacesFound.{or_second}
+use Rattle.jpg_spec.proofs.Writing.WrittenHead.{at_among}
+use Rattle.jpg_spec.proofs.Places.PlacesFound.{or_second}
 
 -- SYMBOLS THAT ARE USED
 

@@ -15,15 +15,15 @@ use Rattle.jpg_spec.specs.FileMeaning.{no_blocks, Means}
 use Rattle.jpg_spec_write.specs.FileText.{Written, nothing_written, Restart, front_text, frame_of_meaning, scans_text, file_text}
 use Rattle.jpg_spec_write.specs.WrittenFile.{IsHeaded, is_progressive_after, IsRestart}
 use Rattle.jpg_spec.specs.declared.frame.Limits.{Limits}
-use Rattle.jpg_spec.proofs.PictureInWork.{leads_sizes}
-use Rattle.jpg_spec.proofs.WrittenFront.{frame_is}
+use Rattle.jpg_spec.proofs.Places.PictureInWork.{leads_sizes}
+use Rattle.jpg_spec.proofs.Writing.WrittenFront.{frame_is}
 use Rattle.jpg_spec_write.proofs.WrittenStart.{starts}
 use Rattle.jpg_spec_write.proofs.WrittenState.{Sends}
 use Rattle.jpg_spec_write.proofs.WrittenMeans.{count_is, ends}
 use Rattle.jpg_spec_write.proofs.ProgressiveKnown.{IsKnown, known_whole}
 use Rattle.jpg_spec_write.proofs.ProgressiveScript.{IsFit, script_step}
-use Rattle.jpg_spec.proofs.FirstPasses.{all_below}
-use Rattle.jpg_spec.proofs.Common.{both, and_intro, or_right}
+use Rattle.jpg_spec.proofs.Bits.FirstPasses.{all_below}
+use Rattle.jpg_spec.proofs.Basics.Common.{both, and_intro, or_right}
 
 -- AT THE START nothing is known
 pub none_known : (H : Meaning) → IsKnown H [] no_blocks

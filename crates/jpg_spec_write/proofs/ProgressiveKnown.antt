@@ -13,13 +13,13 @@ use Rattle.jpg_spec.specs.ScanContents.{is_band, are_bits, are_parameters}
 use Rattle.jpg_spec.specs.History.{has_coefficient, known_to, is_known_to, is_next}
 use Rattle.jpg_spec_write.specs.FileText.{frame_of_meaning}
 use Rattle.jpg_spec_write.specs.WrittenFile.{is_progressive_entry}
-use Rattle.jpg_spec.proofs.Small.{IsDc, scaled_none}
+use Rattle.jpg_spec.proofs.Basics.Small.{IsDc, scaled_none}
 use Rattle.jpg_spec_write.proofs.Shifts.{shifted_none, divided_none}
-use Rattle.jpg_spec.proofs.Each.{Each}
+use Rattle.jpg_spec.proofs.Basics.Each.{Each}
 use Rattle.jpg_spec_write.proofs.WrittenSequential.{each_below}
-use Rattle.jpg_spec.proofs.FirstPasses.{all_below}
-use Rattle.jpg_spec.proofs.Common.{both, negated, le_of}
-use Rattle.jpg_spec.proofs.Known.{is_known, known_new, known_old}
+use Rattle.jpg_spec.proofs.Bits.FirstPasses.{all_below}
+use Rattle.jpg_spec.proofs.Basics.Common.{both, negated, le_of}
+use Rattle.jpg_spec.proofs.Places.Known.{is_known, known_new, known_old}
 
 -- WHAT IS KNOWN of a value down to a bit, or if it is unsent
 

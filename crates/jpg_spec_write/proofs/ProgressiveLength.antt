@@ -22,20 +22,20 @@ use Rattle.jpg_spec_write.specs.WrittenFile.{IsHeaded, IsRestart, is_progressive
 use Rattle.jpg_spec.specs.declared.frame.Place.{Place}
 use Rattle.jpg_spec.specs.declared.frame.ScanPart.{ScanPart}
 use Rattle.jpg_spec.specs.declared.frame.Limits.{Limits}
-use Rattle.jpg_spec.proofs.PictureInWork.{leads_sizes}
-use Rattle.jpg_spec.proofs.BlocksOnce.{joined_chunks}
-use Rattle.jpg_spec.proofs.Each.{Each}
-use Rattle.jpg_spec.proofs.Strings.{length-bits_of}
-use Rattle.jpg_spec.proofs.WrittenFront.{frame_is}
+use Rattle.jpg_spec.proofs.Places.PictureInWork.{leads_sizes}
+use Rattle.jpg_spec.proofs.Files.BlocksOnce.{joined_chunks}
+use Rattle.jpg_spec.proofs.Basics.Each.{Each}
+use Rattle.jpg_spec.proofs.Basics.Strings.{length-bits_of}
+use Rattle.jpg_spec.proofs.Writing.WrittenFront.{frame_is}
 use Rattle.jpg_spec_write.proofs.WrittenMeans.{count_is}
 use Rattle.jpg_spec_write.proofs.WrittenScan.{scan_rows}
 use Rattle.jpg_spec_write.proofs.WrittenSequential.{among_below}
 use Rattle.jpg_spec_write.proofs.WrittenStart.{starts}
 use Rattle.jpg_spec_write.proofs.WrittenState as state
-use Rattle.jpg_spec.proofs.DataLength.{AreShort, table_short, IsBrief, AreLeft, stuffed_few}
+use Rattle.jpg_spec.proofs.Bits.DataLength.{AreShort, table_short, IsBrief, AreLeft, stuffed_few}
 use Rattle.jpg_spec_write.proofs.FrontLength.{front_few}
 use Rattle.jpg_spec_write.proofs.ScanLength.{units_few}
-use Rattle.jpg_spec.proofs.UnitsCount.{intervals_few, single_few, scan_few}
+use Rattle.jpg_spec.proofs.Bits.UnitsCount.{intervals_few, single_few, scan_few}
 use Rattle.jpg_spec_write.proofs.FileLength.{tables_few, head_few, restart_few, quants_each}
 use Rattle.jpg_spec_write.proofs.ProgressiveCodes.{own_valid}
 use Rattle.jpg_spec_write.proofs.ProgressiveKnown.{IsKnown, IsProgressiveEntry, progressive_entry}
@@ -44,10 +44,10 @@ use Rattle.jpg_spec_write.proofs.ProgressiveScan.{progressive_scan}
 use Rattle.jpg_spec_write.proofs.ProgressiveText.{head_slots, dc_due, ac_due, needed_of, IsGivenBy, progressive_elements, progressive_tables, progressive_data, progressive_scans}
 use Rattle.jpg_spec_write.proofs.ProgressiveScript.{IsFit, scan_leads, first_component, entry_step, band_say, one_component}
 use Rattle.jpg_spec_write.proofs.ProgressiveFile.{none_known}
-use Rattle.jpg_spec.proofs.ProgressiveShares.{left_of_all, sent_of, Descends, all_start, all_fewer, dc_sent, band_is_sent}
-use Rattle.jpg_spec.proofs.FirstPasses.{all_among}
-use Rattle.jpg_spec.proofs.Small.{are_bounds}
-use Rattle.jpg_spec.proofs.Common.{both, same_of}
+use Rattle.jpg_spec.proofs.Places.ProgressiveShares.{left_of_all, sent_of, Descends, all_start, all_fewer, dc_sent, band_is_sent}
+use Rattle.jpg_spec.proofs.Bits.FirstPasses.{all_among}
+use Rattle.jpg_spec.proofs.Basics.Small.{are_bounds}
+use Rattle.jpg_spec.proofs.Basics.Common.{both, same_of}
 
 -- AN INTERVAL that spells its units, with this many values each
 

@@ -13,13 +13,13 @@ use Rattle.jpg_spec_write.specs.ScanText.{UnitDue, Owned, units_due, last_dc, un
 use Rattle.jpg_spec.specs.Meaning.{Meaning}
 use Rattle.jpg_spec_write.specs.FileText.{frame_of_meaning}
 use Rattle.jpg_spec.specs.declared.frame.Place.{Place}
-use Rattle.jpg_spec.proofs.Small.{IsDc, AreBounds, IsAcValue, are_bounds}
+use Rattle.jpg_spec.proofs.Basics.Small.{IsDc, AreBounds, IsAcValue, are_bounds}
 use Rattle.jpg_spec_write.proofs.Writing.{Sends, AllHave}
 use Rattle.jpg_spec_write.proofs.Behind.{IsChosen}
-use Rattle.jpg_spec.proofs.Full.{Has}
-use Rattle.jpg_spec.proofs.Packing.{packs}
-use Rattle.jpg_spec.proofs.PlacesFound.{each_units}
-use Rattle.jpg_spec.proofs.Each.{Each, each_map, each_flat}
+use Rattle.jpg_spec.proofs.Bits.Full.{Has}
+use Rattle.jpg_spec.proofs.Bits.Packing.{packs}
+use Rattle.jpg_spec.proofs.Places.PlacesFound.{each_units}
+use Rattle.jpg_spec.proofs.Basics.Each.{Each, each_map, each_flat}
 use Rattle.jpg_spec_write.proofs.PlacedBlocks.{block_due, placed_due, each_both}
 use Rattle.jpg_spec_write.proofs.WrittenCoding.{coded_by, AllIn, AreSameCodes, covers_coded}
 use Rattle.jpg_spec_write.proofs.WrittenScan.{scan_rows}
@@ -28,11 +28,11 @@ use Rattle.jpg_spec_write.proofs.ProgressiveSpelled.{HasCode, IsFirstCode, all_b
 use Rattle.jpg_spec_write.proofs.ProgressiveRows.{IsDcDue, IsBandDue, progressive_bits, progressive_coded, elements_dc, dc_first_row, dc_refining_row, bands_due, bands_are, band_small, band_row}
 use Rattle.jpg_spec_write.proofs.ProgressiveCodes.{is_own, IsCodedAll, elements_coded, IsAc, bands_ac, IsDifference, differences}
 use Rattle.jpg_spec_write.proofs.ProgressiveKnown.{ac_known}
-use Rattle.jpg_spec.proofs.Known.{was_known}
+use Rattle.jpg_spec.proofs.Places.Known.{was_known}
 use Rattle.jpg_spec_write.proofs.ProgressiveScan.{rows_each, IsDcScan, dc_renews, dc_due}
 use Rattle.jpg_spec_write.proofs.ProgressiveBands.{IsBandScan, band_renews, band_due}
 use Rattle.jpg_spec_write.proofs.ProgressiveText.{progressive_elements, progressive_tables}
-use Rattle.jpg_spec.proofs.Common.{same_itself}
+use Rattle.jpg_spec.proofs.Basics.Common.{same_itself}
 
 -- EACH ELEMENT has its code
 

@@ -9,12 +9,12 @@ use Rattle.jpg_spec_write.specs.Sending.{sent, band_elements}
 use Rattle.jpg_spec.specs.Scan.{Blocks, Scan, band, block_at, unit_at}
 use Rattle.jpg_spec_write.specs.ScanText.{UnitDue, Owned, units_due, last_dc, unit_elements, band_of, interval_elements, element_bits}
 use Rattle.jpg_spec.specs.declared.frame.Place.{Place}
-use Rattle.jpg_spec.proofs.Rows.{map_map}
-use Rattle.jpg_spec.proofs.Small.{AreBounds, IsAcValue, IsDc}
+use Rattle.jpg_spec.proofs.Basics.Rows.{map_map}
+use Rattle.jpg_spec.proofs.Basics.Small.{AreBounds, IsAcValue, IsDc}
 use Rattle.jpg_spec_write.proofs.Writing.{Sends, AllHave}
 use Rattle.jpg_spec_write.proofs.Bands.{flat, units_of}
 use Rattle.jpg_spec_write.proofs.Behind.{IsChosen}
-use Rattle.jpg_spec.proofs.Each.{Each}
+use Rattle.jpg_spec.proofs.Basics.Each.{Each}
 use Rattle.jpg_spec_write.proofs.PlacedBlocks.{Placed, block_due, placed_due}
 use Rattle.jpg_spec_write.proofs.RenewedScan.{renewed, renewed_size, renewed_get, renew_block}
 use Rattle.jpg_spec_write.proofs.ProgressiveSpelled.{IsBand, bands_spelled, dc_new, DcUnits, HasCode, IsFirstCode, dc_first, dc_refining}
@@ -165,12 +165,12 @@ module _ (s : Scan) (i : ℕ) (old new : ℤ → ℤ) (blocks before after : Blo
       ∙ ap (λ (l : List ℤ). (let u : UnitLeft = record { component = i; has_dc = false; old = l } in u ∷ later)) (h.0).was
       ∙ ap (λ (us : List UnitLeft). (let u : UnitLeft = record { component = i; has_dc = false; old = map old (band s block) } in u ∷ us)) (band_units (last_dc last p.component block) places z h.1)
 
-  band_told : (last : ℕ → ℤ) (places : List Place) → Each (IsBandDue s i old new before after) (placed_due blocks last places)
+  parsed_band : (last : ℕ → ℤ) (places : List Place) → Each (IsBandDue s i old new before after) (placed_due blocks last places)
       → flat_map (λ p. band s (block_at after p)) places ≡ flat (map (map new) (bands_due s blocks last places))
-  band_told last [] h = refl
-  band_told last (p ∷ places) h =
+  parsed_band last [] h = refl
+  parsed_band last (p ∷ places) h =
       let block = block_due blocks last p in
-      ap (λ l. l ++ flat_map (λ p. band s (block_at after p)) places) (h.0).is ∙ ap (λ l. map new (band s block) ++ l) (band_told (last_dc last p.component block) places h.1)
+      ap (λ l. l ++ flat_map (λ p. band s (block_at after p)) places) (h.0).is ∙ ap (λ l. map new (band s block) ++ l) (parsed_band (last_dc last p.component block) places h.1)
 
   pub band_small : (last : ℕ → ℤ) (places : List Place) → Each (IsBandDue s i old new before after) (placed_due blocks last places) → Each (IsBand s.coding.bounds) (bands_due s blocks last places)
   band_small last [] h = tt
@@ -197,7 +197,7 @@ module _ (s : Scan) (i : ℕ) (old new : ℤ → ℤ) (blocks before after : Blo
         ap (λ m. flat_map (λ e. element_bits tables head (i, e)) (band_elements 32767 0 [] (map (map (sent r m)) bands))) same
             ∙ sym (elements_ac tables head s i (units_due blocks p places) z a e (band_owned p places due)),
         subst (λ us. SpellsUnits c us (flat_map (λ p. band s (block_at after p)) places) bits) (sym (band_units p places none due))
-            (subst (λ vs. SpellsUnits c (units_of i (map (map old) bands)) vs bits) (sym (band_told p places due)) k),
+            (subst (λ vs. SpellsUnits c (units_of i (map (map old) bands)) vs bits) (sym (parsed_band p places due)) k),
       )
     where
       not_zero : (n : ℕ) → nat_lt 0 n ≡ true → (n == 0) ≡ false

@@ -17,20 +17,20 @@ use Rattle.jpg_spec_write.specs.FileText.{frame_of_meaning}
 use Rattle.jpg_spec.specs.PictureInWork.{is_at, AreDistinct}
 use Rattle.jpg_spec.specs.declared.frame.Place.{Place}
 use Rattle.jpg_spec.specs.declared.frame.Bounds.{Bounds}
-use Rattle.jpg_spec.proofs.Precisions.{zero_ac, zero_dc}
-use Rattle.jpg_spec.proofs.Small.{IsDc, dc_small, are_bounds}
+use Rattle.jpg_spec.proofs.Headers.Precisions.{zero_ac, zero_dc}
+use Rattle.jpg_spec.proofs.Basics.Small.{IsDc, dc_small, are_bounds}
 use Rattle.jpg_spec_write.proofs.Writing.{zero_scaled}
-use Rattle.jpg_spec.proofs.PlacesDistinct.{units_distinct}
-use Rattle.jpg_spec.proofs.Each.{Each, each_map, each_join, each_flat, each_rows}
+use Rattle.jpg_spec.proofs.Places.PlacesDistinct.{units_distinct}
+use Rattle.jpg_spec.proofs.Basics.Each.{Each, each_map, each_join, each_flat, each_rows}
 use Rattle.jpg_spec_write.proofs.PlacedBlocks.{Placed, block_due, placed_due, all_placed, IsRealSendable, IsPlacedWritable, placed_writable, first_last, each_both}
-use Rattle.jpg_spec.proofs.PlacesFound.{each_units, real_found}
+use Rattle.jpg_spec.proofs.Places.PlacesFound.{each_units, real_found}
 use Rattle.jpg_spec_write.proofs.WrittenScan.{IsPlaceOf, IsPicture, all_real, none_other}
 use Rattle.jpg_spec_write.proofs.RenewedScan.{renew_block, rows_of, after_renewed, after_found, after_elsewhere, after_outside, after_inside}
 use Rattle.jpg_spec_write.proofs.Shifts.{dc_known, dc_padded}
 use Rattle.jpg_spec_write.proofs.ProgressiveSpelled.{dc_new}
 use Rattle.jpg_spec_write.proofs.ProgressiveRows.{IsDcDue}
 use Rattle.jpg_spec_write.proofs.ProgressiveKnown.{IsPad, IsRenewed}
-use Rattle.jpg_spec.proofs.Common.{both, le_of, and_intro}
+use Rattle.jpg_spec.proofs.Basics.Common.{both, le_of, and_intro}
 
 -- THE SCAN of a progressive frame
 

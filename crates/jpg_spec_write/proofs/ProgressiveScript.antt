@@ -26,10 +26,10 @@ use Rattle.jpg_spec.specs.declared.frame.Place.{Place}
 use Rattle.jpg_spec.specs.declared.frame.ScanPart.{ScanPart}
 use Rattle.jpg_spec.specs.declared.frame.Limits.{Limits}
 use Rattle.jpg_spec_write.proofs.Writing.{Sends}
-use Rattle.jpg_spec.proofs.Small.{are_bounds, IsAcValue, IsDc}
-use Rattle.jpg_spec.proofs.PictureInWork.{leads_sizes}
-use Rattle.jpg_spec.proofs.PlacesSome.{chunks_some}
-use Rattle.jpg_spec.proofs.Each.{Each, each_map}
+use Rattle.jpg_spec.proofs.Basics.Small.{are_bounds, IsAcValue, IsDc}
+use Rattle.jpg_spec.proofs.Places.PictureInWork.{leads_sizes}
+use Rattle.jpg_spec.proofs.Places.PlacesSome.{chunks_some}
+use Rattle.jpg_spec.proofs.Basics.Each.{Each, each_map}
 use Rattle.jpg_spec_write.proofs.WrittenSequential.{among_below, part_holds}
 use Rattle.jpg_spec_write.proofs.WrittenScan.{scan_rows}
 use Rattle.jpg_spec_write.proofs.WrittenScript.{units_many, interval_small, joined_text}
@@ -40,14 +40,14 @@ use Rattle.jpg_spec_write.proofs.Shifts.{dc_refined}
 use Rattle.jpg_spec_write.proofs.ProgressiveSpelled.{known_small, first_sends, refined_sends, dc_new}
 use Rattle.jpg_spec_write.proofs.ProgressiveRows.{progressive_coded}
 use Rattle.jpg_spec_write.proofs.ProgressiveKnown.{ac_known, dc_known_to, IsPad, IsKnown, IsRenewed, IsProgressiveEntry, progressive_entry, known_step}
-use Rattle.jpg_spec.proofs.Known.{was_known, band_next}
+use Rattle.jpg_spec.proofs.Places.Known.{was_known, band_next}
 use Rattle.jpg_spec_write.proofs.ProgressiveScan.{IsProgressiveScan, progressive_scan, IsDcScan, dc_renewed, first_pad, refined_pad, zero_pad, less_pad}
 use Rattle.jpg_spec_write.proofs.ProgressiveBands.{IsBandScan, band_renewed}
 use Rattle.jpg_spec_write.proofs.ProgressiveCodes.{own_tell}
 use Rattle.jpg_spec_write.proofs.ProgressiveText.{HasSlots, head_slots, entry_spoken, dc_due, ac_due, needed_of, needed_tell, IsGivenBy, needed_given, progressive_admitted, progressive_elements, progressive_tables, progressive_data, progressive_scans}
 use Rattle.jpg_spec_write.proofs.ProgressiveMeans.{with_class, IsInForce, dc_first_means, dc_refined_means, band_means}
-use Rattle.jpg_spec.proofs.FirstPasses.{all_among}
-use Rattle.jpg_spec.proofs.Common.{both, le_of, same_of, same_itself}
+use Rattle.jpg_spec.proofs.Bits.FirstPasses.{all_among}
+use Rattle.jpg_spec.proofs.Basics.Common.{both, le_of, same_of, same_itself}
 
 -- a meaning that may be written in progressive scans
 pub record IsFit (H : Meaning) : Type 0 where

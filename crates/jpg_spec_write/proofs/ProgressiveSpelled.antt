@@ -2,7 +2,7 @@
 -- EOB runs.
 use Rattle.std.proofs.Common.{◌≡◌, ℕ, zero, suc, ◌+◌, ◌*◌, ◌/◌, ◌%◌, ◌^◌, ◌≤◌, Bool, true, false, cond, List, [], ◌∷◌, ◌++◌, length, refl, sym, ap, ◌∙◌, subst, arith, lit<, ℤ, pos, ◌==◌, ◌&&◌}
 use Rattle.std.specs.Prelude.{map, flat_map, int_le, nat_abs, nat_lt, neg_ℤ, ◌+ℤ◌, ◌-ℤ◌, slice_index_or}
-use Rattle.jpg_spec.proofs.PlacesSome.{product_some}
+use Rattle.jpg_spec.proofs.Places.PlacesSome.{product_some}
 use Rattle.std.proofs.lemmas.List.{length-map}
 use Rattle.jpg_spec.specs.Numbers.{category, digits, extra_bits}
 use Rattle.jpg_spec.specs.Elements.{Coding, UnitLeft, Standing, Element, difference, dc_bit, Covers, SpellsElement, SpellsUnits, is_zero, scaled, grown, are_in_bounds, predicted, symbol_of}
@@ -10,15 +10,15 @@ use Rattle.jpg_spec_write.specs.Sending.{correction, newly_significant, sent, sh
 use Rattle.jpg_spec_write.specs.ScanText.{UnitDue, Owned, unit_elements}
 use Rattle.jpg_spec.specs.Codes.{code_of}
 use Rattle.jpg_spec.specs.declared.frame.Bounds.{Bounds}
-use Rattle.jpg_spec.proofs.Small.{few_digits, some_category, AreBounds, IsAcValue, IsDc, ac_less, back}
+use Rattle.jpg_spec.proofs.Basics.Small.{few_digits, some_category, AreBounds, IsAcValue, IsDc, ac_less, back}
 use Rattle.jpg_spec_write.proofs.Writing.{Sends, AllSent, AllHave}
 use Rattle.jpg_spec_write.proofs.Bands.{AllBands, at, flat, units_of, bands_cover}
 use Rattle.jpg_spec_write.proofs.Behind.{first_found, IsChosen, AllAfterDc, covers_chosen}
-use Rattle.jpg_spec.proofs.Full.{Has}
-use Rattle.jpg_spec.proofs.Each.{Each}
+use Rattle.jpg_spec.proofs.Bits.Full.{Has}
+use Rattle.jpg_spec.proofs.Basics.Each.{Each}
 use Rattle.jpg_spec_write.proofs.Shifts.{signed, is_below, divided_is, scaled_signed, abs_signed, shifts_less, shifts_bit, shifts_next, power_some, dc_shifted}
 use Rattle.jpg_spec_write.proofs.Sequential.{dc_predicted}
-use Rattle.jpg_spec.proofs.Common.{lt_of, not_lt_of, and_intro, is_true, last_bit}
+use Rattle.jpg_spec.proofs.Basics.Common.{lt_of, not_lt_of, and_intro, is_true, last_bit}
 
 -- WHAT A VALUE OF AC SENDS
 

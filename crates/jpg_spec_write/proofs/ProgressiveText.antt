@@ -18,16 +18,16 @@ use Rattle.jpg_spec_write.specs.FileText.{Written, segment_text, frame_of_meanin
 use Rattle.jpg_spec.specs.declared.fault.Fault.TheVariants.{RepeatedScan, Progression, MissingTable, QuantChanged}
 use Rattle.jpg_spec.specs.declared.frame.Place.{Place}
 use Rattle.jpg_spec.specs.declared.frame.ScanPart.{ScanPart}
-use Rattle.jpg_spec.proofs.Rows.{map_map}
-use Rattle.jpg_spec.proofs.Each.{Each}
-use Rattle.jpg_spec.proofs.WrittenHead.{IsPartOf, IsSpoken}
+use Rattle.jpg_spec.proofs.Basics.Rows.{map_map}
+use Rattle.jpg_spec.proofs.Basics.Each.{Each}
+use Rattle.jpg_spec.proofs.Writing.WrittenHead.{IsPartOf, IsSpoken}
 use Rattle.jpg_spec_write.proofs.WrittenScan.{scan_rows}
-use Rattle.jpg_spec.proofs.WrittenState.{IsTellable}
+use Rattle.jpg_spec.proofs.Writing.WrittenState.{IsTellable}
 use Rattle.jpg_spec_write.proofs.WrittenSequential.{given_stays, given_now, length_ids, slot_few}
 use Rattle.jpg_spec_write.proofs.ProgressiveRows.{progressive_coded}
 use Rattle.jpg_spec_write.proofs.ProgressiveKnown.{IsProgressiveEntry}
-use Rattle.jpg_spec.proofs.Small.{are_bounds}
-use Rattle.jpg_spec.proofs.Common.{not_refused, equal_itself}
+use Rattle.jpg_spec.proofs.Basics.Small.{are_bounds}
+use Rattle.jpg_spec.proofs.Basics.Common.{not_refused, equal_itself}
 
 -- THE HEAD
 

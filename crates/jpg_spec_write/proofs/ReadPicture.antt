@@ -18,16 +18,16 @@ use Rattle.jpg_spec.specs.Meaning.{Meaning, picture_frame, real_blocks}
 use Rattle.jpg_spec.specs.FileMeaning.{picture_component, meaning_of}
 use Rattle.jpg_spec_write.specs.WrittenFile.{HasQuants, IsKeptMarker}
 use Rattle.jpg_spec.specs.declared.frame.Limits.{Limits}
-use Rattle.jpg_spec.proofs.Common.{both, length_below}
-use Rattle.jpg_spec.proofs.Rows.{at_below, all_reverse}
-use Rattle.jpg_spec.proofs.FirstPasses.{all_below}
-use Rattle.jpg_spec.proofs.KeptMarkers.{may_keep, input_count}
-use Rattle.jpg_spec.proofs.QuantsInForce.{AllContents, IsByte}
-use Rattle.jpg_spec.proofs.SameNumbers.{same_frame, is_place, same_places, file_numbers}
+use Rattle.jpg_spec.proofs.Basics.Common.{both, length_below}
+use Rattle.jpg_spec.proofs.Basics.Rows.{at_below, all_reverse}
+use Rattle.jpg_spec.proofs.Bits.FirstPasses.{all_below}
+use Rattle.jpg_spec.proofs.Segments.KeptMarkers.{may_keep, input_count}
+use Rattle.jpg_spec.proofs.Segments.QuantsInForce.{AllContents, IsByte}
+use Rattle.jpg_spec.proofs.Headers.SameNumbers.{same_frame, is_place, same_places, file_numbers}
 use Rattle.jpg_spec_write.proofs.MovedWritten.{IsPicture}
-use Rattle.jpg_spec.proofs.MovedWritten.{zeros_here}
-use Rattle.jpg_spec.proofs.ReadPicture.{AreShort, HasTable, has_table, table_is, AreOfBytes, block_in, zero_slots, IsLeft, left_frame}
-use Rattle.jpg_spec.proofs.OutsideZeros.{twice_real}
+use Rattle.jpg_spec.proofs.Writing.MovedWritten.{zeros_here}
+use Rattle.jpg_spec.proofs.Files.ReadPicture.{AreShort, HasTable, has_table, table_is, AreOfBytes, block_in, zero_slots, IsLeft, left_frame}
+use Rattle.jpg_spec.proofs.Places.OutsideZeros.{twice_real}
 
 -- KEPT MARKERS
 

@@ -8,11 +8,11 @@ use Rattle.jpg_spec.specs.Lists.{any_of, chunks, below}
 use Rattle.jpg_spec.specs.Scan.{Blocks, Scan, band, block_at, SpellsIntervals, coefficient, is_named, ScanMeans}
 use Rattle.jpg_spec.specs.PictureInWork.{is_at, AreDistinct}
 use Rattle.jpg_spec.specs.declared.frame.Place.{Place}
-use Rattle.jpg_spec.proofs.Rows.{at_below}
-use Rattle.jpg_spec.proofs.BlocksOnce.{joined_chunks}
-use Rattle.jpg_spec.proofs.Each.{Each}
+use Rattle.jpg_spec.proofs.Basics.Rows.{at_below}
+use Rattle.jpg_spec.proofs.Files.BlocksOnce.{joined_chunks}
+use Rattle.jpg_spec.proofs.Basics.Each.{Each}
 use Rattle.jpg_spec_write.proofs.PlacedBlocks.{Placed, all_placed, all_places, blocks_after, found_at, found_none, IsFound, found_each}
-use Rattle.jpg_spec.proofs.Common.{both, same_of, and_intro, length_below}
+use Rattle.jpg_spec.proofs.Basics.Common.{both, same_of, and_intro, length_below}
 
 -- A BLOCK RENEWED in a band: what a coefficient was and what is encoded give what it is
 

@@ -8,11 +8,11 @@ use Rattle.jpg_spec.specs.Segments.{HuffmanTable, ScanHead}
 use Rattle.jpg_spec.specs.Elements.{Coding, UnitLeft, SpellsUnits, at_start, new_unit}
 use Rattle.jpg_spec.specs.Scan.{part_of, scan_coding}
 use Rattle.jpg_spec_write.specs.ScanText.{UnitDue, unit_elements}
-use Rattle.jpg_spec.proofs.Small.{are_bounds}
-use Rattle.jpg_spec.proofs.Each.{Each}
+use Rattle.jpg_spec.proofs.Basics.Small.{are_bounds}
+use Rattle.jpg_spec.proofs.Basics.Each.{Each}
 use Rattle.jpg_spec_write.specs.Written.{IsWritable, HasCode, all_in_force, sequential_bits}
 use Rattle.jpg_spec_write.proofs.Sequential.{written_spells}
-use Rattle.jpg_spec.proofs.DataLength.{table_short, IsBrief, AreLeft, covers_few, data_few}
+use Rattle.jpg_spec.proofs.Bits.DataLength.{table_short, IsBrief, AreLeft, covers_few, data_few}
 
 -- UNITS of a coding whose codes are short
 pub units_few : (c : Coding) (units : List UnitLeft) (told : List ℤ) (bits : List Bool) → IsBrief c → AreLeft units → SpellsUnits c units told bits → length bits ≤ 31 * length told

@@ -13,15 +13,15 @@ use Rattle.jpg_spec.specs.Codes.{code_of}
 use Rattle.jpg_spec_write.specs.Written.{IsWritable, HasCode, all_in_force, sequential_bits, SpellsDue}
 use Rattle.jpg_spec.specs.declared.frame.Bounds.{Bounds}
 use Rattle.jpg_spec_write.proofs.Shifts.{shifted_none, divided_none}
-use Rattle.jpg_spec.proofs.Small.{scaled_none, some_category, IsDc, AreBounds, are_bounds, dc_small, back, one_digit}
+use Rattle.jpg_spec.proofs.Basics.Small.{scaled_none, some_category, IsDc, AreBounds, are_bounds, dc_small, back, one_digit}
 use Rattle.jpg_spec_write.proofs.Writing.{AllSent, AllHave}
 use Rattle.jpg_spec_write.proofs.Bands.{AllBands, at, body, split, bands_cover}
-use Rattle.jpg_spec.proofs.Values.{covers_then}
+use Rattle.jpg_spec.proofs.Bits.Values.{covers_then}
 use Rattle.jpg_spec_write.proofs.Behind.{first_found, IsChosen, covers_chosen, covers_after}
-use Rattle.jpg_spec.proofs.Full.{Has}
+use Rattle.jpg_spec.proofs.Bits.Full.{Has}
 use Rattle.jpg_spec_write.proofs.ProgressiveCodes.{IsAc, value_ac}
-use Rattle.jpg_spec.proofs.Each.{Each, each_join, each_map}
-use Rattle.jpg_spec.proofs.Common.{both, and_intro}
+use Rattle.jpg_spec.proofs.Basics.Each.{Each, each_join, each_map}
+use Rattle.jpg_spec.proofs.Basics.Common.{both, and_intro}
 
 -- a sequential coding
 pub record IsSequential (c : Coding) : Type 0 where

@@ -12,17 +12,17 @@ use Rattle.jpg_spec_write.specs.declared.huffman.Huffman.{Huffman}
 use Rattle.jpg_spec_write.specs.Sending.{sent}
 use Rattle.jpg_spec_write.specs.ScanText.{UnitDue, Owned, units_due, unit_elements, interval_elements, scan_elements, typical_table, is_plain, own_table, scan_tables}
 use Rattle.jpg_spec_write.specs.Written.{IsWritable, HasCode, all_in_force, SpellsDue, sequential_bits}
-use Rattle.jpg_spec.proofs.Small.{are_bounds}
-use Rattle.jpg_spec.proofs.Full.{Has}
-use Rattle.jpg_spec.proofs.Each.{Each, each_map, each_rows}
-use Rattle.jpg_spec.proofs.Common.{both, same_of}
+use Rattle.jpg_spec.proofs.Basics.Small.{are_bounds}
+use Rattle.jpg_spec.proofs.Bits.Full.{Has}
+use Rattle.jpg_spec.proofs.Basics.Each.{Each, each_map, each_rows}
+use Rattle.jpg_spec.proofs.Basics.Common.{both, same_of}
 use Rattle.jpg_spec_write.proofs.Writing.{AllHave}
 use Rattle.jpg_spec_write.proofs.Full.{ac_full, dc_full, band_have}
 use Rattle.jpg_spec_write.proofs.ProgressiveCodes.{IsAc, IsByte, IsCodedAll, elements_coded, own_coded}
 use Rattle.jpg_spec_write.proofs.Sequential.{band_sent, all_sent, sent_ac, each_element, sequential_coding, written_spells}
 use Rattle.jpg_spec_write.proofs.PlacedBlocks.{each_both, IsRealSendable, placed_writable, due_writable, each_all}
 use Rattle.jpg_spec_write.proofs.WrittenScan.{scan_rows, rows_elements}
-use Rattle.jpg_spec.proofs.Precisions.{zero_ac, zero_dc}
+use Rattle.jpg_spec.proofs.Headers.Precisions.{zero_ac, zero_dc}
 use Rattle.jpg_spec_write.specs.Laws.{coding_by, AreWritable, HaveCodes}
 use Rattle.std.specs.List.{All}
 use Rattle.std.proofs.lemmas.List.Elements.{All-head, All-tail}

@@ -7,8 +7,8 @@ use Rattle.jpg_spec.specs.Elements.{scaled}
 use Rattle.jpg_spec_write.specs.Sending.{shifted, divided}
 use Rattle.jpg_spec.specs.Geometry.{bounds_8, bounds_12, bounds_of}
 use Rattle.jpg_spec.specs.declared.frame.Bounds.{Bounds}
-use Rattle.jpg_spec.proofs.Precisions.{of_bounds}
-use Rattle.jpg_spec.proofs.Small.{AreBounds, IsDc}
+use Rattle.jpg_spec.proofs.Headers.Precisions.{of_bounds}
+use Rattle.jpg_spec.proofs.Basics.Small.{AreBounds, IsDc}
 
 -- a law for each bit up to 10, and up to 13
 eleven : (P : ℕ → Type 0) → P 0 → P 1 → P 2 → P 3 → P 4 → P 5 → P 6 → P 7 → P 8 → P 9 → P 10 → (n : ℕ) → n ≤ 10 → P n

@@ -4,8 +4,8 @@ use Rattle.jpg_spec.specs.Codes.{are_codes}
 use Rattle.jpg_spec.specs.Segments.{HuffmanTable}
 use Rattle.jpg_spec_write.specs.ScanText.{typical_table, typical_tables}
 use Rattle.jpg_spec.specs.Sound.{AreTables}
-use Rattle.jpg_spec.proofs.Common.{some_once}
-use Rattle.jpg_spec.proofs.Sound.{typical_by}
+use Rattle.jpg_spec.proofs.Basics.Common.{some_once}
+use Rattle.jpg_spec.proofs.Bits.Sound.{typical_by}
 
 pub typical_valid : AreTables typical_tables
 typical_valid class slot table e =

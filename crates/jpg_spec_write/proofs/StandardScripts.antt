@@ -15,7 +15,7 @@ use Rattle.jpg_spec.specs.Colours.{three_colours, four_colours, colours_of}
 use Rattle.jpg_spec.specs.Jfif.{jfif_of, adobe_transform}
 use Rattle.jpg_spec.specs.Meaning.{Meaning, PictureComponent, colour_of}
 use Rattle.jpg_spec_write.specs.FileText.{frame_of_meaning}
-use Rattle.jpg_spec.proofs.Common.{same_of}
+use Rattle.jpg_spec.proofs.Basics.Common.{same_of}
 use Rattle.std.proofs.lemmas.List.{length-map}
 use Rattle.jpg_spec.specs.declared.frame.Colour.{Colour}
 use Rattle.jpg_spec.specs.declared.frame.Colour.TheVariants.{Gray, YCbCr, Cmyk, Ycck, Unknown}

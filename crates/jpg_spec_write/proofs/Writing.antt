@@ -12,7 +12,7 @@ use Rattle.jpg_spec.specs.Numbers.{category, extra_bits}
 use Rattle.jpg_spec.specs.Elements.{Coding, UnitLeft, Standing, Element, value, long_run, Covers, zeros_in, nonzeros_in, is_zero, scaled, grown, corrected, going_on, symbol_of, are_in_bounds}
 use Rattle.jpg_spec_write.specs.Sending.{Sent, correction, newly_significant, is_new, value_elements}
 use Rattle.jpg_spec.specs.Lists.{any_of}
-use Rattle.jpg_spec.proofs.Values.{going_same, zeros_push, nonzeros_push, corrected_push, corrected_zero, bounds_split}
+use Rattle.jpg_spec.proofs.Bits.Values.{going_same, zeros_push, nonzeros_push, corrected_push, corrected_zero, bounds_split}
 
 -- the effect of a sent value on an old one; a newly sent one has a category that is allowed
 abbrev pub Sends : Coding → Sent → ℤ → ℤ → Type 0

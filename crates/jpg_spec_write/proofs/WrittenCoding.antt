@@ -10,7 +10,7 @@ use Rattle.jpg_spec.specs.Scan.{TablesInForce, codes_of, part_of, scan_coding}
 use Rattle.jpg_spec_write.specs.ScanText.{UnitDue, unit_elements}
 use Rattle.jpg_spec_write.specs.Written.{IsWritable, HasCode, all_in_force, sequential_bits, SpellsDue}
 use Rattle.jpg_spec_write.proofs.Sequential.{written_spells}
-use Rattle.jpg_spec.proofs.Each.{Each}
+use Rattle.jpg_spec.proofs.Basics.Each.{Each}
 
 -- ONLY THE CODES of the components of the units matter
 

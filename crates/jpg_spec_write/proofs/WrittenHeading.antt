@@ -21,8 +21,8 @@ use Rattle.jpg_spec.specs.declared.frame.Colour.{Colour}
 use Rattle.jpg_spec.specs.declared.frame.Colour.TheVariants.{Gray, YCbCr, Rgb, Cmyk, Ycck, Unknown}
 use Rattle.jpg_spec.specs.declared.frame.Limits.{Limits}
 use Rattle.jpg_spec.specs.declared.jfif.Jfif.{Jfif}
-use Rattle.jpg_spec.proofs.Common.{both, negated, neither, not_refused, and_none}
-use Rattle.jpg_spec.proofs.FrameFound.{checks}
+use Rattle.jpg_spec.proofs.Basics.Common.{both, negated, neither, not_refused, and_none}
+use Rattle.jpg_spec.proofs.Headers.FrameFound.{checks}
 use Rattle.jpg_spec.specs.declared.frame.Process.TheVariants.{Baseline, Extended, Progressive}
 
 -- THE PROCESS of a frame isn't checked

@@ -21,14 +21,14 @@ use Rattle.jpg_spec_write.specs.FileText.{Written, nothing_written, Restart, fro
 use Rattle.jpg_spec_write.specs.WrittenFile.{IsHeaded, is_script_after, IsRestart}
 use Rattle.jpg_spec.specs.declared.frame.Component.{Component}
 use Rattle.jpg_spec.specs.declared.frame.Limits.{Limits}
-use Rattle.jpg_spec.proofs.Rows.{by_items}
-use Rattle.jpg_spec.proofs.WrittenFront.{frame_is}
+use Rattle.jpg_spec.proofs.Basics.Rows.{by_items}
+use Rattle.jpg_spec.proofs.Writing.WrittenFront.{frame_is}
 use Rattle.jpg_spec_write.proofs.WrittenFront.{frame_component}
 use Rattle.jpg_spec_write.proofs.WrittenStart.{component_at_is, starts}
 use Rattle.jpg_spec_write.proofs.WrittenState.{Sends, quants_due}
 use Rattle.jpg_spec_write.proofs.WrittenScript.{IsFit, IsShown, script_step}
-use Rattle.jpg_spec.proofs.FirstPasses.{all_below}
-use Rattle.jpg_spec.proofs.Common.{both, lt_of}
+use Rattle.jpg_spec.proofs.Bits.FirstPasses.{all_below}
+use Rattle.jpg_spec.proofs.Basics.Common.{both, lt_of}
 
 -- WHAT IS MEANT at the end: every component has its table, and every real block is that of the picture
 

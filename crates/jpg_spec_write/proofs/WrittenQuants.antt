@@ -5,15 +5,15 @@ use Rattle.std.specs.Int.{to_be_bytes, w16}
 use Rattle.std.proofs.Math.Seq.{take_all}
 use Rattle.jpg_spec.specs.Lists.{any_of, are_equal}
 use Rattle.jpg_spec.specs.Segments.{QuantTable}
-use Rattle.jpg_spec.specs.QuantContents.{pairs_told, quant_tables}
+use Rattle.jpg_spec.specs.QuantContents.{parsed_pairs, quant_tables}
 use Rattle.jpg_spec_write.specs.Headed.{is_wide}
 use Rattle.jpg_spec_write.specs.FileText.{distinct_after, slot_in}
-use Rattle.jpg_spec.proofs.QuantsInForce.{IsQuants, AreTwoBytes, pairs_again, length_pairs_written, one_table}
-use Rattle.jpg_spec.proofs.Each.{Each}
+use Rattle.jpg_spec.proofs.Segments.QuantsInForce.{IsQuants, AreTwoBytes, pairs_again, length_pairs_written, one_table}
+use Rattle.jpg_spec.proofs.Basics.Each.{Each}
 use Rattle.jpg_spec_write.proofs.WrittenState.{equal_lists}
-use Rattle.jpg_spec.proofs.PlacesFound.{or_first, or_second}
-use Rattle.jpg_spec.proofs.Common.{same_of, same_itself, equal_itself}
-use Rattle.jpg_spec.proofs.WrittenQuants.{is_in}
+use Rattle.jpg_spec.proofs.Places.PlacesFound.{or_first, or_second}
+use Rattle.jpg_spec.proofs.Basics.Common.{same_of, same_itself, equal_itself}
+use Rattle.jpg_spec.proofs.Writing.WrittenQuants.{is_in}
 
 -- THE SEGMENT of a table in a slot
 
@@ -33,8 +33,8 @@ slot_told slot table few is are = by (is_wide table)
     wide : length (flat_map (to_be_bytes w16) table) ≡ 128
     wide = omega (arith, length_pairs_written table, is.long)
 
-    entries : pairs_told (take 128 (flat_map (to_be_bytes w16) table)) ≡ table
-    entries = ap pairs_told (take_all 128 (flat_map (to_be_bytes w16) table) (omega (arith, wide))) ∙ pairs_again table are
+    entries : parsed_pairs (take 128 (flat_map (to_be_bytes w16) table)) ≡ table
+    entries = ap parsed_pairs (take_all 128 (flat_map (to_be_bytes w16) table) (omega (arith, wide))) ∙ pairs_again table are
 
     plain : take 64 table ≡ table
     plain = take_all 64 table (omega (arith, is.long))

@@ -17,15 +17,15 @@ use Rattle.jpg_spec_write.specs.Written.{HasCode, all_in_force, sequential_bits}
 use Rattle.jpg_spec.specs.PictureInWork.{is_at, AreDistinct}
 use Rattle.jpg_spec.specs.Laws.{IsNewUnit}
 use Rattle.jpg_spec.specs.declared.frame.Place.{Place}
-use Rattle.jpg_spec.proofs.Packing.{packs}
-use Rattle.jpg_spec.proofs.BlocksOnce.{joined_chunks}
-use Rattle.jpg_spec.proofs.PlacesDistinct.{units_distinct}
-use Rattle.jpg_spec.proofs.PlacesFound.{each_units, real_found}
-use Rattle.jpg_spec.proofs.Each.{Each, each_map, each_rows, each_flat}
+use Rattle.jpg_spec.proofs.Bits.Packing.{packs}
+use Rattle.jpg_spec.proofs.Files.BlocksOnce.{joined_chunks}
+use Rattle.jpg_spec.proofs.Places.PlacesDistinct.{units_distinct}
+use Rattle.jpg_spec.proofs.Places.PlacesFound.{each_units, real_found}
+use Rattle.jpg_spec.proofs.Basics.Each.{Each, each_map, each_rows, each_flat}
 use Rattle.jpg_spec_write.proofs.PlacedBlocks.{Placed, block_due, placed_due, all_placed, all_places, blocks_after, found_none, IsFound, found_each, found_size, IsRealSendable, IsPlacedWritable, placed_writable, due_writable, placed_sizes, found_real}
 use Rattle.jpg_spec_write.proofs.WrittenCoding.{Gives, scan_spells}
-use Rattle.jpg_spec.proofs.Precisions.{zero_ac, zero_dc}
-use Rattle.jpg_spec.proofs.Common.{both, same_of, and_intro}
+use Rattle.jpg_spec.proofs.Headers.Precisions.{zero_ac, zero_dc}
+use Rattle.jpg_spec.proofs.Basics.Common.{both, same_of, and_intro}
 
 -- AN INTERVAL
 

@@ -25,20 +25,20 @@ use Rattle.jpg_spec.specs.declared.frame.Place.{Place}
 use Rattle.jpg_spec.specs.declared.frame.ScanPart.{ScanPart}
 use Rattle.jpg_spec.specs.declared.frame.Limits.{Limits}
 use Rattle.jpg_spec.specs.Elements.{new_unit, IsBlockIn}
-use Rattle.jpg_spec.proofs.PictureInWork.{leads_sizes}
-use Rattle.jpg_spec.proofs.FirstPasses.{sequential_unit}
-use Rattle.jpg_spec.proofs.PlacesSome.{units_some, chunks_some}
-use Rattle.jpg_spec.proofs.PlacesFound.{each_units}
-use Rattle.jpg_spec.proofs.Each.{Each, each_map}
+use Rattle.jpg_spec.proofs.Places.PictureInWork.{leads_sizes}
+use Rattle.jpg_spec.proofs.Bits.FirstPasses.{sequential_unit}
+use Rattle.jpg_spec.proofs.Places.PlacesSome.{units_some, chunks_some}
+use Rattle.jpg_spec.proofs.Places.PlacesFound.{each_units}
+use Rattle.jpg_spec.proofs.Basics.Each.{Each, each_map}
 use Rattle.jpg_spec_write.proofs.PlacedBlocks.{IsRealSendable, each_both}
 use Rattle.jpg_spec_write.proofs.WrittenScan.{sequential_coded, scan_rows, scan_after_blocks, other_after, real_after, scan_means}
-use Rattle.jpg_spec.proofs.WrittenHead.{IsSpoken, head_contents}
+use Rattle.jpg_spec.proofs.Writing.WrittenHead.{IsSpoken, head_contents}
 use Rattle.jpg_spec_write.proofs.WrittenState.{IsSent, Sends, quants_due, tables_step, interval_step}
 use Rattle.jpg_spec_write.proofs.WrittenStep.{ids_of, intervals_text_spelled, rule_is, head_in_is, scan_is, scan_step}
 use Rattle.jpg_spec_write.proofs.WrittenSequential.{plain_part, plain_head, plain_components, IsEntry, entry_is, among_below, plain_spoken, plain_needed, needed_tellable, IsGiven, all_given, parts_given, plain_tables, plain_scan, plain_written, sequential_admitted, plain_data, scans_are}
 use Rattle.jpg_spec_write.proofs.SequentialCodes.{scan_coded, rows_writable}
 use Rattle.jpg_spec_write.specs.Written.{all_in_force}
-use Rattle.jpg_spec.proofs.Common.{both, neither, or_assoc}
+use Rattle.jpg_spec.proofs.Basics.Common.{both, neither, or_assoc}
 
 -- a meaning that may be written in sequential scans
 pub record IsFit (H : Meaning) : Type 0 where

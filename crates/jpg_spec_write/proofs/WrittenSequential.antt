@@ -25,13 +25,13 @@ use Rattle.jpg_spec.specs.declared.fault.Fault.TheVariants.{RepeatedScan, Progre
 use Rattle.jpg_spec.specs.declared.frame.Colour.{Colour}
 use Rattle.jpg_spec.specs.declared.frame.Place.{Place}
 use Rattle.jpg_spec.specs.declared.frame.ScanPart.{ScanPart}
-use Rattle.jpg_spec.proofs.Rows.{map_map}
-use Rattle.jpg_spec.proofs.Each.{Each}
+use Rattle.jpg_spec.proofs.Basics.Rows.{map_map}
+use Rattle.jpg_spec.proofs.Basics.Each.{Each}
 use Rattle.jpg_spec_write.proofs.WrittenCoding.{Gives}
 use Rattle.jpg_spec_write.proofs.WrittenScan.{sequential_coded, scan_rows}
-use Rattle.jpg_spec.proofs.WrittenHead.{IsPartOf, IsSpoken}
-use Rattle.jpg_spec.proofs.WrittenState.{IsTellable}
-use Rattle.jpg_spec.proofs.Common.{both, negated, le_of, lt_of, same_of, same_itself, not_refused}
+use Rattle.jpg_spec.proofs.Writing.WrittenHead.{IsPartOf, IsSpoken}
+use Rattle.jpg_spec.proofs.Writing.WrittenState.{IsTellable}
+use Rattle.jpg_spec.proofs.Basics.Common.{both, negated, le_of, lt_of, same_of, same_itself, not_refused}
 use Rattle.jpg_spec_write.proofs.ProgressiveCodes.{own_tell}
 
 -- THE HEAD

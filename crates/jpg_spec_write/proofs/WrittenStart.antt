@@ -16,7 +16,7 @@ use Rattle.jpg_spec.specs.HuffContents.{HuffmanDefinition, huffman_tables}
 use Rattle.jpg_spec.specs.ScanContents.{restart_interval}
 use Rattle.jpg_spec.specs.Scan.{Blocks}
 use Rattle.jpg_spec.specs.Markers.{Segment, soi, SpellsSegments, Pass, code_fault, code_fault_if, has_frame, has_scan, kept_after}
-use Rattle.jpg_spec.specs.InForce.{told_list, told_some, told_or, first_some, frame_after, frame_of, no_frame, heads_of, huffmans_defined, huffman_in_force, quants_defined, quant_in_force, restart_in_force}
+use Rattle.jpg_spec.specs.InForce.{parsed_list, parsed_some, parsed_or, first_some, frame_after, frame_of, no_frame, heads_of, huffmans_defined, huffman_in_force, quants_defined, quant_in_force, restart_in_force}
 use Rattle.jpg_spec.specs.History.{quant_of}
 use Rattle.jpg_spec.specs.Items.{fault_in}
 use Rattle.jpg_spec.specs.FileMeaning.{no_blocks}
@@ -27,21 +27,21 @@ use Rattle.jpg_spec.specs.declared.frame.Process.{Process}
 use Rattle.jpg_spec.specs.declared.frame.Process.TheVariants.{Baseline, Extended, Progressive}
 use Rattle.jpg_spec.specs.declared.frame.Component.{Component}
 use Rattle.jpg_spec.specs.declared.frame.Limits.{Limits}
-use Rattle.jpg_spec.proofs.Rows.{all_reverse}
-use Rattle.jpg_spec.proofs.Common.{equal_itself}
-use Rattle.jpg_spec.proofs.HeadersOnce.{items_of, segments_of_items}
-use Rattle.jpg_spec.proofs.BeforeScans.{no_quant, no_heads, front_items, header_leads}
+use Rattle.jpg_spec.proofs.Basics.Rows.{all_reverse}
+use Rattle.jpg_spec.proofs.Basics.Common.{equal_itself}
+use Rattle.jpg_spec.proofs.Headers.HeadersOnce.{items_of, segments_of_items}
+use Rattle.jpg_spec.proofs.Headers.BeforeScans.{no_quant, no_heads, front_items, header_leads}
 use Rattle.jpg_spec_write.proofs.KeptMarkers.{text_after, kept_spelled}
-use Rattle.jpg_spec.proofs.KeptMarkers.{no_frame_in, no_scan_in, no_restart_in, all_kept}
-use Rattle.jpg_spec.proofs.QuantsInForce.{IsQuants, AreTwoBytes, two_bytes_each}
+use Rattle.jpg_spec.proofs.Segments.KeptMarkers.{no_frame_in, no_scan_in, no_restart_in, all_kept}
+use Rattle.jpg_spec.proofs.Segments.QuantsInForce.{IsQuants, AreTwoBytes, two_bytes_each}
 use Rattle.jpg_spec_write.proofs.FrameCodes.{code_is, frame_code}
-use Rattle.jpg_spec.proofs.Each.{Each}
+use Rattle.jpg_spec.proofs.Basics.Each.{Each}
 use Rattle.jpg_spec_write.proofs.WrittenQuants.{slot_contents, slot_told, slot_short, distinct_has, distinct_each, each_in, SlotTable, IsSlotOf, has_table, slot_found}
-use Rattle.jpg_spec.proofs.WrittenQuants.{is_in}
-use Rattle.jpg_spec.proofs.WrittenFront.{frame_is, markers_pass}
+use Rattle.jpg_spec.proofs.Writing.WrittenQuants.{is_in}
+use Rattle.jpg_spec.proofs.Writing.WrittenFront.{frame_is, markers_pass}
 use Rattle.jpg_spec_write.proofs.WrittenFront.{frame_component, frame_contents, frame_told_is, frame_short, markers_passed, no_tables}
 use Rattle.jpg_spec_write.proofs.WrittenState.{Sends, quants_due}
-use Rattle.jpg_spec.proofs.PlacesFound.{or_first, or_second}
+use Rattle.jpg_spec.proofs.Places.PlacesFound.{or_first, or_second}
 
 -- THE SEGMENTS before the frame header
 
@@ -85,7 +85,7 @@ quant_step limits H tables ys text slot t few is are s =
       frame = s.frame;
       scan = s.scan;
       kept = s.kept;
-      quants = ap (λ r. reverse (told_list r) ++ quants_defined ys) told ∙ ap (λ l. (slot, t) ∷ l) s.quants;
+      quants = ap (λ r. reverse (parsed_list r) ++ quants_defined ys) told ∙ ap (λ l. (slot, t) ∷ l) s.quants;
       huffman = s.huffman;
       restart = s.restart;
     }
@@ -178,9 +178,9 @@ starts limits H P limited is holds =
     let passes : Pass (header_rule limits) zs = (stands, code.rule limits ys contents ∙ ap fault_in told, front.passes) in
     let scan : has_scan zs ≡ false = ap (λ b. b || has_scan ys) code.scan ∙ front.scan in
     let after : frame_after limits zs ≡ Some f =
-    ap (λ o. first_some (option_and_then (λ process. told_some (frame_header limits process contents)) o) (frame_after limits ys)) (code_is p) ∙ ap (λ t. first_some (told_some t) (frame_after limits ys)) told in
-    let tables : quants_defined zs ≡ pairs_on all all [] = ap (λ b. cond b (reverse (told_list (quant_tables contents))) [] ++ quants_defined ys) code.quant ∙ front.quants in
-    let huffman : huffmans_defined zs ≡ [] = ap (λ b. cond b (reverse (told_list (huffman_tables contents))) [] ++ huffmans_defined ys) (no_huffman p) ∙ front.huffman in
+    ap (λ o. first_some (option_and_then (λ process. parsed_some (frame_header limits process contents)) o) (frame_after limits ys)) (code_is p) ∙ ap (λ t. first_some (parsed_some t) (frame_after limits ys)) told in
+    let tables : quants_defined zs ≡ pairs_on all all [] = ap (λ b. cond b (reverse (parsed_list (quant_tables contents))) [] ++ quants_defined ys) code.quant ∙ front.quants in
+    let huffman : huffmans_defined zs ≡ [] = ap (λ b. cond b (reverse (parsed_list (huffman_tables contents))) [] ++ huffmans_defined ys) (no_huffman p) ∙ front.huffman in
     let found : (i : ℕ) → i < length H.components → quant_in_force zs (component_at f i).quant ≡ Some (quants_due H i) = λ i h.
     (let q = quants_due H i in
     let known : is_in q all ≡ true = distinct_has [] owns q (table_in H.components i (record { id = 0; h = 1; v = 1; quants = [] }) h) in
@@ -199,7 +199,7 @@ starts limits H P limited is holds =
         first = subst (λ xs. (i : ℕ) → i < length H.components → quant_of f xs i ≡ None) same (λ i h. no_quant f zs i scan);
         sent_heads = subst (λ xs. heads_of f xs ≡ []) same (no_heads f zs scan);
         tables = subst (λ xs. (c s : ℕ) → huffman_in_force xs c s ≡ None) same (λ c s. ap (λ ds. option_map (λ (d : HuffmanDefinition). d.table) (find (λ (d : HuffmanDefinition). d.class == c && d.slot == s) ds)) huffman);
-        interval = subst (λ xs. restart_in_force xs ≡ 0) same (ap (λ b. cond b (told_or 0 (restart_interval contents)) (restart_in_force ys)) code.restart ∙ front.restart);
+        interval = subst (λ xs. restart_in_force xs ≡ 0) same (ap (λ b. cond b (parsed_or 0 (restart_interval contents)) (restart_in_force ys)) code.restart ∙ front.restart);
         picture = holds;
       },
     )

@@ -6,7 +6,7 @@ use Rattle.std.proofs.Math.Path.{fun_ext}
 use Rattle.std.proofs.lemmas.List.{append_assoc, append-nil}
 use Rattle.jpg_spec.specs.Bits.{IsMarkerCode}
 use Rattle.jpg_spec.specs.Lists.{are_equal}
-use Rattle.jpg_spec.specs.Faults.{Told}
+use Rattle.jpg_spec.specs.Faults.{Parsed}
 use Rattle.jpg_spec.specs.Geometry.{component_at}
 use Rattle.jpg_spec.specs.Segments.{HuffmanTable, QuantTable, ScanHead, two_bytes}
 use Rattle.jpg_spec.specs.Scan.{Blocks}
@@ -14,16 +14,16 @@ use Rattle.jpg_spec.specs.Meaning.{Meaning, component_of}
 use Rattle.jpg_spec.specs.HuffContents.{HuffmanDefinition}
 use Rattle.jpg_spec.specs.ScanContents.{restart_interval}
 use Rattle.jpg_spec.specs.Markers.{has_frame, kept_after}
-use Rattle.jpg_spec.specs.InForce.{told_list, told_or, frame_of, huffmans_defined, huffman_in_force, quant_in_force, restart_in_force, heads_of}
+use Rattle.jpg_spec.specs.InForce.{parsed_list, parsed_or, frame_of, huffmans_defined, huffman_in_force, quant_in_force, restart_in_force, heads_of}
 use Rattle.jpg_spec.specs.History.{has_begun, quant_of}
 use Rattle.jpg_spec.specs.Items.{Item, segment, segments_of, SpellsFront, fault_in}
 use Rattle.jpg_spec.specs.FileMeaning.{Leads}
 use Rattle.jpg_spec_write.specs.FileText.{Written, segment_text, frame_of_meaning, holds_table, with_table, tables_text, tables_given}
 use Rattle.jpg_spec.specs.declared.frame.Limits.{Limits}
 use Rattle.jpg_spec_write.proofs.KeptMarkers.{text_spells}
-use Rattle.jpg_spec.proofs.Each.{Each}
-use Rattle.jpg_spec.proofs.Common.{both, same_of, eq_swap}
-use Rattle.jpg_spec.proofs.WrittenState.{table_contents, IsTellable}
+use Rattle.jpg_spec.proofs.Basics.Each.{Each}
+use Rattle.jpg_spec.proofs.Basics.Common.{both, same_of, eq_swap}
+use Rattle.jpg_spec.proofs.Writing.WrittenState.{table_contents, IsTellable}
 
 -- THE STATE: the items so far, their text, and their results: their heads, the newest first, and what holds of the
 -- blocks.
@@ -116,7 +116,7 @@ module _ (limits : Limits) (H : Meaning) (heads : List ScanHead) (P : Blocks →
           let test : HuffmanDefinition → Bool = λ d. d.class == c && d.slot == n in
           let older = huffmans_defined (segments_of items) in
           let keys : (class == c && slot == n) ≡ (c == class && n == slot) = ap (λ b. b && slot == n) (eq_swap class c) ∙ ap (λ b. c == class && b) (eq_swap slot n) in
-          ap (λ (r : Told (List HuffmanDefinition)). option_map (λ (d : HuffmanDefinition). d.table) (find test (reverse (told_list r) ++ older))) t.told
+          ap (λ (r : Parsed (List HuffmanDefinition)). option_map (λ (d : HuffmanDefinition). d.table) (find test (reverse (parsed_list r) ++ older))) t.told
           ∙ table_found (class == c && slot == n) (c == class && n == slot) table d (find test older) (given c n) keys refl (s.tables c n)
 
   -- all of them
@@ -149,7 +149,7 @@ module _ (limits : Limits) (H : Meaning) (heads : List ScanHead) (P : Blocks →
 -- THE RESTART INTERVAL
 
 interval_told : (n : ℕ) → n < 65536 → restart_interval (to_be_bytes w16 n) ≡ Ok n
-interval_told n h = let e : two_bytes (n / 256 % 256) (n % 256) ≡ n = omega (arith, h) in ap (λ (m : ℕ). (let r : Told ℕ = Ok m in r)) e
+interval_told n h = let e : two_bytes (n / 256 % 256) (n % 256) ≡ n = omega (arith, h) in ap (λ (m : ℕ). (let r : Parsed ℕ = Ok m in r)) e
 
 pub interval_step : (limits : Limits) (H : Meaning) (heads : List ScanHead) (P : Blocks → Type 0) (w : Written) (n : ℕ) (text : List ℕ) → n < 65536 → Sends limits H heads P w text
     → Sends limits H heads P (record { tables = w.tables; interval = n }) (text ++ cond (n == w.interval) [] (segment_text 0xdd (to_be_bytes w16 n)))
@@ -172,7 +172,7 @@ interval_step limits H heads P w n text h (items, s) = by (n == w.interval) refl
         first = s.first;
         sent_heads = s.sent_heads;
         tables = s.tables;
-        interval = ap (told_or 0) (interval_told n h);
+        interval = ap (parsed_or 0) (interval_told n h);
         picture = s.picture;
       },
     )

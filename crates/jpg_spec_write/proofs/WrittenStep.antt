@@ -13,16 +13,16 @@ use Rattle.jpg_spec.specs.Meaning.{Meaning}
 use Rattle.jpg_spec.specs.ScanContents.{scan_header}
 use Rattle.jpg_spec.specs.QuantContents.{◌>>=◌}
 use Rattle.jpg_spec.specs.Markers.{code_fault, code_fault_if}
-use Rattle.jpg_spec.specs.InForce.{told_or, first_some, no_head, head_in, frame_of, huffman_in_force, quant_in_force, restart_in_force, heads_of}
+use Rattle.jpg_spec.specs.InForce.{parsed_or, first_some, no_head, head_in, frame_of, huffman_in_force, quant_in_force, restart_in_force, heads_of}
 use Rattle.jpg_spec.specs.History.{names, has_begun, quant_of, admitted}
 use Rattle.jpg_spec.specs.Items.{Item, scan, segments_of, SpellsFront, SpellsIntervalsText, fault_in, contents_rule}
 use Rattle.jpg_spec.specs.FileMeaning.{scan_after}
 use Rattle.jpg_spec_write.specs.FileText.{Written, segment_text, frame_of_meaning, head_text}
 use Rattle.jpg_spec.specs.declared.frame.Limits.{Limits}
-use Rattle.jpg_spec.proofs.Rows.{map_map}
-use Rattle.jpg_spec.proofs.Packing.{data_spelled}
+use Rattle.jpg_spec.proofs.Basics.Rows.{map_map}
+use Rattle.jpg_spec.proofs.Bits.Packing.{data_spelled}
 use Rattle.jpg_spec_write.proofs.KeptMarkers.{text_spells}
-use Rattle.jpg_spec.proofs.WrittenHead.{IsSpoken, head_contents, head_spoken, head_short}
+use Rattle.jpg_spec.proofs.Writing.WrittenHead.{IsSpoken, head_contents, head_spoken, head_short}
 use Rattle.jpg_spec_write.proofs.WrittenState.{IsSent, quants_due}
 
 -- THE DATA of intervals, with RST0 to RST7 between them
@@ -71,7 +71,7 @@ module _ {limits : Limits} {H : Meaning} {heads : List ScanHead} {P : Blocks →
 
   pub head_in_is : (head : ScanHead) → is_distinct (ids_of H) ≡ true → IsSpoken (frame_of_meaning H) head → head_in (frame_of limits (segments_of items)) (head_contents (ids_of H) head) ≡ head
   head_in_is head distinct spoken =
-      ap (λ g. head_in g (head_contents (ids_of H) head)) s.frame ∙ ap (told_or no_head) (head_spoken (frame_of_meaning H) head distinct spoken)
+      ap (λ g. head_in g (head_contents (ids_of H) head)) s.frame ∙ ap (parsed_or no_head) (head_spoken (frame_of_meaning H) head distinct spoken)
 
   pub scan_is : (head : ScanHead) → is_distinct (ids_of H) ≡ true → IsSpoken (frame_of_meaning H) head
       → scan_after limits (segments_of items) (head_contents (ids_of H) head) ≡ scan_of (frame_of_meaning H) (huffman_in_force (segments_of items)) (restart_in_force (segments_of items)) head
@@ -79,7 +79,7 @@ module _ {limits : Limits} {H : Meaning} {heads : List ScanHead} {P : Blocks →
       let before = segments_of items in
       let contents = head_contents (ids_of H) head in
       ap (λ g. scan_of g (huffman_in_force before) (restart_in_force before) (head_in g contents)) s.frame
-      ∙ ap (scan_of (frame_of_meaning H) (huffman_in_force before) (restart_in_force before)) (ap (told_or no_head) (head_spoken (frame_of_meaning H) head distinct spoken))
+      ∙ ap (scan_of (frame_of_meaning H) (huffman_in_force before) (restart_in_force before)) (ap (parsed_or no_head) (head_spoken (frame_of_meaning H) head distinct spoken))
 
   pub scan_step : (Q : Blocks → Type 0) (head : ScanHead) (intervals : List (List ℕ)) (coded : List ℕ) (after : Blocks) → is_distinct (ids_of H) ≡ true → IsSpoken (frame_of_meaning H) head
       → admitted (frame_of_meaning H) (segments_of items) head ≡ Ok head → SpellsIntervalsText 0 intervals coded
@@ -90,7 +90,7 @@ module _ {limits : Limits} {H : Meaning} {heads : List ScanHead} {P : Blocks →
       let before = segments_of items in
       let contents = head_contents (ids_of H) head in
       let told : scan_header f contents ≡ Ok head = head_spoken f head distinct spoken in
-      let here : head_in f contents ≡ head = ap (told_or no_head) told in
+      let here : head_in f contents ≡ head = ap (parsed_or no_head) told in
       let rule = rule_is head distinct spoken admits in
       let stands : code_fault before 0xda ≡ None = ap (λ b. code_fault_if b 0xda) s.framed in
       let same = scan_is head distinct spoken in

@@ -2,7 +2,7 @@
 -- and bytes are the suite's). A text encodes a script if it has a spelling: its numbers with all that is around them.
 use Rattle.std.specs.Prelude.{◌≡◌, ℕ, Bool, true, false, not, nat_le, ◌&&◌, ◌||◌, ◌==◌, List, [], ◌∷◌, ◌++◌, length, map, flat_map, slice_index_or, Option, None, Some, Result}
 use Rattle.jpg_spec.specs.Lists.{all_of, is_empty}
-use Rattle.jpg_spec.specs.NumberTexts.{is_digit, digits_from, is_space, NumbersWord, numbers_text, NumberWord, numbers_told, without_comments}
+use Rattle.jpg_spec.specs.NumberTexts.{is_digit, digits_from, is_space, NumbersWord, numbers_text, NumberWord, parsed_numbers, without_comments}
 use Rattle.jpg_spec.specs.TextForms.{TextForm, Tells}
 use Rattle.jpg_spec_write.specs.Script.{Entry}
 use Rattle.jpg_spec.specs.declared.fault.FaultAt.{FaultAt}
@@ -101,19 +101,19 @@ banded components numbers = record {
 }
 
 -- without a colon all coefficients with all their bits
-abbrev pub band_told : Option NumbersWord → List ℕ
-band_told None = 0 ∷ 63 ∷ 0 ∷ 0 ∷ []
-band_told (Some w) = numbers_told w
+abbrev pub parsed_band : Option NumbersWord → List ℕ
+parsed_band None = 0 ∷ 63 ∷ 0 ∷ 0 ∷ []
+parsed_band (Some w) = parsed_numbers w
 
-abbrev pub entry_told : EntryWord → Entry
-entry_told w = banded (numbers_told w.components) (band_told w.band)
+abbrev pub parsed_entry : EntryWord → Entry
+parsed_entry w = banded (parsed_numbers w.components) (parsed_band w.band)
 
 -- The text encodes the script.
 pub record Spells (text : List ℕ) (script : List Entry) : Type 0 where
   pub word : ScriptWord
   pub formed : is_script word ≡ true
   pub spelled : without_comments false text ≡ script_text word
-  pub told : map entry_told (entries word) ≡ script
+  pub told : map parsed_entry (entries word) ≡ script
 
 -- the form of scripts
 abbrev pub script_form : TextForm (List Entry)

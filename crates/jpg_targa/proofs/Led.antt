@@ -1,7 +1,7 @@
 -- What reading some bytes leads to, by the state before them.
 use Rattle.std.proofs.Common.{◌≡◌, ℕ, ◌-◌, ◌≤◌, List, [], ◌∷◌, ◌++◌, length, take, get_or, refl, sym, ap, ◌∙◌, subst, arith}
 use Rattle.jpg_spec_image.specs.TargaSteps.{TargaState, in_copies, in_pixels, total, grown, step, run}
-use Rattle.jpg_spec_image.specs.TargaReading.{StandsForTarga, InCopies, InPixels}
+use Rattle.jpg_spec_image.specs.TargaReading.{RepresentsTarga, InCopies, InPixels}
 use Rattle.jpg_spec_image.proofs.TargaRuns.{pixels_run}
 use Rattle.jpg_spec_image.proofs.TargaStands.{stands}
 use Rattle.jpg_targa.specs.Reader.{standing_of, after_pixels, IsReached, Reaches, Grows, CanStretch}
@@ -20,13 +20,13 @@ one_led s piece a w m e h r = subst (λ (x : Moved). Reaches (run s (take x.used
 
 -- bytes of pixels are missing before a pixel is copied
 pub copies_reached : (head pixels : List ℕ) (count : ℕ) (pixel : List ℕ) → IsReached (in_copies head pixels count pixel) → length pixels ≤ total head
-copies_reached head pixels count pixel (bytes, e) = by (subst (StandsForTarga bytes) e (stands bytes))
+copies_reached head pixels count pixel (bytes, e) = by (subst (RepresentsTarga bytes) e (stands bytes))
   where
     by : InCopies bytes head pixels count pixel → length pixels ≤ total head
     by i = let r = i.packets.room in omega (arith, r)
 
 pub pixels_reached : (w : Work) (left : ℕ) → IsReached (in_pixels w.head w.pixels left) → CanStretch left w
-pixels_reached w left (bytes, e) = by (subst (StandsForTarga bytes) e (stands bytes))
+pixels_reached w left (bytes, e) = by (subst (RepresentsTarga bytes) e (stands bytes))
   where
     by : InPixels bytes w.head w.pixels left → CanStretch left w
     by i = record { some = i.some; room = i.room }

@@ -10,9 +10,9 @@ use Rattle.jpg_spec.specs.Meaning.{component_of, most_across, most_down}
 use Rattle.jpg_spec_write.specs.declared.picture_fault.PictureFault.{PictureFault}
 use Rattle.jpg_spec_write.specs.declared.picture_fault.PictureFault.TheVariants.{GrayColour, GrayFactors}
 use Rattle.std.proofs.lemmas.List.{get_or-map}
-use Rattle.jpg_spec.proofs.Common.{length_below, same_of}
-use Rattle.jpg_spec.proofs.Rows.{at_below}
-use Rattle.jpg_file.specs.Read.PictureKept.{component_told}
+use Rattle.jpg_spec.proofs.Basics.Common.{length_below, same_of}
+use Rattle.jpg_spec.proofs.Basics.Rows.{at_below}
+use Rattle.jpg_file.specs.Read.PictureKept.{component_view}
 use Rattle.jpg_file.specs.Read.PictureRead.{picture_meaning}
 use Rattle.jpg_file.specs.declared.read.picture.Picture.{Picture}
 use Rattle.jpg_transform.specs.Planned.{is_first_greatest}
@@ -22,11 +22,11 @@ use Rattle.jpg_transform.proofs.SeenPicture.{seen_grids}
 abbrev pub fault_by : Bool → Bool → Bool → Option PictureFault
 fault_by gray colours first = cond (gray && not colours) (Some GrayColour) (cond (gray && not first) (Some GrayFactors) None)
 
-first_told : (p : Picture) → 1 ≤ length p.frame.components → component_of (picture_meaning p) 0 ≡ component_told p.frame p.quants.items 0
+first_told : (p : Picture) → 1 ≤ length p.frame.components → component_of (picture_meaning p) 0 ≡ component_view p.frame p.quants.items 0
 first_told p some =
     let n = length p.frame.components in
-    get_or-map (component_told p.frame p.quants.items) (below n) 0 0 (record { id = 0; h = 1; v = 1; quants = [] }) (omega (arith, some, length_below n))
-    ∙ ap (component_told p.frame p.quants.items) (at_below n 0 (omega (arith, some)))
+    get_or-map (component_view p.frame p.quants.items) (below n) 0 0 (record { id = 0; h = 1; v = 1; quants = [] }) (omega (arith, some, length_below n))
+    ∙ ap (component_view p.frame p.quants.items) (at_below n 0 (omega (arith, some)))
 
 pub gray_by_frame : (gray : Bool) (p : Picture) → gray_fault gray (picture_meaning p) ≡ fault_by gray (is_gray_or_ycbcr p.colour) (is_first_greatest p.frame)
 gray_by_frame gray p =

@@ -3,7 +3,7 @@ use Rattle.std.proofs.Common.{◌≡◌, ◌⊎◌, ℕ, Bool, true, false, cond
 use Rattle.std.specs.Prelude.{◌||◌, nat_le, not, find, filter, reverse}
 use Rattle.std.proofs.lemmas.List.{reverse-append}
 use Rattle.jpg_spec.specs.Colours.{colours_of, four_colours, three_colours, is_some_zero, is_some_number}
-use Rattle.jpg_spec.specs.Jfif.{adobe_transform, begins_adobe, begins_jfif, is_adobe, is_jfif, jfif_of, jfif_told}
+use Rattle.jpg_spec.specs.Jfif.{adobe_transform, begins_adobe, begins_jfif, is_adobe, is_jfif, jfif_of, parsed_jfif}
 use Rattle.jpg_spec.specs.Lists.{any_of, are_equal}
 use Rattle.jpg_spec.specs.Markers.{Segment}
 use Rattle.jpg_spec.specs.Meaning.{Meaning, colour_of}
@@ -14,7 +14,7 @@ use Rattle.jpg_spec.specs.declared.frame.Colour.TheVariants.{Gray, YCbCr, Rgb, C
 use Rattle.jpg_spec.specs.declared.frame.Copying.{Copying}
 use Rattle.jpg_spec.specs.declared.frame.Copying.TheVariants as copying
 use Rattle.jpg_spec.specs.declared.jfif.Jfif.{Jfif}
-use Rattle.jpg_spec.proofs.Common.{negated, neither, same_of}
+use Rattle.jpg_spec.proofs.Basics.Common.{negated, neither, same_of}
 
 -- NONE IS FOUND
 
@@ -95,7 +95,7 @@ others_than_adobe rest = filter (λ s. not (begins_adobe s.0 s.1)) rest
 
 own_jfif : (j : Jfif) (rest : List Segment) → (jfif_of ((0xe0, jfif_contents j) ∷ others_than_jfif rest)).seen ≡ true
 own_jfif j rest =
-    ap (λ o. (jfif_told o).seen) (last_one is_jfif (0xe0, jfif_contents j) true (others_than_jfif rest) refl (from_each is_jfif (others_than_jfif rest) (left_out is_jfif (λ s. not (begins_jfif s.0 s.1)) no_jfif rest)))
+    ap (λ o. (parsed_jfif o).seen) (last_one is_jfif (0xe0, jfif_contents j) true (others_than_jfif rest) refl (from_each is_jfif (others_than_jfif rest) (left_out is_jfif (λ s. not (begins_jfif s.0 s.1)) no_jfif rest)))
 
 own_transform : (n : ℕ) (rest : List Segment) → adobe_transform ((0xee, adobe_contents n) ∷ others_than_adobe rest) ≡ Some n
 own_transform n rest =
@@ -104,7 +104,7 @@ own_transform n rest =
 -- a JFIF header isn't found if there was none
 own_unseen : (n : ℕ) (rest : List Segment) → any_of is_jfif rest ≡ false → (jfif_of ((0xee, adobe_contents n) ∷ others_than_adobe rest)).seen ≡ false
 own_unseen n rest none =
-    ap (λ o. (jfif_told o).seen) (last_one is_jfif (0xee, adobe_contents n) false (others_than_adobe rest) refl (from_each is_jfif (others_than_adobe rest) (passed is_jfif (λ s. not (begins_adobe s.0 s.1)) rest none)))
+    ap (λ o. (parsed_jfif o).seen) (last_one is_jfif (0xee, adobe_contents n) false (others_than_adobe rest) refl (from_each is_jfif (others_than_adobe rest) (passed is_jfif (λ s. not (begins_adobe s.0 s.1)) rest none)))
 
 -- of what is passed on
 unseen_copied : (c : Copying) (kept : List Segment) → any_of is_jfif kept ≡ false → any_of is_jfif (copied c kept) ≡ false
@@ -115,7 +115,7 @@ unseen_copied copying.All kept none = none
 seen_none : (kept : List Segment) → (jfif_of kept).seen ≡ false → any_of is_jfif kept ≡ false
 seen_none kept e = to_each is_jfif kept (none_any is_jfif (reverse kept) (by (find is_jfif (reverse kept)) e))
   where
-    by : (o : Option Segment) → (jfif_told o).seen ≡ false → o ≡ None
+    by : (o : Option Segment) → (parsed_jfif o).seen ≡ false → o ≡ None
     by None h = refl
     by (Some s) h = cc
 

@@ -17,20 +17,20 @@ use Rattle.jpg_spec_move.specs.Transforms.{transformed, transpose}
 use Rattle.jpg_spec_move.specs.declared.area.Area.{Area}
 use Rattle.jpg_spec_move.specs.declared.transform.Transform.{Transform}
 use Rattle.jpg_spec_move.specs.declared.transform.Transform.TheVariants.{Keep, FlipH, FlipV, Transpose, Transverse, Rotate90, Rotate180, Rotate270}
-use Rattle.jpg_spec.proofs.Common.{length_below}
+use Rattle.jpg_spec.proofs.Basics.Common.{length_below}
 use Rattle.jpg_spec_move.proofs.MovedBounds.{mirrored_down_in, transposed_in}
-use Rattle.jpg_spec.proofs.OutsideZeros.{HasRealBlocks, alone}
+use Rattle.jpg_spec.proofs.Places.OutsideZeros.{HasRealBlocks, alone}
 use Rattle.jpg_spec_move.proofs.OutsideZeros.{transformed_real}
-use Rattle.jpg_spec.proofs.SameNumbers.{SameNumbers, is_place, same_places}
+use Rattle.jpg_spec.proofs.Headers.SameNumbers.{SameNumbers, is_place, same_places}
 use Rattle.jpg_spec_move.proofs.Within.{mirrored_in}
-use Rattle.jpg_spec.proofs.ReadPicture.{block_in}
+use Rattle.jpg_spec.proofs.Files.ReadPicture.{block_in}
 use Rattle.jpg_coefs.specs.Picture.{map_of}
-use Rattle.jpg_file.specs.Read.PictureKept.{component_told}
+use Rattle.jpg_file.specs.Read.PictureKept.{component_view}
 use Rattle.jpg_file.specs.Read.PictureRead.{picture_meaning}
 use Rattle.jpg_file.specs.declared.read.picture.Picture.{Picture}
 use Rattle.jpg_transform.proofs.Planned.{whole_picture}
 use Rattle.jpg_transform.proofs.Showing.{gray_whole, some_across, some_down}
-use Rattle.jpg_spec.proofs.MovedWritten.{zeros_here}
+use Rattle.jpg_spec.proofs.Writing.MovedWritten.{zeros_here}
 
 -- IN THE BOUNDS
 
@@ -134,7 +134,7 @@ moved_real p c out same is grids =
     let T = transformed c.transform G in
     let n = length p.frame.components in
     let some : 0 < length M.components =
-    (let l = length-map (below n) (component_told p.frame p.quants.items) in let m = length_below n in let low = p.keeps.frame.count_low in omega (arith, l, m, low)) in
+    (let l = length-map (below n) (component_view p.frame p.quants.items) in let m = length_below n in let low = p.keeps.frame.count_low in omega (arith, l, m, low)) in
     let across : 0 < greatest (picture_grids T).across = subst (λ hs. 0 < greatest hs) (ap (λ (K : Grids). K.across) (sym grids) ∙ crop_across c.crop (uncropped c M) ∙ cut_across c.trim c.transform T) (some_across out is) in
     let down : 0 < greatest (picture_grids T).down = subst (λ vs. 0 < greatest vs) (ap (λ (K : Grids). K.down) (sym grids) ∙ crop_down c.crop (uncropped c M) ∙ cut_down c.trim c.transform T) (some_down out is) in
     crop_real c.crop (uncropped c M) (cut_real c.trim c.transform T (transformed_real G c.transform (gray_whole c.gray M some (whole_picture p)) across down (gray_real c.gray M (own_real p same))))

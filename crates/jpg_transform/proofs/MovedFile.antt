@@ -29,17 +29,17 @@ use Rattle.jpg_spec.specs.declared.frame.Component.{Component}
 use Rattle.jpg_spec.specs.declared.frame.Process.{Process}
 use Rattle.jpg_spec.specs.declared.frame.Process.TheVariants.{Baseline, Extended, Progressive}
 use Rattle.jpg_spec.specs.declared.jfif.Jfif.{Jfif}
-use Rattle.jpg_spec.proofs.Common.{both, lt_of}
+use Rattle.jpg_spec.proofs.Basics.Common.{both, lt_of}
 use Rattle.jpg_spec_move.proofs.MeaningLeft.{read_moved}
-use Rattle.jpg_spec.proofs.Rows.{by_items, map_map}
-use Rattle.jpg_spec.proofs.SameNumbers.{SameNumbers, is_place, numbers_of, same_places}
+use Rattle.jpg_spec.proofs.Basics.Rows.{by_items, map_map}
+use Rattle.jpg_spec.proofs.Headers.SameNumbers.{SameNumbers, is_place, numbers_of, same_places}
 use Rattle.jpg_spec_move.proofs.MovedText.{moved_means}
 use Rattle.jpg_spec_write.proofs.MovedText.{passes_by, same_kind}
-use Rattle.jpg_spec.proofs.OutsideZeros.{HasRealBlocks}
+use Rattle.jpg_spec.proofs.Places.OutsideZeros.{HasRealBlocks}
 use Rattle.jpg_spec_write.proofs.StandardScripts.{meaning_has}
 use Rattle.jpg_markers.specs.OutHead.{with_tables}
 use Rattle.jpg_markers.specs.declared.writing.head.OutHead.{OutHead}
-use Rattle.jpg_file.specs.Read.PictureKept.{component_told}
+use Rattle.jpg_file.specs.Read.PictureKept.{component_view}
 use Rattle.jpg_file.specs.Read.PictureRead.{picture_meaning}
 use Rattle.jpg_file.specs.declared.read.picture.Picture.{Picture}
 use Rattle.jpg_transform.specs.MovedBlocks.{IsWrittenAs}
@@ -61,10 +61,10 @@ any_map t f (x ∷ xs) = ap (λ b. t (f x) || b) (any_map t f xs)
 abbrev with_table : Component × QuantTable → PictureComponent
 with_table c = record { id = c.0.id; h = c.0.h; v = c.0.v; quants = c.1 }
 
-pub tables_are : (f : Frame) (q : List QuantTable) → length q ≡ length f.components → with_tables f.components q ≡ map (component_told f q) (below (length f.components))
+pub tables_are : (f : Frame) (q : List QuantTable) → length q ≡ length f.components → with_tables f.components q ≡ map (component_view f q) (below (length f.components))
 tables_are f q l =
     let both_long : length (zip f.components q) ≡ length f.components = (let z = length-zip f.components q in omega (arith, z, l)) in
-    sym (by_items (length f.components) (component_told f q) (with_tables f.components q) (with_table (no_component, [])) (length-map (zip f.components q) with_table ∙ both_long)
+    sym (by_items (length f.components) (component_view f q) (with_tables f.components q) (with_table (no_component, [])) (length-map (zip f.components q) with_table ∙ both_long)
     (λ i h. sym (listn.get_or-map with_table (zip f.components q) i (no_component, []) ∙ ap with_table (get_or-zip f.components q i (no_component, []) h (omega (arith, h, l))))))
 
 -- the tables of components that have them

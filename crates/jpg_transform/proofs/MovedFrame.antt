@@ -7,7 +7,7 @@ use Rattle.jpg_spec.specs.declared.fault.Fault.{Fault}
 use Rattle.jpg_spec.specs.declared.frame.Component.{Component}
 use Rattle.jpg_spec.specs.declared.frame.Limits.{Limits}
 use Rattle.jpg_spec.specs.declared.frame.Process.{Process}
-use Rattle.jpg_spec.proofs.SameNumbers.{frame_passes}
+use Rattle.jpg_spec.proofs.Headers.SameNumbers.{frame_passes}
 use Rattle.jpg_base.specs.Frame.{numbers_of}
 
 -- a frame that has the properties of the checks has no fault

@@ -16,8 +16,8 @@ use Rattle.jpg_spec.specs.declared.frame.Component.{Component}
 use Rattle.jpg_spec_move.specs.declared.area.Area.{Area}
 use Rattle.jpg_spec_move.specs.declared.transform.Transform.{Transform}
 use Rattle.jpg_spec_move.specs.declared.transform.Transform.TheVariants.{Keep, FlipH, FlipV, Transpose, Transverse, Rotate90, Rotate180, Rotate270}
-use Rattle.jpg_spec.proofs.Rows.{map_map}
-use Rattle.jpg_spec.proofs.SameNumbers.{numbers_of}
+use Rattle.jpg_spec.proofs.Basics.Rows.{map_map}
+use Rattle.jpg_spec.proofs.Headers.SameNumbers.{numbers_of}
 use Rattle.jpg_markers.specs.OutHead.{with_tables}
 use Rattle.jpg_transform.specs.Planned.{grayed_tables, moved_colour, moved_tables, turned_tables, process_in, process_of}
 use Rattle.jpg_spec_write.specs.ScansAsked.{Scans, asks_progressive}

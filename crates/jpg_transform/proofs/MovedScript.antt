@@ -17,7 +17,7 @@ use Rattle.jpg_spec_move.specs.declared.area.Area.{Area}
 use Rattle.jpg_spec_move.proofs.CroppedGrids.{crop_grids}
 use Rattle.jpg_spec_move.proofs.CroppedScripts.{without_area}
 use Rattle.jpg_spec_move.proofs.MovedGrids.{cut_picture, over_grids, trim_grids, turned_frame, turned_picture}
-use Rattle.jpg_spec.proofs.Rows.{map_map}
+use Rattle.jpg_spec.proofs.Basics.Rows.{map_map}
 use Rattle.jpg_spec_write.proofs.ScriptGrids.{same_script_fault, same_sequential, same_standard}
 use Rattle.jpg_scans.specs.Judged.{judged}
 use Rattle.jpg_markers.specs.declared.writing.head.OutHead.{OutHead}

@@ -14,7 +14,7 @@ use Rattle.jpg_spec_move.specs.Moves.{mirrored, mirrored_down}
 use Rattle.jpg_spec.specs.Transposed.{exchanged, transposed}
 use Rattle.jpg_spec_move.specs.Transforms.{signed}
 use Rattle.jpg_transform.specs.Changed.{is_changed, AreMasks}
-use Rattle.jpg_spec.proofs.MirroredBlocks.{IsBlock}
+use Rattle.jpg_spec.proofs.Writing.MirroredBlocks.{IsBlock}
 use Rattle.jpg_spec_move.proofs.MirroredBlocks.{mirrored_block}
 use Rattle.jpg_spec_move.proofs.BlockLaws.{mirrored_down_block, length_transposed}
 use Rattle.jpg_spec_move.proofs.MovedBounds.{transposed_at}

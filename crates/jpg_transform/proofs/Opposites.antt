@@ -9,9 +9,9 @@ use Rattle.jpg_spec.specs.Geometry.{Frame, bounds, bounds_of}
 use Rattle.jpg_spec.specs.Ranges.{AreInRange, is_coefficient}
 use Rattle.jpg_spec.specs.Scan.{Blocks}
 use Rattle.jpg_spec.specs.declared.frame.Bounds.{Bounds}
-use Rattle.jpg_spec.proofs.Common.{both}
-use Rattle.jpg_spec.proofs.Precisions.{of_bounds}
-use Rattle.jpg_spec.proofs.Small.{dc_small}
+use Rattle.jpg_spec.proofs.Basics.Common.{both}
+use Rattle.jpg_spec.proofs.Headers.Precisions.{of_bounds}
+use Rattle.jpg_spec.proofs.Basics.Small.{dc_small}
 use Rattle.jpg_transform.specs.Places.{HasOpposites}
 
 abs_low : (v : ℤ) → pos (nat_abs v) ≤ℤ pos 32767 → negsuc 32766 ≤ℤ v

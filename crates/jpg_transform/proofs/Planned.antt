@@ -6,12 +6,12 @@ use Rattle.jpg_spec.specs.Meaning.{PictureComponent}
 use Rattle.jpg_spec_move.specs.Moved.{Choice}
 use Rattle.jpg_spec.specs.Grids.{frame_grids}
 use Rattle.jpg_spec.specs.WholeBlocks.{HasWholeBlocks}
-use Rattle.jpg_spec.proofs.Common.{length_below}
-use Rattle.jpg_spec.proofs.Rows.{at_below}
-use Rattle.jpg_spec.proofs.SameNumbers.{is_place}
-use Rattle.jpg_spec.proofs.WholeFiles.{shown_whole}
+use Rattle.jpg_spec.proofs.Basics.Common.{length_below}
+use Rattle.jpg_spec.proofs.Basics.Rows.{at_below}
+use Rattle.jpg_spec.proofs.Headers.SameNumbers.{is_place}
+use Rattle.jpg_spec.proofs.Files.WholeFiles.{shown_whole}
 use Rattle.jpg_coefs.specs.Picture.{map_of}
-use Rattle.jpg_file.specs.Read.PictureKept.{component_told}
+use Rattle.jpg_file.specs.Read.PictureKept.{component_view}
 use Rattle.jpg_file.specs.Read.PictureRead.{picture_meaning}
 use Rattle.jpg_file.specs.declared.read.picture.Picture.{Picture}
 use Rattle.jpg_transform.specs.Places.{IsOutput}
@@ -31,7 +31,7 @@ is_output p choice job h = record {
 }
 
 -- its blocks and tables are complete
-long_quants : (p : Picture) → (k : ℕ) → k < length p.frame.components → length (component_told p.frame p.quants.items k).quants ≡ 64
+long_quants : (p : Picture) → (k : ℕ) → k < length p.frame.components → length (component_view p.frame p.quants.items k).quants ≡ 64
 long_quants p k h = (p.keeps.quants k h).long
 
 pub whole_picture : (p : Picture) → HasWholeBlocks (picture_meaning p)
@@ -39,8 +39,8 @@ whole_picture p = record {
   blocks = λ i x y. shown_whole (is_place p.frame i x y) (map_of p.coefs i x y) (p.keeps.range.sizes i x y);
   quants = λ k d less.
       (let n = length p.frame.components in
-      let h : k < n = (let l = length-map (below n) (component_told p.frame p.quants.items) in let m = length_below n in omega (arith, less, l, m)) in
+      let h : k < n = (let l = length-map (below n) (component_view p.frame p.quants.items) in let m = length_below n in omega (arith, less, l, m)) in
       subst (λ (c : PictureComponent). length c.quants ≡ 64)
-      (sym (get_or-map (component_told p.frame p.quants.items) (below n) k 0 d (let m = length_below n in omega (arith, h, m)) ∙ ap (component_told p.frame p.quants.items) (at_below n k h)))
+      (sym (get_or-map (component_view p.frame p.quants.items) (below n) k 0 d (let m = length_below n in omega (arith, h, m)) ∙ ap (component_view p.frame p.quants.items) (at_below n k h)))
       (long_quants p k h));
 }

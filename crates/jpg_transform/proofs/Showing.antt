@@ -20,11 +20,11 @@ use Rattle.jpg_spec_move.proofs.Transforming.{by_formula}
 use Rattle.jpg_base.proofs.Grids.{across_low, down_low}
 use Rattle.jpg_spec.specs.Scan.{Blocks}
 use Rattle.jpg_transform.specs.Places.{IsOutput, IsSeenAs, ComesFrom}
-use Rattle.jpg_spec.proofs.FrameFound.{real_side}
+use Rattle.jpg_spec.proofs.Headers.FrameFound.{real_side}
 use Rattle.jpg_spec_move.proofs.MovedGrids.{over_grids, trim_grids, columns_by, rows_by, turned_frame, turned_picture, cut_picture, framed_picture, columns_picture, rows_picture, columns_frame, rows_frame, columns_cut, rows_cut, IsIn, to_grids, from_grids, untrimmed, opposite_in}
 use Rattle.jpg_spec_move.proofs.OutsideZeros.{real_true}
-use Rattle.jpg_spec.proofs.Common.{clash}
-use Rattle.jpg_spec.proofs.WholeFiles.{shown_whole}
+use Rattle.jpg_spec.proofs.Basics.Common.{clash}
+use Rattle.jpg_spec.proofs.Files.WholeFiles.{shown_whole}
 
 -- THE ARGUMENTS OF `new`: the frame of the output, and the columns and rows that change places
 pub record Arguments : Type 0 where

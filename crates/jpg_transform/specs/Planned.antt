@@ -26,18 +26,18 @@ use Rattle.jpg_transform.specs.declared.choice.Scans.{Scans as AskedScans}
 use Rattle.jpg_transform.specs.declared.choice.Scans.TheVariants.{Sequential, Standard, Given}
 
 -- what is asked for
-abbrev pub scans_told : AskedScans → Scans
-scans_told Sequential = sequential
-scans_told Standard = standard
-scans_told (Given script) = given script
+abbrev pub scans_view : AskedScans → Scans
+scans_view Sequential = sequential
+scans_view Standard = standard
+scans_view (Given script) = given script
 
-abbrev pub choice_told : Asked → Choice
-choice_told c = record {
+abbrev pub choice_view : Asked → Choice
+choice_view c = record {
   transform = c.transform;
   trim = c.trim;
   gray = c.gray;
   copying = c.copying;
-  scans = scans_told c.scans;
+  scans = scans_view c.scans;
   huffman = c.huffman;
   restart = restart_of c.restart;
   crop = None;

@@ -1,7 +1,7 @@
 //! What is asked for a picture (the manual of jpegtran), and how it is written then.
 ghost use Rattle.std.specs.Prelude.{◌≡◌};
 ghost use Rattle.jpg_spec_write.specs.ScansAsked.{asks_progressive};
-ghost use Rattle.jpg_transform.specs.Planned.{scans_told};
+ghost use Rattle.jpg_transform.specs.Planned.{scans_view};
 
 use jpg_file::{Plan, Restart};
 use jpg_scans::Script;
@@ -22,7 +22,7 @@ pub enum Scans {
 impl Scans {
     /// Whether they are those of a progressive file.
     pub fn progressive(&self) -> bool
-        ensures { result ≡ asks_progressive (scans_told self.now) }
+        ensures { result ≡ asks_progressive (scans_view self.now) }
     {
         match self {
             Scans::Sequential => false,

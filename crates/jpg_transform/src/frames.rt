@@ -5,7 +5,7 @@ ghost use Rattle.jpg_spec_move.specs.Laws.{FirstIsGreatest};
 ghost use Rattle.jpg_spec_move.specs.Moved.{exchanged_factors, grayed_frame, moved_frame, transformed_frame, trimmed_frame, whole_side};
 ghost use Rattle.jpg_base.specs.Frame.{numbers_of};
 ghost use Rattle.jpg_transform.specs.Places.{with_sides};
-ghost use Rattle.jpg_transform.specs.Planned.{choice_told};
+ghost use Rattle.jpg_transform.specs.Planned.{choice_view};
 
 use crate::Choice;
 use crate::table::{mirrors_across, mirrors_down, transposes};
@@ -146,7 +146,7 @@ fn trimmed(frame: &Frame, trim: bool, transform: Transform) -> Frame
 /// The frame of a picture converted to grayscale, transformed and trimmed.
 pub fn moved_frame(frame: &Frame, choice: &Choice) -> Frame
     requires { choice.now.gray ≡ true → FirstIsGreatest frame.now }
-    ensures { result ≡ moved_frame (choice_told choice.now) frame.now }
+    ensures { result ≡ moved_frame (choice_view choice.now) frame.now }
 {
     let gray = grayed(frame, choice.gray);
     let turned = transformed(&gray, choice.transform);

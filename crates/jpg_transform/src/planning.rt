@@ -6,7 +6,7 @@ ghost use Rattle.jpg_spec_write.specs.ScansAsked.{script_due};
 ghost use Rattle.jpg_spec_write.specs.WrittenFile.{IsRestart};
 ghost use Rattle.jpg_file.specs.Read.PictureRead.{picture_meaning};
 ghost use Rattle.jpg_file.specs.Write.Restarts.{restart_of};
-ghost use Rattle.jpg_transform.specs.Planned.{IsOutHeadOf, IsPlan, choice_told, is_first_greatest, moved_tables, process_in, process_of, scans_told};
+ghost use Rattle.jpg_transform.specs.Planned.{IsOutHeadOf, IsPlan, choice_view, is_first_greatest, moved_tables, process_in, process_of, scans_view};
 
 use crate::frames::moved_frame;
 use crate::table::transposes;
@@ -24,7 +24,7 @@ use jpg_spec_write::PictureFault;
 /// then those of the script on the output's frame (`Script::check`), of which the default scripts have none. It takes
 /// no memory.
 pub fn plan(picture: &Picture, choice: &Choice) -> Result<Job, PictureFault>
-    ensures { IsPlan picture.now (choice_told choice.now) result }
+    ensures { IsPlan picture.now (choice_view choice.now) result }
 {
     if let Some(fault) = gray_fault(picture, choice.gray) {
         return Err(fault);
@@ -56,7 +56,7 @@ pub fn counted(restart: Restart)
 
 /// The scans for the output's frame and colours.
 pub fn script_due(scans: &Scans, frame: &Frame, colour: Colour) -> Script
-    ensures { result ≡ script_due (scans_told scans.now) frame.now colour }
+    ensures { result ≡ script_due (scans_view scans.now) frame.now colour }
 {
     match scans {
         Scans::Sequential => Script::sequential(frame),
@@ -97,7 +97,7 @@ fn is_first_greatest(frame: &Frame) -> bool
 // What the head of the output is written from.
 fn head_of(picture: &Picture, choice: &Choice) -> OutHead
     requires { gray_fault choice.now.gray (picture_meaning picture.now) ≡ None }
-    ensures { IsOutHeadOf (choice_told choice.now) picture.now result }
+    ensures { IsOutHeadOf (choice_view choice.now) picture.now result }
 {
     let quants = moved_tables(picture.quants.as_slice(), choice);
     let process = process_in(&choice.scans, picture.frame.precision(), quants.as_slice());
@@ -117,7 +117,7 @@ fn head_of(picture: &Picture, choice: &Choice) -> OutHead
 // The tables of the output.
 fn moved_tables(tables: &[QuantTable], choice: &Choice) -> ArrayVec<QuantTable, 4>
     requires { length tables.now ≤ 4 }
-    ensures { result.items ≡ moved_tables (choice_told choice.now) tables.now }
+    ensures { result.items ≡ moved_tables (choice_view choice.now) tables.now }
 {
     let kept = if choice.gray && !tables.is_empty() {
         &tables[..1]
@@ -145,7 +145,7 @@ fn turned(tables: &[QuantTable]) -> ArrayVec<QuantTable, 4>
 
 // The process of a file of this precision in these scans with these tables.
 fn process_in(scans: &Scans, precision: u8, tables: &[QuantTable]) -> Process
-    ensures { result ≡ process_in (scans_told scans.now) precision tables.now }
+    ensures { result ≡ process_in (scans_view scans.now) precision tables.now }
 {
     if scans.progressive() {
         Process::Progressive

@@ -5,7 +5,7 @@ use Rattle.std.proofs.lemmas.Int.{ints}
 use Rattle.std.proofs.lemmas.List.{length-set}
 use Rattle.jpg_spec.specs.Elements.{are_in_bounds, IsBlockIn}
 use Rattle.jpg_spec.specs.declared.frame.Bounds.{Bounds}
-use Rattle.jpg_spec.proofs.Common.{both, and_intro, from_test, in_order}
+use Rattle.jpg_spec.proofs.Basics.Common.{both, and_intro, from_test, in_order}
 
 set_ac : (r : Bounds) (values : List ℤ) (k : ℕ) (v : ℤ) → int_le (pos (nat_abs v)) r.ac ≡ true → are_in_bounds r false values ≡ true → are_in_bounds r false (slice_set values k v) ≡ true
 set_ac r [] k v small ok = refl

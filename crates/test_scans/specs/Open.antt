@@ -7,10 +7,10 @@ use Rattle.jpg_coefs.specs.Machine.{Interval}
 use Rattle.jpg_coefs.specs.declared.machine.Taken.{Taken}
 use Rattle.jpg_coefs.specs.declared.machine.Taken.TheVariants.{More, Units, IntervalDone, Fault}
 use Rattle.jpg_seq.specs.declared.reader.SeqReader.{SeqReader}
-use Rattle.jpg_seq.specs.Reader.{SeqStands}
+use Rattle.jpg_seq.specs.Reader.{RepresentsSeqScan}
 
 abbrev pub IsOpen : SeqReader → Picture → Type 0
-IsOpen m now = (i : Interval) × (bits : List Bool) × SeqStands m i bits now
+IsOpen m now = (i : Interval) × (bits : List Bool) × RepresentsSeqScan m i bits now
 
 -- after an answer it may take more only where the interval goes on
 abbrev pub GoesOn : Taken → SeqReader → Picture → Type 0

@@ -3,7 +3,7 @@ ghost use Rattle.std.specs.Prelude.{◌≡◌, ◌≤◌, ◌<◌, ◌∷◌, �
 ghost use Rattle.std.specs.Option.{option_copied};
 ghost use Rattle.jpg_base.specs.Desk.{raised, Rose, NotesName, AfterAddOutput, AfterAppendLast, AfterAppend, append_last};
 ghost use Rattle.jpg_base.specs.Name.{file_of};
-ghost use Rattle.jpg_base.specs.Memory.{named, chosen, told_names, part_of, next_part, part_length, appended_length, FailsWith};
+ghost use Rattle.jpg_base.specs.Memory.{named, chosen, names_view, part_of, next_part, part_length, appended_length, FailsWith};
 ghost use Rattle.jpg_base.specs.Input.{input_rest};
 
 use super::{Asked, Failure, Part, Stored};
@@ -91,7 +91,7 @@ pub fn with_name(
     name: &Name,
     answer: Put,
 ) -> Option<Vec<Asked>>
-    ensures { NotesName (told_names asked) (name.now, answer) (told_names result) }
+    ensures { NotesName (names_view asked) (name.now, answer) (names_view result) }
 {
     let mut list = asked?;
     let name = name.try_clone(alloc).ok()?;

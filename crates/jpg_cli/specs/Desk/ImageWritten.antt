@@ -45,9 +45,9 @@ abbrev pub WritesAsItIs : EncodeWords → Scans → Picture → DeskState → Wh
 WritesAsItIs w scans p old ended new = IsWritten (as_it_is scans w.huffman (restart_of w.restart)) p w.files.output old ended new
 
 -- why no picture was made
-abbrev pub why_none : EncodeStop → Why
-why_none (stop.Picture fault) = why.Picture fault
-why_none stop.NoMemory = why.NoMemory
+abbrev pub why_not_encoded : EncodeStop → Why
+why_not_encoded (stop.Picture fault) = why.Picture fault
+why_not_encoded stop.NoMemory = why.NoMemory
 
 -- The image has a fault, and nothing was opened or created; or it has none, and the text of its file, which means its
 -- picture, is written; or there was no memory.

@@ -14,7 +14,7 @@ use Rattle.jpg_spec.specs.declared.fault.FaultAt.{FaultAt}
 use Rattle.jpg_spec_words.specs.declared.answers.Why.{Why}
 use Rattle.jpg_spec_words.specs.declared.answers.Why.TheVariants as why
 use Rattle.jpg_spec_words.specs.declared.answers.Which.TheVariants as which
-use Rattle.jpg_transform.specs.Planned.{scans_told}
+use Rattle.jpg_transform.specs.Planned.{scans_view}
 use Rattle.jpg_transform.specs.declared.choice.Scans.{Scans as AskedScans}
 use Rattle.jpg_cli.specs.Endings.{Asks}
 use Rattle.jpg_cli.specs.Desk.TextTaken.{StopsAtText, TellsIn, TextKind}
@@ -51,10 +51,10 @@ StopsAtScans (in_file file) old ended new = StopsAtText script_kind [] (name.Fil
 
 abbrev pub AfterScript : Name → DeskState → Result AskedScans Why → DeskState → Type 0
 AfterScript file old (Ok scans) new =
-    Asks (file ∷ []) put.Done old new × ((script : List Entry) × TellsIn (List Entry) script_kind file (Ok script) old × (scans_told scans ≡ given script))
+    Asks (file ∷ []) put.Done old new × ((script : List Entry) × TellsIn (List Entry) script_kind file (Ok script) old × (scans_view scans ≡ given script))
 AfterScript file old (Err ended) new = StopsAtText script_kind [] file old ended new
 
 -- Nothing was opened if there was no memory for the file's name.
 abbrev pub AfterScans : ScansSource → DeskState → Result AskedScans Why → DeskState → Type 0
-AfterScans source old (Ok scans) new = Asks (names_before source) put.Done old new × HasScans source old (scans_told scans)
+AfterScans source old (Ok scans) new = Asks (names_before source) put.Done old new × HasScans source old (scans_view scans)
 AfterScans source old (Err ended) new = StopsAtScans source old ended new ⊎ ((ended ≡ why.NoMemory) × Untouched old new)

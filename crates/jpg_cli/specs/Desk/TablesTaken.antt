@@ -39,13 +39,13 @@ StopsAtTables before (Some file) old ended new = StopsAtText tables_kind before 
 
 -- THE ANSWERS
 
-abbrev pub list_told : Option (ArrayVec QuantTable) → Option (List QuantTable)
-list_told tables = option_map (λ v. v.items) tables
+abbrev pub tables_view : Option (ArrayVec QuantTable) → Option (List QuantTable)
+tables_view tables = option_map (λ v. v.items) tables
 
 abbrev pub AfterTablesFile : Name → DeskState → Result (ArrayVec QuantTable) Why → DeskState → Type 0
 AfterTablesFile file old (Ok tables) new = Asks (file ∷ []) put.Done old new × TellsIn (List QuantTable) tables_kind file (Ok tables.items) old
 AfterTablesFile file old (Err ended) new = StopsAtText tables_kind [] file old ended new
 
 abbrev pub AfterTables : Option (List ℕ) → DeskState → Result (Option (ArrayVec QuantTable)) Why → DeskState → Type 0
-AfterTables source old (Ok tables) new = Asks (tables_names source) put.Done old new × HasTables source old (list_told tables)
+AfterTables source old (Ok tables) new = Asks (tables_names source) put.Done old new × HasTables source old (tables_view tables)
 AfterTables source old (Err ended) new = StopsAtTables [] source old ended new

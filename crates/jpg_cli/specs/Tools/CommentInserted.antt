@@ -16,7 +16,7 @@ use Rattle.jpg_spec_words.specs.declared.answers.Why.TheVariants as why
 use Rattle.jpg_spec_words.specs.declared.answers.Which.TheVariants as which
 use Rattle.jpg_comments.specs.WriteInserted.{insert_limits, is_replacing, HasInserted}
 use Rattle.jpg_comments.specs.declared.insert.Insert.{Insert}
-use Rattle.jpg_cli.specs.Words.CommentWords.{comment_told}
+use Rattle.jpg_cli.specs.Words.CommentWords.{comment_view}
 use Rattle.jpg_cli.specs.declared.words.comments.WriteWords.{WriteWords}
 use Rattle.jpg_cli.specs.Tools.InsertComment.{AfterFed, IsAtHead, IsFaultBefore, IsNoHead, IsInsertedWhole, inserted_texts}
 use Rattle.jpg_cli.specs.Copies.{Copies}
@@ -31,8 +31,8 @@ pub record Task : Type 0 where
   pub output : Name
   pub replace : Bool
 
-abbrev pub task_told : WriteWords → Task
-task_told words = record { comment = comment_told words.comment; input = words.files.input; output = words.files.output; replace = words.replace }
+abbrev pub task_view : WriteWords → Task
+task_view words = record { comment = comment_view words.comment; input = words.files.input; output = words.files.output; replace = words.replace }
 
 -- THE NAMES that are opened or created: the comment's file if it comes from one, the input, and then the output
 

@@ -8,7 +8,7 @@ use Rattle.jpg_spec_words.specs.declared.answers.UsageFault.TheVariants.{NoEnd}
 use Rattle.jpg_cli.specs.declared.words.djpeg_request.ShowWords.{ShowWords}
 use Rattle.jpg_cli.specs.Desk.ReadFront.{front_judging}
 use Rattle.jpg_cli.specs.Outcome.{Conversion, Converted, drawn}
-use Rattle.jpg_cli.specs.Tools.Showing.{Showing, Shown, showing_conversion, showing_told}
+use Rattle.jpg_cli.specs.Tools.Showing.{Showing, Shown, showing_conversion, showing_view}
 use Rattle.jpg_cli.specs.Stays.{Untouched}
 
 -- THE CONVERSION: the text of the image of the picture that the front of the input means for so many scans, which can be
@@ -26,5 +26,5 @@ ShownAs (Some scans) s old ended new = FrontShown scans s old ended new
 
 -- with an image writer of the format that the words ask for, or none
 abbrev pub ShownBy : Bool → ShowWords → DeskState → Why → DeskState → Type 0
-ShownBy true w old ended new = ShownAs w.preview (showing_told w) old ended new
+ShownBy true w old ended new = ShownAs w.preview (showing_view w) old ended new
 ShownBy false w old ended new = (ended ≡ why.Usage (record { fault = NoEnd; word = w.kind_word })) × Untouched old new

@@ -10,8 +10,8 @@ use Rattle.jpg_spec.specs.Meaning.{Meaning}
 use Rattle.jpg_spec.specs.InForce.{colours_after, factors_after, frame_of}
 use Rattle.jpg_spec_image.specs.Pixels.{info, out_fault_of, pixels}
 use Rattle.jpg_spec_image.specs.RowsShown.{ShowsRows, rows_text}
-use Rattle.jpg_spec.specs.RowsTold.{picture_so_far}
-use Rattle.jpg_spec.specs.RowsTold.{BeginsScanOfAll, TellsRows}
+use Rattle.jpg_spec.specs.RowsParsed.{picture_so_far}
+use Rattle.jpg_spec.specs.RowsParsed.{BeginsScanOfAll, TellsRows}
 use Rattle.jpg_spec.specs.Scan.{Blocks}
 use Rattle.jpg_spec.specs.Segments.{standard_limits}
 use Rattle.jpg_spec_words.specs.declared.answers.Why.{Why}
@@ -34,8 +34,8 @@ pub record Showing : Type 0 where
   pub gray : Bool
   pub smooth : Bool
 
-abbrev pub showing_told : ShowWords → Showing
-showing_told w = record { input = w.files.input; output = w.files.output; kind = w.kind; gray = w.gray; smooth = w.smooth }
+abbrev pub showing_view : ShowWords → Showing
+showing_view w = record { input = w.files.input; output = w.files.output; kind = w.kind; gray = w.gray; smooth = w.smooth }
 
 -- OF A COMPLETE PICTURE
 

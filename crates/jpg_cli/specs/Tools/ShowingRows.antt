@@ -13,9 +13,9 @@ use Rattle.jpg_spec.specs.InForce.{colours_after, factors_after}
 use Rattle.jpg_spec_image.specs.ImageText.{end_text}
 use Rattle.jpg_spec.specs.Meaning.{Meaning}
 use Rattle.jpg_spec_image.specs.Pixels.{info, out_fault_of, pixels}
-use Rattle.jpg_spec.specs.RowsTold.{picture_so_far}
+use Rattle.jpg_spec.specs.RowsParsed.{picture_so_far}
 use Rattle.jpg_spec_image.specs.RowsShown.{rows_text}
-use Rattle.jpg_spec.specs.RowsTold.{BeginsScanOfAll, TellsRows}
+use Rattle.jpg_spec.specs.RowsParsed.{BeginsScanOfAll, TellsRows}
 use Rattle.jpg_spec.specs.Scan.{Blocks}
 use Rattle.jpg_spec.specs.Elements.{zeros}
 use Rattle.jpg_spec.specs.Segments.{standard_limits}
@@ -40,7 +40,7 @@ use Rattle.jpg_cli.specs.Desk.Judging.{TakesPieces}
 use Rattle.jpg_cli.specs.Desk.ReadPicture.{AfterFileEnd, HasFed, HoldsEarly, HoldsFile, IsEarlyRead, IsOpenRead, IsRefusedRead, IsShortRead}
 use Rattle.jpg_cli.specs.Desk.Reading.{rest_of}
 use Rattle.jpg_cli.specs.Outcome.{all_bytes, bytes_before}
-use Rattle.jpg_cli.specs.Tools.Showing.{IsInTime, IsPlain, IsShownByRows, Showing, Shown, showing_told, shown_text}
+use Rattle.jpg_cli.specs.Tools.Showing.{IsInTime, IsPlain, IsShownByRows, Showing, Shown, showing_view, shown_text}
 use Rattle.jpg_cli.specs.Stays.{OnlyReads, OnlyWorks}
 use Rattle.jpg_cli.specs.declared.desk.picture.Wanted.TheVariants.{Image}
 use Rattle.jpg_cli.specs.declared.tools.djpeg.FirstStep.{FirstStep}
@@ -343,8 +343,8 @@ pub record CanEndInZeros (s : Showing) (n : ℕ) (d : Drawing) (e : EndState) (n
 abbrev pub Draws : ShowWords → List ℕ → Result FedRow Stop → ReaderState → Drawing → EndState → DeskState
     → RowsStep → ReaderState → Drawing → EndState → DeskState → Type 0
 Draws words piece answer r d e s0 result new_r new_d new_e s1 =
-    (run : Run) (m : ℕ) → IsShowing (showing_told words) run m piece answer (at_work r d e s0)
-    → AfterShownPiece (showing_told words) run result (at_work new_r new_d new_e s1)
+    (run : Run) (m : ℕ) → IsShowing (showing_view words) run m piece answer (at_work r d e s0)
+    → AfterShownPiece (showing_view words) run result (at_work new_r new_d new_e s1)
 
 abbrev pub ReadsRows : Showing → ReaderState → Drawing → EndState → DeskState → RowsStep → ReaderState → Drawing → EndState → DeskState → Type 0
 ReadsRows s r d e s0 result new_r new_d new_e s1 =

@@ -9,7 +9,7 @@ use Rattle.jpg_spec_write.specs.ScansAsked.{Scans}
 use Rattle.jpg_spec_words.specs.TransformWords.{TransformAsked, choice_asked}
 use Rattle.jpg_spec_words.specs.declared.answers.Why.{Why}
 use Rattle.jpg_spec_words.specs.declared.answers.Why.TheVariants as why
-use Rattle.jpg_transform.specs.Planned.{choice_told}
+use Rattle.jpg_transform.specs.Planned.{choice_view}
 use Rattle.jpg_transform.specs.declared.choice.Choice.{Choice as Asked}
 use Rattle.jpg_cli.specs.declared.words.files.Files.{Files}
 use Rattle.jpg_cli.specs.Commands.{name_of}
@@ -27,8 +27,8 @@ pub record Turning : Type 0 where
   pub output : Name
   pub choice : Choice
 
-abbrev pub turning_told : Files → Asked → Option Area → Turning
-turning_told files choice area = record { before = []; input = files.input; output = files.output; choice = in_area area (choice_told choice) }
+abbrev pub turning_view : Files → Asked → Option Area → Turning
+turning_view files choice area = record { before = []; input = files.input; output = files.output; choice = in_area area (choice_view choice) }
 
 -- THE CONVERSION: the picture has no fault for this choice; the text is that of the file of it transformed as the
 -- choice says, and cropped if it asks for an area, which means the transformed picture

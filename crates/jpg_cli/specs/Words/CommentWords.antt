@@ -8,13 +8,13 @@ use Rattle.jpg_cli.specs.declared.words.comments.CommentSaid.TheVariants as said
 use Rattle.jpg_cli.specs.declared.words.comments.WriteSaid.{WriteSaid}
 use Rattle.jpg_cli.specs.declared.words.comments.WriteWords.{WriteWords}
 
-abbrev pub comment_told : CommentFrom → CommentSource
-comment_told from.Input = from_input
-comment_told (from.Given text) = from_words text
-comment_told (from.File name) = from_file name
+abbrev pub comment_view : CommentFrom → CommentSource
+comment_view from.Input = from_input
+comment_view (from.Given text) = from_words text
+comment_view (from.File name) = from_file name
 
-abbrev pub write_told : WriteWords → WriteAsked
-write_told words = record { files = files_view words.files; comment = comment_told words.comment; replace = words.replace }
+abbrev pub write_words_view : WriteWords → WriteAsked
+write_words_view words = record { files = files_view words.files; comment = comment_view words.comment; replace = words.replace }
 
 -- the same by the words so far
 abbrev pub comment_said : CommentSaid → CommentSource

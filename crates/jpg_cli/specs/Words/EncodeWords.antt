@@ -3,7 +3,7 @@ use Rattle.std.specs.Prelude.{◌≡◌, ℕ, ◌-◌, true, All, List, [], ◌�
 use Rattle.std.specs.Borrow.{Bor}
 use Rattle.arrayvec.specs.ArrayVec.{ArrayVec}
 use Rattle.jpg_spec_write.specs.declared.huffman.Huffman.{Huffman}
-use Rattle.jpg_spec_words.specs.Requests.{WordsTold, words_right}
+use Rattle.jpg_spec_words.specs.Requests.{ParsedWords, words_right}
 use Rattle.jpg_spec_words.specs.EncodeWords.{EncodeAsked, are_factors, encoding_asked, factors_from, factors_named, quality_named}
 use Rattle.jpg_spec_encode.specs.Encoded.{Encoding, count_due}
 use Rattle.jpg_spec_encode.specs.EncodingLaws.{AreFactors}
@@ -15,14 +15,14 @@ use Rattle.jpg_color.specs.Encode.{image_told}
 use Rattle.jpg_color.specs.declared.encode.Encoding.{Encoding as Asked}
 use Rattle.jpg_pnm_bmp.specs.declared.read.pixels.Image.{Image as Read}
 use Rattle.jpg_file.specs.Write.Restarts.{restart_of}
-use Rattle.jpg_cli.specs.Words.Files.{files_said, files_view, text_told}
+use Rattle.jpg_cli.specs.Words.Files.{files_said, files_view, text_view}
 use Rattle.jpg_cli.specs.Words.TransformWords.{script_said, script_told}
 use Rattle.jpg_cli.specs.declared.words.cjpeg.EncodeSaid.{EncodeSaid}
 use Rattle.jpg_cli.specs.declared.words.cjpeg_request.EncodeWords.{EncodeWords}
 
 -- words with their files, as they ask for an image to be encoded
-abbrev pub encode_told : EncodeWords → EncodeAsked
-encode_told w = record {
+abbrev pub encode_view : EncodeWords → EncodeAsked
+encode_view w = record {
   files = files_view w.files;
   targa = w.targa;
   quality = w.quality;
@@ -46,18 +46,18 @@ abbrev pub encode_said : EncodeSaid → EncodeAsked
 encode_said s = record {
   files = files_said s.files;
   targa = s.targa;
-  quality = quality_said (text_told s.quality);
+  quality = quality_said (text_view s.quality);
   gray = s.gray;
   baseline = s.baseline;
   scans = script_said s.script;
   huffman = s.huffman;
   restart = restart_of s.restart;
-  factors = factors_said (text_told s.factors);
-  tables = text_told s.tables;
+  factors = factors_said (text_view s.factors);
+  tables = text_view s.tables;
 }
 
 -- what is asked for with these Huffman tables too
-abbrev pub huffman_asked : EncodeAsked → Huffman → WordsTold EncodeAsked
+abbrev pub huffman_asked : EncodeAsked → Huffman → ParsedWords EncodeAsked
 huffman_asked a huffman = words_right (record a { huffman = huffman })
 
 -- The pair of factors that a text begins with, and the rest of the text; or none, and the text has no factors.
@@ -71,7 +71,7 @@ lent_tables tables = option_map (λ v. v.items) (option_copied tables)
 
 -- how an image is encoded then
 abbrev pub encoding_by : EncodeWords → Scans → Option (Bor (ArrayVec QuantTable)) → Image → Encoding
-encoding_by w scans tables image = encoding_asked (encode_told w) scans (lent_tables tables) image
+encoding_by w scans tables image = encoding_asked (encode_view w) scans (lent_tables tables) image
 
 -- one that was read
 abbrev pub asked_of : EncodeWords → Scans → Option (Bor (ArrayVec QuantTable)) → Read → Encoding

@@ -7,18 +7,18 @@ use Rattle.jpg_spec_words.specs.Requests.{FileName, standard_input, standard_out
 use Rattle.jpg_cli.specs.declared.words.files.Files.{Files}
 use Rattle.jpg_cli.specs.declared.words.files.FilesSaid.{FilesSaid}
 
-abbrev pub file_told : Name → FileName
-file_told name.In = standard_input
-file_told name.Out = standard_output
-file_told (name.File text) = named text
+abbrev pub name_view : Name → FileName
+name_view name.In = standard_input
+name_view name.Out = standard_output
+name_view (name.File text) = named text
 
 abbrev pub files_view : Files → FilesAsked
-files_view files = record { input = file_told files.input; output = file_told files.output }
+files_view files = record { input = name_view files.input; output = name_view files.output }
 
 -- a word's text, if there is one
-abbrev pub text_told : Option (Bor (List ℕ)) → Option (List ℕ)
-text_told None = None
-text_told (Some word) = Some word.now
+abbrev pub text_view : Option (Bor (List ℕ)) → Option (List ℕ)
+text_view None = None
+text_view (Some word) = Some word.now
 
 -- a file's name, or the other file if there is none
 abbrev pub file_said : FileName → Option (Bor (List ℕ)) → FileName

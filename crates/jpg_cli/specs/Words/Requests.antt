@@ -1,7 +1,7 @@
 -- What the words of a command ask for, as the functions answer it.
 use Rattle.std.specs.Prelude.{◌≡◌, ℕ, ◌+◌, ◌<◌, List, [], drop, length, slice_index_or, Result, Ok, Err}
 use Rattle.std.specs.Borrow.{Bor}
-use Rattle.jpg_spec_words.specs.Requests.{Tool, WordsTold, request_from, words_right, words_wrong}
+use Rattle.jpg_spec_words.specs.Requests.{Tool, ParsedWords, request_from, words_right, words_wrong}
 use Rattle.jpg_spec_words.specs.declared.answers.Usage.{Usage}
 use Rattle.jpg_spec_words.specs.declared.answers.UsageFault.{UsageFault}
 use Rattle.jpg_spec_words.specs.declared.answers.UsageFault.TheVariants.{MissingValue}
@@ -9,12 +9,12 @@ use Rattle.jpg_cli.specs.declared.words.files.WordsStop.{WordsStop}
 use Rattle.jpg_cli.specs.declared.words.files.WordsStop.TheVariants as stop
 
 -- If the words are right, what they ask for; if they aren't, what is wrong.
-abbrev pub AnswersWords : {X Y : Type 0} → (X → Y) → WordsTold Y → Result X Usage → Type 0
+abbrev pub AnswersWords : {X Y : Type 0} → (X → Y) → ParsedWords Y → Result X Usage → Type 0
 AnswersWords told asked (Ok x) = asked ≡ words_right (told x)
 AnswersWords told asked (Err usage) = asked ≡ words_wrong usage
 
 -- The same, where NoMemory is possible for words that are right.
-abbrev pub IsAnswer : {X Y : Type 0} → (X → Y) → WordsTold Y → Result X WordsStop → Type 0
+abbrev pub IsAnswer : {X Y : Type 0} → (X → Y) → ParsedWords Y → Result X WordsStop → Type 0
 IsAnswer told asked (Ok x) = asked ≡ words_right (told x)
 IsAnswer told asked (Err (stop.Usage usage)) = asked ≡ words_wrong usage
 IsAnswer {Y} told asked (Err stop.NoMemory) = (y : Y) × (asked ≡ words_right y)
@@ -23,16 +23,16 @@ IsAnswer {Y} told asked (Err stop.NoMemory) = (y : Y) × (asked ≡ words_right 
 abbrev pub word_at : List (List ℕ) → ℕ → List ℕ
 word_at words index = slice_index_or words index []
 
-abbrev pub usage_told : UsageFault → ℕ → Usage
-usage_told fault index = record { fault = fault; word = index }
+abbrev pub usage_view : UsageFault → ℕ → Usage
+usage_view fault index = record { fault = fault; word = index }
 
 -- The value of the switch of this index is the word after it, if there is one.
 abbrev pub IsValue : List (List ℕ) → ℕ → Result (Bor (List ℕ)) Usage → Type 0
 IsValue words index (Ok text) = (index + 1 < length words) × (text.now ≡ word_at words (index + 1))
-IsValue words index (Err fault) = (length words ≡ index + 1) × (fault ≡ usage_told MissingValue index)
+IsValue words index (Err fault) = (length words ≡ index + 1) × (fault ≡ usage_view MissingValue index)
 
 -- what the words from this index on ask for, after the switches before
-abbrev pub asked_from : {R : Type 0} → Tool R → List (List ℕ) → ℕ → R → WordsTold R
+abbrev pub asked_from : {R : Type 0} → Tool R → List (List ℕ) → ℕ → R → ParsedWords R
 asked_from tool words index a = request_from tool index a (drop index words)
 
 -- After a switch the words ask for the same, or the switch is wrong.

@@ -5,8 +5,8 @@ use Rattle.jpg_cli.specs.declared.words.djpeg.ShowSaid.{ShowSaid}
 use Rattle.jpg_cli.specs.declared.words.djpeg_request.ShowWords.{ShowWords}
 
 -- words with their files, as they ask for a picture to be decoded
-abbrev pub show_told : ShowWords → ShowAsked
-show_told w = record { files = files_view w.files; kind = w.kind; kind_word = w.kind_word; gray = w.gray; smooth = w.smooth; preview = w.preview }
+abbrev pub show_view : ShowWords → ShowAsked
+show_view w = record { files = files_view w.files; kind = w.kind; kind_word = w.kind_word; gray = w.gray; smooth = w.smooth; preview = w.preview }
 
 -- the same by the words so far
 abbrev pub show_said : ShowSaid → ShowAsked

@@ -4,5 +4,5 @@ use Rattle.std.specs.Borrow.{Bor}
 use Rattle.jpg_spec_words.specs.Switches.{Switch}
 use Rattle.jpg_spec_words.specs.declared.switch.Purpose.{Purpose}
 
-abbrev pub told_switch : Bor (List ℕ) × ℕ × Purpose → Switch
-told_switch s = record { name = s.0.now; shortest = s.1; purpose = s.2 }
+abbrev pub switch_view : Bor (List ℕ) × ℕ × Purpose → Switch
+switch_view s = record { name = s.0.now; shortest = s.1; purpose = s.2 }

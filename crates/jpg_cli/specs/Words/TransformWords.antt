@@ -3,7 +3,7 @@ use Rattle.std.specs.Prelude.{ℕ, List, Option, option_and_then}
 use Rattle.jpg_spec_move.specs.declared.area.Area.{Area}
 use Rattle.jpg_spec_words.specs.TransformWords.{ScansSource, own_sequential, own_progressive, in_file, TransformAsked, area_named}
 use Rattle.jpg_file.specs.Write.Restarts.{restart_of}
-use Rattle.jpg_cli.specs.Words.Files.{files_said, files_view, text_told}
+use Rattle.jpg_cli.specs.Words.Files.{files_said, files_view, text_view}
 use Rattle.jpg_cli.specs.declared.words.jpegtran.ScriptFrom.{ScriptFrom}
 use Rattle.jpg_cli.specs.declared.words.jpegtran.ScriptFrom.TheVariants as from
 use Rattle.jpg_cli.specs.declared.words.jpegtran.ScriptSaid.{ScriptSaid}
@@ -18,8 +18,8 @@ script_told from.Standard = own_progressive
 script_told (from.File name) = in_file name
 
 -- words with their files, as they ask for a picture to be transformed
-abbrev pub transform_told : TransformWords → TransformAsked
-transform_told w = record {
+abbrev pub transform_view : TransformWords → TransformAsked
+transform_view w = record {
   files = files_view w.files;
   transform = w.transform;
   trim = w.trim;
@@ -47,7 +47,7 @@ transform_said s = record {
   transform = s.transform;
   trim = s.trim;
   gray = s.gray;
-  crop = area_said (text_told s.crop);
+  crop = area_said (text_view s.crop);
   copying = s.copying;
   scans = script_said s.script;
   huffman = s.huffman;

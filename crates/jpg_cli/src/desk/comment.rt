@@ -2,7 +2,7 @@
 ghost use Rattle.std.specs.Prelude.{◌≡◌, MatchResult};
 ghost use Rattle.jpg_spec_words.specs.declared.answers.Why.TheVariants.{NoMemory as wants_memory};
 ghost use Rattle.jpg_cli.specs.Desk.CommentTaken.{AfterComment};
-ghost use Rattle.jpg_cli.specs.Words.CommentWords.{comment_told};
+ghost use Rattle.jpg_cli.specs.Words.CommentWords.{comment_view};
 ghost use Rattle.jpg_cli.specs.Stays.{Keeps};
 
 use crate::desk::file::take_file;
@@ -20,7 +20,7 @@ const LIMIT: usize = LONGEST_COMMENT + 1;
 #[inline(never)]
 pub fn take_comment<D: Desk>(alloc: Global, from: &CommentFrom, desk: &mut D) -> Result<Bytes, Why>
     ensures kept { Keeps (D.state desk.old) (D.state desk.new) }
-    ensures after { AfterComment (D.state desk.old) (comment_told from.now) result (D.state desk.new) }
+    ensures after { AfterComment (D.state desk.old) (comment_view from.now) result (D.state desk.new) }
 {
     match from {
         CommentFrom::Input => take_file(alloc, &Name::In, LIMIT, Which::Comment, desk),

@@ -2,7 +2,7 @@
 ghost use Rattle.std.specs.Prelude.{◌≡◌, IfSome};
 ghost use Rattle.jpg_base.specs.Desk.{Creates};
 ghost use Rattle.jpg_file.specs.Write.WriteFile.{CanWriteFile, file_bytes};
-ghost use Rattle.jpg_transform.specs.Planned.{choice_told};
+ghost use Rattle.jpg_transform.specs.Planned.{choice_view};
 ghost use Rattle.jpg_crop.specs.CropPlanned.{IsArea};
 ghost use Rattle.jpg_cli.specs.Stays.{OnlyWorks};
 ghost use Rattle.jpg_cli.specs.Desk.Writing.{AfterOutput, WritesMoved, in_area};
@@ -47,7 +47,7 @@ pub fn write_moved<D: Desk>(
     requires { IfSome area.now IsArea }
     ensures kept { OnlyWorks (D.state desk.old) (D.state desk.new) }
     ensures left { (D.state desk.new).left ≡ (D.state desk.old).left }
-    ensures wrote { WritesMoved (in_area area.now (choice_told choice.now)) picture.now output.now (D.state desk.old) result (D.state desk.new) }
+    ensures wrote { WritesMoved (in_area area.now (choice_view choice.now)) picture.now output.now (D.state desk.old) result (D.state desk.new) }
 {
     match plan(picture, choice) {
         Err(fault) => Wrote::Picture(fault),

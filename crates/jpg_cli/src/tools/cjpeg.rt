@@ -1,9 +1,9 @@
 //! An image read, encoded and written (the manual of cjpeg).
 ghost use Rattle.std.specs.Prelude.{◌≡◌, []};
-ghost use Rattle.jpg_transform.specs.Planned.{scans_told};
+ghost use Rattle.jpg_transform.specs.Planned.{scans_view};
 ghost use Rattle.jpg_color.specs.Encode.{image_told};
 ghost use Rattle.jpg_pnm_bmp.specs.Made.{IsRightImage};
-ghost use Rattle.jpg_cli.specs.Words.EncodeWords.{encode_told, lent_tables};
+ghost use Rattle.jpg_cli.specs.Words.EncodeWords.{encode_view, lent_tables};
 ghost use Rattle.jpg_cli.specs.Tools.ImageEncoded.{Encoded, EncodedAfter, EncodedAsAsked, task_after};
 ghost use Rattle.jpg_cli.specs.Desk.ImageWritten.{EncodesImage, IsEncodedBy, IsPlanOf, WritesAsItIs, WritesEncoded, WritesView};
 ghost use Rattle.jpg_cli.specs.Desk.Writing.{why_wrote};
@@ -13,7 +13,7 @@ use crate::desk::moved::{Wrote, write_moved, write_view};
 use crate::desk::script::take_scans;
 use crate::desk::tables::{Tables, take_tables};
 use crate::tools::cjpeg_encoding::encoding_of;
-use crate::tools::cjpeg_image::{read_encoded, why_none};
+use crate::tools::cjpeg_image::{read_encoded, why_not_encoded};
 use crate::words::cjpeg_request::EncodeWords;
 use jpg_base::{Desk, QuantTable};
 use jpg_color::{EncodedImage, encode_picture};
@@ -35,7 +35,7 @@ use std::alloc::Global;
 #[inline(never)]
 pub fn encode<D: Desk>(alloc: Global, words: EncodeWords, desk: &mut D) -> Why
     ensures kept { OnlyWorks (D.state desk.old) (D.state desk.new) }
-    ensures encoded { EncodedAsAsked (encode_told words) (D.state desk.old) result (D.state desk.new) }
+    ensures encoded { EncodedAsAsked (encode_view words) (D.state desk.old) result (D.state desk.new) }
 {
     match take_scans(alloc, &words.script, desk) {
         Err(why) => why,
@@ -46,7 +46,7 @@ pub fn encode<D: Desk>(alloc: Global, words: EncodeWords, desk: &mut D) -> Why
 // The same in these scans.
 fn encode_in<D: Desk>(alloc: Global, words: EncodeWords, scans: &Scans, desk: &mut D) -> Why
     ensures kept { OnlyWorks (D.state desk.old) (D.state desk.new) }
-    ensures encoded { EncodedAfter (encode_told words) (scans_told scans.now) (D.state desk.old) result (D.state desk.new) }
+    ensures encoded { EncodedAfter (encode_view words) (scans_view scans.now) (D.state desk.old) result (D.state desk.new) }
 {
     let mut words = words;
     match take_tables(alloc, words.tables.take(), desk) {
@@ -64,7 +64,7 @@ fn encode_by<D: Desk>(
     desk: &mut D,
 ) -> Why
     ensures kept { OnlyWorks (D.state desk.old) (D.state desk.new) }
-    ensures encoded { Encoded (task_after [] (encode_told words.now) (scans_told scans.now) (lent_tables tables.entry)) (D.state desk.old) result (D.state desk.new) }
+    ensures encoded { Encoded (task_after [] (encode_view words.now) (scans_view scans.now) (lent_tables tables.entry)) (D.state desk.old) result (D.state desk.new) }
 {
     match read_encoded(alloc, words, scans, tables, desk) {
         Err(why) => why,
@@ -81,10 +81,10 @@ fn write_image<D: Desk>(
     scans: &Scans,
     desk: &mut D,
 ) -> Why
-    requires { IsEncodedBy words.now (scans_told scans.now) image }
+    requires { IsEncodedBy words.now (scans_view scans.now) image }
     ensures kept { OnlyWorks (D.state desk.old) (D.state desk.new) }
     ensures left { (D.state desk.new).left ≡ (D.state desk.old).left }
-    ensures wrote { WritesEncoded words.now (scans_told scans.now) image (D.state desk.old) result (D.state desk.new) }
+    ensures wrote { WritesEncoded words.now (scans_view scans.now) image (D.state desk.old) result (D.state desk.new) }
 {
     if scans.progressive() {
         return match image.picture(alloc) {
@@ -103,10 +103,10 @@ fn write_blocks<D: Desk>(
     scans: &Scans,
     desk: &mut D,
 ) -> Wrote
-    requires { IsEncodedBy words.now (scans_told scans.now) image.now }
+    requires { IsEncodedBy words.now (scans_view scans.now) image.now }
     ensures kept { OnlyWorks (D.state desk.old) (D.state desk.new) }
     ensures left { (D.state desk.new).left ≡ (D.state desk.old).left }
-    ensures wrote { WritesView words.now (scans_told scans.now) image.now (D.state desk.old) result (D.state desk.new) }
+    ensures wrote { WritesView words.now (scans_view scans.now) image.now (D.state desk.old) result (D.state desk.new) }
 {
     let script = script_due(scans, &image.frame, image.colour);
     match script.check(&image.frame) {
@@ -150,12 +150,12 @@ pub fn write_encoded<D: Desk>(
     requires { IsRightImage (image_told image.now) }
     ensures kept { OnlyWorks (D.state desk.old) (D.state desk.new) }
     ensures left { (D.state desk.new).left ≡ (D.state desk.old).left }
-    ensures wrote { EncodesImage words.now (scans_told scans) tables.entry image.now (D.state desk.old) result (D.state desk.new) }
+    ensures wrote { EncodesImage words.now (scans_view scans) tables.entry image.now (D.state desk.old) result (D.state desk.new) }
 {
     counted(words.restart);
     let encoding = encoding_of(words, &scans, tables, image.info.kind);
     match encode_picture(alloc, image, &encoding) {
-        Err(stop) => why_none(stop),
+        Err(stop) => why_not_encoded(stop),
         Ok(picture) => write_picture(alloc, &picture, words, &scans, desk),
     }
 }
@@ -163,7 +163,7 @@ pub fn write_encoded<D: Desk>(
 // A copy of the scans.
 #[inline(never)]
 fn copy_of(scans: &Scans) -> Scans
-    ensures { scans_told result ≡ scans_told scans.now }
+    ensures { scans_view result ≡ scans_view scans.now }
 {
     match scans {
         Scans::Sequential => Scans::Sequential,
@@ -183,7 +183,7 @@ fn write_picture<D: Desk>(
 ) -> Why
     ensures kept { OnlyWorks (D.state desk.old) (D.state desk.new) }
     ensures left { (D.state desk.new).left ≡ (D.state desk.old).left }
-    ensures wrote { WritesAsItIs words.now (scans_told scans.now) picture.now (D.state desk.old) result (D.state desk.new) }
+    ensures wrote { WritesAsItIs words.now (scans_view scans.now) picture.now (D.state desk.old) result (D.state desk.new) }
 {
     let choice = Choice {
         transform: Transform::Keep,

@@ -3,7 +3,7 @@ ghost use Rattle.std.specs.Prelude.{◌≡◌, ◌≤◌, All, length};
 ghost use Rattle.jpg_spec_encode.specs.Encoded.{count_due};
 ghost use Rattle.jpg_spec_words.specs.EncodeWords.{factors_at, factors_due};
 ghost use Rattle.jpg_spec_encode.specs.EncodingLaws.{AreFactors};
-ghost use Rattle.jpg_transform.specs.Planned.{scans_told};
+ghost use Rattle.jpg_transform.specs.Planned.{scans_view};
 ghost use Rattle.jpg_color.specs.Encode.{AsksFor};
 ghost use Rattle.jpg_spec_image.specs.Images.{Image as ImageRead};
 ghost use Rattle.jpg_cli.specs.Words.EncodeWords.{CanEncodeKind, encoding_by};
@@ -24,7 +24,7 @@ pub fn encoding_of(
     tables: Option<&Tables>,
     kind: ImageKind,
 ) -> Encoding
-    ensures asks { (I : ImageRead) → I.info.kind ≡ kind → AsksFor result (encoding_by words.now (scans_told scans.now) tables.entry I) }
+    ensures asks { (I : ImageRead) → I.info.kind ≡ kind → AsksFor result (encoding_by words.now (scans_view scans.now) tables.entry I) }
     ensures can { CanEncodeKind kind result }
 {
     Encoding {

@@ -1,12 +1,12 @@
 //! The image of an input, read and encoded (the manual of cjpeg). The samples of P5 and P6 become planes as they come.
 ghost use Rattle.std.specs.Prelude.{◌≡◌, ◌≤◌, ◌+◌, IfOk, IfSome, OnOk, length, true};
 ghost use Rattle.jpg_spec_words.specs.declared.answers.Why.TheVariants as why;
-ghost use Rattle.jpg_transform.specs.Planned.{scans_told};
+ghost use Rattle.jpg_transform.specs.Planned.{scans_view};
 ghost use Rattle.jpg_color.specs.Encode.{image_told};
 ghost use Rattle.jpg_color.specs.EncodeSampling.{samples_left};
 ghost use Rattle.jpg_pnm_bmp.specs.Made.{IsRightImage};
 ghost use Rattle.jpg_cli.specs.Desk.EncodedRead.{EncodedRead, Encodes, EndsEncoding};
-ghost use Rattle.jpg_cli.specs.Desk.ImageWritten.{why_none};
+ghost use Rattle.jpg_cli.specs.Desk.ImageWritten.{why_not_encoded};
 ghost use Rattle.jpg_cli.specs.Desk.ImageSource.{HasFedSome, source_samples, source_taken};
 ghost use Rattle.jpg_cli.specs.Desk.SamplesFed.{BeginsPlain, EndsPlain, FeedsNext, FeedsRest, FinishesImage, TakesSome};
 ghost use Rattle.jpg_cli.specs.Words.EncodeWords.{asked_of, encoding_by};
@@ -37,7 +37,7 @@ pub fn read_encoded<D: Desk>(
     desk: &mut D,
 ) -> Result<EncodedImage, Why>
     ensures kept { Keeps (D.state desk.old) (D.state desk.new) }
-    ensures read { EncodedRead words.now.targa (encoding_by words.now (scans_told scans.now) tables.entry) words.now.files.input (D.state desk.old) result (D.state desk.new) }
+    ensures read { EncodedRead words.now.targa (encoding_by words.now (scans_view scans.now) tables.entry) words.now.files.input (D.state desk.old) result (D.state desk.new) }
 {
     match desk.open(&words.files.input) {
         Put::Failed => Err(Why::OpenFault(Which::Input)),
@@ -55,7 +55,7 @@ fn take_encoded<D: Desk>(
 ) -> Result<EncodedImage, Why>
     requires open { (D.state desk.old).input_open ≡ true }
     ensures kept { OnlyReads (D.state desk.old) (D.state desk.new) }
-    ensures read { EndsEncoding words.now.targa (encoding_by words.now (scans_told scans.now) tables.entry) (D.state desk.old) result (D.state desk.new) }
+    ensures read { EndsEncoding words.now.targa (encoding_by words.now (scans_view scans.now) tables.entry) (D.state desk.old) result (D.state desk.new) }
 {
     let mut reader = ImageSource::new(alloc, words.targa);
     let mut buffer = [0u8; 16384];
@@ -81,12 +81,12 @@ fn encode_whole(
     tables: Option<&Tables>,
 ) -> Result<EncodedImage, Why>
     requires { IsRightImage (image_told image.now) }
-    ensures { Encodes (asked_of words.now (scans_told scans.now) tables.entry image.now) (image_told image.now) result }
+    ensures { Encodes (asked_of words.now (scans_view scans.now) tables.entry image.now) (image_told image.now) result }
 {
     counted(words.restart);
     let encoding = encoding_of(words, scans, tables, image.info.kind);
     match Sampler::new(alloc, image.info, encoding) {
-        Err(stop) => Err(why_none(stop)),
+        Err(stop) => Err(why_not_encoded(stop)),
         Ok(sampler) => {
             let mut sampler = sampler;
             match sampler.feed(image.samples.as_slice()) {
@@ -98,8 +98,8 @@ fn encode_whole(
 }
 
 /// Why there is no encoded image.
-pub fn why_none(stop: EncodeStop) -> Why
-    ensures { result ≡ why_none stop }
+pub fn why_not_encoded(stop: EncodeStop) -> Why
+    ensures { result ≡ why_not_encoded stop }
 {
     match stop {
         EncodeStop::Picture(fault) => Why::Picture(fault),
@@ -117,7 +117,7 @@ fn sampler_for(
     tables: Option<&Tables>,
 ) -> Option<Sampler>
     requires { HasFedSome words.now.targa reader.now }
-    ensures begins { IfSome result (BeginsPlain words.now.targa (encoding_by words.now (scans_told scans.now) tables.entry) reader.now) }
+    ensures begins { IfSome result (BeginsPlain words.now.targa (encoding_by words.now (scans_view scans.now) tables.entry) reader.now) }
     ensures few { IfSome result (λ s. length (source_samples reader.now) ≤ samples_left s) }
 {
     let Some(info) = reader.plain() else {

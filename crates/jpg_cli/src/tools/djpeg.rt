@@ -9,7 +9,7 @@ ghost use Rattle.jpg_file.specs.Read.ReadFile.{head_seen};
 ghost use Rattle.jpg_file.specs.Read.ReadRows.{HasReadPlainly};
 ghost use Rattle.jpg_pnm_bmp.specs.EndState.{new_end};
 ghost use Rattle.jpg_cli.specs.Desk.ReadPicture.{unwanted_in};
-ghost use Rattle.jpg_cli.specs.Tools.Showing.{AfterPicture, Shown, showing_told};
+ghost use Rattle.jpg_cli.specs.Tools.Showing.{AfterPicture, Shown, showing_view};
 ghost use Rattle.jpg_cli.specs.Tools.ShowingRows.{AfterFirstEnd, EndsFirst, GoesOnFirst, HasFedPlainly, IsOpened, ReadsFirst, StaysFirst, TakesFirst, step_of};
 ghost use Rattle.jpg_cli.specs.Stays.{OnlyReads, OnlyWorks};
 ghost use Rattle.jpg_cli.specs.declared.desk.picture.Wanted.TheVariants.{Image};
@@ -53,7 +53,7 @@ pub fn show_picture<D: Desk>(
 ) -> Why
     requires { progress end.old ≡ new_end words.now.kind }
     ensures kept { OnlyWorks (D.state desk.old) (D.state desk.new) }
-    ensures shown { Shown (showing_told words.now) (D.state desk.old) result (D.state desk.new) }
+    ensures shown { Shown (showing_view words.now) (D.state desk.old) result (D.state desk.new) }
 {
     match desk.open(&words.files.input) {
         Put::Failed => Why::OpenFault(Which::Input),
@@ -73,7 +73,7 @@ fn show_input<D: Desk>(
     requires end { progress end.old ≡ new_end words.now.kind }
     requires opened { IsOpened words.now.files.input (D.state desk.old) }
     ensures kept { OnlyWorks (D.state desk.old) (D.state desk.new) }
-    ensures shown { (old : DeskState) → Opens old words.now.files.input put.Done (D.state desk.old) → Shown (showing_told words.now) old result (D.state desk.new) }
+    ensures shown { (old : DeskState) → Opens old words.now.files.input put.Done (D.state desk.old) → Shown (showing_view words.now) old result (D.state desk.new) }
 {
     let mut reader = Reader::strips(alloc, Limits::standard());
     let mut buffer = [0u8; 16384];

@@ -2,7 +2,7 @@
 ghost use Rattle.std.specs.Prelude.{◌≡◌, ◌≤◌};
 ghost use Rattle.jpg_pnm_bmp.specs.EndState.{new_end};
 ghost use Rattle.jpg_cli.specs.Tools.FrontShown.{FrontShown};
-ghost use Rattle.jpg_cli.specs.Tools.Showing.{showing_told};
+ghost use Rattle.jpg_cli.specs.Tools.Showing.{showing_view};
 ghost use Rattle.jpg_cli.specs.Stays.{OnlyWorks};
 
 use crate::desk::front::read_front;
@@ -28,7 +28,7 @@ pub fn show_front<D: Desk>(
     requires some { 1 ≤ scans }
     requires end { progress end.old ≡ new_end words.now.kind }
     ensures kept { OnlyWorks (D.state desk.old) (D.state desk.new) }
-    ensures shown { FrontShown scans (showing_told words.now) (D.state desk.old) result (D.state desk.new) }
+    ensures shown { FrontShown scans (showing_view words.now) (D.state desk.old) result (D.state desk.new) }
 {
     match read_front(alloc, &words.files.input, scans, words.gray, desk) {
         Err(why) => why,

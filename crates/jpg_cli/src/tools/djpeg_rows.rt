@@ -3,7 +3,7 @@ ghost use Rattle.std.specs.Prelude.{◌≡◌, ◌<◌, ◌≤◌, ℕ, All, Lis
 ghost use Rattle.jpg_spec.specs.Segments.{standard_limits};
 ghost use Rattle.jpg_file.specs.Read.ReadRows.{EndsDoneRow, HasReadAll};
 ghost use Rattle.jpg_pnm_bmp.specs.EndState.{new_end};
-ghost use Rattle.jpg_cli.specs.Tools.Showing.{showing_told};
+ghost use Rattle.jpg_cli.specs.Tools.Showing.{showing_view};
 ghost use Rattle.jpg_cli.specs.Tools.ShowingRows.{AfterRowsEnd, CanBeginRows, CanDrawPiece, CanEnd, CanEndInZeros, CanFinishImage, CanReadRows, Draws, DrawsFrom, EndsInZeros, EndsShownRow, FinishesEarly, FinishesRows, GoesLater, GoesOnRows, IsLastPiece, ReadsRows, ShowsFrom, at_work, last_step, warned_of, why_of};
 ghost use Rattle.jpg_cli.specs.Stays.{OnlyWorks};
 
@@ -42,10 +42,10 @@ pub fn show_rows<D: Desk>(
     requires open { (D.state desk.old).input_open ≡ true }
     requires end { progress end.old ≡ new_end words.now.kind }
     requires within { count ≤ 16384 }
-    requires begun { CanBeginRows (showing_told words.now) (take count buffer.old) answer reader.old (D.state desk.old) }
+    requires begun { CanBeginRows (showing_view words.now) (take count buffer.old) answer reader.old (D.state desk.old) }
     requires by_row { reader.old.by_row ≡ true }
     ensures kept { OnlyWorks (D.state desk.old) (D.state desk.new) }
-    ensures shown { ShowsFrom (showing_told words.now) (take count buffer.old) answer reader.old (D.state desk.old) result (D.state desk.new) }
+    ensures shown { ShowsFrom (showing_view words.now) (take count buffer.old) answer reader.old (D.state desk.old) result (D.state desk.new) }
 {
     let Some(head) = reader.strip() else {
         unreachable!()
@@ -76,11 +76,11 @@ fn draw_rows<D: Desk>(
 ) -> Why
     requires open { (D.state desk.old).input_open ≡ true }
     requires within { count ≤ 16384 }
-    requires draws { CanDrawPiece (showing_told words.now) (take count buffer.old) answer (at_work reader.old image.old (progress end.old) (D.state desk.old)) }
+    requires draws { CanDrawPiece (showing_view words.now) (take count buffer.old) answer (at_work reader.old image.old (progress end.old) (D.state desk.old)) }
     requires done { EndsDoneRow answer reader.old }
     requires by_row { reader.old.by_row ≡ true }
     ensures kept { OnlyWorks (D.state desk.old) (D.state desk.new) }
-    ensures shown { DrawsFrom (showing_told words.now) (take count buffer.old) answer reader.old image.old (progress end.old) (D.state desk.old) result (D.state desk.new) }
+    ensures shown { DrawsFrom (showing_view words.now) (take count buffer.old) answer reader.old image.old (progress end.old) (D.state desk.old) result (D.state desk.new) }
 {
     let mut step = draw_piece(
         reader,
@@ -110,9 +110,9 @@ fn finish_rows<D: Desk>(
     end: &mut Box<dyn ImageEnd>,
     desk: &mut D,
 ) -> Why
-    requires all { CanFinishImage (showing_told words.now) (at_work reader.now image.old (progress end.old) (D.state desk.old)) }
+    requires all { CanFinishImage (showing_view words.now) (at_work reader.now image.old (progress end.old) (D.state desk.old)) }
     ensures kept { OnlyWorks (D.state desk.old) (D.state desk.new) }
-    ensures shown { FinishesRows (showing_told words.now) reader.now image.old (progress end.old) (D.state desk.old) result (D.state desk.new) }
+    ensures shown { FinishesRows (showing_view words.now) reader.now image.old (progress end.old) (D.state desk.old) result (D.state desk.new) }
 {
     why_of(image.finish(end, desk))
 }
@@ -127,9 +127,9 @@ fn finish_early<D: Desk>(
     end: &mut Box<dyn ImageEnd>,
     desk: &mut D,
 ) -> Why
-    requires early { CanEnd (showing_told words.now) count (at_work reader.now image.old (progress end.old) (D.state desk.old)) }
+    requires early { CanEnd (showing_view words.now) count (at_work reader.now image.old (progress end.old) (D.state desk.old)) }
     ensures kept { OnlyWorks (D.state desk.old) (D.state desk.new) }
-    ensures shown { FinishesEarly (showing_told words.now) count reader.now image.old (progress end.old) (D.state desk.old) result (D.state desk.new) }
+    ensures shown { FinishesEarly (showing_view words.now) count reader.now image.old (progress end.old) (D.state desk.old) result (D.state desk.new) }
 {
     if image.is_whole() {
         return warned_of(image.finish(end, desk), count);
@@ -148,9 +148,9 @@ fn finish_zeros<D: Desk>(
     end: &mut Box<dyn ImageEnd>,
     desk: &mut D,
 ) -> Why
-    requires zeros { CanEndInZeros (showing_told words.now) count image.old (progress end.old) (D.state desk.old) }
+    requires zeros { CanEndInZeros (showing_view words.now) count image.old (progress end.old) (D.state desk.old) }
     ensures kept { OnlyWorks (D.state desk.old) (D.state desk.new) }
-    ensures shown { EndsInZeros (showing_told words.now) count image.old (progress end.old) (D.state desk.old) result (D.state desk.new) }
+    ensures shown { EndsInZeros (showing_view words.now) count image.old (progress end.old) (D.state desk.old) result (D.state desk.new) }
 {
     while !image.is_whole() {
         if let Err(stop) = image.push_zero(end, desk) {
@@ -180,12 +180,12 @@ fn next_rows<D: Desk>(
     desk: &mut D,
 ) -> RowsStep
     requires open { (D.state desk.old).input_open ≡ true }
-    requires reads { CanReadRows (showing_told words.now) (at_work reader.old image.old (progress end.old) (D.state desk.old)) }
+    requires reads { CanReadRows (showing_view words.now) (at_work reader.old image.old (progress end.old) (D.state desk.old)) }
     requires by_row { reader.old.by_row ≡ true }
     ensures kept { OnlyWorks (D.state desk.old) (D.state desk.new) }
     ensures goes_on { GoesOnRows result reader.new (D.state desk.new) }
     ensures later { GoesLater reader.old.file.reading.taken result reader.new.file.reading.taken }
-    ensures shown { ReadsRows (showing_told words.now) reader.old image.old (progress end.old) (D.state desk.old) result reader.new image.new (progress end.new) (D.state desk.new) }
+    ensures shown { ReadsRows (showing_view words.now) reader.old image.old (progress end.old) (D.state desk.old) result reader.new image.new (progress end.new) (D.state desk.new) }
     ensures by_row { reader.new.by_row ≡ true }
 {
     match read_within(desk, reader.room(), buffer) {
@@ -218,7 +218,7 @@ fn draw_piece<D: Desk>(
     desk: &mut D,
 ) -> RowsStep
     requires open { (D.state desk.old).input_open ≡ true }
-    requires draws { CanDrawPiece (showing_told words.now) piece.now answer (at_work reader.old image.old (progress end.old) (D.state desk.old)) }
+    requires draws { CanDrawPiece (showing_view words.now) piece.now answer (at_work reader.old image.old (progress end.old) (D.state desk.old)) }
     requires done { EndsDoneRow answer reader.old }
     requires by_row { reader.old.by_row ≡ true }
     ensures kept { OnlyWorks (D.state desk.old) (D.state desk.new) }
@@ -263,7 +263,7 @@ fn end_piece<D: Desk>(
     desk: &mut D,
 ) -> RowsStep
     requires open { (D.state desk.old).input_open ≡ true }
-    requires draws { CanDrawPiece (showing_told words.now) piece.now answer (at_work reader.now image.old (progress end.now) (D.state desk.old)) }
+    requires draws { CanDrawPiece (showing_view words.now) piece.now answer (at_work reader.now image.old (progress end.now) (D.state desk.old)) }
     requires done { EndsDoneRow answer reader.now }
     requires last { IsLastPiece answer }
     ensures kept { OnlyWorks (D.state desk.old) (D.state desk.new) }

@@ -3,7 +3,7 @@ ghost use Rattle.std.specs.Prelude.{◌≡◌, map};
 ghost use Rattle.jpg_cli.specs.Tools.Ends.{AreNewEnds, formats_of, has_format, is_same_format};
 ghost use Rattle.jpg_pnm_bmp.specs.EndState.{new_end};
 ghost use Rattle.jpg_cli.specs.Tools.FrontShown.{ShownAs, ShownBy};
-ghost use Rattle.jpg_cli.specs.Tools.Showing.{showing_told};
+ghost use Rattle.jpg_cli.specs.Tools.Showing.{showing_view};
 ghost use Rattle.jpg_cli.specs.Stays.{OnlyWorks};
 
 use crate::tools::djpeg::show_picture;
@@ -40,7 +40,7 @@ fn show_as<D: Desk>(
 ) -> Why
     requires { progress end.old ≡ new_end words.now.kind }
     ensures kept { OnlyWorks (D.state desk.old) (D.state desk.new) }
-    ensures shown { ShownAs words.now.preview (showing_told words.now) (D.state desk.old) result (D.state desk.new) }
+    ensures shown { ShownAs words.now.preview (showing_view words.now) (D.state desk.old) result (D.state desk.new) }
 {
     match words.preview {
         None => show_picture(alloc, words, end, desk),

@@ -1,11 +1,11 @@
 //! A picture read, transformed and written (the manual of jpegtran).
 ghost use Rattle.std.specs.Prelude.{◌≡◌, IfSome};
-ghost use Rattle.jpg_transform.specs.Planned.{choice_told, scans_told};
+ghost use Rattle.jpg_transform.specs.Planned.{choice_view, scans_view};
 ghost use Rattle.jpg_crop.specs.CropPlanned.{IsArea};
 ghost use Rattle.jpg_cli.specs.Desk.Writing.{in_area};
 ghost use Rattle.jpg_cli.specs.Stays.{OnlyWorks};
-ghost use Rattle.jpg_cli.specs.Words.TransformWords.{transform_told};
-ghost use Rattle.jpg_cli.specs.Tools.Turned.{Transformed, Turned, turning_told};
+ghost use Rattle.jpg_cli.specs.Words.TransformWords.{transform_view};
+ghost use Rattle.jpg_cli.specs.Tools.Turned.{Transformed, Turned, turning_view};
 ghost use Rattle.jpg_spec_words.specs.TransformWords.{choice_asked};
 
 use crate::desk::moved::{Wrote, write_moved};
@@ -27,7 +27,7 @@ use std::alloc::Global;
 #[inline(never)]
 pub fn transform<D: Desk>(alloc: Global, words: &TransformWords, desk: &mut D) -> Why
     ensures kept { OnlyWorks (D.state desk.old) (D.state desk.new) }
-    ensures transformed { Transformed (transform_told words.now) (D.state desk.old) result (D.state desk.new) }
+    ensures transformed { Transformed (transform_view words.now) (D.state desk.old) result (D.state desk.new) }
 {
     match take_scans(alloc, &words.script, desk) {
         Err(why) => why,
@@ -43,7 +43,7 @@ pub fn transform<D: Desk>(alloc: Global, words: &TransformWords, desk: &mut D) -
 
 // What the words ask for but the area, in these scans.
 fn choice_of(words: &TransformWords, scans: Scans) -> Choice
-    ensures { in_area words.now.crop (choice_told result) ≡ choice_asked (transform_told words.now) (scans_told scans) }
+    ensures { in_area words.now.crop (choice_view result) ≡ choice_asked (transform_view words.now) (scans_view scans) }
 {
     Choice {
         transform: words.transform,
@@ -66,7 +66,7 @@ fn turn<D: Desk>(
 ) -> Why
     requires { IfSome area.now IsArea }
     ensures kept { OnlyWorks (D.state desk.old) (D.state desk.new) }
-    ensures turned { Turned (turning_told files.now choice.now area.now) (D.state desk.old) result (D.state desk.new) }
+    ensures turned { Turned (turning_view files.now choice.now area.now) (D.state desk.old) result (D.state desk.new) }
 {
     let copying = choice.copying;
     match read_picture(alloc, &files.input, Wanted::Coefficients, copying, desk) {

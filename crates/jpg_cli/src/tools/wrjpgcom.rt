@@ -4,7 +4,7 @@ ghost use Rattle.std.specs.Prelude.{◌≡◌, ◌<◌, [], List, ℕ, IfNone, l
 ghost use Rattle.jpg_spec.specs.Segments.{standard_limits};
 ghost use Rattle.jpg_comments.specs.SegmentsSoFar.{Appends};
 ghost use Rattle.jpg_comments.specs.WriteInserted.{insert_limits, is_replacing, HasInserted};
-ghost use Rattle.jpg_cli.specs.Tools.CommentInserted.{Inserted, task_told, EndsTask, BeginsTask, WritesFirst, WritesRest};
+ghost use Rattle.jpg_cli.specs.Tools.CommentInserted.{Inserted, task_view, EndsTask, BeginsTask, WritesFirst, WritesRest};
 ghost use Rattle.jpg_cli.specs.Tools.InsertComment.{AfterAll, IsBegunWith, IsOpenAfter, ReadsHead, InsertsNext, InsertsPiece};
 ghost use Rattle.jpg_cli.specs.Stays.{OnlyCopies, OnlyReads, OnlyWorks};
 
@@ -33,7 +33,7 @@ enum AtHead {
 /// end, or to fewer bytes than that after the one that reveals a fault.
 pub fn insert_comment<D: Desk>(alloc: Global, words: &WriteWords, desk: &mut D) -> Why
     ensures kept { OnlyWorks (D.state desk.old) (D.state desk.new) }
-    ensures inserted { Inserted (task_told words.now) (D.state desk.old) result (D.state desk.new) }
+    ensures inserted { Inserted (task_view words.now) (D.state desk.old) result (D.state desk.new) }
 {
     let comment = match take_comment(alloc, &words.comment, desk) {
         Ok(comment) => comment,

@@ -2,8 +2,8 @@
 ghost use Rattle.std.specs.Prelude.{◌≡◌, ◌<◌, ◌≤◌, All, IfOk, IfSome, map, drop, string_bytes};
 ghost use Rattle.jpg_spec_words.specs.EncodeWords.{EncodeAsked, cjpeg, encode_asked};
 ghost use Rattle.jpg_spec_encode.specs.EncodingLaws.{AreFactors};
-ghost use Rattle.jpg_cli.specs.Words.EncodeWords.{encode_said, encode_told, factors_said, huffman_asked, quality_said};
-ghost use Rattle.jpg_cli.specs.Words.Files.{text_told};
+ghost use Rattle.jpg_cli.specs.Words.EncodeWords.{encode_said, encode_view, factors_said, huffman_asked, quality_said};
+ghost use Rattle.jpg_cli.specs.Words.Files.{text_view};
 ghost use Rattle.jpg_cli.specs.Words.Requests.{AnswersWords, IsAnswer};
 ghost use Rattle.jpg_spec_words.specs.Requests.{with_value};
 
@@ -48,7 +48,7 @@ static CJPEG_SWITCHES: [Switch<'static>; 21] = [
 /// What the words of cjpeg ask for; the word with index 0 is the command. Words that are wrong give their first fault
 /// and take no memory.
 pub fn cjpeg_words(alloc: Global, words: &[String]) -> Result<EncodeWords, WordsStop>
-    ensures { IsAnswer encode_told (encode_asked (drop 1 (map string_bytes words.now))) result }
+    ensures { IsAnswer encode_view (encode_asked (drop 1 (map string_bytes words.now))) result }
 {
     let start = EncodeSaid {
         files: NO_FILES,
@@ -89,7 +89,7 @@ impl<'a> Asks<'a> for EncodeSaid<'a> {
 
     ghost said = { encode_said };
 
-    ghost told = { encode_told };
+    ghost told = { encode_view };
 
     fn named(self, name: &'a str) -> Self {
         EncodeSaid {
@@ -189,7 +189,7 @@ impl<'a> EncodeSaid<'a> {
 
 // The name of a file of tables, if there is one.
 fn tables_from(alloc: Global, name: Option<&str>) -> Result<Option<Text>, NoMemory>
-    ensures { IfOk result (λ tables. tables ≡ text_told name.entry) }
+    ensures { IfOk result (λ tables. tables ≡ text_view name.entry) }
 {
     match name {
         Some(name) => Ok(Some(Text::new(alloc, name)?)),
@@ -199,7 +199,7 @@ fn tables_from(alloc: Global, name: Option<&str>) -> Result<Option<Text>, NoMemo
 
 // The quality of this text.
 fn quality_of(value: Option<&str>) -> Option<u8>
-    ensures value { result ≡ quality_said (text_told value.entry) }
+    ensures value { result ≡ quality_said (text_view value.entry) }
     ensures range { IfSome result (λ q. (1 ≤ q) × (q ≤ 100)) }
 {
     match value {
@@ -210,7 +210,7 @@ fn quality_of(value: Option<&str>) -> Option<u8>
 
 // The factors of this text; none if they aren't given.
 fn factors_of(value: Option<&str>) -> Factors
-    ensures value { result.items ≡ factors_said (text_told value.entry) }
+    ensures value { result.items ≡ factors_said (text_view value.entry) }
     ensures range { All AreFactors result.items }
 {
     if let Some(value) = value {

@@ -2,7 +2,7 @@
 ghost use Rattle.std.specs.Prelude.{◌≡◌, IfOk, map, drop, string_bytes};
 ghost use Rattle.jpg_spec_words.specs.CommentWords.{WriteAsked, are_both_input, rdjpgcom, read_asked, wrjpgcom, write_asked};
 ghost use Rattle.jpg_spec_words.specs.Requests.{FilesAsked, standard_input};
-ghost use Rattle.jpg_cli.specs.Words.CommentWords.{comment_said, comment_told, write_said, write_told};
+ghost use Rattle.jpg_cli.specs.Words.CommentWords.{comment_said, comment_view, write_said, write_words_view};
 ghost use Rattle.jpg_cli.specs.Words.Files.{file_said, files_said, files_view};
 ghost use Rattle.jpg_cli.specs.Words.Requests.{IsAnswer};
 
@@ -80,7 +80,7 @@ impl<'a> Asks<'a> for FilesSaid<'a> {
 /// word after the file, or `NeedsInput` at the number of words, if both the comment and the file would be standard
 /// input.
 pub fn wrjpgcom_words(alloc: Global, words: &[String]) -> Result<WriteWords, WordsStop>
-    ensures { IsAnswer write_told (write_asked (drop 1 (map string_bytes words.now))) result }
+    ensures { IsAnswer write_words_view (write_asked (drop 1 (map string_bytes words.now))) result }
 {
     let start = WriteSaid {
         files: NO_FILES,
@@ -126,7 +126,7 @@ impl<'a> Asks<'a> for WriteSaid<'a> {
 
     ghost said = { write_said };
 
-    ghost told = { write_told };
+    ghost told = { write_words_view };
 
     fn named(self, name: &'a str) -> Self {
         WriteSaid {
@@ -186,7 +186,7 @@ impl<'a> WriteSaid<'a> {
 impl<'a> CommentSaid<'a> {
     // The same with copies of its texts.
     fn to_comment(self, alloc: Global) -> Result<CommentFrom, NoMemory>
-        ensures { IfOk result (λ comment. comment_told comment ≡ comment_said self.entry) }
+        ensures { IfOk result (λ comment. comment_view comment ≡ comment_said self.entry) }
     {
         Ok(match self {
             CommentSaid::Input => CommentFrom::Input,

@@ -3,7 +3,7 @@ ghost use Rattle.std.specs.Prelude.{◌≡◌, ◌≤◌, map, drop, string_byte
 ghost use Rattle.jpg_spec_words.specs.ShowWords.{ShowAsked, djpeg, is_whole_scale, scans_from, show_asked};
 ghost use Rattle.jpg_cli.specs.Words.Requests.{IsAnswer};
 ghost use Rattle.jpg_cli.specs.Words.Scans.{scans_or_one};
-ghost use Rattle.jpg_cli.specs.Words.ShowWords.{show_said, show_told};
+ghost use Rattle.jpg_cli.specs.Words.ShowWords.{show_said, show_view};
 
 use crate::words::djpeg_request::ShowWords;
 use crate::words::files::{FilesSaid, NO_FILES, WordsStop};
@@ -46,7 +46,7 @@ static DJPEG_SWITCHES: [Switch<'static>; 24] = [
 /// What the words of djpeg ask for; the word with index 0 is the command. Words that are wrong give their first fault
 /// and take no memory.
 pub fn djpeg_words(alloc: Global, words: &[String]) -> Result<ShowWords, WordsStop>
-    ensures { IsAnswer show_told (show_asked (drop 1 (map string_bytes words.now))) result }
+    ensures { IsAnswer show_view (show_asked (drop 1 (map string_bytes words.now))) result }
 {
     let start = ShowSaid {
         files: NO_FILES,
@@ -79,7 +79,7 @@ impl<'a> Asks<'a> for ShowSaid<'a> {
 
     ghost said = { show_said };
 
-    ghost told = { show_told };
+    ghost told = { show_view };
 
     fn named(self, name: &'a str) -> Self {
         ShowSaid {

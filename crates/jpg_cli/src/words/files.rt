@@ -1,7 +1,7 @@
 //! The files that words name, and why words aren't accepted.
 ghost use Rattle.std.specs.Prelude.{◌≡◌, IfOk};
 ghost use Rattle.jpg_spec_words.specs.Requests.{with_input, with_output};
-ghost use Rattle.jpg_cli.specs.Words.Files.{file_said, files_said, files_view, file_told};
+ghost use Rattle.jpg_cli.specs.Words.Files.{file_said, files_said, files_view, name_view};
 
 use jpg_base::{Name, NoMemory, Text};
 use jpg_spec_words::Usage;
@@ -68,7 +68,7 @@ impl<'a> FilesSaid<'a> {
 
 // The file of this name, or the other if there is no name.
 fn name_or(alloc: Global, name: Option<&str>, other: Name) -> Result<Name, NoMemory>
-    ensures { IfOk result (λ file. file_told file ≡ file_said (file_told other) name.entry) }
+    ensures { IfOk result (λ file. name_view file ≡ file_said (name_view other) name.entry) }
 {
     match name {
         Some(name) => Ok(Name::File(Text::new(alloc, name)?)),

@@ -4,15 +4,15 @@ ghost use Rattle.jpg_crop.specs.CropPlanned.{IsArea};
 ghost use Rattle.jpg_cli.specs.Words.Areas.{area_or_one};
 ghost use Rattle.jpg_spec_words.specs.Requests.{with_value};
 ghost use Rattle.jpg_spec_words.specs.TransformWords.{TransformAsked, copying_named, flip_named, jpegtran, rotation_named, transform_asked, transform_number, with_progressive, with_transform};
-ghost use Rattle.jpg_cli.specs.Words.Files.{text_told};
+ghost use Rattle.jpg_cli.specs.Words.Files.{text_view};
 ghost use Rattle.jpg_cli.specs.Words.Requests.{AnswersWords, IsAnswer};
-ghost use Rattle.jpg_cli.specs.Words.TransformWords.{area_said, script_said, script_told, transform_said, transform_told};
+ghost use Rattle.jpg_cli.specs.Words.TransformWords.{area_said, script_said, script_told, transform_said, transform_view};
 
 use crate::words::areas::area_named;
 use crate::words::files::{Files, FilesSaid, NO_FILES, WordsStop};
 use crate::words::jpegtran_request::TransformWords;
 use crate::words::requests::{Asks, bad_value, read_words, usage};
-use crate::words::switches::{Switch, stands_for};
+use crate::words::switches::{Switch, abbreviates};
 use crate::words::values::{huffman_named, number_of, restart_named};
 use jpg_base::{NoMemory, Text};
 use jpg_spec::Copying;
@@ -57,7 +57,7 @@ pub enum ScriptFrom {
 /// What the words of jpegtran ask for; the word with index 0 is the command. Words that are wrong give their first
 /// fault and take no memory.
 pub fn jpegtran_words(alloc: Global, words: &[String]) -> Result<TransformWords, WordsStop>
-    ensures { IsAnswer transform_told (transform_asked (drop 1 (map string_bytes words.now))) result }
+    ensures { IsAnswer transform_view (transform_asked (drop 1 (map string_bytes words.now))) result }
 {
     let start = TransformSaid {
         files: NO_FILES,
@@ -96,7 +96,7 @@ impl<'a> Asks<'a> for TransformSaid<'a> {
 
     ghost said = { transform_said };
 
-    ghost told = { transform_told };
+    ghost told = { transform_view };
 
     fn named(self, name: &'a str) -> Self {
         TransformSaid {
@@ -196,7 +196,7 @@ impl<'a> TransformSaid<'a> {
 
 // The area of this text, if there is one.
 fn area_of(value: Option<&str>) -> Option<Area>
-    ensures value { result ≡ area_said (text_told value.entry) }
+    ensures value { result ≡ area_said (text_view value.entry) }
     ensures area { IsArea (area_or_one result) }
 {
     match value {
@@ -256,11 +256,11 @@ fn copying_named(value: &str) -> Option<Copying>
     ensures { result ≡ copying_named value.now }
 {
     let letters = value.as_bytes();
-    if stands_for(1, b"none", letters) {
+    if abbreviates(1, b"none", letters) {
         Some(Copying::None)
-    } else if stands_for(1, b"comments", letters) {
+    } else if abbreviates(1, b"comments", letters) {
         Some(Copying::Comments)
-    } else if stands_for(1, b"all", letters) {
+    } else if abbreviates(1, b"all", letters) {
         Some(Copying::All)
     } else {
         None
@@ -271,9 +271,9 @@ fn flip_named(value: &str) -> Option<Transform>
     ensures { result ≡ flip_named value.now }
 {
     let letters = value.as_bytes();
-    if stands_for(1, b"horizontal", letters) {
+    if abbreviates(1, b"horizontal", letters) {
         Some(Transform::FlipH)
-    } else if stands_for(1, b"vertical", letters) {
+    } else if abbreviates(1, b"vertical", letters) {
         Some(Transform::FlipV)
     } else {
         None

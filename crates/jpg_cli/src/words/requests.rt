@@ -3,8 +3,8 @@ ghost use Rattle.std.specs.Prelude.{◌≡◌, ◌+◌, ◌<◌, ◌≤◌, IfOk
 ghost use Rattle.jpg_spec_words.specs.Requests.{Tool, request};
 ghost use Rattle.jpg_spec_words.specs.Switches.{is_switch};
 ghost use Rattle.jpg_spec_words.specs.declared.answers.UsageFault.TheVariants.{BadValue};
-ghost use Rattle.jpg_cli.specs.Words.Requests.{AnswersWords, IsAnswer, IsStep, IsValue, asked_from, usage_told, word_at};
-ghost use Rattle.jpg_cli.specs.Words.Switches.{told_switch};
+ghost use Rattle.jpg_cli.specs.Words.Requests.{AnswersWords, IsAnswer, IsStep, IsValue, asked_from, usage_view, word_at};
+ghost use Rattle.jpg_cli.specs.Words.Switches.{switch_view};
 
 use crate::words::files::WordsStop;
 use crate::words::switches::{Switch, is_switch, purpose_of};
@@ -52,7 +52,7 @@ pub(crate) fn read_words<'a, A: Asks<'a>>(
     switches: &[Switch<'_>],
     words: &'a [String],
 ) -> Result<A::Words, WordsStop>
-    requires { map told_switch switches.now ≡ A.tool.switches }
+    requires { map switch_view switches.now ≡ A.tool.switches }
     ensures { IsAnswer A.told (request A.tool (A.said start) (drop 1 (map string_bytes words.now))) result }
 {
     match read_request(start, switches, words) {
@@ -71,7 +71,7 @@ pub(crate) fn read_request<'a, A: Asks<'a>>(
     switches: &[Switch<'_>],
     words: &'a [String],
 ) -> Result<A, Usage>
-    requires { map told_switch switches.now ≡ A.tool.switches }
+    requires { map switch_view switches.now ≡ A.tool.switches }
     ensures { AnswersWords A.said (request A.tool (A.said start) (drop 1 (map string_bytes words.now))) result }
 {
     let mut said = start;
@@ -106,7 +106,7 @@ fn after_switch<'a, A: Asks<'a>>(
     words: &'a [String],
     index: usize,
 ) -> Result<(A, usize), Usage>
-    requires table { map told_switch switches.now ≡ A.tool.switches }
+    requires table { map switch_view switches.now ≡ A.tool.switches }
     requires within { index < length words.now }
     requires switch { is_switch (word_at (map string_bytes words.now) index) ≡ true }
     ensures told { IsStep A.tool A.said (map string_bytes words.now) index said result }
@@ -148,7 +148,7 @@ fn word_at(words: &[String], index: usize) -> &str
 }
 
 pub(crate) fn usage(fault: UsageFault, index: usize) -> Usage
-    ensures { result ≡ usage_told fault index }
+    ensures { result ≡ usage_view fault index }
 {
     Usage {
         fault,
@@ -159,7 +159,7 @@ pub(crate) fn usage(fault: UsageFault, index: usize) -> Usage
 // What is wrong with the value of the switch of this index.
 pub(crate) fn bad_value(index: usize) -> Usage
     requires { index < 18446744073709551615 }
-    ensures { result ≡ usage_told BadValue (index + 1) }
+    ensures { result ≡ usage_view BadValue (index + 1) }
 {
     usage(UsageFault::BadValue, index + 1)
 }

@@ -2,8 +2,8 @@
 //! shortest form matches).
 ghost use Rattle.std.specs.Prelude.{◌≡◌, map};
 ghost use Rattle.jpg_spec.specs.Lists.{begins_with};
-ghost use Rattle.jpg_spec_words.specs.Switches.{is_match, is_switch, lower, purpose_of, stands_for};
-ghost use Rattle.jpg_cli.specs.Words.Switches.{told_switch};
+ghost use Rattle.jpg_spec_words.specs.Switches.{is_match, is_switch, lower, purpose_of, abbreviates};
+ghost use Rattle.jpg_cli.specs.Words.Switches.{switch_view};
 
 use jpg_spec_words::Purpose;
 
@@ -19,7 +19,7 @@ pub fn is_switch(word: &str) -> bool
 
 /// The purpose of a word that begins with a hyphen, in a command with these switches.
 pub fn purpose_of(switches: &[Switch<'_>], word: &str) -> Option<Purpose>
-    ensures { result ≡ purpose_of (map told_switch switches.now) word.now }
+    ensures { result ≡ purpose_of (map switch_view switches.now) word.now }
 {
     let letters = match word.as_bytes() {
         [] => &[],
@@ -35,14 +35,14 @@ pub fn purpose_of(switches: &[Switch<'_>], word: &str) -> Option<Purpose>
 
 // Whether the letters are a prefix of the switch's name, in any case, and no fewer than its shortest form.
 fn is_match(letters: &[u8], switch: &Switch<'_>) -> bool
-    ensures { result ≡ is_match letters.now (told_switch switch.now) }
+    ensures { result ≡ is_match letters.now (switch_view switch.now) }
 {
-    stands_for(switch.1, switch.0.as_bytes(), letters)
+    abbreviates(switch.1, switch.0.as_bytes(), letters)
 }
 
 /// Whether the letters are a prefix of a name, in any case, and no fewer than its shortest form has.
-pub fn stands_for(shortest: usize, name: &[u8], letters: &[u8]) -> bool
-    ensures { result ≡ stands_for shortest name.now letters.now }
+pub fn abbreviates(shortest: usize, name: &[u8], letters: &[u8]) -> bool
+    ensures { result ≡ abbreviates shortest name.now letters.now }
 {
     shortest <= letters.len() && begins(letters, name)
 }

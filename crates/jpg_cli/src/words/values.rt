@@ -4,7 +4,7 @@ ghost use Rattle.jpg_spec_words.specs.Requests.{ends_with_b, huffman_named, is_i
 ghost use Rattle.jpg_spec_words.specs.ShowWords.{scans_from, scans_named};
 ghost use Rattle.jpg_file.specs.Write.Restarts.{restart_of};
 
-use crate::words::switches::{lower, stands_for};
+use crate::words::switches::{abbreviates, lower};
 use jpg_transform::{Huffman, Restart};
 
 // The restart interval of a value: a number of rows of MCUs, or of MCUs with a B after it, at most 65535. For 0 there
@@ -23,9 +23,9 @@ pub(crate) fn huffman_named(value: &str) -> Option<Huffman>
     ensures { result ≡ huffman_named value.now }
 {
     let letters = value.as_bytes();
-    if stands_for(1, b"plain", letters) {
+    if abbreviates(1, b"plain", letters) {
         Some(Huffman::Plain)
-    } else if stands_for(1, b"fitted", letters) {
+    } else if abbreviates(1, b"fitted", letters) {
         Some(Huffman::Fitted)
     } else {
         None
@@ -61,7 +61,7 @@ pub(crate) fn scans_named(value: &[u8]) -> Option<u16>
 pub(crate) fn is_int(value: &str) -> bool
     ensures { result ≡ is_int value.now }
 {
-    stands_for(1, b"int", value.as_bytes())
+    abbreviates(1, b"int", value.as_bytes())
 }
 
 // Whether the text has a B at its end.

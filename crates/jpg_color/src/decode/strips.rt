@@ -45,13 +45,13 @@ pub struct Strips {
 
 impl Model for Strips {
     ghost use Rattle.jpg_color.specs.Shown.{ShownState};
-    ghost use Rattle.jpg_color.specs.StripsState.{AreStrips, shown_of, told_display};
+    ghost use Rattle.jpg_color.specs.StripsState.{AreStrips, shown_of, display_for};
 
     ghost Value = { ShownState };
 
-    ghost view = { λ s. shown_of (told_display s.frame s.colour s.quants.items s.gray s.smooth) s.pushed s.given s.parts.items s.last.items };
+    ghost view = { λ s. shown_of (display_for s.frame s.colour s.quants.items s.gray s.smooth) s.pushed s.given s.parts.items s.last.items };
 
-    ghost invariant = { λ s. AreStrips (told_display s.frame s.colour s.quants.items s.gray s.smooth) s.pushed s.given s.parts.items s.last.items s.all s.lines s.waits };
+    ghost invariant = { λ s. AreStrips (display_for s.frame s.colour s.quants.items s.gray s.smooth) s.pushed s.given s.parts.items s.last.items s.all s.lines s.waits };
 }
 
 // How many components are displayed.

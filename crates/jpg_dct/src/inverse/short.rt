@@ -5,7 +5,7 @@ ghost use Rattle.jpg_spec.specs.Lists.{below};
 ghost use Rattle.jpg_spec_image.specs.Dct.{number_at, even_sums, odd_sums, inverse_dct};
 ghost use Rattle.jpg_dct.specs.Eights.{IsEight, vector, four_of};
 ghost use Rattle.jpg_dct.specs.Sums.{AreWords, AreLong, AreFourLong, sums_at, four_sums_at, line_at, lane_at, wrapped_more, column_number, low_of, limited_of, told_at, told_row};
-ghost use Rattle.jpg_dct.specs.Told.{natural_of};
+ghost use Rattle.jpg_dct.specs.LowBits.{natural_of};
 
 use crate::forward::lanes::{Eight, both, dots, turned};
 use std::simd::{i16x8, i32x8, u8x16, u16x8};

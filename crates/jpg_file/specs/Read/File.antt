@@ -18,7 +18,7 @@ use Rattle.jpg_coefs.specs.Picture.{Picture, map_of}
 use Rattle.jpg_markers.specs.Reading.{reading_of}
 use Rattle.jpg_file.specs.Read.ScanHistory.{HasBegun}
 use Rattle.jpg_file.specs.Read.FirstHeader.{HasHead, first_header_of}
-use Rattle.jpg_file.specs.Read.SegmentState.{told_by}
+use Rattle.jpg_file.specs.Read.SegmentState.{segments_view}
 use Rattle.jpg_file.specs.Read.Step.{IfStops}
 use Rattle.jpg_file.specs.declared.read.step.Step.{Step}
 use Rattle.jpg_file.specs.declared.read.step.Step.TheVariants as came
@@ -59,13 +59,13 @@ pub record BesideItems (limits : Limits) (bytes : List ℕ) (items : List Item) 
 
 -- THE MEANING OF ITS STATES: between items, or inside the data of a scan
 
-pub record StandsBetween (limits : Limits) (bytes : List ℕ) (w : FileWork) : Type 0 where
+pub record IsBetweenFileItems (limits : Limits) (bytes : List ℕ) (w : FileWork) : Type 0 where
   pub items : List Item
   pub blocks : Blocks
   pub at : BetweenItems limits bytes items blocks w.reading.items
   pub beside : BesideItems limits bytes items blocks w
 
-pub record StandsInsideScan (limits : Limits) (bytes : List ℕ) (w : FileWork) : Type 0 where
+pub record IsInsideScanOfFile (limits : Limits) (bytes : List ℕ) (w : FileWork) : Type 0 where
   pub items : List Item
   pub contents : List ℕ
   pub at : Scanning limits items contents bytes w.reading
@@ -73,11 +73,11 @@ pub record StandsInsideScan (limits : Limits) (bytes : List ℕ) (w : FileWork) 
   pub within : length bytes ≤ limits.input
   pub head : HasHead limits bytes ((0xda, contents) ∷ segments_of items) w.head
 
-abbrev pub StandsForFile : Limits → List ℕ → FileWork → Type 0
-StandsForFile limits bytes w = StandsBetween limits bytes w ⊎ StandsInsideScan limits bytes w
+abbrev pub RepresentsFile : Limits → List ℕ → FileWork → Type 0
+RepresentsFile limits bytes w = IsBetweenFileItems limits bytes w ⊎ IsInsideScanOfFile limits bytes w
 
 -- a scan header is complete that isn't judged yet
-pub record HeadStands (limits : Limits) (bytes : List ℕ) (w : FileWork) : Type 0 where
+pub record HasCompleteHeader (limits : Limits) (bytes : List ℕ) (w : FileWork) : Type 0 where
   pub items : List Item
   pub blocks : Blocks
   pub at : AfterSegment limits bytes items blocks w.reading.items
@@ -100,8 +100,8 @@ pub record EndsFile (limits : Limits) (bytes : List ℕ) (w : FileWork) : Type 0
 -- complete, or the answer NoMemory.
 
 abbrev pub AfterFileStep : Option InScan → Limits → List ℕ → ItemStep → FileWork → Type 0
-AfterFileStep before limits bytes step.More w = StandsForFile limits bytes w
-AfterFileStep before limits bytes step.Head w = HeadStands limits bytes w × (before ≡ None)
+AfterFileStep before limits bytes step.More w = RepresentsFile limits bytes w
+AfterFileStep before limits bytes step.Head w = HasCompleteHeader limits bytes w × (before ≡ None)
 AfterFileStep before limits bytes step.Eoi w = EndStands limits bytes w
 AfterFileStep before limits bytes (step.Fault f) w = Reveals limits f.fault bytes × (f.at ≡ length bytes)
 AfterFileStep before limits bytes step.NoMemory w = before ≡ None
@@ -112,7 +112,7 @@ IsStop limits bytes f = (f.at ≡ length bytes) × Reveals limits f.fault bytes
 
 -- the same for a complete file, with what holds where memory is asked for
 abbrev pub AfterFileByte : Type 0 → Limits → List ℕ → Step → FileWork → Type 0
-AfterFileByte asks limits bytes came.More w = StandsForFile limits bytes w
+AfterFileByte asks limits bytes came.More w = RepresentsFile limits bytes w
 AfterFileByte asks limits bytes came.Row w = ⊥
 AfterFileByte asks limits bytes came.Whole w = EndsFile limits bytes w
 AfterFileByte asks limits bytes (came.Ended (stop.Fault f)) w = IsStop limits bytes f
@@ -128,13 +128,13 @@ MakesPicture w = w.reading.coefs ≡ None
 
 -- WHATEVER it was given, this holds afterwards.
 abbrev pub TakesFileByte : FileWork → ℕ → Step → FileWork → Type 0
-TakesFileByte old byte answer new = (bytes : List ℕ) → StandsForFile (limits_of old) bytes old → AfterFileByte (KeepsBytes old) (limits_of old) (bytes ++ byte ∷ []) answer new
+TakesFileByte old byte answer new = (bytes : List ℕ) → RepresentsFile (limits_of old) bytes old → AfterFileByte (KeepsBytes old) (limits_of old) (bytes ++ byte ∷ []) answer new
 
 abbrev pub TakesFileStep : FileWork → ℕ → ItemStep → FileWork → Type 0
-TakesFileStep old byte answer new = (bytes : List ℕ) → StandsForFile (limits_of old) bytes old → AfterFileStep old.reading.scan (limits_of old) (bytes ++ byte ∷ []) answer new
+TakesFileStep old byte answer new = (bytes : List ℕ) → RepresentsFile (limits_of old) bytes old → AfterFileStep old.reading.scan (limits_of old) (bytes ++ byte ∷ []) answer new
 
 abbrev pub TakesFileHead : FileWork → Step → FileWork → Type 0
-TakesFileHead old answer new = (bytes : List ℕ) → HeadStands (limits_of old) bytes old → AfterFileByte (MakesPicture old) (limits_of old) bytes answer new
+TakesFileHead old answer new = (bytes : List ℕ) → HasCompleteHeader (limits_of old) bytes old → AfterFileByte (MakesPicture old) (limits_of old) bytes answer new
 
 abbrev pub TakesFileEnd : FileWork → Step → Type 0
 TakesFileEnd w answer = (limits : Limits) (bytes : List ℕ) → EndStands limits bytes w → AfterFileByte ⊥ limits bytes answer w
@@ -145,7 +145,7 @@ head_or (Some h) new = Some h
 head_or None new = new
 
 pub record NotesHead (old new : FileWork) : Type 0 where
-  pub head : new.head ≡ head_or old.head (first_header_of (told_by old.reading.items.held) old.reading.taken)
+  pub head : new.head ≡ head_or old.head (first_header_of (segments_view old.reading.items.held) old.reading.taken)
   pub reading : new.reading ≡ old.reading
   pub begun : new.begun ≡ old.begun
 
@@ -178,9 +178,9 @@ pub record TakesSome (old : FileWork) (bytes : List ℕ) (n : ℕ) (answer : Ste
   pub count : n ≡ early + 1
   pub within : early < length bytes
   pub head : IfStops answer (new.head ≡ mid.head)
-  pub room : (limits : Limits) (front : List ℕ) → StandsForFile limits front old → limits_of old ≡ limits → mid.reading.taken < limits.input
-  pub before : (limits : Limits) (front : List ℕ) → StandsForFile limits front old → limits_of old ≡ limits → StandsForFile limits (front ++ take early bytes) mid
-  pub last : (limits : Limits) (front : List ℕ) → StandsForFile limits front mid → limits_of old ≡ limits → AfterFileByte (KeepsBytes old) limits (front ++ slice_index bytes early ∷ []) answer new
+  pub room : (limits : Limits) (front : List ℕ) → RepresentsFile limits front old → limits_of old ≡ limits → mid.reading.taken < limits.input
+  pub before : (limits : Limits) (front : List ℕ) → RepresentsFile limits front old → limits_of old ≡ limits → RepresentsFile limits (front ++ take early bytes) mid
+  pub last : (limits : Limits) (front : List ℕ) → RepresentsFile limits front mid → limits_of old ≡ limits → AfterFileByte (KeepsBytes old) limits (front ++ slice_index bytes early ∷ []) answer new
 
 -- SOME BYTES between items, or inside a segment, but not the last of these: the file was given the first n of them too.
 pub record PassesFront (old : FileWork) (bytes : List ℕ) (n : ℕ) (mid : FileWork) : Type 0 where
@@ -188,4 +188,4 @@ pub record PassesFront (old : FileWork) (bytes : List ℕ) (n : ℕ) (mid : File
   pub limits : limits_of mid ≡ limits_of old
   pub room : mid.reading.taken < (limits_of old).input
   pub scan : mid.reading.scan ≡ old.reading.scan
-  pub stands : (limits : Limits) (front : List ℕ) → StandsForFile limits front old → StandsForFile limits (front ++ take n bytes) mid
+  pub stands : (limits : Limits) (front : List ℕ) → RepresentsFile limits front old → RepresentsFile limits (front ++ take n bytes) mid

@@ -7,7 +7,7 @@ use Rattle.jpg_coefs.specs.Picture.{Picture}
 use Rattle.jpg_file.specs.declared.read.reading.Reading.{Reading}
 use Rattle.jpg_file.specs.declared.read.scan.InScan.{InScan}
 use Rattle.jpg_file.specs.declared.read.file.FileWork.{FileWork}
-use Rattle.jpg_file.specs.Read.File.{StandsForFile}
+use Rattle.jpg_file.specs.Read.File.{RepresentsFile}
 
 -- there is no current scan, and so many bytes more may be taken
 pub record CanGoOn (r : Reading) (bytes : List ℕ) : Type 0 where
@@ -30,7 +30,7 @@ pub record GoesOn (old : Reading) (bytes : List ℕ) (n : ℕ) (new : Reading) :
   pub count : (reading_of (new.items).segments).taken ≡ (reading_of (old.items).segments).taken + n
   pub scan : new.scan ≡ old.scan
   pub coefs : new.coefs ≡ old.coefs
-  pub stands : (w : FileWork) (coefs : Option Picture) (limits : Limits) (front : List ℕ) → StandsForFile limits front (file_with w old coefs) → StandsForFile limits (front ++ take n bytes) (file_with w new coefs)
+  pub stands : (w : FileWork) (coefs : Option Picture) (limits : Limits) (front : List ℕ) → RepresentsFile limits front (file_with w old coefs) → RepresentsFile limits (front ++ take n bytes) (file_with w new coefs)
 
 -- INSIDE THE DATA OF A SCAN: whether FF waits
 abbrev pub has_waiting : Option InScan → Bool

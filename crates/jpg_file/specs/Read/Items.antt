@@ -8,10 +8,10 @@ use Rattle.jpg_spec.specs.FileMeaning.{Leads, no_blocks}
 use Rattle.jpg_spec.specs.FirstFault.{Reveals}
 use Rattle.jpg_spec.specs.ScanReading.{Beside}
 use Rattle.jpg_spec.specs.declared.frame.Limits.{Limits}
-use Rattle.jpg_markers.specs.Reading.{reading_of, StandsForSegments, IsAfterScan}
+use Rattle.jpg_markers.specs.Reading.{reading_of, RepresentsSegments, IsAfterScan}
 use Rattle.jpg_markers.specs.declared.segments.Phase.TheVariants as phase
 use Rattle.jpg_coefs.specs.Picture.{Picture, map_of}
-use Rattle.jpg_file.specs.Read.SegmentState.{Holds, told_by}
+use Rattle.jpg_file.specs.Read.SegmentState.{Holds, segments_view}
 use Rattle.jpg_file.specs.Read.InData.{EndsData}
 use Rattle.jpg_file.specs.declared.read.items.Items.{Items}
 use Rattle.jpg_file.specs.declared.read.items.ItemStep.{ItemStep}
@@ -36,16 +36,16 @@ AtPlace limits bytes sent items blocks = IsStart bytes sent items blocks ⊎ ((t
 -- scans.
 pub record BetweenItems (limits : Limits) (bytes : List ℕ) (items : List Item) (blocks : Blocks) (w : Items) : Type 0 where
   pub sent : List ℕ
-  pub stands : StandsForSegments sent (segments_of items) (reading_of w.segments)
+  pub stands : RepresentsSegments sent (segments_of items) (reading_of w.segments)
   pub at : AtPlace limits bytes sent items blocks
   pub bounded : ((reading_of w.segments).limits ≡ limits) × (w.limits ≡ limits)
-  pub holds : Holds limits (told_by w.held) (segments_of items)
+  pub holds : Holds limits (segments_view w.held) (segments_of items)
 
 -- A segment is complete that isn't judged by its contents yet.
 pub record AfterSegment (limits : Limits) (bytes : List ℕ) (items : List Item) (blocks : Blocks) (w : Items) : Type 0 where
   pub sent : List ℕ
   pub tail : List ℕ
-  pub stands : StandsForSegments sent (((reading_of w.segments).code, (reading_of w.segments).contents) ∷ segments_of items) (reading_of w.segments)
+  pub stands : RepresentsSegments sent (((reading_of w.segments).code, (reading_of w.segments).contents) ∷ segments_of items) (reading_of w.segments)
   pub at : IsBeside limits bytes sent items blocks tail
   pub spelled : SpellsSegment (reading_of w.segments).code (reading_of w.segments).contents tail
   pub allowed : code_fault (segments_of items) (reading_of w.segments).code ≡ None
@@ -53,7 +53,7 @@ pub record AfterSegment (limits : Limits) (bytes : List ℕ) (items : List Item)
   pub phase : (reading_of w.segments).phase ≡ phase.Between
   pub kept : kept_rule limits (segments_of items) (reading_of w.segments).code (reading_of w.segments).contents ≡ None
   pub bounded : ((reading_of w.segments).limits ≡ limits) × (w.limits ≡ limits)
-  pub holds : Holds limits (told_by w.held) (segments_of items)
+  pub holds : Holds limits (segments_view w.held) (segments_of items)
 
 -- EOI is there
 pub record BehindEnd (limits : Limits) (bytes : List ℕ) (items : List Item) (blocks : Blocks) (w : Items) : Type 0 where
@@ -62,7 +62,7 @@ pub record BehindEnd (limits : Limits) (bytes : List ℕ) (items : List Item) (b
   pub at : IsBeside limits bytes sent items blocks tail
   pub ended : SpellsMarker 0xd9 tail
   pub allowed : code_fault (segments_of items) 0xd9 ≡ None
-  pub holds : Holds limits (told_by w.held) (segments_of items)
+  pub holds : Holds limits (segments_view w.held) (segments_of items)
 
 -- no further item, or one that isn't a scan
 abbrev pub AddsNoScan : List Item → List Item → Type 0
@@ -95,10 +95,10 @@ JudgesSegment old answer new =
 -- INSIDE A SCAN: the reader of segments is after its header
 pub record BehindHead (limits : Limits) (items : List Item) (contents : List ℕ) (w : Items) : Type 0 where
   pub sent : List ℕ
-  pub stands : StandsForSegments sent ((0xda, contents) ∷ segments_of items) (reading_of w.segments)
+  pub stands : RepresentsSegments sent ((0xda, contents) ∷ segments_of items) (reading_of w.segments)
   pub behind : IsAfterScan (reading_of w.segments)
   pub bounded : ((reading_of w.segments).limits ≡ limits) × (w.limits ≡ limits)
-  pub holds : Holds limits (told_by w.held) ((0xda, contents) ∷ segments_of items)
+  pub holds : Holds limits (segments_view w.held) ((0xda, contents) ∷ segments_of items)
 
 -- the result of a marker: no segment is complete with it, and it asks for no memory
 abbrev pub IsOfMarker : ItemStep → Type 0

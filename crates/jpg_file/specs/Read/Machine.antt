@@ -4,7 +4,7 @@ use Rattle.jpg_spec.specs.Scan.{Scan}
 use Rattle.jpg_coefs.specs.Picture.{Picture}
 use Rattle.jpg_coefs.specs.Machine.{Interval, Kind}
 use Rattle.jpg_seq.specs.Reader.{sequential}
-use Rattle.jpg_prog_read.specs.AcStands.{progressive_ac}
+use Rattle.jpg_prog_read.specs.RepresentsAcScan.{progressive_ac}
 use Rattle.jpg_prog_read.specs.DcFirstPass.{first_pass}
 use Rattle.jpg_prog_read.specs.DcRefinement.{refinement}
 use Rattle.jpg_file.specs.declared.read.machine.ScanReader.{ScanReader}
@@ -22,11 +22,11 @@ abbrev pub scan_kind : Scan → ScanKind
 scan_kind s = if s.coding.most_run == 0 then whole_blocks else if s.ss == 0 then (if s.coding.refines then dc_later else dc_first) else ac_band
 
 -- the meaning of the states of each kind, in scans of that kind
-abbrev pub ReaderStands : ScanReader → Interval → List Bool → Picture → Type 0
-ReaderStands (Sequential m) i bits now = sequential.stands m i bits now × (scan_kind i.scan ≡ whole_blocks)
-ReaderStands (DcFirst m) i bits now = first_pass.stands m i bits now × (scan_kind i.scan ≡ dc_first)
-ReaderStands (DcRefine m) i bits now = refinement.stands m i bits now × (scan_kind i.scan ≡ dc_later)
-ReaderStands (Ac m) i bits now = progressive_ac.stands m i bits now × (scan_kind i.scan ≡ ac_band)
+abbrev pub RepresentsScanData : ScanReader → Interval → List Bool → Picture → Type 0
+RepresentsScanData (Sequential m) i bits now = sequential.stands m i bits now × (scan_kind i.scan ≡ whole_blocks)
+RepresentsScanData (DcFirst m) i bits now = first_pass.stands m i bits now × (scan_kind i.scan ≡ dc_first)
+RepresentsScanData (DcRefine m) i bits now = refinement.stands m i bits now × (scan_kind i.scan ≡ dc_later)
+RepresentsScanData (Ac m) i bits now = progressive_ac.stands m i bits now × (scan_kind i.scan ≡ ac_band)
 
 -- the intervals that it may begin
 abbrev pub ReaderReady : ScanReader → Interval → Type 0
@@ -50,4 +50,4 @@ FitsKind dc_later i = refinement.fits i
 FitsKind ac_band i = progressive_ac.fits i
 
 abbrev pub any_scan : Kind ScanReader
-any_scan = record { stands = ReaderStands; ready = ReaderReady; left = reader_left; fits = λ i. FitsKind (scan_kind i.scan) i }
+any_scan = record { stands = RepresentsScanData; ready = ReaderReady; left = reader_left; fits = λ i. FitsKind (scan_kind i.scan) i }

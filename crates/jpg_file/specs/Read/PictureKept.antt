@@ -23,8 +23,8 @@ pub record PictureParts : Type 0 where
   pub jfif : Jfif
 
 -- a component of a frame, with its table
-abbrev pub component_told : Frame → List QuantTable → ℕ → PictureComponent
-component_told f quants i = record { id = (component_at f i).id; h = (component_at f i).h; v = (component_at f i).v; quants = slice_index_or quants i [] }
+abbrev pub component_view : Frame → List QuantTable → ℕ → PictureComponent
+component_view f quants i = record { id = (component_at f i).id; h = (component_at f i).h; v = (component_at f i).v; quants = slice_index_or quants i [] }
 
 -- WHAT THE PARTS MEAN: the real blocks, and what else a file's meaning has
 abbrev pub parts_meaning : PictureParts → Meaning
@@ -33,7 +33,7 @@ parts_meaning p = record {
   precision = p.frame.precision;
   width = p.frame.width;
   height = p.frame.height;
-  components = map (component_told p.frame p.quants) (below (length p.frame.components));
+  components = map (component_view p.frame p.quants) (below (length p.frame.components));
   blocks = real_blocks p.frame (map_of p.coefs);
   kept = p.kept;
 }

@@ -8,7 +8,7 @@ use Rattle.jpg_file.specs.Read.RowFaults.{FaultsFed, FaultsSome}
 use Rattle.jpg_file.specs.Read.RowPieces.{AfterRowsPiece, CountsFed, IfSparing, KeepsWork, KnowsFed, RowsGo, RowsOpen}
 use Rattle.jpg_file.specs.Read.RowsKnown.{KnowsSome}
 use Rattle.jpg_file.specs.Read.RowsNone.{HasNoRows, NoneFed, NoneSome}
-use Rattle.jpg_file.specs.Read.Step.{IfStops, IsNoRow, NotWanting}
+use Rattle.jpg_file.specs.Read.Step.{IfStops, IsNoRow, HasMemory}
 use Rattle.jpg_file.specs.Read.Strips.{CountsRowsOfScan, CountsStrip, SparesRows, TakesStrip}
 use Rattle.jpg_file.specs.declared.read.row_pieces.FedRow.{FedRow}
 use Rattle.jpg_file.specs.declared.read.strip_work.StripWork.{StripWork}
@@ -18,7 +18,7 @@ use Rattle.jpg_file.specs.declared.read.step.Step.{Step}
 pub record TakesBytes (old : StripWork) (run : List ℕ) (n : ℕ) (answer : Step) (new : StripWork) : Type 0 where
   pub after : TakesStrip old run n answer new
   pub rows : CountsStrip answer old.rows new.rows
-  pub memory : is_some old.rows ≡ true → SparesRows old.rows old.file → NotWanting answer
+  pub memory : is_some old.rows ≡ true → SparesRows old.rows old.file → HasMemory answer
   pub begins : old.rows ≡ None → CountsRowsOfScan new.rows new.file
   pub known : old.rows ≡ None → KnowsSome old run n new
   pub no : old.rows ≡ None → IsNoRow answer

@@ -20,7 +20,7 @@ use Rattle.jpg_file.specs.Read.FirstHeader.{IsFirstHeaderOf}
 use Rattle.jpg_file.specs.Read.Left.{Leaves}
 use Rattle.jpg_file.specs.declared.read.ends.End.{End}
 use Rattle.jpg_file.specs.declared.read.ends.End.TheVariants as ends
-use Rattle.jpg_file.specs.Read.File.{EndsFile, IsStop, StandsForFile}
+use Rattle.jpg_file.specs.Read.File.{EndsFile, IsStop, RepresentsFile}
 use Rattle.jpg_file.specs.declared.read.first_header.Head.{Head}
 use Rattle.jpg_file.specs.declared.read.file.FileWork.{FileWork}
 use Rattle.jpg_file.specs.declared.read.rows.RowWork.{RowWork}
@@ -40,11 +40,11 @@ pub record ReaderState : Type 0 where
 
 -- The bytes were fed. They have no fault and aren't a complete file, and more may follow.
 pub record HasRead (bytes : List ℕ) (r : ReaderState) : Type 0 where
-  pub going : r.stop ≡ None
+  pub skip_ahead : r.stop ≡ None
   pub undone : r.done ≡ false
   pub short : length bytes < r.limits.input
   pub stands : UnfinishedFile r.limits bytes
-  pub «open» : StandsForFile r.limits bytes r.file
+  pub «open» : RepresentsFile r.limits bytes r.file
   pub head : IsFirstHeaderOf r.limits bytes r.file.head
 
 -- They are a complete file.

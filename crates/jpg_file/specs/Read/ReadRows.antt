@@ -11,8 +11,8 @@ use Rattle.jpg_spec.specs.Meaning.{Meaning}
 use Rattle.jpg_spec.specs.Elements.{zeros}
 use Rattle.jpg_spec.specs.Early.{MeansEarly}
 use Rattle.jpg_spec.specs.UnfinishedFile.{UnfinishedFile, IsWholeFile}
-use Rattle.jpg_spec.specs.RowsTold.{BeginsScanOfAll, CompletesRows, TellsRows}
-use Rattle.jpg_spec.specs.RowsTold.{picture_so_far}
+use Rattle.jpg_spec.specs.RowsParsed.{BeginsScanOfAll, CompletesRows, TellsRows}
+use Rattle.jpg_spec.specs.RowsParsed.{picture_so_far}
 use Rattle.jpg_spec.specs.declared.frame.Copying.TheVariants as copying
 use Rattle.jpg_base.specs.declared.stop.Stop.{Stop}
 use Rattle.jpg_base.specs.declared.stop.Stop.TheVariants as stop
@@ -26,7 +26,7 @@ use Rattle.jpg_file.specs.Read.RowPieces.{HasLastByte, RowsOpen}
 use Rattle.jpg_file.specs.Read.RowTurns.{unfinished}
 use Rattle.jpg_file.specs.Read.RowsKnown.{TellsStrip, rows_of_scan}
 use Rattle.jpg_file.specs.Read.RowsNone.{HasNoRows}
-use Rattle.jpg_file.specs.Read.Strips.{GoesByRow, SparesRows, StandsByRow}
+use Rattle.jpg_file.specs.Read.Strips.{GoesByRow, SparesRows, RepresentsRows}
 use Rattle.jpg_file.specs.declared.read.ends.End.{End}
 use Rattle.jpg_file.specs.declared.read.ends.End.TheVariants as ends
 use Rattle.jpg_file.specs.declared.read.row_pieces.FedRow.{FedRow}
@@ -70,7 +70,7 @@ pub record HasReadPlainly (bytes : List ℕ) (r : ReaderState) : Type 0 where
 
 -- It began. This many MCU rows were given, and no further one is complete.
 pub record HasReadRows (bytes : List ℕ) (m : ℕ) (r : ReaderState) : Type 0 where
-  pub going : r.stop ≡ None
+  pub skip_ahead : r.stop ≡ None
   pub undone : r.done ≡ false
   pub short : length bytes < r.limits.input
   pub stands : UnfinishedFile r.limits bytes
@@ -88,11 +88,11 @@ pub record AreOfRow (f : Frame) (k : ℕ) (row : Picture) (blocks : Blocks) : Ty
 
 -- Of the last byte some bits may be left, which aren't judged yet. The last of the MCU rows that were given is lent.
 pub record HasGivenRow (bytes : List ℕ) (m : ℕ) (r : ReaderState) : Type 0 where
-  pub going : r.stop ≡ None
+  pub skip_ahead : r.stop ≡ None
   pub undone : r.done ≡ false
   pub within : length bytes ≤ r.limits.input
   pub begun : HasBegunRows bytes r
-  pub «open» : StandsByRow r.limits bytes r.file begun.rows
+  pub «open» : RepresentsRows r.limits bytes r.file begun.rows
   pub byte : HasLastByte r.limits bytes
   pub rows : m + unfinished begun.rows ≡ rows_of_scan r.limits begun.before begun.contents
   pub blocks : Blocks

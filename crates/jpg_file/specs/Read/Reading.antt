@@ -151,7 +151,7 @@ pub record TakesRunOfScan (old : Reading) (run : List ℕ) (n : ℕ) (answer : R
 
 -- A scan began, there is room for the contents of a segment, and no further marker is kept: only JFIF and Adobe
 -- segments are to be kept, and after the first scan header there are none.
-pub record IsSparing (r : Reading) : Type 0 where
+pub record NeedsNoMemory (r : Reading) : Type 0 where
   pub keeping : r.items.held.keeping ≡ copying.None
   pub scanned : r.items.held.scanned ≡ true
   pub room : HasRoom r.items.segments

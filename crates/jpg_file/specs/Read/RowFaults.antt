@@ -2,7 +2,7 @@
 -- (T.81, A.2.3, B.2.1).
 use Rattle.std.specs.Prelude.{◌≡◌, ℕ, List, ◌++◌, take, Option, Some, None, Result, Ok, Err}
 use Rattle.jpg_spec.specs.Markers.{Segment}
-use Rattle.jpg_spec.specs.RowsTold.{BeginsScanOfAll}
+use Rattle.jpg_spec.specs.RowsParsed.{BeginsScanOfAll}
 use Rattle.jpg_spec.specs.declared.fault.FaultAt.{FaultAt}
 use Rattle.jpg_spec.specs.declared.frame.Limits.{Limits}
 use Rattle.jpg_base.specs.declared.stop.Stop.{Stop}
@@ -11,7 +11,7 @@ use Rattle.jpg_file.specs.Read.File.{limits_of}
 use Rattle.jpg_file.specs.Read.FirstHeader.{IsFirstHeaderOf}
 use Rattle.jpg_file.specs.Read.RowStops.{RowsAtFault}
 use Rattle.jpg_file.specs.Read.RowsKnown.{RowsKnown}
-use Rattle.jpg_file.specs.Read.Strips.{GoesByRow, StandsByRow}
+use Rattle.jpg_file.specs.Read.Strips.{GoesByRow, RepresentsRows}
 use Rattle.jpg_file.specs.declared.read.file.FileWork.{FileWork}
 use Rattle.jpg_file.specs.declared.read.row_pieces.FedRow.{FedRow}
 use Rattle.jpg_file.specs.declared.read.rows.RowWork.{RowWork}
@@ -23,7 +23,7 @@ use Rattle.jpg_file.specs.declared.read.step.Step.TheVariants as step
 -- WITH A CURRENT MCU ROW before: bits that waited, and some bytes
 abbrev pub FaultsResumed : StripWork → Step → Type 0
 FaultsResumed old answer =
-    (rows : RowWork) (f : FaultAt) (bytes : List ℕ) → old.rows ≡ Some rows → answer ≡ step.Ended (stop.Fault f) → StandsByRow (limits_of old.file) bytes old.file rows → RowsAtFault (limits_of old.file) bytes rows
+    (rows : RowWork) (f : FaultAt) (bytes : List ℕ) → old.rows ≡ Some rows → answer ≡ step.Ended (stop.Fault f) → RepresentsRows (limits_of old.file) bytes old.file rows → RowsAtFault (limits_of old.file) bytes rows
 
 abbrev pub FaultsSome : StripWork → List ℕ → ℕ → Step → Type 0
 FaultsSome old run n answer =

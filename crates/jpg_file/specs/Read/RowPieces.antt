@@ -8,7 +8,7 @@ use Rattle.jpg_base.specs.declared.stop.Stop.TheVariants as stop
 use Rattle.jpg_file.specs.Read.ReadFile.{IsStopOf, KeepsHead, KeepsHeadAt}
 use Rattle.jpg_file.specs.Read.File.{keeping_of}
 use Rattle.jpg_file.specs.Read.RowsKnown.{KnowsRows}
-use Rattle.jpg_file.specs.Read.Strips.{AfterStrip, CountsStrip, SparesRows, StripGoes, StripStands}
+use Rattle.jpg_file.specs.Read.Strips.{AfterStrip, CountsStrip, SparesRows, StripGoes, RepresentsStrip}
 use Rattle.jpg_file.specs.declared.read.file.FileWork.{FileWork}
 use Rattle.jpg_file.specs.declared.read.row_pieces.FedRow.{FedRow}
 use Rattle.jpg_file.specs.declared.read.row_pieces.FedRow.TheVariants as fed
@@ -32,7 +32,7 @@ LastByte limits bytes rows = is_some rows ≡ true → HasLastByte limits bytes
 
 -- the state is that of the bytes, of whose last one bits may wait
 pub record RowsOpen (limits : Limits) (bytes : List ℕ) (rows : Option RowWork) (w : FileWork) : Type 0 where
-  pub stands : StripStands limits bytes rows w
+  pub stands : RepresentsStrip limits bytes rows w
   pub last : LastByte limits bytes rows
 
 -- and no bits wait

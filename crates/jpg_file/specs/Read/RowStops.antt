@@ -7,7 +7,7 @@ use Rattle.jpg_spec.specs.Scan.{Blocks}
 use Rattle.jpg_spec.specs.Markers.{Segment}
 use Rattle.jpg_spec.specs.InForce.{frame_of, head_in}
 use Rattle.jpg_spec.specs.Items.{Item, segments_of}
-use Rattle.jpg_spec.specs.RowsTold.{BeginsScanOfAll, CompletesRows}
+use Rattle.jpg_spec.specs.RowsParsed.{BeginsScanOfAll, CompletesRows}
 use Rattle.jpg_spec.specs.declared.fault.Fault.{Fault}
 use Rattle.jpg_spec.specs.declared.fault.FaultAt.{FaultAt}
 use Rattle.jpg_spec.specs.declared.frame.Limits.{Limits}
@@ -26,7 +26,7 @@ use Rattle.jpg_file.specs.Read.RowData.{HalfData}
 use Rattle.jpg_file.specs.Read.RowMachine.{IsOpenRowScan}
 use Rattle.jpg_file.specs.Read.RowPlaces.{IsRowAt, scan_left}
 use Rattle.jpg_file.specs.Read.RowTurns.{unfinished}
-use Rattle.jpg_file.specs.Read.Strips.{GoesByRow, IsFirstScan, StandsByRow, components_of, frame_behind}
+use Rattle.jpg_file.specs.Read.Strips.{GoesByRow, IsFirstScan, RepresentsRows, components_of, frame_behind}
 use Rattle.jpg_file.specs.declared.read.file.FileWork.{FileWork}
 use Rattle.jpg_file.specs.declared.read.machine.ScanReader.{ScanReader}
 use Rattle.jpg_file.specs.declared.read.rows.RowWork.{RowWork}
@@ -79,7 +79,7 @@ abbrev pub RowsAtFault : Limits → List ℕ → RowWork → Type 0
 RowsAtFault limits bytes rows = (unfinished rows ≡ 0) ⊎ ((before : List Segment) × (contents : List ℕ) × CompletesBefore limits bytes before contents rows)
 
 abbrev pub StopsRest : FileWork → RowWork → Step → Type 0
-StopsRest old rows came_to = (f : FaultAt) (bytes : List ℕ) → came_to ≡ step.Ended (stop.Fault f) → StandsByRow (limits_of old) bytes old rows → RowsAtFault (limits_of old) bytes rows
+StopsRest old rows came_to = (f : FaultAt) (bytes : List ℕ) → came_to ≡ step.Ended (stop.Fault f) → RepresentsRows (limits_of old) bytes old rows → RowsAtFault (limits_of old) bytes rows
 
 abbrev pub StopsByte : FileWork → RowWork → ℕ → Step → Type 0
 StopsByte old rows byte came_to = (f : FaultAt) (bytes : List ℕ) → came_to ≡ step.Ended (stop.Fault f) → GoesByRow (limits_of old) bytes old rows → RowsAtFault (limits_of old) (bytes ++ byte ∷ []) rows

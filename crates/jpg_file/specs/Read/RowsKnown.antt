@@ -8,14 +8,14 @@ use Rattle.jpg_spec.specs.InForce.{frame_of, head_in}
 use Rattle.jpg_spec.specs.Items.{segments_of}
 use Rattle.jpg_spec.specs.Meaning.{Meaning}
 use Rattle.jpg_spec.specs.FileMeaning.{meaning_of}
-use Rattle.jpg_spec.specs.RowsTold.{BeginsScanOfAll}
-use Rattle.jpg_spec.specs.RowsTold.{picture_so_far}
+use Rattle.jpg_spec.specs.RowsParsed.{BeginsScanOfAll}
+use Rattle.jpg_spec.specs.RowsParsed.{picture_so_far}
 use Rattle.jpg_spec.specs.Segments.{ScanHead}
 use Rattle.jpg_spec.specs.declared.frame.Limits.{Limits}
 use Rattle.jpg_base.specs.Cursor.{scan_mcus_down}
 use Rattle.jpg_file.specs.Read.ScanHistory.{HasBegun, HasBegunAll}
-use Rattle.jpg_file.specs.Read.File.{HeadStands, StandsForFile, limits_of}
-use Rattle.jpg_file.specs.Read.SegmentState.{Holds, told_by}
+use Rattle.jpg_file.specs.Read.File.{HasCompleteHeader, RepresentsFile, limits_of}
+use Rattle.jpg_file.specs.Read.SegmentState.{Holds, segments_view}
 use Rattle.jpg_file.specs.Read.RowTurns.{unfinished}
 use Rattle.jpg_file.specs.Read.StripHead.{IsHeadOfPicture}
 use Rattle.jpg_file.specs.Read.Strips.{IsHeadOfAll, contents_held}
@@ -35,7 +35,7 @@ TellsStrip (Some h) f picture = (h.frame ≡ f) × ((blocks : Blocks) → IsHead
 
 -- a reader after these segments, the last of which is the header of a scan of all components
 pub record HoldsScan (limits : Limits) (before : List Segment) (w : FileWork) : Type 0 where
-  pub holds : Holds limits (told_by w.reading.items.held) before
+  pub holds : Holds limits (segments_view w.reading.items.held) before
   pub begun : HasBegun limits w.begun before
   pub all : HasBegunAll w.begun.progress
   pub frame : Frame
@@ -52,7 +52,7 @@ pub record BeginsAll (limits : Limits) (bytes : List ℕ) (before : List Segment
 
 abbrev pub BeginsTold : FileWork → Frame → ScanHead → FileWork → Type 0
 BeginsTold old f head new =
-    (bytes : List ℕ) → (h : HeadStands (limits_of old) bytes old) → IsHeadOfAll (limits_of old) h.items (contents_held old) f head → BeginsAll (limits_of old) bytes (segments_of h.items) (contents_held old) new
+    (bytes : List ℕ) → (h : HasCompleteHeader (limits_of old) bytes old) → IsHeadOfAll (limits_of old) h.items (contents_held old) f head → BeginsAll (limits_of old) bytes (segments_of h.items) (contents_held old) new
 
 -- WITH A CURRENT MCU ROW: this many were given since the scan began
 pub record RowsKnown (limits : Limits) (bytes : List ℕ) (m : ℕ) (rows : RowWork) (strip : Option StripHead) : Type 0 where
@@ -68,10 +68,10 @@ KnowsRows limits bytes m (Some rows) strip = RowsKnown limits bytes m rows strip
 
 -- with none before
 abbrev pub KnowsHead : StripWork → StripWork → Type 0
-KnowsHead old new = (bytes : List ℕ) → HeadStands (limits_of old.file) bytes old.file → KnowsRows (limits_of old.file) bytes 0 new.rows new.strip
+KnowsHead old new = (bytes : List ℕ) → HasCompleteHeader (limits_of old.file) bytes old.file → KnowsRows (limits_of old.file) bytes 0 new.rows new.strip
 
 abbrev pub KnowsByte : StripWork → ℕ → StripWork → Type 0
-KnowsByte old byte new = (bytes : List ℕ) → StandsForFile (limits_of old.file) bytes old.file → KnowsRows (limits_of old.file) (bytes ++ byte ∷ []) 0 new.rows new.strip
+KnowsByte old byte new = (bytes : List ℕ) → RepresentsFile (limits_of old.file) bytes old.file → KnowsRows (limits_of old.file) (bytes ++ byte ∷ []) 0 new.rows new.strip
 
 abbrev pub KnowsSome : StripWork → List ℕ → ℕ → StripWork → Type 0
-KnowsSome old run n new = (bytes : List ℕ) → StandsForFile (limits_of old.file) bytes old.file → KnowsRows (limits_of old.file) (bytes ++ take n run) 0 new.rows new.strip
+KnowsSome old run n new = (bytes : List ℕ) → RepresentsFile (limits_of old.file) bytes old.file → KnowsRows (limits_of old.file) (bytes ++ take n run) 0 new.rows new.strip

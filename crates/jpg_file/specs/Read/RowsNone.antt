@@ -3,12 +3,12 @@ use Rattle.std.specs.Prelude.{◌≡◌, ℕ, List, [], ◌∷◌, ◌++◌, tak
 use Rattle.jpg_spec.specs.Items.{contents_rule, segments_of}
 use Rattle.jpg_spec.specs.Geometry.{Frame}
 use Rattle.jpg_spec.specs.Markers.{Segment}
-use Rattle.jpg_spec.specs.RowsTold.{BeginsScanOfAll, IsScanOfAll}
+use Rattle.jpg_spec.specs.RowsParsed.{BeginsScanOfAll, IsScanOfAll}
 use Rattle.jpg_spec.specs.Segments.{ScanHead}
 use Rattle.jpg_spec.specs.declared.frame.Limits.{Limits}
 use Rattle.jpg_base.specs.declared.stop.Stop.{Stop}
 use Rattle.jpg_base.specs.declared.stop.Stop.TheVariants as stop
-use Rattle.jpg_file.specs.Read.File.{HeadStands, StandsForFile, limits_of}
+use Rattle.jpg_file.specs.Read.File.{HasCompleteHeader, RepresentsFile, limits_of}
 use Rattle.jpg_file.specs.Read.Strips.{contents_held}
 use Rattle.jpg_file.specs.declared.read.file.FileWork.{FileWork}
 use Rattle.jpg_file.specs.declared.read.row_pieces.FedRow.{FedRow}
@@ -31,7 +31,7 @@ NoRowsIn limits bytes (Some rows) = Unit {0}
 abbrev pub FindsNone : FileWork → Option (Frame × ScanHead) → Type 0
 FindsNone w (Some x) = Unit {0}
 FindsNone w None =
-    (limits : Limits) (bytes : List ℕ) → (h : HeadStands limits bytes w) → contents_rule limits (segments_of h.items) 0xda (contents_held w) ≡ None → IsScanOfAll limits (segments_of h.items) (contents_held w) → ⊥
+    (limits : Limits) (bytes : List ℕ) → (h : HasCompleteHeader limits bytes w) → contents_rule limits (segments_of h.items) 0xda (contents_held w) ≡ None → IsScanOfAll limits (segments_of h.items) (contents_held w) → ⊥
 
 -- THE RESULT OF BYTES; nothing is known for NoMemory
 abbrev pub NoneAfter : Limits → List ℕ → Step → Option RowWork → Type 0
@@ -44,16 +44,16 @@ NoneAfter limits bytes (step.Ended stop.NoMemory) rows = Unit {0}
 -- the first scan header, with this last byte
 abbrev pub NoneHead : StripWork → Step → StripWork → Type 0
 NoneHead old answer new =
-    (front : List ℕ) (byte : ℕ) → HasNoRows (limits_of old.file) front → HeadStands (limits_of old.file) (front ++ byte ∷ []) old.file → NoneAfter (limits_of old.file) (front ++ byte ∷ []) answer new.rows
+    (front : List ℕ) (byte : ℕ) → HasNoRows (limits_of old.file) front → HasCompleteHeader (limits_of old.file) (front ++ byte ∷ []) old.file → NoneAfter (limits_of old.file) (front ++ byte ∷ []) answer new.rows
 
 -- a byte before it
 abbrev pub NoneByte : StripWork → ℕ → Step → StripWork → Type 0
-NoneByte old byte answer new = (bytes : List ℕ) → StandsForFile (limits_of old.file) bytes old.file → NoneAfter (limits_of old.file) (bytes ++ byte ∷ []) answer new.rows
+NoneByte old byte answer new = (bytes : List ℕ) → RepresentsFile (limits_of old.file) bytes old.file → NoneAfter (limits_of old.file) (bytes ++ byte ∷ []) answer new.rows
 
 -- some bytes
 abbrev pub NoneSome : StripWork → List ℕ → ℕ → Step → StripWork → Type 0
 NoneSome old run n answer new =
-    (bytes : List ℕ) → StandsForFile (limits_of old.file) bytes old.file → HasNoRows (limits_of old.file) bytes → NoneAfter (limits_of old.file) (bytes ++ take n run) answer new.rows
+    (bytes : List ℕ) → RepresentsFile (limits_of old.file) bytes old.file → HasNoRows (limits_of old.file) bytes → NoneAfter (limits_of old.file) (bytes ++ take n run) answer new.rows
 
 -- A PIECE: for a fault, the bytes with the one that reveals it
 abbrev pub NoneFed : Limits → List ℕ → List ℕ → Result FedRow Stop → Option RowWork → Type 0

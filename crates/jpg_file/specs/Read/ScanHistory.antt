@@ -10,7 +10,7 @@ use Rattle.jpg_spec.specs.InForce.{frame_of, heads_of}
 use Rattle.jpg_spec.specs.History.{has_begun, is_same_table, quant_of}
 use Rattle.jpg_spec.specs.declared.frame.Limits.{Limits}
 use Rattle.jpg_spec.specs.declared.frame.ScanPart.{ScanPart}
-use Rattle.jpg_scans.specs.Progress.{StandsForScans}
+use Rattle.jpg_scans.specs.Progress.{RepresentsScans}
 use Rattle.jpg_scans.specs.declared.progress.Progress.{Progress}
 use Rattle.jpg_file.specs.declared.read.scan_history.ScanHistory.{ScanHistory}
 
@@ -27,21 +27,21 @@ abbrev pub is_same_kept : Slots → Frame → Slots → ℕ → Bool
 is_same_kept kept f slots i = is_same_table (quant_in kept i) (quant_in slots (component_at f i).quant)
 
 -- The scans of a frame so far had these heads, the newest first. There is no history before the first one.
-abbrev pub StandsForHeads : Option Progress → Frame → List ScanHead → Type 0
-StandsForHeads None f heads = heads ≡ []
-StandsForHeads (Some p) f heads = StandsForScans p f heads
+abbrev pub RepresentsHeads : Option Progress → Frame → List ScanHead → Type 0
+RepresentsHeads None f heads = heads ≡ []
+RepresentsHeads (Some p) f heads = RepresentsScans p f heads
 
 -- All components were in a scan, and the frame is sequential, whatever scans of whatever frame there were.
 abbrev pub HasBegunAll : Option Progress → Type 0
 HasBegunAll o =
-    (f : Frame) (heads : List ScanHead) → StandsForHeads o f heads → (is_progressive f.process ≡ false) × ((i : ℕ) → i < length f.components → has_begun heads i ≡ true)
+    (f : Frame) (heads : List ScanHead) → RepresentsHeads o f heads → (is_progressive f.process ≡ false) × ((i : ℕ) → i < length f.components → has_begun heads i ≡ true)
 
 -- whether each component of a frame was in a scan, whatever scans of whatever frame there were
 abbrev pub IsComplete : Option Progress → Bool → Type 0
-IsComplete o all = (f : Frame) (heads : List ScanHead) → 1 ≤ length f.components → StandsForHeads o f heads → all ≡ all_of (has_begun heads) (below (length f.components))
+IsComplete o all = (f : Frame) (heads : List ScanHead) → 1 ≤ length f.components → RepresentsHeads o f heads → all ≡ all_of (has_begun heads) (below (length f.components))
 
 pub record HasBegun (limits : Limits) (b : ScanHistory) (before : List Segment) : Type 0 where
-  pub scans : StandsForHeads b.progress (frame_of limits before) (heads_of (frame_of limits before) before)
+  pub scans : RepresentsHeads b.progress (frame_of limits before) (heads_of (frame_of limits before) before)
   pub framed : is_none b.progress ≡ false → has_frame before ≡ true
   pub quants : (i : ℕ) → i < 4 → quant_in b.quants i ≡ quant_of (frame_of limits before) before i
   pub there : (i : ℕ) → i < 4 → has_begun (heads_of (frame_of limits before) before) i ≡ true → is_none (quant_in b.quants i) ≡ false

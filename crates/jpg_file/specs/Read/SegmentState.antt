@@ -3,7 +3,7 @@ use Rattle.std.specs.Prelude.{◌≡◌, ℕ, Bool, List, ◌∷◌, length, rev
 use Rattle.jpg_spec.specs.Lists.{any_of}
 use Rattle.jpg_spec.specs.Geometry.{Frame, component_at}
 use Rattle.jpg_spec.specs.Segments.{ScanHead}
-use Rattle.jpg_spec.specs.Jfif.{is_jfif, jfif_told}
+use Rattle.jpg_spec.specs.Jfif.{is_jfif, parsed_jfif}
 use Rattle.jpg_spec.specs.HuffContents.{HuffmanSlots, huffman_in}
 use Rattle.jpg_spec.specs.QuantContents.{Slots, quant_in}
 use Rattle.jpg_spec.specs.Markers.{Segment, has_scan, kept_after, kept_rule}
@@ -31,8 +31,8 @@ pub record SegmentView : Type 0 where
   pub kept : List Segment
   pub jfif : Jfif
 
-abbrev pub told_by : SegmentState → SegmentView
-told_by h = record { frame = h.frame; tables = definitions_of h.tables; quants = h.quants; interval = h.interval; scanned = h.scanned; keeping = h.keeping; kept = h.kept; jfif = h.jfif }
+abbrev pub segments_view : SegmentState → SegmentView
+segments_view h = record { frame = h.frame; tables = definitions_of h.tables; quants = h.quants; interval = h.interval; scanned = h.scanned; keeping = h.keeping; kept = h.kept; jfif = h.jfif }
 
 -- It is what is in force after these segments, with those of the kept markers that are to be kept.
 pub record Holds (limits : Limits) (h : SegmentView) (before : List Segment) : Type 0 where
@@ -46,7 +46,7 @@ pub record Holds (limits : Limits) (h : SegmentView) (before : List Segment) : T
   pub interval : h.interval ≡ restart_in_force before
   pub scanned : h.scanned ≡ has_scan before
   pub kept : h.kept ≡ reverse (filter (is_wanted h.keeping) (kept_after before))
-  pub jfif : h.jfif ≡ jfif_told (find is_jfif (kept_after before))
+  pub jfif : h.jfif ≡ parsed_jfif (find is_jfif (kept_after before))
 
 -- a part of a scan whose tables aren't all there
 abbrev pub lacks_part : SegmentView → Frame → ScanHead → ScanPart → Bool

@@ -18,9 +18,9 @@ IsNoRow step.Whole = Unit {0}
 IsNoRow (step.Ended e) = Unit {0}
 
 -- not NoMemory
-abbrev pub NotWanting : Step → Type 0
-NotWanting step.More = Unit {0}
-NotWanting step.Row = Unit {0}
-NotWanting step.Whole = Unit {0}
-NotWanting (step.Ended (stop.Fault f)) = Unit {0}
-NotWanting (step.Ended stop.NoMemory) = ⊥
+abbrev pub HasMemory : Step → Type 0
+HasMemory step.More = Unit {0}
+HasMemory step.Row = Unit {0}
+HasMemory step.Whole = Unit {0}
+HasMemory (step.Ended (stop.Fault f)) = Unit {0}
+HasMemory (step.Ended stop.NoMemory) = ⊥

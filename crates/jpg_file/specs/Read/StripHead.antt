@@ -9,7 +9,7 @@ use Rattle.jpg_spec.specs.Jfif.{jfif_of}
 use Rattle.jpg_spec.specs.Meaning.{Meaning, colour_of}
 use Rattle.jpg_spec.specs.declared.frame.Colour.{Colour}
 use Rattle.jpg_spec.specs.declared.frame.Colour.TheVariants.{Gray, YCbCr, Rgb, Cmyk, Ycck, Unknown}
-use Rattle.jpg_file.specs.Read.PictureKept.{IsQuantTable, component_told}
+use Rattle.jpg_file.specs.Read.PictureKept.{IsQuantTable, component_view}
 use Rattle.jpg_file.specs.declared.read.strip_head.StripHead.{StripHead}
 
 -- a picture of these blocks, without markers that are kept
@@ -19,7 +19,7 @@ bare_picture f quants blocks = record {
   precision = f.precision;
   width = f.width;
   height = f.height;
-  components = map (component_told f quants) (below (length f.components));
+  components = map (component_view f quants) (below (length f.components));
   blocks = blocks;
   kept = [];
 }

@@ -15,10 +15,10 @@ use Rattle.jpg_coefs.specs.Picture.{Picture}
 use Rattle.jpg_markers.specs.Reading.{reading_of}
 use Rattle.jpg_seq.specs.Rows.{IsRowOf}
 use Rattle.jpg_file.specs.Read.ScanHistory.{HasBegun, HasBegunAll}
-use Rattle.jpg_file.specs.Read.File.{AfterFileByte, EndsFile, IsStop, HeadStands, StandsForFile, StandsBetween, AfterFileStep, limits_of, with_picture}
+use Rattle.jpg_file.specs.Read.File.{AfterFileByte, EndsFile, IsStop, HasCompleteHeader, RepresentsFile, IsBetweenFileItems, AfterFileStep, limits_of, with_picture}
 use Rattle.jpg_file.specs.Read.FirstHeader.{HasHead}
 use Rattle.jpg_file.specs.Read.Items.{BehindHead}
-use Rattle.jpg_file.specs.Read.Reading.{IsSparing, waiting_bytes}
+use Rattle.jpg_file.specs.Read.Reading.{NeedsNoMemory, waiting_bytes}
 use Rattle.jpg_file.specs.Read.RowData.{InRowData}
 use Rattle.jpg_file.specs.Read.RowPlaces.{scan_left}
 use Rattle.jpg_file.specs.Read.RowTurns.{IsRowIn, unfinished}
@@ -67,20 +67,20 @@ pub record RowsInside (limits : Limits) (bytes : List ℕ) (w : FileWork) (rows 
 
 -- AFTER IT, when all its rows are complete
 pub record RowsAfter (limits : Limits) (bytes : List ℕ) (w : FileWork) (rows : RowWork) (whole : Picture) : Type 0 where
-  pub between : StandsBetween limits bytes (with_picture w whole)
+  pub between : IsBetweenFileItems limits bytes (with_picture w whole)
   pub none : rows.waiting ≡ []
   pub all : HasBegunAll w.begun.progress
   pub done : unfinished rows ≡ 0
 
 -- The bytes are a file so far. There is a picture of which these blocks are an MCU row.
-pub record StandsByRow (limits : Limits) (bytes : List ℕ) (w : FileWork) (rows : RowWork) : Type 0 where
+pub record RepresentsRows (limits : Limits) (bytes : List ℕ) (w : FileWork) (rows : RowWork) : Type 0 where
   pub whole : Picture
   pub row : IsRowOf rows.tops whole rows.coefs
   pub at : RowsInside limits bytes w rows whole ⊎ RowsAfter limits bytes w rows whole
 
 -- no bits wait, and units of a row are left if any of the scan are
 pub record GoesByRow (limits : Limits) (bytes : List ℕ) (w : FileWork) (rows : RowWork) : Type 0 where
-  pub stands : StandsByRow limits bytes w rows
+  pub stands : RepresentsRows limits bytes w rows
   pub none : rows.waiting ≡ []
   pub turned : (scan : InScan) → w.reading.scan ≡ Some scan → 1 ≤ scan_left scan.work → 1 ≤ rows.left
 
@@ -128,7 +128,7 @@ rows_of_all f = scan_mcus_down f (below (length f.components))
 -- bits that wait, whatever bytes were given
 abbrev pub TakesRest : FileWork → RowWork → Step → FileWork → RowWork → Type 0
 TakesRest old rows answer new after =
-    (bytes : List ℕ) → StandsByRow (limits_of old) bytes old rows → AfterRows (limits_of old) bytes answer new after
+    (bytes : List ℕ) → RepresentsRows (limits_of old) bytes old rows → AfterRows (limits_of old) bytes answer new after
 
 -- a byte
 abbrev pub TakesRowByte : FileWork → RowWork → ℕ → Step → FileWork → RowWork → Type 0
@@ -141,7 +141,7 @@ pub record RowsRun (limits : Limits) (bytes run : List ℕ) (n : ℕ) (answer : 
   pub early : ℕ
   pub count : n ≡ early + 1
   pub within : early < length run
-  pub before : StandsForFile limits (bytes ++ take early run) mid
+  pub before : RepresentsFile limits (bytes ++ take early run) mid
   pub room : mid.reading.taken < limits.input
   pub head : mid.head ≡ new.head
   pub last : AfterRows limits ((bytes ++ take early run) ++ slice_index run early ∷ []) answer new after
@@ -158,11 +158,11 @@ PassesItem w came answer =
 
 abbrev pub PassesLaterHead : FileWork → Step → Type 0
 PassesLaterHead w answer =
-    (limits : Limits) (bytes : List ℕ) (whole : Picture) (rows : RowWork) → HeadStands limits bytes (with_picture w whole) → AfterRows limits bytes answer w rows
+    (limits : Limits) (bytes : List ℕ) (whole : Picture) (rows : RowWork) → HasCompleteHeader limits bytes (with_picture w whole) → AfterRows limits bytes answer w rows
 
 -- There is a complete scan header, and all components were in a scan before it.
 abbrev pub HasLaterHead : FileWork → Type 0
-HasLaterHead w = (limits : Limits) × (bytes : List ℕ) × (whole : Picture) × HeadStands limits bytes (with_picture w whole) × HasBegunAll w.begun.progress
+HasLaterHead w = (limits : Limits) × (bytes : List ℕ) × (whole : Picture) × HasCompleteHeader limits bytes (with_picture w whole) × HasBegunAll w.begun.progress
 
 -- THE FIRST SCAN HEADER, which is complete: of a sequential frame and of all its components
 pub record IsHeadOfAll (limits : Limits) (items : List Item) (contents : List ℕ) (f : Frame) (head : ScanHead) : Type 0 where
@@ -178,11 +178,11 @@ contents_held w = (reading_of w.reading.items.segments).contents
 -- whatever bytes were given, these are its frame and its contents
 abbrev pub FindsHead : FileWork → Option (Frame × ScanHead) → Type 0
 FindsHead w None = Unit {0}
-FindsHead w (Some x) = (limits : Limits) (bytes : List ℕ) → (h : HeadStands limits bytes w) → IsHeadOfAll limits h.items (contents_held w) x.0 x.1
+FindsHead w (Some x) = (limits : Limits) (bytes : List ℕ) → (h : HasCompleteHeader limits bytes w) → IsHeadOfAll limits h.items (contents_held w) x.0 x.1
 
 -- there are such bytes
 abbrev pub HasHeadOfAll : FileWork → Frame → ScanHead → Type 0
-HasHeadOfAll w f head = (bytes : List ℕ) × (h : HeadStands (limits_of w) bytes w) × IsHeadOfAll (limits_of w) h.items (contents_held w) f head
+HasHeadOfAll w f head = (bytes : List ℕ) × (h : HasCompleteHeader (limits_of w) bytes w) × IsHeadOfAll (limits_of w) h.items (contents_held w) f head
 
 -- its scan begins
 abbrev pub AfterScanBegins : Limits → List ℕ → Result RowWork Stop → FileWork → Type 0
@@ -192,7 +192,7 @@ AfterScanBegins limits bytes (Err stop.NoMemory) w = Unit {0}
 
 abbrev pub BeginsRows : FileWork → Frame → ScanHead → Result RowWork Stop → FileWork → Type 0
 BeginsRows old f head answer new =
-    (bytes : List ℕ) → (h : HeadStands (limits_of old) bytes old) → IsHeadOfAll (limits_of old) h.items (contents_held old) f head → AfterScanBegins (limits_of old) bytes answer new
+    (bytes : List ℕ) → (h : HasCompleteHeader (limits_of old) bytes old) → IsHeadOfAll (limits_of old) h.items (contents_held old) f head → AfterScanBegins (limits_of old) bytes answer new
 
 -- AFTER THE SCAN, whichever row was the last
 abbrev pub TakesLaterByte : FileWork → ℕ → Step → FileWork → Type 0
@@ -210,20 +210,20 @@ CountsStrip answer (Some rows) (Some after) = CountsRows answer rows after
 -- with a current row NoMemory isn't answered for what follows
 abbrev pub SparesRows : Option RowWork → FileWork → Type 0
 SparesRows None w = Unit {0}
-SparesRows (Some rows) w = IsSparing w.reading
+SparesRows (Some rows) w = NeedsNoMemory w.reading
 
 -- with none before: no row of the scan is complete, and the header that is kept has its frame
 abbrev pub CountsRowsOfScan : Option RowWork → FileWork → Type 0
 CountsRowsOfScan None w = Unit {0}
 CountsRowsOfScan (Some rows) w = (head : Head) → w.head ≡ Some head → unfinished rows ≡ rows_of_all head.frame
 
-abbrev pub StripStands : Limits → List ℕ → Option RowWork → FileWork → Type 0
-StripStands limits bytes None w = StandsForFile limits bytes w
-StripStands limits bytes (Some rows) w = StandsByRow limits bytes w rows
+abbrev pub RepresentsStrip : Limits → List ℕ → Option RowWork → FileWork → Type 0
+RepresentsStrip limits bytes None w = RepresentsFile limits bytes w
+RepresentsStrip limits bytes (Some rows) w = RepresentsRows limits bytes w rows
 
 -- bytes may be taken
 abbrev pub StripGoes : Limits → List ℕ → Option RowWork → FileWork → Type 0
-StripGoes limits bytes None w = StandsForFile limits bytes w
+StripGoes limits bytes None w = RepresentsFile limits bytes w
 StripGoes limits bytes (Some rows) w = GoesByRow limits bytes w rows
 
 -- for a file that isn't read by MCU rows the result of a byte
@@ -233,15 +233,15 @@ AfterStrip limits bytes answer (Some rows) w = AfterRows limits bytes answer w r
 
 abbrev pub TakesResumed : StripWork → Step → StripWork → Type 0
 TakesResumed old answer new =
-    (bytes : List ℕ) → StripStands (limits_of old.file) bytes old.rows old.file → AfterStrip (limits_of old.file) bytes answer new.rows new.file
+    (bytes : List ℕ) → RepresentsStrip (limits_of old.file) bytes old.rows old.file → AfterStrip (limits_of old.file) bytes answer new.rows new.file
 
 abbrev pub TakesFirstByte : StripWork → ℕ → Step → StripWork → Type 0
 TakesFirstByte old byte answer new =
-    (bytes : List ℕ) → StandsForFile (limits_of old.file) bytes old.file → AfterStrip (limits_of old.file) (bytes ++ byte ∷ []) answer new.rows new.file
+    (bytes : List ℕ) → RepresentsFile (limits_of old.file) bytes old.file → AfterStrip (limits_of old.file) (bytes ++ byte ∷ []) answer new.rows new.file
 
 abbrev pub TakesFirstHead : StripWork → Step → StripWork → Type 0
 TakesFirstHead old answer new =
-    (bytes : List ℕ) → HeadStands (limits_of old.file) bytes old.file → AfterStrip (limits_of old.file) bytes answer new.rows new.file
+    (bytes : List ℕ) → HasCompleteHeader (limits_of old.file) bytes old.file → AfterStrip (limits_of old.file) bytes answer new.rows new.file
 
 -- some bytes: the file's state before the last of those that were taken, and the result of that one
 pub record StripRun (limits : Limits) (bytes run : List ℕ) (n : ℕ) (answer : Step) (rows : Option RowWork) (new : FileWork) : Type 0 where
@@ -249,7 +249,7 @@ pub record StripRun (limits : Limits) (bytes run : List ℕ) (n : ℕ) (answer :
   pub early : ℕ
   pub count : n ≡ early + 1
   pub within : early < length run
-  pub before : StandsForFile limits (bytes ++ take early run) mid
+  pub before : RepresentsFile limits (bytes ++ take early run) mid
   pub room : mid.reading.taken < limits.input
   pub head : IfStops answer (new.head ≡ mid.head)
   pub last : AfterStrip limits ((bytes ++ take early run) ++ slice_index run early ∷ []) answer rows new

@@ -2,7 +2,7 @@
 ghost use Rattle.std.specs.Prelude.{◌≡◌, ◌<◌, ◌≤◌, Bool, false, List, [], length, take};
 ghost use Rattle.jpg_spec.specs.Bits.{bits_of, bits_of_bytes};
 ghost use Rattle.jpg_coefs.specs.Machine.{Interval};
-ghost use Rattle.jpg_seq.specs.Reader.{SeqStands, sequential};
+ghost use Rattle.jpg_seq.specs.Reader.{RepresentsSeqScan, sequential};
 ghost use Rattle.jpg_file.specs.Read.Data.{GivesBits, GivesRun};
 
 use jpg_base::BitStore;
@@ -25,7 +25,7 @@ pub fn take_data<M: ScanMachine>(machine: &mut M, coefs: &mut Coefs, byte: u8) -
 /// Gives the machine the bits of some data bytes, and answers how many bytes were given: up to the one whose bits end
 /// the interval or reveal a fault. Bits after the interval's last one are dropped.
 pub fn take_bytes(machine: &mut SeqReader, coefs: &mut Coefs, bytes: &[u8]) -> (usize, Taken)
-    requires open { (i : Interval) × (bits : List Bool) × SeqStands machine.old i bits coefs.old }
+    requires open { (i : Interval) × (bits : List Bool) × RepresentsSeqScan machine.old i bits coefs.old }
     requires left { 1 ≤ machine.old.left }
     requires some { 1 ≤ length bytes.now }
     requires few { length bytes.now < 4294967296 }
@@ -37,7 +37,7 @@ pub fn take_bytes(machine: &mut SeqReader, coefs: &mut Coefs, bytes: &[u8]) -> (
 }
 
 // How many of these bytes are given at once.
-fn few_of(bytes: &[u8]) -> usize
+fn eight_at_most(bytes: &[u8]) -> usize
     ensures { result ≡ length (take 8 bytes.now) }
 {
     if bytes.len() < 8 { bytes.len() } else { 8 }
@@ -48,7 +48,7 @@ fn front_of(bytes: &[u8]) -> BitStore
     ensures { result ≡ bits_of_bytes (take 8 bytes.now) }
 {
     let mut store = BitStore::new();
-    for byte in &bytes[..few_of(bytes)] {
+    for byte in &bytes[..eight_at_most(bytes)] {
         store.push(*byte);
     }
     store
@@ -73,7 +73,7 @@ pub fn take_run<M: ScanMachine>(machine: &mut M, coefs: &mut Coefs, bytes: &[u8]
         let mut store = front_of(rest);
         let most = machine.units_left();
         let taken = machine.bits(&mut store, coefs, most);
-        let given = bytes.len() - rest.len() + (few_of(rest) - store.len() as usize / 8);
+        let given = bytes.len() - rest.len() + (eight_at_most(rest) - store.len() as usize / 8);
         if rest.len() <= 8 || is_over(taken) {
             return (given, taken);
         }

@@ -2,10 +2,10 @@
 ghost use Rattle.std.specs.Prelude.{◌≡◌, ◌<◌, ◌+◌, ◌++◌, ℕ, List, [], ◌∷◌, ◌≤◌, length, slice_index};
 ghost use Rattle.jpg_spec.specs.FrameHeader.{AreLimits};
 ghost use Rattle.jpg_coefs.specs.Picture.{Picture};
-ghost use Rattle.jpg_file.specs.Read.File.{HeadStands, NotesHead, PassesFront, RoomMade, StandsForFile, TakesFileByte, TakesFileEnd, TakesFileHead, TakesFileStep, TakesSome, keeping_of, limits_of, with_picture};
+ghost use Rattle.jpg_file.specs.Read.File.{HasCompleteHeader, NotesHead, PassesFront, RoomMade, RepresentsFile, TakesFileByte, TakesFileEnd, TakesFileHead, TakesFileStep, TakesSome, keeping_of, limits_of, with_picture};
 ghost use Rattle.jpg_file.specs.Read.InData.{ArePlain};
 ghost use Rattle.jpg_file.specs.Read.Reading.{IsOpenScan};
-ghost use Rattle.jpg_file.specs.Read.Step.{IfStops, IsNoRow, NotWanting};
+ghost use Rattle.jpg_file.specs.Read.Step.{IfStops, IsNoRow, HasMemory};
 
 use crate::read::first_header::{Head, head_of};
 use crate::read::items::{ItemStep, Items};
@@ -31,7 +31,7 @@ impl FileWork {
     /// A file before any byte, with the markers that are to be kept. It takes no memory yet.
     pub fn new(alloc: Global, limits: Limits, keeping: Copying) -> FileWork
         requires { AreLimits limits }
-        ensures stands { StandsForFile limits [] result }
+        ensures stands { RepresentsFile limits [] result }
         ensures keeping { keeping_of result ≡ keeping }
     {
         FileWork {
@@ -49,7 +49,7 @@ impl FileWork {
 
     /// Takes a further byte. It answers whether the file goes on or is complete with it, or the fault that it reveals.
     pub fn byte(&mut self, byte: u8) -> Step
-        requires stands { (bytes : List ℕ) × StandsForFile (limits_of self.old) bytes self.old }
+        requires stands { (bytes : List ℕ) × RepresentsFile (limits_of self.old) bytes self.old }
         requires limits { AreLimits (limits_of self.old) }
         requires room { self.old.reading.taken < (limits_of self.old).input }
         ensures after { TakesFileByte self.old byte result self.new }
@@ -69,7 +69,7 @@ impl FileWork {
     /// Takes some of these bytes, perhaps not all at once, and answers how many these were and the result of the last
     /// one.
     pub fn some(&mut self, bytes: &[u8]) -> (usize, Step)
-        requires stands { (bytes : List ℕ) × StandsForFile (limits_of self.old) bytes self.old }
+        requires stands { (bytes : List ℕ) × RepresentsFile (limits_of self.old) bytes self.old }
         requires limits { AreLimits (limits_of self.old) }
         requires room { self.old.reading.taken < (limits_of self.old).input }
         requires some { 1 ≤ length bytes.now }
@@ -92,7 +92,7 @@ impl FileWork {
     /// complete segments that break no rule, and then fill bytes or contents before a segment's last byte; inside the
     /// data of a scan fill bytes after FF.
     pub fn front(&mut self, bytes: &[u8]) -> usize
-        requires stands { (bytes : List ℕ) × StandsForFile (limits_of self.old) bytes self.old }
+        requires stands { (bytes : List ℕ) × RepresentsFile (limits_of self.old) bytes self.old }
         requires limits { AreLimits (limits_of self.old) }
         requires room { self.old.reading.taken < (limits_of self.old).input }
         requires some { 1 ≤ length bytes.now }
@@ -109,7 +109,7 @@ impl FileWork {
 
     // Takes plain bytes inside the data of a scan.
     fn run(&mut self, run: &[u8]) -> (usize, Step)
-        requires stands { (bytes : List ℕ) × StandsForFile (limits_of self.old) bytes self.old }
+        requires stands { (bytes : List ℕ) × RepresentsFile (limits_of self.old) bytes self.old }
         requires limits { AreLimits (limits_of self.old) }
         requires opened { IsOpenScan self.old.reading }
         requires room { self.old.reading.taken + length run.now ≤ (limits_of self.old).input }
@@ -129,7 +129,7 @@ impl FileWork {
 
     /// Takes a byte, inside the data of a scan or between items.
     pub fn step(&mut self, byte: u8) -> ItemStep
-        requires stands { (bytes : List ℕ) × StandsForFile (limits_of self.old) bytes self.old }
+        requires stands { (bytes : List ℕ) × RepresentsFile (limits_of self.old) bytes self.old }
         requires limits { AreLimits (limits_of self.old) }
         requires room { self.old.reading.taken < (limits_of self.old).input }
         ensures after { TakesFileStep self.old byte result self.new }
@@ -147,7 +147,7 @@ impl FileWork {
     #[cold]
     #[inline(never)]
     pub fn take_head(&mut self) -> Step
-        requires stands { (bytes : List ℕ) × HeadStands (limits_of self.old) bytes self.old }
+        requires stands { (bytes : List ℕ) × HasCompleteHeader (limits_of self.old) bytes self.old }
         ensures after { TakesFileHead self.old result self.new }
         ensures head { IfStops result (self.new.head ≡ self.old.head) }
         ensures keeping { keeping_of self.new ≡ keeping_of self.old }
@@ -196,7 +196,7 @@ impl FileWork {
     pub fn take_end(&self) -> Step
         ensures end { TakesFileEnd self.now result }
         ensures any { (whole : Picture) → TakesFileEnd (with_picture self.now whole) result }
-        ensures memory { NotWanting result }
+        ensures memory { HasMemory result }
         ensures no { IsNoRow result }
     {
         if self.begun.is_complete() {

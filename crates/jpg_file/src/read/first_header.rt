@@ -3,7 +3,7 @@ ghost use Rattle.std.specs.Prelude.{◌≡◌, if◌then◌else◌, slice_index,
 ghost use Rattle.jpg_spec.specs.Jfif.{adobe_transform, is_adobe};
 ghost use Rattle.jpg_markers.specs.Kept.{kept_pair};
 ghost use Rattle.jpg_file.specs.Read.FirstHeader.{colours_by, first_header_of};
-ghost use Rattle.jpg_file.specs.Read.SegmentState.{told_by};
+ghost use Rattle.jpg_file.specs.Read.SegmentState.{segments_view};
 
 use crate::read::segment_state::SegmentState;
 use jpg_base::Frame;
@@ -20,7 +20,7 @@ pub struct Head {
 
 /// The head, where a scan header ends at this place, by what the segments define.
 pub fn head_of(held: &SegmentState, at: u64) -> Option<Head>
-    ensures { result ≡ first_header_of (told_by held.now) at }
+    ensures { result ≡ first_header_of (segments_view held.now) at }
 {
     let Some(frame) = &held.frame else {
         return None;
@@ -44,13 +44,13 @@ fn adobe_of(kept: &KeptList) -> Option<u8>
     let mut last = None;
     let mut rest = kept.markers();
     while let Some(marker) = rest.next() {
-        last = told_with(&marker, last);
+        last = transform_after(&marker, last);
     }
     last
 }
 
 // The same with one more marker.
-fn told_with(marker: &Kept, last: Option<u8>) -> Option<u8>
+fn transform_after(marker: &Kept, last: Option<u8>) -> Option<u8>
     ensures { result ≡ (if is_adobe (kept_pair marker.now) then Some (slice_index marker.now.contents.now 11) else last) }
 {
     match read_app(marker.code, marker.contents) {

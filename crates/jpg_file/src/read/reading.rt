@@ -5,7 +5,7 @@ ghost use Rattle.jpg_spec.specs.Scan.{Blocks};
 ghost use Rattle.jpg_spec.specs.Items.{Item};
 ghost use Rattle.jpg_coefs.specs.Picture.{Picture};
 ghost use Rattle.jpg_file.specs.Read.ScanStart.{HasSizes};
-ghost use Rattle.jpg_file.specs.Read.Reading.{CanBeginHead, HeadWhole, IsOpenScan, IsSparing, Itemising, LeavesAll, Scanning, TakesByteOfItems, TakesByteOfScan, TakesHead, TakesRunOfScan, has_open, with_coefs};
+ghost use Rattle.jpg_file.specs.Read.Reading.{CanBeginHead, HeadWhole, IsOpenScan, NeedsNoMemory, Itemising, LeavesAll, Scanning, TakesByteOfItems, TakesByteOfScan, TakesHead, TakesRunOfScan, has_open, with_coefs};
 ghost use Rattle.jpg_file.specs.Read.InData.{ArePlain};
 ghost use Rattle.jpg_file.specs.Read.Going.{CanGoOn, FillsScan, GoesOn, has_waiting};
 
@@ -88,8 +88,8 @@ impl Reading {
         requires room { self.old.taken < self.old.items.limits.input }
         ensures after { TakesByteOfItems self.old byte result self.new }
         ensures coefs { self.new.coefs ≡ self.old.coefs }
-        ensures memory { IsSparing self.old → result ≡ ItemStep.NoMemory → ⊥ }
-        ensures sparing { IsSparing self.old → IsSparing self.new }
+        ensures memory { NeedsNoMemory self.old → result ≡ ItemStep.NoMemory → ⊥ }
+        ensures sparing { NeedsNoMemory self.old → NeedsNoMemory self.new }
         ensures keeping { self.new.items.held.keeping ≡ self.old.items.held.keeping }
     {
         self.taken += 1;
@@ -172,12 +172,12 @@ impl Reading {
         ensures after { GoesOn self.old bytes.now result self.new }
         ensures less { result < length bytes.now }
         ensures left { self.new.taken < self.old.items.limits.input }
-        ensures sparing { IsSparing self.old → IsSparing self.new }
+        ensures sparing { NeedsNoMemory self.old → NeedsNoMemory self.new }
         ensures keeping { self.new.items.held.keeping ≡ self.old.items.held.keeping }
     {
         let room = self.items.limits.input - self.taken;
         let most = (bytes.len() as u64).min(room) as usize;
-        self.going(&bytes[..most - 1])
+        self.skip_ahead(&bytes[..most - 1])
     }
 
     /// Takes fill bytes from the start of these after FF inside the data of a scan, and answers how many they were, which
@@ -209,10 +209,10 @@ impl Reading {
     }
 
     // Takes complete segments at the start of these bytes, and then bytes that only continue what is there.
-    fn going(&mut self, bytes: &[u8]) -> usize
+    fn skip_ahead(&mut self, bytes: &[u8]) -> usize
         requires { CanGoOn self.old bytes.now }
         ensures after { GoesOn self.old bytes.now result self.new }
-        ensures sparing { IsSparing self.old → IsSparing self.new }
+        ensures sparing { NeedsNoMemory self.old → NeedsNoMemory self.new }
         ensures keeping { self.new.items.held.keeping ≡ self.old.items.held.keeping }
     {
         let done = self.segments(bytes);
@@ -223,7 +223,7 @@ impl Reading {
     fn segments(&mut self, bytes: &[u8]) -> usize
         requires { CanGoOn self.old bytes.now }
         ensures after { GoesOn self.old bytes.now result self.new }
-        ensures sparing { IsSparing self.old → IsSparing self.new }
+        ensures sparing { NeedsNoMemory self.old → NeedsNoMemory self.new }
         ensures keeping { self.new.items.held.keeping ≡ self.old.items.held.keeping }
     {
         let mut done = 0usize;
@@ -241,7 +241,7 @@ impl Reading {
     fn whole(&mut self, bytes: &[u8]) -> usize
         requires { CanGoOn self.old bytes.now }
         ensures after { GoesOn self.old bytes.now result self.new }
-        ensures sparing { IsSparing self.old → IsSparing self.new }
+        ensures sparing { NeedsNoMemory self.old → NeedsNoMemory self.new }
         ensures keeping { self.new.items.held.keeping ≡ self.old.items.held.keeping }
     {
         let n = self.items.whole(bytes);
@@ -254,7 +254,7 @@ impl Reading {
     fn contents(&mut self, bytes: &[u8]) -> usize
         requires { CanGoOn self.old bytes.now }
         ensures after { GoesOn self.old bytes.now result self.new }
-        ensures sparing { IsSparing self.old → IsSparing self.new }
+        ensures sparing { NeedsNoMemory self.old → NeedsNoMemory self.new }
         ensures keeping { self.new.items.held.keeping ≡ self.old.items.held.keeping }
     {
         let n = self.items.contents(bytes);

@@ -46,7 +46,7 @@ pub fn named(fault: UnitFault) -> Fault
 }
 
 /// The answer to a byte, by that to its data.
-pub fn by_data(answer: Result<(), Fault>) -> Result<bool, Fault>
+pub fn data_answer(answer: Result<(), Fault>) -> Result<bool, Fault>
     ensures { result ≡ byte_answer answer }
 {
     match answer {
@@ -65,7 +65,7 @@ impl InScan {
     {
         match self.gate.byte(byte) {
             Passed::More => Ok(false),
-            Passed::Data(data) => by_data(self.work.data(coefs, data)),
+            Passed::Data(data) => data_answer(self.work.data(coefs, data)),
             Passed::Marker(code) => self.work.marker(code),
         }
     }

@@ -1,5 +1,5 @@
 //! A scan header, judged by the tables and the scans before it (T.81, B.2.3, G.1.1.1).
-ghost use Rattle.jpg_file.specs.Read.SegmentState.{told_by};
+ghost use Rattle.jpg_file.specs.Read.SegmentState.{segments_view};
 ghost use Rattle.jpg_file.specs.Read.JudgedHeader.{JudgesHead};
 
 use crate::read::scan_history::ScanHistory;
@@ -18,7 +18,7 @@ pub fn judge_head(
     held: &SegmentState,
     begun: &ScanHistory,
 ) -> Result<ScanHead, Fault>
-    ensures { JudgesHead contents.now frame.now (told_by held.now) begun.now result }
+    ensures { JudgesHead contents.now frame.now (segments_view held.now) begun.now result }
 {
     accepted_heads_are_of_their_frames();
     frame.checked();

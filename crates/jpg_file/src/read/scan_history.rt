@@ -5,7 +5,7 @@ ghost use Rattle.jpg_spec.specs.InForce.{first_some};
 ghost use Rattle.jpg_spec.specs.Lists.{all_of};
 ghost use Rattle.jpg_spec.specs.QuantContents.{quant_in};
 ghost use Rattle.jpg_spec.specs.Segments.{ScanHead as Header};
-ghost use Rattle.jpg_file.specs.Read.ScanHistory.{IsComplete, StandsForHeads, is_same_kept, quant_if, quant_named};
+ghost use Rattle.jpg_file.specs.Read.ScanHistory.{IsComplete, RepresentsHeads, is_same_kept, quant_if, quant_named};
 
 use jpg_base::{Frame, QuantTable, ScanHead};
 use jpg_markers::QuantSet;
@@ -35,7 +35,7 @@ impl ScanHistory {
     /// The fault of the order of scans that this scan of a frame has after those so far: RepeatedScan or Progression.
     pub fn fault(&self, frame: &Frame, head: &ScanHead) -> Option<Fault>
         requires { All (λ p. p.component < 4) head.now.parts }
-        ensures { (heads : List Header) → StandsForHeads self.now.progress frame.now heads → result ≡ order_fault frame.now heads head.now }
+        ensures { (heads : List Header) → RepresentsHeads self.now.progress frame.now heads → result ≡ order_fault frame.now heads head.now }
     {
         match &self.progress {
             Some(progress) => progress.fault(head),
@@ -46,7 +46,7 @@ impl ScanHistory {
     /// Takes a scan of a frame that has no such fault.
     pub fn note(&mut self, frame: &Frame, head: &ScanHead)
         requires { All (λ p. p.component < 4) head.now.parts }
-        ensures scans { (heads : List Header) → StandsForHeads self.old.progress frame.now heads → StandsForHeads self.new.progress frame.now (head.now ∷ heads) }
+        ensures scans { (heads : List Header) → RepresentsHeads self.old.progress frame.now heads → RepresentsHeads self.new.progress frame.now (head.now ∷ heads) }
         ensures quants { self.new.quants ≡ self.old.quants }
     {
         match &mut self.progress {

@@ -7,7 +7,7 @@ ghost use Rattle.jpg_file.specs.Read.RowTurns.{CountsScan};
 ghost use Rattle.jpg_file.specs.Read.RowData.{IsHalfRow, IsRowData, TakesByteInRow, TakesRestInRow, TakesRunInRow};
 
 use crate::read::rows::RowWork;
-use crate::read::scan::{InScan, by_data};
+use crate::read::scan::{InScan, data_answer};
 use jpg_base::BitStore;
 use jpg_huff::Passed;
 use jpg_spec::Fault;
@@ -33,7 +33,7 @@ impl InScan {
                 let mut store = BitStore::new();
                 store.push(data);
                 let taken = rows.take(&mut self.work.machine, store);
-                (by_data(self.work.stepped(taken)), rows.left == 0)
+                (data_answer(self.work.stepped(taken)), rows.left == 0)
             }
             Passed::Marker(code) => (self.work.marker(code), false),
         }

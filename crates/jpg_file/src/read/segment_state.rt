@@ -6,7 +6,7 @@ ghost use Rattle.jpg_spec.specs.History.{needs_ac_table, needs_dc_table};
 ghost use Rattle.jpg_spec.specs.Markers.{Segment, is_within, kept_rule, process_of_code};
 ghost use Rattle.jpg_spec.specs.declared.frame.Limits.{Limits as Bounded};
 ghost use Rattle.jpg_file.specs.Read.Keeping.{is_wanted};
-ghost use Rattle.jpg_file.specs.Read.SegmentState.{ChangesNothing, Holds, HoldsSegment, TakesSegment, lacks_any, lacks_part, told_by};
+ghost use Rattle.jpg_file.specs.Read.SegmentState.{ChangesNothing, Holds, HoldsSegment, TakesSegment, lacks_any, lacks_part, segments_view};
 ghost use Rattle.jpg_markers.specs.Seen.{IsOther};
 
 use jpg_base::codes::{COM, DHT, DQT, DRI, SOF0, SOF1, SOF2};
@@ -46,7 +46,7 @@ pub enum SegmentTaken {
 impl SegmentState {
     /// The state before any segment.
     pub fn new(alloc: Global, keeping: Copying) -> SegmentState
-        ensures holds { (limits : Bounded) → Holds limits (told_by result) [] }
+        ensures holds { (limits : Bounded) → Holds limits (segments_view result) [] }
         ensures keeping { result.keeping ≡ keeping }
     {
         SegmentState {
@@ -74,8 +74,8 @@ impl SegmentState {
         requires limits { AreLimits limits }
         requires other { code ≡ 0xda → ⊥ }
         requires short { length contents.now ≤ 65533 }
-        ensures held { HoldsSegment (told_by self.old) limits code contents.now result (told_by self.new) }
-        ensures same { ChangesNothing (told_by self.old) result (told_by self.new) }
+        ensures held { HoldsSegment (segments_view self.old) limits code contents.now result (segments_view self.new) }
+        ensures same { ChangesNothing (segments_view self.old) result (segments_view self.new) }
         ensures memory { self.old.keeping ≡ Copying.None → self.old.scanned ≡ true → result ≡ SegmentTaken.NoMemory → ⊥ }
         ensures scanned { self.new.scanned ≡ self.old.scanned }
         ensures keeping { self.new.keeping ≡ self.old.keeping }
@@ -92,8 +92,8 @@ impl SegmentState {
     }
 
     fn take_huffmans(&mut self, limits: Limits, contents: &[u8]) -> SegmentTaken
-        ensures held { (before : List Segment) → Holds limits (told_by self.old) before → TakesSegment limits before 0xc4 contents.now result (told_by self.new) }
-        ensures same { ChangesNothing (told_by self.old) result (told_by self.new) }
+        ensures held { (before : List Segment) → Holds limits (segments_view self.old) before → TakesSegment limits before 0xc4 contents.now result (segments_view self.new) }
+        ensures same { ChangesNothing (segments_view self.old) result (segments_view self.new) }
         ensures memory { result ≡ SegmentTaken.NoMemory → ⊥ }
         ensures scanned { self.new.scanned ≡ self.old.scanned }
         ensures keeping { self.new.keeping ≡ self.old.keeping }
@@ -105,8 +105,8 @@ impl SegmentState {
     }
 
     fn take_quants(&mut self, limits: Limits, contents: &[u8]) -> SegmentTaken
-        ensures held { (before : List Segment) → Holds limits (told_by self.old) before → TakesSegment limits before 0xdb contents.now result (told_by self.new) }
-        ensures same { ChangesNothing (told_by self.old) result (told_by self.new) }
+        ensures held { (before : List Segment) → Holds limits (segments_view self.old) before → TakesSegment limits before 0xdb contents.now result (segments_view self.new) }
+        ensures same { ChangesNothing (segments_view self.old) result (segments_view self.new) }
         ensures memory { result ≡ SegmentTaken.NoMemory → ⊥ }
         ensures scanned { self.new.scanned ≡ self.old.scanned }
         ensures keeping { self.new.keeping ≡ self.old.keeping }
@@ -118,8 +118,8 @@ impl SegmentState {
     }
 
     fn take_interval(&mut self, limits: Limits, contents: &[u8]) -> SegmentTaken
-        ensures held { (before : List Segment) → Holds limits (told_by self.old) before → TakesSegment limits before 0xdd contents.now result (told_by self.new) }
-        ensures same { ChangesNothing (told_by self.old) result (told_by self.new) }
+        ensures held { (before : List Segment) → Holds limits (segments_view self.old) before → TakesSegment limits before 0xdd contents.now result (segments_view self.new) }
+        ensures same { ChangesNothing (segments_view self.old) result (segments_view self.new) }
         ensures memory { result ≡ SegmentTaken.NoMemory → ⊥ }
         ensures scanned { self.new.scanned ≡ self.old.scanned }
         ensures keeping { self.new.keeping ≡ self.old.keeping }
@@ -142,8 +142,8 @@ impl SegmentState {
     ) -> SegmentTaken
         requires limits { AreLimits limits }
         requires process { process_of_code code ≡ Some process }
-        ensures held { (before : List Segment) → Holds limits (told_by self.old) before → TakesSegment limits before code contents.now result (told_by self.new) }
-        ensures same { ChangesNothing (told_by self.old) result (told_by self.new) }
+        ensures held { (before : List Segment) → Holds limits (segments_view self.old) before → TakesSegment limits before code contents.now result (segments_view self.new) }
+        ensures same { ChangesNothing (segments_view self.old) result (segments_view self.new) }
         ensures memory { result ≡ SegmentTaken.NoMemory → ⊥ }
         ensures scanned { self.new.scanned ≡ self.old.scanned }
         ensures keeping { self.new.keeping ≡ self.old.keeping }
@@ -161,8 +161,8 @@ impl SegmentState {
     fn take_other(&mut self, limits: Limits, code: u8, contents: &[u8]) -> SegmentTaken
         requires other { IsOther code }
         requires short { length contents.now ≤ 65533 }
-        ensures held { HoldsSegment (told_by self.old) limits code contents.now result (told_by self.new) }
-        ensures same { ChangesNothing (told_by self.old) result (told_by self.new) }
+        ensures held { HoldsSegment (segments_view self.old) limits code contents.now result (segments_view self.new) }
+        ensures same { ChangesNothing (segments_view self.old) result (segments_view self.new) }
         ensures memory { self.old.keeping ≡ Copying.None → self.old.scanned ≡ true → result ≡ SegmentTaken.NoMemory → ⊥ }
         ensures scanned { self.new.scanned ≡ self.old.scanned }
         ensures keeping { self.new.keeping ≡ self.old.keeping }
@@ -187,7 +187,7 @@ impl SegmentState {
 
 // Whether the scan with this header needs a DC table that isn't there, in this slot.
 fn lacks_dc(frame: &Frame, head: &ScanHead, held: &SegmentState, slot: u8) -> bool
-    ensures { result ≡ (needs_dc_table frame.now head.now && is_none (huffman_in (told_by held.now).tables.dc slot)) }
+    ensures { result ≡ (needs_dc_table frame.now head.now && is_none (huffman_in (segments_view held.now).tables.dc slot)) }
 {
     let first = head.ss == 0 && head.ah == 0;
     (!frame.is_progressive() || first) && !held.tables.has_dc(slot)
@@ -195,7 +195,7 @@ fn lacks_dc(frame: &Frame, head: &ScanHead, held: &SegmentState, slot: u8) -> bo
 
 // Whether it needs an AC table that isn't there.
 fn lacks_ac(frame: &Frame, head: &ScanHead, held: &SegmentState, slot: u8) -> bool
-    ensures { result ≡ (needs_ac_table frame.now head.now && is_none (huffman_in (told_by held.now).tables.ac slot)) }
+    ensures { result ≡ (needs_ac_table frame.now head.now && is_none (huffman_in (segments_view held.now).tables.ac slot)) }
 {
     (!frame.is_progressive() || 0 < head.ss) && !held.tables.has_ac(slot)
 }
@@ -203,7 +203,7 @@ fn lacks_ac(frame: &Frame, head: &ScanHead, held: &SegmentState, slot: u8) -> bo
 // Whether a table that this part of a scan needs isn't there.
 fn lacks_one(frame: &Frame, head: &ScanHead, held: &SegmentState, part: ScanPart) -> bool
     requires { part.component < length frame.now.components }
-    ensures { result ≡ lacks_part (told_by held.now) frame.now head.now part }
+    ensures { result ≡ lacks_part (segments_view held.now) frame.now head.now part }
 {
     let quant = frame.component(part.component).quant;
     held.quants.get(quant).is_none()
@@ -214,7 +214,7 @@ fn lacks_one(frame: &Frame, head: &ScanHead, held: &SegmentState, part: ScanPart
 /// Whether a table that a scan with this header needs isn't there.
 pub fn lacks_table(frame: &Frame, head: &ScanHead, held: &SegmentState) -> bool
     requires { All (λ p. p.component < length frame.now.components) head.now.parts }
-    ensures { result ≡ lacks_any (told_by held.now) frame.now head.now }
+    ensures { result ≡ lacks_any (segments_view held.now) frame.now head.now }
 {
     let mut rest = head.parts.as_slice();
     while let [part, tail @ ..] = rest {

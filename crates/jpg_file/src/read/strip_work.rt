@@ -3,13 +3,13 @@
 ghost use Rattle.std.specs.Prelude.{◌≡◌, ◌<◌, ◌≤◌, ℕ, List, None, length, is_some, true, false};
 ghost use Rattle.jpg_spec.specs.FrameHeader.{AreLimits};
 ghost use Rattle.jpg_spec.specs.declared.frame.Copying.TheVariants as copying;
-ghost use Rattle.jpg_file.specs.Read.File.{HeadStands, StandsForFile, keeping_of, limits_of};
+ghost use Rattle.jpg_file.specs.Read.File.{HasCompleteHeader, RepresentsFile, keeping_of, limits_of};
 ghost use Rattle.jpg_file.specs.Read.PieceTaken.{TakesBytes};
 ghost use Rattle.jpg_file.specs.Read.RowsKnown.{KnowsByte, KnowsHead, KnowsSome};
 ghost use Rattle.jpg_file.specs.Read.RowsNone.{NoneByte, NoneHead, NoneSome};
 ghost use Rattle.jpg_file.specs.Read.RowFaults.{FaultsResumed};
-ghost use Rattle.jpg_file.specs.Read.Step.{IfStops, IsNoRow, NotWanting};
-ghost use Rattle.jpg_file.specs.Read.Strips.{CountsRowsOfScan, CountsStrip, GoesOnRest, SparesRows, StripGoes, StripStands, TakesFirstByte, TakesFirstHead, TakesResumed, TakesStrip};
+ghost use Rattle.jpg_file.specs.Read.Step.{IfStops, IsNoRow, HasMemory};
+ghost use Rattle.jpg_file.specs.Read.Strips.{CountsRowsOfScan, CountsStrip, GoesOnRest, SparesRows, StripGoes, RepresentsStrip, TakesFirstByte, TakesFirstHead, TakesResumed, TakesStrip};
 
 use crate::read::file::FileWork;
 use crate::read::items::ItemStep;
@@ -31,13 +31,13 @@ pub struct StripWork {
 impl StripWork {
     /// Goes to the next MCU row if one is complete, and takes the bits that wait after it.
     pub fn resume(&mut self) -> Step
-        requires { (bytes : List ℕ) × StripStands (limits_of self.old.file) bytes self.old.rows self.old.file }
+        requires { (bytes : List ℕ) × RepresentsStrip (limits_of self.old.file) bytes self.old.rows self.old.file }
         ensures after { TakesResumed self.old result self.new }
         ensures goes { GoesOnRest result }
         ensures plain { is_some self.old.rows ≡ false → result ≡ Step.More }
         ensures stays { is_some self.new.rows ≡ is_some self.old.rows }
         ensures rows { CountsStrip result self.old.rows self.new.rows }
-        ensures memory { NotWanting result }
+        ensures memory { HasMemory result }
         ensures strip { self.new.strip ≡ self.old.strip }
         ensures by_row { self.new.by_row ≡ self.old.by_row }
         ensures sparing { SparesRows self.old.rows self.old.file → SparesRows self.new.rows self.new.file }
@@ -47,7 +47,7 @@ impl StripWork {
     {
         match &mut self.rows {
             None => Step::More,
-            Some(rows) => self.file.row_rest(rows),
+            Some(rows) => self.file.take_waiting_bits(rows),
         }
     }
 
@@ -64,13 +64,13 @@ impl StripWork {
         }
         match &mut self.rows {
             None => unreachable!(),
-            Some(rows) => self.file.row_some(rows, bytes),
+            Some(rows) => self.file.take_in_row(rows, bytes),
         }
     }
 
     // The same, where there is no current MCU row.
     fn plain(&mut self, bytes: &[u8]) -> (usize, Step)
-        requires stands { (front : List ℕ) × StandsForFile (limits_of self.old.file) front self.old.file }
+        requires stands { (front : List ℕ) × RepresentsFile (limits_of self.old.file) front self.old.file }
         requires none { self.old.rows ≡ None }
         requires limits { AreLimits (limits_of self.old.file) }
         requires room { self.old.file.reading.taken < (limits_of self.old.file).input }
@@ -103,7 +103,7 @@ impl StripWork {
 
     // Takes a byte before the first scan.
     fn first_byte(&mut self, byte: u8) -> Step
-        requires stands { (bytes : List ℕ) × StandsForFile (limits_of self.old.file) bytes self.old.file }
+        requires stands { (bytes : List ℕ) × RepresentsFile (limits_of self.old.file) bytes self.old.file }
         requires none { self.old.rows ≡ None }
         requires first { self.old.file.head ≡ None }
         requires limits { AreLimits (limits_of self.old.file) }
@@ -130,7 +130,7 @@ impl StripWork {
 
     // Takes the first scan header, which is complete.
     fn take_head(&mut self) -> Step
-        requires stands { (bytes : List ℕ) × HeadStands (limits_of self.old.file) bytes self.old.file }
+        requires stands { (bytes : List ℕ) × HasCompleteHeader (limits_of self.old.file) bytes self.old.file }
         requires none { self.old.rows ≡ None }
         requires first { self.old.file.head ≡ None }
         ensures after { TakesFirstHead self.old result self.new }

@@ -7,9 +7,9 @@ ghost use Rattle.jpg_base.specs.Cursor.{scan_mcus_down};
 ghost use Rattle.jpg_base.specs.declared.stop.Stop.TheVariants as stop;
 ghost use Rattle.jpg_file.specs.Read.File.{keeping_of, limits_of};
 ghost use Rattle.jpg_file.specs.Read.InData.{ArePlain};
-ghost use Rattle.jpg_file.specs.Read.Reading.{IsOpenScan, IsSparing};
-ghost use Rattle.jpg_file.specs.Read.Step.{IsNoRow, NotWanting};
-ghost use Rattle.jpg_file.specs.Read.Strips.{BeginsRows, CountsRowsOfScan, CountsRows, FindsHead, GoesByRow, GoesOnRest, HasHeadOfAll, HasLaterHead, PassesItem, PassesLaterHead, StandsByRow, TakesLaterByte, TakesRest, TakesRowByte, TakesRunOfRows};
+ghost use Rattle.jpg_file.specs.Read.Reading.{IsOpenScan, NeedsNoMemory};
+ghost use Rattle.jpg_file.specs.Read.Step.{IsNoRow, HasMemory};
+ghost use Rattle.jpg_file.specs.Read.Strips.{BeginsRows, CountsRowsOfScan, CountsRows, FindsHead, GoesByRow, GoesOnRest, HasHeadOfAll, HasLaterHead, PassesItem, PassesLaterHead, RepresentsRows, TakesLaterByte, TakesRest, TakesRowByte, TakesRunOfRows};
 ghost use Rattle.jpg_file.specs.Read.RowStops.{StopsByte, StopsRest, StopsRun};
 ghost use Rattle.jpg_file.specs.Read.RowTurns.{unfinished};
 ghost use Rattle.jpg_file.specs.Read.RowsNone.{FindsNone};
@@ -40,13 +40,13 @@ fn row_step(row: bool) -> Step
 
 impl FileWork {
     /// Goes to the next MCU row if one is complete, and takes the bits that wait after it.
-    pub fn row_rest(&mut self, rows: &mut RowWork) -> Step
-        requires { (bytes : List ℕ) × StandsByRow (limits_of self.old) bytes self.old rows.old }
+    pub fn take_waiting_bits(&mut self, rows: &mut RowWork) -> Step
+        requires { (bytes : List ℕ) × RepresentsRows (limits_of self.old) bytes self.old rows.old }
         ensures after { TakesRest self.old rows.old result self.new rows.new }
         ensures stops { StopsRest self.old rows.old result }
         ensures goes { GoesOnRest result }
         ensures rows { CountsRows result rows.old rows.new }
-        ensures memory { NotWanting result }
+        ensures memory { HasMemory result }
         ensures same { self.new.reading.items ≡ self.old.reading.items }
         ensures head { self.new.head ≡ self.old.head }
     {
@@ -68,7 +68,7 @@ impl FileWork {
 
 impl FileWork {
     /// Takes a byte inside the data of the scan.
-    pub fn row_byte(&mut self, rows: &mut RowWork, byte: u8) -> Step
+    pub fn take_byte_in_row(&mut self, rows: &mut RowWork, byte: u8) -> Step
         requires stands { (bytes : List ℕ) × GoesByRow (limits_of self.old) bytes self.old rows.old }
         requires inside { is_some self.old.reading.scan ≡ true }
         requires limits { AreLimits (limits_of self.old) }
@@ -76,8 +76,8 @@ impl FileWork {
         ensures after { TakesRowByte self.old rows.old byte result self.new rows.new }
         ensures stops { StopsByte self.old rows.old byte result }
         ensures rows { CountsRows result rows.old rows.new }
-        ensures memory { NotWanting result }
-        ensures sparing { IsSparing self.old.reading → IsSparing self.new.reading }
+        ensures memory { HasMemory result }
+        ensures sparing { NeedsNoMemory self.old.reading → NeedsNoMemory self.new.reading }
         ensures head { self.new.head ≡ self.old.head }
         ensures keeping { keeping_of self.new ≡ keeping_of self.old }
     {
@@ -99,7 +99,7 @@ impl FileWork {
     }
 
     /// Takes plain bytes inside the data of the scan, and answers how many.
-    pub fn row_run(&mut self, rows: &mut RowWork, run: &[u8]) -> (usize, Step)
+    pub fn take_run_in_row(&mut self, rows: &mut RowWork, run: &[u8]) -> (usize, Step)
         requires stands { (bytes : List ℕ) × GoesByRow (limits_of self.old) bytes self.old rows.old }
         requires limits { AreLimits (limits_of self.old) }
         requires opened { IsOpenScan self.old.reading }
@@ -110,7 +110,7 @@ impl FileWork {
         ensures after { TakesRunOfRows self.old rows.old run.now result.0 result.1 self.new rows.new }
         ensures stops { StopsRun self.old rows.old run.now result.0 result.1 }
         ensures rows { CountsRows result.1 rows.old rows.new }
-        ensures memory { NotWanting result.1 }
+        ensures memory { HasMemory result.1 }
         ensures same { self.new.reading.items ≡ self.old.reading.items }
         ensures head { self.new.head ≡ self.old.head }
     {
@@ -129,7 +129,7 @@ impl FileWork {
 
 impl FileWork {
     /// Takes some of these bytes, and answers how many these were and the result of the last one.
-    pub fn row_some(&mut self, rows: &mut RowWork, bytes: &[u8]) -> (usize, Step)
+    pub fn take_in_row(&mut self, rows: &mut RowWork, bytes: &[u8]) -> (usize, Step)
         requires stands { (front : List ℕ) × GoesByRow (limits_of self.old) front self.old rows.old }
         requires limits { AreLimits (limits_of self.old) }
         requires room { self.old.reading.taken < (limits_of self.old).input }
@@ -137,8 +137,8 @@ impl FileWork {
         ensures after { TakesRunOfRows self.old rows.old bytes.now result.0 result.1 self.new rows.new }
         ensures stops { StopsRun self.old rows.old bytes.now result.0 result.1 }
         ensures rows { CountsRows result.1 rows.old rows.new }
-        ensures memory { IsSparing self.old.reading → NotWanting result.1 }
-        ensures sparing { IsSparing self.old.reading → IsSparing self.new.reading }
+        ensures memory { NeedsNoMemory self.old.reading → HasMemory result.1 }
+        ensures sparing { NeedsNoMemory self.old.reading → NeedsNoMemory self.new.reading }
         ensures head { self.new.head ≡ self.old.head }
         ensures keeping { keeping_of self.new ≡ keeping_of self.old }
     {
@@ -146,13 +146,13 @@ impl FileWork {
             let most = self.reading.items.limits.input - self.reading.taken;
             let n = plain_length(bytes, most);
             if n > 0 {
-                return self.row_run(rows, &bytes[..n]);
+                return self.take_run_in_row(rows, &bytes[..n]);
             }
         }
         if self.reading.scan.is_some() {
             self.scan_some(rows, bytes)
         } else {
-            self.later_some(bytes)
+            self.take_after_rows(bytes)
         }
     }
 
@@ -166,19 +166,19 @@ impl FileWork {
         ensures after { TakesRunOfRows self.old rows.old bytes.now result.0 result.1 self.new rows.new }
         ensures stops { StopsRun self.old rows.old bytes.now result.0 result.1 }
         ensures rows { CountsRows result.1 rows.old rows.new }
-        ensures memory { NotWanting result.1 }
-        ensures sparing { IsSparing self.old.reading → IsSparing self.new.reading }
+        ensures memory { HasMemory result.1 }
+        ensures sparing { NeedsNoMemory self.old.reading → NeedsNoMemory self.new.reading }
         ensures head { self.new.head ≡ self.old.head }
         ensures keeping { keeping_of self.new ≡ keeping_of self.old }
     {
         let n = self.reading.fill_in_scan(bytes);
-        (n + 1, self.row_byte(rows, bytes[n]))
+        (n + 1, self.take_byte_in_row(rows, bytes[n]))
     }
 }
 
 impl FileWork {
     // Takes some of these bytes after the scan, and answers how many these were and the result of the last one.
-    fn later_some(&mut self, bytes: &[u8]) -> (usize, Step)
+    fn take_after_rows(&mut self, bytes: &[u8]) -> (usize, Step)
         requires stands { (front : List ℕ) × (rows : Row) × GoesByRow (limits_of self.old) front self.old rows }
         requires none { is_some self.old.reading.scan ≡ false }
         requires limits { AreLimits (limits_of self.old) }
@@ -186,8 +186,8 @@ impl FileWork {
         requires some { 1 ≤ length bytes.now }
         ensures after { (rows : Row) → TakesRunOfRows self.old rows bytes.now result.0 result.1 self.new rows }
         ensures no { IsNoRow result.1 }
-        ensures memory { IsSparing self.old.reading → NotWanting result.1 }
-        ensures sparing { IsSparing self.old.reading → IsSparing self.new.reading }
+        ensures memory { NeedsNoMemory self.old.reading → HasMemory result.1 }
+        ensures sparing { NeedsNoMemory self.old.reading → NeedsNoMemory self.new.reading }
         ensures head { self.new.head ≡ self.old.head }
         ensures keeping { keeping_of self.new ≡ keeping_of self.old }
     {
@@ -203,8 +203,8 @@ impl FileWork {
         requires room { self.old.reading.taken < (limits_of self.old).input }
         ensures after { TakesLaterByte self.old byte result self.new }
         ensures no { IsNoRow result }
-        ensures memory { IsSparing self.old.reading → NotWanting result }
-        ensures sparing { IsSparing self.old.reading → IsSparing self.new.reading }
+        ensures memory { NeedsNoMemory self.old.reading → HasMemory result }
+        ensures sparing { NeedsNoMemory self.old.reading → NeedsNoMemory self.new.reading }
         ensures head { self.new.head ≡ self.old.head }
         ensures keeping { keeping_of self.new ≡ keeping_of self.old }
     {
@@ -216,7 +216,7 @@ impl FileWork {
     fn later_item(&self, came: ItemStep) -> Step
         requires { came ≡ ItemStep.Head → HasLaterHead self.now }
         ensures after { PassesItem self.now came result }
-        ensures memory { (came ≡ ItemStep.NoMemory → ⊥) → NotWanting result }
+        ensures memory { (came ≡ ItemStep.NoMemory → ⊥) → HasMemory result }
         ensures no { IsNoRow result }
     {
         match came {
@@ -232,7 +232,7 @@ impl FileWork {
     fn later_head(&self) -> Step
         requires { HasLaterHead self.now }
         ensures after { PassesLaterHead self.now result }
-        ensures memory { NotWanting result }
+        ensures memory { HasMemory result }
         ensures no { IsNoRow result }
     {
         let Some(frame) = &self.reading.items.held.frame else {
@@ -281,7 +281,7 @@ impl FileWork {
         ensures told { IfOk result (λ rows. BeginsTold self.old frame.now head.now self.new) }
         ensures count { IfOk result (λ rows. unfinished rows ≡ scan_mcus_down frame.now (head_components head.now)) }
         ensures all { IfOk result (λ rows. CountsRowsOfScan (Some rows) self.new) }
-        ensures sparing { IfOk result (λ rows. keeping_of self.old ≡ copying.None → IsSparing self.new.reading) }
+        ensures sparing { IfOk result (λ rows. keeping_of self.old ≡ copying.None → NeedsNoMemory self.new.reading) }
         ensures head { IfErr result (λ stop. self.new.head ≡ self.old.head) }
         ensures keeping { keeping_of self.new ≡ keeping_of self.old }
     {

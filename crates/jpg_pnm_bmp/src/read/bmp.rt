@@ -1,9 +1,9 @@
 //! The header of a BMP image, parsed.
 ghost use Rattle.std.specs.Prelude.{◌≡◌, ◌+◌, ◌<◌, ◌≤◌, ◌&&◌, ◌==◌, ℕ, List, length};
-ghost use Rattle.jpg_spec_image.specs.BmpFile.{short_at, long_at, bmp_offset, palette_entries, palette_bytes, is_unread, is_forbidden, bmp_depth, bmp_fault, bmp_info, height, used, line};
+ghost use Rattle.jpg_spec_image.specs.BmpFile.{short_at, long_at, bmp_offset, palette_entries, palette_bytes, has_wrong_precision, is_forbidden, bmp_depth, bmp_fault, bmp_info, height, used, line};
 ghost use Rattle.jpg_spec_image.specs.Images.{is_side, are_few_pixels};
 ghost use Rattle.jpg_spec_image.specs.ImageFaults.{bmp, body_of};
-ghost use Rattle.jpg_pnm_bmp.specs.Shapes.{body_told};
+ghost use Rattle.jpg_pnm_bmp.specs.Shapes.{body_view};
 
 use crate::read::body::Shape;
 use jpg_spec::Fault;
@@ -51,9 +51,9 @@ pub(crate) fn palette_bytes(head: &[u8]) -> u64
     4 * u64::from(palette_entries(head))
 }
 
-fn is_unread(head: &[u8]) -> bool
+fn has_wrong_precision(head: &[u8]) -> bool
     requires { 54 ≤ length head.now }
-    ensures { result ≡ is_unread head.now }
+    ensures { result ≡ has_wrong_precision head.now }
 {
     let bmp_depth = short_at(head, 28);
     long_at(head, 14) != 40 || (!(8 == bmp_depth || 24 == bmp_depth) || long_at(head, 30) != 0)
@@ -85,7 +85,7 @@ pub(crate) fn head_fault(head: &[u8]) -> Option<Fault>
     requires { 54 ≤ length head.now }
     ensures { result ≡ bmp_fault head.now }
 {
-    if is_unread(head) {
+    if has_wrong_precision(head) {
         return Some(Fault::ImageUnsupported);
     }
     if is_forbidden(head) {
@@ -119,7 +119,7 @@ pub(crate) fn line(head: &[u8]) -> u64
 // The shape of the pixels, where nothing is wrong with the header.
 pub(crate) fn bmp_shape(head: &[u8]) -> Shape
     requires { 54 ≤ length head.now }
-    ensures { (palette : List ℕ) → height head.now ≤ 65500 → body_told result ≡ body_of (bmp head.now palette) }
+    ensures { (palette : List ℕ) → height head.now ≤ 65500 → body_view result ≡ body_of (bmp head.now palette) }
 {
     let used = used(head);
     let line = line(head);

@@ -2,7 +2,7 @@
 ghost use Rattle.std.specs.Prelude.{◌≡◌, ◌<◌, ◌≤◌, ◌+◌, ◌%◌, ◌∷◌, [], ℕ, List, length, slice_index, IfSome, IfNone};
 ghost use Rattle.jpg_spec_image.specs.ImageFaults.{pnm, body_of};
 ghost use Rattle.jpg_pnm_bmp.specs.Known.{list_of};
-ghost use Rattle.jpg_pnm_bmp.specs.Shapes.{body_told, AreBelow};
+ghost use Rattle.jpg_pnm_bmp.specs.Shapes.{body_view, AreBelow};
 ghost use Rattle.jpg_pnm_bmp.specs.declared.read.numbers.Numbers.TheVariants as known;
 
 use crate::read::numbers::{Numbers, sample_count};
@@ -17,7 +17,7 @@ pub struct Shape {
 }
 
 pub(crate) fn pnm_shape(format: u8, numbers: Numbers) -> Shape
-    ensures { (w h m : ℕ) → numbers ≡ known.All w h m → body_told result ≡ body_of (pnm format (w ∷ h ∷ m ∷ [])) }
+    ensures { (w h m : ℕ) → numbers ≡ known.All w h m → body_view result ≡ body_of (pnm format (w ∷ h ∷ m ∷ [])) }
 {
     match numbers {
         Numbers::All(width, height, most) => {

@@ -5,8 +5,8 @@ ghost use Rattle.jpg_spec_image.specs.ImageFaults.{ImageHead, body_of};
 ghost use Rattle.jpg_spec_image.specs.ImageSteps.{at_start, in_body, first_byte, second_byte, gap_byte, number_byte, after_number, head_so_far, bmp_front, front_byte, state_end, ended_by, plain_image, run};
 ghost use Rattle.jpg_pnm_bmp.specs.Known.{list_of};
 ghost use Rattle.jpg_pnm_bmp.specs.Reader.{standing, numbers_list, IsReached, KeepsStage, Reaches, AddsNumber, CanStretch, HoldsBodyPart, StretchesBy, EndsAs, number_ended_at};
-ghost use Rattle.jpg_pnm_bmp.specs.Shapes.{body_told};
-ghost use Rattle.jpg_pnm_bmp.specs.PlainSamples.{unscaled_told};
+ghost use Rattle.jpg_pnm_bmp.specs.Shapes.{body_view};
+ghost use Rattle.jpg_pnm_bmp.specs.PlainSamples.{unscaled_view};
 
 use crate::read::bmp::{bmp_offset, bmp_shape, head_fault, palette_bytes};
 use crate::read::body::{Shape, part_long, pnm_shape, wrong_in};
@@ -290,7 +290,7 @@ impl Work {
         requires { 1 ≤ length piece.now }
         ensures some { 1 ≤ result.used }
         ensures within { result.used ≤ length piece.now }
-        ensures led { (head : ImageHead) → body_told shape ≡ body_of head → CanStretch head self.old.samples → StretchesBy head self.old piece.now result self.new }
+        ensures led { (head : ImageHead) → body_view shape ≡ body_of head → CanStretch head self.old.samples → StretchesBy head self.old piece.now result self.new }
     {
         let at = self.held();
         let long = part_long(shape, at, piece.len());
@@ -308,7 +308,7 @@ impl Work {
 
     // The numbers of an image whose samples aren't scaled, in its body.
     pub fn unscaled(&self) -> Option<ImageInfo>
-        ensures { result ≡ unscaled_told self.now }
+        ensures { result ≡ unscaled_view self.now }
     {
         match self.stage {
             Stage::Start => None,

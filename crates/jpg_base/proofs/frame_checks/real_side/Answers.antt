@@ -1,4 +1,4 @@
-use Rattle.jpg_spec.proofs.PlacesFound.{real_in_padded}
+use Rattle.jpg_spec.proofs.Places.PlacesFound.{real_in_padded}
 use Rattle.jpg_base.proofs.Real.{one_real}
 use Rattle.jpg_base.proofs.frame_checks.real_side.Goals as goal
 

@@ -1,4 +1,4 @@
-use Rattle.jpg_cli.proofs.DueCommands.{answer_due}
+use Rattle.jpg_cli.proofs.Outcomes.DueCommands.{answer_due}
 use Rattle.jpg_cli.proofs.laws.answers_are_due.Goals as goal
 
 pub returns : goal.returns

@@ -1,4 +1,4 @@
-use Rattle.jpg_cli.proofs.DueCommands.{encode_answered, encode_due}
+use Rattle.jpg_cli.proofs.Outcomes.DueCommands.{encode_answered, encode_due}
 use Rattle.jpg_cli.proofs.laws.encodings_are_due.Goals as goal
 
 pub returns-clause-due : goal.returns-clause-due

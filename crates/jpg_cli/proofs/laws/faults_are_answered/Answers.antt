@@ -1,4 +1,4 @@
-use Rattle.jpg_cli.proofs.Faulty.{script_answered, input_answered, picture_answered, image_answered}
+use Rattle.jpg_cli.proofs.Outcomes.Faulty.{script_answered, input_answered, picture_answered, image_answered}
 use Rattle.jpg_cli.proofs.laws.faults_are_answered.Goals as goal
 
 pub returns-clause-script : goal.returns-clause-script

@@ -1,4 +1,4 @@
-use Rattle.jpg_cli.proofs.Certain.{inserted_certain}
+use Rattle.jpg_cli.proofs.Outcomes.Certain.{inserted_certain}
 use Rattle.jpg_cli.proofs.laws.files_with_a_frame_header_have_the_comment_inserted.Goals as goal
 
 pub returns : goal.returns

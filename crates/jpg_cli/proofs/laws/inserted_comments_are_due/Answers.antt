@@ -1,4 +1,4 @@
-use Rattle.jpg_cli.proofs.InsertedThen.{insert_due}
+use Rattle.jpg_cli.proofs.Comments.InsertedThen.{insert_due}
 use Rattle.jpg_cli.proofs.laws.inserted_comments_are_due.Goals as goal
 
 pub returns : goal.returns

@@ -1,4 +1,4 @@
-use Rattle.jpg_cli.proofs.Certain.{shown_certain}
+use Rattle.jpg_cli.proofs.Outcomes.Certain.{shown_certain}
 use Rattle.jpg_cli.proofs.laws.pictures_are_shown.Goals as goal
 
 pub returns : goal.returns

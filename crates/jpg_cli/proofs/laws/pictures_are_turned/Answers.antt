@@ -1,5 +1,5 @@
-use Rattle.jpg_cli.proofs.Certain.{turned_certain}
-use Rattle.jpg_cli.proofs.OneRefusal.{transformed_file}
+use Rattle.jpg_cli.proofs.Outcomes.Certain.{turned_certain}
+use Rattle.jpg_cli.proofs.Outcomes.OneRefusal.{transformed_file}
 use Rattle.jpg_cli.proofs.laws.pictures_are_turned.Goals as goal
 
 pub returns-clause-certain : goal.returns-clause-certain

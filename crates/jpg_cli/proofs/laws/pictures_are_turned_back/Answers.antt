@@ -1,4 +1,4 @@
-use Rattle.jpg_cli.proofs.Certain.{turned_back}
+use Rattle.jpg_cli.proofs.Outcomes.Certain.{turned_back}
 use Rattle.jpg_cli.proofs.laws.pictures_are_turned_back.Goals as goal
 
 pub returns : goal.returns

@@ -1,4 +1,4 @@
-use Rattle.jpg_cli.proofs.CommentsPrinted.{print_due}
+use Rattle.jpg_cli.proofs.Comments.CommentsPrinted.{print_due}
 use Rattle.jpg_cli.proofs.laws.printed_comments_are_due.Goals as goal
 
 pub returns : goal.returns

@@ -1,4 +1,4 @@
-use Rattle.jpg_cli.proofs.DueCommands.{show_due}
+use Rattle.jpg_cli.proofs.Outcomes.DueCommands.{show_due}
 use Rattle.jpg_cli.proofs.laws.shown_answers_are_due.Goals as goal
 
 pub returns : goal.returns

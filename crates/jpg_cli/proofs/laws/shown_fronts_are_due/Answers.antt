@@ -1,4 +1,4 @@
-use Rattle.jpg_cli.proofs.DueCommands.{front_due}
+use Rattle.jpg_cli.proofs.Outcomes.DueCommands.{front_due}
 use Rattle.jpg_cli.proofs.laws.shown_fronts_are_due.Goals as goal
 
 pub returns : goal.returns

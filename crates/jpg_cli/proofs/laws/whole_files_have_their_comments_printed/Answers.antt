@@ -1,4 +1,4 @@
-use Rattle.jpg_cli.proofs.Certain.{printed_certain}
+use Rattle.jpg_cli.proofs.Outcomes.Certain.{printed_certain}
 use Rattle.jpg_cli.proofs.laws.whole_files_have_their_comments_printed.Goals as goal
 
 pub returns : goal.returns

@@ -1,6 +1,6 @@
 use Rattle.std.proofs.Common.{arith, ◌≡◌, ◌-◌, ◌+◌, refl}
 use Rattle.std.proofs.lemmas.Grind.{common_steps}
-use Rattle.jpg_cli.proofs.Decimal.{step, done, fewer, at_least_one, whole}
+use Rattle.jpg_cli.proofs.Messages.Decimal.{step, done, fewer, at_least_one, whole}
 use Rattle.jpg_cli.proofs.message.decimal_digits.Goals as goal
 
 pub loop-rest-preserved : goal.loop-rest-preserved

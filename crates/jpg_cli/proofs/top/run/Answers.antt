@@ -3,7 +3,7 @@ use Rattle.std.specs.Prelude.{string_bytes}
 use Rattle.jpg_spec_words.specs.Messages.{message}
 use Rattle.jpg_cli.specs.Tools.Ends.{formats_of}
 use Rattle.jpg_cli.specs.Run.{SaysText}
-use Rattle.jpg_cli.proofs.Ending.{ran}
+use Rattle.jpg_cli.proofs.Outcomes.Ending.{ran}
 use Rattle.jpg_cli.proofs.top.run.Goals as goal
 
 pub returns : goal.returns

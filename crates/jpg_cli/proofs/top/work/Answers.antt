@@ -1,15 +1,15 @@
 use Rattle.std.proofs.Common.{map, subst, sym, Ok, Err}
 use Rattle.std.specs.Prelude.{string_bytes}
-use Rattle.jpg_spec_words.specs.Requests.{WordsTold}
+use Rattle.jpg_spec_words.specs.Requests.{ParsedWords}
 use Rattle.jpg_cli.specs.Commands.{Command, IsCommand, command_asked}
 use Rattle.jpg_cli.specs.Tools.Ends.{formats_of}
 use Rattle.jpg_cli.specs.Run.{Worked}
 use Rattle.jpg_cli.specs.declared.words.files.WordsStop.{WordsStop}
 use Rattle.jpg_cli.specs.declared.words.Asked.{Asked}
-use Rattle.jpg_cli.proofs.InsertedThen.{asked_inserted}
-use Rattle.jpg_cli.proofs.ImageShown.{asked_shown}
-use Rattle.jpg_cli.proofs.PictureTaken.{reads_none}
-use Rattle.jpg_cli.proofs.Running.{names_wanting}
+use Rattle.jpg_cli.proofs.Comments.InsertedThen.{asked_inserted}
+use Rattle.jpg_cli.proofs.ByRow.ImageShown.{asked_shown}
+use Rattle.jpg_cli.proofs.Pieces.PictureTaken.{reads_none}
+use Rattle.jpg_cli.proofs.Outcomes.Running.{names_wanting}
 use Rattle.jpg_cli.proofs.top.work.Goals as goal
 
 pub returns-in-Ok-Jpegtran : goal.returns-in-Ok-Jpegtran
@@ -19,7 +19,7 @@ returns-in-Ok-Jpegtran g c =
     let told = subst (λ (a : Asked). IsCommand asked (Ok a)) c.in-Ok-Jpegtran.field-0-is c.in-Ok-Jpegtran.ensures.asked in
     record {
       worked =
-          (let P : WordsTold Command → Type 0 = λ a. Worked (formats_of (map (λ e. (goal.ImageEnd-dyn g (e.vtable, e.value)).progress e.value) c.args.ends.items)) a (state c.args.desk.now) c.transform.result (state c.transform.new.desk) in
+          (let P : ParsedWords Command → Type 0 = λ a. Worked (formats_of (map (λ e. (goal.ImageEnd-dyn g (e.vtable, e.value)).progress e.value) c.args.ends.items)) a (state c.args.desk.now) c.transform.result (state c.transform.new.desk) in
           subst P (sym told) c.transform.ensures.transformed);
       kept = c.transform.ensures.kept;
     }
@@ -32,7 +32,7 @@ returns-in-Ok-Wrjpgcom g c =
     let done = c.insert_comment.ensures in
     record {
       worked =
-          (let P : WordsTold Command → Type 0 = λ a. Worked (formats_of (map (λ e. (goal.ImageEnd-dyn g (e.vtable, e.value)).progress e.value) c.args.ends.items)) a (state c.args.desk.now) c.insert_comment.result (state c.insert_comment.new.desk) in
+          (let P : ParsedWords Command → Type 0 = λ a. Worked (formats_of (map (λ e. (goal.ImageEnd-dyn g (e.vtable, e.value)).progress e.value) c.args.ends.items)) a (state c.args.desk.now) c.insert_comment.result (state c.insert_comment.new.desk) in
           subst P (sym told) (asked_inserted c.in-Ok-Wrjpgcom.words (state c.args.desk.now) (state c.insert_comment.new.desk) c.insert_comment.result done.inserted));
       kept = done.kept;
     }
@@ -44,7 +44,7 @@ returns-in-Ok-Djpeg g c =
     let told = subst (λ (a : Asked). IsCommand asked (Ok a)) c.in-Ok-Djpeg.field-0-is c.in-Ok-Djpeg.ensures.asked in
     record {
       worked =
-          (let P : WordsTold Command → Type 0 = λ a. Worked (formats_of (map (λ e. (goal.ImageEnd-dyn g (e.vtable, e.value)).progress e.value) c.args.ends.items)) a (state c.args.desk.now) c.show_by.result (state c.show_by.new.desk) in
+          (let P : ParsedWords Command → Type 0 = λ a. Worked (formats_of (map (λ e. (goal.ImageEnd-dyn g (e.vtable, e.value)).progress e.value) c.args.ends.items)) a (state c.args.desk.now) c.show_by.result (state c.show_by.new.desk) in
           subst P (sym told) (asked_shown _ c.in-Ok-Djpeg.words (state c.args.desk.now) (state c.show_by.new.desk) c.show_by.result c.show_by.ensures.shown));
       kept = c.show_by.ensures.kept;
     }
@@ -63,7 +63,7 @@ returns g c =
     let told = subst (λ (a : Asked). IsCommand asked (Ok a)) c.in-Ok-Jpgwork.field-0-is c.in-Ok-Jpgwork.ensures.asked in
     record {
       worked =
-          (let P : WordsTold Command → Type 0 = λ a. Worked (formats_of (map (λ e. (goal.ImageEnd-dyn g (e.vtable, e.value)).progress e.value) c.args.ends.items)) a (state c.args.desk.now) c.do_work.result (state c.do_work.new.desk) in
+          (let P : ParsedWords Command → Type 0 = λ a. Worked (formats_of (map (λ e. (goal.ImageEnd-dyn g (e.vtable, e.value)).progress e.value) c.args.ends.items)) a (state c.args.desk.now) c.do_work.result (state c.do_work.new.desk) in
           subst P (sym told) c.do_work.ensures.worked);
       kept = c.do_work.ensures.kept;
     }

@@ -1,4 +1,4 @@
-use Rattle.jpg_spec.proofs.TextsRead.{has_one_answer}
+use Rattle.jpg_spec.proofs.Texts.TextsRead.{has_one_answer}
 use Rattle.jpg_dct.proofs.TableRest.{reads_tables}
 use Rattle.jpg_dct.proofs.laws.texts_tell_tables_once.Goals as goal
 

@@ -2,7 +2,7 @@ use Rattle.std.proofs.Common.{[], ◌++◌, refl, arith, inl, inr}
 use Rattle.std.specs.Prelude.{codes}
 use Rattle.jpg_dct.specs.TriedTexts.{ones_text}
 use Rattle.jpg_spec.specs.TextReaders.{plain, run}
-use Rattle.jpg_spec.proofs.TextsRead.{wrong_byte, ends_early}
+use Rattle.jpg_spec.proofs.Texts.TextsRead.{wrong_byte, ends_early}
 use Rattle.jpg_dct.specs.TableState.{no_numbers}
 use Rattle.jpg_dct.proofs.TableRest.{reads_tables}
 use Rattle.jpg_dct.proofs.laws.wrong_tables_have_a_place.Goals as goal

@@ -3,8 +3,8 @@ use Rattle.std.proofs.lemmas.Bool.Decides.{nat_tests}
 use Rattle.jpg_spec.specs.Segments.{QuantTable}
 use Rattle.jpg_spec.specs.TextForms.{IsWrongByte, IsTooLong}
 use Rattle.jpg_spec.specs.TextReaders.{ReaderState, reader_step, plain, taken}
-use Rattle.jpg_spec.proofs.TextRuns.{run_nil}
-use Rattle.jpg_spec.proofs.TextsRead.{byte_read, wrong_byte, too_long, refused}
+use Rattle.jpg_spec.proofs.Texts.TextRuns.{run_nil}
+use Rattle.jpg_spec.proofs.Texts.TextsRead.{byte_read, wrong_byte, too_long, refused}
 use Rattle.jpg_spec_image.specs.TableText.{tables_form}
 use Rattle.jpg_dct.specs.TableState.{NumbersState, number_step, no_numbers}
 use Rattle.jpg_dct.proofs.TableRest.{reads_tables}

@@ -2,8 +2,8 @@ use Rattle.std.proofs.Common.{Err}
 use Rattle.std.proofs.lemmas.Result.{err_from_is_err_and}
 use Rattle.jpg_spec.specs.Markers.{eoi}
 use Rattle.jpg_huff.proofs.Together.{sends_then, sends_fault, sends_same}
-use Rattle.jpg_file.proofs.WrittenText.{can_scans, file_is}
-use Rattle.jpg_file.proofs.AllWritten.{all_written}
+use Rattle.jpg_file.proofs.Writing.WrittenText.{can_scans, file_is}
+use Rattle.jpg_file.proofs.Writing.AllWritten.{all_written}
 use Rattle.jpg_file.proofs.write.write_file.Goals as goal
 
 pub write_scans-requires-clause-scans : goal.write_scans-requires-clause-scans

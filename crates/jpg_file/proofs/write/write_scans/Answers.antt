@@ -4,7 +4,7 @@ use Rattle.jpg_huff.specs.BitOut.{Sends}
 use Rattle.jpg_huff.proofs.InParts.{of_bytes, part_start, part_same, part_then, part_fault}
 use Rattle.jpg_huff.proofs.Together.{can_after, sends_nothing}
 use Rattle.jpg_file.specs.Write.WriteScan.{CanWriteScan, scans_bytes, scans_due, so_far}
-use Rattle.jpg_file.proofs.WrittenText.{entry_can, scan_left}
+use Rattle.jpg_file.proofs.Writing.WrittenText.{entry_can, scan_left}
 use Rattle.jpg_file.proofs.write.write_scans.Goals as goal
 
 pub loop-i-init : goal.loop-i-init

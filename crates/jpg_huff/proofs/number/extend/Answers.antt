@@ -4,7 +4,7 @@ use Rattle.std.proofs.lemmas.Int.{to_z-of_z}
 use Rattle.std.proofs.lemmas.Nat.{one_shl}
 use Rattle.jpg_spec.specs.Bits.{bits_of}
 use Rattle.jpg_spec.specs.Numbers.{digits, category, extra_bits}
-use Rattle.jpg_spec.proofs.ExtraBits.{digits_high}
+use Rattle.jpg_spec.proofs.Bits.ExtraBits.{digits_high}
 use Rattle.jpg_huff.proofs.Categories.{category_negative, digits_low, extra_low, lowered_by_none, lowered_below}
 use Rattle.jpg_huff.proofs.number.extend.Goals as goal
 

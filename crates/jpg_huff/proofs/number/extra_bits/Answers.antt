@@ -3,7 +3,7 @@ use mir.Syntax.{w32}
 use Rattle.std.specs.Prelude.{nat_abs}
 use Rattle.std.proofs.lemmas.Int.{to_z-of_z}
 use Rattle.jpg_spec.specs.Numbers.{digits}
-use Rattle.jpg_spec.proofs.Facts.{below_digits}
+use Rattle.jpg_spec.proofs.Basics.Facts.{below_digits}
 use Rattle.jpg_huff.proofs.Categories.{shifted_fits}
 use Rattle.jpg_huff.proofs.number.extra_bits.Goals as goal
 

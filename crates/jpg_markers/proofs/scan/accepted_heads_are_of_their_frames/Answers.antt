@@ -1,4 +1,4 @@
-use Rattle.jpg_spec.proofs.AcceptedHeads.{accepted}
+use Rattle.jpg_spec.proofs.Headers.AcceptedHeads.{accepted}
 use Rattle.jpg_markers.proofs.scan.accepted_heads_are_of_their_frames.Goals as goal
 
 pub returns : goal.returns

@@ -1,10 +1,10 @@
 use Rattle.std.specs.Prelude.{◌≡◌, length}
 use Rattle.jpg_spec.specs.Lists.{is_among}
-use Rattle.jpg_spec.specs.ScanContents.{ids_told}
+use Rattle.jpg_spec.specs.ScanContents.{parsed_ids}
 use Rattle.jpg_markers.proofs.scan.stands.Given as goal
 
 abbrev pub invariant-loop-rest : goal.invariant-loop-rest
-invariant-loop-rest l = is_among l.id (ids_told l.parts) ≡ is_among l.id (ids_told l.rest)
+invariant-loop-rest l = is_among l.id (parsed_ids l.parts) ≡ is_among l.id (parsed_ids l.rest)
 
 abbrev pub decreases-loop-rest : goal.decreases-loop-rest
 decreases-loop-rest l = length l.rest

@@ -2,7 +2,7 @@ use Rattle.std.proofs.Common.{◌∙◌, ap, drop, sym, replicate, take}
 use Rattle.std.proofs.lemmas.List.{drop-drop}
 use Rattle.jpg_markers.proofs.Continuing.{eight_more, rest_long, same_bytes}
 use Rattle.jpg_markers.proofs.whole.filled_groups.Goals as goal
-use Rattle.jpg_spec.proofs.TablesInForce.{affirmed}
+use Rattle.jpg_spec.proofs.Segments.TablesInForce.{affirmed}
 
 pub loop-group-preserved : goal.loop-group-preserved
 loop-group-preserved c =

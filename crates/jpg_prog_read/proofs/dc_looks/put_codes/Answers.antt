@@ -1,5 +1,5 @@
 use Rattle.std.proofs.Common.{◌∙◌, sym}
-use Rattle.jpg_spec.proofs.Common.{some_once}
+use Rattle.jpg_spec.proofs.Basics.Common.{some_once}
 use Rattle.jpg_prog_read.proofs.dc_looks.put_codes.Goals as goal
 
 pub returns-in-Some : goal.returns-in-Some

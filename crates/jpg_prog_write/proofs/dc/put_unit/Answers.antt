@@ -7,7 +7,7 @@ use Rattle.jpg_spec.specs.Numbers.{category, extra_bits}
 use Rattle.jpg_spec.specs.Codes.{code_of}
 use Rattle.jpg_spec.specs.Segments.{ScanHead}
 use Rattle.jpg_spec_write.specs.Sending.{shifted}
-use Rattle.jpg_spec.proofs.Common.{lt_yes, lt_no}
+use Rattle.jpg_spec.proofs.Basics.Common.{lt_yes, lt_no}
 use Rattle.jpg_huff.proofs.Together.{puts_same}
 use Rattle.jpg_prog_write.specs.Written.{codes_in}
 use Rattle.jpg_prog_write.proofs.DcUnits.{apart_16, bit_unit, code_unit}

@@ -1,7 +1,7 @@
 use Rattle.std.proofs.Common.{[], refl, arith, inl, inr}
 use Rattle.jpg_scans.specs.WrongTexts.{wrong_text, comma_text, large_text}
 use Rattle.jpg_spec.specs.TextReaders.{plain, run}
-use Rattle.jpg_spec.proofs.TextsRead.{wrong_byte, ends_early}
+use Rattle.jpg_spec.proofs.Texts.TextsRead.{wrong_byte, ends_early}
 use Rattle.jpg_scans.specs.TextState.{new_text}
 use Rattle.jpg_scans.proofs.ScriptRest.{reads_scripts}
 use Rattle.jpg_scans.proofs.laws.wrong_texts_have_a_place.Goals as goal

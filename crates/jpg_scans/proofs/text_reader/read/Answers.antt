@@ -2,8 +2,8 @@ use Rattle.std.proofs.Common.{◌≡◌, ◌<◌, ◌+◌, List, refl, sym, ap, 
 use Rattle.std.proofs.lemmas.Bool.Decides.{nat_tests}
 use Rattle.jpg_spec.specs.TextForms.{IsWrongByte, IsTooLong}
 use Rattle.jpg_spec.specs.TextReaders.{ReaderState, reader_step, plain, taken}
-use Rattle.jpg_spec.proofs.TextRuns.{run_nil}
-use Rattle.jpg_spec.proofs.TextsRead.{byte_read, wrong_byte, too_long, refused}
+use Rattle.jpg_spec.proofs.Texts.TextRuns.{run_nil}
+use Rattle.jpg_spec.proofs.Texts.TextsRead.{byte_read, wrong_byte, too_long, refused}
 use Rattle.jpg_spec_write.specs.Script.{Entry}
 use Rattle.jpg_spec_write.specs.ScriptGrammar.{script_form}
 use Rattle.jpg_scans.specs.TextState.{TextState, text_step, new_text}

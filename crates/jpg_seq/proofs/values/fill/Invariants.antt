@@ -1,7 +1,7 @@
 use Rattle.std.specs.Prelude.{◌≡◌, ◌<◌, ℕ, length, slice_index_or}
 use Rattle.jpg_spec.specs.Bits.{bits_of}
-use Rattle.jpg_seq.specs.Values.{TellsOrNone, told_none}
+use Rattle.jpg_seq.specs.Values.{TellsOrNone, no_entry}
 use Rattle.jpg_seq.proofs.values.fill.Given as goal
 
 abbrev pub invariant-loop-ten : goal.invariant-loop-ten
-invariant-loop-ten l = (length l.told ≡ 1024) × ((n : ℕ) → n < l.ten → TellsOrNone l.decoder (bits_of 10 n) (slice_index_or l.told n told_none))
+invariant-loop-ten l = (length l.told ≡ 1024) × ((n : ℕ) → n < l.ten → TellsOrNone l.decoder (bits_of 10 n) (slice_index_or l.told n no_entry))

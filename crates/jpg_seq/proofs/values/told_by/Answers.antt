@@ -5,7 +5,7 @@ use Rattle.std.proofs.Common.{to_z, of_z}
 use mir.Val.{SFits}
 use Rattle.std.proofs.lemmas.Int.{to_z-of_z}
 use Rattle.jpg_spec.specs.Bits.{bits_of}
-use Rattle.jpg_spec.proofs.Strings.{length-bits_of}
+use Rattle.jpg_spec.proofs.Basics.Strings.{length-bits_of}
 use Rattle.jpg_seq.specs.Values.{TellsOrNone}
 use Rattle.jpg_seq.proofs.ShortValue.{kept_end, kept_none, none_symbol, none_part, none_begins}
 use Rattle.jpg_seq.proofs.values.told_by.Goals as goal
@@ -43,7 +43,7 @@ returns-else-size-gt0 c =
     let n = c.in-Symbol.length in let symbol = c.in-Symbol.symbol in let s = c.in-Symbol.ensures in let bits = c.ten_bits-bits.result in
     let past : (symbol % 16 ≡ 0) ⊎ (10 < n + symbol % 16) =
     elim c.else-size-gt0.branch [ else-size-gt0-via-then-size-gt0+else-length-size-le10 w ↦ inr (omega (arith, w.if-length-size-le10.false)) | else-size-gt0-via-else-size-gt0 w ↦ inl (omega (arith, w.if-size-gt0.false)) ] in
-    kept_none c.args.codes.now bits (bits_of 10 c.args.ten) c.nothing.result c.ten_bits-bits.ensures c.nothing.ensures
+    kept_none c.args.codes.now bits (bits_of 10 c.args.ten) c.no_short_value.result c.ten_bits-bits.ensures c.no_short_value.ensures
     (none_symbol c.args.codes.now bits n symbol c.apart.ensures.one s.2 s.3 c.if-symbol-eq0.false (λ h. ⊎_elim (λ (a : symbol % 16 ≡ 0). omega (arith, a, h.0)) (λ (b : 10 < n + symbol % 16). omega (arith, b, h.1)) past))
 
 pub returns-then-symbol-eq0 : goal.returns-then-symbol-eq0
@@ -53,11 +53,11 @@ returns-then-symbol-eq0 c =
 
 pub returns-in-Part : goal.returns-in-Part
 returns-in-Part c =
-    kept_none c.args.codes.now c.ten_bits-bits.result (bits_of 10 c.args.ten) c.nothing-in-Part.result c.ten_bits-bits.ensures c.nothing-in-Part.ensures
+    kept_none c.args.codes.now c.ten_bits-bits.result (bits_of 10 c.args.ten) c.no_short_value-in-Part.result c.ten_bits-bits.ensures c.no_short_value-in-Part.ensures
     (none_part c.args.codes.now c.ten_bits-bits.result c.apart.ensures.one c.in-Part.ensures.0)
 
 pub returns-in-NoCode : goal.returns-in-NoCode
 returns-in-NoCode c =
     let s = c.in-NoCode.ensures in
-    kept_none c.args.codes.now c.ten_bits-bits.result (bits_of 10 c.args.ten) c.nothing-in-NoCode.result c.ten_bits-bits.ensures c.nothing-in-NoCode.ensures
+    kept_none c.args.codes.now c.ten_bits-bits.result (bits_of 10 c.args.ten) c.no_short_value-in-NoCode.result c.ten_bits-bits.ensures c.no_short_value-in-NoCode.ensures
     (none_begins c.args.codes.now c.ten_bits-bits.result c.in-NoCode.length c.apart.ensures.one s.0 s.1 s.2 s.3)

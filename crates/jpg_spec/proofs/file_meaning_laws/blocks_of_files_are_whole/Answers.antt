@@ -1,4 +1,4 @@
-use Rattle.jpg_spec.proofs.EarlyRanges.{meaning_in_range}
+use Rattle.jpg_spec.proofs.EndsEarly.EarlyRanges.{meaning_in_range}
 use Rattle.jpg_spec.proofs.file_meaning_laws.blocks_of_files_are_whole.Goals as goal
 
 pub returns : goal.returns

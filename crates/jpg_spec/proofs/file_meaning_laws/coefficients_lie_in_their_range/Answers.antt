@@ -1,5 +1,5 @@
-use Rattle.jpg_spec.proofs.EarlyRanges.{early_in_range}
-use Rattle.jpg_spec.proofs.Ranges.{leads_in_range, means_in_range}
+use Rattle.jpg_spec.proofs.EndsEarly.EarlyRanges.{early_in_range}
+use Rattle.jpg_spec.proofs.Files.Ranges.{leads_in_range, means_in_range}
 use Rattle.jpg_spec.proofs.file_meaning_laws.coefficients_lie_in_their_range.Goals as goal
 
 pub returns-clause-items : goal.returns-clause-items

@@ -1,4 +1,4 @@
-use Rattle.jpg_spec.proofs.FaultsOnce.{data_show_once}
+use Rattle.jpg_spec.proofs.Bits.FaultsOnce.{data_show_once}
 use Rattle.jpg_spec.proofs.file_meaning_laws.data_show_one_fault.Goals as goal
 
 pub returns : goal.returns

@@ -1,6 +1,6 @@
 use Rattle.std.proofs.Common.{List, ℕ, ◌++◌, length, sym, subst}
 use Rattle.jpg_spec.specs.FirstFault.{Reveals, IsFirstFault}
-use Rattle.jpg_spec.proofs.FileLaws.{next_shown}
+use Rattle.jpg_spec.proofs.Files.FileLaws.{next_shown}
 use Rattle.jpg_spec.proofs.file_meaning_laws.faults_after_standing_bytes_are_first.Goals as goal
 
 pub returns : goal.returns

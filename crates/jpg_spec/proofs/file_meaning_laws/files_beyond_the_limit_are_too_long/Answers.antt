@@ -1,4 +1,4 @@
-use Rattle.jpg_spec.proofs.FileLaws.{stands_too_long}
+use Rattle.jpg_spec.proofs.Files.FileLaws.{stands_too_long}
 use Rattle.jpg_spec.proofs.file_meaning_laws.files_beyond_the_limit_are_too_long.Goals as goal
 
 pub returns : goal.returns

@@ -1,5 +1,5 @@
 use Rattle.std.proofs.Common.{◌++◌, refl}
-use Rattle.jpg_spec.proofs.FileLaws.{shown_not_standing, whole_file_not_standing, shown_not_whole, whole_file_not_shown}
+use Rattle.jpg_spec.proofs.Files.FileLaws.{shown_not_standing, whole_file_not_standing, shown_not_whole, whole_file_not_shown}
 use Rattle.jpg_spec.proofs.file_meaning_laws.files_come_to_one_thing.Goals as goal
 
 pub returns-clause-shown_or_standing : goal.returns-clause-shown_or_standing

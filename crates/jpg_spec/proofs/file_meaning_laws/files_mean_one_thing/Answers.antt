@@ -1,5 +1,5 @@
 use Rattle.std.proofs.Common.{◌++◌, refl}
-use Rattle.jpg_spec.proofs.FileLaws.{means_once, means_more, whole_last}
+use Rattle.jpg_spec.proofs.Files.FileLaws.{means_once, means_more, whole_last}
 use Rattle.jpg_spec.proofs.file_meaning_laws.files_mean_one_thing.Goals as goal
 
 pub returns-clause-one : goal.returns-clause-one

@@ -1,4 +1,4 @@
-use Rattle.jpg_spec.proofs.FileLaws.{shown_once}
+use Rattle.jpg_spec.proofs.Files.FileLaws.{shown_once}
 use Rattle.jpg_spec.proofs.file_meaning_laws.files_show_one_fault.Goals as goal
 
 pub returns : goal.returns

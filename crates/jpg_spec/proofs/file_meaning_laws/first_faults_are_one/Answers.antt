@@ -1,4 +1,4 @@
-use Rattle.jpg_spec.proofs.FileLaws.{means_no_fault, early_no_fault, first_fault_once}
+use Rattle.jpg_spec.proofs.Files.FileLaws.{means_no_fault, early_no_fault, first_fault_once}
 use Rattle.jpg_spec.proofs.file_meaning_laws.first_faults_are_one.Goals as goal
 
 pub returns-clause-never_both : goal.returns-clause-never_both

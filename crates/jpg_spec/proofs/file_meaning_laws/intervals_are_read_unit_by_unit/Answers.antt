@@ -1,7 +1,7 @@
 use Rattle.std.proofs.Common.{List, ℤ, ◌++◌, ◌∷◌, [], sym, subst}
 use Rattle.jpg_spec.specs.PictureInWork.{UnitsRead}
 use Rattle.jpg_spec.specs.declared.frame.Place.{Place}
-use Rattle.jpg_spec.proofs.UnitsRead.{units_first, units_next, units_last}
+use Rattle.jpg_spec.proofs.Bits.UnitsRead.{units_first, units_next, units_last}
 use Rattle.jpg_spec.proofs.file_meaning_laws.intervals_are_read_unit_by_unit.Goals as goal
 
 pub returns-clause-first : goal.returns-clause-first

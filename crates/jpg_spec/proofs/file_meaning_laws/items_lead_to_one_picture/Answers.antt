@@ -1,4 +1,4 @@
-use Rattle.jpg_spec.proofs.BlocksOnce.{blocks_once}
+use Rattle.jpg_spec.proofs.Files.BlocksOnce.{blocks_once}
 use Rattle.jpg_spec.proofs.file_meaning_laws.items_lead_to_one_picture.Goals as goal
 
 pub returns : goal.returns

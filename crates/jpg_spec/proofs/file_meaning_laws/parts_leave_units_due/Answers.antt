@@ -1,4 +1,4 @@
-use Rattle.jpg_spec.proofs.PartStands.{part_not_held, part_shows_none}
+use Rattle.jpg_spec.proofs.Bits.PartStands.{part_not_held, part_shows_none}
 use Rattle.jpg_spec.proofs.file_meaning_laws.parts_leave_units_due.Goals as goal
 
 pub returns-clause-held : goal.returns-clause-held

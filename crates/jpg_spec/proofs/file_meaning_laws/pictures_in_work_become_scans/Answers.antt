@@ -1,6 +1,6 @@
 use Rattle.std.proofs.Common.{List, ℕ, sym, subst}
 use Rattle.jpg_spec.specs.PictureInWork.{ScanSoFar}
-use Rattle.jpg_spec.proofs.PictureInWork.{so_far_first, so_far_next, so_far_last}
+use Rattle.jpg_spec.proofs.Places.PictureInWork.{so_far_first, so_far_next, so_far_last}
 use Rattle.jpg_spec.proofs.file_meaning_laws.pictures_in_work_become_scans.Goals as goal
 
 pub returns-clause-first : goal.returns-clause-first

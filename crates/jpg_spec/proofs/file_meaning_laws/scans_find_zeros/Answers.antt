@@ -1,4 +1,4 @@
-use Rattle.jpg_spec.proofs.FirstPasses.{sequential_unit, first_band}
+use Rattle.jpg_spec.proofs.Bits.FirstPasses.{sequential_unit, first_band}
 use Rattle.jpg_spec.proofs.file_meaning_laws.scans_find_zeros.Goals as goal
 
 pub returns-clause-sequential : goal.returns-clause-sequential

@@ -1,4 +1,4 @@
-use Rattle.jpg_spec.proofs.PlacesSome.{head_units_some}
+use Rattle.jpg_spec.proofs.Places.PlacesSome.{head_units_some}
 use Rattle.jpg_spec.proofs.file_meaning_laws.scans_have_places.Goals as goal
 
 pub returns : goal.returns

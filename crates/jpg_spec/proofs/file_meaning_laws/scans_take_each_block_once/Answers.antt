@@ -1,4 +1,4 @@
-use Rattle.jpg_spec.proofs.PlacesDistinct.{units_distinct}
+use Rattle.jpg_spec.proofs.Places.PlacesDistinct.{units_distinct}
 use Rattle.jpg_spec.proofs.file_meaning_laws.scans_take_each_block_once.Goals as goal
 
 pub returns : goal.returns

@@ -1,4 +1,4 @@
-use Rattle.jpg_spec.proofs.FileLaws.{stands_early, stands_truncated}
+use Rattle.jpg_spec.proofs.Files.FileLaws.{stands_early, stands_truncated}
 use Rattle.jpg_spec.proofs.file_meaning_laws.standing_files_are_truncated.Goals as goal
 
 pub returns-clause-truncated : goal.returns-clause-truncated

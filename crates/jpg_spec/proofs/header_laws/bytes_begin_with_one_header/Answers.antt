@@ -1,5 +1,5 @@
 use Rattle.std.proofs.Common.{sym, ◌∙◌}
-use Rattle.jpg_spec.proofs.OneHeader.{whole_once}
+use Rattle.jpg_spec.proofs.Headers.OneHeader.{whole_once}
 use Rattle.jpg_spec.proofs.header_laws.bytes_begin_with_one_header.Goals as goal
 
 pub returns : goal.returns

@@ -1,4 +1,4 @@
-use Rattle.jpg_spec.proofs.HeaderFirst.{header_first}
+use Rattle.jpg_spec.proofs.Headers.HeaderFirst.{header_first}
 use Rattle.jpg_spec.proofs.header_laws.header_faults_are_first_faults.Goals as goal
 
 pub returns : goal.returns

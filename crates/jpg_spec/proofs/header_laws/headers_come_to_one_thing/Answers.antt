@@ -1,7 +1,7 @@
 use Rattle.std.proofs.Common.{take, drop, sym, subst, ◌∙◌}
 use Rattle.std.proofs.lemmas.List.{take-append-drop}
 use Rattle.jpg_spec.specs.Header.{UnfinishedHeader}
-use Rattle.jpg_spec.proofs.OneHeader.{shown_not_standing, shown_not_whole, whole_not_standing}
+use Rattle.jpg_spec.proofs.Headers.OneHeader.{shown_not_standing, shown_not_whole, whole_not_standing}
 use Rattle.jpg_spec.proofs.header_laws.headers_come_to_one_thing.Goals as goal
 
 pub returns-clause-shown_or_standing : goal.returns-clause-shown_or_standing

@@ -1,6 +1,6 @@
 use Rattle.std.proofs.Common.{length, take, drop, sym, ap, ◌∙◌}
 use Rattle.std.proofs.lemmas.List.{take-append-drop, length-take-le}
-use Rattle.jpg_spec.proofs.OneHeader.{shown_once}
+use Rattle.jpg_spec.proofs.Headers.OneHeader.{shown_once}
 use Rattle.jpg_spec.proofs.header_laws.headers_show_one_fault.Goals as goal
 
 pub returns : goal.returns

@@ -1,4 +1,4 @@
-use Rattle.jpg_spec.proofs.HeaderFirst.{standing_truncated}
+use Rattle.jpg_spec.proofs.Headers.HeaderFirst.{standing_truncated}
 use Rattle.jpg_spec.proofs.header_laws.unfinished_headers_are_truncated.Goals as goal
 
 pub returns : goal.returns

@@ -1,4 +1,4 @@
-use Rattle.jpg_spec.proofs.Sound.{packed_once}
+use Rattle.jpg_spec.proofs.Bits.Sound.{packed_once}
 use Rattle.jpg_spec.proofs.laws.bytes_hold_one_interval.Goals as goal
 
 pub returns : goal.returns

@@ -1,4 +1,4 @@
-use Rattle.jpg_spec.proofs.Sound.{sound}
+use Rattle.jpg_spec.proofs.Bits.Sound.{sound}
 use Rattle.jpg_spec.proofs.laws.codings_are_sound.Goals as goal
 
 pub returns : goal.returns

@@ -1,5 +1,5 @@
 use Rattle.std.proofs.Common.{sym, ◌∙◌}
-use Rattle.jpg_spec.proofs.Sound.{fault_excludes}
+use Rattle.jpg_spec.proofs.Bits.Sound.{fault_excludes}
 use Rattle.jpg_spec.proofs.laws.faults_exclude_intervals.Goals as goal
 
 pub returns : goal.returns

@@ -1,5 +1,5 @@
 use Rattle.std.proofs.Common.{sym, ◌∙◌}
-use Rattle.jpg_spec.proofs.Sound.{spelled_once}
+use Rattle.jpg_spec.proofs.Bits.Sound.{spelled_once}
 use Rattle.jpg_spec.proofs.laws.intervals_are_spelled_once.Goals as goal
 
 pub returns : goal.returns

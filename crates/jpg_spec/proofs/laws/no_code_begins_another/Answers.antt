@@ -1,5 +1,5 @@
 use Rattle.std.proofs.Common.{sym, ◌∙◌}
-use Rattle.jpg_spec.proofs.Sound.{one_table}
+use Rattle.jpg_spec.proofs.Bits.Sound.{one_table}
 use Rattle.jpg_spec.proofs.laws.no_code_begins_another.Goals as goal
 
 pub returns : goal.returns

@@ -1,4 +1,4 @@
-use Rattle.jpg_spec.proofs.Sound.{tested_codes}
+use Rattle.jpg_spec.proofs.Bits.Sound.{tested_codes}
 use Rattle.jpg_spec.proofs.laws.tested_counts_give_codes.Goals as goal
 
 pub returns : goal.returns

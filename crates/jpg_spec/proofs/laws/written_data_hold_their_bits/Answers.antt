@@ -1,5 +1,5 @@
 use Rattle.jpg_spec.specs.Bits.{whole_bytes, padded}
-use Rattle.jpg_spec.proofs.Packing.{packs, data_spelled}
+use Rattle.jpg_spec.proofs.Bits.Packing.{packs, data_spelled}
 use Rattle.jpg_spec.proofs.laws.written_data_hold_their_bits.Goals as goal
 
 pub returns-clause-packs : goal.returns-clause-packs

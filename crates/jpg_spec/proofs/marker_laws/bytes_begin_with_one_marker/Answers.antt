@@ -1,5 +1,5 @@
 use Rattle.std.proofs.Common.{sym, ◌∙◌}
-use Rattle.jpg_spec.proofs.MarkersOnce.{marker_once}
+use Rattle.jpg_spec.proofs.Segments.MarkersOnce.{marker_once}
 use Rattle.jpg_spec.proofs.marker_laws.bytes_begin_with_one_marker.Goals as goal
 
 pub returns : goal.returns

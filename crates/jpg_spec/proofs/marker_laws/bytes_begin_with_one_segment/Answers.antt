@@ -1,5 +1,5 @@
 use Rattle.std.proofs.Common.{sym, ◌∙◌}
-use Rattle.jpg_spec.proofs.MarkersOnce.{segment_once}
+use Rattle.jpg_spec.proofs.Segments.MarkersOnce.{segment_once}
 use Rattle.jpg_spec.proofs.marker_laws.bytes_begin_with_one_segment.Goals as goal
 
 pub returns : goal.returns

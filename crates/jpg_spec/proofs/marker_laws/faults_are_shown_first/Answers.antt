@@ -1,4 +1,4 @@
-use Rattle.jpg_spec.proofs.Reached.{shown_first}
+use Rattle.jpg_spec.proofs.Segments.Reached.{shown_first}
 use Rattle.jpg_spec.proofs.marker_laws.faults_are_shown_first.Goals as goal
 
 pub returns : goal.returns

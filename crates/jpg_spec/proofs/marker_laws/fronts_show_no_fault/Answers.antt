@@ -1,4 +1,4 @@
-use Rattle.jpg_spec.proofs.Reached.{fronts_clean}
+use Rattle.jpg_spec.proofs.Segments.Reached.{fronts_clean}
 use Rattle.jpg_spec.proofs.marker_laws.fronts_show_no_fault.Goals as goal
 
 pub returns : goal.returns

@@ -1,4 +1,4 @@
-use Rattle.jpg_spec.proofs.Reached.{ended_first}
+use Rattle.jpg_spec.proofs.Segments.Reached.{ended_first}
 use Rattle.jpg_spec.proofs.marker_laws.nothing_is_after_eoi.Goals as goal
 
 pub returns : goal.returns

@@ -1,4 +1,4 @@
-use Rattle.jpg_spec.proofs.Reached.{reached_once}
+use Rattle.jpg_spec.proofs.Segments.Reached.{reached_once}
 use Rattle.jpg_spec.proofs.marker_laws.segments_reach_one_thing.Goals as goal
 
 pub returns : goal.returns

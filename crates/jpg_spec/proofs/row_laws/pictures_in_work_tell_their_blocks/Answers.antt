@@ -1,4 +1,4 @@
-use Rattle.jpg_spec.proofs.RowsRead.{interval_tells, units_tell}
+use Rattle.jpg_spec.proofs.McuRows.RowsRead.{interval_tells, units_tell}
 use Rattle.jpg_spec.proofs.row_laws.pictures_in_work_tell_their_blocks.Goals as goal
 
 pub returns-clause-units : goal.returns-clause-units

@@ -1,4 +1,4 @@
-use Rattle.jpg_spec.proofs.RowsReader.{reads_complete, reads_tell, whole_completes}
+use Rattle.jpg_spec.proofs.McuRows.RowsReader.{reads_complete, reads_tell, whole_completes}
 use Rattle.jpg_spec.proofs.row_laws.readers_complete_the_rows_they_read.Goals as goal
 
 pub returns-clause-told : goal.returns-clause-told

@@ -1,4 +1,4 @@
-use Rattle.jpg_spec.proofs.RowsOnce.{completed_once, told_few}
+use Rattle.jpg_spec.proofs.McuRows.RowsOnce.{completed_once, told_few}
 use Rattle.jpg_spec.proofs.row_laws.rows_are_completed_in_one_way.Goals as goal
 
 pub returns-clause-one : goal.returns-clause-one

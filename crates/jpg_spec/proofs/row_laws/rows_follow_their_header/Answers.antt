@@ -1,4 +1,4 @@
-use Rattle.jpg_spec.proofs.RowsHeader.{begun_once, rows_begin}
+use Rattle.jpg_spec.proofs.McuRows.RowsHeader.{begun_once, rows_begin}
 use Rattle.jpg_spec.proofs.row_laws.rows_follow_their_header.Goals as goal
 
 pub returns-clause-begins : goal.returns-clause-begins

@@ -1,4 +1,4 @@
-use Rattle.jpg_spec.proofs.RowsOnce.{first_told, rows_stay}
+use Rattle.jpg_spec.proofs.McuRows.RowsOnce.{first_told, rows_stay}
 use Rattle.jpg_spec.proofs.row_laws.told_rows_stay_told.Goals as goal
 
 pub returns-clause-more : goal.returns-clause-more

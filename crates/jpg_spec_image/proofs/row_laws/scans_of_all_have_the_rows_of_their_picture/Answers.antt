@@ -1,5 +1,5 @@
 use Rattle.jpg_spec_image.specs.RowLaws.{begun_rows as rows_of}
-use Rattle.jpg_spec.proofs.RowsHeader.{all_complete, rows_few}
+use Rattle.jpg_spec.proofs.McuRows.RowsHeader.{all_complete, rows_few}
 use Rattle.jpg_spec_image.proofs.RowsHeader.{begun_covered, begun_rows}
 use Rattle.jpg_spec_image.proofs.row_laws.scans_of_all_have_the_rows_of_their_picture.Goals as goal
 

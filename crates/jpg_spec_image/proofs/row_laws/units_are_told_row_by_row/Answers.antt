@@ -2,9 +2,9 @@ use Rattle.std.specs.Prelude.{◌++◌}
 use Rattle.jpg_spec.specs.Lists.{joined}
 use Rattle.jpg_spec.specs.FileMeaning.{scan_after}
 use Rattle.jpg_spec_image.specs.RowLaws.{begun_rows as rows_of}
-use Rattle.jpg_spec.proofs.RowCounts.{length_rows}
-use Rattle.jpg_spec.proofs.RowsBegin.{begin_rows, told_places}
-use Rattle.jpg_spec.proofs.RowsHeader.{begun_places}
+use Rattle.jpg_spec.proofs.McuRows.RowCounts.{length_rows}
+use Rattle.jpg_spec.proofs.McuRows.RowsBegin.{begin_rows, told_places}
+use Rattle.jpg_spec.proofs.McuRows.RowsHeader.{begun_places}
 use Rattle.jpg_spec_image.proofs.RowsHeader.{begun_rows}
 use Rattle.jpg_spec_image.proofs.row_laws.units_are_told_row_by_row.Goals as goal
 

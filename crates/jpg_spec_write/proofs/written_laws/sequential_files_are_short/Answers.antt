@@ -1,7 +1,7 @@
 use Rattle.std.proofs.Common.{arith, List, ℕ, ◌<◌, ◌^◌, length, sym, subst}
 use Rattle.jpg_spec.specs.Segments.{standard_limits}
 use Rattle.jpg_spec.specs.FileMeaning.{Means}
-use Rattle.jpg_spec.proofs.WrittenFront.{standard_are_limits}
+use Rattle.jpg_spec.proofs.Writing.WrittenFront.{standard_are_limits}
 use Rattle.jpg_spec_write.proofs.WrittenMeans.{sequential_means}
 use Rattle.jpg_spec_write.proofs.FileLength.{sequential_short, own_means}
 use Rattle.jpg_spec_write.proofs.written_laws.sequential_files_are_short.Goals as goal

@@ -2,7 +2,7 @@ use Rattle.std.proofs.Common.{List, ℕ, ◌≤◌, length, sym, subst}
 use Rattle.jpg_spec_write.specs.Script.{sequential_script}
 use Rattle.jpg_spec.specs.FileMeaning.{Means}
 use Rattle.jpg_spec_write.specs.FileText.{frame_of_meaning}
-use Rattle.jpg_spec.proofs.WrittenFront.{frame_is}
+use Rattle.jpg_spec.proofs.Writing.WrittenFront.{frame_is}
 use Rattle.jpg_spec_write.proofs.WrittenScripts.{sequential_passes}
 use Rattle.jpg_spec_write.proofs.WrittenMeans.{sequential_means}
 use Rattle.jpg_spec_write.proofs.written_laws.sequential_files_mean_their_picture.Goals as goal

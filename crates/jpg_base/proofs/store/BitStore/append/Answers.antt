@@ -1,6 +1,6 @@
 use Rattle.std.proofs.Common.{◌≡◌, ◌++◌, List, Bool, length, sym, ap, ◌∙◌, arith}
 use Rattle.jpg_spec.specs.Bits.{bits_of}
-use Rattle.jpg_spec.proofs.Strings.{length-bits_of}
+use Rattle.jpg_spec.proofs.Basics.Strings.{length-bits_of}
 use Rattle.jpg_base.proofs.BitsAt.{appended}
 use Rattle.jpg_base.proofs.store.BitStore.append.Goals as goal
 

@@ -1,5 +1,5 @@
 use Rattle.std.proofs.Common.{length, sym, ap, ◌∙◌}
-use Rattle.jpg_spec.proofs.Strings.{length-bits_of}
+use Rattle.jpg_spec.proofs.Basics.Strings.{length-bits_of}
 use Rattle.jpg_base.proofs.store.BitStore.len.Goals as goal
 
 pub returns-clause-value : goal.returns-clause-value

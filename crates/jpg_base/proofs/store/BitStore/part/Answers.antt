@@ -1,6 +1,6 @@
 use Rattle.std.proofs.Common.{◌≡◌, ◌-◌, ◌*◌, ◌/◌, ◌%◌, ◌^◌, List, Bool, ℕ, length, take, drop, sym, ap, ◌∙◌, arith}
 use Rattle.jpg_spec.specs.Bits.{bits_of}
-use Rattle.jpg_spec.proofs.Strings.{length-bits_of}
+use Rattle.jpg_spec.proofs.Basics.Strings.{length-bits_of}
 use Rattle.std.proofs.lemmas.Nat.{shl_whole}
 use Rattle.std.proofs.Math.Nat.{one-mul}
 use Rattle.jpg_base.proofs.BitsAt.{middle}

@@ -1,4 +1,4 @@
-use Rattle.jpg_cli.proofs.Input.{took}
+use Rattle.jpg_cli.proofs.Outcomes.Input.{took}
 use Rattle.jpg_cli.proofs.desk.file.take_file.Goals as goal
 
 pub returns-in-All-clause-after : goal.returns-in-All-clause-after

@@ -1,8 +1,8 @@
 use Rattle.std.proofs.Common.{ap, ◌∙◌}
 use Rattle.jpg_spec.specs.declared.frame.Limits.{Limits}
-use Rattle.jpg_cli.proofs.CommentsCopied.{within_most}
-use Rattle.jpg_cli.proofs.FrontTaken.{front_end, front_unread, piece_taken}
-use Rattle.jpg_cli.proofs.PictureTaken.{end_goes_on}
+use Rattle.jpg_cli.proofs.Comments.CommentsCopied.{within_most}
+use Rattle.jpg_cli.proofs.Pieces.FrontTaken.{front_end, front_unread, piece_taken}
+use Rattle.jpg_cli.proofs.Pieces.PictureTaken.{end_goes_on}
 use Rattle.jpg_cli.proofs.desk.front.next_piece.Goals as goal
 
 pub returns-in-Failed-clause-after : goal.returns-in-Failed-clause-after

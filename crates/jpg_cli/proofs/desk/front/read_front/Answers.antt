@@ -1,6 +1,6 @@
 use Rattle.jpg_spec.specs.declared.frame.Copying.TheVariants.{All}
 use Rattle.jpg_cli.specs.Desk.ReadFront.{front_judging}
-use Rattle.jpg_cli.proofs.PictureTaken.{meaning_read}
+use Rattle.jpg_cli.proofs.Pieces.PictureTaken.{meaning_read}
 use Rattle.jpg_cli.proofs.desk.front.read_front.Goals as goal
 
 pub returns-in-Done-clause-read : goal.returns-in-Done-clause-read

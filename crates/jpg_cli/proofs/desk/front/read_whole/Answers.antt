@@ -1,8 +1,8 @@
 use Rattle.std.proofs.Common.{rules, [], ◌++◌, ◌∙◌, refl, arith}
 use Rattle.std.proofs.lemmas.List.{length-append}
-use Rattle.jpg_cli.proofs.CommentsCopied.{none_read}
-use Rattle.jpg_cli.proofs.FrontBytes.{viewed_none}
-use Rattle.jpg_cli.proofs.PictureTaken.{reads_none, reads_then}
+use Rattle.jpg_cli.proofs.Comments.CommentsCopied.{none_read}
+use Rattle.jpg_cli.proofs.Pieces.FrontBytes.{viewed_none}
+use Rattle.jpg_cli.proofs.Pieces.PictureTaken.{reads_none, reads_then}
 use Rattle.jpg_cli.proofs.desk.front.read_whole.Goals as goal
 
 pub loop-at-init : goal.loop-at-init

@@ -1,6 +1,6 @@
 use Rattle.std.proofs.Common.{ℕ, ◌∙◌, Ok, subst}
 use Rattle.jpg_cli.specs.Desk.ReadFront.{EndsFront}
-use Rattle.jpg_cli.proofs.FrontTaken.{front_taken}
+use Rattle.jpg_cli.proofs.Pieces.FrontTaken.{front_taken}
 use Rattle.jpg_cli.proofs.desk.front.take_front.Goals as goal
 
 pub returns-in-Ok-clause-read : goal.returns-in-Ok-clause-read

@@ -4,9 +4,9 @@ use Rattle.jpg_spec.specs.declared.frame.Limits.{Limits}
 use Rattle.jpg_spec.specs.declared.fault.Fault.TheVariants.{InputTooLong}
 use Rattle.jpg_spec_words.specs.declared.answers.Why.TheVariants as why
 use Rattle.jpg_cli.specs.Desk.ImageLoop.{EndsEarly}
-use Rattle.jpg_cli.proofs.CommentsCopied.{within_most}
-use Rattle.jpg_cli.proofs.ImageFed.{fed_open, fed_taken}
-use Rattle.jpg_cli.proofs.ImageTaken.{goes_on_end, image_end, image_too_long, image_unread, piece_taken}
+use Rattle.jpg_cli.proofs.Comments.CommentsCopied.{within_most}
+use Rattle.jpg_cli.proofs.Encoding.ImageFed.{fed_open, fed_taken}
+use Rattle.jpg_cli.proofs.Encoding.ImageTaken.{goes_on_end, image_end, image_too_long, image_unread, piece_taken}
 use Rattle.jpg_cli.proofs.desk.image.next_piece.Goals as goal
 
 pub returns-then-room-eq0-clause-after : goal.returns-then-room-eq0-clause-after

@@ -2,7 +2,7 @@ use Rattle.std.proofs.Common.{false, sym, subst}
 use Rattle.jpg_cli.specs.Desk.ImageSource.{AfterImageEnd}
 use Rattle.jpg_cli.specs.declared.desk.image_source.ImageSource.TheVariants as source
 use Rattle.jpg_cli.specs.declared.desk.image_source.ImageStep.{ImageStep}
-use Rattle.jpg_cli.proofs.ImageAnswers.{pixels_stopped, pixels_whole, stopped_done}
+use Rattle.jpg_cli.proofs.Encoding.ImageAnswers.{pixels_stopped, pixels_whole, stopped_done}
 use Rattle.jpg_cli.proofs.desk.image_source.end_pixels.Goals as goal
 
 pub returns-in-Ok-clause-ended : goal.returns-in-Ok-clause-ended

@@ -2,7 +2,7 @@ use Rattle.std.proofs.Common.{true, sym, subst}
 use Rattle.jpg_cli.specs.Desk.ImageSource.{AfterImageEnd}
 use Rattle.jpg_cli.specs.declared.desk.image_source.ImageSource.TheVariants as source
 use Rattle.jpg_cli.specs.declared.desk.image_source.ImageStep.{ImageStep}
-use Rattle.jpg_cli.proofs.ImageAnswers.{stopped_done, targa_stopped}
+use Rattle.jpg_cli.proofs.Encoding.ImageAnswers.{stopped_done, targa_stopped}
 use Rattle.jpg_cli.proofs.desk.image_source.end_targa.Goals as goal
 
 pub returns-clause-ended : goal.returns-clause-ended

@@ -2,8 +2,8 @@ use Rattle.std.proofs.Common.{rules, ◌++◌, true, sym, subst}
 use Rattle.jpg_cli.specs.Desk.ImageSource.{AfterTakingImagePiece}
 use Rattle.jpg_cli.specs.declared.desk.image_source.ImageSource.TheVariants as source
 use Rattle.jpg_cli.specs.declared.desk.image_source.ImageStep.{ImageStep}
-use Rattle.jpg_cli.proofs.ImageAnswers.{targa_done, targa_fed}
-use Rattle.jpg_cli.proofs.PictureBytes.{more_small}
+use Rattle.jpg_cli.proofs.Encoding.ImageAnswers.{targa_done, targa_fed}
+use Rattle.jpg_cli.proofs.Pieces.PictureBytes.{more_small}
 use Rattle.jpg_cli.proofs.desk.image_source.feed_targa.Goals as goal
 
 pub returns-clause-taken : goal.returns-clause-taken

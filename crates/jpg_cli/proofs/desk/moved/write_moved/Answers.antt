@@ -4,40 +4,40 @@ use Rattle.jpg_spec_move.specs.declared.area.Area.{Area}
 use Rattle.jpg_file.specs.Read.PictureRead.{picture_meaning}
 use Rattle.jpg_cli.specs.Desk.Writing.{AfterOutput, WritesMoved, in_area}
 use Rattle.jpg_cli.specs.declared.desk.moved.Wrote.TheVariants as wrote
-use Rattle.jpg_transform.specs.Planned.{choice_told}
+use Rattle.jpg_transform.specs.Planned.{choice_view}
 use Rattle.jpg_crop.specs.CropPlanned.{IsArea, IsCutFrom, with_area}
-use Rattle.jpg_cli.proofs.MovedWritten.{fault_in, faulty, written}
+use Rattle.jpg_cli.proofs.Encoding.MovedWritten.{fault_in, faulty, written}
 use Rattle.jpg_cli.proofs.desk.moved.write_moved.Goals as goal
 
 pub write_view-requires : goal.write_view-requires
-write_view-requires g c = (c.in-Some-turned_copy.ensures (choice_told c.args.choice.now) c.in-Ok.ensures).can
+write_view-requires g c = (c.in-Some-turned_copy.ensures (choice_view c.args.choice.now) c.in-Ok.ensures).can
 
 pub write_view-requires-in-None-turned_copy : goal.write_view-requires-in-None-turned_copy
-write_view-requires-in-None-turned_copy g c = (c.new-moved.ensures.writes (choice_told c.args.choice.now) c.in-Ok.ensures).can
+write_view-requires-in-None-turned_copy g c = (c.new-moved.ensures.writes (choice_view c.args.choice.now) c.in-Ok.ensures).can
 
 pub crop_plan-requires-clause-area : goal.crop_plan-requires-clause-area
 crop_plan-requires-clause-area g c = subst (λ (o : Option Area). IfSome o IsArea) c.in-Some.is c.requires
 
 pub new-cropped-requires : goal.new-cropped-requires
 new-cropped-requires g c =
-    (c.in-Some.area, subst (λ (f : Frame). IsCutFrom c.in-Some.area f c.in-Ok-crop_plan.crop) (sym c.new-moved.ensures.frame) (c.in-Ok-crop_plan.ensures.plan (choice_told c.args.choice.now) c.in-Ok.ensures).cut)
+    (c.in-Some.area, subst (λ (f : Frame). IsCutFrom c.in-Some.area f c.in-Ok-crop_plan.crop) (sym c.new-moved.ensures.frame) (c.in-Ok-crop_plan.ensures.plan (choice_view c.args.choice.now) c.in-Ok.ensures).cut)
 
 pub write_view-requires-in-Ok-crop_plan : goal.write_view-requires-in-Ok-crop_plan
 write_view-requires-in-Ok-crop_plan g c =
-    let choice = choice_told c.args.choice.now in
+    let choice = choice_view c.args.choice.now in
     (c.new-cropped.ensures.writes c.args.picture.now choice c.in-Some.area
     (record { base = c.in-Ok.job; job = c.in-Ok.ensures; cropped = c.in-Ok-crop_plan.ensures.plan choice c.in-Ok.ensures; frame = c.new-moved.ensures.frame; shows = c.new-moved.ensures.shows })).can
 
 pub returns-in-Err-clause-wrote : goal.returns-in-Err-clause-wrote
 returns-in-Err-clause-wrote g c =
-    let choice = choice_told c.args.choice.now in
+    let choice = choice_view c.args.choice.now in
     faulty (in_area c.args.area.now choice) c.args.picture.now c.args.output.now (g.D.Desk.state c.args.desk.now) c.in-Err.fault
     (fault_in c.args.area.now choice (picture_meaning c.args.picture.now) c.in-Err.fault refl c.in-Err.ensures)
 
 -- the file of the moved picture, from a copy of its blocks or from the view of them
 pub returns-in-Some-turned_copy-clause-wrote : goal.returns-in-Some-turned_copy-clause-wrote
 returns-in-Some-turned_copy-clause-wrote g c =
-    let choice = choice_told c.args.choice.now in
+    let choice = choice_view c.args.choice.now in
     let old = g.D.Desk.state c.args.desk.now in
     let new = g.D.Desk.state c.write_view.new.desk in
     let w = c.write_view.result in
@@ -48,7 +48,7 @@ returns-in-Some-turned_copy-clause-wrote g c =
 
 pub returns-in-None-turned_copy-clause-wrote : goal.returns-in-None-turned_copy-clause-wrote
 returns-in-None-turned_copy-clause-wrote g c =
-    let choice = choice_told c.args.choice.now in
+    let choice = choice_view c.args.choice.now in
     let old = g.D.Desk.state c.args.desk.now in
     let new = g.D.Desk.state c.write_view-in-None-turned_copy.new.desk in
     let w = c.write_view-in-None-turned_copy.result in
@@ -59,7 +59,7 @@ returns-in-None-turned_copy-clause-wrote g c =
 
 pub returns-in-Err-crop_plan-clause-wrote : goal.returns-in-Err-crop_plan-clause-wrote
 returns-in-Err-crop_plan-clause-wrote g c =
-    let choice = choice_told c.args.choice.now in
+    let choice = choice_view c.args.choice.now in
     let old = g.D.Desk.state c.args.desk.now in
     let w = wrote.Picture c.in-Err-crop_plan.fault in
     subst (λ (o : Option Area). WritesMoved (in_area o choice) c.args.picture.now c.args.output.now old w old) (sym c.in-Some.is)
@@ -67,7 +67,7 @@ returns-in-Err-crop_plan-clause-wrote g c =
 
 pub returns-in-Ok-crop_plan-clause-wrote : goal.returns-in-Ok-crop_plan-clause-wrote
 returns-in-Ok-crop_plan-clause-wrote g c =
-    let choice = choice_told c.args.choice.now in
+    let choice = choice_view c.args.choice.now in
     let p = c.args.picture.now in
     let old = g.D.Desk.state c.args.desk.now in
     let new = g.D.Desk.state c.write_view-in-Ok-crop_plan.new.desk in

@@ -1,4 +1,4 @@
-use Rattle.jpg_cli.proofs.Output.{output_done, output_failed}
+use Rattle.jpg_cli.proofs.Outcomes.Output.{output_done, output_failed}
 use Rattle.jpg_cli.proofs.desk.moved.write_view.Goals as goal
 
 pub returns-in-Ok-clause-output : goal.returns-in-Ok-clause-output

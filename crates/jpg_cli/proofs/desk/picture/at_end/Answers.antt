@@ -2,7 +2,7 @@ use Rattle.std.proofs.Common.{◌∙◌, subst}
 use Rattle.jpg_spec.specs.declared.frame.Limits.{Limits}
 use Rattle.jpg_base.specs.declared.stop.Stop.{Stop}
 use Rattle.jpg_file.specs.Read.ReadFile.{StopsAt}
-use Rattle.jpg_cli.proofs.PictureBytes.{early_end, refused_end}
+use Rattle.jpg_cli.proofs.Pieces.PictureBytes.{early_end, refused_end}
 use Rattle.jpg_cli.proofs.desk.picture.at_end.Goals as goal
 
 pub returns-in-Early-clause-ended : goal.returns-in-Early-clause-ended

@@ -1,7 +1,7 @@
 use Rattle.std.proofs.Common.{ap, ◌∙◌}
 use Rattle.jpg_spec.specs.declared.frame.Limits.{Limits}
-use Rattle.jpg_cli.proofs.CommentsCopied.{within_most}
-use Rattle.jpg_cli.proofs.PictureTaken.{end_goes_on, picture_end, piece_taken, piece_unread}
+use Rattle.jpg_cli.proofs.Comments.CommentsCopied.{within_most}
+use Rattle.jpg_cli.proofs.Pieces.PictureTaken.{end_goes_on, picture_end, piece_taken, piece_unread}
 use Rattle.jpg_cli.proofs.desk.picture.next_piece.Goals as goal
 
 pub returns-in-Failed-clause-after : goal.returns-in-Failed-clause-after

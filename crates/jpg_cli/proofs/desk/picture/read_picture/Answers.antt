@@ -1,5 +1,5 @@
 use Rattle.jpg_cli.specs.Desk.ReadPicture.{picture_judging}
-use Rattle.jpg_cli.proofs.PictureTaken.{meaning_read}
+use Rattle.jpg_cli.proofs.Pieces.PictureTaken.{meaning_read}
 use Rattle.jpg_cli.proofs.desk.picture.read_picture.Goals as goal
 
 pub returns-in-Done-clause-read : goal.returns-in-Done-clause-read

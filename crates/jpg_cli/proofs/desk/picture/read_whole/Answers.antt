@@ -1,7 +1,7 @@
 use Rattle.std.proofs.Common.{rules, [], ◌++◌, ◌∙◌, refl}
-use Rattle.jpg_cli.proofs.CommentsCopied.{none_read}
-use Rattle.jpg_cli.proofs.PictureBytes.{fed_none}
-use Rattle.jpg_cli.proofs.PictureTaken.{reads_none, reads_then}
+use Rattle.jpg_cli.proofs.Comments.CommentsCopied.{none_read}
+use Rattle.jpg_cli.proofs.Pieces.PictureBytes.{fed_none}
+use Rattle.jpg_cli.proofs.Pieces.PictureTaken.{reads_none, reads_then}
 use Rattle.jpg_cli.proofs.desk.picture.read_whole.Goals as goal
 
 pub loop-at-init : goal.loop-at-init

@@ -1,5 +1,5 @@
 use Rattle.std.proofs.Common.{◌∙◌}
-use Rattle.jpg_cli.proofs.PictureTaken.{picture_taken}
+use Rattle.jpg_cli.proofs.Pieces.PictureTaken.{picture_taken}
 use Rattle.jpg_cli.proofs.desk.picture.take_picture.Goals as goal
 
 pub returns-in-Ok-clause-read : goal.returns-in-Ok-clause-read

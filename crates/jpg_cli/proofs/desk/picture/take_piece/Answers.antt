@@ -3,7 +3,7 @@ use Rattle.jpg_base.specs.declared.stop.Fed.{Fed}
 use Rattle.jpg_base.specs.declared.stop.Stop.{Stop}
 use Rattle.jpg_file.specs.Read.ReadFile.{AfterFeed}
 use Rattle.jpg_cli.specs.Desk.ReadPicture.{AfterTakingPiece}
-use Rattle.jpg_cli.proofs.PictureBytes.{fault_or, more_or, more_small, short_piece, whole_or}
+use Rattle.jpg_cli.proofs.Pieces.PictureBytes.{fault_or, more_or, more_small, short_piece, whole_or}
 use Rattle.jpg_cli.proofs.desk.picture.take_piece.Goals as goal
 
 pub returns-in-Ok-More-clause-taken : goal.returns-in-Ok-More-clause-taken

@@ -1,9 +1,9 @@
 use Rattle.std.proofs.Common.{List, ℕ, subst, Ok, Err}
-use Rattle.jpg_spec.proofs.TextsTold.{tells_whole}
+use Rattle.jpg_spec.proofs.Texts.TextsParsed.{tells_whole}
 use Rattle.jpg_spec.specs.Segments.{QuantTable}
 use Rattle.jpg_spec_image.specs.TableText.{TellsTables, tables_form}
 use Rattle.jpg_cli.specs.Desk.TablesTaken.{tables_kind}
-use Rattle.jpg_cli.proofs.TextTaken.{text_refused, text_unread, told_in}
+use Rattle.jpg_cli.proofs.Pieces.TextTaken.{text_refused, text_unread, told_in}
 use Rattle.jpg_cli.proofs.desk.tables.take_told.Goals as goal
 
 pub returns-in-Err-clause-after : goal.returns-in-Err-clause-after

@@ -1,22 +1,22 @@
 use Rattle.std.proofs.Common.{refl}
-use Rattle.jpg_transform.specs.Planned.{scans_told}
+use Rattle.jpg_transform.specs.Planned.{scans_view}
 use Rattle.jpg_cli.specs.Words.EncodeWords.{encoding_by, lent_tables}
-use Rattle.jpg_cli.proofs.ImageEncoded.{encoded_after, encoded_unread, told_names}
+use Rattle.jpg_cli.proofs.Encoding.ImageEncoded.{encoded_after, encoded_unread, names_view}
 use Rattle.jpg_cli.proofs.tools.cjpeg.encode_by.Goals as goal
 
 pub write_image-requires : goal.write_image-requires
 write_image-requires g c =
     let read = c.in-Ok.ensures.read.1 in
-    (encoding_by c.args.words.now (scans_told c.args.scans.now) c.args.tables read.0, read.0, record { scans_are = refl; huffman = refl; restart = refl }, read.2)
+    (encoding_by c.args.words.now (scans_view c.args.scans.now) c.args.tables read.0, read.0, record { scans_are = refl; huffman = refl; restart = refl }, read.2)
 
 pub returns-in-Ok-clause-encoded : goal.returns-in-Ok-clause-encoded
 returns-in-Ok-clause-encoded g c =
     let state = g.D.Desk.state in
     let w = c.args.words.now in
-    let scans = scans_told c.args.scans.now in
+    let scans = scans_view c.args.scans.now in
     let E = encoding_by w scans c.args.tables in
     let read = c.in-Ok.ensures.read.1 in
-    told_names w scans (lent_tables c.args.tables) (state c.args.desk.now) (state c.write_image.new.desk) c.write_image.result
+    names_view w scans (lent_tables c.args.tables) (state c.args.desk.now) (state c.write_image.new.desk) c.write_image.result
     (encoded_after w.files.input w.targa w.files.output E read.0 (state c.args.desk.now) (state c.read_encoded.new.desk) (state c.write_image.new.desk) c.write_image.result
     (record { kept = c.in-Ok.ensures.kept; asked = c.in-Ok.ensures.read.0; read = read.1; all = tt; left = c.write_image.ensures.left })
     (c.write_image.ensures.wrote (E read.0) read.0 (record { scans_are = refl; huffman = refl; restart = refl }) read.2))
@@ -25,6 +25,6 @@ pub returns-in-Err-clause-encoded : goal.returns-in-Err-clause-encoded
 returns-in-Err-clause-encoded g c =
     let state = g.D.Desk.state in
     let w = c.args.words.now in
-    let scans = scans_told c.args.scans.now in
-    told_names w scans (lent_tables c.args.tables) (state c.args.desk.now) (state c.read_encoded.new.desk) c.in-Err.why
+    let scans = scans_view c.args.scans.now in
+    names_view w scans (lent_tables c.args.tables) (state c.args.desk.now) (state c.read_encoded.new.desk) c.in-Err.why
     (encoded_unread w.files.input w.targa w.files.output (encoding_by w scans c.args.tables) (state c.args.desk.now) (state c.read_encoded.new.desk) c.in-Err.why c.in-Err.ensures.kept c.in-Err.ensures.read)

@@ -1,4 +1,4 @@
-use Rattle.jpg_cli.proofs.EncodedWritten.{can_write, view_faulty, view_written}
+use Rattle.jpg_cli.proofs.Encoding.EncodedWritten.{can_write, view_faulty, view_written}
 use Rattle.jpg_cli.proofs.tools.cjpeg.write_blocks.Goals as goal
 
 pub write_view-requires : goal.write_view-requires

@@ -1,7 +1,7 @@
 use Rattle.std.proofs.Common.{sym, subst}
 use Rattle.jpg_spec_words.specs.declared.answers.Why.{Why}
 use Rattle.jpg_cli.specs.Desk.ImageWritten.{AfterEncoding}
-use Rattle.jpg_cli.proofs.ImageEncoded.{picture_written}
+use Rattle.jpg_cli.proofs.Encoding.ImageEncoded.{picture_written}
 use Rattle.jpg_cli.proofs.tools.cjpeg.write_image.Goals as goal
 
 pub returns-in-Ok-clause-wrote : goal.returns-in-Ok-clause-wrote

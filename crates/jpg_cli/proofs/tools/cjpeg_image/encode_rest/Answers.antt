@@ -1,5 +1,5 @@
 use Rattle.std.proofs.Common.{false}
-use Rattle.jpg_cli.proofs.EncodedRead.{all_encoded, begun_given, begun_unheld, none_encoded}
+use Rattle.jpg_cli.proofs.Encoding.EncodedRead.{all_encoded, begun_given, begun_unheld, none_encoded}
 use Rattle.jpg_cli.proofs.tools.cjpeg_image.encode_rest.Goals as goal
 
 pub returns-in-Err-clause-ended : goal.returns-in-Err-clause-ended

@@ -1,7 +1,7 @@
 use Rattle.std.proofs.Common.{rules, ◌≡◌, ◌<◌, arith}
 use Rattle.jpg_color.specs.EncodeSampling.{samples_left}
-use Rattle.jpg_cli.proofs.PictureTaken.{reads_then}
-use Rattle.jpg_cli.proofs.SamplesFed.{given_all, given_yet}
+use Rattle.jpg_cli.proofs.Pieces.PictureTaken.{reads_then}
+use Rattle.jpg_cli.proofs.Encoding.SamplesFed.{given_all, given_yet}
 use Rattle.jpg_cli.proofs.tools.cjpeg_image.feed_rest.Goals as goal
 
 pub loop-sampler-preserved : goal.loop-sampler-preserved

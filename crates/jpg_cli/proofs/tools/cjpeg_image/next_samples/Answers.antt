@@ -7,8 +7,8 @@ use Rattle.jpg_spec_words.specs.declared.answers.Why.TheVariants as why
 use Rattle.jpg_cli.specs.Desk.Judging.{NoValueTaken}
 use Rattle.jpg_cli.specs.Desk.ReadImage.{image_judging}
 use Rattle.jpg_cli.specs.Desk.SamplesFed.{SoFarGiven}
-use Rattle.jpg_cli.proofs.CommentsCopied.{within_most}
-use Rattle.jpg_cli.proofs.SamplesFed.{only_reads, samples_given, samples_lost, samples_short, samples_too_long, samples_unread}
+use Rattle.jpg_cli.proofs.Comments.CommentsCopied.{within_most}
+use Rattle.jpg_cli.proofs.Encoding.SamplesFed.{only_reads, samples_given, samples_lost, samples_short, samples_too_long, samples_unread}
 use Rattle.jpg_cli.proofs.tools.cjpeg_image.next_samples.Goals as goal
 
 pub returns-then-room-eq0-clause-fed : goal.returns-then-room-eq0-clause-fed

@@ -1,13 +1,13 @@
 use Rattle.std.proofs.Common.{◌-◌, ◌^◌, ◌<◌, ◌++◌, Bool, arith, subst, sym}
 use Rattle.std.proofs.lemmas.List.{length-append}
-use Rattle.jpg_transform.specs.Planned.{scans_told}
+use Rattle.jpg_transform.specs.Planned.{scans_view}
 use Rattle.jpg_color.specs.Encode.{image_told}
 use Rattle.jpg_cli.specs.Desk.EncodedRead.{EndsEncoding}
 use Rattle.jpg_cli.specs.Desk.ImageSource.{source_taken}
 use Rattle.jpg_cli.specs.Words.EncodeWords.{encoding_by}
-use Rattle.jpg_cli.proofs.EncodedRead.{whole_encoded}
-use Rattle.jpg_cli.proofs.ImageFed.{fed_taken}
-use Rattle.jpg_cli.proofs.PictureTaken.{reads_then}
+use Rattle.jpg_cli.proofs.Encoding.EncodedRead.{whole_encoded}
+use Rattle.jpg_cli.proofs.Encoding.ImageFed.{fed_taken}
+use Rattle.jpg_cli.proofs.Pieces.PictureTaken.{reads_then}
 use Rattle.jpg_cli.proofs.tools.cjpeg_image.take_encoded.Goals as goal
 
 pub encode_rest-requires-clause-within : goal.encode_rest-requires-clause-within
@@ -39,7 +39,7 @@ returns-in-Whole-clause-read g c =
     let so = c.loop-reader.invariant in
     let w = c.args.words.now in
     let holds = c.in-Whole.ensures.after w.targa (state c.args.desk.now) so.read.0 so.read.1 so.read.3 so.kept so.read.2 in
-    whole_encoded w.targa (encoding_by w (scans_told c.args.scans.now) c.args.tables) (state c.args.desk.now) (state c.next_piece.new.desk) c.next_piece.new.reader (image_told c.take.result) c.encode_whole.result
+    whole_encoded w.targa (encoding_by w (scans_view c.args.scans.now) c.args.tables) (state c.args.desk.now) (state c.next_piece.new.desk) c.next_piece.new.reader (image_told c.take.result) c.encode_whole.result
     c.take.ensures holds c.encode_whole.ensures
 
 pub returns-in-Some-clause-read : goal.returns-in-Some-clause-read
@@ -47,7 +47,7 @@ returns-in-Some-clause-read g c =
     let state = g.D.Desk.state in
     let so = c.loop-reader.invariant in
     let w = c.args.words.now in
-    let E = encoding_by w (scans_told c.args.scans.now) c.args.tables in
+    let E = encoding_by w (scans_view c.args.scans.now) c.args.tables in
     let after = c.in-More.ensures.after w.targa (state c.args.desk.now) so.read.0 so.read.1 so.read.3 so.kept so.read.2 in
     let begins = c.in-Some.ensures.begins (so.read.0 ++ after.0) after.2 in
     subst (λ (targa : Bool). EndsEncoding targa E (state c.args.desk.now) c.encode_rest.result (state c.encode_rest.new.desk)) (sym begins.0)

@@ -3,7 +3,7 @@ use Rattle.jpg_base.specs.declared.stop.Stop.{Stop}
 use Rattle.jpg_base.specs.declared.stop.Stop.TheVariants as stop
 use Rattle.jpg_spec.specs.declared.frame.Limits.{Limits}
 use Rattle.jpg_file.specs.Read.ReadFile.{StopsAt}
-use Rattle.jpg_cli.proofs.FirstRead.{end_early, end_refused, read_all}
+use Rattle.jpg_cli.proofs.Pieces.FirstRead.{end_early, end_refused, read_all}
 use Rattle.jpg_cli.proofs.tools.djpeg.at_first_end.Goals as goal
 
 pub returns-in-Early-clause-ended : goal.returns-in-Early-clause-ended

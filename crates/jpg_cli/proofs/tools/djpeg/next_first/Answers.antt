@@ -1,5 +1,5 @@
-use Rattle.jpg_cli.proofs.CommentsCopied.{within_most}
-use Rattle.jpg_cli.proofs.FirstSteps.{first_ends, first_piece, first_unread, room_left}
+use Rattle.jpg_cli.proofs.Comments.CommentsCopied.{within_most}
+use Rattle.jpg_cli.proofs.Pieces.FirstSteps.{first_ends, first_piece, first_unread, room_left}
 use Rattle.jpg_cli.proofs.tools.djpeg.next_first.Goals as goal
 
 pub returns-in-Failed-clause-after : goal.returns-in-Failed-clause-after

@@ -2,7 +2,7 @@ use Rattle.std.proofs.Common.{subst, sym}
 use Rattle.jpg_spec_words.specs.declared.answers.Why.{Why}
 use Rattle.jpg_color.specs.DecodeRows.{picture_text}
 use Rattle.jpg_cli.specs.Tools.Showing.{AfterPicture}
-use Rattle.jpg_cli.proofs.ImageShown.{image_done, image_failed, image_wanting}
+use Rattle.jpg_cli.proofs.ByRow.ImageShown.{image_done, image_failed, image_wanting}
 use Rattle.jpg_cli.proofs.tools.djpeg.write_image.Goals as goal
 
 pub returns-in-Ok-clause-wrote : goal.returns-in-Ok-clause-wrote

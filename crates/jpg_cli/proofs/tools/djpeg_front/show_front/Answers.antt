@@ -1,15 +1,15 @@
 use Rattle.jpg_spec.specs.Meaning.{Meaning}
 use Rattle.jpg_cli.specs.Desk.Reading.{rest_of}
 use Rattle.jpg_cli.specs.Tools.FrontShown.{front_conversion}
-use Rattle.jpg_cli.specs.Tools.Showing.{showing_told}
-use Rattle.jpg_cli.proofs.FrontShown.{front_admitted, front_drawn}
-use Rattle.jpg_cli.proofs.Outcome.{drawn_unread}
+use Rattle.jpg_cli.specs.Tools.Showing.{showing_view}
+use Rattle.jpg_cli.proofs.Pieces.FrontShown.{front_admitted, front_drawn}
+use Rattle.jpg_cli.proofs.Outcomes.Outcome.{drawn_unread}
 use Rattle.jpg_cli.proofs.tools.djpeg_front.show_front.Goals as goal
 
 pub returns-in-Err-clause-shown : goal.returns-in-Err-clause-shown
 returns-in-Err-clause-shown g c =
     let state = g.D.Desk.state in
-    drawn_unread Meaning (front_conversion c.args.scans (showing_told c.args.words.now)) c.args.words.now.files.input (state c.args.desk.now) (state c.read_front.new.desk) c.in-Err.why c.in-Err.ensures.read
+    drawn_unread Meaning (front_conversion c.args.scans (showing_view c.args.words.now)) c.args.words.now.files.input (state c.args.desk.now) (state c.read_front.new.desk) c.in-Err.why c.in-Err.ensures.read
 
 pub write_image-requires-clause-admitted : goal.write_image-requires-clause-admitted
 write_image-requires-clause-admitted g c =
@@ -21,5 +21,5 @@ pub returns-in-Ok-clause-shown : goal.returns-in-Ok-clause-shown
 returns-in-Ok-clause-shown g c =
     let state = g.D.Desk.state in
     let told = c.in-Ok.ensures.read in
-    front_drawn c.args.scans (showing_told c.args.words.now) told.1.0 c.in-Ok.early (state c.args.desk.now) (state c.read_front.new.desk) (state c.write_image.new.desk)
+    front_drawn c.args.scans (showing_view c.args.words.now) told.1.0 c.in-Ok.early (state c.args.desk.now) (state c.read_front.new.desk) (state c.write_image.new.desk)
     (record { kept = c.in-Ok.ensures.kept; asked = told.0; read = told.1.2; all = told.2; left = c.write_image.ensures.left }) c.in-Ok.picture c.write_image.result told.1.1 c.write_image.ensures.wrote

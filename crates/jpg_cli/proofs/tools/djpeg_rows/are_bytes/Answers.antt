@@ -1,6 +1,6 @@
 use Rattle.std.proofs.Common.{rules, ◌<◌, []}
 use Rattle.std.proofs.lemmas.List.Elements.{All-nil}
-use Rattle.jpg_cli.proofs.PictureBytes.{more_small}
+use Rattle.jpg_cli.proofs.Pieces.PictureBytes.{more_small}
 use Rattle.jpg_cli.proofs.tools.djpeg_rows.are_bytes.Goals as goal
 
 pub returns : goal.returns

@@ -1,9 +1,9 @@
 use Rattle.std.proofs.Common.{◌+◌, sym, subst, ◌∙◌}
 use Rattle.jpg_spec_words.specs.declared.answers.Why.{Why}
-use Rattle.jpg_cli.specs.Tools.Showing.{Shown, showing_told}
-use Rattle.jpg_cli.proofs.CommentsCopied.{works_then}
-use Rattle.jpg_cli.proofs.RowsDesk.{writes_work}
-use Rattle.jpg_cli.proofs.RowsPushed.{at_row, begun_row, draws_still, less_rows, rest_of_piece, row_here, row_stopped, row_then, row_waits}
+use Rattle.jpg_cli.specs.Tools.Showing.{Shown, showing_view}
+use Rattle.jpg_cli.proofs.Comments.CommentsCopied.{works_then}
+use Rattle.jpg_cli.proofs.ByRow.RowsDesk.{writes_work}
+use Rattle.jpg_cli.proofs.ByRow.RowsPushed.{at_row, begun_row, draws_still, less_rows, rest_of_piece, row_here, row_stopped, row_then, row_waits}
 use Rattle.jpg_cli.proofs.tools.djpeg_rows.draw_piece.Goals as goal
 
 pub row_coefs-requires : goal.row_coefs-requires
@@ -23,7 +23,7 @@ push-requires-clause-created g c = (((draws_still c.requires.draws c.loop-used.i
 
 pub returns-in-Err-clause-drawn : goal.returns-in-Err-clause-drawn
 returns-in-Err-clause-drawn g c = λ run m k.
-    subst (λ (w : Why). Shown (showing_told c.args.words.now) run.old w (g.D.Desk.state c.push.new.desk)) (sym c.why_of.ensures)
+    subst (λ (w : Why). Shown (showing_view c.args.words.now) run.old w (g.D.Desk.state c.push.new.desk)) (sym c.why_of.ensures)
     (row_stopped c.row_coefs.ensures c.in-Err.ensures (row_here c.in-Some.ensures (c.loop-used.invariant.shows run m k).1))
 
 pub slice_bounds-rest-count : goal.slice_bounds-rest-count

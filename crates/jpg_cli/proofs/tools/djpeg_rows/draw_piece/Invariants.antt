@@ -1,7 +1,7 @@
 use Rattle.std.specs.Prelude.{◌≡◌, ◌-◌, ℕ, true}
 use Rattle.jpg_file.specs.Read.ReadRows.{EndsDoneRow}
 use Rattle.jpg_color.specs.Shown.{all_rows}
-use Rattle.jpg_cli.specs.Tools.Showing.{showing_told}
+use Rattle.jpg_cli.specs.Tools.Showing.{showing_view}
 use Rattle.jpg_cli.specs.Tools.ShowingRows.{IsShowing, at_work, Run}
 use Rattle.jpg_cli.specs.Stays.{OnlyWorks}
 use Rattle.jpg_cli.proofs.tools.djpeg_rows.draw_piece.Given as goal
@@ -10,7 +10,7 @@ use Rattle.jpg_cli.proofs.tools.djpeg_rows.draw_piece.Given as goal
 abbrev pub invariant-loop-used : goal.invariant-loop-used
 invariant-loop-used g l =
     let state = g.D.Desk.state in
-    let s = showing_told l.words in
+    let s = showing_view l.words in
     let first = (goal.ImageEnd-dyn g (l.initial.end.vtable, l.initial.end.value)).progress l.initial.end.value in
     let now = (goal.ImageEnd-dyn g (l.end.vtable, l.end.value)).progress l.end.value in
     record {

@@ -1,5 +1,5 @@
 use Rattle.std.specs.Prelude.{◌≡◌, ℕ, List, length, take, true}
-use Rattle.jpg_cli.specs.Tools.Showing.{showing_told}
+use Rattle.jpg_cli.specs.Tools.Showing.{showing_view}
 use Rattle.jpg_cli.specs.Tools.ShowingRows.{AfterShownPiece, GoesOnRows, IsShowing, reads_left, at_work, Run}
 use Rattle.jpg_cli.specs.Stays.{OnlyWorks}
 use Rattle.jpg_cli.proofs.tools.djpeg_rows.draw_rows.Given as goal
@@ -8,7 +8,7 @@ use Rattle.jpg_cli.proofs.tools.djpeg_rows.draw_rows.Given as goal
 abbrev pub invariant-loop-step : goal.invariant-loop-step
 invariant-loop-step g l =
     let state = g.D.Desk.state in
-    let s = showing_told l.words in
+    let s = showing_view l.words in
     let first = (goal.ImageEnd-dyn g (l.fn.end.vtable, l.fn.end.value)).progress l.fn.end.value in
     let now = (goal.ImageEnd-dyn g (l.end.vtable, l.end.value)).progress l.end.value in
     record {

@@ -1,7 +1,7 @@
 use Rattle.std.proofs.Common.{sym, subst}
 use Rattle.jpg_spec_words.specs.declared.answers.Why.{Why}
-use Rattle.jpg_cli.specs.Tools.Showing.{Shown, showing_told}
-use Rattle.jpg_cli.proofs.EarlyEnding.{early_finished, ending_begins, ending_due, ending_whole, work_framed, work_has, work_stopped, work_then}
+use Rattle.jpg_cli.specs.Tools.Showing.{Shown, showing_view}
+use Rattle.jpg_cli.proofs.ByRow.EarlyEnding.{early_finished, ending_begins, ending_due, ending_whole, work_framed, work_has, work_stopped, work_then}
 use Rattle.jpg_cli.proofs.tools.djpeg_rows.finish_early.Goals as goal
 
 pub finish-requires-clause-whole : goal.finish-requires-clause-whole
@@ -9,7 +9,7 @@ finish-requires-clause-whole g c = ending_whole (ending_begins c.requires.early.
 
 pub returns-then-is_whole-clause-shown : goal.returns-then-is_whole-clause-shown
 returns-then-is_whole-clause-shown g c = λ run m x.
-    subst (λ (w : Why). Shown (showing_told c.args.words.now) run.old w (g.D.Desk.state c.finish.new.desk)) (sym c.warned_of.ensures)
+    subst (λ (w : Why). Shown (showing_view c.args.words.now) run.old w (g.D.Desk.state c.finish.new.desk)) (sym c.warned_of.ensures)
     (early_finished c.finish.ensures (sym c.if-is_whole.ensures) (ending_begins x))
 
 pub row_coefs-requires : goal.row_coefs-requires
@@ -39,5 +39,5 @@ returns-in-Ok-clause-shown g c = λ run m x.
 pub returns-in-Err-clause-shown : goal.returns-in-Err-clause-shown
 returns-in-Err-clause-shown g c = λ run m x.
     let due = ending_due (ending_begins x) (sym c.if-is_whole.ensures) in
-    subst (λ (w : Why). Shown (showing_told c.args.words.now) run.old w (g.D.Desk.state c.push.new.desk)) (sym c.why_of.ensures)
+    subst (λ (w : Why). Shown (showing_view c.args.words.now) run.old w (g.D.Desk.state c.push.new.desk)) (sym c.why_of.ensures)
     (work_stopped x due c.row_coefs.ensures c.in-Err.ensures)

@@ -1,11 +1,11 @@
 use Rattle.std.proofs.Common.{sym, subst}
 use Rattle.jpg_spec_words.specs.declared.answers.Why.{Why}
-use Rattle.jpg_cli.specs.Tools.Showing.{Shown, showing_told}
-use Rattle.jpg_cli.proofs.CommentsCopied.{works_then}
-use Rattle.jpg_cli.proofs.EarlyEnding.{early_finished, ending_due, ending_stopped, ending_whole, zeros_lend, zeros_still, zeros_then}
-use Rattle.jpg_cli.proofs.PictureTaken.{reads_none}
-use Rattle.jpg_cli.proofs.RowsDesk.{writes_work}
-use Rattle.jpg_cli.proofs.RowsPushed.{less_rows}
+use Rattle.jpg_cli.specs.Tools.Showing.{Shown, showing_view}
+use Rattle.jpg_cli.proofs.Comments.CommentsCopied.{works_then}
+use Rattle.jpg_cli.proofs.ByRow.EarlyEnding.{early_finished, ending_due, ending_stopped, ending_whole, zeros_lend, zeros_still, zeros_then}
+use Rattle.jpg_cli.proofs.Pieces.PictureTaken.{reads_none}
+use Rattle.jpg_cli.proofs.ByRow.RowsDesk.{writes_work}
+use Rattle.jpg_cli.proofs.ByRow.RowsPushed.{less_rows}
 use Rattle.jpg_cli.proofs.tools.djpeg_rows.finish_zeros.Goals as goal
 
 pub loop-image-init : goal.loop-image-init
@@ -23,7 +23,7 @@ push_zero-requires-clause-created g c = ((zeros_still c.requires.zeros c.loop-im
 pub returns-in-Err-clause-shown : goal.returns-in-Err-clause-shown
 returns-in-Err-clause-shown g c = λ run x.
     let k = c.loop-image.invariant.shows run x in
-    subst (λ (w : Why). Shown (showing_told c.args.words.now) run.old w (g.D.Desk.state c.push_zero.new.desk)) (sym c.why_of.ensures)
+    subst (λ (w : Why). Shown (showing_view c.args.words.now) run.old w (g.D.Desk.state c.push_zero.new.desk)) (sym c.why_of.ensures)
     (ending_stopped k (ending_due k (sym c.loop-image-test.ensures)) (zeros_lend k) c.in-Err.ensures)
 
 pub loop-image-smaller : goal.loop-image-smaller
@@ -52,5 +52,5 @@ finish-requires-clause-created g c = ((zeros_still c.requires.zeros c.loop-image
 
 pub returns-clause-shown : goal.returns-clause-shown
 returns-clause-shown g c = λ run x.
-    subst (λ (w : Why). Shown (showing_told c.args.words.now) run.old w (g.D.Desk.state c.finish.new.desk)) (sym c.warned_of.ensures)
+    subst (λ (w : Why). Shown (showing_view c.args.words.now) run.old w (g.D.Desk.state c.finish.new.desk)) (sym c.warned_of.ensures)
     (early_finished c.finish.ensures (sym c.loop-image-test.ensures) (c.loop-image.invariant.shows run x))

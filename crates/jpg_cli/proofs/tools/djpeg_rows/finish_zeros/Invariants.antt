@@ -1,6 +1,6 @@
 use Rattle.std.specs.Prelude.{◌-◌}
 use Rattle.jpg_color.specs.Shown.{all_rows}
-use Rattle.jpg_cli.specs.Tools.Showing.{showing_told}
+use Rattle.jpg_cli.specs.Tools.Showing.{showing_view}
 use Rattle.jpg_cli.specs.Tools.ShowingRows.{IsEnding, Run}
 use Rattle.jpg_cli.specs.Stays.{OnlyWorks}
 use Rattle.jpg_cli.proofs.tools.djpeg_rows.finish_zeros.Given as goal
@@ -9,7 +9,7 @@ use Rattle.jpg_cli.proofs.tools.djpeg_rows.finish_zeros.Given as goal
 abbrev pub invariant-loop-image : goal.invariant-loop-image
 invariant-loop-image g l =
     let state = g.D.Desk.state in
-    let s = showing_told l.words in
+    let s = showing_view l.words in
     let first = (goal.ImageEnd-dyn g (l.initial.end.vtable, l.initial.end.value)).progress l.initial.end.value in
     let now = (goal.ImageEnd-dyn g (l.end.vtable, l.end.value)).progress l.end.value in
     record {

@@ -4,9 +4,9 @@ use Rattle.jpg_spec.specs.InForce.{frame_of}
 use Rattle.jpg_file.specs.Read.ReadRows.{picture_read}
 use Rattle.jpg_file.specs.Read.RowsKnown.{TellsStrip}
 use Rattle.jpg_file.specs.declared.read.strip_head.StripHead.{StripHead}
-use Rattle.jpg_cli.proofs.RowsBegin.{no_image, no_output}
-use Rattle.jpg_cli.proofs.RowsEnd.{rows_begun}
-use Rattle.jpg_cli.proofs.RowsStarted.{not_started, rows_started, strip_shown, strip_told}
+use Rattle.jpg_cli.proofs.ByRow.RowsBegin.{no_image, no_output}
+use Rattle.jpg_cli.proofs.ByRow.RowsEnd.{rows_begun}
+use Rattle.jpg_cli.proofs.ByRow.RowsStarted.{not_started, rows_started, strip_shown, strip_told}
 use Rattle.jpg_cli.proofs.tools.djpeg_rows.show_rows.Goals as goal
 
 pub unreachable-requires : goal.unreachable-requires

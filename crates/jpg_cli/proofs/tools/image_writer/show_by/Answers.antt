@@ -1,5 +1,5 @@
 use Rattle.std.proofs.Common.{sym, ◌∙◌}
-use Rattle.jpg_cli.proofs.FoundEnds.{first_of, new_left, one_less}
+use Rattle.jpg_cli.proofs.ByRow.FoundEnds.{first_of, new_left, one_less}
 use Rattle.jpg_cli.proofs.tools.image_writer.show_by.Goals as goal
 
 pub loop-end-preserved : goal.loop-end-preserved

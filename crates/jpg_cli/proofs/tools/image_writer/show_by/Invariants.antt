@@ -1,6 +1,6 @@
 use Rattle.std.proofs.Common.{◌≡◌, map}
 use Rattle.jpg_cli.specs.Tools.Ends.{AreNewEnds}
-use Rattle.jpg_cli.proofs.FoundEnds.{HasSameFormat}
+use Rattle.jpg_cli.proofs.ByRow.FoundEnds.{HasSameFormat}
 use Rattle.jpg_cli.proofs.tools.image_writer.show_by.Given as goal
 
 -- The writers that are left are new, and if one of all has the format, one of them has. Nothing was done to the desk.

@@ -1,4 +1,4 @@
-use Rattle.jpg_cli.proofs.Worked.{holds_input}
+use Rattle.jpg_cli.proofs.Encoding.Worked.{holds_input}
 use Rattle.jpg_cli.proofs.tools.jpgwork.desk_of.Goals as goal
 
 pub returns-in-Ok : goal.returns-in-Ok

@@ -2,7 +2,7 @@ use Rattle.std.proofs.Common.{List, ℕ, map, subst}
 use Rattle.jpg_spec_image.specs.declared.image.EndKind.TheVariants as kind
 use Rattle.jpg_cli.specs.Tools.Ends.{formats_of, has_format}
 use Rattle.jpg_cli.specs.Tools.Worked.{WritesReport}
-use Rattle.jpg_cli.proofs.Worked.{work_done, work_none}
+use Rattle.jpg_cli.proofs.Encoding.Worked.{work_done, work_none}
 use Rattle.jpg_cli.proofs.tools.jpgwork.do_work.Goals as goal
 
 pub returns-in-Err-clause-worked : goal.returns-in-Err-clause-worked

@@ -4,7 +4,7 @@ use Rattle.jpg_spec_image.specs.declared.image.EndKind.TheVariants as kind
 use Rattle.jpg_spec_words.specs.Work.{back_choice, back_picture, back_text, first_picture, first_text, turned_choice, turned_picture, turned_text, work_info}
 use Rattle.jpg_cli.specs.Tools.Ends.{formats_of, has_format}
 use Rattle.jpg_cli.specs.Tools.Worked.{HasFile}
-use Rattle.jpg_cli.proofs.Worked.{file_after, image_text, output_is, report_done, shown_after, work_header}
+use Rattle.jpg_cli.proofs.Encoding.Worked.{file_after, image_text, output_is, report_done, shown_after, work_header}
 use Rattle.jpg_cli.proofs.tools.jpgwork.report_of.Goals as goal
 
 pub report_shown-requires-clause-header : goal.report_shown-requires-clause-header

@@ -1,7 +1,7 @@
 use Rattle.std.proofs.Common.{map, refl}
 use Rattle.jpg_spec_image.specs.declared.image.EndKind.TheVariants as kind
 use Rattle.jpg_cli.specs.Tools.Ends.{formats_of, has_format}
-use Rattle.jpg_cli.proofs.Worked.{shown_done}
+use Rattle.jpg_cli.proofs.Encoding.Worked.{shown_done}
 use Rattle.jpg_cli.proofs.tools.jpgwork.shown_file.Goals as goal
 
 pub returns-in-Done : goal.returns-in-Done

@@ -1,5 +1,5 @@
 use Rattle.jpg_cli.specs.Words.TransformWords.{script_told}
-use Rattle.jpg_cli.proofs.Worked.{turned_done}
+use Rattle.jpg_cli.proofs.Encoding.Worked.{turned_done}
 use Rattle.jpg_cli.proofs.tools.jpgwork.turned_file.Goals as goal
 
 pub returns-in-Done : goal.returns-in-Done

@@ -1,4 +1,4 @@
-use Rattle.jpg_cli.proofs.Worked.{report_unwritten, report_written}
+use Rattle.jpg_cli.proofs.Encoding.Worked.{report_unwritten, report_written}
 use Rattle.jpg_cli.proofs.tools.jpgwork.write_report.Goals as goal
 
 pub returns-in-Done-write-clause-wrote : goal.returns-in-Done-write-clause-wrote

@@ -1,4 +1,4 @@
-use Rattle.jpg_cli.proofs.CommentsRead.{end_text}
+use Rattle.jpg_cli.proofs.Comments.CommentsRead.{end_text}
 use Rattle.jpg_cli.proofs.tools.rdjpgcom.at_end.Goals as goal
 
 pub returns-in-Fault-clause-ended : goal.returns-in-Fault-clause-ended

@@ -1,5 +1,5 @@
 use Rattle.std.proofs.Common.{[], ◌∙◌, refl, arith}
-use Rattle.jpg_cli.proofs.CommentsCopied.{copies_none, none_read, none_written}
+use Rattle.jpg_cli.proofs.Comments.CommentsCopied.{copies_none, none_read, none_written}
 use Rattle.jpg_cli.proofs.tools.rdjpgcom.copy_comments.Goals as goal
 
 pub loop-why-init : goal.loop-why-init

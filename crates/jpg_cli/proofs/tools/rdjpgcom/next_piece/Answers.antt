@@ -1,4 +1,4 @@
-use Rattle.jpg_cli.proofs.CommentsCopied.{next_end, next_failed, next_taken, next_unread, read_most}
+use Rattle.jpg_cli.proofs.Comments.CommentsCopied.{next_end, next_failed, next_taken, next_unread, read_most}
 use Rattle.jpg_cli.proofs.tools.rdjpgcom.next_piece.Goals as goal
 
 pub returns-in-Failed-clause-after : goal.returns-in-Failed-clause-after

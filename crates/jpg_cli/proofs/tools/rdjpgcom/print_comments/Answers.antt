@@ -1,4 +1,4 @@
-use Rattle.jpg_cli.proofs.CommentsPrinted.{printed_from}
+use Rattle.jpg_cli.proofs.Comments.CommentsPrinted.{printed_from}
 use Rattle.jpg_cli.proofs.tools.rdjpgcom.print_comments.Goals as goal
 
 pub returns-in-Done-create-clause-printed : goal.returns-in-Done-create-clause-printed

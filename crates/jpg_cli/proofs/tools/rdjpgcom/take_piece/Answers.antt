@@ -3,7 +3,7 @@ use Rattle.jpg_base.specs.declared.stop.Fed.{Fed}
 use Rattle.jpg_base.specs.declared.stop.Stop.{Stop}
 use Rattle.jpg_comments.specs.SegmentsSoFar.{Appends}
 use Rattle.jpg_comments.specs.ReadComments.{AfterFeed}
-use Rattle.jpg_cli.proofs.CommentsRead.{whole_text, fault_text, part_text}
+use Rattle.jpg_cli.proofs.Comments.CommentsRead.{whole_text, fault_text, part_text}
 use Rattle.jpg_cli.proofs.tools.rdjpgcom.take_piece.Goals as goal
 
 pub returns-in-Ok-More-clause-taken : goal.returns-in-Ok-More-clause-taken

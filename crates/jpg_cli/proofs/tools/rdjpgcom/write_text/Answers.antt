@@ -1,6 +1,6 @@
 use Rattle.std.proofs.Common.{List, ℕ, [], ◌≡◌, sym, subst, arith}
 use Rattle.jpg_base.specs.Desk.{AppendsLast}
-use Rattle.jpg_cli.proofs.CommentsCopied.{none_written, no_bytes}
+use Rattle.jpg_cli.proofs.Comments.CommentsCopied.{none_written, no_bytes}
 use Rattle.jpg_cli.proofs.tools.rdjpgcom.write_text.Goals as goal
 
 pub returns-then-is_empty-clause-written : goal.returns-then-is_empty-clause-written

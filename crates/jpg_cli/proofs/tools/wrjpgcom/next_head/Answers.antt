@@ -1,7 +1,7 @@
 use Rattle.std.proofs.Common.{[], arith}
-use Rattle.jpg_cli.proofs.CommentsCopied.{no_text}
-use Rattle.jpg_cli.proofs.InsertedCopied.{read_most}
-use Rattle.jpg_cli.proofs.HeadTaken.{head_begun, head_ended, head_ends, head_unread}
+use Rattle.jpg_cli.proofs.Comments.CommentsCopied.{no_text}
+use Rattle.jpg_cli.proofs.Comments.InsertedCopied.{read_most}
+use Rattle.jpg_cli.proofs.Comments.HeadTaken.{head_begun, head_ended, head_ends, head_unread}
 use Rattle.jpg_cli.proofs.tools.wrjpgcom.next_head.Goals as goal
 
 pub returns-then-not-is_empty-clause-after : goal.returns-then-not-is_empty-clause-after

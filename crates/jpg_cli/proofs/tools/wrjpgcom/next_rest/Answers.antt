@@ -1,4 +1,4 @@
-use Rattle.jpg_cli.proofs.InsertedCopied.{read_most, rest_ends, rest_failed, rest_fed, rest_unread}
+use Rattle.jpg_cli.proofs.Comments.InsertedCopied.{read_most, rest_ends, rest_failed, rest_fed, rest_unread}
 use Rattle.jpg_cli.proofs.tools.wrjpgcom.next_rest.Goals as goal
 
 pub returns-in-Failed-clause-after : goal.returns-in-Failed-clause-after

@@ -1,4 +1,4 @@
-use Rattle.jpg_cli.proofs.CommentInserted.{first_uncreated, first_unwritten, first_written}
+use Rattle.jpg_cli.proofs.Comments.CommentInserted.{first_uncreated, first_unwritten, first_written}
 use Rattle.jpg_cli.proofs.tools.wrjpgcom.write_first.Goals as goal
 
 pub returns-in-Failed-clause-after : goal.returns-in-Failed-clause-after

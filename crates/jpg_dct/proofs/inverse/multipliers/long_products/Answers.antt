@@ -4,7 +4,7 @@ use Rattle.std.proofs.lemmas.Int.{to_z-of_z}
 use Rattle.std.proofs.lemmas.List.{length-set}
 use Rattle.jpg_spec.specs.Lists.{index_of}
 use Rattle.jpg_spec.specs.Zigzag.{zigzag}
-use Rattle.jpg_spec.proofs.Rows.{by_items}
+use Rattle.jpg_spec.proofs.Basics.Rows.{by_items}
 use Rattle.jpg_spec_image.specs.Dct.{number_at, dequantised}
 use Rattle.jpg_dct.proofs.Bounds.{all_at}
 use Rattle.jpg_dct.proofs.Eights.{fits16}

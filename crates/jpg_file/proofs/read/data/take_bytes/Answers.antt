@@ -1,5 +1,5 @@
 use Rattle.jpg_seq.specs.Reader.{sequential}
-use Rattle.jpg_file.proofs.Runs.{given_bytes, run_all}
+use Rattle.jpg_file.proofs.Scans.Runs.{given_bytes, run_all}
 use Rattle.jpg_file.proofs.read.data.take_bytes.Goals as goal
 
 pub returns : goal.returns

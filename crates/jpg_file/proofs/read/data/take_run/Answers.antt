@@ -5,7 +5,7 @@ use Rattle.jpg_spec.specs.Bits.{bits_of_bytes}
 use Rattle.jpg_coefs.specs.Machine.{TakesBits}
 use Rattle.jpg_coefs.specs.declared.machine.Taken.{Taken}
 use Rattle.jpg_coefs.specs.declared.machine.Taken.TheVariants as taken
-use Rattle.jpg_file.proofs.Runs.{HasRun, run_begun, run_after, run_on, run_all, left_of, some_first}
+use Rattle.jpg_file.proofs.Scans.Runs.{HasRun, run_begun, run_after, run_on, run_all, left_of, some_first}
 use Rattle.jpg_file.proofs.read.data.take_run.Goals as goal
 
 pub loop-rest-init : goal.loop-rest-init
@@ -14,7 +14,7 @@ loop-rest-init g c = run_begun g.M.ScanMachine.kind c.args.machine.now c.args.co
 pub overflow_sub-given-in-loop-rest : goal.overflow_sub-given-in-loop-rest
 overflow_sub-given-in-loop-rest g c =
     let l = c.loop-rest in let t = c.bits-taken.ensures in
-    omega (arith, c.len.ensures.value, left_of l.rest.now t.0 c.bits-taken.new.store (sym c.front_of-store.ensures ∙ t.1), c.few_of.ensures)
+    omega (arith, c.len.ensures.value, left_of l.rest.now t.0 c.bits-taken.new.store (sym c.front_of-store.ensures ∙ t.1), c.eight_at_most.ensures)
 
 pub returns-then-rest-le8 : goal.returns-then-rest-le8
 returns-then-rest-le8 g c =
@@ -22,7 +22,7 @@ returns-then-rest-le8 g c =
     let B : List Bool → Type 0 = λ z. TakesBits k c.units_left-most.result l.machine l.coefs z t.result t.new.self t.new.coefs t.new.store in
     run_after k c.args.machine.now t.new.self c.args.coefs.now t.new.coefs l.machine l.coefs c.args.bytes.now l.rest.now _ 8 _ t.result l.invariant
     (run_all k l.machine t.new.self l.coefs t.new.coefs c.units_left-most.result front t.new.store (length front - length t.new.store / 8) t.result (some_first l.rest.now (l.invariant).some) (λ e. c.units_left-most.ensures) (omega arith) (subst B c.front_of-store.ensures t.ensures))
-    (omega (arith, c.len.ensures.value, c.few_of.ensures))
+    (omega (arith, c.len.ensures.value, c.eight_at_most.ensures))
 
 pub loop-rest-preserved : goal.loop-rest-preserved
 loop-rest-preserved g c =

@@ -1,5 +1,5 @@
 use Rattle.std.proofs.Common.{length}
-use Rattle.jpg_file.proofs.Runs.{HasRun}
+use Rattle.jpg_file.proofs.Scans.Runs.{HasRun}
 use Rattle.jpg_file.proofs.read.data.take_run.Given as goal
 
 abbrev pub invariant-loop-rest : goal.invariant-loop-rest

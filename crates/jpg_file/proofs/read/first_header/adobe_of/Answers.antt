@@ -4,7 +4,7 @@ use Rattle.std.proofs.lemmas.List.{append-nil, append_assoc}
 use Rattle.jpg_spec.specs.Jfif.{adobe_transform, is_adobe}
 use Rattle.jpg_spec.specs.Markers.{Segment}
 use Rattle.jpg_markers.specs.Kept.{kept_pair}
-use Rattle.jpg_file.proofs.PictureSteps.{adobe_more}
+use Rattle.jpg_file.proofs.Files.PictureSteps.{adobe_more}
 use Rattle.jpg_file.proofs.read.first_header.adobe_of.Goals as goal
 
 pub loop-marker-init : goal.loop-marker-init
@@ -16,7 +16,7 @@ loop-marker-preserved c =
     let s = kept_pair c.in-Some.marker in (
       before ++ s ∷ [],
       append_assoc before (s ∷ []) c.next.new.self ∙ ap (λ (l : List Segment). before ++ l) (sym c.in-Some.ensures.next) ∙ joined,
-      c.told_with-last.ensures ∙ ap (λ (o : Option ℕ). cond (is_adobe s) (Some (slice_index s.1 11)) o) told ∙ sym (adobe_more before s),
+      c.transform_after-last.ensures ∙ ap (λ (o : Option ℕ). cond (is_adobe s) (Some (slice_index s.1 11)) o) told ∙ sym (adobe_more before s),
     )
 
 pub returns : goal.returns

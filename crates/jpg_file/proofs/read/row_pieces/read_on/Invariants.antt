@@ -1,5 +1,5 @@
 use Rattle.std.proofs.Common.{length, ◌-◌}
-use Rattle.jpg_file.proofs.RowPieces.{PieceBegun}
+use Rattle.jpg_file.proofs.ByRow.RowPieces.{PieceBegun}
 use Rattle.jpg_file.proofs.read.row_pieces.read_on.Given as goal
 
 abbrev pub invariant-loop-done : goal.invariant-loop-done

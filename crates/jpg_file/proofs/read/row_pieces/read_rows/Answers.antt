@@ -1,16 +1,16 @@
 use Rattle.std.proofs.Common.{sym, subst}
 use Rattle.jpg_spec.specs.declared.frame.Limits.{Limits}
-use Rattle.jpg_file.specs.Read.Strips.{StripStands}
+use Rattle.jpg_file.specs.Read.Strips.{RepresentsStrip}
 use Rattle.jpg_file.specs.declared.read.step.Step.{Step}
-use Rattle.jpg_file.proofs.RowPieces.{Resumed, resumed_go, resumed_more, resumed_row, resumed_stop}
-use Rattle.jpg_file.proofs.StripPieces.{open_limits}
+use Rattle.jpg_file.proofs.ByRow.RowPieces.{Resumed, resumed_go, resumed_more, resumed_row, resumed_stop}
+use Rattle.jpg_file.proofs.ByRow.StripPieces.{open_limits}
 use Rattle.jpg_file.proofs.read.row_pieces.read_rows.Goals as goal
 
 pub resume-requires : goal.resume-requires
 resume-requires c =
     let o = c.requires.open in
     let work = c.args.work.now in
-    (o.0, subst (λ (l : Limits). StripStands l o.0 work.rows work.file) (sym (open_limits c.args.limits o.0 work.rows work.file (o.1).stands)) (o.1).stands)
+    (o.0, subst (λ (l : Limits). RepresentsStrip l o.0 work.rows work.file) (sym (open_limits c.args.limits o.0 work.rows work.file (o.1).stands)) (o.1).stands)
 
 pub read_on-requires-clause-open : goal.read_on-requires-clause-open
 read_on-requires-clause-open c =

@@ -7,8 +7,8 @@ use Rattle.jpg_spec.specs.Items.{fault_in}
 use Rattle.jpg_spec.specs.declared.fault.Fault.TheVariants.{MissingTable, QuantChanged}
 use Rattle.jpg_spec.specs.declared.frame.ScanPart.{ScanPart}
 use Rattle.jpg_file.specs.Read.ScanHistory.{is_same_kept}
-use Rattle.jpg_file.specs.Read.SegmentState.{told_by}
-use Rattle.jpg_file.proofs.JudgedHeaders.{in_order, out_of_order, small_parts}
+use Rattle.jpg_file.specs.Read.SegmentState.{segments_view}
+use Rattle.jpg_file.proofs.Headers.JudgedHeaders.{in_order, out_of_order, small_parts}
 use Rattle.jpg_file.proofs.read.scan_header.judge_head.Goals as goal
 
 pub fault-requires : goal.fault-requires
@@ -26,7 +26,7 @@ pub returns-then-lacks_table : goal.returns-then-lacks_table
 returns-then-lacks_table c = λ limits before e holds k.
     let f = c.args.frame.now in
     let head = c.in-Ok.head in
-    let h = told_by c.args.held.now in
+    let h = segments_view c.args.held.now in
     let b = c.args.begun.now in
     let is_head = c.accepted_heads_are_of_their_frames.ensures f c.args.contents.now head (sym c.in-Ok.ensures) in
     in_order limits before c.args.contents.now f head b h e (sym c.in-Ok.ensures) is_head c.checked.ensures.count_high k holds c.in_default.ensures
@@ -44,7 +44,7 @@ pub returns-then-not-are_same : goal.returns-then-not-are_same
 returns-then-not-are_same c = λ limits before e holds k.
     let f = c.args.frame.now in
     let head = c.in-Ok.head in
-    let h = told_by c.args.held.now in
+    let h = segments_view c.args.held.now in
     let b = c.args.begun.now in
     let is_head = c.accepted_heads_are_of_their_frames.ensures f c.args.contents.now head (sym c.in-Ok.ensures) in
     let parts : c.as_slice.result.now ≡ head.parts = c.as_slice.ensures.value ∙ ap (λ (h : ScanHead). h.parts) c.head.view_is in
@@ -58,7 +58,7 @@ pub returns : goal.returns
 returns c = λ limits before e holds k.
     let f = c.args.frame.now in
     let head = c.in-Ok.head in
-    let h = told_by c.args.held.now in
+    let h = segments_view c.args.held.now in
     let b = c.args.begun.now in
     let is_head = c.accepted_heads_are_of_their_frames.ensures f c.args.contents.now head (sym c.in-Ok.ensures) in
     let parts : c.as_slice.result.now ≡ head.parts = c.as_slice.ensures.value ∙ ap (λ (h : ScanHead). h.parts) c.head.view_is in

@@ -1,13 +1,13 @@
 use Rattle.std.proofs.Common.{◌≡◌, ◌∙◌, ◌*◌, ℕ, refl, ap, subst, sym, arith}
 use Rattle.jpg_spec.specs.Geometry.{mcu_units}
 use Rattle.jpg_spec.specs.Segments.{head_components}
-use Rattle.jpg_spec.proofs.Common.{some_once}
-use Rattle.jpg_spec.proofs.PlacesSome.{head_units_some}
+use Rattle.jpg_spec.proofs.Basics.Common.{some_once}
+use Rattle.jpg_spec.proofs.Places.PlacesSome.{head_units_some}
 use Rattle.jpg_file.specs.Read.ScanStart.{before_data}
 use Rattle.jpg_file.specs.Read.NewScan.{IsBareScan}
 use Rattle.jpg_file.specs.declared.read.scan.InScan.{InScan}
-use Rattle.jpg_file.proofs.ScanStarts.{NewScan, start_of, first_interval, first_of_scan, in_data, counted, due_after}
-use Rattle.jpg_file.proofs.RowCounts.{begun_left}
+use Rattle.jpg_file.proofs.Scans.ScanStarts.{NewScan, start_of, first_interval, first_of_scan, in_data, counted, due_after}
+use Rattle.jpg_file.proofs.ByRow.RowCounts.{begun_left}
 use Rattle.jpg_file.proofs.read.scan_start.begin_data.Goals as goal
 
 pub put_bare-requires : goal.put_bare-requires

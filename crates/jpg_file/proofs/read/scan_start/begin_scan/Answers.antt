@@ -1,5 +1,5 @@
 use Rattle.std.proofs.Common.{◌∙◌, ap, subst, sym}
-use Rattle.jpg_spec.proofs.Common.{some_once}
+use Rattle.jpg_spec.proofs.Basics.Common.{some_once}
 use Rattle.jpg_file.specs.Read.ScanStart.{IsAtFirstByte}
 use Rattle.jpg_file.specs.declared.read.scan.InScan.{InScan}
 use Rattle.jpg_file.proofs.read.scan_start.begin_scan.Goals as goal

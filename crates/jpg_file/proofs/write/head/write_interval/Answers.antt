@@ -1,6 +1,6 @@
 use Rattle.std.proofs.Common.{[], Ok}
 use Rattle.jpg_huff.proofs.Together.{sends_nothing, sends_same}
-use Rattle.jpg_file.proofs.ScanHeads.{no_interval}
+use Rattle.jpg_file.proofs.Writing.ScanHeads.{no_interval}
 use Rattle.jpg_file.proofs.write.head.write_interval.Goals as goal
 
 pub returns-then-now-last : goal.returns-then-now-last

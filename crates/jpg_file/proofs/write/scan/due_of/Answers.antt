@@ -4,7 +4,7 @@ use Rattle.jpg_spec.specs.Segments.{ScanHead, head_components}
 use Rattle.jpg_spec_write.specs.FileText.{tables_needed}
 use Rattle.jpg_base.specs.Cursor.{AreIn}
 use Rattle.jpg_file.specs.Write.WriteScan.{head_for, scan_head}
-use Rattle.jpg_file.proofs.ScanHeads.{head_is_of, in_file}
+use Rattle.jpg_file.proofs.Writing.ScanHeads.{head_is_of, in_file}
 use Rattle.jpg_file.proofs.write.scan.due_of.Goals as goal
 
 pub interval_of-interval-requires : goal.interval_of-interval-requires

@@ -8,8 +8,8 @@ use Rattle.jpg_huff.proofs.Together.{sends_same}
 use Rattle.jpg_coefs.specs.MarkSinks.{HasSlots}
 use Rattle.jpg_prog_write.specs.Written.{IsProgScan}
 use Rattle.jpg_file.specs.Write.WriteScan.{so_far}
-use Rattle.jpg_file.proofs.ScanHeads.{head_names, head_slots, in_view, prog_scan}
-use Rattle.jpg_file.proofs.ScansDue.{can_write, text_is, written_is}
+use Rattle.jpg_file.proofs.Writing.ScanHeads.{head_names, head_slots, in_view, prog_scan}
+use Rattle.jpg_file.proofs.Writing.ScansDue.{can_write, text_is, written_is}
 use Rattle.jpg_file.proofs.write.scan.write_scan.Goals as goal
 
 pub put_tables-requires-clause-scan : goal.put_tables-requires-clause-scan

@@ -1,6 +1,6 @@
 use Rattle.std.proofs.Common.{Bool, List}
 use Rattle.jpg_coefs.specs.Machine.{Interval}
-use Rattle.jpg_prog_read.specs.AcStands.{HasWhole}
+use Rattle.jpg_prog_read.specs.RepresentsAcScan.{HasWhole}
 use Rattle.jpg_prog_read.proofs.ac_reader.AcReader.go_on.Given as goal
 
 abbrev pub invariant-loop-self : goal.invariant-loop-self

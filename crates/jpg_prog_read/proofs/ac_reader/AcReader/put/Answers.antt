@@ -1,7 +1,7 @@
 use Rattle.std.proofs.Common.{◌-◌, List, sym, subst}
 use Rattle.jpg_spec.specs.declared.frame.Place.{Place}
 use Rattle.jpg_coefs.specs.Picture.{Picture, with_block}
-use Rattle.jpg_prog_read.specs.AcStands.{IsBetweenUnits}
+use Rattle.jpg_prog_read.specs.RepresentsAcScan.{IsBetweenUnits}
 use Rattle.jpg_prog_read.proofs.AcUnits.{whole_padded, unit_put}
 use Rattle.jpg_prog_read.proofs.ac_reader.AcReader.put.Goals as goal
 

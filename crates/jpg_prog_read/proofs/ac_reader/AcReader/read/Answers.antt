@@ -3,7 +3,7 @@ use Rattle.std.specs.Prelude.{Result, Ok, Err}
 use Rattle.jpg_coefs.specs.declared.machine.UnitFault.{UnitFault}
 use Rattle.jpg_coefs.specs.declared.machine.UnitStep.{UnitStep}
 use Rattle.jpg_coefs.specs.declared.machine.UnitStep.TheVariants as step
-use Rattle.jpg_prog_read.specs.AcStands.{BandsGoOn}
+use Rattle.jpg_prog_read.specs.RepresentsAcScan.{BandsGoOn}
 use Rattle.jpg_prog_read.proofs.AcUnits.{in_unit_of, some_left}
 use Rattle.jpg_prog_read.proofs.AcBits.{all_taken, fault_taken, done_taken, whole_after}
 use Rattle.jpg_prog_read.proofs.Takings.{took_further, took_more, takes_all, takes_to}

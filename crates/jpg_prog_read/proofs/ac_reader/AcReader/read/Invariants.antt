@@ -1,5 +1,5 @@
 use Rattle.std.proofs.Common.{◌≡◌, false, length}
-use Rattle.jpg_prog_read.specs.AcStands.{progressive_ac}
+use Rattle.jpg_prog_read.specs.RepresentsAcScan.{progressive_ac}
 use Rattle.jpg_prog_read.specs.BitsTaken.{TookSome}
 use Rattle.jpg_prog_read.proofs.ac_reader.AcReader.read.Given as goal
 

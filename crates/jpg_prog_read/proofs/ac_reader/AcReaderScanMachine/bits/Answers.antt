@@ -1,7 +1,7 @@
 use Rattle.std.proofs.Common.{refl, subst, arith, inr, [], List, Bool}
 use Rattle.std.proofs.lemmas.List.{nil_from_length as nil_of}
 use Rattle.jpg_coefs.specs.Machine.{TakesBits}
-use Rattle.jpg_prog_read.specs.AcStands.{progressive_ac}
+use Rattle.jpg_prog_read.specs.RepresentsAcScan.{progressive_ac}
 use Rattle.jpg_prog_read.proofs.AcBits.{settled}
 use Rattle.jpg_prog_read.proofs.ac_reader.AcReaderScanMachine.bits.Goals as goal
 

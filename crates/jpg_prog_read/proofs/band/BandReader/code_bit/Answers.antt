@@ -1,6 +1,6 @@
 use Rattle.std.proofs.Common.{sym, subst, []}
 use Rattle.jpg_prog_read.specs.InWork.{InWork, IsOpenBand}
-use Rattle.jpg_prog_read.specs.Stands.{StandsInBand}
+use Rattle.jpg_prog_read.specs.Stands.{RepresentsBandUnit}
 use Rattle.jpg_prog_read.proofs.BandSteps.{code_none}
 use Rattle.jpg_prog_read.proofs.Reading.{more_read, walked_is}
 use Rattle.jpg_prog_read.proofs.BandBits.{walked_open, walked_back}
@@ -20,4 +20,4 @@ symbol-requires-clause-open c =
 pub returns-in-Symbol-clause-answered : goal.returns-in-Symbol-clause-answered
 returns-in-Symbol-clause-answered c = λ left at bits k l f.
     c.symbol.ensures.answered c.args.codes.now at bits c.args.self.now.walked c.args.bit k c.in-Symbol.ensures.answers.0
-    (subst (λ (s : InWork). StandsInBand at bits s) (sym (walked_back c.args.self.now c.walk_bit.new.self c.in-Symbol.ensures.same)) f)
+    (subst (λ (s : InWork). RepresentsBandUnit at bits s) (sym (walked_back c.args.self.now c.walk_bit.new.self c.in-Symbol.ensures.same)) f)

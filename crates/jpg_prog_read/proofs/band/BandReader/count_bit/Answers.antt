@@ -1,13 +1,13 @@
 use Rattle.std.proofs.Common.{sym, subst, arith, ◌∷◌, [], ◌++◌}
 use Rattle.jpg_prog_read.specs.InWork.{InWork}
-use Rattle.jpg_prog_read.specs.Stands.{StandsInBand}
+use Rattle.jpg_prog_read.specs.Stands.{RepresentsBandUnit}
 use Rattle.jpg_prog_read.proofs.BandSteps.{count_more}
 use Rattle.jpg_prog_read.proofs.Reading.{ends_read, past_read}
 use Rattle.jpg_prog_read.proofs.band.BandReader.count_bit.Goals as goal
 
 pub returns-in-Wanting-clause-answered : goal.returns-in-Wanting-clause-answered
 returns-in-Wanting-clause-answered c = λ ac at bits k l f.
-    subst (λ (n : InWork). StandsInBand at (bits ++ c.args.bit ∷ []) n) (sym c.in-Wanting.ensures.new) (count_more f c.args.bit c.requires.stage)
+    subst (λ (n : InWork). RepresentsBandUnit at (bits ++ c.args.bit ∷ []) n) (sym c.in-Wanting.ensures.new) (count_more f c.args.bit c.requires.stage)
 
 pub returns-then-from-left-clause-answered : goal.returns-then-from-left-clause-answered
 returns-then-from-left-clause-answered c = λ ac.

@@ -1,7 +1,7 @@
 use Rattle.std.proofs.Common.{◌∙◌, ap, sym, subst, arith, List, Bool}
 use Rattle.jpg_prog_read.specs.ExtraWork.{ExtraWork}
 use Rattle.jpg_prog_read.specs.DcWork.{DcWork, IsDcOpen, fresh}
-use Rattle.jpg_prog_read.specs.DcStands.{BeginsDc}
+use Rattle.jpg_prog_read.specs.RepresentsDcUnit.{BeginsDc}
 use Rattle.jpg_prog_read.proofs.DcUnits.{dc_begins}
 use Rattle.jpg_prog_read.proofs.dc.DcUnit.new.Goals as goal
 

@@ -2,7 +2,7 @@ use Rattle.std.proofs.Common.{rules, ℤ, sym, subst}
 use mir.Syntax.{w16}
 use Rattle.std.proofs.lemmas.Int.{to_z-of_z}
 use Rattle.jpg_huff.specs.Tables.{symbol_codes}
-use Rattle.jpg_prog_read.specs.DcStands.{AnswersDcBit}
+use Rattle.jpg_prog_read.specs.RepresentsDcUnit.{AnswersDcBit}
 use Rattle.jpg_prog_read.specs.DcFirstPass.{prediction_at}
 use Rattle.jpg_prog_read.proofs.dc_first.DcFirst.unit_bit.Goals as goal
 

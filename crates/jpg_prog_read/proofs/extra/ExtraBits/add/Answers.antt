@@ -1,6 +1,6 @@
 use Rattle.std.proofs.Common.{◌≡◌, ◌∙◌, ap, sym, arith, ◌+◌, ◌*◌, [], ◌∷◌, ◌++◌, length, List, Bool}
 use Rattle.jpg_spec.specs.Bits.{bits_of}
-use Rattle.jpg_spec.proofs.Strings.{length-bits_of, bits_of-more}
+use Rattle.jpg_spec.proofs.Basics.Strings.{length-bits_of, bits_of-more}
 use Rattle.jpg_huff.proofs.Steps.{bit_value_is}
 use Rattle.jpg_prog_read.specs.ExtraWork.{ExtraWork}
 use Rattle.jpg_huff.proofs.Categories.{fits_more}

@@ -3,9 +3,9 @@ use Rattle.std.proofs.lemmas.Nat.{one_shl}
 use Rattle.std.proofs.Math.Nat.{pow-succ'}
 use Rattle.jpg_spec.specs.Bits.{bits_of}
 use Rattle.jpg_spec.specs.Numbers.{digits}
-use Rattle.jpg_spec.proofs.Strings.{length-bits_of}
-use Rattle.jpg_spec.proofs.Facts.{bits_high}
-use Rattle.jpg_spec.proofs.ExtraBits.{digits_high}
+use Rattle.jpg_spec.proofs.Basics.Strings.{length-bits_of}
+use Rattle.jpg_spec.proofs.Basics.Facts.{bits_high}
+use Rattle.jpg_spec.proofs.Bits.ExtraBits.{digits_high}
 use Rattle.jpg_prog_read.specs.ExtraWork.{ExtraWork}
 use Rattle.jpg_prog_read.proofs.extra.ExtraBits.bands.Goals as goal
 

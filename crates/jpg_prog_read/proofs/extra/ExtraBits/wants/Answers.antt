@@ -1,5 +1,5 @@
 use Rattle.std.proofs.Common.{◌≡◌, ◌∙◌, ap, sym, arith, length}
-use Rattle.jpg_spec.proofs.Strings.{length-bits_of}
+use Rattle.jpg_spec.proofs.Basics.Strings.{length-bits_of}
 use Rattle.jpg_prog_read.specs.ExtraWork.{ExtraWork}
 use Rattle.jpg_prog_read.proofs.extra.ExtraBits.wants.Goals as goal
 

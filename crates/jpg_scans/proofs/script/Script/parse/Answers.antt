@@ -1,5 +1,5 @@
 use Rattle.std.proofs.Common.{sym}
-use Rattle.jpg_spec.proofs.TextsRead.{ends_early, refused_at_end, told_spells}
+use Rattle.jpg_spec.proofs.Texts.TextsRead.{ends_early, refused_at_end, told_spells}
 use Rattle.jpg_scans.proofs.ScriptRest.{reads_scripts}
 use Rattle.jpg_scans.proofs.script.Script.parse.Goals as goal
 

@@ -14,8 +14,8 @@ pub returns-in-More-clause-takes : goal.returns-in-More-clause-takes
 returns-in-More-clause-takes c =
     let e : Env = env_in c.args.bounds.now c.args.coder.now c.args.prediction in let x = to_z-of_z w16 c.args.prediction (search rules) in
     let mid : Source = record (c.fill.new.self) { store = c.element.new.store } in
-    takes_then e c.args.self.now c.element.new.self c.told_values.new.self (bits_in c.args.source.now) (bits_in mid) (bits_in c.told_values.new.source) c.told_values.result
-    (taken_at_hand e c.args.self.now c.element.new.self c.args.source.now c.fill.new.self mid More c.fill.ensures.same c.fill.ensures.full (rw x at c.in-More.ensures.takes) refl c.in-More.ensures.few) (c.told_values.ensures.takes e c.requires.sane refl)
+    takes_then e c.args.self.now c.element.new.self c.values_by_ten.new.self (bits_in c.args.source.now) (bits_in mid) (bits_in c.values_by_ten.new.source) c.values_by_ten.result
+    (taken_at_hand e c.args.self.now c.element.new.self c.args.source.now c.fill.new.self mid More c.fill.ensures.same c.fill.ensures.full (rw x at c.in-More.ensures.takes) refl c.in-More.ensures.few) (c.values_by_ten.ensures.takes e c.requires.sane refl)
 
 pub returns-in-Empty-clause-takes : goal.returns-in-Empty-clause-takes
 returns-in-Empty-clause-takes c =

@@ -1,5 +1,5 @@
 use Rattle.std.proofs.Common.{length, sym, ap, ◌∙◌}
-use Rattle.jpg_spec.proofs.Common.{same_of}
+use Rattle.jpg_spec.proofs.Basics.Common.{same_of}
 use Rattle.jpg_targa.proofs.MadeRows.{as_they_are}
 use Rattle.jpg_targa.proofs.read.make.are_samples.Goals as goal
 

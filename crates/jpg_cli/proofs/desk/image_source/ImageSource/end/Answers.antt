@@ -2,7 +2,7 @@ use Rattle.std.proofs.Common.{sym, subst}
 use Rattle.jpg_cli.specs.Desk.ImageSource.{EndsImage}
 use Rattle.jpg_cli.specs.declared.desk.image_source.ImageSource.{ImageSource}
 use Rattle.jpg_cli.specs.declared.desk.image_source.ImageSource.TheVariants as source
-use Rattle.jpg_cli.proofs.ImageAnswers.{pixels_end, targa_ends}
+use Rattle.jpg_cli.proofs.Encoding.ImageAnswers.{pixels_end, targa_ends}
 use Rattle.jpg_cli.proofs.desk.image_source.ImageSource.end.Goals as goal
 
 pub returns-in-Pixels-clause-ended : goal.returns-in-Pixels-clause-ended

@@ -2,7 +2,7 @@ use Rattle.std.proofs.Common.{sym, subst}
 use Rattle.jpg_cli.specs.Desk.ImageSource.{TakesImagePiece}
 use Rattle.jpg_cli.specs.declared.desk.image_source.ImageSource.{ImageSource}
 use Rattle.jpg_cli.specs.declared.desk.image_source.ImageSource.TheVariants as source
-use Rattle.jpg_cli.proofs.ImageAnswers.{pixels_take, targa_takes}
+use Rattle.jpg_cli.proofs.Encoding.ImageAnswers.{pixels_take, targa_takes}
 use Rattle.jpg_cli.proofs.desk.image_source.ImageSource.feed.Goals as goal
 
 pub returns-in-Pixels-clause-taken : goal.returns-in-Pixels-clause-taken

@@ -2,7 +2,7 @@ use Rattle.std.proofs.Common.{sym, subst}
 use Rattle.std.specs.Prelude.{IfNone, IfSome}
 use Rattle.jpg_cli.specs.Desk.ImageSource.{TellsNoSamples, TellsSamples}
 use Rattle.jpg_cli.specs.declared.desk.image_source.ImageSource.{ImageSource}
-use Rattle.jpg_cli.proofs.ImageAnswers.{pixels_tell, pixels_tell_none}
+use Rattle.jpg_cli.proofs.Encoding.ImageAnswers.{pixels_tell, pixels_tell_none}
 use Rattle.jpg_cli.proofs.desk.image_source.ImageSource.plain.Goals as goal
 
 pub returns-in-Pixels-clause-some : goal.returns-in-Pixels-clause-some

@@ -1,7 +1,7 @@
 use Rattle.std.proofs.Common.{◌≡◌, ◌/◌, ◌*◌, ◌∙◌, ap, arith}
 use Rattle.jpg_spec.specs.Geometry.{div_up}
 use Rattle.jpg_spec_image.specs.Strips.{block_rows}
-use Rattle.jpg_color.proofs.PartNumbers.{AreNumbers, few_bytes, meant, measured, new_part, quants_told, room_is, rows_is, stretch_is, wide_in}
+use Rattle.jpg_color.proofs.PartNumbers.{AreNumbers, few_bytes, meant, measured, new_part, parsed_quants, room_is, rows_is, stretch_is, wide_in}
 use Rattle.jpg_color.proofs.decode.part.Part.new.Goals as goal
 use Rattle.jpg_color.proofs.decode.part.Part.new.Goals.{After-rows_of-block_rows}
 
@@ -44,5 +44,5 @@ returns c =
     new_part c.args.head.now c.args.smooth c.args.i _ c.rows_of-block_rows.result c.index-deref-i.result c.in_ok-rows.rows c.in_ok-line.line.items c.requires.there
     (stretch_is c.args.smooth (numbers (goal.at.returns c).After-rows_of-block_rows))
     (rows (goal.at.returns c).After-rows_of-block_rows)
-    (quants_told c.args.head.now c.args.i c.deref.result.now c.index-deref-i.result c.requires.there c.requires.head.tables c.deref.ensures.0 c.index-deref-i.is)
+    (parsed_quants c.args.head.now c.args.i c.deref.result.now c.index-deref-i.result c.requires.there c.requires.head.tables c.deref.ensures.0 c.index-deref-i.is)
     (room_is _ c.from.ensures c.in_ok-rows.ensures)

@@ -2,7 +2,7 @@ use Rattle.std.proofs.Common.{◌≡◌, ◌∙◌, ◌==◌, [], ◌∷◌, ref
 use Rattle.jpg_spec.specs.Geometry.{Frame, mcus_down}
 use Rattle.jpg_spec.specs.Segments.{AreQuantisers}
 use Rattle.jpg_spec.specs.declared.jfif.Jfif.{Jfif}
-use Rattle.jpg_spec.proofs.Common.{both, same_of}
+use Rattle.jpg_spec.proofs.Basics.Common.{both, same_of}
 use Rattle.jpg_spec_write.specs.Headed.{jfif_contents}
 use Rattle.jpg_color.proofs.EncodedPictures.{parts_due}
 use Rattle.jpg_color.proofs.EncodedViews.{all_rows, blocks_in, finished}

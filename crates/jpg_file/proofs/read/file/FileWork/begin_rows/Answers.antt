@@ -1,14 +1,14 @@
 use Rattle.std.proofs.Common.{◌∙◌, ◌≡◌, List, ℕ, ap, refl, sym}
 use Rattle.jpg_spec.specs.Geometry.{Frame}
-use Rattle.jpg_file.specs.Read.File.{HeadStands, limits_of}
+use Rattle.jpg_file.specs.Read.File.{HasCompleteHeader, limits_of}
 use Rattle.jpg_file.specs.Read.Reading.{HeadWhole, with_coefs}
 use Rattle.jpg_file.specs.Read.RowTurns.{zero_picture}
 use Rattle.jpg_file.specs.Read.Strips.{IsHeadOfAll, contents_held, frame_behind, rows_of_all}
 use Rattle.jpg_file.specs.declared.read.reading.Reading.{Reading}
-use Rattle.jpg_file.proofs.HeaderReady.{are_in}
-use Rattle.jpg_file.proofs.StripBegin.{FirstBegins, first_of, head_room, rows_begun, zero_sizes, zero_whole}
-use Rattle.jpg_file.proofs.StripCounts.{head_rows, kept_frame}
-use Rattle.jpg_file.proofs.StripTold.{begins_told}
+use Rattle.jpg_file.proofs.Headers.HeaderReady.{are_in}
+use Rattle.jpg_file.proofs.ByRow.StripBegin.{FirstBegins, first_of, head_room, rows_begun, zero_sizes, zero_whole}
+use Rattle.jpg_file.proofs.ByRow.StripCounts.{head_rows, kept_frame}
+use Rattle.jpg_file.proofs.ByRow.StripParsed.{begins_told}
 use Rattle.jpg_file.proofs.read.file.FileWork.begin_rows.Goals as goal
 
 pub new-requires-clause-there : goal.new-requires-clause-there
@@ -31,12 +31,12 @@ returns-in-Err-clause-after c = λ bytes h k.
     (a.1, a.0)
 
 -- THE SCAN BEGINS: a header with a picture of zeros, and the file after it with room for a segment
-whole : (c : goal.After-note_head) (bytes : List ℕ) (h : HeadStands (limits_of c.args.self.now) bytes c.args.self.now)
+whole : (c : goal.After-note_head) (bytes : List ℕ) (h : HasCompleteHeader (limits_of c.args.self.now) bytes c.args.self.now)
     → frame_behind (limits_of c.args.self.now) h.items ≡ c.args.frame.now
     → HeadWhole (limits_of c.args.self.now) bytes h.items h.blocks (with_coefs c.args.self.now.reading (zero_picture c.args.frame.now)) c.args.self.now.begun
 whole c bytes h framed = (let w = c.args.self.now in zero_whole (limits_of w) bytes w c.args.frame.now h framed c.checked.ensures (first_of (limits_of w) bytes w h c.requires.first))
 
-abbrev begins : (c : goal.After-note_head) (bytes : List ℕ) (h : HeadStands (limits_of c.args.self.now) bytes c.args.self.now)
+abbrev begins : (c : goal.After-note_head) (bytes : List ℕ) (h : HasCompleteHeader (limits_of c.args.self.now) bytes c.args.self.now)
     → IsHeadOfAll (limits_of c.args.self.now) h.items (contents_held c.args.self.now) c.args.frame.now c.args.head.now
     → FirstBegins (limits_of c.args.self.now) bytes c.args.self.now c.note_head.new.self
 begins c bytes h k =

@@ -1,6 +1,6 @@
 use Rattle.std.proofs.Common.{◌∷◌, [], ◌++◌, sym, subst}
-use Rattle.jpg_file.specs.Read.File.{AfterFileByte, HeadStands, KeepsBytes, MakesPicture, limits_of}
-use Rattle.jpg_file.proofs.FileSteps.{asked}
+use Rattle.jpg_file.specs.Read.File.{AfterFileByte, HasCompleteHeader, KeepsBytes, MakesPicture, limits_of}
+use Rattle.jpg_file.proofs.Files.FileSteps.{asked}
 use Rattle.jpg_file.proofs.read.file.FileWork.byte.Goals as goal
 
 pub take_head-requires : goal.take_head-requires
@@ -8,7 +8,7 @@ take_head-requires c =
     let o = c.requires.stands in
     let all = o.0 ++ c.args.byte ∷ [] in
     let h = (c.in-Head.ensures.after o.0 o.1).0 in
-    record { stands = (all, subst (λ l. HeadStands l all c.step.new.self) (sym (h.at).bounded.1) h) }
+    record { stands = (all, subst (λ l. HasCompleteHeader l all c.step.new.self) (sym (h.at).bounded.1) h) }
 
 pub returns-in-Head-clause-after : goal.returns-in-Head-clause-after
 returns-in-Head-clause-after c = λ bytes k.
@@ -18,7 +18,7 @@ returns-in-Head-clause-after c = λ bytes k.
     let h = a.0 in
     let same = (h.at).bounded.1 in
     subst (λ l. AfterFileByte (KeepsBytes old) l all c.take_head.result c.take_head.new.self) same
-    (asked (MakesPicture c.step.new.self) (KeepsBytes old) (λ m. a.1) (limits_of c.step.new.self) all c.take_head.result c.take_head.new.self (c.take_head.ensures.after all (subst (λ l. HeadStands l all c.step.new.self) (sym same) h)))
+    (asked (MakesPicture c.step.new.self) (KeepsBytes old) (λ m. a.1) (limits_of c.step.new.self) all c.take_head.result c.take_head.new.self (c.take_head.ensures.after all (subst (λ l. HasCompleteHeader l all c.step.new.self) (sym same) h)))
 
 pub returns-in-Eoi-clause-after : goal.returns-in-Eoi-clause-after
 returns-in-Eoi-clause-after c = λ bytes k.

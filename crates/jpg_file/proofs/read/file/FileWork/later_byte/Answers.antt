@@ -1,5 +1,5 @@
 use Rattle.jpg_file.specs.Read.File.{limits_of}
-use Rattle.jpg_file.proofs.StripItems.{after_of, later_goes, later_items, later_there}
+use Rattle.jpg_file.proofs.ByRow.StripItems.{after_of, later_goes, later_items, later_there}
 use Rattle.jpg_file.proofs.read.file.FileWork.later_byte.Goals as goal
 
 pub item_byte-came-requires-clause-stands : goal.item_byte-came-requires-clause-stands

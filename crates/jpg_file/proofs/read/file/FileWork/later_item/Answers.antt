@@ -1,7 +1,7 @@
 use Rattle.std.proofs.Common.{subst}
 use Rattle.jpg_file.specs.Read.File.{AfterFileStep, with_picture}
 use Rattle.jpg_file.specs.declared.read.items.ItemStep.{ItemStep}
-use Rattle.jpg_file.proofs.StripItems.{item_ends}
+use Rattle.jpg_file.proofs.ByRow.StripItems.{item_ends}
 use Rattle.jpg_file.proofs.read.file.FileWork.later_item.Goals as goal
 
 pub returns-in-Head-clause-after : goal.returns-in-Head-clause-after

@@ -3,7 +3,7 @@ use Rattle.std.specs.Prelude.{Result, is_some}
 use Rattle.jpg_file.specs.Read.File.{limits_of}
 use Rattle.jpg_file.specs.Read.Reading.{TakesRunOfScan}
 use Rattle.jpg_spec.specs.declared.fault.FaultAt.{FaultAt}
-use Rattle.jpg_file.proofs.FileSteps.{inside_of, run_fault, run_more}
+use Rattle.jpg_file.proofs.Files.FileSteps.{inside_of, run_fault, run_more}
 use Rattle.jpg_file.proofs.read.file.FileWork.run.Goals as goal
 
 pub scan_run-n-requires-clause-stands : goal.scan_run-n-requires-clause-stands

@@ -1,8 +1,8 @@
 use Rattle.std.proofs.Common.{◌<◌, ◌++◌, take, sym, subst}
 use Rattle.jpg_spec.specs.FrameHeader.{AreLimits}
 use Rattle.jpg_spec.specs.declared.frame.Limits.{Limits}
-use Rattle.jpg_file.specs.Read.File.{StandsForFile, limits_of}
-use Rattle.jpg_file.proofs.PieceSteps.{front_taken, one_taken}
+use Rattle.jpg_file.specs.Read.File.{RepresentsFile, limits_of}
+use Rattle.jpg_file.proofs.Files.PieceSteps.{front_taken, one_taken}
 use Rattle.jpg_file.proofs.read.file.FileWork.some.Goals as goal
 
 pub returns-then-n-gt0-clause-after : goal.returns-then-n-gt0-clause-after
@@ -13,7 +13,7 @@ byte-requires-clause-stands c =
     let o = c.requires.stands in
     let p = c.front-n.ensures.after in
     let all = o.0 ++ take c.front-n.result c.args.bytes.now in
-    (all, subst (λ l. StandsForFile l all c.front-n.new.self) (sym p.limits) (p.stands (limits_of c.args.self.now) o.0 o.1))
+    (all, subst (λ l. RepresentsFile l all c.front-n.new.self) (sym p.limits) (p.stands (limits_of c.args.self.now) o.0 o.1))
 
 pub byte-requires-clause-limits : goal.byte-requires-clause-limits
 byte-requires-clause-limits c = let p = c.front-n.ensures.after in subst (λ l. AreLimits l) (sym p.limits) c.requires.limits

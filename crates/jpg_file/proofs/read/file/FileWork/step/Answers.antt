@@ -1,7 +1,7 @@
 use Rattle.std.proofs.Common.{◌∷◌, [], ◌∙◌, refl, sym, arith}
 use Rattle.std.proofs.lemmas.List.{length-append}
-use Rattle.jpg_file.proofs.FileSteps.{after_between, after_inside, between_of, inside_of, itemising}
-use Rattle.jpg_file.proofs.PieceSteps.{counted}
+use Rattle.jpg_file.proofs.Files.FileSteps.{after_between, after_inside, between_of, inside_of, itemising}
+use Rattle.jpg_file.proofs.Files.PieceSteps.{counted}
 use Rattle.jpg_file.specs.Read.File.{limits_of}
 use Rattle.jpg_file.proofs.read.file.FileWork.step.Goals as goal
 

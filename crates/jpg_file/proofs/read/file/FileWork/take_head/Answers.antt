@@ -2,7 +2,7 @@ use Rattle.std.proofs.Common.{◌∙◌, Err, refl, sym, ap, subst}
 use Rattle.jpg_file.specs.Read.File.{limits_of}
 use Rattle.jpg_file.specs.Read.Reading.{HeadWhole}
 use Rattle.jpg_file.specs.declared.read.file.FileWork.{FileWork}
-use Rattle.jpg_file.proofs.FileSteps.{head_after, head_goes, head_whole, no_room, room_made}
+use Rattle.jpg_file.proofs.Files.FileSteps.{head_after, head_goes, head_whole, no_room, room_made}
 use Rattle.jpg_file.proofs.read.file.FileWork.take_head.Goals as goal
 
 pub take_head-requires : goal.take_head-requires

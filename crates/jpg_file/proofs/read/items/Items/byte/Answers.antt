@@ -4,7 +4,7 @@ use Rattle.jpg_base.specs.declared.stop.Stop.{Stop}
 use Rattle.jpg_markers.specs.declared.segments.SegStep.{SegStep}
 use Rattle.jpg_markers.specs.declared.segments.SegmentReader.{SegmentReader}
 use Rattle.jpg_markers.specs.Reading.{reading_of, AfterWhole, Comes}
-use Rattle.jpg_file.proofs.ItemBytes.{goes_on, byte_fault, after_segment, after_end}
+use Rattle.jpg_file.proofs.Files.ItemBytes.{goes_on, byte_fault, after_segment, after_end}
 use Rattle.jpg_file.proofs.read.items.Items.byte.Goals as goal
 
 pub returns-in-Err-Fault-clause-after : goal.returns-in-Err-Fault-clause-after

@@ -1,5 +1,5 @@
 use Rattle.std.proofs.Common.{refl}
-use Rattle.jpg_file.proofs.ItemBytes.{stretch_passes, nothing_passes}
+use Rattle.jpg_file.proofs.Files.ItemBytes.{stretch_passes, nothing_passes}
 use Rattle.jpg_file.proofs.read.items.Items.contents.Goals as goal
 
 pub returns-in-Ok-clause-after : goal.returns-in-Ok-clause-after

@@ -1,5 +1,5 @@
 use Rattle.std.proofs.Common.{refl}
-use Rattle.jpg_file.proofs.ScanLeft.{after_head}
+use Rattle.jpg_file.proofs.Scans.ScanLeft.{after_head}
 use Rattle.jpg_file.proofs.read.items.Items.head_done.Goals as goal
 
 pub returns-clause-behind : goal.returns-clause-behind

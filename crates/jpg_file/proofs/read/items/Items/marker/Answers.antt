@@ -3,8 +3,8 @@ use Rattle.jpg_spec.specs.Markers.{Segment}
 use Rattle.jpg_spec.specs.Items.{segments_of}
 use Rattle.jpg_base.specs.declared.stop.Stop.{Stop}
 use Rattle.jpg_markers.specs.declared.segments.SegStep.{SegStep}
-use Rattle.jpg_markers.specs.Reading.{reading_of, Comes, NotWanting}
-use Rattle.jpg_file.proofs.ScanLeft.{sent_with, left_more, left_fault, left_end, left_whole}
+use Rattle.jpg_markers.specs.Reading.{reading_of, Comes, HasMemory}
+use Rattle.jpg_file.proofs.Scans.ScanLeft.{sent_with, left_more, left_fault, left_end, left_whole}
 use Rattle.jpg_file.proofs.read.items.Items.marker.Goals as goal
 
 pub returns-in-Err-Fault-clause-after : goal.returns-in-Err-Fault-clause-after
@@ -56,4 +56,4 @@ returns-in-Ok-Frame-clause-after c = λ items contents bytes now k e.
     left_more w.limits items contents bytes c.args.code now w k c.marker.new.self e came.1 c.in-Ok-Frame.ensures.limits
 
 pub returns-in-Err-NoMemory-clause-after : goal.returns-in-Err-NoMemory-clause-after
-returns-in-Err-NoMemory-clause-after c = λ items contents bytes now k e. absurd (subst (λ (s : Stop). NotWanting (Err s)) c.in-Err-NoMemory.field-0-is c.in-Err-NoMemory.ensures.memory)
+returns-in-Err-NoMemory-clause-after c = λ items contents bytes now k e. absurd (subst (λ (s : Stop). HasMemory (Err s)) c.in-Err-NoMemory.field-0-is c.in-Err-NoMemory.ensures.memory)

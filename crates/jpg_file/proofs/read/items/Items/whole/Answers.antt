@@ -1,5 +1,5 @@
 use Rattle.std.proofs.Common.{refl}
-use Rattle.jpg_file.proofs.ItemBytes.{nothing_passes, whole_passes}
+use Rattle.jpg_file.proofs.Files.ItemBytes.{nothing_passes, whole_passes}
 use Rattle.jpg_file.proofs.read.items.Items.whole.Goals as goal
 
 pub returns-in-Done-clause-after : goal.returns-in-Done-clause-after

@@ -1,10 +1,10 @@
 use Rattle.jpg_seq.specs.Reader.{sequential}
-use Rattle.jpg_prog_read.specs.AcStands.{progressive_ac}
+use Rattle.jpg_prog_read.specs.RepresentsAcScan.{progressive_ac}
 use Rattle.jpg_prog_read.specs.DcFirstPass.{first_pass}
 use Rattle.jpg_prog_read.specs.DcRefinement.{refinement}
 use Rattle.jpg_file.specs.Read.Machine.{any_scan}
 use Rattle.jpg_file.specs.declared.read.machine.ScanReader.TheVariants.{Sequential, DcFirst, DcRefine, Ac}
-use Rattle.jpg_file.proofs.Machines.{is_sequential, is_dc_first, is_dc_later, is_ac, takes_of}
+use Rattle.jpg_file.proofs.Scans.Machines.{is_sequential, is_dc_first, is_dc_later, is_ac, takes_of}
 use Rattle.jpg_file.proofs.read.machine.ScanReaderScanMachine.bits.Goals as goal
 
 pub returns-in-Sequential : goal.returns-in-Sequential

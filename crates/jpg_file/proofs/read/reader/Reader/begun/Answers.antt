@@ -1,6 +1,6 @@
 use Rattle.std.proofs.Common.{sym, subst}
 use Rattle.jpg_file.specs.Read.ReadFile.{HasRead, ReaderState, TellsBegun}
-use Rattle.jpg_file.proofs.Leaving.{tells_begun}
+use Rattle.jpg_file.proofs.Files.Leaving.{tells_begun}
 use Rattle.jpg_file.proofs.read.reader.Reader.begun.Goals as goal
 
 pub returns : goal.returns

@@ -2,13 +2,13 @@ use Rattle.std.proofs.Common.{rules, ◌∙◌, sym, ap, subst}
 use Rattle.jpg_base.specs.declared.stop.Stop.{Stop}
 use Rattle.jpg_spec.specs.FirstFault.{IsFirstFault}
 use Rattle.jpg_spec.specs.declared.fault.Fault.TheVariants.{Truncated}
-use Rattle.jpg_spec.proofs.FileLaws.{stands_truncated}
+use Rattle.jpg_spec.proofs.Files.FileLaws.{stands_truncated}
 use Rattle.jpg_file.specs.Read.ReadFile.{HasRead, ReaderState, StopsAt, TellsBegun}
 use Rattle.jpg_file.specs.Read.ReadRows.{HasReadAll}
-use Rattle.jpg_file.proofs.Leaving.{ends_early, tells_begun}
-use Rattle.jpg_file.proofs.PieceSteps.{counted}
-use Rattle.jpg_file.proofs.RowsEnd.{all_told, early_answered, keeps_early}
-use Rattle.jpg_file.proofs.RowsRead.{read_all}
+use Rattle.jpg_file.proofs.Files.Leaving.{ends_early, tells_begun}
+use Rattle.jpg_file.proofs.Files.PieceSteps.{counted}
+use Rattle.jpg_file.proofs.ByRow.RowsEnd.{all_told, early_answered, keeps_early}
+use Rattle.jpg_file.proofs.ByRow.RowsRead.{read_all}
 use Rattle.jpg_file.proofs.read.reader.Reader.end.Goals as goal
 
 pub invariant_of-self : goal.invariant_of-self

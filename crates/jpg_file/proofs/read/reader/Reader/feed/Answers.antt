@@ -5,7 +5,7 @@ use Rattle.jpg_file.specs.Read.ReadFile.{HasRead, ReaderState}
 use Rattle.jpg_file.specs.Read.PieceTaken.{ReadsPiece}
 use Rattle.jpg_file.specs.declared.read.row_pieces.FedRow.{FedRow}
 use Rattle.jpg_file.specs.declared.read.row_pieces.FedRow.TheVariants as fed
-use Rattle.jpg_file.proofs.ReaderFed.{fed_done, fed_more, fed_no_row, fed_stop, keeps_done_rows, keeps_more_rows, plain_stands}
+use Rattle.jpg_file.proofs.Files.ReaderFed.{fed_done, fed_more, fed_no_row, fed_stop, keeps_done_rows, keeps_more_rows, plain_stands}
 use Rattle.jpg_file.proofs.read.reader.Reader.feed.Goals as goal
 
 pub invariant_of-self : goal.invariant_of-self

@@ -1,13 +1,13 @@
 use Rattle.std.proofs.Common.{rules, ◌∙◌, ap, subst, sym, Ok, Some, ◌≡◌, true}
 use Rattle.jpg_file.specs.Read.ReadFile.{ReaderState}
-use Rattle.jpg_file.proofs.ReaderFed.{keeps_done_rows, keeps_given_rows, keeps_more_rows}
+use Rattle.jpg_file.proofs.Files.ReaderFed.{keeps_done_rows, keeps_given_rows, keeps_more_rows}
 use Rattle.std.specs.Prelude.{Result}
 use Rattle.jpg_base.specs.declared.stop.Stop.{Stop}
 use Rattle.jpg_file.specs.Read.ReadRows.{AfterFeedRow, HasReadSoFar}
 use Rattle.jpg_file.specs.Read.PieceTaken.{ReadsPiece}
 use Rattle.jpg_file.specs.declared.read.row_pieces.FedRow.{FedRow}
 use Rattle.jpg_file.specs.declared.read.row_pieces.FedRow.TheVariants as fed
-use Rattle.jpg_file.proofs.RowsAnswered.{done_answered, more_answered, row_answered, stop_answered}
+use Rattle.jpg_file.proofs.ByRow.RowsAnswered.{done_answered, more_answered, row_answered, stop_answered}
 use Rattle.jpg_file.proofs.read.reader.Reader.feed_row.Goals as goal
 
 pub invariant_of-self : goal.invariant_of-self

@@ -1,13 +1,13 @@
 use Rattle.std.proofs.Common.{[], refl, arith}
-use Rattle.jpg_file.proofs.FileSteps.{head_is}
-use Rattle.jpg_file.proofs.PieceSteps.{stands_file}
+use Rattle.jpg_file.proofs.Files.FileSteps.{head_is}
+use Rattle.jpg_file.proofs.Files.PieceSteps.{stands_file}
 use Rattle.jpg_file.proofs.read.reader.Reader.for_copying.Goals as goal
 
 pub returns-clause-read : goal.returns-clause-read
 returns-clause-read c =
     let some = c.requires.some in
     record {
-      going = refl;
+      skip_ahead = refl;
       undone = refl;
       short = omega (arith, some);
       stands = stands_file c.args.limits [] c.new.result c.new.ensures.stands;

@@ -1,6 +1,6 @@
 use Rattle.std.proofs.Common.{◌≡◌, ◌+◌, length, sym, subst, arith}
 use Rattle.jpg_file.specs.Read.ReadFile.{HasRead, ReaderState}
-use Rattle.jpg_file.proofs.PieceSteps.{counted}
+use Rattle.jpg_file.proofs.Files.PieceSteps.{counted}
 use Rattle.jpg_file.proofs.read.reader.Reader.room.Goals as goal
 
 pub returns-clause-left : goal.returns-clause-left

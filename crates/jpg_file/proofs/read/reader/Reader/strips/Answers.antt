@@ -1,5 +1,5 @@
 use Rattle.std.proofs.Common.{[], refl}
-use Rattle.jpg_file.proofs.RowsRead.{read_nothing}
+use Rattle.jpg_file.proofs.ByRow.RowsRead.{read_nothing}
 use Rattle.jpg_file.proofs.read.reader.Reader.strips.Goals as goal
 
 pub returns-clause-read : goal.returns-clause-read

@@ -1,7 +1,7 @@
 use Rattle.std.proofs.Common.{subst}
 use Rattle.jpg_file.specs.Read.PictureRead.{RevealsFile}
 use Rattle.jpg_file.specs.Read.ReadFile.{ReaderState}
-use Rattle.jpg_file.proofs.Leaving.{takes_whole}
+use Rattle.jpg_file.proofs.Files.Leaving.{takes_whole}
 use Rattle.jpg_file.proofs.read.reader.Reader.take.Goals as goal
 
 pub returns-clause-meaning : goal.returns-clause-meaning

@@ -6,19 +6,19 @@ use Rattle.jpg_spec.specs.QuantContents.{Slots, quant_in}
 use Rattle.jpg_spec.specs.History.{names}
 use Rattle.jpg_spec.specs.Items.{segments_of}
 use Rattle.jpg_spec.specs.declared.frame.ScanPart.{ScanPart}
-use Rattle.jpg_spec.proofs.FrameFound.{framed}
-use Rattle.jpg_file.specs.Read.ScanHistory.{StandsForHeads, quant_named}
-use Rattle.jpg_file.specs.Read.SegmentState.{told_by}
+use Rattle.jpg_spec.proofs.Headers.FrameFound.{framed}
+use Rattle.jpg_file.specs.Read.ScanHistory.{RepresentsHeads, quant_named}
+use Rattle.jpg_file.specs.Read.SegmentState.{segments_view}
 use Rattle.jpg_spec.specs.Segments.{ScanHead}
 use Rattle.jpg_markers.specs.Reading.{reading_of}
 use Rattle.jpg_file.specs.Read.Reading.{waiting_bytes, with_coefs}
 use Rattle.jpg_file.specs.Read.RowPlaces.{scan_left}
 use Rattle.jpg_file.specs.declared.read.scan.InScan.{InScan}
-use Rattle.jpg_spec.proofs.Common.{some_once}
-use Rattle.jpg_file.proofs.RowCounts.{begun_places}
-use Rattle.jpg_file.proofs.ScanHistories.{begun_more, table_there}
-use Rattle.jpg_file.proofs.HeaderTaken.{found, judged, head_begins, head_shows}
-use Rattle.jpg_file.proofs.Scannings.{none_some}
+use Rattle.jpg_spec.proofs.Basics.Common.{some_once}
+use Rattle.jpg_file.proofs.ByRow.RowCounts.{begun_places}
+use Rattle.jpg_file.proofs.Headers.ScanHistories.{begun_more, table_there}
+use Rattle.jpg_file.proofs.Headers.HeaderTaken.{found, judged, head_begins, head_shows}
+use Rattle.jpg_file.proofs.Scans.Scannings.{none_some}
 use Rattle.jpg_file.proofs.read.reading.Reading.begin_head.Goals as goal
 
 pub unreachable-requires : goal.unreachable-requires
@@ -66,7 +66,7 @@ returns-in-Ok-clause-after c = λ q sizes bytes items blocks k.
     let j = judged r.items.limits bytes items blocks r b f q c.contents.result.now (Ok head) w c.contents.ensures c.in-Ok.ensures in
     let begins = head_begins r.items.limits bytes items blocks r b f q head c.tables-tables.result c.tables-tables.ensures w j in
     let begun = c.begin_data.ensures in
-    let slots : Slots = (told_by r.items.held).quants in
+    let slots : Slots = (segments_view r.items.held).quants in
     let same = c.as_slice-parts.ensures.value ∙ ap (λ (h : ScanHead). h.parts) c.head.view_is in (
       record {
         coefs = q;
@@ -82,12 +82,12 @@ returns-in-Ok-clause-after c = λ q sizes bytes items blocks k.
           (framed (segments_of items) begins.allowed)
           ((k.segment).holds).quants
           (record {
-            scans = subst (λ (g : Frame). (heads : List ScanHead) → StandsForHeads b.progress g heads → StandsForHeads c.note.new.self.progress g (head ∷ heads)) (sym (begins.header).framed)
-                (λ heads stands. c.note.ensures.scans heads (subst (λ o. StandsForHeads o f heads) (sym c.note_quants.ensures.progress) stands));
+            scans = subst (λ (g : Frame). (heads : List ScanHead) → RepresentsHeads b.progress g heads → RepresentsHeads c.note.new.self.progress g (head ∷ heads)) (sym (begins.header).framed)
+                (λ heads stands. c.note.ensures.scans heads (subst (λ o. RepresentsHeads o f heads) (sym c.note_quants.ensures.progress) stands));
             quants = λ i. ap (λ (s : Slots). quant_in s i) c.note.ensures.quants ∙ c.note_quants.ensures.quants i
                 ∙ ap (λ (l : List ScanPart). first_some (quant_in b.quants i) (quant_named f slots l i)) same
                 ∙ ap (λ (g : Frame). first_some (quant_in b.quants i) (quant_named g slots head.parts i)) (sym (begins.header).framed);
-            tables = λ i. subst (λ (g : Frame). names head i ≡ true → is_none (quant_in slots (component_at g i).quant) ≡ false) (sym (begins.header).framed) (table_there (told_by r.items.held) f head i j.3);
+            tables = λ i. subst (λ (g : Frame). names head i ≡ true → is_none (quant_in slots (component_at g i).quant) ≡ false) (sym (begins.header).framed) (table_there (segments_view r.items.held) f head i j.3);
           })
           k.begun,
     )

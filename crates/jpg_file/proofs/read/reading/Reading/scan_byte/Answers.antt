@@ -2,7 +2,7 @@ use Rattle.std.proofs.Common.{◌∙◌, Bool, Ok, ap, subst}
 use Rattle.std.specs.Prelude.{Result}
 use Rattle.jpg_spec.specs.declared.fault.Fault.{Fault}
 use Rattle.jpg_file.specs.Read.InData.{TakesScanByte}
-use Rattle.jpg_file.proofs.Scannings.{IsReading, scan_goes_on, scan_shows, scan_left_after}
+use Rattle.jpg_file.proofs.Scans.Scannings.{IsReading, scan_goes_on, scan_shows, scan_left_after}
 use Rattle.jpg_file.proofs.read.reading.Reading.scan_byte.Goals as goal
 
 pub returns-in-Ok-false-clause-after : goal.returns-in-Ok-false-clause-after

@@ -1,10 +1,10 @@
 use Rattle.std.proofs.Common.{sym, ap, subst, ◌∙◌}
 use Rattle.std.specs.Prelude.{Result}
 use Rattle.jpg_spec.specs.declared.fault.Fault.{Fault}
-use Rattle.jpg_spec.proofs.Common.{some_once}
+use Rattle.jpg_spec.proofs.Basics.Common.{some_once}
 use Rattle.jpg_file.specs.Read.InData.{TakesRun}
 use Rattle.jpg_file.specs.declared.read.scan.InScan.{InScan}
-use Rattle.jpg_file.proofs.Scannings.{IsReading, data_of, none_some, run_goes_on, run_shows}
+use Rattle.jpg_file.proofs.Scans.Scannings.{IsReading, data_of, none_some, run_goes_on, run_shows}
 use Rattle.jpg_file.proofs.read.reading.Reading.scan_run.Goals as goal
 
 pub unreachable-requires : goal.unreachable-requires

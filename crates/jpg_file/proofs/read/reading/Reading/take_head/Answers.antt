@@ -1,7 +1,7 @@
 use Rattle.std.proofs.Common.{◌∙◌, Option, sym, subst}
 use Rattle.jpg_coefs.specs.Picture.{Picture}
 use Rattle.jpg_file.specs.Read.Reading.{AfterHead, HeadWhole}
-use Rattle.jpg_file.proofs.Scannings.{none_some}
+use Rattle.jpg_file.proofs.Scans.Scannings.{none_some}
 use Rattle.jpg_file.proofs.read.reading.Reading.take_head.Goals as goal
 
 pub unreachable-requires : goal.unreachable-requires

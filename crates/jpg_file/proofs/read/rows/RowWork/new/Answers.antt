@@ -1,7 +1,7 @@
 use Rattle.std.proofs.Common.{◌*◌, ◌∙◌, ap, arith, refl}
 use Rattle.jpg_spec.specs.Geometry.{scan_mcus_across}
 use Rattle.jpg_spec.specs.Segments.{head_components}
-use Rattle.jpg_file.proofs.RowTurns.{first_in, first_unfinished, no_tops, some_rows}
+use Rattle.jpg_file.proofs.ByRow.RowTurns.{first_in, first_unfinished, no_tops, some_rows}
 use Rattle.jpg_file.proofs.read.rows.RowWork.new.Goals as goal
 
 pub overflow_sub-result : goal.overflow_sub-result

@@ -1,7 +1,7 @@
 use Rattle.std.proofs.Common.{arith, refl}
 use Rattle.jpg_spec.specs.Geometry.{padded_blocks}
 use Rattle.jpg_file.specs.declared.read.rows.RowWork.{RowWork}
-use Rattle.jpg_file.proofs.RowTurns.{next_in, tops_few, turned}
+use Rattle.jpg_file.proofs.ByRow.RowTurns.{next_in, tops_few, turned}
 use Rattle.jpg_file.proofs.read.rows.RowWork.next.Goals as goal
 
 pub next_tops-self-requires : goal.next_tops-self-requires

@@ -3,7 +3,7 @@ use Rattle.std.specs.Prelude.{Result}
 use Rattle.jpg_spec.specs.declared.fault.Fault.{Fault}
 use Rattle.jpg_file.specs.Read.InData.{AfterByte, MarkerAt}
 use Rattle.jpg_file.specs.declared.read.scan.InScan.{InScan}
-use Rattle.jpg_file.proofs.ScanBytes.{by_data, ff_byte, data_at, data_byte, marker_at, marker_byte, never_over}
+use Rattle.jpg_file.proofs.Scans.ScanBytes.{data_answer, ff_byte, data_at, data_byte, marker_at, marker_byte, never_over}
 use Rattle.jpg_file.proofs.read.scan.InScan.byte.Goals as goal
 
 pub returns-in-More-clause-after : goal.returns-in-More-clause-after
@@ -15,7 +15,7 @@ returns-in-Data-clause-after c = λ limits items contents bytes d.
     let new : InScan = record { gate = c.byte.new.self; work = c.data.new.self } in
     let at = data_at limits items contents bytes c.args.byte c.in-Data.data c.args.self.now c.args.coefs.now d c.in-Data.ensures.0 in
     let k = data_byte limits items contents all _ c.byte.new.self c.data.new.self c.data.new.coefs c.data.result d.of at c.in-Data.ensures.1 (c.data.ensures limits d.place all at d.work) in
-    subst (λ (a : Result Bool Fault). AfterByte limits items contents all c.args.byte a new c.data.new.coefs) (sym c.by_data.ensures) (by_data limits items contents all c.args.byte c.data.result new c.data.new.coefs k)
+    subst (λ (a : Result Bool Fault). AfterByte limits items contents all c.args.byte a new c.data.new.coefs) (sym c.data_answer.ensures) (data_answer limits items contents all c.args.byte c.data.result new c.data.new.coefs k)
 
 pub returns-in-Marker-clause-after : goal.returns-in-Marker-clause-after
 returns-in-Marker-clause-after c = λ limits items contents bytes d.
@@ -39,4 +39,4 @@ marker-requires c =
     (o.0, d.place, o.3 ++ c.in-Marker.code ∷ [], c.args.coefs.now, marker_at o.0 o.1 o.2 o.3 c.in-Marker.code c.args.self.now c.args.coefs.now d e.0 z f)
 
 pub returns-in-Data-clause-waited : goal.returns-in-Data-clause-waited
-returns-in-Data-clause-waited c = λ e. absurd (never_over c.data.result (sym c.by_data.ensures ∙ e))
+returns-in-Data-clause-waited c = λ e. absurd (never_over c.data.result (sym c.data_answer.ensures ∙ e))

@@ -8,11 +8,11 @@ use Rattle.jpg_file.specs.declared.read.scan.InScan.{InScan}
 use Rattle.jpg_file.specs.Read.InData.{AfterByte, MarkerAt}
 use Rattle.jpg_file.specs.Read.Machine.{any_scan}
 use Rattle.jpg_file.specs.Read.Data.{GivesBits}
-use Rattle.jpg_file.proofs.RowBits.{half_after}
-use Rattle.jpg_file.proofs.RowCounts.{counts_scan, none_counted}
-use Rattle.jpg_file.proofs.FaultsData.{byte_extra, byte_faults, byte_wrong, goes_on}
-use Rattle.jpg_file.proofs.RowScans.{by_data, open_scan, rest_none}
-use Rattle.jpg_file.proofs.ScanBytes.{as_stepped, data_at, ff_byte, marker_at, marker_byte, whole_extra}
+use Rattle.jpg_file.proofs.ByRow.RowBits.{half_after}
+use Rattle.jpg_file.proofs.ByRow.RowCounts.{counts_scan, none_counted}
+use Rattle.jpg_file.proofs.ByRow.FaultsData.{byte_extra, byte_faults, byte_wrong, goes_on}
+use Rattle.jpg_file.proofs.ByRow.RowScans.{data_answer, open_scan, rest_none}
+use Rattle.jpg_file.proofs.Scans.ScanBytes.{as_stepped, data_at, ff_byte, marker_at, marker_byte, whole_extra}
 use Rattle.jpg_file.proofs.read.scan.InScan.byte_in_row.Goals as goal
 
 pub returns-in-More-clause-takes : goal.returns-in-More-clause-takes
@@ -47,7 +47,7 @@ returns-else-self-clause-takes c = λ limits items contents bytes whole at d.
     let z = as_stepped c.args.self.now.work c.stepped.new.self c.take-taken.new.machine c.take-taken.result c.stepped.result (λ a v. AfterRowBytes limits items contents all a c.take-taken.new.self.waiting (record { gate = c.byte.new.self; work = v }) t.0) c.stepped.ensures.answer c.stepped.ensures.work k in
     let new : InScan = record { gate = c.byte.new.self; work = c.stepped.new.self } in
     let R : Result Bool Fault → Type 0 = λ a. AfterRowByte limits items contents all c.args.byte a c.take-taken.new.self.waiting new t.0 in
-    (t.0, t.1, subst R (sym c.by_data.ensures) (by_data limits items contents all c.args.byte c.stepped.result c.take-taken.new.self.waiting new t.0 z))
+    (t.0, t.1, subst R (sym c.data_answer.ensures) (data_answer limits items contents all c.args.byte c.stepped.result c.take-taken.new.self.waiting new t.0 z))
 
 pub returns-in-Marker-clause-takes : goal.returns-in-Marker-clause-takes
 returns-in-Marker-clause-takes c = λ limits items contents bytes whole at d.
@@ -97,7 +97,7 @@ returns-then-self-clause-stops c = byte_extra c.args.self.now c.args.rows.now c.
 pub returns-else-self-clause-stops : goal.returns-else-self-clause-stops
 returns-else-self-clause-stops c =
     let e : c.push.new.self ≡ bits_of 8 c.in-Data.data = c.push.ensures ∙ ap (λ (z : List Bool). z ++ bits_of 8 c.in-Data.data) c.new-store.ensures in
-    byte_faults c.args.self.now c.args.rows.now c.args.byte c.in-Data.data c.push.new.self c.stepped.result c.by_data.result c.take-taken.result c.in-Data.ensures.0 c.if-self.false e c.stepped.ensures.answer c.by_data.ensures c.take-taken.ensures.stops
+    byte_faults c.args.self.now c.args.rows.now c.args.byte c.in-Data.data c.push.new.self c.stepped.result c.data_answer.result c.take-taken.result c.in-Data.ensures.0 c.if-self.false e c.stepped.ensures.answer c.data_answer.ensures c.take-taken.ensures.stops
 
 pub returns-in-Marker-clause-stops : goal.returns-in-Marker-clause-stops
 returns-in-Marker-clause-stops c =

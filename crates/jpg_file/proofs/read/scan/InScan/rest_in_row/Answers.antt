@@ -1,11 +1,11 @@
 use Rattle.std.proofs.Common.{◌∙◌, ap}
 use Rattle.jpg_file.specs.Read.RowData.{AfterRowBytes}
 use Rattle.jpg_file.specs.declared.read.scan.ScanWork.{ScanWork}
-use Rattle.jpg_file.proofs.RowCounts.{counts_scan}
-use Rattle.jpg_file.proofs.RowBits.{half_then}
-use Rattle.jpg_file.proofs.FaultsData.{rest_faults}
-use Rattle.jpg_file.proofs.RowScans.{open_half}
-use Rattle.jpg_file.proofs.ScanBytes.{as_stepped}
+use Rattle.jpg_file.proofs.ByRow.RowCounts.{counts_scan}
+use Rattle.jpg_file.proofs.ByRow.RowBits.{half_then}
+use Rattle.jpg_file.proofs.ByRow.FaultsData.{rest_faults}
+use Rattle.jpg_file.proofs.ByRow.RowScans.{open_half}
+use Rattle.jpg_file.proofs.Scans.ScanBytes.{as_stepped}
 use Rattle.jpg_file.proofs.read.scan.InScan.rest_in_row.Goals as goal
 
 pub take_waiting-taken-requires-clause-open : goal.take_waiting-taken-requires-clause-open

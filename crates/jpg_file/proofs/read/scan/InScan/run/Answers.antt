@@ -1,6 +1,6 @@
 use Rattle.jpg_file.specs.Read.InData.{TakesRun}
-use Rattle.jpg_file.proofs.ScanBytes.{as_stepped}
-use Rattle.jpg_file.proofs.ScanRuns.{run_takes}
+use Rattle.jpg_file.proofs.Scans.ScanBytes.{as_stepped}
+use Rattle.jpg_file.proofs.Scans.ScanRuns.{run_takes}
 use Rattle.jpg_file.proofs.read.scan.InScan.run.Goals as goal
 
 pub returns : goal.returns

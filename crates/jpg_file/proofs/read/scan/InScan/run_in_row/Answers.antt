@@ -1,9 +1,9 @@
 use Rattle.std.proofs.Common.{arith}
 use Rattle.jpg_file.specs.Read.RowData.{RunRest}
-use Rattle.jpg_file.proofs.RowCounts.{counts_scan}
-use Rattle.jpg_file.proofs.FaultsData.{run_faults}
-use Rattle.jpg_file.proofs.RowScans.{open_scan, run_in_row}
-use Rattle.jpg_file.proofs.ScanBytes.{as_stepped}
+use Rattle.jpg_file.proofs.ByRow.RowCounts.{counts_scan}
+use Rattle.jpg_file.proofs.ByRow.FaultsData.{run_faults}
+use Rattle.jpg_file.proofs.ByRow.RowScans.{open_scan, run_in_row}
+use Rattle.jpg_file.proofs.Scans.ScanBytes.{as_stepped}
 use Rattle.jpg_file.proofs.read.scan.InScan.run_in_row.Goals as goal
 
 pub take_bytes-n-requires-clause-open : goal.take_bytes-n-requires-clause-open

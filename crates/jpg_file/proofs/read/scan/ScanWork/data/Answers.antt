@@ -1,6 +1,6 @@
 use Rattle.jpg_spec.specs.ScanReading.{with_byte}
 use Rattle.jpg_file.specs.Read.InData.{AfterData}
-use Rattle.jpg_file.proofs.ScanBytes.{as_stepped, due_data, whole_extra}
+use Rattle.jpg_file.proofs.Scans.ScanBytes.{as_stepped, due_data, whole_extra}
 use Rattle.jpg_file.proofs.read.scan.ScanWork.data.Goals as goal
 
 pub returns-then-self : goal.returns-then-self

@@ -1,5 +1,5 @@
 use Rattle.jpg_spec.specs.ScanReading.{with_interval}
-use Rattle.jpg_file.proofs.ScanBytes.{short_marker, last_marker, last_framed, wrong_marker, right_marker}
+use Rattle.jpg_file.proofs.Scans.ScanBytes.{short_marker, last_marker, last_framed, wrong_marker, right_marker}
 use Rattle.jpg_file.proofs.read.scan.ScanWork.marker.Goals as goal
 
 pub next_interval-requires : goal.next_interval-requires

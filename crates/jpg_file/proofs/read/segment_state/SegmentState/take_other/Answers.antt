@@ -8,7 +8,7 @@ use Rattle.jpg_spec.specs.declared.jfif.Jfif.{Jfif}
 use Rattle.jpg_markers.specs.Apps.{IsApp}
 use Rattle.jpg_markers.specs.declared.app.App.{App}
 use Rattle.jpg_markers.specs.declared.app.App.TheVariants as app
-use Rattle.jpg_file.specs.Read.SegmentState.{SegmentView, Holds, told_by}
+use Rattle.jpg_file.specs.Read.SegmentState.{SegmentView, Holds, segments_view}
 use Rattle.jpg_file.specs.Read.Keeping.{is_wanted}
 use Rattle.jpg_file.proofs.read.segment_state.SegmentState.take_other.Goals as goal
 
@@ -40,7 +40,7 @@ returns-in_default c = record {
           quants = search (rules, holds);
           interval = search (rules, holds);
           scanned = search (rules, holds);
-          kept = kept_more c.args.limits (told_by c.args.self.now) before c.args.code c.args.contents.now c.push.new.self holds (search rules) (search rules) c.in-Ok.ensures.pushed;
+          kept = kept_more c.args.limits (segments_view c.args.self.now) before c.args.code c.args.contents.now c.push.new.self holds (search rules) (search rules) c.in-Ok.ensures.pushed;
           jfif = search (rules, holds, none);
         },
       ));

@@ -1,13 +1,13 @@
 use Rattle.std.proofs.Common.{[], ◌∷◌, ◌++◌, ◌∙◌, Option, sym, subst}
 use Rattle.jpg_spec.specs.declared.frame.Limits.{Limits}
 use Rattle.jpg_base.specs.declared.stop.Stop.TheVariants as stop
-use Rattle.jpg_file.specs.Read.File.{HeadStands, limits_of}
+use Rattle.jpg_file.specs.Read.File.{HasCompleteHeader, limits_of}
 use Rattle.jpg_file.specs.Read.RowsNone.{HasNoRows, NoneAfter}
 use Rattle.jpg_file.specs.Read.Strips.{AfterStrip}
 use Rattle.jpg_file.specs.declared.read.rows.RowWork.{RowWork}
 use Rattle.jpg_file.specs.declared.read.step.Step.TheVariants as step
-use Rattle.jpg_file.proofs.StripWorks.{plain_after}
-use Rattle.jpg_file.proofs.RowsNone.{none_after, none_before, none_fault, none_plain}
+use Rattle.jpg_file.proofs.ByRow.StripWorks.{plain_after}
+use Rattle.jpg_file.proofs.ByRow.RowsNone.{none_after, none_before, none_fault, none_plain}
 use Rattle.jpg_file.proofs.read.strip_work.StripWork.first_byte.Goals as goal
 
 pub take_head-requires-clause-stands : goal.take_head-requires-clause-stands
@@ -15,7 +15,7 @@ take_head-requires-clause-stands c =
     let o = c.requires.stands in
     let all = o.0 ++ c.args.byte ∷ [] in
     let h = (c.in-Head.ensures.after o.0 o.1).0 in
-    (all, subst (λ l. HeadStands l all c.step.new.self) (sym (h.at).bounded.1) h)
+    (all, subst (λ l. HasCompleteHeader l all c.step.new.self) (sym (h.at).bounded.1) h)
 
 pub returns-in-Eoi-clause-after : goal.returns-in-Eoi-clause-after
 returns-in-Eoi-clause-after c = λ bytes k.
@@ -43,7 +43,7 @@ returns-in-Head-clause-none c = λ bytes k.
     let h = (c.in-Head.ensures.after bytes k).0 in
     let same = (h.at).bounded.1 in
     subst (λ (l : Limits). NoneAfter l all c.take_head.result c.take_head.new.self.rows) same
-    (c.take_head.ensures.none bytes c.args.byte (subst (λ (l : Limits). HasNoRows l bytes) (sym same) (none_before (limits_of w) bytes w k c.requires.first)) (subst (λ (l : Limits). HeadStands l all c.step.new.self) (sym same) h))
+    (c.take_head.ensures.none bytes c.args.byte (subst (λ (l : Limits). HasNoRows l bytes) (sym same) (none_before (limits_of w) bytes w k c.requires.first)) (subst (λ (l : Limits). HasCompleteHeader l all c.step.new.self) (sym same) h))
 
 pub returns-in-Eoi-clause-none : goal.returns-in-Eoi-clause-none
 returns-in-Eoi-clause-none c = λ bytes k.

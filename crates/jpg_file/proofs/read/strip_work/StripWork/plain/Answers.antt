@@ -1,7 +1,7 @@
 use Rattle.std.proofs.Common.{◌++◌, take, sym, subst}
-use Rattle.jpg_file.specs.Read.File.{StandsForFile, limits_of}
-use Rattle.jpg_file.proofs.RowsNone.{none_after, none_first, none_seen}
-use Rattle.jpg_file.proofs.StripWorks.{first_known, first_plain, some_plain}
+use Rattle.jpg_file.specs.Read.File.{RepresentsFile, limits_of}
+use Rattle.jpg_file.proofs.ByRow.RowsNone.{none_after, none_first, none_seen}
+use Rattle.jpg_file.proofs.ByRow.StripWorks.{first_known, first_plain, some_plain}
 use Rattle.jpg_file.proofs.read.strip_work.StripWork.plain.Goals as goal
 
 pub returns-clause-after : goal.returns-clause-after
@@ -13,7 +13,7 @@ first_byte-requires-clause-stands c =
     let o = c.requires.stands in
     let p = c.front-n.ensures.after in
     let all = o.0 ++ take c.front-n.result c.args.bytes.now in
-    (all, subst (λ l. StandsForFile l all c.front-n.new.self) (sym p.limits) (p.stands (limits_of w) o.0 o.1))
+    (all, subst (λ l. RepresentsFile l all c.front-n.new.self) (sym p.limits) (p.stands (limits_of w) o.0 o.1))
 
 pub returns-then-awaits_rows-clause-after : goal.returns-then-awaits_rows-clause-after
 returns-then-awaits_rows-clause-after c = first_plain c.args.self.now.file c.front-n.new.self c.args.bytes.now c.front-n.result c.front-n.ensures.after c.args.self.now.rows c.first_byte.new.self.rows c.first_byte.new.self.file c.first_byte.result c.requires.none c.first_byte.ensures.after c.first_byte.ensures.head

@@ -1,11 +1,11 @@
 use Rattle.std.proofs.Common.{Option, Some, ap, refl, rules, subst, sym}
 use Rattle.std.specs.Prelude.{is_some}
-use Rattle.jpg_spec.proofs.Common.{clash}
+use Rattle.jpg_spec.proofs.Basics.Common.{clash}
 use Rattle.jpg_file.specs.Read.File.{limits_of}
 use Rattle.jpg_file.specs.Read.Strips.{CountsStrip, SparesRows, StripGoes}
 use Rattle.jpg_file.specs.declared.read.rows.RowWork.{RowWork}
-use Rattle.jpg_file.proofs.RowPieces.{some_faults}
-use Rattle.jpg_file.proofs.StripWorks.{none_rows, some_rows}
+use Rattle.jpg_file.proofs.ByRow.RowPieces.{some_faults}
+use Rattle.jpg_file.proofs.ByRow.StripWorks.{none_rows, some_rows}
 use Rattle.jpg_file.proofs.read.strip_work.StripWork.some.Goals as goal
 
 pub returns-then-is_none : goal.returns-then-is_none
@@ -35,13 +35,13 @@ pub returns : goal.returns
 returns c =
     let old = c.args.self.now in
     let w = old.file in
-    let t = c.row_some.ensures in
+    let t = c.take_in_row.ensures in
     let is = c.in-Some.is in
     record {
       after = λ bytes g.
           (let k = subst (λ (r : Option RowWork). StripGoes (limits_of w) bytes r w) is g in
-          some_rows (limits_of w) bytes c.args.bytes.now c.row_some.result.0 c.row_some.result.1 c.row_some.new.self c.row_some.new.rows (t.after bytes k));
-      rows = subst (λ (o : Option RowWork). CountsStrip c.row_some.result.1 o (Some c.row_some.new.rows)) (sym is) t.rows;
+          some_rows (limits_of w) bytes c.args.bytes.now c.take_in_row.result.0 c.take_in_row.result.1 c.take_in_row.new.self c.take_in_row.new.rows (t.after bytes k));
+      rows = subst (λ (o : Option RowWork). CountsStrip c.take_in_row.result.1 o (Some c.take_in_row.new.rows)) (sym is) t.rows;
       memory = λ some s. t.memory (subst (λ (o : Option RowWork). SparesRows o w) is s);
       begins = λ none. absurd (clash (is_some old.rows) (ap is_some is) (ap is_some none));
       known = λ none. absurd (clash (is_some old.rows) (ap is_some is) (ap is_some none));
@@ -54,5 +54,5 @@ returns c =
       by_row = refl;
       plain = λ none. absurd (clash (is_some old.rows) (ap is_some is) (ap is_some none));
       none = λ none. absurd (clash (is_some old.rows) (ap is_some is) (ap is_some none));
-      faults = some_faults old c.in-Some.rows c.args.bytes.now c.row_some.result.0 c.row_some.result.1 is t.stops;
+      faults = some_faults old c.in-Some.rows c.args.bytes.now c.take_in_row.result.0 c.take_in_row.result.1 is t.stops;
     }

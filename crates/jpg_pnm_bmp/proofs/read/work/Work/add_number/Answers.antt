@@ -1,6 +1,6 @@
 use Rattle.std.proofs.Common.{◌≡◌, ℕ, ◌≤◌, Bool, true, false, cond, List, ◌∷◌, refl, subst, None, Some}
 use Rattle.std.specs.Prelude.{nat_lt}
-use Rattle.jpg_spec.proofs.Common.{not_lt_of}
+use Rattle.jpg_spec.proofs.Basics.Common.{not_lt_of}
 use Rattle.jpg_spec.specs.declared.fault.Fault.TheVariants.{ImageValue}
 use Rattle.jpg_spec_image.specs.PnmText.{number_fault}
 use Rattle.jpg_pnm_bmp.specs.Known.{list_of}

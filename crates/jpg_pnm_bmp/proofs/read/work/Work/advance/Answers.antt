@@ -4,7 +4,7 @@ use Rattle.jpg_spec_image.specs.ImageFaults.{pnm, bmp, body_of}
 use Rattle.jpg_spec_image.specs.ImageSteps.{step, run}
 use Rattle.jpg_pnm_bmp.specs.Known.{list_of}
 use Rattle.jpg_pnm_bmp.specs.Reader.{standing, standing_of, image_by, numbers_list, IsReached, Reaches}
-use Rattle.jpg_pnm_bmp.specs.Shapes.{body_told}
+use Rattle.jpg_pnm_bmp.specs.Shapes.{body_view}
 use Rattle.jpg_pnm_bmp.proofs.Advance.{one_led, due_reached, body_reached, stretch_led, pnm_numbers, pnm_can, bmp_can, bmp_height}
 use Rattle.jpg_pnm_bmp.proofs.read.work.Work.advance.Goals as goal
 
@@ -44,7 +44,7 @@ returns-in-PnmBody-clause-led c = λ r.
     let head = pnm s.format (list_of s.numbers []) in
     let b = body_reached head s.samples (subst IsReached (ap (λ st. standing_of st s) c.in-PnmBody.is) r) in
     let k = pnm_numbers s.format s.numbers b.0 s.samples b.1 in
-    let e : body_told c.pnm_shape-shape.result ≡ body_of head = c.pnm_shape-shape.ensures k.0 k.1 k.2 k.3 ∙ ap (λ x. body_of (pnm s.format (list_of x []))) (sym k.3) in
+    let e : body_view c.pnm_shape-shape.result ≡ body_of head = c.pnm_shape-shape.ensures k.0 k.1 k.2 k.3 ∙ ap (λ x. body_of (pnm s.format (list_of x []))) (sym k.3) in
     let led = c.stretch.ensures.led head e (pnm_can s.format (list_of s.numbers []) b.0 s.samples b.1) in
     subst (λ t. Reaches (run t (take c.stretch.result.used c.args.piece.now)) c.stretch.result.answer c.stretch.new.self) (sym (ap (λ st. standing_of st s) c.in-PnmBody.is))
     (stretch_led s head _ c.stretch.result.answer c.stretch.new.self (λ x. ap (λ st. standing_of st (record s { samples = x })) c.in-PnmBody.is) (λ x. ap (λ st. image_by st (record s { samples = x })) c.in-PnmBody.is) led)
@@ -55,7 +55,7 @@ returns-else-as_slice-lt54-2-clause-led c = λ r.
     let head = bmp s.head s.palette in
     let b = body_reached head s.samples (subst IsReached (ap (λ st. standing_of st s) c.in-BmpBody.is) r) in
     let high = bmp_height s.head s.palette b.0 s.samples b.1 in
-    let e : body_told c.bmp_shape-shape.result ≡ body_of head = subst (λ x. height x ≤ 65500 → body_told c.bmp_shape-shape.result ≡ body_of (bmp x s.palette)) c.as_slice-in-BmpBody-2.ensures (c.bmp_shape-shape.ensures s.palette) high in
+    let e : body_view c.bmp_shape-shape.result ≡ body_of head = subst (λ x. height x ≤ 65500 → body_view c.bmp_shape-shape.result ≡ body_of (bmp x s.palette)) c.as_slice-in-BmpBody-2.ensures (c.bmp_shape-shape.ensures s.palette) high in
     let led = c.stretch-in-BmpBody.ensures.led head e (bmp_can s.head s.palette b.0 s.samples b.1) in
     subst (λ t. Reaches (run t (take c.stretch-in-BmpBody.result.used c.args.piece.now)) c.stretch-in-BmpBody.result.answer c.stretch-in-BmpBody.new.self) (sym (ap (λ st. standing_of st s) c.in-BmpBody.is))
     (stretch_led s head _ c.stretch-in-BmpBody.result.answer c.stretch-in-BmpBody.new.self (λ x. ap (λ st. standing_of st (record s { samples = x })) c.in-BmpBody.is) (λ x. ap (λ st. image_by st (record s { samples = x })) c.in-BmpBody.is) led)

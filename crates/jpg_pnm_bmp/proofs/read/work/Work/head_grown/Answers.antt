@@ -1,5 +1,5 @@
 use Rattle.std.proofs.Common.{◌≡◌, ℕ, ◌≤◌, Bool, cond, List, [], length, sym, ap, ◌∙◌, subst, Option, None}
-use Rattle.jpg_spec.proofs.Common.{lt_no}
+use Rattle.jpg_spec.proofs.Basics.Common.{lt_no}
 use Rattle.jpg_spec_image.specs.BmpFile.{bmp_fault}
 use Rattle.jpg_spec_image.specs.ImageSteps.{in_bmp_head, fault_or, bmp_front, head_so_far}
 use Rattle.jpg_pnm_bmp.specs.Reader.{Reaches}

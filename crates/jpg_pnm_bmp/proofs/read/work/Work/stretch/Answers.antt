@@ -1,11 +1,11 @@
 use Rattle.std.proofs.Common.{◌≡◌, ℕ, ◌+◌, ◌%◌, ◌<◌, ◌≤◌, List, length, take, get_or, sym, ap, ◌∙◌, subst, arith}
 use Rattle.std.proofs.lemmas.List.{length-take-le}
-use Rattle.jpg_spec.proofs.Common.{take_shorter}
+use Rattle.jpg_spec.proofs.Basics.Common.{take_shorter}
 use Rattle.jpg_spec_image.specs.Images.{Body}
 use Rattle.jpg_spec_image.specs.ImageFaults.{ImageHead, body_of}
 use Rattle.jpg_spec_image.specs.ImageSteps.{in_body, failed, run}
 use Rattle.jpg_spec.specs.declared.fault.Fault.TheVariants.{ImageValue}
-use Rattle.jpg_pnm_bmp.specs.Shapes.{body_told, AreBelow}
+use Rattle.jpg_pnm_bmp.specs.Shapes.{body_view, AreBelow}
 use Rattle.jpg_pnm_bmp.specs.Reader.{CanStretch, HoldsBodyPart}
 use Rattle.jpg_pnm_bmp.proofs.Stretch.{PartFits, stretched, wrong_run}
 use Rattle.jpg_pnm_bmp.proofs.read.work.Work.stretch.Goals as goal
@@ -38,7 +38,7 @@ wrong head samples piece long k at b e can same within few along judged h below 
 
 pub returns-in-Some-clause-led : goal.returns-in-Some-clause-led
 returns-in-Some-clause-led c = λ head e can.
-    wrong head c.args.self.now.samples c.args.piece.now c.part_long-long.result c.in-Some.wrong c.held-at.result (body_told c.args.shape) e can c.held-at.ensures c.part_long-long.ensures.within c.part_long-long.ensures.few c.part_long-long.ensures.along
+    wrong head c.args.self.now.samples c.args.piece.now c.part_long-long.result c.in-Some.wrong c.held-at.result (body_view c.args.shape) e can c.held-at.ensures c.part_long-long.ensures.within c.part_long-long.ensures.few c.part_long-long.ensures.along
     c.in-Some.ensures.judged c.in-Some.ensures.within c.in-Some.ensures.before c.in-Some.ensures.above
 
 pub returns-in-None-clause-led : goal.returns-in-None-clause-led
@@ -46,7 +46,7 @@ returns-in-None-clause-led c = λ head e can.
     let part = take c.part_long-long.result c.args.piece.now in
     let l : length part ≡ c.part_long-long.result = length-take-le c.part_long-long.result c.args.piece.now c.part_long-long.ensures.within in
     let some = c.part_long-long.ensures.some in
-    let f : PartFits (body_told c.args.shape) (length c.args.self.now.samples) part = fits (body_told c.args.shape) c.held-at.result (length c.args.self.now.samples) c.part_long-long.result part c.held-at.ensures l c.part_long-long.ensures.few c.part_long-long.ensures.along c.part_long-long.ensures.behind in
+    let f : PartFits (body_view c.args.shape) (length c.args.self.now.samples) part = fits (body_view c.args.shape) c.held-at.result (length c.args.self.now.samples) c.part_long-long.result part c.held-at.ensures l c.part_long-long.ensures.few c.part_long-long.ensures.along c.part_long-long.ensures.behind in
     let below = subst (λ n. 0 < c.args.shape.line → n % c.args.shape.line < c.args.shape.used → AreBelow c.args.shape.limit part (length part)) c.held-at.ensures c.in-None.ensures.none in
     stretched head c.args.self.now c.hold-answer.new.self part c.hold-answer.result can (subst (λ b. PartFits b (length c.args.self.now.samples) part) e f) (omega (arith, l, some))
     (subst (λ (b : Body). 0 < b.line → length c.args.self.now.samples % b.line < b.used → AreBelow b.limit part (length part)) e below)

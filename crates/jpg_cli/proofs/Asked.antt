@@ -1,0 +1,5 @@
+pub mod Asking
+pub mod FactorsNamed
+pub mod Matching
+pub mod Naming
+pub mod RestartNamed

@@ -1,0 +1,172 @@
+-- One more piece of a file that is written row by row.
+use Rattle.std.proofs.Common.{◌≡◌, ℕ, ◌+◌, ◌<◌, ◌≤◌, Bool, List, [], ◌++◌, length, take, drop, refl, sym, ap, ◌∙◌, subst, arith, inl, inr, ◌⊎◌, Option, None, Result, Ok, Err}
+use Rattle.std.specs.List.{All}
+use Rattle.std.proofs.lemmas.Bool.{cases_lt}
+use Rattle.std.proofs.lemmas.List.{append-nil, length-append, take_all, take-append-drop, take-append-le}
+use Rattle.std.specs.Io.KnownBytes.{Consumes}
+use Rattle.jpg_base.specs.declared.names.Got.{Got}
+use Rattle.jpg_base.specs.declared.names.Got.TheVariants as got
+use Rattle.jpg_base.specs.declared.names.Put.{Put}
+use Rattle.jpg_base.specs.declared.names.Put.TheVariants as put
+use Rattle.jpg_base.specs.declared.names.Name.{Name}
+use Rattle.jpg_base.specs.declared.stop.Stop.{Stop}
+use Rattle.jpg_base.specs.declared.stop.Stop.TheVariants as stop
+use Rattle.jpg_base.specs.Desk.{DeskState, NotesName, Reads}
+use Rattle.jpg_base.specs.Laws.{Consumes-then, Grows}
+use Rattle.jpg_spec.specs.UnfinishedFile.{UnfinishedFile}
+use Rattle.jpg_spec.specs.Markers.{Segment}
+use Rattle.jpg_spec.specs.RowLaws.{TellsMore, first_blocks}
+use Rattle.jpg_spec.specs.RowsParsed.{BeginsScanOfAll, CompletesRows, TellsRows, picture_so_far}
+use Rattle.jpg_spec_image.specs.RowsShown.{rows_text}
+use Rattle.jpg_spec.specs.Scan.{Blocks}
+use Rattle.jpg_spec.specs.Segments.{standard_limits}
+use Rattle.jpg_spec.specs.declared.frame.Limits.{Limits}
+use Rattle.jpg_spec.proofs.McuRows.RowsOnce.{first_told, rows_once, rows_stay}
+use Rattle.jpg_file.specs.Read.ReadFile.{ReaderState}
+use Rattle.jpg_file.specs.Read.ReadRows.{AfterFeedRow, FeedsRow, HasReadRows}
+use Rattle.jpg_file.specs.Read.RowsNone.{HasNoRows}
+use Rattle.jpg_file.specs.Read.Strips.{RowsAfter, RowsInside, RepresentsRows}
+use Rattle.jpg_file.specs.declared.read.file.FileWork.{FileWork}
+use Rattle.jpg_file.specs.declared.read.row_pieces.FedRow.{FedRow}
+use Rattle.jpg_file.specs.declared.read.row_pieces.FedRow.TheVariants as fed
+use Rattle.jpg_file.specs.declared.read.rows.RowWork.{RowWork}
+use Rattle.jpg_pnm_bmp.specs.EndState.{EndState}
+use Rattle.jpg_color.specs.StripImage.{Drawing}
+use Rattle.jpg_cli.specs.Desk.ReadPicture.{IsOpenRead, IsUnwanted}
+use Rattle.jpg_cli.specs.Tools.Showing.{IsInTime, Showing}
+use Rattle.jpg_cli.specs.Tools.ShowingRows.{HasCreated, HasShown, Head, IsDrawing, IsHeadIn, IsShowing, at_work, Run, more_read, Work}
+use Rattle.jpg_cli.specs.declared.desk.picture.Wanted.TheVariants.{Image}
+use Rattle.jpg_cli.proofs.Comments.CommentsCopied.{works_then}
+use Rattle.jpg_cli.proofs.Pieces.FirstRead.{not_none}
+use Rattle.jpg_cli.proofs.ByRow.RowHeads.{begins_more, begins_upto, one_head}
+use Rattle.jpg_cli.proofs.ByRow.RowsEnd.{none_unwanted}
+
+-- COUNTS
+
+-- the bytes that were taken are counted
+pub taken_by_row : {limits : Limits} {bytes : List ℕ} {w : FileWork} {rows : RowWork} → RepresentsRows limits bytes w rows → w.reading.taken ≡ length bytes
+taken_by_row {limits} {bytes} {w} {rows} h = by h.at
+  where
+    by : RowsInside limits bytes w rows h.whole ⊎ RowsAfter limits bytes w rows h.whole → w.reading.taken ≡ length bytes
+    by (inl i) = (i.held).count
+    by (inr b) = ((b.between).beside).count
+
+-- ROWS that are decoded remain so, and if more are decoded, fewer are
+fewer_told : {bytes : List ℕ} (k : ℕ) {m : ℕ} {blocks : Blocks} → k ≤ m → TellsRows standard_limits bytes m blocks → (x : Blocks) × TellsRows standard_limits bytes k x
+fewer_told {bytes} k {m} {blocks} few told =
+    let w : TellsMore standard_limits bytes k = record { all = m; blocks = blocks; enough = few; told = told } in (first_blocks standard_limits bytes k w, first_told standard_limits bytes k w)
+
+-- of longer bytes, if more are decoded
+told_before : {bytes : List ℕ} (more : List ℕ) {k m : ℕ} {blocks x : Blocks} → k ≤ m → TellsRows standard_limits bytes m blocks → TellsRows standard_limits (bytes ++ more) k x → TellsRows standard_limits bytes k x
+told_before {bytes} more {k} {x} few told h =
+    let y = fewer_told k few told in
+    subst (λ (b : Blocks). TellsRows standard_limits bytes k b) (sym (rows_once standard_limits (bytes ++ more) k x y.0 h (rows_stay standard_limits bytes more k y.0 y.1))) y.1
+
+-- no more are decoded than are complete
+no_more_told : {bytes : List ℕ} {k m : ℕ} {blocks x : Blocks} → CompletesRows standard_limits bytes m blocks → TellsRows standard_limits bytes k x → k ≤ m
+no_more_told {k} {m} completed told = by (cases_lt m k)
+  where
+    by : (m < k) ⊎ (k ≤ m) → k ≤ m
+    by (inr few) = few
+    by (inl more) = (let y = fewer_told (m + 1) (omega (arith, more)) told in absurd (completed.1 y.0 y.1))
+
+-- A SCAN THAT BEGAN remains the current one
+no_plain : (bytes : List ℕ) (before : List Segment) (contents : List ℕ) (limits : Limits) → limits ≡ standard_limits → BeginsScanOfAll standard_limits bytes before contents → HasNoRows limits bytes → ⊥
+no_plain bytes before contents limits e k none = none before contents (subst (λ (l : Limits). BeginsScanOfAll l bytes before contents) (sym e) k)
+
+pub work_stays : {bytes : List ℕ} (piece : List ℕ) {before : List Segment} {contents : List ℕ} (m : ℕ) (answer : Result FedRow Stop) (r : ReaderState) → r.limits ≡ standard_limits → BeginsScanOfAll standard_limits bytes before contents → AfterFeedRow bytes m piece answer r
+    → r.rows ≡ None → ⊥
+work_stays {bytes} piece {before} {contents} m (Ok fed.More) r e k (inl h) none = no_plain (bytes ++ piece) before contents r.limits e (begins_more bytes piece before contents k) (h.0).plain
+work_stays {bytes} piece m (Ok fed.More) r e k (inr h) none = not_none r (bytes ++ piece) h.begun none
+work_stays {bytes} piece m (Ok (fed.Row used)) r e k h none = not_none r (bytes ++ take used piece) (h.0).begun none
+work_stays {bytes} piece {before} {contents} m (Ok (fed.Done used)) r e k (inl h, some, within) none =
+    no_plain (bytes ++ take used piece) before contents r.limits e (begins_more bytes (take used piece) before contents k) h.plain
+work_stays {bytes} piece m (Ok (fed.Done used)) r e k (inr h, some, within) none = not_none r (bytes ++ take used piece) h.begun none
+work_stays {bytes} piece {before} {contents} m (Err (stop.Fault f)) r e k (stops, late, keeps, inl h) none =
+    no_plain (take f.at (bytes ++ piece)) before contents r.limits e (begins_upto bytes piece f.at before contents late k) h.1
+work_stays {bytes} piece m (Err (stop.Fault f)) r e k (stops, late, keeps, inr h) none = not_none r (take f.at (bytes ++ piece)) h.begun none
+work_stays {bytes} piece {before} {contents} m (Err stop.NoMemory) r e k (keeps, rows, plain) none = no_plain bytes before contents r.limits e k plain
+
+-- ONE MORE PIECE
+
+pub drawing_more : {s : Showing} {h : Head} {all : List ℕ} (piece : List ℕ) {m : ℕ} {written : List ℕ} {d : Drawing} {e : EndState} → IsDrawing s h all m written d e → IsDrawing s h (all ++ piece) m written d e
+drawing_more {all} piece {m} k = record {
+  kind = k.kind;
+  framed = k.framed;
+  given = k.given;
+  end = k.end;
+  blocks = k.blocks;
+  told = rows_stay standard_limits all piece m k.blocks k.told;
+  drawn = k.drawn;
+  text = k.text;
+  enough = λ n x few told. k.enough n x few (told_before piece few k.told told);
+}
+
+module _ {s : Showing} {old start : DeskState} {all bytes written : List ℕ} where
+  -- what was read and what was written, after one more call
+  pub created_then : {answer : Got} {buf : List ℕ} {s0 s1 : DeskState} → Reads s0 answer buf s1 → HasCreated s old start all written s0 → Consumes start.left s1.left bytes → HasCreated s old start bytes written s1
+  created_then read h left = record {
+    opened = h.opened;
+    works = works_then h.works (record { stays = record { counts = read.counts; files = read.files }; said = read.said });
+    left = left;
+    asked = (let P : Option (List (Name × Put)) → Type 0 = λ a. NotesName start.asked (s.output, put.Done) a in subst P (sym read.asked) h.asked);
+    outputs = (let P : Option (List (Name × List ℕ)) → Type 0 = λ a. Grows start.outputs (s.output, written) a in subst P (sym read.outputs) h.outputs);
+    created = read.output_created ∙ h.created;
+  }
+
+pub open_rows : {gray : Bool} {h : Head} {all : List ℕ} {m : ℕ} {r : ReaderState} → r.limits ≡ standard_limits → IsHeadIn gray h all → HasReadRows all m r → IsOpenRead (Image gray) all
+open_rows {gray} {all} e head k = record {
+  short = subst (λ (l : Limits). length all < l.input) e k.short;
+  stands = subst (λ (l : Limits). UnfinishedFile l all) e k.stands;
+  wanted = λ f u. none_unwanted [] f head (subst (λ l. IsUnwanted (Image gray) l f) (sym (append-nil all)) u);
+}
+
+-- the text that was pending before the piece was written before it
+pub early_more : {s : Showing} {run : Run} {work : Work} (piece : List ℕ) {m : ℕ} → length piece ≤ 16384 → (k : HasShown s run m work) → IsInTime s (run.all ++ piece) k.written
+early_more {s} {run} {work} piece {m} few k front rest text cut many due =
+    let size = ap length cut in
+    let short : length front ≤ length run.all = omega (arith, size, few, many, length-append run.all piece, length-append front rest) in
+    let first : take (length front) run.all ≡ front =
+    sym (take-append-le (length front) run.all piece short) ∙ ap (take (length front)) cut ∙ take-append-le (length front) front rest (omega arith) ∙ take_all (length front) front (omega arith) in
+    let other = drop (length front) run.all in
+    let same : front ++ other ≡ run.all = ap (λ l. l ++ other) (sym first) ∙ take-append-drop (length front) run.all in
+    let there : TellsRows standard_limits run.all due.rows due.blocks = subst (λ l. TellsRows standard_limits l due.rows due.blocks) same (rows_stay standard_limits front other due.rows due.blocks (due.completed).0) in
+    let completed = subst (λ (l : Limits). CompletesRows l run.all m (k.read).blocks) k.limits (k.read).completed in
+    let one = one_head front run.all other [] due.before (run.head).before due.contents (run.head).contents (same ∙ sym (append-nil run.all)) due.begins (k.head).begins in
+    let fits = (k.drawing).enough due.rows due.blocks (no_more_told completed there) there in
+    let text_is : text ≡ rows_text s.kind (picture_so_far standard_limits (run.head).before (run.head).contents due.blocks) s.gray s.smooth due.rows =
+    due.same ∙ ap (λ (b : List Segment). rows_text s.kind (picture_so_far standard_limits b due.contents due.blocks) s.gray s.smooth due.rows) one.0
+    ∙ ap (λ (c : List ℕ). rows_text s.kind (picture_so_far standard_limits (run.head).before c due.blocks) s.gray s.smooth due.rows) one.1 in
+    let none = ap length k.out in
+    omega (arith, fits, ap length text_is, none, length-append k.written (work.image).out)
+
+-- a piece of the input, of the first bytes of this buffer
+pub record IsNextPiece (all buf : List ℕ) (n : ℕ) : Type 0 where
+  pub few : length (take n buf) ≤ 16384
+  pub most : length (all ++ take n buf) ≤ standard_limits.input
+  pub small : All (λ b. b < 256) (all ++ take n buf)
+
+module _ {s : Showing} {run : Run} {work : Work} where
+  pub fed_more : {m n : ℕ} {buf : List ℕ} (answer : Result FedRow Stop) (new : ReaderState) {s1 : DeskState} → IsNextPiece run.all buf n
+      → Reads work.now (got.Bytes n) buf s1 → FeedsRow work.reader (take n buf) answer new → new.limits ≡ (work.reader).limits → HasShown s run m work → IsShowing s (more_read run (take n buf)) m (take n buf) answer (at_work new work.image work.end s1)
+  fed_more {m} {n} {buf} answer new {s1} p read feeds limits k = record {
+    written = k.written;
+    read = record {
+      fed = run.all;
+      cut = refl;
+      few = p.few;
+      limits = limits ∙ k.limits;
+      after = after;
+      begun = work_stays (take n buf) m answer new (limits ∙ k.limits) (k.head).begins after;
+      most = p.most;
+      small = p.small;
+      short = record { front = run.all; piece = take n buf; cut = refl; few = (let few = p.few in omega (arith, few)); before = open_rows k.limits k.head k.read };
+      head = record { begins = begins_more run.all (take n buf) (run.head).before (run.head).contents (k.head).begins; shown = (k.head).shown };
+    };
+    drawing = drawing_more (take n buf) k.drawing;
+    desk = created_then read k.desk (Consumes-then (run.start).left (work.now).left s1.left run.all (take n buf) (k.desk).left read.after.2);
+    early = early_more (take n buf) p.few k;
+  }
+    where
+      after : AfterFeedRow run.all m (take n buf) answer new
+      after = feeds run.all m (inr (inl k.read))

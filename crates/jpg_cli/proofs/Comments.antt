@@ -1,0 +1,7 @@
+pub mod CommentInserted
+pub mod CommentsCopied
+pub mod CommentsPrinted
+pub mod CommentsRead
+pub mod HeadTaken
+pub mod InsertedCopied
+pub mod InsertedThen

@@ -1,0 +1,109 @@
+-- An image read and encoded, over the states of a desk.
+use Rattle.std.proofs.Common.{◌≡◌, ℕ, Bool, false, List, [], Result, Ok, Err, sym, ◌∙◌, subst}
+use Rattle.jpg_base.specs.declared.names.Name.{Name}
+use Rattle.jpg_base.specs.declared.names.Put.TheVariants as put
+use Rattle.jpg_base.specs.Desk.{DeskState, Opens}
+use Rattle.jpg_spec_encode.specs.Encoded.{Encoding}
+use Rattle.jpg_spec_image.specs.Images.{Image}
+use Rattle.jpg_spec_image.specs.declared.image.ImageInfo.{ImageInfo}
+use Rattle.jpg_spec_words.specs.declared.answers.Why.{Why}
+use Rattle.jpg_spec_words.specs.declared.answers.Why.TheVariants as why
+use Rattle.jpg_spec_words.specs.declared.answers.Which.TheVariants as which
+use Rattle.jpg_color.specs.Encode.{AsksFor, CanSample, image_of}
+use Rattle.jpg_color.specs.EncodeSampling.{AddsSamples, BeginsSampling}
+use Rattle.jpg_color.specs.declared.encode.EncodeStop.{EncodeStop}
+use Rattle.jpg_color.specs.declared.encode.EncodeStop.TheVariants as stop
+use Rattle.jpg_pnm_bmp.specs.Made.{IsRightImage}
+use Rattle.jpg_pnm_bmp.specs.PlainSamples.{AreRightNumbers, HasFedSamples}
+use Rattle.jpg_pnm_bmp.proofs.PlainSamples.{goes_on_plain}
+use Rattle.jpg_cli.specs.Desk.ImageWritten.{why_not_encoded}
+use Rattle.jpg_cli.specs.Words.EncodeWords.{CanEncodeKind}
+use Rattle.jpg_color.specs.declared.encode.Encoding.{Encoding as Asked}
+use Rattle.jpg_color.specs.declared.encode.sampler.Sampler.{Sampler}
+use Rattle.jpg_color.specs.declared.encode.view.EncodedImage.{EncodedImage}
+use Rattle.jpg_cli.specs.Desk.EncodedRead.{Encodes, EncodedRead, EndsEncoding}
+use Rattle.jpg_cli.specs.Desk.ImageLoop.{HoldsImage}
+use Rattle.jpg_cli.specs.Desk.ImageSource.{source_read, source_samples, source_taken}
+use Rattle.jpg_cli.specs.Desk.Judging.{NoValueTaken, TakesPieces}
+use Rattle.jpg_cli.specs.Desk.ReadImage.{IsImageRead, image_judging}
+use Rattle.jpg_cli.specs.Desk.Reading.{rest_of}
+use Rattle.jpg_cli.specs.Desk.SamplesFed.{Begins, FinishesImage, GoesOnFrom, IsAllGiven, IsGiven}
+use Rattle.jpg_cli.specs.Stays.{OnlyReads}
+use Rattle.jpg_cli.specs.declared.desk.image_source.ImageSource.{ImageSource}
+use Rattle.jpg_cli.proofs.Encoding.ImageTaken.{open_within}
+use Rattle.jpg_cli.proofs.Outcomes.Input.{noted}
+use Rattle.jpg_cli.proofs.Pieces.PictureTaken.{none_taken, reads_from}
+
+-- AN IMAGE was read
+
+pub image_encoded : (targa : Bool) (E : Image → Encoding) (s0 s1 : DeskState) (I : Image) (answer : Result EncodedImage Why) → TakesPieces (IsImageRead targa I (rest_of s1.left)) s0 s1 → Encodes (E I) I answer → EndsEncoding targa E s0 answer s1
+image_encoded targa E s0 s1 I (Ok v) read h = (I, read, h)
+image_encoded targa E s0 s1 I (Err (why.Picture fault)) read h = (I, read, h)
+image_encoded targa E s0 s1 I (Err why.NoMemory) (bytes, left, most, is) h = (bytes, left, most, is.read)
+image_encoded targa E s0 s1 I (Err other) read h = absurd h
+
+-- by a reader
+pub whole_encoded : (targa : Bool) (E : Image → Encoding) (s0 s1 : DeskState) (r : ImageSource) (I : Image) (answer : Result EncodedImage Why) → I ≡ source_read r → HoldsImage targa s0 r s1 → Encodes (E I) I answer → EndsEncoding targa E s0 answer s1
+whole_encoded targa E s0 s1 r I answer e h k = image_encoded targa E s0 s1 I answer (subst (λ (J : Image). TakesPieces (IsImageRead targa J (rest_of s1.left)) s0 s1) (sym e) h.0) k
+
+-- NONE was
+pub none_encoded : (targa : Bool) (E : Image → Encoding) (s0 s1 : DeskState) (ended : Why) → NoValueTaken (image_judging targa) s0 ended s1 → EndsEncoding targa E s0 (Err ended) s1
+none_encoded targa E s0 s1 (why.Refused f) h = h
+none_encoded targa E s0 s1 (why.ReadFault which.Input) h = h
+none_encoded targa E s0 s1 why.NoMemory h = h
+none_encoded targa E s0 s1 other h = absurd h
+
+-- BY A SAMPLER
+
+pub begun_given : {E : Image → Encoding} {start : DeskState} {bytes samples : List ℕ} {r : ImageSource} {s0 s1 : Sampler} {taken : ℕ} {now : DeskState} (h : GoesOnFrom E start bytes r s0 now) → samples ≡ source_samples r → taken ≡ source_taken r → AddsSamples s0 samples s1
+    → IsGiven (h.begun).info (h.begun).asked start bytes samples s1 taken now
+begun_given {samples = samples} {s1 = s1} h same count adds = record {
+  fed = subst (HasFedSamples (h.begun).info _) (sym same) (h.begun).fed;
+  sampled = adds (h.begun).info (h.begun).asked [] (h.begun).sampled;
+  taken_is = count ∙ h.taken_is;
+  most = h.most;
+  kept = h.kept;
+  read = h.read;
+}
+
+-- there was no memory for the first samples
+pub begun_unheld : {E : Image → Encoding} {start : DeskState} {bytes : List ℕ} {r : ImageSource} {s : Sampler} {now : DeskState} → GoesOnFrom E start bytes r s now → NoValueTaken (image_judging false) start why.NoMemory now
+begun_unheld {bytes = bytes} {r} h = (bytes, h.read, h.most, open_within bytes (goes_on_plain (h.begun).info bytes (source_samples r) (h.begun).fed).open_yet h.most)
+
+pub all_encoded : {E : Image → Encoding} {start : DeskState} {bytes given : List ℕ} {s0 s1 : Sampler} {now : DeskState} (b : Begins E bytes given s0) (answer : Result EncodedImage Why) → IsAllGiven b.info b.asked start s1 now → FinishesImage s1 answer → EndsEncoding false E start answer now
+all_encoded {E} {start} {now = now} b answer g ends =
+    image_encoded false E start now (image_of b.info g.samples) answer g.read (ends E b.info b.asked g.samples b.like g.sampled g.count g.right)
+
+-- FROM THE NAME
+
+pub encoded_from : (targa : Bool) (E : Image → Encoding) (s0 s1 s2 : DeskState) (file : Name) (answer : Result EncodedImage Why) → Opens s0 file put.Done s1 → OnlyReads s1 s2 → EndsEncoding targa E s1 answer s2 → EncodedRead targa E file s0 answer s2
+encoded_from targa E s0 s1 s2 file (Ok v) h k (I, read, is) = (noted s0 s1 s2 file h k, (I, reads_from s0 s1 s2 file (IsImageRead targa I (rest_of s2.left)) h read, is))
+encoded_from targa E s0 s1 s2 file (Err (why.Picture fault)) h k (I, read, is) = (noted s0 s1 s2 file h k, (I, reads_from s0 s1 s2 file (IsImageRead targa I (rest_of s2.left)) h read, is))
+encoded_from targa E s0 s1 s2 file (Err (why.Refused f)) h k e = none_taken Image (image_judging targa) s0 s1 s2 file (why.Refused f) h k e
+encoded_from targa E s0 s1 s2 file (Err (why.ReadFault which.Input)) h k e = none_taken Image (image_judging targa) s0 s1 s2 file (why.ReadFault which.Input) h k e
+encoded_from targa E s0 s1 s2 file (Err why.NoMemory) h k e = none_taken Image (image_judging targa) s0 s1 s2 file why.NoMemory h k e
+encoded_from targa E s0 s1 s2 file (Err other) h k e = absurd e
+
+-- WHAT IS ASKED FOR
+
+pub can_sample : (info : ImageInfo) (a : Asked) → CanEncodeKind info.kind a → AreRightNumbers info → CanSample info a
+can_sample info a k n = record {
+  wide = n.width_low;
+  wide_few = n.width_high;
+  high = n.height_low;
+  high_few = n.height_high;
+  factors = k.factors;
+  pairs = k.pairs;
+  first = k.first;
+  others = k.others;
+}
+
+-- of an image that was read
+pub right_numbers : (I : Image) → IsRightImage I → AreRightNumbers I.info
+right_numbers I r = record { width_low = r.width_low; width_high = r.width_high; height_low = r.height_low; height_high = r.height_high; pixels = r.pixels }
+
+-- A FAULT
+
+pub fault_encoded : (info : ImageInfo) (a : Asked) (e : Encoding) (samples : List ℕ) (end : EncodeStop) → AsksFor a e → BeginsSampling info a (Err end) → Encodes e (image_of info samples) (Err (why_not_encoded end))
+fault_encoded info a e samples (stop.Picture fault) asks h = h samples e asks
+fault_encoded info a e samples stop.NoMemory asks h = tt

@@ -1,0 +1,343 @@
+-- If the bytes end early that a reader of MCU rows was fed: their picture, the rows that were passed, the current one,
+-- and zeros after it.
+use Rattle.std.proofs.Common.{◌≡◌, ℕ, zero, suc, ◌+◌, ◌*◌, ◌<◌, ◌≤◌, ◌==◌, ◌&&◌, Bool, true, false, cond, List, [], ◌∷◌, ◌++◌, length, refl, sym, ap, ◌∙◌, subst, arith, inl, inr, ◌⊎◌}
+use Rattle.std.specs.Prelude.{◌||◌, nat_lt, replicate}
+use Rattle.std.proofs.lemmas.Bool.Decides.{nat_tests}
+use Rattle.std.proofs.lemmas.Nat.{mul-le}
+use Rattle.jpg_spec.specs.Lists.{any_of, is_among}
+use Rattle.jpg_spec.specs.Geometry.{Frame, blocks_across, blocks_down, component_at, is_real, mcu_row_frame, mcus_down, v_max}
+use Rattle.jpg_spec.specs.FrameHeader.{AreLimits, IsFrame}
+use Rattle.jpg_spec.specs.Elements.{zeros}
+use Rattle.jpg_spec.specs.Scan.{Blocks}
+use Rattle.jpg_spec.specs.Segments.{head_components}
+use Rattle.jpg_spec.specs.Meaning.{real_blocks}
+use Rattle.jpg_spec.specs.Markers.{Segment, has_frame, has_scan}
+use Rattle.jpg_spec.specs.InForce.{frame_of, head_in, heads_of}
+use Rattle.jpg_spec.specs.History.{has_begun}
+use Rattle.jpg_spec.specs.Items.{Item, SpellsFront, segments_of}
+use Rattle.jpg_spec.specs.FileMeaning.{Leads, meaning_of, no_blocks, scan_after}
+use Rattle.jpg_spec.specs.UnfinishedFile.{UnfinishedFile}
+use Rattle.jpg_spec.specs.Early.{MeansEarly}
+use Rattle.jpg_spec.specs.Laws.{frame_of_items}
+use Rattle.jpg_spec.specs.PictureInWork.{is_at}
+use Rattle.jpg_spec.specs.ScanRows.{first_rows}
+use Rattle.jpg_spec.specs.RowsParsed.{BeginsScanOfAll, TellsRows, blocks_in, row_places}
+use Rattle.jpg_spec.specs.declared.frame.Limits.{Limits}
+use Rattle.jpg_spec.proofs.Basics.Common.{both, clash, lt_of, lt_yes, same_of, some_once, not_zero}
+use Rattle.jpg_spec.proofs.Headers.BeforeScans.{no_heads}
+use Rattle.jpg_spec.proofs.Files.FileLaws.{stands_early}
+use Rattle.jpg_spec.proofs.Headers.FrameAfter.{leads_pass}
+use Rattle.jpg_spec.proofs.Places.PlacesFound.{real_in_padded}
+use Rattle.jpg_spec.proofs.Places.PlacesSome.{v_max_some}
+use Rattle.jpg_spec.proofs.McuRows.RowCounts.{head_names}
+use Rattle.jpg_spec.proofs.McuRows.RowsFound.{found_first}
+use Rattle.jpg_spec.proofs.McuRows.RowsHeader.{begun_frame, begun_once}
+use Rattle.jpg_spec.proofs.McuRows.RowsLater.{head_there}
+use Rattle.jpg_spec.proofs.McuRows.RowsOfItems.{HoldsRows, rows_of_items}
+use Rattle.jpg_spec.proofs.McuRows.RowsOnce.{rows_once}
+use Rattle.jpg_base.specs.Cursor.{scan_mcus_down}
+use Rattle.jpg_coefs.specs.Picture.{Picture, map_of}
+use Rattle.jpg_seq.specs.Rows.{IsRowOf, rows_in_mcu, top_of}
+use Rattle.jpg_seq.proofs.ScanRows.{units_by_row}
+use Rattle.jpg_file.specs.Read.ScanHistory.{HasBegun, HasBegunAll, IsComplete}
+use Rattle.jpg_file.specs.Read.File.{RepresentsFile, IsBetweenFileItems, with_picture}
+use Rattle.jpg_file.specs.Read.Items.{AtPlace}
+use Rattle.jpg_file.specs.Read.ReadFile.{ReaderState}
+use Rattle.jpg_file.specs.Read.ReadRows.{AgreeInRows, AreOfRow, HasBegunRows, HasReadRows, IsEarlyByRows, LendsRow}
+use Rattle.jpg_file.specs.Read.RowPlaces.{IsRowAt, scan_left}
+use Rattle.jpg_file.specs.Read.RowTurns.{IsBlankAfter, unfinished}
+use Rattle.jpg_file.specs.Read.RowsKnown.{rows_of_scan}
+use Rattle.jpg_file.specs.Read.Strips.{GoesByRow, RowsAfter, RowsInside, components_of, frame_behind}
+use Rattle.jpg_file.specs.declared.read.scan_history.ScanHistory.{ScanHistory}
+use Rattle.jpg_file.specs.declared.read.file.FileWork.{FileWork}
+use Rattle.jpg_file.specs.declared.read.rows.RowWork.{RowWork}
+use Rattle.jpg_file.proofs.Files.Leaving.{at_end, named_by, some_at, some_for}
+use Rattle.jpg_file.proofs.ByRow.RowTurns.{rows_there}
+use Rattle.jpg_file.proofs.ByRow.RowsGiven.{TellsDue, inside_tells, place_tells, real_in_row, row_blocks}
+use Rattle.jpg_file.proofs.ByRow.RowsRange.{inside_in_range}
+use Rattle.jpg_file.proofs.ByRow.StripPieces.{goes_with}
+use Rattle.jpg_file.proofs.ByRow.RowAfter.{rest_blank, rest_framed}
+
+-- THE PICTURE that is left, of these blocks
+record EndsWhole (limits : Limits) (bytes : List ℕ) (whole : Picture) : Type 0 where
+  pub segments : List Segment
+  pub early : MeansEarly limits bytes (meaning_of (frame_of limits segments) segments (map_of whole))
+  pub framed : whole.frame ≡ frame_of limits segments
+
+ends_whole : (limits : Limits) (bytes : List ℕ) (w : FileWork) (whole : Picture) (all : Bool) → RepresentsFile limits bytes (with_picture w whole) → UnfinishedFile limits bytes → length bytes < limits.input → IsComplete w.begun.progress all → all ≡ true → EndsWhole limits bytes whole
+ends_whole limits bytes w whole all s stands short told e =
+    let v = with_picture w whole in
+    let a = at_end limits bytes v s in
+    let named = named_by limits v.begun a.segments all a.begun told (some_at limits bytes v a) e in
+    let here = a.here (some_at limits bytes v a named.found) named in
+    let is : whole ≡ here.coefs = some_once whole here.coefs here.has in
+    let same : a.blocks ≡ map_of whole = here.as_map ∙ ap map_of (sym is) in
+    record {
+      segments = a.segments;
+      early = subst (λ (bs : Blocks). MeansEarly limits bytes (meaning_of (frame_of limits a.segments) a.segments bs)) same (stands_early limits bytes stands short here.have, here.ends);
+      framed = ap (λ (q : Picture). q.frame) is ∙ here.framed;
+    }
+
+-- REAL BLOCKS of a picture
+real_here : (f : Frame) (blocks : Blocks) (i x y : ℕ) → i < length f.components → x < blocks_across f (component_at f i) → y < blocks_down f (component_at f i) → real_blocks f blocks i x y ≡ blocks i x y
+real_here f blocks i x y there across down =
+    ap (λ b. cond (b && is_real f i x y) (blocks i x y) (zeros 64)) (lt_yes i (length f.components) there) ∙ ap (λ b. cond b (blocks i x y) (zeros 64)) (real_in_row f i x y there across down)
+
+module _ (limits : Limits) (bytes : List ℕ) (before : List Segment) (contents : List ℕ) (begins : BeginsScanOfAll limits bytes before contents) where
+  -- of the first MCU rows
+  named_in : (i : ℕ) → i < length (frame_of limits before).components → is_among i (head_components (head_in (frame_of limits before) contents)) ≡ true
+  named_in i lt =
+      let f = frame_of limits before in head_names f (head_in f contents) i (head_there limits before contents begins.unbroken) begins.of_all.all lt
+
+  row_found : (rows i x y : ℕ) → IsFrame (frame_of limits before) → i < length (frame_of limits before).components
+      → x < blocks_across (frame_of limits before) (component_at (frame_of limits before) i)
+      → y < blocks_down (frame_of limits before) (component_at (frame_of limits before) i) → y < rows * rows_in_mcu (frame_of limits before) i
+      → any_of (is_at i x y) (row_places limits before contents rows) ≡ true
+  row_found rows i x y is there across down low =
+      let f = frame_of limits before in
+      let turned : rows_in_mcu f i * rows ≡ rows * rows_in_mcu f i = grind arith in
+      let few : y < rows_in_mcu f i * rows = omega (arith, low, turned) in
+      found_first f (head_components (head_in f contents)) i x y rows is there (named_in i there) (real_in_row f i x y there across down)
+      (subst (λ n. y < n * rows) (ap (λ n. cond (n == 1) 1 (component_at f i).v) (sym begins.of_all.all)) few)
+
+  -- those of the MCU rows that are decoded are those of the picture
+  agree_rows : (rows : ℕ) (all : Blocks) → IsFrame (frame_of limits before)
+      → AgreeInRows (frame_of limits before) rows (blocks_in (row_places limits before contents rows) all) (real_blocks (frame_of limits before) all)
+  agree_rows rows all is = record {
+    same = λ i x y there across down low.
+        (ap (λ b. cond b (all i x y) (no_blocks i x y)) (row_found rows i x y is there across down low) ∙ sym (real_here (frame_of limits before) all i x y there across down));
+  }
+
+-- NO REAL BLOCK is after all MCU rows
+rows_cover : (f : Frame) (ids : List ℕ) (i : ℕ) → IsFrame f → length ids ≡ length f.components → is_among i ids ≡ true → blocks_down f (component_at f i) ≤ scan_mcus_down f ids * rows_in_mcu f i
+rows_cover f [] i is all among = cc
+rows_cover f (j ∷ []) i is all among =
+    let s : j ≡ i = same_of j i (alone (j == i) among) in
+    let one : rows_in_mcu f i ≡ 1 = ap (λ n. cond (n == 1) 1 (component_at f i).v) (sym all) in
+    let whole : blocks_down f (component_at f j) ≡ blocks_down f (component_at f i) = ap (λ k. blocks_down f (component_at f k)) s in
+    omega (arith, whole, ap (λ n. blocks_down f (component_at f j) * n) one)
+  where
+    alone : (b : Bool) → (b || false) ≡ true → b ≡ true
+    alone true e = refl
+    alone false e = e
+rows_cover f (j ∷ k ∷ more) i is all among =
+    let several : (length f.components == 1) ≡ false = grind (arith, nat_tests, all) in
+    let each : rows_in_mcu f i ≡ (component_at f i).v = ap (λ b. cond b 1 (component_at f i).v) several in
+    let c = component_at f i in
+    let down : blocks_down f c ≤ mcus_down f * c.v = real_in_padded f.height c.v (v_max f) (v_max_some f is) in
+    omega (arith, down, ap (λ n. mcus_down f * n) each)
+
+-- LATER BLOCKS are zero
+later_zero : (f : Frame) (all : Blocks) (i x y : ℕ) → (i < length f.components → y < blocks_down f (component_at f i) → all i x y ≡ zeros 64) → real_blocks f all i x y ≡ zeros 64
+later_zero f all i x y none = by (nat_lt i (length f.components) && is_real f i x y) refl
+  where
+    by : (b : Bool) → (nat_lt i (length f.components) && is_real f i x y) ≡ b → real_blocks f all i x y ≡ zeros 64
+    by false e = ap (λ b. cond b (all i x y) (zeros 64)) e
+    by true e =
+        let k = both (nat_lt i (length f.components)) (is_real f i x y) e in
+        let r = both (nat_lt x (blocks_across f (component_at f i))) (nat_lt y (blocks_down f (component_at f i))) k.1 in
+        ap (λ b. cond b (all i x y) (zeros 64)) e ∙ none (lt_of i (length f.components) k.0) (lt_of y (blocks_down f (component_at f i)) r.1)
+
+-- WHAT IS LEFT, in the frame of the scan
+record RowsLeft (limits : Limits) (bytes : List ℕ) (before : List Segment) (contents : List ℕ) (m : ℕ) (rows : RowWork) (whole : Picture) : Type 0 where
+  pub framed : whole.frame ≡ frame_of limits before
+  pub told : TellsRows limits bytes m (blocks_in (row_places limits before contents m) (map_of whole))
+  pub work : 1 ≤ unfinished rows → LendsRow (frame_of limits before) m rows.coefs (real_blocks (frame_of limits before) (map_of whole))
+  pub later : (i x y : ℕ) → (m + 1) * rows_in_mcu (frame_of limits before) i ≤ y → real_blocks (frame_of limits before) (map_of whole) i x y ≡ zeros 64
+
+-- INSIDE THE SCAN
+
+-- how much of the current row is done
+record RowNumber (row m left later : ℕ) : Type 0 where
+  pub least : row ≤ m
+  pub same : 1 ≤ later + cond (left == 0) 0 1 → row ≡ m
+
+row_number : (row m left later units all : ℕ) → m + (later + cond (left == 0) 0 1) ≡ all → row + 1 + later ≡ all → 1 ≤ units → (1 ≤ left + later * units → 1 ≤ left) → RowNumber row m left later
+row_number row m zero later units all e count some turned = record {
+  least = omega (arith, e, count);
+  same = λ due.
+      (let low : later * 1 ≤ later * units = mul-le later 1 later units (omega arith) some in
+      let none : 1 ≤ 0 = turned (omega (arith, low, due)) in absurd (omega (arith, none)));
+}
+row_number row m (suc n) later units all e count some turned =
+    let one : later + cond (suc n == 0) 0 1 ≡ later + 1 = ap (λ b. later + cond b 0 1) (not_zero n) in
+    record { least = omega (arith, e, count, one); same = λ due. omega (arith, e, count, one) }
+
+inside_left : (limits : Limits) (bytes : List ℕ) (w : FileWork) (rows : RowWork) (whole : Picture) (m : ℕ) → (r : RowsInside limits bytes w rows whole) → IsRowOf rows.tops whole rows.coefs → (1 ≤ scan_left r.scan.work → 1 ≤ rows.left)
+    → BeginsScanOfAll limits bytes (segments_of r.items) r.contents → m + unfinished rows ≡ rows_of_scan limits (segments_of r.items) r.contents → RowsLeft limits bytes (segments_of r.items) r.contents m rows whole
+inside_left limits bytes w rows whole m r of turned begins count = record {
+  framed = framed;
+  told = subst (λ n. TellsRows limits bytes n (blocks_in (row_places limits (segments_of r.items) r.contents n) (map_of whole))) is t.told;
+  work = λ due. record { framed = of.framed ∙ ap mcu_row_frame framed; range = inside_in_range limits bytes w rows whole r of; row = lent due };
+  later = λ i x y low. later_zero f (map_of whole) i x y (λ there down. blank i x y (subst (λ (g : Frame). i < length g.components) (sym framed) there) (deep i y there low));
+}
+  where
+    f : Frame
+    f = frame_of limits (segments_of r.items)
+
+    at : IsRowAt (frame_behind limits r.items) (components_of limits r.items r.contents) rows (scan_left r.scan.work)
+    at = (r.at).at
+
+    framed : whole.frame ≡ frame_of limits (segments_of r.items)
+    framed = rest_framed limits r.items r.contents bytes rows.waiting r.scan whole r.coded (r.held).of
+
+    t : TellsDue limits bytes r.items r.contents rows whole
+    t = place_tells limits r.items r.contents bytes whole rows (scan_left r.scan.work) (inside_tells limits bytes w rows whole r) (r.at).at
+
+    is : t.m ≡ m
+    is = omega (arith, t.count, count)
+
+    number : RowNumber at.row m rows.left rows.later
+    number = row_number at.row m rows.left rows.later rows.units (rows_of_scan limits (segments_of r.items) r.contents) count at.count (r.at).some (λ due. turned (subst (λ n. 1 ≤ n) (sym at.sum) due))
+
+    lent : 1 ≤ unfinished rows → AreOfRow (frame_of limits (segments_of r.items)) m rows.coefs (real_blocks (frame_of limits (segments_of r.items)) (map_of whole))
+    lent due =
+        let row = row_blocks limits r.items r.contents whole rows (scan_left r.scan.work) m of framed at (number.same due) (named_in limits bytes (segments_of r.items) r.contents begins) in
+        let agree = agree_rows limits bytes (segments_of r.items) r.contents begins (m + 1) (map_of whole) at.frame in
+        record {
+          same = λ i x y there across low down.
+              (let v = rows_in_mcu f i in
+              let e : (m + 1) * v ≡ m * v + v = grind arith in
+              row.same i x y there across low down ∙ agree.same i x (m * v + y) there across down (omega (arith, low, e)));
+        }
+
+    blank : IsBlankAfter rows whole
+    blank = rest_blank limits r.items r.contents bytes rows.waiting r.scan rows whole r.coded (r.held).of r.at
+
+    deep : (i y : ℕ) → i < length (frame_of limits (segments_of r.items)).components → (m + 1) * rows_in_mcu (frame_of limits (segments_of r.items)) i ≤ y → top_of rows.tops i + top_of rows.steps i ≤ y
+    deep i y there low =
+        let v = rows_in_mcu f i in
+        let step : top_of rows.steps i ≡ v = (r.at).steps i ∙ rows_there f i there in
+        let top : top_of rows.tops i ≡ at.row * v = at.begins i there in
+        let most : (at.row + 1) * v ≤ (m + 1) * v = mul-le (at.row + 1) v (m + 1) v (let z = number.least in omega (arith, z)) (omega arith) in
+        let e : (at.row + 1) * v ≡ at.row * v + v = grind arith in
+        omega (arith, step, top, most, e, low)
+
+-- AFTER IT, all MCU rows are there
+
+-- items, and bytes after them
+record ItemsAt (limits : Limits) (bytes : List ℕ) (items : List Item) (blocks : Blocks) : Type 0 where
+  pub front : List ℕ
+  pub tail : List ℕ
+  pub cut : bytes ≡ front ++ tail
+  pub spelled : SpellsFront items front
+  pub leads : Leads limits items blocks
+
+items_at : (limits : Limits) (bytes : List ℕ) (v : FileWork) → (s : IsBetweenFileItems limits bytes v) → has_frame (segments_of s.items) ≡ true → ItemsAt limits bytes s.items s.blocks
+items_at limits bytes v s found = by (s.at).at
+  where
+    by : AtPlace limits bytes (s.at).sent s.items s.blocks → ItemsAt limits bytes s.items s.blocks
+    by (inl k) = absurd (clash (has_frame (segments_of s.items)) found (ap (λ z. has_frame (segments_of z)) k.no_items))
+    by (inr (tail, k)) =
+        let b = (k.beside).behind in record { front = b.front; tail = replicate (k.beside).fill 255 ++ tail; cut = b.cut; spelled = b.spelled; leads = k.leads }
+
+-- a scan is among them
+scan_among : (limits : Limits) (items : List Item) (blocks : Blocks) (b : ScanHistory) → HasBegun limits b (segments_of items) → HasBegunAll b.progress → has_frame (segments_of items) ≡ true → Leads limits items blocks → has_scan (segments_of items) ≡ true
+scan_among limits items blocks b begun all found leads = by (has_scan (segments_of items)) refl
+  where
+    f : Frame
+    f = frame_of limits (segments_of items)
+
+    by : (t : Bool) → has_scan (segments_of items) ≡ t → t ≡ true
+    by true e = refl
+    by false e =
+        let some : 1 ≤ length f.components = some_for limits (segments_of items) (leads_pass limits items blocks leads) found in
+        let heads = heads_of f (segments_of items) in
+        let one : has_begun heads 0 ≡ true = (all f heads begun.scans).1 0 (omega (arith, some)) in
+        absurd (clash (has_begun heads 0) one (ap (λ hs. has_begun hs 0) (no_heads f (segments_of items) e)))
+
+module _ (limits : Limits) (bytes : List ℕ) (w : FileWork) (rows : RowWork) (m : ℕ) (before : List Segment) (contents : List ℕ) where
+  after_left : (whole : Picture) (r : RowsAfter limits bytes w rows whole) → IsFrame (frame_of limits before) → BeginsScanOfAll limits bytes before contents
+      → m + unfinished rows ≡ rows_of_scan limits before contents → RowsLeft limits bytes before contents m rows whole
+  after_left whole r is begins count = record {
+    framed = picture.1 ∙ rows_held.framed;
+    told = subst (λ (b : Blocks). TellsRows limits bytes m (blocks_in (row_places limits before contents m) b)) picture.2 rows_held.told;
+    work = λ due. absurd (let z = r.done in omega (arith, due, z));
+    later = λ i x y low. later_zero f (map_of whole) i x y (λ there down. absurd (too_deep i y there down low));
+  }
+    where
+      f : Frame
+      f = frame_of limits before
+
+      ids : List ℕ
+      ids = head_components (head_in f contents)
+
+      s : IsBetweenFileItems limits bytes (with_picture w whole)
+      s = r.between
+
+      picture : (has_frame (segments_of (r.between).items) ≡ true) × (whole.frame ≡ frame_of_items limits (r.between).items) × ((r.between).blocks ≡ map_of whole)
+      picture = ((r.between).beside).picture
+
+      at : ItemsAt limits bytes (r.between).items (r.between).blocks
+      at = items_at limits bytes (with_picture w whole) r.between picture.0
+
+      full : m ≡ rows_of_scan limits before contents
+      full = let z = r.done in omega (arith, count, z)
+
+      places : (scan_after limits before contents).places ≡ row_places limits before contents m
+      places = units_by_row f ids ∙ ap (λ n. first_rows f ids n) (sym full)
+
+      rows_held : HoldsRows limits bytes before contents (r.between).items (r.between).blocks m
+      rows_held =
+          rows_of_items limits bytes before contents s.items s.blocks at.front at.tail m begins at.cut at.spelled at.leads (scan_among limits s.items s.blocks w.begun ((s.beside).begun) r.all picture.0 at.leads) places
+
+      too_deep : (i y : ℕ) → i < length (frame_of limits before).components → y < blocks_down (frame_of limits before) (component_at (frame_of limits before) i) → (m + 1) * rows_in_mcu (frame_of limits before) i ≤ y → ⊥
+      too_deep i y there down low =
+          let v = rows_in_mcu f i in
+          let cover = rows_cover f ids i is begins.of_all.all (named_in limits bytes before contents begins i there) in
+          let all : scan_mcus_down f ids * v ≡ m * v = ap (λ n. n * v) (sym full) in
+          let e : (m + 1) * v ≡ m * v + v = grind arith in
+          omega (arith, cover, all, e, low, down)
+
+  -- WHEREVER IT IS
+  rows_left : (g : GoesByRow limits bytes w rows) → IsFrame (frame_of limits before) → BeginsScanOfAll limits bytes before contents
+      → m + unfinished rows ≡ rows_of_scan limits before contents → RowsLeft limits bytes before contents m rows (g.stands).whole
+  rows_left g is begins count = by (g.stands).at
+    where
+      by : RowsInside limits bytes w rows (g.stands).whole ⊎ RowsAfter limits bytes w rows (g.stands).whole → RowsLeft limits bytes before contents m rows (g.stands).whole
+      by (inl r) =
+          let t = place_tells limits r.items r.contents bytes (g.stands).whole rows (scan_left r.scan.work) (inside_tells limits bytes w rows (g.stands).whole r) (r.at).at in
+          let one = begun_once limits bytes before (segments_of r.items) contents r.contents begins t.begins in
+          let same : rows_of_scan limits before contents ≡ rows_of_scan limits (segments_of r.items) r.contents = ap (λ (l : List Segment). rows_of_scan limits l contents) one.0 ∙ ap (λ (l : List ℕ). rows_of_scan limits (segments_of r.items) l) one.1 in
+          let here = inside_left limits bytes w rows (g.stands).whole m r (g.stands).row (g.turned r.scan r.inside) t.begins (count ∙ same) in
+          subst (λ (c : List ℕ). RowsLeft limits bytes before c m rows (g.stands).whole) (sym one.1) (subst (λ (l : List Segment). RowsLeft limits bytes l r.contents m rows (g.stands).whole) (sym one.0) here)
+      by (inr r) = after_left (g.stands).whole r is begins count
+
+-- THE ANSWER
+pub rows_early : (bytes : List ℕ) (m : ℕ) (r : ReaderState) (all : Bool) → AreLimits r.limits → HasReadRows bytes m r → IsComplete r.file.begun.progress all → all ≡ true → IsEarlyByRows bytes m (record r { done = true })
+rows_early bytes m r all limited h told e = record {
+  done = refl;
+  begun = record { before = b.before; contents = b.contents; begins = b.begins; rows = b.rows; has = b.has; head = b.head; told = b.told };
+  meaning = meaning_of (frame_of r.limits left.segments) left.segments (map_of whole);
+  early = left.early;
+  rows = h.rows;
+  blocks = h.blocks;
+  completed = h.completed;
+  given = subst (λ (x : Blocks). AgreeInRows f m h.blocks x) (sym real) (subst (λ (x : Blocks). AgreeInRows f m x (real_blocks f (map_of whole))) (sym blocks) (agree_rows r.limits bytes b.before b.contents b.begins m (map_of whole) is));
+  work = λ due. subst (λ (x : Blocks). LendsRow f m (b.rows).coefs x) (sym real) (there.work due);
+  later = λ i x y low. ap (λ (z : Blocks). z i x y) real ∙ there.later i x y low;
+}
+  where
+    b : HasBegunRows bytes r
+    b = h.begun
+
+    whole : Picture
+    whole = ((h.open).stands).whole
+
+    f : Frame
+    f = frame_of r.limits (h.begun).before
+
+    is : IsFrame (frame_of r.limits (h.begun).before)
+    is = begun_frame r.limits bytes (h.begun).before (h.begun).contents limited (h.begun).begins
+
+    left : EndsWhole r.limits bytes ((h.open).stands).whole
+    left = ends_whole r.limits bytes r.file ((h.open).stands).whole all (goes_with r.limits bytes r.file (h.begun).rows h.open) h.stands h.short told e
+
+    there : RowsLeft r.limits bytes (h.begun).before (h.begun).contents m ((h.begun).rows) ((h.open).stands).whole
+    there = rows_left r.limits bytes r.file (h.begun).rows m (h.begun).before (h.begun).contents h.open is (h.begun).begins h.rows
+
+    real : real_blocks (frame_of r.limits left.segments) (map_of whole) ≡ real_blocks f (map_of whole)
+    real = ap (λ (g : Frame). real_blocks g (map_of whole)) (sym left.framed ∙ there.framed)
+
+    blocks : h.blocks ≡ blocks_in (row_places r.limits (h.begun).before (h.begun).contents m) (map_of whole)
+    blocks = rows_once r.limits bytes m h.blocks (blocks_in (row_places r.limits (h.begun).before (h.begun).contents m) (map_of whole)) h.completed.0 there.told

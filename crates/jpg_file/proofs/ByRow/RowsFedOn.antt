@@ -1,0 +1,157 @@
+-- A reader of MCU rows, from one piece to the next.
+use Rattle.std.proofs.Common.{◌≡◌, ◌⊎◌, ℕ, ◌+◌, ◌<◌, ◌≤◌, false, List, ◌++◌, length, true, refl, sym, ap, ◌∙◌, subst, arith, inl, inr, Some, None}
+use Rattle.jpg_spec.specs.Segments.{head_components}
+use Rattle.jpg_spec.specs.Markers.{Segment}
+use Rattle.jpg_spec.specs.InForce.{frame_of, head_in}
+use Rattle.jpg_spec.specs.Scan.{Blocks}
+use Rattle.jpg_spec.specs.ScanRows.{first_rows}
+use Rattle.jpg_spec.specs.RowsParsed.{picture_so_far, BeginsScanOfAll, CompletesRows, TellsRows}
+use Rattle.std.specs.Prelude.{Option}
+use Rattle.jpg_file.specs.declared.read.strip_head.StripHead.{StripHead}
+use Rattle.jpg_spec.specs.declared.frame.Limits.{Limits}
+use Rattle.jpg_spec.proofs.McuRows.RowsHeader.{all_complete}
+use Rattle.jpg_spec.proofs.McuRows.RowsOnce.{rows_stay}
+use Rattle.jpg_seq.proofs.ScanRows.{units_by_row}
+use Rattle.jpg_file.specs.Read.File.{with_picture}
+use Rattle.jpg_file.specs.Read.FirstHeader.{IsFirstHeaderOf}
+use Rattle.jpg_file.specs.Read.ReadFile.{ReaderState}
+use Rattle.jpg_file.specs.Read.ReadRows.{HasBegunRows, HasGivenRow, HasReadRows, IsDoneByRows}
+use Rattle.jpg_file.specs.Read.RowsKnown.{TellsStrip, rows_of_scan}
+use Rattle.jpg_file.specs.Read.RowPieces.{HasLastByte, RowsOpen}
+use Rattle.jpg_file.specs.Read.RowTurns.{unfinished}
+use Rattle.jpg_file.specs.Read.Strips.{EndsByRow, GoesByRow, RowIsWhole, RowsAfter, RowsInside, RepresentsRows}
+use Rattle.jpg_file.specs.declared.read.rows.RowWork.{RowWork}
+use Rattle.jpg_file.specs.declared.read.strip_work.StripWork.{StripWork}
+use Rattle.jpg_file.proofs.Files.FileSteps.{head_left}
+use Rattle.jpg_file.proofs.Files.PieceSteps.{file_means, stands_file}
+use Rattle.jpg_file.proofs.ByRow.StripPieces.{open_head, strip_whole}
+use Rattle.jpg_file.proofs.ByRow.RowsFed.{begun_on, row_fed, rows_completed}
+use Rattle.jpg_file.proofs.Files.ReaderFed.{with_work}
+use Rattle.jpg_file.specs.declared.read.file.FileWork.{FileWork}
+
+-- IF MCU ROWS ARE BEING READ: what holds before the piece
+pub record RowsBefore (bytes : List ℕ) (m : ℕ) (r : ReaderState) : Type 0 where
+  pub skip_ahead : r.stop ≡ None
+  pub undone : r.done ≡ false
+  pub begun : HasBegunRows bytes r
+  pub «open» : RowsOpen r.limits bytes r.rows r.file
+  pub count : m + unfinished begun.rows ≡ rows_of_scan r.limits begun.before begun.contents
+  pub told : Blocks
+  pub tells : TellsRows r.limits bytes m told
+
+open_by : (limits : Limits) (bytes : List ℕ) (o : Option RowWork) (w : FileWork) (rows : RowWork) → o ≡ Some rows → RepresentsRows limits bytes w rows → HasLastByte limits bytes → RowsOpen limits bytes o w
+open_by limits bytes o w rows has s last = subst (λ (x : Option RowWork). RowsOpen limits bytes x w) (sym has) (record { stands = s; last = λ some. last })
+
+pub rows_before : (bytes : List ℕ) (m : ℕ) (r : ReaderState) → HasReadRows bytes m r ⊎ HasGivenRow bytes m r → RowsBefore bytes m r
+rows_before bytes m r (inl h) = record {
+  skip_ahead = h.skip_ahead;
+  undone = h.undone;
+  begun = h.begun;
+  «open» = open_by r.limits bytes r.rows r.file (h.begun).rows (h.begun).has (h.open).stands h.byte;
+  count = h.rows;
+  told = h.blocks;
+  tells = h.completed.0;
+}
+rows_before bytes m r (inr h) = record {
+  skip_ahead = h.skip_ahead;
+  undone = h.undone;
+  begun = h.begun;
+  «open» = open_by r.limits bytes r.rows r.file (h.begun).rows (h.begun).has h.open h.byte;
+  count = h.rows;
+  told = h.blocks;
+  tells = h.told;
+}
+
+-- ALL MCU ROWS were passed
+pub all_given : (limits : Limits) (bytes more : List ℕ) (before : List Segment) (contents : List ℕ) (m : ℕ) (blocks : Blocks) → BeginsScanOfAll limits bytes before contents → TellsRows limits bytes m blocks → m ≡ rows_of_scan limits before contents
+    → CompletesRows limits (bytes ++ more) m blocks
+all_given limits bytes more before contents m blocks begins told all =
+    let f = frame_of limits before in
+    let ids = head_components (head_in f contents) in
+    all_complete limits (bytes ++ more) m blocks before contents (begun_on limits bytes more before contents begins) (units_by_row f ids ∙ ap (λ n. first_rows f ids n) (sym all)) (rows_stay limits bytes more m blocks told)
+
+module _ (r : ReaderState) (new : StripWork) (bytes piece : List ℕ) (m : ℕ) (b : RowsBefore bytes m r) (rows : RowWork) (has : new.rows ≡ Some rows) where
+  abbrev all : List ℕ
+  all = bytes ++ piece
+
+  abbrev before : List Segment
+  before = (b.begun).before
+
+  abbrev contents : List ℕ
+  contents = (b.begun).contents
+
+  begins : BeginsScanOfAll r.limits all before contents
+  begins = begun_on r.limits bytes piece before contents (b.begun).begins
+
+  -- the scan remains begun
+  abbrev begun_with : new.strip ≡ r.strip → IsFirstHeaderOf r.limits all new.file.head → HasBegunRows all (with_work r new)
+  begun_with same head = record {
+    before = before;
+    contents = contents;
+    begins = begins;
+    rows = rows;
+    has = has;
+    head = head;
+    told = subst (λ (s : Option StripHead). TellsStrip s (frame_of r.limits before) (picture_so_far r.limits before contents)) (sym same) (b.begun).told;
+  }
+
+  -- NO FURTHER ONE is complete with a piece
+  pub fed_more_rows : new.strip ≡ r.strip → unfinished rows ≡ unfinished (b.begun).rows → GoesByRow r.limits all new.file rows → HasLastByte r.limits all
+      → length all < r.limits.input → HasReadRows all m (with_work r new)
+  fed_more_rows strip same g last short = record {
+    skip_ahead = b.skip_ahead;
+    undone = b.undone;
+    short = short;
+    stands = (let v = strip_whole r.limits all (Some rows) new.file g in stands_file r.limits all v.file v.stands);
+    begun = begun_with strip (open_head r.limits all (Some rows) new.file g.stands);
+    «open» = g;
+    byte = last;
+    rows = omega (arith, b.count, same);
+    blocks = complete.0;
+    completed = complete.1;
+  }
+    where
+      complete : (blocks : Blocks) × CompletesRows r.limits all m blocks
+      complete = by g.stands.at
+        where
+          by : RowsInside r.limits all new.file rows g.stands.whole ⊎ RowsAfter r.limits all new.file rows g.stands.whole → (blocks : Blocks) × CompletesRows r.limits all m blocks
+          by (inl i) = rows_completed r.limits all before contents new.file rows g.stands.whole m begins i g.none (omega (arith, b.count, same))
+          by (inr k) = (b.told, all_given r.limits bytes piece before contents m b.told (b.begun).begins b.tells (omega (arith, b.count, same, k.done)))
+
+  -- A FURTHER ONE is complete
+  pub fed_given_row : new.strip ≡ r.strip → unfinished (b.begun).rows ≡ unfinished rows + 1 → (k : RowIsWhole r.limits all new.file rows) → HasLastByte r.limits all
+      → length all ≤ r.limits.input → HasGivenRow all (m + 1) (with_work r new)
+  fed_given_row strip fewer k last within =
+      let stands : RepresentsRows r.limits all new.file rows = record { whole = k.whole; row = k.row; at = inl k.inside } in
+      let f = row_fed r.limits all before contents new.file rows m begins k (omega (arith, b.count, fewer)) in
+      record {
+        skip_ahead = b.skip_ahead;
+        undone = b.undone;
+        within = within;
+        begun = begun_with strip (open_head r.limits all (Some rows) new.file stands);
+        «open» = stands;
+        byte = last;
+        rows = omega (arith, b.count, fewer);
+        blocks = f.blocks;
+        told = f.told;
+        last = m;
+        count = refl;
+        framed = f.framed;
+        range = f.range;
+        row = f.row;
+      }
+
+  -- THE FILE is complete
+  pub fed_done_rows : new.strip ≡ r.strip → unfinished rows ≡ unfinished (b.begun).rows → EndsByRow r.limits all new.file rows
+      → IsDoneByRows all m (record (with_work r new) { done = true })
+  fed_done_rows strip same k =
+      let w = with_picture new.file k.whole in
+      let g = begun_with strip (head_left r.limits all w k.ends) in
+      record {
+        done = refl;
+        meaning = _;
+        whole = file_means r.limits all w k.ends;
+        begun = record { before = g.before; contents = g.contents; begins = g.begins; rows = rows; has = has; head = g.head; told = g.told };
+        blocks = b.told;
+        completed = all_given r.limits bytes piece before contents m b.told (b.begun).begins b.tells (omega (arith, b.count, same, k.done));
+      }

@@ -1,0 +1,104 @@
+-- A file that is read MCU row by MCU row, in its other states: before its first scan, and where its scans are read in
+-- one go.
+use Rattle.std.proofs.Common.{◌≡◌, ℕ, ◌+◌, true, List, [], ◌∷◌, ◌++◌, take, get_or, refl, sym, subst, Option, Some, None, Err}
+use Rattle.std.specs.Prelude.{is_none}
+use Rattle.jpg_spec.specs.declared.frame.Limits.{Limits}
+use Rattle.jpg_base.specs.declared.stop.Stop.{Stop}
+use Rattle.jpg_base.specs.declared.stop.Stop.TheVariants as stop
+use Rattle.jpg_file.specs.Read.File.{AfterFileByte, KeepsBytes, PassesFront, RepresentsFile, TakesSome, limits_of}
+use Rattle.jpg_file.specs.Read.RowsKnown.{KnowsRows}
+use Rattle.jpg_file.specs.declared.read.strip_head.StripHead.{StripHead}
+use Rattle.jpg_file.proofs.Files.FileSteps.{asked}
+use Rattle.jpg_file.proofs.Files.PieceSteps.{one_more}
+use Rattle.jpg_file.specs.Read.Step.{IfStops}
+use Rattle.jpg_file.specs.Read.Strips.{AfterScanBegins, AfterStrip, RowsRun, StripGoes, StripRun}
+use Rattle.jpg_file.specs.declared.read.file.FileWork.{FileWork}
+use Rattle.jpg_file.specs.declared.read.rows.RowWork.{RowWork}
+use Rattle.jpg_file.specs.declared.read.step.Step.{Step}
+use Rattle.jpg_file.specs.declared.read.step.Step.TheVariants as step
+
+-- the result of a file that is read in one go
+pub plain_after : (asks : Type 0) (limits : Limits) (bytes : List ℕ) (rows : Option RowWork) (w : FileWork) (answer : Step) → rows ≡ None → AfterFileByte asks limits bytes answer w → AfterStrip limits bytes answer rows w
+plain_after asks limits bytes rows w answer none a = subst (λ (r : Option RowWork). AfterStrip limits bytes answer r w) (sym none) (asked asks (Unit {0}) (λ h. tt) limits bytes answer w a)
+
+-- a scan that doesn't begin
+pub begin_stops : (limits : Limits) (bytes : List ℕ) (rows : Option RowWork) (w : FileWork) (e : Stop) → rows ≡ None → AfterScanBegins limits bytes (Err e) w → AfterStrip limits bytes (step.Ended e) rows w
+begin_stops limits bytes rows w e none a = subst (λ (r : Option RowWork). AfterStrip limits bytes (step.Ended e) r w) (sym none) (by e a)
+  where
+    by : (e : Stop) → AfterScanBegins limits bytes (Err e) w → AfterFileByte (Unit {0}) limits bytes (step.Ended e) w
+    by (stop.Fault f) a = a
+    by stop.NoMemory a = tt
+
+-- SOME BYTES
+
+pub stops : (result : Step) (holds : Type 0) → holds → IfStops result holds
+stops (step.Ended e) holds h = h
+stops other holds h = tt
+
+-- of a file that is read in one go
+pub some_plain : (w : FileWork) (rows : Option RowWork) (run : List ℕ) (n : ℕ) (answer : Step) (new : FileWork) → rows ≡ None → TakesSome w run n answer new → (bytes : List ℕ) → StripGoes (limits_of w) bytes rows w
+    → StripRun (limits_of w) bytes run n answer rows new
+some_plain w rows run n answer new none t bytes g =
+    let limits = limits_of w in
+    let k = subst (λ (r : Option RowWork). StripGoes limits bytes r w) none g in
+    let front = bytes ++ take t.early run in
+    let before = t.before limits bytes k refl in
+    record {
+      mid = t.mid;
+      early = t.early;
+      count = t.count;
+      within = t.within;
+      before = before;
+      room = t.room limits bytes k refl;
+      head = t.head;
+      last = plain_after (KeepsBytes w) limits (front ++ get_or run t.early 0 ∷ []) rows new answer none (t.last limits front before refl);
+    }
+
+-- of one that is read MCU row by MCU row
+pub some_rows : (limits : Limits) (bytes run : List ℕ) (n : ℕ) (result : Step) (new : FileWork) (after : RowWork) → RowsRun limits bytes run n result new after → StripRun limits bytes run n result (Some after) new
+some_rows limits bytes run n result new after t = record {
+  mid = t.mid;
+  early = t.early;
+  count = t.count;
+  within = t.within;
+  before = t.before;
+  room = t.room;
+  head = stops result (new.head ≡ (t.mid).head) (sym t.head);
+  last = t.last;
+}
+
+module _ (w mid : FileWork) (run : List ℕ) (n : ℕ) (p : PassesFront w run n mid) where
+  -- before the first scan: contents of a segment, and a byte
+  pub first_plain : (old rows : Option RowWork) (new : FileWork) (result : Step) → old ≡ None
+      → ((bytes : List ℕ) → RepresentsFile (limits_of mid) bytes mid → AfterStrip (limits_of mid) (bytes ++ get_or run n 0 ∷ []) result rows new)
+      → IfStops result (new.head ≡ mid.head) → (bytes : List ℕ) → StripGoes (limits_of w) bytes old w → StripRun (limits_of w) bytes run (n + 1) result rows new
+  first_plain old rows new result none after head bytes g =
+      let limits = limits_of w in
+      let k = subst (λ (r : Option RowWork). StripGoes limits bytes r w) none g in
+      let front = bytes ++ take n run in
+      let before = p.stands limits bytes k in
+      record {
+        mid = mid;
+        early = n;
+        count = refl;
+        within = p.within;
+        before = before;
+        room = p.room;
+        head = head;
+        last = subst (λ (l : Limits). AfterStrip l (front ++ get_or run n 0 ∷ []) result rows new) p.limits (after front (subst (λ (l : Limits). RepresentsFile l front mid) (sym p.limits) before));
+      }
+
+  -- WHAT IS KNOWN of rows that begin
+  pub first_known : (rows : Option RowWork) (strip : Option StripHead)
+      → ((bytes : List ℕ) → RepresentsFile (limits_of mid) bytes mid → KnowsRows (limits_of mid) (bytes ++ get_or run n 0 ∷ []) 0 rows strip) → (bytes : List ℕ)
+      → RepresentsFile (limits_of w) bytes w → KnowsRows (limits_of w) (bytes ++ take (n + 1) run) 0 rows strip
+  first_known rows strip known bytes k =
+      let limits = limits_of w in
+      let front = bytes ++ take n run in
+      let before = p.stands limits bytes k in
+      subst (λ (l : List ℕ). KnowsRows limits l 0 rows strip) (sym (one_more bytes run n p.within))
+      (subst (λ (l : Limits). KnowsRows l (front ++ get_or run n 0 ∷ []) 0 rows strip) p.limits (known front (subst (λ (l : Limits). RepresentsFile l front mid) (sym p.limits) before)))
+
+pub none_rows : (rows : Option RowWork) → is_none rows ≡ true → rows ≡ None
+none_rows None e = refl
+none_rows (Some rows) e = cc

@@ -1,0 +1,9 @@
+pub mod Ending
+pub mod FileSteps
+pub mod Going
+pub mod ItemBytes
+pub mod Keeping
+pub mod Leaving
+pub mod PictureSteps
+pub mod PieceSteps
+pub mod ReaderFed

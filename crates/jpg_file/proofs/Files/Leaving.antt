@@ -1,0 +1,382 @@
+-- What a file that is being read leaves where it ends: complete, or early.
+use Rattle.std.proofs.Common.{◌≡◌, ℕ, ◌≤◌, Bool, true, false, List, [], ◌∷◌, ◌++◌, length, refl, sym, ap, ◌∙◌, subst, arith, inl, inr, Option, Some, None}
+use Rattle.std.specs.Prelude.{◌⊎◌, replicate, is_none}
+use Rattle.std.proofs.lemmas.List.{append_assoc, length-append}
+use Rattle.jpg_spec.specs.Bits.{bits_of_bytes}
+use Rattle.jpg_spec.specs.Geometry.{Frame, bounds, no_component}
+use Rattle.jpg_spec.specs.Scan.{Blocks}
+use Rattle.jpg_spec.specs.Markers.{Segment, Pass, soi, has_frame}
+use Rattle.jpg_spec.specs.Header.{header_rule}
+use Rattle.jpg_spec.specs.InForce.{no_frame, frame_of, frame_after, heads_of}
+use Rattle.jpg_spec.specs.History.{has_begun}
+use Rattle.jpg_spec.specs.Items.{Item, segments_of, ends_in_scan}
+use Rattle.jpg_spec.specs.FileMeaning.{meaning_of}
+use Rattle.jpg_spec.specs.FirstFault.{AfterItems, InsideScan, HaveBegun}
+use Rattle.jpg_spec.specs.UnfinishedFile.{PartOfItem}
+use Rattle.jpg_spec.specs.Early.{ScanInPart, EndsAfter, EndsInside, segments_with}
+use Rattle.jpg_spec.specs.Laws.{frame_of_items}
+use Rattle.jpg_spec.specs.Parts.{StandsInUnits}
+use Rattle.jpg_spec.specs.PictureInWork.{UnitsRead}
+use Rattle.jpg_spec.specs.Ranges.{AreInRange}
+use Rattle.jpg_spec.specs.ScanReading.{ScanPlace, scan_at, ScanAt, LeadingMarker}
+use Rattle.jpg_spec.specs.declared.frame.Limits.{Limits}
+use Rattle.jpg_spec.proofs.Basics.Common.{clash}
+use Rattle.jpg_spec.proofs.Headers.BeforeScans.{no_heads}
+use Rattle.jpg_spec.proofs.EndsEarly.EarlyBegun.{AllNamed, HasSome, begun_behind, begun_inside, after_begun, inside_begun}
+use Rattle.jpg_spec.proofs.EndsEarly.EarlyRanges.{in_part_in_range}
+use Rattle.jpg_spec.proofs.Files.FileLaws.{means_once, stands_early}
+use Rattle.jpg_spec.proofs.Bits.FirstPasses.{all_below}
+use Rattle.jpg_spec.proofs.Headers.FrameAfter.{header_too, leads_pass}
+use Rattle.jpg_spec.proofs.Headers.HeadersOnce.{after_front}
+use Rattle.jpg_spec.proofs.Files.ItemSteps.{fill_begin, fill_marker, fill_part}
+use Rattle.jpg_spec.proofs.Files.Ranges.{leads_in_range}
+use Rattle.jpg_coefs.specs.Picture.{Picture, map_of}
+use Rattle.jpg_markers.specs.Reading.{reading_of}
+use Rattle.jpg_file.specs.Read.ScanHistory.{HasBegun, IsComplete}
+use Rattle.jpg_file.specs.Read.File.{EndsFile, PictureSoFar, RepresentsFile, IsBetweenFileItems, IsInsideScanOfFile, keeping_of}
+use Rattle.jpg_file.specs.Read.SegmentState.{Holds, segments_view}
+use Rattle.jpg_file.specs.Read.InData.{AtInterval, InData}
+use Rattle.jpg_file.specs.Read.Items.{AtPlace, IsBeside}
+use Rattle.jpg_file.specs.Read.Keeping.{kept_for}
+use Rattle.jpg_file.specs.Read.Left.{Leaves, LeavesPicture}
+use Rattle.jpg_file.specs.Read.PictureRead.{MeansFor, RevealsFile}
+use Rattle.jpg_file.specs.Read.ReadFile.{HasRead, IsDone, IsEarlyEnd, ReaderState, TellsBegun}
+use Rattle.jpg_scans.specs.declared.progress.Progress.{Progress}
+use Rattle.jpg_file.specs.declared.read.scan_history.ScanHistory.{ScanHistory}
+use Rattle.jpg_file.specs.declared.read.file.FileWork.{FileWork}
+use Rattle.jpg_file.specs.declared.read.picture.Picture.{Picture as Shown}
+use Rattle.jpg_file.proofs.Files.FileSteps.{frame_for, frame_left, one_begun}
+use Rattle.jpg_file.proofs.Files.ItemBytes.{part_after}
+use Rattle.jpg_file.proofs.Scans.Machines.{scans_keep_units}
+use Rattle.jpg_file.proofs.Files.PieceSteps.{file_means}
+use Rattle.jpg_file.proofs.Scans.ScanBytes.{of_place}
+
+-- A COMPLETE FILE
+
+file_leaves : (limits : Limits) (bytes : List ℕ) (w : FileWork) → (e : EndsFile limits bytes w) → Leaves limits (segments_of (e.ends).items) (e.ends).blocks w
+file_leaves limits bytes w e = by w.reading.coefs refl ((e.ends).beside).picture
+  where
+    by : (q : Option Picture) → w.reading.coefs ≡ q → PictureSoFar limits (e.ends).items (e.ends).blocks q → Leaves limits (segments_of (e.ends).items) (e.ends).blocks w
+    by None h (none, blank) = absurd (one_begun limits bytes w e none)
+    by (Some q) h (found, is, as_map) =
+        let k = e.ends in
+        let f = frame_left limits bytes w e in
+        record {
+          coefs = q;
+          has = h;
+          framed = is;
+          as_map = as_map;
+          frame = f.frame;
+          held = f.has;
+          is = f.is;
+          holds = (k.at).holds;
+          begun = (k.beside).begun;
+          complete = e.complete;
+          range = leads_in_range limits k.items k.blocks ((k.at).at).leads;
+        }
+
+pub whole_leaves : (limits : Limits) (bytes : List ℕ) (w : FileWork) → EndsFile limits bytes w → LeavesPicture limits w
+whole_leaves limits bytes w e = (segments_of (e.ends).items, (e.ends).blocks, file_leaves limits bytes w e)
+
+pub takes_whole : (r : ReaderState) (bytes : List ℕ) (p : Shown) → RevealsFile r.file p → (d : IsDone bytes r) → MeansFor (keeping_of r.file) p d.meaning
+takes_whole r bytes p shows d =
+    let e = d.ended in
+    let k = e.ends in
+    let N = meaning_of (frame_of_items r.limits k.items) (segments_of k.items) k.blocks in
+    shows r.limits (segments_of k.items) k.blocks (file_leaves r.limits bytes r.file e) ∙ ap (kept_for (keeping_of r.file)) (means_once r.limits bytes bytes N d.meaning (file_means r.limits bytes r.file e).0 (d.whole).0 refl).0
+
+-- THE SCANS SO FAR name each component, or don't
+
+none_complete : (all : Bool) → IsComplete None all → all ≡ true → ⊥
+none_complete all told e = clash all e (told (record no_frame { components = no_component ∷ [] }) [] (omega arith) refl)
+
+pub named_by : (limits : Limits) (b : ScanHistory) (before : List Segment) (all : Bool) → HasBegun limits b before → IsComplete b.progress all → (has_frame before ≡ true → HasSome limits before) → all ≡ true → AllNamed limits before
+named_by limits b before all h told some e = by (is_none b.progress) refl
+  where
+    none_of : (o : Option Progress) → is_none o ≡ true → o ≡ None
+    none_of None k = refl
+    none_of (Some p) k = cc
+
+    by : (none : Bool) → is_none b.progress ≡ none → AllNamed limits before
+    by true k = absurd (none_complete all (subst (λ o. IsComplete o all) (none_of b.progress k) told) e)
+    by false k =
+        let found = h.framed k in
+        record { found = found; complete = sym (told (frame_of limits before) (heads_of (frame_of limits before) before) (some found) h.scans) ∙ e }
+
+not_named : (limits : Limits) (b : ScanHistory) (before : List Segment) (all : Bool) → HasBegun limits b before → IsComplete b.progress all → (has_frame before ≡ true → HasSome limits before) → all ≡ false → AllNamed limits before → ⊥
+not_named limits b before all h told some e w = clash all (told (frame_of limits before) (heads_of (frame_of limits before) before) (some w.found) h.scans ∙ w.complete) e
+
+-- WHERE IT IS
+
+-- what it leaves there, if each component has begun
+pub record EndsHere (limits : Limits) (bytes : List ℕ) (w : FileWork) (segments : List Segment) (blocks : Blocks) : Type 0 where
+  pub have : HaveBegun limits bytes
+  pub ends : (let M = meaning_of (frame_of limits segments) segments blocks in EndsAfter limits bytes M ⊎ EndsInside limits bytes M)
+  pub coefs : Picture
+  pub has : w.reading.coefs ≡ Some coefs
+  pub framed : coefs.frame ≡ frame_of limits segments
+  pub as_map : blocks ≡ map_of coefs
+  pub range : AreInRange (bounds (frame_of limits segments)) blocks
+
+-- the segments up to there
+pub record AtEnd (limits : Limits) (bytes : List ℕ) (w : FileWork) : Type 0 where
+  pub segments : List Segment
+  pub blocks : Blocks
+  pub begun : HasBegun limits w.begun segments
+  pub holds : Holds limits (segments_view w.reading.items.held) segments
+  pub headers : Pass (header_rule limits) segments
+  pub named : HaveBegun limits bytes → AllNamed limits segments
+  pub here : HasSome limits segments → AllNamed limits segments → EndsHere limits bytes w segments blocks
+
+pub some_for : (limits : Limits) (segments : List Segment) → Pass (header_rule limits) segments → has_frame segments ≡ true → HasSome limits segments
+some_for limits segments pass found =
+    let f = frame_for limits segments (frame_after limits segments) refl pass found in subst (λ (g : Frame). 1 ≤ length g.components) (sym f.is) f.some
+
+-- AFTER ITEMS
+
+-- before SOI is complete nothing has begun
+start_begun_none : (limits : Limits) (bytes : List ℕ) → (bytes ≡ []) ⊎ (bytes ≡ 255 ∷ []) → HaveBegun limits bytes → ⊥
+start_begun_none limits bytes short w =
+    let h = after_front w.items w.front w.spelled in
+    let a = ap length w.cut in
+    let b = length-append (w.front ++ w.head) w.rest in
+    let c = length-append w.front w.head in
+    let d = ap length h.1 ∙ length-append soi h.0 in
+    let two : length soi ≡ 2 = refl in
+    long short (omega (arith, a, b, c, d, two))
+  where
+    long : (bytes ≡ []) ⊎ (bytes ≡ 255 ∷ []) → 2 ≤ length bytes → ⊥
+    long (inl e) n = let k = ap length e in omega (arith, k, n)
+    long (inr e) n = let k = ap length e in omega (arith, k, n)
+
+start_not_named : (limits : Limits) (items : List Item) → items ≡ [] → AllNamed limits (segments_of items) → ⊥
+start_not_named limits items e w = clash (has_frame (segments_of items)) w.found (ap (λ z. has_frame (segments_of z)) e)
+
+-- fill bytes before a marker
+filled_marker : (fill : ℕ) (tail : List ℕ) → LeadingMarker tail → LeadingMarker (replicate fill 255 ++ tail)
+filled_marker fill tail m = record {
+  code = m.code;
+  marker = replicate fill 255 ++ m.marker;
+  rest = m.rest;
+  spelled = fill_marker fill m.code m.marker m.spelled;
+  cut = ap (λ l. replicate fill 255 ++ l) m.cut ∙ sym (append_assoc (replicate fill 255) m.marker m.rest);
+}
+
+filled_item : (fill : ℕ) (items : List Item) (tail : List ℕ) → PartOfItem items tail → PartOfItem items (replicate fill 255 ++ tail)
+filled_item fill items tail (inl k) = inl (k.0, fill_begin fill (segments_of items) k.0 tail k.1)
+filled_item fill items tail (inr k) = inr (fill_part fill (segments_of items) tail k)
+
+filled_begun : (fill : ℕ) (items : List Item) (tail : List ℕ) → ((fill ≡ 0) × (ends_in_scan items ≡ false)) ⊎ LeadingMarker tail → (ends_in_scan items ≡ false) ⊎ LeadingMarker (replicate fill 255 ++ tail)
+filled_begun fill items tail (inl k) = inl k.1
+filled_begun fill items tail (inr k) = inr (filled_marker fill tail k)
+
+-- the picture there is
+record PictureHere (limits : Limits) (segments : List Segment) (blocks : Blocks) (o : Option Picture) : Type 0 where
+  pub coefs : Picture
+  pub has : o ≡ Some coefs
+  pub framed : coefs.frame ≡ frame_of limits segments
+  pub as_map : blocks ≡ map_of coefs
+
+picture_here : (limits : Limits) (items : List Item) (blocks : Blocks) (o : Option Picture) → HasSome limits (segments_of items) → AllNamed limits (segments_of items) → PictureSoFar limits items blocks o → PictureHere limits (segments_of items) blocks o
+picture_here limits items blocks None some w (none, blank) =
+    let f = frame_of limits (segments_of items) in
+    let heads = no_heads f (segments_of items) none in
+    let one = all_below (has_begun (heads_of f (segments_of items))) (length f.components) 0 w.complete some in
+    absurd (clash (has_begun (heads_of f (segments_of items)) 0) one (ap (λ hs. has_begun hs 0) heads))
+picture_here limits items blocks (Some q) some w (found, is, as_map) = record { coefs = q; has = refl; framed = is; as_map = as_map }
+
+beside_end : (limits : Limits) (bytes sent : List ℕ) (w : FileWork) (s : IsBetweenFileItems limits bytes w) (tail : List ℕ) → IsBeside limits bytes sent s.items s.blocks tail → PartOfItem s.items tail → AtEnd limits bytes w
+beside_end limits bytes sent w s tail k part =
+    let b = (k.beside).behind in
+    let all = replicate (k.beside).fill 255 ++ tail in
+    let part' = filled_item (k.beside).fill s.items tail part in
+    let behind : AfterItems limits bytes s.items all = record { front = b.front; blocks = s.blocks; cut = b.cut; spelled = b.spelled; leads = k.leads } in
+    record {
+      segments = segments_of s.items;
+      blocks = s.blocks;
+      begun = (s.beside).begun;
+      holds = (s.at).holds;
+      headers = leads_pass limits s.items s.blocks k.leads;
+      named = begun_behind limits bytes s.items all behind part';
+      here = λ some named.
+          (let q = picture_here limits s.items s.blocks w.reading.coefs some named (s.beside).picture in
+          record {
+            have = after_begun limits bytes s.items all behind some named;
+            ends = inl (record { items = s.items; tail = all; behind = behind; part = part'; begun = filled_begun (k.beside).fill s.items tail (k.beside).plain; meaning = refl });
+            coefs = q.coefs;
+            has = q.has;
+            framed = q.framed;
+            as_map = q.as_map;
+            range = leads_in_range limits s.items s.blocks k.leads;
+          });
+    }
+
+between_end : (limits : Limits) (bytes : List ℕ) (w : FileWork) → IsBetweenFileItems limits bytes w → AtEnd limits bytes w
+between_end limits bytes w s = by (s.at).at
+  where
+    by : AtPlace limits bytes (s.at).sent s.items s.blocks → AtEnd limits bytes w
+    by (inl k) = record {
+      segments = segments_of s.items;
+      blocks = s.blocks;
+      begun = (s.beside).begun;
+      holds = (s.at).holds;
+      headers = subst (λ z. Pass (header_rule limits) (segments_of z)) (sym k.no_items) tt;
+      named = λ begun. absurd (start_begun_none limits bytes (subst (λ z. (z ≡ []) ⊎ (z ≡ 255 ∷ [])) (sym k.same) k.short) begun);
+      here = λ some named. absurd (start_not_named limits s.items k.no_items named);
+    }
+    by (inr (tail, k)) =
+        let r = reading_of (w.reading.items).segments in
+        beside_end limits bytes (s.at).sent w s tail k (part_after limits bytes (s.at).sent s.items s.blocks r tail r.phase (s.at).bounded.0 k ((s.at).stands).1)
+
+-- INSIDE THE DATA OF A SCAN
+
+inside_of_place : (limits : Limits) (bytes : List ℕ) (p : ScanPlace) (tail : List ℕ) → ScanAt limits bytes p tail → InsideScan limits bytes tail
+inside_of_place limits bytes p tail k = record {
+  items = p.items;
+  blocks = p.blocks;
+  contents = p.contents;
+  done = p.done;
+  coded = p.coded;
+  places = p.places;
+  later = p.later;
+  front = k.front;
+  head = k.head;
+  text = k.text;
+  cut = k.cut;
+  spelled = k.spelled;
+  header = k.header;
+  intervals = k.intervals;
+  leads = k.leads;
+  allowed = k.allowed;
+  due = k.due;
+}
+
+-- what the machine's units and the intervals so far encode is in the picture
+record InPart (limits : Limits) (p : ScanPlace) (now : Picture) : Type 0 where
+  pub part : ScanInPart (scan_at limits p) p.blocks p.done p.coded p.places p.later (map_of now)
+  pub framed : now.frame ≡ frame_of limits (segments_of p.items)
+
+in_part : (limits : Limits) (bytes : List ℕ) (w : FileWork) (s : IsInsideScanOfFile limits bytes w) → InPart limits (((s.at).at).place) (s.at).coefs
+in_part limits bytes w s = by (s.at).scan.work.whole (d.work).at
+  where
+    d : InData limits s.items s.contents bytes (s.at).scan (s.at).coefs
+    d = (s.at).at
+
+    p : ScanPlace
+    p = ((s.at).at).place
+
+    now : Picture
+    now = (s.at).coefs
+
+    by : (b : Bool) → AtInterval limits (((s.at).at).place) b (s.at).scan.work.machine (s.at).coefs → InPart limits (((s.at).at).place) (s.at).coefs
+    by true k = record { part = inr k.so_far; framed = k.framed }
+    by false k =
+        let i = k.interval in
+        let u = scans_keep_units.unfinished (s.at).scan.work.machine i (bits_of_bytes p.coded) now k.stands in
+        let stands = of_place limits p i (λ c us. StandsInUnits c us (u.whole ++ u.part) u.left (bits_of_bytes p.coded)) (d.work).readable k.is k.so_far u.stands in
+        record {
+          part = inl (record {
+            work = map_of i.before;
+            whole = u.done;
+            due = u.due;
+            told = u.whole;
+            part = u.part;
+            left = u.left;
+            so_far = k.so_far;
+            all = sym (k.is).places ∙ u.all;
+            count = u.left_count ∙ sym u.due_count;
+            stands = stands;
+            read = subst (λ sc. UnitsRead sc u.done (map_of i.before) (map_of now) u.whole) (k.is).scan u.read;
+          });
+          framed = u.frame ∙ k.framed;
+        }
+
+inside_end : (limits : Limits) (bytes : List ℕ) (w : FileWork) → IsInsideScanOfFile limits bytes w → AtEnd limits bytes w
+unfolding inside_of_place
+inside_end limits bytes w s =
+    let r = s.at in
+    let d = r.at in
+    let p = d.place in
+    let tail = replicate d.fill 255 in
+    let i = inside_of_place limits bytes p tail d.at in
+    let before = segments_of p.items in
+    let segments = segments_with p.items p.contents in
+    let same : (0xda, s.contents) ∷ segments_of s.items ≡ segments = ap (λ z. segments_with z s.contents) (sym (d.of).0) ∙ ap (segments_with p.items) (sym (d.of).1) in
+    let after = map_of r.coefs in
+    let part = in_part limits bytes w s in
+    record {
+      segments = segments;
+      blocks = after;
+      begun = subst (λ z. HasBegun limits w.begun z) same s.begun;
+      holds = subst (λ z. Holds limits (segments_view w.reading.items.held) z) same (r.head).holds;
+      headers = (i.allowed.0, header_too limits before 0xda p.contents i.allowed.1, leads_pass limits p.items p.blocks i.leads);
+      named = begun_inside limits bytes tail d.fill i refl;
+      here = λ some named.
+          (let range = in_part_in_range limits p.items p.contents p.blocks after p.done p.coded p.places p.later i.leads i.allowed.1 part.part in
+          record {
+            have = inside_begun limits bytes tail i named;
+            ends = inr (record { tail = tail; at = i; after = after; fill = (d.fill, refl); scan = part.part; meaning = refl });
+            coefs = r.coefs;
+            has = r.has;
+            framed = part.framed;
+            as_map = refl;
+            range = record { sizes = range.1; values = range.0 };
+          });
+    }
+
+pub at_end : (limits : Limits) (bytes : List ℕ) (w : FileWork) → RepresentsFile limits bytes w → AtEnd limits bytes w
+at_end limits bytes w (inl s) = between_end limits bytes w s
+at_end limits bytes w (inr s) = inside_end limits bytes w s
+
+-- THE FILE ENDS THERE
+
+pub some_at : (limits : Limits) (bytes : List ℕ) (w : FileWork) → (a : AtEnd limits bytes w) → has_frame a.segments ≡ true → HasSome limits a.segments
+some_at limits bytes w a found = some_for limits a.segments a.headers found
+
+pub tells_begun : (limits : Limits) (bytes : List ℕ) (w : FileWork) (all : Bool) → RepresentsFile limits bytes w → IsComplete w.begun.progress all → TellsBegun limits bytes all
+tells_begun limits bytes w all s told = by all refl
+  where
+    by : (b : Bool) → all ≡ b → TellsBegun limits bytes b
+    by true e =
+        let a = at_end limits bytes w s in
+        let named = named_by limits w.begun a.segments all a.begun told (some_at limits bytes w a) e in
+        (a.here (some_at limits bytes w a named.found) named).have
+    by false e = λ begun.
+        (let a = at_end limits bytes w s in not_named limits w.begun a.segments all a.begun told (some_at limits bytes w a) e (a.named begun))
+
+leaves_at : (limits : Limits) (bytes : List ℕ) (w : FileWork) → (a : AtEnd limits bytes w) → AllNamed limits a.segments → Leaves limits a.segments a.blocks w
+leaves_at limits bytes w a named =
+    let h = a.here (some_at limits bytes w a named.found) named in
+    let f = frame_for limits a.segments w.reading.items.held.frame (a.holds).frame a.headers named.found in
+    record {
+      coefs = h.coefs;
+      has = h.has;
+      framed = h.framed;
+      as_map = h.as_map;
+      frame = f.frame;
+      held = f.has;
+      is = f.is;
+      holds = a.holds;
+      begun = a.begun;
+      complete = named.complete;
+      range = h.range;
+    }
+
+pub early_leaves : (limits : Limits) (bytes : List ℕ) (w : FileWork) (all : Bool) → RepresentsFile limits bytes w → IsComplete w.begun.progress all → all ≡ true → LeavesPicture limits w
+early_leaves limits bytes w all s told e =
+    let a = at_end limits bytes w s in
+    (a.segments, a.blocks, leaves_at limits bytes w a (named_by limits w.begun a.segments all a.begun told (some_at limits bytes w a) e))
+
+pub ends_early : (r : ReaderState) (bytes : List ℕ) (all : Bool) → HasRead bytes r → IsComplete r.file.begun.progress all → all ≡ true → IsEarlyEnd bytes (record r { done = true })
+ends_early r bytes all h told e =
+    let a = at_end r.limits bytes r.file h.open in
+    let named = named_by r.limits r.file.begun a.segments all a.begun told (some_at r.limits bytes r.file a) e in
+    let here = a.here (some_at r.limits bytes r.file a named.found) named in
+    record {
+      done = refl;
+      segments = a.segments;
+      blocks = a.blocks;
+      early = (stands_early r.limits bytes h.stands h.short here.have, here.ends);
+      left = leaves_at r.limits bytes r.file a named;
+      head = h.head;
+    }

@@ -1,0 +1,147 @@
+-- The marker that ends a scan's data belongs to an item again.
+use Rattle.std.proofs.Common.{◌≡◌, ℕ, suc, ◌+◌, ◌≤◌, true, List, [], ◌∷◌, ◌++◌, refl, sym, ap, ◌∙◌, subst, arith, length, Ok, Err, inl, inr}
+use Rattle.std.specs.Prelude.{replicate}
+use Rattle.std.specs.Int.{to_be_bytes, w16}
+use Rattle.std.proofs.lemmas.List.{append_assoc, length-append, length-replicate}
+use Rattle.jpg_spec.specs.Scan.{Blocks}
+use Rattle.jpg_spec.specs.Markers.{Segment, SpellsMarker, SpellsSegment, kept_rule}
+use Rattle.jpg_spec.specs.Markers as markers
+use Rattle.jpg_spec.specs.Items.{Item, scan, segments_of}
+use Rattle.jpg_spec.specs.declared.frame.Limits.{Limits}
+use Rattle.jpg_spec.specs.declared.fault.FaultAt.{FaultAt}
+use Rattle.jpg_spec.proofs.Files.ItemSteps.{same_tail, scan_left}
+use Rattle.jpg_coefs.specs.Picture.{Picture, map_of}
+use Rattle.jpg_base.specs.declared.stop.Stop.TheVariants as stop
+use Rattle.jpg_markers.specs.declared.segments.SegStep.TheVariants as step
+use Rattle.jpg_markers.specs.declared.segments.Phase.{Phase}
+use Rattle.jpg_markers.specs.declared.segments.Phase.TheVariants as phase
+use Rattle.jpg_markers.specs.Reading.{Reading, RepresentsSegments, AtPhase, IsBetween, RevealsAfter, EndsAtEoi, Comes, reading_of}
+use Rattle.jpg_file.specs.Read.InData.{EndsData}
+use Rattle.jpg_file.specs.Read.SegmentState.{SegmentView, Holds, segments_view}
+use Rattle.jpg_file.specs.declared.read.items.Items.{Items}
+use Rattle.jpg_file.specs.declared.read.items.ItemStep.TheVariants as came
+use Rattle.jpg_file.specs.Read.Items.{IsBeside, BetweenItems, AfterScan, AfterSegment, BehindHead}
+use Rattle.jpg_file.proofs.Files.ItemBytes.{beside_fault}
+use Rattle.jpg_markers.specs.declared.segments.SegmentReader.{SegmentReader}
+
+-- A scan header changes nothing that is kept, except that a scan began.
+pub head_held : (limits : Limits) (h : SegmentView) (before : List Segment) (contents : List ℕ) → Holds limits h before → Holds limits (record h { scanned = true }) ((0xda, contents) ∷ before)
+head_held limits h before contents k = record {
+  frame = k.frame;
+  dc_slots = k.dc_slots;
+  ac_slots = k.ac_slots;
+  dc = k.dc;
+  ac = k.ac;
+  quant_slots = k.quant_slots;
+  quants = k.quants;
+  interval = k.interval;
+  scanned = refl;
+  kept = k.kept;
+  jfif = k.jfif;
+}
+
+-- what was sent, with the marker
+abbrev pub sent_with : List ℕ → ℕ → List ℕ
+sent_with sent code = sent ++ 255 ∷ code ∷ []
+
+record Left (limits : Limits) (items : List Item) (contents bytes : List ℕ) (code : ℕ) (now : Picture) (w : Items) (k : BehindHead limits items contents w) : Type 0 where
+  pub intervals : List (List ℕ)
+  pub at : IsBeside limits bytes (sent_with k.sent code) (scan contents intervals ∷ items) (map_of now) (255 ∷ code ∷ [])
+
+-- a marker by itself is no complete segment
+segment_long : (code : ℕ) (contents bytes : List ℕ) → SpellsSegment code contents bytes → 4 ≤ length bytes
+segment_long code contents bytes s =
+    let m = s.1 in
+    let two : length (to_be_bytes w16 (length contents + 2)) ≡ 2 = refl in
+    let a = ap length s.3 in
+    let b = length-append (s.0 ++ to_be_bytes w16 (length contents + 2)) contents in
+    let d = length-append s.0 (to_be_bytes w16 (length contents + 2)) in
+    let f = ap length m.1 in
+    let g = length-append (replicate (suc m.0) 255) (code ∷ []) in
+    let h = length-replicate {A = ℕ} (suc m.0) 255 in
+    omega (arith, a, b, d, f, g, h, two)
+
+no_whole_marker : (limits : Limits) (sent : List ℕ) (before : List Segment) (code c : ℕ) (contents : List ℕ) (r : Reading) → r.limits ≡ limits → markers.Between (kept_rule limits) sent before (255 ∷ code ∷ []) → (p : Phase) → AtPhase r p sent ((c, contents) ∷ before) → ⊥
+no_whole_marker limits sent before code c contents r e b p a = by p a
+  where
+    within : (q : Phase) → IsBetween r q sent ((c, contents) ∷ before) → ⊥
+    within q (tail, w0, seen, part) =
+        let w = subst (λ (l : Limits). markers.Between (kept_rule l) sent ((c, contents) ∷ before) tail) e w0 in
+        let s = w.spelled in
+        let t = same_tail (kept_rule limits) sent before (255 ∷ code ∷ []) (s.1 ++ tail) b (record { front = s.0; cut = w.cut ∙ ap (λ l. l ++ tail) s.2 ∙ append_assoc s.0 s.1 tail; spelled = s.3; passed = (w.passed).2 }) in
+        omega (arith, ap length t, length-append s.1 tail, segment_long c contents s.1 s.4)
+
+    by : (q : Phase) → AtPhase r q sent ((c, contents) ∷ before) → ⊥
+    by phase.Empty k = let z : (c, contents) ∷ before ≡ [] = k.1 in cc
+    by phase.HalfStart k = let z : (c, contents) ∷ before ≡ [] = k.1 in cc
+    by phase.Ended k = k
+    by q k = within q k
+
+module _ (limits : Limits) (items : List Item) (contents bytes : List ℕ) (code : ℕ) (now : Picture) (w : Items) (k : BehindHead limits items contents w) where
+  left_at : EndsData limits items contents bytes code now → Left limits items contents bytes code now w k
+  left_at e =
+      let r = reading_of w.segments in
+      let p = e.place in
+      let all : List Segment = (0xda, contents) ∷ segments_of items in
+      let (tail, between, seen, none) = subst (λ (q : Phase). AtPhase r q k.sent all) k.behind.1 k.stands.1 in
+      let b = subst (λ (l : Limits). markers.Between (kept_rule l) k.sent all tail) k.bounded.0 between in
+      let b0 = subst (λ t. markers.Between (kept_rule limits) k.sent all t) none b in
+      let b1 = subst (λ c. markers.Between (kept_rule limits) k.sent ((0xda, c) ∷ segments_of items) []) (sym e.of.1) b0 in
+      let b2 = subst (λ (i : List Item). markers.Between (kept_rule limits) k.sent ((0xda, p.contents) ∷ segments_of i) []) (sym e.of.0) b1 in
+      let s = scan_left limits (kept_rule limits) k.sent bytes p (map_of now) e.fill code e.at e.marker e.means b2 in
+      let at : IsBeside limits bytes (sent_with k.sent code) (scan p.contents (p.done ++ p.coded ∷ []) ∷ p.items) (map_of now) (255 ∷ code ∷ []) = record { beside = s.0; leads = s.1 } in
+      let a1 = subst (λ c. IsBeside limits bytes (sent_with k.sent code) (scan c (p.done ++ p.coded ∷ []) ∷ p.items) (map_of now) (255 ∷ code ∷ [])) e.of.1 at in
+      record { intervals = p.done ++ p.coded ∷ []; at = subst (λ (i : List Item). IsBeside limits bytes (sent_with k.sent code) (scan contents (p.done ++ p.coded ∷ []) ∷ i) (map_of now) (255 ∷ code ∷ [])) e.of.0 a1 }
+
+  -- THE ANSWERS of a reader of segments
+  abbrev sent : List ℕ
+  sent = sent_with k.sent code
+
+  abbrev before : List Segment
+  before = (0xda, contents) ∷ segments_of items
+
+  pub left_more : (s : SegmentReader) → EndsData limits items contents bytes code now → RepresentsSegments sent before (reading_of s)
+      → (reading_of s).limits ≡ (reading_of w.segments).limits → AfterScan limits items contents bytes (map_of now) came.More (record w { segments = s })
+  left_more s e stands same =
+      let l = left_at e in
+      let next : BetweenItems limits bytes (scan contents l.intervals ∷ items) (map_of now) (record w { segments = s }) =
+      record { sent = sent; stands = stands; at = inr (255 ∷ code ∷ [], l.at); bounded = (same ∙ k.bounded.0, k.bounded.1); holds = k.holds } in
+      (l.intervals, (scan contents l.intervals ∷ items, inl refl, next), tt)
+
+  pub left_fault : (s : SegmentReader) (f : FaultAt) → EndsData limits items contents bytes code now → Comes sent before (Err (stop.Fault f)) (reading_of s)
+      → (reading_of s).limits ≡ (reading_of w.segments).limits → AfterScan limits items contents bytes (map_of now) (came.Fault f) (record w { segments = s })
+  left_fault s f e c same =
+      let l = left_at e in
+      let shown = subst (λ (b : Limits). RevealsAfter (kept_rule b) before f.fault sent) (same ∙ k.bounded.0) c.1 in
+      (l.intervals, (beside_fault limits bytes sent (scan contents l.intervals ∷ items) (map_of now) (255 ∷ code ∷ []) f.fault l.at shown, c.2), tt)
+
+  pub left_end : (s : SegmentReader) → EndsData limits items contents bytes code now → Comes sent before (Ok step.Eoi) (reading_of s)
+      → (reading_of s).limits ≡ (reading_of w.segments).limits → AfterScan limits items contents bytes (map_of now) came.Eoi (record w { segments = s })
+  left_end s e c same =
+      let l = left_at e in
+      let ends = subst (λ (b : Limits). EndsAtEoi (kept_rule b) before sent) (same ∙ k.bounded.0) c.1 in
+      let t = same_tail (kept_rule limits) sent before (255 ∷ code ∷ []) ends.0 ((l.at).beside).between ends.1 in (
+        l.intervals,
+        record { sent = sent; tail = 255 ∷ code ∷ []; at = l.at; ended = subst (λ z. SpellsMarker 0xd9 z) (sym t) ends.2; allowed = ends.3; holds = k.holds },
+        tt,
+      )
+
+  pub left_whole : (s : SegmentReader) → EndsData limits items contents bytes code now → Comes sent before (Ok step.Whole) (reading_of s)
+      → (reading_of s).limits ≡ (reading_of w.segments).limits → ⊥
+  left_whole s e c same =
+      let r = reading_of s in
+      no_whole_marker limits sent before code r.code r.contents r (same ∙ k.bounded.0) (((left_at e).at).beside).between r.phase c.1.1
+
+pub after_head : (limits : Limits) (bytes : List ℕ) (items : List Item) (blocks : Blocks) (w new : Items) → AfterSegment limits bytes items blocks w → (reading_of w.segments).code ≡ 0xda
+    → reading_of new.segments ≡ reading_of w.segments → new.limits ≡ w.limits → segments_view new.held ≡ record (segments_view w.held) { scanned = true } → BehindHead limits items (reading_of w.segments).contents new
+after_head limits bytes items blocks w new k code same f held =
+    let r = reading_of w.segments in
+    let S : Reading → Type 0 = λ q. RepresentsSegments k.sent ((0xda, r.contents) ∷ segments_of items) q in
+    let stands = subst (λ (n : ℕ). RepresentsSegments k.sent ((n, r.contents) ∷ segments_of items) r) code k.stands in
+    record {
+      sent = k.sent;
+      stands = subst S (sym same) stands;
+      behind = (ap (λ (q : Reading). q.stop) same ∙ k.stands.0, ap (λ (q : Reading). q.phase) same ∙ k.phase, ap (λ (q : Reading). q.code) same ∙ code);
+      bounded = (ap (λ (q : Reading). q.limits) same ∙ k.bounded.0, f ∙ k.bounded.1);
+      holds = subst (λ h. Holds limits h ((0xda, r.contents) ∷ segments_of items)) (sym held) (head_held limits (segments_view w.held) (segments_of items) r.contents k.holds);
+    }

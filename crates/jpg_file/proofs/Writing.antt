@@ -1,0 +1,11 @@
+pub mod AllWritten
+pub mod CountsKept
+pub mod DueTables
+pub mod FewElements
+pub mod FewSymbols
+pub mod SameUnits
+pub mod ScanData
+pub mod ScanHeads
+pub mod ScansDue
+pub mod TableSets
+pub mod WrittenText

@@ -1,8 +1,0 @@
-use Rattle.jpg_file.proofs.Going.{can_after, goes_then}
-use Rattle.jpg_file.proofs.read.reading.Reading.going.Goals as goal
-
-pub contents-requires : goal.contents-requires
-contents-requires c = can_after c.args.self.now c.segments-done.new.self c.args.bytes.now c.segments-done.result c.requires c.segments-done.ensures.after
-
-pub returns-clause-after : goal.returns-clause-after
-returns-clause-after c = goes_then c.args.self.now c.segments-done.new.self c.contents.new.self c.args.bytes.now c.segments-done.result c.contents.result c.segments-done.ensures.after c.contents.ensures.after

@@ -1,0 +1,5 @@
+pub mod EarlyBegun
+pub mod EarlyOnce
+pub mod EarlyRanges
+pub mod EarlyRows
+pub mod EarlySoFar

@@ -1,0 +1,13 @@
+pub mod BlocksOnce
+pub mod FileLaws
+pub mod FilesOnce
+pub mod ItemSteps
+pub mod ItemsOnce
+pub mod Ranges
+pub mod ReadPicture
+pub mod ScanAnswers
+pub mod ScanSteps
+pub mod ScansExclude
+pub mod ScansOnce
+pub mod TailsOnce
+pub mod WholeFiles

@@ -1,0 +1,14 @@
+pub mod AcceptedHeads
+pub mod BeforeScans
+pub mod ColoursKept
+pub mod FileHeader
+pub mod FirstScan
+pub mod FrameAfter
+pub mod FrameFound
+pub mod FramesKept
+pub mod HeaderFirst
+pub mod HeaderShown
+pub mod HeadersOnce
+pub mod OneHeader
+pub mod Precisions
+pub mod SameNumbers

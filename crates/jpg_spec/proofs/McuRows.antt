@@ -1,0 +1,13 @@
+pub mod RowBands
+pub mod RowCounts
+pub mod RowsBegin
+pub mod RowsFound
+pub mod RowsHeader
+pub mod RowsLater
+pub mod RowsOfItems
+pub mod RowsOnce
+pub mod RowsRead
+pub mod RowsReader
+pub mod RowsStop
+pub mod RowsStopped
+pub mod RowsWhole

@@ -1,0 +1,9 @@
+pub mod Known
+pub mod KnownParts
+pub mod OutsideZeros
+pub mod PictureInWork
+pub mod PlacesDistinct
+pub mod PlacesFound
+pub mod PlacesSome
+pub mod ProgressiveShares
+pub mod Untouched

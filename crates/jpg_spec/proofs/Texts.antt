@@ -1,0 +1,3 @@
+pub mod TextRuns
+pub mod TextsParsed
+pub mod TextsRead
