@@ -142,6 +142,15 @@ With JPGSUITE_PROGRAM=FILE ./install.sh installs FILE, a jpgsuite that was built
     fi
 }
 
+# Puts a file into its place under another name, and then renames it: until it is complete, what was there stays, and can be run.
+put() {
+    local new="$3.jpgsuite-new"
+    if ! install -m "$1" -- "$2" "$new" || ! mv -f -- "$new" "$3"; then
+        rm -f -- "$new"
+        fail "$3 wasn't written, and what was there stays; ./install.sh --uninstall $(printf %q "$prefix") removes what was installed"
+    fi
+}
+
 # The main job, done by what was installed.
 try_it() {
     local call="$root/bin/jpegtran -rotate 90 example/colour.jpg"
@@ -208,13 +217,13 @@ install_all() {
         echo "above $above"
     } > "$work/stage/$list"
     (umask 022 && mkdir -p -- "$root" && cd -- "$root" && mkdir -p -- "${folders[@]}")
-    install -m 644 "$work/stage/$list" "$root/$list"
+    put 644 "$work/stage/$list" "$root/$list"
     for name in "${names[@]}"; do
         case $name in
-        bin/jpgsuite) install -m 755 "$work/stage/$name" "$root/$name" ;;
+        bin/jpgsuite) put 755 "$work/stage/$name" "$root/$name" ;;
         bin/*) ln -sfn jpgsuite "$root/$name" ;;
         "$list") ;;
-        *) install -m 644 "$work/stage/$name" "$root/$name" ;;
+        *) put 644 "$work/stage/$name" "$root/$name" ;;
         esac
     done
 
