@@ -4,7 +4,7 @@ ghost use Rattle.example_callers.specs.Calling.{IsCommentsOf};
 use jpg_comments::{Bytes, Comments, Fed, Limits, Stop};
 use std::alloc::Global;
 
-/// The text of the comments of a file up to its first scan, or up to EOI before any. It answers the first fault of
+/// The text of the comments of a file up to its first scan, or up to EOI before any. Returns the first fault of
 /// markers and lengths up to there, at the number of bytes that reveal it, Truncated at the file's length and
 /// InputTooLong at 2^40 among them; and NoMemory.
 pub fn comments_of(alloc: Global, file: &[u8]) -> Result<Bytes, Stop>

@@ -5,8 +5,8 @@ ghost use Rattle.example_callers.specs.FirstScans.{IsFirstScansOf};
 use jpg_preview::{End, Fed, Limits, Picture, Preview, Stop};
 use std::alloc::Global;
 
-/// The picture after so many scans of a file, or after the first later one with which each component is in some scan; of
-/// a file with fewer scans, or one that ends before, all of its picture. It answers the first fault of the bytes up to
+/// The picture after so many scans of a file, or after the first later one with which each component is in some scan;
+/// of a file with fewer scans, or one that ends before, all of its picture. Returns the first fault of the bytes up to
 /// the marker after that scan, and NoMemory. What follows them isn't looked at.
 pub fn first_scans(alloc: Global, file: &[u8], scans: u16) -> Result<Picture, Stop>
     requires { 1 ≤ scans }

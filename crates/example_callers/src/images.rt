@@ -18,7 +18,7 @@ use jpg_pnm_bmp::{Fed2, Image, ImageKind, PixelReader};
 use jpg_transform::{Choice, Copying, Huffman, Restart, Scans, Transform, plan};
 use std::alloc::Global;
 
-/// The image of a file, PNM or BMP. It answers the file's first fault, at the number of bytes that reveal it,
+/// The image of a file, PNM or BMP. Returns the file's first fault, at the number of bytes that reveal it,
 /// ImageShort at the file's length and InputTooLong at 2^40 among them; and NoMemory. Bytes after the last sample are
 /// ignored.
 pub fn read_image(alloc: Global, file: &[u8]) -> Result<Image, Stop>
@@ -42,7 +42,7 @@ pub fn read_image(alloc: Global, file: &[u8]) -> Result<Image, Stop>
 }
 
 /// A desk whose one output, named `Name::Out`, has the file of the image encoded at a quality from 1 to 100,
-/// chrominance at half its width and height, in one scan. It answers what `read_image` stops at, the image's fault, or
+/// chrominance at half its width and height, in one scan. Returns what `read_image` stops at, the image's fault, or
 /// NoMemory.
 pub fn encode(alloc: Global, file: &[u8], quality: u8) -> Result<MemoryDesk, NotTurned>
     requires { (1 ≤ quality) × (quality ≤ 100) }

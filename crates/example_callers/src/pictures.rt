@@ -17,7 +17,7 @@ pub enum NotTurned {
     Picture(PictureFault),
 }
 
-/// The picture of a file, complete or ended early. It answers the file's first fault, at the number of bytes that
+/// The picture of a file, complete or ended early. Returns the file's first fault, at the number of bytes that
 /// reveal it, Truncated at the file's length and InputTooLong at 2^40 among them, and NoMemory. Bytes after EOI are
 /// ignored.
 pub fn read_picture(alloc: Global, file: &[u8]) -> Result<Picture, Stop>
@@ -34,7 +34,7 @@ pub fn read_picture(alloc: Global, file: &[u8]) -> Result<Picture, Stop>
     }
 }
 
-/// A desk whose one output, named `Name::Out`, has the file of the transformed picture. It answers what `read_picture`
+/// A desk whose one output, named `Name::Out`, has the file of the transformed picture. Returns what `read_picture`
 /// stops at, the picture's fault if it can't be converted to grayscale, or NoMemory.
 pub fn turn(alloc: Global, file: &[u8], choice: &Choice) -> Result<MemoryDesk, NotTurned>
     ensures { IsTurned file.now (choice_view choice.now) result }
@@ -49,7 +49,7 @@ pub fn turn(alloc: Global, file: &[u8], choice: &Choice) -> Result<MemoryDesk, N
     }
 }
 
-/// The file of the transformed picture, as the job says, in a desk as `turn` answers it.
+/// The file of the transformed picture, as the job says, in a desk as `turn` returns it.
 pub fn write_turned(
     alloc: Global,
     picture: &Picture,
@@ -70,7 +70,7 @@ pub fn write_turned(
     }
 }
 
-/// The coefficients of the transformed picture, without a file. It answers the same stops and faults.
+/// The coefficients of the transformed picture, without a file. Returns the same stops and faults.
 pub fn turn_coefs(alloc: Global, file: &[u8], choice: &Choice) -> Result<Coefs, NotTurned>
     ensures { IsTurnedCoefs file.now (choice_view choice.now) result }
 {

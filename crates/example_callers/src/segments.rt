@@ -15,7 +15,7 @@ pub struct Listed {
 }
 
 /// All segments of a file up to its EOI, in their order, also those after scans. Scan data end at the first marker that
-/// isn't a restart marker, and nothing else of them is judged, nor are the contents of segments. It answers the first
+/// isn't a restart marker, and nothing else of them is judged, nor are the contents of segments. Returns the first
 /// fault of markers and lengths, at the number of bytes that reveal it; Truncated at the file's length if there is no
 /// EOI, InputTooLong at 2^40 if it has as many bytes or more; and NoMemory.
 pub fn list_segments(alloc: Global, file: &[u8]) -> Result<Vec<Listed>, Stop> {

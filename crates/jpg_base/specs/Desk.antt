@@ -20,7 +20,7 @@ pub record DeskState : Type 0 where
   pub outputs : Option (List (Name × List ℕ))
   -- the bytes of all messages
   pub said : Option (List ℕ)
-  -- the names that were opened or created, in order, each with the answer
+  -- the names that were opened or created, in order, each with the result
   pub asked : Option (List (Name × Put))
   pub counts : Counts
   pub input_open : Bool

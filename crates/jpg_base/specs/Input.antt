@@ -8,7 +8,7 @@ use Rattle.jpg_base.specs.declared.input.Input.{Input}
 abbrev pub input_rest : Input → List ℕ
 input_rest i = drop i.at i.bytes.items
 
--- the answer of a read of at most this many bytes, where these are left
+-- the result of a read of at most this many bytes, where these are left
 abbrev pub given : ℕ → List ℕ → Got
 given most [] = got.End
 given most (byte ∷ rest) = got.Bytes (min most (length rest + 1))

@@ -52,7 +52,8 @@ memory_calls d = d.calls
 abbrev pub chosen : Failure → ℕ × Part
 chosen f = (f.call, f.part)
 
--- the numbers of the calls that fail, counted from 1, each with the part of its piece that a write appends; the newest first
+-- the numbers of the calls that fail, counted from 1, each with the part of its piece that a write appends; the newest
+-- first
 abbrev pub memory_failing : MemoryDesk → List (ℕ × Part)
 memory_failing d = map chosen d.failing.items
 
@@ -87,7 +88,8 @@ abbrev pub appended_length : Bool → Part → ℕ → ℕ
 appended_length true part length = part_length part length
 appended_length false part length = 0
 
--- A call that was chosen to fail does so, and these bytes were appended: its part of the piece, or nothing without memory.
+-- A call that was chosen to fail does so, and these bytes were appended: its part of the piece, or nothing without
+-- memory.
 abbrev pub FailsWith : Option Part → List ℕ → Put → (List ℕ → Type 0) → Type 0
 FailsWith None piece answer Appended = Unit {0}
 FailsWith (Some part) piece answer Appended =
@@ -99,7 +101,7 @@ with_file name bytes state = record state {
   files = option_map (λ had. (λ n. if is_same_name name n then Some bytes else had n)) state.files;
 }
 
--- the answer of a read into a buffer of this length
+-- the result of a read into a buffer of this length
 abbrev pub read_answer : MemoryDesk → ℕ → Got
 read_answer d room = if fails_next d then got.Failed else given_of (min d.piece room) (option_map input_rest d.input)
 

@@ -22,7 +22,7 @@ quiet_state d = record {
   output_created = d.is_created;
 }
 
--- the answer of a read into a buffer of this length: as many of the bytes left as fit
+-- the result of a read into a buffer of this length: as many of the bytes left as fit
 abbrev pub quiet_answer : QuietDesk → ℕ → Got
 quiet_answer d room = given_of (min (2 ^ 32 - 1) room) (quiet_state d).left
 

@@ -26,7 +26,7 @@ pub record TellsNothing (state : DeskState) : Type 0 where
   pub input_open : state.input_open ≡ false
   pub output_created : state.output_created ≡ false
 
--- the answer of a read: the buffer begins with at least one of the next bytes, or none are left
+-- the result of a read: the buffer begins with at least one of the next bytes, or none are left
 abbrev pub ReadsSome : Option (List ℕ) → Got → List ℕ → Option (List ℕ) → Type 0
 ReadsSome old (got.Bytes n) buf new = (1 ≤ n) × (n ≤ length buf) × Consumes old new (take n buf)
 ReadsSome old got.End buf new = IsAtEnd new

@@ -1,4 +1,4 @@
-//! A block of 64 coefficients (T.81, A.3.6).
+//! A block of 64 coefficients (T.81, A.3.6, Figure A.6).
 ghost use Rattle.std.specs.Prelude.{◌≡◌, ◌<◌, ◌≤ℤ◌, ℕ, pos, negsuc, if◌then◌else◌, replicate, slice_index_or, slice_set, length};
 ghost use Rattle.std.specs.Int.{bit_at};
 ghost use Rattle.jpg_spec.specs.Elements.{is_zero};

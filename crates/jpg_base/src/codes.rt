@@ -1,4 +1,4 @@
-//! The codes of markers: the byte after FF (T.81, B.1.1.3, Table B.1).
+//! The codes of markers: the byte after FF (T.81, B.1.1.2, B.1.1.3, Table B.1).
 
 /// SOF0, the frame header of a baseline file.
 pub const SOF0: u8 = 0xc0;

@@ -1,4 +1,4 @@
-//! The places of a scan, one after another (T.81, A.2).
+//! The places of a scan, one after another (T.81, A.2.2 not interleaved, A.2.3 interleaved, A.2.4 partial MCUs).
 ghost use Rattle.std.specs.Prelude.{◌≡◌, ◌<◌, ◌≤◌, ◌^◌, nat_lt, ◌&&◌, ◌*◌, ◌/◌, [], ◌∷◌, length, map, flat_map, slice_index_or, drop, slice_get, Some, All};
 ghost use Rattle.jpg_spec.specs.Geometry.{units, mcu_part, mcu_units, factor_sum, scan_mcus_across};
 ghost use Rattle.jpg_spec.specs.Segments.{head_components};
@@ -10,14 +10,18 @@ use arrayvec::ArrayVec;
 use jpg_spec::{Grid, Place, ScanPart};
 use std::marker::Model;
 
-/// A component of a scan: its index in the frame, how many of its blocks an MCU has across and down,
-/// and its real grid.
+/// A component of a scan.
 #[derive(Clone, Copy, Debug, PartialEq, Eq, Default)]
 pub struct CursorPart {
+    /// Its index in the frame.
     pub component: u8,
+    /// How many of its blocks an MCU has across.
     pub h: u8,
+    /// How many of its blocks an MCU has down.
     pub v: u8,
+    /// The columns of its real grid.
     pub wide: u32,
+    /// The rows of its real grid.
     pub high: u32,
 }
 
@@ -44,14 +48,18 @@ impl CursorPart {
     }
 }
 
-/// The remaining places of a scan, and the first of them.
+/// The remaining places of a scan, and the first of them (T.81, A.2.2, A.2.3).
 #[derive(Drop)]
 pub struct Cursor {
+    // The components of the scan.
     parts: ArrayVec<CursorPart, 4>,
+    // The columns and the rows of the grid of MCUs.
     wide: u32,
     high: u32,
+    // The MCU of the first place that remains.
     row: u32,
     column: u32,
+    // In this MCU the component, and the row and the column of the block.
     part: u8,
     down: u8,
     across: u8,

@@ -6,7 +6,7 @@ use crate::{Counts, Got, Name, Put};
 
 /// Files, an input, outputs and messages.
 ///
-/// A call answers `Failed` only if the count of its kind rises in that call, or is already `u64::MAX`. No count falls.
+/// A call returns `Failed` only if the count of its kind rises in that call, or is already `u64::MAX`. No count falls.
 /// What isn't mentioned for a call doesn't change in it.
 pub trait Desk {
     /// The state that contracts see: the bytes of each file, the rest of the input, the outputs, the messages and the
@@ -19,7 +19,7 @@ pub trait Desk {
         ensures { Opens (state self.old) name.now result (state self.new) };
 
     /// Puts at least one of the next bytes of the input at the start of `buf`, and gives their number, which is at most
-    /// `buf.len()` and `u32::MAX`. The answer is `End` exactly if no bytes are left. `Failed` counts as a read, and
+    /// `buf.len()` and `u32::MAX`. It returns `End` exactly if no bytes are left. `Failed` counts as a read, and
     /// takes no bytes. The rest of `buf` may hold anything.
     ///
     /// An input must be open, and `buf` may not be empty. After `End` and `Failed` no input counts as open, so code

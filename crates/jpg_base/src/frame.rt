@@ -1,4 +1,4 @@
-//! The header of a frame, and the grids that it bounds (T.81, A.1, A.2, B.2.2).
+//! The header of a frame, and the grids that it bounds (T.81, A.1.1, A.2.3, A.2.4, B.2.2).
 ghost use Rattle.std.specs.Prelude.{◌≡◌, ◌*◌, ◌<◌, ◌≤◌, true, length, IfOk};
 ghost use Rattle.jpg_spec.specs.Geometry.{h_max, v_max, bounds, is_progressive, component_at, padded_blocks, mcu_row_frame};
 ghost use Rattle.jpg_spec.specs.FrameHeader.{AreLimits, is_precision, HasFactors, IsFrame, checked_frame, mcu_grid, real_grid, padded_grid, padded_across, padded_down};
@@ -17,12 +17,19 @@ use std::marker::Model;
 /// quantisation slots 0 to 3, and at most 8388608 blocks in the padded grids.
 #[derive(Drop)]
 pub struct Frame {
+    // By the code of the header's marker.
     process: Process,
+    // P: bits of a sample.
     precision: u8,
+    // X: samples of a line.
     width: u32,
+    // Y: lines.
     height: u32,
+    // In the order of the header.
     components: ArrayVec<Component, 4>,
+    // The greatest horizontal factor of the components.
     h_max: u8,
+    // The greatest vertical factor.
     v_max: u8,
 }
 
@@ -106,7 +113,7 @@ impl Frame {
         }
     }
 
-    /// The same frame with this process, which allows its precision.
+    /// The frame with this process, which allows its precision.
     pub fn with_process(&self, process: Process) -> Frame
         requires { is_precision process self.now.precision ≡ true }
         ensures { result ≡ record (self.now) { process = process } }

@@ -1,4 +1,4 @@
-//! The checks of a frame header, one function each (T.81, B.2.2).
+//! The checks of a frame header, one function each (T.81, B.2.2, Table B.2).
 ghost use Rattle.std.specs.Prelude.{◌≡◌, ◌+◌, ◌*◌, ◌<◌, ◌≤◌, nat_lt, ◌||◌, ◌==◌, not, length, All};
 ghost use Rattle.jpg_spec.specs.Lists.{any_of, is_among, is_distinct};
 ghost use Rattle.jpg_spec.specs.Geometry.{div_up};

@@ -1,4 +1,4 @@
-//! The header of a scan (T.81, B.2.3).
+//! The header of a scan (T.81, B.2.3, Figure B.4, Table B.3).
 ghost use Rattle.std.specs.Prelude.{◌≡◌};
 
 use arrayvec::ArrayVec;
@@ -9,10 +9,15 @@ use std::marker::Model;
 /// `se` in zigzag places, and the bits `ah` and `al` of successive approximation (T.81, B.2.3).
 #[derive(Drop)]
 pub struct ScanHead {
+    /// The components, in the order of the header.
     pub parts: ArrayVec<ScanPart, 4>,
+    /// Ss: the first place of the band.
     pub ss: u8,
+    /// Se: its last place.
     pub se: u8,
+    /// Ah: the bit down to which the values were known before, 0 in a first pass.
     pub ah: u8,
+    /// Al: the bit down to which they are sent.
     pub al: u8,
 }
 

@@ -4,8 +4,8 @@ ghost use Rattle.jpg_base.specs.Intake.{IntakeKind, ChecksRoom, IsOpen, TakesSom
 
 use crate::{Fed, Stop};
 
-/// How a state takes the bytes of a file, some at a time, up to a limit. Results go to `out`. After a stop, and once the
-/// file is complete, nothing more is given to it.
+/// How a state takes the bytes of a file, some at a time, up to a limit. Results go to `out`. After a stop, and once
+/// the file is complete, nothing more is given to it.
 pub trait Intake<S, O> {
     /// What the states mean.
     ghost kind: { Self → IntakeKind S O };
@@ -14,8 +14,8 @@ pub trait Intake<S, O> {
     fn check_room(&self, state: &S) -> Result<(), Stop>
         ensures { ChecksRoom (kind self.now) state.now result };
 
-    /// Takes bytes from the start of these, at least one, and none after one that completes the file or reveals a fault.
-    /// It answers how many they were, and whether the file is complete with the last one, or why it stops there.
+    /// Takes bytes from the start of these, at least one, and none after one that completes the file or reveals a
+    /// fault. Returns how many they were, and whether the file is complete with the last one, or why it stops there.
     fn take_some(&self, bytes: &[u8], state: &mut S, out: &mut O) -> (usize, Result<bool, Stop>)
         requires open { IsOpen (kind self.now) (state.old, out.old) }
         requires room { (kind self.now).taken state.old < (kind self.now).most state.old }
@@ -35,7 +35,7 @@ pub fn check_limit(taken: u64, most: u64) -> Result<(), Stop>
     Ok(())
 }
 
-/// Gives the bytes of a piece to a state, up to the one that completes the file. It answers Done with that one, and how
+/// Gives the bytes of a piece to a state, up to the one that completes the file. Returns Done with that one, and how
 /// many bytes were used; otherwise the stop of these bytes; otherwise More, and a further byte may be taken then.
 pub fn feed_piece<S, O, I: Intake<S, O>>(
     intake: &I,

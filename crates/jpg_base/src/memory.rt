@@ -23,7 +23,8 @@ pub struct Asked {
     pub answer: Put,
 }
 
-/// What a write or a message that fails appends before: half of its piece, or so many of its first bytes, where it has them.
+/// What a write or a message that fails appends before: half of its piece, or so many of its first bytes, where it has
+/// them.
 #[derive(Clone, Copy, Debug, PartialEq, Eq)]
 pub enum Part {
     Half,
@@ -41,18 +42,25 @@ pub struct Failure {
 /// Contracts see all of its state, except the names asked for once there was no memory to record one.
 #[derive(Drop)]
 pub struct MemoryDesk {
+    // Where memory comes from.
     alloc: Global,
+    // The most bytes that a read gives.
     piece: u32,
-    // the newest first
+    // The files that can be opened, the newest first.
     files: Vec<Stored>,
+    // The open input, if any.
     input: Option<Input>,
+    // What was created, with what was written to each.
     outputs: Vec<Stored>,
+    // The messages.
     said: Vec<u8>,
-    // none once there was no memory for a name
+    // The names that were asked for; None once there was no memory for one.
     asked: Option<Vec<Asked>>,
-    // the newest first
+    // The calls that are to fail, the newest first.
     failing: Vec<Failure>,
+    // How many calls there were.
     calls: u64,
+    // How many of each kind failed.
     counts: Counts,
     ghost piece_is_some: { 1 ≤ piece },
 }

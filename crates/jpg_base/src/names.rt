@@ -1,4 +1,4 @@
-//! Names of files, and the answers of a desk.
+//! Names of files, and what a desk returns.
 ghost use Rattle.std.specs.Prelude.{◌≡◌, IfOk};
 
 use crate::Text;
@@ -31,7 +31,7 @@ impl Name {
         }
     }
 
-    /// A copy of the name. It answers `NoMemory` only if there is none for the text.
+    /// A copy of the name. Returns `NoMemory` only if there is none for the text.
     pub fn try_clone(&self, alloc: Global) -> Result<Name, NoMemory>
         ensures { IfOk result (λ name. name ≡ self.now) }
     {
@@ -46,14 +46,14 @@ impl Name {
     }
 }
 
-/// What `open`, `create`, `write` and `say` answer.
+/// What `open`, `create`, `write` and `say` return.
 #[derive(Clone, Copy, Debug, PartialEq, Eq)]
 pub enum Put {
     Done,
     Failed,
 }
 
-/// What `read` answers: the number of bytes that it gave, at least one; that none are left; or
+/// What `read` returns: the number of bytes that it gave, at least one; that none are left; or
 /// that it failed.
 #[derive(Clone, Copy, Debug, PartialEq, Eq)]
 pub enum Got {
@@ -66,8 +66,12 @@ pub enum Got {
 /// `u64::MAX`.
 #[derive(Clone, Copy, Debug, PartialEq, Eq)]
 pub struct Counts {
+    /// Calls of `open` and `create`.
     pub opens: u64,
+    /// Calls of `read`.
     pub reads: u64,
+    /// Calls of `write`.
     pub writes: u64,
+    /// Calls of `say`.
     pub says: u64,
 }

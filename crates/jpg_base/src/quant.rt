@@ -1,4 +1,4 @@
-//! A quantisation table (T.81, B.2.4.1).
+//! A quantisation table (T.81, B.2.4.1, Figure B.6).
 ghost use Rattle.std.specs.Prelude.{◌≡◌, ◌<◌, ◌≤◌, replicate, slice_index, slice_set, length, IsTrue, ◌↔◌};
 ghost use Rattle.jpg_spec.specs.Lists.{are_equal};
 ghost use Rattle.jpg_spec.specs.Transposed.{transposed};

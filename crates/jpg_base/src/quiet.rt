@@ -17,7 +17,7 @@ pub struct QuietDesk {
 impl QuietDesk {
     ghost use Rattle.jpg_base.specs.Quiet.{quiet_state, IsNewQuiet};
 
-    /// A desk with these bytes for every name, with no input and no output yet. It answers NoMemory if there is no
+    /// A desk with these bytes for every name, with no input and no output yet. Returns NoMemory if there is no
     /// memory for a copy.
     pub fn new(alloc: Global, bytes: &[u8]) -> Result<QuietDesk, NoMemory>
         ensures { IfOk result (λ desk. IsNewQuiet bytes.now (quiet_state desk)) }

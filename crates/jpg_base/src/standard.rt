@@ -55,11 +55,17 @@ pub struct Parsed {
 /// raises the count of its kind by one.
 #[derive(Drop)]
 pub struct StdDesk<R: Runtime> {
+    // The program's runtime.
     rt: R,
+    // The open input.
     source: Source<R>,
+    // The last output.
     sink: Sink<R>,
+    // The new file beside the one that is replaced.
     beside: Beside,
+    // Named outputs take their place when they are complete.
     replaces: bool,
+    // What contracts see.
     told: Parsed,
 }
 
@@ -107,9 +113,9 @@ impl<R: Runtime> StdDesk<R> {
 
     /// As `new`, but an output with a name is written into a new file beside it, `NAME.jpgsuite-N`, which takes its
     /// place at `keep`, or when one more output is created; until then a file of this name stays as it is. The new file
-    /// has the owner, the group and the mode of the one that it replaces. Where that can't be, where no file can be made
-    /// there, and where the name is of something else than a plain file with one name that may be written, the output
-    /// is written under its name.
+    /// has the owner, the group and the mode of the one that it replaces. Where that can't be, where no file can be
+    /// made there, and where the name is of something else than a plain file with one name that may be written, the
+    /// output is written under its name.
     pub fn replacing(rt: R) -> Self
         ensures { TellsNothing (std_state result.told) }
     {

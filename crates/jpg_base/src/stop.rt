@@ -49,7 +49,7 @@ impl From<NoMemory> for Stop {
     }
 }
 
-/// The answer to a piece of input: more is needed, or the file is complete after this many bytes of the piece.
+/// The result of a piece of input: more is needed, or the file is complete after this many bytes of the piece.
 #[derive(Clone, Copy, Debug, PartialEq, Eq)]
 pub enum Fed {
     More,

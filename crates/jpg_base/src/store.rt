@@ -1,4 +1,4 @@
-//! Bits in a word, which wait to be decoded.
+//! Bits in a word, which wait to be decoded (T.81, F.2.2.4, F.2.2.5: RECEIVE and NEXTBIT take from it).
 ghost use Rattle.std.specs.Prelude.{◌≡◌, ◌<◌, ◌≤◌, ◌+◌, ◌-◌, ◌^◌, [], ◌∷◌, ◌++◌, length, take, drop, slice_index_or, false};
 ghost use Rattle.jpg_spec.specs.Bits.{bits_of};
 

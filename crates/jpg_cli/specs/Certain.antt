@@ -1,4 +1,4 @@
--- WHERE AN ANSWER IS CERTAIN: over a desk that knows its files, where all calls succeed and there is memory.
+-- WHERE A RESULT IS CERTAIN: over a desk that knows its files, where all calls succeed and there is memory.
 use Rattle.std.specs.Prelude.{◌≡◌, ℕ, ◌⊎◌, ◌<◌, ◌≤◌, List, length, Option, None, Some, Ok, Err}
 use Rattle.jpg_base.specs.declared.names.Name.{Name}
 use Rattle.jpg_base.specs.declared.names.Name.TheVariants as name
@@ -50,7 +50,7 @@ IsDoneAsOrWanting (Some n) (why.Warned m) = m ≡ n
 IsDoneAsOrWanting early why.NoMemory = Unit {0}
 IsDoneAsOrWanting early other = ⊥
 
--- This is the answer, or there was no memory.
+-- This is the result, or there was no memory.
 abbrev pub IsOrNoMemory : Why → Why → Type 0
 IsOrNoMemory due ended = (ended ≡ due) ⊎ (ended ≡ why.NoMemory)
 
@@ -127,7 +127,7 @@ pub record HasFile (a : TransformAsked) (old : DeskState) : Type 0 where
   pub told : IsTold old.files (name_of a.files.input) bytes
   pub means : HasSomeMeaning bytes
 
--- The input wasn't refused: the answer is Done, or its picture can't be written as it is asked for, or a device failed,
+-- The input wasn't refused: the result is Done, or its picture can't be written as it is asked for, or a device failed,
 -- or NoMemory.
 abbrev pub IsNotRefused : Why → Type 0
 IsNotRefused why.Done = Unit {0}

@@ -54,7 +54,7 @@ name_of standard_input = name.In
 name_of standard_output = name.Out
 name_of (named text) = name.File text
 
--- ANSWERS
+-- RESULTS
 
 abbrev pub command_view : Asked → Command
 command_view (asked.Jpegtran words) = transform_picture (transform_view words)

@@ -19,7 +19,7 @@ pub record CopyTexts : Type 1 where
   pub unread : List ℕ → List ℕ → Type 0
   pub part : List ℕ → List ℕ → Type 0
 
--- THE ANSWERS, where bytes are read and a text is written in this way
+-- THE RESULTS, where bytes are read and a text is written in this way
 abbrev pub Copies : CopyTexts → ((List ℕ → List ℕ → Type 0) → DeskState → DeskState → Type 0) → DeskState → Why → DeskState → Type 0
 Copies t Does old why.Done new = Does (t.whole (rest_of new.left)) old new
 Copies t Does old (why.Refused f) new = Does (t.refused f (rest_of new.left)) old new

@@ -1,4 +1,4 @@
--- WHICH ANSWER IS DUE: the one that the files of a desk determine, if nothing fails.
+-- WHICH RESULT IS DUE: the one that the files of a desk determine, if nothing fails.
 use Rattle.std.specs.Prelude.{◌≡◌, ◌⊎◌, ℕ, List, ◌++◌, Option, None, Some}
 use Rattle.jpg_base.specs.declared.names.Counts.{Counts}
 use Rattle.jpg_base.specs.declared.names.Name.{Name}
@@ -52,7 +52,7 @@ IsDueFor {V} c old (why.Refused f) = InputRefused V c f old
 IsDueFor {V} c old (why.Picture fault) = (early : Option ℕ) × InputHas V c early (Some fault) old
 IsDueFor c old other = ⊥
 
--- WHERE SOMETHING IS TAKEN BEFORE of another file: that has a fault; or by what was taken, the answer is due
+-- WHERE SOMETHING IS TAKEN BEFORE of another file: that has a fault; or by what was taken, the result is due
 abbrev pub IsFaultOf : (DeskState → FaultAt → Type 0) → DeskState → Why → Type 0
 IsFaultOf Faulty old (why.Refused f) = Faulty old f
 IsFaultOf Faulty old other = ⊥

@@ -9,14 +9,14 @@ use Rattle.jpg_spec.specs.Segments.{standard_limits}
 use Rattle.jpg_cli.specs.Desk.Reading.{ReadsBytes}
 use Rattle.jpg_cli.specs.Stays.{Keeps}
 
--- names in the order in which they are opened or created, with their answers: this one for the last, and Done for each
+-- names in the order in which they are opened or created, with their results: this one for the last, and Done for each
 -- before it
 abbrev pub asked_for : List Name → Put → List (Name × Put)
 asked_for [] answer = []
 asked_for (name ∷ []) answer = (name, answer) ∷ []
 asked_for (name ∷ next ∷ names) answer = (name, put.Done) ∷ asked_for (next ∷ names) answer
 
--- These names were opened or created, the last one with this answer.
+-- These names were opened or created, the last one with this result.
 abbrev pub Asks : List Name → Put → DeskState → DeskState → Type 0
 Asks names answer old new = NotesNames old.asked (asked_for names answer) new.asked
 

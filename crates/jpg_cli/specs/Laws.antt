@@ -17,15 +17,15 @@ use Rattle.jpg_cli.specs.Due.{NoneRose}
 use Rattle.jpg_cli.specs.Tools.Showing.{Showing, Shown}
 use Rattle.jpg_cli.specs.Tools.Turned.{Turned, TurnedWith, Turning}
 
--- If no count of open, read or write rose, a run that ends in this way has such an answer.
+-- If no count of open, read or write rose, a run that ends in this way has such a result.
 abbrev pub WhereNoneRose : (DeskState → Why → DeskState → Type 0) → DeskState → (Why → Type 0) → Type 0
 WhereNoneRose Ends old Is = (new : DeskState) (why : Why) → NoneRose old.counts new.counts → Ends old why new → Is why
 
--- It has this answer, or NoMemory.
+-- It has this result, or NoMemory.
 abbrev pub AnswersOrNoMemory : (DeskState → Why → DeskState → Type 0) → DeskState → Why → Type 0
 AnswersOrNoMemory Ends old due = WhereNoneRose Ends old (IsOrNoMemory due)
 
--- Whichever counts rose, it has such an answer.
+-- Whichever counts rose, it has such a result.
 abbrev pub WhateverRose : (DeskState → Why → DeskState → Type 0) → DeskState → (Why → Type 0) → Type 0
 WhateverRose Ends old Is = (new : DeskState) (why : Why) → Ends old why new → Is why
 
@@ -46,8 +46,8 @@ pub record WasRefusedShown (gray : Bool) (bytes : List ℕ) (f : FaultAt) : Type
   pub told : IsTold old.files showing.input bytes
   pub shown : Shown showing old (why.Refused f) new
 
--- A run was done, perhaps with a warning, that transformed a transform of this picture by its inverse, without trimming,
--- conversion to grayscale and cropping.
+-- A run was done, perhaps with a warning, that transformed a transform of this picture by its inverse, without
+-- trimming, conversion to grayscale and cropping.
 pub record WasTurnedBack (t : Transform) (M : Meaning) : Type 0 where
   pub turning : Turning
   pub old : DeskState

@@ -153,7 +153,7 @@ RunsShort c at_end old new = StopsShort c old new
 RunsShort {V} c drawn old new = StopsShort c old new ⊎ WritesLess V c old new
 RunsShort {V} c (by_rows r) old new = StopsShort c old new ⊎ (WritesLess V c old new ⊎ WritesLessRows V c r old new)
 
--- THE ANSWERS: Done, or Warned if the input ended early: the output has the text of what is made of the input's value,
+-- THE RESULTS: Done, or Warned if the input ended early: the output has the text of what is made of the input's value,
 -- which has no fault. If the output wasn't written to its end, it has a first part of that text. It is created only
 -- after a value was read whose result has no fault; or, where rows are written before, it has those that are ready
 -- before a fault's place, or if reading fails, those of all bytes that were read. After NoMemory it has not all of the

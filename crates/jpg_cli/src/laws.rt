@@ -65,17 +65,17 @@ pub fn pictures_are_shown()
     ensures { (s : Showing) (old : DeskState) → (has : HasImage s old) → WhereNoneRose (Shown s) old (IsDoneAsOrWanting has.early) }
 {}
 
-/// If no count of open, read or write rose, a run that shows the front of a picture's file for so many scans ends as its
-/// input determines: Done if the front means a picture that can be displayed, as a complete file or up to the marker
-/// after these scans; Warned if the input ends early before and means one; Refused with the front's first fault or
-/// because it can't be displayed, whichever comes first, or NoMemory.
+/// If no count of open, read or write rose, a run that shows the front of a picture's file for so many scans ends as
+/// its input determines: Done if the front means a picture that can be displayed, as a complete file or up to the
+/// marker after these scans; Warned if the input ends early before and means one; Refused with the front's first fault
+/// or because it can't be displayed, whichever comes first, or NoMemory.
 pub fn shown_fronts_are_due()
     ensures { (scans : ℕ) (showing : Showing) (old : DeskState) → WhereNoneRose (FrontShown scans showing) old (IsFrontDue scans showing old) }
 {}
 
 /// A front that means a picture that can be displayed has its image written, whatever follows it: if the desk knows the
-/// file, and no count of open, read or write rose, the run ends with Done, if the file ends early before with Warned and
-/// its length, or with NoMemory. A front with a fault is refused with that.
+/// file, and no count of open, read or write rose, the run ends with Done, if the file ends early before with Warned
+/// and its length, or with NoMemory. A front with a fault is refused with that.
 pub fn fronts_are_shown()
     ensures certain { (scans : ℕ) (s : Showing) (old : DeskState) → (has : HasShownFront scans s old) → WhereNoneRose (FrontShown scans s) old (IsDoneAsOrWanting has.early) }
     ensures faulty { (scans : ℕ) (s : Showing) (f : FaultAt) (old : DeskState) → HasFaultyFront scans s f old → AnswersOrNoMemory (FrontShown scans s) old (why.Refused f) }
@@ -85,8 +85,8 @@ pub fn fronts_are_shown()
 /// If no count of open, read or write rose, a run that encodes an image ends as its scans, its tables and its image
 /// determine: Refused if the script's file has a fault, or else that of the tables, or else the input; otherwise
 /// Picture if the image has a fault for the encoding, and Done if it has none; or NoMemory. Over a desk that knows its
-/// files there is always one such answer: so an image without a fault is encoded, and otherwise the fault is the
-/// answer.
+/// files there is always one such result: so an image without a fault is encoded, and otherwise the fault is the
+/// result.
 pub fn encodings_are_due()
     ensures due { (asked : EncodeAsked) (old : DeskState) → WhereNoneRose (EncodedAsAsked asked) old (IsDueOrNoMemory asked old) }
     ensures one { (asked : EncodeAsked) (due : Why) (old : DeskState) → TellsFiles old → IsEncodeDue asked old due → AnswersOrNoMemory (EncodedAsAsked asked) old due }
@@ -103,7 +103,7 @@ pub fn refusals_are_one()
     ensures shown { (gray : Bool) (input : List ℕ) (f : FaultAt) → IsRefusedFor (Image gray) input f → MeanShown gray input → ⊥ }
 {}
 
-/// A fault is the answer: if the desk knows the files, and no count of open, read or write rose, a run that transforms
+/// A fault is the result: if the desk knows the files, and no count of open, read or write rose, a run that transforms
 /// a picture ends with the fault of the script's file, the first fault of the input, or the fault of the picture for
 /// the choice, and a run that decodes one with what its input is refused with; or there was no memory.
 pub fn faults_are_answered()

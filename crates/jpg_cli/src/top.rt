@@ -59,16 +59,9 @@ fn work<D: Desk>(alloc: Global, words: &[String], desk: &mut D, ends: Vec<Box<dy
     }
 }
 
-/// Runs the command that the words ask for over a desk: `jpegtran` writes a file, or standard input, transformed as its
-/// switches say, as a sequential file or, with `-progressive` or a script of such scans, a progressive one, to a file
-/// or standard output. An input is refused with its first fault, and nothing is written then. One that ends early is
-/// written with what it has, and the status is 2. `djpeg` writes the image of such a file, or with `-preview` that of
-/// its first scans, as PNM, BMP or Targa, with the first of the image writers `ends` that has the format; if none has
-/// it, the words are wrong at the one that asks for it. `cjpeg` writes the file of an image, PNM, BMP or with `-targa`
-/// Targa, encoded as its switches say. `rdjpgcom [FILE]` prints the comments of a file, or of standard input, to
-/// standard output. `wrjpgcom` writes a file, or standard input, with a comment inserted before its frame header to
-/// standard output. `jpgwork N` makes an image from its number, encodes, rotates, rotates back and decodes it, and
-/// writes to standard output what came of it. What is wrong or refused is named in a message.
+/// Runs the command that the words name over a desk, and says how it ended. `ends` has the image writers of `djpeg` and
+/// `jpgwork`: of those with the format that is asked for the first one is used, and if there is none the words are
+/// wrong. `Ran` (specs/Run.antt) is the theorem about all commands; the manual pages say what each of them does.
 pub fn run<D: Desk>(
     alloc: Global,
     words: &[String],

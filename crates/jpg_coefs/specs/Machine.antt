@@ -74,14 +74,14 @@ pub record KeepsUnits (M : Type 0) (k : Kind M) : Type 0 where
   pub unfinished : (m : M) (i : Interval) (bits : List Bool) (now : Picture) → k.stands m i bits now → IsUnfinished i bits now (k.left m)
   pub fits : (m : M) (i : Interval) (bits : List Bool) (now : Picture) → k.stands m i bits now → k.fits i
 
--- The meaning of the answer at these bits, and the picture, which was `then` before the last of them. The bit that
+-- The meaning of the result at these bits, and the picture, which was `then` before the last of them. The bit that
 -- reveals a fault changes no block.
 abbrev pub Answered : {M : Type 0} → Kind M → Interval → List Bool → Result UnitStep UnitFault → Picture → M → Picture → Type 0
 Answered k i bits (Ok More) then m now = k.stands m i bits now
 Answered k i bits (Ok IntervalDone) then m now = IsWholeInterval i bits now × ((j : Interval) → Follows i now j → k.fits j → k.ready m j)
 Answered k i bits (Err f) then m now = DataReveals i.scan.coding (units_of i) (fault_of f) bits × (now ≡ then)
 
--- ONE BIT: whatever interval and bits the machine was given, its answer is the one at these bits and this one.
+-- ONE BIT: whatever interval and bits the machine was given, its result is the one at these bits and this one.
 abbrev pub Step : {M : Type 0} → Kind M → M → Picture → Bool → Result UnitStep UnitFault → M → Picture → Type 0
 Step k m now bit answer new after = (i : Interval) (bits : List Bool) → k.stands m i bits now → Answered k i (bits ++ bit ∷ []) answer now new after
 
@@ -94,7 +94,7 @@ Chain {M} k m now (bit ∷ bits) new after = (mid : M) × (between : Picture) ×
 abbrev pub StandsOn : {M : Type 0} → Kind M → M → Picture → List Bool → M → Picture → Type 0
 StandsOn k m now bits new after = (i : Interval) (so_far : List Bool) → k.stands m i so_far now → k.stands new i (so_far ++ bits) after
 
--- bits that are such a chain except for the last, with its answer
+-- bits that are such a chain except for the last, with its result
 abbrev pub ChainTo : {M : Type 0} → Kind M → ℕ → M → Picture → List Bool → Result UnitStep UnitFault → M → Picture → Type 0
 ChainTo {M} k most m now bits answer new after =
     (front : List Bool) × (bit : Bool) × (mid : M) × (between : Picture) × (bits ≡ front ++ bit ∷ []) × Chain k m now front mid between

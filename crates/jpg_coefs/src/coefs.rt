@@ -14,9 +14,13 @@ use std::vec::Vec;
 /// All blocks of the padded grids of a frame, component by component, row by row.
 #[derive(Drop)]
 pub struct Coefs {
+    // The header that bounds the grids.
     frame: Frame,
+    // By component, where its first block is.
     offsets: [u32; 4],
+    // By component, how many blocks a row of its padded grid has.
     strides: [u32; 4],
+    // All blocks.
     blocks: Vec<Block>,
 }
 
@@ -80,7 +84,7 @@ impl Coefs {
 }
 
 impl Coefs {
-    /// All blocks of the padded grids of the frame, zero. It answers NoMemory if there is no memory for them.
+    /// All blocks of the padded grids of the frame, zero. NoMemory if there is no memory for them.
     pub fn new(alloc: Global, frame: &Frame) -> Result<Coefs, NoMemory>
         ensures frame { IfOk result (λ c. c.frame ≡ frame.now) }
         ensures zero { IfOk result (λ c. c.blocks ≡ replicate (padded_blocks frame.now) (zeros 64)) }

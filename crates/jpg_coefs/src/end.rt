@@ -1,4 +1,4 @@
-//! The end of an interval, written (T.81, E.1.4).
+//! The end of an interval, written (T.81, E.1.4, F.1.2.3).
 ghost use Rattle.std.specs.Prelude.{◌≡◌, ◌<◌, true, IfSome};
 ghost use Rattle.jpg_coefs.specs.BitSinks.{PutsEnd};
 
@@ -6,8 +6,8 @@ use jpg_base::codes::RST0;
 use jpg_base::{Desk, WriteFault};
 use jpg_huff::BitOut;
 
-/// Writes the bits that wait, padded with ones, and then the restart marker of this number, 0 to 7, if any. An output is
-/// created.
+/// Writes the bits that wait, padded with ones, and then the restart marker of this number, 0 to 7, if any. An output
+/// is created.
 pub fn end_interval<D: Desk>(
     marker: Option<u8>,
     out: &mut BitOut,

@@ -1,4 +1,4 @@
-//! The units of a scan, given one after another to what writes or counts them (T.81, A.2, E.1.4).
+//! The units of a scan, given one after another to what writes or counts them (T.81, A.2.2 to A.2.4, E.1.4).
 ghost use Rattle.std.specs.Prelude.{◌≡◌, ◌≤◌, ◌<◌, ◌==◌, if◌then◌else◌, true, length, IfSome};
 ghost use Rattle.jpg_spec.specs.Geometry.{IsReal};
 ghost use Rattle.jpg_spec.specs.Scan.{part_of as part_in};
@@ -50,7 +50,8 @@ pub fn part_of(head: &ScanHead, component: u8) -> ScanPart
     }
 }
 
-// The block that is written at a place of the scan, after this DC value of its component.
+// The block that is written at a place of the scan, after this DC value of its component; a padding block has that
+// value and no AC (T.81, A.2.4).
 #[inline(always)]
 fn due<V: BlockView>(view: &V, place: Place, last: i16) -> Block
     requires { place.real ≡ true → IsReal (V.numbers view.now) place.component place.x place.y }
@@ -86,9 +87,9 @@ fn put_place<V: BlockView, O, D, S: UnitSink<O, D>>(
     sink.unit(place.component, before, &block, out, desk)
 }
 
-/// Gives all units of a scan to a sink, with an end of an interval after each `interval` MCUs (0: none). A padding block
-/// has the DC value of the block before it of its component, and no AC values. The header names one to four components of
-/// the frame.
+/// Gives all units of a scan to a sink, with an end of an interval after each `interval` MCUs (0: none). A padding
+/// block has the DC value of the block before it of its component, and no AC values. The header names one to four
+/// components of the frame.
 pub fn put_scan<V: BlockView, O, D, S: UnitSink<O, D>>(
     view: &V,
     head: &ScanHead,

@@ -49,7 +49,7 @@ pub trait ScanMachine {
     /// What the state of a machine of this kind means.
     ghost kind: { Kind Self };
 
-    /// Takes one more bit of the interval. Units are left, no fault was answered, and the picture is that of the bits
+    /// Takes one more bit of the interval. Units are left, no fault was returned, and the picture is that of the bits
     /// so far. Blocks change when a unit is complete, each in its band; the bit that reveals a fault changes none.
     fn bit(&mut self, bit: bool, coefs: &mut Coefs) -> Result<UnitStep, UnitFault>
         requires open { (i : Interval) × (bits : List Bool) × kind.stands self.old i bits coefs.old }
@@ -62,8 +62,8 @@ pub trait ScanMachine {
         requires some { 1 ≤ most }
         ensures { TakesBits kind most self.old coefs.old store.old result self.new coefs.new store.new };
 
-    /// Begins the next interval of the scan, of this many units, with predictions 0 and no bits. There is no current
-    /// interval.
+    /// Begins the next interval of the scan, of this many units, with predictions 0 (T.81, F.2.1.3.1) and no bits.
+    /// There is no current interval.
     fn restart(&mut self, units: u64)
         requires ready { (i : Interval) × kind.ready self.old i × (length i.places ≡ units) }
         requires some { 1 ≤ units }

@@ -1,4 +1,4 @@
--- THE ANSWER to an image that is to be encoded: its picture, or the first fault of the factors and the grids (the
+-- THE RESULT of an image that is to be encoded: its picture, or the first fault of the factors and the grids (the
 -- manual of cjpeg; JFIF 1.02).
 use Rattle.std.specs.Prelude.{◌≡◌, [], ◌∷◌, Some, None, Result, Ok, Err}
 use Rattle.jpg_spec_write.specs.Headed.{jfif_contents}

@@ -53,7 +53,7 @@ AddsSamples old samples new = (info : ImageInfo) (a : Asked) (given : List ℕ) 
 abbrev pub EncodesSampled : Sampler → EncodedImage → Type 0
 EncodesSampled s v = (info : ImageInfo) (a : Asked) (given : List ℕ) → HasSampled info a given s → IsEncodedView (image_of info given) a v
 
--- THE ANSWER at the beginning: a sampler that was given nothing, or the first fault of the factors and the grids
+-- THE RESULT at the beginning: a sampler that was given nothing, or the first fault of the factors and the grids
 abbrev pub BeginsSampling : ImageInfo → Asked → Result Sampler EncodeStop → Type 0
 BeginsSampling info a (Ok s) = HasSampled info a [] s
 BeginsSampling info a (Err (stop.Picture fault)) =

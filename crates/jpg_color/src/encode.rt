@@ -24,13 +24,16 @@ use jpg_pnm_bmp::Image;
 use jpg_spec_write::PictureFault;
 use std::alloc::Global;
 
-/// How an image is encoded: in grayscale or in its colours, for progressive scans or sequential ones, with horizontal
-/// and vertical factors for each component, and with one table for the first component and one for the others.
+/// How an image is encoded.
 #[derive(Drop)]
 pub struct Encoding {
+    /// In grayscale, whatever its colours.
     pub gray: bool,
+    /// For progressive scans.
     pub progressive: bool,
+    /// The horizontal and the vertical factor of each component.
     pub factors: ArrayVec<(u8, u8), 4>,
+    /// The table of the first component, and that of the others.
     pub tables: [QuantTable; 2],
 }
 
@@ -60,7 +63,7 @@ pub enum EncodeStop {
     NoMemory,
 }
 
-/// The picture of an image. It answers FractionalFactors with the first component whose ratio to the greatest factors
+/// The picture of an image. Returns FractionalFactors with the first component whose ratio to the greatest factors
 /// isn't an integer, and then TooManyBlocks if the padded grids have more than 8388608 blocks. In addition to the
 /// picture it takes memory for the planes of the components and for the rows of an MCU row.
 pub fn encode_picture(

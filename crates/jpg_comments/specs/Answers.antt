@@ -1,4 +1,4 @@
--- What is unique in the answers of rdjpgcom and wrjpgcom.
+-- What is unique in the results of rdjpgcom and wrjpgcom.
 use Rattle.std.specs.Prelude.{◌≡◌, ℕ, ◌≤◌, List, length, take}
 use Rattle.jpg_spec.specs.Markers.{Segment}
 use Rattle.jpg_spec_write.specs.CommentText.{IsReadWhole}

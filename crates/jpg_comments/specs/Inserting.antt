@@ -44,7 +44,7 @@ abbrev pub StopsHead : Limits → List ℕ → Stop → Type 0
 StopsHead limits bytes (stop.Fault f) = ShowsFault limits (HoldsHead limits) bytes f
 StopsHead limits bytes stop.NoMemory = Unit {0}
 
--- by the answer to the last byte: whether the marker is there
+-- by the result of the last byte: whether the marker is there
 abbrev pub AfterHead : Limits → Bool → List ℕ → Result Bool Stop → List ℕ → Reading → Type 0
 AfterHead limits replace bytes (Ok false) head r = HasKept limits replace bytes head r
 AfterHead limits replace bytes (Ok true) head r = IsAtFrame limits replace bytes head r
@@ -80,14 +80,14 @@ KeepsSegment replace r had answer head = length r.contents ≤ 65533 → Appends
 
 -- THE REST
 
--- All of it is copied, and the answer is how many bytes were taken; or as many as may be taken; or nothing.
+-- All of it is copied, and the result is how many bytes were taken; or as many as may be taken; or nothing.
 abbrev pub CopiesRest : ℕ → ℕ → List ℕ → Result ℕ Stop → List ℕ → List ℕ → Type 0
 CopiesRest taken most rest (Ok n) old new = (n ≡ taken + length rest) × (n < most) × (new ≡ old ++ rest)
 CopiesRest taken most rest (Err (stop.Fault f)) old new =
     (f.fault ≡ InputTooLong) × (f.at ≡ most) × (most ≤ taken + length rest) × (new ≡ old ++ take (most - taken) rest)
 CopiesRest taken most rest (Err stop.NoMemory) old new = new ≡ old
 
--- THE ANSWERS
+-- THE RESULTS
 
 -- a first part of the pending bytes
 abbrev pub InsertsPart : Limits → List ℕ → Bool → List ℕ → List ℕ → Type 0

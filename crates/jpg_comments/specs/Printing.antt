@@ -41,7 +41,7 @@ abbrev pub StopsPrinting : Limits → List ℕ → List ℕ → Stop → Type 0
 StopsPrinting limits bytes text (stop.Fault f) = ShowsFault limits (HoldsWhole limits) bytes f × PrintsBefore limits (take f.at bytes) f.fault text
 StopsPrinting limits bytes text stop.NoMemory = PrintsPart limits bytes text
 
--- by the answer to the last byte
+-- by the result of the last byte
 abbrev pub AfterPrinted : Limits → List ℕ → List ℕ → Result Bool Stop → Reading → Type 0
 AfterPrinted limits bytes text (Ok false) r = HasPrinted limits bytes text r
 AfterPrinted limits bytes text (Ok true) r = PrintsWhole limits bytes text
@@ -67,7 +67,7 @@ printing p = record {
 abbrev pub due_text : ℕ → List ℕ → List ℕ
 due_text code contents = if code == 0xfe then printed contents else []
 
--- It is printed, and the answer is whether it is the header of a scan.
+-- It is printed, and the result is whether it is the header of a scan.
 abbrev pub PrintsSegment : ℕ → List ℕ → Result Bool Stop → List ℕ → List ℕ → Type 0
 PrintsSegment code contents (Ok scan) old new = (scan ≡ (code == 0xda)) × (new ≡ old ++ due_text code contents)
 PrintsSegment code contents (Err (stop.Fault f)) old new = ⊥

@@ -32,7 +32,7 @@ is_done c = c.done
 abbrev pub HasRead : List ℕ → List ℕ → Comments → Type 0
 HasRead bytes text c = (c.stop ≡ None) × (c.done ≡ false) × (length bytes < c.limits.input) × HasPrinted c.limits bytes text (reading_of c.reader)
 
--- THE ANSWER to a piece that is fed, by all bytes so far and by the complete text that was appended for them. A fault
+-- THE RESULT of a piece that is fed, by all bytes so far and by the complete text that was appended for them. A fault
 -- remains whatever follows.
 abbrev pub AfterFeed : List ℕ → List ℕ → List ℕ → Result Fed Stop → Comments → Type 0
 AfterFeed bytes piece text (Ok fed.More) c = HasRead (bytes ++ piece) text c

@@ -49,7 +49,7 @@ IsNewInsert limits comment replace (Ok c) = (length comment ≤ longest_comment)
 IsNewInsert limits comment replace (Err (stop.Fault f)) = (f.fault ≡ CommentTooLong) × (f.at ≡ longest_comment + 1) × (longest_comment < length comment)
 IsNewInsert limits comment replace (Err stop.NoMemory) = length comment ≤ longest_comment
 
--- THE ANSWERS, by all bytes so far and by the complete text that was written for them
+-- THE RESULTS, by all bytes so far and by the complete text that was written for them
 
 abbrev pub AfterTake : List ℕ → List ℕ → List ℕ → List ℕ → Result (Unit {0}) Stop → Insert → Type 0
 AfterTake comment bytes piece text (Ok u) c = HasInserted comment (bytes ++ piece) text c

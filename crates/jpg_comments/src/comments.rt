@@ -16,9 +16,13 @@ use std::alloc::Global;
 /// Reads the comments of a file up to its first scan, or up to EOI before any, and prints them.
 #[derive(Drop)]
 pub struct Comments {
+    // The limits of the input.
     limits: Limits,
+    // The segments so far.
     reader: SegmentReader,
+    // The first SOS segment is complete, or EOI was read.
     done: bool,
+    // Why the reader stopped, if it did.
     stop: Option<Stop>,
     ghost limited: { (reading_of reader).limits ≡ limits },
 }
@@ -42,12 +46,12 @@ impl Comments {
     }
 
     /// Takes a further piece of the file, of any length, and appends the text of each comment that is complete with it.
-    /// It answers Done with the end of the first scan header or with an EOI before any, and how many bytes of the piece
-    /// were used, that end among them. Otherwise it answers the fault of the bytes so far, at the number of bytes
+    /// Returns Done with the end of the first scan header or with an EOI before any, and how many bytes of the piece
+    /// were used, that end among them. Otherwise it returns the fault of the bytes so far, at the number of bytes
     /// taken: NotJpeg, NoMarker, UnexpectedMarker, UnsupportedProcess, SecondFrame, SosBeforeSof, BadLength (a length
-    /// below 2) or MarkersTooLarge; and InputTooLong if the limit was reached. Otherwise it answers More. On a fault
+    /// below 2) or MarkersTooLarge; and InputTooLong if the limit was reached. Otherwise it returns More. On a fault
     /// the text of the comments that were complete before it is appended, and on NoMemory a first part of such a text.
-    /// After a stop it answers the same stop. It may not be called once the file is complete (`is_done`).
+    /// After a stop it returns the same stop. It may not be called once the file is complete (`is_done`).
     pub fn feed(&mut self, piece: &[u8], out: &mut Bytes) -> Result<Fed, Stop>
         requires { is_done self.old ≡ false }
         ensures answered { Feeds self.old piece.now out.old result out.new self.new }
@@ -86,7 +90,7 @@ impl Comments {
         self.done
     }
 
-    /// The file ends here. It answers Truncated at the number of bytes taken, or the earlier stop. It may not be called
+    /// The file ends here. Returns Truncated at the number of bytes taken, or the earlier stop. It may not be called
     /// once the file is complete (`is_done`).
     pub fn end(&mut self) -> Stop
         requires { is_done self.old ≡ false }
@@ -131,7 +135,7 @@ impl Intake<SegmentReader, Bytes> for Printing {
     }
 }
 
-// Reads a byte, and answers whether the file is complete with it.
+// Reads a byte. Returns whether the file is complete with it.
 fn read_byte(reader: &mut SegmentReader, byte: u8, out: &mut Bytes) -> Result<bool, Stop>
     requires { (reading_of reader.old).taken < (reading_of reader.old).limits.input }
     ensures answered { PrintsByte (reading_of reader.old) byte out.old result out.new (reading_of reader.new) }
@@ -146,7 +150,7 @@ fn read_byte(reader: &mut SegmentReader, byte: u8, out: &mut Bytes) -> Result<bo
     }
 }
 
-// Prints the last segment, if it is a comment, and answers whether it is the header of a scan.
+// Prints the last segment, if it is a comment. Returns whether it is the header of a scan.
 fn print_segment(reader: &SegmentReader, out: &mut Bytes) -> Result<bool, Stop>
     ensures { PrintsSegment (reading_of reader.now).code (reading_of reader.now).contents result out.old out.new }
 {

@@ -24,15 +24,19 @@ const LONGEST: usize = 65_533;
 /// Inserts a comment before the frame header of a file (SOF0, SOF1 or SOF2).
 #[derive(Drop)]
 pub struct Insert {
+    // The limits of the input.
     limits: Limits,
+    // The segments so far.
     reader: SegmentReader,
+    // The comments that are there go.
     replace: bool,
-    // SOI and the segments before the frame header, as they are written
+    // SOI and the segments before the frame header, as they are written.
     head: Bytes,
-    // the comment's segment
+    // The comment's segment.
     segment: Bytes,
-    // how many bytes were taken, once the frame header's marker was read
+    // How many bytes were taken, once the frame header's marker was read.
     taken: Option<u64>,
+    // Why the reader stopped, if it did.
     stop: Option<Stop>,
     ghost limited: { (reading_of reader).limits ≡ limits },
 }
@@ -41,7 +45,7 @@ impl Insert {
     ghost use Rattle.jpg_comments.specs.WriteInserted.{insert_limits, insert_stop, insert_taken, is_replacing, EndsText, HasInserted, Inserts, IsNewInsert, TakesBytes};
 
     /// An inserter that was given no bytes. With `replace` it drops the comments before the frame header. An empty
-    /// comment inserts nothing. It answers CommentTooLong at 65,001 if the comment has more than 65,000 bytes.
+    /// comment inserts nothing. Returns CommentTooLong at 65,001 if the comment has more than 65,000 bytes.
     pub fn new(alloc: Global, limits: Limits, comment: &[u8], replace: bool) -> Result<Insert, Stop>
         requires { AreLimits limits }
         ensures { IsNewInsert limits comment.now replace result }
@@ -71,11 +75,11 @@ impl Insert {
 
     /// Takes a further piece of the file, of any length. It appends nothing before the marker of the frame header;
     /// there it appends the segments before it, each with one FF, the comment and the marker, and from there on all
-    /// bytes as they are. It never answers Done. Before that marker it answers the fault of the bytes so far, at the
+    /// bytes as they are. It never returns Done. Before that marker it returns the fault of the bytes so far, at the
     /// number of bytes taken: NotJpeg, NoMarker, UnexpectedMarker, UnsupportedProcess, SosBeforeSof, BadLength (a
     /// length below 2) or MarkersTooLarge; and InputTooLong wherever the limit is reached: if the bytes up to it have
     /// the marker, they are appended. On NoMemory a first part of the pending bytes is appended. After a stop it
-    /// answers the same stop.
+    /// returns the same stop.
     pub fn feed(&mut self, piece: &[u8], out: &mut Bytes) -> Result<Fed, Stop>
         ensures answered { Inserts self.old piece.now out.old result out.new self.new }
         ensures more { IfOk result (λ answer. answer ≡ fed.More) }
@@ -108,7 +112,7 @@ impl Insert {
         self.limits.input.saturating_sub(taken)
     }
 
-    /// The file ends here. It answers the earlier stop, if any; otherwise Ok if the marker of the frame header was
+    /// The file ends here. Returns the earlier stop, if any; otherwise Ok if the marker of the frame header was
     /// reached, and Truncated at the number of bytes taken if it wasn't.
     pub fn end(&mut self) -> Result<(), Stop>
         ensures answered { EndsText self.old result }
@@ -168,7 +172,7 @@ impl Insert {
     }
 }
 
-// Reads the bytes of a piece up to the marker of the frame header, and answers how many these are, if it is there.
+// Reads the bytes of a piece up to the marker of the frame header. Returns how many these are, if it is there.
 fn read_head(
     reader: &mut SegmentReader,
     head: &mut Bytes,
@@ -215,7 +219,7 @@ impl Intake<SegmentReader, Bytes> for Keeping {
     }
 }
 
-// Reads a byte, and answers whether the frame header's marker is complete.
+// Reads a byte. Returns whether the frame header's marker is complete.
 fn read_byte(
     reader: &mut SegmentReader,
     head: &mut Bytes,
@@ -260,7 +264,7 @@ fn write_head(head: &[u8], segment: &[u8], code: u8, out: &mut Bytes) -> Result<
     out.push_all(&[0xff, code])
 }
 
-// Copies the bytes after that, up to the limit, and answers how many were taken.
+// Copies the bytes after that, up to the limit. Returns how many were taken.
 fn copy(taken: u64, most: u64, rest: &[u8], out: &mut Bytes) -> Result<u64, Stop>
     ensures { CopiesRest taken most rest.now result out.old out.new }
 {

@@ -1,4 +1,4 @@
-//! Laws over the answers of rdjpgcom and wrjpgcom: a complete file has one text and no fault, and one that has a fault
+//! Laws over the results of rdjpgcom and wrjpgcom: a complete file has one text and no fault, and one that has a fault
 //! has one (T.81, B.1.1.2 to B.1.1.4).
 ghost use Rattle.std.specs.Prelude.{◌≡◌, ℕ, Bool, List};
 ghost use Rattle.jpg_spec.specs.Markers.{Segment};

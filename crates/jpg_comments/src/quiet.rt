@@ -5,7 +5,7 @@ ghost use Rattle.jpg_markers.specs.Reading.{PassesSome, reading_of};
 use jpg_base::NoMemory;
 use jpg_markers::SegmentReader;
 
-/// Takes bytes from the start of these that complete nothing, fewer than are given and than the limit lets, and answers
+/// Takes bytes from the start of these that complete nothing, fewer than are given and than the limit lets. Returns
 /// how many: fill bytes after FF, or contents of a segment before its last byte.
 pub fn pass_some(reader: &mut SegmentReader, most: u64, bytes: &[u8]) -> usize
     requires most { (reading_of reader.old).limits.input ≡ most }

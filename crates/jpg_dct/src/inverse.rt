@@ -1,4 +1,4 @@
-//! The samples of a block (T.81, A.3.3).
+//! The samples of a block (T.81, A.3.3, F.2.1.5).
 ghost use Rattle.std.specs.Prelude.{◌≡◌, ◌≤◌, ◌*ℤ◌, pos, All, nat_abs, max};
 ghost use Rattle.jpg_spec_image.specs.Dct.{inverse_dct};
 
@@ -7,7 +7,7 @@ pub mod multipliers;
 pub mod short;
 pub mod wide;
 
-/// A coefficient times its quantiser.
+/// A coefficient times its quantiser (T.81, A.3.4, F.2.1.4).
 pub fn dequantise(value: i16, q: u16) -> i32
     ensures { result ≡ value *ℤ pos q }
 {
@@ -45,7 +45,7 @@ fn shortened(values: &[i32; 64]) -> [i16; 64]
     short
 }
 
-/// The 64 samples of a block of dequantised coefficients, both in natural order.
+/// The 64 samples of a block of dequantised coefficients, both in natural order (T.81, A.3.3).
 pub fn idct(values: &[i32; 64]) -> [u8; 64]
     requires { All (λ x. nat_abs x ≤ 67108864) values.now }
     ensures { result ≡ inverse_dct values.now }

@@ -13,13 +13,16 @@ use arrayvec::ArrayVec;
 use jpg_base::{Fault, FaultAt, QuantTable};
 use std::marker::Model;
 
-// The complete numbers, how many digits of the next one were read and their value, and whether the last byte was in a
-// comment.
+// The state after the bytes of a text so far.
 #[derive(Drop)]
 pub struct TableReader {
+    // The complete numbers.
     numbers: ArrayVec<u16, 256>,
+    // How many digits of the next one were read.
     digits: u8,
+    // The number that these digits are.
     value: u16,
+    // The last byte was in a comment.
     in_comment: bool,
 }
 
@@ -95,13 +98,13 @@ impl TableReader {
         }
     }
 
-    // Takes a byte, and answers whether it may occur there.
+    // Takes a byte. Returns whether it may occur there.
     fn byte(&mut self, byte: u8) -> bool
         ensures { taken result self.new ≡ reader_step number_step self.old byte }
     {
         self.in_comment = in_comment(self.in_comment, byte);
         if self.in_comment {
-            self.plain_byte(32)
+            self.plain_byte(b' ')
         } else {
             self.plain_byte(byte)
         }
@@ -113,7 +116,7 @@ impl TableReader {
         ensures behind { self.new.behind ≡ self.old.behind }
     {
         if is_digit(byte) {
-            return self.digit(byte - 48);
+            return self.digit(byte - b'0');
         }
         self.end_number();
         is_space(byte)
@@ -160,20 +163,20 @@ impl TableReader {
 fn is_digit(byte: u8) -> bool
     ensures { result ≡ is_digit byte }
 {
-    48 <= byte && byte <= 57
+    b'0' <= byte && byte <= b'9'
 }
 
 fn is_space(byte: u8) -> bool
     ensures { result ≡ is_space byte }
 {
-    byte == 32 || (byte == 9 || (byte == 10 || (byte == 12 || byte == 13)))
+    byte == b' ' || (byte == b'\t' || (byte == b'\n' || (byte == b'\x0c' || byte == b'\r')))
 }
 
 // Whether a byte is in a comment, which begins with # and goes on up to LF.
 fn in_comment(behind: bool, byte: u8) -> bool
     ensures { result ≡ in_comment behind byte }
 {
-    if behind { byte != 10 } else { byte == 35 }
+    if behind { byte != b'\n' } else { byte == b'#' }
 }
 
 // Whether this many numbers are one to four tables.

@@ -9,7 +9,7 @@ use crate::quality::{quality_scale, scaled_quantiser};
 use arrayvec::ArrayVec;
 use jpg_base::QuantTable;
 
-// Table K.1, in zigzag order.
+// Table K.1 (T.81, K.1), in zigzag order.
 static LUMINANCE: [u16; 64] = [
     16, 11, 12, 14, 12, 10, 16, 14, 13, 14, 18, 17, 16, 19, 24, 40, 26, 24, 22, 22, 24, 49, 35, 37,
     29, 40, 58, 51, 61, 60, 57, 51, 56, 55, 64, 72, 92, 78, 64, 68, 87, 69, 55, 56, 80, 109, 81,

@@ -1,4 +1,4 @@
-//! Complete files, written (T.81, B.2.1).
+//! Complete files, written (T.81, B.2.1, Figure B.2).
 ghost use Rattle.std.specs.Prelude.{◌≡◌, [], true};
 ghost use Rattle.jpg_spec.specs.Markers.{eoi};
 ghost use Rattle.jpg_huff.specs.BitOut.{CanSend, Sends};
@@ -21,13 +21,16 @@ use jpg_markers::{KeptList, OutHead, file_head};
 use jpg_scans::Script;
 use jpg_spec_write::Huffman;
 
-/// How a file is written: what its head is written from, the scans that it is written in, which Huffman tables they
-/// have, and where restart markers are in them.
+/// How a file is written.
 #[derive(Drop)]
 pub struct Plan {
+    /// What its head is written from.
     pub out: OutHead,
+    /// The scans that it is written in.
     pub script: Script,
+    /// Which Huffman tables they have.
     pub huffman: Huffman,
+    /// Where restart markers are in them.
     pub restart: Restart,
 }
 
@@ -35,10 +38,10 @@ pub struct Plan {
 /// entry of the script a DHT segment for each table that it needs and that isn't the last one of its class and slot, a
 /// DRI segment if its restart interval isn't the one before, the scan header, and the data of its scan; and EOI (T.81,
 /// B.2.1). If fitted tables are asked for, the slots have those that are made for the scan (K.2). Otherwise in a
-/// sequential file of precision 8 slot 0 has K.3 and K.5, slot 1 K.4 and K.6; in any other the slots have tables of codes
-/// of one length for what the scan writes. Components 2 and 3 of YCbCr and YCCK use slot 1. The blocks
-/// are those of the view, whose frame has the same precision and grids. It takes no memory. After WriteFault a first
-/// part of the file is written.
+/// sequential file of precision 8 slot 0 has K.3 and K.5, slot 1 K.4 and K.6; in any other the slots have tables of
+/// codes of one length for what the scan writes. Components 2 and 3 of YCbCr and YCCK use slot 1. The blocks are those
+/// of the view, whose frame has the same precision and grids. It takes no memory. After WriteFault a first part of the
+/// file is written.
 pub fn write_file<V: BlockView, D: Desk>(
     plan: &Plan,
     kept: &KeptList,

@@ -39,7 +39,7 @@ fn join(counts: &mut [u64; 257], members: &mut [(u16, u16); 257], first: u16, se
     join_members(members, first, second);
 }
 
-// Joins the groups of the two least counts. Answers whether there were two.
+// Joins the groups of the two least counts. Returns whether there were two.
 pub(crate) fn join_least(counts: &mut [u64; 257], members: &mut [(u16, u16); 257]) -> bool
     requires fits { sum counts.old < 2 ^ 63 }
     requires sizes { All (λ m. m.1 < 512) members.old }

@@ -1,4 +1,4 @@
-//! The table that is made for counts (T.81, Annex K.2).
+//! The table that is made for counts (T.81, Annex K.2, Figures K.1 to K.4).
 ghost use Rattle.std.specs.Prelude.{◌≡◌, ◌≤◌, nat_lt, take};
 ghost use Rattle.jpg_spec.specs.Lists.{any_of};
 ghost use Rattle.jpg_spec_fit.specs.Fitted.{fitted};
@@ -22,8 +22,8 @@ fn is_any_sent(counts: &[u32; 256]) -> bool
     false
 }
 
-// Puts the symbols that are sent in the order of their codes. Answers how many codes there are of each size, and how many
-// there are in all.
+// Puts the symbols that are sent in the order of their codes. Returns how many codes there are of each size, and how
+// many there are in all.
 fn put_symbols(counts: &[u32; 256], symbols: &mut [u8; 256]) -> ([u8; 16], u16)
     ensures parts { AreParts counts.now result.0 (take result.1 symbols.new) }
     ensures within { result.1 ≤ 256 }
@@ -38,7 +38,8 @@ fn put_symbols(counts: &[u32; 256], symbols: &mut [u8; 256]) -> ([u8; 16], u16)
 }
 
 /// The table for symbols that are sent as often as their counts say: codes of few bits for symbols that are often sent,
-/// at most 16 bits for any, and none for a symbol that isn't sent (T.81, Annex K.2). A table for counts of 0 has no codes.
+/// at most 16 bits for any, and none for a symbol that isn't sent (T.81, Annex K.2). A table for counts of 0 has no
+/// codes.
 pub fn fitted(counts: &[u32; 256]) -> Table
     ensures { table_of result ≡ fitted counts.now }
 {

@@ -29,7 +29,7 @@ HaveTables slots = (slot : ℕ) (table : HuffmanTable) → slice_get slots slot 
 abbrev pub AreApart : List Code → Type 0
 AreApart table = (a b : Code) (x y : List Bool) → Contains table a → Contains table b → a.0 ++ x ≡ b.0 ++ y → a ≡ b
 
--- bytes that are fed one by one, and the answers
+-- bytes that are fed one by one, and the results
 abbrev pub PassesAll : Bool → List ℕ → List Passed → Bool → Type 0
 PassesAll old [] answers new = (answers ≡ []) × (new ≡ old)
 PassesAll old (byte ∷ bytes) [] new = ⊥
@@ -39,7 +39,7 @@ PassesAll old (byte ∷ bytes) (answer ∷ answers) new = (mid : Bool) × Passes
 abbrev pub AtLast : Passed → List ℕ → List Passed → Type 0
 AtLast last bytes answers = answers ≡ replicate (length bytes - 1) More ++ last ∷ []
 
--- at the same bits one answer of a walk is right
+-- at the same bits one result of a walk is right
 abbrev pub HasOneAnswer : List Code → Type 0
 HasOneAnswer table = (bits new other : List Bool) (a b : WalkStep) → WalkAnswers table bits a new → WalkAnswers table bits b other → a ≡ b
 

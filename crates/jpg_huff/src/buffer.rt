@@ -1,4 +1,4 @@
-//! The buffer of bytes that wait to be written.
+//! The buffer of bytes that wait to be written, stuffed (T.81, F.1.2.3).
 ghost use Rattle.std.specs.Prelude.{◌≡◌, ◌≤◌, ◌<◌, ◌+◌, [], ◌∷◌, ◌++◌, length, false, true};
 ghost use Rattle.jpg_spec.specs.Bits.{bits_of, stuffed, stuffed_byte, whole_bytes};
 ghost use Rattle.jpg_huff.specs.Out.{Emits, OnlyWrites};
@@ -88,7 +88,7 @@ impl Buffer {
         self.used += 1;
     }
 
-    // Adds a byte, and 00 after FF.
+    // Adds a byte, and 00 after FF (T.81, F.1.2.3).
     #[inline(always)]
     fn add_stuffed(&mut self, byte: u8)
         requires { length self.old + 2 ≤ 4096 }

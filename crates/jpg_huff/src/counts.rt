@@ -1,4 +1,4 @@
-//! How often a scan sends each symbol, by the class and the slot of the table (T.81, F.1.2, G.1.2, K.2).
+//! How often a scan sends each symbol, by the class and the slot of the table: FREQ of T.81, K.2.
 ghost use Rattle.std.specs.Prelude.{◌≡◌, ◌<◌, ◌+◌, ◌==◌, ◌&&◌, if◌then◌else◌, [], ◌∷◌, ℕ};
 ghost use Rattle.jpg_huff.specs.Counts.{AreRows, AreCounts, Notes, capped, count_of, no_counts};
 

@@ -1,4 +1,4 @@
-//! What is written for symbols, and for small values after short runs of zeros (T.81, F.1.2).
+//! What is written for symbols (T.81, F.1.2.1), and for small values after short runs of zeros (F.1.2.2, Figure F.3).
 ghost use Rattle.std.specs.Prelude.{◌≡◌, ◌<◌, ◌≤◌, ◌+◌, ◌*◌, ◌^◌, ◌++◌, ◌≤ℤ◌, pos, negsuc, ◌+ℤ◌, ◌-ℤ◌};
 ghost use Rattle.jpg_spec.specs.Bits.{bits_of};
 ghost use Rattle.jpg_spec.specs.Numbers.{category as category_of, extra_bits as extra_of};
@@ -84,7 +84,7 @@ impl Encoder {
     }
 
     /// What is written for a value from -32 to 31 after fewer than 16 zeros: the first code of its symbol, if any, and
-    /// its extra bits (T.81, F.1.2.2). The answer is a number, and how many bits it has.
+    /// its extra bits (T.81, F.1.2.2). Returns them as a number, and how many bits it has.
     #[inline(always)]
     pub fn value(&self, run: u8, value: i16) -> (u32, u8)
         requires run { run < 16 }

@@ -1,4 +1,4 @@
-//! Tables of codes of one length.
+//! Tables of codes of one length (T.81, C.2).
 ghost use Rattle.std.specs.Prelude.{◌≡◌, ◌<◌, ◌≤◌, ◌+◌, ◌-◌, [], ◌∷◌, ◌++◌, if◌then◌else◌, length, take, replicate};
 ghost use Rattle.jpg_spec.specs.FlatTable.{flat_length_from, flat_table};
 ghost use Rattle.jpg_huff.specs.Tables.{table_of};
@@ -6,7 +6,7 @@ ghost use Rattle.jpg_huff.specs.Flat.{symbols_in};
 
 use crate::{Table, Typical, typical};
 
-// Adds a symbol to the first ones, if it is sent. Answers how many there are then.
+// Adds a symbol to the first ones, if it is sent. Returns how many there are then.
 fn keep(is_sent: bool, symbol: u8, symbols: &mut [u8; 256], count: u16) -> u16
     requires { count < 256 }
     ensures kept { take result symbols.new ≡ take count symbols.old ++ (if is_sent then symbol ∷ [] else []) }
@@ -20,7 +20,7 @@ fn keep(is_sent: bool, symbol: u8, symbols: &mut [u8; 256], count: u16) -> u16
     }
 }
 
-// Puts the symbols that are sent at the start of the list, and answers how many they are.
+// Puts the symbols that are sent at the start of the list. Returns how many they are.
 fn gather(counts: &[u32; 256], symbols: &mut [u8; 256]) -> u16
     ensures kept { take result symbols.new ≡ symbols_in counts.now }
     ensures most { result ≤ 256 }
@@ -56,7 +56,7 @@ fn flat_counts(count: u8) -> [u8; 16]
 }
 
 /// The table of the symbols whose count isn't 0, at most 255, in ascending order with codes of one length: the least of
-/// which there are more codes than symbols, since none may be all ones (T.81, Annex C).
+/// which there are more codes than symbols, since none may be all ones (T.81, Annex C, C.2).
 pub fn flat(counts: &[u32; 256]) -> Table
     requires { length (symbols_in counts.now) ≤ 255 }
     ensures { table_of result ≡ flat_table (symbols_in counts.now) }

@@ -1,4 +1,4 @@
-//! Data bytes and markers, separated by destuffing (T.81, B.1.1.5).
+//! Data bytes and markers, separated by destuffing (T.81, B.1.1.5, F.1.2.3; F.2.2.5, Figure F.18).
 ghost use Rattle.std.specs.Prelude.{◌≡◌, false};
 ghost use Rattle.jpg_huff.specs.Gate.{Passes};
 

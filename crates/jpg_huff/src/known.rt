@@ -1,4 +1,4 @@
-//! The typical tables of T.81, Annex K.3.
+//! The typical tables of T.81, K.3: K.3.1 for DC, K.3.2 for AC.
 ghost use Rattle.std.specs.Prelude.{◌≡◌};
 ghost use Rattle.jpg_huff.specs.Tables.{table_of, symbol_codes};
 ghost use Rattle.jpg_huff.specs.Typical.{annex_table, typical_codes};

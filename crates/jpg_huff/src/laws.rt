@@ -27,7 +27,7 @@ pub fn tables_are_apart()
     ensures { (t : Table) → AreApart (symbol_codes t) }
 {}
 
-/// At the same bits of a table a walk has one right answer, so it answers More exactly if the bits are a proper prefix
+/// At the same bits of a table a walk has one right result, so it returns More exactly if the bits are a proper prefix
 /// of a code, and NoCode exactly if they are a prefix of none.
 pub fn one_answer()
     ensures { (t : Table) → HasOneAnswer (symbol_codes t) }

@@ -1,4 +1,4 @@
-//! Codes of up to eight bits looked up at once, and the code that bits begin with (T.81, F.2.2.3).
+//! Codes of up to eight bits looked up at once, and the code that bits begin with: DECODE (T.81, F.2.2.3, Figure F.16).
 ghost use Rattle.std.specs.Prelude.{◌≡◌, ◌<◌, ◌≤◌, List, length, Contains, true};
 ghost use Rattle.jpg_spec.specs.Parts.{BeginsCode};
 ghost use Rattle.jpg_spec.specs.Codes.{Code};
@@ -113,7 +113,7 @@ impl Decoder {
         }
     }
 
-    // The answer of `spot`, found bit by bit.
+    // The result of `spot`, found bit by bit.
     #[cold]
     #[inline(never)]
     fn walked(&self, bits: &BitStore) -> Spotted
@@ -133,7 +133,7 @@ impl Decoder {
         Spotted::Part
     }
 
-    // The answer of `spot` for at least sixteen bits; longer codes than eight bits are found by their numbers.
+    // `spot` for at least sixteen bits; longer codes than eight bits are found by their numbers.
     #[cold]
     #[inline(never)]
     fn long(&self, bits: &BitStore) -> Spotted
@@ -164,7 +164,7 @@ impl Decoder {
         let _ = &self.look;
     }
 
-    /// Which code these bits begin with.
+    /// Which code these bits begin with (T.81, F.2.2.3, Figure F.16).
     #[inline(always)]
     pub fn spot(&self, bits: &BitStore) -> Spotted
         ensures { Spots self.now bits.now result }
@@ -183,7 +183,7 @@ impl Decoder {
         }
     }
 
-    // Whether a longer code begins with these few bits. If the answer is no, a walk decides.
+    // Whether a longer code begins with these few bits. Where this is false, a walk decides.
     fn begins(&self, number: u32, length: u8) -> bool
         requires some { 1 ≤ length }
         requires few { length < 8 }
@@ -194,7 +194,7 @@ impl Decoder {
         behind <= number && number < self.table.limits[at]
     }
 
-    // The answer of `spot` where the bits don't begin with a complete code.
+    // `spot` for bits that are only the start of a code, or begin none (T.81, F.2.2.3).
     fn front(&self, bits: &BitStore, have: u8, number: u32) -> Spotted
         requires few { (have ≡ length bits.now) × (have < 8) }
         requires number { bits_of have number ≡ bits.now }
@@ -209,7 +209,7 @@ impl Decoder {
         }
     }
 
-    // The answer of `spot` for fewer than eight bits.
+    // `spot` for fewer than eight bits.
     #[inline(always)]
     fn few(&self, bits: &BitStore) -> Spotted
         requires { length bits.now < 8 }

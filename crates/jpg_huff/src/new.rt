@@ -1,4 +1,4 @@
-//! A table from its counts and symbols: the arrays of a table are built here.
+//! A table from its counts and symbols (T.81, C.2): the arrays of a table are built here.
 ghost use Rattle.std.specs.Prelude.{◌≡◌, ◌<◌, ◌≤◌, ◌+◌, ◌^◌, true, false, IfSome, IfNone, [], ◌∷◌, length, sum, take, replicate};
 ghost use Rattle.jpg_spec.specs.Bits.{bits_of};
 ghost use Rattle.jpg_spec.specs.Codes.{are_codes, codes, codes_at};
@@ -22,7 +22,7 @@ pub enum TableFault {
 impl Table {
     /// The table with these counts of codes by length, from 1 to 16, for the first of the values in their order (T.81,
     /// B.2.4.2 and Annex C). Later values are ignored. A symbol may occur twice, and a table may have no codes. Of
-    /// several faults the first in the order of the variants is answered.
+    /// several faults it returns the first in the order of the variants.
     pub fn new(bits: &[u8; 16], values: &[u8]) -> Result<Table, TableFault>
         ensures { IsNewTable bits.now values.now result }
     {
@@ -32,7 +32,7 @@ impl Table {
         }
     }
 
-    // The same where the counts and values are right.
+    // The table with these counts, for the first of the values, where both are right.
     pub(crate) fn of_right(bits: &[u8; 16], values: &[u8]) -> Table
         requires { AreRight bits.now values.now }
         ensures { table_of result ≡ table_from bits.now values.now }
@@ -84,7 +84,8 @@ pub(crate) fn count_all(bits: &[u8; 16]) -> u16
     total
 }
 
-// The first number of each length; None where a code doesn't fit its length or is all ones.
+// The first number of each length (T.81, C.2, Figures C.1 and C.2); None where a code doesn't fit its length or is all
+// ones.
 fn number_firsts(bits: &[u8; 16]) -> Option<[u32; 16]>
     ensures firsts { IfSome result (λ firsts. AreFirsts bits.now firsts) }
     ensures right { IfSome result (λ firsts. are_codes 1 0 bits.now ≡ true) }
@@ -119,7 +120,7 @@ fn count_shorter(bits: &[u8; 16]) -> [u16; 16]
 }
 
 // By length, how many strings of that length begin a code of that length or of a longer one, or are before its first
-// number; computed from the longest length on.
+// number; computed from the longest length on. With `firsts` and `starts` this is what Figure F.15 of T.81 prepares.
 fn find_limits(bits: &[u8; 16], firsts: &[u32; 16]) -> [u32; 16]
     requires { AreFirsts bits.now firsts.now }
     ensures { AreCodeLimits bits.now firsts.now result }
@@ -147,7 +148,7 @@ pub(crate) fn keep_symbols(values: &[u8]) -> [u8; 256]
     symbols
 }
 
-// What is written for each symbol.
+// What is written for each symbol: EHUFCO and EHUFSI (T.81, C.2, Figure C.3).
 fn encode(
     bits: &[u8; 16],
     symbols: &[u8; 256],
@@ -173,7 +174,7 @@ fn no_entries() -> [u32; 256]
     [0; 256]
 }
 
-// Adds the codes of one length in bits, numbered from `first` on.
+// Adds the codes of one length in bits, numbered from `first` on (T.81, Figures C.2 and C.3).
 fn add_level(encoder: &mut [u32; 256], symbols: &[u8], size: u32, first: u32)
     requires length { (1 ≤ size) × (size ≤ 16) }
     requires fits { first + length symbols.now < 2 ^ size }

@@ -1,5 +1,5 @@
-//! A number's category and its extra bits (T.81, F.1.2.1, F.1.2.2), and the number that these encode (F.2.2.1, Figure
-//! F.12).
+//! A number's category and its extra bits (T.81, F.1.2.1 and F.1.2.2, Tables F.1 and F.2), and the number that these
+//! encode (F.2.2.1, Figure F.12).
 ghost use Rattle.std.specs.Prelude.{◌≡◌, ◌≤◌, ◌<◌, ◌^◌, nat_abs, pos, ◌-ℤ◌};
 ghost use Rattle.jpg_spec.specs.Bits.{bits_of};
 ghost use Rattle.jpg_spec.specs.Numbers.{digits, category as category_of, extra_bits as extra_of};
@@ -12,7 +12,7 @@ fn binary_digits(magnitude: u32) -> u8
     (32 - magnitude.leading_zeros()) as u8
 }
 
-/// The category: the number of binary digits of the magnitude, 0 to 32.
+/// The category: the number of binary digits of the magnitude, 0 to 32 (T.81, Tables F.1 and F.2).
 pub fn category(value: i32) -> u8
     ensures category { result ≡ category_of value }
     ensures fits { result ≤ 32 }
@@ -20,7 +20,7 @@ pub fn category(value: i32) -> u8
     binary_digits(value.unsigned_abs())
 }
 
-/// The extra bits, as a number of as many bits as the category.
+/// The extra bits, as a number of as many bits as the category (T.81, F.1.2.1).
 pub fn extra_bits(value: i32) -> u32
     ensures extra { bits_of (category_of value) result ≡ extra_of value }
     ensures fits { result < 2 ^ category_of value }
@@ -40,7 +40,8 @@ fn lowered(number: u32, less: u32) -> i16
     number as i16 - less as i16
 }
 
-/// The number of this category, 0 to 15, that has these extra bits, given as a number of as many bits.
+/// EXTEND (T.81, F.2.2.1, Figure F.12): the number of this category, 0 to 15, that has these extra bits, given as a
+/// number of as many bits.
 pub fn extend(size: u8, bits: u32) -> i16
     requires size { size ≤ 15 }
     requires bits { bits < 2 ^ size }

@@ -1,4 +1,4 @@
-//! Bits written as stuffed bytes.
+//! Bits written as stuffed bytes (T.81, C.3, F.1.2.3).
 ghost use Rattle.std.specs.Prelude.{◌≡◌, ◌≤◌, ◌<◌, ◌+◌, ◌-◌, ◌^◌, [], ◌++◌, true};
 ghost use Rattle.jpg_spec.specs.Bits.{bits_of};
 ghost use Rattle.jpg_huff.specs.BitOut.{CanSend, Puts, PutsAfter, PutsInto, Pads, Sends, nothing_waits, waiting, holding};
@@ -59,7 +59,7 @@ impl PendingBits {
         }
     }
 
-    // Adds a number below `2^count` as `count` bits, and answers the bits that wait then.
+    // Adds a number below `2^count` as `count` bits. Returns the bits that wait then.
     #[inline(always)]
     fn put<D: Desk>(
         self,
@@ -160,8 +160,8 @@ impl BitOut {
         self.held = held;
     }
 
-    /// Adds a number below `2^count` as `count` bits, 0 to 32, the most significant first, after the bits in `held`,
-    /// and answers those that wait then. No bits wait here, neither before nor afterwards. WriteFault is as in `put`.
+    /// Adds a number below `2^count` as `count` bits, 0 to 32, the most significant first, after the bits in `held`.
+    /// Returns those that wait then. No bits wait here, neither before nor afterwards. WriteFault is as in `put`.
     #[inline(always)]
     pub fn put_after<D: Desk>(
         &mut self,
@@ -181,8 +181,8 @@ impl BitOut {
     }
 
     /// Adds a number below `2^count` as `count` bits, 0 to 32, the most significant first. Each byte FF that is written
-    /// is followed by 00 (T.81, B.1.1.5). After WriteFault a first part of the pending bytes is written, and nothing
-    /// waits.
+    /// is followed by 00 (T.81, B.1.1.5, F.1.2.3). After WriteFault a first part of the pending bytes is written, and
+    /// nothing waits.
     #[inline(always)]
     pub fn put<D: Desk>(&mut self, bits: u32, count: u8, desk: &mut D) -> Result<(), WriteFault>
         requires created { (D.state desk.old).output_created ≡ true }
@@ -201,7 +201,7 @@ impl BitOut {
     }
 
     /// Adds a code, or no bits if its length is 0, and then a number below `2^size` as `size` bits, 0 to 16, the most
-    /// significant first, after the bits in `held`, and answers those that wait then. All else is as in `put_after`.
+    /// significant first, after the bits in `held`. Returns those that wait then. All else is as in `put_after`.
     #[inline(always)]
     pub fn put_code_after<D: Desk>(
         &mut self,

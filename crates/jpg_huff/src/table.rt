@@ -1,5 +1,5 @@
-//! A Huffman table. In addition to its counts and symbols it has what a walk needs for each length, and what is written
-//! for each symbol.
+//! A Huffman table (T.81, Annex C). In addition to its counts and symbols it has what a walk needs for each length
+//! (F.2.2.3, Figure F.15), and what is written for each symbol (Figure C.3).
 ghost use Rattle.std.specs.Prelude.{◌≡◌, ◌<◌, ◌≤◌, ◌-◌, ◌^◌, length, sum, take};
 ghost use Rattle.jpg_spec.specs.Codes.{codes};
 ghost use Rattle.jpg_huff.specs.Index.{IsIndexed, IsEncoder};

@@ -1,4 +1,4 @@
-//! The walk from bits to symbols, bit by bit (T.81, F.2.2.3).
+//! The walk from bits to symbols, bit by bit: DECODE (T.81, F.2.2.3, Figure F.16).
 ghost use Rattle.std.specs.Prelude.{◌≡◌, [], ◌∷◌, ◌++◌};
 ghost use Rattle.jpg_huff.specs.Walk.{WalkAnswers};
 ghost use Rattle.jpg_huff.specs.Tables.{symbol_codes};
@@ -43,7 +43,7 @@ impl Walk {
         }
     }
 
-    /// Takes one more bit. After a symbol, and where no code begins with the bits, none are kept.
+    /// Takes one more bit (T.81, Figure F.16). After a symbol, and where no code begins with the bits, none are kept.
     pub fn bit(&mut self, table: &Table, bit: bool) -> WalkStep
         ensures { WalkAnswers (symbol_codes table.now) (self.old ++ bit ∷ []) result self.new }
     {

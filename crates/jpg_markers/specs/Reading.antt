@@ -114,18 +114,18 @@ Goes bytes before (Ok s) r = Comes bytes before (Ok s) r
 Goes bytes before (Err (halt.Fault f)) r = Reaches (kept_rule r.limits) bytes (at_fault f) × RevealsAfter (kept_rule r.limits) before f bytes
 Goes bytes before (Err halt.NoMemory) r = Unit {0}
 
--- For all bytes that a reader was given, its answer is the result of these and further ones.
+-- For all bytes that a reader was given, its result is that of these and further ones.
 abbrev pub ComesWith : Reading → List ℕ → Result SegStep Stop → Reading → Type 0
 ComesWith old more answer new = (bytes : List ℕ) (before : List Segment) → RepresentsSegments bytes before old → Comes (bytes ++ more) before answer new
 
 abbrev pub GoesWith : Reading → List ℕ → Result SegStep Halt → Reading → Type 0
 GoesWith old more answer new = (bytes : List ℕ) (before : List Segment) → RepresentsSegments bytes before old → Goes (bytes ++ more) before answer new
 
--- Where a segment is complete, the answer is the result of the bytes.
+-- Where a segment is complete, the result is that of the bytes.
 abbrev pub GoesWhole : Reading → Result SegStep Halt → Reading → Type 0
 GoesWhole old answer new = (bytes : List ℕ) (before : List Segment) → old.stop ≡ None → HasWholeSegment bytes before old → Goes bytes before answer new
 
--- the last answer was Whole for an SOS segment
+-- the last result was Whole for an SOS segment
 abbrev pub IsAfterScan : Reading → Type 0
 IsAfterScan r = (r.stop ≡ None) × (r.phase ≡ phase.Between) × (r.code ≡ 0xda)
 
@@ -138,7 +138,7 @@ AfterWhole (Ok step.Eoi) r = Unit {0}
 AfterWhole (Ok step.Whole) r = r.phase ≡ phase.Between
 AfterWhole (Err e) r = Unit {0}
 
--- an answer other than NoMemory
+-- a result other than NoMemory
 abbrev pub HasMemory : Result SegStep Stop → Type 0
 HasMemory (Ok s) = Unit {0}
 HasMemory (Err (stop.Fault f)) = Unit {0}
@@ -195,7 +195,7 @@ abbrev pub Continues : Reading → List ℕ → Result ℕ NoMemory → Reading 
 Continues old bytes (Ok n) new = (n ≡ due_of old.phase old.left bytes) × (new ≡ continued old.phase old (take n bytes))
 Continues old bytes (Err e) new = new ≡ old
 
--- For all bytes that it was given before, it was given these and those that were taken, as if `byte` had answered More
+-- For all bytes that it was given before, it was given these and those that were taken, as if `byte` had returned More
 -- to each.
 abbrev pub PassesBytes : Reading → List ℕ → Reading → Type 0
 PassesBytes old more new = (bytes : List ℕ) (before : List Segment) → RepresentsSegments bytes before old → RepresentsSegments (bytes ++ more) before new

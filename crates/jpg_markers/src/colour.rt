@@ -57,5 +57,5 @@ fn has_letters(frame: &Frame) -> bool
     requires { length frame.now.components ≡ 3 }
     ensures { result ≡ are_equal (identifiers frame.now.components) (82 ∷ 71 ∷ 66 ∷ []) }
 {
-    frame.component(0).id == 82 && frame.component(1).id == 71 && frame.component(2).id == 66
+    frame.component(0).id == b'R' && frame.component(1).id == b'G' && frame.component(2).id == b'B'
 }

@@ -1,4 +1,4 @@
-//! The frame header, parsed (T.81, B.2.2).
+//! The frame header, parsed (T.81, B.2.2, Figure B.3).
 ghost use Rattle.std.specs.Prelude.{◌≡◌, ◌≤◌, length};
 ghost use Rattle.jpg_spec.specs.FrameHeader.{AreLimits};
 ghost use Rattle.jpg_spec.specs.FrameContents.{parsed_components, frame_header};

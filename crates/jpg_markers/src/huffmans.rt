@@ -1,4 +1,4 @@
-//! Huffman tables, parsed (T.81, B.2.4.2).
+//! Huffman tables, parsed (T.81, B.2.4.2, Figure B.7).
 ghost use Rattle.std.specs.Prelude.{◌≡◌, ◌%◌, ◌<◌, Ok, Err, drop, IfOk, IfErr};
 ghost use Rattle.jpg_spec.specs.HuffContents.{definition_size, huffman_table_of, parsed_huffmans, put_definition};
 ghost use Rattle.jpg_huff.specs.Definitions.{definitions_of};
@@ -17,7 +17,7 @@ struct Definition<'a> {
 }
 
 /// Puts the tables of a segment's contents into their slots, where a later one replaces an earlier one of its slot, or
-/// answers the first fault of the contents and changes no table. Each table is judged in this order: BadHuffman (its
+/// returns the first fault of the contents and changes no table. Each table is judged in this order: BadHuffman (its
 /// class above 1 or its slot above 3), BadLength (fewer than 16 counts), BadHuffman (more than 256 codes), BadLength
 /// (the segment ends inside its values), BadHuffman (a code doesn't fit its length, or is all ones) (T.81, B.2.4.2 and
 /// Annex C). It takes no memory.

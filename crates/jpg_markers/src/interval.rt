@@ -1,4 +1,4 @@
-//! The restart interval, parsed (T.81, B.2.4.4).
+//! The restart interval, parsed (T.81, B.2.4.4, Figure B.9).
 ghost use Rattle.std.specs.Prelude.{◌≡◌};
 ghost use Rattle.jpg_spec.specs.ScanContents.{restart_interval};
 

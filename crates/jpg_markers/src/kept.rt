@@ -1,4 +1,4 @@
-//! The markers of a file that are kept (T.81, B.2.4.5, B.2.4.6).
+//! The markers of a file that are kept (T.81, B.2.4.5, Figure B.10; B.2.4.6, Figure B.11).
 ghost use Rattle.std.specs.Prelude.{◌≡◌, ◌≤◌, ◌<◌, [], ◌∷◌, ◌++◌, length, slice_get, Some, IfSome, IfNone, OnOk, OnErr};
 ghost use Rattle.jpg_spec_write.specs.FileText.{segment_text};
 ghost use Rattle.jpg_markers.specs.Kept.{AreSegments, IsKeptSegment, kept_pair, segments_of};

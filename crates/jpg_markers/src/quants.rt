@@ -1,4 +1,4 @@
-//! Quantisation tables, parsed (T.81, B.2.4.1).
+//! Quantisation tables, parsed (T.81, B.2.4.1, Figure B.6).
 ghost use Rattle.std.specs.Prelude.{◌≡◌, ◌<◌, ◌≤◌, Some, Ok, Err, length, slice_set, drop, IfOk, IfErr};
 ghost use Rattle.std.specs.Option.{option_map};
 ghost use Rattle.jpg_spec.specs.Lists.{any_of};
@@ -56,7 +56,7 @@ impl QuantSet {
 }
 
 /// Puts the tables of a segment's contents into their slots, where a later one replaces an earlier one of its slot, or
-/// answers the first fault of the contents and changes no table. Each table is judged in this order: BadQuant (its
+/// returns the first fault of the contents and changes no table. Each table is judged in this order: BadQuant (its
 /// precision above 1 or its slot above 3), BadLength (the segment ends inside it), BadQuant (a quantiser 0) (T.81,
 /// B.2.4.1). It takes no memory.
 pub fn read_dqt(contents: &[u8], quants: &mut QuantSet) -> Result<(), Fault>

@@ -1,4 +1,4 @@
-//! The scan header, parsed (T.81, B.2.3, G.1.1.1).
+//! The scan header, parsed (T.81, B.2.3, Figure B.4; G.1.1.1).
 ghost use Rattle.std.specs.Prelude.{◌≡◌, ◌*◌, ◌<◌, ◌≤◌, not, length, map, All, ℕ, List, Ok};
 ghost use Rattle.jpg_spec.specs.Geometry.{Frame as Numbers};
 ghost use Rattle.jpg_spec.specs.Segments.{ScanHead as Head};

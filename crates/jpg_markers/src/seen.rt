@@ -1,4 +1,4 @@
-//! What is remembered of segments for those after them (T.81, B.1.1, Table B.1).
+//! What is remembered of segments for those after them, and which codes may follow (T.81, B.1.1.3, Table B.1).
 ghost use Rattle.std.specs.Prelude.{◌≡◌, ◌||◌, ◌==◌, [], true, false};
 ghost use Rattle.jpg_spec.specs.Jfif.{begins_jfif, begins_adobe};
 ghost use Rattle.jpg_spec.specs.Markers.{code_fault_if, is_frame_code, is_kept_if, is_plain_adobe, is_plain_jfif, is_unexpected, is_unsupported, counted_size};
@@ -9,14 +9,18 @@ use crate::app::{begins_adobe, begins_jfif, is_adobe, is_jfif};
 use jpg_base::codes::{APP0, APP15, COM, EOI, RST0, SOF0, SOF2, SOI, SOS};
 use jpg_spec::Fault;
 
-/// What is remembered of the complete segments so far: whether a frame header, a scan header, a JFIF header of 14 bytes
-/// and an Adobe segment of 12 were among them, and how many bytes of kept markers may follow.
+/// What is remembered of the complete segments so far.
 #[derive(Clone, Copy, Debug, PartialEq, Eq)]
 pub struct Seen {
+    /// A frame header was among them.
     pub framed: bool,
+    /// A scan header was.
     pub scanned: bool,
+    /// A JFIF header of 14 bytes was.
     pub jfif: bool,
+    /// An Adobe segment of 12 bytes was.
     pub adobe: bool,
+    /// How many bytes of kept markers may follow.
     pub free: u64,
 }
 
@@ -64,7 +68,7 @@ fn either(a: bool, b: bool) -> bool
     a || b
 }
 
-/// Why a code may not occur here, by whether a frame header was seen (T.81, Table B.1).
+/// Why a code may not occur here, by whether a frame header was seen (T.81, B.1.1.3, Table B.1).
 pub fn code_fault(framed: bool, code: u8) -> Option<Fault>
     ensures { result ≡ code_fault_if framed code }
 {
@@ -95,7 +99,7 @@ fn is_unexpected(code: u8) -> bool
     0x01 <= code && code <= 0xbf || (RST0 <= code && code <= SOI || 0xf0 <= code && code <= 0xfd)
 }
 
-// SOF3, SOF5 to SOF15 with JPG and DAC among them, DNL, DHP and EXP.
+// SOF3, SOF5 to SOF15 with JPG and DAC (B.2.4.3) among them, DNL (B.2.5), DHP and EXP.
 fn is_unsupported(code: u8) -> bool
     ensures { result ≡ is_unsupported code }
 {

@@ -1,4 +1,4 @@
-//! The segments of a file, read byte by byte (T.81, B.1.1).
+//! The segments of a file, read byte by byte (T.81, B.1.1.2, B.1.1.4).
 ghost use Rattle.std.specs.Prelude.{◌≡◌, ◌≤◌, ◌<◌, ◌+◌, ℕ, List, [], ◌∷◌, length, None, Some, Ok, Err, IfOk, IfErr, true};
 ghost use Rattle.jpg_spec.specs.FrameHeader.{AreLimits};
 ghost use Rattle.jpg_spec.specs.Markers.{Segment};
@@ -54,14 +54,23 @@ const LONGEST: usize = 65533;
 /// kept, but not contents. Scan data aren't given to it.
 #[derive(Drop)]
 pub struct SegmentReader {
+    // The limits of the input.
     limits: Limits,
+    // How many bytes of the input were taken, those of scan data among them.
     taken: u64,
+    // Where the next byte is.
     phase: Phase,
+    // The code of the last marker.
     code: u8,
+    // The first byte of the length.
     high: u8,
+    // How many bytes of the contents are expected.
     left: u16,
+    // The contents so far.
     contents: Vec<u8>,
+    // What is remembered of the segments before.
     seen: Seen,
+    // Why the reader stopped, if it did.
     stop: Option<Stop>,
 }
 
@@ -86,12 +95,12 @@ impl SegmentReader {
         }
     }
 
-    /// Takes a byte outside scan data. The answer is that of all bytes so far: Start after SOI, Frame after the marker
+    /// Takes a byte outside scan data. Returns the result of all bytes so far: Start after SOI, Frame after the marker
     /// of a frame header (SOF0, SOF1 or SOF2), Eoi after EOI, Whole with a segment's last byte, More if it is none of
-    /// these, and otherwise their fault, at the number of bytes taken: NotJpeg, NoMarker, UnexpectedMarker,
-    /// UnsupportedProcess, SecondFrame, SosBeforeSof, BadLength (a length below 2) or MarkersTooLarge. NoMemory is
-    /// answered if there is none for the contents, but not after `reserve`. After a stop it answers the same stop.
-    /// After EOI its answer is unspecified.
+    /// these; otherwise their fault, at the number of bytes taken: NotJpeg, NoMarker, UnexpectedMarker,
+    /// UnsupportedProcess, SecondFrame, SosBeforeSof, BadLength (a length below 2) or MarkersTooLarge; or NoMemory if
+    /// there is none for the contents, but not after `reserve`. After a stop it returns the same stop. What it returns
+    /// after EOI is unspecified.
     pub fn byte(&mut self, byte: u8) -> Result<SegStep, Stop>
         requires { (reading_of self.old).taken < (reading_of self.old).limits.input }
         ensures answered { ComesWith (reading_of self.old) (byte ∷ []) result (reading_of self.new) }
@@ -115,7 +124,7 @@ impl SegmentReader {
     }
 
     /// Takes the marker that ended scan data, as if `byte` were given FF and its code, which is byte number `at` of the
-    /// input. The last answer was Whole, for SOS.
+    /// input. The last result was Whole, for SOS.
     pub fn marker(&mut self, code: u8, at: u64) -> Result<SegStep, Stop>
         requires behind { IsAfterScan (reading_of self.old) }
         requires later { (reading_of self.old).taken + 2 ≤ at }
@@ -134,9 +143,9 @@ impl SegmentReader {
         self.answer(next)
     }
 
-    /// Takes bytes from the start of these that only continue what is there, and answers how many they were: fill bytes
-    /// after FF, or contents of the current segment, as many as are expected before its last byte, and otherwise none.
-    /// It is as if `byte` were given them one by one, and answered More to each. If there is no memory, nothing has
+    /// Takes bytes from the start of these that only continue what is there: fill bytes after FF, or contents of the
+    /// current segment, as many as are expected before its last byte, and otherwise none. Returns how many they were.
+    /// It is as if `byte` were given them one by one, and returned More for each. If there is no memory, nothing has
     /// changed.
     pub fn stretch(&mut self, bytes: &[u8]) -> Result<usize, NoMemory>
         requires { (reading_of self.old).taken + length bytes.now ≤ (reading_of self.old).limits.input }
@@ -179,7 +188,7 @@ impl SegmentReader {
         }
     }
 
-    // Takes the fill bytes at the start of these, and answers how many they were.
+    // Takes the fill bytes at the start of these. Returns how many they were.
     fn take_fill(&mut self, bytes: &[u8]) -> usize
         requires inside { (reading_of self.old).phase ≡ phase.Fill }
         requires room { (reading_of self.old).taken + length bytes.now ≤ (reading_of self.old).limits.input }
@@ -195,8 +204,8 @@ impl SegmentReader {
         n
     }
 
-    /// Whether this segment may follow: the reader is between segments, the segment's code may occur here and isn't EOI,
-    /// and the kept markers are within their limit with it.
+    /// Whether this segment may follow: the reader is between segments, the segment's code may occur here and isn't
+    /// EOI, and the kept markers are within their limit with it.
     pub fn allows(&self, segment: &WholeSegment<'_>) -> bool
         ensures { result ≡ true → MayFollow (reading_of self.now) segment.now.code segment.now.contents.now }
     {
@@ -231,7 +240,7 @@ impl SegmentReader {
         self.taken += segment.length as u64;
     }
 
-    /// Makes room for the contents of one segment of any length. It changes nothing else, and after Ok no call answers
+    /// Makes room for the contents of one segment of any length. It changes nothing else, and after Ok no call returns
     /// NoMemory.
     pub fn reserve(&mut self) -> Result<(), NoMemory>
         ensures same { reading_of self.new ≡ reading_of self.old }
@@ -245,14 +254,14 @@ impl SegmentReader {
         }
     }
 
-    /// The code of the last complete segment, where Whole was the last answer.
+    /// The code of the last complete segment, where Whole was the last result.
     pub fn code(&self) -> u8
         ensures { result ≡ (reading_of self.now).code }
     {
         self.code
     }
 
-    /// The contents of the last complete segment, where Whole was the last answer: at most 65,533 bytes.
+    /// The contents of the last complete segment, where Whole was the last result: at most 65,533 bytes.
     pub fn contents(&self) -> &[u8]
         ensures { result.now ≡ (reading_of self.now).contents }
     {
@@ -266,7 +275,7 @@ impl SegmentReader {
         self.taken
     }
 
-    // Keeps a halt as the stop that all later calls answer.
+    // Keeps a halt as the stop that all later calls return.
     fn answer(&mut self, next: Result<SegStep, Halt>) -> Result<SegStep, Stop>
         requires { (reading_of self.old).stop ≡ None }
         ensures goes { (bytes : List ℕ) (before : List Segment) → Goes bytes before next (reading_of self.old) → Comes bytes before result (reading_of self.new) }
@@ -357,7 +366,7 @@ impl SegmentReader {
         Ok(SegStep::More)
     }
 
-    // A byte after FF: a further fill byte, or a marker's code.
+    // A byte after FF: a further fill byte, or a marker's code (T.81, B.1.1.2).
     fn code_byte(&mut self, code: u8) -> Result<SegStep, Halt>
         requires { (reading_of self.old).phase ≡ phase.Fill }
         ensures goes { GoesWith (reading_of self.old) (code ∷ []) result (reading_of self.new) }
@@ -400,7 +409,7 @@ impl SegmentReader {
         Ok(SegStep::More)
     }
 
-    // The second byte of a length, which counts itself.
+    // The second byte of a length, which counts itself (T.81, B.1.1.4).
     fn low_byte(&mut self, byte: u8) -> Result<SegStep, Halt>
         requires { (reading_of self.old).phase ≡ phase.HalfLength }
         ensures goes { GoesWith (reading_of self.old) (byte ∷ []) result (reading_of self.new) }

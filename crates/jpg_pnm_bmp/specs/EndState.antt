@@ -58,7 +58,7 @@ pub record CanFinish (e : EndState) : Type 0 where
   pub all : e.taken ≡ (info_of e).height
   pub before : e.done ≡ false
 
--- WHAT THEY DO. Without memory all remains as it was. `row` and `finish` answer NoMemory only if they have something to
+-- WHAT THEY DO. Without memory all remains as it was. `row` and `finish` return NoMemory only if they have something to
 -- append, so that something of the text is left then.
 
 abbrev pub started : EndState → ImageInfo → EndState

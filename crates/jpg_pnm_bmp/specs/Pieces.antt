@@ -27,7 +27,7 @@ AfterImageRead bytes piece (Err stop.NoMemory) w image = Unit {0}
 abbrev pub AfterImagePiece : List ℕ → List ℕ → Result Fed2 Stop → Work → Type 0
 AfterImagePiece bytes piece answer w = AfterImageRead bytes piece answer w (image_told w)
 
--- The answer where the input ends, for all limits that the bytes are below.
+-- The result where the input ends, for all limits that the bytes are below.
 abbrev pub EndsImage : List ℕ → Result (Unit {0}) Stop → Image → Type 0
 EndsImage bytes (Ok u) image = (limits : Limits) → length bytes < limits.input → IsImage limits bytes image
 EndsImage bytes (Err (stop.Fault f)) image = (limits : Limits) → length bytes < limits.input → IsImageFault limits bytes f.fault f.at

@@ -33,7 +33,7 @@ is_image_read r = r.done
 abbrev pub HasFedImage : List ℕ → PixelReader → Type 0
 HasFedImage bytes r = (r.stop ≡ None) × (r.done ≡ false) × AreBytes bytes × HasRead bytes r.taken r.work
 
--- THE ANSWER to a piece that is fed, by all bytes so far; where more is needed, these were fed then
+-- THE RESULT of a piece that is fed, by all bytes so far; where more is needed, these were fed then
 abbrev pub AfterFeed : List ℕ → List ℕ → Result Fed2 Stop → PixelReader → Type 0
 AfterFeed bytes piece (Ok fed.More) r = HasFedImage (bytes ++ piece) r
 AfterFeed bytes piece (Ok fed.Done) r = AfterImageRead bytes piece (Ok fed.Done) r.work (image_read r)

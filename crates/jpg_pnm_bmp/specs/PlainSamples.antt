@@ -39,14 +39,14 @@ pub record AreRightNumbers (info : ImageInfo) : Type 0 where
 abbrev pub plain_image : ImageInfo → List ℕ → Image
 plain_image info given = record { info = info; samples = take (sample_count info) given }
 
--- A piece has the rest of its samples: the bytes are a file of its image, whatever follows, for all limits that they are
--- within, and the image is right.
+-- A piece has the rest of its samples: the bytes are a file of its image, whatever follows, for all limits that they
+-- are within, and the image is right.
 pub record CompletesPlain (info : ImageInfo) (bytes given piece : List ℕ) : Type 0 where
   pub image : (limits : Limits) (rest : List ℕ) → length (bytes ++ piece) ≤ limits.input → IsImage limits ((bytes ++ piece) ++ rest) (plain_image info (given ++ piece))
   pub right : IsRightImage (plain_image info (given ++ piece))
 
--- WHAT IS SO of the bytes that follow: each piece adds samples, up to the last one; before that no prefix is complete or
--- has a fault; and where the bytes end the file is too short.
+-- WHAT IS SO of the bytes that follow: each piece adds samples, up to the last one; before that no prefix is complete
+-- or has a fault; and where the bytes end the file is too short.
 pub record GoesOnPlain (info : ImageInfo) (bytes given : List ℕ) : Type 0 where
   pub more : (piece : List ℕ) → AreBytes piece → length (given ++ piece) < sample_count info → HasFedSamples info (bytes ++ piece) (given ++ piece)
   pub whole : (piece : List ℕ) → AreBytes piece → sample_count info ≤ length (given ++ piece) → CompletesPlain info bytes given piece
@@ -81,7 +81,7 @@ info_at stage.BmpBody w = None
 abbrev pub unscaled_view : Work → Option ImageInfo
 unscaled_view w = info_at w.stage w
 
--- THE ANSWERS of a reader, for all that was fed to it
+-- THE RESULTS of a reader, for all that was fed to it
 
 abbrev pub TellsPlain : PixelReader → ImageInfo → Type 0
 TellsPlain r info = (bytes : List ℕ) → HasFedImage bytes r → HasFedSamples info bytes (samples_so_far r)

@@ -95,7 +95,7 @@ StretchesBy head old piece m w = Stretches head old (run (in_body head old.sampl
 abbrev pub number_ended_at : Work → ℕ → Result Image Fault
 number_ended_at w n = ended_by w.format (numbers_list w) n (number_fault (numbers_list w) n)
 
--- the answer where the bytes end
+-- the result where the bytes end
 abbrev pub EndsAs : Result Image Fault → Answer → Work → Type 0
 EndsAs e answer.More w = ⊥
 EndsAs e answer.Whole w = e ≡ Ok (image_told w)

@@ -14,7 +14,7 @@ ghost use Rattle.jpg_pnm_bmp.specs.Written.{WrittenImage, Wrote, Took, PartsGoOn
 ghost use Rattle.jpg_pnm_bmp.specs.declared.write.end.Finish.TheVariants as finish;
 
 /// What `start`, `row` for each row, and `finish` until `Done` append, one after another, is the image's complete text
-/// in the writer's format, for any writer. While `finish` answers `More` it may be called again, and fewer parts are
+/// in the writer's format, for any writer. While `finish` returns `More` it may be called again, and fewer parts are
 /// left.
 pub fn images_are_written_whole()
     ensures start { (k : EndKind) (i : ImageInfo) (s t : List ℕ) (e : EndState) → Starts (new_end k) s i (Ok tt) e t → Wrote e (begun i s) t }

@@ -32,8 +32,8 @@ pub record IsReady (p : PreviewState) : Type 0 where
   pub steady : IsSteady p.count
   pub bounded : p.count.limits ≡ p.reader.limits
 
--- THE BYTES SO FAR have no fault, aren't a complete file, and don't end with the marker after a scan that is wanted, nor
--- do fewer of them. This is what a reader and a counter make of them.
+-- THE BYTES SO FAR have no fault, aren't a complete file, and don't end with the marker after a scan that is wanted,
+-- nor do fewer of them. This is what a reader and a counter make of them.
 pub record Views (scans : ℕ) (bytes : List ℕ) (r : ReaderState) (c : Count) : Type 0 where
   pub read : HasRead bytes r
   pub counted : CountsScans r.limits scans bytes c
@@ -57,7 +57,7 @@ abbrev pub AfterStop : ℕ → ℕ → List ℕ → Stop → ReaderState → Typ
 AfterStop scans before bytes (stop.Fault f) r = StopsFront r.limits scans bytes f × (before < f.at) × KeepsHeadAt r.limits bytes f r.file.head
 AfterStop scans before bytes stop.NoMemory r = KeepsHead r.limits before bytes r.file.head
 
--- THE ANSWER to a piece that is fed, by all bytes so far
+-- THE RESULT of a piece that is fed, by all bytes so far
 abbrev pub AfterPiece : ℕ → List ℕ → List ℕ → Result Fed Stop → ReaderState → Count → Type 0
 AfterPiece scans bytes piece (Ok fed.More) r c = Views scans (bytes ++ piece) r c
 AfterPiece scans bytes piece (Ok (fed.Done used)) r c = IsShown scans (bytes ++ take used piece) r × (1 ≤ used) × (used ≤ length piece)
@@ -97,7 +97,7 @@ PartEnds next (part.More n) r = (1 ≤ n) × (n ≤ length next) × (r.done ≡ 
 PartEnds next (part.Done n) r = (n ≤ length next) × (r.done ≡ true)
 PartEnds next (part.Stopped stop) r = r.done ≡ false
 
--- BYTES that a reader was fed: what its own answer says
+-- BYTES that a reader was fed: what its own result says
 abbrev pub AfterFed : List ℕ → List ℕ → Part → ReaderState → Type 0
 AfterFed bytes next (part.More n) r = (n ≡ length next) × HasRead (bytes ++ next) r
 AfterFed bytes next (part.Done n) r = IsDone (bytes ++ take n next) r × (1 ≤ n) × (n ≤ length next)

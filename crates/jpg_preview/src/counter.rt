@@ -13,11 +13,17 @@ use std::alloc::Global;
 /// How many scans of a file are still to end, and where its next byte is.
 #[derive(Drop)]
 pub struct ScanCounter {
+    // The limits of the input.
     limits: Limits,
+    // The segments so far.
     segments: SegmentReader,
+    // What separates data bytes and markers.
     gate: Gate,
+    // The next byte is inside the data of a scan.
     inside: bool,
+    // How many scans are still to end.
     due: u16,
+    // How many bytes were taken.
     taken: u64,
 }
 

@@ -20,9 +20,13 @@ use std::marker::Model;
 /// each component is in some scan. What follows isn't read.
 #[derive(Drop)]
 pub struct Preview {
+    // What reads the file up to that marker.
     reader: Reader,
+    // How many scans are still to end.
     count: ScanCounter,
+    // How many scans are asked for.
     scans: u16,
+    // Why the preview stopped, if it did.
     stop: Option<Stop>,
 }
 
@@ -55,10 +59,10 @@ impl Preview {
         }
     }
 
-    /// Takes a further piece of the file, of any length. It answers Done if the front of the file for so many scans is
+    /// Takes a further piece of the file, of any length. Returns Done if the front of the file for so many scans is
     /// complete then and has no fault, or if the file is, and how many bytes of the piece were used, the last one of
-    /// these among them. Otherwise it answers the first fault of the front, at its place, or NoMemory. Otherwise it
-    /// answers More. After a stop it answers the same stop. It may not be called once it is done (`is_done`).
+    /// these among them. Otherwise it returns the first fault of the front, at its place, or NoMemory. Otherwise it
+    /// returns More. After a stop it returns the same stop. It may not be called once it is done (`is_done`).
     pub fn feed(&mut self, piece: &[u8]) -> Result<Fed, Stop>
         requires undone { self.old.reader.done ≡ false }
         ensures answered { ViewsFile self.old piece.now result self.new }
@@ -96,8 +100,8 @@ impl Preview {
         self.reader.is_done()
     }
 
-    /// The file ends here. It answers Early with the number of bytes taken if each component has begun: its picture may
-    /// be taken then. Otherwise it answers Truncated at the number of bytes taken, or the earlier stop. It may not be
+    /// The file ends here. Returns Early with the number of bytes taken if each component has begun: its picture may
+    /// be taken then. Otherwise it returns Truncated at the number of bytes taken, or the earlier stop. It may not be
     /// called once it is done (`is_done`).
     pub fn end(&mut self) -> End
         requires { self.old.reader.done ≡ false }
@@ -128,8 +132,8 @@ impl Preview {
     }
 
     /// The picture of the front, or of the complete file, or of one that ended early, with the markers that were kept.
-    /// It may be called only after `feed` answered Done or `end` answered Early (`is_done`). The preview has nothing left
-    /// then, and answers further pieces with NoMemory.
+    /// It may be called only after `feed` returned Done or `end` returned Early (`is_done`). The preview has nothing
+    /// left then, and returns NoMemory for further pieces.
     pub fn take(&mut self) -> Picture
         requires { self.old.reader.done ≡ true }
         ensures meaning { TakesPicture self.old.reader result }

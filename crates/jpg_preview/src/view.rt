@@ -22,7 +22,7 @@ pub enum Part {
     Stopped(Stop),
 }
 
-/// Takes the bytes of a piece up to the end of the front. It answers Done with it, and how many bytes were used;
+/// Takes the bytes of a piece up to the end of the front. Returns Done with it, and how many bytes were used;
 /// otherwise the stop of these bytes; otherwise More.
 pub fn view_piece(reader: &mut Reader, count: &mut ScanCounter, piece: &[u8]) -> Result<Fed, Stop>
     requires undone { reader.old.done ≡ false }

@@ -8,7 +8,7 @@ use Rattle.jpg_prog_read.specs.InWork.{InWork, IsOpenBand}
 use Rattle.jpg_prog_read.specs.ReaderSteps.{StaysOpen, KeepsOtherValues}
 use Rattle.jpg_prog_read.specs.Stands.{IsCodingOf, UnitPlace, RepresentsBandUnit, Answered, AnswersBit}
 
--- The last bit of a code has this answer, whatever proper prefix of the code was walked before it.
+-- The last bit of a code has this result, whatever proper prefix of the code was walked before it.
 abbrev pub AnswersSymbol : BandScan → InWork → ℕ → BandStep → InWork → Type 0
 AnswersSymbol b old symbol step new =
     (ac : List Code) (at : UnitPlace) (bits front : List Bool) (last : Bool) → IsCodingOf b ac at.coding at.component
@@ -25,7 +25,7 @@ abbrev pub Through : BandScan → List Code → ℕ → InWork → List Bool →
 Through b ac left old [] new = new ≡ old
 Through b ac left old (bit ∷ bits) new = (mid : InWork) × BandGoesOn b ac left old bit mid × Through b ac left mid bits new
 
--- such bits, and one with this answer
+-- such bits, and one with this result
 pub record EndsAt (b : BandScan) (ac : List Code) (left : ℕ) (old : InWork) (bits : List Bool) (step : BandStep) (new : InWork) : Type 0 where
   pub front : List Bool
   pub bit : Bool

@@ -1,4 +1,4 @@
--- What the parts of a band's reader answer.
+-- What the parts of a band's reader return.
 use Rattle.std.specs.Prelude.{◌≡◌, ◌-◌, ◌<◌, ◌≤◌, Bool, true, false, List, [], ◌∷◌, length, drop, ℤ, pos}
 use Rattle.jpg_spec.specs.Elements.{Coding, is_zero, are_in_bounds}
 use Rattle.jpg_prog_read.specs.declared.stage.Stage.TheVariants.{Code}

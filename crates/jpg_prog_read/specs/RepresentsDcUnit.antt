@@ -1,4 +1,4 @@
--- What bits of an interval of a DC scan mean, and what the reader of its units answers (T.81, G.1.2.1).
+-- What bits of an interval of a DC scan mean, and what the reader of its units returns (T.81, G.1.2.1).
 use Rattle.std.specs.Prelude.{◌≡◌, ◌⊎◌, ℕ, ◌^◌, ◌≤◌, true, false, Bool, List, [], ◌∷◌, ◌++◌, ℤ}
 use Rattle.jpg_spec.specs.Codes.{Code}
 use Rattle.jpg_spec.specs.Elements.{Element, Coding, UnitLeft, Standing, Covers, at_start, predicted}
@@ -55,7 +55,7 @@ pub record RepresentsDcUnit (at : UnitPlace) (p : ℕ → ℤ) (o : ℤ) (bits :
   pub split : bits ≡ front ++ part
   pub is_part : IsDcPart at whole.mid o part s
 
--- the answer at these bits of an interval
+-- the result at these bits of an interval
 abbrev pub DcAnswered : UnitPlace → (ℕ → ℤ) → ℤ → List Bool → DcStep → DcWork → Type 0
 DcAnswered at p o bits More s = RepresentsDcUnit at p o bits s
 DcAnswered at p o bits (Done w v) s = DcBetween at.coding at.units (at.told ++ v ∷ []) (predicted p at.component w) at.others bits

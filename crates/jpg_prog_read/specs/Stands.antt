@@ -1,4 +1,4 @@
--- What bits of an interval mean, and what the reader of its bands answers (T.81, G.1.2.2, G.1.2.3).
+-- What bits of an interval mean, and what the reader of its bands returns (T.81, G.1.2.2, G.1.2.3).
 use Rattle.std.specs.Prelude.{◌≡◌, ℕ, ◌+◌, ◌^◌, ◌<◌, true, false, Bool, List, [], ◌∷◌, ◌++◌, length, ℤ, pos}
 use Rattle.jpg_spec.specs.Codes.{Code}
 use Rattle.jpg_spec.specs.Elements.{Element, Coding, UnitLeft, Standing, Covers, at_start, are_in_bounds, zeros_in}
@@ -85,7 +85,7 @@ pub record BetweenUnits (c : Coding) (units : List UnitLeft) (told : List ℤ) (
   pub quiet : s.walked ≡ []
   pub is_rest : IsRest c mid left here part s s.stage
 
--- the answer at these bits of an interval
+-- the result at these bits of an interval
 abbrev pub Answered : UnitPlace → List Bool → BandStep → InWork → Type 0
 Answered at bits More new = RepresentsBandUnit at bits new
 Answered at bits Done new = BetweenUnits at.coding at.units (at.told ++ new.done) at.others bits new

@@ -1,4 +1,4 @@
-//! The machine that reads a progressive AC scan, first pass or refinement (T.81, G.1.2.2, G.1.2.3).
+//! The machine that reads a progressive AC scan: a first pass (T.81, G.1.2.2) or a refinement (G.1.2.3).
 ghost use Rattle.std.specs.Prelude.{◌≡◌, ◌≤◌, ◌+◌, false, [], Bool, List, Some, Ok, length};
 ghost use Rattle.jpg_spec.specs.Geometry.{bounds};
 ghost use Rattle.jpg_huff.specs.declared.table.Table.{Table};
@@ -18,15 +18,20 @@ use jpg_base::{BitStore, Cursor, Frame, ScanHead, ScanPart};
 use jpg_coefs::{Coefs, ScanMachine, Taken, UnitFault, UnitStep};
 use jpg_huff::TableSet;
 
-/// A machine that reads a progressive AC scan: its parameters, the places that are left, the current unit, how many
-/// units of the interval are left, and whether the first of them wasn't begun yet.
+/// A machine that reads a progressive AC scan (T.81, G.1.2.2, G.1.2.3).
 #[derive(Drop)]
 pub struct AcReader {
+    // The parameters of the scan.
     scan: BandScan,
+    // The codes of its table.
     codes: Codes,
+    // The places that are left.
     cursor: Cursor,
+    // The current unit.
     unit: BandReader,
+    // How many units of the interval are left.
     left: u64,
+    // The first of them wasn't begun yet.
     fresh: bool,
 }
 

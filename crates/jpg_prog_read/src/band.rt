@@ -1,4 +1,5 @@
-//! The units of a band, read bit by bit: first passes and refinements (T.81, G.1.2.2, G.1.2.3).
+//! The units of a band, read bit by bit: first passes (T.81, G.1.2.2, Figure G.3) and refinements (G.1.2.3, Figure
+//! G.7).
 ghost use Rattle.std.specs.Prelude.{◌≡◌, ◌<◌, ◌≤◌, ◌+◌, ◌-◌, pos, true, false, [], ◌∷◌, ◌++◌, length, take, drop, slice_index_or, ℕ, Bool, List};
 ghost use Rattle.jpg_spec.specs.Bits.{bits_of};
 ghost use Rattle.jpg_spec.specs.Codes.{Code};
@@ -50,19 +51,29 @@ enum Ended {
 /// The current unit of a band.
 #[derive(Drop)]
 pub struct BandReader {
+    // The block, with its new values up to `at`.
     values: Block,
+    // The first place of the band.
     start: u8,
+    // The next place.
     at: u8,
+    // The place after the band.
     end: u8,
-    // bit 0 is 1 if the value at place `at` isn't 0, and so on
+    // Bit 0 is 1 if the value at place `at` isn't 0, and so on.
     olds: u64,
+    // Which part of an element is read.
     stage: Stage,
+    // The bits of its code so far.
     walk: Walk,
-    // whether bits of a code were taken
+    // Bits of a code were taken.
     begun: bool,
+    // How many zeros are still to be skipped.
     run: u8,
+    // The additional bits so far.
     extra: ExtraBits,
+    // The value that is placed after the run.
     due: i16,
+    // How many bands the current EOB run still ends, this one among them.
     bands: u32,
 }
 
@@ -193,7 +204,7 @@ impl BandReader {
         self.extra = ExtraBits::new(size);
     }
 
-    // Takes an extra bit, and answers whether more are needed.
+    // Takes an extra bit. Returns whether more are needed.
     fn extra_bit(&mut self, bit: bool) -> Extra
         requires { length self.old.extra < self.old.size }
         ensures new { self.new ≡ record (self.old) { extra = self.old.extra ++ bit ∷ [] } }
@@ -211,7 +222,7 @@ impl BandReader {
         self.extra.value()
     }
 
-    // How many bands the end-of-band run has.
+    // How many bands the end-of-band run has (T.81, G.1.2.2, Table G.1).
     fn whole_count(&self) -> u32
         requires whole { length self.now.extra ≡ self.now.size }
         requires size { self.now.size ≤ 14 }
@@ -351,7 +362,7 @@ impl BandReader {
         }
     }
 
-    // Goes on to the next value that needs a correction, or to the end of the element.
+    // Goes on to the next value that needs a correction (T.81, G.1.2.3), or to the end of the element.
     #[inline(always)]
     fn advance(&mut self, scan: &BandScan) -> BandStep
         requires sane { IsSaneBand scan.now }
@@ -395,7 +406,7 @@ impl BandReader {
         self.values.get(self.at)
     }
 
-    // Goes on after a code.
+    // Goes on after a code (T.81, G.1.2.2, Table G.1; G.1.2.3).
     #[inline(always)]
     fn symbol(&mut self, scan: &BandScan, symbol: u8) -> BandStep
         requires sane { IsSaneBand scan.now }
@@ -502,7 +513,7 @@ impl BandReader {
         }
     }
 
-    // Takes the correction of an old value.
+    // Takes the correction of an old value (T.81, G.1.2.3).
     #[inline(always)]
     fn correction_bit(&mut self, scan: &BandScan, bit: bool) -> BandStep
         requires sane { IsSaneBand scan.now }

@@ -1,4 +1,4 @@
-//! The units of a DC scan: first passes bit by bit, and refinements (T.81, G.1.2.1).
+//! The units of a DC scan: first passes bit by bit (T.81, F.2.2.1, G.1.2.1), and refinements (G.1.2.1).
 ghost use Rattle.std.specs.Prelude.{◌≡◌, ◌<◌, ◌≤◌, ◌≤ℤ◌, ◌+ℤ◌, ◌*ℤ◌, ◌+◌, negsuc, pos, nat_abs, if◌then◌else◌, nat_lt, [], ◌∷◌, ◌++◌, length, ℕ, ℤ, Bool, List};
 ghost use Rattle.jpg_spec.specs.Codes.{Code};
 ghost use Rattle.jpg_spec.specs.Numbers.{category, extra_bits};
@@ -109,7 +109,7 @@ fn side_of(x: i64, low: i32, high: i32) -> DcSide
     }
 }
 
-// The value whose difference to the prediction this is, times `2 ^ al`.
+// The value whose difference to the prediction this is (T.81, F.2.2.1), times `2 ^ al`.
 fn valued(scan: &DcScan, prediction: i16, difference: i16) -> DcValue
     requires { AreDcSane scan.now }
     ensures { IsDcValue scan.now (prediction +ℤ difference) result }
@@ -239,7 +239,7 @@ impl DcUnit {
         self.hurry_number(store);
     }
 
-    // Takes an extra bit, and answers the number if it is the last one.
+    // Takes an extra bit. Returns the number if it is the last one.
     fn extra_bit(&mut self, bit: bool) -> DcExtra
         requires { length self.old.extra < self.old.size }
         ensures { AfterDcExtra self.old bit result self.new }

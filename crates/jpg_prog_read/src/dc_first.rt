@@ -18,17 +18,22 @@ use jpg_base::{BitStore, Cursor, Frame, Place, ScanHead, ScanPart};
 use jpg_coefs::{Coefs, ScanMachine, Taken, UnitFault, UnitStep};
 use jpg_huff::TableSet;
 
-/// A machine that reads a first DC pass: its parameters, the DC tables in the slots of their components and the lookup
-/// of their codes, the places that are left, the predictions by component, the current unit, and how many units of the
-/// interval are left.
+/// A machine that reads a first DC pass (T.81, G.1.2.1).
 #[derive(Drop)]
 pub struct DcFirst {
+    // The parameters of the scan.
     scan: DcScan,
+    // Its DC tables, in the slots of their components.
     tables: TableSet,
+    // The lookup of their codes.
     looks: DcLooks,
+    // The places that are left.
     cursor: Cursor,
+    // The predictions by component.
     predictions: [i16; 4],
+    // The current unit.
     unit: DcUnit,
+    // How many units of the interval are left.
     left: u64,
 }
 
@@ -70,7 +75,7 @@ impl DcFirst {
         reader
     }
 
-    /// The same without the tables. They take tens of kilobytes, so `put_tables` builds them where the machine is
+    /// A machine without the tables. They take tens of kilobytes, so `put_tables` builds them where the machine is
     /// stored.
     #[inline(always)]
     pub fn bare(frame: &Frame, head: &ScanHead) -> DcFirst
@@ -188,6 +193,7 @@ impl ScanMachine for DcFirst {
         take_bits(self, store, coefs, most)
     }
 
+    // PRED is 0 at the start of each interval (T.81, F.2.1.3.1).
     fn restart(&mut self, units: u64) {
         self.predictions = [0; 4];
         self.unit = DcUnit::new();

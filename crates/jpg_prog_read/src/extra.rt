@@ -115,7 +115,7 @@ impl ExtraBits {
         }
     }
 
-    /// Takes one more bit, and answers whether more are needed.
+    /// Takes one more bit (RECEIVE: T.81, F.2.2.4). Returns whether more are needed.
     pub fn push(&mut self, bit: bool) -> Extra
         requires { length self.old.bits < self.old.size }
         ensures new { self.new ≡ record (self.old) { bits = self.old.bits ++ bit ∷ [] } }
@@ -134,7 +134,7 @@ impl ExtraBits {
         lowered(self.number, excess(self.size, self.number))
     }
 
-    /// How many bands end after the code of EOBn if these are its n bits (G.1.2.2).
+    /// How many bands end after the code of EOBn if these are its n bits (T.81, G.1.2.2, Table G.1).
     pub fn bands(&self) -> u32
         requires whole { length self.now.bits ≡ self.now.size }
         requires size { self.now.size ≤ 14 }

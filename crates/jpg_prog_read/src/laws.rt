@@ -22,7 +22,8 @@ pub fn bands_are_due()
     ensures between { (s : InWork) → NextIsDue s }
 {}
 
-/// The same for a reader of DC differences, and for both DC passes between two units (T.81, G.1.2.1).
+/// In a unit of a DC difference the bits so far are a part of it, and between two units of either DC pass there are
+/// none (T.81, G.1.2.1).
 pub fn dc_values_are_due()
     ensures inside { (s : DcWork) → IsDcOpen s → DcIsDue s }
     ensures between { NextDcIsDue }

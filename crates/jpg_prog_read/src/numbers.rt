@@ -1,4 +1,5 @@
-//! Values of a progressive scan by their numbers (T.81, G.1.2).
+//! Values of a progressive scan by their numbers: the point transform undone (T.81, G.1.1.1), and corrections
+//! (G.1.2.3).
 ghost use Rattle.std.specs.Prelude.{◌≡◌, ◌≤◌, ◌+◌, ◌^◌, ℕ, pos, nat_abs, ◌*ℤ◌};
 ghost use Rattle.jpg_spec.specs.Elements.{grown};
 ghost use Rattle.jpg_prog_read.specs.Scaled.{IsScaled};
@@ -38,7 +39,7 @@ pub fn scaled_within(value: i16, scale: u16, limit: u16) -> Scaled
     }
 }
 
-/// An old value by its correction: where the bit is 1 the magnitude grows by the scale 2 ^ al.
+/// An old value by its correction: where the bit is 1 the magnitude grows by the scale 2 ^ al (T.81, G.1.2.3).
 pub fn corrected(value: i16, scale: u16, bit: bool) -> i16
     requires { nat_abs value + scale ≤ 32767 }
     ensures { (al : ℕ) → scale ≡ 2 ^ al → result ≡ grown al bit value }

@@ -1,22 +1,29 @@
 //! The numbers of a progressive scan (T.81, G.1.1.1, G.1.2).
 
-/// The parameters of the readers of a band: its first place in zigzag order and the place after its last one (0 to 64),
-/// the scale `2 ^ al`, the greatest category of a value, 1 in a refinement, and the greatest magnitude of a value.
+/// The parameters of the readers of a band.
 #[derive(Clone, Copy, Debug, PartialEq, Eq)]
 pub struct BandScan {
+    /// Its first place in zigzag order (Ss).
     pub start: u8,
+    /// The place after its last one (Se + 1), at most 64.
     pub end: u8,
+    /// `2 ^ al`.
     pub scale: u16,
+    /// The greatest category of a value, 1 in a refinement.
     pub most_category: u8,
+    /// The greatest magnitude of a value.
     pub most_magnitude: u16,
 }
 
-/// The parameters of the readers of a DC scan: the least and the greatest value, the scale `2 ^ al`, and the greatest
-/// category of a difference.
+/// The parameters of the readers of a DC scan.
 #[derive(Clone, Copy, Debug, PartialEq, Eq)]
 pub struct DcScan {
+    /// The least value.
     pub low: i32,
+    /// The greatest value.
     pub high: i32,
+    /// `2 ^ al`.
     pub scale: u16,
+    /// The greatest category of a difference.
     pub most_category: u8,
 }

@@ -1,4 +1,4 @@
-//! The meaning of a symbol of an AC table in a progressive scan (T.81, G.1.2.2, G.1.2.3).
+//! The meaning of a symbol RS of an AC table in a progressive scan (T.81, G.1.2.2, Table G.1; G.1.2.3).
 ghost use Rattle.jpg_prog_read.specs.Judge.{Judges};
 
 /// What follows a code.

@@ -1,4 +1,4 @@
-//! The bands of a progressive AC scan, put block by block (T.81, G.1.2.2, G.1.2.3).
+//! The bands of a progressive AC scan, put block by block (T.81, G.1.2.2, Figure G.3; G.1.2.3, Figure G.7).
 ghost use Rattle.std.specs.Prelude.{◌≡◌, ◌≤◌, length};
 ghost use Rattle.jpg_coefs.specs.BitSinks.{bit_kind};
 ghost use Rattle.jpg_prog_write.specs.Bands.{IsBandOf};
@@ -45,10 +45,13 @@ pub(crate) fn no_bands(head: &ScanHead) -> Bands
 /// What writes the bands of a scan.
 #[derive(Drop)]
 pub(crate) struct AcUnits<'a> {
+    // The header of the scan.
     pub(crate) head: &'a ScanHead,
+    // The tables.
     pub(crate) tables: &'a TableSet,
-    // the slot of its codes
+    // The slot of its codes.
     pub(crate) slot: u8,
+    // The current band, and the EOB run that waits.
     pub(crate) bands: Bands,
 }
 

@@ -9,17 +9,21 @@ ghost use Rattle.jpg_prog_write.specs.Bands.{IsBand, IsShort, band_sents, sents,
 use crate::numbers::{divided, kept_value};
 use jpg_base::Block;
 
-/// The places from `start` up to `end`, the bit `al` down to which their values are sent, and whether it is a
-/// refinement.
+/// The band of a scan.
 #[derive(Clone, Copy, Debug, PartialEq, Eq)]
 pub(crate) struct Band {
+    // Its first place.
     pub(crate) start: u8,
+    // The place after its last one.
     pub(crate) end: u8,
+    // The bit down to which values are sent.
     pub(crate) al: u8,
+    // The scan is a refinement.
     pub(crate) refines: bool,
 }
 
-/// A correction of a value that was sent before, or a value that is newly sent, or remains 0.
+/// What a scan codes for one coefficient: a correction bit (T.81, G.1.2.3), or a value that is newly sent, or remains
+/// 0.
 #[derive(Clone, Copy, Debug, PartialEq, Eq)]
 pub(crate) enum Sending {
     Correction(bool),

@@ -1,4 +1,5 @@
-//! Bands written one after another, element by element (T.81, G.1.2.2, G.1.2.3).
+//! Bands written one after another, element by element: first passes (T.81, G.1.2.2, Figure G.3) and refinements
+//! (G.1.2.3, Figure G.7).
 ghost use Rattle.std.specs.Prelude.{◌≡◌, Bool, ℕ, pos, slice_index_or, ◌+◌, ◌-◌, ◌<◌, ◌≤◌, true, [], ◌++◌, ◌∷◌, List, length, nat_lt, ◌==◌, ◌||◌, IfSome, IfNone};
 ghost use Rattle.jpg_spec.specs.Numbers.{category as category_of};
 ghost use Rattle.jpg_spec.specs.Elements.{ends, is_zero};
@@ -12,7 +13,7 @@ use crate::item::{Item, ends_item, long_item, value_item};
 use arrayvec::ArrayVec;
 use jpg_base::Block;
 
-// The most bands of an EOB run, which the code EOB14 with 14 bits counts (T.81, G.1.2.2).
+// The most bands of an EOB run, which the code EOB14 with 14 bits counts (T.81, G.1.2.2, Table G.1).
 const LONGEST_RUN: u16 = 32767;
 
 // The most correction bits after which a band is still added to a run: its own are at most 63, which makes 1000.
@@ -21,17 +22,22 @@ const MOST_WAITING: usize = 937;
 /// Correction bits that wait for the code of an element.
 pub(crate) type Waiting = ArrayVec<bool, 1000>;
 
-/// The current band and the EOB run before it: the values of a block from `at` up to `last`, the place after its last
-/// newly sent one, are to be written, and an EOB run of a number of bands waits with its corrections.
+/// The current band, and the EOB run before it, which waits.
 #[derive(Drop)]
 pub(crate) struct Bands {
+    // The parameters of the scan.
     pub(crate) band: Band,
+    // The current block.
     pub(crate) block: Block,
-    // which values of the block aren't 0
+    // Which values of the block aren't 0.
     pub(crate) marks: u64,
+    // The place of the next value to be written.
     pub(crate) at: u8,
+    // The place after its last newly sent value.
     pub(crate) last: u8,
+    // How many bands the EOB run that waits has.
     pub(crate) bands: u16,
+    // Its correction bits.
     pub(crate) waiting: Waiting,
 }
 
@@ -162,7 +168,7 @@ fn wait_all(band: Band, block: &Block, from: u8, waiting: &mut Waiting)
     }
 }
 
-// The same; there are none outside refinements.
+// `wait_all`; outside refinements there are no corrections.
 #[inline(always)]
 fn wait_rest(band: Band, block: &Block, from: u8, waiting: &mut Waiting)
     requires band { IsBand band }
@@ -257,7 +263,7 @@ impl Bands {
         }
     }
 
-    // Adds the rest of the band to the EOB run that waits, and answers the run if it is full then.
+    // Adds the rest of the band to the EOB run that waits (T.81, G.1.2.2). Returns the run if it is full then.
     #[inline(always)]
     fn join_rest(&mut self) -> Option<Item>
         requires ready { IsReady self.old }

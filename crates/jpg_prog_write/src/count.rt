@@ -1,4 +1,4 @@
-//! The symbols that a progressive scan writes, counted (T.81, G.1.2).
+//! The symbols that a progressive scan writes, counted (T.81, G.1.2.1 to G.1.2.3, K.2).
 ghost use Rattle.std.specs.Prelude.{◌≡◌, ◌<◌, ◌≤◌, true, List, [], All};
 ghost use Rattle.jpg_spec.specs.Scan.{part_of as part_in};
 ghost use Rattle.jpg_spec_write.specs.Sending.{Sent, ended_bands};
@@ -226,9 +226,9 @@ fn count_differences<V: BlockView>(
     let _ = counted;
 }
 
-/// How often `write_scan` writes each symbol of this scan, by class and slot, at most 2^32 - 1: none of a class that the
-/// scan has no codes of. The header names one to four components of the frame, with a band and bits that are allowed and
-/// slots 0 or 1; all values are in the frame's bounds. It takes no memory.
+/// How often `write_scan` writes each symbol of this scan, by class and slot, at most 2^32 - 1: none of a class that
+/// the scan has no codes of. The header names one to four components of the frame, with a band and bits that are
+/// allowed and slots 0 or 1; all values are in the frame's bounds. It takes no memory.
 pub fn count_scan<V: BlockView>(view: &V, head: &ScanHead, interval: u16) -> SymbolCounts
     requires scan { IsProgScan (V.numbers view.now) head.now }
     requires slots { All HasSlots head.now.parts }

@@ -1,4 +1,4 @@
-//! DC values of a progressive scan, put unit by unit (T.81, G.1.2.1).
+//! DC values of a progressive scan, put unit by unit (T.81, F.1.2.1, G.1.2.1).
 ghost use Rattle.std.specs.Prelude.{◌≡◌, ◌≤◌, ◌≤ℤ◌, ◌++◌, true, pos, negsuc, ◌-ℤ◌};
 ghost use Rattle.jpg_spec.specs.Numbers.{category as category_of, extra_bits as extra_of};
 ghost use Rattle.jpg_spec.specs.Codes.{code_of};

@@ -14,7 +14,7 @@ pub(crate) struct Item {
     pub(crate) size: u8,
 }
 
-// A value after a run of zeros.
+// A value after a run of zeros (T.81, G.1.2.2).
 #[inline(always)]
 pub(crate) fn value_item(run: u8, value: i32) -> Item
     requires run { run ≤ 15 }
@@ -29,7 +29,7 @@ pub(crate) fn value_item(run: u8, value: i32) -> Item
     }
 }
 
-// A run of sixteen zeros.
+// A run of sixteen zeros: ZRL (T.81, G.1.2.2).
 #[inline(always)]
 pub(crate) fn long_item() -> Item
     ensures { (bits : List Bool) → IsItem (long_element bits) result bits }
@@ -41,7 +41,7 @@ pub(crate) fn long_item() -> Item
     }
 }
 
-// The end of this many bands.
+// The end of this many bands: EOBn (T.81, G.1.2.2, Table G.1).
 pub(crate) fn ends_item(bands: u16) -> Item
     requires some { 1 ≤ bands }
     requires few { bands ≤ 32767 }

@@ -1,4 +1,4 @@
-//! What is sent of a value down to a bit (T.81, G.1.2.1, G.1.2.2).
+//! What is sent of a value down to a bit: the point transform (T.81, G.1.1.1, G.1.2.1, G.1.2.2).
 ghost use Rattle.std.specs.Prelude.{◌≡◌, ◌≤◌, ◌%◌, ◌==◌, nat_abs};
 ghost use Rattle.jpg_spec_write.specs.Sending.{shifted, divided};
 ghost use Rattle.jpg_prog_write.specs.Bands.{kept_of};

@@ -29,7 +29,7 @@ fn ac_code(tables: &TableSet, slot: u8, symbol: u8) -> Code
     }
 }
 
-// The same by the DC table in a slot.
+// What is written for a symbol by the DC table in a slot, no bits if there is none.
 #[inline(always)]
 pub(crate) fn dc_code(tables: &TableSet, slot: u8, symbol: u8) -> Code
     ensures first { bits_of result.length result.bits ≡ code_of (codes_in tables.now 0 slot) symbol }
@@ -91,7 +91,8 @@ fn put_bits<D: Desk>(
     Ok(after)
 }
 
-// Writes an element of a band with its corrections after bits that were handed out, by the AC table in a slot.
+// Writes an element of a band with its corrections after bits that were handed out, by the AC table in a slot (T.81,
+// G.1.2.2, G.1.2.3).
 #[inline(always)]
 fn put_item<D: Desk>(
     tables: &TableSet,

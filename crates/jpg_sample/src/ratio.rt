@@ -15,7 +15,7 @@ pub struct Ratio {
 pub struct FractionalSampling;
 
 impl Ratio {
-    /// The ratio of the greatest factors to a component's. It answers FractionalSampling if one of them isn't a
+    /// The ratio of the greatest factors to a component's. Returns FractionalSampling if one of them isn't a
     /// multiple of the component's (T.81, A.1.1).
     pub fn of(component: &Component, h_max: u8, v_max: u8) -> Result<Ratio, FractionalSampling>
         requires across { (1 ≤ component.now.h) × (component.now.h ≤ h_max) × (h_max ≤ 4) }

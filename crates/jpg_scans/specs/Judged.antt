@@ -11,7 +11,7 @@ use Rattle.jpg_spec_write.specs.declared.picture_fault.PictureFault.{PictureFaul
 use Rattle.jpg_scans.specs.Progress.{RepresentsScans}
 use Rattle.jpg_scans.specs.declared.progress.Progress.{Progress}
 
--- the answer of a check that found this fault, if any
+-- the result of a check that found this fault, if any
 abbrev pub judged : Option PictureFault → Result (Unit {0}) PictureFault
 judged None = Ok tt
 judged (Some fault) = Err fault

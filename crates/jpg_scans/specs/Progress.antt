@@ -29,7 +29,7 @@ pub record RepresentsScans (p : Progress) (f : Frame) (heads : List ScanHead) : 
   pub begun : (i : ℕ) → i < 4 → begun_at p i ≡ has_begun heads i
   pub known : (i k : ℕ) → i < 4 → k < 64 → known_at p i k ≡ known_to heads i k
 
--- what an answer says of a head, and the history afterwards
+-- what a result says of a head, and the history afterwards
 abbrev pub IsJudged : Frame → List ScanHead → ScanHead → Result (Unit {0}) Fault → Progress → Type 0
 IsJudged f heads head (Ok done) new = (order_fault f heads head ≡ None) × RepresentsScans new f (head ∷ heads)
 IsJudged f heads head (Err fault) new = order_fault f heads head ≡ Some fault

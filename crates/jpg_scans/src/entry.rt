@@ -4,14 +4,18 @@ ghost use Rattle.std.specs.Prelude.{◌≡◌, []};
 use arrayvec::ArrayVec;
 use std::marker::Model;
 
-/// A scan of a script: its components by their index in the frame, the band `ss` to `se` in zigzag
-/// places, and the bits `ah` and `al` of successive approximation (T.81, B.2.3).
+/// A scan of a script (T.81, B.2.3).
 #[derive(Drop)]
 pub struct Entry {
+    /// Its components, by their index in the frame.
     pub components: ArrayVec<u8, 4>,
+    /// The first place of its band, in zigzag order.
     pub ss: u8,
+    /// The last place.
     pub se: u8,
+    /// The bit down to which earlier scans sent the band, 0 for none.
     pub ah: u8,
+    /// The bit down to which this one sends it.
     pub al: u8,
 }
 

@@ -45,11 +45,11 @@ impl EntryText {
         }
     }
 
-    // Takes a byte, and answers whether it may occur there.
+    // Takes a byte. Returns whether it may occur there.
     pub fn byte(&mut self, byte: u8) -> bool
         ensures { taken result self.new ≡ entry_step self.old byte }
     {
-        if byte == 58 {
+        if byte == b':' {
             return self.colon();
         }
         self.list.byte(byte)

@@ -64,12 +64,12 @@ impl Numbers {
         numbers
     }
 
-    // Takes a byte, and answers whether it may occur there.
+    // Takes a byte. Returns whether it may occur there.
     pub fn byte(&mut self, byte: u8) -> bool
         ensures { taken result self.new ≡ number_step self.old byte }
     {
         if is_digit(byte) {
-            return self.digit(byte - 48);
+            return self.digit(byte - b'0');
         }
         self.end();
         if is_space(byte) {
@@ -148,17 +148,17 @@ impl Numbers {
 pub fn is_digit(byte: u8) -> bool
     ensures { result ≡ is_digit byte }
 {
-    48 <= byte && byte <= 57
+    b'0' <= byte && byte <= b'9'
 }
 
 fn is_space(byte: u8) -> bool
     ensures { result ≡ is_space byte }
 {
-    byte == 32 || (byte == 9 || (byte == 10 || (byte == 12 || byte == 13)))
+    byte == b' ' || (byte == b'\t' || (byte == b'\n' || (byte == b'\x0c' || byte == b'\r')))
 }
 
 fn is_joint(byte: u8) -> bool
     ensures { result ≡ is_joint byte }
 {
-    byte == 44 || byte == 45
+    byte == b',' || byte == b'-'
 }

@@ -13,9 +13,13 @@ use jpg_base::Frame;
 // The band and the bits of a scan.
 #[derive(Clone, Copy)]
 pub struct Band {
+    // The first place, in zigzag order.
     pub ss: u8,
+    // The last place.
     pub se: u8,
+    // The bit down to which earlier scans sent it, 0 for none.
     pub ah: u8,
+    // The bit down to which this one sends it.
     pub al: u8,
 }
 

@@ -37,7 +37,7 @@ impl Progress {
         }
     }
 
-    /// Takes the next scan, or answers its fault: RepeatedScan in a sequential frame, if one of its components was in a
+    /// Takes the next scan, or returns its fault: RepeatedScan in a sequential frame, if one of its components was in a
     /// scan, or Progression in a progressive one, if it isn't the next of each of its components. After a fault nothing
     /// has changed.
     pub fn admit(&mut self, head: &ScanHead) -> Result<(), Fault>
@@ -54,7 +54,7 @@ impl Progress {
         }
     }
 
-    /// The fault of a scan after those so far, as `admit` answers it.
+    /// The fault of a scan after those so far, as `admit` returns it.
     pub fn fault(&self, head: &ScanHead) -> Option<Fault>
         requires { All (λ p. p.component < 4) head.now.parts }
         ensures { (f : Numbers) (heads : List Head) → RepresentsScans self.now f heads → result ≡ order_fault f heads head.now }
@@ -94,7 +94,7 @@ impl Progress {
     }
 
     /// The first coefficient that isn't known down to bit 0, component by component in zigzag order, as the fault that
-    /// a script's check answers.
+    /// a script's check returns.
     #[tactic(auto, using(crate::proofs::Unknown::next_component, crate::proofs::Unknown::no_component, crate::proofs::Unknown::incomplete_is))]
     pub fn first_unknown(&self) -> Option<PictureFault>
         ensures { (f : Numbers) (heads : List Head) → RepresentsScans self.now f heads → result ≡ incomplete f heads }

@@ -73,13 +73,13 @@ impl TextReader {
         }
     }
 
-    // Takes a byte, and answers whether it may occur there.
+    // Takes a byte. Returns whether it may occur there.
     pub fn byte(&mut self, byte: u8) -> bool
         ensures { taken result self.new ≡ reader_step text_step self.old byte }
     {
         self.in_comment = in_comment(self.in_comment, byte);
         if self.in_comment {
-            self.plain_byte(32)
+            self.plain_byte(b' ')
         } else {
             self.plain_byte(byte)
         }
@@ -90,7 +90,7 @@ impl TextReader {
         ensures text { taken result self.new.text ≡ text_step self.old.text byte }
         ensures behind { self.new.behind ≡ self.old.behind }
     {
-        if byte == 59 {
+        if byte == b';' {
             return self.semicolon();
         }
         if is_digit(byte) && (self.entry.is_new() && self.entries.len() >= 100) {
@@ -139,5 +139,5 @@ impl TextReader {
 fn in_comment(behind: bool, byte: u8) -> bool
     ensures { result ≡ in_comment behind byte }
 {
-    if behind { byte != 10 } else { byte == 35 }
+    if behind { byte != b'\n' } else { byte == b'#' }
 }

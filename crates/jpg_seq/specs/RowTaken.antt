@@ -29,7 +29,7 @@ TakesInRow most tops m row store answer new after rest =
 abbrev pub TakesBytesInRow : ℕ → List ℕ → SeqReader → Picture → List ℕ → BytesTaken → SeqReader → Picture → Type 0
 TakesBytesInRow most tops m row bytes result new after = TakesInRow most tops m row (bits_of_bytes bytes) result.taken new after (drop result.bits (bits_of_bytes bytes))
 
--- how many units an answer means: fewer than were asked for, or all of them, or all of the interval
+-- how many units a result means: fewer than were asked for, or all of them, or all of the interval
 abbrev pub IsCountOf : ℕ → Taken → SeqReader → ℕ → Type 0
 IsCountOf most taken.More m units = units < most
 IsCountOf most taken.Units m units = (units ≡ most) × (1 ≤ m.left)

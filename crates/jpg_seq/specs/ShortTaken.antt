@@ -8,7 +8,7 @@ use Rattle.jpg_seq.specs.Source.{bits_in}
 use Rattle.jpg_seq.specs.Range.{AreSane}
 use Rattle.jpg_seq.specs.Work.{Work, Env, TakesFromStore}
 
--- the meaning of an answer for a unit that is read with these AC codes: nothing is taken if it is Empty
+-- the meaning of a result for a unit that is read with these AC codes: nothing is taken if it is Empty
 abbrev pub IsTaken : Env → Work → List Bool → UnitProgress → Work → List Bool → Type 0
 IsTaken e s store More t rest = TakesFromStore e s store More t rest
 IsTaken e s store Done t rest = TakesFromStore e s store Done t rest

@@ -1,4 +1,4 @@
--- What bits of a sequential unit mean, and what its reader answers (T.81, F.2.2).
+-- What bits of a sequential unit mean, and what its reader returns (T.81, F.2.2).
 use Rattle.std.specs.Prelude.{◌≡◌, ℕ, ◌+◌, ◌-◌, ◌<◌, ◌≤◌, false, List, [], ◌∷◌, length, ℤ}
 use Rattle.jpg_spec.specs.Codes.{Code}
 use Rattle.jpg_spec.specs.Elements.{Coding, UnitLeft, Standing, codes_due, going_on, predicted, zeros, new_unit}

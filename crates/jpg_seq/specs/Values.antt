@@ -35,7 +35,7 @@ IsNextShortValue codes bits t = BeginsWithShortValue codes bits t ⊎ IsNextEnd 
 abbrev pub TellsNone : List Code → List Bool → Type 0
 TellsNone codes bits = (t : ShortValue) → IsNextShortValue codes bits t → ⊥
 
--- the answer is no value exactly if the bits begin with neither
+-- the result is no value exactly if the bits begin with neither
 abbrev pub TellsOrNone : List Code → List Bool → ShortValue → Type 0
 TellsOrNone codes bits t = ((t.length ≡ 0) × TellsNone codes bits) ⊎ IsNextShortValue codes bits t
 

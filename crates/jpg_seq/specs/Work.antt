@@ -115,14 +115,14 @@ pub record IsAtWork (e : Env) (s : Work) : Type 0 where
   pub left : length s.values < 64
   pub part : IsPartOf e s.values s.part
 
--- what is left of a unit after an answer
+-- what is left of a unit after a result
 abbrev pub StaysAtWork : Env → UnitProgress → Work → Type 0
 StaysAtWork e More t = (length t.values < 64) × (t.part ≡ [])
 StaysAtWork e Empty t = IsAtWork e t
 StaysAtWork e Done t = (length t.values ≡ 64) × (t.part ≡ [])
 StaysAtWork e (Fault fault) t = Unit {0}
 
--- Bits are taken from the start of a store, all of them if the answer is Empty.
+-- Bits are taken from the start of a store, all of them if the result is Empty.
 abbrev pub TakesFromStore : Env → Work → List Bool → UnitProgress → Work → List Bool → Type 0
 TakesFromStore e s store answer t rest = (taken : List Bool) × (store ≡ taken ++ rest) × BitsComeTo e s taken answer t × StaysAtWork e answer t × (answer ≡ Empty → rest ≡ [])
 

@@ -1,4 +1,4 @@
-//! The symbols that a sequential scan writes, counted (T.81, F.1.2).
+//! The symbols that a sequential scan writes, counted (T.81, F.1.2.1, F.1.2.2, K.2).
 ghost use Rattle.std.specs.Prelude.{◌≡◌, ◌≤◌, ◌<◌, false, drop, All};
 ghost use Rattle.jpg_spec.specs.Numbers.{category as category_of};
 ghost use Rattle.jpg_spec.specs.Geometry.{is_progressive};
@@ -30,7 +30,7 @@ fn count_run(slot: u8, run: u8, value: i16, counts: &mut SymbolCounts)
     counts.count_ac(slot, 16 * left + category(i32::from(value)));
 }
 
-// Counts the symbols of the values after the first one, and that of an EOB if zeros are left.
+// Counts the symbols of the values after the first one, and that of an EOB if zeros are left (T.81, Figure F.2).
 #[inline(always)]
 fn count_band(slot: u8, block: &Block, counts: &mut SymbolCounts)
     requires counts { AreCounts counts.old }
@@ -96,9 +96,9 @@ impl<'a> UnitSink<SymbolCounts, ()> for SeqCounter<'a> {
     }
 }
 
-/// How often `write_seq_scan` writes each symbol of this scan, by class and slot, at most 2^32 - 1 (T.81, F.1.2). The header
-/// names one to four components of the frame, with slots 0 or 1; all values are in the range of the frame's precision. It
-/// takes no memory.
+/// How often `write_seq_scan` writes each symbol of this scan, by class and slot, at most 2^32 - 1 (T.81, F.1.2). The
+/// header names one to four components of the frame, with slots 0 or 1; all values are in the range of the frame's
+/// precision. It takes no memory.
 pub fn count_seq_scan<V: BlockView>(view: &V, head: &ScanHead, interval: u16) -> SymbolCounts
     requires sequential { is_progressive (V.numbers view.now).process ≡ false }
     requires components { AreIn (V.numbers view.now) (head_components head.now) }

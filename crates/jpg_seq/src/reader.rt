@@ -1,4 +1,4 @@
-//! The machine that reads a sequential scan (T.81, F.2.2).
+//! The machine that reads a sequential scan (T.81, F.2.1.3.1, F.2.2).
 ghost use Rattle.std.specs.Prelude.{◌≡◌, ◌≤◌, ◌<◌, ◌*◌, length, take, Bool, List, Some, All};
 ghost use Rattle.jpg_seq.specs.declared.work.Coder.{Coder as Coded};
 ghost use Rattle.jpg_seq.specs.NewReader.{HasTables, IsBare, IsCoderOf, AreFilled, IsSeqScan, IsOfScan, no_coders};
@@ -22,15 +22,20 @@ use jpg_base::{BitStore, Bounds, Cursor, Frame, Place, ScanHead, ScanPart};
 use jpg_coefs::{Coefs, ScanMachine, Taken, UnitFault, UnitStep};
 use jpg_huff::{Decoder, TableSet};
 
-/// A machine that reads a sequential scan: its parameters and tables, the places that are left, the predictions by
-/// component, the current unit, and how many units of the interval are left.
+/// A machine that reads a sequential scan (T.81, F.2.2).
 #[derive(Drop)]
 pub struct SeqReader {
+    // What the precision allows.
     bounds: Bounds,
+    // The tables by component.
     coders: [Option<Coder>; 4],
+    // The places that are left.
     cursor: Cursor,
+    // PRED by component (F.1.1.5.1).
     predictions: [i16; 4],
+    // The current unit.
     unit: UnitWork,
+    // How many units of the interval are left.
     left: u64,
 }
 
@@ -82,7 +87,7 @@ impl SeqReader {
         reader
     }
 
-    /// The same without the tables. They take tens of kilobytes, so `put_tables` builds them where the machine is
+    /// A machine without the tables. They take tens of kilobytes, so `put_tables` builds them where the machine is
     /// stored.
     #[inline(always)]
     pub fn bare(frame: &Frame, head: &ScanHead) -> SeqReader
@@ -361,6 +366,7 @@ impl ScanMachine for SeqReader {
         }
     }
 
+    // PRED is 0 at the start of each interval (T.81, F.2.1.3.1).
     fn restart(&mut self, units: u64) {
         self.unit = UnitWork::new();
         self.predictions = [0; 4];

@@ -1,4 +1,4 @@
-//! The data of a sequential scan, written (T.81, F.1.2, E.1.4).
+//! The data of a sequential scan, written (T.81, F.1.2.1, F.1.2.2, E.1.4).
 ghost use Rattle.std.specs.Prelude.{◌≡◌, true};
 ghost use Rattle.jpg_spec.specs.Scan.{part_of as part_in};
 ghost use Rattle.jpg_spec_write.specs.WrittenFile.{HasBlocksIn};
@@ -73,8 +73,8 @@ impl<'a, D: Desk> UnitSink<BitOut, D> for SeqUnits<'a> {
 /// `interval` MCUs (0: none), each interval padded with ones (T.81, F.1.2 and E.1.4). A padding block has the DC value
 /// of the block before it of its component, and no AC values. The header names one to four distinct components of the
 /// frame, whose tables are there; a symbol without a code is written as no bits; all values are in the range of the
-/// frame's precision; an output is created, and no bits wait, neither before nor afterwards. After a fault a first part of
-/// the data is written.
+/// frame's precision; an output is created, and no bits wait, neither before nor afterwards. After a fault a first part
+/// of the data is written.
 #[inline(never)]
 pub fn write_seq_scan<'x, V: BlockView, D: Desk>(
     view: &V,

@@ -1,4 +1,4 @@
-//! The meaning of a symbol of an AC table in a sequential scan (T.81, F.1.2.2).
+//! The meaning of a symbol RS of an AC table in a sequential scan (T.81, F.1.2.2, Figure F.1; F.2.2.2, Figure F.13).
 ghost use Rattle.jpg_seq.specs.Judge.{Judges};
 
 use jpg_base::Bounds;

@@ -1,4 +1,4 @@
-//! AC codes, and values decoded by one lookup of ten bits (T.81, F.2.2.2).
+//! AC codes, and values decoded by one lookup of ten bits (T.81, F.2.2.2, Figures F.13 and F.14).
 ghost use Rattle.std.specs.Prelude.{◌≡◌, ◌<◌, ◌≤◌, List, length, Contains};
 ghost use Rattle.jpg_spec.specs.Bits.{bits_of};
 ghost use Rattle.jpg_spec.specs.Codes.{Code};
@@ -13,12 +13,14 @@ use std::marker::Model;
 /// The run of an entry that is the end of a block: more than any other has.
 pub const END_RUN: u8 = 64;
 
-/// A value that bits begin with: how many zeros are before it, and how many bits encode it, 0 if there is none. A run of
-/// `END_RUN` is the end of a block, which has no value.
+/// A value that bits begin with. A run of `END_RUN` is the end of a block, which has no value.
 #[derive(Clone, Copy)]
 pub struct ShortValue {
+    /// The value.
     pub value: i16,
+    /// How many zeros are before it.
     pub run: u8,
+    /// How many bits encode both, 0 if there is no such value.
     pub length: u8,
 }
 
@@ -131,8 +133,8 @@ impl ValueDecoder {
         self.decoder.spot(bits)
     }
 
-    /// The value that the first ten of these bits encode, or the end of a block: None if they encode neither, or if there
-    /// are fewer.
+    /// The value that the first ten of these bits encode, or the end of a block: None if they encode neither, or if
+    /// there are fewer.
     #[inline(always)]
     pub fn told(&self, bits: &BitStore) -> Option<ShortValue>
         ensures { TellsShortValue self.now bits.now result }

@@ -1,4 +1,4 @@
-//! A unit of a sequential scan, read from a store of bits, several elements at once (T.81, F.2.2).
+//! A unit of a sequential scan, read from a store of bits, several elements at once (T.81, F.2.2.1, F.2.2.2).
 ghost use Rattle.std.specs.Prelude.{◌≡◌, ◌<◌, ◌≤◌, ◌≤ℤ◌, ◌+◌, ◌+ℤ◌, negsuc, pos, [], ◌∷◌, ◌++◌, length, take, List, ℤ};
 ghost use Rattle.jpg_spec.specs.Elements.{zeros};
 ghost use Rattle.jpg_seq.specs.Range.{AreSane};
@@ -17,8 +17,7 @@ use jpg_coefs::UnitFault;
 use jpg_huff::{Decoder, Spotted, extend};
 use std::marker::Model;
 
-/// What bits begin with: a part of an element, a complete element, or a fault, the latter two with the number of their
-/// bits.
+/// The next element of a unit, or that more bits are needed, or a fault. `length` is in bits.
 #[derive(Clone, Copy, Debug, PartialEq, Eq)]
 pub enum NextElement {
     Part,
@@ -57,7 +56,7 @@ fn narrow(x: i32) -> i16
     x as i16
 }
 
-// The first value by its difference.
+// The DC value by its difference to the prediction (T.81, F.2.2.1).
 #[inline(always)]
 fn first_value(bounds: &Bounds, prediction: i16, difference: i16, length: u8) -> NextElement
     requires sane { AreSane bounds.now }
@@ -83,7 +82,7 @@ fn first_value(bounds: &Bounds, prediction: i16, difference: i16, length: u8) ->
     }
 }
 
-// What the bits of a unit begin with.
+// The first element of a unit: the category of the difference, and its extra bits (T.81, F.2.2.1, Figure F.12).
 #[inline(always)]
 fn next_dc(bounds: &Bounds, dc: &Decoder, prediction: i16, bits: &BitStore) -> NextElement
     requires sane { AreSane bounds.now }
@@ -114,7 +113,7 @@ fn next_dc(bounds: &Bounds, dc: &Decoder, prediction: i16, bits: &BitStore) -> N
     }
 }
 
-// What bits after the first value begin with, where `left` values are left.
+// The next AC element, where `left` values are left (T.81, F.2.2.2, Figures F.13 and F.14).
 #[inline(always)]
 fn next_ac(bounds: &Bounds, ac: &ValueDecoder, left: u8, bits: &BitStore) -> NextElement
     requires sane { AreSane bounds.now }
@@ -161,11 +160,14 @@ fn next_ac(bounds: &Bounds, ac: &ValueDecoder, left: u8, bits: &BitStore) -> Nex
     }
 }
 
-/// The current unit: its values so far, and the bits of the current element.
+/// The current unit.
 #[derive(Drop)]
 pub struct UnitWork {
+    // Its values up to `at`, and zeros.
     values: Block,
+    // The place of the next value.
     at: u8,
+    // The bits of the current element so far.
     part: BitStore,
 }
 
@@ -268,7 +270,7 @@ impl UnitWork {
         self.part.joined(store)
     }
 
-    // What bits begin with.
+    // The next element: DC first, and then AC.
     #[inline(always)]
     fn next(&self, bounds: &Bounds, coder: &Coder, prediction: i16, bits: &BitStore) -> NextElement
         requires sane { AreSane bounds.now }
@@ -361,7 +363,8 @@ impl UnitWork {
         }
     }
 
-    // Takes a value that ten bits encode, or the end of the block: Empty if they encode neither, or none that has a place.
+    // Takes a value that ten bits encode, or the end of the block (T.81, F.2.2.2). Returns Empty if they encode
+    // neither, or a value that has no place.
     #[inline(always)]
     fn value_by_ten(&mut self, ac: &ValueDecoder, store: &mut BitStore) -> UnitProgress
         requires left { (1 ≤ length self.old.values) × (length self.old.values < 64) }

@@ -1,4 +1,4 @@
-//! The bits of a block in a sequential scan, written (T.81, F.1.2).
+//! The bits of a block in a sequential scan, written (T.81, F.1.2.1, F.1.2.2).
 ghost use Rattle.std.specs.Prelude.{◌≡◌, ◌≤◌, ◌++◌, [], drop, true, pos, negsuc, ◌-ℤ◌, ◌≤ℤ◌};
 ghost use Rattle.jpg_spec.specs.Numbers.{category as category_of, extra_bits as extra_of};
 ghost use Rattle.jpg_spec.specs.Codes.{code_of};
@@ -45,7 +45,7 @@ fn put_value<D: Desk>(
     )
 }
 
-// The same after bits that were handed out.
+// Writes the first code of a symbol, and then the extra bits of a value, after bits that were handed out.
 #[inline(always)]
 fn put_value_after<D: Desk>(
     encoder: &Encoder,
@@ -65,7 +65,7 @@ fn put_value_after<D: Desk>(
     out.put_code_after(held, encoder.code(symbol), extra, category(value), desk)
 }
 
-// Writes a value after a run of zeros, of which each sixteen have a code of their own.
+// Writes a value after a run of zeros, of which each sixteen have a code of their own (T.81, F.1.2.2, Figure F.3).
 #[inline(never)]
 fn put_any_run<D: Desk>(
     ac: &Encoder,
@@ -87,7 +87,7 @@ fn put_any_run<D: Desk>(
     put_value(ac, 16 * left + category(value), value, out, desk)
 }
 
-// The same after bits that were handed out.
+// `put_any_run` after bits that were handed out.
 #[inline(always)]
 fn put_any_after<D: Desk>(
     ac: &Encoder,
@@ -110,7 +110,8 @@ fn put_any_after<D: Desk>(
     }
 }
 
-// The same; a small value after a short run is looked up together with its code.
+// Writes a value after a run of zeros, after bits that were handed out (T.81, F.1.2.2, Figure F.3). A small value after
+// a short run is looked up together with its code.
 #[inline(always)]
 fn put_run<D: Desk>(
     ac: &Encoder,
@@ -137,7 +138,8 @@ fn put_run<D: Desk>(
     }
 }
 
-// Writes the values after the first one, where a bit of a word says which aren't 0, and an EOB if zeros are left.
+// Writes the values after the first one, where a bit of a word says which aren't 0, and an EOB if zeros are left (T.81,
+// F.1.2.2, Figure F.2).
 #[inline(always)]
 fn put_band<D: Desk>(
     ac: &Encoder,
@@ -167,7 +169,7 @@ fn put_band<D: Desk>(
     }
 }
 
-/// The difference of two DC values.
+/// The difference of two DC values (T.81, F.1.1.5.1).
 #[inline(always)]
 pub(crate) fn difference(value: i16, prediction: i16) -> i32
     ensures value { result ≡ value -ℤ prediction }
@@ -176,7 +178,7 @@ pub(crate) fn difference(value: i16, prediction: i16) -> i32
     i32::from(value) - i32::from(prediction)
 }
 
-// Writes the category of a difference of DC values, and then its extra bits.
+// Writes the category of a difference of DC values, and then its extra bits (T.81, F.1.2.1).
 #[inline(always)]
 fn put_difference<D: Desk>(
     dc: &Table,

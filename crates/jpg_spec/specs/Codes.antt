@@ -1,4 +1,4 @@
--- Huffman codes (T.81, Annex C).
+-- Huffman codes (T.81, Annex C, C.2).
 use Rattle.std.specs.Prelude.{ℕ, zero, suc, drop, ◌+◌, ◌*◌, ◌^◌, ◌<◌, Bool, true, nat_lt, ◌&&◌, ◌==◌, if◌then◌else◌, List, [], ◌∷◌, ◌++◌, Option, Some, None, unwrap_or}
 use Rattle.jpg_spec.specs.Bits.{bits_of}
 
@@ -6,23 +6,24 @@ use Rattle.jpg_spec.specs.Bits.{bits_of}
 abbrev pub Code : Type 0
 Code = List Bool × ℕ
 
--- this many codes of one length, numbered from c on, for the first of the symbols
+-- this many codes of one length, numbered from c on, for the first of the symbols (Figures C.2 and C.3)
 abbrev pub codes_at : ℕ → ℕ → ℕ → List ℕ → List Code
 codes_at zero length c symbols = []
 codes_at (suc count) length c [] = []
 codes_at (suc count) length c (symbol ∷ symbols) = (bits_of length c, symbol) ∷ codes_at count length (c + 1) symbols
 
--- Codes of this length, of the next, and so on, by how many there are of each. The first one is numbered c. A step to
--- the next length doubles the next number.
+-- Codes of this length, of the next, and so on, by how many there are of each (Figure C.1). The first one is numbered
+-- c. A step to the next length doubles the next number (Figure C.2).
 abbrev pub codes_from : ℕ → ℕ → List ℕ → List ℕ → List Code
 codes_from length c [] symbols = []
 codes_from length c (count ∷ counts) symbols = codes_at count length c symbols ++ codes_from (length + 1) (2 * (c + count)) counts (drop count symbols)
 
--- the codes of a table: how many there are of lengths 1, 2 and so on, and the symbols in order
+-- the codes of a table: how many there are of lengths 1, 2 and so on, and the symbols in order (C.2, Figures C.1 to
+-- C.3)
 unfoldable pub codes : List ℕ → List ℕ → List Code
 codes counts symbols = codes_from 1 0 counts symbols
 
--- each code fits its length, and none is all ones
+-- each code fits its length, and none is all ones (C.2)
 abbrev pub AreCodes : ℕ → ℕ → List ℕ → Type 0
 AreCodes length c [] = Unit {0}
 AreCodes length c (count ∷ counts) = (c + count < 2 ^ length) × AreCodes (length + 1) (2 * (c + count)) counts

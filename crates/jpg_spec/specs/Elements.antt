@@ -10,11 +10,11 @@ use Rattle.jpg_spec.specs.Numbers.{category, extra_bits, digits}
 use Rattle.jpg_spec.specs.declared.frame.Bounds.{Bounds}
 
 pub data Element : Type 0 where
-  -- a DC value by its difference to the prediction, and one more bit of a DC value
+  -- a DC value by its difference to the prediction (F.1.2.1, F.2.2.1), and one more bit of a DC value (G.1.2.1)
   difference : ℤ → Element
   dc_bit : Bool → Element
-  -- a value after a run of zeros, a run of sixteen zeros (ZRL), the end of this many bands (EOB); each with the
-  -- corrections of the values that it skips
+  -- a value after a run of zeros, a run of sixteen zeros (ZRL), the end of this many bands (EOB; F.1.2.2, G.1.2.2);
+  -- each with the corrections of the values that it skips (G.1.2.3)
   value : ℕ → ℤ → List Bool → Element
   long_run : List Bool → Element
   ends : ℕ → List Bool → Element
@@ -57,23 +57,24 @@ abbrev pub nonzeros_in : List ℤ → ℕ
 nonzeros_in [] = 0
 nonzeros_in (o ∷ old) = (if is_zero o then 0 else 1) + nonzeros_in old
 
--- a number times 2 ^ al
+-- a number times 2 ^ al: the point transform undone (G.1.1.1)
 abbrev pub scaled : ℕ → ℤ → ℤ
 scaled al v = v *ℤ pos (2 ^ al)
 
--- the magnitude grows by 2 ^ al if the correction is 1
+-- the magnitude grows by 2 ^ al if the correction is 1 (G.1.2.3)
 abbrev pub grown : ℕ → Bool → ℤ → ℤ
 grown al false o = o
 grown al true (pos n) = pos (n + 2 ^ al)
 grown al true (negsuc n) = negsuc (n + 2 ^ al)
 
--- values that are skipped: zeros remain, and the others take the corrections in order
+-- values that are skipped: zeros remain, and the others take the corrections in order (G.1.2.3, Figure G.7)
 abbrev pub corrected : ℕ → List ℤ → List Bool → List ℤ
 corrected al [] bits = []
 corrected al (o ∷ old) [] = o ∷ corrected al old []
 corrected al (o ∷ old) (b ∷ bits) = if is_zero o then o ∷ corrected al old (b ∷ bits) else grown al b o ∷ corrected al old bits
 
--- THE SYMBOL of an element, and the bits after its code. EOBn and its bits x are 2 ^ n + x bands.
+-- THE SYMBOL of an element, and the bits after its code (F.1.2.1, F.1.2.2). EOBn and its bits x are 2 ^ n + x bands
+-- (G.1.2.2, Table G.1).
 abbrev pub symbol_of : Element → ℕ
 symbol_of (difference d) = category d
 symbol_of (dc_bit b) = 0
@@ -106,7 +107,7 @@ SpellsElement codes (value run v cs) bits = (code : List Bool) × Contains codes
 SpellsElement codes (long_run cs) bits = (code : List Bool) × Contains codes (code, symbol_of (long_run cs)) × (bits ≡ code ++ bits_after (long_run cs))
 SpellsElement codes (ends bands cs) bits = (code : List Bool) × Contains codes (code, symbol_of (ends bands cs)) × (bits ≡ code ++ bits_after (ends bands cs))
 
--- WHAT AN ELEMENT ENCODES
+-- WHAT AN ELEMENT ENCODES (F.2.2.1 and F.2.2.2 with Figures F.13 and F.14; G.1.2.1; G.1.2.2; G.1.2.3 with Figure G.7)
 
 -- what is left after the values that are skipped, without the unit if nothing of it is left
 abbrev pub going_on : UnitLeft → List ℤ → List UnitLeft → List UnitLeft
@@ -177,7 +178,7 @@ Covers c s (e ∷ elements) told bits t =
     × SpellsElement (codes_due c u) e front × Tells c (s.predictions u.component) e u units here left × (are_in_bounds c.bounds u.has_dc here ≡ true)
     × Covers c (record { predictions = predictions_after s.predictions u.component e; left = left }) elements more rest t
 
--- predictions begin at 0 in each interval
+-- predictions begin at 0 in each interval (F.1.1.5.1, F.2.1.3.1)
 abbrev pub at_start : List UnitLeft → Standing
 at_start units = record { predictions = λ i. pos 0; left = units }
 

@@ -1,4 +1,4 @@
--- The flat table of some symbols: codes of one length, in their order (T.81, Annex C).
+-- The flat table of some symbols: codes of one length, in their order (T.81, Annex C, C.2).
 use Rattle.std.specs.Prelude.{ℕ, zero, suc, ◌+◌, ◌-◌, ◌^◌, nat_lt, if◌then◌else◌, List, ◌∷◌, ◌++◌, length, replicate}
 use Rattle.jpg_spec.specs.Segments.{HuffmanTable}
 

@@ -1,4 +1,4 @@
--- What the contents of a frame header's segment mean, or their first fault (T.81, B.2.2).
+-- What the contents of a frame header's segment mean, or their first fault (T.81, B.2.2, Figure B.3).
 use Rattle.std.specs.Prelude.{ℕ, ◌*◌, ◌/◌, ◌%◌, not, ◌==◌, List, [], ◌∷◌, length, Err}
 use Rattle.jpg_spec.specs.Faults.{Parsed, refuse}
 use Rattle.jpg_spec.specs.Segments.{two_bytes}

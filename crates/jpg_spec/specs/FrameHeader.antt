@@ -22,7 +22,7 @@ has_bad_slot c = nat_lt 3 c.quant
 abbrev pub identifiers : List Component → List ℕ
 identifiers components = map (λ c. c.id) components
 
--- 8 bits, or 12 where the process isn't baseline (T.81, B.2.2, table B.2)
+-- 8 bits, or 12 where the process isn't baseline (T.81, B.2.2, Table B.2)
 abbrev pub is_precision : Process → ℕ → Bool
 is_precision Baseline precision = precision == 8
 is_precision other precision = precision == 8 || precision == 12
@@ -70,7 +70,7 @@ pub record AreLimits (limits : Limits) : Type 0 where
 
 -- THE GRIDS
 
--- the padded blocks of a component: its factors times the MCUs
+-- the padded blocks of a component: its factors times the MCUs (A.2.4)
 abbrev pub padded_across : Frame → Component → ℕ
 padded_across f c = mcus_across f * c.h
 

@@ -7,7 +7,7 @@ use Rattle.jpg_spec.specs.declared.frame.Component.{Component}
 use Rattle.jpg_spec.specs.declared.frame.Place.{Place}
 use Rattle.jpg_spec.specs.declared.frame.Bounds.{Bounds}
 
--- A frame header: the contents after the code of SOF0, SOF1 or SOF2.
+-- A frame header: the contents after the code of SOF0, SOF1 or SOF2 (B.2.2, Figure B.3).
 pub record Frame : Type 0 where
   pub process : Process
   pub precision : ℕ
@@ -54,18 +54,18 @@ mcus_across f = div_up f.width (8 * h_max f)
 abbrev pub mcus_down : Frame → ℕ
 mcus_down f = div_up f.height (8 * v_max f)
 
--- one row of the MCUs of a scan of all components
+-- one row of the MCUs of a scan of all components (A.2.3)
 abbrev pub mcu_row_frame : Frame → Frame
 mcu_row_frame f = record f { height = if length f.components == 1 then 8 else 8 * v_max f }
 
--- the real blocks of a component
+-- the real blocks of a component (A.1.1)
 abbrev pub blocks_across : Frame → Component → ℕ
 blocks_across f c = div_up (div_up (f.width * c.h) (h_max f)) 8
 
 abbrev pub blocks_down : Frame → Component → ℕ
 blocks_down f c = div_up (div_up (f.height * c.v) (v_max f)) 8
 
--- the blocks of the padded grids of all components
+-- the blocks of the padded grids of all components (A.2.4)
 abbrev pub padded_blocks : Frame → ℕ
 padded_blocks f = sum_by (λ c. (mcus_across f * c.h) * (mcus_down f * c.v)) f.components
 
@@ -87,18 +87,18 @@ pub record IsReal (f : Frame) (i x y : ℕ) : Type 0 where
 abbrev pub place : Frame → ℕ → ℕ → ℕ → Place
 place f i x y = record { component = i; x = x; y = y; real = is_real f i x y }
 
--- the blocks of a component in the MCU at a column and a row of MCUs
+-- the blocks of a component in the MCU at a column and a row of MCUs (A.2.3)
 abbrev pub mcu_part : Frame → ℕ → ℕ → ℕ → List Place
 mcu_part f mx my i =
     let c = component_at f i in
     flat_map (λ v. map (λ h. place f i (mx * c.h + h) (my * c.v + v)) (below c.h)) (below c.v)
 
--- a scan of one component: its real blocks, row by row
+-- a scan of one component: its real blocks, row by row (A.2.2)
 abbrev pub single_units : Frame → ℕ → List Place
 single_units f i =
     flat_map (λ y. map (λ x. place f i x y) (below (blocks_across f (component_at f i)))) (below (blocks_down f (component_at f i)))
 
--- a scan of several: the parts of each MCU
+-- a scan of several: the parts of each MCU (A.2.3)
 abbrev pub interleaved_units : Frame → List ℕ → List Place
 interleaved_units f parts = flat_map (λ my. flat_map (λ mx. flat_map (mcu_part f mx my) parts) (below (mcus_across f))) (below (mcus_down f))
 
@@ -107,7 +107,7 @@ units f [] = []
 units f (i ∷ []) = single_units f i
 units f (i ∷ j ∷ parts) = interleaved_units f (i ∷ j ∷ parts)
 
--- the blocks of one MCU of several components, and of the components of a scan
+-- the blocks of one MCU of several components, and of the components of a scan (A.2.2, A.2.3)
 abbrev pub factor_sum : Frame → List ℕ → ℕ
 factor_sum f parts = sum_by (λ i. (component_at f i).h * (component_at f i).v) parts
 

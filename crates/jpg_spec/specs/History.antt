@@ -28,7 +28,7 @@ abbrev pub is_known_to : Option ℕ → ℕ → Bool
 is_known_to None bit = false
 is_known_to (Some n) bit = n == bit
 
--- A first pass finds its band unsent, a refinement finds it known down to Ah, and AC follows DC.
+-- A first pass finds its band unsent, a refinement finds it known down to Ah, and AC follows DC (G.1.1.1).
 abbrev pub is_next : List ScanHead → ScanHead → ℕ → Bool
 is_next heads head i =
     (head.ss == 0 || is_some (known_to heads i 0))

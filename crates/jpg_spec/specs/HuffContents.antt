@@ -1,4 +1,5 @@
--- What the contents of a segment of Huffman tables mean, table by table, or their first fault (T.81, B.2.4.2).
+-- What the contents of a segment of Huffman tables mean, table by table, or their first fault (T.81, B.2.4.2, Figure
+-- B.7).
 use Rattle.std.specs.Prelude.{ℕ, zero, suc, ◌+◌, ◌/◌, ◌%◌, nat_lt, not, ◌||◌, ◌==◌, if◌then◌else◌, List, [], ◌∷◌, length, sum, take, drop, slice_get, slice_set, Option, Some, Ok, Err}
 use Rattle.jpg_spec.specs.Lists.{slot_value}
 use Rattle.jpg_spec.specs.Codes.{are_codes}
@@ -27,7 +28,7 @@ abbrev pub parsed_definition : ℕ → List ℕ → HuffmanDefinition
 parsed_definition tc bytes =
     record { class = tc / 16; slot = tc % 16; table = record { counts = counts_of bytes; symbols = take (symbols_size bytes) (drop 16 bytes) } }
 
--- At most 256 codes, each of which fits its length and none of which is all ones.
+-- At most 256 codes, each of which fits its length and none of which is all ones (C.2).
 unfoldable pub huffman_table_of : ℕ → List ℕ → Parsed HuffmanDefinition
 huffman_table_of tc bytes =
     refuse BadHuffman (nat_lt 1 (tc / 16) || nat_lt 3 (tc % 16))

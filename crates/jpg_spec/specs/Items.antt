@@ -15,7 +15,7 @@ use Rattle.jpg_spec.specs.declared.frame.Process.{Process}
 use Rattle.jpg_spec.specs.declared.frame.Limits.{Limits}
 
 -- A marker segment that is neither SOS nor EOI, or a scan: the contents of its SOS segment, and the data bytes of its
--- intervals.
+-- intervals (B.2.1, Figure B.2).
 pub data Item : Type 0 where
   segment : ℕ → List ℕ → Item
   scan : List ℕ → List (List ℕ) → Item
@@ -28,7 +28,7 @@ segment_of (scan contents intervals) = (0xda, contents)
 abbrev pub segments_of : List Item → List Segment
 segments_of items = map segment_of items
 
--- the intervals of a scan, with RST0 to RST7 in turn between them
+-- the intervals of a scan, with RST0 to RST7 in turn between them (B.2.1, E.1.4)
 abbrev pub SpellsIntervalsText : ℕ → List (List ℕ) → List ℕ → Type 0
 SpellsIntervalsText turn [] bytes = ⊥
 SpellsIntervalsText turn (coded ∷ []) bytes = SpellsData coded bytes

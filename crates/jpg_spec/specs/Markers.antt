@@ -25,11 +25,11 @@ soi = 255 ∷ 0xd8 ∷ []
 abbrev pub eoi : List ℕ
 eoi = 255 ∷ 0xd9 ∷ []
 
--- any number of fill bytes FF, then FF and a code
+-- any number of fill bytes FF, then FF and a code (B.1.1.2)
 abbrev pub SpellsMarker : ℕ → List ℕ → Type 0
 SpellsMarker code bytes = (fill : ℕ) × (bytes ≡ replicate (suc fill) 255 ++ code ∷ []) × IsMarkerCode code
 
--- a marker, and a length that counts itself and the contents
+-- a marker, and a length that counts itself and the contents (B.1.1.4)
 abbrev pub SpellsSegment : ℕ → List ℕ → List ℕ → Type 0
 SpellsSegment code contents bytes =
     (marker : List ℕ) × SpellsMarker code marker × (length contents + 2 < 65536) × (bytes ≡ marker ++ to_be_bytes w16 (length contents + 2) ++ contents)
@@ -42,7 +42,7 @@ SpellsSegments (s ∷ before) bytes =
 
 -- WHICH CODES ARE ALLOWED WHERE (Table B.1)
 
--- the process of a frame's code
+-- the process of a frame's code (B.1.1.3, Table B.1; B.2.2)
 abbrev pub process_of_code : ℕ → Option Process
 process_of_code code = if code == 0xc0 then Some Baseline else if code == 0xc1 then Some Extended else if code == 0xc2 then Some Progressive else None
 
@@ -62,7 +62,7 @@ is_within low high code = nat_le low code && nat_le code high
 abbrev pub is_unexpected : ℕ → Bool
 is_unexpected code = is_within 0x01 0xbf code || (is_within 0xd0 0xd8 code || is_within 0xf0 0xfd code)
 
--- lossless, hierarchical and arithmetic processes, and DNL, DHP and EXP
+-- lossless, hierarchical and arithmetic processes (DAC of B.2.4.3 too), and DNL (B.2.5), DHP and EXP
 abbrev pub is_unsupported : ℕ → Bool
 is_unsupported code = code == 0xc3 || (is_within 0xc5 0xcf code || (code == 0xdc || (code == 0xde || code == 0xdf)))
 
@@ -80,7 +80,7 @@ code_fault before code = code_fault_if (has_frame before) code
 
 -- KEPT MARKERS
 
--- APPn or COM, but after the first scan no JFIF and Adobe segments
+-- APPn or COM (B.2.4.5, B.2.4.6), but after the first scan no JFIF and Adobe segments
 abbrev pub is_kept_if : Bool → ℕ → List ℕ → Bool
 is_kept_if scanned code contents = (code == 0xfe || is_within 0xe0 0xef code) && not (scanned && (begins_jfif code contents || begins_adobe code contents))
 

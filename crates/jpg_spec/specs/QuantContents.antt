@@ -1,4 +1,5 @@
--- What the contents of a segment of quantisation tables mean, table by table, or their first fault (T.81, B.2.4.1).
+-- What the contents of a segment of quantisation tables mean, table by table, or their first fault (T.81, B.2.4.1,
+-- Figure B.6).
 use Rattle.std.specs.Prelude.{ℕ, zero, suc, ◌/◌, ◌%◌, Bool, nat_lt, ◌||◌, ◌==◌, if◌then◌else◌, List, [], ◌∷◌, length, take, drop, slice_get, slice_set, Option, None, Some, Ok, Err}
 use Rattle.jpg_spec.specs.Lists.{any_of, slot_value}
 use Rattle.jpg_spec.specs.Faults.{Parsed, refuse}

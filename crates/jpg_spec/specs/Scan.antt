@@ -45,8 +45,8 @@ scan_coding f tables head =
       ac = λ i. codes_of (tables 1 (part_of head i).ac);
     }
 
--- The scan that a header begins, with the tables and the restart interval (in MCUs, 0 for none) in force. A sequential
--- scan has the complete band, whatever its header says.
+-- The scan that a header begins, with the tables and the restart interval (in MCUs, 0 for none) in force (A.2, B.2.3,
+-- B.2.4.4). A sequential scan has the complete band, whatever its header says.
 abbrev pub scan_of : Frame → TablesInForce → ℕ → ScanHead → Scan
 scan_of f tables restart head = record {
   places = units f (head_components head);
@@ -66,7 +66,7 @@ block_at blocks p = blocks p.component p.x p.y
 abbrev pub unit_at : Scan → Blocks → Place → UnitLeft
 unit_at s before p = record { component = p.component; has_dc = s.ss == 0; old = band s (block_at before p) }
 
--- the data bytes of an interval: its units' bits, and fewer than eight pad bits
+-- the data bytes of an interval: its units' bits, and fewer than eight pad bits (F.1.2.3)
 abbrev pub SpellsInterval : Scan → Blocks → Blocks → List Place → List ℕ → Type 0
 SpellsInterval s before after places coded =
     (bits : List Bool) × Packs bits coded × SpellsUnits s.coding (map (unit_at s before) places) (flat_map (λ p. band s (block_at after p)) places) bits

@@ -9,13 +9,13 @@ use Rattle.jpg_spec.specs.FrameHeader.{identifiers}
 use Rattle.jpg_spec.specs.declared.fault.Fault.TheVariants.{BadLength, ScanComponent, McuTooLarge, ScanParameters}
 use Rattle.jpg_spec.specs.declared.frame.ScanPart.{ScanPart}
 
--- RESTART INTERVAL
+-- RESTART INTERVAL (B.2.4.4, Figure B.9)
 
 abbrev pub restart_interval : List ℕ → Parsed ℕ
 restart_interval (high ∷ low ∷ []) = Ok (two_bytes high low)
 restart_interval contents = Err BadLength
 
--- SCAN HEADER
+-- SCAN HEADER (B.2.3, Figure B.4)
 
 -- Two bytes per component: its identifier and its table slots.
 abbrev pub parsed_ids : List ℕ → List ℕ
@@ -65,7 +65,7 @@ scan_header f (count ∷ bytes) =
     (checked_head f count (parsed_ids (take (2 * count) bytes)) (parsed_scan_header f (take (2 * count) bytes) (drop (2 * count) bytes)))
 
 -- WHAT AN ACCEPTED SCAN HEADER IS: one to four distinct components of the frame, and several of at most ten blocks per
--- MCU
+-- MCU (B.2.3)
 
 pub record IsHead (f : Frame) (head : ScanHead) : Type 0 where
   pub some : 1 ≤ length head.parts

@@ -7,7 +7,7 @@ use Rattle.jpg_spec.specs.Elements.{Coding, UnitLeft, Standing, Element, Covers,
 use Rattle.jpg_spec.specs.declared.fault.Fault.{Fault}
 use Rattle.jpg_spec.specs.declared.fault.Fault.TheVariants.{NoCode, BadSymbol, BadRun, CoefRange, RunPastEnd}
 
--- no code begins with these bits, and they begin with no code
+-- no code begins with these bits, and they begin with no code: DECODE finds none (F.2.2.3, Figure F.16)
 abbrev pub BeginsNone : List Code → List Bool → Type 0
 BeginsNone codes bits =
     (0 < length bits) × ((code : Code) (more : List Bool) → Contains codes code → code.0 ≡ bits ++ more → ⊥)

@@ -1,4 +1,4 @@
--- THE MCU ROWS OF A SCAN: its places, row by row (T.81, A.2.3).
+-- THE MCU ROWS OF A SCAN: its places, row by row (T.81, A.2.2, A.2.3).
 use Rattle.std.specs.Prelude.{ℕ, List, [], ◌∷◌, map, flat_map}
 use Rattle.jpg_spec.specs.Lists.{below}
 use Rattle.jpg_spec.specs.Geometry.{Frame, blocks_across, component_at, mcu_part, mcus_across, place}

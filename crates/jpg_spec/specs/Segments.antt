@@ -16,11 +16,11 @@ taken_limit = 2 ^ 28
 abbrev pub two_bytes : ℕ → ℕ → ℕ
 two_bytes high low = 256 * high + low
 
--- 64 quantisers in zigzag order
+-- 64 quantisers in zigzag order (B.2.4.1)
 abbrev pub QuantTable : Type 0
 QuantTable = List ℕ
 
--- how many codes there are of each length from 1 to 16, and their symbols in order
+-- how many codes there are of each length from 1 to 16, and their symbols in order: BITS and HUFFVAL of B.2.4.2 and C.1
 pub record HuffmanTable : Type 0 where
   pub counts : List ℕ
   pub symbols : List ℕ
@@ -28,7 +28,7 @@ pub record HuffmanTable : Type 0 where
 abbrev pub table_codes : HuffmanTable → List Code
 table_codes table = codes table.counts table.symbols
 
--- A scan header: the components with their table slots, the band ss to se, and the bits ah and al.
+-- A scan header: the components with their table slots, the band ss to se, and the bits ah and al (B.2.3).
 pub record ScanHead : Type 0 where
   pub parts : List ScanPart
   pub ss : ℕ

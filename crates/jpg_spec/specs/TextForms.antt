@@ -44,6 +44,6 @@ abbrev pub Tells : {A : Type 0} → TextForm A → List ℕ → Result A FaultAt
 Tells f text (Ok told) = (length text ≤ longest_text) × f.spells text told
 Tells f text (Err e) = (e.fault ≡ f.fault) × IsWrongText f text e.at
 
--- two answers to a text are the same
+-- two results of a text are the same
 abbrev pub HasOneAnswer : {A : Type 0} → TextForm A → List ℕ → Type 0
 HasOneAnswer {A} f text = (a b : Result A FaultAt) → Tells f text a → Tells f text b → a ≡ b

@@ -14,7 +14,7 @@ unfoldable pub run : {S : Type 0} → (S → ℕ → Option S) → S → List �
 run step s [] = Some s
 run step s (b ∷ bytes) = option_and_then (λ t. run step t bytes) (step s b)
 
--- an answer: whether the byte was taken, and the state then
+-- a result: whether the byte was taken, and the state then
 abbrev pub taken : {S : Type 0} → Bool → S → Option S
 taken true s = Some s
 taken false s = None

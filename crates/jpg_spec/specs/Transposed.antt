@@ -1,4 +1,4 @@
--- A block or a table with its axes exchanged (T.81, A.3.6 for the places).
+-- A block or a table with its axes exchanged (T.81, A.3.6 and Figure A.6 for the places).
 use Rattle.std.specs.Prelude.{ℕ, ◌+◌, ◌*◌, ◌/◌, ◌%◌, List, map, slice_index_or}
 use Rattle.jpg_spec.specs.Lists.{index_of}
 use Rattle.jpg_spec.specs.Zigzag.{zigzag}

@@ -1,7 +1,8 @@
--- The typical tables K.3 to K.6 (T.81, Annex K).
+-- The typical Huffman tables (T.81, Annex K, K.3): Tables K.3 to K.6 as lists of counts and symbols.
 use Rattle.std.specs.Prelude.{ℕ, List, [], ◌∷◌}
 use Rattle.jpg_spec.specs.Codes.{Code, codes}
 
+-- DC of luminance (K.3.1, Table K.3)
 abbrev pub dc_luma_counts : List ℕ
 dc_luma_counts = 0 ∷ 1 ∷ 5 ∷ 1 ∷ 1 ∷ 1 ∷ 1 ∷ 1 ∷ 1 ∷ 0 ∷ 0 ∷ 0 ∷ 0 ∷ 0 ∷ 0 ∷ 0 ∷ []
 
@@ -11,6 +12,7 @@ dc_luma_values = 0 ∷ 1 ∷ 2 ∷ 3 ∷ 4 ∷ 5 ∷ 6 ∷ 7 ∷ 8 ∷ 9 ∷ 10 
 unfoldable pub dc_luma : List Code
 dc_luma = codes dc_luma_counts dc_luma_values
 
+-- AC of luminance (K.3.2, Table K.5)
 abbrev pub ac_luma_counts : List ℕ
 ac_luma_counts = 0 ∷ 2 ∷ 1 ∷ 3 ∷ 3 ∷ 2 ∷ 4 ∷ 3 ∷ 5 ∷ 5 ∷ 4 ∷ 4 ∷ 0 ∷ 0 ∷ 1 ∷ 125 ∷ []
 
@@ -29,6 +31,7 @@ ac_luma_values =
 unfoldable pub ac_luma : List Code
 ac_luma = codes ac_luma_counts ac_luma_values
 
+-- DC of chrominance (K.3.1, Table K.4)
 abbrev pub dc_chroma_counts : List ℕ
 dc_chroma_counts = 0 ∷ 3 ∷ 1 ∷ 1 ∷ 1 ∷ 1 ∷ 1 ∷ 1 ∷ 1 ∷ 1 ∷ 1 ∷ 0 ∷ 0 ∷ 0 ∷ 0 ∷ 0 ∷ []
 
@@ -38,6 +41,7 @@ dc_chroma_values = dc_luma_values
 unfoldable pub dc_chroma : List Code
 dc_chroma = codes dc_chroma_counts dc_chroma_values
 
+-- AC of chrominance (K.3.2, Table K.6)
 abbrev pub ac_chroma_counts : List ℕ
 ac_chroma_counts = 0 ∷ 2 ∷ 1 ∷ 2 ∷ 4 ∷ 4 ∷ 3 ∷ 4 ∷ 7 ∷ 5 ∷ 4 ∷ 4 ∷ 0 ∷ 1 ∷ 2 ∷ 119 ∷ []
 

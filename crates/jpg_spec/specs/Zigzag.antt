@@ -1,4 +1,4 @@
--- The order of the coefficients of a block (T.81, A.3.6).
+-- The order of the coefficients of a block (T.81, A.3.6, Figure A.6).
 use Rattle.std.specs.Prelude.{ℕ, List, [], ◌∷◌}
 
 -- The natural index 8 * v + u of each place in zigzag order: u is the horizontal frequency, v the vertical one.

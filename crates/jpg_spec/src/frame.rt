@@ -35,13 +35,16 @@ pub enum Copying {
     All,
 }
 
-/// A component of a frame: its identifier, its sampling factors, `h` horizontal and `v` vertical (1 to 4), and the slot
-/// of its quantisation table (0 to 3) (T.81, B.2.2).
+/// A component of a frame (T.81, B.2.2).
 #[derive(Clone, Copy, Debug, PartialEq, Eq, Default)]
 pub struct Component {
+    /// Its identifier Ci.
     pub id: u8,
+    /// Its horizontal sampling factor Hi, 1 to 4.
     pub h: u8,
+    /// Its vertical sampling factor Vi, 1 to 4.
     pub v: u8,
+    /// The slot of its quantisation table, Tqi, 0 to 3.
     pub quant: u8,
 }
 
@@ -52,35 +55,46 @@ pub struct Grid {
     pub high: u32,
 }
 
-/// The place of a block: the component's index in the frame, the block's column and row, and whether it is in the
-/// component's real grid (otherwise it is a padding block) (T.81, A.2.4).
+/// The place of a block (T.81, A.2.2 to A.2.4).
 #[derive(Clone, Copy, Debug, PartialEq, Eq)]
 pub struct Place {
+    /// The component's index in the frame.
     pub component: u8,
+    /// The block's column.
     pub x: u32,
+    /// The block's row.
     pub y: u32,
+    /// It is in the component's real grid; otherwise it is a padding block (A.2.4).
     pub real: bool,
 }
 
-/// What a precision allows: the least and the greatest DC, the greatest magnitude of AC, the greatest categories of a
-/// DC difference and of an AC value, and the greatest point transform `al` (T.81, F.1.2, G.1.2).
+/// What a precision allows (T.81, F.1.2, G.1.2).
 #[derive(Clone, Copy, Debug, PartialEq, Eq)]
 pub struct Bounds {
+    /// The least DC.
     pub dc_low: i32,
+    /// The greatest DC.
     pub dc_high: i32,
+    /// The greatest magnitude of AC.
     pub ac: i32,
+    /// The greatest category of a DC difference.
     pub dc_cat: u8,
+    /// The greatest category of an AC value.
     pub ac_cat: u8,
+    /// The greatest point transform Al.
     pub al: u8,
 }
 
-/// The limits of an input: the greatest side in samples, the greatest number of blocks in all padded grids, of bytes of
-/// kept markers, and of bytes of input.
+/// The limits of an input.
 #[derive(Clone, Copy, Debug, PartialEq, Eq)]
 pub struct Limits {
+    /// The greatest side in samples.
     pub side: u32,
+    /// The most blocks in all padded grids.
     pub blocks: u32,
+    /// The most bytes of kept markers.
     pub kept: u64,
+    /// The most bytes of input.
     pub input: u64,
 }
 

@@ -57,8 +57,8 @@ abbrev pub steps : ℕ → Groups → Groups
 steps zero g = g
 steps (suc n) g = steps n (step g)
 
--- THE SIZES of the codes, by symbol, 0 where the count is 0. The last one is that of a reserved symbol of count 1, so
--- that no symbol's code is all ones. Of n symbols and this one n steps make a single group.
+-- THE SIZES of the codes (Figure K.1), by symbol, 0 where the count is 0. The last one is that of a reserved symbol of
+-- count 1, so that no symbol's code is all ones. Of n symbols and this one n steps make a single group.
 unfoldable pub code_sizes : List ℕ → List ℕ
 code_sizes counts = map (λ m. m.1) (steps (length counts) (alone (counts ++ 1 ∷ []))).members
 
@@ -113,8 +113,8 @@ fitted counts =
     let sizes = code_sizes counts in
     record { counts = reverse (fitted_counts n sizes); symbols = symbols_up_to sizes n (n + 16) }
 
--- A VALID TABLE: 16 counts of one byte, as many symbols as codes, at most 256 and none twice; each code fits its size, and
--- none is all ones.
+-- A VALID TABLE: 16 counts of one byte, as many symbols as codes, at most 256 and none twice; each code fits its size,
+-- and none is all ones.
 pub record IsValidTable (table : HuffmanTable) : Type 0 where
   pub lengths : length table.counts ≡ 16
   pub bytes : All (λ n. n < 256) table.counts

@@ -1,4 +1,5 @@
--- The inverse transform of a block (T.81, A.3.3), by the accurate integer method of release 6b: columns, then rows.
+-- The inverse transform of a block (T.81, A.3.3, F.2.1.5), by the accurate integer method of release 6b: columns, then
+-- rows.
 use Rattle.std.specs.Prelude.{ℕ, ◌+◌, ◌-◌, nat_lt, if◌then◌else◌, List, [], ◌∷◌, map, flat_map, slice_index, slice_index_or, ℤ, pos, ◌+ℤ◌, ◌-ℤ◌, ◌*ℤ◌, nat_abs}
 use Rattle.std.specs.Int.{int_shr, int_rem_euclid}
 use Rattle.jpg_spec.specs.Lists.{below, index_of}
@@ -7,7 +8,7 @@ use Rattle.jpg_spec.specs.Zigzag.{zigzag}
 abbrev pub number_at : List ℤ → ℕ → ℤ
 number_at numbers k = slice_index_or numbers k (pos 0)
 
--- a block in natural order: each coefficient times its quantiser
+-- a block in natural order (A.3.6): each coefficient times its quantiser (A.3.4, F.2.1.4)
 unfoldable pub dequantised : List ℕ → List ℤ → List ℤ
 dequantised quants block = map (λ n. number_at block (index_of n zigzag) *ℤ pos (slice_index quants (index_of n zigzag))) (below 64)
 
@@ -55,7 +56,7 @@ column block u =
 abbrev pub columns : List ℤ → List (List ℤ)
 columns block = map (column block) (below 8)
 
--- A number, modulo 1024, as a sample: 128 is added, and the result is limited to 0 to 255
+-- A number, modulo 1024, as a sample: 128 is added (A.3.1), and the result is limited to 0 to 255
 abbrev pub ranged : ℕ → ℕ
 ranged m = if nat_lt m 128 then m + 128 else if nat_lt m 512 then 255 else if nat_lt m 896 then 0 else m - 896
 

@@ -1,5 +1,5 @@
 -- The forward transform of a block (T.81, A.3.3), by the accurate integer method of release 6b: rows, then columns. Its
--- coefficients quantised (A.3.4).
+-- coefficients quantised (A.3.4) and in zigzag order (A.3.6).
 use Rattle.std.specs.Prelude.{ℕ, ◌+◌, ◌*◌, ◌/◌, List, [], ◌∷◌, map, flat_map, zip, slice_index, ℤ, pos, negsuc, neg_ℤ, ◌+ℤ◌, ◌-ℤ◌, ◌*ℤ◌}
 use Rattle.std.specs.Int.{int_shr}
 use Rattle.jpg_spec.specs.Lists.{below}
@@ -30,7 +30,7 @@ line_frequencies d0 d1 d2 d3 d4 d5 d6 d7 =
 
 -- A BLOCK of 64 samples
 
--- a sample minus 128
+-- a sample minus 128 (A.3.1)
 abbrev pub level : List ℕ → ℕ → ℤ
 level samples k = pos (slice_index samples k) -ℤ pos 128
 
@@ -66,7 +66,7 @@ forward_dct samples = let columns = frequency_columns (frequency_rows samples) i
 -- QUANTISING
 
 -- eight times a coefficient, as a multiple of a quantiser: the nearest one, or of two equally near ones the one farther
--- from 0
+-- from 0 (A.3.4)
 abbrev pub multiples : ℕ → ℕ → ℕ
 multiples size q = (size + 4 * q) / (8 * q)
 

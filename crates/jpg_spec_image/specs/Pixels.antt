@@ -18,7 +18,7 @@ use Rattle.jpg_spec.specs.declared.jfif.Jfif.{Jfif}
 
 -- PLANES
 
--- the size of component i in samples
+-- the size of component i in samples (A.1.1)
 abbrev pub samples_across : Meaning → ℕ → ℕ
 samples_across M i = div_up (M.width * (component_of M i).h) (most_across M)
 

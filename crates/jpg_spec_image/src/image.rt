@@ -7,13 +7,18 @@ pub enum ImageKind {
     Rgb,
 }
 
-/// The size of an image, what its rows are, and its pixels per metre horizontally and vertically (0: unknown).
+/// The numbers of an image.
 #[derive(Clone, Copy, Debug, PartialEq, Eq)]
 pub struct ImageInfo {
+    /// Pixels of a row.
     pub width: u32,
+    /// Rows.
     pub height: u32,
+    /// What a pixel is.
     pub kind: ImageKind,
+    /// Pixels per metre horizontally; 0: unknown.
     pub x_metre: u32,
+    /// Pixels per metre vertically; 0: unknown.
     pub y_metre: u32,
 }
 

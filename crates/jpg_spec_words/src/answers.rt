@@ -1,4 +1,4 @@
-//! The answers of the commands: why the work ended, and the texts that name it.
+//! What the commands return: why the work ended, and the texts that name it.
 ghost use Rattle.std.specs.Prelude.{◌≡◌};
 ghost use Rattle.jpg_spec_words.specs.Messages.{usage_name, which_name, status_of};
 
@@ -82,7 +82,7 @@ impl Which {
 pub enum Why {
     /// The complete output was written.
     Done,
-    /// The same, for an input that ended early after this many bytes.
+    /// The complete output was written, of an input that ended early after this many bytes.
     Warned(u64),
     /// The words are wrong.
     Usage(Usage),

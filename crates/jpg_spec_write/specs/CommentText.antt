@@ -1,5 +1,5 @@
--- COMMENTS: as rdjpgcom prints them, and a file with one inserted, as wrjpgcom writes it (T.81, B.2.4.5, the manuals of
--- both).
+-- COMMENTS: as rdjpgcom prints them, and a file with one inserted, as wrjpgcom writes it (T.81, B.2.4.5, Figure B.10;
+-- the manuals of both).
 use Rattle.std.specs.Prelude.{◌≡◌, ◌⊎◌, ℕ, ◌+◌, ◌/◌, ◌%◌, ◌<◌, ◌≤◌, Bool, true, false, not, ◌==◌, if◌then◌else◌, List, [], ◌∷◌, ◌++◌, length, take, flat_map, filter, reverse, None}
 use Rattle.jpg_spec.specs.Lists.{is_empty}
 use Rattle.jpg_spec_write.specs.FileText.{segment_text}

@@ -18,6 +18,7 @@ use Rattle.jpg_spec.specs.declared.frame.Colour.TheVariants.{Gray, YCbCr, Rgb, C
 
 -- SEGMENTS
 
+-- a marker and its segment (B.1.1.4)
 abbrev pub segment_text : ℕ → List ℕ → List ℕ
 segment_text code contents = 255 ∷ code ∷ to_be_bytes w16 (length contents + 2) ++ contents
 
@@ -37,6 +38,7 @@ abbrev pub slot_in : List QuantTable → QuantTable → ℕ
 slot_in [] table = 0
 slot_in (t ∷ tables) table = if are_equal t table then 0 else 1 + slot_in tables table
 
+-- a table in a segment of its own (B.2.4.1, Figure B.6)
 abbrev pub quant_text : ℕ → QuantTable → List ℕ
 quant_text slot table =
     segment_text 0xdb (((if is_wide table then 16 else 0) + slot) ∷ (if is_wide table then flat_map (to_be_bytes w16) table else table))
@@ -52,6 +54,7 @@ sof_code Progressive = 0xc2
 abbrev pub component_bytes : Meaning → PictureComponent → List ℕ
 component_bytes H c = c.id ∷ (16 * c.h + c.v) ∷ slot_in (distinct_quants H) c.quants ∷ []
 
+-- the frame header (B.2.2, Figure B.3)
 abbrev pub frame_text : Meaning → List ℕ
 frame_text H =
     segment_text (sof_code H.process)
@@ -81,7 +84,7 @@ has_chroma Unknown = false
 abbrev pub slot_for : Colour → ℕ → ℕ
 slot_for colour i = if has_chroma colour && (i == 1 || i == 2) then 1 else 0
 
--- a slot number that isn't needed is 0
+-- the scan header; a slot number that isn't needed is 0 (B.2.3)
 abbrev pub written_head : Meaning → Entry → ScanHead
 written_head H e =
     let is_prog = is_progressive H.process in
@@ -93,6 +96,7 @@ written_head H e =
       al = if is_prog then e.al else 0;
     }
 
+-- its segment (B.2.3, Figure B.4)
 abbrev pub head_text : Meaning → ScanHead → List ℕ
 head_text H head =
     segment_text 0xda (length head.parts ∷ flat_map (λ p. slice_index_or (map (λ c. c.id) H.components) p.component 0 ∷ (16 * p.dc + p.ac) ∷ []) head.parts
@@ -115,7 +119,7 @@ holds_table (Some old) table = is_same old table
 abbrev pub with_table : (ℕ → ℕ → Option HuffmanTable) → ℕ → ℕ → HuffmanTable → ℕ → ℕ → Option HuffmanTable
 with_table tables class slot table c s = if c == class && s == slot then Some table else tables c s
 
--- a DHT segment for each needed table that isn't the last one of its class and slot
+-- a DHT segment for each needed table that isn't the last one of its class and slot (B.2.4.2, Figure B.7)
 abbrev pub tables_text : (ℕ → ℕ → Option HuffmanTable) → (ℕ → ℕ → HuffmanTable) → List (ℕ × ℕ) → List ℕ
 tables_text given due [] = []
 tables_text given due (n ∷ needed) =
@@ -137,7 +141,8 @@ interval_of f head off = 0
 interval_of f head (rows n) = min (n * scan_mcus_across f (head_components head)) 65535
 interval_of f head (mcus n) = n
 
--- the scans of a script, after what was written so far
+-- the scans of a script, after what was written so far: the tables that change, DRI if the interval does (B.2.4.4), the
+-- header and the data (B.2.1)
 unfoldable pub scans_text : Huffman → Meaning → Restart → Written → List Entry → List ℕ
 scans_text huffman H restart written [] = []
 scans_text huffman H restart written (e ∷ script) =
@@ -155,6 +160,7 @@ scans_text huffman H restart written (e ∷ script) =
 abbrev pub nothing_written : Written
 nothing_written = record { tables = λ class slot. None; interval = 0 }
 
+-- the file (B.2.1, Figure B.2)
 unfoldable pub file_text : Huffman → Meaning → List Entry → Restart → List ℕ
 file_text huffman H script restart =
     front_text H ++ scans_text huffman H restart nothing_written script ++ eoi

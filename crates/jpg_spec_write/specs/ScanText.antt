@@ -1,5 +1,5 @@
--- WRITTEN SCANS: their elements, the tables of their codes, and their data (T.81, F.1.2, E.1.4; the choices are this
--- writer's).
+-- WRITTEN SCANS: their elements, the tables of their codes, and their data (T.81, F.1.2, G.1.2, E.1.4; the choices are
+-- this writer's).
 use Rattle.std.specs.Prelude.{ℕ, ◌+◌, ◌-◌, ◌*◌, ◌%◌, Bool, true, false, not, nat_lt, ◌&&◌, ◌==◌, if◌then◌else◌, List, [], ◌∷◌, ◌++◌, take, drop, map, flat_map, filter, count_by, slice_index_or, Some, ℤ, pos, nat_abs, ◌-ℤ◌}
 use Rattle.jpg_spec.specs.Bits.{data_of}
 use Rattle.jpg_spec.specs.Lists.{below, chunks, are_equal, is_among}
@@ -25,7 +25,7 @@ UnitDue = ℕ × List ℤ
 abbrev pub last_dc : (ℕ → ℤ) → ℕ → List ℤ → ℕ → ℤ
 last_dc last component block i = if i == component then slice_index_or block 0 (pos 0) else last i
 
--- A padding block has the DC of the block before it of its component, and AC 0.
+-- A padding block has the DC of the block before it of its component, and AC 0 (A.2.4).
 abbrev pub units_due : Blocks → (ℕ → ℤ) → List Place → List UnitDue
 units_due blocks last [] = []
 units_due blocks last (p ∷ places) =
@@ -39,7 +39,7 @@ abbrev pub dc_element : Bool → ℕ → ℤ → ℤ → Element
 dc_element false al prediction v = difference (shifted al v -ℤ prediction)
 dc_element true al prediction v = dc_bit (nat_abs (shifted al v) % 2 == 1)
 
--- DC of each unit; in a sequential scan its band follows
+-- DC of each unit (F.1.2.1, G.1.2.1); in a sequential scan its band follows (F.1.2.2)
 abbrev pub unit_elements : Bool → Bool → ℕ → (ℕ → ℤ) → List UnitDue → List Owned
 unit_elements is_seq refines al predictions [] = []
 unit_elements is_seq refines al predictions (u ∷ later) =
@@ -62,7 +62,8 @@ scan_elements f head interval blocks =
     map (λ places. interval_elements (is_progressive f.process) head (units_due blocks (λ i. pos 0) places))
     (chunks (interval * mcu_units f (head_components head)) (units f (head_components head)))
 
--- THE BITS AND DATA of a scan: the first code of each symbol, pad bits 1, RST0 to RST7 in turn
+-- THE BITS AND DATA of a scan: the first code of each symbol (F.1.2.1, F.1.2.2), pad bits 1 (F.1.2.3), RST0 to RST7 in
+-- turn (E.1.4)
 
 abbrev pub is_dc : Element → Bool
 is_dc (difference d) = true
@@ -100,7 +101,7 @@ unfoldable pub symbols_used : ScanHead → List (List Owned) → ℕ → ℕ →
 symbols_used head intervals class slot =
     let written = symbols_written head intervals class slot in filter (λ symbol. is_among symbol written) (below 256)
 
--- by symbol, how often it is written
+-- by symbol, how often it is written: FREQ of K.2
 unfoldable pub symbol_counts : ScanHead → List (List Owned) → ℕ → ℕ → List ℕ
 symbol_counts head intervals class slot =
     let written = symbols_written head intervals class slot in map (λ symbol. count_by (λ s. s == symbol) written) (below 256)
@@ -111,7 +112,7 @@ typical_table class slot =
     then (if slot == 0 then record { counts = dc_luma_counts; symbols = dc_luma_values } else record { counts = dc_chroma_counts; symbols = dc_chroma_values })
     else (if slot == 0 then record { counts = ac_luma_counts; symbols = ac_luma_values } else record { counts = ac_chroma_counts; symbols = ac_chroma_values })
 
--- K.3 to K.6 in slots 0 and 1
+-- Tables K.3 to K.6 (K.3) in slots 0 and 1
 abbrev pub typical_tables : TablesInForce
 typical_tables class slot = Some (typical_table class slot)
 

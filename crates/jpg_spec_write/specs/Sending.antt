@@ -1,10 +1,10 @@
--- WHAT A SCAN SENDS of a band, and the elements that the writer chooses for it (T.81, F.1.2, G.1.2; the choices are
--- this writer's).
+-- WHAT A SCAN SENDS of a band, and the elements that the writer chooses for it (T.81, F.1.2.2, G.1.2.2, G.1.2.3; the
+-- choices are this writer's).
 use Rattle.std.specs.Prelude.{ℕ, zero, suc, ◌+◌, ◌/◌, ◌%◌, ◌^◌, Bool, true, false, not, nat_lt, ◌||◌, ◌==◌, if◌then◌else◌, List, [], ◌∷◌, ◌++◌, length, ℤ, pos, negsuc, neg_ℤ, nat_abs}
 use Rattle.jpg_spec.specs.Lists.{is_empty, any_of}
 use Rattle.jpg_spec.specs.Elements.{Element, value, long_run, ends, is_zero}
 
--- the point transform (G.1.2.1, G.1.2.2): DC is shifted, and the magnitude of AC is
+-- the point transform (G.1.1.1, G.1.2.1, G.1.2.2): DC is shifted, and the magnitude of AC is
 abbrev pub shifted : ℕ → ℤ → ℤ
 shifted al (pos n) = pos (n / 2 ^ al)
 shifted al (negsuc n) = negsuc (n / 2 ^ al)
@@ -13,7 +13,8 @@ abbrev pub divided : ℕ → ℤ → ℤ
 divided al (pos n) = pos (n / 2 ^ al)
 divided al (negsuc n) = neg_ℤ (pos ((n + 1) / 2 ^ al))
 
--- A correction of a value that isn't zero so far, or a value that is newly sent, or remains zero.
+-- What a scan sends of one coefficient: a correction of a value that isn't zero so far (G.1.2.3), or a value that is
+-- newly sent, or remains zero.
 pub data Sent : Type 0 where
   correction : Bool → Sent
   newly_significant : ℤ → Sent
@@ -41,7 +42,7 @@ corrections_of (correction b ∷ band) = b ∷ corrections_of band
 corrections_of (newly_significant v ∷ band) = corrections_of band
 
 -- THE ELEMENTS of a band up to its last newly sent value, after a run of zeros and corrections that aren't written yet.
--- The sixteenth zero of a run makes a ZRL.
+-- The sixteenth zero of a run makes a ZRL (F.1.2.2, Figures F.2 and F.3; G.1.2.2, Figure G.3; G.1.2.3, Figure G.7).
 abbrev pub value_elements : ℕ → List Bool → List Sent → List Element
 value_elements run bits [] = []
 value_elements run bits (correction b ∷ band) = value_elements run (bits ++ b ∷ []) band
@@ -55,7 +56,7 @@ ended_bands zero bits = []
 ended_bands (suc bands) bits = ends (suc bands) bits ∷ []
 
 -- The elements of bands, where an EOB of this many bands waits. At most `most` bands make one EOB, and 937 corrections
--- may wait.
+-- may wait (G.1.2.2, Figure G.3; G.1.2.3, Figure G.7; the 937 is this writer's).
 abbrev pub band_elements : ℕ → ℕ → List Bool → List (List Sent) → List Element
 band_elements most bands bits [] = ended_bands bands bits
 band_elements most bands bits (band ∷ later) =

@@ -1,4 +1,4 @@
--- WHAT A SEQUENTIAL SCAN can write, and the units that it writes (T.81, F.1.2).
+-- WHAT A SEQUENTIAL SCAN can write, and the units that it writes (T.81, F.1.2.1, F.1.2.2).
 use Rattle.std.specs.Prelude.{ℕ, Bool, false, List, map, flat_map, Some}
 use Rattle.std.specs.List.{Contains}
 use Rattle.jpg_spec.specs.Segments.{HuffmanTable, ScanHead, table_codes}

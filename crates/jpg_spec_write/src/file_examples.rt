@@ -44,7 +44,7 @@ pub fn components_are_interleaved()
     ensures { file_text Plain (three_values Baseline) three_scan (mcus 1) ≡ three_scan_text }
 {}
 
-/// The same in ten progressive scans (T.81, G.1.1 and G.1.2).
+/// 17 by 16 samples of three components in ten progressive scans (T.81, G.1.1 and G.1.2).
 pub fn components_are_sent_in_passes()
     ensures { file_text Plain (three_values Progressive) three_passes off ≡ three_passes_text }
 {}

@@ -35,7 +35,7 @@ is_targa_read r = r.done
 abbrev pub HasFedTarga : List ℕ → TargaReader → Type 0
 HasFedTarga bytes r = (r.stop ≡ None) × (r.done ≡ false) × AreBytes bytes × HasRead bytes r.taken r.work
 
--- THE ANSWER to a piece that is fed, by all bytes so far; where more is needed, these were fed then
+-- THE RESULT of a piece that is fed, by all bytes so far; where more is needed, these were fed then
 abbrev pub AfterFeed : List ℕ → List ℕ → Result Fed2 Stop → TargaReader → Type 0
 AfterFeed bytes piece (Ok fed.More) r = HasFedTarga (bytes ++ piece) r
 AfterFeed bytes piece (Ok fed.Done) r = AfterTargaRead bytes piece (Ok fed.Done) r.work (targa_read r)
@@ -45,7 +45,7 @@ AfterFeed bytes piece (Err stop) r = AfterTargaRead bytes piece (Err stop) r.wor
 abbrev pub Feeds : TargaReader → List ℕ → Result Fed2 Stop → TargaReader → Type 0
 Feeds old piece answer new = (bytes : List ℕ) → HasFedTarga bytes old → AfterFeed bytes piece answer new
 
--- the answer where the input ends
+-- the result where the input ends
 abbrev pub IsShortAt : List ℕ → Stop → Type 0
 IsShortAt bytes answer = (answer ≡ stop.Fault (record { fault = ImageShort; at = length bytes })) × IsTargaFault bytes ImageShort (length bytes)
 

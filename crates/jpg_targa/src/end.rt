@@ -13,9 +13,13 @@ use std::alloc::Global;
 /// exchanges red and blue.
 #[derive(Drop)]
 pub struct TargaEnd {
+    // The size and the colours of the image, once it began.
     info: Option<ImageInfo>,
+    // How many rows were taken.
     taken: u32,
+    // The image is complete.
     done: bool,
+    // Memory for one row.
     line: Vec<u8>,
     ghost low: { (info_given info).height ≤ 65500 },
     ghost wide: { (info_given info).height ≤ 65500 * (info_given info).width },

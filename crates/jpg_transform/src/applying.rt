@@ -17,7 +17,7 @@ use std::alloc::Global;
 
 /// The coefficients of the picture converted to grayscale, transformed and trimmed, as the job that `plan` gave for it
 /// says: in the job's frame they are those of the transformed picture, and all blocks outside the real grids are zero.
-/// It answers NoMemory if there is no memory for them.
+/// Returns NoMemory if there is no memory for them.
 pub fn apply(alloc: Global, picture: &Picture, job: &Job) -> Result<Coefs, NoMemory>
     requires { (choice : Choice) × IsJobFor picture.now choice job.now }
     ensures frame { IfOk result (λ c. c.frame ≡ job.now.plan.out.frame) }
@@ -32,9 +32,9 @@ pub fn apply(alloc: Global, picture: &Picture, job: &Job) -> Result<Coefs, NoMem
     Ok(coefs)
 }
 
-/// The same for a picture whose rows become columns and which is written in progressive scans: each of them goes over all
-/// its blocks, and in the picture that was read these would be fetched column by column each time. None for any other, and
-/// if there is no memory for them: `Moved` serves then.
+/// The coefficients of `apply`, for a picture whose rows become columns and which is written in progressive scans: each
+/// of them goes over all its blocks, and in the picture that was read these would be fetched column by column each
+/// time. None for any other, and if there is no memory for them: `Moved` serves then.
 pub fn turned_copy(alloc: Global, picture: &Picture, job: &Job) -> Option<Coefs>
     requires { (choice : Choice) × IsJobFor picture.now choice job.now }
     ensures { IfSome result (λ c. WritesJob picture.now job.now c.frame (map_of c)) }

@@ -32,18 +32,22 @@ impl Scans {
     }
 }
 
-/// What is asked for a picture: whether it is converted to grayscale, transformed and trimmed, in this order; which of
-/// its kept markers are passed on; the scans that it is written in, their Huffman tables, and the restart interval.
+/// What is asked for a picture. It is converted to grayscale, transformed and trimmed, in this order.
 #[derive(Drop)]
 pub struct Choice {
+    /// How it is transformed.
     pub transform: Transform,
     /// Partial iMCUs that would remain in place, at the right and at the bottom, are left out.
     pub trim: bool,
     /// Only the first component is kept, with factors 1 by 1.
     pub gray: bool,
+    /// Which of its kept markers are passed on.
     pub copying: Copying,
+    /// The scans that it is written in.
     pub scans: Scans,
+    /// Their Huffman tables.
     pub huffman: Huffman,
+    /// Their restart interval.
     pub restart: Restart,
 }
 

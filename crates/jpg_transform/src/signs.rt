@@ -66,7 +66,7 @@ pub fn signed(across: bool, down: bool, block: &Block) -> Block
     turned
 }
 
-/// The same for the block with its axes exchanged.
+/// The block with its axes exchanged, with its signs changed as by `signed`.
 pub fn signed_over(across: bool, down: bool, block: &Block) -> Block
     requires { All (λ v. negsuc 32766 ≤ℤ v) block.now }
     ensures { result ≡ signed across down (transposed (pos 0) block.now) }

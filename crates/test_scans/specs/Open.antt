@@ -12,7 +12,7 @@ use Rattle.jpg_seq.specs.Reader.{RepresentsSeqScan}
 abbrev pub IsOpen : SeqReader → Picture → Type 0
 IsOpen m now = (i : Interval) × (bits : List Bool) × RepresentsSeqScan m i bits now
 
--- after an answer it may take more only where the interval goes on
+-- after a result it may take more only where the interval goes on
 abbrev pub GoesOn : Taken → SeqReader → Picture → Type 0
 GoesOn More m now = IsOpen m now
 GoesOn Units m now = Unit {0}

@@ -45,7 +45,7 @@ fn find_part(failing: &[Failure], call: u64) -> Option<Part>
     None
 }
 
-/// Counts a call, and answers whether it is one that fails.
+/// Counts a call. Returns whether it is one that fails.
 pub fn is_failing(calls: &mut u64, failing: &[Failure]) -> bool
     ensures fails { result ≡ is_some (next_part calls.old (map chosen failing.now)) }
     ensures counted { calls.new ≡ raised calls.old }
@@ -127,7 +127,7 @@ fn part_bytes(part: Part, length: usize) -> usize
     }
 }
 
-// Appends the part of a piece, and answers whether there was memory for it.
+// Appends the part of a piece. Returns whether there was memory for it.
 fn append_part(part: Part, bytes: &mut Vec<u8>, piece: &[u8]) -> bool
     ensures { bytes.new.items ≡ bytes.old.items ++ take (appended_length result part (length piece.now)) piece.now }
 {

@@ -35,7 +35,8 @@ abbrev pub source_samples : ImageSource → List ℕ
 source_samples (source.Pixels r) = samples_so_far r
 source_samples (source.Targa r) = []
 
--- The bytes that follow are the rest of the samples of an image with these numbers; or there are none of which that is so.
+-- The bytes that follow are the rest of the samples of an image with these numbers; or there are none of which that is
+-- so.
 abbrev pub TellsSamples : ImageSource → ImageInfo → Type 0
 TellsSamples r info = (targa : Bool) (bytes : List ℕ) → HasFed targa bytes r → (targa ≡ false) × HasFedSamples info bytes (source_samples r)
 
@@ -57,7 +58,7 @@ abbrev pub is_source_read : ImageSource → Bool
 is_source_read (source.Pixels r) = is_image_read r
 is_source_read (source.Targa r) = is_targa_read r
 
--- the step of a reader that stops, and of an answer
+-- the step of a reader that stops, and of a result
 abbrev pub stopped : Stop → ImageStep
 stopped (stop.Fault f) = step.Ended (why.Refused f)
 stopped stop.NoMemory = step.Ended why.NoMemory

@@ -59,7 +59,7 @@ abbrev pub IsAllRead : Option ℕ → DeskState → Type 0
 IsAllRead None new = Unit {0}
 IsAllRead (Some n) new = rest_of new.left ≡ []
 
--- the answer when the complete output was written
+-- the result when the complete output was written
 abbrev pub done_as : Option ℕ → Why
 done_as None = why.Done
 done_as (Some n) = why.Warned n

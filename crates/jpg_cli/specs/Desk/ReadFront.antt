@@ -1,5 +1,5 @@
--- WHAT READING THE FRONT of a picture's file does to a desk (T.81, B.2.1), by its result. The front is for so many scans;
--- its image is asked for, in grayscale or not.
+-- WHAT READING THE FRONT of a picture's file does to a desk (T.81, B.2.1), by its result. The front is for so many
+-- scans; its image is asked for, in grayscale or not.
 use Rattle.std.specs.Prelude.{◌≡◌, ◌⊎◌, ℕ, suc, ◌+◌, ◌<◌, ◌≤◌, Bool, true, List, [], ◌++◌, length, take, Option, None, Some, Result, Ok, Err}
 use Rattle.std.specs.Io.KnownBytes.{Consumes}
 use Rattle.jpg_base.specs.declared.names.Name.{Name}
@@ -83,8 +83,8 @@ pub record IsFrontRefusedRead (scans : ℕ) (gray : Bool) (f : FaultAt) (rest by
   pub within : f.at ≤ length bytes
   pub last : length bytes < f.at + 65536
 
--- The bytes are fewer than may be taken, have no fault, nothing that can't be displayed, no complete file, and no marker
--- that ends the front.
+-- The bytes are fewer than may be taken, have no fault, nothing that can't be displayed, no complete file, and no
+-- marker that ends the front.
 pub record IsOpenFront (scans : ℕ) (gray : Bool) (bytes : List ℕ) : Type 0 where
   pub stands : IsOpenRead (Image gray) bytes
   pub none : EndsNoScan scans bytes
@@ -105,7 +105,7 @@ front_judging scans gray = record {
   short = IsShortFront scans gray;
 }
 
--- THE ANSWERS: the picture means what the file's front means; or why there is none
+-- THE RESULTS: the picture means what the file's front means; or why there is none
 abbrev pub FrontRead : ℕ → Bool → Name → DeskState → Result (Picture × Option ℕ) Why → DeskState → Type 0
 FrontRead scans gray file old result new = MeaningRead (front_judging scans gray) All file old result new
 
@@ -114,7 +114,8 @@ FrontRead scans gray file old result new = MeaningRead (front_judging scans gray
 abbrev pub EndsFront : ℕ → Bool → DeskState → Result (Picture × Option ℕ) Why → DeskState → Type 0
 EndsFront scans gray old result new = EndsMeaning (front_judging scans gray) All old result new
 
--- The preview of so many scans was fed these bytes, fewer than may be taken, whose picture can be displayed, and goes on.
+-- The preview of so many scans was fed these bytes, fewer than may be taken, whose picture can be displayed, and goes
+-- on.
 pub record HasFedFront (scans : ℕ) (gray : Bool) (p : PreviewState) (bytes : List ℕ) : Type 0 where
   pub viewed : HasViewed bytes p
   pub wants : p.scans ≡ scans

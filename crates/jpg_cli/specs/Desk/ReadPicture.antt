@@ -106,7 +106,7 @@ picture_judging w = record {
   short = IsShortRead w;
 }
 
--- THE ANSWERS: the picture means what is judged of the file, except for markers that aren't kept when these are passed
+-- THE RESULTS: the picture means what is judged of the file, except for markers that aren't kept when these are passed
 -- on; or why there is none
 abbrev pub MeaningRead : Judging Meaning → Copying → Name → DeskState → Result (Picture × Option ℕ) Why → DeskState → Type 0
 MeaningRead j keeping file old (Ok found) new =

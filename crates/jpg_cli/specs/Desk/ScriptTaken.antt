@@ -47,7 +47,7 @@ StopsAtScans own_sequential old ended new = ⊥
 StopsAtScans own_progressive old ended new = ⊥
 StopsAtScans (in_file file) old ended new = StopsAtText script_kind [] (name.File file) old ended new
 
--- THE ANSWERS
+-- THE RESULTS
 
 abbrev pub AfterScript : Name → DeskState → Result AskedScans Why → DeskState → Type 0
 AfterScript file old (Ok scans) new =

@@ -37,7 +37,7 @@ abbrev pub StopsAtTables : List Name → Option (List ℕ) → DeskState → Why
 StopsAtTables before None old ended new = ⊥
 StopsAtTables before (Some file) old ended new = StopsAtText tables_kind before (name.File file) old ended new
 
--- THE ANSWERS
+-- THE RESULTS
 
 abbrev pub tables_view : Option (ArrayVec QuantTable) → Option (List QuantTable)
 tables_view tables = option_map (λ v. v.items) tables

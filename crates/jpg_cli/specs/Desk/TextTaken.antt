@@ -10,7 +10,7 @@ use Rattle.jpg_spec_words.specs.declared.answers.Which.{Which}
 use Rattle.jpg_cli.specs.Endings.{Stopped, Unopened, Unread}
 use Rattle.jpg_cli.specs.Desk.Reading.{IsFile, IsReadTo, ReadsPart}
 
--- A KIND OF TEXT: which file has it, for the answers; how long it may be; and what one encodes, or its fault
+-- A KIND OF TEXT: which file has it, for the results; how long it may be; and what one encodes, or its fault
 pub record TextKind (A : Type 0) : Type 1 where
   pub which : Which
   pub longest : ℕ

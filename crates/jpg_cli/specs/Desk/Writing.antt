@@ -42,8 +42,8 @@ AfterOutput output old due wrote.OpenFault new =
 AfterOutput output old due wrote.WriteFault new =
     NotesName old.asked (output, put.Done) new.asked × Rose old.counts.writes new.counts.writes × GrowsInPart output old due new
 
--- WHAT WAS MADE of an input, which has this fault or none, and this text, is written, by why that ended: it has a fault,
--- and nothing was created; or it has none, and its text is written, of which this holds.
+-- WHAT WAS MADE of an input, which has this fault or none, and this text, is written, by why that ended: it has a
+-- fault, and nothing was created; or it has none, and its text is written, of which this holds.
 abbrev pub AfterMade : Option PictureFault → List ℕ → Type 0 → Name → DeskState → Why → DeskState → Type 0
 AfterMade fault text Right output old why.Done new = (fault ≡ None) × AfterOutput output old text wrote.Done new × Right
 AfterMade fault text Right output old (why.Picture p) new = (fault ≡ Some p) × Untouched old new
@@ -51,7 +51,7 @@ AfterMade fault text Right output old (why.OpenFault which.Output) new = (fault 
 AfterMade fault text Right output old why.WriteFault new = (fault ≡ None) × AfterOutput output old text wrote.WriteFault new
 AfterMade fault text Right output old other new = ⊥
 
--- the answer of a conversion then, if the input ended early after this many bytes
+-- the result of a conversion then, if the input ended early after this many bytes
 abbrev pub as_early : Option ℕ → Why → Why
 as_early early why.Done = done_as early
 as_early early other = other
@@ -66,7 +66,7 @@ why_wrote wrote.WriteFault = why.WriteFault
 abbrev pub in_area : Option Area → Choice → Choice
 in_area area choice = record choice { crop = area }
 
--- THE ANSWERS for a transformed picture, whose text means it if some bytes mean the picture
+-- THE RESULTS for a transformed picture, whose text means it if some bytes mean the picture
 abbrev pub AfterMoved : Choice → Meaning → Name → DeskState → Wrote → DeskState → Type 0
 AfterMoved choice M output old answer new =
     AfterMade (picture_fault choice M) (moved_text choice M) (IsMeant M → MeansMoved choice M) output old (why_wrote answer) new

@@ -137,11 +137,11 @@ pub record EndsWithOutput (task : Task) (old : DeskState) (ended : Why) (new : D
   pub source : IsShortComment old task.comment comment
   pub copied : Copies (inserted_texts comment task.replace) (Copied (names_of task.comment) task.input task.output) old ended new
 
--- THE ANSWERS
+-- THE RESULTS
 abbrev pub Inserted : Task → DeskState → Why → DeskState → Type 0
 Inserted task old ended new = EndsBeforeOutput task old ended new ⊎ EndsWithOutput task old ended new
 
--- If no count of open, read or write rose, the answer is that of the comment and the input, or NoMemory.
+-- If no count of open, read or write rose, the result is that of the comment and the input, or NoMemory.
 
 abbrev pub HasLongComment : Task → FaultAt → DeskState → Type 0
 HasLongComment task f old = (comment : List ℕ) × IsComment old task.comment comment × (longest_comment < length comment) × (f ≡ too_long)

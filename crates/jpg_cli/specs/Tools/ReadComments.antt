@@ -67,14 +67,14 @@ pub record IsTextPart (bytes text : List ℕ) : Type 0 where
 abbrev pub printed_texts : CopyTexts
 printed_texts = record { whole = λ rest. IsWholeText; refused = IsFaultText; unread = IsTextSoFar; part = IsTextPart }
 
--- THE ANSWERS: the comments of the input were printed to the output, or some of them, by the answer; or the input wasn't
--- opened, or the output wasn't created
+-- THE RESULTS: the comments of the input were printed to the output, or some of them, by the result; or the input
+-- wasn't opened, or the output wasn't created
 abbrev pub Printed : Name → Name → DeskState → Why → DeskState → Type 0
 Printed input output old (why.OpenFault which.Input) new = Unopened (input ∷ []) old new
 Printed input output old (why.OpenFault which.Output) new = Unopened (input ∷ output ∷ []) old new
 Printed input output old ended new = Copies printed_texts (Copied [] input output) old ended new
 
--- If no count of open, read or write rose, the answer is that of the input, or NoMemory.
+-- If no count of open, read or write rose, the result is that of the input, or NoMemory.
 abbrev pub IsPrintDue : Name → DeskState → Why → Type 0
 IsPrintDue input old why.Done =
     (bytes : List ℕ) × (n : ℕ) × (before : List Segment) × IsFile old.files input bytes × (n ≤ length bytes) × (n ≤ standard_limits.input)

@@ -79,7 +79,7 @@ pub record IsHeadIn (gray : Bool) (h : Head) (bytes : List ℕ) : Type 0 where
   pub begins : BeginsScanOfAll standard_limits bytes h.before h.contents
   pub shown : out_fault_of (frame_of standard_limits h.before).precision (colours_after standard_limits h.before) gray (factors_after standard_limits h.before) ≡ None
 
--- A reader was fed bytes, of whose scan this many MCU rows were given, and then a piece, with this answer. That is all
+-- A reader was fed bytes, of whose scan this many MCU rows were given, and then a piece, with this result. That is all
 -- that was read.
 pub record HasFedRows (gray : Bool) (h : Head) (all : List ℕ) (m : ℕ) (piece : List ℕ) (answer : Result FedRow Stop) (r : ReaderState) : Type 0 where
   pub fed : List ℕ
@@ -115,7 +115,7 @@ TakesFirst gray had piece answer r =
     (bytes : List ℕ) → HasFedPlainly gray had bytes → length (bytes ++ piece) ≤ standard_limits.input
     → AfterFirst gray bytes piece answer r
 
--- the result of the reader's answer, where no rows are read
+-- what follows from the reader's result, where no rows are read
 abbrev pub step_of : Result FedRow Stop → FirstStep
 step_of (Ok fed.More) = first.More
 step_of (Ok (fed.Row used)) = first.More
@@ -225,7 +225,7 @@ more_read run piece = record run { all = run.all ++ piece }
 abbrev pub IsImageOf : Showing → Meaning → Meaning → Type 0
 IsImageOf s P M = end_text s.kind (info P s.gray) (pixels P s.gray s.smooth) ≡ shown_text s M
 
--- THE STATE in which an answer of the reader is handled
+-- THE STATE in which a result of the reader is handled
 pub record IsShowing (s : Showing) (run : Run) (m : ℕ) (piece : List ℕ) (answer : Result FedRow Stop) (w : Work) : Type 0 where
   pub written : List ℕ
   pub read : HasFedRows s.gray run.head run.all m piece answer w.reader
@@ -394,7 +394,7 @@ reads_left step.Whole taken = 0
 reads_left (step.Early n) taken = 0
 reads_left (step.Ended ended) taken = 0
 
--- the result of the reader's answer, if no further MCU row is complete
+-- what follows from the reader's result, if no further MCU row is complete
 abbrev pub last_step : Result FedRow Stop → RowsStep
 last_step (Ok fed.More) = step.More
 last_step (Ok (fed.Row used)) = step.More

@@ -65,7 +65,7 @@ DidWork false n old ended new = ((ended ≡ why.Usage no_end) ⊎ (ended ≡ why
 abbrev pub WritesReport : List ℕ → DeskState → Why → DeskState → Type 0
 WritesReport text old ended new = AfterMade None text (Unit {0}) name.Out old ended new
 
--- ITS STEPS, which answer nothing if there was no memory
+-- ITS STEPS, which return nothing if there was no memory
 
 -- Standard input has these bytes, and there is no output.
 pub record HoldsInput (input : List ℕ) (desk : MemoryDesk) : Type 0 where

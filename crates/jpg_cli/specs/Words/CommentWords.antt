@@ -1,4 +1,4 @@
--- What the words of wrjpgcom ask for, as the functions answer it.
+-- What the words of wrjpgcom ask for, as the functions return it.
 use Rattle.jpg_spec_words.specs.CommentWords.{CommentSource, from_input, from_words, from_file, WriteAsked}
 use Rattle.jpg_cli.specs.Words.Files.{files_said, files_view}
 use Rattle.jpg_cli.specs.declared.words.comments.CommentFrom.{CommentFrom}

@@ -1,4 +1,4 @@
--- What the words of cjpeg ask for, as the functions answer it.
+-- What the words of cjpeg ask for, as the functions return it.
 use Rattle.std.specs.Prelude.{◌≡◌, ℕ, ◌-◌, true, All, List, [], ◌∷◌, length, slice_index_or, Option, None, Some, option_and_then, option_copied, option_map, unwrap_or}
 use Rattle.std.specs.Borrow.{Bor}
 use Rattle.arrayvec.specs.ArrayVec.{ArrayVec}

@@ -1,4 +1,4 @@
--- The files that words name, as the functions answer them.
+-- The files that words name, as the functions return them.
 use Rattle.std.specs.Prelude.{ℕ, List, Option, Some, None}
 use Rattle.std.specs.Borrow.{Bor}
 use Rattle.jpg_base.specs.declared.names.Name.{Name}

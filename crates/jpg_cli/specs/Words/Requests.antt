@@ -1,4 +1,4 @@
--- What the words of a command ask for, as the functions answer it.
+-- What the words of a command ask for, as the functions return it.
 use Rattle.std.specs.Prelude.{◌≡◌, ℕ, ◌+◌, ◌<◌, List, [], drop, length, slice_index_or, Result, Ok, Err}
 use Rattle.std.specs.Borrow.{Bor}
 use Rattle.jpg_spec_words.specs.Requests.{Tool, ParsedWords, request_from, words_right, words_wrong}

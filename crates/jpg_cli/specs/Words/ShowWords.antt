@@ -1,4 +1,4 @@
--- What the words of djpeg ask for, as the functions answer it.
+-- What the words of djpeg ask for, as the functions return it.
 use Rattle.jpg_spec_words.specs.ShowWords.{ShowAsked, scans_from}
 use Rattle.jpg_cli.specs.Words.Files.{files_said, files_view}
 use Rattle.jpg_cli.specs.declared.words.djpeg.ShowSaid.{ShowSaid}

@@ -1,4 +1,4 @@
--- What the words of jpegtran ask for, as the functions answer it.
+-- What the words of jpegtran ask for, as the functions return it.
 use Rattle.std.specs.Prelude.{ℕ, List, Option, option_and_then}
 use Rattle.jpg_spec_move.specs.declared.area.Area.{Area}
 use Rattle.jpg_spec_words.specs.TransformWords.{ScansSource, own_sequential, own_progressive, in_file, TransformAsked, area_named}

@@ -20,9 +20,9 @@ use jpg_spec_words::{Which, Why};
 use std::alloc::Global;
 
 /// The picture of the file of this name after so many scans, or after the first later one with which each component is
-/// in some scan; and if the file ended before, after how many bytes. The file is read in pieces of at most 16,384 bytes,
-/// up to its end, or the one with the marker after that scan, that completes the file, reveals a fault, or completes a
-/// first scan header whose picture can't be displayed.
+/// in some scan; and if the file ended before, after how many bytes. The file is read in pieces of at most 16,384
+/// bytes, up to its end, or the one with the marker after that scan, that completes the file, reveals a fault, or
+/// completes a first scan header whose picture can't be displayed.
 #[inline(never)]
 pub fn read_front<D: Desk>(
     alloc: Global,
@@ -60,7 +60,8 @@ fn take_front<D: Desk>(
     }
 }
 
-// Reads the open input until the front or the file is complete, or the file ends early, or answers why the reading ends.
+// Reads the open input until the front or the file is complete, or the file ends early, or returns why the reading
+// ends.
 fn read_whole<D: Desk>(preview: &mut Preview, gray: bool, desk: &mut D) -> Result<Option<u64>, Why>
     requires open { (D.state desk.old).input_open ≡ true }
     requires none { HasViewed [] preview.old }
@@ -133,7 +134,7 @@ fn if_shown(preview: &Preview, gray: bool, step: PictureStep) -> PictureStep
     step_unless(not_shown(preview.head(), gray), step)
 }
 
-// The answer for an input that ends here, whose picture can be displayed.
+// The result for an input that ends here, whose picture can be displayed.
 fn at_end(preview: &mut Preview, gray: bool) -> PictureStep
     requires more { preview.old.reader.done ≡ false }
     requires limits { preview.old.reader.limits ≡ standard_limits }

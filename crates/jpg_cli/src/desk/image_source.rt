@@ -1,5 +1,5 @@
-//! Readers of image files that are given pieces, by the format of the file (release 6b's image files; Truevision TGA File
-//! Format Specification, version 2.0).
+//! Readers of image files that are given pieces, by the format of the file (release 6b's image files; Truevision TGA
+//! File Format Specification, version 2.0).
 ghost use Rattle.std.specs.Prelude.{◌≡◌, ◌≤◌, ◌<◌, ◌+◌, [], ℕ, IfNone, IfSome, length, true, false};
 ghost use Rattle.jpg_pnm_bmp.specs.PixelsRead.{image_by_parts, is_image_read, pixels_taken};
 ghost use Rattle.jpg_targa.specs.TargaRead.{is_targa_read, targa_taken};
@@ -137,7 +137,7 @@ fn feed_targa(reader: &mut TargaReader, piece: &[u8]) -> ImageStep
     step_of(reader.feed(piece))
 }
 
-// The step of a reader's answer.
+// The step for what a reader returned.
 fn step_of(answer: Result<Fed2, Stop>) -> ImageStep
     ensures { result ≡ step_of answer }
 {

@@ -71,7 +71,7 @@ fn take_picture<D: Desk>(
     }
 }
 
-// Reads the open input until the file is complete or ends early, or answers why the reading ends.
+// Reads the open input until the file is complete or ends early, or returns why the reading ends.
 fn read_whole<D: Desk>(
     reader: &mut Reader,
     wanted: Wanted,
@@ -123,7 +123,7 @@ fn next_piece<D: Desk>(
     }
 }
 
-/// The answer where the complete output was written.
+/// The result where the complete output was written.
 pub fn done_as(early: Option<u64>) -> Why
     ensures { result ≡ done_as early }
 {
@@ -189,7 +189,7 @@ fn take_piece(reader: &mut Reader, wanted: Wanted, piece: &[u8]) -> PictureStep
     }
 }
 
-// The answer for an input that ends here, whose picture is wanted.
+// The result for an input that ends here, whose picture is wanted.
 fn at_end(reader: &mut Reader, wanted: Wanted) -> PictureStep
     requires more { reader.old.done ≡ false }
     requires limits { reader.old.limits ≡ standard_limits }

@@ -43,7 +43,7 @@ pub fn encode<D: Desk>(alloc: Global, words: EncodeWords, desk: &mut D) -> Why
     }
 }
 
-// The same in these scans.
+// Takes the tables, reads the image of the input, and writes the file of its picture in these scans.
 fn encode_in<D: Desk>(alloc: Global, words: EncodeWords, scans: &Scans, desk: &mut D) -> Why
     ensures kept { OnlyWorks (D.state desk.old) (D.state desk.new) }
     ensures encoded { EncodedAfter (encode_view words) (scans_view scans.now) (D.state desk.old) result (D.state desk.new) }
@@ -55,7 +55,8 @@ fn encode_in<D: Desk>(alloc: Global, words: EncodeWords, scans: &Scans, desk: &m
     }
 }
 
-// The same by the tables of a file, if there is one.
+// Reads the image of the input, and writes the file of its picture in these scans and by the tables of a file, if there
+// is one.
 fn encode_by<D: Desk>(
     alloc: Global,
     words: &EncodeWords,
@@ -95,7 +96,8 @@ fn write_image<D: Desk>(
     why_wrote(write_blocks(&image, words, scans, desk))
 }
 
-// The same, block by block as they are encoded. It remains a call, so that a progressive file doesn't need its stack.
+// Writes the encoded image block by block, as they are encoded. It remains a call, so that a progressive file doesn't
+// need its stack.
 #[inline(never)]
 fn write_blocks<D: Desk>(
     image: &EncodedImage,

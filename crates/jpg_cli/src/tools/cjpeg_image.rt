@@ -26,8 +26,9 @@ use jpg_spec_words::{Which, Why};
 use jpg_transform::{Scans, counted};
 use std::alloc::Global;
 
-/// The image of the input, encoded as the words ask for it. The file is read in pieces of at most 16,384 bytes, up to the
-/// one with its last sample or its first fault; a fault of its factors and grids comes after all faults of the file.
+/// The image of the input, encoded as the words ask for it. The file is read in pieces of at most 16,384 bytes, up to
+/// the one with its last sample or its first fault; a fault of its factors and grids comes after all faults of the
+/// file.
 #[inline(never)]
 pub fn read_encoded<D: Desk>(
     alloc: Global,
@@ -186,7 +187,7 @@ fn feed_rest<D: Desk>(
     Ok(())
 }
 
-// Reads a piece after `taken` bytes, where samples are left and fewer bytes were read than may be, and answers how many
+// Reads a piece after `taken` bytes, where samples are left and fewer bytes were read than may be. Returns how many
 // bytes it has.
 fn next_samples<D: Desk>(
     sampler: &mut Sampler,

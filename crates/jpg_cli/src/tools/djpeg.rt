@@ -33,7 +33,7 @@ enum FirstStep {
     Whole,
     // The input ended early, after this many bytes, before any MCU row.
     Early(u64),
-    // The MCU rows of a scan begin in a piece of `count` bytes, for which this is the reader's answer.
+    // The MCU rows of a scan begin in a piece of `count` bytes, for which this is the reader's result.
     Rows {
         count: u64,
         answer: Result<FedRow, Stop>,
@@ -61,7 +61,7 @@ pub fn show_picture<D: Desk>(
     }
 }
 
-// The same for the open input.
+// Writes the image of the open input to the output.
 #[inline(never)]
 fn show_input<D: Desk>(
     alloc: Global,
@@ -99,7 +99,7 @@ fn show_input<D: Desk>(
     }
 }
 
-// Reads the open input until rows begin or the file is complete, or answers why the reading ends.
+// Reads the open input until rows begin or the file is complete, or returns why the reading ends.
 fn read_first<D: Desk>(
     reader: &mut Reader,
     gray: bool,
@@ -169,7 +169,7 @@ fn take_first(reader: &mut Reader, gray: bool, piece: &[u8]) -> FirstStep
     step_of(answer)
 }
 
-// The result of the reader's answer, where no rows are read.
+// What follows from the reader's result, where no rows are read.
 fn step_of(answer: Result<FedRow, Stop>) -> FirstStep
     ensures { result ≡ step_of answer }
 {

@@ -15,8 +15,8 @@ use std::alloc::Global;
 
 /// Writes the image of the picture that the front of the input means for so many scans to the output, in the format of
 /// `end`. The input is read in pieces of at most 16,384 bytes, up to the one with the end of the front; what follows
-/// isn't read. The output is created when the front was read, so it may have the input's name. An input that ends before
-/// is shown with what it has, and the answer warns of it.
+/// isn't read. The output is created when the front was read, so it may have the input's name. An input that ends
+/// before is shown with what it has, and the result warns of it.
 #[inline(never)]
 pub fn show_front<D: Desk>(
     alloc: Global,

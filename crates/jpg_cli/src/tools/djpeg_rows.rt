@@ -27,7 +27,7 @@ enum RowsStep {
 }
 
 /// Creates the output, and writes the image to it while the input is read: from a piece on, which is the first `count`
-/// bytes of the buffer and in which the MCU rows begin, and for which this is the reader's answer.
+/// bytes of the buffer and in which the MCU rows begin, and for which this is the reader's result.
 #[inline(never)]
 pub fn show_rows<D: Desk>(
     alloc: Global,
@@ -160,7 +160,7 @@ fn finish_zeros<D: Desk>(
     warned_of(image.finish(end, desk), count)
 }
 
-// The answer for an input that ended early after this many bytes.
+// The result for an input that ended early after this many bytes.
 fn warned_of(answer: Result<(), DecodeStop>, count: u64) -> Why
     ensures { result ≡ warned_of answer count }
 {
@@ -207,7 +207,7 @@ fn are_bytes(piece: &[u8])
     let _ = piece;
 }
 
-// Draws the MCU rows that are complete in the piece, for which this is the reader's answer.
+// Draws the MCU rows that are complete in the piece, for which this is the reader's result.
 fn draw_piece<D: Desk>(
     reader: &mut Reader,
     words: &ShowWords,
@@ -276,7 +276,7 @@ fn end_piece<D: Desk>(
     }
 }
 
-// The result of the reader's answer, if no further MCU row is complete.
+// What follows from the reader's result, if no further MCU row is complete.
 fn last_step(answer: Result<FedRow, Stop>) -> RowsStep
     ensures { result ≡ last_step answer }
 {

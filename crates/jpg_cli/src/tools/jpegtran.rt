@@ -21,9 +21,9 @@ use std::alloc::Global;
 
 /// Takes the scans of the output, reads the picture of the input, and writes it to the output, transformed and cropped
 /// as the words ask for it. A script's file is read and judged before the input is opened. The input is read in pieces
-/// of at most 16,384 bytes, up to the one that completes it or reveals a fault, or up to its end; from then on no memory
-/// is needed. An input that ends early is transformed with what it has, and the answer warns of it. The output is
-/// created when the picture is complete and has no fault, so it may have the input's name.
+/// of at most 16,384 bytes, up to the one that completes it or reveals a fault, or up to its end; from then on no
+/// memory is needed. An input that ends early is transformed with what it has, and the result warns of it. The output
+/// is created when the picture is complete and has no fault, so it may have the input's name.
 #[inline(never)]
 pub fn transform<D: Desk>(alloc: Global, words: &TransformWords, desk: &mut D) -> Why
     ensures kept { OnlyWorks (D.state desk.old) (D.state desk.new) }

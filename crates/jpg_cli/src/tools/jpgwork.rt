@@ -91,7 +91,7 @@ fn report_of(alloc: Global, size: u16, ends: Vec<Box<dyn ImageEnd>>) -> Result<B
     }
 }
 
-// The same, by the texts of the three files and of the image.
+// The five lines, by the texts of the three files and of the image.
 fn report_shown(
     alloc: Global,
     size: u16,
@@ -113,8 +113,8 @@ fn report_shown(
     }
 }
 
-// A desk whose output is the first file; none if there is no memory. It remains a call, as do the next steps, so that no
-// step needs the stack of another.
+// A desk whose output is the first file; none if there is no memory. It remains a call, as do the next steps, so that
+// no step needs the stack of another.
 #[inline(never)]
 fn first_file(alloc: Global, size: u16) -> Option<MemoryDesk>
     requires { size ≤ 400 }

@@ -50,7 +50,7 @@ fn copy_comments<D: Desk>(alloc: Global, desk: &mut D) -> Why
     }
 }
 
-// Reads a piece, and writes the text of the comments that are complete with it; or answers why the reading ends.
+// Reads a piece, and writes the text of the comments that are complete with it; or returns why the reading ends.
 fn next_piece<D: Desk>(
     comments: &mut Comments,
     buffer: &mut [u8; 65536],
@@ -81,7 +81,7 @@ fn next_piece<D: Desk>(
     }
 }
 
-// The answer for an input that ends here.
+// The result for an input that ends here.
 fn at_end(comments: &mut Comments) -> Why
     requires more { is_done comments.old ≡ false }
     requires limits { comments_limits comments.old ≡ standard_limits }
@@ -94,7 +94,7 @@ fn at_end(comments: &mut Comments) -> Why
     }
 }
 
-// Appends the text of the comments that are complete with this piece, and answers why the reading ends, if it does.
+// Appends the text of the comments that are complete with this piece. Returns why the reading ends, if it does.
 fn take_piece(comments: &mut Comments, piece: &[u8], out: &mut Bytes) -> Option<Why>
     requires more { is_done comments.old ≡ false }
     requires limits { comments_limits comments.old ≡ standard_limits }

@@ -77,7 +77,7 @@ fn insert_into<D: Desk>(alloc: Global, insert: &mut Insert, output: &Name, desk:
     }
 }
 
-// Reads up to the marker of the frame header, creates the output and writes the pending text; or answers why the
+// Reads up to the marker of the frame header, creates the output and writes the pending text; or returns why the
 // writing ends.
 fn begin<D: Desk>(
     insert: &mut Insert,
@@ -140,7 +140,7 @@ fn next_head<D: Desk>(
     }
 }
 
-// Creates the output and writes the pending text; or answers why the writing ends.
+// Creates the output and writes the pending text; or returns why the writing ends.
 fn write_first<D: Desk>(
     due: Option<Why>,
     output: &Name,
@@ -185,7 +185,7 @@ fn copy_rest<D: Desk>(
     }
 }
 
-// Reads a piece after the marker of the frame header, and writes it; or answers why the writing ends.
+// Reads a piece after the marker of the frame header, and writes it; or returns why the writing ends.
 fn next_rest<D: Desk>(
     insert: &mut Insert,
     buffer: &mut [u8; 65536],
@@ -216,7 +216,7 @@ fn next_rest<D: Desk>(
     }
 }
 
-// Appends the text for this piece, and answers why the writing ends, if it does.
+// Appends the text for this piece. Returns why the writing ends, if it does.
 fn take_piece(insert: &mut Insert, piece: &[u8], out: &mut Bytes) -> Option<Why>
     requires limits { insert_limits insert.old ≡ standard_limits }
     ensures taken { InsertsPiece insert.old piece.now out.old result out.new insert.new }
@@ -230,7 +230,7 @@ fn take_piece(insert: &mut Insert, piece: &[u8], out: &mut Bytes) -> Option<Why>
     }
 }
 
-// The answer for an input that ends here.
+// The result for an input that ends here.
 fn at_end(insert: &mut Insert) -> Why
     requires limits { insert_limits insert.old ≡ standard_limits }
     ensures ended { (comment bytes text : List ℕ) → HasInserted comment bytes text insert.old → AfterAll comment (is_replacing insert.old) bytes text result }

@@ -65,18 +65,28 @@ pub fn cjpeg_words(alloc: Global, words: &[String]) -> Result<EncodeWords, Words
     read_words(alloc, start, &CJPEG_SWITCHES, words)
 }
 
-// The same by the words so far; the quality and the factors as they are written.
+// What the words so far ask for, with the quality and the factors as they are written.
 #[derive(Clone, Copy)]
 struct EncodeSaid<'a> {
+    // The input and the output.
     files: FilesSaid<'a>,
+    // -targa
     targa: bool,
+    // -quality
     quality: Option<&'a str>,
+    // -grayscale
     gray: bool,
+    // -baseline
     baseline: bool,
+    // -progressive or -scans
     script: ScriptSaid<'a>,
+    // -huffman
     huffman: Huffman,
+    // -restart
     restart: Restart,
+    // -sample
     factors: Option<&'a str>,
+    // -qtables
     tables: Option<&'a str>,
 }
 
@@ -175,7 +185,7 @@ impl<'a> Asks<'a> for EncodeSaid<'a> {
 }
 
 impl<'a> EncodeSaid<'a> {
-    // The same with the Huffman tables that the value after the switch names, if it names any.
+    // What is asked for with the Huffman tables that the value after the switch names, if it names any.
     fn with_huffman(self, huffman: Option<Huffman>, index: usize) -> Result<Self, Usage>
         requires { index < 18446744073709551615 }
         ensures { AnswersWords encode_said (with_value index huffman (huffman_asked (encode_said self.entry))) result }

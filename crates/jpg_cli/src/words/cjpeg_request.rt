@@ -11,6 +11,7 @@ use jpg_transform::{Huffman, Restart};
 /// What the words of cjpeg ask for.
 #[derive(Drop)]
 pub struct EncodeWords {
+    /// The input and the output.
     pub files: Files,
     /// The input is a Targa file.
     pub targa: bool,
@@ -20,8 +21,11 @@ pub struct EncodeWords {
     pub gray: bool,
     /// No quantiser has more than one byte.
     pub baseline: bool,
+    /// The scans of the file.
     pub script: ScriptFrom,
+    /// Their Huffman tables.
     pub huffman: Huffman,
+    /// Their restart interval.
     pub restart: Restart,
     /// The factors that are given, from 1 to 4 horizontally and vertically, of the first components.
     pub factors: Factors,

@@ -101,7 +101,7 @@ pub fn wrjpgcom_words(alloc: Global, words: &[String]) -> Result<WriteWords, Wor
     }
 }
 
-// The same by the words so far.
+// What the words so far ask for.
 #[derive(Clone, Copy)]
 struct WriteSaid<'a> {
     files: FilesSaid<'a>,
@@ -184,7 +184,7 @@ impl<'a> WriteSaid<'a> {
 }
 
 impl<'a> CommentSaid<'a> {
-    // The same with copies of its texts.
+    // The source of the comment, with copies of its texts.
     fn to_comment(self, alloc: Global) -> Result<CommentFrom, NoMemory>
         ensures { IfOk result (λ comment. comment_view comment ≡ comment_said self.entry) }
     {

@@ -59,14 +59,20 @@ pub fn djpeg_words(alloc: Global, words: &[String]) -> Result<ShowWords, WordsSt
     read_words(alloc, start, &DJPEG_SWITCHES, words)
 }
 
-// The same by the words so far; where all scans are shown, `preview` is 0.
+// What the words so far ask for.
 #[derive(Clone, Copy)]
 struct ShowSaid<'a> {
+    // The input and the output.
     files: FilesSaid<'a>,
+    // -pnm, -ppm, -bmp or -targa
     kind: EndKind,
+    // The index of the word that says so.
     kind_word: u64,
+    // -grayscale
     gray: bool,
+    // No -nosmooth.
     smooth: bool,
+    // -preview; 0: all scans are shown.
     preview: u16,
 }
 

@@ -8,6 +8,7 @@ use jpg_spec_image::EndKind;
 /// What the words of djpeg ask for.
 #[derive(Drop)]
 pub struct ShowWords {
+    /// The input and the output.
     pub files: Files,
     /// The format of the image, PNM where no word asks for one.
     pub kind: EndKind,

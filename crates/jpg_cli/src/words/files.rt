@@ -35,7 +35,7 @@ pub(crate) const NO_FILES: FilesSaid<'static> = FilesSaid {
 };
 
 impl<'a> FilesSaid<'a> {
-    // The same with this input.
+    // The names with this input.
     pub(crate) fn from(self, name: &'a str) -> Self
         ensures { files_said result ≡ with_input name.now (files_said self.entry) }
     {
@@ -45,7 +45,7 @@ impl<'a> FilesSaid<'a> {
         }
     }
 
-    // The same with this output.
+    // The names with this output.
     pub(crate) fn to(self, name: &'a str) -> Self
         ensures { files_said result ≡ with_output name.now (files_said self.entry) }
     {

@@ -73,17 +73,26 @@ pub fn jpegtran_words(alloc: Global, words: &[String]) -> Result<TransformWords,
     read_words(alloc, start, &JPEGTRAN_SWITCHES, words)
 }
 
-// The same by the words so far; the area as it is written.
+// What the words so far ask for, with the area as it is written.
 #[derive(Clone, Copy)]
 struct TransformSaid<'a> {
+    // The input and the output.
     files: FilesSaid<'a>,
+    // -flip, -rotate, -transpose or -transverse
     transform: Transform,
+    // -trim
     trim: bool,
+    // -grayscale
     gray: bool,
+    // -crop
     crop: Option<&'a str>,
+    // -copy
     copying: Copying,
+    // -progressive or -scans
     script: ScriptSaid<'a>,
+    // -huffman
     huffman: Huffman,
+    // -restart
     restart: Restart,
 }
 
@@ -182,7 +191,7 @@ impl<'a> TransformSaid<'a> {
         }
     }
 
-    // The same with the transform that the value after the switch names, if it names one.
+    // What is asked for with the transform that the value after the switch names, if it names one.
     fn turned_by(self, transform: Option<Transform>, index: usize) -> Result<Self, Usage>
         requires { index < 18446744073709551615 }
         ensures { AnswersWords transform_said (with_value index transform (λ t. with_transform index t (transform_said self.entry))) result }
@@ -224,7 +233,7 @@ impl<'a> ScriptSaid<'a> {
         }
     }
 
-    // The same with a copy of the name.
+    // The source of the scans, with a copy of the name.
     pub(crate) fn to_script(self, alloc: Global) -> Result<ScriptFrom, NoMemory>
         ensures { IfOk result (λ script. script_told script ≡ script_said self.entry) }
     {

@@ -11,7 +11,9 @@ use jpg_transform::{Huffman, Restart};
 /// What the words of jpegtran ask for.
 #[derive(Drop)]
 pub struct TransformWords {
+    /// The input and the output.
     pub files: Files,
+    /// How the picture is transformed.
     pub transform: Transform,
     /// Partial iMCUs that would remain in place, at the right and at the bottom, are left out.
     pub trim: bool,
@@ -19,9 +21,13 @@ pub struct TransformWords {
     pub gray: bool,
     /// The area that is cut out of the transformed picture.
     pub crop: Option<Area>,
+    /// Which kept markers are passed on.
     pub copying: Copying,
+    /// The scans of the file.
     pub script: ScriptFrom,
+    /// Their Huffman tables.
     pub huffman: Huffman,
+    /// Their restart interval.
     pub restart: Restart,
     ghost area: { IsArea (area_or_one crop) },
 }

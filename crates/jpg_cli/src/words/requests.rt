@@ -14,7 +14,7 @@ use std::alloc::Global;
 
 /// What the words of a command ask for, by the switches so far. Names are lent by the words.
 pub trait Asks<'a>: Copy {
-    /// The same with copies of the names.
+    /// What the words ask for, with copies of the names.
     type Words: Drop;
 
     /// The meaning of both, and the command.
@@ -26,15 +26,15 @@ pub trait Asks<'a>: Copy {
 
     ghost told: { Self.Words → Self.Asked };
 
-    /// The same with this input.
+    /// What is asked for after a further word, the name of the input.
     fn named(self, name: &'a str) -> Self
         ensures { said result ≡ tool.named name.now (said self) };
 
-    /// The same with the switch of this index.
+    /// What is asked for after a further switch, the word of this index.
     fn flag(self, flag: Flag, index: usize) -> Result<Self, Usage>
         ensures { AnswersWords said (tool.flag flag index (said self)) result };
 
-    /// The same with the switch of this index, and its value.
+    /// What is asked for after a further switch, the word of this index, and its value.
     fn setting(self, setting: Setting, value: &'a str, index: usize) -> Result<Self, Usage>
         requires { index < 18446744073709551615 }
         ensures { AnswersWords said (tool.setting setting index value.now (said self)) result };
@@ -64,8 +64,9 @@ pub(crate) fn read_words<'a, A: Asks<'a>>(
     }
 }
 
-/// The same, with names that are lent: `UnknownSwitch`, `LeftOutSwitch` and `MissingValue` are at the switch,
-/// `TooManyFiles` at the word after the file, and other faults where the command says.
+/// What the words of a command with these switches ask for, with names that are lent: `UnknownSwitch`, `LeftOutSwitch`
+/// and `MissingValue` are at the switch, `TooManyFiles` at the word after the file, and other faults where the command
+/// says.
 pub(crate) fn read_request<'a, A: Asks<'a>>(
     start: A,
     switches: &[Switch<'_>],

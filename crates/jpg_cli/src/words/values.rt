@@ -97,7 +97,7 @@ pub(crate) fn number_of(text: &[u8]) -> Option<u32>
         if !digit.is_ascii_digit() {
             return None;
         }
-        number = 10 * number + u32::from(*digit - 48);
+        number = 10 * number + u32::from(*digit - b'0');
     }
     Some(number)
 }

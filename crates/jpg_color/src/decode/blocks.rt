@@ -1,4 +1,4 @@
-//! Blocks of coefficients as blocks of samples (T.81, A.3.3, A.3.4).
+//! Blocks of coefficients as blocks of samples (T.81, A.3.3, A.3.4, F.2.1.4, F.2.1.5).
 ghost use Rattle.std.specs.Prelude.{◌≡◌, ◌≤◌, ◌*ℤ◌, pos, nat_abs, All, length, slice_index};
 ghost use Rattle.jpg_spec_image.specs.Dct.{number_at, dequantised, inverse_dct};
 

@@ -9,7 +9,7 @@ ghost use Rattle.jpg_color.specs.contracts.decode.strips.Strips.{the_row};
 use crate::decode::strips::Strips;
 
 impl Strips {
-    /// The next row of the image: one byte per pixel, or three (red, green, blue). The answer is None exactly if all
+    /// The next row of the image: one byte per pixel, or three (red, green, blue). It returns None exactly if all
     /// rows that are made of the MCU rows so far were given.
     pub fn next(&mut self) -> Option<&[u8]>
         ensures row { TellsRow self.old (option_map (λ r. r.now) result) }

@@ -18,15 +18,23 @@ use std::vec::Vec;
 /// the image's width.
 #[derive(Drop)]
 pub(crate) struct Part {
+    // Its index in the frame.
     component: u8,
+    // The sides of its plane in samples.
     wide: u32,
     high: u32,
+    // The ratio of the greatest factors to its own.
     across: u8,
     down: u8,
+    // Rows are smoothed where they are upsampled.
     smooth: bool,
+    // How many rows of blocks it has in an MCU row.
     block_rows: u8,
+    // Its quantisation table.
     quants: QuantTable,
+    // The rows of samples that are kept.
     rows: SampleRows,
+    // Its row of the image.
     line: Vec<u8>,
 }
 
@@ -102,7 +110,7 @@ fn top(block_rows: u8, pushed: u32) -> u32
 }
 
 impl Part {
-    /// Component `i` of a picture, with room for its rows. It answers NoMemory if there is no memory for them.
+    /// Component `i` of a picture, with room for its rows. Returns NoMemory if there is no memory for them.
     pub(crate) fn new(
         alloc: Global,
         head: &StripHead,
@@ -155,7 +163,7 @@ impl Part {
             .fill(coefs, self.component, &self.quants, first, count);
     }
 
-    /// The same, if its blocks are zero.
+    /// Adds the rows of samples of an MCU row whose blocks are zero.
     pub(crate) fn fill_gray(&mut self, pushed: u32)
         requires { CanFillGray pushed self.old }
         ensures { self.new ≡ grayed_part pushed self.old }

@@ -29,7 +29,7 @@ impl<'a> Model for PictureRows<'a> {
 }
 
 impl<'a> PictureRows<'a> {
-    /// Begins before the first row. It answers NoMemory if there is no memory, and takes none later.
+    /// Begins before the first row. Returns NoMemory if there is no memory, and takes none later.
     pub(crate) fn new(
         alloc: Global,
         picture: &'a Picture,

@@ -17,9 +17,13 @@ use std::vec::Vec;
 /// Some rows of samples of one component, one below the other: those of the last blocks, and the row above them.
 #[derive(Drop)]
 pub struct SampleRows {
+    // Samples of a row.
     wide: u32,
+    // The most rows, at most 33.
     room: u32,
+    // How many rows there are.
     len: u32,
+    // The rows, each in whole blocks of eight samples, with room for all.
     samples: Vec<u8>,
 }
 
@@ -163,7 +167,7 @@ fn put_gray(samples: &mut [u8], wide: u32, kept: usize, count: usize)
     samples[kept * line..(kept + count) * line].fill(128);
 }
 
-// Moves the last of `len` rows to the start, and answers how many rows are there then.
+// Moves the last of `len` rows to the start. Returns how many rows are there then.
 fn keep_last(samples: &mut [u8], wide: u32, len: u32) -> u32
     requires wide { wide ≤ 65500 }
     requires few { len ≤ 33 }
@@ -183,7 +187,7 @@ fn keep_last(samples: &mut [u8], wide: u32, len: u32) -> u32
 }
 
 impl SampleRows {
-    /// Room for `room` rows of `wide` samples each, none of which is there. It answers NoMemory if there is no memory
+    /// Room for `room` rows of `wide` samples each, none of which is there. Returns NoMemory if there is no memory
     /// for them.
     pub fn new(alloc: Global, wide: u32, room: u32) -> Result<SampleRows, NoMemory>
         requires wide { (1 ≤ wide) × (wide ≤ 65500) }

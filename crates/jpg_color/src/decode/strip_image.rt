@@ -66,7 +66,7 @@ fn send_any<D: Desk>(out: &mut Bytes, desk: &mut D) -> Result<(), DecodeStop>
 }
 
 impl StripImage {
-    /// An image before its first MCU row. It answers NoMemory if there is no memory.
+    /// An image before its first MCU row. Returns NoMemory if there is no memory.
     pub fn new(
         alloc: Global,
         head: &StripHead,
@@ -113,7 +113,7 @@ impl StripImage {
         send_ready(&mut self.strips, end, &mut self.out, desk)
     }
 
-    /// The same for an MCU row whose blocks are all zero.
+    /// Takes a next MCU row whose blocks are all zero, and gives `end` the rows that are ready then.
     pub fn push_zero<D: Desk>(
         &mut self,
         end: &mut Box<dyn ImageEnd>,

@@ -29,17 +29,29 @@ use std::vec::Vec;
 /// these and the one above them, for each component that is displayed. It takes memory only in `new`.
 #[derive(Drop)]
 pub struct Strips {
+    // The frame header of the picture.
     frame: Frame,
+    // Its colours.
     colour: Colour,
+    // The quantisation table of each component.
     quants: ArrayVec<QuantTable, 4>,
+    // Only luminance is displayed.
     gray: bool,
+    // Rows are smoothed where they are upsampled.
     smooth: bool,
+    // How many MCU rows were pushed.
     pushed: u32,
+    // How many rows of the image were given.
     given: u32,
+    // How many MCU rows the picture has.
     all: u32,
+    // Lines of the image in an MCU row.
     lines: u32,
+    // The last line of an MCU row needs the row of samples after it.
     waits: bool,
+    // The components that are displayed.
     parts: Vec<Part>,
+    // The last row of the image that was given.
     last: Vec<u8>,
 }
 
@@ -180,7 +192,7 @@ fn colour(colour: Colour, gray: bool, width: usize, parts: &[Part], last: &mut [
 }
 
 impl Strips {
-    /// Strips before the first row of a picture and its first MCU row. It answers NoMemory if there is no memory.
+    /// Strips before the first row of a picture and its first MCU row. Returns NoMemory if there is no memory.
     pub fn new(
         alloc: Global,
         head: &StripHead,
@@ -251,7 +263,7 @@ impl Strips {
         self.take(row, false);
     }
 
-    /// The same, from the blocks of the complete picture.
+    /// Takes the blocks of the next MCU row, which are among those of the complete picture.
     pub(crate) fn push_from(&mut self, coefs: &Coefs)
         requires due { IsNextRowDue self.old }
         requires frame { coefs.now.frame ≡ self.old.display.frame }
@@ -272,7 +284,7 @@ impl Strips {
         self.pushed += 1;
     }
 
-    /// Goes to the next row of the image, which `row` lends then. It answers false exactly if all rows that are made of
+    /// Goes to the next row of the image, which `row` lends then. Returns false exactly if all rows that are made of
     /// the MCU rows so far were given.
     pub(crate) fn advance(&mut self) -> bool
         ensures { Advances self.old result self.new }

@@ -1,4 +1,4 @@
-//! A row of blocks of a component's plane, block after block (T.81, A.2).
+//! A row of blocks of a component's plane, block after block (T.81, A.2.4).
 ghost use Rattle.std.specs.Prelude.{◌≡◌, ◌*◌, ◌<◌, [], IfOk, length, slice_index_or};
 ghost use Rattle.jpg_color.specs.PlaneRows.{cut_in_blocks};
 

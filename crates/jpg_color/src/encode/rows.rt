@@ -12,9 +12,13 @@ use jpg_spec_image::{ImageInfo, ImageKind};
 /// A component of an image's samples, to be downsampled by a ratio.
 #[derive(Drop)]
 pub struct ImagePlane<'a> {
+    /// The samples of the image.
     pub samples: &'a [u8],
+    /// Its size and colours.
     pub info: &'a ImageInfo,
+    /// The index of the component.
     pub component: u8,
+    /// The ratio of the greatest factors to its own.
     pub ratio: Ratio,
 }
 

@@ -22,14 +22,23 @@ use std::vec::Vec;
 /// what was given.
 #[derive(Drop)]
 pub struct Sampler {
+    // Where memory comes from.
     alloc: Global,
+    // The size and the colours of the image.
     info: ImageInfo,
+    // How it is encoded.
     encoding: Encoding,
+    // The frame of its picture.
     frame: Frame,
+    // Samples that aren't an MCU row yet.
     pending: Bytes,
+    // Room for the rows of one MCU row.
     windows: Windows,
+    // The planes of the MCU rows made so far.
     planes: Planes,
+    // How many MCU rows were made.
     made: u32,
+    // How many samples of the image are still to come.
     left: usize,
     pub ghost keeps: { KeepsSampler info encoding frame pending planes made left },
 }
@@ -38,7 +47,7 @@ impl Sampler {
     ghost use Rattle.jpg_spec_image.specs.Images.{sample_count};
     ghost use Rattle.jpg_color.specs.EncodeSampling.{AddsSamples, BeginsSampling, EncodesSampled, HasSampled, MakesRow, samples_left};
 
-    /// A sampler of an image with these numbers, encoded like this, that was given no samples. It answers
+    /// A sampler of an image with these numbers, encoded like this, that was given no samples. Returns
     /// FractionalFactors with the first component whose ratio to the greatest factors isn't an integer, and then
     /// TooManyBlocks if the padded grids have more than 8388608 blocks. It takes no memory yet.
     pub fn new(alloc: Global, info: ImageInfo, encoding: Encoding) -> Result<Sampler, EncodeStop>
@@ -139,7 +148,7 @@ impl Sampler {
         Ok(())
     }
 
-    /// The encoded image. It answers NoMemory too if samples are missing, as after NoMemory of `feed`.
+    /// The encoded image. Returns NoMemory too if samples are missing, as after NoMemory of `feed`.
     pub fn finish(self) -> Result<EncodedImage, NoMemory>
         ensures { IfOk result (EncodesSampled self) }
     {

@@ -33,9 +33,13 @@ pub(crate) struct Strip<'a> {
 /// strip to the next: whatever is in it before is replaced.
 #[derive(Drop)]
 pub(crate) struct Windows {
+    // Rows of luminance.
     ys: Vec<u8>,
+    // Rows of Cb.
     cbs: Vec<u8>,
+    // Rows of Cr.
     crs: Vec<u8>,
+    // Eight rows in whole blocks.
     eight: Vec<u8>,
 }
 
@@ -172,13 +176,16 @@ fn put_three(
     )
 }
 
-// What the rows of blocks of a component are made from: its plane, how many rows are made of the strip, how many
-// samples a row has, and how many rows of blocks there are.
+// What the rows of blocks of a component are made from.
 #[derive(Drop)]
 struct Source<'a> {
+    // Its plane of the image.
     plane: ImagePlane<'a>,
+    // How many rows are made of the strip.
     made: usize,
+    // Samples of a row, in whole blocks.
     wide: usize,
+    // How many rows of blocks there are.
     count: u8,
 }
 

@@ -21,13 +21,21 @@ use std::alloc::Global;
 /// its colours and its JFIF header are those that its components and kept markers determine.
 #[derive(Drop)]
 pub struct EncodedImage {
+    /// The frame header of the picture.
     pub frame: Frame,
+    /// Its colours.
     pub colour: Colour,
+    /// The quantisation table of each component.
     pub quants: ArrayVec<QuantTable, 4>,
+    /// Its kept markers: the JFIF header.
     pub kept: KeptList,
+    /// What that header means.
     pub jfif: Jfif,
+    // The planes of the components, in rows of whole blocks.
     pub(crate) planes: Planes,
+    // The quantisers of the first component, prepared.
     pub(crate) first: Divisors,
+    // Those of the others.
     pub(crate) others: Divisors,
     pub ghost keeps: { AreViewParts (parts_by frame colour quants.items (blocks_of planes first others) kept jfif) },
     pub ghost rows: { HasAllRows frame planes },
@@ -70,7 +78,7 @@ impl EncodedImage {
         Block::of(self.divisors(component).block(samples))
     }
 
-    /// The same as a picture with its coefficients.
+    /// The encoded image as a picture with its coefficients.
     pub fn picture(self, alloc: Global) -> Result<Picture, NoMemory>
         ensures means { IfOk result (λ p. picture_meaning p ≡ view_meaning self) }
         ensures jfif { IfOk result (λ p. p.jfif ≡ self.jfif) }

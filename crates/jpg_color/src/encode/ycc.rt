@@ -98,7 +98,7 @@ fn sixteens(count: usize) -> usize
     if count < 6 { 0 } else { (count - 6) / 16 }
 }
 
-// Puts samples by sixteens, and answers how many.
+// Puts samples by sixteens. Returns how many.
 #[inline(always)]
 fn put_sixteens(pixels: &[u8], i: u8, out: &mut [u8]) -> usize
     requires some { i < 3 }
@@ -134,7 +134,7 @@ fn put_three(pixels: &[u8], c: usize, ys: &mut [u8], bs: &mut [u8], rs: &mut [u8
     put_samples(rs, c, &r);
 }
 
-// Puts samples of all three by sixteens, and answers how many.
+// Puts samples of all three by sixteens. Returns how many.
 #[inline(always)]
 fn put_threes(pixels: &[u8], ys: &mut [u8], bs: &mut [u8], rs: &mut [u8]) -> usize
     requires pixels { length pixels.now ≡ 3 * length ys.old }

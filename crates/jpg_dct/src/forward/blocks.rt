@@ -1,4 +1,4 @@
-//! Blocks of samples as blocks of quantised coefficients, by prepared quantisers (T.81, A.3.3, A.3.4).
+//! Blocks of samples as blocks of quantised coefficients, by prepared quantisers (T.81, A.3.1, A.3.3, A.3.4).
 ghost use Rattle.std.specs.Prelude.{◌≡◌, ◌+◌, ◌<◌, ◌≤◌, ◌≤ℤ◌, ℕ, pos, negsuc, nat_abs, map, All, length, slice_index};
 ghost use Rattle.jpg_spec.specs.Zigzag.{zigzag};
 ghost use Rattle.jpg_spec_image.specs.Dct.{number_at};
@@ -24,12 +24,17 @@ static PLACES: [u8; 64] = [
     37, 47, 50, 56, 59, 61, 35, 36, 48, 49, 57, 58, 62, 63,
 ];
 
-/// 64 quantisers, none of them 0, prepared for division. Contracts see them in zigzag order.
+/// 64 quantisers, none of them 0, prepared for division, each array in natural order. Contracts see them in zigzag
+/// order.
 #[derive(Drop)]
 pub struct Divisors {
+    // The quantisers.
     quants: [u16; 64],
+    // Half of eight times each, which is added before the division.
     halves: [u16; 64],
+    // 65536 times a power of two below eight times each, divided by that and rounded up: the first multiplier.
     factors: [u16; 64],
+    // 65536 divided by that power of two: the second multiplier.
     scales: [u16; 64],
 }
 

@@ -1,4 +1,4 @@
-//! Frequencies as multiples of quantisers by vectors, and put in zigzag order (T.81, A.3.4, A.3.6).
+//! Frequencies as multiples of quantisers by vectors (T.81, A.3.4), and put in zigzag order (A.3.6, Figure A.6).
 ghost use Rattle.std.specs.Prelude.{◌≡◌, ◌+◌, ◌*◌, ◌/◌, ◌%◌, ◌<◌, ◌≤◌, ℕ, nat_abs, map, length, slice_index};
 ghost use Rattle.jpg_spec.specs.Zigzag.{zigzag};
 ghost use Rattle.jpg_spec_image.specs.Dct.{number_at};
@@ -134,7 +134,7 @@ pub(crate) fn divided_rows(
     }
 }
 
-/// Rows in zigzag order.
+/// Rows in zigzag order (T.81, Figure A.6).
 #[inline(always)]
 pub(crate) fn in_zigzag(d: Eight) -> [i16; 64]
     requires { (v : ℕ) → v < 8 → IsEight 16384 (vector d v) }

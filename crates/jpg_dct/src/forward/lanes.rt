@@ -18,7 +18,7 @@ const ODDS: [usize; 8] = [1, 3, 5, 7, 9, 11, 13, 15];
 // All lanes in order.
 const ALL: [usize; 8] = [0, 1, 2, 3, 4, 5, 6, 7];
 
-/// Eight vectors of eight numbers.
+/// Eight vectors of eight numbers: v0 is of the first number of each line, v7 of the last.
 #[derive(Clone, Copy)]
 pub(crate) struct Eight {
     pub(crate) v0: i16x8,
@@ -31,6 +31,7 @@ pub(crate) struct Eight {
     pub(crate) v7: i16x8,
 }
 
+// Four vectors of eight numbers, those of four of the eight.
 #[derive(Clone, Copy)]
 struct Four {
     v0: i16x8,

@@ -43,7 +43,7 @@ fn part(samples: &[u8; 64], v: usize) -> &[u8]
     &samples[8 * v..8 * v + 8]
 }
 
-// The same as a vector.
+// Row v of 64 samples, as a vector.
 #[inline(always)]
 fn row(samples: &[u8; 64], v: usize) -> u8x8
     requires { v < 8 }

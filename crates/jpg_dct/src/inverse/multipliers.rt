@@ -1,4 +1,4 @@
-//! Quantisers prepared for multiplication, and blocks of coefficients as samples by them (T.81, A.3.3, A.3.4).
+//! Quantisers prepared for multiplication, and blocks of coefficients as samples by them (T.81, A.3.3, A.3.4, F.2.1.4).
 ghost use Rattle.std.specs.Prelude.{◌≡◌, ◌*◌, ◌<◌, ◌≤◌, ◌*ℤ◌, ℕ, pos, nat_abs, All, IsTrue, length, slice_index};
 ghost use Rattle.std.specs.Int.{int_wrap, w16};
 ghost use Rattle.jpg_spec_image.specs.Dct.{number_at, dequantised, inverse_dct};
@@ -10,7 +10,7 @@ use crate::inverse::{dequantise, idct};
 use std::marker::Model;
 use std::simd::i16x64;
 
-// The place in zigzag order of each natural index.
+// The place in zigzag order of each natural index (T.81, A.3.6, Figure A.6).
 const PLACES: [usize; 64] = [
     0, 1, 5, 6, 14, 15, 27, 28, 2, 4, 7, 13, 16, 26, 29, 42, 3, 8, 12, 17, 25, 30, 41, 43, 9, 11,
     18, 24, 31, 40, 44, 53, 10, 19, 23, 32, 39, 45, 52, 54, 20, 22, 33, 38, 46, 51, 55, 60, 21, 34,

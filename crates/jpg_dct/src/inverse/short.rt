@@ -26,7 +26,7 @@ const ALL_OF_EIGHT: [usize; 64] = [
     50, 51, 52, 53, 54, 55, 56, 57, 58, 59, 60, 61, 62, 63,
 ];
 
-/// Eight vectors of eight sums.
+/// Eight vectors of eight sums: v0 is of the first sum of each line, v7 of the last.
 #[derive(Clone, Copy)]
 struct Sums {
     v0: i32x8,
@@ -39,6 +39,7 @@ struct Sums {
     v7: i32x8,
 }
 
+// Four vectors of eight sums, those of four of the eight.
 #[derive(Clone, Copy)]
 struct FourSums {
     v0: i32x8,

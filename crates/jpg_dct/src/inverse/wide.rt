@@ -1,4 +1,4 @@
-//! A line of eight frequencies in 64 bits, for large coefficients.
+//! A line of eight frequencies in 64 bits, for large coefficients (T.81, A.3.3).
 ghost use Rattle.std.specs.Prelude.{◌≡◌, ◌+ℤ◌, ◌-ℤ◌, ◌*ℤ◌, pos, ◌+◌, ◌≤◌, ◌<◌, ◌/◌, ◌%◌, ◌^◌, map, All, nat_abs, length, slice_index_or};
 ghost use Rattle.std.specs.Int.{int_wrap, int_shr, cast_unsigned, w64};
 ghost use Rattle.jpg_spec_image.specs.Dct.{even_sums, odd_sums, line_sums, column, columns, ranged, sample_row, inverse_dct};

@@ -9,7 +9,7 @@ use Rattle.jpg_coefs.specs.declared.machine.UnitFault.{UnitFault}
 use Rattle.jpg_coefs.specs.declared.machine.UnitStep.{UnitStep}
 use Rattle.jpg_coefs.specs.declared.machine.UnitStep.TheVariants as step
 
--- the machine answers at one of the bits
+-- the machine returns at one of the bits
 abbrev pub AnswersIn : {M : Type 0} → Kind M → M → Picture → List Bool → Result UnitStep UnitFault → M → Picture → Type 0
 AnswersIn k m now bits answer new after = (most : ℕ) × (front : List Bool) × (rest : List Bool) × (bits ≡ front ++ rest) × ChainTo k most m now front answer new after
 

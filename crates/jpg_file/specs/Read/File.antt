@@ -97,7 +97,7 @@ pub record EndsFile (limits : Limits) (bytes : List ℕ) (w : FileWork) : Type 0
   pub complete : is_complete (frame_of_items limits ends.items) (segments_of ends.items) ≡ true
 
 -- THE RESULT OF A BYTE, with the scan that was current before it: only where there was none a scan header may be
--- complete, or the answer NoMemory.
+-- complete, or the result NoMemory.
 
 abbrev pub AfterFileStep : Option InScan → Limits → List ℕ → ItemStep → FileWork → Type 0
 AfterFileStep before limits bytes step.More w = RepresentsFile limits bytes w

@@ -89,7 +89,7 @@ pub record InData (limits : Limits) (items : List Item) (contents : List ℕ) (b
 
 -- A DATA BYTE
 
--- the answer to what a machine answers, and the scan's work after it
+-- the result of a byte by what the machine returned, and the scan's work after it
 abbrev pub scan_answer : Taken → Result (Unit {0}) Fault
 scan_answer taken.More = Ok tt
 scan_answer taken.Units = Ok tt

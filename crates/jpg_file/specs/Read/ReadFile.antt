@@ -26,9 +26,9 @@ use Rattle.jpg_file.specs.declared.read.file.FileWork.{FileWork}
 use Rattle.jpg_file.specs.declared.read.rows.RowWork.{RowWork}
 use Rattle.jpg_file.specs.declared.read.strip_head.StripHead.{StripHead}
 
--- what contracts see of a reader: the state of its file, whether it is read MCU row by MCU row, the current MCU row and the head of its picture once there is
--- one, whether it is done (it is complete or ended early, so that nothing may be fed any more), and why it stopped, if it
--- did
+-- what contracts see of a reader: the state of its file, whether it is read MCU row by MCU row, the current MCU row and
+-- the head of its picture once there is one, whether it is done (it is complete or ended early, so that nothing may be
+-- fed any more), and why it stopped, if it did
 pub record ReaderState : Type 0 where
   pub limits : Limits
   pub file : FileWork
@@ -90,7 +90,7 @@ KeepsHeadAt limits bytes f head =
 abbrev pub head_seen : ReaderState → Option (Frame × Colour × ℕ)
 head_seen r = option_map (λ h. (h.frame, h.colour, h.at)) r.file.head
 
--- THE ANSWER to a piece that is fed, by all bytes so far. A fault is after the bytes before the piece.
+-- THE RESULT of a piece that is fed, by all bytes so far. A fault is after the bytes before the piece.
 abbrev pub AfterFeed : List ℕ → List ℕ → Result Fed Stop → ReaderState → Type 0
 AfterFeed bytes piece (Ok fed.More) r = HasRead (bytes ++ piece) r
 AfterFeed bytes piece (Ok (fed.Done used)) r = IsDone (bytes ++ take used piece) r × (1 ≤ used) × (used ≤ length piece)

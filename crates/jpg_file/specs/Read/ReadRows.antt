@@ -166,7 +166,7 @@ AfterEndRow bytes m (ends.Stop stop) r = StopsAt r.limits bytes stop
 abbrev pub EndsRow : ReaderState → End → ReaderState → Type 0
 EndsRow old answer new = (bytes : List ℕ) (m : ℕ) → HasReadAll bytes m old → AfterEndRow bytes m answer new
 
--- THE ANSWER to a piece that is fed, by all bytes so far: for a fault, which MCU rows are complete before it
+-- THE RESULT of a piece that is fed, by all bytes so far: for a fault, which MCU rows are complete before it
 
 pub record StopsRows (bytes : List ℕ) (m : ℕ) (r : ReaderState) : Type 0 where
   pub begun : HasBegunRows bytes r

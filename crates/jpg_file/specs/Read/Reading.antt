@@ -132,7 +132,7 @@ pub record IsOpenScan (r : Reading) : Type 0 where
   pub gate : scan.gate ≡ false
   pub due : scan.work.whole ≡ false
 
--- the answer to a byte that is no marker's
+-- the result of a byte that is no marker's
 abbrev pub item_answer : Result (Unit {0}) FaultAt → ItemStep
 item_answer (Ok u) = More
 item_answer (Err f) = Fault f

@@ -53,7 +53,7 @@ AfterRowsPiece limits bytes piece (Ok (fed.Done used)) rows w = AfterStrip limit
 AfterRowsPiece limits bytes piece (Err (stop.Fault f)) rows w = IsStopOf limits (bytes ++ piece) f × (length bytes ≤ f.at) × KeepsHeadAt limits (bytes ++ piece) f w.head
 AfterRowsPiece limits bytes piece (Err stop.NoMemory) rows w = KeepsHead limits (length bytes) (bytes ++ piece) w.head
 
--- a further MCU row is complete if the answer is Row, and none if it is More
+-- a further MCU row is complete if the result is Row, and none if it is More
 abbrev pub CountsFed : Result FedRow Stop → Option RowWork → Option RowWork → Type 0
 CountsFed (Ok fed.More) rows after = CountsStrip step.More rows after
 CountsFed (Ok (fed.Row used)) rows after = CountsStrip step.Row rows after
@@ -67,8 +67,8 @@ KnowsFed limits bytes piece (Ok (fed.Row used)) rows strip = KnowsRows limits (b
 KnowsFed limits bytes piece (Ok (fed.Done used)) rows strip = KnowsRows limits (bytes ++ take used piece) 0 rows strip
 KnowsFed limits bytes piece (Err e) rows strip = Unit {0}
 
--- WHAT DOESN'T CHANGE: whether MCU rows are read, the current one, the head of its picture, which markers are to be kept,
--- and that no memory is asked for
+-- WHAT DOESN'T CHANGE: whether MCU rows are read, the current one, the head of its picture, which markers are to be
+-- kept, and that no memory is asked for
 pub record KeepsWork (old new : StripWork) : Type 0 where
   pub by_row : new.by_row ≡ old.by_row
   pub plain : old.rows ≡ None → old.by_row ≡ false → new.rows ≡ None
@@ -77,7 +77,7 @@ pub record KeepsWork (old new : StripWork) : Type 0 where
   pub keeping : keeping_of new.file ≡ keeping_of old.file
   pub sparing : keeping_of old.file ≡ copying.None → SparesRows old.rows old.file → SparesRows new.rows new.file
 
--- with a current MCU row NoMemory isn't answered
+-- with a current MCU row NoMemory isn't returned
 abbrev pub WantsNone : Result FedRow Stop → Option RowWork → Type 0
 WantsNone (Ok x) rows = Unit {0}
 WantsNone (Err (stop.Fault f)) rows = Unit {0}

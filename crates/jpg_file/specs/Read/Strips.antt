@@ -114,7 +114,7 @@ GoesOnRest step.Whole = ⊥
 GoesOnRest (step.Ended (stop.Fault f)) = Unit {0}
 GoesOnRest (step.Ended stop.NoMemory) = ⊥
 
--- A FURTHER MCU ROW is complete if the answer is Row, and none if it is More.
+-- A FURTHER MCU ROW is complete if the result is Row, and none if it is More.
 abbrev pub CountsRows : Step → RowWork → RowWork → Type 0
 CountsRows step.More rows after = unfinished after ≡ unfinished rows
 CountsRows step.Row rows after = unfinished rows ≡ unfinished after + 1
@@ -207,7 +207,7 @@ CountsStrip answer None after = Unit {0}
 CountsStrip answer (Some rows) None = ⊥
 CountsStrip answer (Some rows) (Some after) = CountsRows answer rows after
 
--- with a current row NoMemory isn't answered for what follows
+-- with a current row NoMemory isn't returned for what follows
 abbrev pub SparesRows : Option RowWork → FileWork → Type 0
 SparesRows None w = Unit {0}
 SparesRows (Some rows) w = NeedsNoMemory w.reading

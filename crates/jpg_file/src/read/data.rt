@@ -22,8 +22,8 @@ pub fn take_data<M: ScanMachine>(machine: &mut M, coefs: &mut Coefs, byte: u8) -
     machine.bits(&mut store, coefs, most)
 }
 
-/// Gives the machine the bits of some data bytes, and answers how many bytes were given: up to the one whose bits end
-/// the interval or reveal a fault. Bits after the interval's last one are dropped.
+/// Gives a sequential machine the bits of some data bytes, up to the byte whose bits end the interval or reveal a
+/// fault. Returns how many bytes were given, and the result. Bits after the interval's last one are dropped.
 pub fn take_bytes(machine: &mut SeqReader, coefs: &mut Coefs, bytes: &[u8]) -> (usize, Taken)
     requires open { (i : Interval) × (bits : List Bool) × RepresentsSeqScan machine.old i bits coefs.old }
     requires left { 1 ≤ machine.old.left }
@@ -54,14 +54,15 @@ fn front_of(bytes: &[u8]) -> BitStore
     store
 }
 
-// Whether an answer is the last one for these bytes.
+// Whether the machine takes no more of these bytes.
 fn is_over(taken: Taken) -> bool
     ensures { result ≡ false → taken ≡ Taken.More }
 {
     !matches!(taken, Taken::More)
 }
 
-/// The same for any machine, eight bytes at a time.
+/// Gives any machine the bits of some data bytes, eight bytes at a time, up to the byte whose bits end the interval or
+/// reveal a fault. Returns how many bytes were given, and the result.
 pub fn take_run<M: ScanMachine>(machine: &mut M, coefs: &mut Coefs, bytes: &[u8]) -> (usize, Taken)
     requires open { (i : Interval) × (bits : List Bool) × M.kind.stands machine.old i bits coefs.old }
     requires left { 1 ≤ M.kind.left machine.old }

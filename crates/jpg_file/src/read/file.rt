@@ -18,12 +18,16 @@ use jpg_spec::{Copying, Fault, FaultAt};
 use memchr::memchr;
 use std::alloc::Global;
 
-/// The state of a file that is read: its items, the current scan, and what the scans so far define.
+/// The state of a file that is read.
 #[derive(Drop)]
 pub struct FileWork {
+    /// Where memory comes from.
     pub alloc: Global,
+    /// Its items, and the current scan.
     pub reading: Reading,
+    /// What the scans so far define.
     pub begun: ScanHistory,
+    /// What its first scan header determines, once there is one.
     pub head: Option<Head>,
 }
 
@@ -47,7 +51,7 @@ impl FileWork {
         }
     }
 
-    /// Takes a further byte. It answers whether the file goes on or is complete with it, or the fault that it reveals.
+    /// Takes a further byte. Returns whether the file goes on or is complete with it, or the fault that it reveals.
     pub fn byte(&mut self, byte: u8) -> Step
         requires stands { (bytes : List ℕ) × RepresentsFile (limits_of self.old) bytes self.old }
         requires limits { AreLimits (limits_of self.old) }
@@ -66,8 +70,7 @@ impl FileWork {
         }
     }
 
-    /// Takes some of these bytes, perhaps not all at once, and answers how many these were and the result of the last
-    /// one.
+    /// Takes one or more of these bytes, up to the first event. Returns how many, and the event.
     pub fn some(&mut self, bytes: &[u8]) -> (usize, Step)
         requires stands { (bytes : List ℕ) × RepresentsFile (limits_of self.old) bytes self.old }
         requires limits { AreLimits (limits_of self.old) }
@@ -88,9 +91,9 @@ impl FileWork {
         (n + 1, self.byte(bytes[n]))
     }
 
-    /// Takes bytes from the start of these, and answers how many they were, which is fewer than are given: between items
-    /// complete segments that break no rule, and then fill bytes or contents before a segment's last byte; inside the
-    /// data of a scan fill bytes after FF.
+    /// Skips what causes no event, and returns how many bytes that were: between items complete segments that break no
+    /// rule, and then fill bytes or contents before a segment's last byte; inside the data of a scan fill bytes after
+    /// FF. It always leaves a byte for `byte`.
     pub fn front(&mut self, bytes: &[u8]) -> usize
         requires stands { (bytes : List ℕ) × RepresentsFile (limits_of self.old) bytes self.old }
         requires limits { AreLimits (limits_of self.old) }
@@ -192,7 +195,7 @@ impl FileWork {
         Ok(())
     }
 
-    /// Takes EOI, whatever picture there is: the file is complete if each component was in a scan.
+    /// Takes EOI: the file is complete if each component was in a scan, and otherwise has the fault MissingComponent.
     pub fn take_end(&self) -> Step
         ensures end { TakesFileEnd self.now result }
         ensures any { (whole : Picture) → TakesFileEnd (with_picture self.now whole) result }

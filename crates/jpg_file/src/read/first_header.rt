@@ -49,7 +49,7 @@ fn adobe_of(kept: &KeptList) -> Option<u8>
     last
 }
 
-// The same with one more marker.
+// Adobe's transform with one more marker, the last one so far.
 fn transform_after(marker: &Kept, last: Option<u8>) -> Option<u8>
     ensures { result ≡ (if is_adobe (kept_pair marker.now) then Some (slice_index marker.now.contents.now 11) else last) }
 {

@@ -76,8 +76,8 @@ impl Items {
         }
     }
 
-    /// Takes bytes from the start of these that only continue what is there, and answers how many they were: fill bytes
-    /// after FF, or contents of the current segment before its last byte, and otherwise none, as if there is no memory.
+    /// Takes bytes from the start of these that only continue what is there: fill bytes after FF, or contents of the
+    /// current segment before its last byte, and otherwise none, nor if there is no memory. Returns how many they were.
     pub fn contents(&mut self, bytes: &[u8]) -> usize
         requires same { (reading_of self.old.segments).limits ≡ self.old.limits }
         requires room { (reading_of self.old.segments).taken + length bytes.now ≤ self.old.limits.input }
@@ -93,9 +93,9 @@ impl Items {
         }
     }
 
-    /// Takes the segment at the start of these bytes, if one is complete there, may follow what is there, breaks no rule
-    /// and isn't a scan header, and answers how many bytes it takes, fill bytes before it among them. Otherwise, as if
-    /// there is no memory, it answers 0, and nothing has changed.
+    /// Takes the segment at the start of these bytes, if one is complete there, may follow what is there, breaks no
+    /// rule and isn't a scan header. Returns how many bytes it takes, fill bytes before it among them. Otherwise, and
+    /// if there is no memory, it returns 0, and nothing has changed.
     pub fn whole(&mut self, bytes: &[u8]) -> usize
         requires same { (reading_of self.old.segments).limits ≡ self.old.limits }
         requires limits { AreLimits self.old.limits }

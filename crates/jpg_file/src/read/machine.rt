@@ -44,8 +44,8 @@ impl ScanReader {
         }
     }
 
-    /// Takes the bits of some data bytes, and answers how many bytes were taken: up to the one whose bits end the
-    /// interval or reveal a fault. Bits after the interval's last one are dropped.
+    /// Takes the bits of some data bytes, up to the byte whose bits end the interval or reveal a fault. Returns how
+    /// many bytes were taken, and the result. Bits after the interval's last one are dropped.
     #[inline]
     pub fn run(&mut self, coefs: &mut Coefs, bytes: &[u8]) -> (usize, Taken)
         requires open { (i : Interval) × (bits : List Bool) × any_scan.stands self.old i bits coefs.old }
@@ -88,7 +88,8 @@ impl ScanReader {
         }
     }
 
-    /// Takes the bits of plain bytes in the same way, and answers how many bits were taken.
+    /// Takes the bits of plain bytes as `bits_in_row` takes those of a store. Returns how many bits were taken, and the
+    /// result.
     #[inline]
     pub fn bytes_in_row(
         &mut self,

@@ -29,9 +29,13 @@ use std::marker::Model;
 /// sequential frame, and otherwise into a picture too.
 #[derive(Drop)]
 pub struct Reader {
+    // The limits of the input.
     limits: Limits,
+    // The state of the file.
     work: StripWork,
+    // The file is complete.
     done: bool,
+    // Why the reader stopped, if it did.
     stop: Option<Stop>,
 }
 
@@ -58,8 +62,8 @@ impl Reader {
         Reader::for_copying(alloc, limits, Copying::All)
     }
 
-    /// The same, but of the markers it keeps only those that this passes on, and JFIF and Adobe segments. The others
-    /// still count for the limit.
+    /// A reader that was given no bytes. Of the markers it keeps only those that this passes on, and JFIF and Adobe
+    /// segments. The others still count for the limit.
     pub fn for_copying(alloc: Global, limits: Limits, copying: Copying) -> Reader
         requires { AreLimits limits }
         ensures read { HasRead [] result }
@@ -101,10 +105,10 @@ impl Reader {
         }
     }
 
-    /// Takes a further piece of the file, of any length. It answers Done if the file is complete then, and how many
-    /// bytes of the piece were used, its EOI among them. Otherwise it answers the first fault of the bytes so far, at
-    /// its place, InputTooLong if the limit was reached, or NoMemory. Otherwise it answers More. After a stop it
-    /// answers the same stop. It may not be called once the file is done (`is_done`), nor where MCU rows are to be read.
+    /// Takes a further piece of the file, of any length. Returns Done if the file is complete then, and how many bytes
+    /// of the piece were used, its EOI among them; the first fault of the bytes so far, at its place, InputTooLong if
+    /// the limit was reached, or NoMemory; and otherwise More. After a stop it returns the same stop. It may not be
+    /// called once the file is done (`is_done`), nor where MCU rows are to be read.
     pub fn feed(&mut self, piece: &[u8]) -> Result<Fed, Stop>
         requires undone { self.old.done ≡ false }
         requires plain { IsPlain self.old }
@@ -133,11 +137,11 @@ impl Reader {
         }
     }
 
-    /// Takes a further piece of the file, up to the byte with the last bit of the next MCU row. It answers Row if one
-    /// more is complete; the bits after its last one wait for the next call, which judges them first, and whose piece
-    /// may be empty. It answers Done if the file is complete, the first fault of the bytes so far, at its place,
-    /// NoMemory only before rows are read, and otherwise More. After a stop it answers the same stop. It may not be
-    /// called once the file is complete, and only of a reader of `strips`.
+    /// Takes a further piece of the file, up to the byte with the last bit of the next MCU row. Returns Row if one more
+    /// is complete; the bits after its last one wait for the next call, which judges them first, and whose piece may be
+    /// empty. Returns Done if the file is complete, the first fault of the bytes so far, at its place, NoMemory only
+    /// before rows are read, and otherwise More. After a stop it returns the same stop. It may not be called once the
+    /// file is complete, and only of a reader of `strips`.
     pub fn feed_row(&mut self, piece: &[u8]) -> Result<FedRow, Stop>
         requires undone { self.old.done ≡ false }
         requires by_row { self.old.by_row ≡ true }
@@ -186,10 +190,10 @@ impl Reader {
         self.work.file.begun.is_complete()
     }
 
-    /// The file ends here. It answers Early with the number of bytes taken if each component has begun: its picture may
-    /// be taken then, or `row_coefs` lends the current MCU row, with zeros where units are missing. Otherwise it
-    /// answers Truncated at the number of bytes taken, or the earlier stop. It may not be called once the file is done
-    /// (`is_done`), nor if `feed_row` answered Row last.
+    /// The file ends here. Returns Early with the number of bytes taken if each component has begun: its picture may be
+    /// taken then, or `row_coefs` lends the current MCU row, with zeros where units are missing. Otherwise it returns
+    /// Truncated at the number of bytes taken, or the earlier stop. It may not be called once the file is done
+    /// (`is_done`), nor if `feed_row` returned Row last.
     pub fn end(&mut self) -> End
         requires { self.old.done ≡ false }
         ensures answered { (bytes : List ℕ) → HasRead bytes self.old → AfterEnd bytes result self.new }
@@ -239,7 +243,7 @@ impl Reader {
         }
     }
 
-    /// The blocks of the complete MCU row, after `feed_row` answered Row. If `end` answered Early and MCU rows are
+    /// The blocks of the complete MCU row, after `feed_row` returned Row. If `end` returned Early and MCU rows are
     /// missing, those of the current row.
     pub fn row_coefs(&self) -> &Coefs
         requires { (rows : RowWork) × (self.now.rows ≡ Some rows) }
@@ -252,8 +256,8 @@ impl Reader {
     }
 
     /// The picture of the complete file, or of one that ended early, with the markers that were kept. It may be called
-    /// only after `feed` or `feed_row` answered Done or `end` answered Early (`is_done`), and if no MCU rows are read.
-    /// The reader has nothing left then, and answers further pieces with NoMemory.
+    /// only after `feed` or `feed_row` returned Done or `end` returned Early (`is_done`), and if no MCU rows are read.
+    /// The reader has nothing left then, and returns NoMemory for further pieces.
     pub fn take(&mut self) -> Picture
         requires done { self.old.done ≡ true }
         requires plain { self.old.rows ≡ None }

@@ -18,12 +18,16 @@ use jpg_coefs::Coefs;
 use jpg_markers::fill_length;
 use jpg_spec::FaultAt;
 
-/// The items so far, the picture from the first scan on, the current scan, and how many bytes were taken.
+/// A file that is being read, between items or inside the data of a scan.
 #[derive(Drop)]
 pub struct Reading {
+    /// The items so far.
     pub items: Items,
+    /// The coefficients, from the first scan on.
     pub coefs: Option<Coefs>,
+    /// The current scan, inside its data.
     pub scan: Option<InScan>,
+    /// How many bytes were taken.
     pub taken: u64,
 }
 
@@ -41,7 +45,7 @@ impl Reading {
         self.begin_head(begun)
     }
 
-    /// The same whatever picture there is.
+    /// Begins the scan of a complete scan header, or returns its fault; of the picture nothing is required.
     pub fn begin_head(&mut self, begun: &mut ScanHistory) -> Result<(), FaultAt>
         requires stands { CanBeginHead self.old begun.old }
         ensures after { (now : Picture) → HasSizes now → TakesHead (with_coefs self.old now) begun.old result (with_coefs self.new now) begun.new }
@@ -133,8 +137,8 @@ impl Reading {
         }
     }
 
-    /// Takes plain bytes inside the data of a scan, and answers how many were taken: up to the one that ends an
-    /// interval or reveals a fault.
+    /// Takes plain bytes inside the data of a scan, up to the byte that ends an interval or reveals a fault. Returns
+    /// how many were taken, and the result.
     pub fn scan_run(&mut self, run: &[u8]) -> (usize, Result<(), FaultAt>)
         requires stands { (items : List Item) × (contents : List ℕ) × (bytes : List ℕ) × Scanning self.old.items.limits items contents bytes self.old }
         requires room { self.old.taken + length run.now ≤ self.old.items.limits.input }
@@ -163,8 +167,8 @@ impl Reading {
 }
 
 impl Reading {
-    /// Takes bytes from the start of these between items, and answers how many they were, which is fewer than are given:
-    /// complete segments that break no rule, and then fill bytes or contents before a segment's last byte.
+    /// Between items, skips complete segments that break no rule, and then fill bytes or contents before a segment's
+    /// last byte. Returns how many bytes that were, fewer than are given.
     pub fn front(&mut self, bytes: &[u8]) -> usize
         requires can { CanGoOn self.old [] }
         requires room { self.old.taken < self.old.items.limits.input }
@@ -180,8 +184,8 @@ impl Reading {
         self.skip_ahead(&bytes[..most - 1])
     }
 
-    /// Takes fill bytes from the start of these after FF inside the data of a scan, and answers how many they were, which
-    /// is fewer than are given; none if no FF waits.
+    /// Inside the data of a scan, skips fill bytes after FF; none if no FF waits. Returns how many they were, fewer
+    /// than are given.
     pub fn fill_in_scan(&mut self, bytes: &[u8]) -> usize
         requires room { self.old.taken < self.old.items.limits.input }
         requires some { 1 ≤ length bytes.now }
@@ -236,8 +240,8 @@ impl Reading {
         }
     }
 
-    // Takes the complete segment at the start of these bytes, if it is one that can be taken so, and answers how many
-    // bytes it takes, or 0.
+    // Takes the complete segment at the start of these bytes, if it is one that can be taken so. Returns how many bytes
+    // it takes, or 0.
     fn whole(&mut self, bytes: &[u8]) -> usize
         requires { CanGoOn self.old bytes.now }
         ensures after { GoesOn self.old bytes.now result self.new }
@@ -250,7 +254,7 @@ impl Reading {
     }
 
     // Takes bytes from the start of these that only continue what is there, fill bytes or contents of the current
-    // segment before its last byte, and answers how many they were.
+    // segment before its last byte. Returns how many they were.
     fn contents(&mut self, bytes: &[u8]) -> usize
         requires { CanGoOn self.old bytes.now }
         ensures after { GoesOn self.old bytes.now result self.new }

@@ -16,17 +16,22 @@ use jpg_base::{BitStore, Frame, NoMemory, ScanHead};
 use jpg_coefs::{Coefs, ScanMachine, Taken};
 use std::alloc::Global;
 
-/// The blocks of the current MCU row, the rows of the components' grids at which it begins and how many rows of each it
-/// has, the units of an MCU row, those that are left of this one, the MCU rows after it, and bits that wait after its
-/// last one.
+/// The current MCU row of a scan of all components (T.81, A.2.3).
 #[derive(Drop)]
 pub struct RowWork {
+    /// Its blocks.
     pub coefs: Coefs,
+    /// By component, the row of its grid at which this MCU row begins.
     pub tops: [u32; 4],
+    /// By component, how many rows of its grid an MCU row has.
     pub steps: [u32; 4],
+    /// Units of an MCU row.
     pub units: u64,
+    /// Units that are left of this one.
     pub left: u64,
+    /// How many MCU rows follow.
     pub later: u32,
+    /// Bits after its last unit, which wait.
     pub waiting: BitStore,
 }
 
@@ -44,7 +49,7 @@ fn rows_of(frame: &Frame, i: u8) -> u32
     }
 }
 
-// The same of each component.
+// By component, the rows of blocks in an MCU row.
 fn steps_of(frame: &Frame) -> [u32; 4]
     ensures { (i : ℕ) → top_of result i ≡ block_rows_of frame.now i }
 {
@@ -129,7 +134,8 @@ impl RowWork {
         taken
     }
 
-    /// Gives it the bits of plain bytes in the same way, and answers how many bytes were given.
+    /// Gives the machine the bits of plain bytes up to the last one of the MCU row; those after it wait. Returns how
+    /// many bytes were given, and the result.
     pub fn take_bytes(&mut self, machine: &mut ScanReader, bytes: &[u8]) -> (usize, Taken)
         requires open { CanTakeData self.old machine.old }
         requires inside { IsInsideRow self.old machine.old }

@@ -14,14 +14,18 @@ use jpg_coefs::{Coefs, ScanMachine, Taken, UnitFault};
 use jpg_huff::{Gate, Passed};
 use jpg_spec::Fault;
 
-/// The current scan: its machine, whether the interval is complete, how many units an interval has (0: all of them),
-/// how many units follow the current interval, and which RST is next.
+/// The current scan (T.81, E.1.4).
 #[derive(Drop)]
 pub struct ScanWork {
+    /// What reads its units.
     pub machine: ScanReader,
+    /// The current interval is complete.
     pub whole: bool,
+    /// Units of an interval; 0: all are in one.
     pub interval: u64,
+    /// Units after the current interval.
     pub due: u64,
+    /// The number of the next RST marker, 0 to 7.
     pub turn: u8,
 }
 
@@ -45,7 +49,7 @@ pub fn named(fault: UnitFault) -> Fault
     }
 }
 
-/// The answer to a byte, by that to its data.
+/// The result of a byte, by that of its data.
 pub fn data_answer(answer: Result<(), Fault>) -> Result<bool, Fault>
     ensures { result ≡ byte_answer answer }
 {
@@ -56,8 +60,8 @@ pub fn data_answer(answer: Result<(), Fault>) -> Result<bool, Fault>
 }
 
 impl InScan {
-    /// Takes a byte of the file, after those of the scan so far, and answers whether the data are over: then it is the
-    /// code of the marker that ended them, and all intervals are complete.
+    /// Takes a byte of the file, after those of the scan so far. Returns whether the data are over: then it is the code
+    /// of the marker that ended them, and all intervals are complete.
     pub fn byte(&mut self, coefs: &mut Coefs, byte: u8) -> Result<bool, Fault>
         requires { IsInside self.old coefs.old }
         ensures after { TakesScanByte self.old coefs.old byte result self.new coefs.new }
@@ -81,8 +85,8 @@ impl InScan {
         !self.gate.is_waiting() && !self.work.whole
     }
 
-    /// Takes plain bytes from the start of a run, and answers how many were taken: at most up to the one that ends the
-    /// interval or reveals a fault.
+    /// Takes plain bytes from the start of a run, at most up to the byte that ends the interval or reveals a fault.
+    /// Returns how many were taken, and the result.
     pub fn run(&mut self, coefs: &mut Coefs, run: &[u8]) -> (usize, Result<(), Fault>)
         requires inside { IsInside self.old coefs.old }
         requires gate { self.old.gate ≡ false }
@@ -110,7 +114,7 @@ impl ScanWork {
         self.stepped(taken)
     }
 
-    /// Notes what the machine answered to data.
+    /// Notes the machine's result of data.
     pub fn stepped(&mut self, taken: Taken) -> Result<(), Fault>
         requires { self.old.whole ≡ false }
         ensures answer { result ≡ scan_answer taken }
@@ -127,7 +131,8 @@ impl ScanWork {
         }
     }
 
-    /// Takes a marker's code, whatever picture there is, and answers whether the data are over.
+    /// Takes a marker's code: the RST that is next begins the next interval, any other ends the data (T.81, E.1.4).
+    /// Returns whether the data are over.
     pub fn marker(&mut self, code: u8) -> Result<bool, Fault>
         requires { (limits : Limits) × (p : ScanPlace) × (bytes : List ℕ) × (now : Picture) × MarkerAt limits bytes p code self.old now }
         ensures takes { (now : Picture) → TakesCode self.old now code result self.new }

@@ -13,7 +13,7 @@ use jpg_huff::Passed;
 use jpg_spec::Fault;
 
 impl InScan {
-    /// Takes a byte of the file, and answers whether the data are over, and whether the MCU row is complete with it.
+    /// Takes a byte of the file. Returns whether the data are over, and whether the MCU row is complete with it.
     pub fn byte_in_row(&mut self, rows: &mut RowWork, byte: u8) -> (Result<bool, Fault>, bool)
         requires inside { IsRowData self.old rows.old }
         requires none { rows.old.waiting ≡ [] }
@@ -39,7 +39,7 @@ impl InScan {
         }
     }
 
-    /// Takes the bits that wait after the last MCU row, and answers whether a further one is complete with them.
+    /// Takes the bits that wait after the last MCU row. Returns whether a further one is complete with them.
     pub fn rest_in_row(&mut self, rows: &mut RowWork) -> (Result<(), Fault>, bool)
         requires { IsHalfRow self.old rows.old }
         ensures takes { TakesRestInRow self.old rows.old result.0 self.new rows.new }
@@ -51,8 +51,8 @@ impl InScan {
         (self.work.stepped(taken), rows.left == 0)
     }
 
-    /// Takes plain bytes from the start of a run, and answers how many, and whether the MCU row is complete with the
-    /// last of them.
+    /// Takes plain bytes from the start of a run. Returns how many, and whether the MCU row is complete with the last
+    /// of them.
     pub fn run_in_row(&mut self, rows: &mut RowWork, run: &[u8]) -> (usize, Result<(), Fault>, bool)
         requires inside { IsRowData self.old rows.old }
         requires gate { self.old.gate ≡ false }

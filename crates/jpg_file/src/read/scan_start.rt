@@ -41,7 +41,8 @@ pub fn begin_scan(
     scan
 }
 
-/// The same, put into a place, whatever picture there is. The tables of its machine are built there.
+/// Puts the scan of a header that breaks no rule into a place, before its first data byte. The tables of its machine
+/// are built there.
 #[cold]
 #[inline(never)]
 pub fn begin_data(
@@ -82,8 +83,8 @@ fn put_scan(place: &mut Option<InScan>, machine: ScanReader, interval: u64, due:
     });
 }
 
-// Puts the scan of a first pass of DC into the place, without its tables. It remains a call, as does `put_band`, so that
-// no scan needs the stack of another kind.
+// Puts the scan of a first pass of DC into the place, without its tables. It remains a call, as does `put_band`, so
+// that no scan needs the stack of another kind.
 #[cold]
 #[inline(never)]
 fn put_first(place: &mut Option<InScan>, frame: &Frame, head: &ScanHead, interval: u64, due: u64)

@@ -19,17 +19,24 @@ use jpg_markers::{
 use jpg_spec::{Copying, Fault, Process, ScanPart};
 use std::alloc::Global;
 
-/// What the segments so far define: the frame, the tables in force, the restart interval (in MCUs, 0 for none), whether
-/// a scan began, which markers are to be kept, those that are kept, and the last JFIF header.
+/// What the segments so far define (T.81, B.2.4: what is in force).
 #[derive(Drop)]
 pub struct SegmentState {
+    /// The frame, once its header was read.
     pub frame: Option<Frame>,
+    /// The Huffman tables in force.
     pub tables: DefinitionSet,
+    /// The quantisation tables in force.
     pub quants: QuantSet,
+    /// The restart interval in MCUs; 0: none.
     pub interval: u16,
+    /// A scan header was read.
     pub scanned: bool,
+    /// Which markers are to be kept.
     pub keeping: Copying,
+    /// Those that are kept.
     pub kept: KeptList,
+    /// The last JFIF header.
     pub jfif: Jfif,
 }
 

@@ -14,13 +14,16 @@ use jpg_base::{Frame, QuantTable};
 use jpg_markers::Jfif;
 use jpg_spec::Colour;
 
-/// A picture except for its blocks: its frame and colours, the quantisation table of each component, and the last JFIF
-/// header.
+/// A picture except for its blocks.
 #[derive(Drop)]
 pub struct StripHead {
+    /// Its frame header.
     pub frame: Frame,
+    /// Its colours.
     pub colour: Colour,
+    /// The quantisation table of each component.
     pub quants: ArrayVec<QuantTable, 4>,
+    /// The last JFIF header.
     pub jfif: Jfif,
 }
 

@@ -18,13 +18,16 @@ use crate::read::step::Step;
 use crate::read::strip_head::{StripHead, strip_of};
 use jpg_base::Stop;
 
-/// A file that is being read, whether it is to be read MCU row by MCU row, and the current MCU row and the head of its
-/// picture once there is one.
+/// A file that is being read. With `by_row`, blocks are kept one MCU row at a time.
 #[derive(Drop)]
 pub struct StripWork {
+    /// The file.
     pub file: FileWork,
+    /// It is to be read MCU row by MCU row, if its first scan is a sequential one of all components.
     pub by_row: bool,
+    /// The current MCU row, once there is one.
     pub rows: Option<RowWork>,
+    /// The head of its picture, once there is one.
     pub strip: Option<StripHead>,
 }
 
@@ -51,7 +54,7 @@ impl StripWork {
         }
     }
 
-    /// Takes some of these bytes, and answers how many these were and the result of the last one.
+    /// Takes one or more of these bytes, up to the first event. Returns how many, and the event.
     pub fn some(&mut self, bytes: &[u8]) -> (usize, Step)
         requires stands { (front : List ℕ) × StripGoes (limits_of self.old.file) front self.old.rows self.old.file }
         requires limits { AreLimits (limits_of self.old.file) }
@@ -68,7 +71,7 @@ impl StripWork {
         }
     }
 
-    // The same, where there is no current MCU row.
+    // Takes one or more of these bytes, up to the first event, where there is no current MCU row.
     fn plain(&mut self, bytes: &[u8]) -> (usize, Step)
         requires stands { (front : List ℕ) × RepresentsFile (limits_of self.old.file) front self.old.file }
         requires none { self.old.rows ≡ None }

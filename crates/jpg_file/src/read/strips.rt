@@ -98,7 +98,7 @@ impl FileWork {
         }
     }
 
-    /// Takes plain bytes inside the data of the scan, and answers how many.
+    /// Takes plain bytes inside the data of the scan. Returns how many, and the result.
     pub fn take_run_in_row(&mut self, rows: &mut RowWork, run: &[u8]) -> (usize, Step)
         requires stands { (bytes : List ℕ) × GoesByRow (limits_of self.old) bytes self.old rows.old }
         requires limits { AreLimits (limits_of self.old) }
@@ -128,7 +128,7 @@ impl FileWork {
 }
 
 impl FileWork {
-    /// Takes some of these bytes, and answers how many these were and the result of the last one.
+    /// Takes one or more of these bytes, up to the first event. Returns how many, and the event.
     pub fn take_in_row(&mut self, rows: &mut RowWork, bytes: &[u8]) -> (usize, Step)
         requires stands { (front : List ℕ) × GoesByRow (limits_of self.old) front self.old rows.old }
         requires limits { AreLimits (limits_of self.old) }
@@ -156,7 +156,8 @@ impl FileWork {
         }
     }
 
-    // Takes a byte inside the data of the scan, perhaps after fill bytes, and answers how many these were and its result.
+    // Takes a byte inside the data of the scan, perhaps after fill bytes. Returns how many bytes these were, and the
+    // result.
     fn scan_some(&mut self, rows: &mut RowWork, bytes: &[u8]) -> (usize, Step)
         requires stands { (front : List ℕ) × GoesByRow (limits_of self.old) front self.old rows.old }
         requires inside { is_some self.old.reading.scan ≡ true }
@@ -177,7 +178,7 @@ impl FileWork {
 }
 
 impl FileWork {
-    // Takes some of these bytes after the scan, and answers how many these were and the result of the last one.
+    // Takes one or more of these bytes after the scan, up to the first event. Returns how many, and the event.
     fn take_after_rows(&mut self, bytes: &[u8]) -> (usize, Step)
         requires stands { (front : List ℕ) × (rows : Row) × GoesByRow (limits_of self.old) front self.old rows }
         requires none { is_some self.old.reading.scan ≡ false }

@@ -1,4 +1,4 @@
-//! The header of a scan that is written, and which tables the scan needs (T.81, B.2.3).
+//! The header of a scan that is written, and which tables the scan needs (T.81, B.2.3, Figure B.4).
 ghost use Rattle.std.specs.Prelude.{◌≡◌, ◌<◌, ◌≤◌, ◌+◌, ◌∷◌, ◌++◌, [], if◌then◌else◌, length, map};
 ghost use Rattle.jpg_spec.specs.FrameHeader.{identifiers};
 ghost use Rattle.jpg_spec.specs.Segments.{needs_ac, needs_dc};
@@ -124,7 +124,7 @@ fn note(is_needed: bool, place: TablePlace, needed: &mut Needed)
     }
 }
 
-// Writes a DRI segment, if the interval isn't the one before.
+// Writes a DRI segment, if the interval isn't the one before (T.81, B.2.4.4, Figure B.9).
 fn write_interval<D: Desk>(
     last: u16,
     now: u16,

@@ -1,5 +1,5 @@
-//! The tables of a scan that is written: typical ones, those of codes of one length, or those made for how often each
-//! symbol is sent (T.81, Annexes C, K.2 and K.3).
+//! The tables of a scan that is written: typical ones (T.81, K.3), those of codes of one length (Annex C), or those
+//! made for how often each symbol is sent (K.2).
 ghost use Rattle.std.specs.Prelude.{◌≡◌, ◌==◌, ◌&&◌, not, true, ℕ, List, All};
 ghost use Rattle.jpg_spec.specs.FlatTable.{flat_table};
 ghost use Rattle.jpg_spec.specs.Geometry.{is_progressive};
@@ -23,8 +23,8 @@ use jpg_seq::count_seq_scan;
 use jpg_spec_write::Huffman;
 
 /// Puts the tables of a scan into slots 0 and 1 of an empty set: those that are made for it, if they are asked for;
-/// otherwise in a sequential file of precision 8 the typical ones, and in any other those of codes of one length for what
-/// the scan writes. It remains a call, so that its stack is free again when the scan is written.
+/// otherwise in a sequential file of precision 8 the typical ones, and in any other those of codes of one length for
+/// what the scan writes. It remains a call, so that its stack is free again when the scan is written.
 #[inline(never)]
 pub fn put_tables<V: BlockView>(
     huffman: Huffman,
@@ -87,7 +87,7 @@ fn counts_of<V: BlockView>(frame: &Frame, view: &V, head: &ScanHead, interval: u
     }
 }
 
-// Puts K.3 and K.5 into slot 0, K.4 and K.6 into slot 1.
+// Puts Tables K.3 and K.5 into slot 0, K.4 and K.6 into slot 1 (T.81, K.3).
 #[inline(never)]
 fn put_typical(set: &mut TableSet)
     requires { IsEmptySet set.old }

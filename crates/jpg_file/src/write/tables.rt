@@ -1,4 +1,5 @@
-//! The tables that a scan needs; those are written that aren't the last ones of their class and slot (T.81, B.2.4.2).
+//! The tables that a scan needs; those are written that aren't the last ones of their class and slot (T.81, B.2.4.2,
+//! Figure B.7).
 ghost use Rattle.std.specs.Prelude.{◌≡◌, ◌<◌, ◌≤◌, ◌==◌, ◌∷◌, ◌++◌, [], if◌then◌else◌, length, All, Ok};
 ghost use Rattle.std.specs.Option.{option_map};
 ghost use Rattle.jpg_spec_write.specs.FileText.{holds_table, tables_given, tables_text, with_table};

@@ -1,4 +1,4 @@
-//! Frame headers as they are written (T.81, B.2.2).
+//! Frame headers as they are written (T.81, B.2.2, Figure B.3).
 ghost use Rattle.std.specs.Prelude.{◌≡◌, ◌≤◌, ◌+◌, [], ◌++◌, length, true};
 ghost use Rattle.std.specs.Int.{to_be_bytes};
 ghost use Rattle.arrayvec.specs.ArrayVec.{array_vec_len};

@@ -1,4 +1,4 @@
-//! Quantisation tables as they are written (T.81, B.2.4.1).
+//! Quantisation tables as they are written (T.81, B.2.4.1, Figure B.6).
 ghost use Rattle.std.specs.Prelude.{◌≡◌, ◌≤◌, ◌<◌, ◌+◌, [], ◌∷◌, ◌++◌, length, flat_map, if◌then◌else◌, false, true};
 ghost use Rattle.std.specs.Int.{to_be_bytes, w16};
 ghost use Rattle.arrayvec.specs.ArrayVec.{array_vec_len};

@@ -7,12 +7,16 @@ ghost use Rattle.jpg_pnm_bmp.specs.declared.read.numbers.Numbers.TheVariants as 
 
 use crate::read::numbers::{Numbers, sample_count};
 
-// A number of bytes in lines, and how many first bytes of each line are samples below the limit.
+// How the samples of an image are laid out in its file.
 #[derive(Clone, Copy, Debug, PartialEq, Eq)]
 pub struct Shape {
+    // Bytes in all.
     pub count: u64,
+    // Bytes of a line.
     pub line: u64,
+    // How many first bytes of a line are samples.
     pub used: u64,
+    // One more than the greatest sample.
     pub limit: u32,
 }
 

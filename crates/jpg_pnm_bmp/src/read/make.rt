@@ -55,7 +55,7 @@ fn add_turned(row: &[u8], made: &mut Bytes) -> Result<(), NoMemory>
     }
 }
 
-// Appends a row by a palette. The indexes of an image that was read are within it; NoMemory is answered if one isn't.
+// Appends a row by a palette. The indexes of an image that was read are within it; NoMemory is returned if one isn't.
 fn add_coloured(row: &[u8], palette: &[u8], made: &mut Bytes) -> Result<(), NoMemory>
     ensures { OnOk result (made.new ≡ made.old ++ flat_map (colour palette.now) row.now) }
 {
@@ -167,8 +167,8 @@ fn make_bmp(work: &Work, made: &mut Bytes) -> Result<ImageInfo, NoMemory>
     }
 }
 
-// Makes the image whose last sample is known, and answers its sides and kind. A state that isn't that of a body, or has
-// no numbers or too few bytes, isn't one of such an image: the answer is NoMemory then.
+// Makes the image whose last sample is known. Returns its sides and kind. A state that isn't that of a body, or has
+// no numbers or too few bytes, isn't one of such an image: it returns NoMemory then.
 pub(crate) fn make_image(work: &mut Work, made: &mut Bytes) -> Result<ImageInfo, NoMemory>
     ensures { Makes (image_told work.old) result made.new }
 {

@@ -22,43 +22,43 @@ pub enum Numbers {
 pub(crate) fn is_plain(format: u8) -> bool
     ensures { result ≡ is_plain format }
 {
-    50 == format || 51 == format
+    b'2' == format || b'3' == format
 }
 
 pub(crate) fn is_read(format: u8) -> bool
     ensures { result ≡ is_read format }
 {
-    is_plain(format) || (53 == format || 54 == format)
+    is_plain(format) || (b'5' == format || b'6' == format)
 }
 
 pub(crate) fn is_left_out(format: u8) -> bool
     ensures { result ≡ is_left_out format }
 {
-    49 == format || (52 == format || 55 == format)
+    b'1' == format || (b'4' == format || b'7' == format)
 }
 
 pub(crate) fn is_gray(format: u8) -> bool
     ensures { result ≡ is_among format (codes "25") }
 {
-    50 == format || 53 == format
+    b'2' == format || b'5' == format
 }
 
 pub(crate) fn is_space(byte: u8) -> bool
     ensures { result ≡ is_pnm_space byte }
 {
-    32 == byte || (9 == byte || (10 == byte || 13 == byte))
+    b' ' == byte || (b'\t' == byte || (b'\n' == byte || b'\r' == byte))
 }
 
 pub(crate) fn begins_gap(byte: u8) -> bool
     ensures { result ≡ begins_gap byte }
 {
-    is_space(byte) || byte == 35
+    is_space(byte) || byte == b'#'
 }
 
 pub(crate) fn is_digit(byte: u8) -> bool
     ensures { result ≡ is_digit byte }
 {
-    48 <= byte && byte <= 57
+    b'0' <= byte && byte <= b'9'
 }
 
 fn is_side(n: u32) -> bool

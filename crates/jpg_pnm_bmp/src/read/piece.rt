@@ -13,7 +13,7 @@ pub enum Fed2 {
     Done,
 }
 
-// Reads a piece after `taken` bytes. It answers Done with the byte that makes the last sample known, or the fault of
+// Reads a piece after `taken` bytes. Returns Done with the byte that makes the last sample known, or the fault of
 // the bytes at its place, or NoMemory; otherwise More.
 pub(crate) fn read_piece(work: &mut Work, taken: u64, piece: &[u8]) -> Result<Fed2, Stop>
     requires room { taken + length piece.now ≤ 1099511627776 }
@@ -38,7 +38,7 @@ pub(crate) fn read_piece(work: &mut Work, taken: u64, piece: &[u8]) -> Result<Fe
     Ok(Fed2::More)
 }
 
-// The bytes end here. It answers Ok if the image is complete now, or its fault, or NoMemory.
+// The bytes end here. Returns Ok if the image is complete now, or its fault, or NoMemory.
 pub(crate) fn end_here(work: &mut Work, taken: u64) -> Result<(), Stop>
     ensures { (bytes : List ℕ) → HasRead bytes taken work.old → AfterEnd bytes result work.new }
 {

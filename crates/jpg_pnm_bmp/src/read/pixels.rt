@@ -21,11 +21,17 @@ pub struct Image {
 /// Reads an image file: P2, P3, P5, P6, or a BMP of 8 or 24 bits a pixel.
 #[derive(Drop)]
 pub struct PixelReader {
+    // The state after the bytes so far.
     work: Work,
+    // Memory for the samples of the image, made of those of the file.
     made: Bytes,
+    // The size and the colours of the image, once they are known.
     info: ImageInfo,
+    // How many bytes were taken.
     taken: u64,
+    // The image is complete.
     done: bool,
+    // Why the reader stopped, if it did.
     stop: Option<Stop>,
 }
 
@@ -55,10 +61,10 @@ impl PixelReader {
         }
     }
 
-    /// Takes a further piece of the file, of any length. It answers Done if the piece has the byte that makes the last
-    /// sample known: bytes after it are left unread. Otherwise it answers the fault of the bytes so far, at the number
+    /// Takes a further piece of the file, of any length. Returns Done if the piece has the byte that makes the last
+    /// sample known: bytes after it are left unread. Otherwise it returns the fault of the bytes so far, at the number
     /// of bytes up to the one that reveals it: ImageText, ImageUnsupported, ImageHeader or ImageValue; or that there is
-    /// no memory. Otherwise it answers More. After a stop it answers the same stop. It may not be called once the image
+    /// no memory. Otherwise it returns More. After a stop it returns the same stop. It may not be called once the image
     /// is complete (`is_read`), and at most 2^40 bytes may be fed in all.
     pub fn feed(&mut self, piece: &[u8]) -> Result<Fed2, Stop>
         requires open { is_image_read self.old ≡ false }
@@ -122,7 +128,7 @@ impl PixelReader {
         self.work.samples.as_slice()
     }
 
-    /// The file ends here. It answers Ok if the image is complete now, which it is if the last number of P2 or P3 ends
+    /// The file ends here. Returns Ok if the image is complete now, which it is if the last number of P2 or P3 ends
     /// with the file; otherwise the fault of a number that ends there, ImageUnsupported, ImageHeader or ImageValue;
     /// otherwise ImageShort; or the earlier stop. It may not be called once the image is complete (`is_read`).
     pub fn end(&mut self) -> Result<(), Stop>

@@ -48,13 +48,20 @@ pub struct Moved {
     pub answer: Answer,
 }
 
+// The state of an image file that is read.
 #[derive(Drop)]
 pub struct Work {
+    // Where the next byte is.
     pub stage: Stage,
+    // Of a PNM file the byte after P.
     pub format: u8,
+    // Its numbers so far.
     pub numbers: Numbers,
+    // The header of a BMP file so far.
     pub head: Bytes,
+    // Its palette.
     pub palette: Bytes,
+    // The samples so far, as the file has them.
     pub samples: Bytes,
 }
 
@@ -89,7 +96,7 @@ impl Work {
     fn first_byte(&mut self, byte: u8) -> Answer
         ensures { Reaches (first_byte byte) result self.new }
     {
-        if byte == 80 || byte == 66 {
+        if byte == b'P' || byte == b'B' {
             self.stage = Stage::First(byte);
             return Answer::More;
         }
@@ -99,7 +106,7 @@ impl Work {
     fn second_byte(&mut self, first: u8, byte: u8) -> Answer
         ensures { Reaches (second_byte first byte) result self.new }
     {
-        if first == 66 {
+        if first == b'B' {
             return self.bmp_begun(byte);
         }
         if is_read(byte) {
@@ -120,9 +127,9 @@ impl Work {
     fn bmp_begun(&mut self, byte: u8) -> Answer
         ensures { Reaches (second_byte 66 byte) result self.new }
     {
-        if byte == 77 {
+        if byte == b'M' {
             self.head.clear();
-            if self.head.push_all(&[66, 77]).is_err() {
+            if self.head.push_all(&[b'B', b'M']).is_err() {
                 return Answer::NoMemory;
             }
             self.stage = Stage::BmpHead;
@@ -135,7 +142,11 @@ impl Work {
         ensures { Reaches (gap_byte self.old.format (numbers_list self.old) some commented byte) result self.new }
     {
         if commented || begins_gap(byte) {
-            let commented = if commented { byte != 10 } else { byte == 35 };
+            let commented = if commented {
+                byte != b'\n'
+            } else {
+                byte == b'#'
+            };
             self.stage = Stage::Gap {
                 some: true,
                 commented,
@@ -143,7 +154,7 @@ impl Work {
             return Answer::More;
         }
         if some && is_digit(byte) {
-            self.stage = Stage::Number(u32::from(byte - 48));
+            self.stage = Stage::Number(u32::from(byte - b'0'));
             return Answer::More;
         }
         Answer::Fault(Fault::ImageText)
@@ -153,7 +164,7 @@ impl Work {
         ensures { is_number_due self.old.format (numbers_list self.old) ≡ true → Reaches (number_byte self.old.format (numbers_list self.old) n byte) result self.new }
     {
         if is_digit(byte) {
-            self.stage = Stage::Number((10 * n.min(100_000) + u32::from(byte - 48)).min(100_000));
+            self.stage = Stage::Number((10 * n.min(100_000) + u32::from(byte - b'0')).min(100_000));
             return Answer::More;
         }
         let samples = self.samples.as_slice().len() as u64;
@@ -180,7 +191,7 @@ impl Work {
         if due {
             self.stage = Stage::Gap {
                 some: true,
-                commented: byte == 35,
+                commented: byte == b'#',
             };
             return Answer::More;
         }
@@ -270,7 +281,7 @@ impl Work {
         self.samples.as_slice().len() as u64
     }
 
-    // Keeps a part of a body too, and answers whether it is complete then.
+    // Keeps a part of a body too. Returns whether it is complete then.
     fn hold(&mut self, count: u64, part: &[u8]) -> Answer
         ensures { HoldsBodyPart self.old part.now count result self.new }
     {

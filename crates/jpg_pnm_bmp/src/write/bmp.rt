@@ -16,10 +16,15 @@ use std::alloc::Global;
 /// Makes a BMP file. It keeps all rows, since the last is written first: nothing is appended before `finish`.
 #[derive(Drop)]
 pub struct BmpEnd {
+    // The size and the colours of the image, once it began.
     info: Option<ImageInfo>,
+    // How many rows were taken.
     taken: u32,
+    // How many parts of the file were made: the header, and then rows from the last one on.
     parts: u32,
+    // The rows that were taken.
     rows: Vec<u8>,
+    // The last part that was made.
     part: Vec<u8>,
     ghost bounds: { IsInBounds (info_given info) },
     ghost wide: { (info_given info).height ≤ 65500 * (info_given info).width },

@@ -13,10 +13,10 @@ pub enum Finish {
 }
 
 /// Makes an image file of an image's rows, in one format. `start` is called once, then `row` for each row from the top
-/// down, then `finish` until it answers `Done`. What they append, one after another, is the file.
+/// down, then `finish` until it returns `Done`. What they append, one after another, is the file.
 ///
-/// Each call answers NoMemory if there is no memory. The writer and what is appended to are then as they were. `row`
-/// and `finish` answer it only if they have something to append: memory for rows that are kept is asked for by `start`.
+/// Each call returns NoMemory if there is no memory. The writer and what is appended to are then as they were. `row`
+/// and `finish` return it only if they have something to append: memory for rows that are kept is asked for by `start`.
 pub trait ImageEnd: Drop {
     /// The image that it was given, and what it appended.
     ghost progress: { Self → EndState };
@@ -38,7 +38,7 @@ pub trait ImageEnd: Drop {
         requires { CanTakeRow (progress self.old) row.now }
         ensures { TakesRow (progress self.old) out.old row.now result (progress self.new) out.new };
 
-    /// Appends the next part of what follows the rows, at most one row, and answers whether there are more parts.
+    /// Appends the next part of what follows the rows, at most one row. Returns whether there are more parts.
     fn finish(&mut self, out: &mut Bytes) -> Result<Finish, NoMemory>
         requires { CanFinish (progress self.old) }
         ensures { Finishes (progress self.old) out.old result (progress self.new) out.new };

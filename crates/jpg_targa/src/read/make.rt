@@ -78,8 +78,8 @@ fn are_samples(work: &Work) -> bool
     }
 }
 
-// Makes the image whose last pixel is known, and answers its sides and kind. Samples that stand as in the image are moved
-// instead of copied. Fewer bytes than the rows have aren't those of such an image: the answer is NoMemory then.
+// Makes the image whose last pixel is known. Returns its sides and kind. Samples that stand as in the image are moved
+// instead of copied. Fewer bytes than the rows have aren't those of such an image: it returns NoMemory then.
 pub(crate) fn make_image(work: &mut Work, made: &mut Bytes) -> Result<ImageInfo, NoMemory>
     ensures { Makes (targa_image work.old.head work.old.pixels) result made.new }
 {

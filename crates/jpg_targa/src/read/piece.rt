@@ -7,7 +7,7 @@ use crate::read::work::{Answer, Work};
 use jpg_base::{FaultAt, Stop};
 use jpg_pnm_bmp::Fed2;
 
-// Reads a piece after `taken` bytes. It answers Done with the byte that makes the last pixel known, or the fault of the
+// Reads a piece after `taken` bytes. Returns Done with the byte that makes the last pixel known, or the fault of the
 // bytes at its place, or NoMemory; otherwise More.
 pub(crate) fn read_piece(work: &mut Work, taken: u64, piece: &[u8]) -> Result<Fed2, Stop>
     requires room { taken + length piece.now ≤ 1099511627776 }

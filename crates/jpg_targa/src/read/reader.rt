@@ -16,11 +16,17 @@ use std::alloc::Global;
 /// Reads a Targa file: raw or in packets, of 8 bits a pixel (gray) or 24 (colours).
 #[derive(Drop)]
 pub struct TargaReader {
+    // The state after the bytes so far.
     work: Work,
+    // Memory for the samples of the image, made of the file's pixels.
     made: Bytes,
+    // The size and the colours of the image, once they are known.
     info: ImageInfo,
+    // How many bytes were taken.
     taken: u64,
+    // The image is complete.
     done: bool,
+    // Why the reader stopped, if it did.
     stop: Option<Stop>,
 }
 
@@ -49,10 +55,10 @@ impl TargaReader {
         }
     }
 
-    /// Takes a further piece of the file, of any length. It answers Done if the piece has the byte that makes the last
-    /// pixel known: bytes after it are left unread. Otherwise it answers the fault of the header, ImageUnsupported or
-    /// ImageHeader, at 18; or that there is no memory. Otherwise it answers More. After a stop it answers the same stop.
-    /// It may not be called once the image is complete (`is_read`), and at most 2^40 bytes may be fed in all.
+    /// Takes a further piece of the file, of any length. Returns Done if the piece has the byte that makes the last
+    /// pixel known: bytes after it are left unread. Otherwise it returns the fault of the header, ImageUnsupported or
+    /// ImageHeader, at 18; or that there is no memory. Otherwise it returns More. After a stop it returns the same
+    /// stop. It may not be called once the image is complete (`is_read`), and at most 2^40 bytes may be fed in all.
     pub fn feed(&mut self, piece: &[u8]) -> Result<Fed2, Stop>
         requires open { is_targa_read self.old ≡ false }
         requires room { targa_taken self.old + length piece.now ≤ 1099511627776 }
@@ -94,7 +100,7 @@ impl TargaReader {
         self.done
     }
 
-    /// The file ends here, before the last pixel: it answers ImageShort at the file's length, or the earlier stop. It
+    /// The file ends here, before the last pixel: it returns ImageShort at the file's length, or the earlier stop. It
     /// may not be called once the image is complete (`is_read`).
     pub fn end(&mut self) -> Stop
         requires { is_targa_read self.old ≡ false }

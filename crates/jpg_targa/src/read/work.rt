@@ -36,14 +36,18 @@ pub struct Moved {
     pub answer: Answer,
 }
 
-// The header, the pixel that is to be copied, and the bytes of the pixels in the file's order. `line` is memory for a row
-// of the image that is made of them.
+// The state of a Targa file that is read.
 #[derive(Drop)]
 pub struct Work {
+    // Where the next byte is.
     pub stage: Stage,
+    // The header so far.
     pub head: [u8; 18],
+    // The pixel that is to be copied, so far.
     pub pixel: Bytes,
+    // The bytes of the pixels so far, in the file's order.
     pub pixels: Bytes,
+    // Memory for a row of the image that is made of them.
     pub line: Vec<u8>,
 }
 
