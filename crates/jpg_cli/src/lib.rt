@@ -2,6 +2,7 @@
 #![tactic(auto)]
 
 mod desk;
+mod help;
 mod laws;
 mod message;
 mod program;

@@ -3,6 +3,7 @@ ghost use Rattle.std.specs.Prelude.{◌≡◌, OnOk, map};
 ghost use Rattle.jpg_pnm_bmp.specs.EndState.{new_end};
 ghost use Rattle.jpg_cli.specs.Tools.Ends.{AreNewEnds};
 
+use crate::help::{BEGIN, HELP};
 use crate::top::{Ended, run, tell};
 use crate::words::{known_tool, tool_name};
 use jpg_base::{NoMemory, Put, StdDesk};
@@ -16,28 +17,6 @@ use std::process::ExitCode;
 use std::rt::Runtime;
 
 const VERSION: &str = "jpgsuite 1.1.0\n";
-
-const JPEGTRAN: &str = "\
-jpegtran [-flip horizontal | -flip vertical | -rotate 90 | -rotate 180 | -rotate 270 | -transpose | -transverse]
-    [-trim] [-grayscale] [-crop WxH+X+Y] [-copy none | -copy comments | -copy all] [-progressive | -scans SCRIPT]
-    [-huffman plain | -huffman fitted] [-restart N[B]] [-outfile NAME] [FILE] > OUTPUT
-";
-
-const DJPEG: &str = "\
-djpeg [-pnm | -ppm | -bmp | -targa] [-grayscale] [-nosmooth] [-preview N] [-dct int] [-scale 1/1] [-outfile NAME]
-    [FILE] > OUTPUT
-";
-
-const CJPEG: &str = "\
-cjpeg [-targa] [-quality N] [-grayscale] [-baseline] [-progressive | -scans SCRIPT] [-huffman plain | -huffman fitted]
-    [-restart N[B]] [-sample HxV,..] [-qtables TABLES] [-dct int] [-outfile NAME] [FILE] > OUTPUT
-";
-
-const RDJPGCOM: &str = "rdjpgcom [FILE] > OUTPUT\n";
-
-const WRJPGCOM: &str = "wrjpgcom [-replace] [-comment TEXT | -cfile FILE] [FILE] > OUTPUT\n";
-
-static HELP: [&str; 5] = [JPEGTRAN, DJPEG, CJPEG, RDJPGCOM, WRJPGCOM];
 
 static ABOUT: [&str; 1] = [VERSION];
 
@@ -79,6 +58,11 @@ fn print_all<R: Runtime>(rt: &R, texts: &[&str]) -> u8 {
         }
     }
     0
+}
+
+// Says how to begin, before the message of a call without words. That it can't be said changes nothing.
+fn say_begin<R: Runtime>(rt: &R) {
+    let _ = eprint!(rt; "{BEGIN}");
 }
 
 // The command of the name that the program was called by, the last part of a path: none if no command has it.
@@ -145,8 +129,8 @@ fn is_named_twice(words: &[String]) -> bool {
     false
 }
 
-// Whether an output has no place after a run that ended so: it isn't complete, or it has the first rows of a file that was
-// refused, and would replace that file.
+// Whether an output has no place after a run that ended so: it isn't complete, or it has the first rows of a file that
+// was refused, and would replace that file.
 fn is_discarded(words: &[String], why: Why) -> bool {
     match why {
         Why::WriteFault | Why::ReadFault(_) | Why::NoMemory => true,
@@ -155,8 +139,8 @@ fn is_discarded(words: &[String], why: Why) -> bool {
     }
 }
 
-// Puts the output of a run into its place, or removes it. The exit status; if the output can't take its place, that of a
-// failed write, whose message is said.
+// Puts the output of a run into its place, or removes it. The exit status; if the output can't take its place, that of
+// a failed write, whose message is said.
 fn end_output<R: Runtime>(words: &[String], ended: Ended, desk: &mut StdDesk<R>) -> u8 {
     if is_discarded(words, ended.why) {
         desk.discard();
@@ -188,8 +172,9 @@ fn run_over_files<R: Runtime>(
 /// Runs the command that the program's words ask for over real files and the standard streams, and ends with its exit
 /// status. Where the program was called by the name of a command, that is the first word. A single `--help`, `-help`,
 /// `-?` or `--version`, also after the name of a command, prints the help, all of it or that for the command, or the
-/// version. An output with a name takes its place when it is complete (`StdDesk::replacing`). If there is no memory for
-/// the words the status is 3, and if a word isn't UTF-8 it is 1, both without a message.
+/// version. For a call without words standard error has how to begin, and then the message. An output with a name takes
+/// its place when it is complete (`StdDesk::replacing`). If there is no memory for the words the status is 3, and if a
+/// word isn't UTF-8 it is 1, both without a message.
 pub fn run_program<R: Runtime<A = Global>>(rt: R) -> ExitCode {
     let alloc = rt.alloc();
     let words = match words(&rt) {
@@ -198,6 +183,9 @@ pub fn run_program<R: Runtime<A = Global>>(rt: R) -> ExitCode {
     };
     if let Some(texts) = told(words.as_slice()) {
         return ExitCode::from(print_all(&rt, texts));
+    }
+    if words.is_empty() {
+        say_begin(&rt);
     }
     let mut ends: Vec<Box<dyn ImageEnd>> = Vec::new(alloc);
     let Ok(pnm) = Box::new(alloc, PnmEnd::new()) else {

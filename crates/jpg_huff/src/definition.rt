@@ -1,4 +1,4 @@
-//! The definition of a Huffman table as it is in a file: its counts and symbols (T.81, B.2.4.2).
+//! The definition of a Huffman table as it is in a file: its counts and symbols (T.81, B.2.4.2, C.1).
 ghost use Rattle.std.specs.Prelude.{◌≡◌, ◌≤◌, true, sum};
 ghost use Rattle.jpg_spec.specs.Codes.{are_codes};
 

@@ -120,7 +120,8 @@ fn count_shorter(bits: &[u8; 16]) -> [u16; 16]
 }
 
 // By length, how many strings of that length begin a code of that length or of a longer one, or are before its first
-// number; computed from the longest length on. With `firsts` and `starts` this is what Figure F.15 of T.81 prepares.
+// number; computed from the longest length on. With `firsts` and `starts` this is what DECODE needs (T.81, F.2.2.3, Figure
+// F.15).
 fn find_limits(bits: &[u8; 16], firsts: &[u32; 16]) -> [u32; 16]
     requires { AreFirsts bits.now firsts.now }
     ensures { AreCodeLimits bits.now firsts.now result }

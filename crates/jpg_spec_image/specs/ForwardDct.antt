@@ -74,6 +74,7 @@ abbrev pub quantised : ℤ → ℕ → ℤ
 quantised (pos n) q = pos (multiples n q)
 quantised (negsuc n) q = neg_ℤ (pos (multiples (n + 1) q))
 
--- the block of 64 such numbers in natural order, quantised and in zigzag order, the order of its quantisers
+-- the block of 64 such numbers in natural order, quantised and in zigzag order, the order of its quantisers (A.3.4,
+-- A.3.6)
 abbrev pub quantised_block : List ℕ → List ℤ → List ℤ
 quantised_block quants numbers = map (λ p. quantised (number_at numbers p.0) p.1) (zip zigzag quants)

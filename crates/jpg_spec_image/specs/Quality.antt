@@ -1,4 +1,4 @@
--- QUANTISERS by quality: the tables of K.1 (T.81, K.1), and release 6b's scale.
+-- QUANTISERS by quality: the typical tables (T.81, Annex K, K.1), and release 6b's scale.
 use Rattle.std.specs.Prelude.{ℕ, ◌+◌, ◌-◌, ◌*◌, ◌/◌, max, min, Bool, nat_lt, if◌then◌else◌, List, [], ◌∷◌, map, slice_index}
 use Rattle.jpg_spec.specs.Zigzag.{zigzag}
 use Rattle.jpg_spec.specs.Segments.{QuantTable}

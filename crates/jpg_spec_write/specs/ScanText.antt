@@ -39,7 +39,7 @@ abbrev pub dc_element : Bool → ℕ → ℤ → ℤ → Element
 dc_element false al prediction v = difference (shifted al v -ℤ prediction)
 dc_element true al prediction v = dc_bit (nat_abs (shifted al v) % 2 == 1)
 
--- DC of each unit (F.1.2.1, G.1.2.1); in a sequential scan its band follows (F.1.2.2)
+-- DC of each unit (F.1.1.5.1, F.1.2.1, G.1.2.1); in a sequential scan its band follows (F.1.2.2)
 abbrev pub unit_elements : Bool → Bool → ℕ → (ℕ → ℤ) → List UnitDue → List Owned
 unit_elements is_seq refines al predictions [] = []
 unit_elements is_seq refines al predictions (u ∷ later) =

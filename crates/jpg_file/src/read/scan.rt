@@ -1,4 +1,4 @@
-//! The data of a scan, read byte by byte (T.81, B.1.1.5, E.1.4).
+//! The data of a scan, read byte by byte (T.81, B.1.1.5, E.1.4, E.2.4).
 ghost use Rattle.std.specs.Prelude.{◌≡◌, ◌+◌, ◌<◌, ◌≤◌, ◌&&◌, not, false, true, ℕ, List, length, Ok, Err};
 ghost use Rattle.jpg_spec.specs.ScanReading.{ScanPlace};
 ghost use Rattle.jpg_spec.specs.declared.frame.Limits.{Limits};
