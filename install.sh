@@ -10,7 +10,7 @@ tools=(jpegtran djpeg cjpeg rdjpgcom wrjpgcom)
 usage() {
     cat <<END
 ./install.sh [PREFIX]               proves jpgsuite, builds it, installs it into PREFIX (default: ~/.local) and tries it
-./install.sh --cpu NAME [PREFIX]    the same for other processors, as a package needs it: x86-64-v2 or x86-64-v3
+./install.sh --cpu NAME [PREFIX]    the same for processors of this kind: x86-64-v2 (the default) or x86-64-v3
 ./install.sh --uninstall [PREFIX]   removes what was installed there
 ./install.sh --help                 prints this
 
@@ -19,8 +19,9 @@ for bash and zsh. PREFIX/share/jpgsuite/installed lists all of it, for --uninsta
 A file that is there already and isn't of jpgsuite is never replaced: nothing is installed then.
 At the end the installed jpegtran rotates example/colour.jpg, and the status is 1 unless that gives example/turned.jpg.
 
-Without --cpu the program is built for this processor: x86-64-v3 where it has what that asks for (vectors of 256 bits),
-otherwise x86-64-v2, which it needs at least. A program ends with status 127 where the processor lacks something.
+Without --cpu the program is built for x86-64-v2, its crates are proved side by side, and what was proved on this machine
+before, also by .ci/run, isn't proved again. With --cpu x86-64-v3 (vectors of 256 bits: 3 to 9 % less time) all crates are
+proved, one after the other. A program ends with status 127 where the processor lacks something.
 
 It needs rt, the command of the Rattle kit ($kits), on PATH. What rt prints
 goes to crates/jpg_suite/out/install.log.
@@ -80,9 +81,41 @@ order_of() {
     order+=("$1")
 }
 
+# Copies the crates that the program stands on, without the edits that the gate tries, to a repository of its own.
+copy_crates() {
+    local name part
+    mkdir -p "$1/.git" "$1/crates"
+    cp HANDLES "$1/"
+    for name in "${order[@]}"; do
+        grep "^$name:" crates.txt >> "$1/crates.txt"
+        mkdir "$1/crates/$name"
+        for part in src specs proofs args stdin stdout; do
+            [ ! -e "crates/$name/$part" ] || cp -r "crates/$name/$part" "$1/crates/$name/"
+        done
+    done
+}
+
+# Reads what rt ci prints, and writes all of it to a log; shows each crate when it is done.
+show_crates() {
+    local line name done=0
+    while IFS= read -r line; do
+        printf '%s\n' "$line" >> "$1"
+        name=${line#rt: }
+        name=${name%% *}
+        case $line in
+        "rt: $name proved" | "rt: $name is kept: "*)
+            done=$((done + 1))
+            case $line in *" proved") line="proved" ;; *) line="proved before, on this machine" ;; esac
+            printf '  %s of %s: %s %s, after %s s\n' "$done" "${#order[@]}" "$name" "$line" "$SECONDS"
+            ;;
+        "rt: "*" NOT PROVED"* | "rt: waiting for "* | "rt: "*": another run on this machine "*) printf '  %s\n' "${line#rt: }" ;;
+        esac
+    done
+}
+
 # Reads what rt run prints, and writes all of it to a log; shows the number and the name of each crate as it begins, and then
 # how many functions were proved. rt says nothing of a crate that is proved already.
-show_crates() {
+show_run() {
     local line name number crate="" since=0
     while IFS= read -r line; do
         printf '%s\n' "$line" >> "$1"
@@ -110,15 +143,6 @@ show_crates() {
     [ -z "$crate" ] || echo " not proved"
 }
 
-# The processor that the program is built for, if none was named.
-own_cpu() {
-    local feature
-    for feature in avx avx2 bmi1 bmi2 f16c fma abm movbe xsave; do
-        grep -m 1 '^flags' /proc/cpuinfo 2> /dev/null | grep -qw "$feature" || { echo x86-64-v2; return; }
-    done
-    echo x86-64-v3
-}
-
 # Proves and builds the program, and runs it once, on the input that is stored with it.
 build() {
     local found log=$PWD/crates/jpg_suite/out/install.log
@@ -133,12 +157,32 @@ With JPGSUITE_PROGRAM=FILE ./install.sh installs FILE, a jpgsuite that was built
     order_of jpg_suite
     mkdir -p "${log%/*}"
     : > "$log"
-    [ -n "$cpu" ] || cpu=$(own_cpu)
     echo "proving the ${#order[@]} crates of jpgsuite with $found (what an earlier run proved isn't proved again), for $cpu"
     echo "log: $log"
-    if ! (cd crates/jpg_suite && rt run --cpu="$cpu" -- "${words[@]}" < stdin 2>&1 > "$work/answer") | show_crates "$log"; then
-        grep -v ': proved$' "$log" >&2 || true
-        fail "jpgsuite wasn't built: what rt printed is above, and in $log"
+    if [ "$cpu" = x86-64-v2 ]; then
+        # Side by side, and what another run on this machine proved is taken, also one of .ci/run.
+        copy_crates "$work/crates"
+        (cd "$work/crates" && rt ci 2>&1) | show_crates "$log" || log_failed
+        cp "$work/crates/$program" "$program"
+        "$program" "${words[@]}" < crates/jpg_suite/stdin > "$work/answer" || fail "$program failed on crates/jpg_suite/stdin"
+    else
+        # rt ci builds for x86-64-v2 alone.
+        (cd crates/jpg_suite && rt run --cpu="$cpu" -- "${words[@]}" < stdin 2>&1 > "$work/answer") | show_run "$log" || log_failed
+    fi
+}
+
+# Shows what a failed build printed.
+log_failed() {
+    grep -v ': proved$' "$log" >&2 || true
+    fail "jpgsuite wasn't built: what rt printed is above, and in $log"
+}
+
+# Puts a file into its place under another name, and then renames it: until it is complete, what was there stays, and can be run.
+put() {
+    local new="$3.jpgsuite-new"
+    if ! install -m "$1" -- "$2" "$new" || ! mv -f -- "$new" "$3"; then
+        rm -f -- "$new"
+        fail "$3 wasn't written, and what was there stays; ./install.sh --uninstall $(printf %q "$prefix") removes what was installed"
     fi
 }
 
@@ -208,13 +252,13 @@ install_all() {
         echo "above $above"
     } > "$work/stage/$list"
     (umask 022 && mkdir -p -- "$root" && cd -- "$root" && mkdir -p -- "${folders[@]}")
-    install -m 644 "$work/stage/$list" "$root/$list"
+    put 644 "$work/stage/$list" "$root/$list"
     for name in "${names[@]}"; do
         case $name in
-        bin/jpgsuite) install -m 755 "$work/stage/$name" "$root/$name" ;;
+        bin/jpgsuite) put 755 "$work/stage/$name" "$root/$name" ;;
         bin/*) ln -sfn jpgsuite "$root/$name" ;;
         "$list") ;;
-        *) install -m 644 "$work/stage/$name" "$root/$name" ;;
+        *) put 644 "$work/stage/$name" "$root/$name" ;;
         esac
     done
 
@@ -268,7 +312,7 @@ uninstall() {
 
 action=install_all
 prefix=""
-cpu=""
+cpu=x86-64-v2
 while [ $# -gt 0 ]; do
     word=$1
     shift

@@ -13,10 +13,11 @@ mod words;
 pub use desk::moved::{Wrote, write_moved};
 pub use desk::picture::Wanted;
 pub use laws::{
-    answers_are_due, encodings_are_due, files_with_a_frame_header_have_the_comment_inserted,
-    fronts_are_shown, inserted_comments_are_due, pictures_are_shown, pictures_are_turned,
-    pictures_are_turned_back, printed_comments_are_due, shown_answers_are_due,
-    shown_fronts_are_due, unwanted_markers_are_not_missed, whole_files_have_their_comments_printed,
+    answers_are_due, encodings_are_due, faults_are_answered,
+    files_with_a_frame_header_have_the_comment_inserted, fronts_are_shown,
+    inserted_comments_are_due, pictures_are_shown, pictures_are_turned, pictures_are_turned_back,
+    printed_comments_are_due, refusals_are_one, shown_answers_are_due, shown_fronts_are_due,
+    unwanted_markers_are_not_missed, whole_files_have_their_comments_printed,
 };
 pub use program::{add_end, run_program};
 pub use top::{Ended, run};

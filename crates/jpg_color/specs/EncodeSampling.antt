@@ -58,4 +58,4 @@ abbrev pub BeginsSampling : ImageInfo → Asked → Result Sampler EncodeStop �
 BeginsSampling info a (Ok s) = HasSampled info a [] s
 BeginsSampling info a (Err (stop.Picture fault)) =
     (samples : List ℕ) (e : Encoding) → AsksFor a e → sampling_fault e (image_of info samples) ≡ Some fault
-BeginsSampling info a (Err stop.NoMemory) = Unit {0}
+BeginsSampling info a (Err stop.NoMemory) = ⊥

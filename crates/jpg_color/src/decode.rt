@@ -1,9 +1,10 @@
 //! A picture decoded to an image file (release 6b's djpeg).
-ghost use Rattle.std.specs.Prelude.{◌≡◌, ◌*◌, ◌==◌, if◌then◌else◌, true, None, [], IfOk};
+ghost use Rattle.std.specs.Prelude.{◌≡◌, ◌*◌, ◌==◌, if◌then◌else◌, true, None, [], Err, IfOk};
 ghost use Rattle.jpg_spec_image.specs.ImageText.{end_text};
 ghost use Rattle.jpg_spec_image.specs.Pixels.{out_fault};
 ghost use Rattle.jpg_file.specs.Read.PictureRead.{picture_meaning};
 ghost use Rattle.jpg_pnm_bmp.specs.EndState.{CanFinish, CanTakeRow, Finishes, IsImageInfo, Starts, TakesRow, new_end};
+ghost use Rattle.jpg_color.specs.declared.decode.DecodeStop.TheVariants as stop;
 ghost use Rattle.jpg_color.specs.DecodeRows.{AreRowsOf, Decodes, IsEndFor, SendsImage, SendsPart, SendsRow, SendsRows, end_parts, finished, finished_end, picture_end, picture_text, rows_in_all, info_for};
 
 pub mod blocks;
@@ -225,6 +226,7 @@ pub(crate) fn send<D: Desk>(out: &mut Bytes, desk: &mut D) -> Result<(), DecodeS
     requires { (D.state desk.old).output_created ≡ true }
     ensures sent { SendsImage (D.state desk.old) out.old [] result out.new (D.state desk.new) }
     ensures all { IfOk result (λ u. out.new ≡ []) }
+    ensures memory { result ≡ Err stop.NoMemory → ⊥ }
 {
     if let Put::Failed = desk.write(out.as_slice()) {
         return Err(DecodeStop::WriteFault);

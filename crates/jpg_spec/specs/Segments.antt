@@ -8,10 +8,6 @@ use Rattle.jpg_spec.specs.declared.frame.Limits.{Limits}
 abbrev pub standard_limits : Limits
 standard_limits = record { side = 65500; blocks = 8388608; kept = 2 ^ 28; input = 2 ^ 40 }
 
--- the limit of an input that is read completely into memory, in bytes
-abbrev pub taken_limit : ℕ
-taken_limit = 2 ^ 28
-
 -- a number of two bytes
 abbrev pub two_bytes : ℕ → ℕ → ℕ
 two_bytes high low = 256 * high + low

@@ -39,6 +39,7 @@ use Rattle.jpg_spec_write.proofs.MovedText.{headed_frame, has_standard, own_by, 
 use Rattle.jpg_spec_write.proofs.MovedWritten.{IsPicture, may_be_written}
 use Rattle.jpg_spec.proofs.Writing.MovedWritten.{zeros_here}
 use Rattle.jpg_spec.proofs.Places.OutsideZeros.{alone}
+use Rattle.jpg_spec_write.proofs.FrameCodes.{either_sequential}
 
 -- SAMPLES are bytes
 
@@ -100,11 +101,11 @@ plane_low H image i x y all =
     let row : ℕ = min y (rows_made H i - 1) in
     mean_low across down x (sum_under across down (full_plane image i) x row) (under_low across down (full_plane image i) x row (λ u v. pixel_low image.info.kind image.samples i _ all))
 
-all_map : {X Y : Type 0} (P : Y → Type 0) (f : X → Y) (xs : List X) → ((x : X) → P (f x)) → All P (map f xs)
+pub all_map : {X Y : Type 0} (P : Y → Type 0) (f : X → Y) (xs : List X) → ((x : X) → P (f x)) → All P (map f xs)
 all_map P f [] h = All-nil P
 all_map P f (x ∷ xs) h = All-cons P (f x) (map f xs) (h x) (all_map P f xs h)
 
-all_flat : {X Y : Type 0} (P : Y → Type 0) (f : X → List Y) (xs : List X) → ((x : X) → All P (f x)) → All P (flat_map f xs)
+pub all_flat : {X Y : Type 0} (P : Y → Type 0) (f : X → List Y) (xs : List X) → ((x : X) → All P (f x)) → All P (flat_map f xs)
 all_flat P f [] h = All-nil P
 all_flat P f (x ∷ xs) h = All-append P (f x) (flat_map f xs) (h x) (all_flat P f xs h)
 
@@ -239,11 +240,7 @@ encoded_headed e image can none = may_be_written (encoded e image) (picture_of e
 
 -- ITS FILE
 
-either_sequential : (b : Bool) → is_progressive (cond b Extended Baseline) ≡ false
-either_sequential true = refl
-either_sequential false = refl
-
-encoded_kind : (e : Encoding) (image : Image) → is_progressive (encoded e image).process ≡ asks_progressive e.scans
+pub encoded_kind : (e : Encoding) (image : Image) → is_progressive (encoded e image).process ≡ asks_progressive e.scans
 encoded_kind e image = by (asks_progressive e.scans)
   where
     by : (b : Bool) → is_progressive (process_due b (any_process e image)) ≡ b

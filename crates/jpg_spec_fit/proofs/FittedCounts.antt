@@ -16,7 +16,7 @@ abbrev pub strings : List ℕ → ℕ
 strings [] = 0
 strings (n ∷ shorter) = n + 2 * strings shorter
 
-total_cons : (n : ℕ) (ns : List ℕ) → sum (n ∷ ns) ≡ n + sum ns
+pub total_cons : (n : ℕ) (ns : List ℕ) → sum (n ∷ ns) ≡ n + sum ns
 total_cons n ns = sum_by-cons (λ x. x) n ns
 
 pub doubled : (k : ℕ) → 2 ^ suc k ≡ 2 * 2 ^ k

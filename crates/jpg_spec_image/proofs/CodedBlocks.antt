@@ -47,7 +47,7 @@ about_zero : (x : ℤ) → nat_abs x ≤ 4080 → InWidth (neg_ℤ (pos 4080)) 8
 about_zero x h = record { low = omega (arith, ints, h); high = omega (arith, ints, h) }
 
 -- four times a sum, as it is rounded
-four_times : (s : ℤ) → int_shr ((s *ℤ pos 8192) +ℤ pos 1024) 11 ≡ s *ℤ pos 4
+pub four_times : (s : ℤ) → int_shr ((s *ℤ pos 8192) +ℤ pos 1024) 11 ≡ s *ℤ pos 4
 four_times (pos n) = (let e : (n * 8192 + 1024) / 2048 ≡ n * 4 = omega arith in ap pos e)
 four_times (negsuc n) =
     let z : (negsuc n *ℤ pos 8192) +ℤ pos 1024 ≡ negsuc (n * 8192 + 7167) = omega (arith, ints) in

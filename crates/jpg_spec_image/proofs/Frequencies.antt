@@ -12,7 +12,7 @@ use Rattle.jpg_spec_image.specs.ForwardDct.{even_frequencies, woven, line_freque
 pub record Small (x : ℤ) (n : ℕ) : Type 0 where
   pub is : nat_abs x ≤ n
 
-abs_neg : (a : ℤ) → nat_abs (neg_ℤ a) ≡ nat_abs a
+pub abs_neg : (a : ℤ) → nat_abs (neg_ℤ a) ≡ nat_abs a
 abs_neg (pos zero) = refl
 abs_neg (pos (suc n)) = refl
 abs_neg (negsuc n) = refl

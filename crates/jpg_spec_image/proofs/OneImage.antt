@@ -19,7 +19,7 @@ use Rattle.jpg_spec.specs.declared.frame.Limits.{Limits}
 
 -- PREFIXES of the same bytes
 
-same_front : (bytes : List ℕ) (n m : ℕ) (P : List ℕ → Type 0) → n ≡ m → P (take n bytes) → P (take m bytes)
+pub same_front : (bytes : List ℕ) (n m : ℕ) (P : List ℕ → Type 0) → n ≡ m → P (take n bytes) → P (take m bytes)
 same_front bytes n m P e p = subst (λ k. P (take k bytes)) e p
 
 two_images : (bytes : List ℕ) (x y : Image) → IsWholeImage bytes x → IsWholeImage bytes y → x ≡ y

@@ -13,9 +13,7 @@ use Rattle.jpg_spec_image.proofs.TargaStands.{stands}
 use Rattle.jpg_spec_image.proofs.TargaJudged.{IsLive, one_stop, whole_stops, fault_stops, same_fault, same_image, fault_no_image, is_least, short_at}
 use Rattle.jpg_spec.specs.declared.fault.Fault.{Fault}
 use Rattle.jpg_spec.specs.declared.fault.Fault.TheVariants.{ImageShort}
-
-same_front : (bytes : List ℕ) (n m : ℕ) (P : List ℕ → Type 0) → n ≡ m → P (take n bytes) → P (take m bytes)
-same_front bytes n m P e p = subst (λ k. P (take k bytes)) e p
+use Rattle.jpg_spec_image.proofs.OneImage.{same_front}
 
 pub one_image : (bytes : List ℕ) (x y : Image) → TargaMeans bytes x → TargaMeans bytes y → x ≡ y
 one_image bytes x y (n, h, a) (m, k, b) =

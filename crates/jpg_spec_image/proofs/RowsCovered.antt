@@ -67,7 +67,7 @@ no_fault false false false e = (refl, refl)
 
 -- INTEGER RATIOS
 
-none_at : (t : ℕ × ℕ → Bool) (factors : List (ℕ × ℕ)) (i : ℕ) (default : ℕ × ℕ) → i < length factors → any_of t factors ≡ false → t (get_or factors i default) ≡ false
+pub none_at : (t : ℕ × ℕ → Bool) (factors : List (ℕ × ℕ)) (i : ℕ) (default : ℕ × ℕ) → i < length factors → any_of t factors ≡ false → t (get_or factors i default) ≡ false
 none_at t [] i default h e = absurd (omega (arith, h))
 none_at t (x ∷ xs) zero default h e = (neither (t x) (any_of t xs) e).0
 none_at t (x ∷ xs) (suc i) default h e = none_at t xs i default (omega (arith, h)) (neither (t x) (any_of t xs) e).1
@@ -90,11 +90,11 @@ whole_down across down h v e = same_of (down % v) 0 (not_not (down % v == 0) (ne
 product_whole : (m v : ℕ) → m % v ≡ 0 → (m / v) * v ≡ m
 product_whole m v e = let w = div-add-mod' m v in omega (arith, w, e)
 
-quotient_low : (q m v : ℕ) → q * v ≡ m → 1 ≤ m → 1 ≤ q
+pub quotient_low : (q m v : ℕ) → q * v ≡ m → 1 ≤ m → 1 ≤ q
 quotient_low zero m v e low = absurd (omega (arith, e, low))
 quotient_low (suc q) m v e low = omega arith
 
-below_up : (n d k : ℕ) → 1 ≤ d → k < div_up n d → k * d < n
+pub below_up : (n d k : ℕ) → 1 ≤ d → k < div_up n d → k * d < n
 below_up n d k some h = above (cases_lt (k * d) n)
   where
     above : (k * d < n) ⊎ (n ≤ k * d) → k * d < n
@@ -107,14 +107,14 @@ lines_by false down v most e one =
     let m : 8 * v * down ≡ 8 * (down * v) = grind arith in
     omega (arith, m, e)
 
-one_down : (v most down : ℕ) → most ≡ v → 1 ≤ v → down * v ≡ most → down ≡ 1
+pub one_down : (v most down : ℕ) → most ≡ v → 1 ≤ v → down * v ≡ most → down ≡ 1
 one_down v most zero is low e = absurd (omega (arith, is, low, e))
 one_down v most (suc zero) is low e = refl
 one_down v most (suc (suc down)) is low e =
     let m : suc (suc down) * v ≡ down * v + 2 * v = grind arith in
     absurd (omega (arith, m, e, is, low))
 
-tall_enough : (height v most down : ℕ) → 1 ≤ v → 1 ≤ most → down * v ≡ most → height ≤ div_up (height * v) most * down
+pub tall_enough : (height v most down : ℕ) → 1 ≤ v → 1 ≤ most → down * v ≡ most → height ≤ div_up (height * v) most * down
 tall_enough height v most down some pos e =
     let q = div_up (height * v) most in
     let u : height * v ≤ q * most = covers (height * v) most pos in
@@ -122,7 +122,7 @@ tall_enough height v most down some pos e =
     let m : q * most ≡ (q * down) * v = ap (λ n. q * n) (sym e) ∙ a in
     le_of_mul-le-mul_right (subst (λ n. height * v ≤ n) m u) some
 
-rows_enough : (height v most down rows lines all : ℕ) → 1 ≤ most → down * v ≡ most → lines ≡ 8 * rows * down → height ≤ all * lines → div_up (height * v) most ≤ 8 * rows * all
+pub rows_enough : (height v most down rows lines all : ℕ) → 1 ≤ most → down * v ≡ most → lines ≡ 8 * rows * down → height ≤ all * lines → div_up (height * v) most ≤ 8 * rows * all
 rows_enough height v most down rows lines all pos e whole h =
     let k : height * v ≤ (all * lines) * v = mul-le-mul_right v h in
     let a : (all * lines) * v ≡ (all * (8 * rows * down)) * v = ap (λ n. (all * n) * v) whole in

@@ -34,7 +34,7 @@ use Rattle.jpg_spec.proofs.McuRows.RowsOnce.{first_told, rows_once}
 use Rattle.jpg_spec_image.proofs.RowsReady.{AgreeInRows, text_goes_on}
 
 -- BLOCKS of the first rows, where they are real
-real_agree : (f : Frame) (places : List Place) (told : Blocks) (i x z : ℕ) → (i < length f.components → is_real f i x z ≡ true → any_of (is_at i x z) places ≡ true)
+pub real_agree : (f : Frame) (places : List Place) (told : Blocks) (i x z : ℕ) → (i < length f.components → is_real f i x z ≡ true → any_of (is_at i x z) places ≡ true)
     → real_blocks f told i x z ≡ real_blocks f (blocks_in places told) i x z
 real_agree f places told i x z found = by (nat_lt i (length f.components) && is_real f i x z) refl
   where

@@ -12,12 +12,11 @@ use Rattle.jpg_spec_image.specs.Dct.{dequantised, inverse_dct}
 use Rattle.jpg_spec_image.specs.Upsampling.{Stretch, is_smoothed, has_far_rows, near_row, far_row, upsampled_row, up_row, up_rows2, repeat_row}
 use Rattle.jpg_spec_image.specs.Pixels.{plane, plane_row, stretch_of, upsampled, samples_across}
 use Rattle.jpg_spec_image.specs.Strips.{ready_of, IsRowReady, Agree, rows_from, kept_row, lines, block_rows, known_rows, ready, IsCovered}
-use Rattle.jpg_spec.proofs.Places.PlacesFound.{or_second}
-use Rattle.jpg_spec.proofs.Basics.Common.{any_append, length_below}
+use Rattle.jpg_spec.proofs.Basics.Common.{any_append, length_below, or_right}
 
 -- TWO ROWS
 
-down_is_two : (s : Stretch) → has_far_rows s ≡ true → s.down ≡ 2
+pub down_is_two : (s : Stretch) → has_far_rows s ≡ true → s.down ≡ 2
 down_is_two s e = grind (arith, nat_tests)
 
 record Between (low high n : ℕ) : Type 0 where
@@ -64,7 +63,7 @@ near_one s j k y d low h =
     within (inr (e, l)) = subst (λ n. y < n * s.down) (sym e) l
 
 -- the row, by whether it needs two rows, and otherwise by whether it is smoothed
-chosen : (b c : Bool) (across : ℕ) (near far other_near other_far : List ℕ) → near ≡ other_near → (b ≡ true → far ≡ other_far)
+pub chosen : (b c : Bool) (across : ℕ) (near far other_near other_far : List ℕ) → near ≡ other_near → (b ≡ true → far ≡ other_far)
     → (if b then up_rows2 near far else if c then up_row near else repeat_row across near) ≡ (if b then up_rows2 other_near other_far else if c then up_row other_near else repeat_row across other_near)
 chosen true c across near far other_near other_far en ef = ap (λ x. up_rows2 x far) en ∙ ap (up_rows2 other_near) (ef refl)
 chosen false true across near far other_near other_far en ef = ap up_row en
@@ -165,7 +164,7 @@ any_in t (suc n) x h e =
     ∙ ⊎_elim
     (λ (k : x < n). ap (λ b. b || any_of t (n ∷ [])) (any_in t n x k e))
     (λ (k : n ≤ x). (let s : x ≡ n = omega (arith, h, k) in
-    or_second (any_of t (below n)) (any_of t (n ∷ [])) (ap (λ m. any_of t (m ∷ [])) (sym s) ∙ ap (λ b. b || false) e)))
+    or_right (any_of t (below n)) (any_of t (n ∷ [])) (ap (λ m. any_of t (m ∷ [])) (sym s) ∙ ap (λ b. b || false) e)))
     (cases_lt x n)
 
 pub ready_told : (M : Meaning) (count : ℕ) (smooth : Bool) (all m i y : ℕ) → IsCovered M smooth all i → i < count → m ≤ all → y < ready M count smooth all m

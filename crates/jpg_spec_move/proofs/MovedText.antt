@@ -1,5 +1,5 @@
 -- The file of a transformed picture means it, in any scans without a fault.
-use Rattle.std.proofs.Common.{◌≡◌, Bool, true, false, cond, refl, sym, ◌∙◌, None}
+use Rattle.std.proofs.Common.{◌≡◌, Bool, true, false, refl, sym, ◌∙◌, None}
 use Rattle.jpg_spec.specs.Geometry.{is_progressive}
 use Rattle.jpg_spec.specs.Meaning.{Meaning, colour_of}
 use Rattle.jpg_spec.specs.FileMeaning.{Means}
@@ -10,8 +10,8 @@ use Rattle.jpg_spec_move.specs.Moved.{Choice, moved, moved_script, moved_script_
 use Rattle.jpg_spec_write.specs.ScansAsked.{asks_progressive, process_due}
 use Rattle.jpg_spec.specs.Segments.{standard_limits}
 use Rattle.jpg_spec_write.specs.WrittenFile.{IsHeaded, IsRestart}
-use Rattle.jpg_spec.specs.declared.frame.Process.TheVariants.{Baseline, Extended}
 use Rattle.jpg_spec_write.proofs.MovedText.{headed_frame, has_standard, own_by, same_kind, does_pass_as, passes_by, means_by}
+use Rattle.jpg_spec_write.proofs.FrameCodes.{either_sequential}
 
 pub own_fault : (choice : Choice) (M : Meaning) → IsHeaded standard_limits (moved choice M) → AreOwn choice.scans → moved_script_fault choice M ≡ None
 own_fault choice M headed own =
@@ -19,10 +19,6 @@ own_fault choice M headed own =
     own_by choice.scans (frame_of_meaning H) (colour_of H) (headed_frame H headed) (has_standard H headed) own
 
 -- THE SCRIPT IS OF THE FILE'S KIND
-
-either_sequential : (b : Bool) → is_progressive (cond b Extended Baseline) ≡ false
-either_sequential true = refl
-either_sequential false = refl
 
 moved_kind : (choice : Choice) (M : Meaning) → is_progressive (moved choice M).process ≡ asks_progressive choice.scans
 moved_kind choice M = by (asks_progressive choice.scans)

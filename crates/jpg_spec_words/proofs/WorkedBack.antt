@@ -1,5 +1,5 @@
 -- The picture that jpgwork rotates and rotates back is the first one again, and so is its file.
-use Rattle.std.proofs.Common.{◌≡◌, ℕ, zero, suc, Bool, true, false, cond, ◌&&◌, List, [], ◌∷◌, length, refl, sym, ap, ◌∙◌, arith, subst}
+use Rattle.std.proofs.Common.{◌≡◌, ℕ, zero, suc, Bool, true, cond, ◌&&◌, List, [], ◌∷◌, length, refl, sym, ap, ◌∙◌, arith, subst}
 use Rattle.std.specs.Prelude.{zip, ℤ}
 use Rattle.std.specs.List.{All}
 use Rattle.std.specs.Str.{bytes_eq}
@@ -25,6 +25,7 @@ use Rattle.jpg_spec_move.specs.declared.transform.Transform.TheVariants.{Rotate9
 use Rattle.jpg_spec.proofs.Basics.Common.{lt_no}
 use Rattle.jpg_spec_move.proofs.MovedBack.{moved_back}
 use Rattle.jpg_spec_words.specs.Work.{back_choice, back_picture, back_text, first_encoding, first_picture, first_text, lines, samples_sum, turned_picture, turned_text, work_image, work_info, work_text}
+use Rattle.jpg_spec.proofs.Files.WholeFiles.{shown_whole}
 
 -- BLOCKS AND TABLES of 64 numbers
 
@@ -46,17 +47,13 @@ quants_long : (n : ℕ) → All IsLong (head n).components
 quants_long n =
     All-cons IsLong (due n 0) (due n 1 ∷ due n 2 ∷ []) refl (All-cons IsLong (due n 1) (due n 2 ∷ []) refl (All-cons IsLong (due n 2) [] refl (All-nil IsLong)))
 
-real_long : (b : Bool) (block : List ℤ) → length block ≡ 64 → length (cond b block (zeros 64)) ≡ 64
-real_long true block l = l
-real_long false block l = refl
-
 at_component : (n i x y : ℕ) → length (component_of (head n) i).quants ≡ 64 → length (encoded_block (head n) (work_image n) i x y) ≡ 64
 at_component n i x y l = block_long (component_of (head n) i).quants (forward_dct (samples_of_block (component_plane (head n) (work_image n) i) x y)) l
 
 blocks_long : (n i x y : ℕ) → length ((first_picture n).blocks i x y) ≡ 64
-blocks_long n zero x y = real_long (is_real (picture_frame (head n)) 0 x y) (encoded_block (head n) (work_image n) 0 x y) (at_component n 0 x y refl)
-blocks_long n (suc zero) x y = real_long (is_real (picture_frame (head n)) 1 x y) (encoded_block (head n) (work_image n) 1 x y) (at_component n 1 x y refl)
-blocks_long n (suc (suc zero)) x y = real_long (is_real (picture_frame (head n)) 2 x y) (encoded_block (head n) (work_image n) 2 x y) (at_component n 2 x y refl)
+blocks_long n zero x y = shown_whole (is_real (picture_frame (head n)) 0 x y) (encoded_block (head n) (work_image n) 0 x y) (at_component n 0 x y refl)
+blocks_long n (suc zero) x y = shown_whole (is_real (picture_frame (head n)) 1 x y) (encoded_block (head n) (work_image n) 1 x y) (at_component n 1 x y refl)
+blocks_long n (suc (suc zero)) x y = shown_whole (is_real (picture_frame (head n)) 2 x y) (encoded_block (head n) (work_image n) 2 x y) (at_component n 2 x y refl)
 blocks_long n (suc (suc (suc i))) x y =
     let k : ℕ = suc (suc (suc i)) in
     subst (λ (b : Bool). length (cond (b && is_real (picture_frame (head n)) k x y) (encoded_block (head n) (work_image n) k x y) (zeros 64)) ≡ 64) (sym (lt_no k 3 (omega arith))) refl

@@ -349,3 +349,15 @@ module _ (c : Coding) (p : ℕ → ℤ) (i most : ℕ) (fits : (n : ℕ) → 1 �
       ap (λ z. units_of i wait ++ units_of i (z ∷ h.1)) (sym q.joined.0) ∙ ap (λ z. units_of i wait ++ units_of i z) (sym h.4) in
       at_done c p i (body most (length wait) bits (up_to_last band) (after_last band) bands) _ _ _ _ _ refl units told
       (one_band c p i most fits bands h.1 h.3 (up_to_last band) (after_last band) h.0 h.2 q bits wait (omega (arith, s.sum, h.6)) small n later have (ap (λ t. are_in_bounds c.bounds false t) told ∙ ok))
+
+pub up_true : (s : Sent) (band : List Sent) → any_of is_new (s ∷ band) ≡ true → up_to_last (s ∷ band) ≡ s ∷ up_to_last band
+up_true s band e = ap (λ b. (let r : List Sent = cond b (s ∷ up_to_last band) [] in r)) e
+
+pub up_false : (s : Sent) (band : List Sent) → any_of is_new (s ∷ band) ≡ false → up_to_last (s ∷ band) ≡ []
+up_false s band e = ap (λ b. (let r : List Sent = cond b (s ∷ up_to_last band) [] in r)) e
+
+pub after_true : (s : Sent) (band : List Sent) → any_of is_new (s ∷ band) ≡ true → after_last (s ∷ band) ≡ after_last band
+after_true s band e = ap (λ b. (let r : List Sent = cond b (after_last band) (s ∷ band) in r)) e
+
+pub after_false : (s : Sent) (band : List Sent) → any_of is_new (s ∷ band) ≡ false → after_last (s ∷ band) ≡ s ∷ band
+after_false s band e = ap (λ b. (let r : List Sent = cond b (after_last band) (s ∷ band) in r)) e

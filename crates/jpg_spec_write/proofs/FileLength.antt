@@ -45,7 +45,7 @@ use Rattle.jpg_spec_write.proofs.ProgressiveCodes.{own_valid}
 
 -- THE DATA of a scan
 
-length_due : (blocks : Blocks) (last : ℕ → ℤ) (places : List Place) → length (units_due blocks last places) ≡ length places
+pub length_due : (blocks : Blocks) (last : ℕ → ℤ) (places : List Place) → length (units_due blocks last places) ≡ length places
 length_due blocks last [] = refl
 length_due blocks last (p ∷ places) = ap suc (length_due blocks (last_dc last p.component (block_due blocks last p)) places)
 

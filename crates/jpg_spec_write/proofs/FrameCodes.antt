@@ -1,5 +1,5 @@
 -- The codes of frame headers, one for each process.
-use Rattle.std.proofs.Common.{◌≡◌, ℕ, true, false, List, refl, arith, Some, None, ◌==◌}
+use Rattle.std.proofs.Common.{◌≡◌, ℕ, true, false, List, refl, arith, Some, None, ◌==◌, Bool, cond}
 use Rattle.jpg_spec.specs.Bits.{IsMarkerCode}
 use Rattle.jpg_spec.specs.FrameContents.{frame_header}
 use Rattle.jpg_spec_write.specs.FileText.{sof_code}
@@ -7,8 +7,14 @@ use Rattle.jpg_spec.specs.Markers.{Segment, process_of_code, code_fault_if, is_f
 use Rattle.jpg_spec.specs.Items.{fault_in}
 use Rattle.jpg_spec.specs.Header.{header_rule}
 use Rattle.jpg_spec.specs.declared.frame.Process.{Process}
+use Rattle.jpg_spec.specs.Geometry.{is_progressive}
 use Rattle.jpg_spec.specs.declared.frame.Process.TheVariants.{Baseline, Extended, Progressive}
 use Rattle.jpg_spec.specs.declared.frame.Limits.{Limits}
+
+-- without progression either process is sequential
+pub either_sequential : (b : Bool) → is_progressive (cond b Extended Baseline) ≡ false
+either_sequential true = refl
+either_sequential false = refl
 
 pub code_is : (p : Process) → process_of_code (sof_code p) ≡ Some p
 code_is Baseline = refl

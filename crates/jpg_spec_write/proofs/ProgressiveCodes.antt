@@ -13,7 +13,7 @@ use Rattle.jpg_spec_write.specs.ScanText.{UnitDue, Owned, unit_elements, is_dc, 
 use Rattle.jpg_spec_fit.proofs.FittedCodes.{fitted_has, fitted_valid}
 use Rattle.jpg_spec_write.specs.declared.huffman.Huffman.{Huffman}
 use Rattle.jpg_spec_write.specs.declared.huffman.Huffman.TheVariants.{Plain, Fitted}
-use Rattle.jpg_spec.proofs.Basics.Common.{same_of, same_itself, length_below}
+use Rattle.jpg_spec.proofs.Basics.Common.{same_of, same_itself, length_below, or_right, filter_less}
 use Rattle.jpg_spec_write.specs.Written.{HasCode}
 use Rattle.jpg_spec.proofs.Writing.WrittenState.{IsTellable}
 use Rattle.jpg_spec.proofs.Basics.Rows.{at_below}
@@ -26,7 +26,6 @@ use Rattle.jpg_spec.proofs.Bits.FlatTables.{IsValid, flat_has, flat_valid, valid
 use Rattle.jpg_spec.proofs.Basics.Each.{Each, each_map, each_join, each_flat}
 use Rattle.jpg_spec_write.proofs.Shifts.{dc_shifted}
 use Rattle.jpg_spec.proofs.Writing.WrittenHead.{at_among}
-use Rattle.jpg_spec.proofs.Places.PlacesFound.{or_second}
 
 -- SYMBOLS THAT ARE USED
 
@@ -44,7 +43,7 @@ unfolding IsUsed
 used_on own x all e h o = by (own x) (h o)
   where
     by : (b : Bool) → is_among (symbol_of e.1) (map (λ (e : Owned). symbol_of e.1) (filter own all)) ≡ true → is_among (symbol_of e.1) (map (λ (e : Owned). symbol_of e.1) (cond b (x ∷ filter own all) (filter own all))) ≡ true
-    by true k = or_second (symbol_of x.1 == symbol_of e.1) (is_among (symbol_of e.1) (map (λ (e : Owned). symbol_of e.1) (filter own all))) k
+    by true k = or_right (symbol_of x.1 == symbol_of e.1) (is_among (symbol_of e.1) (map (λ (e : Owned). symbol_of e.1) (filter own all))) k
     by false k = k
 
 used_here : (own : Owned → Bool) (x : Owned) (all : List Owned) → IsUsed own (x ∷ all) x
@@ -63,7 +62,7 @@ among_filter test s [] h t = cc
 among_filter test s (x ∷ xs) h t = by (x == s) refl h (λ k. among_filter test s xs k t)
   where
     keeps : (b : Bool) → is_among s (filter test xs) ≡ true → is_among s (cond b (x ∷ filter test xs) (filter test xs)) ≡ true
-    keeps true k = or_second (x == s) (is_among s (filter test xs)) k
+    keeps true k = or_right (x == s) (is_among s (filter test xs)) k
     keeps false k = k
 
     by : (b : Bool) → (x == s) ≡ b → (b || is_among s xs) ≡ true → (is_among s xs ≡ true → is_among s (filter test xs) ≡ true) → is_among s (cond (test x) (x ∷ filter test xs) (filter test xs)) ≡ true
@@ -119,14 +118,6 @@ all_coded huffman head intervals class slot =
     let all = flat_map (λ (es : List Owned). es) intervals in
     each_flat (IsCoded huffman head intervals class slot) (λ (es : List Owned). es) intervals
     (each_map (IsUsed own all) (IsCoded huffman head intervals class slot) all (λ e h o l. own_has huffman head intervals class slot (symbol_of e.1) l (h o)) (used_each own all))
-
-filter_less : (test : ℕ → Bool) (xs : List ℕ) → length (filter test xs) ≤ length xs
-filter_less test [] = omega arith
-filter_less test (x ∷ xs) = by (test x) (filter_less test xs)
-  where
-    by : (b : Bool) → length (filter test xs) ≤ length xs → length (cond b (x ∷ filter test xs) (filter test xs)) ≤ length (x ∷ xs)
-    by true h = omega (arith, h)
-    by false h = omega (arith, h)
 
 pub symbols_few : (head : ScanHead) (intervals : List (List Owned)) (class slot : ℕ) → length (symbols_used head intervals class slot) ≤ 256
 unfolding symbols_used

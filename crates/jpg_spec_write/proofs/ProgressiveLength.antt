@@ -51,7 +51,7 @@ use Rattle.jpg_spec.proofs.Basics.Common.{both, same_of}
 
 -- AN INTERVAL that spells its units, with this many values each
 
-bytes_long : (bytes : List ℕ) → length (bits_of_bytes bytes) ≡ 8 * length bytes
+pub bytes_long : (bytes : List ℕ) → length (bits_of_bytes bytes) ≡ 8 * length bytes
 bytes_long [] = refl
 bytes_long (b ∷ bytes) = omega (arith, length-append (bits_of 8 b) (bits_of_bytes bytes), length-bits_of 8 b, bytes_long bytes)
 

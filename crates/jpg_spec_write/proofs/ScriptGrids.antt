@@ -20,7 +20,7 @@ at_map g (c ∷ cs) (suc i) d = at_map g cs i d
 
 -- the number, and the sums of factors
 
-same_count : (f g : Frame) → frame_grids f ≡ frame_grids g → length f.components ≡ length g.components
+pub same_count : (f g : Frame) → frame_grids f ≡ frame_grids g → length f.components ≡ length g.components
 same_count f g e = sym (length-map f.components (λ c. c.h)) ∙ ap (λ (G : Grids). length G.across) e ∙ length-map g.components (λ c. c.h)
 
 same_product : (f g : Frame) (i : ℕ) → frame_grids f ≡ frame_grids g → (component_at f i).h * (component_at f i).v ≡ (component_at g i).h * (component_at g i).v

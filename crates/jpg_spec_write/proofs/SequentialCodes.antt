@@ -104,7 +104,7 @@ rows_writable f head n blocks sendable =
 
 -- THE LAWS, over all units of an interval
 
-all_each : {A : Type 0} (P : A → Type 0) (xs : List A) → All P xs → Each P xs
+pub all_each : {A : Type 0} (P : A → Type 0) (xs : List A) → All P xs → Each P xs
 all_each P [] h = tt
 all_each P (x ∷ xs) h = (All-head P x xs h, all_each P xs (All-tail P x xs h))
 

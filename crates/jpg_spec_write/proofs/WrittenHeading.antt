@@ -40,7 +40,7 @@ other_process limits f g p allowed e =
     ∙ not_refused QuantSlot (any_of has_bad_slot f.components) _ is.slots ∙ not_refused TooManyBlocks (nat_lt limits.blocks (padded_blocks f)) _ is.blocks
 
 -- a process that has the precision
-wider : (p : Process) (n : ℕ) → is_precision p n ≡ true → (n == 8 || n == 12) ≡ true
+pub wider : (p : Process) (n : ℕ) → is_precision p n ≡ true → (n == 8 || n == 12) ≡ true
 wider Baseline n e = ap (λ b. b || n == 12) e
 wider Extended n e = e
 wider Progressive n e = e

@@ -11,8 +11,8 @@ use Rattle.jpg_spec_write.specs.FileText.{distinct_after, slot_in}
 use Rattle.jpg_spec.proofs.Segments.QuantsInForce.{IsQuants, AreTwoBytes, pairs_again, length_pairs_written, one_table}
 use Rattle.jpg_spec.proofs.Basics.Each.{Each}
 use Rattle.jpg_spec_write.proofs.WrittenState.{equal_lists}
-use Rattle.jpg_spec.proofs.Places.PlacesFound.{or_first, or_second}
-use Rattle.jpg_spec.proofs.Basics.Common.{same_of, same_itself, equal_itself}
+use Rattle.jpg_spec.proofs.Places.PlacesFound.{or_first}
+use Rattle.jpg_spec.proofs.Basics.Common.{same_of, same_itself, equal_itself, or_right}
 use Rattle.jpg_spec.proofs.Writing.WrittenQuants.{is_in}
 
 -- THE SEGMENT of a table in a slot
@@ -96,7 +96,7 @@ distinct_has seen (t ∷ tables) q h = by (are_equal q t) (is_in t seen) refl re
         → (is_in q tables ≡ true → ((are_equal q t || is_in q seen) || is_in q (distinct_after (t ∷ seen) tables)) ≡ true)
         → (is_in q seen || is_in q (cond b (distinct_after seen tables) (t ∷ distinct_after (t ∷ seen) tables))) ≡ true
     by true true s k h old new = or_first (is_in q seen) (is_in q (distinct_after seen tables)) (ap (λ x. is_in x seen) (equal_lists q t s) ∙ k)
-    by true false s k h old new = or_second (is_in q seen) (are_equal q t || is_in q (distinct_after (t ∷ seen) tables)) (or_first (are_equal q t) (is_in q (distinct_after (t ∷ seen) tables)) s)
+    by true false s k h old new = or_right (is_in q seen) (are_equal q t || is_in q (distinct_after (t ∷ seen) tables)) (or_first (are_equal q t) (is_in q (distinct_after (t ∷ seen) tables)) s)
     by false true s k h old new = old h
     by false false s k h old new = turned (are_equal q t) (is_in q seen) (is_in q (distinct_after (t ∷ seen) tables)) (new h)
 
@@ -110,7 +110,7 @@ distinct_each P seen (t ∷ tables) h = by (is_in t seen) (distinct_each P seen 
 
 pub each_in : (tables : List QuantTable) (all : List QuantTable) → ((q : QuantTable) → is_in q tables ≡ true → is_in q all ≡ true) → Each (λ q. is_in q all ≡ true) tables
 each_in [] all h = tt
-each_in (t ∷ tables) all h = (h t (or_first (are_equal t t) (is_in t tables) (equal_itself t)), each_in tables all (λ q e. h q (or_second (are_equal q t) (is_in q tables) e)))
+each_in (t ∷ tables) all h = (h t (or_first (are_equal t t) (is_in t tables) (equal_itself t)), each_in tables all (λ q e. h q (or_right (are_equal q t) (is_in q tables) e)))
 
 -- WHAT IS FOUND in a slot
 

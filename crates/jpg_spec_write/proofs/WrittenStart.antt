@@ -28,7 +28,7 @@ use Rattle.jpg_spec.specs.declared.frame.Process.TheVariants.{Baseline, Extended
 use Rattle.jpg_spec.specs.declared.frame.Component.{Component}
 use Rattle.jpg_spec.specs.declared.frame.Limits.{Limits}
 use Rattle.jpg_spec.proofs.Basics.Rows.{all_reverse}
-use Rattle.jpg_spec.proofs.Basics.Common.{equal_itself}
+use Rattle.jpg_spec.proofs.Basics.Common.{equal_itself, or_right}
 use Rattle.jpg_spec.proofs.Headers.HeadersOnce.{items_of, segments_of_items}
 use Rattle.jpg_spec.proofs.Headers.BeforeScans.{no_quant, no_heads, front_items, header_leads}
 use Rattle.jpg_spec_write.proofs.KeptMarkers.{text_after, kept_spelled}
@@ -41,7 +41,7 @@ use Rattle.jpg_spec.proofs.Writing.WrittenQuants.{is_in}
 use Rattle.jpg_spec.proofs.Writing.WrittenFront.{frame_is, markers_pass}
 use Rattle.jpg_spec_write.proofs.WrittenFront.{frame_component, frame_contents, frame_told_is, frame_short, markers_passed, no_tables}
 use Rattle.jpg_spec_write.proofs.WrittenState.{Sends, quants_due}
-use Rattle.jpg_spec.proofs.Places.PlacesFound.{or_first, or_second}
+use Rattle.jpg_spec.proofs.Places.PlacesFound.{or_first}
 
 -- THE SEGMENTS before the frame header
 
@@ -104,7 +104,7 @@ quants_step limits H all (t ∷ ts) tables ys text h s =
 
 pairs_keep : (all ts : List QuantTable) (acc : List SlotTable) (q : QuantTable) → has_table q acc ≡ true → has_table q (pairs_on all ts acc) ≡ true
 pairs_keep all [] acc q h = h
-pairs_keep all (t ∷ ts) acc q h = pairs_keep all ts ((slot_in all t, t) ∷ acc) q (or_second (are_equal q t) (has_table q acc) h)
+pairs_keep all (t ∷ ts) acc q h = pairs_keep all ts ((slot_in all t, t) ∷ acc) q (or_right (are_equal q t) (has_table q acc) h)
 
 pairs_have : (all ts : List QuantTable) (acc : List SlotTable) (q : QuantTable) → is_in q ts ≡ true → has_table q (pairs_on all ts acc) ≡ true
 pairs_have all [] acc q h = cc
@@ -138,7 +138,7 @@ quants_fit all (c ∷ cs) of same q s =
 table_in : (cs : List PictureComponent) (i : ℕ) (d : PictureComponent) → i < length cs → is_in (get_or cs i d).quants (map (λ c. c.quants) cs) ≡ true
 table_in [] i d h = absurd (omega (arith, h))
 table_in (c ∷ cs) zero d h = or_first (are_equal c.quants c.quants) (is_in c.quants (map (λ c. c.quants) cs)) (equal_itself c.quants)
-table_in (c ∷ cs) (suc i) d h = or_second (are_equal (get_or cs i d).quants c.quants) (is_in (get_or cs i d).quants (map (λ c. c.quants) cs)) (table_in cs i d (omega (arith, h)))
+table_in (c ∷ cs) (suc i) d h = or_right (are_equal (get_or cs i d).quants c.quants) (is_in (get_or cs i d).quants (map (λ c. c.quants) cs)) (table_in cs i d (omega (arith, h)))
 
 component_is : (H : Meaning) (cs : List PictureComponent) (i : ℕ) (d : PictureComponent) (e : Component) → i < length cs → get_or (map (frame_component H) cs) i e ≡ frame_component H (get_or cs i d)
 component_is H [] i d e h = absurd (omega (arith, h))

@@ -68,7 +68,7 @@ equal_lists (x ∷ a) (y ∷ b) e =
     let k = both (x == y) (are_equal a b) e in
     ap (λ n. n ∷ a) (same_of x y k.0) ∙ ap (λ l. y ∷ l) (equal_lists a b k.1)
 
-holds_is : (o : Option HuffmanTable) (table : HuffmanTable) → holds_table o table ≡ true → o ≡ Some table
+pub holds_is : (o : Option HuffmanTable) (table : HuffmanTable) → holds_table o table ≡ true → o ≡ Some table
 holds_is None table e = cc
 holds_is (Some old) table e =
     let k = both (are_equal old.counts table.counts) (are_equal old.symbols table.symbols) e in

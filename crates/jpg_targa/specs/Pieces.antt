@@ -1,10 +1,10 @@
 -- Targa files that are read piece by piece.
-use Rattle.std.specs.Prelude.{◌≡◌, ℕ, List, ◌++◌, length, Result, Ok, Err}
+use Rattle.std.specs.Prelude.{◌≡◌, ◌≤◌, ℕ, List, ◌++◌, length, Result, Ok, Err}
 use Rattle.jpg_base.specs.declared.stop.Stop.{Stop}
 use Rattle.jpg_base.specs.declared.stop.Stop.TheVariants as stop
 use Rattle.jpg_spec_image.specs.Images.{Image}
 use Rattle.jpg_spec_image.specs.TargaFaults.{TargaMeans, IsTargaFault}
-use Rattle.jpg_spec_image.specs.TargaSteps.{at_start, run}
+use Rattle.jpg_spec_image.specs.TargaSteps.{at_start, run, total}
 use Rattle.jpg_pnm_bmp.specs.declared.read.piece.Fed2.{Fed2}
 use Rattle.jpg_pnm_bmp.specs.declared.read.piece.Fed2.TheVariants as fed
 use Rattle.jpg_targa.specs.Reader.{standing, image_told}
@@ -24,3 +24,8 @@ AfterTargaRead bytes piece (Err stop.NoMemory) w image = Unit {0}
 
 abbrev pub AfterTargaPiece : List ℕ → List ℕ → Result Fed2 Stop → Work → Type 0
 AfterTargaPiece bytes piece answer w = AfterTargaRead bytes piece answer w (image_told w)
+
+-- where the image is complete, its pixels are all there
+abbrev pub HasAllAtDone : Result Fed2 Stop → Work → Type 0
+HasAllAtDone (Ok fed.Done) w = total w.head ≤ length w.pixels
+HasAllAtDone other w = Unit {0}

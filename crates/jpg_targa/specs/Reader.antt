@@ -40,6 +40,13 @@ Reaches s answer.Whole w = s ≡ whole (image_told w)
 Reaches s (answer.Fault fault) w = s ≡ failed fault
 Reaches s answer.NoMemory w = Unit {0}
 
+-- where the image is complete, its pixels are all there
+abbrev pub HasAll : Answer → Work → Type 0
+HasAll answer.More w = Unit {0}
+HasAll answer.Whole w = total w.head ≤ length w.pixels
+HasAll (answer.Fault fault) w = Unit {0}
+HasAll answer.NoMemory w = Unit {0}
+
 -- it goes on at this stage, or its pixels are all there
 abbrev pub Grows : Work → Stage → Answer → Work → Type 0
 Grows old s a new = Reaches (grown old.head old.pixels (standing_of s old)) a new

@@ -1,8 +1,9 @@
 //! An image that is written row by row, while the MCU rows of its picture are read.
-ghost use Rattle.std.specs.Prelude.{◌≡◌, ◌≤◌, ◌==◌, true, None, [], IfOk};
+ghost use Rattle.std.specs.Prelude.{◌≡◌, ◌≤◌, ◌==◌, true, None, [], Err, IfOk};
 ghost use Rattle.jpg_file.specs.Read.StripHead.{IsStripHead};
 ghost use Rattle.jpg_pnm_bmp.specs.EndState.{new_end};
 ghost use Rattle.jpg_color.specs.Shown.{IsNextRowDue, IsMcuRow, display_fault, display_of, all_rows, zero_row};
+ghost use Rattle.jpg_color.specs.declared.decode.DecodeStop.TheVariants as stop;
 ghost use Rattle.jpg_color.specs.DecodeRows.{SendsImage};
 ghost use Rattle.jpg_color.specs.StripImage.{BeginsDrawing, CanTakeNext, DrawsRow, EndsDrawing, IsEndOf, IsNewDrawing, IsNewOf, IsAllGiven, SendsReady, StaysDrawn};
 
@@ -58,6 +59,7 @@ fn send_any<D: Desk>(out: &mut Bytes, desk: &mut D) -> Result<(), DecodeStop>
     requires { (D.state desk.old).output_created ≡ true }
     ensures sent { SendsImage (D.state desk.old) out.old [] result out.new (D.state desk.new) }
     ensures all { IfOk result (λ u. out.new ≡ []) }
+    ensures memory { result ≡ Err stop.NoMemory → ⊥ }
 {
     if out.as_slice().is_empty() {
         return Ok(());
@@ -140,6 +142,7 @@ impl StripImage {
         requires { (D.state desk.old).output_created ≡ true }
         ensures sent { SendsImage (D.state desk.old) self.old.out [] result self.new.out (D.state desk.new) }
         ensures out { IfOk result (λ u. self.new.out ≡ []) }
+        ensures memory { result ≡ Err stop.NoMemory → ⊥ }
         ensures stays { StaysDrawn self.old self.new }
     {
         send_any(&mut self.out, desk)

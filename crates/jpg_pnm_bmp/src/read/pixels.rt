@@ -1,5 +1,5 @@
 //! Image files that are read piece by piece (release 6b's image files).
-ghost use Rattle.std.specs.Prelude.{◌≡◌, ◌≤◌, ◌+◌, [], ℕ, List, length, Some, true, false, Ok, Err, IfSome, IfNone};
+ghost use Rattle.std.specs.Prelude.{◌≡◌, ◌≤◌, ◌+◌, [], ℕ, List, length, Some, None, true, false, Ok, Err, IfSome, IfNone};
 ghost use Rattle.jpg_base.specs.declared.stop.Stop.{Stop as Stopped};
 ghost use Rattle.jpg_pnm_bmp.specs.PixelsRead.{Reads, EndsRead, image_by_parts};
 
@@ -114,6 +114,7 @@ impl PixelReader {
         ensures some { IfSome result (TellsPlain self.now) }
         ensures none { IfNone result (TellsNotPlain self.now) }
         ensures more { IfSome result (λ info. is_image_read self.now ≡ false) }
+        ensures stopped { (stop : Stopped) → pixels_stop self.now ≡ Some stop → result ≡ None }
     {
         if self.done || self.stop.is_some() {
             return None;

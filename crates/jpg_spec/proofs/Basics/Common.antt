@@ -1,8 +1,8 @@
 -- Facts about tests, equal lists and answers, for the proofs of all crates.
-use Rattle.std.proofs.Common.{◌≡◌, ℕ, zero, suc, ◌%◌, ◌<◌, ◌≤◌, Bool, true, false, cond, not, List, [], ◌∷◌, ◌++◌, length, take, refl, sym, ap, ◌∙◌, subst, arith, ℤ, pos, Option, Some, None, Ok, Err, ◌==◌, ◌&&◌}
-use Rattle.std.specs.Prelude.{◌||◌, nat_lt, nat_le, int_le, nat_abs, is_none, ◌≤ℤ◌}
+use Rattle.std.proofs.Common.{◌≡◌, ℕ, zero, suc, ◌%◌, ◌<◌, ◌≤◌, Bool, true, false, cond, not, List, [], ◌∷◌, ◌++◌, length, take, refl, sym, ap, ◌∙◌, subst, arith, ℤ, pos, Option, Some, None, Ok, Err, ◌==◌, ◌&&◌, drop, ◌+◌}
+use Rattle.std.specs.Prelude.{◌||◌, nat_lt, nat_le, int_le, nat_abs, is_none, ◌≤ℤ◌, filter, slice_index_or}
 use Rattle.std.proofs.lemmas.Bool.Decides.{nat_tests}
-use Rattle.std.proofs.lemmas.List.{append_assoc, length-append}
+use Rattle.std.proofs.lemmas.List.{append_assoc, length-append, take-append-drop, take-append-le, take_all}
 use Rattle.std.proofs.Math.Seq.{take-append_seam}
 use lib.Signed.{le_z_yes}
 use lib.Dec.{T}
@@ -185,3 +185,24 @@ bounds_join c (v ∷ xs) ys h k =
 
 pub eq_swap : (m n : ℕ) → (m == n) ≡ (n == m)
 eq_swap m n = grind (arith, nat_tests)
+
+pub filter_less : (test : ℕ → Bool) (xs : List ℕ) → length (filter test xs) ≤ length xs
+filter_less test [] = omega arith
+filter_less test (x ∷ xs) = by (test x) (filter_less test xs)
+  where
+    by : (b : Bool) → length (filter test xs) ≤ length xs → length (cond b (x ∷ filter test xs) (filter test xs)) ≤ length (x ∷ xs)
+    by true h = omega (arith, h)
+    by false h = omega (arith, h)
+
+pub joined : (bytes piece : List ℕ) (i : ℕ) → bytes ++ piece ≡ (bytes ++ take i piece) ++ drop i piece
+joined bytes piece i = ap (λ l. bytes ++ l) (sym (take-append-drop i piece)) ∙ sym (append_assoc bytes (take i piece) (drop i piece))
+
+pub whole_front : (front rest : List ℕ) → take (length front) (front ++ rest) ≡ front
+whole_front front rest = take-append-le (length front) front rest (omega arith) ∙ take_all (length front) front (omega arith)
+
+pub zeros_at : (k : ℕ) → slice_index_or (pos 0 ∷ pos 0 ∷ pos 0 ∷ pos 0 ∷ []) k (pos 0) ≡ pos 0
+zeros_at zero = refl
+zeros_at (suc zero) = refl
+zeros_at (suc (suc zero)) = refl
+zeros_at (suc (suc (suc zero))) = refl
+zeros_at (suc (suc (suc (suc k)))) = refl

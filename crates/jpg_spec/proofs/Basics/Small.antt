@@ -122,3 +122,8 @@ are_bounds precision = of_bounds AreBounds eight twelve precision
 
 pub back : (v p : ℤ) → p +ℤ (v -ℤ p) ≡ v
 back v p = omega (arith, ints)
+
+-- the difference of two numbers of 16 bits
+pub apart_16 : (v : ℤ) → negsuc 65534 ≤ℤ v → v ≤ℤ pos 65535 → category v ≤ 16
+apart_16 (pos n) low high = few_digits 16 n (omega (arith, ints))
+apart_16 (negsuc n) low high = few_digits 16 (suc n) (omega (arith, ints))

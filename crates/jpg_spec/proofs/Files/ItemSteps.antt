@@ -34,7 +34,7 @@ fill_marker fill code marker s =
     let z : fill + suc s.0 ≡ suc (fill + s.0) = omega arith in
     (fill + s.0, ap (λ l. replicate fill 255 ++ l) s.1 ∙ filled fill (suc s.0) (code ∷ []) ∙ ap (λ n. replicate n 255 ++ code ∷ []) z, s.2)
 
-after_fill : (fill : ℕ) (tail marker more : List ℕ) → tail ≡ marker ++ more → replicate fill 255 ++ tail ≡ (replicate fill 255 ++ marker) ++ more
+pub after_fill : (fill : ℕ) (tail marker more : List ℕ) → tail ≡ marker ++ more → replicate fill 255 ++ tail ≡ (replicate fill 255 ++ marker) ++ more
 after_fill fill tail marker more e = ap (λ l. replicate fill 255 ++ l) e ∙ sym (append_assoc (replicate fill 255) marker more)
 
 pub fill_begin : (fill : ℕ) (before : List Segment) (code : ℕ) (marker : List ℕ) → BeginsSegment before code marker → BeginsSegment before code (replicate fill 255 ++ marker)

@@ -214,7 +214,7 @@ abbrev pub PlacesWithin : Scan → Blocks → List Place → Type 0
 PlacesWithin s after [] = Unit {0}
 PlacesWithin s after (p ∷ places) = (are_in_bounds s.coding.bounds (s.ss == 0) (band s (block_at after p)) ≡ true) × PlacesWithin s after places
 
-places_join : (s : Scan) (after : Blocks) (a b : List Place) → PlacesWithin s after a → PlacesWithin s after b → PlacesWithin s after (a ++ b)
+pub places_join : (s : Scan) (after : Blocks) (a b : List Place) → PlacesWithin s after a → PlacesWithin s after b → PlacesWithin s after (a ++ b)
 places_join s after [] b w v = v
 places_join s after (p ∷ a) b w v = (w.0, places_join s after a b w.1 v)
 
@@ -287,7 +287,7 @@ zero_in precision k = of_bounds (λ b. is_coefficient b k (pos 0) ≡ true) (eig
     twelve : (b : Bool) → cond b true true ≡ true
     twelve b = eight b
 
-zeros_in_bounds : (precision k : ℕ) → is_coefficient (bounds_of precision) k (get_or (zeros 64) k (pos 0)) ≡ true
+pub zeros_in_bounds : (precision k : ℕ) → is_coefficient (bounds_of precision) k (get_or (zeros 64) k (pos 0)) ≡ true
 zeros_in_bounds precision k =
     ⊎_elim (λ (h : k < 64). subst (λ v. is_coefficient (bounds_of precision) k v ≡ true) (sym (get_or-replicate 64 k (pos 0) (pos 0) h)) (zero_in precision k))
     (λ (h : 64 ≤ k). subst (λ v. is_coefficient (bounds_of precision) k v ≡ true) (sym (get_or_past (zeros 64) k (pos 0) h)) (zero_in precision k)) (cases_lt k 64)

@@ -54,7 +54,7 @@ distinct_places f (id ∷ slots ∷ bytes) all =
 
 -- THE HEADER
 
-parts_length : (f : Frame) (count : ℕ) (bytes : List ℕ) → length bytes ≡ 2 * count → length (parsed_parts f bytes) ≡ count
+pub parts_length : (f : Frame) (count : ℕ) (bytes : List ℕ) → length bytes ≡ 2 * count → length (parsed_parts f bytes) ≡ count
 parts_length f zero [] even = refl
 parts_length f (suc count) (id ∷ slots ∷ bytes) even = ap suc (parts_length f count bytes (omega (arith, even)))
 parts_length f count bytes even = absurd (omega (arith, even))

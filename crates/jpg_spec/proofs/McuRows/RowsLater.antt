@@ -70,7 +70,7 @@ begun_after f (segment code other ∷ more) contents intervals before i e = by (
 begun_after f (scan other ivs ∷ more) contents intervals before i e =
     or_right (names (head_in f other) i) (has_begun (heads_of f (segments_of (more ++ scan contents intervals ∷ before))) i) (begun_after f more contents intervals before i e)
 
-any_named : (test : ℕ → Bool) (n : ℕ) (xs : List ℕ) → Each (λ x. x < n) xs → 1 ≤ length xs → ((x : ℕ) → x < n → test x ≡ true) → any_of test xs ≡ true
+pub any_named : (test : ℕ → Bool) (n : ℕ) (xs : List ℕ) → Each (λ x. x < n) xs → 1 ≤ length xs → ((x : ℕ) → x < n → test x ≡ true) → any_of test xs ≡ true
 any_named test n [] h some all = absurd (omega (arith, some))
 any_named test n (x ∷ xs) h some all = ap (λ b. b || any_of test xs) (all x h.0)
 

@@ -1,5 +1,5 @@
 -- The components of a scan that are in the frame.
-use Rattle.std.proofs.Common.{◌≡◌, ℕ, suc, ◌+◌, ◌<◌, Bool, true, false, List, [], ◌∷◌, length, All, arith}
+use Rattle.std.proofs.Common.{◌≡◌, ℕ, suc, ◌+◌, ◌<◌, Bool, true, false, List, [], ◌∷◌, length, All, arith, get_or, refl, zero}
 use Rattle.std.specs.Prelude.{◌||◌, ◌==◌, if◌then◌else◌}
 use Rattle.std.specs.List.{AllByRecursion}
 use Rattle.std.proofs.lemmas.List.Elements.{All-from_recursion}
@@ -29,3 +29,9 @@ each_below f (id ∷ slots ∷ bytes) e =
 
 pub parts_below : (f : Frame) (bytes : List ℕ) → are_among f (parsed_ids bytes) ≡ true → All (λ p. p.component < length f.components) (parsed_parts f bytes)
 parts_below f bytes e = All-from_recursion (λ (p : ScanPart). p.component < length f.components) (parsed_parts f bytes) (each_below f bytes e)
+
+-- the default of a part that isn't there doesn't matter
+pub part_same : (parts : List ScanPart) (j : ℕ) (d e : ScanPart) → j < length parts → get_or parts j d ≡ get_or parts j e
+part_same [] j d e h = absurd (omega arith)
+part_same (p ∷ parts) zero d e h = refl
+part_same (p ∷ parts) (suc j) d e h = part_same parts j d e (omega arith)

@@ -1,5 +1,5 @@
 -- The current picture: from the one before a scan, interval by interval, to what the scan means.
-use Rattle.std.proofs.Common.{◌≡◌, ℕ, ◌≤◌, Bool, true, false, ◌==◌, ◌&&◌, List, [], ◌∷◌, ◌++◌, length, refl, sym, ap, ◌∙◌, subst, arith, inl, ℤ, pos}
+use Rattle.std.proofs.Common.{◌≡◌, ℕ, ◌≤◌, Bool, true, false, ◌==◌, ◌&&◌, List, [], ◌∷◌, ◌++◌, length, refl, sym, ap, ◌∙◌, subst, arith, inl, ℤ, pos, ◌+◌}
 use Rattle.std.specs.Prelude.{◌||◌, map, flat_map, nat_le, slice_index_or}
 use Rattle.std.proofs.lemmas.Bool.Decides.{nat_tests}
 use Rattle.std.proofs.lemmas.List.{append_assoc, append-nil, length-append}
@@ -63,10 +63,6 @@ apart_of (p ∷ a) b d = ((neither (any_of (is_at p.component p.x p.y) a) (any_o
 pub distinct_behind : (a b : List Place) → AreDistinct (a ++ b) → AreDistinct b
 distinct_behind [] b d = d
 distinct_behind (p ∷ a) b d = distinct_behind a b d.1
-
-pub distinct_front : (a b : List Place) → AreDistinct (a ++ b) → AreDistinct a
-distinct_front [] b d = tt
-distinct_front (p ∷ a) b d = ((neither (any_of (is_at p.component p.x p.y) a) (any_of (is_at p.component p.x p.y) b) (sym (any_join (is_at p.component p.x p.y) a b) ∙ d.0)).0, distinct_front a b d.1)
 
 pub is_at_swap : (p q : Place) → is_at p.component p.x p.y q ≡ is_at q.component q.x q.y p
 is_at_swap p q =
@@ -225,3 +221,11 @@ starts_due c unit units = record {
   is_part = in_code (record { left = refl; none = refl; front = inl refl; no_code = λ h k. refl });
   in_bounds = refl;
 }
+
+-- the place of the current unit isn't among those done
+pub next_apart : (done : List Place) (next : Place) (more : List Place) → AreDistinct (done ++ next ∷ more) → any_of (is_at next.component next.x next.y) done ≡ false
+next_apart done next more d = (apart_swap done (next ∷ more) (apart_of done (next ∷ more) d)).0
+
+pub some_places : (places : List Place) → 1 ≤ length places → (p : Place) × (more : List Place) × (places ≡ p ∷ more)
+some_places [] h = absurd (omega arith)
+some_places (p ∷ more) h = (p, more, refl)

@@ -56,16 +56,12 @@ each_units P f (i ∷ j ∷ parts) h =
 pub or_first : (a b : Bool) → a ≡ true → (a || b) ≡ true
 or_first a b e = ap (λ t. t || b) e
 
-pub or_second : (a b : Bool) → b ≡ true → (a || b) ≡ true
-or_second true b e = refl
-or_second false b e = e
-
 pub found_below : (test : Place → Bool) (f : ℕ → List Place) (n k : ℕ) → k < n → any_of test (f k) ≡ true → any_of test (flat_map f (below n)) ≡ true
 found_below test f zero k h e = absurd (omega (arith, h))
 found_below test f (suc n) k h e =
     ap (any_of test) (flat_below f n) ∙ any_join test (flat_map f (below n)) (f n)
     ∙ ⊎_elim (λ (l : k < n). or_first (any_of test (flat_map f (below n))) (any_of test (f n)) (found_below test f n k l e))
-    (λ (l : n ≤ k). (let s : k ≡ n = omega (arith, h, l) in or_second (any_of test (flat_map f (below n))) (any_of test (f n)) (ap (λ m. any_of test (f m)) (sym s) ∙ e)))
+    (λ (l : n ≤ k). (let s : k ≡ n = omega (arith, h, l) in or_right (any_of test (flat_map f (below n))) (any_of test (f n)) (ap (λ m. any_of test (f m)) (sym s) ∙ e)))
     (cases_lt k n)
 
 pub found_row : (test : Place → Bool) (g : ℕ → Place) (n k : ℕ) → k < n → test (g k) ≡ true → any_of test (map g (below n)) ≡ true
@@ -92,7 +88,7 @@ found_parts test f (j ∷ parts) i h e = any_join test (f j) (flat_map f parts) 
   where
     by : (b : Bool) → (j == i) ≡ b → (b || is_among i parts) ≡ true → (is_among i parts ≡ true → any_of test (flat_map f parts) ≡ true) → (any_of test (f j) || any_of test (flat_map f parts)) ≡ true
     by true s k later = or_first (any_of test (f j)) (any_of test (flat_map f parts)) (ap (λ m. any_of test (f m)) (same_of j i s) ∙ e)
-    by false s k later = or_second (any_of test (f j)) (any_of test (flat_map f parts)) (later k)
+    by false s k later = or_right (any_of test (f j)) (any_of test (flat_map f parts)) (later k)
 
 -- REAL BLOCKS are in the padded grid
 

@@ -41,7 +41,7 @@ frame_places : (f : Frame) → IsFrame f → HasPlaces f
 frame_places f is = record { width = is.width_low; height = is.height_low; count = is.count_low; factors = is.factors }
 
 -- NUMBERS of a frame
-one_at_least : (n d : ℕ) → 0 < d → 1 ≤ n → 1 ≤ div_up n d
+pub one_at_least : (n d : ℕ) → 0 < d → 1 ≤ n → 1 ≤ div_up n d
 one_at_least n d some low = le-div 1 (n + d - 1) d some (omega (arith, low))
 
 pub factors_at : (f : Frame) (i : ℕ) → IsFrame f → i < length f.components → HasFactors (component_at f i)

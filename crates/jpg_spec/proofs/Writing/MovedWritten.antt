@@ -8,15 +8,15 @@ use Rattle.jpg_spec.specs.Geometry.{Frame, bounds}
 use Rattle.jpg_spec.specs.Elements.{zeros, IsBlockIn, are_in_bounds}
 use Rattle.jpg_spec.specs.Meaning.{Meaning, picture_frame}
 use Rattle.jpg_spec.specs.Lists.{are_equal}
-use Rattle.jpg_spec.proofs.Basics.Common.{equal_itself}
+use Rattle.jpg_spec.proofs.Basics.Common.{equal_itself, or_right}
 use Rattle.jpg_spec.proofs.Headers.Precisions.{of_bounds}
-use Rattle.jpg_spec.proofs.Places.PlacesFound.{or_first, or_second}
+use Rattle.jpg_spec.proofs.Places.PlacesFound.{or_first}
 use Rattle.jpg_spec.proofs.Writing.WrittenQuants.{is_in}
 
 pub each_among : (tables all : List QuantTable) → ((q : QuantTable) → is_in q tables ≡ true → is_in q all ≡ true) → All (λ q. is_in q all ≡ true) tables
 each_among [] all h = All-nil (λ q. is_in q all ≡ true)
 each_among (t ∷ tables) all h =
-    All-cons (λ q. is_in q all ≡ true) t tables (h t (or_first (are_equal t t) (is_in t tables) (equal_itself t))) (each_among tables all (λ q e. h q (or_second (are_equal q t) (is_in q tables) e)))
+    All-cons (λ q. is_in q all ≡ true) t tables (h t (or_first (are_equal t t) (is_in t tables) (equal_itself t))) (each_among tables all (λ q e. h q (or_right (are_equal q t) (is_in q tables) e)))
 
 pub count_of : (M : Meaning) → length (picture_frame M).components ≡ length M.components
 count_of M = length-map M.components _

@@ -1,7 +1,8 @@
 //! The samples of an image, from those of its Targa file.
-ghost use Rattle.std.specs.Prelude.{◌≡◌, ◌++◌, true, OnOk, IfSome};
+ghost use Rattle.std.specs.Prelude.{◌≡◌, ◌<◌, ◌≤◌, ◌-◌, ◌++◌, if◌then◌else◌, true, length, OnOk};
 ghost use Rattle.jpg_spec_image.specs.ImageText.{file_samples};
-ghost use Rattle.jpg_spec_image.specs.TargaFile.{targa_row, targa_image};
+ghost use Rattle.jpg_spec_image.specs.TargaFile.{targa_row, targa_height, is_from_top, targa_image};
+ghost use Rattle.jpg_spec_image.specs.TargaSteps.{total};
 ghost use Rattle.jpg_targa.specs.TargaRead.{Makes};
 
 use crate::read::head::{height, info, is_from_top, kind, row_bytes, total};
@@ -11,21 +12,29 @@ use jpg_pnm_bmp::file_row;
 use jpg_spec_image::{ImageInfo, ImageKind};
 use std::mem;
 
-// Row y from the top, if the bytes have it, which those of a complete image do.
-fn targa_row<'a>(head: &[u8; 18], pixels: &'a [u8], y: u16) -> Option<&'a [u8]>
-    ensures { IfSome result (λ row. row.now ≡ targa_row head.now pixels.now y) }
+// Which of the file's rows is row y from the top.
+fn line_of(head: &[u8; 18], y: u16) -> u16
+    requires { y < targa_height head.now }
+    ensures inside { result < targa_height head.now }
+    ensures is { result ≡ (if is_from_top head.now then y else targa_height head.now - 1 - y) }
 {
-    let at = if is_from_top(head) {
-        y
-    } else {
-        height(head).saturating_sub(1).saturating_sub(y)
-    };
-    let start = row_bytes(head) * u64::from(at);
-    let end = start + row_bytes(head);
-    if end > pixels.len() as u64 {
-        return None;
+    if is_from_top(head) {
+        return y;
     }
-    Some(&pixels[start as usize..end as usize])
+    height(head) - 1 - y
+}
+
+// Row y from the top.
+fn targa_row<'a>(head: &[u8; 18], pixels: &'a [u8], y: u16) -> &'a [u8]
+    requires inside { y < targa_height head.now }
+    requires there { total head.now ≤ length pixels.now }
+    ensures { result.now ≡ targa_row head.now pixels.now y }
+{
+    let at = line_of(head, y);
+    let long = row_bytes(head);
+    let start = long * u64::from(at);
+    let end = start + long;
+    &pixels[start as usize..end as usize]
 }
 
 // Appends a row's samples, which are made in `line` first.
@@ -50,16 +59,14 @@ fn add_rows(
     line: &mut Vec<u8>,
     made: &mut Bytes,
 ) -> Result<(), NoMemory>
+    requires { total head.now ≤ length pixels.now }
     ensures { OnOk result (made.new ≡ made.old ++ (targa_image head.now pixels.now).samples) }
 {
     let mut y: u16 = 0;
     while y < height(head) {
-        match targa_row(head, pixels, y) {
-            Some(row) => match add_row(kind(head), row, line, made) {
-                Ok(()) => {}
-                Err(fault) => return Err(fault),
-            },
-            None => return Err(NoMemory),
+        match add_row(kind(head), targa_row(head, pixels, y), line, made) {
+            Ok(()) => {}
+            Err(fault) => return Err(fault),
         }
         y += 1;
     }
@@ -79,8 +86,9 @@ fn are_samples(work: &Work) -> bool
 }
 
 // Makes the image whose last pixel is known. Returns its sides and kind. Samples that stand as in the image are moved
-// instead of copied. Fewer bytes than the rows have aren't those of such an image: it returns NoMemory then.
+// instead of copied.
 pub(crate) fn make_image(work: &mut Work, made: &mut Bytes) -> Result<ImageInfo, NoMemory>
+    requires { total work.old.head ≤ length work.old.pixels }
     ensures { Makes (targa_image work.old.head work.old.pixels) result made.new }
 {
     made.clear();

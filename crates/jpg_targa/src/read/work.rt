@@ -3,7 +3,7 @@ ghost use Rattle.std.specs.Prelude.{◌≡◌, ◌<◌, ◌≤◌, ◌++◌, ◌
 ghost use Rattle.jpg_spec_image.specs.TargaFile.{targa_fault};
 ghost use Rattle.jpg_spec_image.specs.TargaSteps.{at_start, total, in_pixels, body_begun, identifier_left, head_so_far, packet_byte, copied, copies_so_far, pixels_so_far, with_copies, run};
 ghost use Rattle.jpg_targa.specs.declared.read.work.Work.{Work as Worked};
-ghost use Rattle.jpg_targa.specs.Reader.{standing, standing_of, after_pixels, IsReached, Reaches, Grows, AddsCopies, CanStretch, StretchesBy};
+ghost use Rattle.jpg_targa.specs.Reader.{standing, standing_of, after_pixels, IsReached, Reaches, HasAll, Grows, AddsCopies, CanStretch, StretchesBy};
 
 use crate::read::head::{head_fault, is_packed, size, total};
 use jpg_base::{Bytes, NoMemory};
@@ -107,7 +107,8 @@ impl Work {
     }
 
     fn head_byte(&mut self, n: usize, byte: u8) -> Answer
-        ensures { Reaches (head_so_far (take n self.old.head ++ byte ∷ [])) result self.new }
+        ensures led { Reaches (head_so_far (take n self.old.head ++ byte ∷ [])) result self.new }
+        ensures all { HasAll result self.new }
     {
         if n >= 18 {
             return Answer::NoMemory;
@@ -121,7 +122,8 @@ impl Work {
     }
 
     fn head_grown(&mut self) -> Answer
-        ensures { Reaches (head_so_far self.old.head) result self.new }
+        ensures led { Reaches (head_so_far self.old.head) result self.new }
+        ensures all { HasAll result self.new }
     {
         match head_fault(&self.head) {
             Some(fault) => Answer::Fault(fault),
@@ -130,7 +132,8 @@ impl Work {
     }
 
     fn identifier_left(&mut self, left: u8) -> Answer
-        ensures { Reaches (identifier_left self.old.head left) result self.new }
+        ensures led { Reaches (identifier_left self.old.head left) result self.new }
+        ensures all { HasAll result self.new }
     {
         if left == 0 {
             return self.begin();
@@ -140,7 +143,8 @@ impl Work {
     }
 
     fn begin(&mut self) -> Answer
-        ensures { Reaches (body_begun self.old.head) result self.new }
+        ensures led { Reaches (body_begun self.old.head) result self.new }
+        ensures all { HasAll result self.new }
     {
         self.pixels.clear();
         if is_packed(&self.head) {
@@ -152,7 +156,8 @@ impl Work {
     }
 
     fn packet_byte(&mut self, byte: u8) -> Answer
-        ensures { Reaches (packet_byte self.old.head self.old.pixels byte) result self.new }
+        ensures led { Reaches (packet_byte self.old.head self.old.pixels byte) result self.new }
+        ensures all { HasAll result self.new }
     {
         if byte < 128 {
             self.stage = Stage::Pixels((u64::from(byte) + 1) * u64::from(size(&self.head)));
@@ -164,7 +169,8 @@ impl Work {
     }
 
     fn copies_byte(&mut self, count: u8, byte: u8) -> Answer
-        ensures { length self.old.pixels ≤ total self.old.head → Reaches (copies_so_far self.old.head self.old.pixels count (self.old.pixel ++ byte ∷ [])) result self.new }
+        ensures led { length self.old.pixels ≤ total self.old.head → Reaches (copies_so_far self.old.head self.old.pixels count (self.old.pixel ++ byte ∷ [])) result self.new }
+        ensures all { HasAll result self.new }
     {
         match self.pixel.push_all(&[byte]) {
             Ok(()) => self.copies_so_far(count),
@@ -173,7 +179,8 @@ impl Work {
     }
 
     fn copies_so_far(&mut self, count: u8) -> Answer
-        ensures { length self.old.pixels ≤ total self.old.head → Reaches (copies_so_far self.old.head self.old.pixels count self.old.pixel) result self.new }
+        ensures led { length self.old.pixels ≤ total self.old.head → Reaches (copies_so_far self.old.head self.old.pixels count self.old.pixel) result self.new }
+        ensures all { HasAll result self.new }
     {
         if self.pixel.as_slice().len() < usize::from(size(&self.head)) {
             self.stage = Stage::Copies(count);
@@ -188,7 +195,8 @@ impl Work {
 
     // Goes on at a stage, if pixels are missing.
     fn grown(&mut self, stage: Stage) -> Answer
-        ensures { Grows self.old stage result self.new }
+        ensures led { Grows self.old stage result self.new }
+        ensures all { HasAll result self.new }
     {
         if (self.pixels.as_slice().len() as u64) < total(&self.head) {
             self.stage = stage;
@@ -203,6 +211,7 @@ impl Work {
         ensures some { 1 ≤ result.used }
         ensures within { result.used ≤ length piece.now }
         ensures led { CanStretch left self.old → StretchesBy left self.old piece.now result self.new }
+        ensures all { HasAll result.answer self.new }
     {
         let held = self.pixels.as_slice().len() as u64;
         let long = part_long(left, total(&self.head).saturating_sub(held), piece.len());
@@ -227,6 +236,7 @@ impl Work {
         ensures some { 1 ≤ result.used }
         ensures within { result.used ≤ length piece.now }
         ensures led { IsReached (standing self.old) → Reaches (run (standing self.old) (take result.used piece.now)) result.answer self.new }
+        ensures all { HasAll result.answer self.new }
     {
         let byte = piece[0];
         match self.stage {

@@ -2,7 +2,7 @@ use Rattle.std.proofs.Common.{◌≡◌, ℕ, ◌+◌, ◌-◌, ◌≤◌, List,
 use Rattle.std.proofs.lemmas.List.{length-drop, take_rest}
 use Rattle.jpg_spec_image.specs.TargaFaults.{IsTargaFault}
 use Rattle.jpg_spec_image.specs.TargaSteps.{TargaState, at_start, run}
-use Rattle.jpg_targa.specs.Reader.{standing, IsReached, Reaches, image_told}
+use Rattle.jpg_targa.specs.Reader.{standing, IsReached, Reaches, HasAll, image_told}
 use Rattle.jpg_targa.specs.declared.read.work.Answer.{Answer}
 use Rattle.jpg_targa.specs.declared.read.work.Answer.TheVariants as answer
 use Rattle.jpg_targa.specs.declared.read.work.Work.{Work}
@@ -34,8 +34,8 @@ loop-at-preserved c =
           ∙ part_on bytes piece at used (standing c.loop-at.work) s);
     }
 
-pub returns-in-Whole : goal.returns-in-Whole
-returns-in-Whole c = λ bytes h rest.
+pub returns-in-Whole-clause-led : goal.returns-in-Whole-clause-led
+returns-in-Whole-clause-led c = λ bytes h rest.
     let at = c.loop-at.at in
     let piece = c.args.piece.now in
     let used = c.advance-step.result.used in
@@ -44,8 +44,8 @@ returns-in-Whole c = λ bytes h rest.
     (sym (part_on bytes piece at used (standing c.loop-at.work) s)
     ∙ told (standing c.loop-at.work) piece at used c.advance-step.result.answer answer.Whole c.advance-step.new.self c.in-Whole.is (c.advance-step.ensures.led (reached (standing c.loop-at.work) (bytes ++ take at piece) s)))
 
-pub returns-in-Fault : goal.returns-in-Fault
-returns-in-Fault c = λ bytes h rest.
+pub returns-in-Fault-clause-led : goal.returns-in-Fault-clause-led
+returns-in-Fault-clause-led c = λ bytes h rest.
     let at = c.loop-at.at in
     let piece = c.args.piece.now in
     let used = c.advance-step.result.used in
@@ -54,3 +54,6 @@ returns-in-Fault c = λ bytes h rest.
     (fault_read bytes piece rest (at + used) c.in-Fault.fault (further piece at used c.loop-at.invariant.inside c.advance-step.ensures.within)
     (sym (part_on bytes piece at used (standing c.loop-at.work) s)
     ∙ told (standing c.loop-at.work) piece at used c.advance-step.result.answer (answer.Fault c.in-Fault.fault) c.advance-step.new.self c.in-Fault.is (c.advance-step.ensures.led (reached (standing c.loop-at.work) (bytes ++ take at piece) s))))
+
+pub returns-in-Whole-clause-all : goal.returns-in-Whole-clause-all
+returns-in-Whole-clause-all c = subst (λ (a : Answer). HasAll a c.advance-step.new.self) c.in-Whole.is c.advance-step.ensures.all

@@ -7,25 +7,25 @@ use Rattle.jpg_targa.proofs.read.work.Work.advance.Goals as goal
 pub returns-in-Head-clause-led : goal.returns-in-Head-clause-led
 returns-in-Head-clause-led c = λ r.
     one_led (standing c.args.self.now) c.args.piece.now c.head_byte.result c.head_byte.new.self c.one_byte.result c.one_byte.ensures c.requires
-    (subst (λ st. Reaches (step (standing_of st c.args.self.now) (get_or c.args.piece.now 0 0)) c.head_byte.result c.head_byte.new.self) (sym c.in-Head.is) c.head_byte.ensures)
+    (subst (λ st. Reaches (step (standing_of st c.args.self.now) (get_or c.args.piece.now 0 0)) c.head_byte.result c.head_byte.new.self) (sym c.in-Head.is) c.head_byte.ensures.led)
 
 pub returns-in-Identifier-clause-led : goal.returns-in-Identifier-clause-led
 returns-in-Identifier-clause-led c = λ r.
     one_led (standing c.args.self.now) c.args.piece.now c.identifier_left.result c.identifier_left.new.self c.one_byte-in-Identifier.result c.one_byte-in-Identifier.ensures c.requires
     (subst (λ st. Reaches (step (standing_of st c.args.self.now) (get_or c.args.piece.now 0 0)) c.identifier_left.result c.identifier_left.new.self) (sym c.in-Identifier.is)
-    (subst (λ k. Reaches (identifier_left c.args.self.now.head k) c.identifier_left.result c.identifier_left.new.self) c.saturating_sub.ensures c.identifier_left.ensures))
+    (subst (λ k. Reaches (identifier_left c.args.self.now.head k) c.identifier_left.result c.identifier_left.new.self) c.saturating_sub.ensures c.identifier_left.ensures.led))
 
 pub returns-in-Packet-clause-led : goal.returns-in-Packet-clause-led
 returns-in-Packet-clause-led c = λ r.
     one_led (standing c.args.self.now) c.args.piece.now c.packet_byte.result c.packet_byte.new.self c.one_byte-in-Packet.result c.one_byte-in-Packet.ensures c.requires
-    (subst (λ st. Reaches (step (standing_of st c.args.self.now) (get_or c.args.piece.now 0 0)) c.packet_byte.result c.packet_byte.new.self) (sym c.in-Packet.is) c.packet_byte.ensures)
+    (subst (λ st. Reaches (step (standing_of st c.args.self.now) (get_or c.args.piece.now 0 0)) c.packet_byte.result c.packet_byte.new.self) (sym c.in-Packet.is) c.packet_byte.ensures.led)
 
 pub returns-in-Copies-clause-led : goal.returns-in-Copies-clause-led
 returns-in-Copies-clause-led c = λ r.
     let s = c.args.self.now in
     let room = copies_reached s.head s.pixels c.in-Copies.count s.pixel (subst IsReached (ap (λ st. standing_of st s) c.in-Copies.is) r) in
     one_led (standing s) c.args.piece.now c.copies_byte.result c.copies_byte.new.self c.one_byte-in-Copies.result c.one_byte-in-Copies.ensures c.requires
-    (subst (λ st. Reaches (step (standing_of st s) (get_or c.args.piece.now 0 0)) c.copies_byte.result c.copies_byte.new.self) (sym c.in-Copies.is) (c.copies_byte.ensures room))
+    (subst (λ st. Reaches (step (standing_of st s) (get_or c.args.piece.now 0 0)) c.copies_byte.result c.copies_byte.new.self) (sym c.in-Copies.is) (c.copies_byte.ensures.led room))
 
 pub returns-in-Pixels-clause-led : goal.returns-in-Pixels-clause-led
 returns-in-Pixels-clause-led c = λ r.

@@ -28,5 +28,5 @@ returns-in-Ok-clause-led c = λ can.
       fits = fits;
       appended = ap (λ x. (let z : Work = record old { pixels = x } in z)) c.in-Ok.ensures.whole;
       goes_on = c.after_pixels.ensures w ∙ ap (λ k. after_pixels k w) (left ∙ ap (λ k. c.args.left - k) (sym l));
-      grown_to = c.grown.ensures;
+      grown_to = c.grown.ensures.led;
     })
