@@ -107,8 +107,8 @@ fn is_unsupported(code: u8) -> bool
         || (0xc5 <= code && code <= 0xcf || (code == 0xdc || (code == 0xde || code == 0xdf)))
 }
 
-/// Whether a segment is kept, by whether a scan header was before it: APPn and COM, but after a scan no JFIF header and
-/// no Adobe segment (JFIF 1.02, Adobe's APP14).
+/// Whether a segment is kept, by whether a scan header was before it: APPn and COM (T.81, B.2.4.5, B.2.4.6), but after a
+/// scan no JFIF header and no Adobe segment (JFIF 1.02, Adobe's APP14).
 pub fn is_kept(scanned: bool, code: u8, contents: &[u8]) -> bool
     ensures { result ≡ is_kept_if scanned code contents.now }
 {

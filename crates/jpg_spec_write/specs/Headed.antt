@@ -34,7 +34,7 @@ headed_kept Unknown j kept = kept
 abbrev pub is_wide : List ℕ → Bool
 is_wide table = any_of (λ q. nat_lt 255 q) table
 
--- SOF1 if a quantiser exceeds 255 or the precision isn't 8, otherwise SOF0
+-- SOF1 if a quantiser exceeds 255 or the precision isn't 8, otherwise SOF0 (B.2.2, Table B.1)
 abbrev pub sequential_process : Meaning → Process
 sequential_process M = if not (M.precision == 8) || any_of (λ c. is_wide c.quants) M.components then Extended else Baseline
 

@@ -143,7 +143,7 @@ fn turned(tables: &[QuantTable]) -> ArrayVec<QuantTable, 4>
     list
 }
 
-// The process of a file of this precision in these scans with these tables.
+// The process of a file of this precision in these scans with these tables: SOF0, SOF1 or SOF2 (T.81, B.2.2).
 fn process_in(scans: &Scans, precision: u8, tables: &[QuantTable]) -> Process
     ensures { result ≡ process_in (scans_view scans.now) precision tables.now }
 {
