@@ -53,15 +53,19 @@ impl CursorPart {
 pub struct Cursor {
     // The components of the scan.
     parts: ArrayVec<CursorPart, 4>,
-    // The columns and the rows of the grid of MCUs.
+    // The columns of the grid of MCUs.
     wide: u32,
+    // Its rows.
     high: u32,
-    // The MCU of the first place that remains.
+    // The row of the MCU that has the first place.
     row: u32,
+    // The column of that MCU.
     column: u32,
-    // In this MCU the component, and the row and the column of the block.
+    // The index of the place's component among the parts.
     part: u8,
+    // The row of its block in the MCU.
     down: u8,
+    // The column of its block in the MCU.
     across: u8,
 }
 

@@ -8,15 +8,19 @@ ghost use Rattle.jpg_huff.specs.Index.{IsIndexed, IsEncoder};
 /// (T.81, Annex C).
 #[derive(Drop)]
 pub struct Table {
+    // BITS: by length, from 1 on, how many codes there are.
     pub(crate) counts: [u8; 16],
-    // those after the last code are 0
+    // HUFFVAL: the symbols in the order of their codes, and then zeros.
     pub(crate) symbols: [u8; 256],
+    // How many codes there are.
     pub(crate) total: u16,
-    // by length, from 1 on: the first number, the symbols of shorter codes, and the limit
+    // By length, the number of the first code.
     pub(crate) firsts: [u32; 16],
+    // By length, how many codes are shorter.
     pub(crate) starts: [u16; 16],
+    // By length, the limit of the numbers that begin a code of that length or of a longer one (`find_limits`).
     pub(crate) limits: [u32; 16],
-    // by symbol: 65536 times the length of its first code, plus that code's number
+    // By symbol, 65536 times the length of its first code, plus that code's number.
     pub(crate) encoder: [u32; 256],
     pub ghost indexed: { IsIndexed counts (length symbols) firsts starts limits },
     pub ghost summed: { total ≡ sum counts },

@@ -20,11 +20,13 @@ use std::vec::Vec;
 pub(crate) struct Part {
     // Its index in the frame.
     component: u8,
-    // The sides of its plane in samples.
+    // Samples of a row of its plane.
     wide: u32,
+    // Rows of its plane.
     high: u32,
-    // The ratio of the greatest factors to its own.
+    // The ratio of the greatest horizontal factor to its own.
     across: u8,
+    // The ratio of the greatest vertical factor to its own.
     down: u8,
     // Rows are smoothed where they are upsampled.
     smooth: bool,
