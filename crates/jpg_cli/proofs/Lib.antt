@@ -1,4 +1,4 @@
-pub mod Asked
+pub mod WordsAsked
 pub mod Messages
 pub mod Outcomes
 pub mod Pieces

@@ -1,6 +1,6 @@
 use Rattle.std.proofs.Common.{◌∙◌, ap, sym, string_bytes}
 use Rattle.jpg_spec_words.specs.Words.{is_tool}
-use Rattle.jpg_cli.proofs.Asked.Naming.{named_command}
+use Rattle.jpg_cli.proofs.WordsAsked.Naming.{named_command}
 use Rattle.jpg_cli.proofs.words.read_words.Goals as goal
 
 pub returns-in-Some-clause-asked : goal.returns-in-Some-clause-asked

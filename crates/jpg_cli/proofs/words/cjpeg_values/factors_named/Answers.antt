@@ -1,6 +1,6 @@
 use Rattle.std.proofs.Common.{◌≡◌, ◌<◌, length, arith}
 use Rattle.std.proofs.lemmas.Bool.Decides.{nat_tests}
-use Rattle.jpg_cli.proofs.Asked.FactorsNamed.{all_pairs, ended_there, goes_on}
+use Rattle.jpg_cli.proofs.WordsAsked.FactorsNamed.{all_pairs, ended_there, goes_on}
 use Rattle.jpg_cli.proofs.words.cjpeg_values.factors_named.Goals as goal
 
 pub returns-in_default-split_first-clause-value : goal.returns-in_default-split_first-clause-value

@@ -1,5 +1,5 @@
 use Rattle.std.proofs.Common.{sym}
-use Rattle.jpg_cli.proofs.Asked.FactorsNamed.{no_pair}
+use Rattle.jpg_cli.proofs.WordsAsked.FactorsNamed.{no_pair}
 use Rattle.jpg_cli.proofs.words.cjpeg_values.first_pair.Goals as goal
 
 pub returns-then-not-are_factors : goal.returns-then-not-are_factors

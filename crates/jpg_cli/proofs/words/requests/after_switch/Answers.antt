@@ -3,7 +3,7 @@ use Rattle.std.proofs.lemmas.List.{length-map}
 use Rattle.jpg_spec_words.specs.Requests.{then_asks}
 use Rattle.jpg_cli.specs.Words.Requests.{asked_from, word_at}
 use Rattle.jpg_cli.specs.Words.Switches.{switch_view}
-use Rattle.jpg_cli.proofs.Asked.Asking.{flag_at, same_purpose, setting_at}
+use Rattle.jpg_cli.proofs.WordsAsked.Asking.{flag_at, same_purpose, setting_at}
 use Rattle.jpg_cli.proofs.words.requests.after_switch.Goals as goal
 
 pub returns-in-Ok-clause-told : goal.returns-in-Ok-clause-told

@@ -1,5 +1,5 @@
 use Rattle.std.proofs.Common.{arith}
-use Rattle.jpg_cli.proofs.Asked.Matching.{none_left}
+use Rattle.jpg_cli.proofs.WordsAsked.Matching.{none_left}
 use Rattle.jpg_cli.proofs.words.switches.begins.Goals as goal
 
 pub returns-in_default : goal.returns-in_default

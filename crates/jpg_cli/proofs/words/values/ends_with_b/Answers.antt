@@ -1,6 +1,6 @@
 use Rattle.std.proofs.Common.{◌==◌, sym, ap, ◌∙◌}
 use Rattle.jpg_spec_words.specs.Requests.{ends_with_b}
-use Rattle.jpg_cli.proofs.Asked.RestartNamed.{ends_at}
+use Rattle.jpg_cli.proofs.WordsAsked.RestartNamed.{ends_at}
 use Rattle.jpg_cli.proofs.words.values.ends_with_b.Goals as goal
 
 pub returns-in-Some : goal.returns-in-Some

@@ -2,7 +2,7 @@ use Rattle.std.proofs.Common.{◌≡◌, ◌==◌, true, false, sym, ap, ◌∙�
 use Rattle.std.proofs.lemmas.Bool.Decides.{nat_tests}
 use Rattle.jpg_spec_words.specs.Switches.{lower}
 use Rattle.jpg_spec_words.specs.Requests.{without_b}
-use Rattle.jpg_cli.proofs.Asked.RestartNamed.{no_b, with_b}
+use Rattle.jpg_cli.proofs.WordsAsked.RestartNamed.{no_b, with_b}
 use Rattle.jpg_cli.proofs.words.values.without_b.Goals as goal
 
 pub returns-then-lower-eq98 : goal.returns-then-lower-eq98
