@@ -17,7 +17,7 @@ pub struct TargaEnd {
     info: Option<ImageInfo>,
     // How many rows were taken.
     taken: u32,
-    // The image is complete.
+    // `finish` was called.
     done: bool,
     // Memory for one row.
     line: Vec<u8>,

@@ -33,7 +33,7 @@ pub struct Reader {
     limits: Limits,
     // The state of the file.
     work: StripWork,
-    // The file is complete.
+    // The file is complete, or ended early.
     done: bool,
     // Why the reader stopped, if it did.
     stop: Option<Stop>,
