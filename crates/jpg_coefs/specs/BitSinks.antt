@@ -68,7 +68,7 @@ PutsUpTo s0 o0 all rest (Err f) o1 s1 = (piece : List Bool) × (more : List Bool
 abbrev pub PutsRestart : ℕ → DeskState → Waiting → Result (Unit {0}) WriteFault → Waiting → DeskState → Type 0
 PutsRestart turn s1 o1 result o2 s2 = (s0 : DeskState) (o0 : Waiting) (bits : List Bool) → o0.bits ≡ [] → Puts s0 o0 bits (Ok tt) o1 s1 → Sends s0 o0 (data_of bits ++ 255 ∷ (0xd0 + turn) ∷ []) result o2 s2
 
--- the same, or no marker after the last interval
+-- an interval's bits are padded, and a restart marker is written after them, none after the last interval
 abbrev pub PutsEnd : Option ℕ → DeskState → Waiting → Result (Unit {0}) WriteFault → Waiting → DeskState → Type 0
 PutsEnd (Some marker) s1 o1 result o2 s2 = PutsRestart marker s1 o1 result o2 s2
 PutsEnd None s1 o1 result o2 s2 = Pads s1 o1 result o2 s2

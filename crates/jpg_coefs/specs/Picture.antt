@@ -40,7 +40,7 @@ map_of p i x y = if is_padded p.frame i x y then block_in p i x y else zeros 64
 abbrev pub with_block : Picture → ℕ → ℕ → ℕ → List ℤ → Picture
 with_block p i x y block = record p { blocks = slice_set p.blocks (block_index p.frame i x y) block }
 
--- the same at a place of a scan
+-- with this block at a place of a scan
 abbrev pub put_at : Picture → Place → List ℤ → Picture
 put_at q p block = with_block q p.component p.x p.y block
 

@@ -45,7 +45,7 @@ pub record IsImagePlane (p : ImagePlane) : Type 0 where
 abbrev pub narrow_plane : ImagePlane → ℕ → ℕ → ℕ
 narrow_plane p x y = downsampled p.ratio.across p.ratio.down (plane_of p.info.now p.samples.now p.component) x y
 
--- the same, where the last row made from the image is repeated
+-- its plane, downsampled, where the last row made from the image is repeated
 abbrev pub lower_row : ImagePlane → ℕ → ℕ → ℕ → ℕ
 lower_row p made x y = narrow_plane p x (min y (made - 1))
 

@@ -45,7 +45,7 @@ abbrev pub PutsInto : DeskState → List ℕ → List Bool → List Bool → Res
 PutsInto s0 old held bits (Ok left) new s1 = Puts s0 (waiting old held) bits (Ok tt) (waiting new left) s1
 PutsInto s0 old held bits (Err fault) new s1 = Puts s0 (waiting old held) bits (Err fault) (waiting new []) s1
 
--- The same, where the bytes wait in a buffer without bits.
+-- The bits are appended to those that the caller has, after the bytes of a buffer that has no bits.
 abbrev pub PutsAfter : DeskState → Waiting → List Bool → List Bool → Result (List Bool) WriteFault → Waiting → DeskState → Type 0
 PutsAfter s0 old held bits result new s1 = PutsInto s0 old.bytes held bits result new.bytes s1
 

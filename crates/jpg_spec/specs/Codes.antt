@@ -28,7 +28,7 @@ abbrev pub AreCodes : ℕ → ℕ → List ℕ → Type 0
 AreCodes length c [] = Unit {0}
 AreCodes length c (count ∷ counts) = (c + count < 2 ^ length) × AreCodes (length + 1) (2 * (c + count)) counts
 
--- the same as a test
+-- whether each code fits its length and none is all ones
 unfoldable pub are_codes : ℕ → ℕ → List ℕ → Bool
 are_codes length c [] = true
 are_codes length c (count ∷ counts) = nat_lt (c + count) (2 ^ length) && are_codes (length + 1) (2 * (c + count)) counts

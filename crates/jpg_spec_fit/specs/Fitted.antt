@@ -82,7 +82,7 @@ longest_moved (suc zero) shorter = shorter
 longest_moved (suc (suc n)) [] = []
 longest_moved (suc (suc n)) (m ∷ shorter) = longest_moved n (code_split (m + 1) shorter)
 
--- the same for as many sizes, the longest first
+-- The codes of as many sizes become shorter, the longest first.
 abbrev pub limited : ℕ → List ℕ → List ℕ
 limited zero counts = counts
 limited (suc more) [] = []

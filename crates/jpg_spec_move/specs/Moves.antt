@@ -29,7 +29,7 @@ flip_h M = record M {
       if nat_lt x whole then mirrored (M.blocks i (whole - 1 - x) y) else M.blocks i x y;
 }
 
--- The same for rows.
+-- Rows of complete iMCUs are exchanged and mirrored. The others remain.
 abbrev pub flip_v : Meaning → Meaning
 flip_v M = record M {
   blocks = λ i x y.

@@ -25,7 +25,7 @@ pub record FilesAsked : Type 0 where
   pub input : FileName
   pub output : FileName
 
--- the same with this input, and with this output
+-- the files with this input, and with this output
 abbrev pub with_input : List ℕ → FilesAsked → FilesAsked
 with_input name files = record { input = named name; output = files.output }
 

@@ -48,6 +48,6 @@ copied copying.All kept = kept
 abbrev pub headed_by : Copying → Meaning → Meaning
 headed_by copying M = record M { process = sequential_process M; kept = headed_kept (colour_of M) (jfif_of M.kept) (copied copying M.kept) }
 
--- the same, where only the comments are passed on
+-- a picture with the header of a sequential file, where only the comments are passed on
 abbrev pub headed : Meaning → Meaning
 headed M = headed_by copying.Comments M

@@ -43,7 +43,7 @@ pub record IsSequentialText (limits : Limits) (H : Meaning) (bytes : List ℕ) :
   pub written : HasSequentialScript limits H bytes
   pub small : IsRestart written.restart
 
--- the same in the script of one scan, or of one for each component
+-- the text of a file in the script of one scan, or of one for each component
 pub record IsOwnText (limits : Limits) (H : Meaning) (bytes : List ℕ) : Type 0 where
   pub huffman : Huffman
   pub restart : Restart

@@ -16,7 +16,7 @@ comment_view (from.File name) = from_file name
 abbrev pub write_words_view : WriteWords → WriteAsked
 write_words_view words = record { files = files_view words.files; comment = comment_view words.comment; replace = words.replace }
 
--- the same by the words so far
+-- what the words so far ask for
 abbrev pub comment_said : CommentSaid → CommentSource
 comment_said said.Input = from_input
 comment_said (said.Given text) = from_words text.now

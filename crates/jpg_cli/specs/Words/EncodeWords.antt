@@ -35,7 +35,7 @@ encode_view w = record {
   tables = w.tables;
 }
 
--- the same by the words so far; quality and factors are those of these texts
+-- what the words so far ask for; quality and factors are those of these texts
 abbrev pub quality_said : Option (List ℕ) → Option ℕ
 quality_said text = option_and_then quality_named text
 

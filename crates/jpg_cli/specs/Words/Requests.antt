@@ -13,7 +13,7 @@ abbrev pub AnswersWords : {X Y : Type 0} → (X → Y) → ParsedWords Y → Res
 AnswersWords told asked (Ok x) = asked ≡ words_right (told x)
 AnswersWords told asked (Err usage) = asked ≡ words_wrong usage
 
--- The same, where NoMemory is possible for words that are right.
+-- What the words ask for, NoMemory if they are right, or what is wrong with them.
 abbrev pub IsAnswer : {X Y : Type 0} → (X → Y) → ParsedWords Y → Result X WordsStop → Type 0
 IsAnswer told asked (Ok x) = asked ≡ words_right (told x)
 IsAnswer told asked (Err (stop.Usage usage)) = asked ≡ words_wrong usage

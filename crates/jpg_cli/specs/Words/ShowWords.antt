@@ -8,7 +8,7 @@ use Rattle.jpg_cli.specs.declared.words.djpeg_request.ShowWords.{ShowWords}
 abbrev pub show_view : ShowWords → ShowAsked
 show_view w = record { files = files_view w.files; kind = w.kind; kind_word = w.kind_word; gray = w.gray; smooth = w.smooth; preview = w.preview }
 
--- the same by the words so far
+-- what the words so far ask for
 abbrev pub show_said : ShowSaid → ShowAsked
 show_said s = record {
   files = files_said s.files;

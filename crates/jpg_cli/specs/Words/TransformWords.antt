@@ -31,7 +31,7 @@ transform_view w = record {
   restart = restart_of w.restart;
 }
 
--- the same by the words so far
+-- what the words so far ask for
 abbrev pub script_said : ScriptSaid → ScansSource
 script_said said.Sequential = own_sequential
 script_said said.Standard = own_progressive

@@ -42,7 +42,7 @@ abbrev pub IsFirstHeaderOf : Limits → List ℕ → Option Head → Type 0
 IsFirstHeaderOf limits bytes None = HasNoHead limits bytes
 IsFirstHeaderOf limits bytes (Some h) = IsFirstHeader limits bytes h
 
--- the same, after these segments
+-- After these segments it is the first scan header of these bytes, if one was among them.
 abbrev pub HasHead : Limits → List ℕ → List Segment → Option Head → Type 0
 HasHead limits bytes before None = has_scan before ≡ false
 HasHead limits bytes before (Some h) = IsFirstHeader limits bytes h

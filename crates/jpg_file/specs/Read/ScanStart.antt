@@ -54,7 +54,7 @@ abbrev pub IsAtFirstByte : Frame → ScanHead → TableSet → ℕ → Picture �
 IsAtFirstByte f head set interval now s =
     (limits : Limits) (items : List Item) (blocks : Blocks) (contents bytes : List ℕ) → Begins limits items blocks contents bytes f head set interval now → InData limits items contents bytes s now
 
--- the same in a place, whatever picture there is
+-- in a place, the scan before its first byte, for each such header and each picture
 abbrev pub IsBegun : Frame → ScanHead → TableSet → ℕ → Option InScan → Type 0
 IsBegun f head set interval place =
     (s : InScan) × (place ≡ Some s) × (s.gate ≡ false) × (scan_left s.work ≡ length (units f (head_components head))) × ((now : Picture) → HasSizes now → IsAtFirstByte f head set interval now s)

@@ -34,7 +34,8 @@ pub fn read_rows(work: &mut StripWork, limits: Limits, piece: &[u8]) -> Result<F
     }
 }
 
-// Takes the bytes of a piece in the same way, where no bits wait.
+// Takes the bytes of a piece up to the last bit of the next MCU row, or to the one that completes the file, where no bits
+// wait.
 fn read_on(work: &mut StripWork, limits: Limits, piece: &[u8]) -> Result<FedRow, Stop>
     requires limits { AreLimits limits }
     requires open { (bytes : List ℕ) × RowsGo limits bytes work.old.rows work.old.file }

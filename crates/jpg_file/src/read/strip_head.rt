@@ -28,7 +28,7 @@ pub struct StripHead {
 }
 
 impl StripHead {
-    /// That of a picture.
+    /// What a picture has except for its blocks.
     pub fn of(picture: &Picture) -> StripHead
         ensures head { IsStripHead result }
         ensures frame { result.frame ≡ picture.now.frame }
@@ -60,7 +60,7 @@ impl StripHead {
     }
 }
 
-/// That of the picture whose first scan begins, after the scan's header.
+/// What the picture whose first scan begins has except for its blocks, after the scan's header.
 pub fn strip_of(file: &FileWork) -> StripHead
     requires { (limits : Bounds) × (before : List Segment) × HoldsScan limits before file.now }
     ensures { TellsScan file.now result }
