@@ -1,5 +1,4 @@
-//! The units of a band, read bit by bit: first passes (T.81, G.1.2.2, Figure G.3) and refinements (G.1.2.3, Figure
-//! G.7).
+//! The units of a band, bit by bit: first passes (T.81, G.1.2.2, Figure G.3), refinements (G.1.2.3, Figure G.7).
 ghost use Rattle.std.specs.Prelude.{◌≡◌, ◌<◌, ◌≤◌, ◌+◌, ◌-◌, pos, true, false, [], ◌∷◌, ◌++◌, length, take, drop, slice_index_or, ℕ, Bool, List};
 ghost use Rattle.jpg_spec.specs.Bits.{bits_of};
 ghost use Rattle.jpg_spec.specs.Codes.{Code};
@@ -102,7 +101,6 @@ impl Model for BandReader {
 }
 
 impl BandReader {
-    // Takes a bit of a code.
     fn walk_bit(&mut self, codes: &Codes, bit: bool) -> WalkStep
         ensures answers { WalkAnswers codes.now (self.old.walked ++ bit ∷ []) result self.new.walked }
         ensures same { self.new ≡ record (self.old) { walked = self.new.walked } }
@@ -149,7 +147,6 @@ impl BandReader {
         if zeros < left { zeros } else { left }
     }
 
-    // Skips zeros.
     #[inline(always)]
     fn pass_zeros(&mut self, count: u8)
         requires some { count ≤ length self.old.rest }
@@ -163,7 +160,6 @@ impl BandReader {
         self.run -= count;
     }
 
-    // Whether values are left.
     #[inline(always)]
     fn is_left(&self) -> bool
         ensures left { result ≡ true → 1 ≤ length self.now.rest }
@@ -279,7 +275,6 @@ impl BandReader {
         }
     }
 
-    // Whether values are left.
     #[inline(always)]
     fn covered(&self) -> BandStep
         ensures { AfterValue result self.now }
@@ -472,7 +467,6 @@ impl BandReader {
         self.advance(scan)
     }
 
-    // Takes a bit of a value's number.
     fn number_bit(&mut self, scan: &BandScan, bit: bool) -> BandStep
         requires sane { IsSaneBand scan.now }
         requires open { IsOpenBand scan.now self.old }
