@@ -12,6 +12,7 @@ use Rattle.jpg_pnm_bmp.specs.Bmp.{file_words, image_words, colour_words}
 use Rattle.jpg_pnm_bmp.specs.EndState.{EndState, info_given, with_row, with_part, is_last, next_part}
 use Rattle.jpg_pnm_bmp.specs.Ends.{rows_of}
 use Rattle.jpg_pnm_bmp.proofs.HeldRows.{length_rows, rows_more, row_at}
+use Rattle.jpg_spec.proofs.Basics.Common.{not_lt_of}
 
 -- the state of an image writer with these fields
 abbrev pub state_of : Option ImageInfo → ℕ → ℕ → List ℕ → EndState
@@ -27,10 +28,6 @@ row_held info taken parts bytes row whole long none =
     let done : nat_lt (taken + 1) parts ≡ nat_lt taken parts = grind (arith, nat_tests) in
     let with_held : List (List ℕ) → Bool → EndState = λ rows last. record { kind = Bmp; info = info; taken = taken + 1; held = rows; parts = parts; done = last } in
     ap (λ rows. with_held rows (nat_lt (taken + 1) parts)) held ∙ ap (λ last. with_held (rows_of taken long_row bytes ++ row ∷ []) last) done
-
--- while it is not done, no more than the header and all rows except one were appended
-pub not_done : (taken parts : ℕ) → nat_lt taken parts ≡ false → parts ≤ taken
-not_done taken parts e = grind (arith, nat_tests)
 
 -- a header and all rows are pending
 parts_length : (info : ImageInfo) (taken : ℕ) (bytes : List ℕ) → length (rest Bmp info (rows_of taken (row_bytes info) bytes)) ≡ taken + 1
@@ -74,7 +71,7 @@ row_is_next of info taken parts long bytes slice is so_long same some before =
     ap (λ n. bmp_row info (take n (drop (at * long) slice))) cut
     ∙ ap (λ n. bmp_row info (take n (drop (at * n) slice))) so_long
     ∙ ap (λ bs. bmp_row info (take (row_bytes info) (drop (at * row_bytes info) bs))) same
-    ∙ row_is_due info taken parts bytes (omega (arith, some)) (not_done taken parts before)
+    ∙ row_is_due info taken parts bytes (omega (arith, some)) (not_lt_of taken parts before)
     ∙ ap (λ o. get_or (rest Bmp (info_given o) (rows_of taken (row_bytes (info_given o)) bytes)) parts []) (sym is)
 
 -- the words of a header and its palette

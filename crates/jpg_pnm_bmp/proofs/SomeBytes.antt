@@ -10,8 +10,9 @@ use Rattle.jpg_spec_image.specs.declared.image.ImageKind.TheVariants.{Gray, Rgb}
 use Rattle.jpg_spec_image.specs.declared.image.ImageInfo.{ImageInfo}
 use Rattle.jpg_pnm_bmp.specs.EndState.{next_part, info_given}
 use Rattle.jpg_pnm_bmp.specs.Ends.{rows_of}
-use Rattle.jpg_pnm_bmp.proofs.BmpParts.{not_done, row_part, state_of}
+use Rattle.jpg_pnm_bmp.proofs.BmpParts.{row_part, state_of}
 use Rattle.jpg_pnm_bmp.proofs.HeldRows.{row_at, row_long}
+use Rattle.jpg_spec.proofs.Basics.Common.{not_lt_of}
 
 -- after some bytes
 more_after : (xs ys : List ℕ) → 0 < length xs → 0 < length (xs ++ ys)
@@ -85,5 +86,5 @@ pub part_some : (of : Option ImageInfo) (taken parts : ℕ) (bytes : List ℕ) �
     → 0 < length (next_part (state_of of taken parts bytes))
 part_some of taken zero bytes whole few wide before = bmp_header_some (info_given of)
 part_some of taken (suc part) bytes whole few wide before =
-    let most : suc part ≤ taken = not_done taken (suc part) before in
+    let most : suc part ≤ taken = not_lt_of taken (suc part) before in
     row_due (info_given of) taken part bytes (omega (arith, most)) whole (take_in_row (info_given of) (omega (arith, most, few)) wide)

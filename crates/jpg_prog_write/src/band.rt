@@ -10,7 +10,7 @@ use crate::numbers::{divided, kept_value};
 use jpg_base::Block;
 
 /// The band of a scan.
-#[derive(Clone, Copy, Debug, PartialEq, Eq)]
+#[derive(Clone, Copy)]
 pub(crate) struct Band {
     // Its first place.
     pub(crate) start: u8,
@@ -24,7 +24,7 @@ pub(crate) struct Band {
 
 /// What a scan codes for one coefficient: a correction bit (T.81, G.1.2.3), or a value that is newly sent, or remains
 /// 0.
-#[derive(Clone, Copy, Debug, PartialEq, Eq)]
+#[derive(Clone, Copy)]
 pub(crate) enum Sending {
     Correction(bool),
     NewlySignificant(i32),

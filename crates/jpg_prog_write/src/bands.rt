@@ -42,14 +42,14 @@ pub(crate) struct Bands {
 }
 
 // The result of a value: a longer run of zeros, or a complete element.
-#[derive(Clone, Copy, Debug, PartialEq, Eq)]
+#[derive(Clone, Copy)]
 pub(crate) enum Step {
     Goes(u8),
     Gives(Item),
 }
 
 // An element, and the place after it.
-#[derive(Clone, Copy, Debug, PartialEq, Eq)]
+#[derive(Clone, Copy)]
 pub(crate) struct Whole {
     pub(crate) item: Item,
     pub(crate) at: u8,

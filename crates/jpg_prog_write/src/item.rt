@@ -7,7 +7,7 @@ ghost use Rattle.jpg_prog_write.specs.Items.{IsItem};
 use jpg_huff::{category, extra_bits};
 
 /// A symbol, whose code is first, and a number below `2^size` as `size` bits after it.
-#[derive(Clone, Copy, Debug, PartialEq, Eq)]
+#[derive(Clone, Copy)]
 pub(crate) struct Item {
     pub(crate) symbol: u8,
     pub(crate) extra: u32,

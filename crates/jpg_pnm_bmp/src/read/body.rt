@@ -8,7 +8,7 @@ ghost use Rattle.jpg_pnm_bmp.specs.declared.read.numbers.Numbers.TheVariants as 
 use crate::read::numbers::{Numbers, sample_count};
 
 // How the samples of an image are laid out in its file.
-#[derive(Clone, Copy, Debug, PartialEq, Eq)]
+#[derive(Clone, Copy)]
 pub struct Shape {
     // Bytes in all.
     pub count: u64,

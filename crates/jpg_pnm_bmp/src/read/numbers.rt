@@ -11,7 +11,7 @@ use jpg_spec::Fault;
 use jpg_spec_image::{ImageInfo, ImageKind};
 
 // None, the width, both sides, or also the greatest sample.
-#[derive(Clone, Copy, Debug, PartialEq, Eq)]
+#[derive(Clone, Copy)]
 pub enum Numbers {
     Nothing,
     Width(u16),

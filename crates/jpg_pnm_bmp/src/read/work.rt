@@ -20,7 +20,7 @@ use jpg_spec_image::ImageInfo;
 use std::alloc::Global;
 
 // The state after the bytes so far: see ImageState of the definitions.
-#[derive(Clone, Copy, Debug, PartialEq, Eq)]
+#[derive(Clone, Copy)]
 pub enum Stage {
     Start,
     First(u8),
@@ -33,7 +33,7 @@ pub enum Stage {
 }
 
 // The result of a byte, or of some bytes.
-#[derive(Clone, Copy, Debug, PartialEq, Eq)]
+#[derive(Clone, Copy)]
 pub enum Answer {
     More,
     Whole,
@@ -42,7 +42,7 @@ pub enum Answer {
 }
 
 // How many bytes were taken, and their result.
-#[derive(Clone, Copy, Debug, PartialEq, Eq)]
+#[derive(Clone, Copy)]
 pub struct Moved {
     pub used: usize,
     pub answer: Answer,

@@ -11,7 +11,7 @@ use jpg_spec::Fault;
 use std::alloc::Global;
 
 // The state after the bytes so far: see TargaState of the definitions.
-#[derive(Clone, Copy, Debug, PartialEq, Eq)]
+#[derive(Clone, Copy)]
 pub enum Stage {
     Head(usize),
     Identifier(u8),
@@ -21,7 +21,7 @@ pub enum Stage {
 }
 
 // The result of a byte, or of some bytes.
-#[derive(Clone, Copy, Debug, PartialEq, Eq)]
+#[derive(Clone, Copy)]
 pub enum Answer {
     More,
     Whole,
@@ -30,7 +30,7 @@ pub enum Answer {
 }
 
 // How many bytes were taken, and their result.
-#[derive(Clone, Copy, Debug, PartialEq, Eq)]
+#[derive(Clone, Copy)]
 pub struct Moved {
     pub used: usize,
     pub answer: Answer,
