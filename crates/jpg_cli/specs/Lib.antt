@@ -4,6 +4,7 @@ pub mod Copies
 pub mod Desk
 pub mod Due
 pub mod Endings
+pub mod Ends
 pub mod KeepingLaws
 pub mod Laws
 pub mod Outcome

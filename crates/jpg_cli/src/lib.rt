@@ -2,7 +2,11 @@
 #![tactic(auto)]
 
 mod desk;
+<<<<<<< HEAD
 mod help;
+=======
+mod ending;
+>>>>>>> 041c340b (wip: outputs stored, private and whole)
 mod laws;
 mod message;
 mod program;
@@ -12,6 +16,7 @@ mod words;
 
 pub use desk::moved::{Wrote, write_moved};
 pub use desk::picture::Wanted;
+pub use ending::{Ending, incomplete_outputs_are_removed};
 pub use laws::{
     answers_are_due, encodings_are_due, faults_are_answered,
     files_with_a_frame_header_have_the_comment_inserted, fronts_are_shown,
