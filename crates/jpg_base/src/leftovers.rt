@@ -39,7 +39,9 @@ fn remove_named<R: RealFiles>(rt: &R, folder: &str, names: &[u8]) {
 // Whether a name is that of a file beside a place.
 fn is_ours(name: &[u8]) -> bool {
     match name.strip_prefix(b".jpgsuite-") {
-        Some(rest) => rest.iter().all(|byte| *byte == b'-' || byte.is_ascii_digit()),
+        Some(rest) => rest
+            .iter()
+            .all(|byte| *byte == b'-' || byte.is_ascii_digit()),
         None => false,
     }
 }
@@ -56,7 +58,10 @@ fn remove_leftover<R: RealFiles>(rt: &R, folder: &str, name: &str) {
     if !found.is_file() {
         return;
     }
-    let opened = OpenOptions::new().read(true).write(true).open(rt, path.as_str());
+    let opened = OpenOptions::new()
+        .read(true)
+        .write(true)
+        .open(rt, path.as_str());
     let Ok(file) = opened else {
         return;
     };

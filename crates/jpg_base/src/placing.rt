@@ -1,11 +1,13 @@
 //! How a complete file beside its place gets there. Contracts don't see what the file system holds.
+ghost use Rattle.std.specs.Prelude.{◌≤◌};
+
+use crate::Put;
 use crate::beside::{Beside, PathText, Way};
 use crate::system::{Identity, RealFiles};
-use crate::{Put, standard};
 use arrayvec::ArrayString;
 use std::fs;
 use std::fs::{OpenFile, OpenOptions};
-use std::io::{Error, ErrorKind, Read, Seek, SeekFrom};
+use std::io::{Error, ErrorKind, Read, Seek, SeekFrom, Write};
 
 /// What is left beside a place, because it can't be removed, or because the place has a part of it.
 #[derive(Clone, Copy)]
@@ -170,7 +172,10 @@ fn whole_removed<R: RealFiles>(rt: &R, beside: &Beside, left: Left, put: Put) ->
 
 // The file at the place, if it is still the one that was found there.
 fn opened<R: RealFiles>(rt: &R, beside: &Beside, old: Identity) -> Option<R::File> {
-    let file = OpenOptions::new().write(true).open(rt, beside.place.as_str()).ok()?;
+    let file = OpenOptions::new()
+        .write(true)
+        .open(rt, beside.place.as_str())
+        .ok()?;
     let found = file.metadata().ok()?;
     if found.is_file() && Identity::of(&found).is_same(old) {
         Some(file)
@@ -209,45 +214,59 @@ enum Copied {
     Partly,
 }
 
-// Copies first what makes the other file longer, which is undone if there is no room for it.
-fn copy_parts<F: Read + std::io::Write + Seek + OpenFile + Drop>(file: F, to: F) -> Copied {
+// Copies first what makes the other file longer, which is undone if there is no room for it, or if no more can be copied.
+fn copy_parts<F: Read + Write + Seek + OpenFile + Drop>(file: F, to: F) -> Copied {
     let (mut from, mut to) = (file, to);
     let (new, old) = match (from.metadata(), to.metadata()) {
         (Ok(new), Ok(old)) => (new.len(), old.len()),
         _ => return Copied::Nothing,
     };
-    if new > old && !(copy_part(&mut from, &mut to, old, new - old) && to.sync_all().is_ok()) {
-        return if to.set_len(old).is_ok() {
-            Copied::Nothing
-        } else {
-            Copied::Partly
-        };
+    let more = new.saturating_sub(old);
+    if copy_part(&mut from, &mut to, old, more) < more || more > 0 && to.sync_all().is_err() {
+        return undone(&to, old);
     }
-    let is_copied = copy_part(&mut from, &mut to, 0, new.min(old));
-    if is_copied && to.set_len(new).is_ok() && to.sync_all().is_ok() {
+    let copied = copy_part(&mut from, &mut to, 0, new - more);
+    if copied == 0 && copied < new - more {
+        return undone(&to, old);
+    }
+    if copied == new - more && to.set_len(new).is_ok() && to.sync_all().is_ok() {
         Copied::All
     } else {
         Copied::Partly
     }
 }
 
-// Copies this many bytes from a place on; whether that is done.
-fn copy_part<F: Read + std::io::Write + Seek>(from: &mut F, to: &mut F, at: u64, count: u64) -> bool {
-    if from.seek(SeekFrom::Start(at)).is_err() || to.seek(SeekFrom::Start(at)).is_err() {
-        return false;
+// Takes from a file what was added to it, after which it is as it was.
+fn undone<F: OpenFile>(file: &F, old: u64) -> Copied {
+    match file.set_len(old) {
+        Ok(()) => Copied::Nothing,
+        Err(_) => Copied::Partly,
+    }
+}
+
+// Copies this many bytes from a place on; how many were copied.
+fn copy_part<F: Read + Write + Seek>(from: &mut F, to: &mut F, at: u64, count: u64) -> u64
+    ensures { result ≤ count }
+{
+    if to.seek(SeekFrom::Start(at)).is_err() {
+        return 0;
     }
     let mut buffer = [0u8; 8192];
-    let mut left = count;
-    while left > 0 {
-        let most = left.min(8192) as usize;
-        match from.read(&mut buffer[..most]) {
-            Ok(0) => return false,
-            Ok(n) => match standard::write_whole(to, &buffer[..n]) {
-                Put::Done => left -= n as u64,
-                Put::Failed => return false,
-            },
-            Err(_) => return false,
+    let mut done = 0;
+    while done < count {
+        let most = (count - done).min(8192) as usize;
+        let place = SeekFrom::Start(at.saturating_add(done));
+        if from.seek(place).is_err() {
+            return done;
+        }
+        let Ok(read) = from.read(&mut buffer[..most]) else {
+            return done;
+        };
+        match to.write(&buffer[..read]) {
+            Ok(0) => return done,
+            Ok(written) => done += written as u64,
+            Err(_) => return done,
         }
     }
-    true
+    done
 }

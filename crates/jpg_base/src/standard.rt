@@ -212,7 +212,10 @@ impl<R: RealFiles> StdDesk<R> {
 // Where a file beside its place would get to.
 fn placed_output<R: RealFiles>(rt: &R, beside: &Beside, input: Option<Identity>) -> Output {
     let (is_there, old) = match beside.way {
-        Way::New => (fs::symlink_metadata(rt, beside.place.as_str()).is_ok(), None),
+        Way::New => (
+            fs::symlink_metadata(rt, beside.place.as_str()).is_ok(),
+            None,
+        ),
         Way::Replaces(old) => (true, Some(old)),
         Way::IsCopied(old) => (true, Some(old)),
     };
@@ -323,7 +326,7 @@ fn read_some<T: Read>(reader: &mut T, buf: &mut [u8]) -> Got
 }
 
 // Writes all the bytes, in as many writes as it takes. A write of no bytes is a failure.
-pub fn write_whole<W: Write>(writer: &mut W, piece: &[u8]) -> Put
+fn write_whole<W: Write>(writer: &mut W, piece: &[u8]) -> Put
     ensures { WritesAll (W.contents writer.old) piece.now result (W.contents writer.new) }
 {
     let mut rest = piece;

@@ -1,9 +1,8 @@
 //! What a desk over real files asks of the system beyond `Runtime`.
-use std::fs;
 use std::fs::{File, Metadata, TryLockError};
 use std::os::unix::fs::{MetadataExt, fchown};
-use std::process;
 use std::rt::Runtime;
+use std::{fs, process};
 
 // The number of the limit of a file's bytes.
 const FILE_BYTES: i32 = 1;

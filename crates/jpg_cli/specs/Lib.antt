@@ -4,10 +4,10 @@ pub mod Copies
 pub mod Desk
 pub mod Due
 pub mod Endings
-pub mod Ends
 pub mod KeepingLaws
 pub mod Laws
 pub mod Outcome
+pub mod OutputEnding
 pub mod Run
 pub mod Stays
 pub mod Tools

@@ -1,9 +1,9 @@
 //! What becomes of an output over real files when a run has ended.
-ghost use Rattle.std.specs.Prelude.{◌≡◌};
+ghost use Rattle.std.specs.Prelude.{◌≡◌, ◌≤◌, length};
 ghost use Rattle.jpg_base.specs.declared.standard.Output.{Output};
 ghost use Rattle.jpg_spec_words.specs.declared.answers.Which.{Which};
 ghost use Rattle.jpg_spec_words.specs.declared.answers.Why.TheVariants as why;
-ghost use Rattle.jpg_cli.specs.Ends.{ending_of};
+ghost use Rattle.jpg_cli.specs.OutputEnding.{ending_of};
 ghost use Rattle.jpg_cli.specs.declared.ending.Ending.TheVariants as ends;
 
 use crate::top::{Ended, tell};
@@ -57,8 +57,7 @@ pub fn incomplete_outputs_are_removed()
     ensures write { (output : Output) → ending_of output why.WriteFault ≡ ends.IsRemoved }
     ensures read { (output : Output) (which : Which) → ending_of output (why.ReadFault which) ≡ ends.IsRemoved }
     ensures memory { (output : Output) → ending_of output why.NoMemory ≡ ends.IsRemoved }
-{
-}
+{}
 
 // Says a text after the name of a command; if that fails, nothing comes of it.
 fn say_after<D: Desk>(tool: &str, text: &str, desk: &mut D) {
@@ -72,7 +71,9 @@ fn say_after<D: Desk>(tool: &str, text: &str, desk: &mut D) {
 
 // Puts a complete output into its place. The exit status; if it can't take its place, that of a failed write, whose message
 // is said.
-fn keep<R: RealFiles>(tool: &str, ended: Ended, desk: &mut StdDesk<R>) -> u8 {
+fn keep<R: RealFiles>(tool: &str, ended: Ended, desk: &mut StdDesk<R>) -> u8
+    requires { length tool.now ≤ 8 }
+{
     match desk.keep() {
         Put::Done => ended.code,
         Put::Failed => {
@@ -83,7 +84,9 @@ fn keep<R: RealFiles>(tool: &str, ended: Ended, desk: &mut StdDesk<R>) -> u8 {
 }
 
 /// Puts the output of a run into its place, or removes it, and says what of it is left; the exit status.
-pub fn end_output<R: RealFiles>(tool: &str, ended: Ended, desk: &mut StdDesk<R>) -> u8 {
+pub fn end_output<R: RealFiles>(tool: &str, ended: Ended, desk: &mut StdDesk<R>) -> u8
+    requires { length tool.now ≤ 8 }
+{
     let code = match ending(desk.output(), ended.why) {
         Ending::TakesPlace => keep(tool, ended, desk),
         Ending::IsRemoved => {

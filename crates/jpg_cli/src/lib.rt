@@ -2,11 +2,8 @@
 #![tactic(auto)]
 
 mod desk;
-<<<<<<< HEAD
-mod help;
-=======
 mod ending;
->>>>>>> 041c340b (wip: outputs stored, private and whole)
+mod help;
 mod laws;
 mod message;
 mod program;
