@@ -1,14 +1,22 @@
 //! A new file beside the one that it replaces. Contracts don't see what the file system holds.
-use crate::Put;
+use crate::leftovers::remove_leftovers;
+use crate::placing::Left;
+use crate::system::{Holder, Identity, RealFiles};
 use arrayvec::ArrayString;
 use std::fmt::Write;
 use std::fs;
-use std::fs::{Files, Metadata, OpenFile, OpenOptions, Permissions};
-use std::io::ErrorKind;
-use std::os::unix::fs::{MetadataExt, OpenOptionsExt, PermissionsExt, lchown};
+use std::fs::{Metadata, OpenFile, OpenOptions, Permissions};
+use std::io::{Error, ErrorKind};
+use std::os::unix::fs::{MetadataExt, OpenOptionsExt, PermissionsExt};
+
+/// A path: the system takes names of at most 4,095 bytes.
+pub type PathText = ArrayString<4200>;
 
 // How many names are tried for a file beside another one.
 const TRIES: u32 = 1000;
+
+// How many symbolic links are followed, as the system does.
+const LINKS: u32 = 40;
 
 // The mode of a new file, less the bits of the process's mask.
 const NEW_MODE: u32 = 0o666;
@@ -16,63 +24,254 @@ const NEW_MODE: u32 = 0o666;
 // The mode of a new file that replaces another, until it has that one's owner, group and mode.
 const OWN_MODE: u32 = 0o600;
 
-// What has a name: nothing, a file that a new one may replace, or anything else.
+// What is at a place: nothing, a file that may be written, or anything else.
 enum There {
     Nothing,
     Plain(Metadata),
     Other,
 }
 
-/// The name of a file beside another one: the other's name, which is a first part of it, and an ending. The system takes
-/// names of at most 4,095 bytes, so there is room for any that it takes. It isn't moved, since it would take that room of
-/// the stack again at each call.
+/// How a complete file beside its place gets there.
+#[derive(Clone, Copy)]
+pub enum Way {
+    /// It takes the name; nothing had it.
+    New,
+    /// It takes the name of the file that was found there.
+    Replaces(Identity),
+    /// It is copied into the file that was found there.
+    IsCopied(Identity),
+}
+
+/// Where an output with a name is written.
+pub enum Made<F> {
+    /// Into this file beside its place.
+    Beside(F),
+    /// At its place, at once.
+    AtOnce,
+    /// Nowhere.
+    Nowhere,
+}
+
+/// The place of an output, and the file beside it, which has the number of the process and one of its own in its name. It
+/// isn't moved, since it would take the room of the path of the stack again at each call.
 #[derive(Drop)]
 pub struct Beside {
-    name: ArrayString<4200>,
-    first: usize,
+    pub place: PathText,
+    pub way: Way,
+    process: u32,
+    number: u32,
 }
 
 impl Beside {
-    /// No name yet.
+    /// No place yet.
     pub fn new() -> Beside {
         Beside {
-            name: ArrayString::new(),
-            first: 0,
+            place: ArrayString::new(),
+            way: Way::New,
+            process: 0,
+            number: 0,
         }
     }
 
-    // Takes the name of this number beside a name; false if that is too long.
-    fn put(&mut self, path: &str, number: u32) -> bool {
-        self.name.clear();
-        self.first = path.len();
-        write!(self.name, "{path}.jpgsuite-{number}").is_ok()
+    /// The folder of the place, with the slash that ends it, or nothing where that is the folder of the call.
+    pub fn folder(&self) -> &str {
+        folder_of(self.place.as_str())
     }
 
-    /// Puts the file into the place of the other one, whose name it takes. If that fails, it is removed.
-    pub fn take_place<R: Files>(&self, files: &R) -> Put {
-        let moved = match self.name.as_str().split_at_checked(self.first) {
-            Some((path, _)) => fs::rename(files, self.name.as_str(), path).is_ok(),
-            None => false,
+    /// Writes the name of the file beside; false if it is too long.
+    pub fn put_name(&self, name: &mut PathText) -> bool {
+        name.clear();
+        let (folder, process, number) = (self.folder(), self.process, self.number);
+        write!(name, "{folder}.jpgsuite-{process}-{number}").is_ok()
+    }
+
+    /// Writes the name that a complete file has while it is copied, which no call removes; false if it is too long.
+    pub fn put_whole_name(&self, name: &mut PathText) -> bool {
+        name.clear();
+        let (folder, process, number) = (self.folder(), self.process, self.number);
+        write!(name, "{folder}jpgsuite-{process}-{number}").is_ok()
+    }
+
+    /// Writes the name of what is left beside; false if there is nothing, or it is too long.
+    pub fn put_left_name(&self, left: Left, name: &mut PathText) -> bool {
+        match left {
+            Left::Nothing => false,
+            Left::Beside => self.put_name(name),
+            Left::Whole => self.put_whole_name(name),
+        }
+    }
+
+    /// Whether the name of the file beside is still that of this file and not free or of another. None if that can't
+    /// be seen.
+    pub fn is_of<R: RealFiles>(&self, rt: &R, file: &Metadata) -> Option<bool> {
+        let mut name = ArrayString::new();
+        if !self.put_name(&mut name) {
+            return None;
+        }
+        match fs::symlink_metadata(rt, name.as_str()) {
+            Ok(found) => Some(Identity::of(&found).is_same(Identity::of(file))),
+            Err(error) => match error.kind() {
+                ErrorKind::NotFound => Some(false),
+                _ => None,
+            },
+        }
+    }
+
+    /// Removes the file beside; whether that is done.
+    pub fn remove<R: RealFiles>(&self, rt: &R) -> bool {
+        let mut name = ArrayString::new();
+        self.put_name(&mut name) && fs::remove_file(rt, name.as_str()).is_ok()
+    }
+
+    // Takes the path that the output is asked for under as its place, with no symbolic link at its end; false if that
+    // can't be.
+    fn find_place<R: RealFiles>(&mut self, rt: &R, path: &str) -> bool {
+        self.place.clear();
+        if path.is_empty() || self.place.try_push_str(path).is_err() {
+            return false;
+        }
+        for _ in 0..LINKS {
+            match fs::symlink_metadata(rt, self.place.as_str()) {
+                Ok(found) if found.is_symlink() => {
+                    if !self.follow(rt) {
+                        return false;
+                    }
+                }
+                _ => return true,
+            }
+        }
+        false
+    }
+
+    // Follows the symbolic link at the end of the path; false if that can't be.
+    fn follow<R: RealFiles>(&mut self, rt: &R) -> bool {
+        let Ok(target) = fs::read_link(rt, self.place.as_str()) else {
+            return false;
         };
-        if moved {
-            return Put::Done;
+        let target = target.as_os_str();
+        let mut next: PathText = ArrayString::new();
+        if !target.starts_with('/') && next.try_push_str(self.folder()).is_err() {
+            return false;
         }
-        self.remove(files);
-        Put::Failed
+        self.place.clear();
+        next.try_push_str(target).is_ok() && self.place.try_push_str(next.as_str()).is_ok()
     }
 
-    /// Removes the file. If that fails, it is left.
-    pub fn remove<R: Files>(&self, files: &R) {
-        match fs::remove_file(files, self.name.as_str()) {
-            Ok(()) => {}
-            Err(_) => {}
+    // A file that wasn't there before, with the next name that is free, which is held. Its mode is this one, less the bits
+    // of the process's mask.
+    fn new_file<R: RealFiles>(&mut self, rt: &R, mode: u32) -> Result<R::File, Error> {
+        let mut options = OpenOptions::new();
+        options.read(true).write(true).create_new(true).mode(mode);
+        self.process = rt.process();
+        let mut name = ArrayString::new();
+        for number in 0..TRIES {
+            self.number = number;
+            if !self.put_name(&mut name) {
+                return Err(Error::from(ErrorKind::InvalidFilename));
+            }
+            match options.open(rt, name.as_str()) {
+                Ok(file) => {
+                    if self.is_held(rt, &file) {
+                        return Ok(file);
+                    }
+                }
+                Err(error) => match error.kind() {
+                    ErrorKind::AlreadyExists => {}
+                    _ => return Err(error),
+                },
+            }
+        }
+        Err(Error::from(ErrorKind::AlreadyExists))
+    }
+
+    // Holds a new file; false if another call took it for a leftover meanwhile.
+    fn is_held<R: RealFiles>(&self, rt: &R, file: &R::File) -> bool {
+        match (R::hold(file), file.metadata()) {
+            (Holder::Another, _) => false,
+            (_, Ok(found)) => self.is_of(rt, &found).unwrap_or(true),
+            (_, Err(_)) => true,
+        }
+    }
+
+    // Gives a new file the owner, the group and the mode of the one that it replaces; whether that is done.
+    fn make_like<R: RealFiles>(file: &R::File, old: &Metadata) -> bool {
+        let new = match file.metadata() {
+            Ok(new) => new,
+            Err(_) => return false,
+        };
+        let is_owned = new.uid() == old.uid() && new.gid() == old.gid();
+        let mode = Permissions::from_mode(kept_mode(old.mode()));
+        (is_owned || R::give(file, old.uid(), old.gid())) && file.set_permissions(mode).is_ok()
+    }
+
+    // The file beside the one that was found at the place.
+    fn beside_old<R: RealFiles>(&mut self, rt: &R, old: &Metadata) -> Result<R::File, Error> {
+        let file = self.new_file(rt, OWN_MODE)?;
+        let found = Identity::of(old);
+        let is_alone = old.nlink() == 1 && !is_for_group(old.mode());
+        self.way = if is_alone && Beside::make_like::<R>(&file, old) {
+            Way::Replaces(found)
+        } else {
+            Way::IsCopied(found)
+        };
+        Ok(file)
+    }
+
+    /// An empty file beside the place of this name, or beside where it would be. A plain file that may be written is
+    /// replaced; what else has the name, and what is in a folder that takes no new name, is written at once.
+    pub fn create<R: RealFiles>(&mut self, rt: &R, path: &str) -> Made<R::File> {
+        if !self.find_place(rt, path) {
+            return Made::Nowhere;
+        }
+        let made = match found_at(rt, self.place.as_str()) {
+            There::Nothing => {
+                self.way = Way::New;
+                remove_leftovers(rt, self.folder());
+                self.new_file(rt, NEW_MODE)
+            }
+            There::Plain(old) => {
+                remove_leftovers(rt, self.folder());
+                self.beside_old(rt, &old)
+            }
+            There::Other => return Made::AtOnce,
+        };
+        match made {
+            Ok(file) => Made::Beside(file),
+            Err(error) => match error.kind() {
+                ErrorKind::PermissionDenied
+                | ErrorKind::ReadOnlyFilesystem
+                | ErrorKind::InvalidFilename => Made::AtOnce,
+                _ => Made::Nowhere,
+            },
         }
     }
 }
 
-// A plain file with one name, that may be written, can be replaced.
-fn found_at<R: Files>(files: &R, path: &str) -> There {
-    let found = match fs::symlink_metadata(files, path) {
+/// The folder of a path, with the slash that ends it.
+pub fn folder_of(path: &str) -> &str {
+    match path.rfind('/') {
+        Some(at) => match path.split_at_checked(at + 1) {
+            Some((folder, _)) => folder,
+            None => "",
+        },
+        None => "",
+    }
+}
+
+// The mode of a new file in the place of one of this mode. The bits of the group are those of all that an access list
+// names, if there is one, which the new file hasn't: so they are at most those of others.
+fn kept_mode(mode: u32) -> u32 {
+    mode & (0o707 | (mode & 0o7) << 3)
+}
+
+// Whether the group, or whom an access list names, may read what others may not.
+fn is_for_group(mode: u32) -> bool {
+    mode & 0o044 == 0o040
+}
+
+// A plain file that may be written can be replaced.
+fn found_at<R: RealFiles>(rt: &R, path: &str) -> There {
+    let found = match fs::symlink_metadata(rt, path) {
         Ok(found) => found,
         Err(error) => {
             return match error.kind() {
@@ -81,71 +280,9 @@ fn found_at<R: Files>(files: &R, path: &str) -> There {
             };
         }
     };
-    let is_plain = found.is_file() && found.nlink() == 1;
-    if is_plain && OpenOptions::new().write(true).open(files, path).is_ok() {
+    if found.is_file() && OpenOptions::new().write(true).open(rt, path).is_ok() {
         There::Plain(found)
     } else {
         There::Other
-    }
-}
-
-// A file that wasn't there before, with the first name that is free. Its mode is this one, less the bits of the process's
-// mask.
-fn new_file<R: Files>(files: &R, path: &str, mode: u32, beside: &mut Beside) -> Option<R::File> {
-    let mut options = OpenOptions::new();
-    options.write(true).create_new(true).mode(mode);
-    for number in 0..TRIES {
-        if !beside.put(path, number) {
-            return None;
-        }
-        match options.open(files, beside.name.as_str()) {
-            Ok(file) => return Some(file),
-            Err(error) => match error.kind() {
-                ErrorKind::AlreadyExists => {}
-                _ => return None,
-            },
-        }
-    }
-    None
-}
-
-// Gives a new file the owner, the group and the mode of the one that it replaces; whether that is done, and both are on
-// one device.
-fn make_like<R: Files>(files: &R, file: &R::File, beside: &Beside, old: &Metadata) -> bool {
-    let new = match file.metadata() {
-        Ok(new) => new,
-        Err(_) => return false,
-    };
-    let is_owned = new.uid() == old.uid() && new.gid() == old.gid();
-    let owned = is_owned
-        || lchown(
-            files,
-            beside.name.as_str(),
-            Some(old.uid()),
-            Some(old.gid()),
-        )
-        .is_ok();
-    let mode = Permissions::from_mode(old.mode() & 0o777);
-    owned && new.dev() == old.dev() && file.set_permissions(mode).is_ok()
-}
-
-/// An empty file beside the one of this name, or beside where it would be, and its name. There is none where the name is
-/// of something else than a plain file with one name that may be written, and where no such file can be made.
-pub fn create_beside<R: Files>(files: &R, path: &str, beside: &mut Beside) -> Option<R::File> {
-    if path.is_empty() {
-        return None;
-    }
-    match found_at(files, path) {
-        There::Nothing => new_file(files, path, NEW_MODE, beside),
-        There::Plain(old) => {
-            let file = new_file(files, path, OWN_MODE, beside)?;
-            if make_like(files, &file, beside, &old) {
-                Some(file)
-            } else {
-                beside.remove(files);
-                None
-            }
-        }
-        There::Other => None,
     }
 }

@@ -3,16 +3,18 @@ ghost use Rattle.std.specs.Prelude.{◌≡◌, ◌≤◌, ◌<◌, None, true, l
 ghost use Rattle.jpg_base.specs.Desk.{raised, Rose};
 ghost use Rattle.jpg_base.specs.Standard.{ReadsSome, WritesAll, std_state, TellsNothing};
 
-use crate::beside::{Beside, create_beside};
+use crate::beside::{Beside, Made, PathText, Way};
+use crate::placing::{Left, Placed, place, removed};
+use crate::system::{Identity, RealFiles};
 use crate::{Counts, Desk, Got, Name, Put};
+use arrayvec::ArrayString;
 use std::alloc::AllocError;
 use std::fs::OpenFile;
-use std::io::{Read, Write};
-use std::rt::Runtime;
+use std::io::{ErrorKind, Read, Write};
 use std::{fs, io, mem};
 
 #[derive(Drop)]
-enum Source<R: Runtime> {
+enum Source<R: RealFiles> {
     Closed,
     Standard(R::Reader),
     File(R::File),
@@ -20,14 +22,35 @@ enum Source<R: Runtime> {
 
 // Where bytes are written: standard output, a file, or a file beside the one that it will replace.
 #[derive(Drop)]
-enum Sink<R: Runtime> {
+enum Sink<R: RealFiles> {
     Closed,
     Standard(R),
-    File(R::File),
-    Beside(R::File),
+    File(Bounded<R::File>),
+    Beside(Bounded<R::File>),
 }
 
-impl<R: Runtime> Write for Sink<R> {
+// A file, and how many bytes more it may have.
+#[derive(Drop)]
+struct Bounded<F> {
+    file: F,
+    room: u64,
+}
+
+impl<F: Write> Write for Bounded<F> {
+    // A write beyond the limit of the process would end it by a signal.
+    fn write(&mut self, piece: &[u8]) -> io::Result<usize> {
+        let most = self.room.min(piece.len() as u64) as usize;
+        let count = self.file.write(&piece[..most])?;
+        self.room = self.room.saturating_sub(count as u64);
+        Ok(count)
+    }
+
+    fn flush(&mut self) -> io::Result<()> {
+        Ok(())
+    }
+}
+
+impl<R: RealFiles> Write for Sink<R> {
     fn write(&mut self, piece: &[u8]) -> io::Result<usize> {
         match self {
             Sink::Closed => Ok(0),
@@ -50,11 +73,19 @@ pub struct Parsed {
     pub output_created: bool,
 }
 
+/// Where an output is written: whether it stands beside a place, whether that has a file, and whether this is the input.
+#[derive(Clone, Copy, Debug, PartialEq, Eq)]
+pub struct Output {
+    pub is_beside: bool,
+    pub is_there: bool,
+    pub is_input: bool,
+}
+
 /// Real files, standard input, output and error. `In` is read as standard input, `Out` is written as standard output,
 /// and messages go to standard error. Opening `Out`, creating `In` and saying what isn't UTF-8 fail. Each failure
 /// raises the count of its kind by one.
 #[derive(Drop)]
-pub struct StdDesk<R: Runtime> {
+pub struct StdDesk<R: RealFiles> {
     // The program's runtime.
     rt: R,
     // The open input.
@@ -63,6 +94,10 @@ pub struct StdDesk<R: Runtime> {
     sink: Sink<R>,
     // The new file beside the one that is replaced.
     beside: Beside,
+    // Which file the open input is, if that can be seen.
+    input: Option<Identity>,
+    // What the last output that ended left beside its place.
+    left: Left,
     // Named outputs take their place when they are complete.
     replaces: bool,
     // What contracts see.
@@ -78,7 +113,7 @@ fn raise(count: &mut u64)
 }
 
 // A desk at which no call was made.
-fn unused<R: Runtime>(rt: R, replaces: bool) -> StdDesk<R>
+fn unused<R: RealFiles>(rt: R, replaces: bool) -> StdDesk<R>
     ensures { TellsNothing (std_state result.told) }
 {
     StdDesk {
@@ -86,6 +121,8 @@ fn unused<R: Runtime>(rt: R, replaces: bool) -> StdDesk<R>
         source: Source::Closed,
         sink: Sink::Closed,
         beside: Beside::new(),
+        input: None,
+        left: Left::Nothing,
         replaces,
         told: Parsed {
             counts: Counts {
@@ -100,7 +137,7 @@ fn unused<R: Runtime>(rt: R, replaces: bool) -> StdDesk<R>
     }
 }
 
-impl<R: Runtime> StdDesk<R> {
+impl<R: RealFiles> StdDesk<R> {
     ghost use Rattle.jpg_base.specs.Desk.{counted_write};
     ghost use Rattle.jpg_base.specs.Standard.{std_state, TellsNothing};
 
@@ -111,28 +148,30 @@ impl<R: Runtime> StdDesk<R> {
         unused(rt, false)
     }
 
-    /// As `new`, but an output with a name is written into a new file beside it, `NAME.jpgsuite-N`, which takes its
-    /// place at `keep`, or when one more output is created; until then a file of this name stays as it is. The new file
-    /// has the owner, the group and the mode of the one that it replaces. Where that can't be, where no file can be
-    /// made there, and where the name is of something else than a plain file with one name that may be written, the
-    /// output is written under its name.
+    /// As `new`, but an output with a name is written into a new file beside its place, `.jpgsuite-P-N`, with the number of
+    /// the process and the first N that is free. At `keep`, or when one more output is created, it is stored and takes its
+    /// place; until then a file that is there stays as it is. The new file has the owner and the group of the one that it
+    /// replaces, and its mode, but for the group no more than others have. It is copied into a file that has more names,
+    /// that its group may read and others not, or whose owner it can't have. What else has the name, such as a device, is
+    /// written at once, and so is a file in a folder that takes no new name, unless it is the input.
     pub fn replacing(rt: R) -> Self
         ensures { TellsNothing (std_state result.told) }
     {
         unused(rt, true)
     }
 
-    /// Ends the output. One that stands beside its place takes it, if it has any bytes, and else is removed. It is
-    /// removed too if it can't take its place: that is `Failed`, and counts as a write.
+    /// Ends the output. One that stands beside its place is stored and takes it, if it has any bytes, and else is removed. It
+    /// is removed too if it can't take its place: that is `Failed`, and counts as a write.
     pub fn keep(&mut self) -> Put
         ensures { std_state self.new.told ≡ record (std_state self.old.told) { counts = counted_write result (std_state self.old.told).counts } }
     {
-        let answer = put_in_place(&self.rt, &mut self.sink, &self.beside);
-        match answer {
+        let placed = put_in_place(&self.rt, &mut self.sink, &self.beside);
+        self.left = placed.left;
+        match placed.put {
             Put::Done => {}
             Put::Failed => raise(&mut self.told.counts.writes),
         }
-        answer
+        placed.put
     }
 
     /// Ends the output. One that stands beside its place is removed; if that fails, it is left there.
@@ -142,50 +181,133 @@ impl<R: Runtime> StdDesk<R> {
         let sink = mem::replace(&mut self.sink, Sink::Closed);
         if let Sink::Beside(file) = sink {
             drop(file);
-            self.beside.remove(&self.rt);
+            self.left = removed(&self.rt, &self.beside, Put::Done).left;
+        }
+    }
+
+    /// Where the output is written. A standard input that can't be found counts as any file.
+    pub fn output(&self) -> Output {
+        match &self.sink {
+            Sink::Beside(_) => placed_output(&self.rt, &self.beside, self.input),
+            _ => Output {
+                is_beside: false,
+                is_there: false,
+                is_input: false,
+            },
+        }
+    }
+
+    /// Says what `keep` or `discard` left beside the place, after the name of a command and a text; nothing if nothing is left.
+    pub fn say_left(&self, tool: &str, before: &str) {
+        let mut name: PathText = ArrayString::new();
+        if self.beside.put_left_name(self.left, &mut name) {
+            match eprintln!(self.rt; "{tool}{before}{name}") {
+                Ok(()) => {}
+                Err(_) => {}
+            }
         }
     }
 }
 
-// Ends an output. One that stands beside its place takes it, if it has any bytes.
-fn put_in_place<R: Runtime>(rt: &R, sink: &mut Sink<R>, beside: &Beside) -> Put {
-    let file = match mem::replace(sink, Sink::Closed) {
-        Sink::Beside(file) => file,
-        _ => return Put::Done,
+// Where a file beside its place would get to.
+fn placed_output<R: RealFiles>(rt: &R, beside: &Beside, input: Option<Identity>) -> Output {
+    let (is_there, old) = match beside.way {
+        Way::New => (
+            fs::symlink_metadata(rt, beside.place.as_str()).is_ok(),
+            None,
+        ),
+        Way::Replaces(old) => (true, Some(old)),
+        Way::IsCopied(old) => (true, Some(old)),
     };
-    let is_empty = match file.metadata() {
-        Ok(found) => found.len() == 0,
-        Err(_) => false,
-    };
-    drop(file);
-    if is_empty {
-        beside.remove(rt);
-        return Put::Done;
+    Output {
+        is_beside: true,
+        is_there,
+        is_input: is_input(old, input),
     }
-    beside.take_place(rt)
+}
+
+// Whether the file at a place is the input.
+fn is_input(old: Option<Identity>, input: Option<Identity>) -> bool {
+    match (old, input) {
+        (None, _) => false,
+        (Some(_), None) => true,
+        (Some(old), Some(input)) => old.is_same(input),
+    }
+}
+
+// Ends an output. One that stands beside its place takes it, if it has any bytes.
+fn put_in_place<R: RealFiles>(rt: &R, sink: &mut Sink<R>, beside: &Beside) -> Placed {
+    let put = match mem::replace(sink, Sink::Closed) {
+        Sink::Beside(output) => return place(rt, output.file, beside),
+        Sink::File(output) => stored(&output.file),
+        _ => Put::Done,
+    };
+    Placed {
+        put,
+        left: Left::Nothing,
+    }
+}
+
+// Waits until a file that was written at its place is stored; what stores nothing, such as a device, is done.
+fn stored<F: OpenFile>(file: &F) -> Put {
+    match file.sync_all() {
+        Ok(()) => Put::Done,
+        Err(error) => match error.kind() {
+            ErrorKind::InvalidInput | ErrorKind::Unsupported => Put::Done,
+            _ => Put::Failed,
+        },
+    }
+}
+
+// The file of this name, written at once.
+fn at_once<R: RealFiles>(rt: &R, path: &str) -> Option<Sink<R>> {
+    let file = fs::create(rt, path).ok()?;
+    let room = match file.metadata() {
+        Ok(found) if !found.is_file() => u64::MAX,
+        _ => rt.most_bytes(),
+    };
+    Some(Sink::File(Bounded { file, room }))
+}
+
+// Whether a name is of the input.
+fn is_of_input<R: RealFiles>(rt: &R, path: &str, input: Option<Identity>) -> bool {
+    match fs::metadata(rt, path) {
+        Ok(found) => found.is_file() && is_input(Some(Identity::of(&found)), input),
+        Err(_) => false,
+    }
 }
 
 // Where the file of this name is written: beside its place, if it replaces what is there and that can be.
-fn file_sink<R: Runtime>(
+fn file_sink<R: RealFiles>(
     rt: &R,
     path: &str,
-    replaces: bool,
+    input: Option<Identity>,
     beside: &mut Beside,
 ) -> Option<Sink<R>> {
-    if replaces && let Some(file) = create_beside(rt, path, beside) {
-        return Some(Sink::Beside(file));
-    }
-    match fs::create(rt, path) {
-        Ok(file) => Some(Sink::File(file)),
-        Err(_) => None,
+    match beside.create(rt, path) {
+        Made::Beside(file) => {
+            let room = rt.most_bytes();
+            Some(Sink::Beside(Bounded { file, room }))
+        }
+        Made::AtOnce if is_of_input(rt, path, input) => None,
+        Made::AtOnce => at_once(rt, path),
+        Made::Nowhere => None,
     }
 }
 
 // Standard output, unless there is no memory for its buffer.
-fn standard_output<R: Runtime>(rt: &R) -> Option<Sink<R>> {
+fn standard_output<R: RealFiles>(rt: &R) -> Option<Sink<R>> {
     let rt: Result<R, AllocError> = rt.clone();
     match rt {
         Ok(rt) => Some(Sink::Standard(rt)),
+        Err(_) => None,
+    }
+}
+
+// Which file an open one is.
+fn identity_of<F: OpenFile>(file: &F) -> Option<Identity> {
+    match file.metadata() {
+        Ok(found) => Some(Identity::of(&found)),
         Err(_) => None,
     }
 }
@@ -218,7 +340,7 @@ fn write_whole<W: Write>(writer: &mut W, piece: &[u8]) -> Put
     Put::Done
 }
 
-impl<R: Runtime> Desk for StdDesk<R> {
+impl<R: RealFiles> Desk for StdDesk<R> {
     ghost use Rattle.jpg_base.specs.Desk.{Opens, Reads, Creates, Writes, Says, counted_open, counted_read, counted_write, counted_say};
     ghost use Rattle.jpg_base.specs.Standard.{std_state};
 
@@ -236,6 +358,11 @@ impl<R: Runtime> Desk for StdDesk<R> {
                 Ok(file) => Some(Source::File(file)),
                 Err(_) => None,
             },
+        };
+        self.input = match &source {
+            Some(Source::File(file)) => identity_of(file),
+            Some(_) => self.rt.standard_input(),
+            None => None,
         };
         match source {
             Some(source) => {
@@ -276,16 +403,14 @@ impl<R: Runtime> Desk for StdDesk<R> {
         ensures input { name.now ≡ Name.In → result ≡ Put.Failed }
     {
         let before = put_in_place(&self.rt, &mut self.sink, &self.beside);
-        let sink = match (before, name) {
+        let sink = match (before.put, name) {
             (Put::Failed, _) => None,
             (Put::Done, Name::Out) => standard_output(&self.rt),
             (Put::Done, Name::In) => None,
-            (Put::Done, Name::File(path)) => file_sink(
-                &self.rt,
-                path.as_str(),
-                self.replaces,
-                &mut self.beside,
-            ),
+            (Put::Done, Name::File(path)) if self.replaces => {
+                file_sink(&self.rt, path.as_str(), self.input, &mut self.beside)
+            }
+            (Put::Done, Name::File(path)) => at_once(&self.rt, path.as_str()),
         };
         match sink {
             Some(sink) => {

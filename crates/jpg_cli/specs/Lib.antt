@@ -7,6 +7,7 @@ pub mod Endings
 pub mod KeepingLaws
 pub mod Laws
 pub mod Outcome
+pub mod OutputEnding
 pub mod Run
 pub mod Stays
 pub mod Tools

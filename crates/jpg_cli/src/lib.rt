@@ -2,6 +2,7 @@
 #![tactic(auto)]
 
 mod desk;
+mod ending;
 mod help;
 mod laws;
 mod message;
@@ -12,6 +13,7 @@ mod words;
 
 pub use desk::moved::{Wrote, write_moved};
 pub use desk::picture::Wanted;
+pub use ending::{Ending, incomplete_outputs_are_removed};
 pub use laws::{
     answers_are_due, encodings_are_due, faults_are_answered,
     files_with_a_frame_header_have_the_comment_inserted, fronts_are_shown,

@@ -3,12 +3,12 @@ ghost use Rattle.std.specs.Prelude.{◌≡◌, OnOk, map};
 ghost use Rattle.jpg_pnm_bmp.specs.EndState.{new_end};
 ghost use Rattle.jpg_cli.specs.Tools.Ends.{AreNewEnds};
 
+use crate::ending::end_output;
 use crate::help::{BEGIN, HELP};
-use crate::top::{Ended, run, tell};
+use crate::top::run;
 use crate::words::{known_tool, tool_name};
-use jpg_base::{NoMemory, Put, StdDesk};
+use jpg_base::{NoMemory, RealFiles, StdDesk};
 use jpg_pnm_bmp::{BmpEnd, ImageEnd, PnmEnd};
-use jpg_spec_words::Why;
 use jpg_targa::TargaEnd;
 use std::alloc::Global;
 use std::env;
@@ -116,47 +116,8 @@ pub fn add_end(ends: &mut Vec<Box<dyn ImageEnd>>, end: Box<dyn ImageEnd>) -> Res
     }
 }
 
-// Whether the last word, which may name the input, stands before too, as the name of the output may.
-fn is_named_twice(words: &[String]) -> bool {
-    let Some((last, before)) = words.split_last() else {
-        return false;
-    };
-    for word in before {
-        if word.as_str() == last.as_str() {
-            return true;
-        }
-    }
-    false
-}
-
-// Whether an output has no place after a run that ended so: it isn't complete, or it has the first rows of a file that
-// was refused, and would replace that file.
-fn is_discarded(words: &[String], why: Why) -> bool {
-    match why {
-        Why::WriteFault | Why::ReadFault(_) | Why::NoMemory => true,
-        Why::Refused(_) => is_named_twice(words),
-        _ => false,
-    }
-}
-
-// Puts the output of a run into its place, or removes it. The exit status; if the output can't take its place, that of
-// a failed write, whose message is said.
-fn end_output<R: Runtime>(words: &[String], ended: Ended, desk: &mut StdDesk<R>) -> u8 {
-    if is_discarded(words, ended.why) {
-        desk.discard();
-        return ended.code;
-    }
-    match desk.keep() {
-        Put::Done => ended.code,
-        Put::Failed => {
-            tell(tool_name(words), Why::WriteFault, desk);
-            Why::WriteFault.code()
-        }
-    }
-}
-
 // Runs the command that the words ask for over real files and the standard streams; the exit status.
-fn run_over_files<R: Runtime>(
+fn run_over_files<R: RealFiles>(
     rt: R,
     alloc: Global,
     words: &[String],
@@ -166,7 +127,7 @@ fn run_over_files<R: Runtime>(
 {
     let mut desk = StdDesk::replacing(rt);
     let ended = run(alloc, words, &mut desk, ends);
-    end_output(words, ended, &mut desk)
+    end_output(tool_name(words), ended, &mut desk)
 }
 
 /// Runs the command that the program's words ask for over real files and the standard streams, and ends with its exit
@@ -175,7 +136,7 @@ fn run_over_files<R: Runtime>(
 /// version. For a call without words standard error has how to begin, and then the message. An output with a name takes
 /// its place when it is complete (`StdDesk::replacing`). If there is no memory for the words the status is 3, and if a
 /// word isn't UTF-8 it is 1, both without a message.
-pub fn run_program<R: Runtime<A = Global>>(rt: R) -> ExitCode {
+pub fn run_program<R: RealFiles<A = Global>>(rt: R) -> ExitCode {
     let alloc = rt.alloc();
     let words = match words(&rt) {
         Ok(words) => words,
