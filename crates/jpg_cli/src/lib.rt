@@ -4,6 +4,7 @@
 mod desk;
 mod ending;
 mod help;
+mod hints;
 mod laws;
 mod message;
 mod program;

@@ -5,10 +5,12 @@ ghost use Rattle.jpg_cli.specs.Tools.Ends.{AreNewEnds};
 
 use crate::ending::end_output;
 use crate::help::{BEGIN, HELP};
+use crate::hints::say_hint;
 use crate::top::run;
 use crate::words::{known_tool, tool_name};
 use jpg_base::{NoMemory, RealFiles, StdDesk};
 use jpg_pnm_bmp::{BmpEnd, ImageEnd, PnmEnd};
+use jpg_spec_words::Why;
 use jpg_targa::TargaEnd;
 use std::alloc::Global;
 use std::env;
@@ -35,7 +37,7 @@ fn help_for(tool: &str) -> Option<&'static [&'static str]> {
 // The texts that one word asks for: this help, or the version.
 fn asked(word: &str, help: &'static [&'static str]) -> Option<&'static [&'static str]> {
     match word {
-        "--help" | "-help" | "-?" => Some(help),
+        "--help" | "-help" | "-h" | "-?" => Some(help),
         "--version" => Some(&ABOUT),
         _ => None,
     }
@@ -44,7 +46,11 @@ fn asked(word: &str, help: &'static [&'static str]) -> Option<&'static [&'static
 // The texts about the program itself, or one of its commands, if the words ask only for that.
 fn told(words: &[String]) -> Option<&'static [&'static str]> {
     match words {
-        [word] => asked(word.as_str(), &HELP),
+        [word] => match word.as_str() {
+            "help" => Some(&HELP),
+            "version" => Some(&ABOUT),
+            word => asked(word, &HELP),
+        },
         [tool, word] => asked(word.as_str(), help_for(tool.as_str())?),
         _ => None,
     }
@@ -127,14 +133,20 @@ fn run_over_files<R: RealFiles>(
 {
     let mut desk = StdDesk::replacing(rt);
     let ended = run(alloc, words, &mut desk, ends);
+    if let Why::Usage(usage) = ended.why
+        && !words.is_empty()
+    {
+        say_hint(alloc, words, usage, &mut desk);
+    }
     end_output(tool_name(words), ended, &mut desk)
 }
 
 /// Runs the command that the program's words ask for over real files and the standard streams, and ends with its exit
 /// status. Where the program was called by the name of a command, that is the first word. A single `--help`, `-help`,
-/// `-?` or `--version`, also after the name of a command, prints the help, all of it or that for the command, or the
-/// version. For a call without words standard error has how to begin, and then the message. An output with a name takes
-/// its place when it is complete (`StdDesk::replacing`). If there is no memory for the words the status is 3, and if a
+/// `-h`, `-?` or `--version`, also after the name of a command, and a single `help` or `version` print the help, all of it
+/// or that for the command, or the version. For a call without words standard error has how to begin, and
+/// then the message; a message for other wrong words is followed by what to write. An output with a name takes its place
+/// when it is complete (`StdDesk::replacing`). If there is no memory for the words the status is 3, and if a
 /// word isn't UTF-8 it is 1, both without a message.
 pub fn run_program<R: RealFiles<A = Global>>(rt: R) -> ExitCode {
     let alloc = rt.alloc();
