@@ -56,9 +56,13 @@ pub enum Made<F> {
 /// isn't moved, since it would take the room of the path of the stack again at each call.
 #[derive(Drop)]
 pub struct Beside {
+    /// The path of the place, with no symbolic link at its end.
     pub place: PathText,
+    /// How the complete file gets there.
     pub way: Way,
+    // The number of the process, in the name of the file beside.
     process: u32,
+    // The number of its own.
     number: u32,
 }
 
