@@ -6,6 +6,10 @@ use Rattle.jpg_base.specs.declared.names.Put.TheVariants.{Done, Failed}
 use Rattle.jpg_base.specs.declared.names.Got.{Got}
 use Rattle.jpg_base.specs.declared.names.Got.TheVariants as got
 use Rattle.jpg_base.specs.declared.standard.Parsed.{Parsed}
+use Rattle.jpg_base.specs.declared.standard.Source.{Source}
+use Rattle.jpg_base.specs.declared.standard.Source.TheVariants as source
+use Rattle.jpg_base.specs.declared.standard.Sink.{Sink}
+use Rattle.jpg_base.specs.declared.standard.Sink.TheVariants as sink
 use Rattle.jpg_base.specs.Desk.{DeskState}
 
 abbrev pub std_state : Parsed → DeskState
@@ -36,3 +40,16 @@ ReadsSome old got.Failed buf new = Keeps old new
 abbrev pub WritesAll : Option (List ℕ) → List ℕ → Put → Option (List ℕ) → Type 0
 WritesAll old piece Done new = Appends old new piece
 WritesAll old piece Failed new = (n : ℕ) × Appends old new (take n piece)
+
+-- the bytes that a source gives from here on, where they are known
+abbrev pub source_left : {S F : Type 0} → (S → Option (List ℕ)) → (F → Option (List ℕ)) → Source S F → Option (List ℕ)
+source_left standard file source.Closed = None
+source_left standard file (source.Standard reader) = standard reader
+source_left standard file (source.File f) = file f
+
+-- the bytes that the file of a sink has, where they are known; of standard output nothing is known
+abbrev pub sink_contents : {S F : Type 0} → (F → Option (List ℕ)) → Sink S F → Option (List ℕ)
+sink_contents file sink.Closed = None
+sink_contents file (sink.Standard output) = None
+sink_contents file (sink.File output) = file output.file
+sink_contents file (sink.Beside output) = file output.file

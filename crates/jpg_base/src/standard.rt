@@ -1,7 +1,7 @@
 //! Real files and the standard streams. Contracts see only the counts.
 ghost use Rattle.std.specs.Prelude.{◌≡◌, ◌≤◌, ◌<◌, None, true, length};
 ghost use Rattle.jpg_base.specs.Desk.{raised, Rose};
-ghost use Rattle.jpg_base.specs.Standard.{ReadsSome, WritesAll, std_state, TellsNothing};
+ghost use Rattle.jpg_base.specs.Standard.{ReadsSome, WritesAll, std_state, TellsNothing, source_left, sink_contents};
 
 use crate::beside::{Beside, Made, PathText, Way};
 use crate::placing::{Left, Placed, place, removed};
@@ -10,23 +10,27 @@ use crate::{Counts, Desk, Got, Name, Put};
 use arrayvec::ArrayString;
 use std::alloc::AllocError;
 use std::fs::OpenFile;
-use std::io::{ErrorKind, Read, Write};
+use std::io::{ErrorKind, Print, Read, Write};
 use std::{fs, io, mem};
 
+// Where bytes are read: standard input or a file.
 #[derive(Drop)]
-enum Source<R: RealFiles> {
+enum Source<S, F> {
     Closed,
-    Standard(R::Reader),
-    File(R::File),
+    Standard(S),
+    File(F),
 }
 
-// Where bytes are written: standard output, a file, or a file beside the one that it will replace.
-#[derive(Drop)]
-enum Sink<R: RealFiles> {
-    Closed,
-    Standard(R),
-    File(Bounded<R::File>),
-    Beside(Bounded<R::File>),
+impl<S: Read, F: Read> Read for Source<S, F> {
+    ghost remaining = { source_left S.remaining F.remaining };
+
+    fn read(&mut self, buf: &mut [u8]) -> io::Result<usize> {
+        match self {
+            Source::Closed => Err(io::Error::from(ErrorKind::Unsupported)),
+            Source::Standard(reader) => reader.read(buf),
+            Source::File(file) => file.read(buf),
+        }
+    }
 }
 
 // A file, and how many bytes more it may have.
@@ -37,12 +41,18 @@ struct Bounded<F> {
 }
 
 impl<F: Write> Write for Bounded<F> {
+    ghost contents = { λ b. F.contents b.file };
+
     // A write beyond the limit of the process would end it by a signal.
     fn write(&mut self, piece: &[u8]) -> io::Result<usize> {
         let most = self.room.min(piece.len() as u64) as usize;
-        let count = self.file.write(&piece[..most])?;
-        self.room = self.room.saturating_sub(count as u64);
-        Ok(count)
+        match self.file.write(&piece[..most]) {
+            Ok(count) => {
+                self.room = self.room.saturating_sub(count as u64);
+                Ok(count)
+            }
+            Err(error) => Err(error),
+        }
     }
 
     fn flush(&mut self) -> io::Result<()> {
@@ -50,7 +60,18 @@ impl<F: Write> Write for Bounded<F> {
     }
 }
 
-impl<R: RealFiles> Write for Sink<R> {
+// Where bytes are written: standard output, a file, or a file beside the one that it will replace.
+#[derive(Drop)]
+enum Sink<S, F> {
+    Closed,
+    Standard(S),
+    File(Bounded<F>),
+    Beside(Bounded<F>),
+}
+
+impl<S: Print, F: Write> Write for Sink<S, F> {
+    ghost contents = { sink_contents F.contents };
+
     fn write(&mut self, piece: &[u8]) -> io::Result<usize> {
         match self {
             Sink::Closed => Ok(0),
@@ -89,9 +110,9 @@ pub struct StdDesk<R: RealFiles> {
     // The program's runtime.
     rt: R,
     // The open input.
-    source: Source<R>,
+    source: Source<R::Reader, R::File>,
     // The last output.
-    sink: Sink<R>,
+    sink: Sink<R, R::File>,
     // The new file beside the one that is replaced.
     beside: Beside,
     // Which file the open input is, if that can be seen.
@@ -236,7 +257,7 @@ fn is_input(old: Option<Identity>, input: Option<Identity>) -> bool {
 }
 
 // Ends an output. One that stands beside its place takes it, if it has any bytes.
-fn put_in_place<R: RealFiles>(rt: &R, sink: &mut Sink<R>, beside: &Beside) -> Placed {
+fn put_in_place<R: RealFiles>(rt: &R, sink: &mut Sink<R, R::File>, beside: &Beside) -> Placed {
     let put = match mem::replace(sink, Sink::Closed) {
         Sink::Beside(output) => return place(rt, output.file, beside),
         Sink::File(output) => stored(&output.file),
@@ -260,7 +281,7 @@ fn stored<F: OpenFile>(file: &F) -> Put {
 }
 
 // The file of this name, written at once.
-fn at_once<R: RealFiles>(rt: &R, path: &str) -> Option<Sink<R>> {
+fn at_once<R: RealFiles>(rt: &R, path: &str) -> Option<Sink<R, R::File>> {
     let file = fs::create(rt, path).ok()?;
     let room = match file.metadata() {
         Ok(found) if !found.is_file() => u64::MAX,
@@ -283,7 +304,7 @@ fn file_sink<R: RealFiles>(
     path: &str,
     input: Option<Identity>,
     beside: &mut Beside,
-) -> Option<Sink<R>> {
+) -> Option<Sink<R, R::File>> {
     match beside.create(rt, path) {
         Made::Beside(file) => {
             let room = rt.most_bytes();
@@ -296,7 +317,7 @@ fn file_sink<R: RealFiles>(
 }
 
 // Standard output, unless there is no memory for its buffer.
-fn standard_output<R: RealFiles>(rt: &R) -> Option<Sink<R>> {
+fn standard_output<R: RealFiles>(rt: &R) -> Option<Sink<R, R::File>> {
     let rt: Result<R, AllocError> = rt.clone();
     match rt {
         Ok(rt) => Some(Sink::Standard(rt)),
@@ -342,7 +363,7 @@ fn write_whole<W: Write>(writer: &mut W, piece: &[u8]) -> Put
 
 impl<R: RealFiles> Desk for StdDesk<R> {
     ghost use Rattle.jpg_base.specs.Desk.{Opens, Reads, Creates, Writes, Says, counted_open, counted_read, counted_write, counted_say};
-    ghost use Rattle.jpg_base.specs.Standard.{std_state};
+    ghost use Rattle.jpg_base.specs.Standard.{std_state, source_left, sink_contents, ReadsSome, WritesAll};
 
     ghost state = { λ d. std_state d.told };
 
@@ -384,13 +405,10 @@ impl<R: RealFiles> Desk for StdDesk<R> {
         requires room { 0 < length buf.old }
         ensures desk { Reads (std_state self.old.told) result buf.new (std_state self.new.told) }
         ensures counts { (std_state self.new.told).counts ≡ counted_read result (std_state self.old.told).counts }
+        ensures source { ReadsSome (source_left R.Reader.remaining R.File.remaining self.old.source) result buf.new (source_left R.Reader.remaining R.File.remaining self.new.source) }
         ensures open { (std_state self.new.told).input_open ≡ true }
     {
-        let answer = match &mut self.source {
-            Source::Closed => Got::Failed,
-            Source::Standard(reader) => read_some(reader, buf),
-            Source::File(file) => read_some(file, buf),
-        };
+        let answer = read_some(&mut self.source, buf);
         if let Got::Failed = answer {
             raise(&mut self.told.counts.reads);
         }
@@ -429,6 +447,7 @@ impl<R: RealFiles> Desk for StdDesk<R> {
         requires { (std_state self.old.told).output_created ≡ true }
         ensures desk { Writes (std_state self.old.told) piece.now result (std_state self.new.told) }
         ensures counts { (std_state self.new.told).counts ≡ counted_write result (std_state self.old.told).counts }
+        ensures sink { WritesAll (sink_contents R.File.contents self.old.sink) piece.now result (sink_contents R.File.contents self.new.sink) }
     {
         let answer = write_whole(&mut self.sink, piece);
         if let Put::Failed = answer {

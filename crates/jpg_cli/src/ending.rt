@@ -27,7 +27,7 @@ pub enum Ending {
 
 // After a run that ended so. An output that isn't complete has no place; the rows of a file that was refused replace no
 // file, and what an input that ended early has doesn't replace this input.
-fn ending(output: Output, why: Why) -> Ending
+fn ending_after(output: Output, why: Why) -> Ending
     ensures { result ≡ ending_of output why }
 {
     match why {
@@ -87,7 +87,7 @@ fn keep<R: RealFiles>(tool: &str, ended: Ended, desk: &mut StdDesk<R>) -> u8
 pub fn end_output<R: RealFiles>(tool: &str, ended: Ended, desk: &mut StdDesk<R>) -> u8
     requires { length tool.now ≤ 8 }
 {
-    let code = match ending(desk.output(), ended.why) {
+    let code = match ending_after(desk.output(), ended.why) {
         Ending::TakesPlace => keep(tool, ended, desk),
         Ending::IsRemoved => {
             desk.discard();
