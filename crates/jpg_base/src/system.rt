@@ -1,11 +1,12 @@
 //! What a desk over real files asks of the system beyond `Runtime`.
 use std::fs::{File, Metadata, TryLockError};
+use std::io::Read;
 use std::os::unix::fs::{MetadataExt, fchown};
 use std::rt::Runtime;
 use std::{fs, process};
 
-// The number of the limit of a file's bytes.
-const FILE_BYTES: i32 = 1;
+// The line of the system's text on limits that has the greatest size of a file.
+const FILE_SIZE: &[u8] = b"Max file size";
 
 /// Which file a name has: two names with the same numbers are of one file.
 #[derive(Clone, Copy)]
@@ -37,6 +38,32 @@ pub enum Holder {
     Unknown,
 }
 
+// The greatest size of a file by the system's text on limits; without a limit the greatest number.
+fn file_limit(text: &[u8]) -> u64 {
+    for line in text.split(|byte| *byte == b'\n') {
+        if let Some(rest) = line.strip_prefix(FILE_SIZE) {
+            return first_number(rest);
+        }
+    }
+    u64::MAX
+}
+
+// The number that a text begins with after spaces; without one the greatest number.
+fn first_number(text: &[u8]) -> u64 {
+    let mut number: Option<u64> = None;
+    for byte in text {
+        match *byte {
+            b' ' if number.is_none() => {}
+            b'0'..=b'9' => {
+                let digit = u64::from(*byte - b'0');
+                number = Some(number.unwrap_or(0).saturating_mul(10).saturating_add(digit));
+            }
+            _ => break,
+        }
+    }
+    number.unwrap_or(u64::MAX)
+}
+
 /// Real files: what they can do by their descriptors, and what the system says of the process.
 pub trait RealFiles: Runtime {
     /// The number of the process.
@@ -64,14 +91,14 @@ impl RealFiles for HostRuntime {
     }
 
     fn most_bytes(&self) -> u64 {
-        let mut limit = libc::types::rlimit {
-            rlim_cur: u64::MAX,
-            rlim_max: u64::MAX,
-        };
-        if libc::getrlimit(FILE_BYTES, &mut limit) < 0 {
+        let Ok(mut limits) = fs::open(self, "/proc/self/limits") else {
             return u64::MAX;
+        };
+        let mut text = [0u8; 512];
+        match limits.read(&mut text) {
+            Ok(count) => file_limit(&text[..count]),
+            Err(_) => u64::MAX,
         }
-        limit.rlim_cur
     }
 
     fn standard_input(&self) -> Option<Identity> {
