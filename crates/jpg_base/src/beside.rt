@@ -24,11 +24,12 @@ const NEW_MODE: u32 = 0o666;
 // The mode of a new file that replaces another, until it has that one's owner, group and mode.
 const OWN_MODE: u32 = 0o600;
 
-// What is at a place: nothing, a file that may be written, or anything else.
+// What is at a place: nothing, a file that may be written, anything else, or what can't be seen.
 enum There {
     Nothing,
     Plain(Metadata),
     Other,
+    Unknown,
 }
 
 /// How a complete file beside its place gets there.
@@ -238,6 +239,7 @@ impl Beside {
                 self.beside_old(rt, &old)
             }
             There::Other => return Made::AtOnce,
+            There::Unknown => return Made::Nowhere,
         };
         match made {
             Ok(file) => Made::Beside(file),
@@ -280,7 +282,7 @@ fn found_at<R: RealFiles>(rt: &R, path: &str) -> There {
         Err(error) => {
             return match error.kind() {
                 ErrorKind::NotFound => There::Nothing,
-                _ => There::Other,
+                _ => There::Unknown,
             };
         }
     };
