@@ -10,9 +10,23 @@ use std::io::Read;
 // How many times the folder is read, which ends the reading of one that grows.
 const READS: u32 = 1_000_000;
 
+// From how many bytes on a folder is large: some thousand names, which take longer to read than a small picture to write.
+const LARGE: u64 = 131_072;
+
+// In a large folder one call of so many looks for leftovers.
+const SELDOM: u32 = 64;
+
 /// Removes what killed calls left in a folder: files with names of this program that nobody holds.
 pub fn remove_leftovers<R: RealFiles>(rt: &R, folder: &str) {
-    let Ok(mut names) = rt.open_dir(if folder.is_empty() { "./" } else { folder }) else {
+    let path = if folder.is_empty() { "./" } else { folder };
+    let is_large = match fs::metadata(rt, path) {
+        Ok(found) => found.len() >= LARGE,
+        Err(_) => return,
+    };
+    if is_large && rt.process() % SELDOM > 0 {
+        return;
+    }
+    let Ok(mut names) = rt.open_dir(path) else {
         return;
     };
     let mut buffer = [0u8; 4096];
