@@ -8,7 +8,7 @@ use Rattle.std.proofs.lemmas.Bool.Decides.{nat_tests}
 use Rattle.jpg_spec.specs.Geometry.{Frame, padded_blocks}
 use Rattle.jpg_spec.specs.PictureInWork.{is_at}
 use Rattle.jpg_spec.specs.declared.frame.Place.{Place}
-use Rattle.jpg_spec.proofs.Basics.Common.{both, some_once}
+use Rattle.jpg_spec.proofs.Basics.Common.{both, some_once, same_of}
 use Rattle.jpg_base.specs.Cursor.{IsPadded}
 use Rattle.jpg_coefs.specs.Picture.{Picture, block_index, is_padded, map_of, put_at}
 use Rattle.jpg_coefs.specs.declared.machine.UnitFault.{UnitFault}
@@ -24,9 +24,6 @@ use Rattle.jpg_seq.specs.SoFar.{Spot}
 use Rattle.jpg_seq.specs.Work.{Work}
 use Rattle.jpg_seq.proofs.StoreReadings.{starts, can_read, can_put, some_left, has_place, empty_ends, fault_ends, interval_ends, units_end, goes_on}
 
-same : (a b : ℕ) → (a == b) ≡ true → a ≡ b
-same a b e = grind (arith, nat_tests, e)
-
 equal : (a b : ℕ) → a ≡ b → (a == b) ≡ true
 equal a b e = grind (arith, nat_tests, e)
 
@@ -35,7 +32,7 @@ of_place : (i x y : ℕ) (p : Place) → is_at i x y p ≡ true → (p.component
 of_place i x y p e =
     let a = both (p.component == i && p.x == x) (p.y == y) e in
     let b = both (p.component == i) (p.x == x) a.0 in
-    (same p.component i b.0, same p.x x b.1, same p.y y a.1)
+    (same_of p.component i b.0, same_of p.x x b.1, same_of p.y y a.1)
 
 at_place : (i x y : ℕ) (p : Place) → p.component ≡ i → p.x ≡ x → p.y ≡ y → is_at i x y p ≡ true
 at_place i x y p a b c = ap (λ t. t && p.x == x && p.y == y) (equal p.component i a) ∙ ap (λ t. t && p.y == y) (equal p.x x b) ∙ equal p.y y c

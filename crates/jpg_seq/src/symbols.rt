@@ -4,7 +4,7 @@ ghost use Rattle.jpg_seq.specs.Judge.{Judges};
 use jpg_base::Bounds;
 
 /// What follows a code.
-#[derive(Clone, Copy, Debug, PartialEq, Eq)]
+#[derive(Clone, Copy)]
 pub enum SequentialSymbol {
     /// A value of this category after a run of zeros.
     Value { run: u8, size: u8 },

@@ -18,7 +18,7 @@ use jpg_huff::{Decoder, Spotted, extend};
 use std::marker::Model;
 
 /// The next element of a unit, or that more bits are needed, or a fault. `length` is in bits.
-#[derive(Clone, Copy, Debug, PartialEq, Eq)]
+#[derive(Clone, Copy)]
 pub enum NextElement {
     Part,
     Value { run: u8, value: i16, length: u8 },
@@ -27,7 +27,7 @@ pub enum NextElement {
 }
 
 /// The result of taking bits: an element is complete, all bits were taken, the unit is complete, a fault.
-#[derive(Clone, Copy, Debug, PartialEq, Eq)]
+#[derive(Clone, Copy)]
 pub enum UnitProgress {
     More,
     Empty,
