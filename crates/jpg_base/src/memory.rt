@@ -25,7 +25,7 @@ pub struct Asked {
 
 /// What a write or a message that fails appends before: half of its piece, or so many of its first bytes, where it has
 /// them.
-#[derive(Clone, Copy, Debug, PartialEq, Eq)]
+#[derive(Clone, Copy)]
 pub enum Part {
     Half,
     First(u32),

@@ -10,7 +10,7 @@ use jpg_base::codes::{APP0, APP15, COM, EOI, RST0, SOF0, SOF2, SOI, SOS};
 use jpg_spec::Fault;
 
 /// What is remembered of the complete segments so far.
-#[derive(Clone, Copy, Debug, PartialEq, Eq)]
+#[derive(Clone, Copy)]
 pub struct Seen {
     /// A frame header was among them.
     pub framed: bool,

@@ -28,7 +28,7 @@ pub enum SegStep {
 
 // Where the next byte is: before SOI, inside it, after a complete segment, after FF, after a code, after the first byte
 // of a length, inside contents, after EOI.
-#[derive(Clone, Copy, Debug, PartialEq, Eq)]
+#[derive(Clone, Copy)]
 enum Phase {
     Empty,
     HalfStart,
@@ -41,7 +41,7 @@ enum Phase {
 }
 
 // Why a byte isn't taken.
-#[derive(Clone, Copy, Debug, PartialEq, Eq)]
+#[derive(Clone, Copy)]
 enum Halt {
     Fault(Fault),
     NoMemory,

@@ -28,7 +28,7 @@ pub struct ScanCounter {
 }
 
 /// The result of a byte.
-#[derive(Clone, Copy, Debug, PartialEq, Eq)]
+#[derive(Clone, Copy)]
 pub enum Counted {
     /// No data of a scan end with it.
     More,
@@ -39,7 +39,7 @@ pub enum Counted {
 }
 
 /// The result of some bytes.
-#[derive(Clone, Copy, Debug, PartialEq, Eq)]
+#[derive(Clone, Copy)]
 pub enum Found {
     /// No data of a scan end in them.
     None,

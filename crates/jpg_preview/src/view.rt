@@ -12,7 +12,7 @@ use jpg_base::{Fed, Stop};
 use jpg_file::{End, Reader};
 
 /// The result of some bytes.
-#[derive(Clone, Copy, Debug, PartialEq, Eq)]
+#[derive(Clone, Copy)]
 pub enum Part {
     /// This many were taken, and the front goes on.
     More(usize),

@@ -25,7 +25,7 @@ use jpg_huff::{Spotted, Walk, WalkStep};
 use std::marker::Model;
 
 /// The result of a bit of a unit of a band.
-#[derive(Clone, Copy, Debug, PartialEq, Eq)]
+#[derive(Clone, Copy)]
 pub enum BandStep {
     /// The unit goes on.
     More,

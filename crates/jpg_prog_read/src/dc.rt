@@ -24,7 +24,7 @@ enum DcValue {
 }
 
 /// The result of a bit of a unit of a first DC pass.
-#[derive(Clone, Copy, Debug, PartialEq, Eq)]
+#[derive(Clone, Copy)]
 pub enum DcStep {
     /// The unit goes on.
     More,

@@ -20,7 +20,7 @@ fn narrow(x: i32) -> i16
 }
 
 /// A number times 2 ^ al: of a magnitude within a limit, or beyond it.
-#[derive(Clone, Copy, Debug, PartialEq, Eq)]
+#[derive(Clone, Copy)]
 pub enum Scaled {
     Within(i16),
     Beyond,

@@ -1,7 +1,7 @@
 //! Which part of an element is read.
 
 /// Which part of an element of a band is read.
-#[derive(Clone, Copy, Debug, PartialEq, Eq)]
+#[derive(Clone, Copy)]
 pub enum Stage {
     /// Its code.
     Code,

@@ -2,7 +2,7 @@
 ghost use Rattle.jpg_prog_read.specs.Judge.{Judges};
 
 /// What follows a code.
-#[derive(Clone, Copy, Debug, PartialEq, Eq)]
+#[derive(Clone, Copy)]
 pub enum ProgressiveSymbol {
     /// A value of this category after a run of zeros.
     Value { run: u8, size: u8 },

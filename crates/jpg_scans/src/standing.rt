@@ -2,7 +2,7 @@
 
 // Before all numbers of a list, in a number with this many digits so far, after a number, or after a number and a comma
 // or hyphen.
-#[derive(Clone, Copy, Debug, PartialEq, Eq)]
+#[derive(Clone, Copy)]
 pub enum Standing {
     Before,
     InNumber { digits: u8, value: u8 },

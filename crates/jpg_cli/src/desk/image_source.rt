@@ -13,7 +13,7 @@ use jpg_targa::TargaReader;
 use std::alloc::Global;
 
 /// The result of a piece: more is needed, the image is complete, or why the reading ends.
-#[derive(Clone, Copy, Debug, PartialEq, Eq)]
+#[derive(Clone, Copy)]
 pub enum ImageStep {
     More,
     Whole,

@@ -25,7 +25,7 @@ pub enum Wanted {
 }
 
 // The result of a piece.
-#[derive(Clone, Copy, Debug, PartialEq, Eq)]
+#[derive(Clone, Copy)]
 pub(crate) enum PictureStep {
     More,
     Whole,

@@ -27,7 +27,7 @@ use jpg_spec_words::{Which, Why};
 use std::alloc::Global;
 
 // The result of a piece, before rows are read.
-#[derive(Clone, Copy, Debug, PartialEq, Eq)]
+#[derive(Clone, Copy)]
 enum FirstStep {
     More,
     Whole,

@@ -17,7 +17,7 @@ use jpg_spec_words::{Which, Why};
 use std::alloc::Global;
 
 // The result of the MCU rows of a piece.
-#[derive(Clone, Copy, Debug, PartialEq, Eq)]
+#[derive(Clone, Copy)]
 enum RowsStep {
     More,
     Whole,
