@@ -1,4 +1,5 @@
 // Bytes as rows spell them: texts in quotes, hexadecimal digits, and bytes that have names.
+use crate::row::decimal;
 use jpg_base::{Bytes, Text};
 use std::alloc::Global;
 
@@ -49,7 +50,7 @@ fn add_words(bytes: &mut Bytes, names: &[Named], quoted: &[u8], piece: &str) -> 
 
 // How often something is repeated; 0 where that can't be read.
 fn times(count: &str) -> u64 {
-    count.parse::<u64>().unwrap_or(0)
+    decimal(count).unwrap_or(0)
 }
 
 fn add_times(bytes: &mut Bytes, piece: &[u8], count: u64) -> bool {
@@ -137,10 +138,10 @@ fn find<'b>(names: &'b [Named], name: &str) -> Option<&'b [u8]> {
 // The bytes from one place up to another, by `FROM:TO]`; without `TO` up to the end.
 fn cut<'b>(bytes: &'b [u8], range: &str) -> Option<&'b [u8]> {
     let (from, to) = range.strip_suffix(']')?.split_once(':')?;
-    let from = from.parse::<usize>().ok()?;
+    let from = decimal(from)? as usize;
     if to.is_empty() {
         bytes.get(from..)
     } else {
-        bytes.get(from..to.parse::<usize>().ok()?)
+        bytes.get(from..decimal(to)? as usize)
     }
 }

@@ -17,4 +17,4 @@ pub use bytes::{Named, spell};
 pub use images::callers::sum_of;
 pub use lines::{Report, Rows, take_lines};
 pub use parts::Parts;
-pub use row::{Row, large, number, value};
+pub use row::{Row, decimal, large, number, value};

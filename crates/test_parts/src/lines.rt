@@ -1,11 +1,15 @@
 // The lines of a text: rows, bytes with names, comments, and lines that go on.
 use crate::answer::Answer;
 use crate::bytes::{Named, keep, spell};
-use crate::row::{Row, value};
+use crate::row::{Row, decimal, value};
+use arrayvec::ArrayVec;
 use jpg_base::Bytes;
-use std::alloc::{AllocError, Global};
-use std::rt::Files;
-use std::{fs, io};
+use std::alloc::Global;
+
+// How many fields and settings a row has at most.
+const MOST_FIELDS: usize = 24;
+
+const MOST_SETTINGS: usize = 8;
 
 /// A program that tries rows.
 pub trait Rows {
@@ -13,13 +17,14 @@ pub trait Rows {
     fn run(&mut self, row: &Row, said: &mut Answer);
 }
 
-/// The bytes that have names so far, and how many rows were as expected and how many weren't.
+/// What came of rows: a line for each, how many were as expected and how many weren't, and the bytes that have names so far.
 #[derive(Drop)]
 pub struct Report {
     alloc: Global,
     names: Vec<Named>,
-    pub ok: u64,
-    pub other: u64,
+    lines: Answer,
+    ok: u64,
+    other: u64,
 }
 
 impl Report {
@@ -28,93 +33,95 @@ impl Report {
         Report {
             alloc,
             names: Vec::new(alloc),
+            lines: Answer::new(alloc),
             ok: 0,
             other: 0,
         }
     }
 
-    fn count(&mut self, is_ok: bool) {
-        if is_ok {
+    /// A line for each row, and one that says how many there were.
+    pub fn lines(&self) -> &str {
+        self.lines.text()
+    }
+
+    /// How many rows weren't as expected.
+    pub fn others(&self) -> u64 {
+        self.other
+    }
+
+    /// Gives these bytes a name.
+    pub fn keep(&mut self, name: &str, bytes: &[u8]) {
+        if !keep(self.alloc, &mut self.names, name, bytes) {
+            self.lines.fall_short();
+        }
+    }
+
+    fn add_line(&mut self, name: &str, said: &Answer) {
+        self.lines.add(name);
+        if said.is_silent() {
             self.ok = self.ok.saturating_add(1);
+            self.lines.add(": ok\n");
         } else {
             self.other = self.other.saturating_add(1);
+            self.lines.add(": ");
+            self.lines.add(said.text());
+            self.lines.add("\n");
         }
     }
 }
 
-/// Takes the lines in order, and prints one for each row, and how many there were. One that begins with `+` goes on with the line
-/// before it; one that begins with `#` is a comment.
-pub fn take_lines(
-    rt: &(impl Print + Files + AllocGlobal),
-    text: &str,
-    rows: &mut impl Rows,
-    report: &mut Report,
-) -> io::Result<()> {
-    let mut whole = String::new(report.alloc);
+/// Takes the lines of a text in order. One that begins with `+` goes on with the line before it; one that begins with `#` is a comment.
+pub fn take_lines(text: &str, rows: &mut impl Rows, report: &mut Report) {
+    match text.replace(report.alloc, "\n+", "") {
+        Ok(text) => take_all(text.as_str(), rows, report),
+        Err(_) => report.lines.fall_short(),
+    }
+    report.lines.add_number(report.ok);
+    report.lines.add(" rows ok, ");
+    report.lines.add_number(report.other);
+    report.lines.add(" not\n");
+}
+
+fn take_all(text: &str, rows: &mut impl Rows, report: &mut Report) {
     for line in text.lines() {
-        if let Some(more) = line.strip_prefix('+') {
-            whole.push_str(more)?;
-        } else {
-            take_line(rt, whole.as_str(), rows, report)?;
-            whole.clear();
-            whole.push_str(line)?;
+        if let Some(text) = line.strip_prefix("let ") {
+            take_let(text, report);
+        } else if !line.is_empty() && !line.starts_with('#') {
+            take_row(line, rows, report);
         }
     }
-    take_line(rt, whole.as_str(), rows, report)?;
-    println!(rt; "{} rows ok, {} not", report.ok, report.other)
 }
 
-fn take_line(
-    rt: &(impl Print + Files + AllocGlobal),
-    line: &str,
-    rows: &mut impl Rows,
-    report: &mut Report,
-) -> io::Result<()> {
-    if line.is_empty() || line.starts_with('#') {
-        return Ok(());
-    }
-    if let Some(text) = line.strip_prefix("let ") {
-        return take_let(rt, text, report);
-    }
-    let (name, _) = line.split_once('|').unwrap_or((line, ""));
-    let mut said = Answer::new(report.alloc);
-    run_each(line, rows, report, &mut said);
-    report.count(said.is_silent());
-    let text = if said.is_silent() { "ok" } else { said.text() };
-    println!(rt; "{}: {text}", name.trim())
-}
-
-// Gives a name to the bytes of a file, or to those that the text spells.
-fn take_let(
-    rt: &(impl Print + Files + AllocGlobal),
-    text: &str,
-    report: &mut Report,
-) -> io::Result<()> {
+// `NAME = BYTES`.
+fn take_let(text: &str, report: &mut Report) {
     let (name, spelling) = text.split_once(" = ").unwrap_or((text, "?"));
-    if let Some(file) = spelling.strip_prefix("file ") {
-        let bytes = fs::read(rt, file)?;
-        if keep(report.alloc, &mut report.names, name, bytes.as_slice()) {
-            return Ok(());
-        }
-        return Err(AllocError.into());
-    }
-    if let_be(name, spelling, report) {
-        return Ok(());
-    }
-    report.count(false);
-    println!(rt; "let {name}: can't read {spelling:?}")
-}
-
-fn let_be(name: &str, spelling: &str, report: &mut Report) -> bool {
     let mut bytes = Bytes::new(report.alloc);
-    spell(report.names.as_slice(), spelling, &mut bytes)
-        && keep(report.alloc, &mut report.names, name, bytes.as_slice())
+    if spell(report.names.as_slice(), spelling, &mut bytes) {
+        report.keep(name, bytes.as_slice());
+    } else {
+        let mut said = Answer::new(report.alloc);
+        said.unread(spelling);
+        report.add_line(name, &said);
+    }
 }
 
 // Runs a row, or for each of its numbers the row with this one.
-fn run_each(line: &str, rows: &mut impl Rows, report: &mut Report, said: &mut Answer) {
-    let Some((from, to)) = each(line) else {
-        return run_line(line, rows, report, said);
+fn take_row(line: &str, rows: &mut impl Rows, report: &mut Report) {
+    let (name, rest) = line.split_once('|').unwrap_or((line, ""));
+    let mut said = Answer::new(report.alloc);
+    match rest.split_once("| each ") {
+        Some((_, range)) => run_each(rest, range, rows, report, &mut said),
+        None => run_line(rest, rows, report, &mut said),
+    }
+    report.add_line(name.trim(), &said);
+}
+
+// The field `each FROM TO` has a row run for each number from one up to the other, in place of each `@`.
+fn run_each(line: &str, range: &str, rows: &mut impl Rows, report: &mut Report, said: &mut Answer) {
+    let (range, _) = range.split_once('|').unwrap_or((range, ""));
+    let (from, to) = range.trim().split_once(' ').unwrap_or(("", ""));
+    let (Some(from), Some(to)) = (decimal(from), decimal(to)) else {
+        return said.unread(range);
     };
     for number in from..to {
         if said.is_silent() {
@@ -138,63 +145,53 @@ fn run_number(
     }
     if !said.is_silent() {
         said.say("at ");
-        said.add_number(number);
+        said.add(digits.text());
     }
-}
-
-// The numbers for which a row with the field `each FROM TO` is run, in place of each `@`.
-fn each(line: &str) -> Option<(u64, u64)> {
-    for field in line.split('|').skip(2) {
-        if let Some(range) = field.trim().strip_prefix("each ") {
-            let (from, to) = range.split_once(' ')?;
-            let (from, to) = (from.parse::<u64>().ok()?, to.parse::<u64>().ok()?);
-            return if from < to { Some((from, to)) } else { None };
-        }
-    }
-    None
 }
 
 fn run_line(line: &str, rows: &mut impl Rows, report: &mut Report, said: &mut Answer) {
-    let alloc = report.alloc;
-    let mut fields = Vec::new(alloc);
-    let mut settings = Vec::new(alloc);
-    let mut is_split = true;
-    for field in line.split('|').skip(1) {
-        is_split = is_split && add_field(field.trim(), &mut fields, &mut settings);
+    let (kind, rest) = line.split_once('|').unwrap_or((line, ""));
+    let mut fields = ArrayVec::new();
+    let mut settings = ArrayVec::new();
+    for field in rest.split('|') {
+        if !add_field(field.trim(), &mut fields, &mut settings) {
+            said.unread(field);
+        }
     }
-    let Some((kind, fields)) = fields.as_slice().split_first() else {
-        return said.unread(line);
+    let row = Row {
+        alloc: report.alloc,
+        names: report.names.as_slice(),
+        kind: kind.trim(),
+        fields: fields.as_slice(),
+        settings: settings.as_slice(),
     };
-    rows.run(
-        &Row {
-            alloc,
-            names: report.names.as_slice(),
-            kind: *kind,
-            fields,
-            settings: settings.as_slice(),
-        },
-        said,
-    );
+    rows.run(&row, said);
     if let Some(name) = value(settings.as_slice(), "keep ") {
-        is_split = keep(alloc, &mut report.names, name, said.bytes()) && is_split;
-    }
-    if !is_split {
-        said.fall_short();
+        report.keep(name, said.bytes());
     }
 }
 
-fn add_field<'a>(field: &'a str, fields: &mut Vec<&'a str>, settings: &mut Vec<&'a str>) -> bool {
-    if is_setting(field) && !fields.is_empty() {
-        settings.push(field).is_ok()
+// False where there are too many.
+fn add_field<'a>(
+    field: &'a str,
+    fields: &mut ArrayVec<&'a str, MOST_FIELDS>,
+    settings: &mut ArrayVec<&'a str, MOST_SETTINGS>,
+) -> bool {
+    if is_setting(field) {
+        settings.try_push(field).is_ok()
     } else {
-        fields.push(field).is_ok()
+        fields.try_push(field).is_ok()
     }
 }
 
 fn is_setting(field: &str) -> bool {
-    field.starts_with("=>")
-        || field.starts_with("out ")
-        || field.starts_with("piece ")
-        || field.starts_with("each ")
-        || field.starts_with("keep ")
+    let (key, value) = field.split_once(' ').unwrap_or((field, ""));
+    let is_key = match key {
+        "out" => true,
+        "piece" => true,
+        "each" => true,
+        "keep" => true,
+        _ => false,
+    };
+    key == "=>" || is_key && !value.is_empty()
 }

@@ -1,4 +1,6 @@
 // A row: what stands between its bars, and the numbers, bytes and words of its fields.
+ghost use Rattle.std.specs.Prelude.{◌≤◌};
+
 use crate::answer::Answer;
 use crate::bytes::{Named, spell};
 use jpg_base::Bytes;
@@ -63,11 +65,16 @@ pub fn word(text: &str) -> (&str, &str) {
     text.split_once(' ').unwrap_or((text, ""))
 }
 
+/// A number in decimal digits, where it is one.
+pub fn decimal(text: &str) -> Option<u64> {
+    text.parse::<u64>().ok()
+}
+
 /// A number in decimal digits; 0 where there is none.
 pub fn number(text: &str, answer: &mut Answer) -> u64 {
-    match text.parse::<u64>() {
-        Ok(number) => number,
-        Err(_) => {
+    match decimal(text) {
+        Some(number) => number,
+        None => {
             answer.unread(text);
             0
         }
@@ -75,7 +82,9 @@ pub fn number(text: &str, answer: &mut Answer) -> u64 {
 }
 
 /// A number of at most this in decimal digits; 0 where there is none.
-pub fn at_most(most: u64, text: &str, answer: &mut Answer) -> u64 {
+pub fn at_most(most: u64, text: &str, answer: &mut Answer) -> u64
+    ensures { result ≤ most }
+{
     let number = number(text, answer);
     if number <= most {
         number
@@ -100,15 +109,20 @@ pub fn large(text: &str, answer: &mut Answer) -> u32 {
     at_most(4_294_967_295, text, answer) as u32
 }
 
-/// A number with a sign, of two bytes.
-pub fn signed(text: &str, answer: &mut Answer) -> i16 {
-    match text.parse::<i16>() {
+/// A number with a sign; 0 where there is none.
+pub fn signed(text: &str, answer: &mut Answer) -> i32 {
+    match text.parse::<i32>() {
         Ok(number) => number,
         Err(_) => {
             answer.unread(text);
             0
         }
     }
+}
+
+/// The same, of two bytes.
+pub fn short(text: &str, answer: &mut Answer) -> i16 {
+    signed(text, answer).clamp(-32_768, 32_767) as i16
 }
 
 /// Whether a text is the first of two.

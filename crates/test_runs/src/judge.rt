@@ -1,7 +1,7 @@
 // What came of a run, and how it differs from what is expected.
 use jpg_base::{Desk, MemoryDesk};
 use jpg_cli::Ended;
-use test_parts::{Answer, Row, number, sum_of, value};
+use test_parts::{Answer, Row, decimal, number, sum_of, value};
 
 /// Says what isn't as the row expects it. The bytes of the answer are those of the only output.
 pub fn judge(row: &Row, ended: Ended, desk: &MemoryDesk, said: &mut Answer) {
@@ -112,14 +112,14 @@ fn is_due(row: &Row, due: &str, output: &[u8], said: &mut Answer) -> bool {
 // Whether bytes have what `LENGTH sum DECIMAL` or `LENGTH fnv HEXADECIMAL` says.
 fn has_sum(text: &str, bytes: &[u8]) -> Option<bool> {
     let (length, text) = text.split_once(' ')?;
-    let length = length.parse::<usize>().ok()?;
+    let length = decimal(length)?;
     let (kind, sum) = text.split_once(' ')?;
     let is_sum = match kind {
-        "sum" => sum.parse::<u32>().ok()? == sum_of(bytes),
+        "sum" => decimal(sum)? == u64::from(sum_of(bytes)),
         "fnv" => u64::from_str_radix(sum, 16).ok()? == fnv_of(bytes),
         _ => false,
     };
-    Some(is_sum && bytes.len() == length)
+    Some(is_sum && bytes.len() as u64 == length)
 }
 
 // FNV-1a over 64 bits.

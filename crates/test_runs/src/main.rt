@@ -10,25 +10,31 @@ mod runs;
 use runs::Commands;
 use std::process::ExitCode;
 use std::{fs, io};
-use test_parts::{Parts, Report, Rows, take_lines};
+use test_parts::{Parts, Report, take_lines};
 
 // The files of rows of the crates below the commands.
 const FILES: [&str; 3] = ["images.rows", "scans.rows", "segments.rows"];
 
 fn main(rt: HostRuntime) -> io::Result<ExitCode> {
     let text = io::read_to_string(rt.alloc(), rt.reader())?;
-    let mut others = take(&rt, text.as_str(), &mut Commands)?;
+    let large = fs::read(&rt, "large.jpg")?;
+    let mut report = Report::new(rt.alloc());
+    report.keep("large.jpg", large.as_slice());
+    take_lines(text.as_str(), &mut Commands, &mut report);
+    print!(&rt; "{}", report.lines())?;
+    let mut others = report.others();
     let mut parts = Parts::new(rt);
     for file in FILES {
-        let text = fs::read_to_string(&rt, file)?;
-        others = take(&rt, text.as_str(), &mut parts)?.max(others);
+        others = take_file(&rt, file, &mut parts)?.max(others);
     }
     Ok(ExitCode::from(u8::from(others > 0)))
 }
 
-// Tries the rows of a text: how many aren't as expected.
-fn take(rt: &HostRuntime, text: &str, rows: &mut impl Rows) -> io::Result<u64> {
+// Tries the rows of a file: how many aren't as expected.
+fn take_file(rt: &HostRuntime, file: &str, parts: &mut Parts) -> io::Result<u64> {
+    let text = fs::read_to_string(rt, file)?;
     let mut report = Report::new(rt.alloc());
-    take_lines(rt, text, rows, &mut report)?;
-    Ok(report.other)
+    take_lines(text.as_str(), parts, &mut report);
+    print!(rt; "{}", report.lines())?;
+    Ok(report.others())
 }

@@ -1,7 +1,7 @@
 // Calls of a desk, one after another: what each answers.
 ghost use Rattle.std.specs.Prelude.{◌≡◌, ◌<◌, length, true};
 ghost use Rattle.jpg_base.specs.Memory.{memory_state};
-ghost use Rattle.test_parts.specs.Desks.{IsReady};
+ghost use Rattle.test_parts.specs.Desks.{IsReady, is_done};
 
 use crate::answer::Answer;
 use crate::row::{Row, large, number, word};
@@ -218,7 +218,7 @@ fn say<D: Desk>(row: &Row, text: &str, ready: Ready, desk: &mut D, answer: &mut 
 
 // Adds what a call answers, and says whether it was done.
 fn say_put(put: Put, answer: &mut Answer) -> bool
-    ensures { (result ≡ true) ↔ (put ≡ Put.Done) }
+    ensures { result ≡ is_done put }
 {
     match put {
         Put::Done => {

@@ -1,6 +1,8 @@
 // Frames by their numbers, tables of quantisers, blocks and lists of bytes.
+ghost use Rattle.std.specs.Prelude.{◌≤◌};
+
 use crate::answer::Answer;
-use crate::row::{Row, large, middle, signed, small, word};
+use crate::row::{Row, large, middle, short, small, word};
 use jpg_base::{Block, Component, Fault, Frame, Grid, Limits, Process, QuantTable};
 
 const NO_COMPONENT: Component = Component {
@@ -148,7 +150,7 @@ fn block_step(field: &str, block: &mut Block, answer: &mut Answer) {
     let (place, value) = word(rest);
     let place = small(place, answer).min(63);
     match key {
-        "put" => block.set(place, signed(value, answer)),
+        "put" => block.set(place, short(value, answer)),
         "get" => answer.say_shown(&block.get(place)),
         _ => answer.unread(field),
     }

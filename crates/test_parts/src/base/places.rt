@@ -4,8 +4,8 @@ ghost use Rattle.jpg_base.specs.Cursor.{AreIn};
 
 use crate::answer::Answer;
 use crate::row::{Row, small};
-use crate::scans::heads::{all_components, asked_frame, factors_of, frame_of, one_component};
-use jpg_base::{Cursor, Frame, Place, ScanHead};
+use crate::scans::heads::{all_components, asked_frame, factors_of, frame_of, one_component, part};
+use jpg_base::{Component, Cursor, Frame, Place, ScanHead};
 
 /// The places of the scan of all components of a frame.
 pub fn places(row: &Row, answer: &mut Answer) {
@@ -90,8 +90,8 @@ fn sum_of_one(frame: &Frame, component: u8) -> Option<u64> {
 }
 
 // A sum of sums goes on, by the places of all components and then of each alone.
-fn with_frame(sum: u64, factors: &[(u8, u8)]) -> Option<u64> {
-    let frame = frame_of(factors, 75, 43)?;
+fn with_frame(sum: u64, components: &[Component]) -> Option<u64> {
+    let frame = frame_of(components, 75, 43)?;
     let mut sum = sum.wrapping_mul(1000003).wrapping_add(sum_of_all(&frame)?);
     for i in 0..frame.count() {
         let one = sum_of_one(&frame, i)?;
@@ -100,15 +100,27 @@ fn with_frame(sum: u64, factors: &[(u8, u8)]) -> Option<u64> {
     Some(sum)
 }
 
-// Two to four components: these factors of the first one, `a` across of the second, and all down of this one.
-fn sum_across(sum: u64, count: u8, (h, v): (u8, u8), a: u8) -> Option<u64> {
+// Two to four components: this first one, `a` across of the second, and all down of this one.
+fn sum_across(sum: u64, count: u8, first: Component, a: u8) -> Option<u64> {
     let mut sum = sum;
+    let (h, v) = (first.h, first.v);
     for b in 1..=4 {
-        sum = match count {
-            2 => with_frame(sum, &[(h, v), (a, b)])?,
-            3 => with_frame(sum, &[(h, v), (a, b), (b, v)])?,
-            _ => with_frame(sum, &[(h, v), (a, b), (b, h), (v, a)])?,
-        };
+        let parts = [
+            first,
+            part(a, b),
+            part(b, if count == 3 { v } else { h }),
+            part(v, a),
+        ];
+        let many = (count as usize).clamp(2, 4);
+        sum = with_frame(sum, &parts[..many])?;
+    }
+    Some(sum)
+}
+
+fn family_sum(count: u8, first: Component) -> Option<u64> {
+    let mut sum = 0;
+    for a in 1..=4 {
+        sum = sum_across(sum, count, first, a)?;
     }
     Some(sum)
 }
@@ -119,18 +131,10 @@ pub fn sum(row: &Row, answer: &mut Answer) {
     let factors = factors_of(row.field(1), answer);
     let first = match factors.as_slice() {
         [first] => *first,
-        _ => (0, 0),
+        _ => part(0, 0),
     };
     match family_sum(count, first) {
         Some(sum) => answer.say_number(sum),
         None => answer.say("none"),
     }
-}
-
-fn family_sum(count: u8, first: (u8, u8)) -> Option<u64> {
-    let mut sum = 0;
-    for a in 1..=4 {
-        sum = sum_across(sum, count, first, a)?;
-    }
-    Some(sum)
 }

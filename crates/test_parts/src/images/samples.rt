@@ -1,6 +1,6 @@
 // The parts that show a file: blocks, rows and colours.
 use crate::answer::Answer;
-use crate::row::{Row, small};
+use crate::row::{Row, signed, small};
 use jpg_base::Bytes;
 use jpg_color::to_rgb;
 use jpg_dct::flat_block;
@@ -11,17 +11,11 @@ const LONGEST: usize = 8;
 
 /// The sample that all 64 of a block are, of which DC times its quantiser is this, and the other values are 0.
 pub fn flat(row: &Row, answer: &mut Answer) {
-    let value = row.field(0);
-    let dc = match value.parse::<i32>() {
-        Ok(dc) => dc.clamp(-67_108_864, 67_108_864),
-        Err(_) => {
-            answer.unread(value);
-            0
-        }
-    };
+    let dc = signed(row.field(0), answer).clamp(-67_108_864, 67_108_864);
     let samples = flat_block(dc);
     let is_flat = samples == [samples[0]; 64];
-    add_numbers(if is_flat { &samples[..1] } else { &samples }, answer);
+    let count = if is_flat { 1 } else { 64 };
+    add_numbers(&samples[..count], answer);
 }
 
 /// A row made twice as wide.

@@ -1,4 +1,6 @@
 // Blocks of a picture as text.
+ghost use Rattle.std.specs.Prelude.{◌<◌};
+
 use crate::answer::Answer;
 use jpg_base::Block;
 use jpg_coefs::{BlockView, Coefs};

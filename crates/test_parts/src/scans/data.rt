@@ -4,7 +4,7 @@ ghost use Rattle.jpg_spec.specs.Geometry.{bounds_of};
 ghost use Rattle.jpg_spec.specs.Elements.{IsBlockIn};
 
 use crate::answer::Answer;
-use crate::row::{Row, middle, signed, small, word};
+use crate::row::{Row, middle, short, small, word};
 use crate::scans::bits::say_only;
 use crate::scans::heads::{all_components, asked_frame};
 use crate::scans::machine::is_progressive;
@@ -74,7 +74,7 @@ fn block_of(text: &str, answer: &mut Answer) -> Block
     let mut block = Block::zero();
     for part in text.split(',') {
         let (place, value) = word(part);
-        set(&mut block, small(place, answer), signed(value, answer));
+        set(&mut block, small(place, answer), short(value, answer));
     }
     block
 }

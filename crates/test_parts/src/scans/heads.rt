@@ -9,12 +9,23 @@ use arrayvec::ArrayVec;
 use jpg_base::{Component, Frame, Limits, Process, ScanHead, ScanPart};
 use jpg_huff::{Table, TableSet};
 
-/// Factors across and down, as `2x2 1x1`, of at most four components.
-pub fn factors_of(text: &str, answer: &mut Answer) -> ArrayVec<(u8, u8), 4> {
+/// A component with these factors across and down.
+pub fn part(h: u8, v: u8) -> Component {
+    Component {
+        id: 0,
+        h,
+        v,
+        quant: 0,
+    }
+}
+
+/// Components by their factors across and down, as `2x2 1x1`, of which there are at most four.
+pub fn factors_of(text: &str, answer: &mut Answer) -> ArrayVec<Component, 4> {
     let mut list = ArrayVec::new();
     for word in text.split_whitespace() {
         let (h, v) = word.split_once('x').unwrap_or((word, ""));
-        if list.try_push((small(h, answer), small(v, answer))).is_err() {
+        let component = part(small(h, answer), small(v, answer));
+        if list.try_push(component).is_err() {
             answer.unread(word);
         }
     }
@@ -23,32 +34,29 @@ pub fn factors_of(text: &str, answer: &mut Answer) -> ArrayVec<(u8, u8), 4> {
 
 /// The frame of a field of factors and one of `WIDTH HEIGHT`.
 pub fn asked_frame(row: &Row, answer: &mut Answer) -> Option<Frame> {
-    let factors = factors_of(row.field(0), answer);
+    let components = factors_of(row.field(0), answer);
     let (width, height) = word(row.field(1));
-    frame_of(
-        factors.as_slice(),
-        large(width, answer),
-        large(height, answer),
-    )
+    let width = large(width, answer);
+    let height = large(height, answer);
+    frame_of(components.as_slice(), width, height)
 }
 
-/// A baseline frame of the first four of these factors across and down, where there is one.
-pub fn frame_of(factors: &[(u8, u8)], width: u32, height: u32) -> Option<Frame> {
-    let mut components: ArrayVec<Component, 4> = ArrayVec::new();
-    for (i, (h, v)) in factors.iter().take(4).enumerate() {
-        let _ = components.try_push(Component {
+/// A baseline frame of these components, which get identifiers of their own, where there is one.
+pub fn frame_of(components: &[Component], width: u32, height: u32) -> Option<Frame> {
+    let mut parts = [part(0, 0); 4];
+    let count = components.len().min(4);
+    for (i, (own, component)) in parts.iter_mut().zip(components).enumerate() {
+        *own = Component {
             id: i as u8,
-            h: *h,
-            v: *v,
-            quant: 0,
-        });
+            ..*component
+        };
     }
     Frame::new(
         Process::Baseline,
         8,
         height,
         width,
-        components.as_slice(),
+        &parts[..count],
         &Limits::standard(),
     )
     .ok()

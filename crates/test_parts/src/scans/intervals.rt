@@ -5,7 +5,7 @@ ghost use Rattle.test_parts.specs.Heads.{HasFour};
 use crate::answer::Answer;
 use crate::row::{Row, small};
 use crate::scans::blocks::add_blocks;
-use crate::scans::heads::{factors_of, frame_of};
+use crate::scans::heads::{factors_of, frame_of, part};
 use crate::scans::machine::{Cut, Read, read_scan};
 use crate::scans::tables::coding;
 use arrayvec::ArrayVec;
@@ -125,7 +125,7 @@ fn say_taken(taken: Taken, answer: &mut Answer) -> bool {
 pub fn fault(row: &Row, answer: &mut Answer) {
     let tables = coding(row, row.field(0), answer);
     let bits = bits_before(row, answer);
-    let Some(frame) = frame_of(&[(1, 1)], 16, 8) else {
+    let Some(frame) = frame_of(&[part(1, 1)], 16, 8) else {
         return answer.say("no frame");
     };
     let given = Given {
