@@ -105,7 +105,7 @@ pub fn no_jfif() -> Jfif {
 fn header_of(row: &Row, answer: &mut Answer) -> Bytes {
     let ids = row.bytes(0, answer);
     let mut header = Bytes::new(row.alloc);
-    let count = ids.as_slice().len() as u8;
+    let count = u8::try_from(ids.as_slice().len()).unwrap_or(255);
     let mut is_whole = header.push_all(&[8, 0, 8, 0, 8, count]).is_ok();
     for id in ids.as_slice() {
         is_whole = is_whole && header.push_all(&[*id, 0x11, 0]).is_ok();

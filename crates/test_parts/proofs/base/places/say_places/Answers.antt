@@ -6,4 +6,4 @@ use Rattle.test_parts.proofs.base.places.say_places.Goals as goal
 
 pub loop-unit-preserved : goal.loop-unit-preserved
 loop-unit-preserved c =
-    c.step.ensures ∙ ap (λ xs. drop 1 xs) c.loop-unit.invariant ∙ drop-drop 1 c.loop-unit.unit-counter (units c.args.frame.now (head_components c.args.head.now))
+    c.step.ensures ∙ ap (λ xs. drop 1 xs) c.loop-unit.invariant ∙ drop-drop 1 c.loop-unit.unit (units c.args.frame.now (head_components c.args.head.now))

@@ -4,4 +4,4 @@ use Rattle.jpg_spec.specs.Segments.{head_components}
 use Rattle.test_parts.proofs.base.places.say_places.Given as goal
 
 abbrev pub invariant-loop-unit : goal.invariant-loop-unit
-invariant-loop-unit l = l.cursor ≡ drop l.unit-counter (units l.frame (head_components l.head))
+invariant-loop-unit l = l.cursor ≡ drop l.unit (units l.frame (head_components l.head))
