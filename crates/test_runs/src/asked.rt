@@ -1,43 +1,46 @@
 // What words ask for, part by part.
-use crate::runs::words_of;
 use jpg_base::Name;
 use jpg_cli::{Asked, CommentFrom, Files, ScriptFrom, TransformWords, WriteWords, read_words};
-use std::alloc::{AllocError, Global};
-use test_rows::{Other, Stop};
+use std::alloc::Global;
+use test_parts::Answer;
 
-/// The first part that the words ask for in another way than is due. Each is `PART VALUE`, and commas part them.
-pub fn run_asked<'a>(alloc: Global, words: &str, due: &'a str) -> Result<Other, Stop<'a>> {
-    let list = words_of(alloc, words)?;
-    let Ok(asked) = read_words(alloc, list.as_slice()) else {
-        return Ok(Some(format!(in alloc; "other words")?));
-    };
+/// Says each part that the words ask for in another way than is expected. Each is `PART VALUE`, and commas part them.
+pub fn judge_words(alloc: Global, words: &[String], due: &str, said: &mut Answer) {
+    match read_words(alloc, words) {
+        Ok(asked) => judge_parts(alloc, &asked, due, said),
+        Err(_) => said.say("other words"),
+    }
+}
+
+fn judge_parts(alloc: Global, asked: &Asked, due: &str, said: &mut Answer) {
     for text in due.split(',') {
         let text = text.trim();
         let (part, value) = text.split_once(' ').unwrap_or((text, ""));
-        let got = part_of(alloc, &asked, part)?;
-        if got.as_str().trim_end() != value {
-            return Ok(Some(format!(in alloc; "asks for {part} {}", got.as_str())?));
+        let mut got = Answer::new(alloc);
+        add_part(asked, part, &mut got);
+        if got.text().trim_end() != value {
+            said.say(part);
+            said.add(" is ");
+            said.add(got.text());
         }
     }
-    Ok(None)
 }
 
-fn part_of(alloc: Global, asked: &Asked, part: &str) -> Result<String, AllocError> {
+fn add_part(asked: &Asked, part: &str, got: &mut Answer) {
     match asked {
-        Asked::Jpegtran(words) => transform_part(alloc, words, part),
-        Asked::Rdjpgcom(files) => file_part(alloc, files, part),
-        Asked::Wrjpgcom(words) => comment_part(alloc, words, part),
-        _ => String::from_str(alloc, "?"),
+        Asked::Jpegtran(words) => add_transform_part(words, part, got),
+        Asked::Rdjpgcom(files) => add_file_part(files, part, got),
+        Asked::Wrjpgcom(words) => add_comment_part(words, part, got),
+        _ => got.add("?"),
     }
 }
 
-fn file_part(alloc: Global, files: &Files, part: &str) -> Result<String, AllocError> {
-    let text = match part {
-        "input" => name_text(&files.input),
-        "output" => name_text(&files.output),
-        _ => "?",
-    };
-    String::from_str(alloc, text)
+fn add_file_part(files: &Files, part: &str, got: &mut Answer) {
+    match part {
+        "input" => got.add(name_text(&files.input)),
+        "output" => got.add(name_text(&files.output)),
+        _ => got.add("?"),
+    }
 }
 
 // The text of a name, or what stands for the streams.
@@ -49,31 +52,48 @@ fn name_text(name: &Name) -> &str {
     }
 }
 
-fn transform_part(alloc: Global, words: &TransformWords, part: &str) -> Result<String, AllocError> {
+fn add_transform_part(words: &TransformWords, part: &str, got: &mut Answer) {
     match part {
-        "transform" => format!(in alloc; "{:?}", words.transform),
-        "trim" => format!(in alloc; "{}", words.trim),
-        "gray" => format!(in alloc; "{}", words.gray),
-        "copying" => format!(in alloc; "{:?}", words.copying),
-        "huffman" => format!(in alloc; "{:?}", words.huffman),
-        "restart" => format!(in alloc; "{:?}", words.restart),
-        "scans" => match &words.script {
-            ScriptFrom::Sequential => String::from_str(alloc, "sequential"),
-            ScriptFrom::Standard => String::from_str(alloc, "standard"),
-            ScriptFrom::File(name) => format!(in alloc; "file {}", name.as_str()),
-        },
-        _ => file_part(alloc, &words.files, part),
+        "transform" => got.add_shown(&words.transform),
+        "trim" => got.add_shown(&words.trim),
+        "gray" => got.add_shown(&words.gray),
+        "copying" => got.add_shown(&words.copying),
+        "huffman" => got.add_shown(&words.huffman),
+        "restart" => got.add_shown(&words.restart),
+        "scans" => add_script(&words.script, got),
+        _ => add_file_part(&words.files, part, got),
     }
 }
 
-fn comment_part(alloc: Global, words: &WriteWords, part: &str) -> Result<String, AllocError> {
+fn add_script(script: &ScriptFrom, got: &mut Answer) {
+    match script {
+        ScriptFrom::Sequential => got.add("sequential"),
+        ScriptFrom::Standard => got.add("standard"),
+        ScriptFrom::File(name) => {
+            got.add("file ");
+            got.add(name.as_str());
+        }
+    }
+}
+
+fn add_comment_part(words: &WriteWords, part: &str, got: &mut Answer) {
     match part {
-        "replace" => format!(in alloc; "{}", words.replace),
-        "comment" => match &words.comment {
-            CommentFrom::Input => String::from_str(alloc, "input"),
-            CommentFrom::Given(text) => format!(in alloc; "given {}", text.as_str()),
-            CommentFrom::File(name) => format!(in alloc; "file {}", name.as_str()),
-        },
-        _ => file_part(alloc, &words.files, part),
+        "replace" => got.add_shown(&words.replace),
+        "comment" => add_comment(&words.comment, got),
+        _ => add_file_part(&words.files, part, got),
+    }
+}
+
+fn add_comment(comment: &CommentFrom, got: &mut Answer) {
+    match comment {
+        CommentFrom::Input => got.add("input"),
+        CommentFrom::Given(text) => {
+            got.add("given ");
+            got.add(text.as_str());
+        }
+        CommentFrom::File(name) => {
+            got.add("file ");
+            got.add(name.as_str());
+        }
     }
 }

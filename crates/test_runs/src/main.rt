@@ -1,38 +1,40 @@
-//! Runs of the commands over desks in memory, for the gate alone. Standard input has a row for each, with what is due, and a
-//! line is printed for each row.
+//! The rows of the gate: runs of the commands over desks in memory, each a row of standard input with the expected answer, and calls of
+//! the crates below them, which are rows of the files in data. A line is printed for each row.
 #![tactic(auto)]
 
 mod asked;
 mod cut_desk;
-mod row;
+mod judge;
 mod runs;
 
-use row::read_row;
-use runs::run_row;
-use std::alloc::Global;
-use std::io;
+use runs::Commands;
 use std::process::ExitCode;
-use test_rows::{Named, Other, Report, Rows, Stop, take_lines};
+use std::{fs, io};
+use test_parts::{Parts, Report, take_lines};
 
-#[derive(Drop)]
-struct CommandRuns;
-
-impl Rows for CommandRuns {
-    fn run<'a>(
-        &mut self,
-        alloc: Global,
-        names: &mut Vec<Named>,
-        line: &'a str,
-    ) -> Result<Other, Stop<'a>> {
-        run_row(alloc, names, &read_row(alloc, line)?)
-    }
-}
+// The files of rows of the crates below the commands.
+const FILES: [&str; 3] = ["images.rows", "scans.rows", "segments.rows"];
 
 fn main(rt: HostRuntime) -> io::Result<ExitCode> {
-    let alloc = rt.alloc();
-    let text = io::read_to_string(alloc, rt.reader())?;
-    let mut report = Report::new(alloc);
-    take_lines(&rt, alloc, text.as_str(), &mut CommandRuns, &mut report)?;
-    println!(rt; "{} rows ok, {} not", report.ok, report.other)?;
-    Ok(ExitCode::from(u8::from(report.other > 0)))
+    let text = io::read_to_string(rt.alloc(), rt.reader())?;
+    let large = fs::read(&rt, "large.jpg")?;
+    let mut report = Report::new(rt.alloc());
+    report.keep("large.jpg", large.as_slice());
+    take_lines(text.as_str(), &mut Commands, &mut report);
+    print!(&rt; "{}", report.lines())?;
+    let mut others = report.others();
+    let mut parts = Parts::new(rt);
+    for file in FILES {
+        others = take_file(&rt, file, &mut parts)?.max(others);
+    }
+    Ok(ExitCode::from(u8::from(others > 0)))
+}
+
+// Tries the rows of a file: how many aren't as expected.
+fn take_file(rt: &HostRuntime, file: &str, parts: &mut Parts) -> io::Result<u64> {
+    let text = fs::read_to_string(rt, file)?;
+    let mut report = Report::new(rt.alloc());
+    take_lines(text.as_str(), parts, &mut report);
+    print!(rt; "{}", report.lines())?;
+    Ok(report.others())
 }

@@ -1,0 +1,6 @@
+use Rattle.std.specs.Prelude.{◌≡◌}
+use Rattle.jpg_markers.specs.Reading.{reading_of}
+use Rattle.test_parts.proofs.markers.segments.feed.Given as goal
+
+abbrev pub invariant-loop-byte : goal.invariant-loop-byte
+invariant-loop-byte l = (reading_of l.reader).limits ≡ (reading_of l.fn.reader).limits

@@ -1,0 +1,3 @@
+pub mod Desks
+pub mod Heads
+pub mod Open

@@ -1,5 +1,0 @@
-use Rattle.jpg_file.specs.Read.ReadRows.{IsPlain}
-use Rattle.test_scans.proofs.files.feed.Given as goal
-
-abbrev pub invariant-loop-piece : goal.invariant-loop-piece
-invariant-loop-piece l = IsPlain l.reader

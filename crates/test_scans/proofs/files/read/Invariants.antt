@@ -1,6 +1,0 @@
-use Rattle.std.specs.Prelude.{◌≡◌, false}
-use Rattle.jpg_file.specs.Read.ReadRows.{IsPlain}
-use Rattle.test_scans.proofs.files.read.Given as goal
-
-abbrev pub invariant-loop-piece : goal.invariant-loop-piece
-invariant-loop-piece l = (l.reader.done ≡ false) × IsPlain l.reader

@@ -1,5 +1,0 @@
-use Rattle.std.specs.Prelude.{◌≡◌, length}
-use Rattle.test_scans.proofs.machine.bytes_of.Given as goal
-
-abbrev pub invariant-loop-k : goal.invariant-loop-k
-invariant-loop-k l = length l.bytes.items ≡ l.k

@@ -1,6 +1,0 @@
-use Rattle.test_scans.proofs.Begun.{goes_on}
-use Rattle.test_scans.proofs.machine.one_stretch.Goals as goal
-
-pub returns-clause-goes_on : goal.returns-clause-goes_on
-returns-clause-goes_on c =
-    goes_on _ c.args.machine.now c.bytes-got.new.self c.args.coefs.now c.bytes-got.new.coefs _ _ c.bytes-got.result.taken c.bytes-got.ensures.takes c.requires.open

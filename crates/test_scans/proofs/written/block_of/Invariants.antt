@@ -1,6 +1,0 @@
-use Rattle.jpg_spec.specs.Geometry.{bounds_of}
-use Rattle.jpg_spec.specs.Elements.{IsBlockIn}
-use Rattle.test_scans.proofs.written.block_of.Given as goal
-
-abbrev pub invariant-loop-k : goal.invariant-loop-k
-invariant-loop-k l = IsBlockIn (bounds_of 8) l.block

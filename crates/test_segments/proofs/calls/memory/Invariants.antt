@@ -1,6 +1,0 @@
-use Rattle.jpg_base.specs.Memory.{memory_state}
-use Rattle.test_segments.specs.Calls.{IsReady}
-use Rattle.test_segments.proofs.calls.memory.Given as goal
-
-abbrev pub invariant-loop-field : goal.invariant-loop-field
-invariant-loop-field l = IsReady l.ready (memory_state l.desk)

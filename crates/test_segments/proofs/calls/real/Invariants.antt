@@ -1,6 +1,0 @@
-use Rattle.jpg_base.specs.Standard.{std_state}
-use Rattle.test_segments.specs.Calls.{IsReady}
-use Rattle.test_segments.proofs.calls.real.Given as goal
-
-abbrev pub invariant-loop-field : goal.invariant-loop-field
-invariant-loop-field l = IsReady l.ready (std_state l.desk.told)

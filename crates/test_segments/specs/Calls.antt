@@ -1,9 +1,0 @@
--- What is known of a desk beside its calls.
-use Rattle.std.specs.Prelude.{◌≡◌, true}
-use Rattle.jpg_base.specs.Desk.{DeskState}
-use Rattle.test_segments.specs.declared.calls.Ready.{Ready}
-
--- what is said to be open and created is
-pub record IsReady (ready : Ready) (state : DeskState) : Type 0 where
-  pub input : ready.input ≡ true → state.input_open ≡ true
-  pub output : ready.output ≡ true → state.output_created ≡ true
