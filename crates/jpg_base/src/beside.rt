@@ -137,7 +137,7 @@ impl Beside {
         }
         for _ in 0..LINKS {
             match fs::symlink_metadata(rt, self.place.as_str()) {
-                Ok(found) if found.is_symlink() => {
+                Ok(found) if found.is_symlink() && !is_of_a_process(self.place.as_str()) => {
                     if !self.follow(rt) {
                         return false;
                     }
@@ -228,6 +228,9 @@ impl Beside {
         if !self.find_place(rt, path) {
             return Made::Nowhere;
         }
+        if is_of_a_process(self.place.as_str()) {
+            return Made::AtOnce;
+        }
         let made = match found_at(rt, self.place.as_str()) {
             There::Nothing => {
                 self.way = Way::New;
@@ -262,6 +265,12 @@ pub fn folder_of(path: &str) -> &str {
         },
         None => "",
     }
+}
+
+// Whether a path leads to what a process has open, such as its standard output: that has the text of a path, but needn't be
+// there.
+fn is_of_a_process(path: &str) -> bool {
+    path.starts_with("/proc/")
 }
 
 // The mode of a new file in the place of one of this mode. The bits of the group are those of all that an access list
