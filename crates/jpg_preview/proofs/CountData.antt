@@ -29,7 +29,8 @@ use Rattle.jpg_preview.specs.declared.counter.Counted.TheVariants as counted
 use Rattle.jpg_preview.specs.Counting.{Count, CountsBetween, CountsByte, CountsInData, CountsScans, EndsBetween, EndsData, EndsInData, HasEnded, HoldsSegments}
 use Rattle.jpg_preview.proofs.BeforeData.{none_last, one_last}
 use Rattle.jpg_preview.proofs.BeforeItems.{BetweenBefore, more, whole, started, ended, between_before, IsSameScan, InDataBefore, in_fill, in_plain, in_stuffed, in_restart, at_header, in_data_before}
-use Rattle.jpg_preview.proofs.CountSteps.{ReachesPart, part, frame, part_reached, between_more}
+use Rattle.jpg_preview.proofs.CountSteps.{ReachesPart, part, frame, part_reached}
+use Rattle.jpg_markers.proofs.Taking.{further}
 
 -- WHAT PASSES THE GATE
 
@@ -232,7 +233,7 @@ fill_stands r sent t s before fill some w k = (k.0, by r.phase k.1)
     all = s ∷ before
 
     there : (u : List ℕ) → Between (kept_rule r.limits) (sent ++ u) (s ∷ before) u
-    there u = between_more (kept_rule r.limits) sent (s ∷ before) [] u w
+    there u = further (kept_rule r.limits) sent (s ∷ before) [] u w
 
     on : (ph : Phase) → IsBetween r ph (sent ++ t) (s ∷ before) → IsBetween r ph (sent ++ (replicate fill 255 ++ t)) (s ∷ before)
     on ph h = (
@@ -268,7 +269,7 @@ module _ (old new : Count) (byte : ℕ) (answer : Result SegStep Stop) (w : EndB
       let begins = part_begins (scan_item q ∷ q.items) (replicate (suc n) 255 ++ byte ∷ []) byte p (n, refl, w.code) in
       let some : last ≡ [] → ⊥ = λ e. no_head 255 (byte ∷ []) (sym e) in
       let short : PartOfItem (scan_item q ∷ q.items) last = inl (byte, ((0, refl, w.code), begins.1, begins.2)) in
-      let next = between_more (kept_rule old.limits) s.0 all [] last s.2 in
+      let next = further (kept_rule old.limits) s.0 all [] last s.2 in
       let reached = part_reached (kept_rule old.limits) (s.0 ++ last) (scan_item q ∷ q.items) last next short some in
       let stands = part_stands (s.0 ++ last) all answer new.reading (w.comes s.0 all s.1) w.answered (subst (λ l. ReachesPart (kept_rule l) (s.0 ++ last)) (sym w.bounded) reached) in
       let filled = fill_stands new.reading s.0 last (0xda, q.contents) (segments_of q.items) n some (subst (λ l. Between (kept_rule l) s.0 all []) (sym w.bounded) s.2) stands in
@@ -279,7 +280,7 @@ module _ (old new : Count) (byte : ℕ) (answer : Result SegStep Stop) (w : EndB
         segments = (
           s.0 ++ (replicate n 255 ++ last),
           filled,
-          subst (λ l. Between (kept_rule old.limits) (s.0 ++ (replicate n 255 ++ last)) all l) cut (between_more (kept_rule old.limits) s.0 all [] (replicate n 255 ++ last) s.2),
+          subst (λ l. Between (kept_rule old.limits) (s.0 ++ (replicate n 255 ++ last)) all l) cut (further (kept_rule old.limits) s.0 all [] (replicate n 255 ++ last) s.2),
         );
       }
 

@@ -22,6 +22,7 @@ use Rattle.jpg_preview.specs.declared.counter.Counted.TheVariants as counted
 use Rattle.jpg_preview.specs.Counting.{Count, CountsBetween, CountsByte, CountsInData, CountsScans, CountsStart, EndsData, EndsInData}
 use Rattle.jpg_preview.proofs.BeforeData.{none_last, one_last}
 use Rattle.jpg_preview.proofs.BeforeItems.{BetweenBefore, more, whole, started, ended, between_before, InDataBefore, in_fill, in_plain, in_stuffed, in_restart, at_header, in_data_before}
+use Rattle.jpg_markers.proofs.Taking.{further}
 
 -- WHAT IS REACHED where the bytes end, and what the reader of segments holds then
 
@@ -83,9 +84,6 @@ kept_unbroken limits before code contents e = by (kept_rule limits before code c
     by None h = refl
     by (Some f) h = absurd (let z : None ≡ Some f = sym e ∙ kept_is_rule limits before code contents f h in cc)
 
-pub between_more : (rule : Rule) (sent : List ℕ) (before : List Segment) (t next : List ℕ) → Between rule sent before t → Between rule (sent ++ next) before (t ++ next)
-between_more rule sent before t next w = record { front = w.front; cut = ap (λ l. l ++ next) w.cut ∙ append_assoc w.front t next; spelled = w.spelled; passed = w.passed }
-
 -- these segments, the last of which is complete with the last byte
 pub record WholeBehind (limits : Limits) (sent : List ℕ) (code : ℕ) (contents : List ℕ) (before : List Segment) : Type 0 where
   pub reached : Reaches (kept_rule limits) sent (at_segment (code, contents))
@@ -139,7 +137,7 @@ module _ (old new : Count) (byte : ℕ) (answer : Result SegStep Stop) (w : Outs
   outside_between items tail (more t e d) p =
       let k = v.between items t d in
       let s = k.segments in
-      let next = between_more (kept_rule old.limits) s.0 (segments_of items) t (byte ∷ []) s.2 in
+      let next = further (kept_rule old.limits) s.0 (segments_of items) t (byte ∷ []) s.2 in
       let some : t ++ byte ∷ [] ≡ [] → ⊥ = none_last t byte in
       let h = comes_on s.0 (segments_of items) s.1 (part_reached (kept_rule old.limits) (s.0 ++ byte ∷ []) items (t ++ byte ∷ []) next (subst (PartOfItem items) e p) some) in
       record { outside = h.1; due = w.due ∙ k.due; segments = (s.0 ++ byte ∷ [], h.0, subst (λ l. Between (kept_rule old.limits) (s.0 ++ byte ∷ []) (segments_of items) l) (sym e) next) }

@@ -2,7 +2,7 @@
 use Rattle.std.proofs.Common.{◌≡◌, ℕ, ◌+◌, ◌-◌, ◌<◌, ◌≤◌, List, [], ◌∷◌, ◌++◌, length, take, refl, sym, ap, ◌∙◌, subst, arith, inl, inr}
 use Rattle.std.specs.Prelude.{◌⊎◌, slice_index}
 use Rattle.std.proofs.Math.Seq.{take_all}
-use Rattle.std.proofs.lemmas.List.{append_assoc, append-nil, take_more}
+use Rattle.std.proofs.lemmas.List.{append_assoc, take_more}
 use Rattle.std.proofs.lemmas.Bool.{cases_lt}
 use Rattle.jpg_preview.specs.declared.counter.Counted.{Counted}
 use Rattle.jpg_preview.specs.declared.counter.Counted.TheVariants as counted
@@ -16,15 +16,6 @@ pub record Searched (old : Count) (bytes : List ℕ) (done : ℕ) (now : Count) 
   pub limits : now.limits ≡ old.limits
   pub taken : now.taken ≡ old.taken + done
   pub counts : (scans : ℕ) (front : List ℕ) → CountsScans old.limits scans front old → CountsScans old.limits scans (front ++ take done bytes) now × NoneEnd old.limits front bytes done
-
-pub searched_none : (old : Count) (bytes : List ℕ) → IsSteady old → Searched old bytes 0 old
-searched_none old bytes s = record {
-  within = omega arith;
-  steady = s;
-  limits = refl;
-  taken = omega arith;
-  counts = λ scans front k. (subst (λ l. CountsScans old.limits scans l old) (sym (append-nil front)) k, λ m less. absurd (let z : ⊥ = omega (arith, less) in z));
-}
 
 one_more : (front bytes : List ℕ) (done : ℕ) → done < length bytes → (front ++ take done bytes) ++ slice_index bytes done ∷ [] ≡ front ++ take (done + 1) bytes
 one_more front bytes done less = append_assoc front (take done bytes) (slice_index bytes done ∷ []) ∙ ap (λ l. front ++ l) (sym (take_more bytes done 0 less))

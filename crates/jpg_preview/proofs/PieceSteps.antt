@@ -2,7 +2,7 @@
 use Rattle.std.proofs.Common.{◌≡◌, ℕ, ◌+◌, ◌-◌, ◌<◌, ◌≤◌, false, List, ◌++◌, length, take, drop, refl, sym, ap, ◌∙◌, subst, arith, None, Ok, Err}
 use Rattle.std.specs.Prelude.{Result}
 use Rattle.std.proofs.Math.Seq.{take_all, take-add}
-use Rattle.std.proofs.lemmas.List.{append_assoc, append-nil, length-append, length-drop, take-append-drop}
+use Rattle.std.proofs.lemmas.List.{append_assoc, length-append, length-drop, take-append-drop}
 use Rattle.jpg_base.specs.declared.stop.Fed.{Fed}
 use Rattle.jpg_base.specs.declared.stop.Fed.TheVariants as fed
 use Rattle.jpg_base.specs.declared.stop.Stop.{Stop}
@@ -32,14 +32,6 @@ pub record PieceViewed (old : ReaderState) (before : Count) (piece : List ℕ) (
   pub undone : new.done ≡ false
   pub ready : StaysReady old new now
   pub goes : (scans : ℕ) (bytes : List ℕ) → Views scans bytes old before → Views scans (bytes ++ take used piece) new now
-
-pub piece_begun : (old : ReaderState) (before : Count) (piece : List ℕ) → old.done ≡ false → IsPlain old → IsSteady before → before.limits ≡ old.limits → PieceViewed old before piece 0 old before
-piece_begun old before piece undone plain steady bounded = record {
-  within = omega arith;
-  undone = undone;
-  ready = record { limits = refl; keeping = refl; plain = plain; steady = steady; bounded = bounded };
-  goes = λ scans bytes v. subst (λ l. Views scans l old before) (sym (append-nil bytes)) v;
-}
 
 -- a part of what is left
 taken_on : (piece : List ℕ) (used n : ℕ) (bytes : List ℕ) → (bytes ++ take used piece) ++ take n (drop used piece) ≡ bytes ++ take (used + n) piece
@@ -95,7 +87,7 @@ pub piece_wanted : (old new : ReaderState) (before now : Count) (piece : List �
 piece_wanted old new before now piece used w full = λ scans bytes v. subst (λ l. Views scans (bytes ++ l) new now) (take_all used piece full) (w.goes scans bytes v)
 
 -- THE REST of a piece, as it is sliced
-rest_is : (piece : List ℕ) (used : ℕ) → take (length piece - used) (drop used piece) ≡ drop used piece
+pub rest_is : (piece : List ℕ) (used : ℕ) → take (length piece - used) (drop used piece) ≡ drop used piece
 rest_is piece used = (let size = length-drop used piece in take_all (length piece - used) (drop used piece) (omega (arith, size)))
 
 pub rest_viewed : (old new : ReaderState) (before now : Count) (piece : List ℕ) (used : ℕ) (answer : Part) → ViewsPart old before (take (length piece - used) (drop used piece)) answer new now → ViewsPart old before (drop used piece) answer new now
