@@ -270,7 +270,7 @@ pub fn folder_of(path: &str) -> &str {
 // Whether a path leads to what a process has open, such as its standard output: that has the text of a path, but needn't be
 // there.
 fn is_of_a_process(path: &str) -> bool {
-    path.starts_with("/proc/")
+    path.starts_with("/proc/") || path.starts_with("/dev/fd/")
 }
 
 // The mode of a new file in the place of one of this mode. The bits of the group are those of all that an access list
