@@ -1,5 +1,7 @@
 -- What becomes of an output over real files when a run has ended.
-use Rattle.std.specs.Prelude.{Bool, true, false}
+use Rattle.std.specs.Prelude.{ℕ, Bool, true, false}
+use Rattle.jpg_base.specs.declared.names.Put.{Put}
+use Rattle.jpg_base.specs.declared.names.Put.TheVariants as put
 use Rattle.jpg_base.specs.declared.standard.Output.{Output}
 use Rattle.jpg_spec_words.specs.declared.answers.Why.{Why}
 use Rattle.jpg_spec_words.specs.declared.answers.Why.TheVariants as why
@@ -23,3 +25,8 @@ ending_of output why.NoMemory = IsRemoved
 ending_of output (why.Refused fault) = refused_ending output.is_there
 ending_of output (why.Warned bytes) = early_ending output.is_input
 ending_of output other = TakesPlace
+
+-- the exit status: that of the run, or 1 if a complete output can't take its place
+abbrev pub status_after : ℕ → Put → ℕ
+status_after code put.Done = code
+status_after code put.Failed = 1

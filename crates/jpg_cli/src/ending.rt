@@ -3,7 +3,7 @@ ghost use Rattle.std.specs.Prelude.{◌≡◌, ◌≤◌, length};
 ghost use Rattle.jpg_base.specs.declared.standard.Output.{Output};
 ghost use Rattle.jpg_spec_words.specs.declared.answers.Which.{Which};
 ghost use Rattle.jpg_spec_words.specs.declared.answers.Why.TheVariants as why;
-ghost use Rattle.jpg_cli.specs.OutputEnding.{ending_of};
+ghost use Rattle.jpg_cli.specs.OutputEnding.{ending_of, status_after};
 ghost use Rattle.jpg_cli.specs.declared.ending.Ending.TheVariants as ends;
 
 use crate::top::{Ended, tell};
@@ -69,18 +69,26 @@ fn say_after<D: Desk>(tool: &str, text: &str, desk: &mut D) {
     }
 }
 
+// The exit status of a run that ended with this code, after its output was put into its place, or couldn't be.
+fn status_after(code: u8, put: Put) -> u8
+    ensures { result ≡ status_after code put }
+{
+    match put {
+        Put::Done => code,
+        Put::Failed => Why::WriteFault.code(),
+    }
+}
+
 // Puts a complete output into its place. The exit status; if it can't take its place, that of a failed write, whose message
 // is said.
 fn keep<R: RealFiles>(tool: &str, ended: Ended, desk: &mut StdDesk<R>) -> u8
     requires { length tool.now ≤ 8 }
 {
-    match desk.keep() {
-        Put::Done => ended.code,
-        Put::Failed => {
-            tell(tool, Why::WriteFault, desk);
-            Why::WriteFault.code()
-        }
+    let put = desk.keep();
+    if let Put::Failed = put {
+        tell(tool, Why::WriteFault, desk);
     }
+    status_after(ended.code, put)
 }
 
 /// Puts the output of a run into its place, or removes it, and says what of it is left; the exit status.
