@@ -5,26 +5,28 @@ use jpg_hints::hint_for;
 use jpg_spec_words::Usage;
 use std::alloc::Global;
 
-/// Says which word of a call is wrong and what to write, after the name of the command; if that fails, nothing comes of it.
+// Says a part of a line; if that fails, nothing comes of it.
+fn say_part<D: Desk>(part: &str, desk: &mut D) {
+    match desk.say(part.as_bytes()) {
+        Put::Done => {}
+        Put::Failed => {}
+    }
+}
+
+/// Says which word of a call is wrong and what to write, after the name of the command.
 pub fn say_hint<D: Desk>(alloc: Global, words: &[String], usage: Usage, desk: &mut D) {
     let tool = tool_name(words);
     let hint = hint_for(alloc, tool, words, usage);
-    let after_word = if hint.word.is_empty() { "" } else { ": " };
-    let before_switch = if hint.switch.is_empty() { "" } else { " -" };
-    let line = [
-        tool,
-        ": ",
-        hint.word,
-        after_word,
-        hint.text,
-        before_switch,
-        hint.switch,
-        "\n",
-    ];
-    for part in line {
-        match desk.say(part.as_bytes()) {
-            Put::Done => {}
-            Put::Failed => {}
-        }
+    say_part(tool, desk);
+    say_part(": ", desk);
+    if !hint.word.is_empty() {
+        say_part(hint.word, desk);
+        say_part(": ", desk);
     }
+    say_part(hint.text, desk);
+    if !hint.switch.is_empty() {
+        say_part(" -", desk);
+        say_part(hint.switch, desk);
+    }
+    say_part("\n", desk);
 }
