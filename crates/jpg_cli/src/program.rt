@@ -141,6 +141,27 @@ fn run_over_files<R: RealFiles>(
     end_output(tool_name(words), ended, &mut desk)
 }
 
+// Runs the command that the words ask for with an image writer of each format; the exit status.
+fn run_with_ends<R: RealFiles>(rt: R, alloc: Global, words: &[String]) -> u8 {
+    let mut ends: Vec<Box<dyn ImageEnd>> = Vec::new(alloc);
+    let Ok(pnm) = Box::new(alloc, PnmEnd::new()) else {
+        return 3;
+    };
+    let Ok(bmp) = Box::new(alloc, BmpEnd::new(alloc)) else {
+        return 3;
+    };
+    let Ok(targa) = Box::new(alloc, TargaEnd::new(alloc)) else {
+        return 3;
+    };
+    if add_end(&mut ends, pnm).is_err()
+        || add_end(&mut ends, bmp).is_err()
+        || add_end(&mut ends, targa).is_err()
+    {
+        return 3;
+    }
+    run_over_files(rt, alloc, words, ends)
+}
+
 /// Runs the command that the program's words ask for over real files and the standard streams, and ends with its exit
 /// status. Where the program was called by the name of a command, that is the first word. A single `--help`, `-help`,
 /// `-h`, `-?` or `--version`, also after the name of a command, and a single `help` or `version` print the help, all of it
@@ -160,21 +181,5 @@ pub fn run_program<R: RealFiles<A = Global>>(rt: R) -> ExitCode {
     if words.is_empty() {
         say_begin(&rt);
     }
-    let mut ends: Vec<Box<dyn ImageEnd>> = Vec::new(alloc);
-    let Ok(pnm) = Box::new(alloc, PnmEnd::new()) else {
-        return ExitCode::from(3);
-    };
-    let Ok(bmp) = Box::new(alloc, BmpEnd::new(alloc)) else {
-        return ExitCode::from(3);
-    };
-    let Ok(targa) = Box::new(alloc, TargaEnd::new(alloc)) else {
-        return ExitCode::from(3);
-    };
-    if add_end(&mut ends, pnm).is_err()
-        || add_end(&mut ends, bmp).is_err()
-        || add_end(&mut ends, targa).is_err()
-    {
-        return ExitCode::from(3);
-    }
-    ExitCode::from(run_over_files(rt, alloc, words.as_slice(), ends))
+    ExitCode::from(run_with_ends(rt, alloc, words.as_slice()))
 }
