@@ -1,10 +1,8 @@
 -- A component has at least one real block.
 use Rattle.std.proofs.Common.{ℕ, ◌+◌, ◌-◌, ◌*◌, ◌<◌, ◌≤◌, arith}
-use Rattle.std.proofs.lemmas.Nat.{le-div, mul-le}
+use Rattle.std.proofs.lemmas.Nat.{mul-le}
 use Rattle.jpg_spec.specs.Geometry.{div_up}
-
-pub one_at_least : (n d : ℕ) → 0 < d → 1 ≤ n → 1 ≤ div_up n d
-one_at_least n d some n_some = le-div 1 (n + d - 1) d some (omega arith)
+use Rattle.jpg_spec.proofs.Places.PlacesSome.{one_at_least}
 
 pub one_real : (side factor most : ℕ) → 0 < most → 1 ≤ side → 1 ≤ factor → 1 ≤ div_up (div_up (side * factor) most) 8
 one_real side factor most some s f =

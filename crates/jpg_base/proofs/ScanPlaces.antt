@@ -71,22 +71,22 @@ few_blocks side factor most s f m = omega (arith, div_up_most (side * factor) mo
 
 -- WHERE THEY ARE
 
-all_rows : (P : Place → Type 0) (f : ℕ → List Place) (n : ℕ) → ((k : ℕ) → k < n → All P (f k)) → All P (flat_map f (below n))
+pub all_rows : (P : Place → Type 0) (f : ℕ → List Place) (n : ℕ) → ((k : ℕ) → k < n → All P (f k)) → All P (flat_map f (below n))
 all_rows P f zero each = All-nil P
 all_rows P f (suc n) each =
     let last : All P (f n ++ []) = subst (λ ps. All P ps) (sym (append-nil (f n))) (each n (omega arith)) in
     subst (λ ps. All P ps) (sym (flat_map-append f (below n) (n ∷ []))) (All-append P (flat_map f (below n)) (f n ++ []) (all_rows P f n (λ k h. each k (omega arith))) last)
 
-all_row : (P : Place → Type 0) (g : ℕ → Place) (n : ℕ) → ((k : ℕ) → k < n → P (g k)) → All P (map g (below n))
+pub all_row : (P : Place → Type 0) (g : ℕ → Place) (n : ℕ) → ((k : ℕ) → k < n → P (g k)) → All P (map g (below n))
 all_row P g zero each = All-nil P
 all_row P g (suc n) each =
     subst (λ ps. All P ps) (sym (map-append g (below n) (n ∷ []))) (All-append P (map g (below n)) (g n ∷ []) (all_row P g n (λ k h. each k (omega arith))) (All-cons P (g n) [] (each n (omega arith)) (All-nil P)))
 
-all_ids : (P : Place → Type 0) (f : ℕ → List Place) (ids : List ℕ) → ((j : ℕ) → j < length ids → All P (f (get_or ids j 0))) → All P (flat_map f ids)
+pub all_ids : (P : Place → Type 0) (f : ℕ → List Place) (ids : List ℕ) → ((j : ℕ) → j < length ids → All P (f (get_or ids j 0))) → All P (flat_map f ids)
 all_ids P f [] each = All-nil P
 all_ids P f (i ∷ ids) each = All-append P (f i) (flat_map f ids) (each 0 (omega arith)) (all_ids P f ids (λ j h. each (suc j) (omega arith)))
 
-in_row : (a w b h : ℕ) → a < h → b < w → a * w + b < h * w
+pub in_row : (a w b h : ℕ) → a < h → b < w → a * w + b < h * w
 in_row a w b h x y = subst (λ n. a * w + b < n) (mul_comm w h) (mul-add-lt a w b h x y)
 
 -- a real block is one of the padded grid

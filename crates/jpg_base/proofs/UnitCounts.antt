@@ -1,11 +1,11 @@
 -- The number of units of a scan, and which unit has a given number.
-use Rattle.std.proofs.Common.{◌≡◌, ℕ, zero, suc, ◌+◌, ◌-◌, ◌*◌, ◌/◌, ◌%◌, ◌<◌, ◌≤◌, List, [], ◌∷◌, ◌++◌, length, get_or, refl, sym, ap, ◌∙◌, subst, arith, ⊎_elim}
+use Rattle.std.proofs.Common.{◌≡◌, ℕ, zero, suc, ◌+◌, ◌-◌, ◌*◌, ◌/◌, ◌%◌, ◌<◌, ◌≤◌, List, [], ◌∷◌, ◌++◌, length, get_or, refl, sym, ap, ◌∙◌, arith, ⊎_elim}
 use Rattle.std.specs.Prelude.{map, flat_map}
 use Rattle.std.proofs.lemmas.List.{append-nil, length-append, length-map, get_or-append-add, get_or_append_left, get_or-map}
 use Rattle.std.specs.List.{All}
 use Rattle.std.proofs.lemmas.List.Elements.{All-get_or}
 use Rattle.jpg_spec.specs.FrameHeader.{HasFactors}
-use Rattle.std.proofs.lemmas.Nat.{mul-add-lt, mul-le}
+use Rattle.std.proofs.lemmas.Nat.{mul-le}
 use Rattle.std.proofs.lemmas.Bool.{cases_lt}
 use Rattle.std.proofs.lemmas.List.Sums.{sum_by-cons}
 use Rattle.std.proofs.Math.Nat.{suc-mul, mul_comm, mul_assoc, add-mul, add_assoc, mod-lt, div-add-mod', div-lt_iff_lt-mul}
@@ -16,6 +16,7 @@ use Rattle.jpg_spec.specs.declared.frame.Place.{Place}
 use Rattle.jpg_base.specs.Cursor.{scan_mcus_down}
 use Rattle.jpg_spec.proofs.Basics.Rows.{at_below}
 use Rattle.jpg_spec.proofs.Basics.Common.{length_below}
+use Rattle.jpg_base.proofs.ScanPlaces.{in_row}
 
 pub length_rows : {A : Type 0} (g : ℕ → List A) (n m : ℕ) → ((k : ℕ) → length (g k) ≡ m) → length (flat_map g (below n)) ≡ n * m
 length_rows g zero m each = omega arith
@@ -24,12 +25,12 @@ length_rows g (suc n) m each =
     ∙ ap (λ (k : ℕ). length (flat_map g (below n)) + k) (ap length (append-nil (g n)) ∙ each n) ∙ ap (λ (k : ℕ). k + m) (length_rows g n m each)
     ∙ omega (arith, suc-mul n m)
 
-length_part : (f : Frame) (mx my i : ℕ) → length (mcu_part f mx my i) ≡ (component_at f i).h * (component_at f i).v
+pub length_part : (f : Frame) (mx my i : ℕ) → length (mcu_part f mx my i) ≡ (component_at f i).h * (component_at f i).v
 length_part f mx my i =
     let c = component_at f i in
     length_rows (λ v. map (λ h. place f i (mx * c.h + h) (my * c.v + v)) (below c.h)) c.v c.h (λ v. length-map (below c.h) (λ h. place f i (mx * c.h + h) (my * c.v + v)) ∙ length_below c.h) ∙ mul_comm c.v c.h
 
-length_mcu : (f : Frame) (mx my : ℕ) (ids : List ℕ) → length (flat_map (mcu_part f mx my) ids) ≡ factor_sum f ids
+pub length_mcu : (f : Frame) (mx my : ℕ) (ids : List ℕ) → length (flat_map (mcu_part f mx my) ids) ≡ factor_sum f ids
 length_mcu f mx my [] = refl
 length_mcu f mx my (i ∷ ids) =
     length-append (mcu_part f mx my i) (flat_map (mcu_part f mx my) ids) ∙ ap (λ (k : ℕ). k + length (flat_map (mcu_part f mx my) ids)) (length_part f mx my i)
@@ -50,17 +51,14 @@ length_units f (i ∷ j ∷ more) =
 
 -- THE UNIT OF A NUMBER
 
-in_rows : (a w b h : ℕ) → a < h → b < w → a * w + b < h * w
-in_rows a w b h x y = subst (λ (n : ℕ). a * w + b < n) (mul_comm w h) (mul-add-lt a w b h x y)
-
-at_row : {A : Type 0} (g : ℕ → List A) (n m q r : ℕ) (d : A) → ((k : ℕ) → length (g k) ≡ m) → q < n → r < m → get_or (flat_map g (below n)) (q * m + r) d ≡ get_or (g q) r d
+pub at_row : {A : Type 0} (g : ℕ → List A) (n m q r : ℕ) (d : A) → ((k : ℕ) → length (g k) ≡ m) → q < n → r < m → get_or (flat_map g (below n)) (q * m + r) d ≡ get_or (g q) r d
 at_row g zero m q r d each lt small = absurd (omega arith)
 at_row {A} g (suc n) m q r d each lt small =
     let l : length (flat_map g (below n)) ≡ n * m = length_rows g n m each in
     let last : g n ++ [] ≡ g n = append-nil (g n) in
     ap (λ (xs : List A). get_or xs (q * m + r) d) (flat_map-append g (below n) (n ∷ []))
     ∙ ⊎_elim
-    (λ (h : q < n). (let in_front : q * m + r < n * m = in_rows q m r n h small in
+    (λ (h : q < n). (let in_front : q * m + r < n * m = in_row q m r n h small in
     get_or_append_left (flat_map g (below n)) (g n ++ []) d (q * m + r) (omega (arith, in_front, l)) ∙ at_row g n m q r d each h small))
     (λ (h : n ≤ q). (let e : q ≡ n = omega arith in
     let at : q * m + r ≡ length (flat_map g (below n)) + r = ap (λ (k : ℕ). k * m + r) e ∙ ap (λ (k : ℕ). k + r) (sym l) in
@@ -130,7 +128,7 @@ several_unit f (i ∷ j ∷ more) n d two some wide lt =
     let ml : m < h * w = (div-lt_iff_lt-mul some).1 (omega (arith, lt, l, mul_assoc h w s)) in
     let xl : m % w < w = mod-lt m wide in
     let yl : m / w < h = (div-lt_iff_lt-mul wide).1 ml in
-    let inner : m % w * s + k < w * s = in_rows (m % w) s k w xl kl in
+    let inner : m % w * s + k < w * s = in_row (m % w) s k w xl kl in
     let e : n ≡ m / w * (w * s) + (m % w * s + k) =
     sym (div-add-mod' n s) ∙ ap (λ (q : ℕ). q * s + k) (sym (div-add-mod' m w)) ∙ ap (λ (q : ℕ). q + k) (add-mul (m / w * w) (m % w) s)
     ∙ ap (λ (q : ℕ). (q + m % w * s) + k) (mul_assoc (m / w) w s) ∙ add_assoc (m / w * (w * s)) (m % w * s) k in

@@ -10,7 +10,7 @@ use Rattle.jpg_spec.specs.Meaning.{real_blocks}
 use Rattle.jpg_spec.specs.Scan.{Blocks}
 use Rattle.jpg_spec.specs.PictureInWork.{is_at}
 use Rattle.jpg_spec.specs.declared.frame.Place.{Place}
-use Rattle.jpg_spec.proofs.Basics.Common.{both, same_of}
+use Rattle.jpg_spec.proofs.Basics.Common.{both, same_of, eq_swap}
 use Rattle.jpg_base.specs.Cursor.{IsPadded}
 use Rattle.jpg_base.proofs.ScanPlaces.{padded_of}
 use Rattle.jpg_coefs.specs.Picture.{Picture, HasPlace, map_of, with_block}
@@ -22,12 +22,9 @@ use Rattle.jpg_coefs.specs.Copied.{CopiesBlocks, in_components, in_grid, in_grid
 pub place_there : (f g : Frame) (i x y : ℕ) → IsFrame f → g ≡ f → IsReal f i x y → IsPadded g i x y
 place_there f g i x y is e r = subst (λ (h : Frame). IsPadded h i x y) (sym e) (padded_of f i x y is r)
 
-same_number : (a b : ℕ) → (a == b) ≡ (b == a)
-same_number a b = grind (arith, nat_tests)
-
 place_by : (i x y j u v : ℕ) → is_place i x y j u v ≡ is_at j u v (record { component = i; x = x; y = y; real = true })
 place_by i x y j u v =
-    ap (λ t. t && (u == x && v == y)) (same_number j i) ∙ ap (λ t. (i == j) && (t && v == y)) (same_number u x) ∙ ap (λ t. (i == j) && (x == u && t)) (same_number v y)
+    ap (λ t. t && (u == x && v == y)) (eq_swap j i) ∙ ap (λ t. (i == j) && (t && v == y)) (eq_swap u x) ∙ ap (λ t. (i == j) && (x == u && t)) (eq_swap v y)
     ∙ grouped (i == j) (x == u) (y == v)
   where
     grouped : (a b c : Bool) → (a && (b && c)) ≡ (a && b && c)

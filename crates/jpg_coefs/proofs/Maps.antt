@@ -65,10 +65,10 @@ blank_is q n e = fun_ext (λ i. fun_ext (λ x. fun_ext (λ y. by i x y (is_padde
 pub put_here : (q : Picture) (p : Place) (block : List ℤ) → HasPlace q p → block_at (map_of (put_at q p block)) p ≡ block
 put_here q p block h = map_at (put_at q p block) p.component p.x p.y h.place ∙ changed q p.component p.x p.y block h.place h.count
 
-same_test : (a b : ℕ) → a ≡ b → (a == b) ≡ true
+pub same_test : (a b : ℕ) → a ≡ b → (a == b) ≡ true
 same_test a b e = grind (arith, nat_tests, e)
 
-at_place : (i x y : ℕ) (p : Place) → p.component ≡ i → p.x ≡ x → p.y ≡ y → is_at i x y p ≡ true
+pub at_place : (i x y : ℕ) (p : Place) → p.component ≡ i → p.x ≡ x → p.y ≡ y → is_at i x y p ≡ true
 at_place i x y p a b c =
     ap (λ t. t && p.x == x && p.y == y) (same_test p.component i a) ∙ ap (λ t. t && p.y == y) (same_test p.x x b) ∙ same_test p.y y c
 

@@ -1,9 +1,6 @@
 -- The blocks that eight rows of samples are cut in.
 use Rattle.std.proofs.Common.{◌≡◌, ℕ, ◌+◌, ◌*◌, ◌/◌, ◌<◌, List, [], ◌∷◌, ◌++◌, length, map, add-one, sym, ap, ◌∙◌, subst, arith, slice_index_or}
-use Rattle.std.specs.Prelude.{flat_map}
-use Rattle.std.specs.List.{All}
 use Rattle.std.proofs.lemmas.List.{get_or-map, length-map, map-append}
-use Rattle.std.proofs.lemmas.List.Elements.{All-append, All-cons, All-nil}
 use Rattle.jpg_spec.specs.EncodingLaws.{AreSamples}
 use Rattle.jpg_spec.specs.Lists.{below}
 use Rattle.jpg_spec.proofs.Basics.Common.{length_below}
@@ -12,6 +9,7 @@ use Rattle.jpg_spec_encode.specs.Encoded.{samples_of_block}
 use Rattle.jpg_spec_image.proofs.CodedBlocks.{all_at}
 use Rattle.jpg_spec_image.specs.Downsampling.{in_rows}
 use Rattle.jpg_color.specs.PlaneRows.{cut_in_blocks}
+use Rattle.jpg_spec_encode.proofs.EncodedWritten.{all_map, all_flat}
 
 -- the first blocks of eight rows
 abbrev pub first_blocks : ℕ → List ℕ → ℕ → List (List ℕ)
@@ -41,14 +39,6 @@ cut_at wide rows x there =
     get_or-map f (below (wide / 8)) x 0 [] (omega (arith, length_below (wide / 8), there)) ∙ ap f (at_below (wide / 8) x there)
 
 -- their samples are some of the rows
-
-all_map : {X Y : Type 0} (P : Y → Type 0) (f : X → Y) (xs : List X) → ((x : X) → P (f x)) → All P (map f xs)
-all_map P f [] h = All-nil P
-all_map P f (x ∷ xs) h = All-cons P (f x) (map f xs) (h x) (all_map P f xs h)
-
-all_flat : {X Y : Type 0} (P : Y → Type 0) (f : X → List Y) (xs : List X) → ((x : X) → All P (f x)) → All P (flat_map f xs)
-all_flat P f [] h = All-nil P
-all_flat P f (x ∷ xs) h = All-append P (f x) (flat_map f xs) (h x) (all_flat P f xs h)
 
 cut_samples : (wide : ℕ) (row : List ℕ) (x y : ℕ) → AreSamples row → AreSamples (samples_of_block (in_rows wide row) x y)
 cut_samples wide row x y all =

@@ -2,8 +2,7 @@
 use Rattle.std.proofs.Common.{◌≡◌, ◌⊎◌, inl, inr, ℕ, zero, suc, ◌+◌, ◌-◌, ◌*◌, ◌/◌, ◌%◌, ◌<◌, ◌≤◌, Bool, true, false, not, ◌==◌, if◌then◌else◌, List, [], ◌∷◌, length, get_or, take, map, subst, refl, sym, ap, ◌∙◌, arith, None, Some}
 use Rattle.std.proofs.lemmas.Nat.{div-add-mod'}
 use Rattle.std.proofs.lemmas.List.Elements.{All-get_or}
-use Rattle.std.proofs.Math.Nat.{div-lt_iff_lt-mul, le_of_mul-le-mul_right, mul-le-mul_right, le-mul_of_pos_right}
-use Rattle.std.proofs.lemmas.Bool.{cases_lt}
+use Rattle.std.proofs.Math.Nat.{div-lt_iff_lt-mul, le-mul_of_pos_right}
 use Rattle.std.proofs.lemmas.List.{get_or-map, length-map}
 use Rattle.jpg_spec.specs.Lists.{below, any_of}
 use Rattle.jpg_spec.specs.Geometry.{Frame, div_up, greatest, h_max, v_max, component_at, no_component, blocks_across, blocks_down}
@@ -24,6 +23,7 @@ use Rattle.jpg_file.specs.Read.PictureKept.{component_view}
 use Rattle.jpg_file.specs.Read.StripHead.{may_have}
 use Rattle.jpg_color.specs.Shown.{Display, IsShowable, picture_of, parts, all_rows, rows_in, factors_of, display_fault}
 use Rattle.jpg_spec.specs.FileMeaning.{no_blocks}
+use Rattle.jpg_spec_image.proofs.RowsCovered.{none_at, quotient_low, below_up, one_down, tall_enough, rows_enough}
 
 -- COMPONENTS
 
@@ -142,11 +142,6 @@ factors_at d i s h = All-get_or HasFactors d.frame.components i no_component h s
 
 -- INTEGER RATIOS
 
-none_at : (t : ℕ × ℕ → Bool) (factors : List (ℕ × ℕ)) (i : ℕ) (default : ℕ × ℕ) → i < length factors → any_of t factors ≡ false → t (get_or factors i default) ≡ false
-none_at t [] i default h e = absurd (omega (arith, h))
-none_at t (x ∷ xs) zero default h e = let n = neither (t x) (any_of t xs) e in n.0
-none_at t (x ∷ xs) (suc i) default h e = let n = neither (t x) (any_of t xs) e in none_at t xs i default (omega (arith, h)) n.1
-
 none_needed : (t : ℕ × ℕ → Bool) (gray : Bool) (factors : List (ℕ × ℕ)) (i : ℕ) (default : ℕ × ℕ) → i < (if gray then 1 else 3) → i < length factors
     → any_of t (if gray then take 1 factors else factors) ≡ false → t (get_or factors i default) ≡ false
 none_needed t false factors i default few h e = none_at t factors i default h e
@@ -190,10 +185,6 @@ pub record HasRatios (d : Display) (blocks : Blocks) (i : ℕ) : Type 0 where
 product_whole : (q m h : ℕ) → q ≡ m / h → m % h ≡ 0 → q * h ≡ m
 product_whole q m h is e = ap (λ n. n * h) is ∙ (let w = div-add-mod' m h in omega (arith, w, e))
 
-quotient_low : (q m h : ℕ) → q * h ≡ m → 1 ≤ m → 1 ≤ q
-quotient_low zero m h e low = absurd (omega (arith, e, low))
-quotient_low (suc q) m h e low = omega arith
-
 quotient_high : (q m h : ℕ) → q * h ≡ m → 1 ≤ h → q ≤ m
 quotient_high q m h e low = let l : q ≤ q * h = le-mul_of_pos_right q low in omega (arith, e, l)
 
@@ -235,13 +226,6 @@ up_least n d k some h =
     let r : div_up n d < k + 1 = (div-lt_iff_lt-mul some).1 (omega (arith, m, h, some)) in
     omega (arith, r)
 
-pub below_up : (n d k : ℕ) → 1 ≤ d → k < div_up n d → k * d < n
-below_up n d k some h = above (cases_lt (k * d) n)
-  where
-    above : (k * d < n) ⊎ (n ≤ k * d) → k * d < n
-    above (inl l) = l
-    above (inr m) = let u = up_least n d k some m in absurd (omega (arith, u, h))
-
 -- ROWS
 
 alone_down : (cs : List Component) → length cs ≡ 1 → greatest (map (λ c. c.v) cs) ≡ (get_or cs 0 no_component).v
@@ -255,13 +239,6 @@ lines_by true down v most e one = let d = one refl in omega (arith, d)
 lines_by false down v most e one =
     let m : 8 * v * down ≡ 8 * (down * v) = grind arith in
     omega (arith, m, e)
-
-one_down : (v most down : ℕ) → most ≡ v → 1 ≤ v → down * v ≡ most → down ≡ 1
-one_down v most zero is low e = absurd (omega (arith, is, low, e))
-one_down v most (suc zero) is low e = refl
-one_down v most (suc (suc down)) is low e =
-    let m : suc (suc down) * v ≡ down * v + 2 * v = grind arith in
-    absurd (omega (arith, m, e, is, low))
 
 pub whole_lines : (d : Display) (blocks : Blocks) (i : ℕ) → IsShowable d → i < parts d → lines (picture_of d blocks) ≡ 8 * block_rows (picture_of d blocks) i * (stretch_of (picture_of d blocks) d.smooth i).down
 whole_lines d blocks i s h =
@@ -284,22 +261,6 @@ lines_some d blocks s =
     by : (b : Bool) (v : ℕ) → 1 ≤ v → 1 ≤ (if b then 8 else 8 * v)
     by true v low = omega arith
     by false v low = omega (arith, low)
-
--- rows of samples, upsampled, are at least as many as the rows of the image
-pub tall_enough : (height v most down : ℕ) → 1 ≤ v → 1 ≤ most → down * v ≡ most → height ≤ div_up (height * v) most * down
-tall_enough height v most down some pos e =
-    let q = div_up (height * v) most in
-    let u : height * v ≤ q * most = up_covers (height * v) most pos in
-    let m : q * most ≡ (q * down) * v = ap (λ n. q * n) (sym e) ∙ (let a : q * (down * v) ≡ (q * down) * v = grind arith in a) in
-    le_of_mul-le-mul_right (subst (λ n. height * v ≤ n) m u) some
-
-rows_enough : (height v most down rows lines all : ℕ) → 1 ≤ most → down * v ≡ most → lines ≡ 8 * rows * down → height ≤ all * lines → div_up (height * v) most ≤ 8 * rows * all
-rows_enough height v most down rows lines all pos e whole h =
-    let k : height * v ≤ (all * lines) * v = mul-le-mul_right v h in
-    let a : (all * lines) * v ≡ (all * (8 * rows * down)) * v = ap (λ n. (all * n) * v) whole in
-    let b : (all * (8 * rows * down)) * v ≡ 8 * rows * all * (down * v) = grind arith in
-    let c : 8 * rows * all * (down * v) ≡ 8 * rows * all * most = ap (λ n. 8 * rows * all * n) e in
-    up_least (height * v) most (8 * rows * all) pos (subst (λ n. height * v ≤ n) (a ∙ b ∙ c) k)
 
 pub covered : (d : Display) (blocks : Blocks) (i : ℕ) → IsShowable d → i < parts d → IsCovered (picture_of d blocks) d.smooth (all_rows d) i
 covered d blocks i s h =

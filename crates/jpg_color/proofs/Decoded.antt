@@ -10,7 +10,6 @@ use Rattle.jpg_spec_image.specs.Pixels.{info, out_fault, out_fault_of, pixel_row
 use Rattle.jpg_spec.specs.declared.frame.Colour.{Colour}
 use Rattle.jpg_spec.specs.declared.frame.Component.{Component}
 use Rattle.jpg_spec_image.specs.declared.image.EndKind.{EndKind}
-use Rattle.jpg_spec_image.specs.declared.image.EndKind.TheVariants.{Pnm, Bmp, Targa}
 use Rattle.jpg_spec_image.specs.declared.image.ImageInfo.{ImageInfo}
 use Rattle.jpg_spec_image.specs.declared.image.ImageKind.TheVariants as kind
 use Rattle.jpg_spec.specs.declared.jfif.Jfif.{Jfif}
@@ -20,7 +19,7 @@ use Rattle.jpg_file.specs.Read.PictureKept.{component_view}
 use Rattle.jpg_file.specs.Read.PictureRead.{picture_meaning}
 use Rattle.jpg_file.specs.declared.read.picture.Picture.{Picture}
 use Rattle.jpg_file.proofs.ByRow.StripHeads.{picture_colours}
-use Rattle.jpg_pnm_bmp.specs.EndState.{EndState, CanFinish, IsImageInfo, held_of, info_of, new_end, started}
+use Rattle.jpg_pnm_bmp.specs.EndState.{EndState, CanFinish, IsImageInfo, info_of, new_end, started}
 use Rattle.jpg_pnm_bmp.proofs.SomeBytes.{text_some}
 use Rattle.jpg_color.specs.Shown.{Display, IsShowable, display_fault, factors_of, row_of_blocks}
 use Rattle.jpg_color.specs.PictureRows.{RowsLeft, IsFirstRow, display_in, shown_blocks}
@@ -30,8 +29,9 @@ use Rattle.jpg_color.specs.declared.decode.DecodeStop.TheVariants as stop
 use Rattle.jpg_spec.proofs.Basics.Rows.{map_map}
 use Rattle.jpg_color.proofs.Coverage.{parsed_numbers}
 use Rattle.jpg_color.proofs.Products.{pixels_few}
-use Rattle.jpg_color.proofs.RowsPut.{map_below}
 use Rattle.jpg_color.proofs.Sent.{Output, PassesRows, Sends, Writing, sends_none, sends_piece, sends_rest, sends_same, sends_stop, sends_then}
+use Rattle.jpg_spec.proofs.McuRows.RowsWhole.{map_below}
+use Rattle.jpg_pnm_bmp.proofs.Written.{none_held, due_held}
 
 -- WHAT IS DISPLAYED
 
@@ -64,11 +64,6 @@ told_of p gray =
 
 -- AN IMAGE WRITER THAT WAS STARTED
 
-pub none_held : (kind : EndKind) → [] ≡ held_of kind []
-none_held Pnm = refl
-none_held Bmp = refl
-none_held Targa = refl
-
 pub started_end : (e : EndState) (info : ImageInfo) → e ≡ new_end e.kind → started e info ≡ end_at e.kind info []
 started_end e info new =
     ap (λ (x : EndState). started x info) new
@@ -89,11 +84,6 @@ all_pixels p gray smooth r first =
     let all : (x : Display) (q : Coefs) → List (List ℕ) = λ (x : Display) (q : Coefs). map (row_of_blocks x (shown_blocks x q)) (below x.frame.height) in
     ap (λ (x : Display). all x r.coefs) first.display ∙ ap (λ (q : Coefs). all d q) first.coefs
     ∙ map_below (row_of_blocks d (shown_blocks d p.coefs)) (pixel_row (picture_meaning p) gray smooth) p.frame.height (λ y lt. same_row p gray smooth y)
-
-pub rest_held : (kind : EndKind) (i : ImageInfo) (rows : List (List ℕ)) → rest kind i (held_of kind rows) ≡ rest kind i rows
-rest_held Pnm i rows = refl
-rest_held Bmp i rows = refl
-rest_held Targa i rows = refl
 
 long_rows : (r : RowsLeft) → length (rows_in_all r) ≡ r.strips.display.frame.height
 long_rows r =
@@ -118,7 +108,7 @@ is_begun {i} e none h = record { end = h.0; waits = h.1 ∙ ap (λ o. o ++ first
 parts_same : {i : ImageInfo} {e : EndState} {v : Writing} {e2 : EndState} (rows : List (List ℕ)) → IsBegun i e v → e2 ≡ end_at v.end.kind (info_of v.end) rows
     → end_parts e2 ≡ flat_map (λ part. part) (rest e.kind i rows)
 parts_same {i} {e} rows b at =
-    ap end_parts at ∙ ap (λ (x : EndState). end_parts (end_at x.kind (info_of x) rows)) b.end ∙ ap (λ parts. flat_map (λ part. part) parts) (rest_held e.kind i rows)
+    ap end_parts at ∙ ap (λ (x : EndState). end_parts (end_at x.kind (info_of x) rows)) b.end ∙ ap (λ parts. flat_map (λ part. part) parts) (due_held e.kind i rows)
 
 -- WHAT WAS WRITTEN
 

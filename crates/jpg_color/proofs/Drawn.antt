@@ -26,13 +26,14 @@ use Rattle.jpg_color.specs.DecodeRows.{end_at, end_parts, finished, row_pieces, 
 use Rattle.jpg_color.specs.StripImage.{AreGiven, BeginsDrawing, Drawing, DrawsImage, DrawsRow, EndsDrawing, GoesOnDrawing, IsDrawnTo, IsEndOf, IsNewDrawing, IsToldOf, SendsReady, StaysDrawn}
 use Rattle.jpg_color.specs.StripImage.{first_image_rows, next_rows, next_text, rest_text, rows_due, with_rows}
 use Rattle.jpg_color.specs.declared.decode.DecodeStop.{DecodeStop}
-use Rattle.jpg_color.proofs.Decoded.{if_ok_then, long_by, rest_held, started_end}
+use Rattle.jpg_color.proofs.Decoded.{if_ok_then, long_by, started_end}
 use Rattle.jpg_color.proofs.Products.{pixels_few}
 use Rattle.jpg_color.proofs.RowRanges.{all_below, no_row, rows_cut, take_and_drop, take_rows, take_whole}
-use Rattle.jpg_color.proofs.RowsPut.{map_below}
 use Rattle.jpg_color.proofs.Sent.{Output, Sends, sends_same}
 use Rattle.jpg_color.proofs.StripsFresh.{showable}
 use Rattle.jpg_color.proofs.Windows.{all_some, ready_high, ready_more, ready_none}
+use Rattle.jpg_spec.proofs.McuRows.RowsWhole.{map_below}
+use Rattle.jpg_pnm_bmp.proofs.Written.{due_held}
 
 abbrev pub drawing : ShownState → ImageInfo → List ℕ → Drawing
 drawing strips i out = record { strips = strips; info = i; out = out }
@@ -306,7 +307,7 @@ all_drawn M gray smooth = ap (λ n. take n (pixels M gray smooth)) (all_ready M 
 rest_is : {d : Drawing} {e : EndState} {M : Meaning} {gray smooth : Bool} → IsDrawnTo d e M gray smooth (mcu_rows M)
     → end_parts e ≡ rest_text e.kind M gray smooth
 rest_is {e = e} {M} {gray} {smooth} h =
-    ap end_parts (h.end ∙ ap (λ rows. end_at e.kind (info M gray) rows) (all_drawn M gray smooth)) ∙ ap (λ parts. flat_map (λ part. part) parts) (rest_held e.kind (info M gray) (pixels M gray smooth))
+    ap end_parts (h.end ∙ ap (λ rows. end_at e.kind (info M gray) rows) (all_drawn M gray smooth)) ∙ ap (λ parts. flat_map (λ part. part) parts) (due_held e.kind (info M gray) (pixels M gray smooth))
 
 pub ends : {a b : Output} {s : ShownState} {i : ImageInfo} {old : Drawing} {e e2 : EndState} {result : Result (Unit {0}) DecodeStop}
     → drawing s i a.waits ≡ old → Sends a (end_parts e) result b → IfOk result (λ u. b.waits ≡ []) → IfOk result (λ u. e2 ≡ finished e)

@@ -24,8 +24,8 @@ use Rattle.jpg_color.specs.StripImage.{AgreeInFirstRows, AreDrawnAlike, Drawing,
 use Rattle.jpg_color.proofs.Coverage.{count_is, covered, in_frame, whole_ratios}
 use Rattle.jpg_color.proofs.Drawn.{GoesUp, all_drawn, all_same, goes_up, high_same, ready_same, row_same, rows_join}
 use Rattle.jpg_color.proofs.RowRanges.{no_row, take_and_drop, take_rows}
-use Rattle.jpg_color.proofs.RowsPut.{map_below}
 use Rattle.jpg_color.proofs.Windows.{ready_high, ready_none}
+use Rattle.jpg_spec.proofs.McuRows.RowsWhole.{map_below}
 
 -- TEXTS
 

@@ -30,13 +30,6 @@ real_alike f one other same = fun_ext (λ i. fun_ext (λ x. fun_ext (λ y. by i 
     by i x y true e = same i x y (real_at f i x y e)
     by i x y false e = refl
 
-pub real_again : (f : Frame) (blocks : Blocks) → real_blocks f (real_blocks f blocks) ≡ real_blocks f blocks
-real_again f blocks = fun_ext (λ i. fun_ext (λ x. fun_ext (λ y. by (nat_lt i (length f.components) && is_real f i x y) (blocks i x y))))
-  where
-    by : (b : Bool) (block : List ℤ) → cond b (cond b block (zeros 64)) (zeros 64) ≡ cond b block (zeros 64)
-    by true block = refl
-    by false block = refl
-
 -- THE BOUNDS, of one coefficient after another
 
 ac_at : (b : Bounds) (l : List ℤ) (k : ℕ) → are_in_bounds b false l ≡ true → k < length l → int_le (pos (nat_abs (slice_index_or l k (pos 0)))) b.ac ≡ true

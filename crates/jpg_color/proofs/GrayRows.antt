@@ -1,5 +1,5 @@
 -- Rows of 128, which zero blocks encode (T.81, A.3.3).
-use Rattle.std.proofs.Common.{◌≡◌, ℕ, ⊎_elim, ◌+◌, ◌-◌, ◌*◌, ◌%◌, ◌<◌, ◌≤◌, List, ◌++◌, length, take, drop, map, replicate, slice_index, get_or, ℤ, pos, true, false, refl, sym, ap, subst, ◌∙◌, arith}
+use Rattle.std.proofs.Common.{◌≡◌, ℕ, ⊎_elim, ◌+◌, ◌-◌, ◌*◌, ◌%◌, ◌<◌, ◌≤◌, List, ◌++◌, length, take, drop, map, replicate, slice_index, get_or, ℤ, pos, false, refl, sym, ap, subst, ◌∙◌, arith}
 use Rattle.std.specs.Prelude.{◌*ℤ◌}
 use Rattle.std.specs.List.{All}
 use Rattle.std.proofs.Math.Path.{fun_ext}
@@ -13,20 +13,20 @@ use Rattle.jpg_spec.specs.Lists.{below, index_of}
 use Rattle.jpg_spec_image.specs.Dct.{column, dequantised, even_sums, inverse_dct, joined_sums, number_at, odd_sums, sample_row}
 use Rattle.jpg_spec.specs.Elements.{zeros}
 use Rattle.jpg_spec.specs.FileMeaning.{no_blocks}
-use Rattle.jpg_spec.specs.Geometry.{Frame, bounds, bounds_of, mcu_row_frame, padded_blocks}
+use Rattle.jpg_spec.specs.Geometry.{Frame, bounds, mcu_row_frame, padded_blocks}
 use Rattle.jpg_spec.specs.Zigzag.{zigzag}
-use Rattle.jpg_spec.specs.Ranges.{AreInRange, is_coefficient}
+use Rattle.jpg_spec.specs.Ranges.{AreInRange}
 use Rattle.jpg_spec.specs.Scan.{Blocks}
 use Rattle.jpg_spec.specs.Segments.{QuantTable}
-use Rattle.jpg_spec.proofs.Files.Ranges.{zero_in}
+use Rattle.jpg_spec.proofs.Files.Ranges.{zeros_in_bounds}
 use Rattle.jpg_coefs.specs.Picture.{Picture, map_of}
 use Rattle.jpg_coefs.proofs.Maps.{blank_is}
 use Rattle.jpg_color.specs.KeptRows.{KeptRows, last_row, row_in, sample_in, with_gray, with_block_rows}
 use Rattle.jpg_color.specs.PartState.{CanFill, CanFillGray, PartState, filled, grayed_part, rows_so_far_of}
 use Rattle.jpg_color.specs.Shown.{Display, zero_row}
-use Rattle.jpg_color.proofs.RowsPut.{map_below}
 use Rattle.jpg_color.specs.RowBytes.{PutsRows}
 use Rattle.jpg_color.proofs.PlaneRows.{put_before, put_long, put_mid_at}
+use Rattle.jpg_spec.proofs.McuRows.RowsWhole.{map_below}
 
 pub gray_put : (line kept count : ℕ) (old part : List ℕ) → (kept + count) * line ≤ length old → part ≡ replicate ((kept + count) * line - kept * line) 128
     → PutsRows line kept count line (λ y x. 128) old (put_mid (kept * line) ((kept + count) * line - kept * line) old part)
@@ -102,14 +102,8 @@ grayed_is d m p =
 pub all_grayed : (d : Display) (m : ℕ) (ps : List PartState) → map (grayed_part m) ps ≡ map (filled (zero_row d) false m) ps
 all_grayed d m ps = ap (λ (f : PartState → PartState). map f ps) (fun_ext (grayed_is d m))
 
--- such a row is in its range, and every part has room for it
-zero_value : (precision k : ℕ) → is_coefficient (bounds_of precision) k (get_or (zeros 64) k (pos 0)) ≡ true
-zero_value precision k =
-    let zero : get_or (zeros 64) k (pos 0) ≡ pos 0 = ⊎_elim (λ (h : k < 64). get_or-replicate 64 k (pos 0) (pos 0) h) (λ (h : 64 ≤ k). get_or_past (zeros 64) k (pos 0) h) (cases_lt k 64) in
-    subst (λ v. is_coefficient (bounds_of precision) k v ≡ true) (sym zero) (zero_in precision k)
-
 pub blank_range : (f : Frame) → AreInRange (bounds f) no_blocks
-blank_range f = record { sizes = λ i x y. refl; values = λ i x y k. zero_value f.precision k }
+blank_range f = record { sizes = λ i x y. refl; values = λ i x y k. zeros_in_bounds f.precision k }
 
 pub zero_in_range : (d : Display) → AreInRange (bounds d.frame) (map_of (zero_row d))
 zero_in_range d = subst (λ (b : Blocks). AreInRange (bounds d.frame) b) (sym (blank_row d)) (blank_range d.frame)

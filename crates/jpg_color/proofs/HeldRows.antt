@@ -10,17 +10,17 @@ use Rattle.jpg_spec.specs.FileMeaning.{no_blocks}
 use Rattle.jpg_spec.specs.Scan.{Blocks}
 use Rattle.jpg_spec.specs.Meaning.{Meaning}
 use Rattle.jpg_spec_image.specs.Dct.{dequantised, inverse_dct}
-use Rattle.jpg_spec_image.specs.Upsampling.{Stretch, is_smoothed, has_far_rows, near_row, far_row}
+use Rattle.jpg_spec_image.specs.Upsampling.{has_far_rows, near_row, far_row}
 use Rattle.jpg_spec_image.specs.Pixels.{samples_across, samples_down, plane, plane_row, stretch_of}
 use Rattle.jpg_spec_image.specs.Strips.{IsRowReady, rows_from, lines, block_rows, known_rows, first_kept, IsHeld}
-use Rattle.jpg_spec.proofs.Basics.Common.{length_below, both, same_of, clash}
-use Rattle.jpg_spec_image.proofs.Strips.{kept_is, ready_told}
+use Rattle.jpg_spec.proofs.Basics.Common.{length_below, same_of, clash}
+use Rattle.jpg_spec_image.proofs.Strips.{kept_is, ready_told, down_is_two}
 use Rattle.jpg_coefs.specs.Picture.{Picture, map_of}
 use Rattle.jpg_color.specs.KeptRows.{sample_in, row_in, last_row}
 use Rattle.jpg_color.specs.Shown.{Display, ShownState, IsShowable, RepresentsPicture, IsNextRowDue, AreMcuRow, picture_of, parts, all_rows, rows_made_ready, rows_in, held_rows}
-use Rattle.jpg_color.proofs.RowsPut.{map_below}
 use Rattle.jpg_color.proofs.Coverage.{in_frame, whole_ratios, covered, component_is, blocks_across_is}
 use Rattle.jpg_color.proofs.Windows.{count_fits, told_rows, rows_missing, all_some, ready_none, ready_low, ready_more}
+use Rattle.jpg_spec.proofs.McuRows.RowsWhole.{map_below}
 
 -- THE SOURCES of the next row
 
@@ -36,9 +36,6 @@ pub record HasSources (s : ShownState) (blocks : Blocks) (i : ℕ) : Type 0 wher
   pub far : has_far_rows (stretch_of (picture_of s.display blocks) s.display.smooth i) ≡ true
       → slice_index_or (held_rows s i) (far_row (stretch_of (picture_of s.display blocks) s.display.smooth i) s.given - first_kept (picture_of s.display blocks) i s.pushed) []
       ≡ plane_row (picture_of s.display blocks) i (far_row (stretch_of (picture_of s.display blocks) s.display.smooth i) s.given)
-
-pub down_is_two : (s : Stretch) → has_far_rows s ≡ true → s.down ≡ 2
-down_is_two s e = let b = both (is_smoothed s) (s.down == 2) e in same_of s.down 2 b.1
 
 -- the first of the rows of samples that a row of the image is made from
 near_below : (far : Bool) (k high down y : ℕ) → 1 ≤ down → (far ≡ true → down ≡ 2) → (y < (if far then 2 * k - 1 else k * down)) ⊎ ((k ≡ high) × (y < high * down)) → y / down < k

@@ -1,5 +1,5 @@
 -- The parts of strips, determined by the picture: what they keep, fill and draw.
-use Rattle.std.proofs.Common.{◌≡◌, ℕ, ◌+◌, ◌-◌, ◌*◌, ◌<◌, ◌≤◌, min, Bool, true, false, ◌==◌, ◌&&◌, if◌then◌else◌, List, [], ◌++◌, length, map, slice_index_or, subst, refl, sym, ap, ◌∙◌, arith, All}
+use Rattle.std.proofs.Common.{◌≡◌, ℕ, ◌+◌, ◌-◌, ◌*◌, ◌<◌, ◌≤◌, min, Bool, true, ◌==◌, ◌&&◌, if◌then◌else◌, List, [], ◌++◌, length, map, slice_index_or, subst, sym, ap, ◌∙◌, arith, All}
 use Rattle.std.proofs.lemmas.List.{get_or-map}
 use Rattle.std.proofs.lemmas.List.Elements.{All-from_get_or}
 use Rattle.std.proofs.Math.ListN as listn
@@ -7,7 +7,7 @@ use Rattle.jpg_spec.specs.Lists.{below}
 use Rattle.jpg_spec.specs.FileMeaning.{no_blocks}
 use Rattle.jpg_spec.specs.Segments.{QuantTable}
 use Rattle.jpg_spec.specs.Scan.{Blocks}
-use Rattle.jpg_spec_image.specs.Upsampling.{Stretch, is_smoothed, has_far_rows, near_row, far_row, upsampled_row, up_row, up_rows2, repeat_row}
+use Rattle.jpg_spec_image.specs.Upsampling.{Stretch, is_smoothed, has_far_rows, near_row, far_row, upsampled_row}
 use Rattle.jpg_spec_image.specs.Pixels.{samples_across, plane_row, stretch_of}
 use Rattle.jpg_spec_image.specs.Strips.{block_rows, known_rows, first_kept, kept_row}
 use Rattle.jpg_coefs.specs.Picture.{Picture, map_of}
@@ -18,6 +18,7 @@ use Rattle.jpg_color.specs.StripsState.{AreStrips, HasMcuRow, part_at, shown_of,
 use Rattle.jpg_color.proofs.Coverage.{in_frame, component_is}
 use Rattle.jpg_color.proofs.Windows.{count_fits, told_rows}
 use Rattle.jpg_color.proofs.HeldRows.{HasSources, sources, pushed_rows}
+use Rattle.jpg_spec_image.proofs.Strips.{chosen}
 
 -- strips: what they display, the MCU rows and the rows of the image so far, their parts and the last row, and numbers
 -- of the picture
@@ -161,13 +162,6 @@ all_draw {t} blocks k stands lt =
     (λ (i : ℕ) (h : i < length t.parts). (let in_parts : i < parts t.display = subst (λ n. i < n) k.count h in
     part_draws i k (sources (shown t) blocks i k.showable stands in_parts lt) in_parts))
 
--- the row, by whether it needs two rows, and otherwise by whether it is smoothed
-by_way : (b c : Bool) (across : ℕ) (near far other_near other_far : List ℕ) → near ≡ other_near → (b ≡ true → far ≡ other_far)
-    → (if b then up_rows2 near far else if c then up_row near else repeat_row across near) ≡ (if b then up_rows2 other_near other_far else if c then up_row other_near else repeat_row across other_near)
-by_way true c across near far other_near other_far en ef = ap (λ x. up_rows2 x far) en ∙ ap (up_rows2 other_near) (ef refl)
-by_way false true across near far other_near other_far en ef = ap up_row en
-by_way false false across near far other_near other_far en ef = ap (repeat_row across) en
-
 pub drawn_line : {t : Strips} (blocks : Blocks) (i : ℕ) → AreKept t → RepresentsPicture (shown t) blocks → t.given < rows_made_ready t.display t.pushed → i < parts t.display
     → (part_at (map (drawn t.given t.pushed) t.parts) i).line
     ≡ upsampled_row (stretch_of (picture_of t.display blocks) t.display.smooth i) (plane_row (picture_of t.display blocks) i) t.given
@@ -184,5 +178,5 @@ drawn_line {t} blocks i k stands early h =
     ∙ ap (λ (x : Stretch). upsampled_row x (kept_row (top p m) p.kept.rows) y) is.stretch
     ∙ ap (λ n. upsampled_row s (kept_row n p.kept.rows) y) (top_is t.display m is)
     ∙ ap (λ (rows : List (List ℕ)). upsampled_row s (kept_row (first_kept M i m) rows) y) (sym (held_at t.parts i))
-    ∙ by_way (has_far_rows s) (is_smoothed s && s.down == 1) s.across (held (near_row s y)) (held (far_row s y)) (plane_row M i (near_row s y))
+    ∙ chosen (has_far_rows s) (is_smoothed s && s.down == 1) s.across (held (near_row s y)) (held (far_row s y)) (plane_row M i (near_row s y))
     (plane_row M i (far_row s y)) from.near from.far

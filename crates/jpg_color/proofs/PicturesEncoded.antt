@@ -25,7 +25,8 @@ use Rattle.jpg_color.specs.declared.encode.EncodeStop.TheVariants as stop
 use Rattle.jpg_color.specs.declared.encode.Encoding.{Encoding as Asked}
 use Rattle.jpg_color.specs.declared.encode.sampler.Sampler.{Sampler}
 use Rattle.jpg_color.specs.declared.encode.view.EncodedImage.{EncodedImage}
-use Rattle.jpg_color.proofs.EncodedBlocks.{real_again, real_in_range}
+use Rattle.jpg_color.proofs.EncodedBlocks.{real_in_range}
+use Rattle.jpg_spec.proofs.EndsEarly.EarlySoFar.{real_twice}
 
 -- A PICTURE with the blocks of a view
 
@@ -36,7 +37,7 @@ abbrev meaning_with : ViewParts → Blocks → Meaning
 meaning_with p blocks = record (viewed_meaning p) { blocks = blocks }
 
 pub picture_means : (p : ViewParts) (c : Coefs) → map_of c ≡ real_blocks p.frame p.blocks → parts_meaning (parts_with p c) ≡ viewed_meaning p
-picture_means p c e = ap (meaning_with p) (ap (real_blocks p.frame) e ∙ real_again p.frame p.blocks)
+picture_means p c e = ap (meaning_with p) (ap (real_blocks p.frame) e ∙ real_twice p.frame p.blocks)
 
 pub picture_is : (p : ViewParts) (c : Coefs) → AreViewParts p → c.frame ≡ p.frame → map_of c ≡ real_blocks p.frame p.blocks → ArePictureParts (parts_with p c)
 picture_is p c is grids e = record {

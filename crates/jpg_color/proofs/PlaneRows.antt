@@ -21,7 +21,7 @@ use Rattle.jpg_sample.proofs.Sums.{sum_alike}
 use Rattle.jpg_color.specs.ColourRows.{numbers_of_pixel, row_component}
 use Rattle.jpg_color.specs.PlaneRows.{row_of, plane_of, narrow_plane, lower_row, downsampled_row, HasSamples, HasPlaneRows}
 use Rattle.jpg_color.specs.declared.encode.rows.ImagePlane.{ImagePlane}
-use Rattle.jpg_color.proofs.RowsPut.{map_below}
+use Rattle.jpg_spec.proofs.McuRows.RowsWhole.{map_below}
 
 -- the mean of samples that are alike
 pub downsampled_alike : (across down x y z : ℕ) (one other : ℕ → ℕ → ℕ) → ((u v : ℕ) → u < across → v < down → one (across * x + u) (down * y + v) ≡ other (across * x + u) (down * z + v))

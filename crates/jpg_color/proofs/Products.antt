@@ -13,7 +13,8 @@ use Rattle.jpg_spec_image.specs.Pixels.{samples_across, stretch_of}
 use Rattle.jpg_spec.specs.declared.frame.Component.{Component}
 use Rattle.jpg_base.proofs.Grids.{across_low, across_high, down_low, down_high}
 use Rattle.jpg_color.specs.Shown.{Display, IsShowable, picture_of, parts}
-use Rattle.jpg_color.proofs.Coverage.{in_frame, factors_at, whole_ratios, samples_across_is, tall_enough, up_covers}
+use Rattle.jpg_color.proofs.Coverage.{in_frame, factors_at, whole_ratios, samples_across_is, up_covers}
+use Rattle.jpg_spec_image.proofs.RowsCovered.{tall_enough}
 
 pub wide_enough : (d : Display) (blocks : Blocks) (i : ℕ) → IsShowable d → i < parts d
     → d.frame.width ≤ samples_across (picture_of d blocks) i * (stretch_of (picture_of d blocks) d.smooth i).across

@@ -17,6 +17,7 @@ use Rattle.jpg_spec.proofs.Basics.Common.{both, from_test, length_below}
 use Rattle.jpg_spec.proofs.Basics.Rows.{by_items, at_below}
 use Rattle.jpg_color.specs.KeptRows.{KeptRows, stride, kept_rows_of, last_row}
 use Rattle.jpg_color.specs.RowBytes.{byte_in, PutsBlock, PutsRows}
+use Rattle.jpg_spec.proofs.McuRows.RowsWhole.{map_below}
 
 -- a byte of a row is before all rows below
 pub row_before : (line r q x : ℕ) → r < q → x < line → r * line + x < q * line
@@ -109,12 +110,6 @@ row_same : (old new : List ℕ) (wide start : ℕ) → length new ≡ length old
     → take wide (drop start new) ≡ take wide (drop start old)
 row_same old new wide start long fits same =
     row_is new wide start (λ x. get_or old (start + x) 0) (omega (arith, long, fits)) same ∙ sym (row_is old wide start (λ x. get_or old (start + x) 0) fits (λ x h. refl))
-
-pub map_below : {A : Type 0} (f g : ℕ → A) (n : ℕ) → ((k : ℕ) → k < n → f k ≡ g k) → map f (below n) ≡ map g (below n)
-map_below f g zero same = refl
-map_below f g (suc n) same =
-    map-append f (below n) (n ∷ []) ∙ ap (λ ys. ys ++ f n ∷ []) (map_below f g n (λ k h. same k (omega (arith, h))))
-    ∙ ap (λ y. map g (below n) ++ y ∷ []) (same n (omega arith)) ∙ sym (map-append g (below n) (n ∷ []))
 
 below_joined : {A : Type 0} (f : ℕ → A) (m n : ℕ) → map f (below (m + n)) ≡ map f (below m) ++ map (λ k. f (m + k)) (below n)
 below_joined f m zero = ap (λ k. map f (below k)) (add-zero m) ∙ sym (append-nil (map f (below m)))

@@ -13,11 +13,11 @@ use Rattle.jpg_color.specs.Shown.{Advances, Display, IsGiven, IsShowable, ShownS
 use Rattle.jpg_color.specs.DecodeRows.{row_pieces}
 use Rattle.jpg_color.specs.StripImage.{CanTakeNext, SendsReady, rows_due, with_rows}
 use Rattle.jpg_color.specs.declared.decode.DecodeStop.{DecodeStop}
-use Rattle.jpg_color.proofs.Decoded.{none_held}
 use Rattle.jpg_color.proofs.RowRanges.{more_rows_from, no_rows_from, others_from}
 use Rattle.jpg_color.proofs.Sent.{PassesRow, Sends, Writing, sends_nothing, sends_then, sends_stop, sends_same}
-use Rattle.jpg_color.proofs.Showing.{held_more, pieces_more}
+use Rattle.jpg_color.proofs.Showing.{pieces_more}
 use Rattle.jpg_color.proofs.Windows.{ready_high}
+use Rattle.jpg_pnm_bmp.proofs.Written.{none_held, more_held}
 
 -- rows up to the one that was passed last were taken
 pub record IsSending (v0 : Writing) (r0 : ShownState) (v : Writing) (r : ShownState) : Type 0 where
@@ -95,7 +95,7 @@ can_go_on can g is =
 with_more : (e : EndState) (rows : List (List ℕ)) (row : List ℕ) → with_row (with_rows e rows) row ≡ with_rows e (rows ++ row ∷ [])
 with_more e rows row =
     ap (λ (h : List (List ℕ)). (let x : EndState = record e { taken = e.taken + length rows + 1; held = h } in x))
-    (append_assoc e.held (held_of e.kind rows) (held_of e.kind (row ∷ [])) ∙ ap (λ h. e.held ++ h) (held_more e.kind rows row))
+    (append_assoc e.held (held_of e.kind rows) (held_of e.kind (row ∷ [])) ∙ ap (λ h. e.held ++ h) (more_held e.kind rows row))
     ∙ ap (λ (n : ℕ). (let x : EndState = record e { taken = n; held = e.held ++ held_of e.kind (rows ++ row ∷ []) } in x)) (count rows row)
   where
     count : (rows : List (List ℕ)) (row : List ℕ) → e.taken + length rows + 1 ≡ e.taken + length (rows ++ row ∷ [])

@@ -5,7 +5,6 @@ use Rattle.std.proofs.lemmas.Grind.{flat_map-append}
 use Rattle.jpg_spec.specs.Lists.{below}
 use Rattle.jpg_spec_image.specs.ImageText.{row_piece}
 use Rattle.jpg_spec_image.specs.declared.image.EndKind.{EndKind}
-use Rattle.jpg_spec_image.specs.declared.image.EndKind.TheVariants.{Pnm, Bmp, Targa}
 use Rattle.jpg_spec_image.specs.declared.image.ImageInfo.{ImageInfo}
 use Rattle.jpg_spec.proofs.Basics.Common.{length_below}
 use Rattle.jpg_coefs.specs.Picture.{Picture as Coefs}
@@ -15,6 +14,7 @@ use Rattle.jpg_color.specs.PictureRows.{RowsLeft, RowGoesOn, IsAfter, shown_bloc
 use Rattle.jpg_color.specs.DecodeRows.{IsEndFor, end_at, row_pieces, rows_until, rows_in_all}
 use Rattle.jpg_color.specs.declared.decode.DecodeStop.{DecodeStop}
 use Rattle.jpg_color.proofs.Sent.{PassesRow, PassesRows, Sends, Writing, sends_nothing, sends_then, sends_stop, sends_same}
+use Rattle.jpg_pnm_bmp.proofs.Written.{more_held}
 
 -- the first n rows were passed
 pub record IsShowing (v0 : Writing) (r0 : RowsLeft) (v : Writing) (r : RowsLeft) : Type 0 where
@@ -49,14 +49,9 @@ more_rows r n =
     let one : n + 1 ≡ suc n = omega arith in
     ap (λ m. rows_until r m) one ∙ map-append (row_of_blocks r.strips.display (shown_blocks r.strips.display r.coefs)) (below n) (n ∷ [])
 
-pub held_more : (kind : EndKind) (rows : List (List ℕ)) (row : List ℕ) → held_of kind rows ++ held_of kind (row ∷ []) ≡ held_of kind (rows ++ row ∷ [])
-held_more Pnm rows row = refl
-held_more Bmp rows row = refl
-held_more Targa rows row = refl
-
 taken_more : (kind : EndKind) (info : ImageInfo) (rows : List (List ℕ)) (row : List ℕ) → with_row (end_at kind info rows) row ≡ end_at kind info (rows ++ row ∷ [])
 taken_more kind info rows row =
-    ap (λ (h : List (List ℕ)). (let e : EndState = record { kind = kind; info = Some info; taken = length rows + 1; held = h; parts = 0; done = false } in e)) (held_more kind rows row)
+    ap (λ (h : List (List ℕ)). (let e : EndState = record { kind = kind; info = Some info; taken = length rows + 1; held = h; parts = 0; done = false } in e)) (more_held kind rows row)
     ∙ ap (λ (n : ℕ). (let e : EndState = record { kind = kind; info = Some info; taken = n; held = held_of kind (rows ++ row ∷ []); parts = 0; done = false } in e)) (sym (length-append rows (row ∷ [])))
 
 -- the row that is passed

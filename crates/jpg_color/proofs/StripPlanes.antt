@@ -19,7 +19,7 @@ use Rattle.jpg_color.specs.Encode.{image_of}
 use Rattle.jpg_color.specs.EncodeBlocks.{IsRowOf, lower_plane}
 use Rattle.jpg_color.specs.SamplerState.{row_length, strip_numbers}
 use Rattle.jpg_color.proofs.PlaneRows.{downsampled_alike, flat_below}
-use Rattle.jpg_color.proofs.RowsPut.{map_below}
+use Rattle.jpg_spec.proofs.McuRows.RowsWhole.{map_below}
 
 -- PIXELS of a part of the samples
 

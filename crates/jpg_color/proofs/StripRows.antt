@@ -1,7 +1,6 @@
 -- Rows of blocks of a strip, made and appended.
-use Rattle.std.proofs.Common.{◌≡◌, ℕ, zero, suc, ◌+◌, ◌-◌, ◌*◌, ◌/◌, ◌<◌, ◌≤◌, min, List, [], ◌∷◌, ◌++◌, length, slice_index_or, refl, sym, ap, ◌∙◌, subst, arith, ⊎_elim, Result, Ok, Err}
-use Rattle.std.specs.Prelude.{OnOk, ◌==◌, if◌then◌else◌}
-use Rattle.jpg_base.specs.declared.names.NoMemory.{NoMemory}
+use Rattle.std.proofs.Common.{◌≡◌, ℕ, zero, suc, ◌+◌, ◌-◌, ◌*◌, ◌/◌, ◌<◌, ◌≤◌, min, List, [], ◌∷◌, ◌++◌, length, slice_index_or, refl, sym, ap, ◌∙◌, subst, arith, ⊎_elim}
+use Rattle.std.specs.Prelude.{◌==◌, if◌then◌else◌}
 use Rattle.std.proofs.lemmas.Bool.{cases_lt}
 use Rattle.std.proofs.lemmas.Nat.{mul-le}
 use Rattle.std.proofs.lemmas.List.{get_or_append_left, get_or-append_right, length-append}
@@ -114,7 +113,3 @@ pub only_first : (P : ℕ → List (List (List ℕ)) → List (List (List ℕ)) 
     → P i (if i == 0 then a else if i == 1 then b else c) (if i == 0 then d else if i == 1 then e else f)
 only_first P a b c d e f zero h p = p
 only_first P a b c d e f (suc i) h p = absurd (omega (arith, h))
-
-pub on_ok : {P Q : Type 0} (r : Result (Unit {0}) NoMemory) → (P → Q) → OnOk r P → OnOk r Q
-on_ok (Ok u) f h = f h
-on_ok (Err e) f h = tt

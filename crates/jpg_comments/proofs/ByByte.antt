@@ -13,7 +13,8 @@ use Rattle.jpg_markers.specs.declared.segments.SegStep.TheVariants as step
 use Rattle.jpg_markers.specs.Reading.{Reading, AtPhase, RepresentsSegments, RevealsAfter, Comes, PassesSome}
 use Rattle.jpg_comments.specs.SegmentsSoFar.{IsBegun, Appends}
 use Rattle.jpg_comments.specs.Printing.{HoldsWhole, HasPrinted, PrintsSegment, due_text, StopsPrinting, AfterPrinted}
-use Rattle.jpg_comments.proofs.Taken.{OneMore, Tells, nothing_first, taken_on, taken_some, fault_shown, within, begun, whole_front}
+use Rattle.jpg_comments.proofs.Taken.{OneMore, Tells, nothing_first, taken_on, taken_some, fault_shown, within, begun}
+use Rattle.jpg_spec.proofs.Basics.Common.{whole_front}
 
 -- WHERE A FILE IS COMPLETE: at EOI, and at the end of a scan header
 

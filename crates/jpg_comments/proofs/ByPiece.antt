@@ -1,6 +1,6 @@
 -- The text of the comments, piece by piece.
 use Rattle.std.proofs.Common.{◌≡◌, ℕ, ◌+◌, ◌<◌, ◌≤◌, List, [], ◌∷◌, ◌++◌, length, take, drop, min, get_or, Ok, Err, sym, ap, ◌∙◌, subst, arith, inl, inr, Result}
-use Rattle.std.proofs.lemmas.List.{append_assoc, take_all, take_min, take_more, take-append-drop, take-append-le}
+use Rattle.std.proofs.lemmas.List.{append_assoc, take_all, take_min, take_more, take-append-le}
 use Rattle.jpg_spec.specs.Markers.{kept_rule}
 use Rattle.jpg_spec.specs.declared.frame.Limits.{Limits}
 use Rattle.jpg_spec.specs.declared.fault.Fault.TheVariants.{InputTooLong}
@@ -16,14 +16,12 @@ use Rattle.jpg_comments.specs.ReadComments.{HasRead, AfterFeed}
 use Rattle.jpg_comments.specs.declared.comments.Comments.{Comments}
 use Rattle.jpg_comments.specs.declared.comments.Printing.{Printing}
 use Rattle.jpg_comments.proofs.Taken.{appends_as, long_shown, fault_remains, fault_within, begun}
+use Rattle.jpg_spec.proofs.Basics.Common.{joined}
 
 -- some bytes after others, and one more
 pub one_more : (before bytes some : List ℕ) (n : ℕ) → n < length some → ((before ++ bytes) ++ take n some) ++ get_or some n 0 ∷ [] ≡ before ++ (bytes ++ take (n + 1) some)
 one_more before bytes some n less =
     append_assoc (before ++ bytes) (take n some) (get_or some n 0 ∷ []) ∙ ap (λ l. before ++ bytes ++ l) (sym (take_more some n 0 less)) ∙ append_assoc before bytes (take (n + 1) some)
-
-pub joined : (bytes piece : List ℕ) (i : ℕ) → bytes ++ piece ≡ (bytes ++ take i piece) ++ drop i piece
-joined bytes piece i = ap (λ l. bytes ++ l) (sym (take-append-drop i piece)) ∙ sym (append_assoc bytes (take i piece) (drop i piece))
 
 -- A STOP remains
 pub printed_remains : (limits : Limits) (bytes rest text : List ℕ) (e : Stop) → StopsPrinting limits bytes text e → StopsPrinting limits (bytes ++ rest) text e

@@ -11,7 +11,7 @@ use Rattle.jpg_spec_write.specs.CommentText.{RevealsNothing, IsFileFront}
 use Rattle.jpg_spec.specs.declared.frame.Limits.{Limits}
 use Rattle.jpg_spec.specs.declared.fault.Fault.TheVariants.{UnexpectedMarker}
 use Rattle.jpg_spec.proofs.Segments.Reached.{reached_once}
-use Rattle.jpg_spec.proofs.Basics.Common.{clash}
+use Rattle.jpg_spec.proofs.Basics.Common.{clash, whole_front}
 use Rattle.jpg_base.specs.declared.stop.Stop.{Stop}
 use Rattle.jpg_base.specs.declared.stop.Stop.TheVariants as stop
 use Rattle.jpg_markers.specs.declared.segments.Phase.{Phase}
@@ -19,7 +19,7 @@ use Rattle.jpg_markers.specs.declared.segments.Phase.TheVariants as phase
 use Rattle.jpg_markers.specs.declared.segments.SegStep.TheVariants as step
 use Rattle.jpg_markers.specs.Reading.{Reading, AtPhase, RepresentsSegments, EndsAtEoi, Comes, PassesSome}
 use Rattle.jpg_comments.specs.Inserting.{HoldsHead, copied_head, copied_segment, HasKept, IsAtFrame, StopsHead}
-use Rattle.jpg_comments.proofs.Taken.{OneMore, Tells, taken_on, taken_some, fault_shown, within, whole_front, frame_or_not}
+use Rattle.jpg_comments.proofs.Taken.{OneMore, Tells, taken_on, taken_some, fault_shown, within, frame_or_not}
 
 -- WHERE A HEAD IS COMPLETE: at the marker of the frame header
 

@@ -13,7 +13,8 @@ use Rattle.jpg_markers.specs.Reading.{Reading}
 use Rattle.jpg_comments.specs.Appending.{AppendsText}
 use Rattle.jpg_comments.specs.SegmentsSoFar.{Appends}
 use Rattle.jpg_comments.specs.Inserting.{HoldsHead, copied_head, IsAtFrame, StopsHead, CopiesRest, InsertsPart, InsertsUpTo}
-use Rattle.jpg_comments.proofs.Taken.{whole_front, fault_remains}
+use Rattle.jpg_comments.proofs.Taken.{fault_remains}
+use Rattle.jpg_spec.proofs.Basics.Common.{whole_front}
 
 -- a stop before the marker remains, whatever follows
 pub head_stop_remains : (limits : Limits) (bytes rest : List ℕ) (e : Stop) → StopsHead limits bytes e → StopsHead limits (bytes ++ rest) e

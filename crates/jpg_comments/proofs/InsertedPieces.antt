@@ -18,8 +18,8 @@ use Rattle.jpg_markers.specs.declared.segments.SegmentReader.{SegmentReader}
 use Rattle.jpg_spec.specs.declared.fault.Fault.TheVariants.{InputTooLong}
 use Rattle.jpg_base.specs.Intake.{FeedsPiece}
 use Rattle.jpg_comments.proofs.Taken.{long_shown, appends_then}
-use Rattle.jpg_comments.proofs.ByPiece.{joined}
 use Rattle.jpg_comments.proofs.HeadByPieces.{head_stop_remains, AfterCopy, copied, whole_head, head_inserted, head_part}
+use Rattle.jpg_spec.proofs.Basics.Common.{joined}
 
 -- the invariant of a state, by its parts
 abbrev pub StandsWith : Limits → List ℕ → Bool → Option Stop → List ℕ → List ℕ → List ℕ → Option ℕ → List ℕ → Reading → Type 0

@@ -8,7 +8,7 @@ use Rattle.jpg_spec.specs.declared.fault.FaultAt.{FaultAt}
 use Rattle.jpg_spec.specs.declared.fault.Fault.TheVariants.{Truncated, InputTooLong}
 use Rattle.jpg_spec.specs.declared.frame.Limits.{Limits}
 use Rattle.jpg_spec.proofs.Segments.Reached.{reached_once, least}
-use Rattle.jpg_spec.proofs.Basics.Common.{clash}
+use Rattle.jpg_spec.proofs.Basics.Common.{clash, whole_front}
 use Rattle.jpg_markers.specs.declared.segments.Phase.{Phase}
 use Rattle.jpg_markers.specs.declared.segments.Phase.TheVariants as phase
 use Rattle.jpg_markers.specs.Reading.{Reading, AtPhase, PassesSome, RepresentsSegments}
@@ -28,9 +28,6 @@ pub appends_as : (P Q : List ℕ → Type 0) (text old new : List ℕ) → Appen
 appends_as P Q text old new h f = (h.0, h.1, f (text ++ h.0) h.2)
 
 -- PREFIXES
-
-pub whole_front : (front rest : List ℕ) → take (length front) (front ++ rest) ≡ front
-whole_front front rest = take-append-le (length front) front rest (omega arith) ∙ take_all (length front) front (omega arith)
 
 -- The result of the bytes determines whether they are complete: `goes` is false there and at faults.
 pub record Tells (limits : Limits) (is_whole : List ℕ → Type 0) : Type 0 where

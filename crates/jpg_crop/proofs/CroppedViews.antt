@@ -22,10 +22,10 @@ use Rattle.jpg_spec_move.proofs.OutsideZeros.{in_picture}
 use Rattle.jpg_file.specs.Read.PictureRead.{picture_meaning}
 use Rattle.jpg_transform.specs.Places.{IsSeenAs}
 use Rattle.jpg_transform.proofs.MovedFile.{writes_plan}
-use Rattle.jpg_transform.proofs.Showing.{some_across, some_down}
 use Rattle.jpg_crop.specs.CropPlanned.{IsCutFrom, with_area}
 use Rattle.jpg_crop.specs.CroppedBlocks.{HasPlaces, ShowsCropped, WritesCropped, blocks_from}
 use Rattle.jpg_crop.specs.declared.planning.CropJob.{CropJob}
+use Rattle.jpg_spec.proofs.Places.PlacesSome.{h_max_some, v_max_some}
 
 -- THE COLUMNS AND ROWS BEFORE, as `new` finds them
 pub record AreBefore (crop : CropJob) (columns rows : List ℕ) : Type 0 where
@@ -46,17 +46,17 @@ module _ {area : Area} {f : Frame} {crop : CropJob} {columns rows : List ℕ} (i
   column_at : (i : ℕ) → i < length crop.plan.out.frame.components → slice_index columns i ≡ columns_cropped area f i
   column_at i there =
       found.columns_are i there ∙ ap (λ (g : Frame). (crop.x0 / (8 * h_max g)) * (component_at g i).h) cut.frame
-      ∙ ap (λ x0. (x0 / (8 * h_max f)) * (component_at f i).h) cut.across ∙ ap (λ q. q * (component_at f i).h) (grid_mcus (h_max f) area.x (some_across f is))
+      ∙ ap (λ x0. (x0 / (8 * h_max f)) * (component_at f i).h) cut.across ∙ ap (λ q. q * (component_at f i).h) (grid_mcus (h_max f) area.x (h_max_some f is))
 
   row_at : (i : ℕ) → i < length crop.plan.out.frame.components → slice_index rows i ≡ rows_cropped area f i
   row_at i there =
       found.rows_are i there ∙ ap (λ (g : Frame). (crop.y0 / (8 * v_max g)) * (component_at g i).v) cut.frame
-      ∙ ap (λ y0. (y0 / (8 * v_max f)) * (component_at f i).v) cut.down ∙ ap (λ q. q * (component_at f i).v) (grid_mcus (v_max f) area.y (some_down f is))
+      ∙ ap (λ y0. (y0 / (8 * v_max f)) * (component_at f i).v) cut.down ∙ ap (λ q. q * (component_at f i).v) (grid_mcus (v_max f) area.y (v_max_some f is))
 
   -- a real place comes from a real place
   pub place_from : (i x y : ℕ) → IsReal crop.plan.out.frame i x y → IsReal f i (x + slice_index columns i) (y + slice_index rows i)
   place_from i x y r =
-      let there = real_before area f i x y (some_across f is) (some_down f is) inside (subst (λ (g : Frame). IsReal g i x y) cut.frame r) in
+      let there = real_before area f i x y (h_max_some f is) (v_max_some f is) inside (subst (λ (g : Frame). IsReal g i x y) cut.frame r) in
       subst (λ n. IsReal f i (x + n) (y + slice_index rows i)) (sym (column_at i r.component)) (subst (λ n. IsReal f i (x + columns_cropped area f i) (y + n)) (sym (row_at i r.component)) there)
 
   -- THE BLOCKS
@@ -114,8 +114,8 @@ pub has_places : {area : Area} {f : Frame} {crop : CropJob} {columns rows : List
 has_places {area} {f} {crop} {columns} {rows} is cut found = record {
   few = found.frame.count_high;
   places = place_from is cut found;
-  column = λ i x y r. side_fits f.width (component_at f i).h (h_max f) (x + slice_index columns i) (some_across f is) is.width_high (across_high f.components i is.factors) (place_from is cut found i x y r).across;
-  row = λ i x y r. side_fits f.height (component_at f i).v (v_max f) (y + slice_index rows i) (some_down f is) is.height_high (down_high f.components i is.factors) (place_from is cut found i x y r).down;
+  column = λ i x y r. side_fits f.width (component_at f i).h (h_max f) (x + slice_index columns i) (h_max_some f is) is.width_high (across_high f.components i is.factors) (place_from is cut found i x y r).across;
+  row = λ i x y r. side_fits f.height (component_at f i).v (v_max f) (y + slice_index rows i) (v_max_some f is) is.height_high (down_high f.components i is.factors) (place_from is cut found i x y r).down;
 }
 
 -- THE VIEW of a picture that is transformed by a choice, cropped: what it shows, and the file that is written of it

@@ -1,19 +1,15 @@
 -- Bounds of the sums of a line.
-use Rattle.std.proofs.Common.{◌≡◌, ℕ, zero, suc, ◌+◌, ◌*◌, ◌≤◌, ◌<◌, List, [], ◌∷◌, ◌++◌, get_or, ℤ, pos, negsuc, ◌+ℤ◌, ◌-ℤ◌, ◌*ℤ◌, neg_ℤ, nat_abs, All, take, length, max, subst, refl, sym, arith}
+use Rattle.std.proofs.Common.{◌≡◌, ℕ, ◌+◌, ◌*◌, ◌≤◌, ◌<◌, List, [], ◌∷◌, ◌++◌, get_or, ℤ, pos, ◌+ℤ◌, ◌-ℤ◌, ◌*ℤ◌, neg_ℤ, nat_abs, All, take, length, max, subst, sym, arith}
 use Rattle.std.proofs.lemmas.Int.{ints, unsigned_abs-mul}
 use Rattle.std.proofs.lemmas.Nat.{mul-le}
 use Rattle.std.proofs.lemmas.List.{take_more, take_all}
-use Rattle.std.proofs.lemmas.List.Elements.{All-head, All-tail, All-weaker, All-push}
+use Rattle.std.proofs.lemmas.List.Elements.{All-weaker, All-push}
 use Rattle.jpg_spec_image.specs.Dct.{even_sums, odd_sums, joined_sums, line_sums, number_at}
 use Rattle.jpg_dct.proofs.Several.{EightOf, on}
+use Rattle.jpg_spec_image.proofs.Frequencies.{abs_neg}
 
 abs_sum : (a b : ℤ) (m n : ℕ) → nat_abs a ≤ m → nat_abs b ≤ n → nat_abs (a +ℤ b) ≤ m + n
 abs_sum a b m n ha hb = omega (arith, ints, ha, hb)
-
-abs_neg : (a : ℤ) → nat_abs (neg_ℤ a) ≡ nat_abs a
-abs_neg (pos zero) = refl
-abs_neg (pos (suc n)) = refl
-abs_neg (negsuc n) = refl
 
 abs_less : (a b : ℤ) (m n : ℕ) → nat_abs a ≤ m → nat_abs b ≤ n → nat_abs (a -ℤ b) ≤ m + n
 abs_less a b m n ha hb = abs_sum a (neg_ℤ b) m n ha (omega (arith, abs_neg b, hb))
@@ -23,12 +19,6 @@ abs_scaled a k m h =
     let e : nat_abs (a *ℤ pos k) ≡ nat_abs a * k = unsigned_abs-mul a (pos k) in
     let l : nat_abs a * k ≤ m * k = mul-le (nat_abs a) k m k h (omega arith) in
     omega (arith, e, l)
-
--- a property of all numbers of a list, and of the default, holds at any place
-pub all_at : {X : Type 0} (P : X → Type 0) (xs : List X) (i : ℕ) (d : X) → All P xs → P d → P (get_or xs i d)
-all_at P [] i d all p = p
-all_at P (x ∷ xs) zero d all p = All-head P x xs all
-all_at P (x ∷ xs) (suc i) d all p = all_at P xs i d (All-tail P x xs all) p
 
 record even_small (M : ℕ) (i0 i2 i4 i6 : ℤ) : Type 0 where
   at0 : nat_abs (number_at (even_sums i0 i2 i4 i6) 0) ≤ 40387 * M

@@ -12,9 +12,10 @@ use Rattle.jpg_spec.proofs.Basics.Rows.{at_below, by_items}
 use Rattle.jpg_spec_image.specs.Dct.{number_at, dequantised}
 use Rattle.jpg_dct.specs.Multipliers.{Multiplies, AreMultipliers, AreLimited, scaled}
 use Rattle.jpg_dct.specs.Natural.{natural}
-use Rattle.jpg_dct.proofs.Bounds.{abs_scaled, all_at}
+use Rattle.jpg_dct.proofs.Bounds.{abs_scaled}
 use Rattle.jpg_dct.proofs.Eights.{fits16}
 use Rattle.jpg_dct.proofs.Swizzled.{low, natural_all}
+use Rattle.jpg_spec_image.proofs.CodedBlocks.{all_at}
 
 abbrev scaled_number : List ℕ → List ℤ → ℕ → ℤ
 scaled_number quants given n = number_at given n *ℤ pos (slice_index quants n)

@@ -6,6 +6,7 @@ use Rattle.std.proofs.lemmas.Bool.{cases_lt}
 use Rattle.std.proofs.lemmas.Int.{ints}
 use Rattle.jpg_spec.specs.Lists.{below}
 use Rattle.jpg_spec_image.specs.Dct.{even_sums, odd_sums, joined_sums, line_sums, column, columns, sample_of, sample_row, inverse_dct}
+use Rattle.jpg_spec_image.proofs.CodedBlocks.{four_times}
 
 plus_zero : (x : ℤ) → x +ℤ pos 0 ≡ x
 plus_zero x = omega (arith, ints)
@@ -35,15 +36,6 @@ odd_flat = refl
 line_flat : (d : ℤ) → line_sums d (pos 0) (pos 0) (pos 0) (pos 0) (pos 0) (pos 0) (pos 0) ≡ replicate 8 (d *ℤ pos 8192)
 line_flat d = ap (λ o. joined_sums (even_sums d (pos 0) (pos 0) (pos 0)) o) odd_flat ∙ ap (λ b. joined_sums b (replicate 4 (pos 0))) (even_flat d) ∙ joined_flat (d *ℤ pos 8192)
 
--- four times the coefficient, after the columns
-first_rounded : (d : ℤ) → int_shr ((d *ℤ pos 8192) +ℤ pos 1024) 11 ≡ d *ℤ pos 4
-first_rounded (pos n) = (let e : (n * 8192 + 1024) / 2048 ≡ n * 4 = omega arith in ap pos e)
-first_rounded (negsuc n) =
-    let z : (negsuc n *ℤ pos 8192) +ℤ pos 1024 ≡ negsuc (n * 8192 + 7167) = omega (arith, ints) in
-    let e : (n * 8192 + 7167) / 2048 ≡ n * 4 + 3 = omega arith in
-    let t : negsuc (n * 4 + 3) ≡ negsuc n *ℤ pos 4 = omega (arith, ints) in
-    ap (λ x. int_shr x 11) z ∙ ap negsuc e ∙ t
-
 -- an eighth of it, after the rows
 then_rounded : (d : ℤ) → int_shr (((d *ℤ pos 4) *ℤ pos 8192) +ℤ pos 131072) 18 ≡ int_shr (d +ℤ pos 4) 3
 then_rounded (pos n) = (let e : (n * 4 * 8192 + 131072) / 262144 ≡ (n + 4) / 8 = omega arith in ap pos e)
@@ -63,7 +55,7 @@ columns_flat : (d : ℤ) → columns (d ∷ replicate 63 (pos 0)) ≡ replicate 
 unfolding column even_sums odd_sums joined_sums
 columns_flat d =
     ap (λ (c : List ℤ). (let l : List (List ℤ) = c ∷ replicate 7 (replicate 8 (pos 0)) in l))
-    (ap (map (λ e. int_shr (e +ℤ pos 1024) 11)) (line_flat d) ∙ ap (replicate 8) (first_rounded d))
+    (ap (map (λ e. int_shr (e +ℤ pos 1024) 11)) (line_flat d) ∙ ap (replicate 8) (four_times d))
 
 rows_flat : (c : ℤ) → flat_map (sample_row (replicate 8 c ∷ replicate 7 (replicate 8 (pos 0)))) (below 8) ≡ replicate 64 (sample_of (int_shr ((c *ℤ pos 8192) +ℤ pos 131072) 18))
 unfolding sample_row

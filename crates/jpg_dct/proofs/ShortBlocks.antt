@@ -16,11 +16,12 @@ use Rattle.jpg_dct.specs.declared.inverse.short.Sums.{Sums}
 use Rattle.jpg_dct.specs.Eights.{IsEight, vector, vectors}
 use Rattle.jpg_dct.specs.Sums.{AreLong, sums_at, lane_at, line_at, wrapped_more, column_number, low_of, limited_of, told_at, told_row}
 use Rattle.jpg_dct.proofs.Several.{eight, same8}
-use Rattle.jpg_dct.proofs.Bounds.{AreBelow, all_at}
+use Rattle.jpg_dct.proofs.Bounds.{AreBelow}
 use Rattle.jpg_dct.proofs.Samples.{low32}
 use Rattle.jpg_dct.proofs.Lows.{joined_is}
 use Rattle.jpg_dct.proofs.Eights.{seen, fits16, same16, scaled_small}
 use Rattle.jpg_dct.proofs.LongSums.{seen_at, wrapped_at, even_first, even_second, even_third, even_fourth, odd_first, odd_second, odd_third, odd_fourth}
+use Rattle.jpg_spec_image.proofs.CodedBlocks.{all_at}
 
 -- ROWS
 

@@ -20,7 +20,7 @@ some_left : (xs : List ℕ) (b : ℕ) → not (is_empty (xs ++ b ∷ [])) ≡ tr
 some_left [] b = refl
 some_left (x ∷ xs) b = refl
 
-none_of : (xs : List ℕ) → length xs ≡ 0 → xs ≡ []
+pub none_of : (xs : List ℕ) → length xs ≡ 0 → xs ≡ []
 none_of [] e = refl
 none_of (x ∷ xs) e = absurd (omega (arith, e))
 

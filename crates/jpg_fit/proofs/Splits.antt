@@ -4,12 +4,13 @@ use Rattle.std.specs.Prelude.{nat_lt, nat_le, sum, set, count_by, replicate, sli
 use Rattle.std.proofs.lemmas.Bool.{cases_eq}
 use Rattle.std.proofs.lemmas.Bool.Decides.{nat_tests}
 use Rattle.std.proofs.lemmas.List.{append_assoc, append-nil, take_more, take_all, drop_more, drop_all, take-append-drop, set_at, length-take-le, length-take, length_push, length-drop, get_or-drop, get_or-set_other, drop_at, drop-set-lt, get_or-set_same, length-set}
-use Rattle.std.proofs.lemmas.List.Sums.{sum_by-cons, sum_by_push, get_or-le-sum_by}
+use Rattle.std.proofs.lemmas.List.Sums.{sum_by_push, get_or-le-sum_by}
 use Rattle.jpg_spec.proofs.Basics.Common.{lt_of, lt_yes, le_of, not_lt_of, not_same, same_itself, and_none}
 use Rattle.jpg_spec_fit.specs.Fitted.{code_split, longest_moved, limited, one_less, sizes_counted, fitted_counts}
 use Rattle.jpg_spec_fit.proofs.FittedSizes.{sum_counted, insides_few}
 use Rattle.jpg_fit.specs.Sizes.{all_sizes, with_size}
 use Rattle.jpg_fit.specs.Split.{split_at}
+use Rattle.jpg_spec_fit.proofs.FittedCounts.{total_cons}
 
 -- a list around two places
 around : (at : ℕ) (counts : List ℕ) → at + 1 < length counts → counts ≡ take at counts ++ get_or counts at 0 ∷ get_or counts (at + 1) 0 ∷ drop (at + 1 + 1) counts
@@ -67,9 +68,6 @@ at_most at i m counts past l few =
 drop_split : (at : ℕ) (counts : List ℕ) → at ≤ length counts → drop at (split_at at counts) ≡ code_split (slice_index counts at) (drop (at + 1) counts)
 unfolding split_at
 drop_split at counts l = drop_at (take at counts) (code_split (slice_index counts at) (drop (at + 1) counts)) at (length-take-le at counts l)
-
-total_cons : (n : ℕ) (ns : List ℕ) → sum (n ∷ ns) ≡ n + sum ns
-total_cons n ns = sum_by-cons (λ x. x) n ns
 
 split_most : (m : ℕ) (shorter : List ℕ) → sum (code_split m shorter) ≤ m + sum shorter + 1
 split_most m [] = omega (arith, total_cons m [])

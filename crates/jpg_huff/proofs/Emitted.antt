@@ -8,7 +8,7 @@ use Rattle.jpg_base.specs.Laws.{AppendsPart, AppendsPart-more, AppendsPart-then,
 use Rattle.jpg_base.specs.declared.stop.WriteFault.{WriteFault}
 use Rattle.jpg_huff.specs.Out.{Emits, OnlyWrites}
 
-append_last-nil : (outputs : List (Name × List ℕ)) → append_last outputs [] ≡ outputs
+pub append_last-nil : (outputs : List (Name × List ℕ)) → append_last outputs [] ≡ outputs
 append_last-nil [] = refl
 append_last-nil (o ∷ []) = ap (λ (b : List ℕ). (let q : List (Name × List ℕ) = (o.0, b) ∷ [] in q)) (append-nil o.1)
 append_last-nil (o ∷ p ∷ os) = ap (λ (r : List (Name × List ℕ)). o ∷ r) (append_last-nil (p ∷ os))

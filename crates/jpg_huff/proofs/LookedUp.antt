@@ -3,7 +3,6 @@ use Rattle.std.proofs.Common.{◌≡◌, ℕ, ◌+◌, ◌-◌, ◌*◌, ◌/◌
 use Rattle.std.specs.Prelude.{◌⊎◌, None, Some, if◌then◌else◌, ◌==◌}
 use Rattle.std.specs.List.{Contains}
 use Rattle.std.proofs.lemmas.Bool.{cases_lt}
-use Rattle.std.proofs.lemmas.Bool.Decides.{nat_tests}
 use Rattle.std.proofs.lemmas.Grind.{elements}
 use Rattle.std.proofs.lemmas.Nat.{pow_pos, pow-add}
 use Rattle.std.proofs.Math.Nat.{div-lt_iff_lt-mul}
@@ -27,6 +26,7 @@ use Rattle.jpg_huff.specs.Look.{LooksUp, found_of, Spots}
 use Rattle.jpg_base.proofs.BitsAt.{bits_of-add, bits_of-beside}
 use Rattle.jpg_huff.proofs.Steps.{level_split, in_longer, are_codes, is_code}
 use Rattle.jpg_huff.proofs.Tables.{codes_kept, is_table}
+use Rattle.jpg_spec.proofs.Headers.SameNumbers.{some_not_zero}
 
 -- the first bits of eight
 pub first_of_eight : (at byte : ℕ) → at < 8 → take (at + 1) (bits_of 8 byte) ≡ bits_of (at + 1) (byte / 2 ^ (7 - at))
@@ -89,15 +89,12 @@ none_further t byte at h small none out code more c e =
 pub none_in_eight : (t : Table) (byte n : ℕ) → 8 ≤ n → NoneUpTo t byte n → LooksUp (symbol_codes t) (bits_of 8 byte) (found_of 0)
 none_in_eight t byte n h none = λ code more c e. omega (arith, none code more c e, ap length e, length-append code.0 more, length-bits_of 8 byte)
 
-not_zero : (n : ℕ) → 1 ≤ n → (n == 0) ≡ false
-not_zero n h = grind (arith, nat_tests)
-
 pub found_is : (n symbol : ℕ) → 1 ≤ n → symbol < 256 → found_of (256 * n + symbol) ≡ Some (record { length = n; symbol = symbol })
 found_is n symbol h s =
     let entry = 256 * n + symbol in
     let q : entry / 256 ≡ n = omega arith in
     let r : entry % 256 ≡ symbol = omega arith in
-    ap (λ (b : Bool). (let f : Found = record { length = entry / 256; symbol = entry % 256 } in if b then None else Some f)) (not_zero entry (omega arith))
+    ap (λ (b : Bool). (let f : Found = record { length = entry / 256; symbol = entry % 256 } in if b then None else Some f)) (some_not_zero entry (omega arith))
     ∙ ap (λ (k : ℕ). (let f : Found = record { length = k; symbol = entry % 256 } in Some f)) q ∙ ap (λ (k : ℕ). (let f : Found = record { length = n; symbol = k } in Some f)) r
 
 -- the symbol of a number of this length, which is a code

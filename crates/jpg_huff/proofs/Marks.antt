@@ -1,12 +1,12 @@
 -- Marks that are counted, one after another.
-use Rattle.std.proofs.Common.{◌≡◌, ℕ, zero, suc, ◌+◌, ◌<◌, ◌≤◌, ◌==◌, ◌&&◌, Bool, true, false, cond, List, [], ◌∷◌, ◌++◌, length, set, refl, sym, ap, ◌∙◌, subst, arith, lit<, ⊎_elim}
+use Rattle.std.proofs.Common.{◌≡◌, ℕ, zero, suc, ◌+◌, ◌<◌, ◌≤◌, ◌==◌, ◌&&◌, Bool, false, cond, List, [], ◌∷◌, ◌++◌, length, set, refl, sym, ap, ◌∙◌, subst, arith, lit<, ⊎_elim}
 use Rattle.std.specs.Prelude.{nat_lt, filter, replicate, count_by, slice_index}
 use Rattle.std.proofs.lemmas.Bool.{cases_eq}
 use Rattle.std.proofs.lemmas.List.{append_assoc, append-nil, get_or-replicate, get_or-set_same, get_or-set_other, length-set}
 use Rattle.std.proofs.lemmas.List.Elements.{filter-append}
 use Rattle.std.proofs.lemmas.List.Sums.{sum_by-append}
 use Rattle.jpg_spec.specs.Lists.{below}
-use Rattle.jpg_spec.proofs.Basics.Common.{length_below, not_same, same_itself, and_none}
+use Rattle.jpg_spec.proofs.Basics.Common.{length_below, not_same, same_itself, and_none, filter_less}
 use Rattle.jpg_huff.specs.Flat.{symbols_in}
 use Rattle.jpg_huff.specs.Counts.{Rows, row, count_of, capped, AreRows, AreCounts, no_rows, Mark, is_mark, CountsToo, Notes, NotesBut}
 use Rattle.jpg_huff.specs.declared.counts.SymbolCounts.{SymbolCounts}
@@ -70,14 +70,6 @@ rows_none = record { two = refl; long = at; within = λ slot s h few. (let e = n
     at zero h = refl
     at (suc zero) h = refl
     at (suc (suc n)) h = absurd (omega (arith, h))
-
-filter_less : (test : ℕ → Bool) (xs : List ℕ) → length (filter test xs) ≤ length xs
-filter_less test [] = omega arith
-filter_less test (x ∷ xs) = by (test x) (filter_less test xs)
-  where
-    by : (b : Bool) → length (filter test xs) ≤ length xs → length (cond b (x ∷ filter test xs) (filter test xs)) ≤ length (x ∷ xs)
-    by true h = omega (arith, h)
-    by false h = omega (arith, h)
 
 -- without 255 there are fewer than 256
 pub few_symbols : (counts : List ℕ) → slice_index counts 255 ≡ 0 → length (symbols_in counts) ≤ 255

@@ -119,7 +119,7 @@ module _ (distinct : List QuantTable) (f : Frame) (tables : List QuantTable) (i 
 
 -- THE COMPLETE HEAD
 
-tables_of : (components : List Component) (tables : List QuantTable) → length tables ≡ length components → map (λ c. c.quants) (with_tables components tables) ≡ tables
+pub tables_of : (components : List Component) (tables : List QuantTable) → length tables ≡ length components → map (λ c. c.quants) (with_tables components tables) ≡ tables
 tables_of [] [] l = refl
 tables_of [] (t ∷ tables) l = absurd (omega (arith, l))
 tables_of (c ∷ components) [] l = absurd (omega (arith, l))

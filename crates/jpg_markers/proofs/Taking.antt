@@ -31,7 +31,7 @@ further rule bytes before tail more b = record {
   passed = b.passed;
 }
 
-not_nil : (xs : List ℕ) (b : ℕ) → xs ++ b ∷ [] ≡ [] → ⊥
+pub not_nil : (xs : List ℕ) (b : ℕ) → xs ++ b ∷ [] ≡ [] → ⊥
 not_nil [] b e = absurd cc
 not_nil (x ∷ xs) b e = absurd cc
 

@@ -1,13 +1,12 @@
 -- What reading some bytes leads to, by the state before them.
 use Rattle.std.proofs.Common.{◌≡◌, ℕ, ◌*◌, ◌≤◌, ◌==◌, Bool, true, false, cond, List, [], ◌∷◌, length, take, get_or, refl, sym, ap, ◌∙◌, subst, arith}
 use Rattle.std.specs.Prelude.{nat_le}
-use Rattle.jpg_spec_image.specs.Images.{is_side}
 use Rattle.jpg_spec_image.specs.PnmText.{is_number_due}
 use Rattle.jpg_spec_image.specs.BmpFile.{height, width, bmp_depth, used}
 use Rattle.jpg_spec_image.specs.ImageFaults.{ImageHead, pnm, bmp, image_of, IsBodyFront}
 use Rattle.jpg_spec_image.specs.ImageSteps.{ImageState, in_number, in_body, whole, step, run}
 use Rattle.jpg_spec_image.specs.ImageReading.{RepresentsImage, InBody}
-use Rattle.jpg_spec_image.proofs.ImageBodyRuns.{ThreeNumbers, last_three, bmp_sides}
+use Rattle.jpg_spec_image.proofs.ImageBodyRuns.{ThreeNumbers, last_three, bmp_sides, side_some}
 use Rattle.jpg_spec_image.proofs.ImageStands.{stands}
 use Rattle.jpg_spec.proofs.Basics.Common.{both, le_of}
 use Rattle.jpg_pnm_bmp.specs.Known.{list_of}
@@ -31,9 +30,6 @@ due_reached format numbers n (bytes, e) = due bytes (subst (RepresentsImage byte
 
 pub body_reached : (head : ImageHead) (body : List ℕ) → IsReached (in_body head body) → (bytes : List ℕ) × InBody bytes head body
 body_reached head body (bytes, e) = (bytes, subst (RepresentsImage bytes) e (stands bytes))
-
-side_some : (n : ℕ) → is_side n ≡ true → 1 ≤ n
-side_some n e = le_of 1 n (both (nat_le 1 n) (nat_le n 65500) e).0
 
 used_some : (head : List ℕ) → 1 ≤ width head → 1 ≤ used head
 used_some head w = by (bmp_depth head == 8)

@@ -17,7 +17,7 @@ part_on bytes piece at used s e =
     ∙ sym (run_join at_start (bytes ++ take at piece) (take used (drop at piece)))
     ∙ ap (run at_start) (append_assoc bytes (take at piece) (take used (drop at piece)) ∙ ap (λ x. bytes ++ x) (sym (take-add at used piece)))
 
-front : (bytes piece rest : List ℕ) (n : ℕ) → n ≤ length piece → take (length bytes + n) ((bytes ++ piece) ++ rest) ≡ bytes ++ take n piece
+pub front : (bytes piece rest : List ℕ) (n : ℕ) → n ≤ length piece → take (length bytes + n) ((bytes ++ piece) ++ rest) ≡ bytes ++ take n piece
 front bytes piece rest n h = ap (take (length bytes + n)) (append_assoc bytes piece rest) ∙ take-append-add bytes (piece ++ rest) n ∙ ap (λ x. bytes ++ x) (take-append-le n piece rest h)
 
 pub image_read : (limits : Limits) (bytes piece rest : List ℕ) (n : ℕ) (image : Image) → n ≤ length piece → length (bytes ++ piece) ≤ limits.input → run at_start (bytes ++ take n piece) ≡ whole image → IsImage limits ((bytes ++ piece) ++ rest) image

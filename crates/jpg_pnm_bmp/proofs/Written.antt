@@ -17,7 +17,7 @@ use Rattle.jpg_pnm_bmp.specs.declared.write.end.Finish.TheVariants.{More, Done}
 abbrev flat : List (List ℕ) → List ℕ
 flat parts = flat_map (λ part. part) parts
 
-none_held : (kind : EndKind) → [] ≡ held_of kind []
+pub none_held : (kind : EndKind) → [] ≡ held_of kind []
 none_held Pnm = refl
 none_held Bmp = refl
 none_held Targa = refl
@@ -29,7 +29,7 @@ text_begins k i s t e h =
     subst (λ n. Wrote n (begun i s) t) (sym h.0) (record { told = refl; taken = refl; held = none_held k; text = h.1 ∙ text; whole = λ d. (let z : false ≡ true = d in cc) })
 
 -- one more row
-more_held : (kind : EndKind) (rows : List (List ℕ)) (row : List ℕ) → held_of kind rows ++ held_of kind (row ∷ []) ≡ held_of kind (rows ++ row ∷ [])
+pub more_held : (kind : EndKind) (rows : List (List ℕ)) (row : List ℕ) → held_of kind rows ++ held_of kind (row ∷ []) ≡ held_of kind (rows ++ row ∷ [])
 more_held Pnm rows row = refl
 more_held Bmp rows row = refl
 more_held Targa rows row = refl
@@ -62,7 +62,7 @@ text_grows i r s t e n w c h =
     })
 
 -- the parts after the rows
-due_held : (kind : EndKind) (info : ImageInfo) (rows : List (List ℕ)) → rest kind info (held_of kind rows) ≡ rest kind info rows
+pub due_held : (kind : EndKind) (info : ImageInfo) (rows : List (List ℕ)) → rest kind info (held_of kind rows) ≡ rest kind info rows
 due_held Pnm info rows = refl
 due_held Bmp info rows = refl
 due_held Targa info rows = refl

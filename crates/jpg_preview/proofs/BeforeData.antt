@@ -13,6 +13,7 @@ use Rattle.jpg_spec.proofs.Basics.Common.{heads}
 use Rattle.jpg_spec.proofs.Segments.MarkersOnce.{no_head}
 use Rattle.jpg_spec.proofs.Files.ScanSteps.{fill_more}
 use Rattle.jpg_spec.proofs.Files.ScansOnce.{CutInterval, cut_interval, join_interval}
+use Rattle.jpg_markers.proofs.Taking.{not_nil}
 
 -- THE LAST ONE of a list
 
@@ -34,10 +35,6 @@ one_last (x ∷ xs) (y ∷ ys) b c e =
     let h = heads x y (xs ++ b ∷ []) (ys ++ c ∷ []) e in
     let k = one_last xs ys b c h.1 in
     (ap (λ l. x ∷ l) k.0 ∙ ap (λ n. n ∷ ys) h.0, k.1)
-
-pub none_last : (xs : List ℕ) (b : ℕ) → xs ++ b ∷ [] ≡ [] → ⊥
-none_last [] b e = no_head b [] (sym e)
-none_last (x ∷ xs) b e = no_head x (xs ++ b ∷ []) (sym e)
 
 -- the last byte of two parts is that of the second, unless there is none
 pub last_cut : (bytes front tail : List ℕ) (b : ℕ) → bytes ++ b ∷ [] ≡ front ++ tail → (tail ≡ []) ⊎ ((t : List ℕ) × (tail ≡ t ++ b ∷ []) × (bytes ≡ front ++ t))
@@ -75,7 +72,7 @@ one_before x t b (inr k) =
     stuffed [] k.1.0 [] same.1 same.0 (ap (λ n. n ∷ []) k.0) refl
 
 pub data_before : (coded t : List ℕ) (b : ℕ) → SpellsData coded (t ++ b ∷ []) → DataBefore coded t b
-data_before [] t b s = absurd (none_last t b s)
+data_before [] t b s = absurd (not_nil t b s)
 data_before (x ∷ c) t b s = by (last_cut t s.0 s.1 b s.2) (λ r k. data_before c r b k)
   where
     next : (r : List ℕ) → t ≡ s.0 ++ r → DataBefore c r b → DataBefore (x ∷ c) t b

@@ -19,7 +19,8 @@ use Rattle.jpg_spec.proofs.Files.ItemsOnce.{end_holds, ends_at}
 use Rattle.jpg_spec.proofs.Segments.MarkersOnce.{no_head}
 use Rattle.jpg_spec.proofs.Files.ScanSteps.{fill_more}
 use Rattle.jpg_preview.specs.Counting.{EndsBetween, EndsInData}
-use Rattle.jpg_preview.proofs.BeforeData.{one_last, none_last, last_cut, last_fill, TextBefore, plain, stuffed, restarted, text_before, holds_before}
+use Rattle.jpg_preview.proofs.BeforeData.{one_last, last_cut, last_fill, TextBefore, plain, stuffed, restarted, text_before, holds_before}
+use Rattle.jpg_markers.proofs.Taking.{not_nil}
 
 -- A MARKER without its code is FF bytes
 pub code_last : (t : List ℕ) (b code : ℕ) → SpellsMarker code (t ++ b ∷ []) → (fill : ℕ) × (t ≡ replicate (suc fill) 255) × (b ≡ code)
@@ -61,7 +62,7 @@ sized_before marker t b high low contents e =
 
 pub part_before : (items : List Item) (t : List ℕ) (b : ℕ) → PartOfItem items (t ++ b ∷ []) → PartOfItem items t
 part_before items t b (inl k) = begun_part items t b k.0 k.1.0
-part_before items t b (inr (inl (zero, e))) = absurd (none_last t b e)
+part_before items t b (inr (inl (zero, e))) = absurd (not_nil t b e)
 part_before items t b (inr (inl (suc fill, e))) = filled_part items t fill (last_fill t b fill e).0
 part_before items t b (inr (inr k)) = by k.3
   where

@@ -1,7 +1,7 @@
 -- A BYTE OF A COUNTER inside scan data, and the marker after them.
 use Rattle.std.proofs.Common.{◌≡◌, ℕ, zero, suc, ◌+◌, ◌-◌, ◌<◌, ◌≤◌, Bool, true, false, List, [], ◌∷◌, ◌++◌, length, refl, sym, ap, ◌∙◌, subst, arith, inl, inr, Some, None, Ok, Err, Result}
 use Rattle.std.specs.Prelude.{◌⊎◌, replicate}
-use Rattle.std.proofs.lemmas.List.{append_assoc, append-nil, length-append, replicate-append-replicate}
+use Rattle.std.proofs.lemmas.List.{append-nil, length-append, replicate-append-replicate}
 use Rattle.std.proofs.lemmas.Bool.Decides.{nat_tests}
 use Rattle.jpg_spec.specs.Bits.{IsMarkerCode}
 use Rattle.jpg_spec.specs.Segments.{two_bytes}
@@ -11,7 +11,7 @@ use Rattle.jpg_spec.specs.UnfinishedFile.{PartOfItem}
 use Rattle.jpg_spec.specs.ScanReading.{ScanPlace, scan_item}
 use Rattle.jpg_spec.specs.declared.fault.Fault.TheVariants.{UnexpectedMarker}
 use Rattle.jpg_spec.proofs.Basics.Common.{clash}
-use Rattle.jpg_spec.proofs.Files.ItemSteps.{fill_begin, same_tail}
+use Rattle.jpg_spec.proofs.Files.ItemSteps.{fill_begin, same_tail, after_fill}
 use Rattle.jpg_spec.proofs.Segments.MarkersOnce.{fill_no_marker, marker_once, no_head}
 use Rattle.jpg_spec.proofs.Segments.Reached.{reached_once}
 use Rattle.jpg_base.specs.declared.stop.Stop.{Stop}
@@ -27,10 +27,10 @@ use Rattle.jpg_huff.specs.declared.gate.Passed.TheVariants as passed
 use Rattle.jpg_spec_image.specs.Front.{scans_in}
 use Rattle.jpg_preview.specs.declared.counter.Counted.TheVariants as counted
 use Rattle.jpg_preview.specs.Counting.{Count, CountsBetween, CountsByte, CountsInData, CountsScans, EndsBetween, EndsData, EndsInData, HasEnded, HoldsSegments}
-use Rattle.jpg_preview.proofs.BeforeData.{none_last, one_last}
+use Rattle.jpg_preview.proofs.BeforeData.{one_last}
 use Rattle.jpg_preview.proofs.BeforeItems.{BetweenBefore, more, whole, started, ended, between_before, IsSameScan, InDataBefore, in_fill, in_plain, in_stuffed, in_restart, at_header, in_data_before}
 use Rattle.jpg_preview.proofs.CountSteps.{ReachesPart, part, frame, part_reached}
-use Rattle.jpg_markers.proofs.Taking.{further}
+use Rattle.jpg_markers.proofs.Taking.{further, not_nil}
 
 -- WHAT PASSES THE GATE
 
@@ -108,7 +108,7 @@ not_start : (old : Count) (scans : ℕ) (bytes : List ℕ) → old.inside ≡ tr
 not_start old scans bytes e v d = clash old.inside e (v.start d).outside
 
 not_started : (old : Count) (scans : ℕ) (bytes : List ℕ) (byte : ℕ) → old.inside ≡ true → CountsScans old.limits scans bytes old → (bytes ++ byte ∷ [] ≡ []) ⊎ (bytes ++ byte ∷ [] ≡ 255 ∷ []) → ⊥
-not_started old scans bytes byte e v (inl k) = none_last bytes byte k
+not_started old scans bytes byte e v (inl k) = not_nil bytes byte k
 not_started old scans bytes byte e v (inr k) = not_start old scans bytes e v (inl (one_last bytes [] byte 255 k).0)
 
 -- FF waits there
@@ -208,10 +208,6 @@ part_stands sent before answer r k n p = by answer k n
     by (Err (stop.Fault f)) k n = absurd (apart (at_fault f.fault) k.0 (λ e. cc) (λ e. cc) p)
     by (Err stop.NoMemory) k n = absurd n
 
--- fill bytes before the marker change nothing
-filled_behind : (fill : ℕ) (t marker rest : List ℕ) → t ≡ marker ++ rest → replicate fill 255 ++ t ≡ (replicate fill 255 ++ marker) ++ rest
-filled_behind fill t marker rest e = ap (λ l. replicate fill 255 ++ l) e ∙ sym (append_assoc (replicate fill 255) marker rest)
-
 fill_read : (r : Reading) (ph : Phase) (before : List Segment) (t : List ℕ) (fill : ℕ) → (t ≡ [] → ⊥) → PartRead r ph before t → PartRead r ph before (replicate fill 255 ++ t)
 fill_read r phase.Empty before t fill some k = k
 fill_read r phase.HalfStart before t fill some k = k
@@ -220,9 +216,9 @@ fill_read r phase.Fill before t fill some k =
     let z : fill + suc k.0 ≡ suc (fill + k.0) = omega arith in
     (fill + k.0, ap (λ l. replicate fill 255 ++ l) k.1 ∙ replicate-append-replicate fill (suc k.0) 255 ∙ ap (λ n. replicate n 255) z)
 fill_read r phase.Coded before t fill some k = fill_begin fill before r.code t k
-fill_read r phase.HalfLength before t fill some k = (replicate fill 255 ++ k.0, fill_begin fill before r.code k.0 k.1, filled_behind fill t k.0 (r.high ∷ []) k.2, k.3)
+fill_read r phase.HalfLength before t fill some k = (replicate fill 255 ++ k.0, fill_begin fill before r.code k.0 k.1, after_fill fill t k.0 (r.high ∷ []) k.2, k.3)
 fill_read r phase.Contents before t fill some k =
-    (replicate fill 255 ++ k.0, k.1, k.2, fill_begin fill before r.code k.0 k.3, filled_behind fill t k.0 (k.1 ∷ k.2 ∷ r.contents) k.4, k.5, k.6, k.7, k.8)
+    (replicate fill 255 ++ k.0, k.1, k.2, fill_begin fill before r.code k.0 k.3, after_fill fill t k.0 (k.1 ∷ k.2 ∷ r.contents) k.4, k.5, k.6, k.7, k.8)
 fill_read r phase.Ended before t fill some k = k
 
 fill_stands : (r : Reading) (sent t : List ℕ) (s : Segment) (before : List Segment) (fill : ℕ) → (t ≡ [] → ⊥) → Between (kept_rule r.limits) sent (s ∷ before) [] → RepresentsSegments (sent ++ t) (s ∷ before) r

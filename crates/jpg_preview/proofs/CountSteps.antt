@@ -20,9 +20,9 @@ use Rattle.jpg_markers.specs.declared.segments.SegStep.{SegStep}
 use Rattle.jpg_markers.specs.declared.segments.SegStep.TheVariants as step
 use Rattle.jpg_preview.specs.declared.counter.Counted.TheVariants as counted
 use Rattle.jpg_preview.specs.Counting.{Count, CountsBetween, CountsByte, CountsInData, CountsScans, CountsStart, EndsData, EndsInData}
-use Rattle.jpg_preview.proofs.BeforeData.{none_last, one_last}
+use Rattle.jpg_preview.proofs.BeforeData.{one_last}
 use Rattle.jpg_preview.proofs.BeforeItems.{BetweenBefore, more, whole, started, ended, between_before, InDataBefore, in_fill, in_plain, in_stuffed, in_restart, at_header, in_data_before}
-use Rattle.jpg_markers.proofs.Taking.{further}
+use Rattle.jpg_markers.proofs.Taking.{further, not_nil}
 
 -- WHAT IS REACHED where the bytes end, and what the reader of segments holds then
 
@@ -126,7 +126,7 @@ module _ (old new : Count) (byte : ℕ) (answer : Result SegStep Stop) (w : Outs
   comes_on sent before s r = part_holds (sent ++ byte ∷ []) before answer new (w.comes sent before s) w.now (subst (λ l. ReachesPart (kept_rule l) (sent ++ byte ∷ [])) (sym w.bounded) r)
 
   outside_start : (bytes ++ byte ∷ [] ≡ []) ⊎ (bytes ++ byte ∷ [] ≡ 255 ∷ []) → CountsStart scans (bytes ++ byte ∷ []) new
-  outside_start (inl e) = absurd (none_last bytes byte e)
+  outside_start (inl e) = absurd (not_nil bytes byte e)
   outside_start (inr e) =
       let k = one_last bytes [] byte 255 e in
       let s = v.start (inl k.0) in
@@ -138,7 +138,7 @@ module _ (old new : Count) (byte : ℕ) (answer : Result SegStep Stop) (w : Outs
       let k = v.between items t d in
       let s = k.segments in
       let next = further (kept_rule old.limits) s.0 (segments_of items) t (byte ∷ []) s.2 in
-      let some : t ++ byte ∷ [] ≡ [] → ⊥ = none_last t byte in
+      let some : t ++ byte ∷ [] ≡ [] → ⊥ = not_nil t byte in
       let h = comes_on s.0 (segments_of items) s.1 (part_reached (kept_rule old.limits) (s.0 ++ byte ∷ []) items (t ++ byte ∷ []) next (subst (PartOfItem items) e p) some) in
       record { outside = h.1; due = w.due ∙ k.due; segments = (s.0 ++ byte ∷ [], h.0, subst (λ l. Between (kept_rule old.limits) (s.0 ++ byte ∷ []) (segments_of items) l) (sym e) next) }
   outside_between items tail (whole code contents earlier r e f d x) p =

@@ -15,7 +15,7 @@ use Rattle.jpg_spec.specs.PictureInWork.{is_at, is_in_band, AreDistinct, UnitsRe
 use Rattle.jpg_spec.specs.declared.frame.Place.{Place}
 use Rattle.jpg_spec.proofs.Basics.Common.{not_same, some_once, clash}
 use Rattle.jpg_spec.proofs.Bits.Once.{no_units}
-use Rattle.jpg_spec.proofs.Places.PictureInWork.{apart_of, apart_swap, distinct_behind}
+use Rattle.jpg_spec.proofs.Places.PictureInWork.{distinct_behind, next_apart}
 use Rattle.jpg_spec.proofs.Basics.Rows.{all_back}
 use Rattle.jpg_spec.proofs.Bits.UnitsRead.{units_first, units_next, units_last}
 use Rattle.jpg_base.specs.Cursor.{IsPadded}
@@ -45,10 +45,6 @@ band_is b s block r = ap (λ n. take (n - b.start) (drop b.start block)) r.end �
 refinable_one : (b : BandScan) (codes : List Code) (c : Coding) (k : ℕ) (o : ℤ) → IsCodingOf b codes c k → HasCorrectionRoom c o → IsRefinable b o
 refinable_one b codes c k o is (inl z) = inl z
 refinable_one b codes c k o is (inr h) = inr (omega (arith, h, is.scale, ap nat_abs is.bounds))
-
--- a place that is left isn't one of those before it
-next_apart : (done : List Place) (next : Place) (more : List Place) → AreDistinct (done ++ next ∷ more) → any_of (is_at next.component next.x next.y) done ≡ false
-next_apart done next more d = (apart_swap done (next ∷ more) (apart_of done (next ∷ more) d)).0
 
 -- where this place is the next that is left
 module _ {m : AcReader} {i : Interval} {now : Picture} {done : List Place} {p : Place} {more : List Place} {whole : List ℤ} (d : HasDue m i now done (p ∷ more) whole) where

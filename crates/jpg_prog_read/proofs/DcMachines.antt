@@ -1,5 +1,5 @@
 -- The machines of DC scans: one more bit, an interval that begins, and units that are left.
-use Rattle.std.proofs.Common.{◌≡◌, ℕ, zero, suc, ◌<◌, ◌≤◌, Bool, cond, List, [], ◌∷◌, ◌++◌, length, refl, sym, ap, ◌∙◌, subst, arith, ℤ, pos, ◌+ℤ◌, ◌≤ℤ◌, ⊎_elim, ◌==◌}
+use Rattle.std.proofs.Common.{◌≡◌, ℕ, suc, ◌<◌, ◌≤◌, Bool, cond, List, [], ◌∷◌, ◌++◌, length, refl, sym, ap, ◌∙◌, subst, arith, ℤ, pos, ◌+ℤ◌, ◌≤ℤ◌, ⊎_elim, ◌==◌}
 use Rattle.std.specs.Prelude.{slice_get, slice_set, slice_index_or, Some, Result, Ok, Err}
 use Rattle.std.specs.List.{All}
 use Rattle.std.proofs.lemmas.Bool.{cases_eq}
@@ -10,7 +10,7 @@ use Rattle.jpg_spec.specs.Geometry.{padded_blocks}
 use Rattle.jpg_spec.specs.Parts.{StandsInUnits}
 use Rattle.jpg_spec.specs.Scan.{Scan, unit_at}
 use Rattle.jpg_spec.specs.declared.frame.Place.{Place}
-use Rattle.jpg_spec.proofs.Basics.Common.{not_same, same_itself}
+use Rattle.jpg_spec.proofs.Basics.Common.{not_same, same_itself, zeros_at}
 use Rattle.jpg_coefs.specs.Picture.{Picture, block_in, map_of}
 use Rattle.jpg_coefs.specs.Machine.{Interval, Kind, Answered, Chain, Step, IsUnfinished, KeepsUnits, units_of}
 use Rattle.jpg_coefs.specs.declared.machine.UnitFault.{UnitFault}
@@ -29,9 +29,10 @@ use Rattle.jpg_prog_read.specs.BitsTaken.{HurriesOn}
 use Rattle.jpg_prog_read.specs.DcLookedUp.{DcThrough}
 use Rattle.jpg_prog_read.specs.DcFirstPass.{table_in, prediction_at, HurriesUnit, HasTable, ReadsBy, ReadsBit, CanRead, RepresentsDcFirst, FirstReady, first_pass, with_unit, behind_unit}
 use Rattle.jpg_prog_read.specs.DcRefinement.{HasDcRoom, HasRoomAt, RepresentsDcRefine, RefineReady, refinement, after_bit}
-use Rattle.jpg_prog_read.proofs.DcPlaces.{next_is, next_spot, old_still, on_to, within_next, whole_next, interval_read, next_ready, first_place, at_first, within_first, whole_first}
+use Rattle.jpg_prog_read.proofs.DcPlaces.{next_is, next_spot, old_still, on_to, within_next, whole_next, interval_read, next_ready, at_first, within_first, whole_first}
 use Rattle.jpg_prog_read.proofs.DcUnits.{dc_begins}
 use Rattle.jpg_prog_read.proofs.Due.{dc_due, dc_next_due}
+use Rattle.jpg_spec.proofs.Places.PictureInWork.{some_places}
 
 -- the same machine and picture after a bit, in another way
 module _ {M : Type 0} (k : Kind M) (m : M) (now : Picture) (bit : Bool) (answer : Result UnitStep UnitFault) where
@@ -85,7 +86,7 @@ module _ (m : DcFirst) (p : Place) (now : Picture) (first : slice_get m.cursor 0
       → Step first_pass m now b (Ok step.More) (behind_unit m p.component w) (with_dc now p v)
   step_unit b unit w v count r many i bits o =
       let k = o.within.next.component in
-      let l = first_place o.within.more (omega (arith, (o.places).count, many)) in
+      let l = some_places o.within.more (omega (arith, (o.places).count, many)) in
       let at = on_to o.within v l.0 l.1 in
       let q = predicted o.predictions k w in
       let T : Place → Type 0 = λ s. RepresentsDcFirst (behind_unit m s.component w) i (bits ++ b ∷ []) (with_dc now s v) in
@@ -163,7 +164,7 @@ module _ (m : DcRefine) (p : Place) (now : Picture) (x : ℤ) (first : slice_get
   pub step_bit : (b : Bool) (v : ℤ) → length now.blocks ≡ padded_blocks now.frame → AnswersDcRefinement m.scan x b v → 2 ≤ m.left
       → Step refinement m now b (Ok step.More) (after_bit m) (with_dc now p v)
   step_bit b v count r many i bits o =
-      let l = first_place o.within.more (omega (arith, (o.places).count, many)) in
+      let l = some_places o.within.more (omega (arith, (o.places).count, many)) in
       let T : Place → Type 0 = λ s. RepresentsDcRefine (after_bit m) i (bits ++ b ∷ []) (with_dc now s v) in
       subst T (next_is o.places p first) (record {
         sane = o.sane;
@@ -196,20 +197,13 @@ refine_spot m p now i bits first o = subst (λ (q : Place). IsSpot now.frame q) 
 
 -- AN INTERVAL BEGINS
 
-zeros_at : (k : ℕ) → slice_index_or (pos 0 ∷ pos 0 ∷ pos 0 ∷ pos 0 ∷ []) k (pos 0) ≡ pos 0
-zeros_at zero = refl
-zeros_at (suc zero) = refl
-zeros_at (suc (suc zero)) = refl
-zeros_at (suc (suc (suc zero))) = refl
-zeros_at (suc (suc (suc (suc k)))) = refl
-
 -- before its first bit
 abbrev pub begun : DcFirst → ℕ → DcFirst
 begun m units = record m { predictions = pos 0 ∷ pos 0 ∷ pos 0 ∷ pos 0 ∷ []; unit = fresh; left = units }
 
 pub first_begins : (m new : DcFirst) (i : Interval) (units : ℕ) → FirstReady m i → length i.places ≡ units → 1 ≤ units → new ≡ begun m units → RepresentsDcFirst new i [] i.before
 first_begins m new i units r count some is =
-    let l = first_place i.places (omega (arith, count, some)) in
+    let l = some_places i.places (omega (arith, count, some)) in
     let at = at_first l.0 l.1 in
     subst (λ (q : DcFirst). RepresentsDcFirst q i [] i.before) (sym is) (record {
       reads = r.reads;
@@ -226,7 +220,7 @@ first_begins m new i units r count some is =
 
 pub refine_begins : (m new : DcRefine) (i : Interval) (units : ℕ) → RefineReady m i → length i.places ≡ units → 1 ≤ units → new ≡ record m { left = units } → RepresentsDcRefine new i [] i.before
 refine_begins m new i units r count some is =
-    let l = first_place i.places (omega (arith, count, some)) in
+    let l = some_places i.places (omega (arith, count, some)) in
     subst (λ (q : DcRefine). RepresentsDcRefine q i [] i.before) (sym is) (record {
       sane = r.sane;
       coded = r.coded;

@@ -1,5 +1,5 @@
 -- The machines of DC scans before their first unit: their numbers, and the tables of their components.
-use Rattle.std.proofs.Common.{◌≡◌, ℕ, zero, suc, ◌+◌, ◌^◌, ◌<◌, ◌≤◌, Bool, true, false, cond, List, [], ◌∷◌, length, map, set, get_or, refl, sym, ap, ◌∙◌, subst, arith, ⊎_elim, ◌&&◌}
+use Rattle.std.proofs.Common.{◌≡◌, ℕ, ◌+◌, ◌^◌, ◌<◌, ◌≤◌, Bool, true, false, cond, List, ◌∷◌, length, map, set, get_or, refl, sym, ap, ◌∙◌, subst, arith, ⊎_elim, ◌&&◌}
 use Rattle.std.specs.Prelude.{slice_index_or, nat_lt, Option, Some}
 use Rattle.std.specs.Option.{option_map}
 use Rattle.std.specs.List.{All}
@@ -38,6 +38,7 @@ use Rattle.jpg_prog_read.proofs.Precisions.{fits_words}
 use Rattle.jpg_prog_read.proofs.Slots.{at_set, other_set, all_empty}
 use Rattle.jpg_prog_read.specs.DcLookedUp.{AreDcLookedUp}
 use Rattle.jpg_prog_read.specs.DcNew.{IsDcHead, HasPartTable, IsFirstHead, IsRefineHead, AreInSet, IsOfScan, dc_scan_of, part_at, AreDcTablesFilled}
+use Rattle.jpg_spec.proofs.Places.KnownParts.{part_same}
 
 -- TABLES IN THE SLOTS OF THEIR COMPONENTS
 
@@ -79,12 +80,6 @@ filled_more given parts n own new f small has e =
 
 component_at_part : (parts : List ScanPart) (j : ℕ) → j < length parts → get_or (map (λ (p : ScanPart). p.component) parts) j 0 ≡ (part_at parts j).component
 component_at_part parts j h = get_or-map (λ (p : ScanPart). p.component) parts j (record { component = 0; dc = 0; ac = 0 }) 0 h
-
--- the default of a part that isn't there doesn't matter
-part_same : (parts : List ScanPart) (j : ℕ) (d e : ScanPart) → j < length parts → get_or parts j d ≡ get_or parts j e
-part_same [] j d e h = absurd (omega (arith, h))
-part_same (p ∷ parts) zero d e h = refl
-part_same (p ∷ parts) (suc j) d e h = part_same parts j d e (omega (arith, h))
 
 part_found : (head : ScanHead) (j k : ℕ) → is_distinct (head_components head) ≡ true → j < length head.parts → (part_at head.parts j).component ≡ k → part_of head k ≡ part_at head.parts j
 part_found head j k d h e =

@@ -144,10 +144,6 @@ module _ {places : List Place} {units : ℕ} {i : Interval} {now : Picture} {w :
 
 -- AN INTERVAL BEGINS
 
-pub first_place : (places : List Place) → 1 ≤ length places → (p : Place) × (more : List Place) × (places ≡ p ∷ more)
-first_place [] h = absurd (omega arith)
-first_place (p ∷ more) h = (p, more, refl)
-
 abbrev pub at_first : Place → List Place → InInterval
 at_first next more = record { done = []; whole = []; next = next; more = more }
 

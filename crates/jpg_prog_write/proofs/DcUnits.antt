@@ -1,8 +1,7 @@
 -- The bits of a DC scan's units, one unit after another.
-use Rattle.std.proofs.Common.{◌≡◌, ℕ, suc, ◌≤◌, ◌==◌, ◌/◌, ◌%◌, ◌^◌, Bool, true, false, cond, List, [], ◌∷◌, ◌++◌, take, refl, sym, ap, ◌∙◌, arith, ℤ, pos, negsuc}
+use Rattle.std.proofs.Common.{◌≡◌, ℕ, ◌≤◌, ◌==◌, ◌/◌, ◌%◌, ◌^◌, Bool, true, false, cond, List, [], ◌∷◌, ◌++◌, take, refl, sym, ap, ◌∙◌, arith, ℤ, pos}
 use Rattle.std.specs.Prelude.{map, flat_map, slice_index_or, nat_lt, nat_abs, ◌-ℤ◌, ◌≤ℤ◌}
 use Rattle.std.proofs.Math.Path.{fun_ext}
-use Rattle.std.proofs.lemmas.Int.{ints}
 use Rattle.jpg_spec.specs.Numbers.{category, extra_bits}
 use Rattle.jpg_spec.specs.Segments.{HuffmanTable, ScanHead}
 use Rattle.jpg_spec.specs.Elements.{predicted}
@@ -11,16 +10,10 @@ use Rattle.jpg_spec.specs.Scan.{part_of}
 use Rattle.jpg_spec_write.specs.ScanText.{UnitDue, Owned, last_dc, dc_element, band_of, unit_elements, interval_elements, element_bits}
 use Rattle.jpg_spec.specs.Codes.{code_of}
 use Rattle.jpg_spec.specs.declared.frame.ScanPart.{ScanPart}
-use Rattle.jpg_spec.proofs.Basics.Small.{few_digits}
 use Rattle.jpg_huff.specs.declared.set.TableSet.{TableSet}
 use Rattle.jpg_coefs.specs.Sinks.{no_last}
 use Rattle.jpg_prog_write.specs.Written.{tables_in, codes_in, dc_unit}
 use Rattle.jpg_prog_write.specs.ScanSinks.{dc_all}
-
--- the difference of two numbers of 16 bits
-pub apart_16 : (v : ℤ) → negsuc 65534 ≤ℤ v → v ≤ℤ pos 65535 → category v ≤ 16
-apart_16 (pos n) low high = few_digits 16 n (omega (arith, ints))
-apart_16 (negsuc n) low high = few_digits 16 (suc n) (omega (arith, ints))
 
 -- UNITS
 

@@ -1,5 +1,5 @@
 -- The part of a band up to its last newly sent value, place by place.
-use Rattle.std.proofs.Common.{◌≡◌, ℕ, zero, suc, ◌+◌, ◌-◌, ◌<◌, ◌≤◌, true, false, cond, List, [], ◌∷◌, ◌++◌, length, take, drop, map, refl, sym, ap, ◌∙◌, subst, arith, add-one, ℤ, pos, ◌||◌, take-append-drop}
+use Rattle.std.proofs.Common.{◌≡◌, ℕ, zero, suc, ◌+◌, ◌-◌, ◌<◌, ◌≤◌, true, false, List, [], ◌∷◌, ◌++◌, length, take, drop, map, refl, sym, ap, ◌∙◌, subst, arith, add-one, ℤ, pos, ◌||◌, take-append-drop}
 use Rattle.std.specs.Prelude.{slice_index_or}
 use Rattle.std.proofs.Math.Seq.{drop-cons}
 use Rattle.jpg_spec.specs.Lists.{any_of}
@@ -7,6 +7,7 @@ use Rattle.jpg_spec_write.specs.Sending.{Sent, sent, is_new, up_to_last, after_l
 use Rattle.jpg_spec.proofs.Basics.Common.{or_right}
 use Rattle.jpg_prog_write.specs.Bands.{sents, ends_new}
 use Rattle.jpg_prog_write.specs.declared.band.Band.{Band}
+use Rattle.jpg_spec_write.proofs.Bands.{up_true, up_false, after_true, after_false}
 
 -- PLACES
 
@@ -55,18 +56,6 @@ ends_some s (t ∷ xs) e n = omega arith
 ends_any : (s : Sent) (xs rest : List Sent) → ends_new (s ∷ xs) ≡ true → any_of is_new (s ∷ (xs ++ rest)) ≡ true
 ends_any s [] rest e = ap (λ b. b || any_of is_new rest) e
 ends_any s (t ∷ xs) rest e = or_right (is_new s) (any_of is_new (t ∷ (xs ++ rest))) (ends_any t xs rest e)
-
-up_true : (s : Sent) (band : List Sent) → any_of is_new (s ∷ band) ≡ true → up_to_last (s ∷ band) ≡ s ∷ up_to_last band
-up_true s band e = ap (λ b. (let r : List Sent = cond b (s ∷ up_to_last band) [] in r)) e
-
-up_false : (s : Sent) (band : List Sent) → any_of is_new (s ∷ band) ≡ false → up_to_last (s ∷ band) ≡ []
-up_false s band e = ap (λ b. (let r : List Sent = cond b (s ∷ up_to_last band) [] in r)) e
-
-after_true : (s : Sent) (band : List Sent) → any_of is_new (s ∷ band) ≡ true → after_last (s ∷ band) ≡ after_last band
-after_true s band e = ap (λ b. (let r : List Sent = cond b (after_last band) (s ∷ band) in r)) e
-
-after_false : (s : Sent) (band : List Sent) → any_of is_new (s ∷ band) ≡ false → after_last (s ∷ band) ≡ s ∷ band
-after_false s band e = ap (λ b. (let r : List Sent = cond b (after_last band) (s ∷ band) in r)) e
 
 -- a cut after the last newly sent value
 pub cut_is : (band : List Sent) (n : ℕ) → ends_new (take n band) ≡ true → any_of is_new (drop n band) ≡ false → (up_to_last band ≡ take n band) × (after_last band ≡ drop n band)

@@ -16,7 +16,6 @@ use Rattle.jpg_spec_write.specs.ScriptFaults.{ascend, entry_head, has_wrong_comp
 use Rattle.jpg_spec.specs.declared.fault.Fault.{Fault}
 use Rattle.jpg_spec.specs.declared.fault.Fault.TheVariants.{RepeatedScan, Progression}
 use Rattle.jpg_spec.specs.declared.frame.Process.{Process}
-use Rattle.jpg_spec.specs.declared.frame.Process.TheVariants.{Baseline, Extended, Progressive}
 use Rattle.jpg_spec.specs.declared.frame.ScanPart.{ScanPart}
 use Rattle.jpg_spec_write.specs.declared.picture_fault.PictureFault.{PictureFault}
 use Rattle.jpg_spec_write.specs.declared.picture_fault.PictureFault.TheVariants.{ScriptComponent, ScriptMcu, ScriptBand}
@@ -24,6 +23,7 @@ use Rattle.jpg_spec.proofs.Basics.Common.{both, neither, lt_of}
 use Rattle.jpg_scans.specs.declared.progress.Progress.{Progress}
 use Rattle.jpg_scans.specs.Judged.{script_process, script_frame, has_numbers, IsEntryTaken}
 use Rattle.jpg_scans.specs.Progress.{RepresentsScans}
+use Rattle.jpg_spec_write.proofs.WrittenHeading.{wider}
 
 -- COMPONENTS of an entry
 
@@ -57,15 +57,10 @@ components_low f e head same l h =
 
 -- A PROCESS of the script's kind
 
-either_precision : (process : Process) (precision : ℕ) → is_precision process precision ≡ true → (precision == 8 || precision == 12) ≡ true
-either_precision Baseline precision e = ap (λ b. b || precision == 12) e
-either_precision Extended precision e = e
-either_precision Progressive precision e = e
-
 -- allows all precisions
 pub script_precision : (is_prog : Bool) (process : Process) (precision : ℕ) → is_precision process precision ≡ true → is_precision (script_process is_prog) precision ≡ true
-script_precision true process precision e = either_precision process precision e
-script_precision false process precision e = either_precision process precision e
+script_precision true process precision e = wider process precision e
+script_precision false process precision e = wider process precision e
 
 -- ITS BAND AND ITS PLACE in the history
 

@@ -13,6 +13,7 @@ use Rattle.jpg_spec_write.specs.Sending.{Sent, newly_significant, sent, is_new, 
 use Rattle.jpg_spec.specs.Codes.{code_of}
 use Rattle.jpg_spec_write.proofs.Shifts.{divided_none}
 use Rattle.jpg_seq.specs.BlockBits.{spelled, run_elements, run_bits, band_bits}
+use Rattle.jpg_spec_write.proofs.Bands.{up_true, up_false, after_true, after_false}
 
 -- zeros are left
 abbrev pub end_elements : ℕ → List Element
@@ -29,18 +30,6 @@ plain_elements (v ∷ values) run = if is_zero v then plain_elements values (run
 sent_newly : (values : List ℤ) → map (sent false 0) values ≡ map newly_significant values
 sent_newly [] = refl
 sent_newly (v ∷ values) = ap (λ w. newly_significant w ∷ map (sent false 0) values) (divided_none v) ∙ ap (λ band. newly_significant v ∷ band) (sent_newly values)
-
-up_true : (s : Sent) (band : List Sent) → any_of is_new (s ∷ band) ≡ true → up_to_last (s ∷ band) ≡ s ∷ up_to_last band
-up_true s band e = ap (λ b. (let r : List Sent = cond b (s ∷ up_to_last band) [] in r)) e
-
-up_false : (s : Sent) (band : List Sent) → any_of is_new (s ∷ band) ≡ false → up_to_last (s ∷ band) ≡ []
-up_false s band e = ap (λ b. (let r : List Sent = cond b (s ∷ up_to_last band) [] in r)) e
-
-after_true : (s : Sent) (band : List Sent) → any_of is_new (s ∷ band) ≡ true → after_last (s ∷ band) ≡ after_last band
-after_true s band e = ap (λ b. (let r : List Sent = cond b (after_last band) (s ∷ band) in r)) e
-
-after_false : (s : Sent) (band : List Sent) → any_of is_new (s ∷ band) ≡ false → after_last (s ∷ band) ≡ s ∷ band
-after_false s band e = ap (λ b. (let r : List Sent = cond b (after_last band) (s ∷ band) in r)) e
 
 -- an EOB where anything is left
 abbrev pub tail : List Sent → List Element

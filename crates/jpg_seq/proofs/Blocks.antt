@@ -1,13 +1,12 @@
 -- Blocks whose symbols are bytes.
 use Rattle.std.proofs.Common.{◌≡◌, ℕ, zero, suc, ◌≤◌, true, false, List, [], ◌∷◌, sym, subst, arith, ℤ, pos, ◌&&◌, lit≤}
-use Rattle.std.specs.Prelude.{slice_index_or, int_le, nat_abs, ◌≤ℤ◌, negsuc}
-use Rattle.std.proofs.lemmas.Int.{ints}
+use Rattle.std.specs.Prelude.{slice_index_or, int_le, nat_abs, ◌≤ℤ◌}
 use Rattle.std.proofs.lemmas.List.{get_or-replicate}
 use Rattle.jpg_spec.specs.Numbers.{category}
 use Rattle.jpg_spec.specs.Geometry.{Frame, bounds}
 use Rattle.jpg_spec.specs.Elements.{are_in_bounds, IsBlockIn, zeros}
 use Rattle.jpg_spec.specs.declared.frame.Bounds.{Bounds}
-use Rattle.jpg_spec.proofs.Basics.Small.{AreBounds, are_bounds, few_digits}
+use Rattle.jpg_spec.proofs.Basics.Small.{AreBounds, are_bounds}
 use Rattle.jpg_spec.proofs.Basics.Common.{both}
 use Rattle.jpg_seq.specs.BlockBits.{IsShort}
 use Rattle.jpg_seq.specs.Counted.{AreFew}
@@ -46,8 +45,3 @@ zeros_few last (suc k) h l =
 
 pub few_short : (block : List ℤ) → AreFew block → IsShort block
 few_short block few = λ k some small. (let h = few k some small in omega (arith, h))
-
--- the difference of two numbers of 16 bits
-pub apart_16 : (v : ℤ) → negsuc 65534 ≤ℤ v → v ≤ℤ pos 65535 → category v ≤ 16
-apart_16 (pos n) low high = few_digits 16 n (omega (arith, ints))
-apart_16 (negsuc n) low high = few_digits 16 (suc n) (omega (arith, ints))

@@ -13,7 +13,7 @@ use Rattle.jpg_spec.proofs.Bits.Values.{covers_then}
 use Rattle.jpg_spec.specs.Lists.{any_of, slot_value}
 use Rattle.jpg_spec.specs.Scan.{Scan, band, block_at, coefficient}
 use Rattle.jpg_spec.specs.PictureInWork.{is_at, is_in_band, AreDistinct, UnitsRead}
-use Rattle.jpg_spec.proofs.Places.PictureInWork.{apart_of, apart_swap, distinct_behind}
+use Rattle.jpg_spec.proofs.Places.PictureInWork.{distinct_behind, next_apart, some_places}
 use Rattle.jpg_spec.proofs.Bits.UnitsRead.{units_next, units_last}
 use Rattle.jpg_spec.proofs.Basics.Common.{clash, part_more, some_once, not_same, same_itself}
 use Rattle.jpg_base.specs.Cursor.{IsPadded}
@@ -165,10 +165,6 @@ after_band s k ss se e = ⊎_elim (λ (h : k < 64). absurd (no h)) (λ (h : 64 �
         let z : true ≡ false = sym (ap (λ t. t && nat_le k s.se) a ∙ b) ∙ e in
         cc
 
--- the place of the current unit isn't among those done
-next_apart : (done : List Place) (next : Place) (more : List Place) → AreDistinct (done ++ next ∷ more) → any_of (is_at next.component next.x next.y) done ≡ false
-next_apart done next more d = (apart_swap done (next ∷ more) (apart_of done (next ∷ more) d)).0
-
 -- what is true after a complete unit
 pub record UnitRead (m : SeqReader) (i : Interval) (bits : List Bool) (now : Picture) (p : Place) (block : List ℤ) (b : Bool) (o : RepresentsSeqScan m i bits now) : Type 0 where
   pub elements : List Element
@@ -217,10 +213,6 @@ module _ {m : SeqReader} {i : Interval} {bits : List Bool} {now : Picture} (o : 
 -- the machine after a complete unit
 abbrev pub after_unit : SeqReader → Work → ℕ → SeqReader
 after_unit m whole k = behind (record m { unit = whole }) k
-
-pub some_places : (places : List Place) → 1 ≤ length places → (p : Place) × (more : List Place) × (places ≡ p ∷ more)
-some_places [] h = absurd (omega arith)
-some_places (p ∷ more) h = (p, more, refl)
 
 pub fresh_work : (m : SeqReader) (coder : Coder) (k : ℕ) → IsAtWork (env_at m coder k) no_work
 fresh_work m coder k = record { left = omega arith; part = inl refl }

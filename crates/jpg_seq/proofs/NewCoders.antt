@@ -33,6 +33,7 @@ use Rattle.jpg_seq.specs.Stands.{IsCodingOf}
 use Rattle.jpg_seq.specs.Reader.{IsPlaceReadable, ReadsBy, SeqReady}
 use Rattle.jpg_seq.specs.NewReader.{IsSeqScan, IsOfScan, IsCoderOf, AreFilled, part_at, in_force}
 use Rattle.jpg_seq.proofs.Forced.{valid, codes_found}
+use Rattle.jpg_spec.proofs.Places.KnownParts.{part_same}
 
 at_set : (coders : List (Option Coder)) (c : ℕ) (o : Option Coder) → c < length coders → slot_value (slice_get (set coders c o) c) ≡ o
 at_set [] c o h = absurd (omega arith)
@@ -112,12 +113,6 @@ index_is (i ∷ ids) (suc j) k d h e =
 
 component_at_part : (parts : List ScanPart) (j : ℕ) → j < length parts → get_or (map (λ (p : ScanPart). p.component) parts) j 0 ≡ (part_at parts j).component
 component_at_part parts j h = get_or-map (λ (p : ScanPart). p.component) parts j (record { component = 0; dc = 0; ac = 0 }) 0 h
-
--- the default of a part that isn't there doesn't matter
-part_same : (parts : List ScanPart) (j : ℕ) (d e : ScanPart) → j < length parts → get_or parts j d ≡ get_or parts j e
-part_same [] j d e h = absurd (omega arith)
-part_same (p ∷ parts) zero d e h = refl
-part_same (p ∷ parts) (suc j) d e h = part_same parts j d e (omega arith)
 
 part_found : (head : ScanHead) (j k : ℕ) → is_distinct (head_components head) ≡ true → j < length head.parts → (part_at head.parts j).component ≡ k → part_of head k ≡ part_at head.parts j
 part_found head j k d h e =

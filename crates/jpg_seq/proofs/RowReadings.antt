@@ -4,7 +4,6 @@ use Rattle.std.specs.Prelude.{slice_get, Some}
 use Rattle.std.specs.List.{All}
 use Rattle.std.proofs.lemmas.List.{drop-drop, length-set}
 use Rattle.std.proofs.lemmas.List.Elements.{All-head, All-tail}
-use Rattle.std.proofs.lemmas.Bool.Decides.{nat_tests}
 use Rattle.jpg_spec.specs.Geometry.{Frame, padded_blocks}
 use Rattle.jpg_spec.specs.PictureInWork.{is_at}
 use Rattle.jpg_spec.specs.declared.frame.Place.{Place}
@@ -14,7 +13,7 @@ use Rattle.jpg_coefs.specs.Picture.{Picture, block_index, is_padded, map_of, put
 use Rattle.jpg_coefs.specs.declared.machine.UnitFault.{UnitFault}
 use Rattle.jpg_coefs.specs.declared.machine.Taken.{Taken}
 use Rattle.jpg_coefs.specs.declared.machine.Taken.TheVariants as taken
-use Rattle.jpg_coefs.proofs.Maps.{put_here, put_others}
+use Rattle.jpg_coefs.proofs.Maps.{put_here, put_others, at_place}
 use Rattle.jpg_seq.specs.declared.reader.SeqReader.{SeqReader}
 use Rattle.jpg_seq.specs.declared.work.UnitProgress.TheVariants as took
 use Rattle.jpg_seq.specs.Reader.{CanRead, ReadsOn, behind, with_work}
@@ -24,18 +23,12 @@ use Rattle.jpg_seq.specs.SoFar.{Spot}
 use Rattle.jpg_seq.specs.Work.{Work}
 use Rattle.jpg_seq.proofs.StoreReadings.{starts, can_read, can_put, some_left, has_place, empty_ends, fault_ends, interval_ends, units_end, goes_on}
 
-equal : (a b : ℕ) → a ≡ b → (a == b) ≡ true
-equal a b e = grind (arith, nat_tests, e)
-
 -- the numbers of a place
 of_place : (i x y : ℕ) (p : Place) → is_at i x y p ≡ true → (p.component ≡ i) × (p.x ≡ x) × (p.y ≡ y)
 of_place i x y p e =
     let a = both (p.component == i && p.x == x) (p.y == y) e in
     let b = both (p.component == i) (p.x == x) a.0 in
     (same_of p.component i b.0, same_of p.x x b.1, same_of p.y y a.1)
-
-at_place : (i x y : ℕ) (p : Place) → p.component ≡ i → p.x ≡ x → p.y ≡ y → is_at i x y p ≡ true
-at_place i x y p a b c = ap (λ t. t && p.x == x && p.y == y) (equal p.component i a) ∙ ap (λ t. t && p.y == y) (equal p.x x b) ∙ equal p.y y c
 
 -- A block is put into the picture, and into the MCU row.
 pub row_put : (tops : List ℕ) (whole row : Picture) (p : Place) (block : List ℤ) → IsRowOf tops whole row → length row.blocks ≡ padded_blocks row.frame → IsPadded whole.frame p.component p.x p.y → IsInRow row.frame tops p

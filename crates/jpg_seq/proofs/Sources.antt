@@ -1,5 +1,5 @@
 -- Bits of a source, taken from its store.
-use Rattle.std.proofs.Common.{◌≡◌, ℕ, ◌+◌, ◌-◌, ◌*◌, ◌<◌, ◌≤◌, Bool, List, [], ◌∷◌, ◌++◌, length, take, drop, refl, sym, ap, ◌∙◌, arith}
+use Rattle.std.proofs.Common.{◌≡◌, ℕ, ◌+◌, ◌-◌, ◌*◌, ◌<◌, ◌≤◌, Bool, List, [], ◌∷◌, ◌++◌, length, take, drop, sym, ap, ◌∙◌, arith}
 use Rattle.std.proofs.lemmas.List.{append_assoc, length-append, length-drop, take_all}
 use Rattle.std.proofs.Math.Seq.{drop-append_seam}
 use Rattle.jpg_spec.specs.Bits.{bits_of, bits_of_bytes}
@@ -10,6 +10,7 @@ use Rattle.jpg_seq.specs.declared.work.UnitProgress.TheVariants.{Empty}
 use Rattle.jpg_seq.specs.Source.{bits_in}
 use Rattle.jpg_seq.specs.SourceTaken.{TakesFrom}
 use Rattle.jpg_seq.specs.Work.{Work, Env, TakesFromStore}
+use Rattle.jpg_spec_write.proofs.ProgressiveLength.{bytes_long}
 
 -- what is taken of the bits at hand, is taken of all
 pub taken_at_hand : (e : Env) (s t : Work) (old filled new : Source) (answer : UnitProgress) → bits_in filled ≡ bits_in old → (length filled.store < 32 → filled.bytes.now ≡ [])
@@ -19,10 +20,6 @@ taken_at_hand e s t old filled new answer same full k bytes few =
     let rest : bits_in new ≡ new.store ++ behind = ap (λ (b : List ℕ). new.store ++ bits_of_bytes b) bytes in
     let none : answer ≡ Empty → bits_in new ≡ [] = λ is. rest ∙ ap (λ (x : List Bool). x ++ behind) (k.4 is) ∙ ap bits_of_bytes (full (few is)) in
     (k.0, sym same ∙ ap (λ (x : List Bool). x ++ behind) k.1 ∙ append_assoc k.0 new.store behind ∙ ap (λ (x : List Bool). k.0 ++ x) (sym rest), k.2, k.3, none)
-
-pub bytes_long : (bytes : List ℕ) → length (bits_of_bytes bytes) ≡ 8 * length bytes
-bytes_long [] = refl
-bytes_long (b ∷ bytes) = omega (arith, length-append (bits_of 8 b) (bits_of_bytes bytes), length-bits_of 8 b, bytes_long bytes)
 
 pub source_long : (s : Source) → length (bits_in s) ≡ length s.store + 8 * length s.bytes.now
 source_long s = omega (arith, length-append s.store (bits_of_bytes s.bytes.now), bytes_long s.bytes.now)

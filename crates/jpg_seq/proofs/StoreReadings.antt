@@ -1,6 +1,6 @@
 -- Bits of a store, taken unit by unit.
-use Rattle.std.proofs.Common.{◌≡◌, ℕ, ◌+◌, ◌-◌, ◌<◌, ◌≤◌, Bool, List, [], ◌∷◌, ◌++◌, length, refl, sym, ap, ◌∙◌, subst, arith, pos, zero, suc}
-use Rattle.std.specs.Prelude.{slice_get, slice_index_or, Some, Result, Ok, Err}
+use Rattle.std.proofs.Common.{◌≡◌, ℕ, ◌+◌, ◌-◌, ◌<◌, ◌≤◌, Bool, List, [], ◌∷◌, ◌++◌, length, refl, sym, ap, ◌∙◌, subst, arith, pos}
+use Rattle.std.specs.Prelude.{slice_get, Some, Result, Ok, Err}
 use Rattle.std.specs.List.{All}
 use Rattle.std.proofs.lemmas.List.{append_assoc}
 use Rattle.std.proofs.lemmas.List.Elements.{All-head, All-weaker}
@@ -22,7 +22,9 @@ use Rattle.jpg_coefs.specs.declared.machine.UnitFault.{UnitFault}
 use Rattle.jpg_seq.specs.Work.{Work, StepsThrough, no_work}
 use Rattle.jpg_seq.specs.Reader.{coder_at, behind, with_work, new_units_at, IsPlaceReadable, CanRead, ReadsOn, RepresentsSeqScan, SeqReady, sequential}
 use Rattle.jpg_seq.specs.SoFar.{Spot, SoFar}
-use Rattle.jpg_seq.proofs.Machines.{env_at, next_is, after_unit, chain_within, step_unit, step_last, step_fault, some_places, fresh_work}
+use Rattle.jpg_seq.proofs.Machines.{env_at, next_is, after_unit, chain_within, step_unit, step_last, step_fault, fresh_work}
+use Rattle.jpg_spec.proofs.Places.PictureInWork.{some_places}
+use Rattle.jpg_spec.proofs.Basics.Common.{zeros_at}
 
 pub starts : (most : ℕ) (s : Spot) → 1 ≤ most → (stands : (i : Interval) × (bits : List Bool) × RepresentsSeqScan s.machine i bits s.picture) → SoFar most s s 0
 starts most s some o = record { taken = []; split = refl; chain = (refl, refl); count = omega arith; few = omega arith; interval = o.0; bits = o.1; standing = o.2 }
@@ -193,13 +195,6 @@ module _ {most : ℕ} {from now : Spot} {done : ℕ} (s : SoFar most from now do
       }
 
 -- AN INTERVAL BEGINS
-
-zeros_at : (k : ℕ) → slice_index_or (pos 0 ∷ pos 0 ∷ pos 0 ∷ pos 0 ∷ []) k (pos 0) ≡ pos 0
-zeros_at zero = refl
-zeros_at (suc zero) = refl
-zeros_at (suc (suc zero)) = refl
-zeros_at (suc (suc (suc zero))) = refl
-zeros_at (suc (suc (suc (suc k)))) = refl
 
 pub begins : (m new : SeqReader) (i : Interval) (units : ℕ) → SeqReady m i → length i.places ≡ units → 1 ≤ units → new ≡ record m { unit = no_work; predictions = pos 0 ∷ pos 0 ∷ pos 0 ∷ pos 0 ∷ []; left = units } → RepresentsSeqScan new i [] i.before
 begins m new i units r count some is =

@@ -7,7 +7,7 @@ use Rattle.std.proofs.lemmas.List.{length-set, get_or-set_same, get_or-set_other
 use Rattle.jpg_spec.proofs.Basics.Common.{not_lt_of, lt_of, same_of, not_same}
 use Rattle.jpg_spec_fit.specs.Fitted.{lesser, least_below, least, with_next, least_two}
 use Rattle.jpg_spec_fit.proofs.FittedCounts.{doubled}
-use Rattle.jpg_spec_fit.proofs.FittedGroups.{AreTwo, joined_counts}
+use Rattle.jpg_spec_fit.proofs.FittedGroups.{AreTwo, joined_counts, positive}
 use Rattle.jpg_spec_fit.specs.FewestBits.{bits_sent, strings_taken}
 
 -- SUMS over counts and sizes
@@ -63,10 +63,6 @@ taken_none most size = refl
 abbrev IsLeast : List ℕ → ℕ → Option ℕ → Type 0
 IsLeast counts n None = (v : ℕ) → v < n → slice_index counts v ≡ 0
 IsLeast counts n (Some a) = (v : ℕ) → v < n → 0 < slice_index counts v → slice_index counts a ≤ slice_index counts v
-
-some_count : (n : ℕ) → (n == 0) ≡ false → 0 < n
-some_count zero e = cc
-some_count (suc n) e = omega arith
 
 least_next : (counts : List ℕ) (n : ℕ) (o : Option ℕ) → IsLeast counts n o → IsLeast counts (suc n) (lesser counts o n)
 least_next counts n None h = by (slice_index counts n == 0) refl
@@ -144,7 +140,7 @@ largest counts sizes (suc n) = by (slice_index counts n == 0) refl (largest coun
       n,
       record {
         within = omega arith;
-        some = some_count (slice_index counts n) e;
+        some = positive (slice_index counts n) e;
         most = λ v l p. ⊎_elim (λ (k : v < n). (let z = h v k in let never : ⊥ = omega (arith, z, p) in absurd never)) (λ (k : n ≤ v). (let s = ap (slice_index sizes) (last v l k) in omega (arith, s))) (cases_lt v n);
       },
     )
@@ -153,7 +149,7 @@ largest counts sizes (suc n) = by (slice_index counts n == 0) refl (largest coun
           n,
           record {
             within = omega arith;
-            some = some_count (slice_index counts n) e;
+            some = positive (slice_index counts n) e;
             most = λ v l p. ⊎_elim (λ (k : v < n). (let m = x.1.most v k p in omega (arith, m, g))) (λ (k : n ≤ v). (let s = ap (slice_index sizes) (last v l k) in omega (arith, s))) (cases_lt v n);
           },
         ))
@@ -269,7 +265,7 @@ multiple most t (count ∷ counts) (size ∷ sizes) l e h = by (count == 0) refl
     by : (b : Bool) → (count == 0) ≡ b → (q : ℕ) × (sum_of (taken most) counts sizes ≡ q * 2 ^ (most - t)) → (q : ℕ) × (sum_of (taken most) (count ∷ counts) (size ∷ sizes) ≡ q * 2 ^ (most - t))
     by true z r = (let a = ap (λ n. taken most n size) (same_of count 0 z) ∙ taken_none most size in let x = r.1 in (r.0, omega (arith, a, x)))
     by false z r =
-        let p = some_count count z in
+        let p = positive count z in
         let a = taken_some most count size p ∙ powers most size t (h 0 (omega arith) p) l in
         let x = r.1 in
         let d = distribute (2 ^ (t - size)) r.0 (2 ^ (most - t)) in
@@ -428,7 +424,7 @@ top_short most counts sizes new i short is v l = by (slice_index counts v == 0) 
   where
     by : (t : Bool) → (slice_index counts v == 0) ≡ t → slice_index new v ≤ most
     by true e = (let k = is.kept v (same_of (slice_index counts v) 0 e) in let s = short v l in omega (arith, k, s))
-    by false e = (let t = is.top v l (some_count (slice_index counts v) e) in let x = is.source in let s = short x.0 x.1 in let y = x.3 in omega (arith, t, s, y))
+    by false e = (let t = is.top v l (positive (slice_index counts v) e) in let x = is.source in let s = short x.0 x.1 in let y = x.3 in omega (arith, t, s, y))
 
 -- sizes of which that is so, for no more bits
 pub record AreBetter (most : ℕ) (counts sizes : List ℕ) (a b : ℕ) (new : List ℕ) : Type 0 where

@@ -9,7 +9,7 @@ use Rattle.jpg_spec.proofs.Basics.Common.{lt_yes, same_of, same_itself, not_same
 use Rattle.jpg_spec_fit.specs.Fitted.{lesser, least_below, least, with_next, least_two, joined_member}
 use Rattle.jpg_spec_fit.proofs.FittedCounts.{doubled}
 
-positive : (n : ℕ) → (n == 0) ≡ false → 0 < n
+pub positive : (n : ℕ) → (n == 0) ≡ false → 0 < n
 positive zero e = cc
 positive (suc n) e = omega arith
 

@@ -1,8 +1,8 @@
 -- Bytes that are read part by part.
 use Rattle.std.proofs.Common.{◌≡◌, ℕ, ◌+◌, ◌≤◌, List, [], ◌++◌, length, take, drop, refl, sym, ap, ◌∙◌, subst, arith, Ok}
 use Rattle.std.specs.Prelude.{Result}
-use Rattle.std.proofs.lemmas.List.{append_assoc, length-append, take-append-le}
-use Rattle.std.proofs.Math.Seq.{take-add, take-append-add}
+use Rattle.std.proofs.lemmas.List.{append_assoc, length-append}
+use Rattle.std.proofs.Math.Seq.{take-add}
 use Rattle.jpg_spec_image.specs.Images.{Image}
 use Rattle.jpg_spec_image.specs.TargaFaults.{TargaMeans, IsOpenTarga, IsTargaFault}
 use Rattle.jpg_spec_image.specs.TargaSteps.{TargaState, at_start, whole, failed, run}
@@ -21,6 +21,7 @@ use Rattle.jpg_targa.specs.declared.read.reader.TargaReader.{TargaReader}
 use Rattle.jpg_targa.specs.declared.read.work.Stage.{Stage}
 use Rattle.jpg_targa.specs.declared.read.work.Stage.TheVariants as stage
 use Rattle.jpg_targa.specs.declared.read.work.Work.{Work}
+use Rattle.jpg_pnm_bmp.proofs.PiecesRead.{front}
 
 -- one more part
 pub part_on : (bytes piece : List ℕ) (at used : ℕ) (s : TargaState) → s ≡ run at_start (bytes ++ take at piece) → run s (take used (drop at piece)) ≡ run at_start (bytes ++ take (at + used) piece)
@@ -28,9 +29,6 @@ part_on bytes piece at used s e =
     ap (λ t. run t (take used (drop at piece))) e
     ∙ sym (run_join at_start (bytes ++ take at piece) (take used (drop at piece)))
     ∙ ap (run at_start) (append_assoc bytes (take at piece) (take used (drop at piece)) ∙ ap (λ x. bytes ++ x) (sym (take-add at used piece)))
-
-front : (bytes piece rest : List ℕ) (n : ℕ) → n ≤ length piece → take (length bytes + n) ((bytes ++ piece) ++ rest) ≡ bytes ++ take n piece
-front bytes piece rest n h = ap (take (length bytes + n)) (append_assoc bytes piece rest) ∙ take-append-add bytes (piece ++ rest) n ∙ ap (λ x. bytes ++ x) (take-append-le n piece rest h)
 
 within : (bytes piece rest : List ℕ) (n : ℕ) → n ≤ length piece → length bytes + n ≤ length ((bytes ++ piece) ++ rest)
 within bytes piece rest n h =

@@ -29,8 +29,9 @@ use Rattle.jpg_file.specs.Read.PictureKept.{component_view}
 use Rattle.jpg_file.specs.Read.PictureRead.{picture_meaning}
 use Rattle.jpg_file.specs.declared.read.picture.Picture.{Picture}
 use Rattle.jpg_transform.proofs.Planned.{whole_picture}
-use Rattle.jpg_transform.proofs.Showing.{gray_whole, some_across, some_down}
+use Rattle.jpg_transform.proofs.Showing.{gray_whole}
 use Rattle.jpg_spec.proofs.Writing.MovedWritten.{zeros_here}
+use Rattle.jpg_spec.proofs.Places.PlacesSome.{h_max_some, v_max_some}
 
 -- IN THE BOUNDS
 
@@ -135,6 +136,6 @@ moved_real p c out same is grids =
     let n = length p.frame.components in
     let some : 0 < length M.components =
     (let l = length-map (below n) (component_view p.frame p.quants.items) in let m = length_below n in let low = p.keeps.frame.count_low in omega (arith, l, m, low)) in
-    let across : 0 < greatest (picture_grids T).across = subst (λ hs. 0 < greatest hs) (ap (λ (K : Grids). K.across) (sym grids) ∙ crop_across c.crop (uncropped c M) ∙ cut_across c.trim c.transform T) (some_across out is) in
-    let down : 0 < greatest (picture_grids T).down = subst (λ vs. 0 < greatest vs) (ap (λ (K : Grids). K.down) (sym grids) ∙ crop_down c.crop (uncropped c M) ∙ cut_down c.trim c.transform T) (some_down out is) in
+    let across : 0 < greatest (picture_grids T).across = subst (λ hs. 0 < greatest hs) (ap (λ (K : Grids). K.across) (sym grids) ∙ crop_across c.crop (uncropped c M) ∙ cut_across c.trim c.transform T) (h_max_some out is) in
+    let down : 0 < greatest (picture_grids T).down = subst (λ vs. 0 < greatest vs) (ap (λ (K : Grids). K.down) (sym grids) ∙ crop_down c.crop (uncropped c M) ∙ cut_down c.trim c.transform T) (v_max_some out is) in
     crop_real c.crop (uncropped c M) (cut_real c.trim c.transform T (transformed_real G c.transform (gray_whole c.gray M some (whole_picture p)) across down (gray_real c.gray M (own_real p same))))

@@ -51,6 +51,8 @@ use Rattle.jpg_transform.proofs.MovedScript.{moved_colour_is, out_colour, script
 use Rattle.jpg_file.specs.Write.Restarts.{restart_of}
 use Rattle.jpg_file.specs.Write.WriteFile.{CanWriteFile, does_pass, file_bytes, file_meaning}
 use Rattle.jpg_file.specs.declared.write.Plan.{Plan}
+use Rattle.jpg_spec_write.proofs.FrameCodes.{either_sequential}
+use Rattle.jpg_markers.proofs.HeadText.{tables_of}
 
 -- COMPONENTS
 
@@ -66,13 +68,6 @@ tables_are f q l =
     let both_long : length (zip f.components q) ≡ length f.components = (let z = length-zip f.components q in omega (arith, z, l)) in
     sym (by_items (length f.components) (component_view f q) (with_tables f.components q) (with_table (no_component, [])) (length-map (zip f.components q) with_table ∙ both_long)
     (λ i h. sym (listn.get_or-map with_table (zip f.components q) i (no_component, []) ∙ ap with_table (get_or-zip f.components q i (no_component, []) h (omega (arith, h, l))))))
-
--- the tables of components that have them
-tables_of : (cs : List Component) (q : List QuantTable) → length q ≡ length cs → map (λ c. c.quants) (with_tables cs q) ≡ q
-tables_of [] [] l = refl
-tables_of [] (t ∷ q) l = absurd (omega (arith, l))
-tables_of (c ∷ cs) [] l = absurd (omega (arith, l))
-tables_of (c ∷ cs) (t ∷ q) l = ap (λ ts. t ∷ ts) (tables_of cs q (omega (arith, l)))
 
 -- THE TRANSFORMED PICTURE
 
@@ -207,11 +202,6 @@ record IsPlanned (p : Picture) (c : Choice) (plan : Plan) (blocks : Blocks) : Ty
 
 script_is : (p : Picture) (c : Choice) (plan : Plan) (blocks : Blocks) → IsPlanned p c plan blocks → plan.script ≡ moved_script c (picture_meaning p)
 script_is p c plan blocks k = (let w = k.written in k.script ∙ script_same p c plan.out w.head)
-
--- it passes: it has no fault on the frame, and is of the file's kind
-either_sequential : (b : Bool) → is_progressive (cond b Extended Baseline) ≡ false
-either_sequential true = refl
-either_sequential false = refl
 
 kind_due : (b : Bool) (N : Meaning) → is_progressive (process_due b N) ≡ b
 kind_due true N = refl

@@ -1,13 +1,11 @@
 -- One block with its signs changed, place by place.
 use Rattle.std.proofs.Common.{◌≡◌, ℕ, ◌+◌, ◌*◌, ◌/◌, ◌%◌, ◌<◌, Bool, true, false, cond, List, [], ◌∷◌, ◌++◌, length, take, drop, set, get_or, map, refl, sym, ap, ◌∙◌, subst, arith, not, ℤ, pos, neg_ℤ, ◌==◌}
-use Rattle.std.specs.Prelude.{int_lt, negsuc, nat_lt}
+use Rattle.std.specs.Prelude.{int_lt, negsuc}
 use Rattle.std.specs.List.{zip, All}
 use mir.Val.{bool_byte}
 use Rattle.std.proofs.Math.IntN.{neg_ℤ-neg_ℤ}
 use Rattle.std.proofs.lemmas.List.{get_or-map, set_at, take_more, drop_more, length-take-le, append_assoc, length-map, take_all, drop_all, append-nil}
-use Rattle.std.proofs.lemmas.Bool.{ltb-true}
 use Rattle.std.proofs.lemmas.List.Elements.{All-get_or, All-from_get_or}
-use Rattle.std.proofs.lemmas.List.Sums.{AllPass-from_list_all}
 use Rattle.std.proofs.lemmas.Slice.Zip.{get_or-zip, length-zip}
 use Rattle.jpg_spec.specs.Zigzag.{zigzag}
 use Rattle.jpg_spec_move.specs.Moves.{mirrored, mirrored_down}
@@ -18,6 +16,7 @@ use Rattle.jpg_spec.proofs.Writing.MirroredBlocks.{IsBlock}
 use Rattle.jpg_spec_move.proofs.MirroredBlocks.{mirrored_block}
 use Rattle.jpg_spec_move.proofs.BlockLaws.{mirrored_down_block, length_transposed}
 use Rattle.jpg_spec_move.proofs.MovedBounds.{transposed_at}
+use Rattle.jpg_base.proofs.Exchanged.{place_low}
 
 -- ONE MORE PLACE of a block that is written in order
 
@@ -120,9 +119,6 @@ pick_four a b m n e f = pick four a b m n e f refl refl refl refl
 
 abbrev pub places : List ℕ
 places = map exchanged zigzag
-
-pub place_low : (k : ℕ) → k < 64 → get_or places k 0 < 64
-place_low k lt = ltb-true (get_or places k 0) 64 (All-get_or (λ x. nat_lt x 64 ≡ true) places k 0 lt (AllPass-from_list_all (λ x. nat_lt x 64) places refl))
 
 pub all_transposed : (P : ℤ → Type 0) (xs : List ℤ) → IsBlock xs → All P xs → All P (transposed (pos 0) xs)
 all_transposed P xs h ps =

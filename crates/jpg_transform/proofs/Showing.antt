@@ -17,7 +17,6 @@ use Rattle.jpg_spec.specs.WholeBlocks.{HasWholeBlocks}
 use Rattle.jpg_spec_move.specs.declared.area.Area.{Area}
 use Rattle.jpg_spec_move.specs.declared.transform.Transform.{Transform}
 use Rattle.jpg_spec_move.proofs.Transforming.{by_formula}
-use Rattle.jpg_base.proofs.Grids.{across_low, down_low}
 use Rattle.jpg_spec.specs.Scan.{Blocks}
 use Rattle.jpg_transform.specs.Places.{IsOutput, IsSeenAs, ComesFrom}
 use Rattle.jpg_spec.proofs.Headers.FrameFound.{real_side}
@@ -25,6 +24,7 @@ use Rattle.jpg_spec_move.proofs.MovedGrids.{over_grids, trim_grids, columns_by, 
 use Rattle.jpg_spec_move.proofs.OutsideZeros.{real_true}
 use Rattle.jpg_spec.proofs.Basics.Common.{clash}
 use Rattle.jpg_spec.proofs.Files.WholeFiles.{shown_whole}
+use Rattle.jpg_spec.proofs.Places.PlacesSome.{h_max_some, v_max_some}
 
 -- THE ARGUMENTS OF `new`: the frame of the output, and the columns and rows that change places
 pub record Arguments : Type 0 where
@@ -50,12 +50,6 @@ placed_by a blocks i x y = placed a.over (a.columns i) (a.rows i) (blocks i) x y
 abbrev pub IsMade : Bool → Transform → Frame → Frame → Type 0
 IsMade trim t f g = frame_grids g ≡ frame_grids (trimmed_frame trim t (transformed_frame t f))
 
-pub some_across : (g : Frame) → IsFrame g → 0 < h_max g
-some_across g is = (let h = across_low g.components is.factors is.count_low in omega (arith, h))
-
-pub some_down : (g : Frame) → IsFrame g → 0 < v_max g
-some_down g is = (let h = down_low g.components is.factors is.count_low in omega (arith, h))
-
 made : (trim : Bool) (t : Transform) (f g : Frame) → IsMade trim t f g → frame_grids g ≡ trim_grids trim t (over_grids (transposes t) (frame_grids f))
 made trim t f g m = m ∙ ap (trim_grids trim t) (turned_frame t f)
 
@@ -73,9 +67,9 @@ place_before f g t trim i x y is m r =
     let G = frame_grids g in
     let N = over_grids (transposes t) (frame_grids f) in
     let e = made trim t f g m in
-    let h : 0 < greatest N.across = subst (λ (K : Grids). 0 < greatest K.across) e (some_across g is) in
-    let v : 0 < greatest N.down = subst (λ (K : Grids). 0 < greatest K.down) e (some_down g is) in
-    let here : IsIn G i (opposite (columns_by t G i) x) (opposite (rows_by t G i) y) = opposite_in t G i x y (some_across g is) (some_down g is) (to_grids g i x y r) in
+    let h : 0 < greatest N.across = subst (λ (K : Grids). 0 < greatest K.across) e (h_max_some g is) in
+    let v : 0 < greatest N.down = subst (λ (K : Grids). 0 < greatest K.down) e (v_max_some g is) in
+    let here : IsIn G i (opposite (columns_by t G i) x) (opposite (rows_by t G i) y) = opposite_in t G i x y (h_max_some g is) (v_max_some g is) (to_grids g i x y r) in
     let named : IsIn G i (opposite (columns_in t g i) x) (opposite (rows_in t g i) y) =
     subst (λ c. IsIn G i (opposite c x) (opposite (rows_in t g i) y)) (sym (columns_frame t g i)) (subst (λ c. IsIn G i (opposite (columns_by t G i) x) (opposite c y)) (sym (rows_frame t g i)) here) in
     comes (transposes t) f i (opposite (columns_in t g i) x) (opposite (rows_in t g i) y)
@@ -120,14 +114,14 @@ shown {a} {f} {blocks} M trim given w s m = record { grids = grids; same = same 
     columns_same i n =
         let e = made trim a.transform f a.frame m in
         let K = over_grids (transposes a.transform) (frame_grids f) in
-        let h : 0 < greatest K.across = subst (λ (L : Grids). 0 < greatest L.across) e (some_across a.frame given.frame) in
+        let h : 0 < greatest K.across = subst (λ (L : Grids). 0 < greatest L.across) e (h_max_some a.frame given.frame) in
         columns_picture a.transform (transformed a.transform M) i ∙ ap (λ (L : Grids). columns_by a.transform L i) turned ∙ sym (columns_cut trim a.transform K i h) ∙ ap (λ (L : Grids). columns_by a.transform L i) (sym e) ∙ sym (columns_frame a.transform a.frame i) ∙ sym (given.columns i n)
 
     rows_same : (i : ℕ) → i < length a.frame.components → changed_rows a.transform (transformed a.transform M) i ≡ a.rows i
     rows_same i n =
         let e = made trim a.transform f a.frame m in
         let K = over_grids (transposes a.transform) (frame_grids f) in
-        let v : 0 < greatest K.down = subst (λ (L : Grids). 0 < greatest L.down) e (some_down a.frame given.frame) in
+        let v : 0 < greatest K.down = subst (λ (L : Grids). 0 < greatest L.down) e (v_max_some a.frame given.frame) in
         rows_picture a.transform (transformed a.transform M) i ∙ ap (λ (L : Grids). rows_by a.transform L i) turned ∙ sym (rows_cut trim a.transform K i v) ∙ ap (λ (L : Grids). rows_by a.transform L i) (sym e) ∙ sym (rows_frame a.transform a.frame i) ∙ sym (given.rows i n)
 
     same : (i x y : ℕ) → IsReal a.frame i x y → (trimmed trim a.transform (transformed a.transform M)).blocks i x y ≡ placed_by a blocks i x y
@@ -163,8 +157,8 @@ gray_real true f i x y is may r =
     let some : 0 < length f.components = omega (arith, is.count_low) in
     let here : IsReal f 0 x y = record {
       component = some;
-      across = subst (λ n. x < n) (first_side f.width (component_at f 0).h (h_max f) (some_across f is) (may.across refl)) k.across;
-      down = subst (λ n. y < n) (first_side f.height (component_at f 0).v (v_max f) (some_down f is) (may.down refl)) k.down;
+      across = subst (λ n. x < n) (first_side f.width (component_at f 0).h (h_max f) (h_max_some f is) (may.across refl)) k.across;
+      down = subst (λ n. y < n) (first_side f.height (component_at f 0).v (v_max f) (v_max_some f is) (may.down refl)) k.down;
     } in
     subst (λ j. IsReal f j x y) (sym z) here
 

@@ -1,6 +1,6 @@
 -- The image of a file that ends early in a scan of all components, or after it, is that of its blocks at the end of the
 -- scan header.
-use Rattle.std.proofs.Common.{◌≡◌, ℕ, Bool, true, false, cond, List, ◌∷◌, ◌++◌, map, refl, sym, ap, ◌∙◌, subst, inl, inr, None}
+use Rattle.std.proofs.Common.{◌≡◌, ℕ, Bool, true, false, cond, List, ◌∷◌, ◌++◌, refl, sym, ap, ◌∙◌, subst, inl, inr, None}
 use Rattle.std.specs.Prelude.{◌⊎◌, reverse}
 use Rattle.std.proofs.lemmas.List.{append_assoc}
 use Rattle.jpg_spec.specs.Early.{EndsAfter, EndsInside, segments_with}
@@ -8,11 +8,10 @@ use Rattle.jpg_spec.specs.FirstFault.{HaveBegun, InsideScan}
 use Rattle.jpg_spec_image.specs.ImageText.{end_text}
 use Rattle.jpg_spec.specs.Items.{Item, contents_rule, segments_of}
 use Rattle.jpg_spec.specs.Jfif.{jfif_of}
-use Rattle.jpg_spec.specs.Lists.{below}
 use Rattle.jpg_spec.specs.Markers.{Segment, has_scan, kept_after}
 use Rattle.jpg_spec.specs.Meaning.{Meaning, colour_of}
 use Rattle.jpg_spec.specs.InForce.{colours_after}
-use Rattle.jpg_spec_image.specs.Pixels.{info, metre, pixels, shown_row, shows_gray}
+use Rattle.jpg_spec_image.specs.Pixels.{info, metre, pixels, shows_gray}
 use Rattle.jpg_spec.specs.RowLaws.{EndsEarlyByRows, early_so_far}
 use Rattle.jpg_spec_image.specs.RowLaws.{text_in}
 use Rattle.jpg_spec.specs.RowsParsed.{BeginsScanOfAll}
@@ -31,6 +30,7 @@ use Rattle.jpg_spec.proofs.Headers.HeaderFirst.{AreOfHeader, scan_passed, with_s
 use Rattle.jpg_spec.proofs.Headers.OneHeader.{whole_once}
 use Rattle.jpg_spec_image.proofs.RowsAlike.{colours_stay}
 use Rattle.jpg_spec.proofs.McuRows.RowsLater.{second_refused}
+use Rattle.jpg_spec_image.proofs.RowsImage.{same_info, same_pixels}
 
 -- WHAT IS KNOWN AT THE SCAN HEADER doesn't change to the end: the colours, and the JFIF header
 pub record StaysToEnd (limits : Limits) (M : Meaning) (before : List Segment) : Type 0 where
@@ -96,12 +96,6 @@ kept_as M kept = record M { kept = kept }
 
 abbrev info_of : Meaning → Colour → Jfif → Bool → ImageInfo
 info_of M colour jfif gray = record { width = M.width; height = M.height; kind = cond (shows_gray colour gray) kind.Gray kind.Rgb; x_metre = metre jfif jfif.x; y_metre = metre jfif jfif.y }
-
-same_info : (M : Meaning) (kept : List (ℕ × List ℕ)) (gray : Bool) → colour_of (kept_as M kept) ≡ colour_of M → jfif_of kept ≡ jfif_of M.kept → info (kept_as M kept) gray ≡ info M gray
-same_info M kept gray colours jfif = ap (λ c. info_of M c (jfif_of kept) gray) colours ∙ ap (λ j. info_of M (colour_of M) j gray) jfif
-
-same_pixels : (M : Meaning) (kept : List (ℕ × List ℕ)) (gray smooth : Bool) → colour_of (kept_as M kept) ≡ colour_of M → pixels (kept_as M kept) gray smooth ≡ pixels M gray smooth
-same_pixels M kept gray smooth e = ap (λ c. map (shown_row c M gray smooth) (below M.height)) e
 
 -- its colours are those of the file
 early_colours : (limits : Limits) (bytes : List ℕ) (M : Meaning) → (w : EndsEarlyByRows limits bytes M) → colour_of (early_so_far limits bytes M w) ≡ colour_of M

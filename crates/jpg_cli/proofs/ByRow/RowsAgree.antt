@@ -1,17 +1,14 @@
 -- Pictures of which the same first MCU rows were decoded: their blocks, and the row that a reader gave.
-use Rattle.std.proofs.Common.{◌≡◌, ℕ, ◌+◌, ◌*◌, ◌<◌, ◌≤◌, Bool, true, false, cond, ◌==◌, ◌&&◌, List, [], ◌∷◌, ◌++◌, length, refl, sym, ap, ◌∙◌, subst, arith}
-use Rattle.std.specs.Prelude.{nat_lt}
+use Rattle.std.proofs.Common.{◌≡◌, ℕ, ◌+◌, ◌*◌, ◌<◌, ◌≤◌, Bool, cond, ◌==◌, ◌&&◌, List, [], ◌∷◌, ◌++◌, length, refl, sym, ap, ◌∙◌, subst, arith}
 use Rattle.std.proofs.lemmas.List.{append-nil, get_or-map, length-append, length-map}
-use Rattle.jpg_spec.specs.Elements.{zeros}
 use Rattle.jpg_spec.specs.FrameHeader.{IsFrame}
-use Rattle.jpg_spec.specs.Geometry.{Frame, blocks_across, blocks_down, component_at, is_real}
+use Rattle.jpg_spec.specs.Geometry.{Frame, blocks_across, blocks_down, component_at}
 use Rattle.jpg_spec.specs.FileMeaning.{meaning_of, no_blocks, picture_component}
 use Rattle.jpg_spec.specs.InForce.{frame_of, head_in}
 use Rattle.jpg_spec.specs.Items.{segments_of}
-use Rattle.jpg_spec.specs.Lists.{any_of, below}
+use Rattle.jpg_spec.specs.Lists.{below}
 use Rattle.jpg_spec.specs.Markers.{Segment}
 use Rattle.jpg_spec.specs.Meaning.{PictureComponent, component_of, real_blocks}
-use Rattle.jpg_spec.specs.PictureInWork.{is_at}
 use Rattle.jpg_spec_image.specs.RowLaws.{IsShownInRows}
 use Rattle.jpg_spec.specs.RowLaws.{TellsMore, first_blocks}
 use Rattle.jpg_spec_image.specs.RowsShown.{rows_text}
@@ -21,7 +18,7 @@ use Rattle.jpg_spec.specs.Segments.{head_components, standard_limits}
 use Rattle.jpg_spec_image.specs.Strips.{block_rows}
 use Rattle.jpg_spec.specs.declared.frame.Place.{Place}
 use Rattle.jpg_spec_image.specs.declared.image.EndKind.{EndKind}
-use Rattle.jpg_spec.proofs.Basics.Common.{both, length_below, lt_of, lt_yes}
+use Rattle.jpg_spec.proofs.Basics.Common.{length_below}
 use Rattle.jpg_spec.proofs.Headers.FrameFound.{framed}
 use Rattle.jpg_spec.proofs.McuRows.RowCounts.{head_names}
 use Rattle.jpg_spec.proofs.Basics.Rows.{at_below}
@@ -41,29 +38,14 @@ use Rattle.jpg_color.specs.StripImage.{AgreeInFirstRows}
 use Rattle.jpg_color.proofs.Coverage.{component_is, count_is, in_frame}
 use Rattle.jpg_cli.specs.Tools.ShowingRows.{Head, IsHeadIn}
 use Rattle.jpg_cli.proofs.ByRow.RowsWhole.{few_told, so_far, so_far_shown}
+use Rattle.jpg_file.proofs.ByRow.RowsEarly.{real_here}
+use Rattle.jpg_spec_image.proofs.RowsText.{real_agree}
 
 -- THE FRAME at the scan header's end is that of the segments before it
 pub frame_so_far : (h : Head) (all : List ℕ) → BeginsScanOfAll standard_limits all h.before h.contents → frame_of standard_limits ((0xda, h.contents) ∷ h.before) ≡ frame_of standard_limits h.before
 frame_so_far h all k = frame_stays standard_limits h.before 0xda h.contents (framed h.before (k.header).passed.0) (k.header).passed.0
 
 -- BLOCKS of the first rows, where they are real
-
-real_agree : (f : Frame) (places : List Place) (told : Blocks) (i x z : ℕ) → (i < length f.components → is_real f i x z ≡ true → any_of (is_at i x z) places ≡ true)
-    → real_blocks f told i x z ≡ real_blocks f (blocks_in places told) i x z
-real_agree f places told i x z found = by (nat_lt i (length f.components) && is_real f i x z) refl
-  where
-    by : (t : Bool) → (nat_lt i (length f.components) && is_real f i x z) ≡ t → real_blocks f told i x z ≡ real_blocks f (blocks_in places told) i x z
-    by false e = ap (λ t. cond t (told i x z) (zeros 64)) e ∙ sym (ap (λ t. cond t (blocks_in places told i x z) (zeros 64)) e)
-    by true e =
-        let k = both (nat_lt i (length f.components)) (is_real f i x z) e in
-        let at = found (lt_of i (length f.components) k.0) k.1 in
-        sym (ap (λ t. cond (nat_lt i (length f.components) && is_real f i x z) (cond t (told i x z) (no_blocks i x z)) (zeros 64)) at)
-
-pub real_there : (f : Frame) (blocks : Blocks) (i x y : ℕ) → i < length f.components → x < blocks_across f (component_at f i) → y < blocks_down f (component_at f i) → real_blocks f blocks i x y ≡ blocks i x y
-real_there f blocks i x y known wide high =
-    ap (λ b. cond (b && (nat_lt x (blocks_across f (component_at f i)) && nat_lt y (blocks_down f (component_at f i)))) (blocks i x y) (zeros 64)) (lt_yes i (length f.components) known)
-    ∙ ap (λ b. cond (b && nat_lt y (blocks_down f (component_at f i))) (blocks i x y) (zeros 64)) (lt_yes x (blocks_across f (component_at f i)) wide)
-    ∙ ap (λ b. cond b (blocks i x y) (zeros 64)) (lt_yes y (blocks_down f (component_at f i)) high)
 
 -- a component's rows of blocks in an MCU row depend only on the frame
 pub rows_told : (f : Frame) (segments : List Segment) (blocks : Blocks) (i : ℕ) → i < length f.components → block_rows (meaning_of f segments blocks) i ≡ rows_in_mcu f i
@@ -184,5 +166,5 @@ row_shown {d} h {all} {m} {q} {blocks} showable same begins k = record { same = 
         ap (map_of q i x) here
         ∙ row.same i x y lt wide (subst (λ n. y < n) rows high) (subst (λ n. m * n + y < blocks_down d.frame (component_at d.frame i)) rows down)
         ∙ ap (λ n. blocks i x (m * n + y)) (sym rows)
-        ∙ sym (real_there d.frame blocks i x (m * rows_in d i + y) lt wide down)
+        ∙ sym (real_here d.frame blocks i x (m * rows_in d i + y) lt wide down)
         ∙ ap (λ f. real_blocks f blocks i x (m * rows_in d i + y)) (sym frame_is)

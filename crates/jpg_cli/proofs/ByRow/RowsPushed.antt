@@ -1,6 +1,6 @@
 -- One more MCU row is drawn: it is passed to the image, and the reader is asked for the next one.
 use Rattle.std.proofs.Common.{◌≡◌, ℕ, ◌+◌, ◌-◌, ◌<◌, ◌≤◌, Bool, List, [], ◌++◌, length, take, drop, sym, ap, ◌∙◌, subst, arith, inr, Some, Result, Ok, Err}
-use Rattle.std.proofs.lemmas.List.{append_assoc, append-nil, length-append, length-drop, take_all, take-append-drop}
+use Rattle.std.proofs.lemmas.List.{append_assoc, append-nil, length-append, take-append-drop}
 use Rattle.jpg_base.specs.Desk.{DeskState}
 use Rattle.jpg_base.specs.declared.stop.Stop.{Stop}
 use Rattle.jpg_spec.specs.Geometry.{Frame, bounds, mcu_row_frame}
@@ -230,10 +230,6 @@ pub at_row : {s : Showing} {run : Run} {work : Work} {m : ℕ} {piece : List ℕ
 at_row lent k =
     let next = next_row k.read lent in
     record { due = row_due (k.read).head next k.drawing; row = row_framed next k.drawing; within = ((k.read).after).1 }
-
--- the piece that is left
-pub rest_of_piece : (piece : List ℕ) (used : ℕ) → take (length piece - used) (drop used piece) ≡ drop used piece
-rest_of_piece piece used = take_all (length piece - used) (drop used piece) (omega (arith, length-drop used piece))
 
 module _ {s : Showing} {run : Run} {work : Work} {m : ℕ} {piece : List ℕ} {used : ℕ} {rest : List ℕ} where
   pub row_then : {result : Result (Unit {0}) DecodeStop} {u : Unit {0}} {answer : Result FedRow Stop} {after : ReaderState} {q : Coefs} {new : Drawing} {new_end : EndState} {s1 : DeskState} → rest ≡ drop used piece → result ≡ Ok u → ((rows : RowWork) → (work.reader).rows ≡ Some rows → q ≡ rows.coefs) → DrawsRow work.now work.image work.end q result new new_end s1 → FeedsRow work.reader rest answer after → after.limits ≡ (work.reader).limits

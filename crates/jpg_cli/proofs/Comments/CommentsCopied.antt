@@ -1,6 +1,6 @@
 -- What reading pieces and writing the text of their comments does, over the states of a desk.
 use Rattle.std.proofs.Common.{◌≡◌, ℕ, ◌+◌, ◌==◌, Bool, true, ◌<◌, ◌≤◌, List, [], ◌∷◌, ◌++◌, length, take, Option, None, Some, refl, sym, ap, ◌∙◌, subst, arith}
-use Rattle.std.proofs.lemmas.List.{append-nil, length-append, length-take}
+use Rattle.std.proofs.lemmas.List.{length-append, length-take}
 use Rattle.std.specs.Io.KnownBytes.{Consumes, IsAtEnd}
 use Rattle.jpg_base.specs.declared.names.Name.{Name}
 use Rattle.jpg_base.specs.declared.names.Put.TheVariants as put
@@ -22,17 +22,14 @@ use Rattle.jpg_cli.specs.Copies.{HasCopied}
 use Rattle.jpg_cli.specs.Stays.{OnlyCopies, OnlyWorks}
 use Rattle.jpg_cli.proofs.Outcomes.Input.{none_left}
 use Rattle.jpg_cli.proofs.Comments.CommentsRead.{part_of_part, taken_part, text_so_far}
+use Rattle.jpg_huff.proofs.Emitted.{append_last-nil}
+use Rattle.jpg_dct.proofs.TableFronts.{none_of}
 
 -- NOTHING WRITTEN
 
-append_none : (outputs : List (Name × List ℕ)) → append_last outputs [] ≡ outputs
-append_none [] = refl
-append_none (o ∷ []) = ap (λ (b : List ℕ). (let q : List (Name × List ℕ) = (o.0, b) ∷ [] in q)) (append-nil o.1)
-append_none (o ∷ p ∷ os) = ap (λ (rest : List (Name × List ℕ)). o ∷ rest) (append_none (p ∷ os))
-
 pub none_written : (outputs : Option (List (Name × List ℕ))) → AppendsLast outputs [] outputs
 none_written None = tt
-none_written (Some outputs) = sym (append_none outputs)
+none_written (Some outputs) = sym (append_last-nil outputs)
 
 pub none_read : (left : Option (List ℕ)) → Consumes left left []
 none_read None = tt
@@ -154,10 +151,5 @@ pub read_most : (bytes text buf : List ℕ) (n room : ℕ) (c : Comments) → c.
 read_most bytes text buf n room c e h left fits =
     within_most bytes buf n room (left ∙ ap (λ (l : Limits). l.input) e) (subst (λ (l : Limits). length bytes < l.input) e h.2) fits
 
--- no bytes at all
-pub no_bytes : (bytes : List ℕ) → length bytes ≡ 0 → bytes ≡ []
-no_bytes [] e = refl
-no_bytes (b ∷ bytes) e = absurd (omega (arith, e))
-
 pub no_text : (out slice : List ℕ) (empty : Bool) → slice ≡ out → empty ≡ (length slice == 0) → empty ≡ true → out ≡ []
-no_text out slice empty same is some = no_bytes out (grind (arith, same, is, some))
+no_text out slice empty same is some = none_of out (grind (arith, same, is, some))

@@ -16,7 +16,7 @@ use Rattle.jpg_comments.specs.Printing.{HoldsWhole, HasPrinted, PrintsBefore, Pr
 use Rattle.jpg_comments.specs.ReadComments.{HasRead, StopsAt}
 use Rattle.jpg_comments.specs.declared.comments.Comments.{Comments}
 use Rattle.jpg_markers.specs.Reading.{reading_of}
-use Rattle.jpg_comments.proofs.Taken.{begun}
+use Rattle.jpg_comments.proofs.Taken.{begun, upto}
 use Rattle.jpg_base.specs.declared.stop.Stop.TheVariants as stop
 use Rattle.jpg_cli.specs.Tools.ReadComments.{AfterEnd, AfterTaking, AreCompleteSegments, IsFaultText, IsTextPart, IsTextSoFar, IsWholeText}
 
@@ -66,15 +66,6 @@ pub fault_within : (is_whole : List ℕ → Type 0) (bytes : List ℕ) (f : Faul
 fault_within is_whole bytes f n (w, inl h) = h.1.0
 fault_within is_whole bytes f n (w, inr (inl h)) = (let e = h.1 in let l = h.2 in omega (arith, e, l))
 fault_within is_whole bytes f n (w, inr (inr h)) = (let e = h.1 in omega (arith, e))
-
-pub upto : (n m : ℕ) → (n ≤ m) ⊎ (m < n)
-upto zero m = inl (omega arith)
-upto (suc n) zero = inr (omega arith)
-upto (suc n) (suc m) = next (upto n m)
-  where
-    next : (n ≤ m) ⊎ (m < n) → (suc n ≤ suc m) ⊎ (suc m < suc n)
-    next (inl h) = inl (omega (arith, h))
-    next (inr h) = inr (omega (arith, h))
 
 -- a fault is in the last piece
 pub fault_last : (is_whole : List ℕ → Type 0) (bytes piece : List ℕ) (f : FaultAt) → RevealsNothing standard_limits is_whole bytes → length bytes < standard_limits.input → length piece ≤ 65536

@@ -18,11 +18,12 @@ use Rattle.jpg_comments.specs.declared.insert.Insert.{Insert}
 use Rattle.jpg_cli.specs.Desk.Reading.{rest_of}
 use Rattle.jpg_cli.specs.Tools.InsertComment.{AfterAll, AfterFed, AfterHeadRead, EndsBefore, IsAtHead}
 use Rattle.jpg_cli.specs.declared.tools.wrjpgcom.AtHead.TheVariants as at_head
-use Rattle.jpg_cli.proofs.Comments.CommentsRead.{fault_last, fault_within, no_fault_shown, upto}
+use Rattle.jpg_cli.proofs.Comments.CommentsRead.{fault_last, fault_within, no_fault_shown}
 use Rattle.jpg_cli.proofs.Comments.CommentsCopied.{none_read, text_added}
 use Rattle.jpg_cli.proofs.Outcomes.Input.{none_left}
 use Rattle.jpg_cli.proofs.Comments.InsertedCopied.{inserted_so_far, not_none, stands}
 use Rattle.jpg_spec.proofs.Basics.Common.{take_shorter}
+use Rattle.jpg_comments.proofs.Taken.{upto}
 
 -- A file with a comment inserted is never empty.
 pub text_is_some : (bytes comment text : List ℕ) (replace : Bool) → IsInserted standard_limits bytes comment replace text → 0 < length text

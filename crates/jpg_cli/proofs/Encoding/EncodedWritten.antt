@@ -1,5 +1,5 @@
 -- The file of an encoded image, written block by block: its plan, and its text.
-use Rattle.std.proofs.Common.{◌≡◌, ℕ, Bool, true, false, cond, List, [], length, refl, sym, ap, ◌∙◌, subst, inl, None, Ok, Err}
+use Rattle.std.proofs.Common.{◌≡◌, ℕ, true, List, [], length, refl, sym, ap, ◌∙◌, subst, inl, None, Ok, Err}
 use Rattle.jpg_base.specs.declared.names.Name.{Name}
 use Rattle.jpg_base.specs.Desk.{DeskState}
 use Rattle.jpg_spec.specs.FileMeaning.{Means}
@@ -13,14 +13,13 @@ use Rattle.jpg_spec.specs.Meaning.{Meaning, colour_of, real_blocks}
 use Rattle.jpg_spec.specs.Segments.{QuantTable, standard_limits}
 use Rattle.jpg_spec.specs.declared.frame.Colour.{Colour}
 use Rattle.jpg_spec.specs.declared.frame.Copying.{Copying}
-use Rattle.jpg_spec.specs.declared.frame.Process.TheVariants.{Baseline, Extended}
 use Rattle.jpg_spec.specs.declared.jfif.Jfif.{Jfif}
-use Rattle.jpg_spec_encode.specs.Encoded.{Encoding, any_process, encode_fault, encoded, encoded_script, encoded_text}
-use Rattle.jpg_spec_encode.proofs.EncodedWritten.{encoded_headed, encoded_means}
+use Rattle.jpg_spec_encode.specs.Encoded.{Encoding, encode_fault, encoded, encoded_script, encoded_text}
+use Rattle.jpg_spec_encode.proofs.EncodedWritten.{encoded_headed, encoded_means, encoded_kind}
 use Rattle.jpg_spec_image.specs.Images.{Image}
 use Rattle.jpg_spec_write.specs.FileText.{file_text, frame_of_meaning}
 use Rattle.jpg_spec_write.specs.Headed.{copied, headed_kept}
-use Rattle.jpg_spec_write.specs.ScansAsked.{Scans, asks_progressive, process_due, script_due}
+use Rattle.jpg_spec_write.specs.ScansAsked.{Scans, script_due}
 use Rattle.jpg_spec_write.specs.Script.{Entry}
 use Rattle.jpg_spec_write.specs.ScriptFaults.{script_fault}
 use Rattle.jpg_spec_write.specs.declared.picture_fault.PictureFault.{PictureFault}
@@ -77,18 +76,6 @@ of_parts f colour quants jfif passed kept blocks = record {
   kept = headed_kept colour jfif (copied passed kept);
 }
 
--- the process is progressive if the scans are
-either_sequential : (b : Bool) → is_progressive (cond b Extended Baseline) ≡ false
-either_sequential true = refl
-either_sequential false = refl
-
-kind_due : (e : Encoding) (I : Image) → is_progressive (encoded e I).process ≡ asks_progressive e.scans
-kind_due e I = by (asks_progressive e.scans)
-  where
-    by : (b : Bool) → is_progressive (process_due b (any_process e I)) ≡ b
-    by true = refl
-    by false = either_sequential _
-
 module _ {w : EncodeWords} {scans : Scans} {e : Encoding} {I : Image} {v : EncodedImage} (asked : IsAskedBy w scans e) (h : IsEncodedImage e I v) where
   -- THE SCRIPT
 
@@ -111,7 +98,7 @@ module _ {w : EncodeWords} {scans : Scans} {e : Encoding} {I : Image} {v : Encod
   passes script is none =
       let N = encoded e I in
       let headed = encoded_headed e I h.can h.faultless in
-      let kind = same_kind e.scans (frame_of_meaning N) (colour_of N) (headed_frame N headed) (has_standard N headed) ∙ sym (kind_due e I) in
+      let kind = same_kind e.scans (frame_of_meaning N) (colour_of N) (headed_frame N headed) (has_standard N headed) ∙ sym (encoded_kind e I) in
       let faultless = sym (ap (λ f. first_some f (script_fault (frame_of_meaning N) (encoded_script e I))) h.faultless) ∙ none in
       ap (does_pass N) (script_same script is) ∙ passes_by N (encoded_script e I) (is_progressive N.process) (headed_frame N headed).count_high refl kind faultless
 

@@ -27,7 +27,7 @@ pub record IsImageText (s : Showing) (old start : DeskState) (M : Meaning) (earl
   pub means : IsReadPicture (Image s.gray) M early all
   pub left : IsAllRead early s0
 
-all_still : (early : Option ℕ) (s0 s1 : DeskState) → s1.left ≡ s0.left → IsAllRead early s0 → IsAllRead early s1
+pub all_still : (early : Option ℕ) (s0 s1 : DeskState) → s1.left ≡ s0.left → IsAllRead early s0 → IsAllRead early s1
 all_still None s0 s1 e h = tt
 all_still (Some n) s0 s1 e h = ap rest_of e ∙ h
 

@@ -54,7 +54,7 @@ pub none_faulty : (bytes : List ℕ) (M : Meaning) (f : FaultAt) → IsMeaning s
 none_faulty bytes M f (inl means) fault = means_no_fault standard_limits bytes M f.fault f.at means fault
 none_faulty bytes M f (inr means) fault = early_no_fault standard_limits bytes f.fault f.at means.0 fault
 
-none_out : (f : FaultAt) → None ≡ Some f.fault → ⊥
+pub none_out : (f : FaultAt) → None ≡ Some f.fault → ⊥
 none_out f e = cc
 
 -- nor is one refused that is wanted

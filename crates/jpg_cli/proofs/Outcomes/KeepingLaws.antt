@@ -27,6 +27,7 @@ use Rattle.jpg_spec_move.specs.declared.transform.Transform.{Transform}
 use Rattle.jpg_spec_move.specs.declared.transform.Transform.TheVariants.{Keep}
 use Rattle.jpg_file.specs.Read.Keeping.{is_wanted, kept_for}
 use Rattle.jpg_file.proofs.Files.Keeping.{colour_same, jfif_same, passed_same}
+use Rattle.jpg_transform.proofs.MovedHead.{kept_stays}
 
 -- TRANSFORMED: the markers are only used when the output gets its head
 
@@ -60,9 +61,6 @@ unheaded choice M = cropped_by choice.crop (uncropped choice M)
 
 unheaded_with : (choice : Choice) (kept : List Segment) (M : Meaning) → unheaded choice (with_kept kept M) ≡ with_kept kept (unheaded choice M)
 unheaded_with choice kept M = ap (cropped_by choice.crop) (uncropped_with choice kept M) ∙ cropped_with choice.crop kept (uncropped choice M)
-
-kept_stays : (choice : Choice) (M : Meaning) → (unheaded choice M).kept ≡ M.kept
-kept_stays choice M = ap (λ (N : Meaning). N.kept) (unheaded_with choice M.kept M)
 
 process_same : (progressive : Bool) (keeping : Copying) (M : Meaning) → process_due progressive (kept_for keeping M) ≡ process_due progressive M
 process_same true keeping M = refl

@@ -17,6 +17,7 @@ use Rattle.jpg_cli.specs.declared.desk.moved.Wrote.TheVariants as wrote
 use Rattle.jpg_cli.specs.Stays.{Keeps, OnlySays, Untouched}
 use Rattle.jpg_cli.proofs.Outcomes.Endings.{asks_next, asks_still, stopped_then, unopened_then, wrote_then}
 use Rattle.jpg_cli.proofs.Outcomes.NamesBefore.{added_after, from_before, input_unopened, output_uncreated, stopped_after}
+use Rattle.jpg_cli.proofs.Encoding.ImageStopped.{all_still}
 
 -- WHAT WAS READ, if no more is; its bytes are the same ones
 pub same_left : (input : Option Name) (s1 s2 : DeskState) → s2.left ≡ s1.left → left_of input s1 ≡ left_of input s2
@@ -30,10 +31,6 @@ reads_still s0 s1 s2 input Is e h = record {
   most = h.most;
   is = subst (λ (rest : List ℕ). Is rest h.bytes) (same_left input s1 s2 e) h.is;
 }
-
-pub all_still : (early : Option ℕ) (s1 s2 : DeskState) → s2.left ≡ s1.left → IsAllRead early s1 → IsAllRead early s2
-all_still None s1 s2 e h = tt
-all_still (Some n) s1 s2 e h = ap rest_of e ∙ h
 
 abbrev value_still : (V : Type 0) (c : Conversion V) (x : V) (early : Option ℕ) (fault : Option PictureFault) (s0 s1 s2 : DeskState) → s2.left ≡ s1.left → ReadsValue V c x early fault s0 s1 → ReadsValue V c x early fault s0 s2
 value_still V c x early fault s0 s1 s2 e h = record { read = reads_still s0 s1 s2 c.input (c.judging.has x early) e h.read; all = all_still early s1 s2 e h.all; is = h.is }

@@ -33,6 +33,7 @@ use Rattle.jpg_cli.specs.Desk.ReadPicture.{IsRefused, IsRefusedFor, IsUnwanted, 
 use Rattle.jpg_cli.specs.declared.desk.picture.Wanted.{Wanted}
 use Rattle.jpg_cli.specs.declared.desk.picture.Wanted.TheVariants.{Coefficients, Image}
 use Rattle.jpg_cli.proofs.Outcomes.RefusedOnce.{one_refusal}
+use Rattle.jpg_cli.proofs.Outcomes.Judged.{none_out}
 
 -- THE HEADER that a reader keeps
 
@@ -69,9 +70,6 @@ head_unwanted gray bytes (Some h) f k e =
       fault = sym (same_reason standard_limits gray bytes h k) ∙ told.0;
     }
 
-no_fault : (f : FaultAt) → None ≡ Some f.fault → ⊥
-no_fault f e = cc
-
 -- and if it reveals nothing, it is wanted
 head_wanted : (gray : Bool) (bytes : List ℕ) (o : Option Head) → IsFirstHeaderOf standard_limits bytes o → unwanted_in (Image gray) (head_of o) ≡ None → (f : FaultAt) → IsUnwanted (Image gray) bytes f → ⊥
 head_wanted gray bytes None k e f s = k s.before s.contents f.at s.header
@@ -79,7 +77,7 @@ head_wanted gray bytes (Some h) k e f s =
     let cut = take-append-drop h.at bytes ∙ sym (take-append-drop f.at bytes) in
     let one = whole_once standard_limits (take h.at bytes) (take f.at bytes) (drop h.at bytes) (drop f.at bytes) k.before s.before k.contents s.contents k.header s.header cut in
     let none = no_entry (out_fault_of h.frame.precision h.colour gray (factors_of h.frame)) h.colour gray h.at e in
-    no_fault f (sym none ∙ same_reason standard_limits gray bytes h k ∙ ap (reason_after standard_limits gray) one.1 ∙ s.fault)
+    none_out f (sym none ∙ same_reason standard_limits gray bytes h k ∙ ap (reason_after standard_limits gray) one.1 ∙ s.fault)
 
 -- before any byte there is none
 pub no_header : (before : List Segment) (contents : List ℕ) (n : ℕ) → IsHeader standard_limits (take n []) before contents → ⊥

@@ -39,6 +39,7 @@ use Rattle.jpg_cli.specs.declared.desk.picture.Wanted.TheVariants.{Image}
 use Rattle.jpg_cli.proofs.Pieces.PictureBytes.{early_end, has_fed, holds_file, new_place, refused_end, refused_there, short_piece, stop_within}
 use Rattle.jpg_cli.proofs.ByRow.RowHeads.{begins_still, begins_whole, shown_before}
 use Rattle.jpg_cli.proofs.Outcomes.Unwanted.{fault_after, stop_wanted, unwanted_head, unwanted_more, unwanted_within, wanted_head}
+use Rattle.jpg_spec.proofs.Basics.Common.{joined}
 
 -- THE HEAD that the reader keeps is that of a prefix of the bytes
 
@@ -51,18 +52,15 @@ pub record HasHeadIn (all : List ℕ) (r : ReaderState) : Type 0 where
 whole_cut : (l : List ℕ) (n : ℕ) → l ≡ take n l ++ drop n l
 whole_cut l n = sym (take-append-drop n l)
 
-piece_cut : (bytes piece : List ℕ) (n : ℕ) → bytes ++ piece ≡ (bytes ++ take n piece) ++ drop n piece
-piece_cut bytes piece n = ap (λ l. bytes ++ l) (whole_cut piece n) ∙ sym (append_assoc bytes (take n piece) (drop n piece))
-
 none_more : (l : List ℕ) → l ≡ l ++ []
 none_more l = sym (append-nil l)
 
 pub head_in : (bytes piece : List ℕ) (m : ℕ) (answer : Result FedRow Stop) (r : ReaderState) → AfterFeedRow bytes m piece answer r → HasHeadIn (bytes ++ piece) r
 head_in bytes piece m (Ok fed.More) r (inl h) = record { front = bytes ++ piece; rest = []; cut = none_more (bytes ++ piece); head = (h.0).read.head }
 head_in bytes piece m (Ok fed.More) r (inr h) = record { front = bytes ++ piece; rest = []; cut = none_more (bytes ++ piece); head = (h.begun).head }
-head_in bytes piece m (Ok (fed.Row used)) r h = record { front = bytes ++ take used piece; rest = drop used piece; cut = piece_cut bytes piece used; head = ((h.0).begun).head }
-head_in bytes piece m (Ok (fed.Done used)) r (inl h, some, within) = record { front = bytes ++ take used piece; rest = drop used piece; cut = piece_cut bytes piece used; head = (h.done).head }
-head_in bytes piece m (Ok (fed.Done used)) r (inr h, some, within) = record { front = bytes ++ take used piece; rest = drop used piece; cut = piece_cut bytes piece used; head = (h.begun).head }
+head_in bytes piece m (Ok (fed.Row used)) r h = record { front = bytes ++ take used piece; rest = drop used piece; cut = joined bytes piece used; head = ((h.0).begun).head }
+head_in bytes piece m (Ok (fed.Done used)) r (inl h, some, within) = record { front = bytes ++ take used piece; rest = drop used piece; cut = joined bytes piece used; head = (h.done).head }
+head_in bytes piece m (Ok (fed.Done used)) r (inr h, some, within) = record { front = bytes ++ take used piece; rest = drop used piece; cut = joined bytes piece used; head = (h.begun).head }
 head_in bytes piece m (Err (stop.Fault f)) r (stops, late, inl h, so) = record { front = take f.at (bytes ++ piece); rest = drop f.at (bytes ++ piece); cut = whole_cut (bytes ++ piece) f.at; head = h }
 head_in bytes piece m (Err (stop.Fault f)) r (stops, late, inr (n, at, h, s), so) = record { front = take n (bytes ++ piece); rest = drop n (bytes ++ piece); cut = whole_cut (bytes ++ piece) n; head = h }
 head_in bytes piece m (Err stop.NoMemory) r ((n, few, h), none, plain) = record { front = take n (bytes ++ piece); rest = drop n (bytes ++ piece); cut = whole_cut (bytes ++ piece) n; head = h }
@@ -134,9 +132,9 @@ IsPlainOrBegun all r = (r.rows ≡ None) ⊎ HasBegun all r
 pub plain_or : (bytes piece : List ℕ) (m : ℕ) (answer : Result FedRow Stop) (r : ReaderState) → AfterFeedRow bytes m piece answer r → IsPlainOrBegun (bytes ++ piece) r
 plain_or bytes piece m (Ok fed.More) r (inl h) = inl (h.0).none
 plain_or bytes piece m (Ok fed.More) r (inr h) = inr (record { front = bytes ++ piece; rest = []; cut = none_more (bytes ++ piece); begun = h.begun })
-plain_or bytes piece m (Ok (fed.Row used)) r h = inr (record { front = bytes ++ take used piece; rest = drop used piece; cut = piece_cut bytes piece used; begun = (h.0).begun })
+plain_or bytes piece m (Ok (fed.Row used)) r h = inr (record { front = bytes ++ take used piece; rest = drop used piece; cut = joined bytes piece used; begun = (h.0).begun })
 plain_or bytes piece m (Ok (fed.Done used)) r (inl h, some, within) = inl h.none
-plain_or bytes piece m (Ok (fed.Done used)) r (inr h, some, within) = inr (record { front = bytes ++ take used piece; rest = drop used piece; cut = piece_cut bytes piece used; begun = h.begun })
+plain_or bytes piece m (Ok (fed.Done used)) r (inr h, some, within) = inr (record { front = bytes ++ take used piece; rest = drop used piece; cut = joined bytes piece used; begun = h.begun })
 plain_or bytes piece m (Err (stop.Fault f)) r (stops, late, head, inl h) = inl h.0
 plain_or bytes piece m (Err (stop.Fault f)) r (stops, late, head, inr h) = inr (record { front = take f.at (bytes ++ piece); rest = drop f.at (bytes ++ piece); cut = whole_cut (bytes ++ piece) f.at; begun = h.begun })
 plain_or bytes piece m (Err stop.NoMemory) r (head, none, plain) = inl none
@@ -225,7 +223,7 @@ whole_plainly gray bytes piece used r e short small none h some within = record 
   plain =
       (let front = bytes ++ take used piece in
       let d = h.done in
-      subst (λ l. HasNoRows standard_limits l) (sym (piece_cut bytes piece used))
+      subst (λ l. HasNoRows standard_limits l) (sym (joined bytes piece used))
       (plain_whole front (drop used piece) d.meaning (subst (λ (l : Limits). IsWholeFile l front d.meaning) e d.whole) (subst (λ (l : Limits). HasNoRows l front) e h.plain)));
   holds = holds_file (Image gray) bytes piece used r e (omega (arith, short)) small none (h.done, some, within);
 }

@@ -7,6 +7,7 @@ use Rattle.jpg_spec.specs.Markers.{is_within}
 use Rattle.jpg_spec_encode.specs.EncodingLaws.{AreFactors}
 use Rattle.jpg_spec_words.specs.EncodeWords.{are_factors, factors_from, is_factor}
 use Rattle.jpg_spec.proofs.Basics.Common.{both, le_of}
+use Rattle.jpg_dct.proofs.TableFronts.{none_of}
 
 abbrev Pairs : Type 0
 Pairs = List (ℕ × ℕ)
@@ -56,16 +57,12 @@ no_pair (a ∷ x ∷ d ∷ comma ∷ text) (suc most) e = rw e refl
 abbrev FirstPair : List ℕ → List ℕ → ℕ × ℕ → Type 0
 FirstPair rest after pair = (a x d : ℕ) × (rest ≡ a ∷ x ∷ d ∷ after) × (are_factors a x d ≡ true) × (pair ≡ (a - 48, d - 48))
 
-nothing_there : (text : List ℕ) → length text ≡ 0 → text ≡ []
-nothing_there [] e = refl
-nothing_there (b ∷ text) e = absurd (omega (arith, e))
-
 -- it is the last
 pub ended_there : (told : Option Pairs) (had now : Pairs) (rest behind : List ℕ) (pair : ℕ × ℕ) → told ≡ after had (factors_from (4 - length had) rest) → FirstPair rest behind pair → length behind ≡ 0 → length had < 4 → now ≡ had ++ pair ∷ [] → Some now ≡ told
 ended_there told had now rest behind pair is (a, x, d, cut, ok, same) none few more =
     ap (λ (l : Pairs). Some l) (more ∙ ap (λ p. had ++ p ∷ []) same)
     ∙ sym (last_one had a x d few ok)
-    ∙ sym (ap (λ (text : List ℕ). after had (factors_from (4 - length had) text)) (cut ∙ ap (λ (l : List ℕ). a ∷ x ∷ d ∷ l) (nothing_there behind none)))
+    ∙ sym (ap (λ (text : List ℕ). after had (factors_from (4 - length had) text)) (cut ∙ ap (λ (l : List ℕ). a ∷ x ∷ d ∷ l) (none_of behind none)))
     ∙ sym is
 
 -- or a comma and more follow it

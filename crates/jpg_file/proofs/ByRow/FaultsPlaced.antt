@@ -1,7 +1,6 @@
 -- Data of a scan of all components that have a fault: which units are decoded before it, and which MCU rows are
 -- complete.
-use Rattle.std.proofs.Common.{◌≡◌, ℕ, zero, suc, ◌+◌, ◌-◌, ◌*◌, ◌<◌, ◌≤◌, ◌==◌, Bool, false, cond, List, [], ◌∷◌, ◌++◌, length, refl, sym, ap, ◌∙◌, subst, arith, inl, inr}
-use Rattle.std.proofs.lemmas.Bool.Decides.{nat_tests}
+use Rattle.std.proofs.Common.{◌≡◌, ℕ, ◌+◌, ◌-◌, ◌*◌, ◌<◌, ◌≤◌, ◌==◌, Bool, cond, List, [], ◌∷◌, ◌++◌, length, refl, sym, ap, ◌∙◌, subst, arith, inl, inr}
 use Rattle.std.proofs.lemmas.List.{append_assoc, length-append}
 use Rattle.jpg_spec.specs.Bits.{bits_of_bytes}
 use Rattle.jpg_spec.specs.Lists.{joined}
@@ -40,6 +39,7 @@ use Rattle.jpg_file.proofs.Scans.ScanBytes.{of_place}
 use Rattle.jpg_file.proofs.ByRow.StripRows.{kind_at, scan_of_place, seq_of}
 use Rattle.jpg_file.proofs.Scans.InIntervals.{InInterval}
 use Rattle.jpg_file.specs.declared.read.scan.ScanWork.{ScanWork}
+use Rattle.jpg_spec.proofs.Headers.SameNumbers.{some_not_zero}
 
 -- a fault before which fewer than `most` values are decoded
 abbrev ShownFew : Fault → List Bool → ℕ → Coding → List UnitLeft → Type 0
@@ -150,10 +150,6 @@ module _ (limits : Limits) (items : List Item) (contents bytes : List ℕ) (p : 
 
 -- THE MCU ROWS: the current one isn't complete
 
-some_left : (n : ℕ) → 1 ≤ n → (n == 0) ≡ false
-some_left zero some = absurd (omega (arith, some))
-some_left (suc n) some = grind (arith, nat_tests)
-
 pub fault_completes : (limits : Limits) (items : List Item) (contents bytes : List ℕ) (rows : RowWork) (left due : ℕ) → FaultStops limits items contents bytes left rows.left due
     → IsRowAt (frame_behind limits items) (components_of limits items contents) rows (due + left) → CompletesBefore limits bytes (segments_of items) contents rows
 fault_completes limits items contents bytes rows left due z at =
@@ -177,4 +173,4 @@ fault_completes limits items contents bytes rows left due z at =
     c = stops_complete limits items contents bytes z.whole (record rows { left = rows.left - (left - z.units) }) (due + z.units) z.stops there
 
     same : unfinished (record rows { left = rows.left - (left - z.units) }) ≡ unfinished rows
-    same = ap (λ b. rows.later + cond b 0 1) (some_left (rows.left - (left - z.units)) (omega (arith, z.few, z.low)) ∙ sym (some_left rows.left (omega (arith, z.few, z.low))))
+    same = ap (λ b. rows.later + cond b 0 1) (some_not_zero (rows.left - (left - z.units)) (omega (arith, z.few, z.low)) ∙ sym (some_not_zero rows.left (omega (arith, z.few, z.low))))

@@ -1,12 +1,11 @@
 -- After the current MCU row nothing of the picture was changed yet.
-use Rattle.std.proofs.Common.{◌≡◌, ℕ, zero, suc, ◌+◌, ◌-◌, ◌*◌, ◌/◌, ◌%◌, ◌<◌, ◌≤◌, ◌==◌, Bool, true, false, cond, List, [], ◌∷◌, ◌++◌, length, take, drop, get_or, refl, sym, ap, ◌∙◌, subst, arith, ⊎_elim}
+use Rattle.std.proofs.Common.{◌≡◌, ℕ, suc, ◌+◌, ◌-◌, ◌*◌, ◌/◌, ◌%◌, ◌<◌, ◌≤◌, ◌==◌, Bool, true, false, cond, List, [], ◌∷◌, ◌++◌, length, take, drop, get_or, refl, sym, ap, ◌∙◌, subst, arith, ⊎_elim}
 use Rattle.std.specs.Prelude.{◌&&◌, ◌||◌, map, flat_map}
 use Rattle.std.specs.List.{All}
 use Rattle.std.proofs.lemmas.Bool.{cases_lt}
 use Rattle.std.proofs.lemmas.Bool.Decides.{nat_tests}
-use Rattle.std.proofs.lemmas.Grind.{flat_map-append}
-use Rattle.std.proofs.lemmas.List.{append-nil, get_or-drop, get_or-take, get_or_append_left, length-append, length-drop, length-take, map-append}
-use Rattle.std.proofs.lemmas.List.Elements.{All-append, All-cons, All-get_or, All-nil}
+use Rattle.std.proofs.lemmas.List.{get_or-drop, get_or-take, get_or_append_left, length-append, length-drop, length-take}
+use Rattle.std.proofs.lemmas.List.Elements.{All-get_or, All-nil}
 use Rattle.std.proofs.lemmas.Nat.{mul-le}
 use Rattle.std.proofs.Math.Nat.{add-mul, div-add-mod', div-lt_iff_lt-mul, mod-lt}
 use Rattle.jpg_spec.specs.Lists.{any_of, below}
@@ -24,27 +23,13 @@ use Rattle.jpg_seq.proofs.ScanRows.{row_next}
 use Rattle.jpg_file.specs.Read.RowTurns.{IsBlankAfter, IsRowIn}
 use Rattle.jpg_file.specs.declared.read.rows.RowWork.{RowWork}
 use Rattle.jpg_file.proofs.ByRow.RowTurns.{rows_there}
+use Rattle.jpg_base.proofs.ScanPlaces.{all_rows, all_row, all_ids}
 
 -- a place of the first n MCU rows
 abbrev pub IsAbove : Frame → ℕ → Place → Type 0
 IsAbove f n p = p.y < n * rows_in_mcu f p.component
 
 -- LISTS of rows
-
-all_rows : (P : Place → Type 0) (g : ℕ → List Place) (n : ℕ) → ((k : ℕ) → k < n → All P (g k)) → All P (flat_map g (below n))
-all_rows P g zero each = All-nil P
-all_rows P g (suc n) each =
-    let last : All P (g n ++ []) = subst (λ ps. All P ps) (sym (append-nil (g n))) (each n (omega arith)) in
-    subst (λ ps. All P ps) (sym (flat_map-append g (below n) (n ∷ []))) (All-append P (flat_map g (below n)) (g n ++ []) (all_rows P g n (λ k h. each k (omega arith))) last)
-
-all_row : (P : Place → Type 0) (g : ℕ → Place) (n : ℕ) → ((k : ℕ) → k < n → P (g k)) → All P (map g (below n))
-all_row P g zero each = All-nil P
-all_row P g (suc n) each =
-    subst (λ ps. All P ps) (sym (map-append g (below n) (n ∷ []))) (All-append P (map g (below n)) (g n ∷ []) (all_row P g n (λ k h. each k (omega arith))) (All-cons P (g n) [] (each n (omega arith)) (All-nil P)))
-
-all_ids : (P : Place → Type 0) (g : ℕ → List Place) (ids : List ℕ) → ((j : ℕ) → j < length ids → All P (g (get_or ids j 0))) → All P (flat_map g ids)
-all_ids P g [] each = All-nil P
-all_ids P g (i ∷ ids) each = All-append P (g i) (flat_map g ids) (each 0 (omega arith)) (all_ids P g ids (λ j h. each (suc j) (omega arith)))
 
 -- THE PLACES OF AN MCU ROW are above the next one
 

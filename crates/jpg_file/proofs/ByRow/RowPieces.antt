@@ -7,7 +7,7 @@ use Rattle.jpg_spec.specs.RowsParsed.{BeginsScanOfAll}
 use Rattle.jpg_spec.specs.declared.fault.FaultAt.{FaultAt}
 use Rattle.jpg_spec.specs.declared.fault.Fault.TheVariants.{InputTooLong}
 use Rattle.jpg_spec.specs.declared.frame.Limits.{Limits}
-use Rattle.jpg_spec.proofs.Basics.Common.{clash, some_once}
+use Rattle.jpg_spec.proofs.Basics.Common.{clash, some_once, joined}
 use Rattle.jpg_base.specs.declared.stop.Stop.{Stop}
 use Rattle.jpg_base.specs.declared.stop.Stop.TheVariants as stop
 use Rattle.jpg_file.specs.Read.File.{IsStop, RepresentsFile, keeping_of, limits_of}
@@ -33,7 +33,7 @@ use Rattle.jpg_file.specs.declared.read.step.Step.{Step}
 use Rattle.jpg_file.specs.declared.read.step.Step.TheVariants as step
 use Rattle.jpg_file.proofs.ByRow.FaultsFed.{goes_completes}
 use Rattle.jpg_file.proofs.Headers.FirstHeaders.{has_longer}
-use Rattle.jpg_file.proofs.Files.PieceSteps.{counted, front_is, front_of, head_kept, joined, one_more, piece_long, stands_file, stop_longer, within}
+use Rattle.jpg_file.proofs.Files.PieceSteps.{counted, front_is, front_of, head_kept, one_more, piece_long, stands_file, stop_longer, within}
 use Rattle.jpg_file.proofs.ByRow.RowsFed.{begun_on}
 use Rattle.jpg_file.proofs.ByRow.RowsNone.{no_rows, none_in}
 use Rattle.jpg_file.proofs.ByRow.StripPieces.{ReadWhole, open_head, open_limits, strip_limits, strip_whole}

@@ -1,14 +1,14 @@
 -- What the bytes encode up to a place inside the data of a scan of all components: the blocks of first places of the
 -- scan.
-use Rattle.std.proofs.Common.{◌≡◌, ℕ, ◌≤◌, Bool, List, [], ◌∷◌, ◌++◌, length, take, drop, refl, sym, ap, ◌∙◌, subst, arith}
+use Rattle.std.proofs.Common.{◌≡◌, ℕ, ◌≤◌, Bool, List, [], ◌∷◌, ◌++◌, length, refl, sym, ap, ◌∙◌, subst, arith}
 use Rattle.std.specs.Prelude.{map}
-use Rattle.std.proofs.lemmas.List.{append_assoc, append-nil, append_cancel_left, length-append, take-append-drop, take-append-le, take_all}
+use Rattle.std.proofs.lemmas.List.{append_assoc, append-nil, append_cancel_left, length-append}
 use Rattle.jpg_spec.specs.Bits.{bits_of_bytes}
 use Rattle.jpg_spec.specs.Lists.{chunks, joined}
 use Rattle.jpg_spec.specs.Segments.{head_components}
 use Rattle.jpg_spec.specs.InForce.{head_in}
 use Rattle.jpg_spec.specs.Items.{segments_of}
-use Rattle.jpg_spec.specs.Scan.{Blocks, Scan, SpellsIntervals, unit_at}
+use Rattle.jpg_spec.specs.Scan.{Blocks, Scan, unit_at}
 use Rattle.jpg_spec.specs.FileMeaning.{Leads, no_blocks}
 use Rattle.jpg_spec.specs.FirstFault.{HoldsAll}
 use Rattle.jpg_spec.specs.PictureInWork.{ScanSoFar, UnitsRead}
@@ -27,6 +27,7 @@ use Rattle.jpg_coefs.specs.Machine.{Interval}
 use Rattle.jpg_seq.specs.Reader.{RepresentsSeqScan, new_units_at}
 use Rattle.jpg_seq.specs.declared.reader.SeqReader.{SeqReader}
 use Rattle.jpg_file.specs.Read.InData.{IsInterval, IsReadable, frame_at}
+use Rattle.jpg_spec.proofs.McuRows.RowBands.{as_many}
 
 -- The places whose blocks are decoded, those of the current interval after them, and that they are the scan's first
 -- ones.
@@ -39,15 +40,9 @@ pub record TellsAt (limits : Limits) (p : ScanPlace) (told : Blocks) : Type 0 wh
   pub tells : TellsBlocks (scan_at limits p) p.done p.coded (joined front ++ part) told
   pub same : tells.part ≡ part
 
-spelled_size : (s : Scan) (before after : Blocks) (whole : List (List Place)) (done : List (List ℕ)) → SpellsIntervals s before after whole done → length whole ≡ length done
-spelled_size s before after [] [] k = refl
-spelled_size s before after [] (c ∷ done) k = absurd k
-spelled_size s before after (p ∷ whole) [] k = absurd k
-spelled_size s before after (p ∷ whole) (c ∷ done) k = let z = spelled_size s before after whole done k.1 in omega (arith, z)
-
 part_same : (s : Scan) (done : List (List ℕ)) (coded : List ℕ) (front left : List (List Place)) (part : List Place) (told : Blocks) → (t : TellsBlocks s done coded (joined front ++ part) told) → chunks s.interval s.places ≡ front ++ left → length front ≡ length done → t.part ≡ part
 part_same s done coded front left part told t chunked size =
-    let n = spelled_size s no_blocks told t.whole done t.spelled in
+    let n = as_many s no_blocks told t.whole done t.spelled in
     let e = append_apart t.whole front ((t.part ++ t.rest) ∷ t.later) left (n ∙ sym size) (sym t.intervals ∙ chunked) in
     sym (append_cancel_left (joined front) part t.part (t.all ∙ ap (λ w. joined w ++ t.part) e.0))
 
@@ -91,7 +86,7 @@ unfolding units_read
 units_at limits p i m bits more now leads all readable is so_far o cut =
     let s = scan_at limits p in
     let t : TellsBlocks s p.done p.coded (joined so_far.front ++ o.done) (map_of now) = units_tell limits p (map_of now) (units_read limits p i m bits more now leads all readable is so_far o cut) in
-    let size = spelled_size s p.blocks (map_of i.before) so_far.front p.done so_far.spelled in
+    let size = as_many s p.blocks (map_of i.before) so_far.front p.done so_far.spelled in
     record {
       at = record {
         front = so_far.front;
@@ -117,7 +112,7 @@ pub whole_at : (limits : Limits) (bytes tail : List ℕ) (p : ScanPlace) (now : 
 whole_at limits bytes tail p now at all so_far =
     let s = scan_at limits p in
     let d = due_front s p.blocks (chunks s.interval s.places) p.done (p.places ∷ p.later) at.due in
-    let size = spelled_size s p.blocks now so_far.front (p.done ++ p.coded ∷ []) so_far.spelled in
+    let size = as_many s p.blocks now so_far.front (p.done ++ p.coded ∷ []) so_far.spelled in
     let long = length-append p.done (p.coded ∷ []) in
     let more : length (d.0 ++ p.places ∷ []) ≡ length so_far.front = length-append d.0 (p.places ∷ []) ∙ (let z = d.2 in omega (arith, size, long, z)) in
     let e : (so_far.front ≡ d.0 ++ p.places ∷ []) × (p.later ≡ p.later) = append_apart so_far.front (d.0 ++ p.places ∷ []) p.later p.later (sym more) (sym so_far.cut ∙ d.1 ∙ sym (append_assoc d.0 (p.places ∷ []) p.later)) in

@@ -1,5 +1,5 @@
 -- After a scan of all components of a sequential frame each scan header has a fault.
-use Rattle.std.proofs.Common.{◌≡◌, ℕ, ◌<◌, ◌≤◌, Bool, true, false, not, ◌&&◌, List, [], ◌∷◌, length, sym, ap, ◌∙◌, subst, arith, Option, Some, None, Ok}
+use Rattle.std.proofs.Common.{◌≡◌, ℕ, ◌<◌, ◌≤◌, true, false, not, ◌&&◌, List, ◌∷◌, length, sym, ap, ◌∙◌, subst, arith, Option, Some, None, Ok}
 use Rattle.std.specs.Prelude.{◌||◌, unwrap_or}
 use Rattle.std.proofs.lemmas.List.{length-map}
 use Rattle.jpg_spec.specs.Lists.{any_of}
@@ -16,7 +16,6 @@ use Rattle.jpg_spec.proofs.Headers.AcceptedHeads.{accepted}
 use Rattle.jpg_spec.proofs.Basics.Common.{clash}
 use Rattle.jpg_spec.proofs.Bits.FirstPasses.{head_at}
 use Rattle.jpg_spec.proofs.Headers.FrameFound.{framed}
-use Rattle.jpg_spec.proofs.Basics.Each.{Each}
 use Rattle.jpg_spec.proofs.McuRows.RowCounts.{head_below, head_names}
 use Rattle.jpg_scans.specs.declared.progress.Progress.{Progress}
 use Rattle.jpg_file.specs.Read.ScanHistory.{HasBegunAll, RepresentsHeads}
@@ -25,6 +24,7 @@ use Rattle.jpg_file.specs.Read.SegmentState.{segments_view}
 use Rattle.jpg_file.specs.Read.JudgedHeader.{JudgesHead}
 use Rattle.jpg_file.specs.declared.read.file.FileWork.{FileWork}
 use Rattle.jpg_file.proofs.Files.FileSteps.{frame_held}
+use Rattle.jpg_spec.proofs.McuRows.RowsLater.{any_named}
 
 part_count : (head : ScanHead) → length (head_components head) ≡ length head.parts
 part_count head = length-map head.parts (λ (p : ScanPart). p.component)
@@ -40,10 +40,6 @@ all_begun (Some p) f head heads s k all sequential = λ g others t. (
       sym (t.begun i few) ∙ s.begun i few ∙ ap (λ b. b || has_begun heads i) (head_names f head i k all less)),
 )
 
-any_begun : (test : ℕ → Bool) (n : ℕ) (xs : List ℕ) → Each (λ x. x < n) xs → 1 ≤ length xs → ((x : ℕ) → x < n → test x ≡ true) → any_of test xs ≡ true
-any_begun test n [] low some all = absurd (omega (arith, some))
-any_begun test n (x ∷ xs) low some all = ap (λ b. b || any_of test xs) (all x low.0)
-
 -- no header is accepted
 pub none_accepted : (limits : Limits) (bytes : List ℕ) (w : FileWork) (f : Frame) (contents : List ℕ) (head : ScanHead) → HasCompleteHeader limits bytes w → HasBegunAll w.begun.progress → w.reading.items.held.frame ≡ Some f
     → JudgesHead contents f (segments_view w.reading.items.held) w.begun (Ok head) → ⊥
@@ -58,7 +54,7 @@ none_accepted limits bytes w f contents head h begun is judges =
     let all = begun g heads ((h.beside).begun).scans in
     let some : 1 ≤ length (head_components at.head) = omega (arith, k.some, part_count at.head) in
     let again : is_repeated g heads at.head ≡ true =
-    ap (λ b. not b && any_of (has_begun heads) (head_components at.head)) all.0 ∙ any_begun (has_begun heads) (length g.components) (head_components at.head) (head_below g at.head k) some all.1 in
+    ap (λ b. not b && any_of (has_begun heads) (head_components at.head)) all.0 ∙ any_named (has_begun heads) (length g.components) (head_components at.head) (head_below g at.head k) some all.1 in
     clash (is_repeated g heads at.head) again (at.is_admitted).repeated
 
 -- and there is a frame

@@ -1,11 +1,10 @@
 -- The effect of a byte on a file that is being read.
 use Rattle.std.proofs.Common.{take, ◌<◌, ◌+◌, ◌≡◌, ℕ, ◌≤◌, Bool, true, false, ◌==◌, List, [], ◌∷◌, ◌++◌, length, refl, sym, ap, ◌∙◌, subst, arith, Option, Some, None, Ok, Err, inl, inr}
-use Rattle.std.proofs.lemmas.Bool.Decides.{nat_tests}
 use Rattle.std.proofs.lemmas.List.{length-append, length-take-le}
 use Rattle.std.specs.Prelude.{◌||◌, nat_lt, unwrap_or, slice_index, is_some, is_err, Result}
 use Rattle.jpg_spec.specs.Geometry.{Frame}
 use Rattle.jpg_spec.specs.Scan.{Blocks}
-use Rattle.jpg_spec.specs.Markers.{Pass, Segment, is_frame_code, has_frame, has_scan, code_fault, code_fault_if}
+use Rattle.jpg_spec.specs.Markers.{Pass, Segment, is_frame_code, has_frame, has_scan, code_fault}
 use Rattle.jpg_spec.specs.Header.{header_rule}
 use Rattle.jpg_spec.specs.InForce.{frame_after, frame_of, heads_of, no_frame}
 use Rattle.jpg_spec.specs.History.{has_begun, is_complete}
@@ -42,6 +41,7 @@ use Rattle.jpg_file.specs.declared.read.file.FileWork.{FileWork}
 use Rattle.jpg_file.proofs.Headers.ScanHistories.{begun_goes_on}
 use Rattle.jpg_file.proofs.Headers.FirstHeaders.{between_header, has_longer, has_more, no_head, noted}
 use Rattle.jpg_spec.proofs.Headers.FrameFound.{framed_end}
+use Rattle.jpg_spec.proofs.Headers.FirstScan.{not_none}
 
 -- WHAT IS KEPT WITH THE ITEMS is extended by one more
 
@@ -153,9 +153,6 @@ pub record FrameFor (limits : Limits) (segments : List Segment) (held : Option F
   pub is : frame_of limits segments ≡ frame
   pub some : 1 ≤ length frame.components
 
-not_zero : (n : ℕ) → (n == 0) ≡ false → 1 ≤ n
-not_zero n e = grind (arith, nat_tests)
-
 pub frame_for : (limits : Limits) (segments : List Segment) (held : Option Frame) → held ≡ frame_after limits segments → Pass (header_rule limits) segments → has_frame segments ≡ true → FrameFor limits segments held
 frame_for limits segments held same pass found =
     let f = frame_found limits segments pass found in
@@ -163,7 +160,7 @@ frame_for limits segments held same pass found =
       frame = f.0;
       has = same ∙ f.1;
       is = ap (λ (o : Option Frame). unwrap_or o no_frame) f.1;
-      some = not_zero (length (f.0).components) (neither (length (f.0).components == 0) (nat_lt 4 (length (f.0).components)) (f.2).count).0;
+      some = not_none (length (f.0).components) (neither (length (f.0).components == 0) (nat_lt 4 (length (f.0).components)) (f.2).count).0;
     }
 
 pub frame_held : (limits : Limits) (items : List Item) (blocks : Blocks) (held : Option Frame) → Leads limits items blocks → held ≡ frame_after limits (segments_of items) → has_frame (segments_of items) ≡ true → FrameFor limits (segments_of items) held

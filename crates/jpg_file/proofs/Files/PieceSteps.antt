@@ -1,6 +1,6 @@
 -- A file that is being read, piece by piece.
 use Rattle.std.proofs.Common.{◌≡◌, ℕ, zero, suc, replicate, ◌+◌, ◌<◌, ◌≤◌, true, List, [], ◌∷◌, ◌++◌, length, take, drop, get_or, refl, Some, None, sym, ap, ◌∙◌, subst, arith, inl, inr}
-use Rattle.std.proofs.lemmas.List.{take-take, append-nil, get_or-take, length-take-le, append_assoc, length-append, length-replicate, take_all, take_more, take-append-drop, take-append-le}
+use Rattle.std.proofs.lemmas.List.{take-take, append-nil, get_or-take, length-take-le, append_assoc, length-append, length-replicate, take_more}
 use Rattle.std.proofs.Math.Seq.{take-add}
 use Rattle.std.specs.Prelude.{Option, is_some}
 use Rattle.jpg_spec.specs.Items.{Item, segments_of}
@@ -28,6 +28,7 @@ use Rattle.jpg_file.proofs.Files.Ending.{file_ends}
 use Rattle.jpg_file.proofs.Files.FileSteps.{after_inside, asked, inside_of, head_is}
 use Rattle.jpg_file.proofs.Files.ItemBytes.{between_stands}
 use Rattle.jpg_file.proofs.Scans.ScanBytes.{data_stands, ff_bytes}
+use Rattle.jpg_spec.proofs.Basics.Common.{joined, whole_front}
 
 -- WHAT A STATE ENCODES
 
@@ -49,14 +50,8 @@ within limits bytes w (inr s) = s.within
 
 -- A PIECE, and a prefix of it
 
-pub joined : (bytes piece : List ℕ) (i : ℕ) → bytes ++ piece ≡ (bytes ++ take i piece) ++ drop i piece
-joined bytes piece i = ap (λ l. bytes ++ l) (sym (take-append-drop i piece)) ∙ sym (append_assoc bytes (take i piece) (drop i piece))
-
 pub one_more : (bytes piece : List ℕ) (i : ℕ) → i < length piece → bytes ++ take (i + 1) piece ≡ (bytes ++ take i piece) ++ get_or piece i 0 ∷ []
 one_more bytes piece i h = ap (λ l. bytes ++ l) (take_more piece i 0 h) ∙ sym (append_assoc bytes (take i piece) (get_or piece i 0 ∷ []))
-
-pub whole_front : (front rest : List ℕ) → take (length front) (front ++ rest) ≡ front
-whole_front front rest = take-append-le (length front) front rest (omega arith) ∙ take_all (length front) front (omega arith)
 
 -- THE ANSWERS
 

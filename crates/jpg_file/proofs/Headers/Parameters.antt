@@ -1,22 +1,15 @@
 -- The parameters of a scan header that is accepted (T.81, B.2.3, G.1.1.1).
-use Rattle.std.proofs.Common.{◌≡◌, ℕ, zero, suc, ◌+◌, ◌*◌, true, not, ◌==◌, ◌&&◌, List, [], ◌∷◌, length, take, drop, refl, sym, ap, ◌∙◌, subst, arith, Ok}
+use Rattle.std.proofs.Common.{◌≡◌, ℕ, ◌+◌, ◌*◌, true, not, ◌==◌, ◌&&◌, List, [], ◌∷◌, length, take, drop, sym, ap, ◌∙◌, subst, arith, Ok}
 use Rattle.std.specs.Prelude.{◌||◌, nat_lt}
 use Rattle.std.proofs.lemmas.List.{length-take}
 use Rattle.jpg_spec.specs.Lists.{is_distinct}
 use Rattle.jpg_spec.specs.Geometry.{Frame, factor_sum, is_progressive}
 use Rattle.jpg_spec.specs.Segments.{ScanHead, head_components}
-use Rattle.jpg_spec.specs.ScanContents.{are_among, are_parameters, checked_head, parsed_scan_header, parsed_ids, parsed_parts, scan_header}
+use Rattle.jpg_spec.specs.ScanContents.{are_among, are_parameters, checked_head, parsed_scan_header, parsed_ids, scan_header}
 use Rattle.jpg_spec.specs.declared.fault.Fault.TheVariants.{BadLength, McuTooLarge, ScanComponent, ScanParameters}
 use Rattle.jpg_spec.proofs.Basics.Common.{refused, same_of, same_told}
 use Rattle.jpg_spec.proofs.Segments.TablesInForce.{affirmed}
-
--- two bytes encode a part
-parts_count : (f : Frame) (count : ℕ) (bytes : List ℕ) → length bytes ≡ 2 * count → length (parsed_parts f bytes) ≡ count
-parts_count f zero [] even = refl
-parts_count f (suc count) [] even = absurd (omega (arith, even))
-parts_count f count (id ∷ []) even = absurd (omega (arith, even))
-parts_count f zero (id ∷ slots ∷ bytes) even = absurd (omega (arith, even))
-parts_count f (suc count) (id ∷ slots ∷ bytes) even = ap suc (parts_count f count bytes (omega (arith, even)))
+use Rattle.jpg_spec.proofs.Headers.AcceptedHeads.{parts_length}
 
 checked_parameters : (f : Frame) (count : ℕ) (ids : List ℕ) (made head : ScanHead) → checked_head f count ids made ≡ Ok head → is_progressive f.process ≡ true → (are_parameters f count made ≡ true) × (made ≡ head)
 unfolding checked_head
@@ -36,5 +29,5 @@ head_parameters f (count ∷ bytes) head told progressive =
     let e = refused BadLength (not (length bytes == 2 * count + 3)) (checked_head f count (parsed_ids (take (2 * count) bytes)) made) head told in
     let long : length bytes ≡ 2 * count + 3 = same_of (length bytes) (2 * count + 3) (affirmed (length bytes == 2 * count + 3) e.0) in
     let k = checked_parameters f count (parsed_ids (take (2 * count) bytes)) made head e.1 progressive in
-    let many = parts_count f count (take (2 * count) bytes) (omega (arith, long, length-take (2 * count) bytes)) in
+    let many = parts_length f count (take (2 * count) bytes) (omega (arith, long, length-take (2 * count) bytes)) in
     subst (λ (h : ScanHead). are_parameters f (length h.parts) h ≡ true) k.1 (ap (λ n. are_parameters f n made) many ∙ k.0)

@@ -16,7 +16,7 @@ use Rattle.jpg_coefs.specs.declared.machine.Taken.TheVariants as taken
 use Rattle.jpg_coefs.proofs.Chains.{chain_then, chain_stands, some_taken}
 use Rattle.jpg_file.specs.Read.Data.{AnswersIn, GivesBits, GivesRun, waits_of}
 use Rattle.jpg_file.proofs.Scans.Chains.{chain_all, no_units}
-use Rattle.jpg_seq.proofs.Sources.{bytes_long}
+use Rattle.jpg_spec_write.proofs.ProgressiveLength.{bytes_long}
 
 -- A CHAIN of bits, split in two
 

@@ -8,12 +8,11 @@ use Rattle.std.proofs.Math.Path.{fun_ext}
 use Rattle.std.proofs.Math.Seq.{drop-cons}
 use Rattle.std.proofs.lemmas.List.{append-nil, length-set}
 use Rattle.std.proofs.lemmas.List.Elements.{All-head, All-tail}
-use Rattle.jpg_spec.specs.Lists.{are_equal}
 use Rattle.jpg_spec.specs.Segments.{HuffmanTable}
 use Rattle.jpg_spec.specs.Scan.{TablesInForce}
 use Rattle.jpg_spec_write.specs.FileText.{holds_table, segment_text, tables_given, tables_text, with_table}
 use Rattle.jpg_spec.proofs.Basics.Common.{both, eq_swap, not_zero, same_of}
-use Rattle.jpg_spec_write.proofs.WrittenState.{equal_lists}
+use Rattle.jpg_spec_write.proofs.WrittenState.{holds_is}
 use Rattle.jpg_huff.specs.declared.table.Table.{Table}
 use Rattle.jpg_huff.specs.declared.set.TableSet.{TableSet}
 use Rattle.jpg_huff.specs.Sets.{dc_tables, ac_tables, in_slot, no_tables}
@@ -82,13 +81,6 @@ pub four_ac : (old new : TableSet) (slot : ℕ) (t : Table) → HasFour old → 
 four_ac old new slot t h a d = record { dc = ap length d ∙ h.dc; ac = ap length a ∙ length-set (ac_tables old) slot (Some t) ∙ h.ac }
 
 -- ONE IS KEPT
-
-holds_is : (o : Option HuffmanTable) (table : HuffmanTable) → holds_table o table ≡ true → o ≡ Some table
-holds_is None table e = cc
-holds_is (Some old) table e =
-    let k = both (are_equal old.counts table.counts) (are_equal old.symbols table.symbols) e in
-    ap (λ (c : List ℕ). (let r : Option HuffmanTable = Some (record { counts = c; symbols = old.symbols }) in r)) (equal_lists old.counts table.counts k.0)
-    ∙ ap (λ (x : List ℕ). (let r : Option HuffmanTable = Some (record { counts = table.counts; symbols = x }) in r)) (equal_lists old.symbols table.symbols k.1)
 
 held : (given : TablesInForce) (class slot : ℕ) (table : HuffmanTable) → given class slot ≡ Some table → given ≡ with_table given class slot table
 held given class slot table e = fun_ext (λ c. fun_ext (λ n. by c n (c == class && n == slot) refl))

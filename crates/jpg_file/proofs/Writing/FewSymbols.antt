@@ -1,10 +1,8 @@
 -- How often a scan writes a symbol fits in 32 bits.
-use Rattle.std.proofs.Common.{◌≡◌, ℕ, ◌+◌, ◌*◌, ◌<◌, ◌≤◌, Bool, true, false, cond, not, List, [], ◌∷◌, length, refl, ap, suc, arith, ⊎_elim, ℤ, pos, ◌==◌, ◌&&◌}
+use Rattle.std.proofs.Common.{◌≡◌, ℕ, ◌+◌, ◌*◌, ◌<◌, ◌≤◌, Bool, true, false, cond, not, List, [], ◌∷◌, length, refl, ap, arith, ⊎_elim, ℤ, pos, ◌==◌, ◌&&◌}
 use Rattle.std.specs.Prelude.{map, filter, count_by, slice_index, nat_lt}
-use Rattle.std.specs.List.{All}
 use Rattle.std.proofs.lemmas.Bool.{cases_lt}
 use Rattle.std.proofs.lemmas.List.{length-append, length-map, length-replicate, get_or-map, get_or_past}
-use Rattle.std.proofs.lemmas.List.Elements.{All-head, All-tail}
 use Rattle.std.proofs.lemmas.List.Sums.{length-filter, count_by-le-length}
 use Rattle.jpg_spec.specs.Lists.{below, chunks, joined, is_distinct, is_among}
 use Rattle.jpg_spec.specs.Geometry.{Frame, is_progressive, IsReal, units, mcu_units, place, component_at, blocks_across, blocks_down}
@@ -25,6 +23,8 @@ use Rattle.jpg_spec_write.proofs.WrittenSequential.{among_below}
 use Rattle.jpg_base.specs.Cursor.{AreIn}
 use Rattle.jpg_file.proofs.Scans.UnitsWithin.{units_within}
 use Rattle.jpg_file.proofs.Writing.FewElements.{IsBlockDue, interval_few}
+use Rattle.jpg_spec_write.proofs.FileLength.{length_due}
+use Rattle.jpg_spec_write.proofs.SequentialCodes.{all_each}
 
 -- THE BLOCKS of a scan have 64 values
 
@@ -38,14 +38,6 @@ due_blocks blocks last (p ∷ places) h = (by p.real h.0, due_blocks blocks (las
     by : (b : Bool) → (b ≡ true → length (block_at blocks p) ≡ 64) → length (cond b (block_at blocks p) (last p.component ∷ zeros 63)) ≤ 64
     by true k = omega (arith, k refl)
     by false k = omega (arith, length-replicate 63 (pos 0))
-
-length_due : (blocks : Blocks) (last : ℕ → ℤ) (places : List Place) → length (units_due blocks last places) ≡ length places
-length_due blocks last [] = refl
-length_due blocks last (p ∷ places) = ap suc (length_due blocks (last_dc last p.component (block_due blocks last p)) places)
-
-all_each : {A : Type 0} (P : A → Type 0) (xs : List A) → All P xs → Each P xs
-all_each P [] h = tt
-all_each P (x ∷ xs) h = (All-head P x xs h, all_each P xs (All-tail P x xs h))
 
 real_blocks : (f : Frame) (parts : List ℕ) (blocks : Blocks) → AreIn f parts → HasBlocksIn f blocks → Each (HasRealBlock blocks) (units f parts)
 real_blocks f parts blocks known sizes = each_units (HasRealBlock blocks) f parts at

@@ -1,8 +1,7 @@
 -- Frames with the same grids have the same units.
-use Rattle.std.proofs.Common.{◌≡◌, ℕ, ◌+◌, ◌*◌, List, [], ◌∷◌, length, get_or, refl, sym, ap, ◌∙◌, ◌&&◌}
+use Rattle.std.proofs.Common.{◌≡◌, ℕ, ◌+◌, ◌*◌, List, [], ◌∷◌, get_or, refl, sym, ap, ◌∙◌, ◌&&◌}
 use Rattle.std.specs.Prelude.{map, flat_map, nat_lt, sum_by}
 use Rattle.std.proofs.Math.Path.{fun_ext}
-use Rattle.std.proofs.lemmas.List.{length-map}
 use Rattle.jpg_spec.specs.Geometry.{Frame, component_at, div_up, greatest, h_max, v_max, mcu_units, scan_mcus_across, units}
 use Rattle.jpg_spec.specs.Lists.{below}
 use Rattle.jpg_spec.specs.Grids.{Grids, frame_grids}
@@ -51,9 +50,6 @@ same_by F f g e = by_grids F f ∙ ap (λ G. by_grid F G) e ∙ sym (by_grids F 
 
 pub same_units : (f g : Frame) (parts : List ℕ) → frame_grids f ≡ frame_grids g → units f parts ≡ units g parts
 same_units f g parts e = units_are f parts ∙ same_by (λ s hs vs. units_by s hs vs parts) f g e ∙ sym (units_are g parts)
-
-pub same_count : (f g : Frame) → frame_grids f ≡ frame_grids g → length f.components ≡ length g.components
-same_count f g e = sym (length-map f.components (λ c. c.h)) ∙ ap (λ (G : Grids). length G.across) e ∙ length-map g.components (λ c. c.h)
 
 -- THE NUMBER OF MCUs of a row, and of units of an MCU
 

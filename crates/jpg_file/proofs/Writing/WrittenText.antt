@@ -30,9 +30,10 @@ use Rattle.jpg_file.specs.Write.Restarts.{interval_text, restart_of}
 use Rattle.jpg_file.specs.Write.WriteScan.{CanWriteScan, CanWriteScans, head_bytes, head_for, scan_bytes, scan_head, scans_bytes, scans_due, written_after}
 use Rattle.jpg_file.specs.Write.WriteFile.{CanWriteFile, file_bytes, file_meaning}
 use Rattle.jpg_file.specs.declared.write.Plan.{Plan}
-use Rattle.jpg_file.proofs.Writing.SameUnits.{same_count, same_mcus}
+use Rattle.jpg_file.proofs.Writing.SameUnits.{same_mcus}
 use Rattle.jpg_file.proofs.Writing.ScanData.{elements_same}
 use Rattle.jpg_file.proofs.Writing.ScanHeads.{head_count, head_names}
+use Rattle.jpg_spec_write.proofs.ScriptGrids.{same_count}
 
 -- THE FRAME of the meaning
 

@@ -32,7 +32,7 @@ parts_some f [] long = absurd (omega (arith, long))
 parts_some f (id ∷ []) long = absurd (omega (arith, long))
 parts_some f (id ∷ slots ∷ bytes) long = omega arith
 
-not_none : (count : ℕ) → (count == 0) ≡ false → 1 ≤ count
+pub not_none : (count : ℕ) → (count == 0) ≡ false → 1 ≤ count
 not_none zero e = cc
 not_none (suc count) e = omega arith
 

@@ -100,7 +100,7 @@ same_frame f g s slots is =
       blocks = subst (λ n. n ≤ 8388608) (same_padded f g s) is.blocks;
     }
 
-some_not_zero : (n : ℕ) → 1 ≤ n → (n == 0) ≡ false
+pub some_not_zero : (n : ℕ) → 1 ≤ n → (n == 0) ≡ false
 some_not_zero n h = grind (arith, nat_tests, h)
 
 no_bad_factor : (cs : List Component) → All HasFactors cs → any_of has_bad_factor cs ≡ false

@@ -3,10 +3,10 @@ use Rattle.std.specs.Int.{w16, w32}
 use Rattle.std.proofs.lemmas.Int.{to_z-of_z, fits_signed_from_abs}
 use Rattle.std.proofs.lemmas.List.{length-set, ext_get_or}
 use Rattle.jpg_spec_image.specs.Dct.{number_at}
-use Rattle.jpg_dct.proofs.Bounds.{all_at}
 use Rattle.jpg_dct.proofs.Eights.{fits16}
 use Rattle.jpg_dct.proofs.Natural.{number_set}
 use Rattle.jpg_dct.proofs.inverse.shortened.Goals as goal
+use Rattle.jpg_spec_image.proofs.CodedBlocks.{all_at}
 
 pub loop-n-preserved : goal.loop-n-preserved
 loop-n-preserved c =

@@ -10,8 +10,9 @@ use Rattle.jpg_spec_write.specs.Sending.{shifted}
 use Rattle.jpg_spec.proofs.Basics.Common.{lt_yes, lt_no}
 use Rattle.jpg_huff.proofs.Together.{puts_same}
 use Rattle.jpg_prog_write.specs.Written.{codes_in}
-use Rattle.jpg_prog_write.proofs.DcUnits.{apart_16, bit_unit, code_unit}
+use Rattle.jpg_prog_write.proofs.DcUnits.{bit_unit, code_unit}
 use Rattle.jpg_prog_write.proofs.dc.put_unit.Goals as goal
+use Rattle.jpg_spec.proofs.Basics.Small.{apart_16}
 
 pub put_difference-requires-clause-short : goal.put_difference-requires-clause-short
 put_difference-requires-clause-short g c =

@@ -9,8 +9,8 @@ use Rattle.jpg_spec.specs.Codes.{code_of}
 use Rattle.jpg_huff.specs.Tables.{symbol_codes}
 use Rattle.jpg_seq.specs.BlockBits.{band_bits, block_bits}
 use Rattle.jpg_huff.proofs.Together.{puts_same, puts_then, puts_fault}
-use Rattle.jpg_seq.proofs.Blocks.{apart_16}
 use Rattle.jpg_seq.proofs.write.put_block.Goals as goal
+use Rattle.jpg_spec.proofs.Basics.Small.{apart_16}
 
 pub put_difference-requires-clause-short : goal.put_difference-requires-clause-short
 put_difference-requires-clause-short g c =

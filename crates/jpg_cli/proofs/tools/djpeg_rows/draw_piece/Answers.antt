@@ -3,8 +3,9 @@ use Rattle.jpg_spec_words.specs.declared.answers.Why.{Why}
 use Rattle.jpg_cli.specs.Tools.Showing.{Shown, showing_view}
 use Rattle.jpg_cli.proofs.Comments.CommentsCopied.{works_then}
 use Rattle.jpg_cli.proofs.ByRow.RowsDesk.{writes_work}
-use Rattle.jpg_cli.proofs.ByRow.RowsPushed.{at_row, begun_row, draws_still, less_rows, rest_of_piece, row_here, row_stopped, row_then, row_waits}
+use Rattle.jpg_cli.proofs.ByRow.RowsPushed.{at_row, begun_row, draws_still, less_rows, row_here, row_stopped, row_then, row_waits}
 use Rattle.jpg_cli.proofs.tools.djpeg_rows.draw_piece.Goals as goal
+use Rattle.jpg_preview.proofs.PieceSteps.{rest_is}
 
 pub row_coefs-requires : goal.row_coefs-requires
 row_coefs-requires g c = begun_row ((row_waits c.requires.draws c.loop-used.invariant.shows c.in-Some.ensures).showing).read
@@ -50,7 +51,7 @@ loop-used-preserved g c =
       shows = λ run m k.
           (let a = so.invariant.shows run m k in
           let b = row_here c.in-Some.ensures a.1 in
-          (a.0 + 1, row_then (rest_of_piece so.rest.now c.in-Some.used) c.in_default-push.is c.row_coefs.ensures next fed.answered fed.limits b));
+          (a.0 + 1, row_then (rest_is so.rest.now c.in-Some.used) c.in_default-push.is c.row_coefs.ensures next fed.answered fed.limits b));
     }
 
 pub end_piece-requires-clause-draws : goal.end_piece-requires-clause-draws

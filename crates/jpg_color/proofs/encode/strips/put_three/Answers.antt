@@ -1,8 +1,9 @@
 use Rattle.std.proofs.Common.{arith}
 use Rattle.jpg_spec.specs.Geometry.{component_at}
 use Rattle.jpg_color.specs.EncodeBlocks.{AppendsRows, GrowsPlane, strip_image}
-use Rattle.jpg_color.proofs.StripRows.{by_planes, grows_none, on_ok}
+use Rattle.jpg_color.proofs.StripRows.{by_planes, grows_none}
 use Rattle.jpg_color.proofs.encode.strips.put_three.Goals as goal
+use Rattle.jpg_pnm_bmp.proofs.BmpParts.{on_ok}
 
 pub returns-in_err-put_part-clause-grows : goal.returns-in_err-put_part-clause-grows
 returns-in_err-put_part-clause-grows c = λ i there.

@@ -6,11 +6,12 @@ use Rattle.jpg_spec.specs.Lists.{index_of}
 use Rattle.jpg_spec.specs.Zigzag.{zigzag}
 use Rattle.jpg_spec.proofs.Basics.Rows.{by_items}
 use Rattle.jpg_spec_image.specs.Dct.{number_at, dequantised}
-use Rattle.jpg_dct.proofs.Bounds.{all_at}
 use Rattle.jpg_dct.proofs.Eights.{fits16}
 use Rattle.jpg_dct.proofs.Natural.{number_set}
-use Rattle.jpg_dct.proofs.Zigzag.{places, place_is, place_low, pair_fits}
+use Rattle.jpg_dct.proofs.Zigzag.{places, place_is, pair_fits}
 use Rattle.jpg_dct.proofs.inverse.multipliers.long_products.Goals as goal
+use Rattle.jpg_base.proofs.Exchanged.{place_low}
+use Rattle.jpg_spec_image.proofs.CodedBlocks.{all_at}
 
 pub offset_bounds-given-k : goal.offset_bounds-given-k
 offset_bounds-given-k c = record { fits = pair_fits _ (place_low c.loop-n.n (search rules)) }

@@ -4,9 +4,10 @@ use Rattle.std.proofs.lemmas.Int.{fits_signed_from_abs}
 use Rattle.jpg_spec_image.specs.Dct.{joined_sums, line_sums, number_at, column}
 use Rattle.jpg_dct.proofs.Several.{eight, eight_of, on, same8}
 use Rattle.jpg_dct.proofs.Wrapped.{as_seen}
-use Rattle.jpg_dct.proofs.Bounds.{all_at, line_is_small}
+use Rattle.jpg_dct.proofs.Bounds.{line_is_small}
 use Rattle.jpg_dct.proofs.Samples.{one_rounded, one_bound}
 use Rattle.jpg_dct.proofs.inverse.wide.column.Goals as goal
+use Rattle.jpg_spec_image.proofs.CodedBlocks.{all_at}
 
 pub returns : goal.returns
 unfolding joined_sums column

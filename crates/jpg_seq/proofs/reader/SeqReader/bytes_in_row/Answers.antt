@@ -5,8 +5,9 @@ use Rattle.jpg_seq.specs.Source.{bits_in}
 use Rattle.jpg_seq.specs.Reader.{with_work}
 use Rattle.jpg_seq.specs.RowTaken.{TakesInRow}
 use Rattle.jpg_seq.specs.Work.{Work}
-use Rattle.jpg_seq.proofs.Sources.{bytes_long, source_long, new_source, taken_count}
+use Rattle.jpg_seq.proofs.Sources.{source_long, new_source, taken_count}
 use Rattle.jpg_seq.proofs.reader.SeqReader.bytes_in_row.Goals as goal
+use Rattle.jpg_spec_write.proofs.ProgressiveLength.{bytes_long}
 
 pub len-requires : goal.len-requires
 len-requires c =
