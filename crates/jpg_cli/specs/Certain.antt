@@ -16,9 +16,8 @@ use Rattle.jpg_spec_words.specs.TransformWords.{ScansSource, own_sequential, own
 use Rattle.jpg_spec_image.specs.Pixels.{out_fault}
 use Rattle.jpg_cli.specs.Tools.CommentInserted.{Task}
 use Rattle.jpg_cli.specs.Desk.ReadFront.{FrontMeansAs, IsFrontRefused}
-use Rattle.jpg_cli.specs.Desk.ReadPicture.{IsRefusedFor}
+use Rattle.jpg_cli.specs.Desk.ReadPicture.{IsRefusedFor, Coefficients, Image}
 use Rattle.jpg_cli.specs.Tools.Showing.{Showing}
-use Rattle.jpg_cli.specs.declared.desk.picture.Wanted.TheVariants.{Coefficients, Image}
 use Rattle.jpg_cli.specs.Commands.{name_of}
 use Rattle.jpg_spec_words.specs.CommentWords.{CommentSource, from_input, from_words, from_file}
 use Rattle.jpg_spec.specs.declared.fault.FaultAt.{FaultAt}

@@ -13,7 +13,6 @@ mod top;
 mod words;
 
 pub use desk::moved::{Wrote, write_moved};
-pub use desk::picture::Wanted;
 pub use ending::{Ending, incomplete_outputs_are_removed};
 pub use laws::{
     answers_are_due, encodings_are_due, faults_are_answered,

@@ -19,12 +19,11 @@ use Rattle.jpg_file.specs.Read.ReadRows.{AfterEndRow, HasReadAll, IsEarlyByRows,
 use Rattle.jpg_file.specs.declared.read.ends.End.TheVariants as ends
 use Rattle.jpg_cli.specs.Endings.{Added}
 use Rattle.jpg_cli.specs.Desk.Reading.{rest_of}
-use Rattle.jpg_cli.specs.Desk.ReadPicture.{IsOpenRead, IsRefusedRead}
+use Rattle.jpg_cli.specs.Desk.ReadPicture.{IsOpenRead, IsRefusedRead, Image}
 use Rattle.jpg_spec.specs.Meaning.{Meaning}
 use Rattle.jpg_cli.specs.Outcome.{WritesRows, all_bytes, bytes_before}
 use Rattle.jpg_cli.specs.Tools.Showing.{IsInTime, IsRowsText, IsShownByRows, IsShownUpTo, Showing, Shown, row_texts, showing_conversion}
 use Rattle.jpg_cli.specs.Tools.ShowingRows.{AfterShownPiece, AfterRowsEnd, GoesLater, GoesOnRows, HasCreated, HasShown, HasShownEarly, StopsWith, Work, at_work, Run, more_read}
-use Rattle.jpg_cli.specs.declared.desk.picture.Wanted.TheVariants.{Image}
 use Rattle.jpg_cli.specs.declared.tools.djpeg_rows.RowsStep.{RowsStep}
 use Rattle.jpg_cli.specs.declared.tools.djpeg_rows.RowsStep.TheVariants as step
 use Rattle.jpg_cli.proofs.Comments.CommentsCopied.{left_still, within_most}

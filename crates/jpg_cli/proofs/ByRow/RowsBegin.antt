@@ -8,10 +8,9 @@ use Rattle.jpg_spec_words.specs.declared.answers.Which.TheVariants as which
 use Rattle.jpg_file.specs.Read.ReadFile.{ReaderState}
 use Rattle.jpg_file.specs.declared.read.row_pieces.FedRow.{FedRow}
 use Rattle.jpg_cli.specs.Desk.Judging.{ReadsFrom}
-use Rattle.jpg_cli.specs.Desk.ReadPicture.{IsShortRead}
+use Rattle.jpg_cli.specs.Desk.ReadPicture.{IsShortRead, Image}
 use Rattle.jpg_cli.specs.Tools.Showing.{IsShownByRows, Showing, Shown}
 use Rattle.jpg_cli.specs.Tools.ShowingRows.{BeginsShownRows, HasOpened}
-use Rattle.jpg_cli.specs.declared.desk.picture.Wanted.TheVariants.{Image}
 use Rattle.jpg_cli.proofs.Outcomes.Endings.{asks_next}
 use Rattle.jpg_cli.proofs.Outcomes.Input.{file_read, noted}
 use Rattle.jpg_cli.proofs.Pieces.PictureTaken.{stopped_there}

@@ -27,10 +27,9 @@ use Rattle.jpg_color.specs.StripImage.{Drawing, EndsDrawing, IsDrawnTo, IsAllGiv
 use Rattle.jpg_color.specs.declared.decode.DecodeStop.{DecodeStop}
 use Rattle.jpg_color.proofs.Drawn.{all_same}
 use Rattle.jpg_color.proofs.DrawnLaws.{texts_join}
-use Rattle.jpg_cli.specs.Desk.ReadPicture.{IsWholeRead}
+use Rattle.jpg_cli.specs.Desk.ReadPicture.{IsWholeRead, Image}
 use Rattle.jpg_cli.specs.Tools.Showing.{Showing, Shown, shown_text}
 use Rattle.jpg_cli.specs.Tools.ShowingRows.{HasShownAll, Head, why_of, Run, Work}
-use Rattle.jpg_cli.specs.declared.desk.picture.Wanted.TheVariants.{Image}
 use Rattle.jpg_cli.proofs.Pieces.FirstRead.{not_shown}
 use Rattle.jpg_cli.proofs.Encoding.ImageStopped.{IsImageText, image_stopped, image_whole}
 use Rattle.jpg_cli.proofs.ByRow.RowsWhole.{begins_in, read_by_rows, so_far}

@@ -12,11 +12,10 @@ use Rattle.jpg_color.specs.DecodeRows.{AppendsLess, SendsImage}
 use Rattle.jpg_color.specs.declared.decode.DecodeStop.{DecodeStop}
 use Rattle.jpg_color.specs.declared.decode.DecodeStop.TheVariants as stop
 use Rattle.jpg_cli.specs.Endings.{Added}
-use Rattle.jpg_cli.specs.Desk.ReadPicture.{IsShortRead, IsWholeRead}
+use Rattle.jpg_cli.specs.Desk.ReadPicture.{IsShortRead, IsWholeRead, Image}
 use Rattle.jpg_cli.specs.Outcome.{WritesRowsInPart}
 use Rattle.jpg_cli.specs.Tools.Showing.{IsInTime, IsToldText, Showing, Shown, row_texts, showing_conversion, shown_text}
 use Rattle.jpg_cli.specs.Tools.ShowingRows.{HasCreated, why_of}
-use Rattle.jpg_cli.specs.declared.desk.picture.Wanted.TheVariants.{Image}
 use Rattle.jpg_cli.proofs.ByRow.RowsDesk.{created_added, created_more, created_read}
 
 -- a text of the decoded MCU rows, of which this was written and this is pending

@@ -11,10 +11,9 @@ use Rattle.jpg_color.specs.declared.decode.DecodeStop.TheVariants as stop
 use Rattle.jpg_cli.specs.Endings.{Added}
 use Rattle.jpg_cli.specs.Desk.Judging.{IsAllRead}
 use Rattle.jpg_cli.specs.Desk.Reading.{rest_of}
-use Rattle.jpg_cli.specs.Desk.ReadPicture.{IsReadPicture}
+use Rattle.jpg_cli.specs.Desk.ReadPicture.{IsReadPicture, Image}
 use Rattle.jpg_cli.specs.Tools.Showing.{IsInTime, ReadsShown, Showing, Shown, shown_text}
 use Rattle.jpg_cli.specs.Tools.ShowingRows.{HasCreated, why_of}
-use Rattle.jpg_cli.specs.declared.desk.picture.Wanted.TheVariants.{Image}
 use Rattle.jpg_cli.proofs.ByRow.RowsDesk.{created_added, created_more, created_read}
 use Rattle.jpg_cli.proofs.ByRow.RowsStopped.{rose_since}
 

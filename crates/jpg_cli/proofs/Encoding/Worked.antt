@@ -39,15 +39,13 @@ use Rattle.jpg_cli.specs.Certain.{IsTold}
 use Rattle.jpg_cli.specs.Desk.ImageWritten.{AfterEncoding}
 use Rattle.jpg_cli.specs.Desk.Judging.{ReadsFrom}
 use Rattle.jpg_cli.specs.Desk.Reading.{rest_of}
-use Rattle.jpg_cli.specs.Desk.ReadPicture.{IsReadPicture}
+use Rattle.jpg_cli.specs.Desk.ReadPicture.{IsReadPicture, Wanted, Coefficients, Image}
 use Rattle.jpg_cli.specs.Outcome.{Converted}
 use Rattle.jpg_cli.specs.Stays.{Untouched}
 use Rattle.jpg_cli.specs.Tools.FrontShown.{ShownAs, ShownBy}
 use Rattle.jpg_cli.specs.Tools.Showing.{Showing, Shown, showing_view}
 use Rattle.jpg_cli.specs.Tools.Turned.{Transformed, Turned, Turning}
 use Rattle.jpg_cli.specs.Tools.Worked.{DidWork, HasFile, HasOutput, HoldsInput, IsReport, IsShown, ReportsShown, ShowsFile, TurnsFile, WritesReport, work_choice, work_conversion, scans_by}
-use Rattle.jpg_cli.specs.declared.desk.picture.Wanted.{Wanted}
-use Rattle.jpg_cli.specs.declared.desk.picture.Wanted.TheVariants.{Coefficients, Image}
 use Rattle.jpg_cli.proofs.Comments.CommentInserted.{none_noted}
 use Rattle.jpg_cli.specs.declared.words.djpeg_request.ShowWords.{ShowWords}
 use Rattle.jpg_cli.proofs.Outcomes.Due.{one_file}

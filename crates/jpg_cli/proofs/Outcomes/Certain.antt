@@ -23,7 +23,6 @@ use Rattle.jpg_cli.specs.Commands.{name_of}
 use Rattle.jpg_cli.specs.Tools.FrontShown.{FrontShown, front_conversion}
 use Rattle.jpg_cli.specs.Tools.Showing.{Showing, Shown, showing_conversion}
 use Rattle.jpg_cli.specs.Tools.Turned.{Transformed, turning_conversion, turning_of}
-use Rattle.jpg_cli.specs.declared.desk.picture.Wanted.TheVariants.{Coefficients, Image}
 use Rattle.jpg_spec.specs.Meaning.{Meaning}
 use Rattle.jpg_spec_move.specs.Moved.{moved}
 use Rattle.jpg_spec_words.specs.TransformWords.{TransformAsked}
@@ -36,6 +35,7 @@ use Rattle.jpg_cli.proofs.Pieces.FrontJudged.{front_judged}
 use Rattle.jpg_cli.proofs.Outcomes.Judged.{picture_judged}
 use Rattle.jpg_cli.proofs.Outcomes.TakenOnce.{told_scans}
 use Rattle.jpg_cli.proofs.Comments.InsertedThen.{insert_due}
+use Rattle.jpg_cli.specs.Desk.ReadPicture.{Coefficients, Image}
 
 one_comment : (old : DeskState) (source : CommentSource) (comment other : List ℕ) → IsToldComment old source comment → IsComment old source other → other ≡ comment
 one_comment old from_input comment other told is = one_file old.files name.In comment other told is

@@ -18,10 +18,8 @@ use Rattle.jpg_spec_image.proofs.ShownAlike.{shown_alike}
 use Rattle.jpg_cli.specs.Desk.ImageFile.{HasFaultIn, HasImageIn}
 use Rattle.jpg_cli.specs.Desk.Judging.{IsAllRead, Judging}
 use Rattle.jpg_cli.specs.Desk.ReadImage.{has_image, image_judging, means_image}
-use Rattle.jpg_cli.specs.Desk.ReadPicture.{IsReadPicture, IsRefused, IsRefusedFor, IsUnwanted, picture_judging, unwanted_for}
+use Rattle.jpg_cli.specs.Desk.ReadPicture.{IsReadPicture, IsRefused, IsRefusedFor, IsUnwanted, picture_judging, unwanted_for, Wanted, Coefficients, Image}
 use Rattle.jpg_cli.specs.Desk.Reading.{rest_of}
-use Rattle.jpg_cli.specs.declared.desk.picture.Wanted.{Wanted}
-use Rattle.jpg_cli.specs.declared.desk.picture.Wanted.TheVariants.{Coefficients, Image}
 use Rattle.jpg_cli.proofs.Outcomes.RefusedOnce.{one_refusal, same_refusal}
 
 pub record IsJudged (V : Type 0) (j : Judging V) : Type 0 where

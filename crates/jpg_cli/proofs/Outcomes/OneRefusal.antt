@@ -9,8 +9,7 @@ use Rattle.jpg_spec.specs.Meaning.{Meaning}
 use Rattle.jpg_cli.specs.Commands.{name_of}
 use Rattle.jpg_cli.specs.Certain.{HasFile, HasSomeMeaning, IsNotRefused, IsTold}
 use Rattle.jpg_cli.specs.Laws.{MeanShown, WasRefused, WasRefusedShown}
-use Rattle.jpg_cli.specs.Desk.ReadPicture.{IsRefused, IsRefusedFor}
-use Rattle.jpg_cli.specs.declared.desk.picture.Wanted.TheVariants.{Coefficients, Image}
+use Rattle.jpg_cli.specs.Desk.ReadPicture.{IsRefused, IsRefusedFor, Coefficients, Image}
 use Rattle.jpg_cli.specs.Tools.Showing.{showing_conversion}
 use Rattle.jpg_spec_write.specs.ScansAsked.{Scans}
 use Rattle.jpg_spec_words.specs.TransformWords.{ScansSource, in_file, TransformAsked}

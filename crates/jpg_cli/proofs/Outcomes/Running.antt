@@ -10,8 +10,7 @@ use Rattle.jpg_spec_words.specs.TransformWords.{TransformAsked, choice_asked}
 use Rattle.jpg_spec_words.specs.declared.answers.Why.{Why}
 use Rattle.jpg_spec_words.specs.declared.answers.Why.TheVariants as why
 use Rattle.jpg_cli.specs.Endings.{GoesOnAfter}
-use Rattle.jpg_cli.specs.declared.desk.picture.Wanted.TheVariants.{Coefficients}
-use Rattle.jpg_cli.specs.Desk.ReadPicture.{IsReadPicture}
+use Rattle.jpg_cli.specs.Desk.ReadPicture.{IsReadPicture, Coefficients}
 use Rattle.jpg_cli.specs.Stays.{Untouched}
 use Rattle.jpg_cli.specs.Commands.{Command, IsCommand, name_of}
 use Rattle.jpg_cli.specs.Words.Files.{name_view}

@@ -29,9 +29,7 @@ use Rattle.jpg_file.specs.Read.File.{IsStop}
 use Rattle.jpg_file.specs.Read.ReadFile.{HasRead, IsDone, KeepsHeadAt, ReaderState}
 use Rattle.jpg_file.specs.declared.read.first_header.Head.{Head}
 use Rattle.jpg_file.proofs.Headers.FirstHeaders.{no_head}
-use Rattle.jpg_cli.specs.Desk.ReadPicture.{IsRefused, IsRefusedFor, IsUnwanted, fault_told, unwanted_for, unwanted_in}
-use Rattle.jpg_cli.specs.declared.desk.picture.Wanted.{Wanted}
-use Rattle.jpg_cli.specs.declared.desk.picture.Wanted.TheVariants.{Coefficients, Image}
+use Rattle.jpg_cli.specs.Desk.ReadPicture.{IsRefused, IsRefusedFor, IsUnwanted, fault_told, unwanted_for, unwanted_in, Wanted, Coefficients, Image}
 use Rattle.jpg_cli.proofs.Outcomes.RefusedOnce.{one_refusal}
 use Rattle.jpg_cli.proofs.Outcomes.Judged.{none_out}
 

@@ -32,10 +32,9 @@ use Rattle.jpg_file.specs.declared.read.rows.RowWork.{RowWork}
 use Rattle.jpg_file.specs.declared.read.strip_head.StripHead.{StripHead}
 use Rattle.jpg_spec.specs.Geometry.{Frame}
 use Rattle.jpg_spec.specs.Scan.{Blocks}
-use Rattle.jpg_cli.specs.Desk.ReadPicture.{AfterFileEnd, IsRefusedFor, IsRefusedRead, IsUnwanted, unwanted_in}
+use Rattle.jpg_cli.specs.Desk.ReadPicture.{AfterFileEnd, IsRefusedFor, IsRefusedRead, IsUnwanted, unwanted_in, Image}
 use Rattle.jpg_cli.specs.Tools.Showing.{IsShownByRows}
 use Rattle.jpg_cli.specs.Tools.ShowingRows.{AfterFirst, BeginsShownRows, HasFedPlainly, HoldsEarlyPlainly, HoldsPlainly, IsHeadIn, StaysFirst, step_of}
-use Rattle.jpg_cli.specs.declared.desk.picture.Wanted.TheVariants.{Image}
 use Rattle.jpg_cli.proofs.Pieces.PictureBytes.{early_end, has_fed, holds_file, new_place, refused_end, refused_there, short_piece, stop_within}
 use Rattle.jpg_cli.proofs.ByRow.RowHeads.{begins_still, begins_whole, shown_before}
 use Rattle.jpg_cli.proofs.Outcomes.Unwanted.{fault_after, stop_wanted, unwanted_head, unwanted_more, unwanted_within, wanted_head}

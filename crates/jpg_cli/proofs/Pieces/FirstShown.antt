@@ -19,13 +19,11 @@ use Rattle.jpg_file.specs.Read.RowsNone.{HasNoRows}
 use Rattle.jpg_file.specs.declared.read.picture.Picture.{Picture}
 use Rattle.jpg_cli.specs.Desk.Reading.{rest_of}
 use Rattle.jpg_cli.specs.Desk.Judging.{IsAllRead, ReadsFrom, TakesPieces}
-use Rattle.jpg_cli.specs.Desk.ReadPicture.{IsOpenRead, IsReadPicture, IsRefusedRead, IsShortRead, unwanted_for}
+use Rattle.jpg_cli.specs.Desk.ReadPicture.{IsOpenRead, IsReadPicture, IsRefusedRead, IsShortRead, unwanted_for, Wanted, Image}
 use Rattle.jpg_cli.specs.Outcome.{all_bytes, bytes_before}
 use Rattle.jpg_cli.specs.Tools.Showing.{AfterImage, IsPlain, Shown, Showing, shown_text}
 use Rattle.jpg_cli.specs.Tools.ShowingRows.{EndsPlainly, HoldsEarlyPlainly, HoldsPlainly}
 use Rattle.jpg_cli.specs.Stays.{Keeps, OnlyReads}
-use Rattle.jpg_cli.specs.declared.desk.picture.Wanted.{Wanted}
-use Rattle.jpg_cli.specs.declared.desk.picture.Wanted.TheVariants.{Image}
 use Rattle.jpg_cli.proofs.Comments.CommentsCopied.{works_then}
 use Rattle.jpg_cli.proofs.ByRow.ImageShown.{shown_written, text_shown}
 use Rattle.jpg_cli.proofs.Outcomes.Input.{file_read, noted}

@@ -14,11 +14,10 @@ use Rattle.jpg_file.specs.Read.ReadFile.{ReaderState}
 use Rattle.jpg_file.specs.Read.ReadRows.{HasReadPlainly}
 use Rattle.jpg_file.specs.Read.RowsNone.{HasNoRows}
 use Rattle.jpg_cli.specs.Desk.Reading.{rest_of}
-use Rattle.jpg_cli.specs.Desk.ReadPicture.{AfterFileEnd, IsRefusedRead}
+use Rattle.jpg_cli.specs.Desk.ReadPicture.{AfterFileEnd, IsRefusedRead, Image}
 use Rattle.jpg_cli.specs.Tools.Showing.{IsShownByRows}
 use Rattle.jpg_cli.specs.Tools.ShowingRows.{AfterFirst, AfterFirstEnd, AfterFirstRead, BeginsShownRows, EndsPlainly, HasFedPlainly}
 use Rattle.jpg_cli.specs.Stays.{OnlyReads}
-use Rattle.jpg_cli.specs.declared.desk.picture.Wanted.TheVariants.{Image}
 use Rattle.jpg_cli.specs.declared.tools.djpeg.FirstStep.{FirstStep}
 use Rattle.jpg_cli.specs.declared.tools.djpeg.FirstStep.TheVariants as first
 use Rattle.jpg_cli.proofs.Comments.CommentsCopied.{left_still, some_taken}

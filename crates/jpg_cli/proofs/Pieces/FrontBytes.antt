@@ -26,9 +26,8 @@ use Rattle.jpg_preview.proofs.FrontFound.{never_without}
 use Rattle.jpg_preview.proofs.FrontShown.{shown_front}
 use Rattle.jpg_preview.proofs.ViewSteps.{fault_place}
 use Rattle.jpg_cli.specs.Desk.ReadFront.{AfterTakingFront, EndsNoScan, HasFedFront, HoldsEarlyFront, IsFrontRefused, IsFrontRefusedRead, IsOpenFront, IsShortFront}
-use Rattle.jpg_cli.specs.Desk.ReadPicture.{HasFed, IsRefused, IsRefusedFor, IsUnwanted, step_unless, unwanted_in}
+use Rattle.jpg_cli.specs.Desk.ReadPicture.{HasFed, IsRefused, IsRefusedFor, IsUnwanted, step_unless, unwanted_in, Image}
 use Rattle.jpg_cli.specs.declared.desk.picture.PictureStep.TheVariants as step
-use Rattle.jpg_cli.specs.declared.desk.picture.Wanted.TheVariants.{Image}
 use Rattle.jpg_spec_words.specs.declared.answers.Why.TheVariants as why
 use Rattle.jpg_cli.proofs.Outcomes.Judged.{none_faulty}
 use Rattle.jpg_cli.proofs.Pieces.PictureBytes.{early_end, fed_none, has_fed, new_place, open_so_far, refused_end}

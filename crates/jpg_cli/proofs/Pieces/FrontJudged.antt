@@ -18,11 +18,11 @@ use Rattle.jpg_preview.proofs.FrontFound.{never_without}
 use Rattle.jpg_cli.specs.Desk.Judging.{IsAllRead}
 use Rattle.jpg_cli.specs.Desk.ReadFront.{EndsInFront, FrontMeans, FrontMeansAs, IsFrontRefused, IsReadFront, front_judging}
 use Rattle.jpg_cli.specs.Desk.Reading.{rest_of}
-use Rattle.jpg_cli.specs.declared.desk.picture.Wanted.TheVariants.{Image}
 use Rattle.jpg_cli.proofs.Messages.FaultNumbers.{same_fault}
 use Rattle.jpg_cli.proofs.Pieces.FrontBytes.{all_of, front_all}
 use Rattle.jpg_cli.proofs.Outcomes.Judged.{IsJudged, none_refused_for, refused_for_one}
 use Rattle.jpg_cli.proofs.Outcomes.RefusedOnce.{same_refusal}
+use Rattle.jpg_cli.specs.Desk.ReadPicture.{Image}
 
 -- ONE VALUE
 

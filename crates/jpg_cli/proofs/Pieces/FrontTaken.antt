@@ -31,12 +31,12 @@ use Rattle.jpg_cli.specs.Desk.Reading.{rest_of}
 use Rattle.jpg_cli.specs.Stays.{OnlyReads}
 use Rattle.jpg_cli.specs.declared.desk.picture.PictureStep.{PictureStep}
 use Rattle.jpg_cli.specs.declared.desk.picture.PictureStep.TheVariants as step
-use Rattle.jpg_cli.specs.declared.desk.picture.Wanted.TheVariants.{Image}
 use Rattle.jpg_cli.proofs.Comments.CommentsCopied.{left_still, some_taken}
 use Rattle.jpg_cli.proofs.Pieces.FrontBytes.{open_front}
 use Rattle.jpg_cli.proofs.Outcomes.Input.{none_left}
 use Rattle.jpg_cli.proofs.Pieces.PictureBytes.{can_be_shown}
 use Rattle.jpg_cli.proofs.Pieces.PictureTaken.{early_meaning, early_taken}
+use Rattle.jpg_cli.specs.Desk.ReadPicture.{Image}
 
 module _ (scans : ℕ) (gray : Bool) where
   -- A PIECE

@@ -26,10 +26,8 @@ use Rattle.jpg_file.specs.declared.read.ends.End.TheVariants as ends
 use Rattle.jpg_file.specs.Read.ReadFile.{AfterEnd, HasRead, IsDone, IsRefusal, IsStopOf, KeepsHeadAt, ReaderState, StopsAt, head_seen}
 use Rattle.jpg_file.specs.declared.read.first_header.Head.{Head}
 use Rattle.jpg_file.proofs.Files.PieceSteps.{counted}
-use Rattle.jpg_cli.specs.Desk.ReadPicture.{AfterFileEnd, AfterTakingPiece, HasFed, HoldsEarly, HoldsFile, IsOpenRead, IsRefused, IsRefusedFor, IsRefusedRead, IsShortRead, IsUnwanted, step_unless, unwanted_for, unwanted_in}
+use Rattle.jpg_cli.specs.Desk.ReadPicture.{AfterFileEnd, AfterTakingPiece, HasFed, HoldsEarly, HoldsFile, IsOpenRead, IsRefused, IsRefusedFor, IsRefusedRead, IsShortRead, IsUnwanted, step_unless, unwanted_for, unwanted_in, Wanted, Coefficients, Image}
 use Rattle.jpg_cli.specs.declared.desk.picture.PictureStep.TheVariants as step
-use Rattle.jpg_cli.specs.declared.desk.picture.Wanted.{Wanted}
-use Rattle.jpg_cli.specs.declared.desk.picture.Wanted.TheVariants.{Coefficients, Image}
 use Rattle.jpg_cli.proofs.Outcomes.Unwanted.{done_unwanted, done_wanted, head_of, no_header, stop_unwanted, stop_wanted, unwanted_first, unwanted_head, unwanted_less, unwanted_more, unwanted_within, wanted_head}
 
 -- BYTES SO FAR

@@ -24,10 +24,9 @@ use Rattle.jpg_file.specs.declared.read.picture.Picture.{Picture}
 use Rattle.jpg_cli.specs.Endings.{Stopped}
 use Rattle.jpg_cli.specs.Desk.Reading.{rest_of}
 use Rattle.jpg_cli.specs.Desk.Judging.{IsAllRead, Judging, NoValueRead, NoValueTaken, ReadsFrom, TakesPieces}
-use Rattle.jpg_cli.specs.Desk.ReadPicture.{AfterFileEnd, AfterNextPiece, AfterPictureEnd, AfterTakingPiece, EndDone, EndsEarly, EndsMeaning, EndsReading, PictureGoesOn, HasFed, HoldsPicture, HoldsEarly, HoldsFile, IsEarlyRead, IsRefusedRead, IsWholeRead, MeaningRead}
+use Rattle.jpg_cli.specs.Desk.ReadPicture.{AfterFileEnd, AfterNextPiece, AfterPictureEnd, AfterTakingPiece, EndDone, EndsEarly, EndsMeaning, EndsReading, PictureGoesOn, HasFed, HoldsPicture, HoldsEarly, HoldsFile, IsEarlyRead, IsRefusedRead, IsWholeRead, MeaningRead, Wanted}
 use Rattle.jpg_cli.specs.Stays.{OnlyReads}
 use Rattle.jpg_cli.specs.declared.desk.picture.PictureStep.{PictureStep}
-use Rattle.jpg_cli.specs.declared.desk.picture.Wanted.{Wanted}
 use Rattle.jpg_cli.specs.declared.desk.picture.PictureStep.TheVariants as step
 use Rattle.jpg_cli.proofs.Comments.CommentsCopied.{copies_none, copies_then, left_still, some_taken}
 use Rattle.jpg_cli.proofs.Outcomes.Input.{file_read, none_left, noted}

@@ -20,12 +20,11 @@ use Rattle.jpg_file.specs.Read.ReadFile.{ReaderState}
 use Rattle.jpg_file.specs.declared.read.picture.Picture.{Picture}
 use Rattle.jpg_preview.specs.Viewing.{HasViewed, IsShown, PreviewState}
 use Rattle.jpg_cli.specs.Desk.Judging.{IsAllRead, Judging, NoValueTaken, TakesPieces, UpToPiece}
-use Rattle.jpg_cli.specs.Desk.ReadPicture.{EndsMeaning, HasFed, HoldsEarly, IsOpenRead, IsRefusedFor, MeaningRead}
+use Rattle.jpg_cli.specs.Desk.ReadPicture.{EndsMeaning, HasFed, HoldsEarly, IsOpenRead, IsRefusedFor, MeaningRead, Image}
 use Rattle.jpg_cli.specs.Desk.Reading.{rest_of}
 use Rattle.jpg_cli.specs.Stays.{OnlyReads}
 use Rattle.jpg_cli.specs.declared.desk.picture.PictureStep.{PictureStep}
 use Rattle.jpg_cli.specs.declared.desk.picture.PictureStep.TheVariants as step
-use Rattle.jpg_cli.specs.declared.desk.picture.Wanted.TheVariants.{Image}
 
 -- OF A FILE
 

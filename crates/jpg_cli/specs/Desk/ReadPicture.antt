@@ -1,5 +1,5 @@
 -- WHAT READING A PICTURE does to a desk (T.81, B.2.1), by its result.
-use Rattle.std.specs.Prelude.{◌≡◌, ◌⊎◌, ℕ, ◌+◌, ◌<◌, ◌≤◌, true, false, List, [], ◌∷◌, ◌++◌, length, take, All, Option, Some, None, Result, Ok, Err}
+use Rattle.std.specs.Prelude.{◌≡◌, ◌⊎◌, ℕ, ◌+◌, ◌<◌, ◌≤◌, Bool, true, false, List, [], ◌∷◌, ◌++◌, length, take, All, Option, Some, None, Result, Ok, Err}
 use Rattle.std.specs.Io.KnownBytes.{Consumes}
 use Rattle.jpg_base.specs.declared.names.Name.{Name}
 use Rattle.jpg_base.specs.declared.names.Put.TheVariants as put
@@ -31,8 +31,11 @@ use Rattle.jpg_cli.specs.Desk.Reading.{rest_of}
 use Rattle.jpg_cli.specs.Stays.{OnlyReads}
 use Rattle.jpg_cli.specs.declared.desk.picture.PictureStep.{PictureStep}
 use Rattle.jpg_cli.specs.declared.desk.picture.PictureStep.TheVariants as step
-use Rattle.jpg_cli.specs.declared.desk.picture.Wanted.{Wanted}
-use Rattle.jpg_cli.specs.declared.desk.picture.Wanted.TheVariants.{Coefficients, Image}
+
+-- WHAT IS ASKED FOR: the coefficients of a picture, or its image, in grayscale or not
+pub data Wanted : Type 0 where
+  Coefficients : Wanted
+  Image : Bool → Wanted
 
 -- WHAT ISN'T WANTED: a picture that can't be displayed, where its image is asked for
 

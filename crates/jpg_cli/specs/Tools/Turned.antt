@@ -13,12 +13,11 @@ use Rattle.jpg_transform.specs.Planned.{choice_view}
 use Rattle.jpg_transform.specs.declared.choice.Choice.{Choice as Asked}
 use Rattle.jpg_cli.specs.declared.words.files.Files.{Files}
 use Rattle.jpg_cli.specs.Commands.{name_of}
-use Rattle.jpg_cli.specs.Desk.ReadPicture.{picture_judging}
+use Rattle.jpg_cli.specs.Desk.ReadPicture.{picture_judging, Coefficients}
 use Rattle.jpg_cli.specs.Desk.ScriptTaken.{HasScans, StopsAtScans, names_before}
 use Rattle.jpg_cli.specs.Desk.Writing.{MeansMoved, in_area}
 use Rattle.jpg_cli.specs.Outcome.{Conversion, Converted, WritesValue, at_end}
 use Rattle.jpg_cli.specs.Stays.{Untouched}
-use Rattle.jpg_cli.specs.declared.desk.picture.Wanted.TheVariants.{Coefficients}
 
 -- which picture is transformed and cropped, how, and where it goes; and the names that were opened before
 pub record Turning : Type 0 where

@@ -7,8 +7,7 @@ ghost use Rattle.jpg_file.specs.Read.ReadFile.{head_seen};
 ghost use Rattle.jpg_preview.specs.Viewing.{HasViewed};
 ghost use Rattle.jpg_cli.specs.Stays.{Keeps, OnlyReads};
 ghost use Rattle.jpg_cli.specs.Desk.ReadFront.{EndsFront, EndsInput, EndsWholeFront, FrontRead, ReadsNextFront, TakesFront};
-ghost use Rattle.jpg_cli.specs.Desk.ReadPicture.{EndDone, PictureGoesOn, StepDone, step_unless, unwanted_in};
-ghost use Rattle.jpg_cli.specs.declared.desk.picture.Wanted.TheVariants.{Image};
+ghost use Rattle.jpg_cli.specs.Desk.ReadPicture.{EndDone, PictureGoesOn, StepDone, step_unless, unwanted_in, Image};
 
 use crate::desk::file::read_within;
 use crate::desk::picture::{PictureStep, not_shown, step_unless};

@@ -2,12 +2,11 @@
 ghost use Rattle.std.specs.Prelude.{◌≡◌, ◌≤◌, [], List, ℕ, length, true, false};
 ghost use Rattle.jpg_spec.specs.Segments.{standard_limits};
 ghost use Rattle.jpg_file.specs.Read.File.{keeping_of};
-ghost use Rattle.jpg_file.specs.Read.ReadFile.{HasRead, head_seen};
+ghost use Rattle.jpg_file.specs.Read.ReadFile.{HasRead};
 ghost use Rattle.jpg_file.specs.Read.ReadRows.{IsPlain};
 ghost use Rattle.jpg_cli.specs.Stays.{Keeps, OnlyReads};
 ghost use Rattle.jpg_cli.specs.Desk.Judging.{done_as};
-ghost use Rattle.jpg_cli.specs.Desk.ReadPicture.{AfterPictureEnd, EndDone, EndsReading, EndsCompletePicture, PictureGoesOn, HasFed, PictureRead, ReadsNext, ReadsPictureBytes, StepDone, step_unless, unwanted_in};
-ghost use Rattle.jpg_cli.specs.declared.desk.picture.Wanted.TheVariants.{Image};
+ghost use Rattle.jpg_cli.specs.Desk.ReadPicture.{AfterPictureEnd, EndDone, EndsReading, EndsCompletePicture, PictureGoesOn, HasFed, PictureRead, ReadsNext, ReadsPictureBytes, StepDone, step_unless, unwanted_in, Coefficients, Image};
 
 use crate::desk::file::read_within;
 use jpg_base::{Colour, Desk, Fed, Frame, Got, Name, Put, Stop};
@@ -16,13 +15,6 @@ use jpg_file::{End, Picture, Reader};
 use jpg_spec::{Copying, FaultAt, Limits};
 use jpg_spec_words::{Which, Why};
 use std::alloc::Global;
-
-/// What is asked for: a picture's coefficients, or an image, in grayscale or not.
-#[derive(Clone, Copy, Debug, PartialEq, Eq)]
-pub enum Wanted {
-    Coefficients,
-    Image { gray: bool },
-}
 
 // The result of a piece.
 #[derive(Clone, Copy)]
@@ -34,62 +26,56 @@ pub(crate) enum PictureStep {
 }
 
 /// The picture of the file of this name, with the markers that may be passed on; and if the file ended early, after how
-/// many bytes. The file is read in pieces of at most 16,384 bytes, up to its end or the one that completes it, reveals
-/// a fault, or completes a first scan header whose picture can't be displayed where an image is asked for.
+/// many bytes. The file is read in pieces of at most 16,384 bytes, up to its end or the one that completes it or
+/// reveals a fault.
 #[inline(never)]
 pub fn read_picture<D: Desk>(
     alloc: Global,
     name: &Name,
-    wanted: Wanted,
     copying: Copying,
     desk: &mut D,
 ) -> Result<(Picture, Option<u64>), Why>
     ensures kept { Keeps (D.state desk.old) (D.state desk.new) }
-    ensures read { PictureRead wanted copying name.now (D.state desk.old) result (D.state desk.new) }
+    ensures read { PictureRead Coefficients copying name.now (D.state desk.old) result (D.state desk.new) }
 {
     match desk.open(name) {
         Put::Failed => Err(Why::OpenFault(Which::Input)),
-        Put::Done => take_picture(alloc, wanted, copying, desk),
+        Put::Done => take_picture(alloc, copying, desk),
     }
 }
 
 // The picture of the open input.
 fn take_picture<D: Desk>(
     alloc: Global,
-    wanted: Wanted,
     copying: Copying,
     desk: &mut D,
 ) -> Result<(Picture, Option<u64>), Why>
     requires open { (D.state desk.old).input_open ≡ true }
     ensures kept { OnlyReads (D.state desk.old) (D.state desk.new) }
-    ensures read { EndsReading wanted copying (D.state desk.old) result (D.state desk.new) }
+    ensures read { EndsReading Coefficients copying (D.state desk.old) result (D.state desk.new) }
 {
     let mut reader = Reader::for_copying(alloc, Limits::standard(), copying);
-    match read_whole(&mut reader, wanted, desk) {
+    match read_whole(&mut reader, desk) {
         Ok(early) => Ok((reader.take(), early)),
         Err(why) => Err(why),
     }
 }
 
 // Reads the open input until the file is complete or ends early, or returns why the reading ends.
-fn read_whole<D: Desk>(
-    reader: &mut Reader,
-    wanted: Wanted,
-    desk: &mut D,
-) -> Result<Option<u64>, Why>
+fn read_whole<D: Desk>(reader: &mut Reader, desk: &mut D) -> Result<Option<u64>, Why>
     requires open { (D.state desk.old).input_open ≡ true }
     requires none { HasRead [] reader.old }
     requires limits { reader.old.limits ≡ standard_limits }
     requires plain { IsPlain reader.old }
     ensures kept { OnlyReads (D.state desk.old) (D.state desk.new) }
-    ensures ended { EndsCompletePicture wanted (D.state desk.old) result reader.new (D.state desk.new) }
+    ensures ended { EndsCompletePicture Coefficients (D.state desk.old) result reader.new (D.state desk.new) }
     ensures limits { reader.new.limits ≡ standard_limits }
     ensures keeping { keeping_of reader.new.file ≡ keeping_of reader.old.file }
     ensures plain { IsPlain reader.new }
 {
     let mut buffer = [0u8; 16384];
     loop {
-        match next_piece(reader, wanted, &mut buffer, desk) {
+        match next_piece(reader, &mut buffer, desk) {
             PictureStep::More => {}
             PictureStep::Whole => return Ok(None),
             PictureStep::Early(at) => return Ok(Some(at)),
@@ -99,27 +85,22 @@ fn read_whole<D: Desk>(
 }
 
 // Reads a piece.
-fn next_piece<D: Desk>(
-    reader: &mut Reader,
-    wanted: Wanted,
-    buffer: &mut [u8; 16384],
-    desk: &mut D,
-) -> PictureStep
+fn next_piece<D: Desk>(reader: &mut Reader, buffer: &mut [u8; 16384], desk: &mut D) -> PictureStep
     requires open { (D.state desk.old).input_open ≡ true }
     requires more { reader.old.done ≡ false }
     requires limits { reader.old.limits ≡ standard_limits }
     requires plain { IsPlain reader.old }
     ensures kept { OnlyReads (D.state desk.old) (D.state desk.new) }
     ensures goes_on { PictureGoesOn result reader.new (D.state desk.new) }
-    ensures after { ReadsNext wanted reader.old (D.state desk.old) result reader.new (D.state desk.new) }
+    ensures after { ReadsNext Coefficients reader.old (D.state desk.old) result reader.new (D.state desk.new) }
     ensures limits { reader.new.limits ≡ standard_limits }
     ensures keeping { keeping_of reader.new.file ≡ keeping_of reader.old.file }
     ensures plain { IsPlain reader.new }
 {
     match read_within(desk, reader.room(), buffer) {
         Got::Failed => PictureStep::Ended(Why::ReadFault(Which::Input)),
-        Got::End => at_end(reader, wanted),
-        Got::Bytes(count) => take_piece(reader, wanted, &buffer[..count as usize]),
+        Got::End => at_end(reader),
+        Got::Bytes(count) => take_piece(reader, &buffer[..count as usize]),
     }
 }
 
@@ -130,16 +111,6 @@ pub fn done_as(early: Option<u64>) -> Why
     match early {
         None => Why::Done,
         Some(at) => Why::Warned(at),
-    }
-}
-
-// Why the picture isn't wanted, once the first scan header was read.
-fn unwanted(reader: &Reader, wanted: Wanted) -> Option<FaultAt>
-    ensures { result ≡ unwanted_in wanted (head_seen reader.now) }
-{
-    match wanted {
-        Wanted::Coefficients => None,
-        Wanted::Image { gray } => not_shown(reader.head(), gray),
     }
 }
 
@@ -166,35 +137,32 @@ pub(crate) fn step_unless(fault: Option<FaultAt>, step: PictureStep) -> PictureS
     }
 }
 
-// Takes a piece. A picture that isn't wanted comes before a fault of the same piece, which is never earlier.
-fn take_piece(reader: &mut Reader, wanted: Wanted, piece: &[u8]) -> PictureStep
+// Takes a piece.
+fn take_piece(reader: &mut Reader, piece: &[u8]) -> PictureStep
     requires more { reader.old.done ≡ false }
     requires limits { reader.old.limits ≡ standard_limits }
     requires short { length piece.now ≤ 65536 }
     requires plain { IsPlain reader.old }
-    ensures taken { ReadsPictureBytes wanted reader.old piece.now result reader.new }
+    ensures taken { ReadsPictureBytes Coefficients reader.old piece.now result reader.new }
     ensures done { StepDone result reader.new }
     ensures limits { reader.new.limits ≡ standard_limits }
     ensures keeping { keeping_of reader.new.file ≡ keeping_of reader.old.file }
     ensures plain { IsPlain reader.new }
 {
     match reader.feed(piece) {
-        Ok(Fed::More) => step_unless(unwanted(reader, wanted), PictureStep::More),
-        Ok(Fed::Done { .. }) => step_unless(unwanted(reader, wanted), PictureStep::Whole),
-        Err(Stop::Fault(fault)) => step_unless(
-            unwanted(reader, wanted),
-            PictureStep::Ended(Why::Refused(fault)),
-        ),
+        Ok(Fed::More) => PictureStep::More,
+        Ok(Fed::Done { .. }) => PictureStep::Whole,
+        Err(Stop::Fault(fault)) => PictureStep::Ended(Why::Refused(fault)),
         Err(Stop::NoMemory) => PictureStep::Ended(Why::NoMemory),
     }
 }
 
-// The result for an input that ends here, whose picture is wanted.
-fn at_end(reader: &mut Reader, wanted: Wanted) -> PictureStep
+// The result for an input that ends here.
+fn at_end(reader: &mut Reader) -> PictureStep
     requires more { reader.old.done ≡ false }
     requires limits { reader.old.limits ≡ standard_limits }
     requires plain { IsPlain reader.old }
-    ensures ended { (bytes : List ℕ) → HasFed wanted reader.old bytes → AfterPictureEnd wanted bytes result reader.new }
+    ensures ended { (bytes : List ℕ) → HasFed Coefficients reader.old bytes → AfterPictureEnd Coefficients bytes result reader.new }
     ensures done { EndDone result reader.new }
     ensures limits { reader.new.limits ≡ standard_limits }
     ensures keeping { keeping_of reader.new.file ≡ keeping_of reader.old.file }

@@ -8,11 +8,10 @@ ghost use Rattle.jpg_file.specs.Read.PictureRead.{picture_meaning};
 ghost use Rattle.jpg_file.specs.Read.ReadFile.{head_seen};
 ghost use Rattle.jpg_file.specs.Read.ReadRows.{HasReadPlainly};
 ghost use Rattle.jpg_pnm_bmp.specs.EndState.{new_end};
-ghost use Rattle.jpg_cli.specs.Desk.ReadPicture.{unwanted_in};
+ghost use Rattle.jpg_cli.specs.Desk.ReadPicture.{unwanted_in, Image};
 ghost use Rattle.jpg_cli.specs.Tools.Showing.{AfterPicture, Shown, showing_view};
 ghost use Rattle.jpg_cli.specs.Tools.ShowingRows.{AfterFirstEnd, EndsFirst, GoesOnFirst, HasFedPlainly, IsOpened, ReadsFirst, StaysFirst, TakesFirst, step_of};
 ghost use Rattle.jpg_cli.specs.Stays.{OnlyReads, OnlyWorks};
-ghost use Rattle.jpg_cli.specs.declared.desk.picture.Wanted.TheVariants.{Image};
 
 use crate::desk::file::read_within;
 use crate::desk::picture::{done_as, not_shown};

@@ -9,7 +9,7 @@ ghost use Rattle.jpg_cli.specs.Tools.Turned.{Transformed, Turned, turning_view};
 ghost use Rattle.jpg_spec_words.specs.TransformWords.{choice_asked};
 
 use crate::desk::moved::{Wrote, write_moved};
-use crate::desk::picture::{Wanted, done_as, read_picture};
+use crate::desk::picture::{done_as, read_picture};
 use crate::desk::script::take_scans;
 use crate::words::files::Files;
 use crate::words::jpegtran_request::TransformWords;
@@ -69,7 +69,7 @@ fn turn<D: Desk>(
     ensures turned { Turned (turning_view files.now choice.now area.now) (D.state desk.old) result (D.state desk.new) }
 {
     let copying = choice.copying;
-    match read_picture(alloc, &files.input, Wanted::Coefficients, copying, desk) {
+    match read_picture(alloc, &files.input, copying, desk) {
         Err(why) => why,
         Ok((picture, early)) => match write_moved(
             alloc,

@@ -4,8 +4,7 @@ use Rattle.jpg_base.specs.declared.stop.Stop.{Stop}
 use Rattle.jpg_file.specs.Read.ReadFile.{head_seen}
 use Rattle.jpg_preview.specs.Viewing.{AfterView}
 use Rattle.jpg_cli.specs.Desk.ReadFront.{AfterTakingFront}
-use Rattle.jpg_cli.specs.Desk.ReadPicture.{unwanted_in}
-use Rattle.jpg_cli.specs.declared.desk.picture.Wanted.TheVariants.{Image}
+use Rattle.jpg_cli.specs.Desk.ReadPicture.{unwanted_in, Image}
 use Rattle.jpg_cli.proofs.Pieces.FrontBytes.{fault_front, more_front, short_front, whole_front}
 use Rattle.jpg_cli.proofs.Pieces.PictureBytes.{more_small}
 use Rattle.jpg_cli.proofs.desk.front.take_piece.Goals as goal

@@ -1,4 +1,5 @@
 use Rattle.std.proofs.Common.{rules, [], ◌++◌, ◌∙◌, refl}
+use Rattle.jpg_cli.specs.Desk.ReadPicture.{Coefficients}
 use Rattle.jpg_cli.proofs.Comments.CommentsCopied.{none_read}
 use Rattle.jpg_cli.proofs.Pieces.PictureBytes.{fed_none}
 use Rattle.jpg_cli.proofs.Pieces.PictureTaken.{reads_none, reads_then}
@@ -9,7 +10,7 @@ loop-at-init g c =
     let s = g.D.Desk.state c.args.desk.now in
     record {
       kept = reads_none s;
-      read = ([], fed_none c.args.wanted c.args.reader.now c.requires.limits c.requires.none, none_read s.left);
+      read = ([], fed_none Coefficients c.args.reader.now c.requires.limits c.requires.none, none_read s.left);
       opened = c.requires.open;
       limits = c.requires.limits;
       keeping = refl;

@@ -3,7 +3,7 @@ use Rattle.std.specs.Io.KnownBytes.{Consumes}
 use Rattle.jpg_spec.specs.Segments.{standard_limits}
 use Rattle.jpg_file.specs.Read.File.{keeping_of}
 use Rattle.jpg_file.specs.Read.ReadRows.{IsPlain}
-use Rattle.jpg_cli.specs.Desk.ReadPicture.{HasFed}
+use Rattle.jpg_cli.specs.Desk.ReadPicture.{Coefficients, HasFed}
 use Rattle.jpg_cli.specs.Stays.{OnlyReads}
 use Rattle.jpg_cli.proofs.desk.picture.read_whole.Given as goal
 
@@ -12,7 +12,7 @@ invariant-loop-at g l =
     let state = g.D.Desk.state in
     record {
       kept : OnlyReads (state l.initial.desk) (state l.desk);
-      read : (bytes : List ℕ) × HasFed l.wanted l.reader bytes × Consumes (state l.initial.desk).left (state l.desk).left bytes;
+      read : (bytes : List ℕ) × HasFed Coefficients l.reader bytes × Consumes (state l.initial.desk).left (state l.desk).left bytes;
       opened : (state l.desk).input_open ≡ true;
       limits : l.reader.limits ≡ standard_limits;
       keeping : keeping_of l.reader.file ≡ keeping_of l.initial.reader.file;
