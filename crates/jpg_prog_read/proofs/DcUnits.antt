@@ -26,9 +26,9 @@ use Rattle.jpg_prog_read.specs.Stands.{UnitPlace}
 use Rattle.jpg_prog_read.specs.DcWork.{DcWork, InDcRange, IsDcValue, fresh}
 use Rattle.jpg_prog_read.specs.RepresentsDcUnit.{BeginsDc, IsDcCodingOf, AnswersDcBit, AnswersDcRefinement, dc_unit, IsDcPart, DcBetween, RepresentsDcUnit}
 use Rattle.jpg_huff.proofs.Fronts.{due_apart, walk_shows}
-use Rattle.jpg_spec.proofs.Basics.Common.{and_intro, clash, part_more, in_order, from_test, both_false}
+use Rattle.jpg_spec.proofs.Basics.Common.{and_intro, clash, part_more, in_order, from_test, both_false, neg_abs}
 use Rattle.jpg_spec.proofs.Basics.Small.{zero_bits, zero_category}
-use Rattle.jpg_prog_read.proofs.Multiples.{neg_abs, one_scaled}
+use Rattle.jpg_prog_read.proofs.Multiples.{one_scaled}
 
 -- NUMBERS
 

@@ -6,6 +6,7 @@ use Rattle.std.proofs.Math.Nat.{pow-succ'}
 use Rattle.std.proofs.Math.IntN.{pos-*ℤ-pos, negsuc-*ℤ-pos}
 use Rattle.jpg_spec.specs.Elements.{Element, difference, dc_bit, value, long_run, ends, Coding, UnitLeft, Standing, Covers, Tells, is_zero, grown, corrected, scaled, old_values, going_on, predictions_after}
 use Rattle.jpg_prog_read.specs.Known.{IsMultiple, AreMultiples}
+use Rattle.jpg_spec.proofs.Basics.Common.{neg_abs}
 
 double : (al : ℕ) → 2 ^ (al + 1) ≡ 2 * 2 ^ al
 double al = ap (λ k. 2 ^ k) (add-one al) ∙ pow-succ' 2 al
@@ -32,10 +33,6 @@ corrected_multiples al (o ∷ old) (b ∷ bits) h = by (is_zero o) (corrected_mu
     by : (z : Bool) → AreMultiples al (corrected al old (b ∷ bits)) → AreMultiples al (corrected al old bits) → AreMultiples al (cond z (o ∷ corrected al old (b ∷ bits)) (grown al b o ∷ corrected al old bits))
     by true k l = (multiple_down al o h.0, k)
     by false k l = (grown_multiple al b o h.0, l)
-
-pub neg_abs : (n : ℕ) → nat_abs (neg_ℤ (pos n)) ≡ n
-neg_abs zero = refl
-neg_abs (suc n) = omega arith
 
 pub scaled_multiple : (al : ℕ) (v : ℤ) → IsMultiple al (scaled al v)
 scaled_multiple al (pos n) = (n, ap nat_abs (pos-*ℤ-pos n (2 ^ al)))

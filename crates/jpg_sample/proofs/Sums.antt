@@ -7,12 +7,9 @@ use Rattle.std.proofs.lemmas.List.{take_more_set, take_all, map-append, length-t
 use Rattle.std.proofs.lemmas.List.Sums.{sum_by-append}
 use Rattle.jpg_spec.specs.Lists.{below}
 use Rattle.jpg_spec_image.specs.Downsampling.{mean_of, edge_repeated, in_rows, sum_under, downsampled, down_rows}
-use Rattle.jpg_spec.proofs.Basics.Common.{lt_yes, lt_no, length_below}
+use Rattle.jpg_spec.proofs.Basics.Common.{lt_yes, lt_no, length_below, sum_one}
 use Rattle.jpg_spec.proofs.Basics.Rows.{by_items, at_below}
 use Rattle.jpg_sample.specs.Means.{row_part, block_part, quarter_at, quarter_of}
-
-sum_one : (f : ℕ → ℕ) (n : ℕ) → sum_by f (n ∷ []) ≡ f n
-sum_one f n = omega arith
 
 pub sum_more : (f : ℕ → ℕ) (n : ℕ) → sum_by f (below (n + 1)) ≡ sum_by f (below n) + f n
 sum_more f n = ap (λ m. sum_by f (below m)) (add-one n) ∙ sum_by-append f (below n) (n ∷ []) ∙ ap (λ s. sum_by f (below n) + s) (sum_one f n)

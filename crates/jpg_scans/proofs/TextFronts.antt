@@ -7,17 +7,13 @@ use Rattle.std.proofs.lemmas.List.Concat.{flat_map-append}
 use Rattle.jpg_spec.specs.Lists.{all_of, is_empty}
 use Rattle.jpg_spec.specs.NumberTexts.{is_digit, digits_from, is_space, NumberWord, NumbersWord, number_text, numbers_text, parsed_numbers}
 use Rattle.jpg_spec_write.specs.ScriptGrammar.{is_joint, is_between, is_script_number, is_first, is_further, are_joined, are_numbers}
-use Rattle.jpg_spec.proofs.Basics.Common.{both, and_intro, le_of, lt_of, some_once}
+use Rattle.jpg_spec.proofs.Basics.Common.{both, and_intro, le_of, lt_of, some_once, not_empty}
 use Rattle.jpg_spec.proofs.Texts.TextRuns.{all_join, one_of, value_of, digits_more}
 use Rattle.jpg_scans.specs.declared.standing.Standing.{Standing}
 use Rattle.jpg_scans.specs.declared.standing.Standing.TheVariants.{Before, InNumber, Behind, Joined}
 use Rattle.jpg_scans.specs.TextState.{NumbersState, ended_by, ended, first_digit, further_digit, digit_by, joint_by, number_step, is_after}
 
 -- TESTS of lists
-
-not_empty : (xs : List ℕ) (b : ℕ) → is_empty (xs ++ b ∷ []) ≡ false
-not_empty [] b = refl
-not_empty (x ∷ xs) b = refl
 
 spaces_between : (xs : List ℕ) → all_of is_space xs ≡ true → all_of is_between xs ≡ true
 spaces_between [] e = refl

@@ -32,7 +32,7 @@ use Rattle.jpg_spec_image.specs.declared.image.ImageKind.TheVariants.{Gray, Rgb}
 use Rattle.jpg_spec.specs.declared.frame.Process.{Process}
 use Rattle.jpg_spec.specs.declared.frame.Process.TheVariants.{Baseline, Extended, Progressive}
 use Rattle.jpg_spec_write.specs.declared.picture_fault.PictureFault.TheVariants.{TooManyBlocks}
-use Rattle.jpg_spec.proofs.Basics.Common.{both, same_of, lt_of, not_lt_of}
+use Rattle.jpg_spec.proofs.Basics.Common.{both, same_of, lt_of, not_lt_of, sum_one}
 use Rattle.jpg_spec_image.proofs.CodedBlocks.{all_at, coded_block_in}
 use Rattle.jpg_spec_write.proofs.FaultlessScripts.{first_none}
 use Rattle.jpg_spec_write.proofs.MovedText.{headed_frame, has_standard, own_by, same_kind, passes_by, means_by}
@@ -54,9 +54,6 @@ pixel_low : (kind : ImageKind) (samples : List ℕ) (i n : ℕ) → AreSamples s
 pixel_low Gray samples i n all = all_at (λ s. s < 256) samples n 0 all (omega arith)
 pixel_low Rgb samples i n all =
     bytes_ycc _ _ _ i (all_at (λ s. s < 256) samples (3 * n) 0 all (omega arith)) (all_at (λ s. s < 256) samples (3 * n + 1) 0 all (omega arith)) (all_at (λ s. s < 256) samples (3 * n + 2) 0 all (omega arith))
-
-sum_one : (f : ℕ → ℕ) (n : ℕ) → sum_by f (n ∷ []) ≡ f n
-sum_one f n = omega arith
 
 sum_low : (f : ℕ → ℕ) (most n : ℕ) → ((k : ℕ) → f k ≤ most) → sum_by f (below n) ≤ most * n
 sum_low f most zero each = omega arith

@@ -17,7 +17,7 @@ use Rattle.jpg_spec.specs.Geometry.{bounds_of}
 use Rattle.jpg_spec.specs.Segments.{IsQuantiser}
 use Rattle.jpg_spec_image.specs.Dct.{number_at, column_at}
 use Rattle.jpg_spec_image.specs.ForwardDct.{level, woven, line_frequencies, frequency_row, frequency_rows, frequency_column, frequency_columns, across_columns, forward_dct, multiples, quantised, quantised_block}
-use Rattle.jpg_spec.proofs.Basics.Common.{length_below, and_intro, both, in_order, le_of, lt_of}
+use Rattle.jpg_spec.proofs.Basics.Common.{length_below, and_intro, both, in_order, le_of, lt_of, neg_abs}
 use Rattle.jpg_spec.proofs.Basics.Rows.{at_below}
 use Rattle.jpg_spec_image.proofs.Frequencies.{InWidth, LineIn, line_below, sum_of, first_is, sum_low, sum_high, rounded_row, rounded_low, rounded_high}
 
@@ -276,10 +276,6 @@ dc_in samples all =
 most_multiples : (n q k : ℕ) → 1 ≤ q → n + 4 * q < (k + 1) * (8 * q) → multiples n q ≤ k
 most_multiples n q k some h = (let l : multiples n q < k + 1 = div_below (n + 4 * q) (8 * q) (k + 1) (omega (arith, some)) h in omega (arith, l))
 
-abs_neg : (n : ℕ) → nat_abs (neg_ℤ (pos n)) ≡ n
-abs_neg zero = refl
-abs_neg (suc n) = refl
-
 pub ac_quantised : (t : ℤ) (q : ℕ) → nat_abs t ≤ 8160 → 1 ≤ q → nat_abs (quantised t q) ≤ 1023
 ac_quantised (pos n) q h some =
     let few : n ≤ 8160 = h in
@@ -288,7 +284,7 @@ ac_quantised (pos n) q h some =
 ac_quantised (negsuc n) q h some =
     let few : n + 1 ≤ 8160 = omega (arith, ints, h) in
     let m : multiples (n + 1) q ≤ 1020 = most_multiples (n + 1) q 1020 some (omega (arith, few, some)) in
-    omega (arith, m, abs_neg (multiples (n + 1) q))
+    omega (arith, m, neg_abs (multiples (n + 1) q))
 
 pub dc_low : (t : ℤ) (q : ℕ) → DcIn t → 1 ≤ q → neg_ℤ (pos 1024) ≤ℤ quantised t q
 dc_low (pos n) q h some = omega (arith, ints)

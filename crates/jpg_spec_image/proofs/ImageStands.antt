@@ -6,7 +6,7 @@ use Rattle.std.proofs.lemmas.List.Concat.{flat_map-append}
 use Rattle.std.proofs.Math.Seq.{take-append_seam}
 use Rattle.jpg_spec.specs.Lists.{all_of, is_empty, begins_with}
 use Rattle.jpg_spec.specs.NumberTexts.{is_digit, digits_from, in_comment, without_comments, NumberWord, number_text}
-use Rattle.jpg_spec.proofs.Basics.Common.{both, neither, and_intro, le_of, lt_of, not_lt_of, lt_yes, same_of, or_alone}
+use Rattle.jpg_spec.proofs.Basics.Common.{both, neither, and_intro, le_of, lt_of, not_lt_of, lt_yes, same_of, or_alone, not_empty}
 use Rattle.jpg_spec_image.specs.Images.{Image, Body, sample_count, is_wrong, are_right}
 use Rattle.jpg_spec_image.specs.PnmText.{is_plain, is_raw, is_read, is_left_out, is_pnm_space, begins_gap, ends_in_comment, is_gap_so_far, is_gap, is_number_word, parsed_number, pnm_info, greatest_sample, is_number_due, number_fault, may_follow, ended_fault, are_right_numbers, AfterNumbers, AfterNumber, AfterLast}
 use Rattle.jpg_spec_image.specs.BmpFile.{bmp_fault, palette_bytes, bmp_offset, IsBmpHead}
@@ -19,10 +19,6 @@ use Rattle.jpg_spec_image.proofs.ImageBodyRuns.{count, bmp_sides, some_count, pa
 use Rattle.jpg_spec.specs.declared.fault.Fault.{Fault}
 use Rattle.jpg_spec.specs.declared.fault.Fault.TheVariants.{ImageText, ImageUnsupported, ImageValue}
 use Rattle.jpg_spec.proofs.Texts.TextRuns.{all_join, one_of, digits_more}
-
-not_empty : (xs : List ℕ) (b : ℕ) → is_empty (xs ++ b ∷ []) ≡ false
-not_empty [] b = refl
-not_empty (x ∷ xs) b = refl
 
 begins_more : (ns xs ys : List ℕ) → begins_with ns xs ≡ true → begins_with ns (xs ++ ys) ≡ true
 begins_more [] xs ys e = refl

@@ -5,7 +5,7 @@ use Rattle.std.proofs.lemmas.Bool.Decides.{nat_tests}
 use Rattle.std.proofs.lemmas.List.{append_assoc, append-nil, length-append, length-take-le, take_all}
 use Rattle.std.proofs.Math.Seq.{take-append-add}
 use Rattle.jpg_spec.specs.Lists.{all_of}
-use Rattle.jpg_spec.proofs.Basics.Common.{both, le_of, lt_yes, lt_no, same_of}
+use Rattle.jpg_spec.proofs.Basics.Common.{both, le_of, lt_yes, lt_no, same_of, zero_is}
 use Rattle.jpg_spec_image.specs.Images.{Image, is_side, are_few_pixels}
 use Rattle.jpg_spec_image.specs.TargaFile.{Packet, copies, pixels, identifier_length, is_packed, pixel_size, targa_kind, targa_width, targa_height, targa_fault, targa_image, is_left_out_targa, has_targa_sides, is_packet, packet_text, packet_bytes, last_text, IsPackedBody, IsBodyOf, IsTargaBody, IsTargaFront}
 use Rattle.jpg_spec_image.specs.TargaFaults.{IsWholeTarga, ShowsTargaFault}
@@ -62,9 +62,6 @@ grown_on head bytes s h = ap (λ (v : Bool). cond v s (whole (targa_image head b
 pub grown_whole : (head bytes : List ℕ) (s : TargaState) → total head ≤ length bytes → grown head bytes s ≡ whole (targa_image head bytes)
 grown_whole head bytes s h = ap (λ (v : Bool). cond v s (whole (targa_image head bytes))) (lt_no (length bytes) (total head) h)
 
-is_zero : (n : ℕ) → n ≡ 0 → (n == 0) ≡ true
-is_zero n e = grind (arith, nat_tests)
-
 is_some : (n : ℕ) → 0 < n → (n == 0) ≡ false
 is_some n h = grind (arith, nat_tests)
 
@@ -76,7 +73,7 @@ pixels_on head bytes left h some =
 pub pixels_end : (head bytes : List ℕ) (left : ℕ) → length bytes < total head → left ≡ 0 → pixels_so_far head bytes left ≡ at_packet head bytes
 pixels_end head bytes left h none =
     grown_on head bytes (cond (left == 0) (at_packet head bytes) (in_pixels head bytes left)) h
-    ∙ ap (λ (v : Bool). cond v (at_packet head bytes) (in_pixels head bytes left)) (is_zero left none)
+    ∙ ap (λ (v : Bool). cond v (at_packet head bytes) (in_pixels head bytes left)) (zero_is left none)
 
 -- THE 18 BYTES, AND THE IDENTIFIER
 
@@ -99,7 +96,7 @@ pub identifier_on : (head : List ℕ) (left : ℕ) → 0 < left → identifier_l
 identifier_on head left h = ap (λ (v : Bool). cond v (body_begun head) (in_identifier head left)) (is_some left h)
 
 pub identifier_end : (head : List ℕ) (left : ℕ) → left ≡ 0 → identifier_left head left ≡ body_begun head
-identifier_end head left e = ap (λ (v : Bool). cond v (body_begun head) (in_identifier head left)) (is_zero left e)
+identifier_end head left e = ap (λ (v : Bool). cond v (body_begun head) (in_identifier head left)) (zero_is left e)
 
 pub identifier_run : (head more : List ℕ) (left : ℕ) → length more ≤ left → run (identifier_left head left) more ≡ identifier_left head (left - length more)
 unfolding run

@@ -1,14 +1,13 @@
 -- The number of units that are left of a scan, and of its current MCU row.
 use Rattle.std.proofs.Common.{◌≡◌, ℕ, ◌+◌, ◌-◌, ◌*◌, ◌≤◌, ◌==◌, Bool, true, false, cond, List, [], length, refl, sym, ap, ◌∙◌, arith, ◌<◌, ⊎_elim, subst}
 use Rattle.std.specs.Prelude.{min}
-use Rattle.std.proofs.lemmas.Bool.Decides.{nat_tests}
 use Rattle.jpg_spec.specs.FileMeaning.{scan_after}
 use Rattle.jpg_spec.specs.Geometry.{Frame, units}
 use Rattle.jpg_spec.specs.InForce.{frame_of, head_in}
 use Rattle.jpg_spec.specs.Items.{Item, segments_of}
 use Rattle.jpg_spec.specs.Segments.{ScanHead, head_components}
 use Rattle.jpg_spec.specs.declared.frame.Limits.{Limits}
-use Rattle.jpg_spec.proofs.Basics.Common.{clash, same_of}
+use Rattle.jpg_spec.proofs.Basics.Common.{clash, same_of, zero_is}
 use Rattle.jpg_coefs.specs.declared.machine.Taken.{Taken}
 use Rattle.jpg_coefs.specs.declared.machine.Taken.TheVariants as taken
 use Rattle.jpg_file.specs.Read.Machine.{any_scan}
@@ -68,9 +67,6 @@ data_left answer old m passed due left ended =
     by taken.Units ended = refl
     by taken.IntervalDone ended = omega (arith, ended refl)
     by (taken.Fault f) ended = refl
-
-zero_is : (n : ℕ) → n ≡ 0 → (n == 0) ≡ true
-zero_is n e = grind (arith, nat_tests)
 
 -- data of the current scan
 pub counts_scan : (old : ScanWork) (w : RowWork) (answer : Taken) (new : ScanWork) (after : RowWork) (m : ScanReader) → old.whole ≡ false → 1 ≤ w.left → CountsRow w old.machine answer after m → new ≡ work_after old m answer

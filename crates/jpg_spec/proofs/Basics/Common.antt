@@ -1,12 +1,12 @@
 -- Facts about tests, equal lists and answers, for the proofs of all crates.
-use Rattle.std.proofs.Common.{◌≡◌, ℕ, zero, suc, ◌%◌, ◌<◌, ◌≤◌, Bool, true, false, cond, not, List, [], ◌∷◌, ◌++◌, length, take, refl, sym, ap, ◌∙◌, subst, arith, ℤ, pos, Option, Some, None, Ok, Err, ◌==◌, ◌&&◌, drop, ◌+◌}
-use Rattle.std.specs.Prelude.{◌||◌, nat_lt, nat_le, int_le, nat_abs, is_none, ◌≤ℤ◌, filter, slice_index_or}
+use Rattle.std.proofs.Common.{◌≡◌, ℕ, zero, suc, ◌%◌, ◌<◌, ◌≤◌, Bool, true, false, cond, not, List, [], ◌∷◌, ◌++◌, length, take, refl, sym, ap, ◌∙◌, subst, arith, ℤ, pos, Option, Some, None, Ok, Err, ◌==◌, ◌&&◌, drop, ◌+◌, neg_ℤ}
+use Rattle.std.specs.Prelude.{◌||◌, nat_lt, nat_le, int_le, nat_abs, is_none, ◌≤ℤ◌, filter, slice_index_or, sum_by}
 use Rattle.std.proofs.lemmas.Bool.Decides.{nat_tests}
 use Rattle.std.proofs.lemmas.List.{append_assoc, length-append, take-append-drop, take-append-le, take_all}
 use Rattle.std.proofs.Math.Seq.{take-append_seam}
 use lib.Signed.{le_z_yes}
 use lib.Dec.{T}
-use Rattle.jpg_spec.specs.Lists.{below, any_of, are_equal, all_of}
+use Rattle.jpg_spec.specs.Lists.{below, any_of, are_equal, all_of, is_empty}
 use Rattle.jpg_spec.specs.Faults.{Parsed, refuse}
 use Rattle.jpg_spec.specs.Elements.{Coding, are_in_bounds}
 use Rattle.jpg_spec.specs.declared.fault.Fault.{Fault}
@@ -206,3 +206,17 @@ zeros_at (suc zero) = refl
 zeros_at (suc (suc zero)) = refl
 zeros_at (suc (suc (suc zero))) = refl
 zeros_at (suc (suc (suc (suc k)))) = refl
+
+pub zero_is : (n : ℕ) → n ≡ 0 → (n == 0) ≡ true
+zero_is n e = grind (arith, nat_tests)
+
+pub not_empty : (xs : List ℕ) (b : ℕ) → is_empty (xs ++ b ∷ []) ≡ false
+not_empty [] b = refl
+not_empty (x ∷ xs) b = refl
+
+pub sum_one : (f : ℕ → ℕ) (n : ℕ) → sum_by f (n ∷ []) ≡ f n
+sum_one f n = omega arith
+
+pub neg_abs : (n : ℕ) → nat_abs (neg_ℤ (pos n)) ≡ n
+neg_abs zero = refl
+neg_abs (suc n) = omega arith
