@@ -19,7 +19,7 @@ use Rattle.jpg_base.specs.declared.names.Name.{Name}
 use Rattle.jpg_base.specs.declared.names.Name.TheVariants.{Out}
 use Rattle.jpg_base.specs.declared.stop.Stop.{Stop}
 use Rattle.jpg_base.specs.declared.stop.Stop.TheVariants as stop
-use Rattle.jpg_color.specs.Encode.{image_told}
+use Rattle.jpg_color.specs.Encode.{image_view}
 use Rattle.jpg_pnm_bmp.specs.Made.{AreBytes}
 use Rattle.jpg_pnm_bmp.specs.Pieces.{EndsImage}
 use Rattle.jpg_pnm_bmp.specs.PixelsRead.{AfterFeed, image_read}
@@ -51,11 +51,11 @@ front_of file n k limit is = record {
 pub front_all : (file : List ℕ) (n k : ℕ) → k ≡ min (length file) n → length (take k file) < n → take k file ≡ file
 front_all file n k is short = take_all k file (let l = length-take k file in omega (arith, l, is, short))
 
-pub image_whole : (file front : List ℕ) (r : PixelReader) (i : Read) → IsFront file front → AreBytes file → image_told i ≡ image_read r → AfterFeed [] front (Ok fed.Done) r → IsImageOf file (Ok i)
+pub image_whole : (file front : List ℕ) (r : PixelReader) (i : Read) → IsFront file front → AreBytes file → image_view i ≡ image_read r → AfterFeed [] front (Ok fed.Done) r → IsImageOf file (Ok i)
 image_whole file front r i f small e h =
     let is = subst (λ (b : List ℕ). IsImage standard_limits b (image_read r)) f.cut (h standard_limits f.rest f.most) in
     let told = subst (λ (image : Image). IsImage standard_limits file image) (sym e) is in
-    (told, image_right standard_limits file (image_told i) told small)
+    (told, image_right standard_limits file (image_view i) told small)
 
 pub image_stopped : (file front : List ℕ) (s : Stop) (r : PixelReader) → IsFront file front → AfterFeed [] front (Err s) r → IsImageOf file (Err s)
 image_stopped file front (stop.Fault g) r f h = subst (λ (b : List ℕ). IsImageFault standard_limits b g.fault g.at) f.cut (h standard_limits f.rest f.most)
@@ -70,10 +70,10 @@ image_too_long file front r n limit f full h =
     inr (inl (refl, limit, longer, subst IsOpenImage (sym taken) (fed_open front r h)))
 
 -- the file ends
-pub image_ended : (file front : List ℕ) (old new : PixelReader) (i : Read) → front ≡ file → length front < standard_limits.input → AfterFeed [] front (Ok fed.More) old → image_told i ≡ image_read new → EndsImage front (Ok tt) (image_read new) → IsImageOf file (Ok i)
+pub image_ended : (file front : List ℕ) (old new : PixelReader) (i : Read) → front ≡ file → length front < standard_limits.input → AfterFeed [] front (Ok fed.More) old → image_view i ≡ image_read new → EndsImage front (Ok tt) (image_read new) → IsImageOf file (Ok i)
 image_ended file front old new i all short fed e h =
     let is = subst (λ (image : Image). IsImage standard_limits front image) (sym e) (h standard_limits short) in
-    subst (λ (b : List ℕ). IsImageOf b (Ok i)) all (is, image_right standard_limits front (image_told i) is fed.2)
+    subst (λ (b : List ℕ). IsImageOf b (Ok i)) all (is, image_right standard_limits front (image_view i) is fed.2)
 
 pub image_end_stopped : (file front : List ℕ) (s : Stop) (image : Image) → front ≡ file → length front < standard_limits.input → EndsImage front (Err s) image → IsImageOf file (Err s)
 image_end_stopped file front (stop.Fault g) image all short h = subst (λ (b : List ℕ). IsImageFault standard_limits b g.fault g.at) all (h standard_limits short)

@@ -16,7 +16,7 @@ use Rattle.jpg_base.specs.declared.memory.MemoryDesk.{MemoryDesk}
 use Rattle.jpg_base.specs.declared.names.Name.TheVariants.{Out}
 use Rattle.jpg_base.specs.declared.stop.Stop.{Stop}
 use Rattle.jpg_base.specs.declared.stop.Stop.TheVariants as stop
-use Rattle.jpg_color.specs.Encode.{image_told}
+use Rattle.jpg_color.specs.Encode.{image_view}
 use Rattle.jpg_pnm_bmp.specs.Made.{IsRightImage}
 use Rattle.jpg_pnm_bmp.specs.declared.read.pixels.Image.{Image as Read}
 use Rattle.example_callers.specs.declared.pictures.NotTurned.{NotTurned}
@@ -24,7 +24,7 @@ use Rattle.example_callers.specs.declared.pictures.NotTurned.TheVariants as untu
 
 -- the image of the file, or its first fault
 abbrev pub IsImageOf : List ℕ → Result Read Stop → Type 0
-IsImageOf file (Ok i) = IsImage standard_limits file (image_told i) × IsRightImage (image_told i)
+IsImageOf file (Ok i) = IsImage standard_limits file (image_view i) × IsRightImage (image_view i)
 IsImageOf file (Err (stop.Fault f)) = IsImageFault standard_limits file f.fault f.at
 IsImageOf file (Err stop.NoMemory) = Unit {0}
 

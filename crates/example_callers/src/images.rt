@@ -3,7 +3,7 @@ ghost use Rattle.std.specs.Prelude.{◌≡◌, ◌≤◌, All, [], length, false
 ghost use Rattle.jpg_spec_encode.specs.Encoded.{count_due};
 ghost use Rattle.jpg_spec_words.specs.EncodeWords.{factors_due};
 ghost use Rattle.jpg_spec_encode.specs.EncodingLaws.{AreFactors};
-ghost use Rattle.jpg_color.specs.Encode.{AsksFor, CanEncode, image_told};
+ghost use Rattle.jpg_color.specs.Encode.{AsksFor, CanEncode, image_view};
 ghost use Rattle.jpg_file.specs.Read.PictureRead.{picture_meaning};
 ghost use Rattle.jpg_pnm_bmp.specs.Made.{IsRightImage};
 ghost use Rattle.example_callers.specs.Encoding.{IsImageOf, IsEncodedFrom, HoldsAsItIs, encoding_at};
@@ -63,8 +63,8 @@ pub fn encode(alloc: Global, file: &[u8], quality: u8) -> Result<MemoryDesk, Not
 // How an image is encoded at a quality.
 fn encoding_at(quality: u8, image: &Image) -> Encoding
     requires quality { (1 ≤ quality) × (quality ≤ 100) }
-    requires image { IsRightImage (image_told image.now) }
-    ensures asks { AsksFor result (encoding_at quality (image_told image.now)) }
+    requires image { IsRightImage (image_view image.now) }
+    ensures asks { AsksFor result (encoding_at quality (image_view image.now)) }
     ensures can { CanEncode image.now result }
 {
     Encoding {

@@ -44,7 +44,7 @@ fn asked(word: &str, help: &'static [&'static str]) -> Option<&'static [&'static
 }
 
 // The texts about the program itself, or one of its commands, if the words ask only for that.
-fn told(words: &[String]) -> Option<&'static [&'static str]> {
+fn texts_asked_for(words: &[String]) -> Option<&'static [&'static str]> {
     match words {
         [word] => match word.as_str() {
             "help" => Some(&HELP),
@@ -175,7 +175,7 @@ pub fn run_program<R: RealFiles<A = Global>>(rt: R) -> ExitCode {
         Ok(words) => words,
         Err(code) => return ExitCode::from(code),
     };
-    if let Some(texts) = told(words.as_slice()) {
+    if let Some(texts) = texts_asked_for(words.as_slice()) {
         return ExitCode::from(print_all(&rt, texts));
     }
     if words.is_empty() {

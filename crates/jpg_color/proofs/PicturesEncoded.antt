@@ -15,7 +15,7 @@ use Rattle.jpg_file.specs.declared.read.picture.Picture.{Picture}
 use Rattle.jpg_pnm_bmp.specs.declared.read.pixels.Image.{Image as Read}
 use Rattle.jpg_spec_encode.specs.Encoded.{Encoding, count_due}
 use Rattle.jpg_spec_encode.specs.EncodingLaws.{AreFactors}
-use Rattle.jpg_color.specs.Encode.{AsksFor, CanEncode, CanSample, image_told}
+use Rattle.jpg_color.specs.Encode.{AsksFor, CanEncode, CanSample, image_view}
 use Rattle.jpg_color.specs.EncodeAnswer.{IsEncoded, IsEncodedAs}
 use Rattle.jpg_color.specs.EncodedParts.{AreViewParts, ViewParts, viewed_meaning}
 use Rattle.jpg_color.specs.EncodeSampling.{BeginsSampling, HasSampled}
@@ -52,7 +52,7 @@ picture_is p c is grids e = record {
 
 -- THE ANSWER
 
-pub encoded_as : (i : Read) (a : Asked) (v : EncodedImage) (p : Picture) → IsEncodedView (image_told i) a v → picture_meaning p ≡ view_meaning v → p.jfif ≡ v.jfif → IsEncodedAs i a p
+pub encoded_as : (i : Read) (a : Asked) (v : EncodedImage) (p : Picture) → IsEncodedView (image_view i) a v → picture_meaning p ≡ view_meaning v → p.jfif ≡ v.jfif → IsEncodedAs i a p
 encoded_as i a v p is means jfif = record {
   means = λ e asks. means ∙ is.means e asks;
   faultless = is.faultless;
@@ -96,6 +96,6 @@ stopped_same i a b (stop.Picture fault) same is = λ e asks. is i.samples e (ask
 stopped_same i a b stop.NoMemory same is = tt
 
 pub picture_all : (r : Result Picture NoMemory) (i : Read) (v : EncodedImage) (s : Sampler) → IfOk r (λ p. picture_meaning p ≡ view_meaning v) → IfOk r (λ p. p.jfif ≡ v.jfif)
-    → ((a : Asked) → HasSampled i.info a [] s → IsEncodedView (image_told i) a v) → IfOk r (λ p. (a : Asked) → HasSampled i.info a [] s → IsEncodedAs i a p)
+    → ((a : Asked) → HasSampled i.info a [] s → IsEncodedView (image_view i) a v) → IfOk r (λ p. (a : Asked) → HasSampled i.info a [] s → IsEncodedAs i a p)
 picture_all (Ok p) i v s means jfif all = λ a has. encoded_as i a v p (all a has) means jfif
 picture_all (Err e) i v s means jfif all = tt

@@ -17,8 +17,8 @@ use Rattle.jpg_pnm_bmp.specs.declared.read.pixels.Image.{Image as Read}
 use Rattle.jpg_color.specs.declared.encode.Encoding.{Encoding as Asked}
 
 -- an image that was read
-abbrev pub image_told : Read → Image
-image_told i = record { info = i.info; samples = i.samples }
+abbrev pub image_view : Read → Image
+image_view i = record { info = i.info; samples = i.samples }
 
 -- an image of these numbers and samples
 abbrev pub image_of : ImageInfo → List ℕ → Image
@@ -51,9 +51,9 @@ pub record AsksFor (a : Asked) (e : Encoding) : Type 0 where
 
 -- An image with all its samples, factors from 1 to 4 for each component, and tables of 64 quantisers without zeros.
 pub record CanEncode (i : Read) (a : Asked) : Type 0 where
-  pub image : IsRightImage (image_told i)
+  pub image : IsRightImage (image_view i)
   pub factors : All AreFactors a.factors.items
-  pub pairs : length a.factors.items ≡ components_due (encoding_request a) (image_told i)
+  pub pairs : length a.factors.items ≡ components_due (encoding_request a) (image_view i)
   pub first : AreQuantisers (slice_index_or a.tables 0 [])
   pub others : AreQuantisers (slice_index_or a.tables 1 [])
 

@@ -1,6 +1,6 @@
 //! A picture made of an image (the manual of cjpeg; T.81, A.1.1, A.2, A.3).
 ghost use Rattle.std.specs.Prelude.{◌≡◌, ◌≤◌, [], IfOk, length};
-ghost use Rattle.jpg_color.specs.Encode.{CanEncode, image_told};
+ghost use Rattle.jpg_color.specs.Encode.{CanEncode, image_view};
 ghost use Rattle.jpg_color.specs.EncodeAnswer.{IsEncoded, IsEncodedAs};
 ghost use Rattle.jpg_color.specs.EncodeSampling.{HasSampled, samples_left};
 ghost use Rattle.jpg_color.specs.declared.encode.Encoding.{Encoding as Asked};

@@ -82,13 +82,13 @@ fn table_due(
     quality: Option<u8>,
     baseline: bool,
     standard: &QuantTable,
-    told: Option<QuantTable>,
+    given: Option<QuantTable>,
 ) -> QuantTable
     requires { IsQuality quality }
-    ensures value { result ≡ table_due quality baseline standard.now told }
+    ensures value { result ≡ table_due quality baseline standard.now given }
     ensures quantisers { AreQuantisers result }
 {
-    match told {
+    match given {
         None => scaled_table(standard, quality_scale(quality_due(quality)), baseline),
         Some(table) => scaled_table(&table, file_scale(quality), baseline),
     }

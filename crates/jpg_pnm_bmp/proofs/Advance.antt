@@ -10,7 +10,7 @@ use Rattle.jpg_spec_image.proofs.ImageBodyRuns.{ThreeNumbers, last_three, bmp_si
 use Rattle.jpg_spec_image.proofs.ImageStands.{stands}
 use Rattle.jpg_spec.proofs.Basics.Common.{both, le_of}
 use Rattle.jpg_pnm_bmp.specs.Known.{list_of}
-use Rattle.jpg_pnm_bmp.specs.Reader.{standing, image_told, IsReached, Reaches, CanStretch, Stretches}
+use Rattle.jpg_pnm_bmp.specs.Reader.{standing, image_view, IsReached, Reaches, CanStretch, Stretches}
 use Rattle.jpg_pnm_bmp.specs.declared.read.numbers.Numbers.{Numbers}
 use Rattle.jpg_pnm_bmp.specs.declared.read.numbers.Numbers.TheVariants.{Nothing, Width, Sides, All}
 use Rattle.jpg_pnm_bmp.specs.declared.read.work.Answer.{Answer}
@@ -40,10 +40,10 @@ used_some head w = by (bmp_depth head == 8)
 
 -- A PART OF A BODY
 
-pub stretch_led : (old : Work) (head : ImageHead) (s : ImageState) (a : Answer) (w : Work) → ((x : List ℕ) → standing (record old { samples = x }) ≡ in_body head x) → ((x : List ℕ) → image_told (record old { samples = x }) ≡ image_of head x)
+pub stretch_led : (old : Work) (head : ImageHead) (s : ImageState) (a : Answer) (w : Work) → ((x : List ℕ) → standing (record old { samples = x }) ≡ in_body head x) → ((x : List ℕ) → image_view (record old { samples = x }) ≡ image_of head x)
     → Stretches head old s a w → Reaches s a w
 stretch_led old head s answer.More w g i (e, f) = ap standing f ∙ g w.samples ∙ sym e
-stretch_led old head s answer.Whole w g i (e, f) = e ∙ ap whole (sym (ap image_told f ∙ i w.samples))
+stretch_led old head s answer.Whole w g i (e, f) = e ∙ ap whole (sym (ap image_view f ∙ i w.samples))
 stretch_led old head s (answer.Fault fault) w g i e = e
 stretch_led old head s answer.NoMemory w g i e = tt
 

@@ -6,7 +6,7 @@ use Rattle.jpg_spec.specs.declared.frame.Limits.{Limits}
 use Rattle.jpg_spec_image.specs.Images.{Image}
 use Rattle.jpg_spec_image.specs.ImageFaults.{IsImage, IsImageFault}
 use Rattle.jpg_spec_image.specs.ImageSteps.{at_start, run}
-use Rattle.jpg_pnm_bmp.specs.Reader.{standing, image_told}
+use Rattle.jpg_pnm_bmp.specs.Reader.{standing, image_view}
 use Rattle.jpg_pnm_bmp.specs.declared.read.piece.Fed2.{Fed2}
 use Rattle.jpg_pnm_bmp.specs.declared.read.piece.Fed2.TheVariants as fed
 use Rattle.jpg_pnm_bmp.specs.declared.read.work.Work.{Work}
@@ -25,7 +25,7 @@ AfterImageRead bytes piece (Err (stop.Fault f)) w image = (limits : Limits) (res
 AfterImageRead bytes piece (Err stop.NoMemory) w image = Unit {0}
 
 abbrev pub AfterImagePiece : List ℕ → List ℕ → Result Fed2 Stop → Work → Type 0
-AfterImagePiece bytes piece answer w = AfterImageRead bytes piece answer w (image_told w)
+AfterImagePiece bytes piece answer w = AfterImageRead bytes piece answer w (image_view w)
 
 -- The result where the input ends, for all limits that the bytes are below.
 abbrev pub EndsImage : List ℕ → Result (Unit {0}) Stop → Image → Type 0
@@ -34,4 +34,4 @@ EndsImage bytes (Err (stop.Fault f)) image = (limits : Limits) → length bytes 
 EndsImage bytes (Err stop.NoMemory) image = Unit {0}
 
 abbrev pub AfterEnd : List ℕ → Result (Unit {0}) Stop → Work → Type 0
-AfterEnd bytes answer w = EndsImage bytes answer (image_told w)
+AfterEnd bytes answer w = EndsImage bytes answer (image_view w)

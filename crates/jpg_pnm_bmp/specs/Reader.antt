@@ -47,12 +47,12 @@ abbrev pub image_by : Stage → Work → Image
 image_by stage.BmpBody w = image_of (bmp_head w) w.samples
 image_by other w = image_of (pnm_head w) w.samples
 
-abbrev pub image_told : Work → Image
-image_told w = image_by w.stage w
+abbrev pub image_view : Work → Image
+image_view w = image_by w.stage w
 
 abbrev pub Reaches : ImageState → Answer → Work → Type 0
 Reaches s answer.More w = standing w ≡ s
-Reaches s answer.Whole w = s ≡ whole (image_told w)
+Reaches s answer.Whole w = s ≡ whole (image_view w)
 Reaches s (answer.Fault fault) w = s ≡ failed fault
 Reaches s answer.NoMemory w = Unit {0}
 
@@ -98,6 +98,6 @@ number_ended_at w n = ended_by w.format (numbers_list w) n (number_fault (number
 -- the result where the bytes end
 abbrev pub EndsAs : Result Image Fault → Answer → Work → Type 0
 EndsAs e answer.More w = ⊥
-EndsAs e answer.Whole w = e ≡ Ok (image_told w)
+EndsAs e answer.Whole w = e ≡ Ok (image_view w)
 EndsAs e (answer.Fault fault) w = e ≡ Err fault
 EndsAs e answer.NoMemory w = Unit {0}

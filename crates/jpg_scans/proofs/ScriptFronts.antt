@@ -13,7 +13,7 @@ use Rattle.jpg_spec.specs.TextReaders.{run}
 use Rattle.jpg_spec.proofs.Texts.TextRuns.{all_join, one_of, run_front}
 use Rattle.jpg_scans.specs.declared.standing.Standing.{Standing}
 use Rattle.jpg_scans.specs.declared.standing.Standing.TheVariants.{Before, InNumber, Behind, Joined}
-use Rattle.jpg_scans.specs.TextState.{NumbersState, ended_by, ended, digit_by, joint_by, number_step, EntryState, no_numbers, new_entry, is_before, is_after, is_new_entry, is_new_by, entry_by, whole_entry, colon_by, entry_step, TextState, one_more, text_step, script_told, new_text}
+use Rattle.jpg_scans.specs.TextState.{NumbersState, ended_by, ended, digit_by, joint_by, number_step, EntryState, no_numbers, new_entry, is_before, is_after, is_new_entry, is_new_by, entry_by, whole_entry, colon_by, entry_step, TextState, one_more, text_step, script_view, new_text}
 use Rattle.jpg_scans.proofs.TextFronts.{Front, list_step, list_whole}
 
 -- AN ENTRY
@@ -294,12 +294,12 @@ ends_open text s script f e =
       told = map-append parsed_entry f.ended (w.word ∷ []) ∙ ap (λ l. l ++ parsed_entry w.word ∷ []) f.told ∙ ap (λ e. s.entries ++ e ∷ []) w.told ∙ one.3;
     }
 
-ends : (text : List ℕ) (s : TextState) (script : List Entry) → TextFront (without_comments false text) s → script_told s ≡ Some script → Spells text script
+ends : (text : List ℕ) (s : TextState) (script : List Entry) → TextFront (without_comments false text) s → script_view s ≡ Some script → Spells text script
 ends text s script f e = by (is_new_entry s.entry) refl e
   where
     by : (v : Bool) → is_new_entry s.entry ≡ v → cond v (cond (is_empty s.entries) None (Some s.entries)) (one_more s.entries (whole_entry s.entry)) ≡ Some script → Spells text script
     by true a e = ends_new text s script f a e
     by false a e = ends_open text s script f e
 
-pub told_spells : (text : List ℕ) (s : TextState) (script : List Entry) → run text_step new_text (without_comments false text) ≡ Some s → script_told s ≡ Some script → Spells text script
+pub told_spells : (text : List ℕ) (s : TextState) (script : List Entry) → run text_step new_text (without_comments false text) ≡ Some s → script_view s ≡ Some script → Spells text script
 told_spells text s script e h = ends text s script (text_front (without_comments false text) s e) h

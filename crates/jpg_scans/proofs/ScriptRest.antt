@@ -12,7 +12,7 @@ use Rattle.jpg_spec.proofs.Texts.TextRuns.{value_of}
 use Rattle.jpg_spec.proofs.Texts.TextsRead.{Finishes, ReadsForm}
 use Rattle.jpg_scans.specs.declared.standing.Standing.{Standing}
 use Rattle.jpg_scans.specs.declared.standing.Standing.TheVariants.{Before, InNumber, Behind, Joined}
-use Rattle.jpg_scans.specs.TextState.{NumbersState, ended_by, EntryState, is_new_by, one_more, TextState, text_step, script_told, script_reader}
+use Rattle.jpg_scans.specs.TextState.{NumbersState, ended_by, EntryState, is_new_by, one_more, TextState, text_step, script_view, script_reader}
 use Rattle.jpg_scans.proofs.ScriptRuns.{more_yes, spaced, text_space, spelled_run}
 use Rattle.jpg_scans.proofs.TextFronts.{ListFront, told_long}
 use Rattle.jpg_scans.proofs.ScriptFronts.{TextFront, EntryFront, text_front, told_spells}
@@ -92,7 +92,7 @@ due zero = []
 due (suc zero) = 48 ∷ []
 due (suc (suc n)) = 48 ∷ 32 ∷ due (suc n)
 
-four_told : (es : List Entry) (cs ns : List ℕ) (v : ℕ) → length es < 100 → length ns ≡ 3 → script_told (at es (Some cs) ns (InNumber 1 v)) ≡ Some (es ++ banded cs (ns ++ v ∷ []) ∷ [])
+four_told : (es : List Entry) (cs ns : List ℕ) (v : ℕ) → length es < 100 → length ns ≡ 3 → script_view (at es (Some cs) ns (InNumber 1 v)) ≡ Some (es ++ banded cs (ns ++ v ∷ []) ∷ [])
 four_told es cs ns v l three =
     let long = length-append ns (v ∷ []) in
     let four : (length (ns ++ v ∷ []) == 4) ≡ true = grind (arith, nat_tests, long, three) in

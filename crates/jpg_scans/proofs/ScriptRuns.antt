@@ -13,7 +13,7 @@ use Rattle.jpg_spec.proofs.Texts.TextRuns.{run_two, run_cons, run_nil, space_low
 use Rattle.jpg_spec.proofs.Texts.TextsRead.{ReadsAs}
 use Rattle.jpg_scans.specs.declared.standing.Standing.{Standing}
 use Rattle.jpg_scans.specs.declared.standing.Standing.TheVariants.{Before, InNumber, Behind, Joined}
-use Rattle.jpg_scans.specs.TextState.{NumbersState, ended_by, ended, number_step, EntryState, no_numbers, new_entry, is_before, is_after, is_new_entry, is_new_by, entry_by, whole_entry, colon_by, entry_step, TextState, one_more, text_step, script_told, new_text, script_reader}
+use Rattle.jpg_scans.specs.TextState.{NumbersState, ended_by, ended, number_step, EntryState, no_numbers, new_entry, is_before, is_after, is_new_entry, is_new_by, entry_by, whole_entry, colon_by, entry_step, TextState, one_more, text_step, script_view, new_text, script_reader}
 use Rattle.jpg_scans.proofs.TextRuns.{number_space, list_run, ended_twice}
 
 -- A BYTE OF NUMBERS in the current entry
@@ -161,7 +161,7 @@ still_new None ns Behind = refl
 still_new None ns Joined = refl
 still_new (Some cs) ns st = refl
 
-spaced_told : (s : TextState) → script_told (spaced s) ≡ script_told s
+spaced_told : (s : TextState) → script_view (spaced s) ≡ script_view s
 unfolding spaced
 spaced_told s =
     let l = s.entry.list in
@@ -171,9 +171,9 @@ spaced_told s =
 record TextRun (s : TextState) (bytes : List ℕ) (script : List Entry) : Type 0 where
   state : TextState
   run : run text_step s bytes ≡ Some state
-  told : script_told state ≡ Some script
+  told : script_view state ≡ Some script
 
-spaces_run : (s : TextState) (sp : List ℕ) (script : List Entry) → all_of is_space sp ≡ true → script_told s ≡ Some script → TextRun s sp script
+spaces_run : (s : TextState) (sp : List ℕ) (script : List Entry) → all_of is_space sp ≡ true → script_view s ≡ Some script → TextRun s sp script
 spaces_run s [] script e h = record { state = s; run = run_nil text_step s; told = h }
 spaces_run s (b ∷ sp) script e h =
     let p = both (is_space b) (all_of is_space sp) e in
@@ -182,11 +182,11 @@ spaces_run s (b ∷ sp) script e h =
 
 -- A COMPLETE TEXT
 
-some_told : (es : List Entry) → 1 ≤ length es → script_told (record { entries = es; entry = new_entry }) ≡ Some es
+some_told : (es : List Entry) → 1 ≤ length es → script_view (record { entries = es; entry = new_entry }) ≡ Some es
 some_told [] l = absurd (omega (arith, l))
 some_told (e ∷ es) l = refl
 
-last_told : (es : List Entry) (s : EntryState) (e : Entry) → length es < 100 → is_new_entry s ≡ false → whole_entry s ≡ Some e → script_told (record { entries = es; entry = s }) ≡ Some (es ++ e ∷ [])
+last_told : (es : List Entry) (s : EntryState) (e : Entry) → length es < 100 → is_new_entry s ≡ false → whole_entry s ≡ Some e → script_view (record { entries = es; entry = s }) ≡ Some (es ++ e ∷ [])
 last_told es s e l new whole =
     ap (λ v. cond v (cond (is_empty es) None (Some es)) (one_more es (whole_entry s))) new ∙ ap (one_more es) whole ∙ more_yes es e l
 

@@ -126,8 +126,8 @@ text_step s b =
     else option_map (λ entry. record { entries = s.entries; entry = entry }) (entry_step s.entry b)
 
 -- the script, if the text ends here
-abbrev pub script_told : TextState → Option (List Entry)
-script_told s =
+abbrev pub script_view : TextState → Option (List Entry)
+script_view s =
     if is_new_entry s.entry then (if is_empty s.entries then None else Some s.entries)
     else one_more s.entries (whole_entry s.entry)
 
@@ -135,4 +135,4 @@ abbrev pub new_text : TextState
 new_text = record { entries = []; entry = new_entry }
 
 abbrev pub script_reader : TextReader (List Entry) TextState
-script_reader = record { start = new_text; step = text_step; told = script_told }
+script_reader = record { start = new_text; step = text_step; told = script_view }

@@ -4,7 +4,7 @@ ghost use Rattle.jpg_spec.specs.NumberTexts.{in_comment};
 ghost use Rattle.jpg_spec.specs.declared.fault.Fault.TheVariants.{ScriptText};
 ghost use Rattle.jpg_spec.specs.TextReaders.{IsRead, plain, reader_step, taken};
 ghost use Rattle.jpg_spec_write.specs.ScriptGrammar.{script_form};
-ghost use Rattle.jpg_scans.specs.TextState.{new_text, script_reader, script_told, text_step};
+ghost use Rattle.jpg_scans.specs.TextState.{new_text, script_reader, script_view, text_step};
 
 use crate::Entry;
 use crate::entry_text::EntryText;
@@ -118,7 +118,7 @@ impl TextReader {
 
     // The script, if the text ends here.
     pub fn end(mut self) -> Option<ArrayVec<Entry, 100>>
-        ensures { option_map (λ v. v.items) result ≡ script_told self.text }
+        ensures { option_map (λ v. v.items) result ≡ script_view self.text }
     {
         if self.entry.is_new() {
             if self.entries.is_empty() {

@@ -19,4 +19,4 @@ pub mod Steps
 pub mod Takings
 pub mod Tests
 pub mod ShortValue
-pub mod ToldTaken
+pub mod EntryTaken

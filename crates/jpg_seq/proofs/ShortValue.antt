@@ -22,14 +22,14 @@ ten_split ten store first second third none a b c =
     ∙ sym (bits_of-split 9 ten)
 
 -- a further entry
-pub told_more : (codes : List Code) (told : List ShortValue) (i : ℕ) (t : ShortValue) → i < length told → ((n : ℕ) → n < i → TellsOrNone codes (bits_of 10 n) (get_or told n no_entry)) → TellsOrNone codes (bits_of 10 i) t
-    → (n : ℕ) → n < i + 1 → TellsOrNone codes (bits_of 10 n) (get_or (set told i t) n no_entry)
-told_more codes told i t lt so_far here n h =
+pub entry_more : (codes : List Code) (entries : List ShortValue) (i : ℕ) (t : ShortValue) → i < length entries → ((n : ℕ) → n < i → TellsOrNone codes (bits_of 10 n) (get_or entries n no_entry)) → TellsOrNone codes (bits_of 10 i) t
+    → (n : ℕ) → n < i + 1 → TellsOrNone codes (bits_of 10 n) (get_or (set entries i t) n no_entry)
+entry_more codes entries i t lt so_far here n h =
     ⊎_elim
-    (λ (a : n < i). let e : get_or (set told i t) n no_entry ≡ get_or told n no_entry = grind (arith, elements) in subst (λ x. TellsOrNone codes (bits_of 10 n) x) (sym e) (so_far n a))
+    (λ (a : n < i). let e : get_or (set entries i t) n no_entry ≡ get_or entries n no_entry = grind (arith, elements) in subst (λ x. TellsOrNone codes (bits_of 10 n) x) (sym e) (so_far n a))
     (λ (b : i ≤ n). (let e : i ≡ n = omega arith in
-    let w : get_or (set told i t) i no_entry ≡ t = grind (arith, elements) in
-    let P : ℕ → Type 0 = λ m. TellsOrNone codes (bits_of 10 m) (get_or (set told i t) m no_entry) in
+    let w : get_or (set entries i t) i no_entry ≡ t = grind (arith, elements) in
+    let P : ℕ → Type 0 = λ m. TellsOrNone codes (bits_of 10 m) (get_or (set entries i t) m no_entry) in
     subst P e (subst (λ x. TellsOrNone codes (bits_of 10 i) x) (sym w) here)))
     (cases_lt n i)
 
@@ -92,14 +92,14 @@ first_ten : (bits : List Bool) (ten : ℕ) → bits_of 10 ten ≡ take 10 bits �
 first_ten bits ten is = take_all 10 (bits_of 10 ten) (omega (arith, length-bits_of 10 ten)) ∙ is
 
 -- the first ten bits determine it, so all do
-pub told_first : (codes : List Code) (bits : List Bool) (ten : ℕ) (t : ShortValue) → 10 ≤ length bits → bits_of 10 ten ≡ take 10 bits → TellsOrNone codes (bits_of 10 ten) t → (t.length ≡ 0 → ⊥) → IsNextShortValue codes bits t
-told_first codes bits ten t long is (inl none) some = absurd (some none.0)
-told_first codes bits ten t long is (inr f) some = same_short codes (bits_of 10 ten) bits t (first_ten bits ten is) long f
+pub entry_first : (codes : List Code) (bits : List Bool) (ten : ℕ) (t : ShortValue) → 10 ≤ length bits → bits_of 10 ten ≡ take 10 bits → TellsOrNone codes (bits_of 10 ten) t → (t.length ≡ 0 → ⊥) → IsNextShortValue codes bits t
+entry_first codes bits ten t long is (inl none) some = absurd (some none.0)
+entry_first codes bits ten t long is (inr f) some = same_short codes (bits_of 10 ten) bits t (first_ten bits ten is) long f
 
 -- they determine none
-pub told_not : (codes : List Code) (bits : List Bool) (ten : ℕ) (t : ShortValue) → bits_of 10 ten ≡ take 10 bits → TellsOrNone codes (bits_of 10 ten) t → t.length ≡ 0 → TellsNone codes bits
-told_not codes bits ten t is (inl none) e = λ u f. none.1 u (same_short codes bits (bits_of 10 ten) u (sym (first_ten bits ten is)) (omega (arith, length-bits_of 10 ten)) f)
-told_not codes bits ten t is (inr f) e = absurd (omega (arith, some_short codes (bits_of 10 ten) t f, e))
+pub entry_not : (codes : List Code) (bits : List Bool) (ten : ℕ) (t : ShortValue) → bits_of 10 ten ≡ take 10 bits → TellsOrNone codes (bits_of 10 ten) t → t.length ≡ 0 → TellsNone codes bits
+entry_not codes bits ten t is (inl none) e = λ u f. none.1 u (same_short codes bits (bits_of 10 ten) u (sym (first_ten bits ten is)) (omega (arith, length-bits_of 10 ten)) f)
+entry_not codes bits ten t is (inr f) e = absurd (omega (arith, some_short codes (bits_of 10 ten) t f, e))
 
 -- WHERE NONE COMES FIRST
 

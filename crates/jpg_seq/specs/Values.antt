@@ -51,6 +51,6 @@ abbrev pub no_entry : ShortValue
 no_entry = record { value = pos 0; run = 0; length = 0 }
 
 -- the entries of all ten bits
-pub record AreShortValues (codes : List Code) (told : List ShortValue) : Type 0 where
-  pub long : length told ≡ 1024
-  pub each : (n : ℕ) → n < 1024 → TellsOrNone codes (bits_of 10 n) (slice_index_or told n no_entry)
+pub record AreShortValues (codes : List Code) (entries : List ShortValue) : Type 0 where
+  pub long : length entries ≡ 1024
+  pub each : (n : ℕ) → n < 1024 → TellsOrNone codes (bits_of 10 n) (slice_index_or entries n no_entry)

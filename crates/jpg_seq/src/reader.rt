@@ -52,9 +52,9 @@ fn put_coder(place: &mut Option<Coder>, part: &ScanPart, tables: &TableSet)
     };
     let mut ac = ValueDecoder {
         decoder: Decoder::new(ac),
-        told: [no_short_value(); 1024],
+        entries: [no_short_value(); 1024],
     };
-    fill(&ac.decoder, &mut ac.told);
+    fill(&ac.decoder, &mut ac.entries);
     *place = Some(Coder {
         dc: Decoder::new(dc),
         ac,

@@ -29,7 +29,7 @@ pub struct ShortValue {
 pub struct ValueDecoder {
     pub(crate) decoder: Decoder,
     // filled in by `fill`
-    pub(crate) told: [ShortValue; 1024],
+    pub(crate) entries: [ShortValue; 1024],
 }
 
 impl Model for ValueDecoder {
@@ -41,7 +41,7 @@ impl Model for ValueDecoder {
 
     ghost view = { λ d. d.decoder };
 
-    ghost invariant = { λ d. AreShortValues d.decoder d.told };
+    ghost invariant = { λ d. AreShortValues d.decoder d.entries };
 }
 
 // The bits of a number below 1024.
@@ -79,7 +79,7 @@ fn end_of(length: u8) -> ShortValue
 }
 
 // The entry of these ten bits.
-fn told_by(codes: &Decoder, ten: u16) -> ShortValue
+fn entry_by(codes: &Decoder, ten: u16) -> ShortValue
     requires { ten < 1024 }
     ensures { TellsOrNone codes.now (bits_of 10 ten) result }
 {
@@ -108,11 +108,11 @@ fn told_by(codes: &Decoder, ten: u16) -> ShortValue
 /// Fills in the values of a decoder by the next ten bits, in their place.
 #[cold]
 #[inline(never)]
-pub(crate) fn fill(decoder: &Decoder, told: &mut [ShortValue; 1024])
-    ensures { AreShortValues decoder.now told.new }
+pub(crate) fn fill(decoder: &Decoder, entries: &mut [ShortValue; 1024])
+    ensures { AreShortValues decoder.now entries.new }
 {
     for ten in 0..1024usize {
-        told[ten] = told_by(decoder, ten as u16);
+        entries[ten] = entry_by(decoder, ten as u16);
     }
 }
 
@@ -136,13 +136,13 @@ impl ValueDecoder {
     /// The value that the first ten of these bits encode, or the end of a block: None if they encode neither, or if
     /// there are fewer.
     #[inline(always)]
-    pub fn told(&self, bits: &BitStore) -> Option<ShortValue>
+    pub fn entry(&self, bits: &BitStore) -> Option<ShortValue>
         ensures { TellsShortValue self.now bits.now result }
     {
         if bits.len() < 10 {
             return None;
         }
-        let told = self.told[bits.peek(10) as usize];
-        if told.length == 0 { None } else { Some(told) }
+        let entry = self.entries[bits.peek(10) as usize];
+        if entry.length == 0 { None } else { Some(entry) }
     }
 }

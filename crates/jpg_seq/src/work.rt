@@ -374,14 +374,14 @@ impl UnitWork {
     {
         ac.apart();
         let at = self.count();
-        match ac.told(store) {
-            Some(told) => {
-                if at + told.run < 64 {
-                    store.skip(told.length);
-                    self.place(told.run, told.value);
+        match ac.entry(store) {
+            Some(entry) => {
+                if at + entry.run < 64 {
+                    store.skip(entry.length);
+                    self.place(entry.run, entry.value);
                     self.covered()
-                } else if told.run == END_RUN {
-                    store.skip(told.length);
+                } else if entry.run == END_RUN {
+                    store.skip(entry.length);
                     self.cover(64 - at);
                     self.covered()
                 } else {

@@ -7,7 +7,7 @@ use Rattle.jpg_spec_image.specs.TargaFaults.{TargaMeans, IsTargaFault}
 use Rattle.jpg_spec_image.specs.TargaSteps.{at_start, run, total}
 use Rattle.jpg_pnm_bmp.specs.declared.read.piece.Fed2.{Fed2}
 use Rattle.jpg_pnm_bmp.specs.declared.read.piece.Fed2.TheVariants as fed
-use Rattle.jpg_targa.specs.Reader.{standing, image_told}
+use Rattle.jpg_targa.specs.Reader.{standing, image_view}
 use Rattle.jpg_targa.specs.declared.read.work.Work.{Work}
 
 -- it was given these bytes, as many as `taken`
@@ -23,7 +23,7 @@ AfterTargaRead bytes piece (Err (stop.Fault f)) w image = (rest : List ℕ) → 
 AfterTargaRead bytes piece (Err stop.NoMemory) w image = Unit {0}
 
 abbrev pub AfterTargaPiece : List ℕ → List ℕ → Result Fed2 Stop → Work → Type 0
-AfterTargaPiece bytes piece answer w = AfterTargaRead bytes piece answer w (image_told w)
+AfterTargaPiece bytes piece answer w = AfterTargaRead bytes piece answer w (image_view w)
 
 -- where the image is complete, its pixels are all there
 abbrev pub HasAllAtDone : Result Fed2 Stop → Work → Type 0

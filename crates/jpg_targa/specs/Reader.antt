@@ -31,12 +31,12 @@ abbrev pub IsReached : TargaState → Type 0
 IsReached s = (bytes : List ℕ) × (run at_start bytes ≡ s)
 
 -- the image, once all pixels are there
-abbrev pub image_told : Work → Image
-image_told w = targa_image w.head w.pixels
+abbrev pub image_view : Work → Image
+image_view w = targa_image w.head w.pixels
 
 abbrev pub Reaches : TargaState → Answer → Work → Type 0
 Reaches s answer.More w = standing w ≡ s
-Reaches s answer.Whole w = s ≡ whole (image_told w)
+Reaches s answer.Whole w = s ≡ whole (image_view w)
 Reaches s (answer.Fault fault) w = s ≡ failed fault
 Reaches s answer.NoMemory w = Unit {0}
 

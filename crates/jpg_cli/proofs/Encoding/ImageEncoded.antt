@@ -28,7 +28,7 @@ use Rattle.jpg_spec_words.specs.declared.answers.Why.TheVariants as why
 use Rattle.jpg_spec_write.specs.declared.picture_fault.PictureFault.{PictureFault}
 use Rattle.jpg_spec_words.proofs.EncodedKept.{stays_fault, stays_text}
 use Rattle.jpg_spec_encode.proofs.EncodedWritten.{encoded_means}
-use Rattle.jpg_color.specs.Encode.{AsksFor, CanEncode, image_told}
+use Rattle.jpg_color.specs.Encode.{AsksFor, CanEncode, image_view}
 use Rattle.jpg_color.specs.EncodeAnswer.{IsEncoded}
 use Rattle.jpg_color.specs.declared.encode.Encoding.{Encoding as Asked}
 use Rattle.jpg_color.specs.declared.encode.EncodeStop.{EncodeStop}
@@ -77,14 +77,14 @@ picture_written {w} {scans} {e} {I} asked h p s1 s2 ended same wrote =
 fault_first : (e : Encoding) (I : Image) (f : PictureFault) → sampling_fault e I ≡ Some f → encode_fault e I ≡ Some f
 fault_first e I f is = ap (λ s. first_some s (script_fault (frame_of_meaning (encoded e I)) (encoded_script e I))) is
 
-pub none_encoded : (i : Read) (a : Asked) (e : Encoding) (output : Name) (s : DeskState) (end : EncodeStop) (w : Why) → w ≡ why_not_encoded end → AsksFor a e → IsEncoded i a (Err end) → AfterEncoding e (image_told i) output s w s
+pub none_encoded : (i : Read) (a : Asked) (e : Encoding) (output : Name) (s : DeskState) (end : EncodeStop) (w : Why) → w ≡ why_not_encoded end → AsksFor a e → IsEncoded i a (Err end) → AfterEncoding e (image_view i) output s w s
 none_encoded i a e output s (stop.Picture f) w is asks h =
-    subst (λ (v : Why). AfterEncoding e (image_told i) output s v s) (sym is) (inl (fault_first e (image_told i) f (h e asks), record { asked = refl; outputs = refl; left = refl }))
+    subst (λ (v : Why). AfterEncoding e (image_view i) output s v s) (sym is) (inl (fault_first e (image_view i) f (h e asks), record { asked = refl; outputs = refl; left = refl }))
 none_encoded i a e output s stop.NoMemory w is asks h =
-    subst (λ (v : Why). AfterEncoding e (image_told i) output s v s) (sym is) (inr (refl, record { asked = refl; outputs = refl; left = refl }))
+    subst (λ (v : Why). AfterEncoding e (image_view i) output s v s) (sym is) (inr (refl, record { asked = refl; outputs = refl; left = refl }))
 
 -- what is asked for can be encoded, whatever its scans
-pub is_encodable : (e : Encoding) (i : Read) (a : Asked) → IsRightImage (image_told i) → AsksFor a e → CanEncode i a → IsRestart e.restart → IsEncodable e (image_told i)
+pub is_encodable : (e : Encoding) (i : Read) (a : Asked) → IsRightImage (image_view i) → AsksFor a e → CanEncode i a → IsRestart e.restart → IsEncodable e (image_view i)
 is_encodable e i a right asks can counted = record {
   width_low = right.width_low;
   width_high = right.width_high;

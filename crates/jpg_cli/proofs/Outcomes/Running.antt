@@ -21,7 +21,7 @@ use Rattle.jpg_spec_words.specs.ShowWords.{ShowAsked}
 use Rattle.jpg_spec_image.specs.declared.image.EndKind.{EndKind}
 use Rattle.jpg_cli.specs.declared.words.files.WordsStop.TheVariants as words
 use Rattle.jpg_cli.specs.Desk.ScriptTaken.{HasScans, StopsAtScans, names_before}
-use Rattle.jpg_cli.specs.Words.TransformWords.{script_told, transform_view}
+use Rattle.jpg_cli.specs.Words.TransformWords.{script_view, transform_view}
 use Rattle.jpg_cli.specs.Outcome.{Converted}
 use Rattle.jpg_cli.specs.Tools.Turned.{Transformed, Turned, Turning, turning_conversion}
 use Rattle.jpg_cli.specs.declared.words.jpegtran_request.TransformWords.{TransformWords}
@@ -57,12 +57,12 @@ turned_made t M early s0 s1 s2 w h k = converted_made Meaning (turning_conversio
 
 -- AS THE WORDS ASK FOR IT
 
-pub transformed_in : (w : TransformWords) (scans : Scans) (choice : Choice) (s0 s1 s2 : DeskState) (ended : Why) → choice ≡ choice_asked (transform_view w) scans → GoesOnAfter (names_before (script_told w.script)) s0 s1 → HasScans (script_told w.script) s0 scans
+pub transformed_in : (w : TransformWords) (scans : Scans) (choice : Choice) (s0 s1 s2 : DeskState) (ended : Why) → choice ≡ choice_asked (transform_view w) scans → GoesOnAfter (names_before (script_view w.script)) s0 s1 → HasScans (script_view w.script) s0 scans
     → Turned (record { before = []; input = w.files.input; output = w.files.output; choice = choice }) s1 ended s2 → Transformed (transform_view w) s0 ended s2
 transformed_in w scans choice s0 s1 s2 ended same behind has turned =
-    let of : Name → Name → Choice → Turning = λ i o c. record { before = names_before (script_told w.script); input = i; output = o; choice = c } in
+    let of : Name → Name → Choice → Turning = λ i o c. record { before = names_before (script_view w.script); input = i; output = o; choice = c } in
     let asked = choice_asked (transform_view w) scans in
-    let there = converted_after Meaning (turning_conversion (of w.files.input w.files.output choice)) (names_before (script_told w.script)) s0 s1 s2 behind ended turned in
+    let there = converted_after Meaning (turning_conversion (of w.files.input w.files.output choice)) (names_before (script_view w.script)) s0 s1 s2 behind ended turned in
     inr (inl (
       scans,
       has,

@@ -18,7 +18,7 @@ use Rattle.jpg_spec_write.specs.Script.{Entry}
 use Rattle.jpg_file.specs.Read.PictureRead.{MeansFor}
 use Rattle.jpg_file.specs.declared.write.Plan.{Plan}
 use Rattle.jpg_file.specs.Write.Restarts.{restart_of}
-use Rattle.jpg_color.specs.Encode.{image_told}
+use Rattle.jpg_color.specs.Encode.{image_view}
 use Rattle.jpg_pnm_bmp.specs.declared.read.pixels.Image.{Image as Read}
 use Rattle.jpg_file.specs.declared.read.picture.Picture.{Picture}
 use Rattle.jpg_color.specs.declared.encode.view.EncodedImage.{EncodedImage}
@@ -58,7 +58,7 @@ AfterEncoding e I output old ended new =
 
 -- an image that was read, as the words ask for it
 abbrev pub EncodesImage : EncodeWords → Scans → Option (Bor (ArrayVec QuantTable)) → Read → DeskState → Why → DeskState → Type 0
-EncodesImage w scans tables i old ended new = AfterEncoding (asked_of w scans tables i) (image_told i) w.files.output old ended new
+EncodesImage w scans tables i old ended new = AfterEncoding (asked_of w scans tables i) (image_view i) w.files.output old ended new
 
 -- AN ENCODED IMAGE written as the words ask for it: in these scans, with their Huffman tables and restarts
 pub record IsAskedBy (w : EncodeWords) (scans : Scans) (e : Encoding) : Type 0 where

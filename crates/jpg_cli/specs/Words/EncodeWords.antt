@@ -11,12 +11,12 @@ use Rattle.jpg_spec_image.specs.Images.{Image}
 use Rattle.jpg_spec_image.specs.declared.image.ImageKind.{ImageKind}
 use Rattle.jpg_spec_write.specs.ScansAsked.{Scans}
 use Rattle.jpg_spec.specs.Segments.{AreQuantisers, QuantTable}
-use Rattle.jpg_color.specs.Encode.{image_told}
+use Rattle.jpg_color.specs.Encode.{image_view}
 use Rattle.jpg_color.specs.declared.encode.Encoding.{Encoding as Asked}
 use Rattle.jpg_pnm_bmp.specs.declared.read.pixels.Image.{Image as Read}
 use Rattle.jpg_file.specs.Write.Restarts.{restart_of}
 use Rattle.jpg_cli.specs.Words.Files.{files_said, files_view, text_view}
-use Rattle.jpg_cli.specs.Words.TransformWords.{script_said, script_told}
+use Rattle.jpg_cli.specs.Words.TransformWords.{script_said, script_view}
 use Rattle.jpg_cli.specs.declared.words.cjpeg.EncodeSaid.{EncodeSaid}
 use Rattle.jpg_cli.specs.declared.words.cjpeg_request.EncodeWords.{EncodeWords}
 
@@ -28,7 +28,7 @@ encode_view w = record {
   quality = w.quality;
   gray = w.gray;
   baseline = w.baseline;
-  scans = script_told w.script;
+  scans = script_view w.script;
   huffman = w.huffman;
   restart = restart_of w.restart;
   factors = w.factors.items;
@@ -75,7 +75,7 @@ encoding_by w scans tables image = encoding_asked (encode_view w) scans (lent_ta
 
 -- one that was read
 abbrev pub asked_of : EncodeWords → Scans → Option (Bor (ArrayVec QuantTable)) → Read → Encoding
-asked_of w scans tables i = encoding_by w scans tables (image_told i)
+asked_of w scans tables i = encoding_by w scans tables (image_view i)
 
 -- An image of this kind can be encoded like this, if its sides are right: factors from 1 to 4 for each component, and
 -- tables.

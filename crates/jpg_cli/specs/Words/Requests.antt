@@ -10,14 +10,14 @@ use Rattle.jpg_cli.specs.declared.words.files.WordsStop.TheVariants as stop
 
 -- If the words are right, what they ask for; if they aren't, what is wrong.
 abbrev pub AnswersWords : {X Y : Type 0} → (X → Y) → ParsedWords Y → Result X Usage → Type 0
-AnswersWords told asked (Ok x) = asked ≡ words_right (told x)
-AnswersWords told asked (Err usage) = asked ≡ words_wrong usage
+AnswersWords meaning asked (Ok x) = asked ≡ words_right (meaning x)
+AnswersWords meaning asked (Err usage) = asked ≡ words_wrong usage
 
 -- What the words ask for, NoMemory if they are right, or what is wrong with them.
 abbrev pub IsAnswer : {X Y : Type 0} → (X → Y) → ParsedWords Y → Result X WordsStop → Type 0
-IsAnswer told asked (Ok x) = asked ≡ words_right (told x)
-IsAnswer told asked (Err (stop.Usage usage)) = asked ≡ words_wrong usage
-IsAnswer {Y} told asked (Err stop.NoMemory) = (y : Y) × (asked ≡ words_right y)
+IsAnswer meaning asked (Ok x) = asked ≡ words_right (meaning x)
+IsAnswer meaning asked (Err (stop.Usage usage)) = asked ≡ words_wrong usage
+IsAnswer {Y} meaning asked (Err stop.NoMemory) = (y : Y) × (asked ≡ words_right y)
 
 -- the word of this index
 abbrev pub word_at : List (List ℕ) → ℕ → List ℕ

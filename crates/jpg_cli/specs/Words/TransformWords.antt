@@ -12,10 +12,10 @@ use Rattle.jpg_cli.specs.declared.words.jpegtran.TransformSaid.{TransformSaid}
 use Rattle.jpg_cli.specs.declared.words.jpegtran_request.TransformWords.{TransformWords}
 
 -- the source of the scans
-abbrev pub script_told : ScriptFrom → ScansSource
-script_told from.Sequential = own_sequential
-script_told from.Standard = own_progressive
-script_told (from.File name) = in_file name
+abbrev pub script_view : ScriptFrom → ScansSource
+script_view from.Sequential = own_sequential
+script_view from.Standard = own_progressive
+script_view (from.File name) = in_file name
 
 -- words with their files, as they ask for a picture to be transformed
 abbrev pub transform_view : TransformWords → TransformAsked
@@ -26,7 +26,7 @@ transform_view w = record {
   gray = w.gray;
   crop = w.crop;
   copying = w.copying;
-  scans = script_told w.script;
+  scans = script_view w.script;
   huffman = w.huffman;
   restart = restart_of w.restart;
 }

@@ -2,7 +2,7 @@
 //! 6b).
 ghost use Rattle.jpg_cli.specs.Desk.ScriptTaken.{AfterScans, AfterScript};
 ghost use Rattle.jpg_cli.specs.Stays.{Keeps};
-ghost use Rattle.jpg_cli.specs.Words.TransformWords.{script_told};
+ghost use Rattle.jpg_cli.specs.Words.TransformWords.{script_view};
 
 use crate::desk::file::take_file;
 use crate::words::jpegtran::ScriptFrom;
@@ -19,7 +19,7 @@ const LIMIT: usize = 65_537;
 #[inline(never)]
 pub fn take_scans<D: Desk>(alloc: Global, from: &ScriptFrom, desk: &mut D) -> Result<Scans, Why>
     ensures kept { Keeps (D.state desk.old) (D.state desk.new) }
-    ensures after { AfterScans (script_told from.now) (D.state desk.old) result (D.state desk.new) }
+    ensures after { AfterScans (script_view from.now) (D.state desk.old) result (D.state desk.new) }
 {
     match from {
         ScriptFrom::Sequential => Ok(Scans::Sequential),

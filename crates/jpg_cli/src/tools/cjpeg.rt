@@ -1,7 +1,7 @@
 //! An image read, encoded and written (the manual of cjpeg).
 ghost use Rattle.std.specs.Prelude.{◌≡◌, []};
 ghost use Rattle.jpg_transform.specs.Planned.{scans_view};
-ghost use Rattle.jpg_color.specs.Encode.{image_told};
+ghost use Rattle.jpg_color.specs.Encode.{image_view};
 ghost use Rattle.jpg_pnm_bmp.specs.Made.{IsRightImage};
 ghost use Rattle.jpg_cli.specs.Words.EncodeWords.{encode_view, lent_tables};
 ghost use Rattle.jpg_cli.specs.Tools.ImageEncoded.{Encoded, EncodedAfter, EncodedAsAsked, task_after};
@@ -149,7 +149,7 @@ pub fn write_encoded<D: Desk>(
     tables: Option<&Tables>,
     desk: &mut D,
 ) -> Why
-    requires { IsRightImage (image_told image.now) }
+    requires { IsRightImage (image_view image.now) }
     ensures kept { OnlyWorks (D.state desk.old) (D.state desk.new) }
     ensures left { (D.state desk.new).left ≡ (D.state desk.old).left }
     ensures wrote { EncodesImage words.now (scans_view scans) tables.entry image.now (D.state desk.old) result (D.state desk.new) }

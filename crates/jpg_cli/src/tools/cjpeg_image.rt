@@ -2,7 +2,7 @@
 ghost use Rattle.std.specs.Prelude.{◌≡◌, ◌≤◌, ◌+◌, IfOk, IfSome, OnOk, length, true};
 ghost use Rattle.jpg_spec_words.specs.declared.answers.Why.TheVariants as why;
 ghost use Rattle.jpg_transform.specs.Planned.{scans_view};
-ghost use Rattle.jpg_color.specs.Encode.{image_told};
+ghost use Rattle.jpg_color.specs.Encode.{image_view};
 ghost use Rattle.jpg_color.specs.EncodeSampling.{samples_left};
 ghost use Rattle.jpg_pnm_bmp.specs.Made.{IsRightImage};
 ghost use Rattle.jpg_cli.specs.Desk.EncodedRead.{EncodedRead, Encodes, EndsEncoding};
@@ -81,8 +81,8 @@ fn encode_whole(
     scans: &Scans,
     tables: Option<&Tables>,
 ) -> Result<EncodedImage, Why>
-    requires { IsRightImage (image_told image.now) }
-    ensures { Encodes (asked_of words.now (scans_view scans.now) tables.entry image.now) (image_told image.now) result }
+    requires { IsRightImage (image_view image.now) }
+    ensures { Encodes (asked_of words.now (scans_view scans.now) tables.entry image.now) (image_view image.now) result }
 {
     counted(words.restart);
     let encoding = encoding_of(words, scans, tables, image.info.kind);

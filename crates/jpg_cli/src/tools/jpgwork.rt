@@ -4,7 +4,7 @@ ghost use Rattle.jpg_spec_image.specs.declared.image.EndKind.TheVariants as kind
 ghost use Rattle.jpg_spec_image.specs.ImageText.{pnm_header};
 ghost use Rattle.jpg_spec_words.specs.Work.{first_picture, first_text, work_info};
 ghost use Rattle.jpg_cli.specs.Stays.{OnlyWorks};
-ghost use Rattle.jpg_cli.specs.Words.TransformWords.{script_told};
+ghost use Rattle.jpg_cli.specs.Words.TransformWords.{script_view};
 ghost use Rattle.jpg_cli.specs.Tools.Ends.{AreNewEnds, formats_of, has_format};
 ghost use Rattle.jpg_cli.specs.Tools.Worked.{DidWork, HasFile, HoldsInput, IsReport, ReportsShown, ShowsFile, TurnsFile, WritesReport, work_choice, scans_by};
 
@@ -158,7 +158,7 @@ fn desk_of(alloc: Global, input: &[u8]) -> Option<MemoryDesk>
 
 // The default scans of a kind.
 fn scans_from(progressive: bool) -> ScriptFrom
-    ensures { script_told result ≡ scans_by progressive }
+    ensures { script_view result ≡ scans_by progressive }
 {
     if progressive {
         ScriptFrom::Standard

@@ -1,7 +1,7 @@
 //! The image that jpgwork encodes, made from its number.
 ghost use Rattle.std.specs.Prelude.{◌≡◌, ◌≤◌, ◌<◌, ◌++◌, OnOk, IfSome};
 ghost use Rattle.jpg_spec_words.specs.Work.{work_image, work_info, work_pixel, work_row};
-ghost use Rattle.jpg_color.specs.Encode.{image_told};
+ghost use Rattle.jpg_color.specs.Encode.{image_view};
 
 use jpg_base::{Bytes, NoMemory};
 use jpg_pnm_bmp::Image;
@@ -54,7 +54,7 @@ pub fn info_of(size: u16) -> ImageInfo
 /// The image of this number; none if there is no memory.
 pub fn image_of(alloc: Global, size: u16) -> Option<Image>
     requires { size ≤ 400 }
-    ensures { IfSome result (λ image. image_told image ≡ work_image size) }
+    ensures { IfSome result (λ image. image_view image ≡ work_image size) }
 {
     let info = info_of(size);
     let mut samples = Bytes::new(alloc);

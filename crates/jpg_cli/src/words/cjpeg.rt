@@ -99,7 +99,7 @@ impl<'a> Asks<'a> for EncodeSaid<'a> {
 
     ghost said = { encode_said };
 
-    ghost told = { encode_view };
+    ghost meaning = { encode_view };
 
     fn named(self, name: &'a str) -> Self {
         EncodeSaid {

@@ -56,7 +56,7 @@ impl<'a> Asks<'a> for FilesSaid<'a> {
 
     ghost said = { files_said };
 
-    ghost told = { files_view };
+    ghost meaning = { files_view };
 
     fn named(self, name: &'a str) -> Self {
         self.from(name)
@@ -126,7 +126,7 @@ impl<'a> Asks<'a> for WriteSaid<'a> {
 
     ghost said = { write_said };
 
-    ghost told = { write_words_view };
+    ghost meaning = { write_words_view };
 
     fn named(self, name: &'a str) -> Self {
         WriteSaid {

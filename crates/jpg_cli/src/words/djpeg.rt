@@ -85,7 +85,7 @@ impl<'a> Asks<'a> for ShowSaid<'a> {
 
     ghost said = { show_said };
 
-    ghost told = { show_view };
+    ghost meaning = { show_view };
 
     fn named(self, name: &'a str) -> Self {
         ShowSaid {

@@ -6,7 +6,7 @@ ghost use Rattle.jpg_spec_words.specs.Requests.{with_value};
 ghost use Rattle.jpg_spec_words.specs.TransformWords.{TransformAsked, copying_named, flip_named, jpegtran, rotation_named, transform_asked, transform_number, with_progressive, with_transform};
 ghost use Rattle.jpg_cli.specs.Words.Files.{text_view};
 ghost use Rattle.jpg_cli.specs.Words.Requests.{AnswersWords, IsAnswer};
-ghost use Rattle.jpg_cli.specs.Words.TransformWords.{area_said, script_said, script_told, transform_said, transform_view};
+ghost use Rattle.jpg_cli.specs.Words.TransformWords.{area_said, script_said, script_view, transform_said, transform_view};
 
 use crate::words::areas::area_named;
 use crate::words::files::{Files, FilesSaid, NO_FILES, WordsStop};
@@ -105,7 +105,7 @@ impl<'a> Asks<'a> for TransformSaid<'a> {
 
     ghost said = { transform_said };
 
-    ghost told = { transform_view };
+    ghost meaning = { transform_view };
 
     fn named(self, name: &'a str) -> Self {
         TransformSaid {
@@ -235,7 +235,7 @@ impl<'a> ScriptSaid<'a> {
 
     // The source of the scans, with a copy of the name.
     pub(crate) fn to_script(self, alloc: Global) -> Result<ScriptFrom, NoMemory>
-        ensures { IfOk result (λ script. script_told script ≡ script_said self.entry) }
+        ensures { IfOk result (λ script. script_view script ≡ script_said self.entry) }
     {
         Ok(match self {
             ScriptSaid::Sequential => ScriptFrom::Sequential,

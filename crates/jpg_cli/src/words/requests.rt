@@ -24,7 +24,7 @@ pub trait Asks<'a>: Copy {
 
     ghost said: { Self → Self.Asked };
 
-    ghost told: { Self.Words → Self.Asked };
+    ghost meaning: { Self.Words → Self.Asked };
 
     /// What is asked for after a further word, the name of the input.
     fn named(self, name: &'a str) -> Self
@@ -41,7 +41,7 @@ pub trait Asks<'a>: Copy {
 
     /// All of it, with copies of the names.
     fn to_words(self, alloc: Global) -> Result<Self::Words, NoMemory>
-        ensures { IfOk result (λ words. told words ≡ said self) };
+        ensures { IfOk result (λ words. meaning words ≡ said self) };
 }
 
 /// What the words of a command with these switches ask for; the word with index 0 is the command, and without switches
@@ -53,7 +53,7 @@ pub(crate) fn read_words<'a, A: Asks<'a>>(
     words: &'a [String],
 ) -> Result<A::Words, WordsStop>
     requires { map switch_view switches.now ≡ A.tool.switches }
-    ensures { IsAnswer A.told (request A.tool (A.said start) (drop 1 (map string_bytes words.now))) result }
+    ensures { IsAnswer A.meaning (request A.tool (A.said start) (drop 1 (map string_bytes words.now))) result }
 {
     match read_request(start, switches, words) {
         Ok(said) => match said.to_words(alloc) {

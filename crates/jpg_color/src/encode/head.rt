@@ -161,14 +161,14 @@ pub(crate) fn density_of(info: &ImageInfo) -> Jfif
     ensures { result ≡ density_of info.now }
 {
     let (x, y) = (info.x_metre / 100, info.y_metre / 100);
-    let told = is_density(x) && is_density(y);
+    let is_given = is_density(x) && is_density(y);
     Jfif {
         seen: true,
         major: 1,
         minor: 1,
-        unit: if told { 2 } else { 0 },
-        x: if told { x as u16 } else { 1 },
-        y: if told { y as u16 } else { 1 },
+        unit: if is_given { 2 } else { 0 },
+        x: if is_given { x as u16 } else { 1 },
+        y: if is_given { y as u16 } else { 1 },
     }
 }
 

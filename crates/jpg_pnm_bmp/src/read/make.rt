@@ -5,7 +5,7 @@ ghost use Rattle.jpg_spec_image.specs.PnmText.{scaled_sample};
 ghost use Rattle.jpg_spec_image.specs.BmpFile.{colour, colours, bmp_line, bmp_body_samples};
 ghost use Rattle.jpg_spec_image.specs.ImageFaults.{image_of};
 ghost use Rattle.jpg_pnm_bmp.specs.Made.{AreBytes, Makes};
-ghost use Rattle.jpg_pnm_bmp.specs.Reader.{pnm_head, bmp_head, image_told};
+ghost use Rattle.jpg_pnm_bmp.specs.Reader.{pnm_head, bmp_head, image_view};
 
 use crate::read::bmp::{bmp_height, bmp_info, is_indexed, line, used};
 use crate::read::numbers::{Numbers, pnm_info};
@@ -170,7 +170,7 @@ fn make_bmp(work: &Work, made: &mut Bytes) -> Result<ImageInfo, NoMemory>
 // Makes the image whose last sample is known. Returns its sides and kind. A state that isn't that of a body, or has
 // no numbers or too few bytes, isn't one of such an image: it returns NoMemory then.
 pub(crate) fn make_image(work: &mut Work, made: &mut Bytes) -> Result<ImageInfo, NoMemory>
-    ensures { Makes (image_told work.old) result made.new }
+    ensures { Makes (image_view work.old) result made.new }
 {
     made.clear();
     match work.stage {

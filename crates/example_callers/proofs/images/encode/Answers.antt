@@ -1,5 +1,5 @@
 use Rattle.std.proofs.Common.{Err, subst, sym}
-use Rattle.jpg_color.specs.Encode.{image_told}
+use Rattle.jpg_color.specs.Encode.{image_view}
 use Rattle.jpg_color.specs.EncodeAnswer.{IsEncoded}
 use Rattle.jpg_color.specs.declared.encode.EncodeStop.{EncodeStop}
 use Rattle.jpg_spec_write.specs.declared.picture_fault.PictureFault.{PictureFault}
@@ -11,7 +11,7 @@ use Rattle.example_callers.proofs.images.encode.Goals as goal
 
 pub returns-in-Ok-encode_picture : goal.returns-in-Ok-encode_picture
 returns-in-Ok-encode_picture c =
-    let image = image_told c.in-Ok.image in
+    let image = image_view c.in-Ok.image in
     let e = encoding_at c.args.quality image in
     let asks = c.encoding_at-encoding.ensures.asks in
     let is = c.in-Ok-encode_picture.ensures in
@@ -20,7 +20,7 @@ returns-in-Ok-encode_picture c =
 
 pub returns-in-Err-Picture : goal.returns-in-Err-Picture
 returns-in-Err-Picture c =
-    let image = image_told c.in-Ok.image in
+    let image = image_view c.in-Ok.image in
     let e = encoding_at c.args.quality image in
     let h = subst (λ (stop : EncodeStop). IsEncoded c.in-Ok.image c.encoding_at-encoding.result (Err stop)) c.in-Err-Picture.field-0-is c.in-Err-Picture.ensures in
     let k = encoded_from c.args.file.now c.args.quality image (Err (unturned.Picture c.in-Err-Picture.fault)) c.in-Ok.ensures.0 (fault_encoded c.args.quality image c.in-Err-Picture.fault (h e c.encoding_at-encoding.ensures.asks)) in

@@ -1,7 +1,7 @@
 use Rattle.std.proofs.Common.{List, ℕ, [], Err, refl, sym, subst}
 use Rattle.jpg_spec_words.specs.declared.answers.Why.{Why}
 use Rattle.jpg_transform.specs.Planned.{scans_view}
-use Rattle.jpg_color.specs.Encode.{image_told}
+use Rattle.jpg_color.specs.Encode.{image_view}
 use Rattle.jpg_color.specs.EncodeSampling.{HasSampled}
 use Rattle.jpg_cli.specs.Desk.EncodedRead.{Encodes}
 use Rattle.jpg_cli.specs.Words.EncodeWords.{asked_of, encoding_by}
@@ -12,8 +12,8 @@ pub returns-in-Err : goal.returns-in-Err
 returns-in-Err c =
     let i = c.args.image.now in
     let e = asked_of c.args.words.now (scans_view c.args.scans.now) c.args.tables i in
-    subst (λ (w : Why). Encodes e (image_told i) (Err w)) (sym c.why_not_encoded.ensures)
-    (fault_encoded i.info c.encoding_of-encoding.result e i.samples c.in-Err.stop (c.encoding_of-encoding.ensures.asks (image_told i) refl) c.in-Err.ensures.begins)
+    subst (λ (w : Why). Encodes e (image_view i) (Err w)) (sym c.why_not_encoded.ensures)
+    (fault_encoded i.info c.encoding_of-encoding.result e i.samples c.in-Err.stop (c.encoding_of-encoding.ensures.asks (image_view i) refl) c.in-Err.ensures.begins)
 
 pub returns-in-Ok-feed : goal.returns-in-Ok-feed
 returns-in-Ok-feed c =
@@ -23,7 +23,7 @@ returns-in-Ok-feed c =
     c.finish.ensures (encoding_by c.args.words.now (scans_view c.args.scans.now) c.args.tables) i.info a i.samples
     (record {
       asks = c.encoding_of-encoding.ensures.asks;
-      can = can_sample i.info a c.encoding_of-encoding.ensures.can (right_numbers (image_told i) c.requires);
+      can = can_sample i.info a c.encoding_of-encoding.ensures.can (right_numbers (image_view i) c.requires);
       restart = λ I. c.counted.ensures;
     })
     given c.requires.count c.requires

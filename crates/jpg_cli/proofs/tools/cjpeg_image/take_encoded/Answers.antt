@@ -1,7 +1,7 @@
 use Rattle.std.proofs.Common.{◌-◌, ◌^◌, ◌<◌, ◌++◌, Bool, arith, subst, sym}
 use Rattle.std.proofs.lemmas.List.{length-append}
 use Rattle.jpg_transform.specs.Planned.{scans_view}
-use Rattle.jpg_color.specs.Encode.{image_told}
+use Rattle.jpg_color.specs.Encode.{image_view}
 use Rattle.jpg_cli.specs.Desk.EncodedRead.{EndsEncoding}
 use Rattle.jpg_cli.specs.Desk.ImageSource.{source_taken}
 use Rattle.jpg_cli.specs.Words.EncodeWords.{encoding_by}
@@ -39,7 +39,7 @@ returns-in-Whole-clause-read g c =
     let so = c.loop-reader.invariant in
     let w = c.args.words.now in
     let holds = c.in-Whole.ensures.after w.targa (state c.args.desk.now) so.read.0 so.read.1 so.read.3 so.kept so.read.2 in
-    whole_encoded w.targa (encoding_by w (scans_view c.args.scans.now) c.args.tables) (state c.args.desk.now) (state c.next_piece.new.desk) c.next_piece.new.reader (image_told c.take.result) c.encode_whole.result
+    whole_encoded w.targa (encoding_by w (scans_view c.args.scans.now) c.args.tables) (state c.args.desk.now) (state c.next_piece.new.desk) c.next_piece.new.reader (image_view c.take.result) c.encode_whole.result
     c.take.ensures holds c.encode_whole.ensures
 
 pub returns-in-Some-clause-read : goal.returns-in-Some-clause-read

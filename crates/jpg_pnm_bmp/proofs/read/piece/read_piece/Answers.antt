@@ -1,7 +1,7 @@
 use Rattle.std.proofs.Common.{◌≡◌, ℕ, ◌+◌, ◌-◌, ◌≤◌, List, ◌++◌, length, take, drop, sym, ap, ◌∙◌, subst, arith}
 use Rattle.std.proofs.lemmas.List.{length-drop, take_all}
 use Rattle.jpg_spec_image.specs.ImageSteps.{ImageState, at_start, run}
-use Rattle.jpg_pnm_bmp.specs.Reader.{standing, IsReached, Reaches, image_told}
+use Rattle.jpg_pnm_bmp.specs.Reader.{standing, IsReached, Reaches, image_view}
 use Rattle.jpg_pnm_bmp.specs.declared.read.work.Answer.{Answer}
 use Rattle.jpg_pnm_bmp.specs.declared.read.work.Answer.TheVariants as answer
 use Rattle.jpg_pnm_bmp.specs.declared.read.work.Work.{Work}
@@ -42,7 +42,7 @@ returns-in-Whole c = λ bytes h limits rest l.
     let piece = c.args.piece.now in
     let used = c.advance-step.result.used in
     let s = c.loop-at.invariant.stands bytes h.stands in
-    image_read limits bytes piece rest (at + used) (image_told c.advance-step.new.self) (further piece at used c.loop-at.invariant.inside c.advance-step.ensures.within) l
+    image_read limits bytes piece rest (at + used) (image_view c.advance-step.new.self) (further piece at used c.loop-at.invariant.inside c.advance-step.ensures.within) l
     (sym (part_on bytes piece at used (standing c.loop-at.work) s)
     ∙ told (standing c.loop-at.work) piece at used c.advance-step.result.answer answer.Whole c.advance-step.new.self c.in-Whole.is (c.advance-step.ensures.led (reached (standing c.loop-at.work) (bytes ++ take at piece) s)))
 

@@ -1,7 +1,7 @@
-use Rattle.jpg_pnm_bmp.specs.Reader.{image_told}
+use Rattle.jpg_pnm_bmp.specs.Reader.{image_view}
 use Rattle.jpg_pnm_bmp.proofs.ImageMade.{made_at_end}
 use Rattle.jpg_pnm_bmp.proofs.read.pixels.end_image.Goals as goal
 
 pub returns-in-Ok-make_image : goal.returns-in-Ok-make_image
 returns-in-Ok-make_image c = λ bytes h all.
-    made_at_end bytes (image_told c.end_here.new.work) c.in-Ok-make_image.numbers c.make_image.new.made (c.in-Ok.ensures bytes h) all c.in-Ok-make_image.ensures
+    made_at_end bytes (image_view c.end_here.new.work) c.in-Ok-make_image.numbers c.make_image.new.made (c.in-Ok.ensures bytes h) all c.in-Ok-make_image.ensures

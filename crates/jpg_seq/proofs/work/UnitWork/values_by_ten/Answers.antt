@@ -2,7 +2,7 @@ use Rattle.std.proofs.Common.{refl, arith, ap, length}
 use Rattle.jpg_seq.specs.declared.source.Source.{Source}
 use Rattle.jpg_seq.specs.declared.work.UnitProgress.TheVariants.{More, Done}
 use Rattle.jpg_seq.specs.Work.{Work}
-use Rattle.jpg_seq.proofs.ToldTaken.{told_no_more, told_then}
+use Rattle.jpg_seq.proofs.EntryTaken.{told_no_more, told_then}
 use Rattle.jpg_seq.proofs.work.UnitWork.values_by_ten.Goals as goal
 
 pub loop-here-preserved : goal.loop-here-preserved

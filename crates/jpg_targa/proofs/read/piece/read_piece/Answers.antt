@@ -2,7 +2,7 @@ use Rattle.std.proofs.Common.{◌≡◌, ℕ, ◌+◌, ◌-◌, ◌≤◌, List,
 use Rattle.std.proofs.lemmas.List.{length-drop, take_rest}
 use Rattle.jpg_spec_image.specs.TargaFaults.{IsTargaFault}
 use Rattle.jpg_spec_image.specs.TargaSteps.{TargaState, at_start, run}
-use Rattle.jpg_targa.specs.Reader.{standing, IsReached, Reaches, HasAll, image_told}
+use Rattle.jpg_targa.specs.Reader.{standing, IsReached, Reaches, HasAll, image_view}
 use Rattle.jpg_targa.specs.declared.read.work.Answer.{Answer}
 use Rattle.jpg_targa.specs.declared.read.work.Answer.TheVariants as answer
 use Rattle.jpg_targa.specs.declared.read.work.Work.{Work}
@@ -40,7 +40,7 @@ returns-in-Whole-clause-led c = λ bytes h rest.
     let piece = c.args.piece.now in
     let used = c.advance-step.result.used in
     let s = c.loop-at.invariant.stands bytes h.stands in
-    image_read bytes piece rest (at + used) (image_told c.advance-step.new.self) (further piece at used c.loop-at.invariant.inside c.advance-step.ensures.within)
+    image_read bytes piece rest (at + used) (image_view c.advance-step.new.self) (further piece at used c.loop-at.invariant.inside c.advance-step.ensures.within)
     (sym (part_on bytes piece at used (standing c.loop-at.work) s)
     ∙ told (standing c.loop-at.work) piece at used c.advance-step.result.answer answer.Whole c.advance-step.new.self c.in-Whole.is (c.advance-step.ensures.led (reached (standing c.loop-at.work) (bytes ++ take at piece) s)))
 

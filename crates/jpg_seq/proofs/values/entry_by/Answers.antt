@@ -8,8 +8,8 @@ use Rattle.jpg_spec.specs.Bits.{bits_of}
 use Rattle.jpg_spec.proofs.Basics.Strings.{length-bits_of}
 use Rattle.jpg_seq.specs.Values.{TellsOrNone}
 use Rattle.jpg_seq.proofs.ShortValue.{kept_end, kept_none, none_symbol, none_part, none_begins}
-use Rattle.jpg_seq.proofs.values.told_by.Goals as goal
-use Rattle.jpg_seq.proofs.values.told_by.Goals.{else-size-gt0-via-then-size-gt0+else-length-size-le10, else-size-gt0-via-else-size-gt0}
+use Rattle.jpg_seq.proofs.values.entry_by.Goals as goal
+use Rattle.jpg_seq.proofs.values.entry_by.Goals.{else-size-gt0-via-then-size-gt0+else-length-size-le10, else-size-gt0-via-else-size-gt0}
 
 pub peek_after-requires-clause-there : goal.peek_after-requires-clause-there
 peek_after-requires-clause-there c = omega (arith, ap length c.ten_bits-bits.ensures, length-bits_of 10 c.args.ten, c.if-length-size-le10.true)

@@ -19,12 +19,12 @@ use Rattle.jpg_seq.proofs.Items.{end_element, value_taken}
 use Rattle.jpg_seq.proofs.Takings.{direct_element, takes_then}
 
 -- ONE VALUE
-told_element : (e : Env) (values : List ℤ) (bits : List Bool) (t : ShortValue) → AreSane e.bounds → AreApart e.ac → 1 ≤ length values → length values < 64 → BeginsWithShortValue e.ac bits t → t.run + length values < 64
+entry_element : (e : Env) (values : List ℤ) (bits : List Bool) (t : ShortValue) → AreSane e.bounds → AreApart e.ac → 1 ≤ length values → length values < 64 → BeginsWithShortValue e.ac bits t → t.run + length values < 64
     → IsElement e values (take t.length bits) (zeros t.run ++ t.value ∷ [])
-told_element e values bits t sane apart some less told room =
-    let one = told.some in let few = told.few in let nine = sane.nine in
+entry_element e values bits t sane apart some less entry room =
+    let one = entry.some in let few = entry.few in let nine = sane.nine in
     let G : ℕ → Type 0 = λ n. IsElement e values (take n bits) (zeros t.run ++ t.value ∷ []) in
-    subst G (sym told.sum) (value_taken e values bits told.code t.run told.size t.value sane apart some less one told.there told.in_codes told.sized (omega (arith, one, few, nine)) room told.run told.category told.extra)
+    subst G (sym entry.sum) (value_taken e values bits entry.code t.run entry.size t.value sane apart some less one entry.there entry.in_codes entry.sized (omega (arith, one, few, nine)) room entry.run entry.category entry.extra)
 
 taken_by : (e : Env) (s t : Work) (store rest : List Bool) (answer : UnitProgress) → IsUnitCovered t answer → TakesFromStore e s store answer t rest → IsTaken e s store answer t rest
 taken_by e s t store rest More u k = k
@@ -32,23 +32,23 @@ taken_by e s t store rest Done u k = k
 taken_by e s t store rest Empty u k = absurd u
 taken_by e s t store rest (Fault fault) u k = absurd u
 
-pub value_told : (ac : List Code) (s t : Work) (store rest : List Bool) (told : ShortValue) (answer : UnitProgress) → AreApart ac → 1 ≤ length s.values → length s.values < 64 → s.part ≡ [] → BeginsWithShortValue ac store told → told.run + length s.values < 64
-    → rest ≡ drop told.length store → t ≡ record s { values = s.values ++ (zeros told.run ++ told.value ∷ []) } → IsUnitCovered t answer → TakesShortValue ac s store answer t rest
-value_told ac s t store rest told answer apart some less none first room left is covered = λ e sane same.
+pub value_of_entry : (ac : List Code) (s t : Work) (store rest : List Bool) (entry : ShortValue) (answer : UnitProgress) → AreApart ac → 1 ≤ length s.values → length s.values < 64 → s.part ≡ [] → BeginsWithShortValue ac store entry → entry.run + length s.values < 64
+    → rest ≡ drop entry.length store → t ≡ record s { values = s.values ++ (zeros entry.run ++ entry.value ∷ []) } → IsUnitCovered t answer → TakesShortValue ac s store answer t rest
+value_of_entry ac s t store rest entry answer apart some less none first room left is covered = λ e sane same.
     (let sum = first.sum in let one = first.some in let there = first.there in
-    let here = zeros told.run ++ told.value ∷ [] in
+    let here = zeros entry.run ++ entry.value ∷ [] in
     let A : List Code → Type 0 = λ l. AreApart l in
-    let S : List Code → Type 0 = λ l. BeginsWithShortValue l store told in
+    let S : List Code → Type 0 = λ l. BeginsWithShortValue l store entry in
     taken_by e s t store rest answer covered
-    (direct_element e s t store rest told.length here answer none (omega (arith, sum, one)) (omega (arith, sum, there))
-    (told_element e s.values store told sane (subst A (sym same) apart) some less (subst S (sym same) first) room) left
+    (direct_element e s t store rest entry.length here answer none (omega (arith, sum, one)) (omega (arith, sum, there))
+    (entry_element e s.values store entry sane (subst A (sym same) apart) some less (subst S (sym same) first) room) left
     (is ∙ ap (λ (p : List Bool). (let n : Work = record { values = s.values ++ here; part = p } in n)) none) covered))
 
 -- THE END OF THE BLOCK
-pub end_told : (ac : List Code) (s t : Work) (store rest : List Bool) (told : ShortValue) (answer : UnitProgress) → AreApart ac → 1 ≤ length s.values → length s.values < 64 → s.part ≡ [] → IsNextEnd ac store told
-    → rest ≡ drop told.length store → t ≡ record s { values = s.values ++ zeros (64 - length s.values) } → IsUnitCovered t answer → TakesShortValue ac s store answer t rest
-end_told ac s t store rest told answer apart some less none first left is covered = λ e sane same.
-    (let n = told.length in let here = zeros (64 - length s.values) in
+pub end_of_entry : (ac : List Code) (s t : Work) (store rest : List Bool) (entry : ShortValue) (answer : UnitProgress) → AreApart ac → 1 ≤ length s.values → length s.values < 64 → s.part ≡ [] → IsNextEnd ac store entry
+    → rest ≡ drop entry.length store → t ≡ record s { values = s.values ++ zeros (64 - length s.values) } → IsUnitCovered t answer → TakesShortValue ac s store answer t rest
+end_of_entry ac s t store rest entry answer apart some less none first left is covered = λ e sane same.
+    (let n = entry.length in let here = zeros (64 - length s.values) in
     let A : List Code → Type 0 = λ l. AreApart l in
     let C : List Code → Type 0 = λ l. Contains l (take n store, 0) in
     let long : 1 ≤ length (take n store) = omega (arith, first.some, length-take-le n store first.there) in
