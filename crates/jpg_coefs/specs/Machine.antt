@@ -69,10 +69,12 @@ pub record Kind (M : Type 0) : Type 1 where
   pub left : M → ℕ
   pub fits : Interval → Type 0
 
--- the invariant of each kind: in a machine's state, this many units are unfinished, and the interval is of its kind
+-- the invariant of each kind: in a machine's state, this many units are unfinished, and the interval is of its kind; and
+-- none are left where it may begin an interval
 pub record KeepsUnits (M : Type 0) (k : Kind M) : Type 0 where
   pub unfinished : (m : M) (i : Interval) (bits : List Bool) (now : Picture) → k.stands m i bits now → IsUnfinished i bits now (k.left m)
   pub fits : (m : M) (i : Interval) (bits : List Bool) (now : Picture) → k.stands m i bits now → k.fits i
+  pub none_left : (m : M) (i : Interval) → k.ready m i → k.left m ≡ 0
 
 -- The meaning of the result at these bits, and the picture, which was `then` before the last of them. The bit that
 -- reveals a fault changes no block.

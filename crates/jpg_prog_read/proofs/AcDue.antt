@@ -59,7 +59,7 @@ unfinished m i bits now (inr u) =
     }
 
 pub keeps_units : KeepsUnits AcReader progressive_ac
-keeps_units = record { unfinished = unfinished; fits = fits }
+keeps_units = record { unfinished = unfinished; fits = fits; none_left = λ m i r. r.left }
   where
     fits : (m : AcReader) (i : Interval) (bits : List Bool) (now : Picture) → RepresentsAcScan m i bits now → progressive_ac.fits i
     fits m i bits now (inl b) = ((b.between).has_due).kind

@@ -289,6 +289,7 @@ interval_done m i bits now none w =
             distinct = subst (λ (l : List Place). AreDistinct l) (sym follows.places) (distinct_behind i.places i.later d.distinct);
             sized = subst (λ (q : Picture). (k x y : ℕ) → length (map_of q k x y) ≡ 64) (sym follows.before) ((d.read).changes).sizes;
             cursor = d.cursor ∙ sym follows.places;
+            left = none;
             spots = subst C (sym follows.scan) (subst L (sym follows.places) (subst F frame d.spots));
           }),
     )

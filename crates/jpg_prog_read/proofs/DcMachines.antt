@@ -254,6 +254,7 @@ pub first_keeps_units : KeepsUnits DcFirst first_pass
 first_keeps_units = record {
   unfinished = λ m i bits now o. unfinished m.cursor m.left i bits now o.within o.places (dc_due m.unit o.at_work (next_of i o.within) o.predictions (old_dc i o.within) bits o.stands);
   fits = λ m i bits now o. (o.places).band;
+  none_left = λ m i r. (r.places).none;
 }
 
 pub refine_keeps_units : KeepsUnits DcRefine refinement
@@ -261,6 +262,7 @@ refine_keeps_units = record {
   unfinished = λ m i bits now o. unfinished m.cursor m.left i bits now o.within o.places
       (dc_next_due i.scan.coding (units_of i) o.within.whole o.predictions (dc_unit o.within.next.component (old_dc i o.within)) (next_of i o.within).others bits o.between);
   fits = λ m i bits now o. o.kind;
+  none_left = λ m i r. (r.places).none;
 }
 
 -- BITS OF A UNIT AT ONCE

@@ -94,8 +94,8 @@ one_index : (ids : List ℕ) (k j : ℕ) → ids ≡ k ∷ [] → j < length ids
 one_index ids k j e h = let z : j ≡ 0 = omega (arith, h, ap length e) in ap (λ (l : List ℕ). get_or l j 0) e ∙ ap (λ n. get_or (k ∷ []) n 0) z
 
 pub new_ready : (f : Frame) (head : ScanHead) (set : TableSet) (m : AcReader) (t : Table) (p : ScanPart) → IsFrame f → IsAcScan f head set → IsBandOf f head m.scan → head.parts ≡ p ∷ [] → in_slot (ac_tables set) p.ac ≡ Some t
-    → m.codes ≡ symbol_codes t → m.cursor ≡ units f (head_components head) → (i : Interval) → IsOfAcScan f head set i → AcReady m i
-new_ready f head set m t p frame is band e there same cursor i of =
+    → m.codes ≡ symbol_codes t → m.cursor ≡ units f (head_components head) → m.left ≡ 0 → (i : Interval) → IsOfAcScan f head set i → AcReady m i
+new_ready f head set m t p frame is band e there same cursor none i of =
     let ids = head_components head in
     let b = m.scan in
     let codes = m.codes in
@@ -114,5 +114,6 @@ new_ready f head set m t p frame is band e there same cursor i of =
       distinct = subst (λ (l : List Place). AreDistinct l) (sym of.places) (units_distinct f ids (one_distinct ids p.component one));
       sized = of.sized;
       cursor = cursor ∙ sym of.places;
+      left = none;
       spots = subst C (sym of.coding) (subst F (sym of.frame) (subst P (sym of.places) all));
     }

@@ -133,6 +133,7 @@ pub record AcReady (m : AcReader) (i : Interval) : Type 0 where
   pub distinct : AreDistinct (i.places ++ i.later)
   pub sized : (k x y : ℕ) → length (map_of i.before k x y) ≡ 64
   pub cursor : m.cursor ≡ i.places ++ i.later
+  pub left : m.left ≡ 0
   pub spots : AreReadable m i (i.places ++ i.later)
 
 abbrev pub progressive_ac : Kind AcReader

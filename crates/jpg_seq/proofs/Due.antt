@@ -55,4 +55,4 @@ unfinished m i bits now o = record {
 }
 
 pub keeps_units : KeepsUnits SeqReader sequential
-keeps_units = record { unfinished = unfinished; fits = λ m i bits now o. o.kind }
+keeps_units = record { unfinished = unfinished; fits = λ m i bits now o. o.kind; none_left = λ m i r. r.left }

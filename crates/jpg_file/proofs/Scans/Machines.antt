@@ -156,8 +156,14 @@ fits (DcFirst m) i bits now s = subst (λ k. FitsKind k i) (sym s.1) (first_keep
 fits (DcRefine m) i bits now s = subst (λ k. FitsKind k i) (sym s.1) (refine_keeps_units.fits m i bits now s.0)
 fits (Ac m) i bits now s = subst (λ k. FitsKind k i) (sym s.1) (ac.keeps_units.fits m i bits now s.0)
 
+none_left : (m : ScanReader) (i : Interval) → any_scan.ready m i → any_scan.left m ≡ 0
+none_left (Sequential m) i r = keeps_units.none_left m i r.0
+none_left (DcFirst m) i r = first_keeps_units.none_left m i r.0
+none_left (DcRefine m) i r = refine_keeps_units.none_left m i r.0
+none_left (Ac m) i r = ac.keeps_units.none_left m i r.0
+
 pub scans_keep_units : KeepsUnits ScanReader any_scan
-scans_keep_units = record { unfinished = unfinished; fits = fits }
+scans_keep_units = record { unfinished = unfinished; fits = fits; none_left = none_left }
 
 -- the kind of a scan by its header
 abbrev pub head_kind : Bool → ScanHead → ScanKind
