@@ -7,6 +7,7 @@ _jpgsuite_rows=(
     'jpegtran -rotate 2 90,180,270'
     'jpegtran -transpose 1 -'
     'jpegtran -transverse 6 -'
+    'jpegtran -upright 1 -'
     'jpegtran -trim 3 -'
     'jpegtran -grayscale 1 -'
     'jpegtran -greyscale 1 -'

@@ -40,10 +40,10 @@ few_in (s ∷ ss) =
     let l = length-append (segment_text s.0 s.1) (kept_text ss) in
     omega (arith, h, l)
 
-of_text : (ss : List (ℕ × List ℕ)) → All (λ s. IsKeptSegment s.0 s.1) ss → segments_of (kept_text ss) ≡ ss
+pub of_text : (ss : List (ℕ × List ℕ)) → All (λ s. IsKeptSegment s.0 s.1) ss → segments_of (kept_text ss) ≡ ss
 of_text ss all = again (length (kept_text ss)) ss all (few_in ss)
 
-are_segments : (ss : List (ℕ × List ℕ)) → All (λ s. IsKeptSegment s.0 s.1) ss → AreSegments (kept_text ss)
+pub are_segments : (ss : List (ℕ × List ℕ)) → All (λ s. IsKeptSegment s.0 s.1) ss → AreSegments (kept_text ss)
 are_segments ss all = record {
   spelled = ap kept_text (of_text ss all);
   kept = subst (All (λ s. IsKeptSegment s.0 s.1)) (sym (of_text ss all)) all;

@@ -4,6 +4,7 @@ pub mod Distinct
 pub mod HeadSent
 pub mod HeadText
 pub mod Headers
+pub mod KeptByte
 pub mod KeptBytes
 pub mod SegmentText
 pub mod Tables

@@ -1,5 +1,5 @@
 -- Markers that are kept: application data and comments (T.81, B.2.4.5, B.2.4.6).
-use Rattle.std.specs.Prelude.{◌≡◌, ◌⊎◌, ℕ, zero, suc, ◌≤◌, ◌-◌, All, List, [], ◌∷◌, take, drop, length}
+use Rattle.std.specs.Prelude.{◌≡◌, ◌⊎◌, ℕ, zero, suc, ◌≤◌, ◌-◌, All, List, [], ◌∷◌, take, drop, length, slice_index_or, slice_set}
 use Rattle.jpg_spec.specs.Segments.{two_bytes}
 use Rattle.jpg_spec_write.specs.FileText.{kept_text}
 use Rattle.jpg_markers.specs.declared.kept.Kept.{Kept}
@@ -37,3 +37,11 @@ segments_of bytes = segments_in (length bytes) bytes
 pub record AreSegments (bytes : List ℕ) : Type 0 where
   pub spelled : kept_text (segments_of bytes) ≡ bytes
   pub kept : All (λ s. IsKeptSegment s.0 s.1) (segments_of bytes)
+
+-- ONE SEGMENT among others, with a byte of its contents put at a place
+
+abbrev pub segment_at : List (ℕ × List ℕ) → ℕ → ℕ × List ℕ
+segment_at kept i = slice_index_or kept i (0, [])
+
+abbrev pub with_byte_at : ℕ → ℕ → ℕ → List (ℕ × List ℕ) → List (ℕ × List ℕ)
+with_byte_at i place value kept = let s = segment_at kept i in slice_set kept i (s.0, slice_set s.1 place value)

@@ -1,7 +1,7 @@
 //! The markers of a file that are kept (T.81, B.2.4.5, Figure B.10; B.2.4.6, Figure B.11).
-ghost use Rattle.std.specs.Prelude.{◌≡◌, ◌≤◌, ◌<◌, [], ◌∷◌, ◌++◌, length, slice_get, Some, IfSome, IfNone, OnOk, OnErr};
-ghost use Rattle.jpg_spec_write.specs.FileText.{segment_text};
-ghost use Rattle.jpg_markers.specs.Kept.{AreSegments, IsKeptSegment, kept_pair, segments_of};
+ghost use Rattle.std.specs.Prelude.{◌≡◌, ◌≤◌, ◌<◌, [], ◌∷◌, ◌++◌, length, take, slice_get, Some, IfSome, IfNone, OnOk, OnErr};
+ghost use Rattle.jpg_spec_write.specs.FileText.{kept_text, segment_text};
+ghost use Rattle.jpg_markers.specs.Kept.{AreSegments, IsKeptSegment, kept_pair, segment_at, segments_of, with_byte_at};
 
 use jpg_base::NoMemory;
 use std::alloc::Global;
@@ -131,6 +131,28 @@ impl KeptList {
             rest = first(rest).1;
         }
         first(rest).0
+    }
+
+    // Where the segment at index `i` begins among the bytes.
+    fn start_of(&self, i: usize) -> usize
+        requires { i < length self.now }
+        ensures { result ≡ length (kept_text (take i self.now)) }
+    {
+        let mut rest = self.bytes.as_slice();
+        for _ in 0..i {
+            rest = first(rest).1;
+        }
+        self.bytes.len() - rest.len()
+    }
+
+    /// Puts a byte into the contents of the marker at index `i`, at this place. All other bytes are as they were.
+    pub fn set_byte(&mut self, i: usize, place: usize, value: u8)
+        requires index { i < length self.old }
+        requires place { place < length (segment_at self.old i).1 }
+        ensures { self.new ≡ with_byte_at i place value self.old }
+    {
+        let at = self.start_of(i) + 4 + place;
+        self.bytes[at] = value;
     }
 
     /// All markers, the oldest first.

@@ -1,5 +1,5 @@
 -- WHAT THE WORDS of jpegtran ask for, after the command's own (its manual in release 6b).
-use Rattle.std.specs.Prelude.{ℕ, Bool, true, false, ◌||◌, ◌==◌, if◌then◌else◌, List, [], ◌∷◌, Option, None, Some, option_and_then, option_map, codes}
+use Rattle.std.specs.Prelude.{ℕ, Bool, true, false, not, ◌&&◌, ◌||◌, ◌==◌, if◌then◌else◌, List, [], ◌∷◌, Option, None, Some, option_and_then, option_map, codes}
 use Rattle.jpg_spec_write.specs.FileText.{Restart, off}
 use Rattle.jpg_spec_write.specs.ScansAsked.{Scans}
 use Rattle.jpg_spec_write.specs.declared.huffman.Huffman.{Huffman}
@@ -35,6 +35,7 @@ jpegtran_switches =
     ∷ record { name = codes "transpose"; shortest = 1; purpose = Alone flag.Transpose }
     ∷ record { name = codes "transverse"; shortest = 6; purpose = Alone flag.Transverse }
     ∷ record { name = codes "trim"; shortest = 3; purpose = Alone flag.Trim }
+    ∷ record { name = codes "upright"; shortest = 1; purpose = Alone flag.Upright }
     ∷ record { name = codes "optimize"; shortest = 1; purpose = LeftOut }
     ∷ record { name = codes "optimise"; shortest = 1; purpose = LeftOut }
     ∷ record { name = codes "arithmetic"; shortest = 1; purpose = LeftOut }
@@ -54,11 +55,13 @@ abbrev pub with_progressive : ScansSource → ScansSource
 with_progressive (in_file name) = in_file name
 with_progressive other = own_progressive
 
--- files, a transform, trimming, conversion to grayscale, the area that is cut out, which kept markers are passed on, and
--- in which scans, with which Huffman tables and with which restart intervals it is written
+-- files, a transform, or that the Exif orientation chooses it, trimming, conversion to grayscale, the area that is cut
+-- out, which kept markers are passed on, and in which scans, with which Huffman tables and with which restart intervals
+-- it is written
 pub record TransformAsked : Type 0 where
   pub files : FilesAsked
   pub transform : Transform
+  pub upright : Bool
   pub trim : Bool
   pub gray : Bool
   pub crop : Option Area
@@ -85,6 +88,7 @@ abbrev pub transform_default : TransformAsked
 transform_default = record {
   files = from_to standard_input;
   transform = Keep;
+  upright = false;
   trim = false;
   gray = false;
   crop = None;
@@ -154,13 +158,19 @@ transform_number Rotate270 = 7
 -- a transform may be asked for again, and no other one
 abbrev pub with_transform : ℕ → Transform → TransformAsked → ParsedWords TransformAsked
 with_transform index t a =
-    if transform_number a.transform == 0 || transform_number a.transform == transform_number t then words_right (record a { transform = t })
+    if not a.upright && (transform_number a.transform == 0 || transform_number a.transform == transform_number t) then words_right (record a { transform = t })
     else usage_at TwoTransforms index
+
+-- nor with one that the Exif orientation chooses
+abbrev pub with_upright : ℕ → TransformAsked → ParsedWords TransformAsked
+with_upright index a =
+    if transform_number a.transform == 0 then words_right (record a { upright = true }) else usage_at TwoTransforms index
 
 abbrev pub transform_flag : Flag → ℕ → TransformAsked → ParsedWords TransformAsked
 transform_flag flag.Transpose index a = with_transform index Transpose a
 transform_flag flag.Transverse index a = with_transform index Transverse a
 transform_flag flag.Trim index a = words_right (record a { trim = true })
+transform_flag flag.Upright index a = with_upright index a
 transform_flag flag.Gray index a = words_right (record a { gray = true })
 transform_flag flag.Progressive index a = words_right (record a { scans = with_progressive a.scans })
 transform_flag other index a = usage_at UnknownSwitch index

@@ -22,6 +22,8 @@ pub enum Flag {
     Transverse,
     /// `-trim`: partial iMCUs that would remain in place are left out.
     Trim,
+    /// `-upright`: the Exif orientation chooses the transform.
+    Upright,
     /// `-grayscale`: only the first component.
     Gray,
     /// `-progressive`

@@ -25,6 +25,7 @@ pub fn beginnings_are_enough()
     ensures transpose { transform_asked (codes "-tr" ∷ []) ≡ words_right (record transform_default { transform = Transpose }) }
     ensures transverse { transform_asked (codes "-transv" ∷ []) ≡ words_right (record transform_default { transform = Transverse }) }
     ensures trim { transform_asked (codes "-tri" ∷ []) ≡ words_right (record transform_default { trim = true }) }
+    ensures upright { transform_asked (codes "-U" ∷ []) ≡ words_right (record transform_default { upright = true }) }
     ensures gray { transform_asked (codes "-grey" ∷ []) ≡ words_right (record transform_default { gray = true }) }
     ensures copy { transform_asked (codes "-c" ∷ codes "al" ∷ []) ≡ words_right (record transform_default { copying = copying.All }) }
     ensures progressive { transform_asked (codes "-P" ∷ []) ≡ words_right (record transform_default { scans = own_progressive }) }
@@ -45,11 +46,14 @@ pub fn last_values_count()
     ensures script { transform_asked (codes "-s" ∷ codes "a" ∷ codes "-p" ∷ []) ≡ words_right (record transform_default { scans = in_file (codes "a") }) }
     ensures none { transform_asked (codes "-restart" ∷ codes "3" ∷ codes "-restart" ∷ codes "0" ∷ []) ≡ words_right transform_default }
     ensures same { transform_asked (codes "-flip" ∷ codes "h" ∷ codes "-flip" ∷ codes "h" ∷ []) ≡ words_right (record transform_default { transform = FlipH }) }
+    ensures upright { transform_asked (codes "-upright" ∷ codes "-upr" ∷ []) ≡ words_right (record transform_default { upright = true }) }
 {}
 
 /// The first wrong word is reported.
 pub fn wrong_words_have_their_places()
     ensures two { transform_asked (codes "-flip" ∷ codes "horizontal" ∷ codes "-rotate" ∷ codes "90" ∷ []) ≡ usage_at TwoTransforms 3 }
+    ensures turned { transform_asked (codes "-upright" ∷ codes "-rotate" ∷ codes "90" ∷ []) ≡ usage_at TwoTransforms 2 }
+    ensures upright { transform_asked (codes "-transpose" ∷ codes "-upright" ∷ []) ≡ usage_at TwoTransforms 2 }
     ensures left_out { transform_asked (codes "-optimize" ∷ []) ≡ usage_at LeftOutSwitch 1 }
     ensures unknown { transform_asked (codes "-out" ∷ codes "x" ∷ []) ≡ usage_at UnknownSwitch 1 }
     ensures short { transform_asked (codes "-" ∷ []) ≡ usage_at UnknownSwitch 1 }

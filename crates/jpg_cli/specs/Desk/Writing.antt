@@ -1,5 +1,5 @@
 -- WHAT WRITING A TRANSFORMED PICTURE does to a desk, by its result (the manual of jpegtran).
-use Rattle.std.specs.Prelude.{◌≡◌, ℕ, ◌<◌, List, All, take, Option, None, Some}
+use Rattle.std.specs.Prelude.{◌≡◌, ℕ, ◌<◌, Bool, List, All, take, Option, None, Some}
 use Rattle.jpg_base.specs.declared.names.Name.{Name}
 use Rattle.jpg_base.specs.declared.names.Put.TheVariants as put
 use Rattle.jpg_base.specs.Desk.{DeskState, Rose, NotesName}
@@ -14,6 +14,7 @@ use Rattle.jpg_spec_write.specs.declared.picture_fault.PictureFault.{PictureFaul
 use Rattle.jpg_spec_move.specs.Moved.{Choice, moved, moved_text, picture_fault}
 use Rattle.jpg_spec_move.specs.declared.area.Area.{Area}
 use Rattle.jpg_spec.specs.Segments.{standard_limits}
+use Rattle.jpg_spec_upright.specs.Upright.{choice_for, picture_for}
 use Rattle.jpg_file.specs.Read.PictureRead.{MeansFor}
 use Rattle.jpg_file.specs.declared.read.picture.Picture.{Picture}
 use Rattle.jpg_cli.specs.Desk.Judging.{done_as}
@@ -28,6 +29,10 @@ IsMeant M = (bytes : List ℕ) × All (λ b. b < 256) bytes × IsMeaning standar
 -- The text of the transformed picture means it.
 abbrev pub MeansMoved : Choice → Meaning → Type 0
 MeansMoved choice M = Means standard_limits (moved_text choice M) (moved choice M)
+
+-- The same of the picture that is turned upright, if that is asked for.
+abbrev pub MeansUpright : Bool → Choice → Meaning → Type 0
+MeansUpright upright choice M = MeansMoved (choice_for upright choice M) (picture_for upright M)
 
 -- Outputs grew by one of this name, which has a first part of the bytes.
 abbrev pub GrowsInPart : Name → DeskState → List ℕ → DeskState → Type 0

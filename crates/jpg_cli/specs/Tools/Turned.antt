@@ -1,10 +1,11 @@
 -- HOW TRANSFORMING A PICTURE ENDS (the manual of jpegtran), by why it ended.
-use Rattle.std.specs.Prelude.{◌≡◌, ◌⊎◌, ℕ, List, [], Option, Some}
+use Rattle.std.specs.Prelude.{◌≡◌, ◌⊎◌, ℕ, Bool, List, [], Option, Some}
 use Rattle.jpg_base.specs.declared.names.Name.{Name}
 use Rattle.jpg_base.specs.Desk.{DeskState}
 use Rattle.jpg_spec.specs.Meaning.{Meaning}
-use Rattle.jpg_spec_move.specs.Moved.{Choice, moved_text, picture_fault}
+use Rattle.jpg_spec_move.specs.Moved.{Choice}
 use Rattle.jpg_spec_move.specs.declared.area.Area.{Area}
+use Rattle.jpg_spec_upright.specs.Upright.{fault_for, text_for}
 use Rattle.jpg_spec_write.specs.ScansAsked.{Scans}
 use Rattle.jpg_spec_words.specs.TransformWords.{TransformAsked, choice_asked}
 use Rattle.jpg_spec_words.specs.declared.answers.Why.{Why}
@@ -15,31 +16,34 @@ use Rattle.jpg_cli.specs.declared.words.files.Files.{Files}
 use Rattle.jpg_cli.specs.Commands.{name_of}
 use Rattle.jpg_cli.specs.Desk.ReadPicture.{picture_judging, Coefficients}
 use Rattle.jpg_cli.specs.Desk.ScriptTaken.{HasScans, StopsAtScans, names_before}
-use Rattle.jpg_cli.specs.Desk.Writing.{MeansMoved, in_area}
+use Rattle.jpg_cli.specs.Desk.Writing.{MeansUpright, in_area}
 use Rattle.jpg_cli.specs.Outcome.{Conversion, Converted, WritesValue, at_end}
 use Rattle.jpg_cli.specs.Stays.{Untouched}
 
--- which picture is transformed and cropped, how, and where it goes; and the names that were opened before
+-- which picture is transformed and cropped, how, whether its Exif orientation chooses the transform, and where it goes; and
+-- the names that were opened before
 pub record Turning : Type 0 where
   pub before : List Name
   pub input : Name
   pub output : Name
   pub choice : Choice
+  pub upright : Bool
 
-abbrev pub turning_view : Files → Asked → Option Area → Turning
-turning_view files choice area = record { before = []; input = files.input; output = files.output; choice = in_area area (choice_view choice) }
+abbrev pub turning_view : Files → Asked → Bool → Option Area → Turning
+turning_view files choice upright area =
+    record { before = []; input = files.input; output = files.output; choice = in_area area (choice_view choice); upright = upright }
 
 -- THE CONVERSION: the picture has no fault for this choice; the text is that of the file of it transformed as the
--- choice says, and cropped if it asks for an area, which means the transformed picture
+-- choice says, or turned upright, and cropped if it asks for an area, which means the transformed picture
 abbrev pub turning_conversion : Turning → Conversion Meaning
 turning_conversion t = record {
   before = t.before;
   input = Some t.input;
   output = t.output;
   judging = picture_judging Coefficients;
-  fault = picture_fault t.choice;
-  text = moved_text t.choice;
-  right = MeansMoved t.choice;
+  fault = fault_for t.upright t.choice;
+  text = text_for t.upright t.choice;
+  right = MeansUpright t.upright t.choice;
   writing = at_end;
 }
 
@@ -57,6 +61,7 @@ turning_of a scans = record {
   input = name_of a.files.input;
   output = name_of a.files.output;
   choice = choice_asked a scans;
+  upright = a.upright;
 }
 
 -- IN THE SCANS THAT ARE ASKED FOR: there is a fault of them, or the picture is transformed in them; or there was no

@@ -22,6 +22,7 @@ abbrev pub transform_view : TransformWords → TransformAsked
 transform_view w = record {
   files = files_view w.files;
   transform = w.transform;
+  upright = w.upright;
   trim = w.trim;
   gray = w.gray;
   crop = w.crop;
@@ -45,6 +46,7 @@ abbrev pub transform_said : TransformSaid → TransformAsked
 transform_said s = record {
   files = files_said s.files;
   transform = s.transform;
+  upright = s.upright;
   trim = s.trim;
   gray = s.gray;
   crop = area_said (text_view s.crop);

@@ -6,6 +6,8 @@ ghost use Rattle.jpg_cli.specs.Desk.Writing.{in_area};
 ghost use Rattle.jpg_cli.specs.Stays.{OnlyWorks};
 ghost use Rattle.jpg_cli.specs.Words.TransformWords.{transform_view};
 ghost use Rattle.jpg_cli.specs.Tools.Turned.{Transformed, Turned, turning_view};
+ghost use Rattle.jpg_file.specs.Read.PictureRead.{picture_meaning};
+ghost use Rattle.jpg_spec_upright.specs.Upright.{marked, upright_choice};
 ghost use Rattle.jpg_spec_words.specs.TransformWords.{choice_asked};
 
 use crate::desk::moved::{Wrote, write_moved};
@@ -34,7 +36,8 @@ pub fn transform<D: Desk>(alloc: Global, words: &TransformWords, desk: &mut D) -
         Ok(scans) => turn(
             alloc,
             &words.files,
-            &choice_of(words, scans),
+            choice_of(words, scans),
+            words.upright,
             &words.crop,
             desk,
         ),

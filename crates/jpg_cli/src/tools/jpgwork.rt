@@ -186,6 +186,7 @@ fn turned_file(
             output: Name::Out,
         },
         transform: transformed,
+        upright: false,
         trim: false,
         gray: false,
         crop: None,

@@ -22,7 +22,7 @@ use jpg_spec_words::{Flag, Setting, Usage, UsageFault};
 use jpg_transform::{Huffman, Restart};
 use std::alloc::Global;
 
-static JPEGTRAN_SWITCHES: [Switch<'static>; 20] = [
+static JPEGTRAN_SWITCHES: [Switch<'static>; 21] = [
     ("copy", 1, Valued(Setting::Copy)),
     ("crop", 2, Valued(Setting::Crop)),
     ("flip", 1, Valued(Setting::Flip)),
@@ -37,6 +37,7 @@ static JPEGTRAN_SWITCHES: [Switch<'static>; 20] = [
     ("transpose", 1, Alone(Flag::Transpose)),
     ("transverse", 6, Alone(Flag::Transverse)),
     ("trim", 3, Alone(Flag::Trim)),
+    ("upright", 1, Alone(Flag::Upright)),
     ("optimize", 1, LeftOut),
     ("optimise", 1, LeftOut),
     ("arithmetic", 1, LeftOut),
@@ -62,6 +63,7 @@ pub fn jpegtran_words(alloc: Global, words: &[String]) -> Result<TransformWords,
     let start = TransformSaid {
         files: NO_FILES,
         transform: Transform::Keep,
+        upright: false,
         trim: false,
         gray: false,
         crop: None,
@@ -118,6 +120,7 @@ impl<'a> Asks<'a> for TransformSaid<'a> {
         match flag {
             Flag::Transpose => self.turned(Transform::Transpose, index),
             Flag::Transverse => self.turned(Transform::Transverse, index),
+            Flag::Upright => self.upright(index),
             Flag::Trim => Ok(TransformSaid { trim: true, ..self }),
             Flag::Gray => Ok(TransformSaid { gray: true, ..self }),
             Flag::Progressive => Ok(TransformSaid {
@@ -167,6 +170,7 @@ impl<'a> Asks<'a> for TransformSaid<'a> {
         Ok(TransformWords {
             files: self.files.to_files(alloc)?,
             transform: self.transform,
+            upright: self.upright,
             trim: self.trim,
             gray: self.gray,
             crop: area_of(self.crop),

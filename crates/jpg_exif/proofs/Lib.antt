@@ -1,0 +1,4 @@
+pub mod Entries
+pub mod Firsts
+pub mod Fronts
+pub mod Marking

@@ -1,0 +1,4 @@
+pub mod Displayed
+pub mod Marked
+pub mod MarkedWritten
+pub mod TurnedUpright

@@ -1,0 +1,3 @@
+pub mod Exif
+pub mod Laws
+pub mod Upright
