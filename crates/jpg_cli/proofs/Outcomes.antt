@@ -16,3 +16,4 @@ pub mod RefusedOnce
 pub mod Running
 pub mod TakenOnce
 pub mod Unwanted
+pub mod Upright

@@ -9,7 +9,7 @@ use Rattle.jpg_spec.specs.Segments.{standard_limits}
 use Rattle.jpg_spec_write.specs.CommentText.{IsInserted, longest_comment}
 use Rattle.jpg_comments.specs.Answers.{IsWholeFront}
 use Rattle.jpg_spec_write.specs.ScansAsked.{Scans, sequential, standard, given}
-use Rattle.jpg_spec_move.specs.Moved.{picture_fault}
+use Rattle.jpg_spec_upright.specs.Upright.{fault_for}
 use Rattle.jpg_spec_write.specs.Script.{Entry}
 use Rattle.jpg_spec_write.specs.ScriptGrammar.{TellsScript}
 use Rattle.jpg_spec_words.specs.TransformWords.{ScansSource, own_sequential, own_progressive, in_file, TransformAsked, choice_asked}
@@ -93,7 +93,7 @@ pub record HasPicture (a : TransformAsked) (old : DeskState) : Type 0 where
   pub asked : AreToldScans old a.scans scans
   pub told : IsTold old.files (name_of a.files.input) bytes
   pub means : MeansAs standard_limits early bytes meaning
-  pub admitted : picture_fault (choice_asked a scans) meaning ≡ None
+  pub admitted : fault_for a.upright (choice_asked a scans) meaning ≡ None
 
 -- The input is known, and means a picture that can be displayed.
 pub record HasImage (s : Showing) (old : DeskState) : Type 0 where
@@ -162,7 +162,7 @@ pub record HasFaultyPicture (a : TransformAsked) (fault : PictureFault) (old : D
   pub asked : AreToldScans old a.scans scans
   pub told : IsTold old.files (name_of a.files.input) bytes
   pub means : IsMeaning standard_limits bytes meaning
-  pub faulty : picture_fault (choice_asked a scans) meaning ≡ Some fault
+  pub faulty : fault_for a.upright (choice_asked a scans) meaning ≡ Some fault
 
 -- The input is refused with this fault, where its image is asked for.
 pub record HasFaultyImage (s : Showing) (f : FaultAt) (old : DeskState) : Type 0 where

@@ -46,8 +46,8 @@ pub record WasRefusedShown (gray : Bool) (bytes : List ℕ) (f : FaultAt) : Type
   pub told : IsTold old.files showing.input bytes
   pub shown : Shown showing old (why.Refused f) new
 
--- A run was done, perhaps with a warning, that transformed a transform of this picture by its inverse, without
--- trimming, conversion to grayscale and cropping.
+-- A run was done, perhaps with a warning, that transformed a transform of this picture by its inverse, as the words name
+-- it, without trimming, conversion to grayscale and cropping.
 pub record WasTurnedBack (t : Transform) (M : Meaning) : Type 0 where
   pub turning : Turning
   pub old : DeskState
@@ -55,6 +55,7 @@ pub record WasTurnedBack (t : Transform) (M : Meaning) : Type 0 where
   pub picture : Meaning
   pub early : Option ℕ
   pub turned : TurnedWith turning picture early old new
+  pub named : turning.upright ≡ false
   pub made : IsTransformOf t M picture
   pub back : UndoesTransform t turning.choice
 

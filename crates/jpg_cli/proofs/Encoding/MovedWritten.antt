@@ -20,7 +20,7 @@ use Rattle.jpg_file.specs.declared.write.Plan.{Plan}
 use Rattle.jpg_transform.specs.Planned.{IsPlanFor}
 use Rattle.jpg_transform.proofs.MovedScript.{area_none, gray_none, script_none}
 use Rattle.jpg_crop.proofs.CropPlanned.{fault_before}
-use Rattle.jpg_cli.specs.Desk.Writing.{AfterMoved, AfterOutput, IsMeant, MeansMoved, WritesMoved, in_area}
+use Rattle.jpg_cli.specs.Desk.Writing.{AfterMoved, AfterOutput, IsMeant, MeansMoved, WritesMoved, WritesOwn, in_area}
 use Rattle.jpg_cli.specs.declared.desk.moved.Wrote.{Wrote}
 use Rattle.jpg_cli.specs.declared.desk.moved.Wrote.TheVariants as wrote
 use Rattle.jpg_cli.proofs.Outcomes.KeepingLaws.{fault_same, text_same}
@@ -66,3 +66,17 @@ fault_in (Some area) c M fault whole e = fault_before c area M fault whole e
 pub faulty : (c : Choice) (p : Picture) (output : Name) (s : DeskState) (fault : PictureFault) → picture_fault c (picture_meaning p) ≡ Some fault → WritesMoved c p output s (wrote.Picture fault) s
 faulty c p output s fault e = λ M shows.
     (sym (fault_same c M) ∙ ap (picture_fault c) (sym shows) ∙ e, record { asked = refl; outputs = refl; left = refl })
+
+-- OF THE PICTURE AS IT IS
+
+pub own_written : (c : Choice) (p : Picture) (plan : Plan) (output : Name) (s0 s1 : DeskState) (w : Wrote) → IsPlanFor p c plan → AfterOutput output s0 (moved_text c (picture_meaning p)) w s1 → WritesOwn c p output s0 w s1
+own_written c p plan output s0 s1 w h out = by w out
+  where
+    by : (v : Wrote) → AfterOutput output s0 (moved_text c (picture_meaning p)) v s1 → WritesOwn c p output s0 v s1
+    by wrote.Done k = (h.admitted, k, h.counted)
+    by (wrote.Picture fault) k = absurd k
+    by wrote.OpenFault k = (h.admitted, k)
+    by wrote.WriteFault k = (h.admitted, k)
+
+pub own_faulty : (c : Choice) (p : Picture) (output : Name) (s : DeskState) (fault : PictureFault) → picture_fault c (picture_meaning p) ≡ Some fault → WritesOwn c p output s (wrote.Picture fault) s
+own_faulty c p output s fault e = (e, record { asked = refl; outputs = refl; left = refl })

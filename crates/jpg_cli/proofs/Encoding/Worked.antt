@@ -109,7 +109,7 @@ abbrev asked_by : Transform → Bool → TransformAsked
 asked_by t progressive = record transform_default { transform = t; scans = scans_by progressive }
 
 abbrev turning_by : Choice → Turning
-turning_by c = record { before = []; input = name.In; output = name.Out; choice = c }
+turning_by c = record { before = []; input = name.In; output = name.Out; choice = c; upright = false }
 
 by_choice : (c : Choice) (input : List ℕ) (desk now : MemoryDesk) (M : Meaning) → HoldsInput input desk → Means standard_limits input M → Turned (turning_by c) (memory_state desk) why.Done (memory_state now) → HasFile (moved c M) (moved_text c M) now
 by_choice c input desk now M holds means (N, (reads, wrote, so)) =

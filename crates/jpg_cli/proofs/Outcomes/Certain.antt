@@ -1,5 +1,5 @@
 -- If all calls succeed, a file that has what its command needs is processed.
-use Rattle.std.proofs.Common.{◌⊎◌, ◌≡◌, ℕ, ◌<◌, ◌≤◌, List, length, take, Option, None, Some, refl, sym, ap, ◌∙◌, subst, arith, inl, inr}
+use Rattle.std.proofs.Common.{◌⊎◌, ◌≡◌, ℕ, ◌<◌, ◌≤◌, Bool, List, length, take, Option, None, Some, refl, sym, ap, ◌∙◌, subst, arith, inl, inr}
 use Rattle.std.proofs.lemmas.List.{length-append, take_all, take-append-le}
 use Rattle.jpg_base.specs.declared.names.Name.{Name}
 use Rattle.jpg_base.specs.declared.names.Name.TheVariants as name
@@ -15,6 +15,7 @@ use Rattle.jpg_comments.specs.Printing.{HoldsWhole}
 use Rattle.jpg_comments.proofs.OneAnswer.{heads_sound, reading_sound, whole_no_fault}
 use Rattle.jpg_cli.specs.Certain.{HasFrameHeader, HasImage, HasPicture, HasShownFront, HasWholeFile, IsDoneAsOrWanting, IsDoneOrWanting, IsOrNoMemory, IsToldComment}
 use Rattle.jpg_cli.specs.Desk.Judging.{done_as}
+use Rattle.jpg_cli.specs.Desk.Writing.{MeansUpright}
 use Rattle.jpg_cli.specs.Tools.CommentInserted.{HasInputFault, HasLongComment, Inserted, IsComment, IsInsertDue, Task}
 use Rattle.jpg_cli.specs.Tools.ReadComments.{IsPrintDue, Printed}
 use Rattle.jpg_cli.specs.Laws.{MeanSame, WasTurnedBack, text_back}
@@ -121,4 +122,5 @@ front_certain scans s old new w has none shown =
 
 pub turned_back : (t : Transform) (M : Meaning) (w : WasTurnedBack t M) → MeanSame (text_back w) M
 turned_back t M w =
-    (moved w.turning.choice w.picture, w.turned.2, moved_back w.picture M t w.turning.choice w.made.whole w.back w.made.same)
+    let means = subst (λ (u : Bool). MeansUpright u w.turning.choice w.picture) w.named w.turned.2 in
+    (moved w.turning.choice w.picture, means, moved_back w.picture M t w.turning.choice w.made.whole w.back w.made.same)

@@ -4,7 +4,9 @@ use Rattle.std.specs.List.{All}
 use Rattle.jpg_base.specs.declared.names.Name.{Name}
 use Rattle.jpg_base.specs.Desk.{DeskState}
 use Rattle.jpg_spec.specs.Meaning.{Meaning}
-use Rattle.jpg_spec_move.specs.Moved.{Choice, moved_text, picture_fault}
+use Rattle.jpg_spec_move.specs.Moved.{Choice}
+use Rattle.jpg_spec_upright.specs.Upright.{fault_for, text_for}
+use Rattle.jpg_spec_write.specs.declared.picture_fault.PictureFault.{PictureFault}
 use Rattle.jpg_spec_write.specs.ScansAsked.{Scans}
 use Rattle.jpg_spec_words.specs.TransformWords.{TransformAsked, choice_asked}
 use Rattle.jpg_spec_words.specs.declared.answers.Why.{Why}
@@ -25,7 +27,7 @@ use Rattle.jpg_cli.specs.Words.TransformWords.{script_view, transform_view}
 use Rattle.jpg_cli.specs.Outcome.{Converted}
 use Rattle.jpg_cli.specs.Tools.Turned.{Transformed, Turned, Turning, turning_conversion}
 use Rattle.jpg_cli.specs.declared.words.jpegtran_request.TransformWords.{TransformWords}
-use Rattle.jpg_cli.specs.Desk.Writing.{AfterMade, AfterMoved, IsMeant, MeansMoved, as_early, why_wrote}
+use Rattle.jpg_cli.specs.Desk.Writing.{AfterMade, IsMeant, MeansUpright, as_early, why_wrote}
 use Rattle.jpg_cli.specs.declared.desk.moved.Wrote.{Wrote}
 use Rattle.jpg_cli.specs.declared.desk.moved.Wrote.TheVariants as wrote
 use Rattle.jpg_cli.proofs.Comments.CommentInserted.{none_noted}
@@ -47,27 +49,37 @@ meant M (Some n) bytes h = (bytes, h.small, inr h.early)
 
 -- A PICTURE that was read, written
 
-pub turned_made : (t : Turning) (M : Meaning) (early : Option ℕ) (s0 s1 s2 : DeskState) (w : Wrote) → HasValueRead Meaning (turning_conversion t) M early s0 s1 s2 → AfterMoved t.choice M t.output s1 w s2
+pub turned_made : (t : Turning) (M : Meaning) (early : Option ℕ) (s0 s1 s2 : DeskState) (w : Wrote) → HasValueRead Meaning (turning_conversion t) M early s0 s1 s2
+    → AfterMade (fault_for t.upright t.choice M) (text_for t.upright t.choice M) (IsMeant M → MeansUpright t.upright t.choice M) t.output s1 (why_wrote w) s2
     → Converted (after_names Meaning [] (turning_conversion t)) s0 (as_early early (why_wrote w)) s2
 turned_made t M early s0 s1 s2 w h k = converted_made Meaning (turning_conversion t) M early s0 s1 s2 h (why_wrote w) (by w k)
   where
-    by : (v : Wrote) → AfterMoved t.choice M t.output s1 v s2 → AfterMade (picture_fault t.choice M) (moved_text t.choice M) (MeansMoved t.choice M) t.output s1 (why_wrote v) s2
+    F : Option PictureFault
+    F = fault_for t.upright t.choice M
+
+    T : List ℕ
+    T = text_for t.upright t.choice M
+
+    by : (v : Wrote) → AfterMade F T (IsMeant M → MeansUpright t.upright t.choice M) t.output s1 (why_wrote v) s2 → AfterMade F T (MeansUpright t.upright t.choice M) t.output s1 (why_wrote v) s2
     by wrote.Done (none, out, means) = (none, out, means (meant M early (h.read).bytes (h.read).is))
     by other r = r
 
 -- AS THE WORDS ASK FOR IT
 
-pub transformed_in : (w : TransformWords) (scans : Scans) (choice : Choice) (s0 s1 s2 : DeskState) (ended : Why) → choice ≡ choice_asked (transform_view w) scans → GoesOnAfter (names_before (script_view w.script)) s0 s1 → HasScans (script_view w.script) s0 scans
-    → Turned (record { before = []; input = w.files.input; output = w.files.output; choice = choice }) s1 ended s2 → Transformed (transform_view w) s0 ended s2
-transformed_in w scans choice s0 s1 s2 ended same behind has turned =
-    let of : Name → Name → Choice → Turning = λ i o c. record { before = names_before (script_view w.script); input = i; output = o; choice = c } in
+pub transformed_in : (w : TransformWords) (scans : Scans) (choice : Choice) (upright : Bool) (s0 s1 s2 : DeskState) (ended : Why) → choice ≡ choice_asked (transform_view w) scans → upright ≡ w.upright
+    → GoesOnAfter (names_before (script_view w.script)) s0 s1 → HasScans (script_view w.script) s0 scans
+    → Turned (record { before = []; input = w.files.input; output = w.files.output; choice = choice; upright = upright }) s1 ended s2 → Transformed (transform_view w) s0 ended s2
+transformed_in w scans choice upright s0 s1 s2 ended same is behind has turned =
+    let of : Name → Name → Choice → Bool → Turning = λ i o c u. record { before = names_before (script_view w.script); input = i; output = o; choice = c; upright = u } in
     let asked = choice_asked (transform_view w) scans in
-    let there = converted_after Meaning (turning_conversion (of w.files.input w.files.output choice)) (names_before (script_view w.script)) s0 s1 s2 behind ended turned in
+    let there = converted_after Meaning (turning_conversion (of w.files.input w.files.output choice upright)) (names_before (script_view w.script)) s0 s1 s2 behind ended turned in
     inr (inl (
       scans,
       has,
-      subst (λ i. Turned (of i (name_of (name_view w.files.output)) asked) s0 ended s2) (sym (same_name w.files.input))
-          (subst (λ o. Turned (of w.files.input o asked) s0 ended s2) (sym (same_name w.files.output)) (subst (λ (c : Choice). Turned (of w.files.input w.files.output c) s0 ended s2) same there)),
+      subst (λ i. Turned (of i (name_of (name_view w.files.output)) asked w.upright) s0 ended s2) (sym (same_name w.files.input))
+          (subst (λ o. Turned (of w.files.input o asked w.upright) s0 ended s2) (sym (same_name w.files.output))
+          (subst (λ (u : Bool). Turned (of w.files.input w.files.output asked u) s0 ended s2) is
+          (subst (λ (c : Choice). Turned (of w.files.input w.files.output c upright) s0 ended s2) same there))),
     ))
 
 pub transformed_stopped : (a : TransformAsked) (s0 s1 : DeskState) (ended : Why) → StopsAtScans a.scans s0 ended s1 ⊎ ((ended ≡ why.NoMemory) × Untouched s0 s1) → Transformed a s0 ended s1

@@ -15,7 +15,8 @@ use Rattle.jpg_spec_move.specs.Moved.{Choice, moved, moved_text, picture_fault}
 use Rattle.jpg_spec_move.specs.declared.area.Area.{Area}
 use Rattle.jpg_spec.specs.Segments.{standard_limits}
 use Rattle.jpg_spec_upright.specs.Upright.{choice_for, picture_for}
-use Rattle.jpg_file.specs.Read.PictureRead.{MeansFor}
+use Rattle.jpg_spec_write.specs.WrittenFile.{IsRestart}
+use Rattle.jpg_file.specs.Read.PictureRead.{MeansFor, picture_meaning}
 use Rattle.jpg_file.specs.declared.read.picture.Picture.{Picture}
 use Rattle.jpg_cli.specs.Desk.Judging.{done_as}
 use Rattle.jpg_cli.specs.Stays.{Untouched}
@@ -79,3 +80,8 @@ AfterMoved choice M output old answer new =
 -- Whatever picture this one means, except for markers that the choice doesn't pass on.
 abbrev pub WritesMoved : Choice → Picture → Name → DeskState → Wrote → DeskState → Type 0
 WritesMoved choice p output old answer new = (M : Meaning) → MeansFor choice.copying p M → AfterMoved choice M output old answer new
+
+-- Of the picture as it is, all whose markers are kept: the same, where the restart interval can be written.
+abbrev pub WritesOwn : Choice → Picture → Name → DeskState → Wrote → DeskState → Type 0
+WritesOwn choice p output old answer new =
+    AfterMade (picture_fault choice (picture_meaning p)) (moved_text choice (picture_meaning p)) (IsRestart choice.restart) output old (why_wrote answer) new

@@ -5,7 +5,7 @@ ghost use Rattle.jpg_file.specs.Write.WriteFile.{CanWriteFile, file_bytes};
 ghost use Rattle.jpg_transform.specs.Planned.{choice_view};
 ghost use Rattle.jpg_crop.specs.CropPlanned.{IsArea};
 ghost use Rattle.jpg_cli.specs.Stays.{OnlyWorks};
-ghost use Rattle.jpg_cli.specs.Desk.Writing.{AfterOutput, WritesMoved, in_area};
+ghost use Rattle.jpg_cli.specs.Desk.Writing.{AfterOutput, WritesMoved, WritesOwn, in_area};
 
 use jpg_base::{Desk, Name, Put};
 use jpg_coefs::BlockView;
@@ -48,6 +48,7 @@ pub fn write_moved<D: Desk>(
     ensures kept { OnlyWorks (D.state desk.old) (D.state desk.new) }
     ensures left { (D.state desk.new).left ≡ (D.state desk.old).left }
     ensures wrote { WritesMoved (in_area area.now (choice_view choice.now)) picture.now output.now (D.state desk.old) result (D.state desk.new) }
+    ensures own { WritesOwn (in_area area.now (choice_view choice.now)) picture.now output.now (D.state desk.old) result (D.state desk.new) }
 {
     match plan(picture, choice) {
         Err(fault) => Wrote::Picture(fault),

@@ -1,8 +1,8 @@
 //! A picture read, transformed and written (the manual of jpegtran).
-ghost use Rattle.std.specs.Prelude.{◌≡◌, IfSome};
+ghost use Rattle.std.specs.Prelude.{◌≡◌, true, false, IfSome};
 ghost use Rattle.jpg_transform.specs.Planned.{choice_view, scans_view};
 ghost use Rattle.jpg_crop.specs.CropPlanned.{IsArea};
-ghost use Rattle.jpg_cli.specs.Desk.Writing.{in_area};
+ghost use Rattle.jpg_cli.specs.Desk.Writing.{as_early, in_area, why_wrote};
 ghost use Rattle.jpg_cli.specs.Stays.{OnlyWorks};
 ghost use Rattle.jpg_cli.specs.Words.TransformWords.{transform_view};
 ghost use Rattle.jpg_cli.specs.Tools.Turned.{Transformed, Turned, turning_view};
@@ -16,13 +16,16 @@ use crate::desk::script::take_scans;
 use crate::words::files::Files;
 use crate::words::jpegtran_request::TransformWords;
 use jpg_base::Desk;
-use jpg_spec_move::Area;
+use jpg_exif::mark_upright;
+use jpg_file::Picture;
+use jpg_spec::Copying;
+use jpg_spec_move::{Area, Transform};
 use jpg_spec_words::{Which, Why};
 use jpg_transform::{Choice, Scans};
 use std::alloc::Global;
 
 /// Takes the scans of the output, reads the picture of the input, and writes it to the output, transformed and cropped
-/// as the words ask for it. A script's file is read and judged before the input is opened. The input is read in pieces
+/// as the words or its Exif orientation ask for it. A script's file is read and judged before the input is opened. The input is read in pieces
 /// of at most 16,384 bytes, up to the one that completes it or reveals a fault, or up to its end; from then on no
 /// memory is needed. An input that ends early is transformed with what it has, and the result warns of it. The output
 /// is created when the picture is complete and has no fault, so it may have the input's name.
@@ -33,14 +36,14 @@ pub fn transform<D: Desk>(alloc: Global, words: &TransformWords, desk: &mut D) -
 {
     match take_scans(alloc, &words.script, desk) {
         Err(why) => why,
-        Ok(scans) => turn(
-            alloc,
-            &words.files,
-            choice_of(words, scans),
-            words.upright,
-            &words.crop,
-            desk,
-        ),
+        Ok(scans) => {
+            let choice = choice_of(words, scans);
+            if words.upright {
+                turn_upright(alloc, &words.files, choice, &words.crop, desk)
+            } else {
+                turn(alloc, &words.files, &choice, &words.crop, desk)
+            }
+        }
     }
 }
 
@@ -69,23 +72,94 @@ fn turn<D: Desk>(
 ) -> Why
     requires { IfSome area.now IsArea }
     ensures kept { OnlyWorks (D.state desk.old) (D.state desk.new) }
-    ensures turned { Turned (turning_view files.now choice.now area.now) (D.state desk.old) result (D.state desk.new) }
+    ensures turned { Turned (turning_view files.now choice.now false area.now) (D.state desk.old) result (D.state desk.new) }
 {
-    let copying = choice.copying;
-    match read_picture(alloc, &files.input, copying, desk) {
+    match read_picture(alloc, &files.input, choice.copying, desk) {
         Err(why) => why,
-        Ok((picture, early)) => match write_moved(
-            alloc,
-            &picture,
-            choice,
-            &files.output,
-            area,
-            desk,
-        ) {
-            Wrote::Done => done_as(early),
-            Wrote::Picture(fault) => Why::Picture(fault),
-            Wrote::OpenFault => Why::OpenFault(Which::Output),
-            Wrote::WriteFault => Why::WriteFault,
+        Ok((picture, early)) => ended(
+            write_moved(alloc, &picture, choice, &files.output, area, desk),
+            early,
+        ),
+    }
+}
+
+// Reads the picture of the input with all its markers, and writes it to the output, turned upright, otherwise as the
+// choice says, and cropped to the area.
+fn turn_upright<D: Desk>(
+    alloc: Global,
+    files: &Files,
+    choice: Choice,
+    area: &Option<Area>,
+    desk: &mut D,
+) -> Why
+    requires { IfSome area.now IsArea }
+    ensures kept { OnlyWorks (D.state desk.old) (D.state desk.new) }
+    ensures turned { Turned (turning_view files.now choice true area.now) (D.state desk.old) result (D.state desk.new) }
+{
+    match read_picture(alloc, &files.input, Copying::All, desk) {
+        Err(why) => why,
+        Ok((picture, early)) => {
+            let upright = upright_of(picture, choice);
+            ended(
+                write_moved(
+                    alloc,
+                    &upright.picture,
+                    &upright.choice,
+                    &files.output,
+                    area,
+                    desk,
+                ),
+                early,
+            )
+        }
+    }
+}
+
+// Why transforming ended, by how the output was written, and where the input ended early.
+fn ended(wrote: Wrote, early: Option<u64>) -> Why
+    ensures { result ≡ as_early early (why_wrote wrote) }
+{
+    match wrote {
+        Wrote::Done => done_as(early),
+        Wrote::Picture(fault) => Why::Picture(fault),
+        Wrote::OpenFault => Why::OpenFault(Which::Output),
+        Wrote::WriteFault => Why::WriteFault,
+    }
+}
+
+// A picture whose kept markers have orientation 1, and how it is transformed.
+#[derive(Drop)]
+struct Upright {
+    picture: Picture,
+    choice: Choice,
+}
+
+// The picture marked as upright, and the choice with the transform that its Exif orientation asks for.
+fn upright_of(picture: Picture, choice: Choice) -> Upright
+    ensures picture { picture_meaning result.picture ≡ marked (picture_meaning picture) }
+    ensures choice { choice_view result.choice ≡ upright_choice (choice_view choice) (picture_meaning picture) }
+{
+    let Picture {
+        frame,
+        colour,
+        quants,
+        coefs,
+        mut kept,
+        jfif,
+    } = picture;
+    let transform = mark_upright(&mut kept);
+    Upright {
+        picture: Picture {
+            frame,
+            colour,
+            quants,
+            coefs,
+            kept,
+            jfif,
+        },
+        choice: Choice {
+            transform,
+            ..choice
         },
     }
 }

@@ -3,7 +3,7 @@ ghost use Rattle.std.specs.Prelude.{◌≡◌, ◌<◌, IfOk, map, drop, string_
 ghost use Rattle.jpg_crop.specs.CropPlanned.{IsArea};
 ghost use Rattle.jpg_cli.specs.Words.Areas.{area_or_one};
 ghost use Rattle.jpg_spec_words.specs.Requests.{with_value};
-ghost use Rattle.jpg_spec_words.specs.TransformWords.{TransformAsked, copying_named, flip_named, jpegtran, rotation_named, transform_asked, transform_number, with_progressive, with_transform};
+ghost use Rattle.jpg_spec_words.specs.TransformWords.{TransformAsked, copying_named, flip_named, jpegtran, rotation_named, transform_asked, transform_number, with_progressive, with_transform, with_upright};
 ghost use Rattle.jpg_cli.specs.Words.Files.{text_view};
 ghost use Rattle.jpg_cli.specs.Words.Requests.{AnswersWords, IsAnswer};
 ghost use Rattle.jpg_cli.specs.Words.TransformWords.{area_said, script_said, script_view, transform_said, transform_view};
@@ -82,6 +82,8 @@ struct TransformSaid<'a> {
     files: FilesSaid<'a>,
     // -flip, -rotate, -transpose or -transverse
     transform: Transform,
+    // -upright
+    upright: bool,
     // -trim
     trim: bool,
     // -grayscale
@@ -188,8 +190,22 @@ impl<'a> TransformSaid<'a> {
         ensures { AnswersWords transform_said (with_transform index transform (transform_said self.entry)) result }
     {
         let before = transform_number(self.transform);
-        if before == 0 || before == transform_number(transform) {
+        if !self.upright && (before == 0 || before == transform_number(transform)) {
             Ok(TransformSaid { transform, ..self })
+        } else {
+            Err(usage(UsageFault::TwoTransforms, index))
+        }
+    }
+
+    // What is asked for with the transform that the Exif orientation chooses, and no other.
+    fn upright(self, index: usize) -> Result<Self, Usage>
+        ensures { AnswersWords transform_said (with_upright index (transform_said self.entry)) result }
+    {
+        if transform_number(self.transform) == 0 {
+            Ok(TransformSaid {
+                upright: true,
+                ..self
+            })
         } else {
             Err(usage(UsageFault::TwoTransforms, index))
         }

@@ -15,6 +15,8 @@ pub struct TransformWords {
     pub files: Files,
     /// How the picture is transformed.
     pub transform: Transform,
+    /// Whether the Exif orientation chooses the transform.
+    pub upright: bool,
     /// Partial iMCUs that would remain in place, at the right and at the bottom, are left out.
     pub trim: bool,
     /// Only the first component is kept.

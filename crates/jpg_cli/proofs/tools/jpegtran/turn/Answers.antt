@@ -1,8 +1,7 @@
-use Rattle.std.proofs.Common.{sym, subst}
+use Rattle.std.proofs.Common.{false, sym, subst}
 use Rattle.jpg_spec.specs.Meaning.{Meaning}
 use Rattle.jpg_spec_words.specs.declared.answers.Why.{Why}
 use Rattle.jpg_cli.specs.Tools.Turned.{Turned, turning_conversion, turning_view}
-use Rattle.jpg_cli.specs.declared.desk.moved.Wrote.TheVariants as wrote
 use Rattle.jpg_cli.proofs.Outcomes.Outcome.{converted_unread}
 use Rattle.jpg_cli.proofs.Outcomes.Running.{turned_made}
 use Rattle.jpg_cli.proofs.tools.jpegtran.turn.Goals as goal
@@ -10,34 +9,13 @@ use Rattle.jpg_cli.proofs.tools.jpegtran.turn.Goals as goal
 pub returns-in-Err-clause-turned : goal.returns-in-Err-clause-turned
 returns-in-Err-clause-turned g c =
     let state = g.D.Desk.state in
-    converted_unread Meaning (turning_conversion (turning_view c.args.files.now c.args.choice.now c.args.area.now)) c.args.files.now.input (state c.args.desk.now) (state c.read_picture.new.desk) c.in-Err.why c.in-Err.ensures.read
-
-pub returns-in-Done-clause-turned : goal.returns-in-Done-clause-turned
-returns-in-Done-clause-turned g c =
-    let state = g.D.Desk.state in
-    let told = c.in-Ok.ensures.read in
-    let t = turning_view c.args.files.now c.args.choice.now c.args.area.now in
-    subst (λ (w : Why). Turned t (state c.args.desk.now) w (state c.write_moved.new.desk)) (sym c.done_as.ensures)
-    (turned_made t told.1.0 c.in-Ok.early (state c.args.desk.now) (state c.read_picture.new.desk) (state c.write_moved.new.desk) wrote.Done
-    (record { kept = c.in-Ok.ensures.kept; asked = told.0; read = told.1.2; all = told.2; left = c.write_moved.ensures.left }) (c.in-Done.ensures.wrote told.1.0 told.1.1))
-
-pub returns-in-Picture-clause-turned : goal.returns-in-Picture-clause-turned
-returns-in-Picture-clause-turned g c =
-    let state = g.D.Desk.state in
-    let told = c.in-Ok.ensures.read in
-    turned_made (turning_view c.args.files.now c.args.choice.now c.args.area.now) told.1.0 c.in-Ok.early (state c.args.desk.now) (state c.read_picture.new.desk) (state c.write_moved.new.desk) (wrote.Picture c.in-Picture.fault)
-    (record { kept = c.in-Ok.ensures.kept; asked = told.0; read = told.1.2; all = told.2; left = c.write_moved.ensures.left }) (c.in-Picture.ensures.wrote told.1.0 told.1.1)
-
-pub returns-in-OpenFault-clause-turned : goal.returns-in-OpenFault-clause-turned
-returns-in-OpenFault-clause-turned g c =
-    let state = g.D.Desk.state in
-    let told = c.in-Ok.ensures.read in
-    turned_made (turning_view c.args.files.now c.args.choice.now c.args.area.now) told.1.0 c.in-Ok.early (state c.args.desk.now) (state c.read_picture.new.desk) (state c.write_moved.new.desk) wrote.OpenFault
-    (record { kept = c.in-Ok.ensures.kept; asked = told.0; read = told.1.2; all = told.2; left = c.write_moved.ensures.left }) (c.in-OpenFault.ensures.wrote told.1.0 told.1.1)
+    converted_unread Meaning (turning_conversion (turning_view c.args.files.now c.args.choice.now false c.args.area.now)) c.args.files.now.input (state c.args.desk.now) (state c.read_picture.new.desk) c.in-Err.why c.in-Err.ensures.read
 
 pub returns-clause-turned : goal.returns-clause-turned
 returns-clause-turned g c =
     let state = g.D.Desk.state in
     let told = c.in-Ok.ensures.read in
-    turned_made (turning_view c.args.files.now c.args.choice.now c.args.area.now) told.1.0 c.in-Ok.early (state c.args.desk.now) (state c.read_picture.new.desk) (state c.write_moved.new.desk) wrote.WriteFault
-    (record { kept = c.in-Ok.ensures.kept; asked = told.0; read = told.1.2; all = told.2; left = c.write_moved.ensures.left }) (c.in-WriteFault.ensures.wrote told.1.0 told.1.1)
+    let t = turning_view c.args.files.now c.args.choice.now false c.args.area.now in
+    subst (λ (w : Why). Turned t (state c.args.desk.now) w (state c.write_moved.new.desk)) (sym c.ended.ensures)
+    (turned_made t told.1.0 c.in-Ok.early (state c.args.desk.now) (state c.read_picture.new.desk) (state c.write_moved.new.desk) c.write_moved.result
+    (record { kept = c.in-Ok.ensures.kept; asked = told.0; read = told.1.2; all = told.2; left = c.write_moved.ensures.left }) (c.write_moved.ensures.wrote told.1.0 told.1.1))
