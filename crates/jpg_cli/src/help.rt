@@ -8,6 +8,7 @@ jpegtran [SWITCHES] [FILE] > OUTPUT
   -rotate 90          rotate clockwise by 90, 180 or 270 degrees
   -transpose          mirror at the diagonal from the upper left
   -transverse         mirror at the other diagonal
+  -upright            turn it as its Exif orientation asks, and mark it so
   -trim               drop partial MCUs that would stay at the edge
   -grayscale          keep only the first component (-greyscale too)
   -crop WxH+X+Y       cut out this area; its corner moves to that of an MCU

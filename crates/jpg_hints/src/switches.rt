@@ -5,7 +5,7 @@ use strsim::levenshtein;
 
 // For each command, by its first letter, the names of switches of others, and what to write here. A word is the first
 // one of its command that it is the beginning of.
-static OTHERS: [(&str, &str, &str); 46] = [
+static OTHERS: [(&str, &str, &str); 48] = [
     ("jc", "optimize", "write -huffman fitted"),
     ("jc", "optimise", "write -huffman fitted"),
     (
@@ -24,6 +24,8 @@ static OTHERS: [(&str, &str, &str); 46] = [
         "wipe",
         "no part of a picture can be blanked here; -crop cuts one out",
     ),
+    ("j", "autorotate", "write -upright"),
+    ("j", "auto-orient", "write -upright"),
     ("j", "revert", "leave it out: that is what is written"),
     ("j", "fastcrush", "leave it out: scans aren't searched here"),
     (
@@ -147,7 +149,7 @@ static OTHERS: [(&str, &str, &str); 46] = [
 ];
 
 // The switches of each command, by its first letter.
-static OWN: [(&str, &str); 28] = [
+static OWN: [(&str, &str); 29] = [
     ("jdcrw", "help"),
     ("j", "copy"),
     ("j", "crop"),
@@ -162,6 +164,7 @@ static OWN: [(&str, &str); 28] = [
     ("j", "transpose"),
     ("j", "transverse"),
     ("j", "trim"),
+    ("j", "upright"),
     ("d", "pnm"),
     ("d", "bmp"),
     ("dc", "targa"),

@@ -55,6 +55,7 @@ fn name_text(name: &Name) -> &str {
 fn add_transform_part(words: &TransformWords, part: &str, got: &mut Answer) {
     match part {
         "transform" => got.add_shown(&words.transform),
+        "upright" => got.add_shown(&words.upright),
         "trim" => got.add_shown(&words.trim),
         "gray" => got.add_shown(&words.gray),
         "copying" => got.add_shown(&words.copying),
