@@ -19,7 +19,7 @@ pub fn comments_of(alloc: Global, file: &[u8]) -> Result<Bytes, Stop>
     }
 }
 
-/// The same for a file in pieces of any length. Those after its end are ignored.
+/// The text of the comments of a file in pieces of any length. Those after its end are ignored.
 pub fn comments_of_pieces(alloc: Global, pieces: &[&[u8]]) -> Result<Bytes, Stop> {
     let mut comments = Comments::new(alloc, Limits::standard());
     let mut text = Bytes::new(alloc);

@@ -42,7 +42,7 @@ IsDoneOrWanting why.Done = Unit {0}
 IsDoneOrWanting why.NoMemory = Unit {0}
 IsDoneOrWanting other = ⊥
 
--- The same, if the input ends early after this many bytes.
+-- The output is complete, with a warning where the input ends early after this many bytes, or there was no memory.
 abbrev pub IsDoneAsOrWanting : Option ℕ → Why → Type 0
 IsDoneAsOrWanting None why.Done = Unit {0}
 IsDoneAsOrWanting (Some n) (why.Warned m) = m ≡ n

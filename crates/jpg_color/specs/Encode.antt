@@ -57,7 +57,7 @@ pub record CanEncode (i : Read) (a : Asked) : Type 0 where
   pub first : AreQuantisers (slice_index_or a.tables 0 [])
   pub others : AreQuantisers (slice_index_or a.tables 1 [])
 
--- The same of an image whose samples aren't there yet: sides that a frame can have, factors, and tables.
+-- An image whose samples aren't there yet can be encoded: sides that a frame can have, factors, and tables.
 pub record CanSample (info : ImageInfo) (a : Asked) : Type 0 where
   pub wide : 1 ≤ info.width
   pub wide_few : info.width ≤ 65500

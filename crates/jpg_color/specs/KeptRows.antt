@@ -38,7 +38,7 @@ abbrev pub with_block_rows : KeptRows → QuantTable → Blocks → ℕ → ℕ 
 with_block_rows kept quants blocks i first count =
     record kept { rows = last_row kept.rows ++ map (row_in kept.wide quants blocks i first) (below count) }
 
--- The same, where the rows are those of zero blocks.
+-- After the last row that is kept come `count` rows of zero blocks, whose samples are all 128.
 abbrev pub with_gray : KeptRows → ℕ → KeptRows
 with_gray kept count = record kept { rows = last_row kept.rows ++ map (λ y. map (λ x. 128) (below kept.wide)) (below count) }
 

@@ -62,7 +62,7 @@ pub record IsPart (M : Meaning) (smooth : Bool) (i : ℕ) (p : PartState) : Type
   pub quants : p.quants ≡ (component_of M i).quants
   pub wide : p.kept.wide ≡ p.stretch.wide
 
--- the same, of which no row is kept
+-- component i of a picture, of which no row is kept
 pub record IsNewPart (M : Meaning) (smooth : Bool) (i : ℕ) (p : PartState) : Type 0 where
   pub part : IsPart M smooth i p
   pub none : p.kept.rows ≡ []
@@ -90,7 +90,7 @@ pub record CanFill (q : Picture) (whole : Bool) (m : ℕ) (p : PartState) : Type
 abbrev pub filled : Picture → Bool → ℕ → PartState → PartState
 filled q whole m p = record p { kept = with_block_rows p.kept p.quants (map_of q) p.component (begins whole m p) (rows_so_far_of p m) }
 
--- The same of zero blocks.
+-- Zero blocks may be taken as MCU row m.
 pub record CanFillGray (m : ℕ) (p : PartState) : Type 0 where
   pub early : m < 65536
   pub few : rows_so_far_of p m ≤ 8 * p.block_rows

@@ -131,7 +131,7 @@ abbrev pub GivesRow : ShownState → Option (List ℕ) → ShownState → Type 0
 GivesRow old (Some row) new = IsGiven old row new
 GivesRow old None new = (old.given ≡ rows_made_ready old.display old.pushed) × (new ≡ old)
 
--- the same, where the row is lent later
+-- a row is ready to be lent, or none, exactly if all that are ready were given
 abbrev pub Advances : ShownState → Bool → ShownState → Type 0
 Advances old true new = IsGiven old new.last new
 Advances old false new = (old.given ≡ rows_made_ready old.display old.pushed) × (new ≡ old)

@@ -42,6 +42,6 @@ abbrev pub IsCropPlanFor : Picture → Choice → Job → Area → Result CropJo
 IsCropPlanFor p choice job area (Ok crop) = IsCropJobFor p choice job area crop
 IsCropPlanFor p choice job area (Err fault) = picture_fault (with_area area choice) (picture_meaning p) ≡ Some fault
 
--- The same for any choice that the job without an area is for.
+-- The crop job, or the fault, for any choice that the job without an area is for.
 abbrev pub IsCropPlan : Picture → Job → Area → Result CropJob PictureFault → Type 0
 IsCropPlan p job area result = (choice : Choice) → IsJobFor p choice job → IsCropPlanFor p choice job area result

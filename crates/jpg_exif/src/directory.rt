@@ -90,7 +90,7 @@ fn entry_among(little: bool, contents: &[u8], count: u16, start: usize) -> Optio
     None
 }
 
-// The same in the directory at a place, which may be outside.
+// The place of the orientation's entry in the directory at a place, which may be outside.
 fn entry_in(little: bool, contents: &[u8], start: u64) -> Option<usize>
     requires { start < 4294967302 }
     ensures found { result ≡ entry_in little contents.now start }
@@ -104,7 +104,7 @@ fn entry_in(little: bool, contents: &[u8], start: u64) -> Option<usize>
     entry_among(little, contents, count, place + 2)
 }
 
-// The same in the first directory.
+// The place of the orientation's entry in the first directory.
 fn entry_place(contents: &[u8]) -> Option<usize>
     ensures found { result ≡ entry_place contents.now }
     ensures inside { IfSome result (λ k. k + 12 ≤ length contents.now) }

@@ -40,7 +40,7 @@ fn first_exif(kept: &KeptList) -> Option<usize>
     None
 }
 
-// The same for the segment of Exif data at this index.
+// The transform and the marked markers, by the segment of Exif data at this index.
 fn mark_segment(kept: &mut KeptList, index: usize) -> Transform
     requires { IsFirstExif kept.old index }
     ensures transform { result ≡ transform_for (orientation_of kept.old) }

@@ -21,6 +21,6 @@ ac_tables set = set.ac
 abbrev pub no_tables : List (Option Table)
 no_tables = None ∷ None ∷ None ∷ None ∷ []
 
--- the same slots, of tables as counts and symbols
+-- the slots of a set, with tables as counts and symbols
 abbrev pub slots_of : TableSet → HuffmanSlots
 slots_of set = record { dc = map (option_map table_of) (dc_tables set); ac = map (option_map table_of) (ac_tables set) }

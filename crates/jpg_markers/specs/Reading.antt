@@ -108,7 +108,7 @@ Comes bytes before (Err (stop.Fault f)) r =
     Reaches (kept_rule r.limits) bytes (at_fault f.fault) × RevealsAfter (kept_rule r.limits) before f.fault bytes × (f.at ≡ r.taken)
 Comes bytes before (Err stop.NoMemory) r = Unit {0}
 
--- the same before a halt is kept as a stop
+-- the result of a byte before a halt is kept as a stop, which has the place too
 abbrev pub Goes : List ℕ → List Segment → Result SegStep Halt → Reading → Type 0
 Goes bytes before (Ok s) r = Comes bytes before (Ok s) r
 Goes bytes before (Err (halt.Fault f)) r = Reaches (kept_rule r.limits) bytes (at_fault f) × RevealsAfter (kept_rule r.limits) before f bytes

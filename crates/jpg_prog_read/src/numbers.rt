@@ -11,7 +11,7 @@ fn product(value: i16, scale: u16) -> i32
     i32::from(value) * i32::from(scale)
 }
 
-// The same number in a smaller word.
+// The number in a smaller word, which it fits.
 fn narrow(x: i32) -> i16
     requires { nat_abs x ≤ 32767 }
     ensures { result ≡ x }

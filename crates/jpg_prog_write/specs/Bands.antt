@@ -19,7 +19,7 @@ elements_after bands bits rest later =
     else if bands + 1 == 32767 || nat_lt 937 (length waiting) then ended_bands (bands + 1) waiting ++ band_elements 32767 0 [] later
     else band_elements 32767 (bands + 1) waiting later
 
--- the same, where a part of the band up to its last newly sent value is before the rest
+-- the elements of a band whose part up to its last newly sent value is before the rest, and of the bands after it
 unfoldable pub elements_due : ℕ → List Bool → List Sent → List Sent → List (List Sent) → List Element
 elements_due bands bits front rest later =
     if is_empty front then elements_after bands bits rest later

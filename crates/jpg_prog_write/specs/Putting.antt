@@ -19,7 +19,7 @@ PutsBut s0 old all rest (Err fault) new s1 = Puts s0 old all (Err fault) new s1
 abbrev pub PutsBand : DeskState → Waiting → List Code → Bands → Result (Unit {0}) WriteFault → Bands → Waiting → DeskState → Type 0
 PutsBand s0 out codes old result new after s1 = (later : List (List Sent)) → PutsBut s0 out (texts codes (elements_left old later)) (texts codes (elements_waiting new later)) result after s1
 
--- the same after bits that the caller has, of the values before an EOB run
+-- all of a band that is begun, after bits that the caller has, of the values before an EOB run
 abbrev pub PutsValues : DeskState → Waiting → List Bool → List Code → Bands → Result (List Bool) WriteFault → Bands → Waiting → DeskState → Type 0
 PutsValues s0 out held codes old (Ok left) new after s1 =
     (later : List (List Sent)) → PutsBut s0 (holding out held) (texts codes (elements_left old later)) (texts codes (elements_left new later)) (Ok tt) (holding after left) s1

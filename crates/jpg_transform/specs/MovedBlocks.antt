@@ -35,6 +35,6 @@ pub record IsWrittenAs (p : Picture) (choice : Choice) (plan : Plan) (f : Frame)
   pub text : file_bytes plan p.kept seen ≡ moved_text choice (picture_meaning p)
   pub means : IsMovable choice (picture_meaning p) → Means standard_limits (moved_text choice (picture_meaning p)) (moved choice (picture_meaning p))
 
--- The same for any choice that this job is for.
+-- The file of the job's plan may be written from these blocks, for any choice that the job is for.
 abbrev pub WritesJob : Picture → Job → Frame → Blocks → Type 0
 WritesJob p job f seen = (choice : Choice) → IsJobFor p choice job → IsWrittenAs p choice job.plan f seen

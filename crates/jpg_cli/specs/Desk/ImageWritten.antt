@@ -36,7 +36,7 @@ abbrev pub AfterWritten : Choice → Meaning → Name → DeskState → Why → 
 AfterWritten choice M output old ended new =
     AfterMade (picture_fault choice M) (moved_text choice M) (IsMeant M → MeansMoved choice M) output old ended new
 
--- The same for each picture whose markers that are passed on are those of this one.
+-- A picture was written untransformed, for each meaning whose markers that are passed on are those of this picture.
 abbrev pub IsWritten : Choice → Picture → Name → DeskState → Why → DeskState → Type 0
 IsWritten choice p output old ended new = (M : Meaning) → MeansFor choice.copying p M → AfterWritten choice M output old ended new
 

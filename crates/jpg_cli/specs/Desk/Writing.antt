@@ -31,7 +31,7 @@ IsMeant M = (bytes : List ℕ) × All (λ b. b < 256) bytes × IsMeaning standar
 abbrev pub MeansMoved : Choice → Meaning → Type 0
 MeansMoved choice M = Means standard_limits (moved_text choice M) (moved choice M)
 
--- The same of the picture that is turned upright, if that is asked for.
+-- The text of the transformed picture means it, after it was marked as upright, if that is asked for.
 abbrev pub MeansUpright : Bool → Choice → Meaning → Type 0
 MeansUpright upright choice M = MeansMoved (choice_for upright choice M) (picture_for upright M)
 

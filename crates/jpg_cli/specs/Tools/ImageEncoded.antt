@@ -64,7 +64,7 @@ EncodedBy before a scans old ended new =
     StopsAtTables before a.tables old ended new
     ⊎ ((tables : Option (List QuantTable)) × HasTables a.tables old tables × Encoded (task_after (before ++ tables_names a.tables) a scans tables) old ended new)
 
--- The same, whichever names were opened before.
+-- There is a fault of the tables, or the image is encoded by them, whichever names were opened before.
 abbrev pub EncodedAfter : EncodeAsked → Scans → DeskState → Why → DeskState → Type 0
 EncodedAfter a scans old ended new = (names : List Name) (s : DeskState) → GoesOnAfter names s old → EncodedBy names a scans s ended new
 

@@ -110,7 +110,7 @@ AfterFileStep before limits bytes step.NoMemory w = before ≡ None
 abbrev pub IsStop : Limits → List ℕ → FaultAt → Type 0
 IsStop limits bytes f = (f.at ≡ length bytes) × Reveals limits f.fault bytes
 
--- the same for a complete file, with what holds where memory is asked for
+-- the meaning of the state after a byte, by the result: also of a complete file, and what holds where memory is asked for
 abbrev pub AfterFileByte : Type 0 → Limits → List ℕ → Step → FileWork → Type 0
 AfterFileByte asks limits bytes came.More w = RepresentsFile limits bytes w
 AfterFileByte asks limits bytes came.Row w = ⊥

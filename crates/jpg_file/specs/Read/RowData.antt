@@ -102,7 +102,7 @@ pub record IsRowData (s : InScan) (w : RowWork) : Type 0 where
   pub inside : Somewhere s whole
   pub due : s.work.whole ≡ false → IsInsideRow w s.work.machine × (1 ≤ w.left)
 
--- the same after some bits of a byte
+-- inside data after some bits of a byte; if units are left, the next ones are those that are left of the MCU row
 pub record IsHalfRow (s : InScan) (w : RowWork) : Type 0 where
   pub whole : Picture
   pub row : IsRowOf w.tops whole w.coefs
