@@ -15,7 +15,7 @@ usage() {
 ./install.sh --help                 prints this
 
 PREFIX/bin gets jpgsuite, jpegtran, djpeg, cjpeg, rdjpgcom and wrjpgcom, PREFIX/share their manual pages and completions
-for bash and zsh. PREFIX/share/jpgsuite/installed lists all of it, for --uninstall: a package leaves that file out.
+for bash, zsh and fish. PREFIX/share/jpgsuite/installed lists all of it, for --uninstall: a package leaves that file out.
 A file that is there already and isn't of jpgsuite is never replaced: nothing is installed then.
 At the end the installed jpegtran rotates example/colour.jpg, and the status is 1 unless that gives example/turned.jpg.
 
@@ -57,7 +57,8 @@ can_be_made() {
 # Makes a folder with all that is installed, except the program.
 stage() {
     local tool to=$1
-    mkdir -p "$to/bin" "$to/share/man/man1" "$to/share/bash-completion/completions" "$to/share/zsh/site-functions"
+    mkdir -p "$to/bin" "$to/share/man/man1"
+    (cd "$to/share" && mkdir -p bash-completion/completions zsh/site-functions fish/vendor_completions.d)
     for tool in "${tools[@]}"; do
         ln -s jpgsuite "$to/bin/$tool"
         cp "man/$tool.1" "$to/share/man/man1/"
@@ -65,6 +66,7 @@ stage() {
     cp man/jpgsuite.1 "$to/share/man/man1/"
     for tool in jpgsuite "${tools[@]}"; do
         cp completions/jpgsuite.bash "$to/share/bash-completion/completions/$tool"
+        cp completions/jpgsuite.fish "$to/share/fish/vendor_completions.d/$tool.fish"
     done
     cp completions/_jpgsuite "$to/share/zsh/site-functions/"
     chmod -R u=rwX,go=rX "$to"
@@ -95,9 +97,47 @@ copy_crates() {
     done
 }
 
-# Reads what rt ci prints, and writes all of it to a log; shows each crate when it is done.
+# How many seconds each crate took where the gate was measured, by the table of docs/EVIDENCE.md: of a crate that is missing there, none.
+declare -A took=()
+read_times() {
+    local name seconds
+    while read -r name seconds; do took[$name]=$seconds; done < <(
+        sed -n 's/^| `\([a-z_]*\)` |[^|]*| *\([0-9]*\) *|[^|]*|$/\1 \2/p' docs/EVIDENCE.md 2> /dev/null
+    )
+}
+
+# Of the crates in one state, proved or left: the seconds of the longest chain in which each uses the one before, or of all of
+# them, shared out to the processors, where that is longer. Crates that were proved before are in neither.
+declare -A state_of=()
+seconds_of() {
+    local name used most=0 sum=0
+    local -A chain=()
+    for name in "${order[@]}"; do
+        chain[$name]=0
+        for used in $(sed -n "s/^$name://p" crates.txt); do
+            [ "${chain[$used]:-0}" -le "${chain[$name]}" ] || chain[$name]=${chain[$used]}
+        done
+        [ "${state_of[$name]:-left}" = "$1" ] || continue
+        chain[$name]=$((${chain[$name]} + ${took[$name]:-0}))
+        sum=$((sum + ${took[$name]:-0}))
+        [ "${chain[$name]}" -le "$most" ] || most=${chain[$name]}
+    done
+    sum=$((sum / $(nproc 2> /dev/null || echo 1)))
+    echo "$((sum > most ? sum : most))"
+}
+
+# After so many seconds: how long the rest takes, by what those took that are done.
+rest_of() {
+    local proved left
+    proved=$(seconds_of proved)
+    left=$(seconds_of left)
+    [ "$proved" = 0 ] || [ "$left" = 0 ] || echo "; about $(((left * $1 / proved + 59) / 60)) min are left"
+}
+
+# Reads what rt ci prints, and writes all of it to a log; shows each crate when it is done, and about how long the rest takes.
 show_crates() {
-    local line name done=0
+    local line name done=0 began=$SECONDS
+    read_times
     while IFS= read -r line; do
         printf '%s\n' "$line" >> "$1"
         name=${line#rt: }
@@ -105,8 +145,12 @@ show_crates() {
         case $line in
         "rt: $name proved" | "rt: $name is kept: "*)
             done=$((done + 1))
-            case $line in *" proved") line="proved" ;; *) line="proved before, on this machine" ;; esac
-            printf '  %s of %s: %s %s, after %s s\n' "$done" "${#order[@]}" "$name" "$line" "$SECONDS"
+            case $line in
+            *" proved") state_of[$name]=proved line="proved" ;;
+            *) state_of[$name]=kept line="proved before, on this machine" ;;
+            esac
+            line="$line, after $SECONDS s$(rest_of "$((SECONDS - began))")"
+            printf '  %s of %s: %s %s\n' "$done" "${#order[@]}" "$name" "$line"
             ;;
         "rt: "*" NOT PROVED"* | "rt: waiting for "* | "rt: "*": another run on this machine "*) printf '  %s\n' "${line#rt: }" ;;
         esac
@@ -147,11 +191,12 @@ show_run() {
 build() {
     local found log=$PWD/crates/jpg_suite/out/install.log
     command -v rt > /dev/null ||
-        fail "rt isn't on PATH: it is the command of the Rattle kit ($kits), which proves and builds jpgsuite.
-With JPGSUITE_PROGRAM=FILE ./install.sh installs FILE, a jpgsuite that was built before, and needs no kit."
+        fail "rt, the command of the Rattle kit ($kits), isn't on PATH; JPGSUITE_PROGRAM=FILE installs a jpgsuite that was built before, without the kit"
+    command -v python3 > /dev/null || fail "python3 isn't on PATH, and rt needs it"
     found=$(rt version 2>&1) || true
     case $found in
     "rattle-kit-13b logic dac8208d650f15bf" | "rattle-kit-13f logic dac8208d650f15bf") ;;
+    *ModuleNotFoundError*) fail "rt needs all of Python 3 (Debian's python3, and not python3-minimal): ${found##*ModuleNotFoundError: }" ;;
     *) fail "rt version says '$found', but jpgsuite is proved with $kits" ;;
     esac
     order_of jpg_suite
@@ -256,7 +301,7 @@ install_all() {
     for name in "${names[@]}"; do
         case $name in
         bin/jpgsuite) put 755 "$work/stage/$name" "$root/$name" ;;
-        bin/*) ln -sfn jpgsuite "$root/$name" ;;
+        bin/*) [ "$(readlink -- "$root/$name")" = jpgsuite ] || ln -sfn jpgsuite "$root/$name" ;;
         "$list") ;;
         *) put 644 "$work/stage/$name" "$root/$name" ;;
         esac
@@ -266,11 +311,11 @@ install_all() {
 $("$program" --version) is installed in $root:
   bin: jpgsuite, and links to it, its commands ${tools[*]}
   share/man/man1: a manual page of each
-  share/bash-completion/completions, share/zsh/site-functions: completions
+  share/bash-completion/completions, share/zsh/site-functions, share/fish/vendor_completions.d: completions
 Where PREFIX/bin comes first on PATH it hides others of these names.
 With the package bash-completion, bash loads completions of ~/.local, /usr/local and /usr by itself; otherwise ~/.bashrc needs this line:
   . $(printf %q "$prefix/share/bash-completion/completions/jpgsuite")
-zsh needs this one in ~/.zshrc, before compinit, unless the folder is on its fpath:
+fish finds those of ~/.local, /usr/local and /usr. zsh needs this one in ~/.zshrc, before compinit, unless the folder is on its fpath:
   fpath=($(printf %q "$prefix/share/zsh/site-functions") \$fpath)
 ${DESTDIR:+DESTDIR=$(printf %q "$DESTDIR") }./install.sh --uninstall $(printf %q "$prefix") removes all of it.
 END

@@ -59,7 +59,7 @@ _jpgsuite_value() {
 }
 
 _jpgsuite() {
-    local tool=${1##*/} from=1 word=$2 value=- taken=0 at row name
+    local tool=${1##*/} from=1 word=$2 value=- taken=0 at row name alone=""
     COMPREPLY=()
     # Another program of the same name has other switches.
     [[ $tool == jpgsuite || $(readlink -f -- "$(type -P -- "$1")") == */jpgsuite ]] || return
@@ -72,6 +72,9 @@ _jpgsuite() {
         tool=${COMP_WORDS[1]}
         from=2
     fi
+    # Only the first word may be one of these, and nothing follows it.
+    ((COMP_CWORD > from)) || alone="--help --version"
+    [[ ${COMP_WORDS[from]} != --help && ${COMP_WORDS[from]} != --version ]] || ((COMP_CWORD == from)) || taken=1
     # Which value is expected at the word, if any, and whether a file was named before it.
     for ((at = from; at < COMP_CWORD; at++)); do
         if [[ $value != - ]]; then
@@ -91,6 +94,7 @@ _jpgsuite() {
             read -r row name value <<< "$row"
             [[ $row != "$tool" ]] || COMPREPLY+=($(compgen -W "$name" -- "$word"))
         done
+        COMPREPLY+=($(compgen -W "$alone" -- "$word"))
         compopt +o default
     elif [[ $value != - && $value != FILE ]]; then
         COMPREPLY=($(compgen -W "${value//,/ }" -- "$word"))

@@ -3,6 +3,7 @@
 
 mod desk;
 mod ending;
+mod faults;
 mod help;
 mod hints;
 mod laws;

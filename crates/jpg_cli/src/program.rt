@@ -4,6 +4,7 @@ ghost use Rattle.jpg_pnm_bmp.specs.EndState.{new_end};
 ghost use Rattle.jpg_cli.specs.Tools.Ends.{AreNewEnds};
 
 use crate::ending::end_output;
+use crate::faults::say_file;
 use crate::help::{BEGIN, HELP};
 use crate::hints::say_hint;
 use crate::top::run;
@@ -12,7 +13,7 @@ use jpg_base::{NoMemory, RealFiles, StdDesk};
 use jpg_pnm_bmp::{BmpEnd, ImageEnd, PnmEnd};
 use jpg_spec_words::Why;
 use jpg_targa::TargaEnd;
-use std::alloc::Global;
+use std::alloc::{AllocError, Global};
 use std::env;
 use std::io::ErrorKind;
 use std::process::ExitCode;
@@ -131,12 +132,16 @@ fn run_over_files<R: RealFiles>(
 ) -> u8
     requires { AreNewEnds (map (λ e. progress e) ends.items) }
 {
+    let second: Result<R, AllocError> = rt.clone();
     let mut desk = StdDesk::replacing(rt);
     let ended = run(alloc, words, &mut desk, ends);
     if let Why::Usage(usage) = ended.why
         && !words.is_empty()
     {
         say_hint(alloc, words, usage, &mut desk);
+    }
+    if let Ok(rt) = second {
+        say_file(&rt, alloc, words, ended.why);
     }
     end_output(tool_name(words), ended, &mut desk)
 }
@@ -166,7 +171,8 @@ fn run_with_ends<R: RealFiles>(rt: R, alloc: Global, words: &[String]) -> u8 {
 /// status. Where the program was called by the name of a command, that is the first word. A single `--help`, `-help`,
 /// `-h`, `-?` or `--version`, also after the name of a command, and a single `help` or `version` print the help, all of it
 /// or that for the command, or the version. For a call without words standard error has how to begin, and
-/// then the message; a message for other wrong words is followed by what to write. An output with a name takes its place
+/// then the message; a message for other wrong words is followed by what to write, and one for a file that couldn't be opened
+/// or read by its name and the reason. An output with a name takes its place
 /// when it is complete (`StdDesk::replacing`). If there is no memory for the words the status is 3, and if a
 /// word isn't UTF-8 it is 1, both without a message.
 pub fn run_program<R: RealFiles<A = Global>>(rt: R) -> ExitCode {
