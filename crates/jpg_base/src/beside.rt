@@ -85,16 +85,19 @@ impl Beside {
 
     /// Writes the name of the file beside; false if it is too long.
     pub fn put_name(&self, name: &mut PathText) -> bool {
-        name.clear();
-        let (folder, process, number) = (self.folder(), self.process, self.number);
-        write!(name, "{folder}.jpgsuite-{process}-{number}").is_ok()
+        self.put(".", name)
     }
 
     /// Writes the name that a complete file has while it is copied, which no call removes; false if it is too long.
     pub fn put_whole_name(&self, name: &mut PathText) -> bool {
+        self.put("", name)
+    }
+
+    // Writes a name beside that begins with this; false if it is too long.
+    fn put(&self, before: &str, name: &mut PathText) -> bool {
         name.clear();
         let (folder, process, number) = (self.folder(), self.process, self.number);
-        write!(name, "{folder}jpgsuite-{process}-{number}").is_ok()
+        write!(name, "{folder}{before}jpgsuite-{process}-{number}").is_ok()
     }
 
     /// Writes the name of what is left beside; false if there is nothing, or it is too long.
@@ -113,53 +116,57 @@ impl Beside {
         if !self.put_name(&mut name) {
             return None;
         }
-        match fs::symlink_metadata(rt, name.as_str()) {
-            Ok(found) => Some(Identity::of(&found).is_same(Identity::of(file))),
-            Err(error) => match error.kind() {
-                ErrorKind::NotFound => Some(false),
-                _ => None,
-            },
+        match seen_at(rt, name.as_str()) {
+            Seen::There(found) => Some(Identity::of(&found).is_same(Identity::of(file))),
+            Seen::Nothing => Some(false),
+            Seen::Unknown => None,
         }
-    }
-
-    /// Removes the file beside; whether that is done.
-    pub fn remove<R: RealFiles>(&self, rt: &R) -> bool {
-        let mut name = ArrayString::new();
-        self.put_name(&mut name) && fs::remove_file(rt, name.as_str()).is_ok()
     }
 
     // Takes the path that the output is asked for under as its place, with no symbolic link at its end; false if that
     // can't be.
     fn find_place<R: RealFiles>(&mut self, rt: &R, path: &str) -> bool {
         self.place.clear();
-        if path.is_empty() || self.place.try_push_str(path).is_err() {
+        if path.is_empty() || !push(&mut self.place, path) {
             return false;
         }
         for _ in 0..LINKS {
-            match fs::symlink_metadata(rt, self.place.as_str()) {
-                Ok(found) if found.is_symlink() && !is_of_a_process(self.place.as_str()) => {
-                    if !self.follow(rt) {
-                        return false;
-                    }
-                }
-                _ => return true,
+            if !self.is_link(rt) {
+                return true;
+            }
+            if !self.follow(rt) {
+                return false;
             }
         }
         false
     }
 
+    // Whether a symbolic link is at the end of the path, and not what a process has open.
+    fn is_link<R: RealFiles>(&self, rt: &R) -> bool {
+        let path = self.place.as_str();
+        match fs::symlink_metadata(rt, path) {
+            Ok(found) => found.is_symlink() && !is_of_a_process(path),
+            Err(_) => false,
+        }
+    }
+
     // Follows the symbolic link at the end of the path; false if that can't be.
     fn follow<R: RealFiles>(&mut self, rt: &R) -> bool {
-        let Ok(target) = fs::read_link(rt, self.place.as_str()) else {
-            return false;
-        };
-        let target = target.as_os_str();
+        match fs::read_link(rt, self.place.as_str()) {
+            Ok(target) => self.go_to(target.as_os_str()),
+            Err(_) => false,
+        }
+    }
+
+    // Takes what the symbolic link at the end of the path leads to as the path; false if that is too long.
+    fn go_to(&mut self, target: &str) -> bool {
         let mut next: PathText = ArrayString::new();
-        if !target.starts_with('/') && next.try_push_str(self.folder()).is_err() {
+        let is_whole = target.starts_with('/') || push(&mut next, self.folder());
+        if !is_whole || !push(&mut next, target) {
             return false;
         }
         self.place.clear();
-        next.try_push_str(target).is_ok() && self.place.try_push_str(next.as_str()).is_ok()
+        push(&mut self.place, next.as_str())
     }
 
     // A file that wasn't there before, with the next name that is free, which is held. Its mode is this one, less the bits
@@ -168,25 +175,33 @@ impl Beside {
         let mut options = OpenOptions::new();
         options.read(true).write(true).create_new(true).mode(mode);
         self.process = rt.process();
-        let mut name = ArrayString::new();
         for number in 0..TRIES {
             self.number = number;
-            if !self.put_name(&mut name) {
-                return Err(Error::from(ErrorKind::InvalidFilename));
-            }
-            match options.open(rt, name.as_str()) {
-                Ok(file) => {
-                    if self.is_held(rt, &file) {
-                        return Ok(file);
-                    }
-                }
-                Err(error) => match error.kind() {
-                    ErrorKind::AlreadyExists => {}
-                    _ => return Err(error),
-                },
+            if let Some(file) = self.numbered(rt, &options)? {
+                return Ok(file);
             }
         }
         Err(Error::from(ErrorKind::AlreadyExists))
+    }
+
+    // A new file with the name of its number, which is held; None if the name is taken.
+    fn numbered<R: RealFiles>(
+        &self,
+        rt: &R,
+        options: &OpenOptions,
+    ) -> Result<Option<R::File>, Error> {
+        let mut name = ArrayString::new();
+        if !self.put_name(&mut name) {
+            return Err(Error::from(ErrorKind::InvalidFilename));
+        }
+        match options.open(rt, name.as_str()) {
+            Ok(file) if self.is_held(rt, &file) => Ok(Some(file)),
+            Ok(_) => Ok(None),
+            Err(error) => match error.kind() {
+                ErrorKind::AlreadyExists => Ok(None),
+                _ => Err(error),
+            },
+        }
     }
 
     // Holds a new file; false if another call took it for a leftover meanwhile.
@@ -200,17 +215,25 @@ impl Beside {
 
     // Gives a new file the owner, the group and the mode of the one that it replaces; whether that is done.
     fn make_like<R: RealFiles>(file: &R::File, old: &Metadata) -> bool {
-        let new = match file.metadata() {
-            Ok(new) => new,
-            Err(_) => return false,
+        let (owner, group) = (old.uid(), old.gid());
+        let is_owned = match file.metadata() {
+            Ok(new) => { new.uid() == owner && new.gid() == group || R::give(file, owner, group) }
+            Err(_) => false,
         };
-        let is_owned = new.uid() == old.uid() && new.gid() == old.gid();
         let mode = Permissions::from_mode(kept_mode(old.mode()));
-        (is_owned || R::give(file, old.uid(), old.gid())) && file.set_permissions(mode).is_ok()
+        is_owned && file.set_permissions(mode).is_ok()
+    }
+
+    // The file beside a place that has none.
+    fn beside_nothing<R: RealFiles>(&mut self, rt: &R) -> Result<R::File, Error> {
+        remove_leftovers(rt, self.folder());
+        self.way = Way::New;
+        self.new_file(rt, NEW_MODE)
     }
 
     // The file beside the one that was found at the place.
     fn beside_old<R: RealFiles>(&mut self, rt: &R, old: &Metadata) -> Result<R::File, Error> {
+        remove_leftovers(rt, self.folder());
         let file = self.new_file(rt, OWN_MODE)?;
         let found = Identity::of(old);
         let is_alone = old.nlink() == 1 && !is_for_group(old.mode());
@@ -231,29 +254,31 @@ impl Beside {
         if is_of_a_process(self.place.as_str()) {
             return Made::AtOnce;
         }
-        let made = match found_at(rt, self.place.as_str()) {
-            There::Nothing => {
-                self.way = Way::New;
-                remove_leftovers(rt, self.folder());
-                self.new_file(rt, NEW_MODE)
-            }
-            There::Plain(old) => {
-                remove_leftovers(rt, self.folder());
-                self.beside_old(rt, &old)
-            }
-            There::Other => return Made::AtOnce,
-            There::Unknown => return Made::Nowhere,
-        };
-        match made {
-            Ok(file) => Made::Beside(file),
-            Err(error) => match error.kind() {
-                ErrorKind::PermissionDenied
-                | ErrorKind::ReadOnlyFilesystem
-                | ErrorKind::InvalidFilename => Made::AtOnce,
-                _ => Made::Nowhere,
-            },
+        match found_at(rt, self.place.as_str()) {
+            There::Nothing => made_of(self.beside_nothing(rt)),
+            There::Plain(old) => made_of(self.beside_old(rt, &old)),
+            There::Other => Made::AtOnce,
+            There::Unknown => Made::Nowhere,
         }
     }
+}
+
+// Where an output is written, by what came of a file beside its place.
+fn made_of<F>(file: Result<F, Error>) -> Made<F> {
+    match file {
+        Ok(file) => Made::Beside(file),
+        Err(error) => match error.kind() {
+            ErrorKind::PermissionDenied
+            | ErrorKind::ReadOnlyFilesystem
+            | ErrorKind::InvalidFilename => Made::AtOnce,
+            _ => Made::Nowhere,
+        },
+    }
+}
+
+// Appends a text to a path; false if it gets too long.
+fn push(path: &mut PathText, text: &str) -> bool {
+    path.try_push_str(text).is_ok()
 }
 
 /// The folder of a path, with the slash that ends it.
@@ -286,18 +311,38 @@ fn is_for_group(mode: u32) -> bool {
 
 // A plain file that may be written can be replaced.
 fn found_at<R: RealFiles>(rt: &R, path: &str) -> There {
-    let found = match fs::symlink_metadata(rt, path) {
-        Ok(found) => found,
-        Err(error) => {
-            return match error.kind() {
-                ErrorKind::NotFound => There::Nothing,
-                _ => There::Unknown,
-            };
+    match seen_at(rt, path) {
+        Seen::There(found) if found.is_file() && open_to_write(rt, path, false).is_some() => {
+            There::Plain(found)
         }
-    };
-    if found.is_file() && OpenOptions::new().write(true).open(rt, path).is_ok() {
-        There::Plain(found)
-    } else {
-        There::Other
+        Seen::There(_) => There::Other,
+        Seen::Nothing => There::Nothing,
+        Seen::Unknown => There::Unknown,
     }
+}
+
+/// What has a name: nothing, this, which may be a symbolic link, or what can't be seen.
+#[derive(Drop)]
+pub enum Seen {
+    Nothing,
+    There(Metadata),
+    Unknown,
+}
+
+/// What has this name.
+pub fn seen_at<R: RealFiles>(rt: &R, path: &str) -> Seen {
+    match fs::symlink_metadata(rt, path) {
+        Ok(found) => Seen::There(found),
+        Err(error) => match error.kind() {
+            ErrorKind::NotFound => Seen::Nothing,
+            _ => Seen::Unknown,
+        },
+    }
+}
+
+/// The file of this name, opened to be written, and read too if so asked; None if that can't be.
+pub fn open_to_write<R: RealFiles>(rt: &R, path: &str, reads: bool) -> Option<R::File> {
+    let mut options = OpenOptions::new();
+    options.read(reads).write(true);
+    options.open(rt, path).ok()
 }

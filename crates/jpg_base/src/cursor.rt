@@ -11,7 +11,7 @@ use jpg_spec::{Grid, Place, ScanPart};
 use std::marker::Model;
 
 /// A component of a scan.
-#[derive(Clone, Copy, Debug, PartialEq, Eq, Default)]
+#[derive(Clone, Copy, Default)]
 pub struct CursorPart {
     /// Its index in the frame.
     pub component: u8,

@@ -1,6 +1,6 @@
 //! The outside as a trait. A function that is generic over it can't raise a count by itself.
-ghost use Rattle.std.specs.Prelude.{◌≡◌, ◌<◌, length, true};
-ghost use Rattle.jpg_base.specs.Desk.{DeskState, Opens, Reads, Creates, Writes, Says};
+ghost use Rattle.std.specs.Prelude.{◌≡◌, ◌<◌, ◌≤◌, length, true};
+ghost use Rattle.jpg_base.specs.Desk.{raised, Rose, DeskState, Opens, Reads, Creates, Writes, Says};
 
 use crate::{Counts, Got, Name, Put};
 
@@ -49,4 +49,13 @@ pub trait Desk {
     /// How often each kind of call has failed so far.
     fn counts(&self) -> Counts
         ensures { result ≡ (state self.now).counts };
+}
+
+/// Raises a count by one, unless it is the greatest number.
+pub fn raise(count: &mut u64)
+    ensures exact { count.new ≡ raised count.old }
+    ensures rose { Rose count.old count.new }
+    ensures kept { count.old ≤ count.new }
+{
+    *count = count.saturating_add(1);
 }

@@ -4,11 +4,10 @@ ghost use Rattle.std.specs.Option.{option_map};
 
 mod parts;
 
+use crate::desk::raise;
 use crate::input::Input;
 use crate::{Counts, Desk, Got, Name, NoMemory, Put};
-use parts::{
-    add_output, append, choose, failure_of, input_of, is_failing, raise, with_name, write_last,
-};
+use parts::{add_output, append, choose, failure_of, input_of, is_failing, with_name, write_last};
 use std::alloc::Global;
 
 #[derive(Drop)]
@@ -173,19 +172,16 @@ impl Desk for MemoryDesk {
         ensures fails { fails_next self.old ≡ true → result ≡ Put.Failed }
     {
         let fails = is_failing(&mut self.calls, &self.failing);
-        match input_of(self.alloc, fails, &self.files, name) {
-            Some(input) => {
-                self.input = Some(input);
-                self.asked = with_name(self.alloc, self.asked.take(), name, Put::Done);
-                Put::Done
-            }
+        self.input = input_of(self.alloc, fails, &self.files, name);
+        let answer = match &self.input {
+            Some(_) => Put::Done,
             None => {
                 raise(&mut self.counts.opens);
-                self.input = None;
-                self.asked = with_name(self.alloc, self.asked.take(), name, Put::Failed);
                 Put::Failed
             }
-        }
+        };
+        self.asked = with_name(self.alloc, self.asked.take(), name, answer);
+        answer
     }
 
     fn read(&mut self, buf: &mut [u8]) -> Got
@@ -212,17 +208,12 @@ impl Desk for MemoryDesk {
         ensures fails { fails_next self.old ≡ true → result ≡ Put.Failed }
     {
         let fails = is_failing(&mut self.calls, &self.failing);
-        match add_output(self.alloc, fails, &mut self.outputs, name) {
-            Put::Done => {
-                self.asked = with_name(self.alloc, self.asked.take(), name, Put::Done);
-                Put::Done
-            }
-            Put::Failed => {
-                raise(&mut self.counts.opens);
-                self.asked = with_name(self.alloc, self.asked.take(), name, Put::Failed);
-                Put::Failed
-            }
+        let answer = add_output(self.alloc, fails, &mut self.outputs, name);
+        if let Put::Failed = answer {
+            raise(&mut self.counts.opens);
         }
+        self.asked = with_name(self.alloc, self.asked.take(), name, answer);
+        answer
     }
 
     fn write(&mut self, piece: &[u8]) -> Put
@@ -232,13 +223,11 @@ impl Desk for MemoryDesk {
         ensures fails { FailsWith (part_of_next self.old) piece.now result (λ part. memory_outputs self.new ≡ append_last (memory_outputs self.old) part) }
     {
         let failure = failure_of(&mut self.calls, &self.failing);
-        match write_last(failure, &mut self.outputs, piece) {
-            Put::Done => Put::Done,
-            Put::Failed => {
-                raise(&mut self.counts.writes);
-                Put::Failed
-            }
+        let answer = write_last(failure, &mut self.outputs, piece);
+        if let Put::Failed = answer {
+            raise(&mut self.counts.writes);
         }
+        answer
     }
 
     fn say(&mut self, text: &[u8]) -> Put
@@ -247,13 +236,11 @@ impl Desk for MemoryDesk {
         ensures fails { FailsWith (part_of_next self.old) text.now result (λ part. memory_said self.new ≡ memory_said self.old ++ part) }
     {
         let failure = failure_of(&mut self.calls, &self.failing);
-        match append(failure, &mut self.said, text) {
-            Put::Done => Put::Done,
-            Put::Failed => {
-                raise(&mut self.counts.says);
-                Put::Failed
-            }
+        let answer = append(failure, &mut self.said, text);
+        if let Put::Failed = answer {
+            raise(&mut self.counts.says);
         }
+        answer
     }
 
     fn counts(&self) -> Counts

@@ -2,12 +2,12 @@
 ghost use Rattle.std.specs.Prelude.{◌≤◌};
 
 use crate::Put;
-use crate::beside::{Beside, PathText, Way};
+use crate::beside::{Beside, PathText, Seen, Way, open_to_write, seen_at};
 use crate::system::{Identity, RealFiles};
 use arrayvec::ArrayString;
 use std::fs;
-use std::fs::{OpenFile, OpenOptions};
-use std::io::{Error, ErrorKind, Read, Seek, SeekFrom, Write};
+use std::fs::OpenFile;
+use std::io::{ErrorKind, Read, Seek, SeekFrom, Write};
 
 /// What is left beside a place, because it can't be removed, or because the place has a part of it.
 #[derive(Clone, Copy)]
@@ -26,7 +26,8 @@ pub struct Placed {
     pub left: Left,
 }
 
-const DONE: Placed = Placed {
+/// It is done, and nothing is left.
+pub const DONE: Placed = Placed {
     put: Put::Done,
     left: Left::Nothing,
 };
@@ -43,20 +44,21 @@ const NOT_SEEN: Placed = Placed {
 
 /// Stores a complete file, and puts it into its place.
 pub fn place<R: RealFiles>(rt: &R, file: R::File, beside: &Beside) -> Placed {
-    let found = match file.metadata() {
-        Ok(found) => found,
-        Err(_) => return removed(rt, beside, Put::Failed),
-    };
-    match beside.is_of(rt, &found) {
-        Some(true) => {}
-        Some(false) => return FAILED,
-        None => return NOT_SEEN,
+    match file.metadata() {
+        Ok(found) => match beside.is_of(rt, &found) {
+            Some(true) if found.len() > 0 => place_bytes(rt, file, beside),
+            Some(true) => removed(rt, beside, Left::Beside, Put::Done),
+            Some(false) => FAILED,
+            None => NOT_SEEN,
+        },
+        Err(_) => removed(rt, beside, Left::Beside, Put::Failed),
     }
-    if found.len() == 0 {
-        return removed(rt, beside, Put::Done);
-    }
+}
+
+// Stores a complete file that has bytes, and puts it into its place.
+fn place_bytes<R: RealFiles>(rt: &R, file: R::File, beside: &Beside) -> Placed {
     if file.sync_all().is_err() {
-        return removed(rt, beside, Put::Failed);
+        return removed(rt, beside, Left::Beside, Put::Failed);
     }
     match beside.way {
         Way::IsCopied(old) => copy(rt, file, beside, old),
@@ -65,21 +67,34 @@ pub fn place<R: RealFiles>(rt: &R, file: R::File, beside: &Beside) -> Placed {
     }
 }
 
-/// Removes the file beside, after this was done with it.
-pub fn removed<R: RealFiles>(rt: &R, beside: &Beside, put: Put) -> Placed {
-    let left = if beside.remove(rt) {
+/// Removes what is left beside, after this was done with it.
+pub fn removed<R: RealFiles>(rt: &R, beside: &Beside, left: Left, put: Put) -> Placed {
+    let mut name: PathText = ArrayString::new();
+    let is_named = beside.put_left_name(left, &mut name);
+    let left = if is_named && fs::remove_file(rt, name.as_str()).is_ok() {
         Left::Nothing
     } else {
-        Left::Beside
+        left
     };
     Placed { put, left }
 }
 
-// Whether a rename failed only because the name can't be exchanged.
-fn keeps_its_name(error: &Error) -> bool {
-    match error.kind() {
-        ErrorKind::CrossesDevices | ErrorKind::ResourceBusy | ErrorKind::PermissionDenied => true,
-        _ => false,
+// What came of a rename: it is done, the name can't be exchanged, or it failed for another reason.
+enum Renamed {
+    Done,
+    Kept,
+    Failed,
+}
+
+// Gives a file another name.
+fn give_name<R: RealFiles>(rt: &R, name: &str, new: &str) -> Renamed {
+    match fs::rename(rt, name, new) {
+        Ok(()) => Renamed::Done,
+        Err(error) => match error.kind() {
+            ErrorKind::CrossesDevices | ErrorKind::ResourceBusy | ErrorKind::PermissionDenied =>
+                Renamed::Kept,
+            _ => Renamed::Failed,
+        },
     }
 }
 
@@ -89,67 +104,92 @@ fn rename<R: RealFiles>(rt: &R, file: R::File, beside: &Beside, old: Option<Iden
     if !beside.put_name(&mut name) {
         return FAILED;
     }
-    match fs::rename(rt, name.as_str(), beside.place.as_str()) {
-        Ok(()) => stored(rt, beside, DONE),
-        Err(error) if keeps_its_name(&error) => match old {
-            Some(old) => copy(rt, file, beside, old),
-            None => link(rt, beside, name.as_str()),
-        },
-        Err(_) => removed(rt, beside, Put::Failed),
+    match (give_name(rt, name.as_str(), beside.place.as_str()), old) {
+        (Renamed::Done, _) => stored(rt, beside, DONE),
+        (Renamed::Kept, Some(old)) => copy(rt, file, beside, old),
+        (Renamed::Kept, None) => link(rt, beside, name.as_str()),
+        (Renamed::Failed, _) => removed(rt, beside, Left::Beside, Put::Failed),
     }
 }
 
 // Gives the file beside the name of its place, which nothing has, as a second name.
 fn link<R: RealFiles>(rt: &R, beside: &Beside, name: &str) -> Placed {
-    if fs::hard_link(rt, name, beside.place.as_str()).is_err() {
-        return removed(rt, beside, Put::Failed);
+    match fs::hard_link(rt, name, beside.place.as_str()) {
+        Ok(()) => {
+            let done = removed(rt, beside, Left::Beside, Put::Done);
+            stored(rt, beside, done)
+        }
+        Err(_) => removed(rt, beside, Left::Beside, Put::Failed),
     }
-    let done = removed(rt, beside, Put::Done);
-    stored(rt, beside, done)
+}
+
+/// Waits until an open file is stored; what stores nothing, such as a device, is done.
+pub fn synced<F: OpenFile>(file: &F) -> Put {
+    match file.sync_all() {
+        Ok(()) => Put::Done,
+        Err(error) => match error.kind() {
+            ErrorKind::InvalidInput | ErrorKind::Unsupported => Put::Done,
+            _ => Put::Failed,
+        },
+    }
 }
 
 // Waits until the folder of the place is stored, as far as it can be opened and stores anything: what came of it then.
 fn stored<R: RealFiles>(rt: &R, beside: &Beside, done: Placed) -> Placed {
     let folder = beside.folder();
-    let Ok(folder) = fs::open(rt, if folder.is_empty() { "." } else { folder }) else {
-        return done;
+    let put = match fs::open(rt, if folder.is_empty() { "." } else { folder }) {
+        Ok(folder) => synced(&folder),
+        Err(_) => Put::Done,
     };
-    match folder.sync_all() {
-        Ok(()) => done,
-        Err(error) => match error.kind() {
-            ErrorKind::InvalidInput | ErrorKind::Unsupported => done,
-            _ => Placed {
-                put: Put::Failed,
-                left: done.left,
-            },
+    match put {
+        Put::Done => done,
+        Put::Failed => Placed {
+            put,
+            left: done.left,
         },
     }
 }
 
-// Copies the complete file into the one at its place. While that is done it has a name that no call removes, unless its
-// folder lets no name be taken away.
+// Copies the complete file into the one at its place.
 fn copy<R: RealFiles>(rt: &R, file: R::File, beside: &Beside, old: Identity) -> Placed {
-    let Some(to) = opened(rt, beside, old) else {
-        return removed(rt, beside, Put::Failed);
-    };
+    match opened(rt, beside, old) {
+        Some(to) => copy_into(rt, file, beside, to),
+        None => removed(rt, beside, Left::Beside, Put::Failed),
+    }
+}
+
+// Copies the complete file into this one, which is at its place. While that is done it has a name that no call removes,
+// unless its folder lets no name be taken away.
+fn copy_into<R: RealFiles>(rt: &R, file: R::File, beside: &Beside, to: R::File) -> Placed {
     R::wait_for(&to);
-    let left = match take_whole_name(rt, beside) {
-        Some(left) => left,
-        None => return removed(rt, beside, Put::Failed),
-    };
+    match take_whole_name(rt, beside) {
+        Some(left) => copy_named(rt, file, beside, to, left),
+        None => removed(rt, beside, Left::Beside, Put::Failed),
+    }
+}
+
+// Copies the complete file, which has this name, into the one at its place.
+fn copy_named<R: RealFiles>(
+    rt: &R,
+    file: R::File,
+    beside: &Beside,
+    to: R::File,
+    left: Left,
+) -> Placed {
     let named = Placed {
         put: Put::Done,
         left,
     };
-    if stored(rt, beside, named).put == Put::Failed {
-        return whole_removed(rt, beside, left, Put::Failed);
-    }
-    match copy_parts(file, to) {
+    let copied = match stored(rt, beside, named).put {
+        Put::Done => copy_parts(file, to),
+        Put::Failed => Copied::Nothing,
+    };
+    match copied {
         Copied::All => {
-            let done = whole_removed(rt, beside, left, Put::Done);
+            let done = removed(rt, beside, left, Put::Done);
             stored(rt, beside, done)
         }
-        Copied::Nothing => whole_removed(rt, beside, left, Put::Failed),
+        Copied::Nothing => removed(rt, beside, left, Put::Failed),
         Copied::Partly => Placed {
             put: Put::Failed,
             left,
@@ -157,30 +197,11 @@ fn copy<R: RealFiles>(rt: &R, file: R::File, beside: &Beside, old: Identity) -> 
     }
 }
 
-// Removes the complete file, after this was done with it.
-fn whole_removed<R: RealFiles>(rt: &R, beside: &Beside, left: Left, put: Put) -> Placed {
-    let mut name: PathText = ArrayString::new();
-    let is_named = beside.put_left_name(left, &mut name);
-    if is_named && fs::remove_file(rt, name.as_str()).is_ok() {
-        return Placed {
-            put,
-            left: Left::Nothing,
-        };
-    }
-    Placed { put, left }
-}
-
 // The file at the place, if it is still the one that was found there.
 fn opened<R: RealFiles>(rt: &R, beside: &Beside, old: Identity) -> Option<R::File> {
-    let file = OpenOptions::new()
-        .write(true)
-        .open(rt, beside.place.as_str())
-        .ok()?;
-    let found = file.metadata().ok()?;
-    if found.is_file() && Identity::of(&found).is_same(old) {
-        Some(file)
-    } else {
-        None
+    match open_to_write(rt, beside.place.as_str(), false) {
+        Some(file) if old.is_of(&file) => Some(file),
+        _ => None,
     }
 }
 
@@ -192,22 +213,22 @@ fn take_whole_name<R: RealFiles>(rt: &R, beside: &Beside) -> Option<Left> {
     if !beside.put_name(&mut name) || !beside.put_whole_name(&mut whole) {
         return None;
     }
-    match fs::symlink_metadata(rt, whole.as_str()) {
-        Ok(_) => return None,
-        Err(error) => match error.kind() {
-            ErrorKind::NotFound => {}
-            _ => return None,
-        },
+    match seen_at(rt, whole.as_str()) {
+        Seen::Nothing => left_as(give_name(rt, name.as_str(), whole.as_str())),
+        _ => None,
     }
-    match fs::rename(rt, name.as_str(), whole.as_str()) {
-        Ok(()) => Some(Left::Whole),
-        Err(error) if keeps_its_name(&error) => Some(Left::Beside),
-        Err(_) => None,
+}
+
+// The name that a complete file has after it was to be given one.
+fn left_as(renamed: Renamed) -> Option<Left> {
+    match renamed {
+        Renamed::Done => Some(Left::Whole),
+        Renamed::Kept => Some(Left::Beside),
+        Renamed::Failed => None,
     }
 }
 
 // How much of a file was copied into another one: all of it, nothing that was not undone, or a part.
-#[derive(Clone, Copy, PartialEq, Eq)]
 enum Copied {
     All,
     Nothing,
@@ -217,17 +238,34 @@ enum Copied {
 // Copies first what makes the other file longer, which is undone if there is no room for it, or if no more can be copied.
 fn copy_parts<F: Read + Write + Seek + OpenFile + Drop>(file: F, to: F) -> Copied {
     let (mut from, mut to) = (file, to);
-    let (new, old) = match (from.metadata(), to.metadata()) {
-        (Ok(new), Ok(old)) => (new.len(), old.len()),
-        _ => return Copied::Nothing,
-    };
-    let more = new.saturating_sub(old);
-    if copy_part(&mut from, &mut to, old, more) < more || more > 0 && to.sync_all().is_err() {
-        return undone(&to, old);
+    match (length_of(&from), length_of(&to)) {
+        (Some(new), Some(old)) => copy_over(&mut from, &mut to, new, old),
+        _ => Copied::Nothing,
     }
-    let copied = copy_part(&mut from, &mut to, 0, new - more);
+}
+
+// How many bytes an open file has, if that can be seen.
+fn length_of<F: OpenFile>(file: &F) -> Option<u64> {
+    match file.metadata() {
+        Ok(found) => Some(found.len()),
+        Err(_) => None,
+    }
+}
+
+// Copies a file of this new length over one of this old length.
+fn copy_over<F: Read + Write + Seek + OpenFile>(
+    from: &mut F,
+    to: &mut F,
+    new: u64,
+    old: u64,
+) -> Copied {
+    let more = new.saturating_sub(old);
+    if copy_part(from, to, old, more) < more || more > 0 && to.sync_all().is_err() {
+        return undone(to, old);
+    }
+    let copied = copy_part(from, to, 0, new - more);
     if copied == 0 && copied < new - more {
-        return undone(&to, old);
+        return undone(to, old);
     }
     if copied == new - more && to.set_len(new).is_ok() && to.sync_all().is_ok() {
         Copied::All
@@ -254,19 +292,34 @@ fn copy_part<F: Read + Write + Seek>(from: &mut F, to: &mut F, at: u64, count: u
     let mut buffer = [0u8; 8192];
     let mut done = 0;
     while done < count {
-        let most = (count - done).min(8192) as usize;
-        let place = SeekFrom::Start(at.saturating_add(done));
-        if from.seek(place).is_err() {
+        let some = copy_some(from, to, at.saturating_add(done), count - done, &mut buffer);
+        if some == 0 {
             return done;
         }
-        let Ok(read) = from.read(&mut buffer[..most]) else {
-            return done;
-        };
-        match to.write(&buffer[..read]) {
-            Ok(0) => return done,
-            Ok(written) => done += written as u64,
-            Err(_) => return done,
-        }
+        done += some;
     }
     done
+}
+
+// Copies some bytes from a place on, at most so many; how many were copied.
+fn copy_some<F: Read + Write + Seek>(
+    from: &mut F,
+    to: &mut F,
+    at: u64,
+    most: u64,
+    buffer: &mut [u8; 8192],
+) -> u64
+    ensures { result ≤ most }
+{
+    if from.seek(SeekFrom::Start(at)).is_err() {
+        return 0;
+    }
+    let most = most.min(8192) as usize;
+    match from.read(&mut buffer[..most]) {
+        Ok(read) => match to.write(&buffer[..read]) {
+            Ok(written) => written as u64,
+            Err(_) => 0,
+        },
+        Err(_) => 0,
+    }
 }

@@ -1,10 +1,10 @@
 //! Real files and the standard streams. Contracts see only the counts.
 ghost use Rattle.std.specs.Prelude.{◌≡◌, ◌≤◌, ◌<◌, None, true, length};
-ghost use Rattle.jpg_base.specs.Desk.{raised, Rose};
 ghost use Rattle.jpg_base.specs.Standard.{ReadsSome, WritesAll, std_state, TellsNothing, source_left, sink_contents};
 
 use crate::beside::{Beside, Made, PathText, Way};
-use crate::placing::{Left, Placed, place, removed};
+use crate::desk::raise;
+use crate::placing::{DONE, Left, Placed, place, removed, synced};
 use crate::system::{Identity, RealFiles};
 use crate::{Counts, Desk, Got, Name, Put};
 use arrayvec::ArrayString;
@@ -95,7 +95,7 @@ pub struct Parsed {
 }
 
 /// Where an output is written: whether it stands beside a place, whether that has a file, and whether this is the input.
-#[derive(Clone, Copy, Debug, PartialEq, Eq)]
+#[derive(Clone, Copy)]
 pub struct Output {
     pub is_beside: bool,
     pub is_there: bool,
@@ -123,14 +123,6 @@ pub struct StdDesk<R: RealFiles> {
     replaces: bool,
     // What contracts see.
     told: Parsed,
-}
-
-fn raise(count: &mut u64)
-    ensures exact { count.new ≡ raised count.old }
-    ensures rose { Rose count.old count.new }
-    ensures kept { count.old ≤ count.new }
-{
-    *count = count.saturating_add(1);
 }
 
 // A desk at which no call was made.
@@ -202,7 +194,7 @@ impl<R: RealFiles> StdDesk<R> {
         let sink = mem::replace(&mut self.sink, Sink::Closed);
         if let Sink::Beside(file) = sink {
             drop(file);
-            self.left = removed(&self.rt, &self.beside, Put::Done).left;
+            self.left = removed(&self.rt, &self.beside, Left::Beside, Put::Done).left;
         }
     }
 
@@ -258,36 +250,28 @@ fn is_input(old: Option<Identity>, input: Option<Identity>) -> bool {
 
 // Ends an output. One that stands beside its place takes it, if it has any bytes.
 fn put_in_place<R: RealFiles>(rt: &R, sink: &mut Sink<R, R::File>, beside: &Beside) -> Placed {
-    let put = match mem::replace(sink, Sink::Closed) {
-        Sink::Beside(output) => return place(rt, output.file, beside),
-        Sink::File(output) => stored(&output.file),
-        _ => Put::Done,
-    };
-    Placed {
-        put,
-        left: Left::Nothing,
-    }
-}
-
-// Waits until a file that was written at its place is stored; what stores nothing, such as a device, is done.
-fn stored<F: OpenFile>(file: &F) -> Put {
-    match file.sync_all() {
-        Ok(()) => Put::Done,
-        Err(error) => match error.kind() {
-            ErrorKind::InvalidInput | ErrorKind::Unsupported => Put::Done,
-            _ => Put::Failed,
+    match mem::replace(sink, Sink::Closed) {
+        Sink::Beside(output) => place(rt, output.file, beside),
+        Sink::File(output) => Placed {
+            put: synced(&output.file),
+            left: Left::Nothing,
         },
+        _ => DONE,
     }
 }
 
 // The file of this name, written at once.
 fn at_once<R: RealFiles>(rt: &R, path: &str) -> Option<Sink<R, R::File>> {
-    let file = fs::create(rt, path).ok()?;
-    let room = match file.metadata() {
-        Ok(found) if !found.is_file() => u64::MAX,
-        _ => rt.most_bytes(),
-    };
-    Some(Sink::File(Bounded { file, room }))
+    match fs::create(rt, path) {
+        Ok(file) => {
+            let room = match file.metadata() {
+                Ok(found) if !found.is_file() => u64::MAX,
+                _ => rt.most_bytes(),
+            };
+            Some(Sink::File(Bounded { file, room }))
+        }
+        Err(_) => None,
+    }
 }
 
 // Whether a name is of the input.
@@ -325,11 +309,43 @@ fn standard_output<R: RealFiles>(rt: &R) -> Option<Sink<R, R::File>> {
     }
 }
 
+// Where an output of this name is written, if it can be created.
+fn sink_of<R: RealFiles>(
+    rt: &R,
+    name: &Name,
+    replaces: bool,
+    input: Option<Identity>,
+    beside: &mut Beside,
+) -> Option<Sink<R, R::File>>
+    ensures { name.now ≡ Name.In → result ≡ None }
+{
+    match name {
+        Name::In => None,
+        Name::Out => standard_output(rt),
+        Name::File(path) if replaces => file_sink(rt, path.as_str(), input, beside),
+        Name::File(path) => at_once(rt, path.as_str()),
+    }
+}
+
 // Which file an open one is.
 fn identity_of<F: OpenFile>(file: &F) -> Option<Identity> {
     match file.metadata() {
         Ok(found) => Some(Identity::of(&found)),
         Err(_) => None,
+    }
+}
+
+// Where the bytes of this name are read, if it can be opened.
+fn source_of<R: RealFiles>(rt: &R, name: &Name) -> Option<Source<R::Reader, R::File>>
+    ensures { name.now ≡ Name.Out → result ≡ None }
+{
+    match name {
+        Name::In => Some(Source::Standard(rt.reader())),
+        Name::Out => None,
+        Name::File(path) => match fs::open(rt, path.as_str()) {
+            Ok(file) => Some(Source::File(file)),
+            Err(_) => None,
+        },
     }
 }
 
@@ -372,14 +388,7 @@ impl<R: RealFiles> Desk for StdDesk<R> {
         ensures counts { (std_state self.new.told).counts ≡ counted_open result (std_state self.old.told).counts }
         ensures out { name.now ≡ Name.Out → result ≡ Put.Failed }
     {
-        let source = match name {
-            Name::In => Some(Source::Standard(self.rt.reader())),
-            Name::Out => None,
-            Name::File(path) => match fs::open(&self.rt, path.as_str()) {
-                Ok(file) => Some(Source::File(file)),
-                Err(_) => None,
-            },
-        };
+        let source = source_of(&self.rt, name);
         self.input = match &source {
             Some(Source::File(file)) => identity_of(file),
             Some(_) => self.rt.standard_input(),
@@ -421,14 +430,9 @@ impl<R: RealFiles> Desk for StdDesk<R> {
         ensures input { name.now ≡ Name.In → result ≡ Put.Failed }
     {
         let before = put_in_place(&self.rt, &mut self.sink, &self.beside);
-        let sink = match (before.put, name) {
-            (Put::Failed, _) => None,
-            (Put::Done, Name::Out) => standard_output(&self.rt),
-            (Put::Done, Name::In) => None,
-            (Put::Done, Name::File(path)) if self.replaces => {
-                file_sink(&self.rt, path.as_str(), self.input, &mut self.beside)
-            }
-            (Put::Done, Name::File(path)) => at_once(&self.rt, path.as_str()),
+        let sink = match before.put {
+            Put::Done => sink_of(&self.rt, name, self.replaces, self.input, &mut self.beside),
+            Put::Failed => None,
         };
         match sink {
             Some(sink) => {

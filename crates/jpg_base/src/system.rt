@@ -1,5 +1,5 @@
 //! What a desk over real files asks of the system beyond `Runtime`.
-use std::fs::{File, Metadata, TryLockError};
+use std::fs::{File, Metadata, OpenFile, TryLockError};
 use std::io::Read;
 use std::os::unix::fs::{MetadataExt, fchown};
 use std::rt::Runtime;
@@ -24,6 +24,14 @@ impl Identity {
         }
     }
 
+    /// Whether an open file is a plain one with these numbers.
+    pub fn is_of<F: OpenFile>(self, file: &F) -> bool {
+        match file.metadata() {
+            Ok(found) => found.is_file() && Identity::of(&found).is_same(self),
+            Err(_) => false,
+        }
+    }
+
     /// Whether both are of one file.
     pub fn is_same(self, other: Identity) -> bool {
         self.device == other.device && self.number == other.number
@@ -31,7 +39,7 @@ impl Identity {
 }
 
 /// Who holds an open file: this process since the call, another one, or nobody knows, where files can't be held.
-#[derive(Clone, Copy, PartialEq, Eq)]
+#[derive(Clone, Copy)]
 pub enum Holder {
     Ours,
     Another,
@@ -91,12 +99,12 @@ impl RealFiles for HostRuntime {
     }
 
     fn most_bytes(&self) -> u64 {
-        let Ok(mut limits) = fs::open(self, "/proc/self/limits") else {
-            return u64::MAX;
-        };
         let mut text = [0u8; 512];
-        match limits.read(&mut text) {
-            Ok(count) => file_limit(&text[..count]),
+        match fs::open(self, "/proc/self/limits") {
+            Ok(mut limits) => match limits.read(&mut text) {
+                Ok(count) => file_limit(&text[..count]),
+                Err(_) => u64::MAX,
+            },
             Err(_) => u64::MAX,
         }
     }

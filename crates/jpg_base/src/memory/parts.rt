@@ -1,7 +1,7 @@
 //! The steps of the desk in memory, each over the parts that it changes.
 ghost use Rattle.std.specs.Prelude.{◌≡◌, ◌≤◌, ◌<◌, ◌∷◌, ◌++◌, length, map, take, true, is_some, IfSome, OnOk, OnErr, Some, None};
 ghost use Rattle.std.specs.Option.{option_copied};
-ghost use Rattle.jpg_base.specs.Desk.{raised, Rose, NotesName, AfterAddOutput, AfterAppendLast, AfterAppend, append_last};
+ghost use Rattle.jpg_base.specs.Desk.{raised, NotesName, AfterAddOutput, AfterAppendLast, AfterAppend, append_last};
 ghost use Rattle.jpg_base.specs.Name.{file_of};
 ghost use Rattle.jpg_base.specs.Memory.{named, chosen, names_view, part_of, next_part, part_length, appended_length, FailsWith};
 ghost use Rattle.jpg_base.specs.Input.{input_rest};
@@ -51,14 +51,6 @@ pub fn is_failing(calls: &mut u64, failing: &[Failure]) -> bool
     ensures counted { calls.new ≡ raised calls.old }
 {
     failure_of(calls, failing).is_some()
-}
-
-pub fn raise(count: &mut u64)
-    ensures exact { count.new ≡ raised count.old }
-    ensures rose { Rose count.old count.new }
-    ensures kept { count.old ≤ count.new }
-{
-    *count = count.saturating_add(1);
 }
 
 fn find<'a>(files: &'a [Stored], name: &Name) -> Option<&'a [u8]>
