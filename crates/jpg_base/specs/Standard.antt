@@ -13,15 +13,15 @@ use Rattle.jpg_base.specs.declared.standard.Sink.TheVariants as sink
 use Rattle.jpg_base.specs.Desk.{DeskState}
 
 abbrev pub std_state : Parsed → DeskState
-std_state told = record {
+std_state reported = record {
   files = None;
   left = None;
   outputs = None;
   said = None;
   asked = None;
-  counts = told.counts;
-  input_open = told.input_open;
-  output_created = told.output_created;
+  counts = reported.counts;
+  input_open = reported.input_open;
+  output_created = reported.output_created;
 }
 
 -- a desk at which no call was made: no bytes are known

@@ -122,12 +122,12 @@ pub struct StdDesk<R: RealFiles> {
     // Named outputs take their place when they are complete.
     replaces: bool,
     // What contracts see.
-    told: Parsed,
+    reported: Parsed,
 }
 
 // A desk at which no call was made.
 fn unused<R: RealFiles>(rt: R, replaces: bool) -> StdDesk<R>
-    ensures { TellsNothing (std_state result.told) }
+    ensures { TellsNothing (std_state result.reported) }
 {
     StdDesk {
         rt,
@@ -137,7 +137,7 @@ fn unused<R: RealFiles>(rt: R, replaces: bool) -> StdDesk<R>
         input: None,
         left: Left::Nothing,
         replaces,
-        told: Parsed {
+        reported: Parsed {
             counts: Counts {
                 opens: 0,
                 reads: 0,
@@ -156,7 +156,7 @@ impl<R: RealFiles> StdDesk<R> {
 
     /// A desk with no input, no output and no failures yet. An output with a name is written under this name.
     pub fn new(rt: R) -> Self
-        ensures { TellsNothing (std_state result.told) }
+        ensures { TellsNothing (std_state result.reported) }
     {
         unused(rt, false)
     }
@@ -168,7 +168,7 @@ impl<R: RealFiles> StdDesk<R> {
     /// that its group may read and others not, or whose owner it can't have. What else has the name, such as a device, is
     /// written at once, and so is a file in a folder that takes no new name, unless it is the input.
     pub fn replacing(rt: R) -> Self
-        ensures { TellsNothing (std_state result.told) }
+        ensures { TellsNothing (std_state result.reported) }
     {
         unused(rt, true)
     }
@@ -176,20 +176,20 @@ impl<R: RealFiles> StdDesk<R> {
     /// Ends the output. One that stands beside its place is stored and takes it, if it has any bytes, and else is removed. It
     /// is removed too if it can't take its place: that is `Failed`, and counts as a write.
     pub fn keep(&mut self) -> Put
-        ensures { std_state self.new.told ≡ record (std_state self.old.told) { counts = counted_write result (std_state self.old.told).counts } }
+        ensures { std_state self.new.reported ≡ record (std_state self.old.reported) { counts = counted_write result (std_state self.old.reported).counts } }
     {
         let placed = put_in_place(&self.rt, &mut self.sink, &self.beside);
         self.left = placed.left;
         match placed.put {
             Put::Done => {}
-            Put::Failed => raise(&mut self.told.counts.writes),
+            Put::Failed => raise(&mut self.reported.counts.writes),
         }
         placed.put
     }
 
     /// Ends the output. One that stands beside its place is removed; if that fails, it is left there.
     pub fn discard(&mut self)
-        ensures { std_state self.new.told ≡ std_state self.old.told }
+        ensures { std_state self.new.reported ≡ std_state self.old.reported }
     {
         let sink = mem::replace(&mut self.sink, Sink::Closed);
         if let Sink::Beside(file) = sink {
@@ -381,11 +381,11 @@ impl<R: RealFiles> Desk for StdDesk<R> {
     ghost use Rattle.jpg_base.specs.Desk.{Opens, Reads, Creates, Writes, Says, counted_open, counted_read, counted_write, counted_say};
     ghost use Rattle.jpg_base.specs.Standard.{std_state, source_left, sink_contents, ReadsSome, WritesAll};
 
-    ghost state = { λ d. std_state d.told };
+    ghost state = { λ d. std_state d.reported };
 
     fn open(&mut self, name: &Name) -> Put
-        ensures desk { Opens (std_state self.old.told) name.now result (std_state self.new.told) }
-        ensures counts { (std_state self.new.told).counts ≡ counted_open result (std_state self.old.told).counts }
+        ensures desk { Opens (std_state self.old.reported) name.now result (std_state self.new.reported) }
+        ensures counts { (std_state self.new.reported).counts ≡ counted_open result (std_state self.old.reported).counts }
         ensures out { name.now ≡ Name.Out → result ≡ Put.Failed }
     {
         let source = source_of(&self.rt, name);
@@ -397,36 +397,36 @@ impl<R: RealFiles> Desk for StdDesk<R> {
         match source {
             Some(source) => {
                 self.source = source;
-                self.told.input_open = true;
+                self.reported.input_open = true;
                 Put::Done
             }
             None => {
                 self.source = Source::Closed;
-                self.told.input_open = false;
-                raise(&mut self.told.counts.opens);
+                self.reported.input_open = false;
+                raise(&mut self.reported.counts.opens);
                 Put::Failed
             }
         }
     }
 
     fn read(&mut self, buf: &mut [u8]) -> Got
-        requires open { (std_state self.old.told).input_open ≡ true }
+        requires open { (std_state self.old.reported).input_open ≡ true }
         requires room { 0 < length buf.old }
-        ensures desk { Reads (std_state self.old.told) result buf.new (std_state self.new.told) }
-        ensures counts { (std_state self.new.told).counts ≡ counted_read result (std_state self.old.told).counts }
+        ensures desk { Reads (std_state self.old.reported) result buf.new (std_state self.new.reported) }
+        ensures counts { (std_state self.new.reported).counts ≡ counted_read result (std_state self.old.reported).counts }
         ensures source { ReadsSome (source_left R.Reader.remaining R.File.remaining self.old.source) result buf.new (source_left R.Reader.remaining R.File.remaining self.new.source) }
-        ensures open { (std_state self.new.told).input_open ≡ true }
+        ensures open { (std_state self.new.reported).input_open ≡ true }
     {
         let answer = read_some(&mut self.source, buf);
         if let Got::Failed = answer {
-            raise(&mut self.told.counts.reads);
+            raise(&mut self.reported.counts.reads);
         }
         answer
     }
 
     fn create(&mut self, name: &Name) -> Put
-        ensures desk { Creates (std_state self.old.told) name.now result (std_state self.new.told) }
-        ensures counts { (std_state self.new.told).counts ≡ counted_open result (std_state self.old.told).counts }
+        ensures desk { Creates (std_state self.old.reported) name.now result (std_state self.new.reported) }
+        ensures counts { (std_state self.new.reported).counts ≡ counted_open result (std_state self.old.reported).counts }
         ensures input { name.now ≡ Name.In → result ≡ Put.Failed }
     {
         let before = put_in_place(&self.rt, &mut self.sink, &self.beside);
@@ -437,32 +437,32 @@ impl<R: RealFiles> Desk for StdDesk<R> {
         match sink {
             Some(sink) => {
                 self.sink = sink;
-                self.told.output_created = true;
+                self.reported.output_created = true;
                 Put::Done
             }
             None => {
-                raise(&mut self.told.counts.opens);
+                raise(&mut self.reported.counts.opens);
                 Put::Failed
             }
         }
     }
 
     fn write(&mut self, piece: &[u8]) -> Put
-        requires { (std_state self.old.told).output_created ≡ true }
-        ensures desk { Writes (std_state self.old.told) piece.now result (std_state self.new.told) }
-        ensures counts { (std_state self.new.told).counts ≡ counted_write result (std_state self.old.told).counts }
+        requires { (std_state self.old.reported).output_created ≡ true }
+        ensures desk { Writes (std_state self.old.reported) piece.now result (std_state self.new.reported) }
+        ensures counts { (std_state self.new.reported).counts ≡ counted_write result (std_state self.old.reported).counts }
         ensures sink { WritesAll (sink_contents R.File.contents self.old.sink) piece.now result (sink_contents R.File.contents self.new.sink) }
     {
         let answer = write_whole(&mut self.sink, piece);
         if let Put::Failed = answer {
-            raise(&mut self.told.counts.writes);
+            raise(&mut self.reported.counts.writes);
         }
         answer
     }
 
     fn say(&mut self, text: &[u8]) -> Put
-        ensures desk { Says (std_state self.old.told) text.now result (std_state self.new.told) }
-        ensures counts { (std_state self.new.told).counts ≡ counted_say result (std_state self.old.told).counts }
+        ensures desk { Says (std_state self.old.reported) text.now result (std_state self.new.reported) }
+        ensures counts { (std_state self.new.reported).counts ≡ counted_say result (std_state self.old.reported).counts }
     {
         let answer = match str::from_utf8(text) {
             Ok(text) => match self.rt.eprint(text) {
@@ -472,12 +472,12 @@ impl<R: RealFiles> Desk for StdDesk<R> {
             Err(_) => Put::Failed,
         };
         if let Put::Failed = answer {
-            raise(&mut self.told.counts.says);
+            raise(&mut self.reported.counts.says);
         }
         answer
     }
 
     fn counts(&self) -> Counts {
-        self.told.counts
+        self.reported.counts
     }
 }
