@@ -2,7 +2,7 @@
 use Rattle.std.proofs.Common.{◌≡◌, ℕ, ◌*◌, ◌≤◌, ◌==◌, Bool, true, false, cond, List, [], ◌∷◌, length, take, get_or, refl, sym, ap, ◌∙◌, subst, arith}
 use Rattle.std.specs.Prelude.{nat_le}
 use Rattle.jpg_spec_image.specs.PnmText.{is_number_due}
-use Rattle.jpg_spec_image.specs.BmpFile.{height, width, bmp_depth, used}
+use Rattle.jpg_spec_image.specs.BmpFile.{width, bmp_depth, used}
 use Rattle.jpg_spec_image.specs.ImageFaults.{ImageHead, pnm, bmp, image_of, IsBodyFront}
 use Rattle.jpg_spec_image.specs.ImageSteps.{ImageState, in_number, in_body, whole, step, run}
 use Rattle.jpg_spec_image.specs.ImageReading.{RepresentsImage, InBody}
@@ -43,7 +43,7 @@ used_some head w = by (bmp_depth head == 8)
 pub stretch_led : (old : Work) (head : ImageHead) (s : ImageState) (a : Answer) (w : Work) → ((x : List ℕ) → standing (record old { samples = x }) ≡ in_body head x) → ((x : List ℕ) → image_view (record old { samples = x }) ≡ image_of head x)
     → Stretches head old s a w → Reaches s a w
 stretch_led old head s answer.More w g i (e, f) = ap standing f ∙ g w.samples ∙ sym e
-stretch_led old head s answer.Whole w g i (e, f) = e ∙ ap whole (sym (ap image_view f ∙ i w.samples))
+stretch_led old head s answer.Whole w g i (e, f, h) = e ∙ ap whole (sym (ap image_view f ∙ i w.samples))
 stretch_led old head s (answer.Fault fault) w g i e = e
 stretch_led old head s answer.NoMemory w g i e = tt
 
@@ -67,8 +67,3 @@ bmp_can head palette bytes body i =
     let s = bmp_sides head i.header.header.right in
     let u = used_some head (side_some (width head) s.wide) in
     record { right = i.right; room = i.room; lined = omega arith; some = omega (arith, u) }
-
-pub bmp_height : (head palette : List ℕ) (bytes body : List ℕ) → InBody bytes (bmp head palette) body → height head ≤ 65500
-bmp_height head palette bytes body i =
-    let s = bmp_sides head i.header.header.right in
-    le_of (height head) 65500 (both (nat_le 1 (height head)) (nat_le (height head) 65500) s.high).1

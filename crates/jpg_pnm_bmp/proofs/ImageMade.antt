@@ -8,10 +8,10 @@ use Rattle.jpg_spec_image.specs.ImageSteps.{at_start, run}
 use Rattle.jpg_spec_image.specs.ImageFaults.{IsImage}
 use Rattle.jpg_spec.specs.declared.frame.Limits.{Limits}
 use Rattle.jpg_spec_image.specs.declared.image.ImageInfo.{ImageInfo}
-use Rattle.jpg_pnm_bmp.specs.Made.{AreBytes, Makes}
-use Rattle.jpg_pnm_bmp.specs.Reader.{standing}
+use Rattle.jpg_pnm_bmp.specs.Made.{AreBytes, Makes, image_by_parts}
+use Rattle.jpg_pnm_bmp.specs.Reader.{standing, IsGoing}
 use Rattle.jpg_pnm_bmp.specs.Pieces.{HasRead, AfterImageRead}
-use Rattle.jpg_pnm_bmp.specs.PixelsRead.{image_by_parts, image_read, HasFedImage, AfterFeed}
+use Rattle.jpg_pnm_bmp.specs.PixelsRead.{image_read, HasFedImage, AfterFeed}
 use Rattle.jpg_pnm_bmp.specs.declared.read.piece.Fed2.{Fed2}
 use Rattle.jpg_pnm_bmp.specs.declared.read.piece.Fed2.TheVariants as fed
 use Rattle.jpg_pnm_bmp.specs.declared.read.pixels.PixelReader.{PixelReader}
@@ -44,6 +44,10 @@ made_at_end bytes image info made is all makes limits l =
 pub none_fed : (w : Work) → standing w ≡ at_start → HasRead [] 0 w
 unfolding run
 none_fed w e = record { stands = e; taken_is = refl }
+
+pub none_reached : (w : Work) → standing w ≡ at_start → IsGoing w
+unfolding run
+none_reached w e = ∣ ([], sym e) ∣₁
 
 pub bytes_more : (bytes piece : List ℕ) → AreBytes bytes → ((k : ℕ) → k < length piece → get_or piece k 0 < 256) → AreBytes (bytes ++ piece)
 bytes_more bytes piece all more = All-append (λ b. b < 256) bytes piece all (All-from_get_or (λ b. b < 256) piece 0 more)

@@ -10,6 +10,7 @@ pub mod SomeBytes
 pub mod TurnedRound
 pub mod Written
 pub mod Advance
+pub mod AllThere
 pub mod DueNumbers
 pub mod EndRead
 pub mod PiecesRead

@@ -5,14 +5,14 @@ use Rattle.std.proofs.lemmas.Bool.{cases_lt}
 use Rattle.std.proofs.lemmas.Bool.Decides.{nat_tests}
 use Rattle.std.proofs.lemmas.List.{length-append, length-take-le, take_more, take_all}
 use Rattle.std.proofs.lemmas.Nat.{mod-mul-add, div-add-mod'}
-use Rattle.jpg_spec.proofs.Basics.Common.{and_intro, lt_yes, lt_no}
+use Rattle.jpg_spec.proofs.Basics.Common.{both, and_intro, lt_yes, lt_no}
 use Rattle.jpg_spec_image.specs.Images.{Body, is_wrong, are_right}
 use Rattle.jpg_spec_image.specs.ImageFaults.{ImageHead, body_of, image_of}
 use Rattle.jpg_spec_image.specs.ImageSteps.{ImageState, in_body, whole, failed, step, run, body_so_far}
 use Rattle.jpg_spec_image.proofs.ImageBodyRuns.{count, body_run, body_all, not_yet, all_there, wrong_byte}
 use Rattle.jpg_spec_image.proofs.ImageRuns.{run_join}
 use Rattle.jpg_pnm_bmp.specs.Shapes.{AreBelow}
-use Rattle.jpg_pnm_bmp.specs.Reader.{CanStretch, HoldsBodyPart, Stretches}
+use Rattle.jpg_pnm_bmp.specs.Reader.{CanStretch, HasSamples, HoldsBodyPart, Stretches}
 use Rattle.jpg_pnm_bmp.specs.declared.read.work.Answer.{Answer}
 use Rattle.jpg_pnm_bmp.specs.declared.read.work.Answer.TheVariants as answer
 use Rattle.jpg_pnm_bmp.specs.declared.read.work.Work.{Work}
@@ -39,6 +39,13 @@ below_right body place (b ∷ part) (suc n) all l =
     none : (v : Bool) → (v && false) ≡ false
     none true = refl
     none false = refl
+
+pub right_join : (body : Body) (place : ℕ) (xs ys : List ℕ) → are_right body place xs ≡ true → are_right body (place + length xs) ys ≡ true → are_right body place (xs ++ ys) ≡ true
+right_join body place [] ys r s = (let e : place + 0 ≡ place = omega arith in subst (λ n. are_right body n ys ≡ true) e s)
+right_join body place (x ∷ xs) ys r s =
+    let t = both (not (is_wrong body place x)) (are_right body (place + 1) xs) r in
+    let e : place + length (x ∷ xs) ≡ place + 1 + length xs = omega arith in
+    and_intro (not (is_wrong body place x)) (are_right body (place + 1) (xs ++ ys)) t.0 (right_join body (place + 1) xs ys t.1 (subst (λ n. are_right body n ys ≡ true) e s))
 
 -- what fills a line
 pub filling_right : (body : Body) (place : ℕ) (part : List ℕ) → body.used ≤ place % body.line → place % body.line + length part ≤ body.line → are_right body place part ≡ true
@@ -103,6 +110,7 @@ stretched head old w part answer.Whole can f some below (e, h) =
     let r = part_right (body_of head) (length old.samples) part f can.some below in (
       part_run head old.samples part r some (omega (arith, l, few)) ∙ all_there head (old.samples ++ part) h ∙ ap (λ x. whole (image_of head x)) (sym (ap (λ (x : Work). x.samples) e)),
       e ∙ ap (λ x. (let z : Work = record old { samples = x } in z)) (sym (ap (λ (x : Work). x.samples) e)),
+      subst (HasSamples head) (sym (ap (λ (x : Work). x.samples) e)) (record { there = h; right = right_join (body_of head) 0 old.samples part can.right (let z : length old.samples ≡ 0 + length old.samples = omega arith in subst (λ n. are_right (body_of head) n part ≡ true) z r) }),
     )
 stretched head old w part (answer.Fault fault) can f some below h = absurd h
 stretched head old w part answer.NoMemory can f some below h = tt

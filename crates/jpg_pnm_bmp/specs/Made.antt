@@ -1,11 +1,18 @@
 -- The image made of one whose last sample is known.
-use Rattle.std.specs.Prelude.{◌≡◌, ℕ, ◌*◌, ◌<◌, ◌≤◌, List, length, All, Result, Ok, Err}
+use Rattle.std.specs.Prelude.{◌≡◌, ℕ, ◌+◌, ◌*◌, ◌<◌, ◌≤◌, List, length, slice_index, All, Result, Ok, Err}
 use Rattle.jpg_base.specs.declared.names.NoMemory.{NoMemory}
 use Rattle.jpg_spec_image.specs.Images.{Image, sample_count}
 use Rattle.jpg_spec_image.specs.declared.image.ImageInfo.{ImageInfo}
 
 abbrev pub AreBytes : List ℕ → Type 0
 AreBytes xs = All (λ b. b < 256) xs
+
+abbrev pub image_by_parts : ImageInfo → List ℕ → Image
+image_by_parts info samples = record { info = info; samples = samples }
+
+-- a palette's colours are all there for a row
+abbrev pub AreIndexes : List ℕ → List ℕ → Type 0
+AreIndexes palette row = (k : ℕ) → k < length row → 4 * slice_index row k + 2 < length palette
 
 -- its numbers, and its samples, where they are bytes
 abbrev pub Makes : Image → Result ImageInfo NoMemory → List ℕ → Type 0

@@ -6,7 +6,8 @@ use Rattle.jpg_spec.specs.declared.frame.Limits.{Limits}
 use Rattle.jpg_spec_image.specs.Images.{Image}
 use Rattle.jpg_spec_image.specs.ImageFaults.{IsImage, IsImageFault}
 use Rattle.jpg_spec_image.specs.ImageSteps.{at_start, run}
-use Rattle.jpg_pnm_bmp.specs.Reader.{standing, image_view}
+use Rattle.jpg_pnm_bmp.specs.Made.{AreBytes}
+use Rattle.jpg_pnm_bmp.specs.Reader.{standing, image_view, IsGoing, CanMake}
 use Rattle.jpg_pnm_bmp.specs.declared.read.piece.Fed2.{Fed2}
 use Rattle.jpg_pnm_bmp.specs.declared.read.piece.Fed2.TheVariants as fed
 use Rattle.jpg_pnm_bmp.specs.declared.read.work.Work.{Work}
@@ -27,11 +28,35 @@ AfterImageRead bytes piece (Err stop.NoMemory) w image = Unit {0}
 abbrev pub AfterImagePiece : List ℕ → List ℕ → Result Fed2 Stop → Work → Type 0
 AfterImagePiece bytes piece answer w = AfterImageRead bytes piece answer w (image_view w)
 
--- The result where the input ends, for all limits that the bytes are below.
+-- It can go on where more is needed, and make the image where it is complete.
+abbrev pub HasAllAfter : Result Fed2 Stop → Work → Type 0
+HasAllAfter (Ok fed.More) w = IsGoing w
+HasAllAfter (Ok fed.Done) w = CanMake w
+HasAllAfter (Err stop) w = Unit {0}
+
+abbrev pub GoesOn : Result Fed2 Stop → Work → Type 0
+GoesOn (Ok fed.More) w = IsGoing w
+GoesOn (Ok fed.Done) w = Unit {0}
+GoesOn (Err stop) w = Unit {0}
+
+-- The result where the input ends, for all limits that the bytes are below. Memory is asked for only if they are an
+-- image's.
 abbrev pub EndsImage : List ℕ → Result (Unit {0}) Stop → Image → Type 0
 EndsImage bytes (Ok u) image = (limits : Limits) → length bytes < limits.input → IsImage limits bytes image
 EndsImage bytes (Err (stop.Fault f)) image = (limits : Limits) → length bytes < limits.input → IsImageFault limits bytes f.fault f.at
-EndsImage bytes (Err stop.NoMemory) image = Unit {0}
+EndsImage bytes (Err stop.NoMemory) image = (other : Image) × ((limits : Limits) → length bytes < limits.input → IsImage limits bytes other)
+
+abbrev pub HasAllAtEnd : Result (Unit {0}) Stop → Work → Type 0
+HasAllAtEnd (Ok u) w = CanMake w
+HasAllAtEnd (Err stop) w = Unit {0}
 
 abbrev pub AfterEnd : List ℕ → Result (Unit {0}) Stop → Work → Type 0
 AfterEnd bytes answer w = EndsImage bytes answer (image_view w)
+
+-- THE PARTS of a reader: for all that was read before
+
+abbrev pub Reads : Work → ℕ → List ℕ → Result Fed2 Stop → Work → Image → Type 0
+Reads old taken piece answer new image = (bytes : List ℕ) → HasRead bytes taken old → AreBytes bytes → AfterImageRead bytes piece answer new image
+
+abbrev pub EndsRead : Work → ℕ → Result (Unit {0}) Stop → Image → Type 0
+EndsRead old taken answer image = (bytes : List ℕ) → HasRead bytes taken old → AreBytes bytes → EndsImage bytes answer image

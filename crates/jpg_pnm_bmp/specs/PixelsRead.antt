@@ -2,16 +2,11 @@
 use Rattle.std.specs.Prelude.{◌≡◌, ℕ, Bool, true, false, List, ◌++◌, Option, None, Result, Ok, Err}
 use Rattle.jpg_base.specs.declared.stop.Stop.{Stop}
 use Rattle.jpg_spec_image.specs.Images.{Image}
-use Rattle.jpg_spec_image.specs.declared.image.ImageInfo.{ImageInfo}
-use Rattle.jpg_pnm_bmp.specs.Made.{AreBytes}
+use Rattle.jpg_pnm_bmp.specs.Made.{AreBytes, image_by_parts}
 use Rattle.jpg_pnm_bmp.specs.Pieces.{HasRead, AfterImageRead, EndsImage}
 use Rattle.jpg_pnm_bmp.specs.declared.read.piece.Fed2.{Fed2}
 use Rattle.jpg_pnm_bmp.specs.declared.read.piece.Fed2.TheVariants as fed
 use Rattle.jpg_pnm_bmp.specs.declared.read.pixels.PixelReader.{PixelReader}
-use Rattle.jpg_pnm_bmp.specs.declared.read.work.Work.{Work}
-
-abbrev pub image_by_parts : ImageInfo → List ℕ → Image
-image_by_parts info samples = record { info = info; samples = samples }
 
 -- the image, once it is complete
 abbrev pub image_read : PixelReader → Image
@@ -55,11 +50,3 @@ KeepsDone (Err stop) r = r.done ≡ false
 abbrev pub EndsDone : Result (Unit {0}) Stop → PixelReader → Type 0
 EndsDone (Ok u) r = r.done ≡ true
 EndsDone (Err stop) r = r.done ≡ false
-
--- THE PARTS of it: for all that was read before
-
-abbrev pub Reads : Work → ℕ → List ℕ → Result Fed2 Stop → Work → Image → Type 0
-Reads old taken piece answer new image = (bytes : List ℕ) → HasRead bytes taken old → AreBytes bytes → AfterImageRead bytes piece answer new image
-
-abbrev pub EndsRead : Work → ℕ → Result (Unit {0}) Stop → Image → Type 0
-EndsRead old taken answer image = (bytes : List ℕ) → HasRead bytes taken old → AreBytes bytes → EndsImage bytes answer image

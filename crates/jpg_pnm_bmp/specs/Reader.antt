@@ -1,6 +1,7 @@
 -- A reader of image files: its state after the bytes that it was given.
-use Rattle.std.specs.Prelude.{◌≡◌, ℕ, ◌<◌, ◌≤◌, true, List, [], ◌++◌, length, take, Result, Ok, Err}
+use Rattle.std.specs.Prelude.{◌≡◌, ℕ, ◌+◌, ◌-◌, ◌*◌, ◌<◌, ◌≤◌, true, List, [], ◌++◌, length, take, Result, Ok, Err}
 use Rattle.jpg_spec_image.specs.Images.{Image, are_right}
+use Rattle.jpg_spec_image.specs.BmpFile.{height, line, used, palette_bytes}
 use Rattle.jpg_spec_image.specs.ImageFaults.{ImageHead, pnm, bmp, body_of, image_of}
 use Rattle.jpg_spec_image.specs.ImageSteps.{ImageState, at_start, behind_first, in_gap, in_number, in_bmp_head, in_bmp_front, in_body, whole, failed, ended_by, run}
 use Rattle.jpg_spec.specs.declared.fault.Fault.{Fault}
@@ -42,6 +43,10 @@ standing w = standing_of w.stage w
 abbrev pub IsReached : ImageState → Type 0
 IsReached s = (bytes : List ℕ) × (run at_start bytes ≡ s)
 
+-- some bytes led to this state
+abbrev pub IsGoing : Work → Type 0
+IsGoing w = ∥ IsReached (standing w) ∥₁
+
 -- the image that the samples are, once all are there
 abbrev pub image_by : Stage → Work → Image
 image_by stage.BmpBody w = image_of (bmp_head w) w.samples
@@ -56,6 +61,49 @@ Reaches s answer.Whole w = s ≡ whole (image_view w)
 Reaches s (answer.Fault fault) w = s ≡ failed fault
 Reaches s answer.NoMemory w = Unit {0}
 
+-- all three numbers, the greatest sample not 0
+abbrev pub AreAllNumbers : Numbers → Type 0
+AreAllNumbers Nothing = ⊥
+AreAllNumbers (Width a) = ⊥
+AreAllNumbers (Sides a b) = ⊥
+AreAllNumbers (All a b m) = 1 ≤ m
+
+-- the greatest sample, if it is known, isn't 0
+abbrev pub HasScale : Numbers → Type 0
+HasScale Nothing = Unit {0}
+HasScale (Width a) = Unit {0}
+HasScale (Sides a b) = Unit {0}
+HasScale (All a b m) = 1 ≤ m
+
+-- the bytes of a BMP's rows are all there, and its palette has their colours
+pub record HasPixels (head palette body : List ℕ) : Type 0 where
+  pub long : 54 ≤ length head
+  pub high : height head ≤ 65500
+  pub there : line head * (height head - 1) + used head ≤ length body
+  pub right : are_right (body_of (bmp head palette)) 0 body ≡ true
+  pub colours : palette_bytes head ≤ length palette
+
+-- what the image is made of is all there
+abbrev pub CanMakeAt : Stage → Work → Type 0
+CanMakeAt stage.Start w = ⊥
+CanMakeAt (stage.First first) w = ⊥
+CanMakeAt (stage.Gap some commented) w = ⊥
+CanMakeAt (stage.Number n) w = ⊥
+CanMakeAt stage.BmpHead w = ⊥
+CanMakeAt (stage.BmpFront passed) w = ⊥
+CanMakeAt stage.PnmBody w = AreAllNumbers w.numbers
+CanMakeAt stage.BmpBody w = HasPixels w.head w.palette w.samples
+
+abbrev pub CanMake : Work → Type 0
+CanMake w = CanMakeAt w.stage w
+
+-- where the image is complete
+abbrev pub HasAll : Answer → Work → Type 0
+HasAll answer.More w = Unit {0}
+HasAll answer.Whole w = CanMake w
+HasAll (answer.Fault fault) w = Unit {0}
+HasAll answer.NoMemory w = Unit {0}
+
 pub record KeepsStage (old new : Work) : Type 0 where
   pub stage : new.stage ≡ old.stage
   pub format : new.format ≡ old.format
@@ -64,7 +112,7 @@ pub record KeepsStage (old new : Work) : Type 0 where
 abbrev pub AddsNumber : Numbers → Work → Type 0
 AddsNumber Nothing w = Unit {0}
 AddsNumber (Width a) w = Unit {0}
-AddsNumber (Sides a b) w = (w.samples ≡ []) × ((m : ℕ) × (w.numbers ≡ All a b m))
+AddsNumber (Sides a b) w = (w.samples ≡ []) × ((m : ℕ) × (w.numbers ≡ All a b m) × (1 ≤ m))
 AddsNumber (All a b m) w = w.numbers ≡ All a b m
 
 -- a body whose samples are right so far, and not all there
@@ -81,10 +129,15 @@ HoldsBodyPart old part count answer.Whole w = (w ≡ record old { samples = old.
 HoldsBodyPart old part count (answer.Fault fault) w = ⊥
 HoldsBodyPart old part count answer.NoMemory w = Unit {0}
 
+-- all samples are there, and right
+pub record HasSamples (head : ImageHead) (body : List ℕ) : Type 0 where
+  pub there : (body_of head).count ≤ length body
+  pub right : are_right (body_of head) 0 body ≡ true
+
 -- the result of a part of a body, by the samples that are kept then
 abbrev pub Stretches : ImageHead → Work → ImageState → Answer → Work → Type 0
 Stretches head old s answer.More w = (s ≡ in_body head w.samples) × (w ≡ record old { samples = w.samples })
-Stretches head old s answer.Whole w = (s ≡ whole (image_of head w.samples)) × (w ≡ record old { samples = w.samples })
+Stretches head old s answer.Whole w = (s ≡ whole (image_of head w.samples)) × (w ≡ record old { samples = w.samples }) × HasSamples head w.samples
 Stretches head old s (answer.Fault fault) w = s ≡ failed fault
 Stretches head old s answer.NoMemory w = Unit {0}
 
@@ -95,9 +148,16 @@ StretchesBy head old piece m w = Stretches head old (run (in_body head old.sampl
 abbrev pub number_ended_at : Work → ℕ → Result Image Fault
 number_ended_at w n = ended_by w.format (numbers_list w) n (number_fault (numbers_list w) n)
 
--- the result where the bytes end
+-- The result where the bytes end. Memory is asked for only if they are an image's.
 abbrev pub EndsAs : Result Image Fault → Answer → Work → Type 0
 EndsAs e answer.More w = ⊥
 EndsAs e answer.Whole w = e ≡ Ok (image_view w)
 EndsAs e (answer.Fault fault) w = e ≡ Err fault
-EndsAs e answer.NoMemory w = Unit {0}
+EndsAs e answer.NoMemory w = (image : Image) × (e ≡ Ok image)
+
+-- no further bytes are asked for there
+abbrev pub IsEnd : Answer → Type 0
+IsEnd answer.More = ⊥
+IsEnd answer.Whole = Unit {0}
+IsEnd (answer.Fault fault) = Unit {0}
+IsEnd answer.NoMemory = Unit {0}

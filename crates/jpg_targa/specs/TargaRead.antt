@@ -7,8 +7,7 @@ use Rattle.jpg_spec.specs.declared.fault.Fault.TheVariants.{ImageShort}
 use Rattle.jpg_spec_image.specs.Images.{Image}
 use Rattle.jpg_spec_image.specs.TargaFaults.{IsTargaFault}
 use Rattle.jpg_spec_image.specs.declared.image.ImageInfo.{ImageInfo}
-use Rattle.jpg_pnm_bmp.specs.Made.{AreBytes}
-use Rattle.jpg_pnm_bmp.specs.PixelsRead.{image_by_parts}
+use Rattle.jpg_pnm_bmp.specs.Made.{AreBytes, image_by_parts}
 use Rattle.jpg_pnm_bmp.specs.declared.read.piece.Fed2.{Fed2}
 use Rattle.jpg_pnm_bmp.specs.declared.read.piece.Fed2.TheVariants as fed
 use Rattle.jpg_targa.specs.Pieces.{HasRead, AfterTargaRead}

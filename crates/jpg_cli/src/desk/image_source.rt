@@ -1,7 +1,8 @@
 //! Readers of image files that are given pieces, by the format of the file (release 6b's image files; Truevision TGA
 //! File Format Specification, version 2.0).
 ghost use Rattle.std.specs.Prelude.{◌≡◌, ◌≤◌, ◌<◌, ◌+◌, [], ℕ, IfNone, IfSome, length, true, false};
-ghost use Rattle.jpg_pnm_bmp.specs.PixelsRead.{image_by_parts, is_image_read, pixels_taken};
+ghost use Rattle.jpg_pnm_bmp.specs.Made.{image_by_parts};
+ghost use Rattle.jpg_pnm_bmp.specs.PixelsRead.{is_image_read, pixels_taken};
 ghost use Rattle.jpg_targa.specs.TargaRead.{is_targa_read, targa_taken};
 ghost use Rattle.jpg_cli.specs.Desk.ImageSource.{EndDone, EndsPixels, EndsTarga, StepDone, TakesPixels, TakesTarga, step_of, stopped};
 

@@ -1,11 +1,11 @@
 //! The samples of an image, from those of its file (release 6b's image files).
-ghost use Rattle.std.specs.Prelude.{◌≡◌, ◌<◌, ◌≤◌, ◌+◌, ◌*◌, ◌-◌, ◌++◌, [], ℕ, List, length, map, flat_map, take, drop, OnOk, IfSome};
+ghost use Rattle.std.specs.Prelude.{◌≡◌, ◌<◌, ◌≤◌, ◌+◌, ◌*◌, ◌-◌, ◌==◌, ◌++◌, [], ℕ, List, length, map, flat_map, true, OnOk};
 ghost use Rattle.jpg_spec_image.specs.ImageText.{turned_round};
 ghost use Rattle.jpg_spec_image.specs.PnmText.{scaled_sample};
-ghost use Rattle.jpg_spec_image.specs.BmpFile.{colour, colours, bmp_line, bmp_body_samples};
+ghost use Rattle.jpg_spec_image.specs.BmpFile.{bmp_depth, colour, colours, bmp_line, bmp_body_samples, height, line, used};
 ghost use Rattle.jpg_spec_image.specs.ImageFaults.{image_of};
-ghost use Rattle.jpg_pnm_bmp.specs.Made.{AreBytes, Makes};
-ghost use Rattle.jpg_pnm_bmp.specs.Reader.{pnm_head, bmp_head, image_view};
+ghost use Rattle.jpg_pnm_bmp.specs.Made.{AreBytes, AreIndexes, Makes};
+ghost use Rattle.jpg_pnm_bmp.specs.Reader.{AreAllNumbers, CanMake, HasPixels, pnm_head, bmp_head, image_view};
 
 use crate::read::bmp::{bmp_height, bmp_info, is_indexed, line, used};
 use crate::read::numbers::{Numbers, pnm_info};
@@ -55,15 +55,13 @@ fn add_turned(row: &[u8], made: &mut Bytes) -> Result<(), NoMemory>
     }
 }
 
-// Appends a row by a palette. The indexes of an image that was read are within it; NoMemory is returned if one isn't.
+// Appends a row by a palette.
 fn add_coloured(row: &[u8], palette: &[u8], made: &mut Bytes) -> Result<(), NoMemory>
+    requires { AreIndexes palette.now row.now }
     ensures { OnOk result (made.new ≡ made.old ++ flat_map (colour palette.now) row.now) }
 {
     for index in row {
         let at = 4 * usize::from(*index);
-        if at + 2 >= palette.len() {
-            return Err(NoMemory);
-        }
         match made.push_all(&[palette[at + 2], palette[at + 1], palette[at]]) {
             Ok(()) => {}
             Err(fault) => return Err(fault),
@@ -74,7 +72,8 @@ fn add_coloured(row: &[u8], palette: &[u8], made: &mut Bytes) -> Result<(), NoMe
 
 // Appends a row of a BMP as red, green and blue.
 fn add_row(head: &[u8], palette: &[u8], row: &[u8], made: &mut Bytes) -> Result<(), NoMemory>
-    requires { 54 ≤ length head.now }
+    requires long { 54 ≤ length head.now }
+    requires coloured { (bmp_depth head.now == 8) ≡ true → AreIndexes palette.now row.now }
     ensures { OnOk result (made.new ≡ made.old ++ colours head.now palette.now row.now) }
 {
     if is_indexed(head) {
@@ -83,55 +82,40 @@ fn add_row(head: &[u8], palette: &[u8], row: &[u8], made: &mut Bytes) -> Result<
     add_turned(row, made)
 }
 
-// Row y from the top, if the bytes have it: those of a complete image do, and its sides are no more than 65500.
-fn bmp_line<'a>(head: &[u8], body: &'a [u8], y: u32) -> Option<&'a [u8]>
-    requires { 54 ≤ length head.now }
-    ensures { IfSome result (λ row. row.now ≡ bmp_line head.now body.now y) }
+// Row y from the top.
+fn bmp_line<'a>(head: &[u8], body: &'a [u8], y: u32) -> &'a [u8]
+    requires long { 54 ≤ length head.now }
+    requires inside { y < height head.now }
+    requires high { height head.now ≤ 65500 }
+    requires there { line head.now * (height head.now - 1) + used head.now ≤ length body.now }
+    ensures { result.now ≡ bmp_line head.now body.now y }
 {
-    let rows = u64::from(bmp_height(head));
-    if rows > 65500 {
-        return None;
-    }
-    let start = line(head) * rows.saturating_sub(1).saturating_sub(u64::from(y));
+    let below = bmp_height(head) - 1 - y;
+    let start = line(head) * u64::from(below);
     let end = start + used(head);
-    if end > body.len() as u64 {
-        return None;
-    }
-    Some(&body[start as usize..end as usize])
+    &body[start as usize..end as usize]
 }
 
 // Appends the rows of a BMP from the top, which are its lines in reverse order.
 fn add_rows(head: &[u8], palette: &[u8], body: &[u8], made: &mut Bytes) -> Result<(), NoMemory>
-    requires { 54 ≤ length head.now }
+    requires { HasPixels head.now palette.now body.now }
     ensures { OnOk result (made.new ≡ made.old ++ bmp_body_samples head.now palette.now body.now) }
 {
     let mut y: u32 = 0;
     while y < bmp_height(head) {
-        match bmp_line(head, body, y) {
-            Some(row) => match add_row(head, palette, row, made) {
-                Ok(()) => {}
-                Err(fault) => return Err(fault),
-            },
-            None => return Err(NoMemory),
+        match add_row(head, palette, bmp_line(head, body, y), made) {
+            Ok(()) => {}
+            Err(fault) => return Err(fault),
         }
         y += 1;
     }
     Ok(())
 }
 
-// Appends the samples of a PNM image. The greatest one of such an image isn't 0.
-fn add_samples(samples: &[u8], most: u8, made: &mut Bytes) -> Result<(), NoMemory>
-    ensures { OnOk result (AreBytes (map (scaled_sample most) samples.now) → made.new ≡ made.old ++ map (scaled_sample most) samples.now) }
-{
-    if most == 0 {
-        return Err(NoMemory);
-    }
-    add_scaled(samples, most, made)
-}
-
 // Where the greatest sample is 255 the samples are those of the file, and are moved instead of copied.
 fn make_pnm(work: &mut Work, made: &mut Bytes) -> Result<ImageInfo, NoMemory>
-    requires { made.old ≡ [] }
+    requires empty { made.old ≡ [] }
+    requires all { AreAllNumbers work.old.numbers }
     ensures { Makes (image_of (pnm_head work.old) work.old.samples) result made.new }
 {
     match work.numbers {
@@ -141,25 +125,23 @@ fn make_pnm(work: &mut Work, made: &mut Bytes) -> Result<ImageInfo, NoMemory>
                 mem::swap(&mut work.samples, made);
                 return Ok(info);
             }
-            match add_samples(work.samples.as_slice(), most, made) {
+            match add_scaled(work.samples.as_slice(), most, made) {
                 Ok(()) => Ok(info),
                 Err(fault) => Err(fault),
             }
         }
-        Numbers::Nothing => Err(NoMemory),
-        Numbers::Width(_) => Err(NoMemory),
-        Numbers::Sides(_, _) => Err(NoMemory),
+        Numbers::Nothing => unreachable!(),
+        Numbers::Width(_) => unreachable!(),
+        Numbers::Sides(_, _) => unreachable!(),
     }
 }
 
 fn make_bmp(work: &Work, made: &mut Bytes) -> Result<ImageInfo, NoMemory>
-    requires { made.old ≡ [] }
+    requires empty { made.old ≡ [] }
+    requires pixels { HasPixels work.now.head work.now.palette work.now.samples }
     ensures { Makes (image_of (bmp_head work.now) work.now.samples) result made.new }
 {
     let head = work.head.as_slice();
-    if head.len() < 54 {
-        return Err(NoMemory);
-    }
     let info = bmp_info(head);
     match add_rows(head, work.palette.as_slice(), work.samples.as_slice(), made) {
         Ok(()) => Ok(info),
@@ -167,15 +149,20 @@ fn make_bmp(work: &Work, made: &mut Bytes) -> Result<ImageInfo, NoMemory>
     }
 }
 
-// Makes the image whose last sample is known. Returns its sides and kind. A state that isn't that of a body, or has
-// no numbers or too few bytes, isn't one of such an image: it returns NoMemory then.
+// Makes the image whose last sample is known. Returns its sides and kind.
 pub(crate) fn make_image(work: &mut Work, made: &mut Bytes) -> Result<ImageInfo, NoMemory>
+    requires { CanMake work.old }
     ensures { Makes (image_view work.old) result made.new }
 {
     made.clear();
     match work.stage {
         Stage::PnmBody => make_pnm(work, made),
         Stage::BmpBody => make_bmp(work, made),
-        _ => Err(NoMemory),
+        Stage::Start => unreachable!(),
+        Stage::First(_) => unreachable!(),
+        Stage::Gap { .. } => unreachable!(),
+        Stage::Number(_) => unreachable!(),
+        Stage::BmpHead => unreachable!(),
+        Stage::BmpFront(_) => unreachable!(),
     }
 }

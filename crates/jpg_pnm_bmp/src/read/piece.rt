@@ -1,7 +1,7 @@
 //! A piece of an image file, read completely or up to the byte that ends it.
 ghost use Rattle.std.specs.Prelude.{◌≡◌, ◌+◌, ◌≤◌, ℕ, List, length};
-ghost use Rattle.jpg_pnm_bmp.specs.Reader.{standing};
-ghost use Rattle.jpg_pnm_bmp.specs.Pieces.{HasRead, AfterImagePiece, AfterEnd};
+ghost use Rattle.jpg_pnm_bmp.specs.Reader.{IsGoing};
+ghost use Rattle.jpg_pnm_bmp.specs.Pieces.{HasRead, AfterImagePiece, AfterEnd, HasAllAfter, HasAllAtEnd};
 
 use crate::read::work::{Answer, Work};
 use jpg_base::{FaultAt, Stop};
@@ -17,7 +17,9 @@ pub enum Fed2 {
 // the bytes at its place, or NoMemory; otherwise More.
 pub(crate) fn read_piece(work: &mut Work, taken: u64, piece: &[u8]) -> Result<Fed2, Stop>
     requires room { taken + length piece.now ≤ 1099511627776 }
-    ensures { (bytes : List ℕ) → HasRead bytes taken work.old → AfterImagePiece bytes piece.now result work.new }
+    requires going { IsGoing work.old }
+    ensures led { (bytes : List ℕ) → HasRead bytes taken work.old → AfterImagePiece bytes piece.now result work.new }
+    ensures all { HasAllAfter result work.new }
 {
     let mut at: usize = 0;
     while at < piece.len() {
@@ -38,14 +40,16 @@ pub(crate) fn read_piece(work: &mut Work, taken: u64, piece: &[u8]) -> Result<Fe
     Ok(Fed2::More)
 }
 
-// The bytes end here. Returns Ok if the image is complete now, or its fault, or NoMemory.
+// The bytes end here. Returns Ok if the image is complete now, or its fault; or NoMemory for its last sample.
 pub(crate) fn end_here(work: &mut Work, taken: u64) -> Result<(), Stop>
-    ensures { (bytes : List ℕ) → HasRead bytes taken work.old → AfterEnd bytes result work.new }
+    requires { IsGoing work.old }
+    ensures led { (bytes : List ℕ) → HasRead bytes taken work.old → AfterEnd bytes result work.new }
+    ensures all { HasAllAtEnd result work.new }
 {
     match work.end() {
         Answer::Whole => Ok(()),
         Answer::Fault(fault) => Err(Stop::Fault(FaultAt { fault, at: taken })),
         Answer::NoMemory => Err(Stop::NoMemory),
-        Answer::More => Err(Stop::NoMemory),
+        Answer::More => unreachable!(),
     }
 }

@@ -1,7 +1,9 @@
 //! Image files that are read piece by piece (release 6b's image files).
 ghost use Rattle.std.specs.Prelude.{◌≡◌, ◌≤◌, ◌+◌, [], ℕ, List, length, Some, None, true, false, Ok, Err, IfSome, IfNone};
 ghost use Rattle.jpg_base.specs.declared.stop.Stop.{Stop as Stopped};
-ghost use Rattle.jpg_pnm_bmp.specs.PixelsRead.{Reads, EndsRead, image_by_parts};
+ghost use Rattle.jpg_pnm_bmp.specs.Made.{image_by_parts};
+ghost use Rattle.jpg_pnm_bmp.specs.Pieces.{Reads, EndsRead, GoesOn};
+ghost use Rattle.jpg_pnm_bmp.specs.Reader.{CanMake, IsGoing};
 
 use crate::read::make::make_image;
 use crate::read::piece::{Fed2, end_here, read_piece};
@@ -33,6 +35,7 @@ pub struct PixelReader {
     done: bool,
     // Why the reader stopped, if it did.
     stop: Option<Stop>,
+    ghost going: { stop ≡ None → done ≡ false → IsGoing work },
 }
 
 impl PixelReader {
@@ -131,7 +134,8 @@ impl PixelReader {
 
     /// The file ends here. Returns Ok if the image is complete now, which it is if the last number of P2 or P3 ends
     /// with the file; otherwise the fault of a number that ends there, ImageUnsupported, ImageHeader or ImageValue;
-    /// otherwise ImageShort; or the earlier stop. It may not be called once the image is complete (`is_read`).
+    /// otherwise ImageShort; or that there is no memory for an image that is complete now; or the earlier stop. It may
+    /// not be called once the image is complete (`is_read`).
     pub fn end(&mut self) -> Result<(), Stop>
         requires { is_image_read self.old ≡ false }
         ensures answered { Ends self.old result self.new }
@@ -170,8 +174,10 @@ fn read_image(
     info: &mut ImageInfo,
     made: &mut Bytes,
 ) -> Result<Fed2, Stop>
-    requires { taken + length piece.now ≤ 1099511627776 }
-    ensures { Reads work.old taken piece.now result work.new (image_by_parts info.new made.new) }
+    requires room { taken + length piece.now ≤ 1099511627776 }
+    requires going { IsGoing work.old }
+    ensures led { Reads work.old taken piece.now result work.new (image_by_parts info.new made.new) }
+    ensures on { GoesOn result work.new }
 {
     match read_piece(work, taken, piece) {
         Ok(fed) => match fed {
@@ -195,6 +201,7 @@ fn end_image(
     info: &mut ImageInfo,
     made: &mut Bytes,
 ) -> Result<(), Stop>
+    requires { IsGoing work.old }
     ensures { EndsRead work.old taken result (image_by_parts info.new made.new) }
 {
     match end_here(work, taken) {

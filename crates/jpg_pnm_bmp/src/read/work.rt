@@ -1,10 +1,11 @@
 //! The state of an image file that is read.
 ghost use Rattle.std.specs.Prelude.{◌≡◌, ◌<◌, ◌≤◌, ◌++◌, ◌∷◌, [], ℕ, List, length, take, true, false, None, Ok, OnOk};
 ghost use Rattle.jpg_spec_image.specs.PnmText.{is_number_due, number_fault};
+ghost use Rattle.jpg_spec_image.specs.BmpFile.{palette_bytes};
 ghost use Rattle.jpg_spec_image.specs.ImageFaults.{ImageHead, body_of};
 ghost use Rattle.jpg_spec_image.specs.ImageSteps.{at_start, in_body, first_byte, second_byte, gap_byte, number_byte, after_number, head_so_far, bmp_front, front_byte, state_end, ended_by, plain_image, run};
 ghost use Rattle.jpg_pnm_bmp.specs.Known.{list_of};
-ghost use Rattle.jpg_pnm_bmp.specs.Reader.{standing, numbers_list, IsReached, KeepsStage, Reaches, AddsNumber, CanStretch, HoldsBodyPart, StretchesBy, EndsAs, number_ended_at};
+ghost use Rattle.jpg_pnm_bmp.specs.Reader.{standing, numbers_list, IsEnd, IsGoing, IsReached, HasAll, HasScale, KeepsStage, Reaches, AddsNumber, CanStretch, HoldsBodyPart, StretchesBy, EndsAs, number_ended_at};
 ghost use Rattle.jpg_pnm_bmp.specs.Shapes.{body_view};
 ghost use Rattle.jpg_pnm_bmp.specs.PlainSamples.{unscaled_view};
 
@@ -94,7 +95,9 @@ impl Work {
     }
 
     fn first_byte(&mut self, byte: u8) -> Answer
-        ensures { Reaches (first_byte byte) result self.new }
+        ensures led { Reaches (first_byte byte) result self.new }
+        ensures all { HasAll result self.new }
+        ensures sparing { result ≡ Answer.NoMemory → ⊥ }
     {
         if byte == b'P' || byte == b'B' {
             self.stage = Stage::First(byte);
@@ -104,7 +107,9 @@ impl Work {
     }
 
     fn second_byte(&mut self, first: u8, byte: u8) -> Answer
-        ensures { Reaches (second_byte first byte) result self.new }
+        ensures led { Reaches (second_byte first byte) result self.new }
+        ensures all { HasAll result self.new }
+        ensures asked { result ≡ Answer.NoMemory → first ≡ 66 }
     {
         if first == b'B' {
             return self.bmp_begun(byte);
@@ -125,7 +130,8 @@ impl Work {
     }
 
     fn bmp_begun(&mut self, byte: u8) -> Answer
-        ensures { Reaches (second_byte 66 byte) result self.new }
+        ensures led { Reaches (second_byte 66 byte) result self.new }
+        ensures all { HasAll result self.new }
     {
         if byte == b'M' {
             self.head.clear();
@@ -139,7 +145,9 @@ impl Work {
     }
 
     fn gap_byte(&mut self, some: bool, commented: bool, byte: u8) -> Answer
-        ensures { Reaches (gap_byte self.old.format (numbers_list self.old) some commented byte) result self.new }
+        ensures led { Reaches (gap_byte self.old.format (numbers_list self.old) some commented byte) result self.new }
+        ensures all { HasAll result self.new }
+        ensures sparing { result ≡ Answer.NoMemory → ⊥ }
     {
         if commented || begins_gap(byte) {
             let commented = if commented {
@@ -161,7 +169,9 @@ impl Work {
     }
 
     fn number_byte(&mut self, n: u32, byte: u8) -> Answer
-        ensures { is_number_due self.old.format (numbers_list self.old) ≡ true → Reaches (number_byte self.old.format (numbers_list self.old) n byte) result self.new }
+        requires { HasScale self.old.numbers }
+        ensures led { is_number_due self.old.format (numbers_list self.old) ≡ true → Reaches (number_byte self.old.format (numbers_list self.old) n byte) result self.new }
+        ensures all { HasAll result self.new }
     {
         if is_digit(byte) {
             self.stage = Stage::Number((10 * n.min(100_000) + u32::from(byte - b'0')).min(100_000));
@@ -182,7 +192,9 @@ impl Work {
     fn number_ended(&mut self, n: u32, due: bool, byte: u8) -> Answer
         requires right { number_fault (numbers_list self.old) n ≡ None }
         requires due { due ≡ is_number_due self.old.format (numbers_list self.old ++ n ∷ []) }
-        ensures { is_number_due self.old.format (numbers_list self.old) ≡ true → Reaches (after_number self.old.format (numbers_list self.old ++ n ∷ []) byte) result self.new }
+        requires scale { HasScale self.old.numbers }
+        ensures led { is_number_due self.old.format (numbers_list self.old) ≡ true → Reaches (after_number self.old.format (numbers_list self.old ++ n ∷ []) byte) result self.new }
+        ensures all { HasAll result self.new }
     {
         match self.add_number(n) {
             Ok(()) => {}
@@ -223,7 +235,8 @@ impl Work {
     }
 
     fn head_byte(&mut self, byte: u8) -> Answer
-        ensures { Reaches (head_so_far (self.old.head ++ byte ∷ [])) result self.new }
+        ensures led { Reaches (head_so_far (self.old.head ++ byte ∷ [])) result self.new }
+        ensures all { HasAll result self.new }
     {
         match self.head.push_all(&[byte]) {
             Ok(()) => self.head_grown(),
@@ -232,7 +245,9 @@ impl Work {
     }
 
     fn head_grown(&mut self) -> Answer
-        ensures { Reaches (head_so_far self.old.head) result self.new }
+        ensures led { Reaches (head_so_far self.old.head) result self.new }
+        ensures all { HasAll result self.new }
+        ensures sparing { result ≡ Answer.NoMemory → ⊥ }
     {
         if self.head.as_slice().len() < 54 {
             self.stage = Stage::BmpHead;
@@ -247,12 +262,15 @@ impl Work {
         }
     }
 
-    fn front_so_far(&mut self, passed: u32) -> Answer
-        requires { 54 ≤ length self.old.head }
-        ensures { Reaches (bmp_front self.old.head self.old.palette passed) result self.new }
+    fn front_so_far(&mut self, passed: u64) -> Answer
+        requires long { 54 ≤ length self.old.head }
+        requires few { passed ≤ 4294967296 }
+        ensures led { Reaches (bmp_front self.old.head self.old.palette passed) result self.new }
+        ensures all { HasAll result self.new }
+        ensures sparing { result ≡ Answer.NoMemory → ⊥ }
     {
-        if 54 + u64::from(passed) < u64::from(bmp_offset(self.head.as_slice())) {
-            self.stage = Stage::BmpFront(passed);
+        if 54 + passed < u64::from(bmp_offset(self.head.as_slice())) {
+            self.stage = Stage::BmpFront(passed as u32);
             return Answer::More;
         }
         self.samples.clear();
@@ -262,17 +280,16 @@ impl Work {
 
     fn front_byte(&mut self, passed: u32, byte: u8) -> Answer
         requires { 54 ≤ length self.old.head }
-        ensures { Reaches (front_byte self.old.head self.old.palette passed byte) result self.new }
+        ensures led { Reaches (front_byte self.old.head self.old.palette passed byte) result self.new }
+        ensures all { HasAll result self.new }
+        ensures asked { result ≡ Answer.NoMemory → passed < palette_bytes self.old.head }
     {
-        if passed == 4_294_967_295 {
-            return Answer::NoMemory;
-        }
         if u64::from(passed) < palette_bytes(self.head.as_slice()) {
             if self.palette.push_all(&[byte]).is_err() {
                 return Answer::NoMemory;
             }
         }
-        self.front_so_far(passed + 1)
+        self.front_so_far(u64::from(passed) + 1)
     }
 
     fn held(&self) -> u64
@@ -335,10 +352,12 @@ impl Work {
 
     // Takes some of the bytes, at least one.
     pub fn advance(&mut self, piece: &[u8]) -> Moved
-        requires { 1 ≤ length piece.now }
+        requires some { 1 ≤ length piece.now }
+        requires going { IsGoing self.old }
         ensures some { 1 ≤ result.used }
         ensures within { result.used ≤ length piece.now }
         ensures led { IsReached (standing self.old) → Reaches (run (standing self.old) (take result.used piece.now)) result.answer self.new }
+        ensures all { HasAll result.answer self.new }
     {
         let byte = piece[0];
         match self.stage {
@@ -347,20 +366,12 @@ impl Work {
             Stage::Gap { some, commented } => one_byte(self.gap_byte(some, commented, byte)),
             Stage::Number(n) => one_byte(self.number_byte(n, byte)),
             Stage::BmpHead => one_byte(self.head_byte(byte)),
-            Stage::BmpFront(passed) => {
-                if self.head.as_slice().len() < 54 {
-                    return one_byte(Answer::NoMemory);
-                }
-                one_byte(self.front_byte(passed, byte))
-            }
+            Stage::BmpFront(passed) => one_byte(self.front_byte(passed, byte)),
             Stage::PnmBody => {
                 let shape = pnm_shape(self.format, self.numbers);
                 self.stretch(shape, piece)
             }
             Stage::BmpBody => {
-                if self.head.as_slice().len() < 54 {
-                    return one_byte(Answer::NoMemory);
-                }
                 let shape = bmp_shape(self.head.as_slice());
                 self.stretch(shape, piece)
             }
@@ -369,7 +380,10 @@ impl Work {
 
     // The bytes end here: a number at their end is judged.
     pub fn end(&mut self) -> Answer
-        ensures { IsReached (standing self.old) → EndsAs (state_end (standing self.old)) result self.new }
+        requires { IsGoing self.old }
+        ensures led { IsReached (standing self.old) → EndsAs (state_end (standing self.old)) result self.new }
+        ensures stops { IsEnd result }
+        ensures all { HasAll result self.new }
     {
         match self.stage {
             Stage::Start => Answer::Fault(Fault::ImageShort),
@@ -384,7 +398,10 @@ impl Work {
     }
 
     fn number_end(&mut self, n: u32) -> Answer
-        ensures { is_number_due self.old.format (numbers_list self.old) ≡ true → EndsAs (number_ended_at self.old n) result self.new }
+        requires { HasScale self.old.numbers }
+        ensures led { is_number_due self.old.format (numbers_list self.old) ≡ true → EndsAs (number_ended_at self.old n) result self.new }
+        ensures stops { IsEnd result }
+        ensures all { HasAll result self.new }
     {
         match number_fault(self.numbers, n) {
             Some(fault) => Answer::Fault(fault),
@@ -394,7 +411,10 @@ impl Work {
 
     fn right_end(&mut self, n: u32) -> Answer
         requires right { number_fault (numbers_list self.old) n ≡ None }
-        ensures { EndsAs (ended_by self.old.format (numbers_list self.old) n None) result self.new }
+        requires scale { HasScale self.old.numbers }
+        ensures led { EndsAs (ended_by self.old.format (numbers_list self.old) n None) result self.new }
+        ensures stops { IsEnd result }
+        ensures all { HasAll result self.new }
     {
         let due = is_due_after(self.format, self.numbers, self.held());
         if is_plain(self.format) && !due {
@@ -406,7 +426,10 @@ impl Work {
     fn last_end(&mut self, n: u32) -> Answer
         requires right { number_fault (numbers_list self.old) n ≡ None }
         requires last { is_number_due self.old.format (numbers_list self.old ++ n ∷ []) ≡ false }
-        ensures { EndsAs (Ok (plain_image self.old.format (numbers_list self.old ++ n ∷ []))) result self.new }
+        requires scale { HasScale self.old.numbers }
+        ensures led { EndsAs (Ok (plain_image self.old.format (numbers_list self.old ++ n ∷ []))) result self.new }
+        ensures stops { IsEnd result }
+        ensures all { HasAll result self.new }
     {
         match self.add_number(n) {
             Ok(()) => {}

@@ -1,7 +1,7 @@
 //! Targa files that are read piece by piece.
 ghost use Rattle.std.specs.Prelude.{◌≡◌, ◌≤◌, ◌+◌, [], ℕ, List, length, Some, true, false, Ok, Err};
 ghost use Rattle.jpg_base.specs.declared.stop.Stop.{Stop as Stopped};
-ghost use Rattle.jpg_pnm_bmp.specs.PixelsRead.{image_by_parts};
+ghost use Rattle.jpg_pnm_bmp.specs.Made.{image_by_parts};
 ghost use Rattle.jpg_targa.specs.TargaRead.{Reads};
 
 use crate::read::make::make_image;

@@ -1,42 +1,45 @@
-use Rattle.std.proofs.Common.{◌≡◌, ◌≤◌, [], take, get_or, sym, ap, ◌∙◌, subst}
+use Rattle.std.proofs.Common.{◌≡◌, ◌≤◌, [], length, take, get_or, sym, ap, ◌∙◌, subst}
+use Rattle.std.proofs.Math.Logic.{∥∥₁_elim}
+use native.Mathlib.Bridge.{le_prop}
 use Rattle.jpg_spec_image.specs.BmpFile.{height}
 use Rattle.jpg_spec_image.specs.ImageFaults.{pnm, bmp, body_of}
 use Rattle.jpg_spec_image.specs.ImageSteps.{step, run}
 use Rattle.jpg_pnm_bmp.specs.Known.{list_of}
 use Rattle.jpg_pnm_bmp.specs.Reader.{standing, standing_of, image_by, numbers_list, IsReached, Reaches}
 use Rattle.jpg_pnm_bmp.specs.Shapes.{body_view}
-use Rattle.jpg_pnm_bmp.proofs.Advance.{one_led, due_reached, body_reached, stretch_led, pnm_numbers, pnm_can, bmp_can, bmp_height}
+use Rattle.jpg_pnm_bmp.proofs.Advance.{one_led, due_reached, body_reached, stretch_led, pnm_numbers, pnm_can, bmp_can}
+use Rattle.jpg_pnm_bmp.proofs.AllThere.{all_bmp, all_pnm, all_prop, body_head, body_high, head_reached, numbers_reached, scale_prop, scale_reached}
 use Rattle.jpg_pnm_bmp.proofs.read.work.Work.advance.Goals as goal
 
 pub returns-in-Start-clause-led : goal.returns-in-Start-clause-led
 returns-in-Start-clause-led c = λ r.
-    one_led (standing c.args.self.now) c.args.piece.now c.first_byte.result c.first_byte.new.self c.one_byte.result c.one_byte.ensures c.requires
-    (subst (λ st. Reaches (step (standing_of st c.args.self.now) (get_or c.args.piece.now 0 0)) c.first_byte.result c.first_byte.new.self) (sym c.in-Start.is) (c.first_byte.ensures))
+    one_led (standing c.args.self.now) c.args.piece.now c.first_byte.result c.first_byte.new.self c.one_byte.result c.one_byte.ensures c.requires.some
+    (subst (λ st. Reaches (step (standing_of st c.args.self.now) (get_or c.args.piece.now 0 0)) c.first_byte.result c.first_byte.new.self) (sym c.in-Start.is) c.first_byte.ensures.led)
 
 pub returns-in-First-clause-led : goal.returns-in-First-clause-led
 returns-in-First-clause-led c = λ r.
-    one_led (standing c.args.self.now) c.args.piece.now c.second_byte.result c.second_byte.new.self c.one_byte-in-First.result c.one_byte-in-First.ensures c.requires
-    (subst (λ st. Reaches (step (standing_of st c.args.self.now) (get_or c.args.piece.now 0 0)) c.second_byte.result c.second_byte.new.self) (sym c.in-First.is) (c.second_byte.ensures))
+    one_led (standing c.args.self.now) c.args.piece.now c.second_byte.result c.second_byte.new.self c.one_byte-in-First.result c.one_byte-in-First.ensures c.requires.some
+    (subst (λ st. Reaches (step (standing_of st c.args.self.now) (get_or c.args.piece.now 0 0)) c.second_byte.result c.second_byte.new.self) (sym c.in-First.is) c.second_byte.ensures.led)
 
 pub returns-in-Gap-clause-led : goal.returns-in-Gap-clause-led
 returns-in-Gap-clause-led c = λ r.
-    one_led (standing c.args.self.now) c.args.piece.now c.gap_byte.result c.gap_byte.new.self c.one_byte-in-Gap.result c.one_byte-in-Gap.ensures c.requires
-    (subst (λ st. Reaches (step (standing_of st c.args.self.now) (get_or c.args.piece.now 0 0)) c.gap_byte.result c.gap_byte.new.self) (sym c.in-Gap.is) (c.gap_byte.ensures))
+    one_led (standing c.args.self.now) c.args.piece.now c.gap_byte.result c.gap_byte.new.self c.one_byte-in-Gap.result c.one_byte-in-Gap.ensures c.requires.some
+    (subst (λ st. Reaches (step (standing_of st c.args.self.now) (get_or c.args.piece.now 0 0)) c.gap_byte.result c.gap_byte.new.self) (sym c.in-Gap.is) c.gap_byte.ensures.led)
 
 pub returns-in-Number-clause-led : goal.returns-in-Number-clause-led
 returns-in-Number-clause-led c = λ r.
-    one_led (standing c.args.self.now) c.args.piece.now c.number_byte.result c.number_byte.new.self c.one_byte-in-Number.result c.one_byte-in-Number.ensures c.requires
-    (subst (λ st. Reaches (step (standing_of st c.args.self.now) (get_or c.args.piece.now 0 0)) c.number_byte.result c.number_byte.new.self) (sym c.in-Number.is) (c.number_byte.ensures (due_reached c.args.self.now.format (numbers_list c.args.self.now) c.in-Number.n (subst IsReached (ap (λ st. standing_of st c.args.self.now) c.in-Number.is) r))))
+    one_led (standing c.args.self.now) c.args.piece.now c.number_byte.result c.number_byte.new.self c.one_byte-in-Number.result c.one_byte-in-Number.ensures c.requires.some
+    (subst (λ st. Reaches (step (standing_of st c.args.self.now) (get_or c.args.piece.now 0 0)) c.number_byte.result c.number_byte.new.self) (sym c.in-Number.is) (c.number_byte.ensures.led (due_reached c.args.self.now.format (numbers_list c.args.self.now) c.in-Number.n (subst IsReached (ap (λ st. standing_of st c.args.self.now) c.in-Number.is) r))))
 
 pub returns-in-BmpHead-clause-led : goal.returns-in-BmpHead-clause-led
 returns-in-BmpHead-clause-led c = λ r.
-    one_led (standing c.args.self.now) c.args.piece.now c.head_byte.result c.head_byte.new.self c.one_byte-in-BmpHead.result c.one_byte-in-BmpHead.ensures c.requires
-    (subst (λ st. Reaches (step (standing_of st c.args.self.now) (get_or c.args.piece.now 0 0)) c.head_byte.result c.head_byte.new.self) (sym c.in-BmpHead.is) (c.head_byte.ensures))
+    one_led (standing c.args.self.now) c.args.piece.now c.head_byte.result c.head_byte.new.self c.one_byte-in-BmpHead.result c.one_byte-in-BmpHead.ensures c.requires.some
+    (subst (λ st. Reaches (step (standing_of st c.args.self.now) (get_or c.args.piece.now 0 0)) c.head_byte.result c.head_byte.new.self) (sym c.in-BmpHead.is) c.head_byte.ensures.led)
 
-pub returns-else-as_slice-lt54-clause-led : goal.returns-else-as_slice-lt54-clause-led
-returns-else-as_slice-lt54-clause-led c = λ r.
-    one_led (standing c.args.self.now) c.args.piece.now c.front_byte.result c.front_byte.new.self c.one_byte-in-BmpFront.result c.one_byte-in-BmpFront.ensures c.requires
-    (subst (λ st. Reaches (step (standing_of st c.args.self.now) (get_or c.args.piece.now 0 0)) c.front_byte.result c.front_byte.new.self) (sym c.in-BmpFront.is) (c.front_byte.ensures))
+pub returns-in-BmpFront-clause-led : goal.returns-in-BmpFront-clause-led
+returns-in-BmpFront-clause-led c = λ r.
+    one_led (standing c.args.self.now) c.args.piece.now c.front_byte.result c.front_byte.new.self c.one_byte-in-BmpFront.result c.one_byte-in-BmpFront.ensures c.requires.some
+    (subst (λ st. Reaches (step (standing_of st c.args.self.now) (get_or c.args.piece.now 0 0)) c.front_byte.result c.front_byte.new.self) (sym c.in-BmpFront.is) c.front_byte.ensures.led)
 
 pub returns-in-PnmBody-clause-led : goal.returns-in-PnmBody-clause-led
 returns-in-PnmBody-clause-led c = λ r.
@@ -49,13 +52,49 @@ returns-in-PnmBody-clause-led c = λ r.
     subst (λ t. Reaches (run t (take c.stretch.result.used c.args.piece.now)) c.stretch.result.answer c.stretch.new.self) (sym (ap (λ st. standing_of st s) c.in-PnmBody.is))
     (stretch_led s head _ c.stretch.result.answer c.stretch.new.self (λ x. ap (λ st. standing_of st (record s { samples = x })) c.in-PnmBody.is) (λ x. ap (λ st. image_by st (record s { samples = x })) c.in-PnmBody.is) led)
 
-pub returns-else-as_slice-lt54-2-clause-led : goal.returns-else-as_slice-lt54-2-clause-led
-returns-else-as_slice-lt54-2-clause-led c = λ r.
+pub returns-in-BmpBody-clause-led : goal.returns-in-BmpBody-clause-led
+returns-in-BmpBody-clause-led c = λ r.
     let s = c.args.self.now in
     let head = bmp s.head s.palette in
     let b = body_reached head s.samples (subst IsReached (ap (λ st. standing_of st s) c.in-BmpBody.is) r) in
-    let high = bmp_height s.head s.palette b.0 s.samples b.1 in
-    let e : body_view c.bmp_shape-shape.result ≡ body_of head = subst (λ x. height x ≤ 65500 → body_view c.bmp_shape-shape.result ≡ body_of (bmp x s.palette)) c.as_slice-in-BmpBody-2.ensures (c.bmp_shape-shape.ensures s.palette) high in
+    let high = body_high s.head s.palette b.0 s.samples b.1 in
+    let e : body_view c.bmp_shape-shape.result ≡ body_of head = subst (λ x. height x ≤ 65500 → body_view c.bmp_shape-shape.result ≡ body_of (bmp x s.palette)) c.as_slice.ensures (c.bmp_shape-shape.ensures s.palette) high in
     let led = c.stretch-in-BmpBody.ensures.led head e (bmp_can s.head s.palette b.0 s.samples b.1) in
     subst (λ t. Reaches (run t (take c.stretch-in-BmpBody.result.used c.args.piece.now)) c.stretch-in-BmpBody.result.answer c.stretch-in-BmpBody.new.self) (sym (ap (λ st. standing_of st s) c.in-BmpBody.is))
     (stretch_led s head _ c.stretch-in-BmpBody.result.answer c.stretch-in-BmpBody.new.self (λ x. ap (λ st. standing_of st (record s { samples = x })) c.in-BmpBody.is) (λ x. ap (λ st. image_by st (record s { samples = x })) c.in-BmpBody.is) led)
+
+pub number_byte-requires : goal.number_byte-requires
+number_byte-requires c =
+    let s = c.args.self.now in
+    ∥∥₁_elim c.requires.going (scale_prop s.numbers) (λ r. scale_reached s.format s.numbers s.samples c.in-Number.n (subst IsReached (ap (λ st. standing_of st s) c.in-Number.is) r))
+
+pub front_byte-requires : goal.front_byte-requires
+front_byte-requires c =
+    let s = c.args.self.now in
+    ∥∥₁_elim c.requires.going le_prop (λ r. head_reached s.head s.palette c.in-BmpFront.passed (subst IsReached (ap (λ st. standing_of st s) c.in-BmpFront.is) r))
+
+pub bmp_shape-shape-requires : goal.bmp_shape-shape-requires
+bmp_shape-shape-requires c =
+    let s = c.args.self.now in
+    subst (λ x. 54 ≤ length x) (sym c.as_slice.ensures)
+    (∥∥₁_elim c.requires.going le_prop (λ r. (let b = body_reached (bmp s.head s.palette) s.samples (subst IsReached (ap (λ st. standing_of st s) c.in-BmpBody.is) r) in body_head s.head s.palette b.0 s.samples b.1)))
+
+pub returns-in-PnmBody-clause-all : goal.returns-in-PnmBody-clause-all
+returns-in-PnmBody-clause-all c =
+    let s = c.args.self.now in
+    let head = pnm s.format (list_of s.numbers []) in
+    ∥∥₁_elim c.requires.going (all_prop c.stretch.result.answer c.stretch.new.self) (λ r.
+    (let b = body_reached head s.samples (subst IsReached (ap (λ st. standing_of st s) c.in-PnmBody.is) r) in
+    let k = pnm_numbers s.format s.numbers b.0 s.samples b.1 in
+    let e : body_view c.pnm_shape-shape.result ≡ body_of head = c.pnm_shape-shape.ensures k.0 k.1 k.2 k.3 ∙ ap (λ x. body_of (pnm s.format (list_of x []))) (sym k.3) in
+    all_pnm s head _ c.stretch.result.answer c.stretch.new.self c.in-PnmBody.is (numbers_reached s.format s.numbers b.0 s.samples b.1) (c.stretch.ensures.led head e (pnm_can s.format (list_of s.numbers []) b.0 s.samples b.1))))
+
+pub returns-in-BmpBody-clause-all : goal.returns-in-BmpBody-clause-all
+returns-in-BmpBody-clause-all c =
+    let s = c.args.self.now in
+    let head = bmp s.head s.palette in
+    ∥∥₁_elim c.requires.going (all_prop c.stretch-in-BmpBody.result.answer c.stretch-in-BmpBody.new.self) (λ r.
+    (let b = body_reached head s.samples (subst IsReached (ap (λ st. standing_of st s) c.in-BmpBody.is) r) in
+    let high = body_high s.head s.palette b.0 s.samples b.1 in
+    let e : body_view c.bmp_shape-shape.result ≡ body_of head = subst (λ x. height x ≤ 65500 → body_view c.bmp_shape-shape.result ≡ body_of (bmp x s.palette)) c.as_slice.ensures (c.bmp_shape-shape.ensures s.palette) high in
+    all_bmp s b.0 _ c.stretch-in-BmpBody.result.answer c.stretch-in-BmpBody.new.self c.in-BmpBody.is b.1 (c.stretch-in-BmpBody.ensures.led head e (bmp_can s.head s.palette b.0 s.samples b.1))))
