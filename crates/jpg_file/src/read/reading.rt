@@ -109,10 +109,10 @@ impl Reading {
         ensures keeping { self.new.items.held.keeping ≡ self.old.items.held.keeping }
     {
         let Some(coefs) = &mut self.coefs else {
-            return ItemStep::NoMemory;
+            unreachable!();
         };
         let Some(scan) = &mut self.scan else {
-            return ItemStep::NoMemory;
+            unreachable!();
         };
         let at = self.taken + 1;
         self.taken = at;

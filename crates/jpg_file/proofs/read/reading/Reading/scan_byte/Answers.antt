@@ -2,8 +2,14 @@ use Rattle.std.proofs.Common.{◌∙◌, Bool, Ok, ap, subst}
 use Rattle.std.specs.Prelude.{Result}
 use Rattle.jpg_spec.specs.declared.fault.Fault.{Fault}
 use Rattle.jpg_file.specs.Read.InData.{TakesScanByte}
-use Rattle.jpg_file.proofs.Scans.Scannings.{IsReading, scan_goes_on, scan_shows, scan_left_after}
+use Rattle.jpg_file.proofs.Scans.Scannings.{IsReading, none_some, scan_goes_on, scan_shows, scan_left_after}
 use Rattle.jpg_file.proofs.read.reading.Reading.scan_byte.Goals as goal
+
+pub unreachable-requires : goal.unreachable-requires
+unreachable-requires c = let s = c.requires.stands.3 in none_some c.args.self.now.coefs s.coefs s.has c.in_default.is
+
+pub unreachable-requires-in_default-scan : goal.unreachable-requires-in_default-scan
+unreachable-requires-in_default-scan c = let s = c.requires.stands.3 in none_some c.args.self.now.scan s.scan s.inside c.in_default-scan.is
 
 pub returns-in-Ok-false-clause-after : goal.returns-in-Ok-false-clause-after
 returns-in-Ok-false-clause-after c =
