@@ -13,8 +13,7 @@ use Rattle.jpg_spec.proofs.Basics.Common.{length_below}
 use Rattle.jpg_spec.proofs.Basics.Rows.{at_below, map_map, map_alike}
 use Rattle.jpg_spec_image.specs.Dct.{number_at}
 use Rattle.jpg_dct.specs.Natural.{natural}
-use Rattle.jpg_dct.proofs.Zigzag.{places, place_is}
-use Rattle.jpg_base.proofs.Exchanged.{place_low}
+use Rattle.jpg_dct.proofs.Zigzag.{places, place_is, place_low}
 use Rattle.jpg_spec_image.proofs.CodedBlocks.{all_at}
 
 pub low : (n : ℕ) → n < 64 → index_of n zigzag < 64

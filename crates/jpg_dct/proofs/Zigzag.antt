@@ -14,7 +14,6 @@ use Rattle.jpg_dct.specs.Natural.{natural_table}
 use Rattle.jpg_dct.specs.Division.{with_sign, divided, Divides, AreDivisors, AreFewer}
 use Rattle.jpg_dct.specs.declared.forward.lanes.Eight.{Eight}
 use Rattle.jpg_dct.specs.Eights.{IsEight, AreQuotients, vector, quotient_at}
-use Rattle.jpg_base.proofs.Exchanged.{place_low}
 
 -- THE PLACES of natural indices
 
@@ -23,6 +22,9 @@ places = map (λ n. index_of n zigzag) (below 64)
 
 pub place_is : (n : ℕ) → n < 64 → get_or places n 0 ≡ index_of n zigzag
 place_is n lt = get_or-map (λ m. index_of m zigzag) (below 64) n 0 0 lt ∙ ap (λ m. index_of m zigzag) (at_below 64 n lt)
+
+pub place_low : (n : ℕ) → n < 64 → get_or places n 0 < 64
+place_low n lt = ltb-true (get_or places n 0) 64 (All-get_or (λ x. nat_lt x 64 ≡ true) places n 0 lt (AllPass-from_list_all (λ x. nat_lt x 64) places refl))
 
 pub pair_fits : (k : ℕ) → k < 64 → k * 2 < 2 ^ 64
 pair_fits k lt = omega (arith, lt)

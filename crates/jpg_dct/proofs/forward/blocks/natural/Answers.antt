@@ -1,8 +1,7 @@
 use Rattle.std.proofs.Common.{rules, refl, ◌∙◌}
 use Rattle.std.proofs.lemmas.List.{length-set}
-use Rattle.jpg_dct.proofs.Zigzag.{place_step, places_done}
+use Rattle.jpg_dct.proofs.Zigzag.{place_step, places_done, place_low}
 use Rattle.jpg_dct.proofs.forward.blocks.natural.Goals as goal
-use Rattle.jpg_base.proofs.Exchanged.{place_low}
 
 pub loop-n-preserved : goal.loop-n-preserved
 loop-n-preserved c = (

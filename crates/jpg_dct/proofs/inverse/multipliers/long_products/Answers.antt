@@ -8,9 +8,8 @@ use Rattle.jpg_spec.proofs.Basics.Rows.{by_items}
 use Rattle.jpg_spec_image.specs.Dct.{number_at, dequantised}
 use Rattle.jpg_dct.proofs.Eights.{fits16}
 use Rattle.jpg_dct.proofs.Natural.{number_set}
-use Rattle.jpg_dct.proofs.Zigzag.{places, place_is, pair_fits}
+use Rattle.jpg_dct.proofs.Zigzag.{places, place_is, pair_fits, place_low}
 use Rattle.jpg_dct.proofs.inverse.multipliers.long_products.Goals as goal
-use Rattle.jpg_base.proofs.Exchanged.{place_low}
 use Rattle.jpg_spec_image.proofs.CodedBlocks.{all_at}
 
 pub offset_bounds-given-k : goal.offset_bounds-given-k
