@@ -2,6 +2,7 @@ pub mod Apart
 pub mod BitSinks
 pub mod Chains
 pub mod Copied
+pub mod Exchanged
 pub mod Laid
 pub mod Maps
 pub mod MarkSinks

@@ -4,3 +4,4 @@ pub mod Machine
 pub mod MarkSinks
 pub mod Picture
 pub mod Sinks
+pub mod Stored

@@ -1,9 +1,8 @@
--- The blocks of a picture in their order of storage: component by component, row by row of the padded grids (T.81,
--- A.2.4).
-use Rattle.std.specs.Prelude.{◌≡◌, ℕ, ◌+◌, ◌*◌, ◌<◌, Bool, false, nat_lt, ◌&&◌, if◌then◌else◌, List, length, take, sum_by, slice_index, slice_index_or, slice_set, ℤ, pos}
+-- The blocks of a picture, component by component, row by row of the padded grids (T.81, A.2.4).
+use Rattle.std.specs.Prelude.{◌≡◌, ℕ, ◌+◌, ◌*◌, Bool, false, nat_lt, ◌&&◌, if◌then◌else◌, List, length, take, sum_by, slice_index_or, slice_set, ℤ, pos}
 use Rattle.jpg_spec.specs.Elements.{zeros}
 use Rattle.jpg_spec.specs.Geometry.{Frame, component_at, padded_blocks}
-use Rattle.jpg_spec.specs.FrameHeader.{IsFrame, padded_across, padded_down}
+use Rattle.jpg_spec.specs.FrameHeader.{padded_across, padded_down}
 use Rattle.jpg_spec.specs.PictureInWork.{is_in_band}
 use Rattle.jpg_spec.specs.Scan.{Blocks, Scan, coefficient}
 use Rattle.jpg_spec.specs.declared.frame.Component.{Component}
@@ -21,7 +20,7 @@ grid_blocks f c = padded_across f c * padded_down f c
 abbrev pub component_offset : Frame → ℕ → ℕ
 component_offset f i = sum_by (grid_blocks f) (take i f.components)
 
--- where a block is stored
+-- the number of a block
 abbrev pub block_index : Frame → ℕ → ℕ → ℕ → ℕ
 block_index f i x y = component_offset f i + (y * padded_across f (component_at f i) + x)
 
@@ -53,10 +52,3 @@ pub record HasPlace (q : Picture) (p : Place) : Type 0 where
 pub record KeepsOutside (s : Scan) (q : Picture) (p : Place) (block : List ℤ) : Type 0 where
   pub size : length block ≡ 64
   pub same : (k : ℕ) → is_in_band s k ≡ false → slice_index_or block k (pos 0) ≡ coefficient (map_of q) p.component p.x p.y k
-
--- what is stored of a frame: where each component begins, and how long its rows are
-pub record IsLaidOut (f : Frame) (offsets strides : List ℕ) (count : ℕ) : Type 0 where
-  pub frame : IsFrame f
-  pub begins : (i : ℕ) → i < length f.components → slice_index offsets i ≡ component_offset f i
-  pub wide : (i : ℕ) → i < length f.components → slice_index strides i ≡ padded_across f (component_at f i)
-  pub all : count ≡ padded_blocks f

@@ -1,25 +1,25 @@
 //! The coefficients of a picture: the blocks of all padded grids (T.81, A.2.4).
-ghost use Rattle.std.specs.Prelude.{◌≡◌, ◌<◌, ◌≤◌, IfOk, replicate, slice_get, Some, pos, length, ℕ};
+ghost use Rattle.std.specs.Prelude.{◌≡◌, IfOk, replicate, length, ℕ};
+ghost use Rattle.std.specs.Vec.{vec_len};
 ghost use Rattle.jpg_spec.specs.Elements.{zeros};
 ghost use Rattle.jpg_spec.specs.Geometry.{padded_blocks};
 ghost use Rattle.jpg_base.specs.Cursor.{IsPadded};
-ghost use Rattle.jpg_coefs.specs.Picture.{Picture, block_index, block_in, map_of, with_block};
+ghost use Rattle.jpg_coefs.specs.Picture.{block_in, map_of, with_block};
 
 use crate::BlockView;
+use crate::layout::{BlockOrder, Layout};
 use jpg_base::{Block, Frame, NoMemory};
 use std::alloc::Global;
 use std::marker::Model;
 use std::vec::Vec;
 
-/// All blocks of the padded grids of a frame, component by component, row by row.
+/// All blocks of the padded grids of a frame.
 #[derive(Drop)]
 pub struct Coefs {
     // The header that bounds the grids.
     frame: Frame,
-    // By component, where its first block is.
-    offsets: [u32; 4],
-    // By component, how many blocks a row of its padded grid has.
-    strides: [u32; 4],
+    // Where they are stored.
+    layout: Layout,
     // All blocks.
     blocks: Vec<Block>,
 }
@@ -27,13 +27,15 @@ pub struct Coefs {
 impl Model for Coefs {
     ghost use Rattle.std.specs.Prelude.{◌≡◌, length, All};
     ghost use Rattle.std.specs.Vec.{vec_len};
-    ghost use Rattle.jpg_coefs.specs.Picture.{Picture, IsLaidOut};
+    ghost use Rattle.jpg_spec.specs.Geometry.{padded_blocks};
+    ghost use Rattle.jpg_coefs.specs.Picture.{Picture};
+    ghost use Rattle.jpg_coefs.specs.Stored.{IsLaidOut, by_rows};
 
     ghost Value = { Picture };
 
-    ghost view = { λ c. record { frame = c.frame; blocks = c.blocks.items } };
+    ghost view = { λ c. record { frame = c.frame; blocks = by_rows c.frame c.layout.order c.blocks.items } };
 
-    ghost invariant = { λ c. IsLaidOut c.frame c.offsets c.strides (vec_len c.blocks) × All (λ b. length b ≡ 64) c.blocks.items };
+    ghost invariant = { λ c. IsLaidOut c.frame c.layout × (vec_len c.blocks ≡ padded_blocks c.frame) × All (λ b. length b ≡ 64) c.blocks.items };
 }
 
 impl Coefs {
@@ -42,7 +44,7 @@ impl Coefs {
         requires { IsPadded self.now.frame component x y }
         ensures { result ≡ block_in self.now component x y }
     {
-        self.blocks[self.place(component, x, y)]
+        self.blocks[self.layout.place(component, x, y)]
     }
 
     /// States, for proofs, that each block has 64 values, and that there is one for each place of the padded grids. It
@@ -54,23 +56,13 @@ impl Coefs {
         let _ = &self.blocks;
     }
 
-    // Where a block is stored.
-    fn place(&self, component: u8, x: u32, y: u32) -> usize
-        requires { IsPadded self.now.frame component x y }
-        ensures value { result ≡ block_index self.now.frame component x y }
-        ensures there { result < length self.now.blocks }
-    {
-        let i = component as usize;
-        self.offsets[i] as usize + (y as usize * self.strides[i] as usize + x as usize)
-    }
-
     /// Puts a block of a component at a column and a row of its padded grid. All others remain.
     pub fn set_block(&mut self, component: u8, x: u32, y: u32, block: &Block)
         requires { IsPadded self.old.frame component x y }
         ensures { self.new ≡ with_block self.old component x y block.now }
     {
         let _ = block.get(0);
-        let place = self.place(component, x, y);
+        let place = self.layout.place(component, x, y);
         self.blocks[place] = *block;
     }
 
@@ -84,33 +76,40 @@ impl Coefs {
 }
 
 impl Coefs {
-    /// All blocks of the padded grids of the frame, zero. NoMemory if there is no memory for them.
+    /// All blocks of the padded grids of the frame, zero, stored row by row. NoMemory if there is no memory for them.
     pub fn new(alloc: Global, frame: &Frame) -> Result<Coefs, NoMemory>
         ensures frame { IfOk result (λ c. c.frame ≡ frame.now) }
         ensures zero { IfOk result (λ c. c.blocks ≡ replicate (padded_blocks frame.now) (zeros 64)) }
     {
-        let mut offsets = [0; 4];
-        let mut strides = [0; 4];
-        let mut total: u32 = 0;
-        frame.checked();
-        for i in 0..frame.count() {
-            let grid = frame.padded(i);
-            offsets[i as usize] = total;
-            strides[i as usize] = grid.wide;
-            total += grid.wide * grid.high;
-        }
-        let Ok(mut blocks) = Vec::with_capacity(alloc, total as usize) else {
-            return Err(NoMemory);
-        };
-        match blocks.resize(total as usize, Block::zero()) {
-            Ok(()) => Ok(Coefs {
-                frame: frame.copy(),
-                offsets,
-                strides,
-                blocks,
-            }),
-            Err(_) => Err(NoMemory),
-        }
+        Coefs::in_order(alloc, frame, BlockOrder::ByRows)
+    }
+
+    /// The same, stored in this order. Nothing else depends on it.
+    pub fn in_order(alloc: Global, frame: &Frame, order: BlockOrder) -> Result<Coefs, NoMemory>
+        ensures frame { IfOk result (λ c. c.frame ≡ frame.now) }
+        ensures zero { IfOk result (λ c. c.blocks ≡ replicate (padded_blocks frame.now) (zeros 64)) }
+    {
+        let (layout, count) = Layout::new(frame, order);
+        let blocks = zero_blocks(alloc, count as usize)?;
+        Ok(Coefs {
+            frame: frame.copy(),
+            layout,
+            blocks,
+        })
+    }
+}
+
+// So many blocks, zero.
+fn zero_blocks(alloc: Global, count: usize) -> Result<Vec<Block>, NoMemory>
+    ensures items { IfOk result (λ v. v.items ≡ replicate count (zeros 64)) }
+    ensures count { IfOk result (λ v. vec_len v ≡ count) }
+{
+    let Ok(mut blocks) = Vec::with_capacity(alloc, count) else {
+        return Err(NoMemory);
+    };
+    match blocks.resize(count, Block::zero()) {
+        Ok(()) => Ok(blocks),
+        Err(_) => Err(NoMemory),
     }
 }
 
@@ -134,7 +133,7 @@ impl BlockView for Coefs {
     }
 
     fn block(&self, component: u8, x: u32, y: u32) -> Block {
-        let _ = &self.strides;
+        let _ = &self.layout;
         self.padded_block(component, x, y)
     }
 }

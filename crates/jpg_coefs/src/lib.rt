@@ -5,6 +5,7 @@ mod coefs;
 mod end;
 mod intervals;
 mod laws;
+mod layout;
 mod machine;
 mod view;
 
@@ -14,5 +15,6 @@ pub use intervals::{UnitSink, part_of, put_scan};
 pub use laws::{
     bits_are_taken_in_order, faults_change_no_block, one_block_changes, zero_blocks_are_none,
 };
+pub use layout::BlockOrder;
 pub use machine::{ScanMachine, Taken, UnitFault, UnitStep};
 pub use view::BlockView;
