@@ -69,16 +69,17 @@ fn turn<D: Desk>(
     ensures turned { Turned (turning_view files.now choice.now area.now) (D.state desk.old) result (D.state desk.new) }
 {
     let copying = choice.copying;
-    match read_picture(alloc, &files.input, Wanted::Coefficients, copying, desk) {
+    let orders = choice.orders();
+    match read_picture(
+        alloc,
+        &files.input,
+        Wanted::Coefficients,
+        copying,
+        orders,
+        desk,
+    ) {
         Err(why) => why,
-        Ok((picture, early)) => match write_moved(
-            alloc,
-            &picture,
-            choice,
-            &files.output,
-            area,
-            desk,
-        ) {
+        Ok((picture, early)) => match write_moved(&picture, choice, &files.output, area, desk) {
             Wrote::Done => done_as(early),
             Wrote::Picture(fault) => Why::Picture(fault),
             Wrote::OpenFault => Why::OpenFault(Which::Output),
