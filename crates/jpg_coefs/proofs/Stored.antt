@@ -86,7 +86,7 @@ put_stored f ByColumns stored i x y block p e = sym (fill_by_all new all (padded
         get_or-set_other (by_rows f ByColumns stored) at n block (zeros 64) apart
         ∙ at_number f stored n (zeros 64) lt
         ∙ sym (get_or-set_other stored place (turned f n) block (zeros 64)
-          (λ same. apart (columns_apart (padded_across f) (padded_down f) f.components n at lt (index_below f i x y p) (same ∙ sym (turned_is f i x y p)))))
+        (λ same. apart (columns_apart (padded_across f) (padded_down f) f.components n at lt (index_below f i x y p) (same ∙ sym (turned_is f i x y p)))))
 
 pub zero_stored : (f : Frame) (order : BlockOrder) → by_rows f order (replicate (padded_blocks f) (zeros 64)) ≡ replicate (padded_blocks f) (zeros 64)
 zero_stored f ByRows = refl

@@ -8,7 +8,7 @@ mod write;
 pub use jpg_base::{
     Colour, Desk, Fault, FaultAt, Fed, Frame, Limits, QuantTable, ScanHead, Stop, WriteFault,
 };
-pub use jpg_coefs::{BlockView, Coefs};
+pub use jpg_coefs::{BlockOrder, BlockView, Coefs};
 pub use jpg_markers::{Jfif, Kept, KeptList, KeptRest, OutHead};
 pub use jpg_scans::Script;
 pub use laws::rows_are_due_in_order;
@@ -17,6 +17,7 @@ pub use read::file::FileWork;
 pub use read::first_header::{Head, colours, head_of};
 pub use read::items::{ItemStep, Items};
 pub use read::machine::ScanReader;
+pub use read::orders::Orders;
 pub use read::picture::Picture;
 pub use read::picture_taken::picture_of;
 pub use read::reader::Reader;

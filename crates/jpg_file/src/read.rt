@@ -6,6 +6,7 @@ pub mod file;
 pub mod first_header;
 pub mod items;
 pub mod machine;
+pub mod orders;
 pub mod picture;
 pub mod picture_taken;
 pub mod reader;

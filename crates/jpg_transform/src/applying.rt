@@ -1,5 +1,5 @@
 //! The coefficients of a transformed picture (the manual of jpegtran).
-ghost use Rattle.std.specs.Prelude.{◌≡◌, ◌<◌, length, IfOk, IfSome};
+ghost use Rattle.std.specs.Prelude.{◌≡◌, ◌<◌, length, IfOk};
 ghost use Rattle.jpg_spec.specs.Geometry.{IsReal};
 ghost use Rattle.jpg_spec.specs.Meaning.{real_blocks};
 ghost use Rattle.jpg_spec_move.specs.Moved.{Choice};
@@ -8,7 +8,6 @@ ghost use Rattle.jpg_coefs.specs.Copied.{CopiesBlocks, in_grids, in_grid, in_gri
 ghost use Rattle.jpg_transform.specs.MovedBlocks.{ShowsJob, WritesJob, moved_blocks, moved_numbers};
 ghost use Rattle.jpg_transform.specs.Planned.{IsJobFor};
 
-use crate::table::transposes;
 use crate::{Job, Moved};
 use jpg_base::NoMemory;
 use jpg_coefs::{BlockView, Coefs};
@@ -30,22 +29,6 @@ pub fn apply(alloc: Global, picture: &Picture, job: &Job) -> Result<Coefs, NoMem
     let mut coefs = Coefs::new(alloc, moved.frame())?;
     put_components(&moved, &mut coefs);
     Ok(coefs)
-}
-
-/// The coefficients of `apply`, for a picture whose rows become columns and which is written in progressive scans: each
-/// of them goes over all its blocks, and in the picture that was read these would be fetched column by column each
-/// time. None for any other, and if there is no memory for them: `Moved` serves then.
-pub fn turned_copy(alloc: Global, picture: &Picture, job: &Job) -> Option<Coefs>
-    requires { (choice : Choice) × IsJobFor picture.now choice job.now }
-    ensures { IfSome result (λ c. WritesJob picture.now job.now c.frame (map_of c)) }
-{
-    if !job.plan.out.frame.is_progressive() || !transposes(job.transform) {
-        return None;
-    }
-    match apply(alloc, picture, job) {
-        Ok(coefs) => Some(coefs),
-        Err(NoMemory) => None,
-    }
 }
 
 // Puts all blocks of a transformed picture.

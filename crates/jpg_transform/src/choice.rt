@@ -3,7 +3,9 @@ ghost use Rattle.std.specs.Prelude.{◌≡◌};
 ghost use Rattle.jpg_spec_write.specs.ScansAsked.{asks_progressive};
 ghost use Rattle.jpg_transform.specs.Planned.{scans_view};
 
-use jpg_file::{Plan, Restart};
+use crate::table::transposes;
+use jpg_coefs::BlockOrder;
+use jpg_file::{Orders, Plan, Restart};
 use jpg_scans::Script;
 use jpg_spec::Copying;
 use jpg_spec_move::Transform;
@@ -49,6 +51,26 @@ pub struct Choice {
     pub huffman: Huffman,
     /// Their restart interval.
     pub restart: Restart,
+}
+
+impl Choice {
+    /// The orders in which to store the blocks of the picture that is read: by columns where rows become columns, so that
+    /// those of the output follow one another each time that they are written. Only a progressive picture that is written
+    /// in one pass is by rows, since it is read in several.
+    pub fn orders(&self) -> Orders {
+        if !transposes(self.transform) {
+            return Orders::by_rows();
+        }
+        let progressive = if self.scans.progressive() {
+            BlockOrder::ByColumns
+        } else {
+            BlockOrder::ByRows
+        };
+        Orders {
+            sequential: BlockOrder::ByColumns,
+            progressive,
+        }
+    }
 }
 
 /// How a picture is written for a choice.

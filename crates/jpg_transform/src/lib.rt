@@ -10,12 +10,12 @@ mod planning;
 mod signs;
 mod table;
 
-pub use applying::{apply, turned_copy};
+pub use applying::apply;
 pub use choice::{Choice, Job, Scans};
 pub use frames::with_sides;
 pub use jpg_base::{Block, Frame, NoMemory};
 pub use jpg_coefs::{BlockView, Coefs};
-pub use jpg_file::{Picture, Restart};
+pub use jpg_file::{Orders, Picture, Restart};
 pub use jpg_scans::Script;
 pub use jpg_spec::Copying;
 pub use jpg_spec_move::Transform;

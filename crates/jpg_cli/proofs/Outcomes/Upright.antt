@@ -19,6 +19,7 @@ use Rattle.jpg_spec_upright.specs.Exif.{is_exif, marked_upright, upright_content
 use Rattle.jpg_spec_upright.specs.Upright.{fault_for, marked, text_for, upright_choice}
 use Rattle.jpg_spec_upright.proofs.MarkedWritten.{upright_means}
 use Rattle.jpg_spec_upright.proofs.TurnedUpright.{exif_code}
+use Rattle.jpg_file.specs.Read.PictureKept.{ArePictureParts, PictureParts, parts_meaning}
 use Rattle.jpg_file.specs.Read.PictureRead.{picture_meaning}
 use Rattle.jpg_file.specs.declared.read.picture.Picture.{Picture}
 use Rattle.jpg_file.proofs.Files.Keeping.{filter_reverse, find_in}
@@ -93,3 +94,16 @@ marked_colour M =
     let ids = map (λ c. c.id) M.components in
     ap (λ (j : Jfif). colours_of (length M.components) ids j.seen (adobe_transform (marked_upright M.kept))) (marked_jfif M.kept)
     ∙ ap (λ (a : Option ℕ). colours_of (length M.components) ids (jfif_of M.kept).seen a) (marked_adobe M.kept)
+
+-- so the parts of a picture with marked markers are those of a picture
+pub parts_marked : (p : PictureParts) (kept : List Segment) → kept ≡ marked_upright p.kept → ArePictureParts p → ArePictureParts (record p { kept = kept })
+parts_marked p kept same is = subst (λ (ks : List Segment). ArePictureParts (record p { kept = ks })) (sym same)
+    (record {
+      frame = is.frame;
+      tables = is.tables;
+      quants = is.quants;
+      grids = is.grids;
+      range = is.range;
+      colour = is.colour ∙ sym (marked_colour (parts_meaning p));
+      jfif = is.jfif ∙ sym (marked_jfif p.kept);
+    })

@@ -14,8 +14,7 @@ use jpg_file::{Picture, Plan, write_file};
 use jpg_markers::KeptList;
 use jpg_spec_move::Area;
 use jpg_spec_write::PictureFault;
-use jpg_transform::{Choice, Moved, plan, turned_copy};
-use std::alloc::Global;
+use jpg_transform::{Choice, Moved, plan};
 
 /// The result of writing a transformed picture.
 #[derive(Clone, Copy, Debug, PartialEq, Eq)]
@@ -33,11 +32,9 @@ pub enum Wrote {
 /// Writes a picture to an output of this name, transformed as the choice says and cropped to the area, if there is one:
 /// the text of its file, in the scans of the choice. If some bytes mean the picture, as those that it was read from, the
 /// text means the transformed picture, also if markers that the choice doesn't pass on weren't kept. The output is
-/// created when it is known that the picture has no fault and the area is inside. It asks for memory only for a copy of
-/// blocks that are turned and written in progressive scans, and does without where there is none.
+/// created when it is known that the picture has no fault and the area is inside. It asks for no memory.
 #[inline(never)]
 pub fn write_moved<D: Desk>(
-    alloc: Global,
     picture: &Picture,
     choice: &Choice,
     output: &Name,
@@ -55,10 +52,7 @@ pub fn write_moved<D: Desk>(
         Ok(job) => {
             let moved = Moved::new(picture, &job);
             match area {
-                None => match turned_copy(alloc, picture, &job) {
-                    Some(coefs) => write_view(&job.plan, &picture.kept, &coefs, output, desk),
-                    None => write_view(&job.plan, &picture.kept, &moved, output, desk),
-                },
+                None => write_view(&job.plan, &picture.kept, &moved, output, desk),
                 Some(area) => match crop_plan(picture, &job, area) {
                     Err(fault) => Wrote::Picture(fault),
                     Ok(crop) => {

@@ -11,7 +11,7 @@ ghost use Rattle.jpg_cli.specs.Desk.ReadPicture.{AfterPictureEnd, EndDone, EndsR
 use crate::desk::file::read_within;
 use jpg_base::{Colour, Desk, Fed, Frame, Got, Name, Put, Stop};
 use jpg_color::admits;
-use jpg_file::{End, Picture, Reader};
+use jpg_file::{End, Orders, Picture, Reader};
 use jpg_spec::{Copying, FaultAt, Limits};
 use jpg_spec_words::{Which, Why};
 use std::alloc::Global;
@@ -25,14 +25,15 @@ pub(crate) enum PictureStep {
     Ended(Why),
 }
 
-/// The picture of the file of this name, with the markers that may be passed on; and if the file ended early, after how
-/// many bytes. The file is read in pieces of at most 16,384 bytes, up to its end or the one that completes it or
-/// reveals a fault.
+/// The picture of the file of this name, with the markers that may be passed on, and its blocks stored in these orders;
+/// and if the file ended early, after how many bytes. The file is read in pieces of at most 16,384 bytes, up to its end or
+/// the one that completes it or reveals a fault.
 #[inline(never)]
 pub fn read_picture<D: Desk>(
     alloc: Global,
     name: &Name,
     copying: Copying,
+    orders: Orders,
     desk: &mut D,
 ) -> Result<(Picture, Option<u64>), Why>
     ensures kept { Keeps (D.state desk.old) (D.state desk.new) }
@@ -40,7 +41,7 @@ pub fn read_picture<D: Desk>(
 {
     match desk.open(name) {
         Put::Failed => Err(Why::OpenFault(Which::Input)),
-        Put::Done => take_picture(alloc, copying, desk),
+        Put::Done => take_picture(alloc, copying, orders, desk),
     }
 }
 
@@ -48,13 +49,14 @@ pub fn read_picture<D: Desk>(
 fn take_picture<D: Desk>(
     alloc: Global,
     copying: Copying,
+    orders: Orders,
     desk: &mut D,
 ) -> Result<(Picture, Option<u64>), Why>
     requires open { (D.state desk.old).input_open ≡ true }
     ensures kept { OnlyReads (D.state desk.old) (D.state desk.new) }
     ensures read { EndsReading Coefficients copying (D.state desk.old) result (D.state desk.new) }
 {
-    let mut reader = Reader::for_copying(alloc, Limits::standard(), copying);
+    let mut reader = Reader::in_order(alloc, Limits::standard(), copying, orders);
     match read_whole(&mut reader, desk) {
         Ok(early) => Ok((reader.take(), early)),
         Err(why) => Err(why),

@@ -89,7 +89,7 @@ fn write_image<D: Desk>(
 {
     if scans.progressive() {
         return match image.picture(alloc) {
-            Ok(picture) => write_picture(alloc, &picture, words, scans, desk),
+            Ok(picture) => write_picture(&picture, words, scans, desk),
             Err(_) => Why::NoMemory,
         };
     }
@@ -158,7 +158,7 @@ pub fn write_encoded<D: Desk>(
     let encoding = encoding_of(words, &scans, tables, image.info.kind);
     match encode_picture(alloc, image, &encoding) {
         Err(stop) => why_not_encoded(stop),
-        Ok(picture) => write_picture(alloc, &picture, words, &scans, desk),
+        Ok(picture) => write_picture(&picture, words, &scans, desk),
     }
 }
 
@@ -177,7 +177,6 @@ fn copy_of(scans: &Scans) -> Scans
 // Writes a picture as it is, in these scans. It remains a call, so that a sequential file doesn't need its stack.
 #[inline(never)]
 fn write_picture<D: Desk>(
-    alloc: Global,
     picture: &Picture,
     words: &EncodeWords,
     scans: &Scans,
@@ -196,7 +195,7 @@ fn write_picture<D: Desk>(
         huffman: words.huffman,
         restart: words.restart,
     };
-    why_wrote(write_moved(alloc, picture, &choice, &words.files.output, &None, desk))
+    why_wrote(write_moved(picture, &choice, &words.files.output, &None, desk))
 }
 
 // Why the writing ended.

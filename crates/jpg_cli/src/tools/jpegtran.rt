@@ -17,7 +17,7 @@ use crate::words::files::Files;
 use crate::words::jpegtran_request::TransformWords;
 use jpg_base::Desk;
 use jpg_exif::mark_upright;
-use jpg_file::Picture;
+use jpg_file::{Orders, Picture};
 use jpg_spec::Copying;
 use jpg_spec_move::{Area, Transform};
 use jpg_spec_words::{Which, Why};
@@ -74,10 +74,11 @@ fn turn<D: Desk>(
     ensures kept { OnlyWorks (D.state desk.old) (D.state desk.new) }
     ensures turned { Turned (turning_view files.now choice.now false area.now) (D.state desk.old) result (D.state desk.new) }
 {
-    match read_picture(alloc, &files.input, choice.copying, desk) {
+    let orders = choice.orders();
+    match read_picture(alloc, &files.input, choice.copying, orders, desk) {
         Err(why) => why,
         Ok((picture, early)) => ended(
-            write_moved(alloc, &picture, choice, &files.output, area, desk),
+            write_moved(&picture, choice, &files.output, area, desk),
             early,
         ),
     }
@@ -96,19 +97,12 @@ fn turn_upright<D: Desk>(
     ensures kept { OnlyWorks (D.state desk.old) (D.state desk.new) }
     ensures turned { Turned (turning_view files.now choice true area.now) (D.state desk.old) result (D.state desk.new) }
 {
-    match read_picture(alloc, &files.input, Copying::All, desk) {
+    match read_picture(alloc, &files.input, Copying::All, Orders::by_rows(), desk) {
         Err(why) => why,
         Ok((picture, early)) => {
             let upright = upright_of(picture, choice);
             ended(
-                write_moved(
-                    alloc,
-                    &upright.picture,
-                    &upright.choice,
-                    &files.output,
-                    area,
-                    desk,
-                ),
+                write_moved(&upright.picture, &upright.choice, &files.output, area, desk),
                 early,
             )
         }

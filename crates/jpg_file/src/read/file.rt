@@ -9,11 +9,11 @@ ghost use Rattle.jpg_file.specs.Read.Step.{IfStops, IsNoRow, HasMemory};
 
 use crate::read::first_header::{Head, head_of};
 use crate::read::items::{ItemStep, Items};
+use crate::read::orders::Orders;
 use crate::read::reading::Reading;
 use crate::read::scan_history::ScanHistory;
 use crate::read::step::Step;
 use jpg_base::{Limits, NoMemory, Stop};
-use jpg_coefs::Coefs;
 use jpg_spec::{Copying, Fault, FaultAt};
 use memchr::memchr;
 use std::alloc::Global;
@@ -23,6 +23,8 @@ use std::alloc::Global;
 pub struct FileWork {
     /// Where memory comes from.
     pub alloc: Global,
+    /// The orders in which blocks are stored.
+    pub orders: Orders,
     /// Its items, and the current scan.
     pub reading: Reading,
     /// What the scans so far define.
@@ -32,14 +34,16 @@ pub struct FileWork {
 }
 
 impl FileWork {
-    /// A file before any byte, with the markers that are to be kept. It takes no memory yet.
-    pub fn new(alloc: Global, limits: Limits, keeping: Copying) -> FileWork
+    /// A file before any byte, with the markers that are to be kept, and the orders in which blocks are stored. It takes
+    /// no memory yet.
+    pub fn new(alloc: Global, limits: Limits, keeping: Copying, orders: Orders) -> FileWork
         requires { AreLimits limits }
         ensures stands { RepresentsFile limits [] result }
         ensures keeping { keeping_of result ≡ keeping }
     {
         FileWork {
             alloc,
+            orders,
             reading: Reading {
                 items: Items::new(alloc, limits, keeping),
                 coefs: None,
@@ -190,7 +194,7 @@ impl FileWork {
         if self.reading.coefs.is_some() {
             return Ok(());
         }
-        let coefs = Coefs::new(self.alloc, frame)?;
+        let coefs = self.orders.coefs(self.alloc, frame)?;
         self.reading.coefs = Some(coefs);
         Ok(())
     }

@@ -13,6 +13,7 @@ ghost use Rattle.jpg_file.specs.declared.read.ends.End.TheVariants as ends;
 
 use crate::read::ends::End;
 use crate::read::file::FileWork;
+use crate::read::orders::Orders;
 use crate::read::picture::Picture;
 use crate::read::picture_taken::picture_of;
 use crate::read::row_pieces::{FedRow, read_rows};
@@ -71,10 +72,22 @@ impl Reader {
         ensures keeping { keeping_of result.file ≡ copying }
         ensures plain { IsPlain result }
     {
+        Reader::in_order(alloc, limits, copying, Orders::by_rows())
+    }
+
+    /// A reader as that of `for_copying`, which stores the blocks of a picture in these orders. Nothing else depends on
+    /// them.
+    pub fn in_order(alloc: Global, limits: Limits, copying: Copying, orders: Orders) -> Reader
+        requires { AreLimits limits }
+        ensures read { HasRead [] result }
+        ensures limits { result.limits ≡ limits }
+        ensures keeping { keeping_of result.file ≡ copying }
+        ensures plain { IsPlain result }
+    {
         Reader {
             limits,
             work: StripWork {
-                file: FileWork::new(alloc, limits, copying),
+                file: FileWork::new(alloc, limits, copying, orders),
                 by_row: false,
                 rows: None,
                 strip: None,
@@ -95,7 +108,7 @@ impl Reader {
         Reader {
             limits,
             work: StripWork {
-                file: FileWork::new(alloc, limits, Copying::None),
+                file: FileWork::new(alloc, limits, Copying::None, Orders::by_rows()),
                 by_row: true,
                 rows: None,
                 strip: None,

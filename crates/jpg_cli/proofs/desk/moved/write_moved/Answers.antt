@@ -10,10 +10,7 @@ use Rattle.jpg_cli.proofs.Encoding.MovedWritten.{fault_in, faulty, own_faulty, o
 use Rattle.jpg_cli.proofs.desk.moved.write_moved.Goals as goal
 
 pub write_view-requires : goal.write_view-requires
-write_view-requires g c = (c.in-Some-turned_copy.ensures (choice_view c.args.choice.now) c.in-Ok.ensures).can
-
-pub write_view-requires-in-None-turned_copy : goal.write_view-requires-in-None-turned_copy
-write_view-requires-in-None-turned_copy g c = (c.new-moved.ensures.writes (choice_view c.args.choice.now) c.in-Ok.ensures).can
+write_view-requires g c = (c.new-moved.ensures.writes (choice_view c.args.choice.now) c.in-Ok.ensures).can
 
 pub crop_plan-requires-clause-area : goal.crop_plan-requires-clause-area
 crop_plan-requires-clause-area g c = subst (λ (o : Option Area). IfSome o IsArea) c.in-Some.is c.requires
@@ -34,28 +31,16 @@ returns-in-Err-clause-wrote g c =
     faulty (in_area c.args.area.now choice) c.args.picture.now c.args.output.now (g.D.Desk.state c.args.desk.now) c.in-Err.fault
     (fault_in c.args.area.now choice (picture_meaning c.args.picture.now) c.in-Err.fault refl c.in-Err.ensures)
 
--- the file of the moved picture, from a copy of its blocks or from the view of them
-pub returns-in-Some-turned_copy-clause-wrote : goal.returns-in-Some-turned_copy-clause-wrote
-returns-in-Some-turned_copy-clause-wrote g c =
+pub returns-in-None-clause-wrote : goal.returns-in-None-clause-wrote
+returns-in-None-clause-wrote g c =
     let choice = choice_view c.args.choice.now in
     let old = g.D.Desk.state c.args.desk.now in
     let new = g.D.Desk.state c.write_view.new.desk in
     let w = c.write_view.result in
-    let writes = c.in-Some-turned_copy.ensures choice c.in-Ok.ensures in
-    subst (λ (o : Option Area). WritesMoved (in_area o choice) c.args.picture.now c.args.output.now old w new) (sym c.in-None.is)
-    (written choice c.args.picture.now c.in-Ok.job.plan c.args.output.now old new w c.in-Ok.ensures.planned
-    (subst (λ (due : List ℕ). AfterOutput c.args.output.now old due w new) writes.text c.write_view.ensures.output))
-
-pub returns-in-None-turned_copy-clause-wrote : goal.returns-in-None-turned_copy-clause-wrote
-returns-in-None-turned_copy-clause-wrote g c =
-    let choice = choice_view c.args.choice.now in
-    let old = g.D.Desk.state c.args.desk.now in
-    let new = g.D.Desk.state c.write_view-in-None-turned_copy.new.desk in
-    let w = c.write_view-in-None-turned_copy.result in
     let writes = c.new-moved.ensures.writes choice c.in-Ok.ensures in
     subst (λ (o : Option Area). WritesMoved (in_area o choice) c.args.picture.now c.args.output.now old w new) (sym c.in-None.is)
     (written choice c.args.picture.now c.in-Ok.job.plan c.args.output.now old new w c.in-Ok.ensures.planned
-    (subst (λ (due : List ℕ). AfterOutput c.args.output.now old due w new) writes.text c.write_view-in-None-turned_copy.ensures.output))
+    (subst (λ (due : List ℕ). AfterOutput c.args.output.now old due w new) writes.text c.write_view.ensures.output))
 
 pub returns-in-Err-crop_plan-clause-wrote : goal.returns-in-Err-crop_plan-clause-wrote
 returns-in-Err-crop_plan-clause-wrote g c =
@@ -85,27 +70,16 @@ returns-in-Err-clause-own g c =
     own_faulty (in_area c.args.area.now choice) c.args.picture.now c.args.output.now (g.D.Desk.state c.args.desk.now) c.in-Err.fault
     (fault_in c.args.area.now choice (picture_meaning c.args.picture.now) c.in-Err.fault refl c.in-Err.ensures)
 
-pub returns-in-Some-turned_copy-clause-own : goal.returns-in-Some-turned_copy-clause-own
-returns-in-Some-turned_copy-clause-own g c =
+pub returns-in-None-clause-own : goal.returns-in-None-clause-own
+returns-in-None-clause-own g c =
     let choice = choice_view c.args.choice.now in
     let old = g.D.Desk.state c.args.desk.now in
     let new = g.D.Desk.state c.write_view.new.desk in
     let w = c.write_view.result in
-    let writes = c.in-Some-turned_copy.ensures choice c.in-Ok.ensures in
-    subst (λ (o : Option Area). WritesOwn (in_area o choice) c.args.picture.now c.args.output.now old w new) (sym c.in-None.is)
-    (own_written choice c.args.picture.now c.in-Ok.job.plan c.args.output.now old new w c.in-Ok.ensures.planned
-    (subst (λ (due : List ℕ). AfterOutput c.args.output.now old due w new) writes.text c.write_view.ensures.output))
-
-pub returns-in-None-turned_copy-clause-own : goal.returns-in-None-turned_copy-clause-own
-returns-in-None-turned_copy-clause-own g c =
-    let choice = choice_view c.args.choice.now in
-    let old = g.D.Desk.state c.args.desk.now in
-    let new = g.D.Desk.state c.write_view-in-None-turned_copy.new.desk in
-    let w = c.write_view-in-None-turned_copy.result in
     let writes = c.new-moved.ensures.writes choice c.in-Ok.ensures in
     subst (λ (o : Option Area). WritesOwn (in_area o choice) c.args.picture.now c.args.output.now old w new) (sym c.in-None.is)
     (own_written choice c.args.picture.now c.in-Ok.job.plan c.args.output.now old new w c.in-Ok.ensures.planned
-    (subst (λ (due : List ℕ). AfterOutput c.args.output.now old due w new) writes.text c.write_view-in-None-turned_copy.ensures.output))
+    (subst (λ (due : List ℕ). AfterOutput c.args.output.now old due w new) writes.text c.write_view.ensures.output))
 
 pub returns-in-Err-crop_plan-clause-own : goal.returns-in-Err-crop_plan-clause-own
 returns-in-Err-crop_plan-clause-own g c =

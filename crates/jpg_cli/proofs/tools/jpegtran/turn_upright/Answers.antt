@@ -17,8 +17,8 @@ returns-in-Err-clause-turned g c =
     let state = g.D.Desk.state in
     converted_unread Meaning (turning_conversion (turning_view c.args.files.now c.args.choice true c.args.area.now)) c.args.files.now.input (state c.args.desk.now) (state c.read_picture.new.desk) c.in-Err.why c.in-Err.ensures.read
 
-pub returns-clause-turned : goal.returns-clause-turned
-returns-clause-turned g c =
+pub returns-in-Ok-clause-turned : goal.returns-in-Ok-clause-turned
+returns-in-Ok-clause-turned g c =
     let state = g.D.Desk.state in
     let told = c.in-Ok.ensures.read in
     let choice = choice_view c.args.choice in

@@ -47,7 +47,7 @@ begins c bytes h k =
     let room : Reading = record read { items = record read.items { segments = c.reserve.new.self } } in
     let after = c.in-Ok-begin_head.ensures.after z (zero_sizes c.args.frame.now) bytes h.items h.blocks (whole c bytes h k.framed) in
     record {
-      taken = record { alloc = w.alloc; reading = room; begun = begun; head = w.head };
+      taken = record { alloc = w.alloc; orders = w.orders; reading = room; begun = begun; head = w.head };
       frame = c.args.frame.now;
       head = c.args.head.now;
       stands = h;

@@ -19,7 +19,7 @@ pub returns-in-Ok-clause-after : goal.returns-in-Ok-clause-after
 returns-in-Ok-clause-after c = λ bytes h.
     let old = c.args.self.now in
     let room = c.make_room.new.self in
-    let taken : FileWork = record { alloc = room.alloc; reading = c.take_head.new.self; begun = c.take_head.new.begun; head = room.head } in
+    let taken : FileWork = record { alloc = room.alloc; orders = room.orders; reading = c.take_head.new.self; begun = c.take_head.new.begun; head = room.head } in
     head_goes (limits_of old) bytes old room taken _ h (room_made old room c.make_room.result c.make_room.ensures.made (sym c.is_err.ensures.value ∙ c.if-is_err.false)) c.make_room.ensures.head c.in-Ok.ensures.after refl c.note_head.ensures
 
 pub returns-in-Err-clause-after : goal.returns-in-Err-clause-after

@@ -1,7 +1,7 @@
 use Rattle.std.proofs.Common.{[], refl, arith}
 use Rattle.jpg_file.proofs.Files.FileSteps.{head_is}
 use Rattle.jpg_file.proofs.Files.PieceSteps.{stands_file}
-use Rattle.jpg_file.proofs.read.reader.Reader.for_copying.Goals as goal
+use Rattle.jpg_file.proofs.read.reader.Reader.in_order.Goals as goal
 
 pub returns-clause-read : goal.returns-clause-read
 returns-clause-read c =

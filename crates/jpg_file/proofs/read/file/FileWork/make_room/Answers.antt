@@ -1,0 +1,30 @@
+use Rattle.std.proofs.Common.{◌≡◌, Option, Some, None, false, refl, sym, ◌∙◌, subst}
+use Rattle.std.specs.Prelude.{is_some, replicate}
+use Rattle.jpg_spec.specs.Elements.{zeros}
+use Rattle.jpg_spec.specs.FrameHeader.{IsFrame}
+use Rattle.jpg_spec.specs.Geometry.{Frame, padded_blocks}
+use Rattle.jpg_coefs.specs.Picture.{Picture}
+use Rattle.jpg_file.specs.Read.File.{PictureMade}
+use Rattle.jpg_coefs.proofs.Maps.{blank_is}
+use Rattle.jpg_file.proofs.read.file.FileWork.make_room.Goals as goal
+
+once : (a b : Frame) → Some a ≡ Some b → a ≡ b
+once a b e = cc
+
+zeros_made : (f : Frame) (old : Option Picture) (q : Picture) → is_some old ≡ false → q.frame ≡ f → q.blocks ≡ replicate (padded_blocks f) (zeros 64) → PictureMade f old (Some q)
+zeros_made f (Some p) q none framed zero = cc
+zeros_made f None q none framed zero = record { picture = q; has = refl; framed = framed; zero = blank_is q (padded_blocks f) zero }
+
+pub returns-clause-made : goal.returns-clause-made
+returns-clause-made c =
+    let old = c.args.self.now.reading.coefs in
+    let q : Picture = c.in_ok-coefs.coefs in
+    record {
+      begun = refl;
+      items = refl;
+      scan = refl;
+      taken = refl;
+      picture = λ f e.
+          subst (λ (g : Frame). IsFrame g × PictureMade g old (Some q)) (once c.in-Some.frame f (sym c.in-Some.is ∙ e))
+          (c.checked.ensures, zeros_made c.in-Some.frame old q (sym c.is_some.ensures ∙ c.if-is_some.false) c.in_ok-coefs.ensures.frame c.in_ok-coefs.ensures.zero);
+    }
