@@ -137,6 +137,7 @@ fn name_of(asked: &Asked, which: Which) -> Option<&str> {
 
 /// Says which file couldn't be opened or read, and why, after the name of the command; nothing after another end, of a
 /// standard stream, and where there is no memory.
+#[inline(never)]
 pub fn say_file<R: Runtime>(rt: &R, alloc: Global, words: &[String], why: Why) {
     let which = match why {
         Why::OpenFault(which) => which,
