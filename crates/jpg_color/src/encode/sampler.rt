@@ -1,5 +1,5 @@
 //! The samples of an image taken as they come, and made the planes of its components (T.81, A.1.1, A.2).
-ghost use Rattle.std.specs.Prelude.{◌≡◌, ◌+◌, ◌*◌, ◌≤◌, ◌<◌, ◌==◌, ◌||◌, ◌&&◌, [], None, OnOk, IfOk, length, take};
+ghost use Rattle.std.specs.Prelude.{◌≡◌, ◌+◌, ◌*◌, ◌≤◌, ◌<◌, ◌==◌, ◌||◌, ◌&&◌, [], None, OnErr, OnOk, IfOk, length, take};
 ghost use Rattle.jpg_spec.specs.Geometry.{mcus_down, v_max};
 ghost use Rattle.jpg_spec.specs.Segments.{AreQuantisers};
 ghost use Rattle.jpg_color.specs.EncodeHead.{table_asked};
@@ -90,11 +90,14 @@ impl Sampler {
         self.left
     }
 
-    /// Takes the next samples, of which there are at most those that are left. After NoMemory no more can be taken.
+    /// Takes the next samples, of which there are at most those that are left. After NoMemory none are left; none is
+    /// returned for no samples.
     pub fn feed(&mut self, samples: &[u8]) -> Result<(), NoMemory>
         requires { length samples.now ≤ samples_left self.old }
         ensures adds { OnOk result (AddsSamples self.old samples.now self.new) }
         ensures left { OnOk result (samples_left self.new + length samples.now ≡ samples_left self.old) }
+        ensures over { OnErr result (samples_left self.new ≡ 0) }
+        ensures asked { OnErr result (1 ≤ length samples.now) }
     {
         let mut done = 0;
         while done < samples.len() {
@@ -110,6 +113,7 @@ impl Sampler {
         ensures some { IfOk result (λ n. (1 ≤ n) × (n ≤ length samples.now)) }
         ensures adds { IfOk result (λ n. AddsSamples self.old (take n samples.now) self.new) }
         ensures left { IfOk result (λ n. samples_left self.new + n ≡ samples_left self.old) }
+        ensures over { OnErr result (samples_left self.new ≡ 0) }
     {
         let room = strip_room(&self.info, &self.frame);
         let had = self.pending.as_slice().len();
@@ -130,7 +134,8 @@ impl Sampler {
     fn make_row(&mut self) -> Result<(), NoMemory>
         requires whole { IsWhole self.old.info self.old.frame self.old.pending self.old.made }
         requires none { self.old.left ≡ 0 }
-        ensures { OnOk result (MakesRow self.old self.new) }
+        ensures makes { OnOk result (MakesRow self.old self.new) }
+        ensures none { self.new.left ≡ 0 }
     {
         let info = strip_info(&self.info, &self.frame, self.made);
         put_strip(
