@@ -15,6 +15,7 @@ set -g __jpgsuite_rows \
     'jpegtran -rotate 2 90,180,270 rotates the picture clockwise' \
     'jpegtran -transpose 1 - mirrors at the diagonal from the upper left' \
     'jpegtran -transverse 6 - mirrors at the other diagonal' \
+    'jpegtran -upright 1 - turns the picture as its Exif orientation asks for it' \
     'jpegtran -trim 3 - leaves out partial MCUs that would remain at the edge' \
     'jpegtran -grayscale 1 - keeps only the first component' \
     'jpegtran -greyscale 1 - keeps only the first component' \
