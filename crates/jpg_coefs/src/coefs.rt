@@ -7,7 +7,7 @@ ghost use Rattle.jpg_base.specs.Cursor.{IsPadded};
 ghost use Rattle.jpg_coefs.specs.Picture.{block_in, map_of, with_block};
 
 use crate::BlockView;
-use crate::layout::{BlockOrder, BlockOrder, Layout, Layout};
+use crate::layout::{BlockOrder, Layout};
 use jpg_base::{Block, Frame, NoMemory};
 use std::alloc::Global;
 use std::marker::Model;
