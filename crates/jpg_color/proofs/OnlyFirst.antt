@@ -13,8 +13,7 @@ use Rattle.jpg_spec.specs.Elements.{is_zero}
 use Rattle.jpg_spec.specs.Zigzag.{zigzag}
 use Rattle.jpg_spec_image.specs.Dct.{number_at, dequantised}
 use Rattle.jpg_spec.proofs.Basics.Rows.{by_items}
-use Rattle.jpg_dct.proofs.Zigzag.{places, place_is}
-use Rattle.jpg_base.proofs.Exchanged.{place_low}
+use Rattle.jpg_dct.proofs.Zigzag.{places, place_is, place_low}
 
 abbrev value_of : List ℕ → List ℤ → ℕ → ℤ
 value_of quants block n = number_at block (index_of n zigzag) *ℤ pos (slice_index quants (index_of n zigzag))
