@@ -3,4 +3,4 @@ use Rattle.test_parts.specs.Desks.{IsReady}
 use Rattle.test_parts.proofs.base.desks.real.Given as goal
 
 abbrev pub invariant-loop-field : goal.invariant-loop-field
-invariant-loop-field l = IsReady l.ready (std_state l.desk.told)
+invariant-loop-field l = IsReady l.ready (std_state l.desk.reported)
