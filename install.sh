@@ -19,9 +19,9 @@ for bash, zsh and fish. PREFIX/share/jpgsuite/installed lists all of it, for --u
 A file that is there already and isn't of jpgsuite is never replaced: nothing is installed then.
 At the end the installed jpegtran rotates example/colour.jpg, and the status is 1 unless that gives example/turned.jpg.
 
-Without --cpu the program is built for x86-64-v2, its crates are proved side by side, and what was proved on this machine
-before, also by .ci/run, isn't proved again. With --cpu x86-64-v3 (vectors of 256 bits: 3 to 9 % less time) all crates are
-proved, one after the other. A program ends with status 127 where the processor lacks something.
+The crates are proved side by side, and what was proved on this machine before, also by .ci/run, isn't proved again. With
+--cpu x86-64-v3 (vectors of 256 bits: 3 to 9 % less time) the program is then built once more for it, which takes about two
+minutes. A program ends with status 127 where the processor lacks something.
 
 It needs rt, the command of the Rattle kit ($kits), on PATH. What rt prints
 goes to crates/jpg_suite/out/install.log.
@@ -157,34 +157,21 @@ show_crates() {
     done
 }
 
-# Reads what rt run prints, and writes all of it to a log; shows the number and the name of each crate as it begins, and then
-# how many functions were proved. rt says nothing of a crate that is proved already.
-show_run() {
-    local line name number crate="" since=0
-    while IFS= read -r line; do
-        printf '%s\n' "$line" >> "$1"
-        case $line in
-        "rt: chose --jobs "*" for "*)
-            [ -z "$crate" ] || echo
-            crate=${line##* for }
-            since=$SECONDS
-            number=0
-            for name in "${order[@]}"; do
-                number=$((number + 1))
-                [ "$name" != "$crate" ] || break
-            done
-            printf '  %s of %s: %s ..' "$number" "${#order[@]}" "$crate"
-            ;;
-        "logic=proved functions="*)
-            number=${line#logic=proved functions=}
-            [ -z "$crate" ] || printf ' %s functions proved, %s s\n' "${number%% *}" "$((SECONDS - since))"
-            crate=""
-            ;;
-        "rt: waiting for "* | "rt: "*": another copy of the repository "*) printf '  %s\n' "${line#rt: }" ;;
-        "rt: nothing has changed since "*) echo "  nothing has changed since it was proved and built" ;;
-        esac
+# Builds the program for another processor in a repository where rt ci has proved it, with the commands by which rt builds one:
+# what was proved says nothing of processors.
+build_for() {
+    local name kit libraries=()
+    kit=$(dirname -- "$(dirname -- "$(readlink -f -- "$(command -v rt)")")")
+    for name in "${order[@]}"; do
+        [ ! -d "$1/crates/$name/out/rlib" ] || libraries+=(-L "dependency=../$name/out/rlib")
     done
-    [ -z "$crate" ] || echo " not proved"
+    cd "$1/crates/jpg_suite" || return
+    "$kit/bin/rattle" build --crate-name jpg_suite src/main.rt --cpu="$cpu" \
+        --extern jpg_cli=../jpg_cli/out/rlib/jpg_cli.rlib "${libraries[@]}" \
+        --extern std="$kit/rlibs/std.rlib" -L dependency="$kit/rlibs" --antt-project "$kit/rattle/logic/antt-project.json" \
+        --logic-built "$kit/logic_built" --toolchain "$kit/toolchain" -o out/jpg_suite.o &&
+        "$kit/bin/rattle-link" --target x86_64-unknown-linux-gnu --toolchain "$kit/toolchain" -o out/jpg_suite out/jpg_suite.o \
+            "$kit/c/libos_c.a" "$kit/c/liblibc_c.a"
 }
 
 # Proves and builds the program, and runs it once, on the input that is stored with it.
@@ -204,16 +191,16 @@ build() {
     : > "$log"
     echo "proving the ${#order[@]} crates of jpgsuite with $found (what an earlier run proved isn't proved again), for $cpu"
     echo "log: $log"
-    if [ "$cpu" = x86-64-v2 ]; then
-        # Side by side, and what another run on this machine proved is taken, also one of .ci/run.
-        copy_crates "$work/crates"
-        (cd "$work/crates" && rt ci 2>&1) | show_crates "$log" || log_failed
-        cp "$work/crates/$program" "$program"
-        "$program" "${words[@]}" < crates/jpg_suite/stdin > "$work/answer" || fail "$program failed on crates/jpg_suite/stdin"
-    else
+    # Side by side, and what another run on this machine proved is taken, also one of .ci/run.
+    copy_crates "$work/crates"
+    (cd "$work/crates" && rt ci 2>&1) | show_crates "$log" || log_failed
+    if [ "$cpu" != x86-64-v2 ]; then
         # rt ci builds for x86-64-v2 alone.
-        (cd crates/jpg_suite && rt run --cpu="$cpu" -- "${words[@]}" < stdin 2>&1 > "$work/answer") | show_run "$log" || log_failed
+        echo "  building the program for $cpu, after $SECONDS s; that takes about two minutes"
+        (build_for "$work/crates") >> "$log" 2>&1 || log_failed
     fi
+    cp "$work/crates/$program" "$program"
+    "$program" "${words[@]}" < crates/jpg_suite/stdin > "$work/answer" || fail "$program failed on crates/jpg_suite/stdin"
 }
 
 # Shows what a failed build printed.
