@@ -4,6 +4,7 @@ pub mod Going
 pub mod ItemBytes
 pub mod Keeping
 pub mod Leaving
+pub mod LeftOut
 pub mod PictureSteps
 pub mod PieceSteps
 pub mod ReaderFed

@@ -11,7 +11,7 @@ pub use jpg_base::{
 pub use jpg_coefs::{BlockOrder, BlockView, Coefs};
 pub use jpg_markers::{Jfif, Kept, KeptList, KeptRest, OutHead};
 pub use jpg_scans::Script;
-pub use laws::rows_are_due_in_order;
+pub use laws::{no_file_is_left_out, rows_are_due_in_order};
 pub use read::ends::End;
 pub use read::file::FileWork;
 pub use read::first_header::{Head, colours, head_of};
