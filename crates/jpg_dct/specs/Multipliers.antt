@@ -6,6 +6,7 @@ use Rattle.jpg_spec_image.specs.Dct.{number_at}
 pub record Multiplies (q : ℕ) (factor : ℤ) (limit : ℕ) : Type 0 where
   pub few : limit * q ≤ 1090
   pub is : 1 ≤ limit → factor ≡ pos q
+  pub most : (x : ℕ) → x ≤ 1024 → x * q ≤ 1090 → x ≤ limit
 
 -- 64 of them
 pub record AreMultipliers (quants : List ℕ) (factors : List ℤ) (limits : List ℕ) : Type 0 where

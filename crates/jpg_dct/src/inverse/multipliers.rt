@@ -66,7 +66,8 @@ fn multiplier_of(q: u16) -> Multiplier
 // Whether each coefficient is at most its limit.
 #[inline(always)]
 fn are_limited(given: &[i16; 64], limits: &[u16; 64]) -> bool
-    ensures { IsTrue result → AreLimited given.now limits.now }
+    ensures limited { IsTrue result → AreLimited given.now limits.now }
+    ensures always { AreLimited given.now limits.now → IsTrue result }
 {
     let mut large = false;
     for n in 0..64 {

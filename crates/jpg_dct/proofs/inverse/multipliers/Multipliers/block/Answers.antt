@@ -10,11 +10,11 @@ use Rattle.jpg_dct.proofs.inverse.multipliers.Multipliers.block.Goals.{After-pro
 -- the products are exact
 exact : (c : After-products-products) → c.products-products.result ≡ scaled c.self.inside.quants c.args.given.now
 exact c =
-    products_are c.args.given.now c.products-products.result c.self.invariant (c.are_limited.ensures c.if-are_limited.true) c.products-products.ensures.long
+    products_are c.args.given.now c.products-products.result c.self.invariant (c.are_limited.ensures.limited c.if-are_limited.true) c.products-products.ensures.long
     c.products-products.ensures.at
 
 few : (c : After-products-products) → All (λ x. nat_abs x ≤ 1090) c.products-products.result
-few c = subst (λ (xs : List ℤ). All (λ x. nat_abs x ≤ 1090) xs) (sym (exact c)) (products_small c.args.given.now c.self.invariant (c.are_limited.ensures c.if-are_limited.true))
+few c = subst (λ (xs : List ℤ). All (λ x. nat_abs x ≤ 1090) xs) (sym (exact c)) (products_small c.args.given.now c.self.invariant (c.are_limited.ensures.limited c.if-are_limited.true))
 
 pub in_order-requires : goal.in_order-requires
 in_order-requires c = few (goal.at.in_order-requires c).After-products-products
