@@ -1,5 +1,5 @@
 -- Bytes that only continue what a reader of segments was given, and a complete segment at once.
-use Rattle.std.proofs.Common.{◌≡◌, ℕ, zero, suc, ◌+◌, ◌-◌, ◌<◌, ◌≤◌, Bool, true, false, cond, ◌==◌, List, [], ◌∷◌, ◌++◌, length, take, drop, get_or, replicate, Option, None, Some, Result, Ok, Err, refl, sym, ap, ◌∙◌, subst, arith}
+use Rattle.std.proofs.Common.{◌≡◌, ℕ, zero, suc, ◌+◌, ◌-◌, ◌/◌, ◌%◌, ◌<◌, ◌≤◌, Bool, true, false, cond, ◌==◌, List, [], ◌∷◌, ◌++◌, length, take, drop, get_or, replicate, Option, None, Some, Result, Ok, Err, refl, sym, ap, ◌∙◌, subst, arith, ◌⊎◌, ⊎_elim}
 use Rattle.std.proofs.lemmas.List.{append_assoc, append-nil, length-append, length-drop, length-take-le, replicate-append-replicate, take-append-drop, take-replicate, take_all, take_more}
 use Rattle.std.proofs.lemmas.Bool.{eq-eqb, eqb-true}
 use Rattle.std.proofs.Math.Dec.{eqb}
@@ -14,7 +14,7 @@ use Rattle.jpg_markers.specs.declared.seen.Seen.{Seen}
 use Rattle.jpg_markers.specs.declared.segments.Phase.{Phase}
 use Rattle.jpg_markers.specs.declared.segments.Phase.TheVariants as phase
 use Rattle.jpg_markers.specs.Seen.{Leaves}
-use Rattle.jpg_markers.specs.Reading.{Reading, AtPhase, RepresentsSegments, Continues, IsSized, MayFollow, PassesParts, PassesSegment, PassesSome, continued, due_of, filled, with_contents, with_taken}
+use Rattle.jpg_markers.specs.Reading.{Reading, AtPhase, RepresentsSegments, Continues, IsSized, MayFollow, PassesParts, PassesSegment, PassesSome, continued, due_of, filled, HasNoSegment, with_contents, with_taken}
 use Rattle.jpg_markers.proofs.Taking.{at_is, content_more, contents_more, fill_again, further, spelled}
 use Rattle.jpg_base.proofs.FedPiece.{take_both}
 
@@ -210,6 +210,57 @@ pub rest_sized : (bytes : List ℕ) (fill code : ℕ) (contents : List ℕ) → 
 rest_sized bytes fill code contents is =
     let left = length-drop fill bytes in
     subst (λ (b : List ℕ). IsSized code contents b) (take_all (length bytes - fill) (drop fill bytes) (omega (arith, left))) is
+
+-- NO SEGMENT at the front of some bytes
+filled_before : (n c : ℕ) (xs : List ℕ) → (c ≡ 255 → ⊥) → filled (replicate n 255 ++ c ∷ xs) ≡ n
+unfolding filled
+filled_before (suc n) c xs other = ap suc (filled_before n c xs other)
+filled_before zero c xs other = by (c == 255) refl
+  where
+    by : (b : Bool) → (c == 255) ≡ b → filled (c ∷ xs) ≡ 0
+    by true e = absurd (other (same_of c 255 e))
+    by false e = rw e refl
+
+after_fill : (n b : ℕ) (xs : List ℕ) → drop n (replicate n b ++ xs) ≡ xs
+after_fill zero b xs = refl
+after_fill (suc n) b xs = after_fill n b xs
+
+-- where one is complete, fill bytes are there, and its code, its length and its contents after them
+pub segment_sized : (bytes : List ℕ) (code : ℕ) (contents : List ℕ) (n : ℕ) → SpellsSegment code contents (take n bytes) → (1 ≤ filled bytes) × (code ≡ 0 → ⊥) × IsSized code contents (drop (filled bytes) bytes)
+segment_sized bytes code contents n (marker, (fill, is, good), short, cut) =
+    let size = length contents + 2 in
+    let rest = drop n bytes in
+    let high = size / 256 % 256 in
+    let low = size % 256 in
+    let body : List ℕ = high ∷ low ∷ (contents ++ rest) in
+    let all : bytes ≡ replicate {A = ℕ} (suc fill) 255 ++ code ∷ body =
+    sym (take-append-drop n bytes) ∙ ap (λ (l : List ℕ). l ++ rest) cut ∙ append_assoc (marker ++ high ∷ low ∷ []) contents rest ∙ append_assoc marker (high ∷ low ∷ []) (contents ++ rest)
+    ∙ ap (λ (l : List ℕ). l ++ body) is ∙ append_assoc (replicate {A = ℕ} (suc fill) 255) (code ∷ []) body in
+    let count : filled bytes ≡ suc fill = ap (λ (l : List ℕ). filled l) all ∙ filled_before (suc fill) code body good.1 in
+    let behind : drop (filled bytes) bytes ≡ code ∷ body =
+    ap (λ (k : ℕ). drop k bytes) count ∙ ap (λ (l : List ℕ). drop (suc fill) l) all ∙ after_fill (suc fill) 255 (code ∷ body) in
+    let two : size ≡ two_bytes high low = omega (arith, short) in
+    let h : high < 256 = omega arith in
+    let l : low < 256 = omega arith in
+    (omega (arith, count), good.0, (high, low, rest, behind, h, l, two))
+
+pub none_sized : (bytes : List ℕ) (fill : ℕ) → fill ≡ filled bytes → ((code : ℕ) (contents : List ℕ) → IsSized code contents (take (length bytes - fill) (drop fill bytes)) → ⊥) → HasNoSegment bytes
+none_sized bytes fill is none code contents n s =
+    let left = length-drop fill bytes in
+    let same : drop (filled bytes) bytes ≡ take (length bytes - fill) (drop fill bytes) =
+    ap (λ (k : ℕ). drop k bytes) (sym is) ∙ sym (take_all (length bytes - fill) (drop fill bytes) (omega (arith, left))) in
+    none code contents (subst (λ (b : List ℕ). IsSized code contents b) same (segment_sized bytes code contents n s).2)
+
+-- what is there has no FF before it, or no code of a marker
+pub none_marked : (bytes : List ℕ) (fill d : ℕ) (ys : List ℕ) → fill ≡ filled bytes → IsSized d ys (drop fill bytes) → (fill ≡ 0) ⊎ (d ≡ 0) → HasNoSegment bytes
+none_marked bytes fill d ys is found none code contents n s =
+    let (some, good, sized) = segment_sized bytes code contents n s in
+    let same : drop (filled bytes) bytes ≡ drop fill bytes = ap (λ (k : ℕ). drop k bytes) (sym is) in
+    ⊎_elim (λ (a : fill ≡ 0). omega (arith, a, is, some)) (λ (b : d ≡ 0). good (code_once code d contents ys (drop fill bytes) (subst (λ (l : List ℕ). IsSized code contents l) same sized) found ∙ b)) none
+  where
+    code_once : (c d : ℕ) (xs ys bytes : List ℕ) → IsSized c xs bytes → IsSized d ys bytes → c ≡ d
+    code_once c d xs ys bytes (high, low, rest, cut, h, l, long) (high2, low2, rest2, cut2, h2, l2, long2) =
+        (heads c d (high ∷ low ∷ (xs ++ rest)) (high2 ∷ low2 ∷ (ys ++ rest2)) (sym cut ∙ cut2)).0
 
 pub fills_continue : (r : Reading) (piece : List ℕ) (n : ℕ) → r.phase ≡ phase.Fill → n ≡ filled piece → Continues r piece (Ok n) (with_taken r n)
 fills_continue r piece n e is =

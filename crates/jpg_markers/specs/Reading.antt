@@ -215,6 +215,10 @@ IsSized code contents bytes =
     (high : ℕ) × (low : ℕ) × (rest : List ℕ) × (bytes ≡ code ∷ high ∷ low ∷ (contents ++ rest)) × (high < 256) × (low < 256)
     × (length contents + 2 ≡ two_bytes high low)
 
+-- no segment is complete in the bytes from the first on
+abbrev pub HasNoSegment : List ℕ → Type 0
+HasNoSegment bytes = (code : ℕ) (contents : List ℕ) (n : ℕ) → SpellsSegment code contents (take n bytes) → ⊥
+
 -- A COMPLETE SEGMENT at once: it may follow what the reader was given, which is between segments
 pub record MayFollow (r : Reading) (code : ℕ) (contents : List ℕ) : Type 0 where
   pub between : r.phase ≡ phase.Between

@@ -207,7 +207,8 @@ impl SegmentReader {
     /// Whether this segment may follow: the reader is between segments, the segment's code may occur here and isn't
     /// EOI, and the kept markers are within their limit with it.
     pub fn allows(&self, segment: &WholeSegment<'_>) -> bool
-        ensures { result ≡ true → MayFollow (reading_of self.now) segment.now.code segment.now.contents.now }
+        ensures may { result ≡ true → MayFollow (reading_of self.now) segment.now.code segment.now.contents.now }
+        ensures always { (reading_of self.now).stop ≡ None → MayFollow (reading_of self.now) segment.now.code segment.now.contents.now → result ≡ true }
     {
         if self.stop.is_some() || segment.code == EOI {
             return false;

@@ -1,7 +1,7 @@
 //! A segment that is complete at the front of some bytes (T.81, B.1.1.4).
-ghost use Rattle.std.specs.Prelude.{◌≡◌, ◌≤◌, length, replicate, take, IfSome};
+ghost use Rattle.std.specs.Prelude.{◌≡◌, ◌≤◌, ℕ, List, length, replicate, take, IfSome, IfNone};
 ghost use Rattle.jpg_spec.specs.Markers.{SpellsSegment};
-ghost use Rattle.jpg_markers.specs.Reading.{filled, IsSized};
+ghost use Rattle.jpg_markers.specs.Reading.{filled, HasNoSegment, IsSized};
 
 use byteorder::{BigEndian, ByteOrder};
 
@@ -46,7 +46,8 @@ pub fn fill_length(bytes: &[u8]) -> usize
 
 // The code and the contents of a segment after the FF of its marker, if it is complete; the code is any byte.
 fn sized_at(bytes: &[u8]) -> Option<(u8, &[u8])>
-    ensures { IfSome result (λ s. IsSized s.0 s.1.now bytes.now) }
+    ensures sized { IfSome result (λ s. IsSized s.0 s.1.now bytes.now) }
+    ensures none { IfNone result ((code : ℕ) (contents : List ℕ) → IsSized code contents bytes.now → ⊥) }
 {
     let [code, high, low, rest @ ..] = bytes else {
         return None;
@@ -62,6 +63,7 @@ fn sized_at(bytes: &[u8]) -> Option<(u8, &[u8])>
 pub fn segment_at(bytes: &[u8]) -> Option<WholeSegment<'_>>
     ensures spelled { IfSome result (λ s. SpellsSegment s.code s.contents.now (take s.length bytes.now)) }
     ensures within { IfSome result (λ s. (1 ≤ s.length) × (s.length ≤ length bytes.now)) }
+    ensures none { IfNone result (HasNoSegment bytes.now) }
 {
     let fill = fill_length(bytes);
     let Some((code, contents)) = sized_at(&bytes[fill..]) else {
