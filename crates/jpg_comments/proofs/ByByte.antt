@@ -1,20 +1,19 @@
 -- The text of the comments, byte by byte.
-use Rattle.std.proofs.Common.{◌≡◌, ℕ, ◌+◌, ◌<◌, Bool, true, false, not, ◌||◌, ◌==◌, List, [], ◌∷◌, ◌++◌, length, take, Ok, Err, refl, sym, ap, ◌∙◌, subst, arith, inl, inr, Result}
+use Rattle.std.proofs.Common.{◌≡◌, ℕ, ◌+◌, ◌<◌, Bool, true, false, not, ◌||◌, ◌==◌, if◌then◌else◌, List, [], ◌∷◌, ◌++◌, length, take, Ok, Err, refl, sym, ap, ◌∙◌, subst, arith, inl, inr, Result}
 use Rattle.std.proofs.lemmas.Bool.Decides.{nat_tests}
 use Rattle.std.proofs.lemmas.List.{append-nil, length-append, take_all}
 use Rattle.std.proofs.Math.Seq.{take-append-add}
 use Rattle.jpg_spec.specs.Markers.{Segment, kept_rule, has_scan, SpellsSegments, Pass, Reached, at_soi, at_frame, at_eoi, at_segment, at_fault, at_part, Reaches}
-use Rattle.jpg_spec_write.specs.CommentText.{comments_text, IsReadWhole}
+use Rattle.jpg_spec_write.specs.CommentText.{comments_text, printed, IsReadWhole, RevealsNothing}
 use Rattle.jpg_spec.specs.declared.frame.Limits.{Limits}
 use Rattle.jpg_base.specs.declared.stop.Stop.{Stop}
 use Rattle.jpg_base.specs.declared.stop.Stop.TheVariants as stop
 use Rattle.jpg_markers.specs.declared.segments.Phase.TheVariants as phase
 use Rattle.jpg_markers.specs.declared.segments.SegStep.TheVariants as step
-use Rattle.jpg_markers.specs.Reading.{Reading, AtPhase, RepresentsSegments, RevealsAfter, Comes, PassesSome}
+use Rattle.jpg_markers.specs.Reading.{Reading, AtPhase, RepresentsSegments, RevealsAfter, Comes, HasMemory, PassesSome}
 use Rattle.jpg_comments.specs.SegmentsSoFar.{IsBegun, Appends}
 use Rattle.jpg_comments.specs.Printing.{HoldsWhole, HasPrinted, PrintsSegment, due_text, StopsPrinting, AfterPrinted}
 use Rattle.jpg_comments.proofs.Taken.{OneMore, Tells, nothing_first, taken_on, taken_some, fault_shown, within, begun}
-use Rattle.jpg_spec.proofs.Basics.Common.{whole_front}
 
 -- WHERE A FILE IS COMPLETE: at EOI, and at the end of a scan header
 
@@ -48,6 +47,17 @@ pub printed_some : (limits : Limits) (r next : Reading) (bytes text piece : List
 printed_some limits r next bytes text piece n h room same some passes =
     (h.0, taken_some limits (HoldsWhole limits) (reading_tells limits) r next bytes piece n h.0 refl h.1 (let is = ap (λ (l : Limits). l.input) h.1.limited in omega (arith, room, some, is)) same some passes, h.2, h.3)
 
+-- A segment that is printed isn't the header of a scan.
+no_scan : (code : ℕ) (contents : List ℕ) (n : ℕ) → n < length (due_text code contents) → not (code == 0xda) ≡ true
+no_scan code contents n less = by (code == 0xfe) refl (code == 0xda) refl
+  where
+    by : (b : Bool) → (code == 0xfe) ≡ b → (d : Bool) → (code == 0xda) ≡ d → not (code == 0xda) ≡ true
+    by b e false d = ap not d
+    by true e true d = absurd (grind (arith, nat_tests, e, d))
+    by false e true d =
+        let none : due_text code contents ≡ [] = ap (λ (x : Bool). if x then printed contents else []) e in
+        let size = ap length none in absurd (omega (arith, less, size))
+
 -- A BYTE
 
 module _ (limits : Limits) (r next : Reading) (bytes text : List ℕ) (byte : ℕ) (h : HasPrinted limits bytes text r) (m : OneMore r next) where
@@ -57,22 +67,15 @@ module _ (limits : Limits) (r next : Reading) (bytes text : List ℕ) (byte : �
   printed_on x going reaches stands =
       (h.0, taken_on limits (HoldsWhole limits) (reading_tells limits) r next bytes byte h.0 h.0 x h.1 m going reaches stands, h.2, h.3)
 
-  -- a fault, or no memory
-  pub printed_stop : (e : Stop) → Comes (bytes ++ byte ∷ []) h.0 (Err e) next → StopsPrinting limits (bytes ++ byte ∷ []) text e
-  printed_stop (stop.Fault f) comes =
+  -- a fault; there is memory for a segment
+  pub printed_stop : (e : Stop) → HasMemory (Err e) → Comes (bytes ++ byte ∷ []) h.0 (Err e) next → StopsPrinting limits (bytes ++ byte ∷ []) text e
+  printed_stop (stop.Fault f) has comes =
       let all = bytes ++ byte ∷ [] in
       let shown = fault_shown limits (HoldsWhole limits) r next bytes byte h.0 f h.1 m comes.0 comes.2 in
       let at = shown.0 in
       let reveals = subst (λ l. RevealsAfter (kept_rule l) h.0 f.fault all) (m.same ∙ h.1.limited) comes.1 in
       (shown.1, (h.0, inl (subst (λ l. RevealsAfter (kept_rule limits) h.0 f.fault l) (sym (take_all f.at all (omega (arith, at)))) reveals), h.3))
-  printed_stop stop.NoMemory comes =
-      let all = comments_text h.0 in (
-        length all,
-        length bytes,
-        h.0,
-        subst (λ l. IsBegun (kept_rule limits) l h.0) (sym (whole_front bytes (byte ∷ []))) (begun limits r bytes h.0 h.1.limited h.1.stands),
-        h.3 ∙ sym (take_all (length all) all (omega arith)),
-      )
+  printed_stop stop.NoMemory has comes = absurd has
 
   -- A SEGMENT
 
@@ -113,15 +116,21 @@ module _ (limits : Limits) (r next : Reading) (bytes text : List ℕ) (byte : �
   printed_whole old new (Err stop.NoMemory) between comes prints =
       let due = due_text next.code next.contents in
       let all = bytes ++ byte ∷ [] in
-      let known = comments_text h.0 in (
+      let known = comments_text h.0 in
+      let more = (next.code, next.contents) ∷ h.0 in
+      let less = prints.2 in
+      let whole = sym (take_all (length all) all (omega arith)) in
+      let on = taken_on limits (HoldsWhole limits) (reading_tells limits) r next bytes byte h.0 more (at_segment (next.code, next.contents)) h.1 m (no_scan next.code next.contents prints.0 less) comes.0 comes.1 in (
         take prints.0 due,
         prints.1,
-        (
-          length known + prints.0,
-          length all,
-          (next.code, next.contents) ∷ h.0,
-          subst (λ l. IsBegun (kept_rule limits) l ((next.code, next.contents) ∷ h.0)) (sym (take_all (length all) all (omega arith)))
-              (begun limits next all ((next.code, next.contents) ∷ h.0) (m.same ∙ h.1.limited) comes.1),
-          ap (λ l. l ++ take prints.0 due) h.3 ∙ sym (take-append-add known due prints.0),
-        ),
+        record {
+          count = length known + prints.0;
+          front = length all;
+          before = more;
+          within = omega arith;
+          nothing = subst (λ l. RevealsNothing limits (HoldsWhole limits) l) whole on.nothing;
+          begun = subst (λ l. IsBegun (kept_rule limits) l more) whole (begun limits next all more (m.same ∙ h.1.limited) comes.1);
+          is = ap (λ l. l ++ take prints.0 due) h.3 ∙ sym (take-append-add known due prints.0);
+          less = omega (arith, less, length-append known due);
+        },
       )

@@ -1,7 +1,8 @@
 -- The text of the comments, piece by piece.
-use Rattle.std.proofs.Common.{◌≡◌, ℕ, ◌+◌, ◌<◌, ◌≤◌, List, [], ◌∷◌, ◌++◌, length, take, drop, min, get_or, Ok, Err, sym, ap, ◌∙◌, subst, arith, inl, inr, Result}
-use Rattle.std.proofs.lemmas.List.{append_assoc, take_all, take_min, take_more, take-append-le}
+use Rattle.std.proofs.Common.{◌≡◌, ℕ, ◌+◌, ◌<◌, ◌≤◌, true, List, [], ◌∷◌, ◌++◌, length, take, drop, get_or, Ok, Err, sym, ap, ◌∙◌, subst, arith, inl, inr, Result}
+use Rattle.std.proofs.lemmas.List.{append_assoc, length-append, take_all, take_more, take-append-le}
 use Rattle.jpg_spec.specs.Markers.{kept_rule}
+use Rattle.jpg_spec_write.specs.CommentText.{RevealsNothing}
 use Rattle.jpg_spec.specs.declared.frame.Limits.{Limits}
 use Rattle.jpg_spec.specs.declared.fault.Fault.TheVariants.{InputTooLong}
 use Rattle.jpg_base.specs.declared.stop.Fed.{Fed}
@@ -16,7 +17,7 @@ use Rattle.jpg_comments.specs.ReadComments.{HasRead, AfterFeed}
 use Rattle.jpg_comments.specs.declared.comments.Comments.{Comments}
 use Rattle.jpg_comments.specs.declared.comments.Printing.{Printing}
 use Rattle.jpg_comments.proofs.Taken.{appends_as, long_shown, fault_remains, fault_within, begun}
-use Rattle.jpg_spec.proofs.Basics.Common.{joined}
+use Rattle.jpg_spec.proofs.Basics.Common.{clash, joined}
 
 -- some bytes after others, and one more
 pub one_more : (before bytes some : List ℕ) (n : ℕ) → n < length some → ((before ++ bytes) ++ take n some) ++ get_or some n 0 ∷ [] ≡ before ++ (bytes ++ take (n + 1) some)
@@ -30,8 +31,18 @@ printed_remains limits bytes rest text (stop.Fault f) h = (
   subst (λ l. PrintsBefore limits l f.fault text) (sym (take-append-le f.at bytes rest (fault_within limits (HoldsWhole limits) bytes f h.0))) h.1,
 )
 printed_remains limits bytes rest text stop.NoMemory h =
-    let n = min h.1 (length bytes) in
-    (h.0, n, h.2, subst (λ l. IsBegun (kept_rule limits) l h.2) (sym (take-append-le n bytes rest (omega arith) ∙ take_min h.1 bytes)) h.3, h.4)
+    let few = h.within in
+    let same = sym (take-append-le h.front bytes rest few) in
+    record {
+      count = h.count;
+      front = h.front;
+      before = h.before;
+      within = omega (arith, few, length-append bytes rest);
+      nothing = subst (λ l. RevealsNothing limits (HoldsWhole limits) l) same h.nothing;
+      begun = subst (λ l. IsBegun (kept_rule limits) l h.before) same h.begun;
+      is = h.is;
+      less = h.less;
+    }
 
 -- as many bytes as may be taken
 pub printed_long : (limits : Limits) (bytes text : List ℕ) (r : Reading) → limits.input ≤ r.taken → HasPrinted limits bytes text r → StopsPrinting limits bytes text (stop.Fault (record { fault = InputTooLong; at = limits.input }))
@@ -54,10 +65,16 @@ module _ (bytes piece text had out : List ℕ) where
       appends_as (λ t. StopsPrinting limits front t e) (λ t. StopsPrinting limits (bytes ++ piece) t e) text had out h
       (λ t s. subst (λ l. StopsPrinting limits l t e) (sym (joined bytes piece n)) (printed_remains limits front (drop n piece) t e s))
 
+  -- a stop in a piece, as it is returned
+  stopped : (next : Comments) (e : Stop) → Appends (λ t. StopsPrinting next.limits (bytes ++ piece) t e) text had out → Appends (λ all. AfterFeed bytes piece all (Err e) next) text had out
+  stopped next (stop.Fault f) h = h
+  stopped next stop.NoMemory h =
+      appends_as (λ t. StopsPrinting next.limits (bytes ++ piece) t stop.NoMemory) (λ all. AfterFeed bytes piece all (Err stop.NoMemory) next) text had out h (λ t s. inr s)
+
   -- THE ANSWER to a piece
 
   pub comments_fed : (p : Printing) (old next : Comments) (result answer : Result Fed Stop) → result ≡ answer → HasRead bytes text old
-      → next.limits ≡ old.limits → IfMore answer ((next.stop ≡ old.stop) × (next.done ≡ old.done))
+      → next.limits ≡ old.limits → IfMore answer ((next.stop ≡ old.stop) × (next.done ≡ old.done) × (next.ready ≡ true))
       → FeedsPiece (printing p) (old.reader, had) piece result (next.reader, out) → Appends (λ all. AfterFeed bytes piece all result next) text had out
   comments_fed p old next result answer is h limits more feeds =
       subst (λ r. Appends (λ all. AfterFeed bytes piece all r next) text had out) (sym is) (by answer more (subst (λ r. FeedsPiece (printing p) (old.reader, had) piece r (next.reader, out)) is feeds))
@@ -65,19 +82,20 @@ module _ (bytes piece text had out : List ℕ) where
       was : HasPrinted next.limits bytes text (reading_of old.reader)
       was = subst (λ l. HasPrinted l bytes text (reading_of old.reader)) (sym limits) h.3
 
-      by : (r : Result Fed Stop) → IfMore r ((next.stop ≡ old.stop) × (next.done ≡ old.done)) → FeedsPiece (printing p) (old.reader, had) piece r (next.reader, out) → Appends (λ all. AfterFeed bytes piece all r next) text had out
-      by (Ok fed.More) same ((kept, most, now), room) =
+      by : (r : Result Fed Stop) → IfMore r ((next.stop ≡ old.stop) × (next.done ≡ old.done) × (next.ready ≡ true)) → FeedsPiece (printing p) (old.reader, had) piece r (next.reader, out) → Appends (λ all. AfterFeed bytes piece all r next) text had out
+      by (Ok fed.More) same ((kept, most, fits, now), room) =
           let k = now next.limits bytes text was in
           let taken = k.2.1.taken in
           let input = ap (λ (l : Limits). l.input) k.2.1.limited in
-          (k.0, k.1, (same.0 ∙ h.0, same.1 ∙ h.1, omega (arith, taken, room, most, input), k.2))
-      by (Ok (fed.Done used)) same ((kept, most, now), some, few) = let k = now next.limits bytes text was in (k.0, k.1, (k.2, some, few))
-      by (Err e) same (n, few, inl (kept, most, now)) = front_stops next.limits n e (now next.limits bytes text was)
-      by (Err e) same (n, few, inr ((kept, most, now), full)) =
+          (k.0, k.1, (same.0 ∙ h.0, same.1 ∙ h.1, omega (arith, taken, room, most, input), k.2, λ f. absurd (clash next.ready same.2 f)))
+      by (Ok (fed.Done used)) same ((kept, most, fits, now), some, few) = let k = now next.limits bytes text was in (k.0, k.1, (k.2, some, few))
+      by (Err e) same (n, few, inl (kept, most, fits, now)) = stopped next e (front_stops next.limits n e (now next.limits bytes text was))
+      by (Err e) same (n, few, inr ((kept, most, fits, now), full)) =
           let front = bytes ++ take n piece in
           let r = reading_of next.reader in
-          front_stops next.limits n e
+          stopped next e
+          (front_stops next.limits n e
           (appends_as (λ t. HasPrinted next.limits front t r) (λ t. StopsPrinting next.limits front t e) text had out (now next.limits bytes text was)
           (λ t s.
           (let input = sym most ∙ ap (λ (l : Limits). l.input) s.1.limited in
-          subst (λ x. StopsPrinting next.limits front t x) (sym (full.1 ∙ ap (λ m. stop.Fault (record { fault = InputTooLong; at = m })) input)) (printed_long next.limits front t r (subst (λ m. m ≤ r.taken) input full.0) s))))
+          subst (λ x. StopsPrinting next.limits front t x) (sym (full.1 ∙ ap (λ m. stop.Fault (record { fault = InputTooLong; at = m })) input)) (printed_long next.limits front t r (subst (λ m. m ≤ r.taken) input full.0) s)))))

@@ -17,7 +17,7 @@ use Rattle.jpg_base.specs.declared.stop.Stop.TheVariants as stop
 use Rattle.jpg_markers.specs.declared.segments.Phase.{Phase}
 use Rattle.jpg_markers.specs.declared.segments.Phase.TheVariants as phase
 use Rattle.jpg_markers.specs.declared.segments.SegStep.TheVariants as step
-use Rattle.jpg_markers.specs.Reading.{Reading, AtPhase, RepresentsSegments, EndsAtEoi, Comes, PassesSome}
+use Rattle.jpg_markers.specs.Reading.{Reading, AtPhase, RepresentsSegments, EndsAtEoi, Comes, HasMemory, PassesSome}
 use Rattle.jpg_comments.specs.Inserting.{HoldsHead, copied_head, copied_segment, HasKept, IsAtFrame, StopsHead}
 use Rattle.jpg_comments.proofs.Taken.{OneMore, Tells, taken_on, taken_some, fault_shown, within, frame_or_not}
 
@@ -146,11 +146,11 @@ module _ (limits : Limits) (replace : Bool) (r : Reading) (bytes head : List ℕ
   kept_on next byte x m going reaches stands =
       (h.0, taken_on limits (HoldsHead limits) (head_tells limits) r next bytes byte h.0 h.0 x h.1 m going reaches stands, h.2, h.3)
 
-  -- a fault, or no memory
-  pub kept_stop : (next : Reading) (byte : ℕ) (e : Stop) → OneMore r next → Comes (bytes ++ byte ∷ []) h.0 (Err e) next
+  -- a fault; there is memory for a segment
+  pub kept_stop : (next : Reading) (byte : ℕ) (e : Stop) → OneMore r next → HasMemory (Err e) → Comes (bytes ++ byte ∷ []) h.0 (Err e) next
       → StopsHead limits (bytes ++ byte ∷ []) e
-  kept_stop next byte (stop.Fault f) m comes = (fault_shown limits (HoldsHead limits) r next bytes byte h.0 f h.1 m comes.0 comes.2).1
-  kept_stop next byte stop.NoMemory m comes = tt
+  kept_stop next byte (stop.Fault f) m has comes = (fault_shown limits (HoldsHead limits) r next bytes byte h.0 f h.1 m comes.0 comes.2).1
+  kept_stop next byte stop.NoMemory m has comes = absurd has
 
   -- EOI isn't allowed before the frame
   pub kept_eoi : (next : Reading) (all : List ℕ) → EndsAtEoi (kept_rule next.limits) h.0 all → ⊥
@@ -176,7 +176,13 @@ module _ (limits : Limits) (replace : Bool) (r : Reading) (bytes head : List ℕ
 
   -- A SEGMENT
 
-  -- with the last byte of a segment
+  -- with the last byte of a segment, if there is no memory to keep it
+  pub kept_short : (next : Reading) (byte : ℕ) → OneMore r next → Comes (bytes ++ byte ∷ []) h.0 (Ok step.Whole) next → StopsHead limits (bytes ++ byte ∷ []) stop.NoMemory
+  kept_short next byte m comes =
+      let on = taken_on limits (HoldsHead limits) (head_tells limits) r next bytes byte h.0 ((next.code, next.contents) ∷ h.0) (at_segment (next.code, next.contents)) h.1 m refl comes.0 comes.1 in
+      on.nothing
+
+  -- and if there is
   pub kept_whole : (next : Reading) (new : List ℕ) (byte : ℕ) → OneMore r next → next.phase ≡ phase.Between
       → Comes (bytes ++ byte ∷ []) h.0 (Ok step.Whole) next → (length next.contents ≤ 65533 → new ≡ head ++ copied_segment replace next.code next.contents)
       → HasKept limits replace (bytes ++ byte ∷ []) new next

@@ -12,21 +12,20 @@ use Rattle.jpg_base.specs.declared.stop.Stop.TheVariants as stop
 use Rattle.jpg_markers.specs.Reading.{Reading}
 use Rattle.jpg_comments.specs.Appending.{AppendsText}
 use Rattle.jpg_comments.specs.SegmentsSoFar.{Appends}
-use Rattle.jpg_comments.specs.Inserting.{HoldsHead, copied_head, IsAtFrame, StopsHead, CopiesRest, InsertsPart, InsertsUpTo}
-use Rattle.jpg_comments.proofs.Taken.{fault_remains}
+use Rattle.jpg_comments.specs.Inserting.{copied_head, IsAtFrame, CopiesRest, InsertsLess, InsertsToFault}
 use Rattle.jpg_spec.proofs.Basics.Common.{whole_front}
-
--- a stop before the marker remains, whatever follows
-pub head_stop_remains : (limits : Limits) (bytes rest : List ℕ) (e : Stop) → StopsHead limits bytes e → StopsHead limits (bytes ++ rest) e
-head_stop_remains limits bytes rest (stop.Fault f) shown = fault_remains limits (HoldsHead limits) bytes rest f shown
-head_stop_remains limits bytes rest stop.NoMemory shown = tt
 
 -- AFTER IT
 
--- what an answer of `copy` says of all bytes
+-- why it stops, of all bytes
+abbrev pub CopiesUpTo : Limits → List ℕ → Bool → List ℕ → List ℕ → Stop → Type 0
+CopiesUpTo limits comment replace bytes text (stop.Fault f) = InsertsToFault limits comment replace bytes text f
+CopiesUpTo limits comment replace bytes text stop.NoMemory = InsertsLess limits comment replace bytes text
+
+-- what an answer of `copy` says of them
 abbrev pub AfterCopy : Limits → List ℕ → Bool → List ℕ → List ℕ → Result ℕ Stop → Type 0
 AfterCopy limits comment replace bytes text (Ok n) = (n ≡ length bytes) × (length bytes < limits.input) × IsInserted limits bytes comment replace text
-AfterCopy limits comment replace bytes text (Err s) = InsertsUpTo limits comment replace bytes text s
+AfterCopy limits comment replace bytes text (Err s) = CopiesUpTo limits comment replace bytes text s
 
 abbrev pub whole_head : List ℕ → List ℕ → ℕ → List ℕ
 whole_head head segment code = head ++ segment ++ 255 ∷ code ∷ []
@@ -82,9 +81,19 @@ module _ (limits : Limits) (comment : List ℕ) (replace : Bool) where
       let fault = long_anyhow (bytes ++ rest) (text ++ take n rest) f copies.0 at long written in
       (take n rest, copies.3, (fault, inr (copies.0, subst (λ k. IsInserted limits (take k (bytes ++ rest)) comment replace (text ++ take n rest)) (sym at) written)))
   copied bytes text rest old new taken most (Err stop.NoMemory) same is least h copies =
-      let all = text ++ [] in
-      let same_text : all ≡ text = append-nil text in
-      ([], copies ∙ sym (append-nil old), inr (length text, length bytes, text, subst (λ l. IsInserted limits l comment replace text) (sym (whole_front bytes rest)) h, same_text ∙ sym (take_all (length text) text (omega arith))))
+      let all = bytes ++ rest in
+      let some = copies.1 in (
+        [],
+        copies.0 ∙ sym (append-nil old),
+        (
+          length text,
+          length all,
+          text ++ rest,
+          subst (λ l. IsInserted limits l comment replace (text ++ rest)) (sym (take_all (length all) all (omega arith))) (inserted_more bytes text rest h),
+          append-nil text ∙ sym (whole_front text rest),
+          omega (arith, some, length-append text rest),
+        ),
+      )
 
   -- THE HEAD, where its marker is there
 
@@ -102,6 +111,6 @@ module _ (limits : Limits) (comment : List ℕ) (replace : Bool) where
 
   -- if there is no memory, a first part of it was written
   pub head_part : (bytes rest whole old new : List ℕ) (e : NoMemory) → IsInserted limits bytes comment replace whole → AppendsText whole (Err e) old new
-      → Appends (λ all. InsertsPart limits comment replace (bytes ++ rest) all) [] old new
+      → Appends (λ all. InsertsLess limits comment replace (bytes ++ rest) all) [] old new
   head_part bytes rest whole old new e h part =
-      (take part.0 whole, part.1, inr (part.0, length bytes, whole, subst (λ l. IsInserted limits l comment replace whole) (sym (whole_front bytes rest)) h, refl))
+      (take part.0 whole, part.1, (part.0, length bytes, whole, subst (λ l. IsInserted limits l comment replace whole) (sym (whole_front bytes rest)) h, refl, part.2))

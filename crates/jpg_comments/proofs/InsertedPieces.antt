@@ -1,6 +1,8 @@
 -- A file with a comment inserted, piece by piece.
-use Rattle.std.proofs.Common.{◌≡◌, ℕ, ◌<◌, ◌≤◌, Bool, List, [], ◌++◌, length, take, drop, Option, Some, None, Ok, Err, refl, sym, ap, ◌∙◌, subst, arith, inl, inr, Result}
+use Rattle.std.proofs.Common.{◌≡◌, ℕ, ◌+◌, ◌<◌, ◌≤◌, Bool, List, [], ◌++◌, length, take, drop, Option, Some, None, Ok, Err, refl, sym, ap, ◌∙◌, subst, arith, inl, inr, Result}
+use Rattle.std.proofs.lemmas.List.{length-append, length-take-le}
 use Rattle.jpg_spec_write.specs.CommentText.{IsInserted, comment_segment}
+use Rattle.jpg_spec.specs.declared.fault.FaultAt.{FaultAt}
 use Rattle.jpg_spec.specs.declared.frame.Limits.{Limits}
 use Rattle.jpg_base.specs.declared.names.NoMemory.{NoMemory}
 use Rattle.jpg_base.specs.declared.stop.Fed.{Fed}
@@ -9,16 +11,16 @@ use Rattle.jpg_base.specs.declared.stop.Stop.{Stop}
 use Rattle.jpg_base.specs.declared.stop.Stop.TheVariants as stop
 use Rattle.jpg_markers.specs.Reading.{Reading, reading_of}
 use Rattle.jpg_comments.specs.Appending.{AppendsText}
-use Rattle.jpg_comments.specs.SegmentsSoFar.{Appends}
-use Rattle.jpg_comments.specs.Inserting.{HoldsHead, HasKept, StopsHead, KeepsPiece, keeping, AfterHeadPiece, CopiesRest, InsertsUpTo}
+use Rattle.jpg_comments.specs.SegmentsSoFar.{Appends, ShowsFault}
+use Rattle.jpg_comments.specs.Inserting.{HoldsHead, HasKept, HasStopped, StopsHead, StopsHeadIn, KeepsPiece, keeping, AfterHeadPiece, CopiesRest, InsertsLess, InsertsUpTo}
 use Rattle.jpg_comments.specs.WriteInserted.{StandsAt, HasInserted}
 use Rattle.jpg_comments.specs.declared.insert.Insert.{Insert}
 use Rattle.jpg_comments.specs.declared.insert.Keeping.{Keeping}
 use Rattle.jpg_markers.specs.declared.segments.SegmentReader.{SegmentReader}
 use Rattle.jpg_spec.specs.declared.fault.Fault.TheVariants.{InputTooLong}
 use Rattle.jpg_base.specs.Intake.{FeedsPiece}
-use Rattle.jpg_comments.proofs.Taken.{long_shown, appends_then}
-use Rattle.jpg_comments.proofs.HeadByPieces.{head_stop_remains, AfterCopy, copied, whole_head, head_inserted, head_part}
+use Rattle.jpg_comments.proofs.Taken.{long_shown, appends_as, appends_then, fault_remains}
+use Rattle.jpg_comments.proofs.HeadByPieces.{AfterCopy, CopiesUpTo, copied, whole_head, head_inserted, head_part}
 use Rattle.jpg_spec.proofs.Basics.Common.{joined}
 
 -- the invariant of a state, by its parts
@@ -27,6 +29,11 @@ StandsWith limits comment replace stop segment bytes text taken head r =
     (stop ≡ None) × (length bytes < limits.input) × (segment ≡ comment_segment comment) × StandsAt limits comment replace bytes text taken head r
 
 -- BEFORE THE FRAME HEADER'S MARKER
+
+-- some bytes were taken, and one more
+pub some_more : (bytes some : List ℕ) (n : ℕ) (r : Result Bool Stop) → n < length some → HasStopped r (bytes ++ take (n + 1) some)
+some_more bytes some n (Ok whole) less = tt
+some_more bytes some n (Err s) less = omega (arith, less, length-append bytes (take (n + 1) some), length-take-le (n + 1) some (omega (arith, less)))
 
 -- the answer to a piece
 abbrev pub head_answer : Result Fed Stop → Result (Option ℕ) Stop
@@ -38,29 +45,39 @@ pub head_fed : (k : Keeping) (old new : SegmentReader) (piece had head : List �
     → KeepsPiece k.replace (reading_of old) piece had (head_answer answer) head (reading_of new)
 head_fed k old new piece had head result answer is feeds limits bytes h = by answer (subst (λ r. FeedsPiece (keeping k) (old, had) piece r (new, head)) is feeds)
   where
-    front_stops : (n : ℕ) (e : Stop) → StopsHead limits (bytes ++ take n piece) e → StopsHead limits (bytes ++ piece) e
-    front_stops n e f = subst (λ l. StopsHead limits l e) (sym (joined bytes piece n)) (head_stop_remains limits (bytes ++ take n piece) (drop n piece) e f)
+    front_stops : (n : ℕ) (e : Stop) → n ≤ length piece → 1 ≤ length (take n piece) → StopsHead limits (bytes ++ take n piece) e → StopsHeadIn limits bytes piece e
+    front_stops n (stop.Fault f) few some s = subst (λ l. ShowsFault limits (HoldsHead limits) l f) (sym (joined bytes piece n)) (fault_remains limits (HoldsHead limits) (bytes ++ take n piece) (drop n piece) f s)
+    front_stops n stop.NoMemory few some s = (n, omega (arith, some, length-take-le n piece few), few, s)
+
+    at_limit : (n : ℕ) (f : FaultAt) → ShowsFault limits (HoldsHead limits) (bytes ++ take n piece) f → StopsHeadIn limits bytes piece (stop.Fault f)
+    at_limit n f s = subst (λ l. ShowsFault limits (HoldsHead limits) l f) (sym (joined bytes piece n)) (fault_remains limits (HoldsHead limits) (bytes ++ take n piece) (drop n piece) f s)
 
     by : (a : Result Fed Stop) → FeedsPiece (keeping k) (old, had) piece a (new, head) → AfterHeadPiece limits k.replace bytes piece (head_answer a) head (reading_of new)
-    by (Ok fed.More) ((same, most, now), room) =
+    by (Ok fed.More) ((same, most, fits, some, now), room) =
         let s = now limits bytes h in
         let taken = s.1.taken in
         let is = ap (λ (l : Limits). l.input) s.1.limited in
         (s, omega (arith, taken, room, most, is))
-    by (Ok (fed.Done used)) ((same, most, now), some, few) = now limits bytes h
-    by (Err e) (n, few, inl (same, most, now)) = front_stops n e (now limits bytes h)
-    by (Err e) (n, few, inr ((same, most, now), full)) =
+    by (Ok (fed.Done used)) ((same, most, fits, one, now), some, few) = now limits bytes h
+    by (Err e) (n, few, inl (same, most, fits, some, now)) = front_stops n e few some (now limits bytes h)
+    by (Err e) (n, few, inr ((same, most, fits, some, now), full)) =
         let s = now limits bytes h in
         let is = sym most ∙ ap (λ (l : Limits). l.input) s.1.limited in
-        front_stops n e
-        (subst (λ x. StopsHead limits (bytes ++ take n piece) x) (sym (full.1 ∙ ap (λ m. stop.Fault (record { fault = InputTooLong; at = m })) is))
+        subst (λ x. StopsHeadIn limits bytes piece x) (sym (full.1 ∙ ap (λ m. stop.Fault (record { fault = InputTooLong; at = m })) is))
+        (at_limit n (record { fault = InputTooLong; at = limits.input })
         (long_shown limits (HoldsHead limits) (reading_of new) (bytes ++ take n piece) s.0 s.1 (subst (λ m. m ≤ (reading_of new).taken) is full.0)).1)
 
 -- a fault there, or no memory
 pub stops_before : (limits : Limits) (comment : List ℕ) (replace : Bool) (bytes piece text : List ℕ) (e : Stop) → text ≡ []
-    → StopsHead limits (bytes ++ piece) e → InsertsUpTo limits comment replace (bytes ++ piece) text e
+    → StopsHeadIn limits bytes piece e → InsertsUpTo limits comment replace bytes piece text e
 stops_before limits comment replace bytes piece text (stop.Fault f) none h = (λ rest. inl (h rest), inl (none, h))
-stops_before limits comment replace bytes piece text stop.NoMemory none h = inl none
+stops_before limits comment replace bytes piece text stop.NoMemory none h = inl (none, h)
+
+-- a stop after it
+pub stops_after : (limits : Limits) (comment : List ℕ) (replace : Bool) (bytes piece text : List ℕ) (e : Stop)
+    → CopiesUpTo limits comment replace (bytes ++ piece) text e → InsertsUpTo limits comment replace bytes piece text e
+stops_after limits comment replace bytes piece text (stop.Fault f) h = h
+stops_after limits comment replace bytes piece text stop.NoMemory h = inr h
 
 -- AFTER IT
 
@@ -86,11 +103,13 @@ module _ (limits : Limits) (comment : List ℕ) (replace : Bool) (bytes piece : 
 
   -- if there is no memory for it
   pub stops_at_head : (old new : List ℕ) (e : NoMemory) → AppendsText whole (Err e) old new
-      → Appends (λ all. InsertsUpTo limits comment replace (bytes ++ piece) all stop.NoMemory) text old new
+      → Appends (λ all. InsertsUpTo limits comment replace bytes piece all stop.NoMemory) text old new
   stops_at_head old new e part =
       let k = head_part limits comment replace front (drop w.used piece) whole old new e head_at part in
-      subst (λ t. Appends (λ all. InsertsUpTo limits comment replace (bytes ++ piece) all stop.NoMemory) t old new) (sym none)
-      (subst (λ l. Appends (λ all. InsertsUpTo limits comment replace l all stop.NoMemory) [] old new) (sym (joined bytes piece w.used)) k)
+      let less : List ℕ → List ℕ → Type 0 = λ l all. InsertsLess limits comment replace l all in
+      let there = subst (λ l. Appends (less l) [] old new) (sym (joined bytes piece w.used)) k in
+      subst (λ t. Appends (λ all. InsertsUpTo limits comment replace bytes piece all stop.NoMemory) t old new) (sym none)
+      (appends_as (less (bytes ++ piece)) (λ all. InsertsUpTo limits comment replace bytes piece all stop.NoMemory) [] old new there (λ all s. inr s))
 
   -- the bytes after it
   pub copies_rest : (old mid new : List ℕ) (taken most : ℕ) (result : Result ℕ Stop) → limits.input ≡ most → mid ≡ old ++ whole → taken ≡ w.next.taken

@@ -53,13 +53,13 @@ IsNewInsert limits comment replace (Err stop.NoMemory) = length comment ≤ long
 
 abbrev pub AfterTake : List ℕ → List ℕ → List ℕ → List ℕ → Result (Unit {0}) Stop → Insert → Type 0
 AfterTake comment bytes piece text (Ok u) c = HasInserted comment (bytes ++ piece) text c
-AfterTake comment bytes piece text (Err s) c = InsertsUpTo c.limits comment c.replace (bytes ++ piece) text s
+AfterTake comment bytes piece text (Err s) c = InsertsUpTo c.limits comment c.replace bytes piece text s
 
 -- to a piece
 abbrev pub AfterInsert : List ℕ → List ℕ → List ℕ → List ℕ → Result Fed Stop → Insert → Type 0
 AfterInsert comment bytes piece text (Ok fed.More) c = HasInserted comment (bytes ++ piece) text c
 AfterInsert comment bytes piece text (Ok (fed.Done used)) c = ⊥
-AfterInsert comment bytes piece text (Err s) c = InsertsUpTo c.limits comment c.replace (bytes ++ piece) text s
+AfterInsert comment bytes piece text (Err s) c = InsertsUpTo c.limits comment c.replace bytes piece text s
 
 -- at the end: the complete file with the comment, or a fault before the frame header's marker
 abbrev pub EndsInsert : Limits → List ℕ → Bool → List ℕ → List ℕ → Result (Unit {0}) Stop → Type 0

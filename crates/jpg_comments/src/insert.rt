@@ -3,11 +3,12 @@ ghost use Rattle.std.specs.Prelude.{◌≡◌, ◌≤◌, ◌<◌, ◌+◌, ◌-
 ghost use Rattle.jpg_spec.specs.FrameHeader.{AreLimits};
 ghost use Rattle.jpg_base.specs.declared.stop.Stop.{Stop as Stopped};
 ghost use Rattle.jpg_base.specs.declared.stop.Fed.TheVariants as fed;
-ghost use Rattle.jpg_markers.specs.Reading.{reading_of};
+ghost use Rattle.jpg_markers.specs.Reading.{HasRoom, RepresentsSegments, reading_of};
 ghost use Rattle.jpg_comments.specs.Appending.{AppendsText};
 ghost use Rattle.jpg_comments.specs.Inserting.{CopiesRest, KeepsByte, KeepsPiece, KeepsSegment, keeping};
 
 use crate::append_segment;
+use crate::push::push_some;
 use crate::quiet::pass_some;
 use jpg_base::codes::{COM, SOI};
 use jpg_base::{Bytes, Fed, Intake, NoMemory, Stop, check_limit, feed_piece};
@@ -39,6 +40,7 @@ pub struct Insert {
     // Why the reader stopped, if it did.
     stop: Option<Stop>,
     ghost limited: { (reading_of reader).limits ≡ limits },
+    ghost room: { HasRoom reader },
 }
 
 impl Insert {
@@ -64,7 +66,7 @@ impl Insert {
         }
         Ok(Insert {
             limits,
-            reader: SegmentReader::new(alloc, limits),
+            reader: ready_reader(alloc, limits)?,
             replace,
             head,
             segment,
@@ -78,8 +80,8 @@ impl Insert {
     /// bytes as they are. It never returns Done. Before that marker it returns the fault of the bytes so far, at the
     /// number of bytes taken: NotJpeg, NoMarker, UnexpectedMarker, UnsupportedProcess, SosBeforeSof, BadLength (a
     /// length below 2) or MarkersTooLarge; and InputTooLong wherever the limit is reached: if the bytes up to it have
-    /// the marker, they are appended. On NoMemory a first part of the pending bytes is appended. After a stop it
-    /// returns the same stop.
+    /// the marker, they are appended. On NoMemory a first part of the pending bytes is appended, not all of them.
+    /// After a stop it returns the same stop.
     pub fn feed(&mut self, piece: &[u8], out: &mut Bytes) -> Result<Fed, Stop>
         ensures answered { Inserts self.old piece.now out.old result out.new self.new }
         ensures more { IfOk result (λ answer. answer ≡ fed.More) }
@@ -172,6 +174,19 @@ impl Insert {
     }
 }
 
+// A reader that was given no bytes and has room for the contents of any segment.
+fn ready_reader(alloc: Global, limits: Limits) -> Result<SegmentReader, NoMemory>
+    requires { AreLimits limits }
+    ensures stands { IfOk result (λ r. RepresentsSegments [] [] (reading_of r)) }
+    ensures limits { IfOk result (λ r. (reading_of r).limits ≡ limits) }
+    ensures taken { IfOk result (λ r. (reading_of r).taken ≡ 0) }
+    ensures room { IfOk result HasRoom }
+{
+    let mut reader = SegmentReader::new(alloc, limits);
+    reader.reserve()?;
+    Ok(reader)
+}
+
 // Reads the bytes of a piece up to the marker of the frame header. Returns how many these are, if it is there.
 fn read_head(
     reader: &mut SegmentReader,
@@ -180,7 +195,9 @@ fn read_head(
     most: u64,
     piece: &[u8],
 ) -> Result<Option<usize>, Stop>
-    requires { (reading_of reader.old).limits.input ≡ most }
+    requires most { (reading_of reader.old).limits.input ≡ most }
+    requires room { HasRoom reader.old }
+    ensures room { HasRoom reader.new }
     ensures answered { KeepsPiece replace (reading_of reader.old) piece.now head.old result head.new (reading_of reader.new) }
     ensures limits { (reading_of reader.new).limits ≡ (reading_of reader.old).limits }
     ensures within { IfOk result (λ answer. IfSome answer (λ used. used ≤ length piece.now)) }
@@ -226,7 +243,9 @@ fn read_byte(
     replace: bool,
     byte: u8,
 ) -> Result<bool, Stop>
-    requires { (reading_of reader.old).taken < (reading_of reader.old).limits.input }
+    requires limit { (reading_of reader.old).taken < (reading_of reader.old).limits.input }
+    requires room { HasRoom reader.old }
+    ensures room { HasRoom reader.new }
     ensures answered { KeepsByte replace (reading_of reader.old) byte head.old result head.new (reading_of reader.new) }
     ensures limits { (reading_of reader.new).limits ≡ (reading_of reader.old).limits }
 {
@@ -259,9 +278,9 @@ fn keep_segment(reader: &SegmentReader, head: &mut Bytes, replace: bool) -> Resu
 fn write_head(head: &[u8], segment: &[u8], code: u8, out: &mut Bytes) -> Result<(), NoMemory>
     ensures { AppendsText (head.now ++ segment.now ++ 255 ∷ code ∷ []) result out.old out.new }
 {
-    out.push_all(head)?;
-    out.push_all(segment)?;
-    out.push_all(&[0xff, code])
+    push_some(head, out)?;
+    push_some(segment, out)?;
+    push_some(&[0xff, code], out)
 }
 
 // Copies the bytes after that, up to the limit. Returns how many were taken.
@@ -271,9 +290,9 @@ fn copy(taken: u64, most: u64, rest: &[u8], out: &mut Bytes) -> Result<u64, Stop
     let room = most.saturating_sub(taken);
     let length = rest.len() as u64;
     if length < room {
-        out.push_all(rest)?;
+        push_some(rest, out)?;
         return Ok(taken + length);
     }
-    out.push_all(&rest[..room as usize])?;
+    push_some(&rest[..room as usize], out)?;
     Err(Stop::too_long(most))
 }

@@ -6,6 +6,7 @@ mod comments;
 mod insert;
 pub mod laws;
 mod printed;
+mod push;
 mod quiet;
 mod segment;
 

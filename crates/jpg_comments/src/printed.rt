@@ -7,12 +7,13 @@ ghost use Rattle.jpg_spec.specs.Markers.{is_within};
 ghost use Rattle.jpg_comments.specs.Appending.{AppendsText};
 ghost use Rattle.jpg_comments.specs.Pieces.{plain_text};
 
+use crate::push::push_some;
 use jpg_base::{Bytes, NoMemory};
 use memchr::memchr3;
 
 /// Appends the comment as rdjpgcom prints it: CR as LF, LF after CR as nothing, a backslash as two, printable ASCII (32
 /// to 126) as it is, any other byte as a backslash and three octal digits, and LF at the end. On NoMemory a first part
-/// of that was appended.
+/// of that was appended, not all of it.
 pub fn append_printed(comment: &[u8], out: &mut Bytes) -> Result<(), NoMemory>
     ensures { AppendsText (printed comment.now) result out.old out.new }
 {
@@ -21,11 +22,11 @@ pub fn append_printed(comment: &[u8], out: &mut Bytes) -> Result<(), NoMemory>
         let (plain, others) = rest.split_at(place);
         append_plain(plain, out)?;
         let (text, behind) = first_escaped(others);
-        out.push_all(text)?;
+        push_some(text, out)?;
         rest = behind;
     }
     append_plain(rest, out)?;
-    out.push_all(b"\n")
+    push_some(b"\n", out)
 }
 
 // The printed form of the line end or backslash that the bytes begin with, and the bytes after it. CR and LF are one
@@ -51,11 +52,11 @@ fn append_plain(bytes: &[u8], out: &mut Bytes) -> Result<(), NoMemory>
     let mut rest = bytes;
     while let Some(place) = first_unprintable(rest) {
         let (run, others) = rest.split_at(place);
-        out.push_all(run)?;
-        out.push_all(&octal(others[0]))?;
+        push_some(run, out)?;
+        push_some(&octal(others[0]), out)?;
         rest = &others[1..];
     }
-    out.push_all(rest)
+    push_some(rest, out)
 }
 
 // The place of the first byte that isn't printable ASCII.

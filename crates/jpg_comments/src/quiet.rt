@@ -1,6 +1,6 @@
 //! Bytes of a file that complete nothing, taken together (T.81, B.1.1).
 ghost use Rattle.std.specs.Prelude.{◌≡◌, ◌<◌, ◌≤◌, ◌+◌, length, Ok};
-ghost use Rattle.jpg_markers.specs.Reading.{PassesSome, reading_of};
+ghost use Rattle.jpg_markers.specs.Reading.{HasRoom, PassesSome, reading_of};
 
 use jpg_base::NoMemory;
 use jpg_markers::SegmentReader;
@@ -15,6 +15,7 @@ pub fn pass_some(reader: &mut SegmentReader, most: u64, bytes: &[u8]) -> usize
     ensures room { (reading_of reader.new).taken < most }
     ensures taken { (reading_of reader.new).taken ≡ (reading_of reader.old).taken + result }
     ensures limits { (reading_of reader.new).limits ≡ (reading_of reader.old).limits }
+    ensures kept { HasRoom reader.old → HasRoom reader.new }
     ensures passes { PassesSome (reading_of reader.old) bytes.now (Ok result) (reading_of reader.new) }
 {
     let room = most - reader.taken();

@@ -15,7 +15,7 @@ returns-in_err-byte-clause-answered c = λ limits bytes text h.
     let next = reading_of c.byte.new.self in
     let all = bytes ++ c.args.byte ∷ [] in
     let back = err_from_is_err_and c.from_residual.result c.from_residual.ensures.1 in
-    let stops = printed_stop limits r next bytes text c.args.byte h (record { short = c.requires; same = c.in_err-byte.ensures.limits; one = c.in_err-byte.ensures.taken h.1.stands.0 }) c.in_err-byte.field-0.0 (c.in_err-byte.ensures.answered bytes h.0 h.1.stands) in
+    let stops = printed_stop limits r next bytes text c.args.byte h (record { short = c.requires.limit; same = c.in_err-byte.ensures.limits; one = c.in_err-byte.ensures.taken h.1.stands.0 }) c.in_err-byte.field-0.0 (c.in_err-byte.ensures.memory bytes h.0 h.1.stands c.requires.room) (c.in_err-byte.ensures.answered bytes h.0 h.1.stands) in
     appends_none (λ t. AfterPrinted limits all t c.from_residual.result next) text c.args.out.now
     (subst (λ (e : Result Bool Stop). AfterPrinted limits all text e next) (sym back.1) (subst (λ (e : Stop). AfterPrinted limits all text (Err e) next) (sym back.2) stops))
 
@@ -24,7 +24,7 @@ returns-in-Whole-clause-answered c = λ limits bytes text h.
     let r = reading_of c.args.reader.now in
     let next = reading_of c.byte.new.self in
     let comes = c.in_ok-byte.ensures.answered bytes h.0 h.1.stands in
-    printed_whole limits r next bytes text c.args.byte h (record { short = c.requires; same = c.in_ok-byte.ensures.limits; one = c.in_ok-byte.ensures.taken h.1.stands.0 }) c.args.out.now c.print_segment.new.out c.print_segment.result
+    printed_whole limits r next bytes text c.args.byte h (record { short = c.requires.limit; same = c.in_ok-byte.ensures.limits; one = c.in_ok-byte.ensures.taken h.1.stands.0 }) c.args.out.now c.print_segment.new.out c.print_segment.result
     (subst (λ (s : SegStep). AfterWhole {X = Stop} (Ok s) next) c.in-Whole.is c.in_ok-byte.ensures.whole)
     (subst (λ (s : SegStep). Comes (bytes ++ c.args.byte ∷ []) h.0 (Ok s) next) c.in-Whole.is comes) c.print_segment.ensures
 
@@ -36,8 +36,9 @@ returns-in-More c =
       answered = λ limits bytes text h.
           (let comes = subst (λ (s : SegStep). Comes (bytes ++ c.args.byte ∷ []) h.0 (Ok s) next) c.in-More.is (c.in_ok-byte.ensures.answered bytes h.0 h.1.stands) in
           appends_none (λ t. HasPrinted limits (bytes ++ c.args.byte ∷ []) t next) text c.args.out.now
-          (printed_on limits r next bytes text c.args.byte h (record { short = c.requires; same = c.in_ok-byte.ensures.limits; one = c.in_ok-byte.ensures.taken h.1.stands.0 }) at_part refl comes.0 comes.1));
+          (printed_on limits r next bytes text c.args.byte h (record { short = c.requires.limit; same = c.in_ok-byte.ensures.limits; one = c.in_ok-byte.ensures.taken h.1.stands.0 }) at_part refl comes.0 comes.1));
       limits = c.in_ok-byte.ensures.limits;
+      room = c.in_ok-byte.ensures.room c.requires.room;
     }
 
 pub returns-in-Start-clause-answered : goal.returns-in-Start-clause-answered
@@ -46,7 +47,7 @@ returns-in-Start-clause-answered c = λ limits bytes text h.
     let next = reading_of c.byte.new.self in
     let comes = subst (λ (s : SegStep). Comes (bytes ++ c.args.byte ∷ []) h.0 (Ok s) next) c.in-Start.is (c.in_ok-byte.ensures.answered bytes h.0 h.1.stands) in
     appends_none (λ t. HasPrinted limits (bytes ++ c.args.byte ∷ []) t next) text c.args.out.now
-    (printed_on limits r next bytes text c.args.byte h (record { short = c.requires; same = c.in_ok-byte.ensures.limits; one = c.in_ok-byte.ensures.taken h.1.stands.0 }) at_soi refl comes.0 comes.1)
+    (printed_on limits r next bytes text c.args.byte h (record { short = c.requires.limit; same = c.in_ok-byte.ensures.limits; one = c.in_ok-byte.ensures.taken h.1.stands.0 }) at_soi refl comes.0 comes.1)
 
 pub returns-in-Frame-clause-answered : goal.returns-in-Frame-clause-answered
 returns-in-Frame-clause-answered c = λ limits bytes text h.
@@ -54,4 +55,4 @@ returns-in-Frame-clause-answered c = λ limits bytes text h.
     let next = reading_of c.byte.new.self in
     let comes = subst (λ (s : SegStep). Comes (bytes ++ c.args.byte ∷ []) h.0 (Ok s) next) c.in-Frame.is (c.in_ok-byte.ensures.answered bytes h.0 h.1.stands) in
     appends_none (λ t. HasPrinted limits (bytes ++ c.args.byte ∷ []) t next) text c.args.out.now
-    (printed_on limits r next bytes text c.args.byte h (record { short = c.requires; same = c.in_ok-byte.ensures.limits; one = c.in_ok-byte.ensures.taken h.1.stands.0 }) at_frame refl comes.0 comes.1)
+    (printed_on limits r next bytes text c.args.byte h (record { short = c.requires.limit; same = c.in_ok-byte.ensures.limits; one = c.in_ok-byte.ensures.taken h.1.stands.0 }) at_frame refl comes.0 comes.1)

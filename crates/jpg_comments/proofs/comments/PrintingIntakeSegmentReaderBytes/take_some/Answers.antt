@@ -20,9 +20,10 @@ returns-clause-takes c = λ from bytes h.
     let same = c.read_byte.ensures.limits ∙ pass.limits in (
       same ∙ h.0,
       ap (λ (l : Limits). l.input) same ∙ h.1,
+      c.read_byte.ensures.room,
       λ limits before text k.
           (let front = before ++ bytes in
-          appends_then (λ t. HasPrinted limits front t old) (λ t. AfterPrinted limits (before ++ (bytes ++ take (n + 1) some)) t c.read_byte.result new) text from.1 had c.read_byte.new.out (h.2 limits before text k)
+          appends_then (λ t. HasPrinted limits front t old) (λ t. AfterPrinted limits (before ++ (bytes ++ take (n + 1) some)) t c.read_byte.result new) text from.1 had c.read_byte.new.out (h.3 limits before text k)
           (λ t p. subst (λ l. Appends (λ u. AfterPrinted limits l u c.read_byte.result new) t had c.read_byte.new.out) (one_more before bytes some n pass.less)
           (c.read_byte.ensures.answered limits (front ++ take n some) t (printed_some limits old mid front t some n p (subst (λ m. mid.taken < m) (sym h.1) pass.room) pass.limits pass.taken pass.passes)))),
     )

@@ -6,7 +6,7 @@ use Rattle.jpg_comments.specs.Appending.{AppendsText}
 use Rattle.jpg_comments.specs.Inserting.{AfterHeadPiece, CopiesRest, InsertsUpTo}
 use Rattle.jpg_comments.proofs.Taken.{appends_none, appends_as}
 use Rattle.jpg_comments.proofs.HeadByPieces.{AfterCopy, whole_head}
-use Rattle.jpg_comments.proofs.InsertedPieces.{HeadThere, StandsWith, kept_of, stops_before, goes_on_before, stops_at_head, copies_rest, goes_on_after}
+use Rattle.jpg_comments.proofs.InsertedPieces.{HeadThere, StandsWith, kept_of, stops_after, stops_before, goes_on_before, stops_at_head, copies_rest, goes_on_after}
 use Rattle.jpg_comments.proofs.insert.Insert.begin.Goals as goal
 
 pub returns-in_err-used-clause-answered : goal.returns-in_err-used-clause-answered
@@ -17,7 +17,7 @@ returns-in_err-used-clause-answered c = λ comment bytes text h.
     let e = c.in_err-used.field-0.0 in
     let back = err_from_is_err_and c.from_residual.result c.from_residual.ensures.1 in
     let after = c.in_err-used.ensures.answered self.limits bytes k.0 in
-    rw (back.1, back.2) (appends_none (λ all. InsertsUpTo self.limits comment self.replace (bytes ++ c.args.piece.now) all e) text c.args.out.now
+    rw (back.1, back.2) (appends_none (λ all. InsertsUpTo self.limits comment self.replace bytes c.args.piece.now all e) text c.args.out.now
     (stops_before self.limits comment self.replace bytes c.args.piece.now text e k.1 after))
 
 pub returns-in_default-clause-answered : goal.returns-in_default-clause-answered
@@ -61,8 +61,11 @@ returns-in_err-taken-clause-answered c = λ comment bytes text h.
     let is : whole_head c.as_slice.result.now c.as_slice-2.result.now c.code.result ≡ whole_head head self.segment next.code =
     ap (λ l. whole_head l c.as_slice-2.result.now c.code.result) c.as_slice.ensures ∙ ap (λ l. whole_head head l c.code.result) c.as_slice-2.ensures ∙ ap (λ n. whole_head head self.segment n) c.code.ensures in
     let wrote = c.in_ok-write_head.ensures ∙ ap (λ l. c.args.out.now ++ l) is in
-    rw (back.1, back.2) (copies_rest self.limits comment self.replace bytes piece w text k.1 c.args.out.now c.write_head.new.out c.copy.new.out c.taken.result self.limits.input (Err c.in_err-taken.field-0.0) refl wrote c.taken.ensures
-    (subst (λ l. CopiesRest c.taken.result self.limits.input l (Err c.in_err-taken.field-0.0) c.write_head.new.out c.copy.new.out) (take_rest piece used) c.in_err-taken.ensures))
+    let e = c.in_err-taken.field-0.0 in
+    rw (back.1, back.2) (appends_as (λ all. AfterCopy self.limits comment self.replace (bytes ++ piece) all (Err e)) (λ all. InsertsUpTo self.limits comment self.replace bytes piece all e) text c.args.out.now c.copy.new.out
+    (copies_rest self.limits comment self.replace bytes piece w text k.1 c.args.out.now c.write_head.new.out c.copy.new.out c.taken.result self.limits.input (Err e) refl wrote c.taken.ensures
+    (subst (λ l. CopiesRest c.taken.result self.limits.input l (Err e) c.write_head.new.out c.copy.new.out) (take_rest piece used) c.in_err-taken.ensures))
+    (λ all s. stops_after self.limits comment self.replace bytes piece all e s))
 
 pub returns-clause-answered : goal.returns-clause-answered
 returns-clause-answered c = λ comment bytes text h.

@@ -4,6 +4,7 @@ use Rattle.jpg_markers.specs.Reading.{reading_of}
 use Rattle.jpg_comments.specs.Inserting.{AfterHead}
 use Rattle.jpg_comments.proofs.ByPiece.{one_more}
 use Rattle.jpg_comments.proofs.HeadByBytes.{kept_some}
+use Rattle.jpg_comments.proofs.InsertedPieces.{some_more}
 use Rattle.jpg_comments.proofs.insert.KeepingIntakeSegmentReaderBytes.take_some.Goals as goal
 
 pub returns-clause-takes : goal.returns-clause-takes
@@ -16,9 +17,11 @@ returns-clause-takes c = λ from bytes h.
     let same = c.read_byte.ensures.limits ∙ pass.limits in (
       same ∙ h.0,
       ap (λ (l : Limits). l.input) same ∙ h.1,
+      c.read_byte.ensures.room,
+      some_more bytes some n c.read_byte.result pass.less,
       λ limits before k.
           (let front = before ++ bytes in
           subst (λ l. AfterHead limits replace l c.read_byte.result c.read_byte.new.head (reading_of c.read_byte.new.reader)) (one_more before bytes some n pass.less)
           (c.read_byte.ensures.answered limits (front ++ take n some)
-          (kept_some limits replace (reading_of c.args.reader.now) mid front c.args.head.now some n (h.2 limits before k) (subst (λ m. mid.taken < m) (sym h.1) pass.room) pass.limits pass.taken pass.passes))),
+          (kept_some limits replace (reading_of c.args.reader.now) mid front c.args.head.now some n (h.4 limits before k) (subst (λ m. mid.taken < m) (sym h.1) pass.room) pass.limits pass.taken pass.passes))),
     )
