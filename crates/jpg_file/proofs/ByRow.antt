@@ -7,6 +7,7 @@ pub mod RowAfter
 pub mod RowBits
 pub mod RowBlanks
 pub mod RowCounts
+pub mod RowLast
 pub mod RowMachines
 pub mod RowPieces
 pub mod RowPlaces

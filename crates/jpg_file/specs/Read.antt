@@ -18,6 +18,7 @@ pub mod Reading
 pub mod RowCounts
 pub mod RowData
 pub mod RowFaults
+pub mod RowLast
 pub mod RowMachine
 pub mod RowPieces
 pub mod RowPlaces
@@ -25,6 +26,7 @@ pub mod RowStops
 pub mod RowTurns
 pub mod RowsKnown
 pub mod RowsNone
+pub mod RowsSoFar
 pub mod ScanHistory
 pub mod ScanStart
 pub mod SegmentState

@@ -26,7 +26,8 @@ use Rattle.jpg_file.specs.Read.InData.{ArePlain, AtWork, byte_answer, scan_answe
 use Rattle.jpg_file.specs.Read.Machine.{any_scan}
 use Rattle.jpg_file.specs.Read.RowMachine.{TakesRowBits}
 use Rattle.jpg_file.specs.Read.RowPlaces.{IsRowAt, scan_left}
-use Rattle.jpg_file.specs.Read.RowStops.{CompletesBefore, ShowsInRow, StopsByteInRow, StopsRestInRow, StopsRowData, StopsRowRun, StopsRunInRow}
+use Rattle.jpg_file.specs.Read.RowStops.{ShowsInRow, StopsByteInRow, StopsRestInRow, StopsRowData, StopsRowRun, StopsRunInRow}
+use Rattle.jpg_file.specs.Read.RowsSoFar.{CompletesBefore}
 use Rattle.jpg_file.specs.Read.Strips.{IsFirstScan, components_of, frame_behind}
 use Rattle.jpg_file.specs.declared.read.machine.ScanReader.{ScanReader}
 use Rattle.jpg_file.specs.declared.read.rows.RowWork.{RowWork}

@@ -1,10 +1,9 @@
 -- If a piece has a fault, the MCU rows that were passed are those that the bytes up to it complete.
-use Rattle.std.proofs.Common.{◌≡◌, ◌⊎◌, ℕ, ◌+◌, List, ◌++◌, length, take, sym, ap, ◌∙◌, subst, arith, inl, inr, Some}
+use Rattle.std.proofs.Common.{◌≡◌, ℕ, ◌+◌, List, ◌++◌, length, take, sym, ap, ◌∙◌, subst, arith, inl, inr, Some}
 use Rattle.std.proofs.Math.Seq.{take-append-add}
 use Rattle.std.specs.Prelude.{Option}
 use Rattle.jpg_spec.specs.Markers.{Segment}
 use Rattle.jpg_spec.specs.InForce.{frame_of}
-use Rattle.jpg_spec.specs.Items.{segments_of}
 use Rattle.jpg_spec.specs.Scan.{Blocks}
 use Rattle.jpg_spec.specs.RowsParsed.{BeginsScanOfAll, CompletesRows, picture_so_far}
 use Rattle.jpg_spec.specs.declared.frame.Limits.{Limits}
@@ -13,14 +12,11 @@ use Rattle.jpg_file.specs.Read.FirstHeader.{IsFirstHeaderOf}
 use Rattle.jpg_file.specs.Read.ReadFile.{ReaderState}
 use Rattle.jpg_file.specs.Read.ReadRows.{StopsRows}
 use Rattle.jpg_file.specs.Read.RowsKnown.{TellsStrip, rows_of_scan}
-use Rattle.jpg_file.specs.Read.RowStops.{RowsAtFault}
-use Rattle.jpg_file.specs.Read.Strips.{GoesByRow, RowsAfter, RowsInside}
-use Rattle.jpg_file.specs.declared.read.file.FileWork.{FileWork}
+use Rattle.jpg_file.specs.Read.RowsSoFar.{RowsSoFar}
 use Rattle.jpg_file.specs.declared.read.rows.RowWork.{RowWork}
 use Rattle.jpg_file.specs.declared.read.strip_head.StripHead.{StripHead}
 use Rattle.jpg_file.proofs.ByRow.RowsFed.{begun_on}
 use Rattle.jpg_file.proofs.ByRow.RowsFedOn.{RowsBefore, all_given}
-use Rattle.jpg_file.proofs.ByRow.RowsGiven.{inside_completes}
 
 -- a reader after a fault, with what it had before: its limits, what it knows of the picture, a current MCU row, and the
 -- first scan header of these bytes
@@ -32,7 +28,7 @@ pub record IsStopped (bytes : List ℕ) (old r : ReaderState) : Type 0 where
   pub head : IsFirstHeaderOf old.limits bytes r.file.head
 
 -- a reader stops that had begun to pass them
-module _ (old : ReaderState) (bytes more : List ℕ) (m : ℕ) (b : RowsBefore bytes m old) (fault : RowsAtFault old.limits (bytes ++ more) (b.begun).rows) where
+module _ (old : ReaderState) (bytes more : List ℕ) (m : ℕ) (b : RowsBefore bytes m old) (fault : RowsSoFar old.limits (bytes ++ more) (b.begun).rows) where
   abbrev before : List Segment
   before = (b.begun).before
 
@@ -46,7 +42,7 @@ module _ (old : ReaderState) (bytes more : List ℕ) (m : ℕ) (b : RowsBefore b
   fault_given : (blocks : Blocks) × CompletesRows old.limits (bytes ++ more) m blocks
   fault_given = by fault
     where
-      by : RowsAtFault old.limits (bytes ++ more) (b.begun).rows → (blocks : Blocks) × CompletesRows old.limits (bytes ++ more) m blocks
+      by : RowsSoFar old.limits (bytes ++ more) (b.begun).rows → (blocks : Blocks) × CompletesRows old.limits (bytes ++ more) m blocks
       by (inl none) = (b.told, all_given old.limits bytes more before contents m b.told (b.begun).begins b.tells (omega (arith, b.count, none)))
       by (inr (front, first, c)) =
           let one = begun_once old.limits (bytes ++ more) before front contents first begins c.begins in
@@ -70,14 +66,6 @@ module _ (old : ReaderState) (bytes more : List ℕ) (m : ℕ) (b : RowsBefore b
     blocks = fault_given.0;
     completed = subst (λ (l : Limits). CompletesRows l (bytes ++ more) m fault_given.0) (sym s.same) fault_given.1;
   }
-
--- if no bits wait, this many MCU rows are complete: at the most bytes that may be taken
-pub goes_completes : (limits : Limits) (bytes : List ℕ) (w : FileWork) (rows : RowWork) → GoesByRow limits bytes w rows → RowsAtFault limits bytes rows
-goes_completes limits bytes w rows g = by (g.stands).at
-  where
-    by : RowsInside limits bytes w rows (g.stands).whole ⊎ RowsAfter limits bytes w rows (g.stands).whole → RowsAtFault limits bytes rows
-    by (inl r) = inr (segments_of r.items, r.contents, inside_completes limits bytes w rows (g.stands).whole r g.none)
-    by (inr b) = inl b.done
 
 -- the bytes up to a fault that is n bytes of the piece after the others
 pub up_to_fault : (bytes piece : List ℕ) (n at : ℕ) → at ≡ length bytes + n → take at (bytes ++ piece) ≡ bytes ++ take n piece

@@ -27,7 +27,8 @@ use Rattle.jpg_seq.specs.declared.reader.SeqReader.{SeqReader}
 use Rattle.jpg_file.specs.Read.InData.{IsInterval, IsReadable}
 use Rattle.jpg_file.specs.Read.Machine.{any_scan, scan_kind, whole_blocks}
 use Rattle.jpg_file.specs.Read.RowPlaces.{IsRowAt}
-use Rattle.jpg_file.specs.Read.RowStops.{CompletesBefore, ShowsInRow}
+use Rattle.jpg_file.specs.Read.RowStops.{ShowsInRow}
+use Rattle.jpg_file.specs.Read.RowsSoFar.{CompletesBefore}
 use Rattle.jpg_file.specs.Read.RowTurns.{unfinished}
 use Rattle.jpg_file.specs.Read.Strips.{IsFirstScan, components_of, frame_behind}
 use Rattle.jpg_file.specs.declared.read.machine.ScanReader.{ScanReader}
@@ -66,7 +67,7 @@ shown_on c units fault bits more most d few = (
   few,
 )
 
-sound_of : (limits : Limits) (p : ScanPlace) (i : Interval) → IsInterval limits p i → IsSound i.scan.coding
+pub sound_of : (limits : Limits) (p : ScanPlace) (i : Interval) → IsInterval limits p i → IsSound i.scan.coding
 sound_of limits p i is = subst (λ (s : Scan). IsSound s.coding) (sym is.scan) (scan_sound limits (segments_of p.items) p.contents)
 
 -- THE UNITS that a machine has completed
@@ -74,7 +75,7 @@ whole_long : (n : SeqReader) (i : Interval) (bits : List Bool) (now : Picture) �
 whole_long n i bits now o = ap length o.read.told_there ∙ bands_long i.scan (map_of now) o.done o.kind.ss o.kind.se o.read.changes.sizes
 
 -- with more bits no more units are left
-fewer_left : (n mid : SeqReader) (i : Interval) (bits more : List Bool) (now between : Picture) → IsSound i.scan.coding → RepresentsSeqScan n i bits now → RepresentsSeqScan mid i (bits ++ more) between → mid.left ≤ n.left
+pub fewer_left : (n mid : SeqReader) (i : Interval) (bits more : List Bool) (now between : Picture) → IsSound i.scan.coding → RepresentsSeqScan n i bits now → RepresentsSeqScan mid i (bits ++ more) between → mid.left ≤ n.left
 fewer_left n mid i bits more now between sound o k =
     let p = parts_stand mid i (bits ++ more) between k in
     let cut : bits ++ more ≡ o.front ++ (o.part ++ more) = ap (λ l. l ++ more) o.split ∙ append_assoc o.front o.part more in

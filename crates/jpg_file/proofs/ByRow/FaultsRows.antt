@@ -9,7 +9,8 @@ use Rattle.jpg_spec.specs.declared.frame.Limits.{Limits}
 use Rattle.jpg_base.specs.declared.stop.Stop.{Stop}
 use Rattle.jpg_file.specs.Read.File.{limits_of}
 use Rattle.jpg_file.specs.Read.RowPlaces.{scan_left}
-use Rattle.jpg_file.specs.Read.RowStops.{CompletesBefore, RowsAtFault, StopsByteInRow, StopsRestInRow, StopsRunInRow}
+use Rattle.jpg_file.specs.Read.RowStops.{StopsByteInRow, StopsRestInRow, StopsRunInRow}
+use Rattle.jpg_file.specs.Read.RowsSoFar.{CompletesBefore, RowsSoFar}
 use Rattle.jpg_file.specs.Read.RowTurns.{CountsScan, unfinished}
 use Rattle.jpg_file.specs.Read.Strips.{components_of, frame_behind}
 use Rattle.jpg_file.specs.declared.read.file.FileWork.{FileWork}
@@ -34,13 +35,13 @@ before_same limits bytes before contents rows other same c = record { begins = c
 module _ (bytes : List ℕ) (w : FileWork) (scan : InScan) (rows : RowWork) (r : RowReady (limits_of w) bytes w scan rows) where
   -- A BYTE
   pub byte_at_fault : (byte : ℕ) (given : Result Bool Fault) (fault : Fault) → rows.waiting ≡ [] → StopsByteInRow scan rows byte given → given ≡ Err fault
-      → RowsAtFault (limits_of w) (bytes ++ byte ∷ []) rows
+      → RowsSoFar (limits_of w) (bytes ++ byte ∷ []) rows
   byte_at_fault byte given fault none stops is =
       inr (segments_of r.items, r.contents, stops fault (limits_of w) r.items r.contents bytes r.whole is r.row (ready_data bytes w scan rows r none) ((r.held).of, (r.at).at))
 
   -- a marker that ends the scan
   pub marker_at_fault : (all : List ℕ) (new : InScan) (after : RowWork) (row : Bool) → CountsScan scan.work rows row new.work after → row ≡ false
-      → scan_left new.work ≡ 0 → RowsAtFault (limits_of w) all rows
+      → scan_left new.work ≡ 0 → RowsSoFar (limits_of w) all rows
   marker_at_fault all new after row c none done =
       let counts = subst (λ (b : Bool). CountsScan scan.work rows b new.work after) none c in
       let same : unfinished after ≡ unfinished rows = counts_rows scan.work new.work rows after false step.More counts refl in
@@ -50,7 +51,7 @@ module _ (bytes : List ℕ) (w : FileWork) (scan : InScan) (rows : RowWork) (r :
 
   -- BITS that waited
   pub rest_at_fault : (old : RowWork) (given : Result (Unit {0}) Fault) (fault : Fault) → 1 ≤ length rows.waiting → unfinished rows ≡ unfinished old
-      → StopsRestInRow scan rows given → given ≡ Err fault → RowsAtFault (limits_of w) bytes old
+      → StopsRestInRow scan rows given → given ≡ Err fault → RowsSoFar (limits_of w) bytes old
   rest_at_fault old given fault some same stops is =
       let h = half_of (limits_of w) r.items r.contents bytes rows.waiting scan r.whole some r.coded in
       let k = stops fault (limits_of w) r.items r.contents bytes r.whole is r.row h ((r.held).of, (r.at).at) in
@@ -58,12 +59,12 @@ module _ (bytes : List ℕ) (w : FileWork) (scan : InScan) (rows : RowWork) (r :
 
   -- SOME BYTES one after another
   pub run_at_fault : (run : List ℕ) (n : ℕ) (given : Result (Unit {0}) Fault) (fault : Fault) → rows.waiting ≡ [] → StopsRunInRow scan rows run n given
-      → given ≡ Err fault → RowsAtFault (limits_of w) (bytes ++ take n run) rows
+      → given ≡ Err fault → RowsSoFar (limits_of w) (bytes ++ take n run) rows
   run_at_fault run n given fault none stops is =
       inr (segments_of r.items, r.contents, stops fault (limits_of w) r.items r.contents bytes r.whole is r.row (ready_data bytes w scan rows r none) ((r.held).of, (r.at).at))
 
 -- from the first of them on
 pub front_at_fault : (limits : Limits) (front bytes : List ℕ) (size n : ℕ) (rows : RowWork) → size ≤ length bytes → n ≤ length (take size bytes)
-    → RowsAtFault limits (front ++ take n (take size bytes)) rows → RowsAtFault limits (front ++ take n bytes) rows
+    → RowsSoFar limits (front ++ take n (take size bytes)) rows → RowsSoFar limits (front ++ take n bytes) rows
 front_at_fault limits front bytes size n rows few within k =
-    subst (λ l. RowsAtFault limits (front ++ l) rows) (take-take n size bytes (omega (arith, within, length-take-le size bytes few))) k
+    subst (λ l. RowsSoFar limits (front ++ l) rows) (take-take n size bytes (omega (arith, within, length-take-le size bytes few))) k

@@ -1,22 +1,23 @@
 -- A file that is read MCU row by MCU row, and a piece of it.
 use Rattle.std.proofs.Common.{◌≡◌, ◌⊎◌, ℕ, ◌+◌, ◌-◌, ◌<◌, ◌≤◌, Bool, true, false, List, [], ◌∷◌, ◌++◌, length, take, drop, get_or, refl, sym, ap, ◌∙◌, subst, arith, inl, inr, Some, None, Ok, Err}
 use Rattle.std.specs.Prelude.{Option, Result, is_some}
-use Rattle.std.proofs.lemmas.List.{append-nil, length-append, length-drop, take_all}
+use Rattle.std.proofs.lemmas.List.{append-nil, length-append, length-drop, length-take-le, take_all}
 use Rattle.jpg_spec.specs.Markers.{Segment}
 use Rattle.jpg_spec.specs.RowsParsed.{BeginsScanOfAll}
 use Rattle.jpg_spec.specs.declared.fault.FaultAt.{FaultAt}
 use Rattle.jpg_spec.specs.declared.fault.Fault.TheVariants.{InputTooLong}
 use Rattle.jpg_spec.specs.declared.frame.Limits.{Limits}
-use Rattle.jpg_spec.proofs.Basics.Common.{clash, some_once, joined}
+use Rattle.jpg_spec.proofs.Basics.Common.{clash, some_once, joined, whole_front}
 use Rattle.jpg_base.specs.declared.stop.Stop.{Stop}
 use Rattle.jpg_base.specs.declared.stop.Stop.TheVariants as stop
 use Rattle.jpg_file.specs.Read.File.{IsStop, RepresentsFile, keeping_of, limits_of}
 use Rattle.jpg_file.specs.Read.FirstHeader.{IsFirstHeaderOf}
 use Rattle.jpg_file.specs.Read.PieceTaken.{ReadsOn, ReadsPiece, TakesBytes}
-use Rattle.jpg_file.specs.Read.ReadFile.{IsStopOf, KeepsHeadAt}
+use Rattle.jpg_file.specs.Read.ReadFile.{AsksForMemory, EndsBetweenItems, IsStopOf, KeepsHeadAt}
 use Rattle.jpg_file.specs.Read.RowFaults.{FaultsFed, FaultsResumed, FaultsSome, RowsFault}
 use Rattle.jpg_file.specs.Read.RowPieces.{AfterRowsPiece, CountsFed, HasLastByte, IfSparing, KeepsWork, RowsGo, RowsGive, RowsOpen}
-use Rattle.jpg_file.specs.Read.RowStops.{RowsAtFault, StopsRest, StopsRun}
+use Rattle.jpg_file.specs.Read.RowStops.{StopsRest, StopsRun}
+use Rattle.jpg_file.specs.Read.RowsSoFar.{LacksRow, RowsSoFar}
 use Rattle.jpg_file.specs.Read.RowTurns.{unfinished}
 use Rattle.jpg_file.specs.Read.RowsKnown.{KnowsRows, RowsKnown}
 use Rattle.jpg_file.specs.Read.RowsNone.{HasNoRows, NoRowsIn, NoneAfter}
@@ -31,7 +32,9 @@ use Rattle.jpg_file.specs.declared.read.strip_head.StripHead.{StripHead}
 use Rattle.jpg_file.specs.declared.read.strip_work.StripWork.{StripWork}
 use Rattle.jpg_file.specs.declared.read.step.Step.{Step}
 use Rattle.jpg_file.specs.declared.read.step.Step.TheVariants as step
-use Rattle.jpg_file.proofs.ByRow.FaultsFed.{goes_completes}
+use Rattle.jpg_file.proofs.ByRow.RowsGiven.{goes_completes}
+use Rattle.jpg_file.proofs.Files.FileSteps.{between_of}
+use Rattle.jpg_file.proofs.Files.Leaving.{ends_between}
 use Rattle.jpg_file.proofs.Headers.FirstHeaders.{has_longer}
 use Rattle.jpg_file.proofs.Files.PieceSteps.{counted, front_is, front_of, head_kept, one_more, piece_long, stands_file, stop_longer, within}
 use Rattle.jpg_file.proofs.ByRow.RowsFed.{begun_on}
@@ -166,7 +169,7 @@ pub no_rows_in : (limits : Limits) (bytes : List ℕ) (rows : Option RowWork) �
 no_rows_in limits bytes rows k none = (let x = subst (λ (o : Option RowWork). NoRowsIn limits bytes o) none k in x)
 
 -- as many MCU rows are left of another one
-rows_same : (limits : Limits) (bytes : List ℕ) (rows other : RowWork) → unfinished rows ≡ unfinished other → RowsAtFault limits bytes rows → RowsAtFault limits bytes other
+rows_same : (limits : Limits) (bytes : List ℕ) (rows other : RowWork) → unfinished rows ≡ unfinished other → RowsSoFar limits bytes rows → RowsSoFar limits bytes other
 rows_same limits bytes rows other same (inl done) = inl (sym same ∙ done)
 rows_same limits bytes rows other same (inr (before, contents, c)) = inr (before, contents, record { begins = c.begins; m = c.m; count = omega (arith, c.count, same); blocks = c.blocks; completed = c.completed })
 
@@ -176,8 +179,8 @@ head_later limits bytes more before contents None b none = absurd (no_rows limit
 head_later limits bytes more before contents (Some h) b k = has_longer limits bytes more (bytes ++ more) before (Some h) refl k
 
 -- SOME BYTES of the rest of a piece: the state before the last of them, and the result of that one
-module _ {limits : Limits} {front rest : List ℕ} {n : ℕ} {answer : Step} {rows : Option RowWork} {new : FileWork}
-    (r : StripRun limits front rest n answer rows new) where
+module _ {limits : Limits} {front rest : List ℕ} {n : ℕ} {answer : Step} {old rows : Option RowWork} {new : FileWork}
+    (r : StripRun limits front rest n answer old rows new) where
   run_is : front ++ take n rest ≡ (front ++ take r.early rest) ++ get_or rest r.early 0 ∷ []
   run_is = ap (λ m. front ++ take m rest) r.count ∙ one_more front rest r.early r.within
 
@@ -191,13 +194,13 @@ module _ {limits : Limits} {front rest : List ℕ} {n : ℕ} {answer : Step} {ro
       let room = r.room in
       record { front = front ++ take r.early rest; byte = get_or rest r.early 0; cut = run_is; stands = stands_file limits (front ++ take r.early rest) r.mid r.before; short = omega (arith, c, room) }
 
-run_of : (limits : Limits) (front rest : List ℕ) (n : ℕ) (answer : Step) (work new : StripWork) → StripGoes limits front work.rows work.file → TakesStrip work rest n answer new → StripRun limits front rest n answer new.rows new.file
+run_of : (limits : Limits) (front rest : List ℕ) (n : ℕ) (answer : Step) (work new : StripWork) → StripGoes limits front work.rows work.file → TakesStrip work rest n answer new → StripRun limits front rest n answer work.rows new.rows new.file
 run_of limits front rest n answer work new g took =
-    subst (λ (l : Limits). StripGoes l front work.rows work.file → StripRun l front rest n answer new.rows new.file) (strip_limits limits front work.rows work.file g) (took front) g
+    subst (λ (l : Limits). StripGoes l front work.rows work.file → StripRun l front rest n answer work.rows new.rows new.file) (strip_limits limits front work.rows work.file g) (took front) g
 
 -- they have a fault, or there is no memory
-run_stopped : (limits : Limits) (front rest : List ℕ) (n : ℕ) (e : Stop) (rows : Option RowWork) (new : FileWork) → StripRun limits front rest n (step.Ended e) rows new → AfterRowsPiece limits front rest (Err e) rows new
-run_stopped limits front rest n (stop.Fault f) rows new r =
+run_stopped : (limits : Limits) (front rest : List ℕ) (n : ℕ) (e : Stop) (old rows : Option RowWork) (new : FileWork) → StripRun limits front rest n (step.Ended e) old rows new → AfterRowsPiece limits front rest (Err e) rows new
+run_stopped limits front rest n (stop.Fault f) old rows new r =
     let before = front ++ take r.early rest in
     let byte = get_or rest r.early 0 in
     let cut = joined front rest n ∙ ap (λ l. l ++ drop n rest) (run_is r) in
@@ -210,12 +213,33 @@ run_stopped limits front rest n (stop.Fault f) rows new r =
       omega (arith, at, one, length-append front (take r.early rest)),
       inr (length before, omega (arith, at, one), head_kept limits front rest r.early r.mid new r.before r.head, subst (λ l. IsStop limits l f) (sym (front_of (before ++ byte ∷ []) (drop n rest) (front ++ rest) f.at at cut)) shown),
     )
-run_stopped limits front rest n stop.NoMemory rows new r = (length (front ++ take r.early rest), omega (arith, length-append front (take r.early rest)), head_kept limits front rest r.early r.mid new r.before r.head)
+run_stopped limits front rest n stop.NoMemory old rows new r = (length (front ++ take r.early rest), omega (arith, length-append front (take r.early rest)), head_kept limits front rest r.early r.mid new r.before r.head)
 
 -- and they are after some of the piece
 stopped_as : (limits : Limits) (bytes piece front rest : List ℕ) (e : Stop) (rows : Option RowWork) (w : FileWork) → bytes ++ piece ≡ front ++ rest → length bytes ≤ length front → AfterRowsPiece limits front rest (Err e) rows w → AfterRowsPiece limits bytes piece (Err e) rows w
 stopped_as limits bytes piece front rest (stop.Fault f) rows w is few (stops, later, head) = (subst (λ l. IsStopOf limits l f) (sym is) stops, omega (arith, later, few), subst (λ l. KeepsHeadAt limits l f w.head) (sym is) head)
 stopped_as limits bytes piece front rest stop.NoMemory rows w is few (m, many, head) = (m, omega (arith, few, many), subst (λ l. IsFirstHeaderOf limits (take m l) w.head) (sym is) head)
+
+-- WHERE MEMORY IS ASKED FOR without a current row
+memory_asked : (limits : Limits) (front rest : List ℕ) (n : ℕ) (old rows : Option RowWork) (new : FileWork) → old ≡ None → StripRun limits front rest n (step.Ended stop.NoMemory) old rows new
+    → AsksForMemory limits (length front) (front ++ rest) new.head
+memory_asked limits front rest n old rows new none r =
+    let all = front ++ take r.early rest in
+    let low = r.within in
+    let size = length-append front (take r.early rest) in
+    let is : take (length all) (front ++ rest) ≡ all = ap (take (length all)) (joined front rest r.early) ∙ whole_front all (drop r.early rest) in
+    record {
+      n = length all;
+      low = omega (arith, size);
+      within = omega (arith, size, length-take-le r.early rest (omega (arith, low)), length-append front rest, low);
+      between = subst (λ l. EndsBetweenItems limits l) (sym is) (ends_between limits all r.mid (between_of limits all r.mid r.before (ap is_some (r.asks none))));
+      kept = head_kept limits front rest r.early r.mid new r.before r.head;
+    }
+
+asked_as : (limits : Limits) (fewest few : ℕ) (bytes all : List ℕ) (o : Option Head) → all ≡ bytes → few ≤ fewest → AsksForMemory limits fewest bytes o → AsksForMemory limits few all o
+asked_as limits fewest few bytes all o is least a =
+    let low = a.low in
+    subst (λ (l : List ℕ). AsksForMemory limits few l o) (sym is) (record { n = a.n; low = omega (arith, low, least); within = a.within; between = a.between; kept = a.kept })
 
 -- THE FIRST BYTES of a piece, after which it goes on
 pub record PieceBegun (limits : Limits) (piece : List ℕ) (done : ℕ) (old work : StripWork) : Type 0 where
@@ -246,10 +270,10 @@ AfterSome limits old piece used (step.Ended e) new = ReadsOn limits old piece (E
 module _ {limits : Limits} {piece : List ℕ} {done : ℕ} {old work : StripWork} (s : PieceBegun limits piece done old work) where
   -- AT A FAULT after further bytes
   rows_fault : (bytes more : List ℕ) (new : StripWork) → RowsGo limits bytes old.rows old.file → KeepsWork work new → (is_some work.rows ≡ true → new.file.head ≡ work.file.head) → (work.rows ≡ None → new.rows ≡ None)
-      → ((mid : RowWork) → work.rows ≡ Some mid → GoesByRow limits (bytes ++ take done piece) work.file mid → RowsAtFault limits ((bytes ++ take done piece) ++ more) mid) → RowsFault limits bytes ((bytes ++ take done piece) ++ more) old.rows new new.rows
+      → ((mid : RowWork) → work.rows ≡ Some mid → GoesByRow limits (bytes ++ take done piece) work.file mid → RowsSoFar limits ((bytes ++ take done piece) ++ more) mid) → RowsFault limits bytes ((bytes ++ take done piece) ++ more) old.rows new new.rows
   rows_fault bytes more new h keeps heads none at = by old.rows refl work.rows refl s.counts (s.goes bytes h).goes
     where
-      began : (mid : RowWork) (o : Option RowWork) → is_some o ≡ true → RowsKnown limits (bytes ++ take done piece) 0 mid work.strip → new.strip ≡ work.strip → RowsAtFault limits ((bytes ++ take done piece) ++ more) mid
+      began : (mid : RowWork) (o : Option RowWork) → is_some o ≡ true → RowsKnown limits (bytes ++ take done piece) 0 mid work.strip → new.strip ≡ work.strip → RowsSoFar limits ((bytes ++ take done piece) ++ more) mid
           → IsFirstHeaderOf limits (bytes ++ take done piece) new.file.head → RowsFault limits bytes ((bytes ++ take done piece) ++ more) None new o
       began mid None some k same fault head = absurd cc
       began mid (Some after) some k same fault head = record {
@@ -268,7 +292,7 @@ module _ {limits : Limits} {piece : List ℕ} {done : ℕ} {old work : StripWork
           let head = subst (λ (o : Option Head). IsFirstHeaderOf limits front o) (sym (heads some)) (open_head limits front (Some mid) work.file g.stands) in
           of a was c head (at mid is g) (keeps.some some) (keeps.strip some)
         where
-          of : (a : Option RowWork) → old.rows ≡ a → CountsStrip step.More a (Some mid) → IsFirstHeaderOf limits (bytes ++ take done piece) new.file.head → RowsAtFault limits ((bytes ++ take done piece) ++ more) mid → is_some new.rows ≡ true → new.strip ≡ work.strip
+          of : (a : Option RowWork) → old.rows ≡ a → CountsStrip step.More a (Some mid) → IsFirstHeaderOf limits (bytes ++ take done piece) new.file.head → RowsSoFar limits ((bytes ++ take done piece) ++ more) mid → is_some new.rows ≡ true → new.strip ≡ work.strip
               → RowsFault limits bytes ((bytes ++ take done piece) ++ more) a new new.rows
           of None was c head fault some same = began mid new.rows some (subst (λ (o : Option RowWork). KnowsRows limits (bytes ++ take done piece) 0 o work.strip) is (s.known was bytes h)) same fault head
           of (Some rows) was c head fault some same = (
@@ -293,7 +317,9 @@ module _ {limits : Limits} {piece : List ℕ} {done : ℕ} {old work : StripWork
         (let front = bytes ++ take done piece in
         let end : front ++ [] ≡ front = append-nil front in
         subst (λ (x : List ℕ). RowsFault limits bytes x old.rows work work.rows) (end ∙ sym (all bytes h))
-        (rows_fault bytes [] work h (keeps_same work) (λ some. refl) (λ none. none) (λ mid is g. subst (λ (x : List ℕ). RowsAtFault limits x mid) (sym end) (goes_completes limits front work.file mid g))));
+        (rows_fault bytes [] work h (keeps_same work) (λ some. refl) (λ none. none) (λ mid is g. subst (λ (x : List ℕ). RowsSoFar limits x mid) (sym end) (goes_completes limits front work.file mid g))));
+    last = λ bytes h. tt;
+    asks = λ none bytes h. tt;
   }
     where
       whole : (bytes : List ℕ) → RowsGo limits bytes old.rows old.file → ReadWhole limits (bytes ++ take done piece) work.file
@@ -323,6 +349,8 @@ module _ {limits : Limits} {piece : List ℕ} {done : ℕ} {old work : StripWork
     memory = λ none spares. tt;
     none = λ none by bytes h no. subst (λ l. NoRowsIn limits (bytes ++ l) work.rows) is (s.none none by bytes h no);
     faults = λ bytes h. tt;
+    last = λ bytes h. tt;
+    asks = λ none bytes h. tt;
   }
     where
       is : take done piece ≡ piece
@@ -332,7 +360,7 @@ module _ {limits : Limits} {piece : List ℕ} {done : ℕ} {old work : StripWork
   pub after_some : {n : ℕ} {new : StripWork} (answer : Step) → ((bytes : List ℕ) × RowsGo limits bytes old.rows old.file) → TakesBytes work (take (length piece - done) (drop done piece)) n answer new → AfterSome limits old piece (done + n) answer new
   after_some {n = n} {new = new} answer o taken = by answer (subst (λ l. TakesBytes work l n answer new) (take_all (length piece - done) (drop done piece) (omega (arith, length-drop done piece))) taken)
     where
-      run : (answer : Step) → TakesBytes work (drop done piece) n answer new → (bytes : List ℕ) → RowsGo limits bytes old.rows old.file → StripRun limits (bytes ++ take done piece) (drop done piece) n answer new.rows new.file
+      run : (answer : Step) → TakesBytes work (drop done piece) n answer new → (bytes : List ℕ) → RowsGo limits bytes old.rows old.file → StripRun limits (bytes ++ take done piece) (drop done piece) n answer work.rows new.rows new.file
       run answer t bytes h = run_of limits (bytes ++ take done piece) (drop done piece) n answer work new (s.goes bytes h).goes t.after
 
       is : (bytes : List ℕ) → (bytes ++ take done piece) ++ take n (drop done piece) ≡ bytes ++ take (done + n) piece
@@ -365,7 +393,7 @@ module _ {limits : Limits} {piece : List ℕ} {done : ℕ} {old work : StripWork
       stopped : (e : Stop) → TakesBytes work (drop done piece) n (step.Ended e) new → (bytes : List ℕ) → RowsGo limits bytes old.rows old.file → AfterRowsPiece limits bytes piece (Err e) new.rows new.file
       stopped e t bytes h =
           let front = bytes ++ take done piece in
-          stopped_as limits bytes piece front (drop done piece) e new.rows new.file (joined bytes piece done) (omega (arith, length-append bytes (take done piece))) (run_stopped limits front (drop done piece) n e new.rows new.file (run (step.Ended e) t bytes h))
+          stopped_as limits bytes piece front (drop done piece) e new.rows new.file (joined bytes piece done) (omega (arith, length-append bytes (take done piece))) (run_stopped limits front (drop done piece) n e work.rows new.rows new.file (run (step.Ended e) t bytes h))
 
       up_to : (f : FaultAt) → TakesBytes work (drop done piece) n (step.Ended (stop.Fault f)) new → (bytes : List ℕ) → RowsGo limits bytes old.rows old.file → take f.at (bytes ++ piece) ≡ bytes ++ take (done + n) piece
       up_to f t bytes h =
@@ -377,7 +405,32 @@ module _ {limits : Limits} {piece : List ℕ} {done : ℕ} {old work : StripWork
           let front = bytes ++ take done piece in
           subst (λ (x : List ℕ). RowsFault limits bytes x old.rows new new.rows) (is bytes ∙ sym (up_to f t bytes h))
           (rows_fault bytes (take n (drop done piece)) new h (keeps_some work new t) t.head t.stops
-          (λ mid has g. subst (λ (l : Limits). GoesByRow l front work.file mid → RowsAtFault l (front ++ take n (drop done piece)) mid) (strip_limits limits front (Some mid) work.file g) (t.faults mid f front has refl) g))
+          (λ mid has g. subst (λ (l : Limits). GoesByRow l front work.file mid → RowsSoFar l (front ++ take n (drop done piece)) mid) (strip_limits limits front (Some mid) work.file g) (t.faults mid f front has refl) g))
+
+      -- those before the last one complete no further row
+      lacks : TakesBytes work (drop done piece) n step.Row new → (bytes : List ℕ) → RowsGo limits bytes old.rows old.file → (early : ℕ) → done + n ≡ early + 1 → LacksRow limits (bytes ++ take early piece) new.rows
+      lacks t bytes h early all = at work.rows refl new.rows t.rows
+        where
+          r : StripRun limits (bytes ++ take done piece) (drop done piece) n step.Row work.rows new.rows new.file
+          r = run step.Row t bytes h
+
+          there : (bytes ++ take done piece) ++ take r.early (drop done piece) ≡ bytes ++ take early piece
+          there = (let count = r.count in let same : done + r.early ≡ early = omega (arith, all, count) in front_is bytes piece done r.early ∙ ap (λ k. bytes ++ take k piece) same)
+
+          at : (o : Option RowWork) → work.rows ≡ o → (a : Option RowWork) → CountsStrip step.Row o a → LacksRow limits (bytes ++ take early piece) a
+          at None none a c = absurd (t.no none)
+          at (Some mid) has None c = absurd c
+          at (Some mid) has (Some after) c = (mid, c, subst (λ (l : List ℕ). RowsSoFar limits l mid) there (r.rows_before mid has))
+
+      asks : TakesBytes work (drop done piece) n (step.Ended stop.NoMemory) new → new.rows ≡ None → (bytes : List ℕ) → RowsGo limits bytes old.rows old.file → AsksForMemory limits (length bytes) (bytes ++ piece) new.file.head
+      asks t none bytes h =
+          let front = bytes ++ take done piece in
+          asked_as limits (length front) (length bytes) (front ++ drop done piece) (bytes ++ piece) new.file.head (joined bytes piece done) (omega (arith, length-append bytes (take done piece)))
+          (memory_asked limits front (drop done piece) n work.rows new.rows new.file (before (none_or_some work.rows)) (run (step.Ended stop.NoMemory) t bytes h))
+        where
+          before : (work.rows ≡ None) ⊎ (is_some work.rows ≡ true) → work.rows ≡ None
+          before (inl e) = e
+          before (inr e) = absurd (clash (is_some new.rows) (some_stays (step.Ended stop.NoMemory) work.rows new.rows t.rows e) (ap is_some none))
 
       by : (answer : Step) → TakesBytes work (drop done piece) n answer new → AfterSome limits old piece (done + n) answer new
       by step.More t = record {
@@ -396,6 +449,8 @@ module _ {limits : Limits} {piece : List ℕ} {done : ℕ} {old work : StripWork
         memory = λ none spares. tt;
         none = λ none row bytes h no. tt;
         faults = λ bytes h. tt;
+        last = lacks t;
+        asks = λ none bytes h. tt;
       }
       by step.Whole t = record {
         after = λ bytes h. (let m = few step.Whole t bytes h in (came step.Whole t bytes h, m.1, m.0));
@@ -405,6 +460,8 @@ module _ {limits : Limits} {piece : List ℕ} {done : ℕ} {old work : StripWork
         memory = λ none spares. tt;
         none = nothing step.Whole t;
         faults = λ bytes h. tt;
+        last = λ bytes h. tt;
+        asks = λ none bytes h. tt;
       }
       by (step.Ended (stop.Fault f)) t = record {
         after = stopped (stop.Fault f) t;
@@ -414,6 +471,8 @@ module _ {limits : Limits} {piece : List ℕ} {done : ℕ} {old work : StripWork
         memory = λ none spares. tt;
         none = λ none row bytes h no. subst (λ (l : List ℕ). NoRowsIn limits l new.rows) (sym (up_to f t bytes h)) (nothing (step.Ended (stop.Fault f)) t none row bytes h no);
         faults = faulted f t;
+        last = λ bytes h. tt;
+        asks = λ none bytes h. tt;
       }
       by (step.Ended stop.NoMemory) t = record {
         after = stopped stop.NoMemory t;
@@ -423,6 +482,8 @@ module _ {limits : Limits} {piece : List ℕ} {done : ℕ} {old work : StripWork
         memory = wants_none stop.NoMemory old work new s.keeps t;
         none = λ none row bytes h no. tt;
         faults = λ bytes h. tt;
+        last = λ bytes h. tt;
+        asks = asks t;
       }
 
 -- THE BITS that waited: what they leave, and their result
@@ -475,6 +536,8 @@ resumed_more {limits = limits} {piece = piece} {answer = answer} {old = old} {mi
       memory = λ none spares. t.memory (kept.keeping ∙ none) (kept.sparing none spares);
       none = λ none row bytes h no. t.none (none_stays old.rows mid.rows r.stays none) (r.by_row ∙ row) bytes (resumed_go limits bytes old mid r h) no;
       faults = λ bytes h. faults_then limits bytes piece answer old.rows mid.rows new r.stays r.rows (t.faults bytes (resumed_go limits bytes old mid r h));
+      last = λ bytes h. t.last bytes (resumed_go limits bytes old mid r h);
+      asks = λ none bytes h. t.asks none bytes (resumed_go limits bytes old mid r h);
     }
 
 -- a further MCU row
@@ -489,6 +552,8 @@ resumed_row limits piece old new r = record {
   memory = λ none spares. tt;
   none = λ none row bytes h no. tt;
   faults = λ bytes h. tt;
+  last = λ bytes h early is. absurd (omega (arith, is));
+  asks = λ none bytes h. tt;
 }
 
 -- a fault that they have
@@ -508,6 +573,8 @@ resumed_stop limits piece (stop.Fault f) old new r = record {
   memory = λ none spares. tt;
   none = λ none. absurd (clash (is_some old.rows) some (ap is_some none));
   faults = λ bytes h. subst (λ (x : List ℕ). RowsFault limits bytes x old.rows new new.rows) (sym (is bytes h)) (by bytes old.rows refl h.stands);
+  last = λ bytes h. tt;
+  asks = λ none bytes h. tt;
 }
   where
     some : is_some old.rows ≡ true
@@ -526,7 +593,7 @@ resumed_stop limits piece (stop.Fault f) old new r = record {
     by : (bytes : List ℕ) (o : Option RowWork) → old.rows ≡ o → RepresentsStrip limits bytes o old.file → RowsFault limits bytes bytes o new new.rows
     by bytes None none g = absurd (clash (is_some old.rows) some (ap is_some none))
     by bytes (Some rows) has g = (
-      subst (λ (l : Limits). RepresentsRows l bytes old.file rows → RowsAtFault l bytes rows) (open_limits limits bytes (Some rows) old.file g) (r.faults rows f bytes has refl) g,
+      subst (λ (l : Limits). RepresentsRows l bytes old.file rows → RowsSoFar l bytes rows) (open_limits limits bytes (Some rows) old.file g) (r.faults rows f bytes has refl) g,
       λ before contents b. subst (λ (o : Option Head). IsFirstHeaderOf limits bytes o) (sym r.head) (open_head limits bytes (Some rows) old.file g),
     )
 
@@ -534,9 +601,9 @@ resumed_stop limits piece (stop.Fault f) old new r = record {
 pub resumed_rows : (old : StripWork) (given : RowWork) (answer : Step) → old.rows ≡ Some given → StopsRest old.file given answer → FaultsResumed old answer
 resumed_rows old given answer has stops = λ rows f bytes is shows g.
     let same : rows ≡ given = some_once rows given (sym is ∙ has) in
-    subst (λ (w : RowWork). RepresentsRows (limits_of old.file) bytes old.file w → RowsAtFault (limits_of old.file) bytes w) (sym same) (stops f bytes shows) g
+    subst (λ (w : RowWork). RepresentsRows (limits_of old.file) bytes old.file w → RowsSoFar (limits_of old.file) bytes w) (sym same) (stops f bytes shows) g
 
 pub some_faults : (old : StripWork) (given : RowWork) (run : List ℕ) (n : ℕ) (answer : Step) → old.rows ≡ Some given → StopsRun old.file given run n answer → FaultsSome old run n answer
 some_faults old given run n answer has stops = λ rows f bytes is shows g.
     let same : rows ≡ given = some_once rows given (sym is ∙ has) in
-    subst (λ (w : RowWork). GoesByRow (limits_of old.file) bytes old.file w → RowsAtFault (limits_of old.file) (bytes ++ take n run) w) (sym same) (stops f bytes shows) g
+    subst (λ (w : RowWork). GoesByRow (limits_of old.file) bytes old.file w → RowsSoFar (limits_of old.file) (bytes ++ take n run) w) (sym same) (stops f bytes shows) g

@@ -1,10 +1,10 @@
 -- What a reader of MCU rows answers to a piece, whatever it has read before.
-use Rattle.std.proofs.Common.{◌≡◌, ◌⊎◌, ℕ, ◌+◌, ◌-◌, ◌<◌, ◌≤◌, true, List, [], ◌∷◌, ◌++◌, length, take, refl, sym, ap, ◌∙◌, subst, arith, inl, inr, Some, None, Ok, Err}
+use Rattle.std.proofs.Common.{◌≡◌, ◌⊎◌, ℕ, zero, suc, drop, ◌+◌, ◌-◌, ◌<◌, ◌≤◌, true, List, [], ◌∷◌, ◌++◌, length, take, refl, sym, ap, ◌∙◌, subst, arith, inl, inr, Some, None, Ok, Err}
 use Rattle.std.specs.Prelude.{Option, is_some}
 use Rattle.std.proofs.lemmas.List.{length-append}
 use Rattle.jpg_spec.specs.InForce.{frame_of, head_in}
 use Rattle.jpg_spec.specs.Markers.{Segment}
-use Rattle.jpg_spec.specs.RowsParsed.{BeginsScanOfAll, CompletesRows}
+use Rattle.jpg_spec.specs.RowsParsed.{BeginsScanOfAll, CompletesRows, TellsRows}
 use Rattle.jpg_spec.specs.Scan.{Blocks}
 use Rattle.jpg_spec.specs.ScanRows.{first_rows}
 use Rattle.jpg_spec.specs.Segments.{head_components}
@@ -13,15 +13,17 @@ use Rattle.jpg_spec.specs.declared.frame.Limits.{Limits}
 use Rattle.jpg_spec.specs.declared.frame.Place.{Place}
 use Rattle.jpg_spec.proofs.Basics.Common.{clash}
 use Rattle.jpg_spec.proofs.McuRows.RowsHeader.{begun_once, begun_places}
+use Rattle.jpg_spec.proofs.McuRows.RowsOnce.{rows_stay}
 use Rattle.jpg_base.specs.declared.stop.Stop.{Stop}
 use Rattle.jpg_base.specs.declared.stop.Stop.TheVariants as stop
 use Rattle.jpg_seq.proofs.ScanRows.{units_by_row}
 use Rattle.jpg_file.specs.Read.PieceTaken.{ReadsPiece}
-use Rattle.jpg_file.specs.Read.ReadFile.{ReaderState}
-use Rattle.jpg_file.specs.Read.ReadRows.{AfterFeedRow, HasBegunRows, HasGivenRow, HasReadPlainly, HasReadRows, HasReadSoFar, IsDoneByRows, StopsRows, StopsSoFar}
+use Rattle.jpg_file.specs.Read.ReadFile.{AsksForMemory, ReaderState}
+use Rattle.jpg_file.specs.Read.ReadRows.{AfterFeedRow, HasBegunRows, HasGivenRow, HasReadPlainly, HasReadRows, HasReadSoFar, IsDoneByRows, NotSooner, StopsRows, StopsSoFar}
 use Rattle.jpg_file.specs.Read.RowFaults.{BeganAtFault, RowsFault}
-use Rattle.jpg_file.specs.Read.RowPieces.{HasLastByte, RowsGive, RowsGo, RowsOpen, WantsNone}
-use Rattle.jpg_file.specs.Read.RowStops.{RowsAtFault}
+use Rattle.jpg_file.specs.Read.RowPieces.{HasLastByte, LastFed, RowsGive, RowsGo, RowsOpen, WantsNone}
+use Rattle.jpg_file.specs.Read.RowTurns.{unfinished}
+use Rattle.jpg_file.specs.Read.RowsSoFar.{LacksRow, RowsSoFar}
 use Rattle.jpg_file.specs.Read.RowsKnown.{KnowsRows, RowsKnown, rows_of_scan}
 use Rattle.jpg_file.specs.Read.RowsNone.{NoRowsIn}
 use Rattle.jpg_file.specs.Read.Strips.{AfterStrip, CountsStrip, EndsByRow, RowsAfter, RowsInside, RepresentsRows}
@@ -31,11 +33,11 @@ use Rattle.jpg_file.specs.declared.read.strip_work.StripWork.{StripWork}
 use Rattle.jpg_file.specs.declared.read.step.Step.TheVariants as step
 use Rattle.jpg_file.proofs.ByRow.FaultsFed.{fault_rows, up_to_fault}
 use Rattle.jpg_file.proofs.Files.FileSteps.{head_is, head_left}
-use Rattle.jpg_file.proofs.Files.PieceSteps.{file_means, stands_file}
+use Rattle.jpg_file.proofs.Files.PieceSteps.{file_means, front_is, stands_file}
 use Rattle.jpg_file.proofs.Files.ReaderFed.{ends_plain, plain_open, with_work}
 use Rattle.jpg_file.proofs.ByRow.RowPieces.{no_rows_in}
 use Rattle.jpg_file.proofs.ByRow.StripPieces.{open_head, strip_whole}
-use Rattle.jpg_file.proofs.ByRow.RowsFed.{row_fed, rows_completed}
+use Rattle.jpg_file.proofs.ByRow.RowsFed.{begun_on, row_fed, rows_completed}
 use Rattle.jpg_file.proofs.ByRow.RowsFedOn.{RowsBefore, fed_done_rows, fed_given_row, fed_more_rows, rows_before}
 
 last_within : (limits : Limits) (bytes : List ℕ) → HasLastByte limits bytes → length bytes ≤ limits.input
@@ -123,6 +125,32 @@ module _ (r : ReaderState) (old new : StripWork) (bytes piece : List ℕ) (p : H
       let e : EndsByRow r.limits all new.file rows = subst (λ (o : Option RowWork). AfterStrip r.limits all step.Whole o new.file) has (t.after bytes here).0 in
       some_rows r.limits all k.before k.contents k.begins (let n = k.count in let z = e.done in omega (arith, n, z))
 
+-- A ROW, and no sooner
+not_sooner : (limits : Limits) (bytes piece : List ℕ) (used m : ℕ) (before : List Segment) (contents : List ℕ) (rows : RowWork) → BeginsScanOfAll limits (bytes ++ take used piece) before contents
+    → m + unfinished rows ≡ rows_of_scan limits before contents → LastFed limits bytes piece (Ok (fed.Row used)) (Some rows) → NotSooner limits bytes piece used m
+not_sooner limits bytes piece zero m before contents rows begins count last n blocks less told = absurd (omega (arith, less))
+not_sooner limits bytes piece (suc early) m before contents rows begins count last n blocks less told = by lacks.2
+  where
+    lacks : LacksRow limits (bytes ++ take early piece) (Some rows)
+    lacks = last early (omega arith)
+
+    later : TellsRows limits (bytes ++ take early piece) m blocks
+    later =
+        let all : n + (early - n) ≡ early = omega (arith, less) in
+        subst (λ (l : List ℕ). TellsRows limits l m blocks) (front_is bytes piece n (early - n) ∙ ap (λ k. bytes ++ take k piece) all) (rows_stay limits (bytes ++ take n piece) (take (early - n) (drop n piece)) m blocks told)
+
+    by : RowsSoFar limits (bytes ++ take early piece) lacks.0 → ⊥
+    by (inl none) = omega (arith, none, lacks.1)
+    by (inr (front, first, c)) =
+        let all = bytes ++ take (suc early) piece in
+        let longer : (bytes ++ take early piece) ++ take 1 (drop early piece) ≡ all = (let one : early + 1 ≡ suc early = omega arith in front_is bytes piece early 1 ∙ ap (λ k. bytes ++ take k piece) one) in
+        let there = subst (λ (l : List ℕ). BeginsScanOfAll limits l front first) longer (begun_on limits (bytes ++ take early piece) (take 1 (drop early piece)) front first c.begins) in
+        let one = begun_once limits all before front contents first begins there in
+        let same : rows_of_scan limits before contents ≡ rows_of_scan limits front first =
+        ap (λ (l : List Segment). rows_of_scan limits l contents) one.0 ∙ ap (λ (l : List ℕ). rows_of_scan limits front l) one.1 in
+        let is : m ≡ c.m + 1 = omega (arith, c.count, lacks.1, count, same) in
+        c.completed.1 blocks (subst (λ k. TellsRows limits (bytes ++ take early piece) k blocks) is later)
+
 -- as the reader is seen after a fault
 abbrev stopped_by : ReaderState → StripWork → FaultAt → ReaderState
 stopped_by r work f = record (with_work r work) { stop = Some (stop.Fault f) }
@@ -149,7 +177,7 @@ began_stopped r new bytes f after has b = record {
     complete : (blocks : Blocks) × CompletesRows r.limits bytes 0 blocks
     complete = by b.rows
       where
-        by : RowsAtFault r.limits bytes b.mid → (blocks : Blocks) × CompletesRows r.limits bytes 0 blocks
+        by : RowsSoFar r.limits bytes b.mid → (blocks : Blocks) × CompletesRows r.limits bytes 0 blocks
         by (inl done) = absurd (some_rows r.limits bytes k.before k.contents k.begins (let n = k.count in omega (arith, n, done)))
         by (inr (before, contents, c)) =
             let one = begun_once r.limits bytes k.before before k.contents contents k.begins c.begins in
@@ -158,6 +186,11 @@ began_stopped r new bytes f after has b = record {
             let n = k.count in
             let is : c.m ≡ 0 = omega (arith, c.count, n, same) in
             (c.blocks, subst (λ n. CompletesRows r.limits bytes n c.blocks) is c.completed)
+
+sooner : (r : ReaderState) (new : StripWork) (bytes piece : List ℕ) (used m : ℕ) → HasGivenRow (bytes ++ take used piece) m (with_work r new) → LastFed r.limits bytes piece (Ok (fed.Row used)) new.rows → NotSooner r.limits bytes piece used m
+sooner r new bytes piece used m g last =
+    let b = g.begun in
+    not_sooner r.limits bytes piece used m b.before b.contents b.rows b.begins g.rows (subst (λ (o : Option RowWork). LastFed r.limits bytes piece (Ok (fed.Row used)) o) b.has last)
 
 -- THE ANSWERS
 module _ (r : ReaderState) (old new : StripWork) (bytes piece : List ℕ) (m : ℕ) where
@@ -217,7 +250,7 @@ module _ (r : ReaderState) (old new : StripWork) (bytes piece : List ℕ) (m : �
 
   -- Row
   pub row_answered : (used : ℕ) → ReadsPiece r.limits old piece (Ok (fed.Row used)) new → HasReadSoFar bytes m (with_work r old) → AfterFeedRow bytes m piece (Ok (fed.Row used)) (with_work r new)
-  row_answered used t (inr h) = (by new.rows refl (subst (λ (o : Option RowWork). CountsStrip step.Row o new.rows) (b.begun).has t.rows) (t.after bytes b.open).0, (t.after bytes b.open).1)
+  row_answered used t (inr h) = (given, (t.after bytes b.open).1, sooner r new bytes piece used (m + 1) given (t.last bytes b.open))
     where
       b : RowsBefore bytes m (with_work r old)
       b = rows_before bytes m (with_work r old) h
@@ -227,15 +260,18 @@ module _ (r : ReaderState) (old new : StripWork) (bytes piece : List ℕ) (m : �
       by (Some rows) is c g =
           let all = bytes ++ take used piece in
           fed_given_row (with_work r old) new bytes (take used piece) m b rows is (t.keeps.strip (ap is_some (b.begun).has)) c g.row g.last (last_within r.limits all g.last)
+
+      given : HasGivenRow (bytes ++ take used piece) (m + 1) (with_work r new)
+      given = by new.rows refl (subst (λ (o : Option RowWork). CountsStrip step.Row o new.rows) (b.begun).has t.rows) (t.after bytes b.open).0
   row_answered used t (inl (p, z)) = by new.rows refl
     where
       by : (o : Option RowWork) → new.rows ≡ o → AfterFeedRow bytes m piece (Ok (fed.Row used)) (with_work r new)
       by None is = absurd (let g = subst (λ (o : Option RowWork). RowsGive r.limits (bytes ++ take used piece) o new.file) is (t.after bytes (here r old new bytes piece p)).0 in g.row)
       by (Some rows) is =
-          let one : 1 ≡ m + 1 = ap (λ n. n + 1) (sym z) in (
-            subst (λ (n : ℕ). HasGivenRow (bytes ++ take used piece) n (with_work r new)) one (given_begun r old new bytes piece p used rows t is),
-            (t.after bytes (here r old new bytes piece p)).1,
-          )
+          let one : 1 ≡ m + 1 = ap (λ n. n + 1) (sym z) in
+          let opened = here r old new bytes piece p in
+          let given = subst (λ (n : ℕ). HasGivenRow (bytes ++ take used piece) n (with_work r new)) one (given_begun r old new bytes piece p used rows t is) in
+          (given, (t.after bytes opened).1, sooner r new bytes piece used (m + 1) given (t.last bytes opened))
 
   -- AT A FAULT, if MCU rows were being read before the piece
   rows_stopped : (n : ℕ) (f : FaultAt) → f.at ≡ length bytes + n → RowsBefore bytes m (with_work r old) → ReadsPiece r.limits old piece (Err (stop.Fault f)) new
@@ -281,6 +317,15 @@ module _ (r : ReaderState) (old new : StripWork) (bytes piece : List ℕ) (m : �
       began (Some after) has =
           let b : BeganAtFault r.limits all new.strip new.file = subst (λ (o : Option RowWork). RowsFault r.limits bytes all None new o) has k in
           inr (subst (λ (n : ℕ). StopsRows all n (stopped_by r new f)) (sym z) (began_stopped r new all f after has b))
+
+  -- NoMemory
+  pub memory_answered : (e : Stop) → WantsNone (Err e) new.rows → ReadsPiece r.limits old piece (Err e) new → HasReadSoFar bytes m (with_work r old) → e ≡ stop.NoMemory
+      → AsksForMemory r.limits (length bytes) (bytes ++ piece) new.file.head
+  memory_answered (stop.Fault f) wants t s is = absurd cc
+  memory_answered stop.NoMemory wants t (inl (p, z)) is = t.asks wants bytes (here r old new bytes piece p)
+  memory_answered stop.NoMemory wants t (inr h) is =
+      let b = rows_before bytes m (with_work r old) h in
+      absurd (clash (is_some new.rows) (t.keeps.some (ap is_some (b.begun).has)) (ap is_some wants))
 
   -- and of any stop
   pub stop_answered : (e : Stop) → old.by_row ≡ true → WantsNone (Err e) new.rows → ReadsPiece r.limits old piece (Err e) new → HasReadSoFar bytes m (with_work r old)

@@ -1,5 +1,5 @@
 -- MCU rows of a file that is being read which are decoded or complete (T.81, A.2.3).
-use Rattle.std.proofs.Common.{◌≡◌, ℕ, ◌+◌, ◌*◌, ◌<◌, ◌≤◌, ◌==◌, ◌&&◌, Bool, true, false, cond, List, [], ◌∷◌, ◌++◌, length, refl, sym, ap, ◌∙◌, subst, arith}
+use Rattle.std.proofs.Common.{◌≡◌, ◌⊎◌, inl, inr, ℕ, ◌+◌, ◌*◌, ◌<◌, ◌≤◌, ◌==◌, ◌&&◌, Bool, true, false, cond, List, [], ◌∷◌, ◌++◌, length, refl, sym, ap, ◌∙◌, subst, arith}
 use Rattle.std.specs.Prelude.{nat_lt}
 use Rattle.std.proofs.Math.Nat.{le-div_iff_mul-le}
 use Rattle.std.proofs.lemmas.Nat.{mul-le}
@@ -26,10 +26,10 @@ use Rattle.jpg_coefs.specs.Picture.{Picture, is_padded, map_of}
 use Rattle.jpg_seq.specs.Rows.{IsRowOf, rows_in_mcu, top_of}
 use Rattle.jpg_file.specs.Read.RowData.{InRowData}
 use Rattle.jpg_file.specs.Read.RowPlaces.{IsRowAt, scan_left}
-use Rattle.jpg_file.specs.Read.RowStops.{CompletesBefore}
+use Rattle.jpg_file.specs.Read.RowsSoFar.{CompletesBefore, RowsSoFar}
 use Rattle.jpg_file.specs.Read.RowTurns.{unfinished}
 use Rattle.jpg_file.specs.Read.ReadRows.{AreOfRow}
-use Rattle.jpg_file.specs.Read.Strips.{IsFirstScan, RowsInside, components_of, frame_behind}
+use Rattle.jpg_file.specs.Read.Strips.{GoesByRow, IsFirstScan, RowsAfter, RowsInside, components_of, frame_behind}
 use Rattle.jpg_file.specs.declared.read.file.FileWork.{FileWork}
 use Rattle.jpg_file.specs.declared.read.rows.RowWork.{RowWork}
 use Rattle.jpg_file.specs.declared.read.scan.InScan.{InScan}
@@ -45,6 +45,14 @@ inside_completes limits bytes w rows whole r none =
     let first = (r.held).of in
     let all = scan_of_all limits r.items r.contents rows (scan_left r.scan.work) first (r.at).at in
     stops_complete limits r.items r.contents bytes whole rows (scan_left r.scan.work) (data_stops limits r.items r.contents bytes r.scan whole d first all) (r.at).at
+
+-- if no bits wait, this many MCU rows are complete
+pub goes_completes : (limits : Limits) (bytes : List ℕ) (w : FileWork) (rows : RowWork) → GoesByRow limits bytes w rows → RowsSoFar limits bytes rows
+goes_completes limits bytes w rows g = by (g.stands).at
+  where
+    by : RowsInside limits bytes w rows (g.stands).whole ⊎ RowsAfter limits bytes w rows (g.stands).whole → RowsSoFar limits bytes rows
+    by (inl r) = inr (segments_of r.items, r.contents, inside_completes limits bytes w rows (g.stands).whole r g.none)
+    by (inr b) = inl b.done
 
 -- WHERE BITS MAY WAIT
 

@@ -14,7 +14,9 @@ use Rattle.jpg_file.specs.Read.InData.{InData}
 use Rattle.jpg_file.specs.Read.Items.{IsOfMarker, TakesMarker}
 use Rattle.jpg_file.specs.Read.Reading.{waiting_bytes}
 use Rattle.jpg_file.specs.Read.RowData.{AfterRowByte, AfterRowBytes, InRowData, IsRowData, RunRest, TakesByteInRow, TakesRunInRow}
+use Rattle.jpg_file.specs.Read.RowLast.{LastRunInRow}
 use Rattle.jpg_file.specs.Read.RowPlaces.{scan_left}
+use Rattle.jpg_file.specs.Read.RowsSoFar.{CompletesBefore, RowsSoFar}
 use Rattle.jpg_file.specs.Read.RowTurns.{CountsScan}
 use Rattle.jpg_file.specs.Read.Strips.{AfterRows, PassesItem, RowsRun, ScanHeld, components_of, frame_behind}
 use Rattle.jpg_file.specs.declared.read.file.FileWork.{FileWork}
@@ -133,7 +135,7 @@ module _ (bytes : List ℕ) (w : FileWork) (scan : InScan) (rows : RowWork) (r :
   -- SOME BYTES one after another
 
   module _ (run : List ℕ) (n : ℕ) (new : InScan) (after : RowWork) (given : Result (Unit {0}) Fault)
-      (took : TakesRunInRow scan rows run n given new after) where
+      (took : TakesRunInRow scan rows run n given new after) (stays : LastRunInRow scan rows run n) where
     abbrev now : Picture
     now = (took limits r.items r.contents bytes r.whole r.row ready_data).0
 
@@ -157,6 +159,13 @@ module _ (bytes : List ℕ) (w : FileWork) (scan : InScan) (rows : RowWork) (r :
     pub run_few : n ≤ length run
     run_few = omega (arith, rest.count, rest.within)
 
+    -- the MCU rows that those before the last one complete
+    run_rows : RowsSoFar limits front rows
+    run_rows =
+        let k = stays limits r.items r.contents bytes r.whole r.row ready_data ((r.held).of, (r.at).at) in
+        let same : k.0 ≡ rest.early = omega (arith, k.1, rest.count) in
+        inr (segments_of r.items, r.contents, subst (λ e. CompletesBefore limits (bytes ++ take e run) (segments_of r.items) r.contents rows) same k.2)
+
     -- the file before the last of them
     run_mid : w.reading.taken + length run ≤ limits.input → ScanHeld limits r.items r.contents front mid (rest.mid).gate
     run_mid room =
@@ -178,12 +187,13 @@ module _ (bytes : List ℕ) (w : FileWork) (scan : InScan) (rows : RowWork) (r :
 
     -- all of them, by the result of the last one
     run_by : (result : Step) → w.reading.taken + length run ≤ limits.input → AfterRows limits (front ++ byte ∷ []) result (file_with w new (w.reading.taken + n)) after
-        → RowsRun limits bytes run n result (file_with w new (w.reading.taken + n)) after
+        → RowsRun limits bytes run n result rows (file_with w new (w.reading.taken + n)) after
     run_by result room last = record {
       mid = with_picture mid rest.between;
       early = rest.early;
       count = rest.count;
       within = rest.within;
+      rows_before = run_rows;
       before = run_stands room;
       room = omega (arith, room, rest.within);
       head = refl;
@@ -194,7 +204,7 @@ module _ (bytes : List ℕ) (w : FileWork) (scan : InScan) (rows : RowWork) (r :
     last_taken answer is = subst (λ (a : Result (Unit {0}) Fault). AfterRowBytes limits r.items r.contents (front ++ byte ∷ []) a after.waiting new now) is rest.last
 
     pub run_goes : (row : Bool) (result : Step) → w.reading.taken + length run ≤ limits.input → given ≡ Ok tt → CountsScan scan.work rows row new.work after
-        → result ≡ cond row step.Row step.More → RowsRun limits bytes run n result (file_with w new (w.reading.taken + n)) after
+        → result ≡ cond row step.Row step.More → RowsRun limits bytes run n result rows (file_with w new (w.reading.taken + n)) after
     run_goes row result room is c came =
         let all = front ++ byte ∷ [] in
         let answer = cond row step.Row step.More in
@@ -207,7 +217,7 @@ module _ (bytes : List ℕ) (w : FileWork) (scan : InScan) (rows : RowWork) (r :
         (subst (λ (a : Step). AfterRows limits all a (file_with w new (w.reading.taken + n)) after) (sym came) (subst (λ m. AfterRows limits all answer (file_with w new m) after) one last))
 
     pub run_stops : (fault : Fault) (result : Step) → w.reading.taken + length run ≤ limits.input → given ≡ Err fault
-        → result ≡ step.Ended (stop.Fault (record { fault = fault; at = w.reading.taken + n })) → RowsRun limits bytes run n result (file_with w new (w.reading.taken + n)) after
+        → result ≡ step.Ended (stop.Fault (record { fault = fault; at = w.reading.taken + n })) → RowsRun limits bytes run n result rows (file_with w new (w.reading.taken + n)) after
     run_stops fault result room is came =
         let all = front ++ byte ∷ [] in
         let size = length-take-le rest.early run (omega (arith, rest.within)) in

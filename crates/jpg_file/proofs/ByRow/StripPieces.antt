@@ -7,6 +7,7 @@ use Rattle.jpg_spec.specs.declared.frame.Limits.{Limits}
 use Rattle.jpg_coefs.specs.Picture.{Picture}
 use Rattle.jpg_file.specs.Read.File.{RepresentsFile, limits_of, with_picture}
 use Rattle.jpg_file.specs.Read.RowData.{InRowData}
+use Rattle.jpg_file.specs.Read.RowsSoFar.{RowsSoFar}
 use Rattle.jpg_file.specs.Read.FirstHeader.{IsFirstHeaderOf}
 use Rattle.jpg_file.specs.Read.Strips.{AfterRows, GoesByRow, RowsAfter, RowsInside, RowsRun, StripGoes, RepresentsStrip}
 use Rattle.jpg_file.specs.Read.Going.{FillsScan, has_waiting}
@@ -19,6 +20,7 @@ use Rattle.jpg_file.proofs.Headers.FirstHeaders.{has_longer}
 use Rattle.jpg_file.proofs.Files.FileSteps.{head_by, head_is}
 use Rattle.jpg_file.proofs.Files.PieceSteps.{limits_are, waiting_scan}
 use Rattle.jpg_file.proofs.Scans.ScanBytes.{ff_bytes}
+use Rattle.jpg_file.proofs.ByRow.RowsGiven.{goes_completes}
 use Rattle.jpg_file.proofs.ByRow.StripTurns.{inside_row}
 
 -- the file as it is read in one go
@@ -53,9 +55,9 @@ goes_stands limits bytes w rows g = ((g.stands).whole, goes_with limits bytes w 
 
 module _ (limits : Limits) (front bytes : List ℕ) (new : FileWork) (after : RowWork) (result : Step) where
   -- a stretch from the first of them on
-  pub front_rows : (size n : ℕ) → size ≤ length bytes → RowsRun limits front (take size bytes) n result new after
-      → RowsRun limits front bytes n result new after
-  front_rows size n few t =
+  pub front_rows : (rows : RowWork) (size n : ℕ) → size ≤ length bytes → RowsRun limits front (take size bytes) n result rows new after
+      → RowsRun limits front bytes n result rows new after
+  front_rows rows size n few t =
       let low = t.within in
       let long = length-take-le size bytes few in
       let same : take t.early (take size bytes) ≡ take t.early bytes = take-take t.early size bytes (omega (arith, low, long)) in
@@ -65,6 +67,7 @@ module _ (limits : Limits) (front bytes : List ℕ) (new : FileWork) (after : Ro
         early = t.early;
         count = t.count;
         within = omega (arith, low, long, few);
+        rows_before = subst (λ l. RowsSoFar limits (front ++ l) rows) same t.rows_before;
         before = subst (λ l. RepresentsFile limits (front ++ l) t.mid) same t.before;
         room = t.room;
         head = t.head;
@@ -74,10 +77,10 @@ module _ (limits : Limits) (front bytes : List ℕ) (new : FileWork) (after : Ro
   -- a byte after some that were taken together
   pub later_row : (n : ℕ) (mid : FileWork) (rows : RowWork) → GoesByRow limits (front ++ take n bytes) mid rows → mid.reading.taken < limits.input
       → n < length bytes → new.head ≡ mid.head → AfterRows limits ((front ++ take n bytes) ++ get_or bytes n 0 ∷ []) result new after
-      → RowsRun limits front bytes (n + 1) result new after
+      → RowsRun limits front bytes (n + 1) result rows new after
   later_row n mid rows g room less head a =
       let k = goes_stands limits (front ++ take n bytes) mid rows g in
-      record { mid = with_picture mid k.0; early = n; count = refl; within = less; before = k.1; room = room; head = sym head; last = a }
+      record { mid = with_picture mid k.0; early = n; count = refl; within = less; rows_before = goes_completes limits (front ++ take n bytes) mid rows g; before = k.1; room = room; head = sym head; last = a }
 
 -- FILL BYTES inside the data of the scan
 rows_stay : (limits : Limits) (bytes run : List ℕ) (n : ℕ) (w : FileWork) (rows : RowWork) → (g : GoesByRow limits bytes w rows) → (r : RowsInside limits bytes w rows (g.stands).whole) → has_waiting w.reading.scan ≡ true → limits_of w ≡ limits

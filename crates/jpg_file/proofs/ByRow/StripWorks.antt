@@ -1,16 +1,18 @@
 -- A file that is read MCU row by MCU row, in its other states: before its first scan, and where its scans are read in
 -- one go.
-use Rattle.std.proofs.Common.{◌≡◌, ℕ, ◌+◌, true, List, [], ◌∷◌, ◌++◌, take, get_or, refl, sym, subst, Option, Some, None, Err}
-use Rattle.std.specs.Prelude.{is_none}
+use Rattle.std.proofs.Common.{◌≡◌, ℕ, ◌+◌, ◌∙◌, ap, true, List, [], ◌∷◌, ◌++◌, take, get_or, refl, sym, subst, Option, Some, None, Err}
+use Rattle.std.specs.Prelude.{is_none, is_some}
 use Rattle.jpg_spec.specs.declared.frame.Limits.{Limits}
 use Rattle.jpg_base.specs.declared.stop.Stop.{Stop}
 use Rattle.jpg_base.specs.declared.stop.Stop.TheVariants as stop
 use Rattle.jpg_file.specs.Read.File.{AfterFileByte, KeepsBytes, PassesFront, RepresentsFile, TakesSome, limits_of}
 use Rattle.jpg_file.specs.Read.RowsKnown.{KnowsRows}
 use Rattle.jpg_file.specs.declared.read.strip_head.StripHead.{StripHead}
+use Rattle.jpg_spec.proofs.Basics.Common.{clash, some_once}
 use Rattle.jpg_file.proofs.Files.FileSteps.{asked}
 use Rattle.jpg_file.proofs.Files.PieceSteps.{one_more}
-use Rattle.jpg_file.specs.Read.Step.{IfStops}
+use Rattle.jpg_file.specs.Read.RowsSoFar.{RowsSoFar}
+use Rattle.jpg_file.specs.Read.Step.{HasMemory, IfStops, IfWants}
 use Rattle.jpg_file.specs.Read.Strips.{AfterScanBegins, AfterStrip, RowsRun, StripGoes, StripRun}
 use Rattle.jpg_file.specs.declared.read.file.FileWork.{FileWork}
 use Rattle.jpg_file.specs.declared.read.rows.RowWork.{RowWork}
@@ -35,9 +37,22 @@ pub stops : (result : Step) (holds : Type 0) → holds → IfStops result holds
 stops (step.Ended e) holds h = h
 stops other holds h = tt
 
+pub wants : (result : Step) (holds : Type 0) → holds → IfWants result holds
+wants (step.Ended stop.NoMemory) holds h = h
+wants other holds h = tt
+
+pub wants_nothing : (result : Step) (holds : Type 0) → HasMemory result → IfWants result holds
+wants_nothing (step.Ended stop.NoMemory) holds h = absurd h
+wants_nothing other holds h = tt
+
+-- memory is asked for between items
+asks_between : (result : Step) (w mid : FileWork) (limits : Limits) (bytes : List ℕ) (new : FileWork) → IfWants result (mid.reading.scan ≡ w.reading.scan) → AfterFileByte (KeepsBytes w) limits bytes result new → IfWants result (mid.reading.scan ≡ None)
+asks_between (step.Ended stop.NoMemory) w mid limits bytes new same none = same ∙ none
+asks_between other w mid limits bytes new same after = tt
+
 -- of a file that is read in one go
 pub some_plain : (w : FileWork) (rows : Option RowWork) (run : List ℕ) (n : ℕ) (answer : Step) (new : FileWork) → rows ≡ None → TakesSome w run n answer new → (bytes : List ℕ) → StripGoes (limits_of w) bytes rows w
-    → StripRun (limits_of w) bytes run n answer rows new
+    → StripRun (limits_of w) bytes run n answer rows rows new
 some_plain w rows run n answer new none t bytes g =
     let limits = limits_of w in
     let k = subst (λ (r : Option RowWork). StripGoes limits bytes r w) none g in
@@ -51,12 +66,14 @@ some_plain w rows run n answer new none t bytes g =
       before = before;
       room = t.room limits bytes k refl;
       head = t.head;
+      asks = λ none. asks_between answer w t.mid limits (front ++ get_or run t.early 0 ∷ []) new t.scan (t.last limits front before refl);
+      rows_before = λ current is. absurd (clash (is_some rows) (ap is_some is) (ap is_some none));
       last = plain_after (KeepsBytes w) limits (front ++ get_or run t.early 0 ∷ []) rows new answer none (t.last limits front before refl);
     }
 
 -- of one that is read MCU row by MCU row
-pub some_rows : (limits : Limits) (bytes run : List ℕ) (n : ℕ) (result : Step) (new : FileWork) (after : RowWork) → RowsRun limits bytes run n result new after → StripRun limits bytes run n result (Some after) new
-some_rows limits bytes run n result new after t = record {
+pub some_rows : (limits : Limits) (bytes run : List ℕ) (n : ℕ) (result : Step) (old : Option RowWork) (rows : RowWork) (new : FileWork) (after : RowWork) → old ≡ Some rows → RowsRun limits bytes run n result rows new after → StripRun limits bytes run n result old (Some after) new
+some_rows limits bytes run n result old rows new after is t = record {
   mid = t.mid;
   early = t.early;
   count = t.count;
@@ -64,6 +81,8 @@ some_rows limits bytes run n result new after t = record {
   before = t.before;
   room = t.room;
   head = stops result (new.head ≡ (t.mid).head) (sym t.head);
+  asks = λ none. absurd (clash (is_some old) (ap is_some is) (ap is_some none));
+  rows_before = λ current has. subst (λ (r : RowWork). RowsSoFar limits (bytes ++ take t.early run) r) (some_once rows current (sym is ∙ has)) t.rows_before;
   last = t.last;
 }
 
@@ -71,8 +90,8 @@ module _ (w mid : FileWork) (run : List ℕ) (n : ℕ) (p : PassesFront w run n 
   -- before the first scan: contents of a segment, and a byte
   pub first_plain : (old rows : Option RowWork) (new : FileWork) (result : Step) → old ≡ None
       → ((bytes : List ℕ) → RepresentsFile (limits_of mid) bytes mid → AfterStrip (limits_of mid) (bytes ++ get_or run n 0 ∷ []) result rows new)
-      → IfStops result (new.head ≡ mid.head) → (bytes : List ℕ) → StripGoes (limits_of w) bytes old w → StripRun (limits_of w) bytes run (n + 1) result rows new
-  first_plain old rows new result none after head bytes g =
+      → IfStops result (new.head ≡ mid.head) → IfWants result (mid.reading.scan ≡ None) → (bytes : List ℕ) → StripGoes (limits_of w) bytes old w → StripRun (limits_of w) bytes run (n + 1) result old rows new
+  first_plain old rows new result none after head asks bytes g =
       let limits = limits_of w in
       let k = subst (λ (r : Option RowWork). StripGoes limits bytes r w) none g in
       let front = bytes ++ take n run in
@@ -85,6 +104,8 @@ module _ (w mid : FileWork) (run : List ℕ) (n : ℕ) (p : PassesFront w run n 
         before = before;
         room = p.room;
         head = head;
+        asks = λ none. asks;
+        rows_before = λ current is. absurd (clash (is_some old) (ap is_some is) (ap is_some none));
         last = subst (λ (l : Limits). AfterStrip l (front ++ get_or run n 0 ∷ []) result rows new) p.limits (after front (subst (λ (l : Limits). RepresentsFile l front mid) (sym p.limits) before));
       }
 

@@ -32,7 +32,7 @@ use Rattle.jpg_spec.proofs.Files.ItemSteps.{fill_begin, fill_marker, fill_part}
 use Rattle.jpg_spec.proofs.Files.Ranges.{leads_in_range}
 use Rattle.jpg_coefs.specs.Picture.{Picture, map_of}
 use Rattle.jpg_markers.specs.Reading.{reading_of}
-use Rattle.jpg_file.specs.Read.ScanHistory.{HasBegun, IsComplete}
+use Rattle.jpg_file.specs.Read.ScanHistory.{HasBegun, HasBegunEach, IsComplete}
 use Rattle.jpg_file.specs.Read.File.{EndsFile, PictureSoFar, RepresentsFile, IsBetweenFileItems, IsInsideScanOfFile, keeping_of}
 use Rattle.jpg_file.specs.Read.SegmentState.{Holds, segments_view}
 use Rattle.jpg_file.specs.Read.InData.{AtInterval, InData}
@@ -40,7 +40,7 @@ use Rattle.jpg_file.specs.Read.Items.{AtPlace, IsBeside}
 use Rattle.jpg_file.specs.Read.Keeping.{kept_for}
 use Rattle.jpg_file.specs.Read.Left.{Leaves, LeavesPicture}
 use Rattle.jpg_file.specs.Read.PictureRead.{MeansFor, RevealsFile}
-use Rattle.jpg_file.specs.Read.ReadFile.{HasRead, IsDone, IsEarlyEnd, ReaderState, TellsBegun}
+use Rattle.jpg_file.specs.Read.ReadFile.{EndsBetweenItems, HasRead, IsDone, IsEarlyEnd, ReaderState, TellsBegun}
 use Rattle.jpg_scans.specs.declared.progress.Progress.{Progress}
 use Rattle.jpg_file.specs.declared.read.scan_history.ScanHistory.{ScanHistory}
 use Rattle.jpg_file.specs.declared.read.file.FileWork.{FileWork}
@@ -228,6 +228,16 @@ between_end limits bytes w s = by (s.at).at
         let r = reading_of (w.reading.items).segments in
         beside_end limits bytes (s.at).sent w s tail k (part_after limits bytes (s.at).sent s.items s.blocks r tail r.phase (s.at).bounded.0 k ((s.at).stands).1)
 
+pub ends_between : (limits : Limits) (bytes : List ℕ) (w : FileWork) → IsBetweenFileItems limits bytes w → EndsBetweenItems limits bytes
+ends_between limits bytes w s = by (s.at).at
+  where
+    by : AtPlace limits bytes (s.at).sent s.items s.blocks → EndsBetweenItems limits bytes
+    by (inl k) = inl (subst (λ z. (z ≡ []) ⊎ (z ≡ 255 ∷ [])) (sym k.same) k.short)
+    by (inr (tail, k)) =
+        let r = reading_of (w.reading.items).segments in
+        let part = part_after limits bytes (s.at).sent s.items s.blocks r tail r.phase (s.at).bounded.0 k ((s.at).stands).1 in
+        inr (s.items, replicate (k.beside).fill 255 ++ tail, (k.beside).behind, filled_item (k.beside).fill s.items tail part)
+
 -- INSIDE THE DATA OF A SCAN
 
 inside_of_place : (limits : Limits) (bytes : List ℕ) (p : ScanPlace) (tail : List ℕ) → ScanAt limits bytes p tail → InsideScan limits bytes tail
@@ -343,6 +353,29 @@ tells_begun limits bytes w all s told = by all refl
         (a.here (some_at limits bytes w a named.found) named).have
     by false e = λ begun.
         (let a = at_end limits bytes w s in not_named limits w.begun a.segments all a.begun told (some_at limits bytes w a) e (a.named begun))
+
+-- each component was in a scan
+pub each_complete : (o : Option Progress) (all : Bool) → HasBegunEach o → IsComplete o all → all ≡ true
+each_complete o all h told = told h.frame h.heads h.some h.scans ∙ h.each
+
+pub ends_each : (limits : Limits) (bytes : List ℕ) (w : FileWork) → EndsFile limits bytes w → HasBegunEach w.begun.progress
+ends_each limits bytes w e =
+    let f = frame_of_items limits (e.ends).items in
+    let left = frame_left limits bytes w e in
+    record {
+      frame = f;
+      heads = heads_of f (segments_of (e.ends).items);
+      some = subst (λ (g : Frame). 1 ≤ length g.components) (sym left.is) left.some;
+      scans = (((e.ends).beside).begun).scans;
+      each = e.complete;
+    }
+
+pub named_each : (limits : Limits) (bytes : List ℕ) (w : FileWork) (all : Bool) → RepresentsFile limits bytes w → IsComplete w.begun.progress all → all ≡ true → HasBegunEach w.begun.progress
+named_each limits bytes w all s told e =
+    let a = at_end limits bytes w s in
+    let f = frame_of limits a.segments in
+    let named = named_by limits w.begun a.segments all a.begun told (some_at limits bytes w a) e in
+    record { frame = f; heads = heads_of f a.segments; some = some_at limits bytes w a named.found; scans = (a.begun).scans; each = named.complete }
 
 leaves_at : (limits : Limits) (bytes : List ℕ) (w : FileWork) → (a : AtEnd limits bytes w) → AllNamed limits a.segments → Leaves limits a.segments a.blocks w
 leaves_at limits bytes w a named =

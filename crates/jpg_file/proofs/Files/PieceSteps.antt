@@ -20,8 +20,10 @@ use Rattle.jpg_file.specs.Read.Going.{FillsScan, GoesOn, has_waiting}
 use Rattle.jpg_file.specs.Read.Reading.{Scanning}
 use Rattle.jpg_file.specs.declared.read.scan.InScan.{InScan}
 use Rattle.jpg_file.specs.declared.read.items.ItemStep.TheVariants as step
-use Rattle.jpg_file.specs.Read.Step.{IfStops}
+use Rattle.jpg_file.specs.Read.Step.{IfStops, IfWants}
 use Rattle.jpg_file.specs.declared.read.step.Step.{Step}
+use Rattle.jpg_file.specs.declared.read.step.Step.TheVariants as came
+use Rattle.jpg_base.specs.declared.stop.Stop.TheVariants as stop
 use Rattle.jpg_file.specs.declared.read.reading.Reading.{Reading}
 use Rattle.jpg_file.specs.declared.read.file.FileWork.{FileWork}
 use Rattle.jpg_file.proofs.Files.Ending.{file_ends}
@@ -179,6 +181,7 @@ one_taken w mid bytes n answer new front took head = record {
   count = refl;
   within = front.within;
   head = head;
+  scan = by answer;
   room = λ limits before k same. subst (λ (l : Limits). mid.reading.taken < l.input) same front.room;
   before = λ limits before k same. front.stands limits before k;
   last = λ limits before k same.
@@ -186,6 +189,10 @@ one_taken w mid bytes n answer new front took head = record {
       asked (KeepsBytes mid) (KeepsBytes w) (λ none. sym front.scan ∙ none) limits (before ++ get_or bytes n 0 ∷ []) answer new
       (subst (λ l. AfterFileByte (KeepsBytes mid) l (before ++ get_or bytes n 0 ∷ []) answer new) is (took before (subst (λ l. RepresentsFile l before mid) (sym is) k))));
 }
+  where
+    by : (answer : Step) → IfWants answer (mid.reading.scan ≡ w.reading.scan)
+    by (came.Ended stop.NoMemory) = front.scan
+    by other = tt
 
 pub front_taken : (w : FileWork) (bytes : List ℕ) (size n : ℕ) (answer : Step) (new : FileWork) → size ≤ length bytes → TakesSome w (take size bytes) n answer new → TakesSome w bytes n answer new
 front_taken w bytes size n answer new few t =
@@ -198,6 +205,7 @@ front_taken w bytes size n answer new few t =
       count = t.count;
       within = omega (arith, low, long, few);
       head = t.head;
+      scan = t.scan;
       room = t.room;
       before = λ limits front k e. subst (λ l. RepresentsFile limits (front ++ l) t.mid) same (t.before limits front k e);
       last = λ limits front k e. subst (λ b. AfterFileByte (KeepsBytes w) limits (front ++ b ∷ []) answer new) (get_or-take size bytes t.early 0 (omega (arith, low, long))) (t.last limits front k e);

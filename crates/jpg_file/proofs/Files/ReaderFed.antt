@@ -12,9 +12,10 @@ use Rattle.jpg_spec.proofs.Files.FileLaws.{shown_not_standing}
 use Rattle.jpg_base.specs.declared.stop.Fed.TheVariants as whole
 use Rattle.jpg_base.specs.declared.stop.Stop.{Stop}
 use Rattle.jpg_base.specs.declared.stop.Stop.TheVariants as stop
-use Rattle.jpg_file.specs.Read.File.{EndsFile, RepresentsFile}
+use Rattle.jpg_file.specs.Read.File.{EndsFile, RepresentsFile, with_picture}
+use Rattle.jpg_file.specs.Read.ScanHistory.{HasBegunEach}
 use Rattle.jpg_file.specs.Read.PieceTaken.{ReadsPiece}
-use Rattle.jpg_file.specs.Read.ReadFile.{AfterFeed, HasRead, IsStopOf, ReaderState}
+use Rattle.jpg_file.specs.Read.ReadFile.{AfterFeed, AsksForMemory, HasRead, IsStopOf, ReaderState}
 use Rattle.jpg_file.specs.Read.ReadRows.{IsReading}
 use Rattle.jpg_file.specs.Read.RowPieces.{AfterRowsPiece, KeepsWork, RowsGive, RowsGo, RowsOpen}
 use Rattle.jpg_file.specs.Read.Strips.{AfterStrip, StripGoes, RepresentsStrip}
@@ -25,7 +26,7 @@ use Rattle.jpg_file.specs.declared.read.rows.RowWork.{RowWork}
 use Rattle.jpg_file.specs.declared.read.strip_work.StripWork.{StripWork}
 use Rattle.jpg_file.specs.declared.read.step.Step.TheVariants as step
 use Rattle.jpg_file.proofs.Files.FileSteps.{head_is, head_left}
-use Rattle.jpg_file.proofs.Files.Leaving.{whole_leaves}
+use Rattle.jpg_file.proofs.Files.Leaving.{ends_each, whole_leaves}
 use Rattle.jpg_file.proofs.Files.PieceSteps.{file_means, stands_file}
 
 go_open : (limits : Limits) (bytes : List ℕ) (rows : Option RowWork) (w : FileWork) → RowsGo limits bytes rows w → RowsOpen limits bytes rows w
@@ -45,6 +46,10 @@ give_open limits bytes rows w g = record { stands = by rows g.row; last = λ som
 pub ends_plain : (limits : Limits) (bytes : List ℕ) (rows : Option RowWork) (w : FileWork) → rows ≡ None → AfterStrip limits bytes step.Whole rows w → EndsFile limits bytes w
 ends_plain limits bytes rows w none a = (let k = subst (λ (o : Option RowWork). AfterStrip limits bytes step.Whole o w) none a in k)
 
+whole_each : (limits : Limits) (bytes : List ℕ) (rows : Option RowWork) (w : FileWork) → AfterStrip limits bytes step.Whole rows w → HasBegunEach w.begun.progress
+whole_each limits bytes None w a = ends_each limits bytes w a
+whole_each limits bytes (Some rows) w a = ends_each limits bytes (with_picture w a.whole) a.ends
+
 -- as the reader is seen with this work
 abbrev pub with_work : ReaderState → StripWork → ReaderState
 with_work r work = record r { file = work.file; by_row = work.by_row; rows = work.rows; strip = work.strip }
@@ -56,6 +61,7 @@ keeps_going r old new kept undone k next = record {
   sparing = λ by. kept.sparing (k.keeping (sym kept.by_row ∙ by)) (k.sparing (sym kept.by_row ∙ by));
   «open» = λ none skip_ahead. (let o = k.open none skip_ahead in next o.0 o.1);
   ended = λ done. absurd (clash r.done done undone);
+  begun = λ done. absurd (clash r.done done undone);
 }
 
 pub keeps_more_rows : (r : ReaderState) (old new : StripWork) (piece : List ℕ) (result : Result FedRow Stop) → result ≡ Ok fed.More → r.done ≡ false → IsReading (with_work r old) → ReadsPiece r.limits old piece result new → IsReading (with_work r new)
@@ -78,6 +84,7 @@ keeps_done_rows r old new piece result used e undone skip_ahead k t =
       sparing = λ by. kept.sparing (k.keeping (sym kept.by_row ∙ by)) (k.sparing (sym kept.by_row ∙ by));
       «open» = λ none undone_now. absurd (clash true refl undone_now);
       ended = λ done none. whole_leaves r.limits (o.0 ++ take used piece) new.file (ends_plain r.limits (o.0 ++ take used piece) new.rows new.file none a.0);
+      begun = λ done. whole_each r.limits (o.0 ++ take used piece) new.rows new.file a.0;
     }
 
 -- WHERE NO MCU ROWS ARE READ
@@ -131,6 +138,11 @@ fed_stop r old new bytes piece (stop.Fault f) before h t =
     let a = t.after bytes (plain_open r.limits bytes old.rows old.file before h.open) in
     (a.0, later_fault r.limits bytes piece f h.stands h.short a.0, a.2)
 fed_stop r old new bytes piece stop.NoMemory before h t = t.after bytes (plain_open r.limits bytes old.rows old.file before h.open)
+
+pub fed_asks : (r : ReaderState) (old new : StripWork) (bytes piece : List ℕ) (e : Stop) → old.rows ≡ None → new.rows ≡ None → HasRead bytes (with_work r old) → ReadsPiece r.limits old piece (Err e) new → e ≡ stop.NoMemory
+    → AsksForMemory r.limits (length bytes) (bytes ++ piece) new.file.head
+fed_asks r old new bytes piece (stop.Fault f) before after h t is = absurd cc
+fed_asks r old new bytes piece stop.NoMemory before after h t is = t.asks after bytes (plain_open r.limits bytes old.rows old.file before h.open)
 
 -- no MCU row is complete
 pub fed_no_row : (limits : Limits) (old new : StripWork) (bytes piece : List ℕ) (used : ℕ) → old.rows ≡ None → new.rows ≡ None → RepresentsFile limits bytes old.file → ReadsPiece limits old piece (Ok (fed.Row used)) new → ⊥

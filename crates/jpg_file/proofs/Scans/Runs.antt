@@ -128,19 +128,26 @@ record AnswerCut (M : Type 0) (k : Kind M) (m : M) (now : Picture) (xs front : L
   pub first : Chain k m now xs mid between
   pub second : ChainTo k most mid between front answer new after
 
+-- those before the last one, after first ones that don't reach it
+pub bits_before : (bits xs front before : List Bool) (bit : Bool) → bits ≡ before ++ bit ∷ [] → bits ≡ xs ++ front → 1 ≤ length front → (g : List Bool) × (before ≡ xs ++ g)
+bits_before bits xs front before bit is cut some =
+    let long = ap length is in
+    let l1 = length-append before (bit ∷ []) in
+    let l2 = ap length cut in
+    let l3 = length-append xs front in
+    let within : length xs ≤ length before = omega (arith, long, l1, l2, l3, some) in
+    let g = drop (length xs) before in
+    let begins : take (length xs) before ≡ xs =
+    sym (take-append-le (length xs) before (bit ∷ []) within) ∙ ap (take (length xs)) (sym is ∙ cut) ∙ take-append_seam xs front in
+    (g, sym (take-append-drop (length xs) before) ∙ ap (λ l. l ++ g) begins)
+
 module _ {M : Type 0} (k : Kind M) (m new : M) (now after : Picture) where
   answer_cut : (most : ℕ) (bits xs front : List Bool) (answer : Result UnitStep UnitFault) → bits ≡ xs ++ front → 1 ≤ length front
       → ChainTo k most m now bits answer new after → AnswerCut M k m now xs front answer new after
   answer_cut most bits xs front answer cut some (before, bit, last, there, is, chain, few, ends) =
-      let long = ap length is in
-      let l1 = length-append before (bit ∷ []) in
-      let l2 = ap length cut in
-      let l3 = length-append xs front in
-      let within : length xs ≤ length before = omega (arith, long, l1, l2, l3, some) in
-      let g = drop (length xs) before in
-      let begins : take (length xs) before ≡ xs =
-      sym (take-append-le (length xs) before (bit ∷ []) within) ∙ ap (take (length xs)) (sym is ∙ cut) ∙ take-append_seam xs front in
-      let parts : before ≡ xs ++ g = sym (take-append-drop (length xs) before) ∙ ap (λ l. l ++ g) begins in
+      let split = bits_before bits xs front before bit is cut some in
+      let g = split.0 in
+      let parts = split.1 in
       let front_is : front ≡ g ++ bit ∷ [] = append_cancel_left xs front (g ++ bit ∷ []) (sym cut ∙ is ∙ ap (λ l. l ++ bit ∷ []) parts ∙ append_assoc xs g (bit ∷ [])) in
       let C : List Bool → Type 0 = λ l. Chain k m now l last there in
       let c = chain_cut k m last now there xs g (subst C parts chain) in

@@ -19,7 +19,7 @@ use Rattle.jpg_markers.specs.Reading.{reading_of}
 use Rattle.jpg_file.specs.Read.ScanHistory.{HasBegun}
 use Rattle.jpg_file.specs.Read.FirstHeader.{HasHead, first_header_of}
 use Rattle.jpg_file.specs.Read.SegmentState.{segments_view}
-use Rattle.jpg_file.specs.Read.Step.{IfStops}
+use Rattle.jpg_file.specs.Read.Step.{IfStops, IfWants}
 use Rattle.jpg_file.specs.declared.read.step.Step.{Step}
 use Rattle.jpg_file.specs.declared.read.step.Step.TheVariants as came
 use Rattle.jpg_file.specs.declared.read.first_header.Head.{Head}
@@ -178,6 +178,7 @@ pub record TakesSome (old : FileWork) (bytes : List ℕ) (n : ℕ) (answer : Ste
   pub count : n ≡ early + 1
   pub within : early < length bytes
   pub head : IfStops answer (new.head ≡ mid.head)
+  pub scan : IfWants answer (mid.reading.scan ≡ old.reading.scan)
   pub room : (limits : Limits) (front : List ℕ) → RepresentsFile limits front old → limits_of old ≡ limits → mid.reading.taken < limits.input
   pub before : (limits : Limits) (front : List ℕ) → RepresentsFile limits front old → limits_of old ≡ limits → RepresentsFile limits (front ++ take early bytes) mid
   pub last : (limits : Limits) (front : List ℕ) → RepresentsFile limits front mid → limits_of old ≡ limits → AfterFileByte (KeepsBytes old) limits (front ++ slice_index bytes early ∷ []) answer new

@@ -5,7 +5,7 @@ use Rattle.jpg_spec.specs.declared.frame.Copying.TheVariants as copying
 use Rattle.jpg_base.specs.declared.stop.Stop.{Stop}
 use Rattle.jpg_file.specs.Read.File.{keeping_of}
 use Rattle.jpg_file.specs.Read.RowFaults.{FaultsFed, FaultsSome}
-use Rattle.jpg_file.specs.Read.RowPieces.{AfterRowsPiece, CountsFed, IfSparing, KeepsWork, KnowsFed, RowsGo, RowsOpen}
+use Rattle.jpg_file.specs.Read.RowPieces.{AfterRowsPiece, AsksFed, CountsFed, IfSparing, KeepsWork, KnowsFed, LastFed, RowsGo, RowsOpen}
 use Rattle.jpg_file.specs.Read.RowsKnown.{KnowsSome}
 use Rattle.jpg_file.specs.Read.RowsNone.{HasNoRows, NoneFed, NoneSome}
 use Rattle.jpg_file.specs.Read.Step.{IfStops, IsNoRow, HasMemory}
@@ -41,6 +41,8 @@ pub record TakesPiece (Given : List ℕ → Type 0) (limits : Limits) (old : Str
   pub memory : IfSparing old answer new
   pub none : old.rows ≡ None → old.by_row ≡ true → (bytes : List ℕ) → Given bytes → HasNoRows limits bytes → NoneFed limits bytes piece answer new.rows
   pub faults : (bytes : List ℕ) → Given bytes → FaultsFed limits bytes piece answer old.rows new
+  pub last : (bytes : List ℕ) → Given bytes → LastFed limits bytes piece answer new.rows
+  pub asks : new.rows ≡ None → (bytes : List ℕ) → Given bytes → AsksFed limits bytes piece answer new.file
 
 -- of their last one bits may wait, or none do
 abbrev pub ReadsPiece : Limits → StripWork → List ℕ → Result FedRow Stop → StripWork → Type 0

@@ -1,14 +1,15 @@
 -- A file that is fed piece by piece (T.81, B.2.1).
-use Rattle.std.specs.Prelude.{◌≡◌, ◌⊎◌, ℕ, ◌<◌, ◌≤◌, Bool, true, false, List, ◌++◌, length, take, ◌+◌, option_map, Option, Some, None, Result, Ok, Err}
+use Rattle.std.specs.Prelude.{◌≡◌, ◌⊎◌, ℕ, [], ◌∷◌, ◌<◌, ◌≤◌, Bool, true, false, List, ◌++◌, length, take, ◌+◌, option_map, Option, Some, None, Result, Ok, Err}
 use Rattle.jpg_spec.specs.Geometry.{Frame}
 use Rattle.jpg_spec.specs.Meaning.{Meaning}
 use Rattle.jpg_spec.specs.Scan.{Blocks}
 use Rattle.jpg_spec.specs.Markers.{Segment}
 use Rattle.jpg_spec.specs.InForce.{frame_of}
 use Rattle.jpg_spec.specs.FileMeaning.{meaning_of}
-use Rattle.jpg_spec.specs.FirstFault.{HaveBegun, IsFirstFault}
+use Rattle.jpg_spec.specs.Items.{Item}
+use Rattle.jpg_spec.specs.FirstFault.{AfterItems, HaveBegun, IsFirstFault}
 use Rattle.jpg_spec.specs.Early.{MeansEarly}
-use Rattle.jpg_spec.specs.UnfinishedFile.{UnfinishedFile, IsWholeFile}
+use Rattle.jpg_spec.specs.UnfinishedFile.{UnfinishedFile, IsWholeFile, PartOfItem}
 use Rattle.jpg_spec.specs.declared.fault.FaultAt.{FaultAt}
 use Rattle.jpg_spec.specs.declared.frame.Colour.{Colour}
 use Rattle.jpg_spec.specs.declared.frame.Limits.{Limits}
@@ -96,6 +97,25 @@ AfterFeed bytes piece (Ok fed.More) r = HasRead (bytes ++ piece) r
 AfterFeed bytes piece (Ok (fed.Done used)) r = IsDone (bytes ++ take used piece) r × (1 ≤ used) × (used ≤ length piece)
 AfterFeed bytes piece (Err (stop.Fault f)) r = IsStopOf r.limits (bytes ++ piece) f × (length bytes < f.at) × KeepsHeadAt r.limits (bytes ++ piece) f r.file.head
 AfterFeed bytes piece (Err stop.NoMemory) r = KeepsHead r.limits (length bytes) (bytes ++ piece) r.file.head
+
+-- WHERE MEMORY IS ASKED FOR: between items, before SOI is complete or after items with a part of a segment
+abbrev pub EndsBetweenItems : Limits → List ℕ → Type 0
+EndsBetweenItems limits bytes =
+    ((bytes ≡ []) ⊎ (bytes ≡ 255 ∷ [])) ⊎ ((items : List Item) × (tail : List ℕ) × AfterItems limits bytes items tail × PartOfItem items tail)
+
+-- Some first bytes, no fewer than these and not all, have no fault and end there: not inside the data of a scan. Their
+-- first scan header is the one that is kept.
+pub record AsksForMemory (limits : Limits) (fewest : ℕ) (bytes : List ℕ) (head : Option Head) : Type 0 where
+  pub n : ℕ
+  pub low : fewest ≤ n
+  pub within : n < length bytes
+  pub between : EndsBetweenItems limits (take n bytes)
+  pub kept : IsFirstHeaderOf limits (take n bytes) head
+
+-- if a piece that is fed has the result NoMemory
+abbrev pub AsksOnFeed : ReaderState → List ℕ → Result Fed Stop → ReaderState → Type 0
+AsksOnFeed old piece answer new =
+    (bytes : List ℕ) → HasRead bytes old → answer ≡ Err stop.NoMemory → AsksForMemory new.limits (length bytes) (bytes ++ piece) new.file.head
 
 -- for all bytes that were fed before
 abbrev pub FeedsFile : ReaderState → List ℕ → Result Fed Stop → ReaderState → Type 0

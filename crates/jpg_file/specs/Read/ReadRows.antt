@@ -14,6 +14,7 @@ use Rattle.jpg_spec.specs.UnfinishedFile.{UnfinishedFile, IsWholeFile}
 use Rattle.jpg_spec.specs.RowsParsed.{BeginsScanOfAll, CompletesRows, TellsRows}
 use Rattle.jpg_spec.specs.RowsParsed.{picture_so_far}
 use Rattle.jpg_spec.specs.declared.frame.Copying.TheVariants as copying
+use Rattle.jpg_spec.specs.declared.frame.Limits.{Limits}
 use Rattle.jpg_base.specs.declared.stop.Stop.{Stop}
 use Rattle.jpg_base.specs.declared.stop.Stop.TheVariants as stop
 use Rattle.jpg_coefs.specs.Picture.{Picture, map_of}
@@ -21,11 +22,12 @@ use Rattle.jpg_seq.specs.Rows.{rows_in_mcu}
 use Rattle.jpg_file.specs.Read.File.{keeping_of}
 use Rattle.jpg_file.specs.Read.FirstHeader.{IsFirstHeaderOf}
 use Rattle.jpg_file.specs.Read.Left.{LeavesPicture}
-use Rattle.jpg_file.specs.Read.ReadFile.{HasRead, IsDone, IsEarlyEnd, IsStopOf, KeepsHead, KeepsHeadAt, ReaderState, StopsAt}
+use Rattle.jpg_file.specs.Read.ReadFile.{AsksForMemory, HasRead, IsDone, IsEarlyEnd, IsStopOf, KeepsHead, KeepsHeadAt, ReaderState, StopsAt}
 use Rattle.jpg_file.specs.Read.RowPieces.{HasLastByte, RowsOpen}
 use Rattle.jpg_file.specs.Read.RowTurns.{unfinished}
 use Rattle.jpg_file.specs.Read.RowsKnown.{TellsStrip, rows_of_scan}
 use Rattle.jpg_file.specs.Read.RowsNone.{HasNoRows}
+use Rattle.jpg_file.specs.Read.ScanHistory.{HasBegunEach}
 use Rattle.jpg_file.specs.Read.Strips.{GoesByRow, SparesRows, RepresentsRows}
 use Rattle.jpg_file.specs.declared.read.ends.End.{End}
 use Rattle.jpg_file.specs.declared.read.ends.End.TheVariants as ends
@@ -33,14 +35,15 @@ use Rattle.jpg_file.specs.declared.read.row_pieces.FedRow.{FedRow}
 use Rattle.jpg_file.specs.declared.read.row_pieces.FedRow.TheVariants as fed
 use Rattle.jpg_file.specs.declared.read.rows.RowWork.{RowWork}
 
--- the invariant of a reader: it was given some bytes, or has a picture; where MCU rows are to be read, no markers are
--- kept, and with a current row it asks for no memory
+-- the invariant of a reader: it was given some bytes, or has a picture, and each component was in a scan; where MCU rows
+-- are to be read, no markers are kept, and with a current row it asks for no memory
 pub record IsReading (r : ReaderState) : Type 0 where
   pub limited : AreLimits r.limits
   pub keeping : r.by_row ≡ true → keeping_of r.file ≡ copying.None
   pub sparing : r.by_row ≡ true → SparesRows r.rows r.file
   pub «open» : r.stop ≡ None → r.done ≡ false → (bytes : List ℕ) × RowsOpen r.limits bytes r.rows r.file
   pub ended : r.done ≡ true → r.rows ≡ None → LeavesPicture r.limits r.file
+  pub begun : r.done ≡ true → HasBegunEach r.file.begun.progress
 
 -- no MCU rows are to be read, nor is there a current one
 abbrev pub IsPlain : ReaderState → Type 0
@@ -176,9 +179,14 @@ pub record StopsRows (bytes : List ℕ) (m : ℕ) (r : ReaderState) : Type 0 whe
 abbrev pub StopsSoFar : List ℕ → ℕ → ReaderState → Type 0
 StopsSoFar bytes m r = ((r.rows ≡ None) × HasNoRows r.limits bytes × (m ≡ 0)) ⊎ StopsRows bytes m r
 
+-- No fewer bytes of the piece encode this many MCU rows: the last one's last bit is in the last byte that was used.
+abbrev pub NotSooner : Limits → List ℕ → List ℕ → ℕ → ℕ → Type 0
+NotSooner limits bytes piece used m = (n : ℕ) (blocks : Blocks) → n < used → TellsRows limits (bytes ++ take n piece) m blocks → ⊥
+
 abbrev pub AfterFeedRow : List ℕ → ℕ → List ℕ → Result FedRow Stop → ReaderState → Type 0
 AfterFeedRow bytes m piece (Ok fed.More) r = (HasReadPlainly (bytes ++ piece) r × (m ≡ 0)) ⊎ HasReadRows (bytes ++ piece) m r
-AfterFeedRow bytes m piece (Ok (fed.Row used)) r = HasGivenRow (bytes ++ take used piece) (m + 1) r × (used ≤ length piece)
+AfterFeedRow bytes m piece (Ok (fed.Row used)) r =
+    HasGivenRow (bytes ++ take used piece) (m + 1) r × (used ≤ length piece) × NotSooner r.limits bytes piece used (m + 1)
 AfterFeedRow bytes m piece (Ok (fed.Done used)) r =
     (IsDonePlainly (bytes ++ take used piece) r ⊎ IsDoneByRows (bytes ++ take used piece) m r) × (1 ≤ used) × (used ≤ length piece)
 AfterFeedRow bytes m piece (Err (stop.Fault f)) r =
@@ -188,6 +196,11 @@ AfterFeedRow bytes m piece (Err stop.NoMemory) r = KeepsHead r.limits (length by
 -- for all bytes that were fed before, by which this many MCU rows were given
 abbrev pub FeedsRow : ReaderState → List ℕ → Result FedRow Stop → ReaderState → Type 0
 FeedsRow old piece answer new = (bytes : List ℕ) (m : ℕ) → HasReadSoFar bytes m old → AfterFeedRow bytes m piece answer new
+
+-- if its result is NoMemory
+abbrev pub AsksOnFeedRow : ReaderState → List ℕ → Result FedRow Stop → ReaderState → Type 0
+AsksOnFeedRow old piece answer new =
+    (bytes : List ℕ) (m : ℕ) → HasReadSoFar bytes m old → answer ≡ Err stop.NoMemory → AsksForMemory new.limits (length bytes) (bytes ++ piece) new.file.head
 
 -- the word that keeps `done`
 abbrev pub EndsDoneRow : Result FedRow Stop → ReaderState → Type 0

@@ -9,8 +9,8 @@ use Rattle.jpg_base.specs.declared.stop.Stop.{Stop}
 use Rattle.jpg_base.specs.declared.stop.Stop.TheVariants as stop
 use Rattle.jpg_file.specs.Read.File.{limits_of}
 use Rattle.jpg_file.specs.Read.FirstHeader.{IsFirstHeaderOf}
-use Rattle.jpg_file.specs.Read.RowStops.{RowsAtFault}
 use Rattle.jpg_file.specs.Read.RowsKnown.{RowsKnown}
+use Rattle.jpg_file.specs.Read.RowsSoFar.{RowsSoFar}
 use Rattle.jpg_file.specs.Read.Strips.{GoesByRow, RepresentsRows}
 use Rattle.jpg_file.specs.declared.read.file.FileWork.{FileWork}
 use Rattle.jpg_file.specs.declared.read.row_pieces.FedRow.{FedRow}
@@ -23,11 +23,11 @@ use Rattle.jpg_file.specs.declared.read.step.Step.TheVariants as step
 -- WITH A CURRENT MCU ROW before: bits that waited, and some bytes
 abbrev pub FaultsResumed : StripWork → Step → Type 0
 FaultsResumed old answer =
-    (rows : RowWork) (f : FaultAt) (bytes : List ℕ) → old.rows ≡ Some rows → answer ≡ step.Ended (stop.Fault f) → RepresentsRows (limits_of old.file) bytes old.file rows → RowsAtFault (limits_of old.file) bytes rows
+    (rows : RowWork) (f : FaultAt) (bytes : List ℕ) → old.rows ≡ Some rows → answer ≡ step.Ended (stop.Fault f) → RepresentsRows (limits_of old.file) bytes old.file rows → RowsSoFar (limits_of old.file) bytes rows
 
 abbrev pub FaultsSome : StripWork → List ℕ → ℕ → Step → Type 0
 FaultsSome old run n answer =
-    (rows : RowWork) (f : FaultAt) (bytes : List ℕ) → old.rows ≡ Some rows → answer ≡ step.Ended (stop.Fault f) → GoesByRow (limits_of old.file) bytes old.file rows → RowsAtFault (limits_of old.file) (bytes ++ take n run) rows
+    (rows : RowWork) (f : FaultAt) (bytes : List ℕ) → old.rows ≡ Some rows → answer ≡ step.Ended (stop.Fault f) → GoesByRow (limits_of old.file) bytes old.file rows → RowsSoFar (limits_of old.file) (bytes ++ take n run) rows
 
 -- A PIECE. The header of the scan, if it began in the bytes before, is the one that is kept at the fault.
 abbrev pub HeadAtFault : Limits → List ℕ → List ℕ → FileWork → Type 0
@@ -37,12 +37,12 @@ HeadAtFault limits bytes all w = (before : List Segment) (contents : List ℕ) �
 pub record BeganAtFault (limits : Limits) (all : List ℕ) (strip : Option StripHead) (w : FileWork) : Type 0 where
   pub mid : RowWork
   pub known : RowsKnown limits all 0 mid strip
-  pub rows : RowsAtFault limits all mid
+  pub rows : RowsSoFar limits all mid
   pub head : IsFirstHeaderOf limits all w.head
 
 -- by the current MCU row before the piece, if there was one, and the current one after it
 abbrev pub RowsFault : Limits → List ℕ → List ℕ → Option RowWork → StripWork → Option RowWork → Type 0
-RowsFault limits bytes all (Some rows) new after = RowsAtFault limits all rows × HeadAtFault limits bytes all new.file
+RowsFault limits bytes all (Some rows) new after = RowsSoFar limits all rows × HeadAtFault limits bytes all new.file
 RowsFault limits bytes all None new (Some after) = BeganAtFault limits all new.strip new.file
 RowsFault limits bytes all None new None = Unit {0}
 

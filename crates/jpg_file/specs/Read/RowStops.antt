@@ -1,17 +1,11 @@
 -- A fault in the data of a scan that is read MCU row by MCU row: which MCU rows the bytes up to it complete (T.81,
 -- A.2.3, F.2.2).
-use Rattle.std.specs.Prelude.{◌≡◌, ◌⊎◌, ℕ, ◌+◌, Bool, List, [], ◌∷◌, ◌++◌, take, Result, Err}
+use Rattle.std.specs.Prelude.{◌≡◌, ℕ, Bool, List, [], ◌∷◌, ◌++◌, take, Result, Err}
 use Rattle.jpg_spec.specs.Bits.{bits_of_bytes}
-use Rattle.jpg_spec.specs.Segments.{head_components}
-use Rattle.jpg_spec.specs.Scan.{Blocks}
-use Rattle.jpg_spec.specs.Markers.{Segment}
-use Rattle.jpg_spec.specs.InForce.{frame_of, head_in}
 use Rattle.jpg_spec.specs.Items.{Item, segments_of}
-use Rattle.jpg_spec.specs.RowsParsed.{BeginsScanOfAll, CompletesRows}
 use Rattle.jpg_spec.specs.declared.fault.Fault.{Fault}
 use Rattle.jpg_spec.specs.declared.fault.FaultAt.{FaultAt}
 use Rattle.jpg_spec.specs.declared.frame.Limits.{Limits}
-use Rattle.jpg_base.specs.Cursor.{scan_mcus_down}
 use Rattle.jpg_base.specs.declared.stop.Stop.TheVariants as stop
 use Rattle.jpg_coefs.specs.Picture.{Picture}
 use Rattle.jpg_coefs.specs.Machine.{TakesBits}
@@ -25,7 +19,7 @@ use Rattle.jpg_file.specs.Read.Machine.{any_scan}
 use Rattle.jpg_file.specs.Read.RowData.{HalfData}
 use Rattle.jpg_file.specs.Read.RowMachine.{IsOpenRowScan}
 use Rattle.jpg_file.specs.Read.RowPlaces.{IsRowAt, scan_left}
-use Rattle.jpg_file.specs.Read.RowTurns.{unfinished}
+use Rattle.jpg_file.specs.Read.RowsSoFar.{CompletesBefore, RowsSoFar}
 use Rattle.jpg_file.specs.Read.Strips.{GoesByRow, IsFirstScan, RepresentsRows, components_of, frame_behind}
 use Rattle.jpg_file.specs.declared.read.file.FileWork.{FileWork}
 use Rattle.jpg_file.specs.declared.read.machine.ScanReader.{ScanReader}
@@ -44,15 +38,6 @@ StopsRowData w m bits came_to = (f : UnitFault) (whole : Picture) → came_to �
 
 abbrev pub StopsRowRun : RowWork → ScanReader → List ℕ → ℕ → Taken → Type 0
 StopsRowRun w m bytes n came_to = StopsRowData w m (bits_of_bytes (take n bytes)) came_to
-
--- BYTES complete as many MCU rows of such a scan as aren't among those that are left, the first of which is the current
--- one.
-pub record CompletesBefore (limits : Limits) (bytes : List ℕ) (before : List Segment) (contents : List ℕ) (rows : RowWork) : Type 0 where
-  pub begins : BeginsScanOfAll limits bytes before contents
-  pub m : ℕ
-  pub count : m + unfinished rows ≡ scan_mcus_down (frame_of limits before) (head_components (head_in (frame_of limits before) contents))
-  pub blocks : Blocks
-  pub completed : CompletesRows limits bytes m blocks
 
 -- INSIDE THE DATA: where a byte, bits that wait, or some plain bytes reveal a fault, wherever it was in a scan with
 -- this many units left
@@ -74,15 +59,12 @@ StopsRunInRow old w run n given =
     (fault : Fault) (limits : Limits) (items : List Item) (contents bytes : List ℕ) (whole : Picture) → given ≡ Err fault → IsRowOf w.tops whole w.coefs → InData limits items contents bytes old whole → IsRowInScan limits items contents old w
     → CompletesBefore limits (bytes ++ take n run) (segments_of items) contents w
 
--- THE FILE: at a fault all MCU rows were complete before it, or the bytes complete those before the current one.
-abbrev pub RowsAtFault : Limits → List ℕ → RowWork → Type 0
-RowsAtFault limits bytes rows = (unfinished rows ≡ 0) ⊎ ((before : List Segment) × (contents : List ℕ) × CompletesBefore limits bytes before contents rows)
-
+-- THE FILE
 abbrev pub StopsRest : FileWork → RowWork → Step → Type 0
-StopsRest old rows came_to = (f : FaultAt) (bytes : List ℕ) → came_to ≡ step.Ended (stop.Fault f) → RepresentsRows (limits_of old) bytes old rows → RowsAtFault (limits_of old) bytes rows
+StopsRest old rows came_to = (f : FaultAt) (bytes : List ℕ) → came_to ≡ step.Ended (stop.Fault f) → RepresentsRows (limits_of old) bytes old rows → RowsSoFar (limits_of old) bytes rows
 
 abbrev pub StopsByte : FileWork → RowWork → ℕ → Step → Type 0
-StopsByte old rows byte came_to = (f : FaultAt) (bytes : List ℕ) → came_to ≡ step.Ended (stop.Fault f) → GoesByRow (limits_of old) bytes old rows → RowsAtFault (limits_of old) (bytes ++ byte ∷ []) rows
+StopsByte old rows byte came_to = (f : FaultAt) (bytes : List ℕ) → came_to ≡ step.Ended (stop.Fault f) → GoesByRow (limits_of old) bytes old rows → RowsSoFar (limits_of old) (bytes ++ byte ∷ []) rows
 
 abbrev pub StopsRun : FileWork → RowWork → List ℕ → ℕ → Step → Type 0
-StopsRun old rows run n came_to = (f : FaultAt) (bytes : List ℕ) → came_to ≡ step.Ended (stop.Fault f) → GoesByRow (limits_of old) bytes old rows → RowsAtFault (limits_of old) (bytes ++ take n run) rows
+StopsRun old rows run n came_to = (f : FaultAt) (bytes : List ℕ) → came_to ≡ step.Ended (stop.Fault f) → GoesByRow (limits_of old) bytes old rows → RowsSoFar (limits_of old) (bytes ++ take n run) rows

@@ -40,6 +40,14 @@ HasBegunAll o =
 abbrev pub IsComplete : Option Progress → Bool → Type 0
 IsComplete o all = (f : Frame) (heads : List ScanHead) → 1 ≤ length f.components → RepresentsHeads o f heads → all ≡ all_of (has_begun heads) (below (length f.components))
 
+-- Each component of some frame was in one of its scans, which are those so far.
+pub record HasBegunEach (o : Option Progress) : Type 0 where
+  pub frame : Frame
+  pub heads : List ScanHead
+  pub some : 1 ≤ length frame.components
+  pub scans : RepresentsHeads o frame heads
+  pub each : all_of (has_begun heads) (below (length frame.components)) ≡ true
+
 pub record HasBegun (limits : Limits) (b : ScanHistory) (before : List Segment) : Type 0 where
   pub scans : RepresentsHeads b.progress (frame_of limits before) (heads_of (frame_of limits before) before)
   pub framed : is_none b.progress ≡ false → has_frame before ≡ true

@@ -10,6 +10,14 @@ IfStops step.Row holds = Unit {0}
 IfStops step.Whole holds = Unit {0}
 IfStops (step.Ended e) holds = holds
 
+-- where it is NoMemory
+abbrev pub IfWants : Step → Type 0 → Type 0
+IfWants step.More holds = Unit {0}
+IfWants step.Row holds = Unit {0}
+IfWants step.Whole holds = Unit {0}
+IfWants (step.Ended (stop.Fault f)) holds = Unit {0}
+IfWants (step.Ended stop.NoMemory) holds = holds
+
 -- no MCU row is complete
 abbrev pub IsNoRow : Step → Type 0
 IsNoRow step.More = Unit {0}

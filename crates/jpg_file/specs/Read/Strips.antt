@@ -21,8 +21,9 @@ use Rattle.jpg_file.specs.Read.Items.{BehindHead}
 use Rattle.jpg_file.specs.Read.Reading.{NeedsNoMemory, waiting_bytes}
 use Rattle.jpg_file.specs.Read.RowData.{InRowData}
 use Rattle.jpg_file.specs.Read.RowPlaces.{scan_left}
+use Rattle.jpg_file.specs.Read.RowsSoFar.{RowsSoFar}
 use Rattle.jpg_file.specs.Read.RowTurns.{IsRowIn, unfinished}
-use Rattle.jpg_file.specs.Read.Step.{IfStops}
+use Rattle.jpg_file.specs.Read.Step.{IfStops, IfWants}
 use Rattle.jpg_file.specs.declared.read.file.FileWork.{FileWork}
 use Rattle.jpg_file.specs.declared.read.first_header.Head.{Head}
 use Rattle.jpg_file.specs.declared.read.items.ItemStep.{ItemStep}
@@ -135,12 +136,14 @@ abbrev pub TakesRowByte : FileWork → RowWork → ℕ → Step → FileWork →
 TakesRowByte old rows byte answer new after =
     (bytes : List ℕ) → GoesByRow (limits_of old) bytes old rows → AfterRows (limits_of old) (bytes ++ byte ∷ []) answer new after
 
--- some bytes of which the last one may be taken in part: the file's state before that one, and its result
-pub record RowsRun (limits : Limits) (bytes run : List ℕ) (n : ℕ) (answer : Step) (new : FileWork) (after : RowWork) : Type 0 where
+-- some bytes of which the last one may be taken in part: the file's state before that one, with the same MCU rows
+-- complete, and its result
+pub record RowsRun (limits : Limits) (bytes run : List ℕ) (n : ℕ) (answer : Step) (rows : RowWork) (new : FileWork) (after : RowWork) : Type 0 where
   pub mid : FileWork
   pub early : ℕ
   pub count : n ≡ early + 1
   pub within : early < length run
+  pub rows_before : RowsSoFar limits (bytes ++ take early run) rows
   pub before : RepresentsFile limits (bytes ++ take early run) mid
   pub room : mid.reading.taken < limits.input
   pub head : mid.head ≡ new.head
@@ -148,7 +151,7 @@ pub record RowsRun (limits : Limits) (bytes run : List ℕ) (n : ℕ) (answer : 
 
 abbrev pub TakesRunOfRows : FileWork → RowWork → List ℕ → ℕ → Step → FileWork → RowWork → Type 0
 TakesRunOfRows old rows run n answer new after =
-    (bytes : List ℕ) → GoesByRow (limits_of old) bytes old rows → RowsRun (limits_of old) bytes run n answer new after
+    (bytes : List ℕ) → GoesByRow (limits_of old) bytes old rows → RowsRun (limits_of old) bytes run n answer rows new after
 
 -- AFTER THE SCAN: an item, whatever picture there is, and a complete scan header
 abbrev pub PassesItem : FileWork → ItemStep → Step → Type 0
@@ -243,8 +246,9 @@ abbrev pub TakesFirstHead : StripWork → Step → StripWork → Type 0
 TakesFirstHead old answer new =
     (bytes : List ℕ) → HasCompleteHeader (limits_of old.file) bytes old.file → AfterStrip (limits_of old.file) bytes answer new.rows new.file
 
--- some bytes: the file's state before the last of those that were taken, and the result of that one
-pub record StripRun (limits : Limits) (bytes run : List ℕ) (n : ℕ) (answer : Step) (rows : Option RowWork) (new : FileWork) : Type 0 where
+-- some bytes: the file's state before the last of those that were taken, with the same MCU rows complete, and the
+-- result of that one; without a current row it asks for memory only between items
+pub record StripRun (limits : Limits) (bytes run : List ℕ) (n : ℕ) (answer : Step) (old rows : Option RowWork) (new : FileWork) : Type 0 where
   pub mid : FileWork
   pub early : ℕ
   pub count : n ≡ early + 1
@@ -252,8 +256,10 @@ pub record StripRun (limits : Limits) (bytes run : List ℕ) (n : ℕ) (answer :
   pub before : RepresentsFile limits (bytes ++ take early run) mid
   pub room : mid.reading.taken < limits.input
   pub head : IfStops answer (new.head ≡ mid.head)
+  pub asks : old ≡ None → IfWants answer (mid.reading.scan ≡ None)
+  pub rows_before : (current : RowWork) → old ≡ Some current → RowsSoFar limits (bytes ++ take early run) current
   pub last : AfterStrip limits ((bytes ++ take early run) ++ slice_index run early ∷ []) answer rows new
 
 abbrev pub TakesStrip : StripWork → List ℕ → ℕ → Step → StripWork → Type 0
 TakesStrip old run n answer new =
-    (bytes : List ℕ) → StripGoes (limits_of old.file) bytes old.rows old.file → StripRun (limits_of old.file) bytes run n answer new.rows new.file
+    (bytes : List ℕ) → StripGoes (limits_of old.file) bytes old.rows old.file → StripRun (limits_of old.file) bytes run n answer old.rows new.rows new.file

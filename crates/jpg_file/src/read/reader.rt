@@ -6,8 +6,8 @@ ghost use Rattle.jpg_spec.specs.declared.frame.Copying.TheVariants.{All, None as
 ghost use Rattle.jpg_base.specs.declared.stop.Stop.{Stop as Stopped};
 ghost use Rattle.jpg_file.specs.Read.File.{keeping_of};
 ghost use Rattle.jpg_file.specs.Read.PictureRead.{TakesEarly, TakesPicture};
-ghost use Rattle.jpg_file.specs.Read.ReadFile.{AfterEnd, EndsDone, EndsWith, FeedsFile, HasRead, TellsBegun, head_seen};
-ghost use Rattle.jpg_file.specs.Read.ReadRows.{IsPlain, EndsDoneRow, EndsRow, FeedsRow, HasBegunRows, HasReadPlainly, picture_read};
+ghost use Rattle.jpg_file.specs.Read.ReadFile.{AfterEnd, AsksOnFeed, EndsDone, EndsWith, FeedsFile, HasRead, TellsBegun, head_seen};
+ghost use Rattle.jpg_file.specs.Read.ReadRows.{AsksOnFeedRow, IsPlain, EndsDoneRow, EndsRow, FeedsRow, HasBegunRows, HasGivenRow, HasReadPlainly, HasReadRows, picture_read};
 ghost use Rattle.jpg_file.specs.Read.RowsKnown.{TellsStrip};
 ghost use Rattle.jpg_file.specs.declared.read.ends.End.TheVariants as ends;
 
@@ -120,12 +120,13 @@ impl Reader {
 
     /// Takes a further piece of the file, of any length. Returns Done if the file is complete then, and how many bytes
     /// of the piece were used, its EOI among them; the first fault of the bytes so far, at its place, InputTooLong if
-    /// the limit was reached, or NoMemory; and otherwise More. After a stop it returns the same stop. It may not be
-    /// called once the file is done (`is_done`), nor where MCU rows are to be read.
+    /// the limit was reached, or NoMemory, but not inside the data of a scan; and otherwise More. After a stop it
+    /// returns the same stop. It may not be called once the file is done (`is_done`), nor where MCU rows are to be read.
     pub fn feed(&mut self, piece: &[u8]) -> Result<Fed, Stop>
         requires undone { self.old.done ≡ false }
         requires plain { IsPlain self.old }
         ensures answered { FeedsFile self.old piece.now result self.new }
+        ensures memory { AsksOnFeed self.old piece.now result self.new }
         ensures done { EndsDone result self.new }
         ensures stopped { (stop : Stopped) → result ≡ Err stop → self.new.stop ≡ Some stop }
         ensures again { (stop : Stopped) → self.old.stop ≡ Some stop → (result ≡ Err stop) × (self.new ≡ self.old) }
@@ -153,12 +154,13 @@ impl Reader {
     /// Takes a further piece of the file, up to the byte with the last bit of the next MCU row. Returns Row if one more
     /// is complete; the bits after its last one wait for the next call, which judges them first, and whose piece may be
     /// empty. Returns Done if the file is complete, the first fault of the bytes so far, at its place, NoMemory only
-    /// before rows are read, and otherwise More. After a stop it returns the same stop. It may not be called once the
-    /// file is complete, and only of a reader of `strips`.
+    /// before rows are read and not inside the data of a scan, and otherwise More. After a stop it returns the same
+    /// stop. It may not be called once the file is complete, and only of a reader of `strips`.
     pub fn feed_row(&mut self, piece: &[u8]) -> Result<FedRow, Stop>
         requires undone { self.old.done ≡ false }
         requires by_row { self.old.by_row ≡ true }
         ensures answered { FeedsRow self.old piece.now result self.new }
+        ensures memory { AsksOnFeedRow self.old piece.now result self.new }
         ensures done { EndsDoneRow result self.new }
         ensures stopped { (stop : Stopped) → result ≡ Err stop → self.new.stop ≡ Some stop }
         ensures again { (stop : Stopped) → self.old.stop ≡ Some stop → (result ≡ Err stop) × (self.new ≡ self.old) }
@@ -196,9 +198,13 @@ impl Reader {
         self.done
     }
 
-    /// Whether each component was named by a complete scan header that breaks no rule.
+    /// Whether each component was named by a complete scan header that breaks no rule. It is so where MCU rows are read,
+    /// and of a file that is complete or ended early.
     pub fn begun(&self) -> bool
-        ensures { (bytes : List ℕ) → HasRead bytes self.now → TellsBegun self.now.limits bytes result }
+        ensures read { (bytes : List ℕ) → HasRead bytes self.now → TellsBegun self.now.limits bytes result }
+        ensures rows { (bytes : List ℕ) (m : ℕ) → HasReadRows bytes m self.now → result ≡ true }
+        ensures given { (bytes : List ℕ) (m : ℕ) → HasGivenRow bytes m self.now → result ≡ true }
+        ensures done { self.now.done ≡ true → result ≡ true }
     {
         self.work.file.begun.is_complete()
     }

@@ -7,6 +7,7 @@ ghost use Rattle.jpg_base.specs.Cursor.{AreIn, scan_mcus_down};
 ghost use Rattle.jpg_seq.specs.Rows.{IsRowOf, top_of};
 ghost use Rattle.jpg_file.specs.Read.Data.{waits_of};
 ghost use Rattle.jpg_file.specs.Read.RowCounts.{CountsRow};
+ghost use Rattle.jpg_file.specs.Read.RowLast.{LastRowRun};
 ghost use Rattle.jpg_file.specs.Read.RowData.{CanTakeData, IsInsideRow, TakesRowData, TakesRowRun};
 ghost use Rattle.jpg_file.specs.Read.RowStops.{StopsRowData, StopsRowRun};
 ghost use Rattle.jpg_file.specs.Read.RowTurns.{IsRowIn, KeepsRowIn, TurnsRow, block_rows_of, unfinished, zero_picture};
@@ -144,6 +145,7 @@ impl RowWork {
         requires few { length bytes.now < 4294967296 }
         ensures takes { TakesRowRun self.old machine.old bytes.now result.0 result.1 self.new machine.new }
         ensures stops { StopsRowRun self.old machine.old bytes.now result.0 result.1 }
+        ensures last { LastRowRun self.old machine.old bytes.now result.0 }
         ensures counts { CountsRow self.old machine.old result.1 self.new machine.new }
     {
         let before = machine.units_left();

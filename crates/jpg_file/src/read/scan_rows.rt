@@ -1,6 +1,7 @@
 //! The data of a scan, read MCU row by MCU row (T.81, A.2.3, B.1.1.5).
 ghost use Rattle.std.specs.Prelude.{◌≡◌, ◌<◌, ◌≤◌, [], false, true, length, Ok};
 ghost use Rattle.jpg_file.specs.Read.InData.{ArePlain};
+ghost use Rattle.jpg_file.specs.Read.RowLast.{LastRunInRow};
 ghost use Rattle.jpg_file.specs.Read.RowPlaces.{scan_left};
 ghost use Rattle.jpg_file.specs.Read.RowStops.{StopsByteInRow, StopsRestInRow, StopsRunInRow};
 ghost use Rattle.jpg_file.specs.Read.RowTurns.{CountsScan};
@@ -63,6 +64,7 @@ impl InScan {
         requires none { rows.old.waiting ≡ [] }
         ensures takes { TakesRunInRow self.old rows.old run.now result.0 result.1 self.new rows.new }
         ensures stops { StopsRunInRow self.old rows.old run.now result.0 result.1 }
+        ensures last { LastRunInRow self.old rows.old run.now result.0 }
         ensures counts { CountsScan self.old.work rows.old result.2 self.new.work rows.new }
         ensures gate { self.new.gate ≡ self.old.gate }
     {

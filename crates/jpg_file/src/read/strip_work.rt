@@ -8,7 +8,7 @@ ghost use Rattle.jpg_file.specs.Read.PieceTaken.{TakesBytes};
 ghost use Rattle.jpg_file.specs.Read.RowsKnown.{KnowsByte, KnowsHead, KnowsSome};
 ghost use Rattle.jpg_file.specs.Read.RowsNone.{NoneByte, NoneHead, NoneSome};
 ghost use Rattle.jpg_file.specs.Read.RowFaults.{FaultsResumed};
-ghost use Rattle.jpg_file.specs.Read.Step.{IfStops, IsNoRow, HasMemory};
+ghost use Rattle.jpg_file.specs.Read.Step.{IfStops, IfWants, IsNoRow, HasMemory};
 ghost use Rattle.jpg_file.specs.Read.Strips.{CountsRowsOfScan, CountsStrip, GoesOnRest, SparesRows, StripGoes, RepresentsStrip, TakesFirstByte, TakesFirstHead, TakesResumed, TakesStrip};
 
 use crate::read::file::FileWork;
@@ -118,6 +118,7 @@ impl StripWork {
         ensures stops { IfStops result (self.new.rows ≡ None) }
         ensures sparing { keeping_of self.old.file ≡ copying.None → SparesRows self.new.rows self.new.file }
         ensures head { IfStops result (self.new.file.head ≡ self.old.file.head) }
+        ensures asks { IfWants result (self.old.file.reading.scan ≡ None) }
         ensures keeping { keeping_of self.new.file ≡ keeping_of self.old.file }
         ensures by_row { self.new.by_row ≡ self.old.by_row }
         ensures none { NoneByte self.old byte result self.new }

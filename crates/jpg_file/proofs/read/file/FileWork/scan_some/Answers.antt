@@ -1,7 +1,7 @@
 use Rattle.std.proofs.Common.{◌<◌, ◌++◌, ◌∷◌, [], ℕ, ap, take, get_or, refl, sym, subst}
 use Rattle.jpg_spec.specs.declared.frame.Limits.{Limits}
 use Rattle.jpg_file.specs.Read.File.{limits_of}
-use Rattle.jpg_file.specs.Read.RowStops.{RowsAtFault}
+use Rattle.jpg_file.specs.Read.RowsSoFar.{RowsSoFar}
 use Rattle.jpg_file.specs.Read.Strips.{AfterRows, GoesByRow}
 use Rattle.jpg_file.specs.declared.read.reading.Reading.{Reading}
 use Rattle.jpg_file.proofs.Files.PieceSteps.{one_more}
@@ -44,4 +44,4 @@ returns-clause-stops c = λ f front e g.
     let same = filled_limits w.reading bytes n c.fill_in_scan-n.new.self p in
     let k = rows_filled (limits_of w) front bytes n w c.fill_in_scan-n.new.self c.args.rows.now g c.requires.inside refl p in
     let s = c.take_byte_in_row.ensures.stops f (front ++ take n bytes) e (subst (λ l. GoesByRow l (front ++ take n bytes) mid c.args.rows.now) (sym same) k) in
-    subst (λ l. RowsAtFault (limits_of w) l c.args.rows.now) (sym (one_more front bytes n p.less)) (subst (λ (l : Limits). RowsAtFault l ((front ++ take n bytes) ++ get_or bytes n 0 ∷ []) c.args.rows.now) same s)
+    subst (λ l. RowsSoFar (limits_of w) l c.args.rows.now) (sym (one_more front bytes n p.less)) (subst (λ (l : Limits). RowsSoFar l ((front ++ take n bytes) ++ get_or bytes n 0 ∷ []) c.args.rows.now) same s)

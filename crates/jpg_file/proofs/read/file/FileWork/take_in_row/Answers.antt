@@ -6,7 +6,7 @@ use Rattle.jpg_file.proofs.ByRow.StripPieces.{front_rows}
 use Rattle.jpg_file.proofs.read.file.FileWork.take_in_row.Goals as goal
 
 pub returns-then-n-gt0-clause-after : goal.returns-then-n-gt0-clause-after
-returns-then-n-gt0-clause-after c = λ front g. front_rows (limits_of c.args.self.now) front c.args.bytes.now c.take_run_in_row.new.self c.take_run_in_row.new.rows c.take_run_in_row.result.1 c.plain_length-n.result c.take_run_in_row.result.0 c.plain_length-n.ensures.within (c.take_run_in_row.ensures.after front g)
+returns-then-n-gt0-clause-after c = λ front g. front_rows (limits_of c.args.self.now) front c.args.bytes.now c.take_run_in_row.new.self c.take_run_in_row.new.rows c.take_run_in_row.result.1 c.args.rows.now c.plain_length-n.result c.take_run_in_row.result.0 c.plain_length-n.ensures.within (c.take_run_in_row.ensures.after front g)
 
 pub returns-else-is_some-clause-after : goal.returns-else-is_some-clause-after
 returns-else-is_some-clause-after c = λ front g. c.take_after_rows.ensures.after c.args.rows.now front g

@@ -22,7 +22,7 @@ overflow_add-at c =
     let g = c.requires.stands in
     let rows = c.args.rows.now in
     let took = c.run_in_row-n in
-    let few = run_few g.0 w c.in-Some.scan rows (row_ready (limits_of w) g.0 w c.in-Some.scan c.in-Some.is rows g.1) (g.1).none c.args.run.now took.result.0 took.new.self took.new.rows took.result.1 took.ensures.takes in
+    let few = run_few g.0 w c.in-Some.scan rows (row_ready (limits_of w) g.0 w c.in-Some.scan c.in-Some.is rows g.1) (g.1).none c.args.run.now took.result.0 took.new.self took.new.rows took.result.1 took.ensures.takes took.ensures.last in
     omega (arith, few, c.requires.room, c.requires.limits.input)
 
 pub returns-in-Ok-clause-after : goal.returns-in-Ok-clause-after
@@ -31,7 +31,7 @@ returns-in-Ok-clause-after c = λ bytes g.
     let scan = c.in-Some.scan in
     let rows = c.args.rows.now in
     let took = c.run_in_row-n in
-    run_goes bytes w scan rows (row_ready (limits_of w) bytes w scan c.in-Some.is rows g) g.none c.args.run.now took.result.0 took.new.self took.new.rows took.result.1 took.ensures.takes took.result.2 c.row_step.result c.requires.room c.in-Ok.is took.ensures.counts c.row_step.ensures
+    run_goes bytes w scan rows (row_ready (limits_of w) bytes w scan c.in-Some.is rows g) g.none c.args.run.now took.result.0 took.new.self took.new.rows took.result.1 took.ensures.takes took.ensures.last took.result.2 c.row_step.result c.requires.room c.in-Ok.is took.ensures.counts c.row_step.ensures
 
 pub returns-in-Err-clause-after : goal.returns-in-Err-clause-after
 returns-in-Err-clause-after c = λ bytes g.
@@ -39,7 +39,7 @@ returns-in-Err-clause-after c = λ bytes g.
     let scan = c.in-Some.scan in
     let rows = c.args.rows.now in
     let took = c.run_in_row-n in
-    run_stops bytes w scan rows (row_ready (limits_of w) bytes w scan c.in-Some.is rows g) g.none c.args.run.now took.result.0 took.new.self took.new.rows took.result.1 took.ensures.takes c.in-Err.fault c.fault_at.result c.requires.room c.in-Err.is c.fault_at.ensures
+    run_stops bytes w scan rows (row_ready (limits_of w) bytes w scan c.in-Some.is rows g) g.none c.args.run.now took.result.0 took.new.self took.new.rows took.result.1 took.ensures.takes took.ensures.last c.in-Err.fault c.fault_at.result c.requires.room c.in-Err.is c.fault_at.ensures
 
 pub returns-in-Ok-clause-rows : goal.returns-in-Ok-clause-rows
 returns-in-Ok-clause-rows c =

@@ -1,11 +1,12 @@
 use Rattle.std.proofs.Common.{rules, ◌∙◌, ◌≡◌, Ok, sym, ap, subst}
 use Rattle.std.specs.Prelude.{Result}
 use Rattle.jpg_base.specs.declared.stop.Stop.{Stop}
+use Rattle.jpg_base.specs.declared.stop.Stop.TheVariants as stop
 use Rattle.jpg_file.specs.Read.ReadFile.{HasRead, ReaderState}
 use Rattle.jpg_file.specs.Read.PieceTaken.{ReadsPiece}
 use Rattle.jpg_file.specs.declared.read.row_pieces.FedRow.{FedRow}
 use Rattle.jpg_file.specs.declared.read.row_pieces.FedRow.TheVariants as fed
-use Rattle.jpg_file.proofs.Files.ReaderFed.{fed_done, fed_more, fed_no_row, fed_stop, keeps_done_rows, keeps_more_rows, plain_stands}
+use Rattle.jpg_file.proofs.Files.ReaderFed.{fed_asks, fed_done, fed_more, fed_no_row, fed_stop, keeps_done_rows, keeps_more_rows, plain_stands}
 use Rattle.jpg_file.proofs.read.reader.Reader.feed.Goals as goal
 
 pub invariant_of-self : goal.invariant_of-self
@@ -68,3 +69,15 @@ returns-in-Err-clause-answered c = λ bytes h.
     let r : ReaderState = record { limits = c.self.inside.limits; file = work.file; by_row = work.by_row; rows = work.rows; strip = work.strip; done = c.self.inside.done; stop = c.self.inside.stop } in
     let before = ap (λ (r : ReaderState). r.rows) c.self.view_is ∙ c.requires.plain.1 in
     fed_stop r work new bytes piece c.in-Err.stop before (subst (λ (q : ReaderState). HasRead bytes q) (sym c.self.view_is) h) c.in-Err.ensures
+
+pub returns-in-Err-clause-memory : goal.returns-in-Err-clause-memory
+returns-in-Err-clause-memory c = λ bytes h is.
+    let work = c.self.inside.work in
+    let took = c.read_rows in
+    let new = took.new.work in
+    let r : ReaderState = record { limits = c.self.inside.limits; file = work.file; by_row = work.by_row; rows = work.rows; strip = work.strip; done = c.self.inside.done; stop = c.self.inside.stop } in
+    let before = ap (λ (r : ReaderState). r.rows) c.self.view_is ∙ c.requires.plain.1 in
+    let row = ap (λ (r : ReaderState). r.by_row) c.self.view_is ∙ c.requires.plain.0 in
+    let after = took.ensures.keeps.plain before row in
+    let same : c.in-Err.stop ≡ stop.NoMemory = cc in
+    fed_asks r work new bytes c.args.piece.now c.in-Err.stop before after (subst (λ (q : ReaderState). HasRead bytes q) (sym c.self.view_is) h) c.in-Err.ensures same

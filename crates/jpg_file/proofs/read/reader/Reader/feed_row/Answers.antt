@@ -1,13 +1,14 @@
-use Rattle.std.proofs.Common.{rules, ◌∙◌, ap, subst, sym, Ok, Some, ◌≡◌, true}
+use Rattle.std.proofs.Common.{rules, ◌∙◌, ap, subst, sym, Ok, Err, Some, ◌≡◌, true}
 use Rattle.jpg_file.specs.Read.ReadFile.{ReaderState}
 use Rattle.jpg_file.proofs.Files.ReaderFed.{keeps_done_rows, keeps_given_rows, keeps_more_rows}
 use Rattle.std.specs.Prelude.{Result}
 use Rattle.jpg_base.specs.declared.stop.Stop.{Stop}
+use Rattle.jpg_base.specs.declared.stop.Stop.TheVariants as stop
 use Rattle.jpg_file.specs.Read.ReadRows.{AfterFeedRow, HasReadSoFar}
 use Rattle.jpg_file.specs.Read.PieceTaken.{ReadsPiece}
 use Rattle.jpg_file.specs.declared.read.row_pieces.FedRow.{FedRow}
 use Rattle.jpg_file.specs.declared.read.row_pieces.FedRow.TheVariants as fed
-use Rattle.jpg_file.proofs.ByRow.RowsAnswered.{done_answered, more_answered, row_answered, stop_answered}
+use Rattle.jpg_file.proofs.ByRow.RowsAnswered.{done_answered, memory_answered, more_answered, row_answered, stop_answered}
 use Rattle.jpg_file.proofs.read.reader.Reader.feed_row.Goals as goal
 
 pub invariant_of-self : goal.invariant_of-self
@@ -75,3 +76,14 @@ returns-in-Err-clause-answered c = λ bytes m s.
     let r : ReaderState = record { limits = c.self.inside.limits; file = work.file; by_row = work.by_row; rows = work.rows; strip = work.strip; done = c.self.inside.done; stop = c.self.inside.stop } in
     subst (λ (a : Result FedRow Stop). AfterFeedRow bytes m piece a (record r { file = new.file; by_row = new.by_row; rows = new.rows; strip = new.strip; stop = Some c.in-Err.stop })) (sym c.in-Err.is)
     (stop_answered r work new bytes piece m c.in-Err.stop row (took.memory (c.self.invariant.keeping row) (c.self.invariant.sparing row)) took (subst (λ (q : ReaderState). HasReadSoFar bytes m q) (sym c.self.view_is) s))
+
+pub returns-in-Err-clause-memory : goal.returns-in-Err-clause-memory
+returns-in-Err-clause-memory c = λ bytes m s is.
+    let work = c.self.inside.work in
+    let took = c.in-Err.ensures in
+    let row = ap (λ (r : ReaderState). r.by_row) c.self.view_is ∙ c.requires.by_row in
+    let new = c.read_rows-answer.new.work in
+    let r : ReaderState = record { limits = c.self.inside.limits; file = work.file; by_row = work.by_row; rows = work.rows; strip = work.strip; done = c.self.inside.done; stop = c.self.inside.stop } in
+    let whole : (let a : Result FedRow Stop = Err c.in-Err.stop in a) ≡ Err stop.NoMemory = sym c.in-Err.is ∙ is in
+    let same : c.in-Err.stop ≡ stop.NoMemory = cc in
+    memory_answered r work new bytes c.args.piece.now m c.in-Err.stop (took.memory (c.self.invariant.keeping row) (c.self.invariant.sparing row)) took (subst (λ (q : ReaderState). HasReadSoFar bytes m q) (sym c.self.view_is) s) same

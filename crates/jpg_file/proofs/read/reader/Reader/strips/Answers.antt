@@ -12,4 +12,5 @@ invariant_of-result c = record {
   sparing = λ by. tt;
   «open» = λ none undone. ([], record { stands = c.new.ensures.stands; last = λ some. absurd cc });
   ended = λ done. absurd cc;
+  begun = λ done. absurd cc;
 }

@@ -3,6 +3,7 @@ use Rattle.jpg_spec.specs.Bits.{bits_of_bytes}
 use Rattle.jpg_file.specs.Read.Machine.{any_scan}
 use Rattle.jpg_file.proofs.Scans.Runs.{given_bytes}
 use Rattle.jpg_file.proofs.ByRow.FaultsData.{run_stops_row}
+use Rattle.jpg_file.proofs.ByRow.RowLast.{last_in_row}
 use Rattle.jpg_file.proofs.ByRow.RowWorks.{counts_row, few_passed, run_takes_row, some_in_row, units_passed}
 use Rattle.jpg_file.proofs.read.rows.RowWork.take_bytes.Goals as goal
 
@@ -43,3 +44,9 @@ returns-clause-counts c =
     let units = c.units_left-before.result - c.units_left.result in
     let count : any_scan.left c.args.machine.now ≡ any_scan.left g.new.self + units = omega (arith, units_passed _ _ _ _ p, c.units_left-before.ensures, c.units_left.ensures) in
     counts_row c.args.self.now c.args.machine.now g.new.self g.new.row g.result.taken units c.waiting_of-self.result c.last_bits-last.result p count c.waiting_of-self.ensures
+
+pub returns-clause-last : goal.returns-clause-last
+returns-clause-last c =
+    let g = c.bytes_in_row-got in
+    let bytes = c.args.bytes.now in
+    last_in_row c.args.self.now c.args.machine.now g.new.self g.new.row bytes (drop g.result.bits (bits_of_bytes bytes)) c.div_ceil-given.result g.result.taken c.requires.some (given_bytes bytes g.result.bits c.div_ceil-given.result g.ensures.within c.div_ceil-given.ensures) g.ensures.takes

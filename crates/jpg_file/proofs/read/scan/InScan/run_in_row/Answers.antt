@@ -2,6 +2,7 @@ use Rattle.std.proofs.Common.{arith}
 use Rattle.jpg_file.specs.Read.RowData.{RunRest}
 use Rattle.jpg_file.proofs.ByRow.RowCounts.{counts_scan}
 use Rattle.jpg_file.proofs.ByRow.FaultsData.{run_faults}
+use Rattle.jpg_file.proofs.ByRow.RowLast.{run_last}
 use Rattle.jpg_file.proofs.ByRow.RowScans.{open_scan, run_in_row}
 use Rattle.jpg_file.proofs.Scans.ScanBytes.{as_stepped}
 use Rattle.jpg_file.proofs.read.scan.InScan.run_in_row.Goals as goal
@@ -38,3 +39,6 @@ returns-clause-stops c =
     let t = c.take_bytes-n.ensures.takes o.whole o.row (open_scan i.0 i.1 i.2 i.3 s o.whole i.4 c.requires.due) in
     let r = t.2 in
     run_faults s c.args.rows.now c.args.run.now c.take_bytes-n.result.0 c.stepped.result c.take_bytes-n.result.1 (omega (arith, r.count, r.within)) c.requires.gate c.requires.due c.requires.plain c.stepped.ensures.answer c.take_bytes-n.ensures.stops
+
+pub returns-clause-last : goal.returns-clause-last
+returns-clause-last c = run_last c.args.self.now c.args.rows.now c.args.run.now c.take_bytes-n.result.0 c.requires.gate c.requires.due c.requires.plain c.take_bytes-n.ensures.last

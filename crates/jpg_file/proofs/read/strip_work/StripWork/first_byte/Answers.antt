@@ -1,4 +1,4 @@
-use Rattle.std.proofs.Common.{[], ◌∷◌, ◌++◌, ◌∙◌, Option, sym, subst}
+use Rattle.std.proofs.Common.{[], ◌∷◌, ◌++◌, ◌∙◌, ◌≡◌, Option, None, sym, subst}
 use Rattle.jpg_spec.specs.declared.frame.Limits.{Limits}
 use Rattle.jpg_base.specs.declared.stop.Stop.TheVariants as stop
 use Rattle.jpg_file.specs.Read.File.{HasCompleteHeader, limits_of}
@@ -6,7 +6,7 @@ use Rattle.jpg_file.specs.Read.RowsNone.{HasNoRows, NoneAfter}
 use Rattle.jpg_file.specs.Read.Strips.{AfterStrip}
 use Rattle.jpg_file.specs.declared.read.rows.RowWork.{RowWork}
 use Rattle.jpg_file.specs.declared.read.step.Step.TheVariants as step
-use Rattle.jpg_file.proofs.ByRow.StripWorks.{plain_after}
+use Rattle.jpg_file.proofs.ByRow.StripWorks.{plain_after, wants, wants_nothing}
 use Rattle.jpg_file.proofs.ByRow.RowsNone.{none_after, none_before, none_fault, none_plain}
 use Rattle.jpg_file.proofs.read.strip_work.StripWork.first_byte.Goals as goal
 
@@ -57,3 +57,14 @@ returns-in-Fault-clause-none c = λ bytes k.
     let w = c.args.self.now.file in
     let e = c.in-Fault.ensures.after bytes k in
     none_fault (limits_of w) bytes c.args.byte c.in-Fault.fault c.args.self.now.rows e.0 (none_before (limits_of w) bytes w k c.requires.first)
+
+pub returns-in-Head-clause-asks : goal.returns-in-Head-clause-asks
+returns-in-Head-clause-asks c =
+    let o = c.requires.stands in
+    wants c.take_head.result (c.args.self.now.file.reading.scan ≡ None) (c.in-Head.ensures.after o.0 o.1).1
+
+pub returns-in-Eoi-clause-asks : goal.returns-in-Eoi-clause-asks
+returns-in-Eoi-clause-asks c = wants_nothing c.take_end.result (c.args.self.now.file.reading.scan ≡ None) c.take_end.ensures.memory
+
+pub returns-in-NoMemory-clause-asks : goal.returns-in-NoMemory-clause-asks
+returns-in-NoMemory-clause-asks c = (let o = c.requires.stands in c.in-NoMemory.ensures.after o.0 o.1)

@@ -16,7 +16,7 @@ first_byte-requires-clause-stands c =
     (all, subst (λ l. RepresentsFile l all c.front-n.new.self) (sym p.limits) (p.stands (limits_of w) o.0 o.1))
 
 pub returns-then-awaits_rows-clause-after : goal.returns-then-awaits_rows-clause-after
-returns-then-awaits_rows-clause-after c = first_plain c.args.self.now.file c.front-n.new.self c.args.bytes.now c.front-n.result c.front-n.ensures.after c.args.self.now.rows c.first_byte.new.self.rows c.first_byte.new.self.file c.first_byte.result c.requires.none c.first_byte.ensures.after c.first_byte.ensures.head
+returns-then-awaits_rows-clause-after c = first_plain c.args.self.now.file c.front-n.new.self c.args.bytes.now c.front-n.result c.front-n.ensures.after c.args.self.now.rows c.first_byte.new.self.rows c.first_byte.new.self.file c.first_byte.result c.requires.none c.first_byte.ensures.after c.first_byte.ensures.head c.first_byte.ensures.asks
 
 pub returns-then-awaits_rows-clause-known : goal.returns-then-awaits_rows-clause-known
 returns-then-awaits_rows-clause-known c = first_known c.args.self.now.file c.front-n.new.self c.args.bytes.now c.front-n.result c.front-n.ensures.after c.first_byte.new.self.rows c.first_byte.new.self.strip c.first_byte.ensures.known

@@ -40,7 +40,7 @@ returns c =
     record {
       after = λ bytes g.
           (let k = subst (λ (r : Option RowWork). StripGoes (limits_of w) bytes r w) is g in
-          some_rows (limits_of w) bytes c.args.bytes.now c.take_in_row.result.0 c.take_in_row.result.1 c.take_in_row.new.self c.take_in_row.new.rows (t.after bytes k));
+          some_rows (limits_of w) bytes c.args.bytes.now c.take_in_row.result.0 c.take_in_row.result.1 old.rows c.in-Some.rows c.take_in_row.new.self c.take_in_row.new.rows is (t.after bytes k));
       rows = subst (λ (o : Option RowWork). CountsStrip c.take_in_row.result.1 o (Some c.take_in_row.new.rows)) (sym is) t.rows;
       memory = λ some s. t.memory (subst (λ (o : Option RowWork). SparesRows o w) is s);
       begins = λ none. absurd (clash (is_some old.rows) (ap is_some is) (ap is_some none));
