@@ -1,5 +1,5 @@
 //! A picture row by row, while its MCU rows are read.
-ghost use Rattle.std.specs.Prelude.{◌≡◌, ◌<◌, ◌≤◌, ◌+◌, ◌*◌, ◌==◌, ℕ, Bool, IfOk, None, false, if◌then◌else◌, length, map, slice_index_or, All};
+ghost use Rattle.std.specs.Prelude.{◌≡◌, ◌<◌, ◌≤◌, ◌+◌, ◌*◌, ◌==◌, ℕ, Bool, IfNone, IfOk, IfSome, None, false, if◌then◌else◌, length, map, slice_index_or, All};
 ghost use Rattle.jpg_spec.specs.Geometry.{bounds, div_up, v_max};
 ghost use Rattle.jpg_spec.specs.Lists.{below, any_of};
 ghost use Rattle.jpg_spec_image.specs.Pixels.{is_colour_out};
@@ -320,12 +320,17 @@ impl Strips {
         let _ = &self.pushed;
     }
 
-    /// The rows of samples that are kept of a component: at most those of an MCU row and the one above.
-    pub fn held(&self, component: u8) -> &SampleRows
-        requires { component < parts self.now.display }
-        ensures value { result.now ≡ slice_index_or self.now.held component no_rows }
-        ensures few { length result.now.rows ≤ 8 * rows_in self.now.display component + 1 }
+    /// The rows of samples that are kept of a component: at most those of an MCU row and the one above. None are kept of
+    /// components that aren't displayed.
+    pub fn held(&self, component: u8) -> Option<&SampleRows>
+        ensures displayed { IfSome result (λ rows. component < parts self.now.display) }
+        ensures value { IfSome result (λ rows. rows.now ≡ slice_index_or self.now.held component no_rows) }
+        ensures few { IfSome result (λ rows. length rows.now.rows ≤ 8 * rows_in self.now.display component + 1) }
+        ensures none { IfNone result (parts self.now.display ≤ component) }
     {
-        self.parts[component as usize].rows()
+        if self.parts.len() <= component as usize {
+            return None;
+        }
+        Some(self.parts[component as usize].rows())
     }
 }
