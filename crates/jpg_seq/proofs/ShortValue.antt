@@ -11,7 +11,7 @@ use Rattle.jpg_spec.specs.Parts.{IsFront}
 use Rattle.jpg_spec.proofs.Basics.Strings.{bits_of-split, length-bits_of}
 use Rattle.jpg_huff.specs.Laws.{AreApart}
 use Rattle.jpg_huff.specs.Walk.{BeginsNoCode}
-use Rattle.jpg_seq.specs.Values.{BeginsWithShortValue, IsNextEnd, IsNextShortValue, TellsNone, TellsOrNone, end_entry, no_entry}
+use Rattle.jpg_seq.specs.Values.{BeginsWithShortValue, IsNextEnd, IsNextShortValue, TellsNoPlace, TellsNone, TellsOrNone, end_entry, no_entry}
 use Rattle.jpg_seq.specs.declared.values.ShortValue.{ShortValue}
 
 -- the bits of a number below 1024, and those of its parts
@@ -118,6 +118,27 @@ CodeFirst codes bits k symbol = (1 ≤ k) × (k ≤ length bits) × Contains cod
 short_code : (codes : List Code) (bits : List Bool) (t : ShortValue) → IsNextShortValue codes bits t → (k : ℕ) × (symbol : ℕ) × CodeFirst codes bits k symbol
 short_code codes bits t (inl f) = (f.code, 16 * t.run + f.size, (f.some, omega (arith, f.there), f.in_codes))
 short_code codes bits t (inr f) = (t.length, 0, (f.some, f.there, f.in_codes))
+
+-- all that they begin with have one run
+run_once : (codes : List Code) (bits : List Bool) (t u : ShortValue) → AreApart codes → IsNextShortValue codes bits t → IsNextShortValue codes bits u → t.run ≡ u.run
+run_once codes bits t u apart (inl f) (inl g) =
+    let e = code_apart codes apart bits f.code g.code (16 * t.run + f.size) (16 * u.run + g.size) (omega (arith, f.there)) (omega (arith, g.there)) f.in_codes g.in_codes in
+    omega (arith, e.1, f.few, f.some, g.few, g.some)
+run_once codes bits t u apart (inl f) (inr g) =
+    let e = code_apart codes apart bits f.code u.length (16 * t.run + f.size) 0 (omega (arith, f.there)) g.there f.in_codes g.in_codes in
+    absurd (omega (arith, e.1, f.sized))
+run_once codes bits t u apart (inr f) (inl g) =
+    let e = code_apart codes apart bits t.length g.code 0 (16 * u.run + g.size) f.there (omega (arith, g.there)) f.in_codes g.in_codes in
+    absurd (omega (arith, e.1, g.sized))
+run_once codes bits t u apart (inr f) (inr g) = f.run ∙ sym g.run
+
+-- what they begin with has no place after this many values, so nothing that they begin with has
+pub no_place : (codes : List Code) (at : ℕ) (bits : List Bool) (t : ShortValue) → AreApart codes → IsNextShortValue codes bits t → 64 ≤ at + t.run → (t.run ≡ 64 → ⊥) → TellsNoPlace codes at bits
+no_place codes at bits t apart f far not = inr (λ u g. (let e = run_once codes bits t u apart f g in (omega (arith, e, far), λ is. not (e ∙ is))))
+
+pub none_placed : (codes : List Code) (at : ℕ) (bits : List Bool) → (length bits < 10) ⊎ TellsNone codes bits → TellsNoPlace codes at bits
+none_placed codes at bits (inl few) = inl few
+none_placed codes at bits (inr none) = inr (λ u g. absurd (none u g))
 
 -- another code comes first, whose symbol gives no value that short, nor the end
 pub none_symbol : (codes : List Code) (bits : List Bool) (n symbol : ℕ) → AreApart codes → n ≤ length bits → Contains codes (take n bits, symbol) → (symbol ≡ 0 → ⊥) → ((1 ≤ symbol % 16) × (n + symbol % 16 ≤ 10) → ⊥) → TellsNone codes bits

@@ -44,6 +44,11 @@ abbrev pub TellsShortValue : List Code → List Bool → Option ShortValue → T
 TellsShortValue codes bits None = (length bits < 10) ⊎ TellsNone codes bits
 TellsShortValue codes bits (Some t) = IsNextShortValue codes bits t
 
+-- There are fewer than ten bits, or they begin neither with a value that has a place after this many values nor with the
+-- end of a block.
+abbrev pub TellsNoPlace : List Code → ℕ → List Bool → Type 0
+TellsNoPlace codes at bits = (length bits < 10) ⊎ ((t : ShortValue) → IsNextShortValue codes bits t → (64 ≤ at + t.run) × (t.run ≡ 64 → ⊥))
+
 abbrev pub end_entry : ℕ → ShortValue
 end_entry n = record { value = pos 0; run = 64; length = n }
 

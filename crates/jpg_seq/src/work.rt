@@ -6,6 +6,7 @@ ghost use Rattle.jpg_seq.specs.Work.{IsLaterNext, IsNextElement, TakesFromStore,
 ghost use Rattle.jpg_seq.specs.Coder.{env_in};
 ghost use Rattle.jpg_seq.specs.SourceTaken.{TakesFrom};
 ghost use Rattle.jpg_seq.specs.ShortTaken.{GoesOnAfterShortValue, KeepsOn, TakesShortValue, TakesShortValues};
+ghost use Rattle.jpg_seq.specs.Values.{TellsNoPlace};
 ghost use Rattle.jpg_seq.specs.declared.work.UnitProgress.TheVariants.{Empty};
 ghost use Rattle.jpg_spec.specs.Codes.{Code};
 
@@ -371,6 +372,7 @@ impl UnitWork {
         requires none { self.old.part ≡ [] }
         ensures takes { TakesShortValue ac.now self.old store.old result self.new store.new }
         ensures goes { GoesOnAfterShortValue result self.old self.new }
+        ensures none { result ≡ Empty → TellsNoPlace ac.now (length self.old.values) store.old }
     {
         ac.apart();
         let at = self.count();

@@ -1,7 +1,7 @@
-use Rattle.std.proofs.Common.{rules, arith}
+use Rattle.std.proofs.Common.{rules, arith, length}
 use mir.Syntax.{w16}
 use Rattle.std.proofs.lemmas.Int.{to_z-of_z}
-use Rattle.jpg_seq.proofs.ShortValue.{short_end, short_there, short_value}
+use Rattle.jpg_seq.proofs.ShortValue.{no_place, none_placed, short_end, short_there, short_value}
 use Rattle.jpg_seq.proofs.EntryTaken.{end_goes, end_of_entry, value_goes, value_of_entry}
 use Rattle.jpg_seq.proofs.work.UnitWork.value_by_ten.Goals as goal
 
@@ -33,3 +33,10 @@ returns-then-entry-eq-END_RUN-clause-takes c =
 pub returns-then-entry-eq-END_RUN-clause-goes : goal.returns-then-entry-eq-END_RUN-clause-goes
 returns-then-entry-eq-END_RUN-clause-goes c =
     end_goes c.args.self.now c.cover.new.self c.covered-then-entry-eq-END_RUN.result c.requires.left.1 (rw c.count-at.ensures.value at c.cover.ensures) c.covered-then-entry-eq-END_RUN.ensures
+
+pub returns-else-entry-eq-END_RUN-clause-none : goal.returns-else-entry-eq-END_RUN-clause-none
+returns-else-entry-eq-END_RUN-clause-none c = λ is.
+    no_place c.args.ac.now (length c.args.self.now.values) c.args.store.now c.in-Some.entry c.apart.ensures.one c.in-Some.ensures (omega (arith, c.if-at-entry-lt64.false, c.count-at.ensures.value)) c.if-entry-eq-END_RUN.false
+
+pub returns-in-None-clause-none : goal.returns-in-None-clause-none
+returns-in-None-clause-none c = λ is. none_placed c.args.ac.now (length c.args.self.now.values) c.args.store.now c.in-None.ensures
