@@ -1,10 +1,12 @@
 -- What reading some bytes leads to, by the state before them.
 use Rattle.std.proofs.Common.{◌≡◌, ℕ, ◌-◌, ◌≤◌, List, [], ◌∷◌, ◌++◌, length, take, get_or, refl, sym, ap, ◌∙◌, subst, arith}
+use Rattle.std.proofs.lemmas.List.{length-append, length-take-le}
 use Rattle.jpg_spec_image.specs.TargaSteps.{TargaState, in_copies, in_pixels, total, grown, step, run}
 use Rattle.jpg_spec_image.specs.TargaReading.{RepresentsTarga, InCopies, InPixels}
 use Rattle.jpg_spec_image.proofs.TargaRuns.{pixels_run}
 use Rattle.jpg_spec_image.proofs.TargaStands.{stands}
-use Rattle.jpg_targa.specs.Reader.{standing_of, after_pixels, IsReached, Reaches, Grows, CanStretch}
+use Rattle.jpg_targa.specs.Reader.{standing_of, after_pixels, IsReached, Reaches, ShowsNone, Grows, CanStretch}
+use Rattle.jpg_targa.proofs.ShownNone.{pixels_right}
 use Rattle.jpg_targa.specs.declared.read.work.Answer.{Answer}
 use Rattle.jpg_targa.specs.declared.read.work.Moved.{Moved}
 use Rattle.jpg_targa.specs.declared.read.work.Stage.{Stage}
@@ -38,6 +40,19 @@ pub record PartFits (left : ℕ) (w : Work) (part : List ℕ) : Type 0 where
   pub some : 1 ≤ length part
   pub few : length part ≤ left
   pub room : length (w.pixels ++ part) ≤ total w.head
+
+pub part_fits : (left : ℕ) (w : Work) (piece : List ℕ) (long missing : ℕ) → CanStretch left w → long ≤ length piece → 1 ≤ long → (1 ≤ left → long ≤ left) → (1 ≤ missing → long ≤ missing) → missing ≡ total w.head - length w.pixels
+    → PartFits left w (take long piece)
+part_fits left w piece long missing can within least few short is =
+    let l = length-take-le long piece within in
+    let a = length-append w.pixels (take long piece) in
+    let some = can.some in
+    let room = can.room in
+    record { some = omega (arith, l, least); few = omega (arith, l, few, some); room = omega (arith, l, a, is, short, room) }
+
+-- no fault is shown with it
+pub part_right : (left : ℕ) (w : Work) (part : List ℕ) → PartFits left w part → ShowsNone (run (in_pixels w.head w.pixels left) part)
+part_right left w part f = subst ShowsNone (sym (pixels_run w.head w.pixels part left f.some f.few f.room)) (pixels_right w.head (w.pixels ++ part) (left - length part))
 
 -- a part was appended, and it goes on by what is left
 pub record Stretches (old w new : Work) (left : ℕ) (part : List ℕ) (s : Stage) (a : Answer) : Type 0 where

@@ -2,4 +2,5 @@ pub mod Copies
 pub mod Led
 pub mod MadeRows
 pub mod PiecesRead
+pub mod ShownNone
 pub mod TargaRight

@@ -3,7 +3,7 @@ use Rattle.std.specs.Prelude.{◌≡◌, ℕ, ◌<◌, ◌≤◌, ◌==◌, if�
 use Rattle.jpg_spec.specs.Lists.{below}
 use Rattle.jpg_spec_image.specs.Images.{Image}
 use Rattle.jpg_spec_image.specs.TargaFile.{targa_image}
-use Rattle.jpg_spec_image.specs.TargaSteps.{TargaState, in_head, in_identifier, at_packet, in_copies, in_pixels, whole, failed, at_start, total, grown, run}
+use Rattle.jpg_spec_image.specs.TargaSteps.{TargaState, in_head, in_identifier, at_packet, in_copies, in_pixels, whole, failed, past, at_start, total, grown, run}
 use Rattle.jpg_base.specs.declared.names.NoMemory.{NoMemory}
 use Rattle.jpg_targa.specs.declared.read.work.Stage.{Stage}
 use Rattle.jpg_targa.specs.declared.read.work.Stage.TheVariants as stage
@@ -34,11 +34,18 @@ IsReached s = (bytes : List ℕ) × (run at_start bytes ≡ s)
 abbrev pub image_view : Work → Image
 image_view w = targa_image w.head w.pixels
 
+-- the bytes that led to it show no fault
+abbrev pub ShowsNone : TargaState → Type 0
+ShowsNone (failed fault) = ⊥
+ShowsNone past = ⊥
+ShowsNone other = Unit {0}
+
+-- Memory is asked for only where there is no fault.
 abbrev pub Reaches : TargaState → Answer → Work → Type 0
 Reaches s answer.More w = standing w ≡ s
 Reaches s answer.Whole w = s ≡ whole (image_view w)
 Reaches s (answer.Fault fault) w = s ≡ failed fault
-Reaches s answer.NoMemory w = Unit {0}
+Reaches s answer.NoMemory w = ShowsNone s
 
 -- where the image is complete, its pixels are all there
 abbrev pub HasAll : Answer → Work → Type 0

@@ -10,7 +10,7 @@ use Rattle.jpg_spec_image.specs.declared.image.ImageInfo.{ImageInfo}
 use Rattle.jpg_pnm_bmp.specs.Made.{AreBytes, image_by_parts}
 use Rattle.jpg_pnm_bmp.specs.declared.read.piece.Fed2.{Fed2}
 use Rattle.jpg_pnm_bmp.specs.declared.read.piece.Fed2.TheVariants as fed
-use Rattle.jpg_targa.specs.Pieces.{HasRead, AfterTargaRead}
+use Rattle.jpg_targa.specs.Pieces.{HasRead, AfterTargaRead, AsksRightly}
 use Rattle.jpg_targa.specs.declared.read.reader.TargaReader.{TargaReader}
 use Rattle.jpg_targa.specs.declared.read.work.Work.{Work}
 
@@ -43,6 +43,10 @@ AfterFeed bytes piece (Err stop) r = AfterTargaRead bytes piece (Err stop) r.wor
 -- for all that was fed before
 abbrev pub Feeds : TargaReader → List ℕ → Result Fed2 Stop → TargaReader → Type 0
 Feeds old piece answer new = (bytes : List ℕ) → HasFedTarga bytes old → AfterFeed bytes piece answer new
+
+-- NoMemory is no answer to a fault: some first bytes of the piece, at least one, have none.
+abbrev pub Asks : TargaReader → List ℕ → Result Fed2 Stop → Type 0
+Asks old piece answer = (bytes : List ℕ) → HasFedTarga bytes old → AsksRightly bytes piece answer
 
 -- the result where the input ends
 abbrev pub IsShortAt : List ℕ → Stop → Type 0

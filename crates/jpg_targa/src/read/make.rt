@@ -1,8 +1,9 @@
 //! The samples of an image, from those of its Targa file.
 ghost use Rattle.std.specs.Prelude.{◌≡◌, ◌<◌, ◌≤◌, ◌-◌, ◌++◌, if◌then◌else◌, true, length, OnOk};
 ghost use Rattle.jpg_spec_image.specs.ImageText.{file_samples};
-ghost use Rattle.jpg_spec_image.specs.TargaFile.{targa_row, targa_height, is_from_top, targa_image};
+ghost use Rattle.jpg_spec_image.specs.TargaFile.{targa_row, targa_height, targa_kind, is_from_top, targa_image};
 ghost use Rattle.jpg_spec_image.specs.TargaSteps.{total};
+ghost use Rattle.jpg_spec_image.specs.declared.image.ImageKind.TheVariants.{Gray};
 ghost use Rattle.jpg_targa.specs.TargaRead.{Makes};
 
 use crate::read::head::{height, info, is_from_top, kind, row_bytes, total};
@@ -75,7 +76,8 @@ fn add_rows(
 
 // Whether the bytes are the samples as they are: those of grays, with rows from the top.
 fn are_samples(work: &Work) -> bool
-    ensures { result ≡ true → (targa_image work.now.head work.now.pixels).samples ≡ work.now.pixels }
+    ensures samples { result ≡ true → (targa_image work.now.head work.now.pixels).samples ≡ work.now.pixels }
+    ensures always { targa_kind work.now.head ≡ Gray → is_from_top work.now.head ≡ true → length work.now.pixels ≡ total work.now.head → result ≡ true }
 {
     match kind(&work.head) {
         ImageKind::Gray => {

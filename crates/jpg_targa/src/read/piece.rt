@@ -1,7 +1,7 @@
 //! A piece of a Targa file, read completely or up to the byte that ends it.
 ghost use Rattle.std.specs.Prelude.{◌≡◌, ◌+◌, ◌≤◌, ℕ, List, length};
 ghost use Rattle.jpg_targa.specs.Reader.{standing};
-ghost use Rattle.jpg_targa.specs.Pieces.{HasRead, AfterTargaPiece, HasAllAtDone};
+ghost use Rattle.jpg_targa.specs.Pieces.{AsksRead, HasRead, AfterTargaPiece, HasAllAtDone};
 
 use crate::read::work::{Answer, Work};
 use jpg_base::{FaultAt, Stop};
@@ -13,6 +13,7 @@ pub(crate) fn read_piece(work: &mut Work, taken: u64, piece: &[u8]) -> Result<Fe
     requires room { taken + length piece.now ≤ 1099511627776 }
     ensures led { (bytes : List ℕ) → HasRead bytes taken work.old → AfterTargaPiece bytes piece.now result work.new }
     ensures all { HasAllAtDone result work.new }
+    ensures memory { AsksRead work.old taken piece.now result }
 {
     let mut at: usize = 0;
     while at < piece.len() {

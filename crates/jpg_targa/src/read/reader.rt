@@ -2,6 +2,7 @@
 ghost use Rattle.std.specs.Prelude.{◌≡◌, ◌≤◌, ◌+◌, [], ℕ, List, length, Some, true, false, Ok, Err};
 ghost use Rattle.jpg_base.specs.declared.stop.Stop.{Stop as Stopped};
 ghost use Rattle.jpg_pnm_bmp.specs.Made.{image_by_parts};
+ghost use Rattle.jpg_targa.specs.Pieces.{AsksRead};
 ghost use Rattle.jpg_targa.specs.TargaRead.{Reads};
 
 use crate::read::make::make_image;
@@ -31,7 +32,7 @@ pub struct TargaReader {
 }
 
 impl TargaReader {
-    ghost use Rattle.jpg_targa.specs.TargaRead.{targa_read, targa_taken, targa_stop, is_targa_read, HasFedTarga, Feeds, Ends, KeepsDone};
+    ghost use Rattle.jpg_targa.specs.TargaRead.{targa_read, targa_taken, targa_stop, is_targa_read, HasFedTarga, Asks, Feeds, Ends, KeepsDone};
 
     /// A reader that was given no bytes. It takes no memory yet.
     pub fn new(alloc: Global) -> TargaReader
@@ -57,12 +58,14 @@ impl TargaReader {
 
     /// Takes a further piece of the file, of any length. Returns Done if the piece has the byte that makes the last
     /// pixel known: bytes after it are left unread. Otherwise it returns the fault of the header, ImageUnsupported or
-    /// ImageHeader, at 18; or that there is no memory. Otherwise it returns More. After a stop it returns the same
-    /// stop. It may not be called once the image is complete (`is_read`), and at most 2^40 bytes may be fed in all.
+    /// ImageHeader, at 18; or that there is no memory, which is never asked for with a byte that reveals a fault.
+    /// Otherwise it returns More. After a stop it returns the same stop. It may not be called once the image is complete
+    /// (`is_read`), and at most 2^40 bytes may be fed in all.
     pub fn feed(&mut self, piece: &[u8]) -> Result<Fed2, Stop>
         requires open { is_targa_read self.old ≡ false }
         requires room { targa_taken self.old + length piece.now ≤ 1099511627776 }
         ensures answered { Feeds self.old piece.now result self.new }
+        ensures memory { Asks self.old piece.now result }
         ensures done { KeepsDone result self.new }
         ensures stopped { (stop : Stopped) → result ≡ Err stop → targa_stop self.new ≡ Some stop }
         ensures again { (stop : Stopped) → targa_stop self.old ≡ Some stop → (result ≡ Err stop) × (self.new ≡ self.old) }
@@ -141,7 +144,8 @@ fn read_image(
     made: &mut Bytes,
 ) -> Result<Fed2, Stop>
     requires { taken + length piece.now ≤ 1099511627776 }
-    ensures { Reads work.old taken piece.now result work.new (image_by_parts info.new made.new) }
+    ensures led { Reads work.old taken piece.now result work.new (image_by_parts info.new made.new) }
+    ensures memory { AsksRead work.old taken piece.now result }
 {
     match read_piece(work, taken, piece) {
         Ok(fed) => match fed {

@@ -64,6 +64,7 @@ fn part_long(left: u64, missing: u64, most: usize) -> usize
     ensures within { result ≤ most }
     ensures left { 1 ≤ left → result ≤ left }
     ensures missing { 1 ≤ missing → result ≤ missing }
+    ensures far { result < most → result < left → missing ≤ result }
 {
     left.min(missing).min(most as u64).max(1) as usize
 }
@@ -107,8 +108,9 @@ impl Work {
     }
 
     fn head_byte(&mut self, n: usize, byte: u8) -> Answer
-        ensures led { Reaches (head_so_far (take n self.old.head ++ byte ∷ [])) result self.new }
+        ensures led { n < 18 → Reaches (head_so_far (take n self.old.head ++ byte ∷ [])) result self.new }
         ensures all { HasAll result self.new }
+        ensures sparing { result ≡ Answer.NoMemory → 18 ≤ n }
     {
         if n >= 18 {
             return Answer::NoMemory;
@@ -124,6 +126,7 @@ impl Work {
     fn head_grown(&mut self) -> Answer
         ensures led { Reaches (head_so_far self.old.head) result self.new }
         ensures all { HasAll result self.new }
+        ensures sparing { result ≡ Answer.NoMemory → ⊥ }
     {
         match head_fault(&self.head) {
             Some(fault) => Answer::Fault(fault),
@@ -134,6 +137,7 @@ impl Work {
     fn identifier_left(&mut self, left: u8) -> Answer
         ensures led { Reaches (identifier_left self.old.head left) result self.new }
         ensures all { HasAll result self.new }
+        ensures sparing { result ≡ Answer.NoMemory → ⊥ }
     {
         if left == 0 {
             return self.begin();
@@ -145,6 +149,7 @@ impl Work {
     fn begin(&mut self) -> Answer
         ensures led { Reaches (body_begun self.old.head) result self.new }
         ensures all { HasAll result self.new }
+        ensures sparing { result ≡ Answer.NoMemory → ⊥ }
     {
         self.pixels.clear();
         if is_packed(&self.head) {
@@ -158,6 +163,7 @@ impl Work {
     fn packet_byte(&mut self, byte: u8) -> Answer
         ensures led { Reaches (packet_byte self.old.head self.old.pixels byte) result self.new }
         ensures all { HasAll result self.new }
+        ensures sparing { result ≡ Answer.NoMemory → ⊥ }
     {
         if byte < 128 {
             self.stage = Stage::Pixels((u64::from(byte) + 1) * u64::from(size(&self.head)));

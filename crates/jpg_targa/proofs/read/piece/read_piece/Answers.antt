@@ -2,11 +2,12 @@ use Rattle.std.proofs.Common.{◌≡◌, ℕ, ◌+◌, ◌-◌, ◌≤◌, List,
 use Rattle.std.proofs.lemmas.List.{length-drop, take_rest}
 use Rattle.jpg_spec_image.specs.TargaFaults.{IsTargaFault}
 use Rattle.jpg_spec_image.specs.TargaSteps.{TargaState, at_start, run}
-use Rattle.jpg_targa.specs.Reader.{standing, IsReached, Reaches, HasAll, image_view}
+use Rattle.jpg_targa.specs.Reader.{standing, IsReached, Reaches, ShowsNone, HasAll, image_view}
 use Rattle.jpg_targa.specs.declared.read.work.Answer.{Answer}
 use Rattle.jpg_targa.specs.declared.read.work.Answer.TheVariants as answer
 use Rattle.jpg_targa.specs.declared.read.work.Work.{Work}
 use Rattle.jpg_targa.proofs.PiecesRead.{part_on, image_read, fault_read}
+use Rattle.jpg_targa.proofs.ShownNone.{goes_right, whole_right}
 use Rattle.jpg_targa.proofs.read.piece.read_piece.Goals as goal
 
 further : (piece : List ℕ) (at used : ℕ) → at ≤ length piece → used ≤ length (take (length piece - at) (drop at piece)) → at + used ≤ length piece
@@ -57,3 +58,26 @@ returns-in-Fault-clause-led c = λ bytes h rest.
 
 pub returns-in-Whole-clause-all : goal.returns-in-Whole-clause-all
 returns-in-Whole-clause-all c = subst (λ (a : Answer). HasAll a c.advance-step.new.self) c.in-Whole.is c.advance-step.ensures.all
+
+pub returns-in-Whole-clause-memory : goal.returns-in-Whole-clause-memory
+returns-in-Whole-clause-memory c = λ bytes h.
+    let at = c.loop-at.at in
+    let piece = c.args.piece.now in
+    let used = c.advance-step.result.used in
+    let some = c.advance-step.ensures.some in
+    let s = c.loop-at.invariant.stands bytes h.stands in
+    goes_right bytes piece (at + used) (omega (arith, some)) (further piece at used c.loop-at.invariant.inside c.advance-step.ensures.within)
+    (whole_right (run at_start (bytes ++ take (at + used) piece)) (image_view c.advance-step.new.self)
+    (sym (part_on bytes piece at used (standing c.loop-at.work) s)
+    ∙ told (standing c.loop-at.work) piece at used c.advance-step.result.answer answer.Whole c.advance-step.new.self c.in-Whole.is (c.advance-step.ensures.led (reached (standing c.loop-at.work) (bytes ++ take at piece) s))))
+
+pub returns-in-NoMemory-clause-memory : goal.returns-in-NoMemory-clause-memory
+returns-in-NoMemory-clause-memory c = λ bytes h.
+    let at = c.loop-at.at in
+    let piece = c.args.piece.now in
+    let used = c.advance-step.result.used in
+    let some = c.advance-step.ensures.some in
+    let s = c.loop-at.invariant.stands bytes h.stands in
+    goes_right bytes piece (at + used) (omega (arith, some)) (further piece at used c.loop-at.invariant.inside c.advance-step.ensures.within)
+    (subst ShowsNone (part_on bytes piece at used (standing c.loop-at.work) s)
+    (told (standing c.loop-at.work) piece at used c.advance-step.result.answer answer.NoMemory c.advance-step.new.self c.in-NoMemory.is (c.advance-step.ensures.led (reached (standing c.loop-at.work) (bytes ++ take at piece) s))))

@@ -1,13 +1,15 @@
-use Rattle.std.proofs.Common.{get_or, take, sym, ap, subst}
+use Rattle.std.proofs.Common.{rules, get_or, take, sym, ap, subst}
 use Rattle.jpg_spec_image.specs.TargaSteps.{identifier_left, step, run}
 use Rattle.jpg_targa.specs.Reader.{standing, standing_of, IsReached, Reaches}
 use Rattle.jpg_targa.proofs.Led.{one_led, copies_reached, pixels_reached}
+use Rattle.jpg_targa.proofs.ShownNone.{head_short}
 use Rattle.jpg_targa.proofs.read.work.Work.advance.Goals as goal
 
 pub returns-in-Head-clause-led : goal.returns-in-Head-clause-led
 returns-in-Head-clause-led c = λ r.
     one_led (standing c.args.self.now) c.args.piece.now c.head_byte.result c.head_byte.new.self c.one_byte.result c.one_byte.ensures c.requires
-    (subst (λ st. Reaches (step (standing_of st c.args.self.now) (get_or c.args.piece.now 0 0)) c.head_byte.result c.head_byte.new.self) (sym c.in-Head.is) c.head_byte.ensures.led)
+    (subst (λ st. Reaches (step (standing_of st c.args.self.now) (get_or c.args.piece.now 0 0)) c.head_byte.result c.head_byte.new.self) (sym c.in-Head.is)
+    (c.head_byte.ensures.led (head_short c.args.self.now.head c.in-Head.n (search rules) (subst IsReached (ap (λ st. standing_of st c.args.self.now) c.in-Head.is) r))))
 
 pub returns-in-Identifier-clause-led : goal.returns-in-Identifier-clause-led
 returns-in-Identifier-clause-led c = λ r.
