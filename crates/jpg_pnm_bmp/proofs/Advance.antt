@@ -45,7 +45,7 @@ pub stretch_led : (old : Work) (head : ImageHead) (s : ImageState) (a : Answer) 
 stretch_led old head s answer.More w g i (e, f) = ap standing f ∙ g w.samples ∙ sym e
 stretch_led old head s answer.Whole w g i (e, f, h) = e ∙ ap whole (sym (ap image_view f ∙ i w.samples))
 stretch_led old head s (answer.Fault fault) w g i e = e
-stretch_led old head s answer.NoMemory w g i e = tt
+stretch_led old head s answer.NoMemory w g i e = e
 
 pub all_numbers : (numbers : Numbers) → ThreeNumbers (list_of numbers []) → (w : ℕ) × (h : ℕ) × (m : ℕ) × (numbers ≡ All w h m)
 all_numbers Nothing t = let e = t.all in let f : ⊥ = cc in absurd f

@@ -14,5 +14,6 @@ pub mod AllThere
 pub mod DueNumbers
 pub mod EndRead
 pub mod PiecesRead
+pub mod ShownNone
 pub mod Stretch
 pub mod PlainSamples

@@ -12,11 +12,12 @@ use Rattle.jpg_spec_image.specs.ImageSteps.{ImageState, in_body, whole, failed, 
 use Rattle.jpg_spec_image.proofs.ImageBodyRuns.{count, body_run, body_all, not_yet, all_there, wrong_byte}
 use Rattle.jpg_spec_image.proofs.ImageRuns.{run_join}
 use Rattle.jpg_pnm_bmp.specs.Shapes.{AreBelow}
-use Rattle.jpg_pnm_bmp.specs.Reader.{CanStretch, HasSamples, HoldsBodyPart, Stretches}
+use Rattle.jpg_pnm_bmp.specs.Reader.{CanStretch, HasSamples, HoldsBodyPart, ShowsNone, Stretches}
 use Rattle.jpg_pnm_bmp.specs.declared.read.work.Answer.{Answer}
 use Rattle.jpg_pnm_bmp.specs.declared.read.work.Answer.TheVariants as answer
 use Rattle.jpg_pnm_bmp.specs.declared.read.work.Work.{Work}
 use Rattle.jpg_spec.specs.declared.fault.Fault.TheVariants.{ImageValue}
+use Rattle.jpg_pnm_bmp.proofs.ShownNone.{body_right}
 
 -- places along a line
 pub along : (place k line : ℕ) → place % line + k < line → (place + k) % line ≡ place % line + k
@@ -113,7 +114,12 @@ stretched head old w part answer.Whole can f some below (e, h) =
       subst (HasSamples head) (sym (ap (λ (x : Work). x.samples) e)) (record { there = h; right = right_join (body_of head) 0 old.samples part can.right (let z : length old.samples ≡ 0 + length old.samples = omega arith in subst (λ n. are_right (body_of head) n part ≡ true) z r) }),
     )
 stretched head old w part (answer.Fault fault) can f some below h = absurd h
-stretched head old w part answer.NoMemory can f some below h = tt
+stretched head old w part answer.NoMemory can f some below h =
+    let l = length-append old.samples part in
+    let room = can.room in
+    let few = f.few room in
+    let r = part_right (body_of head) (length old.samples) part f can.some below in
+    subst ShowsNone (sym (part_run head old.samples part r some (omega (arith, l, few)))) (body_right head (old.samples ++ part))
 
 -- ONE BYTE
 

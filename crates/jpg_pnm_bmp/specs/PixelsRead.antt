@@ -3,7 +3,7 @@ use Rattle.std.specs.Prelude.{◌≡◌, ℕ, Bool, true, false, List, ◌++◌,
 use Rattle.jpg_base.specs.declared.stop.Stop.{Stop}
 use Rattle.jpg_spec_image.specs.Images.{Image}
 use Rattle.jpg_pnm_bmp.specs.Made.{AreBytes, image_by_parts}
-use Rattle.jpg_pnm_bmp.specs.Pieces.{HasRead, AfterImageRead, EndsImage}
+use Rattle.jpg_pnm_bmp.specs.Pieces.{HasRead, AfterImageRead, AsksRightly, EndsImage}
 use Rattle.jpg_pnm_bmp.specs.declared.read.piece.Fed2.{Fed2}
 use Rattle.jpg_pnm_bmp.specs.declared.read.piece.Fed2.TheVariants as fed
 use Rattle.jpg_pnm_bmp.specs.declared.read.pixels.PixelReader.{PixelReader}
@@ -37,6 +37,10 @@ AfterFeed bytes piece (Err stop) r = AfterImageRead bytes piece (Err stop) r.wor
 -- for all that was fed before
 abbrev pub Feeds : PixelReader → List ℕ → Result Fed2 Stop → PixelReader → Type 0
 Feeds old piece answer new = (bytes : List ℕ) → HasFedImage bytes old → AfterFeed bytes piece answer new
+
+-- NoMemory is no answer to a fault: some first bytes of the piece, at least one, have none.
+abbrev pub Asks : PixelReader → List ℕ → Result Fed2 Stop → Type 0
+Asks old piece answer = (bytes : List ℕ) → HasFedImage bytes old → AsksRightly bytes piece answer
 
 abbrev pub Ends : PixelReader → Result (Unit {0}) Stop → PixelReader → Type 0
 Ends old answer new = (bytes : List ℕ) → HasFedImage bytes old → EndsImage bytes answer (image_read new)

@@ -3,7 +3,7 @@ use Rattle.std.specs.Prelude.{◌≡◌, ℕ, ◌+◌, ◌-◌, ◌*◌, ◌<◌
 use Rattle.jpg_spec_image.specs.Images.{Image, are_right}
 use Rattle.jpg_spec_image.specs.BmpFile.{height, line, used, palette_bytes}
 use Rattle.jpg_spec_image.specs.ImageFaults.{ImageHead, pnm, bmp, body_of, image_of}
-use Rattle.jpg_spec_image.specs.ImageSteps.{ImageState, at_start, behind_first, in_gap, in_number, in_bmp_head, in_bmp_front, in_body, whole, failed, ended_by, run}
+use Rattle.jpg_spec_image.specs.ImageSteps.{ImageState, at_start, behind_first, in_gap, in_number, in_bmp_head, in_bmp_front, in_body, whole, failed, past, ended_by, run}
 use Rattle.jpg_spec.specs.declared.fault.Fault.{Fault}
 use Rattle.jpg_spec_image.specs.PnmText.{number_fault}
 use Rattle.jpg_pnm_bmp.specs.Known.{list_of}
@@ -55,11 +55,18 @@ image_by other w = image_of (pnm_head w) w.samples
 abbrev pub image_view : Work → Image
 image_view w = image_by w.stage w
 
+-- the bytes that led to it show no fault
+abbrev pub ShowsNone : ImageState → Type 0
+ShowsNone (failed fault) = ⊥
+ShowsNone past = ⊥
+ShowsNone other = Unit {0}
+
+-- Memory is asked for only where there is no fault.
 abbrev pub Reaches : ImageState → Answer → Work → Type 0
 Reaches s answer.More w = standing w ≡ s
 Reaches s answer.Whole w = s ≡ whole (image_view w)
 Reaches s (answer.Fault fault) w = s ≡ failed fault
-Reaches s answer.NoMemory w = Unit {0}
+Reaches s answer.NoMemory w = ShowsNone s
 
 -- all three numbers, the greatest sample not 0
 abbrev pub AreAllNumbers : Numbers → Type 0
@@ -139,7 +146,7 @@ abbrev pub Stretches : ImageHead → Work → ImageState → Answer → Work →
 Stretches head old s answer.More w = (s ≡ in_body head w.samples) × (w ≡ record old { samples = w.samples })
 Stretches head old s answer.Whole w = (s ≡ whole (image_of head w.samples)) × (w ≡ record old { samples = w.samples }) × HasSamples head w.samples
 Stretches head old s (answer.Fault fault) w = s ≡ failed fault
-Stretches head old s answer.NoMemory w = Unit {0}
+Stretches head old s answer.NoMemory w = ShowsNone s
 
 abbrev pub StretchesBy : ImageHead → Work → List ℕ → Moved → Work → Type 0
 StretchesBy head old piece m w = Stretches head old (run (in_body head old.samples) (take m.used piece)) m.answer w

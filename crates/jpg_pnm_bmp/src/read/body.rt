@@ -86,12 +86,14 @@ fn part_up_to(end: u64, place: u64, left: u64, most: usize) -> usize
     ensures within { result ≤ most }
     ensures end { place < end → place + result ≤ end }
     ensures left { 1 ≤ left → result ≤ left }
+    ensures far { result < most → result < left → end ≤ place + result }
 {
     let up_to = end.saturating_sub(place);
     up_to.min(left).min(most as u64).max(1) as usize
 }
 
-// How many bytes are taken after those that are kept: up to the end of a line's samples, or of a line.
+// How many bytes are taken after those that are kept: as many as there are up to the end of a line's samples, or of a
+// line, or of the body.
 pub(crate) fn part_long(shape: Shape, at: u64, most: usize) -> usize
     requires { 1 ≤ most }
     ensures some { 1 ≤ result }
@@ -99,6 +101,8 @@ pub(crate) fn part_long(shape: Shape, at: u64, most: usize) -> usize
     ensures few { at < shape.count → at + result ≤ shape.count }
     ensures along { 0 < shape.line → at % shape.line < shape.used → at % shape.line + result ≤ shape.used }
     ensures behind { 0 < shape.line → shape.used ≤ at % shape.line → at % shape.line + result ≤ shape.line }
+    ensures far_along { result < most → at + result < shape.count → 0 < shape.line → at % shape.line < shape.used → shape.used ≤ at % shape.line + result }
+    ensures far_behind { result < most → at + result < shape.count → 0 < shape.line → shape.used ≤ at % shape.line → shape.line ≤ at % shape.line + result }
 {
     let place = place_of(at, shape.line);
     let left = shape.count.saturating_sub(at);

@@ -1,7 +1,7 @@
 //! A piece of an image file, read completely or up to the byte that ends it.
 ghost use Rattle.std.specs.Prelude.{◌≡◌, ◌+◌, ◌≤◌, ℕ, List, length};
 ghost use Rattle.jpg_pnm_bmp.specs.Reader.{IsGoing};
-ghost use Rattle.jpg_pnm_bmp.specs.Pieces.{HasRead, AfterImagePiece, AfterEnd, HasAllAfter, HasAllAtEnd};
+ghost use Rattle.jpg_pnm_bmp.specs.Pieces.{AsksRead, HasRead, AfterImagePiece, AfterEnd, HasAllAfter, HasAllAtEnd};
 
 use crate::read::work::{Answer, Work};
 use jpg_base::{FaultAt, Stop};
@@ -20,6 +20,7 @@ pub(crate) fn read_piece(work: &mut Work, taken: u64, piece: &[u8]) -> Result<Fe
     requires going { IsGoing work.old }
     ensures led { (bytes : List ℕ) → HasRead bytes taken work.old → AfterImagePiece bytes piece.now result work.new }
     ensures all { HasAllAfter result work.new }
+    ensures memory { AsksRead work.old taken piece.now result }
 {
     let mut at: usize = 0;
     while at < piece.len() {

@@ -2,7 +2,7 @@
 ghost use Rattle.std.specs.Prelude.{◌≡◌, ◌≤◌, ◌+◌, [], ℕ, List, length, Some, None, true, false, Ok, Err, IfSome, IfNone};
 ghost use Rattle.jpg_base.specs.declared.stop.Stop.{Stop as Stopped};
 ghost use Rattle.jpg_pnm_bmp.specs.Made.{image_by_parts};
-ghost use Rattle.jpg_pnm_bmp.specs.Pieces.{Reads, EndsRead, GoesOn};
+ghost use Rattle.jpg_pnm_bmp.specs.Pieces.{AsksRead, Reads, EndsRead, GoesOn};
 ghost use Rattle.jpg_pnm_bmp.specs.Reader.{CanMake, IsGoing};
 
 use crate::read::make::make_image;
@@ -39,7 +39,7 @@ pub struct PixelReader {
 }
 
 impl PixelReader {
-    ghost use Rattle.jpg_pnm_bmp.specs.PixelsRead.{image_read, pixels_taken, pixels_stop, is_image_read, HasFedImage, Feeds, Ends, KeepsDone, EndsDone};
+    ghost use Rattle.jpg_pnm_bmp.specs.PixelsRead.{image_read, pixels_taken, pixels_stop, is_image_read, HasFedImage, Asks, Feeds, Ends, KeepsDone, EndsDone};
     ghost use Rattle.jpg_pnm_bmp.specs.PlainSamples.{samples_so_far, TellsPlain, TellsNotPlain};
 
     /// A reader that was given no bytes. It takes no memory yet.
@@ -67,12 +67,14 @@ impl PixelReader {
     /// Takes a further piece of the file, of any length. Returns Done if the piece has the byte that makes the last
     /// sample known: bytes after it are left unread. Otherwise it returns the fault of the bytes so far, at the number
     /// of bytes up to the one that reveals it: ImageText, ImageUnsupported, ImageHeader or ImageValue; or that there is
-    /// no memory. Otherwise it returns More. After a stop it returns the same stop. It may not be called once the image
-    /// is complete (`is_read`), and at most 2^40 bytes may be fed in all.
+    /// no memory, which is never asked for with a byte that reveals a fault. Otherwise it returns More. After a stop it
+    /// returns the same stop. It may not be called once the image is complete (`is_read`), and at most 2^40 bytes may be
+    /// fed in all.
     pub fn feed(&mut self, piece: &[u8]) -> Result<Fed2, Stop>
         requires open { is_image_read self.old ≡ false }
         requires room { pixels_taken self.old + length piece.now ≤ 1099511627776 }
         ensures answered { Feeds self.old piece.now result self.new }
+        ensures memory { Asks self.old piece.now result }
         ensures done { KeepsDone result self.new }
         ensures stopped { (stop : Stopped) → result ≡ Err stop → pixels_stop self.new ≡ Some stop }
         ensures again { (stop : Stopped) → pixels_stop self.old ≡ Some stop → (result ≡ Err stop) × (self.new ≡ self.old) }
@@ -178,6 +180,7 @@ fn read_image(
     requires going { IsGoing work.old }
     ensures led { Reads work.old taken piece.now result work.new (image_by_parts info.new made.new) }
     ensures on { GoesOn result work.new }
+    ensures memory { AsksRead work.old taken piece.now result }
 {
     match read_piece(work, taken, piece) {
         Ok(fed) => match fed {

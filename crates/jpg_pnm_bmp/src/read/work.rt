@@ -80,6 +80,18 @@ fn sample_byte(n: u32, most: u8) -> u8
     n.min(u32::from(most)) as u8
 }
 
+// 53 bytes and one more.
+fn completed(held: &[u8], byte: u8) -> [u8; 54]
+    requires { length held.now ≡ 53 }
+    ensures { result ≡ held.now ++ byte ∷ [] }
+{
+    let mut head = [byte; 54];
+    for k in 0..53usize {
+        head[k] = held[k];
+    }
+    head
+}
+
 impl Work {
     pub fn new(alloc: Global) -> Work
         ensures { standing result ≡ at_start }
@@ -235,12 +247,30 @@ impl Work {
     }
 
     fn head_byte(&mut self, byte: u8) -> Answer
+        requires { length self.old.head < 54 }
         ensures led { Reaches (head_so_far (self.old.head ++ byte ∷ [])) result self.new }
         ensures all { HasAll result self.new }
     {
         match self.head.push_all(&[byte]) {
             Ok(()) => self.head_grown(),
-            Err(_) => Answer::NoMemory,
+            Err(_) => self.head_lost(byte),
+        }
+    }
+
+    // There is no memory for a byte of the header: its fault, if it is complete with this byte and has one.
+    #[cold]
+    fn head_lost(&mut self, byte: u8) -> Answer
+        requires { length self.old.head < 54 }
+        ensures led { Reaches (head_so_far (self.old.head ++ byte ∷ [])) result self.new }
+        ensures all { HasAll result self.new }
+    {
+        let held = self.head.as_slice();
+        if held.len() < 53 {
+            return Answer::NoMemory;
+        }
+        match head_fault(&completed(held, byte)) {
+            Some(fault) => Answer::Fault(fault),
+            None => Answer::NoMemory,
         }
     }
 

@@ -3,11 +3,12 @@ use Rattle.std.proofs.lemmas.List.{length-drop, take_all}
 use Rattle.std.proofs.Math.Logic.{∥∥₁_map}
 use Rattle.jpg_spec_image.specs.ImageSteps.{ImageState, at_start, run}
 use Rattle.jpg_spec_image.proofs.ImageRuns.{run_join}
-use Rattle.jpg_pnm_bmp.specs.Reader.{standing, IsReached, Reaches, HasAll, image_view}
+use Rattle.jpg_pnm_bmp.specs.Reader.{standing, IsReached, Reaches, ShowsNone, HasAll, image_view}
 use Rattle.jpg_pnm_bmp.specs.declared.read.work.Answer.{Answer}
 use Rattle.jpg_pnm_bmp.specs.declared.read.work.Answer.TheVariants as answer
 use Rattle.jpg_pnm_bmp.specs.declared.read.work.Work.{Work}
 use Rattle.jpg_pnm_bmp.proofs.PiecesRead.{part_on, image_read, fault_read}
+use Rattle.jpg_pnm_bmp.proofs.ShownNone.{goes_right, whole_right}
 use Rattle.jpg_pnm_bmp.proofs.read.piece.read_piece.Goals as goal
 
 rest_is : (piece : List ℕ) (at : ℕ) → take (length piece - at) (drop at piece) ≡ drop at piece
@@ -66,3 +67,26 @@ returns-in-Fault-clause-led c = λ bytes h limits rest l.
 
 pub returns-in-Whole-clause-all : goal.returns-in-Whole-clause-all
 returns-in-Whole-clause-all c = subst (λ (a : Answer). HasAll a c.advance-step.new.self) c.in-Whole.is c.advance-step.ensures.all
+
+pub returns-in-Whole-clause-memory : goal.returns-in-Whole-clause-memory
+returns-in-Whole-clause-memory c = λ bytes h.
+    let at = c.loop-at.at in
+    let piece = c.args.piece.now in
+    let used = c.advance-step.result.used in
+    let some = c.advance-step.ensures.some in
+    let s = c.loop-at.invariant.stands bytes h.stands in
+    goes_right bytes piece (at + used) (omega (arith, some)) (further piece at used c.loop-at.invariant.inside c.advance-step.ensures.within)
+    (whole_right (run at_start (bytes ++ take (at + used) piece)) (image_view c.advance-step.new.self)
+    (sym (part_on bytes piece at used (standing c.loop-at.work) s)
+    ∙ told (standing c.loop-at.work) piece at used c.advance-step.result.answer answer.Whole c.advance-step.new.self c.in-Whole.is (c.advance-step.ensures.led (reached (standing c.loop-at.work) (bytes ++ take at piece) s))))
+
+pub returns-in-NoMemory-clause-memory : goal.returns-in-NoMemory-clause-memory
+returns-in-NoMemory-clause-memory c = λ bytes h.
+    let at = c.loop-at.at in
+    let piece = c.args.piece.now in
+    let used = c.advance-step.result.used in
+    let some = c.advance-step.ensures.some in
+    let s = c.loop-at.invariant.stands bytes h.stands in
+    goes_right bytes piece (at + used) (omega (arith, some)) (further piece at used c.loop-at.invariant.inside c.advance-step.ensures.within)
+    (subst ShowsNone (part_on bytes piece at used (standing c.loop-at.work) s)
+    (told (standing c.loop-at.work) piece at used c.advance-step.result.answer answer.NoMemory c.advance-step.new.self c.in-NoMemory.is (c.advance-step.ensures.led (reached (standing c.loop-at.work) (bytes ++ take at piece) s))))

@@ -9,6 +9,7 @@ use Rattle.jpg_pnm_bmp.specs.Reader.{standing, standing_of, image_by, numbers_li
 use Rattle.jpg_pnm_bmp.specs.Shapes.{body_view}
 use Rattle.jpg_pnm_bmp.proofs.Advance.{one_led, due_reached, body_reached, stretch_led, pnm_numbers, pnm_can, bmp_can}
 use Rattle.jpg_pnm_bmp.proofs.AllThere.{all_bmp, all_pnm, all_prop, body_head, body_high, head_reached, numbers_reached, scale_prop, scale_reached}
+use Rattle.jpg_pnm_bmp.proofs.ShownNone.{short_reached}
 use Rattle.jpg_pnm_bmp.proofs.read.work.Work.advance.Goals as goal
 
 pub returns-in-Start-clause-led : goal.returns-in-Start-clause-led
@@ -98,3 +99,8 @@ returns-in-BmpBody-clause-all c =
     let high = body_high s.head s.palette b.0 s.samples b.1 in
     let e : body_view c.bmp_shape-shape.result ≡ body_of head = subst (λ x. height x ≤ 65500 → body_view c.bmp_shape-shape.result ≡ body_of (bmp x s.palette)) c.as_slice.ensures (c.bmp_shape-shape.ensures s.palette) high in
     all_bmp s b.0 _ c.stretch-in-BmpBody.result.answer c.stretch-in-BmpBody.new.self c.in-BmpBody.is b.1 (c.stretch-in-BmpBody.ensures.led head e (bmp_can s.head s.palette b.0 s.samples b.1))))
+
+pub head_byte-requires : goal.head_byte-requires
+head_byte-requires c =
+    let s = c.args.self.now in
+    ∥∥₁_elim c.requires.going le_prop (λ r. short_reached s.head (subst IsReached (ap (λ st. standing_of st s) c.in-BmpHead.is) r))
