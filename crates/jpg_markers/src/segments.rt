@@ -204,8 +204,8 @@ impl SegmentReader {
         n
     }
 
-    /// Whether this segment may follow: the reader is between segments, the segment's code may occur here and isn't
-    /// EOI, and the kept markers are within their limit with it.
+    /// Whether this segment may follow: the reader hasn't stopped and is between segments, the segment's code may occur
+    /// here and isn't EOI, and the kept markers are within their limit with it.
     pub fn allows(&self, segment: &WholeSegment<'_>) -> bool
         ensures may { result ≡ true → MayFollow (reading_of self.now) segment.now.code segment.now.contents.now }
         ensures always { (reading_of self.now).stop ≡ None → MayFollow (reading_of self.now) segment.now.code segment.now.contents.now → result ≡ true }
