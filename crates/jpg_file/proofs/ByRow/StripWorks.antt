@@ -5,17 +5,20 @@ use Rattle.std.specs.Prelude.{is_none, is_some}
 use Rattle.jpg_spec.specs.declared.frame.Limits.{Limits}
 use Rattle.jpg_base.specs.declared.stop.Stop.{Stop}
 use Rattle.jpg_base.specs.declared.stop.Stop.TheVariants as stop
-use Rattle.jpg_file.specs.Read.File.{AfterFileByte, KeepsBytes, PassesFront, RepresentsFile, TakesSome, limits_of}
+use Rattle.jpg_file.specs.Read.File.{AfterFileByte, KeepsBytes, PassesFront, RepresentsFile, TakesSome, keeping_of, limits_of}
+use Rattle.jpg_file.specs.Read.PieceTaken.{TakesFirst}
 use Rattle.jpg_file.specs.Read.RowsKnown.{KnowsRows}
+use Rattle.jpg_file.specs.Read.RowsNone.{NoneByte}
 use Rattle.jpg_file.specs.declared.read.strip_head.StripHead.{StripHead}
 use Rattle.jpg_spec.proofs.Basics.Common.{clash, some_once}
 use Rattle.jpg_file.proofs.Files.FileSteps.{asked}
 use Rattle.jpg_file.proofs.Files.PieceSteps.{one_more}
 use Rattle.jpg_file.specs.Read.RowsSoFar.{RowsSoFar}
-use Rattle.jpg_file.specs.Read.Step.{HasMemory, IfStops, IfWants}
-use Rattle.jpg_file.specs.Read.Strips.{AfterScanBegins, AfterStrip, RowsRun, StripGoes, StripRun}
+use Rattle.jpg_file.specs.Read.Step.{HasMemory, IfStops, IfWants, IsNoRow}
+use Rattle.jpg_file.specs.Read.Strips.{AfterScanBegins, AfterStrip, CountsRowsOfScan, RowsRun, SparesRows, StripGoes, StripRun}
 use Rattle.jpg_file.specs.declared.read.file.FileWork.{FileWork}
 use Rattle.jpg_file.specs.declared.read.rows.RowWork.{RowWork}
+use Rattle.jpg_file.specs.declared.read.strip_work.StripWork.{StripWork}
 use Rattle.jpg_file.specs.declared.read.step.Step.{Step}
 use Rattle.jpg_file.specs.declared.read.step.Step.TheVariants as step
 
@@ -49,6 +52,28 @@ wants_nothing other holds h = tt
 asks_between : (result : Step) (w mid : FileWork) (limits : Limits) (bytes : List ℕ) (new : FileWork) → IfWants result (mid.reading.scan ≡ w.reading.scan) → AfterFileByte (KeepsBytes w) limits bytes result new → IfWants result (mid.reading.scan ≡ None)
 asks_between (step.Ended stop.NoMemory) w mid limits bytes new same none = same ∙ none
 asks_between other w mid limits bytes new same after = tt
+
+-- A BYTE before the first scan after which there is no current row
+pub first_taken : (old : StripWork) (byte : ℕ) (answer : Step) (w : FileWork) → old.rows ≡ None
+    → ((bytes : List ℕ) → RepresentsFile (limits_of old.file) bytes old.file → AfterFileByte (Unit {0}) (limits_of old.file) (bytes ++ byte ∷ []) answer w) → IsNoRow answer → w.head ≡ old.file.head
+    → IfWants answer (old.file.reading.scan ≡ None) → keeping_of w ≡ keeping_of old.file → NoneByte old byte answer (record old { file = w }) → TakesFirst old byte answer (record old { file = w })
+first_taken old byte answer w none after never head asks keeping nothing = record {
+  after = λ bytes k. plain_after (Unit {0}) (limits_of old.file) (bytes ++ byte ∷ []) old.rows w answer none (after bytes k);
+  begins = subst (λ (o : Option RowWork). CountsRowsOfScan o w) (sym none) tt;
+  known = λ bytes k. subst (λ (o : Option RowWork). KnowsRows (limits_of old.file) (bytes ++ byte ∷ []) 0 o old.strip) (sym none) tt;
+  no = never;
+  stops = stops answer (old.rows ≡ None) none;
+  sparing = λ e. subst (λ (o : Option RowWork). SparesRows o w) (sym none) tt;
+  head = stops answer (w.head ≡ old.file.head) head;
+  asks = asks;
+  keeping = keeping;
+  by_row = refl;
+  none = nothing;
+}
+
+pub stops_on : (answer : Step) (was is : Type 0) → (was → is) → IfStops answer was → IfStops answer is
+stops_on (step.Ended e) was is on h = on h
+stops_on other was is on h = tt
 
 -- of a file that is read in one go
 pub some_plain : (w : FileWork) (rows : Option RowWork) (run : List ℕ) (n : ℕ) (answer : Step) (new : FileWork) → rows ≡ None → TakesSome w run n answer new → (bytes : List ℕ) → StripGoes (limits_of w) bytes rows w

@@ -6,10 +6,10 @@ use Rattle.jpg_base.specs.declared.stop.Stop.{Stop}
 use Rattle.jpg_file.specs.Read.File.{keeping_of}
 use Rattle.jpg_file.specs.Read.RowFaults.{FaultsFed, FaultsSome}
 use Rattle.jpg_file.specs.Read.RowPieces.{AfterRowsPiece, AsksFed, CountsFed, IfSparing, KeepsWork, KnowsFed, LastFed, RowsGo, RowsOpen}
-use Rattle.jpg_file.specs.Read.RowsKnown.{KnowsSome}
-use Rattle.jpg_file.specs.Read.RowsNone.{HasNoRows, NoneFed, NoneSome}
-use Rattle.jpg_file.specs.Read.Step.{IfStops, IsNoRow, HasMemory}
-use Rattle.jpg_file.specs.Read.Strips.{CountsRowsOfScan, CountsStrip, SparesRows, TakesStrip}
+use Rattle.jpg_file.specs.Read.RowsKnown.{KnowsByte, KnowsSome}
+use Rattle.jpg_file.specs.Read.RowsNone.{HasNoRows, NoneByte, NoneFed, NoneSome}
+use Rattle.jpg_file.specs.Read.Step.{IfStops, IfWants, IsNoRow, HasMemory}
+use Rattle.jpg_file.specs.Read.Strips.{CountsRowsOfScan, CountsStrip, SparesRows, TakesFirstByte, TakesStrip}
 use Rattle.jpg_file.specs.declared.read.row_pieces.FedRow.{FedRow}
 use Rattle.jpg_file.specs.declared.read.strip_work.StripWork.{StripWork}
 use Rattle.jpg_file.specs.declared.read.step.Step.{Step}
@@ -31,6 +31,20 @@ pub record TakesBytes (old : StripWork) (run : List ℕ) (n : ℕ) (answer : Ste
   pub plain : old.rows ≡ None → old.by_row ≡ false → new.rows ≡ None
   pub none : old.rows ≡ None → old.by_row ≡ true → NoneSome old run n answer new
   pub faults : FaultsSome old run n answer
+
+-- A BYTE before the first scan: its result, and what is kept
+pub record TakesFirst (old : StripWork) (byte : ℕ) (answer : Step) (new : StripWork) : Type 0 where
+  pub after : TakesFirstByte old byte answer new
+  pub begins : CountsRowsOfScan new.rows new.file
+  pub known : KnowsByte old byte new
+  pub no : IsNoRow answer
+  pub stops : IfStops answer (new.rows ≡ None)
+  pub sparing : keeping_of old.file ≡ copying.None → SparesRows new.rows new.file
+  pub head : IfStops answer (new.file.head ≡ old.file.head)
+  pub asks : IfWants answer (old.file.reading.scan ≡ None)
+  pub keeping : keeping_of new.file ≡ keeping_of old.file
+  pub by_row : new.by_row ≡ old.by_row
+  pub none : NoneByte old byte answer new
 
 -- A PIECE, whatever bytes were given before it
 pub record TakesPiece (Given : List ℕ → Type 0) (limits : Limits) (old : StripWork) (piece : List ℕ) (answer : Result FedRow Stop) (new : StripWork) : Type 0 where

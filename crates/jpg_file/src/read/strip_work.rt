@@ -4,12 +4,12 @@ ghost use Rattle.std.specs.Prelude.{◌≡◌, ◌<◌, ◌≤◌, ℕ, List, No
 ghost use Rattle.jpg_spec.specs.FrameHeader.{AreLimits};
 ghost use Rattle.jpg_spec.specs.declared.frame.Copying.TheVariants as copying;
 ghost use Rattle.jpg_file.specs.Read.File.{HasCompleteHeader, RepresentsFile, keeping_of, limits_of};
-ghost use Rattle.jpg_file.specs.Read.PieceTaken.{TakesBytes};
-ghost use Rattle.jpg_file.specs.Read.RowsKnown.{KnowsByte, KnowsHead, KnowsSome};
-ghost use Rattle.jpg_file.specs.Read.RowsNone.{NoneByte, NoneHead, NoneSome};
+ghost use Rattle.jpg_file.specs.Read.PieceTaken.{TakesBytes, TakesFirst};
+ghost use Rattle.jpg_file.specs.Read.RowsKnown.{KnowsHead, KnowsSome};
+ghost use Rattle.jpg_file.specs.Read.RowsNone.{NoneHead, NoneSome};
 ghost use Rattle.jpg_file.specs.Read.RowFaults.{FaultsResumed};
-ghost use Rattle.jpg_file.specs.Read.Step.{IfStops, IfWants, IsNoRow, HasMemory};
-ghost use Rattle.jpg_file.specs.Read.Strips.{CountsRowsOfScan, CountsStrip, GoesOnRest, SparesRows, StripGoes, RepresentsStrip, TakesFirstByte, TakesFirstHead, TakesResumed, TakesStrip};
+ghost use Rattle.jpg_file.specs.Read.Step.{IfStops, IsNoRow, HasMemory};
+ghost use Rattle.jpg_file.specs.Read.Strips.{CountsRowsOfScan, CountsStrip, GoesOnRest, SparesRows, StripGoes, RepresentsStrip, TakesFirstHead, TakesResumed, TakesStrip};
 
 use crate::read::file::FileWork;
 use crate::read::items::ItemStep;
@@ -111,17 +111,7 @@ impl StripWork {
         requires first { self.old.file.head ≡ None }
         requires limits { AreLimits (limits_of self.old.file) }
         requires room { self.old.file.reading.taken < (limits_of self.old.file).input }
-        ensures after { TakesFirstByte self.old byte result self.new }
-        ensures begins { CountsRowsOfScan self.new.rows self.new.file }
-        ensures known { KnowsByte self.old byte self.new }
-        ensures no { IsNoRow result }
-        ensures stops { IfStops result (self.new.rows ≡ None) }
-        ensures sparing { keeping_of self.old.file ≡ copying.None → SparesRows self.new.rows self.new.file }
-        ensures head { IfStops result (self.new.file.head ≡ self.old.file.head) }
-        ensures asks { IfWants result (self.old.file.reading.scan ≡ None) }
-        ensures keeping { keeping_of self.new.file ≡ keeping_of self.old.file }
-        ensures by_row { self.new.by_row ≡ self.old.by_row }
-        ensures none { NoneByte self.old byte result self.new }
+        ensures { TakesFirst self.old byte result self.new }
     {
         match self.file.step(byte) {
             ItemStep::More => Step::More,
