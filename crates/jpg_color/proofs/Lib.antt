@@ -42,6 +42,7 @@ pub mod EncodedHead
 pub mod EncodedPictures
 pub mod PicturesEncoded
 pub mod FirstBelow
+pub mod FirstPiece
 pub mod StripPlanes
 pub mod StripRows
 pub mod Sampling

@@ -1,5 +1,5 @@
 //! A picture decoded to an image file (release 6b's djpeg).
-ghost use Rattle.std.specs.Prelude.{◌≡◌, ◌*◌, ◌==◌, if◌then◌else◌, true, None, [], Err, IfOk};
+ghost use Rattle.std.specs.Prelude.{◌≡◌, ◌<◌, ◌*◌, ◌==◌, if◌then◌else◌, true, None, [], Err, IfOk, length};
 ghost use Rattle.jpg_spec_image.specs.ImageText.{end_text};
 ghost use Rattle.jpg_spec_image.specs.Pixels.{out_fault};
 ghost use Rattle.jpg_file.specs.Read.PictureRead.{picture_meaning};
@@ -147,7 +147,8 @@ pub(crate) fn send_row<D: Desk>(
 ) -> Result<(), DecodeStop>
     requires end { CanTakeRow (progress end.old) row.now }
     requires created { (D.state desk.old).output_created ≡ true }
-    ensures { SendsRow (D.state desk.old) (progress end.old) out.old row.now result (progress end.new) out.new (D.state desk.new) }
+    ensures sends { SendsRow (D.state desk.old) (progress end.old) out.old row.now result (progress end.new) out.new (D.state desk.new) }
+    ensures few { length out.old < 32768 → length out.new < 32768 }
 {
     match take_row(row, end, out) {
         Ok(()) => send_much(out, desk),
@@ -174,6 +175,7 @@ pub(crate) fn send_end<D: Desk>(
     requires created { (D.state desk.old).output_created ≡ true }
     ensures sent { SendsImage (D.state desk.old) out.old (end_parts (progress end.old)) result out.new (D.state desk.new) }
     ensures end { IfOk result (λ u. progress end.new ≡ finished (progress end.old)) }
+    ensures few { length out.old < 32768 → length out.new < 32768 }
 {
     loop {
         match send_part(end, out, desk)? {
@@ -191,7 +193,8 @@ fn send_part<D: Desk>(
 ) -> Result<Finish, DecodeStop>
     requires end { CanFinish (progress end.old) }
     requires created { (D.state desk.old).output_created ≡ true }
-    ensures { SendsPart (D.state desk.old) (progress end.old) out.old result (progress end.new) out.new (D.state desk.new) }
+    ensures sends { SendsPart (D.state desk.old) (progress end.old) out.old result (progress end.new) out.new (D.state desk.new) }
+    ensures few { length out.old < 32768 → length out.new < 32768 }
 {
     match take_part(end, out) {
         Ok(answer) => match send_much(out, desk) {
@@ -213,7 +216,8 @@ fn take_part(end: &mut Box<dyn ImageEnd>, out: &mut Bytes) -> Result<Finish, NoM
 // Writes the bytes that wait, if they are many.
 fn send_much<D: Desk>(out: &mut Bytes, desk: &mut D) -> Result<(), DecodeStop>
     requires { (D.state desk.old).output_created ≡ true }
-    ensures { SendsImage (D.state desk.old) out.old [] result out.new (D.state desk.new) }
+    ensures sent { SendsImage (D.state desk.old) out.old [] result out.new (D.state desk.new) }
+    ensures few { length out.new < 32768 }
 {
     if out.as_slice().len() < MANY {
         return Ok(());
@@ -221,16 +225,18 @@ fn send_much<D: Desk>(out: &mut Bytes, desk: &mut D) -> Result<(), DecodeStop>
     send(out, desk)
 }
 
-// Writes all bytes that wait.
+// Writes all bytes that wait. None wait then, also if it fails.
 pub(crate) fn send<D: Desk>(out: &mut Bytes, desk: &mut D) -> Result<(), DecodeStop>
     requires { (D.state desk.old).output_created ≡ true }
     ensures sent { SendsImage (D.state desk.old) out.old [] result out.new (D.state desk.new) }
     ensures all { IfOk result (λ u. out.new ≡ []) }
+    ensures empty { out.new ≡ [] }
     ensures memory { result ≡ Err stop.NoMemory → ⊥ }
 {
-    if let Put::Failed = desk.write(out.as_slice()) {
-        return Err(DecodeStop::WriteFault);
-    }
+    let put = desk.write(out.as_slice());
     out.clear();
-    Ok(())
+    match put {
+        Put::Done => Ok(()),
+        Put::Failed => Err(DecodeStop::WriteFault),
+    }
 }

@@ -1,5 +1,5 @@
 //! An image that is written row by row, while the MCU rows of its picture are read.
-ghost use Rattle.std.specs.Prelude.{◌≡◌, ◌≤◌, ◌==◌, true, None, [], Err, IfOk};
+ghost use Rattle.std.specs.Prelude.{◌≡◌, ◌≤◌, ◌<◌, ◌==◌, true, None, [], Err, IfOk, length};
 ghost use Rattle.jpg_file.specs.Read.StripHead.{IsStripHead};
 ghost use Rattle.jpg_pnm_bmp.specs.EndState.{new_end};
 ghost use Rattle.jpg_color.specs.Shown.{IsNextRowDue, IsMcuRow, display_fault, display_of, all_rows, zero_row};
@@ -26,13 +26,14 @@ pub struct StripImage {
 }
 
 impl Model for StripImage {
+    ghost use Rattle.std.specs.Prelude.{◌<◌, length};
     ghost use Rattle.jpg_color.specs.StripImage.{Drawing, IsToldOf};
 
     ghost Value = { Drawing };
 
     ghost view = { λ s. record { strips = s.strips; info = s.info; out = s.out } };
 
-    ghost invariant = { λ s. IsToldOf s.strips.display s.info };
+    ghost invariant = { λ s. IsToldOf s.strips.display s.info × (length s.out < 32768) };
 }
 
 // Gives an image writer all rows that are ready.
@@ -45,7 +46,8 @@ fn send_ready<D: Desk>(
     requires some { strips.old.pushed ≤ all_rows strips.old.display }
     requires end { CanTakeNext strips.old (progress end.old) }
     requires created { (D.state desk.old).output_created ≡ true }
-    ensures { SendsReady (D.state desk.old) strips.old (progress end.old) out.old result strips.new (progress end.new) out.new (D.state desk.new) }
+    ensures sends { SendsReady (D.state desk.old) strips.old (progress end.old) out.old result strips.new (progress end.new) out.new (D.state desk.new) }
+    ensures few { length out.old < 32768 → length out.new < 32768 }
 {
     strips.checked();
     while strips.advance() {
@@ -59,6 +61,7 @@ fn send_any<D: Desk>(out: &mut Bytes, desk: &mut D) -> Result<(), DecodeStop>
     requires { (D.state desk.old).output_created ≡ true }
     ensures sent { SendsImage (D.state desk.old) out.old [] result out.new (D.state desk.new) }
     ensures all { IfOk result (λ u. out.new ≡ []) }
+    ensures empty { out.new ≡ [] }
     ensures memory { result ≡ Err stop.NoMemory → ⊥ }
 {
     if out.as_slice().is_empty() {
@@ -98,7 +101,7 @@ impl StripImage {
     }
 
     /// Takes the blocks of the next MCU row, which are stored without the rest of the picture, and gives `end` the rows
-    /// that are ready then. Their text is written, or waits.
+    /// that are ready then. Their text is written, or waits, of which there are always fewer than 32,768 bytes.
     pub fn push<D: Desk>(
         &mut self,
         row: &Coefs,
@@ -128,6 +131,14 @@ impl StripImage {
     {
         self.strips.push_zero();
         send_ready(&mut self.strips, end, &mut self.out, desk)
+    }
+
+    /// States, for proofs, that fewer than 32,768 bytes of text wait, whatever was called before, and whether it failed
+    /// or not. It does nothing.
+    pub fn checked(&self)
+        ensures { length self.now.out < 32768 }
+    {
+        let _ = &self.out;
     }
 
     /// Whether all MCU rows were taken.

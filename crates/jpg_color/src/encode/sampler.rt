@@ -1,5 +1,5 @@
 //! The samples of an image taken as they come, and made the planes of its components (T.81, A.1.1, A.2).
-ghost use Rattle.std.specs.Prelude.{◌≡◌, ◌+◌, ◌*◌, ◌≤◌, ◌<◌, ◌==◌, ◌||◌, ◌&&◌, [], None, OnErr, OnOk, IfOk, length, take};
+ghost use Rattle.std.specs.Prelude.{◌≡◌, ◌+◌, ◌*◌, ◌≤◌, ◌<◌, ◌==◌, ◌||◌, ◌&&◌, ◌-◌, [], None, OnErr, OnOk, IfOk, length, min, take};
 ghost use Rattle.jpg_spec.specs.Geometry.{mcus_down, v_max};
 ghost use Rattle.jpg_spec.specs.Segments.{AreQuantisers};
 ghost use Rattle.jpg_color.specs.EncodeHead.{table_asked};
@@ -106,11 +106,12 @@ impl Sampler {
         Ok(())
     }
 
-    // Takes some samples, at most up to the end of an MCU row.
+    // Takes the samples, or those up to the end of an MCU row.
     fn take_some(&mut self, samples: &[u8]) -> Result<usize, NoMemory>
         requires some { 1 ≤ length samples.now }
         requires most { length samples.now ≤ samples_left self.old }
         ensures some { IfOk result (λ n. (1 ≤ n) × (n ≤ length samples.now)) }
+        ensures all { IfOk result (λ n. n ≡ min (length samples.now) (strip_room self.old.info self.old.frame - length self.old.pending)) }
         ensures adds { IfOk result (λ n. AddsSamples self.old (take n samples.now) self.new) }
         ensures left { IfOk result (λ n. samples_left self.new + n ≡ samples_left self.old) }
         ensures over { OnErr result (samples_left self.new ≡ 0) }

@@ -329,7 +329,8 @@ fn put_blocks(
 // Whether the rows of a component are those of the image as they are: no samples are averaged, and none are repeated
 // to make blocks whole.
 fn is_plain(source: &Source) -> bool
-    ensures { IsTrue result → IsPlain source.now }
+    ensures plain { IsTrue result → IsPlain source.now }
+    ensures always { IsPlain source.now → IsTrue result }
 {
     let ratio = &source.plane.ratio;
     ratio.across == 1 && ratio.down == 1 && source.wide == source.plane.info.width as usize

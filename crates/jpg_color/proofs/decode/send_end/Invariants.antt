@@ -1,4 +1,4 @@
-use Rattle.std.specs.Prelude.{◌-◌, length}
+use Rattle.std.specs.Prelude.{◌-◌, ◌<◌, length}
 use Rattle.jpg_pnm_bmp.specs.EndState.{EndState, parts_due}
 use Rattle.jpg_color.proofs.Ending.{IsEnding}
 use Rattle.jpg_color.proofs.Sent.{writing}
@@ -9,7 +9,7 @@ invariant-loop g l =
     let state = g.D.Desk.state in
     let before : EndState = (goal.ImageEnd-dyn g (l.initial.end.vtable, l.initial.end.value)).progress l.initial.end.value in
     let now : EndState = (goal.ImageEnd-dyn g (l.end.vtable, l.end.value)).progress l.end.value in
-    IsEnding (writing (state l.initial.desk) l.initial.out before) (writing (state l.desk) l.out now)
+    IsEnding (writing (state l.initial.desk) l.initial.out before) (writing (state l.desk) l.out now) × (length l.initial.out < 32768 → length l.out < 32768)
 
 abbrev pub decreases-loop : goal.decreases-loop
 decreases-loop g l =

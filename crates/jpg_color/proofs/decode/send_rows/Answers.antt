@@ -15,12 +15,12 @@ pub loop-rows-smaller : goal.loop-rows-smaller
 loop-rows-smaller g c = fewer_rows c.loop-rows-test.ensures
 
 pub loop-rows-preserved : goal.loop-rows-preserved
-loop-rows-preserved g c = row_sent c.loop-rows.invariant c.loop-rows-test.ensures (sent_so c.row.ensures c.in_ok-send_row.ensures)
+loop-rows-preserved g c = row_sent c.loop-rows.invariant c.loop-rows-test.ensures (sent_so c.row.ensures c.in_ok-send_row.ensures.sends)
 
 pub returns-in_err-send_row : goal.returns-in_err-send_row
 returns-in_err-send_row g c =
     let back = err_from_is_err_and c.from_residual.result c.from_residual.ensures.1 in
-    rw (back.1, back.2) (rows_stopped c.loop-rows.invariant c.loop-rows-test.ensures (sent_so c.row.ensures c.in_err-send_row.ensures))
+    rw (back.1, back.2) (rows_stopped c.loop-rows.invariant c.loop-rows-test.ensures (sent_so c.row.ensures c.in_err-send_row.ensures.sends))
 
 pub returns : goal.returns
 returns g c = rows_sent c.loop-rows.invariant c.loop-rows-test.ensures
