@@ -16,7 +16,7 @@ use Rattle.jpg_file.specs.Read.ReadRows.{IsPlain}
 use Rattle.jpg_preview.specs.declared.view.Part.{Part}
 use Rattle.jpg_preview.specs.declared.view.Part.TheVariants as part
 use Rattle.jpg_preview.specs.Counting.{Count, IsSteady}
-use Rattle.jpg_preview.specs.Viewing.{AfterPiece, AfterStop, AfterView, HasViewed, IsShown, PartEnds, PreviewState, Views, ViewsFile, ViewsPart, ViewsPiece}
+use Rattle.jpg_preview.specs.Viewing.{AfterPiece, AfterStop, AfterView, HasViewed, IsShown, LacksMemory, PartEnds, PartLacks, PreviewState, Views, ViewsFile, ViewsPart, ViewsPiece}
 
 -- what stays
 pub record StaysReady (old new : ReaderState) (now : Count) : Type 0 where
@@ -97,6 +97,12 @@ pub rest_ends : (piece : List ℕ) (used : ℕ) (answer : Part) (r : ReaderState
 rest_ends piece used answer r k = subst (λ l. PartEnds l answer r) (rest_is piece used) k
 
 -- THE ANSWER of a preview
+-- a part for which memory is lacking, of a reader that didn't stop before
+pub part_lacks : (old new : ReaderState) (before now : Count) (piece : List ℕ) (used : ℕ) (mid : ReaderState) (counted : Count) (x : Part) (s : Stop) → PieceViewed old before piece used mid counted → x ≡ part.Stopped s → (mid.stop ≡ None → PartLacks x new)
+    → (scans : ℕ) (bytes : List ℕ) → Views scans bytes old before → LacksMemory s new
+part_lacks old new before now piece used mid counted x s k e lacks scans bytes v =
+    subst (λ a. PartLacks a new) e (lacks (k.goes scans bytes v).read.skip_ahead)
+
 pub viewed_ok : (p : PreviewState) (new : ReaderState) (now : Count) (piece : List ℕ) (x : Result Fed Stop) (a : Fed) → x ≡ Ok a → ViewsPiece p.reader p.count piece x new now
     → ViewsFile p piece (Ok a) (record p { reader = new; count = now })
 viewed_ok p new now piece x a e k = λ bytes v. by bytes a v.0 (subst (λ y. AfterPiece p.scans bytes piece y new now) e (k p.scans bytes v.1))

@@ -91,6 +91,25 @@ AfterPart scans bytes next (part.Stopped stop) r c = AfterStop scans (length byt
 abbrev pub ViewsPart : ReaderState → Count → List ℕ → Part → ReaderState → Count → Type 0
 ViewsPart old before next answer new now = (scans : ℕ) (bytes : List ℕ) → Views scans bytes old before → AfterPart scans bytes next answer new now
 
+-- NO MEMORY is the answer only where the reader didn't stop for a fault.
+abbrev pub HasNoFaultYet : Option Stop → Type 0
+HasNoFaultYet None = Unit {0}
+HasNoFaultYet (Some (stop.Fault f)) = ⊥
+HasNoFaultYet (Some stop.NoMemory) = Unit {0}
+
+abbrev pub LacksMemory : Stop → ReaderState → Type 0
+LacksMemory (stop.Fault f) r = Unit {0}
+LacksMemory stop.NoMemory r = HasNoFaultYet r.stop
+
+abbrev pub PartLacks : Part → ReaderState → Type 0
+PartLacks (part.More n) r = Unit {0}
+PartLacks (part.Done n) r = Unit {0}
+PartLacks (part.Stopped stop) r = LacksMemory stop r
+
+abbrev pub PieceLacks : Result Fed Stop → ReaderState → Type 0
+PieceLacks (Ok fed) r = Unit {0}
+PieceLacks (Err stop) r = LacksMemory stop r
+
 -- how many bytes were taken, and the word that keeps `done`
 abbrev pub PartEnds : List ℕ → Part → ReaderState → Type 0
 PartEnds next (part.More n) r = (1 ≤ n) × (n ≤ length next) × (r.done ≡ false)

@@ -7,7 +7,7 @@ ghost use Rattle.jpg_file.specs.Read.File.{keeping_of};
 ghost use Rattle.jpg_file.specs.Read.PictureRead.{TakesEarly, TakesPicture};
 ghost use Rattle.jpg_file.specs.Read.ReadFile.{AfterEnd, EndsDone, head_seen};
 ghost use Rattle.jpg_file.specs.declared.read.ends.End.TheVariants as ends;
-ghost use Rattle.jpg_preview.specs.Viewing.{EndsView, HasViewed, ViewsFile};
+ghost use Rattle.jpg_preview.specs.Viewing.{EndsView, HasViewed, PieceLacks, ViewsFile};
 
 use crate::counter::ScanCounter;
 use crate::view::view_piece;
@@ -61,11 +61,13 @@ impl Preview {
 
     /// Takes a further piece of the file, of any length. Returns Done if the front of the file for so many scans is
     /// complete then and has no fault, or if the file is, and how many bytes of the piece were used, the last one of
-    /// these among them. Otherwise it returns the first fault of the front, at its place, or NoMemory. Otherwise it
-    /// returns More. After a stop it returns the same stop. It may not be called once it is done (`is_done`).
+    /// these among them. Otherwise it returns the first fault of the front, at its place, or NoMemory, which isn't
+    /// returned where its reader stopped for a fault. Otherwise it returns More. After a stop it returns the same stop.
+    /// It may not be called once it is done (`is_done`).
     pub fn feed(&mut self, piece: &[u8]) -> Result<Fed, Stop>
         requires undone { self.old.reader.done ≡ false }
         ensures answered { ViewsFile self.old piece.now result self.new }
+        ensures memory { (bytes : List ℕ) → HasViewed bytes self.old → PieceLacks result self.new.reader }
         ensures done { EndsDone result self.new.reader }
         ensures stopped { (stop : Stopped) → result ≡ Err stop → self.new.stop ≡ Some stop }
         ensures again { (stop : Stopped) → self.old.stop ≡ Some stop → (result ≡ Err stop) × (self.new ≡ self.old) }

@@ -1,11 +1,11 @@
 //! A piece of a file that is previewed: it goes to a reader up to the end of the front (T.81, B.2.1).
-ghost use Rattle.std.specs.Prelude.{◌≡◌, ◌⊎◌, ◌≤◌, length, true, false};
+ghost use Rattle.std.specs.Prelude.{◌≡◌, ◌⊎◌, ◌≤◌, ℕ, List, None, length, true, false};
 ghost use Rattle.jpg_spec.specs.FrameHeader.{AreLimits};
 ghost use Rattle.jpg_file.specs.Read.File.{keeping_of};
 ghost use Rattle.jpg_file.specs.Read.ReadFile.{EndsDone};
 ghost use Rattle.jpg_file.specs.Read.ReadRows.{IsPlain};
 ghost use Rattle.jpg_preview.specs.Counting.{IsSteady, count_of};
-ghost use Rattle.jpg_preview.specs.Viewing.{FeedsPart, FeedsScan, HasBegun, HasNotBegun, PartEnds, ViewsPart, ViewsPiece};
+ghost use Rattle.jpg_preview.specs.Viewing.{FeedsPart, FeedsScan, HasBegun, HasNotBegun, PartEnds, PartLacks, PieceLacks, Views, ViewsPart, ViewsPiece};
 
 use crate::counter::{Found, ScanCounter};
 use jpg_base::{Fed, Stop};
@@ -30,6 +30,7 @@ pub fn view_piece(reader: &mut Reader, count: &mut ScanCounter, piece: &[u8]) ->
     requires steady { IsSteady (count_of count.old) }
     requires bounded { (count_of count.old).limits ≡ reader.old.limits }
     ensures viewed { ViewsPiece reader.old (count_of count.old) piece.now result reader.new (count_of count.new) }
+    ensures memory { (scans : ℕ) (bytes : List ℕ) → Views scans bytes reader.old (count_of count.old) → PieceLacks result reader.new }
     ensures done { EndsDone result reader.new }
     ensures limits { reader.new.limits ≡ reader.old.limits }
     ensures keeping { keeping_of reader.new.file ≡ keeping_of reader.old.file }
@@ -60,6 +61,7 @@ fn view_part(reader: &mut Reader, count: &mut ScanCounter, bytes: &[u8]) -> Part
     requires bounded { (count_of count.old).limits ≡ reader.old.limits }
     requires some { 1 ≤ length bytes.now }
     ensures viewed { ViewsPart reader.old (count_of count.old) bytes.now result reader.new (count_of count.new) }
+    ensures memory { reader.old.stop ≡ None → PartLacks result reader.new }
     ensures done { PartEnds bytes.now result reader.new }
     ensures limits { reader.new.limits ≡ reader.old.limits }
     ensures keeping { keeping_of reader.new.file ≡ keeping_of reader.old.file }
@@ -82,6 +84,7 @@ fn feed_scan(reader: &mut Reader, wanted: bool, bytes: &[u8]) -> Part
     requires plain { IsPlain reader.old }
     requires some { 1 ≤ length bytes.now }
     ensures fed { FeedsScan reader.old wanted bytes.now result reader.new }
+    ensures memory { PartLacks result reader.new }
     ensures done { PartEnds bytes.now result reader.new }
     ensures limits { reader.new.limits ≡ reader.old.limits }
     ensures keeping { keeping_of reader.new.file ≡ keeping_of reader.old.file }
@@ -117,6 +120,7 @@ fn feed_part(reader: &mut Reader, bytes: &[u8]) -> Part
     requires plain { IsPlain reader.old }
     requires some { 1 ≤ length bytes.now }
     ensures fed { FeedsPart reader.old bytes.now result reader.new }
+    ensures memory { PartLacks result reader.new }
     ensures done { PartEnds bytes.now result reader.new }
     ensures limits { reader.new.limits ≡ reader.old.limits }
     ensures keeping { keeping_of reader.new.file ≡ keeping_of reader.old.file }

@@ -1,6 +1,6 @@
 use Rattle.std.proofs.Common.{arith}
 use Rattle.jpg_preview.specs.Counting.{count_of}
-use Rattle.jpg_preview.proofs.PieceSteps.{piece_done, piece_more, piece_stopped, piece_wanted, rest_ends, rest_viewed}
+use Rattle.jpg_preview.proofs.PieceSteps.{part_lacks, piece_done, piece_more, piece_stopped, piece_wanted, rest_ends, rest_viewed}
 use Rattle.jpg_preview.proofs.view.view_piece.Goals as goal
 
 pub loop-used-preserved : goal.loop-used-preserved
@@ -31,3 +31,8 @@ pub returns-clause-viewed : goal.returns-clause-viewed
 returns-clause-viewed c =
     let full = c.loop-used-test.false in
     piece_wanted c.args.reader.now c.loop-used.reader (count_of c.args.count.now) (count_of c.loop-used.count) c.args.piece.now c.loop-used.used c.loop-used.invariant (omega (arith, full))
+
+pub returns-in-Stopped-clause-memory : goal.returns-in-Stopped-clause-memory
+returns-in-Stopped-clause-memory c =
+    part_lacks c.args.reader.now c.view_part.new.reader (count_of c.args.count.now) (count_of c.view_part.new.count) c.args.piece.now c.loop-used.used c.loop-used.reader (count_of c.loop-used.count) c.view_part.result c.in-Stopped.stop
+    c.loop-used.invariant c.in-Stopped.is c.view_part.ensures.memory
