@@ -1,8 +1,9 @@
 -- WHAT THE WORDS OF A CALL ASK FOR: the first names the command, the others are its switches and files.
-use Rattle.std.specs.Prelude.{◌≡◌, ◌⊎◌, ℕ, ◌≤◌, if◌then◌else◌, List, [], ◌∷◌, codes, Result, Ok, Err}
+use Rattle.std.specs.Prelude.{◌≡◌, ◌⊎◌, ℕ, ◌≤◌, if◌then◌else◌, List, [], ◌∷◌, codes, Option, None, Some, Result, Ok, Err}
 use Rattle.std.specs.Str.{bytes_eq}
 use Rattle.jpg_base.specs.declared.names.Name.{Name}
 use Rattle.jpg_base.specs.declared.names.Name.TheVariants as name
+use Rattle.jpg_spec_image.specs.declared.image.EndKind.{EndKind}
 use Rattle.jpg_spec_words.specs.Words.{is_tool}
 use Rattle.jpg_spec_words.specs.EncodeWords.{EncodeAsked, encode_asked}
 use Rattle.jpg_spec_words.specs.ShowWords.{ShowAsked, show_asked}
@@ -68,6 +69,11 @@ command_view (asked.Jpgwork n) = do_work n
 abbrev pub IsSized : Asked → Type 0
 IsSized (asked.Jpgwork n) = (1 ≤ n) × (n ≤ 400)
 IsSized other = Unit {0}
+
+-- the format that words of `djpeg` ask for, and the index of the word that does; none of other words
+abbrev pub IsFormatAsked : ParsedWords Command → Option (EndKind × ℕ) → Type 0
+IsFormatAsked (words_right (show_picture a)) result = result ≡ Some (a.kind, a.kind_word)
+IsFormatAsked other result = result ≡ None
 
 -- If the words are right, what they ask for; if they aren't, what is wrong. NoMemory is possible if a file is named, or
 -- a comment given.

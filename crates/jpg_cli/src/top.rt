@@ -3,20 +3,21 @@ ghost use Rattle.std.specs.Prelude.{◌≤◌, length, map, string_bytes};
 ghost use Rattle.jpg_spec_words.specs.Messages.{message};
 ghost use Rattle.jpg_cli.specs.Tools.Ends.{AreNewEnds, formats_of};
 ghost use Rattle.jpg_cli.specs.Stays.{OnlySays};
-ghost use Rattle.jpg_cli.specs.Run.{Ran, Works, SaysText};
+ghost use Rattle.jpg_cli.specs.Commands.{command_asked};
+ghost use Rattle.jpg_cli.specs.Run.{IsMissing, Ran, Works, SaysText};
 
 use crate::message::message_of;
 use crate::tools::cjpeg::encode;
-use crate::tools::image_writer::show_by;
+use crate::tools::image_writer::{has_end, show_by};
 use crate::tools::jpegtran::transform;
 use crate::tools::jpgwork::do_work;
 use crate::tools::rdjpgcom::print_comments;
 use crate::tools::wrjpgcom::insert_comment;
 use crate::words::files::WordsStop;
-use crate::words::{Asked, read_words, tool_name};
+use crate::words::{Asked, format_asked, read_words, tool_name};
 use jpg_base::{Desk, Put};
 use jpg_pnm_bmp::ImageEnd;
-use jpg_spec_words::Why;
+use jpg_spec_words::{Usage, UsageFault, Why};
 use std::alloc::Global;
 
 /// How a command ended: its exit status, and why.
@@ -42,11 +43,30 @@ pub fn tell<D: Desk>(tool: &str, why: Why, desk: &mut D)
     }
 }
 
-// The work, without its message.
+// What is wrong with words of djpeg that ask for a format that none of the image writers has.
+fn missing_end(words: &[String], ends: &[Box<dyn ImageEnd>]) -> Option<Usage>
+    ensures { IsMissing (formats_of (map (λ e. progress e) ends.now)) (command_asked (map string_bytes words.now)) result }
+{
+    let Some(format) = format_asked(words) else {
+        return None;
+    };
+    if has_end(ends, format.0) {
+        return None;
+    }
+    Some(Usage {
+        fault: UsageFault::NoEnd,
+        word: format.1,
+    })
+}
+
+// The work, without its message. No memory is asked for before it is known that an image writer has the format.
 fn work<D: Desk>(alloc: Global, words: &[String], desk: &mut D, ends: Vec<Box<dyn ImageEnd>>) -> Why
     requires { AreNewEnds (map (λ e. progress e) ends.items) }
     ensures { Works (formats_of (map (λ e. progress e) ends.items)) (map string_bytes words.now) (D.state desk.old) result (D.state desk.new) }
 {
+    if let Some(usage) = missing_end(words, &ends) {
+        return Why::Usage(usage);
+    }
     match read_words(alloc, words) {
         Err(WordsStop::Usage(usage)) => Why::Usage(usage),
         Err(WordsStop::NoMemory) => Why::NoMemory,

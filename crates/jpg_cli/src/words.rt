@@ -1,8 +1,9 @@
 //! The words of a call: which command they name, and what they ask for.
-ghost use Rattle.std.specs.Prelude.{◌≡◌, ◌≤◌, IfOk, IfSome, IfNone, drop, length, map, true, false, string_bytes};
+ghost use Rattle.std.specs.Prelude.{◌≡◌, ◌≤◌, IfOk, IfSome, IfNone, codes, drop, length, map, true, false, string_bytes};
+ghost use Rattle.std.specs.Str.{bytes_eq};
 ghost use Rattle.jpg_spec_words.specs.Words.{is_tool, tool_of};
 ghost use Rattle.jpg_cli.specs.declared.words.files.WordsStop.TheVariants.{Usage as wrong};
-ghost use Rattle.jpg_cli.specs.Commands.{IsCommand, IsSized, command_asked, known_command};
+ghost use Rattle.jpg_cli.specs.Commands.{IsCommand, IsFormatAsked, IsSized, command_asked, known_command};
 
 pub mod areas;
 pub mod cjpeg;
@@ -22,12 +23,13 @@ pub mod values;
 use crate::words::cjpeg::cjpeg_words;
 use crate::words::cjpeg_request::EncodeWords;
 use crate::words::comments::{WriteWords, rdjpgcom_words, wrjpgcom_words};
-use crate::words::djpeg::djpeg_words;
+use crate::words::djpeg::{djpeg_format, djpeg_words};
 use crate::words::djpeg_request::ShowWords;
 use crate::words::files::{Files, WordsStop};
 use crate::words::jpegtran::jpegtran_words;
 use crate::words::jpegtran_request::TransformWords;
 use crate::words::jpgwork::jpgwork_words;
+use jpg_spec_image::EndKind;
 use jpg_spec_words::{Usage, UsageFault};
 use std::alloc::Global;
 
@@ -91,6 +93,35 @@ pub fn read_words(alloc: Global, words: &[String]) -> Result<Asked, WordsStop>
             Some(_) => known_words(alloc, tool.as_str(), words),
         },
     }
+}
+
+/// The format that right words of djpeg ask for, and the index of the word that does; none of other words.
+pub fn format_asked(words: &[String]) -> Option<(EndKind, u64)>
+    ensures { IsFormatAsked (command_asked (map string_bytes words.now)) result }
+{
+    match words {
+        [] => None,
+        [tool, ..] => match known_tool(tool.as_str()) {
+            None => None,
+            Some(_) => known_format(tool.as_str(), words),
+        },
+    }
+}
+
+// The same of the words of this command.
+fn known_format(tool: &str, words: &[String]) -> Option<(EndKind, u64)>
+    ensures { IsFormatAsked (known_command tool.now (drop 1 (map string_bytes words.now))) result }
+{
+    if is_djpeg(tool) {
+        return djpeg_format(words);
+    }
+    None
+}
+
+fn is_djpeg(tool: &str) -> bool
+    ensures { result ≡ bytes_eq tool.now (codes "djpeg") }
+{
+    tool == "djpeg"
 }
 
 // What the words of this command ask for.

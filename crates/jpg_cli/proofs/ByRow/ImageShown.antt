@@ -130,4 +130,4 @@ asked_shown true w s0 s1 ended h =
     let of : Name → Name → Showing = λ i o. record { input = i; output = o; kind = w.kind; gray = w.gray; smooth = w.smooth } in
     inl (subst (λ i. ShownAs w.preview (of i (name_of (name_view w.files.output))) s0 ended s1) (sym (same_name w.files.input))
     (subst (λ o. ShownAs w.preview (of w.files.input o) s0 ended s1) (sym (same_name w.files.output)) h))
-asked_shown false w s0 s1 ended h = (inl h.0, h.1)
+asked_shown false w s0 s1 ended h = h

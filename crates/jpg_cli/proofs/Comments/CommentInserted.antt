@@ -28,12 +28,12 @@ use Rattle.jpg_cli.proofs.Outcomes.Copies.{texts_from}
 use Rattle.jpg_cli.proofs.Outcomes.Endings.{asks_next, asks_still}
 use Rattle.jpg_cli.specs.Desk.CommentTaken.{AfterComment, AfterWords}
 use Rattle.jpg_cli.specs.Desk.FileTaken.{AfterFile}
-use Rattle.jpg_cli.specs.Tools.InsertComment.{AfterFed, EndsBefore, EndsInserting, IsAtHead, IsBegunWith, IsFaultBefore, IsFilePart, IsLongFile, IsNoHead, inserted_texts}
+use Rattle.jpg_cli.specs.Tools.InsertComment.{AfterFed, EndsBefore, EndsInserting, IsAtHead, IsBeforeHead, IsBegunWith, IsFaultBefore, IsFileLess, IsFilePart, IsLongFile, IsNoHead, inserted_texts}
 use Rattle.jpg_cli.specs.Stays.{Keeps, OnlyCopies, OnlyReads, Untouched}
 use Rattle.jpg_cli.specs.Desk.Reading.{IsFile, ReadsPart, rest_of}
 use Rattle.jpg_cli.proofs.Outcomes.Input.{file_read}
 use Rattle.jpg_cli.proofs.Comments.CommentsCopied.{had_told, none_read}
-use Rattle.jpg_cli.proofs.Comments.InsertedCopied.{fed_part, fed_short, file_part, long_file, not_none, part_of_part, stands}
+use Rattle.jpg_cli.proofs.Comments.InsertedCopied.{file_less, fed_part, fed_short, file_part, long_file, not_none, part_of_part, stands}
 
 -- READING
 
@@ -108,7 +108,7 @@ due_first {bytes} {text} None c some h w = (bytes, text, some, h, w)
 due_first {text} (Some (why.Refused f)) c some (of, inl (none, faults)) w = absurd (not_none text none some)
 due_first {task} {comment} {bytes} {text} {now} (Some (why.Refused f)) c some (of, inr (long, is)) w =
     with_output (why.Refused f) w (copied_with (IsLongFile comment task.replace f (rest_of now.left)) w (long_file comment bytes text (rest_of now.left) task.replace f of long is))
-due_first {task} {comment} {bytes} {text} (Some why.NoMemory) c some h w = with_output why.NoMemory w (copied_with (IsFilePart comment task.replace) w (file_part comment bytes text task.replace some h))
+due_first {task} {comment} {bytes} {text} (Some why.NoMemory) c some h w = with_output why.NoMemory w (copied_with (IsFileLess comment task.replace) w (file_less comment bytes text task.replace some h))
 due_first other c some h w = absurd h
 
 pub first_uncreated : (task : Task) (comment bytes : List ℕ) (old s0 s1 : DeskState) (output : Name) → task.output ≡ output → IsAtHead bytes → IsReading task comment bytes old s0 → Creates s0 output put.Failed s1 → Inserted task old (why.OpenFault which.Output) s1
@@ -180,14 +180,14 @@ reading_still {task} {comment} {bytes} {old} {s0} {s1} r k same =
     let P : Option (List ℕ) → Type 0 = λ l. Consumes s0.left l [] in
     subst (λ (b : List ℕ). IsReading task comment b old s1) (append-nil bytes) (reading_more [] (let most = r.most in omega (arith, most, ap length (append-nil bytes))) r k (subst P (sym same) (none_read s0.left)))
 
-out_of_memory : {task : Task} {comment bytes : List ℕ} {old now : DeskState} → IsReading task comment bytes old now → IsOutOfMemory task old now
-out_of_memory {task} {bytes} {old} {now} r =
+out_of_memory : {task : Task} {comment bytes : List ℕ} {old now : DeskState} → IsBeforeHead bytes → IsReading task comment bytes old now → IsOutOfMemory task old now
+out_of_memory {task} {bytes} {old} {now} h r =
     let due = names_to_input task in
     let N : List Name → Type 0 = λ names. Asks names put.Done old now in
     record {
       count = length due;
       stopped = record { asked = subst N (sym (take_all (length due) due (omega arith))) r.names; outputs = r.outputs };
-      read = inr (inr (bytes, (r.most, file_read old.files task.input r.left now.left bytes r.opened r.read)));
+      read = inr (inr (bytes, (r.most, file_read old.files task.input r.left now.left bytes r.opened r.read), h));
     }
 
 pub ended_before : {task : Task} {comment bytes : List ℕ} {old s0 s1 : DeskState} (w : Why) → IsReading task comment bytes old s0 → OnlyReads s0 s1 → EndsBefore bytes s0 w s1 → Inserted task old w s1
@@ -197,7 +197,7 @@ ended_before (why.ReadFault which.Input) r k (same, nothing, rose) = inl (
   reads_alone IsNoHead (reading_still r k same) nothing,
   (let f = r.counts.reads in omega (arith, rose, f)),
 )
-ended_before why.NoMemory r k (piece, more, most) = inl (out_of_memory (reading_more piece most r k more))
+ended_before why.NoMemory r k (piece, more, most, before) = inl (out_of_memory before (reading_more piece most r k more))
 ended_before other r k h = absurd h
 
 -- THE LOOPS

@@ -1,7 +1,8 @@
 -- What the bytes read from a file mean for the comments that were printed.
-use Rattle.std.proofs.Common.{◌⊎◌, ◌≡◌, ℕ, zero, suc, ◌+◌, ◌<◌, ◌≤◌, List, [], ◌∷◌, ◌++◌, length, take, Option, None, Some, refl, sym, ap, ◌∙◌, subst, arith, inl, inr}
+use Rattle.std.proofs.Common.{◌⊎◌, ◌≡◌, ℕ, zero, suc, ◌+◌, ◌<◌, ◌≤◌, List, [], ◌∷◌, ◌++◌, length, take, Option, None, Some, Err, true, refl, sym, ap, ◌∙◌, subst, arith, inl, inr}
 use Rattle.std.proofs.lemmas.List.{append-nil, length-append, take_all, take-append-le}
 use Rattle.std.proofs.Math.Seq.{take-append-add}
+use Rattle.jpg_spec.proofs.Basics.Common.{clash}
 use Rattle.jpg_spec.specs.Segments.{standard_limits}
 use Rattle.jpg_spec.specs.Markers.{Segment, kept_rule, SegmentsReveal}
 use Rattle.jpg_spec_write.specs.CommentText.{comments_text, IsMarkerFault, IsReadFault, IsReadWhole, RevealsNothing}
@@ -13,12 +14,12 @@ use Rattle.jpg_spec_words.specs.declared.answers.Why.TheVariants as why
 use Rattle.jpg_spec.specs.declared.frame.Limits.{Limits}
 use Rattle.jpg_comments.specs.SegmentsSoFar.{AreWholeBefore}
 use Rattle.jpg_comments.specs.Printing.{HoldsWhole, HasPrinted, PrintsBefore, PrintsPart, PrintsWhole}
-use Rattle.jpg_comments.specs.ReadComments.{HasRead, StopsAt}
+use Rattle.jpg_comments.specs.ReadComments.{AfterFeed, HasRead, StopsAt}
 use Rattle.jpg_comments.specs.declared.comments.Comments.{Comments}
 use Rattle.jpg_markers.specs.Reading.{reading_of}
 use Rattle.jpg_comments.proofs.Taken.{begun, upto}
 use Rattle.jpg_base.specs.declared.stop.Stop.TheVariants as stop
-use Rattle.jpg_cli.specs.Tools.ReadComments.{AfterEnd, AfterTaking, AreCompleteSegments, IsFaultText, IsTextPart, IsTextSoFar, IsWholeText}
+use Rattle.jpg_cli.specs.Tools.ReadComments.{AfterEnd, AfterTaking, AreCompleteSegments, IsFaultText, IsTextLess, IsTextPart, IsTextSoFar, IsWholeText}
 
 -- PREFIXES
 
@@ -98,10 +99,12 @@ fault_text bytes piece had text f c limits same e r short h rest =
       is = p.2;
     }
 
-pub part_text : (bytes text : List ℕ) (limits : Limits) → limits ≡ standard_limits → PrintsPart limits bytes text → IsTextPart bytes text
-part_text bytes text limits e h =
-    let p = subst (λ l. PrintsPart l bytes text) e h in
-    record { count = p.0; front = p.1; before = p.2; whole = inr (Truncated, inr p.3); is = p.4 }
+-- where there is no memory for all of the text; a reader that has its memory isn't without it
+pub less_text : (bytes piece text : List ℕ) (c : Comments) → c.limits ≡ standard_limits → c.ready ≡ true → AfterFeed bytes piece text (Err stop.NoMemory) c → IsTextLess (bytes ++ piece) text
+less_text bytes piece text c e ready (inl h) = absurd (clash c.ready ready h.0)
+less_text bytes piece text c e ready (inr h) =
+    let p = subst (λ (l : Limits). PrintsPart l (bytes ++ piece) text) e h in
+    record { front = p.front; count = p.count; before = p.before; within = p.within; nothing = p.nothing; begun = p.begun; is = p.is; less = p.less }
 
 -- THE END
 
@@ -156,5 +159,5 @@ pub taken_part : (bytes text : List ℕ) (due : Option Why) (c : Comments) → c
 taken_part bytes text None c e h = so_far_part bytes text (text_so_far bytes text c e h)
 taken_part bytes text (Some why.Done) c e h = whole_part bytes text h
 taken_part bytes text (Some (why.Refused f)) c e h = fault_part bytes text f (h [])
-taken_part bytes text (Some why.NoMemory) c e h = h
+taken_part bytes text (Some why.NoMemory) c e h = record { front = h.front; count = h.count; before = h.before; whole = inr (Truncated, inr h.begun); is = h.is }
 taken_part bytes text other c e h = absurd h

@@ -82,7 +82,7 @@ fed_at_head bytes piece comment text replace None c e some nothing short h =
 fed_at_head bytes piece comment text replace (Some (why.Refused f)) c e some nothing short (of, inl (none, faults)) = absurd (not_none text none some)
 fed_at_head bytes piece comment text replace (Some (why.Refused f)) c e some nothing short (of, inr (long, is)) = head_in_piece bytes piece comment text replace f.at nothing short is
 fed_at_head bytes piece comment text replace (Some why.NoMemory) c e some nothing short (inl none) = absurd (not_none text none some)
-fed_at_head bytes piece comment text replace (Some why.NoMemory) c e some nothing short (inr (n, front, whole, is, part)) = head_in_piece bytes piece comment whole replace front nothing short is
+fed_at_head bytes piece comment text replace (Some why.NoMemory) c e some nothing short (inr (n, front, whole, is, part, less)) = head_in_piece bytes piece comment whole replace front nothing short is
 fed_at_head bytes piece comment text replace other c e some nothing short h = absurd h
 
 -- what a piece appended is all of the pending text
@@ -111,7 +111,19 @@ module _ (s0 s1 : DeskState) (piece comment bytes text : List ℕ) where
       let last = fault_last (HoldsHead standard_limits) bytes piece f nothing.shows nothing.short short (faults []) in
       (piece, read, most, (faults (rest_of s1.left), omega (arith, within, length-append (bytes ++ piece) []), last))
   ended replace (why.Refused f) was c most e short h read (of, inr (long, is)) none = absurd (not_none text none (text_is_some (take f.at (bytes ++ piece)) comment text replace is))
-  ended replace why.NoMemory was c most e short h read fed none = (piece, read, most)
+  ended replace why.NoMemory was c most e short h read fed none =
+      let nothing = nothing_there comment bytes was e h in
+      let at = length bytes in (
+        piece,
+        read,
+        most,
+        (
+          at,
+          omega (arith, length-append bytes piece),
+          omega (arith, short, length-append bytes piece),
+          subst (λ (b : List ℕ). RevealsNothing standard_limits (HoldsHead standard_limits) b) (sym (take-append-le at bytes piece (omega arith) ∙ take_all at bytes (omega arith))) nothing.shows,
+        ),
+      )
   ended replace other was c most e short h read fed none = absurd fed
 
 module _ (s0 s1 : DeskState) (n : ℕ) (buf comment bytes old out : List ℕ) where

@@ -1,9 +1,10 @@
 -- What writing a file with a comment inserted does after its head, over the states of a desk.
-use Rattle.std.proofs.Common.{◌≡◌, ℕ, ◌+◌, ◌<◌, ◌≤◌, Bool, List, [], ◌++◌, length, take, Option, None, Some, sym, ap, ◌∙◌, subst, arith, inl, inr}
+use Rattle.std.proofs.Common.{◌≡◌, ◌⊎◌, ℕ, ◌+◌, ◌<◌, ◌≤◌, Bool, List, [], ◌++◌, length, take, Option, None, Some, Err, sym, ap, ◌∙◌, subst, arith, inl, inr}
 use Rattle.std.proofs.lemmas.List.{length-append, take_all, take-append-le}
 use Rattle.std.specs.Io.KnownBytes.{IsAtEnd}
 use Rattle.jpg_base.specs.declared.names.Put.TheVariants as put
 use Rattle.jpg_base.specs.declared.names.Got.TheVariants as got
+use Rattle.jpg_base.specs.declared.stop.Stop.TheVariants as stop
 use Rattle.jpg_base.specs.Desk.{DeskState, AfterWrite, AppendsLast, Reads, Rose}
 use Rattle.jpg_base.specs.Laws.{AppendsPart-then, Consumes-then}
 use Rattle.jpg_huff.specs.Out.{OnlyWrites}
@@ -17,11 +18,11 @@ use Rattle.jpg_spec_words.specs.declared.answers.Which.TheVariants as which
 use Rattle.jpg_spec.specs.declared.frame.Limits.{Limits}
 use Rattle.jpg_markers.specs.Reading.{Reading, reading_of}
 use Rattle.jpg_comments.specs.SegmentsSoFar.{Appends}
-use Rattle.jpg_comments.specs.Inserting.{HoldsHead, InsertsPart}
-use Rattle.jpg_comments.specs.WriteInserted.{HasInserted, StandsAt}
+use Rattle.jpg_comments.specs.Inserting.{HoldsHead, InsertsLess}
+use Rattle.jpg_comments.specs.WriteInserted.{AfterInsert, HasInserted, StandsAt}
 use Rattle.jpg_comments.specs.declared.insert.Insert.{Insert}
 use Rattle.jpg_cli.specs.Desk.Reading.{rest_of}
-use Rattle.jpg_cli.specs.Tools.InsertComment.{AfterAll, AfterFed, AfterRest, EndsInserting, IsFilePart, IsLongFile}
+use Rattle.jpg_cli.specs.Tools.InsertComment.{AfterAll, AfterFed, AfterRest, EndsInserting, IsFileLess, IsFilePart, IsLongFile}
 use Rattle.jpg_cli.specs.Copies.{HasCopied}
 use Rattle.jpg_cli.specs.Stays.{OnlyCopies}
 use Rattle.jpg_cli.proofs.Comments.CommentsRead.{fault_within, take_again}
@@ -33,7 +34,11 @@ use Rattle.jpg_cli.proofs.Comments.CommentsCopied.{copied, copied_still, left_st
 pub not_none : (text : List ℕ) → text ≡ [] → 0 < length text → ⊥
 not_none text e l = (let n : length text ≡ 0 = ap length e in omega (arith, n, l))
 
-stands_part : (comment bytes text head : List ℕ) (replace : Bool) (taken : Option ℕ) (r : Reading) → StandsAt standard_limits comment replace bytes text taken head r → InsertsPart standard_limits comment replace bytes text
+-- no text, or a first part of one
+abbrev pub IsPart : List ℕ → Bool → List ℕ → List ℕ → Type 0
+IsPart comment replace bytes text = (text ≡ []) ⊎ IsFilePart comment replace bytes text
+
+stands_part : (comment bytes text head : List ℕ) (replace : Bool) (taken : Option ℕ) (r : Reading) → StandsAt standard_limits comment replace bytes text taken head r → IsPart comment replace bytes text
 stands_part comment bytes text head replace None r h = inl h.1
 stands_part comment bytes text head replace (Some taken) r h =
     inr (length text, length bytes, text, subst (λ (b : List ℕ). IsInserted standard_limits b comment replace text) (sym (take_all (length bytes) bytes (omega arith))) h.1, sym (take_all (length text) text (omega arith)))
@@ -48,18 +53,30 @@ stands comment bytes text c e h = subst (λ (l : Limits). StandsAt l comment c.r
 pub inserted_so_far : (comment bytes text : List ℕ) (c : Insert) → c.limits ≡ standard_limits → 0 < length text → HasInserted comment bytes text c → IsInserted standard_limits bytes comment c.replace text
 inserted_so_far comment bytes text c e some h = stands_whole comment bytes text c.head c.replace c.taken (reading_of c.reader) some (stands comment bytes text c e h)
 
-pub fed_part : (comment bytes text : List ℕ) (replace : Bool) (due : Option Why) (c : Insert) → c.limits ≡ standard_limits → c.replace ≡ replace → AfterFed comment replace bytes text due c → InsertsPart standard_limits comment replace bytes text
+pub fed_part : (comment bytes text : List ℕ) (replace : Bool) (due : Option Why) (c : Insert) → c.limits ≡ standard_limits → c.replace ≡ replace → AfterFed comment replace bytes text due c → IsPart comment replace bytes text
 fed_part comment bytes text replace None c e same h =
-    subst (λ (b : Bool). InsertsPart standard_limits comment b bytes text) same (stands_part comment bytes text c.head c.replace c.taken (reading_of c.reader) (stands comment bytes text c e h))
+    subst (λ (b : Bool). IsPart comment b bytes text) same (stands_part comment bytes text c.head c.replace c.taken (reading_of c.reader) (stands comment bytes text c e h))
 fed_part comment bytes text replace (Some (why.Refused f)) c e same (of, inl (none, faults)) = inl none
 fed_part comment bytes text replace (Some (why.Refused f)) c e same (of, inr (long, is)) = inr (length text, f.at, text, is, sym (take_all (length text) text (omega arith)))
-fed_part comment bytes text replace (Some why.NoMemory) c e same h = h
+fed_part comment bytes text replace (Some why.NoMemory) c e same (inl none) = inl none
+fed_part comment bytes text replace (Some why.NoMemory) c e same (inr (n, front, whole, is, part, less)) = inr (n, front, whole, is, part)
 fed_part comment bytes text replace other c e same h = absurd h
 
+-- where there is no memory
+pub not_all : (comment bytes piece text : List ℕ) (replace : Bool) (c : Insert) → c.limits ≡ standard_limits → c.replace ≡ replace → AfterInsert comment bytes piece text (Err stop.NoMemory) c
+    → (text ≡ []) ⊎ IsFileLess comment replace (bytes ++ piece) text
+not_all comment bytes piece text replace c e same (inl h) = inl h.0
+not_all comment bytes piece text replace c e same (inr h) =
+    inr (subst (λ (b : Bool). InsertsLess standard_limits comment b (bytes ++ piece) text) same (subst (λ (l : Limits). InsertsLess l comment c.replace (bytes ++ piece) text) e h))
+
 -- if there is a text, the marker is in the bytes
-pub file_part : (comment bytes text : List ℕ) (replace : Bool) → 0 < length text → InsertsPart standard_limits comment replace bytes text → IsFilePart comment replace bytes text
+pub file_part : (comment bytes text : List ℕ) (replace : Bool) → 0 < length text → IsPart comment replace bytes text → IsFilePart comment replace bytes text
 file_part comment bytes text replace some (inl none) = absurd (not_none text none some)
 file_part comment bytes text replace some (inr h) = h
+
+pub file_less : (comment bytes text : List ℕ) (replace : Bool) → 0 < length text → (text ≡ []) ⊎ IsFileLess comment replace bytes text → IsFileLess comment replace bytes text
+file_less comment bytes text replace some (inl none) = absurd (not_none text none some)
+file_less comment bytes text replace some (inr h) = h
 
 pub part_of_part : (comment bytes text : List ℕ) (replace : Bool) (k : ℕ) → IsFilePart comment replace bytes text → IsFilePart comment replace bytes (take k text)
 part_of_part comment bytes text replace k (n, front, whole, is, e) = (let again = take_again k n whole in (again.0, front, whole, is, ap (take k) e ∙ again.1))
@@ -90,7 +107,7 @@ module _ (start s2 : DeskState) (comment bytes piece all : List ℕ) where
   rest_due replace (Some (why.Refused f)) c more some (of, inl (none, faults)) k = absurd (not_none all none some)
   rest_due replace (Some (why.Refused f)) c more some (of, inr (long, is)) k =
       (bytes ++ piece, all, k, long_file comment (bytes ++ piece) all (rest_of s2.left) replace f of long is)
-  rest_due replace (Some why.NoMemory) c more some h k = (bytes ++ piece, all, k, file_part comment (bytes ++ piece) all replace some h)
+  rest_due replace (Some why.NoMemory) c more some h k = (bytes ++ piece, all, k, file_less comment (bytes ++ piece) all replace some h)
   rest_due replace other c more some h k = absurd h
 
 module _ {start s0 s1 s2 : DeskState} {n : ℕ} {buf : List ℕ} (comment : List ℕ) where

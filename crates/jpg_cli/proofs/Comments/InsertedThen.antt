@@ -60,7 +60,9 @@ reads_comment_then s0 s1 s2 (from_file file) e h = part_still 65001 (name.File f
 reads_last_then : (s0 s1 s2 : DeskState) (task : Task) → s2.left ≡ s1.left → ReadsLast task s0 s1 → ReadsLast task s0 s2
 reads_last_then s0 s1 s2 task e (inl same) = inl (e ∙ same)
 reads_last_then s0 s1 s2 task e (inr (inl h)) = inr (inl (reads_comment_then s0 s1 s2 task.comment e h))
-reads_last_then s0 s1 s2 task e (inr (inr h)) = inr (inr (part_still standard_limits.input task.input s0 s1 s2 e h))
+reads_last_then s0 s1 s2 task e (inr (inr (bytes, (few, is), before))) =
+    let P : Option (List ℕ) → Type 0 = λ l. IsFile s0.files task.input (bytes ++ rest_of l) in
+    inr (inr (bytes, (few, subst P (sym e) is), before))
 
 refused_then : (s0 s1 s2 : DeskState) (task : Task) (f : FaultAt) → OnlySays s1 s2 → EndsBeforeOutput task s0 (why.Refused f) s1 → EndsBeforeOutput task s0 (why.Refused f) s2
 refused_then s0 s1 s2 task f k (inl h) = inl (record {

@@ -1,6 +1,6 @@
 -- The steps of jpgwork: what each leaves on its desk, and the report.
-use Rattle.std.proofs.Common.{◌≡◌, ℕ, ◌≤◌, Bool, true, false, List, [], ◌∷◌, ◌++◌, length, drop, take, Option, Some, None, Result, Ok, Err, refl, sym, ap, ◌∙◌, subst, arith, inl, inr}
-use Rattle.std.specs.Prelude.{if◌then◌else◌, slice_get, sum}
+use Rattle.std.proofs.Common.{◌≡◌, ℕ, ◌≤◌, Bool, true, false, List, [], ◌∷◌, ◌++◌, length, drop, take, Option, Some, None, refl, sym, ap, ◌∙◌, subst, arith, inl, inr}
+use Rattle.std.specs.Prelude.{IfSome, if◌then◌else◌, slice_get, sum}
 use Rattle.std.specs.Option.{option_map}
 use Rattle.std.specs.Str.{bytes_eq}
 use Rattle.std.proofs.lemmas.List.{append-nil, length-append}
@@ -30,8 +30,7 @@ use Rattle.jpg_spec_move.specs.declared.transform.Transform.{Transform}
 use Rattle.jpg_spec_write.specs.ScansAsked.{Scans, standard}
 use Rattle.jpg_spec_words.specs.EncodeWords.{encoding_asked}
 use Rattle.jpg_spec_words.specs.TransformWords.{ScansSource, TransformAsked, choice_asked, transform_default}
-use Rattle.jpg_spec_words.specs.Work.{back_picture, back_text, first_asked, first_picture, first_text, lines, samples_sum, turned_text, work_image, work_info}
-use Rattle.jpg_spec_words.specs.declared.answers.Usage.{Usage}
+use Rattle.jpg_spec_words.specs.Work.{back_picture, back_text, first_asked, first_picture, first_text, lines, samples_sum, turned_text, work_image, work_info, work_text}
 use Rattle.jpg_spec_words.specs.declared.answers.Why.{Why}
 use Rattle.jpg_spec_words.specs.declared.answers.Why.TheVariants as why
 use Rattle.jpg_spec_words.proofs.WorkedBack.{picture_back}
@@ -45,7 +44,7 @@ use Rattle.jpg_cli.specs.Stays.{Untouched}
 use Rattle.jpg_cli.specs.Tools.FrontShown.{ShownAs, ShownBy}
 use Rattle.jpg_cli.specs.Tools.Showing.{Showing, Shown, showing_view}
 use Rattle.jpg_cli.specs.Tools.Turned.{Transformed, Turned, Turning}
-use Rattle.jpg_cli.specs.Tools.Worked.{DidWork, HasFile, HasOutput, HoldsInput, IsReport, IsShown, ReportsShown, ShowsFile, TurnsFile, WritesReport, work_choice, work_conversion, scans_by}
+use Rattle.jpg_cli.specs.Tools.Worked.{DidWork, HasFile, HasImage, HasOutput, HoldsInput, ReportsShown, no_end, ShowsFile, TurnsFile, WritesReport, work_choice, work_conversion, scans_by}
 use Rattle.jpg_cli.proofs.Comments.CommentInserted.{none_noted}
 use Rattle.jpg_cli.specs.declared.words.djpeg_request.ShowWords.{ShowWords}
 use Rattle.jpg_cli.proofs.Outcomes.Due.{one_file}
@@ -148,22 +147,19 @@ file_after c M text input desk now h e turns = turns M (subst (λ (b : List ℕ)
 abbrev showing : Showing
 showing = record { input = name.In; output = name.Out; kind = Pnm; gray = false; smooth = true }
 
-not_usage : (u : Usage) → (why.Done ≡ why.Usage u) → ⊥
-not_usage u e = cc
-
-pub shown_done : (has : Bool) (w : ShowWords) (input : List ℕ) (desk now : MemoryDesk) → showing_view w ≡ showing → w.preview ≡ None → HoldsInput input desk → ShownBy has w (memory_state desk) why.Done (memory_state now) → ShowsFile has input (Ok now)
-shown_done false w input desk now is all holds shown M means = absurd (not_usage _ shown.0)
-shown_done true w input desk now is all holds shown M means =
+pub shown_done : (has : Bool) (w : ShowWords) (input : List ℕ) (desk now : MemoryDesk) → has ≡ true → showing_view w ≡ showing → w.preview ≡ None → HoldsInput input desk → ShownBy has w (memory_state desk) why.Done (memory_state now) → ShowsFile input (Some now)
+shown_done false w input desk now has is all holds shown M means = absurd (let e : false ≡ true = has in cc)
+shown_done true w input desk now has is all holds shown M means =
     let done : Shown showing (memory_state desk) why.Done (memory_state now) = subst (λ (s : Showing). Shown s (memory_state desk) why.Done (memory_state now)) is
     (subst (λ (o : Option ℕ). ShownAs o (showing_view w) (memory_state desk) why.Done (memory_state now)) all shown) in
     let N : Meaning = done.0 in
     let same : M ≡ N = read_once (Image false) input (memory_state desk) (memory_state now) M N holds.told means done.1.0.read in
     let here : HasOutput (end_text Pnm (info N false) (pixels N false true)) now =
     grown (memory_state desk).outputs (memory_outputs now) (end_text Pnm (info N false) (pixels N false true)) holds.outputs done.1.1.outputs in
-    (refl, subst (λ (K : Meaning). HasOutput (end_text Pnm (info K false) (pixels K false true)) now) (sym same) here)
+    subst (λ (K : Meaning). HasImage K now) (sym same) here
 
-pub shown_after : (has : Bool) (M : Meaning) (text input : List ℕ) (desk : MemoryDesk) (r : Result MemoryDesk Why) → HasFile M text desk → option_map (λ p. p.1) (slice_get (memory_outputs desk) 0) ≡ Some input → ShowsFile has input r → IsShown has M r
-shown_after has M text input desk r h e shows = shows M (subst (λ (b : List ℕ). Means standard_limits b M) (sym (output_is text desk input h.output e)) h.means)
+pub shown_after : (M : Meaning) (text input : List ℕ) (desk now : MemoryDesk) → HasFile M text desk → option_map (λ p. p.1) (slice_get (memory_outputs desk) 0) ≡ Some input → ShowsFile input (Some now) → HasImage M now
+shown_after M text input desk now h e shows = shows M (subst (λ (b : List ℕ). Means standard_limits b M) (sym (output_is text desk input h.output e)) h.means)
 
 -- THE REPORT
 
@@ -191,26 +187,26 @@ work_sum n =
     subst (λ (i : ImageInfo). sum (drop (length (pnm_header i)) (image_text n)) ≡ samples_sum (back_picture n)) (back_info n)
     (image_samples (info (back_picture n) false) (pixels (back_picture n) false true))
 
-pub report_done : (has : Bool) (n : ℕ) (first turned back image : List ℕ) (r : Result (List ℕ) Why) → has ≡ true → first ≡ first_text n → turned ≡ turned_text n → back ≡ back_text n → image ≡ image_text n → ReportsShown n first turned back image r → IsReport has n r
-report_done has n first turned back image (Ok text) so f t b i is =
-    let L : List ℕ → List ℕ → List ℕ → List ℕ → List ℕ = λ x y z w. lines (work_info n) (length x) (length y) (bytes_eq z x) (sum (drop (length (pnm_header (work_info n))) w)) in (
-      so,
-      is ∙ ap (λ x. L x turned back image) f ∙ ap (λ y. L (first_text n) y back image) t ∙ ap (λ z. L (first_text n) (turned_text n) z image) b ∙ ap (λ w. L (first_text n) (turned_text n) (back_text n) w) i
-          ∙ ap (λ k. lines (work_info n) (length (first_text n)) (length (turned_text n)) (bytes_eq (back_text n) (first_text n)) k) (work_sum n),
-    )
-report_done has n first turned back image (Err ended) so f t b i is = subst (λ (w : Why). IsReport has n (Err w)) (sym is) tt
+pub report_done : (n : ℕ) (first turned back image : List ℕ) (r : Option (List ℕ)) → first ≡ first_text n → turned ≡ turned_text n → back ≡ back_text n → image ≡ image_text n → ReportsShown n first turned back image r
+    → IfSome r (λ text. text ≡ work_text n)
+report_done n first turned back image (Some text) f t b i is =
+    let L : List ℕ → List ℕ → List ℕ → List ℕ → List ℕ = λ x y z w. lines (work_info n) (length x) (length y) (bytes_eq z x) (sum (drop (length (pnm_header (work_info n))) w)) in
+    is ∙ ap (λ x. L x turned back image) f ∙ ap (λ y. L (first_text n) y back image) t ∙ ap (λ z. L (first_text n) (turned_text n) z image) b ∙ ap (λ w. L (first_text n) (turned_text n) (back_text n) w) i
+    ∙ ap (λ k. lines (work_info n) (length (first_text n)) (length (turned_text n)) (bytes_eq (back_text n) (first_text n)) k) (work_sum n)
+report_done n first turned back image None f t b i is = is
 
 -- WRITTEN
 
 untouched : (s : DeskState) → Untouched s s
 untouched s = record { asked = refl; outputs = refl; left = refl }
 
-pub work_none : (has : Bool) (n : ℕ) (ended : Why) (s : DeskState) → IsReport has n (Err ended) → DidWork has n s ended s
-work_none true n (why.Usage u) s h = absurd (let e : true ≡ false = h.0 in cc)
-work_none false n (why.Usage u) s h = (inl (ap (λ v. why.Usage v) h.1), untouched s)
-work_none true n why.NoMemory s h = inr (refl, untouched s)
-work_none false n why.NoMemory s h = (inr refl, untouched s)
-work_none has n other s h = absurd h
+pub work_none : (has : Bool) (n : ℕ) (s : DeskState) → has ≡ true → DidWork has n s why.NoMemory s
+work_none true n s e = inr (refl, untouched s)
+work_none false n s e = absurd (let f : false ≡ true = e in cc)
+
+pub work_wrong : (has : Bool) (n : ℕ) (s : DeskState) → has ≡ false → DidWork has n s (why.Usage no_end) s
+work_wrong true n s e = absurd (let f : true ≡ false = e in cc)
+work_wrong false n s e = (refl, untouched s)
 
 -- the value is there, and nothing is read
 nothing_read : (n : ℕ) (s0 s1 : DeskState) → s1.left ≡ s0.left → HasValueRead ℕ (work_conversion n) n None s0 s0 s1
@@ -222,12 +218,12 @@ nothing_read n s0 s1 left = record {
   left = left;
 }
 
-pub work_done : (has : Bool) (n : ℕ) (text : List ℕ) (ended : Why) (s0 s1 : DeskState) → IsReport has n (Ok text) → s1.left ≡ s0.left → WritesReport text s0 ended s1 → DidWork has n s0 ended s1
-work_done true n text ended s0 s1 h left wrote =
+pub work_done : (has : Bool) (n : ℕ) (text : List ℕ) (ended : Why) (s0 s1 : DeskState) → has ≡ true → text ≡ work_text n → s1.left ≡ s0.left → WritesReport text s0 ended s1 → DidWork has n s0 ended s1
+work_done true n text ended s0 s1 has is left wrote =
     let c = work_conversion n in
-    let made = converted_made ℕ c n None s0 s0 s1 (nothing_read n s0 s1 left) ended (subst (λ t. WritesReport t s0 ended s1) h.1 wrote) in
+    let made = converted_made ℕ c n None s0 s0 s1 (nothing_read n s0 s1 left) ended (subst (λ t. WritesReport t s0 ended s1) is wrote) in
     inl (subst (λ (w : Why). Converted c s0 w s1) (none_early ended) made)
-work_done false n text ended s0 s1 h left wrote = absurd (let e : false ≡ true = h.0 in cc)
+work_done false n text ended s0 s1 has is left wrote = absurd (let e : false ≡ true = has in cc)
 
 noted_then : (s0 s1 s2 : DeskState) → Creates s0 name.Out put.Done s1 → s2.asked ≡ s1.asked → NotesName s0.asked (name.Out, put.Done) s2.asked
 noted_then s0 s1 s2 h still = let P : Option (List (Name × Put)) → Type 0 = λ a. NotesName s0.asked (name.Out, put.Done) a in subst P (sym still) h.asked

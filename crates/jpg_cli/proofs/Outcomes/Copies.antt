@@ -18,7 +18,7 @@ texts_then t Does s0 s1 s2 k still (why.Refused f) h =
     let P : Option (List ℕ) → Type 0 = λ l. Does (t.refused f (rest_of l)) s0 s2 in subst P (sym k.same.left) (still (t.refused f (rest_of s1.left)) h)
 texts_then t Does s0 s1 s2 k still (why.ReadFault which.Input) h = (still t.unread h.0, (let r = h.1 in let f = k.stays.counts.reads in omega (arith, r, f)))
 texts_then t Does s0 s1 s2 k still why.WriteFault h = (still t.part h.0, (let r = h.1 in let f = k.stays.counts.writes in omega (arith, r, f)))
-texts_then t Does s0 s1 s2 k still why.NoMemory h = still t.part h
+texts_then t Does s0 s1 s2 k still why.NoMemory h = still t.less h
 texts_then t Does s0 s1 s2 k still other h = absurd h
 
 -- FROM A DESK BEFORE, where no count fell
@@ -30,5 +30,5 @@ module _ (t : CopyTexts) (Does Did : (List ℕ → List ℕ → Type 0) → Desk
   texts_from s0 s1 s2 k from (why.Refused f) h = from (t.refused f (rest_of s2.left)) h
   texts_from s0 s1 s2 k from (why.ReadFault which.Input) h = (from t.unread h.0, (let r = h.1 in let f = k.reads in omega (arith, r, f)))
   texts_from s0 s1 s2 k from why.WriteFault h = (from t.part h.0, (let r = h.1 in let f = k.writes in omega (arith, r, f)))
-  texts_from s0 s1 s2 k from why.NoMemory h = from t.part h
+  texts_from s0 s1 s2 k from why.NoMemory h = from t.less h
   texts_from s0 s1 s2 k from other h = absurd h

@@ -18,7 +18,7 @@ use Rattle.jpg_comments.specs.WriteInserted.{insert_limits, is_replacing, HasIns
 use Rattle.jpg_comments.specs.declared.insert.Insert.{Insert}
 use Rattle.jpg_cli.specs.Words.CommentWords.{comment_view}
 use Rattle.jpg_cli.specs.declared.words.comments.WriteWords.{WriteWords}
-use Rattle.jpg_cli.specs.Tools.InsertComment.{AfterFed, IsAtHead, IsFaultBefore, IsNoHead, IsInsertedWhole, inserted_texts}
+use Rattle.jpg_cli.specs.Tools.InsertComment.{AfterFed, IsAtHead, IsBeforeHead, IsFaultBefore, IsNoHead, IsInsertedWhole, inserted_texts}
 use Rattle.jpg_cli.specs.Copies.{Copies}
 use Rattle.jpg_cli.specs.Endings.{Asks, Copied, Stopped, Unopened, Unread}
 use Rattle.jpg_cli.specs.Desk.Reading.{IsFile, IsReadTo, ReadsBytes, ReadsPart, rest_of}
@@ -109,9 +109,13 @@ pub record IsCommentUnread (task : Task) (old new : DeskState) : Type 0 where
   pub from : is_given task.comment ≡ false
   pub source : IsShortFront old task.comment bytes new
 
+-- Bytes of the input were read, no more than may be, and no piece after a fault or the frame header's marker.
+abbrev pub ReadsHead : Name → DeskState → DeskState → Type 0
+ReadsHead input old new = (bytes : List ℕ) × ReadsBytes standard_limits.input input bytes old new × IsBeforeHead bytes
+
 -- No file was opened; or of the one that was opened last, no more bytes were read than may be.
 abbrev pub ReadsLast : Task → DeskState → DeskState → Type 0
-ReadsLast task old new = (new.left ≡ old.left) ⊎ (ReadsComment task.comment old new ⊎ ReadsPart standard_limits.input task.input old new)
+ReadsLast task old new = (new.left ≡ old.left) ⊎ (ReadsComment task.comment old new ⊎ ReadsHead task.input old new)
 
 -- there was no memory before an output was created; the names that were opened are the first of those in the list
 pub record IsOutOfMemory (task : Task) (old new : DeskState) : Type 0 where

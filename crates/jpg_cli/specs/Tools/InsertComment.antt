@@ -1,8 +1,7 @@
 -- HOW A FILE WITH A COMMENT INSERTED is written piece by piece (T.81, B.2.4.5, the manual of wrjpgcom in release 6b).
-use Rattle.std.specs.Prelude.{◌≡◌, ℕ, ◌<◌, ◌≤◌, ◌+◌, Bool, true, List, [], ◌++◌, length, take, Option, None, Some, Result, Ok, Err}
+use Rattle.std.specs.Prelude.{◌≡◌, ◌⊎◌, ℕ, ◌<◌, ◌≤◌, ◌+◌, Bool, true, List, [], ◌++◌, length, take, Option, None, Some, Result, Ok, Err}
 use Rattle.std.specs.Io.KnownBytes.{Consumes}
 use Rattle.jpg_base.specs.Desk.{DeskState, Rose}
-use Rattle.jpg_base.specs.declared.stop.Stop.TheVariants as stop
 use Rattle.jpg_spec.specs.Segments.{standard_limits}
 use Rattle.jpg_spec_write.specs.CommentText.{IsHeadFault, IsInsertFault, IsInserted, RevealsNothing, longest_comment}
 use Rattle.jpg_spec.specs.declared.fault.Fault.TheVariants.{CommentTooLong, InputTooLong}
@@ -10,7 +9,7 @@ use Rattle.jpg_spec.specs.declared.fault.FaultAt.{FaultAt}
 use Rattle.jpg_spec_words.specs.declared.answers.Why.{Why}
 use Rattle.jpg_spec_words.specs.declared.answers.Why.TheVariants as why
 use Rattle.jpg_spec_words.specs.declared.answers.Which.TheVariants as which
-use Rattle.jpg_comments.specs.Inserting.{HoldsHead, InsertsPart, InsertsUpTo}
+use Rattle.jpg_comments.specs.Inserting.{HoldsHead, InsertsToFault}
 use Rattle.jpg_comments.specs.SegmentsSoFar.{Appends}
 use Rattle.jpg_comments.specs.WriteInserted.{is_replacing, HasInserted}
 use Rattle.jpg_comments.specs.declared.insert.Insert.{Insert}
@@ -27,11 +26,22 @@ IsBegunWith comment replace (Err (why.Refused f)) = (f.fault ≡ CommentTooLong)
 IsBegunWith comment replace (Err why.NoMemory) = Unit {0}
 IsBegunWith comment replace (Err other) = ⊥
 
+-- A prefix of the bytes, all of them but the last 65,536 at most, has neither a fault nor the frame header's marker.
+abbrev pub IsBeforeHead : List ℕ → Type 0
+IsBeforeHead bytes =
+    (front : ℕ) × (front ≤ length bytes) × (length bytes ≤ front + 65536) × RevealsNothing standard_limits (HoldsHead standard_limits) (take front bytes)
+
+-- a first part of the file with the comment inserted, from a prefix of the bytes that has that marker; something of the
+-- file is left
+abbrev pub IsFileLess : List ℕ → Bool → List ℕ → List ℕ → Type 0
+IsFileLess comment replace bytes text =
+    (n : ℕ) × (front : ℕ) × (whole : List ℕ) × IsInserted standard_limits (take front bytes) comment replace whole × (text ≡ take n whole) × (n < length whole)
+
 -- A piece was taken: the text for all the bytes so far, or why the writing ends.
 abbrev pub AfterFed : List ℕ → Bool → List ℕ → List ℕ → Option Why → Insert → Type 0
 AfterFed comment replace bytes text None c = HasInserted comment bytes text c
-AfterFed comment replace bytes text (Some (why.Refused f)) c = InsertsUpTo standard_limits comment replace bytes text (stop.Fault f)
-AfterFed comment replace bytes text (Some why.NoMemory) c = InsertsPart standard_limits comment replace bytes text
+AfterFed comment replace bytes text (Some (why.Refused f)) c = InsertsToFault standard_limits comment replace bytes text f
+AfterFed comment replace bytes text (Some why.NoMemory) c = (text ≡ []) ⊎ IsFileLess comment replace bytes text
 AfterFed comment replace bytes text (Some other) c = ⊥
 
 -- the bytes end: the complete file was written, or it has a fault before the frame header
@@ -64,6 +74,7 @@ inserted_texts comment replace = record {
   refused = IsLongFile comment replace;
   unread = IsInsertedWhole comment replace;
   part = IsFilePart comment replace;
+  less = IsFileLess comment replace;
 }
 
 abbrev pub EndsInserting : List ℕ → Bool → DeskState → Why → DeskState → Type 0
@@ -97,7 +108,8 @@ EndsBefore bytes old (why.Refused f) new =
     (piece : List ℕ) × Consumes old.left new.left piece × (length (bytes ++ piece) ≤ standard_limits.input)
     × IsFaultBefore f (rest_of new.left) (bytes ++ piece)
 EndsBefore bytes old (why.ReadFault which.Input) new = (new.left ≡ old.left) × IsNoHead bytes × Rose old.counts.reads new.counts.reads
-EndsBefore bytes old why.NoMemory new = (piece : List ℕ) × Consumes old.left new.left piece × (length (bytes ++ piece) ≤ standard_limits.input)
+EndsBefore bytes old why.NoMemory new =
+    (piece : List ℕ) × Consumes old.left new.left piece × (length (bytes ++ piece) ≤ standard_limits.input) × IsBeforeHead (bytes ++ piece)
 EndsBefore bytes old other new = ⊥
 
 -- From these bytes on one more piece was read: the marker isn't complete yet, or the text that is pending with it, or

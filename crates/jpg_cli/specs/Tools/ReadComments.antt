@@ -18,7 +18,7 @@ use Rattle.jpg_comments.specs.declared.comments.Comments.{Comments}
 use Rattle.jpg_cli.specs.Copies.{Copies, CopiesText, CopyTexts, HasCopied}
 use Rattle.jpg_cli.specs.Endings.{Copied, Unopened}
 use Rattle.jpg_cli.specs.Desk.Reading.{IsFile}
-use Rattle.jpg_cli.specs.Stays.{OnlyCopies}
+use Rattle.jpg_cli.specs.Stays.{OnlyCopies, Untouched}
 
 -- THE TEXT that was printed, by the bytes that were read
 
@@ -63,9 +63,21 @@ pub record IsTextPart (bytes text : List ℕ) : Type 0 where
   pub whole : AreCompleteSegments (take front bytes) before
   pub is : text ≡ take count (comments_text before)
 
+-- A prefix of the bytes has no fault and no complete file. The text is a first part of that of the comments that are
+-- complete in it, and something of that is left.
+pub record IsTextLess (bytes text : List ℕ) : Type 0 where
+  pub front : ℕ
+  pub count : ℕ
+  pub before : List Segment
+  pub within : front ≤ length bytes
+  pub nothing : RevealsNothing standard_limits (HoldsWhole standard_limits) (take front bytes)
+  pub begun : IsBegun (kept_rule standard_limits) (take front bytes) before
+  pub is : text ≡ take count (comments_text before)
+  pub less : count < length (comments_text before)
+
 -- which text is printed, by why it ended
 abbrev pub printed_texts : CopyTexts
-printed_texts = record { whole = λ rest. IsWholeText; refused = IsFaultText; unread = IsTextSoFar; part = IsTextPart }
+printed_texts = record { whole = λ rest. IsWholeText; refused = IsFaultText; unread = IsTextSoFar; part = IsTextPart; less = IsTextLess }
 
 -- THE RESULTS: the comments of the input were printed to the output, or some of them, by the result; or the input
 -- wasn't opened, or the output wasn't created
@@ -73,6 +85,10 @@ abbrev pub Printed : Name → Name → DeskState → Why → DeskState → Type 
 Printed input output old (why.OpenFault which.Input) new = Unopened (input ∷ []) old new
 Printed input output old (why.OpenFault which.Output) new = Unopened (input ∷ output ∷ []) old new
 Printed input output old ended new = Copies printed_texts (Copied [] input output) old ended new
+
+-- or there was no memory to begin with
+abbrev pub PrintedOrNot : Name → Name → DeskState → Why → DeskState → Type 0
+PrintedOrNot input output old ended new = Printed input output old ended new ⊎ ((ended ≡ why.NoMemory) × Untouched old new)
 
 -- If no count of open, read or write rose, the result is that of the input, or NoMemory.
 abbrev pub IsPrintDue : Name → DeskState → Why → Type 0
@@ -93,7 +109,7 @@ abbrev pub AfterTaking : List ℕ → List ℕ → Option Why → Comments → T
 AfterTaking bytes text None c = HasRead bytes text c
 AfterTaking bytes text (Some why.Done) c = IsWholeText bytes text
 AfterTaking bytes text (Some (why.Refused f)) c = (rest : List ℕ) → IsFaultText f rest bytes text
-AfterTaking bytes text (Some why.NoMemory) c = IsTextPart bytes text
+AfterTaking bytes text (Some why.NoMemory) c = IsTextLess bytes text
 AfterTaking bytes text (Some other) c = ⊥
 
 -- the result of bytes where the input ends

@@ -1,5 +1,5 @@
 -- HOW THE WORK OF jpgwork ENDS, by why it ended; and its steps, each over a desk in memory of its own.
-use Rattle.std.specs.Prelude.{◌≡◌, ◌⊎◌, ℕ, Bool, true, false, List, [], ◌∷◌, drop, length, sum, if◌then◌else◌, Option, None, Some, IfSome, Result, Ok, Err}
+use Rattle.std.specs.Prelude.{◌≡◌, ◌⊎◌, ℕ, Bool, true, false, List, [], ◌∷◌, drop, length, sum, if◌then◌else◌, Option, None, Some, IfSome}
 use Rattle.std.specs.Str.{bytes_eq}
 use Rattle.jpg_base.specs.declared.memory.MemoryDesk.{MemoryDesk}
 use Rattle.jpg_base.specs.declared.names.Name.TheVariants as name
@@ -55,11 +55,11 @@ work_conversion n = record {
 abbrev pub no_end : Usage
 no_end = record { fault = NoEnd; word = 2 }
 
--- THE WORK by this number: its lines are written, if one of the image writers makes PNM; or there was no memory, and
--- nothing was done.
+-- THE WORK by this number: its lines are written, or there was no memory, and nothing was done; if none of the image
+-- writers makes PNM, the words are wrong.
 abbrev pub DidWork : Bool → ℕ → DeskState → Why → DeskState → Type 0
 DidWork true n old ended new = Converted (work_conversion n) old ended new ⊎ ((ended ≡ why.NoMemory) × Untouched old new)
-DidWork false n old ended new = ((ended ≡ why.Usage no_end) ⊎ (ended ≡ why.NoMemory)) × Untouched old new
+DidWork false n old ended new = (ended ≡ why.Usage no_end) × Untouched old new
 
 -- a text was written to standard output, by why that ended
 abbrev pub WritesReport : List ℕ → DeskState → Why → DeskState → Type 0
@@ -93,25 +93,14 @@ work_choice t progressive =
 abbrev pub TurnsFile : Choice → List ℕ → Option MemoryDesk → Type 0
 TurnsFile choice input result = (M : Meaning) → Means standard_limits input M → IfSome result (λ desk. HasFile (moved choice M) (moved_text choice M) desk)
 
--- the text of the image, or why there is none
-abbrev pub IsShown : Bool → Meaning → Result MemoryDesk Why → Type 0
-IsShown has M (Ok desk) = (has ≡ true) × HasOutput (end_text Pnm (info M false) (pixels M false true)) desk
-IsShown has M (Err (why.Usage usage)) = (has ≡ false) × (usage ≡ no_end)
-IsShown has M (Err why.NoMemory) = Unit {0}
-IsShown has M (Err other) = ⊥
+-- the text of the image
+abbrev pub HasImage : Meaning → MemoryDesk → Type 0
+HasImage M desk = HasOutput (end_text Pnm (info M false) (pixels M false true)) desk
 
-abbrev pub ShowsFile : Bool → List ℕ → Result MemoryDesk Why → Type 0
-ShowsFile has input result = (M : Meaning) → Means standard_limits input M → IsShown has M result
+abbrev pub ShowsFile : List ℕ → Option MemoryDesk → Type 0
+ShowsFile input result = (M : Meaning) → Means standard_limits input M → IfSome result (HasImage M)
 
--- the five lines, by the texts of the three files and of an image of these sides; or there was no memory
-abbrev pub ReportsShown : ℕ → List ℕ → List ℕ → List ℕ → List ℕ → Result (List ℕ) Why → Type 0
-ReportsShown n first turned back image (Ok text) =
-    text ≡ lines (work_info n) (length first) (length turned) (bytes_eq back first) (sum (drop (length (pnm_header (work_info n))) image))
-ReportsShown n first turned back image (Err ended) = ended ≡ why.NoMemory
-
--- the five lines, or why there are none
-abbrev pub IsReport : Bool → ℕ → Result (List ℕ) Why → Type 0
-IsReport has n (Ok text) = (has ≡ true) × (text ≡ work_text n)
-IsReport has n (Err (why.Usage usage)) = (has ≡ false) × (usage ≡ no_end)
-IsReport has n (Err why.NoMemory) = Unit {0}
-IsReport has n (Err other) = ⊥
+-- the five lines, by the texts of the three files and of an image of these sides
+abbrev pub ReportsShown : ℕ → List ℕ → List ℕ → List ℕ → List ℕ → Option (List ℕ) → Type 0
+ReportsShown n first turned back image result =
+    IfSome result (λ text. text ≡ lines (work_info n) (length first) (length turned) (bytes_eq back first) (sum (drop (length (pnm_header (work_info n))) image)))

@@ -31,6 +31,18 @@ fn is_of(end: &Box<dyn ImageEnd>, kind: EndKind) -> bool
     is_same_format(kind, end.kind())
 }
 
+/// Whether one of the image writers has this format.
+pub fn has_end(ends: &[Box<dyn ImageEnd>], kind: EndKind) -> bool
+    ensures { result ≡ has_format kind (formats_of (map (λ e. progress e) ends.now)) }
+{
+    for end in ends {
+        if is_of(end, kind) {
+            return true;
+        }
+    }
+    false
+}
+
 // Decodes the picture, or the front of its file, as the words ask for it.
 fn show_as<D: Desk>(
     alloc: Global,

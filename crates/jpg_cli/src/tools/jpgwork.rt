@@ -1,15 +1,15 @@
 //! An image made from a number, encoded, rotated, rotated back and decoded; and what is reported of it.
-ghost use Rattle.std.specs.Prelude.{◌≡◌, ◌≤◌, IfSome, None, length, map};
+ghost use Rattle.std.specs.Prelude.{◌≡◌, ◌≤◌, IfSome, None, length, map, true};
 ghost use Rattle.jpg_spec_image.specs.declared.image.EndKind.TheVariants as kind;
 ghost use Rattle.jpg_spec_image.specs.ImageText.{pnm_header};
-ghost use Rattle.jpg_spec_words.specs.Work.{first_picture, first_text, work_info};
+ghost use Rattle.jpg_spec_words.specs.Work.{first_picture, first_text, work_info, work_text};
 ghost use Rattle.jpg_cli.specs.Stays.{OnlyWorks};
 ghost use Rattle.jpg_cli.specs.Words.TransformWords.{script_view};
 ghost use Rattle.jpg_cli.specs.Tools.Ends.{AreNewEnds, formats_of, has_format};
-ghost use Rattle.jpg_cli.specs.Tools.Worked.{DidWork, HasFile, HoldsInput, IsReport, ReportsShown, ShowsFile, TurnsFile, WritesReport, work_choice, scans_by};
+ghost use Rattle.jpg_cli.specs.Tools.Worked.{DidWork, HasFile, HoldsInput, ReportsShown, ShowsFile, TurnsFile, WritesReport, work_choice, scans_by};
 
 use crate::tools::cjpeg::write_encoded;
-use crate::tools::image_writer::show_by;
+use crate::tools::image_writer::{has_end, show_by};
 use crate::tools::jpegtran::transform;
 use crate::tools::work_image::image_of;
 use crate::tools::work_lines::{lines_of, samples_sum};
@@ -24,7 +24,7 @@ use jpg_pnm_bmp::ImageEnd;
 use jpg_spec::Copying;
 use jpg_spec_image::EndKind;
 use jpg_spec_move::Transform;
-use jpg_spec_words::{Which, Why};
+use jpg_spec_words::{Usage, UsageFault, Which, Why};
 use jpg_transform::{Huffman, Restart, Scans};
 use std::alloc::Global;
 
@@ -33,8 +33,8 @@ const PIECE: u32 = 16384;
 
 /// Does the work of this number, and writes its five lines to standard output. The steps are those of the commands,
 /// each over a desk in memory of its own, on which a call fails only if there is no memory. The decoded image goes
-/// through the first of the image writers that makes PNM; if there is none, the words are wrong. The output is created
-/// when the lines are known; from then on no memory is asked for.
+/// through the first of the image writers that makes PNM; if there is none, which is looked at first, the words are
+/// wrong. The output is created when the lines are known; from then on no memory is asked for.
 #[inline(never)]
 pub fn do_work<D: Desk>(alloc: Global, size: u16, desk: &mut D, ends: Vec<Box<dyn ImageEnd>>) -> Why
     requires small { size ≤ 400 }
@@ -42,9 +42,15 @@ pub fn do_work<D: Desk>(alloc: Global, size: u16, desk: &mut D, ends: Vec<Box<dy
     ensures kept { OnlyWorks (D.state desk.old) (D.state desk.new) }
     ensures worked { DidWork (has_format kind.Pnm (formats_of (map (λ e. progress e) ends.items))) size (D.state desk.old) result (D.state desk.new) }
 {
+    if !has_end(&ends, EndKind::Pnm) {
+        return Why::Usage(Usage {
+            fault: UsageFault::NoEnd,
+            word: 2,
+        });
+    }
     match report_of(alloc, size, ends) {
-        Err(why) => why,
-        Ok(report) => write_report(report.as_slice(), desk),
+        None => Why::NoMemory,
+        Some(report) => write_report(report.as_slice(), desk),
     }
 }
 
@@ -63,24 +69,25 @@ fn write_report<D: Desk>(report: &[u8], desk: &mut D) -> Why
     }
 }
 
-// The five lines of this number, or why there are none.
-fn report_of(alloc: Global, size: u16, ends: Vec<Box<dyn ImageEnd>>) -> Result<Bytes, Why>
+// The five lines of this number; none if there is no memory.
+fn report_of(alloc: Global, size: u16, ends: Vec<Box<dyn ImageEnd>>) -> Option<Bytes>
     requires small { size ≤ 400 }
     requires ends { AreNewEnds (map (λ e. progress e) ends.items) }
-    ensures { IsReport (has_format kind.Pnm (formats_of (map (λ e. progress e) ends.items))) size result }
+    requires has { has_format kind.Pnm (formats_of (map (λ e. progress e) ends.items)) ≡ true }
+    ensures { IfSome result (λ text. text ≡ work_text size) }
 {
     let Some(first) = first_file(alloc, size) else {
-        return Err(Why::NoMemory);
+        return None;
     };
     let Some(turned) = turned_file(alloc, first.output(0), Transform::Rotate90, false) else {
-        return Err(Why::NoMemory);
+        return None;
     };
     let Some(back) = turned_file(alloc, turned.output(0), Transform::Rotate270, true) else {
-        return Err(Why::NoMemory);
+        return None;
     };
     match shown_file(alloc, back.output(0), ends) {
-        Err(why) => Err(why),
-        Ok(shown) => report_shown(
+        None => None,
+        Some(shown) => report_shown(
             alloc,
             size,
             first.output(0),
@@ -91,7 +98,7 @@ fn report_of(alloc: Global, size: u16, ends: Vec<Box<dyn ImageEnd>>) -> Result<B
     }
 }
 
-// The five lines, by the texts of the three files and of the image.
+// The five lines, by the texts of the three files and of the image; none if there is no memory.
 fn report_shown(
     alloc: Global,
     size: u16,
@@ -99,17 +106,17 @@ fn report_shown(
     turned: &[u8],
     back: &[u8],
     image: &[u8],
-) -> Result<Bytes, Why>
+) -> Option<Bytes>
     requires small { size ≤ 400 }
     requires header { length (pnm_header (work_info size)) ≤ length image.now }
     ensures { ReportsShown size first.now turned.now back.now image.now result }
 {
     let Some(samples) = samples_sum(size, image) else {
-        return Err(Why::NoMemory);
+        return None;
     };
     match lines_of(alloc, size, first, turned, back, samples) {
-        Ok(lines) => Ok(lines),
-        Err(_) => Err(Why::NoMemory),
+        Ok(lines) => Some(lines),
+        Err(_) => None,
     }
 }
 
@@ -201,14 +208,15 @@ fn turned_file(
     }
 }
 
-// A desk whose output is the image of a file, or why there is none.
+// A desk whose output is the image of a file; none if there is no memory.
 #[inline(never)]
-fn shown_file(alloc: Global, input: &[u8], ends: Vec<Box<dyn ImageEnd>>) -> Result<MemoryDesk, Why>
-    requires { AreNewEnds (map (λ e. progress e) ends.items) }
-    ensures { ShowsFile (has_format kind.Pnm (formats_of (map (λ e. progress e) ends.items))) input.now result }
+fn shown_file(alloc: Global, input: &[u8], ends: Vec<Box<dyn ImageEnd>>) -> Option<MemoryDesk>
+    requires ends { AreNewEnds (map (λ e. progress e) ends.items) }
+    requires has { has_format kind.Pnm (formats_of (map (λ e. progress e) ends.items)) ≡ true }
+    ensures { ShowsFile input.now result }
 {
     let Some(mut desk) = desk_of(alloc, input) else {
-        return Err(Why::NoMemory);
+        return None;
     };
     let words = ShowWords {
         files: Files {
@@ -222,8 +230,7 @@ fn shown_file(alloc: Global, input: &[u8], ends: Vec<Box<dyn ImageEnd>>) -> Resu
         preview: None,
     };
     match show_by(alloc, &words, &mut desk, ends) {
-        Why::Done => Ok(desk),
-        Why::Usage(usage) => Err(Why::Usage(usage)),
-        _ => Err(Why::NoMemory),
+        Why::Done => Some(desk),
+        _ => None,
     }
 }

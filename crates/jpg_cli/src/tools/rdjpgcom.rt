@@ -4,9 +4,9 @@ ghost use Rattle.jpg_spec.specs.Segments.{standard_limits};
 ghost use Rattle.jpg_base.specs.Desk.{AfterWrite};
 ghost use Rattle.jpg_huff.specs.Out.{OnlyWrites};
 ghost use Rattle.jpg_comments.specs.SegmentsSoFar.{Appends};
-ghost use Rattle.jpg_comments.specs.ReadComments.{comments_limits, is_done, HasRead};
+ghost use Rattle.jpg_comments.specs.ReadComments.{comments_limits, is_done, is_ready, HasRead};
 ghost use Rattle.jpg_cli.specs.Stays.{OnlyCopies, OnlyWorks};
-ghost use Rattle.jpg_cli.specs.Tools.ReadComments.{AfterEnd, EndsCopying, Printed, CopiesNext, TakesPiece};
+ghost use Rattle.jpg_cli.specs.Tools.ReadComments.{AfterEnd, EndsCopying, PrintedOrNot, CopiesNext, TakesPiece};
 
 use crate::desk::file::read_within;
 use crate::words::files::Files;
@@ -16,35 +16,41 @@ use jpg_spec::Limits;
 use jpg_spec_words::{Which, Why};
 use std::alloc::Global;
 
-/// Opens the input, creates the output and prints the comments of the input to it, each when it is complete. The input
+/// Takes the memory to read any segment, opens the input, creates the output and prints the comments of the input to it, each when it is complete. The input
 /// is read in pieces of at most 65,536 bytes, and fewer bytes than that are read after the end of its first scan
 /// header, or an EOI before any, or the byte that reveals a fault.
 #[inline(never)]
 pub fn print_comments<D: Desk>(alloc: Global, files: &Files, desk: &mut D) -> Why
     ensures kept { OnlyWorks (D.state desk.old) (D.state desk.new) }
-    ensures printed { Printed files.now.input files.now.output (D.state desk.old) result (D.state desk.new) }
+    ensures printed { PrintedOrNot files.now.input files.now.output (D.state desk.old) result (D.state desk.new) }
 {
+    let mut comments = Comments::new(alloc, Limits::standard());
+    if comments.reserve().is_err() {
+        return Why::NoMemory;
+    }
     match desk.open(&files.input) {
         Put::Failed => Why::OpenFault(Which::Input),
         Put::Done => match desk.create(&files.output) {
             Put::Failed => Why::OpenFault(Which::Output),
-            Put::Done => copy_comments(alloc, desk),
+            Put::Done => copy_comments(alloc, &mut comments, desk),
         },
     }
 }
 
 // Prints the comments of the open input, piece by piece.
-fn copy_comments<D: Desk>(alloc: Global, desk: &mut D) -> Why
+fn copy_comments<D: Desk>(alloc: Global, comments: &mut Comments, desk: &mut D) -> Why
+    requires read { HasRead [] [] comments.old }
+    requires ready { is_ready comments.old ≡ true }
+    requires limits { comments_limits comments.old ≡ standard_limits }
     requires open { (D.state desk.old).input_open ≡ true }
     requires created { (D.state desk.old).output_created ≡ true }
     ensures kept { OnlyCopies (D.state desk.old) (D.state desk.new) }
     ensures ended { EndsCopying (D.state desk.old) result (D.state desk.new) }
 {
-    let mut comments = Comments::new(alloc, Limits::standard());
     let mut buffer = [0u8; 65536];
     let mut out = Bytes::new(alloc);
     loop {
-        if let Some(why) = next_piece(&mut comments, &mut buffer, &mut out, desk) {
+        if let Some(why) = next_piece(comments, &mut buffer, &mut out, desk) {
             return why;
         }
     }
@@ -60,11 +66,14 @@ fn next_piece<D: Desk>(
     requires open { (D.state desk.old).input_open ≡ true }
     requires created { (D.state desk.old).output_created ≡ true }
     requires more { is_done comments.old ≡ false }
+    requires read { (bytes : List ℕ) × (text : List ℕ) × HasRead bytes text comments.old }
+    requires ready { is_ready comments.old ≡ true }
     requires limits { comments_limits comments.old ≡ standard_limits }
     requires empty { out.old ≡ [] }
     ensures kept { OnlyCopies (D.state desk.old) (D.state desk.new) }
     ensures open { IfNone result ((D.state desk.new).input_open ≡ true) }
     ensures after { CopiesNext comments.old (D.state desk.old) result comments.new (D.state desk.new) }
+    ensures ready { IfNone result (is_ready comments.new ≡ true) }
     ensures limits { comments_limits comments.new ≡ standard_limits }
     ensures empty { out.new ≡ [] }
 {
@@ -84,22 +93,25 @@ fn next_piece<D: Desk>(
 // The result for an input that ends here.
 fn at_end(comments: &mut Comments) -> Why
     requires more { is_done comments.old ≡ false }
+    requires read { (bytes : List ℕ) × (text : List ℕ) × HasRead bytes text comments.old }
     requires limits { comments_limits comments.old ≡ standard_limits }
     ensures ended { (bytes text : List ℕ) → HasRead bytes text comments.old → AfterEnd bytes text result }
     ensures limits { comments_limits comments.new ≡ standard_limits }
 {
     match comments.end() {
         Stop::Fault(fault) => Why::Refused(fault),
-        Stop::NoMemory => Why::NoMemory,
+        Stop::NoMemory => unreachable!(),
     }
 }
 
 // Appends the text of the comments that are complete with this piece. Returns why the reading ends, if it does.
 fn take_piece(comments: &mut Comments, piece: &[u8], out: &mut Bytes) -> Option<Why>
     requires more { is_done comments.old ≡ false }
+    requires ready { is_ready comments.old ≡ true }
     requires limits { comments_limits comments.old ≡ standard_limits }
     requires short { length piece.now ≤ 65536 }
     ensures taken { TakesPiece comments.old piece.now out.old result out.new comments.new }
+    ensures ready { is_ready comments.new ≡ true }
     ensures limits { comments_limits comments.new ≡ standard_limits }
 {
     match comments.feed(piece, out) {

@@ -1,13 +1,13 @@
 //! The words of djpeg (its manual in release 6b).
-ghost use Rattle.std.specs.Prelude.{◌≡◌, ◌≤◌, map, drop, string_bytes};
-ghost use Rattle.jpg_spec_words.specs.ShowWords.{ShowAsked, djpeg, is_whole_scale, scans_from, show_asked};
+ghost use Rattle.std.specs.Prelude.{◌≡◌, ◌+◌, ◌≤◌, length, map, drop, string_bytes};
+ghost use Rattle.jpg_spec_words.specs.ShowWords.{ShowAsked, djpeg, is_whole_scale, scans_from, show_asked, show_default};
 ghost use Rattle.jpg_cli.specs.Words.Requests.{IsAnswer};
 ghost use Rattle.jpg_cli.specs.Words.Scans.{scans_or_one};
-ghost use Rattle.jpg_cli.specs.Words.ShowWords.{show_said, show_view};
+ghost use Rattle.jpg_cli.specs.Words.ShowWords.{IsFormat, show_said, show_view};
 
 use crate::words::djpeg_request::ShowWords;
 use crate::words::files::{FilesSaid, NO_FILES, WordsStop};
-use crate::words::requests::{Asks, bad_value, read_words, usage};
+use crate::words::requests::{Asks, bad_value, read_request, read_words, usage};
 use crate::words::switches::Switch;
 use crate::words::values::{is_int, scans_named};
 use jpg_base::NoMemory;
@@ -48,15 +48,31 @@ static DJPEG_SWITCHES: [Switch<'static>; 24] = [
 pub fn djpeg_words(alloc: Global, words: &[String]) -> Result<ShowWords, WordsStop>
     ensures { IsAnswer show_view (show_asked (drop 1 (map string_bytes words.now))) result }
 {
-    let start = ShowSaid {
+    read_words(alloc, start_of(words), &DJPEG_SWITCHES, words)
+}
+
+/// The format that right words of djpeg ask for, and the index of the word that does.
+pub fn djpeg_format(words: &[String]) -> Option<(EndKind, u64)>
+    ensures { IsFormat (show_asked (drop 1 (map string_bytes words.now))) result }
+{
+    match read_request(start_of(words), &DJPEG_SWITCHES, words) {
+        Ok(said) => Some((said.kind, said.kind_word)),
+        Err(_) => None,
+    }
+}
+
+// What is asked for without switches.
+fn start_of<'a>(words: &'a [String]) -> ShowSaid<'a>
+    ensures { show_said result ≡ show_default (length (drop 1 (map string_bytes words.now)) + 1) }
+{
+    ShowSaid {
         files: NO_FILES,
         kind: EndKind::Pnm,
         kind_word: words.len().max(1) as u64,
         gray: false,
         smooth: true,
         preview: 0,
-    };
-    read_words(alloc, start, &DJPEG_SWITCHES, words)
+    }
 }
 
 // What the words so far ask for.

@@ -1,15 +1,16 @@
-use Rattle.std.proofs.Common.{map, subst, sym, Ok, Err}
+use Rattle.std.proofs.Common.{map, subst, sym, Option, Ok, Err}
 use Rattle.std.specs.Prelude.{string_bytes}
 use Rattle.jpg_spec_words.specs.Requests.{ParsedWords}
+use Rattle.jpg_spec_words.specs.declared.answers.Usage.{Usage}
 use Rattle.jpg_cli.specs.Commands.{Command, IsCommand, command_asked}
 use Rattle.jpg_cli.specs.Tools.Ends.{formats_of}
-use Rattle.jpg_cli.specs.Run.{Worked}
+use Rattle.jpg_cli.specs.Run.{IsMissing, Worked}
 use Rattle.jpg_cli.specs.declared.words.files.WordsStop.{WordsStop}
 use Rattle.jpg_cli.specs.declared.words.Asked.{Asked}
 use Rattle.jpg_cli.proofs.Comments.InsertedThen.{asked_inserted}
 use Rattle.jpg_cli.proofs.ByRow.ImageShown.{asked_shown}
 use Rattle.jpg_cli.proofs.Pieces.PictureTaken.{reads_none}
-use Rattle.jpg_cli.proofs.Outcomes.Running.{names_wanting}
+use Rattle.jpg_cli.proofs.Outcomes.Running.{names_wanting, worked_missing}
 use Rattle.jpg_cli.proofs.top.work.Goals as goal
 
 pub returns-in-Ok-Jpegtran : goal.returns-in-Ok-Jpegtran
@@ -54,7 +55,17 @@ returns-in-Err-NoMemory g c =
     let state = g.D.Desk.state in
     let s = state c.args.desk.now in
     let told = subst (λ (x : WordsStop). IsCommand (command_asked (map string_bytes c.args.words.now)) (Err x)) c.in-Err-NoMemory.field-0-is c.in-Err-NoMemory.ensures.asked in
-    record { worked = names_wanting (formats_of (map (λ e. (goal.ImageEnd-dyn g (e.vtable, e.value)).progress e.value) c.args.ends.items)) _ s told; kept = (reads_none s).copies.works }
+    let formats = formats_of (map (λ e. (goal.ImageEnd-dyn g (e.vtable, e.value)).progress e.value) c.args.ends.items) in
+    let there = subst (λ (o : Option Usage). IsMissing formats (command_asked (map string_bytes c.args.words.now)) o) c.in_default.is c.missing_end.ensures in
+    record { worked = names_wanting formats _ s there told; kept = (reads_none s).copies.works }
+
+pub returns-in-Some : goal.returns-in-Some
+returns-in-Some g c =
+    let s = g.D.Desk.state c.args.desk.now in
+    record {
+      worked = worked_missing (formats_of (map (λ e. (goal.ImageEnd-dyn g (e.vtable, e.value)).progress e.value) c.args.ends.items)) _ s c.in-Some.usage c.in-Some.ensures;
+      kept = (reads_none s).copies.works;
+    }
 
 pub returns : goal.returns
 returns g c =

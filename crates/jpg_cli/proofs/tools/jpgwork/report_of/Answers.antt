@@ -13,8 +13,8 @@ report_shown-requires-clause-header g c =
     let one : HasFile (first_picture n) (first_text n) c.in-Some.first = c.in-Some.ensures in
     let two = file_after turned_choice (first_picture n) (first_text n) c.output.result.now c.in-Some.first c.in-Some-turned_file.turned one c.output.ensures c.in-Some-turned_file.ensures in
     let three = file_after back_choice (turned_picture n) (turned_text n) c.output-2.result.now c.in-Some-turned_file.turned c.in-Some-turned_file-2.back two c.output-2.ensures c.in-Some-turned_file-2.ensures in
-    let four = shown_after (has_format kind.Pnm (formats_of (map (λ e. (goal.ImageEnd-dyn g (e.vtable, e.value)).progress e.value) c.args.ends.items))) (back_picture n) (back_text n) c.output-3.result.now c.in-Some-turned_file-2.back (Ok c.in-Ok.shown) three c.output-3.ensures c.in-Ok.ensures in
-    let image = output_is (image_text n) c.in-Ok.shown c.output-in-Ok-4.result.now four.1 c.output-in-Ok-4.ensures in
+    let four = shown_after (back_picture n) (back_text n) c.output-3.result.now c.in-Some-turned_file-2.back c.in-Some-shown_file.shown three c.output-3.ensures c.in-Some-shown_file.ensures in
+    let image = output_is (image_text n) c.in-Some-shown_file.shown c.output-in-Some-shown_file-4.result.now four c.output-in-Some-shown_file-4.ensures in
     subst (λ (t : List ℕ). length (pnm_header (work_info n)) ≤ length t) (sym image) (work_header n)
 
 pub returns : goal.returns
@@ -23,9 +23,9 @@ returns g c =
     let one : HasFile (first_picture n) (first_text n) c.in-Some.first = c.in-Some.ensures in
     let two = file_after turned_choice (first_picture n) (first_text n) c.output.result.now c.in-Some.first c.in-Some-turned_file.turned one c.output.ensures c.in-Some-turned_file.ensures in
     let three = file_after back_choice (turned_picture n) (turned_text n) c.output-2.result.now c.in-Some-turned_file.turned c.in-Some-turned_file-2.back two c.output-2.ensures c.in-Some-turned_file-2.ensures in
-    let four = shown_after (has_format kind.Pnm (formats_of (map (λ e. (goal.ImageEnd-dyn g (e.vtable, e.value)).progress e.value) c.args.ends.items))) (back_picture n) (back_text n) c.output-3.result.now c.in-Some-turned_file-2.back (Ok c.in-Ok.shown) three c.output-3.ensures c.in-Ok.ensures in
-    report_done (has_format kind.Pnm (formats_of (map (λ e. (goal.ImageEnd-dyn g (e.vtable, e.value)).progress e.value) c.args.ends.items))) n c.output-in-Ok.result.now c.output-in-Ok-2.result.now c.output-in-Ok-3.result.now c.output-in-Ok-4.result.now c.report_shown.result four.0
-    (output_is (first_text n) c.in-Some.first c.output-in-Ok.result.now one.output c.output-in-Ok.ensures)
-    (output_is (turned_text n) c.in-Some-turned_file.turned c.output-in-Ok-2.result.now two.output c.output-in-Ok-2.ensures)
-    (output_is (back_text n) c.in-Some-turned_file-2.back c.output-in-Ok-3.result.now three.output c.output-in-Ok-3.ensures)
-    (output_is (image_text n) c.in-Ok.shown c.output-in-Ok-4.result.now four.1 c.output-in-Ok-4.ensures) c.report_shown.ensures
+    let four = shown_after (back_picture n) (back_text n) c.output-3.result.now c.in-Some-turned_file-2.back c.in-Some-shown_file.shown three c.output-3.ensures c.in-Some-shown_file.ensures in
+    report_done n c.output-in-Some-shown_file.result.now c.output-in-Some-shown_file-2.result.now c.output-in-Some-shown_file-3.result.now c.output-in-Some-shown_file-4.result.now c.report_shown.result
+    (output_is (first_text n) c.in-Some.first c.output-in-Some-shown_file.result.now one.output c.output-in-Some-shown_file.ensures)
+    (output_is (turned_text n) c.in-Some-turned_file.turned c.output-in-Some-shown_file-2.result.now two.output c.output-in-Some-shown_file-2.ensures)
+    (output_is (back_text n) c.in-Some-turned_file-2.back c.output-in-Some-shown_file-3.result.now three.output c.output-in-Some-shown_file-3.ensures)
+    (output_is (image_text n) c.in-Some-shown_file.shown c.output-in-Some-shown_file-4.result.now four c.output-in-Some-shown_file-4.ensures) c.report_shown.ensures

@@ -7,9 +7,10 @@ loop-why-init g c =
     let s = g.D.Desk.state c.args.desk.now in
     record {
       kept = copies_none s;
-      read = ([], [], c.new-comments.ensures.read, record { most = omega arith; read = none_read s.left; written = none_written s.outputs });
+      read = ([], [], c.requires.read, record { most = omega arith; read = none_read s.left; written = none_written s.outputs });
       opened = c.requires.open;
-      limits = c.new-comments.ensures.limits ∙ c.standard.ensures;
+      limits = c.requires.limits;
+      ready = c.requires.ready;
       empty = c.new-out.ensures;
       room = refl;
     }

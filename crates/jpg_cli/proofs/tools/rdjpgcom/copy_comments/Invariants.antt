@@ -14,6 +14,7 @@ invariant-loop-why g l =
       read : (bytes : List ℕ) × (text : List ℕ) × HasRead bytes text l.comments × HasCopied (state l.initial.desk) bytes text (state l.desk);
       opened : (state l.desk).input_open ≡ true;
       limits : l.comments.limits ≡ standard_limits;
+      ready : l.comments.ready ≡ true;
       empty : l.out ≡ [];
       room : length l.buffer ≡ 65536;
     }
