@@ -1,4 +1,4 @@
-use Rattle.std.proofs.Common.{map, subst, sym, Option, Ok, Err}
+use Rattle.std.proofs.Common.{map, subst, sym, Option, Some, Ok, Err}
 use Rattle.std.specs.Prelude.{string_bytes}
 use Rattle.jpg_spec_words.specs.Requests.{ParsedWords}
 use Rattle.jpg_spec_words.specs.declared.answers.Usage.{Usage}
@@ -56,14 +56,16 @@ returns-in-Err-NoMemory g c =
     let s = state c.args.desk.now in
     let told = subst (λ (x : WordsStop). IsCommand (command_asked (map string_bytes c.args.words.now)) (Err x)) c.in-Err-NoMemory.field-0-is c.in-Err-NoMemory.ensures.asked in
     let formats = formats_of (map (λ e. (goal.ImageEnd-dyn g (e.vtable, e.value)).progress e.value) c.args.ends.items) in
-    let there = subst (λ (o : Option Usage). IsMissing formats (command_asked (map string_bytes c.args.words.now)) o) c.in_default.is c.missing_end.ensures in
+    let there = subst (λ (o : Option Usage). IsMissing formats (command_asked (map string_bytes c.args.words.now)) o) c.in_default.is
+    (subst (λ l. IsMissing (formats_of (map (λ e. (goal.ImageEnd-dyn g (e.vtable, e.value)).progress e.value) l)) (command_asked (map string_bytes c.args.words.now)) c.missing_end.result) c.deref.ensures.value c.missing_end.ensures) in
     record { worked = names_wanting formats _ s there told; kept = (reads_none s).copies.works }
 
 pub returns-in-Some : goal.returns-in-Some
 returns-in-Some g c =
     let s = g.D.Desk.state c.args.desk.now in
     record {
-      worked = worked_missing (formats_of (map (λ e. (goal.ImageEnd-dyn g (e.vtable, e.value)).progress e.value) c.args.ends.items)) _ s c.in-Some.usage c.in-Some.ensures;
+      worked = worked_missing (formats_of (map (λ e. (goal.ImageEnd-dyn g (e.vtable, e.value)).progress e.value) c.args.ends.items)) _ s c.in-Some.usage
+      (subst (λ l. IsMissing (formats_of (map (λ e. (goal.ImageEnd-dyn g (e.vtable, e.value)).progress e.value) l)) (command_asked (map string_bytes c.args.words.now)) (Some c.in-Some.usage)) c.deref.ensures.value c.in-Some.ensures);
       kept = (reads_none s).copies.works;
     }
 
