@@ -1,4 +1,3 @@
-pub mod WordsAsked
 pub mod Messages
 pub mod Outcomes
 pub mod Pieces

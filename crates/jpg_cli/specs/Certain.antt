@@ -18,7 +18,7 @@ use Rattle.jpg_cli.specs.Tools.CommentInserted.{Task}
 use Rattle.jpg_cli.specs.Desk.ReadFront.{FrontMeansAs, IsFrontRefused}
 use Rattle.jpg_cli.specs.Desk.ReadPicture.{IsRefusedFor, Coefficients, Image}
 use Rattle.jpg_cli.specs.Tools.Showing.{Showing}
-use Rattle.jpg_cli.specs.Commands.{name_of}
+use Rattle.jpg_words.specs.Commands.{name_of}
 use Rattle.jpg_spec_words.specs.CommentWords.{CommentSource, from_input, from_words, from_file}
 use Rattle.jpg_spec.specs.declared.fault.FaultAt.{FaultAt}
 use Rattle.jpg_spec_words.specs.declared.answers.Why.{Why}

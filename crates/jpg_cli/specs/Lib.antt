@@ -1,5 +1,4 @@
 pub mod Certain
-pub mod Commands
 pub mod Copies
 pub mod Desk
 pub mod Due
@@ -11,4 +10,3 @@ pub mod OutputEnding
 pub mod Run
 pub mod Stays
 pub mod Tools
-pub mod Words

@@ -13,7 +13,7 @@ use Rattle.jpg_spec_words.specs.declared.answers.UsageFault.TheVariants.{NoEnd}
 use Rattle.jpg_spec_image.specs.declared.image.EndKind.{EndKind}
 use Rattle.jpg_spec_image.specs.declared.image.EndKind.TheVariants.{Pnm}
 use Rattle.jpg_spec_words.specs.Words.{tool_of}
-use Rattle.jpg_cli.specs.Commands.{Command, transform_picture, show_picture, encode_image, print_comments, insert_comment, do_work, command_asked, name_of}
+use Rattle.jpg_words.specs.Commands.{Command, transform_picture, show_picture, encode_image, print_comments, insert_comment, do_work, command_asked, name_of}
 use Rattle.jpg_cli.specs.Tools.CommentInserted.{Inserted, Task}
 use Rattle.jpg_cli.specs.Tools.ImageEncoded.{EncodedAsAsked}
 use Rattle.jpg_cli.specs.Tools.ReadComments.{PrintedOrNot}

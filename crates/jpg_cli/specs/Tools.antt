@@ -1,4 +1,5 @@
 pub mod CommentInserted
+pub mod EncodingAsked
 pub mod Ends
 pub mod FrontShown
 pub mod ImageEncoded

@@ -1,11 +1,8 @@
 //! What is said after the message that a file couldn't be opened or read: its name and, as far as the system says when it
 //! is asked again, the reason. It is only said: no contract of `run` speaks of it.
-use crate::words::comments::CommentFrom;
-use crate::words::files::Files;
-use crate::words::jpegtran::ScriptFrom;
-use crate::words::{Asked, read_words, tool_name};
 use jpg_base::{Name, Text};
 use jpg_spec_words::{Which, Why};
+use jpg_words::{Asked, CommentFrom, Files, ScriptFrom, read_words, tool_name};
 use std::alloc::Global;
 use std::fs;
 use std::fs::OpenOptions;

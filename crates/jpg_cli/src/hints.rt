@@ -1,8 +1,8 @@
 //! What is said after the message for wrong words. It is only said: no contract of `run` speaks of it.
-use crate::words::tool_name;
 use jpg_base::{Desk, Put};
 use jpg_hints::hint_for;
 use jpg_spec_words::Usage;
+use jpg_words::tool_name;
 use std::alloc::Global;
 
 // Says a part of a line; if that fails, nothing comes of it.

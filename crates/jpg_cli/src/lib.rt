@@ -11,10 +11,13 @@ mod message;
 mod program;
 mod tools;
 mod top;
-mod words;
 
 pub use desk::moved::{Wrote, write_moved};
 pub use ending::{Ending, incomplete_outputs_are_removed};
+pub use jpg_words::{
+    Asked, CommentFrom, EncodeWords, Files, ScriptFrom, ShowWords, TransformWords, WordsStop,
+    WriteWords, read_words,
+};
 pub use laws::{
     answers_are_due, encodings_are_due, faults_are_answered,
     files_with_a_frame_header_have_the_comment_inserted, fronts_are_shown,
@@ -24,10 +27,3 @@ pub use laws::{
 };
 pub use program::{add_end, run_program};
 pub use top::{Ended, run};
-pub use words::cjpeg_request::EncodeWords;
-pub use words::comments::{CommentFrom, WriteWords};
-pub use words::djpeg_request::ShowWords;
-pub use words::files::{Files, WordsStop};
-pub use words::jpegtran::ScriptFrom;
-pub use words::jpegtran_request::TransformWords;
-pub use words::{Asked, read_words};

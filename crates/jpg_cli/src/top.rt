@@ -3,7 +3,7 @@ ghost use Rattle.std.specs.Prelude.{◌≤◌, length, map, string_bytes};
 ghost use Rattle.jpg_spec_words.specs.Messages.{message};
 ghost use Rattle.jpg_cli.specs.Tools.Ends.{AreNewEnds, formats_of};
 ghost use Rattle.jpg_cli.specs.Stays.{OnlySays};
-ghost use Rattle.jpg_cli.specs.Commands.{command_asked};
+ghost use Rattle.jpg_words.specs.Commands.{command_asked};
 ghost use Rattle.jpg_cli.specs.Run.{IsMissing, Ran, Works, SaysText};
 
 use crate::message::message_of;
@@ -13,11 +13,10 @@ use crate::tools::jpegtran::transform;
 use crate::tools::jpgwork::do_work;
 use crate::tools::rdjpgcom::print_comments;
 use crate::tools::wrjpgcom::insert_comment;
-use crate::words::files::WordsStop;
-use crate::words::{Asked, format_asked, read_words, tool_name};
 use jpg_base::{Desk, Put};
 use jpg_pnm_bmp::ImageEnd;
 use jpg_spec_words::{Usage, UsageFault, Why};
+use jpg_words::{Asked, WordsStop, format_asked, read_words, tool_name};
 use std::alloc::Global;
 
 /// How a command ended: its exit status, and why.

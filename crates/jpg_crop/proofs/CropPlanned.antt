@@ -14,7 +14,7 @@ use Rattle.jpg_spec_write.specs.declared.picture_fault.PictureFault.{PictureFaul
 use Rattle.jpg_spec_write.specs.declared.picture_fault.PictureFault.TheVariants.{CropOutside}
 use Rattle.jpg_spec_move.proofs.CroppedScripts.{due_same, judged_last}
 use Rattle.jpg_file.specs.Read.PictureRead.{picture_meaning}
-use Rattle.jpg_file.specs.Write.Restarts.{restart_of}
+use Rattle.jpg_scans.specs.Restarts.{restart_of}
 use Rattle.jpg_file.specs.declared.read.picture.Picture.{Picture}
 use Rattle.jpg_file.specs.declared.write.Plan.{Plan}
 use Rattle.jpg_transform.specs.Planned.{IsJobFor, IsPlanFor, process_in}

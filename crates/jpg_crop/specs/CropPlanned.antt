@@ -1,6 +1,6 @@
 -- HOW A CROPPED PICTURE IS WRITTEN (the manual of libjpeg-turbo's jpegtran, `-crop`): the area that is asked for, and the
 -- plan for a picture that is transformed by a choice and cropped to it.
-use Rattle.std.specs.Prelude.{◌≡◌, ◌*◌, ◌≤◌, true, Result, Ok, Err, Some}
+use Rattle.std.specs.Prelude.{◌≡◌, ◌*◌, true, Result, Ok, Err, Some}
 use Rattle.jpg_spec.specs.Geometry.{Frame, h_max, v_max}
 use Rattle.jpg_spec_move.specs.Cropped.{cropped_frame, is_area_of, on_grid}
 use Rattle.jpg_spec_move.specs.Moved.{Choice, picture_fault}
@@ -11,15 +11,6 @@ use Rattle.jpg_file.specs.declared.read.picture.Picture.{Picture}
 use Rattle.jpg_transform.specs.Planned.{IsJobFor, IsPlanFor}
 use Rattle.jpg_transform.specs.declared.choice.Job.{Job}
 use Rattle.jpg_crop.specs.declared.planning.CropJob.{CropJob}
-
--- An area that may be asked for: it has samples, and its numbers have at most five digits.
-pub record IsArea (area : Area) : Type 0 where
-  pub wide : 1 ≤ area.w
-  pub high : 1 ≤ area.h
-  pub w : area.w ≤ 99999
-  pub h : area.h ≤ 99999
-  pub x : area.x ≤ 99999
-  pub y : area.y ≤ 99999
 
 -- the choice with an area to crop to
 abbrev pub with_area : Area → Choice → Choice

@@ -5,7 +5,8 @@ ghost use Rattle.jpg_spec_move.specs.Cropped.{cropped_frame, cropped_side, is_ar
 ghost use Rattle.jpg_spec_move.specs.Moved.{Choice};
 ghost use Rattle.jpg_spec_write.specs.declared.picture_fault.PictureFault.TheVariants.{CropOutside};
 ghost use Rattle.jpg_transform.specs.Planned.{IsJobFor};
-ghost use Rattle.jpg_crop.specs.CropPlanned.{IsArea, IsCropPlan};
+ghost use Rattle.jpg_spec_move.specs.Cropped.{IsArea};
+ghost use Rattle.jpg_crop.specs.CropPlanned.{IsCropPlan};
 
 use jpg_base::{Frame, QuantTable};
 use jpg_file::{Picture, Plan};

@@ -10,7 +10,7 @@ pub use jpg_base::{
 };
 pub use jpg_coefs::{BlockOrder, BlockView, Coefs};
 pub use jpg_markers::{Jfif, Kept, KeptList, KeptRest, OutHead};
-pub use jpg_scans::Script;
+pub use jpg_scans::{Restart, Script};
 pub use laws::{no_file_is_left_out, rows_are_due_in_order};
 pub use read::ends::End;
 pub use read::file::FileWork;
@@ -32,5 +32,4 @@ pub use read::segment_state::{SegmentState, SegmentTaken, lacks_table};
 pub use read::step::Step;
 pub use read::strip_head::StripHead;
 pub use read::strip_work::StripWork;
-pub use write::restart::Restart;
 pub use write::{Plan, write_file};

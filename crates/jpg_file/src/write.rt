@@ -11,14 +11,13 @@ mod scan;
 mod sets;
 mod tables;
 
-use crate::write::restart::Restart;
 use crate::write::scan::{Given, write_scan};
 use jpg_base::codes::EOI;
 use jpg_base::{Desk, WriteFault};
 use jpg_coefs::BlockView;
 use jpg_huff::BitOut;
 use jpg_markers::{KeptList, OutHead, file_head};
-use jpg_scans::Script;
+use jpg_scans::{Restart, Script};
 use jpg_spec_write::Huffman;
 
 /// How a file is written.

@@ -1,7 +1,7 @@
 -- A PICTURE CROPPED to an area (the manual of libjpeg-turbo's jpegtran, `-crop`). The upper left corner of the area moves
 -- left and up to the grid of iMCUs (T.81, A.2), its lower right corner stays, and the blocks of the iMCUs to the left of
 -- it and above it are left out.
-use Rattle.std.specs.Prelude.{ℕ, ◌+◌, ◌-◌, ◌*◌, ◌/◌, Bool, nat_lt, nat_le, ◌&&◌, if◌then◌else◌, Option, None, Some}
+use Rattle.std.specs.Prelude.{ℕ, ◌+◌, ◌-◌, ◌*◌, ◌/◌, ◌≤◌, Bool, nat_lt, nat_le, ◌&&◌, if◌then◌else◌, Option, None, Some}
 use Rattle.jpg_spec.specs.Geometry.{Frame, component_at, h_max, v_max}
 use Rattle.jpg_spec.specs.Meaning.{Meaning, component_of, most_across, most_down, real_alone}
 use Rattle.jpg_spec_move.specs.declared.area.Area.{Area}
@@ -68,3 +68,12 @@ columns_cropped area f i = (area.x / (8 * h_max f)) * (component_at f i).h
 
 abbrev pub rows_cropped : Area → Frame → ℕ → ℕ
 rows_cropped area f i = (area.y / (8 * v_max f)) * (component_at f i).v
+
+-- An area that may be asked for: it has samples, and its numbers have at most five digits.
+pub record IsArea (area : Area) : Type 0 where
+  pub wide : 1 ≤ area.w
+  pub high : 1 ≤ area.h
+  pub w : area.w ≤ 99999
+  pub h : area.h ≤ 99999
+  pub x : area.x ≤ 99999
+  pub y : area.y ≤ 99999

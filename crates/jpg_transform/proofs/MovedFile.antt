@@ -48,7 +48,7 @@ use Rattle.jpg_transform.specs.Planned.{IsOutHeadOf, IsPlanFor, process_in, proc
 use Rattle.jpg_transform.proofs.MovedBlocks.{moved_bounded, moved_real}
 use Rattle.jpg_transform.proofs.MovedHead.{unheaded, numbers_with, moved_components, moved_count, meaning_numbers, precision_stays, kept_stays, frame_precision_stays}
 use Rattle.jpg_transform.proofs.MovedScript.{moved_colour_is, out_colour, script_none, script_same, out_precision}
-use Rattle.jpg_file.specs.Write.Restarts.{restart_of}
+use Rattle.jpg_scans.specs.Restarts.{restart_of}
 use Rattle.jpg_file.specs.Write.WriteFile.{CanWriteFile, does_pass, file_bytes, file_meaning}
 use Rattle.jpg_file.specs.declared.write.Plan.{Plan}
 use Rattle.jpg_spec_write.proofs.FrameCodes.{either_sequential}

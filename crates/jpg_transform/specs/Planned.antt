@@ -17,7 +17,7 @@ use Rattle.jpg_spec.specs.declared.frame.Process.TheVariants.{Baseline, Extended
 use Rattle.jpg_spec_write.specs.declared.picture_fault.PictureFault.{PictureFault}
 use Rattle.jpg_markers.specs.declared.writing.head.OutHead.{OutHead}
 use Rattle.jpg_file.specs.Read.PictureRead.{picture_meaning}
-use Rattle.jpg_file.specs.Write.Restarts.{restart_of}
+use Rattle.jpg_scans.specs.Restarts.{restart_of}
 use Rattle.jpg_file.specs.declared.read.picture.Picture.{Picture}
 use Rattle.jpg_file.specs.declared.write.Plan.{Plan}
 use Rattle.jpg_transform.specs.declared.choice.Choice.{Choice as Asked}

@@ -5,7 +5,7 @@ ghost use Rattle.jpg_spec_move.specs.Moved.{gray_fault, is_gray_or_ycbcr};
 ghost use Rattle.jpg_spec_write.specs.ScansAsked.{script_due};
 ghost use Rattle.jpg_spec_write.specs.WrittenFile.{IsRestart};
 ghost use Rattle.jpg_file.specs.Read.PictureRead.{picture_meaning};
-ghost use Rattle.jpg_file.specs.Write.Restarts.{restart_of};
+ghost use Rattle.jpg_scans.specs.Restarts.{restart_of};
 ghost use Rattle.jpg_transform.specs.Planned.{IsOutHeadOf, IsPlan, choice_view, is_first_greatest, moved_tables, process_in, process_of, scans_view};
 
 use crate::frames::moved_frame;

@@ -17,10 +17,10 @@ use Rattle.jpg_cli.specs.Tools.InsertComment.{IsAtHead, IsFaultBefore, IsNoHead,
 use Rattle.jpg_cli.specs.Copies.{Copies}
 use Rattle.jpg_cli.specs.Endings.{Copied}
 use Rattle.jpg_cli.specs.Tools.CommentInserted.{EndsBeforeOutput, EndsWithOutput, Inserted, IsComment, IsCommentRead, IsInsertDue, IsShortComment, ReadsAlone, ReadsComment, ReadsInput, ReadsLast, Task, names_of, names_to_input, names_to_output, task_view}
-use Rattle.jpg_cli.specs.Words.CommentWords.{comment_view, write_words_view}
-use Rattle.jpg_cli.specs.Words.Files.{name_view}
-use Rattle.jpg_cli.specs.declared.words.comments.WriteWords.{WriteWords}
-use Rattle.jpg_cli.specs.Commands.{name_of}
+use Rattle.jpg_words.specs.CommentWords.{comment_view, write_words_view}
+use Rattle.jpg_words.specs.Files.{name_view}
+use Rattle.jpg_words.specs.declared.comments.WriteWords.{WriteWords}
+use Rattle.jpg_words.specs.Commands.{name_of}
 use Rattle.jpg_cli.specs.Due.{NoneRose}
 use Rattle.jpg_cli.specs.Run.{task_of}
 use Rattle.jpg_cli.proofs.Outcomes.Endings.{bytes_then, copied_then, stopped_then, unopened_then, unread_then}

@@ -17,7 +17,7 @@ use Rattle.jpg_pnm_bmp.specs.Made.{IsRightImage}
 use Rattle.jpg_pnm_bmp.specs.PlainSamples.{AreRightNumbers, HasFedSamples}
 use Rattle.jpg_pnm_bmp.proofs.PlainSamples.{goes_on_plain}
 use Rattle.jpg_cli.specs.Desk.ImageWritten.{why_not_encoded}
-use Rattle.jpg_cli.specs.Words.EncodeWords.{CanEncodeKind}
+use Rattle.jpg_cli.specs.Tools.EncodingAsked.{CanEncodeKind}
 use Rattle.jpg_color.specs.declared.encode.Encoding.{Encoding as Asked}
 use Rattle.jpg_color.specs.declared.encode.sampler.Sampler.{Sampler}
 use Rattle.jpg_color.specs.declared.encode.view.EncodedImage.{EncodedImage}

@@ -28,7 +28,7 @@ use Rattle.jpg_spec_write.proofs.ScriptGrids.{same_script_fault}
 use Rattle.jpg_spec_words.proofs.EncodedKept.{stays}
 use Rattle.jpg_scans.specs.Judged.{judged}
 use Rattle.jpg_markers.specs.OutHead.{with_tables}
-use Rattle.jpg_file.specs.Write.Restarts.{restart_of}
+use Rattle.jpg_scans.specs.Restarts.{restart_of}
 use Rattle.jpg_file.specs.Write.WriteFile.{CanWriteFile, does_pass, file_bytes, file_meaning}
 use Rattle.jpg_file.specs.declared.write.Plan.{Plan}
 use Rattle.jpg_color.specs.EncodeView.{view_blocks, view_meaning}
@@ -41,7 +41,7 @@ use Rattle.jpg_cli.specs.Desk.ImageWritten.{AfterEncoding, IsAskedBy, IsPlanOf}
 use Rattle.jpg_cli.specs.Desk.Writing.{AfterMade, AfterOutput, why_wrote}
 use Rattle.jpg_cli.specs.declared.desk.moved.Wrote.{Wrote}
 use Rattle.jpg_cli.specs.declared.desk.moved.Wrote.TheVariants as wrote
-use Rattle.jpg_cli.specs.declared.words.cjpeg_request.EncodeWords.{EncodeWords}
+use Rattle.jpg_words.specs.declared.cjpeg_request.EncodeWords.{EncodeWords}
 
 -- THE HEAD: its markers are those of the image's picture, though none is passed on
 

@@ -15,7 +15,7 @@ use Rattle.jpg_spec_image.specs.Images.{Image}
 use Rattle.jpg_spec_write.specs.ScansAsked.{Scans}
 use Rattle.jpg_spec_move.specs.Moved.{Choice, as_it_is, moved_text, picture_fault}
 use Rattle.jpg_file.specs.Read.PictureRead.{picture_meaning}
-use Rattle.jpg_file.specs.Write.Restarts.{restart_of}
+use Rattle.jpg_scans.specs.Restarts.{restart_of}
 use Rattle.jpg_file.specs.declared.read.picture.Picture.{Picture}
 use Rattle.jpg_spec_words.specs.declared.answers.Which.TheVariants as which
 use Rattle.jpg_color.specs.EncodeView.{view_meaning}
@@ -35,9 +35,9 @@ use Rattle.jpg_color.specs.declared.encode.EncodeStop.{EncodeStop}
 use Rattle.jpg_color.specs.declared.encode.EncodeStop.TheVariants as stop
 use Rattle.jpg_pnm_bmp.specs.Made.{IsRightImage}
 use Rattle.jpg_pnm_bmp.specs.declared.read.pixels.Image.{Image as Read}
-use Rattle.jpg_cli.specs.Commands.{name_of}
-use Rattle.jpg_cli.specs.Words.EncodeWords.{encode_view}
-use Rattle.jpg_cli.specs.declared.words.cjpeg_request.EncodeWords.{EncodeWords}
+use Rattle.jpg_words.specs.Commands.{name_of}
+use Rattle.jpg_words.specs.EncodeWords.{encode_view}
+use Rattle.jpg_words.specs.declared.cjpeg_request.EncodeWords.{EncodeWords}
 use Rattle.jpg_cli.specs.Endings.{Asks, GoesOnAfter}
 use Rattle.jpg_cli.specs.Outcome.{Converted}
 use Rattle.jpg_cli.specs.Tools.ImageEncoded.{Encoded, EncodedAfter, EncodedAsAsked, EncodedBy, EncodeTask, encoding_conversion, task_after}

@@ -46,7 +46,7 @@ use Rattle.jpg_cli.specs.Tools.Showing.{Showing, Shown, showing_view}
 use Rattle.jpg_cli.specs.Tools.Turned.{Transformed, Turned, Turning}
 use Rattle.jpg_cli.specs.Tools.Worked.{DidWork, HasFile, HasImage, HasOutput, HoldsInput, ReportsShown, no_end, ShowsFile, TurnsFile, WritesReport, work_choice, work_conversion, scans_by}
 use Rattle.jpg_cli.proofs.Comments.CommentInserted.{none_noted}
-use Rattle.jpg_cli.specs.declared.words.djpeg_request.ShowWords.{ShowWords}
+use Rattle.jpg_words.specs.declared.djpeg_request.ShowWords.{ShowWords}
 use Rattle.jpg_cli.proofs.Outcomes.Due.{one_file}
 use Rattle.jpg_cli.proofs.Outcomes.Judged.{picture_judged}
 use Rattle.jpg_cli.proofs.Outcomes.Input.{some_inj}

@@ -20,7 +20,7 @@ use Rattle.jpg_cli.specs.Tools.CommentInserted.{HasInputFault, HasLongComment, I
 use Rattle.jpg_cli.specs.Tools.ReadComments.{IsPrintDue, Printed}
 use Rattle.jpg_cli.specs.Laws.{MeanSame, WasTurnedBack, text_back}
 use Rattle.jpg_cli.specs.Due.{NoneRose}
-use Rattle.jpg_cli.specs.Commands.{name_of}
+use Rattle.jpg_words.specs.Commands.{name_of}
 use Rattle.jpg_cli.specs.Tools.FrontShown.{FrontShown, front_conversion}
 use Rattle.jpg_cli.specs.Tools.Showing.{Showing, Shown, showing_conversion}
 use Rattle.jpg_cli.specs.Tools.Turned.{Transformed, turning_conversion, turning_of}

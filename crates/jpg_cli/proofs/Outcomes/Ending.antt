@@ -9,7 +9,7 @@ use Rattle.jpg_spec_image.specs.declared.image.EndKind.{EndKind}
 use Rattle.jpg_spec_image.specs.declared.image.EndKind.TheVariants.{Pnm}
 use Rattle.jpg_spec_words.specs.Words.{tool_of}
 use Rattle.jpg_spec_words.specs.Requests.{ParsedWords, words_right, words_wrong}
-use Rattle.jpg_cli.specs.Commands.{encode_image, Command, transform_picture, show_picture, print_comments, insert_comment, do_work, command_asked, name_of}
+use Rattle.jpg_words.specs.Commands.{encode_image, Command, transform_picture, show_picture, print_comments, insert_comment, do_work, command_asked, name_of}
 use Rattle.jpg_cli.proofs.Comments.CommentsPrinted.{printed_then}
 use Rattle.jpg_cli.proofs.Comments.InsertedThen.{inserted_then}
 use Rattle.jpg_spec_words.specs.TransformWords.{TransformAsked}

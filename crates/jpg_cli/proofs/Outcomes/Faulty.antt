@@ -11,7 +11,7 @@ use Rattle.jpg_spec_words.specs.declared.answers.Why.{Why}
 use Rattle.jpg_spec_words.specs.declared.answers.Why.TheVariants as why
 use Rattle.jpg_spec_write.specs.declared.picture_fault.PictureFault.{PictureFault}
 use Rattle.jpg_cli.specs.Certain.{HasFaultyFront, HasFaultyImage, HasFaultyInput, HasFaultyPicture, HasFaultyScript, IsOrNoMemory}
-use Rattle.jpg_cli.specs.Commands.{name_of}
+use Rattle.jpg_words.specs.Commands.{name_of}
 use Rattle.jpg_cli.specs.Due.{NoneRose, TellsFiles}
 use Rattle.jpg_cli.specs.Tools.FrontShown.{FrontShown}
 use Rattle.jpg_cli.specs.Tools.Showing.{Showing, Shown}

@@ -6,7 +6,7 @@ use Rattle.jpg_spec.specs.declared.fault.FaultAt.{FaultAt}
 use Rattle.jpg_spec_words.specs.declared.answers.Why.{Why}
 use Rattle.jpg_spec_words.specs.declared.answers.Why.TheVariants as why
 use Rattle.jpg_spec.specs.Meaning.{Meaning}
-use Rattle.jpg_cli.specs.Commands.{name_of}
+use Rattle.jpg_words.specs.Commands.{name_of}
 use Rattle.jpg_cli.specs.Certain.{HasFile, HasSomeMeaning, IsNotRefused, IsTold}
 use Rattle.jpg_cli.specs.Laws.{MeanShown, WasRefused, WasRefusedShown}
 use Rattle.jpg_cli.specs.Desk.ReadPicture.{IsRefused, IsRefusedFor, Coefficients, Image}

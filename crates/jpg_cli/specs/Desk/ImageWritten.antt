@@ -17,15 +17,15 @@ use Rattle.jpg_spec.specs.declared.frame.Copying.TheVariants as copying
 use Rattle.jpg_spec_write.specs.Script.{Entry}
 use Rattle.jpg_file.specs.Read.PictureRead.{MeansFor}
 use Rattle.jpg_file.specs.declared.write.Plan.{Plan}
-use Rattle.jpg_file.specs.Write.Restarts.{restart_of}
+use Rattle.jpg_scans.specs.Restarts.{restart_of}
 use Rattle.jpg_color.specs.Encode.{image_view}
 use Rattle.jpg_pnm_bmp.specs.declared.read.pixels.Image.{Image as Read}
 use Rattle.jpg_file.specs.declared.read.picture.Picture.{Picture}
 use Rattle.jpg_color.specs.declared.encode.view.EncodedImage.{EncodedImage}
 use Rattle.jpg_color.specs.declared.encode.EncodeStop.{EncodeStop}
 use Rattle.jpg_color.specs.declared.encode.EncodeStop.TheVariants as stop
-use Rattle.jpg_cli.specs.Words.EncodeWords.{asked_of}
-use Rattle.jpg_cli.specs.declared.words.cjpeg_request.EncodeWords.{EncodeWords}
+use Rattle.jpg_cli.specs.Tools.EncodingAsked.{asked_of}
+use Rattle.jpg_words.specs.declared.cjpeg_request.EncodeWords.{EncodeWords}
 use Rattle.jpg_cli.specs.Stays.{Untouched}
 use Rattle.jpg_cli.specs.Desk.EncodedRead.{IsEncodedImage}
 use Rattle.jpg_cli.specs.Desk.Writing.{AfterMade, IsMeant, MeansMoved, why_wrote}

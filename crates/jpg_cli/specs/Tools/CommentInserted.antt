@@ -16,8 +16,8 @@ use Rattle.jpg_spec_words.specs.declared.answers.Why.TheVariants as why
 use Rattle.jpg_spec_words.specs.declared.answers.Which.TheVariants as which
 use Rattle.jpg_comments.specs.WriteInserted.{insert_limits, is_replacing, HasInserted}
 use Rattle.jpg_comments.specs.declared.insert.Insert.{Insert}
-use Rattle.jpg_cli.specs.Words.CommentWords.{comment_view}
-use Rattle.jpg_cli.specs.declared.words.comments.WriteWords.{WriteWords}
+use Rattle.jpg_words.specs.CommentWords.{comment_view}
+use Rattle.jpg_words.specs.declared.comments.WriteWords.{WriteWords}
 use Rattle.jpg_cli.specs.Tools.InsertComment.{AfterFed, IsAtHead, IsBeforeHead, IsFaultBefore, IsNoHead, IsInsertedWhole, inserted_texts}
 use Rattle.jpg_cli.specs.Copies.{Copies}
 use Rattle.jpg_cli.specs.Endings.{Asks, Copied, Stopped, Unopened, Unread}

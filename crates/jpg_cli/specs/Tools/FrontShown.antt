@@ -5,7 +5,7 @@ use Rattle.jpg_spec.specs.Meaning.{Meaning}
 use Rattle.jpg_spec_words.specs.declared.answers.Why.{Why}
 use Rattle.jpg_spec_words.specs.declared.answers.Why.TheVariants as why
 use Rattle.jpg_spec_words.specs.declared.answers.UsageFault.TheVariants.{NoEnd}
-use Rattle.jpg_cli.specs.declared.words.djpeg_request.ShowWords.{ShowWords}
+use Rattle.jpg_words.specs.declared.djpeg_request.ShowWords.{ShowWords}
 use Rattle.jpg_cli.specs.Desk.ReadFront.{front_judging}
 use Rattle.jpg_cli.specs.Outcome.{Conversion, Converted, drawn}
 use Rattle.jpg_cli.specs.Tools.Showing.{Showing, Shown, showing_conversion, showing_view}

@@ -10,7 +10,7 @@ use Rattle.jpg_spec_write.specs.ScansAsked.{Scans}
 use Rattle.jpg_spec.specs.Segments.{QuantTable, standard_limits}
 use Rattle.jpg_spec_words.specs.declared.answers.Why.{Why}
 use Rattle.jpg_spec_words.specs.declared.answers.Why.TheVariants as why
-use Rattle.jpg_cli.specs.Commands.{name_of}
+use Rattle.jpg_words.specs.Commands.{name_of}
 use Rattle.jpg_cli.specs.Endings.{GoesOnAfter}
 use Rattle.jpg_cli.specs.Desk.ReadImage.{image_judging}
 use Rattle.jpg_cli.specs.Outcome.{Conversion, Converted, at_end}

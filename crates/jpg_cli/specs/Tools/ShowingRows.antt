@@ -46,7 +46,7 @@ use Rattle.jpg_cli.specs.declared.tools.djpeg.FirstStep.{FirstStep}
 use Rattle.jpg_cli.specs.declared.tools.djpeg.FirstStep.TheVariants as first
 use Rattle.jpg_cli.specs.declared.tools.djpeg_rows.RowsStep.{RowsStep}
 use Rattle.jpg_cli.specs.declared.tools.djpeg_rows.RowsStep.TheVariants as step
-use Rattle.jpg_cli.specs.declared.words.djpeg_request.ShowWords.{ShowWords}
+use Rattle.jpg_words.specs.declared.djpeg_request.ShowWords.{ShowWords}
 
 -- UP TO THE FIRST SCAN
 

@@ -12,8 +12,8 @@ use Rattle.jpg_spec_words.specs.declared.answers.Why.{Why}
 use Rattle.jpg_spec_words.specs.declared.answers.Why.TheVariants as why
 use Rattle.jpg_transform.specs.Planned.{choice_view}
 use Rattle.jpg_transform.specs.declared.choice.Choice.{Choice as Asked}
-use Rattle.jpg_cli.specs.declared.words.files.Files.{Files}
-use Rattle.jpg_cli.specs.Commands.{name_of}
+use Rattle.jpg_words.specs.declared.files.Files.{Files}
+use Rattle.jpg_words.specs.Commands.{name_of}
 use Rattle.jpg_cli.specs.Desk.ReadPicture.{picture_judging, Coefficients}
 use Rattle.jpg_cli.specs.Desk.ScriptTaken.{HasScans, StopsAtScans, names_before}
 use Rattle.jpg_cli.specs.Desk.Writing.{MeansUpright, in_area}

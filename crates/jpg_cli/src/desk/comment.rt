@@ -2,14 +2,14 @@
 ghost use Rattle.std.specs.Prelude.{◌≡◌, MatchResult};
 ghost use Rattle.jpg_spec_words.specs.declared.answers.Why.TheVariants.{NoMemory as wants_memory};
 ghost use Rattle.jpg_cli.specs.Desk.CommentTaken.{AfterComment};
-ghost use Rattle.jpg_cli.specs.Words.CommentWords.{comment_view};
+ghost use Rattle.jpg_words.specs.CommentWords.{comment_view};
 ghost use Rattle.jpg_cli.specs.Stays.{Keeps};
 
 use crate::desk::file::take_file;
-use crate::words::comments::CommentFrom;
 use jpg_base::{Bytes, Desk, Name, Text};
 use jpg_comments::LONGEST_COMMENT;
 use jpg_spec_words::{Which, Why};
+use jpg_words::CommentFrom;
 use std::alloc::Global;
 
 // One byte more than a comment may have.

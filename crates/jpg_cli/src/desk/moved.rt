@@ -3,7 +3,7 @@ ghost use Rattle.std.specs.Prelude.{◌≡◌, IfSome};
 ghost use Rattle.jpg_base.specs.Desk.{Creates};
 ghost use Rattle.jpg_file.specs.Write.WriteFile.{CanWriteFile, file_bytes};
 ghost use Rattle.jpg_transform.specs.Planned.{choice_view};
-ghost use Rattle.jpg_crop.specs.CropPlanned.{IsArea};
+ghost use Rattle.jpg_spec_move.specs.Cropped.{IsArea};
 ghost use Rattle.jpg_cli.specs.Stays.{OnlyWorks};
 ghost use Rattle.jpg_cli.specs.Desk.Writing.{AfterOutput, WritesMoved, WritesOwn, in_area};
 

@@ -2,13 +2,13 @@
 //! 6b).
 ghost use Rattle.jpg_cli.specs.Desk.ScriptTaken.{AfterScans, AfterScript};
 ghost use Rattle.jpg_cli.specs.Stays.{Keeps};
-ghost use Rattle.jpg_cli.specs.Words.TransformWords.{script_view};
+ghost use Rattle.jpg_words.specs.TransformWords.{script_view};
 
 use crate::desk::file::take_file;
-use crate::words::jpegtran::ScriptFrom;
 use jpg_base::{Desk, Name, Text};
 use jpg_spec_words::{Which, Why};
 use jpg_transform::{Scans, Script};
+use jpg_words::ScriptFrom;
 use std::alloc::Global;
 
 // One byte more than the text of a script may have.

@@ -3,7 +3,8 @@ ghost use Rattle.std.specs.Prelude.{◌≡◌, []};
 ghost use Rattle.jpg_transform.specs.Planned.{scans_view};
 ghost use Rattle.jpg_color.specs.Encode.{image_view};
 ghost use Rattle.jpg_pnm_bmp.specs.Made.{IsRightImage};
-ghost use Rattle.jpg_cli.specs.Words.EncodeWords.{encode_view, lent_tables};
+ghost use Rattle.jpg_words.specs.EncodeWords.{encode_view};
+ghost use Rattle.jpg_cli.specs.Tools.EncodingAsked.{lent_tables};
 ghost use Rattle.jpg_cli.specs.Tools.ImageEncoded.{Encoded, EncodedAfter, EncodedAsAsked, task_after};
 ghost use Rattle.jpg_cli.specs.Desk.ImageWritten.{EncodesImage, IsEncodedBy, IsPlanOf, WritesAsItIs, WritesEncoded, WritesView};
 ghost use Rattle.jpg_cli.specs.Desk.Writing.{why_wrote};
@@ -14,7 +15,6 @@ use crate::desk::script::take_scans;
 use crate::desk::tables::{Tables, take_tables};
 use crate::tools::cjpeg_encoding::encoding_of;
 use crate::tools::cjpeg_image::{read_encoded, why_not_encoded};
-use crate::words::cjpeg_request::EncodeWords;
 use jpg_base::{Desk, QuantTable};
 use jpg_color::{EncodedImage, encode_picture};
 use jpg_file::{Picture, Plan};
@@ -25,6 +25,7 @@ use jpg_spec::Copying;
 use jpg_spec_move::Transform;
 use jpg_spec_words::{Which, Why};
 use jpg_transform::{Choice, Scans, counted, script_due};
+use jpg_words::EncodeWords;
 use std::alloc::Global;
 
 /// Takes the scans and the tables, reads the image of the input, and writes the file of its picture to the output, as

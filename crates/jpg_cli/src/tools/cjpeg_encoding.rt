@@ -6,16 +6,15 @@ ghost use Rattle.jpg_spec_encode.specs.EncodingLaws.{AreFactors};
 ghost use Rattle.jpg_transform.specs.Planned.{scans_view};
 ghost use Rattle.jpg_color.specs.Encode.{AsksFor};
 ghost use Rattle.jpg_spec_image.specs.Images.{Image as ImageRead};
-ghost use Rattle.jpg_cli.specs.Words.EncodeWords.{CanEncodeKind, encoding_by};
+ghost use Rattle.jpg_cli.specs.Tools.EncodingAsked.{CanEncodeKind, encoding_by};
 
 use crate::desk::tables::Tables;
-use crate::words::cjpeg_request::EncodeWords;
-use crate::words::cjpeg_values::Factors;
 use arrayvec::ArrayVec;
 use jpg_color::Encoding;
 use jpg_dct::encoding_tables;
 use jpg_spec_image::ImageKind;
 use jpg_transform::Scans;
+use jpg_words::{EncodeWords, Factors};
 
 /// How an image of this kind is encoded, in these scans and by the tables of a file, if there is one.
 pub fn encoding_of(

@@ -9,7 +9,7 @@ ghost use Rattle.jpg_cli.specs.Desk.EncodedRead.{EncodedRead, Encodes, EndsEncod
 ghost use Rattle.jpg_cli.specs.Desk.ImageWritten.{why_not_encoded};
 ghost use Rattle.jpg_cli.specs.Desk.ImageSource.{HasFedSome, source_samples, source_taken};
 ghost use Rattle.jpg_cli.specs.Desk.SamplesFed.{BeginsPlain, EndsPlain, FeedsNext, FeedsRest, FinishesImage, TakesSome};
-ghost use Rattle.jpg_cli.specs.Words.EncodeWords.{asked_of, encoding_by};
+ghost use Rattle.jpg_cli.specs.Tools.EncodingAsked.{asked_of, encoding_by};
 ghost use Rattle.jpg_cli.specs.Stays.{Keeps, OnlyReads};
 
 use crate::desk::file::read_within;
@@ -17,13 +17,13 @@ use crate::desk::image::next_piece;
 use crate::desk::image_source::{ImageSource, ImageStep};
 use crate::desk::tables::Tables;
 use crate::tools::cjpeg_encoding::encoding_of;
-use crate::words::cjpeg_request::EncodeWords;
 use jpg_base::{Desk, Got, NoMemory, Put};
 use jpg_color::{EncodeStop, EncodedImage, Sampler};
 use jpg_pnm_bmp::Image;
 use jpg_spec::{Fault, FaultAt, Limits};
 use jpg_spec_words::{Which, Why};
 use jpg_transform::{Scans, counted};
+use jpg_words::EncodeWords;
 use std::alloc::Global;
 
 /// The image of the input, encoded as the words ask for it. The file is read in pieces of at most 16,384 bytes, up to

@@ -16,13 +16,13 @@ ghost use Rattle.jpg_cli.specs.Stays.{OnlyReads, OnlyWorks};
 use crate::desk::file::read_within;
 use crate::desk::picture::{done_as, not_shown};
 use crate::tools::djpeg_rows::show_rows;
-use crate::words::djpeg_request::ShowWords;
 use jpg_base::{Desk, Got, Put, Stop};
 use jpg_color::{DecodeStop, decode_rows};
 use jpg_file::{End, FedRow, Picture, Reader};
 use jpg_pnm_bmp::ImageEnd;
 use jpg_spec::{FaultAt, Limits};
 use jpg_spec_words::{Which, Why};
+use jpg_words::ShowWords;
 use std::alloc::Global;
 
 // The result of a piece, before rows are read.

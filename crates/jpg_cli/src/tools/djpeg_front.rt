@@ -7,10 +7,10 @@ ghost use Rattle.jpg_cli.specs.Stays.{OnlyWorks};
 
 use crate::desk::front::read_front;
 use crate::tools::djpeg::write_image;
-use crate::words::djpeg_request::ShowWords;
 use jpg_base::Desk;
 use jpg_pnm_bmp::ImageEnd;
 use jpg_spec_words::Why;
+use jpg_words::ShowWords;
 use std::alloc::Global;
 
 /// Writes the image of the picture that the front of the input means for so many scans to the output, in the format of

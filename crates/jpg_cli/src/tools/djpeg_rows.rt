@@ -8,12 +8,12 @@ ghost use Rattle.jpg_cli.specs.Tools.ShowingRows.{AfterRowsEnd, CanBeginRows, Ca
 ghost use Rattle.jpg_cli.specs.Stays.{OnlyWorks};
 
 use crate::desk::file::read_within;
-use crate::words::djpeg_request::ShowWords;
 use jpg_base::{Desk, Got, Put, Stop};
 use jpg_color::{DecodeStop, StripImage};
 use jpg_file::{End, FedRow, Reader};
 use jpg_pnm_bmp::ImageEnd;
 use jpg_spec_words::{Which, Why};
+use jpg_words::ShowWords;
 use std::alloc::Global;
 
 // The result of the MCU rows of a piece.

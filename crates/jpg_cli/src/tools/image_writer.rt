@@ -8,11 +8,11 @@ ghost use Rattle.jpg_cli.specs.Stays.{OnlyWorks};
 
 use crate::tools::djpeg::show_picture;
 use crate::tools::djpeg_front::show_front;
-use crate::words::djpeg_request::ShowWords;
 use jpg_base::Desk;
 use jpg_pnm_bmp::ImageEnd;
 use jpg_spec_image::EndKind;
 use jpg_spec_words::{Usage, UsageFault, Why};
+use jpg_words::ShowWords;
 use std::alloc::Global;
 
 fn is_same_format(a: EndKind, b: EndKind) -> bool

@@ -1,10 +1,10 @@
 //! A picture read, transformed and written (the manual of jpegtran).
 ghost use Rattle.std.specs.Prelude.{◌≡◌, true, false, IfSome};
 ghost use Rattle.jpg_transform.specs.Planned.{choice_view, scans_view};
-ghost use Rattle.jpg_crop.specs.CropPlanned.{IsArea};
+ghost use Rattle.jpg_spec_move.specs.Cropped.{IsArea};
 ghost use Rattle.jpg_cli.specs.Desk.Writing.{as_early, in_area, why_wrote};
 ghost use Rattle.jpg_cli.specs.Stays.{OnlyWorks};
-ghost use Rattle.jpg_cli.specs.Words.TransformWords.{transform_view};
+ghost use Rattle.jpg_words.specs.TransformWords.{transform_view};
 ghost use Rattle.jpg_cli.specs.Tools.Turned.{Transformed, Turned, turning_view};
 ghost use Rattle.jpg_file.specs.Read.PictureRead.{picture_meaning};
 ghost use Rattle.jpg_spec_upright.specs.Upright.{marked, upright_choice};
@@ -13,8 +13,6 @@ ghost use Rattle.jpg_spec_words.specs.TransformWords.{choice_asked};
 use crate::desk::moved::{Wrote, write_moved};
 use crate::desk::picture::{done_as, read_picture};
 use crate::desk::script::take_scans;
-use crate::words::files::Files;
-use crate::words::jpegtran_request::TransformWords;
 use jpg_base::Desk;
 use jpg_exif::mark_upright;
 use jpg_file::{Orders, Picture};
@@ -22,6 +20,7 @@ use jpg_spec::Copying;
 use jpg_spec_move::{Area, Transform};
 use jpg_spec_words::{Which, Why};
 use jpg_transform::{Choice, Scans};
+use jpg_words::{Files, TransformWords};
 use std::alloc::Global;
 
 /// Takes the scans of the output, reads the picture of the input, and writes it to the output, transformed and cropped

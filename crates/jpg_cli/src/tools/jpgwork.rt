@@ -4,7 +4,7 @@ ghost use Rattle.jpg_spec_image.specs.declared.image.EndKind.TheVariants as kind
 ghost use Rattle.jpg_spec_image.specs.ImageText.{pnm_header};
 ghost use Rattle.jpg_spec_words.specs.Work.{first_picture, first_text, work_info, work_text};
 ghost use Rattle.jpg_cli.specs.Stays.{OnlyWorks};
-ghost use Rattle.jpg_cli.specs.Words.TransformWords.{script_view};
+ghost use Rattle.jpg_words.specs.TransformWords.{script_view};
 ghost use Rattle.jpg_cli.specs.Tools.Ends.{AreNewEnds, formats_of, has_format};
 ghost use Rattle.jpg_cli.specs.Tools.Worked.{DidWork, HasFile, HoldsInput, ReportsShown, ShowsFile, TurnsFile, WritesReport, work_choice, scans_by};
 
@@ -13,12 +13,6 @@ use crate::tools::image_writer::{has_end, show_by};
 use crate::tools::jpegtran::transform;
 use crate::tools::work_image::image_of;
 use crate::tools::work_lines::{lines_of, samples_sum};
-use crate::words::cjpeg_request::EncodeWords;
-use crate::words::cjpeg_values::Factors;
-use crate::words::djpeg_request::ShowWords;
-use crate::words::files::Files;
-use crate::words::jpegtran::ScriptFrom;
-use crate::words::jpegtran_request::TransformWords;
 use jpg_base::{Bytes, Desk, MemoryDesk, Name, Put};
 use jpg_pnm_bmp::ImageEnd;
 use jpg_spec::Copying;
@@ -26,6 +20,7 @@ use jpg_spec_image::EndKind;
 use jpg_spec_move::Transform;
 use jpg_spec_words::{Usage, UsageFault, Which, Why};
 use jpg_transform::{Huffman, Restart, Scans};
+use jpg_words::{EncodeWords, Factors, Files, ScriptFrom, ShowWords, TransformWords};
 use std::alloc::Global;
 
 // The most bytes that a desk in memory gives in a read.

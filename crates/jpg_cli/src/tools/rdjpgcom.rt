@@ -9,11 +9,11 @@ ghost use Rattle.jpg_cli.specs.Stays.{OnlyCopies, OnlyWorks};
 ghost use Rattle.jpg_cli.specs.Tools.ReadComments.{AfterEnd, EndsCopying, PrintedOrNot, CopiesNext, TakesPiece};
 
 use crate::desk::file::read_within;
-use crate::words::files::Files;
 use jpg_base::{Bytes, Desk, Fed, Got, Put, Stop};
 use jpg_comments::Comments;
 use jpg_spec::Limits;
 use jpg_spec_words::{Which, Why};
+use jpg_words::Files;
 use std::alloc::Global;
 
 /// Takes the memory to read any segment, opens the input, creates the output and prints the comments of the input to it, each when it is complete. The input

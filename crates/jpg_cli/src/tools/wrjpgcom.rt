@@ -11,11 +11,11 @@ ghost use Rattle.jpg_cli.specs.Stays.{OnlyCopies, OnlyReads, OnlyWorks};
 use crate::desk::comment::take_comment;
 use crate::desk::file::read_within;
 use crate::tools::rdjpgcom::write_text;
-use crate::words::comments::WriteWords;
 use jpg_base::{Bytes, Desk, Got, Name, Put, Stop};
 use jpg_comments::Insert;
 use jpg_spec::Limits;
 use jpg_spec_words::{Which, Why};
+use jpg_words::WriteWords;
 use std::alloc::Global;
 
 // The result of a piece, up to the marker of the frame header.

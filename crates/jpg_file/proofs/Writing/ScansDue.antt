@@ -13,7 +13,7 @@ use Rattle.jpg_huff.specs.declared.set.TableSet.{TableSet}
 use Rattle.jpg_seq.specs.NewReader.{IsSeqScan}
 use Rattle.jpg_coefs.specs.MarkSinks.{HasSlots}
 use Rattle.jpg_prog_write.specs.Written.{IsProgScan, tables_in}
-use Rattle.jpg_file.specs.Write.Restarts.{restart_of}
+use Rattle.jpg_scans.specs.Restarts.{restart_of}
 use Rattle.jpg_file.specs.Write.WriteTables.{GivesTables, IsTablePlace}
 use Rattle.jpg_file.specs.Write.WriteScan.{CanWriteDue, CanWriteScan, IsDue, IsHeadOf, due_text, due_written, head_due, head_for, interval_for, needed_for, scan_bytes, tables_due, written_after}
 use Rattle.jpg_file.specs.declared.write.Plan.{Plan}

@@ -26,7 +26,8 @@ use Rattle.jpg_spec_write.proofs.ProgressiveKnown.{progressive_entry}
 use Rattle.jpg_spec_write.proofs.WrittenSequential.{entry_is}
 use Rattle.jpg_markers.specs.OutHead.{head_meaning, with_tables}
 use Rattle.jpg_markers.proofs.Distinct.{left_at}
-use Rattle.jpg_file.specs.Write.Restarts.{interval_text, restart_of}
+use Rattle.jpg_file.specs.Write.Restarts.{interval_text}
+use Rattle.jpg_scans.specs.Restarts.{restart_of}
 use Rattle.jpg_file.specs.Write.WriteScan.{CanWriteScan, CanWriteScans, head_bytes, head_for, scan_bytes, scan_head, scans_bytes, scans_due, written_after}
 use Rattle.jpg_file.specs.Write.WriteFile.{CanWriteFile, file_bytes, file_meaning}
 use Rattle.jpg_file.specs.declared.write.Plan.{Plan}

@@ -12,7 +12,7 @@ use Rattle.jpg_base.specs.Laws.{AppendsPart}
 use Rattle.jpg_base.specs.declared.stop.WriteFault.{WriteFault}
 use Rattle.jpg_huff.specs.Out.{OnlyWrites}
 use Rattle.jpg_markers.specs.OutHead.{head_meaning}
-use Rattle.jpg_file.specs.Write.Restarts.{restart_of}
+use Rattle.jpg_scans.specs.Restarts.{restart_of}
 use Rattle.jpg_file.specs.declared.write.Plan.{Plan}
 
 -- what the file means: its head, and the real blocks of the view

@@ -17,7 +17,8 @@ use Rattle.jpg_huff.specs.declared.set.TableSet.{TableSet}
 use Rattle.jpg_seq.specs.NewReader.{IsSeqScan}
 use Rattle.jpg_coefs.specs.MarkSinks.{HasSlots}
 use Rattle.jpg_prog_write.specs.Written.{IsProgScan, tables_in, written_data}
-use Rattle.jpg_file.specs.Write.Restarts.{interval_text, restart_of}
+use Rattle.jpg_file.specs.Write.Restarts.{interval_text}
+use Rattle.jpg_scans.specs.Restarts.{restart_of}
 use Rattle.jpg_file.specs.Write.WriteTables.{GivesTables, IsTablePlace, given_by}
 use Rattle.jpg_file.specs.declared.write.Plan.{Plan}
 use Rattle.jpg_file.specs.declared.write.scan.Given.{Given}

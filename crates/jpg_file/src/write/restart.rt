@@ -3,18 +3,10 @@ ghost use Rattle.std.specs.Prelude.{◌≡◌, ◌*◌, ◌≤◌, ◌^◌, min}
 ghost use Rattle.jpg_spec.specs.Segments.{head_components};
 ghost use Rattle.jpg_spec_write.specs.FileText.{interval_of};
 ghost use Rattle.jpg_base.specs.Cursor.{AreIn};
-ghost use Rattle.jpg_file.specs.Write.Restarts.{restart_of};
+ghost use Rattle.jpg_scans.specs.Restarts.{restart_of};
 
 use jpg_base::{Frame, ScanHead};
-
-/// Where restart markers are in the scans of a file: nowhere; after every given number of rows of MCUs, at most 65,535
-/// MCUs; or after every given number of MCUs, 0 for nowhere.
-#[derive(Clone, Copy, Debug, PartialEq, Eq)]
-pub enum Restart {
-    Off,
-    Rows(u16),
-    Mcus(u16),
-}
+use jpg_scans::Restart;
 
 /// How many MCUs an interval of this scan has, 0 if there are no restart markers.
 pub fn interval_of(frame: &Frame, head: &ScanHead, restart: Restart) -> u16

@@ -1,7 +1,7 @@
 use Rattle.std.proofs.Common.{◌∙◌, ℕ, Option, map, subst, sym}
 use Rattle.std.specs.Prelude.{string_bytes}
 use Rattle.jpg_spec_image.specs.declared.image.EndKind.{EndKind}
-use Rattle.jpg_cli.specs.Commands.{IsFormatAsked, command_asked}
+use Rattle.jpg_words.specs.Commands.{IsFormatAsked, command_asked}
 use Rattle.jpg_cli.specs.Tools.Ends.{formats_of}
 use Rattle.jpg_cli.proofs.Outcomes.Running.{missing_has, missing_none, missing_some}
 use Rattle.jpg_cli.proofs.top.missing_end.Goals as goal

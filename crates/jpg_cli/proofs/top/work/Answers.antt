@@ -2,11 +2,11 @@ use Rattle.std.proofs.Common.{map, subst, sym, Option, Some, Ok, Err}
 use Rattle.std.specs.Prelude.{string_bytes}
 use Rattle.jpg_spec_words.specs.Requests.{ParsedWords}
 use Rattle.jpg_spec_words.specs.declared.answers.Usage.{Usage}
-use Rattle.jpg_cli.specs.Commands.{Command, IsCommand, command_asked}
+use Rattle.jpg_words.specs.Commands.{Command, IsCommand, command_asked}
 use Rattle.jpg_cli.specs.Tools.Ends.{formats_of}
 use Rattle.jpg_cli.specs.Run.{IsMissing, Worked}
-use Rattle.jpg_cli.specs.declared.words.files.WordsStop.{WordsStop}
-use Rattle.jpg_cli.specs.declared.words.Asked.{Asked}
+use Rattle.jpg_words.specs.declared.files.WordsStop.{WordsStop}
+use Rattle.jpg_words.specs.declared.tools.Asked.{Asked}
 use Rattle.jpg_cli.proofs.Comments.InsertedThen.{asked_inserted}
 use Rattle.jpg_cli.proofs.ByRow.ImageShown.{asked_shown}
 use Rattle.jpg_cli.proofs.Pieces.PictureTaken.{reads_none}
@@ -65,7 +65,7 @@ returns-in-Some g c =
     let s = g.D.Desk.state c.args.desk.now in
     record {
       worked = worked_missing (formats_of (map (λ e. (goal.ImageEnd-dyn g (e.vtable, e.value)).progress e.value) c.args.ends.items)) _ s c.in-Some.usage
-      (subst (λ l. IsMissing (formats_of (map (λ e. (goal.ImageEnd-dyn g (e.vtable, e.value)).progress e.value) l)) (command_asked (map string_bytes c.args.words.now)) (Some c.in-Some.usage)) c.deref.ensures.value c.in-Some.ensures);
+          (subst (λ l. IsMissing (formats_of (map (λ e. (goal.ImageEnd-dyn g (e.vtable, e.value)).progress e.value) l)) (command_asked (map string_bytes c.args.words.now)) (Some c.in-Some.usage)) c.deref.ensures.value c.in-Some.ensures);
       kept = (reads_none s).copies.works;
     }
 

@@ -5,7 +5,8 @@ use Rattle.jpg_file.specs.Read.PictureRead.{picture_meaning}
 use Rattle.jpg_cli.specs.Desk.Writing.{AfterOutput, WritesMoved, WritesOwn, in_area}
 use Rattle.jpg_cli.specs.declared.desk.moved.Wrote.TheVariants as wrote
 use Rattle.jpg_transform.specs.Planned.{choice_view}
-use Rattle.jpg_crop.specs.CropPlanned.{IsArea, IsCutFrom, with_area}
+use Rattle.jpg_spec_move.specs.Cropped.{IsArea}
+use Rattle.jpg_crop.specs.CropPlanned.{IsCutFrom, with_area}
 use Rattle.jpg_cli.proofs.Encoding.MovedWritten.{fault_in, faulty, own_faulty, own_written, written}
 use Rattle.jpg_cli.proofs.desk.moved.write_moved.Goals as goal
 

@@ -1,5 +1,5 @@
 use Rattle.jpg_transform.specs.Planned.{scans_view}
-use Rattle.jpg_cli.specs.Words.EncodeWords.{encode_view}
+use Rattle.jpg_words.specs.EncodeWords.{encode_view}
 use Rattle.jpg_cli.proofs.Encoding.ImageEncoded.{encoded_in, no_scans}
 use Rattle.jpg_cli.proofs.tools.cjpeg.encode.Goals as goal
 

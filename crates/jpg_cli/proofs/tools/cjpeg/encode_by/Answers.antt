@@ -1,6 +1,6 @@
 use Rattle.std.proofs.Common.{refl}
 use Rattle.jpg_transform.specs.Planned.{scans_view}
-use Rattle.jpg_cli.specs.Words.EncodeWords.{encoding_by, lent_tables}
+use Rattle.jpg_cli.specs.Tools.EncodingAsked.{encoding_by, lent_tables}
 use Rattle.jpg_cli.proofs.Encoding.ImageEncoded.{encoded_after, encoded_unread, names_view}
 use Rattle.jpg_cli.proofs.tools.cjpeg.encode_by.Goals as goal
 

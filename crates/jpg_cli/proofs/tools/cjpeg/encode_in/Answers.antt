@@ -2,7 +2,7 @@ use Rattle.std.proofs.Common.{List, [], ℕ, Option, Ok, Err, subst}
 use Rattle.arrayvec.specs.ArrayVec.{ArrayVec}
 use Rattle.jpg_spec.specs.Segments.{QuantTable}
 use Rattle.jpg_transform.specs.Planned.{scans_view}
-use Rattle.jpg_cli.specs.Words.EncodeWords.{encode_view}
+use Rattle.jpg_words.specs.EncodeWords.{encode_view}
 use Rattle.jpg_cli.specs.Tools.ImageEncoded.{Encoded, task_after}
 use Rattle.jpg_cli.specs.Desk.TablesTaken.{AfterTables, tables_view}
 use Rattle.jpg_cli.proofs.Encoding.ImageEncoded.{encoded_by, encoded_stopped}

@@ -2,7 +2,7 @@ use Rattle.std.proofs.Common.{refl}
 use Rattle.jpg_spec_encode.specs.Encoded.{encoded}
 use Rattle.jpg_transform.specs.Planned.{scans_view}
 use Rattle.jpg_color.specs.Encode.{CanEncode, image_view}
-use Rattle.jpg_cli.specs.Words.EncodeWords.{asked_of}
+use Rattle.jpg_cli.specs.Tools.EncodingAsked.{asked_of}
 use Rattle.jpg_cli.proofs.Encoding.ImageEncoded.{encoded_written, is_encodable, none_encoded}
 use Rattle.jpg_cli.proofs.tools.cjpeg.write_encoded.Goals as goal
 

@@ -1,5 +1,5 @@
 use Rattle.jpg_transform.specs.Planned.{scans_view}
-use Rattle.jpg_cli.specs.Words.EncodeWords.{encoding_by}
+use Rattle.jpg_cli.specs.Tools.EncodingAsked.{encoding_by}
 use Rattle.jpg_cli.proofs.Encoding.EncodedRead.{encoded_from}
 use Rattle.jpg_cli.proofs.tools.cjpeg_image.read_encoded.Goals as goal
 

@@ -4,7 +4,7 @@ use Rattle.jpg_transform.specs.Planned.{scans_view}
 use Rattle.jpg_color.specs.Encode.{image_view}
 use Rattle.jpg_cli.specs.Desk.EncodedRead.{EndsEncoding}
 use Rattle.jpg_cli.specs.Desk.ImageSource.{source_taken}
-use Rattle.jpg_cli.specs.Words.EncodeWords.{encoding_by}
+use Rattle.jpg_cli.specs.Tools.EncodingAsked.{encoding_by}
 use Rattle.jpg_cli.proofs.Encoding.EncodedRead.{whole_encoded}
 use Rattle.jpg_cli.proofs.Encoding.ImageFed.{fed_taken}
 use Rattle.jpg_cli.proofs.Pieces.PictureTaken.{reads_then}

@@ -1,4 +1,4 @@
-use Rattle.jpg_cli.specs.Words.TransformWords.{script_view}
+use Rattle.jpg_words.specs.TransformWords.{script_view}
 use Rattle.jpg_cli.proofs.Encoding.Worked.{turned_done}
 use Rattle.jpg_cli.proofs.tools.jpgwork.turned_file.Goals as goal
 

@@ -1,8 +1,0 @@
-use Rattle.std.proofs.Common.{arith}
-use Rattle.jpg_cli.proofs.WordsAsked.Matching.{none_left}
-use Rattle.jpg_cli.proofs.words.switches.begins.Goals as goal
-
-pub returns-in_default : goal.returns-in_default
-returns-in_default c =
-    let l = c.loop-letter in
-    none_left c.args.letters.now l.rest.now l.letter-index _ (omega arith) (omega arith) l.invariant

@@ -1,9 +1,0 @@
-pub mod Areas
-pub mod CommentWords
-pub mod EncodeWords
-pub mod Files
-pub mod Requests
-pub mod Scans
-pub mod ShowWords
-pub mod Switches
-pub mod TransformWords

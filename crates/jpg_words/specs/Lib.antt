@@ -1,0 +1,10 @@
+pub mod Areas
+pub mod Commands
+pub mod CommentWords
+pub mod EncodeWords
+pub mod Files
+pub mod Requests
+pub mod Scans
+pub mod ShowWords
+pub mod Switches
+pub mod TransformWords
