@@ -5,6 +5,7 @@ pub mod ItemBytes
 pub mod Keeping
 pub mod Leaving
 pub mod LeftOut
+pub mod Passing
 pub mod PictureSteps
 pub mod PieceSteps
 pub mod ReaderFed

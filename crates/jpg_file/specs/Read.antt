@@ -8,6 +8,7 @@ pub mod Keeping
 pub mod Left
 pub mod Machine
 pub mod NewScan
+pub mod Passing
 pub mod PictureKept
 pub mod PictureRead
 pub mod PieceTaken

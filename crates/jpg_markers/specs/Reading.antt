@@ -195,6 +195,14 @@ abbrev pub Continues : Reading → List ℕ → Result ℕ NoMemory → Reading 
 Continues old bytes (Ok n) new = (n ≡ due_of old.phase old.left bytes) × (new ≡ continued old.phase old (take n bytes))
 Continues old bytes (Err e) new = new ≡ old
 
+-- the contents among these bytes need more memory than the reader has
+abbrev pub NeedsMemory : SegmentReader → List ℕ → Type 0
+NeedsMemory r bytes = vec_capacity r.contents < length (reading_of r).contents + due_of (reading_of r).phase (reading_of r).left bytes
+
+-- n are all bytes that are due among these; or none, if they need more memory.
+abbrev pub PassesDue : SegmentReader → List ℕ → ℕ → Type 0
+PassesDue r bytes n = (n ≡ due_of (reading_of r).phase (reading_of r).left bytes) ⊎ ((n ≡ 0) × NeedsMemory r bytes)
+
 -- For all bytes that it was given before, it was given these and those that were taken, as if `byte` had returned More
 -- to each.
 abbrev pub PassesBytes : Reading → List ℕ → Reading → Type 0

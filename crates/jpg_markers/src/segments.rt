@@ -5,7 +5,7 @@ ghost use Rattle.jpg_spec.specs.Markers.{Segment};
 ghost use Rattle.jpg_base.specs.declared.stop.Stop.{Stop as Stopped};
 ghost use Rattle.jpg_base.specs.declared.stop.Stop.TheVariants as stop;
 ghost use Rattle.jpg_markers.specs.declared.segments.Phase.TheVariants as phase;
-ghost use Rattle.jpg_markers.specs.Reading.{reading_of, AfterWhole, RepresentsSegments, Continues, Comes, PassesSome, MayFollow, PassesSegment, Goes, HasRoom, IsAfterScan, HaltsNot, HasMemory, Stays, ComesWith, GoesWith, GoesWhole};
+ghost use Rattle.jpg_markers.specs.Reading.{reading_of, AfterWhole, RepresentsSegments, Continues, Comes, PassesSome, MayFollow, PassesSegment, Goes, HasRoom, IsAfterScan, HaltsNot, HasMemory, NeedsMemory, Stays, ComesWith, GoesWith, GoesWhole};
 
 use crate::seen::{Seen, code_fault, is_frame_code};
 use crate::whole::{WholeSegment, fill_length};
@@ -145,8 +145,8 @@ impl SegmentReader {
 
     /// Takes bytes from the start of these that only continue what is there: fill bytes after FF, or contents of the
     /// current segment, as many as are expected before its last byte, and otherwise none. Returns how many they were.
-    /// It is as if `byte` were given them one by one, and returned More for each. If there is no memory, nothing has
-    /// changed.
+    /// It is as if `byte` were given them one by one, and returned More for each. If there is no memory for the contents,
+    /// nothing has changed.
     pub fn stretch(&mut self, bytes: &[u8]) -> Result<usize, NoMemory>
         requires { (reading_of self.old).taken + length bytes.now ≤ (reading_of self.old).limits.input }
         ensures continues { Continues (reading_of self.old) bytes.now result (reading_of self.new) }
@@ -154,6 +154,7 @@ impl SegmentReader {
         ensures taken { IfOk result (λ n. (reading_of self.new).taken ≡ (reading_of self.old).taken + n) }
         ensures limits { (reading_of self.new).limits ≡ (reading_of self.old).limits }
         ensures room { HasRoom self.old → HasRoom self.new }
+        ensures memory { IfErr result (λ _. NeedsMemory self.old bytes.now) }
     {
         match self.phase {
             Phase::Contents => self.take_contents(bytes),
@@ -175,6 +176,7 @@ impl SegmentReader {
         ensures room { HasRoom self.old → HasRoom self.new }
         ensures taken { IfOk result (λ n. (reading_of self.new).taken ≡ (reading_of self.old).taken + n) }
         ensures limits { (reading_of self.new).limits ≡ (reading_of self.old).limits }
+        ensures memory { IfErr result (λ _. NeedsMemory self.old bytes.now) }
     {
         let due = self.left.saturating_sub(1) as usize;
         let n = due.min(bytes.len());

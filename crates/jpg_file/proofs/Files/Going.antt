@@ -45,7 +45,7 @@ goes r items bytes n g p = record {
       refl refl refl (omega (arith, room, few, count, long, all, input)));
 }
 
-rest_is : (n : ℕ) (bytes : List ℕ) → take (length bytes - n) (drop n bytes) ≡ drop n bytes
+pub rest_is : (n : ℕ) (bytes : List ℕ) → take (length bytes - n) (drop n bytes) ≡ drop n bytes
 rest_is n bytes = let size = length-drop n bytes in take_all (length bytes - n) (drop n bytes) (omega (arith, size))
 
 pub goes_then : (a b c : Reading) (bytes : List ℕ) (n m : ℕ) → GoesOn a bytes n b → GoesOn b (take (length bytes - n) (drop n bytes)) m c → GoesOn a bytes (n + m) c

@@ -1,12 +1,12 @@
 -- What a reader of a file keeps of the segments so far.
-use Rattle.std.specs.Prelude.{◌≡◌, ℕ, Bool, List, ◌∷◌, length, reverse, Option, Some, None, filter, find, is_none, ◌&&◌, ◌||◌}
+use Rattle.std.specs.Prelude.{◌≡◌, ℕ, Bool, true, List, ◌∷◌, length, reverse, Option, Some, None, filter, find, is_none, ◌&&◌, ◌||◌}
 use Rattle.jpg_spec.specs.Lists.{any_of}
 use Rattle.jpg_spec.specs.Geometry.{Frame, component_at}
 use Rattle.jpg_spec.specs.Segments.{ScanHead}
 use Rattle.jpg_spec.specs.Jfif.{is_jfif, parsed_jfif}
 use Rattle.jpg_spec.specs.HuffContents.{HuffmanSlots, huffman_in}
 use Rattle.jpg_spec.specs.QuantContents.{Slots, quant_in}
-use Rattle.jpg_spec.specs.Markers.{Segment, has_scan, kept_after, kept_rule}
+use Rattle.jpg_spec.specs.Markers.{Segment, has_scan, is_kept_if, kept_after, kept_rule}
 use Rattle.jpg_spec.specs.InForce.{frame_after, huffman_in_force, quant_in_force, restart_in_force}
 use Rattle.jpg_spec.specs.History.{needs_ac_table, needs_dc_table}
 use Rattle.jpg_spec.specs.Items.{contents_rule}
@@ -68,6 +68,10 @@ TakesSegment limits before code contents took.NoMemory h = Unit {0}
 abbrev pub HoldsSegment : SegmentView → Limits → ℕ → List ℕ → SegmentTaken → SegmentView → Type 0
 HoldsSegment old limits code contents answer new =
     (before : List Segment) → Holds limits old before → kept_rule limits before code contents ≡ None → TakesSegment limits before code contents answer new
+
+-- a segment that is to be kept
+abbrev pub IsToKeep : SegmentState → ℕ → List ℕ → Type 0
+IsToKeep h code contents = (is_kept_if h.scanned code contents ≡ true) × (is_wanted h.keeping (code, contents) ≡ true)
 
 -- A segment that isn't taken changes nothing.
 abbrev pub ChangesNothing : SegmentView → SegmentTaken → SegmentView → Type 0

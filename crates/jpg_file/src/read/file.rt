@@ -4,6 +4,7 @@ ghost use Rattle.jpg_spec.specs.FrameHeader.{AreLimits};
 ghost use Rattle.jpg_coefs.specs.Picture.{Picture};
 ghost use Rattle.jpg_file.specs.Read.File.{HasCompleteHeader, NotesHead, PassesFront, RoomMade, RepresentsFile, TakesFileByte, TakesFileEnd, TakesFileHead, TakesFileStep, TakesSome, keeping_of, limits_of, with_picture};
 ghost use Rattle.jpg_file.specs.Read.InData.{ArePlain};
+ghost use Rattle.jpg_file.specs.Read.Passing.{PassesAll};
 ghost use Rattle.jpg_file.specs.Read.Reading.{IsOpenScan};
 ghost use Rattle.jpg_file.specs.Read.Step.{IfStops, IsNoRow, HasMemory};
 
@@ -104,6 +105,7 @@ impl FileWork {
         requires room { self.old.reading.taken < (limits_of self.old).input }
         requires some { 1 ≤ length bytes.now }
         ensures after { PassesFront self.old bytes.now result self.new }
+        ensures most { PassesAll self.old.reading.scan self.old.reading bytes.now result }
         ensures head { self.new.head ≡ self.old.head }
         ensures keeping { keeping_of self.new ≡ keeping_of self.old }
     {

@@ -5,7 +5,8 @@ ghost use Rattle.jpg_spec.specs.Scan.{Blocks};
 ghost use Rattle.jpg_spec.specs.Items.{Item};
 ghost use Rattle.jpg_spec.specs.FileMeaning.{no_blocks};
 ghost use Rattle.jpg_spec.specs.declared.frame.Limits.{Limits as Bounded};
-ghost use Rattle.jpg_markers.specs.Reading.{HasRoom, reading_of};
+ghost use Rattle.jpg_markers.specs.Reading.{HasRoom, PassesDue, reading_of};
+ghost use Rattle.jpg_file.specs.Read.Passing.{HasNoneToPass};
 ghost use Rattle.jpg_file.specs.Read.Items.{BetweenItems, BehindHead, AfterSegment, JudgesSegment, PassesHead, PassesItems, TakesItemByte, TakesMarker};
 
 use crate::read::segment_state::{SegmentState, SegmentTaken};
@@ -76,13 +77,14 @@ impl Items {
         }
     }
 
-    /// Takes bytes from the start of these that only continue what is there: fill bytes after FF, or contents of the
+    /// Takes all bytes from the start of these that only continue what is there: fill bytes after FF, or contents of the
     /// current segment before its last byte, and otherwise none, nor if there is no memory. Returns how many they were.
     pub fn contents(&mut self, bytes: &[u8]) -> usize
         requires same { (reading_of self.old.segments).limits ≡ self.old.limits }
         requires room { (reading_of self.old.segments).taken + length bytes.now ≤ self.old.limits.input }
         ensures few { result ≤ length bytes.now }
         ensures after { PassesItems self.old bytes.now result self.new }
+        ensures most { PassesDue self.old.segments bytes.now result }
         ensures keeping { self.new.held.keeping ≡ self.old.held.keeping }
         ensures scanned { self.new.held.scanned ≡ self.old.held.scanned }
         ensures room { HasRoom self.old.segments → HasRoom self.new.segments }
@@ -101,6 +103,7 @@ impl Items {
         requires limits { AreLimits self.old.limits }
         requires room { (reading_of self.old.segments).taken + length bytes.now ≤ self.old.limits.input }
         ensures after { PassesItems self.old bytes.now result self.new }
+        ensures none { result ≡ 0 → HasNoneToPass self.new bytes.now }
         ensures keeping { self.new.held.keeping ≡ self.old.held.keeping }
         ensures scanned { self.new.held.scanned ≡ self.old.held.scanned }
         ensures room { HasRoom self.old.segments → HasRoom self.new.segments }

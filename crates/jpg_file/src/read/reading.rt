@@ -1,5 +1,5 @@
 //! A file that is being read: between items, or inside the data of a scan (T.81, B.2.1).
-ghost use Rattle.std.specs.Prelude.{◌≡◌, ◌<◌, ◌≤◌, ◌+◌, ℕ, List, [], length, true, Ok};
+ghost use Rattle.std.specs.Prelude.{◌≡◌, ◌<◌, ◌≤◌, ◌+◌, ℕ, List, [], drop, length, true, Ok};
 ghost use Rattle.jpg_spec.specs.FrameHeader.{AreLimits};
 ghost use Rattle.jpg_spec.specs.Scan.{Blocks};
 ghost use Rattle.jpg_spec.specs.Items.{Item};
@@ -8,6 +8,8 @@ ghost use Rattle.jpg_file.specs.Read.ScanStart.{HasSizes};
 ghost use Rattle.jpg_file.specs.Read.Reading.{CanBeginHead, HeadWhole, IsOpenScan, NeedsNoMemory, Itemising, LeavesAll, Scanning, TakesByteOfItems, TakesByteOfScan, TakesHead, TakesRunOfScan, has_open, with_coefs};
 ghost use Rattle.jpg_file.specs.Read.InData.{ArePlain};
 ghost use Rattle.jpg_file.specs.Read.Going.{CanGoOn, FillsScan, GoesOn, has_waiting};
+ghost use Rattle.jpg_file.specs.Read.Passing.{HasNoneToPass, PassesMost, before_last};
+ghost use Rattle.jpg_markers.specs.Reading.{PassesDue, filled};
 
 use crate::read::items::{ItemStep, Items};
 use crate::read::scan::InScan;
@@ -174,6 +176,7 @@ impl Reading {
         requires room { self.old.taken < self.old.items.limits.input }
         requires some { 1 ≤ length bytes.now }
         ensures after { GoesOn self.old bytes.now result self.new }
+        ensures most { PassesMost self.old (before_last self.old bytes.now) result }
         ensures less { result < length bytes.now }
         ensures left { self.new.taken < self.old.items.limits.input }
         ensures sparing { NeedsNoMemory self.old → NeedsNoMemory self.new }
@@ -190,6 +193,7 @@ impl Reading {
         requires room { self.old.taken < self.old.items.limits.input }
         requires some { 1 ≤ length bytes.now }
         ensures after { FillsScan self.old bytes.now result self.new }
+        ensures most { has_waiting self.old.scan ≡ true → result ≡ filled (before_last self.old bytes.now) }
         ensures keeping { self.new.items.held.keeping ≡ self.old.items.held.keeping }
     {
         if !self.is_waiting() {
@@ -216,6 +220,7 @@ impl Reading {
     fn skip_ahead(&mut self, bytes: &[u8]) -> usize
         requires { CanGoOn self.old bytes.now }
         ensures after { GoesOn self.old bytes.now result self.new }
+        ensures most { PassesMost self.old bytes.now result }
         ensures sparing { NeedsNoMemory self.old → NeedsNoMemory self.new }
         ensures keeping { self.new.items.held.keeping ≡ self.old.items.held.keeping }
     {
@@ -227,6 +232,7 @@ impl Reading {
     fn segments(&mut self, bytes: &[u8]) -> usize
         requires { CanGoOn self.old bytes.now }
         ensures after { GoesOn self.old bytes.now result self.new }
+        ensures none { HasNoneToPass self.new.items (drop result bytes.now) }
         ensures sparing { NeedsNoMemory self.old → NeedsNoMemory self.new }
         ensures keeping { self.new.items.held.keeping ≡ self.old.items.held.keeping }
     {
@@ -245,6 +251,7 @@ impl Reading {
     fn whole(&mut self, bytes: &[u8]) -> usize
         requires { CanGoOn self.old bytes.now }
         ensures after { GoesOn self.old bytes.now result self.new }
+        ensures none { result ≡ 0 → HasNoneToPass self.new.items bytes.now }
         ensures sparing { NeedsNoMemory self.old → NeedsNoMemory self.new }
         ensures keeping { self.new.items.held.keeping ≡ self.old.items.held.keeping }
     {
@@ -258,6 +265,7 @@ impl Reading {
     fn contents(&mut self, bytes: &[u8]) -> usize
         requires { CanGoOn self.old bytes.now }
         ensures after { GoesOn self.old bytes.now result self.new }
+        ensures most { PassesDue self.old.items.segments bytes.now result }
         ensures sparing { NeedsNoMemory self.old → NeedsNoMemory self.new }
         ensures keeping { self.new.items.held.keeping ≡ self.old.items.held.keeping }
     {

@@ -6,7 +6,7 @@ ghost use Rattle.jpg_spec.specs.History.{needs_ac_table, needs_dc_table};
 ghost use Rattle.jpg_spec.specs.Markers.{Segment, is_within, kept_rule, process_of_code};
 ghost use Rattle.jpg_spec.specs.declared.frame.Limits.{Limits as Bounded};
 ghost use Rattle.jpg_file.specs.Read.Keeping.{is_wanted};
-ghost use Rattle.jpg_file.specs.Read.SegmentState.{ChangesNothing, Holds, HoldsSegment, TakesSegment, lacks_any, lacks_part, segments_view};
+ghost use Rattle.jpg_file.specs.Read.SegmentState.{ChangesNothing, Holds, HoldsSegment, IsToKeep, TakesSegment, lacks_any, lacks_part, segments_view};
 ghost use Rattle.jpg_markers.specs.Seen.{IsOther};
 
 use jpg_base::codes::{COM, DHT, DQT, DRI, SOF0, SOF1, SOF2};
@@ -76,7 +76,7 @@ impl SegmentState {
     }
 
     /// Takes a complete segment of this marker code that isn't a scan header and whose kept bytes are within their
-    /// limit. After a fault, and if there is no memory, nothing has changed.
+    /// limit. After a fault, and if there is no memory for a segment that is to be kept, nothing has changed.
     pub fn take(&mut self, limits: Limits, code: u8, contents: &[u8]) -> SegmentTaken
         requires limits { AreLimits limits }
         requires other { code ≡ 0xda → ⊥ }
@@ -84,6 +84,7 @@ impl SegmentState {
         ensures held { HoldsSegment (segments_view self.old) limits code contents.now result (segments_view self.new) }
         ensures same { ChangesNothing (segments_view self.old) result (segments_view self.new) }
         ensures memory { self.old.keeping ≡ Copying.None → self.old.scanned ≡ true → result ≡ SegmentTaken.NoMemory → ⊥ }
+        ensures asks { result ≡ SegmentTaken.NoMemory → IsToKeep self.old code contents.now }
         ensures scanned { self.new.scanned ≡ self.old.scanned }
         ensures keeping { self.new.keeping ≡ self.old.keeping }
     {
@@ -171,6 +172,7 @@ impl SegmentState {
         ensures held { HoldsSegment (segments_view self.old) limits code contents.now result (segments_view self.new) }
         ensures same { ChangesNothing (segments_view self.old) result (segments_view self.new) }
         ensures memory { self.old.keeping ≡ Copying.None → self.old.scanned ≡ true → result ≡ SegmentTaken.NoMemory → ⊥ }
+        ensures asks { result ≡ SegmentTaken.NoMemory → IsToKeep self.old code contents.now }
         ensures scanned { self.new.scanned ≡ self.old.scanned }
         ensures keeping { self.new.keeping ≡ self.old.keeping }
     {

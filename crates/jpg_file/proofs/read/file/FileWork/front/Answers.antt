@@ -1,5 +1,6 @@
 use Rattle.std.proofs.Common.{◌∙◌, sym, arith}
 use Rattle.jpg_file.proofs.Files.PieceSteps.{front_fills, front_passes}
+use Rattle.jpg_file.proofs.Files.Passing.{all_between, all_in_scan}
 use Rattle.jpg_file.proofs.Files.FileSteps.{between_of}
 use Rattle.jpg_file.specs.Read.File.{limits_of}
 use Rattle.jpg_file.proofs.read.file.FileWork.front.Goals as goal
@@ -18,3 +19,11 @@ front-requires-clause-can c =
 
 pub returns-else-is_some-clause-after : goal.returns-else-is_some-clause-after
 returns-else-is_some-clause-after c = front_passes c.args.self.now c.front.new.self c.args.bytes.now c.front.result c.front.ensures.after c.front.ensures.less c.front.ensures.left
+
+pub returns-then-is_some-clause-most : goal.returns-then-is_some-clause-most
+returns-then-is_some-clause-most c =
+    all_in_scan c.args.self.now.reading.scan c.args.self.now.reading c.args.bytes.now c.fill_in_scan.result (sym c.is_some.ensures ∙ c.if-is_some.true) c.fill_in_scan.ensures.most
+
+pub returns-else-is_some-clause-most : goal.returns-else-is_some-clause-most
+returns-else-is_some-clause-most c =
+    all_between c.args.self.now.reading.scan c.args.self.now.reading c.args.bytes.now c.front.result (sym c.is_some.ensures ∙ c.if-is_some.false) c.front.ensures.most

@@ -1,5 +1,6 @@
 use Rattle.std.proofs.Common.{◌∙◌}
 use Rattle.jpg_file.proofs.Files.Going.{can_after, goes_last, goes_then}
+use Rattle.jpg_file.proofs.Files.Passing.{none_in_rest}
 use Rattle.jpg_file.proofs.read.reading.Reading.segments.Goals as goal
 
 pub whole-n-requires : goal.whole-n-requires
@@ -15,3 +16,6 @@ loop-done-preserved c = (
   λ sparing. c.whole-n.ensures.sparing (c.loop-done.invariant.1 sparing),
   c.whole-n.ensures.keeping ∙ c.loop-done.invariant.2,
 )
+
+pub returns-then-n-eq0-clause-none : goal.returns-then-n-eq0-clause-none
+returns-then-n-eq0-clause-none c = none_in_rest c.whole-n.new.self.items c.args.bytes.now c.loop-done.done (c.whole-n.ensures.none c.if-n-eq0.true)

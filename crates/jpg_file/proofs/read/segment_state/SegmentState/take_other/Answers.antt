@@ -69,6 +69,7 @@ returns-then-not-is_kept c =
           ));
       same = tt;
       memory = λ wanted scanned e. absurd cc;
+      asks = λ e. absurd cc;
       scanned = refl;
       keeping = refl;
     }
@@ -92,6 +93,7 @@ returns-then-not-is_wanted c =
           ));
       same = tt;
       memory = λ wanted scanned e. absurd cc;
+      asks = λ e. absurd cc;
       scanned = refl;
       keeping = refl;
     }
@@ -116,6 +118,7 @@ returns-in_default c =
           ));
       same = tt;
       memory = λ wanted scanned e. absurd cc;
+      asks = λ e. absurd cc;
       scanned = refl;
       keeping = refl;
     }
@@ -140,6 +143,7 @@ returns-in-Jfif c =
           ));
       same = tt;
       memory = λ wanted scanned e. absurd cc;
+      asks = λ e. absurd cc;
       scanned = refl;
       keeping = refl;
     }
