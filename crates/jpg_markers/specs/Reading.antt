@@ -195,9 +195,9 @@ abbrev pub Continues : Reading → List ℕ → Result ℕ NoMemory → Reading 
 Continues old bytes (Ok n) new = (n ≡ due_of old.phase old.left bytes) × (new ≡ continued old.phase old (take n bytes))
 Continues old bytes (Err e) new = new ≡ old
 
--- the contents among these bytes need more memory than the reader has
+-- The contents that are due among these bytes need more memory than the reader has.
 abbrev pub NeedsMemory : SegmentReader → List ℕ → Type 0
-NeedsMemory r bytes = vec_capacity r.contents < length (reading_of r).contents + due_of (reading_of r).phase (reading_of r).left bytes
+NeedsMemory r bytes = ((reading_of r).phase ≡ phase.Contents) × (vec_capacity r.contents < length (reading_of r).contents + due_of phase.Contents (reading_of r).left bytes)
 
 -- n are all bytes that are due among these; or none, if they need more memory.
 abbrev pub PassesDue : SegmentReader → List ℕ → ℕ → Type 0
