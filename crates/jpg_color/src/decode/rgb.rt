@@ -73,7 +73,7 @@ fn red_upper(t: i16) -> i16
     ensures low { neg_ℤ (pos 256) ≤ℤ result }
     ensures high { result ≤ℤ pos 256 }
 {
-    ((i32::from(t) * 26345) >> 16) as i16
+    upper_half(i32::from(t) * 26345)
 }
 
 // The upper half of what is subtracted from twice the difference: 14942 is 131072 - 116130.
@@ -84,7 +84,7 @@ fn blue_upper(t: i16) -> i16
     ensures low { neg_ℤ (pos 256) ≤ℤ result }
     ensures high { result ≤ℤ pos 256 }
 {
-    ((0 - i32::from(t) * 14942) >> 16) as i16
+    upper_half(0 - i32::from(t) * 14942)
 }
 
 #[inline(always)]
@@ -111,7 +111,7 @@ fn green_sum(b: i32, r: i32) -> i32
 
 #[inline(always)]
 fn upper_half(z: i32) -> i16
-    requires { (neg_ℤ (pos 6000000) ≤ℤ z) × (z ≤ℤ pos 6000000) }
+    requires { (neg_ℤ (pos 8000000) ≤ℤ z) × (z ≤ℤ pos 8000000) }
     ensures value { result ≡ int_shr z 16 }
     ensures low { neg_ℤ (pos 128) ≤ℤ result }
     ensures high { result ≤ℤ pos 128 }
