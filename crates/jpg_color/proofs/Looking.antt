@@ -1,15 +1,19 @@
 -- MCU rows of a complete picture are decoded until a row of the image is ready.
-use Rattle.std.proofs.Common.{◌≡◌, ℕ, ◌+◌, ◌<◌, ◌≤◌, ◌*◌, Bool, true, false, ◌==◌, ◌&&◌, nat_lt, if◌then◌else◌, sym, ap, ◌∙◌, subst, arith, length}
+use Rattle.std.proofs.Common.{◌≡◌, ℕ, ◌+◌, ◌<◌, ◌≤◌, ◌*◌, Bool, true, false, ◌==◌, ◌&&◌, nat_lt, if◌then◌else◌, None, sym, ap, ◌∙◌, subst, arith, length}
 use Rattle.std.proofs.lemmas.Bool.Decides.{nat_tests}
 use Rattle.jpg_spec.specs.Elements.{zeros}
-use Rattle.jpg_spec.specs.Geometry.{bounds, blocks_across, blocks_down, component_at, is_real}
+use Rattle.jpg_spec.specs.Geometry.{Frame, bounds, blocks_across, blocks_down, component_at, is_real}
 use Rattle.jpg_spec.specs.Ranges.{AreInRange}
+use Rattle.jpg_spec.specs.declared.frame.Colour.{Colour}
+use Rattle.jpg_spec_image.specs.Pixels.{out_fault, out_fault_of}
 use Rattle.jpg_coefs.specs.Picture.{Picture as Coefs, map_of}
+use Rattle.jpg_file.specs.Read.PictureRead.{picture_meaning}
 use Rattle.jpg_file.specs.declared.read.picture.Picture.{Picture}
 use Rattle.jpg_file.specs.declared.read.strip_head.StripHead.{StripHead}
-use Rattle.jpg_color.specs.Shown.{ShownState, Display, IsFreshRows, RepresentsPicture, IsNextRowDue, IsGiven, IsPushed, IsShowable, Advances, all_rows, at_due, parts, rows_made_ready, rows_in, row_length, row_of_blocks}
+use Rattle.jpg_color.specs.Shown.{ShownState, Display, IsFreshRows, RepresentsPicture, IsNextRowDue, IsGiven, IsPushed, IsShowable, Advances, all_rows, at_due, display_fault, display_of, factors_of, parts, rows_made_ready, rows_in, row_length, row_of_blocks}
 use Rattle.jpg_color.specs.PictureRows.{ArePictureRows, RowGoesOn, shown_blocks}
 use Rattle.jpg_color.proofs.Coverage.{in_frame}
+use Rattle.jpg_color.proofs.Decoded.{admits_display}
 use Rattle.jpg_color.proofs.Windows.{ready_high}
 
 -- the same rows were written, and what was decoded still holds
@@ -71,6 +75,12 @@ goes_on s0 s s1 q0 q h g =
           ∙ ap (λ (d : Display). row_of_blocks d (shown_blocks d q) s.given) h.display ∙ ap (λ (c : Coefs). row_of_blocks s0.display (shown_blocks s0.display c) s.given) h.coefs
           ∙ ap (λ n. row_of_blocks s0.display (shown_blocks s0.display q0) n) h.given;
     }
+
+-- what the rows of a picture are made from can be displayed, if the picture can
+pub head_admitted : (p : Picture) (h : StripHead) (gray smooth : Bool) → h.frame ≡ p.frame → h.colour ≡ p.colour → out_fault gray (picture_meaning p) ≡ None → display_fault (display_of h gray smooth) ≡ None
+head_admitted p h gray smooth frame colour none =
+    ap (λ (f : Frame). out_fault_of f.precision h.colour gray (factors_of f)) frame
+    ∙ ap (λ (c : Colour). out_fault_of p.frame.precision c gray (factors_of p.frame)) colour ∙ admits_display p gray smooth none
 
 -- before the first MCU row of a picture that was read
 pub first_rows : (p : Picture) (h : StripHead) (gray smooth : Bool) (s : ShownState) → h.frame ≡ p.frame → IsFreshRows h gray smooth s → ArePictureRows s p.coefs
