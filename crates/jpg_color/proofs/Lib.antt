@@ -33,6 +33,7 @@ pub mod StripParts
 pub mod StripsFresh
 pub mod StripsKept
 pub mod StripsNext
+pub mod StripsReady
 pub mod Three
 pub mod Windows
 pub mod EncodeFrames

@@ -165,7 +165,7 @@ pub ready_end : (d : Display) → rows_made_ready d (all_rows d) ≡ d.frame.hei
 ready_end d =
     ap (λ b. if b then d.frame.height else if any_far d then lines (picture_of d no_blocks) * all_rows d - 1 else lines (picture_of d no_blocks) * all_rows d) (same_itself (all_rows d))
 
-ready_early : (d : Display) (m : ℕ) → m < all_rows d → rows_made_ready d m ≡ (if any_far d then lines (picture_of d no_blocks) * m - 1 else lines (picture_of d no_blocks) * m)
+pub ready_early : (d : Display) (m : ℕ) → m < all_rows d → rows_made_ready d m ≡ (if any_far d then lines (picture_of d no_blocks) * m - 1 else lines (picture_of d no_blocks) * m)
 ready_early d m lt =
     ap (λ b. if b then d.frame.height else if any_far d then lines (picture_of d no_blocks) * m - 1 else lines (picture_of d no_blocks) * m)
     (not_same m (all_rows d) (λ (e : m ≡ all_rows d). omega (arith, e, lt)))
