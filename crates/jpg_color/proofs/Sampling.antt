@@ -281,6 +281,12 @@ rgb_of gray Rgb h = refl
 pub factors_of : (info : ImageInfo) (a : Asked) (f : Frame) → f ≡ encoded_frame info a → fault_due info a ≡ None → IsFrame f → AreFactorsOf f
 factors_of info a f e none is i there = ((is.factors i no_component there).v_low, whole_down (encoded_parts info a) f i e none there)
 
+-- what was appended of a strip, by its numbers and samples
+pub same_strip : (f : Frame) (old new : Planes) {x y : ImageInfo} {samples pending : List ℕ} → x ≡ y → samples ≡ pending → AppendsStrip f (image_of x samples) old new
+    → AppendsStrip f (image_of y pending) old new
+same_strip f old new {x} {y} {pending = pending} numbers same all =
+    subst (λ i. AppendsStrip f (image_of i pending) old new) numbers (subst (λ (p : List ℕ). AppendsStrip f (image_of x p) old new) same all)
+
 pub strip_is : (s : Strip) (info : ImageInfo) (a : Asked) (pending : List ℕ) (made : ℕ) → CanSample info a → s.frame.now ≡ encoded_frame info a → fault_due info a ≡ None → IsFrame s.frame.now → IsWhole info s.frame.now pending made
     → s.info.now ≡ strip_numbers info s.frame.now made → s.samples.now ≡ pending → IsStrip s
 strip_is s info a pending made can same none is whole numbers samples =
