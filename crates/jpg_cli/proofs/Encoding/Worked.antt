@@ -1,5 +1,5 @@
 -- The steps of jpgwork: what each leaves on its desk, and the report.
-use Rattle.std.proofs.Common.{◌≡◌, ℕ, ◌≤◌, Bool, true, false, List, [], ◌∷◌, ◌++◌, length, drop, take, Option, Some, None, refl, sym, ap, ◌∙◌, subst, arith, inl, inr}
+use Rattle.std.proofs.Common.{◌≡◌, ℕ, ◌<◌, ◌≤◌, Bool, true, false, List, [], ◌∷◌, ◌++◌, length, drop, take, Option, Some, None, refl, sym, ap, ◌∙◌, subst, arith, inl, inr}
 use Rattle.std.specs.Prelude.{IfSome, if◌then◌else◌, slice_get, sum}
 use Rattle.std.specs.Option.{option_map}
 use Rattle.std.specs.Str.{bytes_eq}
@@ -64,6 +64,9 @@ grown old new text e h = let P : Option Outputs → Type 0 = λ o. Grows o (name
 -- the bytes of that output
 pub output_is : (text : List ℕ) (desk : MemoryDesk) (r : List ℕ) → HasOutput text desk → option_map (λ p. p.1) (slice_get (memory_outputs desk) 0) ≡ Some r → r ≡ text
 output_is text desk r h e = some_inj r text (sym e ∙ ap (λ (o : Outputs). option_map (λ (p : Name × List ℕ). p.1) (slice_get o 0)) h)
+
+pub one_output : (text : List ℕ) (desk : MemoryDesk) → HasOutput text desk → 0 < length (memory_outputs desk)
+one_output text desk h = subst (λ (o : Outputs). 0 < length o) (sym h) (omega arith)
 
 -- AN INPUT
 

@@ -2,7 +2,7 @@
 ghost use Rattle.std.specs.Prelude.{◌≡◌, ◌≤◌, IfSome, None, length, map, true};
 ghost use Rattle.jpg_spec_image.specs.declared.image.EndKind.TheVariants as kind;
 ghost use Rattle.jpg_spec_image.specs.ImageText.{pnm_header};
-ghost use Rattle.jpg_spec_words.specs.Work.{first_picture, first_text, work_info, work_text};
+ghost use Rattle.jpg_spec_words.specs.Work.{first_picture, first_text, turned_picture, turned_text, work_info, work_text};
 ghost use Rattle.jpg_cli.specs.Stays.{OnlyWorks};
 ghost use Rattle.jpg_words.specs.TransformWords.{script_view};
 ghost use Rattle.jpg_cli.specs.Tools.Ends.{AreNewEnds, formats_of, has_format};
@@ -74,9 +74,27 @@ fn report_of(alloc: Global, size: u16, ends: Vec<Box<dyn ImageEnd>>) -> Option<B
     let Some(first) = first_file(alloc, size) else {
         return None;
     };
-    let Some(turned) = turned_file(alloc, first.output(0), Transform::Rotate90, false) else {
-        return None;
-    };
+    match turned_file(alloc, first.output(0), Transform::Rotate90, false) {
+        None => None,
+        Some(turned) => report_turned(alloc, size, &first, &turned, ends),
+    }
+}
+
+// The five lines, by the desks with the first two files; none if there is no memory.
+fn report_turned(
+    alloc: Global,
+    size: u16,
+    first: &MemoryDesk,
+    turned: &MemoryDesk,
+    ends: Vec<Box<dyn ImageEnd>>,
+) -> Option<Bytes>
+    requires small { size ≤ 400 }
+    requires first { HasFile (first_picture size) (first_text size) first.now }
+    requires turned { HasFile (turned_picture size) (turned_text size) turned.now }
+    requires ends { AreNewEnds (map (λ e. progress e) ends.items) }
+    requires has { has_format kind.Pnm (formats_of (map (λ e. progress e) ends.items)) ≡ true }
+    ensures { IfSome result (λ text. text ≡ work_text size) }
+{
     let Some(back) = turned_file(alloc, turned.output(0), Transform::Rotate270, true) else {
         return None;
     };
