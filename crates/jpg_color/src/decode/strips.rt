@@ -10,7 +10,7 @@ ghost use Rattle.jpg_coefs.specs.Picture.{map_of};
 ghost use Rattle.jpg_file.specs.Read.StripHead.{IsStripHead};
 ghost use Rattle.jpg_color.specs.PartState.{AreSized, CanDraw, CanFill, CanFillGray, head_picture, no_rows, drawn, filled, grayed_part};
 ghost use Rattle.jpg_color.specs.Shown.{Advances, IsNextRowDue, IsFreshRows, IsMcuRow, IsPushed, IsShowable, all_rows, at_due, at_top, display_fault, display_of, parts, rows_made_ready, rows_in, zero_row};
-ghost use Rattle.jpg_color.specs.StripsState.{AreNewParts, AreWide, HasMcuRow, coloured, coloured_length, part_at, start_of};
+ghost use Rattle.jpg_color.specs.StripsState.{AreNewParts, AreWide, HasMcuRow, coloured, coloured_length, line_at, part_at, start_of};
 
 use crate::decode::kinds::is_gray;
 use crate::decode::part::{Part, bytes};
@@ -170,6 +170,16 @@ fn draw_parts(parts: &mut [Part], y: u32, pushed: u32)
     }
 }
 
+// The line of part i, cut to this width.
+fn line_of(parts: &[Part], i: usize, width: usize) -> &[u8]
+    requires there { i < length parts.now }
+    requires wide { width ≤ (part_at parts.now i).stretch.across * (part_at parts.now i).stretch.wide }
+    ensures value { result.now ≡ line_at width parts.now i }
+    ensures long { length result.now ≡ width }
+{
+    &parts[i].line()[..width]
+}
+
 // Makes the row of the image from the lines of the parts.
 fn colour(colour: Colour, gray: bool, width: usize, parts: &[Part], last: &mut [u8])
     requires shown { is_colour_out colour gray ≡ false }
@@ -177,13 +187,13 @@ fn colour(colour: Colour, gray: bool, width: usize, parts: &[Part], last: &mut [
     requires room { length last.old ≡ coloured_length colour gray width }
     ensures { last.new ≡ coloured colour gray width parts.now }
 {
-    let first = &parts[0].line()[..width];
+    let first = line_of(parts, 0, width);
     if is_gray(colour, gray) {
         last.copy_from_slice(first);
         return;
     }
-    let second = &parts[1].line()[..width];
-    let third = &parts[2].line()[..width];
+    let second = line_of(parts, 1, width);
+    let third = line_of(parts, 2, width);
     if colour == Colour::YCbCr {
         rgb_row(first, second, third, last);
     } else {
