@@ -1,10 +1,41 @@
-use Rattle.std.proofs.Common.{◌≡◌, ◌∙◌, ◌*◌, ℕ, List, arith, subst, sym}
+use Rattle.std.proofs.Common.{◌≡◌, ◌∙◌, ◌*◌, ◌<◌, ℕ, List, length, ap, arith, subst, sym}
 use Rattle.std.specs.Vec.{with_items}
 use Rattle.std.proofs.lemmas.List.{with_items_is}
 use Rattle.jpg_spec.specs.Geometry.{v_max}
+use Rattle.jpg_color.specs.EncodeBlocks.{AreWindows, window_at}
 use Rattle.jpg_color.specs.PlaneRows.{HasPlaneRows}
+use Rattle.jpg_color.specs.declared.encode.strips.Strip.{Strip}
+use Rattle.jpg_color.specs.declared.encode.strips.Windows.{Windows}
 use Rattle.jpg_color.proofs.McuSources.{by_three}
 use Rattle.jpg_color.proofs.encode.strips.fill.Goals as goal
+
+-- the room for the rows of component i
+room : (s : Strip) (w : Windows) (i v : ℕ) (rows : List ℕ) → AreWindows s.frame.now w → i < length s.frame.now.components → rows ≡ window_at w i → v ≡ v_max s.frame.now
+    → s.info.now.width ≡ s.frame.now.width → length rows ≡ 8 * v * s.info.now.width
+room s w i v rows are there same down wide = ap length same ∙ are i there ∙ ap (λ n. 8 * n * s.frame.now.width) (sym down) ∙ ap (λ n. 8 * v * n) (sym wide)
+
+pub put_rows-requires-clause-room : goal.put_rows-requires-clause-room
+put_rows-requires-clause-room c =
+    room c.args.strip.now c.args.windows.now 0 c.v_max.result c.deref_mut.result.now c.requires.windows (omega (arith, c.count.ensures.low, c.count.ensures.value)) c.deref_mut.ensures.value
+    c.v_max.ensures.value c.requires.strip.wide
+
+pub put_colour_rows-requires-clause-luminance : goal.put_colour_rows-requires-clause-luminance
+put_colour_rows-requires-clause-luminance c =
+    let three = (c.requires.strip.colours (omega (arith, c.count.ensures.low, c.count.ensures.value, c.if-count-eq1.false))).0 in
+    room c.args.strip.now c.args.windows.now 0 c.v_max.result c.deref_mut-else-count-eq1.result.now c.requires.windows (omega (arith, three)) c.deref_mut-else-count-eq1.ensures.value
+    c.v_max.ensures.value c.requires.strip.wide
+
+pub put_colour_rows-requires-clause-blue : goal.put_colour_rows-requires-clause-blue
+put_colour_rows-requires-clause-blue c =
+    let three = (c.requires.strip.colours (omega (arith, c.count.ensures.low, c.count.ensures.value, c.if-count-eq1.false))).0 in
+    room c.args.strip.now c.args.windows.now 1 c.v_max.result c.deref_mut-else-count-eq1-2.result.now c.requires.windows (omega (arith, three)) c.deref_mut-else-count-eq1-2.ensures.value
+    c.v_max.ensures.value c.requires.strip.wide
+
+pub put_colour_rows-requires-clause-red : goal.put_colour_rows-requires-clause-red
+put_colour_rows-requires-clause-red c =
+    let three = (c.requires.strip.colours (omega (arith, c.count.ensures.low, c.count.ensures.value, c.if-count-eq1.false))).0 in
+    room c.args.strip.now c.args.windows.now 2 c.v_max.result c.deref_mut-else-count-eq1-3.result.now c.requires.windows (omega (arith, three)) c.deref_mut-else-count-eq1-3.ensures.value
+    c.v_max.ensures.value c.requires.strip.wide
 
 pub returns-else-count-eq1-clause-rows : goal.returns-else-count-eq1-clause-rows
 returns-else-count-eq1-clause-rows c = λ i there.
