@@ -15,7 +15,7 @@ use Rattle.jpg_spec_image.specs.declared.image.ImageKind.{ImageKind}
 use Rattle.jpg_spec_image.specs.declared.image.ImageKind.TheVariants.{Gray, Rgb}
 use Rattle.jpg_color.specs.ColourRows.{numbers_of_pixel}
 use Rattle.jpg_color.specs.Encode.{CanSample, encoded_frame, encoded_parts, encoding_request, fault_due, image_of}
-use Rattle.jpg_color.specs.EncodeBlocks.{AppendsStrip, AreRowsOf, AppendsRows, IsRowOf, IsStrip, plane_at}
+use Rattle.jpg_color.specs.EncodeBlocks.{AppendsStrip, AreRowsOf, AppendsRows, GrowsPlanes, HasPlanes, IsRowOf, IsStrip, plane_at}
 use Rattle.jpg_color.specs.EncodeSampling.{AddsSamples, Completes, HasGiven, HasSampled, MakesRow}
 use Rattle.jpg_color.specs.SamplerState.{IsWhole, KeepsSampler, row_length, strip_numbers, strip_room}
 use Rattle.jpg_color.specs.declared.encode.Encoding.{Encoding as Asked}
@@ -280,6 +280,35 @@ rgb_of gray Rgb h = refl
 
 pub factors_of : (info : ImageInfo) (a : Asked) (f : Frame) → f ≡ encoded_frame info a → fault_due info a ≡ None → IsFrame f → AreFactorsOf f
 factors_of info a f e none is i there = ((is.factors i no_component there).v_low, whole_down (encoded_parts info a) f i e none there)
+
+-- other planes, when no samples are left
+pub keeps_planes : (f : Frame) (rest : List ℕ) (new : Planes) (more : ℕ) {info : ImageInfo} {a : Asked} {pending : List ℕ} {old : Planes} {made left : ℕ} → KeepsSampler info a f pending old made left → left ≡ 0
+    → HasPlanes f more new → KeepsSampler info a f rest new more left
+keeps_planes f rest new more k none has = record {
+  can = k.can;
+  frame = k.frame;
+  none = k.none;
+  checked = k.checked;
+  planes = has;
+  short = λ h. absurd (omega (arith, h, none));
+  count = λ h. absurd (omega (arith, h, none));
+}
+
+-- planes that grew, and those of one more row of MCUs
+pub planes_grown : (f : Frame) (made : ℕ) (old new : Planes) → HasPlanes f made old → GrowsPlanes f old new → HasPlanes f made new
+planes_grown f made old new has grows = record {
+  rows = λ i there. (let g = grows i there in g.rows (has.rows i there));
+  enough = λ i there. (let g = grows i there in let e = has.enough i there in let m = g.more in omega (arith, e, m));
+}
+
+pub planes_more : (f : Frame) (made : ℕ) (strip : Image) (old new : Planes) → HasPlanes f made old → GrowsPlanes f old new → AppendsStrip f strip old new → HasPlanes f (made + 1) new
+planes_more f made strip old new has grows appends = record {
+  rows = λ i there. (let g = grows i there in g.rows (has.rows i there));
+  enough = λ i there. (let a = appends i there in more (component_at f i).v made (length (plane_at old i)) (length (plane_at new i)) (has.enough i there) a.long);
+}
+  where
+    more : (v m a b : ℕ) → v * m ≤ a → b ≡ a + v → v * (m + 1) ≤ b
+    more v m a b h e = (let next : v * (m + 1) ≡ v * m + v = grind arith in omega (arith, h, e, next))
 
 -- what was appended of a strip, by its numbers and samples
 pub same_strip : (f : Frame) (old new : Planes) {x y : ImageInfo} {samples pending : List ℕ} → x ≡ y → samples ≡ pending → AppendsStrip f (image_of x samples) old new
