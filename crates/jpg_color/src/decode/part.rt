@@ -1,7 +1,7 @@
 //! One component that is displayed: its rows of samples, and its row of the image.
 ghost use Rattle.std.specs.Prelude.{◌≡◌, ◌<◌, ◌≤◌, ◌+◌, ◌-◌, ◌*◌, ◌/◌, ◌%◌, ◌==◌, min, if◌then◌else◌, IfOk, length, true};
 ghost use Rattle.jpg_spec.specs.Geometry.{div_up};
-ghost use Rattle.jpg_spec_image.specs.Upsampling.{has_far_rows, is_smoothed};
+ghost use Rattle.jpg_spec_image.specs.Upsampling.{has_far_rows};
 ghost use Rattle.jpg_file.specs.Read.StripHead.{IsStripHead};
 ghost use Rattle.jpg_color.specs.PartState.{CanDraw, CanFill, CanFillGray, IsNewPart, IsSized, drawn, filled, grayed_part, head_picture};
 
@@ -180,9 +180,9 @@ impl Part {
         requires { CanDraw y pushed self.old }
         ensures { self.new ≡ drawn y pushed self.old }
     {
-        let smoothed = self.is_smoothed();
         let first = top(self.block_rows, pushed);
         let near = self.rows.row(y / u32::from(self.down) - first);
+        let smoothed = self.smooth && (2 < self.wide && self.across == 2);
         if smoothed && self.down == 2 {
             let far = self.rows.row(far(y, self.high) - first);
             up_rows2(near, far, &mut self.line);
@@ -197,14 +197,7 @@ impl Part {
     pub(crate) fn is_waiting(&self) -> bool
         ensures { result ≡ has_far_rows self.now.stretch }
     {
-        self.is_smoothed() && self.down == 2
-    }
-
-    // Whether its rows of samples are smoothed where they are upsampled.
-    fn is_smoothed(&self) -> bool
-        ensures { result ≡ is_smoothed self.now.stretch }
-    {
-        self.smooth && (2 < self.wide && self.across == 2)
+        self.smooth && (2 < self.wide && self.across == 2) && self.down == 2
     }
 
     /// The row of the image that was made last.
