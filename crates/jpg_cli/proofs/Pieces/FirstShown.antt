@@ -22,7 +22,7 @@ use Rattle.jpg_cli.specs.Desk.Judging.{IsAllRead, ReadsFrom, TakesPieces}
 use Rattle.jpg_cli.specs.Desk.ReadPicture.{IsOpenRead, IsReadPicture, IsRefusedRead, IsShortRead, unwanted_for, Wanted, Image}
 use Rattle.jpg_cli.specs.Outcome.{all_bytes, bytes_before}
 use Rattle.jpg_cli.specs.Tools.Showing.{AfterImage, IsPlain, Shown, Showing, shown_text}
-use Rattle.jpg_cli.specs.Tools.ShowingRows.{EndsPlainly, HoldsEarlyPlainly, HoldsPicture, HoldsPlainly}
+use Rattle.jpg_cli.specs.Tools.ShowingRows.{EndsPlainly, HoldsEarlyPlainly, HoldsPlainly}
 use Rattle.jpg_cli.specs.Stays.{Keeps, OnlyReads}
 use Rattle.jpg_cli.proofs.Comments.CommentsCopied.{works_then}
 use Rattle.jpg_cli.proofs.ByRow.ImageShown.{shown_written, text_shown}
@@ -52,7 +52,7 @@ pub record IsTaken (s : Showing) (early : Option ℕ) (start now : DeskState) (r
   pub all : IsAllRead early now
   pub plain : HasNoRows standard_limits bytes
 
-whole_taken : (s : Showing) (start now : DeskState) (r : ReaderState) (p : Picture) → r.limits ≡ standard_limits → TakesPicture r p → TakesPieces (HoldsPlainly s.gray r) start now → IsTaken s None start now r p
+pub whole_taken : (s : Showing) (start now : DeskState) (r : ReaderState) (p : Picture) → r.limits ≡ standard_limits → TakesPicture r p → TakesPieces (HoldsPlainly s.gray r) start now → IsTaken s None start now r p
 whole_taken s start now r p e takes (bytes, read, most, h) =
     let done = (h.holds).done in
     record {
@@ -67,7 +67,7 @@ whole_taken s start now r p e takes (bytes, read, most, h) =
     }
 
 -- and so does what was taken of one that ended early
-cut_taken : (s : Showing) (n : ℕ) (start now : DeskState) (r : ReaderState) (p : Picture) → r.limits ≡ standard_limits → TakesEarly r p → TakesPieces (HoldsEarlyPlainly s.gray r n) start now → rest_of now.left ≡ [] → IsTaken s (Some n) start now r p
+pub cut_taken : (s : Showing) (n : ℕ) (start now : DeskState) (r : ReaderState) (p : Picture) → r.limits ≡ standard_limits → TakesEarly r p → TakesPieces (HoldsEarlyPlainly s.gray r n) start now → rest_of now.left ≡ [] → IsTaken s (Some n) start now r p
 cut_taken s n start now r p e takes (bytes, read, most, h) all = record {
   meaning = early_meaning h.holds;
   means = takes bytes (h.holds).ended;
@@ -78,11 +78,6 @@ cut_taken s n start now r p e takes (bytes, read, most, h) all = record {
   all = all;
   plain = h.plain;
 }
-
-pub is_taken : (s : Showing) (early : Option ℕ) (start now : DeskState) (r : ReaderState) (p : Picture) → r.limits ≡ standard_limits → TakesPicture r p → TakesEarly r p → HoldsPicture s.gray early start r now
-    → IsTaken s early start now r p
-is_taken s None start now r p limits whole cut h = whole_taken s start now r p limits whole h
-is_taken s (Some n) start now r p limits whole cut h = cut_taken s n start now r p limits cut h.0 h.1
 
 read_wanted : (w : Wanted) (M : Meaning) (early : Option ℕ) (bytes : List ℕ) → IsReadPicture w M early bytes → unwanted_for w M ≡ None
 read_wanted w M None bytes h = h.wanted

@@ -153,16 +153,6 @@ EndsFirst gray old (first.Rows count answer) buffer r new =
     (count ≤ length buffer) × (new.input_open ≡ true) × TakesPieces (λ bytes. BeginsShownRows gray bytes (take count buffer) answer r) old new
 EndsFirst gray old (first.Ended ended) buffer r new = EndsPlainly gray old ended new
 
--- the reader read all of a picture without MCU rows; if the input ended early, after how many bytes
-abbrev pub HoldsPicture : Bool → Option ℕ → DeskState → ReaderState → DeskState → Type 0
-HoldsPicture gray None old r new = TakesPieces (HoldsPlainly gray r) old new
-HoldsPicture gray (Some n) old r new = TakesPieces (HoldsEarlyPlainly gray r n) old new × (rest_of new.left ≡ [])
-
--- its image was written
-abbrev pub ShowsPicture : Showing → Option ℕ → ReaderState → DeskState → Why → DeskState → Type 0
-ShowsPicture s early r now ended new =
-    (old start : DeskState) → Opens old s.input put.Done start → OnlyReads start now → HoldsPicture s.gray early start r now → Shown s old ended new
-
 -- one more piece
 abbrev pub AfterFirstRead : Bool → DeskState → List ℕ → FirstStep → List ℕ → ReaderState → DeskState → Type 0
 AfterFirstRead gray old bytes first.More buffer r new =

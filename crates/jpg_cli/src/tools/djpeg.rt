@@ -10,7 +10,7 @@ ghost use Rattle.jpg_file.specs.Read.ReadRows.{HasReadPlainly};
 ghost use Rattle.jpg_pnm_bmp.specs.EndState.{new_end};
 ghost use Rattle.jpg_cli.specs.Desk.ReadPicture.{unwanted_in, Image};
 ghost use Rattle.jpg_cli.specs.Tools.Showing.{AfterPicture, Shown, showing_view};
-ghost use Rattle.jpg_cli.specs.Tools.ShowingRows.{AfterFirstEnd, EndsFirst, GoesOnFirst, HasFedPlainly, HoldsPicture, IsOpened, ReadsFirst, ShowsPicture, StaysFirst, TakesFirst, step_of};
+ghost use Rattle.jpg_cli.specs.Tools.ShowingRows.{AfterFirstEnd, EndsFirst, GoesOnFirst, HasFedPlainly, IsOpened, ReadsFirst, StaysFirst, TakesFirst, step_of};
 ghost use Rattle.jpg_cli.specs.Stays.{OnlyReads, OnlyWorks};
 
 use crate::desk::file::read_within;
@@ -76,56 +76,26 @@ fn show_input<D: Desk>(
 {
     let mut reader = Reader::strips(alloc, Limits::standard());
     let mut buffer = [0u8; 16384];
-    show_read(alloc, &mut reader, &mut buffer, words, end, desk)
-}
-
-// Writes the image of the open input, of which the reader has read nothing, to the output.
-fn show_read<D: Desk>(
-    alloc: Global,
-    reader: &mut Reader,
-    buffer: &mut [u8; 16384],
-    words: &ShowWords,
-    end: &mut Box<dyn ImageEnd>,
-    desk: &mut D,
-) -> Why
-    requires open { (D.state desk.old).input_open ≡ true }
-    requires none { HasReadPlainly [] reader.old }
-    requires limits { reader.old.limits ≡ standard_limits }
-    requires by_row { reader.old.by_row ≡ true }
-    requires end { progress end.old ≡ new_end words.now.kind }
-    requires opened { IsOpened words.now.files.input (D.state desk.old) }
-    ensures kept { OnlyWorks (D.state desk.old) (D.state desk.new) }
-    ensures shown { (old : DeskState) → Opens old words.now.files.input put.Done (D.state desk.old) → Shown (showing_view words.now) old result (D.state desk.new) }
-{
-    match read_first(reader, words.gray, buffer, desk) {
+    match read_first(&mut reader, words.gray, &mut buffer, desk) {
         FirstStep::More => unreachable!(),
-        FirstStep::Whole => show_taken(alloc, reader, None, words, end, desk),
-        FirstStep::Early(count) => show_taken(alloc, reader, Some(count), words, end, desk),
+        FirstStep::Whole => write_image(alloc, &reader.take(), None, words, end, desk),
+        FirstStep::Early(count) => {
+            write_image(alloc, &reader.take(), Some(count), words, end, desk)
+        }
         FirstStep::Rows { count, answer } => {
-            show_rows(alloc, reader, words, answer, count, buffer, end, desk)
+            show_rows(
+                alloc,
+                &mut reader,
+                words,
+                answer,
+                count,
+                &mut buffer,
+                end,
+                desk,
+            )
         }
         FirstStep::Ended(why) => why,
     }
-}
-
-// Writes the image of the picture that was read; if the input ended early, after how many bytes.
-fn show_taken<D: Desk>(
-    alloc: Global,
-    reader: &mut Reader,
-    early: Option<u64>,
-    words: &ShowWords,
-    end: &mut Box<dyn ImageEnd>,
-    desk: &mut D,
-) -> Why
-    requires done { reader.old.done ≡ true }
-    requires plain { reader.old.rows ≡ None }
-    requires limits { reader.old.limits ≡ standard_limits }
-    requires end { progress end.old ≡ new_end words.now.kind }
-    requires read { (start : DeskState) × HoldsPicture words.now.gray early start reader.old (D.state desk.old) }
-    ensures kept { OnlyWorks (D.state desk.old) (D.state desk.new) }
-    ensures shown { ShowsPicture (showing_view words.now) early reader.old (D.state desk.old) result (D.state desk.new) }
-{
-    write_image(alloc, &reader.take(), early, words, end, desk)
 }
 
 // Reads the open input until rows begin or the file is complete, or returns why the reading ends.
