@@ -2,7 +2,10 @@
 //! is asked again, the reason. It is only said: no contract of `run` speaks of it.
 use jpg_base::{Name, Text};
 use jpg_spec_words::{Which, Why};
-use jpg_words::{Asked, CommentFrom, Files, ScriptFrom, read_words, tool_name};
+use jpg_words::{
+    Asked, CommentFrom, EncodeWords, Files, ScriptFrom, TransformWords, WriteWords, read_words,
+    tool_name,
+};
 use std::alloc::Global;
 use std::fs;
 use std::fs::OpenOptions;
@@ -107,28 +110,64 @@ fn path_of_comment(comment: &CommentFrom) -> Option<&str> {
     }
 }
 
-// The files of a command.
-fn files_of(asked: &Asked) -> Option<&Files> {
-    match asked {
-        Asked::Jpegtran(words) => Some(&words.files),
-        Asked::Djpeg(words) => Some(&words.files),
-        Asked::Cjpeg(words) => Some(&words.files),
-        Asked::Rdjpgcom(files) => Some(files),
-        Asked::Wrjpgcom(words) => Some(&words.files),
-        Asked::Jpgwork(_) => None,
+// The name of the input or the output, if it isn't a standard stream.
+fn name_in(files: &Files, which: Which) -> Option<&str> {
+    match which {
+        Which::Input => path_of(&files.input),
+        Which::Output => path_of(&files.output),
+        _ => None,
     }
 }
 
-// The name that a command has for one of its files, if it isn't a standard stream.
-fn name_of(asked: &Asked, which: Which) -> Option<&str> {
-    match (which, asked) {
-        (Which::Input, _) => path_of(&files_of(asked)?.input),
-        (Which::Output, _) => path_of(&files_of(asked)?.output),
-        (Which::Script, Asked::Jpegtran(words)) => path_of_script(&words.script),
-        (Which::Script, Asked::Cjpeg(words)) => path_of_script(&words.script),
-        (Which::Tables, Asked::Cjpeg(words)) => path_of_text(&words.tables),
-        (Which::Comment, Asked::Wrjpgcom(words)) => path_of_comment(&words.comment),
+// The name that jpegtran has for one of its files.
+fn jpegtran_name(words: &TransformWords, which: Which) -> Option<&str> {
+    match which {
+        Which::Script => path_of_script(&words.script),
+        _ => name_in(&words.files, which),
+    }
+}
+
+// The name that cjpeg has for one of its files.
+fn cjpeg_name(words: &EncodeWords, which: Which) -> Option<&str> {
+    match which {
+        Which::Script => path_of_script(&words.script),
+        Which::Tables => path_of_text(&words.tables),
+        _ => name_in(&words.files, which),
+    }
+}
+
+// The name that wrjpgcom has for one of its files.
+fn wrjpgcom_name(words: &WriteWords, which: Which) -> Option<&str> {
+    match which {
+        Which::Comment => path_of_comment(&words.comment),
+        _ => name_in(&words.files, which),
+    }
+}
+
+// The file that couldn't be opened or read, if that is why.
+fn file_of(why: Why) -> Option<Which> {
+    match why {
+        Why::OpenFault(which) => Some(which),
+        Why::ReadFault(which) => Some(which),
         _ => None,
+    }
+}
+
+// Why a file of this name can't be opened, read or created.
+fn reason_for<R: Runtime>(rt: &R, which: Which, name: &str) -> &'static str {
+    match which {
+        _ if name.is_empty() => "its name is empty",
+        Which::Output => reason_to_create(rt, name),
+        _ => reason_to_read(rt, name),
+    }
+}
+
+// Says this name, if there is one, and the reason, after the name of the command.
+fn say_reason<R: Runtime>(rt: &R, words: &[String], which: Which, name: Option<&str>) {
+    if let Some(name) = name {
+        let tool = tool_name(words);
+        let reason = reason_for(rt, which, name);
+        let _ = eprintln!(rt; "{tool}: {name}{reason}");
     }
 }
 
@@ -136,22 +175,16 @@ fn name_of(asked: &Asked, which: Which) -> Option<&str> {
 /// standard stream, and where there is no memory.
 #[inline(never)]
 pub fn say_file<R: Runtime>(rt: &R, alloc: Global, words: &[String], why: Why) {
-    let which = match why {
-        Why::OpenFault(which) => which,
-        Why::ReadFault(which) => which,
-        _ => return,
-    };
-    let Ok(asked) = read_words(alloc, words) else {
+    let Some(which) = file_of(why) else {
         return;
     };
-    let Some(name) = name_of(&asked, which) else {
-        return;
-    };
-    let reason = match which {
-        _ if name.is_empty() => "its name is empty",
-        Which::Output => reason_to_create(rt, name),
-        _ => reason_to_read(rt, name),
-    };
-    let tool = tool_name(words);
-    let _ = eprintln!(rt; "{tool}: {name}{reason}");
+    match read_words(alloc, words) {
+        Err(_) => {}
+        Ok(Asked::Jpegtran(asked)) => say_reason(rt, words, which, jpegtran_name(&asked, which)),
+        Ok(Asked::Djpeg(asked)) => say_reason(rt, words, which, name_in(&asked.files, which)),
+        Ok(Asked::Cjpeg(asked)) => say_reason(rt, words, which, cjpeg_name(&asked, which)),
+        Ok(Asked::Rdjpgcom(files)) => say_reason(rt, words, which, name_in(&files, which)),
+        Ok(Asked::Wrjpgcom(asked)) => say_reason(rt, words, which, wrjpgcom_name(&asked, which)),
+        Ok(Asked::Jpgwork(_)) => {}
+    }
 }
