@@ -1,11 +1,11 @@
 -- One component that is displayed: its numbers, the rows of samples that are kept of it, and what its rows of the image
 -- are made from.
-use Rattle.std.specs.Prelude.{◌≡◌, ℕ, ◌+◌, ◌-◌, ◌*◌, ◌<◌, ◌≤◌, min, Bool, true, false, if◌then◌else◌, List, [], length}
+use Rattle.std.specs.Prelude.{◌≡◌, ℕ, ◌+◌, ◌-◌, ◌*◌, ◌<◌, ◌≤◌, min, Bool, true, false, ◌&&◌, ◌==◌, if◌then◌else◌, List, [], length}
 use Rattle.jpg_spec.specs.FileMeaning.{no_blocks}
 use Rattle.jpg_spec.specs.Segments.{QuantTable}
 use Rattle.jpg_spec.specs.Meaning.{Meaning}
 use Rattle.jpg_spec.specs.Meaning.{component_of}
-use Rattle.jpg_spec_image.specs.Upsampling.{Stretch, has_far_rows, near_row, far_row, upsampled_row}
+use Rattle.jpg_spec_image.specs.Upsampling.{Stretch, has_far_rows, near_row, far_row, repeat_row, up_row, up_rows2, upsampled_row}
 use Rattle.jpg_spec_image.specs.Pixels.{stretch_of}
 use Rattle.jpg_spec_image.specs.Strips.{block_rows, kept_row}
 use Rattle.jpg_coefs.specs.Picture.{Picture, map_of}
@@ -105,6 +105,13 @@ pub record CanDraw (y m : ℕ) (p : PartState) : Type 0 where
   pub high : near_row p.stretch y - top p m < length p.kept.rows
   pub far_low : has_far_rows p.stretch ≡ true → top p m ≤ far_row p.stretch y
   pub far_high : has_far_rows p.stretch ≡ true → far_row p.stretch y - top p m < length p.kept.rows
+
+-- a row of the image, of the row near it and perhaps of the far one
+abbrev pub upsampled_from : List ℕ → List ℕ → Bool → ℕ → ℕ → List ℕ
+upsampled_from near far smoothed across down =
+    if smoothed && down == 2 then up_rows2 near far
+    else if smoothed && down == 1 then up_row near
+    else repeat_row across near
 
 abbrev pub drawn : ℕ → ℕ → PartState → PartState
 drawn y m p = record p { line = upsampled_row p.stretch (kept_row (top p m) p.kept.rows) y }

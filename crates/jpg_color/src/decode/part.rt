@@ -1,9 +1,9 @@
 //! One component that is displayed: its rows of samples, and its row of the image.
 ghost use Rattle.std.specs.Prelude.{◌≡◌, ◌<◌, ◌≤◌, ◌+◌, ◌-◌, ◌*◌, ◌/◌, ◌%◌, ◌==◌, min, if◌then◌else◌, IfOk, length, true};
 ghost use Rattle.jpg_spec.specs.Geometry.{div_up};
-ghost use Rattle.jpg_spec_image.specs.Upsampling.{has_far_rows};
+ghost use Rattle.jpg_spec_image.specs.Upsampling.{has_far_rows, is_smoothed};
 ghost use Rattle.jpg_file.specs.Read.StripHead.{IsStripHead};
-ghost use Rattle.jpg_color.specs.PartState.{CanDraw, CanFill, CanFillGray, IsNewPart, IsSized, drawn, filled, grayed_part, head_picture};
+ghost use Rattle.jpg_color.specs.PartState.{CanDraw, CanFill, CanFillGray, IsNewPart, IsSized, drawn, filled, grayed_part, head_picture, upsampled_from};
 
 use crate::decode::sample_rows::SampleRows;
 use jpg_base::{NoMemory, QuantTable};
@@ -111,6 +111,22 @@ fn top(block_rows: u8, pushed: u32) -> u32
     (8 * u32::from(block_rows) * pushed.saturating_sub(1)).saturating_sub(1)
 }
 
+// A row of the image from the row of samples near it, and the far one if it is made from two.
+fn upsample(near: &[u8], far: &[u8], smoothed: bool, across: u8, down: u8, out: &mut [u8])
+    requires smoothed { smoothed ≡ true → (2 < length near.now) × (across ≡ 2) }
+    requires same { length far.now ≡ length near.now }
+    requires room { length out.old ≡ across * length near.now }
+    ensures { out.new ≡ upsampled_from near.now far.now smoothed across down }
+{
+    if smoothed && down == 2 {
+        up_rows2(near, far, out);
+    } else if smoothed && down == 1 {
+        up_row(near, out);
+    } else {
+        repeat_row(near, across, out);
+    }
+}
+
 impl Part {
     /// Component `i` of a picture, with room for its rows. Returns NoMemory if there is no memory for them.
     pub(crate) fn new(
@@ -181,23 +197,28 @@ impl Part {
         ensures { self.new ≡ drawn y pushed self.old }
     {
         let first = top(self.block_rows, pushed);
+        let smoothed = self.is_smoothed();
         let near = self.rows.row(y / u32::from(self.down) - first);
-        let smoothed = self.smooth && (2 < self.wide && self.across == 2);
-        if smoothed && self.down == 2 {
-            let far = self.rows.row(far(y, self.high) - first);
-            up_rows2(near, far, &mut self.line);
-        } else if smoothed && self.down == 1 {
-            up_row(near, &mut self.line);
+        let far = if smoothed && self.down == 2 {
+            self.rows.row(far(y, self.high) - first)
         } else {
-            repeat_row(near, self.across, &mut self.line);
-        }
+            near
+        };
+        upsample(near, far, smoothed, self.across, self.down, &mut self.line);
     }
 
     /// Whether its rows of the image are made from two rows of samples.
     pub(crate) fn is_waiting(&self) -> bool
         ensures { result ≡ has_far_rows self.now.stretch }
     {
-        self.smooth && (2 < self.wide && self.across == 2) && self.down == 2
+        self.is_smoothed() && self.down == 2
+    }
+
+    // Whether its rows of samples are smoothed where they are upsampled.
+    fn is_smoothed(&self) -> bool
+        ensures { result ≡ is_smoothed self.now.stretch }
+    {
+        self.smooth && (2 < self.wide && self.across == 2)
     }
 
     /// The row of the image that was made last.
