@@ -3,10 +3,11 @@ use Rattle.std.proofs.Common.{◌≡◌, ℕ, zero, suc, ◌+◌, ◌-◌, ◌*�
 use mir.Val.{bool_byte}
 use Rattle.std.specs.Int.Bits.{bit_or}
 use Rattle.std.proofs.lemmas.List.{append_assoc, append-nil, drop_more, take_min, drop_min}
-use Rattle.std.proofs.lemmas.Nat.{shr_high, pow-add, or_shifted, mod-mul-add, pow_pos}
-use Rattle.std.proofs.Math.Nat.{div-div-eq-div-mul, pow-succ', mod-lt, mul-lt-mul_of_pos_right, mul_assoc, add-mul}
+use Rattle.std.proofs.lemmas.Nat.{shr_high, pow-add, or_shifted, mod-mul-add, pow_pos, shl_whole}
+use Rattle.std.proofs.Math.Nat.{div-lt_iff_lt-mul, div-div-eq-div-mul, pow-succ', mod-lt, mul-lt-mul_of_pos_right, mul_assoc, add-mul}
 use Rattle.std.proofs.Math.Seq.{drop-append_seam}
 use Rattle.jpg_spec.specs.Bits.{bits_of}
+use Rattle.jpg_base.specs.Store.{low_of, IsHigh}
 use Rattle.jpg_spec.proofs.Basics.Strings.{length-bits_of}
 use Rattle.jpg_spec.proofs.Basics.Common.{take_front}
 
@@ -43,33 +44,12 @@ bits_of-beside c t a b h =
 drop_front : (n : ℕ) (xs ys : List Bool) → length xs ≡ n → drop n (xs ++ ys) ≡ ys
 drop_front n xs ys l = ap (λ k. drop k (xs ++ ys)) (sym l) ∙ drop-append_seam xs ys
 
--- bits in the middle of a string
-pub middle : (count before n word : ℕ) → before + n ≤ count → take n (drop before (bits_of count word)) ≡ bits_of n (word / 2 ^ (count - before - n) % 2 ^ n)
-middle count before n word h =
-    let rest = count - before - n in
-    let e : count ≡ before + (n + rest) = omega arith in
-    let cut : bits_of count word ≡ bits_of before (word / 2 ^ (n + rest)) ++ (bits_of n (word / 2 ^ rest) ++ bits_of rest word) =
-    ap (λ m. bits_of m word) e ∙ bits_of-add before (n + rest) word ∙ ap (λ x. bits_of before (word / 2 ^ (n + rest)) ++ x) (bits_of-add n rest word) in
-    ap (λ x. take n (drop before x)) cut
-    ∙ ap (take n) (drop_front before (bits_of before (word / 2 ^ (n + rest))) (bits_of n (word / 2 ^ rest) ++ bits_of rest word) (length-bits_of before (word / 2 ^ (n + rest))))
-    ∙ take_front n (bits_of n (word / 2 ^ rest)) (bits_of rest word) (length-bits_of n (word / 2 ^ rest))
-    ∙ sym (bits_of-mod n (word / 2 ^ rest))
-
 -- the bits after the first ones
 pub behind : (count n word : ℕ) → n ≤ count → bits_of (count - n) word ≡ drop n (bits_of count word)
 behind count n word h =
     let e : count ≡ n + (count - n) = omega arith in
     sym (ap (λ m. drop n (bits_of m word)) e ∙ ap (drop n) (bits_of-add n (count - n) word)
     ∙ drop_front n (bits_of n (word / 2 ^ (count - n))) (bits_of (count - n) word) (length-bits_of n (word / 2 ^ (count - n))))
-
--- the low bits of a number that was truncated to more bits
-pub bits_of-cut : (t m n : ℕ) → t ≤ m → bits_of t (n % 2 ^ m) ≡ bits_of t n
-bits_of-cut t m n h =
-    let e : n ≡ n / 2 ^ m * 2 ^ m + n % 2 ^ m = search arith in
-    let d : m - t + t ≡ m = omega arith in
-    let p : 2 ^ m ≡ 2 ^ (m - t) * 2 ^ t = ap (λ k. 2 ^ k) (sym d) ∙ pow-add 2 (m - t) t in
-    let q : n / 2 ^ m * 2 ^ m ≡ n / 2 ^ m * 2 ^ (m - t) * 2 ^ t = ap (λ k. n / 2 ^ m * k) p ∙ sym (mul_assoc (n / 2 ^ m) (2 ^ (m - t)) (2 ^ t)) in
-    sym (ap (bits_of t) (e ∙ ap (λ k. k + n % 2 ^ m) q) ∙ bits_of-low t (n / 2 ^ m * 2 ^ (m - t)) (n % 2 ^ m))
 
 -- a word of 64 bits that is shifted
 shifted : (word n : ℕ) → n ≤ 64 → word * 2 ^ n % 2 ^ 64 ≡ word % 2 ^ (64 - n) * 2 ^ n
@@ -83,13 +63,88 @@ shifted word n h =
     ap (λ k. k * 2 ^ n) e ∙ add-mul (word / 2 ^ (64 - n) * 2 ^ (64 - n)) (word % 2 ^ (64 - n)) (2 ^ n) ∙ ap (λ k. k + word % 2 ^ (64 - n) * 2 ^ n) (mul_assoc (word / 2 ^ (64 - n)) (2 ^ (64 - n)) (2 ^ n) ∙ ap (λ k. word / 2 ^ (64 - n) * k) p) in
     ap (λ k. k % 2 ^ 64) m ∙ mod-mul-add (word / 2 ^ (64 - n)) (2 ^ 64) (word % 2 ^ (64 - n) * 2 ^ n) s
 
+-- THE HIGH BITS OF A WORD
+
+cancel : (x k : ℕ) → x * 2 ^ k / 2 ^ k ≡ x
+cancel x k = ap (λ m. m / 2 ^ k) (sym (add-zero (x * 2 ^ k))) ∙ shr_high x k 0 (pow_pos k)
+
+pub low_from : (word x count : ℕ) → word ≡ x * 2 ^ (64 - count) → low_of count word ≡ x
+low_from word x count e = ap (λ m. m / 2 ^ (64 - count)) e ∙ cancel x (64 - count)
+
+pub high_from : (word x count : ℕ) → word ≡ x * 2 ^ (64 - count) → IsHigh count word
+high_from word x count e = e ∙ ap (λ m. m * 2 ^ (64 - count)) (sym (low_from word x count e))
+
 -- bits that are appended
-pub appended : (word count n number : ℕ) → count + n ≤ 64 → number < 2 ^ n → bits_of (count + n) (bit_or (word * 2 ^ n % 2 ^ 64) number) ≡ bits_of count word ++ bits_of n number
-appended word count n number h fits =
-    let high = word % 2 ^ (64 - n) in
-    let s : word * 2 ^ n % 2 ^ 64 ≡ high * 2 ^ n = shifted word n (omega arith) in
-    ap (λ k. bits_of (count + n) (bit_or k number)) s ∙ ap (bits_of (count + n)) (or_shifted high n number fits) ∙ bits_of-beside count n high number fits
-    ∙ ap (λ x. x ++ bits_of n number) (bits_of-cut count (64 - n) word (omega arith))
+pub appended : (word count n number : ℕ) → count + n ≤ 64 → number < 2 ^ n → IsHigh count word → bit_or word (number * 2 ^ (64 - (count + n)) % 2 ^ 64) ≡ (low_of count word * 2 ^ n + number) * 2 ^ (64 - (count + n))
+appended word count n number h fits high =
+    let k = 64 - (count + n) in
+    let low = low_of count word in
+    let e : 64 - count ≡ n + k = omega arith in
+    let p : 2 ^ (64 - count) ≡ 2 ^ n * 2 ^ k = ap (λ m. 2 ^ m) e ∙ pow-add 2 n k in
+    let whole : number * 2 ^ k % 2 ^ 64 ≡ number * 2 ^ k = shl_whole number n k 64 fits (omega arith) in
+    let small : number * 2 ^ k < 2 ^ (64 - count) = subst (λ m. number * 2 ^ k < m) (sym p) (mul-lt-mul_of_pos_right fits (pow_pos k)) in
+    let sum : low * 2 ^ (64 - count) + number * 2 ^ k ≡ (low * 2 ^ n + number) * 2 ^ k =
+    ap (λ m. low * m + number * 2 ^ k) p ∙ ap (λ m. m + number * 2 ^ k) (sym (mul_assoc low (2 ^ n) (2 ^ k))) ∙ sym (add-mul (low * 2 ^ n) number (2 ^ k)) in
+    ap (λ m. bit_or word m) whole ∙ ap (λ w. bit_or w (number * 2 ^ k)) high ∙ or_shifted low (64 - count) (number * 2 ^ k) small ∙ sum
+
+-- the string of such a word
+pub appended_bits : (word count n number : ℕ) → count + n ≤ 64 → number < 2 ^ n → IsHigh count word → bits_of (count + n) (low_of (count + n) (bit_or word (number * 2 ^ (64 - (count + n)) % 2 ^ 64))) ≡ bits_of count (low_of count word) ++ bits_of n number
+appended_bits word count n number h fits high =
+    ap (bits_of (count + n)) (low_from (bit_or word (number * 2 ^ (64 - (count + n)) % 2 ^ 64)) (low_of count word * 2 ^ n + number) (count + n) (appended word count n number h fits high))
+    ∙ bits_of-beside count n (low_of count word) number fits
+
+-- a word whose first bits are shifted out
+pub skipped : (word count n : ℕ) → n ≤ count → count ≤ 64 → IsHigh count word → word * 2 ^ n % 2 ^ 64 ≡ low_of count word % 2 ^ (count - n) * 2 ^ (64 - (count - n))
+skipped word count n h most high =
+    let low = low_of count word in
+    let m = 64 - count + n in
+    let w : word * 2 ^ n ≡ low * 2 ^ m = ap (λ x. x * 2 ^ n) high ∙ mul_assoc low (2 ^ (64 - count)) (2 ^ n) ∙ ap (λ p. low * p) (sym (pow-add 2 (64 - count) n)) in
+    let d : 64 - m ≡ count - n = omega arith in
+    let f : m ≡ 64 - (count - n) = omega arith in
+    ap (λ x. x % 2 ^ 64) w ∙ shifted low m (omega arith) ∙ ap (λ k. low % 2 ^ k * 2 ^ m) d ∙ ap (λ k. low % 2 ^ (count - n) * 2 ^ k) f
+
+pub skipped_bits : (word count n : ℕ) → n ≤ count → count ≤ 64 → IsHigh count word → bits_of (count - n) (low_of (count - n) (word * 2 ^ n % 2 ^ 64)) ≡ drop n (bits_of count (low_of count word))
+skipped_bits word count n h most high =
+    let low = low_of count word in
+    ap (bits_of (count - n)) (low_from (word * 2 ^ n % 2 ^ 64) (low % 2 ^ (count - n)) (count - n) (skipped word count n h most high))
+    ∙ bits_of-mod (count - n) low ∙ behind count n low h
+
+-- no bits are left
+pub emptied : (n count low : ℕ) → n ≤ count → count ≤ n → bits_of (count - n) (low_of (count - n) 0) ≡ drop n (bits_of count low)
+unfolding bits_of
+emptied n count low h g =
+    let z : count - n ≡ 0 = omega arith in
+    let a : bits_of (count - n) (low_of (count - n) 0) ≡ [] = ap (λ k. bits_of k (low_of (count - n) 0)) z in
+    let b : bits_of (count - n) low ≡ [] = ap (λ k. bits_of k low) z in
+    a ∙ sym b ∙ behind count n low h
+
+-- bits in the middle of a word
+pub middle_high : (word count before n : ℕ) → before + n ≤ count → count ≤ 64 → IsHigh count word → bits_of n (word * 2 ^ before % 2 ^ 64 / 2 ^ (64 - n)) ≡ take n (drop before (bits_of count (low_of count word)))
+middle_high word count before n h most high =
+    let low = low_of count word in
+    let r = count - before - n in
+    let x = low % 2 ^ (count - before) in
+    let s = 64 - (count - before) in
+    let q : 64 - n ≡ s + r = omega arith in
+    let p : 2 ^ (64 - n) ≡ 2 ^ s * 2 ^ r = ap (λ k. 2 ^ k) q ∙ pow-add 2 s r in
+    let dv : word * 2 ^ before % 2 ^ 64 / 2 ^ (64 - n) ≡ x / 2 ^ r =
+    ap (λ m. m / 2 ^ (64 - n)) (skipped word count before (omega arith) most high) ∙ ap (λ m. x * 2 ^ s / m) p
+    ∙ sym (div-div-eq-div-mul (x * 2 ^ s) (2 ^ s) (2 ^ r)) ∙ ap (λ m. m / 2 ^ r) (cancel x s) in
+    let e : n + r ≡ count - before = omega arith in
+    ap (bits_of n) dv
+    ∙ sym (ap (take n) (bits_of-add n r x) ∙ take_front n (bits_of n (x / 2 ^ r)) (bits_of r x) (length-bits_of n (x / 2 ^ r)))
+    ∙ ap (λ m. take n (bits_of m x)) e ∙ ap (take n) (bits_of-mod (count - before) low) ∙ ap (take n) (behind count before low (omega arith))
+
+pub high_fits : (x n : ℕ) → n ≤ 64 → x < 2 ^ 64 → x / 2 ^ (64 - n) < 2 ^ n
+high_fits x n h less =
+    let e : n + (64 - n) ≡ 64 = omega arith in
+    let p : 2 ^ 64 ≡ 2 ^ n * 2 ^ (64 - n) = ap (λ k. 2 ^ k) (sym e) ∙ pow-add 2 n (64 - n) in
+    (div-lt_iff_lt-mul (pow_pos (64 - n))).1 (subst (λ m. x < m) p less)
+
+pub four_bytes : (a b c d : ℕ) → b < 2 ^ 8 → c < 2 ^ 8 → d < 2 ^ 8 → bits_of 32 (((a * 256 + b) * 256 + c) * 256 + d) ≡ ((bits_of 8 a ++ bits_of 8 b) ++ bits_of 8 c) ++ bits_of 8 d
+four_bytes a b c d hb hc hd =
+    bits_of-beside 24 8 ((a * 256 + b) * 256 + c) d hd
+    ∙ ap (λ x. x ++ bits_of 8 d) (bits_of-beside 16 8 (a * 256 + b) c hc ∙ ap (λ x. x ++ bits_of 8 c) (bits_of-beside 8 8 a b hb))
 
 -- ONE BIT
 

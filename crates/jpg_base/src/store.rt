@@ -1,10 +1,10 @@
 //! Bits in a word, which wait to be decoded (T.81, F.2.2.4, F.2.2.5: RECEIVE and NEXTBIT take from it).
-ghost use Rattle.std.specs.Prelude.{◌≡◌, ◌<◌, ◌≤◌, ◌+◌, ◌-◌, ◌^◌, [], ◌∷◌, ◌++◌, length, take, drop, slice_index_or, false};
+ghost use Rattle.std.specs.Prelude.{◌≡◌, ◌<◌, ◌≤◌, ◌+◌, ◌-◌, ◌*◌, ◌^◌, [], ◌∷◌, ◌++◌, length, take, drop, slice_index_or, false};
 ghost use Rattle.jpg_spec.specs.Bits.{bits_of};
 
 use std::marker::Model;
 
-/// At most 64 bits in their order. They are the low `count` bits of the word; the bits above them are ignored.
+/// At most 64 bits in their order. They are the high `count` bits of the word; the bits below them are 0.
 #[derive(Drop)]
 pub struct BitStore {
     word: u64,
@@ -13,13 +13,14 @@ pub struct BitStore {
 
 impl Model for BitStore {
     ghost use Rattle.std.specs.Prelude.{List, Bool, ◌≤◌};
+    ghost use Rattle.jpg_base.specs.Store.{low_of, IsHigh};
     ghost use Rattle.jpg_spec.specs.Bits.{bits_of};
 
     ghost Value = { List Bool };
 
-    ghost view = { λ s. bits_of s.count s.word };
+    ghost view = { λ s. bits_of s.count (low_of s.count s.word) };
 
-    ghost invariant = { λ s. s.count ≤ 64 };
+    ghost invariant = { λ s. (s.count ≤ 64) × IsHigh s.count s.word };
 }
 
 impl BitStore {
@@ -63,12 +64,12 @@ impl BitStore {
     #[inline(always)]
     fn append(&mut self, number: u64, n: u8)
         requires room { length self.old + n ≤ 64 }
-        requires few { n ≤ 32 }
+        requires few { (1 ≤ n) × (n ≤ 32) }
         requires fits { number < 2 ^ n }
         ensures { self.new ≡ self.old ++ bits_of n number }
     {
-        self.word = self.word << n | number;
         self.count += n;
+        self.word = self.word | number << (64 - self.count);
     }
 
     // The `n` bits after the first `before` ones.
@@ -80,7 +81,7 @@ impl BitStore {
         ensures value { bits_of n result ≡ take n (drop before self.now) }
         ensures fits { result < 2 ^ n }
     {
-        (self.word >> (self.count - before - n)) % (1 << n)
+        (self.word << before) >> (64 - n)
     }
 
     /// The first `n` bits as a number.
@@ -115,6 +116,25 @@ impl BitStore {
         self.part(i, 1) == 1
     }
 
+    // Four bytes as a number.
+    #[inline(always)]
+    fn number_of(a: u8, b: u8, c: u8, d: u8) -> u64
+        ensures value { result ≡ ((a * 256 + b) * 256 + c) * 256 + d }
+        ensures fits { result < 2 ^ 32 }
+        ensures bytes { (b < 2 ^ 8) × (c < 2 ^ 8) × (d < 2 ^ 8) }
+    {
+        ((u64::from(a) * 256 + u64::from(b)) * 256 + u64::from(c)) * 256 + u64::from(d)
+    }
+
+    /// Appends the bits of four bytes.
+    #[inline(always)]
+    pub fn push_four(&mut self, a: u8, b: u8, c: u8, d: u8)
+        requires { length self.old ≤ 32 }
+        ensures { self.new ≡ self.old ++ (((bits_of 8 a ++ bits_of 8 b) ++ bits_of 8 c) ++ bits_of 8 d) }
+    {
+        self.append(BitStore::number_of(a, b, c, d), 32);
+    }
+
     /// Appends a bit.
     #[inline(always)]
     pub fn push_bit(&mut self, bit: bool)
@@ -130,6 +150,22 @@ impl BitStore {
         requires { n ≤ length self.old }
         ensures { self.new ≡ drop n self.old }
     {
+        if n < 64 {
+            self.skip_few(n);
+        } else {
+            self.word = 0;
+            self.count -= n;
+        }
+    }
+
+    /// The same for fewer than 64 bits, which takes one shift.
+    #[inline(always)]
+    pub fn skip_few(&mut self, n: u8)
+        requires there { n ≤ length self.old }
+        requires few { n < 64 }
+        ensures { self.new ≡ drop n self.old }
+    {
+        self.word = self.word << n;
         self.count -= n;
     }
 
@@ -144,7 +180,7 @@ impl BitStore {
         if n > 0 {
             let number = store.part(0, n);
             self.append(number, n);
-            store.skip(n);
+            store.skip_few(n);
         }
     }
 

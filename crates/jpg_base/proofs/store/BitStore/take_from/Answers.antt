@@ -8,7 +8,7 @@ returns-then-n-gt0-clause-taken c =
     c.append.ensures ∙ ap (λ (x : List Bool). c.args.self.now ++ x) (c.part-number.ensures.value ∙ take_some c.args.store.now c.min-n.result (omega (arith, c.min-n.ensures, c.len.ensures.value)))
 
 pub returns-then-n-gt0-clause-left : goal.returns-then-n-gt0-clause-left
-returns-then-n-gt0-clause-left c = c.skip.ensures ∙ drop_some c.args.store.now c.min-n.result (omega (arith, c.min-n.ensures, c.len.ensures.value))
+returns-then-n-gt0-clause-left c = c.skip_few.ensures ∙ drop_some c.args.store.now c.min-n.result (omega (arith, c.min-n.ensures, c.len.ensures.value))
 
 pub returns-else-n-gt0-clause-taken : goal.returns-else-n-gt0-clause-taken
 returns-else-n-gt0-clause-taken c =
