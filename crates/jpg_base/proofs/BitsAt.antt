@@ -51,6 +51,15 @@ behind count n word h =
     sym (ap (λ m. drop n (bits_of m word)) e ∙ ap (drop n) (bits_of-add n (count - n) word)
     ∙ drop_front n (bits_of n (word / 2 ^ (count - n))) (bits_of (count - n) word) (length-bits_of n (word / 2 ^ (count - n))))
 
+-- the low bits of a number that was truncated to more bits
+pub bits_of-cut : (t m n : ℕ) → t ≤ m → bits_of t (n % 2 ^ m) ≡ bits_of t n
+bits_of-cut t m n h =
+    let e : n ≡ n / 2 ^ m * 2 ^ m + n % 2 ^ m = search arith in
+    let d : m - t + t ≡ m = omega arith in
+    let p : 2 ^ m ≡ 2 ^ (m - t) * 2 ^ t = ap (λ k. 2 ^ k) (sym d) ∙ pow-add 2 (m - t) t in
+    let q : n / 2 ^ m * 2 ^ m ≡ n / 2 ^ m * 2 ^ (m - t) * 2 ^ t = ap (λ k. n / 2 ^ m * k) p ∙ sym (mul_assoc (n / 2 ^ m) (2 ^ (m - t)) (2 ^ t)) in
+    sym (ap (bits_of t) (e ∙ ap (λ k. k + n % 2 ^ m) q) ∙ bits_of-low t (n / 2 ^ m * 2 ^ (m - t)) (n % 2 ^ m))
+
 -- a word of 64 bits that is shifted
 shifted : (word n : ℕ) → n ≤ 64 → word * 2 ^ n % 2 ^ 64 ≡ word % 2 ^ (64 - n) * 2 ^ n
 shifted word n h =
