@@ -601,7 +601,7 @@ impl BandReader {
         }
         match codes.spot(store) {
             Spotted::Symbol { length, symbol } => {
-                store.skip(length);
+                store.skip_few(length);
                 self.symbol(scan, symbol)
             }
             Spotted::Part => self.take_one(scan, codes, left, store),
@@ -627,7 +627,7 @@ impl BandReader {
         let size = self.extra.size();
         if self.extra.is_new() && size <= store.len() {
             self.extra.fill(size, store.peek(size));
-            store.skip(size);
+            store.skip_few(size);
             return self.number(scan);
         }
         self.take_one(scan, codes, left, store)

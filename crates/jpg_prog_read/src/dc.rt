@@ -207,7 +207,7 @@ impl DcUnit {
         match codes.spot(store) {
             Spotted::Symbol { length, symbol } => {
                 if symbol > 0 && symbol <= scan.most_category {
-                    store.skip(length);
+                    store.skip_few(length);
                     self.begin(symbol);
                 }
             }
@@ -225,7 +225,7 @@ impl DcUnit {
         if size > 0 && self.extra.is_new() && size <= store.len() {
             let count = size - 1;
             self.extra.fill(count, store.peek(count));
-            store.skip(count);
+            store.skip_few(count);
         }
     }
 

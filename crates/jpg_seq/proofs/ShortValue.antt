@@ -79,6 +79,10 @@ pub short_there : (codes : List Code) (bits : List Bool) (t : ShortValue) → Is
 short_there codes bits t (inl f) = omega (arith, f.sum, f.there)
 short_there codes bits t (inr f) = f.there
 
+pub short_few : (codes : List Code) (bits : List Bool) (t : ShortValue) → IsNextShortValue codes bits t → t.length ≤ 10
+short_few codes bits t (inl f) = omega (arith, f.sum, f.few)
+short_few codes bits t (inr f) = f.few
+
 -- which it is, by its run
 pub short_value : (codes : List Code) (bits : List Bool) (t : ShortValue) → IsNextShortValue codes bits t → t.run < 64 → BeginsWithShortValue codes bits t
 short_value codes bits t (inl f) less = f

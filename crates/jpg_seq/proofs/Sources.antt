@@ -1,6 +1,6 @@
 -- Bits of a source, taken from its store.
 use Rattle.std.proofs.Common.{◌≡◌, ℕ, ◌+◌, ◌-◌, ◌*◌, ◌<◌, ◌≤◌, Bool, List, [], ◌∷◌, ◌++◌, length, take, drop, sym, ap, ◌∙◌, arith}
-use Rattle.std.proofs.lemmas.List.{append_assoc, length-append, length-drop, take_all}
+use Rattle.std.proofs.lemmas.List.{append_assoc, length-append, length-drop}
 use Rattle.std.proofs.Math.Seq.{drop-append_seam}
 use Rattle.jpg_spec.specs.Bits.{bits_of, bits_of_bytes}
 use Rattle.jpg_spec.proofs.Basics.Strings.{length-bits_of}
@@ -41,13 +41,11 @@ taken_count bytes taken rest n left split is count =
     sym (ap (drop n) split ∙ ap (λ k. drop k (taken ++ rest)) l ∙ drop-append_seam taken rest)
 
 -- four more bytes at hand
-pub four_long : (A B C D four : List Bool) → length A ≡ 8 → length B ≡ 8 → length C ≡ 8 → length D ≡ 8 → four ≡ ((A ++ B) ++ C) ++ D → length four ≡ 32
-four_long A B C D four a b c d is = omega (arith, a, b, c, d, ap length is, length-append ((A ++ B) ++ C) D, length-append (A ++ B) C, length-append A B)
+four_long : (A B C D : List Bool) → length A ≡ 8 → length B ≡ 8 → length C ≡ 8 → length D ≡ 8 → length (((A ++ B) ++ C) ++ D) ≡ 32
+four_long A B C D a b c d = omega (arith, a, b, c, d, length-append ((A ++ B) ++ C) D, length-append (A ++ B) C, length-append A B)
 
-pub four_taken : (store A B C D four new : List Bool) → length four ≡ 32 → four ≡ ((A ++ B) ++ C) ++ D → new ≡ store ++ take 32 four → (new ≡ (((store ++ A) ++ B) ++ C) ++ D) × (length new ≡ length store + 32)
-four_taken store A B C D four new long is took =
-    let all : take 32 four ≡ four = take_all 32 four (omega (arith, long)) in
+pub four_taken : (store A B C D new : List Bool) → length A ≡ 8 → length B ≡ 8 → length C ≡ 8 → length D ≡ 8 → new ≡ store ++ (((A ++ B) ++ C) ++ D) → (new ≡ (((store ++ A) ++ B) ++ C) ++ D) × (32 ≤ length new)
+four_taken store A B C D new a b c d took =
     let bits : new ≡ (((store ++ A) ++ B) ++ C) ++ D =
-    took ∙ ap (λ l. store ++ l) (all ∙ is) ∙ sym (append_assoc store ((A ++ B) ++ C) D) ∙ ap (λ l. l ++ D) (sym (append_assoc store (A ++ B) C))
-    ∙ ap (λ l. (l ++ C) ++ D) (sym (append_assoc store A B)) in
-    (bits, omega (arith, ap length took, length-append store (take 32 four), ap length all, long))
+    took ∙ sym (append_assoc store ((A ++ B) ++ C) D) ∙ ap (λ l. l ++ D) (sym (append_assoc store (A ++ B) C)) ∙ ap (λ l. (l ++ C) ++ D) (sym (append_assoc store A B)) in
+    (bits, omega (arith, ap length took, length-append store (((A ++ B) ++ C) ++ D), four_long A B C D a b c d))

@@ -12,19 +12,6 @@ pub struct Source<'a> {
     pub bytes: &'a [u8],
 }
 
-// The bits of four bytes.
-#[inline(always)]
-fn word_of(a: u8, b: u8, c: u8, d: u8) -> BitStore
-    ensures { result ≡ ((bits_of 8 a ++ bits_of 8 b) ++ bits_of 8 c) ++ bits_of 8 d }
-{
-    let mut four = BitStore::new();
-    four.push(a);
-    four.push(b);
-    four.push(c);
-    four.push(d);
-    four
-}
-
 // Appends the bits of four bytes.
 #[inline(always)]
 fn push_four(store: &mut BitStore, a: u8, b: u8, c: u8, d: u8)
@@ -32,8 +19,7 @@ fn push_four(store: &mut BitStore, a: u8, b: u8, c: u8, d: u8)
     ensures bits { store.new ≡ (((store.old ++ bits_of 8 a) ++ bits_of 8 b) ++ bits_of 8 c) ++ bits_of 8 d }
     ensures long { 32 ≤ length store.new }
 {
-    let mut four = word_of(a, b, c, d);
-    store.take_from(&mut four);
+    store.push_four(a, b, c, d);
 }
 
 impl<'a> Source<'a> {

@@ -16,12 +16,12 @@ pub const END_RUN: u8 = 64;
 /// A value that bits begin with. A run of `END_RUN` is the end of a block, which has no value.
 #[derive(Clone, Copy)]
 pub struct ShortValue {
-    /// The value.
-    pub value: i16,
-    /// How many zeros are before it.
-    pub run: u8,
     /// How many bits encode both, 0 if there is no such value.
     pub length: u8,
+    /// How many zeros are before it.
+    pub run: u8,
+    /// The value.
+    pub value: i16,
 }
 
 /// The codes of an AC table, and the values by the next ten bits.

@@ -379,11 +379,11 @@ impl UnitWork {
         match ac.entry(store) {
             Some(entry) => {
                 if at + entry.run < 64 {
-                    store.skip(entry.length);
+                    store.skip_few(entry.length);
                     self.place(entry.run, entry.value);
                     self.covered()
                 } else if entry.run == END_RUN {
-                    store.skip(entry.length);
+                    store.skip_few(entry.length);
                     self.cover(64 - at);
                     self.covered()
                 } else {

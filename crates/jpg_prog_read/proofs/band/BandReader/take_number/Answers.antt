@@ -22,6 +22,6 @@ returns-then-size-len c =
     let filled : v c.fill.new.self ≡ taken old (take old.size store) = ap v whole ∙ ap (λ (s : InWork). taken s (take old.size store)) c.self.view_is in
     let wants : length old.extra < old.size = waits_for c.args.scan.now old c.requires.stage c.requires.open in
     let fits : old.size ≤ length store = omega (arith, size, c.if-size-len.true, c.len.ensures.value) in
-    let rest : c.skip.new.self ≡ drop old.size store = c.skip.ensures ∙ ap (λ n. drop n store) size in
-    number_taken c.args.scan.now c.args.codes.now c.args.left old (v c.fill.new.self) store c.number.result c.number.new.self c.skip.new.self c.requires.stage c.requires.open none (omega (arith, wants)) fits filled rest
+    let rest : c.skip_few.new.self ≡ drop old.size store = c.skip_few.ensures ∙ ap (λ n. drop n store) size in
+    number_taken c.args.scan.now c.args.codes.now c.args.left old (v c.fill.new.self) store c.number.result c.number.new.self c.skip_few.new.self c.requires.stage c.requires.open none (omega (arith, wants)) fits filled rest
     c.number.ensures.outside c.number.ensures.open c.number.ensures.answered

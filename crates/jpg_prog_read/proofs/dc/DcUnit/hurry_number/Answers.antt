@@ -16,4 +16,4 @@ returns-then-size-len c = λ b dc.
     let v : ExtraWork → DcWork = λ x. (let m : DcWork = record { walked = i.walk; size = x.size; extra = x.bits } in m) in
     let whole : c.fill.new.self ≡ record i.extra { bits = take n store } = c.fill.ensures ∙ ap (λ l. (let x : ExtraWork = record i.extra { bits = l } in x)) c.peek.ensures.value in
     let filled : v c.fill.new.self ≡ taken old (take n store) = ap v whole ∙ ap (λ (u : DcWork). taken u (take n store)) c.self.view_is in
-    number_hurried b dc old (v c.fill.new.self) store n c.skip.new.self (omega (arith, size, c.if-size-gt0.true)) none (omega (arith, size, c.if-size-gt0.true)) (omega (arith, size, c.if-size-len.true, c.len.ensures.value)) filled c.skip.ensures
+    number_hurried b dc old (v c.fill.new.self) store n c.skip_few.new.self (omega (arith, size, c.if-size-gt0.true)) none (omega (arith, size, c.if-size-gt0.true)) (omega (arith, size, c.if-size-len.true, c.len.ensures.value)) filled c.skip_few.ensures
