@@ -11,7 +11,7 @@ use Rattle.jpg_spec.specs.Parts.{IsFront}
 use Rattle.jpg_spec.proofs.Basics.Strings.{bits_of-split, length-bits_of}
 use Rattle.jpg_huff.specs.Laws.{AreApart}
 use Rattle.jpg_huff.specs.Walk.{BeginsNoCode}
-use Rattle.jpg_seq.specs.Values.{BeginsWithShortValue, IsNextEnd, IsNextShortValue, TellsNoPlace, TellsNone, TellsOrNone, TellsShortValue, end_entry, no_entry}
+use Rattle.jpg_seq.specs.Values.{BeginsWithShortValue, IsNextEnd, IsNextShortValue, TellsNoPlace, TellsNone, TellsOrNone, end_entry, no_entry}
 use Rattle.jpg_seq.specs.declared.values.ShortValue.{ShortValue}
 
 -- the bits of a number below 1024, and those of its parts
@@ -70,6 +70,11 @@ same_short : (codes : List Code) (a b : List Bool) (t : ShortValue) → take 10 
 same_short codes a b t is long (inl f) = inl (same_ten codes a b t is long f)
 same_short codes a b t is long (inr f) = inr (same_ten_end codes a b t is long f)
 
+-- some bits encode it
+some_short : (codes : List Code) (bits : List Bool) (t : ShortValue) → IsNextShortValue codes bits t → 1 ≤ t.length
+some_short codes bits t (inl f) = omega (arith, f.sum, f.some)
+some_short codes bits t (inr f) = f.some
+
 pub short_there : (codes : List Code) (bits : List Bool) (t : ShortValue) → IsNextShortValue codes bits t → t.length ≤ length bits
 short_there codes bits t (inl f) = omega (arith, f.sum, f.there)
 short_there codes bits t (inr f) = f.there
@@ -90,15 +95,15 @@ short_end codes bits t (inr f) is = f
 first_ten : (bits : List Bool) (ten : ℕ) → bits_of 10 ten ≡ take 10 bits → take 10 (bits_of 10 ten) ≡ take 10 bits
 first_ten bits ten is = take_all 10 (bits_of 10 ten) (omega (arith, length-bits_of 10 ten)) ∙ is
 
--- the first ten bits determine it, or that there is none, so all do
-pub entry_told : (codes : List Code) (bits : List Bool) (ten : ℕ) (t : ShortValue) → 10 ≤ length bits → bits_of 10 ten ≡ take 10 bits → TellsOrNone codes (bits_of 10 ten) t → TellsShortValue codes bits t
-entry_told codes bits ten t long is (inl none) = inl (none.0, inr (λ u f. none.1 u (same_short codes bits (bits_of 10 ten) u (sym (first_ten bits ten is)) (omega (arith, length-bits_of 10 ten)) f)))
-entry_told codes bits ten t long is (inr f) = inr (same_short codes (bits_of 10 ten) bits t (first_ten bits ten is) long f)
+-- the first ten bits determine it, so all do
+pub entry_first : (codes : List Code) (bits : List Bool) (ten : ℕ) (t : ShortValue) → 10 ≤ length bits → bits_of 10 ten ≡ take 10 bits → TellsOrNone codes (bits_of 10 ten) t → (t.length ≡ 0 → ⊥) → IsNextShortValue codes bits t
+entry_first codes bits ten t long is (inl none) some = absurd (some none.0)
+entry_first codes bits ten t long is (inr f) some = same_short codes (bits_of 10 ten) bits t (first_ten bits ten is) long f
 
--- with another run than that of none, it is a value or the end
-pub entry_next : (codes : List Code) (bits : List Bool) (t : ShortValue) → TellsShortValue codes bits t → t.run < 128 → IsNextShortValue codes bits t
-entry_next codes bits t (inl none) less = absurd (omega (arith, none.0, less))
-entry_next codes bits t (inr f) less = f
+-- they determine none
+pub entry_not : (codes : List Code) (bits : List Bool) (ten : ℕ) (t : ShortValue) → bits_of 10 ten ≡ take 10 bits → TellsOrNone codes (bits_of 10 ten) t → t.length ≡ 0 → TellsNone codes bits
+entry_not codes bits ten t is (inl none) e = λ u f. none.1 u (same_short codes bits (bits_of 10 ten) u (sym (first_ten bits ten is)) (omega (arith, length-bits_of 10 ten)) f)
+entry_not codes bits ten t is (inr f) e = absurd (omega (arith, some_short codes (bits_of 10 ten) t f, e))
 
 -- WHERE NONE COMES FIRST
 
@@ -132,16 +137,12 @@ run_once codes bits t u apart (inr f) (inl g) =
 run_once codes bits t u apart (inr f) (inr g) = f.run ∙ sym g.run
 
 -- what they begin with has no place after this many values, so nothing that they begin with has
-no_place : (codes : List Code) (at : ℕ) (bits : List Bool) (t : ShortValue) → AreApart codes → IsNextShortValue codes bits t → 64 ≤ at + t.run → (t.run ≡ 64 → ⊥) → TellsNoPlace codes at bits
+pub no_place : (codes : List Code) (at : ℕ) (bits : List Bool) (t : ShortValue) → AreApart codes → IsNextShortValue codes bits t → 64 ≤ at + t.run → (t.run ≡ 64 → ⊥) → TellsNoPlace codes at bits
 no_place codes at bits t apart f far not = inr (λ u g. (let e = run_once codes bits t u apart f g in (omega (arith, e, far), λ is. not (e ∙ is))))
 
-none_placed : (codes : List Code) (at : ℕ) (bits : List Bool) → (length bits < 10) ⊎ TellsNone codes bits → TellsNoPlace codes at bits
+pub none_placed : (codes : List Code) (at : ℕ) (bits : List Bool) → (length bits < 10) ⊎ TellsNone codes bits → TellsNoPlace codes at bits
 none_placed codes at bits (inl few) = inl few
 none_placed codes at bits (inr none) = inr (λ u g. absurd (none u g))
-
-pub entry_placed : (codes : List Code) (at : ℕ) (bits : List Bool) (t : ShortValue) → AreApart codes → TellsShortValue codes bits t → 64 ≤ at + t.run → (t.run ≡ 64 → ⊥) → TellsNoPlace codes at bits
-entry_placed codes at bits t apart (inl none) far not = none_placed codes at bits none.1
-entry_placed codes at bits t apart (inr f) far not = no_place codes at bits t apart f far not
 
 -- another code comes first, whose symbol gives no value that short, nor the end
 pub none_symbol : (codes : List Code) (bits : List Bool) (n symbol : ℕ) → AreApart codes → n ≤ length bits → Contains codes (take n bits, symbol) → (symbol ≡ 0 → ⊥) → ((1 ≤ symbol % 16) × (n + symbol % 16 ≤ 10) → ⊥) → TellsNone codes bits
@@ -181,7 +182,7 @@ none_begins codes bits n apart some low front none = λ u f.
     (cases_lt k n)
 
 -- nothing is kept for bits that determine none
-pub kept_none : (codes : List Code) (bits ten : List Bool) (t : ShortValue) → bits ≡ ten → t.run ≡ 128 → TellsNone codes bits → TellsOrNone codes ten t
+pub kept_none : (codes : List Code) (bits ten : List Bool) (t : ShortValue) → bits ≡ ten → t.length ≡ 0 → TellsNone codes bits → TellsOrNone codes ten t
 kept_none codes bits ten t is zero none = inl (zero, subst (λ b. TellsNone codes b) is none)
 
 -- the code of the end of a block comes first

@@ -1,5 +1,5 @@
 -- Values that bits begin with, by their code and its extra bits (T.81, F.1.2.2, F.2.2.2).
-use Rattle.std.specs.Prelude.{◌≡◌, ◌⊎◌, ℕ, ◌+◌, ◌*◌, ◌<◌, ◌≤◌, Bool, List, length, take, drop, slice_index_or, Contains, pos}
+use Rattle.std.specs.Prelude.{◌≡◌, ◌⊎◌, ℕ, ◌+◌, ◌*◌, ◌<◌, ◌≤◌, Bool, List, length, take, drop, slice_index_or, Contains, pos, Option, None, Some}
 use Rattle.jpg_spec.specs.Bits.{bits_of}
 use Rattle.jpg_spec.specs.Codes.{Code}
 use Rattle.jpg_spec.specs.Numbers.{category, extra_bits}
@@ -35,14 +35,14 @@ IsNextShortValue codes bits t = BeginsWithShortValue codes bits t ⊎ IsNextEnd 
 abbrev pub TellsNone : List Code → List Bool → Type 0
 TellsNone codes bits = (t : ShortValue) → IsNextShortValue codes bits t → ⊥
 
--- the result has the run of none exactly if the bits begin with neither
+-- the result is no value exactly if the bits begin with neither
 abbrev pub TellsOrNone : List Code → List Bool → ShortValue → Type 0
-TellsOrNone codes bits t = ((t.run ≡ 128) × TellsNone codes bits) ⊎ IsNextShortValue codes bits t
+TellsOrNone codes bits t = ((t.length ≡ 0) × TellsNone codes bits) ⊎ IsNextShortValue codes bits t
 
--- the value that the first ten of the bits encode, or the end of a block; the run of none if they encode neither, or there
--- are fewer
-abbrev pub TellsShortValue : List Code → List Bool → ShortValue → Type 0
-TellsShortValue codes bits t = ((t.run ≡ 128) × ((length bits < 10) ⊎ TellsNone codes bits)) ⊎ IsNextShortValue codes bits t
+-- the value that the first ten of the bits encode, or the end of a block, if there are ten
+abbrev pub TellsShortValue : List Code → List Bool → Option ShortValue → Type 0
+TellsShortValue codes bits None = (length bits < 10) ⊎ TellsNone codes bits
+TellsShortValue codes bits (Some t) = IsNextShortValue codes bits t
 
 -- There are fewer than ten bits, or they begin neither with a value that has a place after this many values nor with the
 -- end of a block.

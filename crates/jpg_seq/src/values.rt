@@ -10,16 +10,13 @@ use jpg_base::BitStore;
 use jpg_huff::{Decoder, Spotted, extend};
 use std::marker::Model;
 
-/// The run of an entry that is the end of a block: more than any value has.
+/// The run of an entry that is the end of a block: more than any other has.
 pub const END_RUN: u8 = 64;
 
-/// The run of an entry that is neither a value nor the end of a block.
-pub const NO_RUN: u8 = 128;
-
-/// A value that bits begin with. A run of `END_RUN` is the end of a block, which has no value; one of `NO_RUN` is nothing.
+/// A value that bits begin with. A run of `END_RUN` is the end of a block, which has no value.
 #[derive(Clone, Copy)]
 pub struct ShortValue {
-    /// How many bits encode both.
+    /// How many bits encode both, 0 if there is no such value.
     pub length: u8,
     /// How many zeros are before it.
     pub run: u8,
@@ -61,11 +58,11 @@ fn ten_bits(ten: u16) -> BitStore
 
 /// No value.
 pub(crate) fn no_short_value() -> ShortValue
-    ensures { result.run ≡ 128 }
+    ensures { result.length ≡ 0 }
 {
     ShortValue {
         value: 0,
-        run: NO_RUN,
+        run: 0,
         length: 0,
     }
 }
@@ -136,15 +133,16 @@ impl ValueDecoder {
         self.decoder.spot(bits)
     }
 
-    /// The value that the first ten of these bits encode, or the end of a block: an entry with a run of `NO_RUN` if
-    /// they encode neither, or if there are fewer.
+    /// The value that the first ten of these bits encode, or the end of a block: None if they encode neither, or if
+    /// there are fewer.
     #[inline(always)]
-    pub fn entry(&self, bits: &BitStore) -> ShortValue
+    pub fn entry(&self, bits: &BitStore) -> Option<ShortValue>
         ensures { TellsShortValue self.now bits.now result }
     {
         if bits.len() < 10 {
-            return no_short_value();
+            return None;
         }
-        self.entries[bits.peek(10) as usize]
+        let entry = self.entries[bits.peek(10) as usize];
+        if entry.length == 0 { None } else { Some(entry) }
     }
 }

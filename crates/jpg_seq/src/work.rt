@@ -376,17 +376,21 @@ impl UnitWork {
     {
         ac.apart();
         let at = self.count();
-        let entry = ac.entry(store);
-        if at + entry.run < 64 {
-            store.skip_few(entry.length);
-            self.place(entry.run, entry.value);
-            self.covered()
-        } else if entry.run == END_RUN {
-            store.skip_few(entry.length);
-            self.cover(64 - at);
-            self.covered()
-        } else {
-            UnitProgress::Empty
+        match ac.entry(store) {
+            Some(entry) => {
+                if at + entry.run < 64 {
+                    store.skip_few(entry.length);
+                    self.place(entry.run, entry.value);
+                    self.covered()
+                } else if entry.run == END_RUN {
+                    store.skip_few(entry.length);
+                    self.cover(64 - at);
+                    self.covered()
+                } else {
+                    UnitProgress::Empty
+                }
+            }
+            None => UnitProgress::Empty,
         }
     }
 
