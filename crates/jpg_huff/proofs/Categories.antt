@@ -1,5 +1,6 @@
 -- Numbers of a category: how many digits they have, and their extra bits.
-use Rattle.std.proofs.Common.{◌≡◌, ℕ, zero, suc, ◌+◌, ◌-◌, ◌*◌, ◌%◌, ◌^◌, ◌<◌, ◌≤◌, Bool, refl, sym, ap, ◌∙◌, subst, arith, pos, neg_ℤ, ◌-ℤ◌, add-one}
+use Rattle.std.proofs.Common.{◌≡◌, ℕ, zero, suc, ◌+◌, ◌-◌, ◌*◌, ◌%◌, ◌^◌, ◌<◌, ◌≤◌, Bool, refl, sym, ap, ◌∙◌, subst, arith, pos, neg_ℤ, ◌-ℤ◌, add-one, ⊎_elim}
+use Rattle.std.proofs.lemmas.Bool.{cases_lt}
 use Rattle.std.proofs.lemmas.Int.{ints}
 use lib.Count.{count_leading_zeros}
 use Rattle.std.proofs.lemmas.Nat.{leading_top, one_shl, pow_pos}
@@ -62,3 +63,36 @@ lowered_by_none n = omega (arith, ints)
 
 pub lowered_below : (n m : ℕ) → n ≤ m → pos n -ℤ pos m ≡ neg_ℤ (pos (m - n))
 lowered_below n m h = omega (arith, ints, h)
+
+-- a number, or nothing of it
+pub kept_or_not : (ones t : ℕ) → ones < 32768 → ones * (1 - t) < 32768
+kept_or_not ones zero h = omega (arith, h)
+kept_or_not ones (suc t) h =
+    let none : 1 - suc t ≡ 0 = omega arith in
+    subst (λ k. ones * k < 32768) (sym none) (omega arith)
+
+-- the number that is lowered by all ones where its first bit is 0
+extended_some : (s n d : ℕ) → 1 ≤ s → n < 2 ^ s → (2 ^ s ≤ 2 * n → d ≡ 0) → (2 * n < 2 ^ s → d ≡ 2 ^ s - 1) → (category (pos n -ℤ pos d) ≡ s) × (extra_bits (pos n -ℤ pos d) ≡ bits_of s n)
+extended_some s n d some fits high low =
+    let q = double s some in
+    ⊎_elim
+    (λ (a : 2 * n < 2 ^ s). (let less : n < 2 ^ (s - 1) = omega (arith, q, a) in
+    let v : pos n -ℤ pos d ≡ neg_ℤ (pos (2 ^ s - 1 - n)) = ap (λ k. pos n -ℤ pos k) (low a) ∙ lowered_below n (2 ^ s - 1) (omega (arith, fits)) in
+    (ap category v ∙ category_negative (2 ^ s - 1 - n) ∙ digits_low s n some less, ap extra_bits v ∙ extra_low s n some less)))
+    (λ (b : 2 ^ s ≤ 2 * n). (let v : pos n -ℤ pos d ≡ pos n = ap (λ k. pos n -ℤ pos k) (high b) ∙ lowered_by_none n in
+    let e = digits_high s n some (omega (arith, q, b)) fits in
+    (ap category v ∙ e, ap extra_bits v ∙ ap (λ k. bits_of k n) e)))
+    (cases_lt (2 * n) (2 ^ s))
+
+-- of no bits it is 0
+extended_none : (n d : ℕ) → n ≡ 0 → d ≡ 0 → (category (pos n -ℤ pos d) ≡ 0) × (extra_bits (pos n -ℤ pos d) ≡ bits_of 0 n)
+unfolding digits bits_of
+extended_none n d z e =
+    let v : pos n -ℤ pos d ≡ pos 0 = ap (λ k. pos k -ℤ pos d) z ∙ ap (λ k. pos 0 -ℤ pos k) e in
+    (ap category v, ap extra_bits v)
+
+pub extended : (s n d : ℕ) → n < 2 ^ s → (2 ^ s ≤ 2 * n → d ≡ 0) → (2 * n < 2 ^ s → d ≡ 2 ^ s - 1) → (category (pos n -ℤ pos d) ≡ s) × (extra_bits (pos n -ℤ pos d) ≡ bits_of s n)
+extended zero n d fits high low =
+    let z : n ≡ 0 = omega (arith, fits) in
+    extended_none n d z (low (omega (arith, z)))
+extended (suc t) n d fits high low = extended_some (suc t) n d (omega arith) fits high low

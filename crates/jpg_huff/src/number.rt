@@ -1,6 +1,6 @@
 //! A number's category and its extra bits (T.81, F.1.2.1 and F.1.2.2, Tables F.1 and F.2), and the number that these
 //! encode (F.2.2.1, Figure F.12).
-ghost use Rattle.std.specs.Prelude.{◌≡◌, ◌≤◌, ◌<◌, ◌^◌, nat_abs, pos, ◌-ℤ◌};
+ghost use Rattle.std.specs.Prelude.{◌≡◌, ◌≤◌, ◌<◌, ◌*◌, ◌-◌, ◌^◌, nat_abs, pos, ◌-ℤ◌};
 ghost use Rattle.jpg_spec.specs.Bits.{bits_of};
 ghost use Rattle.jpg_spec.specs.Numbers.{digits, category as category_of, extra_bits as extra_of};
 
@@ -40,6 +40,20 @@ fn lowered(number: u32, less: u32) -> i16
     number as i16 - less as i16
 }
 
+// What these extra bits are lowered by: nothing if the first is 1, and else by the number of as many bits that are all 1
+// (T.81, Figure F.12). There is no branch on the first bit, which could not be foreseen.
+#[inline(always)]
+fn deduction(size: u8, bits: u32) -> u32
+    requires size { size ≤ 15 }
+    requires bits { bits < 2 ^ size }
+    ensures high { 2 ^ size ≤ 2 * bits → result ≡ 0 }
+    ensures low { 2 * bits < 2 ^ size → result ≡ 2 ^ size - 1 }
+    ensures fits { result < 2 ^ 15 }
+{
+    let ones = (1 << size) - 1;
+    ones * (1 - (2 * bits >> size))
+}
+
 /// EXTEND (T.81, F.2.2.1, Figure F.12): the number of this category, 0 to 15, that has these extra bits, given as a
 /// number of as many bits.
 pub fn extend(size: u8, bits: u32) -> i16
@@ -48,12 +62,5 @@ pub fn extend(size: u8, bits: u32) -> i16
     ensures category { category_of result ≡ size }
     ensures extra { extra_of result ≡ bits_of size bits }
 {
-    let ones = (1 << size) - 1;
-    if size == 0 {
-        0
-    } else if bits >= 1 << (size - 1) {
-        lowered(bits, 0)
-    } else {
-        lowered(bits, ones)
-    }
+    lowered(bits, deduction(size, bits))
 }
