@@ -22,9 +22,9 @@ use Rattle.jpg_seq.proofs.Takings.{direct_element, takes_then}
 entry_element : (e : Env) (values : List ℤ) (bits : List Bool) (t : ShortValue) → AreSane e.bounds → AreApart e.ac → 1 ≤ length values → length values < 64 → BeginsWithShortValue e.ac bits t → t.run + length values < 64
     → IsElement e values (take t.length bits) (zeros t.run ++ t.value ∷ [])
 entry_element e values bits t sane apart some less entry room =
-    let one = entry.some in let small = entry.small in let nine = sane.nine in
+    let one = entry.some in let few = entry.few in let nine = sane.nine in
     let G : ℕ → Type 0 = λ n. IsElement e values (take n bits) (zeros t.run ++ t.value ∷ []) in
-    subst G (sym entry.sum) (value_taken e values bits entry.code t.run entry.size t.value sane apart some less one entry.there entry.in_codes entry.sized (omega (arith, small, nine)) room entry.run entry.category entry.extra)
+    subst G (sym entry.sum) (value_taken e values bits entry.code t.run entry.size t.value sane apart some less one entry.there entry.in_codes entry.sized (omega (arith, one, few, nine)) room entry.run entry.category entry.extra)
 
 taken_by : (e : Env) (s t : Work) (store rest : List Bool) (answer : UnitProgress) → IsUnitCovered t answer → TakesFromStore e s store answer t rest → IsTaken e s store answer t rest
 taken_by e s t store rest More u k = k

@@ -11,8 +11,7 @@ use Rattle.jpg_spec.specs.Parts.{IsFront}
 use Rattle.jpg_spec.proofs.Basics.Strings.{bits_of-split, length-bits_of}
 use Rattle.jpg_huff.specs.Laws.{AreApart}
 use Rattle.jpg_huff.specs.Walk.{BeginsNoCode}
-use Rattle.jpg_spec.specs.Numbers.{category, extra_bits}
-use Rattle.jpg_seq.specs.Values.{BeginsWithShortCode, BeginsWithShortValue, IsNextCode, IsNextEnd, IsNextShortValue, TellsNoCode, TellsNoPlace, TellsNone, TellsOrNone, end_entry, no_entry}
+use Rattle.jpg_seq.specs.Values.{BeginsWithShortValue, IsNextEnd, IsNextShortValue, TellsNoPlace, TellsNone, TellsOrNone, end_entry, no_entry}
 use Rattle.jpg_seq.specs.declared.values.ShortValue.{ShortValue}
 
 -- the bits of a number below 1024, and those of its parts
@@ -35,10 +34,10 @@ entry_more codes entries i t lt so_far here n h =
     (cases_lt n i)
 
 -- the first ten bits are enough to determine it
-same_ten : (codes : List Code) (a b : List Bool) (t : ShortValue) → take 10 a ≡ take 10 b → length a ≤ 10 → 10 ≤ length b → BeginsWithShortValue codes a t → BeginsWithShortValue codes b t
-same_ten codes a b t is short long f =
+same_ten : (codes : List Code) (a b : List Bool) (t : ShortValue) → take 10 a ≡ take 10 b → 10 ≤ length b → BeginsWithShortValue codes a t → BeginsWithShortValue codes b t
+same_ten codes a b t is long f =
     let k = f.code in let size = f.size in
-    let few : k + size ≤ 10 = omega (arith, f.there, short) in
+    let few = f.few in
     let C : List Bool → Type 0 = λ x. Contains codes (x, 16 * t.run + size) in
     let low : k ≤ 10 = omega (arith, few) in
     let front : take k a ≡ take k b = sym (take-take k 10 a low) ∙ ap (take k) is ∙ take-take k 10 b low in
@@ -52,8 +51,7 @@ same_ten codes a b t is short long f =
       some = f.some;
       sized = f.sized;
       sum = f.sum;
-      low = f.low;
-      small = f.small;
+      few = few;
       there = omega (arith, few, long);
       run = f.run;
       in_codes = subst C front f.in_codes;
@@ -68,25 +66,22 @@ same_ten_end codes a b t is long f =
     let front : take n a ≡ take n b = sym (take-take n 10 a f.few) ∙ ap (take n) is ∙ take-take n 10 b f.few in
     record { some = f.some; few = f.few; there = omega (arith, f.few, long); run = f.run; in_codes = subst C front f.in_codes }
 
-same_short : (codes : List Code) (a b : List Bool) (t : ShortValue) → take 10 a ≡ take 10 b → length a ≤ 10 → 10 ≤ length b → IsNextShortValue codes a t → IsNextShortValue codes b t
-same_short codes a b t is short long (inl f) = inl (same_ten codes a b t is short long f)
-same_short codes a b t is short long (inr f) = inr (same_ten_end codes a b t is long f)
+same_short : (codes : List Code) (a b : List Bool) (t : ShortValue) → take 10 a ≡ take 10 b → 10 ≤ length b → IsNextShortValue codes a t → IsNextShortValue codes b t
+same_short codes a b t is long (inl f) = inl (same_ten codes a b t is long f)
+same_short codes a b t is long (inr f) = inr (same_ten_end codes a b t is long f)
 
-front_same : (n : ℕ) (a b : List Bool) → n ≤ 10 → take 10 a ≡ take 10 b → take n a ≡ take n b
-front_same n a b low is = sym (take-take n 10 a low) ∙ ap (take n) is ∙ take-take n 10 b low
-
-same_code : (codes : List Code) (a b : List Bool) (code size run : ℕ) → take 10 a ≡ take 10 b → 10 ≤ length b → BeginsWithShortCode codes a code size run → BeginsWithShortCode codes b code size run
-same_code codes a b code size run is long f =
-    let C : List Bool → Type 0 = λ x. Contains codes (x, 16 * run + size) in
-    record { some = f.some; sized = f.sized; low = f.low; small = f.small; there = omega (arith, f.low, long); in_codes = subst C (front_same code a b f.low is) f.in_codes }
+-- some bits encode it
+some_short : (codes : List Code) (bits : List Bool) (t : ShortValue) → IsNextShortValue codes bits t → 1 ≤ t.length
+some_short codes bits t (inl f) = omega (arith, f.sum, f.some)
+some_short codes bits t (inr f) = f.some
 
 pub short_there : (codes : List Code) (bits : List Bool) (t : ShortValue) → IsNextShortValue codes bits t → t.length ≤ length bits
 short_there codes bits t (inl f) = omega (arith, f.sum, f.there)
 short_there codes bits t (inr f) = f.there
 
-pub short_few : (codes : List Code) (bits : List Bool) (t : ShortValue) → IsNextShortValue codes bits t → t.length ≤ 19
-short_few codes bits t (inl f) = omega (arith, f.sum, f.low, f.small)
-short_few codes bits t (inr f) = omega (arith, f.few)
+pub short_few : (codes : List Code) (bits : List Bool) (t : ShortValue) → IsNextShortValue codes bits t → t.length ≤ 10
+short_few codes bits t (inl f) = omega (arith, f.sum, f.few)
+short_few codes bits t (inr f) = f.few
 
 -- which it is, by its run
 pub short_value : (codes : List Code) (bits : List Bool) (t : ShortValue) → IsNextShortValue codes bits t → t.run < 64 → BeginsWithShortValue codes bits t
@@ -101,65 +96,14 @@ first_ten : (bits : List Bool) (ten : ℕ) → bits_of 10 ten ≡ take 10 bits �
 first_ten bits ten is = take_all 10 (bits_of 10 ten) (omega (arith, length-bits_of 10 ten)) ∙ is
 
 -- the first ten bits determine it, so all do
-pub entry_first : (codes : List Code) (bits : List Bool) (ten : ℕ) (t : ShortValue) → 10 ≤ length bits → bits_of 10 ten ≡ take 10 bits → TellsOrNone codes (bits_of 10 ten) t → (t.length ≡ 0 → ⊥) → t.length ≤ 10 → IsNextShortValue codes bits t
-entry_first codes bits ten t long is (inl none) some few = absurd (some none.0)
-entry_first codes bits ten t long is (inr (inl f)) some few = same_short codes (bits_of 10 ten) bits t (first_ten bits ten is) (omega (arith, length-bits_of 10 ten)) long f
-entry_first codes bits ten t long is (inr (inr f)) some few = absurd (omega (arith, f.long, few))
+pub entry_first : (codes : List Code) (bits : List Bool) (ten : ℕ) (t : ShortValue) → 10 ≤ length bits → bits_of 10 ten ≡ take 10 bits → TellsOrNone codes (bits_of 10 ten) t → (t.length ≡ 0 → ⊥) → IsNextShortValue codes bits t
+entry_first codes bits ten t long is (inl none) some = absurd (some none.0)
+entry_first codes bits ten t long is (inr f) some = same_short codes (bits_of 10 ten) bits t (first_ten bits ten is) long f
 
 -- they determine none
-none_here : (codes : List Code) (bits : List Bool) (ten : ℕ) → bits_of 10 ten ≡ take 10 bits → TellsNoCode codes (bits_of 10 ten) → (u : ShortValue) → IsNextShortValue codes bits u → ⊥
-none_here codes bits ten is none u (inl f) =
-    let c : BeginsWithShortCode codes bits f.code f.size u.run = record { some = f.some; sized = f.sized; low = f.low; small = f.small; there = omega (arith, f.there); in_codes = f.in_codes } in
-    none.0 f.code f.size u.run (same_code codes bits (bits_of 10 ten) f.code f.size u.run (sym (first_ten bits ten is)) (omega (arith, length-bits_of 10 ten)) c)
-none_here codes bits ten is none u (inr f) = none.1 u (same_ten_end codes bits (bits_of 10 ten) u (sym (first_ten bits ten is)) (omega (arith, length-bits_of 10 ten)) f)
-
 pub entry_not : (codes : List Code) (bits : List Bool) (ten : ℕ) (t : ShortValue) → bits_of 10 ten ≡ take 10 bits → TellsOrNone codes (bits_of 10 ten) t → t.length ≡ 0 → TellsNone codes bits
-entry_not codes bits ten t is (inl none) e = none_here codes bits ten is none.1
-entry_not codes bits ten t is (inr (inl (inl f))) e = absurd (omega (arith, f.sum, f.some, e))
-entry_not codes bits ten t is (inr (inl (inr f))) e = absurd (omega (arith, f.some, e))
-entry_not codes bits ten t is (inr (inr f)) e = absurd (omega (arith, f.long, e))
-
--- they determine a code
-pub entry_code : (codes : List Code) (bits : List Bool) (ten : ℕ) (t : ShortValue) → bits_of 10 ten ≡ take 10 bits → TellsOrNone codes (bits_of 10 ten) t → 10 < t.length → IsNextCode codes bits t
-entry_code codes bits ten t is (inl none) long = absurd (omega (arith, none.0, long))
-entry_code codes bits ten t is (inr (inl (inl f))) long = absurd (omega (arith, f.sum, f.there, length-bits_of 10 ten, long))
-entry_code codes bits ten t is (inr (inl (inr f))) long = absurd (omega (arith, f.few, long))
-entry_code codes bits ten t is (inr (inr f)) long =
-    let C : List Bool → Type 0 = λ x. Contains codes (x, t.run) in
-    record {
-      code = f.code;
-      some = f.some;
-      low = f.low;
-      sized = f.sized;
-      small = f.small;
-      symbol = f.symbol;
-      sum = f.sum;
-      long = f.long;
-      in_codes = subst C (front_same f.code (bits_of 10 ten) bits f.low (first_ten bits ten is)) f.in_codes;
-    }
-
--- the value behind it
-pub code_value : (codes : List Code) (bits : List Bool) (t u : ShortValue) → IsNextCode codes bits t → t.length ≤ length bits → u.length ≡ t.length → u.run ≡ t.run / 16 → category u.value ≡ t.run % 16
-    → extra_bits u.value ≡ take (t.run % 16) (drop (t.length - t.run % 16) bits) → IsNextShortValue codes bits u
-code_value codes bits t u f fits l r has extra =
-    let size = t.run % 16 in
-    let C : ℕ → Type 0 = λ s. Contains codes (take f.code bits, s) in
-    let split : t.run ≡ 16 * u.run + size = omega (arith, r) in
-    let front : t.length - size ≡ f.code = omega (arith, f.sum) in
-    inl (record {
-      code = f.code;
-      size = size;
-      some = f.some;
-      sized = f.sized;
-      sum = l ∙ f.sum;
-      low = f.low;
-      small = f.small;
-      there = omega (arith, f.sum, fits);
-      run = omega (arith, r, f.symbol);
-      in_codes = subst C split f.in_codes;
-      category = has;
-      extra = extra ∙ ap (λ k. take size (drop k bits)) front;
-    })
+entry_not codes bits ten t is (inl none) e = λ u f. none.1 u (same_short codes bits (bits_of 10 ten) u (sym (first_ten bits ten is)) (omega (arith, length-bits_of 10 ten)) f)
+entry_not codes bits ten t is (inr f) e = absurd (omega (arith, some_short codes (bits_of 10 ten) t f, e))
 
 -- WHERE NONE COMES FIRST
 
@@ -170,11 +114,20 @@ code_apart codes apart bits k n s t a b h g =
     let l = ap (λ (c : Code). length c.0) e in
     (omega (arith, l, length-take-le k bits a, length-take-le n bits b), ap (λ (c : Code). c.1) e)
 
+-- a code comes first, and its symbol
+abbrev pub CodeFirst : List Code → List Bool → ℕ → ℕ → Type 0
+CodeFirst codes bits k symbol = (1 ≤ k) × (k ≤ length bits) × Contains codes (take k bits, symbol)
+
+-- a value and the end of a block have codes
+short_code : (codes : List Code) (bits : List Bool) (t : ShortValue) → IsNextShortValue codes bits t → (k : ℕ) × (symbol : ℕ) × CodeFirst codes bits k symbol
+short_code codes bits t (inl f) = (f.code, 16 * t.run + f.size, (f.some, omega (arith, f.there), f.in_codes))
+short_code codes bits t (inr f) = (t.length, 0, (f.some, f.there, f.in_codes))
+
 -- all that they begin with have one run
 run_once : (codes : List Code) (bits : List Bool) (t u : ShortValue) → AreApart codes → IsNextShortValue codes bits t → IsNextShortValue codes bits u → t.run ≡ u.run
 run_once codes bits t u apart (inl f) (inl g) =
     let e = code_apart codes apart bits f.code g.code (16 * t.run + f.size) (16 * u.run + g.size) (omega (arith, f.there)) (omega (arith, g.there)) f.in_codes g.in_codes in
-    omega (arith, e.1, f.small, f.sized, g.small, g.sized)
+    omega (arith, e.1, f.few, f.some, g.few, g.some)
 run_once codes bits t u apart (inl f) (inr g) =
     let e = code_apart codes apart bits f.code u.length (16 * t.run + f.size) 0 (omega (arith, f.there)) g.there f.in_codes g.in_codes in
     absurd (omega (arith, e.1, f.sized))
@@ -191,24 +144,14 @@ pub none_placed : (codes : List Code) (at : ℕ) (bits : List Bool) → (length 
 none_placed codes at bits (inl few) = inl few
 none_placed codes at bits (inr none) = inr (λ u g. absurd (none u g))
 
--- too few bits follow the code that comes first
-short_behind : (codes : List Code) (bits : List Bool) (t : ShortValue) → AreApart codes → IsNextCode codes bits t → 10 ≤ length bits → length bits < t.length → (u : ShortValue) → IsNextShortValue codes bits u → ⊥
-short_behind codes bits t apart f long less u (inl g) =
-    let e = code_apart codes apart bits g.code f.code (16 * u.run + g.size) t.run (omega (arith, g.there)) (omega (arith, f.low, long)) g.in_codes f.in_codes in
-    omega (arith, e.0, e.1, g.small, g.there, f.sum, less)
-short_behind codes bits t apart f long less u (inr g) =
-    let e = code_apart codes apart bits u.length f.code 0 t.run g.there (omega (arith, f.low, long)) g.in_codes f.in_codes in
-    omega (arith, e.1, f.sized)
-
-pub none_behind : (codes : List Code) (bits : List Bool) (t : ShortValue) → AreApart codes → IsNextCode codes bits t → 10 ≤ length bits → length bits < t.length → TellsNone codes bits
-none_behind codes bits t apart f long less = short_behind codes bits t apart f long less
-
--- another code comes first, whose symbol has no category from 1 to 9, and isn't the end
-pub none_symbol : (codes : List Code) (bits : List Bool) (n symbol : ℕ) → AreApart codes → n ≤ length bits → Contains codes (take n bits, symbol) → (symbol ≡ 0 → ⊥) → ((1 ≤ symbol % 16) × (symbol % 16 ≤ 9) → ⊥) → TellsNoCode codes bits
-none_symbol codes bits n symbol apart l h other not =
-    (λ code size run f. (let e = code_apart codes apart bits code n (16 * run + size) symbol f.there l f.in_codes h in
-    not (omega (arith, f.sized, f.small, e.1), omega (arith, f.small, e.1))),
-    λ u f. other (sym (code_apart codes apart bits u.length n 0 symbol f.there l f.in_codes h).1))
+-- another code comes first, whose symbol gives no value that short, nor the end
+pub none_symbol : (codes : List Code) (bits : List Bool) (n symbol : ℕ) → AreApart codes → n ≤ length bits → Contains codes (take n bits, symbol) → (symbol ≡ 0 → ⊥) → ((1 ≤ symbol % 16) × (n + symbol % 16 ≤ 10) → ⊥) → TellsNone codes bits
+none_symbol codes bits n symbol apart l h other not u (inr f) = other (sym (code_apart codes apart bits u.length n 0 symbol f.there l f.in_codes h).1)
+none_symbol codes bits n symbol apart l h other not u (inl f) =
+    let e = code_apart codes apart bits f.code n (16 * u.run + f.size) symbol (omega (arith, f.there)) l f.in_codes h in
+    let m : (16 * u.run + f.size) % 16 ≡ f.size = omega (arith, f.few, f.some) in
+    let z : f.size ≡ symbol % 16 = sym m ∙ ap (λ q. q % 16) e.1 in
+    not (omega (arith, f.sized, z), omega (arith, f.few, e.0, z))
 
 -- the bits are a part of a code
 front_apart : (codes : List Code) (bits : List Bool) (k symbol : ℕ) → AreApart codes → IsFront codes bits → 1 ≤ k → k ≤ length bits → Contains codes (take k bits, symbol) → ⊥
@@ -220,28 +163,27 @@ front_apart codes bits k symbol apart (inr b) some low h =
     let l = ap (λ (c : Code). length c.0) (apart (take k bits, symbol) b.0 (drop k bits ++ more) [] h b.3 joined) in
     omega (arith, l, ap length b.4, length-append bits more, length-take-le k bits low, low)
 
-pub none_part : (codes : List Code) (bits : List Bool) → AreApart codes → IsFront codes bits → TellsNoCode codes bits
-none_part codes bits apart front =
-    (λ code size run f. front_apart codes bits code (16 * run + size) apart front f.some f.there f.in_codes, λ u f. front_apart codes bits u.length 0 apart front f.some f.there f.in_codes)
+pub none_part : (codes : List Code) (bits : List Bool) → AreApart codes → IsFront codes bits → TellsNone codes bits
+none_part codes bits apart front = λ u f.
+    let c = short_code codes bits u f in
+    front_apart codes bits c.0 c.1 apart front c.2.0 c.2.1 c.2.2
 
 -- they begin none with their nth bit
-begins_apart : (codes : List Code) (bits : List Bool) (n k symbol : ℕ) → AreApart codes → n ≤ length bits → IsFront codes (take (n - 1) bits) → BeginsNoCode codes (take n bits) → 1 ≤ k → Contains codes (take k bits, symbol) → ⊥
-begins_apart codes bits n k symbol apart low front none some h =
+pub none_begins : (codes : List Code) (bits : List Bool) (n : ℕ) → AreApart codes → 1 ≤ n → n ≤ length bits → IsFront codes (take (n - 1) bits) → BeginsNoCode codes (take n bits) → TellsNone codes bits
+none_begins codes bits n apart some low front none = λ u f.
+    let c = short_code codes bits u f in
+    let k = c.0 in let symbol = c.1 in
     let C : List Bool → Type 0 = λ x. Contains codes (x, symbol) in
     ⊎_elim
     (λ (a : k < n). (let le : k ≤ n - 1 = omega (arith, a) in
-    front_apart codes (take (n - 1) bits) k symbol apart front some (omega (arith, le, low, length-take-le (n - 1) bits (omega (arith, low))))
-    (subst C (sym (take-take k (n - 1) bits le)) h)))
-    (λ (b : n ≤ k). none (take k bits, symbol) (drop n (take k bits)) h (sym (take-append-drop n (take k bits)) ∙ ap (λ x. x ++ drop n (take k bits)) (take-take n k bits b)))
+    front_apart codes (take (n - 1) bits) k symbol apart front c.2.0 (omega (arith, le, low, length-take-le (n - 1) bits (omega (arith, low))))
+    (subst C (sym (take-take k (n - 1) bits le)) c.2.2)))
+    (λ (b : n ≤ k). none (take k bits, symbol) (drop n (take k bits)) c.2.2 (sym (take-append-drop n (take k bits)) ∙ ap (λ x. x ++ drop n (take k bits)) (take-take n k bits b)))
     (cases_lt k n)
 
-pub none_begins : (codes : List Code) (bits : List Bool) (n : ℕ) → AreApart codes → n ≤ length bits → IsFront codes (take (n - 1) bits) → BeginsNoCode codes (take n bits) → TellsNoCode codes bits
-none_begins codes bits n apart low front none =
-    (λ code size run f. begins_apart codes bits n code (16 * run + size) apart low front none f.some f.in_codes, λ u f. begins_apart codes bits n u.length 0 apart low front none f.some f.in_codes)
-
 -- nothing is kept for bits that determine none
-pub kept_none : (codes : List Code) (bits ten : List Bool) (t : ShortValue) → bits ≡ ten → t.length ≡ 0 → TellsNoCode codes bits → TellsOrNone codes ten t
-kept_none codes bits ten t is zero none = inl (zero, subst (λ b. TellsNoCode codes b) is none)
+pub kept_none : (codes : List Code) (bits ten : List Bool) (t : ShortValue) → bits ≡ ten → t.length ≡ 0 → TellsNone codes bits → TellsOrNone codes ten t
+kept_none codes bits ten t is zero none = inl (zero, subst (λ b. TellsNone codes b) is none)
 
 -- the code of the end of a block comes first
 pub kept_end : (codes : List Code) (bits ten : List Bool) (n symbol : ℕ) (t : ShortValue) → bits ≡ ten → t ≡ end_entry n → 1 ≤ n → n ≤ length bits → length ten ≡ 10 → Contains codes (take n bits, symbol) → symbol ≡ 0 → TellsOrNone codes ten t
@@ -249,4 +191,4 @@ kept_end codes bits ten n symbol t is end some low long h zero =
     let C : ℕ → Type 0 = λ s. Contains codes (take n bits, s) in
     let E : ShortValue → Type 0 = λ u. TellsOrNone codes bits u in
     let few : n ≤ 10 = omega (arith, low, ap (λ (l : List Bool). length l) is, long) in
-    subst (λ b. TellsOrNone codes b t) is (subst E (sym end) (inr (inl (inr (record { some = some; few = few; there = low; run = refl; in_codes = subst C zero h })))))
+    subst (λ b. TellsOrNone codes b t) is (subst E (sym end) (inr (inr (record { some = some; few = few; there = low; run = refl; in_codes = subst C zero h }))))

@@ -1,28 +1,18 @@
 -- Values that bits begin with, by their code and its extra bits (T.81, F.1.2.2, F.2.2.2).
-use Rattle.std.specs.Prelude.{◌≡◌, ◌⊎◌, ℕ, ◌+◌, ◌*◌, ◌%◌, ◌<◌, ◌≤◌, Bool, List, length, take, drop, slice_index_or, Contains, pos, Option, None, Some}
+use Rattle.std.specs.Prelude.{◌≡◌, ◌⊎◌, ℕ, ◌+◌, ◌*◌, ◌<◌, ◌≤◌, Bool, List, length, take, drop, slice_index_or, Contains, pos, Option, None, Some}
 use Rattle.jpg_spec.specs.Bits.{bits_of}
 use Rattle.jpg_spec.specs.Codes.{Code}
 use Rattle.jpg_spec.specs.Numbers.{category, extra_bits}
 use Rattle.jpg_seq.specs.declared.values.ShortValue.{ShortValue}
 
--- a code of at most ten bits, whose symbol has a category of at most nine
-pub record BeginsWithShortCode (codes : List Code) (bits : List Bool) (code size run : ℕ) : Type 0 where
-  pub some : 1 ≤ code
-  pub sized : 1 ≤ size
-  pub low : code ≤ 10
-  pub small : size ≤ 9
-  pub there : code ≤ length bits
-  pub in_codes : Contains codes (take code bits, 16 * run + size)
-
--- such a code, and as many extra bits as its symbol has
+-- a code, and as many extra bits as its symbol has, at most ten bits in all
 pub record BeginsWithShortValue (codes : List Code) (bits : List Bool) (t : ShortValue) : Type 0 where
   pub code : ℕ
   pub size : ℕ
   pub some : 1 ≤ code
   pub sized : 1 ≤ size
   pub sum : t.length ≡ code + size
-  pub low : code ≤ 10
-  pub small : size ≤ 9
+  pub few : code + size ≤ 10
   pub there : code + size ≤ length bits
   pub run : t.run < 16
   pub in_codes : Contains codes (take code bits, 16 * t.run + size)
@@ -45,27 +35,11 @@ IsNextShortValue codes bits t = BeginsWithShortValue codes bits t ⊎ IsNextEnd 
 abbrev pub TellsNone : List Code → List Bool → Type 0
 TellsNone codes bits = (t : ShortValue) → IsNextShortValue codes bits t → ⊥
 
--- the bits begin with no such code, nor with that of the end of a block
-abbrev pub TellsNoCode : List Code → List Bool → Type 0
-TellsNoCode codes bits = ((code size run : ℕ) → BeginsWithShortCode codes bits code size run → ⊥) × ((t : ShortValue) → IsNextEnd codes bits t → ⊥)
-
--- a code whose extra bits aren't all within ten bits; its symbol is in the place of the run
-pub record IsNextCode (codes : List Code) (bits : List Bool) (t : ShortValue) : Type 0 where
-  pub code : ℕ
-  pub some : 1 ≤ code
-  pub low : code ≤ 10
-  pub sized : 1 ≤ t.run % 16
-  pub small : t.run % 16 ≤ 9
-  pub symbol : t.run < 256
-  pub sum : t.length ≡ code + t.run % 16
-  pub long : 10 < t.length
-  pub in_codes : Contains codes (take code bits, t.run)
-
--- an entry: nothing exactly if the bits begin with no code of these
+-- the result is no value exactly if the bits begin with neither
 abbrev pub TellsOrNone : List Code → List Bool → ShortValue → Type 0
-TellsOrNone codes bits t = ((t.length ≡ 0) × TellsNoCode codes bits) ⊎ (IsNextShortValue codes bits t ⊎ IsNextCode codes bits t)
+TellsOrNone codes bits t = ((t.length ≡ 0) × TellsNone codes bits) ⊎ IsNextShortValue codes bits t
 
--- the value that the bits begin with, or the end of a block, if there are ten
+-- the value that the first ten of the bits encode, or the end of a block, if there are ten
 abbrev pub TellsShortValue : List Code → List Bool → Option ShortValue → Type 0
 TellsShortValue codes bits None = (length bits < 10) ⊎ TellsNone codes bits
 TellsShortValue codes bits (Some t) = IsNextShortValue codes bits t

@@ -1,8 +1,7 @@
 //! AC codes, and values decoded by one lookup of ten bits (T.81, F.2.2.2, Figures F.13 and F.14).
-ghost use Rattle.std.specs.Prelude.{◌≡◌, ◌<◌, ◌≤◌, ◌-◌, ◌/◌, ◌%◌, List, length, take, drop, Contains};
+ghost use Rattle.std.specs.Prelude.{◌≡◌, ◌<◌, ◌≤◌, List, length, Contains};
 ghost use Rattle.jpg_spec.specs.Bits.{bits_of};
 ghost use Rattle.jpg_spec.specs.Codes.{Code};
-ghost use Rattle.jpg_spec.specs.Numbers.{category, extra_bits};
 ghost use Rattle.jpg_huff.specs.Laws.{AreApart};
 ghost use Rattle.jpg_huff.specs.Look.{Spots};
 ghost use Rattle.jpg_seq.specs.Values.{AreShortValues, TellsShortValue, TellsOrNone, end_entry};
@@ -14,8 +13,7 @@ use std::marker::Model;
 /// The run of an entry that is the end of a block: more than any other has.
 pub const END_RUN: u8 = 64;
 
-/// A value that bits begin with. A run of `END_RUN` is the end of a block, which has no value. An entry of the table with
-/// a length above ten has only the code within its ten bits, and the symbol in the place of the run.
+/// A value that bits begin with. A run of `END_RUN` is the end of a block, which has no value.
 #[derive(Clone, Copy)]
 pub struct ShortValue {
     /// How many bits encode both, 0 if there is no such value.
@@ -92,46 +90,18 @@ fn entry_by(codes: &Decoder, ten: u16) -> ShortValue
             let size = symbol % 16;
             if symbol == 0 {
                 end_of(length)
-            } else if size == 0 {
-                no_short_value()
-            } else if size > 9 {
-                no_short_value()
-            } else if length + size <= 10 {
+            } else if size > 0 && length + size <= 10 {
                 ShortValue {
                     value: extend(size, bits.peek_after(length, size)),
                     run: symbol / 16,
                     length: length + size,
                 }
             } else {
-                ShortValue {
-                    value: 0,
-                    run: symbol,
-                    length: length + size,
-                }
+                no_short_value()
             }
         }
         Spotted::Part => no_short_value(),
         Spotted::NoCode { .. } => no_short_value(),
-    }
-}
-
-// The value whose code is that of this entry.
-#[inline(always)]
-fn value_behind(entry: ShortValue, bits: &BitStore) -> ShortValue
-    requires some { 1 ≤ entry.run % 16 }
-    requires few { entry.run % 16 ≤ 9 }
-    requires behind { entry.run % 16 ≤ entry.length }
-    requires there { entry.length ≤ length bits.now }
-    ensures length { result.length ≡ entry.length }
-    ensures run { result.run ≡ entry.run / 16 }
-    ensures category { category result.value ≡ entry.run % 16 }
-    ensures extra { extra_bits result.value ≡ take (entry.run % 16) (drop (entry.length - entry.run % 16) bits.now) }
-{
-    let size = entry.run % 16;
-    ShortValue {
-        value: extend(size, bits.peek_after(entry.length - size, size)),
-        run: entry.run / 16,
-        length: entry.length,
     }
 }
 
@@ -163,25 +133,16 @@ impl ValueDecoder {
         self.decoder.spot(bits)
     }
 
-    /// The value that these bits begin with, where its code is within the first ten and its category at most nine, or
-    /// the end of a block: None if they begin with neither, or if there are fewer than ten.
+    /// The value that the first ten of these bits encode, or the end of a block: None if they encode neither, or if
+    /// there are fewer.
     #[inline(always)]
     pub fn entry(&self, bits: &BitStore) -> Option<ShortValue>
         ensures { TellsShortValue self.now bits.now result }
     {
-        self.apart();
         if bits.len() < 10 {
             return None;
         }
         let entry = self.entries[bits.peek(10) as usize];
-        if entry.length == 0 {
-            None
-        } else if entry.length <= 10 {
-            Some(entry)
-        } else if entry.length <= bits.len() {
-            Some(value_behind(entry, bits))
-        } else {
-            None
-        }
+        if entry.length == 0 { None } else { Some(entry) }
     }
 }

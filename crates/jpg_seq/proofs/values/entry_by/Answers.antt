@@ -1,4 +1,4 @@
-use Rattle.std.proofs.Common.{rules, ◌≡◌, ℕ, ℤ, ◌+◌, ◌*◌, ◌/◌, ◌%◌, List, Bool, length, take, ap, sym, refl, ◌∙◌, subst, arith, inl, inr, pos}
+use Rattle.std.proofs.Common.{rules, ◌≡◌, ℕ, ℤ, ◌+◌, ◌*◌, ◌/◌, ◌%◌, List, Bool, length, take, ap, sym, refl, ◌∙◌, subst, arith, inl, inr, ◌⊎◌, ⊎_elim, ◌<◌}
 use Rattle.std.specs.List.{Contains}
 use mir.Syntax.{w16}
 use Rattle.std.proofs.Common.{to_z, of_z}
@@ -9,6 +9,7 @@ use Rattle.jpg_spec.proofs.Basics.Strings.{length-bits_of}
 use Rattle.jpg_seq.specs.Values.{TellsOrNone}
 use Rattle.jpg_seq.proofs.ShortValue.{kept_end, kept_none, none_symbol, none_part, none_begins}
 use Rattle.jpg_seq.proofs.values.entry_by.Goals as goal
+use Rattle.jpg_seq.proofs.values.entry_by.Goals.{else-size-gt0-via-then-size-gt0+else-length-size-le10, else-size-gt0-via-else-size-gt0}
 
 pub peek_after-requires-clause-there : goal.peek_after-requires-clause-there
 peek_after-requires-clause-there c = omega (arith, ap length c.ten_bits-bits.ensures, length-bits_of 10 c.args.ten, c.if-length-size-le10.true)
@@ -23,49 +24,27 @@ returns-then-length-size-le10 c =
     let C : ℕ → Type 0 = λ k. Contains c.args.codes.now (take n c.ten_bits-bits.result, k) in
     let V : ℤ → Type 0 = λ w. TellsOrNone c.args.codes.now c.ten_bits-bits.result (record { value = w; run = symbol / 16; length = n + size }) in
     let B : List Bool → Type 0 = λ b. TellsOrNone c.args.codes.now b (record { value = to_z w16 (of_z w16 v); run = symbol / 16; length = n + size }) in
-    subst B c.ten_bits-bits.ensures (subst V (sym (to_z-of_z w16 v f)) (inr (inl (inl (record {
+    subst B c.ten_bits-bits.ensures (subst V (sym (to_z-of_z w16 v f)) (inr (inl (record {
       code = n;
       size = size;
       some = s.0;
-      sized = omega (arith, c.if-size-eq0.false);
+      sized = omega (arith, c.if-size-gt0.true);
       sum = refl;
-      low = omega (arith, c.if-length-size-le10.true);
-      small = omega (arith, c.if-size-gt9.false);
+      few = c.if-length-size-le10.true;
       there = omega (arith, ap (λ (l : List Bool). length l) c.ten_bits-bits.ensures, length-bits_of 10 c.args.ten, c.if-length-size-le10.true);
       run = search rules;
       in_codes = subst C split s.3;
       category = c.extend.ensures.category;
       extra = c.extend.ensures.extra ∙ c.peek_after.ensures.value;
-    })))))
+    }))))
 
-pub returns-else-length-size-le10 : goal.returns-else-length-size-le10
-returns-else-length-size-le10 c =
-    let n = c.in-Symbol.length in let symbol = c.in-Symbol.symbol in let size = symbol % 16 in
-    let s = c.in-Symbol.ensures in
-    let B : List Bool → Type 0 = λ b. TellsOrNone c.args.codes.now b (record { value = pos 0; run = symbol; length = n + size }) in
-    subst B c.ten_bits-bits.ensures (inr (inr (record {
-      code = n;
-      some = s.0;
-      low = omega (arith, s.2, ap (λ (l : List Bool). length l) c.ten_bits-bits.ensures, length-bits_of 10 c.args.ten);
-      sized = omega (arith, c.if-size-eq0.false);
-      small = omega (arith, c.if-size-gt9.false);
-      symbol = search rules;
-      sum = refl;
-      long = omega (arith, c.if-length-size-le10.false);
-      in_codes = s.3;
-    })))
-
-pub returns-then-size-eq0 : goal.returns-then-size-eq0
-returns-then-size-eq0 c =
+pub returns-else-size-gt0 : goal.returns-else-size-gt0
+returns-else-size-gt0 c =
     let n = c.in-Symbol.length in let symbol = c.in-Symbol.symbol in let s = c.in-Symbol.ensures in let bits = c.ten_bits-bits.result in
+    let past : (symbol % 16 ≡ 0) ⊎ (10 < n + symbol % 16) =
+    elim c.else-size-gt0.branch [ else-size-gt0-via-then-size-gt0+else-length-size-le10 w ↦ inr (omega (arith, w.if-length-size-le10.false)) | else-size-gt0-via-else-size-gt0 w ↦ inl (omega (arith, w.if-size-gt0.false)) ] in
     kept_none c.args.codes.now bits (bits_of 10 c.args.ten) c.no_short_value.result c.ten_bits-bits.ensures c.no_short_value.ensures
-    (none_symbol c.args.codes.now bits n symbol c.apart.ensures.one s.2 s.3 c.if-symbol-eq0.false (λ h. omega (arith, c.if-size-eq0.true, h.0)))
-
-pub returns-then-size-gt9 : goal.returns-then-size-gt9
-returns-then-size-gt9 c =
-    let n = c.in-Symbol.length in let symbol = c.in-Symbol.symbol in let s = c.in-Symbol.ensures in let bits = c.ten_bits-bits.result in
-    kept_none c.args.codes.now bits (bits_of 10 c.args.ten) c.no_short_value-then-size-gt9.result c.ten_bits-bits.ensures c.no_short_value-then-size-gt9.ensures
-    (none_symbol c.args.codes.now bits n symbol c.apart.ensures.one s.2 s.3 c.if-symbol-eq0.false (λ h. omega (arith, c.if-size-gt9.true, h.1)))
+    (none_symbol c.args.codes.now bits n symbol c.apart.ensures.one s.2 s.3 c.if-symbol-eq0.false (λ h. ⊎_elim (λ (a : symbol % 16 ≡ 0). omega (arith, a, h.0)) (λ (b : 10 < n + symbol % 16). omega (arith, b, h.1)) past))
 
 pub returns-then-symbol-eq0 : goal.returns-then-symbol-eq0
 returns-then-symbol-eq0 c =
@@ -81,4 +60,4 @@ pub returns-in-NoCode : goal.returns-in-NoCode
 returns-in-NoCode c =
     let s = c.in-NoCode.ensures in
     kept_none c.args.codes.now c.ten_bits-bits.result (bits_of 10 c.args.ten) c.no_short_value-in-NoCode.result c.ten_bits-bits.ensures c.no_short_value-in-NoCode.ensures
-    (none_begins c.args.codes.now c.ten_bits-bits.result c.in-NoCode.length c.apart.ensures.one s.1 s.2 s.3)
+    (none_begins c.args.codes.now c.ten_bits-bits.result c.in-NoCode.length c.apart.ensures.one s.0 s.1 s.2 s.3)
