@@ -34,6 +34,7 @@ impl Comments {
     ghost use Rattle.jpg_comments.specs.ReadComments.{comments_limits, comments_stop, comments_taken, is_done, is_ready, EndsDone, Feeds, HasRead, StopsAt};
 
     /// A reader that was given no bytes. It takes no memory yet.
+    #[tactic(auto, using(crate::proofs::ByByte::printed_start))]
     pub fn new(alloc: Global, limits: Limits) -> Comments
         requires { AreLimits limits }
         ensures read { HasRead [] [] result }
