@@ -15,6 +15,7 @@ use jpg_spec::{Component, Limits};
 use jpg_spec_move::Transform;
 
 // A frame of the process of `like` with these numbers, which pass the checks.
+#[tactic(auto, using(crate::proofs::MovedFrame::has_none))]
 fn made(like: &Frame, width: u32, height: u32, components: &[Component]) -> Frame
     requires { IsFrame (numbers_of like.now.process like.now.precision width height components.now) }
     ensures { result ≡ numbers_of like.now.process like.now.precision width height components.now }
@@ -34,6 +35,7 @@ fn made(like: &Frame, width: u32, height: u32, components: &[Component]) -> Fram
 }
 
 /// The frame with other sides.
+#[tactic(auto, using(crate::proofs::MovedFrame::same_sides))]
 pub fn with_sides(frame: &Frame, width: u32, height: u32) -> Frame
     requires { IsFrame (with_sides frame.now width height) }
     ensures { result ≡ with_sides frame.now width height }
@@ -134,6 +136,7 @@ fn trimmed_height(frame: &Frame, trim: bool, transform: Transform) -> u32
     }
 }
 
+#[tactic(auto, using(jpg_spec_move::proofs::MovedFrames::trimmed_is, crate::proofs::MovedFrame::same_sides))]
 fn trimmed(frame: &Frame, trim: bool, transform: Transform) -> Frame
     ensures { result ≡ trimmed_frame trim transform frame.now }
 {

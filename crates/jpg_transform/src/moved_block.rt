@@ -94,6 +94,7 @@ impl<'a> Moved<'a> {
     }
 
     // States, for proofs, that each value of the picture can change its sign. It does nothing.
+    #[tactic(auto, using(crate::proofs::Opposites::opposites))]
     #[inline(always)]
     fn checked(&self)
         ensures { HasOpposites self.now.picture.now.frame (map_of self.now.picture.now.coefs) }

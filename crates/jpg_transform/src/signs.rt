@@ -44,6 +44,7 @@ fn masked(mask: i16, value: i16) -> i16
 }
 
 // The masks of a block that is mirrored in these directions.
+#[tactic(auto, using(crate::proofs::OneBlock::pick_four))]
 #[inline(always)]
 fn masks(across: bool, down: bool) -> &'static [i16; 64]
     ensures { AreMasks across down result.now }
