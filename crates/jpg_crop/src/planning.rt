@@ -97,6 +97,7 @@ fn corner_down(area: &Area, frame: &Frame) -> u32
 }
 
 // The frame cropped to an area.
+#[tactic(auto, using(jpg_spec_move::proofs::CroppedFrames::cropped_is, jpg_transform::proofs::MovedFrame::same_sides))]
 fn cropped_frame(area: &Area, frame: &Frame) -> Frame
     requires area { IsArea area.now }
     requires inside { is_area_of area.now frame.now.width frame.now.height ≡ true }
