@@ -5,7 +5,7 @@ use Rattle.std.proofs.lemmas.Bool.{eq-eqb, eqb-true}
 use Rattle.std.proofs.Math.Dec.{eqb}
 use Rattle.std.proofs.Math.Seq.{take-append_seam}
 use lib.Pointwise.{pointwise}
-use Rattle.std.specs.Prelude.{min, not, is_some}
+use Rattle.std.specs.Prelude.{min, is_some}
 use Rattle.jpg_spec.proofs.Basics.Common.{both, clash, heads, same_of, take_shorter}
 use Rattle.jpg_spec.specs.Segments.{two_bytes}
 use Rattle.jpg_spec.specs.Markers.{Segment, SpellsMarker, SpellsSegment, SpellsSegments, code_fault, code_fault_if, kept_rule, Pass, Reaches, at_part}

@@ -87,6 +87,7 @@ fn first(bytes: &[u8]) -> (Kept<'_>, &[u8])
 
 impl KeptList {
     /// The empty list. It takes no memory yet.
+    #[tactic(auto, using(crate::proofs::KeptBytes::none_yet))]
     pub fn new(alloc: Global) -> KeptList
         ensures { result ≡ [] }
     {

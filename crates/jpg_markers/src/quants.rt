@@ -164,6 +164,7 @@ fn from_bytes(bytes: &[u8]) -> QuantTable
 }
 
 // Quantisers of two bytes each.
+#[tactic(auto, using(crate::proofs::Tables::pair_put, std::proofs::lemmas::Grind::common_steps))]
 fn from_pairs(bytes: &[u8]) -> QuantTable
     requires { length bytes.now ≡ 128 }
     ensures { result ≡ parsed_pairs bytes.now }

@@ -191,6 +191,7 @@ impl SegmentReader {
     }
 
     // Takes the fill bytes at the start of these. Returns how many they were.
+    #[tactic(auto, using(crate::proofs::Continuing::fills_continue))]
     fn take_fill(&mut self, bytes: &[u8]) -> usize
         requires inside { (reading_of self.old).phase ≡ phase.Fill }
         requires room { (reading_of self.old).taken + length bytes.now ≤ (reading_of self.old).limits.input }
@@ -208,6 +209,7 @@ impl SegmentReader {
 
     /// Whether this segment may follow: the reader hasn't stopped and is between segments, the segment's code may occur
     /// here and isn't EOI, and the kept markers are within their limit with it.
+    #[tactic(auto, using(crate::proofs::Continuing::not_some))]
     pub fn allows(&self, segment: &WholeSegment<'_>) -> bool
         ensures may { result ≡ true → MayFollow (reading_of self.now) segment.now.code segment.now.contents.now }
         ensures always { (reading_of self.now).stop ≡ None → MayFollow (reading_of self.now) segment.now.code segment.now.contents.now → result ≡ true }

@@ -45,6 +45,7 @@ pub fn fill_length(bytes: &[u8]) -> usize
 }
 
 // The code and the contents of a segment after the FF of its marker, if it is complete; the code is any byte.
+#[tactic(auto, using(crate::proofs::Continuing::is_sized))]
 fn sized_at(bytes: &[u8]) -> Option<(u8, &[u8])>
     ensures sized { IfSome result (λ s. IsSized s.0 s.1.now bytes.now) }
     ensures none { IfNone result ((code : ℕ) (contents : List ℕ) → IsSized code contents bytes.now → ⊥) }

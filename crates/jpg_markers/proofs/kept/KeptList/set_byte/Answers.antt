@@ -1,6 +1,5 @@
-use Rattle.std.proofs.Common.{rules, ◌≡◌, ℕ, ◌<◌, ◌+◌, ◌^◌, length, refl, ap, arith}
+use Rattle.std.proofs.Common.{rules, ◌<◌, ◌+◌, ◌^◌, length, refl, ap, arith}
 use Rattle.std.specs.Prelude.{slice_set}
-use Rattle.jpg_markers.specs.Kept.{segments_of}
 use Rattle.jpg_markers.proofs.KeptByte.{are_put, has_room}
 use Rattle.jpg_markers.proofs.kept.KeptList.set_byte.Goals as goal
 

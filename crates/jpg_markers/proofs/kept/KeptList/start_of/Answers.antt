@@ -1,5 +1,4 @@
-use Rattle.std.proofs.Common.{◌≡◌, ◌+◌, List, ℕ, length, take, drop, sym, subst, ◌∙◌, arith}
-use Rattle.jpg_spec_write.specs.FileText.{kept_text}
+use Rattle.std.proofs.Common.{◌≡◌, ℕ, drop, sym, subst, ◌∙◌, arith}
 use Rattle.jpg_markers.specs.Kept.{kept_pair, segments_of}
 use Rattle.jpg_markers.proofs.KeptBytes.{one_less}
 use Rattle.jpg_markers.proofs.KeptByte.{start_is}
