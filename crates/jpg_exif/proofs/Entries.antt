@@ -1,6 +1,5 @@
 -- Entries of a directory one by one.
-use Rattle.std.proofs.Common.{◌≡◌, ℕ, zero, suc, ◌+◌, ◌-◌, ◌<◌, ◌≤◌, Bool, true, false, cond, List, length, Option, None, Some, refl, sym, ap, ◌∙◌, arith}
-use Rattle.std.specs.Prelude.{nat_lt}
+use Rattle.std.proofs.Common.{◌≡◌, ℕ, zero, suc, ◌+◌, ◌-◌, ◌<◌, ◌≤◌, Bool, true, false, cond, List, length, None, Some, refl, sym, ap, ◌∙◌, arith}
 use Rattle.jpg_spec.proofs.Basics.Common.{lt_no, lt_yes}
 use Rattle.jpg_spec_upright.specs.Exif.{entry_among, is_orientation}
 

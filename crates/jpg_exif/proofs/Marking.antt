@@ -1,5 +1,5 @@
 -- The first segment of Exif data is marked upright.
-use Rattle.std.proofs.Common.{◌≡◌, ℕ, List, [], Option, None, Some, get_or, sym, ap, ◌∙◌}
+use Rattle.std.proofs.Common.{◌≡◌, ℕ, List, [], Option, None, Some, sym, ap, ◌∙◌}
 use Rattle.std.specs.Prelude.{slice_get, slice_set}
 use Rattle.std.proofs.lemmas.List.{set-get_or}
 use Rattle.std.proofs.lemmas.Option.{get_or_from_slice_get}

@@ -1,6 +1,6 @@
 -- The first segment of Exif data among kept markers.
-use Rattle.std.specs.Prelude.{◌≡◌, ◌<◌, ℕ, [], true, List, length, slice_index_or, slice_set}
-use Rattle.jpg_spec_upright.specs.Exif.{is_exif, marked_upright, orientation_in, orientation_of, upright_contents}
+use Rattle.std.specs.Prelude.{◌≡◌, ◌<◌, ℕ, [], List, length, slice_index_or, slice_set}
+use Rattle.jpg_spec_upright.specs.Exif.{marked_upright, orientation_in, orientation_of, upright_contents}
 
 abbrev pub member : List (ℕ × List ℕ) → ℕ → ℕ × List ℕ
 member kept i = slice_index_or kept i (0, [])

@@ -1,4 +1,4 @@
-use Rattle.std.proofs.Common.{Some, None, sym, ap, ◌∙◌}
+use Rattle.std.proofs.Common.{Some, sym, ap, ◌∙◌}
 use Rattle.jpg_spec_upright.specs.Upright.{transform_for}
 use Rattle.jpg_markers.specs.Kept.{kept_pair}
 use Rattle.jpg_exif.proofs.Marking.{marked_none, marked_some, orientation_is}
