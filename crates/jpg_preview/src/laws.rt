@@ -13,6 +13,7 @@ pub fn previews_show_the_front()
 {}
 
 /// No file is without a front.
+#[tactic(auto, using(crate::proofs::FrontFound::never_without))]
 pub fn files_have_a_front()
     ensures { (limits : Limits) (scans : ℕ) (bytes : List ℕ) → ((front : List ℕ) → IsFront limits scans bytes front → ⊥) → ⊥ }
 {}
