@@ -53,12 +53,14 @@ pub fn pictures_are_turned_back()
 /// If no count of open, read or write rose, a run that decodes a picture ends as its input determines: Done if it means
 /// a picture that can be displayed, Warned if it ends early and means one, Refused with its first fault or because it
 /// can't be displayed, whichever comes first, or NoMemory.
+#[tactic(auto, using(crate::proofs::Outcomes::DueCommands::show_due))]
 pub fn shown_answers_are_due()
     ensures { (showing : Showing) (old : DeskState) → WhereNoneRose (Shown showing) old (IsShowDue showing old) }
 {}
 
 /// A file that means a picture that can be displayed has its image written: if the desk knows it, and no count of open,
 /// read or write rose, the run ends with Done, if it ends early with Warned and its length, or with NoMemory.
+#[tactic(auto, using(crate::proofs::Outcomes::Certain::shown_certain))]
 pub fn pictures_are_shown()
     ensures { (s : Showing) (old : DeskState) → (has : HasImage s old) → WhereNoneRose (Shown s) old (IsDoneAsOrWanting has.early) }
 {}
@@ -67,6 +69,7 @@ pub fn pictures_are_shown()
 /// its input determines: Done if the front means a picture that can be displayed, as a complete file or up to the
 /// marker after these scans; Warned if the input ends early before and means one; Refused with the front's first fault
 /// or because it can't be displayed, whichever comes first, or NoMemory.
+#[tactic(auto, using(crate::proofs::Outcomes::DueCommands::front_due))]
 pub fn shown_fronts_are_due()
     ensures { (scans : ℕ) (showing : Showing) (old : DeskState) → WhereNoneRose (FrontShown scans showing) old (IsFrontDue scans showing old) }
 {}
@@ -113,6 +116,7 @@ pub fn faults_are_answered()
 
 /// If no count of open, read or write rose, a run that prints comments ends as its input determines: Done if a prefix
 /// of it is complete, Refused with its fault, or NoMemory.
+#[tactic(auto, using(crate::proofs::Comments::CommentsPrinted::print_due))]
 pub fn printed_comments_are_due()
     ensures { (old : DeskState) (input output : Name) → WhereNoneRose (Printed input output) old (IsPrintDue input old) }
 {}
@@ -125,6 +129,7 @@ pub fn inserted_comments_are_due()
 
 /// A file that is complete up to its first scan header, or up to EOI before any, has its comments printed: if the desk
 /// knows it, and no count of open, read or write rose, the run ends with Done or with NoMemory.
+#[tactic(auto, using(crate::proofs::Outcomes::Certain::printed_certain))]
 pub fn whole_files_have_their_comments_printed()
     ensures { (old : DeskState) (input output : Name) → HasWholeFile old input → WhereNoneRose (Printed input output) old IsDoneOrWanting }
 {}

@@ -81,6 +81,7 @@ fn work<D: Desk>(alloc: Global, words: &[String], desk: &mut D, ends: Vec<Box<dy
 /// Runs the command that the words name over a desk, and says how it ended. `ends` has the image writers of `djpeg` and
 /// `jpgwork`: of those with the format that is asked for the first one is used, and if there is none the words are
 /// wrong. `Ran` (specs/Run.antt) is the theorem about all commands; the manual pages say what each of them does.
+#[tactic(auto, using(crate::proofs::Outcomes::Ending::ran))]
 pub fn run<D: Desk>(
     alloc: Global,
     words: &[String],

@@ -77,6 +77,7 @@ pub fn read_within<D: Desk>(desk: &mut D, room: u64, buffer: &mut [u8]) -> Got
 }
 
 /// The bytes of the file of this name, up to a limit. A fault names the file.
+#[tactic(auto, using(crate::proofs::Outcomes::Input::took))]
 pub fn take_file<D: Desk>(
     alloc: Global,
     name: &Name,

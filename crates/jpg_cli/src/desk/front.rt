@@ -22,6 +22,7 @@ use std::alloc::Global;
 /// in some scan; and if the file ended before, after how many bytes. The file is read in pieces of at most 16,384
 /// bytes, up to its end, or the one with the marker after that scan, that completes the file, reveals a fault, or
 /// completes a first scan header whose picture can't be displayed.
+#[tactic(auto, using(crate::proofs::Pieces::PictureTaken::meaning_read))]
 #[inline(never)]
 pub fn read_front<D: Desk>(
     alloc: Global,

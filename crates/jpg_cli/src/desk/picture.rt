@@ -28,6 +28,7 @@ pub(crate) enum PictureStep {
 /// The picture of the file of this name, with the markers that may be passed on, and its blocks stored in these orders;
 /// and if the file ended early, after how many bytes. The file is read in pieces of at most 16,384 bytes, up to its end or
 /// the one that completes it or reveals a fault.
+#[tactic(auto, using(crate::proofs::Pieces::PictureTaken::meaning_read))]
 #[inline(never)]
 pub fn read_picture<D: Desk>(
     alloc: Global,

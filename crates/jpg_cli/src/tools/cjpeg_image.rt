@@ -29,6 +29,7 @@ use std::alloc::Global;
 /// The image of the input, encoded as the words ask for it. The file is read in pieces of at most 16,384 bytes, up to
 /// the one with its last sample or its first fault; a fault of its factors and grids comes after all faults of the
 /// file.
+#[tactic(auto, using(crate::proofs::Encoding::EncodedRead::encoded_from))]
 #[inline(never)]
 pub fn read_encoded<D: Desk>(
     alloc: Global,

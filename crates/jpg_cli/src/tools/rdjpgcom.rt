@@ -123,6 +123,7 @@ fn take_piece(comments: &mut Comments, piece: &[u8], out: &mut Bytes) -> Option<
 }
 
 /// Writes the text, if there is any, and clears it.
+#[tactic(auto, using(crate::proofs::Comments::CommentsCopied::none_written, jpg_dct::proofs::TableFronts::none_of))]
 pub fn write_text<D: Desk>(text: &mut Bytes, desk: &mut D) -> Put
     requires { (D.state desk.old).output_created ≡ true }
     ensures kept { OnlyWrites (D.state desk.old) (D.state desk.new) }

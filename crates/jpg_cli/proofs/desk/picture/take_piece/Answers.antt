@@ -1,4 +1,4 @@
-use Rattle.std.proofs.Common.{rules, ◌∙◌, ◌++◌, None, Ok, Err, refl, subst}
+use Rattle.std.proofs.Common.{rules, ◌∙◌, None, Ok, Err, refl, subst}
 use Rattle.jpg_base.specs.declared.stop.Fed.{Fed}
 use Rattle.jpg_base.specs.declared.stop.Stop.{Stop}
 use Rattle.jpg_file.specs.Read.ReadFile.{AfterFeed}

@@ -1,4 +1,4 @@
-use Rattle.std.proofs.Common.{[], ◌∙◌, refl, arith}
+use Rattle.std.proofs.Common.{[], refl, arith}
 use Rattle.jpg_cli.proofs.Comments.CommentsCopied.{copies_none, none_read, none_written}
 use Rattle.jpg_cli.proofs.tools.rdjpgcom.copy_comments.Goals as goal
 
