@@ -186,6 +186,7 @@ pub fn to_rgb(y: u8, cb: u8, cr: u8) -> [u8; 3]
     [red, green, blue]
 }
 
+#[tactic(auto, using(crate::proofs::Pixels::put_three))]
 #[inline(always)]
 fn put(out: &mut [u8], i: usize, pixel: &[u8; 3])
     requires { 3 * i + 2 < length out.old }

@@ -157,6 +157,7 @@ fn put_rows(
 }
 
 // Puts `count` rows of 128 after the first `kept` ones.
+#[tactic(auto, using(crate::proofs::GrayRows::gray_put, crate::proofs::GrayRows::part_filled))]
 fn put_gray(samples: &mut [u8], wide: u32, kept: usize, count: usize)
     requires wide { (1 ≤ wide) × (wide ≤ 65500) }
     requires rows { kept + count ≤ 33 }
@@ -168,6 +169,7 @@ fn put_gray(samples: &mut [u8], wide: u32, kept: usize, count: usize)
 }
 
 // Moves the last of `len` rows to the start. Returns how many rows are there then.
+#[tactic(auto, using(crate::proofs::RowsPut::last_kept))]
 fn keep_last(samples: &mut [u8], wide: u32, len: u32) -> u32
     requires wide { wide ≤ 65500 }
     requires few { len ≤ 33 }
@@ -210,6 +212,7 @@ impl SampleRows {
     }
 
     /// How many rows there are.
+    #[tactic(auto, using(crate::proofs::RowsPut::rows_count))]
     pub fn len(&self) -> u32
         ensures { result ≡ length self.now.rows }
     {

@@ -149,6 +149,7 @@ impl StripImage {
     }
 
     /// Writes all text that waits. It takes no memory.
+    #[tactic(auto, using(crate::proofs::Drawn::stays))]
     pub fn flush<D: Desk>(&mut self, desk: &mut D) -> Result<(), DecodeStop>
         requires { (D.state desk.old).output_created ≡ true }
         ensures sent { SendsImage (D.state desk.old) self.old.out [] result self.new.out (D.state desk.new) }

@@ -20,6 +20,7 @@ use jpg_spec_write::PictureFault;
 use std::alloc::Global;
 
 /// The frame of the picture of an image.
+#[tactic(auto, using(crate::proofs::EncodeFrames::many_due, crate::proofs::EncodeFrames::numbers_are))]
 pub(crate) fn frame_of(info: &ImageInfo, encoding: &Encoding) -> Result<Frame, PictureFault>
     requires { CanSample info.now encoding.now }
     ensures { IsFramed info.now encoding.now result }

@@ -80,6 +80,7 @@ fn all_fit(numbers: &[u8])
 }
 
 /// The luminance of sixteen pixels; sixteen more numbers are read.
+#[tactic(auto, using(crate::proofs::PixelLanes::luminances_are))]
 #[inline(always)]
 pub(crate) fn luminances(pixels: &[u8]) -> [u8; 16]
     requires { length pixels.now ≡ 64 }

@@ -9,7 +9,7 @@ use jpg_spec_image::ImageKind;
 use std::simd::u8x8;
 
 /// Component `i` of a row of an image: gray as it is, otherwise luminance or one of the two chrominance components.
-#[tactic(auto, unfolding(crate::specs::ColourRows::row_component))]
+#[tactic(auto, using(crate::proofs::CutBlocks::gray_is), unfolding(crate::specs::ColourRows::row_component))]
 pub fn component_row(kind: ImageKind, row: &[u8], i: u8, out: &mut [u8])
     requires some { i < 3 }
     requires long { length row.now ≡ numbers_of_pixel kind * length out.old }

@@ -69,6 +69,7 @@ fn image_row<'a>(samples: &'a [u8], info: &ImageInfo, p: usize) -> &'a [u8]
 }
 
 // Puts row p of component `i` as row r among rows.
+#[tactic(auto, using(crate::proofs::PlaneRows::put_mid_at, crate::proofs::PlaneRows::sample_at))]
 fn put_row(samples: &[u8], info: &ImageInfo, i: u8, p: usize, rows: &mut [u8], r: usize)
     requires image { HasSamples info.now samples.now }
     requires component { i < 3 }
@@ -172,6 +173,7 @@ fn rows_under<'a>(plane: &ImagePlane, window: &Window<'a>, y: usize) -> &'a [u8]
 }
 
 // Row y of the plane, as many samples as `out` has, from the rows of the image for it.
+#[tactic(auto, using(crate::proofs::PlaneRows::row_is))]
 fn plane_row(plane: &ImagePlane, window: &Window, y: usize, out: &mut [u8])
     requires plane { IsImagePlane plane.now }
     requires window { IsWindow plane.now window.now }
@@ -187,6 +189,7 @@ fn plane_row(plane: &ImagePlane, window: &Window, y: usize, out: &mut [u8])
 }
 
 // Puts row y as row v of the eight; `made` rows are made from the image, and the last one is repeated.
+#[tactic(auto, using(crate::proofs::PlaneRows::put_mid_at, crate::proofs::PlaneRows::placed))]
 fn put_plane_row(
     plane: &ImagePlane,
     made: usize,

@@ -50,6 +50,7 @@ impl Sampler {
     /// A sampler of an image with these numbers, encoded like this, that was given no samples. Returns
     /// FractionalFactors with the first component whose ratio to the greatest factors isn't an integer, and then
     /// TooManyBlocks if the padded grids have more than 8388608 blocks. It takes no memory yet.
+    #[tactic(auto, using(crate::proofs::EncodedPictures::faults_all))]
     pub fn new(alloc: Global, info: ImageInfo, encoding: Encoding) -> Result<Sampler, EncodeStop>
         requires { CanSample info encoding }
         ensures begins { BeginsSampling info encoding result }

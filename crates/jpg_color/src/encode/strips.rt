@@ -86,6 +86,7 @@ fn open(windows: &mut Windows, frame: &Frame) -> Result<(), NoMemory>
 }
 
 // Puts the rows of the strip into the windows.
+#[tactic(auto, using(crate::proofs::McuSources::by_three, std::proofs::lemmas::List::with_items_is))]
 fn fill(strip: &Strip, windows: &mut Windows)
     requires strip { IsStrip strip.now }
     requires windows { AreWindows strip.now.frame.now windows.old }
@@ -109,6 +110,7 @@ fn fill(strip: &Strip, windows: &mut Windows)
 }
 
 /// Appends the rows of blocks of the strip to the planes.
+#[tactic(auto, using(crate::proofs::StripRows::only_first))]
 pub(crate) fn put_strip(
     alloc: Global,
     strip: &Strip,

@@ -76,6 +76,7 @@ fn put_samples(out: &mut [u8], c: usize, samples: &[u8; 16])
 }
 
 // Puts the samples of columns 16 * c to 16 * c + 15.
+#[tactic(auto, using(crate::proofs::PixelLanes::one_of_sixteen))]
 #[inline(always)]
 fn put_sixteen(pixels: &[u8], i: u8, c: usize, out: &mut [u8])
     requires some { i < 3 }

@@ -1,4 +1,4 @@
-use Rattle.std.proofs.Common.{◌≡◌, ◌<◌, ap, arith}
+use Rattle.std.proofs.Common.{◌<◌, ap, arith}
 use Rattle.jpg_color.specs.Shown.{ShownState, parts}
 use Rattle.jpg_color.proofs.StripsKept.{held_few}
 use Rattle.jpg_color.proofs.decode.strips.Strips.held.Goals as goal
