@@ -1,19 +1,18 @@
 -- The picture that the data of a first scan are in: all of it after the current MCU row is zero.
 use Rattle.std.proofs.Common.{◌≡◌, ℕ, ◌+◌, Bool, true, false, cond, List, [], ◌∷◌, ◌++◌, length, refl, sym, ap, ◌∙◌, subst, arith}
-use Rattle.std.specs.Prelude.{◌==◌}
 use Rattle.std.proofs.lemmas.List.{append_assoc, length-append}
 use Rattle.jpg_spec.specs.Lists.{any_of, joined}
 use Rattle.jpg_spec.specs.Geometry.{units}
 use Rattle.jpg_spec.specs.Scan.{Blocks, Scan}
 use Rattle.jpg_spec.specs.Markers.{has_scan}
-use Rattle.jpg_spec.specs.Items.{Item, segment, scan, segments_of}
-use Rattle.jpg_spec.specs.FileMeaning.{Leads, no_blocks}
+use Rattle.jpg_spec.specs.Items.{Item, segments_of}
+use Rattle.jpg_spec.specs.FileMeaning.{Leads}
 use Rattle.jpg_spec.specs.ScanReading.{ScanPlace, scan_at, with_byte}
 use Rattle.jpg_spec.specs.PictureInWork.{ScanSoFar, is_at}
 use Rattle.jpg_spec.specs.declared.frame.Limits.{Limits}
 use Rattle.jpg_spec.specs.declared.frame.Place.{Place}
 use Rattle.jpg_spec.proofs.Files.BlocksOnce.{joined_chunks}
-use Rattle.jpg_spec.proofs.Basics.Common.{clash, neither}
+use Rattle.jpg_spec.proofs.Basics.Common.{neither}
 use Rattle.jpg_spec.proofs.Places.PictureInWork.{any_join, joined_join}
 use Rattle.jpg_coefs.specs.Picture.{Picture, map_of}
 use Rattle.jpg_coefs.specs.Machine.{Interval}

@@ -8,7 +8,7 @@ use Rattle.jpg_spec.specs.Geometry.{Frame, is_progressive}
 use Rattle.jpg_spec.specs.Header.{IsHeader}
 use Rattle.jpg_spec.specs.InForce.{frame_of, head_in, no_frame, no_head, parsed_or}
 use Rattle.jpg_spec.specs.Items.{contents_rule, segments_of}
-use Rattle.jpg_spec.specs.Markers.{Segment, code_fault, kept_rule}
+use Rattle.jpg_spec.specs.Markers.{Segment, kept_rule}
 use Rattle.jpg_spec.specs.RowsParsed.{BeginsScanOfAll, IsScanOfAll}
 use Rattle.jpg_spec.specs.Segments.{ScanHead, head_components}
 use Rattle.jpg_spec.specs.Faults.{Parsed}
@@ -16,10 +16,8 @@ use Rattle.jpg_spec.specs.declared.fault.FaultAt.{FaultAt}
 use Rattle.jpg_spec.specs.declared.fault.Fault.{Fault}
 use Rattle.jpg_spec.specs.declared.frame.Limits.{Limits}
 use Rattle.jpg_spec.specs.declared.frame.ScanPart.{ScanPart}
-use Rattle.jpg_spec.proofs.Basics.Common.{clash}
 use Rattle.jpg_spec.proofs.Files.FileLaws.{shown_not_standing}
 use Rattle.jpg_spec.proofs.Headers.FirstScan.{header_stands}
-use Rattle.jpg_spec.proofs.Headers.FrameFound.{framed}
 use Rattle.jpg_spec.proofs.Files.ItemSteps.{contents_shown}
 use Rattle.jpg_spec.proofs.Headers.OneHeader.{whole_once}
 use Rattle.jpg_base.specs.declared.stop.Stop.{Stop}
@@ -37,7 +35,7 @@ use Rattle.jpg_file.specs.declared.read.first_header.Head.{Head}
 use Rattle.jpg_file.specs.declared.read.rows.RowWork.{RowWork}
 use Rattle.jpg_file.specs.declared.read.step.Step.{Step}
 use Rattle.jpg_file.specs.declared.read.step.Step.TheVariants as step
-use Rattle.jpg_file.proofs.Files.FileSteps.{frame_held, head_is, head_left}
+use Rattle.jpg_file.proofs.Files.FileSteps.{head_is, head_left}
 use Rattle.jpg_file.proofs.Headers.FirstHeaders.{heads_first}
 use Rattle.jpg_file.proofs.Files.PieceSteps.{front_of, one_more}
 use Rattle.jpg_file.proofs.ByRow.StripBegin.{first_of}

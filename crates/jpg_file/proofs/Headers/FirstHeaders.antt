@@ -1,5 +1,5 @@
 -- The first scan header of a file, as it is kept.
-use Rattle.std.proofs.Common.{◌≡◌, ℕ, false, ◌==◌, List, [], ◌∷◌, ◌++◌, length, take, drop, sym, ap, ◌∙◌, subst, arith, Option, Some, None, inl, inr, ◌⊎◌}
+use Rattle.std.proofs.Common.{◌≡◌, ℕ, false, List, [], ◌∷◌, ◌++◌, length, take, drop, sym, ap, ◌∙◌, subst, arith, Option, Some, None, inl, inr, ◌⊎◌}
 use Rattle.std.specs.Prelude.{◌||◌, replicate, reverse, find, option_map, unwrap_or}
 use Rattle.std.proofs.lemmas.List.{length-append, reverse-reverse, take_all, take-append-le, take-append-drop}
 use Rattle.jpg_spec.specs.Geometry.{Frame}
@@ -8,15 +8,15 @@ use Rattle.jpg_spec.specs.Colours.{colours_of}
 use Rattle.jpg_spec.specs.Jfif.{adobe_transform, is_jfif, jfif_of, parsed_jfif}
 use Rattle.jpg_spec.specs.declared.jfif.Jfif.{Jfif}
 use Rattle.jpg_spec.specs.Scan.{Blocks}
-use Rattle.jpg_spec.specs.Markers.{Segment, SpellsSegment, SpellsSegments, BeginsSegment, PartOfSegment, has_scan, kept_after, code_fault}
+use Rattle.jpg_spec.specs.Markers.{Segment, SpellsSegment, BeginsSegment, PartOfSegment, has_scan, kept_after, code_fault}
 use Rattle.jpg_spec.specs.InForce.{frame_of, no_frame}
-use Rattle.jpg_spec.specs.Items.{Item, segment, scan, segments_of, SpellsFront, contents_rule}
+use Rattle.jpg_spec.specs.Items.{Item, segments_of, contents_rule}
 use Rattle.jpg_spec.specs.Header.{UnfinishedHeader, IsHeader}
 use Rattle.jpg_spec.specs.declared.frame.Limits.{Limits}
 use Rattle.jpg_spec.proofs.Headers.FrameAfter.{leads_pass}
 use Rattle.jpg_spec.proofs.Headers.HeaderFirst.{scan_passed}
 use Rattle.jpg_spec.proofs.Headers.OneHeader.{whole_not_standing}
-use Rattle.jpg_spec.proofs.Basics.Common.{neither, not_same}
+use Rattle.jpg_spec.proofs.Basics.Common.{not_same}
 use Rattle.jpg_markers.specs.Reading.{Reading, reading_of}
 use Rattle.jpg_file.specs.Read.FirstHeader.{HasHead, HasNoHead, IsFirstHeader, colours_by, first_header_of}
 use Rattle.jpg_file.specs.Read.Keeping.{is_wanted}

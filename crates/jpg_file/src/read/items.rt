@@ -148,6 +148,7 @@ impl Items {
     }
 
     /// Notes that the scan header was judged.
+    #[tactic(auto, using(crate::proofs::Scans::ScanLeft::after_head))]
     pub fn head_done(&mut self)
         requires { (bytes : List ℕ) × (items : List Item) × (blocks : Blocks) × AfterSegment self.old.limits bytes items blocks self.old }
         ensures behind { PassesHead self.old self.new }

@@ -182,6 +182,7 @@ impl Reader {
     }
 
     /// How many bytes more may be taken: the limit minus those that were taken.
+    #[tactic(auto, using(crate::proofs::Files::PieceSteps::counted))]
     pub fn room(&self) -> u64
         ensures is { result ≡ self.now.limits.input - self.now.file.reading.taken }
         ensures left { (bytes : List ℕ) → HasRead bytes self.now → result + length bytes ≡ self.now.limits.input }

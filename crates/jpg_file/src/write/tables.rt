@@ -22,6 +22,7 @@ pub type TablePlace = (u8, u8);
 // The contents of a DHT segment: one byte for class and slot, 16 counts, at most 256 symbols.
 type Contents = ArrayVec<u8, 273>;
 
+#[tactic(auto, using(std::proofs::lemmas::List::append_assoc, std::proofs::lemmas::List::take_more))]
 fn contents_of(place: u8, table: &Table) -> Contents
     requires counts { length (table_of table.now).counts ≡ 16 }
     requires symbols { length (table_of table.now).symbols ≤ 256 }
@@ -35,6 +36,7 @@ fn contents_of(place: u8, table: &Table) -> Contents
 }
 
 // The contents before the symbols.
+#[tactic(auto, using(std::proofs::lemmas::List::take_more))]
 fn counted(place: u8, table: &Table) -> Contents
     requires { length (table_of table.now).counts ≡ 16 }
     ensures value { result.items ≡ place ∷ (table_of table.now).counts }

@@ -1,5 +1,4 @@
 use Rattle.std.proofs.Common.{◌≡◌, ◌≤◌, length, sym, ap, ◌∙◌, subst}
-use Rattle.jpg_spec.specs.Geometry.{is_progressive}
 use Rattle.jpg_spec.specs.Segments.{ScanHead, head_components}
 use Rattle.jpg_spec_write.specs.FileText.{tables_needed}
 use Rattle.jpg_base.specs.Cursor.{AreIn}
