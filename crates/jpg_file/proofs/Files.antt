@@ -9,3 +9,6 @@ pub mod Passing
 pub mod PictureSteps
 pub mod PieceSteps
 pub mod ReaderFed
+pub mod ReaderScans
+pub mod ScanPieces
+pub mod ScansEnded

@@ -29,7 +29,9 @@ pub mod RowsKnown
 pub mod RowsNone
 pub mod RowsSoFar
 pub mod ScanHistory
+pub mod ScanPieces
 pub mod ScanStart
+pub mod ScansEnded
 pub mod SegmentState
 pub mod Step
 pub mod StripHead

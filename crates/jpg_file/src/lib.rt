@@ -27,6 +27,7 @@ pub use read::rows::RowWork;
 pub use read::scan::{InScan, ScanWork};
 pub use read::scan_header::judge_head;
 pub use read::scan_history::ScanHistory;
+pub use read::scan_pieces::FedScan;
 pub use read::scan_start::begin_scan;
 pub use read::segment_state::{SegmentState, SegmentTaken, lacks_table};
 pub use read::step::Step;

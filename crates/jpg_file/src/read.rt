@@ -16,6 +16,7 @@ pub mod rows;
 pub mod scan;
 pub mod scan_header;
 pub mod scan_history;
+pub mod scan_pieces;
 pub mod scan_rows;
 pub mod scan_start;
 pub mod segment_state;

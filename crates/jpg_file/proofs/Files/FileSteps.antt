@@ -1,5 +1,5 @@
 -- The effect of a byte on a file that is being read.
-use Rattle.std.proofs.Common.{take, ◌<◌, ◌+◌, ◌≡◌, ℕ, ◌≤◌, Bool, true, false, ◌==◌, List, [], ◌∷◌, ◌++◌, length, refl, sym, ap, ◌∙◌, subst, arith, Option, Some, None, Ok, Err, inl, inr}
+use Rattle.std.proofs.Common.{take, cond, ◌<◌, ◌+◌, ◌-◌, ◌≡◌, ℕ, ◌≤◌, Bool, true, false, ◌==◌, List, [], ◌∷◌, ◌++◌, length, refl, sym, ap, ◌∙◌, subst, arith, Option, Some, None, Ok, Err, inl, inr}
 use Rattle.std.proofs.lemmas.List.{length-append, length-take-le}
 use Rattle.std.specs.Prelude.{◌||◌, nat_lt, unwrap_or, slice_index, is_some, is_err, Result}
 use Rattle.jpg_spec.specs.Geometry.{Frame}
@@ -30,7 +30,7 @@ use Rattle.jpg_file.specs.Read.SegmentState.{segments_view}
 use Rattle.jpg_file.specs.Read.Items.{AddsNoScan, AfterItem, AtPlace, AfterSegment, BetweenItems, IsOfMarker}
 use Rattle.jpg_file.specs.Read.Reading.{AfterHead, AfterItemByte, AfterScanByte, HeadWhole, Itemising, Scanning, TakesHead, TakesRunOfScan, item_answer}
 use Rattle.jpg_file.specs.declared.read.scan.InScan.{InScan}
-use Rattle.jpg_file.specs.Read.File.{AfterFileByte, AfterFileStep, BesideItems, KeepsBytes, MakesPicture, TakesSome, EndsFile, EndStands, HasRoom, NotesHead, RoomMade, limits_of, HasCompleteHeader, PictureMade, PictureSoFar, RepresentsFile, IsBetweenFileItems, IsInsideScanOfFile}
+use Rattle.jpg_file.specs.Read.File.{AfterFileByte, AfterFileStep, BesideItems, KeepsBytes, MakesPicture, TakesSome, EndsFile, EndStands, HasRoom, NotesHead, RoomMade, limits_of, scans_ended, HasCompleteHeader, PictureMade, PictureSoFar, RepresentsFile, IsBetweenFileItems, IsInsideScanOfFile}
 use Rattle.jpg_file.specs.declared.read.scan_history.ScanHistory.{ScanHistory}
 use Rattle.jpg_file.specs.declared.read.reading.Reading.{Reading}
 use Rattle.jpg_file.specs.declared.read.items.ItemStep.{ItemStep}
@@ -338,6 +338,9 @@ room_left limits w run n answer r t room = let low = t.within in let taken = t.t
 byte_of : (before : Option InScan) (asks : Type 0) (limits : Limits) (bytes : List ℕ) (w : FileWork) (f : FaultAt) → AfterFileStep before limits bytes (step.Fault f) w → AfterFileByte asks limits bytes (came.Ended (stop.Fault f)) w
 byte_of before asks limits bytes w f (shown, at) = (at, shown)
 
+run_ended : (w : FileWork) (r : Reading) → is_some w.reading.scan ≡ true → is_some r.scan ≡ true → scans_ended (file_mid w r) ≡ scans_ended w
+run_ended w r some inside = ap (λ t. w.begun.scans - cond t 1 0) (inside ∙ sym some)
+
 pub run_more : (w : FileWork) (run : List ℕ) (n : ℕ) (r : Reading) → is_some w.reading.scan ≡ true → w.reading.taken + length run ≤ (limits_of w).input → TakesRunOfScan w.reading run n (Ok tt) r → TakesSome w run n came.More (file_mid w r)
 run_more w run n r some room t = record {
   mid = file_mid w t.mid;
@@ -346,6 +349,7 @@ run_more w run n r some room t = record {
   within = t.within;
   head = tt;
   scan = tt;
+  ended = run_ended w t.mid some t.inside;
   room = λ limits front k same. room_left limits w run n (Ok tt) r t (room_by limits w run same room);
   before = λ limits front k same. run_before limits front w run n (Ok tt) r t some (room_by limits w run same room) k;
   last = λ limits front k same. run_last limits front w run n (Ok tt) r t (room_by limits w run same room) k;
@@ -360,6 +364,7 @@ run_fault w run n r f some room t = record {
   within = t.within;
   head = refl;
   scan = tt;
+  ended = run_ended w t.mid some t.inside;
   room = λ limits front k same. room_left limits w run n (Err f) r t (room_by limits w run same room);
   before = λ limits front k same. run_before limits front w run n (Err f) r t some (room_by limits w run same room) k;
   last = λ limits front k same. byte_of (t.mid).scan (KeepsBytes w) limits (front ++ slice_index run t.early ∷ []) (file_mid w r) f (run_last limits front w run n (Err f) r t (room_by limits w run same room) k);

@@ -1,5 +1,5 @@
 -- A file that is being read, piece by piece.
-use Rattle.std.proofs.Common.{◌≡◌, ℕ, zero, suc, replicate, ◌+◌, ◌<◌, ◌≤◌, true, List, [], ◌∷◌, ◌++◌, length, take, drop, get_or, refl, Some, None, sym, ap, ◌∙◌, subst, arith, inl, inr}
+use Rattle.std.proofs.Common.{◌≡◌, ℕ, zero, suc, replicate, cond, ◌-◌, ◌+◌, ◌<◌, ◌≤◌, true, List, [], ◌∷◌, ◌++◌, length, take, drop, get_or, refl, Some, None, sym, ap, ◌∙◌, subst, arith, inl, inr}
 use Rattle.std.proofs.lemmas.List.{take-take, append-nil, get_or-take, length-take-le, append_assoc, length-append, length-replicate, take_more}
 use Rattle.std.proofs.Math.Seq.{take-add}
 use Rattle.std.specs.Prelude.{Option, is_some}
@@ -19,6 +19,7 @@ use Rattle.jpg_coefs.specs.Picture.{Picture}
 use Rattle.jpg_file.specs.Read.Going.{FillsScan, GoesOn, has_waiting}
 use Rattle.jpg_file.specs.Read.Reading.{Scanning}
 use Rattle.jpg_file.specs.declared.read.scan.InScan.{InScan}
+use Rattle.jpg_file.specs.declared.read.scan_history.ScanHistory.{ScanHistory}
 use Rattle.jpg_file.specs.declared.read.items.ItemStep.TheVariants as step
 use Rattle.jpg_file.specs.Read.Step.{IfStops, IfWants}
 use Rattle.jpg_file.specs.declared.read.step.Step.{Step}
@@ -111,6 +112,7 @@ front_passes w r bytes n p less room = record {
   limits = p.limits;
   room = room;
   scan = p.scan;
+  begun = refl;
   stands = λ limits front k. subst (λ (q : Option Picture). RepresentsFile limits (front ++ take n bytes) (record w { reading = record r { coefs = q } })) (sym p.coefs) (p.stands w w.reading.coefs limits front k);
 }
 
@@ -121,6 +123,7 @@ front_none w bytes some room = record {
   limits = refl;
   room = room;
   scan = refl;
+  begun = refl;
   stands = λ limits front k. subst (λ l. RepresentsFile limits l w) (sym (append-nil front)) k;
 }
 
@@ -161,6 +164,7 @@ front_fills w r bytes (suc m) some p =
       limits = refl;
       room = room;
       scan = refl;
+      begun = refl;
       stands = λ limits front k.
           (let s = inside_of limits front w k some in
           let waits = p.waits (λ e. omega (arith, e)) in
@@ -182,6 +186,7 @@ one_taken w mid bytes n answer new front took head = record {
   within = front.within;
   head = head;
   scan = by answer;
+  ended = ap (λ (b : ScanHistory). b.scans - cond (is_some mid.reading.scan) 1 0) front.begun ∙ ap (λ (o : Option InScan). w.begun.scans - cond (is_some o) 1 0) front.scan;
   room = λ limits before k same. subst (λ (l : Limits). mid.reading.taken < l.input) same front.room;
   before = λ limits before k same. front.stands limits before k;
   last = λ limits before k same.
@@ -206,6 +211,7 @@ front_taken w bytes size n answer new few t =
       within = omega (arith, low, long, few);
       head = t.head;
       scan = t.scan;
+      ended = t.ended;
       room = t.room;
       before = λ limits front k e. subst (λ l. RepresentsFile limits (front ++ l) t.mid) same (t.before limits front k e);
       last = λ limits front k e. subst (λ b. AfterFileByte (KeepsBytes w) limits (front ++ b ∷ []) answer new) (get_or-take size bytes t.early 0 (omega (arith, low, long))) (t.last limits front k e);

@@ -95,7 +95,10 @@ plain_stands limits bytes o w none s = (let k = subst (λ (x : Option RowWork). 
 pub plain_open : (limits : Limits) (bytes : List ℕ) (o : Option RowWork) (w : FileWork) → o ≡ None → RepresentsFile limits bytes w → RowsOpen limits bytes o w
 plain_open limits bytes o w none s = subst (λ (x : Option RowWork). RowsOpen limits bytes x w) (sym none) (record { stands = s; last = λ some. absurd cc })
 
-plain_goes : (limits : Limits) (bytes : List ℕ) (o : Option RowWork) (w : FileWork) → o ≡ None → RowsGo limits bytes o w → RepresentsFile limits bytes w
+pub plain_go : (limits : Limits) (bytes : List ℕ) (o : Option RowWork) (w : FileWork) → o ≡ None → RepresentsFile limits bytes w → RowsGo limits bytes o w
+plain_go limits bytes o w none s = subst (λ (x : Option RowWork). RowsGo limits bytes x w) (sym none) (record { goes = s; last = λ some. absurd cc })
+
+pub plain_goes : (limits : Limits) (bytes : List ℕ) (o : Option RowWork) (w : FileWork) → o ≡ None → RowsGo limits bytes o w → RepresentsFile limits bytes w
 plain_goes limits bytes o w none g = (let k = subst (λ (x : Option RowWork). StripGoes limits bytes x w) none g.goes in k)
 
 pub fed_more : (r : ReaderState) (old new : StripWork) (bytes piece : List ℕ) → old.rows ≡ None → new.rows ≡ None → HasRead bytes (with_work r old) → ReadsPiece r.limits old piece (Ok fed.More) new → HasRead (bytes ++ piece) (with_work r new)

@@ -1,15 +1,17 @@
 -- Which scans there were, item by item.
-use Rattle.std.proofs.Common.{◌≡◌, ℕ, Bool, true, false, cond, ◌==◌, List, [], ◌∷◌, refl, sym, ap, ◌∙◌, subst, Option, Some, None}
-use Rattle.std.specs.Prelude.{◌||◌, is_none, map}
+use Rattle.std.proofs.Common.{◌≡◌, ℕ, suc, ◌+◌, ◌≤◌, Bool, true, false, cond, ◌==◌, List, [], ◌∷◌, ◌++◌, length, refl, sym, ap, ◌∙◌, subst, arith, Option, Some, None}
+use Rattle.std.specs.Prelude.{◌||◌, is_none, map, replicate}
+use Rattle.std.specs.Int.{to_be_bytes, w16}
+use Rattle.std.proofs.lemmas.List.{length-append}
 use Rattle.jpg_spec.specs.Lists.{any_of, is_among}
 use Rattle.jpg_spec.specs.Geometry.{Frame, component_at}
 use Rattle.jpg_spec.specs.QuantContents.{Slots, quant_in}
 use Rattle.jpg_spec.specs.Segments.{QuantTable, ScanHead, head_components}
 use Rattle.jpg_spec.specs.Scan.{Blocks}
-use Rattle.jpg_spec.specs.Markers.{Segment, is_frame_code, has_frame, has_scan, code_fault}
+use Rattle.jpg_spec.specs.Markers.{Segment, SpellsMarker, SpellsSegment, is_frame_code, has_frame, has_scan, code_fault}
 use Rattle.jpg_spec.specs.InForce.{first_some, frame_of, head_in, heads_of, quant_in_force}
 use Rattle.jpg_spec.specs.History.{names, has_begun, quant_of}
-use Rattle.jpg_spec.specs.Items.{Item, segment, scan, segments_of}
+use Rattle.jpg_spec.specs.Items.{Item, SpellsFront, segment, scan, segments_of}
 use Rattle.jpg_spec.specs.FileMeaning.{Leads}
 use Rattle.jpg_spec.specs.declared.frame.Limits.{Limits}
 use Rattle.jpg_spec.specs.declared.frame.ScanPart.{ScanPart}
@@ -19,8 +21,10 @@ use Rattle.jpg_spec.proofs.Places.Untouched.{frame_stays}
 use Rattle.jpg_spec.proofs.Basics.Common.{neither, not_same, clash, or_right, same_of}
 use Rattle.jpg_file.specs.declared.read.scan_history.ScanHistory.{ScanHistory}
 use Rattle.jpg_scans.specs.declared.progress.Progress.{Progress}
+use Rattle.jpg_file.specs.Read.Items.{AfterSegment}
+use Rattle.jpg_file.specs.declared.read.items.Items.{Items}
 use Rattle.jpg_file.specs.Read.SegmentState.{SegmentView, lacks_any, lacks_part}
-use Rattle.jpg_file.specs.Read.ScanHistory.{quant_named, HasBegun, RepresentsHeads}
+use Rattle.jpg_file.specs.Read.ScanHistory.{quant_named, HasBegun, RepresentsHeads, scan_headers}
 use Rattle.std.proofs.lemmas.Bool.{or_from}
 
 -- AFTER A SEGMENT
@@ -63,6 +67,7 @@ begun_goes_on limits b items blocks code contents leads allowed other k = record
       k.there i low
       (after_other limits items blocks code contents (λ f. has_begun (heads_of f before) i) false leads allowed (λ n f. ap (λ heads. has_begun heads i) (no_heads f before n))
       ∙ ap (λ heads. has_begun heads i) (sym heads_same) ∙ begun);
+  count = k.count ∙ sym (ap (λ t. cond t (suc (scan_headers before)) (scan_headers before)) (not_same code 0xda other));
 }
   where
     before : List Segment
@@ -94,6 +99,7 @@ pub record AddsScan (f : Frame) (slots : Slots) (b new : ScanHistory) (head : Sc
   pub scans : (heads : List ScanHead) → RepresentsHeads b.progress f heads → RepresentsHeads new.progress f (head ∷ heads)
   pub quants : (i : ℕ) → quant_in new.quants i ≡ first_some (quant_in b.quants i) (quant_named f slots head.parts i)
   pub tables : (i : ℕ) → names head i ≡ true → is_none (quant_in slots (component_at f i).quant) ≡ false
+  pub count : new.scans ≡ b.scans + 1
 
 some_first : {A : Type 0} (o q : Option A) → is_none o ≡ false → is_none (first_some o q) ≡ false
 some_first None q e = cc
@@ -137,7 +143,39 @@ begun_more limits b new before contents head slots e framed held adds k = record
       ap is_none (adds.quants i)
       ∙ still_there (names head i) (has_begun (heads_of f before) i) (quant_in b.quants i) (quant_in slots (component_at f i).quant)
       (sym (ap (λ (h : ScanHead). names h i || has_begun (heads_of f before) i) e) ∙ begun) (k.there i low) (adds.tables i);
+  count = (let now = adds.count in let was = k.count in let z : new.scans ≡ suc (scan_headers before) = omega (arith, now, was) in z);
 }
   where
     f : Frame
     f = frame_of limits before
+
+-- NO MORE SCANS than bytes
+
+segment_long : (code : ℕ) (contents bytes : List ℕ) → SpellsSegment code contents bytes → 1 ≤ length bytes
+segment_long code contents bytes s = by s.0 s.1 s.3
+  where
+    by : (marker : List ℕ) → SpellsMarker code marker → bytes ≡ marker ++ to_be_bytes w16 (length contents + 2) ++ contents → 1 ≤ length bytes
+    by marker m e = (let long = ap length e ∙ ap (λ l. length (l ++ to_be_bytes w16 (length contents + 2) ++ contents)) m.1 in omega (arith, long))
+
+pub scans_within : (items : List Item) (front : List ℕ) → SpellsFront items front → scan_headers (segments_of items) + 2 ≤ length front
+scans_within [] front s = (let long = ap length s in omega (arith, long))
+scans_within (segment code contents ∷ items) front s =
+    let none = ap (λ t. cond t (suc (scan_headers (segments_of items))) (scan_headers (segments_of items))) (not_same code 0xda s.4.2) in
+    let few = scans_within items s.0 s.3 in
+    let long = ap length s.2 ∙ length-append s.0 s.1 in
+    omega (arith, none, few, long)
+scans_within (scan contents intervals ∷ items) front s =
+    let t = s.4 in
+    let few = scans_within items s.0 s.3 in
+    let long = ap length s.2 ∙ length-append s.0 s.1 in
+    let one = segment_long 0xda contents t.0 t.3 in
+    let head = ap length t.2 ∙ length-append t.0 t.1 in
+    omega (arith, few, long, one, head)
+
+-- where a scan header is complete
+pub header_room : (limits : Limits) (bytes : List ℕ) (items : List Item) (blocks : Blocks) (w : Items) → AfterSegment limits bytes items blocks w → (n : ℕ) → n ≡ scan_headers (segments_of items) → n + 2 ≤ length bytes
+header_room limits bytes items blocks w k n e =
+    let b = ((k.at).beside).behind in
+    let few = scans_within items b.front b.spelled in
+    let long = ap length b.cut ∙ length-append b.front (replicate ((k.at).beside).fill 255 ++ k.tail) in
+    omega (arith, few, long, e)

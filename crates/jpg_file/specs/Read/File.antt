@@ -1,5 +1,5 @@
 -- A file that is being read: the meaning of its states, and the result of a further byte (T.81, B.2.1).
-use Rattle.std.specs.Prelude.{◌≡◌, ◌⊎◌, ℕ, ◌≤◌, true, false, List, [], ◌∷◌, ◌++◌, length, take, slice_index, ◌+◌, ◌<◌, Option, Some, None, Result, Ok, Err}
+use Rattle.std.specs.Prelude.{◌≡◌, ◌⊎◌, ℕ, ◌≤◌, true, false, List, [], ◌∷◌, ◌++◌, length, take, slice_index, ◌+◌, ◌-◌, ◌<◌, if◌then◌else◌, is_some, Option, Some, None, Result, Ok, Err}
 use Rattle.jpg_spec.specs.Geometry.{Frame}
 use Rattle.jpg_spec.specs.FrameHeader.{IsFrame}
 use Rattle.jpg_spec.specs.Scan.{Blocks}
@@ -32,6 +32,10 @@ use Rattle.jpg_file.specs.declared.read.file.FileWork.{FileWork}
 
 abbrev pub limits_of : FileWork → Limits
 limits_of w = w.reading.items.limits
+
+-- how many scans' data have ended: all that began, but the current one
+abbrev pub scans_ended : FileWork → ℕ
+scans_ended w = w.begun.scans - (if is_some w.reading.scan then 1 else 0)
 
 -- which markers it keeps
 abbrev pub keeping_of : FileWork → Copying
@@ -179,6 +183,7 @@ pub record TakesSome (old : FileWork) (bytes : List ℕ) (n : ℕ) (answer : Ste
   pub within : early < length bytes
   pub head : IfStops answer (new.head ≡ mid.head)
   pub scan : IfWants answer (mid.reading.scan ≡ old.reading.scan)
+  pub ended : scans_ended mid ≡ scans_ended old
   pub room : (limits : Limits) (front : List ℕ) → RepresentsFile limits front old → limits_of old ≡ limits → mid.reading.taken < limits.input
   pub before : (limits : Limits) (front : List ℕ) → RepresentsFile limits front old → limits_of old ≡ limits → RepresentsFile limits (front ++ take early bytes) mid
   pub last : (limits : Limits) (front : List ℕ) → RepresentsFile limits front mid → limits_of old ≡ limits → AfterFileByte (KeepsBytes old) limits (front ++ slice_index bytes early ∷ []) answer new
@@ -189,4 +194,5 @@ pub record PassesFront (old : FileWork) (bytes : List ℕ) (n : ℕ) (mid : File
   pub limits : limits_of mid ≡ limits_of old
   pub room : mid.reading.taken < (limits_of old).input
   pub scan : mid.reading.scan ≡ old.reading.scan
+  pub begun : mid.begun ≡ old.begun
   pub stands : (limits : Limits) (front : List ℕ) → RepresentsFile limits front old → RepresentsFile limits (front ++ take n bytes) mid

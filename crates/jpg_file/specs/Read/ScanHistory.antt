@@ -1,6 +1,6 @@
 -- Which scans there were, and the quantisation table of each component at its first one (T.81, B.2.3, B.2.4.1,
 -- G.1.1.1).
-use Rattle.std.specs.Prelude.{◌≡◌, ℕ, ◌<◌, ◌≤◌, Bool, true, false, is_none, if◌then◌else◌, List, [], length, map, Option, Some, None}
+use Rattle.std.specs.Prelude.{◌≡◌, ℕ, suc, ◌==◌, ◌<◌, ◌≤◌, Bool, true, false, is_none, if◌then◌else◌, List, [], ◌∷◌, length, map, Option, Some, None}
 use Rattle.jpg_spec.specs.Lists.{all_of, below, is_among}
 use Rattle.jpg_spec.specs.Geometry.{Frame, component_at, is_progressive}
 use Rattle.jpg_spec.specs.Segments.{QuantTable, ScanHead}
@@ -48,8 +48,14 @@ pub record HasBegunEach (o : Option Progress) : Type 0 where
   pub scans : RepresentsHeads o frame heads
   pub each : all_of (has_begun heads) (below (length frame.components)) ≡ true
 
+-- how many of these segments are scan headers
+abbrev pub scan_headers : List Segment → ℕ
+scan_headers [] = 0
+scan_headers (s ∷ before) = if s.0 == 0xda then suc (scan_headers before) else scan_headers before
+
 pub record HasBegun (limits : Limits) (b : ScanHistory) (before : List Segment) : Type 0 where
   pub scans : RepresentsHeads b.progress (frame_of limits before) (heads_of (frame_of limits before) before)
   pub framed : is_none b.progress ≡ false → has_frame before ≡ true
   pub quants : (i : ℕ) → i < 4 → quant_in b.quants i ≡ quant_of (frame_of limits before) before i
   pub there : (i : ℕ) → i < 4 → has_begun (heads_of (frame_of limits before) before) i ≡ true → is_none (quant_in b.quants i) ≡ false
+  pub count : b.scans ≡ scan_headers before

@@ -2,7 +2,7 @@
 ghost use Rattle.std.specs.Prelude.{◌≡◌, ◌<◌, ◌+◌, ◌++◌, ℕ, List, [], ◌∷◌, ◌≤◌, length, slice_index};
 ghost use Rattle.jpg_spec.specs.FrameHeader.{AreLimits};
 ghost use Rattle.jpg_coefs.specs.Picture.{Picture};
-ghost use Rattle.jpg_file.specs.Read.File.{HasCompleteHeader, NotesHead, PassesFront, RoomMade, RepresentsFile, TakesFileByte, TakesFileEnd, TakesFileHead, TakesFileStep, TakesSome, keeping_of, limits_of, with_picture};
+ghost use Rattle.jpg_file.specs.Read.File.{HasCompleteHeader, NotesHead, PassesFront, RoomMade, RepresentsFile, TakesFileByte, TakesFileEnd, TakesFileHead, TakesFileStep, TakesSome, keeping_of, limits_of, scans_ended, with_picture};
 ghost use Rattle.jpg_file.specs.Read.InData.{ArePlain};
 ghost use Rattle.jpg_file.specs.Read.Passing.{PassesAll};
 ghost use Rattle.jpg_file.specs.Read.Reading.{IsOpenScan};
@@ -150,6 +150,16 @@ impl FileWork {
         } else {
             self.reading.item_byte(byte)
         }
+    }
+
+    /// How many scans' data have ended: all that began, but the current one.
+    pub fn scans_ended(&self) -> u64
+        ensures { result ≡ scans_ended self.now }
+    {
+        if self.reading.scan.is_some() {
+            return self.begun.scans.saturating_sub(1);
+        }
+        self.begun.scans
     }
 
     /// Takes a complete scan header.

@@ -9,6 +9,8 @@ ghost use Rattle.jpg_file.specs.Read.PictureRead.{TakesEarly, TakesPicture};
 ghost use Rattle.jpg_file.specs.Read.ReadFile.{AfterEnd, AsksOnFeed, EndsDone, EndsWith, FeedsFile, HasRead, TellsBegun, head_seen};
 ghost use Rattle.jpg_file.specs.Read.ReadRows.{AsksOnFeedRow, IsPlain, EndsDoneRow, EndsRow, FeedsRow, HasBegunRows, HasGivenRow, HasReadPlainly, HasReadRows, picture_read};
 ghost use Rattle.jpg_file.specs.Read.RowsKnown.{TellsStrip};
+ghost use Rattle.jpg_file.specs.Read.ScanPieces.{AsksOnFeedScan, EndsDoneScan, FeedsScan};
+ghost use Rattle.jpg_file.specs.Read.ScansEnded.{ScansEnded};
 ghost use Rattle.jpg_file.specs.declared.read.ends.End.TheVariants as ends;
 
 use crate::read::ends::End;
@@ -18,6 +20,7 @@ use crate::read::picture::Picture;
 use crate::read::picture_taken::picture_of;
 use crate::read::row_pieces::{FedRow, read_rows};
 use crate::read::rows::RowWork;
+use crate::read::scan_pieces::{FedScan, read_scan};
 use crate::read::strip_head::StripHead;
 use crate::read::strip_work::StripWork;
 use jpg_base::{Fed, Frame, Limits, Stop};
@@ -149,6 +152,40 @@ impl Reader {
                 Err(stop)
             }
         }
+    }
+
+    /// As `feed`, but at most up to the next end of a scan's data: if these end in the piece, it returns Scan, and how
+    /// many bytes were used, the last one of these the code of the marker after the data.
+    pub fn feed_scan(&mut self, piece: &[u8]) -> Result<FedScan, Stop>
+        requires undone { self.old.done ≡ false }
+        requires plain { IsPlain self.old }
+        ensures answered { FeedsScan self.old piece.now result self.new }
+        ensures memory { AsksOnFeedScan self.old piece.now result self.new }
+        ensures done { EndsDoneScan piece.now result self.new }
+        ensures stopped { (stop : Stopped) → result ≡ Err stop → self.new.stop ≡ Some stop }
+        ensures again { (stop : Stopped) → self.old.stop ≡ Some stop → (result ≡ Err stop) × (self.new ≡ self.old) }
+        ensures limits { self.new.limits ≡ self.old.limits }
+        ensures keeping { keeping_of self.new.file ≡ keeping_of self.old.file }
+        ensures plain { IsPlain self.new }
+    {
+        if let Some(stop) = self.stop {
+            return Err(stop);
+        }
+        let answer = read_scan(&mut self.work, self.limits, piece);
+        match answer {
+            Ok(FedScan::More) => {}
+            Ok(FedScan::Scan { .. }) => {}
+            Ok(FedScan::Done { .. }) => self.done = true,
+            Err(stop) => self.stop = Some(stop),
+        }
+        answer
+    }
+
+    /// How many scans' data have ended, each by the marker after them.
+    pub fn scans_ended(&self) -> u64
+        ensures { (bytes : List ℕ) → HasRead bytes self.now → ScansEnded self.now.limits bytes result }
+    {
+        self.work.file.scans_ended()
     }
 
     /// Takes a further piece of the file, up to the byte with the last bit of the next MCU row. Returns Row if one more

@@ -81,6 +81,7 @@ impl Reading {
                 let parts = head.parts.as_slice();
                 begun.note_quants(parts, &frame, &self.items.held.quants);
                 begun.note(&frame, &head);
+                begun.count(at);
                 self.items.head_done();
                 Ok(())
             }

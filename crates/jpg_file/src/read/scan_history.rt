@@ -1,5 +1,5 @@
 //! The history of scans, and the quantisation tables that their components began with (T.81, B.2.4.1, G.1.1.1).
-ghost use Rattle.std.specs.Prelude.{◌≡◌, ◌<◌, ◌==◌, ◌∷◌, All, List, length, map, ℕ, None};
+ghost use Rattle.std.specs.Prelude.{◌≡◌, ◌<◌, ◌==◌, ◌+◌, ◌∷◌, All, List, length, map, ℕ, None};
 ghost use Rattle.jpg_spec.specs.History.{order_fault};
 ghost use Rattle.jpg_spec.specs.InForce.{first_some};
 ghost use Rattle.jpg_spec.specs.Lists.{all_of};
@@ -16,6 +16,8 @@ use jpg_spec::{Fault, ScanPart};
 /// quantisation table that was in force at its first scan.
 #[derive(Drop)]
 pub struct ScanHistory {
+    /// How many scan headers there were.
+    pub scans: u64,
     pub progress: Option<Progress>,
     pub quants: [Option<QuantTable>; 4],
 }
@@ -23,10 +25,12 @@ pub struct ScanHistory {
 impl ScanHistory {
     /// The history before any scan.
     pub fn new() -> ScanHistory
+        ensures count { result.scans ≡ 0 }
         ensures progress { result.progress ≡ None }
         ensures quants { (i : ℕ) → quant_in result.quants i ≡ None }
     {
         ScanHistory {
+            scans: 0,
             progress: None,
             quants: [None, None, None, None],
         }
@@ -43,9 +47,21 @@ impl ScanHistory {
         }
     }
 
+    /// Counts a scan whose header ends with byte number `at` of the file. There were fewer scans than bytes, so that the
+    /// count has room.
+    pub fn count(&mut self, at: u64)
+        requires { self.old.scans < at }
+        ensures count { self.new.scans ≡ self.old.scans + 1 }
+        ensures progress { self.new.progress ≡ self.old.progress }
+        ensures quants { self.new.quants ≡ self.old.quants }
+    {
+        self.scans += 1;
+    }
+
     /// Takes a scan of a frame that has no such fault.
     pub fn note(&mut self, frame: &Frame, head: &ScanHead)
         requires { All (λ p. p.component < 4) head.now.parts }
+        ensures count { self.new.scans ≡ self.old.scans }
         ensures scans { (heads : List Header) → RepresentsHeads self.old.progress frame.now heads → RepresentsHeads self.new.progress frame.now (head.now ∷ heads) }
         ensures quants { self.new.quants ≡ self.old.quants }
     {
@@ -92,6 +108,7 @@ impl ScanHistory {
     /// Keeps the tables in force for these, if none is kept yet.
     pub fn note_quants(&mut self, parts: &[ScanPart], frame: &Frame, quants: &QuantSet)
         requires { All (λ p. p.component < length frame.now.components) parts.now }
+        ensures count { self.new.scans ≡ self.old.scans }
         ensures progress { self.new.progress ≡ self.old.progress }
         ensures quants { (i : ℕ) → quant_in self.new.quants i ≡ first_some (quant_in self.old.quants i) (quant_named frame.now quants.now parts.now i) }
     {
@@ -105,6 +122,7 @@ impl ScanHistory {
     // Keeps the table in force for this one, if none is kept yet.
     fn note_quant(&mut self, component: u8, frame: &Frame, quants: &QuantSet)
         requires { component < length frame.now.components }
+        ensures count { self.new.scans ≡ self.old.scans }
         ensures progress { self.new.progress ≡ self.old.progress }
         ensures quants { (i : ℕ) → quant_in self.new.quants i ≡ first_some (quant_in self.old.quants i) (quant_if frame.now quants.now (component == i) i) }
     {

@@ -3,7 +3,7 @@
 ghost use Rattle.std.specs.Prelude.{◌≡◌, ◌<◌, ◌≤◌, ℕ, List, None, length, is_some, true, false};
 ghost use Rattle.jpg_spec.specs.FrameHeader.{AreLimits};
 ghost use Rattle.jpg_spec.specs.declared.frame.Copying.TheVariants as copying;
-ghost use Rattle.jpg_file.specs.Read.File.{HasCompleteHeader, RepresentsFile, keeping_of, limits_of};
+ghost use Rattle.jpg_file.specs.Read.File.{HasCompleteHeader, RepresentsFile, TakesSome, keeping_of, limits_of};
 ghost use Rattle.jpg_file.specs.Read.PieceTaken.{TakesBytes, TakesFirst};
 ghost use Rattle.jpg_file.specs.Read.RowsKnown.{KnowsHead, KnowsSome};
 ghost use Rattle.jpg_file.specs.Read.RowsNone.{NoneHead, NoneSome};
@@ -81,6 +81,7 @@ impl StripWork {
         ensures after { TakesStrip self.old bytes.now result.0 result.1 self.new }
         ensures begins { CountsRowsOfScan self.new.rows self.new.file }
         ensures known { KnowsSome self.old bytes.now result.0 self.new }
+        ensures some { self.old.by_row ≡ false → TakesSome self.old.file bytes.now result.0 result.1 self.new.file }
         ensures no { IsNoRow result.1 }
         ensures stops { IfStops result.1 (self.new.rows ≡ None) }
         ensures sparing { keeping_of self.old.file ≡ copying.None → SparesRows self.new.rows self.new.file }

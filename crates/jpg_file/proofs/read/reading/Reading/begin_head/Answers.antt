@@ -1,4 +1,4 @@
-use Rattle.std.proofs.Common.{◌≡◌, ◌∙◌, List, ◌∷◌, Ok, Err, true, false, refl, subst, sym, ap, arith}
+use Rattle.std.proofs.Common.{◌≡◌, ◌∙◌, ◌+◌, List, ◌∷◌, Ok, Err, true, false, refl, subst, sym, ap, arith}
 use Rattle.std.specs.Prelude.{is_none}
 use Rattle.jpg_spec.specs.Geometry.{Frame, component_at}
 use Rattle.jpg_spec.specs.InForce.{first_some, head_in}
@@ -16,7 +16,7 @@ use Rattle.jpg_file.specs.Read.RowPlaces.{scan_left}
 use Rattle.jpg_file.specs.declared.read.scan.InScan.{InScan}
 use Rattle.jpg_spec.proofs.Basics.Common.{some_once}
 use Rattle.jpg_file.proofs.ByRow.RowCounts.{begun_places}
-use Rattle.jpg_file.proofs.Headers.ScanHistories.{begun_more, table_there}
+use Rattle.jpg_file.proofs.Headers.ScanHistories.{begun_more, header_room, table_there}
 use Rattle.jpg_file.proofs.Headers.HeaderTaken.{found, judged, head_begins, head_shows}
 use Rattle.jpg_file.proofs.Scans.Scannings.{none_some}
 use Rattle.jpg_file.proofs.read.reading.Reading.begin_head.Goals as goal
@@ -78,16 +78,27 @@ returns-in-Ok-clause-after c = λ q sizes bytes items blocks k.
         count = k.count;
         behind = omega (arith, k.same, c.head_done.ensures.same, ap waiting_bytes begun.2);
       },
-      begun_more r.items.limits b c.note.new.self (segments_of items) contents head slots (ap (λ (g : Frame). head_in g contents) (begins.header).framed ∙ (begins.header).header)
+      begun_more r.items.limits b c.count.new.self (segments_of items) contents head slots (ap (λ (g : Frame). head_in g contents) (begins.header).framed ∙ (begins.header).header)
           (framed (segments_of items) begins.allowed)
           ((k.segment).holds).quants
           (record {
-            scans = subst (λ (g : Frame). (heads : List ScanHead) → RepresentsHeads b.progress g heads → RepresentsHeads c.note.new.self.progress g (head ∷ heads)) (sym (begins.header).framed)
-                (λ heads stands. c.note.ensures.scans heads (subst (λ o. RepresentsHeads o f heads) (sym c.note_quants.ensures.progress) stands));
-            quants = λ i. ap (λ (s : Slots). quant_in s i) c.note.ensures.quants ∙ c.note_quants.ensures.quants i
+            scans = subst (λ (g : Frame). (heads : List ScanHead) → RepresentsHeads b.progress g heads → RepresentsHeads c.count.new.self.progress g (head ∷ heads)) (sym (begins.header).framed)
+                (λ heads stands. subst (λ o. RepresentsHeads o f (head ∷ heads)) (sym c.count.ensures.progress) (c.note.ensures.scans heads (subst (λ o. RepresentsHeads o f heads) (sym c.note_quants.ensures.progress) stands)));
+            quants = λ i. ap (λ (s : Slots). quant_in s i) (c.count.ensures.quants ∙ c.note.ensures.quants) ∙ c.note_quants.ensures.quants i
                 ∙ ap (λ (l : List ScanPart). first_some (quant_in b.quants i) (quant_named f slots l i)) same
                 ∙ ap (λ (g : Frame). first_some (quant_in b.quants i) (quant_named g slots head.parts i)) (sym (begins.header).framed);
+            count = c.count.ensures.count ∙ ap (λ n. n + 1) (c.note.ensures.count ∙ c.note_quants.ensures.count);
             tables = λ i. subst (λ (g : Frame). names head i ≡ true → is_none (quant_in slots (component_at g i).quant) ≡ false) (sym (begins.header).framed) (table_there (segments_view r.items.held) f head i j.3);
           })
           k.begun,
     )
+
+pub count-requires : goal.count-requires
+count-requires c =
+    let o = c.requires.stands.2 in
+    let k = o.3 in
+    let r = with_coefs c.args.self.now c.requires.stands.0 in
+    let kept = c.note.ensures.count ∙ c.note_quants.ensures.count in
+    let few = header_room r.items.limits o.0 o.1 o.2 r.items k.segment c.args.begun.now.scans (k.begun).count in
+    let all = k.count in
+    omega (arith, kept, few, all)

@@ -6,7 +6,8 @@ use Rattle.jpg_file.proofs.read.scan_history.ScanHistory.note_quants.Given as go
 
 abbrev pub invariant-loop-rest : goal.invariant-loop-rest
 invariant-loop-rest l =
-    (l.self.progress ≡ l.fn.self.progress)
+    (l.self.scans ≡ l.fn.self.scans)
+    × (l.self.progress ≡ l.fn.self.progress)
     × ((i : ℕ) → first_some (quant_in l.self.quants i) (quant_named l.frame l.quants l.rest i) ≡ first_some (quant_in l.fn.self.quants i) (quant_named l.frame l.quants l.parts i))
     × All (λ p. p.component < length l.frame.components) l.rest
 

@@ -28,6 +28,7 @@ returns-then-is_none c =
       by_row = p.by_row;
       plain = λ e. p.plain;
       none = λ e. p.none;
+      some = λ e. p.some;
       faults = λ given f bytes is shows g. absurd (clash (is_some rows) (ap is_some is) (ap is_some none));
     }
 
@@ -54,5 +55,6 @@ returns c =
       by_row = refl;
       plain = λ none. absurd (clash (is_some old.rows) (ap is_some is) (ap is_some none));
       none = λ none. absurd (clash (is_some old.rows) (ap is_some is) (ap is_some none));
+      some = λ none. absurd (clash (is_some old.rows) (ap is_some is) (ap is_some none));
       faults = some_faults old c.in-Some.rows c.args.bytes.now c.take_in_row.result.0 c.take_in_row.result.1 is t.stops;
     }
