@@ -1,11 +1,8 @@
-pub mod BeforeData
-pub mod BeforeItems
-pub mod CountData
-pub mod CountSteps
 pub mod FedSteps
-pub mod FindSteps
 pub mod FrontFound
 pub mod FrontShown
+pub mod LastBytes
 pub mod PartSteps
 pub mod PieceSteps
+pub mod ScansCounted
 pub mod ViewSteps

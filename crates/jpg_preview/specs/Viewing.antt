@@ -1,8 +1,7 @@
 -- A PREVIEW of a file that is fed piece by piece: what it means where its front ends (T.81, B.2.1).
-use Rattle.std.specs.Prelude.{◌≡◌, ◌⊎◌, ℕ, suc, ◌<◌, ◌≤◌, Bool, true, false, List, ◌++◌, length, take, Option, Some, None, Result, Ok, Err}
+use Rattle.std.specs.Prelude.{◌≡◌, ◌⊎◌, ℕ, suc, ◌<◌, ◌≤◌, true, false, List, ◌++◌, length, take, Option, Some, None, Result, Ok, Err}
 use Rattle.jpg_spec.specs.FrameHeader.{AreLimits}
 use Rattle.jpg_spec.specs.FirstFault.{HaveBegun}
-use Rattle.jpg_spec.specs.UnfinishedFile.{UnfinishedFile}
 use Rattle.jpg_spec.specs.declared.fault.FaultAt.{FaultAt}
 use Rattle.jpg_spec.specs.declared.frame.Limits.{Limits}
 use Rattle.jpg_spec_image.specs.Front.{EndsNotBefore, EndsScan, IsFront}
@@ -10,18 +9,17 @@ use Rattle.jpg_base.specs.declared.stop.Fed.{Fed}
 use Rattle.jpg_base.specs.declared.stop.Fed.TheVariants as fed
 use Rattle.jpg_base.specs.declared.stop.Stop.{Stop}
 use Rattle.jpg_base.specs.declared.stop.Stop.TheVariants as stop
-use Rattle.jpg_file.specs.Read.ReadFile.{AfterFeed, HasRead, IsDone, IsEarlyEnd, IsRefusal, KeepsHead, KeepsHeadAt, ReaderState}
+use Rattle.jpg_file.specs.Read.ReadFile.{HasRead, IsDone, IsEarlyEnd, IsRefusal, KeepsHead, KeepsHeadAt, ReaderState}
 use Rattle.jpg_file.specs.Read.ReadRows.{IsPlain}
+use Rattle.jpg_file.specs.Read.ScansEnded.{ScansEnded}
 use Rattle.jpg_file.specs.declared.read.ends.End.{End}
 use Rattle.jpg_file.specs.declared.read.ends.End.TheVariants as ends
 use Rattle.jpg_preview.specs.declared.view.Part.{Part}
 use Rattle.jpg_preview.specs.declared.view.Part.TheVariants as part
-use Rattle.jpg_preview.specs.Counting.{Count, CountsScans, IsSteady}
 
--- what contracts see of a preview: its reader, its counter, how many scans are wanted, and why it stopped, if it did
+-- what contracts see of a preview: its reader, how many scans are wanted, and why it stopped, if it did
 pub record PreviewState : Type 0 where
   pub reader : ReaderState
-  pub count : Count
   pub scans : ℕ
   pub stop : Option Stop
 
@@ -29,18 +27,15 @@ pub record PreviewState : Type 0 where
 pub record IsReady (p : PreviewState) : Type 0 where
   pub limited : AreLimits p.reader.limits
   pub plain : IsPlain p.reader
-  pub steady : IsSteady p.count
-  pub bounded : p.count.limits ≡ p.reader.limits
 
 -- THE BYTES SO FAR have no fault, aren't a complete file, and don't end with the marker after a scan that is wanted,
--- nor do fewer of them. This is what a reader and a counter make of them.
-pub record Views (scans : ℕ) (bytes : List ℕ) (r : ReaderState) (c : Count) : Type 0 where
+-- nor do fewer of them. This is what a reader makes of them.
+pub record Views (scans : ℕ) (bytes : List ℕ) (r : ReaderState) : Type 0 where
   pub read : HasRead bytes r
-  pub counted : CountsScans r.limits scans bytes c
   pub none : EndsNotBefore r.limits scans bytes (suc (length bytes))
 
 abbrev pub HasViewed : List ℕ → PreviewState → Type 0
-HasViewed bytes p = (p.stop ≡ None) × Views p.scans bytes p.reader p.count
+HasViewed bytes p = (p.stop ≡ None) × Views p.scans bytes p.reader
 
 -- THE FRONT is there: the bytes are a complete file, or end with the marker after a scan that is wanted, and fewer
 -- don't. The reader has what they mean: as a complete file, or as one that ends early there.
@@ -58,13 +53,13 @@ AfterStop scans before bytes (stop.Fault f) r = StopsFront r.limits scans bytes 
 AfterStop scans before bytes stop.NoMemory r = KeepsHead r.limits before bytes r.file.head
 
 -- THE RESULT of a piece that is fed, by all bytes so far
-abbrev pub AfterPiece : ℕ → List ℕ → List ℕ → Result Fed Stop → ReaderState → Count → Type 0
-AfterPiece scans bytes piece (Ok fed.More) r c = Views scans (bytes ++ piece) r c
-AfterPiece scans bytes piece (Ok (fed.Done used)) r c = IsShown scans (bytes ++ take used piece) r × (1 ≤ used) × (used ≤ length piece)
-AfterPiece scans bytes piece (Err stop) r c = AfterStop scans (length bytes) (bytes ++ piece) stop r
+abbrev pub AfterPiece : ℕ → List ℕ → List ℕ → Result Fed Stop → ReaderState → Type 0
+AfterPiece scans bytes piece (Ok fed.More) r = Views scans (bytes ++ piece) r
+AfterPiece scans bytes piece (Ok (fed.Done used)) r = IsShown scans (bytes ++ take used piece) r × (1 ≤ used) × (used ≤ length piece)
+AfterPiece scans bytes piece (Err stop) r = AfterStop scans (length bytes) (bytes ++ piece) stop r
 
-abbrev pub ViewsPiece : ReaderState → Count → List ℕ → Result Fed Stop → ReaderState → Count → Type 0
-ViewsPiece old before piece answer new now = (scans : ℕ) (bytes : List ℕ) → Views scans bytes old before → AfterPiece scans bytes piece answer new now
+abbrev pub ViewsPiece : ℕ → ReaderState → List ℕ → Result Fed Stop → ReaderState → Type 0
+ViewsPiece scans old piece answer new = (bytes : List ℕ) → Views scans bytes old → AfterPiece scans bytes piece answer new
 
 -- of a preview
 abbrev pub AfterView : List ℕ → List ℕ → Result Fed Stop → PreviewState → Type 0
@@ -83,13 +78,13 @@ EndsView (ends.Stop stop) p = (p.reader.done ≡ false) × (p.stop ≡ Some stop
 
 -- A PART of a piece
 
-abbrev pub AfterPart : ℕ → List ℕ → List ℕ → Part → ReaderState → Count → Type 0
-AfterPart scans bytes next (part.More n) r c = Views scans (bytes ++ take n next) r c
-AfterPart scans bytes next (part.Done n) r c = IsShown scans (bytes ++ take n next) r × (1 ≤ n)
-AfterPart scans bytes next (part.Stopped stop) r c = AfterStop scans (length bytes) (bytes ++ next) stop r
+abbrev pub AfterPart : ℕ → List ℕ → List ℕ → Part → ReaderState → Type 0
+AfterPart scans bytes next (part.More n) r = Views scans (bytes ++ take n next) r
+AfterPart scans bytes next (part.Done n) r = IsShown scans (bytes ++ take n next) r × (1 ≤ n)
+AfterPart scans bytes next (part.Stopped stop) r = AfterStop scans (length bytes) (bytes ++ next) stop r
 
-abbrev pub ViewsPart : ReaderState → Count → List ℕ → Part → ReaderState → Count → Type 0
-ViewsPart old before next answer new now = (scans : ℕ) (bytes : List ℕ) → Views scans bytes old before → AfterPart scans bytes next answer new now
+abbrev pub ViewsPart : ℕ → ReaderState → List ℕ → Part → ReaderState → Type 0
+ViewsPart scans old next answer new = (bytes : List ℕ) → Views scans bytes old → AfterPart scans bytes next answer new
 
 -- NO MEMORY is the answer only where the reader didn't stop for a fault.
 abbrev pub HasNoFaultYet : Option Stop → Type 0
@@ -116,32 +111,35 @@ PartEnds next (part.More n) r = (1 ≤ n) × (n ≤ length next) × (r.done ≡ 
 PartEnds next (part.Done n) r = (n ≤ length next) × (r.done ≡ true)
 PartEnds next (part.Stopped stop) r = r.done ≡ false
 
--- BYTES that a reader was fed: what its own result says
-abbrev pub AfterFed : List ℕ → List ℕ → Part → ReaderState → Type 0
-AfterFed bytes next (part.More n) r = (n ≡ length next) × HasRead (bytes ++ next) r
-AfterFed bytes next (part.Done n) r = IsDone (bytes ++ take n next) r × (1 ≤ n) × (n ≤ length next)
-AfterFed bytes next (part.Stopped stop) r = AfterFeed bytes next (Err stop) r
+-- WHERE THE DATA of a scan ended: so many scans' have, or fewer
 
-abbrev pub FeedsPart : ReaderState → List ℕ → Part → ReaderState → Type 0
-FeedsPart old next answer new = (bytes : List ℕ) → HasRead bytes old → AfterFed bytes next answer new
+abbrev pub HasScans : ℕ → Limits → List ℕ → Type 0
+HasScans scans limits bytes = (n : ℕ) × ScansEnded limits bytes n × (scans ≤ n)
 
--- whether each component has begun in the bytes that a reader was fed
-abbrev pub HasBegun : ReaderState → Type 0
-HasBegun r = (bytes : List ℕ) → HasRead bytes r → HaveBegun r.limits bytes
+abbrev pub LacksScans : ℕ → Limits → List ℕ → Type 0
+LacksScans scans limits bytes = (n : ℕ) × ScansEnded limits bytes n × (n < scans)
 
-abbrev pub HasNotBegun : ReaderState → Type 0
-HasNotBegun r = (bytes : List ℕ) → HasRead bytes r → HaveBegun r.limits bytes → ⊥
+-- the scan is wanted, and each component has begun
+abbrev pub IsWanted : ℕ → ReaderState → Type 0
+IsWanted scans r = (bytes : List ℕ) → HasRead bytes r → HasScans scans r.limits bytes × HaveBegun r.limits bytes
 
--- bytes that end with the marker after a scan: if it is wanted, and each component has begun, the file ends early there
-abbrev pub AfterScanFed : Bool → List ℕ → List ℕ → Part → ReaderState → Type 0
-AfterScanFed wanted bytes next (part.More n) r = (n ≡ length next) × HasRead (bytes ++ next) r × ((wanted ≡ false) ⊎ (HaveBegun r.limits (bytes ++ next) → ⊥))
-AfterScanFed wanted bytes next (part.Done n) r =
-    (IsDone (bytes ++ take n next) r × (1 ≤ n) × (n ≤ length next))
-    ⊎ ((n ≡ length next) × (wanted ≡ true) × HaveBegun r.limits (bytes ++ next) × UnfinishedFile r.limits (bytes ++ next) × IsEarlyEnd (bytes ++ next) r)
-AfterScanFed wanted bytes next (part.Stopped stop) r = AfterFeed bytes next (Err stop) r
+abbrev pub IsUnwanted : ℕ → ReaderState → Type 0
+IsUnwanted scans r = (bytes : List ℕ) → HasRead bytes r → LacksScans scans r.limits bytes ⊎ (HaveBegun r.limits bytes → ⊥)
 
-abbrev pub FeedsScan : ReaderState → Bool → List ℕ → Part → ReaderState → Type 0
-FeedsScan old wanted next answer new = (bytes : List ℕ) → HasRead bytes old → AfterScanFed wanted bytes next answer new
+-- It goes on with these bytes, or the file ends early there. No stop comes.
+abbrev pub AfterScan : ℕ → List ℕ → ℕ → Part → ReaderState → Type 0
+AfterScan scans bytes used (part.More n) r = (n ≡ used) × HasRead bytes r × (LacksScans scans r.limits bytes ⊎ (HaveBegun r.limits bytes → ⊥))
+AfterScan scans bytes used (part.Done n) r = (n ≡ used) × HasScans scans r.limits bytes × HaveBegun r.limits bytes × IsEarlyEnd bytes r
+AfterScan scans bytes used (part.Stopped stop) r = ⊥
+
+-- how many bytes were taken, and the word that keeps `done`
+abbrev pub EndsAfter : ℕ → Part → ReaderState → Type 0
+EndsAfter used (part.More n) r = (n ≡ used) × (r.done ≡ false)
+EndsAfter used (part.Done n) r = (n ≡ used) × (r.done ≡ true)
+EndsAfter used (part.Stopped stop) r = r.done ≡ false
+
+abbrev pub EndsThere : ℕ → ReaderState → ℕ → Part → ReaderState → Type 0
+EndsThere scans old used answer new = (bytes : List ℕ) → HasRead bytes old → AfterScan scans bytes used answer new
 
 -- THE FRONT OF THE FILE, whatever follows the bytes that are shown: these; or all bytes, where they are a complete file
 -- and none end with the marker after a scan that is wanted.

@@ -1,7 +1,6 @@
 //! A preview of a file that is fed in pieces: its picture after the first scans (T.81, B.2.1, G.1.1.1).
 #![tactic(auto)]
 
-mod counter;
 pub mod laws;
 mod preview;
 mod view;

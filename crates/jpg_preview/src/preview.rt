@@ -9,7 +9,6 @@ ghost use Rattle.jpg_file.specs.Read.ReadFile.{AfterEnd, EndsDone, head_seen};
 ghost use Rattle.jpg_file.specs.declared.read.ends.End.TheVariants as ends;
 ghost use Rattle.jpg_preview.specs.Viewing.{EndsView, HasViewed, PieceLacks, ViewsFile};
 
-use crate::counter::ScanCounter;
 use crate::view::view_piece;
 use jpg_base::{Colour, Fed, Frame, Limits, Stop};
 use jpg_file::{End, Picture, Reader};
@@ -22,8 +21,6 @@ use std::marker::Model;
 pub struct Preview {
     // What reads the file up to that marker.
     reader: Reader,
-    // How many scans are still to end.
-    count: ScanCounter,
     // How many scans are asked for.
     scans: u16,
     // Why the preview stopped, if it did.
@@ -31,14 +28,13 @@ pub struct Preview {
 }
 
 impl Model for Preview {
-    ghost use Rattle.jpg_preview.specs.Counting.{count_of};
     ghost use Rattle.jpg_preview.specs.Viewing.{IsReady, PreviewState};
 
     ghost Value = { PreviewState };
 
-    ghost view = { λ p. record { reader = p.reader; count = count_of p.count; scans = p.scans; stop = p.stop } };
+    ghost view = { λ p. record { reader = p.reader; scans = p.scans; stop = p.stop } };
 
-    ghost invariant = { λ p. IsReady (record { reader = p.reader; count = count_of p.count; scans = p.scans; stop = p.stop }) };
+    ghost invariant = { λ p. IsReady (record { reader = p.reader; scans = p.scans; stop = p.stop }) };
 }
 
 impl Preview {
@@ -53,7 +49,6 @@ impl Preview {
     {
         Preview {
             reader: Reader::new(alloc, limits),
-            count: ScanCounter::new(alloc, limits, scans),
             scans,
             stop: None,
         }
@@ -78,7 +73,7 @@ impl Preview {
         if let Some(stop) = self.stop {
             return Err(stop);
         }
-        match view_piece(&mut self.reader, &mut self.count, piece) {
+        match view_piece(&mut self.reader, self.scans, piece) {
             Ok(fed) => Ok(fed),
             Err(stop) => {
                 self.stop = Some(stop);

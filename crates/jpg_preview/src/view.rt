@@ -1,15 +1,12 @@
 //! A piece of a file that is previewed: it goes to a reader up to the end of the front (T.81, B.2.1).
-ghost use Rattle.std.specs.Prelude.{◌≡◌, ◌⊎◌, ◌≤◌, ℕ, List, None, length, true, false};
-ghost use Rattle.jpg_spec.specs.FrameHeader.{AreLimits};
+ghost use Rattle.std.specs.Prelude.{◌≡◌, ◌≤◌, length, true, false};
 ghost use Rattle.jpg_file.specs.Read.File.{keeping_of};
 ghost use Rattle.jpg_file.specs.Read.ReadFile.{EndsDone};
 ghost use Rattle.jpg_file.specs.Read.ReadRows.{IsPlain};
-ghost use Rattle.jpg_preview.specs.Counting.{IsSteady, count_of};
-ghost use Rattle.jpg_preview.specs.Viewing.{FeedsPart, FeedsScan, HasBegun, HasNotBegun, PartEnds, PartLacks, PieceLacks, Views, ViewsPart, ViewsPiece};
+ghost use Rattle.jpg_preview.specs.Viewing.{EndsAfter, EndsThere, IsUnwanted, IsWanted, PartEnds, PartLacks, PieceLacks, ViewsPart, ViewsPiece};
 
-use crate::counter::{Found, ScanCounter};
 use jpg_base::{Fed, Stop};
-use jpg_file::{End, Reader};
+use jpg_file::{End, FedScan, Reader};
 
 /// The result of some bytes.
 #[derive(Clone, Copy)]
@@ -22,25 +19,21 @@ pub enum Part {
     Stopped(Stop),
 }
 
-/// Takes the bytes of a piece up to the end of the front. Returns Done with it, and how many bytes were used;
-/// otherwise the stop of these bytes; otherwise More.
-pub fn view_piece(reader: &mut Reader, count: &mut ScanCounter, piece: &[u8]) -> Result<Fed, Stop>
+/// Takes the bytes of a piece up to the end of the front for so many scans. Returns Done with it, and how many bytes
+/// were used; otherwise the stop of these bytes; otherwise More.
+pub fn view_piece(reader: &mut Reader, scans: u16, piece: &[u8]) -> Result<Fed, Stop>
     requires undone { reader.old.done ≡ false }
     requires plain { IsPlain reader.old }
-    requires steady { IsSteady (count_of count.old) }
-    requires bounded { (count_of count.old).limits ≡ reader.old.limits }
-    ensures viewed { ViewsPiece reader.old (count_of count.old) piece.now result reader.new (count_of count.new) }
-    ensures memory { (scans : ℕ) (bytes : List ℕ) → Views scans bytes reader.old (count_of count.old) → PieceLacks result reader.new }
+    ensures viewed { ViewsPiece scans reader.old piece.now result reader.new }
+    ensures memory { PieceLacks result reader.new }
     ensures done { EndsDone result reader.new }
     ensures limits { reader.new.limits ≡ reader.old.limits }
     ensures keeping { keeping_of reader.new.file ≡ keeping_of reader.old.file }
     ensures plain { IsPlain reader.new }
-    ensures steady { IsSteady (count_of count.new) }
-    ensures bounded { (count_of count.new).limits ≡ reader.new.limits }
 {
     let mut used = 0usize;
     while used < piece.len() {
-        match view_part(reader, count, &piece[used..]) {
+        match view_part(reader, scans, &piece[used..]) {
             Part::More(n) => used += n,
             Part::Done(n) => {
                 return Ok(Fed::Done {
@@ -54,81 +47,50 @@ pub fn view_piece(reader: &mut Reader, count: &mut ScanCounter, piece: &[u8]) ->
 }
 
 // Takes bytes up to the next marker that ends the data of a scan.
-fn view_part(reader: &mut Reader, count: &mut ScanCounter, bytes: &[u8]) -> Part
-    requires undone { reader.old.done ≡ false }
-    requires plain { IsPlain reader.old }
-    requires steady { IsSteady (count_of count.old) }
-    requires bounded { (count_of count.old).limits ≡ reader.old.limits }
-    requires some { 1 ≤ length bytes.now }
-    ensures viewed { ViewsPart reader.old (count_of count.old) bytes.now result reader.new (count_of count.new) }
-    ensures memory { reader.old.stop ≡ None → PartLacks result reader.new }
-    ensures done { PartEnds bytes.now result reader.new }
-    ensures limits { reader.new.limits ≡ reader.old.limits }
-    ensures keeping { keeping_of reader.new.file ≡ keeping_of reader.old.file }
-    ensures plain { IsPlain reader.new }
-    ensures steady { IsSteady (count_of count.new) }
-    ensures bounded { (count_of count.new).limits ≡ reader.new.limits }
-{
-    let most = (bytes.len() as u64).min(count.room()) as usize;
-    match count.find(&bytes[..most]) {
-        Found::None => feed_part(reader, bytes),
-        Found::At(n) => feed_scan(reader, count.due() == 0, &bytes[..n]),
-        Found::NoMemory => Part::Stopped(Stop::NoMemory),
-    }
-}
-
-// Feeds bytes that end with the marker after a scan. If that is a wanted one, and each component has begun, the front
-// ends here.
-fn feed_scan(reader: &mut Reader, wanted: bool, bytes: &[u8]) -> Part
+fn view_part(reader: &mut Reader, scans: u16, bytes: &[u8]) -> Part
     requires undone { reader.old.done ≡ false }
     requires plain { IsPlain reader.old }
     requires some { 1 ≤ length bytes.now }
-    ensures fed { FeedsScan reader.old wanted bytes.now result reader.new }
+    ensures viewed { ViewsPart scans reader.old bytes.now result reader.new }
     ensures memory { PartLacks result reader.new }
     ensures done { PartEnds bytes.now result reader.new }
     ensures limits { reader.new.limits ≡ reader.old.limits }
     ensures keeping { keeping_of reader.new.file ≡ keeping_of reader.old.file }
     ensures plain { IsPlain reader.new }
 {
-    let part = feed_part(reader, bytes);
-    match part {
-        Part::More(n) => {
-            if !ends_here(reader, wanted) {
-                return part;
-            }
-            match reader.end() {
-                End::Early(_) => Part::Done(n),
-                End::Stop(stop) => Part::Stopped(stop),
-            }
-        }
-        Part::Done(_) => part,
-        Part::Stopped(_) => part,
-    }
-}
-
-// Whether the front ends here: the scan is wanted, and each component has begun.
-fn ends_here(reader: &Reader, wanted: bool) -> bool
-    ensures ends { result ≡ true → (wanted ≡ true) × HasBegun reader.now }
-    ensures goes { result ≡ false → (wanted ≡ false) ⊎ HasNotBegun reader.now }
-{
-    wanted && reader.begun()
-}
-
-// Feeds bytes.
-fn feed_part(reader: &mut Reader, bytes: &[u8]) -> Part
-    requires undone { reader.old.done ≡ false }
-    requires plain { IsPlain reader.old }
-    requires some { 1 ≤ length bytes.now }
-    ensures fed { FeedsPart reader.old bytes.now result reader.new }
-    ensures memory { PartLacks result reader.new }
-    ensures done { PartEnds bytes.now result reader.new }
-    ensures limits { reader.new.limits ≡ reader.old.limits }
-    ensures keeping { keeping_of reader.new.file ≡ keeping_of reader.old.file }
-    ensures plain { IsPlain reader.new }
-{
-    match reader.feed(bytes) {
-        Ok(Fed::More) => Part::More(bytes.len()),
-        Ok(Fed::Done { used }) => Part::Done((used as usize).min(bytes.len())),
+    match reader.feed_scan(bytes) {
+        Ok(FedScan::More) => Part::More(bytes.len()),
+        Ok(FedScan::Scan { used }) => end_there(reader, scans, used),
+        Ok(FedScan::Done { used }) => Part::Done(used),
         Err(stop) => Part::Stopped(stop),
     }
+}
+
+// The result where the data of a scan ended with so many bytes: the front ends there if the scan is wanted, and each
+// component has begun.
+fn end_there(reader: &mut Reader, scans: u16, used: usize) -> Part
+    requires undone { reader.old.done ≡ false }
+    requires plain { IsPlain reader.old }
+    ensures ends { EndsThere scans reader.old used result reader.new }
+    ensures used { EndsAfter used result reader.new }
+    ensures memory { PartLacks result reader.new }
+    ensures limits { reader.new.limits ≡ reader.old.limits }
+    ensures keeping { keeping_of reader.new.file ≡ keeping_of reader.old.file }
+    ensures plain { IsPlain reader.new }
+{
+    if !is_wanted(reader, scans) {
+        return Part::More(used);
+    }
+    match reader.end() {
+        End::Early(_) => Part::Done(used),
+        End::Stop(stop) => Part::Stopped(stop),
+    }
+}
+
+// Whether so many scans' data have ended, and each component has begun.
+fn is_wanted(reader: &Reader, scans: u16) -> bool
+    ensures ends { result ≡ true → IsWanted scans reader.now }
+    ensures goes { result ≡ false → IsUnwanted scans reader.now }
+{
+    reader.scans_ended() >= scans as u64 && reader.begun()
 }
