@@ -1,5 +1,5 @@
 -- The end of a file at the marker after a scan that is wanted.
-use Rattle.std.proofs.Common.{◌≡◌, ℕ, ◌<◌, ◌≤◌, Bool, true, false, List, refl, sym, subst, inl, inr}
+use Rattle.std.proofs.Common.{◌≡◌, ℕ, ◌<◌, ◌≤◌, Bool, true, false, List, refl, subst, inl, inr, Ok, Err}
 use Rattle.jpg_spec.specs.FirstFault.{HaveBegun, IsFirstFault}
 use Rattle.jpg_spec.proofs.Files.FileLaws.{early_no_fault, stands_early}
 use Rattle.jpg_base.specs.declared.stop.Stop.{Stop}
@@ -8,8 +8,8 @@ use Rattle.jpg_file.specs.Read.ReadFile.{AfterEnd, HasRead, ReaderState, StopsAt
 use Rattle.jpg_file.specs.Read.ScansEnded.{ScansEnded}
 use Rattle.jpg_file.specs.declared.read.ends.End.{End}
 use Rattle.jpg_file.specs.declared.read.ends.End.TheVariants as ends
-use Rattle.jpg_preview.specs.declared.view.Part.TheVariants as part
-use Rattle.jpg_preview.specs.Viewing.{EndsThere, HasScans, IsUnwanted, IsWanted}
+use Rattle.jpg_base.specs.declared.stop.Fed.TheVariants as fed
+use Rattle.jpg_preview.specs.Viewing.{EndsThere, IsUnwanted, IsWanted}
 
 pub is_wanted : (scans n : ℕ) (r : ReaderState) (b : Bool) → b ≡ true → scans ≤ n → ((bytes : List ℕ) → HasRead bytes r → ScansEnded r.limits bytes n) → ((bytes : List ℕ) → HasRead bytes r → TellsBegun r.limits bytes b) → IsWanted scans r
 is_wanted scans n r b e low ended begun = λ bytes h. ((n, ended bytes h, low), subst (λ x. TellsBegun r.limits bytes x) e (begun bytes h))
@@ -26,12 +26,8 @@ no_stop mid new bytes (stop.Fault f) e h begun k =
     early_no_fault mid.limits bytes f.fault f.at (stands_early mid.limits bytes h.stands h.short begun) (subst (λ l. IsFirstFault l bytes f.fault f.at) e k)
 no_stop mid new bytes stop.NoMemory e h begun k = k
 
-pub ends_early : (scans : ℕ) (mid new : ReaderState) (used n : ℕ) (x : End) → x ≡ ends.Early n → new.limits ≡ mid.limits → IsWanted scans mid → ((bytes : List ℕ) → HasRead bytes mid → AfterEnd bytes x new) → EndsThere scans mid used (part.Done used) new
-ends_early scans mid new used n x e same wanted ended = λ bytes h.
-    (let k = wanted bytes h in
-    let early = subst (λ a. AfterEnd bytes a new) e (ended bytes h) in
-    (refl, subst (λ l. HasScans scans l bytes) (sym same) k.0, subst (λ l. HaveBegun l bytes) (sym same) k.1, early.1))
+pub ends_early : (mid new : ReaderState) (used n : ℕ) (x : End) → x ≡ ends.Early n → ((bytes : List ℕ) → HasRead bytes mid → AfterEnd bytes x new) → EndsThere mid used (Ok (fed.Done used)) new
+ends_early mid new used n x e ended = λ bytes h begun. (refl, (subst (λ a. AfterEnd bytes a new) e (ended bytes h)).1)
 
-pub ends_stopped : (scans : ℕ) (mid new : ReaderState) (used : ℕ) (x : End) (s : Stop) → x ≡ ends.Stop s → new.limits ≡ mid.limits → IsWanted scans mid → ((bytes : List ℕ) → HasRead bytes mid → AfterEnd bytes x new) → EndsThere scans mid used (part.Stopped s) new
-ends_stopped scans mid new used x s e same wanted ended = λ bytes h.
-    no_stop mid new bytes s same h (wanted bytes h).1 (subst (λ a. AfterEnd bytes a new) e (ended bytes h))
+pub ends_stopped : (mid new : ReaderState) (used : ℕ) (x : End) (s : Stop) → x ≡ ends.Stop s → new.limits ≡ mid.limits → ((bytes : List ℕ) → HasRead bytes mid → AfterEnd bytes x new) → EndsThere mid used (Err s) new
+ends_stopped mid new used x s e same ended = λ bytes h begun. no_stop mid new bytes s same h begun (subst (λ a. AfterEnd bytes a new) e (ended bytes h))

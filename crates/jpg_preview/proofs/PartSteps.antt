@@ -1,20 +1,18 @@
--- A PART OF A PIECE: what a reader answers to the bytes up to the next marker after a scan, and to all of them if there is
--- none.
+-- WHAT A READER ANSWERS to the bytes up to the next marker after a scan, and to all of them if there is none.
 use Rattle.std.proofs.Common.{◌≡◌, ℕ, suc, ◌+◌, ◌<◌, ◌≤◌, List, ◌++◌, length, take, drop, sym, ap, ◌∙◌, subst, arith, inl, inr, Ok, Err}
-use Rattle.std.specs.Prelude.{◌⊎◌, Result}
+use Rattle.std.specs.Prelude.{◌⊎◌}
 use Rattle.std.proofs.Math.Seq.{take_all}
 use Rattle.std.proofs.lemmas.List.{append_assoc, length-append, length-take-le, take-append-drop}
 use Rattle.std.proofs.lemmas.Bool.{cases_lt}
 use Rattle.jpg_spec_image.specs.Front.{EndsNotBefore, EndsScan}
+use Rattle.jpg_spec.specs.FirstFault.{HaveBegun}
+use Rattle.jpg_base.specs.declared.stop.Fed.TheVariants as fed
 use Rattle.jpg_base.specs.declared.stop.Stop.{Stop}
 use Rattle.jpg_base.specs.declared.stop.Stop.TheVariants as stop
-use Rattle.jpg_file.specs.Read.ReadFile.{ReaderState}
-use Rattle.jpg_file.specs.Read.ScanPieces.{AfterFeedScan, FeedsScan, NoScanEnds, ScanEnds}
-use Rattle.jpg_file.specs.declared.read.scan_pieces.FedScan.{FedScan}
+use Rattle.jpg_file.specs.Read.ReadFile.{HasRead, IsEarlyEnd, ReaderState}
+use Rattle.jpg_file.specs.Read.ScanPieces.{AfterFeedScan, NoScanEnds, ScanEnds}
 use Rattle.jpg_file.specs.declared.read.scan_pieces.FedScan.TheVariants as came
-use Rattle.jpg_preview.specs.declared.view.Part.{Part}
-use Rattle.jpg_preview.specs.declared.view.Part.TheVariants as part
-use Rattle.jpg_preview.specs.Viewing.{AfterPart, AfterScan, EndsThere, IsShown, Views, ViewsPart}
+use Rattle.jpg_preview.specs.Viewing.{AfterPiece, HasScans, IsShown, LacksScans, Views}
 use Rattle.jpg_preview.proofs.ScansCounted.{none_on, unwanted, wanted_end}
 use Rattle.jpg_preview.proofs.ViewSteps.{fewer_none, none_of_part, stops_front}
 
@@ -41,19 +39,16 @@ module _ (scans : ℕ) (old new : ReaderState) (next : List ℕ) (same : new.lim
       let z : suc (length bytes + early) ≡ n = omega (arith, count) in
       subst (EndsNotBefore new.limits scans (bytes ++ take used next)) (sym long) (used_none used n few (omega arith) (subst (EndsNotBefore new.limits scans (bytes ++ next)) z all))
 
-  part_more : AfterFeedScan bytes next (Ok came.More) new → AfterPart scans bytes next (part.More (length next)) new
-  part_more k =
-      let whole : take (length next) next ≡ next = take_all (length next) next (omega arith) in
-      subst (λ l. Views scans (bytes ++ l) new) (sym whole)
-      (record { read = k.0; none = subst (λ m. EndsNotBefore new.limits scans (bytes ++ next) m) (ap suc (sym (length-append bytes next))) (none_all (length next) k.1) })
+  pub part_more : AfterFeedScan bytes next (Ok came.More) new → AfterPiece scans bytes next (Ok fed.More) new
+  part_more k = record { read = k.0; none = subst (λ m. EndsNotBefore new.limits scans (bytes ++ next) m) (ap suc (sym (length-append bytes next))) (none_all (length next) k.1) }
 
-  part_done : (used : ℕ) → AfterFeedScan bytes next (Ok (came.Done used)) new → AfterPart scans bytes next (part.Done used) new
+  pub part_done : (used : ℕ) → AfterFeedScan bytes next (Ok (came.Done used)) new → AfterPiece scans bytes next (Ok (fed.Done used)) new
   part_done used k =
       let last = k.2 in
       let count = last.1 in
-      (record { meaning = inl k.0; first = before_last used last.0 k.1 last.1 last.2 }, omega (arith, count))
+      (record { meaning = inl k.0; first = before_last used last.0 k.1 last.1 last.2 }, omega (arith, count), k.1)
 
-  part_stop : (s : Stop) → AfterFeedScan bytes next (Err s) new → AfterPart scans bytes next (part.Stopped s) new
+  pub part_stop : (s : Stop) → AfterFeedScan bytes next (Err s) new → AfterPiece scans bytes next (Err s) new
   part_stop (stop.Fault f) k =
       let fault = k.0 in
       let none = k.1 in
@@ -63,35 +58,17 @@ module _ (scans : ℕ) (old new : ReaderState) (next : List ℕ) (same : new.lim
 
   -- where the data of a scan ended
   module _ (used : ℕ) (k : ScanEnds new.limits bytes next used) where
-    here : List ℕ
-    here = bytes ++ take used next
-
     first : EndsNotBefore new.limits scans (bytes ++ take used next) (length (bytes ++ take used next))
     first = before_last used k.early k.within k.count k.none
 
-    scan_part : (x : Part) → AfterScan scans (bytes ++ take used next) used x new → AfterPart scans bytes next x new
-    scan_part (part.More n) a = subst (λ m. Views scans (bytes ++ take m next) new) (sym a.0) (record { read = a.1; none = λ m less e. by m less e (cases_lt m (length (bytes ++ take used next))) })
+    -- it isn't wanted
+    pub scan_goes : HasRead (bytes ++ take used next) new → LacksScans scans new.limits (bytes ++ take used next) ⊎ (HaveBegun new.limits (bytes ++ take used next) → ⊥) → Views scans (bytes ++ take used next) new
+    scan_goes read why = record { read = read; none = λ m less e. by m less e (cases_lt m (length (bytes ++ take used next))) }
       where
         by : (m : ℕ) → m < suc (length (bytes ++ take used next)) → EndsScan new.limits scans (take m (bytes ++ take used next)) → (m < length (bytes ++ take used next)) ⊎ (length (bytes ++ take used next) ≤ m) → ⊥
         by m less e (inl few) = first m few e
-        by m less e (inr all) = unwanted new.limits scans (bytes ++ take used next) a.2 (subst (EndsScan new.limits scans) (take_all m (bytes ++ take used next) all) e)
-    scan_part (part.Done n) a =
-        let count = k.count in
-        subst (λ m. IsShown scans (bytes ++ take m next) new × (1 ≤ m)) (sym a.0)
-        (record { meaning = inr (a.3, wanted_end new.limits scans bytes next used k a.1 a.2); first = first }, omega (arith, count))
-    scan_part (part.Stopped s) a = absurd a
+        by m less e (inr all) = unwanted new.limits scans (bytes ++ take used next) why (subst (EndsScan new.limits scans) (take_all m (bytes ++ take used next) all) e)
 
-pub fed_more : (scans : ℕ) (old new : ReaderState) (next : List ℕ) (x : Result FedScan Stop) → x ≡ Ok came.More → new.limits ≡ old.limits → FeedsScan old next x new → ViewsPart scans old next (part.More (length next)) new
-fed_more scans old new next x e same f = λ bytes v. part_more scans old new next same bytes v (subst (λ a. AfterFeedScan bytes next a new) e (f bytes v.read))
-
-pub fed_done : (scans : ℕ) (old new : ReaderState) (next : List ℕ) (used : ℕ) (x : Result FedScan Stop) → x ≡ Ok (came.Done used) → new.limits ≡ old.limits → FeedsScan old next x new → ViewsPart scans old next (part.Done used) new
-fed_done scans old new next used x e same f = λ bytes v. part_done scans old new next same bytes v used (subst (λ a. AfterFeedScan bytes next a new) e (f bytes v.read))
-
-pub fed_stop : (scans : ℕ) (old new : ReaderState) (next : List ℕ) (s : Stop) (x : Result FedScan Stop) → x ≡ Err s → new.limits ≡ old.limits → FeedsScan old next x new → ViewsPart scans old next (part.Stopped s) new
-fed_stop scans old new next s x e same f = λ bytes v. part_stop scans old new next same bytes v s (subst (λ a. AfterFeedScan bytes next a new) e (f bytes v.read))
-
-pub fed_scan : (scans : ℕ) (old mid new : ReaderState) (next : List ℕ) (used : ℕ) (x : Result FedScan Stop) (answer : Part) → x ≡ Ok (came.Scan used) → mid.limits ≡ old.limits → new.limits ≡ mid.limits → FeedsScan old next x mid → EndsThere scans mid used answer new
-    → ViewsPart scans old next answer new
-fed_scan scans old mid new next used x answer e same on f ends = λ bytes v.
-    (let k = subst (λ a. AfterFeedScan bytes next a mid) e (f bytes v.read) in
-    scan_part scans old new next (on ∙ same) bytes v used (subst (λ l. ScanEnds l bytes next used) (sym on) k.1) answer (ends (bytes ++ take used next) k.0))
+    -- the front ends there
+    pub scan_shown : IsEarlyEnd (bytes ++ take used next) new → HasScans scans new.limits (bytes ++ take used next) × HaveBegun new.limits (bytes ++ take used next) → IsShown scans (bytes ++ take used next) new
+    scan_shown early w = record { meaning = inr (early, wanted_end new.limits scans bytes next used k w.0 w.1); first = first }

@@ -14,8 +14,6 @@ use Rattle.jpg_file.specs.Read.ReadRows.{IsPlain}
 use Rattle.jpg_file.specs.Read.ScansEnded.{ScansEnded}
 use Rattle.jpg_file.specs.declared.read.ends.End.{End}
 use Rattle.jpg_file.specs.declared.read.ends.End.TheVariants as ends
-use Rattle.jpg_preview.specs.declared.view.Part.{Part}
-use Rattle.jpg_preview.specs.declared.view.Part.TheVariants as part
 
 -- what contracts see of a preview: its reader, how many scans are wanted, and why it stopped, if it did
 pub record PreviewState : Type 0 where
@@ -76,16 +74,6 @@ abbrev pub EndsView : End → PreviewState → Type 0
 EndsView (ends.Early n) p = p.reader.done ≡ true
 EndsView (ends.Stop stop) p = (p.reader.done ≡ false) × (p.stop ≡ Some stop)
 
--- A PART of a piece
-
-abbrev pub AfterPart : ℕ → List ℕ → List ℕ → Part → ReaderState → Type 0
-AfterPart scans bytes next (part.More n) r = Views scans (bytes ++ take n next) r
-AfterPart scans bytes next (part.Done n) r = IsShown scans (bytes ++ take n next) r × (1 ≤ n)
-AfterPart scans bytes next (part.Stopped stop) r = AfterStop scans (length bytes) (bytes ++ next) stop r
-
-abbrev pub ViewsPart : ℕ → ReaderState → List ℕ → Part → ReaderState → Type 0
-ViewsPart scans old next answer new = (bytes : List ℕ) → Views scans bytes old → AfterPart scans bytes next answer new
-
 -- NO MEMORY is the answer only where the reader didn't stop for a fault.
 abbrev pub HasNoFaultYet : Option Stop → Type 0
 HasNoFaultYet None = Unit {0}
@@ -96,20 +84,9 @@ abbrev pub LacksMemory : Stop → ReaderState → Type 0
 LacksMemory (stop.Fault f) r = Unit {0}
 LacksMemory stop.NoMemory r = HasNoFaultYet r.stop
 
-abbrev pub PartLacks : Part → ReaderState → Type 0
-PartLacks (part.More n) r = Unit {0}
-PartLacks (part.Done n) r = Unit {0}
-PartLacks (part.Stopped stop) r = LacksMemory stop r
-
 abbrev pub PieceLacks : Result Fed Stop → ReaderState → Type 0
 PieceLacks (Ok fed) r = Unit {0}
 PieceLacks (Err stop) r = LacksMemory stop r
-
--- how many bytes were taken, and the word that keeps `done`
-abbrev pub PartEnds : List ℕ → Part → ReaderState → Type 0
-PartEnds next (part.More n) r = (1 ≤ n) × (n ≤ length next) × (r.done ≡ false)
-PartEnds next (part.Done n) r = (n ≤ length next) × (r.done ≡ true)
-PartEnds next (part.Stopped stop) r = r.done ≡ false
 
 -- WHERE THE DATA of a scan ended: so many scans' have, or fewer
 
@@ -126,20 +103,14 @@ IsWanted scans r = (bytes : List ℕ) → HasRead bytes r → HasScans scans r.l
 abbrev pub IsUnwanted : ℕ → ReaderState → Type 0
 IsUnwanted scans r = (bytes : List ℕ) → HasRead bytes r → LacksScans scans r.limits bytes ⊎ (HaveBegun r.limits bytes → ⊥)
 
--- It goes on with these bytes, or the file ends early there. No stop comes.
-abbrev pub AfterScan : ℕ → List ℕ → ℕ → Part → ReaderState → Type 0
-AfterScan scans bytes used (part.More n) r = (n ≡ used) × HasRead bytes r × (LacksScans scans r.limits bytes ⊎ (HaveBegun r.limits bytes → ⊥))
-AfterScan scans bytes used (part.Done n) r = (n ≡ used) × HasScans scans r.limits bytes × HaveBegun r.limits bytes × IsEarlyEnd bytes r
-AfterScan scans bytes used (part.Stopped stop) r = ⊥
+-- The file ends early there, if each component has begun. No stop comes.
+abbrev pub AfterEarly : List ℕ → ℕ → Result Fed Stop → ReaderState → Type 0
+AfterEarly bytes used (Ok fed.More) r = ⊥
+AfterEarly bytes used (Ok (fed.Done n)) r = (n ≡ used) × IsEarlyEnd bytes r
+AfterEarly bytes used (Err stop) r = ⊥
 
--- how many bytes were taken, and the word that keeps `done`
-abbrev pub EndsAfter : ℕ → Part → ReaderState → Type 0
-EndsAfter used (part.More n) r = (n ≡ used) × (r.done ≡ false)
-EndsAfter used (part.Done n) r = (n ≡ used) × (r.done ≡ true)
-EndsAfter used (part.Stopped stop) r = r.done ≡ false
-
-abbrev pub EndsThere : ℕ → ReaderState → ℕ → Part → ReaderState → Type 0
-EndsThere scans old used answer new = (bytes : List ℕ) → HasRead bytes old → AfterScan scans bytes used answer new
+abbrev pub EndsThere : ReaderState → ℕ → Result Fed Stop → ReaderState → Type 0
+EndsThere old used answer new = (bytes : List ℕ) → HasRead bytes old → HaveBegun old.limits bytes → AfterEarly bytes used answer new
 
 -- THE FRONT OF THE FILE, whatever follows the bytes that are shown: these; or all bytes, where they are a complete file
 -- and none end with the marker after a scan that is wanted.

@@ -14,9 +14,9 @@ pub enum FedScan {
     /// The data of no scan end in the piece, the file isn't complete, and nothing is wrong.
     More,
     /// The data of a scan end with this many bytes of the piece, the last of which is the code of the marker after them.
-    Scan { used: usize },
+    Scan { used: u64 },
     /// The file is complete with this many bytes of the piece.
-    Done { used: usize },
+    Done { used: u64 },
 }
 
 /// Takes the bytes of a piece up to the code of the marker that ends the data of a scan, or to the byte that completes
@@ -39,11 +39,11 @@ pub fn read_scan(work: &mut StripWork, limits: Limits, piece: &[u8]) -> Result<F
         match step {
             Step::More => {}
             Step::Row => unreachable!(),
-            Step::Whole => return Ok(FedScan::Done { used: done }),
+            Step::Whole => return Ok(FedScan::Done { used: done as u64 }),
             Step::Ended(stop) => return Err(stop),
         }
         if work.file.scans_ended() != ended {
-            return scan_ends(work, limits, done);
+            return scan_ends(work, limits, done as u64);
         }
     }
     if work.file.reading.taken >= limits.input {
@@ -53,7 +53,7 @@ pub fn read_scan(work: &mut StripWork, limits: Limits, piece: &[u8]) -> Result<F
 }
 
 // The result where the data of a scan end with this many bytes of a piece.
-fn scan_ends(work: &StripWork, limits: Limits, used: usize) -> Result<FedScan, Stop>
+fn scan_ends(work: &StripWork, limits: Limits, used: u64) -> Result<FedScan, Stop>
     ensures { EndsOrFull limits work.now used result }
 {
     if work.file.reading.taken >= limits.input {
