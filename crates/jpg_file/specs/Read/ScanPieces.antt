@@ -14,14 +14,14 @@ use Rattle.jpg_file.specs.declared.read.scan_pieces.FedScan.{FedScan}
 use Rattle.jpg_file.specs.declared.read.scan_pieces.FedScan.TheVariants as came
 use Rattle.jpg_file.specs.declared.read.strip_work.StripWork.{StripWork}
 
--- With so many bytes of the piece the data of no further scan have ended: there is a state of the file then.
+-- With so many bytes of the piece the data of no further scan have ended, by the state of the file then.
 pub record CountsOn (limits : Limits) (old : FileWork) (piece : List ℕ) (early : ℕ) : Type 0 where
   pub mid : FileWork
   pub few : early ≤ length piece
   pub stands : (bytes : List ℕ) → RepresentsFile limits bytes old → RepresentsFile limits (bytes ++ take early piece) mid
   pub same : scans_ended mid ≡ scans_ended old
 
--- nor with the bytes before the last one of these
+-- nor have they before the last one of so many bytes
 abbrev pub CountsBefore : Limits → FileWork → List ℕ → ℕ → Type 0
 CountsBefore limits old piece used = (early : ℕ) × (used ≡ early + 1) × CountsOn limits old piece early
 
@@ -36,24 +36,25 @@ ReadsScan limits old piece (Err (stop.Fault f)) new =
     × ((bytes : List ℕ) → RepresentsFile limits bytes old.file → (early : ℕ) × (f.at ≤ length bytes + early + 1) × CountsOn limits old.file piece early)
 ReadsScan limits old piece (Err stop.NoMemory) new = ReadsOn limits old piece (Err stop.NoMemory) new
 
--- where a scan's data end with the last byte that was taken: as many bytes as may be taken are a fault
+-- where a scan's data end with the last byte that was taken; if no more may be taken, that is a fault
 abbrev pub EndsOrFull : Limits → StripWork → ℕ → Result FedScan Stop → Type 0
 EndsOrFull limits w used (Ok came.More) = ⊥
 EndsOrFull limits w used (Ok (came.Scan n)) = (n ≡ used) × (w.file.reading.taken < limits.input)
 EndsOrFull limits w used (Ok (came.Done n)) = ⊥
 EndsOrFull limits w used (Err e) = (e ≡ stop.Fault (record { fault = InputTooLong; at = limits.input })) × (limits.input ≤ w.file.reading.taken)
 
--- OF A READER: the data of as many scans have ended in the bytes, and in these and so many of the piece
+-- OF A READER: as many scans' data have ended in the bytes as in these and so many of the piece: none end between.
 pub record NoScanEnds (limits : Limits) (bytes piece : List ℕ) (early : ℕ) : Type 0 where
   pub n : ℕ
   pub few : early ≤ length piece
   pub before : ScansEnded limits bytes n
   pub after : ScansEnded limits (bytes ++ take early piece) n
 
--- and of one more with the last of these bytes of the piece, or of none
+-- none end before the last one of so many bytes of the piece
 abbrev pub LastEnds : Limits → List ℕ → List ℕ → ℕ → Type 0
 LastEnds limits bytes piece used = (early : ℕ) × (used ≡ early + 1) × NoScanEnds limits bytes piece early
 
+-- and with the last one further data have ended
 pub record ScanEnds (limits : Limits) (bytes piece : List ℕ) (used : ℕ) : Type 0 where
   pub early : ℕ
   pub count : used ≡ early + 1
