@@ -8,5 +8,6 @@ pub mod Maps
 pub mod MarkSinks
 pub mod Places
 pub mod ScanDue
+pub mod ScanGiven
 pub mod Stored
 pub mod SymbolCounts

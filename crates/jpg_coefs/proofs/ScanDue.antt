@@ -15,6 +15,7 @@ use Rattle.jpg_spec.proofs.Basics.Common.{not_same, same_itself}
 use Rattle.jpg_spec_write.specs.ScanText.{UnitDue, units_due, last_dc}
 use Rattle.jpg_base.specs.declared.stop.WriteFault.{WriteFault}
 use Rattle.jpg_coefs.specs.Sinks.{IsScanPlace, block_due, no_last, last_in, At, Due, SinkKind, Goes, with_unit, TakesUnit, of_places, before_next, at_end, Begins, Ends, IsNextPlace, TakesPlace}
+use Rattle.jpg_coefs.specs.ScanUnits.{Begun, IsGoing, IsLeft, Spot, later_due, left_due, no_dc}
 use Rattle.jpg_coefs.proofs.Places.{taken, first_is}
 
 -- LAST DC VALUES in a list
@@ -27,13 +28,10 @@ last_set last i block h = fun_ext (λ j.
     (λ (n : j ≡ i → ⊥). ap (λ b. cond b v (last_in last j)) (not_same j i n) ∙ sym (get_or-set_other last i j v (pos 0) n))
     (cases_eq j i))
 
-abbrev pub zeros_4 : List ℤ
-zeros_4 = pos 0 ∷ pos 0 ∷ pos 0 ∷ pos 0 ∷ []
-
-none_in : no_last ≡ last_in zeros_4
+none_in : no_last ≡ last_in no_dc
 none_in = fun_ext at
   where
-    at : (j : ℕ) → pos 0 ≡ last_in zeros_4 j
+    at : (j : ℕ) → pos 0 ≡ last_in no_dc j
     at zero = refl
     at (suc zero) = refl
     at (suc (suc zero)) = refl
@@ -62,40 +60,6 @@ module _ {S O D : Type 0} (k : SinkKind S O D) (blocks : Blocks) where
       let goes = t.takes due (sym t.same) (subst (λ x. k.due (with_unit due (i, x)) old) (sym e) h) in
       let s = last_set last i b small ∙ ap (λ v. last_in (slice_set last i v)) (sym (t.first ∙ ap (λ x. slice_index_or x 0 (pos 0)) e)) in
       subst (λ q. Goes k (record d { last = q; rest = units_due blocks q places }) result new) s (subst (λ x. Goes k (record due { last = last_dc (last_in last) i x }) result new) e goes)
-
--- A SCAN THAT IS BEGUN: what takes its units, in what state, all of them by intervals, the blocks, and how many units an
--- interval has
-pub record Begun (S O D : Type 0) : Type 1 where
-  pub kind : SinkKind S O D
-  pub from : At S O D
-  pub all : List (List UnitDue)
-  pub blocks : Blocks
-  pub each : ℕ
-
--- Where it stands: the last DC values, how many units of the interval are left, the number of its restart marker, the
--- places that are left, and the state.
-pub record Spot (S O D : Type 0) : Type 0 where
-  pub last : List ℤ
-  pub count : ℕ
-  pub turn : ℕ
-  pub cursor : List Place
-  pub now : At S O D
-
--- the intervals of these places, after a number of others
-abbrev pub later_due : {S O D : Type 0} → Begun S O D → ℕ → ℕ → List Place → Due S O D
-later_due w number most places =
-    record { from = w.from; all = w.all; number = number; last = no_last; rest = []; later = map (units_due w.blocks no_last) (chunks_of most w.each places) }
-
-abbrev pub left_due : {S O D : Type 0} → Begun S O D → ℕ → ℕ → Spot S O D → Due S O D
-left_due w number most s = of_places (later_due w number most (drop s.count s.cursor)) w.blocks s.last (take s.count s.cursor)
-
--- What is left of the places: some of this interval, and the others, after `number` intervals.
-pub record IsLeft {S O D : Type 0} (w : Begun S O D) (s : Spot S O D) : Type 0 where
-  pub number : ℕ
-  pub most : ℕ
-  pub enough : length (drop s.count s.cursor) ≤ most
-  pub turn_is : s.turn ≡ number % 8
-  pub due : w.kind.due (left_due w number most s) s.now
 
 -- a place is the first of them
 pub record IsAtPlace {S O D : Type 0} (w : Begun S O D) (s : Spot S O D) (p : Place) : Type 0 where
@@ -191,7 +155,7 @@ module _ {S O D : Type 0} (w : Begun S O D) (s : Spot S O D) (b : IsBetween w s)
   between_fault new f goes = (let t = between_left w s b in goes (between_due w (b.left).number t.0 s) (next_due w s) (b.left).turn_is t.2)
 
   -- and the next interval begins
-  pub next_left : (new : At S O D) → 1 ≤ w.each → Ends w.kind (Some s.turn) s.now (Ok tt) new → IsLeft w (record { last = zeros_4; count = w.each; turn = (s.turn + 1) % 8; cursor = s.cursor; now = new })
+  pub next_left : (new : At S O D) → 1 ≤ w.each → Ends w.kind (Some s.turn) s.now (Ok tt) new → IsLeft w (record { last = no_dc; count = w.each; turn = (s.turn + 1) % 8; cursor = s.cursor; now = new })
   next_left new size goes =
       let t = between_left w s b in
       let l = b.left in
@@ -227,29 +191,17 @@ first_chunk (suc n) each (p ∷ places) some is =
 
 -- before its first unit, with intervals of `n` units each (0: one of all)
 pub begins_left : {S O D : Type 0} {w : Begun S O D} (n : ℕ) (places cursor : List Place) → w.all ≡ map (units_due w.blocks no_last) (chunks n places)
-    → 1 ≤ length places → w.each ≡ cond (n == 0) (length places) n → 1 ≤ w.each → cursor ≡ places → Begins w.kind w.all w.from → IsLeft w (record { last = zeros_4; count = w.each; turn = 0; cursor = cursor; now = w.from })
+    → 1 ≤ length places → w.each ≡ cond (n == 0) (length places) n → 1 ≤ w.each → cursor ≡ places → Begins w.kind w.all w.from → IsLeft w (record { last = no_dc; count = w.each; turn = 0; cursor = cursor; now = w.from })
 begins_left {S} {O} {D} {w} n places cursor all some is size e begins =
     let c = first_chunk n w.each places some is in
     let h = begins (units_due w.blocks no_last (take w.each places)) (map (units_due w.blocks no_last) (chunks_of c.0 w.each (drop w.each places))) (all ∙ ap (map (units_due w.blocks no_last)) c.2) in
-    subst (λ ps. IsLeft w (record { last = zeros_4; count = w.each; turn = 0; cursor = ps; now = w.from })) (sym e) (record {
+    subst (λ ps. IsLeft w (record { last = no_dc; count = w.each; turn = 0; cursor = ps; now = w.from })) (sym e) (record {
       number = 0;
       most = c.0;
       enough = (let d = length-drop w.each places in omega (arith, d, c.1, size));
       turn_is = refl;
       due = subst (λ q. w.kind.due (record (later_due w 0 c.0 (drop w.each places)) { last = q; rest = units_due w.blocks q (take w.each places) }) w.from) none_in h;
     })
-
--- WHILE units are given: the places left are some of the scan's, and at least one of them is of this interval
-pub record IsGoing {S O D : Type 0} (f : Frame) (head : ScanHead) (w : Begun S O D) (s : Spot S O D) (left : ℕ) : Type 0 where
-  pub work : IsLeft w s
-  pub number : left ≡ length s.cursor
-  pub some : 1 ≤ left
-  pub size : 1 ≤ w.each
-  pub due : 1 ≤ s.count
-  pub places : All (IsScanPlace f head) s.cursor
-  pub few : length f.components ≤ 4
-  pub four : length s.last ≡ 4
-  pub turn : s.turn < 8
 
 -- where it stands after a place, with these last DC values, places and state
 abbrev pub after_place : {S O D : Type 0} → Spot S O D → List ℤ → List Place → At S O D → Spot S O D
@@ -291,7 +243,7 @@ module _ {S O D : Type 0} {f : Frame} {head : ScanHead} {w : Begun S O D} {s : S
   at_its_end {cursor} e some whole l = record { whole = whole; some = (let n = places_after cursor e in omega (arith, n, some)); left = l }
 
   pub goes_on_between : {last : List ℤ} {cursor : List Place} {new later : At S O D} → cursor ≡ drop 1 s.cursor → 1 ≤ left - 1 → IsBetween w (after_place s last cursor new)
-      → Ends w.kind (Some s.turn) new (Ok tt) later → IsGoing f head w (record { last = zeros_4; count = w.each; turn = (s.turn + 1) % 8; cursor = cursor; now = later }) (left - 1)
+      → Ends w.kind (Some s.turn) new (Ok tt) later → IsGoing f head w (record { last = no_dc; count = w.each; turn = (s.turn + 1) % 8; cursor = cursor; now = later }) (left - 1)
   goes_on_between {last} {cursor} {new} {later} e some b ends = record {
     work = next_left w (after_place s last cursor new) b later g.size ends;
     number = sym (places_after cursor e);

@@ -1,13 +1,15 @@
 //! The units of a scan, given one after another to what writes or counts them (T.81, A.2.2 to A.2.4, E.1.4).
-ghost use Rattle.std.specs.Prelude.{◌≡◌, ◌≤◌, ◌<◌, ◌==◌, if◌then◌else◌, true, length, IfSome};
+ghost use Rattle.std.specs.Prelude.{◌≡◌, ◌≤◌, ◌<◌, ◌+◌, ◌==◌, if◌then◌else◌, true, drop, length, IfSome, OnOk};
+ghost use Rattle.jpg_spec.specs.Scan.{Blocks};
 ghost use Rattle.jpg_spec.specs.Geometry.{IsReal};
 ghost use Rattle.jpg_spec.specs.Scan.{part_of as part_in};
 ghost use Rattle.jpg_spec.specs.Segments.{head_components};
 ghost use Rattle.jpg_base.specs.Cursor.{AreIn};
-ghost use Rattle.jpg_coefs.specs.Sinks.{SinkKind, at, block_due, intervals_due, IsNext, TakesUnit, IsOpen, Ends, Begins, IsNextPlace, TakesPlace};
+ghost use Rattle.jpg_coefs.specs.ScanUnits.{AgreeAt, CanGive, GivenScan, GivesUnits, IsUngiven, TakesPlaceOf};
+ghost use Rattle.jpg_coefs.specs.Sinks.{SinkKind, at, block_due, intervals_due, IsNext, TakesUnit, IsOpen, Ends, Begins, IsNextPlace};
 
 use crate::BlockView;
-use jpg_base::{Block, Cursor, Place, ScanHead, ScanPart, WriteFault};
+use jpg_base::{Block, Cursor, Frame, Place, ScanHead, ScanPart, WriteFault};
 
 /// What takes the units of a scan, interval by interval: it writes or counts them. The results go to `out`, and from
 /// there to `desk`. After a fault nothing more is given to it.
@@ -78,13 +80,99 @@ fn put_place<V: BlockView, O, D, S: UnitSink<O, D>>(
 ) -> Result<(), WriteFault>
     requires real { place.real ≡ true → IsReal (V.numbers view.now) place.component place.x place.y }
     requires four { place.component < 4 }
-    requires next { IsNextPlace S.kind (V.blocks view.now) last.old place (at sink.old out.old desk.old) }
-    ensures { TakesPlace S.kind (V.blocks view.now) last.old place (at sink.old out.old desk.old) result last.new (at sink.new out.new desk.new) }
+    requires next { (blocks : Blocks) × AgreeAt blocks (V.blocks view.now) place × IsNextPlace S.kind blocks last.old place (at sink.old out.old desk.old) }
+    ensures { TakesPlaceOf S.kind (V.blocks view.now) last.old place (at sink.old out.old desk.old) result last.new (at sink.new out.new desk.new) }
 {
     let before = last[place.component as usize];
     let block = due(view, place, before);
     last[place.component as usize] = block.get(0);
     sink.unit(place.component, before, &block, out, desk)
+}
+
+/// The units of a scan that are left, while they are given to a sink in one call or in several (T.81, A.2.2 to A.2.4).
+#[derive(Drop)]
+pub struct ScanUnits {
+    // The places that are left.
+    cursor: Cursor,
+    // How many they are.
+    left: u64,
+    // How many units an interval has.
+    each: u64,
+    // How many units of the current interval are left.
+    due: u64,
+    // The number of the restart marker after it.
+    turn: u8,
+    // The last DC value of each component.
+    last: [i16; 4],
+}
+
+impl ScanUnits {
+    /// All units of a scan, with an end of an interval after each `interval` MCUs (0: none). The header names one to four
+    /// components of the frame.
+    #[inline(always)]
+    pub fn new(frame: &Frame, head: &ScanHead, interval: u16) -> ScanUnits
+        requires { AreIn frame.now (head_components head.now) }
+        ensures { IsUngiven frame.now head.now interval result }
+    {
+        frame.checked();
+        let left = frame.scan_units(head);
+        let each = each_interval(u64::from(interval) * u64::from(frame.mcu_units(head)), left);
+        ScanUnits {
+            cursor: Cursor::new(frame, head),
+            left,
+            each,
+            due: each,
+            turn: 0,
+            last: [0; 4],
+        }
+    }
+
+    /// How many units are left.
+    #[inline(always)]
+    pub fn left(&self) -> u64
+        ensures { result ≡ self.now.left }
+    {
+        self.left
+    }
+
+    /// Gives the next `count` units to a sink, of a view that has the blocks of their places, and ends each interval after
+    /// its last one. After the scan's last unit, or a fault, no more may be given.
+    #[inline(always)]
+    pub fn give<V: BlockView, O, D, S: UnitSink<O, D>>(
+        &mut self,
+        view: &V,
+        count: u64,
+        sink: &mut S,
+        out: &mut O,
+        desk: &mut D,
+    ) -> Result<(), WriteFault>
+        requires some { (1 ≤ count) × (count ≤ self.old.left) }
+        requires can { (g : GivenScan S O D) × CanGive S.kind g (V.numbers view.now) (V.blocks view.now) count self.old (at sink.old out.old desk.old) }
+        ensures cursor { OnOk result (self.new.cursor ≡ drop count self.old.cursor) }
+        ensures left { OnOk result (self.new.left + count ≡ self.old.left) }
+        ensures given { GivesUnits S.kind (V.numbers view.now) (V.blocks view.now) count self.old (at sink.old out.old desk.old) result self.new (at sink.new out.new desk.new) }
+    {
+        let mut rest = count;
+        loop {
+            put_place(view, self.cursor.place(), &mut self.last, sink, out, desk)?;
+            self.cursor.step();
+            self.left -= 1;
+            self.due -= 1;
+            if self.left == 0 {
+                return sink.end(None, out, desk);
+            }
+            if self.due == 0 {
+                sink.end(Some(self.turn), out, desk)?;
+                self.due = self.each;
+                self.turn = (self.turn + 1) % 8;
+                self.last = [0; 4];
+            }
+            rest -= 1;
+            if rest == 0 {
+                return Ok(());
+            }
+        }
+    }
 }
 
 /// Gives all units of a scan to a sink, with an end of an interval after each `interval` MCUs (0: none). A padding
@@ -104,27 +192,9 @@ pub fn put_scan<V: BlockView, O, D, S: UnitSink<O, D>>(
 {
     let frame = view.frame();
     frame.checked();
-    let mut cursor = Cursor::new(frame, head);
-    let mut left = frame.scan_units(head);
-    let each = each_interval(u64::from(interval) * u64::from(frame.mcu_units(head)), left);
-    let mut due = each;
-    let mut turn = 0;
-    let mut last = [0i16; 4];
-    loop {
-        put_place(view, cursor.place(), &mut last, sink, out, desk)?;
-        cursor.step();
-        left -= 1;
-        due -= 1;
-        if left == 0 {
-            return sink.end(None, out, desk);
-        }
-        if due == 0 {
-            sink.end(Some(turn), out, desk)?;
-            due = each;
-            turn = (turn + 1) % 8;
-            last = [0i16; 4];
-        }
-    }
+    let mut units = ScanUnits::new(frame, head, interval);
+    let all = units.left();
+    units.give(view, all, sink, out, desk)
 }
 
 // How many units an interval has: all of them for 0.
