@@ -20,3 +20,4 @@ pub mod Takings
 pub mod Tests
 pub mod ShortValue
 pub mod EntryTaken
+pub mod KeptScans

@@ -61,7 +61,7 @@ row_next P f ids cursor k left is row few all = All-from_get_or P (take left cur
 -- WHERE THE PLACES of an MCU row are
 
 -- one row of MCUs has one
-one_row : (f : Frame) → IsFrame f → mcus_down (mcu_row_frame f) ≡ 1
+pub one_row : (f : Frame) → IsFrame f → mcus_down (mcu_row_frame f) ≡ 1
 one_row f k =
     let low = down_low f.components k.factors k.count_low in
     by (length f.components == 1) (v_max f) low

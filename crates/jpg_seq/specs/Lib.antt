@@ -17,3 +17,4 @@ pub mod SoFar
 pub mod Rows
 pub mod RowTaken
 pub mod NewReader
+pub mod Kept
