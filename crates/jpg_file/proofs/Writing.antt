@@ -7,5 +7,6 @@ pub mod SameUnits
 pub mod ScanData
 pub mod ScanHeads
 pub mod ScansDue
+pub mod SoleScan
 pub mod TableSets
 pub mod WrittenText

@@ -1,4 +1,5 @@
 pub mod Restarts
+pub mod SoleScan
 pub mod WriteFile
 pub mod WriteScan
 pub mod WriteTables

@@ -33,4 +33,6 @@ pub use read::segment_state::{SegmentState, SegmentTaken, lacks_table};
 pub use read::step::Step;
 pub use read::strip_head::StripHead;
 pub use read::strip_work::StripWork;
+pub use write::scan::ScanDue;
+pub use write::sole::{SoleScan, sole_scan, write_sole};
 pub use write::{Plan, write_file};

@@ -7,8 +7,9 @@ ghost use Rattle.jpg_file.specs.Write.WriteFile.{CanWriteFile, WritesDue, file_b
 
 mod head;
 pub mod restart;
-mod scan;
+pub mod scan;
 mod sets;
+pub mod sole;
 mod tables;
 
 use crate::write::scan::{Given, write_scan};

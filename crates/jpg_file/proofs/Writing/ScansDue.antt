@@ -1,6 +1,7 @@
 -- What a scan is written with, and its text.
 use Rattle.std.proofs.Common.{◌≡◌, ℕ, List, ◌++◌, sym, ap, ◌∙◌, subst}
 use Rattle.std.specs.List.{All}
+use Rattle.std.proofs.lemmas.List.{append_assoc}
 use Rattle.std.proofs.lemmas.List.Elements.{All-weaker}
 use Rattle.jpg_spec.specs.FrameHeader.{identifiers}
 use Rattle.jpg_spec.specs.Geometry.{Frame, is_progressive}
@@ -38,9 +39,11 @@ module _ (plan : Plan) (f : Frame) (blocks : Blocks) (e : Entry) (due : ScanDue)
   pub can_write : CanWriteScan plan f blocks e → CanWriteDue plan.out.frame f blocks due set
   can_write can =
       record {
-        head = subst (IsHeadOf plan.out.frame) (sym is.head) (head_is_of plan f blocks e can);
-        needed = places;
-        tables = given_own set tables has;
+        start = record {
+          head = subst (IsHeadOf plan.out.frame) (sym is.head) (head_is_of plan f blocks e can);
+          needed = places;
+          tables = given_own set tables has;
+        };
         sequential = λ s. subst (λ h. IsSeqScan f h set) (sym is.head) (seq_scan plan f blocks e can set tables has (can.kind ∙ s));
         progressive = λ p. subst (IsProgScan f) (sym is.head) (prog_scan plan f blocks e can (can.kind ∙ p));
         writable = can.writable;
@@ -61,7 +64,9 @@ module _ (plan : Plan) (f : Frame) (blocks : Blocks) (e : Entry) (due : ScanDue)
       let file = plan.out.frame in
       let ids = identifiers file.components in
       let text : (ℕ → ℕ → HuffmanTable) → ScanHead → ℕ → List (ℕ × ℕ) → List ℕ → List ℕ = λ tables h n ns d. tables_text w.tables tables ns ++ (head_due ids h w.interval n ++ d) in
-      ap (λ t. t ++ (head_due ids due.head w.interval due.interval ++ scan_data (tables_in set) due.head (scan_elements f due.head due.interval blocks))) (text_same w.tables (tables_in set) tables due.needed.items same)
+      let coded = scan_data (tables_in set) due.head (scan_elements f due.head due.interval blocks) in
+      append_assoc (tables_text w.tables (tables_in set) due.needed.items) (head_due ids due.head w.interval due.interval) coded
+      ∙ ap (λ t. t ++ (head_due ids due.head w.interval due.interval ++ coded)) (text_same w.tables (tables_in set) tables due.needed.items same)
       ∙ ap (text tables due.head due.interval due.needed.items) (data_same (tables_in set) tables due.head (scan_elements f due.head due.interval blocks) slots (set_same set tables has))
       ∙ by_entry (λ h n ns. (let es = scan_elements f h n blocks in text (scan_tables plan.huffman file h es) h n ns (scan_data (scan_tables plan.huffman file h es) h es)))
 

@@ -1,11 +1,11 @@
 -- Sets that have the tables of a scan.
-use Rattle.std.proofs.Common.{◌≡◌, ℕ, zero, suc, ◌<◌, Bool, cond, not, ◌==◌, ◌&&◌, List, Option, Some, sym, ap, ◌∙◌, arith, lit<, refl, false}
+use Rattle.std.proofs.Common.{◌≡◌, ℕ, zero, suc, ◌<◌, Bool, cond, List, Option, Some, sym, ap, ◌∙◌, arith, lit<, refl, false}
 use Rattle.std.specs.Prelude.{slice_set, unwrap_or}
 use Rattle.std.specs.Option.{option_map}
-use Rattle.jpg_spec.specs.Geometry.{Frame, is_progressive}
+use Rattle.jpg_spec.specs.Geometry.{Frame}
 use Rattle.jpg_spec.specs.Segments.{HuffmanTable, ScanHead}
 use Rattle.jpg_spec.specs.declared.frame.ScanPart.{ScanPart}
-use Rattle.jpg_spec_write.specs.ScanText.{Owned, is_plain, own_table, scan_tables, symbol_counts, symbols_used, typical_table}
+use Rattle.jpg_spec_write.specs.ScanText.{Owned, own_table, scan_tables, symbol_counts, symbols_used, typical_table}
 use Rattle.jpg_spec_write.specs.declared.huffman.Huffman.{Huffman}
 use Rattle.jpg_spec_write.specs.declared.huffman.Huffman.TheVariants.{Plain, Fitted}
 use Rattle.jpg_huff.specs.declared.table.Table.{Table}
@@ -15,7 +15,7 @@ use Rattle.jpg_huff.specs.Tables.{table_of}
 use Rattle.jpg_seq.specs.NewReader.{HasTables}
 use Rattle.jpg_coefs.specs.MarkSinks.{HasSlots}
 use Rattle.jpg_prog_write.specs.Written.{no_codes, tables_in}
-use Rattle.jpg_file.specs.Write.WriteTables.{GivesTables, IsInSlot, class_tables, own_tables}
+use Rattle.jpg_file.specs.Write.WriteTables.{GivesTables, IsInSlot, class_tables, has_typical, own_tables}
 
 -- two tables put into the first two slots
 pub first_slot : (s0 s1 s2 : List (Option Table)) (a b : Table) (table : HuffmanTable) → s0 ≡ no_tables → s1 ≡ slice_set s0 0 (Some a) → s2 ≡ slice_set s1 1 (Some b) → table_of a ≡ table → IsInSlot s2 0 table
@@ -57,7 +57,7 @@ has_tables set tables p has low =
 abbrev pub tables_by : Bool → Huffman → ScanHead → List (List Owned) → ℕ → ℕ → HuffmanTable
 tables_by is_typical huffman head elements class slot = cond is_typical (typical_table class slot) (own_table huffman head elements class slot)
 
-pub kind_given : (huffman : Huffman) (file : Frame) (head : ScanHead) (elements : List (List Owned)) (set : TableSet) (is_typical : Bool) → (not (is_progressive file.process) && (file.precision == 8 && is_plain huffman)) ≡ is_typical
+pub kind_given : (huffman : Huffman) (file : Frame) (head : ScanHead) (elements : List (List Owned)) (set : TableSet) (is_typical : Bool) → has_typical huffman file ≡ is_typical
     → GivesTables set (tables_by is_typical huffman head elements) → GivesTables set (scan_tables huffman file head elements)
 kind_given huffman file head elements set is_typical e has class slot hc hs =
     let at = has class slot hc hs in

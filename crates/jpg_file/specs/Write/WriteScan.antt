@@ -123,23 +123,29 @@ pub record IsDue (plan : Plan) (e : Entry) (due : ScanDue) : Type 0 where
 abbrev pub tables_due : Plan → Frame → Blocks → ScanDue → ℕ → ℕ → HuffmanTable
 tables_due plan f blocks due = scan_tables plan.huffman plan.out.frame due.head (scan_elements f due.head due.interval blocks)
 
--- it can be written with these tables
-pub record CanWriteDue (file f : Frame) (blocks : Blocks) (due : ScanDue) (set : TableSet) : Type 0 where
+-- its tables and its header can be written
+pub record CanStart (file : Frame) (due : ScanDue) (set : TableSet) : Type 0 where
   pub head : IsHeadOf file due.head
   pub needed : All IsTablePlace due.needed.items
   pub tables : GivesTables set (tables_in set)
+
+-- it can be written with these tables
+pub record CanWriteDue (file f : Frame) (blocks : Blocks) (due : ScanDue) (set : TableSet) : Type 0 where
+  pub start : CanStart file due set
   pub sequential : is_progressive file.process ≡ false → IsSeqScan f due.head set
   pub progressive : is_progressive file.process ≡ true → IsProgScan f due.head
   pub writable : HasBlocksIn f blocks
 
--- its data, its text after what was written so far, and what was written with it
+-- what stands before its data, after what was written so far; its data, its text, and what was written with it
+abbrev pub start_text : Frame → Written → ScanDue → TableSet → List ℕ
+start_text file w due set =
+    tables_text w.tables (tables_in set) due.needed.items ++ head_due (identifiers file.components) due.head w.interval due.interval
+
 abbrev pub due_data : Frame → Blocks → ScanDue → TableSet → List ℕ
 due_data f blocks due set = written_data f due.head set due.interval blocks
 
 abbrev pub due_text : Frame → Frame → Blocks → Written → ScanDue → TableSet → List ℕ
-due_text file f blocks w due set =
-    tables_text w.tables (tables_in set) due.needed.items
-    ++ (head_due (identifiers file.components) due.head w.interval due.interval ++ due_data f blocks due set)
+due_text file f blocks w due set = start_text file w due set ++ due_data f blocks due set
 
 abbrev pub due_after : Frame → Frame → Blocks → Given → ScanDue → TableSet → List ℕ
 due_after file f blocks given due set = due_text file f blocks (so_far given) due set

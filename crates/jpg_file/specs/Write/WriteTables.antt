@@ -1,10 +1,12 @@
 -- The tables of scans that are written: sets that have them, and the last ones of each class and slot (T.81, B.2.4.2).
-use Rattle.std.specs.Prelude.{◌≡◌, ℕ, ◌<◌, ◌≤◌, ◌==◌, if◌then◌else◌, List, length, Option, Some, None}
+use Rattle.std.specs.Prelude.{◌≡◌, ℕ, ◌<◌, ◌≤◌, ◌==◌, ◌&&◌, not, Bool, if◌then◌else◌, List, length, Option, Some, None}
 use Rattle.std.specs.Option.{option_map}
 use Rattle.jpg_spec.specs.FlatTable.{flat_table}
+use Rattle.jpg_spec.specs.Geometry.{Frame, is_progressive}
 use Rattle.jpg_spec.specs.Scan.{TablesInForce}
 use Rattle.jpg_spec.specs.Segments.{HuffmanTable}
 use Rattle.jpg_spec_fit.specs.Fitted.{fitted}
+use Rattle.jpg_spec_write.specs.ScanText.{is_plain}
 use Rattle.jpg_spec_write.specs.declared.huffman.Huffman.{Huffman}
 use Rattle.jpg_spec_write.specs.declared.huffman.Huffman.TheVariants.{Plain, Fitted}
 use Rattle.jpg_huff.specs.declared.table.Table.{Table}
@@ -31,6 +33,10 @@ pub record IsEmptySet (set : TableSet) : Type 0 where
 -- slots 0 and 1 of both classes have these tables
 abbrev pub GivesTables : TableSet → (ℕ → ℕ → HuffmanTable) → Type 0
 GivesTables set tables = (class slot : ℕ) → class < 2 → slot < 2 → IsInSlot (class_tables set class) slot (tables class slot)
+
+-- typical tables are written: plain ones are asked for, in a sequential file of precision 8
+abbrev pub has_typical : Huffman → Frame → Bool
+has_typical huffman file = not (is_progressive file.process) && (file.precision == 8 && is_plain huffman)
 
 -- by slots 0 and 1 and class, the symbols that are used are these
 pub record UsesSymbols (counts : SymbolCounts) (symbols : ℕ → ℕ → List ℕ) : Type 0 where

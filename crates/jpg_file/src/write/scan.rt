@@ -5,7 +5,7 @@ ghost use Rattle.jpg_spec.specs.Scan.{Blocks};
 ghost use Rattle.jpg_spec_write.specs.FileText.{nothing_written};
 ghost use Rattle.jpg_huff.specs.BitOut.{CanSend, Sends};
 ghost use Rattle.jpg_file.specs.Write.WriteTables.{HasFour};
-ghost use Rattle.jpg_file.specs.Write.WriteScan.{CanWriteDue, CanWriteScan, IsDue, due_after, due_data, due_written, scan_bytes, so_far, written_after};
+ghost use Rattle.jpg_file.specs.Write.WriteScan.{CanStart, CanWriteDue, CanWriteScan, IsDue, due_after, due_data, due_written, scan_bytes, so_far, start_text, written_after};
 
 use crate::write::Plan;
 use crate::write::head::{Needed, head_of, needed_of, write_head};
@@ -77,8 +77,8 @@ pub fn write_scan<V: BlockView, D: Desk>(
     write_parts(&plan.out.frame, &due, &tables, given, view, out, desk)
 }
 
-// What the scan is written with beside its tables.
-fn due_of(plan: &Plan, entry: &Entry) -> ScanDue
+/// What the scan of an entry is written with beside its tables.
+pub fn due_of(plan: &Plan, entry: &Entry) -> ScanDue
     requires { (f : FrameOf) × (blocks : Blocks) × CanWriteScan plan.now f blocks entry.now }
     ensures { IsDue plan.now entry.now result }
 {
@@ -91,6 +91,29 @@ fn due_of(plan: &Plan, entry: &Entry) -> ScanDue
         interval,
         needed,
     }
+}
+
+/// Writes what stands before the data of a scan: a DHT segment for each table that it needs and that isn't the last one
+/// of its class and slot, a DRI segment if its restart interval isn't the one before, and its header.
+pub fn write_start<D: Desk>(
+    frame: &Frame,
+    due: &ScanDue,
+    tables: &TableSet,
+    given: &mut Given,
+    out: &mut BitOut,
+    desk: &mut D,
+) -> Result<(), WriteFault>
+    requires can { CanSend (D.state desk.old) out.old }
+    requires four { HasFour given.old.tables }
+    requires due { CanStart frame.now due.now tables.now }
+    ensures four { HasFour given.new.tables }
+    ensures sends { Sends (D.state desk.old) out.old (start_text frame.now (so_far given.old) due.now tables.now) result out.new (D.state desk.new) }
+    ensures given { (u : Unit {0}) → result ≡ Ok u → so_far given.new ≡ due_written (so_far given.old) due.now tables.now }
+{
+    let last = given.interval;
+    given.interval = due.interval;
+    write_due(due.needed.as_slice(), tables, &mut given.tables, out, desk)?;
+    write_head(frame, &due.head, last, due.interval, out, desk)
 }
 
 // Writes the tables, the header and the data.
@@ -110,9 +133,7 @@ fn write_parts<V: BlockView, D: Desk>(
     ensures sends { Sends (D.state desk.old) out.old (due_after frame.now (V.numbers view.now) (V.blocks view.now) given.old due.now tables.now) result out.new (D.state desk.new) }
     ensures given { (u : Unit {0}) → result ≡ Ok u → so_far given.new ≡ due_written (so_far given.old) due.now tables.now }
 {
-    write_due(due.needed.as_slice(), tables, &mut given.tables, out, desk)?;
-    write_head(frame, &due.head, given.interval, due.interval, out, desk)?;
-    given.interval = due.interval;
+    write_start(frame, due, tables, given, out, desk)?;
     write_data(frame, due, tables, view, out, desk)
 }
 

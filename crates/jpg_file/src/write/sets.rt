@@ -1,6 +1,6 @@
 //! The tables of a scan that is written: typical ones (T.81, K.3), those of codes of one length (Annex C), or those
 //! made for how often each symbol is sent (K.2).
-ghost use Rattle.std.specs.Prelude.{◌≡◌, ◌==◌, ◌&&◌, not, true, ℕ, List, All};
+ghost use Rattle.std.specs.Prelude.{◌≡◌, true, ℕ, List, All};
 ghost use Rattle.jpg_spec.specs.FlatTable.{flat_table};
 ghost use Rattle.jpg_spec.specs.Geometry.{is_progressive};
 ghost use Rattle.jpg_spec.specs.Segments.{head_components};
@@ -12,7 +12,7 @@ ghost use Rattle.jpg_spec_write.specs.WrittenFile.{HasBlocksIn};
 ghost use Rattle.jpg_huff.specs.Tables.{table_of};
 ghost use Rattle.jpg_coefs.specs.MarkSinks.{HasSlots};
 ghost use Rattle.jpg_prog_write.specs.Written.{IsProgScan};
-ghost use Rattle.jpg_file.specs.Write.WriteTables.{AreFew, HasCounts, UsesSymbols, GivesTables, HasFourTables, IsEmptySet, own_tables};
+ghost use Rattle.jpg_file.specs.Write.WriteTables.{AreFew, HasCounts, UsesSymbols, GivesTables, HasFourTables, IsEmptySet, has_typical, own_tables};
 
 use jpg_base::{Frame, ScanHead};
 use jpg_coefs::BlockView;
@@ -60,11 +60,20 @@ fn is_plain(huffman: Huffman) -> bool
     }
 }
 
-// Whether a file has the typical tables.
-fn has_typical(huffman: Huffman, frame: &Frame) -> bool
-    ensures { result ≡ (not (is_progressive frame.now.process) && (frame.now.precision == 8 && is_plain huffman)) }
+/// Whether a file has the typical tables.
+pub fn has_typical(huffman: Huffman, frame: &Frame) -> bool
+    ensures { result ≡ has_typical huffman frame.now }
 {
     !frame.is_progressive() && (frame.precision() == 8 && is_plain(huffman))
+}
+
+/// The typical tables, Tables K.3 and K.5 in slot 0, K.4 and K.6 in slot 1 (T.81, K.3).
+pub fn typical_set() -> TableSet
+    ensures { GivesTables result typical_table }
+{
+    let mut set = TableSet::new();
+    put_typical(&mut set);
+    set
 }
 
 // How often the scan writes each symbol.

@@ -27,7 +27,7 @@ pub returns-then-segment-clause-none : goal.returns-then-segment-clause-none
 returns-then-segment-clause-none c = λ zero.
     let s = c.in-Some.segment in
     one_left c.args.self.now c.args.bytes.now s.code s.contents.now s.length c.in-Some.ensures.spelled (λ going may.
-        elim c.then-segment.branch [ then-segment-via-then-segment w ↦ inl w.if-segment.true | then-segment-via-else-segment+then-not-allows w ↦ absurd (clash w.allows.result (w.allows.ensures.always going may) w.if-not-allows.true) ])
+    elim c.then-segment.branch [ then-segment-via-then-segment w ↦ inl w.if-segment.true | then-segment-via-else-segment+then-not-allows w ↦ absurd (clash w.allows.result (w.allows.ensures.always going may) w.if-not-allows.true) ])
 
 pub returns-in-Fault-clause-none : goal.returns-in-Fault-clause-none
 returns-in-Fault-clause-none c = λ zero.
@@ -42,5 +42,5 @@ pub returns-in-NoMemory-clause-none : goal.returns-in-NoMemory-clause-none
 returns-in-NoMemory-clause-none c = λ zero.
     let s = c.in-Some.segment in
     let keep = c.in-NoMemory.ensures.asks refl in
-    one_left (record c.args.self.now { held = c.take.new.self }) c.args.bytes.now s.code s.contents.now s.length c.in-Some.ensures.spelled 
-        (λ going may. inr (inr (ap (λ b. is_kept_if b s.code s.contents.now) c.in-NoMemory.ensures.scanned ∙ keep.0, ap (λ k. is_wanted k (s.code, s.contents.now)) c.in-NoMemory.ensures.keeping ∙ keep.1)))
+    one_left (record c.args.self.now { held = c.take.new.self }) c.args.bytes.now s.code s.contents.now s.length c.in-Some.ensures.spelled
+    (λ going may. inr (inr (ap (λ b. is_kept_if b s.code s.contents.now) c.in-NoMemory.ensures.scanned ∙ keep.0, ap (λ k. is_wanted k (s.code, s.contents.now)) c.in-NoMemory.ensures.keeping ∙ keep.1)))
