@@ -26,7 +26,9 @@ use Rattle.jpg_spec_write.specs.WrittenFile.{HasBlocksIn}
 use Rattle.jpg_color.specs.EncodedParts.{AreViewParts, ViewParts, viewed_meaning}
 use Rattle.jpg_color.specs.Encode.{AsksFor, CanSample, fault_due, encoded_frame, encoded_parts, image_of, picture_due, encoding_request, scans_asked}
 use Rattle.jpg_color.specs.EncodeHead.{colour_asked, table_asked, tables_asked}
+use Rattle.jpg_color.specs.ImageHead.{IsHeadOf, head_parts}
 use Rattle.jpg_color.specs.declared.encode.Encoding.{Encoding as Asked}
+use Rattle.jpg_color.specs.declared.encode.image_head.ImageHead.{ImageHead}
 use Rattle.jpg_color.proofs.EncodedHead.{colour_is, density_again, frame_component, header, same_encoded}
 use Rattle.jpg_color.proofs.EncodeSources.{component_there, count_due}
 
@@ -41,6 +43,19 @@ pub record IsPutTogether (info : ImageInfo) (a : Asked) (p : ViewParts) : Type 0
   pub quants : p.quants ≡ tables_asked a
   pub kept : p.kept ≡ header info
   pub jfif : p.jfif ≡ density_of info
+
+-- by the head of its file
+pub put_together : (info : ImageInfo) (a : Asked) (h : ImageHead) (blocks : Blocks) → CanSample info a → fault_due info a ≡ None → IsFrame (encoded_frame info a) → IsHeadOf info a h → IsPutTogether info a (head_parts h blocks)
+put_together info a h blocks can none is head = record {
+  can = can;
+  none = none;
+  frame = head.frame;
+  checked = subst IsFrame (sym head.frame) is;
+  colour = head.colour;
+  quants = head.quants;
+  kept = head.kept;
+  jfif = head.jfif;
+}
 
 -- TABLES
 

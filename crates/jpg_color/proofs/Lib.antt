@@ -48,3 +48,5 @@ pub mod StripPlanes
 pub mod StripRows
 pub mod Sampling
 pub mod EncodedViews
+pub mod RowsEncoded
+pub mod HeadsMade

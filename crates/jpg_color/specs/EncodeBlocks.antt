@@ -49,14 +49,14 @@ abbrev pub IsRowOf : Frame → Image → ℕ → ℕ → List (List ℕ) → Typ
 IsRowOf f image i y row =
     (x : ℕ) → x < blocks_across f (component_at f i) → slice_index_or row x [] ≡ samples_of_block (lower_plane f image i) x y
 
--- the rows of component i are the first ones, this many
-pub record AreRowsOf (f : Frame) (image : Image) (i count : ℕ) (rows : List (List (List ℕ))) : Type 0 where
+-- the rows of component i are this many, from one on
+pub record AreRowsFrom (f : Frame) (image : Image) (i first count : ℕ) (rows : List (List (List ℕ))) : Type 0 where
   pub long : length rows ≡ count
-  pub each : (y : ℕ) → y < count → IsRowOf f image i y (slice_index_or rows y [])
+  pub each : (y : ℕ) → y < count → IsRowOf f image i (first + y) (slice_index_or rows y [])
 
--- of all components, in m rows of MCUs
-abbrev pub ArePlanesOf : Frame → Image → ℕ → Planes → Type 0
-ArePlanesOf f image m p = (i : ℕ) → i < length f.components → AreRowsOf f image i ((component_at f i).v * m) (plane_at p i)
+-- of all components, in m rows of MCUs after the first ones
+abbrev pub ArePlanesFrom : Frame → Image → ℕ → ℕ → Planes → Type 0
+ArePlanesFrom f image first m p = (i : ℕ) → i < length f.components → AreRowsFrom f image i ((component_at f i).v * first) ((component_at f i).v * m) (plane_at p i)
 
 -- STRIPS: the rows of an image that a row of MCUs is made from, as an image
 

@@ -1,10 +1,10 @@
 -- SAMPLES OF AN IMAGE taken in pieces: what was made of those that were given, for all images that begin with them.
-use Rattle.std.specs.Prelude.{◌≡◌, ℕ, ◌+◌, ◌*◌, List, [], ◌++◌, length, drop, Some, Result, Ok, Err}
+use Rattle.std.specs.Prelude.{◌≡◌, ℕ, ◌+◌, ◌-◌, ◌*◌, ◌≤◌, List, [], ◌++◌, length, drop, Some, Result, Ok, Err}
 use Rattle.jpg_spec_encode.specs.Encoded.{Encoding, sampling_fault}
 use Rattle.jpg_spec_image.specs.Images.{sample_count}
 use Rattle.jpg_spec_image.specs.declared.image.ImageInfo.{ImageInfo}
 use Rattle.jpg_color.specs.Encode.{AsksFor, encoded_frame, image_of}
-use Rattle.jpg_color.specs.EncodeBlocks.{AppendsStrip, ArePlanesOf}
+use Rattle.jpg_color.specs.EncodeBlocks.{AppendsStrip, ArePlanesFrom, plane_at}
 use Rattle.jpg_color.specs.SamplerState.{strip_numbers, strip_room}
 use Rattle.jpg_color.specs.declared.encode.Encoding.{Encoding as Asked}
 use Rattle.jpg_color.specs.declared.encode.EncodeStop.{EncodeStop}
@@ -24,17 +24,17 @@ pub record Completes (info : ImageInfo) (given samples : List ℕ) : Type 0 wher
   pub cut : given ++ rest ≡ samples
   pub all : length samples ≡ sample_count info
 
--- WHAT WAS GIVEN of an image of these numbers: complete rows of MCUs of it are in the planes, for all images that begin
--- with these samples, and the others are pending.
-pub record HasGiven (info : ImageInfo) (a : Asked) (given waiting : List ℕ) (p : Planes) (made left : ℕ) : Type 0 where
+-- WHAT WAS GIVEN of an image of these numbers: complete rows of MCUs of it, but for those that were dropped, are in the
+-- planes, for all images that begin with these samples, and the others are pending.
+pub record HasGiven (info : ImageInfo) (a : Asked) (given waiting : List ℕ) (p : Planes) (dropped made left : ℕ) : Type 0 where
   pub count : length given + left ≡ sample_count info
   pub pending : waiting ≡ drop (made * strip_room info (encoded_frame info a)) given
-  pub planes : (samples : List ℕ) → Completes info given samples → ArePlanesOf (encoded_frame info a) (image_of info samples) made p
+  pub planes : (samples : List ℕ) → Completes info given samples → ArePlanesFrom (encoded_frame info a) (image_of info samples) dropped (made - dropped) p
 
 pub record HasSampled (info : ImageInfo) (a : Asked) (given : List ℕ) (s : Sampler) : Type 0 where
   pub numbers : s.info ≡ info
   pub asked : s.encoding ≡ a
-  pub has : HasGiven info a given s.pending s.planes s.made s.left
+  pub has : HasGiven info a given s.pending s.planes s.dropped s.made s.left
 
 -- the next row of MCUs was made of all that was pending
 pub record MakesRow (old new : Sampler) : Type 0 where
@@ -43,7 +43,25 @@ pub record MakesRow (old new : Sampler) : Type 0 where
   pub left : new.left ≡ 0
   pub pending : new.pending ≡ []
   pub made : new.made ≡ old.made + 1
+  pub dropped : new.dropped ≡ old.dropped
   pub planes : AppendsStrip old.frame (image_of (strip_numbers old.info old.frame old.made) old.pending) old.planes new.planes
+
+-- None was made, or one.
+pub record MakesOneRow (old new : Sampler) : Type 0 where
+  pub dropped : new.dropped ≡ old.dropped
+  pub some : old.made ≤ new.made
+  pub one : new.made ≤ old.made + 1
+
+-- The rows of MCUs that are there are dropped.
+pub record DropsRows (old new : Sampler) : Type 0 where
+  pub numbers : new.info ≡ old.info
+  pub asked : new.encoding ≡ old.encoding
+  pub frame : new.frame ≡ old.frame
+  pub pending : new.pending ≡ old.pending
+  pub made : new.made ≡ old.made
+  pub left : new.left ≡ old.left
+  pub dropped : new.dropped ≡ old.made
+  pub none : (i : ℕ) → plane_at new.planes i ≡ []
 
 -- more samples were given
 abbrev pub AddsSamples : Sampler → List ℕ → Sampler → Type 0

@@ -17,3 +17,6 @@ pub mod EncodedParts
 pub mod SamplerState
 pub mod EncodeView
 pub mod EncodeSampling
+pub mod EncodeRows
+pub mod ImageEncoder
+pub mod ImageHead

@@ -1,7 +1,7 @@
 -- The facts that hold of each sampler of an image.
 use Rattle.std.specs.Prelude.{◌≡◌, ℕ, ◌+◌, ◌*◌, ◌≤◌, ◌<◌, ◌-◌, min, List, length, None}
 use Rattle.jpg_spec.specs.FrameHeader.{IsFrame}
-use Rattle.jpg_spec.specs.Geometry.{Frame, v_max}
+use Rattle.jpg_spec.specs.Geometry.{Frame, mcus_down, v_max}
 use Rattle.jpg_spec_image.specs.declared.image.ImageInfo.{ImageInfo}
 use Rattle.jpg_color.specs.ColourRows.{numbers_of_pixel}
 use Rattle.jpg_color.specs.Encode.{CanSample, encoded_frame, fault_due}
@@ -25,12 +25,15 @@ pub record IsWhole (info : ImageInfo) (f : Frame) (pending : List ℕ) (made : �
   pub more : 8 * v_max f * made < info.height
   pub all : length pending ≡ (strip_numbers info f made).height * row_length info
 
--- THE FACTS that hold of a sampler, whatever it was given: with pending samples and rows of MCUs, and samples left
-pub record KeepsSampler (info : ImageInfo) (a : Asked) (f : Frame) (pending : List ℕ) (p : Planes) (made left : ℕ) : Type 0 where
+-- THE FACTS that hold of a sampler, whatever it was given: with pending samples, rows of MCUs but for those that were
+-- dropped, and samples left
+pub record KeepsSampler (info : ImageInfo) (a : Asked) (f : Frame) (pending : List ℕ) (p : Planes) (dropped made left : ℕ) : Type 0 where
   pub can : CanSample info a
   pub frame : f ≡ encoded_frame info a
   pub none : fault_due info a ≡ None
   pub checked : IsFrame f
-  pub planes : HasPlanes f made p
+  pub low : dropped ≤ made
+  pub high : made ≤ mcus_down f
+  pub planes : HasPlanes f (made - dropped) p
   pub short : 1 ≤ left → length pending < strip_room info f
   pub count : 1 ≤ left → made * strip_room info f + length pending + left ≡ info.height * row_length info

@@ -91,7 +91,7 @@ mean_low across down x sum h =
     by false true ha hb = (let l = hb refl in omega (arith, l))
     by false false ha hb = nearest_low sum (across * down) (let e : 255 * across * down ≡ 255 * (across * down) = grind arith in omega (arith, e, h))
 
-plane_low : (H : Meaning) (image : Image) (i x y : ℕ) → AreSamples image.samples → component_plane H image i x y < 256
+pub plane_low : (H : Meaning) (image : Image) (i x y : ℕ) → AreSamples image.samples → component_plane H image i x y < 256
 plane_low H image i x y all =
     let across : ℕ = most_across H / (component_of H i).h in
     let down : ℕ = most_down H / (component_of H i).v in
@@ -106,7 +106,7 @@ pub all_flat : {X Y : Type 0} (P : Y → Type 0) (f : X → List Y) (xs : List X
 all_flat P f [] h = All-nil P
 all_flat P f (x ∷ xs) h = All-append P (f x) (flat_map f xs) (h x) (all_flat P f xs h)
 
-block_samples_low : (plane : ℕ → ℕ → ℕ) (x y : ℕ) → ((u v : ℕ) → plane u v < 256) → AreSamples (samples_of_block plane x y)
+pub block_samples_low : (plane : ℕ → ℕ → ℕ) (x y : ℕ) → ((u v : ℕ) → plane u v < 256) → AreSamples (samples_of_block plane x y)
 block_samples_low plane x y low =
     all_flat (λ s. s < 256) (λ v. map (λ u. plane (8 * x + u) (8 * y + v)) (below 8)) (below 8)
     (λ v. all_map (λ s. s < 256) (λ u. plane (8 * x + u) (8 * y + v)) (below 8) (λ u. low (8 * x + u) (8 * y + v)))

@@ -1,12 +1,14 @@
 //! The samples of an image taken as they come, and made the planes of its components (T.81, A.1.1, A.2).
-ghost use Rattle.std.specs.Prelude.{◌≡◌, ◌+◌, ◌*◌, ◌≤◌, ◌<◌, ◌==◌, ◌||◌, ◌&&◌, ◌-◌, [], None, OnErr, OnOk, IfOk, length, min, take};
+ghost use Rattle.std.specs.Prelude.{◌≡◌, ◌+◌, ◌*◌, ◌≤◌, ◌<◌, ◌==◌, ◌||◌, ◌&&◌, ◌-◌, [], None, OnErr, OnOk, IfOk, length, min, nat_lt, take};
 ghost use Rattle.jpg_spec.specs.Geometry.{mcus_down, v_max};
 ghost use Rattle.jpg_spec.specs.Segments.{AreQuantisers};
 ghost use Rattle.jpg_color.specs.EncodeHead.{table_asked};
 ghost use Rattle.jpg_color.specs.Encode.{CanSample, encoded_frame, fault_due};
+ghost use Rattle.jpg_color.specs.ImageHead.{IsHeadOf};
 ghost use Rattle.jpg_color.specs.SamplerState.{IsWhole, KeepsSampler, row_length, strip_numbers, strip_room};
 
 use crate::encode::head::{colour_of, density_of, frame_of, kept_of, quants_of, table_of};
+use crate::encode::image_head::ImageHead;
 use crate::encode::rows::numbers;
 use crate::encode::strips::{Planes, Strip, Windows, put_strip};
 use crate::encode::view::EncodedImage;
@@ -38,14 +40,16 @@ pub struct Sampler {
     planes: Planes,
     // How many MCU rows were made.
     made: u32,
+    // How many of them were dropped again.
+    dropped: u32,
     // How many samples of the image are still to come.
     left: usize,
-    pub ghost keeps: { KeepsSampler info encoding frame pending planes made left },
+    pub ghost keeps: { KeepsSampler info encoding frame pending planes dropped made left },
 }
 
 impl Sampler {
     ghost use Rattle.jpg_spec_image.specs.Images.{sample_count};
-    ghost use Rattle.jpg_color.specs.EncodeSampling.{AddsSamples, BeginsSampling, EncodesSampled, HasSampled, MakesRow, samples_left};
+    ghost use Rattle.jpg_color.specs.EncodeSampling.{AddsSamples, BeginsSampling, DropsRows, EncodesSampled, HasSampled, MakesOneRow, MakesRow, samples_left};
 
     /// A sampler of an image with these numbers, encoded like this, that was given no samples. Returns
     /// FractionalFactors with the first component whose ratio to the greatest factors isn't an integer, and then
@@ -80,6 +84,7 @@ impl Sampler {
             windows: Windows::new(alloc),
             planes: no_planes(alloc),
             made: 0,
+            dropped: 0,
             left: info.height as usize * row_length(&info),
         }
     }
@@ -107,14 +112,15 @@ impl Sampler {
         Ok(())
     }
 
-    // Takes the samples, or those up to the end of an MCU row.
-    fn take_some(&mut self, samples: &[u8]) -> Result<usize, NoMemory>
+    /// Takes the samples, or those up to the end of an MCU row. Returns how many.
+    pub(crate) fn take_some(&mut self, samples: &[u8]) -> Result<usize, NoMemory>
         requires some { 1 ≤ length samples.now }
         requires most { length samples.now ≤ samples_left self.old }
         ensures some { IfOk result (λ n. (1 ≤ n) × (n ≤ length samples.now)) }
         ensures all { IfOk result (λ n. n ≡ min (length samples.now) (strip_room self.old.info self.old.frame - length self.old.pending)) }
         ensures adds { IfOk result (λ n. AddsSamples self.old (take n samples.now) self.new) }
         ensures left { IfOk result (λ n. samples_left self.new + n ≡ samples_left self.old) }
+        ensures rows { OnOk result (MakesOneRow self.old self.new) }
         ensures over { OnErr result (samples_left self.new ≡ 0) }
     {
         let room = strip_room(&self.info, &self.frame);
@@ -155,26 +161,84 @@ impl Sampler {
         Ok(())
     }
 
-    /// The encoded image. Returns NoMemory too if samples are missing, as after NoMemory of `feed`.
-    pub fn finish(self) -> Result<EncodedImage, NoMemory>
-        ensures { IfOk result (EncodesSampled self) }
+    /// The frame of the picture.
+    pub fn frame(&self) -> &Frame
+        ensures { result.now ≡ self.now.frame }
     {
-        if !is_all(self.left, self.made, &self.frame) {
-            return Err(NoMemory);
-        }
+        &self.frame
+    }
+
+    /// The head of its file.
+    pub fn head(&self) -> Result<ImageHead, NoMemory>
+        ensures { IfOk result (IsHeadOf self.now.info self.now.encoding) }
+    {
         let jfif = density_of(&self.info);
         let kept = kept_of(self.alloc, &jfif)?;
         self.frame.checked();
-        let colour = colour_of(&self.encoding);
-        let quants = quants_of(&self.encoding);
+        Ok(ImageHead {
+            frame: self.frame.copy(),
+            colour: colour_of(&self.encoding),
+            quants: quants_of(&self.encoding),
+            kept,
+            jfif,
+        })
+    }
+
+    /// The quantisers of component i, prepared.
+    pub(crate) fn divisors(&self, i: usize) -> Divisors
+        requires { i < 2 }
+        ensures { result ≡ table_asked self.now.encoding i }
+    {
+        divisors_of(&self.encoding, i)
+    }
+
+    /// Whether MCU rows were made that aren't dropped.
+    pub(crate) fn has_rows(&self) -> bool
+        ensures { result ≡ nat_lt self.now.dropped self.now.made }
+    {
+        self.made > self.dropped
+    }
+
+    /// The planes of these MCU rows.
+    pub(crate) fn planes(&self) -> &Planes
+        ensures { result.now ≡ self.now.planes }
+    {
+        &self.planes
+    }
+
+    /// How many MCU rows before them were dropped.
+    pub(crate) fn dropped(&self) -> u32
+        ensures { result ≡ self.now.dropped }
+    {
+        self.dropped
+    }
+
+    /// Drops them.
+    pub(crate) fn drop_rows(&mut self)
+        ensures { DropsRows self.old self.new }
+    {
+        self.planes.ys.clear();
+        self.planes.cbs.clear();
+        self.planes.crs.clear();
+        self.dropped = self.made;
+    }
+
+    /// The encoded image. Returns NoMemory too if samples are missing, as after NoMemory of `feed`, or MCU rows.
+    pub fn finish(self) -> Result<EncodedImage, NoMemory>
+        ensures { IfOk result (EncodesSampled self) }
+    {
+        if !is_all(self.left, self.made, self.dropped, &self.frame) {
+            return Err(NoMemory);
+        }
+        let head = self.head()?;
         let first = divisors_of(&self.encoding, 0);
         let others = divisors_of(&self.encoding, 1);
         Ok(EncodedImage {
-            frame: self.frame,
-            colour,
-            quants,
-            kept,
-            jfif,
+            frame: head.frame,
+            colour: head.colour,
+            quants: head.quants,
+            kept: head.kept,
+            jfif: head.jfif,
             planes: self.planes,
             first,
             others,
@@ -182,7 +246,7 @@ impl Sampler {
     }
 }
 
-// The quantisers of component i.
+// The quantisers of component i, prepared.
 fn divisors_of(encoding: &Encoding, i: usize) -> Divisors
     requires { AreQuantisers (table_asked encoding.now i) }
     ensures { result ≡ table_asked encoding.now i }
@@ -190,11 +254,11 @@ fn divisors_of(encoding: &Encoding, i: usize) -> Divisors
     Divisors::new(&table_of(encoding, i).values())
 }
 
-// Whether all MCU rows are made.
-fn is_all(left: usize, made: u32, frame: &Frame) -> bool
-    ensures { result ≡ (made == mcus_down frame.now && left == 0) }
+// Whether all MCU rows are made, and none was dropped.
+fn is_all(left: usize, made: u32, dropped: u32, frame: &Frame) -> bool
+    ensures { result ≡ (dropped == 0 && (made == mcus_down frame.now && left == 0)) }
 {
-    made == frame.mcus().high && left == 0
+    dropped == 0 && (made == frame.mcus().high && left == 0)
 }
 
 // No planes yet.

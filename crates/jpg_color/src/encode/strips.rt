@@ -86,7 +86,6 @@ fn open(windows: &mut Windows, frame: &Frame) -> Result<(), NoMemory>
 }
 
 // Puts the rows of the strip into the windows.
-#[tactic(auto, using(crate::proofs::McuSources::by_three, std::proofs::lemmas::List::with_items_is))]
 fn fill(strip: &Strip, windows: &mut Windows)
     requires strip { IsStrip strip.now }
     requires windows { AreWindows strip.now.frame.now windows.old }

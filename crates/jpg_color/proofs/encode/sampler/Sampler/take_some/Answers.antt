@@ -11,7 +11,7 @@ returns-then-not-is_complete-clause-adds c =
     let few : n ≤ length c.args.samples.now = omega (arith, c.min-count.ensures) in
     let some : 1 ≤ s.left = omega (arith, c.requires.some, c.requires.most) in
     let long = length-take-le n c.args.samples.now few in
-    adds_part s _ (take n c.args.samples.now) some refl refl refl refl c.in_ok-push_all.ensures.whole (omega (arith, long, few, c.requires.most))
+    adds_part s _ (take n c.args.samples.now) some refl refl refl refl refl c.in_ok-push_all.ensures.whole (omega (arith, long, few, c.requires.most))
 
 pub make_row-requires-clause-whole : goal.make_row-requires-clause-whole
 make_row-requires-clause-whole c =
@@ -57,5 +57,5 @@ returns-clause-adds c =
     let whole =
     whole_now s (take n c.args.samples.now) _ (s.left - n) some (omega (arith, long, one)) c.in_ok-push_all.ensures.whole (omega (arith, long, few, c.requires.most)) (omega (arith, long, c.min-count.ensures, had, room, short))
     (⊎_elim (λ (h : length c.as_slice-had.result.now + n ≡ c.strip_room-room.result). (let r : (length s.pending + length (take n c.args.samples.now) ≡ strip_room s.info s.frame) ⊎ (s.left - n ≡ 0) = inl (omega (arith, h, had, room, long)) in r)) (λ (h : s.left - n ≡ 0). inr h) full) in
-    adds_row s _ c.make_row.new.self _ (take n c.args.samples.now) some refl refl refl refl c.in_ok-push_all.ensures.whole (factors_of s.info s.encoding s.frame s.keeps.frame s.keeps.none s.keeps.checked) whole c.in_ok-make_row.ensures.makes
-    refl refl refl refl refl (omega (arith, long, few, c.requires.most))
+    adds_row s _ c.make_row.new.self _ (take n c.args.samples.now) some refl refl refl refl refl c.in_ok-push_all.ensures.whole (factors_of s.info s.encoding s.frame s.keeps.frame s.keeps.none s.keeps.checked) whole c.in_ok-make_row.ensures.makes
+    refl refl refl refl refl refl (omega (arith, long, few, c.requires.most))
