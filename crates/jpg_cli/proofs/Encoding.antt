@@ -6,6 +6,7 @@ pub mod ImageFed
 pub mod ImageStopped
 pub mod ImageTaken
 pub mod MovedWritten
+pub mod OneScan
 pub mod SamplesFed
 pub mod WorkImage
 pub mod Worked

@@ -1,5 +1,6 @@
 pub mod CommentTaken
 pub mod EncodedRead
+pub mod EncodedRows
 pub mod FileTaken
 pub mod ImageFile
 pub mod ImageLoop

@@ -1,6 +1,7 @@
 //! What the commands read from the desk and write to it: files, scripts, comments, pictures, images.
 
 pub mod comment;
+pub mod encoded_rows;
 pub mod file;
 pub mod front;
 pub mod image;

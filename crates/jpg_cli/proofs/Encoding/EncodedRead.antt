@@ -1,5 +1,6 @@
 -- An image read and encoded, over the states of a desk.
-use Rattle.std.proofs.Common.{◌≡◌, ℕ, Bool, false, List, [], Result, Ok, Err, sym, ◌∙◌, subst}
+use Rattle.std.proofs.Common.{◌≡◌, ℕ, Bool, false, List, [], Option, None, Some, Result, Ok, Err, sym, ◌∙◌, subst}
+use Rattle.std.specs.Prelude.{IfErr, IfOk}
 use Rattle.jpg_base.specs.declared.names.Name.{Name}
 use Rattle.jpg_base.specs.declared.names.Put.TheVariants as put
 use Rattle.jpg_base.specs.Desk.{DeskState, Opens}
@@ -10,7 +11,9 @@ use Rattle.jpg_spec_words.specs.declared.answers.Why.{Why}
 use Rattle.jpg_spec_words.specs.declared.answers.Why.TheVariants as why
 use Rattle.jpg_spec_words.specs.declared.answers.Which.TheVariants as which
 use Rattle.jpg_color.specs.Encode.{AsksFor, CanSample, image_of}
-use Rattle.jpg_color.specs.EncodeSampling.{AddsSamples, BeginsSampling}
+use Rattle.jpg_color.specs.EncodeRows.{BeginsRows, RowScan}
+use Rattle.jpg_color.specs.EncodeSampling.{BeginsSampling}
+use Rattle.jpg_color.specs.ImageEncoder.{AddsTaken, HasTaken}
 use Rattle.jpg_color.specs.declared.encode.EncodeStop.{EncodeStop}
 use Rattle.jpg_color.specs.declared.encode.EncodeStop.TheVariants as stop
 use Rattle.jpg_pnm_bmp.specs.Made.{IsRightImage}
@@ -19,16 +22,22 @@ use Rattle.jpg_pnm_bmp.proofs.PlainSamples.{goes_on_plain}
 use Rattle.jpg_cli.specs.Desk.ImageWritten.{why_not_encoded}
 use Rattle.jpg_cli.specs.Tools.EncodingAsked.{CanEncodeKind}
 use Rattle.jpg_color.specs.declared.encode.Encoding.{Encoding as Asked}
+use Rattle.jpg_color.specs.declared.encode.row_encoder.RowEncoder.{RowEncoder}
 use Rattle.jpg_color.specs.declared.encode.sampler.Sampler.{Sampler}
-use Rattle.jpg_color.specs.declared.encode.view.EncodedImage.{EncodedImage}
+use Rattle.jpg_color.specs.declared.encode.image_encoder.ImageEncoder.{ImageEncoder}
+use Rattle.jpg_color.specs.declared.encode.image_encoder.ImageEncoder.TheVariants as encoder
 use Rattle.jpg_cli.specs.Desk.EncodedRead.{Encodes, EncodedRead, EndsEncoding}
+use Rattle.jpg_cli.specs.Desk.EncodedRows.{scan_of}
 use Rattle.jpg_cli.specs.Desk.ImageLoop.{HoldsImage}
 use Rattle.jpg_cli.specs.Desk.ImageSource.{source_read, source_samples, source_taken}
 use Rattle.jpg_cli.specs.Desk.Judging.{NoValueTaken, TakesPieces}
 use Rattle.jpg_cli.specs.Desk.ReadImage.{IsImageRead, image_judging}
 use Rattle.jpg_cli.specs.Desk.Reading.{rest_of}
-use Rattle.jpg_cli.specs.Desk.SamplesFed.{Begins, FinishesImage, GoesOnFrom, IsAllGiven, IsGiven}
+use Rattle.jpg_cli.specs.Desk.SamplesFed.{AfterData, Begins, FinishesPlanes, GivesData, GoesOnFrom, GoesOnRows, HasDataOf, IsAllGiven, IsGiven}
 use Rattle.jpg_cli.specs.Stays.{OnlyReads}
+use Rattle.jpg_cli.specs.declared.desk.encoded_rows.EncodedPicture.{EncodedPicture}
+use Rattle.jpg_cli.specs.declared.desk.encoded_rows.EncodedPicture.TheVariants as picture
+use Rattle.jpg_cli.specs.declared.desk.encoded_rows.OneScan.{OneScan}
 use Rattle.jpg_cli.specs.declared.desk.image_source.ImageSource.{ImageSource}
 use Rattle.jpg_cli.proofs.Encoding.ImageTaken.{open_within}
 use Rattle.jpg_cli.proofs.Outcomes.Input.{noted}
@@ -36,14 +45,14 @@ use Rattle.jpg_cli.proofs.Pieces.PictureTaken.{none_taken, reads_from}
 
 -- AN IMAGE was read
 
-pub image_encoded : (targa : Bool) (E : Image → Encoding) (s0 s1 : DeskState) (I : Image) (answer : Result EncodedImage Why) → TakesPieces (IsImageRead targa I (rest_of s1.left)) s0 s1 → Encodes (E I) I answer → EndsEncoding targa E s0 answer s1
+pub image_encoded : (targa : Bool) (E : Image → Encoding) (s0 s1 : DeskState) (I : Image) (answer : Result EncodedPicture Why) → TakesPieces (IsImageRead targa I (rest_of s1.left)) s0 s1 → Encodes (E I) I answer → EndsEncoding targa E s0 answer s1
 image_encoded targa E s0 s1 I (Ok v) read h = (I, read, h)
 image_encoded targa E s0 s1 I (Err (why.Picture fault)) read h = (I, read, h)
 image_encoded targa E s0 s1 I (Err why.NoMemory) (bytes, left, most, is) h = (bytes, left, most, is.read)
 image_encoded targa E s0 s1 I (Err other) read h = absurd h
 
 -- by a reader
-pub whole_encoded : (targa : Bool) (E : Image → Encoding) (s0 s1 : DeskState) (r : ImageSource) (I : Image) (answer : Result EncodedImage Why) → I ≡ source_read r → HoldsImage targa s0 r s1 → Encodes (E I) I answer → EndsEncoding targa E s0 answer s1
+pub whole_encoded : (targa : Bool) (E : Image → Encoding) (s0 s1 : DeskState) (r : ImageSource) (I : Image) (answer : Result EncodedPicture Why) → I ≡ source_read r → HoldsImage targa s0 r s1 → Encodes (E I) I answer → EndsEncoding targa E s0 answer s1
 whole_encoded targa E s0 s1 r I answer e h k = image_encoded targa E s0 s1 I answer (subst (λ (J : Image). TakesPieces (IsImageRead targa J (rest_of s1.left)) s0 s1) (sym e) h.0) k
 
 -- NONE was
@@ -53,13 +62,13 @@ none_encoded targa E s0 s1 (why.ReadFault which.Input) h = h
 none_encoded targa E s0 s1 why.NoMemory h = h
 none_encoded targa E s0 s1 other h = absurd h
 
--- BY A SAMPLER
+-- BY AN ENCODER
 
-pub begun_given : {E : Image → Encoding} {start : DeskState} {bytes samples : List ℕ} {r : ImageSource} {s0 s1 : Sampler} {taken : ℕ} {now : DeskState} (h : GoesOnFrom E start bytes r s0 now) → samples ≡ source_samples r → taken ≡ source_taken r → AddsSamples s0 samples s1
-    → IsGiven (h.begun).info (h.begun).asked start bytes samples s1 taken now
-begun_given {samples = samples} {s1 = s1} h same count adds = record {
+pub begun_given : {E : Image → Encoding} {w : Option RowScan} {start : DeskState} {bytes samples : List ℕ} {r : ImageSource} {s0 s1 : ImageEncoder} {taken : ℕ} {now : DeskState} (h : GoesOnFrom E w start bytes r s0 now) → samples ≡ source_samples r → taken ≡ source_taken r → AddsTaken s0 samples s1
+    → IsGiven w (h.begun).info (h.begun).asked start bytes samples s1 taken now
+begun_given {w = w} {samples = samples} {s1 = s1} h same count adds = record {
   fed = subst (HasFedSamples (h.begun).info _) (sym same) (h.begun).fed;
-  sampled = adds (h.begun).info (h.begun).asked [] (h.begun).sampled;
+  sampled = adds w (h.begun).info (h.begun).asked [] (h.begun).sampled;
   taken_is = count ∙ h.taken_is;
   most = h.most;
   kept = h.kept;
@@ -67,16 +76,52 @@ begun_given {samples = samples} {s1 = s1} h same count adds = record {
 }
 
 -- there was no memory for the first samples
-pub begun_unheld : {E : Image → Encoding} {start : DeskState} {bytes : List ℕ} {r : ImageSource} {s : Sampler} {now : DeskState} → GoesOnFrom E start bytes r s now → NoValueTaken (image_judging false) start why.NoMemory now
+pub begun_unheld : {E : Image → Encoding} {w : Option RowScan} {start : DeskState} {bytes : List ℕ} {r : ImageSource} {s : ImageEncoder} {now : DeskState} → GoesOnFrom E w start bytes r s now → NoValueTaken (image_judging false) start why.NoMemory now
 begun_unheld {bytes = bytes} {r} h = (bytes, h.read, h.most, open_within bytes (goes_on_plain (h.begun).info bytes (source_samples r) (h.begun).fed).open_yet h.most)
 
-pub all_encoded : {E : Image → Encoding} {start : DeskState} {bytes given : List ℕ} {s0 s1 : Sampler} {now : DeskState} (b : Begins E bytes given s0) (answer : Result EncodedImage Why) → IsAllGiven b.info b.asked start s1 now → FinishesImage s1 answer → EndsEncoding false E start answer now
+pub all_encoded : {E : Image → Encoding} {start : DeskState} {bytes given : List ℕ} {s0 s1 : ImageEncoder} {now : DeskState} (b : Begins E None bytes given s0) (answer : Result EncodedPicture Why) → IsAllGiven None b.info b.asked start s1 now → FinishesPlanes s1 answer
+    → EndsEncoding false E start answer now
 all_encoded {E} {start} {now = now} b answer g ends =
     image_encoded false E start now (image_of b.info g.samples) answer g.read (ends E b.info b.asked g.samples b.like g.sampled g.count g.right)
 
+-- as the data of one scan
+pub has_data : {w : RowScan} {info : ImageInfo} {a : Asked} {start : DeskState} {s1 : ImageEncoder} {now : DeskState} (text : List ℕ) → IsAllGiven (Some w) info a start s1 now → GivesData s1 text → HasDataOf w info a start text now
+has_data {w} {info} {a} text g gives = record { samples = g.samples; read = g.read; right = g.right; written = gives w info a g.samples g.sampled }
+
+-- there was no memory for them
+unheld_after : (start : DeskState) (I : Image) (now : DeskState) → TakesPieces (IsImageRead false I (rest_of now.left)) start now → NoValueTaken (image_judging false) start why.NoMemory now
+unheld_after start I now (bytes, left, most, is) = (bytes, left, most, is.read)
+
+pub none_held : {w : RowScan} {info : ImageInfo} {a : Asked} {start : DeskState} {s1 : ImageEncoder} {now : DeskState} (ended : Why) → IsAllGiven (Some w) info a start s1 now → ended ≡ why.NoMemory → NoValueTaken (image_judging false) start ended now
+none_held {info = info} {start = start} {now = now} ended g same = subst (λ (e : Why). NoValueTaken (image_judging false) start e now) (sym same) (unheld_after start (image_of info g.samples) now g.read)
+
+pub data_ended : {w : RowScan} {info : ImageInfo} {a : Asked} {start : DeskState} {s1 : ImageEncoder} {now : DeskState} (answer : Result (List ℕ) Why) → IsAllGiven (Some w) info a start s1 now → IfOk answer (GivesData s1) → IfErr answer (λ e. e ≡ why.NoMemory) → AfterData w info a start answer now
+data_ended (Ok text) g gives memory = has_data text g gives
+data_ended (Err ended) g gives memory = none_held ended g memory
+
+-- by an encoder of rows, of a sampler
+abbrev pub rows_go : {E : Image → Encoding} {start : DeskState} {bytes : List ℕ} {r : ImageSource} {s : Sampler} {o : OneScan} {now : DeskState} (w : RowScan) (rows : RowEncoder) → BeginsRows s w rows → w ≡ scan_of o → GoesOnRows E start bytes r s o now
+    → GoesOnFrom E (Some (scan_of o)) start bytes r (encoder.Rows rows) now
+rows_go {o = o} w rows begins same h =
+    let b = (h.goes).begun in
+    record {
+      begun = record { info = b.info; asked = b.asked; like = b.like; fed = b.fed; sampled = subst (λ (v : RowScan). HasTaken (Some v) b.info b.asked [] (encoder.Rows rows)) same (begins b.info b.asked b.sampled) };
+      taken_is = (h.goes).taken_is;
+      most = (h.goes).most;
+      kept = (h.goes).kept;
+      read = (h.goes).read;
+    }
+
+pub rows_encoded : {E : Image → Encoding} {start : DeskState} {bytes : List ℕ} {r : ImageSource} {s0 : Sampler} {o : OneScan} {old now : DeskState} (h : GoesOnRows E start bytes r s0 o old) (text : List ℕ)
+    → HasDataOf (scan_of o) ((h.goes).begun).info ((h.goes).begun).asked start text now → EndsEncoding false E start (Ok (picture.Rows (record { file = o; bytes = text }))) now
+rows_encoded {E} {start} {o = o} {now = now} h text g =
+    let b = (h.goes).begun in
+    image_encoded false E start now (image_of b.info g.samples) (Ok (picture.Rows (record { file = o; bytes = text }))) g.read
+    ((h.one).makes g.samples text g.right g.written)
+
 -- FROM THE NAME
 
-pub encoded_from : (targa : Bool) (E : Image → Encoding) (s0 s1 s2 : DeskState) (file : Name) (answer : Result EncodedImage Why) → Opens s0 file put.Done s1 → OnlyReads s1 s2 → EndsEncoding targa E s1 answer s2 → EncodedRead targa E file s0 answer s2
+pub encoded_from : (targa : Bool) (E : Image → Encoding) (s0 s1 s2 : DeskState) (file : Name) (answer : Result EncodedPicture Why) → Opens s0 file put.Done s1 → OnlyReads s1 s2 → EndsEncoding targa E s1 answer s2 → EncodedRead targa E file s0 answer s2
 encoded_from targa E s0 s1 s2 file (Ok v) h k (I, read, is) = (noted s0 s1 s2 file h k, (I, reads_from s0 s1 s2 file (IsImageRead targa I (rest_of s2.left)) h read, is))
 encoded_from targa E s0 s1 s2 file (Err (why.Picture fault)) h k (I, read, is) = (noted s0 s1 s2 file h k, (I, reads_from s0 s1 s2 file (IsImageRead targa I (rest_of s2.left)) h read, is))
 encoded_from targa E s0 s1 s2 file (Err (why.Refused f)) h k e = none_taken Image (image_judging targa) s0 s1 s2 file (why.Refused f) h k e

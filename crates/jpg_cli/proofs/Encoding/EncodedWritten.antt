@@ -14,7 +14,8 @@ use Rattle.jpg_spec.specs.Segments.{QuantTable, standard_limits}
 use Rattle.jpg_spec.specs.declared.frame.Colour.{Colour}
 use Rattle.jpg_spec.specs.declared.frame.Copying.{Copying}
 use Rattle.jpg_spec.specs.declared.jfif.Jfif.{Jfif}
-use Rattle.jpg_spec_encode.specs.Encoded.{Encoding, encode_fault, encoded, encoded_script, encoded_text}
+use Rattle.jpg_spec_encode.specs.EncodingLaws.{IsEncodable}
+use Rattle.jpg_spec_encode.specs.Encoded.{Encoding, encode_fault, encoded, encoded_script, encoded_text, sampling_fault}
 use Rattle.jpg_spec_encode.proofs.EncodedWritten.{encoded_headed, encoded_means, encoded_kind}
 use Rattle.jpg_spec_image.specs.Images.{Image}
 use Rattle.jpg_spec_write.specs.FileText.{file_text, frame_of_meaning}
@@ -30,36 +31,73 @@ use Rattle.jpg_scans.specs.Judged.{judged}
 use Rattle.jpg_markers.specs.OutHead.{with_tables}
 use Rattle.jpg_scans.specs.Restarts.{restart_of}
 use Rattle.jpg_file.specs.Write.WriteFile.{CanWriteFile, does_pass, file_bytes, file_meaning}
+use Rattle.jpg_file.specs.Write.SoleScan.{IsSoleData}
 use Rattle.jpg_file.specs.declared.write.Plan.{Plan}
-use Rattle.jpg_color.specs.EncodeView.{view_blocks, view_meaning}
+use Rattle.jpg_file.specs.declared.write.sole.SoleScan.{SoleScan}
+use Rattle.jpg_color.specs.EncodedParts.{AreViewParts, ViewParts, viewed_meaning}
+use Rattle.jpg_color.specs.EncodeView.{view_parts}
 use Rattle.jpg_color.specs.declared.encode.view.EncodedImage.{EncodedImage}
 use Rattle.jpg_transform.proofs.MovedFile.{tables_are}
 use Rattle.jpg_transform.proofs.MovedScript.{judged_err, judged_ok, meaning_grids, same_due}
 use Rattle.jpg_transform.proofs.SeenPicture.{told_grids}
 use Rattle.jpg_cli.specs.Desk.EncodedRead.{IsEncodedImage}
+use Rattle.jpg_cli.specs.Desk.EncodedRows.{HasData, IsEncodedRows, WritesRows}
 use Rattle.jpg_cli.specs.Desk.ImageWritten.{AfterEncoding, IsAskedBy, IsPlanOf}
 use Rattle.jpg_cli.specs.Desk.Writing.{AfterMade, AfterOutput, why_wrote}
+use Rattle.jpg_cli.specs.declared.desk.encoded_rows.EncodedRows.{EncodedRows}
 use Rattle.jpg_cli.specs.declared.desk.moved.Wrote.{Wrote}
 use Rattle.jpg_cli.specs.declared.desk.moved.Wrote.TheVariants as wrote
 use Rattle.jpg_words.specs.declared.cjpeg_request.EncodeWords.{EncodeWords}
 
+-- THE TEXT of the file of an image without a fault, written
+made_of : (e : Encoding) (I : Image) (output : Name) (s0 s1 : DeskState) → encode_fault e I ≡ None → Means standard_limits (encoded_text e I) (encoded e I) → (t : Wrote) → AfterOutput output s0 (encoded_text e I) t s1
+    → AfterMade (encode_fault e I) (encoded_text e I) (Means standard_limits (encoded_text e I) (encoded e I)) output s0 (why_wrote t) s1
+made_of e I output s0 s1 none means wrote.Done k = (none, k, means)
+made_of e I output s0 s1 none means (wrote.Picture fault) k = absurd k
+made_of e I output s0 s1 none means wrote.OpenFault k = (none, k)
+made_of e I output s0 s1 none means wrote.WriteFault k = (none, k)
+
+-- the same data, by equal parts
+pub same_sole : {p q : Plan} {s t : SoleScan} {x y : List ℕ} (k : List (ℕ × List ℕ)) (f : Frame) (b : Blocks) → p ≡ q → s ≡ t → x ≡ y → IsSoleData q k f b t y → IsSoleData p k f b s x
+same_sole {p} {q} {s} {t} {x} {y} k f b one other text is =
+    subst (λ (r : Plan). IsSoleData r k f b s x) (sym one) (subst (λ (u : SoleScan). IsSoleData q k f b u x) (sym other) (subst (λ (z : List ℕ). IsSoleData q k f b t z) (sym text) is))
+
+-- some blocks that the data are those of
+pub rows_have : {e : Encoding} {I : Image} {r : EncodedRows} → IsEncodedRows e I r → (f : Frame) × (blocks : Blocks) × HasData r f blocks
+rows_have h = (h.frame, h.blocks, h.has)
+
+-- from the data of its one scan
+pub rows_written : {e : Encoding} {I : Image} (r : EncodedRows) (output : Name) (s0 s1 : DeskState) (answer : Wrote) → IsEncodedRows e I r → WritesRows output r s0 answer s1 → AfterEncoding e I output s0 (why_wrote answer) s1
+rows_written {e} {I} r output s0 s1 answer h writes = inl (made_of e I output s0 s1 h.none h.means answer (subst (λ (due : List ℕ). AfterOutput output s0 due answer s1) h.text (writes h.frame h.blocks h.has)))
+
+-- PARTS that are the picture of an image, which can be encoded and has no fault of its factors and grids
+pub record IsEncodedParts (e : Encoding) (I : Image) (v : ViewParts) : Type 0 where
+  pub can : IsEncodable e I
+  pub faultless : sampling_fault e I ≡ None
+  pub means : viewed_meaning v ≡ encoded e I
+  pub keeps : AreViewParts v
+
+-- those of an encoded image
+pub parts_of : {e : Encoding} {I : Image} {v : EncodedImage} → IsEncodedImage e I v → IsEncodedParts e I (view_parts v)
+parts_of {v = v} h = record { can = h.can; faultless = h.faultless; means = h.means; keeps = v.keeps }
+
 -- THE HEAD: its markers are those of the image's picture, though none is passed on
 
-module _ {e : Encoding} {I : Image} {v : EncodedImage} (h : IsEncodedImage e I v) where
+module _ {e : Encoding} {I : Image} {v : ViewParts} (h : IsEncodedParts e I v) where
   abbrev N : Meaning
   N = encoded e I
 
   head_kept : headed_kept v.colour v.jfif [] ≡ N.kept
   head_kept =
-      ap (λ c. headed_kept c v.jfif []) (v.keeps.colour ∙ ap colour_of h.means)
-      ∙ ap (λ j. headed_kept (colour_of N) j []) (v.keeps.jfif ∙ ap (λ (M : Meaning). jfif_of M.kept) h.means)
+      ap (λ c. headed_kept c v.jfif []) (h.keeps.colour ∙ ap colour_of h.means)
+      ∙ ap (λ j. headed_kept (colour_of N) j []) (h.keeps.jfif ∙ ap (λ (M : Meaning). jfif_of M.kept) h.means)
       ∙ ap (λ (M : Meaning). M.kept) (stays e I)
 
   -- what is written of it, with the kept markers of the head
   abbrev with_kept : List Segment → Meaning → Meaning
   with_kept kept M = record M { kept = kept }
 
-  head_is : record (view_meaning v) { kept = headed_kept v.colour v.jfif [] } ≡ N
+  head_is : record (viewed_meaning v) { kept = headed_kept v.colour v.jfif [] } ≡ N
   head_is = ap (with_kept (headed_kept v.colour v.jfif [])) h.means ∙ ap (λ k. with_kept k N) head_kept
 
 -- THE PLAN
@@ -76,16 +114,16 @@ of_parts f colour quants jfif passed kept blocks = record {
   kept = headed_kept colour jfif (copied passed kept);
 }
 
-module _ {w : EncodeWords} {scans : Scans} {e : Encoding} {I : Image} {v : EncodedImage} (asked : IsAskedBy w scans e) (h : IsEncodedImage e I v) where
+module _ {w : EncodeWords} {scans : Scans} {e : Encoding} {I : Image} {v : ViewParts} (asked : IsAskedBy w scans e) (h : IsEncodedParts e I v) where
   -- THE SCRIPT
 
   grids : frame_grids v.frame ≡ frame_grids (frame_of_meaning (encoded e I))
-  grids = sym (told_grids v.frame v.quants.items (view_meaning v) refl refl refl) ∙ ap picture_grids h.means ∙ sym (meaning_grids (encoded e I))
+  grids = sym (told_grids v.frame v.quants (viewed_meaning v) refl refl refl) ∙ ap picture_grids h.means ∙ sym (meaning_grids (encoded e I))
 
   script_same : (script : List Entry) → script ≡ script_due scans v.frame v.colour → script ≡ encoded_script e I
   script_same script is =
       is ∙ ap (λ s. script_due s v.frame v.colour) (sym asked.scans_are)
-      ∙ same_due e.scans v.frame (frame_of_meaning (encoded e I)) v.colour (colour_of (encoded e I)) grids (v.keeps.colour ∙ ap colour_of h.means)
+      ∙ same_due e.scans v.frame (frame_of_meaning (encoded e I)) v.colour (colour_of (encoded e I)) grids (h.keeps.colour ∙ ap colour_of h.means)
 
   fault_same : (script : List Entry) → script ≡ script_due scans v.frame v.colour → script_fault v.frame script ≡ encode_fault e I
   fault_same script is =
@@ -104,33 +142,37 @@ module _ {w : EncodeWords} {scans : Scans} {e : Encoding} {I : Image} {v : Encod
 
   -- WHAT THE FILE MEANS
 
-  meaning_is : (script : List Entry) (plan : Plan) → IsPlanOf w v script plan → file_meaning plan v.kept (view_blocks v) ≡ encoded e I
+  meaning_is : (script : List Entry) (plan : Plan) → IsPlanOf w v script plan → file_meaning plan v.kept v.blocks ≡ encoded e I
   meaning_is script plan p =
-      let b = view_blocks v in
-      let q = v.quants.items in
+      let b = v.blocks in
+      let q = v.quants in
       ap (λ f. of_parts f plan.out.colour plan.out.quants.items plan.out.jfif plan.out.copying v.kept b) p.frame
       ∙ ap (λ c. of_parts v.frame c plan.out.quants.items plan.out.jfif plan.out.copying v.kept b) p.colour
       ∙ ap (λ t. of_parts v.frame v.colour t plan.out.jfif plan.out.copying v.kept b) p.quants
       ∙ ap (λ j. of_parts v.frame v.colour q j plan.out.copying v.kept b) p.jfif
       ∙ ap (λ c. of_parts v.frame v.colour q v.jfif c v.kept b) p.copying
-      ∙ ap (λ cs. (let M : Meaning = record (view_meaning v) { components = cs; kept = headed_kept v.colour v.jfif [] } in M)) (tables_are v.frame q v.keeps.tables)
+      ∙ ap (λ cs. (let M : Meaning = record (viewed_meaning v) { components = cs; kept = headed_kept v.colour v.jfif [] } in M)) (tables_are v.frame q h.keeps.tables)
       ∙ head_is h
 
-  pub can_write : (script : List Entry) (plan : Plan) → IsPlanOf w v script plan → script ≡ script_due scans v.frame v.colour → Ok tt ≡ judged (script_fault v.frame script) → CanWriteFile plan v.kept v.frame (view_blocks v)
+  -- no fault, by the judgement of the script
+  pub no_fault : (script : List Entry) → script ≡ script_due scans v.frame v.colour → Ok tt ≡ judged (script_fault v.frame script) → encode_fault e I ≡ None
+  no_fault script is ok = sym (fault_same script is) ∙ judged_ok (script_fault v.frame script) ok
+
+  pub can_write : (script : List Entry) (plan : Plan) → IsPlanOf w v script plan → script ≡ script_due scans v.frame v.colour → Ok tt ≡ judged (script_fault v.frame script) → CanWriteFile plan v.kept v.frame v.blocks
   can_write script plan p is ok =
       let m = meaning_is script plan p in
-      let none = sym (fault_same script is) ∙ judged_ok (script_fault v.frame script) ok in
+      let none = no_fault script is ok in
       record {
         precision = ap (λ (f : Frame). f.precision) (sym p.frame);
-        tables = ap length p.quants ∙ v.keeps.tables ∙ ap (λ (f : Frame). length f.components) (sym p.frame);
-        colour = p.colour ∙ v.keeps.colour ∙ ap colour_of h.means ∙ sym (ap colour_of m);
+        tables = ap length p.quants ∙ h.keeps.tables ∙ ap (λ (f : Frame). length f.components) (sym p.frame);
+        colour = p.colour ∙ h.keeps.colour ∙ ap colour_of h.means ∙ sym (ap colour_of m);
         passes = ap (λ (M : Meaning). does_pass M plan.script) m ∙ ap (does_pass (encoded e I)) p.script_is ∙ passes script is none;
         seen = ap (λ (f : Frame). is_progressive f.process) (sym p.frame);
         grids = ap frame_grids (sym p.frame);
-        writable = v.keeps.range;
+        writable = h.keeps.range;
       }
 
-  text_is : (script : List Entry) (plan : Plan) → IsPlanOf w v script plan → script ≡ script_due scans v.frame v.colour → file_bytes plan v.kept (view_blocks v) ≡ encoded_text e I
+  pub text_is : (script : List Entry) (plan : Plan) → IsPlanOf w v script plan → script ≡ script_due scans v.frame v.colour → file_bytes plan v.kept v.blocks ≡ encoded_text e I
   text_is script plan p is =
       let N = encoded e I in
       ap (λ (M : Meaning). file_text plan.huffman M plan.script (restart_of plan.restart)) (meaning_is script plan p)
@@ -141,17 +183,10 @@ module _ {w : EncodeWords} {scans : Scans} {e : Encoding} {I : Image} {v : Encod
   -- WRITING IT
 
   pub view_written : (script : List Entry) (plan : Plan) (output : Name) (s0 s1 : DeskState) (answer : Wrote) → IsPlanOf w v script plan → script ≡ script_due scans v.frame v.colour → Ok tt ≡ judged (script_fault v.frame script)
-      → AfterOutput output s0 (file_bytes plan v.kept (view_blocks v)) answer s1 → AfterEncoding e I output s0 (why_wrote answer) s1
-  view_written script plan output s0 s1 answer p is ok out = inl (by answer (subst (λ (due : List ℕ). AfterOutput output s0 due answer s1) (text_is script plan p is) out))
-    where
-      none : encode_fault e I ≡ None
-      none = sym (fault_same script is) ∙ judged_ok (script_fault v.frame script) ok
-
-      by : (t : Wrote) → AfterOutput output s0 (encoded_text e I) t s1 → AfterMade (encode_fault e I) (encoded_text e I) (Means standard_limits (encoded_text e I) (encoded e I)) output s0 (why_wrote t) s1
-      by wrote.Done k = (none, k, encoded_means e I h.can none)
-      by (wrote.Picture fault) k = absurd k
-      by wrote.OpenFault k = (none, k)
-      by wrote.WriteFault k = (none, k)
+      → AfterOutput output s0 (file_bytes plan v.kept v.blocks) answer s1 → AfterEncoding e I output s0 (why_wrote answer) s1
+  view_written script plan output s0 s1 answer p is ok out =
+      let none = no_fault script is ok in
+      inl (made_of e I output s0 s1 none (encoded_means e I h.can none) answer (subst (λ (due : List ℕ). AfterOutput output s0 due answer s1) (text_is script plan p is) out))
 
   pub view_faulty : (script : List Entry) (output : Name) (s : DeskState) (fault : PictureFault) → script ≡ script_due scans v.frame v.colour → Err fault ≡ judged (script_fault v.frame script) → AfterEncoding e I output s (why_wrote (wrote.Picture fault)) s
   view_faulty script output s fault is err = inl (sym (fault_same script is) ∙ judged_err (script_fault v.frame script) fault err, record { asked = refl; outputs = refl; left = refl })

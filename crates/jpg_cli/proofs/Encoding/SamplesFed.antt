@@ -1,5 +1,5 @@
--- Samples given to a sampler while they are read, over the states of a desk.
-use Rattle.std.proofs.Common.{◌≡◌, ℕ, ◌+◌, ◌<◌, ◌≤◌, min, false, List, [], ◌++◌, length, take, Ok, sym, ap, ◌∙◌, subst, arith, inl, inr, ⊎_elim}
+-- Samples given to an encoder while they are read, over the states of a desk.
+use Rattle.std.proofs.Common.{◌≡◌, ℕ, ◌+◌, ◌<◌, ◌≤◌, min, false, List, [], ◌++◌, length, take, Option, None, Some, Ok, sym, ap, ◌∙◌, subst, arith, inl, inr, ⊎_elim}
 use Rattle.std.specs.Io.KnownBytes.{Consumes, IsAtEnd}
 use Rattle.std.proofs.lemmas.Bool.{cases_lt}
 use Rattle.std.proofs.lemmas.List.{append-nil, length-append, length-take-le, take_all}
@@ -16,9 +16,11 @@ use Rattle.jpg_spec_image.specs.declared.image.ImageInfo.{ImageInfo}
 use Rattle.jpg_spec_words.specs.declared.answers.Why.TheVariants as why
 use Rattle.jpg_spec_words.specs.declared.answers.Which.TheVariants as which
 use Rattle.jpg_color.specs.Encode.{image_of}
-use Rattle.jpg_color.specs.EncodeSampling.{HasSampled, samples_left}
+use Rattle.jpg_color.specs.EncodeRows.{RowScan}
+use Rattle.jpg_color.specs.ImageEncoder.{HasTaken, encoder_left}
 use Rattle.jpg_color.specs.declared.encode.Encoding.{Encoding as Asked}
-use Rattle.jpg_color.specs.declared.encode.sampler.Sampler.{Sampler}
+use Rattle.jpg_color.specs.declared.encode.image_encoder.ImageEncoder.{ImageEncoder}
+use Rattle.jpg_color.specs.declared.encode.image_encoder.ImageEncoder.TheVariants as encoder
 use Rattle.jpg_pnm_bmp.specs.Made.{AreBytes, IsRightImage}
 use Rattle.jpg_pnm_bmp.specs.PlainSamples.{CompletesPlain, GoesOnPlain}
 use Rattle.jpg_pnm_bmp.proofs.PlainSamples.{goes_on_plain}
@@ -47,57 +49,60 @@ only_reads read = record {
 
 -- HOW MANY ARE LEFT
 
-count_of : {info : ImageInfo} {a : Asked} {given : List ℕ} {s : Sampler} → HasSampled info a given s → length given + samples_left s ≡ sample_count info
-count_of h = (h.has).count
+count_of : (w : Option RowScan) (info : ImageInfo) (a : Asked) (given : List ℕ) (s : ImageEncoder) → HasTaken w info a given s → length given + encoder_left s ≡ sample_count info
+count_of None info a given (encoder.Planes s) h = (h.has).count
+count_of None info a given (encoder.Rows r) h = absurd h
+count_of (Some w) info a given (encoder.Planes s) h = absurd h
+count_of (Some w) info a given (encoder.Rows r) h = (h.0.sampled.has).count
 
 -- some, where not all were given
-pub some_left : {info : ImageInfo} {a : Asked} {start : DeskState} {bytes given : List ℕ} {s : Sampler} {taken : ℕ} {now : DeskState} → IsGiven info a start bytes given s taken now → samples_left s ≡ 0 → ⊥
-some_left g none = (let few = (g.fed).few in let c = count_of g.sampled in omega (arith, few, c, none))
+pub some_left : {w : Option RowScan} {info : ImageInfo} {a : Asked} {start : DeskState} {bytes given : List ℕ} {s : ImageEncoder} {taken : ℕ} {now : DeskState} → IsGiven w info a start bytes given s taken now → encoder_left s ≡ 0 → ⊥
+some_left {w} {info} {a} {given = given} {s = s} g none = (let few = (g.fed).few in let c = count_of w info a given s g.sampled in omega (arith, few, c, none))
 
-none_left_of : {info : ImageInfo} {a : Asked} {start : DeskState} {s : Sampler} {now : DeskState} → IsAllGiven info a start s now → samples_left s ≡ 0
-none_left_of g = (let l = g.count in let c = count_of g.sampled in omega (arith, l, c))
+none_left_of : {w : Option RowScan} {info : ImageInfo} {a : Asked} {start : DeskState} {s : ImageEncoder} {now : DeskState} → IsAllGiven w info a start s now → encoder_left s ≡ 0
+none_left_of {w} {info} {a} {s = s} g = (let l = g.count in let c = count_of w info a g.samples s g.sampled in omega (arith, l, c))
 
-module _ (info : ImageInfo) (a : Asked) (start : DeskState) where
+module _ (w : Option RowScan) (info : ImageInfo) (a : Asked) (start : DeskState) where
   -- those that were given so far, if some are left; and all, if none are
-  pub given_yet : (s : Sampler) (taken : ℕ) (now : DeskState) → 0 < samples_left s → SoFarGiven info a start s taken now → (bytes : List ℕ) × (given : List ℕ) × IsGiven info a start bytes given s taken now
+  pub given_yet : (s : ImageEncoder) (taken : ℕ) (now : DeskState) → 0 < encoder_left s → SoFarGiven w info a start s taken now → (bytes : List ℕ) × (given : List ℕ) × IsGiven w info a start bytes given s taken now
   given_yet s taken now some (inl g) = g
   given_yet s taken now some (inr g) = (let none = none_left_of g in absurd (omega (arith, some, none)))
 
-  pub given_all : (s : Sampler) (taken : ℕ) (now : DeskState) → samples_left s ≡ 0 → SoFarGiven info a start s taken now → IsAllGiven info a start s now
+  pub given_all : (s : ImageEncoder) (taken : ℕ) (now : DeskState) → encoder_left s ≡ 0 → SoFarGiven w info a start s taken now → IsAllGiven w info a start s now
   given_all s taken now none (inl g) = absurd (some_left g.2 none)
   given_all s taken now none (inr g) = g
 
 -- A PIECE
 
-module _ {info : ImageInfo} {a : Asked} {start : DeskState} {bytes given : List ℕ} {s0 : Sampler} {taken : ℕ} {d0 : DeskState} (g : IsGiven info a start bytes given s0 taken d0) where
+module _ {w : Option RowScan} {info : ImageInfo} {a : Asked} {start : DeskState} {bytes given : List ℕ} {s0 : ImageEncoder} {taken : ℕ} {d0 : DeskState} (g : IsGiven w info a start bytes given s0 taken d0) where
   goes : GoesOnPlain info bytes given
   goes = goes_on_plain info bytes given g.fed
 
   -- the samples that it has
-  count_is : length given + samples_left s0 ≡ sample_count info
-  count_is = count_of g.sampled
+  count_is : length given + encoder_left s0 ≡ sample_count info
+  count_is = count_of w info a given s0 g.sampled
 
-  more_given : (s1 : Sampler) (d1 : DeskState) (piece : List ℕ) → AreBytes piece → length (bytes ++ piece) ≤ standard_limits.input → length (given ++ piece) < sample_count info → Consumes d0.left d1.left piece → OnlyReads d0 d1 → TakesSome s0 piece s1
-      → IsGiven info a start (bytes ++ piece) (given ++ piece) s1 (taken + length piece) d1
+  more_given : (s1 : ImageEncoder) (d1 : DeskState) (piece : List ℕ) → AreBytes piece → length (bytes ++ piece) ≤ standard_limits.input → length (given ++ piece) < sample_count info → Consumes d0.left d1.left piece → OnlyReads d0 d1 → TakesSome s0 piece s1
+      → IsGiven w info a start (bytes ++ piece) (given ++ piece) s1 (taken + length piece) d1
   more_given s1 d1 piece small most few read only takes =
       let c = count_is in
       let l = length-append given piece in
-      let all : take (min (samples_left s0) (length piece)) piece ≡ piece = (let e : min (samples_left s0) (length piece) ≡ length piece = omega (arith, few, c, l) in ap (λ n. take n piece) e ∙ take_all (length piece) piece (omega arith)) in
+      let all : take (min (encoder_left s0) (length piece)) piece ≡ piece = (let e : min (encoder_left s0) (length piece) ≡ length piece = omega (arith, few, c, l) in ap (λ n. take n piece) e ∙ take_all (length piece) piece (omega arith)) in
       record {
         fed = goes.more piece small few;
-        sampled = subst (λ x. HasSampled info a (given ++ x) s1) all (takes.1 info a given g.sampled);
+        sampled = subst (λ x. HasTaken w info a (given ++ x) s1) all (takes.1 w info a given g.sampled);
         taken_is = ap (λ n. n + length piece) g.taken_is ∙ sym (length-append bytes piece);
         most = most;
         kept = reads_then g.kept only;
         read = Consumes-then start.left d0.left d1.left bytes piece g.read read;
       }
 
-  all_given : (s1 : Sampler) (d1 : DeskState) (piece : List ℕ) → AreBytes piece → length piece ≤ 65536 → length bytes < standard_limits.input → length (bytes ++ piece) ≤ standard_limits.input → sample_count info ≤ length (given ++ piece) → Consumes d0.left d1.left piece
-      → OnlyReads d0 d1 → TakesSome s0 piece s1 → IsAllGiven info a start s1 d1
+  all_given : (s1 : ImageEncoder) (d1 : DeskState) (piece : List ℕ) → AreBytes piece → length piece ≤ 65536 → length bytes < standard_limits.input → length (bytes ++ piece) ≤ standard_limits.input → sample_count info ≤ length (given ++ piece) → Consumes d0.left d1.left piece
+      → OnlyReads d0 d1 → TakesSome s0 piece s1 → IsAllGiven w info a start s1 d1
   all_given s1 d1 piece small few short most enough read only takes =
       let c = count_is in
       let l = length-append given piece in
-      let left = samples_left s0 in
+      let left = encoder_left s0 in
       let e : min left (length piece) ≡ left = omega (arith, enough, c, l) in
       let samples : List ℕ = given ++ take left piece in
       let long = length-take-le left piece (omega (arith, enough, c, l)) in
@@ -106,14 +111,14 @@ module _ {info : ImageInfo} {a : Asked} {start : DeskState} {bytes given : List 
       let P : List ℕ → Type 0 = λ xs. TakesPieces (IsImageRead false (image_of info xs) (rest_of d1.left)) start d1 in
       record {
         samples = samples;
-        sampled = subst (λ n. HasSampled info a (given ++ take n piece) s1) e (takes.1 info a given g.sampled);
+        sampled = subst (λ n. HasTaken w info a (given ++ take n piece) s1) e (takes.1 w info a given g.sampled);
         count = (let k = length-append given (take left piece) in omega (arith, k, long, c));
         read = subst P (sym taken_are)
             (bytes ++ piece, Consumes-then start.left d0.left d1.left bytes piece g.read read, most, record { is = done.image standard_limits (rest_of d1.left) most; read = open_more false bytes piece goes.open_yet short few });
         right = subst (λ xs. IsRightImage (image_of info xs)) (sym taken_are) done.right;
       }
 
-  piece_given : (s1 : Sampler) (d1 : DeskState) (piece : List ℕ) → length piece ≤ 65536 → length bytes < standard_limits.input → length (bytes ++ piece) ≤ standard_limits.input → Consumes d0.left d1.left piece → OnlyReads d0 d1 → TakesSome s0 piece s1 → SoFarGiven info a start s1 (taken + length piece) d1
+  piece_given : (s1 : ImageEncoder) (d1 : DeskState) (piece : List ℕ) → length piece ≤ 65536 → length bytes < standard_limits.input → length (bytes ++ piece) ≤ standard_limits.input → Consumes d0.left d1.left piece → OnlyReads d0 d1 → TakesSome s0 piece s1 → SoFarGiven w info a start s1 (taken + length piece) d1
   piece_given s1 d1 piece few short most read only takes =
       ⊎_elim
       (λ (h : length (given ++ piece) < sample_count info). inl (bytes ++ piece, given ++ piece, more_given s1 d1 piece takes.0 most h read only takes))
@@ -121,12 +126,12 @@ module _ {info : ImageInfo} {a : Asked} {start : DeskState} {bytes given : List 
       (cases_lt (length (given ++ piece)) (sample_count info))
 
   -- which is the first bytes of a buffer
-  pub samples_given : (s1 : Sampler) (d1 : DeskState) (n : ℕ) (buf : List ℕ) → length buf ≡ 16384 → length bytes < standard_limits.input → length (bytes ++ take n buf) ≤ standard_limits.input → Reads d0 (got.Bytes n) buf d1 → OnlyReads d0 d1 → TakesSome s0 (take n buf) s1
-      → AfterNextSamples info a start taken (Ok n) s1 d1
+  pub samples_given : (s1 : ImageEncoder) (d1 : DeskState) (n : ℕ) (buf : List ℕ) → length buf ≡ 16384 → length bytes < standard_limits.input → length (bytes ++ take n buf) ≤ standard_limits.input → Reads d0 (got.Bytes n) buf d1 → OnlyReads d0 d1 → TakesSome s0 (take n buf) s1
+      → AfterNextSamples w info a start taken (Ok n) s1 d1
   samples_given s1 d1 n buf long short most read only takes =
       let l = length-take-le n buf read.after.1 in
       let inside = read.after.1 in
-      subst (λ k. SoFarGiven info a start s1 (taken + k) d1) l (piece_given s1 d1 (take n buf) (omega (arith, l, inside, long)) short most read.after.2 only takes)
+      subst (λ k. SoFarGiven w info a start s1 (taken + k) d1) l (piece_given s1 d1 (take n buf) (omega (arith, l, inside, long)) short most read.after.2 only takes)
 
   pub samples_lost : (d1 : DeskState) (n : ℕ) (buf : List ℕ) → length buf ≡ 16384 → length bytes < standard_limits.input → length (bytes ++ take n buf) ≤ standard_limits.input → Reads d0 (got.Bytes n) buf d1 → NoValueTaken (image_judging false) start why.NoMemory d1
   samples_lost d1 n buf long short most read =

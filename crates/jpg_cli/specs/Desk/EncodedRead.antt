@@ -10,7 +10,10 @@ use Rattle.jpg_spec_words.specs.declared.answers.Why.{Why}
 use Rattle.jpg_spec_words.specs.declared.answers.Why.TheVariants as why
 use Rattle.jpg_color.specs.EncodeView.{view_meaning}
 use Rattle.jpg_color.specs.declared.encode.view.EncodedImage.{EncodedImage}
+use Rattle.jpg_cli.specs.declared.desk.encoded_rows.EncodedPicture.{EncodedPicture}
+use Rattle.jpg_cli.specs.declared.desk.encoded_rows.EncodedPicture.TheVariants as picture
 use Rattle.jpg_cli.specs.Endings.{Asks}
+use Rattle.jpg_cli.specs.Desk.EncodedRows.{IsEncodedRows}
 use Rattle.jpg_cli.specs.Desk.Judging.{NoValueRead, NoValueTaken, ReadsFrom, TakesPieces}
 use Rattle.jpg_cli.specs.Desk.ReadImage.{IsImageRead, image_judging}
 use Rattle.jpg_cli.specs.Desk.Reading.{rest_of}
@@ -22,23 +25,28 @@ pub record IsEncodedImage (e : Encoding) (I : Image) (v : EncodedImage) : Type 0
   pub means : view_meaning v ≡ encoded e I
   pub jfif : v.jfif ≡ density_of I.info
 
+-- or the data of its one scan
+abbrev pub IsEncodedPicture : Encoding → Image → EncodedPicture → Type 0
+IsEncodedPicture e I (picture.Planes v) = IsEncodedImage e I v
+IsEncodedPicture e I (picture.Rows r) = IsEncodedRows e I r
+
 -- it, or the fault
-abbrev pub Encodes : Encoding → Image → Result EncodedImage Why → Type 0
-Encodes e I (Ok v) = IsEncodedImage e I v
+abbrev pub Encodes : Encoding → Image → Result EncodedPicture Why → Type 0
+Encodes e I (Ok v) = IsEncodedPicture e I v
 Encodes e I (Err (why.Picture fault)) = sampling_fault e I ≡ Some fault
 Encodes e I (Err why.NoMemory) = Unit {0}
 Encodes e I (Err other) = ⊥
 
 -- FROM A DESK whose input is open: an image was read and encoded, or has a fault; or why there is none
-abbrev pub EndsEncoding : Bool → (Image → Encoding) → DeskState → Result EncodedImage Why → DeskState → Type 0
-EndsEncoding targa E old (Ok v) new = (I : Image) × TakesPieces (IsImageRead targa I (rest_of new.left)) old new × IsEncodedImage (E I) I v
+abbrev pub EndsEncoding : Bool → (Image → Encoding) → DeskState → Result EncodedPicture Why → DeskState → Type 0
+EndsEncoding targa E old (Ok v) new = (I : Image) × TakesPieces (IsImageRead targa I (rest_of new.left)) old new × IsEncodedPicture (E I) I v
 EndsEncoding targa E old (Err (why.Picture fault)) new = (I : Image) × TakesPieces (IsImageRead targa I (rest_of new.left)) old new × (sampling_fault (E I) I ≡ Some fault)
 EndsEncoding targa E old (Err other) new = NoValueTaken (image_judging targa) old other new
 
 -- FROM THE NAME of the file
-abbrev pub EncodedRead : Bool → (Image → Encoding) → Name → DeskState → Result EncodedImage Why → DeskState → Type 0
+abbrev pub EncodedRead : Bool → (Image → Encoding) → Name → DeskState → Result EncodedPicture Why → DeskState → Type 0
 EncodedRead targa E file old (Ok v) new =
-    Asks (file ∷ []) put.Done old new × ((I : Image) × ReadsFrom (Some file) (IsImageRead targa I (rest_of new.left)) old new × IsEncodedImage (E I) I v)
+    Asks (file ∷ []) put.Done old new × ((I : Image) × ReadsFrom (Some file) (IsImageRead targa I (rest_of new.left)) old new × IsEncodedPicture (E I) I v)
 EncodedRead targa E file old (Err (why.Picture fault)) new =
     Asks (file ∷ []) put.Done old new × ((I : Image) × ReadsFrom (Some file) (IsImageRead targa I (rest_of new.left)) old new × (sampling_fault (E I) I ≡ Some fault))
 EncodedRead targa E file old (Err other) new = NoValueRead (image_judging targa) file old other new

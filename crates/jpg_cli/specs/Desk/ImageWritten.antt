@@ -19,6 +19,7 @@ use Rattle.jpg_file.specs.Read.PictureRead.{MeansFor}
 use Rattle.jpg_file.specs.declared.write.Plan.{Plan}
 use Rattle.jpg_scans.specs.Restarts.{restart_of}
 use Rattle.jpg_color.specs.Encode.{image_view}
+use Rattle.jpg_color.specs.EncodedParts.{ViewParts}
 use Rattle.jpg_pnm_bmp.specs.declared.read.pixels.Image.{Image as Read}
 use Rattle.jpg_file.specs.declared.read.picture.Picture.{Picture}
 use Rattle.jpg_color.specs.declared.encode.view.EncodedImage.{EncodedImage}
@@ -77,11 +78,11 @@ WritesEncoded w scans v old ended new = (e : Encoding) (I : Image) → IsAskedBy
 abbrev pub WritesView : EncodeWords → Scans → EncodedImage → DeskState → Wrote → DeskState → Type 0
 WritesView w scans v old answer new = WritesEncoded w scans v old (why_wrote answer) new
 
--- THE PLAN of its file in these scans: its parts, and no kept marker that is passed on
-pub record IsPlanOf (w : EncodeWords) (v : EncodedImage) (script : List Entry) (plan : Plan) : Type 0 where
+-- THE PLAN of a file of these parts in these scans: no kept marker is passed on.
+pub record IsPlanOf (w : EncodeWords) (v : ViewParts) (script : List Entry) (plan : Plan) : Type 0 where
   pub frame : plan.out.frame ≡ v.frame
   pub colour : plan.out.colour ≡ v.colour
-  pub quants : plan.out.quants.items ≡ v.quants.items
+  pub quants : plan.out.quants.items ≡ v.quants
   pub jfif : plan.out.jfif ≡ v.jfif
   pub copying : plan.out.copying ≡ copying.None
   pub script_is : plan.script ≡ script

@@ -65,9 +65,9 @@ pub fn write_moved<D: Desk>(
     }
 }
 
-// Creates the output. It remains a call, so that its stack is free again when the file is written.
+/// Creates the output. It remains a call, so that its stack is free again when the file is written.
 #[inline(never)]
-fn create_output<D: Desk>(output: &Name, desk: &mut D) -> Put
+pub(crate) fn create_output<D: Desk>(output: &Name, desk: &mut D) -> Put
     ensures { Creates (D.state desk.old) output.now result (D.state desk.new) }
 {
     desk.create(output)

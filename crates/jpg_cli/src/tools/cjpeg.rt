@@ -2,6 +2,7 @@
 ghost use Rattle.std.specs.Prelude.{◌≡◌, []};
 ghost use Rattle.jpg_transform.specs.Planned.{scans_view};
 ghost use Rattle.jpg_color.specs.Encode.{image_view};
+ghost use Rattle.jpg_color.specs.EncodeView.{view_parts};
 ghost use Rattle.jpg_pnm_bmp.specs.Made.{IsRightImage};
 ghost use Rattle.jpg_words.specs.EncodeWords.{encode_view};
 ghost use Rattle.jpg_cli.specs.Tools.EncodingAsked.{lent_tables};
@@ -10,6 +11,7 @@ ghost use Rattle.jpg_cli.specs.Desk.ImageWritten.{EncodesImage, IsEncodedBy, IsP
 ghost use Rattle.jpg_cli.specs.Desk.Writing.{why_wrote};
 ghost use Rattle.jpg_cli.specs.Stays.{OnlyWorks};
 
+use crate::desk::encoded_rows::{EncodedPicture, write_rows};
 use crate::desk::moved::{Wrote, write_moved, write_view};
 use crate::desk::script::take_scans;
 use crate::desk::tables::{Tables, take_tables};
@@ -70,7 +72,8 @@ fn encode_by<D: Desk>(
 {
     match read_encoded(alloc, words, scans, tables, desk) {
         Err(why) => why,
-        Ok(image) => write_image(alloc, image, words, scans, desk),
+        Ok(EncodedPicture::Planes(image)) => write_image(alloc, image, words, scans, desk),
+        Ok(EncodedPicture::Rows(rows)) => why_wrote(write_rows(&rows, &words.files.output, desk)),
     }
 }
 
@@ -124,7 +127,7 @@ fn write_blocks<D: Desk>(
 // How the file is written in these scans: no kept marker is passed on.
 #[inline(never)]
 fn plan_of(image: &EncodedImage, script: Script, words: &EncodeWords) -> Plan
-    ensures { IsPlanOf words.now image.now script result }
+    ensures { IsPlanOf words.now (view_parts image.now) script result }
 {
     image.frame.checked();
     Plan {

@@ -1,30 +1,48 @@
-//! The image of an input, read and encoded (the manual of cjpeg). The samples of P5 and P6 become planes as they come.
-ghost use Rattle.std.specs.Prelude.{◌≡◌, ◌≤◌, ◌+◌, IfOk, IfSome, OnOk, length, true};
+//! The image of an input, read and encoded (the manual of cjpeg). The samples of P5 and P6 become the data of the file's one
+//! scan as they come, or planes.
+ghost use Rattle.std.specs.Prelude.{◌≡◌, ◌≤◌, ◌+◌, IfErr, IfOk, IfSome, List, None, OnOk, Some, length, true, ℕ};
 ghost use Rattle.jpg_spec_words.specs.declared.answers.Why.TheVariants as why;
 ghost use Rattle.jpg_transform.specs.Planned.{scans_view};
 ghost use Rattle.jpg_color.specs.Encode.{image_view};
+ghost use Rattle.jpg_spec.specs.Geometry.{Frame as FrameOf};
+ghost use Rattle.jpg_spec.specs.Scan.{Blocks};
+ghost use Rattle.jpg_huff.specs.Encoder.{AreEncodersOf};
+ghost use Rattle.jpg_file.specs.Write.SoleScan.{IsAllOf, IsSole};
+ghost use Rattle.jpg_file.specs.Write.WriteFile.{CanWriteFile};
+ghost use Rattle.jpg_spec_image.specs.declared.image.ImageInfo.{ImageInfo as Numbers};
+ghost use Rattle.jpg_color.specs.EncodeRows.{RowScan};
 ghost use Rattle.jpg_color.specs.EncodeSampling.{samples_left};
+ghost use Rattle.jpg_color.specs.ImageEncoder.{HasTaken, encoder_left};
+ghost use Rattle.jpg_color.specs.ImageHead.{head_parts};
+ghost use Rattle.jpg_color.specs.declared.encode.Encoding.{Encoding as Asked};
+ghost use Rattle.jpg_color.specs.declared.encode.image_encoder.ImageEncoder.TheVariants as encoder;
 ghost use Rattle.jpg_pnm_bmp.specs.Made.{IsRightImage};
 ghost use Rattle.jpg_cli.specs.Desk.EncodedRead.{EncodedRead, Encodes, EndsEncoding};
-ghost use Rattle.jpg_cli.specs.Desk.ImageWritten.{why_not_encoded};
+ghost use Rattle.jpg_cli.specs.Desk.ImageWritten.{IsPlanOf, why_not_encoded};
 ghost use Rattle.jpg_cli.specs.Desk.ImageSource.{HasFedSome, source_samples, source_taken};
-ghost use Rattle.jpg_cli.specs.Desk.SamplesFed.{BeginsPlain, EndsPlain, FeedsNext, FeedsRest, FinishesImage, TakesSome};
+ghost use Rattle.jpg_cli.specs.Desk.SamplesFed.{AreGiven, BeginsPlain, EndsData, EndsPlain, EndsRows, FeedsAll, FeedsNext, FeedsRest, FinishesImage, FinishesPlanes, GivesData, GoesOn, GoesOnAsPlanes, GoesOnAsRows, GoesOnScan, HasSomeTaken, IsOneScanFor, IsPlannedFor, IsSamplerFor, TakesSome, has_frame_rows};
 ghost use Rattle.jpg_cli.specs.Tools.EncodingAsked.{asked_of, encoding_by};
 ghost use Rattle.jpg_cli.specs.Stays.{Keeps, OnlyReads};
 
+use crate::desk::encoded_rows::{EncodedPicture, EncodedRows, OneScan};
 use crate::desk::file::read_within;
 use crate::desk::image::next_piece;
 use crate::desk::image_source::{ImageSource, ImageStep};
 use crate::desk::tables::Tables;
 use crate::tools::cjpeg_encoding::encoding_of;
-use jpg_base::{Desk, Got, NoMemory, Put};
-use jpg_color::{EncodeStop, EncodedImage, Sampler};
+use jpg_base::{Bytes, Desk, Frame, Got, NoMemory, Put, QuantTable};
+use jpg_color::{EncodeStop, ImageEncoder, ImageHead, RowEncoder, Sampler};
+use jpg_file::{Plan, SoleScan, sole_scan};
+use jpg_huff::{EncoderPlaces, EncoderSet, TableSet};
+use jpg_markers::OutHead;
 use jpg_pnm_bmp::Image;
-use jpg_spec::{Fault, FaultAt, Limits};
+use jpg_scans::Script;
+use jpg_spec::{Copying, Fault, FaultAt, Limits};
 use jpg_spec_words::{Which, Why};
-use jpg_transform::{Scans, counted};
+use jpg_transform::{Scans, counted, script_due};
 use jpg_words::EncodeWords;
 use std::alloc::Global;
+use std::boxed::Box;
 
 /// The image of the input, encoded as the words ask for it. The file is read in pieces of at most 16,384 bytes, up to
 /// the one with its last sample or its first fault; a fault of its factors and grids comes after all faults of the
@@ -37,7 +55,7 @@ pub fn read_encoded<D: Desk>(
     scans: &Scans,
     tables: Option<&Tables>,
     desk: &mut D,
-) -> Result<EncodedImage, Why>
+) -> Result<EncodedPicture, Why>
     ensures kept { Keeps (D.state desk.old) (D.state desk.new) }
     ensures read { EncodedRead words.now.targa (encoding_by words.now (scans_view scans.now) tables.entry) words.now.files.input (D.state desk.old) result (D.state desk.new) }
 {
@@ -54,7 +72,7 @@ fn take_encoded<D: Desk>(
     scans: &Scans,
     tables: Option<&Tables>,
     desk: &mut D,
-) -> Result<EncodedImage, Why>
+) -> Result<EncodedPicture, Why>
     requires open { (D.state desk.old).input_open ≡ true }
     ensures kept { OnlyReads (D.state desk.old) (D.state desk.new) }
     ensures read { EndsEncoding words.now.targa (encoding_by words.now (scans_view scans.now) tables.entry) (D.state desk.old) result (D.state desk.new) }
@@ -65,7 +83,11 @@ fn take_encoded<D: Desk>(
         match next_piece(&mut reader, &mut buffer, desk) {
             ImageStep::More => {
                 if let Some(sampler) = sampler_for(alloc, &reader, words, scans, tables) {
-                    return encode_rest(&reader, sampler, &mut buffer, desk);
+                    let Some(file) = one_scan(alloc, &sampler, words, scans) else {
+                        let planes = ImageEncoder::Planes(sampler);
+                        return encode_planes(&reader, planes, &mut buffer, desk);
+                    };
+                    return encode_rows(alloc, &reader, sampler, file, &mut buffer, desk);
                 }
             }
             ImageStep::Whole => return encode_whole(alloc, &reader.take(), words, scans, tables),
@@ -81,7 +103,7 @@ fn encode_whole(
     words: &EncodeWords,
     scans: &Scans,
     tables: Option<&Tables>,
-) -> Result<EncodedImage, Why>
+) -> Result<EncodedPicture, Why>
     requires { IsRightImage (image_view image.now) }
     ensures { Encodes (asked_of words.now (scans_view scans.now) tables.entry image.now) (image_view image.now) result }
 {
@@ -133,54 +155,245 @@ fn sampler_for(
     }
 }
 
-// The image whose first samples the reader has, and whose others are the bytes that follow, encoded.
-fn encode_rest<D: Desk>(
+// The image whose first samples the reader has, and whose others are the bytes that follow, encoded as planes.
+fn encode_planes<'a, D: Desk>(
     reader: &ImageSource,
-    sampler: Sampler,
+    encoder: ImageEncoder<'a>,
     buffer: &mut [u8; 16384],
     desk: &mut D,
-) -> Result<EncodedImage, Why>
+) -> Result<EncodedPicture, Why>
+    requires open { (D.state desk.old).input_open ≡ true }
+    requires few { length (source_samples reader.now) ≤ encoder_left encoder }
+    requires within { source_taken reader.now ≤ 1099511627776 }
+    requires goes { GoesOnAsPlanes reader.now encoder (D.state desk.old) }
+    ensures kept { OnlyReads (D.state desk.old) (D.state desk.new) }
+    ensures ended { EndsPlain reader.now encoder.entry (D.state desk.old) result (D.state desk.new) }
+{
+    let mut encoder = encoder;
+    match feed_all(reader, &mut encoder, buffer, desk) {
+        Err(why) => Err(why),
+        Ok(()) => finish_planes(encoder),
+    }
+}
+
+// The encoded image of an encoder that was given all samples as planes.
+fn finish_planes(encoder: ImageEncoder<'_>) -> Result<EncodedPicture, Why>
+    requires { (info : Numbers) × (a : Asked) × (samples : List ℕ) × HasTaken None info a samples encoder }
+    ensures { FinishesPlanes encoder.entry result }
+{
+    match encoder {
+        ImageEncoder::Planes(sampler) => finish(sampler),
+        ImageEncoder::Rows(_) => unreachable!(),
+    }
+}
+
+// The image whose first samples the reader has, and whose others are the bytes that follow, encoded MCU row by MCU row as
+// the data of the one scan of this file.
+#[inline(never)]
+fn encode_rows<D: Desk>(
+    alloc: Global,
+    reader: &ImageSource,
+    sampler: Sampler,
+    file: OneScan,
+    buffer: &mut [u8; 16384],
+    desk: &mut D,
+) -> Result<EncodedPicture, Why>
     requires open { (D.state desk.old).input_open ≡ true }
     requires few { length (source_samples reader.now) ≤ samples_left sampler }
     requires within { source_taken reader.now ≤ 1099511627776 }
+    requires goes { GoesOnAsRows reader.now sampler file (D.state desk.old) }
     ensures kept { OnlyReads (D.state desk.old) (D.state desk.new) }
-    ensures ended { EndsPlain reader.now sampler (D.state desk.old) result (D.state desk.new) }
+    ensures ended { EndsRows reader.now sampler file (D.state desk.old) result (D.state desk.new) }
 {
-    let mut sampler = sampler;
-    match sampler.feed(reader.samples()) {
-        Err(_) => Err(Why::NoMemory),
-        Ok(()) => match feed_rest(&mut sampler, reader.taken(), buffer, desk) {
-            Err(why) => Err(why),
-            Ok(()) => finish(sampler),
+    let scan = file.scan.as_ref();
+    let Ok(places) = places_for(alloc, &scan.tables) else {
+        return Err(Why::NoMemory);
+    };
+    let encoders = EncoderSet::new(&scan.tables, places.as_ref());
+    let rows = RowEncoder::new(alloc, sampler, &scan.due.head, encoders, scan.due.interval);
+    match rows_data(reader, ImageEncoder::Rows(rows), buffer, desk) {
+        Err(why) => Err(why),
+        Ok(bytes) => Ok(EncodedPicture::Rows(EncodedRows { file, bytes })),
+    }
+}
+
+// The data of an encoder that has no samples yet, and is given those that the reader has and those that follow.
+fn rows_data<'a, D: Desk>(
+    reader: &ImageSource,
+    encoder: ImageEncoder<'a>,
+    buffer: &mut [u8; 16384],
+    desk: &mut D,
+) -> Result<Bytes, Why>
+    requires open { (D.state desk.old).input_open ≡ true }
+    requires few { length (source_samples reader.now) ≤ encoder_left encoder }
+    requires within { source_taken reader.now ≤ 1099511627776 }
+    requires goes { GoesOnScan reader.now encoder (D.state desk.old) }
+    ensures kept { OnlyReads (D.state desk.old) (D.state desk.new) }
+    ensures ended { EndsData reader.now encoder.entry (D.state desk.old) result (D.state desk.new) }
+{
+    let mut encoder = encoder;
+    match feed_all(reader, &mut encoder, buffer, desk) {
+        Err(why) => Err(why),
+        Ok(()) => data_of(encoder),
+    }
+}
+
+// The data of an encoder that was given all samples.
+fn data_of(encoder: ImageEncoder<'_>) -> Result<Bytes, Why>
+    requires { (w : RowScan) × (info : Numbers) × (a : Asked) × (samples : List ℕ) × HasTaken (Some w) info a samples encoder }
+    ensures gives { IfOk result (GivesData encoder.entry) }
+    ensures memory { IfErr result (λ e. e ≡ why.NoMemory) }
+{
+    match encoder {
+        ImageEncoder::Rows(rows) => match rows.finish() {
+            Ok(bytes) => Ok(bytes),
+            Err(_) => Err(Why::NoMemory),
         },
+        ImageEncoder::Planes(_) => unreachable!(),
+    }
+}
+
+// How the file of the image of a sampler is written, if it has one scan of typical tables whose rows of MCUs are those of
+// the frame. Otherwise, and where there is no memory for that, None.
+#[inline(never)]
+fn one_scan(alloc: Global, sampler: &Sampler, words: &EncodeWords, scans: &Scans) -> Option<OneScan>
+    requires { IsSamplerFor words.now (scans_view scans.now) sampler.now }
+    ensures { IfSome result (IsOneScanFor words.now (scans_view scans.now) sampler.now) }
+{
+    let Ok(head) = sampler.head() else {
+        return None;
+    };
+    if !has_rows(&head.frame) {
+        return None;
+    }
+    let plan = plan_for(alloc, &head, words, scans)?;
+    let scan = scan_for(alloc, plan.as_ref())?;
+    Some(OneScan {
+        plan,
+        kept: head.kept,
+        scan,
+    })
+}
+
+// How the file with this head is written in these scans, if they are possible and there is memory for it.
+#[inline(never)]
+fn plan_for(
+    alloc: Global,
+    head: &ImageHead,
+    words: &EncodeWords,
+    scans: &Scans,
+) -> Option<Box<Plan, Global>>
+    ensures { IfSome result (λ p. IsPlannedFor words.now (scans_view scans.now) head.now p.value) }
+{
+    let script = script_due(scans, &head.frame, head.colour);
+    let Ok(()) = script.check(&head.frame) else {
+        return None;
+    };
+    let Ok(plan) = Box::new(alloc, plan_of_head(head, script, words)) else {
+        return None;
+    };
+    Some(plan)
+}
+
+// What its only scan is written with, if it has one of typical tables and there is memory for it.
+#[inline(never)]
+fn scan_for(alloc: Global, plan: &Plan) -> Option<Box<SoleScan, Global>>
+    requires { (kept : List (ℕ × List ℕ)) × (f : FrameOf) × (blocks : Blocks) × CanWriteFile plan.now kept f blocks }
+    ensures sole { IfSome result (λ s. IsSole plan.now s.value) }
+    ensures all { IfSome result (λ s. IsAllOf plan.now s.value) }
+{
+    let Ok(scan) = Box::new(alloc, sole_scan(plan)?) else {
+        return None;
+    };
+    Some(scan)
+}
+
+// The encoders of a set of tables.
+#[inline(never)]
+fn places_for(alloc: Global, tables: &TableSet) -> Result<Box<EncoderPlaces, Global>, NoMemory>
+    ensures { IfOk result (λ p. AreEncodersOf tables.now p.value.ac) }
+{
+    let Ok(places) = Box::new(alloc, EncoderPlaces::new()) else {
+        return Err(NoMemory);
+    };
+    let mut places = places;
+    places.fill(tables);
+    Ok(places)
+}
+
+// Whether the rows of MCUs of a scan of all components are those of the frame: where there is one component, its vertical
+// factor is 1 (T.81, A.2.2).
+fn has_rows(frame: &Frame) -> bool
+    ensures { result ≡ has_frame_rows frame.now }
+{
+    frame.count() != 1 || frame.component(0).v == 1
+}
+
+// How the file with this head is written.
+fn plan_of_head(head: &ImageHead, script: Script, words: &EncodeWords) -> Plan
+    ensures { (blocks : Blocks) → IsPlanOf words.now (head_parts head.now blocks) script result }
+{
+    head.frame.checked();
+    Plan {
+        out: OutHead {
+            frame: head.frame.copy(),
+            colour: head.colour,
+            quants: QuantTable::copied(head.quants.as_slice()),
+            jfif: head.jfif,
+            copying: Copying::None,
+        },
+        script,
+        huffman: words.huffman,
+        restart: words.restart,
     }
 }
 
 // The encoded image, all samples of which were given.
-fn finish(sampler: Sampler) -> Result<EncodedImage, Why>
+fn finish(sampler: Sampler) -> Result<EncodedPicture, Why>
     ensures { FinishesImage sampler result }
 {
     match sampler.finish() {
-        Ok(image) => Ok(image),
+        Ok(image) => Ok(EncodedPicture::Planes(image)),
         Err(_) => Err(Why::NoMemory),
+    }
+}
+
+// Gives the encoder the samples that the reader has, and reads the others.
+fn feed_all<D: Desk>(
+    reader: &ImageSource,
+    encoder: &mut ImageEncoder<'_>,
+    buffer: &mut [u8; 16384],
+    desk: &mut D,
+) -> Result<(), Why>
+    requires open { (D.state desk.old).input_open ≡ true }
+    requires few { length (source_samples reader.now) ≤ encoder_left encoder.old }
+    requires within { source_taken reader.now ≤ 1099511627776 }
+    requires goes { GoesOn reader.now encoder.old (D.state desk.old) }
+    ensures kept { OnlyReads (D.state desk.old) (D.state desk.new) }
+    ensures fed { FeedsAll reader.now encoder.old (D.state desk.old) result encoder.new (D.state desk.new) }
+{
+    match encoder.feed(reader.samples()) {
+        Err(_) => Err(Why::NoMemory),
+        Ok(()) => feed_rest(encoder, reader.taken(), buffer, desk),
     }
 }
 
 // Reads the samples that are left, after `taken` bytes.
 fn feed_rest<D: Desk>(
-    sampler: &mut Sampler,
+    encoder: &mut ImageEncoder<'_>,
     taken: u64,
     buffer: &mut [u8; 16384],
     desk: &mut D,
 ) -> Result<(), Why>
     requires open { (D.state desk.old).input_open ≡ true }
     requires within { taken ≤ 1099511627776 }
+    requires given { AreGiven encoder.old taken (D.state desk.old) }
     ensures kept { OnlyReads (D.state desk.old) (D.state desk.new) }
-    ensures fed { FeedsRest sampler.old taken (D.state desk.old) result sampler.new (D.state desk.new) }
+    ensures fed { FeedsRest encoder.old taken (D.state desk.old) result encoder.new (D.state desk.new) }
 {
     let mut read = taken;
-    while sampler.left() > 0 {
-        match next_samples(sampler, read, buffer, desk) {
+    while encoder.left() > 0 {
+        match next_samples(encoder, read, buffer, desk) {
             Ok(count) => read += count,
             Err(why) => return Err(why),
         }
@@ -191,16 +404,17 @@ fn feed_rest<D: Desk>(
 // Reads a piece after `taken` bytes, where samples are left and fewer bytes were read than may be. Returns how many
 // bytes it has.
 fn next_samples<D: Desk>(
-    sampler: &mut Sampler,
+    encoder: &mut ImageEncoder<'_>,
     taken: u64,
     buffer: &mut [u8; 16384],
     desk: &mut D,
 ) -> Result<u64, Why>
     requires open { (D.state desk.old).input_open ≡ true }
     requires within { taken ≤ 1099511627776 }
+    requires given { AreGiven encoder.old taken (D.state desk.old) }
     ensures kept { OnlyReads (D.state desk.old) (D.state desk.new) }
     ensures goes_on { IfOk result (λ n. ((D.state desk.new).input_open ≡ true) × (1 ≤ n) × (taken + n ≤ 1099511627776)) }
-    ensures fed { FeedsNext sampler.old taken (D.state desk.old) result sampler.new (D.state desk.new) }
+    ensures fed { FeedsNext encoder.old taken (D.state desk.old) result encoder.new (D.state desk.new) }
 {
     let most = Limits::standard().input;
     let room = most - taken;
@@ -210,7 +424,7 @@ fn next_samples<D: Desk>(
     match read_within(desk, room, buffer) {
         Got::Failed => Err(Why::ReadFault(Which::Input)),
         Got::End => Err(refused(Fault::ImageShort, taken)),
-        Got::Bytes(count) => match feed_piece(sampler, &buffer[..count as usize]) {
+        Got::Bytes(count) => match feed_piece(encoder, &buffer[..count as usize]) {
             Ok(()) => Ok(u64::from(count)),
             Err(_) => Err(Why::NoMemory),
         },
@@ -218,11 +432,12 @@ fn next_samples<D: Desk>(
 }
 
 // Gives it the samples of a piece: bytes after the last sample are left unread.
-fn feed_piece(sampler: &mut Sampler, piece: &[u8]) -> Result<(), NoMemory>
-    ensures { OnOk result (TakesSome sampler.old piece.now sampler.new) }
+fn feed_piece(encoder: &mut ImageEncoder<'_>, piece: &[u8]) -> Result<(), NoMemory>
+    requires { HasSomeTaken encoder.old }
+    ensures { OnOk result (TakesSome encoder.old piece.now encoder.new) }
 {
-    let few = sampler.left().min(piece.len());
-    sampler.feed(&piece[..few])
+    let few = encoder.left().min(piece.len());
+    encoder.feed(&piece[..few])
 }
 
 // The fault of the bytes so far, at their number.

@@ -12,21 +12,21 @@ use Rattle.jpg_cli.proofs.Encoding.SamplesFed.{only_reads, samples_given, sample
 use Rattle.jpg_cli.proofs.tools.cjpeg_image.next_samples.Goals as goal
 
 pub returns-then-room-eq0-clause-fed : goal.returns-then-room-eq0-clause-fed
-returns-then-room-eq0-clause-fed g c = λ info a start bytes given h.
+returns-then-room-eq0-clause-fed g c = λ w info a start bytes given h.
     let s = g.D.Desk.state c.args.desk.now in
     let m = ap (λ (l : Limits). l.input) c.standard-most.ensures in
     let full : length bytes ≡ standard_limits.input = (let t = h.taken_is in let k = h.most in let z = c.if-room-eq0.true in omega arith) in
     subst (λ (w : Why). NoValueTaken (image_judging false) start w s) (sym (c.refused.ensures ∙ ap (λ n. why.Refused (record { fault = InputTooLong; at = n })) m)) (samples_too_long h full)
 
 pub returns-in-Failed-clause-fed : goal.returns-in-Failed-clause-fed
-returns-in-Failed-clause-fed g c = λ info a start bytes given h.
+returns-in-Failed-clause-fed g c = λ w info a start bytes given h.
     let read = c.in-Failed.ensures.read in
     let m = ap (λ (l : Limits). l.input) c.standard-most.ensures in
     let short : length bytes < standard_limits.input = (let t = h.taken_is in let z = c.if-room-eq0.false in omega arith) in
     samples_unread h (g.D.Desk.state c.read_within.new.desk) short read.after.0 read.after.1
 
 pub returns-in-End-clause-fed : goal.returns-in-End-clause-fed
-returns-in-End-clause-fed g c = λ info a start bytes given h.
+returns-in-End-clause-fed g c = λ w info a start bytes given h.
     let state = g.D.Desk.state in
     let read = c.in-End.ensures.read in
     let m = ap (λ (l : Limits). l.input) c.standard-most.ensures in
@@ -35,17 +35,17 @@ returns-in-End-clause-fed g c = λ info a start bytes given h.
     (samples_short h (state c.read_within.new.desk) short read.after.0 read.after.1)
 
 pub returns-in-Ok-clause-fed : goal.returns-in-Ok-clause-fed
-returns-in-Ok-clause-fed g c = λ info a start bytes given h.
+returns-in-Ok-clause-fed g c = λ w info a start bytes given h.
     let state = g.D.Desk.state in
     let m = ap (λ (l : Limits). l.input) c.standard-most.ensures in
     let t = h.taken_is in
     let z = c.if-room-eq0.false in
     let fits = within_most bytes c.read_within.new.buffer c.in-Bytes.count _ (omega (arith)) (omega (arith)) c.in-Bytes.ensures.within in
-    subst (λ (n : ℕ). SoFarGiven info a start c.feed_piece.new.sampler (c.args.taken + n) (state c.read_within.new.desk)) (sym c.from.ensures)
-    (samples_given h c.feed_piece.new.sampler (state c.read_within.new.desk) c.in-Bytes.count c.read_within.new.buffer (omega arith) (omega arith) fits c.in-Bytes.ensures.read (only_reads c.in-Bytes.ensures.read) c.in-Ok.ensures)
+    subst (λ (n : ℕ). SoFarGiven w info a start c.feed_piece.new.encoder (c.args.taken + n) (state c.read_within.new.desk)) (sym c.from.ensures)
+    (samples_given h c.feed_piece.new.encoder (state c.read_within.new.desk) c.in-Bytes.count c.read_within.new.buffer (omega arith) (omega arith) fits c.in-Bytes.ensures.read (only_reads c.in-Bytes.ensures.read) c.in-Ok.ensures)
 
 pub returns-in-Err-clause-fed : goal.returns-in-Err-clause-fed
-returns-in-Err-clause-fed g c = λ info a start bytes given h.
+returns-in-Err-clause-fed g c = λ w info a start bytes given h.
     let state = g.D.Desk.state in
     let m = ap (λ (l : Limits). l.input) c.standard-most.ensures in
     let t = h.taken_is in

@@ -1,0 +1,36 @@
+use Rattle.std.proofs.Common.{◌∙◌, ap, false}
+use Rattle.jpg_huff.specs.declared.set.TableSet.{TableSet}
+use Rattle.jpg_file.specs.declared.write.sole.SoleScan.{SoleScan}
+use Rattle.jpg_color.specs.EncodeRows.{row_scan}
+use Rattle.jpg_cli.specs.Desk.EncodedRows.{scan_of}
+use Rattle.jpg_cli.proofs.Encoding.EncodedRead.{begun_unheld, none_encoded, rows_encoded, rows_go}
+use Rattle.jpg_cli.proofs.tools.cjpeg_image.encode_rows.Goals as goal
+
+pub rows_data-requires-clause-goes : goal.rows_data-requires-clause-goes
+rows_data-requires-clause-goes g c =
+    let r = c.requires.goes in
+    let due = c.as_ref-scan.result.now.due in (
+      r.0,
+      scan_of c.args.file,
+      r.1,
+      r.2,
+      rows_go (row_scan due.head c.new-encoders.result due.interval) c.new-rows.result c.new-rows.ensures.begins
+          (ap (λ (t : TableSet). row_scan due.head t due.interval) c.new-encoders.ensures ∙ ap (λ (s : SoleScan). row_scan (s.due).head s.tables (s.due).interval) c.as_ref-scan.ensures) r.3,
+    )
+
+pub returns-in-Err-clause-ended : goal.returns-in-Err-clause-ended
+returns-in-Err-clause-ended g c = λ E start bytes h.
+    let due = c.as_ref-scan.result.now.due in
+    none_encoded false E start (g.D.Desk.state c.rows_data.new.desk) c.in-Err.why
+    (c.in-Err.ensures.ended E (scan_of c.args.file) start bytes (rows_go (row_scan due.head c.new-encoders.result due.interval) c.new-rows.result c.new-rows.ensures.begins
+    (ap (λ (t : TableSet). row_scan due.head t due.interval) c.new-encoders.ensures ∙ ap (λ (s : SoleScan). row_scan (s.due).head s.tables (s.due).interval) c.as_ref-scan.ensures) h))
+
+pub returns-in-Ok-rows_data-clause-ended : goal.returns-in-Ok-rows_data-clause-ended
+returns-in-Ok-rows_data-clause-ended g c = λ E start bytes h.
+    let due = c.as_ref-scan.result.now.due in
+    rows_encoded h c.in-Ok-rows_data.bytes
+    (c.in-Ok-rows_data.ensures.ended E (scan_of c.args.file) start bytes (rows_go (row_scan due.head c.new-encoders.result due.interval) c.new-rows.result c.new-rows.ensures.begins
+    (ap (λ (t : TableSet). row_scan due.head t due.interval) c.new-encoders.ensures ∙ ap (λ (s : SoleScan). row_scan (s.due).head s.tables (s.due).interval) c.as_ref-scan.ensures) h))
+
+pub returns-in_default-clause-ended : goal.returns-in_default-clause-ended
+returns-in_default-clause-ended g c = λ E start bytes h. begun_unheld h.goes
