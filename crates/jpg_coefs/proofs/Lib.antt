@@ -6,6 +6,7 @@ pub mod Exchanged
 pub mod Laid
 pub mod Maps
 pub mod MarkSinks
+pub mod PackedCells
 pub mod Places
 pub mod ScanDue
 pub mod ScanGiven

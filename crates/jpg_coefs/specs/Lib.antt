@@ -1,7 +1,9 @@
 pub mod BitSinks
 pub mod Copied
+pub mod Kept
 pub mod Machine
 pub mod MarkSinks
+pub mod PackedCells
 pub mod Picture
 pub mod ScanUnits
 pub mod Sinks

@@ -1,6 +1,5 @@
 //! The coefficients of a picture: the blocks of all padded grids (T.81, A.2.4).
 ghost use Rattle.std.specs.Prelude.{◌≡◌, IfOk, replicate, length, ℕ};
-ghost use Rattle.std.specs.Vec.{vec_len};
 ghost use Rattle.jpg_spec.specs.Elements.{zeros};
 ghost use Rattle.jpg_spec.specs.Geometry.{padded_blocks};
 ghost use Rattle.jpg_base.specs.Cursor.{IsPadded};
@@ -8,10 +7,10 @@ ghost use Rattle.jpg_coefs.specs.Picture.{block_in, map_of, with_block};
 
 use crate::BlockView;
 use crate::layout::{BlockOrder, Layout};
+use crate::store::BlockStore;
 use jpg_base::{Block, Frame, NoMemory};
 use std::alloc::Global;
 use std::marker::Model;
-use std::vec::Vec;
 
 /// All blocks of the padded grids of a frame.
 #[derive(Drop)]
@@ -21,21 +20,20 @@ pub struct Coefs {
     // Where they are stored.
     layout: Layout,
     // All blocks.
-    blocks: Vec<Block>,
+    blocks: BlockStore,
 }
 
 impl Model for Coefs {
-    ghost use Rattle.std.specs.Prelude.{◌≡◌, length, All};
-    ghost use Rattle.std.specs.Vec.{vec_len};
+    ghost use Rattle.std.specs.Prelude.{◌≡◌, length};
     ghost use Rattle.jpg_spec.specs.Geometry.{padded_blocks};
     ghost use Rattle.jpg_coefs.specs.Picture.{Picture};
     ghost use Rattle.jpg_coefs.specs.Stored.{IsLaidOut, by_rows};
 
     ghost Value = { Picture };
 
-    ghost view = { λ c. record { frame = c.frame; blocks = by_rows c.frame c.layout.order c.blocks.items } };
+    ghost view = { λ c. record { frame = c.frame; blocks = by_rows c.frame c.layout.order c.blocks } };
 
-    ghost invariant = { λ c. IsLaidOut c.frame c.layout × (vec_len c.blocks ≡ padded_blocks c.frame) × All (λ b. length b ≡ 64) c.blocks.items };
+    ghost invariant = { λ c. IsLaidOut c.frame c.layout × (length c.blocks ≡ padded_blocks c.frame) };
 }
 
 impl Coefs {
@@ -44,7 +42,7 @@ impl Coefs {
         requires { IsPadded self.now.frame component x y }
         ensures { result ≡ block_in self.now component x y }
     {
-        self.blocks[self.layout.place(component, x, y)]
+        self.blocks.get(self.layout.place(component, x, y))
     }
 
     /// States, for proofs, that each block has 64 values, and that there is one for each place of the padded grids. It
@@ -53,7 +51,7 @@ impl Coefs {
         ensures sizes { (i x y : ℕ) → length (map_of self.now i x y) ≡ 64 }
         ensures count { length self.now.blocks ≡ padded_blocks self.now.frame }
     {
-        let _ = &self.blocks;
+        self.blocks.sized();
     }
 
     /// Puts a block of a component at a column and a row of its padded grid. All others remain.
@@ -61,9 +59,8 @@ impl Coefs {
         requires { IsPadded self.old.frame component x y }
         ensures { self.new ≡ with_block self.old component x y block.now }
     {
-        let _ = block.get(0);
         let place = self.layout.place(component, x, y);
-        self.blocks[place] = *block;
+        self.blocks.set(place, block);
     }
 
     /// Makes all blocks zero. The frame remains.
@@ -71,7 +68,7 @@ impl Coefs {
         ensures frame { self.new.frame ≡ self.old.frame }
         ensures zero { self.new.blocks ≡ replicate (padded_blocks self.old.frame) (zeros 64) }
     {
-        self.blocks.fill(Block::zero());
+        self.blocks.clear();
     }
 }
 
@@ -90,26 +87,26 @@ impl Coefs {
         ensures zero { IfOk result (λ c. c.blocks ≡ replicate (padded_blocks frame.now) (zeros 64)) }
     {
         let (layout, count) = Layout::new(frame, order);
-        let blocks = zero_blocks(alloc, count as usize)?;
+        let blocks = BlockStore::whole(alloc, count)?;
         Ok(Coefs {
             frame: frame.copy(),
             layout,
             blocks,
         })
     }
-}
 
-// So many blocks, zero.
-fn zero_blocks(alloc: Global, count: usize) -> Result<Vec<Block>, NoMemory>
-    ensures items { IfOk result (λ v. v.items ≡ replicate count (zeros 64)) }
-    ensures count { IfOk result (λ v. vec_len v ≡ count) }
-{
-    let Ok(mut blocks) = Vec::with_capacity(alloc, count) else {
-        return Err(NoMemory);
-    };
-    match blocks.resize(count, Block::zero()) {
-        Ok(()) => Ok(blocks),
-        Err(_) => Err(NoMemory),
+    /// The same, where a block takes half of the memory if its AC fit into a byte each: for blocks that are put once.
+    pub fn packed(alloc: Global, frame: &Frame, order: BlockOrder) -> Result<Coefs, NoMemory>
+        ensures frame { IfOk result (λ c. c.frame ≡ frame.now) }
+        ensures zero { IfOk result (λ c. c.blocks ≡ replicate (padded_blocks frame.now) (zeros 64)) }
+    {
+        let (layout, count) = Layout::new(frame, order);
+        let blocks = BlockStore::packed(alloc, count)?;
+        Ok(Coefs {
+            frame: frame.copy(),
+            layout,
+            blocks,
+        })
     }
 }
 

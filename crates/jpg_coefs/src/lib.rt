@@ -1,12 +1,15 @@
 //! The coefficients of a picture, and the traits of what reads and writes them (T.81, A.2, F.1.1.5).
 #![tactic(auto)]
 
+mod cell;
 mod coefs;
 mod end;
 mod intervals;
 mod laws;
 mod layout;
 mod machine;
+mod packed;
+mod store;
 mod view;
 
 pub use coefs::Coefs;

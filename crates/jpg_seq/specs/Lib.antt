@@ -1,4 +1,3 @@
-pub mod BytesTaken
 pub mod Coder
 pub mod Counted
 pub mod Judge

@@ -1,5 +1,4 @@
--- Bits of a sequential scan that are taken while an MCU row is read, whose blocks are stored without the rest of the
--- picture.
+-- Bits of a sequential scan that are taken while all blocks of a picture are stored, or those of one row of its MCUs.
 use Rattle.std.specs.Prelude.{◌≡◌, ℕ, ◌+◌, ◌<◌, ◌≤◌, Bool, List, drop}
 use Rattle.jpg_spec.specs.Bits.{bits_of_bytes}
 use Rattle.jpg_coefs.specs.Machine.{Interval, TakesBits}
@@ -7,27 +6,27 @@ use Rattle.jpg_coefs.specs.Picture.{Picture}
 use Rattle.jpg_coefs.specs.declared.machine.Taken.{Taken}
 use Rattle.jpg_coefs.specs.declared.machine.Taken.TheVariants as taken
 use Rattle.jpg_seq.specs.Reader.{RepresentsSeqScan, sequential}
-use Rattle.jpg_seq.specs.Rows.{IsRowOf}
+use Rattle.jpg_seq.specs.Rows.{Part, Shows}
 use Rattle.jpg_seq.specs.SoFar.{Spot, SoFar}
 use Rattle.jpg_seq.specs.declared.reader.BytesTaken.{BytesTaken}
 use Rattle.jpg_seq.specs.declared.reader.SeqReader.{SeqReader}
 
 -- The machine was given some bits, and the complete picture has what they encode.
-abbrev pub IsOpenRow : SeqReader → Picture → Type 0
-IsOpenRow m whole = (i : Interval) × (bits : List Bool) × RepresentsSeqScan m i bits whole
+abbrev pub IsOpen : SeqReader → Picture → Type 0
+IsOpen m whole = (i : Interval) × (bits : List Bool) × RepresentsSeqScan m i bits whole
 
--- there is a picture of which these blocks are the MCU row
-abbrev pub CanReadRow : List ℕ → SeqReader → Picture → Type 0
-CanReadRow tops m row = (whole : Picture) × IsRowOf tops whole row × IsOpenRow m whole
+-- there is a picture of which these blocks are a part
+abbrev pub CanReadInto : List ℕ → SeqReader → Picture → Type 0
+CanReadInto tops m stored = (part : Part) × (whole : Picture) × Shows part tops whole stored × IsOpen m whole
 
--- Whatever picture the MCU row was of, the bits are taken into it, and the row is that of the picture after them.
-abbrev pub TakesInRow : ℕ → List ℕ → SeqReader → Picture → List Bool → Taken → SeqReader → Picture → List Bool → Type 0
-TakesInRow most tops m row store answer new after rest =
-    (whole : Picture) → IsRowOf tops whole row → IsOpenRow m whole
-    → (now : Picture) × IsRowOf tops now after × TakesBits sequential most m whole store answer new now rest
+-- Whatever picture the blocks are a part of, the bits are taken into it, and they are that part of the picture after them.
+abbrev pub ReadsInto : ℕ → List ℕ → SeqReader → Picture → List Bool → Taken → SeqReader → Picture → List Bool → Type 0
+ReadsInto most tops m stored store answer new after rest =
+    (part : Part) (whole : Picture) → Shows part tops whole stored → IsOpen m whole
+    → (now : Picture) × Shows part tops now after × TakesBits sequential most m whole store answer new now rest
 
-abbrev pub TakesBytesInRow : ℕ → List ℕ → SeqReader → Picture → List ℕ → BytesTaken → SeqReader → Picture → Type 0
-TakesBytesInRow most tops m row bytes result new after = TakesInRow most tops m row (bits_of_bytes bytes) result.taken new after (drop result.bits (bits_of_bytes bytes))
+abbrev pub ReadsBytesInto : ℕ → List ℕ → SeqReader → Picture → List ℕ → BytesTaken → SeqReader → Picture → Type 0
+ReadsBytesInto most tops m stored bytes result new after = ReadsInto most tops m stored (bits_of_bytes bytes) result.taken new after (drop result.bits (bits_of_bytes bytes))
 
 -- how many units a result means: fewer than were asked for, or all of them, or all of the interval
 abbrev pub IsCountOf : ℕ → Taken → SeqReader → ℕ → Type 0
@@ -44,9 +43,9 @@ pub record PassesPlaces (most : ℕ) (m : SeqReader) (answer : Taken) (new : Seq
   pub left : m.left ≡ new.left + units
 
 -- What was read in one call so far: fewer complete units than were asked for.
-pub record ReadsRow (most : ℕ) (tops : List ℕ) (from now : Spot) (done : ℕ) : Type 0 where
-  pub so_far : (whole : Picture) → IsRowOf tops whole from.picture → IsOpenRow from.machine whole
-      → (after : Picture) × IsRowOf tops after now.picture × SoFar most (record from { picture = whole }) (record now { picture = after }) done
+pub record ReadsSoFar (most : ℕ) (tops : List ℕ) (from now : Spot) (done : ℕ) : Type 0 where
+  pub so_far : (part : Part) (whole : Picture) → Shows part tops whole from.picture → IsOpen from.machine whole
+      → (after : Picture) × Shows part tops after now.picture × SoFar most (record from { picture = whole }) (record now { picture = after }) done
   pub framed : (now.picture).frame ≡ (from.picture).frame
   pub few : done < most
   pub cursor : (now.machine).cursor ≡ drop done (from.machine).cursor

@@ -1,5 +1,5 @@
--- One row of the MCUs of a picture, whose blocks are stored without the rest of the picture (T.81, A.2.3).
-use Rattle.std.specs.Prelude.{◌≡◌, ℕ, ◌+◌, ◌-◌, ◌*◌, ◌≤◌, ◌<◌, ◌==◌, if◌then◌else◌, true, List, drop, length, slice_index_or, All}
+-- The blocks of a picture that are stored: all, or those of one row of its MCUs (T.81, A.2.3).
+use Rattle.std.specs.Prelude.{◌≡◌, ℕ, ◌+◌, ◌-◌, ◌*◌, ◌≤◌, ◌<◌, ◌==◌, if◌then◌else◌, true, List, [], ◌∷◌, drop, length, slice_index_or, All}
 use Rattle.jpg_spec.specs.Geometry.{Frame, component_at, mcu_row_frame, mcu_units, padded_blocks, scan_mcus_across, units}
 use Rattle.jpg_spec.specs.declared.frame.Place.{Place}
 use Rattle.jpg_spec.specs.FrameHeader.{IsFrame}
@@ -16,11 +16,25 @@ pub record IsRowOf (tops : List ℕ) (whole row : Picture) : Type 0 where
   pub count : length whole.blocks ≡ padded_blocks whole.frame
   pub blocks : (i x y : ℕ) → is_padded row.frame i x y ≡ true → map_of row i x y ≡ map_of whole i x (top_of tops i + y)
 
--- a place of the picture as a place in the MCU row
+-- which of them are stored
+pub data Part : Type 0 where
+  all_blocks : Part
+  one_row : Part
+
+-- where the grids of a whole picture begin
+abbrev pub no_tops : List ℕ
+no_tops = 0 ∷ 0 ∷ 0 ∷ 0 ∷ []
+
+-- These blocks, which begin at these rows of the grids, are that part of the picture.
+abbrev pub Shows : Part → List ℕ → Picture → Picture → Type 0
+Shows all_blocks tops whole stored = (tops ≡ no_tops) × (stored ≡ whole)
+Shows one_row tops whole stored = IsRowOf tops whole stored
+
+-- a place of the picture as a place in what is stored
 abbrev pub lowered : List ℕ → Place → Place
 lowered tops p = record p { y = p.y - top_of tops p.component }
 
--- it is in the MCU row
+-- it is in what is stored
 pub record IsInRow (f : Frame) (tops : List ℕ) (p : Place) : Type 0 where
   pub below : top_of tops p.component ≤ p.y
   pub padded : IsPadded f p.component p.x (p.y - top_of tops p.component)

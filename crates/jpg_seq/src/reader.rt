@@ -5,15 +5,13 @@ ghost use Rattle.jpg_seq.specs.NewReader.{HasTables, IsBare, IsCoderOf, AreFille
 ghost use Rattle.jpg_spec.specs.Geometry.{padded_blocks};
 ghost use Rattle.jpg_spec.specs.Segments.{head_components};
 ghost use Rattle.jpg_base.specs.Cursor.{AreIn};
-ghost use Rattle.jpg_coefs.specs.Machine.{Interval, TakesBits};
-ghost use Rattle.jpg_base.specs.Cursor.{IsPadded};
-ghost use Rattle.jpg_coefs.specs.Picture.{put_at, with_block};
+ghost use Rattle.jpg_coefs.specs.Machine.{Interval};
+ghost use Rattle.jpg_coefs.specs.Picture.{put_at};
 ghost use Rattle.jpg_seq.specs.Work.{EndsUnit};
 ghost use Rattle.jpg_seq.specs.Source.{bits_in};
-ghost use Rattle.jpg_seq.specs.BytesTaken.{TakesBytes};
 ghost use Rattle.jpg_seq.specs.Rows.{AreInRow, IsInRow, lowered};
-ghost use Rattle.jpg_seq.specs.RowTaken.{CanReadRow, PassesPlaces, TakesBytesInRow, TakesInRow};
-ghost use Rattle.jpg_seq.specs.Reader.{CanRead, ReadsOn, RepresentsSeqScan, behind, with_work, sequential};
+ghost use Rattle.jpg_seq.specs.RowTaken.{CanReadInto, PassesPlaces, ReadsBytesInto, ReadsInto};
+ghost use Rattle.jpg_seq.specs.Reader.{CanRead, ReadsOn, behind, with_work, sequential};
 
 use crate::source::Source;
 use crate::values::{ValueDecoder, fill, no_short_value};
@@ -131,100 +129,45 @@ impl SeqReader {
             None => UnitProgress::Empty,
         }
     }
+}
 
-    // Puts the block of a complete unit, and begins the next unit.
+impl SeqReader {
+    // Puts the block of a complete unit into those that are stored, and begins the next unit.
     #[inline(always)]
-    fn put(&mut self, unit: &mut UnitWork, coefs: &mut Coefs, place: Place)
+    fn put(&mut self, unit: &mut UnitWork, coefs: &mut Coefs, tops: &[u32; 4], place: Place)
         requires small { place.component < 4 }
-        requires padded { IsPadded coefs.old.frame place.component place.x place.y }
+        requires here { IsInRow coefs.old.frame tops.now place }
         requires whole { length unit.old.values ≡ 64 }
         requires left { 1 ≤ self.old.left }
         requires place { 1 ≤ length self.old.cursor }
         ensures machine { with_work self.new unit.new ≡ behind (with_work self.old unit.old) place.component }
         ensures count { length coefs.old.blocks ≡ padded_blocks coefs.old.frame }
-        ensures block { coefs.new ≡ with_block coefs.old place.component place.x place.y unit.old.values }
+        ensures block { coefs.new ≡ put_at coefs.old (lowered tops.now place) unit.old.values }
     {
         coefs.checked();
         let block = unit.block();
-        coefs.set_block(place.component, place.x, place.y, &block);
+        let top = tops[place.component as usize];
+        coefs.set_block(place.component, place.x, place.y - top, &block);
         self.predictions[place.component as usize] = block.get(0);
         *unit = UnitWork::new();
         self.cursor.step();
         self.left -= 1;
     }
 
-    // Takes bits of the source, as `bits` does.
+    // Takes bits of the source, and puts the blocks into those that are stored.
     #[inline(always)]
     fn read(
         &mut self,
         unit: &mut UnitWork,
         source: &mut Source<'_>,
         coefs: &mut Coefs,
-        most: u64,
-    ) -> Taken
-        requires open { (i : Interval) × (bits : List Bool) × RepresentsSeqScan (with_work self.old unit.old) i bits coefs.old }
-        requires some { 1 ≤ most }
-        ensures { TakesBits sequential most (with_work self.old unit.old) coefs.old (bits_in source.old) result (with_work self.new unit.new) coefs.new (bits_in source.new) }
-    {
-        let mut done = 0;
-        loop {
-            let place = self.cursor.place();
-            match self.unit_bits(place.component, unit, source) {
-                UnitProgress::More => return Taken::More,
-                UnitProgress::Empty => return Taken::More,
-                UnitProgress::Fault(fault) => return Taken::Fault(fault),
-                UnitProgress::Done => {
-                    self.put(unit, coefs, place);
-                    if self.left == 0 {
-                        return Taken::IntervalDone;
-                    }
-                    done += 1;
-                    if done >= most {
-                        return Taken::Units;
-                    }
-                }
-            }
-        }
-    }
-}
-
-impl SeqReader {
-    // Puts the block of a complete unit into the blocks of an MCU row.
-    #[inline(always)]
-    fn put_in_row(&mut self, unit: &mut UnitWork, row: &mut Coefs, tops: &[u32; 4], place: Place)
-        requires small { place.component < 4 }
-        requires here { IsInRow row.old.frame tops.now place }
-        requires whole { length unit.old.values ≡ 64 }
-        requires left { 1 ≤ self.old.left }
-        requires place { 1 ≤ length self.old.cursor }
-        ensures machine { with_work self.new unit.new ≡ behind (with_work self.old unit.old) place.component }
-        ensures count { length row.old.blocks ≡ padded_blocks row.old.frame }
-        ensures block { row.new ≡ put_at row.old (lowered tops.now place) unit.old.values }
-    {
-        row.checked();
-        let block = unit.block();
-        let top = tops[place.component as usize];
-        row.set_block(place.component, place.x, place.y - top, &block);
-        self.predictions[place.component as usize] = block.get(0);
-        *unit = UnitWork::new();
-        self.cursor.step();
-        self.left -= 1;
-    }
-
-    // Takes bits of the source, and puts the blocks into those of an MCU row.
-    #[inline(always)]
-    fn read_in_row(
-        &mut self,
-        unit: &mut UnitWork,
-        source: &mut Source<'_>,
-        row: &mut Coefs,
         tops: &[u32; 4],
         most: u64,
     ) -> Taken
-        requires open { CanReadRow tops.now (with_work self.old unit.old) row.old }
-        requires inside { AreInRow row.old.frame tops.now (take most self.old.cursor) }
+        requires open { CanReadInto tops.now (with_work self.old unit.old) coefs.old }
+        requires inside { AreInRow coefs.old.frame tops.now (take most self.old.cursor) }
         requires some { 1 ≤ most }
-        ensures takes { TakesInRow most tops.now (with_work self.old unit.old) row.old (bits_in source.old) result (with_work self.new unit.new) row.new (bits_in source.new) }
+        ensures takes { ReadsInto most tops.now (with_work self.old unit.old) coefs.old (bits_in source.old) result (with_work self.new unit.new) coefs.new (bits_in source.new) }
         ensures passes { PassesPlaces most self.old result self.new }
     {
         let mut done = 0;
@@ -235,7 +178,7 @@ impl SeqReader {
                 UnitProgress::Empty => return Taken::More,
                 UnitProgress::Fault(fault) => return Taken::Fault(fault),
                 UnitProgress::Done => {
-                    self.put_in_row(unit, row, tops, place);
+                    self.put(unit, coefs, tops, place);
                     if self.left == 0 {
                         return Taken::IntervalDone;
                     }
@@ -248,19 +191,19 @@ impl SeqReader {
         }
     }
 
-    /// Takes bits from the start of the store as `bits` does, while an MCU row is read: its blocks begin at these rows
-    /// of the components' grids, and the next `most` units are in it.
-    pub fn bits_in_row(
+    /// Takes bits from the start of the store as `bits` does, where the blocks that are stored begin at these rows of the
+    /// components' grids: those of a picture, at 0, or of one row of its MCUs. The next `most` units are among them.
+    pub fn bits_from(
         &mut self,
         store: &mut BitStore,
-        row: &mut Coefs,
+        coefs: &mut Coefs,
         tops: &[u32; 4],
         most: u64,
     ) -> Taken
-        requires open { CanReadRow tops.now self.old row.old }
-        requires inside { AreInRow row.old.frame tops.now (take most self.old.cursor) }
+        requires open { CanReadInto tops.now self.old coefs.old }
+        requires inside { AreInRow coefs.old.frame tops.now (take most self.old.cursor) }
         requires some { 1 ≤ most }
-        ensures takes { TakesInRow most tops.now self.old row.old store.old result self.new row.new store.new }
+        ensures takes { ReadsInto most tops.now self.old coefs.old store.old result self.new coefs.new store.new }
         ensures passes { PassesPlaces most self.old result self.new }
     {
         let mut unit = self.unit.copy();
@@ -269,26 +212,26 @@ impl SeqReader {
             store: store.copy(),
             bytes: &[],
         };
-        let taken = self.read_in_row(&mut unit, &mut source, row, tops, most);
+        let taken = self.read(&mut unit, &mut source, coefs, tops, most);
         source.take_all();
         self.unit = unit;
         *store = source.store;
         taken
     }
 
-    /// Takes the bits of data bytes, without stuffing, as `bits_in_row` takes those of a store.
-    pub fn bytes_in_row(
+    /// Takes the bits of data bytes, without stuffing, as `bits_from` takes those of a store.
+    pub fn bytes(
         &mut self,
         bytes: &[u8],
-        row: &mut Coefs,
+        coefs: &mut Coefs,
         tops: &[u32; 4],
         most: u64,
     ) -> BytesTaken
-        requires open { CanReadRow tops.now self.old row.old }
-        requires inside { AreInRow row.old.frame tops.now (take most self.old.cursor) }
+        requires open { CanReadInto tops.now self.old coefs.old }
+        requires inside { AreInRow coefs.old.frame tops.now (take most self.old.cursor) }
         requires some { 1 ≤ most }
         requires few { length bytes.now < 4294967296 }
-        ensures takes { TakesBytesInRow most tops.now self.old row.old bytes.now result self.new row.new }
+        ensures takes { ReadsBytesInto most tops.now self.old coefs.old bytes.now result self.new coefs.new }
         ensures within { result.bits ≤ 8 * length bytes.now }
         ensures passes { PassesPlaces most self.old result.taken self.new }
     {
@@ -298,7 +241,7 @@ impl SeqReader {
             bytes,
         };
         let all = source.len();
-        let taken = self.read_in_row(&mut unit, &mut source, row, tops, most);
+        let taken = self.read(&mut unit, &mut source, coefs, tops, most);
         self.unit = unit;
         BytesTaken {
             taken,
@@ -314,45 +257,11 @@ pub struct BytesTaken {
     pub bits: u64,
 }
 
-impl SeqReader {
-    /// Takes the bits of data bytes, without stuffing, as `bits` takes those of a store.
-    pub fn bytes(&mut self, bytes: &[u8], coefs: &mut Coefs, most: u64) -> BytesTaken
-        requires open { (i : Interval) × (bits : List Bool) × RepresentsSeqScan self.old i bits coefs.old }
-        requires some { 1 ≤ most }
-        requires few { length bytes.now < 4294967296 }
-        ensures takes { TakesBytes most self.old coefs.old bytes.now result self.new coefs.new }
-        ensures within { result.bits ≤ 8 * length bytes.now }
-    {
-        let mut unit = self.unit.copy();
-        let mut source = Source {
-            store: BitStore::new(),
-            bytes,
-        };
-        let all = source.len();
-        let taken = self.read(&mut unit, &mut source, coefs, most);
-        self.unit = unit;
-        BytesTaken {
-            taken,
-            bits: all - source.len(),
-        }
-    }
-}
-
 impl ScanMachine for SeqReader {
     ghost kind = { sequential };
 
     fn bits(&mut self, store: &mut BitStore, coefs: &mut Coefs, most: u64) -> Taken {
-        let mut unit = self.unit.copy();
-        let _ = store.len();
-        let mut source = Source {
-            store: store.copy(),
-            bytes: &[],
-        };
-        let taken = self.read(&mut unit, &mut source, coefs, most);
-        source.take_all();
-        self.unit = unit;
-        *store = source.store;
-        taken
+        self.bits_from(store, coefs, &[0; 4], most)
     }
 
     fn bit(&mut self, bit: bool, coefs: &mut Coefs) -> Result<UnitStep, UnitFault> {

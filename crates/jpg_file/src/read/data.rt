@@ -32,7 +32,7 @@ pub fn take_bytes(machine: &mut SeqReader, coefs: &mut Coefs, bytes: &[u8]) -> (
     ensures { GivesRun _ sequential machine.old coefs.old bytes.now result.0 result.1 [] machine.new coefs.new }
 {
     let all = machine.units_left();
-    let got = machine.bytes(bytes, coefs, all);
+    let got = machine.bytes(bytes, coefs, &[0; 4], all);
     (got.bits.div_ceil(8) as usize, got.taken)
 }
 

@@ -81,7 +81,7 @@ impl ScanReader {
         ensures passes { PassesRow most self.old result self.new }
     {
         match self {
-            ScanReader::Sequential(machine) => machine.bits_in_row(store, row, tops, most),
+            ScanReader::Sequential(machine) => machine.bits_from(store, row, tops, most),
             ScanReader::DcFirst(_) => unreachable!(),
             ScanReader::DcRefine(_) => unreachable!(),
             ScanReader::Ac(_) => unreachable!(),
@@ -107,7 +107,7 @@ impl ScanReader {
         ensures passes { PassesRow most self.old result.taken self.new }
     {
         match self {
-            ScanReader::Sequential(machine) => machine.bytes_in_row(bytes, row, tops, most),
+            ScanReader::Sequential(machine) => machine.bytes(bytes, row, tops, most),
             ScanReader::DcFirst(_) => unreachable!(),
             ScanReader::DcRefine(_) => unreachable!(),
             ScanReader::Ac(_) => unreachable!(),

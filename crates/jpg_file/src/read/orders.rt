@@ -8,7 +8,7 @@ use jpg_coefs::{BlockOrder, Coefs};
 use std::alloc::Global;
 
 /// The orders in which the blocks of a picture are stored, by its kind. The scans of a sequential file put each block once,
-/// those of a progressive one go over all blocks several times.
+/// so they are packed; those of a progressive one go over all blocks several times.
 #[derive(Clone, Copy)]
 pub struct Orders {
     /// Of a sequential picture.
@@ -32,11 +32,10 @@ impl Orders {
         ensures frame { IfOk result (λ c. c.frame ≡ frame.now) }
         ensures zero { IfOk result (λ c. c.blocks ≡ replicate (padded_blocks frame.now) (zeros 64)) }
     {
-        let order = if frame.is_progressive() {
-            self.progressive
+        if frame.is_progressive() {
+            Coefs::in_order(alloc, frame, self.progressive)
         } else {
-            self.sequential
-        };
-        Coefs::in_order(alloc, frame, order)
+            Coefs::packed(alloc, frame, self.sequential)
+        }
     }
 }

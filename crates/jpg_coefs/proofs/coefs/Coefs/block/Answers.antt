@@ -1,5 +1,4 @@
-use Rattle.std.proofs.Common.{◌<◌, length, get_or, sym, ap, ◌∙◌, subst, arith}
-use Rattle.std.proofs.lemmas.List.{get_or_default}
+use Rattle.std.proofs.Common.{get_or, sym, ap, ◌∙◌, subst, arith}
 use Rattle.jpg_spec.specs.Elements.{zeros}
 use Rattle.jpg_spec.specs.Geometry.{Frame}
 use Rattle.jpg_base.specs.Cursor.{IsPadded}
@@ -7,8 +6,8 @@ use Rattle.jpg_coefs.specs.Picture.{Picture, block_in}
 use Rattle.jpg_coefs.proofs.Stored.{read_stored, stored_below}
 use Rattle.jpg_coefs.proofs.coefs.Coefs.block.Goals as goal
 
-pub index-requires : goal.index-requires
-index-requires c =
+pub get-requires : goal.get-requires
+get-requires c =
     let i = c.self.inside in
     let f = ap (λ (p : Picture). p.frame) c.self.view_is in
     let there : IsPadded i.frame c.args.component c.args.x c.args.y = subst (λ (g : Frame). IsPadded g c.args.component c.args.x c.args.y) (sym f) c.requires in
@@ -19,9 +18,7 @@ returns c =
     let i = c.self.inside in
     let f = ap (λ (p : Picture). p.frame) c.self.view_is in
     let there : IsPadded i.frame c.args.component c.args.x c.args.y = subst (λ (g : Frame). IsPadded g c.args.component c.args.x c.args.y) (sym f) c.requires in
-    let at = c.place.ensures i.frame c.self.invariant.0 there in
-    let below : c.place.result < length i.blocks.items = omega (arith, at, stored_below i.frame i.layout.order c.args.component c.args.x c.args.y there, c.self.invariant.1) in
-    c.index.ensures ∙ get_or_default i.blocks.items c.place.result c.index.result.now (zeros 64) below
-    ∙ ap (λ n. get_or i.blocks.items n (zeros 64)) at
-    ∙ sym (read_stored i.frame i.layout.order i.blocks.items c.args.component c.args.x c.args.y there)
+    c.get.ensures
+    ∙ ap (λ n. get_or i.blocks n (zeros 64)) (c.place.ensures i.frame c.self.invariant.0 there)
+    ∙ sym (read_stored i.frame i.layout.order i.blocks c.args.component c.args.x c.args.y there)
     ∙ ap (λ (p : Picture). block_in p c.args.component c.args.x c.args.y) c.self.view_is

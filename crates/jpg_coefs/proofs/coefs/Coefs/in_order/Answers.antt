@@ -9,6 +9,6 @@ use Rattle.jpg_coefs.proofs.coefs.Coefs.in_order.Goals as goal
 pub returns-clause-zero : goal.returns-clause-zero
 returns-clause-zero c =
     let order = c.new-count.result.0.order in
-    ap (λ (f : Frame). by_rows f order c.in_ok-blocks.blocks.items) c.copy.ensures
-    ∙ ap (by_rows c.args.frame.now order) (c.in_ok-blocks.ensures.items ∙ ap (λ n. replicate n (zeros 64)) c.new-count.ensures.count)
+    ap (λ (f : Frame). by_rows f order c.in_ok-blocks.blocks) c.copy.ensures
+    ∙ ap (by_rows c.args.frame.now order) (c.in_ok-blocks.ensures ∙ ap (λ n. replicate n (zeros 64)) c.new-count.ensures.count)
     ∙ zero_stored c.args.frame.now order

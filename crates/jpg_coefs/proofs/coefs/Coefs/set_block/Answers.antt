@@ -1,6 +1,6 @@
 use Rattle.std.proofs.Common.{◌≡◌, List, ℤ, length, sym, ap, ◌∙◌, subst, arith}
 use Rattle.std.specs.Prelude.{slice_set}
-use Rattle.std.proofs.lemmas.List.Elements.{All-set}
+use Rattle.std.proofs.lemmas.List.{length-set}
 use Rattle.jpg_spec.specs.Geometry.{Frame, padded_blocks}
 use Rattle.jpg_base.specs.Cursor.{IsPadded}
 use Rattle.jpg_coefs.specs.Picture.{Picture, block_index}
@@ -13,15 +13,17 @@ place-place-requires c =
     let f = ap (λ (p : Picture). p.frame) c.self.view_is in
     (c.self.inside.frame, c.self.invariant.0, subst (λ (g : Frame). IsPadded g c.args.component c.args.x c.args.y) (sym f) c.requires)
 
-pub index_mut-requires : goal.index_mut-requires
-index_mut-requires c =
+pub set-requires : goal.set-requires
+set-requires c =
     let i = c.self.inside in
     let f = ap (λ (p : Picture). p.frame) c.self.view_is in
     let there : IsPadded i.frame c.args.component c.args.x c.args.y = subst (λ (g : Frame). IsPadded g c.args.component c.args.x c.args.y) (sym f) c.requires in
     omega (arith, c.place-place.ensures i.frame c.self.invariant.0 there, stored_below i.frame i.layout.order c.args.component c.args.x c.args.y there, c.self.invariant.1)
 
 pub invariant_of-self : goal.invariant_of-self
-invariant_of-self c = (c.self.invariant.0, c.self.invariant.1, All-set (λ (b : List ℤ). length b ≡ 64) c.self.inside.blocks.items c.place-place.result c.args.block.now c.get.ensures.long c.self.invariant.2)
+invariant_of-self c =
+    let blocks = c.self.inside.blocks in
+    (c.self.invariant.0, ap (λ (l : List (List ℤ)). length l) c.set.ensures ∙ length-set blocks c.place-place.result c.args.block.now ∙ c.self.invariant.1)
 
 pub returns : goal.returns
 returns c =
@@ -29,8 +31,9 @@ returns c =
     let f = ap (λ (p : Picture). p.frame) c.self.view_is in
     let there : IsPadded i.frame c.args.component c.args.x c.args.y = subst (λ (g : Frame). IsPadded g c.args.component c.args.x c.args.y) (sym f) c.requires in
     let order = i.layout.order in
-    let long : length i.blocks.items ≡ padded_blocks i.frame = omega (arith, c.self.invariant.1) in
+    let long : length i.blocks ≡ padded_blocks i.frame = omega (arith, c.self.invariant.1) in
     let stored : List (List ℤ) → Picture = λ blocks. record { frame = i.frame; blocks = blocks } in
-    ap (λ n. stored (by_rows i.frame order (slice_set i.blocks.items n c.args.block.now))) (c.place-place.ensures i.frame c.self.invariant.0 there)
-    ∙ ap stored (put_stored i.frame order i.blocks.items c.args.component c.args.x c.args.y c.args.block.now there long)
+    ap (λ l. stored (by_rows i.frame order l)) c.set.ensures
+    ∙ ap (λ n. stored (by_rows i.frame order (slice_set i.blocks n c.args.block.now))) (c.place-place.ensures i.frame c.self.invariant.0 there)
+    ∙ ap stored (put_stored i.frame order i.blocks c.args.component c.args.x c.args.y c.args.block.now there long)
     ∙ ap (λ (p : Picture). (let q : Picture = record p { blocks = slice_set p.blocks (block_index p.frame c.args.component c.args.x c.args.y) c.args.block.now } in q)) c.self.view_is
