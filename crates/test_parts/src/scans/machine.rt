@@ -121,7 +121,7 @@ fn one_stretch(machine: &mut SeqReader, coefs: &mut Coefs, bytes: &[u8]) -> Read
     ensures goes_on { GoesOn result.taken machine.new coefs.new }
     ensures few { result.bits ≤ 8 * length bytes.now }
 {
-    let got = machine.bytes(bytes, coefs, u64::MAX);
+    let got = machine.bytes(bytes, coefs, &[0; 4], u64::MAX);
     Read {
         taken: got.taken,
         bits: got.bits as usize,
