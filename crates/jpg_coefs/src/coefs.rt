@@ -1,5 +1,5 @@
 //! The coefficients of a picture: the blocks of all padded grids (T.81, A.2.4).
-ghost use Rattle.std.specs.Prelude.{◌≡◌, IfOk, replicate, length, ℕ};
+ghost use Rattle.std.specs.Prelude.{◌≡◌, IfOk, replicate, length, slice_set, ℕ};
 ghost use Rattle.jpg_spec.specs.Elements.{zeros};
 ghost use Rattle.jpg_spec.specs.Geometry.{padded_blocks};
 ghost use Rattle.jpg_base.specs.Cursor.{IsPadded};
@@ -61,6 +61,15 @@ impl Coefs {
     {
         let place = self.layout.place(component, x, y);
         self.blocks.set(place, block);
+    }
+
+    /// Changes the DC of the block of a component at a column and a row of its padded grid. All else remains.
+    pub fn set_dc(&mut self, component: u8, x: u32, y: u32, value: i16)
+        requires { IsPadded self.old.frame component x y }
+        ensures { self.new ≡ with_block self.old component x y (slice_set (block_in self.old component x y) 0 value) }
+    {
+        let place = self.layout.place(component, x, y);
+        self.blocks.set_dc(place, value);
     }
 
     /// Makes all blocks zero. The frame remains.

@@ -235,8 +235,8 @@ impl PackedBlocks {
         }
     }
 
-    /// Puts a block in the place of that of this number.
-    #[inline(always)]
+    /// Puts a block in the place of that of this number. It remains a call, so that `BlockStore::set` is short.
+    #[inline(never)]
     pub fn set(&mut self, n: usize, block: &Block)
         requires { n < length self.old }
         ensures { self.new ≡ slice_set self.old n block.now }
@@ -253,6 +253,19 @@ impl PackedBlocks {
         } else {
             put_whole(&mut self.cells, &mut self.highs, n, block);
         }
+    }
+
+    /// Changes the DC of the block of this number.
+    #[inline(never)]
+    pub fn set_dc(&mut self, n: usize, value: i16)
+        requires { n < length self.old }
+        ensures is { self.new ≡ slice_set self.old n (slice_set (slice_index_or self.old n (zeros 64)) 0 value) }
+        ensures long { length (slice_index_or self.old n (zeros 64)) ≡ 64 }
+    {
+        let mut block = self.get(n);
+        block.long();
+        block.set(0, value);
+        self.set(n, &block);
     }
 
     /// Makes all blocks zero.

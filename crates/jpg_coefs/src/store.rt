@@ -85,6 +85,18 @@ impl BlockStore {
         }
     }
 
+    /// Changes the DC of the block of this number.
+    #[inline(always)]
+    pub fn set_dc(&mut self, n: usize, value: i16)
+        requires { n < length self.old }
+        ensures { self.new ≡ slice_set self.old n (slice_set (slice_index_or self.old n (zeros 64)) 0 value) }
+    {
+        match &mut self.kept {
+            Kept::Whole(blocks) => blocks[n].set(0, value),
+            Kept::Packed(blocks) => blocks.set_dc(n, value),
+        }
+    }
+
     /// Makes all blocks zero.
     pub fn clear(&mut self)
         ensures { self.new ≡ replicate (length self.old) (zeros 64) }

@@ -40,7 +40,5 @@ pub fn put_dc(coefs: &mut Coefs, place: Place, value: i16)
     ensures block { coefs.new ≡ with_dc coefs.old place value }
 {
     coefs.checked();
-    let mut block = coefs.block(place.component, place.x, place.y);
-    block.set(0, value);
-    coefs.set_block(place.component, place.x, place.y, &block);
+    coefs.set_dc(place.component, place.x, place.y, value);
 }
