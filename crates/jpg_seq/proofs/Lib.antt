@@ -4,6 +4,7 @@ pub mod Counted
 pub mod Due
 pub mod Elements
 pub mod Forced
+pub mod HeldBits
 pub mod Items
 pub mod Leaf
 pub mod Machines

@@ -24,6 +24,24 @@ fn put_code<D: Desk>(
     out.put(u32::from(code.bits), code.length, desk)
 }
 
+// Writes the first code of a symbol, if any, after bits that were handed out.
+#[inline(always)]
+fn put_code_after<D: Desk>(
+    encoder: &Encoder,
+    symbol: u8,
+    held: PendingBits,
+    out: &mut BitOut,
+    desk: &mut D,
+) -> Result<PendingBits, WriteFault>
+    requires created { (D.state desk.old).output_created ≡ true }
+    requires none { out.old.bits ≡ [] }
+    ensures puts { PutsAfter (D.state desk.old) out.old held (code_of encoder.now symbol) result out.new (D.state desk.new) }
+    ensures none { out.new.bits ≡ [] }
+{
+    let code = encoder.code(symbol);
+    out.put_after(held, u32::from(code.bits), code.length, desk)
+}
+
 // Writes the first code of a symbol, and then the extra bits of a value.
 #[inline(always)]
 fn put_value<D: Desk>(
@@ -138,21 +156,24 @@ fn put_run<D: Desk>(
     }
 }
 
-// Writes the values after the first one, where a bit of a word says which aren't 0, and an EOB if zeros are left (T.81,
-// F.1.2.2, Figure F.2).
+// Writes the values after the first one, where a bit of a word says which aren't 0, and an EOB if zeros are left, after
+// bits that were handed out (T.81, F.1.2.2, Figure F.2).
 #[inline(always)]
 fn put_band<D: Desk>(
     ac: &Encoder,
     block: &Block,
+    before: PendingBits,
     out: &mut BitOut,
     desk: &mut D,
-) -> Result<(), WriteFault>
+) -> Result<PendingBits, WriteFault>
     requires created { (D.state desk.old).output_created ≡ true }
     requires short { IsShort block.now }
-    ensures { Puts (D.state desk.old) out.old (band_bits ac.now (drop 1 block.now)) result out.new (D.state desk.new) }
+    requires none { out.old.bits ≡ [] }
+    ensures puts { PutsAfter (D.state desk.old) out.old before (band_bits ac.now (drop 1 block.now)) result out.new (D.state desk.new) }
+    ensures none { out.new.bits ≡ [] }
 {
     block.long();
-    let mut held = out.take();
+    let mut held = before;
     let mut next = 1;
     let mut rest = (block.nonzero() >> 1) << 1;
     while rest != 0 {
@@ -161,11 +182,10 @@ fn put_band<D: Desk>(
         next = k + 1;
         rest &= rest - 1;
     }
-    out.give(held);
     if next < 64 {
-        put_code(ac, 0, out, desk)
+        put_code_after(ac, 0, held, out, desk)
     } else {
-        Ok(())
+        Ok(held)
     }
 }
 
@@ -178,23 +198,28 @@ pub(crate) fn difference(value: i16, prediction: i16) -> i32
     i32::from(value) - i32::from(prediction)
 }
 
-// Writes the category of a difference of DC values, and then its extra bits (T.81, F.1.2.1).
+// Writes the category of a difference of DC values, and then its extra bits, after bits that were handed out (T.81,
+// F.1.2.1).
 #[inline(always)]
 fn put_difference<D: Desk>(
     dc: &Table,
     value: i32,
+    held: PendingBits,
     out: &mut BitOut,
     desk: &mut D,
-) -> Result<(), WriteFault>
+) -> Result<PendingBits, WriteFault>
     requires created { (D.state desk.old).output_created ≡ true }
     requires short { category_of value ≤ 16 }
-    ensures { Puts (D.state desk.old) out.old (code_of (symbol_codes dc.now) (category_of value) ++ extra_of value) result out.new (D.state desk.new) }
+    requires none { out.old.bits ≡ [] }
+    ensures puts { PutsAfter (D.state desk.old) out.old held (code_of (symbol_codes dc.now) (category_of value) ++ extra_of value) result out.new (D.state desk.new) }
+    ensures none { out.new.bits ≡ [] }
 {
     let size = category(value);
-    out.put_code(dc.written(size), extra_bits(value), size, desk)
+    out.put_code_after(held, dc.written(size), extra_bits(value), size, desk)
 }
 
 // Writes a block by these tables, after this DC value of its component.
+#[inline(always)]
 pub(crate) fn put_block<D: Desk>(
     dc: &Table,
     ac: &Encoder,
@@ -208,6 +233,9 @@ pub(crate) fn put_block<D: Desk>(
     ensures { Puts (D.state desk.old) out.old (block_bits (symbol_codes dc.now) ac.now prediction block.now) result out.new (D.state desk.new) }
 {
     let value = difference(block.get(0), prediction);
-    put_difference(dc, value, out, desk)?;
-    put_band(ac, block, out, desk)
+    let before = out.take();
+    let first = put_difference(dc, value, before, out, desk)?;
+    let held = put_band(ac, block, first, out, desk)?;
+    out.give(held);
+    Ok(())
 }

@@ -14,6 +14,7 @@ use Rattle.jpg_seq.proofs.Marked.{first_blank, next_value, no_value}
 use Rattle.jpg_huff.specs.BitOut.{Puts, holding}
 use Rattle.jpg_huff.proofs.InParts.{DoneButFor, of_bits, part_start, part_then, part_last, part_end, part_fault}
 use Rattle.jpg_huff.proofs.Together.{puts_nothing}
+use Rattle.jpg_seq.proofs.HeldBits.{last_after}
 use Rattle.jpg_seq.proofs.write.put_band.Goals as goal
 
 pub loop-rest-init : goal.loop-rest-init
@@ -24,11 +25,11 @@ loop-rest-init g c =
     let small : c.nonzero.result < 2 ^ 64 = search rules in
     let all = band_bits codes (drop 1 block) in
     let rest = left_bits codes (drop 1 block) 0 in
-    let same : holding c.take-held.new.self c.take-held.result ≡ c.args.out.now = ap (λ w. holding w c.take-held.result) c.take-held.ensures.left ∙ ap (holding c.args.out.now) c.take-held.ensures.held in
+    let start = holding c.args.out.now c.args.before in
     record {
       created = c.requires.created;
-      part = subst (λ w. DoneButFor Puts s c.args.out.now all rest w s) (sym same) (part_start Puts s c.args.out.now all rest (puts_nothing s c.args.out.now) (left_all codes (drop 1 block)));
-      none = ap (λ w. w.bits) c.take-held.ensures.left;
+      part = part_start Puts s start all rest (puts_nothing s start) (left_all codes (drop 1 block));
+      none = c.requires.none;
       marked = first_blank block c.nonzero.result c.long.ensures (marks_are block c.nonzero.result c.long.ensures small c.nonzero.ensures) small;
       some = omega arith;
       few = omega arith;
@@ -59,8 +60,8 @@ put_run-requires-clause-short g c =
     let e : to_z w16 (of_z w16 c.get.result) ≡ slice_index_or c.args.block.now k (pos 0) = to_z-of_z w16 c.get.result f ∙ c.get.ensures.value in
     subst (λ v. category v ≤ 15) (sym e) (c.requires.short k (omega (arith, n.0, c.loop-rest.invariant.some)) n.1)
 
-pub returns-in_err-held : goal.returns-in_err-held
-returns-in_err-held g c =
+pub returns-in_err-held-clause-puts : goal.returns-in_err-held-clause-puts
+returns-in_err-held-clause-puts g c =
     let state = g.D.Desk.state in
     let codes = c.args.ac.now in
     let block = c.args.block.now in
@@ -77,9 +78,9 @@ returns-in_err-held g c =
     let fault = c.in_err-held.field-0.0 in
     let new = c.put_run.new.out in
     let all = band_bits codes (drop 1 block) in
-    let h = part_fault Puts of_bits (state c.args.desk.now) (state c.loop-rest.desk) (state c.put_run.new.desk) c.args.out.now (holding c.loop-rest.out c.loop-rest.held) (holding new []) all (left_bits codes (drop next block) 0)
-    (run_bits codes z v) later fault (n.2 ∙ ap (λ w. run_bits codes z w ++ later) (sym e)) c.loop-rest.invariant.part c.in_err-held.ensures.puts in
-    rw (back.1, back.2) (subst (λ bits. Puts (state c.args.desk.now) c.args.out.now all (Err fault) (holding new bits) (state c.put_run.new.desk)) (sym c.in_err-held.ensures.none) h)
+    let h = part_fault Puts of_bits (state c.args.desk.now) (state c.loop-rest.desk) (state c.put_run.new.desk) (holding c.args.out.now c.args.before) (holding c.loop-rest.out c.loop-rest.held) (holding new []) all
+    (left_bits codes (drop next block) 0) (run_bits codes z v) later fault (n.2 ∙ ap (λ w. run_bits codes z w ++ later) (sym e)) c.loop-rest.invariant.part c.in_err-held.ensures.puts in
+    rw (back.1, back.2) h
 
 pub loop-rest-preserved : goal.loop-rest-preserved
 loop-rest-preserved g c =
@@ -97,7 +98,7 @@ loop-rest-preserved g c =
     let later = left_bits codes (drop (k + 1) block) 0 in
     record {
       created = c.in_ok-held.ensures.puts.kept.output_created ∙ c.loop-rest.invariant.created;
-      part = part_then Puts of_bits (state c.args.desk.now) (state c.loop-rest.desk) (state c.put_run.new.desk) c.args.out.now (holding c.loop-rest.out c.loop-rest.held) (holding c.put_run.new.out c.in_ok-held.held) (band_bits codes (drop 1 block)) (left_bits codes (drop next block) 0)
+      part = part_then Puts of_bits (state c.args.desk.now) (state c.loop-rest.desk) (state c.put_run.new.desk) (holding c.args.out.now c.args.before) (holding c.loop-rest.out c.loop-rest.held) (holding c.put_run.new.out c.in_ok-held.held) (band_bits codes (drop 1 block)) (left_bits codes (drop next block) 0)
           (run_bits codes z v) later (n.2 ∙ ap (λ w. run_bits codes z w ++ later) (sym e)) c.loop-rest.invariant.part c.in_ok-held.ensures.puts;
       none = c.in_ok-held.ensures.none;
       marked = n.3;
@@ -105,8 +106,8 @@ loop-rest-preserved g c =
       few = omega (arith, n.1);
     }
 
-pub returns-then-next-lt64 : goal.returns-then-next-lt64
-returns-then-next-lt64 g c =
+pub returns-then-next-lt64-clause-puts : goal.returns-then-next-lt64-clause-puts
+returns-then-next-lt64-clause-puts g c =
     let state = g.D.Desk.state in
     let codes = c.args.ac.now in
     let block = c.args.block.now in
@@ -114,12 +115,11 @@ returns-then-next-lt64 g c =
     let all = band_bits codes (drop 1 block) in
     let rest = left_bits codes (drop next block) 0 in
     let none = no_value codes block next c.loop-rest.rest c.long.ensures c.loop-rest.invariant.marked (omega (arith, c.loop-rest-test.false)) in
-    let given = subst (λ w. DoneButFor Puts (state c.args.desk.now) c.args.out.now all rest w (state c.loop-rest.desk)) (sym c.give.ensures) c.loop-rest.invariant.part in
-    part_last Puts of_bits (state c.args.desk.now) (state c.loop-rest.desk) (state c.put_code.new.desk) c.args.out.now c.give.new.self c.put_code.new.out all rest
-    (code_of codes 0) c.put_code.result (none ∙ left_zeros codes (64 - next) (omega (arith, c.if-next-lt64.true))) given c.put_code.ensures
+    last_after (state c.args.desk.now) (state c.loop-rest.desk) (state c.put_code_after.new.desk) c.args.out.now c.loop-rest.out c.put_code_after.new.out c.args.before c.loop-rest.held all rest
+    (code_of codes 0) c.put_code_after.result (none ∙ left_zeros codes (64 - next) (omega (arith, c.if-next-lt64.true))) c.loop-rest.invariant.part c.put_code_after.ensures.puts
 
-pub returns-else-next-lt64 : goal.returns-else-next-lt64
-returns-else-next-lt64 g c =
+pub returns-else-next-lt64-clause-puts : goal.returns-else-next-lt64-clause-puts
+returns-else-next-lt64-clause-puts g c =
     let state = g.D.Desk.state in
     let codes = c.args.ac.now in
     let block = c.args.block.now in
@@ -127,5 +127,5 @@ returns-else-next-lt64 g c =
     let all = band_bits codes (drop 1 block) in
     let rest = left_bits codes (drop next block) 0 in
     let none = no_value codes block next c.loop-rest.rest c.long.ensures c.loop-rest.invariant.marked (omega (arith, c.loop-rest-test.false)) in
-    let given = subst (λ w. DoneButFor Puts (state c.args.desk.now) c.args.out.now all rest w (state c.loop-rest.desk)) (sym c.give.ensures) c.loop-rest.invariant.part in
-    part_end Puts (state c.args.desk.now) (state c.loop-rest.desk) c.args.out.now c.give.new.self all rest (none ∙ left_none codes (64 - next) (omega (arith, c.if-next-lt64.false))) given
+    part_end Puts (state c.args.desk.now) (state c.loop-rest.desk) (holding c.args.out.now c.args.before) (holding c.loop-rest.out c.loop-rest.held) all rest
+    (none ∙ left_none codes (64 - next) (omega (arith, c.if-next-lt64.false))) c.loop-rest.invariant.part
