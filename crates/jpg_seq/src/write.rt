@@ -218,8 +218,9 @@ fn put_difference<D: Desk>(
     out.put_code_after(held, dc.written(size), extra_bits(value), size, desk)
 }
 
-// Writes a block by these tables, after this DC value of its component.
-#[inline(always)]
+// Writes a block by these tables, after this DC value of its component. It remains a call: where the caller's block is in
+// sight, its first value is kept apart, and the vectors that read the block wait for both parts.
+#[inline(never)]
 pub(crate) fn put_block<D: Desk>(
     dc: &Table,
     ac: &Encoder,
