@@ -90,9 +90,9 @@ impl Divisors {
     }
 
     /// The quantised coefficients of 64 samples, in zigzag order.
-    // It remains a call: inlined into a caller's loop the tables are kept in 32 bits, and narrowed again for each
-    // block.
-    #[inline(never)]
+    // It is inlined, so that its caller has no copy of the block; but the caller has to be a call for one block itself: in a
+    // loop the tables are kept in 32 bits, and narrowed again for each block.
+    #[inline(always)]
     pub fn block(&self, samples: &[u8; 64]) -> [i16; 64]
         ensures { result ≡ quantised_block self.now (forward_dct samples.now) }
     {
