@@ -20,6 +20,13 @@ use Rattle.jpg_coefs.proofs.ScanDue.{after_place, at_its_end, at_place, begins_l
 
 -- BLOCKS that agree at a place
 
+-- the block that is written at a place: that of the view, or a padding block
+pub due_real : (blocks : Blocks) (last : ℤ) (p : Place) → p.real ≡ true → block_due blocks last p ≡ block_at blocks p
+due_real blocks last p e = ap (λ b. cond b (block_at blocks p) (last ∷ zeros 63)) e
+
+pub due_padding : (blocks : Blocks) (last : ℤ) (p : Place) → p.real ≡ false → block_due blocks last p ≡ last ∷ zeros 63
+due_padding blocks last p e = ap (λ b. cond b (block_at blocks p) (last ∷ zeros 63)) e
+
 pub due_same : (blocks others : Blocks) (last : ℤ) (p : Place) → AgreeAt blocks others p → block_due others last p ≡ block_due blocks last p
 due_same blocks others last p agree = by p.real refl
   where

@@ -1,12 +1,13 @@
 //! The units of a scan, given one after another to what writes or counts them (T.81, A.2.2 to A.2.4, E.1.4).
-ghost use Rattle.std.specs.Prelude.{◌≡◌, ◌≤◌, ◌<◌, ◌+◌, ◌==◌, if◌then◌else◌, true, drop, length, IfSome, OnOk};
+ghost use Rattle.std.specs.Prelude.{◌≡◌, ◌≤◌, ◌<◌, ◌+◌, ◌==◌, ◌∷◌, if◌then◌else◌, true, drop, length, IfSome, OnOk};
 ghost use Rattle.jpg_spec.specs.Scan.{Blocks};
+ghost use Rattle.jpg_spec.specs.Elements.{zeros};
 ghost use Rattle.jpg_spec.specs.Geometry.{IsReal};
 ghost use Rattle.jpg_spec.specs.Scan.{part_of as part_in};
 ghost use Rattle.jpg_spec.specs.Segments.{head_components};
 ghost use Rattle.jpg_base.specs.Cursor.{AreIn};
 ghost use Rattle.jpg_coefs.specs.ScanUnits.{AgreeAt, CanGive, GivenScan, GivesUnits, IsUngiven, TakesPlaceOf};
-ghost use Rattle.jpg_coefs.specs.Sinks.{SinkKind, at, block_due, intervals_due, IsNext, TakesUnit, IsOpen, Ends, Begins, IsNextPlace};
+ghost use Rattle.jpg_coefs.specs.Sinks.{SinkKind, at, intervals_due, IsNext, TakesUnit, IsOpen, Ends, Begins, IsNextPlace};
 
 use crate::BlockView;
 use jpg_base::{Block, Cursor, Frame, Place, ScanHead, ScanPart, WriteFault};
@@ -52,20 +53,31 @@ pub fn part_of(head: &ScanHead, component: u8) -> ScanPart
     }
 }
 
-// The block that is written at a place of the scan, after this DC value of its component; a padding block has that
-// value and no AC (T.81, A.2.4).
-#[inline(always)]
-fn due<V: BlockView>(view: &V, place: Place, last: i16) -> Block
-    requires { place.real ≡ true → IsReal (V.numbers view.now) place.component place.x place.y }
-    ensures { result ≡ block_due (V.blocks view.now) last place }
+// A padding block: this DC value and no AC (T.81, A.2.4).
+fn padding(last: i16) -> Block
+    ensures { result ≡ last ∷ zeros 63 }
 {
-    if place.real {
-        view.block(place.component, place.x, place.y)
-    } else {
-        let mut block = Block::zero();
-        block.set(0, last);
-        block
-    }
+    let mut block = Block::zero();
+    block.set(0, last);
+    block
+}
+
+// Gives a padding block to a sink, after this DC value of its component, which it has too. It remains a call: where blocks
+// of both kinds are made in one place, each is copied in two parts, and what reads it waits for both.
+#[cold]
+#[inline(never)]
+fn put_padding<O, D, S: UnitSink<O, D>>(
+    component: u8,
+    last: i16,
+    sink: &mut S,
+    out: &mut O,
+    desk: &mut D,
+) -> Result<(), WriteFault>
+    requires { IsNext S.kind (component, last ∷ zeros 63) last (at sink.old out.old desk.old) }
+    ensures { TakesUnit S.kind (component, last ∷ zeros 63) last (at sink.old out.old desk.old) result (at sink.new out.new desk.new) }
+{
+    let block = padding(last);
+    sink.unit(component, last, &block, out, desk)
 }
 
 // Gives the unit at a place to a sink, after these DC values of the components.
@@ -84,9 +96,14 @@ fn put_place<V: BlockView, O, D, S: UnitSink<O, D>>(
     ensures { TakesPlaceOf S.kind (V.blocks view.now) last.old place (at sink.old out.old desk.old) result last.new (at sink.new out.new desk.new) }
 {
     let before = last[place.component as usize];
-    let block = due(view, place, before);
-    last[place.component as usize] = block.get(0);
-    sink.unit(place.component, before, &block, out, desk)
+    if place.real {
+        let block = view.block(place.component, place.x, place.y);
+        last[place.component as usize] = block.get(0);
+        sink.unit(place.component, before, &block, out, desk)
+    } else {
+        last[place.component as usize] = before;
+        put_padding(place.component, before, sink, out, desk)
+    }
 }
 
 /// The units of a scan that are left, while they are given to a sink in one call or in several (T.81, A.2.2 to A.2.4).
