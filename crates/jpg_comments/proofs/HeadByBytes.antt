@@ -105,7 +105,7 @@ no_header limits bytes before code contents nothing s p = by (is_frame_code code
         absurd ((nothing (length front) shorter).1 (subst (λ l. HoldsHead limits l) (sym is) (code, (before, (marker, between, (s.4.1, p.0, s.5), e)))))
 
 -- what is kept with one more segment
-kept_more : (replace : Bool) (code : ℕ) (contents : List ℕ) (before : List Segment) → copied_head replace ((code, contents) ∷ before) ≡ copied_head replace before ++ copied_segment replace code contents
+pub kept_more : (replace : Bool) (code : ℕ) (contents : List ℕ) (before : List Segment) → copied_head replace ((code, contents) ∷ before) ≡ copied_head replace before ++ copied_segment replace code contents
 kept_more replace code contents before = by replace
   where
     text : Segment → List ℕ
@@ -134,7 +134,7 @@ kept_more replace code contents before = by replace
         (ap (flat_map text) turned ∙ flat_map-append text (reverse before) (new ∷ []) ∙ ap (λ l. flat_map text (reverse before) ++ l) (append-nil (segment_text code contents)))
 
 -- the segment's spelling
-whole_at : (r : Reading) (bytes : List ℕ) (before : List Segment) → r.phase ≡ phase.Between → RepresentsSegments bytes before r → SpellsSegments before bytes × Pass (kept_rule r.limits) before
+pub whole_at : (r : Reading) (bytes : List ℕ) (before : List Segment) → r.phase ≡ phase.Between → RepresentsSegments bytes before r → SpellsSegments before bytes × Pass (kept_rule r.limits) before
 whole_at r bytes before between s =
     let at = subst (λ p. AtPhase r p bytes before) between s.1 in
     (subst (λ l. SpellsSegments before l) (sym (at.1.cut ∙ ap (λ t. at.1.front ++ t) at.3 ∙ append-nil at.1.front)) at.1.spelled, at.1.passed)

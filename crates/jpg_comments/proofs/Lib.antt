@@ -8,3 +8,4 @@ pub mod OneAnswer
 pub mod OneWhole
 pub mod Shown
 pub mod Taken
+pub mod WholeSegments

@@ -135,6 +135,19 @@ module _ (limits : Limits) (is_whole : List ℕ → Type 0) (t : Tells limits is
       subst (λ l. RevealsNothing limits is_whole l) (sym last)
       (nothing_more (bytes ++ take m piece) (get_or piece m 0) at_part going (subst (λ l. Reaches (kept_rule limits) l at_part) last (reaches (suc m) (omega arith) less)) old)
 
+  -- some bytes of which only the last one completes something
+  pub nothing_to : (bytes piece : List ℕ) (n : ℕ) (x : Reached) → t.goes at_part ≡ true → t.goes x ≡ true → 1 ≤ n → n ≤ length piece
+      → ((m : ℕ) → 1 ≤ m → m < n → Reaches (kept_rule limits) (bytes ++ take m piece) at_part) → Reaches (kept_rule limits) (bytes ++ take n piece) x
+      → RevealsNothing limits is_whole bytes → RevealsNothing limits is_whole (bytes ++ take n piece)
+  nothing_to bytes piece zero x part going some few parts reaches before = absurd (omega (arith, some))
+  nothing_to bytes piece (suc m) x part going some few parts reaches before =
+      let one : suc m ≡ m + 1 = omega arith in
+      let last : bytes ++ take (suc m) piece ≡ (bytes ++ take m piece) ++ get_or piece m 0 ∷ [] =
+      ap (λ l. bytes ++ l) (ap (λ k. take k piece) one ∙ take_more piece m 0 (omega (arith, few))) ∙ sym (append_assoc bytes (take m piece) (get_or piece m 0 ∷ [])) in
+      let old = nothing_some bytes piece m m part (λ k first less. parts k first (omega (arith, less))) (omega (arith, few)) (omega arith) before in
+      subst (λ l. RevealsNothing limits is_whole l) (sym last)
+      (nothing_more (bytes ++ take m piece) (get_or piece m 0) x going (subst (λ l. Reaches (kept_rule limits) l x) last reaches) old)
+
   pub taken_some : (r next : Reading) (bytes piece : List ℕ) (n : ℕ) (before : List Segment) → t.goes at_part ≡ true → HasTaken limits is_whole bytes before r
       → r.taken + n ≤ limits.input → next.limits ≡ r.limits → next.taken ≡ r.taken + n → PassesSome r piece (Ok n) next
       → HasTaken limits is_whole (bytes ++ take n piece) before next

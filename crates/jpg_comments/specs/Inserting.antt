@@ -8,7 +8,8 @@ use Rattle.jpg_spec.specs.declared.fault.FaultAt.{FaultAt}
 use Rattle.jpg_spec.specs.declared.frame.Limits.{Limits}
 use Rattle.jpg_base.specs.declared.stop.Stop.{Stop}
 use Rattle.jpg_base.specs.declared.stop.Stop.TheVariants as stop
-use Rattle.jpg_markers.specs.Reading.{HasRoom, Reading, reading_of}
+use Rattle.jpg_markers.specs.Reading.{HasRoom, PassesSegment, Reading, reading_of}
+use Rattle.jpg_markers.specs.declared.whole.WholeSegment.{WholeSegment}
 use Rattle.jpg_markers.specs.declared.segments.SegmentReader.{SegmentReader}
 use Rattle.jpg_base.specs.Intake.{IntakeKind}
 use Rattle.jpg_comments.specs.declared.insert.Keeping.{Keeping}
@@ -93,6 +94,12 @@ keeping k = record {
 -- the last segment, whose contents a segment can have
 abbrev pub KeepsSegment : Bool → Reading → List ℕ → Result (Unit {0}) NoMemory → List ℕ → Type 0
 KeepsSegment replace r had answer head = length r.contents ≤ 65533 → AppendsText (copied_segment replace r.code r.contents) answer had head
+
+-- a segment that is taken whole, and kept, if there is memory
+abbrev pub KeepsWhole : Bool → Reading → WholeSegment → List ℕ → Result Bool Stop → List ℕ → Reading → Type 0
+KeepsWhole replace old s had (Ok whole) head new =
+    (whole ≡ false) × PassesSegment old s.code s.contents.now s.length new × (head ≡ had ++ copied_segment replace s.code s.contents.now)
+KeepsWhole replace old s had (Err e) head new = (e ≡ stop.NoMemory) × PassesSegment old s.code s.contents.now s.length new
 
 -- THE REST
 

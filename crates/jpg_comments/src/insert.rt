@@ -1,18 +1,19 @@
 //! A file with one more comment, written piece by piece (T.81, B.2.4.5).
-ghost use Rattle.std.specs.Prelude.{◌≡◌, ◌≤◌, ◌<◌, ◌+◌, ◌-◌, ◌++◌, ◌∷◌, [], ℕ, List, Some, None, Ok, Err, IfOk, IfSome, length};
+ghost use Rattle.std.specs.Prelude.{◌≡◌, ◌≤◌, ◌<◌, ◌+◌, ◌-◌, ◌++◌, ◌∷◌, [], ℕ, List, Some, None, Ok, Err, IfOk, IfSome, length, take};
 ghost use Rattle.jpg_spec.specs.FrameHeader.{AreLimits};
 ghost use Rattle.jpg_base.specs.declared.stop.Stop.{Stop as Stopped};
 ghost use Rattle.jpg_base.specs.declared.stop.Fed.TheVariants as fed;
-ghost use Rattle.jpg_markers.specs.Reading.{HasRoom, RepresentsSegments, reading_of};
+ghost use Rattle.jpg_spec.specs.Markers.{SpellsSegment};
+ghost use Rattle.jpg_markers.specs.Reading.{HasRoom, MayFollow, RepresentsSegments, reading_of};
 ghost use Rattle.jpg_comments.specs.Appending.{AppendsText};
-ghost use Rattle.jpg_comments.specs.Inserting.{CopiesRest, KeepsByte, KeepsPiece, KeepsSegment, keeping};
+ghost use Rattle.jpg_comments.specs.Inserting.{CopiesRest, KeepsByte, KeepsPiece, KeepsSegment, KeepsWhole, copied_segment, keeping};
 
 use crate::append_segment;
 use crate::push::push_some;
 use crate::quiet::pass_some;
-use jpg_base::codes::{COM, SOI};
+use jpg_base::codes::{APP0, COM, SOI};
 use jpg_base::{Bytes, Fed, Intake, NoMemory, Stop, check_limit, feed_piece};
-use jpg_markers::{SegStep, SegmentReader};
+use jpg_markers::{SegStep, SegmentReader, WholeSegment, segment_at};
 use jpg_spec::{Fault, FaultAt, Limits};
 use std::alloc::Global;
 
@@ -231,9 +232,68 @@ impl Intake<SegmentReader, Bytes> for Keeping {
         reader: &mut SegmentReader,
         head: &mut Bytes,
     ) -> (usize, Result<bool, Stop>) {
+        if let Some(segment) = next_segment(reader, self.most, bytes) {
+            return (
+                segment.length,
+                take_segment(reader, head, self.replace, &segment),
+            );
+        }
         let n = pass_some(reader, self.most, bytes);
         (n + 1, read_byte(reader, head, self.replace, bytes[n]))
     }
+}
+
+// The segment of application data or the comment at the front of these bytes, if it is complete, may follow what is there
+// and is within the limit.
+fn next_segment<'a>(reader: &SegmentReader, most: u64, bytes: &'a [u8]) -> Option<WholeSegment<'a>>
+    requires { (reading_of reader.now).taken < most }
+    ensures may { IfSome result (λ s. MayFollow (reading_of reader.now) s.code s.contents.now) }
+    ensures spelled { IfSome result (λ s. SpellsSegment s.code s.contents.now (take s.length bytes.now)) }
+    ensures within { IfSome result (λ s. (1 ≤ s.length) × (s.length ≤ length bytes.now)) }
+    ensures room { IfSome result (λ s. (reading_of reader.now).taken + s.length ≤ most) }
+    ensures other { IfSome result (λ s. 224 ≤ s.code) }
+{
+    let Some(segment) = segment_at(bytes) else {
+        return None;
+    };
+    if segment.code < APP0 || most - reader.taken() < segment.length as u64 {
+        return None;
+    }
+    if reader.allows(&segment) {
+        Some(segment)
+    } else {
+        None
+    }
+}
+
+// Takes a segment that may follow, and keeps it. The frame header's marker isn't complete with it.
+fn take_segment(
+    reader: &mut SegmentReader,
+    head: &mut Bytes,
+    replace: bool,
+    segment: &WholeSegment<'_>,
+) -> Result<bool, Stop>
+    requires may { MayFollow (reading_of reader.old) segment.now.code segment.now.contents.now }
+    requires room { (reading_of reader.old).taken + segment.now.length ≤ (reading_of reader.old).limits.input }
+    requires size { length segment.now.contents.now ≤ 65533 }
+    ensures takes { KeepsWhole replace (reading_of reader.old) segment.now head.old result head.new (reading_of reader.new) }
+    ensures limits { (reading_of reader.new).limits ≡ (reading_of reader.old).limits }
+    ensures room { HasRoom reader.old → HasRoom reader.new }
+{
+    reader.pass(segment);
+    keep(segment.code, segment.contents, head, replace)?;
+    Ok(false)
+}
+
+// Keeps a segment with one FF, except for comments where they are replaced.
+fn keep(code: u8, contents: &[u8], head: &mut Bytes, replace: bool) -> Result<(), NoMemory>
+    requires { length contents.now ≤ 65533 }
+    ensures { AppendsText (copied_segment replace code contents.now) result head.old head.new }
+{
+    if replace && code == COM {
+        return Ok(());
+    }
+    append_segment(code, contents, head)
 }
 
 // Reads a byte. Returns whether the frame header's marker is complete.
@@ -261,17 +321,13 @@ fn read_byte(
     }
 }
 
-// Keeps the last segment with one FF, except for comments where they are replaced.
+// Keeps the last segment, as `keep` keeps it.
 fn keep_segment(reader: &SegmentReader, head: &mut Bytes, replace: bool) -> Result<(), NoMemory>
     ensures { KeepsSegment replace (reading_of reader.now) head.old result head.new }
 {
-    let code = reader.code();
-    if replace && code == COM {
-        return Ok(());
-    }
     let contents = reader.contents();
     let length = contents.len().min(LONGEST);
-    append_segment(code, &contents[..length], head)
+    keep(reader.code(), &contents[..length], head, replace)
 }
 
 // Writes all that precedes the contents of the frame header.
