@@ -27,6 +27,10 @@ pub only_first : (mask : ℕ) (block : List ℤ) → mask < 2 → ((k : ℕ) →
     → (k : ℕ) → 1 ≤ k → k < 64 → number_at block k ≡ pos 0
 only_first mask block low bits k some lt = zero_value (number_at block k) (sym (bits k lt) ∙ bit_at_above mask 1 k low some)
 
+pub only_ten : (mask : ℕ) (block : List ℤ) → mask < 1024 → ((k : ℕ) → k < 64 → bit_at mask k ≡ cond (is_zero (number_at block k)) 0 1)
+    → (k : ℕ) → 10 ≤ k → k < 64 → number_at block k ≡ pos 0
+only_ten mask block low bits k some lt = zero_value (number_at block k) (sym (bits k lt) ∙ bit_at_above mask 10 k low some)
+
 place_some : (n : ℕ) → suc n < 64 → 1 ≤ get_or places (suc n) 0
 place_some n lt =
     ltb-true 0 (get_or places (suc n) 0) (All-get_or (λ x. nat_lt 0 x ≡ true) (drop 1 places) n 0 (omega (arith, lt)) (AllPass-from_list_all (λ x. nat_lt 0 x) (drop 1 places) refl))

@@ -1,9 +1,11 @@
 pub mod Bounds
+pub mod Corners
 pub mod Division
 pub mod EightFrequencies
 pub mod EightQuotients
 pub mod Eights
 pub mod LaneSamples
+pub mod FirstTen
 pub mod Lines
 pub mod Loops
 pub mod LongSums

@@ -20,7 +20,7 @@ use Rattle.jpg_spec_image.proofs.CodedBlocks.{all_at}
 abbrev scaled_number : List ℕ → List ℤ → ℕ → ℤ
 scaled_number quants given n = number_at given n *ℤ pos (slice_index quants n)
 
-scaled_at : (quants : List ℕ) (given : List ℤ) (k : ℕ) → k < 64 → number_at (scaled quants given) k ≡ scaled_number quants given k
+pub scaled_at : (quants : List ℕ) (given : List ℤ) (k : ℕ) → k < 64 → number_at (scaled quants given) k ≡ scaled_number quants given k
 scaled_at quants given k lt = get_or-map (scaled_number quants given) (below 64) k 0 (pos 0) (omega (arith, length_below 64, lt)) ∙ ap (scaled_number quants given) (at_below 64 k lt)
 
 scaled_long : (quants : List ℕ) (given : List ℤ) → length (scaled quants given) ≡ 64

@@ -14,7 +14,7 @@ use Rattle.jpg_spec_image.specs.Dct.{number_at, even_sums, odd_sums, joined_sums
 use Rattle.jpg_dct.specs.declared.forward.lanes.Eight.{Eight}
 use Rattle.jpg_dct.specs.declared.inverse.short.Sums.{Sums}
 use Rattle.jpg_dct.specs.Eights.{IsEight, vector, vectors}
-use Rattle.jpg_dct.specs.Sums.{AreLong, sums_at, lane_at, line_at, wrapped_more, column_number, low_of, limited_of, told_at, told_row}
+use Rattle.jpg_dct.specs.Sums.{AreColumns, AreLong, sums_at, lane_at, line_at, wrapped_more, column_number, low_of, limited_of, told_at, told_row}
 use Rattle.jpg_dct.proofs.Several.{eight, same8}
 use Rattle.jpg_dct.proofs.Bounds.{AreBelow}
 use Rattle.jpg_dct.proofs.Samples.{low32}
@@ -184,33 +184,37 @@ told_rows p0 p1 p2 p3 l0 l1 =
     back : (a b : List ℕ) (k n : ℕ) → length a ≡ 16 → n ≡ 16 + k → get_or (a ++ b) n 0 ≡ slice_index b k
     back a b k n long e = ap (λ m. get_or (a ++ b) m 0) e ∙ ap (λ m. get_or (a ++ b) (m + k) 0) (sym long) ∙ get_or-append-add a b k 0
 
--- a block on its way: rows of coefficients, columns, the same transposed, and sums of rows
-pub record Stages (values : List ℤ) (given done across : Eight) (s : Sums) : Type 0 where
+-- the columns of a block: from its rows, the columns one after another, and the same transposed
+pub record Stages (values : List ℤ) (given done across : Eight) : Type 0 where
   pub given_at : (u v : ℕ) → u < 8 → v < 8 → number_at (vector given v) u ≡ number_at values (8 * v + u)
   pub done_at : (k : ℕ) → k < 8 → lane_at done k ≡ map column_number (line_at given k)
   pub across_at : (u v : ℕ) → u < 8 → v < 8 → number_at (vector across v) u ≡ number_at (vector done u) v
-  pub long : AreLong s
-  pub sums_are : (k : ℕ) → k < 8 → sums_at s k ≡ map (wrapped_more (pos 134348800)) (line_at across k)
 
-column_is : {values : List ℤ} {given done across : Eight} {s : Sums} → Stages values given done across s → (u : ℕ) → u < 8 → lane_at done u ≡ column values u
+column_is : {values : List ℤ} {given done across : Eight} → Stages values given done across → (u : ℕ) → u < 8 → lane_at done u ≡ column values u
 unfolding column
-column_is {values} {given} {done} {across} {s} h u lu =
+column_is {values} {given} {done} {across} h u lu =
     let z : 8 * 0 + u ≡ u = omega arith in
     let at = λ (v : ℕ) (lv : v < 8). h.given_at u v lu lv in
     h.done_at u lu
     ∙ same8 (λ a b c d e f g i. map column_number (line_sums a b c d e f g i)) (at 0 (omega arith) ∙ ap (number_at values) z) (at 1 (omega arith)) (at 2 (omega arith)) (at 3 (omega arith))
     (at 4 (omega arith)) (at 5 (omega arith)) (at 6 (omega arith)) (at 7 (omega arith))
 
-number_is : {values : List ℤ} {given done across : Eight} {s : Sums} → Stages values given done across s → (u v : ℕ) → u < 8 → v < 8 → number_at (vector across u) v ≡ number_at (column values u) v
-number_is {values} {given} {done} {across} {s} h u v lu lv =
+pub columns_are : {values : List ℤ} {given done across : Eight} → Stages values given done across → AreColumns values across
+columns_are {values} {given} {done} {across} h u v lu lv =
     h.across_at v u lv lu ∙ sym (get_or-map (λ xs. number_at xs u) (vectors done) v [] (pos 0) lv) ∙ ap (λ l. number_at l v) (column_is h u lu)
 
-line_is : {values : List ℤ} {given done across : Eight} {s : Sums} → Stages values given done across s → (v : ℕ) → v < 8 → line_at across v
+line_is : (values : List ℤ) (across : Eight) → AreColumns values across → (v : ℕ) → v < 8 → line_at across v
     ≡ line_sums (column_at (columns values) v 0) (column_at (columns values) v 1) (column_at (columns values) v 2) (column_at (columns values) v 3)
     (column_at (columns values) v 4) (column_at (columns values) v 5) (column_at (columns values) v 6) (column_at (columns values) v 7)
-line_is h v lv =
-    let at = λ (u : ℕ) (lu : u < 8). number_is h u v lu lv in
+line_is values across h v lv =
+    let at = λ (u : ℕ) (lu : u < 8). h u v lu lv in
     same8 line_sums (at 0 (omega arith)) (at 1 (omega arith)) (at 2 (omega arith)) (at 3 (omega arith)) (at 4 (omega arith)) (at 5 (omega arith)) (at 6 (omega arith)) (at 7 (omega arith))
+
+-- sums of the rows of a block
+pub record RowSums (values : List ℤ) (across : Eight) (s : Sums) : Type 0 where
+  pub columns_are : AreColumns values across
+  pub long : AreLong s
+  pub sums_are : (k : ℕ) → k < 8 → sums_at s k ≡ map (wrapped_more (pos 134348800)) (line_at across k)
 
 -- two columns of samples
 pub record AreShortValues (a b : List ℤ) (p : List ℕ) : Type 0 where
@@ -220,14 +224,14 @@ pub record AreShortValues (a b : List ℤ) (p : List ℕ) : Type 0 where
 sum_told : (r : List ℤ) (e : ℤ) (v : ℕ) → length r ≡ 8 → v < 8 → number_at r v ≡ wrapped_more (pos 134348800) e → told_at (number_at (seen w32 r) v) ≡ sample_of (int_shr (e +ℤ pos 131072) 18)
 sum_told r e v long lt at = sample_is (number_at (seen w32 r) v) e (wrapped_at r v (e +ℤ pos 134348800) long lt at)
 
-pub block_is : {values : List ℤ} {given done across : Eight} {s : Sums} (p0 p1 p2 p3 : List ℕ) → Stages values given done across s
+pub block_is : {values : List ℤ} {across : Eight} {s : Sums} (p0 p1 p2 p3 : List ℕ) → RowSums values across s
     → AreShortValues s.v0 s.v1 p0 → AreShortValues s.v2 s.v3 p1 → AreShortValues s.v4 s.v5 p2 → AreShortValues s.v6 s.v7 p3 → flat_map (told_row p0 p1 p2 p3) (below 8) ≡ inverse_dct values
 unfolding inverse_dct sample_row joined_sums
-block_is {values} {given} {done} {across} {s} p0 p1 p2 p3 h t0 t1 t2 t3 =
+block_is {values} {across} {s} p0 p1 p2 p3 h t0 t1 t2 t3 =
     flat_alike (told_row p0 p1 p2 p3) (sample_row (columns values))
     (λ v lv. (let c : ℕ → ℤ = column_at (columns values) v in
     let sums : List ℤ = line_sums (c 0) (c 1) (c 2) (c 3) (c 4) (c 5) (c 6) (c 7) in
-    let e : sums_at s v ≡ map (wrapped_more (pos 134348800)) sums = h.sums_are v lv ∙ ap (map (wrapped_more (pos 134348800))) (line_is h v lv) in
+    let e : sums_at s v ≡ map (wrapped_more (pos 134348800)) sums = h.sums_are v lv ∙ ap (map (wrapped_more (pos 134348800))) (line_is values across h.columns_are v lv) in
     let l = h.long in
     eight
     (t0.first v lv ∙ sum_told s.v0 (number_at sums 0) v l.at0 lv (ap (λ (xs : List ℤ). number_at xs 0) e))

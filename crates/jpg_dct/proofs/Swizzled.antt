@@ -19,7 +19,7 @@ use Rattle.jpg_spec_image.proofs.CodedBlocks.{all_at}
 pub low : (n : ℕ) → n < 64 → index_of n zigzag < 64
 low n lt = subst (λ k. k < 64) (place_is n lt) (place_low n lt)
 
-natural_at : (block : List ℤ) (n : ℕ) → n < 64 → number_at (natural block) n ≡ number_at block (index_of n zigzag)
+pub natural_at : (block : List ℤ) (n : ℕ) → n < 64 → number_at (natural block) n ≡ number_at block (index_of n zigzag)
 natural_at block n lt = get_or-map (λ m. number_at block (index_of m zigzag)) (below 64) n 0 (pos 0) lt ∙ ap (λ m. number_at block (index_of m zigzag)) (at_below 64 n lt)
 
 -- what holds of all numbers, and of 0, holds of them in natural order

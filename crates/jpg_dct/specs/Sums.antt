@@ -1,7 +1,8 @@
 -- Vectors of eight sums of 32 bits, and the samples that they determine.
-use Rattle.std.specs.Prelude.{◌≡◌, ℕ, ◌+◌, ◌-◌, ◌/◌, ◌%◌, ◌^◌, ◌<◌, List, [], ◌∷◌, pos, ℤ, ◌+ℤ◌, length, slice_index}
+use Rattle.std.specs.Prelude.{◌≡◌, ℕ, ◌+◌, ◌-◌, ◌/◌, ◌%◌, ◌^◌, ◌<◌, ◌≤◌, ◌*◌, List, [], ◌∷◌, pos, ℤ, ◌+ℤ◌, length, slice_index}
 use Rattle.std.specs.Int.{int_wrap, int_shr, cast_unsigned, w32}
-use Rattle.jpg_spec_image.specs.Dct.{number_at, line_sums}
+use Rattle.jpg_spec_image.specs.Dct.{number_at, line_sums, column}
+use Rattle.jpg_dct.specs.Eights.{vector}
 use Rattle.jpg_dct.specs.declared.forward.lanes.Eight.{Eight}
 use Rattle.jpg_dct.specs.declared.inverse.short.Sums.{Sums}
 use Rattle.jpg_dct.specs.declared.inverse.short.FourSums.{FourSums}
@@ -47,6 +48,15 @@ line_at d k = line_sums (number_at d.v0 k) (number_at d.v1 k) (number_at d.v2 k)
 
 abbrev pub column_number : ℤ → ℤ
 column_number e = int_shr (e +ℤ pos 1024) 11
+
+-- vector u is of column u of a block
+abbrev pub AreColumns : List ℤ → Eight → Type 0
+AreColumns values d = (u v : ℕ) → u < 8 → v < 8 → number_at (vector d u) v ≡ number_at (column values u) v
+
+-- a block in natural order whose last four rows and columns are zero
+pub record IsCorner (values : List ℤ) : Type 0 where
+  pub below : (u v : ℕ) → u < 8 → 4 ≤ v → v < 8 → number_at values (8 * v + u) ≡ pos 0
+  pub right : (u v : ℕ) → 4 ≤ u → u < 8 → v < 8 → number_at values (8 * v + u) ≡ pos 0
 
 -- the low bits of a sum of a row, 512 more than the sample, and the sample
 abbrev pub low_of : ℤ → ℕ

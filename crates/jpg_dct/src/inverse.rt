@@ -52,7 +52,7 @@ pub fn idct(values: &[i32; 64]) -> [u8; 64]
 {
     let most = greatest(values);
     if most <= 1090 {
-        short::idct_short(&shortened(values))
+        *short::idct_short(&shortened(values)).as_array()
     } else {
         wide::block(values)
     }

@@ -11,7 +11,7 @@ mod tables;
 pub use forward::blocks::Divisors;
 pub use forward::fdct;
 pub use forward::quantising::quantise;
-pub use inverse::flat::flat_block;
+pub use inverse::flat::{flat_block, flat_lanes};
 pub use inverse::multipliers::Multipliers;
 pub use inverse::{dequantise, idct};
 pub use laws::{numbers_are_told_by_rows, texts_tell_tables_once, wrong_tables_have_a_place};

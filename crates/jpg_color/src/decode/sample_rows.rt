@@ -12,6 +12,7 @@ use jpg_coefs::{BlockView, Coefs};
 use jpg_dct::Multipliers;
 use std::alloc::Global;
 use std::marker::Model;
+use std::simd::u8x64;
 use std::vec::Vec;
 
 /// Some rows of samples of one component, one below the other: those of the last blocks, and the row above them.
@@ -68,9 +69,22 @@ fn put_eight(samples: &mut [u8], at: usize, block: &[u8; 64], y: usize)
     samples[at..at + 8].copy_from_slice(&block[8 * y..8 * y + 8]);
 }
 
-// The first rows of a block of samples.
+// The eight rows of a block of samples.
 #[inline(always)]
-fn put_block(
+fn put_whole(samples: &mut [u8], line: usize, row: usize, column: usize, block: &[u8; 64])
+    requires across { 8 * column + 8 ≤ line }
+    requires down { (row + 8) * line ≤ length samples.old }
+    requires small { (line ≤ 65504) × (row + 8 ≤ 33) }
+    ensures { PutsBlock line row column 8 block.now samples.old samples.new }
+{
+    for y in 0..8 {
+        put_eight(samples, (row + y) * line + 8 * column, block, y);
+    }
+}
+
+// The first rows of a block of samples.
+#[inline(never)]
+fn put_some(
     samples: &mut [u8],
     line: usize,
     row: usize,
@@ -86,6 +100,23 @@ fn put_block(
 {
     for y in 0..rows {
         put_eight(samples, (row + y) * line + 8 * column, block, y);
+    }
+}
+
+// The same. Where it is all of them, their number is known when it is compiled.
+#[inline(always)]
+fn put_block(samples: &mut [u8], line: usize, row: usize, column: usize, block: u8x64, rows: usize)
+    requires rows { rows ≤ 8 }
+    requires across { 8 * column + 8 ≤ line }
+    requires down { (row + rows) * line ≤ length samples.old }
+    requires small { (line ≤ 65504) × (row + rows ≤ 33) }
+    ensures { PutsBlock line row column rows block samples.old samples.new }
+{
+    let bytes = block.as_array();
+    if rows == 8 {
+        put_whole(samples, line, row, column, bytes);
+    } else {
+        put_some(samples, line, row, column, bytes, rows);
     }
 }
 
@@ -110,7 +141,7 @@ fn put_row_of_blocks(
     let steps = Multipliers::new(&quants.values());
     for x in 0..wide.div_ceil(8) {
         let block = samples_by(&coefs.block(i, x, at), quants, &steps);
-        put_block(samples, line, row, x as usize, &block, rows);
+        put_block(samples, line, row, x as usize, block, rows);
     }
 }
 

@@ -3,6 +3,8 @@ ghost use Rattle.std.specs.Prelude.{◌≡◌, ◌≤◌, ◌<◌, ◌∷◌, �
 ghost use Rattle.std.specs.Int.{int_shr};
 ghost use Rattle.jpg_spec_image.specs.Dct.{ranged, sample_of, inverse_dct};
 
+use std::simd::u8x64;
+
 // A number modulo 1024, as a sample.
 #[inline(always)]
 fn in_range(m: u32) -> u8
@@ -27,4 +29,13 @@ pub fn flat_block(dc: i32) -> [u8; 64]
     ensures { result ≡ inverse_dct (dc ∷ replicate 63 (pos 0)) }
 {
     [sample(dc); 64]
+}
+
+/// The same samples, as one vector.
+#[inline(always)]
+pub fn flat_lanes(dc: i32) -> u8x64
+    requires { nat_abs dc ≤ 67108864 }
+    ensures { result ≡ inverse_dct (dc ∷ replicate 63 (pos 0)) }
+{
+    u8x64::splat(sample(dc))
 }

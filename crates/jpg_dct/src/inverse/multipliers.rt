@@ -5,10 +5,10 @@ ghost use Rattle.jpg_spec_image.specs.Dct.{number_at, dequantised, inverse_dct};
 ghost use Rattle.jpg_dct.specs.Multipliers.{AreMultipliers, Multiplies, AreLimited};
 ghost use Rattle.jpg_dct.specs.Natural.{natural};
 
-use crate::inverse::short::idct_short;
+use crate::inverse::short::{idct_corner, idct_short};
 use crate::inverse::{dequantise, idct};
 use std::marker::Model;
-use std::simd::i16x64;
+use std::simd::{i16x64, u8x64};
 
 // The place in zigzag order of each natural index (T.81, A.3.6, Figure A.6).
 const PLACES: [usize; 64] = [
@@ -122,11 +122,19 @@ fn long_products(given: &[i16; 64], quants: &[u16; 64]) -> [i32; 64]
 
 // It remains a call: it is rare.
 #[inline(never)]
-fn large_block(given: &[i16; 64], quants: &[u16; 64]) -> [u8; 64]
+fn large_samples(given: &[i16; 64], quants: &[u16; 64]) -> [u8; 64]
     requires { All (λ x. nat_abs x ≤ 1024) given.now }
     ensures { result ≡ inverse_dct (dequantised quants.now given.now) }
 {
     idct(&long_products(given, quants))
+}
+
+#[inline(always)]
+fn large_block(given: &[i16; 64], quants: &[u16; 64]) -> u8x64
+    requires { All (λ x. nat_abs x ≤ 1024) given.now }
+    ensures { result ≡ inverse_dct (dequantised quants.now given.now) }
+{
+    u8x64::from_slice(&large_samples(given, quants))
 }
 
 impl Multipliers {
@@ -150,15 +158,28 @@ impl Multipliers {
 
     /// The 64 samples, row by row, of quantised coefficients in zigzag order.
     #[inline(always)]
-    pub fn block(&self, given: &[i16; 64]) -> [u8; 64]
+    pub fn block(&self, given: &[i16; 64]) -> u8x64
         requires { All (λ x. nat_abs x ≤ 1024) given.now }
         ensures { result ≡ inverse_dct (dequantised self.now given.now) }
     {
         if are_limited(given, &self.limits) {
             let products = products(given, &self.factors);
-            idct_short(&in_order(&products))
-        } else {
-            large_block(given, &self.quants)
+            return idct_short(&in_order(&products));
         }
+        large_block(given, &self.quants)
+    }
+
+    /// The same where only the first ten coefficients aren't 0.
+    #[inline(always)]
+    pub fn corner(&self, given: &[i16; 64]) -> u8x64
+        requires small { All (λ x. nat_abs x ≤ 1024) given.now }
+        requires few { (k : ℕ) → 10 ≤ k → k < 64 → number_at given.now k ≡ pos 0 }
+        ensures { result ≡ inverse_dct (dequantised self.now given.now) }
+    {
+        if are_limited(given, &self.limits) {
+            let products = products(given, &self.factors);
+            return idct_corner(&in_order(&products));
+        }
+        large_block(given, &self.quants)
     }
 }

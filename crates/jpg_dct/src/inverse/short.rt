@@ -1,14 +1,15 @@
 //! The samples of a block of small coefficients by vectors: all columns at once, and then all rows (T.81, A.3.3).
-ghost use Rattle.std.specs.Prelude.{◌≡◌, ◌+◌, ◌-◌, ◌*◌, ◌/◌, ◌%◌, ◌^◌, ◌<◌, ◌≤◌, ◌+ℤ◌, ◌-ℤ◌, ℕ, ℤ, pos, map, flat_map, All, nat_abs, length, slice_index};
+ghost use Rattle.std.specs.Prelude.{◌≡◌, List, ◌+◌, ◌-◌, ◌*◌, ◌/◌, ◌%◌, ◌^◌, ◌<◌, ◌≤◌, ◌+ℤ◌, ◌-ℤ◌, ℕ, ℤ, pos, map, flat_map, All, nat_abs, length, slice_index};
 ghost use Rattle.std.specs.Int.{int_wrap, int_shr, cast_unsigned, w32};
 ghost use Rattle.jpg_spec.specs.Lists.{below};
 ghost use Rattle.jpg_spec_image.specs.Dct.{number_at, even_sums, odd_sums, inverse_dct};
 ghost use Rattle.jpg_dct.specs.Eights.{IsEight, vector, four_of};
-ghost use Rattle.jpg_dct.specs.Sums.{AreWords, AreLong, AreFourLong, sums_at, four_sums_at, line_at, lane_at, wrapped_more, column_number, low_of, limited_of, told_at, told_row};
+ghost use Rattle.jpg_dct.specs.Sums.{AreColumns, AreWords, AreLong, AreFourLong, IsCorner, sums_at, four_sums_at, line_at, lane_at, wrapped_more, column_number, low_of, limited_of, told_at, told_row};
 ghost use Rattle.jpg_dct.specs.LowBits.{natural_of};
 
 use crate::forward::lanes::{Eight, both, dots, turned};
-use std::simd::{i16x8, i32x8, u8x16, u16x8};
+use std::simd::cmp::SimdOrd;
+use std::simd::{i16x8, i32x8, u8x16, u8x64, u16x8};
 
 // All lanes in order: of one vector, and of two, four and eight one after the other.
 const ALL: [usize; 8] = [0, 1, 2, 3, 4, 5, 6, 7];
@@ -236,7 +237,7 @@ fn samples(a: i32x8, b: i32x8) -> u8x16
 
 // Samples column by column, as a block.
 #[inline(always)]
-fn block_of(p0: u8x16, p1: u8x16, p2: u8x16, p3: u8x16) -> [u8; 64]
+fn block_of(p0: u8x16, p1: u8x16, p2: u8x16, p3: u8x16) -> u8x64
     requires { (length p0 ≡ 16) × (length p1 ≡ 16) × (length p2 ≡ 16) × (length p3 ≡ 16) }
     ensures { result ≡ flat_map (told_row p0 p1 p2 p3) (below 8) }
 {
@@ -248,8 +249,7 @@ fn block_of(p0: u8x16, p1: u8x16, p2: u8x16, p3: u8x16) -> [u8; 64]
     let (g2, g3) = e1.interleave(f1);
     let upper = g0.shuffle::<32>(g1, ALL_OF_FOUR);
     let lower = g2.shuffle::<32>(g3, ALL_OF_FOUR);
-    let all = upper.shuffle::<64>(lower, ALL_OF_EIGHT);
-    *all.as_array()
+    upper.shuffle::<64>(lower, ALL_OF_EIGHT)
 }
 
 // Row v of 64 coefficients.
@@ -298,15 +298,68 @@ fn rows(values: &[i16; 64]) -> Eight
     }
 }
 
-/// The 64 samples of a block of dequantised coefficients, both in natural order.
+// Eight zeros.
 #[inline(always)]
-pub(crate) fn idct_short(values: &[i16; 64]) -> [u8; 64]
-    requires { All (λ x. nat_abs x ≤ 1090) values.now }
-    ensures { result ≡ inverse_dct values.now }
+fn none() -> i16x8
+    ensures all { IsEight 0 result }
+    ensures at { (k : ℕ) → k < 8 → number_at result k ≡ pos 0 }
 {
-    let given = rows(values);
-    let done = columns(given);
-    let across = turned(done);
+    i16x8::splat(0)
+}
+
+// The rows of a block, of which the last four are zero.
+#[inline(always)]
+fn upper_rows(values: &[i16; 64]) -> Eight
+    requires small { All (λ x. nat_abs x ≤ 1090) values.now }
+    requires corner { IsCorner values.now }
+    ensures all { (v : ℕ) → v < 8 → IsEight 1090 (vector result v) }
+    ensures at { (u v : ℕ) → u < 8 → v < 8 → number_at (vector result v) u ≡ number_at values.now (8 * v + u) }
+{
+    let v0 = row(values, 0);
+    let v1 = row(values, 1);
+    let v2 = row(values, 2);
+    let v3 = row(values, 3);
+    let zero = none();
+    Eight {
+        v0,
+        v1,
+        v2,
+        v3,
+        v4: zero,
+        v5: zero,
+        v6: zero,
+        v7: zero,
+    }
+}
+
+// Columns transposed, of which the last four are zero: vector u is of column u.
+#[inline(always)]
+fn left_turned(d: Eight) -> Eight
+    requires small { (v : ℕ) → v < 8 → IsEight 32767 (vector d v) }
+    requires zero { (u v : ℕ) → 4 ≤ u → u < 8 → v < 8 → number_at (vector d v) u ≡ pos 0 }
+    ensures all { (u : ℕ) → u < 8 → IsEight 32767 (vector result u) }
+    ensures at { (u v : ℕ) → u < 8 → v < 8 → number_at (vector result u) v ≡ number_at (vector d v) u }
+{
+    let t = turned(d);
+    let zero = none();
+    Eight {
+        v0: t.v0,
+        v1: t.v1,
+        v2: t.v2,
+        v3: t.v3,
+        v4: zero,
+        v5: zero,
+        v6: zero,
+        v7: zero,
+    }
+}
+
+// The samples of a block, row by row, from its columns.
+#[inline(always)]
+fn shown(across: Eight) -> u8x64
+    requires { (u : ℕ) → u < 8 → IsEight 32767 (vector across u) }
+    ensures { (values : List ℤ) → AreColumns values across → result ≡ inverse_dct values }
+{
     // half a sample, and 512 of them: what is below 0 is so too after the division by 1024
     let s = lines(across, 134348800);
     let p0 = samples(s.v0, s.v1);
@@ -314,4 +367,29 @@ pub(crate) fn idct_short(values: &[i16; 64]) -> [u8; 64]
     let p2 = samples(s.v4, s.v5);
     let p3 = samples(s.v6, s.v7);
     block_of(p0, p1, p2, p3)
+}
+
+/// The 64 samples of a block of dequantised coefficients, both in natural order.
+#[inline(always)]
+pub(crate) fn idct_short(values: &[i16; 64]) -> u8x64
+    requires { All (λ x. nat_abs x ≤ 1090) values.now }
+    ensures { result ≡ inverse_dct values.now }
+{
+    let given = rows(values);
+    let done = columns(given);
+    let across = turned(done);
+    shown(across)
+}
+
+/// The same of a block that has only coefficients of the first four rows and columns.
+#[inline(always)]
+pub(crate) fn idct_corner(values: &[i16; 64]) -> u8x64
+    requires small { All (λ x. nat_abs x ≤ 1090) values.now }
+    requires corner { IsCorner values.now }
+    ensures { result ≡ inverse_dct values.now }
+{
+    let given = upper_rows(values);
+    let done = columns(given);
+    let across = left_turned(done);
+    shown(across)
 }

@@ -30,5 +30,5 @@ returns-then-are_limited c =
     c.idct_short.ensures ∙ ap inverse_dct (c.in_order.ensures ∙ ap natural (exact d) ∙ in_natural c.self.inside.quants c.args.given.now)
     ∙ ap (λ (q : List ℕ). inverse_dct (dequantised q c.args.given.now)) c.self.view_is
 
-pub returns-else-are_limited : goal.returns-else-are_limited
-returns-else-are_limited c = c.large_block.ensures ∙ ap (λ (q : List ℕ). inverse_dct (dequantised q c.args.given.now)) c.self.view_is
+pub returns : goal.returns
+returns c = c.large_block.ensures ∙ ap (λ (q : List ℕ). inverse_dct (dequantised q c.args.given.now)) c.self.view_is
