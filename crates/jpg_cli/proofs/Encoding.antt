@@ -1,11 +1,7 @@
 pub mod EncodedRead
 pub mod EncodedWritten
-pub mod ImageAnswers
 pub mod ImageEncoded
-pub mod ImageFed
 pub mod ImageStopped
-pub mod ImageTaken
-pub mod MovedWritten
 pub mod OneScan
 pub mod SamplesFed
 pub mod WorkImage

@@ -1,12 +1,4 @@
 pub mod FirstRead
 pub mod FirstShown
 pub mod FirstSteps
-pub mod FrontBytes
-pub mod FrontJudged
 pub mod FrontShown
-pub mod FrontTaken
-pub mod PictureBytes
-pub mod PictureTaken
-pub mod ScriptTaken
-pub mod TablesTaken
-pub mod TextTaken

@@ -15,8 +15,8 @@ use Rattle.jpg_spec_write.specs.ScriptGrammar.{TellsScript}
 use Rattle.jpg_spec_words.specs.TransformWords.{ScansSource, own_sequential, own_progressive, in_file, TransformAsked, choice_asked}
 use Rattle.jpg_spec_image.specs.Pixels.{out_fault}
 use Rattle.jpg_cli.specs.Tools.CommentInserted.{Task}
-use Rattle.jpg_cli.specs.Desk.ReadFront.{FrontMeansAs, IsFrontRefused}
-use Rattle.jpg_cli.specs.Desk.ReadPicture.{IsRefusedFor, Coefficients, Image}
+use Rattle.jpg_desk.specs.ReadFront.{FrontMeansAs, IsFrontRefused}
+use Rattle.jpg_desk.specs.ReadPicture.{IsRefusedFor, Coefficients, Image}
 use Rattle.jpg_cli.specs.Tools.Showing.{Showing}
 use Rattle.jpg_words.specs.Commands.{name_of}
 use Rattle.jpg_spec_words.specs.CommentWords.{CommentSource, from_input, from_words, from_file}

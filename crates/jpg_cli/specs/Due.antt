@@ -10,9 +10,9 @@ use Rattle.jpg_spec_words.specs.declared.answers.Why.{Why}
 use Rattle.jpg_spec_words.specs.declared.answers.Why.TheVariants as why
 use Rattle.jpg_spec_write.specs.ScansAsked.{Scans}
 use Rattle.jpg_spec_write.specs.declared.picture_fault.PictureFault.{PictureFault}
-use Rattle.jpg_cli.specs.Desk.Judging.{IsInput}
-use Rattle.jpg_cli.specs.Desk.ScriptTaken.{HasScans, HasScansFault, names_before}
-use Rattle.jpg_cli.specs.Desk.TablesTaken.{HasTables, HasTablesFault, tables_names}
+use Rattle.jpg_desk.specs.Judging.{IsInput}
+use Rattle.jpg_desk.specs.ScriptTaken.{HasScans, HasScansFault, names_before}
+use Rattle.jpg_desk.specs.TablesTaken.{HasTables, HasTablesFault, tables_names}
 use Rattle.jpg_cli.specs.Outcome.{Conversion}
 use Rattle.jpg_cli.specs.Tools.ImageEncoded.{encoding_conversion, task_after}
 use Rattle.jpg_cli.specs.Tools.FrontShown.{front_conversion}

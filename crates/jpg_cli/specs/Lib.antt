@@ -1,12 +1,9 @@
 pub mod Certain
 pub mod Copies
-pub mod Desk
 pub mod Due
-pub mod Endings
 pub mod KeepingLaws
 pub mod Laws
 pub mod Outcome
 pub mod OutputEnding
 pub mod Run
-pub mod Stays
 pub mod Tools

@@ -9,8 +9,8 @@ use Rattle.jpg_spec_words.specs.declared.answers.Why.{Why}
 use Rattle.jpg_spec_words.specs.declared.answers.Why.TheVariants as why
 use Rattle.jpg_spec_words.specs.declared.answers.Which.TheVariants as which
 use Rattle.jpg_spec_write.specs.declared.picture_fault.PictureFault.{PictureFault}
-use Rattle.jpg_cli.specs.Endings.{Added, Stopped, Unopened}
-use Rattle.jpg_cli.specs.Desk.Judging.{IsAllRead, Judging, ReadsFrom, input_names, left_of}
+use Rattle.jpg_desk.specs.Endings.{Added, Stopped, Unopened}
+use Rattle.jpg_desk.specs.Judging.{IsAllRead, Judging, ReadsFrom, input_names, left_of}
 
 -- WHAT IS WRITTEN BEFORE THE END of the input, where the output is written while it is read: whether it begins in these
 -- bytes; the text of all rows that they complete; and the text of some first rows, which they determine

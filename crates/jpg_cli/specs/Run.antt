@@ -20,7 +20,7 @@ use Rattle.jpg_cli.specs.Tools.ReadComments.{PrintedOrNot}
 use Rattle.jpg_cli.specs.Tools.Ends.{has_format}
 use Rattle.jpg_cli.specs.Tools.FrontShown.{ShownAs}
 use Rattle.jpg_cli.specs.Tools.Showing.{Showing}
-use Rattle.jpg_cli.specs.Stays.{FilesStay, OnlyWorks, Untouched}
+use Rattle.jpg_desk.specs.Stays.{FilesStay, OnlyWorks, Untouched}
 use Rattle.jpg_cli.specs.Tools.Turned.{Transformed}
 use Rattle.jpg_cli.specs.Tools.Worked.{DidWork}
 use Rattle.jpg_cli.specs.declared.top.Ended.{Ended}

@@ -1,10 +1,13 @@
 pub mod CommentInserted
+pub mod EncodedRead
 pub mod EncodingAsked
 pub mod Ends
 pub mod FrontShown
 pub mod ImageEncoded
+pub mod ImageWritten
 pub mod InsertComment
 pub mod ReadComments
+pub mod SamplesFed
 pub mod Showing
 pub mod ShowingRows
 pub mod Turned

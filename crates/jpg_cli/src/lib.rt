@@ -1,7 +1,6 @@
 //! The commands: their words, their work over a desk, and their messages.
 #![tactic(auto)]
 
-mod desk;
 mod ending;
 mod faults;
 mod help;
@@ -12,8 +11,8 @@ mod program;
 mod tools;
 mod top;
 
-pub use desk::moved::{Wrote, write_moved};
 pub use ending::{Ending, incomplete_outputs_are_removed};
+pub use jpg_desk::{Wrote, write_moved};
 pub use jpg_words::{
     Asked, CommentFrom, EncodeWords, Files, ScriptFrom, ShowWords, TransformWords, WordsStop,
     WriteWords, read_words,

@@ -2,7 +2,7 @@
 ghost use Rattle.std.specs.Prelude.{◌≤◌, length, map, string_bytes};
 ghost use Rattle.jpg_spec_words.specs.Messages.{message};
 ghost use Rattle.jpg_cli.specs.Tools.Ends.{AreNewEnds, formats_of};
-ghost use Rattle.jpg_cli.specs.Stays.{OnlySays};
+ghost use Rattle.jpg_desk.specs.Stays.{OnlySays};
 ghost use Rattle.jpg_words.specs.Commands.{command_asked};
 ghost use Rattle.jpg_cli.specs.Run.{IsMissing, Ran, Works, SaysText};
 

@@ -41,7 +41,7 @@ use Rattle.jpg_color.specs.StripImage.{Drawing, DrawsMore, DrawsRow, EndsDrawing
 use Rattle.jpg_color.specs.declared.decode.DecodeStop.{DecodeStop}
 use Rattle.jpg_color.proofs.Drawn.{all_same}
 use Rattle.jpg_color.proofs.DrawnLaws.{drawn_alike, texts_join}
-use Rattle.jpg_cli.specs.Desk.Reading.{rest_of}
+use Rattle.jpg_desk.specs.Reading.{rest_of}
 use Rattle.jpg_cli.specs.Tools.Showing.{Showing, Shown, shown_text}
 use Rattle.jpg_cli.specs.Tools.ShowingRows.{CanEndInZeros, HasShownEarly, Head, IsEnding, warned_of, why_of, Run, Work}
 use Rattle.jpg_cli.proofs.ByRow.EarlyImage.{early_image}

@@ -20,20 +20,20 @@ use Rattle.jpg_color.specs.declared.decode.DecodeStop.{DecodeStop}
 use Rattle.jpg_color.specs.declared.decode.DecodeStop.TheVariants as stop
 use Rattle.jpg_file.specs.Read.Keeping.{kept_for}
 use Rattle.jpg_file.specs.Read.RowsNone.{HasNoRows}
-use Rattle.jpg_cli.proofs.Outcomes.KeepingLaws.{info_same, pixels_same}
+use Rattle.jpg_desk.proofs.KeepingLaws.{info_same, pixels_same}
 use Rattle.jpg_pnm_bmp.specs.EndState.{EndState, new_end}
 use Rattle.jpg_huff.specs.Out.{OnlyWrites}
 use Rattle.jpg_words.specs.Files.{name_view}
 use Rattle.jpg_words.specs.Commands.{name_of}
-use Rattle.jpg_cli.specs.Endings.{Added}
-use Rattle.jpg_cli.specs.Desk.Judging.{done_as}
+use Rattle.jpg_desk.specs.Endings.{Added}
+use Rattle.jpg_desk.specs.Judging.{done_as}
 use Rattle.jpg_cli.specs.Run.{RanShow}
 use Rattle.jpg_words.specs.ShowWords.{show_view}
 use Rattle.jpg_cli.specs.Outcome.{WritesPart}
 use Rattle.jpg_cli.specs.Tools.FrontShown.{ShownAs, ShownBy}
 use Rattle.jpg_cli.specs.Tools.Showing.{AfterImage, IsInTime, ReadsShown, Shown, Showing, showing_conversion, shown_text}
 use Rattle.jpg_words.specs.declared.djpeg_request.ShowWords.{ShowWords}
-use Rattle.jpg_cli.proofs.Outcomes.Endings.{asks_next}
+use Rattle.jpg_desk.proofs.Endings.{asks_next}
 use Rattle.jpg_cli.proofs.Comments.InsertedThen.{same_name}
 use Rattle.jpg_cli.proofs.Outcomes.Outcome.{HasValueRead, value_on, wrote_on}
 use Rattle.jpg_cli.proofs.ByRow.RowHeads.{begins_still}

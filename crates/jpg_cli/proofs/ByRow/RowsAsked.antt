@@ -17,18 +17,18 @@ use Rattle.jpg_spec.specs.declared.frame.Limits.{Limits}
 use Rattle.jpg_file.specs.Read.ReadFile.{IsRefusal, ReaderState}
 use Rattle.jpg_file.specs.Read.ReadRows.{AfterEndRow, HasReadAll, IsEarlyByRows, IsEarlyPlainly}
 use Rattle.jpg_file.specs.declared.read.ends.End.TheVariants as ends
-use Rattle.jpg_cli.specs.Endings.{Added}
-use Rattle.jpg_cli.specs.Desk.Reading.{rest_of}
-use Rattle.jpg_cli.specs.Desk.ReadPicture.{IsOpenRead, IsRefusedRead, Image}
+use Rattle.jpg_desk.specs.Endings.{Added}
+use Rattle.jpg_desk.specs.Reading.{rest_of}
+use Rattle.jpg_desk.specs.ReadPicture.{IsOpenRead, IsRefusedRead, Image}
 use Rattle.jpg_spec.specs.Meaning.{Meaning}
 use Rattle.jpg_cli.specs.Outcome.{WritesRows, all_bytes, bytes_before}
 use Rattle.jpg_cli.specs.Tools.Showing.{IsInTime, IsRowsText, IsShownByRows, IsShownUpTo, Showing, Shown, row_texts, showing_conversion}
 use Rattle.jpg_cli.specs.Tools.ShowingRows.{AfterShownPiece, AfterRowsEnd, GoesLater, GoesOnRows, HasCreated, HasShown, HasShownEarly, StopsWith, Work, at_work, Run, more_read}
 use Rattle.jpg_cli.specs.declared.tools.djpeg_rows.RowsStep.{RowsStep}
 use Rattle.jpg_cli.specs.declared.tools.djpeg_rows.RowsStep.TheVariants as step
-use Rattle.jpg_cli.proofs.Comments.CommentsCopied.{left_still, within_most}
-use Rattle.jpg_cli.proofs.Outcomes.Input.{none_left}
-use Rattle.jpg_cli.proofs.Pieces.PictureBytes.{fault_at_end}
+use Rattle.jpg_desk.proofs.PiecesRead.{left_still, within_most}
+use Rattle.jpg_desk.proofs.Input.{none_left}
+use Rattle.jpg_desk.proofs.PictureBytes.{fault_at_end}
 use Rattle.jpg_cli.proofs.ByRow.RowsDesk.{created_added, created_read}
 use Rattle.jpg_cli.proofs.ByRow.RowsEnd.{none_unwanted, shown_head}
 use Rattle.jpg_cli.proofs.ByRow.RowsRead.{IsNextPiece, created_then, early_more, open_rows, taken_by_row}

@@ -7,13 +7,13 @@ use Rattle.jpg_spec_words.specs.declared.answers.Why.TheVariants as why
 use Rattle.jpg_spec_words.specs.declared.answers.Which.TheVariants as which
 use Rattle.jpg_file.specs.Read.ReadFile.{ReaderState}
 use Rattle.jpg_file.specs.declared.read.row_pieces.FedRow.{FedRow}
-use Rattle.jpg_cli.specs.Desk.Judging.{ReadsFrom}
-use Rattle.jpg_cli.specs.Desk.ReadPicture.{IsShortRead, Image}
+use Rattle.jpg_desk.specs.Judging.{ReadsFrom}
+use Rattle.jpg_desk.specs.ReadPicture.{IsShortRead, Image}
 use Rattle.jpg_cli.specs.Tools.Showing.{IsShownByRows, Showing, Shown}
 use Rattle.jpg_cli.specs.Tools.ShowingRows.{BeginsShownRows, HasOpened}
-use Rattle.jpg_cli.proofs.Outcomes.Endings.{asks_next}
-use Rattle.jpg_cli.proofs.Outcomes.Input.{file_read, noted}
-use Rattle.jpg_cli.proofs.Pieces.PictureTaken.{stopped_there}
+use Rattle.jpg_desk.proofs.Endings.{asks_next}
+use Rattle.jpg_desk.proofs.Input.{file_read, noted}
+use Rattle.jpg_desk.proofs.PictureTaken.{stopped_there}
 use Rattle.jpg_cli.proofs.ByRow.RowsEnd.{shown_head}
 use Rattle.jpg_cli.proofs.Outcomes.Outcome.{reads_still}
 

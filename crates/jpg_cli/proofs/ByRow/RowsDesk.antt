@@ -7,14 +7,14 @@ use Rattle.jpg_base.specs.Desk.{AppendsLast, DeskState, NotesName, append_last, 
 use Rattle.jpg_base.specs.Laws.{Grows}
 use Rattle.jpg_huff.specs.Out.{OnlyWrites}
 use Rattle.jpg_spec.specs.Segments.{standard_limits}
-use Rattle.jpg_cli.specs.Endings.{Added}
-use Rattle.jpg_cli.specs.Desk.Judging.{ReadsFrom}
+use Rattle.jpg_desk.specs.Endings.{Added}
+use Rattle.jpg_desk.specs.Judging.{ReadsFrom}
 use Rattle.jpg_cli.specs.Tools.Showing.{Showing}
 use Rattle.jpg_cli.specs.Tools.ShowingRows.{HasCreated}
-use Rattle.jpg_cli.specs.Stays.{OnlyWorks}
-use Rattle.jpg_cli.proofs.Comments.CommentsCopied.{left_still, works_then}
-use Rattle.jpg_cli.proofs.Outcomes.Endings.{asks_next}
-use Rattle.jpg_cli.proofs.Outcomes.Input.{file_read, notes_one}
+use Rattle.jpg_desk.specs.Stays.{OnlyWorks}
+use Rattle.jpg_desk.proofs.PiecesRead.{left_still, works_then}
+use Rattle.jpg_desk.proofs.Endings.{asks_next}
+use Rattle.jpg_desk.proofs.Input.{file_read, notes_one}
 
 pub writes_work : {a b : DeskState} → OnlyWrites a b → OnlyWorks a b
 writes_work k = record { stays = record { counts = k.counts; files = k.files }; said = k.said }

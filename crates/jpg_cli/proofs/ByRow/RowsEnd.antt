@@ -28,14 +28,14 @@ use Rattle.jpg_color.specs.DecodeRows.{SendsImage}
 use Rattle.jpg_color.specs.declared.decode.DecodeStop.{DecodeStop}
 use Rattle.jpg_color.specs.Shown.{IsShowable, ShownState as Strips, RepresentsPicture, picture_of, rows_made_ready}
 use Rattle.jpg_color.specs.StripImage.{Drawing, IsDrawnTo, IsEndOf}
-use Rattle.jpg_cli.specs.Endings.{Added}
-use Rattle.jpg_cli.specs.Desk.Reading.{rest_of}
-use Rattle.jpg_cli.specs.Desk.ReadPicture.{IsRefusedRead, IsUnwanted, Image}
+use Rattle.jpg_desk.specs.Endings.{Added}
+use Rattle.jpg_desk.specs.Reading.{rest_of}
+use Rattle.jpg_desk.specs.ReadPicture.{IsRefusedRead, IsUnwanted, Image}
 use Rattle.jpg_cli.specs.Outcome.{bytes_before}
 use Rattle.jpg_cli.specs.Tools.Showing.{IsInTime, IsRowsText, IsShownByRows, IsShownUpTo, Showing, Shown}
 use Rattle.jpg_cli.specs.Tools.ShowingRows.{AfterShownPiece, HasCreated, HasFedRows, HasShown, HasShownAll, Head, IsDrawing, IsHeadIn, IsLastPiece, IsShowing, last_step, why_of, at_work, Run, Work}
 use Rattle.jpg_cli.proofs.Pieces.FirstRead.{HasBegun, IsPlainOrBegun, not_shown, plain_or, plain_whole}
-use Rattle.jpg_cli.proofs.Pieces.PictureBytes.{stop_within}
+use Rattle.jpg_desk.proofs.PictureBytes.{stop_within}
 use Rattle.jpg_cli.proofs.ByRow.RowHeads.{begins_more, one_head}
 use Rattle.jpg_cli.proofs.ByRow.RowsDesk.{created_added, created_more, created_read}
 use Rattle.jpg_cli.proofs.ByRow.RowsStopped.{rows_stopped}

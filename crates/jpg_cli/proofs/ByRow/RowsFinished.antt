@@ -27,7 +27,7 @@ use Rattle.jpg_color.specs.StripImage.{Drawing, EndsDrawing, IsDrawnTo, IsAllGiv
 use Rattle.jpg_color.specs.declared.decode.DecodeStop.{DecodeStop}
 use Rattle.jpg_color.proofs.Drawn.{all_same}
 use Rattle.jpg_color.proofs.DrawnLaws.{texts_join}
-use Rattle.jpg_cli.specs.Desk.ReadPicture.{IsWholeRead, Image}
+use Rattle.jpg_desk.specs.ReadPicture.{IsWholeRead, Image}
 use Rattle.jpg_cli.specs.Tools.Showing.{Showing, Shown, shown_text}
 use Rattle.jpg_cli.specs.Tools.ShowingRows.{HasShownAll, Head, why_of, Run, Work}
 use Rattle.jpg_cli.proofs.Pieces.FirstRead.{not_shown}

@@ -32,10 +32,10 @@ use Rattle.jpg_file.specs.declared.read.row_pieces.FedRow.TheVariants as fed
 use Rattle.jpg_file.specs.declared.read.rows.RowWork.{RowWork}
 use Rattle.jpg_pnm_bmp.specs.EndState.{EndState}
 use Rattle.jpg_color.specs.StripImage.{Drawing}
-use Rattle.jpg_cli.specs.Desk.ReadPicture.{IsOpenRead, IsUnwanted, Image}
+use Rattle.jpg_desk.specs.ReadPicture.{IsOpenRead, IsUnwanted, Image}
 use Rattle.jpg_cli.specs.Tools.Showing.{IsInTime, Showing}
 use Rattle.jpg_cli.specs.Tools.ShowingRows.{HasCreated, HasShown, Head, IsDrawing, IsHeadIn, IsShowing, at_work, Run, more_read, Work}
-use Rattle.jpg_cli.proofs.Comments.CommentsCopied.{works_then}
+use Rattle.jpg_desk.proofs.PiecesRead.{works_then}
 use Rattle.jpg_cli.proofs.Pieces.FirstRead.{not_none}
 use Rattle.jpg_cli.proofs.ByRow.RowHeads.{begins_more, begins_upto, one_head}
 use Rattle.jpg_cli.proofs.ByRow.RowsEnd.{none_unwanted}

@@ -40,10 +40,10 @@ use Rattle.jpg_pnm_bmp.proofs.SomeBytes.{text_some}
 use Rattle.jpg_color.specs.Shown.{Display, ShownState as Strips, display_fault, display_of, factors_of}
 use Rattle.jpg_color.specs.StripImage.{BeginsDrawing, Drawing, DrawsImage, IsDrawnTo, IsNewOf}
 use Rattle.jpg_color.proofs.DrawnLaws.{texts_join}
-use Rattle.jpg_cli.specs.Desk.ReadPicture.{IsShortRead, Image}
+use Rattle.jpg_desk.specs.ReadPicture.{IsShortRead, Image}
 use Rattle.jpg_cli.specs.Tools.Showing.{IsInTime, IsToldText, Showing, Shown}
 use Rattle.jpg_cli.specs.Tools.ShowingRows.{BeginsShownRows, HasCreated, HasFedRows, HasOpened, Head, IsHeadIn, IsShowing, at_work}
-use Rattle.jpg_cli.proofs.Comments.CommentsCopied.{left_still, works_then}
+use Rattle.jpg_desk.proofs.PiecesRead.{left_still, works_then}
 use Rattle.jpg_cli.proofs.Pieces.FirstRead.{HasBegun}
 use Rattle.jpg_cli.proofs.ByRow.RowHeads.{begins_still, one_head}
 use Rattle.jpg_cli.proofs.ByRow.RowsDesk.{created_added, created_read}

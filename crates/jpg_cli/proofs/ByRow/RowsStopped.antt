@@ -11,8 +11,8 @@ use Rattle.jpg_spec_words.specs.declared.answers.Why.TheVariants as why
 use Rattle.jpg_color.specs.DecodeRows.{AppendsLess, SendsImage}
 use Rattle.jpg_color.specs.declared.decode.DecodeStop.{DecodeStop}
 use Rattle.jpg_color.specs.declared.decode.DecodeStop.TheVariants as stop
-use Rattle.jpg_cli.specs.Endings.{Added}
-use Rattle.jpg_cli.specs.Desk.ReadPicture.{IsShortRead, IsWholeRead, Image}
+use Rattle.jpg_desk.specs.Endings.{Added}
+use Rattle.jpg_desk.specs.ReadPicture.{IsShortRead, IsWholeRead, Image}
 use Rattle.jpg_cli.specs.Outcome.{WritesRowsInPart}
 use Rattle.jpg_cli.specs.Tools.Showing.{IsInTime, IsToldText, Showing, Shown, row_texts, showing_conversion, shown_text}
 use Rattle.jpg_cli.specs.Tools.ShowingRows.{HasCreated, why_of}

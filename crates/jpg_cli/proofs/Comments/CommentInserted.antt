@@ -23,16 +23,16 @@ use Rattle.jpg_comments.specs.WriteInserted.{HasInserted, StandsAt}
 use Rattle.jpg_comments.specs.declared.insert.Insert.{Insert}
 use Rattle.jpg_cli.specs.Tools.CommentInserted.{AfterFrameMarker, Inserted, IsOutOfMemory, IsComment, IsCommentRead, IsReading, IsShortComment, IsWriting, ReadsAlone, ReadsComment, ReadsInput, ReadsLast, Task, names_of, names_to_input, names_to_output}
 use Rattle.jpg_cli.specs.Copies.{Copies, CopiesText, HasCopied}
-use Rattle.jpg_cli.specs.Endings.{Asks, Copied, Stopped, Unopened, Unread}
+use Rattle.jpg_desk.specs.Endings.{Asks, Copied, Stopped, Unopened, Unread}
 use Rattle.jpg_cli.proofs.Outcomes.Copies.{texts_from}
-use Rattle.jpg_cli.proofs.Outcomes.Endings.{asks_next, asks_still}
-use Rattle.jpg_cli.specs.Desk.CommentTaken.{AfterComment, AfterWords}
-use Rattle.jpg_cli.specs.Desk.FileTaken.{AfterFile}
+use Rattle.jpg_desk.proofs.Endings.{asks_next, asks_still}
+use Rattle.jpg_desk.specs.CommentTaken.{AfterComment, AfterWords}
+use Rattle.jpg_desk.specs.FileTaken.{AfterFile}
 use Rattle.jpg_cli.specs.Tools.InsertComment.{AfterFed, EndsBefore, EndsInserting, IsAtHead, IsBeforeHead, IsBegunWith, IsFaultBefore, IsFileLess, IsFilePart, IsLongFile, IsNoHead, inserted_texts}
-use Rattle.jpg_cli.specs.Stays.{Keeps, OnlyCopies, OnlyReads, Untouched}
-use Rattle.jpg_cli.specs.Desk.Reading.{IsFile, ReadsPart, rest_of}
-use Rattle.jpg_cli.proofs.Outcomes.Input.{file_read}
-use Rattle.jpg_cli.proofs.Comments.CommentsCopied.{had_told, none_read}
+use Rattle.jpg_desk.specs.Stays.{Keeps, OnlyCopies, OnlyReads, Untouched}
+use Rattle.jpg_desk.specs.Reading.{IsFile, ReadsPart, rest_of}
+use Rattle.jpg_desk.proofs.Input.{file_read}
+use Rattle.jpg_desk.proofs.PiecesRead.{had_told, none_read}
 use Rattle.jpg_cli.proofs.Comments.InsertedCopied.{file_less, fed_part, fed_short, file_part, long_file, not_none, part_of_part, stands}
 
 -- READING

@@ -16,11 +16,12 @@ use Rattle.jpg_spec_words.specs.declared.answers.Which.TheVariants as which
 use Rattle.jpg_comments.specs.SegmentsSoFar.{Appends}
 use Rattle.jpg_comments.specs.ReadComments.{HasRead}
 use Rattle.jpg_comments.specs.declared.comments.Comments.{Comments}
-use Rattle.jpg_cli.specs.Desk.Reading.{rest_of}
+use Rattle.jpg_desk.specs.Reading.{rest_of}
 use Rattle.jpg_cli.specs.Tools.ReadComments.{AfterEnd, AfterNext, AfterTaking, EndsCopying, IsFaultText}
 use Rattle.jpg_cli.specs.Copies.{HasCopied}
-use Rattle.jpg_cli.specs.Stays.{OnlyCopies, OnlyWorks}
-use Rattle.jpg_cli.proofs.Outcomes.Input.{none_left}
+use Rattle.jpg_desk.specs.Stays.{OnlyCopies, OnlyWorks}
+use Rattle.jpg_desk.proofs.Input.{none_left}
+use Rattle.jpg_desk.proofs.PiecesRead.{left_still, outputs_still, some_taken, within_most}
 use Rattle.jpg_cli.proofs.Comments.CommentsRead.{part_of_part, taken_part, text_so_far}
 use Rattle.jpg_huff.proofs.Emitted.{append_last-nil}
 use Rattle.jpg_dct.proofs.TableFronts.{none_of}
@@ -31,46 +32,7 @@ pub none_written : (outputs : Option (List (Name × List ℕ))) → AppendsLast 
 none_written None = tt
 none_written (Some outputs) = sym (append_last-nil outputs)
 
-pub none_read : (left : Option (List ℕ)) → Consumes left left []
-none_read None = tt
-none_read (Some left) = refl
-
--- FRAMES
-
--- the desk as it would be if these bytes left and these outputs were known
-abbrev pub had_told : Option (List ℕ) → Option (List (Name × List ℕ)) → DeskState → DeskState
-had_told left outputs s = record s { left = left; outputs = outputs }
-
-pub copies_told : (left : Option (List ℕ)) (outputs : Option (List (Name × List ℕ))) (s : DeskState) → OnlyCopies (had_told left outputs s) s
-copies_told left outputs s = record {
-  works = record { stays = record { counts = record { opens = omega arith; reads = omega arith; writes = omega arith; says = omega arith }; files = refl }; said = refl };
-  asked = refl;
-  output_created = refl;
-}
-
-pub copies_none : (s : DeskState) → OnlyCopies s s
-copies_none s = copies_told s.left s.outputs s
-
-pub works_then : {a b c : DeskState} → OnlyWorks a b → OnlyWorks b c → OnlyWorks a c
-works_then {a} {b} {c} h k = record {
-  stays = record { counts = NoneFell-then a.counts b.counts c.counts h.stays.counts k.stays.counts; files = k.stays.files ∙ h.stays.files };
-  said = k.said ∙ h.said;
-}
-
-pub copies_then : {a b c : DeskState} → OnlyCopies a b → OnlyCopies b c → OnlyCopies a c
-copies_then h k = record {
-  works = works_then h.works k.works;
-  asked = k.asked ∙ h.asked;
-  output_created = k.output_created ∙ h.output_created;
-}
-
 -- A PIECE, read and then written
-
-pub outputs_still : (s0 s1 : DeskState) (text : List ℕ) (start : DeskState) → s1.outputs ≡ s0.outputs → AppendsLast start.outputs text s0.outputs → AppendsLast start.outputs text s1.outputs
-outputs_still s0 s1 text start e h = let P : Option (List (Name × List ℕ)) → Type 0 = λ o. AppendsLast start.outputs text o in subst P (sym e) h
-
-pub left_still : (s0 s1 : DeskState) (bytes : List ℕ) (start : DeskState) → s1.left ≡ s0.left → Consumes start.left s0.left bytes → Consumes start.left s1.left bytes
-left_still s0 s1 bytes start e h = let P : Option (List ℕ) → Type 0 = λ o. Consumes start.left o bytes in subst P (sym e) h
 
 -- a piece was read, and the text that was added is written
 pub copied : {start s0 s1 s2 : DeskState} {bytes text : List ℕ} (piece more : List ℕ) → length (bytes ++ piece) ≤ standard_limits.input → HasCopied start bytes text s0 → Consumes s0.left s1.left piece → s1.outputs ≡ s0.outputs → OnlyWrites s1 s2 → AppendsLast s1.outputs more s2.outputs
@@ -122,9 +84,6 @@ next_unread {start} {s0} s1 {bytes} {text} c e h still had rose left outputs = (
 
 -- A PIECE, as it was taken
 
-pub some_taken : (n : ℕ) (buf : List ℕ) → 1 ≤ n → n ≤ length buf → 0 < length (take n buf)
-some_taken n buf some within = omega (arith, some, within, length-take n buf)
-
 pub text_added : (old out more : List ℕ) → old ≡ [] → out ≡ old ++ more → more ≡ out
 text_added old out more empty e = sym (e ∙ ap (λ (l : List ℕ). l ++ more) empty)
 
@@ -140,12 +99,6 @@ module _ {start s0 s1 s2 : DeskState} {n : ℕ} {buf : List ℕ} where
   next_failed {old} out due c most e empty r h still had k w =
       let written = subst (λ (m : List ℕ). AfterWrite s1 m put.Failed s2) (sym (text_added old out h.0 empty h.1)) w in
       next_unwritten (take n buf) h.0 due c most e still r.counts h.2 had r.after.2 r.outputs k written
-
--- a read of no more bytes than there is room for
-pub within_most : (bytes buf : List ℕ) (n room : ℕ) → room + length bytes ≡ standard_limits.input → length bytes < standard_limits.input → (1 ≤ room → n ≤ room) → length (bytes ++ take n buf) ≤ standard_limits.input
-within_most bytes buf n room e short fits =
-    let some : 1 ≤ room = omega (arith, e, short) in
-    omega (arith, e, fits some, length-append bytes (take n buf), length-take n buf)
 
 pub read_most : (bytes text buf : List ℕ) (n room : ℕ) (c : Comments) → c.limits ≡ standard_limits → HasRead bytes text c → room + length bytes ≡ c.limits.input → (1 ≤ room → n ≤ room) → length (bytes ++ take n buf) ≤ standard_limits.input
 read_most bytes text buf n room c e h left fits =

@@ -10,17 +10,17 @@ use Rattle.jpg_base.specs.Laws.{Grows, Grows-from, NoneFell-then}
 use Rattle.jpg_spec_words.specs.declared.answers.Why.{Why}
 use Rattle.jpg_spec_words.specs.declared.answers.Why.TheVariants as why
 use Rattle.jpg_spec_words.specs.declared.answers.Which.TheVariants as which
-use Rattle.jpg_cli.specs.Desk.Reading.{rest_of}
+use Rattle.jpg_desk.specs.Reading.{rest_of}
 use Rattle.jpg_spec.specs.Segments.{standard_limits}
 use Rattle.jpg_spec_write.specs.CommentText.{IsReadWhole}
-use Rattle.jpg_cli.specs.Stays.{OnlyCopies, OnlySays}
+use Rattle.jpg_desk.specs.Stays.{OnlyCopies, OnlySays}
 use Rattle.jpg_cli.specs.Due.{NoneRose}
 use Rattle.jpg_cli.specs.Tools.ReadComments.{EndsCopying, IsPrintDue, IsWholeText, Printed, printed_texts}
 use Rattle.jpg_cli.specs.Copies.{Copies, CopiesText}
-use Rattle.jpg_cli.specs.Endings.{Asks, Copied}
+use Rattle.jpg_desk.specs.Endings.{Asks, Copied}
 use Rattle.jpg_cli.proofs.Outcomes.Copies.{texts_from, texts_then}
-use Rattle.jpg_cli.proofs.Outcomes.Endings.{copied_then, asks_next, asks_still, unopened_then}
-use Rattle.jpg_cli.proofs.Outcomes.Input.{file_read, notes_one}
+use Rattle.jpg_desk.proofs.Endings.{copied_then, asks_next, asks_still, unopened_then}
+use Rattle.jpg_desk.proofs.Input.{file_read, notes_one}
 
 -- AN INPUT OPENED, AND AN OUTPUT CREATED
 

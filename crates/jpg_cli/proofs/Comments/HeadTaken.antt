@@ -15,12 +15,13 @@ use Rattle.jpg_comments.specs.SegmentsSoFar.{Appends}
 use Rattle.jpg_comments.specs.Inserting.{HoldsHead}
 use Rattle.jpg_comments.specs.WriteInserted.{HasInserted, StandsAt}
 use Rattle.jpg_comments.specs.declared.insert.Insert.{Insert}
-use Rattle.jpg_cli.specs.Desk.Reading.{rest_of}
+use Rattle.jpg_desk.specs.Reading.{rest_of}
 use Rattle.jpg_cli.specs.Tools.InsertComment.{AfterAll, AfterFed, AfterHeadRead, EndsBefore, IsAtHead}
 use Rattle.jpg_cli.specs.declared.tools.wrjpgcom.AtHead.TheVariants as at_head
 use Rattle.jpg_cli.proofs.Comments.CommentsRead.{fault_last, fault_within, no_fault_shown}
-use Rattle.jpg_cli.proofs.Comments.CommentsCopied.{none_read, text_added}
-use Rattle.jpg_cli.proofs.Outcomes.Input.{none_left}
+use Rattle.jpg_cli.proofs.Comments.CommentsCopied.{text_added}
+use Rattle.jpg_desk.proofs.PiecesRead.{none_read}
+use Rattle.jpg_desk.proofs.Input.{none_left}
 use Rattle.jpg_cli.proofs.Comments.InsertedCopied.{inserted_so_far, not_none, stands}
 use Rattle.jpg_spec.proofs.Basics.Common.{take_shorter}
 use Rattle.jpg_comments.proofs.Taken.{upto}

@@ -21,13 +21,14 @@ use Rattle.jpg_comments.specs.SegmentsSoFar.{Appends}
 use Rattle.jpg_comments.specs.Inserting.{HoldsHead, InsertsLess}
 use Rattle.jpg_comments.specs.WriteInserted.{AfterInsert, HasInserted, StandsAt}
 use Rattle.jpg_comments.specs.declared.insert.Insert.{Insert}
-use Rattle.jpg_cli.specs.Desk.Reading.{rest_of}
+use Rattle.jpg_desk.specs.Reading.{rest_of}
 use Rattle.jpg_cli.specs.Tools.InsertComment.{AfterAll, AfterFed, AfterRest, EndsInserting, IsFileLess, IsFilePart, IsLongFile}
 use Rattle.jpg_cli.specs.Copies.{HasCopied}
-use Rattle.jpg_cli.specs.Stays.{OnlyCopies}
+use Rattle.jpg_desk.specs.Stays.{OnlyCopies}
 use Rattle.jpg_cli.proofs.Comments.CommentsRead.{fault_within, take_again}
-use Rattle.jpg_cli.proofs.Outcomes.Input.{none_left}
-use Rattle.jpg_cli.proofs.Comments.CommentsCopied.{copied, copied_still, left_still, outputs_still, some_taken, text_added, within_most}
+use Rattle.jpg_desk.proofs.Input.{none_left}
+use Rattle.jpg_cli.proofs.Comments.CommentsCopied.{copied, copied_still, text_added}
+use Rattle.jpg_desk.proofs.PiecesRead.{left_still, outputs_still, some_taken, within_most}
 
 -- THE TEXT
 

@@ -11,11 +11,11 @@ use Rattle.jpg_spec_words.specs.declared.answers.Why.TheVariants as why
 use Rattle.jpg_spec_words.specs.declared.answers.Which.TheVariants as which
 use Rattle.jpg_spec.specs.Segments.{standard_limits}
 use Rattle.jpg_spec_words.specs.CommentWords.{CommentSource, from_input, from_words, from_file}
-use Rattle.jpg_cli.specs.Stays.{OnlySays}
-use Rattle.jpg_cli.specs.Desk.Reading.{IsFile, rest_of}
+use Rattle.jpg_desk.specs.Stays.{OnlySays}
+use Rattle.jpg_desk.specs.Reading.{IsFile, rest_of}
 use Rattle.jpg_cli.specs.Tools.InsertComment.{IsAtHead, IsFaultBefore, IsNoHead, inserted_texts}
 use Rattle.jpg_cli.specs.Copies.{Copies}
-use Rattle.jpg_cli.specs.Endings.{Copied}
+use Rattle.jpg_desk.specs.Endings.{Copied}
 use Rattle.jpg_cli.specs.Tools.CommentInserted.{EndsBeforeOutput, EndsWithOutput, Inserted, IsComment, IsCommentRead, IsInsertDue, IsShortComment, ReadsAlone, ReadsComment, ReadsInput, ReadsLast, Task, names_of, names_to_input, names_to_output, task_view}
 use Rattle.jpg_words.specs.CommentWords.{comment_view, write_words_view}
 use Rattle.jpg_words.specs.Files.{name_view}
@@ -23,9 +23,9 @@ use Rattle.jpg_words.specs.declared.comments.WriteWords.{WriteWords}
 use Rattle.jpg_words.specs.Commands.{name_of}
 use Rattle.jpg_cli.specs.Due.{NoneRose}
 use Rattle.jpg_cli.specs.Run.{task_of}
-use Rattle.jpg_cli.proofs.Outcomes.Endings.{bytes_then, copied_then, stopped_then, unopened_then, unread_then}
+use Rattle.jpg_desk.proofs.Endings.{bytes_then, copied_then, stopped_then, unopened_then, unread_then}
 use Rattle.jpg_cli.proofs.Outcomes.Copies.{texts_then}
-use Rattle.jpg_cli.proofs.Outcomes.Input.{part_still, read_still}
+use Rattle.jpg_desk.proofs.Input.{part_still, read_still}
 
 -- A MESSAGE THEN
 

@@ -19,29 +19,29 @@ use Rattle.jpg_color.specs.declared.encode.EncodeStop.TheVariants as stop
 use Rattle.jpg_pnm_bmp.specs.Made.{IsRightImage}
 use Rattle.jpg_pnm_bmp.specs.PlainSamples.{AreRightNumbers, HasFedSamples}
 use Rattle.jpg_pnm_bmp.proofs.PlainSamples.{goes_on_plain}
-use Rattle.jpg_cli.specs.Desk.ImageWritten.{why_not_encoded}
+use Rattle.jpg_cli.specs.Tools.ImageWritten.{why_not_encoded}
 use Rattle.jpg_cli.specs.Tools.EncodingAsked.{CanEncodeKind}
 use Rattle.jpg_color.specs.declared.encode.Encoding.{Encoding as Asked}
 use Rattle.jpg_color.specs.declared.encode.row_encoder.RowEncoder.{RowEncoder}
 use Rattle.jpg_color.specs.declared.encode.sampler.Sampler.{Sampler}
 use Rattle.jpg_color.specs.declared.encode.image_encoder.ImageEncoder.{ImageEncoder}
 use Rattle.jpg_color.specs.declared.encode.image_encoder.ImageEncoder.TheVariants as encoder
-use Rattle.jpg_cli.specs.Desk.EncodedRead.{Encodes, EncodedRead, EndsEncoding}
-use Rattle.jpg_cli.specs.Desk.EncodedRows.{scan_of}
-use Rattle.jpg_cli.specs.Desk.ImageLoop.{HoldsImage}
-use Rattle.jpg_cli.specs.Desk.ImageSource.{source_read, source_samples, source_taken}
-use Rattle.jpg_cli.specs.Desk.Judging.{NoValueTaken, TakesPieces}
-use Rattle.jpg_cli.specs.Desk.ReadImage.{IsImageRead, image_judging}
-use Rattle.jpg_cli.specs.Desk.Reading.{rest_of}
-use Rattle.jpg_cli.specs.Desk.SamplesFed.{AfterData, Begins, FinishesPlanes, GivesData, GoesOnFrom, GoesOnRows, HasDataOf, IsAllGiven, IsGiven}
-use Rattle.jpg_cli.specs.Stays.{OnlyReads}
-use Rattle.jpg_cli.specs.declared.desk.encoded_rows.EncodedPicture.{EncodedPicture}
-use Rattle.jpg_cli.specs.declared.desk.encoded_rows.EncodedPicture.TheVariants as picture
-use Rattle.jpg_cli.specs.declared.desk.encoded_rows.OneScan.{OneScan}
-use Rattle.jpg_cli.specs.declared.desk.image_source.ImageSource.{ImageSource}
-use Rattle.jpg_cli.proofs.Encoding.ImageTaken.{open_within}
-use Rattle.jpg_cli.proofs.Outcomes.Input.{noted}
-use Rattle.jpg_cli.proofs.Pieces.PictureTaken.{none_taken, reads_from}
+use Rattle.jpg_cli.specs.Tools.EncodedRead.{Encodes, EncodedRead, EndsEncoding}
+use Rattle.jpg_desk.specs.EncodedRows.{scan_of}
+use Rattle.jpg_desk.specs.ImageLoop.{HoldsImage}
+use Rattle.jpg_desk.specs.ImageSource.{source_read, source_samples, source_taken}
+use Rattle.jpg_desk.specs.Judging.{NoValueTaken, TakesPieces}
+use Rattle.jpg_desk.specs.ReadImage.{IsImageRead, image_judging}
+use Rattle.jpg_desk.specs.Reading.{rest_of}
+use Rattle.jpg_cli.specs.Tools.SamplesFed.{AfterData, Begins, FinishesPlanes, GivesData, GoesOnFrom, GoesOnRows, HasDataOf, IsAllGiven, IsGiven}
+use Rattle.jpg_desk.specs.Stays.{OnlyReads}
+use Rattle.jpg_desk.specs.declared.encoded_rows.EncodedPicture.{EncodedPicture}
+use Rattle.jpg_desk.specs.declared.encoded_rows.EncodedPicture.TheVariants as picture
+use Rattle.jpg_desk.specs.declared.encoded_rows.OneScan.{OneScan}
+use Rattle.jpg_desk.specs.declared.image_source.ImageSource.{ImageSource}
+use Rattle.jpg_desk.proofs.ImageTaken.{open_within}
+use Rattle.jpg_desk.proofs.Input.{noted}
+use Rattle.jpg_desk.proofs.PictureTaken.{none_taken, reads_from}
 
 -- AN IMAGE was read
 

@@ -40,13 +40,13 @@ use Rattle.jpg_color.specs.declared.encode.view.EncodedImage.{EncodedImage}
 use Rattle.jpg_transform.proofs.MovedFile.{tables_are}
 use Rattle.jpg_transform.proofs.MovedScript.{judged_err, judged_ok, meaning_grids, same_due}
 use Rattle.jpg_transform.proofs.SeenPicture.{told_grids}
-use Rattle.jpg_cli.specs.Desk.EncodedRead.{IsEncodedImage}
-use Rattle.jpg_cli.specs.Desk.EncodedRows.{HasData, IsEncodedRows, WritesRows}
-use Rattle.jpg_cli.specs.Desk.ImageWritten.{AfterEncoding, IsAskedBy, IsPlanOf}
-use Rattle.jpg_cli.specs.Desk.Writing.{AfterMade, AfterOutput, why_wrote}
-use Rattle.jpg_cli.specs.declared.desk.encoded_rows.EncodedRows.{EncodedRows}
-use Rattle.jpg_cli.specs.declared.desk.moved.Wrote.{Wrote}
-use Rattle.jpg_cli.specs.declared.desk.moved.Wrote.TheVariants as wrote
+use Rattle.jpg_cli.specs.Tools.EncodedRead.{IsEncodedImage}
+use Rattle.jpg_desk.specs.EncodedRows.{HasData, IsEncodedRows, WritesRows}
+use Rattle.jpg_cli.specs.Tools.ImageWritten.{AfterEncoding, IsAskedBy, IsPlanOf}
+use Rattle.jpg_desk.specs.Writing.{AfterMade, AfterOutput, why_wrote}
+use Rattle.jpg_desk.specs.declared.encoded_rows.EncodedRows.{EncodedRows}
+use Rattle.jpg_desk.specs.declared.moved.Wrote.{Wrote}
+use Rattle.jpg_desk.specs.declared.moved.Wrote.TheVariants as wrote
 use Rattle.jpg_words.specs.declared.cjpeg_request.EncodeWords.{EncodeWords}
 
 -- THE TEXT of the file of an image without a fault, written
@@ -56,11 +56,6 @@ made_of e I output s0 s1 none means wrote.Done k = (none, k, means)
 made_of e I output s0 s1 none means (wrote.Picture fault) k = absurd k
 made_of e I output s0 s1 none means wrote.OpenFault k = (none, k)
 made_of e I output s0 s1 none means wrote.WriteFault k = (none, k)
-
--- the same data, by equal parts
-pub same_sole : {p q : Plan} {s t : SoleScan} {x y : List ℕ} (k : List (ℕ × List ℕ)) (f : Frame) (b : Blocks) → p ≡ q → s ≡ t → x ≡ y → IsSoleData q k f b t y → IsSoleData p k f b s x
-same_sole {p} {q} {s} {t} {x} {y} k f b one other text is =
-    subst (λ (r : Plan). IsSoleData r k f b s x) (sym one) (subst (λ (u : SoleScan). IsSoleData q k f b u x) (sym other) (subst (λ (z : List ℕ). IsSoleData q k f b t z) (sym text) is))
 
 -- some blocks that the data are those of
 pub rows_have : {e : Encoding} {I : Image} {r : EncodedRows} → IsEncodedRows e I r → (f : Frame) × (blocks : Blocks) × HasData r f blocks

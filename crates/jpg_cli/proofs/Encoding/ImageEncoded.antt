@@ -20,7 +20,7 @@ use Rattle.jpg_file.specs.declared.read.picture.Picture.{Picture}
 use Rattle.jpg_spec_words.specs.declared.answers.Which.TheVariants as which
 use Rattle.jpg_color.specs.EncodeView.{view_meaning}
 use Rattle.jpg_color.specs.declared.encode.view.EncodedImage.{EncodedImage}
-use Rattle.jpg_cli.specs.Desk.EncodedRead.{EncodedRead, IsEncodedImage}
+use Rattle.jpg_cli.specs.Tools.EncodedRead.{EncodedRead, IsEncodedImage}
 use Rattle.jpg_spec_words.specs.EncodedKept.{as_encoded}
 use Rattle.jpg_spec.specs.FileMeaning.{Means}
 use Rattle.jpg_spec_words.specs.declared.answers.Why.{Why}
@@ -38,21 +38,21 @@ use Rattle.jpg_pnm_bmp.specs.declared.read.pixels.Image.{Image as Read}
 use Rattle.jpg_words.specs.Commands.{name_of}
 use Rattle.jpg_words.specs.EncodeWords.{encode_view}
 use Rattle.jpg_words.specs.declared.cjpeg_request.EncodeWords.{EncodeWords}
-use Rattle.jpg_cli.specs.Endings.{Asks, GoesOnAfter}
+use Rattle.jpg_desk.specs.Endings.{Asks, GoesOnAfter}
 use Rattle.jpg_cli.specs.Outcome.{Converted}
 use Rattle.jpg_cli.specs.Tools.ImageEncoded.{Encoded, EncodedAfter, EncodedAsAsked, EncodedBy, EncodeTask, encoding_conversion, task_after}
-use Rattle.jpg_cli.specs.Desk.ImageWritten.{AfterEncoding, AfterWritten, IsAskedBy, WritesAsItIs, why_not_encoded}
-use Rattle.jpg_cli.specs.Desk.ReadImage.{IsShortImageRead, has_image}
-use Rattle.jpg_cli.specs.Desk.ScriptTaken.{HasScans, StopsAtScans, names_before}
-use Rattle.jpg_cli.specs.Stays.{Keeps, OnlySays, Untouched}
-use Rattle.jpg_cli.specs.Desk.TablesTaken.{HasTables, StopsAtTables, tables_names}
-use Rattle.jpg_cli.specs.Desk.Writing.{IsMeant, MeansMoved}
-use Rattle.jpg_cli.proofs.Outcomes.Endings.{untouched_then}
+use Rattle.jpg_cli.specs.Tools.ImageWritten.{AfterEncoding, AfterWritten, IsAskedBy, WritesAsItIs, why_not_encoded}
+use Rattle.jpg_desk.specs.ReadImage.{IsShortImageRead, has_image}
+use Rattle.jpg_desk.specs.ScriptTaken.{HasScans, StopsAtScans, names_before}
+use Rattle.jpg_desk.specs.Stays.{Keeps, OnlySays, Untouched}
+use Rattle.jpg_desk.specs.TablesTaken.{HasTables, StopsAtTables, tables_names}
+use Rattle.jpg_desk.specs.Writing.{IsMeant, MeansMoved}
+use Rattle.jpg_desk.proofs.Endings.{untouched_then}
 use Rattle.jpg_cli.proofs.Comments.InsertedThen.{same_name}
-use Rattle.jpg_cli.proofs.Outcomes.NamesBefore.{goes_on_more}
+use Rattle.jpg_desk.proofs.NamesBefore.{goes_on_more}
 use Rattle.jpg_cli.proofs.Outcomes.Outcome.{HasValueRead, converted_after, converted_made, converted_short, converted_then, converted_unread, made_same, none_early}
-use Rattle.jpg_cli.proofs.Pieces.ScriptTaken.{stopped_scans_then}
-use Rattle.jpg_cli.proofs.Pieces.TablesTaken.{stopped_tables_then, stops_after, tables_before}
+use Rattle.jpg_desk.proofs.ScriptTaken.{stopped_scans_then}
+use Rattle.jpg_desk.proofs.TablesTaken.{stopped_tables_then, stops_after, tables_before}
 
 -- WRITING an encoded image: it isn't transformed
 

@@ -8,10 +8,10 @@ use Rattle.jpg_spec.specs.Segments.{standard_limits}
 use Rattle.jpg_color.specs.DecodeRows.{SendsImage}
 use Rattle.jpg_color.specs.declared.decode.DecodeStop.{DecodeStop}
 use Rattle.jpg_color.specs.declared.decode.DecodeStop.TheVariants as stop
-use Rattle.jpg_cli.specs.Endings.{Added}
-use Rattle.jpg_cli.specs.Desk.Judging.{IsAllRead}
-use Rattle.jpg_cli.specs.Desk.Reading.{rest_of}
-use Rattle.jpg_cli.specs.Desk.ReadPicture.{IsReadPicture, Image}
+use Rattle.jpg_desk.specs.Endings.{Added}
+use Rattle.jpg_desk.specs.Judging.{IsAllRead}
+use Rattle.jpg_desk.specs.Reading.{rest_of}
+use Rattle.jpg_desk.specs.ReadPicture.{IsReadPicture, Image}
 use Rattle.jpg_cli.specs.Tools.Showing.{IsInTime, ReadsShown, Showing, Shown, shown_text}
 use Rattle.jpg_cli.specs.Tools.ShowingRows.{HasCreated, why_of}
 use Rattle.jpg_cli.proofs.ByRow.RowsDesk.{created_added, created_more, created_read}

@@ -25,9 +25,9 @@ use Rattle.jpg_color.specs.declared.encode.image_head.ImageHead.{ImageHead}
 use Rattle.jpg_color.specs.declared.encode.sampler.Sampler.{Sampler}
 use Rattle.jpg_color.proofs.HeadsMade.{IsHead, head_faultless, head_is, head_is_parts, head_means}
 use Rattle.jpg_words.specs.declared.cjpeg_request.EncodeWords.{EncodeWords}
-use Rattle.jpg_cli.specs.Desk.EncodedRows.{scan_of}
-use Rattle.jpg_cli.specs.Desk.SamplesFed.{AsksSampler, IsOneScanFor, IsPlannedFor, has_frame_rows}
-use Rattle.jpg_cli.specs.declared.desk.encoded_rows.OneScan.{OneScan}
+use Rattle.jpg_desk.specs.EncodedRows.{scan_of}
+use Rattle.jpg_cli.specs.Tools.SamplesFed.{AsksSampler, IsOneScanFor, IsPlannedFor, has_frame_rows}
+use Rattle.jpg_desk.specs.declared.encoded_rows.OneScan.{OneScan}
 use Rattle.jpg_cli.proofs.Encoding.EncodedWritten.{IsEncodedParts, can_write, no_fault, text_is}
 
 -- what can be sampled can be encoded

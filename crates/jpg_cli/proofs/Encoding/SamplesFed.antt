@@ -24,17 +24,17 @@ use Rattle.jpg_color.specs.declared.encode.image_encoder.ImageEncoder.TheVariant
 use Rattle.jpg_pnm_bmp.specs.Made.{AreBytes, IsRightImage}
 use Rattle.jpg_pnm_bmp.specs.PlainSamples.{CompletesPlain, GoesOnPlain}
 use Rattle.jpg_pnm_bmp.proofs.PlainSamples.{goes_on_plain}
-use Rattle.jpg_cli.specs.Desk.ImageFile.{HasFaultIn}
-use Rattle.jpg_cli.specs.Desk.ImageLoop.{EndsEarly}
-use Rattle.jpg_cli.specs.Desk.Judging.{NoValueTaken, TakesPieces}
-use Rattle.jpg_cli.specs.Desk.ReadImage.{IsFaultRead, IsImageRead, image_judging}
-use Rattle.jpg_cli.specs.Desk.Reading.{rest_of}
-use Rattle.jpg_cli.specs.Desk.SamplesFed.{AfterNextSamples, IsAllGiven, IsGiven, SoFarGiven, TakesSome}
-use Rattle.jpg_cli.specs.Stays.{OnlyReads}
-use Rattle.jpg_cli.proofs.Comments.CommentsCopied.{left_still}
-use Rattle.jpg_cli.proofs.Encoding.ImageTaken.{image_unread, open_end, open_more, open_too_long, open_within}
-use Rattle.jpg_cli.proofs.Outcomes.Input.{none_left}
-use Rattle.jpg_cli.proofs.Pieces.PictureTaken.{reads_then}
+use Rattle.jpg_desk.specs.ImageFile.{HasFaultIn}
+use Rattle.jpg_desk.specs.ImageLoop.{EndsEarly}
+use Rattle.jpg_desk.specs.Judging.{NoValueTaken, TakesPieces}
+use Rattle.jpg_desk.specs.ReadImage.{IsFaultRead, IsImageRead, image_judging}
+use Rattle.jpg_desk.specs.Reading.{rest_of}
+use Rattle.jpg_cli.specs.Tools.SamplesFed.{AfterNextSamples, IsAllGiven, IsGiven, SoFarGiven, TakesSome}
+use Rattle.jpg_desk.specs.Stays.{OnlyReads}
+use Rattle.jpg_desk.proofs.PiecesRead.{left_still}
+use Rattle.jpg_desk.proofs.ImageTaken.{image_unread, open_end, open_more, open_too_long, open_within}
+use Rattle.jpg_desk.proofs.Input.{none_left}
+use Rattle.jpg_desk.proofs.PictureTaken.{reads_then}
 
 -- READING is only that
 pub only_reads : {s0 s1 : DeskState} {answer : Got} {buf : List ℕ} → Reads s0 answer buf s1 → OnlyReads s0 s1

@@ -35,12 +35,12 @@ use Rattle.jpg_spec_words.specs.declared.answers.Why.{Why}
 use Rattle.jpg_spec_words.specs.declared.answers.Why.TheVariants as why
 use Rattle.jpg_spec_words.proofs.WorkedBack.{picture_back}
 use Rattle.jpg_cli.specs.Certain.{IsTold}
-use Rattle.jpg_cli.specs.Desk.ImageWritten.{AfterEncoding}
-use Rattle.jpg_cli.specs.Desk.Judging.{ReadsFrom}
-use Rattle.jpg_cli.specs.Desk.Reading.{rest_of}
-use Rattle.jpg_cli.specs.Desk.ReadPicture.{IsReadPicture, Wanted, Coefficients, Image}
+use Rattle.jpg_cli.specs.Tools.ImageWritten.{AfterEncoding}
+use Rattle.jpg_desk.specs.Judging.{ReadsFrom}
+use Rattle.jpg_desk.specs.Reading.{rest_of}
+use Rattle.jpg_desk.specs.ReadPicture.{IsReadPicture, Wanted, Coefficients, Image}
 use Rattle.jpg_cli.specs.Outcome.{Converted}
-use Rattle.jpg_cli.specs.Stays.{Untouched}
+use Rattle.jpg_desk.specs.Stays.{Untouched}
 use Rattle.jpg_cli.specs.Tools.FrontShown.{ShownAs, ShownBy}
 use Rattle.jpg_cli.specs.Tools.Showing.{Showing, Shown, showing_view}
 use Rattle.jpg_cli.specs.Tools.Turned.{Transformed, Turned, Turning}
@@ -48,10 +48,10 @@ use Rattle.jpg_cli.specs.Tools.Worked.{DidWork, HasFile, HasImage, HasOutput, Ho
 use Rattle.jpg_cli.proofs.Comments.CommentInserted.{none_noted}
 use Rattle.jpg_words.specs.declared.djpeg_request.ShowWords.{ShowWords}
 use Rattle.jpg_cli.proofs.Outcomes.Due.{one_file}
-use Rattle.jpg_cli.proofs.Outcomes.Judged.{picture_judged}
-use Rattle.jpg_cli.proofs.Outcomes.Input.{some_inj}
+use Rattle.jpg_desk.proofs.Judged.{picture_judged}
+use Rattle.jpg_desk.proofs.Input.{some_inj}
 use Rattle.jpg_cli.proofs.Outcomes.Outcome.{HasValueRead, converted_made, none_early}
-use Rattle.jpg_cli.proofs.Pieces.PictureTaken.{reads_none}
+use Rattle.jpg_desk.proofs.PictureTaken.{reads_none}
 
 -- THE ONLY OUTPUT of a desk without outputs
 

@@ -14,8 +14,8 @@ use Rattle.jpg_comments.specs.Inserting.{HoldsHead}
 use Rattle.jpg_comments.specs.Printing.{HoldsWhole}
 use Rattle.jpg_comments.proofs.OneAnswer.{heads_sound, reading_sound, whole_no_fault}
 use Rattle.jpg_cli.specs.Certain.{HasFrameHeader, HasImage, HasPicture, HasShownFront, HasWholeFile, IsDoneAsOrWanting, IsDoneOrWanting, IsOrNoMemory, IsToldComment}
-use Rattle.jpg_cli.specs.Desk.Judging.{done_as}
-use Rattle.jpg_cli.specs.Desk.Writing.{MeansUpright}
+use Rattle.jpg_desk.specs.Judging.{done_as}
+use Rattle.jpg_desk.specs.Writing.{MeansUpright}
 use Rattle.jpg_cli.specs.Tools.CommentInserted.{HasInputFault, HasLongComment, Inserted, IsComment, IsInsertDue, Task}
 use Rattle.jpg_cli.specs.Tools.ReadComments.{IsPrintDue, Printed}
 use Rattle.jpg_cli.specs.Laws.{MeanSame, WasTurnedBack, text_back}
@@ -32,11 +32,11 @@ use Rattle.jpg_spec_move.proofs.MovedBack.{moved_back}
 use Rattle.jpg_cli.proofs.Comments.CommentsPrinted.{print_due}
 use Rattle.jpg_cli.proofs.Outcomes.Due.{due_as, is_file, one_file, tells_files}
 use Rattle.jpg_cli.proofs.Outcomes.DueCommands.{front_answered, show_answered, turn_answered}
-use Rattle.jpg_cli.proofs.Pieces.FrontJudged.{front_judged}
-use Rattle.jpg_cli.proofs.Outcomes.Judged.{picture_judged}
+use Rattle.jpg_desk.proofs.FrontJudged.{front_judged}
+use Rattle.jpg_desk.proofs.Judged.{picture_judged}
 use Rattle.jpg_cli.proofs.Outcomes.TakenOnce.{told_scans}
 use Rattle.jpg_cli.proofs.Comments.InsertedThen.{insert_due}
-use Rattle.jpg_cli.specs.Desk.ReadPicture.{Coefficients, Image}
+use Rattle.jpg_desk.specs.ReadPicture.{Coefficients, Image}
 
 one_comment : (old : DeskState) (source : CommentSource) (comment other : List ℕ) → IsToldComment old source comment → IsComment old source other → other ≡ comment
 one_comment old from_input comment other told is = one_file old.files name.In comment other told is

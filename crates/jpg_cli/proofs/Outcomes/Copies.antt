@@ -5,8 +5,8 @@ use Rattle.jpg_spec_words.specs.declared.answers.Why.{Why}
 use Rattle.jpg_spec_words.specs.declared.answers.Why.TheVariants as why
 use Rattle.jpg_spec_words.specs.declared.answers.Which.TheVariants as which
 use Rattle.jpg_cli.specs.Copies.{Copies, CopyTexts}
-use Rattle.jpg_cli.specs.Desk.Reading.{rest_of}
-use Rattle.jpg_cli.specs.Stays.{OnlySays}
+use Rattle.jpg_desk.specs.Reading.{rest_of}
+use Rattle.jpg_desk.specs.Stays.{OnlySays}
 
 -- A MESSAGE THEN, which doesn't change what was read and written
 

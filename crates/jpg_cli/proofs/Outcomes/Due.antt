@@ -8,12 +8,12 @@ use Rattle.jpg_spec_words.specs.declared.answers.Why.TheVariants as why
 use Rattle.jpg_spec_words.specs.declared.answers.Which.TheVariants as which
 use Rattle.jpg_spec_write.specs.declared.picture_fault.PictureFault.{PictureFault}
 use Rattle.jpg_cli.specs.Certain.{IsOrNoMemory, IsTold}
-use Rattle.jpg_cli.specs.Desk.Judging.{IsAllRead, IsInput, done_as, left_of}
-use Rattle.jpg_cli.specs.Desk.Reading.{IsFile}
+use Rattle.jpg_desk.specs.Judging.{IsAllRead, IsInput, done_as, left_of}
+use Rattle.jpg_desk.specs.Reading.{IsFile}
 use Rattle.jpg_cli.specs.Due.{InputHas, InputRefused, IsDueFor, IsDueAfter, IsFaultOf, NoneRose, OrNoMemory, TellsFiles}
 use Rattle.jpg_cli.specs.Outcome.{Conversion, Converted, InputUnopened, ReadsValue, bytes_before}
-use Rattle.jpg_cli.proofs.Outcomes.Input.{some_inj}
-use Rattle.jpg_cli.proofs.Outcomes.Judged.{IsJudged}
+use Rattle.jpg_desk.proofs.Input.{some_inj}
+use Rattle.jpg_desk.proofs.Judged.{IsJudged}
 use Rattle.jpg_cli.proofs.Outcomes.Outcome.{so_read}
 
 -- A KNOWN FILE has one list of bytes

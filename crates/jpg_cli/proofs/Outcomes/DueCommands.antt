@@ -10,19 +10,19 @@ use Rattle.jpg_spec_words.specs.TransformWords.{TransformAsked}
 use Rattle.jpg_spec_words.specs.declared.answers.Why.{Why}
 use Rattle.jpg_spec_write.specs.ScansAsked.{Scans}
 use Rattle.jpg_cli.specs.Certain.{IsOrNoMemory}
-use Rattle.jpg_cli.specs.Desk.ScriptTaken.{HasScans, HasScansFault, names_before}
-use Rattle.jpg_cli.specs.Desk.TablesTaken.{HasTables, HasTablesFault, tables_names}
+use Rattle.jpg_desk.specs.ScriptTaken.{HasScans, HasScansFault, names_before}
+use Rattle.jpg_desk.specs.TablesTaken.{HasTables, HasTablesFault, tables_names}
 use Rattle.jpg_cli.specs.Due.{IsAnswerDue, IsDueFor, IsDueAfter, IsDueOrNoMemory, IsEncodeDue, IsEncodeDueIn, IsFrontDue, IsShowDue, IsTurnDue, NoneRose, OrNoMemory, TellsFiles}
 use Rattle.jpg_cli.specs.Tools.ImageEncoded.{EncodedAsAsked, EncodedBy, encoding_conversion, task_after}
 use Rattle.jpg_cli.specs.Tools.FrontShown.{FrontShown, front_conversion}
 use Rattle.jpg_cli.specs.Tools.Showing.{Showing, Shown, showing_conversion}
 use Rattle.jpg_cli.specs.Tools.Turned.{Transformed, turning_conversion, turning_of}
 use Rattle.jpg_cli.proofs.Outcomes.Due.{after_once, converted_due, due_once, due_taken, only_answer}
-use Rattle.jpg_cli.proofs.Pieces.FrontJudged.{front_judged}
-use Rattle.jpg_cli.proofs.Outcomes.Judged.{image_judged, picture_judged}
-use Rattle.jpg_cli.proofs.Pieces.TextTaken.{FaultOrNoMemory}
+use Rattle.jpg_desk.proofs.FrontJudged.{front_judged}
+use Rattle.jpg_desk.proofs.Judged.{image_judged, picture_judged}
+use Rattle.jpg_cli.proofs.Outcomes.TextOnce.{FaultOrNoMemory}
 use Rattle.jpg_cli.proofs.Outcomes.TakenOnce.{one_scans, one_tables, scans_fault, scans_or_fault, scans_stop, tables_fault, tables_or_fault, tables_stop}
-use Rattle.jpg_cli.specs.Desk.ReadPicture.{Coefficients, Image}
+use Rattle.jpg_desk.specs.ReadPicture.{Coefficients, Image}
 
 -- at the fault of what is taken before
 stop_due : (A : Type 0) (Faulty : DeskState → FaultAt → Type 0) (Has : DeskState → A → Type 0) (Next : A → DeskState → Why → Type 0) (s : DeskState) (w : Why) → FaultOrNoMemory Faulty s w → OrNoMemory (IsDueAfter Faulty Has Next) s w

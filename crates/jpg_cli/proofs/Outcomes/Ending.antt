@@ -14,10 +14,10 @@ use Rattle.jpg_cli.proofs.Comments.CommentsPrinted.{printed_then}
 use Rattle.jpg_cli.proofs.Comments.InsertedThen.{inserted_then}
 use Rattle.jpg_spec_words.specs.TransformWords.{TransformAsked}
 use Rattle.jpg_cli.specs.Tools.Turned.{Transformed, turning_conversion, turning_of}
-use Rattle.jpg_cli.proofs.Pieces.ScriptTaken.{stopped_scans_then}
+use Rattle.jpg_desk.proofs.ScriptTaken.{stopped_scans_then}
 use Rattle.jpg_spec.specs.Meaning.{Meaning}
 use Rattle.jpg_spec_words.specs.Messages.{message, status_of}
-use Rattle.jpg_cli.proofs.Outcomes.Endings.{untouched_then}
+use Rattle.jpg_desk.proofs.Endings.{untouched_then}
 use Rattle.jpg_cli.specs.Run.{SaysText, task_of, showing_of, RanShow, Worked, Works, Ran}
 use Rattle.jpg_cli.specs.Tools.Ends.{has_format}
 use Rattle.jpg_cli.specs.Tools.Worked.{DidWork, work_conversion}
@@ -25,7 +25,7 @@ use Rattle.jpg_cli.specs.Tools.Showing.{showing_conversion, Showing}
 use Rattle.jpg_cli.specs.Tools.FrontShown.{ShownAs, front_conversion}
 use Rattle.jpg_cli.proofs.Encoding.ImageEncoded.{encoding_then}
 use Rattle.jpg_cli.proofs.Outcomes.Outcome.{converted_then}
-use Rattle.jpg_cli.specs.Stays.{OnlySays}
+use Rattle.jpg_desk.specs.Stays.{OnlySays}
 
 -- a message doesn't change what was done
 

@@ -9,15 +9,15 @@ use Rattle.jpg_spec.specs.Meaning.{Meaning}
 use Rattle.jpg_words.specs.Commands.{name_of}
 use Rattle.jpg_cli.specs.Certain.{HasFile, HasSomeMeaning, IsNotRefused, IsTold}
 use Rattle.jpg_cli.specs.Laws.{MeanShown, WasRefused, WasRefusedShown}
-use Rattle.jpg_cli.specs.Desk.ReadPicture.{IsRefused, IsRefusedFor, Coefficients, Image}
+use Rattle.jpg_desk.specs.ReadPicture.{IsRefused, IsRefusedFor, Coefficients, Image}
 use Rattle.jpg_cli.specs.Tools.Showing.{showing_conversion}
 use Rattle.jpg_spec_write.specs.ScansAsked.{Scans}
 use Rattle.jpg_spec_words.specs.TransformWords.{ScansSource, in_file, TransformAsked}
-use Rattle.jpg_cli.specs.Desk.ScriptTaken.{HasScansFault, StopsAtScans}
+use Rattle.jpg_desk.specs.ScriptTaken.{HasScansFault, StopsAtScans}
 use Rattle.jpg_cli.specs.Tools.Turned.{Transformed, Turned, Turning, turning_conversion, turning_of}
-use Rattle.jpg_cli.proofs.Outcomes.RefusedOnce.{one_refusal}
+use Rattle.jpg_desk.proofs.RefusedOnce.{one_refusal}
 use Rattle.jpg_cli.proofs.Outcomes.Due.{one_file, refuses_told, tells_files}
-use Rattle.jpg_cli.proofs.Outcomes.Judged.{none_faulty, none_refused_for, picture_judged, refused_alone, refused_for_one}
+use Rattle.jpg_desk.proofs.Judged.{none_faulty, none_refused_for, picture_judged, refused_alone, refused_for_one}
 use Rattle.jpg_cli.proofs.Outcomes.TakenOnce.{scans_or_fault, told_scans}
 
 -- OF RUNS

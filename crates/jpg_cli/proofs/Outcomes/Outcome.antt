@@ -8,15 +8,15 @@ use Rattle.jpg_spec_words.specs.declared.answers.Why.{Why}
 use Rattle.jpg_spec_words.specs.declared.answers.Why.TheVariants as why
 use Rattle.jpg_spec_words.specs.declared.answers.Which.TheVariants as which
 use Rattle.jpg_spec_write.specs.declared.picture_fault.PictureFault.{PictureFault}
-use Rattle.jpg_cli.specs.Endings.{Added, Asks, GoesOnAfter, Stopped}
-use Rattle.jpg_cli.specs.Desk.Judging.{IsAllRead, IsInput, NoValueRead, ReadsFrom, done_as, input_names, left_of}
-use Rattle.jpg_cli.specs.Desk.Reading.{rest_of}
+use Rattle.jpg_desk.specs.Endings.{Added, Asks, GoesOnAfter, Stopped}
+use Rattle.jpg_desk.specs.Judging.{IsAllRead, IsInput, NoValueRead, ReadsFrom, done_as, input_names, left_of}
+use Rattle.jpg_desk.specs.Reading.{rest_of}
 use Rattle.jpg_cli.specs.Outcome.{Conversion, Converted, InputUnopened, MayCreate, ReadsValue, RowTexts, Writing, at_end, by_rows, RunsShort, StopsReading, StopsWriting, WritesPart, WritesRowsInPart, WritesValue, all_bytes, bytes_before, names_to_read, names_to_write, drawn}
-use Rattle.jpg_cli.specs.Desk.Writing.{AfterMade, AfterOutput, as_early}
-use Rattle.jpg_cli.specs.declared.desk.moved.Wrote.TheVariants as wrote
-use Rattle.jpg_cli.specs.Stays.{Keeps, OnlySays, Untouched}
-use Rattle.jpg_cli.proofs.Outcomes.Endings.{asks_next, asks_still, stopped_then, unopened_then, wrote_then}
-use Rattle.jpg_cli.proofs.Outcomes.NamesBefore.{added_after, from_before, input_unopened, output_uncreated, stopped_after}
+use Rattle.jpg_desk.specs.Writing.{AfterMade, AfterOutput, as_early}
+use Rattle.jpg_desk.specs.declared.moved.Wrote.TheVariants as wrote
+use Rattle.jpg_desk.specs.Stays.{Keeps, OnlySays, Untouched}
+use Rattle.jpg_desk.proofs.Endings.{asks_next, asks_still, stopped_then, unopened_then, wrote_then}
+use Rattle.jpg_desk.proofs.NamesBefore.{added_after, from_before, output_uncreated, stopped_after, unopened_more}
 use Rattle.jpg_cli.proofs.Encoding.ImageStopped.{all_still}
 
 -- WHAT WAS READ, if no more is; its bytes are the same ones
@@ -115,6 +115,10 @@ module _ (V : Type 0) (c : Conversion V) (s0 s1 s2 : DeskState) (k : OnlySays s1
 
 abbrev pub after_names : (V : Type 0) → List Name → Conversion V → Conversion V
 after_names V names c = record c { before = names; writing = at_end }
+
+input_unopened : (xs : List Name) (input : Option Name) (s0 s1 s2 : DeskState) → GoesOnAfter xs s0 s1 → InputUnopened [] input s1 s2 → InputUnopened xs input s0 s2
+input_unopened xs None s0 s1 s2 b h = absurd h
+input_unopened xs (Some input) s0 s1 s2 b h = unopened_more xs input [] s0 s1 s2 b h
 
 module _ (V : Type 0) (c : Conversion V) (xs : List Name) (s0 s1 s2 : DeskState) (b : GoesOnAfter xs s0 s1) where
   value_more : (x : V) (early : Option ℕ) (fault : Option PictureFault) → ReadsValue V (after_names V [] c) x early fault s1 s2 → ReadsValue V (after_names V xs c) x early fault s0 s2

@@ -14,9 +14,9 @@ use Rattle.jpg_spec_words.specs.declared.answers.Usage.{Usage}
 use Rattle.jpg_spec_words.specs.declared.answers.UsageFault.TheVariants.{NoEnd}
 use Rattle.jpg_spec_words.specs.declared.answers.Why.{Why}
 use Rattle.jpg_spec_words.specs.declared.answers.Why.TheVariants as why
-use Rattle.jpg_cli.specs.Endings.{GoesOnAfter}
-use Rattle.jpg_cli.specs.Desk.ReadPicture.{IsReadPicture, Coefficients}
-use Rattle.jpg_cli.specs.Stays.{Untouched}
+use Rattle.jpg_desk.specs.Endings.{GoesOnAfter}
+use Rattle.jpg_desk.specs.ReadPicture.{IsReadPicture, Coefficients}
+use Rattle.jpg_desk.specs.Stays.{Untouched}
 use Rattle.jpg_words.specs.Commands.{Command, IsCommand, IsFormatAsked, name_of, transform_picture, show_picture, encode_image, print_comments, insert_comment, do_work}
 use Rattle.jpg_words.specs.Files.{name_view}
 use Rattle.jpg_cli.specs.Run.{IsMissing, RanShow, Worked}
@@ -25,14 +25,14 @@ use Rattle.jpg_spec_words.specs.Requests.{ParsedWords, words_right, words_wrong}
 use Rattle.jpg_spec_words.specs.ShowWords.{ShowAsked}
 use Rattle.jpg_spec_image.specs.declared.image.EndKind.{EndKind}
 use Rattle.jpg_words.specs.declared.files.WordsStop.TheVariants as words
-use Rattle.jpg_cli.specs.Desk.ScriptTaken.{HasScans, StopsAtScans, names_before}
+use Rattle.jpg_desk.specs.ScriptTaken.{HasScans, StopsAtScans, names_before}
 use Rattle.jpg_words.specs.TransformWords.{script_view, transform_view}
 use Rattle.jpg_cli.specs.Outcome.{Converted}
 use Rattle.jpg_cli.specs.Tools.Turned.{Transformed, Turned, Turning, turning_conversion}
 use Rattle.jpg_words.specs.declared.jpegtran_request.TransformWords.{TransformWords}
-use Rattle.jpg_cli.specs.Desk.Writing.{AfterMade, IsMeant, MeansUpright, as_early, why_wrote}
-use Rattle.jpg_cli.specs.declared.desk.moved.Wrote.{Wrote}
-use Rattle.jpg_cli.specs.declared.desk.moved.Wrote.TheVariants as wrote
+use Rattle.jpg_desk.specs.Writing.{AfterMade, IsMeant, MeansUpright, as_early, why_wrote}
+use Rattle.jpg_desk.specs.declared.moved.Wrote.{Wrote}
+use Rattle.jpg_desk.specs.declared.moved.Wrote.TheVariants as wrote
 use Rattle.jpg_cli.proofs.Comments.CommentInserted.{none_noted}
 use Rattle.jpg_cli.proofs.Comments.InsertedThen.{same_name}
 use Rattle.jpg_cli.proofs.Outcomes.Outcome.{HasValueRead, after_names, converted_after, converted_made}

@@ -13,12 +13,12 @@ use Rattle.jpg_spec.proofs.Texts.TextsRead.{has_one_answer}
 use Rattle.jpg_scans.proofs.ScriptRest.{reads_scripts}
 use Rattle.jpg_dct.proofs.TableRest.{reads_tables}
 use Rattle.jpg_cli.specs.Certain.{AreToldScans, HasFaultyScript}
-use Rattle.jpg_cli.specs.Desk.ScriptTaken.{HasScans, HasScansFault, StopsAtScans, script_kind}
-use Rattle.jpg_cli.specs.Desk.TablesTaken.{HasTables, HasTablesFault, StopsAtTables, tables_kind}
-use Rattle.jpg_cli.specs.Desk.TextTaken.{TellsIn}
+use Rattle.jpg_desk.specs.ScriptTaken.{HasScans, HasScansFault, StopsAtScans, script_kind}
+use Rattle.jpg_desk.specs.TablesTaken.{HasTables, HasTablesFault, StopsAtTables, tables_kind}
+use Rattle.jpg_desk.specs.TextTaken.{TellsIn}
 use Rattle.jpg_cli.specs.Due.{NoneRose, TellsFiles}
 use Rattle.jpg_cli.proofs.Outcomes.Due.{is_file}
-use Rattle.jpg_cli.proofs.Pieces.TextTaken.{FaultOrNoMemory, text_once, text_stops}
+use Rattle.jpg_cli.proofs.Outcomes.TextOnce.{FaultOrNoMemory, text_once, text_stops}
 
 ok_same : (A : Type 0) (a b : A) → (let x : Result A FaultAt = Ok a in x) ≡ Ok b → a ≡ b
 ok_same A a b e = cc

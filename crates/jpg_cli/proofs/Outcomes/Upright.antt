@@ -23,9 +23,9 @@ use Rattle.jpg_file.specs.Read.PictureKept.{ArePictureParts, PictureParts, parts
 use Rattle.jpg_file.specs.Read.PictureRead.{picture_meaning}
 use Rattle.jpg_file.specs.declared.read.picture.Picture.{Picture}
 use Rattle.jpg_file.proofs.Files.Keeping.{filter_reverse, find_in}
-use Rattle.jpg_cli.specs.Desk.Writing.{AfterMade, IsMeant, MeansUpright, WritesOwn, why_wrote}
-use Rattle.jpg_cli.specs.declared.desk.moved.Wrote.{Wrote}
-use Rattle.jpg_cli.specs.declared.desk.moved.Wrote.TheVariants as wrote
+use Rattle.jpg_desk.specs.Writing.{AfterMade, IsMeant, MeansUpright, WritesOwn, why_wrote}
+use Rattle.jpg_desk.specs.declared.moved.Wrote.{Wrote}
+use Rattle.jpg_desk.specs.declared.moved.Wrote.TheVariants as wrote
 
 -- ITS TEXT means it
 

@@ -32,12 +32,12 @@ use Rattle.jpg_file.specs.declared.read.rows.RowWork.{RowWork}
 use Rattle.jpg_file.specs.declared.read.strip_head.StripHead.{StripHead}
 use Rattle.jpg_spec.specs.Geometry.{Frame}
 use Rattle.jpg_spec.specs.Scan.{Blocks}
-use Rattle.jpg_cli.specs.Desk.ReadPicture.{AfterFileEnd, IsRefusedFor, IsRefusedRead, IsUnwanted, unwanted_in, Image}
+use Rattle.jpg_desk.specs.ReadPicture.{AfterFileEnd, IsRefusedFor, IsRefusedRead, IsUnwanted, unwanted_in, Image}
 use Rattle.jpg_cli.specs.Tools.Showing.{IsShownByRows}
 use Rattle.jpg_cli.specs.Tools.ShowingRows.{AfterFirst, BeginsShownRows, HasFedPlainly, HoldsEarlyPlainly, HoldsPlainly, IsHeadIn, StaysFirst, step_of}
-use Rattle.jpg_cli.proofs.Pieces.PictureBytes.{early_end, has_fed, holds_file, new_place, refused_end, refused_there, short_piece, stop_within}
+use Rattle.jpg_desk.proofs.PictureBytes.{early_end, has_fed, holds_file, new_place, refused_end, refused_there, short_piece, stop_within}
 use Rattle.jpg_cli.proofs.ByRow.RowHeads.{begins_still, begins_whole, shown_before}
-use Rattle.jpg_cli.proofs.Outcomes.Unwanted.{fault_after, stop_wanted, unwanted_head, unwanted_more, unwanted_within, wanted_head}
+use Rattle.jpg_desk.proofs.Unwanted.{fault_after, stop_wanted, unwanted_head, unwanted_more, unwanted_within, wanted_head}
 use Rattle.jpg_spec.proofs.Basics.Common.{joined}
 
 -- THE HEAD that the reader keeps is that of a prefix of the bytes

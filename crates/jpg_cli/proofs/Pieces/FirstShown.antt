@@ -14,20 +14,20 @@ use Rattle.jpg_spec_words.specs.declared.answers.Which.TheVariants as which
 use Rattle.jpg_file.specs.Read.File.{keeping_of}
 use Rattle.jpg_file.specs.Read.PictureRead.{MeansFor, TakesEarly, TakesPicture, picture_meaning}
 use Rattle.jpg_file.specs.Read.ReadFile.{ReaderState}
-use Rattle.jpg_cli.proofs.Outcomes.KeepingLaws.{out_same}
+use Rattle.jpg_desk.proofs.KeepingLaws.{out_same}
 use Rattle.jpg_file.specs.Read.RowsNone.{HasNoRows}
 use Rattle.jpg_file.specs.declared.read.picture.Picture.{Picture}
-use Rattle.jpg_cli.specs.Desk.Reading.{rest_of}
-use Rattle.jpg_cli.specs.Desk.Judging.{IsAllRead, ReadsFrom, TakesPieces}
-use Rattle.jpg_cli.specs.Desk.ReadPicture.{IsOpenRead, IsReadPicture, IsRefusedRead, IsShortRead, unwanted_for, Wanted, Image}
+use Rattle.jpg_desk.specs.Reading.{rest_of}
+use Rattle.jpg_desk.specs.Judging.{IsAllRead, ReadsFrom, TakesPieces}
+use Rattle.jpg_desk.specs.ReadPicture.{IsOpenRead, IsReadPicture, IsRefusedRead, IsShortRead, unwanted_for, Wanted, Image}
 use Rattle.jpg_cli.specs.Outcome.{all_bytes, bytes_before}
 use Rattle.jpg_cli.specs.Tools.Showing.{AfterImage, IsPlain, Shown, Showing, shown_text}
 use Rattle.jpg_cli.specs.Tools.ShowingRows.{EndsPlainly, HoldsEarlyPlainly, HoldsPlainly}
-use Rattle.jpg_cli.specs.Stays.{Keeps, OnlyReads}
-use Rattle.jpg_cli.proofs.Comments.CommentsCopied.{works_then}
+use Rattle.jpg_desk.specs.Stays.{Keeps, OnlyReads}
+use Rattle.jpg_desk.proofs.PiecesRead.{works_then}
 use Rattle.jpg_cli.proofs.ByRow.ImageShown.{shown_written, text_shown}
-use Rattle.jpg_cli.proofs.Outcomes.Input.{file_read, noted}
-use Rattle.jpg_cli.proofs.Pieces.PictureTaken.{early_meaning, early_taken, file_taken, reads_from, stopped_there}
+use Rattle.jpg_desk.proofs.Input.{file_read, noted}
+use Rattle.jpg_desk.proofs.PictureTaken.{early_meaning, early_taken, file_taken, reads_from, stopped_there}
 
 -- IT ENDS
 

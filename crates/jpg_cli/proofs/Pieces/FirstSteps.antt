@@ -13,16 +13,16 @@ use Rattle.jpg_spec.specs.declared.frame.Limits.{Limits}
 use Rattle.jpg_file.specs.Read.ReadFile.{ReaderState}
 use Rattle.jpg_file.specs.Read.ReadRows.{HasReadPlainly}
 use Rattle.jpg_file.specs.Read.RowsNone.{HasNoRows}
-use Rattle.jpg_cli.specs.Desk.Reading.{rest_of}
-use Rattle.jpg_cli.specs.Desk.ReadPicture.{AfterFileEnd, IsRefusedRead, Image}
+use Rattle.jpg_desk.specs.Reading.{rest_of}
+use Rattle.jpg_desk.specs.ReadPicture.{AfterFileEnd, IsRefusedRead, Image}
 use Rattle.jpg_cli.specs.Tools.Showing.{IsShownByRows}
 use Rattle.jpg_cli.specs.Tools.ShowingRows.{AfterFirst, AfterFirstEnd, AfterFirstRead, BeginsShownRows, EndsPlainly, HasFedPlainly}
-use Rattle.jpg_cli.specs.Stays.{OnlyReads}
+use Rattle.jpg_desk.specs.Stays.{OnlyReads}
 use Rattle.jpg_cli.specs.declared.tools.djpeg.FirstStep.{FirstStep}
 use Rattle.jpg_cli.specs.declared.tools.djpeg.FirstStep.TheVariants as first
-use Rattle.jpg_cli.proofs.Comments.CommentsCopied.{left_still, some_taken}
-use Rattle.jpg_cli.proofs.Outcomes.Input.{none_left}
-use Rattle.jpg_cli.proofs.Pieces.PictureBytes.{fed_none, open_so_far}
+use Rattle.jpg_desk.proofs.PiecesRead.{left_still, some_taken}
+use Rattle.jpg_desk.proofs.Input.{none_left}
+use Rattle.jpg_desk.proofs.PictureBytes.{fed_none, open_so_far}
 use Rattle.jpg_cli.proofs.ByRow.RowHeads.{shown_before}
 
 -- the room that is left for more

@@ -12,13 +12,13 @@ use Rattle.jpg_spec_words.specs.declared.answers.Which.TheVariants as which
 use Rattle.jpg_color.specs.DecodeRows.{picture_text}
 use Rattle.jpg_file.specs.Read.PictureRead.{MeansFor, picture_meaning}
 use Rattle.jpg_file.specs.declared.read.picture.Picture.{Picture}
-use Rattle.jpg_cli.specs.Desk.ReadFront.{IsReadFront}
+use Rattle.jpg_desk.specs.ReadFront.{IsReadFront}
 use Rattle.jpg_cli.specs.Outcome.{ReadsValue, WritesPart}
 use Rattle.jpg_cli.specs.Tools.FrontShown.{FrontShown, front_conversion}
 use Rattle.jpg_cli.specs.Tools.Showing.{AfterImage, Showing, shown_text}
-use Rattle.jpg_cli.proofs.Outcomes.Endings.{asks_next}
+use Rattle.jpg_desk.proofs.Endings.{asks_next}
 use Rattle.jpg_cli.proofs.ByRow.ImageShown.{text_shown}
-use Rattle.jpg_cli.proofs.Outcomes.KeepingLaws.{out_same}
+use Rattle.jpg_desk.proofs.KeepingLaws.{out_same}
 use Rattle.jpg_cli.proofs.Outcomes.Outcome.{HasValueRead, value_on, wrote_on}
 
 module _ (scans : ℕ) (s : Showing) (M : Meaning) (early : Option ℕ) (s0 s1 s2 : DeskState) (h : HasValueRead Meaning (front_conversion scans s) M early s0 s1 s2) where

@@ -20,8 +20,8 @@ use Rattle.jpg_words.specs.CommentWords.{comment_view}
 use Rattle.jpg_words.specs.declared.comments.WriteWords.{WriteWords}
 use Rattle.jpg_cli.specs.Tools.InsertComment.{AfterFed, IsAtHead, IsBeforeHead, IsFaultBefore, IsNoHead, IsInsertedWhole, inserted_texts}
 use Rattle.jpg_cli.specs.Copies.{Copies}
-use Rattle.jpg_cli.specs.Endings.{Asks, Copied, Stopped, Unopened, Unread}
-use Rattle.jpg_cli.specs.Desk.Reading.{IsFile, IsReadTo, ReadsBytes, ReadsPart, rest_of}
+use Rattle.jpg_desk.specs.Endings.{Asks, Copied, Stopped, Unopened, Unread}
+use Rattle.jpg_desk.specs.Reading.{IsFile, IsReadTo, ReadsBytes, ReadsPart, rest_of}
 
 -- which comment is inserted into which file, and where the result goes; whether it replaces the comments before the
 -- frame header

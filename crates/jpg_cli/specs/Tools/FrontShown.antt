@@ -6,10 +6,10 @@ use Rattle.jpg_spec_words.specs.declared.answers.Why.{Why}
 use Rattle.jpg_spec_words.specs.declared.answers.Why.TheVariants as why
 use Rattle.jpg_spec_words.specs.declared.answers.UsageFault.TheVariants.{NoEnd}
 use Rattle.jpg_words.specs.declared.djpeg_request.ShowWords.{ShowWords}
-use Rattle.jpg_cli.specs.Desk.ReadFront.{front_judging}
+use Rattle.jpg_desk.specs.ReadFront.{front_judging}
 use Rattle.jpg_cli.specs.Outcome.{Conversion, Converted, drawn}
 use Rattle.jpg_cli.specs.Tools.Showing.{Showing, Shown, showing_conversion, showing_view}
-use Rattle.jpg_cli.specs.Stays.{Untouched}
+use Rattle.jpg_desk.specs.Stays.{Untouched}
 
 -- THE CONVERSION: the text of the image of the picture that the front of the input means for so many scans, which can be
 -- displayed. The image is written when the front was read.

@@ -11,12 +11,12 @@ use Rattle.jpg_spec.specs.Segments.{QuantTable, standard_limits}
 use Rattle.jpg_spec_words.specs.declared.answers.Why.{Why}
 use Rattle.jpg_spec_words.specs.declared.answers.Why.TheVariants as why
 use Rattle.jpg_words.specs.Commands.{name_of}
-use Rattle.jpg_cli.specs.Endings.{GoesOnAfter}
-use Rattle.jpg_cli.specs.Desk.ReadImage.{image_judging}
+use Rattle.jpg_desk.specs.Endings.{GoesOnAfter}
+use Rattle.jpg_desk.specs.ReadImage.{image_judging}
 use Rattle.jpg_cli.specs.Outcome.{Conversion, Converted, at_end}
-use Rattle.jpg_cli.specs.Desk.ScriptTaken.{HasScans, StopsAtScans, names_before}
-use Rattle.jpg_cli.specs.Stays.{Untouched}
-use Rattle.jpg_cli.specs.Desk.TablesTaken.{HasTables, StopsAtTables, tables_names}
+use Rattle.jpg_desk.specs.ScriptTaken.{HasScans, StopsAtScans, names_before}
+use Rattle.jpg_desk.specs.Stays.{Untouched}
+use Rattle.jpg_desk.specs.TablesTaken.{HasTables, StopsAtTables, tables_names}
 
 -- which image is encoded, whether its file is a Targa file, how it is encoded, and where its file goes; and the names
 -- that were opened before

@@ -16,8 +16,8 @@ use Rattle.jpg_comments.specs.declared.insert.Insert.{Insert}
 use Rattle.jpg_cli.specs.declared.tools.wrjpgcom.AtHead.{AtHead}
 use Rattle.jpg_cli.specs.declared.tools.wrjpgcom.AtHead.TheVariants as at_head
 use Rattle.jpg_cli.specs.Copies.{Copies, CopiesText, CopyTexts, HasCopied}
-use Rattle.jpg_cli.specs.Stays.{OnlyCopies}
-use Rattle.jpg_cli.specs.Desk.Reading.{rest_of}
+use Rattle.jpg_desk.specs.Stays.{OnlyCopies}
+use Rattle.jpg_desk.specs.Reading.{rest_of}
 
 -- A new inserter, with a comment that isn't too long; or there is none.
 abbrev pub IsBegunWith : List ℕ → Bool → Result Insert Why → Type 0

@@ -16,9 +16,9 @@ use Rattle.jpg_comments.specs.Printing.{HoldsWhole}
 use Rattle.jpg_comments.specs.ReadComments.{HasRead}
 use Rattle.jpg_comments.specs.declared.comments.Comments.{Comments}
 use Rattle.jpg_cli.specs.Copies.{Copies, CopiesText, CopyTexts, HasCopied}
-use Rattle.jpg_cli.specs.Endings.{Copied, Unopened}
-use Rattle.jpg_cli.specs.Desk.Reading.{IsFile}
-use Rattle.jpg_cli.specs.Stays.{OnlyCopies, Untouched}
+use Rattle.jpg_desk.specs.Endings.{Copied, Unopened}
+use Rattle.jpg_desk.specs.Reading.{IsFile}
+use Rattle.jpg_desk.specs.Stays.{OnlyCopies, Untouched}
 
 -- THE TEXT that was printed, by the bytes that were read
 

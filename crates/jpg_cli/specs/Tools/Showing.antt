@@ -21,9 +21,9 @@ use Rattle.jpg_spec_image.specs.declared.image.EndKind.{EndKind}
 use Rattle.jpg_color.specs.DecodeRows.{picture_text}
 use Rattle.jpg_file.specs.declared.read.picture.Picture.{Picture}
 use Rattle.jpg_words.specs.declared.djpeg_request.ShowWords.{ShowWords}
-use Rattle.jpg_cli.specs.Desk.ReadPicture.{picture_judging, Image}
+use Rattle.jpg_desk.specs.ReadPicture.{picture_judging, Image}
 use Rattle.jpg_cli.specs.Outcome.{Conversion, Converted, IsSoFar, IsWrittenInTime, ReadsValue, RowTexts, by_rows}
-use Rattle.jpg_cli.specs.Desk.Writing.{GrowsInPart}
+use Rattle.jpg_desk.specs.Writing.{GrowsInPart}
 
 -- which picture is decoded, how, and where its image goes
 pub record Showing : Type 0 where

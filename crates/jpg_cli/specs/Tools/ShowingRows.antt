@@ -36,12 +36,12 @@ use Rattle.jpg_color.specs.Shown.{rows_made_ready}
 use Rattle.jpg_color.specs.StripImage.{Drawing, IsDrawnTo, IsEndOf}
 use Rattle.jpg_color.specs.declared.decode.DecodeStop.{DecodeStop}
 use Rattle.jpg_color.specs.declared.decode.DecodeStop.TheVariants as decode
-use Rattle.jpg_cli.specs.Desk.Judging.{TakesPieces}
-use Rattle.jpg_cli.specs.Desk.ReadPicture.{AfterFileEnd, HasFed, HoldsEarly, HoldsFile, IsEarlyRead, IsOpenRead, IsRefusedRead, IsShortRead, Image}
-use Rattle.jpg_cli.specs.Desk.Reading.{rest_of}
+use Rattle.jpg_desk.specs.Judging.{TakesPieces}
+use Rattle.jpg_desk.specs.ReadPicture.{AfterFileEnd, HasFed, HoldsEarly, HoldsFile, IsEarlyRead, IsOpenRead, IsRefusedRead, IsShortRead, Image}
+use Rattle.jpg_desk.specs.Reading.{rest_of}
 use Rattle.jpg_cli.specs.Outcome.{all_bytes, bytes_before}
 use Rattle.jpg_cli.specs.Tools.Showing.{IsInTime, IsPlain, IsShownByRows, Showing, Shown, showing_view, shown_text}
-use Rattle.jpg_cli.specs.Stays.{OnlyReads, OnlyWorks}
+use Rattle.jpg_desk.specs.Stays.{OnlyReads, OnlyWorks}
 use Rattle.jpg_cli.specs.declared.tools.djpeg.FirstStep.{FirstStep}
 use Rattle.jpg_cli.specs.declared.tools.djpeg.FirstStep.TheVariants as first
 use Rattle.jpg_cli.specs.declared.tools.djpeg_rows.RowsStep.{RowsStep}

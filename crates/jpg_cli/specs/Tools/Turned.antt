@@ -14,11 +14,11 @@ use Rattle.jpg_transform.specs.Planned.{choice_view}
 use Rattle.jpg_transform.specs.declared.choice.Choice.{Choice as Asked}
 use Rattle.jpg_words.specs.declared.files.Files.{Files}
 use Rattle.jpg_words.specs.Commands.{name_of}
-use Rattle.jpg_cli.specs.Desk.ReadPicture.{picture_judging, Coefficients}
-use Rattle.jpg_cli.specs.Desk.ScriptTaken.{HasScans, StopsAtScans, names_before}
-use Rattle.jpg_cli.specs.Desk.Writing.{MeansUpright, in_area}
+use Rattle.jpg_desk.specs.ReadPicture.{picture_judging, Coefficients}
+use Rattle.jpg_desk.specs.ScriptTaken.{HasScans, StopsAtScans, names_before}
+use Rattle.jpg_desk.specs.Writing.{MeansUpright, in_area}
 use Rattle.jpg_cli.specs.Outcome.{Conversion, Converted, WritesValue, at_end}
-use Rattle.jpg_cli.specs.Stays.{Untouched}
+use Rattle.jpg_desk.specs.Stays.{Untouched}
 
 -- which picture is transformed and cropped, how, whether its Exif orientation chooses the transform, and where it goes; and
 -- the names that were opened before

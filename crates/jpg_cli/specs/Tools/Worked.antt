@@ -21,10 +21,10 @@ use Rattle.jpg_spec_words.specs.declared.answers.Usage.{Usage}
 use Rattle.jpg_spec_words.specs.declared.answers.UsageFault.TheVariants.{NoEnd}
 use Rattle.jpg_spec_words.specs.declared.answers.Why.{Why}
 use Rattle.jpg_spec_words.specs.declared.answers.Why.TheVariants as why
-use Rattle.jpg_cli.specs.Desk.Judging.{Judging}
-use Rattle.jpg_cli.specs.Desk.Writing.{AfterMade}
+use Rattle.jpg_desk.specs.Judging.{Judging}
+use Rattle.jpg_desk.specs.Writing.{AfterMade}
 use Rattle.jpg_cli.specs.Outcome.{Conversion, Converted, at_end}
-use Rattle.jpg_cli.specs.Stays.{Untouched}
+use Rattle.jpg_desk.specs.Stays.{Untouched}
 
 -- THE CONVERSION of a number, which has no input: its value is this number. Nothing is refused; as nothing is read,
 -- reading neither fails nor lacks memory.

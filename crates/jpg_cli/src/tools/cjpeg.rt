@@ -7,18 +7,17 @@ ghost use Rattle.jpg_pnm_bmp.specs.Made.{IsRightImage};
 ghost use Rattle.jpg_words.specs.EncodeWords.{encode_view};
 ghost use Rattle.jpg_cli.specs.Tools.EncodingAsked.{lent_tables};
 ghost use Rattle.jpg_cli.specs.Tools.ImageEncoded.{Encoded, EncodedAfter, EncodedAsAsked, task_after};
-ghost use Rattle.jpg_cli.specs.Desk.ImageWritten.{EncodesImage, IsEncodedBy, IsPlanOf, WritesAsItIs, WritesEncoded, WritesView};
-ghost use Rattle.jpg_cli.specs.Desk.Writing.{why_wrote};
-ghost use Rattle.jpg_cli.specs.Stays.{OnlyWorks};
+ghost use Rattle.jpg_cli.specs.Tools.ImageWritten.{EncodesImage, IsEncodedBy, IsPlanOf, WritesAsItIs, WritesEncoded, WritesView};
+ghost use Rattle.jpg_desk.specs.Writing.{why_wrote};
+ghost use Rattle.jpg_desk.specs.Stays.{OnlyWorks};
 
-use crate::desk::encoded_rows::{EncodedPicture, write_rows};
-use crate::desk::moved::{Wrote, write_moved, write_view};
-use crate::desk::script::take_scans;
-use crate::desk::tables::{Tables, take_tables};
 use crate::tools::cjpeg_encoding::encoding_of;
 use crate::tools::cjpeg_image::{read_encoded, why_not_encoded};
 use jpg_base::{Desk, QuantTable};
 use jpg_color::{EncodedImage, encode_picture};
+use jpg_desk::{
+    EncodedPicture, Tables, Wrote, take_scans, take_tables, write_moved, write_rows, write_view,
+};
 use jpg_file::{Picture, Plan};
 use jpg_markers::OutHead;
 use jpg_pnm_bmp::Image;

@@ -8,10 +8,10 @@ ghost use Rattle.jpg_color.specs.Encode.{AsksFor};
 ghost use Rattle.jpg_spec_image.specs.Images.{Image as ImageRead};
 ghost use Rattle.jpg_cli.specs.Tools.EncodingAsked.{CanEncodeKind, encoding_by};
 
-use crate::desk::tables::Tables;
 use arrayvec::ArrayVec;
 use jpg_color::Encoding;
 use jpg_dct::encoding_tables;
+use jpg_desk::Tables;
 use jpg_spec_image::ImageKind;
 use jpg_transform::Scans;
 use jpg_words::{EncodeWords, Factors};

@@ -17,21 +17,19 @@ ghost use Rattle.jpg_color.specs.ImageHead.{head_parts};
 ghost use Rattle.jpg_color.specs.declared.encode.Encoding.{Encoding as Asked};
 ghost use Rattle.jpg_color.specs.declared.encode.image_encoder.ImageEncoder.TheVariants as encoder;
 ghost use Rattle.jpg_pnm_bmp.specs.Made.{IsRightImage};
-ghost use Rattle.jpg_cli.specs.Desk.EncodedRead.{EncodedRead, Encodes, EndsEncoding};
-ghost use Rattle.jpg_cli.specs.Desk.ImageWritten.{IsPlanOf, why_not_encoded};
-ghost use Rattle.jpg_cli.specs.Desk.ImageSource.{HasFedSome, source_samples, source_taken};
-ghost use Rattle.jpg_cli.specs.Desk.SamplesFed.{AreGiven, BeginsPlain, EndsData, EndsPlain, EndsRows, FeedsAll, FeedsNext, FeedsRest, FinishesImage, FinishesPlanes, GivesData, GoesOn, GoesOnAsPlanes, GoesOnAsRows, GoesOnScan, HasSomeTaken, IsOneScanFor, IsPlannedFor, IsSamplerFor, TakesSome, has_frame_rows};
+ghost use Rattle.jpg_cli.specs.Tools.EncodedRead.{EncodedRead, Encodes, EndsEncoding};
+ghost use Rattle.jpg_cli.specs.Tools.ImageWritten.{IsPlanOf, why_not_encoded};
+ghost use Rattle.jpg_desk.specs.ImageSource.{HasFedSome, source_samples, source_taken};
+ghost use Rattle.jpg_cli.specs.Tools.SamplesFed.{AreGiven, BeginsPlain, EndsData, EndsPlain, EndsRows, FeedsAll, FeedsNext, FeedsRest, FinishesImage, FinishesPlanes, GivesData, GoesOn, GoesOnAsPlanes, GoesOnAsRows, GoesOnScan, HasSomeTaken, IsOneScanFor, IsPlannedFor, IsSamplerFor, TakesSome, has_frame_rows};
 ghost use Rattle.jpg_cli.specs.Tools.EncodingAsked.{asked_of, encoding_by};
-ghost use Rattle.jpg_cli.specs.Stays.{Keeps, OnlyReads};
+ghost use Rattle.jpg_desk.specs.Stays.{Keeps, OnlyReads};
 
-use crate::desk::encoded_rows::{EncodedPicture, EncodedRows, OneScan};
-use crate::desk::file::read_within;
-use crate::desk::image::next_piece;
-use crate::desk::image_source::{ImageSource, ImageStep};
-use crate::desk::tables::Tables;
 use crate::tools::cjpeg_encoding::encoding_of;
 use jpg_base::{Bytes, Desk, Frame, Got, NoMemory, Put, QuantTable};
 use jpg_color::{EncodeStop, ImageEncoder, ImageHead, RowEncoder, Sampler};
+use jpg_desk::{
+    EncodedPicture, EncodedRows, ImageSource, ImageStep, OneScan, Tables, next_piece, read_within,
+};
 use jpg_file::{Plan, SoleScan, sole_scan};
 use jpg_huff::{EncoderPlaces, EncoderSet, TableSet};
 use jpg_markers::OutHead;

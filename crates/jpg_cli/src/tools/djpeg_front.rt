@@ -3,11 +3,11 @@ ghost use Rattle.std.specs.Prelude.{◌≡◌, ◌≤◌};
 ghost use Rattle.jpg_pnm_bmp.specs.EndState.{new_end};
 ghost use Rattle.jpg_cli.specs.Tools.FrontShown.{FrontShown};
 ghost use Rattle.jpg_cli.specs.Tools.Showing.{showing_view};
-ghost use Rattle.jpg_cli.specs.Stays.{OnlyWorks};
+ghost use Rattle.jpg_desk.specs.Stays.{OnlyWorks};
 
-use crate::desk::front::read_front;
 use crate::tools::djpeg::write_image;
 use jpg_base::Desk;
+use jpg_desk::read_front;
 use jpg_pnm_bmp::ImageEnd;
 use jpg_spec_words::Why;
 use jpg_words::ShowWords;

@@ -5,11 +5,11 @@ ghost use Rattle.jpg_file.specs.Read.ReadRows.{EndsDoneRow, HasReadAll};
 ghost use Rattle.jpg_pnm_bmp.specs.EndState.{new_end};
 ghost use Rattle.jpg_cli.specs.Tools.Showing.{showing_view};
 ghost use Rattle.jpg_cli.specs.Tools.ShowingRows.{AfterRowsEnd, CanBeginRows, CanDrawPiece, CanEnd, CanEndInZeros, CanFinishImage, CanReadRows, Draws, DrawsFrom, EndsInZeros, EndsShownRow, FinishesEarly, FinishesRows, GoesLater, GoesOnRows, IsLastPiece, ReadsRows, ShowsFrom, at_work, last_step, warned_of, why_of};
-ghost use Rattle.jpg_cli.specs.Stays.{OnlyWorks};
+ghost use Rattle.jpg_desk.specs.Stays.{OnlyWorks};
 
-use crate::desk::file::read_within;
 use jpg_base::{Desk, Got, Put, Stop};
 use jpg_color::{DecodeStop, StripImage};
+use jpg_desk::read_within;
 use jpg_file::{End, FedRow, Reader};
 use jpg_pnm_bmp::ImageEnd;
 use jpg_spec_words::{Which, Why};
@@ -201,7 +201,7 @@ fn next_rows<D: Desk>(
 }
 
 // States, for proofs, that a piece has bytes. It does nothing.
-#[tactic(auto, using(crate::proofs::Pieces::PictureBytes::more_small))]
+#[tactic(auto, using(jpg_desk::proofs::PictureBytes::more_small))]
 fn are_bytes(piece: &[u8])
     ensures { All (λ b. b < 256) piece.now }
 {

@@ -4,7 +4,7 @@ ghost use Rattle.jpg_cli.specs.Tools.Ends.{AreNewEnds, formats_of, has_format, i
 ghost use Rattle.jpg_pnm_bmp.specs.EndState.{new_end};
 ghost use Rattle.jpg_cli.specs.Tools.FrontShown.{ShownAs, ShownBy};
 ghost use Rattle.jpg_cli.specs.Tools.Showing.{showing_view};
-ghost use Rattle.jpg_cli.specs.Stays.{OnlyWorks};
+ghost use Rattle.jpg_desk.specs.Stays.{OnlyWorks};
 
 use crate::tools::djpeg::show_picture;
 use crate::tools::djpeg_front::show_front;

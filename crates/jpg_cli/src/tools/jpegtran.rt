@@ -2,18 +2,16 @@
 ghost use Rattle.std.specs.Prelude.{◌≡◌, true, false, IfSome};
 ghost use Rattle.jpg_transform.specs.Planned.{choice_view, scans_view};
 ghost use Rattle.jpg_spec_move.specs.Cropped.{IsArea};
-ghost use Rattle.jpg_cli.specs.Desk.Writing.{as_early, in_area, why_wrote};
-ghost use Rattle.jpg_cli.specs.Stays.{OnlyWorks};
+ghost use Rattle.jpg_desk.specs.Writing.{as_early, in_area, why_wrote};
+ghost use Rattle.jpg_desk.specs.Stays.{OnlyWorks};
 ghost use Rattle.jpg_words.specs.TransformWords.{transform_view};
 ghost use Rattle.jpg_cli.specs.Tools.Turned.{Transformed, Turned, turning_view};
 ghost use Rattle.jpg_file.specs.Read.PictureRead.{picture_meaning};
 ghost use Rattle.jpg_spec_upright.specs.Upright.{marked, upright_choice};
 ghost use Rattle.jpg_spec_words.specs.TransformWords.{choice_asked};
 
-use crate::desk::moved::{Wrote, write_moved};
-use crate::desk::picture::{done_as, read_picture};
-use crate::desk::script::take_scans;
 use jpg_base::Desk;
+use jpg_desk::{Wrote, done_as, read_picture, take_scans, write_moved};
 use jpg_exif::mark_upright;
 use jpg_file::{Orders, Picture};
 use jpg_spec::Copying;

@@ -3,7 +3,7 @@ ghost use Rattle.std.specs.Prelude.{◌≡◌, ◌≤◌, IfSome, None, length, 
 ghost use Rattle.jpg_spec_image.specs.declared.image.EndKind.TheVariants as kind;
 ghost use Rattle.jpg_spec_image.specs.ImageText.{pnm_header};
 ghost use Rattle.jpg_spec_words.specs.Work.{first_picture, first_text, turned_picture, turned_text, work_info, work_text};
-ghost use Rattle.jpg_cli.specs.Stays.{OnlyWorks};
+ghost use Rattle.jpg_desk.specs.Stays.{OnlyWorks};
 ghost use Rattle.jpg_words.specs.TransformWords.{script_view};
 ghost use Rattle.jpg_cli.specs.Tools.Ends.{AreNewEnds, formats_of, has_format};
 ghost use Rattle.jpg_cli.specs.Tools.Worked.{DidWork, HasFile, HoldsInput, ReportsShown, ShowsFile, TurnsFile, WritesReport, work_choice, scans_by};

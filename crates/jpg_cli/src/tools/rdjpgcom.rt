@@ -5,12 +5,12 @@ ghost use Rattle.jpg_base.specs.Desk.{AfterWrite};
 ghost use Rattle.jpg_huff.specs.Out.{OnlyWrites};
 ghost use Rattle.jpg_comments.specs.SegmentsSoFar.{Appends};
 ghost use Rattle.jpg_comments.specs.ReadComments.{comments_limits, is_done, is_ready, HasRead};
-ghost use Rattle.jpg_cli.specs.Stays.{OnlyCopies, OnlyWorks};
+ghost use Rattle.jpg_desk.specs.Stays.{OnlyCopies, OnlyWorks};
 ghost use Rattle.jpg_cli.specs.Tools.ReadComments.{AfterEnd, EndsCopying, PrintedOrNot, CopiesNext, TakesPiece};
 
-use crate::desk::file::read_within;
 use jpg_base::{Bytes, Desk, Fed, Got, Put, Stop};
 use jpg_comments::Comments;
+use jpg_desk::read_within;
 use jpg_spec::Limits;
 use jpg_spec_words::{Which, Why};
 use jpg_words::Files;

@@ -6,13 +6,12 @@ ghost use Rattle.jpg_comments.specs.SegmentsSoFar.{Appends};
 ghost use Rattle.jpg_comments.specs.WriteInserted.{insert_limits, is_replacing, HasInserted};
 ghost use Rattle.jpg_cli.specs.Tools.CommentInserted.{Inserted, task_view, EndsTask, BeginsTask, WritesFirst, WritesRest};
 ghost use Rattle.jpg_cli.specs.Tools.InsertComment.{AfterAll, IsBegunWith, IsOpenAfter, ReadsHead, InsertsNext, InsertsPiece};
-ghost use Rattle.jpg_cli.specs.Stays.{OnlyCopies, OnlyReads, OnlyWorks};
+ghost use Rattle.jpg_desk.specs.Stays.{OnlyCopies, OnlyReads, OnlyWorks};
 
-use crate::desk::comment::take_comment;
-use crate::desk::file::read_within;
 use crate::tools::rdjpgcom::write_text;
 use jpg_base::{Bytes, Desk, Got, Name, Put, Stop};
 use jpg_comments::Insert;
+use jpg_desk::{read_within, take_comment};
 use jpg_spec::Limits;
 use jpg_spec_words::{Which, Why};
 use jpg_words::WriteWords;

@@ -1,6 +1,6 @@
 use Rattle.jpg_cli.proofs.Outcomes.Certain.{front_certain}
 use Rattle.jpg_cli.proofs.Outcomes.Faulty.{front_faulty}
-use Rattle.jpg_cli.proofs.Pieces.FrontJudged.{front_refused_once}
+use Rattle.jpg_desk.proofs.FrontJudged.{front_refused_once}
 use Rattle.jpg_cli.proofs.laws.fronts_are_shown.Goals as goal
 
 pub returns-clause-certain : goal.returns-clause-certain

@@ -1,4 +1,4 @@
-use Rattle.jpg_cli.proofs.Outcomes.Judged.{refused_alone, refused_for_one}
+use Rattle.jpg_desk.proofs.Judged.{refused_alone, refused_for_one}
 use Rattle.jpg_cli.proofs.Outcomes.OneRefusal.{none_refused, none_refused_shown, runs_refuse_once, runs_show_once}
 use Rattle.jpg_cli.proofs.laws.refusals_are_one.Goals as goal
 

@@ -1,8 +1,8 @@
 use Rattle.std.proofs.Common.{refl, subst, sym}
 use Rattle.jpg_spec_words.specs.declared.answers.Why.{Why}
-use Rattle.jpg_cli.specs.Desk.EncodedRead.{IsEncodedPicture}
-use Rattle.jpg_cli.specs.Desk.ImageWritten.{AfterEncoding}
-use Rattle.jpg_cli.specs.declared.desk.encoded_rows.EncodedPicture.{EncodedPicture}
+use Rattle.jpg_cli.specs.Tools.EncodedRead.{IsEncodedPicture}
+use Rattle.jpg_cli.specs.Tools.ImageWritten.{AfterEncoding}
+use Rattle.jpg_desk.specs.declared.encoded_rows.EncodedPicture.{EncodedPicture}
 use Rattle.jpg_cli.proofs.Encoding.EncodedWritten.{rows_have, rows_written}
 use Rattle.jpg_transform.specs.Planned.{scans_view}
 use Rattle.jpg_cli.specs.Tools.EncodingAsked.{encoding_by, lent_tables}

@@ -4,7 +4,7 @@ use Rattle.jpg_spec.specs.Segments.{QuantTable}
 use Rattle.jpg_transform.specs.Planned.{scans_view}
 use Rattle.jpg_words.specs.EncodeWords.{encode_view}
 use Rattle.jpg_cli.specs.Tools.ImageEncoded.{Encoded, task_after}
-use Rattle.jpg_cli.specs.Desk.TablesTaken.{AfterTables, tables_view}
+use Rattle.jpg_desk.specs.TablesTaken.{AfterTables, tables_view}
 use Rattle.jpg_cli.proofs.Encoding.ImageEncoded.{encoded_by, encoded_stopped}
 use Rattle.jpg_cli.proofs.tools.cjpeg.encode_in.Goals as goal
 

@@ -1,6 +1,6 @@
 use Rattle.std.proofs.Common.{sym, subst}
 use Rattle.jpg_spec_words.specs.declared.answers.Why.{Why}
-use Rattle.jpg_cli.specs.Desk.ImageWritten.{AfterEncoding}
+use Rattle.jpg_cli.specs.Tools.ImageWritten.{AfterEncoding}
 use Rattle.jpg_cli.proofs.Encoding.ImageEncoded.{picture_written}
 use Rattle.jpg_cli.proofs.tools.cjpeg.write_image.Goals as goal
 

@@ -2,7 +2,7 @@ use Rattle.std.proofs.Common.{◌∙◌, ap, false}
 use Rattle.jpg_huff.specs.declared.set.TableSet.{TableSet}
 use Rattle.jpg_file.specs.declared.write.sole.SoleScan.{SoleScan}
 use Rattle.jpg_color.specs.EncodeRows.{row_scan}
-use Rattle.jpg_cli.specs.Desk.EncodedRows.{scan_of}
+use Rattle.jpg_desk.specs.EncodedRows.{scan_of}
 use Rattle.jpg_cli.proofs.Encoding.EncodedRead.{begun_unheld, none_encoded, rows_encoded, rows_go}
 use Rattle.jpg_cli.proofs.tools.cjpeg_image.encode_rows.Goals as goal
 

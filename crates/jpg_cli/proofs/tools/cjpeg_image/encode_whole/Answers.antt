@@ -3,7 +3,7 @@ use Rattle.jpg_spec_words.specs.declared.answers.Why.{Why}
 use Rattle.jpg_transform.specs.Planned.{scans_view}
 use Rattle.jpg_color.specs.Encode.{image_view}
 use Rattle.jpg_color.specs.EncodeSampling.{HasSampled}
-use Rattle.jpg_cli.specs.Desk.EncodedRead.{Encodes}
+use Rattle.jpg_cli.specs.Tools.EncodedRead.{Encodes}
 use Rattle.jpg_cli.specs.Tools.EncodingAsked.{asked_of, encoding_by}
 use Rattle.jpg_cli.proofs.Encoding.EncodedRead.{can_sample, fault_encoded, right_numbers}
 use Rattle.jpg_cli.proofs.tools.cjpeg_image.encode_whole.Goals as goal

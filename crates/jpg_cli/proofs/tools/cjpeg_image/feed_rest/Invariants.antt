@@ -3,8 +3,8 @@ use Rattle.jpg_base.specs.Desk.{DeskState}
 use Rattle.jpg_spec_image.specs.declared.image.ImageInfo.{ImageInfo}
 use Rattle.jpg_color.specs.EncodeRows.{RowScan}
 use Rattle.jpg_color.specs.declared.encode.Encoding.{Encoding as Asked}
-use Rattle.jpg_cli.specs.Desk.SamplesFed.{IsGiven, SoFarGiven}
-use Rattle.jpg_cli.specs.Stays.{OnlyReads}
+use Rattle.jpg_cli.specs.Tools.SamplesFed.{IsGiven, SoFarGiven}
+use Rattle.jpg_desk.specs.Stays.{OnlyReads}
 use Rattle.jpg_cli.proofs.tools.cjpeg_image.feed_rest.Given as goal
 
 abbrev pub invariant-loop-encoder : goal.invariant-loop-encoder

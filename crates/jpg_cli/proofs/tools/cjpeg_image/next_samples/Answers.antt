@@ -4,10 +4,10 @@ use Rattle.jpg_spec.specs.declared.frame.Limits.{Limits}
 use Rattle.jpg_spec.specs.declared.fault.Fault.TheVariants.{InputTooLong}
 use Rattle.jpg_spec_words.specs.declared.answers.Why.{Why}
 use Rattle.jpg_spec_words.specs.declared.answers.Why.TheVariants as why
-use Rattle.jpg_cli.specs.Desk.Judging.{NoValueTaken}
-use Rattle.jpg_cli.specs.Desk.ReadImage.{image_judging}
-use Rattle.jpg_cli.specs.Desk.SamplesFed.{SoFarGiven}
-use Rattle.jpg_cli.proofs.Comments.CommentsCopied.{within_most}
+use Rattle.jpg_desk.specs.Judging.{NoValueTaken}
+use Rattle.jpg_desk.specs.ReadImage.{image_judging}
+use Rattle.jpg_cli.specs.Tools.SamplesFed.{SoFarGiven}
+use Rattle.jpg_desk.proofs.PiecesRead.{within_most}
 use Rattle.jpg_cli.proofs.Encoding.SamplesFed.{only_reads, samples_given, samples_lost, samples_short, samples_too_long, samples_unread}
 use Rattle.jpg_cli.proofs.tools.cjpeg_image.next_samples.Goals as goal
 

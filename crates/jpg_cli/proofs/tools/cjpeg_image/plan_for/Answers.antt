@@ -2,7 +2,7 @@ use Rattle.std.proofs.Common.{◌∙◌, subst, sym}
 use Rattle.jpg_spec.specs.Scan.{Blocks}
 use Rattle.jpg_file.specs.declared.write.Plan.{Plan}
 use Rattle.jpg_color.specs.ImageHead.{head_parts}
-use Rattle.jpg_cli.specs.Desk.ImageWritten.{IsPlanOf}
+use Rattle.jpg_cli.specs.Tools.ImageWritten.{IsPlanOf}
 use Rattle.jpg_cli.proofs.tools.cjpeg_image.plan_for.Goals as goal
 
 pub returns : goal.returns

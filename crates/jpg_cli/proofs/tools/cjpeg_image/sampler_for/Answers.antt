@@ -1,5 +1,5 @@
 use Rattle.jpg_pnm_bmp.proofs.PlainSamples.{goes_on_plain}
-use Rattle.jpg_cli.specs.Desk.ImageSource.{source_samples}
+use Rattle.jpg_desk.specs.ImageSource.{source_samples}
 use Rattle.jpg_cli.proofs.Encoding.EncodedRead.{can_sample}
 use Rattle.jpg_cli.proofs.tools.cjpeg_image.sampler_for.Goals as goal
 

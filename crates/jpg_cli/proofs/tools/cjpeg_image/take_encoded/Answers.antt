@@ -2,12 +2,12 @@ use Rattle.std.proofs.Common.{◌-◌, ◌^◌, ◌<◌, ◌++◌, Bool, arith, 
 use Rattle.std.proofs.lemmas.List.{length-append}
 use Rattle.jpg_transform.specs.Planned.{scans_view}
 use Rattle.jpg_color.specs.Encode.{image_view}
-use Rattle.jpg_cli.specs.Desk.EncodedRead.{EndsEncoding}
-use Rattle.jpg_cli.specs.Desk.ImageSource.{source_taken}
+use Rattle.jpg_cli.specs.Tools.EncodedRead.{EndsEncoding}
+use Rattle.jpg_desk.specs.ImageSource.{source_taken}
 use Rattle.jpg_cli.specs.Tools.EncodingAsked.{encoding_by}
 use Rattle.jpg_cli.proofs.Encoding.EncodedRead.{whole_encoded}
-use Rattle.jpg_cli.proofs.Encoding.ImageFed.{fed_taken}
-use Rattle.jpg_cli.proofs.Pieces.PictureTaken.{reads_then}
+use Rattle.jpg_desk.proofs.ImageFed.{fed_taken}
+use Rattle.jpg_desk.proofs.PictureTaken.{reads_then}
 use Rattle.jpg_cli.proofs.tools.cjpeg_image.take_encoded.Goals as goal
 
 pub one_scan-requires : goal.one_scan-requires

@@ -1,8 +1,8 @@
 use Rattle.std.specs.Prelude.{◌≡◌, ◌-◌, ◌^◌, ◌≤◌, List, ℕ, true, false, length}
 use Rattle.std.specs.Io.KnownBytes.{Consumes}
 use Rattle.jpg_spec.specs.Segments.{standard_limits}
-use Rattle.jpg_cli.specs.Desk.ImageSource.{HasFed, is_source_read, source_taken}
-use Rattle.jpg_cli.specs.Stays.{OnlyReads}
+use Rattle.jpg_desk.specs.ImageSource.{HasFed, is_source_read, source_taken}
+use Rattle.jpg_desk.specs.Stays.{OnlyReads}
 use Rattle.jpg_cli.proofs.tools.cjpeg_image.take_encoded.Given as goal
 
 abbrev pub invariant-loop-reader : goal.invariant-loop-reader

@@ -1,4 +1,4 @@
-use Rattle.jpg_cli.proofs.Comments.CommentsCopied.{within_most}
+use Rattle.jpg_desk.proofs.PiecesRead.{within_most}
 use Rattle.jpg_cli.proofs.Pieces.FirstSteps.{first_ends, first_piece, first_unread, room_left}
 use Rattle.jpg_cli.proofs.tools.djpeg.next_first.Goals as goal
 

@@ -2,7 +2,7 @@ use Rattle.std.specs.Prelude.{◌≡◌, ◌-◌, ◌^◌, List, ℕ, true, leng
 use Rattle.std.specs.Io.KnownBytes.{Consumes}
 use Rattle.jpg_spec.specs.Segments.{standard_limits}
 use Rattle.jpg_cli.specs.Tools.ShowingRows.{HasFedPlainly}
-use Rattle.jpg_cli.specs.Stays.{OnlyReads}
+use Rattle.jpg_desk.specs.Stays.{OnlyReads}
 use Rattle.jpg_cli.proofs.tools.djpeg.read_first.Given as goal
 
 abbrev pub invariant-loop-step : goal.invariant-loop-step

@@ -1,5 +1,5 @@
 use Rattle.jpg_spec.specs.Meaning.{Meaning}
-use Rattle.jpg_cli.specs.Desk.Reading.{rest_of}
+use Rattle.jpg_desk.specs.Reading.{rest_of}
 use Rattle.jpg_cli.specs.Tools.FrontShown.{front_conversion}
 use Rattle.jpg_cli.specs.Tools.Showing.{showing_view}
 use Rattle.jpg_cli.proofs.Pieces.FrontShown.{front_admitted, front_drawn}

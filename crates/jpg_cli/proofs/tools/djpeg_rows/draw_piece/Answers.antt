@@ -1,7 +1,7 @@
 use Rattle.std.proofs.Common.{◌+◌, sym, subst, ◌∙◌}
 use Rattle.jpg_spec_words.specs.declared.answers.Why.{Why}
 use Rattle.jpg_cli.specs.Tools.Showing.{Shown, showing_view}
-use Rattle.jpg_cli.proofs.Comments.CommentsCopied.{works_then}
+use Rattle.jpg_desk.proofs.PiecesRead.{works_then}
 use Rattle.jpg_cli.proofs.ByRow.RowsDesk.{writes_work}
 use Rattle.jpg_cli.proofs.ByRow.RowsPushed.{at_row, begun_row, draws_still, less_rows, row_here, row_stopped, row_then, row_waits}
 use Rattle.jpg_cli.proofs.tools.djpeg_rows.draw_piece.Goals as goal

@@ -3,7 +3,7 @@ use Rattle.jpg_file.specs.Read.ReadRows.{EndsDoneRow}
 use Rattle.jpg_color.specs.Shown.{all_rows}
 use Rattle.jpg_cli.specs.Tools.Showing.{showing_view}
 use Rattle.jpg_cli.specs.Tools.ShowingRows.{IsShowing, at_work, Run}
-use Rattle.jpg_cli.specs.Stays.{OnlyWorks}
+use Rattle.jpg_desk.specs.Stays.{OnlyWorks}
 use Rattle.jpg_cli.proofs.tools.djpeg_rows.draw_piece.Given as goal
 
 -- Whatever was read and drawn before, run.all of it holds at the answer to what is left of the piece.

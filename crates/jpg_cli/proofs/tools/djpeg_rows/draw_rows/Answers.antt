@@ -1,6 +1,6 @@
 use Rattle.std.proofs.Common.{rules, ◌++◌}
 use Rattle.jpg_cli.specs.Tools.Showing.{showing_view}
-use Rattle.jpg_cli.proofs.Comments.CommentsCopied.{works_then}
+use Rattle.jpg_desk.proofs.PiecesRead.{works_then}
 use Rattle.jpg_cli.proofs.ByRow.RowsLoop.{can_end, can_finish, can_read, step_is}
 use Rattle.jpg_cli.proofs.tools.djpeg_rows.draw_rows.Goals as goal
 

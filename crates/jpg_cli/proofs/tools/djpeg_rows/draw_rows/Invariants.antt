@@ -1,7 +1,7 @@
 use Rattle.std.specs.Prelude.{◌≡◌, ℕ, List, length, take, true}
 use Rattle.jpg_cli.specs.Tools.Showing.{showing_view}
 use Rattle.jpg_cli.specs.Tools.ShowingRows.{AfterShownPiece, GoesOnRows, IsShowing, reads_left, at_work, Run}
-use Rattle.jpg_cli.specs.Stays.{OnlyWorks}
+use Rattle.jpg_desk.specs.Stays.{OnlyWorks}
 use Rattle.jpg_cli.proofs.tools.djpeg_rows.draw_rows.Given as goal
 
 -- Whatever was read and drawn before, this is the result of the pieces so far.

@@ -2,7 +2,7 @@ use Rattle.std.specs.Prelude.{◌-◌}
 use Rattle.jpg_color.specs.Shown.{all_rows}
 use Rattle.jpg_cli.specs.Tools.Showing.{showing_view}
 use Rattle.jpg_cli.specs.Tools.ShowingRows.{IsEnding, Run}
-use Rattle.jpg_cli.specs.Stays.{OnlyWorks}
+use Rattle.jpg_desk.specs.Stays.{OnlyWorks}
 use Rattle.jpg_cli.proofs.tools.djpeg_rows.finish_zeros.Given as goal
 
 -- Whatever was read and drawn before, some zero rows were drawn since.

@@ -1,6 +1,6 @@
 use Rattle.std.proofs.Common.{◌∙◌, rules, [], ◌≡◌, length, take}
 use Rattle.jpg_cli.specs.Tools.ShowingRows.{at_work, more_read}
-use Rattle.jpg_cli.proofs.Comments.CommentsCopied.{some_taken}
+use Rattle.jpg_desk.proofs.PiecesRead.{some_taken}
 use Rattle.jpg_cli.proofs.ByRow.RowsAsked.{end_goes_on, end_later, goes_later, next_piece, rows_end, rows_read_all, rows_unread}
 use Rattle.jpg_cli.proofs.ByRow.RowsRead.{fed_more}
 use Rattle.jpg_cli.proofs.tools.djpeg_rows.next_rows.Goals as goal

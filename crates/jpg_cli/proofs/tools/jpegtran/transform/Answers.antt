@@ -1,7 +1,7 @@
 use Rattle.std.proofs.Common.{true, false, sym}
 use Rattle.jpg_transform.specs.Planned.{choice_view, scans_view}
 use Rattle.jpg_words.specs.TransformWords.{transform_view}
-use Rattle.jpg_cli.specs.Desk.Writing.{in_area}
+use Rattle.jpg_desk.specs.Writing.{in_area}
 use Rattle.jpg_cli.proofs.Outcomes.Running.{transformed_in, transformed_stopped}
 use Rattle.jpg_cli.proofs.tools.jpegtran.transform.Goals as goal
 

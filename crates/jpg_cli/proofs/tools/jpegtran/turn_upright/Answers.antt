@@ -5,7 +5,7 @@ use Rattle.jpg_spec_words.specs.declared.answers.Why.{Why}
 use Rattle.jpg_file.specs.Read.PictureRead.{picture_meaning}
 use Rattle.jpg_file.proofs.Files.Keeping.{kept_for_all}
 use Rattle.jpg_transform.specs.Planned.{choice_view}
-use Rattle.jpg_cli.specs.Desk.Writing.{WritesOwn, in_area}
+use Rattle.jpg_desk.specs.Writing.{WritesOwn, in_area}
 use Rattle.jpg_cli.specs.Tools.Turned.{Turned, turning_conversion, turning_view}
 use Rattle.jpg_cli.proofs.Outcomes.Outcome.{converted_unread}
 use Rattle.jpg_cli.proofs.Outcomes.Running.{turned_made}

@@ -1,5 +1,6 @@
 use Rattle.std.proofs.Common.{[], refl, arith}
-use Rattle.jpg_cli.proofs.Comments.CommentsCopied.{copies_none, none_read, none_written}
+use Rattle.jpg_cli.proofs.Comments.CommentsCopied.{none_written}
+use Rattle.jpg_desk.proofs.PiecesRead.{copies_none, none_read}
 use Rattle.jpg_cli.proofs.tools.rdjpgcom.copy_comments.Goals as goal
 
 pub loop-why-init : goal.loop-why-init

@@ -3,7 +3,7 @@ use Rattle.jpg_spec.specs.Segments.{standard_limits}
 use Rattle.jpg_markers.specs.Reading.{reading_of}
 use Rattle.jpg_comments.specs.ReadComments.{HasRead}
 use Rattle.jpg_cli.specs.Copies.{HasCopied}
-use Rattle.jpg_cli.specs.Stays.{OnlyCopies}
+use Rattle.jpg_desk.specs.Stays.{OnlyCopies}
 use Rattle.jpg_cli.proofs.tools.rdjpgcom.copy_comments.Given as goal
 
 abbrev pub invariant-loop-why : goal.invariant-loop-why

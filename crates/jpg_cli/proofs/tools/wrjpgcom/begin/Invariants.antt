@@ -4,7 +4,7 @@ use Rattle.jpg_spec.specs.Segments.{standard_limits}
 use Rattle.jpg_markers.specs.Reading.{reading_of}
 use Rattle.jpg_comments.specs.WriteInserted.{HasInserted}
 use Rattle.jpg_cli.specs.Tools.CommentInserted.{IsReading, Task}
-use Rattle.jpg_cli.specs.Stays.{OnlyReads}
+use Rattle.jpg_desk.specs.Stays.{OnlyReads}
 use Rattle.jpg_cli.proofs.tools.wrjpgcom.begin.Given as goal
 
 abbrev pub invariant-loop-due : goal.invariant-loop-due

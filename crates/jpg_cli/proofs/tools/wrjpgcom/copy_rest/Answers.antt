@@ -1,6 +1,6 @@
 use Rattle.std.proofs.Common.{Bool, None, ◌++◌, ◌∙◌, sym, subst}
 use Rattle.jpg_cli.specs.Tools.InsertComment.{EndsInserting}
-use Rattle.jpg_cli.proofs.Comments.CommentsCopied.{copies_then, copies_told}
+use Rattle.jpg_desk.proofs.PiecesRead.{copies_then, copies_told}
 use Rattle.jpg_cli.proofs.Comments.InsertedCopied.{fed_short}
 use Rattle.jpg_cli.proofs.Comments.CommentInserted.{begun, blank, blank_copied, copied_begun, ends, fewer, writing_more}
 use Rattle.jpg_cli.proofs.tools.wrjpgcom.copy_rest.Goals as goal

@@ -4,7 +4,7 @@ use Rattle.jpg_base.specs.Desk.{DeskState}
 use Rattle.jpg_spec.specs.Segments.{standard_limits}
 use Rattle.jpg_comments.specs.WriteInserted.{HasInserted}
 use Rattle.jpg_cli.specs.Tools.CommentInserted.{IsWriting, Task}
-use Rattle.jpg_cli.specs.Stays.{OnlyCopies}
+use Rattle.jpg_desk.specs.Stays.{OnlyCopies}
 use Rattle.jpg_cli.proofs.tools.wrjpgcom.copy_rest.Given as goal
 
 abbrev pub invariant-loop-why : goal.invariant-loop-why

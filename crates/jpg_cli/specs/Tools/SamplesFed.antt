@@ -1,0 +1,204 @@
+-- THE SAMPLES of P5 and P6 given to an encoder while they are read, from a desk whose input is open: as planes, or as the
+-- data of a scan.
+use Rattle.std.specs.Prelude.{◌≡◌, ◌⊎◌, ℕ, ◌+◌, ◌≤◌, min, Bool, false, not, ◌||◌, ◌==◌, List, [], length, take, Option, None, Some, Result, Ok, Err}
+use Rattle.std.specs.Io.KnownBytes.{Consumes}
+use Rattle.jpg_base.specs.Desk.{DeskState}
+use Rattle.jpg_spec.specs.Geometry.{Frame, component_at}
+use Rattle.jpg_spec.specs.Segments.{standard_limits}
+use Rattle.jpg_spec_encode.specs.Encoded.{Encoding}
+use Rattle.jpg_spec_image.specs.Images.{Image, sample_count}
+use Rattle.jpg_spec_image.specs.declared.image.ImageInfo.{ImageInfo}
+use Rattle.jpg_spec_words.specs.declared.answers.Why.{Why}
+use Rattle.jpg_spec_write.specs.WrittenFile.{IsRestart}
+use Rattle.jpg_color.specs.Encode.{AsksFor, CanSample, encoded_frame, image_of}
+use Rattle.jpg_color.specs.EncodeRows.{IsRowScan, RowScan, data_due}
+use Rattle.jpg_color.specs.EncodeSampling.{HasSampled}
+use Rattle.jpg_color.specs.ImageEncoder.{AddsTaken, HasTaken, encoder_left}
+use Rattle.jpg_color.specs.declared.encode.Encoding.{Encoding as Asked}
+use Rattle.jpg_color.specs.declared.encode.image_encoder.ImageEncoder.{ImageEncoder}
+use Rattle.jpg_color.specs.declared.encode.image_encoder.ImageEncoder.TheVariants as encoder
+use Rattle.jpg_color.specs.declared.encode.sampler.Sampler.{Sampler}
+use Rattle.jpg_pnm_bmp.specs.Made.{AreBytes, IsRightImage}
+use Rattle.jpg_pnm_bmp.specs.PlainSamples.{HasFedSamples}
+use Rattle.jpg_spec.specs.Scan.{Blocks}
+use Rattle.jpg_spec_write.specs.ScansAsked.{Scans, script_due}
+use Rattle.jpg_spec_write.specs.Script.{Entry}
+use Rattle.jpg_spec_write.specs.ScriptFaults.{script_fault}
+use Rattle.jpg_scans.specs.Judged.{judged}
+use Rattle.jpg_file.specs.declared.write.Plan.{Plan}
+use Rattle.jpg_color.specs.ImageHead.{head_parts}
+use Rattle.jpg_color.specs.declared.encode.image_head.ImageHead.{ImageHead}
+use Rattle.jpg_words.specs.declared.cjpeg_request.EncodeWords.{EncodeWords}
+use Rattle.jpg_cli.specs.Tools.EncodedRead.{Encodes, EndsEncoding}
+use Rattle.jpg_desk.specs.EncodedRows.{IsEncodedRows, scan_of}
+use Rattle.jpg_cli.specs.Tools.ImageWritten.{IsAskedBy, IsPlanOf}
+use Rattle.jpg_desk.specs.ImageSource.{HasFed, source_samples, source_taken}
+use Rattle.jpg_desk.specs.Judging.{NoValueTaken, TakesPieces}
+use Rattle.jpg_desk.specs.ReadImage.{IsImageRead, image_judging}
+use Rattle.jpg_desk.specs.Reading.{rest_of}
+use Rattle.jpg_desk.specs.Stays.{OnlyReads}
+use Rattle.jpg_desk.specs.declared.encoded_rows.EncodedPicture.{EncodedPicture}
+use Rattle.jpg_desk.specs.declared.encoded_rows.OneScan.{OneScan}
+use Rattle.jpg_desk.specs.declared.image_source.ImageSource.{ImageSource}
+
+-- Images with these numbers are encoded like this, and can be.
+pub record IsAskedFor (E : Image → Encoding) (info : ImageInfo) (a : Asked) : Type 0 where
+  pub asks : (I : Image) → I.info.kind ≡ info.kind → AsksFor a (E I)
+  pub can : CanSample info a
+  pub restart : (I : Image) → IsRestart (E I).restart
+
+-- SOME OF THE SAMPLES were given to the encoder, those of the bytes so far.
+pub record IsGiven (w : Option RowScan) (info : ImageInfo) (a : Asked) (start : DeskState) (bytes given : List ℕ) (s : ImageEncoder) (taken : ℕ) (now : DeskState) : Type 0 where
+  pub fed : HasFedSamples info bytes given
+  pub sampled : HasTaken w info a given s
+  pub taken_is : taken ≡ length bytes
+  pub most : length bytes ≤ standard_limits.input
+  pub kept : OnlyReads start now
+  pub read : Consumes start.left now.left bytes
+
+-- ALL OF THEM were, and the bytes that were read have their image.
+pub record IsAllGiven (w : Option RowScan) (info : ImageInfo) (a : Asked) (start : DeskState) (s : ImageEncoder) (now : DeskState) : Type 0 where
+  pub samples : List ℕ
+  pub sampled : HasTaken w info a samples s
+  pub count : length samples ≡ sample_count info
+  pub read : TakesPieces (IsImageRead false (image_of info samples) (rest_of now.left)) start now
+  pub right : IsRightImage (image_of info samples)
+
+abbrev pub SoFarGiven : Option RowScan → ImageInfo → Asked → DeskState → ImageEncoder → ℕ → DeskState → Type 0
+SoFarGiven w info a start s taken now = ((bytes : List ℕ) × (given : List ℕ) × IsGiven w info a start bytes given s taken now) ⊎ IsAllGiven w info a start s now
+
+-- An encoder takes the first bytes of a piece, as many as are left of its samples.
+abbrev pub TakesSome : ImageEncoder → List ℕ → ImageEncoder → Type 0
+TakesSome old piece new = AreBytes piece × AddsTaken old (take (min (encoder_left old) (length piece)) piece) new
+
+-- Some were given, of some image.
+abbrev pub AreGiven : ImageEncoder → ℕ → DeskState → Type 0
+AreGiven s taken now = (w : Option RowScan) × (info : ImageInfo) × (a : Asked) × (start : DeskState) × (bytes : List ℕ) × (given : List ℕ) × IsGiven w info a start bytes given s taken now
+
+abbrev pub HasSomeTaken : ImageEncoder → Type 0
+HasSomeTaken s = (w : Option RowScan) × (info : ImageInfo) × (a : Asked) × (given : List ℕ) × HasTaken w info a given s
+
+-- A PIECE, by how many bytes it has; or why the reading ends
+abbrev pub AfterNextSamples : Option RowScan → ImageInfo → Asked → DeskState → ℕ → Result ℕ Why → ImageEncoder → DeskState → Type 0
+AfterNextSamples w info a start taken (Ok n) s now = SoFarGiven w info a start s (taken + n) now
+AfterNextSamples w info a start taken (Err ended) s now = NoValueTaken (image_judging false) start ended now
+
+-- for all that was given before
+abbrev pub FeedsNext : ImageEncoder → ℕ → DeskState → Result ℕ Why → ImageEncoder → DeskState → Type 0
+FeedsNext had taken old answer s new =
+    (w : Option RowScan) (info : ImageInfo) (a : Asked) (start : DeskState) (bytes given : List ℕ) → IsGiven w info a start bytes given had taken old → AfterNextSamples w info a start taken answer s new
+
+-- ALL PIECES up to the one with the last sample
+abbrev pub AfterSamples : Option RowScan → ImageInfo → Asked → DeskState → Result (Unit {0}) Why → ImageEncoder → DeskState → Type 0
+AfterSamples w info a start (Ok u) s now = IsAllGiven w info a start s now
+AfterSamples w info a start (Err ended) s now = NoValueTaken (image_judging false) start ended now
+
+abbrev pub FeedsRest : ImageEncoder → ℕ → DeskState → Result (Unit {0}) Why → ImageEncoder → DeskState → Type 0
+FeedsRest had taken old answer s new =
+    (w : Option RowScan) (info : ImageInfo) (a : Asked) (start : DeskState) (bytes given : List ℕ) → IsGiven w info a start bytes given had taken old → AfterSamples w info a start answer s new
+
+-- THE ENCODED IMAGE of a sampler that was given all samples
+abbrev pub FinishesImage : Sampler → Result EncodedPicture Why → Type 0
+FinishesImage s answer =
+    (E : Image → Encoding) (info : ImageInfo) (a : Asked) (samples : List ℕ) → IsAskedFor E info a → HasSampled info a samples s → length samples ≡ sample_count info → IsRightImage (image_of info samples)
+    → Encodes (E (image_of info samples)) (image_of info samples) answer
+
+abbrev pub FinishesPlanes : ImageEncoder → Result EncodedPicture Why → Type 0
+FinishesPlanes s answer =
+    (E : Image → Encoding) (info : ImageInfo) (a : Asked) (samples : List ℕ) → IsAskedFor E info a → HasTaken None info a samples s → length samples ≡ sample_count info → IsRightImage (image_of info samples)
+    → Encodes (E (image_of info samples)) (image_of info samples) answer
+
+-- THE DATA of an encoder that was given all samples
+abbrev pub GivesData : ImageEncoder → List ℕ → Type 0
+GivesData s text = (w : RowScan) (info : ImageInfo) (a : Asked) (samples : List ℕ) → HasTaken (Some w) info a samples s → text ≡ data_due w info a samples
+
+-- AN ENCODER that begins: the bytes so far are the header of a file and first samples, and it was given none.
+pub record Begins (E : Image → Encoding) (w : Option RowScan) (bytes given : List ℕ) (s : ImageEncoder) : Type 0 where
+  pub info : ImageInfo
+  pub asked : Asked
+  pub like : IsAskedFor E info asked
+  pub fed : HasFedSamples info bytes given
+  pub sampled : HasTaken w info asked [] s
+
+abbrev pub BeginsPlain : Bool → (Image → Encoding) → ImageSource → Sampler → Type 0
+BeginsPlain targa E r s = (bytes : List ℕ) → HasFed targa bytes r → (targa ≡ false) × Begins E None bytes (source_samples r) (encoder.Planes s)
+
+-- The image is read from there on.
+pub record GoesOnFrom (E : Image → Encoding) (w : Option RowScan) (start : DeskState) (bytes : List ℕ) (r : ImageSource) (s : ImageEncoder) (now : DeskState) : Type 0 where
+  pub begun : Begins E w bytes (source_samples r) s
+  pub taken_is : source_taken r ≡ length bytes
+  pub most : length bytes ≤ standard_limits.input
+  pub kept : OnlyReads start now
+  pub read : Consumes start.left now.left bytes
+
+abbrev pub GoesOn : ImageSource → ImageEncoder → DeskState → Type 0
+GoesOn r s now = (E : Image → Encoding) × (w : Option RowScan) × (start : DeskState) × (bytes : List ℕ) × GoesOnFrom E w start bytes r s now
+
+-- all samples, the first of which the reader has
+abbrev pub FeedsAll : ImageSource → ImageEncoder → DeskState → Result (Unit {0}) Why → ImageEncoder → DeskState → Type 0
+FeedsAll r s old answer new after =
+    (E : Image → Encoding) (w : Option RowScan) (start : DeskState) (bytes : List ℕ) (h : GoesOnFrom E w start bytes r s old) → AfterSamples w (h.begun).info (h.begun).asked start answer new after
+
+-- AS PLANES
+abbrev pub GoesOnAsPlanes : ImageSource → ImageEncoder → DeskState → Type 0
+GoesOnAsPlanes r s now = (E : Image → Encoding) × (start : DeskState) × (bytes : List ℕ) × GoesOnFrom E None start bytes r s now
+
+abbrev pub EndsPlain : ImageSource → ImageEncoder → DeskState → Result EncodedPicture Why → DeskState → Type 0
+EndsPlain r s old answer new = (E : Image → Encoding) (start : DeskState) (bytes : List ℕ) → GoesOnFrom E None start bytes r s old → EndsEncoding false E start answer new
+
+-- THE DATA OF A SCAN
+abbrev pub GoesOnScan : ImageSource → ImageEncoder → DeskState → Type 0
+GoesOnScan r s now = (E : Image → Encoding) × (w : RowScan) × (start : DeskState) × (bytes : List ℕ) × GoesOnFrom E (Some w) start bytes r s now
+
+-- those of the image that was read
+pub record HasDataOf (w : RowScan) (info : ImageInfo) (a : Asked) (start : DeskState) (text : List ℕ) (now : DeskState) : Type 0 where
+  pub samples : List ℕ
+  pub read : TakesPieces (IsImageRead false (image_of info samples) (rest_of now.left)) start now
+  pub right : IsRightImage (image_of info samples)
+  pub written : text ≡ data_due w info a samples
+
+abbrev pub AfterData : RowScan → ImageInfo → Asked → DeskState → Result (List ℕ) Why → DeskState → Type 0
+AfterData w info a start (Ok text) now = HasDataOf w info a start text now
+AfterData w info a start (Err ended) now = NoValueTaken (image_judging false) start ended now
+
+abbrev pub EndsData : ImageSource → ImageEncoder → DeskState → Result (List ℕ) Why → DeskState → Type 0
+EndsData r s old answer new =
+    (E : Image → Encoding) (w : RowScan) (start : DeskState) (bytes : List ℕ) (h : GoesOnFrom E (Some w) start bytes r s old) → AfterData w (h.begun).info (h.begun).asked start answer new
+
+-- AS THE DATA OF ONE SCAN: how the file of each image with these numbers is written
+pub record IsOneScan (E : Image → Encoding) (info : ImageInfo) (a : Asked) (o : OneScan) : Type 0 where
+  pub rows : IsRowScan (encoded_frame info a) (scan_of o)
+  pub makes : (samples text : List ℕ) → IsRightImage (image_of info samples) → text ≡ data_due (scan_of o) info a samples → IsEncodedRows (E (image_of info samples)) (image_of info samples) (record { file = o; bytes = text })
+
+pub record GoesOnRows (E : Image → Encoding) (start : DeskState) (bytes : List ℕ) (r : ImageSource) (s : Sampler) (o : OneScan) (now : DeskState) : Type 0 where
+  pub goes : GoesOnFrom E None start bytes r (encoder.Planes s) now
+  pub one : IsOneScan E (goes.begun).info (goes.begun).asked o
+
+abbrev pub GoesOnAsRows : ImageSource → Sampler → OneScan → DeskState → Type 0
+GoesOnAsRows r s o now = (E : Image → Encoding) × (start : DeskState) × (bytes : List ℕ) × GoesOnRows E start bytes r s o now
+
+abbrev pub EndsRows : ImageSource → Sampler → OneScan → DeskState → Result EncodedPicture Why → DeskState → Type 0
+EndsRows r s o old answer new = (E : Image → Encoding) (start : DeskState) (bytes : List ℕ) → GoesOnRows E start bytes r s o old → EndsEncoding false E start answer new
+
+-- the plan of a file with this head: its scans are possible
+pub record IsPlannedFor (w : EncodeWords) (scans : Scans) (h : ImageHead) (plan : Plan) : Type 0 where
+  pub script : List Entry
+  pub due : script ≡ script_due scans h.frame h.colour
+  pub ok : Ok tt ≡ judged (script_fault h.frame script)
+  pub planned : (blocks : Blocks) → IsPlanOf w (head_parts h blocks) script plan
+
+-- for a sampler of an image that is encoded as the words ask for it
+pub record AsksSampler (w : EncodeWords) (scans : Scans) (E : Image → Encoding) (info : ImageInfo) (a : Asked) (s : Sampler) : Type 0 where
+  pub like : IsAskedFor E info a
+  pub by : (I : Image) → IsAskedBy w scans (E I)
+  pub sampled : HasSampled info a [] s
+
+abbrev pub IsSamplerFor : EncodeWords → Scans → Sampler → Type 0
+IsSamplerFor w scans s = (E : Image → Encoding) × (info : ImageInfo) × (a : Asked) × AsksSampler w scans E info a s
+
+abbrev pub IsOneScanFor : EncodeWords → Scans → Sampler → OneScan → Type 0
+IsOneScanFor w scans s o = (E : Image → Encoding) (info : ImageInfo) (a : Asked) → AsksSampler w scans E info a s → IsOneScan E info a o
+
+-- The rows of MCUs of a scan of all components are those of the frame: the only component has one row of blocks in each.
+abbrev pub has_frame_rows : Frame → Bool
+has_frame_rows f = not (length f.components == 1) || (component_at f 0).v == 1

@@ -1,0 +1,17 @@
+pub mod CommentTaken
+pub mod EncodedRows
+pub mod Endings
+pub mod FileTaken
+pub mod ImageFile
+pub mod ImageLoop
+pub mod ImageSource
+pub mod Judging
+pub mod ReadFront
+pub mod ReadImage
+pub mod ReadPicture
+pub mod Reading
+pub mod ScriptTaken
+pub mod Stays
+pub mod TablesTaken
+pub mod TextTaken
+pub mod Writing

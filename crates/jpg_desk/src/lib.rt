@@ -1,0 +1,24 @@
+//! What a command reads from a desk and writes to it: files, scripts, tables, comments, pictures, images.
+#![tactic(auto)]
+
+mod comment;
+mod encoded_rows;
+mod file;
+mod front;
+mod image;
+mod image_source;
+mod moved;
+mod picture;
+mod script;
+mod tables;
+
+pub use comment::take_comment;
+pub use encoded_rows::{EncodedPicture, EncodedRows, OneScan, write_rows};
+pub use file::read_within;
+pub use front::read_front;
+pub use image::next_piece;
+pub use image_source::{ImageSource, ImageStep};
+pub use moved::{Wrote, write_moved, write_view};
+pub use picture::{done_as, not_shown, read_picture};
+pub use script::take_scans;
+pub use tables::{Tables, take_tables};
