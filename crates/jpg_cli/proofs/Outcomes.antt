@@ -9,4 +9,3 @@ pub mod Outcome
 pub mod Running
 pub mod TakenOnce
 pub mod TextOnce
-pub mod Upright

@@ -1,5 +1,5 @@
 -- What the bytes read from a file mean for the front of it.
-use Rattle.std.proofs.Common.{◌≡◌, ℕ, suc, ◌+◌, ◌<◌, ◌≤◌, Bool, List, [], ◌++◌, length, take, drop, refl, sym, ap, ◌∙◌, subst, arith, inl, inr, ◌⊎◌, Option, Some, None}
+use Rattle.std.proofs.Common.{◌≡◌, ℕ, suc, ◌+◌, ◌<◌, ◌≤◌, Bool, List, [], ◌++◌, length, take, drop, refl, sym, ap, ◌∙◌, subst, arith, inl, inr, ◌⊎◌, Option, Some, None, Ok, Err, true, false}
 use Rattle.std.specs.List.{All}
 use Rattle.std.proofs.Math.Seq.{take_all, take-append-add}
 use Rattle.std.proofs.lemmas.Bool.{cases_lt}
@@ -15,6 +15,7 @@ use Rattle.jpg_spec.specs.declared.frame.Limits.{Limits}
 use Rattle.jpg_spec_image.specs.Front.{EndsNotBefore, EndsScan, IsFront}
 use Rattle.jpg_spec_image.specs.NotShown.{IsNotShown}
 use Rattle.jpg_spec_image.proofs.Fronts.{front_cut, one_front}
+use Rattle.jpg_base.specs.declared.stop.Stop.{Stop}
 use Rattle.jpg_base.specs.declared.stop.Stop.TheVariants as stop
 use Rattle.jpg_file.specs.Read.FirstHeader.{IsFirstHeaderOf}
 use Rattle.jpg_file.specs.Read.File.{IsStop}
@@ -25,9 +26,9 @@ use Rattle.jpg_preview.specs.Viewing.{AfterStop, HasViewed, IsFrontOf, IsShown, 
 use Rattle.jpg_preview.proofs.FrontFound.{never_without}
 use Rattle.jpg_preview.proofs.FrontShown.{shown_front}
 use Rattle.jpg_preview.proofs.ViewSteps.{fault_place}
-use Rattle.jpg_desk.specs.ReadFront.{AfterTakingFront, EndsNoScan, HasFedFront, HoldsEarlyFront, IsFrontRefused, IsFrontRefusedRead, IsOpenFront, IsShortFront}
+use Rattle.jpg_desk.specs.Pump.{why_stopped}
+use Rattle.jpg_desk.specs.ReadFront.{AfterFrontEnd, AfterTakingFront, EndsNoScan, HasFedFront, HoldsEarlyFront, IsFrontRefused, IsFrontRefusedRead, IsOpenFront, IsShortFront}
 use Rattle.jpg_desk.specs.ReadPicture.{HasFed, IsRefused, IsRefusedFor, IsUnwanted, step_unless, unwanted_in, Image}
-use Rattle.jpg_desk.specs.declared.picture.PictureStep.TheVariants as step
 use Rattle.jpg_spec_words.specs.declared.answers.Why.TheVariants as why
 use Rattle.jpg_desk.proofs.Judged.{none_faulty}
 use Rattle.jpg_desk.proofs.PictureBytes.{early_end, fed_none, has_fed, new_place, open_so_far, refused_end}
@@ -205,19 +206,19 @@ module _ (scans : ℕ) (gray : Bool) where
   -- BY THE first scan header
 
   pub more_front : (bytes piece : List ℕ) (p new : PreviewState) (o : Option FaultAt) → new.reader.limits ≡ standard_limits → new.scans ≡ scans → HasFedFront scans gray p bytes → length piece ≤ 65536 → All (λ b. b < 256) (bytes ++ piece)
-      → HasViewed (bytes ++ piece) new → unwanted_in (Image gray) (head_seen new.reader) ≡ o → AfterTakingFront scans gray (bytes ++ piece) (step_unless o step.More) new
+      → HasViewed (bytes ++ piece) new → unwanted_in (Image gray) (head_seen new.reader) ≡ o → AfterTakingFront scans gray (bytes ++ piece) (step_unless o (Ok false)) new
   more_front bytes piece p new None e same h short small viewed told = record { viewed = viewed; wants = same; fed = has_fed (Image gray) (bytes ++ piece) new.reader e small told (viewed.1).read }
   more_front bytes piece p new (Some f) e same h short small viewed told =
       λ rest. unwanted_on bytes piece p.reader new.reader f e h.fed short (viewed.1).read (ends_none (bytes ++ piece) new e same viewed) told rest
 
   pub whole_front : (bytes piece : List ℕ) (used : ℕ) (p new : PreviewState) (o : Option FaultAt) → new.reader.limits ≡ standard_limits → new.scans ≡ scans → HasFedFront scans gray p bytes → length piece ≤ 65536
-      → IsShown new.scans (bytes ++ take used piece) new.reader × (1 ≤ used) × (used ≤ length piece) → unwanted_in (Image gray) (head_seen new.reader) ≡ o → AfterTakingFront scans gray (bytes ++ piece) (step_unless o step.Whole) new
+      → IsShown new.scans (bytes ++ take used piece) new.reader × (1 ≤ used) × (used ≤ length piece) → unwanted_in (Image gray) (head_seen new.reader) ≡ o → AfterTakingFront scans gray (bytes ++ piece) (step_unless o (Ok true)) new
   whole_front bytes piece used p new o e same h short (w, some, within) told = by o told
     where
       shown : IsShown scans (bytes ++ take used piece) new.reader
       shown = subst (λ n. IsShown n (bytes ++ take used piece) new.reader) same w
 
-      by : (o : Option FaultAt) → unwanted_in (Image gray) (head_seen new.reader) ≡ o → AfterTakingFront scans gray (bytes ++ piece) (step_unless o step.Whole) new
+      by : (o : Option FaultAt) → unwanted_in (Image gray) (head_seen new.reader) ≡ o → AfterTakingFront scans gray (bytes ++ piece) (step_unless o (Ok true)) new
       by None told =
           let there = sym (take-append-add bytes piece used) in
           let head = shown_head (bytes ++ take used piece) new.reader e shown in
@@ -231,7 +232,7 @@ module _ (scans : ℕ) (gray : Bool) where
       by (Some f) told = λ rest. unwanted_there bytes piece used p.reader new.reader f e h.fed short shown told rest
 
   pub fault_front : (bytes piece : List ℕ) (p new : PreviewState) (f : FaultAt) (o : Option FaultAt) → new.reader.limits ≡ standard_limits → new.scans ≡ scans → HasFedFront scans gray p bytes → length piece ≤ 65536
-      → AfterStop new.scans (length bytes) (bytes ++ piece) (stop.Fault f) new.reader → unwanted_in (Image gray) (head_seen new.reader) ≡ o → AfterTakingFront scans gray (bytes ++ piece) (step_unless o (step.Ended (why.Refused f))) new
+      → AfterStop new.scans (length bytes) (bytes ++ piece) (stop.Fault f) new.reader → unwanted_in (Image gray) (head_seen new.reader) ≡ o → AfterTakingFront scans gray (bytes ++ piece) (step_unless o (Err (why.Refused f))) new
   fault_front bytes piece p new f o e same h short s told = by o told
     where
       stops : StopsFront standard_limits scans (bytes ++ piece) f × (length bytes < f.at) × KeepsHeadAt standard_limits (bytes ++ piece) f new.reader.file.head
@@ -239,7 +240,7 @@ module _ (scans : ℕ) (gray : Bool) where
           subst (λ (l : Limits). StopsFront l scans (bytes ++ piece) f × (length bytes < f.at) × KeepsHeadAt l (bytes ++ piece) f new.reader.file.head) e
           (subst (λ n. AfterStop n (length bytes) (bytes ++ piece) (stop.Fault f) new.reader) same s)
 
-      by : (o : Option FaultAt) → unwanted_in (Image gray) (head_seen new.reader) ≡ o → AfterTakingFront scans gray (bytes ++ piece) (step_unless o (step.Ended (why.Refused f))) new
+      by : (o : Option FaultAt) → unwanted_in (Image gray) (head_seen new.reader) ≡ o → AfterTakingFront scans gray (bytes ++ piece) (step_unless o (Err (why.Refused f))) new
       by None told = λ rest. refused_stop bytes piece new.reader.file.head f short stops told rest
       by (Some g) told = λ rest. unwanted_stop bytes piece p.reader new.reader.file.head f g h.fed short stops told rest
 
@@ -253,3 +254,7 @@ module _ (scans : ℕ) (gray : Bool) where
       let r = refused_end (Image gray) bytes p.reader f e h.fed s in
       let none = subst (EndsNoScan scans) (sym (append-nil bytes)) (ends_none bytes p e h.wants h.viewed) in
       record { refused = λ front is. subst (λ l. IsRefusedFor (Image gray) l f) (sym (front_all scans (bytes ++ []) front none is)) r.refused; within = r.within; last = r.last }
+
+  pub stop_front : (bytes : List ℕ) (p : PreviewState) (s : Stop) (answer : PreviewState) → p.reader.limits ≡ standard_limits → HasFedFront scans gray p bytes → StopsAt p.reader.limits bytes s → AfterFrontEnd scans gray bytes (Err (why_stopped s)) answer
+  stop_front bytes p (stop.Fault f) answer e h s = refused_front bytes p f e h s
+  stop_front bytes p stop.NoMemory answer e h s = absurd s

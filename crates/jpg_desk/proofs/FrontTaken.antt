@@ -1,10 +1,7 @@
 -- What reading pieces of the front of a picture's file does, over the states of a desk.
-use Rattle.std.proofs.Common.{◌≡◌, ℕ, ◌<◌, ◌≤◌, Bool, List, [], ◌++◌, length, take, drop, Option, Some, None, Ok, refl, sym, ap, ◌∙◌, subst, arith, inl, inr, ◌⊎◌}
-use Rattle.std.specs.Io.KnownBytes.{Consumes, IsAtEnd}
+use Rattle.std.proofs.Common.{◌≡◌, ℕ, ◌<◌, ◌≤◌, Bool, true, false, List, [], ◌++◌, length, take, drop, Option, Some, None, Result, Ok, Err, refl, sym, ap, ◌∙◌, subst, arith, inl, inr, ◌⊎◌}
 use Rattle.std.proofs.lemmas.List.{append_assoc, take-append-drop}
-use Rattle.jpg_base.specs.declared.names.Got.TheVariants as got
-use Rattle.jpg_base.specs.Desk.{DeskState, Reads, Rose}
-use Rattle.jpg_base.specs.Laws.{Consumes-then}
+use Rattle.jpg_base.specs.Desk.{DeskState}
 use Rattle.jpg_spec.specs.Early.{MeansEarly}
 use Rattle.jpg_spec.specs.FileMeaning.{meaning_of}
 use Rattle.jpg_spec.specs.InForce.{frame_of}
@@ -16,62 +13,54 @@ use Rattle.jpg_spec.specs.declared.frame.Copying.TheVariants.{All}
 use Rattle.jpg_spec.specs.declared.frame.Limits.{Limits}
 use Rattle.jpg_spec.proofs.Files.FileLaws.{means_more}
 use Rattle.jpg_spec_image.specs.Front.{EndsScan, IsFront}
+use Rattle.jpg_spec_words.specs.declared.answers.Why.{Why}
 use Rattle.jpg_spec_words.specs.declared.answers.Why.TheVariants as why
-use Rattle.jpg_spec_words.specs.declared.answers.Which.TheVariants as which
 use Rattle.jpg_file.specs.Read.File.{keeping_of}
 use Rattle.jpg_file.specs.Read.PictureRead.{MeansFor, TakesEarly, TakesPicture}
 use Rattle.jpg_file.specs.Read.ReadFile.{IsDone, IsEarlyEnd, ReaderState}
 use Rattle.jpg_file.specs.declared.read.picture.Picture.{Picture}
-use Rattle.jpg_preview.specs.Viewing.{HasFront, PreviewState}
+use Rattle.jpg_preview.specs.Viewing.{HasFront, HasViewed}
 use Rattle.jpg_preview.proofs.FrontFound.{shown_has_front}
 use Rattle.jpg_preview.proofs.ViewSteps.{none_of_front}
-use Rattle.jpg_desk.specs.Judging.{IsAllRead, NoValueTaken, TakesPieces}
-use Rattle.jpg_desk.specs.ReadFront.{AfterFrontEnd, AfterNextFront, AfterTakingFront, EndsFront, FrontMeans, HasFedFront, HoldsFront, HoldsShown, IsFrontRead, front_judging}
+use Rattle.jpg_desk.specs.Judging.{IsAllRead, TakesPieces}
+use Rattle.jpg_desk.specs.Pump.{AfterInput, AfterTaking, IsFed, Pumps, ReadsInput, of_reader}
+use Rattle.jpg_desk.specs.ReadFront.{AfterFrontEnd, AfterTakingFront, EndsFront, FrontMeans, HoldsFront, HoldsShown, IsFrontRead, front_reader}
 use Rattle.jpg_desk.specs.Reading.{rest_of}
-use Rattle.jpg_desk.specs.Stays.{OnlyReads}
-use Rattle.jpg_desk.specs.declared.picture.PictureStep.{PictureStep}
-use Rattle.jpg_desk.specs.declared.picture.PictureStep.TheVariants as step
-use Rattle.jpg_desk.proofs.PiecesRead.{left_still, some_taken}
-use Rattle.jpg_desk.proofs.FrontBytes.{open_front}
-use Rattle.jpg_desk.proofs.Input.{none_left}
+use Rattle.jpg_desk.specs.declared.front.FrontSink.{FrontSink}
+use Rattle.jpg_desk.proofs.Pumped.{all_read, fed_none}
+use Rattle.jpg_desk.proofs.FrontBytes.{open_front, viewed_none}
 use Rattle.jpg_desk.proofs.PictureBytes.{can_be_shown}
 use Rattle.jpg_desk.proofs.PictureTaken.{early_meaning, early_taken}
-use Rattle.jpg_desk.specs.ReadPicture.{Image}
+use Rattle.jpg_desk.specs.ReadPicture.{EndDone, StepDone, Image}
+
+-- A PIECE of the input, and its end
+
+pub front_piece : (from now : FrontSink) (bytes : List ℕ) (answer : Result Bool Why) → now.preview.reader.limits ≡ standard_limits → keeping_of now.preview.reader.file ≡ keeping_of from.preview.reader.file → now.gray ≡ from.gray → StepDone answer now.preview.reader
+    → AfterTakingFront from.preview.scans from.gray bytes answer now.preview → AfterTaking front_reader from bytes answer now
+front_piece from now bytes (Ok false) e k g d h = (record { fed = h; limits = e; keeping = k; gray = g }, (h.fed).short)
+front_piece from now bytes (Ok true) e k g d h = λ rest. record { done = d; limits = e; keeping = k; holds = h }
+front_piece from now bytes (Err (why.Refused f)) e k g d h = h
+front_piece from now bytes (Err why.NoMemory) e k g d h = h
+front_piece from now bytes (Err other) e k g d h = absurd h
+
+pub front_end : (from now : FrontSink) (bytes : List ℕ) (answer : Result (Option ℕ) Why) → now.preview.reader.limits ≡ standard_limits → keeping_of now.preview.reader.file ≡ keeping_of from.preview.reader.file → EndDone answer now.preview.reader
+    → AfterFrontEnd from.preview.scans from.gray bytes answer now.preview → AfterInput front_reader from bytes answer now
+front_end from now bytes (Ok (Some n)) e k d h = record { done = d; limits = e; keeping = k; holds = h }
+front_end from now bytes (Ok None) e k d h = absurd h
+front_end from now bytes (Err (why.Refused f)) e k d h = h
+front_end from now bytes (Err other) e k d h = absurd h
+
+-- ALL OF IT
+
+pub front_fed : (now : FrontSink) (s : DeskState) → HasViewed [] now.preview → now.preview.reader.limits ≡ standard_limits → IsFed FrontSink (of_reader front_reader) (now, s) [] (now, s)
+front_fed now s h e = fed_none FrontSink Meaning front_reader now s (record { fed = viewed_none now.preview.scans now.gray now.preview e refl h; limits = e; keeping = refl; gray = refl })
+
+pub front_pumped : (old : FrontSink) (s : DeskState) (answer : Result (Option ℕ) Why) (now : FrontSink × DeskState) → HasViewed [] old.preview → old.preview.reader.limits ≡ standard_limits → Pumps (of_reader front_reader) 0 (old, s) answer now
+    → ReadsInput FrontSink Meaning front_reader (old, s) answer now
+front_pumped old s answer now h e ends =
+    all_read FrontSink Meaning front_reader (old, s) now answer (λ bytes f short. open_front old.preview.scans old.gray bytes (now.0).preview f.limits f.fed) (ends (old, s) [] refl (front_fed old s h e))
 
 module _ (scans : ℕ) (gray : Bool) where
-  -- A PIECE
-
-  after_piece : (start s1 : DeskState) (bytes piece : List ℕ) (answer : PictureStep) (p : PreviewState) → 0 < length piece → length (bytes ++ piece) ≤ standard_limits.input → Consumes start.left s1.left (bytes ++ piece)
-      → AfterTakingFront scans gray (bytes ++ piece) answer p → AfterNextFront scans gray start bytes answer p s1
-  after_piece start s1 bytes piece step.More p some most read h = (piece, some, h, read)
-  after_piece start s1 bytes piece step.Whole p some most read h = (bytes ++ piece, read, most, h)
-  after_piece start s1 bytes piece (step.Ended (why.Refused f)) p some most read h = (bytes ++ piece, read, most, h (rest_of s1.left))
-  after_piece start s1 bytes piece (step.Ended why.NoMemory) p some most read h = (bytes ++ piece, read, most, h)
-  after_piece start s1 bytes piece other p some most read h = absurd h
-
-  pub piece_taken : (start s0 s1 : DeskState) (n : ℕ) (buf bytes : List ℕ) (answer : PictureStep) (p : PreviewState) → length (bytes ++ take n buf) ≤ standard_limits.input → Reads s0 (got.Bytes n) buf s1 → Consumes start.left s0.left bytes
-      → AfterTakingFront scans gray (bytes ++ take n buf) answer p → AfterNextFront scans gray start bytes answer p s1
-  piece_taken start s0 s1 n buf bytes answer p most read had h =
-      after_piece start s1 bytes (take n buf) answer p (some_taken n buf read.after.0 read.after.1) most (Consumes-then start.left s0.left s1.left bytes (take n buf) had read.after.2) h
-
-  -- AT THE END
-
-  pub front_end : (start s0 s1 : DeskState) (bytes : List ℕ) (answer : PictureStep) (p : PreviewState) → length bytes < standard_limits.input → IsAtEnd s0.left → s1.left ≡ s0.left → Consumes start.left s0.left bytes
-      → AfterFrontEnd scans gray bytes answer p → AfterNextFront scans gray start bytes answer p s1
-  front_end start s0 s1 bytes (step.Early n) p short end left had h = ((bytes, left_still s0 s1 bytes start left had, omega (arith, short), h), ap rest_of left ∙ none_left s0.left end)
-  front_end start s0 s1 bytes (step.Ended (why.Refused f)) p short end left had h =
-      let none : rest_of s1.left ≡ [] = ap rest_of left ∙ none_left s0.left end in
-      (bytes, left_still s0 s1 bytes start left had, omega (arith, short), subst (λ (rest : List ℕ). (front_judging scans gray).refused f rest bytes) (sym none) h)
-  front_end start s0 s1 bytes other p short end left had h = absurd h
-
-  -- A READ that failed
-  pub front_unread : (start s0 s1 : DeskState) (bytes : List ℕ) (p : PreviewState) → p.reader.limits ≡ standard_limits → HasFedFront scans gray p bytes → OnlyReads start s0 → Consumes start.left s0.left bytes → Rose s0.counts.reads s1.counts.reads → s1.left ≡ s0.left
-      → NoValueTaken (front_judging scans gray) start (why.ReadFault which.Input) s1
-  front_unread start s0 s1 bytes p e h still had rose left = (
-    (bytes, left_still s0 s1 bytes start left had, (let short = (h.fed).short in omega (arith, short)), open_front scans gray bytes p e h),
-    (let f = still.copies.works.stays.counts.reads in omega (arith, rose, f)),
-  )
-
   -- THE PICTURE of the front
 
   module _ (bytes rest : List ℕ) (r : ReaderState) (e : r.limits ≡ standard_limits) (h : HoldsFront scans gray r bytes) where

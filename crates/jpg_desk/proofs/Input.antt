@@ -8,19 +8,13 @@ use Rattle.jpg_base.specs.declared.names.Put.{Put}
 use Rattle.jpg_base.specs.declared.names.Put.TheVariants as put
 use Rattle.jpg_base.specs.Desk.{DeskState, NotesName, OpensFile, Opens}
 use Rattle.jpg_base.specs.Laws.{NotesNames}
-use Rattle.jpg_desk.specs.declared.file.Taken.TheVariants as taken
-use Rattle.jpg_desk.specs.Reading.{AfterReading, IsFile, ReadsPart, rest_of, IsReadTo}
+use Rattle.jpg_desk.specs.Reading.{IsFile, ReadsPart, rest_of, IsReadTo}
 use Rattle.jpg_desk.specs.Stays.{OnlyReads}
 
 pub notes_one : (a b : Option (List (Name × Put))) (entry : Name × Put) → NotesName a entry b → NotesNames a (entry ∷ []) b
 notes_one a None entry h = tt
 notes_one None (Some b) entry h = absurd h
 notes_one (Some a) (Some b) entry h = h
-
--- what was taken is a prefix of an input
-front_is : (limit : ℕ) (input taken rest : List ℕ) → input ≡ taken ++ rest → length taken ≤ limit → (limit ≤ length taken) ⊎ (rest ≡ []) → taken ≡ take limit input
-front_is limit input taken rest e le (inl ge) = sym (ap (take limit) e ∙ take_at taken rest limit (omega (arith, le, ge)))
-front_is limit input taken rest e le (inr none) = sym (ap (take limit) (e ∙ ap (λ r. taken ++ r) none ∙ append-nil taken) ∙ take_all limit taken le)
 
 pub none_is_none : (x : List ℕ) → None ≡ Some x → ⊥
 none_is_none x e = cc
@@ -33,10 +27,6 @@ pub none_left : (left : Option (List ℕ)) → IsAtEnd left → rest_of left ≡
 none_left None h = refl
 none_left (Some left) h = h
 
-none_behind : (limit : ℕ) (taken : List ℕ) (left : Option (List ℕ)) → (limit ≤ length taken) ⊎ IsAtEnd left → (limit ≤ length taken) ⊎ (rest_of left ≡ [])
-none_behind limit taken left (inl ge) = inl ge
-none_behind limit taken left (inr end) = inr (none_left left end)
-
 -- a file that is opened and read has the bytes that were read, and those that are left
 pub file_read : (files : Option (Name → Option (List ℕ))) (n : Name) (l1 l2 : Option (List ℕ)) (bytes : List ℕ) → OpensFile files n l1 → Consumes l1 l2 bytes → IsFile files n (bytes ++ rest_of l2)
 file_read None n l1 l2 bytes h k = tt
@@ -46,15 +36,6 @@ file_read (Some files) n (Some l) (Some rest) bytes h k = h.1 ∙ ap Some (sym (
 
 pub noted : (s0 s1 s2 : DeskState) (n : Name) → Opens s0 n put.Done s1 → OnlyReads s1 s2 → NotesNames s0.asked ((n, put.Done) ∷ []) s2.asked
 noted s0 s1 s2 n h k = notes_one s0.asked s2.asked (n, put.Done) (let P : Option (List (Name × Put)) → Type 0 = λ a. NotesName s0.asked (n, put.Done) a in subst P (sym k.copies.asked) h.asked)
-
--- an input is read
-pub took : (limit : ℕ) (s0 s1 s2 : DeskState) (n : Name) (v : List ℕ) → Opens s0 n put.Done s1 → OnlyReads s1 s2 → AfterReading limit s1 taken.All v s2
-    → NotesNames s0.asked ((n, put.Done) ∷ []) s2.asked × IsFile s0.files n (v ++ rest_of s2.left) × (v ≡ take limit (v ++ rest_of s2.left))
-took limit s0 s1 s2 n v h k r = (
-  noted s0 s1 s2 n h k,
-  file_read s0.files n s1.left s2.left v h.after.2 r.0,
-  front_is limit (v ++ rest_of s2.left) v (rest_of s2.left) refl r.1 (none_behind limit v s2.left r.2),
-)
 
 -- what was read of a file is the same if no more of it is read
 pub part_still : (most : ℕ) (file : Name) (a b c : DeskState) → c.left ≡ b.left → ReadsPart most file a b → ReadsPart most file a c

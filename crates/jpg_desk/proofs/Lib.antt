@@ -1,5 +1,6 @@
 pub mod Endings
 pub mod FaultNumbers
+pub mod FilesTaken
 pub mod FrontBytes
 pub mod FrontJudged
 pub mod FrontTaken
@@ -15,9 +16,11 @@ pub mod Output
 pub mod PictureBytes
 pub mod PictureTaken
 pub mod PiecesRead
+pub mod Pumped
 pub mod RefusedOnce
 pub mod ScriptTaken
 pub mod SoleWritten
 pub mod TablesTaken
 pub mod TextTaken
 pub mod Unwanted
+pub mod Upright

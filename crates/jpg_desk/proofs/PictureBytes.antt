@@ -1,10 +1,11 @@
 -- What the bytes read from a file mean for the picture in it.
-use Rattle.std.proofs.Common.{◌≡◌, ℕ, ◌+◌, ◌<◌, ◌≤◌, List, [], ◌∷◌, ◌++◌, length, take, drop, refl, sym, ap, ◌∙◌, subst, arith, inl, inr, ◌⊎◌, Option, Some, None, zero, suc, get_or, Bool}
+use Rattle.std.proofs.Common.{◌≡◌, ℕ, ◌+◌, ◌<◌, ◌≤◌, List, [], ◌∷◌, ◌++◌, length, take, drop, refl, sym, ap, ◌∙◌, subst, arith, inl, inr, ◌⊎◌, Option, Some, None, Ok, Err, Bool, true, false}
 use Rattle.std.specs.List.{All}
-use Rattle.std.proofs.lemmas.List.Elements.{All-append, All-nil}
+use Rattle.std.proofs.lemmas.List.Elements.{All-nil}
 use Rattle.std.proofs.lemmas.List.{append-nil, append_assoc, length-append, take-append-drop}
 use Rattle.std.proofs.lemmas.Bool.{cases_lt}
 use Rattle.std.proofs.Math.Seq.{take-append-add}
+use Rattle.jpg_base.specs.declared.stop.Stop.{Stop}
 use Rattle.jpg_spec.specs.Segments.{standard_limits}
 use Rattle.jpg_spec.specs.FirstFault.{IsFirstFault}
 use Rattle.jpg_spec.specs.UnfinishedFile.{UnfinishedFile}
@@ -23,11 +24,11 @@ use Rattle.jpg_spec_image.proofs.ShownAlike.{shown_alike}
 use Rattle.jpg_base.specs.declared.stop.Stop.TheVariants as stop
 use Rattle.jpg_file.specs.Read.FirstHeader.{IsFirstHeaderOf}
 use Rattle.jpg_file.specs.declared.read.ends.End.TheVariants as ends
-use Rattle.jpg_file.specs.Read.ReadFile.{AfterEnd, HasRead, IsDone, IsRefusal, IsStopOf, KeepsHeadAt, ReaderState, StopsAt, head_seen}
+use Rattle.jpg_file.specs.Read.ReadFile.{AfterEnd, AfterFeed, HasRead, IsDone, IsRefusal, IsStopOf, KeepsHeadAt, ReaderState, StopsAt, head_seen}
 use Rattle.jpg_file.specs.declared.read.first_header.Head.{Head}
 use Rattle.jpg_file.proofs.Files.PieceSteps.{counted}
 use Rattle.jpg_desk.specs.ReadPicture.{AfterFileEnd, AfterTakingPiece, HasFed, HoldsEarly, HoldsFile, IsOpenRead, IsRefused, IsRefusedFor, IsRefusedRead, IsShortRead, IsUnwanted, step_unless, unwanted_for, unwanted_in, Wanted, Coefficients, Image}
-use Rattle.jpg_desk.specs.declared.picture.PictureStep.TheVariants as step
+use Rattle.jpg_desk.specs.Pump.{why_stopped}
 use Rattle.jpg_desk.proofs.Unwanted.{done_unwanted, done_wanted, head_of, no_header, stop_unwanted, stop_wanted, unwanted_first, unwanted_head, unwanted_less, unwanted_more, unwanted_within, wanted_head}
 
 -- BYTES SO FAR
@@ -53,14 +54,6 @@ pub open_so_far : (w : Wanted) (bytes : List ℕ) (r : ReaderState) → r.limits
 open_so_far w bytes r e h = record { short = h.short; stands = subst (λ (l : Limits). UnfinishedFile l bytes) e h.read.stands; wanted = h.wanted }
 
 -- A PIECE
-
-bytes_small : (xs : List ℕ) → ((i : ℕ) → get_or xs i 0 < 256) → All (λ b. b < 256) xs
-bytes_small [] h k d l = let f : ⊥ = omega arith in absurd f
-bytes_small (x ∷ xs) h zero d l = h 0
-bytes_small (x ∷ xs) h (suc k) d l = bytes_small xs (λ i. h (suc i)) k d (omega arith)
-
-pub more_small : (bytes piece : List ℕ) → All (λ b. b < 256) bytes → ((i : ℕ) → get_or piece i 0 < 256) → All (λ b. b < 256) (bytes ++ piece)
-more_small bytes piece h small = All-append (λ b. b < 256) bytes piece h (bytes_small piece small)
 
 holds_done : (w : Wanted) (bytes piece : List ℕ) (used : ℕ) (r : ReaderState) → length piece ≤ 65536 → All (λ b. b < 256) (bytes ++ piece) → (1 ≤ used) → (used ≤ length piece) → (d : IsDone (take (length bytes + used) (bytes ++ piece)) r)
     → unwanted_for w d.meaning ≡ None → HoldsFile w r (bytes ++ piece)
@@ -153,26 +146,32 @@ unwanted_stop w bytes piece old o f g h short s told rest = by s.2
 -- BY THE first scan header
 
 pub more_or : (w : Wanted) (bytes piece : List ℕ) (old r : ReaderState) (o : Option FaultAt) → r.limits ≡ standard_limits → HasFed w old bytes → length piece ≤ 65536 → All (λ b. b < 256) (bytes ++ piece) → HasRead (bytes ++ piece) r
-    → unwanted_in w (head_seen r) ≡ o → AfterTakingPiece w (bytes ++ piece) (step_unless o step.More) r
+    → unwanted_in w (head_seen r) ≡ o → AfterTakingPiece w (bytes ++ piece) (step_unless o (Ok false)) r
 more_or w bytes piece old r None e h short small read told = has_fed w (bytes ++ piece) r e small told read
 more_or w bytes piece old r (Some f) e h short small read told = λ rest. unwanted_piece w bytes piece old r f e h short read told rest
 
 pub whole_or : (w : Wanted) (bytes piece : List ℕ) (used : ℕ) (old r : ReaderState) (o : Option FaultAt) → r.limits ≡ standard_limits → HasFed w old bytes → length piece ≤ 65536 → All (λ b. b < 256) (bytes ++ piece)
-    → IsDone (bytes ++ take used piece) r × (1 ≤ used) × (used ≤ length piece) → unwanted_in w (head_seen r) ≡ o → AfterTakingPiece w (bytes ++ piece) (step_unless o step.Whole) r
+    → IsDone (bytes ++ take used piece) r × (1 ≤ used) × (used ≤ length piece) → unwanted_in w (head_seen r) ≡ o → AfterTakingPiece w (bytes ++ piece) (step_unless o (Ok true)) r
 whole_or w bytes piece used old r None e h short small done told = holds_file w bytes piece used r e short small told done
 whole_or w bytes piece used old r (Some f) e h short small done told = λ rest. unwanted_whole w bytes piece used old r f e h short done.0 told rest
 
 pub fault_or : (w : Wanted) (bytes piece : List ℕ) (old r : ReaderState) (f : FaultAt) (o : Option FaultAt) → r.limits ≡ standard_limits → HasFed w old bytes → length piece ≤ 65536
     → IsStopOf r.limits (bytes ++ piece) f × (length bytes < f.at) × KeepsHeadAt r.limits (bytes ++ piece) f r.file.head → unwanted_in w (head_seen r) ≡ o
-    → AfterTakingPiece w (bytes ++ piece) (step_unless o (step.Ended (why.Refused f))) r
+    → AfterTakingPiece w (bytes ++ piece) (step_unless o (Err (why.Refused f))) r
 fault_or w bytes piece old r f o e h short s told = by o told
   where
     stop : IsStopOf standard_limits (bytes ++ piece) f × (length bytes < f.at) × KeepsHeadAt standard_limits (bytes ++ piece) f r.file.head
     stop = subst (λ (l : Limits). IsStopOf l (bytes ++ piece) f × (length bytes < f.at) × KeepsHeadAt l (bytes ++ piece) f r.file.head) e s
 
-    by : (o : Option FaultAt) → unwanted_in w (head_seen r) ≡ o → AfterTakingPiece w (bytes ++ piece) (step_unless o (step.Ended (why.Refused f))) r
+    by : (o : Option FaultAt) → unwanted_in w (head_seen r) ≡ o → AfterTakingPiece w (bytes ++ piece) (step_unless o (Err (why.Refused f))) r
     by None told = λ rest. refused_piece w bytes piece r.file.head f short stop told rest
     by (Some g) told = λ rest. unwanted_stop w bytes piece old r.file.head f g h short stop told rest
+
+-- if it stops, where nothing is unwanted
+pub stop_or : (w : Wanted) (bytes piece : List ℕ) (old r : ReaderState) (s : Stop) → old.limits ≡ standard_limits → r.limits ≡ standard_limits → HasFed w old bytes → length piece ≤ 65536 → AfterFeed bytes piece (Err s) r → unwanted_in w (head_seen r) ≡ None
+    → AfterTakingPiece w (bytes ++ piece) (Err (why_stopped s)) r
+stop_or w bytes piece old r (stop.Fault f) d e h short k told = fault_or w bytes piece old r f None e h short k told
+stop_or w bytes piece old r stop.NoMemory d e h short k told = short_piece w bytes piece old d h short
 
 -- WHAT BYTES MEAN can be displayed, if nothing in them says that it can't
 pub can_be_shown : (gray : Bool) (bytes : List ℕ) (M : Meaning) → IsMeaning standard_limits bytes M → ((f : FaultAt) → IsNotShown standard_limits gray bytes f → ⊥) → out_fault gray M ≡ None
@@ -215,3 +214,7 @@ early_end w bytes r new n e h (count, early) = record { count = count; ended = e
     by : (w : Wanted) → ((f : FaultAt) → IsUnwanted w bytes f → ⊥) → unwanted_for w M ≡ None
     by Coefficients shown = refl
     by (Image gray) shown = can_be_shown gray bytes M means shown
+
+pub stop_end : (w : Wanted) (bytes : List ℕ) (r : ReaderState) (s : Stop) → r.limits ≡ standard_limits → HasFed w r bytes → StopsAt r.limits bytes s → AfterFileEnd w bytes (why_stopped s)
+stop_end w bytes r (stop.Fault f) e h s = refused_end w bytes r f e h s
+stop_end w bytes r stop.NoMemory e h s = absurd s

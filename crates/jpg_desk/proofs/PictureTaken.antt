@@ -1,11 +1,8 @@
 -- What reading pieces of a picture's file does, over the states of a desk.
-use Rattle.std.proofs.Common.{◌≡◌, ℕ, ◌<◌, ◌≤◌, List, [], ◌∷◌, ◌++◌, length, take, Option, Some, None, Result, Ok, Err, refl, sym, ap, ◌∙◌, subst, arith}
-use Rattle.std.specs.Io.KnownBytes.{Consumes, IsAtEnd}
+use Rattle.std.proofs.Common.{◌≡◌, ℕ, ◌<◌, ◌≤◌, Bool, true, false, List, [], ◌∷◌, ◌++◌, length, take, Option, Some, None, Result, Ok, Err, refl, sym, ap, ◌∙◌, subst, arith}
 use Rattle.jpg_base.specs.declared.names.Name.{Name}
 use Rattle.jpg_base.specs.declared.names.Put.TheVariants as put
-use Rattle.jpg_base.specs.declared.names.Got.TheVariants as got
-use Rattle.jpg_base.specs.Desk.{DeskState, Opens, Reads, Rose}
-use Rattle.jpg_base.specs.Laws.{Consumes-then}
+use Rattle.jpg_base.specs.Desk.{DeskState, Opens}
 use Rattle.jpg_spec.specs.Segments.{standard_limits}
 use Rattle.jpg_spec.specs.UnfinishedFile.{IsWholeFile}
 use Rattle.jpg_spec.specs.Early.{MeansEarly}
@@ -19,69 +16,44 @@ use Rattle.jpg_spec.specs.declared.frame.Copying.{Copying}
 use Rattle.jpg_spec.specs.declared.frame.Limits.{Limits}
 use Rattle.jpg_file.specs.Read.File.{keeping_of}
 use Rattle.jpg_file.specs.Read.PictureRead.{MeansFor, TakesEarly, TakesPicture}
-use Rattle.jpg_file.specs.Read.ReadFile.{ReaderState}
+use Rattle.jpg_file.specs.Read.ReadFile.{HasRead, ReaderState}
+use Rattle.jpg_file.specs.Read.ReadRows.{IsPlain}
 use Rattle.jpg_file.specs.declared.read.picture.Picture.{Picture}
 use Rattle.jpg_desk.specs.Endings.{Stopped}
 use Rattle.jpg_desk.specs.Reading.{rest_of}
 use Rattle.jpg_desk.specs.Judging.{IsAllRead, Judging, NoValueRead, NoValueTaken, ReadsFrom, TakesPieces}
-use Rattle.jpg_desk.specs.ReadPicture.{AfterFileEnd, AfterNextPiece, AfterPictureEnd, AfterTakingPiece, EndDone, EndsEarly, EndsMeaning, EndsReading, PictureGoesOn, HasFed, HoldsPicture, HoldsEarly, HoldsFile, IsEarlyRead, IsRefusedRead, IsWholeRead, MeaningRead, Wanted}
+use Rattle.jpg_desk.specs.Pump.{AfterInput, AfterTaking, IsFed, Pumps, ReadsInput, of_reader}
+use Rattle.jpg_desk.specs.ReadPicture.{AfterPictureEnd, AfterTakingPiece, EndDone, EndsMeaning, EndsReading, HoldsPicture, HoldsEarly, HoldsFile, IsEarlyRead, IsWholeRead, MeaningRead, StepDone, Wanted, picture_reader, Coefficients}
 use Rattle.jpg_desk.specs.Stays.{OnlyReads}
-use Rattle.jpg_desk.specs.declared.picture.PictureStep.{PictureStep}
-use Rattle.jpg_desk.specs.declared.picture.PictureStep.TheVariants as step
-use Rattle.jpg_desk.proofs.PiecesRead.{copies_none, copies_then, left_still, some_taken}
-use Rattle.jpg_desk.proofs.Input.{file_read, none_left, noted}
-use Rattle.jpg_desk.proofs.PictureBytes.{open_so_far}
+use Rattle.jpg_desk.proofs.Pumped.{all_read, fed_none}
+use Rattle.jpg_desk.proofs.Input.{file_read, noted}
+use Rattle.jpg_desk.proofs.PictureBytes.{fed_none as none_fed, open_so_far}
 
--- FRAMES
+-- A PIECE of the input, and its end
 
-pub reads_then : {a b c : DeskState} → OnlyReads a b → OnlyReads b c → OnlyReads a c
-reads_then h k = record { copies = copies_then h.copies k.copies; outputs = k.outputs ∙ h.outputs }
+pub picture_piece : (from r : ReaderState) (bytes : List ℕ) (answer : Result Bool Why) → r.limits ≡ standard_limits → keeping_of r.file ≡ keeping_of from.file → IsPlain r → StepDone answer r → AfterTakingPiece Coefficients bytes answer r
+    → AfterTaking picture_reader from bytes answer r
+picture_piece from r bytes (Ok false) e k p d h = (record { fed = h; limits = e; keeping = k; plain = p }, h.short)
+picture_piece from r bytes (Ok true) e k p d h = λ rest. record { done = d; limits = e; keeping = k; plain = p; holds = h }
+picture_piece from r bytes (Err (why.Refused f)) e k p d h = h
+picture_piece from r bytes (Err why.NoMemory) e k p d h = h
+picture_piece from r bytes (Err other) e k p d h = absurd h
 
-pub reads_none : (s : DeskState) → OnlyReads s s
-reads_none s = record { copies = copies_none s; outputs = refl }
+pub picture_end : (from r : ReaderState) (bytes : List ℕ) (answer : Result (Option ℕ) Why) → r.limits ≡ standard_limits → keeping_of r.file ≡ keeping_of from.file → IsPlain r → EndDone answer r → AfterPictureEnd Coefficients bytes answer r → AfterInput picture_reader from bytes answer r
+picture_end from r bytes (Ok (Some n)) e k p d h = record { done = d; limits = e; keeping = k; plain = p; holds = h }
+picture_end from r bytes (Ok None) e k p d h = absurd h
+picture_end from r bytes (Err (why.Refused f)) e k p d h = h
+picture_end from r bytes (Err other) e k p d h = absurd h
 
--- A PIECE
+-- ALL OF IT
 
-after_piece : (w : Wanted) (start s1 : DeskState) (bytes piece : List ℕ) (answer : PictureStep) (r : ReaderState) → 0 < length piece → length (bytes ++ piece) ≤ standard_limits.input → Consumes start.left s1.left (bytes ++ piece) → AfterTakingPiece w (bytes ++ piece) answer r → AfterNextPiece w start bytes answer r s1
-after_piece w start s1 bytes piece step.More r some most read h = (piece, some, h, read)
-after_piece w start s1 bytes piece step.Whole r some most read h = (bytes ++ piece, read, most, h)
-after_piece w start s1 bytes piece (step.Ended (why.Refused f)) r some most read h = (bytes ++ piece, read, most, h (rest_of s1.left))
-after_piece w start s1 bytes piece (step.Ended why.NoMemory) r some most read h = (bytes ++ piece, read, most, h)
-after_piece w start s1 bytes piece other r some most read h = absurd h
+pub picture_fed : (r : ReaderState) (s : DeskState) → HasRead [] r → r.limits ≡ standard_limits → IsPlain r → IsFed ReaderState (of_reader picture_reader) (r, s) [] (r, s)
+picture_fed r s h e p = fed_none ReaderState Meaning picture_reader r s (record { fed = none_fed Coefficients r e h; limits = e; keeping = refl; plain = p })
 
-module _ (w : Wanted) (start s0 s1 : DeskState) where
-  pub piece_taken : (n : ℕ) (buf bytes : List ℕ) (answer : PictureStep) (r : ReaderState) → length (bytes ++ take n buf) ≤ standard_limits.input → Reads s0 (got.Bytes n) buf s1 → Consumes start.left s0.left bytes → AfterTakingPiece w (bytes ++ take n buf) answer r
-      → AfterNextPiece w start bytes answer r s1
-  piece_taken n buf bytes answer r most read had h =
-      after_piece w start s1 bytes (take n buf) answer r (some_taken n buf read.after.0 read.after.1) most (Consumes-then start.left s0.left s1.left bytes (take n buf) had read.after.2) h
-
--- AT THE END
-
-pub piece_end : (w : Wanted) (start s0 s1 : DeskState) (bytes : List ℕ) (ended : Why) → length bytes < standard_limits.input → IsAtEnd s0.left → s1.left ≡ s0.left → Consumes start.left s0.left bytes → AfterFileEnd w bytes ended → EndsEarly w start ended s1
-piece_end w start s0 s1 bytes (why.Refused f) short end left had h =
-    let none : rest_of s1.left ≡ [] = ap rest_of left ∙ none_left s0.left end in
-    (bytes, left_still s0 s1 bytes start left had, omega (arith, short), subst (λ (rest : List ℕ). IsRefusedRead w f rest bytes) (sym none) h)
-piece_end w start s0 s1 bytes other short end left had h = absurd h
-
-pub picture_end : (w : Wanted) (start s0 s1 : DeskState) (bytes : List ℕ) (answer : PictureStep) (r : ReaderState) → length bytes < standard_limits.input → IsAtEnd s0.left → s1.left ≡ s0.left → Consumes start.left s0.left bytes → AfterPictureEnd w bytes answer r
-    → AfterNextPiece w start bytes answer r s1
-picture_end w start s0 s1 bytes (step.Early n) r short end left had h =
-    ((bytes, left_still s0 s1 bytes start left had, omega (arith, short), h), ap rest_of left ∙ none_left s0.left end)
-picture_end w start s0 s1 bytes (step.Ended ended) r short end left had h = piece_end w start s0 s1 bytes ended short end left had h
-picture_end w start s0 s1 bytes other r short end left had h = absurd h
-
-pub end_goes_on : (answer : PictureStep) (r : ReaderState) (now : DeskState) → EndDone answer r → PictureGoesOn answer r now
-end_goes_on (step.Early n) r now h = h
-end_goes_on (step.Ended ended) r now h = tt
-end_goes_on other r now h = absurd h
-
--- A READ that failed
-pub piece_unread : (w : Wanted) (start s0 s1 : DeskState) (bytes : List ℕ) (r : ReaderState) → r.limits ≡ standard_limits → HasFed w r bytes → OnlyReads start s0 → Consumes start.left s0.left bytes → Rose s0.counts.reads s1.counts.reads → s1.left ≡ s0.left
-    → EndsEarly w start (why.ReadFault which.Input) s1
-piece_unread w start s0 s1 bytes r e h still had rose left = (
-  (bytes, left_still s0 s1 bytes start left had, (let short = h.short in omega (arith, short)), open_so_far w bytes r e h),
-  (let f = still.copies.works.stays.counts.reads in omega (arith, rose, f)),
-)
+pub picture_pumped : (r : ReaderState) (s : DeskState) (answer : Result (Option ℕ) Why) (now : ReaderState × DeskState) → HasRead [] r → r.limits ≡ standard_limits → IsPlain r → Pumps (of_reader picture_reader) 0 (r, s) answer now
+    → ReadsInput ReaderState Meaning picture_reader (r, s) answer now
+picture_pumped r s answer now h e p ends =
+    all_read ReaderState Meaning picture_reader (r, s) now answer (λ bytes f short. open_so_far Coefficients bytes now.0 f.limits f.fed) (ends (r, s) [] refl (picture_fed r s h e p))
 
 -- THE PICTURE of the reader's file
 

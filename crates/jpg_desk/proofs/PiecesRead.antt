@@ -1,12 +1,14 @@
 -- What reading pieces does, over the states of a desk.
-use Rattle.std.proofs.Common.{◌≡◌, ℕ, ◌+◌, ◌<◌, ◌≤◌, List, [], ◌++◌, length, take, Option, None, Some, refl, sym, ◌∙◌, subst, arith}
+use Rattle.std.proofs.Common.{◌≡◌, ℕ, zero, suc, ◌+◌, ◌<◌, ◌≤◌, List, [], ◌∷◌, ◌++◌, length, take, get_or, Option, None, Some, refl, sym, ◌∙◌, subst, arith}
+use Rattle.std.specs.List.{All}
+use Rattle.std.proofs.lemmas.List.Elements.{All-append}
 use Rattle.std.proofs.lemmas.List.{length-append, length-take}
 use Rattle.std.specs.Io.KnownBytes.{Consumes}
 use Rattle.jpg_base.specs.declared.names.Name.{Name}
 use Rattle.jpg_base.specs.Desk.{DeskState, AppendsLast}
 use Rattle.jpg_base.specs.Laws.{NoneFell-then}
 use Rattle.jpg_spec.specs.Segments.{standard_limits}
-use Rattle.jpg_desk.specs.Stays.{OnlyCopies, OnlyWorks}
+use Rattle.jpg_desk.specs.Stays.{OnlyCopies, OnlyReads, OnlyWorks}
 
 -- A PIECE
 
@@ -24,10 +26,22 @@ pub some_taken : (n : ℕ) (buf : List ℕ) → 1 ≤ n → n ≤ length buf →
 some_taken n buf some within = omega (arith, some, within, length-take n buf)
 
 -- a read of no more bytes than there is room for
-pub within_most : (bytes buf : List ℕ) (n room : ℕ) → room + length bytes ≡ standard_limits.input → length bytes < standard_limits.input → (1 ≤ room → n ≤ room) → length (bytes ++ take n buf) ≤ standard_limits.input
-within_most bytes buf n room e short fits =
+pub within_room : (bytes buf : List ℕ) (n room most : ℕ) → room + length bytes ≡ most → length bytes < most → (1 ≤ room → n ≤ room) → length (bytes ++ take n buf) ≤ most
+within_room bytes buf n room most e short fits =
     let some : 1 ≤ room = omega (arith, e, short) in
     omega (arith, e, fits some, length-append bytes (take n buf), length-take n buf)
+
+pub within_most : (bytes buf : List ℕ) (n room : ℕ) → room + length bytes ≡ standard_limits.input → length bytes < standard_limits.input → (1 ≤ room → n ≤ room) → length (bytes ++ take n buf) ≤ standard_limits.input
+within_most bytes buf n room e short fits = within_room bytes buf n room standard_limits.input e short fits
+
+-- all of them are bytes
+bytes_small : (xs : List ℕ) → ((i : ℕ) → get_or xs i 0 < 256) → All (λ b. b < 256) xs
+bytes_small [] h k d l = let f : ⊥ = omega arith in absurd f
+bytes_small (x ∷ xs) h zero d l = h 0
+bytes_small (x ∷ xs) h (suc k) d l = bytes_small xs (λ i. h (suc i)) k d (omega arith)
+
+pub more_small : (bytes piece : List ℕ) → All (λ b. b < 256) bytes → ((i : ℕ) → get_or piece i 0 < 256) → All (λ b. b < 256) (bytes ++ piece)
+more_small bytes piece h small = All-append (λ b. b < 256) bytes piece h (bytes_small piece small)
 
 -- FRAMES
 
@@ -57,3 +71,9 @@ copies_then h k = record {
   asked = k.asked ∙ h.asked;
   output_created = k.output_created ∙ h.output_created;
 }
+
+pub reads_then : {a b c : DeskState} → OnlyReads a b → OnlyReads b c → OnlyReads a c
+reads_then h k = record { copies = copies_then h.copies k.copies; outputs = k.outputs ∙ h.outputs }
+
+pub reads_none : (s : DeskState) → OnlyReads s s
+reads_none s = record { copies = copies_none s; outputs = refl }

@@ -1,3 +1,4 @@
+pub mod BytesTaken
 pub mod CommentTaken
 pub mod EncodedRows
 pub mod Endings
@@ -6,6 +7,7 @@ pub mod ImageFile
 pub mod ImageLoop
 pub mod ImageSource
 pub mod Judging
+pub mod Pump
 pub mod ReadFront
 pub mod ReadImage
 pub mod ReadPicture

@@ -1,7 +1,6 @@
 -- WHAT READING THE FRONT of a picture's file does to a desk (T.81, B.2.1), by its result. The front is for so many
 -- scans; its image is asked for, in grayscale or not.
-use Rattle.std.specs.Prelude.{◌≡◌, ◌⊎◌, ℕ, suc, ◌+◌, ◌<◌, ◌≤◌, Bool, true, List, [], ◌++◌, length, take, Option, None, Some, Result, Ok, Err}
-use Rattle.std.specs.Io.KnownBytes.{Consumes}
+use Rattle.std.specs.Prelude.{◌≡◌, ◌⊎◌, ℕ, suc, ◌+◌, ◌<◌, ◌≤◌, Bool, true, false, List, [], ◌++◌, length, take, Option, None, Some, Result, Ok, Err}
 use Rattle.jpg_base.specs.declared.names.Name.{Name}
 use Rattle.jpg_base.specs.Desk.{DeskState}
 use Rattle.jpg_spec.specs.Early.{MeansEarly}
@@ -16,15 +15,14 @@ use Rattle.jpg_spec_image.specs.NotShown.{IsNotShown}
 use Rattle.jpg_spec_image.specs.Pixels.{out_fault}
 use Rattle.jpg_spec_words.specs.declared.answers.Why.{Why}
 use Rattle.jpg_spec_words.specs.declared.answers.Why.TheVariants as why
+use Rattle.jpg_file.specs.Read.File.{keeping_of}
 use Rattle.jpg_file.specs.Read.ReadFile.{ReaderState}
 use Rattle.jpg_file.specs.declared.read.picture.Picture.{Picture}
 use Rattle.jpg_preview.specs.Viewing.{HasViewed, IsShown, PreviewState}
-use Rattle.jpg_desk.specs.Judging.{IsAllRead, Judging, NoValueTaken, TakesPieces, UpToPiece}
+use Rattle.jpg_desk.specs.Judging.{Judging, UpToPiece}
 use Rattle.jpg_desk.specs.ReadPicture.{EndsMeaning, HasFed, HoldsEarly, IsOpenRead, IsRefusedFor, MeaningRead, Image}
-use Rattle.jpg_desk.specs.Reading.{rest_of}
-use Rattle.jpg_desk.specs.Stays.{OnlyReads}
-use Rattle.jpg_desk.specs.declared.picture.PictureStep.{PictureStep}
-use Rattle.jpg_desk.specs.declared.picture.PictureStep.TheVariants as step
+use Rattle.jpg_desk.specs.Pump.{ReaderKind}
+use Rattle.jpg_desk.specs.declared.front.FrontSink.{FrontSink}
 
 -- OF A FILE
 
@@ -137,41 +135,42 @@ abbrev pub HoldsShown : ℕ → Bool → ReaderState → Option ℕ → List ℕ
 HoldsShown scans gray r None bytes = HoldsFront scans gray r bytes
 HoldsShown scans gray r (Some n) bytes = HoldsEarlyFront scans gray r n bytes
 
-abbrev pub EndsWholeFront : ℕ → Bool → DeskState → Result (Option ℕ) Why → ReaderState → DeskState → Type 0
-EndsWholeFront scans gray old (Ok early) r new = (r.done ≡ true) × TakesPieces (HoldsShown scans gray r early) old new × IsAllRead early new
-EndsWholeFront scans gray old (Err ended) r new = NoValueTaken (front_judging scans gray) old ended new
-
 -- The result of a piece.
-abbrev pub AfterTakingFront : ℕ → Bool → List ℕ → PictureStep → PreviewState → Type 0
-AfterTakingFront scans gray bytes step.More p = HasFedFront scans gray p bytes
-AfterTakingFront scans gray bytes step.Whole p = HoldsFront scans gray p.reader bytes
-AfterTakingFront scans gray bytes (step.Early n) p = ⊥
-AfterTakingFront scans gray bytes (step.Ended (why.Refused f)) p = (rest : List ℕ) → IsFrontRefusedRead scans gray f rest bytes
-AfterTakingFront scans gray bytes (step.Ended why.NoMemory) p = IsShortFront scans gray bytes
-AfterTakingFront scans gray bytes (step.Ended other) p = ⊥
+abbrev pub AfterTakingFront : ℕ → Bool → List ℕ → Result Bool Why → PreviewState → Type 0
+AfterTakingFront scans gray bytes (Ok false) p = HasFedFront scans gray p bytes
+AfterTakingFront scans gray bytes (Ok true) p = HoldsFront scans gray p.reader bytes
+AfterTakingFront scans gray bytes (Err (why.Refused f)) p = (rest : List ℕ) → IsFrontRefusedRead scans gray f rest bytes
+AfterTakingFront scans gray bytes (Err why.NoMemory) p = IsShortFront scans gray bytes
+AfterTakingFront scans gray bytes (Err other) p = ⊥
 
 -- the result of bytes where the input ends
-abbrev pub AfterFrontEnd : ℕ → Bool → List ℕ → PictureStep → PreviewState → Type 0
-AfterFrontEnd scans gray bytes (step.Early n) p = HoldsEarlyFront scans gray p.reader n bytes
-AfterFrontEnd scans gray bytes (step.Ended (why.Refused f)) p = IsFrontRefusedRead scans gray f [] bytes
-AfterFrontEnd scans gray bytes other p = ⊥
-
--- From these bytes on: one more piece was read, or why the reading ends.
-abbrev pub AfterNextFront : ℕ → Bool → DeskState → List ℕ → PictureStep → PreviewState → DeskState → Type 0
-AfterNextFront scans gray old bytes step.More p new =
-    (piece : List ℕ) × (0 < length piece) × HasFedFront scans gray p (bytes ++ piece) × Consumes old.left new.left (bytes ++ piece)
-AfterNextFront scans gray old bytes step.Whole p new = TakesPieces (HoldsFront scans gray p.reader) old new
-AfterNextFront scans gray old bytes (step.Early n) p new = TakesPieces (HoldsEarlyFront scans gray p.reader n) old new × (rest_of new.left ≡ [])
-AfterNextFront scans gray old bytes (step.Ended ended) p new = NoValueTaken (front_judging scans gray) old ended new
+abbrev pub AfterFrontEnd : ℕ → Bool → List ℕ → Result (Option ℕ) Why → PreviewState → Type 0
+AfterFrontEnd scans gray bytes (Ok (Some n)) p = HoldsEarlyFront scans gray p.reader n bytes
+AfterFrontEnd scans gray bytes (Ok None) p = ⊥
+AfterFrontEnd scans gray bytes (Err (why.Refused f)) p = IsFrontRefusedRead scans gray f [] bytes
+AfterFrontEnd scans gray bytes (Err other) p = ⊥
 
 -- FOR ALL BYTES that were read before
 
-abbrev pub TakesFront : Bool → PreviewState → List ℕ → PictureStep → PreviewState → Type 0
+abbrev pub TakesFront : Bool → PreviewState → List ℕ → Result Bool Why → PreviewState → Type 0
 TakesFront gray had piece answer p = (scans : ℕ) (bytes : List ℕ) → HasFedFront scans gray had bytes → AfterTakingFront scans gray (bytes ++ piece) answer p
 
-abbrev pub EndsInput : Bool → PreviewState → PictureStep → PreviewState → Type 0
+abbrev pub EndsInput : Bool → PreviewState → Result (Option ℕ) Why → PreviewState → Type 0
 EndsInput gray had answer p = (scans : ℕ) (bytes : List ℕ) → HasFedFront scans gray had bytes → AfterFrontEnd scans gray bytes answer p
 
-abbrev pub ReadsNextFront : Bool → PreviewState → DeskState → PictureStep → PreviewState → DeskState → Type 0
-ReadsNextFront gray had old answer p new =
-    (scans : ℕ) (s : DeskState) (bytes : List ℕ) → HasFedFront scans gray had bytes → OnlyReads s old → Consumes s.left old.left bytes → AfterNextFront scans gray s bytes answer p new
+-- ALL PIECES: what holds of a preview since it was in some state
+
+pub record IsFrontFed (from : FrontSink) (bytes : List ℕ) (now : FrontSink) : Type 0 where
+  pub fed : HasFedFront from.preview.scans from.gray now.preview bytes
+  pub limits : now.preview.reader.limits ≡ standard_limits
+  pub keeping : keeping_of now.preview.reader.file ≡ keeping_of from.preview.reader.file
+  pub gray : now.gray ≡ from.gray
+
+pub record HasFront (from : FrontSink) (early : Option ℕ) (rest bytes : List ℕ) (now : FrontSink) : Type 0 where
+  pub done : now.preview.reader.done ≡ true
+  pub limits : now.preview.reader.limits ≡ standard_limits
+  pub keeping : keeping_of now.preview.reader.file ≡ keeping_of from.preview.reader.file
+  pub holds : HoldsShown from.preview.scans from.gray now.preview.reader early bytes
+
+abbrev pub front_reader : ReaderKind FrontSink Meaning
+front_reader = record { fed = IsFrontFed; holds = HasFront; judging = λ from. front_judging from.preview.scans from.gray; more = λ now. ⊥ }

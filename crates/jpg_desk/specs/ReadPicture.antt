@@ -1,6 +1,5 @@
 -- WHAT READING A PICTURE does to a desk (T.81, B.2.1), by its result.
 use Rattle.std.specs.Prelude.{◌≡◌, ◌⊎◌, ℕ, ◌+◌, ◌<◌, ◌≤◌, Bool, true, false, List, [], ◌∷◌, ◌++◌, length, take, All, Option, Some, None, Result, Ok, Err}
-use Rattle.std.specs.Io.KnownBytes.{Consumes}
 use Rattle.jpg_base.specs.declared.names.Name.{Name}
 use Rattle.jpg_base.specs.declared.names.Put.TheVariants as put
 use Rattle.jpg_base.specs.Desk.{DeskState}
@@ -23,14 +22,14 @@ use Rattle.jpg_spec_image.specs.declared.image.ImageKind.{ImageKind}
 use Rattle.jpg_color.specs.Admits.{admitted_kind}
 use Rattle.jpg_color.specs.Shown.{factors_of}
 use Rattle.jpg_file.specs.Read.PictureRead.{MeansFor}
+use Rattle.jpg_file.specs.Read.File.{keeping_of}
 use Rattle.jpg_file.specs.Read.ReadFile.{HasRead, IsDone, IsEarlyEnd, IsRefusal, ReaderState}
+use Rattle.jpg_file.specs.Read.ReadRows.{IsPlain}
 use Rattle.jpg_file.specs.declared.read.picture.Picture.{Picture}
 use Rattle.jpg_desk.specs.Endings.{Asks}
 use Rattle.jpg_desk.specs.Judging.{IsAllRead, Judging, NoValueRead, NoValueTaken, ReadsFrom, TakesPieces, UpToPiece}
+use Rattle.jpg_desk.specs.Pump.{ReaderKind}
 use Rattle.jpg_desk.specs.Reading.{rest_of}
-use Rattle.jpg_desk.specs.Stays.{OnlyReads}
-use Rattle.jpg_desk.specs.declared.picture.PictureStep.{PictureStep}
-use Rattle.jpg_desk.specs.declared.picture.PictureStep.TheVariants as step
 
 -- WHAT IS ASKED FOR: the coefficients of a picture, or its image, in grayscale or not
 pub data Wanted : Type 0 where
@@ -159,18 +158,13 @@ abbrev pub HoldsPicture : Wanted → ReaderState → Option ℕ → List ℕ →
 HoldsPicture w r None bytes = HoldsFile w r bytes
 HoldsPicture w r (Some n) bytes = HoldsEarly w r n bytes
 
-abbrev pub EndsCompletePicture : Wanted → DeskState → Result (Option ℕ) Why → ReaderState → DeskState → Type 0
-EndsCompletePicture w old (Ok early) r new = (r.done ≡ true) × TakesPieces (HoldsPicture w r early) old new × IsAllRead early new
-EndsCompletePicture w old (Err ended) r new = EndsEarly w old ended new
-
 -- The result of a piece.
-abbrev pub AfterTakingPiece : Wanted → List ℕ → PictureStep → ReaderState → Type 0
-AfterTakingPiece w bytes step.More r = HasFed w r bytes
-AfterTakingPiece w bytes step.Whole r = HoldsFile w r bytes
-AfterTakingPiece w bytes (step.Early n) r = ⊥
-AfterTakingPiece w bytes (step.Ended (why.Refused f)) r = (rest : List ℕ) → IsRefusedRead w f rest bytes
-AfterTakingPiece w bytes (step.Ended why.NoMemory) r = IsShortRead w bytes
-AfterTakingPiece w bytes (step.Ended other) r = ⊥
+abbrev pub AfterTakingPiece : Wanted → List ℕ → Result Bool Why → ReaderState → Type 0
+AfterTakingPiece w bytes (Ok false) r = HasFed w r bytes
+AfterTakingPiece w bytes (Ok true) r = HoldsFile w r bytes
+AfterTakingPiece w bytes (Err (why.Refused f)) r = (rest : List ℕ) → IsRefusedRead w f rest bytes
+AfterTakingPiece w bytes (Err why.NoMemory) r = IsShortRead w bytes
+AfterTakingPiece w bytes (Err other) r = ⊥
 
 -- what bytes are refused with where the input ends
 abbrev pub AfterFileEnd : Wanted → List ℕ → Why → Type 0
@@ -178,46 +172,42 @@ AfterFileEnd w bytes (why.Refused f) = IsRefusedRead w f [] bytes
 AfterFileEnd w bytes other = ⊥
 
 -- the result of bytes where the input ends
-abbrev pub AfterPictureEnd : Wanted → List ℕ → PictureStep → ReaderState → Type 0
-AfterPictureEnd w bytes (step.Early n) r = HoldsEarly w r n bytes
-AfterPictureEnd w bytes (step.Ended ended) r = AfterFileEnd w bytes ended
-AfterPictureEnd w bytes other r = ⊥
+abbrev pub AfterPictureEnd : Wanted → List ℕ → Result (Option ℕ) Why → ReaderState → Type 0
+AfterPictureEnd w bytes (Ok (Some n)) r = HoldsEarly w r n bytes
+AfterPictureEnd w bytes (Ok None) r = ⊥
+AfterPictureEnd w bytes (Err ended) r = AfterFileEnd w bytes ended
 
--- From these bytes on: one more piece was read, or why the reading ends.
-abbrev pub AfterNextPiece : Wanted → DeskState → List ℕ → PictureStep → ReaderState → DeskState → Type 0
-AfterNextPiece w old bytes step.More r new = (piece : List ℕ) × (0 < length piece) × HasFed w r (bytes ++ piece) × Consumes old.left new.left (bytes ++ piece)
-AfterNextPiece w old bytes step.Whole r new = TakesPieces (HoldsFile w r) old new
-AfterNextPiece w old bytes (step.Early n) r new = TakesPieces (HoldsEarly w r n) old new × (rest_of new.left ≡ [])
-AfterNextPiece w old bytes (step.Ended ended) r new = EndsEarly w old ended new
-
--- If more of the input may be read, it is open, and the reader goes on.
-abbrev pub PictureGoesOn : PictureStep → ReaderState → DeskState → Type 0
-PictureGoesOn step.More r now = (now.input_open ≡ true) × (r.done ≡ false)
-PictureGoesOn step.Whole r now = r.done ≡ true
-PictureGoesOn (step.Early n) r now = r.done ≡ true
-PictureGoesOn (step.Ended ended) r now = Unit {0}
-
--- FOR ALL BYTES that were read before
-
-abbrev pub ReadsNext : Wanted → ReaderState → DeskState → PictureStep → ReaderState → DeskState → Type 0
-ReadsNext w had old answer r new =
-    (s : DeskState) (bytes : List ℕ) → HasFed w had bytes → OnlyReads s old → Consumes s.left old.left bytes → AfterNextPiece w s bytes answer r new
-
-abbrev pub ReadsPictureBytes : Wanted → ReaderState → List ℕ → PictureStep → ReaderState → Type 0
+-- for all bytes that were read before
+abbrev pub ReadsPictureBytes : Wanted → ReaderState → List ℕ → Result Bool Why → ReaderState → Type 0
 ReadsPictureBytes w had piece answer r = (bytes : List ℕ) → HasFed w had bytes → AfterTakingPiece w (bytes ++ piece) answer r
 
 -- whether the reader is done then
-abbrev pub StepDone : PictureStep → ReaderState → Type 0
-StepDone step.More r = r.done ≡ false
-StepDone step.Whole r = r.done ≡ true
-StepDone (step.Early n) r = r.done ≡ true
-StepDone (step.Ended ended) r = Unit {0}
+abbrev pub StepDone : Result Bool Why → ReaderState → Type 0
+StepDone (Ok whole) r = r.done ≡ whole
+StepDone (Err ended) r = Unit {0}
 
 -- whether it is where the input ended
-abbrev pub EndDone : PictureStep → ReaderState → Type 0
-EndDone (step.Early n) r = r.done ≡ true
-EndDone (step.Ended ended) r = Unit {0}
-EndDone other r = ⊥
+abbrev pub EndDone : Result (Option ℕ) Why → ReaderState → Type 0
+EndDone (Ok early) r = r.done ≡ true
+EndDone (Err ended) r = Unit {0}
+
+-- ALL PIECES: what holds of a reader of coefficients since it was in some state
+
+pub record IsPictureFed (from : ReaderState) (bytes : List ℕ) (r : ReaderState) : Type 0 where
+  pub fed : HasFed Coefficients r bytes
+  pub limits : r.limits ≡ standard_limits
+  pub keeping : keeping_of r.file ≡ keeping_of from.file
+  pub plain : IsPlain r
+
+pub record HasPicture (from : ReaderState) (early : Option ℕ) (rest bytes : List ℕ) (r : ReaderState) : Type 0 where
+  pub done : r.done ≡ true
+  pub limits : r.limits ≡ standard_limits
+  pub keeping : keeping_of r.file ≡ keeping_of from.file
+  pub plain : IsPlain r
+  pub holds : HoldsPicture Coefficients r early bytes
+
+abbrev pub picture_reader : ReaderKind ReaderState Meaning
+picture_reader = record { fed = IsPictureFed; holds = HasPicture; judging = λ from. picture_judging Coefficients; more = λ r. ⊥ }
 
 -- WHAT THE FIRST SCAN HEADER REVEALS: a fault at its end, if the picture can't be displayed
 
@@ -230,7 +220,7 @@ unwanted_in Coefficients head = None
 unwanted_in (Image gray) None = None
 unwanted_in (Image gray) (Some h) = fault_told (admitted_kind (h.0).precision h.1 gray (factors_of h.0)) h.2
 
--- a step, where nothing is unwanted
-abbrev pub step_unless : Option FaultAt → PictureStep → PictureStep
-step_unless (Some f) s = step.Ended (why.Refused f)
-step_unless None s = s
+-- the result of a piece, where nothing is unwanted
+abbrev pub step_unless : Option FaultAt → Result Bool Why → Result Bool Why
+step_unless (Some f) answer = Err (why.Refused f)
+step_unless None answer = answer

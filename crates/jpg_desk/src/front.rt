@@ -1,17 +1,16 @@
 //! The front of a picture's file, read piece by piece: its first scans (T.81, B.2.1, G.1.1.1).
-ghost use Rattle.std.specs.Prelude.{◌≡◌, ◌≤◌, [], length, true, false};
+ghost use Rattle.std.specs.Prelude.{◌≡◌, ◌≤◌, length, true, false};
 ghost use Rattle.jpg_spec.specs.Segments.{standard_limits};
-ghost use Rattle.jpg_spec.specs.declared.frame.Copying.TheVariants.{All};
 ghost use Rattle.jpg_file.specs.Read.File.{keeping_of};
 ghost use Rattle.jpg_file.specs.Read.ReadFile.{head_seen};
-ghost use Rattle.jpg_preview.specs.Viewing.{HasViewed};
 ghost use Rattle.jpg_desk.specs.Stays.{Keeps, OnlyReads};
-ghost use Rattle.jpg_desk.specs.ReadFront.{EndsFront, EndsInput, EndsWholeFront, FrontRead, ReadsNextFront, TakesFront};
-ghost use Rattle.jpg_desk.specs.ReadPicture.{EndDone, PictureGoesOn, StepDone, step_unless, unwanted_in, Image};
+ghost use Rattle.jpg_desk.specs.Pump.{of_reader};
+ghost use Rattle.jpg_desk.specs.ReadFront.{EndsFront, EndsInput, FrontRead, TakesFront, front_reader};
+ghost use Rattle.jpg_desk.specs.ReadPicture.{EndDone, StepDone, step_unless, unwanted_in, Image};
 
-use crate::file::read_within;
-use crate::picture::{PictureStep, not_shown, step_unless};
-use jpg_base::{Desk, Fed, Got, Name, Put, Stop};
+use crate::picture::{not_shown, step_unless};
+use crate::pieces::{PieceSink, pump, why_stopped};
+use jpg_base::{Desk, Fed, Name, Put, Stop};
 use jpg_file::{End, Picture};
 use jpg_preview::Preview;
 use jpg_spec::Limits;
@@ -53,61 +52,41 @@ fn take_front<D: Desk>(
     ensures kept { OnlyReads (D.state desk.old) (D.state desk.new) }
     ensures read { EndsFront scans gray (D.state desk.old) result (D.state desk.new) }
 {
-    let mut preview = Preview::new(alloc, Limits::standard(), scans);
-    match read_whole(&mut preview, gray, desk) {
-        Ok(early) => Ok((preview.take(), early)),
+    let mut front = FrontSink {
+        preview: Preview::new(alloc, Limits::standard(), scans),
+        gray,
+    };
+    match pump(desk, &mut front) {
+        Ok(early) => Ok((front.preview.take(), early)),
         Err(why) => Err(why),
     }
 }
 
-// Reads the open input until the front or the file is complete, or the file ends early, or returns why the reading
-// ends.
-fn read_whole<D: Desk>(preview: &mut Preview, gray: bool, desk: &mut D) -> Result<Option<u64>, Why>
-    requires open { (D.state desk.old).input_open ≡ true }
-    requires none { HasViewed [] preview.old }
-    requires limits { preview.old.reader.limits ≡ standard_limits }
-    ensures kept { OnlyReads (D.state desk.old) (D.state desk.new) }
-    ensures ended { EndsWholeFront preview.old.scans gray (D.state desk.old) result preview.new.reader (D.state desk.new) }
-    ensures limits { preview.new.reader.limits ≡ standard_limits }
-    ensures keeping { keeping_of preview.new.reader.file ≡ keeping_of preview.old.reader.file }
-{
-    let mut buffer = [0u8; 16384];
-    loop {
-        match next_piece(preview, gray, &mut buffer, desk) {
-            PictureStep::More => {}
-            PictureStep::Whole => return Ok(None),
-            PictureStep::Early(at) => return Ok(Some(at)),
-            PictureStep::Ended(why) => return Err(why),
-        }
-    }
+// A preview, and whether its image is asked for in grayscale.
+#[derive(Drop)]
+struct FrontSink {
+    preview: Preview,
+    gray: bool,
 }
 
-// Reads a piece.
-fn next_piece<D: Desk>(
-    preview: &mut Preview,
-    gray: bool,
-    buffer: &mut [u8; 16384],
-    desk: &mut D,
-) -> PictureStep
-    requires open { (D.state desk.old).input_open ≡ true }
-    requires more { preview.old.reader.done ≡ false }
-    requires limits { preview.old.reader.limits ≡ standard_limits }
-    ensures kept { OnlyReads (D.state desk.old) (D.state desk.new) }
-    ensures goes_on { PictureGoesOn result preview.new.reader (D.state desk.new) }
-    ensures after { ReadsNextFront gray preview.old (D.state desk.old) result preview.new (D.state desk.new) }
-    ensures limits { preview.new.reader.limits ≡ standard_limits }
-    ensures keeping { keeping_of preview.new.reader.file ≡ keeping_of preview.old.reader.file }
-    ensures scans { preview.new.scans ≡ preview.old.scans }
-{
-    match read_within(desk, preview.room(), buffer) {
-        Got::Failed => PictureStep::Ended(Why::ReadFault(Which::Input)),
-        Got::End => at_end(preview, gray),
-        Got::Bytes(count) => take_piece(preview, gray, &buffer[..count as usize]),
+impl<D: Desk> PieceSink<D> for FrontSink {
+    ghost kind = { of_reader front_reader };
+
+    fn most(&self) -> u64 {
+        Limits::standard().input
+    }
+
+    fn feed(&mut self, piece: &[u8], _desk: &mut D) -> Result<bool, Why> {
+        take_piece(&mut self.preview, self.gray, piece)
+    }
+
+    fn end(&mut self, _desk: &mut D) -> Result<Option<u64>, Why> {
+        at_end(&mut self.preview, self.gray)
     }
 }
 
 // Takes a piece. A picture that can't be displayed comes before a fault of the same piece, which is never earlier.
-fn take_piece(preview: &mut Preview, gray: bool, piece: &[u8]) -> PictureStep
+fn take_piece(preview: &mut Preview, gray: bool, piece: &[u8]) -> Result<bool, Why>
     requires more { preview.old.reader.done ≡ false }
     requires limits { preview.old.reader.limits ≡ standard_limits }
     requires short { length piece.now ≤ 65536 }
@@ -118,24 +97,22 @@ fn take_piece(preview: &mut Preview, gray: bool, piece: &[u8]) -> PictureStep
     ensures scans { preview.new.scans ≡ preview.old.scans }
 {
     match preview.feed(piece) {
-        Ok(Fed::More) => if_shown(preview, gray, PictureStep::More),
-        Ok(Fed::Done { .. }) => if_shown(preview, gray, PictureStep::Whole),
-        Err(Stop::Fault(fault)) => {
-            if_shown(preview, gray, PictureStep::Ended(Why::Refused(fault)))
-        }
-        Err(Stop::NoMemory) => PictureStep::Ended(Why::NoMemory),
+        Ok(Fed::More) => if_shown(preview, gray, Ok(false)),
+        Ok(Fed::Done { .. }) => if_shown(preview, gray, Ok(true)),
+        Err(Stop::Fault(fault)) => { if_shown(preview, gray, Err(Why::Refused(fault))) }
+        Err(Stop::NoMemory) => Err(Why::NoMemory),
     }
 }
 
-// A step, unless the first scan header reveals that the picture can't be displayed.
-fn if_shown(preview: &Preview, gray: bool, step: PictureStep) -> PictureStep
-    ensures { result ≡ step_unless (unwanted_in (Image gray) (head_seen preview.now.reader)) step }
+// The result of a piece, unless the first scan header reveals that the picture can't be displayed.
+fn if_shown(preview: &Preview, gray: bool, answer: Result<bool, Why>) -> Result<bool, Why>
+    ensures { result ≡ step_unless (unwanted_in (Image gray) (head_seen preview.now.reader)) answer }
 {
-    step_unless(not_shown(preview.head(), gray), step)
+    step_unless(not_shown(preview.head(), gray), answer)
 }
 
-// The result for an input that ends here, whose picture can be displayed.
-fn at_end(preview: &mut Preview, gray: bool) -> PictureStep
+// The input ends here. Returns after how many bytes, if there is a picture, which can be displayed.
+fn at_end(preview: &mut Preview, gray: bool) -> Result<Option<u64>, Why>
     requires more { preview.old.reader.done ≡ false }
     requires limits { preview.old.reader.limits ≡ standard_limits }
     ensures ended { EndsInput gray preview.old result preview.new }
@@ -145,8 +122,7 @@ fn at_end(preview: &mut Preview, gray: bool) -> PictureStep
     ensures scans { preview.new.scans ≡ preview.old.scans }
 {
     match preview.end() {
-        End::Early(at) => PictureStep::Early(at),
-        End::Stop(Stop::Fault(fault)) => PictureStep::Ended(Why::Refused(fault)),
-        End::Stop(Stop::NoMemory) => PictureStep::Ended(Why::NoMemory),
+        End::Early(at) => Ok(Some(at)),
+        End::Stop(stop) => Err(why_stopped(stop)),
     }
 }

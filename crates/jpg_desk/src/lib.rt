@@ -9,6 +9,7 @@ mod image;
 mod image_source;
 mod moved;
 mod picture;
+mod pieces;
 mod script;
 mod tables;
 
@@ -20,5 +21,6 @@ pub use image::next_piece;
 pub use image_source::{ImageSource, ImageStep};
 pub use moved::{Wrote, write_moved, write_view};
 pub use picture::{done_as, not_shown, read_picture};
+pub use pieces::{PieceSink, pump, pump_on, why_stopped};
 pub use script::take_scans;
 pub use tables::{Tables, take_tables};

@@ -31,10 +31,9 @@ use Rattle.jpg_desk.specs.ReadImage.{IsFaultRead, IsImageRead, image_judging}
 use Rattle.jpg_desk.specs.Reading.{rest_of}
 use Rattle.jpg_cli.specs.Tools.SamplesFed.{AfterNextSamples, IsAllGiven, IsGiven, SoFarGiven, TakesSome}
 use Rattle.jpg_desk.specs.Stays.{OnlyReads}
-use Rattle.jpg_desk.proofs.PiecesRead.{left_still}
+use Rattle.jpg_desk.proofs.PiecesRead.{left_still, reads_then}
 use Rattle.jpg_desk.proofs.ImageTaken.{image_unread, open_end, open_more, open_too_long, open_within}
 use Rattle.jpg_desk.proofs.Input.{none_left}
-use Rattle.jpg_desk.proofs.PictureTaken.{reads_then}
 
 -- READING is only that
 pub only_reads : {s0 s1 : DeskState} {answer : Got} {buf : List ℕ} → Reads s0 answer buf s1 → OnlyReads s0 s1

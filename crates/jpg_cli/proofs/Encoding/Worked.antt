@@ -51,7 +51,7 @@ use Rattle.jpg_cli.proofs.Outcomes.Due.{one_file}
 use Rattle.jpg_desk.proofs.Judged.{picture_judged}
 use Rattle.jpg_desk.proofs.Input.{some_inj}
 use Rattle.jpg_cli.proofs.Outcomes.Outcome.{HasValueRead, converted_made, none_early}
-use Rattle.jpg_desk.proofs.PictureTaken.{reads_none}
+use Rattle.jpg_desk.proofs.PiecesRead.{reads_none}
 
 -- THE ONLY OUTPUT of a desk without outputs
 

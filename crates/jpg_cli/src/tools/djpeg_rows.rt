@@ -201,7 +201,7 @@ fn next_rows<D: Desk>(
 }
 
 // States, for proofs, that a piece has bytes. It does nothing.
-#[tactic(auto, using(jpg_desk::proofs::PictureBytes::more_small))]
+#[tactic(auto, using(jpg_desk::proofs::PiecesRead::more_small))]
 fn are_bytes(piece: &[u8])
     ensures { All (λ b. b < 256) piece.now }
 {

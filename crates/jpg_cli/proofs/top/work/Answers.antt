@@ -9,7 +9,7 @@ use Rattle.jpg_words.specs.declared.files.WordsStop.{WordsStop}
 use Rattle.jpg_words.specs.declared.tools.Asked.{Asked}
 use Rattle.jpg_cli.proofs.Comments.InsertedThen.{asked_inserted}
 use Rattle.jpg_cli.proofs.ByRow.ImageShown.{asked_shown}
-use Rattle.jpg_desk.proofs.PictureTaken.{reads_none}
+use Rattle.jpg_desk.proofs.PiecesRead.{reads_none}
 use Rattle.jpg_cli.proofs.Outcomes.Running.{names_wanting, worked_missing}
 use Rattle.jpg_cli.proofs.top.work.Goals as goal
 

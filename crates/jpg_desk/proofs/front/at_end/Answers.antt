@@ -1,20 +1,16 @@
-use Rattle.std.proofs.Common.{◌∙◌, subst}
-use Rattle.jpg_base.specs.declared.stop.Stop.{Stop}
+use Rattle.std.proofs.Common.{◌∙◌, Err, subst, sym}
 use Rattle.jpg_spec.specs.declared.frame.Limits.{Limits}
 use Rattle.jpg_file.specs.Read.ReadFile.{StopsAt}
-use Rattle.jpg_desk.proofs.FrontBytes.{early_front, refused_front}
+use Rattle.jpg_spec_words.specs.declared.answers.Why.{Why}
+use Rattle.jpg_desk.specs.ReadFront.{AfterFrontEnd}
+use Rattle.jpg_desk.proofs.FrontBytes.{early_front, stop_front}
 use Rattle.jpg_desk.proofs.front.at_end.Goals as goal
 
 pub returns-in-Early-clause-ended : goal.returns-in-Early-clause-ended
 returns-in-Early-clause-ended c = λ scans bytes h.
     early_front scans c.args.gray bytes c.args.preview.now c.end.new.self c.in-Early.at c.requires.limits (c.in-Early.ensures.limits ∙ c.requires.limits) h (c.in-Early.ensures.answered bytes h.viewed)
 
-pub returns-in-Stop-Fault-clause-ended : goal.returns-in-Stop-Fault-clause-ended
-returns-in-Stop-Fault-clause-ended c = λ scans bytes h.
-    let old = c.args.preview.now in
-    let there = subst (λ (l : Limits). StopsAt l bytes c.in-Stop-Fault.field-0) c.in-Stop-Fault.ensures.limits (c.in-Stop-Fault.ensures.answered bytes h.viewed) in
-    refused_front scans c.args.gray bytes old c.in-Stop-Fault.fault c.requires.limits h (subst (λ (s : Stop). StopsAt old.reader.limits bytes s) c.in-Stop-Fault.field-0-is there)
-
-pub returns-in-Stop-NoMemory-clause-ended : goal.returns-in-Stop-NoMemory-clause-ended
-returns-in-Stop-NoMemory-clause-ended c = λ scans bytes h.
-    subst (λ (s : Stop). StopsAt c.end.new.self.reader.limits bytes s) c.in-Stop-NoMemory.field-0-is (c.in-Stop-NoMemory.ensures.answered bytes h.viewed)
+pub returns-in-Stop-clause-ended : goal.returns-in-Stop-clause-ended
+returns-in-Stop-clause-ended c = λ scans bytes h.
+    let there = subst (λ (l : Limits). StopsAt l bytes c.in-Stop.stop) c.in-Stop.ensures.limits (c.in-Stop.ensures.answered bytes h.viewed) in
+    subst (λ (w : Why). AfterFrontEnd scans c.args.gray bytes (Err w) c.end.new.self) (sym c.why_stopped.ensures) (stop_front scans c.args.gray bytes c.args.preview.now c.in-Stop.stop c.end.new.self c.requires.limits h there)

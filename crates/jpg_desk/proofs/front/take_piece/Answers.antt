@@ -6,7 +6,7 @@ use Rattle.jpg_preview.specs.Viewing.{AfterView}
 use Rattle.jpg_desk.specs.ReadFront.{AfterTakingFront}
 use Rattle.jpg_desk.specs.ReadPicture.{unwanted_in, Image}
 use Rattle.jpg_desk.proofs.FrontBytes.{fault_front, more_front, short_front, whole_front}
-use Rattle.jpg_desk.proofs.PictureBytes.{more_small}
+use Rattle.jpg_desk.proofs.PiecesRead.{more_small}
 use Rattle.jpg_desk.proofs.front.take_piece.Goals as goal
 
 pub returns-in-Ok-More-clause-taken : goal.returns-in-Ok-More-clause-taken

@@ -3,7 +3,7 @@ use Rattle.jpg_desk.specs.ImageSource.{AfterTakingImagePiece}
 use Rattle.jpg_desk.specs.declared.image_source.ImageSource.TheVariants as source
 use Rattle.jpg_desk.specs.declared.image_source.ImageStep.{ImageStep}
 use Rattle.jpg_desk.proofs.ImageAnswers.{targa_done, targa_fed}
-use Rattle.jpg_desk.proofs.PictureBytes.{more_small}
+use Rattle.jpg_desk.proofs.PiecesRead.{more_small}
 use Rattle.jpg_desk.proofs.image_source.feed_targa.Goals as goal
 
 pub returns-clause-taken : goal.returns-clause-taken

@@ -1,6 +1,6 @@
 use Rattle.std.proofs.Common.{rules, ◌≡◌, ◌<◌, arith}
 use Rattle.jpg_color.specs.ImageEncoder.{encoder_left}
-use Rattle.jpg_desk.proofs.PictureTaken.{reads_then}
+use Rattle.jpg_desk.proofs.PiecesRead.{reads_then}
 use Rattle.jpg_cli.proofs.Encoding.SamplesFed.{given_all, given_yet}
 use Rattle.jpg_cli.proofs.tools.cjpeg_image.feed_rest.Goals as goal
 

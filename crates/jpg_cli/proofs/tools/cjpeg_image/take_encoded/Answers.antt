@@ -7,7 +7,7 @@ use Rattle.jpg_desk.specs.ImageSource.{source_taken}
 use Rattle.jpg_cli.specs.Tools.EncodingAsked.{encoding_by}
 use Rattle.jpg_cli.proofs.Encoding.EncodedRead.{whole_encoded}
 use Rattle.jpg_desk.proofs.ImageFed.{fed_taken}
-use Rattle.jpg_desk.proofs.PictureTaken.{reads_then}
+use Rattle.jpg_desk.proofs.PiecesRead.{reads_then}
 use Rattle.jpg_cli.proofs.tools.cjpeg_image.take_encoded.Goals as goal
 
 pub one_scan-requires : goal.one_scan-requires

@@ -1,7 +1,6 @@
 use Rattle.std.proofs.Common.{rules, [], ◌++◌}
-use Rattle.jpg_desk.proofs.PiecesRead.{none_read}
+use Rattle.jpg_desk.proofs.PiecesRead.{none_read, reads_none, reads_then}
 use Rattle.jpg_cli.proofs.Pieces.FirstSteps.{fed_nothing}
-use Rattle.jpg_desk.proofs.PictureTaken.{reads_none, reads_then}
 use Rattle.jpg_cli.proofs.tools.djpeg.read_first.Goals as goal
 
 pub loop-step-init : goal.loop-step-init

@@ -4,7 +4,7 @@ use Rattle.jpg_file.specs.Read.ReadRows.{picture_read}
 use Rattle.jpg_cli.specs.Tools.ShowingRows.{AfterFirst, StaysFirst}
 use Rattle.jpg_cli.specs.declared.tools.djpeg.FirstStep.{FirstStep}
 use Rattle.jpg_cli.proofs.Pieces.FirstRead.{begun_there, by_answer, first_unwanted, head_in, none_begun, read_plainly, rows_begin, stays_by}
-use Rattle.jpg_desk.proofs.PictureBytes.{more_small}
+use Rattle.jpg_desk.proofs.PiecesRead.{more_small}
 use Rattle.jpg_cli.proofs.tools.djpeg.take_first.Goals as goal
 
 pub returns-in-Some-clause-taken : goal.returns-in-Some-clause-taken

@@ -1,9 +1,8 @@
 use Rattle.std.proofs.Common.{sym, subst}
 use Rattle.jpg_spec_words.specs.declared.answers.Why.{Why}
 use Rattle.jpg_cli.specs.Tools.Showing.{Shown, showing_view}
-use Rattle.jpg_desk.proofs.PiecesRead.{works_then}
+use Rattle.jpg_desk.proofs.PiecesRead.{reads_none, works_then}
 use Rattle.jpg_cli.proofs.ByRow.EarlyEnding.{early_finished, ending_due, ending_stopped, ending_whole, zeros_lend, zeros_still, zeros_then}
-use Rattle.jpg_desk.proofs.PictureTaken.{reads_none}
 use Rattle.jpg_cli.proofs.ByRow.RowsDesk.{writes_work}
 use Rattle.jpg_cli.proofs.ByRow.RowsPushed.{less_rows}
 use Rattle.jpg_cli.proofs.tools.djpeg_rows.finish_zeros.Goals as goal

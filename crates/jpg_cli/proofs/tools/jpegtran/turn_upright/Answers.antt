@@ -9,7 +9,7 @@ use Rattle.jpg_desk.specs.Writing.{WritesOwn, in_area}
 use Rattle.jpg_cli.specs.Tools.Turned.{Turned, turning_conversion, turning_view}
 use Rattle.jpg_cli.proofs.Outcomes.Outcome.{converted_unread}
 use Rattle.jpg_cli.proofs.Outcomes.Running.{turned_made}
-use Rattle.jpg_cli.proofs.Outcomes.Upright.{upright_made}
+use Rattle.jpg_desk.proofs.Upright.{upright_made}
 use Rattle.jpg_cli.proofs.tools.jpegtran.turn_upright.Goals as goal
 
 pub returns-in-Err-clause-turned : goal.returns-in-Err-clause-turned

@@ -1,5 +1,5 @@
 use Rattle.jpg_file.specs.Read.PictureRead.{picture_parts}
-use Rattle.jpg_cli.proofs.Outcomes.Upright.{parts_marked}
+use Rattle.jpg_desk.proofs.Upright.{parts_marked}
 use Rattle.jpg_cli.proofs.tools.jpegtran.upright_of.Goals as goal
 
 pub invariant_of-result : goal.invariant_of-result

@@ -1,7 +1,7 @@
 use Rattle.std.proofs.Common.{Bool, [], ◌++◌, ◌∙◌, sym, subst}
 use Rattle.jpg_cli.specs.Tools.InsertComment.{AfterFed}
 use Rattle.jpg_cli.proofs.Comments.CommentInserted.{ended_before, fed_most, more_begun, reading_more}
-use Rattle.jpg_desk.proofs.PictureTaken.{reads_then}
+use Rattle.jpg_desk.proofs.PiecesRead.{reads_then}
 use Rattle.jpg_cli.proofs.tools.wrjpgcom.begin.Goals as goal
 
 pub loop-due-preserved : goal.loop-due-preserved
