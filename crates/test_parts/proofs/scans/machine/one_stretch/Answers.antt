@@ -9,7 +9,7 @@ pub bytes-got-requires-clause-open : goal.bytes-got-requires-clause-open
 bytes-got-requires-clause-open c = (all_blocks, c.args.coefs.now, (refl, refl), c.requires.open)
 
 pub bytes-got-requires-clause-inside : goal.bytes-got-requires-clause-inside
-bytes-got-requires-clause-inside c = all_inside c.args.machine.now c.args.coefs.now _ c.requires.open
+bytes-got-requires-clause-inside c = all_inside c.args.machine.now c.args.coefs.now 18446744073709551615 c.requires.open
 
 pub returns-clause-goes_on : goal.returns-clause-goes_on
 returns-clause-goes_on c =
