@@ -81,12 +81,12 @@ waits_for b s e o = subst (λ g. DoesWait g s) e o.waits
 module _ (b : BandScan) (ac : List Code) (left : ℕ) where
   -- ONE AFTER ANOTHER
 
-  through_then : (old : InWork) (xs : List Bool) (mid : InWork) (ys : List Bool) (new : InWork) → Through b ac left old xs mid → Through b ac left mid ys new
+  pub through_then : (old : InWork) (xs : List Bool) (mid : InWork) (ys : List Bool) (new : InWork) → Through b ac left old xs mid → Through b ac left mid ys new
       → Through b ac left old (xs ++ ys) new
   through_then old [] mid ys new x y = subst (λ (s : InWork). Through b ac left s ys new) x y
   through_then old (bit ∷ xs) mid ys new x y = (x.0, x.1, through_then x.0 xs mid ys new x.2 y)
 
-  through_outside : (old : InWork) (bits : List Bool) (new : InWork) → Through b ac left old bits new → KeepsOtherValues old new
+  pub through_outside : (old : InWork) (bits : List Bool) (new : InWork) → Through b ac left old bits new → KeepsOtherValues old new
   through_outside old [] new x = (ap (λ (s : InWork). s.front) x, ap (λ (s : InWork). s.behind) x)
   through_outside old (bit ∷ bits) new x =
       let more = through_outside x.0 bits new x.2 in

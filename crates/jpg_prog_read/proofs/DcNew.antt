@@ -1,5 +1,5 @@
 -- The machines of DC scans before their first unit: their numbers, and the tables of their components.
-use Rattle.std.proofs.Common.{◌≡◌, ℕ, ◌+◌, ◌^◌, ◌<◌, ◌≤◌, Bool, true, false, cond, List, ◌∷◌, length, map, set, get_or, refl, sym, ap, ◌∙◌, subst, arith, ⊎_elim, ◌&&◌}
+use Rattle.std.proofs.Common.{◌≡◌, ℕ, ◌+◌, ◌^◌, ◌<◌, ◌≤◌, Bool, true, false, cond, List, length, map, set, get_or, refl, sym, ap, ◌∙◌, subst, arith, ⊎_elim, ◌&&◌}
 use Rattle.std.specs.Prelude.{slice_index_or, nat_lt, Option, Some}
 use Rattle.std.specs.Option.{option_map}
 use Rattle.std.specs.List.{All}

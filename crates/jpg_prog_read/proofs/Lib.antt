@@ -10,6 +10,7 @@ pub mod DcNew
 pub mod DcPlaces
 pub mod DcRoom
 pub mod DcUnits
+pub mod Corrected
 pub mod Due
 pub mod Known
 pub mod Extended
@@ -18,6 +19,7 @@ pub mod Leaf
 pub mod Marked
 pub mod Multiples
 pub mod NewAcReaders
+pub mod NewValues
 pub mod Passing
 pub mod Precisions
 pub mod Reading

@@ -1,5 +1,5 @@
 -- What the bounds of both precisions have in common, as this crate's numbers need it.
-use Rattle.std.proofs.Common.{◌≡◌, ℕ, ◌-◌, ◌^◌, ◌≤◌, refl, arith, ℤ, pos, negsuc, nat_abs, lit≤}
+use Rattle.std.proofs.Common.{◌≡◌, ℕ, ◌-◌, ◌^◌, ◌≤◌, refl, arith, pos, negsuc, nat_abs, lit≤}
 use Rattle.std.specs.Prelude.{◌≤ℤ◌}
 use Rattle.std.proofs.lemmas.Int.{ints}
 use Rattle.jpg_spec.specs.Geometry.{bounds_8, bounds_12, bounds_of}

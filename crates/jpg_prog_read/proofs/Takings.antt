@@ -19,7 +19,7 @@ pub record HurriesTo {M : Type 0} (k : Kind M) (m : M) (now : Picture) (store : 
   pub answered : Step k mid now bit answer new after
 
 -- the first bit of a store, and the remaining ones
-first_bit : (store : List Bool) (bit : Bool) (rest : List Bool) → 1 ≤ length store → bit ≡ slice_index_or store 0 false → rest ≡ drop 1 store
+pub first_bit : (store : List Bool) (bit : Bool) (rest : List Bool) → 1 ≤ length store → bit ≡ slice_index_or store 0 false → rest ≡ drop 1 store
     → store ≡ bit ∷ rest
 first_bit [] bit rest some b r = absurd (omega (arith, some))
 first_bit (x ∷ store) bit rest some b r = ap (λ (y : Bool). y ∷ store) (sym b) ∙ ap (λ (l : List Bool). bit ∷ l) (sym r)

@@ -41,7 +41,7 @@ zeros_passed at bits s (suc n) some next run ok f g =
     subst (λ (m : InWork). RepresentsBandUnit at bits m) (sym (one_less s n run)) (zeros_passed at bits (with_zero s) n short z.1 (omega (arith, run)) ok here (passing_more s (with_zero s) refl g))
 
 -- what else doesn't change
-fits_after : (b : BandScan) (n : ℕ) (rest : List ℤ) → AreRefinable b rest → AreRefinable b (drop n rest)
+pub fits_after : (b : BandScan) (n : ℕ) (rest : List ℤ) → AreRefinable b rest → AreRefinable b (drop n rest)
 fits_after b zero rest f = f
 fits_after b (suc n) [] f = f
 fits_after b (suc n) (v ∷ rest) f = fits_after b n rest (All-tail (IsRefinable b) v rest f)

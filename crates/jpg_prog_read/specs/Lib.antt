@@ -8,12 +8,14 @@ pub mod DcPlaces
 pub mod DcRefinement
 pub mod RepresentsDcUnit
 pub mod DcWork
+pub mod Corrected
 pub mod Due
 pub mod ExtraWork
 pub mod InWork
 pub mod Judge
 pub mod Known
 pub mod NewAcReader
+pub mod NewValues
 pub mod Scaled
 pub mod Stands
 pub mod ReaderSteps

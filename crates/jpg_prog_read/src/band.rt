@@ -11,7 +11,12 @@ ghost use Rattle.jpg_prog_read.specs.ExtraWork.{IsWanting};
 ghost use Rattle.jpg_prog_read.specs.declared.scan.BandScan.{BandScan};
 ghost use Rattle.jpg_prog_read.specs.Stands.{UnitPlace, RepresentsBandUnit, Answered, AnswersStep, AnswersBit, AnswersBand, PassesEnds, BeginsQuietly, IsNoFault};
 ghost use Rattle.jpg_prog_read.specs.BandBits.{AnswersSymbol, TakesBand};
+ghost use Rattle.jpg_prog_read.specs.NewValues.{with_new_value};
 ghost use Rattle.jpg_prog_read.specs.ZerosPassed.{ZerosComeNext, after_zeros};
+
+mod correcting;
+mod new_value;
+mod taking;
 
 use crate::codes::Codes;
 use crate::extra::{Extra, ExtraBits};
@@ -259,6 +264,37 @@ impl BandReader {
         ensures { self.new ≡ record (self.old) { stage = Stage.Code } }
     {
         self.stage = Stage::Code;
+    }
+
+    // Whether no bits of a code were taken, and no value from here to the end of the block isn't 0.
+    #[inline(always)]
+    fn is_fresh(&self) -> bool
+        ensures none { result ≡ true → self.now.rest ≡ zeros (length self.now.rest) }
+        ensures quiet { result ≡ true → self.now.walked ≡ [] }
+    {
+        !self.begun && self.olds == 0
+    }
+
+    // How many values are left.
+    #[inline(always)]
+    fn values_left(&self) -> u8
+        ensures count { result ≡ length self.now.rest }
+        ensures few { result ≤ 63 }
+    {
+        self.end - self.at
+    }
+
+    // Puts a value after a run of zeros.
+    #[inline(always)]
+    fn put_after(&mut self, run: u8, value: i16)
+        requires room { run < length self.old.rest }
+        requires zeros { take run self.old.rest ≡ zeros run }
+        ensures { self.new ≡ with_new_value self.old run value }
+    {
+        let at = self.at + run;
+        self.at = at + 1;
+        self.olds = self.olds >> run >> 1;
+        self.values.set(at, value);
     }
 
     // Counts one band of the end-of-band run.
@@ -538,196 +574,6 @@ impl BandReader {
             Stage::Value => self.correction_bit(scan, bit),
             Stage::Long => self.correction_bit(scan, bit),
             Stage::Ends => self.correction_bit(scan, bit),
-        }
-    }
-
-    // Takes one bit from the start of a store.
-    #[cold]
-    #[inline(never)]
-    fn take_bit(
-        &mut self,
-        scan: &BandScan,
-        codes: &Codes,
-        left: u64,
-        store: &mut BitStore,
-    ) -> BandStep
-        requires sane { IsSaneBand scan.now }
-        requires open { IsOpenBand scan.now self.old }
-        requires some { 1 ≤ length store.old }
-        ensures { TakesBand scan.now codes.now left self.old store.old result self.new store.new }
-    {
-        let bit = store.bit(0);
-        store.skip(1);
-        self.bit(scan, codes, left, bit)
-    }
-
-    // Takes one bit from the start of a store, which goes there and back as a copy, so that it can stay in registers.
-    #[inline(always)]
-    fn take_one(
-        &mut self,
-        scan: &BandScan,
-        codes: &Codes,
-        left: u64,
-        store: &mut BitStore,
-    ) -> BandStep
-        requires sane { IsSaneBand scan.now }
-        requires open { IsOpenBand scan.now self.old }
-        requires some { 1 ≤ length store.old }
-        ensures { TakesBand scan.now codes.now left self.old store.old result self.new store.new }
-    {
-        let mut here = store.copy();
-        let step = self.take_bit(scan, codes, left, &mut here);
-        *store = here;
-        step
-    }
-
-    // Takes a complete code if the bits begin with one and none is begun, or one bit.
-    #[inline(always)]
-    fn take_code(
-        &mut self,
-        scan: &BandScan,
-        codes: &Codes,
-        left: u64,
-        store: &mut BitStore,
-    ) -> BandStep
-        requires sane { IsSaneBand scan.now }
-        requires open { IsOpenBand scan.now self.old }
-        requires stage { self.old.stage ≡ Stage.Code }
-        requires some { 1 ≤ length store.old }
-        ensures { TakesBand scan.now codes.now left self.old store.old result self.new store.new }
-    {
-        if self.begun {
-            return self.take_one(scan, codes, left, store);
-        }
-        match codes.spot(store) {
-            Spotted::Symbol { length, symbol } => {
-                store.skip_few(length);
-                self.symbol(scan, symbol)
-            }
-            Spotted::Part => self.take_one(scan, codes, left, store),
-            Spotted::NoCode { .. } => self.take_one(scan, codes, left, store),
-        }
-    }
-
-    // Takes all bits of a number if they are there and none was taken, or one bit.
-    #[inline(always)]
-    fn take_number(
-        &mut self,
-        scan: &BandScan,
-        codes: &Codes,
-        left: u64,
-        store: &mut BitStore,
-    ) -> BandStep
-        requires sane { IsSaneBand scan.now }
-        requires open { IsOpenBand scan.now self.old }
-        requires stage { self.old.stage ≡ Stage.Number }
-        requires some { 1 ≤ length store.old }
-        ensures { TakesBand scan.now codes.now left self.old store.old result self.new store.new }
-    {
-        let size = self.extra.size();
-        if self.extra.is_new() && size <= store.len() {
-            self.extra.fill(size, store.peek(size));
-            store.skip_few(size);
-            return self.number(scan);
-        }
-        self.take_one(scan, codes, left, store)
-    }
-
-    // Takes a complete element, as far as its bits are there, or one bit.
-    #[inline(always)]
-    fn take_element(
-        &mut self,
-        scan: &BandScan,
-        codes: &Codes,
-        left: u64,
-        store: &mut BitStore,
-    ) -> BandStep
-        requires sane { IsSaneBand scan.now }
-        requires open { IsOpenBand scan.now self.old }
-        requires stage { self.old.stage ≡ Stage.Code }
-        requires some { 1 ≤ length store.old }
-        ensures { TakesBand scan.now codes.now left self.old store.old result self.new store.new }
-    {
-        match self.take_code(scan, codes, left, store) {
-            BandStep::More => {
-                if store.len() == 0 {
-                    return BandStep::More;
-                }
-                match self.stage() {
-                    Stage::Number => self.take_number(scan, codes, left, store),
-                    _ => BandStep::More,
-                }
-            }
-            BandStep::Done => BandStep::Done,
-            BandStep::Fault(fault) => BandStep::Fault(fault),
-        }
-    }
-
-    // Takes the correction of an old value from the start of a store.
-    #[inline(always)]
-    fn take_correction(&mut self, scan: &BandScan, store: &mut BitStore) -> BandStep
-        requires sane { IsSaneBand scan.now }
-        requires open { IsOpenBand scan.now self.old }
-        requires passing { IsPassing self.old.stage self.old }
-        requires old { is_zero (slice_index_or self.old.rest 0 (pos 0)) ≡ false }
-        requires some { 1 ≤ length store.old }
-        ensures { (ac : List Code) (left : ℕ) → TakesBand scan.now ac left self.old store.old result self.new store.new }
-    {
-        let bit = store.bit(0);
-        store.skip(1);
-        self.correction_bit(scan, bit)
-    }
-
-    // Takes some bits from the start of a store.
-    #[inline(always)]
-    fn take_some(
-        &mut self,
-        scan: &BandScan,
-        codes: &Codes,
-        left: u64,
-        store: &mut BitStore,
-    ) -> BandStep
-        requires sane { IsSaneBand scan.now }
-        requires open { IsOpenBand scan.now self.old }
-        requires some { 1 ≤ length store.old }
-        ensures { TakesBand scan.now codes.now left self.old store.old result self.new store.new }
-    {
-        match self.stage() {
-            Stage::Code => self.take_element(scan, codes, left, store),
-            Stage::Number => self.take_number(scan, codes, left, store),
-            Stage::Count => self.take_one(scan, codes, left, store),
-            Stage::Value => self.take_correction(scan, store),
-            Stage::Long => self.take_correction(scan, store),
-            Stage::Ends => self.take_correction(scan, store),
-        }
-    }
-
-    /// Takes bits from the start of a store, up to the one that completes the unit or reveals a fault, or all of them.
-    /// `left` is how many units are left, including this one.
-    #[inline(always)]
-    pub fn take(
-        &mut self,
-        scan: &BandScan,
-        codes: &Codes,
-        left: u64,
-        store: &mut BitStore,
-    ) -> BandStep
-        requires sane { IsSaneBand scan.now }
-        requires open { IsOpenBand scan.now self.old }
-        requires some { 1 ≤ length store.old }
-        ensures takes { TakesBand scan.now codes.now left self.old store.old result self.new store.new }
-        ensures all { result ≡ BandStep.More → store.new ≡ [] }
-    {
-        loop {
-            match self.take_some(scan, codes, left, store) {
-                BandStep::More => {
-                    if store.len() == 0 {
-                        return BandStep::More;
-                    }
-                }
-                BandStep::Done => return BandStep::Done,
-                BandStep::Fault(fault) => return BandStep::Fault(fault),
-            }
         }
     }
 

@@ -37,6 +37,17 @@ fn lowered(number: u32, less: u32) -> i16
     number as i16 - less as i16
 }
 
+/// The number of this category that these extra bits, read as a number, encode (F.2.2.1, Figure F.12).
+#[inline(always)]
+pub fn number_of(size: u8, extra: u32) -> i16
+    requires size { size ≤ 15 }
+    requires fits { extra < 2 ^ size }
+    ensures category { category result ≡ size }
+    ensures extra { extra_bits result ≡ bits_of size extra }
+{
+    lowered(extra, excess(size, extra))
+}
+
 /// The extra bits of a number of some category, 0 to 15, that were taken so far.
 #[derive(Drop)]
 pub struct ExtraBits {
@@ -131,7 +142,7 @@ impl ExtraBits {
         ensures category { category result ≡ self.now.size }
         ensures extra { extra_bits result ≡ self.now.bits }
     {
-        lowered(self.number, excess(self.size, self.number))
+        number_of(self.size, self.number)
     }
 
     /// How many bands end after the code of EOBn if these are its n bits (T.81, G.1.2.2, Table G.1).

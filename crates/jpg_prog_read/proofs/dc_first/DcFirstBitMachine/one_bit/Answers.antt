@@ -1,10 +1,8 @@
-use Rattle.std.proofs.Common.{◌≡◌, ◌-◌, refl, subst, sym, ap, ◌∙◌, arith, ℤ, rules}
+use Rattle.std.proofs.Common.{◌≡◌, ◌-◌, refl, ap, ◌∙◌, arith, ℤ, rules}
 use Rattle.std.specs.Prelude.{Ok}
 use mir.Syntax.{w16}
 use mir.Val.{to_z, of_z}
 use Rattle.std.proofs.lemmas.Int.{to_z-of_z}
-use Rattle.jpg_coefs.specs.Machine.{Step}
-use Rattle.jpg_coefs.specs.Picture.{Picture}
 use Rattle.jpg_coefs.specs.declared.machine.UnitStep.TheVariants as step
 use Rattle.jpg_prog_read.specs.declared.dc_first.DcFirst.{DcFirst}
 use Rattle.jpg_prog_read.specs.DcFirstPass.{first_pass, behind_unit}

@@ -2,12 +2,10 @@ use Rattle.std.proofs.Common.{◌≡◌, ◌-◌, subst, sym, ap, ◌∙◌, ari
 use Rattle.std.specs.Prelude.{Ok}
 use mir.Syntax.{w16}
 use Rattle.std.proofs.lemmas.Int.{to_z-of_z}
-use Rattle.jpg_coefs.specs.Machine.{Step}
-use Rattle.jpg_coefs.specs.Picture.{Picture}
 use Rattle.jpg_coefs.specs.declared.machine.UnitStep.TheVariants as step
 use Rattle.jpg_prog_read.specs.declared.dc_refine.DcRefine.{DcRefine}
 use Rattle.jpg_prog_read.specs.DcPlaces.{with_dc}
-use Rattle.jpg_prog_read.specs.DcRefinement.{refinement, after_bit}
+use Rattle.jpg_prog_read.specs.DcRefinement.{refinement}
 use Rattle.jpg_prog_read.specs.RepresentsDcUnit.{AnswersDcRefinement}
 use Rattle.jpg_prog_read.proofs.DcMachines.{next_room, refine_spot, step_bit, step_last_bit, same_step}
 use Rattle.jpg_prog_read.proofs.dc_refine.DcRefineBitMachine.one_bit.Goals as goal
