@@ -9,6 +9,9 @@ pub mod MovedScript
 pub mod Opposites
 pub mod OneBlock
 pub mod Planned
+pub mod PlannedHead
+pub mod RowPlaces
+pub mod RowsMoved
 pub mod SeenPicture
 pub mod Showing
 pub mod Viewed

@@ -7,6 +7,7 @@ mod frames;
 mod moved;
 mod moved_block;
 mod moved_row;
+mod moved_row_block;
 mod planning;
 mod row_mover;
 mod signs;

@@ -1,13 +1,8 @@
-//! The blocks of one MCU row of a picture, each transformed when it is asked for, where rows stay rows (T.81, A.2).
-ghost use Rattle.std.specs.Prelude.{◌≡◌};
-ghost use Rattle.jpg_spec.specs.Geometry.{IsReal};
+//! One MCU row of a picture, as a view of the transformed picture, where rows stay rows (T.81, A.2).
 ghost use Rattle.jpg_transform.specs.Places.{HasRowSources};
-ghost use Rattle.jpg_transform.specs.RowsMoved.{row_blocks};
 
-use crate::moved_block::opposite;
-use crate::signs::signed;
-use jpg_base::{Block, Frame};
-use jpg_coefs::{BlockView, Coefs};
+use jpg_base::Frame;
+use jpg_coefs::Coefs;
 
 /// One MCU row of a picture, as a view of the transformed picture: each row of blocks of the output is the one of the MCU
 /// row that has its number there. Only those that come from this MCU row are right.
@@ -22,46 +17,4 @@ pub(crate) struct MovedRow<'a> {
     // By component, how many rows of blocks an MCU row has.
     pub(crate) rows: &'a [u32; 4],
     ghost reaches: { HasRowSources row.now frame.now columns.now rows.now },
-}
-
-impl<'a> MovedRow<'a> {
-    // A block of the MCU row, for a row of the output.
-    #[inline(always)]
-    fn source(&self, component: u8, x: u32, y: u32) -> Block {
-        self.row
-            .block(component, x, y % self.rows[component as usize])
-    }
-
-    // A block of the output, mirrored.
-    #[inline(never)]
-    fn mirrored(&self, component: u8, x: u32, y: u32) -> Block
-        requires { IsReal self.now.frame.now component x y }
-        ensures { result ≡ row_blocks self.now component x y }
-    {
-        let columns = self.columns[component as usize];
-        signed(
-            x < columns,
-            false,
-            &self.source(component, opposite(columns, x), y),
-        )
-    }
-}
-
-impl<'a> BlockView for MovedRow<'a> {
-    ghost numbers = { λ v. v.frame.now };
-
-    ghost blocks = { λ v. row_blocks v };
-
-    fn frame(&self) -> &Frame {
-        self.frame
-    }
-
-    // It remains a call, so that a block that isn't mirrored is copied once.
-    #[inline(never)]
-    fn block(&self, component: u8, x: u32, y: u32) -> Block {
-        if x < self.columns[component as usize] {
-            return self.mirrored(component, x, y);
-        }
-        self.source(component, x, y)
-    }
 }

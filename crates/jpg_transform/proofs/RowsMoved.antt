@@ -1,0 +1,329 @@
+-- Pictures transformed MCU row by MCU row.
+use Rattle.std.proofs.Common.{◌≡◌, ◌⊎◌, ℕ, zero, suc, ◌+◌, ◌-◌, ◌*◌, ◌/◌, ◌%◌, ◌<◌, ◌≤◌, ◌==◌, Bool, true, false, cond, List, length, take, drop, get_or, slice_index_or, refl, sym, ap, ◌∙◌, subst, arith, ℤ, negsuc, ⊎_elim, inl, inr}
+use Rattle.std.specs.Prelude.{◌≤ℤ◌, min, nat_lt, slice_index}
+use Rattle.std.specs.List.{All}
+use Rattle.std.proofs.Math.Nat.{add-mul, mod-lt}
+use Rattle.std.proofs.lemmas.Bool.{cases_lt}
+use Rattle.std.proofs.lemmas.Bool.Decides.{nat_tests}
+use Rattle.std.proofs.lemmas.List.Elements.{All-drop, All-from_get_or, All-get_or, All-same, All-take}
+use Rattle.std.proofs.lemmas.Nat.{mod-mul-add, mul-le}
+use Rattle.jpg_spec.specs.Elements.{IsBlockIn, zeros}
+use Rattle.jpg_spec.specs.FrameHeader.{HasFactors, IsFrame, padded_across, padded_down}
+use Rattle.jpg_spec.specs.Geometry.{Frame, IsReal, blocks_across, bounds, bounds_of, component_at, h_max, mcu_row_frame, mcus_down, no_component, place, units, v_max}
+use Rattle.jpg_spec.specs.Scan.{Blocks}
+use Rattle.jpg_spec.specs.Segments.{ScanHead, head_components}
+use Rattle.jpg_spec.specs.declared.frame.Place.{Place}
+use Rattle.jpg_spec.proofs.Basics.Common.{clash}
+use Rattle.jpg_spec_move.specs.Moved.{Choice, columns_in, rows_in}
+use Rattle.jpg_spec_move.specs.Moves.{mirrored}
+use Rattle.jpg_spec_move.specs.Transforms.{mirrors_down, opposite, placed, signed, transposes}
+use Rattle.jpg_spec_move.specs.declared.transform.Transform.{Transform}
+use Rattle.jpg_spec_move.specs.declared.transform.Transform.TheVariants.{Keep, FlipH, FlipV, Transpose, Transverse, Rotate90, Rotate180, Rotate270}
+use Rattle.jpg_spec_move.proofs.Within.{mirrored_in}
+use Rattle.jpg_spec_write.specs.WrittenFile.{HasBlocksIn}
+use Rattle.jpg_base.specs.Cursor.{AreIn, IsPadded, scan_mcus_down}
+use Rattle.jpg_base.proofs.ScanPlaces.{padded_of}
+use Rattle.jpg_base.proofs.UnitCounts.{length_units}
+use Rattle.jpg_coefs.specs.Picture.{Picture as Coefs, map_of}
+use Rattle.jpg_coefs.specs.ScanUnits.{AgreeAt}
+use Rattle.jpg_coefs.specs.Sinks.{IsScanPlace}
+use Rattle.jpg_coefs.proofs.Places.{is_real_place, scan_places, some_places}
+use Rattle.jpg_file.specs.Read.ReadRows.{AgreeInRows, AreOfRow, LendsRow}
+use Rattle.jpg_seq.specs.Kept.{CanKeep, KeepsScan, WrittenScan, kept_scan}
+use Rattle.jpg_seq.specs.Rows.{row_units, rows_in_mcu}
+use Rattle.jpg_seq.proofs.ScanRows.{one_row}
+use Rattle.jpg_transform.specs.Places.{ComesFrom, HasRowSources, IsOutput, keeps_rows}
+use Rattle.jpg_transform.specs.RowsMoved.{CanMove, CanMoveZero, HasAllMoved, HasMoved, IsMovedScan, MovedScan, TellsWhole, all_units, mcu_rows, moved_data, moved_of, row_blocks, rows_of_output, scan_of, units_moved}
+use Rattle.jpg_transform.specs.declared.moved_row.MovedRow.{MovedRow}
+use Rattle.jpg_transform.specs.declared.row_mover.RowMover.{RowMover}
+use Rattle.jpg_transform.proofs.Opposites.{all_above}
+use Rattle.jpg_transform.proofs.RowPlaces.{HaveRows, IsBetween, between, rows_for}
+use Rattle.jpg_transform.proofs.Showing.{Arguments, reached_by}
+use Rattle.jpg_transform.proofs.Viewed.{stays}
+
+-- BLOCKS, where rows stay rows
+
+none_over : (t : Transform) → keeps_rows t ≡ true → (transposes t ≡ false) × (mirrors_down t ≡ false)
+none_over Keep k = (refl, refl)
+none_over FlipH k = (refl, refl)
+none_over FlipV k = absurd (clash false k refl)
+none_over Transpose k = absurd (clash false k refl)
+none_over Transverse k = absurd (clash false k refl)
+none_over Rotate90 k = absurd (clash false k refl)
+none_over Rotate180 k = absurd (clash false k refl)
+none_over Rotate270 k = absurd (clash false k refl)
+
+-- the columns of a component that are mirrored
+abbrev pub columns_of : MovedScan → ℕ → ℕ
+columns_of w i = columns_in w.transform w.out i
+
+no_rows : (t : Transform) (g : Frame) (i : ℕ) → keeps_rows t ≡ true → rows_in t g i ≡ 0
+no_rows t g i k = ap (λ b. cond b ((g.height / (8 * v_max g)) * (component_at g i).v) 0) (none_over t k).1
+
+none_below : (y : ℕ) → nat_lt y 0 ≡ false
+none_below y = grind (arith, nat_tests)
+
+pub moved_is : (t : Transform) (g : Frame) (blocks : Blocks) (i x y : ℕ) → keeps_rows t ≡ true
+    → moved_of t g blocks i x y ≡ signed (nat_lt x (columns_in t g i)) false (blocks i (opposite (columns_in t g i) x) y)
+moved_is t g blocks i x y k =
+    let c = columns_in t g i in
+    ap (λ over. placed over c (rows_in t g i) (blocks i) x y) (none_over t k).0
+    ∙ ap (λ r. placed false c r (blocks i) x y) (no_rows t g i k)
+    ∙ ap (λ b. signed (nat_lt x c) b (blocks i (opposite c x) (opposite 0 y))) (none_below y)
+    ∙ ap (λ r. signed (nat_lt x c) false (blocks i (opposite c x) r)) (sym (stays 0 y (omega arith)))
+
+-- A place of the output has its block from the same row of the picture.
+pub from_row : {w : MovedScan} (i x y : ℕ) → IsMovedScan w → IsReal w.out i x y → IsReal w.source i (opposite (columns_of w i) x) y
+from_row {w} i x y is real =
+    let t = w.transform in
+    let a : Arguments = record { frame = w.out; transform = t; over = transposes t; columns = λ i. columns_in t w.out i; rows = λ i. rows_in t w.out i } in
+    let from = reached_by {is.choice} {w.source} {a} i x y is.source (record { frame = is.framed; over = refl; columns = λ i h. refl; rows = λ i h. refl }) is.output real in
+    subst (λ r. IsReal w.source i (opposite (columns_of w i) x) r) (ap (λ r. opposite r y) (no_rows t w.out i is.stays) ∙ sym (stays 0 y (omega arith))) (from.plain (none_over t is.stays).0)
+
+signed_in : (b : Bool) (n : ℕ) (block : List ℤ) → IsBlockIn (bounds_of n) block → IsBlockIn (bounds_of n) (signed b false block)
+signed_in true n block is = mirrored_in (bounds_of n) block is
+signed_in false n block is = is
+
+pub moved_in : {w : MovedScan} (blocks : Blocks) → IsMovedScan w → HasBlocksIn w.source blocks → HasBlocksIn w.out (moved_of w.transform w.out blocks)
+moved_in {w} blocks is range i x y real =
+    subst (λ n. IsBlockIn (bounds_of n) (moved_of w.transform w.out blocks i x y)) (sym is.precision)
+    (subst (IsBlockIn (bounds w.source)) (sym (moved_is w.transform w.out blocks i x y is.stays))
+    (signed_in (nat_lt x (columns_of w i)) w.source.precision (blocks i (opposite (columns_of w i) x) y) (range i (opposite (columns_of w i) x) y (from_row i x y is real))))
+
+-- ROWS AND UNITS
+
+pub have_rows : {w : MovedScan} → IsMovedScan w → HaveRows w.source w.out
+have_rows {w} is = rows_for is.choice w.transform w.source w.out is.source is.framed is.stays is.output
+
+abbrev ids_of : MovedScan → List ℕ
+ids_of w = head_components w.head
+
+abbrev row_size : MovedScan → ℕ
+row_size w = row_units w.out (ids_of w)
+
+abbrev times : MovedScan → ℕ
+times w = rows_of_output w.source w.out
+
+some_size : {w : MovedScan} → IsMovedScan w → 1 ≤ row_size w
+some_size {w} is =
+    let some = some_places w.out w.head is.framed is.scan.components in
+    let all : length (units w.out (ids_of w)) ≡ scan_mcus_down w.out (ids_of w) * row_size w = length_units w.out (ids_of w) in
+    ⊎_elim (λ (h : 0 < row_size w). omega (arith, h))
+    (λ (h : row_size w ≤ 0). (let z : row_size w ≡ 0 = omega (arith, h) in
+    let n : scan_mcus_down w.out (ids_of w) * row_size w ≡ 0 = ap (λ m. scan_mcus_down w.out (ids_of w) * m) z ∙ omega arith in absurd (omega (arith, some, all, n)))) (cases_lt 0 (row_size w))
+
+-- so many units are before an MCU row
+before : (w : MovedScan) (k : ℕ) → k * units_moved w ≡ (k * times w) * row_size w
+before w k = grind arith
+
+some_moved : {w : MovedScan} → IsMovedScan w → 1 ≤ units_moved w
+some_moved {w} is = (let z : 1 * 1 ≤ row_size w * times w = mul-le 1 1 (row_size w) (times w) (some_size is) (have_rows is).some in omega (arith, z))
+
+-- where an MCU row is left, so is one of its units
+pub more_left : {w : MovedScan} (k : ℕ) → IsMovedScan w → k < mcu_rows w.source → k * units_moved w < all_units w
+more_left {w} k is low =
+    let D = scan_mcus_down w.out (ids_of w) in
+    let W = row_size w in
+    let rows : k * times w < D = (have_rows is).fewer k (ids_of w) is.scan.components is.all low in
+    let all : all_units w ≡ D * W = length_units w.out (ids_of w) in
+    let next = mul-le (k * times w + 1) W D W (omega (arith, rows)) (omega arith) in
+    let sum : (k * times w + 1) * W ≡ (k * times w) * W + 1 * W = add-mul (k * times w) 1 W in
+    let some = some_size is in
+    omega (arith, all, next, sum, before w k, some)
+
+pub none_left : {w : MovedScan} (k : ℕ) → IsMovedScan w → mcu_rows w.source ≤ k → all_units w ≤ k * units_moved w
+none_left {w} k is low =
+    let D = scan_mcus_down w.out (ids_of w) in
+    let W = row_size w in
+    let rows : D ≤ k * times w = (have_rows is).last k (ids_of w) is.scan.components is.all low in
+    let all : all_units w ≡ D * W = length_units w.out (ids_of w) in
+    let next = mul-le D W (k * times w) W rows (omega arith) in
+    omega (arith, all, next, before w k)
+
+-- THE NUMBER of the next units
+
+least_of : (a b : ℕ) → ((min a b ≡ a) × (a ≤ b)) ⊎ ((min a b ≡ b) × (b ≤ a))
+least_of zero b = inl (refl, omega arith)
+least_of (suc a) zero = inr (refl, omega arith)
+least_of (suc a) (suc b) = ⊎_elim (λ (h : (min a b ≡ a) × (a ≤ b)). inl (ap suc h.0, omega (arith, h.1))) (λ (h : (min a b ≡ b) × (b ≤ a)). inr (ap suc h.0, omega (arith, h.1))) (least_of a b)
+
+pub some_least : (a b n : ℕ) → n ≡ min a b → 1 ≤ a → 1 ≤ b → (1 ≤ n) × (n ≤ b)
+some_least a b n e some more = ⊎_elim
+    (λ (h : (min a b ≡ a) × (a ≤ b)). (omega (arith, e, h.0, some), omega (arith, e, h.0, h.1)))
+    (λ (h : (min a b ≡ b) × (b ≤ a)). (omega (arith, e, h.0, more), omega (arith, e, h.0))) (least_of a b)
+
+few_least : (a b n : ℕ) → n ≡ min a b → n ≤ a
+few_least a b n e = ⊎_elim (λ (h : (min a b ≡ a) × (a ≤ b)). omega (arith, e, h.0)) (λ (h : (min a b ≡ b) × (b ≤ a)). omega (arith, e, h.0, h.1)) (least_of a b)
+
+left_after : (u b n left all s : ℕ) → n ≡ min u b → b ≡ all - s → left + n ≡ b → left ≡ all - (s + u)
+left_after u b n left all s e is put = ⊎_elim
+    (λ (h : (min u b ≡ u) × (u ≤ b)). omega (arith, e, h.0, h.1, is, put))
+    (λ (h : (min u b ≡ b) × (b ≤ u)). omega (arith, e, h.0, h.1, is, put)) (least_of u b)
+
+-- WHAT IS LEFT, of a mover that took some MCU rows
+
+module _ {w : MovedScan} {k : ℕ} {blocks : Blocks} (r : RowMover) (has : HasMoved w k blocks r) where
+  pub tells_whole : (whole : Bool) → whole ≡ (((r.scan).units).left == 0) → TellsWhole w k whole
+  tells_whole whole e = record {
+    all = λ yes. ⊎_elim
+        (λ (h : k < mcu_rows w.source). absurd (let m = more_left k has.scan h in let z : ((r.scan).units).left ≡ 0 = grind (arith, nat_tests, e, yes) in let l = has.left in omega (arith, m, z, l)))
+        (λ (h : mcu_rows w.source ≤ k). h) (cases_lt k (mcu_rows w.source));
+    more = λ no. ⊎_elim
+        (λ (h : k < mcu_rows w.source). h)
+        (λ (h : mcu_rows w.source ≤ k). absurd (let m = none_left k has.scan h in let l = has.left in let none : ((r.scan).units).left ≡ 0 = omega (arith, m, l) in
+        clash (((r.scan).units).left == 0) (grind (arith, nat_tests, none)) (sym e ∙ no))) (cases_lt k (mcu_rows w.source));
+  }
+
+  -- The next MCU row has this many units.
+  module _ (next : k < mcu_rows w.source) (count : ℕ) (counted : count ≡ min r.units ((r.scan).units).left) where
+    some_left : 1 ≤ ((r.scan).units).left
+    some_left = (let m = more_left k has.scan next in let l = has.left in omega (arith, m, l))
+
+    pub some_put : (1 ≤ count) × (count ≤ ((r.scan).units).left)
+    some_put = some_least r.units ((r.scan).units).left count counted (let u = has.units in let m = some_moved has.scan in omega (arith, u, m)) some_left
+
+    -- its places
+    pub agrees : (others seen : Blocks) → HasBlocksIn w.source others → AgreeInRows w.source k blocks others
+        → ((i x y : ℕ) → IsReal w.out i x y → k * rows_in_mcu w.source i ≤ y → y < (k + 1) * rows_in_mcu w.source i → moved_of w.transform w.out others i x y ≡ seen i x y)
+        → CanKeep (scan_of w others) w.out seen count r.scan
+    agrees others seen range agree same = record { keeps = keeps; frame = refl; same = All-from_get_or (AgreeAt moved seen) l none each }
+      where
+        moved : Blocks
+        moved = moved_of w.transform w.out others
+
+        keeps : KeepsScan (scan_of w others) r.scan
+        keeps = has.keeps others range agree
+
+        g : Frame
+        g = w.out
+
+        none : Place
+        none = place g 0 0 0
+
+        l : List Place
+        l = take count ((r.scan).units).cursor
+
+        rows : HaveRows w.source w.out
+        rows = have_rows has.scan
+
+        at : ((r.scan).units).cursor ≡ drop ((k * times w) * row_size w) (units g (ids_of w))
+        at = keeps.places ∙ ap (λ n. drop n (units g (ids_of w)))
+            (let m = more_left k has.scan next in let left = has.left in let b = before w k in let z : length (units g (ids_of w)) - ((r.scan).units).left ≡ (k * times w) * row_size w = omega (arith, m, left, b) in z)
+
+        scan_place : All (IsScanPlace g w.head) l
+        scan_place = All-take (IsScanPlace g w.head) count ((r.scan).units).cursor
+            (All-same (IsScanPlace g w.head) ((r.scan).units).cursor _ at (All-drop (IsScanPlace g w.head) ((k * times w) * row_size w) (units g (ids_of w)) (scan_places g w.head has.scan.scan.components)))
+
+        few : count ≤ times w * row_size w
+        few = (let f = few_least r.units ((r.scan).units).left count counted in let u = has.units in let e : units_moved w ≡ times w * row_size w = grind arith in omega (arith, f, u, e))
+
+        rows_between : All (IsBetween g (k * times w) (times w)) l
+        rows_between = subst (λ (places : List Place). All (IsBetween g (k * times w) (times w)) (take count places)) (sym at)
+            (between g (ids_of w) (k * times w) (times w) count has.scan.all (some_size has.scan) few)
+
+        each : (n : ℕ) → n < length l → AgreeAt moved seen (get_or l n none)
+        each n low real =
+            let p = get_or l n none in
+            let i = p.component in
+            let is = is_real_place g w.head p (All-get_or (IsScanPlace g w.head) l n none low scan_place) real in
+            let b = All-get_or (IsBetween g (k * times w) (times w)) l n none low rows_between in
+            let c = rows_in_mcu g i in
+            let R : times w * c ≡ rows_in_mcu w.source i = rows.each i is.component in
+            let first : k * rows_in_mcu w.source i ≡ (k * times w) * c = ap (λ m. k * m) (sym R) ∙ grind arith in
+            let last : (k + 1) * rows_in_mcu w.source i ≡ (k * times w + times w) * c = ap (λ m. (k + 1) * m) (sym R) ∙ grind arith in
+            same i p.x p.y is (let z = b.low in omega (arith, z, first)) (let z = b.high in omega (arith, z, last))
+
+-- THE VIEW of an MCU row
+
+module _ {w : MovedScan} {k : ℕ} {blocks : Blocks} {row : Coefs} (is : IsMovedScan w) (lends : LendsRow w.source k row blocks) where
+  rows_low : (i : ℕ) → i < length w.source.components → (1 ≤ rows_in_mcu w.source i) × (rows_in_mcu w.source i ≤ padded_down row.frame (component_at w.source i))
+  rows_low i there =
+      let v = (component_at w.source i).v in
+      let low = (All-get_or HasFactors w.source.components i no_component there is.source.factors).v_low in
+      let high : padded_down row.frame (component_at w.source i) ≡ v = ap (λ (g : Frame). padded_down g (component_at w.source i)) lends.framed ∙ ap (λ n. n * v) (one_row w.source is.source) ∙ omega arith in
+      by (length w.source.components == 1) v low high
+    where
+      by : (b : Bool) (v : ℕ) → 1 ≤ v → padded_down row.frame (component_at w.source i) ≡ v → (1 ≤ cond b 1 v) × (cond b 1 v ≤ padded_down row.frame (component_at w.source i))
+      by true v low high = (omega arith, omega (arith, low, high))
+      by false v low high = (low, omega (arith, high))
+
+  pub sources : (columns rows : List ℕ) → ((i : ℕ) → i < length w.out.components → slice_index columns i ≡ columns_of w i) → ((i : ℕ) → i < length w.out.components → slice_index rows i ≡ rows_in_mcu w.source i)
+      → ((i : ℕ) → i < length w.out.components → i < length w.source.components) → HasRowSources row w.out columns rows
+  sources columns rows cs rs there = record {
+    few = is.framed.count_high;
+    some = λ i h. (let e = rs i h in let l = (rows_low i (there i h)).0 in omega (arith, e, l));
+    places = λ i x y real.
+        (let h = real.component in
+        let from = from_row i x y is real in
+        let low = rows_low i from.component in
+        let wide = (padded_of w.source i (opposite (columns_of w i) x) y is.source from).across in
+        let small : y % rows_in_mcu w.source i < rows_in_mcu w.source i = mod-lt y low.0 in
+        subst (λ (g : Frame). IsPadded g i (opposite (slice_index columns i) x) (y % slice_index rows i)) (sym lends.framed)
+        (subst (λ c. IsPadded (mcu_row_frame w.source) i (opposite c x) (y % slice_index rows i)) (sym (cs i h))
+        (subst (λ n. IsPadded (mcu_row_frame w.source) i (opposite (columns_of w i) x) (y % n)) (sym (rs i h))
+        (record {
+          component = from.component;
+          across = wide;
+          down = subst (λ (g : Frame). y % rows_in_mcu w.source i < padded_down g (component_at w.source i)) lends.framed (omega (arith, small, low.1));
+        }))));
+    above = λ i x y. all_above w.source (map_of row) lends.range i x y;
+  }
+
+  -- At the places of the MCU row it has the blocks of the picture.
+  pub row_due : (others : Blocks) (i x y : ℕ) → AgreeInRows w.source (k + 1) blocks others → IsReal w.out i x y → k * rows_in_mcu w.source i ≤ y → y < (k + 1) * rows_in_mcu w.source i
+      → moved_of w.transform w.out others i x y ≡ signed (nat_lt x (columns_of w i)) false (map_of row i (opposite (columns_of w i) x) (y % rows_in_mcu w.source i))
+  row_due others i x y agree real low high =
+      let R = rows_in_mcu w.source i in
+      let c = columns_of w i in
+      let from = from_row i x y is real in
+      let next : (k + 1) * R ≡ k * R + 1 * R = add-mul k 1 R in
+      let d = y - k * R in
+      let small : d < R = omega (arith, low, high, next) in
+      let whole : k * R + d ≡ y = omega (arith, low) in
+      let rest : y % R ≡ d = ap (λ n. n % R) (sym whole) ∙ mod-mul-add k R d small in
+      let below = from.down in
+      let mine : map_of row i (opposite c x) d ≡ blocks i (opposite c x) y =
+      lends.row.same i (opposite c x) d from.component from.across small (omega (arith, whole, below)) ∙ ap (blocks i (opposite c x)) whole in
+      moved_is w.transform w.out others i x y is.stays
+      ∙ ap (λ (b : List ℤ). signed (nat_lt x c) false b) (sym (agree.same i (opposite c x) y from.component from.across from.down high) ∙ sym mine ∙ ap (λ n. map_of row i (opposite c x) n) (sym rest))
+
+-- a row of zeros
+mirrored_zeros : mirrored (zeros 64) ≡ zeros 64
+unfolding mirrored
+mirrored_zeros = refl
+
+signed_zeros : (b : Bool) → signed b false (zeros 64) ≡ zeros 64
+signed_zeros true = mirrored_zeros
+signed_zeros false = refl
+
+pub zero_due : {w : MovedScan} (k : ℕ) (blocks others : Blocks) → IsMovedScan w → AgreeInRows w.source (k + 1) blocks others
+    → ((i x y : ℕ) → IsReal w.source i x y → k * rows_in_mcu w.source i ≤ y → y < (k + 1) * rows_in_mcu w.source i → blocks i x y ≡ zeros 64)
+    → (i x y : ℕ) → IsReal w.out i x y → k * rows_in_mcu w.source i ≤ y → y < (k + 1) * rows_in_mcu w.source i → moved_of w.transform w.out others i x y ≡ zeros 64
+zero_due {w} k blocks others is agree zero i x y real low high =
+    let c = columns_of w i in
+    let from = from_row i x y is real in
+    moved_is w.transform w.out others i x y is.stays
+    ∙ ap (λ (b : List ℤ). signed (nat_lt x c) false b) (sym (agree.same i (opposite c x) y from.component from.across from.down high) ∙ zero i (opposite c x) y from low high) ∙ signed_zeros (nat_lt x c)
+
+-- AFTER A ROW
+
+fewer_rows : (f : Frame) (k : ℕ) (blocks others : Blocks) → AgreeInRows f (k + 1) blocks others → AgreeInRows f k blocks others
+fewer_rows f k blocks others agree = record {
+  same = λ i x y there across down low. agree.same i x y there across down (let e : (k + 1) * rows_in_mcu f i ≡ k * rows_in_mcu f i + 1 * rows_in_mcu f i = add-mul k 1 (rows_in_mcu f i) in omega (arith, low, e));
+}
+
+-- the blocks themselves
+pub same_rows : (f : Frame) (k : ℕ) (blocks : Blocks) → AgreeInRows f k blocks blocks
+same_rows f k blocks = record { same = λ i x y there across down low. refl }
+
+-- Pictures whose first MCU rows agree.
+pub moved_agree : {w : MovedScan} {k : ℕ} {blocks others : Blocks} {r : RowMover} → HasMoved w k blocks r → AgreeInRows w.source k blocks others → HasMoved w k others r
+moved_agree {w} {k} {blocks} {others} {r} has agree = record {
+  scan = has.scan;
+  frame = has.frame;
+  columns = has.columns;
+  rows = has.rows;
+  units = has.units;
+  left = has.left;
+  keeps = λ more range same. has.keeps more range (record { same = λ i x y there across down low. agree.same i x y there across down low ∙ same.same i x y there across down low });
+}
