@@ -10,6 +10,7 @@ pub mod Opposites
 pub mod OneBlock
 pub mod Planned
 pub mod PlannedHead
+pub mod RowJobs
 pub mod RowPlaces
 pub mod RowsMoved
 pub mod SeenPicture

@@ -89,7 +89,7 @@ one_down f is one = single_down f.height f.components 0 one (omega arith) is.fac
 all_down : (f : Frame) (ids : List ℕ) → AreIn f ids → length ids ≡ length f.components → scan_mcus_down f ids ≡ mcu_rows f
 all_down f [] are all = absurd (omega (arith, are.some))
 all_down f (i ∷ []) are all =
-    let first : i ≡ 0 = (let l = are.there 0 (omega arith) in omega (arith, l, all)) in
+    let first : i ≡ 0 = (let l = are.there 0 0 (omega arith) in omega (arith, l, all)) in
     ap (λ n. blocks_down f (component_at f n)) first ∙ ap (λ n. cond (n == 1) (blocks_down f (component_at f 0)) (mcus_down f)) all
 all_down f (i ∷ j ∷ more) are all =
     let several : (length f.components == 1) ≡ false = grind (arith, nat_tests, all) in

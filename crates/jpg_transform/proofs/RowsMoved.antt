@@ -1,6 +1,6 @@
 -- Pictures transformed MCU row by MCU row.
 use Rattle.std.proofs.Common.{◌≡◌, ◌⊎◌, ℕ, zero, suc, ◌+◌, ◌-◌, ◌*◌, ◌/◌, ◌%◌, ◌<◌, ◌≤◌, ◌==◌, Bool, true, false, cond, List, length, take, drop, get_or, slice_index_or, refl, sym, ap, ◌∙◌, subst, arith, ℤ, negsuc, ⊎_elim, inl, inr}
-use Rattle.std.specs.Prelude.{◌≤ℤ◌, min, nat_lt, slice_index}
+use Rattle.std.specs.Prelude.{◌≤ℤ◌, IfOk, OnOk, Result, Ok, Err, min, nat_lt, slice_index}
 use Rattle.std.specs.List.{All}
 use Rattle.std.proofs.Math.Nat.{add-mul, mod-lt}
 use Rattle.std.proofs.lemmas.Bool.{cases_lt}
@@ -8,20 +8,27 @@ use Rattle.std.proofs.lemmas.Bool.Decides.{nat_tests}
 use Rattle.std.proofs.lemmas.List.Elements.{All-drop, All-from_get_or, All-get_or, All-same, All-take}
 use Rattle.std.proofs.lemmas.Nat.{mod-mul-add, mul-le}
 use Rattle.jpg_spec.specs.Elements.{IsBlockIn, zeros}
+use Rattle.jpg_spec.specs.FileMeaning.{no_blocks}
 use Rattle.jpg_spec.specs.FrameHeader.{HasFactors, IsFrame, padded_across, padded_down}
-use Rattle.jpg_spec.specs.Geometry.{Frame, IsReal, blocks_across, bounds, bounds_of, component_at, h_max, mcu_row_frame, mcus_down, no_component, place, units, v_max}
+use Rattle.jpg_spec.specs.Geometry.{Frame, IsReal, blocks_across, blocks_down, bounds, bounds_of, component_at, h_max, mcu_row_frame, mcus_down, no_component, place, units, v_max}
 use Rattle.jpg_spec.specs.Scan.{Blocks}
 use Rattle.jpg_spec.specs.Segments.{ScanHead, head_components}
 use Rattle.jpg_spec.specs.declared.frame.Place.{Place}
-use Rattle.jpg_spec.proofs.Basics.Common.{clash}
+use Rattle.jpg_spec.proofs.Basics.Common.{clash, same_of}
 use Rattle.jpg_spec_move.specs.Moved.{Choice, columns_in, rows_in}
 use Rattle.jpg_spec_move.specs.Moves.{mirrored}
 use Rattle.jpg_spec_move.specs.Transforms.{mirrors_down, opposite, placed, signed, transposes}
 use Rattle.jpg_spec_move.specs.declared.transform.Transform.{Transform}
 use Rattle.jpg_spec_move.specs.declared.transform.Transform.TheVariants.{Keep, FlipH, FlipV, Transpose, Transverse, Rotate90, Rotate180, Rotate270}
 use Rattle.jpg_spec_move.proofs.Within.{mirrored_in}
+use Rattle.jpg_spec.proofs.Files.ReadPicture.{block_in}
+use Rattle.jpg_spec.proofs.Places.PlacesFound.{real_in_padded}
+use Rattle.jpg_spec.proofs.Places.PlacesSome.{h_max_some, v_max_some}
+use Rattle.jpg_base.proofs.Real.{one_real}
+use Rattle.jpg_spec.proofs.Writing.MovedWritten.{zeros_here}
 use Rattle.jpg_spec_write.specs.WrittenFile.{HasBlocksIn}
 use Rattle.jpg_base.specs.Cursor.{AreIn, IsPadded, scan_mcus_down}
+use Rattle.jpg_base.specs.declared.names.NoMemory.{NoMemory}
 use Rattle.jpg_base.proofs.ScanPlaces.{padded_of}
 use Rattle.jpg_base.proofs.UnitCounts.{length_units}
 use Rattle.jpg_coefs.specs.Picture.{Picture as Coefs, map_of}
@@ -30,11 +37,11 @@ use Rattle.jpg_coefs.specs.Sinks.{IsScanPlace}
 use Rattle.jpg_coefs.proofs.Places.{is_real_place, scan_places, some_places}
 use Rattle.jpg_file.specs.Read.ReadRows.{AgreeInRows, AreOfRow, LendsRow}
 use Rattle.jpg_seq.specs.Kept.{CanKeep, KeepsScan, WrittenScan, kept_scan}
+use Rattle.jpg_seq.specs.ScanWritten.{written_data}
 use Rattle.jpg_seq.specs.Rows.{row_units, rows_in_mcu}
 use Rattle.jpg_seq.proofs.ScanRows.{one_row}
 use Rattle.jpg_transform.specs.Places.{ComesFrom, HasRowSources, IsOutput, keeps_rows}
-use Rattle.jpg_transform.specs.RowsMoved.{CanMove, CanMoveZero, HasAllMoved, HasMoved, IsMovedScan, MovedScan, TellsWhole, all_units, mcu_rows, moved_data, moved_of, row_blocks, rows_of_output, scan_of, units_moved}
-use Rattle.jpg_transform.specs.declared.moved_row.MovedRow.{MovedRow}
+use Rattle.jpg_transform.specs.RowsMoved.{BeginsInBounds, CanMove, CanMoveZero, GivesMoved, HasAllMoved, HasMoved, IsMovedScan, MovedScan, TellsWhole, all_units, mcu_rows, moved_data, moved_of, moved_scan, rows_of_output, scan_of, seen_by, units_moved}
 use Rattle.jpg_transform.specs.declared.row_mover.RowMover.{RowMover}
 use Rattle.jpg_transform.proofs.Opposites.{all_above}
 use Rattle.jpg_transform.proofs.RowPlaces.{HaveRows, IsBetween, between, rows_for}
@@ -166,7 +173,7 @@ module _ {w : MovedScan} {k : ℕ} {blocks : Blocks} (r : RowMover) (has : HasMo
   pub tells_whole : (whole : Bool) → whole ≡ (((r.scan).units).left == 0) → TellsWhole w k whole
   tells_whole whole e = record {
     all = λ yes. ⊎_elim
-        (λ (h : k < mcu_rows w.source). absurd (let m = more_left k has.scan h in let z : ((r.scan).units).left ≡ 0 = grind (arith, nat_tests, e, yes) in let l = has.left in omega (arith, m, z, l)))
+        (λ (h : k < mcu_rows w.source). absurd (let m = more_left k has.scan h in let z : ((r.scan).units).left ≡ 0 = same_of ((r.scan).units).left 0 (sym e ∙ yes) in let l = has.left in omega (arith, m, z, l)))
         (λ (h : mcu_rows w.source ≤ k). h) (cases_lt k (mcu_rows w.source));
     more = λ no. ⊎_elim
         (λ (h : k < mcu_rows w.source). h)
@@ -327,3 +334,199 @@ moved_agree {w} {k} {blocks} {others} {r} has agree = record {
   left = has.left;
   keeps = λ more range same. has.keeps more range (record { same = λ i x y there across down low. agree.same i x y there across down low ∙ same.same i x y there across down low });
 }
+
+-- A PICTURE IN BOUNDS with the same first MCU rows: with other blocks after them
+
+abbrev patched : Frame → ℕ → Blocks → Blocks → Blocks
+patched f k others row i x y = cond (nat_lt y (k * rows_in_mcu f i)) (others i x y) (row i x y)
+
+patched_in : (f : Frame) (k : ℕ) (others row : Blocks) → HasBlocksIn f others → ((i x y : ℕ) → IsBlockIn (bounds f) (row i x y)) → HasBlocksIn f (patched f k others row)
+patched_in f k others row range all i x y real = by (nat_lt y (k * rows_in_mcu f i))
+  where
+    by : (b : Bool) → IsBlockIn (bounds f) (cond b (others i x y) (row i x y))
+    by true = range i x y real
+    by false = all i x y
+
+patched_agree : (f : Frame) (k : ℕ) (blocks others row : Blocks) → AgreeInRows f k blocks others
+    → ((i x y : ℕ) → IsReal f i x y → k * rows_in_mcu f i ≤ y → y < (k + 1) * rows_in_mcu f i → blocks i x y ≡ row i x y) → AgreeInRows f (k + 1) blocks (patched f k others row)
+patched_agree f k blocks others row agree here = record {
+  same = λ i x y there across down low. ⊎_elim
+      (λ (h : y < k * rows_in_mcu f i). (let t : nat_lt y (k * rows_in_mcu f i) ≡ true = grind (arith, nat_tests, h) in
+      agree.same i x y there across down h ∙ sym (ap (λ b. cond b (others i x y) (row i x y)) t)))
+      (λ (h : k * rows_in_mcu f i ≤ y). (let t : nat_lt y (k * rows_in_mcu f i) ≡ false = grind (arith, nat_tests, h) in
+      here i x y (record { component = there; across = across; down = down }) h low ∙ sym (ap (λ b. cond b (others i x y) (row i x y)) t)))
+      (cases_lt y (k * rows_in_mcu f i));
+}
+
+begins_next : (f : Frame) (k : ℕ) (blocks row : Blocks) → BeginsInBounds f k blocks → ((i x y : ℕ) → IsBlockIn (bounds f) (row i x y))
+    → ((i x y : ℕ) → IsReal f i x y → k * rows_in_mcu f i ≤ y → y < (k + 1) * rows_in_mcu f i → blocks i x y ≡ row i x y) → BeginsInBounds f (k + 1) blocks
+begins_next f k blocks row some all here = record {
+  others = patched f k some.others row;
+  range = patched_in f k some.others row some.range all;
+  agree = patched_agree f k blocks some.others row some.agree here;
+}
+
+begins_row : (f : Frame) (k : ℕ) (blocks : Blocks) (row : Coefs) → LendsRow f k row blocks → BeginsInBounds f k blocks → BeginsInBounds f (k + 1) blocks
+begins_row f k blocks row lends some =
+    begins_next f k blocks (λ i x y. map_of row i x (y - k * rows_in_mcu f i)) some
+    (λ i x y. block_in (bounds f) (map_of row i x (y - k * rows_in_mcu f i)) (lends.range.sizes i x (y - k * rows_in_mcu f i)) (λ n. lends.range.values i x (y - k * rows_in_mcu f i) n))
+    (λ i x y real low high.
+    (let R = rows_in_mcu f i in
+    let next : (k + 1) * R ≡ k * R + 1 * R = add-mul k 1 R in
+    let d = y - k * R in
+    let whole : k * R + d ≡ y = omega (arith, low) in
+    let below = real.down in
+    sym (lends.row.same i x d real.component real.across (omega (arith, low, high, next)) (omega (arith, whole, below)) ∙ ap (blocks i x) whole)))
+
+begins_zero : (f : Frame) (k : ℕ) (blocks : Blocks) → ((i x y : ℕ) → IsReal f i x y → k * rows_in_mcu f i ≤ y → y < (k + 1) * rows_in_mcu f i → blocks i x y ≡ zeros 64) → BeginsInBounds f k blocks → BeginsInBounds f (k + 1) blocks
+begins_zero f k blocks zero some = begins_next f k blocks (λ i x y. zeros 64) some (λ i x y. zeros_here f) zero
+
+-- none yet
+pub begins_none : (f : Frame) (blocks : Blocks) → BeginsInBounds f 0 blocks
+begins_none f blocks = record {
+  others = λ i x y. zeros 64;
+  range = λ i x y real. zeros_here f;
+  agree = record { same = λ i x y there across down low. absurd (let z : 0 * rows_in_mcu f i ≡ 0 = omega arith in omega (arith, low, z)) };
+}
+
+-- all of them
+all_rows_in : (f : Frame) (k i y : ℕ) → IsFrame f → mcu_rows f ≤ k → i < length f.components → y < blocks_down f (component_at f i) → y < k * rows_in_mcu f i
+all_rows_in f k i y is all there low = by (length f.components == 1) refl
+  where
+    by : (b : Bool) → (length f.components == 1) ≡ b → y < k * rows_in_mcu f i
+    by true e =
+        let one : length f.components ≡ 1 = grind (arith, nat_tests, e) in
+        let first : i ≡ 0 = omega (arith, one, there) in
+        let rows : mcu_rows f ≡ blocks_down f (component_at f 0) = ap (λ t. cond t (blocks_down f (component_at f 0)) (mcus_down f)) e in
+        let each : k * rows_in_mcu f i ≡ k * 1 = ap (λ t. k * cond t 1 (component_at f i).v) e in
+        let down : y < blocks_down f (component_at f 0) = subst (λ n. y < blocks_down f (component_at f n)) first low in
+        omega (arith, rows, each, down, all)
+    by false e =
+        let v = (component_at f i).v in
+        let rows : mcu_rows f ≡ mcus_down f = ap (λ t. cond t (blocks_down f (component_at f 0)) (mcus_down f)) e in
+        let each : k * rows_in_mcu f i ≡ k * v = ap (λ t. k * cond t 1 v) e in
+        let padded : blocks_down f (component_at f i) ≤ mcus_down f * v = real_in_padded f.height v (v_max f) (v_max_some f is) in
+        let more = mul-le (mcus_down f) v k v (omega (arith, all, rows)) (omega arith) in
+        omega (arith, low, padded, more, each)
+
+pub all_in_bounds : {f : Frame} {k : ℕ} {blocks : Blocks} → IsFrame f → mcu_rows f ≤ k → BeginsInBounds f k blocks → HasBlocksIn f blocks
+all_in_bounds {f} {k} {blocks} is all some i x y real =
+    subst (IsBlockIn (bounds f)) (sym (some.agree.same i x y real.component real.across real.down (all_rows_in f k i y is all real.component real.down))) (some.range i x y real)
+
+-- THE CALLS
+
+module _ {w : MovedScan} {k : ℕ} {blocks : Blocks} {row : Coefs} {r : RowMover} (can : CanMove w k blocks row r) (count : ℕ) (counted : count ≡ min r.units ((r.scan).units).left) where
+  can_put : (others : Blocks) → HasBlocksIn w.source others → AgreeInRows w.source (k + 1) blocks others → CanKeep (scan_of w others) r.frame.now (seen_by row r.columns r.rows) count r.scan
+  can_put others range agree =
+      let has = can.has in
+      subst (λ (g : Frame). CanKeep (scan_of w others) g (seen_by row r.columns r.rows) count r.scan) (sym has.frame)
+      (agrees r has can.next count counted others (seen_by row r.columns r.rows) range (fewer_rows w.source k blocks others agree)
+      (λ i x y real low high.
+      (let R = rows_in_mcu w.source i in
+      row_due has.scan can.lends others i x y agree real low high
+      ∙ ap (λ c. signed (nat_lt x c) false (map_of row i (opposite c x) (y % R))) (sym (has.columns i real.component))
+      ∙ ap (λ n. signed (nat_lt x (slice_index r.columns i)) false (map_of row i (opposite (slice_index r.columns i) x) (y % n))) (sym (has.rows i real.component)))))
+
+  pub one_put : (s : WrittenScan) × CanKeep s r.frame.now (seen_by row r.columns r.rows) count r.scan
+  one_put = (let b = begins_row w.source k blocks row can.lends can.has.some in (scan_of w b.others, can_put b.others b.range b.agree))
+
+  pub puts_some : (1 ≤ count) × (count ≤ ((r.scan).units).left)
+  puts_some = some_put r can.has can.next count counted
+
+  pub moved_row : (new : RowMover) → new.frame.now ≡ r.frame.now → new.columns ≡ r.columns → new.rows ≡ r.rows → new.units ≡ r.units
+      → ((s : WrittenScan) → CanKeep s r.frame.now (seen_by row r.columns r.rows) count r.scan → KeepsScan s new.scan) → ((new.scan).units).left + count ≡ ((r.scan).units).left → HasMoved w (k + 1) blocks new
+  moved_row new frame columns rows each puts left =
+      let has = can.has in
+      record {
+        scan = has.scan;
+        frame = frame ∙ has.frame;
+        columns = λ i h. ap (λ cs. slice_index cs i) columns ∙ has.columns i h;
+        rows = λ i h. ap (λ cs. slice_index cs i) rows ∙ has.rows i h;
+        units = each ∙ has.units;
+        left = next_left has left;
+        some = begins_row w.source k blocks row can.lends has.some;
+        keeps = λ others range agree. puts (scan_of w others) (can_put others range agree);
+      }
+    where
+      next_left : HasMoved w k blocks r → ((new.scan).units).left + count ≡ ((r.scan).units).left → ((new.scan).units).left ≡ all_units w - (k + 1) * units_moved w
+      next_left has left =
+          left_after (units_moved w) ((r.scan).units).left count ((new.scan).units).left (all_units w) (k * units_moved w) (counted ∙ ap (λ u. min u ((r.scan).units).left) has.units) has.left left
+          ∙ (let e : (k + 1) * units_moved w ≡ k * units_moved w + 1 * units_moved w = add-mul k 1 (units_moved w) in let z : all_units w - (k * units_moved w + units_moved w) ≡ all_units w - (k + 1) * units_moved w = omega (arith, e) in z)
+
+-- the same of a row of zeros
+module _ {w : MovedScan} {k : ℕ} {blocks : Blocks} {r : RowMover} (can : CanMoveZero w k blocks r) (count : ℕ) (counted : count ≡ min r.units ((r.scan).units).left) where
+  can_put_zero : (others : Blocks) → HasBlocksIn w.source others → AgreeInRows w.source (k + 1) blocks others → CanKeep (scan_of w others) r.frame.now no_blocks count r.scan
+  can_put_zero others range agree =
+      let has = can.has in
+      subst (λ (g : Frame). CanKeep (scan_of w others) g no_blocks count r.scan) (sym has.frame)
+      (agrees r has can.next count counted others no_blocks range (fewer_rows w.source k blocks others agree) (λ i x y real low high. zero_due k blocks others has.scan agree can.zero i x y real low high))
+
+  pub one_zero : (s : WrittenScan) × CanKeep s r.frame.now no_blocks count r.scan
+  one_zero = (let b = begins_zero w.source k blocks can.zero can.has.some in (scan_of w b.others, can_put_zero b.others b.range b.agree))
+
+  pub zero_some : (1 ≤ count) × (count ≤ ((r.scan).units).left)
+  zero_some = some_put r can.has can.next count counted
+
+  pub moved_zero : (new : RowMover) → new.frame.now ≡ r.frame.now → new.columns ≡ r.columns → new.rows ≡ r.rows → new.units ≡ r.units
+      → ((s : WrittenScan) → CanKeep s r.frame.now no_blocks count r.scan → KeepsScan s new.scan) → ((new.scan).units).left + count ≡ ((r.scan).units).left → HasMoved w (k + 1) blocks new
+  moved_zero new frame columns rows each puts left =
+      let has = can.has in
+      record {
+        scan = has.scan;
+        frame = frame ∙ has.frame;
+        columns = λ i h. ap (λ cs. slice_index cs i) columns ∙ has.columns i h;
+        rows = λ i h. ap (λ cs. slice_index cs i) rows ∙ has.rows i h;
+        units = each ∙ has.units;
+        left = left_after (units_moved w) ((r.scan).units).left count ((new.scan).units).left (all_units w) (k * units_moved w) (counted ∙ ap (λ u. min u ((r.scan).units).left) has.units) has.left left
+            ∙ (let e : (k + 1) * units_moved w ≡ k * units_moved w + 1 * units_moved w = add-mul k 1 (units_moved w) in let z : all_units w - (k * units_moved w + units_moved w) ≡ all_units w - (k + 1) * units_moved w = omega (arith, e) in z);
+        some = begins_zero w.source k blocks can.zero has.some;
+        keeps = λ others range agree. puts (scan_of w others) (can_put_zero others range agree);
+      }
+
+-- AT THE END
+
+pub none_is_left : {w : MovedScan} {k : ℕ} {blocks : Blocks} {r : RowMover} → HasAllMoved w k blocks r → ((r.scan).units).left ≡ 0
+none_is_left {w} {k} {blocks} {r} h = (let m = none_left k h.has.scan h.all in let l = h.has.left in omega (arith, m, l))
+
+pub keeps_all : {w : MovedScan} {k : ℕ} {blocks : Blocks} {r : RowMover} → HasAllMoved w k blocks r → KeepsScan (scan_of w blocks) r.scan
+keeps_all {w} {k} {blocks} {r} h = h.has.keeps blocks (all_in_bounds h.has.scan.source h.all h.has.some) (same_rows w.source k blocks)
+
+pub gives_all : (r : RowMover) (text : List ℕ) → ((s : WrittenScan) → KeepsScan s r.scan → text ≡ written_data s.frame s.head s.set s.interval s.blocks) → GivesMoved r text
+gives_all r text gives w k blocks h = gives (scan_of w blocks) (keeps_all h)
+
+pub gives_end : (r : RowMover) (result : Result (List ℕ) NoMemory) → IfOk result (λ made. (s : WrittenScan) → KeepsScan s r.scan → made ≡ written_data s.frame s.head s.set s.interval s.blocks) → IfOk result (GivesMoved r)
+gives_end r (Ok text) h = gives_all r text h
+gives_end r (Err e) h = tt
+
+-- by two facts of a success
+pub on_ok : {A B C : Type 0} (r : Result (Unit {0}) NoMemory) → (A → B → C) → OnOk r A → OnOk r B → OnOk r C
+on_ok (Ok u) f a b = f a b
+on_ok (Err e) f a b = tt
+
+-- AT THE BEGINNING
+
+pub begins_moved : (w : MovedScan) (blocks : Blocks) (r : RowMover) → IsMovedScan w → r.frame.now ≡ w.out → ((i : ℕ) → i < length w.out.components → slice_index r.columns i ≡ columns_of w i)
+    → ((i : ℕ) → i < length w.out.components → slice_index r.rows i ≡ rows_in_mcu w.source i) → r.units ≡ units_moved w → ((r.scan).units).left ≡ all_units w
+    → ((others : Blocks) → HasBlocksIn w.out others → KeepsScan (kept_scan w.out w.head w.set w.interval others) r.scan) → HasMoved w 0 blocks r
+begins_moved w blocks r is frame columns rows each left keeps = record {
+  scan = is;
+  frame = frame;
+  columns = columns;
+  rows = rows;
+  units = each;
+  left = left ∙ (let z : 0 * units_moved w ≡ 0 = omega arith in let e : all_units w ≡ all_units w - 0 * units_moved w = omega (arith, z) in e);
+  some = begins_none w.source blocks;
+  keeps = λ others range agree. keeps (moved_of w.transform w.out others) (moved_in others is range);
+}
+
+-- the first block of a component
+first_real : (f : Frame) (i : ℕ) → IsFrame f → i < length f.components → (0 < blocks_across f (component_at f i)) × (0 < blocks_down f (component_at f i))
+first_real f i is there =
+    let factors = All-get_or HasFactors f.components i no_component there is.factors in (
+      omega (arith, one_real f.width (component_at f i).h (h_max f) (h_max_some f is) is.width_low factors.h_low),
+      omega (arith, one_real f.height (component_at f i).v (v_max f) (v_max_some f is) is.height_low factors.v_low),
+    )
+
+-- no component of the output is more than those of the picture
+pub count_in : {w : MovedScan} (i : ℕ) → IsMovedScan w → i < length w.out.components → i < length w.source.components
+count_in {w} i is there = (from_row i 0 0 is (record { component = there; across = (first_real w.out i is.framed there).0; down = (first_real w.out i is.framed there).1 })).component

@@ -78,11 +78,20 @@ units_moved w = row_units w.out (head_components w.head) * rows_of_output w.sour
 abbrev pub all_units : MovedScan → ℕ
 all_units w = length (units w.out (head_components w.head))
 
--- THE VIEW of one MCU row: each row of blocks of the output is the row of the MCU row that it comes from.
+-- THE VIEW of one MCU row: each row of blocks of the output is the row of the MCU row that it comes from, where so many
+-- columns of each component are mirrored, and an MCU row has so many rows of it.
+abbrev pub seen_by : Coefs → List ℕ → List ℕ → Blocks
+seen_by row columns rows i x y =
+    signed (nat_lt x (slice_index columns i)) false (map_of row i (opposite (slice_index columns i) x) (y % slice_index rows i))
+
 abbrev pub row_blocks : MovedRow → Blocks
-row_blocks v i x y =
-    (let columns = slice_index v.columns.now i in
-    signed (nat_lt x columns) false (map_of v.row.now i (opposite columns x) (y % slice_index v.rows.now i)))
+row_blocks v = seen_by v.row.now v.columns.now v.rows.now
+
+-- Some picture has the same first MCU rows, and all its blocks are within the bounds.
+pub record BeginsInBounds (f : Frame) (k : ℕ) (blocks : Blocks) : Type 0 where
+  pub others : Blocks
+  pub range : HasBlocksIn f others
+  pub agree : AgreeInRows f k blocks others
 
 -- WHAT WAS WRITTEN: of a picture with these blocks the first `k` MCU rows, for all pictures that have the same ones.
 pub record HasMoved (w : MovedScan) (k : ℕ) (blocks : Blocks) (r : RowMover) : Type 0 where
@@ -92,6 +101,7 @@ pub record HasMoved (w : MovedScan) (k : ℕ) (blocks : Blocks) (r : RowMover) :
   pub rows : (i : ℕ) → i < length w.out.components → slice_index r.rows i ≡ rows_in_mcu w.source i
   pub units : r.units ≡ units_moved w
   pub left : ((r.scan).units).left ≡ all_units w - k * units_moved w
+  pub some : BeginsInBounds w.source k blocks
   pub keeps : (others : Blocks) → HasBlocksIn w.source others → AgreeInRows w.source k blocks others → KeepsScan (scan_of w others) r.scan
 
 -- the next MCU row
@@ -116,7 +126,6 @@ MovesZero old new = (w : MovedScan) (k : ℕ) (blocks : Blocks) → CanMoveZero 
 pub record HasAllMoved (w : MovedScan) (k : ℕ) (blocks : Blocks) (r : RowMover) : Type 0 where
   pub has : HasMoved w k blocks r
   pub all : mcu_rows w.source ≤ k
-  pub range : HasBlocksIn w.source blocks
 
 abbrev pub GivesMoved : RowMover → List ℕ → Type 0
 GivesMoved r text = (w : MovedScan) (k : ℕ) (blocks : Blocks) → HasAllMoved w k blocks r → text ≡ moved_data w blocks

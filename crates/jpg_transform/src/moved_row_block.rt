@@ -1,6 +1,8 @@
 //! The blocks of one MCU row of a picture, each transformed when it is asked for, where rows stay rows (T.81, A.2).
-ghost use Rattle.std.specs.Prelude.{◌≡◌};
+ghost use Rattle.std.specs.Prelude.{◌≡◌, ◌%◌, ◌<◌, ◌≤◌, slice_index};
 ghost use Rattle.jpg_spec.specs.Geometry.{IsReal};
+ghost use Rattle.jpg_base.specs.Cursor.{IsPadded};
+ghost use Rattle.jpg_coefs.specs.Picture.{map_of};
 ghost use Rattle.jpg_transform.specs.RowsMoved.{row_blocks};
 
 use crate::moved_block::opposite;
@@ -12,7 +14,12 @@ use jpg_coefs::BlockView;
 impl<'a> MovedRow<'a> {
     // A block of the MCU row, for a row of the output.
     #[inline(always)]
-    fn source(&self, component: u8, x: u32, y: u32) -> Block {
+    fn source(&self, component: u8, x: u32, y: u32) -> Block
+        requires few { component < 4 }
+        requires some { 1 ≤ slice_index self.now.rows.now component }
+        requires there { IsPadded self.now.row.now.frame component x (y % slice_index self.now.rows.now component) }
+        ensures { result ≡ map_of self.now.row.now component x (y % slice_index self.now.rows.now component) }
+    {
         self.row
             .block(component, x, y % self.rows[component as usize])
     }

@@ -1,8 +1,10 @@
 //! The MCU rows of a picture taken as they are read, and each transformed and written at once, as data of the output's one
 //! scan, where rows stay rows (T.81, A.2, F.1.2).
-ghost use Rattle.std.specs.Prelude.{◌≡◌, ◌<◌, ◌≤◌, ℕ, IfOk, OnOk, length, min, slice_index};
+ghost use Rattle.std.specs.Prelude.{◌≡◌, ◌*◌, ◌<◌, ◌≤◌, ℕ, IfOk, OnOk, length, min, slice_index};
 ghost use Rattle.jpg_spec.specs.Scan.{Blocks};
-ghost use Rattle.jpg_seq.specs.Rows.{rows_in_mcu};
+ghost use Rattle.jpg_spec.specs.Segments.{head_components};
+ghost use Rattle.jpg_base.specs.Cursor.{AreIn};
+ghost use Rattle.jpg_seq.specs.Rows.{row_units, rows_in_mcu};
 ghost use Rattle.jpg_transform.specs.RowsMoved.{MovedScan, rows_of_output};
 
 use crate::Job;
@@ -15,19 +17,27 @@ use jpg_huff::EncoderSet;
 use jpg_seq::KeptScan;
 use std::alloc::Global;
 
-// The rows of blocks of each component of the output in an MCU row of the picture that is read: one, if that has one
-// component.
+// The rows of blocks of a component in an MCU row: one, if it is the only component (T.81, A.2.2).
+fn rows_of(source: &Frame, i: u8) -> u32
+    requires { i < length source.now.components }
+    ensures { result ≡ rows_in_mcu source.now i }
+{
+    if source.count() == 1 {
+        1
+    } else {
+        u32::from(source.component(i).v)
+    }
+}
+
+// Those of the first `count` components.
 fn all_rows(source: &Frame, count: u8) -> [u32; 4]
-    requires { count ≤ length source.now.components }
+    requires few { count ≤ 4 }
+    requires there { (i : ℕ) → i < count → i < length source.now.components }
     ensures { (i : ℕ) → i < count → slice_index result i ≡ rows_in_mcu source.now i }
 {
-    source.checked();
     let mut rows = [1; 4];
-    if source.count() == 1 {
-        return rows;
-    }
     for i in 0..count {
-        rows[i as usize] = u32::from(source.component(i).v);
+        rows[i as usize] = rows_of(source, i);
     }
     rows
 }
@@ -35,13 +45,23 @@ fn all_rows(source: &Frame, count: u8) -> [u32; 4]
 // How many rows of MCUs of the output are in one of the picture that is read: several, if only the first component of
 // several is kept.
 fn rows_of_output(source: &Frame, out: &Frame) -> u8
-    ensures { result ≡ rows_of_output source.now out.now }
+    ensures value { result ≡ rows_of_output source.now out.now }
+    ensures few { result ≤ 4 }
 {
     source.checked();
     if source.count() == out.count() {
         return 1;
     }
     source.component(0).v
+}
+
+// How many units of the output's scan an MCU row of the picture that is read has.
+fn units_moved(source: &Frame, out: &Frame, head: &ScanHead) -> u64
+    requires { AreIn out.now (head_components head.now) }
+    ensures { result ≡ row_units out.now (head_components head.now) * rows_of_output source.now out.now }
+{
+    let row = u64::from(out.scan_mcus(head).wide) * u64::from(out.mcu_units(head));
+    row * u64::from(rows_of_output(source, out))
 }
 
 /// Takes the MCU rows of a picture, from the top, and writes the data of the transformed picture's one scan into memory. It
@@ -79,14 +99,16 @@ impl<'a> RowMover<'a> {
     {
         let frame = &job.plan.out.frame;
         frame.checked();
-        let wide = frame.scan_mcus(head).wide;
-        let units = u64::from(wide) * u64::from(frame.mcu_units(head));
+        let columns = all_columns(job.transform, frame);
+        let rows = all_rows(source, frame.count());
+        let scan = KeptScan::new(alloc, frame, head, encoders, interval);
+        let units = units_moved(source, frame, head);
         RowMover {
             frame,
-            columns: all_columns(job.transform, frame),
-            rows: all_rows(source, frame.count()),
-            scan: KeptScan::new(alloc, frame, head, encoders, interval),
-            units: units * u64::from(rows_of_output(source, frame)),
+            columns,
+            rows,
+            scan,
+            units,
         }
     }
 

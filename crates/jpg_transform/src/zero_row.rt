@@ -1,5 +1,5 @@
 //! A picture all whose blocks are zero, as a view (T.81, A.2).
-ghost use Rattle.jpg_spec.specs.Elements.{zeros};
+ghost use Rattle.jpg_spec.specs.FileMeaning.{no_blocks};
 
 use jpg_base::{Block, Frame};
 use jpg_coefs::BlockView;
@@ -13,7 +13,7 @@ pub(crate) struct ZeroRow<'a> {
 impl<'a> BlockView for ZeroRow<'a> {
     ghost numbers = { λ v. v.frame.now };
 
-    ghost blocks = { λ v i x y. zeros 64 };
+    ghost blocks = { λ v. no_blocks };
 
     fn frame(&self) -> &Frame {
         self.frame

@@ -1,7 +1,7 @@
 use Rattle.std.proofs.Common.{refl, sym, ◌∙◌}
 use Rattle.jpg_transform.specs.Planned.{choice_view}
 use Rattle.jpg_transform.proofs.MovedScript.{checked_fault, checked_none}
-use Rattle.jpg_transform.proofs.PlannedHead.{head_by, head_gray}
+use Rattle.jpg_transform.proofs.PlannedHead.{head_by, head_gray, head_refused}
 use Rattle.jpg_transform.proofs.planning.plan_head.Goals as goal
 
 pub returns-in-Err : goal.returns-in-Err
@@ -29,3 +29,6 @@ returns-in-Ok c = λ p is.
       transform = refl;
       gray = refl;
     })
+
+pub returns-in-Some : goal.returns-in-Some
+returns-in-Some c = λ p is. head_refused (choice_view c.args.choice.now) c.args.head.now c.in-Some.fault p is c.in-Some.ensures
