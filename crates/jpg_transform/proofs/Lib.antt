@@ -1,3 +1,4 @@
+pub mod AnyPicture
 pub mod Applied
 pub mod GrayFaults
 pub mod HeadColour

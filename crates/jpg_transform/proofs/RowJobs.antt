@@ -35,11 +35,11 @@ job_writes p choice job h is =
     let a : Arguments = record { frame = out; transform = t; over = transposes t; columns = λ i. columns_in t out i; rows = λ i. rows_in t out i } in
     let given : AreGiven a = record { frame = is; over = refl; columns = λ i low. refl; rows = λ i low. refl } in
     writes_plan p choice job.plan out (moved_of t out (map_of p.coefs)) refl is h.planned
-    (shown_by {choice} {p.frame} {a} {map_of p.coefs} (picture_meaning p) p.keeps.frame given (whole_picture p) (seen_meaning p) (is_output p choice job h))
+    (shown_by (picture_meaning p) p.keeps.frame given (whole_picture p) (seen_meaning p) (is_output p choice job h))
 
 -- its scan has all components
 pub all_of : (plan : Plan) (kept : List (ℕ × List ℕ)) (f : Frame) (blocks : Blocks) → CanWriteFile plan kept f blocks → (o : Option SoleScan) → IfSome o (IsAllOf plan) → IfSome o (IsOfAll f)
-all_of plan kept f blocks can None h = tt
+all_of plan kept f blocks can None h = h
 all_of plan kept f blocks can (Some scan) h = h kept f blocks can
 
 -- so that it can be written MCU row by MCU row

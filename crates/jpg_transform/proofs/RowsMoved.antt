@@ -45,7 +45,7 @@ use Rattle.jpg_transform.specs.RowsMoved.{BeginsInBounds, CanMove, CanMoveZero, 
 use Rattle.jpg_transform.specs.declared.row_mover.RowMover.{RowMover}
 use Rattle.jpg_transform.proofs.Opposites.{all_above}
 use Rattle.jpg_transform.proofs.RowPlaces.{HaveRows, IsBetween, between, rows_for}
-use Rattle.jpg_transform.proofs.Showing.{Arguments, reached_by}
+use Rattle.jpg_transform.proofs.Showing.{AreGiven, Arguments, reached_by}
 use Rattle.jpg_transform.proofs.Viewed.{stays}
 
 -- BLOCKS, where rows stay rows
@@ -84,7 +84,8 @@ pub from_row : {w : MovedScan} (i x y : ℕ) → IsMovedScan w → IsReal w.out 
 from_row {w} i x y is real =
     let t = w.transform in
     let a : Arguments = record { frame = w.out; transform = t; over = transposes t; columns = λ i. columns_in t w.out i; rows = λ i. rows_in t w.out i } in
-    let from = reached_by {is.choice} {w.source} {a} i x y is.source (record { frame = is.framed; over = refl; columns = λ i h. refl; rows = λ i h. refl }) is.output real in
+    let given : AreGiven a = record { frame = is.framed; over = refl; columns = λ i h. refl; rows = λ i h. refl } in
+    let from = reached_by i x y is.source given is.output real in
     subst (λ r. IsReal w.source i (opposite (columns_of w i) x) r) (ap (λ r. opposite r y) (no_rows t w.out i is.stays) ∙ sym (stays 0 y (omega arith))) (from.plain (none_over t is.stays).0)
 
 signed_in : (b : Bool) (n : ℕ) (block : List ℤ) → IsBlockIn (bounds_of n) block → IsBlockIn (bounds_of n) (signed b false block)
@@ -150,9 +151,7 @@ none_left {w} k is low =
 -- THE NUMBER of the next units
 
 least_of : (a b : ℕ) → ((min a b ≡ a) × (a ≤ b)) ⊎ ((min a b ≡ b) × (b ≤ a))
-least_of zero b = inl (refl, omega arith)
-least_of (suc a) zero = inr (refl, omega arith)
-least_of (suc a) (suc b) = ⊎_elim (λ (h : (min a b ≡ a) × (a ≤ b)). inl (ap suc h.0, omega (arith, h.1))) (λ (h : (min a b ≡ b) × (b ≤ a)). inr (ap suc h.0, omega (arith, h.1))) (least_of a b)
+least_of a b = ⊎_elim (λ (h : a < b). inl (omega (arith, h), omega (arith, h))) (λ (h : b ≤ a). inr (omega (arith, h), omega (arith, h))) (cases_lt a b)
 
 pub some_least : (a b n : ℕ) → n ≡ min a b → 1 ≤ a → 1 ≤ b → (1 ≤ n) × (n ≤ b)
 some_least a b n e some more = ⊎_elim
@@ -306,11 +305,11 @@ signed_zeros false = refl
 pub zero_due : {w : MovedScan} (k : ℕ) (blocks others : Blocks) → IsMovedScan w → AgreeInRows w.source (k + 1) blocks others
     → ((i x y : ℕ) → IsReal w.source i x y → k * rows_in_mcu w.source i ≤ y → y < (k + 1) * rows_in_mcu w.source i → blocks i x y ≡ zeros 64)
     → (i x y : ℕ) → IsReal w.out i x y → k * rows_in_mcu w.source i ≤ y → y < (k + 1) * rows_in_mcu w.source i → moved_of w.transform w.out others i x y ≡ zeros 64
-zero_due {w} k blocks others is agree zero i x y real low high =
+zero_due {w} k blocks others is agree clear i x y real low high =
     let c = columns_of w i in
     let from = from_row i x y is real in
     moved_is w.transform w.out others i x y is.stays
-    ∙ ap (λ (b : List ℤ). signed (nat_lt x c) false b) (sym (agree.same i (opposite c x) y from.component from.across from.down high) ∙ zero i (opposite c x) y from low high) ∙ signed_zeros (nat_lt x c)
+    ∙ ap (λ (b : List ℤ). signed (nat_lt x c) false b) (sym (agree.same i (opposite c x) y from.component from.across from.down high) ∙ clear i (opposite c x) y from low high) ∙ signed_zeros (nat_lt x c)
 
 -- AFTER A ROW
 
@@ -332,6 +331,11 @@ moved_agree {w} {k} {blocks} {others} {r} has agree = record {
   rows = has.rows;
   units = has.units;
   left = has.left;
+  some = record {
+    others = has.some.others;
+    range = has.some.range;
+    agree = record { same = λ i x y there across down low. sym (agree.same i x y there across down low) ∙ has.some.agree.same i x y there across down low };
+  };
   keeps = λ more range same. has.keeps more range (record { same = λ i x y there across down low. agree.same i x y there across down low ∙ same.same i x y there across down low });
 }
 
@@ -379,7 +383,7 @@ begins_row f k blocks row lends some =
     sym (lends.row.same i x d real.component real.across (omega (arith, low, high, next)) (omega (arith, whole, below)) ∙ ap (blocks i x) whole)))
 
 begins_zero : (f : Frame) (k : ℕ) (blocks : Blocks) → ((i x y : ℕ) → IsReal f i x y → k * rows_in_mcu f i ≤ y → y < (k + 1) * rows_in_mcu f i → blocks i x y ≡ zeros 64) → BeginsInBounds f k blocks → BeginsInBounds f (k + 1) blocks
-begins_zero f k blocks zero some = begins_next f k blocks (λ i x y. zeros 64) some (λ i x y. zeros_here f) zero
+begins_zero f k blocks clear some = begins_next f k blocks (λ i x y. zeros 64) some (λ i x y. zeros_here f) clear
 
 -- none yet
 pub begins_none : (f : Frame) (blocks : Blocks) → BeginsInBounds f 0 blocks
@@ -496,12 +500,12 @@ gives_all r text gives w k blocks h = gives (scan_of w blocks) (keeps_all h)
 
 pub gives_end : (r : RowMover) (result : Result (List ℕ) NoMemory) → IfOk result (λ made. (s : WrittenScan) → KeepsScan s r.scan → made ≡ written_data s.frame s.head s.set s.interval s.blocks) → IfOk result (GivesMoved r)
 gives_end r (Ok text) h = gives_all r text h
-gives_end r (Err e) h = tt
+gives_end r (Err e) h = h
 
 -- by two facts of a success
 pub on_ok : {A B C : Type 0} (r : Result (Unit {0}) NoMemory) → (A → B → C) → OnOk r A → OnOk r B → OnOk r C
 on_ok (Ok u) f a b = f a b
-on_ok (Err e) f a b = tt
+on_ok (Err e) f a b = a
 
 -- AT THE BEGINNING
 

@@ -5,8 +5,8 @@ use Rattle.jpg_spec.specs.Segments.{head_components}
 use Rattle.jpg_seq.specs.Rows.{row_units}
 use Rattle.jpg_transform.proofs.row_mover.units_moved.Goals as goal
 
-pub overflow_mul-row : goal.overflow_mul-row
-overflow_mul-row c =
+pub overflow_mul-result : goal.overflow_mul-result
+overflow_mul-result c =
     let wide : c.scan_mcus.result.wide ≤ 1048576 = c.scan_mcus.ensures.few.0 in
     let row = mul-le c.from.result c.from-2.result 1048576 64 (omega (arith, c.from.ensures, wide)) (omega (arith, c.from-2.ensures, c.mcu_units.ensures.few)) in
     let all = mul-le (c.from.result * c.from-2.result) c.from-3.result (1048576 * 64) 4 row (omega (arith, c.from-3.ensures, c.rows_of_output.ensures.few)) in
