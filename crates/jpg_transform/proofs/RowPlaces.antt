@@ -86,7 +86,7 @@ one_down : (f : Frame) → IsFrame f → length f.components ≡ 1 → blocks_do
 one_down f is one = single_down f.height f.components 0 one (omega arith) is.factors
 
 -- those of a scan of all components
-all_down : (f : Frame) (ids : List ℕ) → AreIn f ids → length ids ≡ length f.components → scan_mcus_down f ids ≡ mcu_rows f
+pub all_down : (f : Frame) (ids : List ℕ) → AreIn f ids → length ids ≡ length f.components → scan_mcus_down f ids ≡ mcu_rows f
 all_down f [] are all = absurd (omega (arith, are.some))
 all_down f (i ∷ []) are all =
     let first : i ≡ 0 = (let l = are.there 0 0 (omega arith) in omega (arith, l, all)) in
@@ -118,7 +118,7 @@ module _ (f g : Frame) (is : IsFrame f) (framed : IsFrame g) (high : g.height �
       rows =
           ap (λ n. cond (n == 1) (blocks_down g (component_at g 0)) (mcus_down g)) count
           ∙ ap (λ n. cond (length f.components == 1) n (mcus_down g))
-              (ap (λ h. div_up (div_up (h * (component_at g 0).v) (v_max g)) 8) high ∙ ap (λ v. div_up (div_up (f.height * v) (v_max g)) 8) (same_factor f g same 0) ∙ ap (λ m. div_up (div_up (f.height * (component_at f 0).v) m) 8) most)
+          (ap (λ h. div_up (div_up (h * (component_at g 0).v) (v_max g)) 8) high ∙ ap (λ v. div_up (div_up (f.height * v) (v_max g)) 8) (same_factor f g same 0) ∙ ap (λ m. div_up (div_up (f.height * (component_at f 0).v) m) 8) most)
           ∙ ap (λ n. cond (length f.components == 1) (blocks_down f (component_at f 0)) n) (ap (λ h. div_up h (8 * v_max g)) high ∙ ap (λ m. div_up f.height (8 * m)) most)
 
       down : (ids : List ℕ) → AreIn g ids → length ids ≡ length g.components → scan_mcus_down g ids ≡ mcu_rows f
