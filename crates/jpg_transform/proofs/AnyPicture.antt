@@ -1,5 +1,5 @@
 -- A picture with a head, with these blocks and kept markers.
-use Rattle.std.proofs.Common.{◌≡◌, ℕ, zero, suc, ◌+◌, ◌-◌, ◌*◌, ◌/◌, ◌%◌, ◌<◌, ◌≤◌, Bool, true, false, cond, List, [], ◌∷◌, length, take, get_or, map, refl, sym, ap, ◌∙◌, subst, arith, ℤ, pos, ⊎_elim}
+use Rattle.std.proofs.Common.{◌≡◌, ℕ, zero, suc, ◌+◌, ◌-◌, ◌*◌, ◌/◌, ◌%◌, ◌<◌, ◌≤◌, Bool, true, false, cond, List, [], ◌∷◌, length, take, get_or, map, refl, sym, ap, ◌∙◌, subst, arith, ℤ, ⊎_elim}
 use Rattle.std.proofs.Math.Path.{fun_ext}
 use Rattle.std.specs.Prelude.{nat_lt, sum_by}
 use Rattle.std.proofs.lemmas.Bool.{cases_lt}
@@ -8,8 +8,8 @@ use Rattle.std.proofs.lemmas.List.{get_or-map, get_or_past, length-map}
 use Rattle.std.proofs.lemmas.List.Sums.{sum_by-cons}
 use Rattle.std.proofs.lemmas.Nat.{div-mul-add, mod-mul-add, mul-add-lt}
 use Rattle.jpg_spec.specs.Elements.{IsBlockIn, zeros}
-use Rattle.jpg_spec.specs.FrameHeader.{IsFrame, padded_across, padded_down}
-use Rattle.jpg_spec.specs.Geometry.{Frame, IsReal, bounds, component_at, no_component, padded_blocks}
+use Rattle.jpg_spec.specs.FrameHeader.{padded_across, padded_down}
+use Rattle.jpg_spec.specs.Geometry.{Frame, IsReal, bounds, no_component, padded_blocks}
 use Rattle.jpg_spec.specs.Lists.{below}
 use Rattle.jpg_spec.specs.Meaning.{Meaning, colour_of, real_blocks}
 use Rattle.jpg_spec.specs.Ranges.{AreInRange}
@@ -36,7 +36,7 @@ use Rattle.jpg_transform.proofs.MovedFile.{place_real}
 
 -- BLOCKS BY THEIR NUMBER, in grids one after another, row by row
 
-numbered : {C : Type 0} → (C → ℕ) → (C → ℕ) → Blocks → List C → ℕ → List ℤ
+abbrev pub numbered : {C : Type 0} → (C → ℕ) → (C → ℕ) → Blocks → List C → ℕ → List ℤ
 numbered w h blocks [] n = zeros 64
 numbered w h blocks (c ∷ more) n = cond (nat_lt n (w c * h c)) (blocks 0 (n % w c) (n / w c)) (numbered w h (λ i x y. blocks (suc i) x y) more (n - w c * h c))
 
@@ -64,16 +64,18 @@ module _ {C : Type 0} (w h : C → ℕ) where
       ∙ ap (numbered w h (λ i x y. blocks (suc i) x y) cs) e
       ∙ number_at (λ i x y. blocks (suc i) x y) cs d i x y (omega (arith, there)) across down
 
+  either_in : (b : Bounds) (t : Bool) (one other : List ℤ) → IsBlockIn b one → IsBlockIn b other → IsBlockIn b (cond t one other)
+  either_in b true one other is are = is
+  either_in b false one other is are = are
+
   numbered_in : (b : Bounds) (blocks : Blocks) (cs : List C) (n : ℕ) → ((i x y : ℕ) → IsBlockIn b (blocks i x y)) → IsBlockIn b (zeros 64) → IsBlockIn b (numbered w h blocks cs n)
   numbered_in b blocks [] n each none = none
-  numbered_in b blocks (c ∷ cs) n each none = by (nat_lt n (w c * h c))
-    where
-      by : (t : Bool) → IsBlockIn b (cond t (blocks 0 (n % w c) (n / w c)) (numbered w h (λ i x y. blocks (suc i) x y) cs (n - w c * h c)))
-      by true = each 0 (n % w c) (n / w c)
-      by false = numbered_in b (λ i x y. blocks (suc i) x y) cs (n - w c * h c) (λ i x y. each (suc i) x y) none
+  numbered_in b blocks (c ∷ cs) n each none =
+      either_in b (nat_lt n (w c * h c)) (blocks 0 (n % w c) (n / w c)) (numbered w h (λ i x y. blocks (suc i) x y) cs (n - w c * h c)) (each 0 (n % w c) (n / w c))
+      (numbered_in b (λ i x y. blocks (suc i) x y) cs (n - w c * h c) (λ i x y. each (suc i) x y) none)
 
 module _ (f : Frame) (blocks : Blocks) where
-  number : ℕ → List ℤ
+  abbrev pub number : ℕ → List ℤ
   number n = numbered (padded_across f) (padded_down f) (real_blocks f blocks) f.components n
 
   abbrev pub coefs_of : Coefs
@@ -155,6 +157,7 @@ module _ (h : StripHead) (M : Meaning) (is : IsHeadOfPicture h M) (range : HasBl
       by i x y false e = refl
 
   pub picture_of : (p : Picture) × IsPictureOf h M p
+  unfolding picture
   picture_of = (
     picture,
     record {

@@ -1,19 +1,13 @@
 -- Planning by what a picture has except for its blocks and its kept markers.
-use Rattle.std.proofs.Common.{◌≡◌, Bool, true, false, ◌&&◌, ◌==◌, List, refl, sym, ap, ◌∙◌, None, Some, Ok, Err}
-use Rattle.jpg_spec.specs.Geometry.{Frame, component_at, h_max, v_max}
+use Rattle.std.proofs.Common.{◌≡◌, Bool, true, sym, ap, ◌∙◌, None, Some}
+use Rattle.jpg_spec.specs.Geometry.{Frame}
 use Rattle.jpg_spec_move.specs.Laws.{FirstIsGreatest}
 use Rattle.jpg_spec_move.specs.Moved.{Choice, gray_fault, is_gray_or_ycbcr, moved_frame, picture_fault}
-use Rattle.jpg_spec.specs.InForce.{first_some}
-use Rattle.jpg_spec_write.specs.Script.{Entry}
-use Rattle.jpg_spec_write.specs.ScriptFaults.{script_fault}
-use Rattle.jpg_spec_write.specs.ScansAsked.{script_due}
 use Rattle.jpg_spec_write.specs.declared.picture_fault.PictureFault.{PictureFault}
 use Rattle.jpg_markers.specs.declared.writing.head.OutHead.{OutHead}
-use Rattle.jpg_scans.specs.Judged.{judged}
 use Rattle.jpg_file.specs.Read.PictureRead.{picture_meaning}
 use Rattle.jpg_file.specs.declared.read.picture.Picture.{Picture}
 use Rattle.jpg_file.specs.declared.read.strip_head.StripHead.{StripHead}
-use Rattle.jpg_spec.specs.Segments.{QuantTable}
 use Rattle.jpg_transform.specs.Planned.{IsHeadOf, IsOutHeadBy, IsOutHeadOf, head_fault, is_first_greatest, moved_colour, moved_tables, process_in}
 use Rattle.jpg_transform.proofs.GrayFaults.{fault_by, first_by, gray_by_frame}
 use Rattle.jpg_transform.proofs.MovedScript.{gray_some}

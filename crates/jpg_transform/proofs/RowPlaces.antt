@@ -1,26 +1,25 @@
 -- Where rows stay rows: the rows of blocks and of MCUs of the output that come from one MCU row, and the places of their units.
-use Rattle.std.proofs.Common.{◌≡◌, ℕ, zero, suc, ◌+◌, ◌-◌, ◌*◌, ◌/◌, ◌%◌, ◌<◌, ◌≤◌, ◌==◌, ◌&&◌, Bool, true, false, cond, List, [], ◌∷◌, length, take, drop, get_or, map, refl, sym, ap, ◌∙◌, subst, arith, ⊎_elim}
-use Rattle.std.specs.Prelude.{nat_lt, flat_map}
+use Rattle.std.proofs.Common.{◌≡◌, ℕ, ◌+◌, ◌-◌, ◌*◌, ◌/◌, ◌%◌, ◌<◌, ◌≤◌, ◌==◌, Bool, true, false, cond, List, [], ◌∷◌, length, take, drop, get_or, map, refl, sym, ap, ◌∙◌, subst, arith, ⊎_elim}
+use Rattle.std.specs.Prelude.{flat_map}
 use Rattle.std.specs.List.{All}
 use Rattle.std.proofs.Math.Nat.{add-mul, div-add-mod', div-lt_iff_lt-mul, mod-lt}
 use Rattle.std.proofs.lemmas.Bool.{cases_lt}
 use Rattle.std.proofs.lemmas.Bool.Decides.{nat_tests}
 use Rattle.std.proofs.lemmas.List.{get_or-drop, get_or-take, length-drop, length-map, length-take}
-use Rattle.std.proofs.lemmas.List.Elements.{All-from_get_or, All-get_or, All-nil, All-same, All-drop, All-take}
+use Rattle.std.proofs.lemmas.List.Elements.{All-from_get_or, All-get_or, All-nil}
 use Rattle.std.proofs.lemmas.Nat.{mul-le}
-use Rattle.jpg_spec.specs.FrameHeader.{HasFactors, IsFrame}
-use Rattle.jpg_spec.specs.Geometry.{Frame, IsReal, blocks_across, blocks_down, component_at, div_up, greatest, h_max, mcu_part, mcus_across, mcus_down, no_component, place, units, v_max}
-use Rattle.jpg_spec.specs.Grids.{Grids, frame_grids}
+use Rattle.jpg_spec.specs.FrameHeader.{IsFrame}
+use Rattle.jpg_spec.specs.Geometry.{Frame, blocks_across, blocks_down, component_at, div_up, greatest, mcu_part, mcus_across, mcus_down, place, units, v_max}
+use Rattle.jpg_spec.specs.Grids.{Grids}
 use Rattle.jpg_spec.specs.Lists.{below}
 use Rattle.jpg_spec.specs.ScanRows.{scan_row}
-use Rattle.jpg_spec.specs.declared.frame.Component.{Component}
 use Rattle.jpg_spec.specs.declared.frame.Place.{Place}
 use Rattle.jpg_spec.proofs.Basics.Common.{clash}
 use Rattle.jpg_spec.proofs.Headers.FrameFound.{factor_down}
 use Rattle.jpg_spec.proofs.McuRows.RowCounts.{single_down}
 use Rattle.jpg_spec.proofs.Places.PlacesFound.{covers, least}
 use Rattle.jpg_spec.proofs.Places.PlacesSome.{v_max_some}
-use Rattle.jpg_spec_move.specs.Moved.{Choice, grayed_frame, transformed_frame, trimmed_frame}
+use Rattle.jpg_spec_move.specs.Moved.{Choice, grayed_frame}
 use Rattle.jpg_spec_move.specs.declared.transform.Transform.{Transform}
 use Rattle.jpg_spec_move.specs.declared.transform.Transform.TheVariants.{Keep, FlipH, FlipV, Transpose, Transverse, Rotate90, Rotate180, Rotate270}
 use Rattle.jpg_base.specs.Cursor.{AreIn, scan_mcus_down}

@@ -1,6 +1,6 @@
 -- Pictures transformed MCU row by MCU row.
-use Rattle.std.proofs.Common.{◌≡◌, ◌⊎◌, ℕ, zero, suc, ◌+◌, ◌-◌, ◌*◌, ◌/◌, ◌%◌, ◌<◌, ◌≤◌, ◌==◌, Bool, true, false, cond, List, length, take, drop, get_or, slice_index_or, refl, sym, ap, ◌∙◌, subst, arith, ℤ, negsuc, ⊎_elim, inl, inr}
-use Rattle.std.specs.Prelude.{◌≤ℤ◌, IfOk, OnOk, Result, Ok, Err, min, nat_lt, slice_index}
+use Rattle.std.proofs.Common.{◌≡◌, ◌⊎◌, ℕ, ◌+◌, ◌-◌, ◌*◌, ◌/◌, ◌%◌, ◌<◌, ◌≤◌, ◌==◌, Bool, true, false, cond, List, length, take, drop, get_or, refl, sym, ap, ◌∙◌, subst, arith, ℤ, ⊎_elim, inl, inr}
+use Rattle.std.specs.Prelude.{IfOk, OnOk, Result, Ok, Err, min, nat_lt, slice_index}
 use Rattle.std.specs.List.{All}
 use Rattle.std.proofs.Math.Nat.{add-mul, mod-lt}
 use Rattle.std.proofs.lemmas.Bool.{cases_lt}
@@ -9,13 +9,13 @@ use Rattle.std.proofs.lemmas.List.Elements.{All-drop, All-from_get_or, All-get_o
 use Rattle.std.proofs.lemmas.Nat.{mod-mul-add, mul-le}
 use Rattle.jpg_spec.specs.Elements.{IsBlockIn, zeros}
 use Rattle.jpg_spec.specs.FileMeaning.{no_blocks}
-use Rattle.jpg_spec.specs.FrameHeader.{HasFactors, IsFrame, padded_across, padded_down}
+use Rattle.jpg_spec.specs.FrameHeader.{HasFactors, IsFrame, padded_down}
 use Rattle.jpg_spec.specs.Geometry.{Frame, IsReal, blocks_across, blocks_down, bounds, bounds_of, component_at, h_max, mcu_row_frame, mcus_down, no_component, place, units, v_max}
 use Rattle.jpg_spec.specs.Scan.{Blocks}
-use Rattle.jpg_spec.specs.Segments.{ScanHead, head_components}
+use Rattle.jpg_spec.specs.Segments.{head_components}
 use Rattle.jpg_spec.specs.declared.frame.Place.{Place}
 use Rattle.jpg_spec.proofs.Basics.Common.{clash, same_of}
-use Rattle.jpg_spec_move.specs.Moved.{Choice, columns_in, rows_in}
+use Rattle.jpg_spec_move.specs.Moved.{columns_in, rows_in}
 use Rattle.jpg_spec_move.specs.Moves.{mirrored}
 use Rattle.jpg_spec_move.specs.Transforms.{mirrors_down, opposite, placed, signed, transposes}
 use Rattle.jpg_spec_move.specs.declared.transform.Transform.{Transform}
@@ -27,7 +27,7 @@ use Rattle.jpg_spec.proofs.Places.PlacesSome.{h_max_some, v_max_some}
 use Rattle.jpg_base.proofs.Real.{one_real}
 use Rattle.jpg_spec.proofs.Writing.MovedWritten.{zeros_here}
 use Rattle.jpg_spec_write.specs.WrittenFile.{HasBlocksIn}
-use Rattle.jpg_base.specs.Cursor.{AreIn, IsPadded, scan_mcus_down}
+use Rattle.jpg_base.specs.Cursor.{IsPadded, scan_mcus_down}
 use Rattle.jpg_base.specs.declared.names.NoMemory.{NoMemory}
 use Rattle.jpg_base.proofs.ScanPlaces.{padded_of}
 use Rattle.jpg_base.proofs.UnitCounts.{length_units}
@@ -35,13 +35,13 @@ use Rattle.jpg_coefs.specs.Picture.{Picture as Coefs, map_of}
 use Rattle.jpg_coefs.specs.ScanUnits.{AgreeAt}
 use Rattle.jpg_coefs.specs.Sinks.{IsScanPlace}
 use Rattle.jpg_coefs.proofs.Places.{is_real_place, scan_places, some_places}
-use Rattle.jpg_file.specs.Read.ReadRows.{AgreeInRows, AreOfRow, LendsRow}
+use Rattle.jpg_file.specs.Read.ReadRows.{AgreeInRows, LendsRow}
 use Rattle.jpg_seq.specs.Kept.{CanKeep, KeepsScan, WrittenScan, kept_scan}
 use Rattle.jpg_seq.specs.ScanWritten.{written_data}
 use Rattle.jpg_seq.specs.Rows.{row_units, rows_in_mcu}
 use Rattle.jpg_seq.proofs.ScanRows.{one_row}
-use Rattle.jpg_transform.specs.Places.{ComesFrom, HasRowSources, IsOutput, keeps_rows}
-use Rattle.jpg_transform.specs.RowsMoved.{BeginsInBounds, CanMove, CanMoveZero, GivesMoved, HasAllMoved, HasMoved, IsMovedScan, MovedScan, TellsWhole, all_units, mcu_rows, moved_data, moved_of, moved_scan, rows_of_output, scan_of, seen_by, units_moved}
+use Rattle.jpg_transform.specs.Places.{HasRowSources, keeps_rows}
+use Rattle.jpg_transform.specs.RowsMoved.{BeginsInBounds, CanMove, CanMoveZero, GivesMoved, HasAllMoved, HasMoved, IsMovedScan, MovedScan, TellsWhole, all_units, mcu_rows, moved_of, rows_of_output, scan_of, seen_by, units_moved}
 use Rattle.jpg_transform.specs.declared.row_mover.RowMover.{RowMover}
 use Rattle.jpg_transform.proofs.Opposites.{all_above}
 use Rattle.jpg_transform.proofs.RowPlaces.{HaveRows, IsBetween, between, rows_for}

@@ -2,7 +2,7 @@
 use Rattle.std.specs.Prelude.{◌≡◌, ◌==◌, ◌&&◌, ℕ, ◌+◌, ◌-◌, ◌*◌, ◌%◌, ◌<◌, ◌≤◌, Bool, true, false, nat_lt, if◌then◌else◌, List, length, slice_index}
 use Rattle.jpg_spec.specs.Elements.{zeros}
 use Rattle.jpg_spec.specs.FrameHeader.{IsFrame}
-use Rattle.jpg_spec.specs.Geometry.{Frame, IsReal, blocks_across, blocks_down, component_at, mcus_down, units}
+use Rattle.jpg_spec.specs.Geometry.{Frame, IsReal, blocks_down, component_at, mcus_down, units}
 use Rattle.jpg_spec.specs.Scan.{Blocks}
 use Rattle.jpg_spec.specs.Segments.{ScanHead, head_components}
 use Rattle.jpg_spec_move.specs.Moved.{Choice, columns_in, rows_in}
@@ -12,7 +12,6 @@ use Rattle.jpg_spec_write.specs.WrittenFile.{HasBlocksIn}
 use Rattle.jpg_coefs.specs.Picture.{Picture as Coefs, map_of}
 use Rattle.jpg_file.specs.Read.ReadRows.{AgreeInRows, LendsRow}
 use Rattle.jpg_file.specs.Write.SoleScan.{is_sole}
-use Rattle.jpg_file.specs.declared.write.Plan.{Plan}
 use Rattle.jpg_huff.specs.declared.set.TableSet.{TableSet}
 use Rattle.jpg_seq.specs.Kept.{KeepsScan, WrittenScan, kept_scan}
 use Rattle.jpg_seq.specs.NewReader.{IsSeqScan}

@@ -1,4 +1,4 @@
-use Rattle.std.proofs.Common.{List, ℕ, refl, sym, subst}
+use Rattle.std.proofs.Common.{refl, sym, subst}
 use Rattle.jpg_spec.specs.Geometry.{Frame}
 use Rattle.jpg_transform.specs.Places.{HasRowSources}
 use Rattle.jpg_transform.proofs.RowsMoved.{count_in, moved_row, on_ok, one_put, puts_some, sources}
