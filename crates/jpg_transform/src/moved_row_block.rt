@@ -11,6 +11,19 @@ use crate::signs::signed;
 use jpg_base::{Block, Frame};
 use jpg_coefs::BlockView;
 
+// The row that y is among so many, which are repeated. It divides only by 3 and 4.
+#[inline(always)]
+fn row_among(rows: u32, y: u32) -> u32
+    requires { 1 ≤ rows }
+    ensures { result ≡ y % rows }
+{
+    match rows {
+        1 => 0,
+        2 => y % 2,
+        _ => y % rows,
+    }
+}
+
 impl<'a> MovedRow<'a> {
     // A block of the MCU row, for a row of the output.
     #[inline(always)]
@@ -21,7 +34,7 @@ impl<'a> MovedRow<'a> {
         ensures { result ≡ map_of self.now.row.now component x (y % slice_index self.now.rows.now component) }
     {
         self.row
-            .block(component, x, y % self.rows[component as usize])
+            .block(component, x, row_among(self.rows[component as usize], y))
     }
 
     // A block of the output, mirrored.
