@@ -1,6 +1,6 @@
 -- The fault of a picture that is to be converted to grayscale, by its frame.
 use Rattle.std.proofs.Common.{◌≡◌, ◌≤◌, Bool, true, false, cond, not, ◌&&◌, ◌==◌, [], length, refl, sym, ap, ◌∙◌, arith, Option, None, Some}
-use Rattle.jpg_spec.specs.Geometry.{component_at, greatest, h_max, v_max}
+use Rattle.jpg_spec.specs.Geometry.{Frame, component_at, greatest, h_max, v_max}
 use Rattle.jpg_spec_move.specs.Laws.{FirstIsGreatest}
 use Rattle.jpg_spec.specs.Lists.{below}
 use Rattle.jpg_spec.specs.Meaning.{PictureComponent}
@@ -41,12 +41,14 @@ gray_by_frame gray p =
     ∙ ap (λ n. fault_by gray (is_gray_or_ycbcr p.colour) ((component_at f 0).h == h_max f && (component_at f 0).v == n)) down
 
 -- if there is none, the first component has the greatest factors
-pub first_greatest : (gray : Bool) (p : Picture) → gray_fault gray (picture_meaning p) ≡ None → gray ≡ true → FirstIsGreatest p.frame
-first_greatest gray p none e = by (is_gray_or_ycbcr p.colour) ((component_at p.frame 0).h == h_max p.frame) ((component_at p.frame 0).v == v_max p.frame) refl refl
-    (ap (λ b. fault_by b (is_gray_or_ycbcr p.colour) (is_first_greatest p.frame)) (sym e) ∙ sym (gray_by_frame gray p) ∙ none)
+pub first_by : (gray colours : Bool) (f : Frame) → fault_by gray colours (is_first_greatest f) ≡ None → gray ≡ true → FirstIsGreatest f
+first_by gray colours f none e = by colours ((component_at f 0).h == h_max f) ((component_at f 0).v == v_max f) refl refl (ap (λ b. fault_by b colours (is_first_greatest f)) (sym e) ∙ none)
   where
-    by : (a b d : Bool) → ((component_at p.frame 0).h == h_max p.frame) ≡ b → ((component_at p.frame 0).v == v_max p.frame) ≡ d → fault_by true a (b && d) ≡ None → FirstIsGreatest p.frame
+    by : (a b d : Bool) → ((component_at f 0).h == h_max f) ≡ b → ((component_at f 0).v == v_max f) ≡ d → fault_by true a (b && d) ≡ None → FirstIsGreatest f
     by true true true h v n = record { across = same_of _ _ h; down = same_of _ _ v }
     by true true false h v n = cc
     by true false d h v n = cc
     by false b d h v n = cc
+
+pub first_greatest : (gray : Bool) (p : Picture) → gray_fault gray (picture_meaning p) ≡ None → gray ≡ true → FirstIsGreatest p.frame
+first_greatest gray p none e = first_by gray (is_gray_or_ycbcr p.colour) p.frame (sym (gray_by_frame gray p) ∙ none) e

@@ -1,3 +1,4 @@
+pub mod AnyPicture
 pub mod Applied
 pub mod GrayFaults
 pub mod HeadColour
@@ -9,6 +10,10 @@ pub mod MovedScript
 pub mod Opposites
 pub mod OneBlock
 pub mod Planned
+pub mod PlannedHead
+pub mod RowJobs
+pub mod RowPlaces
+pub mod RowsMoved
 pub mod SeenPicture
 pub mod Showing
 pub mod Viewed

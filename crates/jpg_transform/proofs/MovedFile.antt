@@ -116,7 +116,7 @@ same_numbers p c out blocks w = record {
   components = meaning_numbers out.frame.components out.quants.items (out_meaning p c) (out_components p c out w.head) (out_count p c out w.head);
 }
 
-place_real : (f : Frame) (i x y : ℕ) → is_place f i x y ≡ true → IsReal f i x y
+pub place_real : (f : Frame) (i x y : ℕ) → is_place f i x y ≡ true → IsReal f i x y
 place_real f i x y e =
     let a = both (nat_lt i (length f.components)) (is_real f i x y) e in
     let b = both (nat_lt x (blocks_across f (component_at f i))) (nat_lt y (blocks_down f (component_at f i))) a.1 in

@@ -38,6 +38,12 @@ none_both (Some fault) b e = cc
 abbrev later_fault : Choice → Meaning → Option PictureFault
 later_fault choice M = first_some (moved_script_fault choice M) (crop_fault choice.crop (uncropped choice M))
 
+some_first : (a b : Option PictureFault) (fault : PictureFault) → a ≡ Some fault → first_some a b ≡ Some fault
+some_first a b fault e = ap (λ o. first_some o b) e
+
+pub gray_some : (choice : Choice) (M : Meaning) (fault : PictureFault) → gray_fault choice.gray M ≡ Some fault → picture_fault choice M ≡ Some fault
+gray_some choice M fault e = some_first (gray_fault choice.gray M) (later_fault choice M) fault e
+
 pub gray_none : (choice : Choice) (M : Meaning) → picture_fault choice M ≡ None → gray_fault choice.gray M ≡ None
 gray_none choice M none = (none_both (gray_fault choice.gray M) (later_fault choice M) none).0
 

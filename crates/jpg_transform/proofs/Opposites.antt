@@ -1,6 +1,7 @@
 -- Each value of a picture can change its sign in 16 bits, whatever its precision.
 use Rattle.std.proofs.Common.{◌≡◌, ℕ, ◌==◌, ◌&&◌, Bool, true, false, cond, get_or, sym, subst, arith, ℤ, pos, negsuc}
 use Rattle.std.specs.Prelude.{int_le, nat_abs, ◌≤ℤ◌}
+use Rattle.std.specs.List.{All}
 use Rattle.std.proofs.lemmas.Int.{ints}
 use Rattle.std.proofs.lemmas.List.Elements.{All-from_get_or}
 use lib.Signed.{le_z_yes}
@@ -37,8 +38,9 @@ dc_above precision = of_bounds (λ b. negsuc 32766 ≤ℤ b.dc_low) (omega (arit
 ac_below : (precision : ℕ) → (bounds_of precision).ac ≤ℤ pos 32767
 ac_below precision = of_bounds (λ b. b.ac ≤ℤ pos 32767) (omega (arith, ints)) (omega (arith, ints)) precision
 
+pub all_above : (f : Frame) (blocks : Blocks) → AreInRange (bounds f) blocks → (i x y : ℕ) → All (λ v. negsuc 32766 ≤ℤ v) (blocks i x y)
+all_above f blocks are i x y = All-from_get_or (λ v. negsuc 32766 ≤ℤ v) (blocks i x y) (pos 0)
+    (λ k h. low_by (bounds f) k (get_or (blocks i x y) k (pos 0)) (dc_above f.precision) (ac_below f.precision) (are.values i x y k))
+
 pub opposites : (f : Frame) (blocks : Blocks) → AreInRange (bounds f) blocks → HasOpposites f blocks
-opposites f blocks are = record {
-  above = λ i x y r. All-from_get_or (λ v. negsuc 32766 ≤ℤ v) (blocks i x y) (pos 0)
-      (λ k h. low_by (bounds f) k (get_or (blocks i x y) k (pos 0)) (dc_above f.precision) (ac_below f.precision) (are.values i x y k));
-}
+opposites f blocks are = record { above = λ i x y r. all_above f blocks are i x y }

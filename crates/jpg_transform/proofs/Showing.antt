@@ -194,7 +194,7 @@ gray_whole true M some w = record {
 may_gray : (choice : Choice) (t : Transform) (f g : Frame) → IsOutput choice t f g → MayGray choice.gray f
 may_gray choice t f g o = record { across = o.gray_across; down = o.gray_down }
 
-made_by : (choice : Choice) (t : Transform) (f g : Frame) → IsOutput choice t f g → IsMade choice.trim t (grayed_frame choice.gray f) g
+pub made_by : (choice : Choice) (t : Transform) (f g : Frame) → IsOutput choice t f g → IsMade choice.trim t (grayed_frame choice.gray f) g
 made_by choice t f g o =
     o.grids ∙ ap (λ (crop : Option Area). frame_grids (cropped_frame_by crop (uncropped_frame choice f))) o.whole
     ∙ ap (λ (u : Transform). frame_grids (trimmed_frame choice.trim u (transformed_frame u (grayed_frame choice.gray f)))) o.transform_is

@@ -1,9 +1,9 @@
 -- HOW A TRANSFORMED PICTURE IS WRITTEN (the manual of jpegtran): what is asked for, what the head of the output is
 -- written from, and its scans.
-use Rattle.std.specs.Prelude.{◌≡◌, ◌==◌, ◌&&◌, Bool, if◌then◌else◌, List, map, take, Result, Ok, Err, None, Some, not, ◌||◌, ℕ}
+use Rattle.std.specs.Prelude.{◌≡◌, ◌==◌, ◌&&◌, Bool, if◌then◌else◌, List, map, take, Option, Result, Ok, Err, None, Some, not, ◌||◌, ℕ}
 use Rattle.jpg_spec.specs.Geometry.{Frame, component_at, h_max, v_max}
 use Rattle.jpg_spec.specs.Lists.{any_of}
-use Rattle.jpg_spec_move.specs.Moved.{Choice, moved_frame, picture_fault}
+use Rattle.jpg_spec_move.specs.Moved.{Choice, is_gray_or_ycbcr, moved_frame, picture_fault}
 use Rattle.jpg_spec_write.specs.ScansAsked.{Scans, sequential, standard, given, asks_progressive, script_due}
 use Rattle.jpg_spec_write.specs.Headed.{is_wide}
 use Rattle.jpg_spec.specs.Segments.{QuantTable}
@@ -15,10 +15,12 @@ use Rattle.jpg_spec.specs.declared.frame.Colour.TheVariants.{Gray}
 use Rattle.jpg_spec.specs.declared.frame.Process.{Process}
 use Rattle.jpg_spec.specs.declared.frame.Process.TheVariants.{Baseline, Extended, Progressive}
 use Rattle.jpg_spec_write.specs.declared.picture_fault.PictureFault.{PictureFault}
+use Rattle.jpg_spec_write.specs.declared.picture_fault.PictureFault.TheVariants.{GrayColour, GrayFactors}
 use Rattle.jpg_markers.specs.declared.writing.head.OutHead.{OutHead}
 use Rattle.jpg_file.specs.Read.PictureRead.{picture_meaning}
 use Rattle.jpg_scans.specs.Restarts.{restart_of}
 use Rattle.jpg_file.specs.declared.read.picture.Picture.{Picture}
+use Rattle.jpg_file.specs.declared.read.strip_head.StripHead.{StripHead}
 use Rattle.jpg_file.specs.declared.write.Plan.{Plan}
 use Rattle.jpg_transform.specs.declared.choice.Choice.{Choice as Asked}
 use Rattle.jpg_transform.specs.declared.choice.Job.{Job}
@@ -78,6 +80,29 @@ pub record IsOutHeadOf (choice : Choice) (p : Picture) (out : OutHead) : Type 0 
   pub tables : out.quants.items ≡ moved_tables choice p.quants.items
   pub colour : out.colour ≡ moved_colour choice.gray p.colour
   pub jfif : out.jfif ≡ p.jfif
+  pub copying : out.copying ≡ choice.copying
+
+-- THE SAME OF A HEAD: what a picture has except for its blocks and its kept markers
+
+-- It is the head of this picture.
+pub record IsHeadOf (h : StripHead) (p : Picture) : Type 0 where
+  pub frame : p.frame ≡ h.frame
+  pub colour : p.colour ≡ h.colour
+  pub quants : p.quants.items ≡ h.quants.items
+  pub jfif : p.jfif ≡ h.jfif
+
+-- the fault of the conversion to grayscale
+abbrev pub head_fault : Bool → StripHead → Option PictureFault
+head_fault gray h =
+    if gray && not (is_gray_or_ycbcr h.colour) then Some GrayColour
+    else if gray && not (is_first_greatest h.frame) then Some GrayFactors
+    else None
+
+pub record IsOutHeadBy (choice : Choice) (h : StripHead) (out : OutHead) : Type 0 where
+  pub frame : out.frame ≡ record (moved_frame choice h.frame) { process = process_in choice.scans h.frame.precision out.quants.items }
+  pub tables : out.quants.items ≡ moved_tables choice h.quants.items
+  pub colour : out.colour ≡ moved_colour choice.gray h.colour
+  pub jfif : out.jfif ≡ h.jfif
   pub copying : out.copying ≡ choice.copying
 
 -- THE PLAN: the picture has no fault for the choice, and is written in this way, with intervals that fit into two bytes.

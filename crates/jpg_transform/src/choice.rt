@@ -2,8 +2,9 @@
 ghost use Rattle.std.specs.Prelude.{◌≡◌};
 ghost use Rattle.jpg_spec_write.specs.ScansAsked.{asks_progressive};
 ghost use Rattle.jpg_transform.specs.Planned.{scans_view};
+ghost use Rattle.jpg_transform.specs.Places.{keeps_rows};
 
-use crate::table::transposes;
+use crate::table::{keeps_rows, transposes};
 use jpg_coefs::BlockOrder;
 use jpg_file::{Orders, Plan, Restart};
 use jpg_scans::Script;
@@ -54,6 +55,13 @@ pub struct Choice {
 }
 
 impl Choice {
+    /// Whether rows stay rows, in their order: nothing is transformed, or it is mirrored from left to right.
+    pub fn keeps_rows(&self) -> bool
+        ensures { result ≡ keeps_rows self.now.transform }
+    {
+        keeps_rows(self.transform)
+    }
+
     /// The orders in which to store the blocks of the picture that is read: by columns where rows become columns, so that
     /// those of the output follow one another each time that they are written. Only a progressive picture that is written
     /// in one pass is by rows, since it is read in several.

@@ -42,8 +42,8 @@ fn rows_of(transform: Transform, frame: &Frame, i: u8) -> u32
     }
 }
 
-// The mirrored columns of all components.
-fn all_columns(transform: Transform, frame: &Frame) -> [u32; 4]
+/// The mirrored columns of all components.
+pub(crate) fn all_columns(transform: Transform, frame: &Frame) -> [u32; 4]
     ensures { (i : ℕ) → i < length frame.now.components → slice_index result i ≡ columns_in transform frame.now i }
 {
     let mut columns = [0; 4];
@@ -64,9 +64,9 @@ fn all_rows(transform: Transform, frame: &Frame) -> [u32; 4]
     rows
 }
 
-// The opposite column or row, if it is one of those that are mirrored.
+/// The opposite column or row, if it is one of those that are mirrored.
 #[inline(always)]
-fn opposite(changed: u32, x: u32) -> u32
+pub(crate) fn opposite(changed: u32, x: u32) -> u32
     ensures { result ≡ opposite changed x }
 {
     if x < changed { changed - 1 - x } else { x }

@@ -1,19 +1,23 @@
 //! How a picture is written for a choice (the manual of jpegtran).
-ghost use Rattle.std.specs.Prelude.{◌≡◌, ◌≤◌, length, map, None};
+ghost use Rattle.std.specs.Prelude.{◌≡◌, ◌≤◌, IfNone, IfSome, length, map, None, false, true};
 ghost use Rattle.jpg_spec.specs.Transposed.{transposed};
-ghost use Rattle.jpg_spec_move.specs.Moved.{gray_fault, is_gray_or_ycbcr};
+ghost use Rattle.jpg_spec_move.specs.Moved.{Choice as Asked, is_gray_or_ycbcr};
 ghost use Rattle.jpg_spec_write.specs.ScansAsked.{script_due};
 ghost use Rattle.jpg_spec_write.specs.WrittenFile.{IsRestart};
-ghost use Rattle.jpg_file.specs.Read.PictureRead.{picture_meaning};
+ghost use Rattle.jpg_file.specs.Read.StripHead.{IsStripHead};
+ghost use Rattle.jpg_file.specs.Write.SoleScan.{IsOfAll, IsSole};
+ghost use Rattle.jpg_file.specs.declared.read.picture.Picture.{Picture as Read};
 ghost use Rattle.jpg_scans.specs.Restarts.{restart_of};
-ghost use Rattle.jpg_transform.specs.Planned.{IsOutHeadOf, IsPlan, choice_view, is_first_greatest, moved_tables, process_in, process_of, scans_view};
+ghost use Rattle.jpg_transform.specs.Places.{keeps_rows};
+ghost use Rattle.jpg_transform.specs.RowsMoved.{goes_by_rows};
+ghost use Rattle.jpg_transform.specs.Planned.{IsHeadOf, IsJobFor, IsOutHeadBy, IsPlan, choice_view, head_fault, is_first_greatest, moved_tables, process_in, process_of, scans_view};
 
 use crate::frames::moved_frame;
-use crate::table::transposes;
+use crate::table::{keeps_rows, transposes};
 use crate::{Choice, Job, Scans};
 use arrayvec::ArrayVec;
 use jpg_base::{Frame, QuantTable};
-use jpg_file::{Picture, Plan, Restart};
+use jpg_file::{Picture, Plan, Restart, SoleScan, StripHead, sole_scan};
 use jpg_markers::{OutHead, is_wide};
 use jpg_scans::Script;
 use jpg_spec::{Colour, Process};
@@ -26,11 +30,19 @@ use jpg_spec_write::PictureFault;
 pub fn plan(picture: &Picture, choice: &Choice) -> Result<Job, PictureFault>
     ensures { IsPlan picture.now (choice_view choice.now) result }
 {
-    if let Some(fault) = gray_fault(picture, choice.gray) {
+    plan_head(&StripHead::of(picture), choice)
+}
+
+/// The same of a picture of which only this is known: whatever else it has, `plan` gives this result.
+pub fn plan_head(head: &StripHead, choice: &Choice) -> Result<Job, PictureFault>
+    requires { IsStripHead head.now }
+    ensures { (p : Read) → IsHeadOf head.now p → IsPlan p (choice_view choice.now) result }
+{
+    if let Some(fault) = gray_fault(head, choice.gray) {
         return Err(fault);
     }
     counted(choice.restart);
-    let out = head_of(picture, choice);
+    let out = head_of(head, choice);
     let script = script_due(&choice.scans, &out.frame, out.colour);
     match script.check(&out.frame) {
         Err(fault) => Err(fault),
@@ -45,6 +57,22 @@ pub fn plan(picture: &Picture, choice: &Choice) -> Result<Job, PictureFault>
             gray: choice.gray,
         }),
     }
+}
+
+/// What the output's only scan is written with, if rows stay rows and the job's plan has one scan with typical tables
+/// (`sole_scan`): then a `RowMover` can write it. Otherwise None.
+pub fn row_scan(job: &Job) -> Option<SoleScan>
+    requires { (p : Read) × (choice : Asked) × IsJobFor p choice job.now }
+    ensures stays { IfSome result (λ s. keeps_rows job.now.transform ≡ true) }
+    ensures sole { IfSome result (IsSole job.now.plan) }
+    ensures all { IfSome result (IsOfAll job.now.plan.out.frame) }
+    ensures none { IfNone result (goes_by_rows job.now ≡ false) }
+{
+    if !keeps_rows(job.transform) {
+        return None;
+    }
+    job.plan.out.frame.checked();
+    sole_scan(&job.plan)
 }
 
 /// States, for proofs, that an interval fits into two bytes. It does nothing.
@@ -73,13 +101,13 @@ fn is_gray_or_ycbcr(colour: Colour) -> bool
 }
 
 // The fault of a picture that is to be converted to grayscale.
-fn gray_fault(picture: &Picture, gray: bool) -> Option<PictureFault>
-    ensures { result ≡ gray_fault gray (picture_meaning picture.now) }
+fn gray_fault(head: &StripHead, gray: bool) -> Option<PictureFault>
+    ensures { result ≡ head_fault gray head.now }
 {
-    if gray && !is_gray_or_ycbcr(picture.colour) {
+    if gray && !is_gray_or_ycbcr(head.colour) {
         return Some(PictureFault::GrayColour);
     }
-    if gray && !is_first_greatest(&picture.frame) {
+    if gray && !is_first_greatest(&head.frame) {
         return Some(PictureFault::GrayFactors);
     }
     None
@@ -95,21 +123,22 @@ fn is_first_greatest(frame: &Frame) -> bool
 }
 
 // What the head of the output is written from.
-fn head_of(picture: &Picture, choice: &Choice) -> OutHead
-    requires { gray_fault choice.now.gray (picture_meaning picture.now) ≡ None }
-    ensures { IsOutHeadOf (choice_view choice.now) picture.now result }
+fn head_of(head: &StripHead, choice: &Choice) -> OutHead
+    requires head { IsStripHead head.now }
+    requires admitted { head_fault choice.now.gray head.now ≡ None }
+    ensures { IsOutHeadBy (choice_view choice.now) head.now result }
 {
-    let quants = moved_tables(picture.quants.as_slice(), choice);
-    let process = process_in(&choice.scans, picture.frame.precision(), quants.as_slice());
+    let quants = moved_tables(head.quants.as_slice(), choice);
+    let process = process_in(&choice.scans, head.frame.precision(), quants.as_slice());
     OutHead {
-        frame: moved_frame(&picture.frame, choice).with_process(process),
+        frame: moved_frame(&head.frame, choice).with_process(process),
         colour: if choice.gray {
             Colour::Gray
         } else {
-            picture.colour
+            head.colour
         },
         quants,
-        jfif: picture.jfif,
+        jfif: head.jfif,
         copying: choice.copying,
     }
 }

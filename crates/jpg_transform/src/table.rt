@@ -18,6 +18,7 @@
 //! those of the tables.
 ghost use Rattle.std.specs.Prelude.{◌≡◌};
 ghost use Rattle.jpg_spec_move.specs.Transforms.{transposes, mirrors_across, mirrors_down};
+ghost use Rattle.jpg_transform.specs.Places.{keeps_rows};
 
 use jpg_spec_move::Transform;
 
@@ -54,4 +55,11 @@ pub fn mirrors_down(transform: Transform) -> bool
         }
         Transform::Keep | Transform::FlipH | Transform::Transpose | Transform::Rotate90 => false,
     }
+}
+
+/// Whether rows stay rows, in their order.
+pub fn keeps_rows(transform: Transform) -> bool
+    ensures { result ≡ keeps_rows transform }
+{
+    !transposes(transform) && !mirrors_down(transform)
 }
