@@ -3,6 +3,7 @@ use Rattle.std.proofs.Common.{◌≡◌, ◌⊎◌, ℕ, ◌+◌, ◌<◌, ◌�
 use Rattle.jpg_spec.specs.Segments.{head_components}
 use Rattle.jpg_spec.specs.Markers.{Segment}
 use Rattle.jpg_spec.specs.InForce.{frame_of, head_in}
+use Rattle.jpg_spec.specs.Items.{segments_of}
 use Rattle.jpg_spec.specs.Scan.{Blocks}
 use Rattle.jpg_spec.specs.ScanRows.{first_rows}
 use Rattle.jpg_spec.specs.RowsParsed.{picture_so_far, BeginsScanOfAll, CompletesRows, TellsRows}
@@ -23,6 +24,7 @@ use Rattle.jpg_file.specs.Read.Strips.{EndsByRow, GoesByRow, RowIsWhole, RowsAft
 use Rattle.jpg_file.specs.declared.read.rows.RowWork.{RowWork}
 use Rattle.jpg_file.specs.declared.read.strip_work.StripWork.{StripWork}
 use Rattle.jpg_file.proofs.Files.FileSteps.{head_left}
+use Rattle.jpg_file.proofs.Files.Keeping.{markers_kept}
 use Rattle.jpg_file.proofs.Files.PieceSteps.{file_means, stands_file}
 use Rattle.jpg_file.proofs.ByRow.StripPieces.{open_head, strip_whole}
 use Rattle.jpg_file.proofs.ByRow.RowsFed.{begun_on, row_fed, rows_completed}
@@ -151,6 +153,7 @@ module _ (r : ReaderState) (new : StripWork) (bytes piece : List ℕ) (m : ℕ) 
         done = refl;
         meaning = _;
         whole = file_means r.limits all w k.ends;
+        kept = markers_kept r.limits (segments_of ((k.ends).ends).items) ((k.ends).ends).blocks new.file (((k.ends).ends).at).holds;
         begun = record { before = g.before; contents = g.contents; begins = g.begins; rows = rows; has = has; head = g.head; told = g.told };
         blocks = b.told;
         completed = all_given r.limits bytes piece before contents m b.told (b.begun).begins b.tells (omega (arith, b.count, same, k.done));

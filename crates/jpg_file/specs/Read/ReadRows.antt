@@ -21,6 +21,7 @@ use Rattle.jpg_coefs.specs.Picture.{Picture, map_of}
 use Rattle.jpg_seq.specs.Rows.{rows_in_mcu}
 use Rattle.jpg_file.specs.Read.File.{keeping_of}
 use Rattle.jpg_file.specs.Read.FirstHeader.{IsFirstHeaderOf}
+use Rattle.jpg_file.specs.Read.Keeping.{kept_for}
 use Rattle.jpg_file.specs.Read.Left.{LeavesPicture}
 use Rattle.jpg_file.specs.Read.ReadFile.{AsksForMemory, HasRead, IsDone, IsEarlyEnd, IsStopOf, KeepsHead, KeepsHeadAt, ReaderState, StopsAt}
 use Rattle.jpg_file.specs.Read.RowPieces.{HasLastByte, RowsOpen}
@@ -36,9 +37,10 @@ use Rattle.jpg_file.specs.declared.read.row_pieces.FedRow.TheVariants as fed
 use Rattle.jpg_file.specs.declared.read.rows.RowWork.{RowWork}
 
 -- the invariant of a reader: it was given some bytes, or has a picture, and each component was in a scan; where MCU rows
--- are to be read, no markers are kept, and with a current row it asks for no memory
+-- are to be read and no markers kept, it asks for no memory with a current row
 pub record IsReading (r : ReaderState) : Type 0 where
   pub limited : AreLimits r.limits
+  pub in_rows : r.by_row ≡ true → r.in_rows ≡ true
   pub keeping : r.by_row ≡ true → keeping_of r.file ≡ copying.None
   pub sparing : r.by_row ≡ true → SparesRows r.rows r.file
   pub «open» : r.stop ≡ None → r.done ≡ false → (bytes : List ℕ) × RowsOpen r.limits bytes r.rows r.file
@@ -47,7 +49,7 @@ pub record IsReading (r : ReaderState) : Type 0 where
 
 -- no MCU rows are to be read, nor is there a current one
 abbrev pub IsPlain : ReaderState → Type 0
-IsPlain r = (r.by_row ≡ false) × (r.rows ≡ None)
+IsPlain r = (r.in_rows ≡ false) × (r.rows ≡ None)
 
 -- THE HEAD of the picture whose rows are read, when the scan began in the bytes
 pub record HasBegunRows (bytes : List ℕ) (r : ReaderState) : Type 0 where
@@ -113,11 +115,16 @@ HasReadSoFar bytes m r = (HasReadPlainly bytes r × (m ≡ 0)) ⊎ (HasReadRows 
 abbrev pub HasReadAll : List ℕ → ℕ → ReaderState → Type 0
 HasReadAll bytes m r = (HasReadPlainly bytes r × (m ≡ 0)) ⊎ HasReadRows bytes m r
 
+-- the markers that the reader has kept are those of this picture that are to be kept
+abbrev pub KeepsMarkersOf : Meaning → ReaderState → Type 0
+KeepsMarkersOf M r = r.file.reading.items.held.kept ≡ (kept_for (keeping_of r.file) M).kept
+
 -- A complete file, all whose MCU rows were given.
 pub record IsDoneByRows (bytes : List ℕ) (m : ℕ) (r : ReaderState) : Type 0 where
   pub done : r.done ≡ true
   pub meaning : Meaning
   pub whole : IsWholeFile r.limits bytes meaning
+  pub kept : KeepsMarkersOf meaning r
   pub begun : HasBegunRows bytes r
   pub blocks : Blocks
   pub completed : CompletesRows r.limits bytes m blocks
@@ -154,6 +161,7 @@ pub record IsEarlyByRows (bytes : List ℕ) (m : ℕ) (r : ReaderState) : Type 0
   pub begun : HasBegunRows bytes r
   pub meaning : Meaning
   pub early : MeansEarly r.limits bytes meaning
+  pub kept : KeepsMarkersOf meaning r
   pub rows : m + unfinished begun.rows ≡ rows_of_scan r.limits begun.before begun.contents
   pub blocks : Blocks
   pub completed : CompletesRows r.limits bytes m blocks
@@ -193,7 +201,16 @@ AfterFeedRow bytes m piece (Err (stop.Fault f)) r =
     IsStopOf r.limits (bytes ++ piece) f × (length bytes ≤ f.at) × KeepsHeadAt r.limits (bytes ++ piece) f r.file.head × StopsSoFar (take f.at (bytes ++ piece)) m r
 AfterFeedRow bytes m piece (Err stop.NoMemory) r = KeepsHead r.limits (length bytes) (bytes ++ piece) r.file.head × (r.rows ≡ None) × HasNoRows r.limits bytes
 
+-- The same where markers are kept: memory may be asked for also after rows began.
+abbrev pub AfterFeedKeeping : List ℕ → ℕ → List ℕ → Result FedRow Stop → ReaderState → Type 0
+AfterFeedKeeping bytes m piece (Ok x) r = AfterFeedRow bytes m piece (Ok x) r
+AfterFeedKeeping bytes m piece (Err (stop.Fault f)) r = AfterFeedRow bytes m piece (Err (stop.Fault f)) r
+AfterFeedKeeping bytes m piece (Err stop.NoMemory) r = KeepsHead r.limits (length bytes) (bytes ++ piece) r.file.head
+
 -- for all bytes that were fed before, by which this many MCU rows were given
+abbrev pub FeedsKeeping : ReaderState → List ℕ → Result FedRow Stop → ReaderState → Type 0
+FeedsKeeping old piece answer new = (bytes : List ℕ) (m : ℕ) → HasReadSoFar bytes m old → AfterFeedKeeping bytes m piece answer new
+
 abbrev pub FeedsRow : ReaderState → List ℕ → Result FedRow Stop → ReaderState → Type 0
 FeedsRow old piece answer new = (bytes : List ℕ) (m : ℕ) → HasReadSoFar bytes m old → AfterFeedRow bytes m piece answer new
 
@@ -201,6 +218,10 @@ FeedsRow old piece answer new = (bytes : List ℕ) (m : ℕ) → HasReadSoFar by
 abbrev pub AsksOnFeedRow : ReaderState → List ℕ → Result FedRow Stop → ReaderState → Type 0
 AsksOnFeedRow old piece answer new =
     (bytes : List ℕ) (m : ℕ) → HasReadSoFar bytes m old → answer ≡ Err stop.NoMemory → AsksForMemory new.limits (length bytes) (bytes ++ piece) new.file.head
+
+-- The same where markers are kept, if no rows are read then.
+abbrev pub AsksOnFeedKeeping : ReaderState → List ℕ → Result FedRow Stop → ReaderState → Type 0
+AsksOnFeedKeeping old piece answer new = new.rows ≡ None → AsksOnFeedRow old piece answer new
 
 -- the word that keeps `done`
 abbrev pub EndsDoneRow : Result FedRow Stop → ReaderState → Type 0
