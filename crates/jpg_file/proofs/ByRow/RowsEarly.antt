@@ -5,7 +5,8 @@ use Rattle.std.specs.Prelude.{◌||◌, nat_lt, replicate}
 use Rattle.std.proofs.lemmas.Bool.Decides.{nat_tests}
 use Rattle.std.proofs.lemmas.Nat.{mul-le}
 use Rattle.jpg_spec.specs.Lists.{any_of, is_among}
-use Rattle.jpg_spec.specs.Geometry.{Frame, blocks_across, blocks_down, component_at, is_real, mcu_row_frame, mcus_down, v_max}
+use Rattle.jpg_spec.specs.Ranges.{AreInRange}
+use Rattle.jpg_spec.specs.Geometry.{Frame, bounds, blocks_across, blocks_down, component_at, is_real, mcu_row_frame, mcus_down, v_max}
 use Rattle.jpg_spec.specs.FrameHeader.{AreLimits, IsFrame}
 use Rattle.jpg_spec.specs.Elements.{zeros}
 use Rattle.jpg_spec.specs.Scan.{Blocks}
@@ -55,6 +56,7 @@ use Rattle.jpg_file.specs.declared.read.rows.RowWork.{RowWork}
 use Rattle.jpg_file.proofs.Files.Keeping.{markers_kept}
 use Rattle.jpg_file.proofs.Files.Leaving.{at_end, named_by, some_at, some_for}
 use Rattle.jpg_file.proofs.ByRow.RowTurns.{rows_there}
+use Rattle.jpg_file.proofs.ByRow.HeadLeft.{head_of_early}
 use Rattle.jpg_file.proofs.ByRow.RowsGiven.{TellsDue, inside_tells, place_tells, real_in_row, row_blocks}
 use Rattle.jpg_file.proofs.ByRow.RowsRange.{inside_in_range}
 use Rattle.jpg_file.proofs.ByRow.StripPieces.{goes_with}
@@ -65,6 +67,7 @@ record EndsWhole (limits : Limits) (bytes : List ℕ) (w : FileWork) (whole : Pi
   pub segments : List Segment
   pub early : MeansEarly limits bytes (meaning_of (frame_of limits segments) segments (map_of whole))
   pub framed : whole.frame ≡ frame_of limits segments
+  pub range : AreInRange (bounds (frame_of limits segments)) (map_of whole)
   pub kept : w.reading.items.held.kept ≡ (kept_for (keeping_of w) (meaning_of (frame_of limits segments) segments (map_of whole))).kept
 
 ends_whole : (limits : Limits) (bytes : List ℕ) (w : FileWork) (whole : Picture) (all : Bool) → RepresentsFile limits bytes (with_picture w whole) → UnfinishedFile limits bytes → length bytes < limits.input → IsComplete w.begun.progress all → all ≡ true → EndsWhole limits bytes w whole
@@ -79,6 +82,7 @@ ends_whole limits bytes w whole all s stands short told e =
       segments = a.segments;
       early = subst (λ (bs : Blocks). MeansEarly limits bytes (meaning_of (frame_of limits a.segments) a.segments bs)) same (stands_early limits bytes stands short here.have, here.ends);
       framed = ap (λ (q : Picture). q.frame) is ∙ here.framed;
+      range = subst (λ (bs : Blocks). AreInRange (bounds (frame_of limits a.segments)) bs) same here.range;
       kept = markers_kept limits a.segments (map_of whole) w a.holds;
     }
 
@@ -315,6 +319,8 @@ rows_early bytes m r all limited h told e = record {
   meaning = meaning_of (frame_of r.limits left.segments) left.segments (map_of whole);
   early = left.early;
   kept = left.kept;
+  head = head_of_early r.limits bytes b.before b.contents b.begins r.strip (meaning_of (frame_of r.limits left.segments) left.segments (map_of whole)) b.told left.early;
+  all = record { all = whole; framed = there.framed; range = subst (λ (g : Frame). AreInRange (bounds g) (map_of whole)) (sym left.framed ∙ there.framed) left.range; real = real };
   rows = h.rows;
   blocks = h.blocks;
   completed = h.completed;

@@ -16,7 +16,7 @@ use Rattle.jpg_file.specs.Read.File.{EndsFile, RepresentsFile, with_picture}
 use Rattle.jpg_file.specs.Read.ScanHistory.{HasBegunEach}
 use Rattle.jpg_file.specs.Read.PieceTaken.{ReadsPiece}
 use Rattle.jpg_file.specs.Read.ReadFile.{AfterFeed, AsksForMemory, HasRead, IsStopOf, ReaderState}
-use Rattle.jpg_file.specs.Read.ReadRows.{IsReading}
+use Rattle.jpg_file.specs.Read.ReadRows.{IsByRow, IsReading}
 use Rattle.jpg_file.specs.Read.RowPieces.{AfterRowsPiece, KeepsWork, RowsGive, RowsGo, RowsOpen}
 use Rattle.jpg_file.specs.Read.Strips.{AfterStrip, StripGoes, RepresentsStrip}
 use Rattle.jpg_file.specs.declared.read.file.FileWork.{FileWork}
@@ -88,6 +88,10 @@ keeps_done_rows r old new piece result used e undone skip_ahead k t =
       ended = λ done none. whole_leaves r.limits (o.0 ++ take used piece) new.file (ends_plain r.limits (o.0 ++ take used piece) new.rows new.file none a.0);
       begun = λ done. whole_each r.limits (o.0 ++ take used piece) new.rows new.file a.0;
     }
+
+pub rows_read : (r : ReaderState) → IsByRow r → IsReading r → r.in_rows ≡ true
+rows_read r (inl by) k = k.in_rows by
+rows_read r (inr rows) k = rows
 
 -- WHERE NO MCU ROWS ARE READ
 

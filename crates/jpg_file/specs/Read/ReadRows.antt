@@ -1,13 +1,13 @@
 -- A file that is fed piece by piece, and read MCU row by MCU row if its first scan has all components of a sequential
 -- frame (T.81, A.2.3, B.2.1).
-use Rattle.std.specs.Prelude.{◌≡◌, ◌⊎◌, ℕ, ◌+◌, ◌*◌, ◌<◌, ◌≤◌, true, false, List, ◌++◌, length, take, Some, None, Result, Ok, Err}
+use Rattle.std.specs.Prelude.{◌≡◌, ◌⊎◌, ℕ, ◌+◌, ◌*◌, ◌<◌, ◌≤◌, true, false, List, ◌++◌, length, take, Option, Some, None, Result, Ok, Err}
 use Rattle.jpg_spec.specs.Geometry.{Frame, blocks_across, blocks_down, bounds, component_at, mcu_row_frame}
 use Rattle.jpg_spec.specs.FrameHeader.{AreLimits}
 use Rattle.jpg_spec.specs.Scan.{Blocks}
 use Rattle.jpg_spec.specs.Ranges.{AreInRange}
 use Rattle.jpg_spec.specs.Markers.{Segment}
 use Rattle.jpg_spec.specs.InForce.{frame_of}
-use Rattle.jpg_spec.specs.Meaning.{Meaning}
+use Rattle.jpg_spec.specs.Meaning.{Meaning, real_blocks}
 use Rattle.jpg_spec.specs.Elements.{zeros}
 use Rattle.jpg_spec.specs.Early.{MeansEarly}
 use Rattle.jpg_spec.specs.UnfinishedFile.{UnfinishedFile, IsWholeFile}
@@ -29,12 +29,14 @@ use Rattle.jpg_file.specs.Read.RowTurns.{unfinished}
 use Rattle.jpg_file.specs.Read.RowsKnown.{TellsStrip, rows_of_scan}
 use Rattle.jpg_file.specs.Read.RowsNone.{HasNoRows}
 use Rattle.jpg_file.specs.Read.ScanHistory.{HasBegunEach}
+use Rattle.jpg_file.specs.Read.StripHead.{IsHeadOfPicture}
 use Rattle.jpg_file.specs.Read.Strips.{GoesByRow, SparesRows, RepresentsRows}
 use Rattle.jpg_file.specs.declared.read.ends.End.{End}
 use Rattle.jpg_file.specs.declared.read.ends.End.TheVariants as ends
 use Rattle.jpg_file.specs.declared.read.row_pieces.FedRow.{FedRow}
 use Rattle.jpg_file.specs.declared.read.row_pieces.FedRow.TheVariants as fed
 use Rattle.jpg_file.specs.declared.read.rows.RowWork.{RowWork}
+use Rattle.jpg_file.specs.declared.read.strip_head.StripHead.{StripHead}
 
 -- the invariant of a reader: it was given some bytes, or has a picture, and each component was in a scan; where MCU rows
 -- are to be read and no markers kept, it asks for no memory with a current row
@@ -46,6 +48,10 @@ pub record IsReading (r : ReaderState) : Type 0 where
   pub «open» : r.stop ≡ None → r.done ≡ false → (bytes : List ℕ) × RowsOpen r.limits bytes r.rows r.file
   pub ended : r.done ≡ true → r.rows ≡ None → LeavesPicture r.limits r.file
   pub begun : r.done ≡ true → HasBegunEach r.file.begun.progress
+
+-- they are to be read
+abbrev pub IsByRow : ReaderState → Type 0
+IsByRow r = (r.by_row ≡ true) ⊎ (r.in_rows ≡ true)
 
 -- no MCU rows are to be read, nor is there a current one
 abbrev pub IsPlain : ReaderState → Type 0
@@ -119,6 +125,18 @@ HasReadAll bytes m r = (HasReadPlainly bytes r × (m ≡ 0)) ⊎ HasReadRows byt
 abbrev pub KeepsMarkersOf : Meaning → ReaderState → Type 0
 KeepsMarkersOf M r = r.file.reading.items.held.kept ≡ (kept_for (keeping_of r.file) M).kept
 
+-- the head is that of this picture
+abbrev pub TellsHead : Option StripHead → Meaning → Type 0
+TellsHead None M = ⊥
+TellsHead (Some h) M = IsHeadOfPicture h M
+
+-- ALL BLOCKS of a picture with this frame, of which the reader keeps those of one MCU row
+pub record HasAllBlocks (f : Frame) (blocks : Blocks) : Type 0 where
+  pub all : Picture
+  pub framed : all.frame ≡ f
+  pub range : AreInRange (bounds f) (map_of all)
+  pub real : blocks ≡ real_blocks f (map_of all)
+
 -- A complete file, all whose MCU rows were given.
 pub record IsDoneByRows (bytes : List ℕ) (m : ℕ) (r : ReaderState) : Type 0 where
   pub done : r.done ≡ true
@@ -126,6 +144,8 @@ pub record IsDoneByRows (bytes : List ℕ) (m : ℕ) (r : ReaderState) : Type 0 
   pub whole : IsWholeFile r.limits bytes meaning
   pub kept : KeepsMarkersOf meaning r
   pub begun : HasBegunRows bytes r
+  pub head : TellsHead r.strip meaning
+  pub all : HasAllBlocks (frame_of r.limits begun.before) meaning.blocks
   pub blocks : Blocks
   pub completed : CompletesRows r.limits bytes m blocks
 
@@ -162,6 +182,8 @@ pub record IsEarlyByRows (bytes : List ℕ) (m : ℕ) (r : ReaderState) : Type 0
   pub meaning : Meaning
   pub early : MeansEarly r.limits bytes meaning
   pub kept : KeepsMarkersOf meaning r
+  pub head : TellsHead r.strip meaning
+  pub all : HasAllBlocks (frame_of r.limits begun.before) meaning.blocks
   pub rows : m + unfinished begun.rows ≡ rows_of_scan r.limits begun.before begun.contents
   pub blocks : Blocks
   pub completed : CompletesRows r.limits bytes m blocks

@@ -7,8 +7,7 @@ ghost use Rattle.jpg_base.specs.declared.stop.Stop.{Stop as Stopped};
 ghost use Rattle.jpg_file.specs.Read.File.{keeping_of};
 ghost use Rattle.jpg_file.specs.Read.PictureRead.{TakesEarly, TakesPicture};
 ghost use Rattle.jpg_file.specs.Read.ReadFile.{AfterEnd, AsksOnFeed, EndsDone, EndsWith, FeedsFile, HasRead, TellsBegun, head_seen};
-ghost use Rattle.jpg_file.specs.Read.ReadRows.{AsksOnFeedKeeping, AsksOnFeedRow, FeedsKeeping, IsPlain, EndsDoneRow, EndsRow, FeedsRow, HasBegunRows, HasGivenRow, HasReadPlainly, HasReadRows, picture_read};
-ghost use Rattle.jpg_file.specs.Read.RowPieces.{WantsNone};
+ghost use Rattle.jpg_file.specs.Read.ReadRows.{AsksOnFeedKeeping, AsksOnFeedRow, FeedsKeeping, IsByRow, IsPlain, EndsDoneRow, EndsRow, FeedsRow, HasBegunRows, HasGivenRow, HasReadPlainly, HasReadRows, picture_read};
 ghost use Rattle.jpg_file.specs.Read.RowsKnown.{TellsStrip};
 ghost use Rattle.jpg_file.specs.Read.ScanPieces.{AsksOnFeedScan, EndsDoneScan, FeedsScan};
 ghost use Rattle.jpg_file.specs.Read.ScansEnded.{ScansEnded};
@@ -258,18 +257,18 @@ impl Reader {
     // Takes a further piece, up to the byte with the last bit of the next MCU row.
     fn next_row(&mut self, piece: &[u8]) -> Result<FedRow, Stop>
         requires undone { self.old.done ≡ false }
-        requires in_rows { self.old.in_rows ≡ true }
+        requires by_row { IsByRow self.old }
         ensures answered { FeedsKeeping self.old piece.now result self.new }
         ensures sparing { self.old.by_row ≡ true → FeedsRow self.old piece.now result self.new }
         ensures memory { AsksOnFeedKeeping self.old piece.now result self.new }
-        ensures none { self.old.by_row ≡ true → WantsNone result self.new.rows }
+        ensures asks { self.old.by_row ≡ true → AsksOnFeedRow self.old piece.now result self.new }
         ensures done { EndsDoneRow result self.new }
         ensures stopped { (stop : Stopped) → result ≡ Err stop → self.new.stop ≡ Some stop }
         ensures again { (stop : Stopped) → self.old.stop ≡ Some stop → (result ≡ Err stop) × (self.new ≡ self.old) }
         ensures limits { self.new.limits ≡ self.old.limits }
         ensures keeping { keeping_of self.new.file ≡ keeping_of self.old.file }
         ensures by_row { self.new.by_row ≡ self.old.by_row }
-        ensures in_rows { self.new.in_rows ≡ true }
+        ensures in_rows { self.new.in_rows ≡ self.old.in_rows }
     {
         if let Some(stop) = self.stop {
             return Err(stop);

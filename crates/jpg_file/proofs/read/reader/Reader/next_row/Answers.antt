@@ -1,10 +1,10 @@
 use Rattle.std.proofs.Common.{rules, ◌∙◌, ap, subst, sym, Ok, Err, Some, ◌≡◌, true}
 use Rattle.jpg_file.specs.Read.ReadFile.{ReaderState}
-use Rattle.jpg_file.proofs.Files.ReaderFed.{keeps_done_rows, keeps_given_rows, keeps_more_rows}
+use Rattle.jpg_file.proofs.Files.ReaderFed.{keeps_done_rows, keeps_given_rows, keeps_more_rows, rows_read}
 use Rattle.std.specs.Prelude.{Result}
 use Rattle.jpg_base.specs.declared.stop.Stop.{Stop}
 use Rattle.jpg_base.specs.declared.stop.Stop.TheVariants as stop
-use Rattle.jpg_file.specs.Read.ReadRows.{AfterFeedKeeping, AfterFeedRow, HasReadSoFar}
+use Rattle.jpg_file.specs.Read.ReadRows.{AfterFeedKeeping, AfterFeedRow, HasReadSoFar, IsByRow}
 use Rattle.jpg_file.specs.Read.RowPieces.{WantsNone}
 use Rattle.jpg_file.specs.Read.PieceTaken.{ReadsPiece}
 use Rattle.jpg_file.specs.declared.read.row_pieces.FedRow.{FedRow}
@@ -61,7 +61,7 @@ returns-in-Ok-More-clause-answered c = λ bytes m s.
     let new = took.new.work in
     let piece = c.args.piece.now in
     let r : ReaderState = record { limits = c.self.inside.limits; file = work.file; by_row = c.self.inside.by_row; in_rows = work.by_row; rows = work.rows; strip = work.strip; done = c.self.inside.done; stop = c.self.inside.stop } in
-    let row = ap (λ (r : ReaderState). r.in_rows) c.self.view_is ∙ c.requires.in_rows in
+    let row = rows_read r (subst IsByRow (sym c.self.view_is) c.requires.by_row) c.self.invariant in
     let is : took.result ≡ Ok fed.More = search rules in
     subst (λ (a : Result FedRow Stop). AfterFeedKeeping bytes m piece a (record r { file = new.file; in_rows = new.by_row; rows = new.rows; strip = new.strip })) (sym is)
     (more_answered r work new bytes piece m row (subst (λ (a : Result FedRow Stop). ReadsPiece r.limits work piece a new) is took.ensures) (subst (λ (q : ReaderState). HasReadSoFar bytes m q) (sym c.self.view_is) s))
@@ -73,7 +73,7 @@ returns-in-Ok-More-clause-sparing c = λ by bytes m s.
     let new = took.new.work in
     let piece = c.args.piece.now in
     let r : ReaderState = record { limits = c.self.inside.limits; file = work.file; by_row = c.self.inside.by_row; in_rows = work.by_row; rows = work.rows; strip = work.strip; done = c.self.inside.done; stop = c.self.inside.stop } in
-    let row = ap (λ (r : ReaderState). r.in_rows) c.self.view_is ∙ c.requires.in_rows in
+    let row = rows_read r (subst IsByRow (sym c.self.view_is) c.requires.by_row) c.self.invariant in
     let is : took.result ≡ Ok fed.More = search rules in
     subst (λ (a : Result FedRow Stop). AfterFeedRow bytes m piece a (record r { file = new.file; in_rows = new.by_row; rows = new.rows; strip = new.strip })) (sym is)
     (more_answered r work new bytes piece m row (subst (λ (a : Result FedRow Stop). ReadsPiece r.limits work piece a new) is took.ensures) (subst (λ (q : ReaderState). HasReadSoFar bytes m q) (sym c.self.view_is) s))
@@ -86,7 +86,7 @@ returns-in-Ok-Done-clause-answered c = λ bytes m s.
     let piece = c.args.piece.now in
     let used = c.in-Ok-Done.field-0-0 in
     let r : ReaderState = record { limits = c.self.inside.limits; file = work.file; by_row = c.self.inside.by_row; in_rows = work.by_row; rows = work.rows; strip = work.strip; done = c.self.inside.done; stop = c.self.inside.stop } in
-    let row = ap (λ (r : ReaderState). r.in_rows) c.self.view_is ∙ c.requires.in_rows in
+    let row = rows_read r (subst IsByRow (sym c.self.view_is) c.requires.by_row) c.self.invariant in
     let is : took.result ≡ Ok (fed.Done used) = search rules in
     subst (λ (a : Result FedRow Stop). AfterFeedKeeping bytes m piece a (record r { file = new.file; in_rows = new.by_row; rows = new.rows; strip = new.strip; done = true })) (sym is)
     (done_answered r work new bytes piece m used row (subst (λ (a : Result FedRow Stop). ReadsPiece r.limits work piece a new) is took.ensures) (subst (λ (q : ReaderState). HasReadSoFar bytes m q) (sym c.self.view_is) s))
@@ -99,7 +99,7 @@ returns-in-Ok-Done-clause-sparing c = λ by bytes m s.
     let piece = c.args.piece.now in
     let used = c.in-Ok-Done.field-0-0 in
     let r : ReaderState = record { limits = c.self.inside.limits; file = work.file; by_row = c.self.inside.by_row; in_rows = work.by_row; rows = work.rows; strip = work.strip; done = c.self.inside.done; stop = c.self.inside.stop } in
-    let row = ap (λ (r : ReaderState). r.in_rows) c.self.view_is ∙ c.requires.in_rows in
+    let row = rows_read r (subst IsByRow (sym c.self.view_is) c.requires.by_row) c.self.invariant in
     let is : took.result ≡ Ok (fed.Done used) = search rules in
     subst (λ (a : Result FedRow Stop). AfterFeedRow bytes m piece a (record r { file = new.file; in_rows = new.by_row; rows = new.rows; strip = new.strip; done = true })) (sym is)
     (done_answered r work new bytes piece m used row (subst (λ (a : Result FedRow Stop). ReadsPiece r.limits work piece a new) is took.ensures) (subst (λ (q : ReaderState). HasReadSoFar bytes m q) (sym c.self.view_is) s))
@@ -108,10 +108,10 @@ pub returns-in-Err-clause-answered : goal.returns-in-Err-clause-answered
 returns-in-Err-clause-answered c = λ bytes m s.
     let work = c.self.inside.work in
     let took = c.in-Err.ensures in
-    let row = ap (λ (r : ReaderState). r.in_rows) c.self.view_is ∙ c.requires.in_rows in
     let new = c.read_rows-answer.new.work in
     let piece = c.args.piece.now in
     let r : ReaderState = record { limits = c.self.inside.limits; file = work.file; by_row = c.self.inside.by_row; in_rows = work.by_row; rows = work.rows; strip = work.strip; done = c.self.inside.done; stop = c.self.inside.stop } in
+    let row = rows_read r (subst IsByRow (sym c.self.view_is) c.requires.by_row) c.self.invariant in
     subst (λ (a : Result FedRow Stop). AfterFeedKeeping bytes m piece a (record r { file = new.file; in_rows = new.by_row; rows = new.rows; strip = new.strip; stop = Some c.in-Err.stop })) (sym c.in-Err.is)
     (stop_kept r work new bytes piece m c.in-Err.stop row took (subst (λ (q : ReaderState). HasReadSoFar bytes m q) (sym c.self.view_is) s))
 
@@ -119,19 +119,24 @@ pub returns-in-Err-clause-sparing : goal.returns-in-Err-clause-sparing
 returns-in-Err-clause-sparing c = λ by bytes m s.
     let work = c.self.inside.work in
     let took = c.in-Err.ensures in
-    let row = ap (λ (r : ReaderState). r.in_rows) c.self.view_is ∙ c.requires.in_rows in
     let bare = ap (λ (r : ReaderState). r.by_row) c.self.view_is ∙ by in
     let new = c.read_rows-answer.new.work in
     let piece = c.args.piece.now in
     let r : ReaderState = record { limits = c.self.inside.limits; file = work.file; by_row = c.self.inside.by_row; in_rows = work.by_row; rows = work.rows; strip = work.strip; done = c.self.inside.done; stop = c.self.inside.stop } in
+    let row = rows_read r (subst IsByRow (sym c.self.view_is) c.requires.by_row) c.self.invariant in
     subst (λ (a : Result FedRow Stop). AfterFeedRow bytes m piece a (record r { file = new.file; in_rows = new.by_row; rows = new.rows; strip = new.strip; stop = Some c.in-Err.stop })) (sym c.in-Err.is)
     (stop_answered r work new bytes piece m c.in-Err.stop row (took.memory (c.self.invariant.keeping bare) (c.self.invariant.sparing bare)) took (subst (λ (q : ReaderState). HasReadSoFar bytes m q) (sym c.self.view_is) s))
 
-pub returns-in-Err-clause-none : goal.returns-in-Err-clause-none
-returns-in-Err-clause-none c = λ by.
+pub returns-in-Err-clause-asks : goal.returns-in-Err-clause-asks
+returns-in-Err-clause-asks c = λ by bytes m s is.
+    let work = c.self.inside.work in
+    let took = c.in-Err.ensures in
     let bare = ap (λ (r : ReaderState). r.by_row) c.self.view_is ∙ by in
     let new = c.read_rows-answer.new.work in
-    subst (λ (a : Result FedRow Stop). WantsNone a new.rows) (sym c.in-Err.is) (c.in-Err.ensures.memory (c.self.invariant.keeping bare) (c.self.invariant.sparing bare))
+    let r : ReaderState = record { limits = c.self.inside.limits; file = work.file; by_row = c.self.inside.by_row; in_rows = work.by_row; rows = work.rows; strip = work.strip; done = c.self.inside.done; stop = c.self.inside.stop } in
+    let whole : (let a : Result FedRow Stop = Err c.in-Err.stop in a) ≡ Err stop.NoMemory = sym c.in-Err.is ∙ is in
+    let same : c.in-Err.stop ≡ stop.NoMemory = cc in
+    memory_answered r work new bytes c.args.piece.now m c.in-Err.stop (took.memory (c.self.invariant.keeping bare) (c.self.invariant.sparing bare)) took (subst (λ (q : ReaderState). HasReadSoFar bytes m q) (sym c.self.view_is) s) same
 
 pub returns-in-Err-clause-memory : goal.returns-in-Err-clause-memory
 returns-in-Err-clause-memory c = λ none bytes m s is.
