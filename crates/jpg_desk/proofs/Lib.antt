@@ -10,6 +10,7 @@ pub mod ImageTaken
 pub mod Input
 pub mod Judged
 pub mod KeepingLaws
+pub mod MovedRows
 pub mod MovedWritten
 pub mod NamesBefore
 pub mod Output

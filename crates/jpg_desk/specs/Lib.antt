@@ -7,6 +7,7 @@ pub mod ImageFile
 pub mod ImageLoop
 pub mod ImageSource
 pub mod Judging
+pub mod MovedRows
 pub mod Pump
 pub mod ReadFront
 pub mod ReadImage

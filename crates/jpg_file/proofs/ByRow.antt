@@ -3,6 +3,7 @@ pub mod FaultsFed
 pub mod FaultsParsed
 pub mod FaultsPlaced
 pub mod FaultsRows
+pub mod HeadLeft
 pub mod RowAfter
 pub mod RowBits
 pub mod RowBlanks

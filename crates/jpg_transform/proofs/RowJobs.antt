@@ -4,11 +4,8 @@ use Rattle.std.specs.Prelude.{IfSome}
 use Rattle.jpg_spec.specs.FrameHeader.{IsFrame}
 use Rattle.jpg_spec.specs.Geometry.{Frame}
 use Rattle.jpg_spec.specs.Scan.{Blocks}
-use Rattle.jpg_spec.specs.FileMeaning.{Means}
-use Rattle.jpg_spec.specs.Meaning.{Meaning, real_blocks}
-use Rattle.jpg_spec.specs.Segments.{standard_limits}
-use Rattle.jpg_spec_move.specs.Laws.{IsMovable}
-use Rattle.jpg_spec_move.specs.Moved.{Choice, columns_in, moved, moved_text, rows_in}
+use Rattle.jpg_spec.specs.Meaning.{Meaning}
+use Rattle.jpg_spec_move.specs.Moved.{Choice, columns_in, moved_text, rows_in}
 use Rattle.jpg_spec_move.specs.Transforms.{transposes}
 use Rattle.jpg_coefs.specs.Picture.{map_of}
 use Rattle.jpg_huff.specs.declared.set.TableSet.{TableSet}
@@ -72,37 +69,39 @@ pub data_due : (p : Picture) (choice : Choice) (job : Job) (scan : SoleScan) (te
     → IsSoleData job.plan p.kept job.plan.out.frame (moved_of job.transform job.plan.out.frame (map_of p.coefs)) scan text
 data_due p choice job scan text h is sole e = record { can = (job_writes p choice job h is).can; sole = sole; written = e }
 
--- AT THE END: what was written of the MCU rows of a meaning with this head, for a job that each picture with the head has.
+-- AT THE END: what was written of the MCU rows of a meaning with this head, for a job that each picture with the head has:
+-- the data of a picture that means it, whose file has the text of the transformed picture.
 
-pub record IsRowText (M : Meaning) (choice : Choice) (job : Job) (scan : SoleScan) (text : List ℕ) : Type 0 where
+pub record IsRowData (h : StripHead) (M : Meaning) (choice : Choice) (job : Job) (scan : SoleScan) (text : List ℕ) : Type 0 where
+  pub picture : Picture
+  pub of : IsPictureOf h M picture
+  pub has_job : IsJobFor picture choice job
   pub blocks : Blocks
-  pub sole : IsSoleData job.plan M.kept job.plan.out.frame blocks scan text
-  pub written : file_bytes job.plan M.kept blocks ≡ moved_text choice M
-  pub means : IsMovable choice M → Means standard_limits (moved_text choice M) (moved choice M)
+  pub sole : IsSoleData job.plan picture.kept job.plan.out.frame blocks scan text
+  pub written : file_bytes job.plan picture.kept blocks ≡ moved_text choice (picture_meaning picture)
 
 -- its scan
 abbrev pub scan_of_job : StripHead → Job → SoleScan → MovedScan
 scan_of_job h job scan = moved_scan h.frame job scan.due.head scan.tables scan.due.interval
 
-module _ {h : StripHead} {M : Meaning} {choice : Choice} {job : Job} {scan : SoleScan} {k : ℕ} {r : RowMover} {text : List ℕ} (head : IsHeadOfPicture h M)
-    (has_job : (p : Picture) → IsHeadOf h p → IsJobFor p choice job) (is : IsFrame job.plan.out.frame) (sole : IsSole job.plan scan) where
-  pub row_text : HasAllMoved (scan_of_job h job scan) k M.blocks r → GivesMoved r text → real_blocks h.frame M.blocks ≡ M.blocks → IsRowText M choice job scan text
-  row_text all gives real = by (picture_of h M head (all_in_bounds head.head.frame all.all all.has.some))
-    where
-      by : (p : Picture) × IsPictureOf h M p → IsRowText M choice job scan text
-      by found =
-          let p = found.0 in
-          let of = found.1 in
-          let mine = has_job p of.head in
-          let agree : AgreeInRows h.frame k M.blocks (map_of p.coefs) = record { same = λ i x y there across down low. sym (of.same i x y (record { component = there; across = across; down = down })) } in
-          let due = gives (scan_of_job h job scan) k (map_of p.coefs) (record { has = moved_agree all.has agree; all = all.all }) in
-          let own = subst (λ (f : Frame). text ≡ moved_data (moved_scan f job scan.due.head scan.tables scan.due.interval) (map_of p.coefs)) (sym of.head.frame) due in
-          let writes = job_writes p choice job mine is in
-          let blocks = moved_of job.transform job.plan.out.frame (map_of p.coefs) in
-          let same = of.means real in
-          record {
-            blocks = blocks;
-            sole = subst (λ (kept : List (ℕ × List ℕ)). IsSoleData job.plan kept job.plan.out.frame blocks scan text) of.kept (data_due p choice job scan text mine is sole own);
-            written = ap (λ (kept : List (ℕ × List ℕ)). file_bytes job.plan kept blocks) (sym of.kept) ∙ writes.text ∙ ap (moved_text choice) same;
-            means = subst (λ (N : Meaning). IsMovable choice N → Means standard_limits (moved_text choice N) (moved choice N)) same writes.means;
-          }
+pub row_data : {h : StripHead} {M : Meaning} {choice : Choice} {job : Job} {scan : SoleScan} {k : ℕ} {r : RowMover} {text : List ℕ} → IsHeadOfPicture h M
+    → ((p : Picture) → IsHeadOf h p → IsJobFor p choice job) → IsFrame job.plan.out.frame → IsSole job.plan scan → HasAllMoved (scan_of_job h job scan) k M.blocks r → GivesMoved r text
+    → IsRowData h M choice job scan text
+row_data {h} {M} {choice} {job} {scan} {k} {r} {text} head has_job is sole all gives = by (picture_of h M head (all_in_bounds head.head.frame all.all all.has.some))
+  where
+    by : (p : Picture) × IsPictureOf h M p → IsRowData h M choice job scan text
+    by found =
+        let p = found.0 in
+        let of = found.1 in
+        let mine = has_job p of.head in
+        let agree : AgreeInRows h.frame k M.blocks (map_of p.coefs) = record { same = λ i x y there across down low. sym (of.same i x y (record { component = there; across = across; down = down })) } in
+        let due = gives (scan_of_job h job scan) k (map_of p.coefs) (record { has = moved_agree all.has agree; all = all.all }) in
+        let own = subst (λ (f : Frame). text ≡ moved_data (moved_scan f job scan.due.head scan.tables scan.due.interval) (map_of p.coefs)) (sym of.head.frame) due in
+        record {
+          picture = p;
+          of = of;
+          has_job = mine;
+          blocks = moved_of job.transform job.plan.out.frame (map_of p.coefs);
+          sole = data_due p choice job scan text mine is sole own;
+          written = (job_writes p choice job mine is).text;
+        }

@@ -19,7 +19,7 @@ use Rattle.jpg_base.specs.declared.stop.Stop.TheVariants as stop
 use Rattle.jpg_seq.proofs.ScanRows.{units_by_row}
 use Rattle.jpg_file.specs.Read.PieceTaken.{ReadsPiece}
 use Rattle.jpg_file.specs.Read.ReadFile.{AsksForMemory, ReaderState}
-use Rattle.jpg_file.specs.Read.ReadRows.{AfterFeedRow, HasBegunRows, HasGivenRow, HasReadPlainly, HasReadRows, HasReadSoFar, IsDoneByRows, NotSooner, StopsRows, StopsSoFar}
+use Rattle.jpg_file.specs.Read.ReadRows.{AfterFeedKeeping, AfterFeedRow, HasBegunRows, HasGivenRow, HasReadPlainly, HasReadRows, HasReadSoFar, IsDoneByRows, NotSooner, StopsRows, StopsSoFar}
 use Rattle.jpg_file.specs.Read.RowFaults.{BeganAtFault, RowsFault}
 use Rattle.jpg_file.specs.Read.RowPieces.{HasLastByte, LastFed, RowsGive, RowsGo, RowsOpen, WantsNone}
 use Rattle.jpg_file.specs.Read.RowTurns.{unfinished}
@@ -335,3 +335,9 @@ module _ (r : ReaderState) (old new : StripWork) (bytes piece : List ℕ) (m : �
   stop_answered stop.NoMemory row wants t (inr h) =
       let b = rows_before bytes m (with_work r old) h in
       absurd (clash (is_some new.rows) (t.keeps.some (ap is_some (b.begun).has)) (ap is_some wants))
+
+  -- and where markers are kept
+  pub stop_kept : (e : Stop) → old.by_row ≡ true → ReadsPiece r.limits old piece (Err e) new → HasReadSoFar bytes m (with_work r old) → AfterFeedKeeping bytes m piece (Err e) (record (with_work r new) { stop = Some e })
+  stop_kept (stop.Fault f) row t s = fault_answered f row t s
+  stop_kept stop.NoMemory row t (inl (p, z)) = t.after bytes (here r old new bytes piece p)
+  stop_kept stop.NoMemory row t (inr h) = (let b = rows_before bytes m (with_work r old) h in t.after bytes b.open)

@@ -81,6 +81,7 @@ keeps_early r all undone skip_ahead k told e =
     let o = k.open skip_ahead undone in
     record {
       limited = k.limited;
+      in_rows = k.in_rows;
       keeping = k.keeping;
       sparing = k.sparing;
       «open» = λ none undone_now. absurd (clash true refl undone_now);

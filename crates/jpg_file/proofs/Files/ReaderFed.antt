@@ -16,7 +16,7 @@ use Rattle.jpg_file.specs.Read.File.{EndsFile, RepresentsFile, with_picture}
 use Rattle.jpg_file.specs.Read.ScanHistory.{HasBegunEach}
 use Rattle.jpg_file.specs.Read.PieceTaken.{ReadsPiece}
 use Rattle.jpg_file.specs.Read.ReadFile.{AfterFeed, AsksForMemory, HasRead, IsStopOf, ReaderState}
-use Rattle.jpg_file.specs.Read.ReadRows.{IsReading}
+use Rattle.jpg_file.specs.Read.ReadRows.{IsByRow, IsReading}
 use Rattle.jpg_file.specs.Read.RowPieces.{AfterRowsPiece, KeepsWork, RowsGive, RowsGo, RowsOpen}
 use Rattle.jpg_file.specs.Read.Strips.{AfterStrip, StripGoes, RepresentsStrip}
 use Rattle.jpg_file.specs.declared.read.file.FileWork.{FileWork}
@@ -52,13 +52,14 @@ whole_each limits bytes (Some rows) w a = ends_each limits bytes (with_picture w
 
 -- as the reader is seen with this work
 abbrev pub with_work : ReaderState → StripWork → ReaderState
-with_work r work = record r { file = work.file; by_row = work.by_row; rows = work.rows; strip = work.strip }
+with_work r work = record r { file = work.file; in_rows = work.by_row; rows = work.rows; strip = work.strip }
 
 keeps_going : (r : ReaderState) (old new : StripWork) → KeepsWork old new → r.done ≡ false → IsReading (with_work r old) → ((bytes : List ℕ) → RowsOpen r.limits bytes old.rows old.file → (all : List ℕ) × RowsOpen r.limits all new.rows new.file) → IsReading (with_work r new)
 keeps_going r old new kept undone k next = record {
   limited = k.limited;
-  keeping = λ by. kept.keeping ∙ k.keeping (sym kept.by_row ∙ by);
-  sparing = λ by. kept.sparing (k.keeping (sym kept.by_row ∙ by)) (k.sparing (sym kept.by_row ∙ by));
+  in_rows = λ by. kept.by_row ∙ k.in_rows by;
+  keeping = λ by. kept.keeping ∙ k.keeping by;
+  sparing = λ by. kept.sparing (k.keeping by) (k.sparing by);
   «open» = λ none skip_ahead. (let o = k.open none skip_ahead in next o.0 o.1);
   ended = λ done. absurd (clash r.done done undone);
   begun = λ done. absurd (clash r.done done undone);
@@ -80,12 +81,17 @@ keeps_done_rows r old new piece result used e undone skip_ahead k t =
     let kept = t.keeps in
     record {
       limited = k.limited;
-      keeping = λ by. kept.keeping ∙ k.keeping (sym kept.by_row ∙ by);
-      sparing = λ by. kept.sparing (k.keeping (sym kept.by_row ∙ by)) (k.sparing (sym kept.by_row ∙ by));
+      in_rows = λ by. kept.by_row ∙ k.in_rows by;
+      keeping = λ by. kept.keeping ∙ k.keeping by;
+      sparing = λ by. kept.sparing (k.keeping by) (k.sparing by);
       «open» = λ none undone_now. absurd (clash true refl undone_now);
       ended = λ done none. whole_leaves r.limits (o.0 ++ take used piece) new.file (ends_plain r.limits (o.0 ++ take used piece) new.rows new.file none a.0);
       begun = λ done. whole_each r.limits (o.0 ++ take used piece) new.rows new.file a.0;
     }
+
+pub rows_read : (r : ReaderState) → IsByRow r → IsReading r → r.in_rows ≡ true
+rows_read r (inl by) k = k.in_rows by
+rows_read r (inr rows) k = rows
 
 -- WHERE NO MCU ROWS ARE READ
 

@@ -20,9 +20,9 @@ invariant_of-self c =
     let took = c.read_scan-answer in
     let new = took.new.work in
     let piece = c.args.piece.now in
-    let r : ReaderState = record { limits = c.self.inside.limits; file = work.file; by_row = work.by_row; rows = work.rows; strip = work.strip; done = c.self.inside.done; stop = c.self.inside.stop } in
+    let r : ReaderState = record { limits = c.self.inside.limits; file = work.file; by_row = c.self.inside.by_row; in_rows = work.by_row; rows = work.rows; strip = work.strip; done = c.self.inside.done; stop = c.self.inside.stop } in
     let none = ap (λ (r : ReaderState). r.rows) c.self.view_is ∙ c.requires.plain.1 in
-    let row = ap (λ (r : ReaderState). r.by_row) c.self.view_is ∙ c.requires.plain.0 in
+    let row = ap (λ (r : ReaderState). r.in_rows) c.self.view_is ∙ c.requires.plain.0 in
     let undone = ap (λ (r : ReaderState). r.done) c.self.view_is ∙ c.requires.undone in
     let is : took.result ≡ Ok came.More = search rules in
     let k = subst (λ (a : Result FedScan Stop). ReadsScan r.limits work piece a new) is took.ensures in
@@ -34,9 +34,9 @@ invariant_of-self-in-Ok-Scan c =
     let took = c.read_scan-answer in
     let new = took.new.work in
     let piece = c.args.piece.now in
-    let r : ReaderState = record { limits = c.self.inside.limits; file = work.file; by_row = work.by_row; rows = work.rows; strip = work.strip; done = c.self.inside.done; stop = c.self.inside.stop } in
+    let r : ReaderState = record { limits = c.self.inside.limits; file = work.file; by_row = c.self.inside.by_row; in_rows = work.by_row; rows = work.rows; strip = work.strip; done = c.self.inside.done; stop = c.self.inside.stop } in
     let none = ap (λ (r : ReaderState). r.rows) c.self.view_is ∙ c.requires.plain.1 in
-    let row = ap (λ (r : ReaderState). r.by_row) c.self.view_is ∙ c.requires.plain.0 in
+    let row = ap (λ (r : ReaderState). r.in_rows) c.self.view_is ∙ c.requires.plain.0 in
     let undone = ap (λ (r : ReaderState). r.done) c.self.view_is ∙ c.requires.undone in
     let is : took.result ≡ Ok (came.Scan c.in-Ok-Scan.field-0-0) = search rules in
     let k = subst (λ (a : Result FedScan Stop). ReadsScan r.limits work piece a new) is took.ensures in
@@ -48,9 +48,9 @@ invariant_of-self-in-Ok-Done c =
     let took = c.read_scan-answer in
     let new = took.new.work in
     let piece = c.args.piece.now in
-    let r : ReaderState = record { limits = c.self.inside.limits; file = work.file; by_row = work.by_row; rows = work.rows; strip = work.strip; done = c.self.inside.done; stop = c.self.inside.stop } in
+    let r : ReaderState = record { limits = c.self.inside.limits; file = work.file; by_row = c.self.inside.by_row; in_rows = work.by_row; rows = work.rows; strip = work.strip; done = c.self.inside.done; stop = c.self.inside.stop } in
     let none = ap (λ (r : ReaderState). r.rows) c.self.view_is ∙ c.requires.plain.1 in
-    let row = ap (λ (r : ReaderState). r.by_row) c.self.view_is ∙ c.requires.plain.0 in
+    let row = ap (λ (r : ReaderState). r.in_rows) c.self.view_is ∙ c.requires.plain.0 in
     let undone = ap (λ (r : ReaderState). r.done) c.self.view_is ∙ c.requires.undone in
     let is : took.result ≡ Ok (came.Done c.in-Ok-Done.field-0-0) = search rules in
     let k = subst (λ (a : Result FedScan Stop). ReadsScan r.limits work piece a new) is took.ensures in
@@ -62,13 +62,13 @@ returns-in-Ok-More-clause-answered c = λ bytes h.
     let took = c.read_scan-answer in
     let new = took.new.work in
     let piece = c.args.piece.now in
-    let r : ReaderState = record { limits = c.self.inside.limits; file = work.file; by_row = work.by_row; rows = work.rows; strip = work.strip; done = c.self.inside.done; stop = c.self.inside.stop } in
+    let r : ReaderState = record { limits = c.self.inside.limits; file = work.file; by_row = c.self.inside.by_row; in_rows = work.by_row; rows = work.rows; strip = work.strip; done = c.self.inside.done; stop = c.self.inside.stop } in
     let none = ap (λ (r : ReaderState). r.rows) c.self.view_is ∙ c.requires.plain.1 in
-    let row = ap (λ (r : ReaderState). r.by_row) c.self.view_is ∙ c.requires.plain.0 in
+    let row = ap (λ (r : ReaderState). r.in_rows) c.self.view_is ∙ c.requires.plain.0 in
     let undone = ap (λ (r : ReaderState). r.done) c.self.view_is ∙ c.requires.undone in
     let is : took.result ≡ Ok came.More = search rules in
     let k = subst (λ (a : Result FedScan Stop). ReadsScan r.limits work piece a new) is took.ensures in
-    subst (λ (a : Result FedScan Stop). AfterFeedScan bytes piece a (record r { file = new.file; by_row = new.by_row; rows = new.rows; strip = new.strip })) (sym is)
+    subst (λ (a : Result FedScan Stop). AfterFeedScan bytes piece a (record r { file = new.file; in_rows = new.by_row; rows = new.rows; strip = new.strip })) (sym is)
     (scan_more r work none row undone new bytes piece (subst (λ (q : ReaderState). HasRead bytes q) (sym c.self.view_is) h) k)
 
 pub returns-in-Ok-Scan-clause-answered : goal.returns-in-Ok-Scan-clause-answered
@@ -77,13 +77,13 @@ returns-in-Ok-Scan-clause-answered c = λ bytes h.
     let took = c.read_scan-answer in
     let new = took.new.work in
     let piece = c.args.piece.now in
-    let r : ReaderState = record { limits = c.self.inside.limits; file = work.file; by_row = work.by_row; rows = work.rows; strip = work.strip; done = c.self.inside.done; stop = c.self.inside.stop } in
+    let r : ReaderState = record { limits = c.self.inside.limits; file = work.file; by_row = c.self.inside.by_row; in_rows = work.by_row; rows = work.rows; strip = work.strip; done = c.self.inside.done; stop = c.self.inside.stop } in
     let none = ap (λ (r : ReaderState). r.rows) c.self.view_is ∙ c.requires.plain.1 in
-    let row = ap (λ (r : ReaderState). r.by_row) c.self.view_is ∙ c.requires.plain.0 in
+    let row = ap (λ (r : ReaderState). r.in_rows) c.self.view_is ∙ c.requires.plain.0 in
     let undone = ap (λ (r : ReaderState). r.done) c.self.view_is ∙ c.requires.undone in
     let is : took.result ≡ Ok (came.Scan c.in-Ok-Scan.field-0-0) = search rules in
     let k = subst (λ (a : Result FedScan Stop). ReadsScan r.limits work piece a new) is took.ensures in
-    subst (λ (a : Result FedScan Stop). AfterFeedScan bytes piece a (record r { file = new.file; by_row = new.by_row; rows = new.rows; strip = new.strip })) (sym is)
+    subst (λ (a : Result FedScan Stop). AfterFeedScan bytes piece a (record r { file = new.file; in_rows = new.by_row; rows = new.rows; strip = new.strip })) (sym is)
     (scan_one r work none row undone new bytes piece c.in-Ok-Scan.field-0-0 (subst (λ (q : ReaderState). HasRead bytes q) (sym c.self.view_is) h) k)
 
 pub returns-in-Ok-Done-clause-answered : goal.returns-in-Ok-Done-clause-answered
@@ -92,13 +92,13 @@ returns-in-Ok-Done-clause-answered c = λ bytes h.
     let took = c.read_scan-answer in
     let new = took.new.work in
     let piece = c.args.piece.now in
-    let r : ReaderState = record { limits = c.self.inside.limits; file = work.file; by_row = work.by_row; rows = work.rows; strip = work.strip; done = c.self.inside.done; stop = c.self.inside.stop } in
+    let r : ReaderState = record { limits = c.self.inside.limits; file = work.file; by_row = c.self.inside.by_row; in_rows = work.by_row; rows = work.rows; strip = work.strip; done = c.self.inside.done; stop = c.self.inside.stop } in
     let none = ap (λ (r : ReaderState). r.rows) c.self.view_is ∙ c.requires.plain.1 in
-    let row = ap (λ (r : ReaderState). r.by_row) c.self.view_is ∙ c.requires.plain.0 in
+    let row = ap (λ (r : ReaderState). r.in_rows) c.self.view_is ∙ c.requires.plain.0 in
     let undone = ap (λ (r : ReaderState). r.done) c.self.view_is ∙ c.requires.undone in
     let is : took.result ≡ Ok (came.Done c.in-Ok-Done.field-0-0) = search rules in
     let k = subst (λ (a : Result FedScan Stop). ReadsScan r.limits work piece a new) is took.ensures in
-    subst (λ (a : Result FedScan Stop). AfterFeedScan bytes piece a (record r { file = new.file; by_row = new.by_row; rows = new.rows; strip = new.strip; done = true })) (sym is)
+    subst (λ (a : Result FedScan Stop). AfterFeedScan bytes piece a (record r { file = new.file; in_rows = new.by_row; rows = new.rows; strip = new.strip; done = true })) (sym is)
     (scan_done r work none row undone new bytes piece c.in-Ok-Done.field-0-0 (subst (λ (q : ReaderState). HasRead bytes q) (sym c.self.view_is) h) k)
 
 pub returns-in-Err-clause-answered : goal.returns-in-Err-clause-answered
@@ -107,13 +107,13 @@ returns-in-Err-clause-answered c = λ bytes h.
     let took = c.read_scan-answer in
     let new = took.new.work in
     let piece = c.args.piece.now in
-    let r : ReaderState = record { limits = c.self.inside.limits; file = work.file; by_row = work.by_row; rows = work.rows; strip = work.strip; done = c.self.inside.done; stop = c.self.inside.stop } in
+    let r : ReaderState = record { limits = c.self.inside.limits; file = work.file; by_row = c.self.inside.by_row; in_rows = work.by_row; rows = work.rows; strip = work.strip; done = c.self.inside.done; stop = c.self.inside.stop } in
     let none = ap (λ (r : ReaderState). r.rows) c.self.view_is ∙ c.requires.plain.1 in
-    let row = ap (λ (r : ReaderState). r.by_row) c.self.view_is ∙ c.requires.plain.0 in
+    let row = ap (λ (r : ReaderState). r.in_rows) c.self.view_is ∙ c.requires.plain.0 in
     let undone = ap (λ (r : ReaderState). r.done) c.self.view_is ∙ c.requires.undone in
     let is : took.result ≡ Err c.in-Err.stop = search rules in
     let k = subst (λ (a : Result FedScan Stop). ReadsScan r.limits work piece a new) is took.ensures in
-    subst (λ (a : Result FedScan Stop). AfterFeedScan bytes piece a (record r { file = new.file; by_row = new.by_row; rows = new.rows; strip = new.strip; stop = Some c.in-Err.stop })) (sym is)
+    subst (λ (a : Result FedScan Stop). AfterFeedScan bytes piece a (record r { file = new.file; in_rows = new.by_row; rows = new.rows; strip = new.strip; stop = Some c.in-Err.stop })) (sym is)
     (scan_stop r work none row undone new bytes piece c.in-Err.stop (subst (λ (q : ReaderState). HasRead bytes q) (sym c.self.view_is) h) k)
 
 pub returns-in-Err-clause-memory : goal.returns-in-Err-clause-memory
@@ -122,9 +122,9 @@ returns-in-Err-clause-memory c = λ bytes h is.
     let took = c.read_scan-answer in
     let new = took.new.work in
     let piece = c.args.piece.now in
-    let r : ReaderState = record { limits = c.self.inside.limits; file = work.file; by_row = work.by_row; rows = work.rows; strip = work.strip; done = c.self.inside.done; stop = c.self.inside.stop } in
+    let r : ReaderState = record { limits = c.self.inside.limits; file = work.file; by_row = c.self.inside.by_row; in_rows = work.by_row; rows = work.rows; strip = work.strip; done = c.self.inside.done; stop = c.self.inside.stop } in
     let none = ap (λ (r : ReaderState). r.rows) c.self.view_is ∙ c.requires.plain.1 in
-    let row = ap (λ (r : ReaderState). r.by_row) c.self.view_is ∙ c.requires.plain.0 in
+    let row = ap (λ (r : ReaderState). r.in_rows) c.self.view_is ∙ c.requires.plain.0 in
     let undone = ap (λ (r : ReaderState). r.done) c.self.view_is ∙ c.requires.undone in
     let k = subst (λ (a : Result FedScan Stop). ReadsScan r.limits work piece a new) is took.ensures in
     scan_asks r work none row undone new bytes piece (subst (λ (q : ReaderState). HasRead bytes q) (sym c.self.view_is) h) k
