@@ -38,8 +38,7 @@ use Rattle.jpg_file.specs.declared.read.items.ItemStep.TheVariants as step
 use Rattle.jpg_file.specs.declared.read.step.Step.{Step}
 use Rattle.jpg_file.specs.declared.read.step.Step.TheVariants as came
 use Rattle.jpg_file.specs.declared.read.file.FileWork.{FileWork}
-use Rattle.jpg_file.proofs.Headers.ScanHistories.{begun_goes_on}
-use Rattle.jpg_file.proofs.Headers.FirstHeaders.{between_header, has_longer, has_more, no_head, noted}
+use Rattle.jpg_file.proofs.Headers.InForce.{begun_goes_on, between_header, has_longer, has_more, no_head, noted}
 use Rattle.jpg_spec.proofs.Headers.FrameFound.{framed_end}
 use Rattle.jpg_spec.proofs.Headers.FirstScan.{not_none}
 

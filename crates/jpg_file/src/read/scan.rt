@@ -87,7 +87,7 @@ impl InScan {
 
     /// Takes plain bytes from the start of a run, at most up to the byte that ends the interval or reveals a fault.
     /// Returns how many were taken, and the result.
-    #[tactic(auto, using(crate::proofs::Scans::ScanBytes::as_stepped, crate::proofs::Scans::ScanRuns::run_takes))]
+    #[tactic(auto, using(crate::proofs::Scans::ScanBytes::as_stepped, crate::proofs::Scans::ScanBytes::run_takes))]
     pub fn run(&mut self, coefs: &mut Coefs, run: &[u8]) -> (usize, Result<(), Fault>)
         requires inside { IsInside self.old coefs.old }
         requires gate { self.old.gate ≡ false }

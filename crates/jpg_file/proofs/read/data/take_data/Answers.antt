@@ -1,7 +1,7 @@
 use Rattle.std.proofs.Common.{◌≡◌, Bool, List, [], ◌++◌, ◌∙◌, ap, subst}
 use Rattle.jpg_spec.specs.Bits.{bits_of}
 use Rattle.jpg_file.specs.Read.Data.{GivesBits}
-use Rattle.jpg_file.proofs.Scans.Chains.{given_all}
+use Rattle.jpg_file.proofs.Scans.Runs.{given_all}
 use Rattle.jpg_file.proofs.read.data.take_data.Goals as goal
 
 pub returns : goal.returns

@@ -8,7 +8,7 @@ use Rattle.jpg_spec.specs.declared.fault.Fault.TheVariants.{MissingTable, QuantC
 use Rattle.jpg_spec.specs.declared.frame.ScanPart.{ScanPart}
 use Rattle.jpg_file.specs.Read.ScanHistory.{is_same_kept}
 use Rattle.jpg_file.specs.Read.SegmentState.{segments_view}
-use Rattle.jpg_file.proofs.Headers.JudgedHeaders.{in_order, out_of_order, small_parts}
+use Rattle.jpg_file.proofs.Headers.HeaderTaken.{in_order, out_of_order, small_parts}
 use Rattle.jpg_file.proofs.read.scan_header.judge_head.Goals as goal
 
 pub fault-requires : goal.fault-requires

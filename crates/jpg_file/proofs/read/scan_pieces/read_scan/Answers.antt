@@ -7,7 +7,7 @@ use Rattle.jpg_file.specs.Read.Step.{IsNoRow}
 use Rattle.jpg_file.specs.Read.Strips.{StripGoes}
 use Rattle.jpg_file.specs.declared.read.step.Step.{Step}
 use Rattle.jpg_file.proofs.ByRow.RowPieces.{AfterSome, after_some, begun_piece}
-use Rattle.jpg_file.proofs.ByRow.StripPieces.{strip_limits}
+use Rattle.jpg_file.proofs.ByRow.StripBytes.{strip_limits}
 use Rattle.jpg_file.proofs.Files.ScanPieces.{ScanGoes, scan_ends, scan_full, scan_more, scan_stopped, some_before, some_few}
 use Rattle.jpg_file.proofs.read.scan_pieces.read_scan.Goals as goal
 

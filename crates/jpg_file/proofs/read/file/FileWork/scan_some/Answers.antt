@@ -5,7 +5,7 @@ use Rattle.jpg_file.specs.Read.RowsSoFar.{RowsSoFar}
 use Rattle.jpg_file.specs.Read.Strips.{AfterRows, GoesByRow}
 use Rattle.jpg_file.specs.declared.read.reading.Reading.{Reading}
 use Rattle.jpg_file.proofs.Files.PieceSteps.{one_more}
-use Rattle.jpg_file.proofs.ByRow.StripPieces.{filled_limits, filled_scan, later_row, rows_filled}
+use Rattle.jpg_file.proofs.ByRow.StripBytes.{filled_limits, filled_scan, later_row, rows_filled}
 use Rattle.jpg_file.proofs.read.file.FileWork.scan_some.Goals as goal
 
 pub take_byte_in_row-requires-clause-stands : goal.take_byte_in_row-requires-clause-stands

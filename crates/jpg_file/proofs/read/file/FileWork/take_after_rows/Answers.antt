@@ -3,7 +3,7 @@ use Rattle.jpg_spec.specs.declared.frame.Limits.{Limits}
 use Rattle.jpg_file.specs.Read.File.{limits_of}
 use Rattle.jpg_file.specs.Read.Strips.{AfterRows, GoesByRow}
 use Rattle.jpg_file.proofs.ByRow.StripItems.{after_of, later_passed}
-use Rattle.jpg_file.proofs.ByRow.StripPieces.{later_row}
+use Rattle.jpg_file.proofs.ByRow.StripBytes.{later_row}
 use Rattle.jpg_file.proofs.read.file.FileWork.take_after_rows.Goals as goal
 use Rattle.jpg_markers.proofs.Continuing.{not_some}
 

@@ -1,8 +1,7 @@
 use Rattle.jpg_file.specs.Read.File.{limits_of}
 use Rattle.std.proofs.Common.{◌∙◌, arith, inl, sym}
-use Rattle.jpg_file.proofs.ByRow.FaultsRows.{front_at_fault}
+use Rattle.jpg_file.proofs.ByRow.StripBytes.{front_at_fault, front_rows}
 use Rattle.jpg_file.proofs.ByRow.StripItems.{after_of}
-use Rattle.jpg_file.proofs.ByRow.StripPieces.{front_rows}
 use Rattle.jpg_file.proofs.read.file.FileWork.take_in_row.Goals as goal
 
 pub returns-then-n-gt0-clause-after : goal.returns-then-n-gt0-clause-after

@@ -1,7 +1,7 @@
 use Rattle.std.proofs.Common.{◌≡◌, ◌∙◌, take, sym, subst, refl}
 use Rattle.jpg_seq.specs.Rows.{AreInRow}
 use Rattle.jpg_seq.specs.declared.reader.SeqReader.{SeqReader}
-use Rattle.jpg_file.proofs.ByRow.RowMachines.{row_open, row_takes, one_machine}
+use Rattle.jpg_file.proofs.ByRow.RowData.{row_open, row_takes, one_machine}
 use Rattle.jpg_file.proofs.read.machine.ScanReader.bits_in_row.Goals as goal
 
 pub bits_from-requires-clause-open : goal.bits_from-requires-clause-open

@@ -2,7 +2,7 @@ use Rattle.std.proofs.Common.{◌≡◌, ◌∙◌, drop, take, sym, subst, refl
 use Rattle.jpg_spec.specs.Bits.{bits_of_bytes}
 use Rattle.jpg_seq.specs.Rows.{AreInRow}
 use Rattle.jpg_seq.specs.declared.reader.SeqReader.{SeqReader}
-use Rattle.jpg_file.proofs.ByRow.RowMachines.{row_open, row_takes, one_machine}
+use Rattle.jpg_file.proofs.ByRow.RowData.{row_open, row_takes, one_machine}
 use Rattle.jpg_file.proofs.read.machine.ScanReader.bytes_in_row.Goals as goal
 
 pub bytes-requires-clause-open : goal.bytes-requires-clause-open

@@ -5,7 +5,7 @@ use Rattle.jpg_file.specs.Read.ReadFile.{HasRead, ReaderState}
 use Rattle.jpg_file.specs.Read.ScanPieces.{AfterFeedScan, ReadsScan}
 use Rattle.jpg_file.specs.declared.read.scan_pieces.FedScan.{FedScan}
 use Rattle.jpg_file.specs.declared.read.scan_pieces.FedScan.TheVariants as came
-use Rattle.jpg_file.proofs.Files.ReaderScans.{keeps_done, keeps_more, keeps_scan, open_go, scan_asks, scan_done, scan_more, scan_one, scan_stop}
+use Rattle.jpg_file.proofs.Files.ReaderFed.{keeps_done, keeps_more, keeps_scan, open_go, scan_asks, scan_done, scan_more, scan_one, scan_stop}
 use Rattle.jpg_file.proofs.read.reader.Reader.feed_scan.Goals as goal
 
 pub read_scan-answer-requires-clause-open : goal.read_scan-answer-requires-clause-open

@@ -15,8 +15,8 @@ use Rattle.jpg_file.specs.Read.Reading.{waiting_bytes, with_coefs}
 use Rattle.jpg_file.specs.Read.RowPlaces.{scan_left}
 use Rattle.jpg_file.specs.declared.read.scan.InScan.{InScan}
 use Rattle.jpg_spec.proofs.Basics.Common.{some_once}
-use Rattle.jpg_file.proofs.ByRow.RowCounts.{begun_places}
-use Rattle.jpg_file.proofs.Headers.ScanHistories.{begun_more, header_room, table_there}
+use Rattle.jpg_file.proofs.ByRow.RowTurns.{begun_places}
+use Rattle.jpg_file.proofs.Headers.InForce.{begun_more, header_room, table_there}
 use Rattle.jpg_file.proofs.Headers.HeaderTaken.{found, judged, head_begins, head_shows}
 use Rattle.jpg_file.proofs.Scans.Scannings.{none_some}
 use Rattle.jpg_file.proofs.read.reading.Reading.begin_head.Goals as goal

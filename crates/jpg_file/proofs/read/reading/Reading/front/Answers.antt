@@ -1,6 +1,6 @@
 use Rattle.std.proofs.Common.{◌-◌, arith}
 use Rattle.std.proofs.lemmas.List.{length-take-le}
-use Rattle.jpg_file.proofs.Files.Going.{can_front, goes_front}
+use Rattle.jpg_file.proofs.Files.PieceSteps.{can_front, goes_front}
 use Rattle.jpg_file.proofs.read.reading.Reading.front.Goals as goal
 
 pub skip_ahead-requires : goal.skip_ahead-requires

@@ -1,5 +1,4 @@
-use Rattle.jpg_file.proofs.Files.Going.{can_after, goes_then}
-use Rattle.jpg_file.proofs.Files.Passing.{passes_most}
+use Rattle.jpg_file.proofs.Files.PieceSteps.{can_after, goes_then, passes_most}
 use Rattle.jpg_file.proofs.read.reading.Reading.skip_ahead.Goals as goal
 
 pub contents-requires : goal.contents-requires

@@ -1,7 +1,7 @@
 use Rattle.std.proofs.Common.{◌≡◌, ◌+◌, ◌-◌, arith}
 use Rattle.jpg_file.specs.Read.Machine.{any_scan}
-use Rattle.jpg_file.proofs.ByRow.FaultsData.{row_stops}
-use Rattle.jpg_file.proofs.ByRow.RowWorks.{counts_row, data_takes, few_passed, units_passed}
+use Rattle.jpg_file.proofs.ByRow.Faults.{row_stops}
+use Rattle.jpg_file.proofs.ByRow.RowData.{counts_row, data_takes, few_passed, units_passed}
 use Rattle.jpg_file.proofs.read.rows.RowWork.take.Goals as goal
 
 pub overflow_sub-self : goal.overflow_sub-self

@@ -2,9 +2,8 @@ use Rattle.std.proofs.Common.{◌≡◌, ◌+◌, ◌-◌, drop, arith}
 use Rattle.jpg_spec.specs.Bits.{bits_of_bytes}
 use Rattle.jpg_file.specs.Read.Machine.{any_scan}
 use Rattle.jpg_file.proofs.Scans.Runs.{given_bytes}
-use Rattle.jpg_file.proofs.ByRow.FaultsData.{run_stops_row}
-use Rattle.jpg_file.proofs.ByRow.RowLast.{last_in_row}
-use Rattle.jpg_file.proofs.ByRow.RowWorks.{counts_row, few_passed, run_takes_row, some_in_row, units_passed}
+use Rattle.jpg_file.proofs.ByRow.Faults.{run_stops_row, last_in_row}
+use Rattle.jpg_file.proofs.ByRow.RowData.{counts_row, few_passed, run_takes_row, some_in_row, units_passed}
 use Rattle.jpg_file.proofs.read.rows.RowWork.take_bytes.Goals as goal
 
 pub overflow_sub-self : goal.overflow_sub-self

@@ -1,10 +1,9 @@
 use Rattle.std.proofs.Common.{◌∙◌, ap}
 use Rattle.jpg_file.specs.Read.RowData.{AfterRowBytes}
 use Rattle.jpg_file.specs.declared.read.scan.ScanWork.{ScanWork}
-use Rattle.jpg_file.proofs.ByRow.RowCounts.{counts_scan}
-use Rattle.jpg_file.proofs.ByRow.RowBits.{half_then}
-use Rattle.jpg_file.proofs.ByRow.FaultsData.{rest_faults}
-use Rattle.jpg_file.proofs.ByRow.RowScans.{open_half}
+use Rattle.jpg_file.proofs.ByRow.RowTurns.{counts_scan}
+use Rattle.jpg_file.proofs.ByRow.RowData.{half_then, open_half}
+use Rattle.jpg_file.proofs.ByRow.Faults.{rest_faults}
 use Rattle.jpg_file.proofs.Scans.ScanBytes.{as_stepped}
 use Rattle.jpg_file.proofs.read.scan.InScan.rest_in_row.Goals as goal
 
