@@ -25,8 +25,8 @@ use Rattle.jpg_file.specs.Read.Step.{IsNoRow, HasMemory}
 use Rattle.jpg_file.specs.Read.Strips.{AfterStrip, CountsStrip, GoesByRow, GoesOnRest, SparesRows, RepresentsRows, StripGoes, StripRun, RepresentsStrip, TakesResumed, TakesStrip}
 use Rattle.jpg_file.specs.declared.read.file.FileWork.{FileWork}
 use Rattle.jpg_file.specs.declared.read.first_header.Head.{Head}
-use Rattle.jpg_file.specs.declared.read.row_pieces.FedRow.{FedRow}
-use Rattle.jpg_file.specs.declared.read.row_pieces.FedRow.TheVariants as fed
+use Rattle.jpg_file.specs.declared.read.pieces.FedRow.{FedRow}
+use Rattle.jpg_file.specs.declared.read.pieces.FedRow.TheVariants as fed
 use Rattle.jpg_file.specs.declared.read.rows.RowWork.{RowWork}
 use Rattle.jpg_file.specs.declared.read.strip_head.StripHead.{StripHead}
 use Rattle.jpg_file.specs.declared.read.strip_work.StripWork.{StripWork}

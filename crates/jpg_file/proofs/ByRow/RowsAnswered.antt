@@ -33,7 +33,7 @@ use Rattle.jpg_file.specs.Read.RowPieces.{HasLastByte, LastFed, RowsGive, RowsGo
 use Rattle.jpg_file.specs.Read.RowTurns.{unfinished}
 use Rattle.jpg_file.specs.Read.RowsNone.{NoRowsIn}
 use Rattle.jpg_file.specs.Read.Strips.{AfterStrip, CountsStrip, EndsByRow, RowsAfter, RowsInside, RepresentsRows}
-use Rattle.jpg_file.specs.declared.read.row_pieces.FedRow.TheVariants as fed
+use Rattle.jpg_file.specs.declared.read.pieces.FedRow.TheVariants as fed
 use Rattle.jpg_file.specs.declared.read.strip_work.StripWork.{StripWork}
 use Rattle.jpg_file.specs.declared.read.step.Step.TheVariants as step
 use Rattle.jpg_file.proofs.Files.FileSteps.{head_is, head_left}

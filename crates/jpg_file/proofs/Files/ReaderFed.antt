@@ -33,8 +33,8 @@ use Rattle.jpg_file.specs.Read.ReadFile.{AfterFeed, AsksForMemory, HasRead, IsSt
 use Rattle.jpg_file.specs.Read.ReadRows.{IsReading}
 use Rattle.jpg_file.specs.Read.RowPieces.{AfterRowsPiece, KeepsWork, RowsGive, RowsGo, RowsOpen}
 use Rattle.jpg_file.specs.Read.Strips.{AfterStrip, StripGoes, RepresentsStrip}
-use Rattle.jpg_file.specs.declared.read.row_pieces.FedRow.{FedRow}
-use Rattle.jpg_file.specs.declared.read.row_pieces.FedRow.TheVariants as fed
+use Rattle.jpg_file.specs.declared.read.pieces.FedRow.{FedRow}
+use Rattle.jpg_file.specs.declared.read.pieces.FedRow.TheVariants as fed
 use Rattle.jpg_file.specs.declared.read.rows.RowWork.{RowWork}
 use Rattle.jpg_file.specs.declared.read.strip_work.StripWork.{StripWork}
 use Rattle.jpg_file.specs.declared.read.step.Step.TheVariants as step
@@ -42,7 +42,7 @@ use Rattle.jpg_file.proofs.Files.FileSteps.{head_is, head_left}
 use Rattle.jpg_file.proofs.Files.Leaving.{ends_each, whole_leaves}
 use Rattle.jpg_file.proofs.Files.PieceSteps.{file_means, stands_file}
 use Rattle.jpg_file.specs.Read.ScanPieces.{AfterFeedScan, CountsOn, NoScanEnds, ReadsScan}
-use Rattle.jpg_file.specs.declared.read.scan_pieces.FedScan.TheVariants as came
+use Rattle.jpg_file.specs.declared.read.pieces.FedScan.TheVariants as came
 
 -- How many scans' data have ended in the bytes of a file, by its state.
 

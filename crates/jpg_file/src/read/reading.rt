@@ -13,7 +13,7 @@ ghost use Rattle.jpg_markers.specs.Reading.{PassesDue, filled};
 
 use crate::read::items::{ItemStep, Items};
 use crate::read::scan::InScan;
-use crate::read::scan_header::judge_head;
+use crate::read::scan_start::judge_head;
 use crate::read::scan_history::ScanHistory;
 use crate::read::scan_start::begin_data;
 use jpg_coefs::Coefs;
@@ -31,9 +31,7 @@ pub struct Reading {
     pub scan: Option<InScan>,
     /// How many bytes were taken.
     pub taken: u64,
-}
 
-impl Reading {
     /// Takes a complete scan header: its scan begins, or it has a fault.
     pub fn take_head(&mut self, begun: &mut ScanHistory) -> Result<(), FaultAt>
         requires stands { (bytes : List ℕ) × (items : List Item) × (blocks : Blocks) × HeadWhole self.old.items.limits bytes items blocks self.old begun.old }
@@ -167,9 +165,7 @@ impl Reading {
             Err(fault) => (n, Err(FaultAt { fault, at })),
         }
     }
-}
 
-impl Reading {
     /// Between items, skips complete segments that break no rule, and then fill bytes or contents before a segment's
     /// last byte. Returns how many bytes that were, fewer than are given.
     pub fn front(&mut self, bytes: &[u8]) -> usize

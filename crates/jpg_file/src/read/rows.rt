@@ -74,9 +74,7 @@ fn next_tops(tops: &[u32; 4], steps: &[u32; 4]) -> [u32; 4]
         tops[2] + steps[2],
         tops[3] + steps[3],
     ]
-}
 
-impl RowWork {
     /// The first MCU row of a scan of all components of a frame.
     pub fn new(alloc: Global, frame: &Frame, head: &ScanHead) -> Result<RowWork, NoMemory>
         requires there { AreIn frame.now (head_components head.now) }
@@ -156,9 +154,7 @@ impl RowWork {
         self.waiting = waiting_of(got.taken, last);
         (given, got.taken)
     }
-}
 
-impl RowWork {
     /// Takes the bits that wait.
     pub fn take_waiting(&mut self, machine: &mut ScanReader) -> Taken
         requires open { CanTakeData self.old machine.old }

@@ -6,8 +6,8 @@ use Rattle.jpg_base.specs.declared.stop.Stop.{Stop}
 use Rattle.jpg_base.specs.declared.stop.Stop.TheVariants as stop
 use Rattle.jpg_file.specs.Read.ReadRows.{AfterFeedRow, HasReadSoFar}
 use Rattle.jpg_file.specs.Read.PieceTaken.{ReadsPiece}
-use Rattle.jpg_file.specs.declared.read.row_pieces.FedRow.{FedRow}
-use Rattle.jpg_file.specs.declared.read.row_pieces.FedRow.TheVariants as fed
+use Rattle.jpg_file.specs.declared.read.pieces.FedRow.{FedRow}
+use Rattle.jpg_file.specs.declared.read.pieces.FedRow.TheVariants as fed
 use Rattle.jpg_file.proofs.ByRow.RowsAnswered.{done_answered, memory_answered, more_answered, row_answered, stop_answered}
 use Rattle.jpg_file.proofs.read.reader.Reader.feed_row.Goals as goal
 

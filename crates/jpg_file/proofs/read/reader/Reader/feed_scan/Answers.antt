@@ -3,8 +3,8 @@ use Rattle.std.specs.Prelude.{Result}
 use Rattle.jpg_base.specs.declared.stop.Stop.{Stop}
 use Rattle.jpg_file.specs.Read.ReadFile.{HasRead, ReaderState}
 use Rattle.jpg_file.specs.Read.ScanPieces.{AfterFeedScan, ReadsScan}
-use Rattle.jpg_file.specs.declared.read.scan_pieces.FedScan.{FedScan}
-use Rattle.jpg_file.specs.declared.read.scan_pieces.FedScan.TheVariants as came
+use Rattle.jpg_file.specs.declared.read.pieces.FedScan.{FedScan}
+use Rattle.jpg_file.specs.declared.read.pieces.FedScan.TheVariants as came
 use Rattle.jpg_file.proofs.Files.ReaderFed.{keeps_done, keeps_more, keeps_scan, open_go, scan_asks, scan_done, scan_more, scan_one, scan_stop}
 use Rattle.jpg_file.proofs.read.reader.Reader.feed_scan.Goals as goal
 

@@ -4,7 +4,7 @@ use Rattle.jpg_seq.specs.Reader.{sequential}
 use Rattle.jpg_seq.specs.Rows.{all_blocks}
 use Rattle.jpg_seq.proofs.RowReadings.{all_inside, all_taken}
 use Rattle.jpg_file.proofs.Scans.Runs.{given_bytes, run_all}
-use Rattle.jpg_file.proofs.read.data.take_bytes.Goals as goal
+use Rattle.jpg_file.proofs.read.machine.take_bytes.Goals as goal
 
 pub bytes-got-requires-clause-open : goal.bytes-got-requires-clause-open
 bytes-got-requires-clause-open c = (all_blocks, c.args.coefs.now, (refl, refl), c.requires.open)

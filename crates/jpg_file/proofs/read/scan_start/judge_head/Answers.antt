@@ -9,7 +9,7 @@ use Rattle.jpg_spec.specs.declared.frame.ScanPart.{ScanPart}
 use Rattle.jpg_file.specs.Read.ScanHistory.{is_same_kept}
 use Rattle.jpg_file.specs.Read.SegmentState.{segments_view}
 use Rattle.jpg_file.proofs.Headers.HeaderTaken.{in_order, out_of_order, small_parts}
-use Rattle.jpg_file.proofs.read.scan_header.judge_head.Goals as goal
+use Rattle.jpg_file.proofs.read.scan_start.judge_head.Goals as goal
 
 pub fault-requires : goal.fault-requires
 fault-requires c =

@@ -6,7 +6,7 @@ use Rattle.jpg_coefs.specs.Machine.{TakesBits}
 use Rattle.jpg_coefs.specs.declared.machine.Taken.{Taken}
 use Rattle.jpg_coefs.specs.declared.machine.Taken.TheVariants as taken
 use Rattle.jpg_file.proofs.Scans.Runs.{HasRun, run_begun, run_after, run_on, run_all, left_of, some_first}
-use Rattle.jpg_file.proofs.read.data.take_run.Goals as goal
+use Rattle.jpg_file.proofs.read.machine.take_run.Goals as goal
 
 pub loop-rest-init : goal.loop-rest-init
 loop-rest-init g c = run_begun g.M.ScanMachine.kind c.args.machine.now c.args.coefs.now c.args.bytes.now c.requires.some c.requires.left c.requires.open

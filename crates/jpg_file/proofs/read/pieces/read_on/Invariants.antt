@@ -1,6 +1,6 @@
 use Rattle.std.proofs.Common.{length, ◌-◌}
 use Rattle.jpg_file.proofs.ByRow.RowPieces.{PieceBegun}
-use Rattle.jpg_file.proofs.read.row_pieces.read_on.Given as goal
+use Rattle.jpg_file.proofs.read.pieces.read_on.Given as goal
 
 abbrev pub invariant-loop-done : goal.invariant-loop-done
 invariant-loop-done l = PieceBegun l.limits l.piece l.done l.fn.work l.work

@@ -2,7 +2,7 @@ use Rattle.std.proofs.Common.{arith, take}
 use Rattle.jpg_spec.specs.Bits.{bits_of_bytes}
 use Rattle.jpg_seq.proofs.Sources.{byte_fits}
 use Rattle.jpg_file.proofs.Scans.Runs.{eight_long}
-use Rattle.jpg_file.proofs.read.data.front_of.Goals as goal
+use Rattle.jpg_file.proofs.read.machine.front_of.Goals as goal
 
 pub push-requires : goal.push-requires
 push-requires c =

@@ -9,7 +9,7 @@ use Rattle.jpg_file.specs.declared.read.step.Step.{Step}
 use Rattle.jpg_file.proofs.ByRow.RowPieces.{AfterSome, after_some, begun_piece}
 use Rattle.jpg_file.proofs.ByRow.StripBytes.{strip_limits}
 use Rattle.jpg_file.proofs.Files.ScanPieces.{ScanGoes, scan_ends, scan_full, scan_more, scan_stopped, some_before, some_few}
-use Rattle.jpg_file.proofs.read.scan_pieces.read_scan.Goals as goal
+use Rattle.jpg_file.proofs.read.pieces.read_scan.Goals as goal
 
 pub some-n-requires-clause-stands : goal.some-n-requires-clause-stands
 some-n-requires-clause-stands c =

@@ -4,7 +4,7 @@ use Rattle.jpg_file.specs.Read.Strips.{RepresentsStrip}
 use Rattle.jpg_file.specs.declared.read.step.Step.{Step}
 use Rattle.jpg_file.proofs.ByRow.RowPieces.{Resumed, resumed_go, resumed_more, resumed_row, resumed_stop}
 use Rattle.jpg_file.proofs.ByRow.StripBytes.{open_limits}
-use Rattle.jpg_file.proofs.read.row_pieces.read_rows.Goals as goal
+use Rattle.jpg_file.proofs.read.pieces.read_rows.Goals as goal
 
 pub resume-requires : goal.resume-requires
 resume-requires c =

@@ -2,7 +2,7 @@ use Rattle.std.proofs.Common.{◌≡◌, Bool, List, [], ◌++◌, ◌∙◌, ap
 use Rattle.jpg_spec.specs.Bits.{bits_of}
 use Rattle.jpg_file.specs.Read.Data.{GivesBits}
 use Rattle.jpg_file.proofs.Scans.Runs.{given_all}
-use Rattle.jpg_file.proofs.read.data.take_data.Goals as goal
+use Rattle.jpg_file.proofs.read.machine.take_data.Goals as goal
 
 pub returns : goal.returns
 returns g c =

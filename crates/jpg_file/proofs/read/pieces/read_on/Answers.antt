@@ -7,7 +7,7 @@ use Rattle.jpg_file.specs.Read.Strips.{StripGoes}
 use Rattle.jpg_file.specs.declared.read.step.Step.{Step}
 use Rattle.jpg_file.proofs.ByRow.RowPieces.{AfterSome, after_some, begun_piece, piece_full, piece_wanted}
 use Rattle.jpg_file.proofs.ByRow.StripBytes.{strip_limits}
-use Rattle.jpg_file.proofs.read.row_pieces.read_on.Goals as goal
+use Rattle.jpg_file.proofs.read.pieces.read_on.Goals as goal
 
 pub some-n-requires-clause-stands : goal.some-n-requires-clause-stands
 some-n-requires-clause-stands c =
