@@ -26,7 +26,7 @@ pub use read::reading::Reading;
 pub use read::rows::RowWork;
 pub use read::scan::{InScan, ScanWork};
 pub use read::scan_history::ScanHistory;
-pub use read::scan_start::{begin_scan, judge_head};
+pub use read::scan_start::judge_head;
 pub use read::segment_state::{SegmentState, SegmentTaken, lacks_table};
 pub use read::step::Step;
 pub use read::strip_head::StripHead;

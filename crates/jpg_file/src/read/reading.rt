@@ -13,9 +13,8 @@ ghost use Rattle.jpg_markers.specs.Reading.{PassesDue, filled};
 
 use crate::read::items::{ItemStep, Items};
 use crate::read::scan::InScan;
-use crate::read::scan_start::judge_head;
 use crate::read::scan_history::ScanHistory;
-use crate::read::scan_start::begin_data;
+use crate::read::scan_start::{begin_data, judge_head};
 use jpg_coefs::Coefs;
 use jpg_markers::fill_length;
 use jpg_spec::FaultAt;
@@ -31,7 +30,9 @@ pub struct Reading {
     pub scan: Option<InScan>,
     /// How many bytes were taken.
     pub taken: u64,
+}
 
+impl Reading {
     /// Takes a complete scan header: its scan begins, or it has a fault.
     pub fn take_head(&mut self, begun: &mut ScanHistory) -> Result<(), FaultAt>
         requires stands { (bytes : List ℕ) × (items : List Item) × (blocks : Blocks) × HeadWhole self.old.items.limits bytes items blocks self.old begun.old }

@@ -74,7 +74,9 @@ fn next_tops(tops: &[u32; 4], steps: &[u32; 4]) -> [u32; 4]
         tops[2] + steps[2],
         tops[3] + steps[3],
     ]
+}
 
+impl RowWork {
     /// The first MCU row of a scan of all components of a frame.
     pub fn new(alloc: Global, frame: &Frame, head: &ScanHead) -> Result<RowWork, NoMemory>
         requires there { AreIn frame.now (head_components head.now) }

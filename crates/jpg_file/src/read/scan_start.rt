@@ -9,7 +9,7 @@ ghost use Rattle.jpg_coefs.specs.Picture.{Picture};
 ghost use Rattle.jpg_prog_read.specs.DcNew.{IsBare as IsBareFirst, IsDcHead};
 ghost use Rattle.jpg_prog_read.specs.declared.dc_first.DcFirst.{DcFirst as First};
 ghost use Rattle.jpg_file.specs.declared.read.machine.ScanReader.TheVariants.{DcFirst as FirstPass};
-ghost use Rattle.jpg_file.specs.Read.ScanStart.{IsAtFirstByte, CanBegin, HasSizes, IsBareIn, IsBegun, before_data};
+ghost use Rattle.jpg_file.specs.Read.ScanStart.{CanBegin, HasSizes, IsBareIn, IsBegun, before_data};
 ghost use Rattle.jpg_file.specs.Read.NewScan.{IsScanHeader};
 ghost use Rattle.jpg_file.specs.Read.SegmentState.{segments_view};
 ghost use Rattle.jpg_file.specs.Read.JudgedHeader.{JudgesHead};
@@ -19,34 +19,12 @@ use crate::read::scan::{InScan, ScanWork};
 use crate::read::scan_history::ScanHistory;
 use crate::read::segment_state::{SegmentState, lacks_table};
 use jpg_base::{Frame, ScanHead};
-use jpg_coefs::{Coefs, ScanMachine};
+use jpg_coefs::ScanMachine;
 use jpg_huff::{Gate, TableSet};
 use jpg_markers::{accepted_heads_are_of_their_frames, read_sos};
 use jpg_prog_read::{AcReader, DcFirst, DcRefine};
 use jpg_seq::SeqReader;
 use jpg_spec::Fault;
-
-/// The scan of a header that breaks no rule, before its first data byte, with the tables and the restart
-/// interval in force (in MCUs, 0 for none) and the picture so far.
-pub fn begin_scan(
-    frame: &Frame,
-    head: &ScanHead,
-    tables: &TableSet,
-    interval: u16,
-    coefs: &Coefs,
-) -> InScan
-    requires { CanBegin frame.now head.now tables.now interval coefs.now }
-    ensures gate { result.gate ≡ false }
-    ensures begun { IsAtFirstByte frame.now head.now tables.now interval coefs.now result }
-{
-    coefs.checked();
-    let mut place = None;
-    begin_data(&mut place, frame, head, tables, interval);
-    let Some(scan) = place else {
-        unreachable!();
-    };
-    scan
-}
 
 /// Puts the scan of a header that breaks no rule into a place, before its first data byte. The tables of its machine
 /// are built there.
