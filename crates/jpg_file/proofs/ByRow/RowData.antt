@@ -38,7 +38,7 @@ use Rattle.jpg_spec.proofs.Files.ScanSteps.{plain_data}
 pub one_machine : (m n : SeqReader) → Sequential m ≡ Sequential n → m ≡ n
 one_machine m n e = cc
 
-own : (m : ScanReader) (machine : SeqReader) (whole : Picture) → m ≡ Sequential machine → IsOpenRowScan m whole → (i : Interval) × (bits : List Bool) × sequential.stands machine i bits whole
+pub own : (m : ScanReader) (machine : SeqReader) (whole : Picture) → m ≡ Sequential machine → IsOpenRowScan m whole → (i : Interval) × (bits : List Bool) × sequential.stands machine i bits whole
 own m machine whole is o = (o.0, o.1, is_sequential.own machine o.0 o.1 whole (subst (λ (q : ScanReader). any_scan.stands q o.0 o.1 whole) is o.2))
 
 module _ (tops : List ℕ) (m : ScanReader) (machine : SeqReader) (row : Picture) (is : m ≡ Sequential machine) where

@@ -30,7 +30,7 @@ use Rattle.jpg_base.specs.declared.stop.Stop.{Stop}
 use Rattle.jpg_base.specs.declared.stop.Stop.TheVariants as stop
 use Rattle.jpg_file.specs.Read.PieceTaken.{ReadsPiece, ReadsOn}
 use Rattle.jpg_file.specs.Read.ReadFile.{AfterFeed, AsksForMemory, HasRead, IsStopOf, ReaderState}
-use Rattle.jpg_file.specs.Read.ReadRows.{IsReading}
+use Rattle.jpg_file.specs.Read.ReadRows.{IsPlain, IsReading}
 use Rattle.jpg_file.specs.Read.RowPieces.{AfterRowsPiece, KeepsWork, RowsGive, RowsGo, RowsOpen}
 use Rattle.jpg_file.specs.Read.Strips.{AfterStrip, StripGoes, RepresentsStrip}
 use Rattle.jpg_file.specs.declared.read.pieces.FedRow.{FedRow}
@@ -42,6 +42,7 @@ use Rattle.jpg_file.proofs.Files.FileSteps.{head_is, head_left}
 use Rattle.jpg_file.proofs.Files.Leaving.{ends_each, whole_leaves}
 use Rattle.jpg_file.proofs.Files.PieceSteps.{file_means, stands_file}
 use Rattle.jpg_file.specs.Read.ScanPieces.{AfterFeedScan, CountsOn, NoScanEnds, ReadsScan}
+use Rattle.jpg_file.specs.declared.read.pieces.FedScan.{FedScan}
 use Rattle.jpg_file.specs.declared.read.pieces.FedScan.TheVariants as came
 
 -- How many scans' data have ended in the bytes of a file, by its state.
@@ -365,59 +366,95 @@ fewer n m low other = by (cases_lt n m)
     by (inl h) = h
     by (inr h) = absurd (other (omega (arith, low, h)))
 
+-- as the reader is seen with this work
+abbrev pub state_of : Limits → StripWork → Bool → Option Stop → ReaderState
+state_of limits work done stopped = record { limits = limits; file = work.file; by_row = work.by_row; rows = work.rows; strip = work.strip; done = done; stop = stopped }
+
 -- of a reader without MCU rows
-module _ (r : ReaderState) (old : StripWork) (none : old.rows ≡ None) (row : old.by_row ≡ false) (undone : r.done ≡ false) where
-  pub keeps_more : (new : StripWork) (piece : List ℕ) → ReadsScan r.limits old piece (Ok came.More) new → IsReading (with_work r old) → IsReading (with_work r new)
-  keeps_more new piece t k = keeps_more_rows r old new piece (Ok fed.More) refl undone k (piece_plain none t.0)
+module _ (old new : StripWork) (piece : List ℕ) (answer : Result FedScan Stop) {limits : Limits} {done : Bool} {stopped : Option Stop} {now : ReaderState} (view : state_of limits old done stopped ≡ now) (plain : IsPlain now) (undone : now.done ≡ false) (took : ReadsScan limits old piece answer new) where
+  abbrev r : ReaderState
+  r = state_of limits old done stopped
 
-  pub keeps_scan : (new : StripWork) (piece : List ℕ) (used : ℕ) → ReadsScan r.limits old piece (Ok (came.Scan used)) new → IsReading (with_work r old) → IsReading (with_work r new)
-  keeps_scan new piece used t k = keeps_more_rows r old new (take used piece) (Ok fed.More) refl undone k (piece_plain none t.0)
+  none : old.rows ≡ None
+  none = ap (λ (q : ReaderState). q.rows) view ∙ plain.1
 
-  pub keeps_done : (new : StripWork) (piece : List ℕ) (used : ℕ) → ReadsScan r.limits old piece (Ok (came.Done used)) new → r.stop ≡ None → IsReading (with_work r old) → IsReading (record (with_work r new) { done = true })
-  keeps_done new piece used t skip k = keeps_done_rows r old new piece (Ok (fed.Done used)) used refl undone skip k (piece_plain none t.0)
+  row : old.by_row ≡ false
+  row = ap (λ (q : ReaderState). q.by_row) view ∙ plain.0
 
-  pub scan_more : (new : StripWork) (bytes piece : List ℕ) → HasRead bytes (with_work r old) → ReadsScan r.limits old piece (Ok came.More) new → AfterFeedScan bytes piece (Ok came.More) (with_work r new)
-  scan_more new bytes piece h t =
-      let read = fed_more r old new bytes piece none (t.0.keeps.plain none row) h (piece_plain none t.0) in (
-        read,
+  going : done ≡ false
+  going = ap (λ (q : ReaderState). q.done) view ∙ undone
+
+  read : (bytes : List ℕ) → HasRead bytes now → HasRead bytes r
+  read bytes h = subst (λ (q : ReaderState). HasRead bytes q) (sym view) h
+
+  given : (came : Result FedScan Stop) → answer ≡ came → ReadsScan limits old piece came new
+  given came is = subst (λ (a : Result FedScan Stop). ReadsScan limits old piece a new) is took
+
+  pub keeps_more : answer ≡ Ok came.More → IsReading r → IsReading (state_of limits new done stopped)
+  keeps_more is k = keeps_more_rows r old new piece (Ok fed.More) refl going k (piece_plain none (given (Ok came.More) is).0)
+
+  pub keeps_scan : (used : ℕ) → answer ≡ Ok (came.Scan used) → IsReading r → IsReading (state_of limits new done stopped)
+  keeps_scan used is k = keeps_more_rows r old new (take used piece) (Ok fed.More) refl going k (piece_plain none (given (Ok (came.Scan used)) is).0)
+
+  pub keeps_done : (used : ℕ) → answer ≡ Ok (came.Done used) → stopped ≡ None → IsReading r → IsReading (state_of limits new true stopped)
+  keeps_done used is skip k = keeps_done_rows r old new piece (Ok (fed.Done used)) used refl going skip k (piece_plain none (given (Ok (came.Done used)) is).0)
+
+  pub scan_more : (bytes : List ℕ) → HasRead bytes now → answer ≡ Ok came.More → AfterFeedScan bytes piece answer (state_of limits new done stopped)
+  scan_more bytes before is =
+      let t = given (Ok came.More) is in
+      let h = read bytes before in
+      let fed_on = fed_more r old new bytes piece none (t.0.keeps.plain none row) h (piece_plain none t.0) in
+      subst (λ (a : Result FedScan Stop). AfterFeedScan bytes piece a (state_of limits new done stopped)) (sym is) (
+        fed_on,
         record {
           n = scans_ended old.file;
           few = omega arith;
-          before = state_ended r.limits bytes old.file h.open;
+          before = state_ended limits bytes old.file h.open;
           after =
-              subst (λ l. ScansEnded r.limits (bytes ++ l) (scans_ended old.file)) (sym (take_all (length piece) piece (omega arith)))
-              (subst (ScansEnded r.limits (bytes ++ piece)) t.1 (state_ended r.limits (bytes ++ piece) new.file read.open));
+              subst (λ l. ScansEnded limits (bytes ++ l) (scans_ended old.file)) (sym (take_all (length piece) piece (omega arith)))
+              (subst (ScansEnded limits (bytes ++ piece)) t.1 (state_ended limits (bytes ++ piece) new.file fed_on.open));
         },
       )
 
-  pub scan_one : (new : StripWork) (bytes piece : List ℕ) (used : ℕ) → HasRead bytes (with_work r old) → ReadsScan r.limits old piece (Ok (came.Scan used)) new → AfterFeedScan bytes piece (Ok (came.Scan used)) (with_work r new)
-  scan_one new bytes piece used h t =
+  pub scan_one : (bytes : List ℕ) (used : ℕ) → HasRead bytes now → answer ≡ Ok (came.Scan used) → AfterFeedScan bytes piece answer (state_of limits new done stopped)
+  scan_one bytes used before is =
+      let t = given (Ok (came.Scan used)) is in
+      let h = read bytes before in
       let front = take used piece in
-      let read = fed_more r old new bytes front none (t.0.keeps.plain none row) h (piece_plain none t.0) in
-      let last = t.2 in (
-        read,
+      let fed_on = fed_more r old new bytes front none (t.0.keeps.plain none row) h (piece_plain none t.0) in
+      let last = t.2 in
+      subst (λ (a : Result FedScan Stop). AfterFeedScan bytes piece a (state_of limits new done stopped)) (sym is) (
+        fed_on,
         record {
           early = last.0;
           count = last.1;
           within = t.1;
-          none = counts_none r.limits bytes piece old.file last.0 h.open last.2;
+          none = counts_none limits bytes piece old.file last.0 h.open last.2;
           more = scans_ended new.file;
-          ended = state_ended r.limits (bytes ++ front) new.file read.open;
-          later = fewer (scans_ended old.file) (scans_ended new.file) (scans_more r.limits bytes front (bytes ++ front) (scans_ended old.file) (scans_ended new.file) refl (state_ended r.limits bytes old.file h.open) (state_ended r.limits (bytes ++ front) new.file read.open)) t.3;
+          ended = state_ended limits (bytes ++ front) new.file fed_on.open;
+          later = fewer (scans_ended old.file) (scans_ended new.file) (scans_more limits bytes front (bytes ++ front) (scans_ended old.file) (scans_ended new.file) refl (state_ended limits bytes old.file h.open) (state_ended limits (bytes ++ front) new.file fed_on.open)) t.3;
         },
       )
 
-  pub scan_done : (new : StripWork) (bytes piece : List ℕ) (used : ℕ) → HasRead bytes (with_work r old) → ReadsScan r.limits old piece (Ok (came.Done used)) new → AfterFeedScan bytes piece (Ok (came.Done used)) (record (with_work r new) { done = true })
-  scan_done new bytes piece used h t =
-      let done = fed_done r old new bytes piece used none (t.0.keeps.plain none row) h (piece_plain none t.0) in
+  pub scan_done : (bytes : List ℕ) (used : ℕ) → HasRead bytes now → answer ≡ Ok (came.Done used) → AfterFeedScan bytes piece answer (state_of limits new true stopped)
+  scan_done bytes used before is =
+      let t = given (Ok (came.Done used)) is in
+      let h = read bytes before in
+      let whole = fed_done r old new bytes piece used none (t.0.keeps.plain none row) h (piece_plain none t.0) in
       let last = t.2 in
-      (done.0, done.2, (last.0, last.1, counts_none r.limits bytes piece old.file last.0 h.open last.2))
+      subst (λ (a : Result FedScan Stop). AfterFeedScan bytes piece a (state_of limits new true stopped)) (sym is) (whole.0, whole.2, (last.0, last.1, counts_none limits bytes piece old.file last.0 h.open last.2))
 
-  pub scan_stop : (new : StripWork) (bytes piece : List ℕ) (e : Stop) → HasRead bytes (with_work r old) → ReadsScan r.limits old piece (Err e) new → AfterFeedScan bytes piece (Err e) (record (with_work r new) { stop = Some e })
-  scan_stop new bytes piece (stop.Fault f) h t =
+  scan_stopped : (bytes : List ℕ) (e : Stop) → HasRead bytes r → ReadsScan limits old piece (Err e) new → AfterFeedScan bytes piece (Err e) (state_of limits new done (Some e))
+  scan_stopped bytes (stop.Fault f) h t =
       let none_ends = t.1 bytes h.open in
-      (fed_stop r old new bytes piece (stop.Fault f) none h (piece_plain none t.0), (none_ends.0, none_ends.1, counts_none r.limits bytes piece old.file none_ends.0 h.open none_ends.2))
-  scan_stop new bytes piece stop.NoMemory h t = fed_stop r old new bytes piece stop.NoMemory none h (piece_plain none t)
+      (fed_stop r old new bytes piece (stop.Fault f) none h (piece_plain none t.0), (none_ends.0, none_ends.1, counts_none limits bytes piece old.file none_ends.0 h.open none_ends.2))
+  scan_stopped bytes stop.NoMemory h t = fed_stop r old new bytes piece stop.NoMemory none h (piece_plain none t)
 
-  pub scan_asks : (new : StripWork) (bytes piece : List ℕ) → HasRead bytes (with_work r old) → ReadsScan r.limits old piece (Err stop.NoMemory) new → AsksForMemory r.limits (length bytes) (bytes ++ piece) new.file.head
-  scan_asks new bytes piece h t = fed_asks r old new bytes piece stop.NoMemory none (t.keeps.plain none row) h (piece_plain none t) refl
+  pub scan_stop : (bytes : List ℕ) (e : Stop) → HasRead bytes now → answer ≡ Err e → AfterFeedScan bytes piece answer (state_of limits new done (Some e))
+  scan_stop bytes e before is =
+      subst (λ (a : Result FedScan Stop). AfterFeedScan bytes piece a (state_of limits new done (Some e))) (sym is) (scan_stopped bytes e (read bytes before) (given (Err e) is))
+
+  pub scan_asks : (bytes : List ℕ) → HasRead bytes now → answer ≡ Err stop.NoMemory → AsksForMemory limits (length bytes) (bytes ++ piece) new.file.head
+  scan_asks bytes before is =
+      let t = given (Err stop.NoMemory) is in
+      fed_asks r old new bytes piece stop.NoMemory none (t.keeps.plain none row) (read bytes before) (piece_plain none t) refl

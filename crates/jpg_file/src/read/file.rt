@@ -101,7 +101,11 @@ impl FileWork {
             let most = self.reading.items.limits.input - self.reading.taken;
             let n = plain_length(bytes, most);
             if n > 0 {
-                return self.run(&bytes[..n]);
+                let (n, answer) = self.reading.scan_run(&bytes[..n]);
+                return match answer {
+                    Ok(()) => (n, Step::More),
+                    Err(fault) => (n, Step::Ended(Stop::Fault(fault))),
+                };
             }
         }
         let n = self.front(bytes);
@@ -125,26 +129,6 @@ impl FileWork {
             self.reading.fill_in_scan(bytes)
         } else {
             self.reading.front(bytes)
-        }
-    }
-
-    // Takes plain bytes inside the data of a scan.
-    fn run(&mut self, run: &[u8]) -> (usize, Step)
-        requires stands { (bytes : List ℕ) × RepresentsFile (limits_of self.old) bytes self.old }
-        requires limits { AreLimits (limits_of self.old) }
-        requires opened { IsOpenScan self.old.reading }
-        requires room { self.old.reading.taken + length run.now ≤ (limits_of self.old).input }
-        requires some { 1 ≤ length run.now }
-        requires few { length run.now < 4294967296 }
-        requires plain { ArePlain run.now }
-        ensures after { TakesSome self.old run.now result.0 result.1 self.new }
-        ensures keeping { keeping_of self.new ≡ keeping_of self.old }
-        ensures no { IsNoRow result.1 }
-    {
-        let (n, answer) = self.reading.scan_run(run);
-        match answer {
-            Ok(()) => (n, Step::More),
-            Err(fault) => (n, Step::Ended(Stop::Fault(fault))),
         }
     }
 
@@ -346,46 +330,9 @@ impl FileWork {
             }
         }
         if self.reading.scan.is_some() {
-            self.scan_some(rows, bytes)
-        } else {
-            self.take_after_rows(bytes)
+            let n = self.reading.fill_in_scan(bytes);
+            return (n + 1, self.take_byte_in_row(rows, bytes[n]));
         }
-    }
-
-    // Takes a byte inside the data of the scan, perhaps after fill bytes. Returns how many bytes these were, and the
-    // result.
-    fn scan_some(&mut self, rows: &mut RowWork, bytes: &[u8]) -> (usize, Step)
-        requires stands { (front : List ℕ) × GoesByRow (limits_of self.old) front self.old rows.old }
-        requires inside { is_some self.old.reading.scan ≡ true }
-        requires limits { AreLimits (limits_of self.old) }
-        requires room { self.old.reading.taken < (limits_of self.old).input }
-        requires some { 1 ≤ length bytes.now }
-        ensures after { TakesRunOfRows self.old rows.old bytes.now result.0 result.1 self.new rows.new }
-        ensures stops { StopsRun self.old rows.old bytes.now result.0 result.1 }
-        ensures rows { CountsRows result.1 rows.old rows.new }
-        ensures memory { HasMemory result.1 }
-        ensures sparing { NeedsNoMemory self.old.reading → NeedsNoMemory self.new.reading }
-        ensures head { self.new.head ≡ self.old.head }
-        ensures keeping { keeping_of self.new ≡ keeping_of self.old }
-    {
-        let n = self.reading.fill_in_scan(bytes);
-        (n + 1, self.take_byte_in_row(rows, bytes[n]))
-    }
-
-    // Takes one or more of these bytes after the scan, up to the first event. Returns how many, and the event.
-    fn take_after_rows(&mut self, bytes: &[u8]) -> (usize, Step)
-        requires stands { (front : List ℕ) × (rows : Row) × GoesByRow (limits_of self.old) front self.old rows }
-        requires none { is_some self.old.reading.scan ≡ false }
-        requires limits { AreLimits (limits_of self.old) }
-        requires room { self.old.reading.taken < (limits_of self.old).input }
-        requires some { 1 ≤ length bytes.now }
-        ensures after { (rows : Row) → TakesRunOfRows self.old rows bytes.now result.0 result.1 self.new rows }
-        ensures no { IsNoRow result.1 }
-        ensures memory { NeedsNoMemory self.old.reading → HasMemory result.1 }
-        ensures sparing { NeedsNoMemory self.old.reading → NeedsNoMemory self.new.reading }
-        ensures head { self.new.head ≡ self.old.head }
-        ensures keeping { keeping_of self.new ≡ keeping_of self.old }
-    {
         let n = self.reading.front(bytes);
         (n + 1, self.later_byte(bytes[n]))
     }

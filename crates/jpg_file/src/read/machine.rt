@@ -6,7 +6,6 @@ ghost use Rattle.jpg_file.specs.Read.Data.{GivesRun, GivesBits};
 ghost use Rattle.jpg_file.specs.Read.Machine.{any_scan};
 ghost use Rattle.jpg_file.specs.Read.NewScan.{IsBareScan, IsOfHeader, IsScanHeader};
 ghost use Rattle.jpg_file.specs.Read.RowMachine.{CanReadMcuRow, IsInsideMcuRow, PassesRow, TakesRowBits};
-ghost use Rattle.jpg_seq.specs.Reader.{RepresentsSeqScan, sequential};
 
 use jpg_base::{BitStore, Frame, ScanHead};
 use jpg_coefs::{Coefs, ScanMachine, Taken, UnitFault, UnitStep};
@@ -55,7 +54,11 @@ impl ScanReader {
         ensures { GivesRun _ any_scan self.old coefs.old bytes.now result.0 result.1 [] self.new coefs.new }
     {
         match self {
-            ScanReader::Sequential(machine) => take_bytes(machine, coefs, bytes),
+            ScanReader::Sequential(machine) => {
+                let all = machine.units_left();
+                let got = machine.bytes(bytes, coefs, &[0; 4], all);
+                (got.bits.div_ceil(8) as usize, got.taken)
+            }
             ScanReader::DcFirst(machine) => take_run(machine, coefs, bytes),
             ScanReader::DcRefine(machine) => take_run(machine, coefs, bytes),
             ScanReader::Ac(machine) => take_run(machine, coefs, bytes),
@@ -166,20 +169,6 @@ pub fn take_data<M: ScanMachine>(machine: &mut M, coefs: &mut Coefs, byte: u8) -
     store.push(byte);
     let most = machine.units_left();
     machine.bits(&mut store, coefs, most)
-}
-
-/// Gives a sequential machine the bits of some data bytes, up to the byte whose bits end the interval or reveal a
-/// fault. Returns how many bytes were given, and the result. Bits after the interval's last one are dropped.
-pub fn take_bytes(machine: &mut SeqReader, coefs: &mut Coefs, bytes: &[u8]) -> (usize, Taken)
-    requires open { (i : Interval) × (bits : List Bool) × RepresentsSeqScan machine.old i bits coefs.old }
-    requires left { 1 ≤ machine.old.left }
-    requires some { 1 ≤ length bytes.now }
-    requires few { length bytes.now < 4294967296 }
-    ensures { GivesRun _ sequential machine.old coefs.old bytes.now result.0 result.1 [] machine.new coefs.new }
-{
-    let all = machine.units_left();
-    let got = machine.bytes(bytes, coefs, &[0; 4], all);
-    (got.bits.div_ceil(8) as usize, got.taken)
 }
 
 // How many of these bytes are given at once.

@@ -182,7 +182,9 @@ impl Reading {
     {
         let room = self.items.limits.input - self.taken;
         let most = (bytes.len() as u64).min(room) as usize;
-        self.skip_ahead(&bytes[..most - 1])
+        let ahead = &bytes[..most - 1];
+        let done = self.segments(ahead);
+        done + self.contents(&ahead[done..])
     }
 
     /// Inside the data of a scan, skips fill bytes after FF; none if no FF waits. Returns how many they were, fewer
@@ -212,18 +214,6 @@ impl Reading {
             Some(scan) => scan.gate.is_waiting(),
             None => false,
         }
-    }
-
-    // Takes complete segments at the start of these bytes, and then bytes that only continue what is there.
-    fn skip_ahead(&mut self, bytes: &[u8]) -> usize
-        requires { CanGoOn self.old bytes.now }
-        ensures after { GoesOn self.old bytes.now result self.new }
-        ensures most { PassesMost self.old bytes.now result }
-        ensures sparing { NeedsNoMemory self.old → NeedsNoMemory self.new }
-        ensures keeping { self.new.items.held.keeping ≡ self.old.items.held.keeping }
-    {
-        let done = self.segments(bytes);
-        done + self.contents(&bytes[done..])
     }
 
     // Takes complete segments at the start of these bytes, as many as can be taken so.

@@ -156,19 +156,6 @@ impl RowWork {
         self.waiting = waiting_of(got.taken, last);
         (given, got.taken)
     }
-
-    /// Takes the bits that wait.
-    pub fn take_waiting(&mut self, machine: &mut ScanReader) -> Taken
-        requires open { CanTakeData self.old machine.old }
-        requires inside { IsInsideRow self.old machine.old }
-        requires some { 1 ≤ self.old.left }
-        ensures takes { TakesRowData self.old machine.old self.old.waiting result self.new machine.new }
-        ensures stops { StopsRowData self.old machine.old self.old.waiting result }
-        ensures counts { CountsRow self.old machine.old result self.new machine.new }
-    {
-        let store = self.waiting.copy();
-        self.take(machine, store)
-    }
 }
 
 // The bits that wait, where these follow those that were taken.

@@ -138,7 +138,8 @@ impl InScan {
         ensures counts { CountsScan self.old.work rows.old result.1 self.new.work rows.new }
         ensures gate { self.new.gate ≡ self.old.gate }
     {
-        let taken = rows.take_waiting(&mut self.work.machine);
+        let store = rows.waiting.copy();
+        let taken = rows.take(&mut self.work.machine, store);
         (self.work.stepped(taken), rows.left == 0)
     }
 
