@@ -4,11 +4,11 @@ use Rattle.jpg_coefs.specs.Machine.{Interval, TakesBits, Chain, Kind}
 use Rattle.jpg_coefs.specs.Picture.{Picture}
 use Rattle.jpg_coefs.specs.declared.machine.Taken.{Taken}
 use Rattle.jpg_seq.specs.Reader.{sequential}
-use Rattle.jpg_seq.specs.RowTaken.{CanReadInto, ReadsInto}
-use Rattle.jpg_seq.specs.Rows.{one_row}
+use Rattle.jpg_seq.specs.RowTaken.{CanReadInto, PassesPlaces, ReadsInto}
+use Rattle.jpg_seq.specs.Rows.{AreInRow, one_row}
 use Rattle.jpg_seq.specs.declared.reader.SeqReader.{SeqReader}
 use Rattle.jpg_file.specs.Read.Machine.{any_scan, reader_left}
-use Rattle.jpg_file.specs.Read.RowMachine.{CanReadMcuRow, IsOpenRowScan, TakesRowBits, PassesRow}
+use Rattle.jpg_file.specs.Read.RowMachine.{CanReadMcuRow, IsInsideMcuRow, IsOpenRowScan, TakesRowBits, PassesRow}
 use Rattle.jpg_file.specs.declared.read.machine.ScanReader.{ScanReader}
 use Rattle.jpg_file.specs.declared.read.machine.ScanReader.TheVariants.{Sequential}
 use Rattle.jpg_file.proofs.Scans.Machines.{is_sequential, takes_of}
@@ -35,7 +35,7 @@ use Rattle.jpg_spec.proofs.Files.ScanSteps.{plain_data}
 
 -- The machine of a sequential scan among the others, while an MCU row is read.
 
-pub one_machine : (m n : SeqReader) → Sequential m ≡ Sequential n → m ≡ n
+one_machine : (m n : SeqReader) → Sequential m ≡ Sequential n → m ≡ n
 one_machine m n e = cc
 
 pub own : (m : ScanReader) (machine : SeqReader) (whole : Picture) → m ≡ Sequential machine → IsOpenRowScan m whole → (i : Interval) × (bits : List Bool) × sequential.stands machine i bits whole
@@ -51,6 +51,12 @@ module _ (tops : List ℕ) (m : ScanReader) (machine : SeqReader) (row : Picture
       (let k = t one_row whole at (own m machine whole is o) in
       let a = takes_of (λ q. Sequential q) sequential any_scan is_sequential most machine new whole k.0 store rest answer k.2 in
       (k.0, k.1, subst (λ (q : ScanReader). TakesBits any_scan most q whole store answer (Sequential new) k.0 rest) (sym is) a))
+
+  pub row_inside : (most : ℕ) → IsInsideMcuRow tops row most m → AreInRow row.frame tops (take most machine.cursor)
+  row_inside most inside = subst (λ (q : SeqReader). AreInRow row.frame tops (take most q.cursor)) (one_machine inside.machine machine (sym inside.is ∙ is)) inside.inside
+
+  abbrev pub row_passes : (most : ℕ) (new : SeqReader) (answer : Taken) → PassesPlaces most machine answer new → PassesRow most m answer (Sequential new)
+  row_passes most new answer p = record { old_machine = machine; new_machine = new; old_is = is; new_is = refl; passes = p }
 
 -- The current MCU row: the result of its data, and how many of its units are left.
 

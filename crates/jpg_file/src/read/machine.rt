@@ -5,13 +5,12 @@ ghost use Rattle.jpg_coefs.specs.Machine.{Interval};
 ghost use Rattle.jpg_file.specs.Read.Data.{GivesRun, GivesBits};
 ghost use Rattle.jpg_file.specs.Read.Machine.{any_scan};
 ghost use Rattle.jpg_file.specs.Read.NewScan.{IsBareScan, IsOfHeader, IsScanHeader};
-ghost use Rattle.jpg_file.specs.Read.RowMachine.{CanReadMcuRow, IsInsideMcuRow, PassesRow, TakesRowBits};
 
 use jpg_base::{BitStore, Frame, ScanHead};
 use jpg_coefs::{Coefs, ScanMachine, Taken, UnitFault, UnitStep};
 use jpg_huff::TableSet;
 use jpg_prog_read::{AcReader, DcFirst, DcRefine};
-use jpg_seq::{BytesTaken, SeqReader};
+use jpg_seq::SeqReader;
 
 /// A machine that reads a scan, by its kind.
 #[derive(Drop)]
@@ -62,56 +61,6 @@ impl ScanReader {
             ScanReader::DcFirst(machine) => take_run(machine, coefs, bytes),
             ScanReader::DcRefine(machine) => take_run(machine, coefs, bytes),
             ScanReader::Ac(machine) => take_run(machine, coefs, bytes),
-        }
-    }
-
-    /// Takes bits from the start of the store, while an MCU row of a sequential scan is read: its blocks begin at these
-    /// rows of the components' grids, and the next `most` units are in it.
-    #[inline]
-    pub fn bits_in_row(
-        &mut self,
-        store: &mut BitStore,
-        row: &mut Coefs,
-        tops: &[u32; 4],
-        most: u64,
-    ) -> Taken
-        requires open { CanReadMcuRow tops.now self.old row.old }
-        requires inside { IsInsideMcuRow tops.now row.old most self.old }
-        requires some { 1 ≤ most }
-        ensures takes { TakesRowBits most tops.now self.old row.old store.old result self.new row.new store.new }
-        ensures passes { PassesRow most self.old result self.new }
-    {
-        match self {
-            ScanReader::Sequential(machine) => machine.bits_from(store, row, tops, most),
-            ScanReader::DcFirst(_) => unreachable!(),
-            ScanReader::DcRefine(_) => unreachable!(),
-            ScanReader::Ac(_) => unreachable!(),
-        }
-    }
-
-    /// Takes the bits of plain bytes as `bits_in_row` takes those of a store. Returns how many bits were taken, and the
-    /// result.
-    #[inline]
-    pub fn bytes_in_row(
-        &mut self,
-        bytes: &[u8],
-        row: &mut Coefs,
-        tops: &[u32; 4],
-        most: u64,
-    ) -> BytesTaken
-        requires open { CanReadMcuRow tops.now self.old row.old }
-        requires inside { IsInsideMcuRow tops.now row.old most self.old }
-        requires some { 1 ≤ most }
-        requires few { length bytes.now < 4294967296 }
-        ensures takes { TakesRowBits most tops.now self.old row.old (bits_of_bytes bytes.now) result.taken self.new row.new (drop result.bits (bits_of_bytes bytes.now)) }
-        ensures within { result.bits ≤ 8 * length bytes.now }
-        ensures passes { PassesRow most self.old result.taken self.new }
-    {
-        match self {
-            ScanReader::Sequential(machine) => machine.bytes(bytes, row, tops, most),
-            ScanReader::DcFirst(_) => unreachable!(),
-            ScanReader::DcRefine(_) => unreachable!(),
-            ScanReader::Ac(_) => unreachable!(),
         }
     }
 }
