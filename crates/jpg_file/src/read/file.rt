@@ -11,12 +11,11 @@ ghost use Rattle.jpg_spec.specs.Segments.{head_components};
 ghost use Rattle.jpg_spec.specs.declared.frame.Copying.TheVariants as copying;
 ghost use Rattle.jpg_base.specs.Cursor.{scan_mcus_down};
 ghost use Rattle.jpg_base.specs.declared.stop.Stop.TheVariants as stop;
-ghost use Rattle.jpg_file.specs.Read.Strips.{BeginsRows, CountsRowsOfScan, CountsRows, FindsHead, GoesByRow, GoesOnRest, HasHeadOfAll, HasLaterHead, PassesItem, PassesLaterHead, RepresentsRows, TakesLaterByte, TakesRest, TakesRowByte, TakesRunOfRows};
+ghost use Rattle.jpg_file.specs.Read.Strips.{BeginsRows, CountsRowsOfScan, CountsRows, FindsHead, GoesByRow, GoesOnRest, HasHeadOfAll, HasLaterHead, PassesItem, PassesLaterHead, RepresentsRows, TakesRest, TakesRowByte, TakesRunOfRows};
 ghost use Rattle.jpg_file.specs.Read.RowStops.{StopsByte, StopsRest, StopsRun};
 ghost use Rattle.jpg_file.specs.Read.RowTurns.{unfinished};
 ghost use Rattle.jpg_file.specs.Read.RowsNone.{FindsNone};
 ghost use Rattle.jpg_file.specs.Read.RowsKnown.{BeginsTold};
-ghost use Rattle.jpg_file.specs.declared.read.rows.RowWork.{RowWork as Row};
 
 use crate::read::first_header::{Head, head_of};
 use crate::read::items::{ItemStep, Items};
@@ -171,7 +170,11 @@ impl FileWork {
         if self.make_room().is_err() {
             return Step::Ended(Stop::NoMemory);
         }
-        match self.reading.take_head(&mut self.begun) {
+        let Some(coefs) = &self.reading.coefs else {
+            unreachable!();
+        };
+        coefs.checked();
+        match self.reading.begin_head(&mut self.begun) {
             Ok(()) => {
                 self.note_head();
                 Step::More
@@ -334,24 +337,8 @@ impl FileWork {
             return (n + 1, self.take_byte_in_row(rows, bytes[n]));
         }
         let n = self.reading.front(bytes);
-        (n + 1, self.later_byte(bytes[n]))
-    }
-
-    /// Takes a byte after the scan.
-    pub fn later_byte(&mut self, byte: u8) -> Step
-        requires stands { (bytes : List ℕ) × (rows : Row) × GoesByRow (limits_of self.old) bytes self.old rows }
-        requires none { is_some self.old.reading.scan ≡ false }
-        requires limits { AreLimits (limits_of self.old) }
-        requires room { self.old.reading.taken < (limits_of self.old).input }
-        ensures after { TakesLaterByte self.old byte result self.new }
-        ensures no { IsNoRow result }
-        ensures memory { NeedsNoMemory self.old.reading → HasMemory result }
-        ensures sparing { NeedsNoMemory self.old.reading → NeedsNoMemory self.new.reading }
-        ensures head { self.new.head ≡ self.old.head }
-        ensures keeping { keeping_of self.new ≡ keeping_of self.old }
-    {
-        let came = self.reading.item_byte(byte);
-        self.later_item(came)
+        let came = self.reading.item_byte(bytes[n]);
+        (n + 1, self.later_item(came))
     }
 
     // The result of an item after the scan.

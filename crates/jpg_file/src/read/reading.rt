@@ -5,7 +5,7 @@ ghost use Rattle.jpg_spec.specs.Scan.{Blocks};
 ghost use Rattle.jpg_spec.specs.Items.{Item};
 ghost use Rattle.jpg_coefs.specs.Picture.{Picture};
 ghost use Rattle.jpg_file.specs.Read.ScanStart.{HasSizes};
-ghost use Rattle.jpg_file.specs.Read.Reading.{CanBeginHead, HeadWhole, IsOpenScan, NeedsNoMemory, Itemising, LeavesAll, Scanning, TakesByteOfItems, TakesByteOfScan, TakesHead, TakesRunOfScan, has_open, with_coefs};
+ghost use Rattle.jpg_file.specs.Read.Reading.{CanBeginHead, IsOpenScan, NeedsNoMemory, Itemising, LeavesAll, Scanning, TakesByteOfItems, TakesByteOfScan, TakesHead, TakesRunOfScan, has_open, with_coefs};
 ghost use Rattle.jpg_file.specs.Read.InData.{ArePlain};
 ghost use Rattle.jpg_file.specs.Read.Going.{CanGoOn, FillsScan, GoesOn, has_waiting};
 ghost use Rattle.jpg_file.specs.Read.Passing.{HasNoneToPass, PassesMost, before_last};
@@ -33,19 +33,6 @@ pub struct Reading {
 }
 
 impl Reading {
-    /// Takes a complete scan header: its scan begins, or it has a fault.
-    pub fn take_head(&mut self, begun: &mut ScanHistory) -> Result<(), FaultAt>
-        requires stands { (bytes : List ℕ) × (items : List Item) × (blocks : Blocks) × HeadWhole self.old.items.limits bytes items blocks self.old begun.old }
-        ensures after { TakesHead self.old begun.old result self.new begun.new }
-        ensures keeping { self.new.items.held.keeping ≡ self.old.items.held.keeping }
-    {
-        let Some(coefs) = &self.coefs else {
-            unreachable!();
-        };
-        coefs.checked();
-        self.begin_head(begun)
-    }
-
     /// Begins the scan of a complete scan header, or returns its fault; of the picture nothing is required.
     pub fn begin_head(&mut self, begun: &mut ScanHistory) -> Result<(), FaultAt>
         requires stands { CanBeginHead self.old begun.old }

@@ -8,7 +8,7 @@ use Rattle.jpg_file.specs.Read.Strips.{AfterRows, GoesByRow}
 use Rattle.jpg_file.specs.declared.read.reading.Reading.{Reading}
 use Rattle.jpg_file.proofs.Files.PieceSteps.{one_more}
 use Rattle.jpg_file.proofs.ByRow.StripBytes.{filled_limits, filled_scan, front_at_fault, front_rows, later_row, rows_filled}
-use Rattle.jpg_file.proofs.ByRow.StripItems.{after_of, later_passed}
+use Rattle.jpg_file.proofs.ByRow.StripItems.{after_of, later_goes, later_items, later_passed, later_there}
 use Rattle.jpg_file.proofs.read.file.FileWork.take_in_row.Goals as goal
 
 pub returns-then-n-gt0-clause-after : goal.returns-then-n-gt0-clause-after
@@ -71,15 +71,38 @@ front-n-requires-clause-can c =
     let s = (after_of (limits_of w) o.0 w c.args.rows.now o.1 none).between in
     record { none = not_some w.reading.scan none; same = s.at.bounded.0; count = s.beside.same; limits = c.requires.limits; room = omega (arith, c.requires.room) }
 
-pub later_byte-requires-clause-stands : goal.later_byte-requires-clause-stands
-later_byte-requires-clause-stands c =
+pub item_byte-came-requires-clause-stands : goal.item_byte-came-requires-clause-stands
+item_byte-came-requires-clause-stands c =
     let w = c.args.self.now in
     let bytes = c.args.bytes.now in
     let rows = c.args.rows.now in
-    let (front, g) = c.requires.stands in
+    let n = c.front-n.result in
+    let p = c.front-n.ensures.after in
     let mid = record w { reading = c.front-n.new.self } in
-    let k = later_passed (limits_of w) front w rows (after_of (limits_of w) front w rows g (sym c.is_some.ensures ∙ c.if-is_some.false)) bytes c.front-n.new.self c.front-n.result g.none c.front-n.ensures.after in
-    (front ++ take c.front-n.result bytes, rows, subst (λ l. GoesByRow l (front ++ take c.front-n.result bytes) mid rows) (sym c.front-n.ensures.after.limits) k)
+    let none = sym c.is_some.ensures ∙ c.if-is_some.false in
+    let (front, g) = c.requires.stands in
+    let all = front ++ take n bytes in
+    let k = later_passed (limits_of w) front w rows (after_of (limits_of w) front w rows g none) bytes c.front-n.new.self n g.none p in
+    let goes = subst (λ l. GoesByRow l all mid rows) (sym p.limits) k in
+    let b = after_of (limits_of mid) all mid rows goes (ap is_some p.scan ∙ none) in
+    (all, (b.between).items, (b.between).blocks, later_items (limits_of mid) all mid rows b)
+
+pub later_item-requires : goal.later_item-requires
+later_item-requires c =
+    let w = c.args.self.now in
+    let bytes = c.args.bytes.now in
+    let rows = c.args.rows.now in
+    let n = c.front-n.result in
+    let p = c.front-n.ensures.after in
+    let mid = record w { reading = c.front-n.new.self } in
+    let none = sym c.is_some.ensures ∙ c.if-is_some.false in
+    let (front, g) = c.requires.stands in
+    let all = front ++ take n bytes in
+    let k = later_passed (limits_of w) front w rows (after_of (limits_of w) front w rows g none) bytes c.front-n.new.self n g.none p in
+    let goes = subst (λ l. GoesByRow l all mid rows) (sym p.limits) k in
+    let b = after_of (limits_of mid) all mid rows goes (ap is_some p.scan ∙ none) in
+    let a = c.item_byte-came.ensures.after all (b.between).items (b.between).blocks (later_items (limits_of mid) all mid rows b) in
+    later_there (limits_of mid) all mid rows b (get_or bytes n 0) c.item_byte-came.new.self c.item_byte-came.result a (subst (λ (l : Limits). mid.reading.taken < l.input) (sym p.limits) c.front-n.ensures.left)
 
 pub returns-clause-after : goal.returns-clause-after
 returns-clause-after c = λ front g.
@@ -87,12 +110,17 @@ returns-clause-after c = λ front g.
     let bytes = c.args.bytes.now in
     let rows = c.args.rows.now in
     let n = c.front-n.result in
+    let p = c.front-n.ensures.after in
     let mid = record w { reading = c.front-n.new.self } in
-    let same = c.front-n.ensures.after.limits in
-    let k = later_passed (limits_of w) front w rows (after_of (limits_of w) front w rows g (sym c.is_some.ensures ∙ c.if-is_some.false)) bytes c.front-n.new.self n g.none c.front-n.ensures.after in
-    let a = c.later_byte.ensures.after (front ++ take n bytes) rows (subst (λ l. GoesByRow l (front ++ take n bytes) mid rows) (sym same) k) in
-    later_row (limits_of w) front bytes c.later_byte.new.self rows c.later_byte.result n mid rows k c.front-n.ensures.left c.front-n.ensures.less c.later_byte.ensures.head
-    (subst (λ (l : Limits). AfterRows l ((front ++ take n bytes) ++ get_or bytes n 0 ∷ []) c.later_byte.result c.later_byte.new.self rows) same a)
+    let none = sym c.is_some.ensures ∙ c.if-is_some.false in
+    let all = front ++ take n bytes in
+    let k = later_passed (limits_of w) front w rows (after_of (limits_of w) front w rows g none) bytes c.front-n.new.self n g.none p in
+    let goes = subst (λ l. GoesByRow l all mid rows) (sym p.limits) k in
+    let b = after_of (limits_of mid) all mid rows goes (ap is_some p.scan ∙ none) in
+    let came = c.item_byte-came in
+    let a = later_goes (limits_of mid) all mid rows b (get_or bytes n 0) came.new.self came.result c.later_item.result goes (came.ensures.after all (b.between).items (b.between).blocks (later_items (limits_of mid) all mid rows b)) (subst (λ (l : Limits). mid.reading.taken < l.input) (sym p.limits) c.front-n.ensures.left) c.later_item.ensures.after in
+    later_row (limits_of w) front bytes (record mid { reading = came.new.self }) rows c.later_item.result n mid rows k c.front-n.ensures.left c.front-n.ensures.less refl
+    (subst (λ (l : Limits). AfterRows l (all ++ get_or bytes n 0 ∷ []) c.later_item.result (record mid { reading = came.new.self }) rows) p.limits a)
 
 pub returns-clause-stops : goal.returns-clause-stops
 returns-clause-stops c = λ f front e g. inl (after_of (limits_of c.args.self.now) front c.args.self.now c.args.rows.now g (sym c.is_some.ensures ∙ c.if-is_some.false)).done
