@@ -68,7 +68,7 @@ impl Reading {
                 begun.note_quants(parts, &frame, &self.items.held.quants);
                 begun.note(&frame, &head);
                 begun.count(at);
-                self.items.head_done();
+                self.items.held.scanned = true;
                 Ok(())
             }
         }
