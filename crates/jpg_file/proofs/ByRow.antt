@@ -1,4 +1,5 @@
 pub mod Faults
+pub mod HeadLeft
 pub mod RowData
 pub mod RowPieces
 pub mod RowTurns

@@ -10,7 +10,7 @@ use Rattle.jpg_spec.specs.declared.frame.Limits.{Limits}
 use Rattle.jpg_spec.proofs.McuRows.RowsHeader.{begun_once, begun_places}
 use Rattle.jpg_file.specs.Read.FirstHeader.{IsFirstHeaderOf}
 use Rattle.jpg_file.specs.Read.ReadFile.{ReaderState, AsksForMemory}
-use Rattle.jpg_file.specs.Read.ReadRows.{StopsRows, AfterFeedRow, HasBegunRows, HasGivenRow, HasReadPlainly, HasReadRows, HasReadSoFar, IsDoneByRows, NotSooner, StopsSoFar}
+use Rattle.jpg_file.specs.Read.ReadRows.{StopsRows, AfterFeedKeeping, AfterFeedRow, HasBegunRows, HasGivenRow, HasReadPlainly, HasReadRows, HasReadSoFar, IsDoneByRows, NotSooner, StopsSoFar}
 use Rattle.jpg_file.specs.Read.RowsKnown.{TellsStrip, rows_of_scan, KnowsRows, RowsKnown}
 use Rattle.jpg_file.specs.Read.RowsSoFar.{RowsSoFar, LacksRow}
 use Rattle.jpg_file.specs.declared.read.rows.RowWork.{RowWork}
@@ -394,3 +394,9 @@ module _ (r : ReaderState) (old new : StripWork) (bytes piece : List ℕ) (m : �
   stop_answered stop.NoMemory row wants t (inr h) =
       let b = rows_before bytes m (with_work r old) h in
       absurd (clash (is_some new.rows) (t.keeps.some (ap is_some (b.begun).has)) (ap is_some wants))
+
+  -- and where markers are kept
+  pub stop_kept : (e : Stop) → old.by_row ≡ true → ReadsPiece r.limits old piece (Err e) new → HasReadSoFar bytes m (with_work r old) → AfterFeedKeeping bytes m piece (Err e) (record (with_work r new) { stop = Some e })
+  stop_kept (stop.Fault f) row t s = fault_answered f row t s
+  stop_kept stop.NoMemory row t (inl (p, z)) = t.after bytes (here r old new bytes piece p)
+  stop_kept stop.NoMemory row t (inr h) = (let b = rows_before bytes m (with_work r old) h in t.after bytes b.open)

@@ -4,7 +4,8 @@ use Rattle.std.specs.Prelude.{◌||◌, nat_lt, replicate, is_none}
 use Rattle.std.proofs.lemmas.Bool.Decides.{nat_tests}
 use Rattle.std.proofs.lemmas.Nat.{mul-le}
 use Rattle.jpg_spec.specs.Lists.{any_of, is_among, all_of, below}
-use Rattle.jpg_spec.specs.Geometry.{Frame, blocks_across, blocks_down, component_at, is_real, mcu_row_frame, mcus_down, v_max, no_component}
+use Rattle.jpg_spec.specs.Ranges.{AreInRange}
+use Rattle.jpg_spec.specs.Geometry.{Frame, bounds, blocks_across, blocks_down, component_at, is_real, mcu_row_frame, mcus_down, v_max, no_component}
 use Rattle.jpg_spec.specs.FrameHeader.{AreLimits, IsFrame}
 use Rattle.jpg_spec.specs.Elements.{zeros}
 use Rattle.jpg_spec.specs.Scan.{Blocks}
@@ -39,8 +40,9 @@ use Rattle.jpg_coefs.specs.Picture.{Picture, map_of}
 use Rattle.jpg_seq.specs.Rows.{IsRowOf, rows_in_mcu, top_of}
 use Rattle.jpg_seq.proofs.ScanRows.{units_by_row}
 use Rattle.jpg_file.specs.Read.ScanHistory.{HasBegun, HasBegunAll, IsComplete, HasBegunEach, RepresentsHeads}
-use Rattle.jpg_file.specs.Read.File.{RepresentsFile, IsBetweenFileItems, with_picture}
+use Rattle.jpg_file.specs.Read.File.{RepresentsFile, IsBetweenFileItems, keeping_of, with_picture}
 use Rattle.jpg_file.specs.Read.Items.{AtPlace}
+use Rattle.jpg_file.specs.Read.Keeping.{kept_for}
 use Rattle.jpg_file.specs.Read.ReadFile.{ReaderState, TellsBegun}
 use Rattle.jpg_file.specs.Read.ReadRows.{AgreeInRows, AreOfRow, HasBegunRows, HasReadRows, IsEarlyByRows, LendsRow, HasGivenRow, HasReadAll, IsEarlyPlainly, IsReading}
 use Rattle.jpg_file.specs.Read.RowPlaces.{IsRowAt, scan_left}
@@ -50,8 +52,10 @@ use Rattle.jpg_file.specs.Read.Strips.{GoesByRow, RowsAfter, RowsInside, compone
 use Rattle.jpg_file.specs.declared.read.scan_history.ScanHistory.{ScanHistory}
 use Rattle.jpg_file.specs.declared.read.file.FileWork.{FileWork}
 use Rattle.jpg_file.specs.declared.read.rows.RowWork.{RowWork}
+use Rattle.jpg_file.proofs.Files.Keeping.{markers_kept}
 use Rattle.jpg_file.proofs.Files.Leaving.{at_end, named_by, some_at, some_for, early_leaves, each_complete, ends_early, named_each, tells_begun}
 use Rattle.jpg_file.proofs.ByRow.RowTurns.{rows_there}
+use Rattle.jpg_file.proofs.ByRow.HeadLeft.{head_of_early}
 use Rattle.jpg_file.proofs.ByRow.RowsGiven.{TellsDue, inside_tells, place_tells, real_in_row, row_blocks, inside_in_range}
 use Rattle.jpg_file.proofs.ByRow.StripBytes.{goes_with}
 use Rattle.jpg_file.proofs.ByRow.StripRows.{rest_blank, rest_framed}
@@ -63,12 +67,14 @@ use Rattle.jpg_file.proofs.Files.ReaderFed.{plain_stands}
 -- and zeros after it.
 
 -- THE PICTURE that is left, of these blocks
-record EndsWhole (limits : Limits) (bytes : List ℕ) (whole : Picture) : Type 0 where
+record EndsWhole (limits : Limits) (bytes : List ℕ) (w : FileWork) (whole : Picture) : Type 0 where
   pub segments : List Segment
   pub early : MeansEarly limits bytes (meaning_of (frame_of limits segments) segments (map_of whole))
   pub framed : whole.frame ≡ frame_of limits segments
+  pub range : AreInRange (bounds (frame_of limits segments)) (map_of whole)
+  pub kept : w.reading.items.held.kept ≡ (kept_for (keeping_of w) (meaning_of (frame_of limits segments) segments (map_of whole))).kept
 
-ends_whole : (limits : Limits) (bytes : List ℕ) (w : FileWork) (whole : Picture) (all : Bool) → RepresentsFile limits bytes (with_picture w whole) → UnfinishedFile limits bytes → length bytes < limits.input → IsComplete w.begun.progress all → all ≡ true → EndsWhole limits bytes whole
+ends_whole : (limits : Limits) (bytes : List ℕ) (w : FileWork) (whole : Picture) (all : Bool) → RepresentsFile limits bytes (with_picture w whole) → UnfinishedFile limits bytes → length bytes < limits.input → IsComplete w.begun.progress all → all ≡ true → EndsWhole limits bytes w whole
 ends_whole limits bytes w whole all s stands short told e =
     let v = with_picture w whole in
     let a = at_end limits bytes v s in
@@ -80,6 +86,8 @@ ends_whole limits bytes w whole all s stands short told e =
       segments = a.segments;
       early = subst (λ (bs : Blocks). MeansEarly limits bytes (meaning_of (frame_of limits a.segments) a.segments bs)) same (stands_early limits bytes stands short here.have, here.ends);
       framed = ap (λ (q : Picture). q.frame) is ∙ here.framed;
+      range = subst (λ (bs : Blocks). AreInRange (bounds (frame_of limits a.segments)) bs) same here.range;
+      kept = markers_kept limits a.segments (map_of whole) w a.holds;
     }
 
 -- REAL BLOCKS of a picture
@@ -314,6 +322,9 @@ rows_early bytes m r all limited h told e = record {
   begun = record { before = b.before; contents = b.contents; begins = b.begins; rows = b.rows; has = b.has; head = b.head; told = b.told };
   meaning = meaning_of (frame_of r.limits left.segments) left.segments (map_of whole);
   early = left.early;
+  kept = left.kept;
+  head = head_of_early r.limits bytes b.before b.contents b.begins r.strip (meaning_of (frame_of r.limits left.segments) left.segments (map_of whole)) b.told left.early;
+  all = record { all = whole; framed = there.framed; range = subst (λ (g : Frame). AreInRange (bounds g) (map_of whole)) (sym left.framed ∙ there.framed) left.range; real = real };
   rows = h.rows;
   blocks = h.blocks;
   completed = h.completed;
@@ -334,7 +345,7 @@ rows_early bytes m r all limited h told e = record {
     is : IsFrame (frame_of r.limits (h.begun).before)
     is = begun_frame r.limits bytes (h.begun).before (h.begun).contents limited (h.begun).begins
 
-    left : EndsWhole r.limits bytes ((h.open).stands).whole
+    left : EndsWhole r.limits bytes r.file ((h.open).stands).whole
     left = ends_whole r.limits bytes r.file ((h.open).stands).whole all (goes_with r.limits bytes r.file (h.begun).rows h.open) h.stands h.short told e
 
     there : RowsLeft r.limits bytes (h.begun).before (h.begun).contents m ((h.begun).rows) ((h.open).stands).whole
@@ -404,6 +415,7 @@ keeps_early r all undone skip_ahead k told e =
     let o = k.open skip_ahead undone in
     record {
       limited = k.limited;
+      in_rows = k.in_rows;
       keeping = k.keeping;
       sparing = k.sparing;
       «open» = λ none undone_now. absurd (clash true refl undone_now);

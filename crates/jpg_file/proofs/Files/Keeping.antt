@@ -6,34 +6,34 @@ use Rattle.std.proofs.lemmas.List.Elements.{filter-append}
 use Rattle.std.proofs.lemmas.Grind.{reverse_onto}
 use Rattle.jpg_spec.specs.Colours.{colours_of}
 use Rattle.jpg_spec.specs.Jfif.{adobe_transform, begins_adobe, begins_jfif, is_adobe, is_jfif, jfif_of, parsed_jfif}
+use Rattle.jpg_spec.specs.FileMeaning.{meaning_of, picture_component}
+use Rattle.jpg_spec.specs.InForce.{frame_of, heads_of, first_some, head_in, quant_in_force}
 use Rattle.jpg_spec.specs.Markers.{Segment, kept_after}
 use Rattle.jpg_spec.specs.Meaning.{Meaning, colour_of, PictureComponent, real_blocks}
 use Rattle.jpg_spec_write.specs.Headed.{copied}
 use Rattle.jpg_spec.specs.declared.frame.Copying.{Copying}
 use Rattle.jpg_spec.specs.declared.frame.Copying.TheVariants as copying
+use Rattle.jpg_spec.specs.Scan.{Blocks}
+use Rattle.jpg_spec.specs.declared.frame.Limits.{Limits}
 use Rattle.jpg_spec.specs.declared.jfif.Jfif.{Jfif}
 use Rattle.jpg_spec.proofs.Basics.Common.{both, clash, or_right, some_once, length_below, some_of}
+use Rattle.jpg_file.specs.Read.File.{keeping_of}
 use Rattle.jpg_file.specs.Read.Keeping.{begins_header, is_wanted, kept_for}
+use Rattle.jpg_file.specs.Read.SegmentState.{Holds, segments_view}
+use Rattle.jpg_file.specs.declared.read.file.FileWork.{FileWork}
 use Rattle.jpg_spec.proofs.Segments.QuantsInForce.{IsQuants, in_force_quants}
 use Rattle.jpg_spec.specs.Lists.{below}
 use Rattle.jpg_spec.specs.Geometry.{Frame, bounds, component_at, no_component}
 use Rattle.jpg_spec.specs.FrameHeader.{identifiers}
 use Rattle.jpg_spec.specs.Segments.{QuantTable}
-use Rattle.jpg_spec.specs.Scan.{Blocks}
-use Rattle.jpg_spec.specs.InForce.{frame_of, heads_of, first_some, head_in, quant_in_force}
 use Rattle.jpg_spec.specs.History.{has_begun, quant_of, names}
 use Rattle.jpg_spec.specs.QuantContents.{quant_in}
-use Rattle.jpg_spec.specs.FileMeaning.{meaning_of, picture_component}
 use Rattle.jpg_spec.specs.Ranges.{AreInRange}
 use Rattle.jpg_spec.specs.declared.frame.Component.{Component}
-use Rattle.jpg_spec.specs.declared.frame.Limits.{Limits}
 use Rattle.jpg_spec.proofs.Bits.FirstPasses.{all_below}
 use Rattle.jpg_coefs.specs.Picture.{Picture as Made, map_of}
-use Rattle.jpg_file.specs.Read.File.{keeping_of}
-use Rattle.jpg_file.specs.Read.SegmentState.{segments_view}
 use Rattle.jpg_file.specs.Read.Left.{Leaves}
 use Rattle.jpg_file.specs.Read.PictureKept.{PictureParts, component_view, parts_meaning, IsQuantTable}
-use Rattle.jpg_file.specs.declared.read.file.FileWork.{FileWork}
 use Rattle.jpg_spec.proofs.McuRows.RowsWhole.{map_below}
 
 -- The JFIF and Adobe segments of a picture are the same without the markers that are left out.
@@ -114,6 +114,11 @@ pub passed_same : (keeping : Copying) (kept : List Segment) → copied keeping (
 passed_same copying.None kept = refl
 passed_same copying.Comments kept = filter_in (λ s. s.0 == 0xfe) (is_wanted copying.Comments) (λ s e. ap (λ b. b || begins_header s) e) kept
 passed_same copying.All kept = all_kept kept
+
+-- WHAT A READER KEEPS of the markers of the picture
+pub markers_kept : (limits : Limits) (segments : List Segment) (blocks : Blocks) (w : FileWork) → Holds limits (segments_view w.reading.items.held) segments
+    → w.reading.items.held.kept ≡ (kept_for (keeping_of w) (meaning_of (frame_of limits segments) segments blocks)).kept
+markers_kept limits segments blocks w holds = holds.kept ∙ sym (filter_reverse (is_wanted (keeping_of w)) (kept_after segments))
 
 -- The picture of a file, part by part.
 

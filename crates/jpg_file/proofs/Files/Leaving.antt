@@ -53,7 +53,7 @@ use Rattle.jpg_file.proofs.Scans.ScanBytes.{of_place}
 
 -- A COMPLETE FILE
 
-file_leaves : (limits : Limits) (bytes : List ℕ) (w : FileWork) → (e : EndsFile limits bytes w) → Leaves limits (segments_of (e.ends).items) (e.ends).blocks w
+pub file_leaves : (limits : Limits) (bytes : List ℕ) (w : FileWork) → (e : EndsFile limits bytes w) → Leaves limits (segments_of (e.ends).items) (e.ends).blocks w
 file_leaves limits bytes w e = by w.reading.coefs refl ((e.ends).beside).picture
   where
     by : (q : Option Picture) → w.reading.coefs ≡ q → PictureSoFar limits (e.ends).items (e.ends).blocks q → Leaves limits (segments_of (e.ends).items) (e.ends).blocks w

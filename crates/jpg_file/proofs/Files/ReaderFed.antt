@@ -30,7 +30,7 @@ use Rattle.jpg_base.specs.declared.stop.Stop.{Stop}
 use Rattle.jpg_base.specs.declared.stop.Stop.TheVariants as stop
 use Rattle.jpg_file.specs.Read.PieceTaken.{ReadsPiece, ReadsOn}
 use Rattle.jpg_file.specs.Read.ReadFile.{AfterFeed, AsksForMemory, HasRead, IsStopOf, ReaderState}
-use Rattle.jpg_file.specs.Read.ReadRows.{IsPlain, IsReading}
+use Rattle.jpg_file.specs.Read.ReadRows.{IsByRow, IsPlain, IsReading}
 use Rattle.jpg_file.specs.Read.RowPieces.{AfterRowsPiece, KeepsWork, RowsGive, RowsGo, RowsOpen}
 use Rattle.jpg_file.specs.Read.Strips.{AfterStrip, StripGoes, RepresentsStrip}
 use Rattle.jpg_file.specs.declared.read.pieces.FedRow.{FedRow}
@@ -228,13 +228,14 @@ whole_each limits bytes (Some rows) w a = ends_each limits bytes (with_picture w
 
 -- as the reader is seen with this work
 abbrev pub with_work : ReaderState → StripWork → ReaderState
-with_work r work = record r { file = work.file; by_row = work.by_row; rows = work.rows; strip = work.strip }
+with_work r work = record r { file = work.file; in_rows = work.by_row; rows = work.rows; strip = work.strip }
 
 keeps_going : (r : ReaderState) (old new : StripWork) → KeepsWork old new → r.done ≡ false → IsReading (with_work r old) → ((bytes : List ℕ) → RowsOpen r.limits bytes old.rows old.file → (all : List ℕ) × RowsOpen r.limits all new.rows new.file) → IsReading (with_work r new)
 keeps_going r old new kept undone k next = record {
   limited = k.limited;
-  keeping = λ by. kept.keeping ∙ k.keeping (sym kept.by_row ∙ by);
-  sparing = λ by. kept.sparing (k.keeping (sym kept.by_row ∙ by)) (k.sparing (sym kept.by_row ∙ by));
+  in_rows = λ by. kept.by_row ∙ k.in_rows by;
+  keeping = λ by. kept.keeping ∙ k.keeping by;
+  sparing = λ by. kept.sparing (k.keeping by) (k.sparing by);
   «open» = λ none skip_ahead. (let o = k.open none skip_ahead in next o.0 o.1);
   ended = λ done. absurd (clash r.done done undone);
   begun = λ done. absurd (clash r.done done undone);
@@ -256,12 +257,17 @@ keeps_done_rows r old new piece result used e undone skip_ahead k t =
     let kept = t.keeps in
     record {
       limited = k.limited;
-      keeping = λ by. kept.keeping ∙ k.keeping (sym kept.by_row ∙ by);
-      sparing = λ by. kept.sparing (k.keeping (sym kept.by_row ∙ by)) (k.sparing (sym kept.by_row ∙ by));
+      in_rows = λ by. kept.by_row ∙ k.in_rows by;
+      keeping = λ by. kept.keeping ∙ k.keeping by;
+      sparing = λ by. kept.sparing (k.keeping by) (k.sparing by);
       «open» = λ none undone_now. absurd (clash true refl undone_now);
       ended = λ done none. whole_leaves r.limits (o.0 ++ take used piece) new.file (ends_plain r.limits (o.0 ++ take used piece) new.rows new.file none a.0);
       begun = λ done. whole_each r.limits (o.0 ++ take used piece) new.rows new.file a.0;
     }
+
+pub rows_read : (r : ReaderState) → IsByRow r → IsReading r → r.in_rows ≡ true
+rows_read r (inl by) k = k.in_rows by
+rows_read r (inr rows) k = rows
 
 -- WHERE NO MCU ROWS ARE READ
 
@@ -367,19 +373,19 @@ fewer n m low other = by (cases_lt n m)
     by (inr h) = absurd (other (omega (arith, low, h)))
 
 -- as the reader is seen with this work
-abbrev pub state_of : Limits → StripWork → Bool → Option Stop → ReaderState
-state_of limits work done stopped = record { limits = limits; file = work.file; by_row = work.by_row; rows = work.rows; strip = work.strip; done = done; stop = stopped }
+abbrev pub state_of : Limits → StripWork → Bool → Bool → Option Stop → ReaderState
+state_of limits work by done stopped = record { limits = limits; file = work.file; by_row = by; in_rows = work.by_row; rows = work.rows; strip = work.strip; done = done; stop = stopped }
 
 -- of a reader without MCU rows
-module _ (old new : StripWork) (piece : List ℕ) (answer : Result FedScan Stop) {limits : Limits} {done : Bool} {stopped : Option Stop} {now : ReaderState} (view : state_of limits old done stopped ≡ now) (plain : IsPlain now) (undone : now.done ≡ false) (took : ReadsScan limits old piece answer new) where
+module _ (old new : StripWork) (piece : List ℕ) (answer : Result FedScan Stop) {limits : Limits} {by : Bool} {done : Bool} {stopped : Option Stop} {now : ReaderState} (view : state_of limits old by done stopped ≡ now) (plain : IsPlain now) (undone : now.done ≡ false) (took : ReadsScan limits old piece answer new) where
   abbrev r : ReaderState
-  r = state_of limits old done stopped
+  r = state_of limits old by done stopped
 
   none : old.rows ≡ None
   none = ap (λ (q : ReaderState). q.rows) view ∙ plain.1
 
   row : old.by_row ≡ false
-  row = ap (λ (q : ReaderState). q.by_row) view ∙ plain.0
+  row = ap (λ (q : ReaderState). q.in_rows) view ∙ plain.0
 
   going : done ≡ false
   going = ap (λ (q : ReaderState). q.done) view ∙ undone
@@ -390,21 +396,21 @@ module _ (old new : StripWork) (piece : List ℕ) (answer : Result FedScan Stop)
   given : (came : Result FedScan Stop) → answer ≡ came → ReadsScan limits old piece came new
   given came is = subst (λ (a : Result FedScan Stop). ReadsScan limits old piece a new) is took
 
-  pub keeps_more : answer ≡ Ok came.More → IsReading r → IsReading (state_of limits new done stopped)
+  pub keeps_more : answer ≡ Ok came.More → IsReading r → IsReading (state_of limits new by done stopped)
   keeps_more is k = keeps_more_rows r old new piece (Ok fed.More) refl going k (piece_plain none (given (Ok came.More) is).0)
 
-  pub keeps_scan : (used : ℕ) → answer ≡ Ok (came.Scan used) → IsReading r → IsReading (state_of limits new done stopped)
+  pub keeps_scan : (used : ℕ) → answer ≡ Ok (came.Scan used) → IsReading r → IsReading (state_of limits new by done stopped)
   keeps_scan used is k = keeps_more_rows r old new (take used piece) (Ok fed.More) refl going k (piece_plain none (given (Ok (came.Scan used)) is).0)
 
-  pub keeps_done : (used : ℕ) → answer ≡ Ok (came.Done used) → stopped ≡ None → IsReading r → IsReading (state_of limits new true stopped)
+  pub keeps_done : (used : ℕ) → answer ≡ Ok (came.Done used) → stopped ≡ None → IsReading r → IsReading (state_of limits new by true stopped)
   keeps_done used is skip k = keeps_done_rows r old new piece (Ok (fed.Done used)) used refl going skip k (piece_plain none (given (Ok (came.Done used)) is).0)
 
-  pub scan_more : (bytes : List ℕ) → HasRead bytes now → answer ≡ Ok came.More → AfterFeedScan bytes piece answer (state_of limits new done stopped)
+  pub scan_more : (bytes : List ℕ) → HasRead bytes now → answer ≡ Ok came.More → AfterFeedScan bytes piece answer (state_of limits new by done stopped)
   scan_more bytes before is =
       let t = given (Ok came.More) is in
       let h = read bytes before in
       let fed_on = fed_more r old new bytes piece none (t.0.keeps.plain none row) h (piece_plain none t.0) in
-      subst (λ (a : Result FedScan Stop). AfterFeedScan bytes piece a (state_of limits new done stopped)) (sym is) (
+      subst (λ (a : Result FedScan Stop). AfterFeedScan bytes piece a (state_of limits new by done stopped)) (sym is) (
         fed_on,
         record {
           n = scans_ended old.file;
@@ -416,14 +422,14 @@ module _ (old new : StripWork) (piece : List ℕ) (answer : Result FedScan Stop)
         },
       )
 
-  pub scan_one : (bytes : List ℕ) (used : ℕ) → HasRead bytes now → answer ≡ Ok (came.Scan used) → AfterFeedScan bytes piece answer (state_of limits new done stopped)
+  pub scan_one : (bytes : List ℕ) (used : ℕ) → HasRead bytes now → answer ≡ Ok (came.Scan used) → AfterFeedScan bytes piece answer (state_of limits new by done stopped)
   scan_one bytes used before is =
       let t = given (Ok (came.Scan used)) is in
       let h = read bytes before in
       let front = take used piece in
       let fed_on = fed_more r old new bytes front none (t.0.keeps.plain none row) h (piece_plain none t.0) in
       let last = t.2 in
-      subst (λ (a : Result FedScan Stop). AfterFeedScan bytes piece a (state_of limits new done stopped)) (sym is) (
+      subst (λ (a : Result FedScan Stop). AfterFeedScan bytes piece a (state_of limits new by done stopped)) (sym is) (
         fed_on,
         record {
           early = last.0;
@@ -436,23 +442,23 @@ module _ (old new : StripWork) (piece : List ℕ) (answer : Result FedScan Stop)
         },
       )
 
-  pub scan_done : (bytes : List ℕ) (used : ℕ) → HasRead bytes now → answer ≡ Ok (came.Done used) → AfterFeedScan bytes piece answer (state_of limits new true stopped)
+  pub scan_done : (bytes : List ℕ) (used : ℕ) → HasRead bytes now → answer ≡ Ok (came.Done used) → AfterFeedScan bytes piece answer (state_of limits new by true stopped)
   scan_done bytes used before is =
       let t = given (Ok (came.Done used)) is in
       let h = read bytes before in
       let whole = fed_done r old new bytes piece used none (t.0.keeps.plain none row) h (piece_plain none t.0) in
       let last = t.2 in
-      subst (λ (a : Result FedScan Stop). AfterFeedScan bytes piece a (state_of limits new true stopped)) (sym is) (whole.0, whole.2, (last.0, last.1, counts_none limits bytes piece old.file last.0 h.open last.2))
+      subst (λ (a : Result FedScan Stop). AfterFeedScan bytes piece a (state_of limits new by true stopped)) (sym is) (whole.0, whole.2, (last.0, last.1, counts_none limits bytes piece old.file last.0 h.open last.2))
 
-  scan_stopped : (bytes : List ℕ) (e : Stop) → HasRead bytes r → ReadsScan limits old piece (Err e) new → AfterFeedScan bytes piece (Err e) (state_of limits new done (Some e))
+  scan_stopped : (bytes : List ℕ) (e : Stop) → HasRead bytes r → ReadsScan limits old piece (Err e) new → AfterFeedScan bytes piece (Err e) (state_of limits new by done (Some e))
   scan_stopped bytes (stop.Fault f) h t =
       let none_ends = t.1 bytes h.open in
       (fed_stop r old new bytes piece (stop.Fault f) none h (piece_plain none t.0), (none_ends.0, none_ends.1, counts_none limits bytes piece old.file none_ends.0 h.open none_ends.2))
   scan_stopped bytes stop.NoMemory h t = fed_stop r old new bytes piece stop.NoMemory none h (piece_plain none t)
 
-  pub scan_stop : (bytes : List ℕ) (e : Stop) → HasRead bytes now → answer ≡ Err e → AfterFeedScan bytes piece answer (state_of limits new done (Some e))
+  pub scan_stop : (bytes : List ℕ) (e : Stop) → HasRead bytes now → answer ≡ Err e → AfterFeedScan bytes piece answer (state_of limits new by done (Some e))
   scan_stop bytes e before is =
-      subst (λ (a : Result FedScan Stop). AfterFeedScan bytes piece a (state_of limits new done (Some e))) (sym is) (scan_stopped bytes e (read bytes before) (given (Err e) is))
+      subst (λ (a : Result FedScan Stop). AfterFeedScan bytes piece a (state_of limits new by done (Some e))) (sym is) (scan_stopped bytes e (read bytes before) (given (Err e) is))
 
   pub scan_asks : (bytes : List ℕ) → HasRead bytes now → answer ≡ Err stop.NoMemory → AsksForMemory limits (length bytes) (bytes ++ piece) new.file.head
   scan_asks bytes before is =

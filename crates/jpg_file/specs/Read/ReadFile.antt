@@ -27,13 +27,14 @@ use Rattle.jpg_file.specs.declared.read.file.FileWork.{FileWork}
 use Rattle.jpg_file.specs.declared.read.rows.RowWork.{RowWork}
 use Rattle.jpg_file.specs.declared.read.strip_head.StripHead.{StripHead}
 
--- what contracts see of a reader: the state of its file, whether it is read MCU row by MCU row, the current MCU row and
--- the head of its picture once there is one, whether it is done (it is complete or ended early, so that nothing may be
+-- what contracts see of a reader: the state of its file, whether it is read MCU row by MCU row with no markers kept, whether
+-- it is read so at all, the current MCU row and the head of its picture once there is one, whether it is done (it is complete or ended early, so that nothing may be
 -- fed any more), and why it stopped, if it did
 pub record ReaderState : Type 0 where
   pub limits : Limits
   pub file : FileWork
   pub by_row : Bool
+  pub in_rows : Bool
   pub rows : Option RowWork
   pub strip : Option StripHead
   pub done : Bool

@@ -1,13 +1,13 @@
 -- A file that is fed piece by piece, and read MCU row by MCU row if its first scan has all components of a sequential
 -- frame (T.81, A.2.3, B.2.1).
-use Rattle.std.specs.Prelude.{◌≡◌, ◌⊎◌, ℕ, ◌+◌, ◌*◌, ◌<◌, ◌≤◌, true, false, List, ◌++◌, length, take, Some, None, Result, Ok, Err}
+use Rattle.std.specs.Prelude.{◌≡◌, ◌⊎◌, ℕ, ◌+◌, ◌*◌, ◌<◌, ◌≤◌, true, false, List, ◌++◌, length, take, Option, Some, None, Result, Ok, Err}
 use Rattle.jpg_spec.specs.Geometry.{Frame, blocks_across, blocks_down, bounds, component_at, mcu_row_frame}
 use Rattle.jpg_spec.specs.FrameHeader.{AreLimits}
 use Rattle.jpg_spec.specs.Scan.{Blocks}
 use Rattle.jpg_spec.specs.Ranges.{AreInRange}
 use Rattle.jpg_spec.specs.Markers.{Segment}
 use Rattle.jpg_spec.specs.InForce.{frame_of}
-use Rattle.jpg_spec.specs.Meaning.{Meaning}
+use Rattle.jpg_spec.specs.Meaning.{Meaning, real_blocks}
 use Rattle.jpg_spec.specs.Elements.{zeros}
 use Rattle.jpg_spec.specs.Early.{MeansEarly}
 use Rattle.jpg_spec.specs.UnfinishedFile.{UnfinishedFile, IsWholeFile}
@@ -21,6 +21,7 @@ use Rattle.jpg_coefs.specs.Picture.{Picture, map_of}
 use Rattle.jpg_seq.specs.Rows.{rows_in_mcu}
 use Rattle.jpg_file.specs.Read.File.{keeping_of}
 use Rattle.jpg_file.specs.Read.FirstHeader.{IsFirstHeaderOf}
+use Rattle.jpg_file.specs.Read.Keeping.{kept_for}
 use Rattle.jpg_file.specs.Read.Left.{LeavesPicture}
 use Rattle.jpg_file.specs.Read.ReadFile.{AsksForMemory, HasRead, IsDone, IsEarlyEnd, IsStopOf, KeepsHead, KeepsHeadAt, ReaderState, StopsAt}
 use Rattle.jpg_file.specs.Read.RowPieces.{HasLastByte, RowsOpen}
@@ -28,26 +29,33 @@ use Rattle.jpg_file.specs.Read.RowTurns.{unfinished}
 use Rattle.jpg_file.specs.Read.RowsKnown.{TellsStrip, rows_of_scan}
 use Rattle.jpg_file.specs.Read.RowsNone.{HasNoRows}
 use Rattle.jpg_file.specs.Read.ScanHistory.{HasBegunEach}
+use Rattle.jpg_file.specs.Read.StripHead.{IsHeadOfPicture}
 use Rattle.jpg_file.specs.Read.Strips.{GoesByRow, SparesRows, RepresentsRows}
 use Rattle.jpg_file.specs.declared.read.ends.End.{End}
 use Rattle.jpg_file.specs.declared.read.ends.End.TheVariants as ends
 use Rattle.jpg_file.specs.declared.read.pieces.FedRow.{FedRow}
 use Rattle.jpg_file.specs.declared.read.pieces.FedRow.TheVariants as fed
 use Rattle.jpg_file.specs.declared.read.rows.RowWork.{RowWork}
+use Rattle.jpg_file.specs.declared.read.strip_head.StripHead.{StripHead}
 
 -- the invariant of a reader: it was given some bytes, or has a picture, and each component was in a scan; where MCU rows
--- are to be read, no markers are kept, and with a current row it asks for no memory
+-- are to be read and no markers kept, it asks for no memory with a current row
 pub record IsReading (r : ReaderState) : Type 0 where
   pub limited : AreLimits r.limits
+  pub in_rows : r.by_row ≡ true → r.in_rows ≡ true
   pub keeping : r.by_row ≡ true → keeping_of r.file ≡ copying.None
   pub sparing : r.by_row ≡ true → SparesRows r.rows r.file
   pub «open» : r.stop ≡ None → r.done ≡ false → (bytes : List ℕ) × RowsOpen r.limits bytes r.rows r.file
   pub ended : r.done ≡ true → r.rows ≡ None → LeavesPicture r.limits r.file
   pub begun : r.done ≡ true → HasBegunEach r.file.begun.progress
 
+-- they are to be read
+abbrev pub IsByRow : ReaderState → Type 0
+IsByRow r = (r.by_row ≡ true) ⊎ (r.in_rows ≡ true)
+
 -- no MCU rows are to be read, nor is there a current one
 abbrev pub IsPlain : ReaderState → Type 0
-IsPlain r = (r.by_row ≡ false) × (r.rows ≡ None)
+IsPlain r = (r.in_rows ≡ false) × (r.rows ≡ None)
 
 -- THE HEAD of the picture whose rows are read, when the scan began in the bytes
 pub record HasBegunRows (bytes : List ℕ) (r : ReaderState) : Type 0 where
@@ -113,12 +121,31 @@ HasReadSoFar bytes m r = (HasReadPlainly bytes r × (m ≡ 0)) ⊎ (HasReadRows 
 abbrev pub HasReadAll : List ℕ → ℕ → ReaderState → Type 0
 HasReadAll bytes m r = (HasReadPlainly bytes r × (m ≡ 0)) ⊎ HasReadRows bytes m r
 
+-- the markers that the reader has kept are those of this picture that are to be kept
+abbrev pub KeepsMarkersOf : Meaning → ReaderState → Type 0
+KeepsMarkersOf M r = r.file.reading.items.held.kept ≡ (kept_for (keeping_of r.file) M).kept
+
+-- the head is that of this picture
+abbrev pub TellsHead : Option StripHead → Meaning → Type 0
+TellsHead None M = ⊥
+TellsHead (Some h) M = IsHeadOfPicture h M
+
+-- ALL BLOCKS of a picture with this frame, of which the reader keeps those of one MCU row
+pub record HasAllBlocks (f : Frame) (blocks : Blocks) : Type 0 where
+  pub all : Picture
+  pub framed : all.frame ≡ f
+  pub range : AreInRange (bounds f) (map_of all)
+  pub real : blocks ≡ real_blocks f (map_of all)
+
 -- A complete file, all whose MCU rows were given.
 pub record IsDoneByRows (bytes : List ℕ) (m : ℕ) (r : ReaderState) : Type 0 where
   pub done : r.done ≡ true
   pub meaning : Meaning
   pub whole : IsWholeFile r.limits bytes meaning
+  pub kept : KeepsMarkersOf meaning r
   pub begun : HasBegunRows bytes r
+  pub head : TellsHead r.strip meaning
+  pub all : HasAllBlocks (frame_of r.limits begun.before) meaning.blocks
   pub blocks : Blocks
   pub completed : CompletesRows r.limits bytes m blocks
 
@@ -154,6 +181,9 @@ pub record IsEarlyByRows (bytes : List ℕ) (m : ℕ) (r : ReaderState) : Type 0
   pub begun : HasBegunRows bytes r
   pub meaning : Meaning
   pub early : MeansEarly r.limits bytes meaning
+  pub kept : KeepsMarkersOf meaning r
+  pub head : TellsHead r.strip meaning
+  pub all : HasAllBlocks (frame_of r.limits begun.before) meaning.blocks
   pub rows : m + unfinished begun.rows ≡ rows_of_scan r.limits begun.before begun.contents
   pub blocks : Blocks
   pub completed : CompletesRows r.limits bytes m blocks
@@ -193,7 +223,16 @@ AfterFeedRow bytes m piece (Err (stop.Fault f)) r =
     IsStopOf r.limits (bytes ++ piece) f × (length bytes ≤ f.at) × KeepsHeadAt r.limits (bytes ++ piece) f r.file.head × StopsSoFar (take f.at (bytes ++ piece)) m r
 AfterFeedRow bytes m piece (Err stop.NoMemory) r = KeepsHead r.limits (length bytes) (bytes ++ piece) r.file.head × (r.rows ≡ None) × HasNoRows r.limits bytes
 
+-- The same where markers are kept: memory may be asked for also after rows began.
+abbrev pub AfterFeedKeeping : List ℕ → ℕ → List ℕ → Result FedRow Stop → ReaderState → Type 0
+AfterFeedKeeping bytes m piece (Ok x) r = AfterFeedRow bytes m piece (Ok x) r
+AfterFeedKeeping bytes m piece (Err (stop.Fault f)) r = AfterFeedRow bytes m piece (Err (stop.Fault f)) r
+AfterFeedKeeping bytes m piece (Err stop.NoMemory) r = KeepsHead r.limits (length bytes) (bytes ++ piece) r.file.head
+
 -- for all bytes that were fed before, by which this many MCU rows were given
+abbrev pub FeedsKeeping : ReaderState → List ℕ → Result FedRow Stop → ReaderState → Type 0
+FeedsKeeping old piece answer new = (bytes : List ℕ) (m : ℕ) → HasReadSoFar bytes m old → AfterFeedKeeping bytes m piece answer new
+
 abbrev pub FeedsRow : ReaderState → List ℕ → Result FedRow Stop → ReaderState → Type 0
 FeedsRow old piece answer new = (bytes : List ℕ) (m : ℕ) → HasReadSoFar bytes m old → AfterFeedRow bytes m piece answer new
 
@@ -201,6 +240,10 @@ FeedsRow old piece answer new = (bytes : List ℕ) (m : ℕ) → HasReadSoFar by
 abbrev pub AsksOnFeedRow : ReaderState → List ℕ → Result FedRow Stop → ReaderState → Type 0
 AsksOnFeedRow old piece answer new =
     (bytes : List ℕ) (m : ℕ) → HasReadSoFar bytes m old → answer ≡ Err stop.NoMemory → AsksForMemory new.limits (length bytes) (bytes ++ piece) new.file.head
+
+-- The same where markers are kept, if no rows are read then.
+abbrev pub AsksOnFeedKeeping : ReaderState → List ℕ → Result FedRow Stop → ReaderState → Type 0
+AsksOnFeedKeeping old piece answer new = new.rows ≡ None → AsksOnFeedRow old piece answer new
 
 -- the word that keeps `done`
 abbrev pub EndsDoneRow : Result FedRow Stop → ReaderState → Type 0

@@ -7,7 +7,7 @@ ghost use Rattle.jpg_base.specs.declared.stop.Stop.{Stop as Stopped};
 ghost use Rattle.jpg_file.specs.Read.File.{keeping_of};
 ghost use Rattle.jpg_file.specs.Read.PictureRead.{TakesEarly, TakesPicture};
 ghost use Rattle.jpg_file.specs.Read.ReadFile.{AfterEnd, AsksOnFeed, EndsDone, EndsWith, FeedsFile, HasRead, TellsBegun, head_seen};
-ghost use Rattle.jpg_file.specs.Read.ReadRows.{AsksOnFeedRow, IsPlain, EndsDoneRow, EndsRow, FeedsRow, HasBegunRows, HasGivenRow, HasReadPlainly, HasReadRows, picture_read};
+ghost use Rattle.jpg_file.specs.Read.ReadRows.{AsksOnFeedKeeping, AsksOnFeedRow, FeedsKeeping, IsByRow, IsPlain, EndsDoneRow, EndsRow, FeedsRow, HasBegunRows, HasGivenRow, HasReadPlainly, HasReadRows, picture_read};
 ghost use Rattle.jpg_file.specs.Read.RowsKnown.{TellsStrip};
 ghost use Rattle.jpg_file.specs.Read.ScanPieces.{AsksOnFeedScan, EndsDoneScan, FeedsScan};
 ghost use Rattle.jpg_file.specs.Read.ScansEnded.{ScansEnded};
@@ -24,9 +24,11 @@ use crate::read::strip_head::StripHead;
 use crate::read::strip_work::StripWork;
 use jpg_base::{Fed, Frame, Limits, Stop};
 use jpg_coefs::Coefs;
+use jpg_markers::KeptList;
 use jpg_spec::{Colour, Copying};
 use std::alloc::Global;
 use std::marker::Model;
+use std::mem;
 
 /// Reads a file into a picture (`feed`); or (`feed_row`) MCU row by MCU row, if its first scan has all components of a
 /// sequential frame, and otherwise into a picture too.
@@ -36,6 +38,8 @@ pub struct Reader {
     limits: Limits,
     // The state of the file.
     work: StripWork,
+    // It is read MCU row by MCU row, and no markers are kept but JFIF and Adobe segments.
+    by_row: bool,
     // The file is complete, or ended early.
     done: bool,
     // Why the reader stopped, if it did.
@@ -48,9 +52,9 @@ impl Model for Reader {
 
     ghost Value = { ReaderState };
 
-    ghost view = { λ r. record { limits = r.limits; file = r.work.file; by_row = r.work.by_row; rows = r.work.rows; strip = r.work.strip; done = r.done; stop = r.stop } };
+    ghost view = { λ r. record { limits = r.limits; file = r.work.file; by_row = r.by_row; in_rows = r.work.by_row; rows = r.work.rows; strip = r.work.strip; done = r.done; stop = r.stop } };
 
-    ghost invariant = { λ r. IsReading (record { limits = r.limits; file = r.work.file; by_row = r.work.by_row; rows = r.work.rows; strip = r.work.strip; done = r.done; stop = r.stop }) };
+    ghost invariant = { λ r. IsReading (record { limits = r.limits; file = r.work.file; by_row = r.by_row; in_rows = r.work.by_row; rows = r.work.rows; strip = r.work.strip; done = r.done; stop = r.stop }) };
 }
 
 impl Reader {
@@ -94,6 +98,7 @@ impl Reader {
                 rows: None,
                 strip: None,
             },
+            by_row: false,
             done: false,
             stop: None,
         }
@@ -115,6 +120,30 @@ impl Reader {
                 rows: None,
                 strip: None,
             },
+            by_row: true,
+            done: false,
+            stop: None,
+        }
+    }
+
+    /// A reader for `feed_keeping` in place of `feed`. Of the markers it keeps only those that this passes on, and JFIF and
+    /// Adobe segments.
+    pub fn strips_keeping(alloc: Global, limits: Limits, copying: Copying) -> Reader
+        requires { AreLimits limits }
+        ensures read { HasReadPlainly [] result }
+        ensures limits { result.limits ≡ limits }
+        ensures keeping { keeping_of result.file ≡ copying }
+        ensures in_rows { result.in_rows ≡ true }
+    {
+        Reader {
+            limits,
+            work: StripWork {
+                file: FileWork::new(alloc, limits, copying, Orders::by_rows()),
+                by_row: true,
+                rows: None,
+                strip: None,
+            },
+            by_row: false,
             done: false,
             stop: None,
         }
@@ -204,6 +233,42 @@ impl Reader {
         ensures keeping { keeping_of self.new.file ≡ keeping_of self.old.file }
         ensures by_row { self.new.by_row ≡ true }
     {
+        self.next_row(piece)
+    }
+
+    /// As `feed_row`, of a reader of `strips_keeping`. It returns NoMemory also after rows began, where a marker is to be
+    /// kept.
+    pub fn feed_keeping(&mut self, piece: &[u8]) -> Result<FedRow, Stop>
+        requires undone { self.old.done ≡ false }
+        requires in_rows { self.old.in_rows ≡ true }
+        ensures answered { FeedsKeeping self.old piece.now result self.new }
+        ensures memory { AsksOnFeedKeeping self.old piece.now result self.new }
+        ensures done { EndsDoneRow result self.new }
+        ensures stopped { (stop : Stopped) → result ≡ Err stop → self.new.stop ≡ Some stop }
+        ensures again { (stop : Stopped) → self.old.stop ≡ Some stop → (result ≡ Err stop) × (self.new ≡ self.old) }
+        ensures limits { self.new.limits ≡ self.old.limits }
+        ensures keeping { keeping_of self.new.file ≡ keeping_of self.old.file }
+        ensures in_rows { self.new.in_rows ≡ true }
+    {
+        self.next_row(piece)
+    }
+
+    // Takes a further piece, up to the byte with the last bit of the next MCU row.
+    fn next_row(&mut self, piece: &[u8]) -> Result<FedRow, Stop>
+        requires undone { self.old.done ≡ false }
+        requires by_row { IsByRow self.old }
+        ensures answered { FeedsKeeping self.old piece.now result self.new }
+        ensures sparing { self.old.by_row ≡ true → FeedsRow self.old piece.now result self.new }
+        ensures memory { AsksOnFeedKeeping self.old piece.now result self.new }
+        ensures asks { self.old.by_row ≡ true → AsksOnFeedRow self.old piece.now result self.new }
+        ensures done { EndsDoneRow result self.new }
+        ensures stopped { (stop : Stopped) → result ≡ Err stop → self.new.stop ≡ Some stop }
+        ensures again { (stop : Stopped) → self.old.stop ≡ Some stop → (result ≡ Err stop) × (self.new ≡ self.old) }
+        ensures limits { self.new.limits ≡ self.old.limits }
+        ensures keeping { keeping_of self.new.file ≡ keeping_of self.old.file }
+        ensures by_row { self.new.by_row ≡ self.old.by_row }
+        ensures in_rows { self.new.in_rows ≡ self.old.in_rows }
+    {
         if let Some(stop) = self.stop {
             return Err(stop);
         }
@@ -257,6 +322,7 @@ impl Reader {
         ensures done { EndsWith result self.new }
         ensures file { self.new.file ≡ self.old.file }
         ensures rows { (self.new.rows ≡ self.old.rows) × (self.new.strip ≡ self.old.strip) × (self.new.by_row ≡ self.old.by_row) }
+        ensures in_rows { self.new.in_rows ≡ self.old.in_rows }
         ensures again { (stop : Stopped) → self.old.stop ≡ Some stop → (result ≡ ends.Stop stop) × (self.new ≡ self.old) }
         ensures limits { self.new.limits ≡ self.old.limits }
         ensures keeping { keeping_of self.new.file ≡ keeping_of self.old.file }
@@ -325,7 +391,27 @@ impl Reader {
     {
         self.done = false;
         self.stop = Some(Stop::NoMemory);
+        self.by_row = false;
         self.work.by_row = false;
         picture_of(&mut self.work.file)
+    }
+    /// The markers that were kept, of the complete file or of one that ended early. It may be called only after `feed` or
+    /// `feed_keeping` returned Done or `end` returned Early (`is_done`). The reader has nothing left then, and returns
+    /// NoMemory for further pieces.
+    pub fn take_kept(&mut self) -> KeptList
+        requires { self.old.done ≡ true }
+        ensures kept { result ≡ self.old.file.reading.items.held.kept }
+        ensures over { (self.new.done ≡ false) × (self.new.stop ≡ Some Stopped.NoMemory) }
+        ensures limits { self.new.limits ≡ self.old.limits }
+    {
+        self.done = false;
+        self.stop = Some(Stop::NoMemory);
+        self.by_row = false;
+        self.work.by_row = false;
+        let alloc = self.work.file.alloc;
+        mem::replace(
+            &mut self.work.file.reading.items.held.kept,
+            KeptList::new(alloc),
+        )
     }
 }

@@ -8,6 +8,7 @@ returns-clause-read c = read_nothing c.args.limits _ c.requires refl refl refl r
 pub invariant_of-result : goal.invariant_of-result
 invariant_of-result c = record {
   limited = c.requires;
+  in_rows = λ by. refl;
   keeping = λ by. c.new.ensures.keeping;
   sparing = λ by. tt;
   «open» = λ none undone. ([], record { stands = c.new.ensures.stands; last = λ some. absurd cc });
