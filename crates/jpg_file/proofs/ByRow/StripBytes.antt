@@ -249,7 +249,7 @@ module _ (bytes : List ℕ) (w : FileWork) (scan : InScan) (rows : RowWork) (r :
   -- A BYTE
   pub byte_at_fault : (byte : ℕ) (given : Result Bool Fault) (fault : Fault) → rows.waiting ≡ [] → StopsByteInRow scan rows byte given → given ≡ Err fault
       → RowsSoFar (limits_of w) (bytes ++ byte ∷ []) rows
-  byte_at_fault byte given fault none stops is =
+  byte_at_fault b given fault none stops is =
       inr (segments_of r.items, r.contents, stops fault (limits_of w) r.items r.contents bytes r.whole is r.row (ready_data bytes w scan rows r none) ((r.held).of, (r.at).at))
 
   -- a marker that ends the scan
@@ -413,9 +413,9 @@ pub record ReadWhole (limits : Limits) (bytes : List ℕ) (w : FileWork) : Type 
   pub taken : file.reading.taken ≡ w.reading.taken
 
 pub strip_whole : (limits : Limits) (bytes : List ℕ) (rows : Option RowWork) (w : FileWork) → StripGoes limits bytes rows w → ReadWhole limits bytes w
-strip_whole limits bytes None w g = record { file = w; stands = g; head = refl; limits_same = refl; taken = refl }
-strip_whole limits bytes (Some rows) w g =
-    let k = goes_stands limits bytes w rows g in
+strip_whole l bytes None w g = record { file = w; stands = g; head = refl; limits_same = refl; taken = refl }
+strip_whole l bytes (Some rows) w g =
+    let k = goes_stands l bytes w rows g in
     record { file = with_picture w k.0; stands = k.1; head = refl; limits_same = refl; taken = refl }
 
 pub strip_limits : (limits : Limits) (bytes : List ℕ) (rows : Option RowWork) (w : FileWork) → StripGoes limits bytes rows w → limits_of w ≡ limits

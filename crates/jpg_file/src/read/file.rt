@@ -1,5 +1,5 @@
 //! A file, read byte by byte, or MCU row by MCU row if its first scan has all components (T.81, A.2.3, B.2.1).
-ghost use Rattle.std.specs.Prelude.{◌≡◌, ◌<◌, ◌+◌, ◌++◌, ℕ, List, [], ◌∷◌, ◌≤◌, length, slice_index, Some, if◌then◌else◌, is_some, true, false, None, IfErr, IfOk, Err};
+ghost use Rattle.std.specs.Prelude.{◌≡◌, ◌<◌, ◌+◌, ℕ, List, [], ◌≤◌, length, slice_index, Some, if◌then◌else◌, is_some, true, false, None, IfErr, IfOk, Err};
 ghost use Rattle.jpg_spec.specs.FrameHeader.{AreLimits};
 ghost use Rattle.jpg_coefs.specs.Picture.{Picture};
 ghost use Rattle.jpg_file.specs.Read.File.{HasCompleteHeader, NotesHead, PassesFront, RoomMade, RepresentsFile, TakesFileByte, TakesFileEnd, TakesFileHead, TakesFileStep, TakesSome, keeping_of, limits_of, scans_ended, with_picture};

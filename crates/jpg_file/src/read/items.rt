@@ -1,13 +1,12 @@
 //! The items of a file, byte by byte, scan data left out (T.81, B.1.1, B.2.1).
-ghost use Rattle.std.specs.Prelude.{◌≡◌, ◌<◌, ◌+◌, ◌++◌, ◌≤◌, ℕ, List, [], ◌∷◌, length, None, true};
+ghost use Rattle.std.specs.Prelude.{◌≡◌, ◌<◌, ◌+◌, ◌≤◌, ℕ, List, [], length, None, true};
 ghost use Rattle.jpg_spec.specs.FrameHeader.{AreLimits};
 ghost use Rattle.jpg_spec.specs.Scan.{Blocks};
 ghost use Rattle.jpg_spec.specs.Items.{Item};
 ghost use Rattle.jpg_spec.specs.FileMeaning.{no_blocks};
-ghost use Rattle.jpg_spec.specs.declared.frame.Limits.{Limits as Bounded};
 ghost use Rattle.jpg_markers.specs.Reading.{HasRoom, PassesDue, reading_of};
 ghost use Rattle.jpg_file.specs.Read.Passing.{HasNoneToPass};
-ghost use Rattle.jpg_file.specs.Read.Items.{BetweenItems, BehindHead, AfterSegment, JudgesSegment, PassesItems, TakesItemByte, TakesMarker};
+ghost use Rattle.jpg_file.specs.Read.Items.{BetweenItems, BehindHead, JudgesSegment, PassesItems, TakesItemByte, TakesMarker};
 
 use crate::read::segment_state::{SegmentState, SegmentTaken};
 use jpg_base::codes::SOS;

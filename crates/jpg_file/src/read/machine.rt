@@ -1,5 +1,5 @@
 //! The machine that reads a scan, of whatever kind it is, and the data bytes that are given to it (T.81, F.2.2, G.2).
-ghost use Rattle.std.specs.Prelude.{◌<◌, ◌≤◌, ◌*◌, Bool, List, [], length, drop, ◌≡◌, false, take};
+ghost use Rattle.std.specs.Prelude.{◌<◌, ◌≤◌, Bool, List, [], length, ◌≡◌, false, take};
 ghost use Rattle.jpg_spec.specs.Bits.{bits_of_bytes, bits_of};
 ghost use Rattle.jpg_coefs.specs.Machine.{Interval};
 ghost use Rattle.jpg_file.specs.Read.Data.{GivesRun, GivesBits};

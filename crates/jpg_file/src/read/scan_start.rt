@@ -1,10 +1,7 @@
 //! The start of a scan: its header, judged by the tables and the scans before it, its machine, its tables and its first
 //! interval (T.81, A.2, B.2.3, E.1.4, G.1.1.1).
-ghost use Rattle.std.specs.Prelude.{◌≡◌, ◌<◌, ◌≤◌, ◌==◌, if◌then◌else◌, min, false, true, ℕ, List, Some};
+ghost use Rattle.std.specs.Prelude.{◌≡◌, ◌<◌, ◌≤◌, ◌==◌, if◌then◌else◌, min, false, true, Some};
 ghost use Rattle.jpg_spec.specs.Geometry.{is_progressive};
-ghost use Rattle.jpg_spec.specs.Items.{Item};
-ghost use Rattle.jpg_spec.specs.Scan.{Blocks};
-ghost use Rattle.jpg_spec.specs.declared.frame.Limits.{Limits};
 ghost use Rattle.jpg_coefs.specs.Picture.{Picture};
 ghost use Rattle.jpg_prog_read.specs.DcNew.{IsBare as IsBareFirst, IsDcHead};
 ghost use Rattle.jpg_prog_read.specs.declared.dc_first.DcFirst.{DcFirst as First};

@@ -1,9 +1,7 @@
 //! What the segments of a file define (T.81, B.2).
-ghost use Rattle.std.specs.Prelude.{◌≡◌, ◌≤◌, ◌==◌, ◌&&◌, ◌<◌, All, is_none, not, true, List, [], ◌∷◌, length, Some, None};
+ghost use Rattle.std.specs.Prelude.{◌≡◌, ◌≤◌, ◌==◌, ◌&&◌, ◌<◌, All, is_none, true, List, [], length, Some, None};
 ghost use Rattle.jpg_spec.specs.FrameHeader.{AreLimits};
-ghost use Rattle.jpg_spec.specs.HuffContents.{huffman_in};
-ghost use Rattle.jpg_spec.specs.History.{needs_ac_table, needs_dc_table};
-ghost use Rattle.jpg_spec.specs.Markers.{Segment, is_within, kept_rule, process_of_code};
+ghost use Rattle.jpg_spec.specs.Markers.{Segment, process_of_code};
 ghost use Rattle.jpg_spec.specs.declared.frame.Limits.{Limits as Bounded};
 ghost use Rattle.jpg_file.specs.Read.Keeping.{is_wanted};
 ghost use Rattle.jpg_file.specs.Read.SegmentState.{ChangesNothing, Holds, HoldsSegment, IsToKeep, TakesSegment, lacks_any, lacks_part, segments_view};
