@@ -28,7 +28,7 @@ use Rattle.jpg_file.specs.Read.FirstHeader.{IsFirstHeader, IsFirstHeaderOf}
 use Rattle.jpg_file.specs.Read.File.{IsStop}
 use Rattle.jpg_file.specs.Read.ReadFile.{HasRead, IsDone, KeepsHeadAt, ReaderState}
 use Rattle.jpg_file.specs.declared.read.first_header.Head.{Head}
-use Rattle.jpg_file.proofs.Headers.FirstHeaders.{no_head}
+use Rattle.jpg_file.proofs.Headers.InForce.{no_head}
 use Rattle.jpg_desk.specs.ReadPicture.{IsRefused, IsRefusedFor, IsUnwanted, fault_told, unwanted_for, unwanted_in, Wanted, Coefficients, Image}
 use Rattle.jpg_desk.proofs.RefusedOnce.{one_refusal}
 use Rattle.jpg_desk.proofs.Judged.{none_out}

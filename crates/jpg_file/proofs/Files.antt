@@ -1,14 +1,7 @@
-pub mod Ending
 pub mod FileSteps
-pub mod Going
 pub mod ItemBytes
 pub mod Keeping
 pub mod Leaving
-pub mod LeftOut
-pub mod Passing
-pub mod PictureSteps
 pub mod PieceSteps
 pub mod ReaderFed
-pub mod ReaderScans
 pub mod ScanPieces
-pub mod ScansEnded

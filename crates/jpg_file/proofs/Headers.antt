@@ -1,11 +1,2 @@
-pub mod FirstHeaders
-pub mod HeaderBits
-pub mod HeaderReady
-pub mod HeaderTables
 pub mod HeaderTaken
 pub mod InForce
-pub mod JudgedHeaders
-pub mod Lacking
-pub mod Parameters
-pub mod ProgressiveRoom
-pub mod ScanHistories

@@ -1,12 +1,8 @@
-pub mod Chains
-pub mod InIntervals
 pub mod IntervalFits
 pub mod Machines
-pub mod NewScans
 pub mod Runs
 pub mod ScanBytes
 pub mod ScanLeft
-pub mod ScanRuns
 pub mod ScanStarts
 pub mod Scannings
 pub mod UnitsWithin

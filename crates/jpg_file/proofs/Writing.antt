@@ -1,12 +1,8 @@
 pub mod AllWritten
-pub mod CountsKept
-pub mod DueTables
-pub mod FewElements
 pub mod FewSymbols
 pub mod SameUnits
 pub mod ScanData
 pub mod ScanHeads
 pub mod ScansDue
 pub mod SoleScan
-pub mod TableSets
 pub mod WrittenText

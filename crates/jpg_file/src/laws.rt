@@ -6,7 +6,7 @@ ghost use Rattle.jpg_file.specs.Laws.{HasNoFault};
 ghost use Rattle.jpg_file.specs.Read.RowPlaces.{RowsAreDueInOrder};
 
 /// No bytes are left out: they are a complete file, or a file that ends early, or have a first fault (T.81, B.2.1).
-#[tactic(auto, using(crate::proofs::Files::LeftOut::not_left_out))]
+#[tactic(auto, using(crate::proofs::Files::ItemBytes::not_left_out))]
 pub fn no_file_is_left_out()
     ensures { (limits : Limits) (bytes : List ℕ) → HasNoFault limits bytes → (HasMeaning limits bytes → ⊥) → (IsEarly limits bytes → ⊥) → ⊥ }
 {}

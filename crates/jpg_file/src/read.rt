@@ -1,6 +1,5 @@
 //! A file read piece by piece (T.81, B.2.1).
 
-pub mod data;
 pub mod ends;
 pub mod file;
 pub mod first_header;
@@ -9,18 +8,14 @@ pub mod machine;
 pub mod orders;
 pub mod picture;
 pub mod picture_taken;
+pub mod pieces;
 pub mod reader;
 pub mod reading;
-pub mod row_pieces;
 pub mod rows;
 pub mod scan;
-pub mod scan_header;
 pub mod scan_history;
-pub mod scan_pieces;
-pub mod scan_rows;
 pub mod scan_start;
 pub mod segment_state;
 pub mod step;
 pub mod strip_head;
 pub mod strip_work;
-pub mod strips;

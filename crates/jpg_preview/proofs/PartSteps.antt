@@ -11,7 +11,7 @@ use Rattle.jpg_base.specs.declared.stop.Stop.{Stop}
 use Rattle.jpg_base.specs.declared.stop.Stop.TheVariants as stop
 use Rattle.jpg_file.specs.Read.ReadFile.{HasRead, IsEarlyEnd, ReaderState}
 use Rattle.jpg_file.specs.Read.ScanPieces.{AfterFeedScan, NoScanEnds, ScanEnds}
-use Rattle.jpg_file.specs.declared.read.scan_pieces.FedScan.TheVariants as came
+use Rattle.jpg_file.specs.declared.read.pieces.FedScan.TheVariants as came
 use Rattle.jpg_preview.specs.Viewing.{AfterPiece, HasScans, IsShown, LacksScans, Views}
 use Rattle.jpg_preview.proofs.ScansCounted.{none_on, unwanted, wanted_end}
 use Rattle.jpg_preview.proofs.ViewSteps.{fewer_none, none_of_part, stops_front}

@@ -14,8 +14,8 @@ use Rattle.jpg_file.specs.declared.read.ends.End.{End}
 use Rattle.jpg_file.specs.declared.read.picture.Picture.{Picture}
 use Rattle.jpg_file.specs.Read.ReadRows.{IsPlain}
 use Rattle.jpg_file.specs.Read.ScanPieces.{AfterFeedScan, EndsDoneScan, FeedsScan, ScanEnds}
-use Rattle.jpg_file.specs.declared.read.scan_pieces.FedScan.{FedScan}
-use Rattle.jpg_file.specs.declared.read.scan_pieces.FedScan.TheVariants as came
+use Rattle.jpg_file.specs.declared.read.pieces.FedScan.{FedScan}
+use Rattle.jpg_file.specs.declared.read.pieces.FedScan.TheVariants as came
 use Rattle.jpg_spec.specs.FirstFault.{HaveBegun}
 use Rattle.jpg_preview.proofs.PartSteps.{part_done, part_more, part_stop, scan_goes, scan_shown}
 use Rattle.jpg_preview.specs.Viewing.{AfterEarly, AfterPiece, AfterStop, AfterView, EndsThere, HasScans, HasViewed, IsShown, IsUnwanted, IsWanted, PreviewState, Views, ViewsFile, ViewsPiece}

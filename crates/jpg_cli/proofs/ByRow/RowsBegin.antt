@@ -6,7 +6,7 @@ use Rattle.jpg_base.specs.Desk.{Creates, DeskState}
 use Rattle.jpg_spec_words.specs.declared.answers.Why.TheVariants as why
 use Rattle.jpg_spec_words.specs.declared.answers.Which.TheVariants as which
 use Rattle.jpg_file.specs.Read.ReadFile.{ReaderState}
-use Rattle.jpg_file.specs.declared.read.row_pieces.FedRow.{FedRow}
+use Rattle.jpg_file.specs.declared.read.pieces.FedRow.{FedRow}
 use Rattle.jpg_desk.specs.Judging.{ReadsFrom}
 use Rattle.jpg_desk.specs.ReadPicture.{IsShortRead, Image}
 use Rattle.jpg_cli.specs.Tools.Showing.{IsShownByRows, Showing, Shown}

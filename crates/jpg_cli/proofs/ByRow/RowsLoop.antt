@@ -1,7 +1,7 @@
 -- What the steps of a picture that is written row by row result in, step by step.
 use Rattle.std.proofs.Common.{◌≡◌, ℕ, List, subst, Result}
 use Rattle.jpg_base.specs.declared.stop.Stop.{Stop}
-use Rattle.jpg_file.specs.declared.read.row_pieces.FedRow.{FedRow}
+use Rattle.jpg_file.specs.declared.read.pieces.FedRow.{FedRow}
 use Rattle.jpg_cli.specs.Tools.Showing.{Showing}
 use Rattle.jpg_cli.specs.Tools.ShowingRows.{AfterShownPiece, CanDrawPiece, CanEnd, CanFinishImage, CanReadRows, IsShowing, Work, Run}
 use Rattle.jpg_cli.specs.declared.tools.djpeg_rows.RowsStep.{RowsStep}

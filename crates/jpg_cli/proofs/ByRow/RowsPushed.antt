@@ -18,8 +18,8 @@ use Rattle.jpg_spec.proofs.McuRows.RowsOnce.{rows_stay}
 use Rattle.jpg_coefs.specs.Picture.{Picture as Coefs, map_of}
 use Rattle.jpg_file.specs.Read.ReadFile.{ReaderState}
 use Rattle.jpg_file.specs.Read.ReadRows.{AfterFeedRow, AreOfRow, FeedsRow, HasGivenRow}
-use Rattle.jpg_file.specs.declared.read.row_pieces.FedRow.{FedRow}
-use Rattle.jpg_file.specs.declared.read.row_pieces.FedRow.TheVariants as fed
+use Rattle.jpg_file.specs.declared.read.pieces.FedRow.{FedRow}
+use Rattle.jpg_file.specs.declared.read.pieces.FedRow.TheVariants as fed
 use Rattle.jpg_file.specs.declared.read.rows.RowWork.{RowWork}
 use Rattle.jpg_pnm_bmp.specs.EndState.{EndState}
 use Rattle.jpg_color.specs.DecodeRows.{SendsImage}

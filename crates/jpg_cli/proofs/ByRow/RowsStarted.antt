@@ -32,8 +32,8 @@ use Rattle.jpg_file.specs.Read.ReadFile.{ReaderState}
 use Rattle.jpg_file.specs.Read.ReadRows.{AfterFeedRow, HasBegunRows, picture_read}
 use Rattle.jpg_file.specs.Read.RowsKnown.{TellsStrip}
 use Rattle.jpg_file.specs.Read.StripHead.{IsHeadOfPicture}
-use Rattle.jpg_file.specs.declared.read.row_pieces.FedRow.{FedRow}
-use Rattle.jpg_file.specs.declared.read.row_pieces.FedRow.TheVariants as fed
+use Rattle.jpg_file.specs.declared.read.pieces.FedRow.{FedRow}
+use Rattle.jpg_file.specs.declared.read.pieces.FedRow.TheVariants as fed
 use Rattle.jpg_file.specs.declared.read.strip_head.StripHead.{StripHead}
 use Rattle.jpg_pnm_bmp.specs.EndState.{EndState, new_end}
 use Rattle.jpg_pnm_bmp.proofs.SomeBytes.{text_some}

@@ -26,8 +26,8 @@ use Rattle.jpg_file.specs.Read.ReadRows.{AfterEndRow, AfterFeedRow, EndsDoneRow,
 use Rattle.jpg_file.specs.Read.RowsKnown.{TellsStrip}
 use Rattle.jpg_file.specs.Read.RowsNone.{HasNoRows}
 use Rattle.jpg_file.specs.declared.read.ends.End.TheVariants as ends
-use Rattle.jpg_file.specs.declared.read.row_pieces.FedRow.{FedRow}
-use Rattle.jpg_file.specs.declared.read.row_pieces.FedRow.TheVariants as fed
+use Rattle.jpg_file.specs.declared.read.pieces.FedRow.{FedRow}
+use Rattle.jpg_file.specs.declared.read.pieces.FedRow.TheVariants as fed
 use Rattle.jpg_file.specs.declared.read.rows.RowWork.{RowWork}
 use Rattle.jpg_file.specs.declared.read.strip_head.StripHead.{StripHead}
 use Rattle.jpg_spec.specs.Geometry.{Frame}

@@ -6,7 +6,6 @@ use Rattle.std.proofs.lemmas.List.{append_assoc}
 use Rattle.jpg_spec.specs.Colours.{colours_of}
 use Rattle.jpg_spec.specs.Early.{EndsAfter, EndsInside, MeansEarly, segments_with}
 use Rattle.jpg_spec.specs.FileMeaning.{Leads, Means, meaning_of}
-use Rattle.jpg_spec.specs.FirstFault.{HaveBegun}
 use Rattle.jpg_spec.specs.FrameHeader.{identifiers}
 use Rattle.jpg_spec.specs.Geometry.{Frame}
 use Rattle.jpg_spec.specs.History.{quant_of}
@@ -18,7 +17,7 @@ use Rattle.jpg_spec.specs.Meaning.{Meaning, colour_of}
 use Rattle.jpg_spec.specs.RowsParsed.{BeginsScanOfAll, picture_so_far}
 use Rattle.jpg_spec.specs.Scan.{Blocks}
 use Rattle.jpg_spec.specs.declared.frame.Limits.{Limits}
-use Rattle.jpg_spec.proofs.EndsEarly.EarlyBegun.{AllNamed, begun_behind}
+use Rattle.jpg_spec.proofs.EndsEarly.EarlyBegun.{begun_behind}
 use Rattle.jpg_spec.proofs.EndsEarly.EarlySoFar.{IsItemsScan, inside_scan, items_scan}
 use Rattle.jpg_spec.proofs.Headers.ColoursKept.{picture_colours, same_colours_after, same_frame_after, same_jfif_after}
 use Rattle.jpg_spec.proofs.Headers.FileHeader.{HasFirstScan, file_header, items_header}

@@ -25,21 +25,20 @@ use Rattle.jpg_file.specs.Read.Step.{IsNoRow, HasMemory}
 use Rattle.jpg_file.specs.Read.Strips.{AfterStrip, CountsStrip, GoesByRow, GoesOnRest, SparesRows, RepresentsRows, StripGoes, StripRun, RepresentsStrip, TakesResumed, TakesStrip}
 use Rattle.jpg_file.specs.declared.read.file.FileWork.{FileWork}
 use Rattle.jpg_file.specs.declared.read.first_header.Head.{Head}
-use Rattle.jpg_file.specs.declared.read.row_pieces.FedRow.{FedRow}
-use Rattle.jpg_file.specs.declared.read.row_pieces.FedRow.TheVariants as fed
+use Rattle.jpg_file.specs.declared.read.pieces.FedRow.{FedRow}
+use Rattle.jpg_file.specs.declared.read.pieces.FedRow.TheVariants as fed
 use Rattle.jpg_file.specs.declared.read.rows.RowWork.{RowWork}
 use Rattle.jpg_file.specs.declared.read.strip_head.StripHead.{StripHead}
 use Rattle.jpg_file.specs.declared.read.strip_work.StripWork.{StripWork}
 use Rattle.jpg_file.specs.declared.read.step.Step.{Step}
 use Rattle.jpg_file.specs.declared.read.step.Step.TheVariants as step
-use Rattle.jpg_file.proofs.ByRow.RowsGiven.{goes_completes}
+use Rattle.jpg_file.proofs.ByRow.RowsGiven.{goes_completes, begun_on}
 use Rattle.jpg_file.proofs.Files.FileSteps.{between_of}
 use Rattle.jpg_file.proofs.Files.Leaving.{ends_between}
-use Rattle.jpg_file.proofs.Headers.FirstHeaders.{has_longer}
+use Rattle.jpg_file.proofs.Headers.InForce.{has_longer}
 use Rattle.jpg_file.proofs.Files.PieceSteps.{counted, front_is, front_of, head_kept, one_more, piece_long, stands_file, stop_longer, within}
-use Rattle.jpg_file.proofs.ByRow.RowsFed.{begun_on}
 use Rattle.jpg_file.proofs.ByRow.RowsNone.{no_rows, none_in}
-use Rattle.jpg_file.proofs.ByRow.StripPieces.{ReadWhole, open_head, open_limits, strip_limits, strip_whole}
+use Rattle.jpg_file.proofs.ByRow.StripBytes.{ReadWhole, open_head, open_limits, strip_limits, strip_whole}
 
 goes_on : (limits : Limits) (bytes : List ℕ) (rows : Option RowWork) (w : FileWork) → AfterStrip limits bytes step.More rows w → StripGoes limits bytes rows w
 goes_on limits bytes None w a = a

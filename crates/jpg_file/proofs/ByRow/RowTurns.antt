@@ -1,25 +1,51 @@
--- The first MCU row of a scan of all components, and from one row to the next.
-use Rattle.std.proofs.Common.{◌≡◌, ℕ, zero, suc, ◌+◌, ◌-◌, ◌*◌, ◌^◌, ◌<◌, ◌≤◌, ◌==◌, Bool, true, false, cond, List, [], ◌∷◌, length, refl, sym, ap, ◌∙◌, subst, arith, ⊎_elim}
-use Rattle.std.specs.Prelude.{nat_lt, replicate}
+-- From one MCU row of a scan of all components to the next: blocks, and how many units and MCU rows are left.
+use Rattle.std.proofs.Common.{◌≡◌, ℕ, zero, suc, ◌+◌, ◌-◌, ◌*◌, ◌^◌, ◌<◌, ◌≤◌, ◌==◌, Bool, true, false, cond, List, [], ◌∷◌, length, refl, sym, ap, ◌∙◌, subst, arith, ⊎_elim, ◌/◌, ◌%◌, ◌++◌, take, drop, get_or}
+use Rattle.std.specs.Prelude.{nat_lt, replicate, min, ◌&&◌, ◌||◌, map, flat_map}
 use Rattle.std.proofs.lemmas.Bool.{cases_lt}
 use Rattle.std.proofs.lemmas.Bool.Decides.{nat_tests}
-use Rattle.std.proofs.lemmas.List.Elements.{All-get_or}
+use Rattle.std.proofs.lemmas.List.Elements.{All-get_or, All-nil}
 use Rattle.std.proofs.lemmas.Nat.{mul-le}
-use Rattle.std.proofs.Math.Nat.{add-mul, div-le_self, le-div_iff_mul-le}
+use Rattle.std.proofs.Math.Nat.{add-mul, div-le_self, le-div_iff_mul-le, div-add-mod', div-lt_iff_lt-mul, mod-lt}
 use Rattle.jpg_spec.specs.Elements.{zeros}
-use Rattle.jpg_spec.specs.Geometry.{Frame, component_at, div_up, h_max, mcu_units, no_component, scan_mcus_across, units, v_max}
+use Rattle.jpg_spec.specs.Geometry.{Frame, component_at, div_up, h_max, mcu_units, no_component, scan_mcus_across, units, v_max, blocks_across, mcu_part, mcus_across, place}
 use Rattle.jpg_spec.specs.FrameHeader.{HasFactors, IsFrame}
 use Rattle.jpg_spec.specs.Scan.{Blocks}
-use Rattle.jpg_spec.proofs.Basics.Common.{both, lt_of, lt_yes, not_same}
+use Rattle.jpg_spec.proofs.Basics.Common.{both, lt_of, lt_yes, not_same, clash, same_of, zero_is}
 use Rattle.jpg_base.specs.Cursor.{AreIn, scan_mcus_down}
 use Rattle.jpg_base.proofs.Grids.{across_low, down_high, down_low}
-use Rattle.jpg_base.proofs.ScanPlaces.{few_blocks}
+use Rattle.jpg_base.proofs.ScanPlaces.{few_blocks, all_rows, all_row, all_ids}
 use Rattle.jpg_base.proofs.UnitCounts.{length_units, some_factors}
-use Rattle.jpg_coefs.specs.Picture.{is_padded}
+use Rattle.jpg_coefs.specs.Picture.{is_padded, Picture, map_of}
 use Rattle.jpg_coefs.proofs.Maps.{blank_is}
 use Rattle.jpg_seq.specs.Rows.{row_units, rows_in_mcu, top_of}
-use Rattle.jpg_file.specs.Read.RowTurns.{IsRowIn, KeepsRowIn, TurnsRow, block_rows_of, unfinished}
+use Rattle.jpg_file.specs.Read.RowTurns.{IsRowIn, KeepsRowIn, TurnsRow, block_rows_of, unfinished, CountsScan, IsBlankAfter}
 use Rattle.jpg_file.specs.declared.read.rows.RowWork.{RowWork}
+use Rattle.jpg_spec.specs.FileMeaning.{scan_after, no_blocks}
+use Rattle.jpg_spec.specs.InForce.{frame_of, head_in}
+use Rattle.jpg_spec.specs.Items.{Item, segments_of}
+use Rattle.jpg_spec.specs.Segments.{ScanHead, head_components}
+use Rattle.jpg_spec.specs.declared.frame.Limits.{Limits}
+use Rattle.jpg_coefs.specs.declared.machine.Taken.{Taken}
+use Rattle.jpg_coefs.specs.declared.machine.Taken.TheVariants as taken
+use Rattle.jpg_file.specs.Read.Machine.{any_scan}
+use Rattle.jpg_file.specs.Read.RowCounts.{CountsRow}
+use Rattle.jpg_file.specs.Read.InData.{work_after}
+use Rattle.jpg_file.specs.Read.RowPlaces.{scan_left}
+use Rattle.jpg_file.specs.Read.Step.{IsNoRow}
+use Rattle.jpg_file.specs.Read.Strips.{CountsRows}
+use Rattle.jpg_file.specs.declared.read.step.Step.{Step}
+use Rattle.jpg_file.specs.declared.read.step.Step.TheVariants as step
+use Rattle.jpg_file.specs.declared.read.machine.ScanReader.{ScanReader}
+use Rattle.jpg_file.specs.declared.read.scan.ScanWork.{ScanWork}
+use Rattle.std.specs.List.{All}
+use Rattle.std.proofs.lemmas.List.{get_or-drop, get_or-take, get_or_append_left, length-append, length-drop, length-take}
+use Rattle.jpg_spec.specs.Lists.{any_of, below}
+use Rattle.jpg_spec.specs.PictureInWork.{is_at}
+use Rattle.jpg_spec.specs.declared.frame.Place.{Place}
+use Rattle.jpg_spec.specs.ScanRows.{scan_row}
+use Rattle.jpg_seq.proofs.ScanRows.{row_next}
+
+-- The first MCU row of a scan of all components, and from one row to the next.
 
 -- AT LEAST ONE ROW
 
@@ -186,3 +212,202 @@ tops_few f ids n w k i =
     let all : top_of w.tops i + top_of w.steps i ≡ (a.row + 1) * block_rows_of f i = ap (λ t. t + top_of w.steps i) (k.tops i) ∙ ap (λ t. a.row * block_rows_of f i + t) (k.steps i) ∙ sym (add-mul a.row 1 (block_rows_of f i) ∙ omega arith) in
     let most : (a.row + 1) * block_rows_of f i ≤ 2 ^ 20 * 4 = mul-le (a.row + 1) (block_rows_of f i) (2 ^ 20) 4 (omega (arith, a.count, rows_down f ids a.frame a.there)) (rows_few f i a.frame) in
     omega (arith, all, most)
+
+-- The number of units that are left of a scan, and of its current MCU row.
+
+-- the next interval's units are those that were left
+pub interval_left : (w : ScanWork) (m : ScanReader) (n turn : ℕ) → w.whole ≡ true → any_scan.left m ≡ n → n ≡ min w.interval w.due → scan_left (record w { machine = m; whole = false; due = w.due - n; turn = turn }) ≡ scan_left w
+interval_left w m n turn whole left few =
+    let old : scan_left w ≡ w.due = ap (λ b. w.due + cond b 0 (any_scan.left w.machine)) whole ∙ omega arith in
+    omega (arith, old, left, few)
+
+-- all of a scan that begins
+pub begun_left : (w : ScanWork) (all first : ℕ) → w.whole ≡ false → w.due ≡ all - first → any_scan.left w.machine ≡ first → first ≤ all → scan_left w ≡ all
+begun_left w all first whole due left few =
+    let is : scan_left w ≡ w.due + any_scan.left w.machine = ap (λ b. w.due + cond b 0 (any_scan.left w.machine)) whole in
+    omega (arith, is, due, left, few)
+
+pub begun_places : (limits : Limits) (items : List Item) (contents : List ℕ) (f : Frame) (head : ScanHead) → frame_of limits (segments_of items) ≡ f → head_in f contents ≡ head → length (scan_after limits (segments_of items) contents).places ≡ length (units f (head_components head))
+begun_places limits items contents f head framed header =
+    ap (λ (g : Frame). length (units g (head_components (head_in g contents)))) framed ∙ ap (λ (h : ScanHead). length (units f (head_components h))) header
+
+-- no unit is complete
+pub none_counted : (old new : ScanWork) (w : RowWork) → scan_left new ≡ scan_left old → w.waiting ≡ [] → CountsScan old w false new w
+none_counted old new w left none = record {
+  tops = refl;
+  steps = refl;
+  units = refl;
+  later = refl;
+  passed = 0;
+  left = omega arith;
+  scan = omega (arith, left);
+  whole = λ e. absurd cc;
+  goes = λ e z. z;
+  wait = λ some. absurd (omega (arith, some, ap length none));
+}
+
+data_left : (answer : Taken) (old : ScanWork) (m : ScanReader) (passed : ℕ) → old.whole ≡ false → any_scan.left old.machine ≡ any_scan.left m + passed → (answer ≡ taken.IntervalDone → any_scan.left m ≡ 0) → scan_left old ≡ scan_left (work_after old m answer) + passed
+data_left answer old m passed due left ended =
+    let a : scan_left old ≡ old.due + any_scan.left old.machine = ap (λ b. old.due + cond b 0 (any_scan.left old.machine)) due in
+    omega (arith, a, left, by answer ended)
+  where
+    by : (answer : Taken) → (answer ≡ taken.IntervalDone → any_scan.left m ≡ 0) → scan_left (work_after old m answer) ≡ old.due + any_scan.left m
+    by taken.More ended = refl
+    by taken.Units ended = refl
+    by taken.IntervalDone ended = omega (arith, ended refl)
+    by (taken.Fault f) ended = refl
+
+-- data of the current scan
+pub counts_scan : (old : ScanWork) (w : RowWork) (answer : Taken) (new : ScanWork) (after : RowWork) (m : ScanReader) → old.whole ≡ false → 1 ≤ w.left → CountsRow w old.machine answer after m → new ≡ work_after old m answer
+    → CountsScan old w (after.left == 0) new after
+counts_scan old w answer new after m due some c is = record {
+  tops = c.tops;
+  steps = c.steps;
+  units = c.units;
+  later = c.later;
+  passed = c.passed;
+  left = c.left;
+  scan = data_left answer old m c.passed due c.interval c.ended ∙ ap (λ (s : ScanWork). scan_left s + c.passed) (sym is);
+  whole = λ e. (some, same_of after.left 0 e);
+  goes = λ e z. absurd (clash (after.left == 0) (zero_is after.left z) e);
+  wait = λ more. zero_is after.left (c.wait more);
+}
+
+-- So the row remains in its scan.
+pub counts_in : (f : Frame) (ids : List ℕ) (old new : ScanWork) (w after : RowWork) (row : Bool) → IsRowIn f ids w (scan_left old) → CountsScan old w row new after → IsRowIn f ids after (scan_left new)
+counts_in f ids old new w after row k c =
+    let a = k.at in
+    let behind : after.later * after.units ≡ w.later * w.units = ap (λ l. l * after.units) c.later ∙ ap (λ u. w.later * u) c.units in
+    record {
+      at = record {
+        frame = a.frame;
+        there = a.there;
+        all = a.all;
+        row = a.row;
+        begins = λ i lt. ap (λ (l : List ℕ). top_of l i) c.tops ∙ a.begins i lt;
+        size = c.units ∙ a.size;
+        count = ap (λ l. a.row + 1 + l) c.later ∙ a.count;
+        few = omega (arith, a.few, c.left, c.units);
+        sum = omega (arith, a.sum, c.left, c.scan, behind);
+      };
+      steps = λ i. ap (λ (l : List ℕ). top_of l i) c.steps ∙ k.steps i;
+      tops = λ i. ap (λ (l : List ℕ). top_of l i) c.tops ∙ k.tops i;
+      some = omega (arith, c.units, k.some);
+    }
+
+-- AND A FURTHER ROW IS COMPLETE, or none
+pub counts_rows : (old new : ScanWork) (w after : RowWork) (row : Bool) (result : Step) → CountsScan old w row new after → result ≡ cond row step.Row step.More → CountsRows result w after
+counts_rows old new w after row result c is = subst (λ (s : Step). CountsRows s w after) (sym is) (by row c)
+  where
+    by : (row : Bool) → CountsScan old w row new after → CountsRows (cond row step.Row step.More) w after
+    by true c = let e = c.whole refl in part_counted w e.0 ∙ omega (arith, c.later, whole_counted after e.1)
+    by false c = ⊎_elim
+        (λ (h : 0 < after.left). part_counted after (omega (arith, h)) ∙ omega (arith, c.later) ∙ sym (part_counted w (omega (arith, h, c.left))))
+        (λ (h : after.left ≤ 0). (let z = c.goes refl (omega (arith, h)) in whole_counted after (omega (arith, h)) ∙ c.later ∙ sym (whole_counted w z)))
+        (cases_lt 0 after.left)
+
+-- none
+pub same_rows : (w after : RowWork) (result : Step) → IsNoRow result → unfinished after ≡ unfinished w → CountsRows result w after
+same_rows w after step.More k e = e
+same_rows w after step.Row k e = absurd k
+same_rows w after step.Whole k e = e
+same_rows w after (step.Ended s) k e = tt
+
+-- after another row, of which none was complete
+pub rows_then : (old w after : RowWork) (result : Step) → unfinished w ≡ unfinished old → CountsRows result w after → CountsRows result old after
+rows_then old w after step.More e c = c ∙ e
+rows_then old w after step.Row e c = sym e ∙ c
+rows_then old w after step.Whole e c = c ∙ e
+rows_then old w after (step.Ended s) e c = tt
+
+-- After the current MCU row nothing of the picture was changed yet.
+
+-- a place of the first n MCU rows
+abbrev pub IsAbove : Frame → ℕ → Place → Type 0
+IsAbove f n p = p.y < n * rows_in_mcu f p.component
+
+-- LISTS of rows
+
+-- THE PLACES OF AN MCU ROW are above the next one
+
+pub row_above : (f : Frame) (ids : List ℕ) (k : ℕ) → length ids ≡ length f.components → All (IsAbove f (k + 1)) (scan_row f ids k)
+row_above f [] k all = All-nil (IsAbove f (k + 1))
+row_above f (i ∷ []) k all =
+    let one : rows_in_mcu f i ≡ 1 = ap (λ n. cond (n == 1) 1 (component_at f i).v) (sym all) in
+    all_row (IsAbove f (k + 1)) (λ x. place f i x k) (blocks_across f (component_at f i)) (λ x hx. omega (arith, ap (λ n. (k + 1) * n) one))
+row_above f (i ∷ j ∷ more) k all =
+    let ids = i ∷ j ∷ more in
+    let several : (length f.components == 1) ≡ false = grind (arith, nat_tests, all) in
+    all_rows (IsAbove f (k + 1)) (λ mx. flat_map (mcu_part f mx k) ids) (mcus_across f)
+    (λ mx hx. all_ids (IsAbove f (k + 1)) (mcu_part f mx k) ids
+    (λ n hn. let d = get_or ids n 0 in
+    let c = component_at f d in
+    let rows : (k + 1) * rows_in_mcu f d ≡ k * c.v + c.v = ap (λ b. (k + 1) * cond b 1 c.v) several ∙ add-mul k 1 c.v ∙ omega arith in
+    all_rows (IsAbove f (k + 1)) (λ v. map (λ h. place f d (mx * c.h + h) (k * c.v + v)) (below c.h)) c.v
+    (λ v hv. all_row (IsAbove f (k + 1)) (λ h. place f d (mx * c.h + h) (k * c.v + v)) c.h (λ h hh. omega (arith, rows, hv)))))
+
+-- THOSE OF THE FIRST n ROWS
+
+pub first_above : (f : Frame) (ids : List ℕ) (n j : ℕ) (d : Place) → length ids ≡ length f.components → n ≤ scan_mcus_down f ids → j < n * row_units f ids → IsAbove f n (get_or (units f ids) j d)
+first_above f ids n j d all few low =
+    let R = row_units f ids in
+    let D = scan_mcus_down f ids in
+    let some : 1 ≤ R = ⊎_elim (λ (h : 0 < R). omega (arith, h)) (λ (h : R ≤ 0). (let z : R ≡ 0 = omega (arith, h) in absurd (omega (arith, low, ap (λ r. n * r) z)))) (cases_lt 0 R) in
+    let q = j / R in
+    let r = j % R in
+    let e : j ≡ q * R + r = sym (div-add-mod' j R) in
+    let small : r < R = mod-lt j some in
+    let row : q < n = (div-lt_iff_lt-mul some).1 low in
+    let k = q * R + (R - R) in
+    let first : k ≡ q * R = omega arith in
+    let long : length (units f ids) ≡ D * R = length_units f ids in
+    let whole : q * R + R ≤ D * R = omega (arith, mul-le (q + 1) R D R (omega (arith, row, few)) (omega arith), add-mul q 1 R) in
+    let l : List Place = take R (drop k (units f ids)) in
+    let size : length l ≡ R = omega (arith, length-take R (drop k (units f ids)), length-drop k (units f ids), long, whole, first) in
+    let a = row_next (IsAbove f (q + 1)) f ids (drop k (units f ids)) q R refl (omega (arith, row, few)) (omega arith) (row_above f ids q all) in
+    let at : get_or l r d ≡ get_or (units f ids) j d =
+    get_or-take R (drop k (units f ids)) r d small ∙ get_or-drop k (units f ids) r d ∙ ap (λ (m : ℕ). get_or (units f ids) m d) (omega (arith, first, e)) in
+    let p = get_or (units f ids) j d in
+    let here : IsAbove f (q + 1) p = subst (IsAbove f (q + 1)) at (All-get_or (IsAbove f (q + 1)) l r d (omega (arith, size, small)) a) in
+    let more : (q + 1) * rows_in_mcu f p.component ≤ n * rows_in_mcu f p.component = mul-le (q + 1) (rows_in_mcu f p.component) n (rows_in_mcu f p.component) (omega (arith, row)) (omega arith) in
+    omega (arith, here, more)
+
+-- A BLOCK AFTER THEM
+
+of_place : (i x y : ℕ) (p : Place) → is_at i x y p ≡ true → (p.component ≡ i) × (p.y ≡ y)
+of_place i x y p e =
+    let a = both (p.component == i && p.x == x) (p.y == y) e in
+    let b = both (p.component == i) (p.x == x) a.0 in
+    (same_of p.component i b.0, same_of p.y y a.1)
+
+none_of : (test : Place → Bool) (places : List Place) (d : Place) → ((k : ℕ) → k < length places → test (get_or places k d) ≡ false) → any_of test places ≡ false
+none_of test [] d each = refl
+none_of test (p ∷ places) d each = ap (λ b. b || any_of test places) (each 0 (omega arith)) ∙ none_of test places d (λ k h. each (suc k) (omega arith))
+
+not_at : (f : Frame) (n i x y : ℕ) (p : Place) → n * rows_in_mcu f i ≤ y → IsAbove f n p → is_at i x y p ≡ false
+not_at f n i x y p low above = by (is_at i x y p) refl
+  where
+    by : (b : Bool) → is_at i x y p ≡ b → b ≡ false
+    by false e = refl
+    by true e =
+        let o = of_place i x y p e in
+        absurd (omega (arith, above, low, o.1, ap (λ c. n * rows_in_mcu f c) o.0))
+
+-- The places done are those of the scan except as many as are left. If all else is as in a picture without blocks, so
+-- is all after the row.
+pub blank_at : (f : Frame) (ids : List ℕ) (w : RowWork) (whole : Picture) (done cursor : List Place) → units f ids ≡ done ++ cursor → IsRowIn f ids w (length cursor) → whole.frame ≡ f
+    → ((i x y : ℕ) → any_of (is_at i x y) done ≡ false → map_of whole i x y ≡ no_blocks i x y) → IsBlankAfter w whole
+blank_at f ids w whole done cursor cut k framed elsewhere = λ i x y lt low.
+    (let a = k.at in
+    let R = row_units f ids in
+    let D = scan_mcus_down f ids in
+    let n = a.row + 1 in
+    let there : i < length f.components = subst (λ (g : Frame). i < length g.components) framed lt in
+    let behind : n * rows_in_mcu f i ≤ y = omega (arith, low, k.tops i, k.steps i, rows_there f i there, ap (λ r. a.row * r) (rows_there f i there), add-mul a.row 1 (rows_in_mcu f i)) in
+    let later : w.later * w.units ≡ w.later * R = ap (λ u. w.later * u) a.size in
+    let all : D * R ≡ n * R + w.later * R = ap (λ d. d * R) (sym a.count) ∙ add-mul n w.later R in
+    let size : length done ≤ n * R = omega (arith, length_units f ids, ap length cut, length-append done cursor, a.sum, later, all) in
+    let none : Place = place f 0 0 0 in
+    elsewhere i x y (none_of (is_at i x y) done none
+    (λ j h. let is : get_or (units f ids) j none ≡ get_or done j none = ap (λ (l : List Place). get_or l j none) cut ∙ get_or_append_left done cursor none j h in
+    not_at f n i x y (get_or done j none) behind (subst (IsAbove f n) is (first_above f ids n j none a.all (omega (arith, a.count)) (omega (arith, h, size)))))))

@@ -35,8 +35,8 @@ use Rattle.jpg_file.proofs.Files.Keeping.{markers_kept}
 use Rattle.jpg_file.proofs.Files.Leaving.{file_leaves}
 use Rattle.jpg_file.proofs.Files.PieceSteps.{file_means, stands_file}
 use Rattle.jpg_file.proofs.ByRow.HeadLeft.{head_of_whole}
-use Rattle.jpg_file.proofs.ByRow.StripPieces.{open_head, strip_whole}
-use Rattle.jpg_file.proofs.ByRow.RowsFed.{begun_on, row_fed, rows_completed}
+use Rattle.jpg_file.proofs.ByRow.StripBytes.{open_head, strip_whole}
+use Rattle.jpg_file.proofs.ByRow.RowsGiven.{begun_on, row_fed, rows_completed}
 use Rattle.jpg_file.proofs.Files.ReaderFed.{with_work}
 use Rattle.jpg_file.specs.declared.read.file.FileWork.{FileWork}
 

@@ -1,40 +1,63 @@
--- MCU rows of a file that is being read which are decoded or complete (T.81, A.2.3).
-use Rattle.std.proofs.Common.{◌≡◌, ◌⊎◌, inl, inr, ℕ, ◌+◌, ◌*◌, ◌<◌, ◌≤◌, ◌==◌, ◌&&◌, Bool, true, false, cond, List, [], ◌∷◌, ◌++◌, length, refl, sym, ap, ◌∙◌, subst, arith}
-use Rattle.std.specs.Prelude.{nat_lt}
+-- The MCU rows that are given.
+use Rattle.std.proofs.Common.{◌≡◌, ◌⊎◌, inl, inr, ℕ, ◌+◌, ◌*◌, ◌<◌, ◌≤◌, ◌==◌, ◌&&◌, Bool, true, false, cond, List, [], ◌∷◌, ◌++◌, length, refl, sym, ap, ◌∙◌, subst, arith, zero, suc, get_or, ℤ, pos}
+use Rattle.std.specs.Prelude.{nat_lt, flat_map, int_le, map, nat_abs, replicate}
 use Rattle.std.proofs.lemmas.Nat.{mul-le}
 use Rattle.std.proofs.lemmas.List.Elements.{All-get_or}
-use Rattle.std.proofs.lemmas.List.{append-nil, length-append}
+use Rattle.std.proofs.lemmas.List.{append-nil, length-append, append_assoc, length-replicate, take_all}
 use Rattle.jpg_spec.specs.Lists.{any_of, is_among, joined}
-use Rattle.jpg_spec.specs.Geometry.{Frame, blocks_across, blocks_down, component_at, h_max, is_real, mcu_row_frame, mcus_down, no_component, v_max}
+use Rattle.jpg_spec.specs.Geometry.{Frame, blocks_across, blocks_down, component_at, h_max, is_real, mcu_row_frame, mcus_down, no_component, v_max, bounds, bounds_of, is_progressive}
 use Rattle.jpg_spec.specs.FrameHeader.{HasFactors, IsFrame, padded_across, padded_down}
 use Rattle.jpg_spec.specs.Items.{Item, segments_of}
-use Rattle.jpg_spec.specs.PictureInWork.{is_at}
-use Rattle.jpg_spec.specs.FileMeaning.{no_blocks}
-use Rattle.jpg_spec.specs.ScanReading.{ScanAt, ScanPlace}
-use Rattle.jpg_spec.specs.RowsParsed.{BeginsScanOfAll, IsScanOfAll, TellsRows, blocks_in, row_places}
+use Rattle.jpg_spec.specs.PictureInWork.{is_at, OnlyChanges, ScanSoFar}
+use Rattle.jpg_spec.specs.FileMeaning.{no_blocks, Leads}
+use Rattle.jpg_spec.specs.ScanReading.{ScanAt, ScanPlace, scan_at, with_byte}
+use Rattle.jpg_spec.specs.RowsParsed.{BeginsScanOfAll, IsScanOfAll, TellsRows, blocks_in, row_places, TellsFirst, CompletesRows}
 use Rattle.jpg_spec.specs.declared.frame.Limits.{Limits}
-use Rattle.jpg_spec.proofs.Basics.Common.{lt_yes}
+use Rattle.jpg_spec.proofs.Basics.Common.{lt_yes, both}
 use Rattle.jpg_spec.proofs.Places.PlacesFound.{real_in_padded}
 use Rattle.jpg_spec.proofs.Places.PlacesSome.{h_max_some}
 use Rattle.jpg_spec.proofs.McuRows.RowsFound.{found_first}
-use Rattle.jpg_spec.proofs.McuRows.RowsHeader.{begun_places}
+use Rattle.jpg_spec.proofs.McuRows.RowsHeader.{begun_places, begun_once}
 use Rattle.jpg_spec.proofs.Files.ScanSteps.{inside}
 use Rattle.jpg_base.specs.Cursor.{scan_mcus_down}
 use Rattle.jpg_base.proofs.Grids.{down_low}
-use Rattle.jpg_coefs.specs.Picture.{Picture, is_padded, map_of}
+use Rattle.jpg_coefs.specs.Picture.{Picture, is_padded, map_of, block_in}
 use Rattle.jpg_seq.specs.Rows.{IsRowOf, rows_in_mcu, top_of}
 use Rattle.jpg_file.specs.Read.RowData.{InRowData}
 use Rattle.jpg_file.specs.Read.RowPlaces.{IsRowAt, scan_left}
 use Rattle.jpg_file.specs.Read.RowsSoFar.{CompletesBefore, RowsSoFar}
 use Rattle.jpg_file.specs.Read.RowTurns.{unfinished}
 use Rattle.jpg_file.specs.Read.ReadRows.{AreOfRow}
-use Rattle.jpg_file.specs.Read.Strips.{GoesByRow, IsFirstScan, RowsAfter, RowsInside, components_of, frame_behind}
+use Rattle.jpg_file.specs.Read.Strips.{GoesByRow, IsFirstScan, RowsAfter, RowsInside, components_of, frame_behind, RowIsWhole}
 use Rattle.jpg_file.specs.declared.read.file.FileWork.{FileWork}
 use Rattle.jpg_file.specs.declared.read.rows.RowWork.{RowWork}
 use Rattle.jpg_file.specs.declared.read.scan.InScan.{InScan}
-use Rattle.jpg_file.proofs.ByRow.RowsParsed.{told_first}
-use Rattle.jpg_file.proofs.ByRow.RowsPlaced.{PlaceTells, begins_at, data_stops, half_tells, rows_cut, scan_of_all, stops_complete}
+use Rattle.jpg_file.proofs.ByRow.RowsPlaced.{told_first, PlaceTells, begins_at, data_stops, half_tells, rows_cut, scan_of_all, stops_complete, machine_stands}
 use Rattle.jpg_file.proofs.ByRow.RowTurns.{one_up}
+use Rattle.std.proofs.lemmas.Bool.Decides.{nat_tests}
+use Rattle.jpg_spec.specs.InForce.{head_in, frame_of}
+use Rattle.jpg_spec.specs.Elements.{Coding, Covers, Element, Standing, UnitLeft, are_in_bounds, at_start, predictions_after, zeros}
+use Rattle.jpg_spec.specs.Scan.{Blocks, Scan, SpellsIntervals, band, block_at, unit_at}
+use Rattle.jpg_spec.specs.Ranges.{AreInRange, is_coefficient}
+use Rattle.jpg_spec.specs.declared.frame.Place.{Place}
+use Rattle.jpg_spec.proofs.Files.BlocksOnce.{length_band}
+use Rattle.jpg_spec.proofs.Headers.Precisions.{of_bounds, zero_ac}
+use Rattle.jpg_spec.proofs.Files.Ranges.{PlacesWithin, leads_in_range, at_place, zero_in}
+use Rattle.jpg_spec.proofs.Basics.Rows.{append_apart}
+use Rattle.jpg_spec.proofs.Bits.Within.{AreWithin, ends_one, step}
+use Rattle.jpg_coefs.specs.Machine.{Interval}
+use Rattle.jpg_seq.specs.Reader.{RepresentsSeqScan, new_units_at}
+use Rattle.jpg_seq.specs.declared.reader.SeqReader.{SeqReader}
+use Rattle.jpg_file.specs.Read.InData.{frame_at}
+use Rattle.jpg_file.proofs.Scans.ScanBytes.{read_at, InInterval, of_half, of_work}
+use Rattle.jpg_file.proofs.ByRow.StripRows.{interval_due, rest_framed}
+use Rattle.jpg_file.specs.declared.read.scan.ScanWork.{ScanWork}
+use Rattle.jpg_spec.specs.Markers.{Segment}
+use Rattle.jpg_spec.proofs.McuRows.RowCounts.{head_names}
+use Rattle.jpg_spec.proofs.McuRows.RowsLater.{head_there}
+use Rattle.jpg_file.specs.Read.RowsKnown.{rows_of_scan}
+
+-- MCU rows of a file that is being read which are decoded or complete (T.81, A.2.3).
 
 -- INSIDE THE SCAN, where no bits wait: the MCU rows before the current one are complete, and this one if no unit of it
 -- is left
@@ -179,3 +202,263 @@ row_blocks limits items contents whole rows left last row framed at is named = r
         found_first f ids i x (last * v + y) (last + 1) at.frame there (named i there) (real_in_row f i x (last * v + y) there across down)
         (subst (λ n. last * v + y < n * (last + 1)) (ap (λ n. cond (n == 1) 1 (component_at f i).v) (sym at.all)) deep) in
         here ∙ ap (λ n. map_of whole i x (n + y)) top ∙ sym (ap (λ b. cond b (map_of whole i x (last * v + y)) (no_blocks i x (last * v + y))) found)
+
+-- The coefficients of the current MCU row are in the bounds of the file's precision (T.81, F.1.2).
+
+-- UNITS THAT ARE LEFT may all be zero
+
+zeros_bounded : (precision : ℕ) (has_dc : Bool) (n : ℕ) → are_in_bounds (bounds_of precision) has_dc (replicate n (pos 0)) ≡ true
+zeros_bounded precision has_dc zero = refl
+zeros_bounded precision true (suc n) = of_bounds (λ b. are_in_bounds b true (replicate (suc n) (pos 0)) ≡ true) (zeros_bounded 8 false n) (zeros_bounded 12 false n) precision
+zeros_bounded precision false (suc n) = of_bounds (λ b. are_in_bounds b false (replicate (suc n) (pos 0)) ≡ true) (zeros_bounded 8 false n) (zeros_bounded 12 false n) precision
+
+zeros_within : (precision : ℕ) (c : Coding) (units : List UnitLeft) → c.bounds ≡ bounds_of precision → (more : List ℤ) × AreWithin c units more
+zeros_within precision c [] e = ([], refl)
+zeros_within precision c (u ∷ units) e =
+    let r = zeros_within precision c units e in
+    let n = length u.old in
+    let ok : are_in_bounds c.bounds u.has_dc (replicate n (pos 0)) ≡ true = ap (λ b. are_in_bounds b u.has_dc (replicate n (pos 0))) e ∙ zeros_bounded precision u.has_dc n in
+    (replicate n (pos 0) ++ r.0, (replicate n (pos 0), r.0, refl, length-replicate n (pos 0), ok, r.1))
+
+-- WHAT ELEMENTS ENCODE of first units is in the bounds, where an end of a band ends one
+
+covers_within : (c : Coding) (s t : Standing) (es : List Element) (told more : List ℤ) (bits : List Bool) → c.most_run ≡ 0 → Covers c s es told bits t → AreWithin c t.left more → AreWithin c s.left (told ++ more)
+covers_within c s t [] told more bits run k w = subst (λ l. AreWithin c s.left (l ++ more)) (sym k.0) (subst (λ (q : Standing). AreWithin c q.left more) k.2 w)
+covers_within c s t (e ∷ es) told more bits run k w =
+    let p = s.predictions (k.0).component in
+    let ih = covers_within c (record { predictions = predictions_after s.predictions (k.0).component e; left = k.3 }) t es k.4 more k.6 run k.13 w in
+    let here : AreWithin c (k.0 ∷ k.1) (k.2 ++ (k.4 ++ more)) = step c p e k.0 k.1 k.2 k.3 (k.4 ++ more) (ends_one c p e k.0 k.1 k.2 k.3 run k.11) k.11 k.12 ih in
+    subst (λ l. AreWithin c l (told ++ more)) (sym k.7) (subst (λ x. AreWithin c (k.0 ∷ k.1) x) (sym (ap (λ x. x ++ more) k.8 ∙ append_assoc k.2 k.4 more)) here)
+
+-- of first places
+places_front : (s : Scan) (before after : Blocks) (places others : List Place) (more : List ℤ) → ((i x y : ℕ) → length (before i x y) ≡ length (after i x y))
+    → AreWithin s.coding (map (unit_at s before) (places ++ others)) (flat_map (λ p. band s (block_at after p)) places ++ more) → PlacesWithin s after places
+places_front s before after [] others more sizes w = tt
+places_front s before after (p ∷ places) others more sizes w =
+    let here = band s (block_at after p) in
+    let behind = flat_map (λ q. band s (block_at after q)) places in
+    let l = w.3 in
+    let k = length_band s (block_at before p) (block_at after p) (sizes p.component p.x p.y) in
+    let r = append_apart here w.0 (behind ++ more) w.1 (sym (l ∙ k)) (sym (append_assoc here behind more) ∙ w.2) in
+    (subst (λ b. are_in_bounds s.coding.bounds (s.ss == 0) b ≡ true) (sym r.0) w.4, places_front s before after places others more sizes (subst (λ t. AreWithin s.coding (map (unit_at s before) (places ++ others)) t) (sym r.1) w.5))
+
+places_told : (precision : ℕ) (s : Scan) (before after : Blocks) (places others : List Place) (bits : List Bool) → s.coding.most_run ≡ 0 → s.coding.bounds ≡ bounds_of precision → ((i x y : ℕ) → length (before i x y) ≡ length (after i x y))
+    → TellsFirst s.coding (map (unit_at s before) (places ++ others)) (flat_map (λ p. band s (block_at after p)) places) bits → PlacesWithin s after places
+places_told precision s before after places others bits run range sizes k =
+    let told = flat_map (λ p. band s (block_at after p)) places in
+    let z = zeros_within precision s.coding (k.1).left range in
+    places_front s before after places others z.0 sizes (covers_within s.coding (at_start (map (unit_at s before) (places ++ others))) k.1 k.0 told z.0 bits run k.2 z.1)
+
+places_join : (s : Scan) (after : Blocks) (a b : List Place) → PlacesWithin s after a → PlacesWithin s after b → PlacesWithin s after (a ++ b)
+places_join s after [] b w v = v
+places_join s after (p ∷ a) b w v = (w.0, places_join s after a b w.1 v)
+
+-- of complete intervals
+intervals_told : (precision : ℕ) (s : Scan) (before after : Blocks) (all : List (List Place)) (intervals : List (List ℕ)) → s.coding.most_run ≡ 0 → s.coding.bounds ≡ bounds_of precision → ((i x y : ℕ) → length (before i x y) ≡ length (after i x y))
+    → SpellsIntervals s before after all intervals → PlacesWithin s after (joined all)
+intervals_told precision s before after [] [] run range sizes k = tt
+intervals_told precision s before after [] (c ∷ intervals) run range sizes k = absurd k
+intervals_told precision s before after (p ∷ all) [] run range sizes k = absurd k
+intervals_told precision s before after (p ∷ all) (c ∷ intervals) run range sizes k =
+    let here = k.0 in
+    let u = here.2 in
+    let told = flat_map (λ q. band s (block_at after q)) p in
+    let first : TellsFirst s.coding (map (unit_at s before) p) told here.0 = (u.0, u.1, u.2) in
+    let all_of = subst (λ (l : List Place). TellsFirst s.coding (map (unit_at s before) l) told here.0) (sym (append-nil p)) first in
+    places_join s after p (joined all) (places_told precision s before after p [] here.0 run range sizes all_of) (intervals_told precision s before after all intervals run range sizes k.1)
+
+-- A BLOCK in the bounds
+
+rest_in : (precision : ℕ) (l : List ℤ) (k : ℕ) → are_in_bounds (bounds_of precision) false l ≡ true → int_le (pos (nat_abs (get_or l k (pos 0)))) (bounds_of precision).ac ≡ true
+rest_in precision [] k e = zero_ac precision
+rest_in precision (v ∷ l) zero e = (both (int_le (pos (nat_abs v)) (bounds_of precision).ac) (are_in_bounds (bounds_of precision) false l) e).0
+rest_in precision (v ∷ l) (suc k) e = rest_in precision l k (both (int_le (pos (nat_abs v)) (bounds_of precision).ac) (are_in_bounds (bounds_of precision) false l) e).1
+
+pub block_in_range : (precision : ℕ) (l : List ℤ) (k : ℕ) → are_in_bounds (bounds_of precision) true l ≡ true → is_coefficient (bounds_of precision) k (get_or l k (pos 0)) ≡ true
+block_in_range precision [] k e = zero_in precision k
+block_in_range precision (v ∷ l) zero e =
+    let b = bounds_of precision in
+    (both (int_le b.dc_low v && int_le v b.dc_high) (are_in_bounds b false l) e).0
+block_in_range precision (v ∷ l) (suc k) e =
+    let b = bounds_of precision in
+    let w = get_or l k (pos 0) in
+    let some : (suc k == 0) ≡ false = grind (arith, nat_tests) in
+    ap (λ t. cond t (int_le b.dc_low w && int_le w b.dc_high) (int_le (pos (nat_abs w)) b.ac)) some
+    ∙ rest_in precision l k (both (int_le b.dc_low v && int_le v b.dc_high) (are_in_bounds b false l) e).1
+
+-- a scan of complete blocks
+record IsWholeScan (precision : ℕ) (s : Scan) : Type 0 where
+  ss : s.ss ≡ 0
+  se : s.se ≡ 63
+  run : s.coding.most_run ≡ 0
+  range : s.coding.bounds ≡ bounds_of precision
+
+whole_block : (precision : ℕ) (s : Scan) (block : List ℤ) → IsWholeScan precision s → length block ≡ 64 → band s block ≡ block
+whole_block precision s block w long = subst (λ n. band (record s { ss = n }) block ≡ block) (sym w.ss) (subst (λ n. band (record s { ss = 0; se = n }) block ≡ block) (sym w.se) (take_all 64 block (omega (arith, long))))
+
+place_in_range : (precision : ℕ) (s : Scan) (after : Blocks) (places : List Place) (i x y k : ℕ) → IsWholeScan precision s → length (after i x y) ≡ 64 → PlacesWithin s after places → any_of (is_at i x y) places ≡ true
+    → is_coefficient (bounds_of precision) k (get_or (after i x y) k (pos 0)) ≡ true
+place_in_range precision s after places i x y k w long in_places there =
+    let first : (s.ss == 0) ≡ true = ap (λ n. n == 0) w.ss in
+    let a = subst (λ l. are_in_bounds s.coding.bounds (s.ss == 0) l ≡ true) (whole_block precision s (after i x y) w long) (at_place s after places i x y in_places there) in
+    let b = subst (λ t. are_in_bounds s.coding.bounds t (after i x y) ≡ true) first a in
+    block_in_range precision (after i x y) k (subst (λ r. are_in_bounds r true (after i x y) ≡ true) w.range b)
+
+-- IF SOME BLOCKS CHANGE, and these are in the bounds, all are
+changes_in_range : (precision : ℕ) (s : Scan) (places : List Place) (old new : Blocks) → IsWholeScan precision s → OnlyChanges s places old new → PlacesWithin s new places → AreInRange (bounds_of precision) old → AreInRange (bounds_of precision) new
+changes_in_range precision s places old new w c in_places before = record {
+  sizes = c.sizes;
+  values = λ i x y k. by i x y k (any_of (is_at i x y) places) refl;
+}
+  where
+    by : (i x y k : ℕ) (b : Bool) → any_of (is_at i x y) places ≡ b → is_coefficient (bounds_of precision) k (get_or (new i x y) k (pos 0)) ≡ true
+    by i x y k false e = subst (λ l. is_coefficient (bounds_of precision) k (get_or l k (pos 0)) ≡ true) (sym (c.elsewhere i x y e)) (before.values i x y k)
+    by i x y k true e = place_in_range precision s new places i x y k w (c.sizes i x y) in_places e
+
+-- THE CURRENT PICTURE
+
+whole_scan : (limits : Limits) (p : ScanPlace) → is_progressive (frame_at limits p).process ≡ false → IsWholeScan (frame_at limits p).precision (scan_at limits p)
+whole_scan limits p e =
+    let head = head_in (frame_at limits p) p.contents in
+    record { ss = ap (λ b. cond b head.ss 0) e; se = ap (λ b. cond b head.se 63) e; run = ap (λ b. cond b 14 0) e; range = refl }
+
+so_far_in_range : (limits : Limits) (p : ScanPlace) (work : Blocks) (done : List (List ℕ)) (left : List (List Place)) → is_progressive (frame_at limits p).process ≡ false → Leads limits p.items p.blocks → ScanSoFar (scan_at limits p) p.blocks work done left
+    → AreInRange (bounds (frame_at limits p)) work
+so_far_in_range limits p work done left e leads k =
+    let s = scan_at limits p in
+    let precision = (frame_at limits p).precision in
+    let w = whole_scan limits p e in
+    let old : AreInRange (bounds (frame_at limits p)) p.blocks = leads_in_range limits p.items p.blocks leads in
+    let sizes : (i x y : ℕ) → length (p.blocks i x y) ≡ length (work i x y) = λ i x y. old.sizes i x y ∙ sym (k.changes.sizes i x y) in
+    changes_in_range precision s (joined k.front) p.blocks work w k.changes (intervals_told precision s p.blocks work k.front done w.run w.range sizes k.spelled) old
+
+units_in_range : (precision : ℕ) (n : SeqReader) (i : Interval) (bits : List Bool) (now : Picture) → IsWholeScan precision i.scan → RepresentsSeqScan n i bits now → AreInRange (bounds_of precision) (map_of i.before) → AreInRange (bounds_of precision) (map_of now)
+units_in_range precision n i bits now w o old =
+    let s = i.scan in
+    let before = map_of i.before in
+    let told = flat_map (λ p. band s (block_at (map_of now) p)) o.done in
+    let sizes : (j x y : ℕ) → length (before j x y) ≡ length (map_of now j x y) = λ j x y. old.sizes j x y ∙ sym (o.read.changes.sizes j x y) in
+    let first : TellsFirst s.coding (map (unit_at s before) i.places) o.whole o.front = (o.elements, record { predictions = o.predictions; left = new_units_at (o.next ∷ o.more) }, o.covers) in
+    let there : TellsFirst s.coding (map (unit_at s before) i.places) told o.front = subst (λ (l : List ℤ). TellsFirst s.coding (map (unit_at s before) i.places) l o.front) o.read.told_there first in
+    let cut = subst (λ (l : List Place). TellsFirst s.coding (map (unit_at s before) l) told o.front) o.all there in
+    changes_in_range precision s o.done before (map_of now) w o.read.changes (places_told precision s before (map_of now) o.done (o.next ∷ o.more) o.front w.run w.range sizes cut) old
+
+sequential_at : (limits : Limits) (items : List Item) (p : ScanPlace) → p.items ≡ items → IsFirstScan limits items → is_progressive (frame_at limits p).process ≡ false
+sequential_at limits items p same first = subst (λ (l : List Item). is_progressive (frame_behind limits l).process ≡ false) (sym same) first.sequential
+
+-- in the bounds of the frame after these items
+abbrev InRangeBehind : Limits → List Item → Picture → Type 0
+InRangeBehind limits items whole = AreInRange (bounds (frame_behind limits items)) (map_of whole)
+
+interval_in_range : (limits : Limits) (items : List Item) (contents : List ℕ) (p : ScanPlace) (w : ScanWork) (whole : Picture) (rest : List Bool)
+    → InInterval limits p w whole rest → (p.items ≡ items) × (p.contents ≡ contents) → Leads limits p.items p.blocks → IsFirstScan limits items
+    → InRangeBehind limits items whole
+interval_in_range limits items contents p w whole rest d of leads first =
+    let e = sequential_at limits items p of.0 first in
+    let precision = (frame_at limits p).precision in
+    let m = interval_due limits items contents p w whole rest d of first in
+    let o = machine_stands w.machine m.machine d.interval d.taken whole m.is d.stands in
+    let x = subst (λ (t : Scan). IsWholeScan precision t) (sym (d.is).scan) (whole_scan limits p e) in
+    subst (λ (l : List Item). InRangeBehind limits l whole) of.0
+    (units_in_range precision m.machine d.interval d.taken whole x o (so_far_in_range limits p (map_of (d.interval).before) p.done (p.places ∷ p.later) e leads d.so_far))
+
+rest_in_range : (limits : Limits) (items : List Item) (contents bytes : List ℕ) (waiting : List Bool) (s : InScan) (whole : Picture)
+    → InRowData limits items contents bytes waiting s whole → IsFirstScan limits items → InRangeBehind limits items whole
+rest_in_range limits items contents bytes [] s whole d first = by s.work.whole refl
+  where
+    by : (b : Bool) → s.work.whole ≡ b → InRangeBehind limits items whole
+    by true is =
+        let p = d.place in
+        subst (λ (l : List Item). InRangeBehind limits l whole) (d.of).0
+        (so_far_in_range limits p (map_of whole) (p.done ++ p.coded ∷ []) p.later (sequential_at limits items p (d.of).0 first) (d.at).leads (read_at limits p s.work whole is d.work).so_far)
+    by false is = interval_in_range limits items contents d.place s.work whole [] (of_work limits d.place s.work whole is d.work) d.of (d.at).leads first
+rest_in_range limits items contents bytes (bit ∷ bits) s whole h first =
+    interval_in_range limits items contents (with_byte h.place h.byte) s.work whole (bit ∷ bits) (of_half limits items contents bytes (bit ∷ bits) s whole h) h.of (h.at).leads first
+
+-- THE MCU ROW: the blocks of its padded grids are those of the picture, and all others are zero
+row_in_range : (precision : ℕ) (tops : List ℕ) (whole row : Picture) → IsRowOf tops whole row → AreInRange (bounds_of precision) (map_of whole) → AreInRange (bounds_of precision) (map_of row)
+row_in_range precision tops whole row of range = record {
+  sizes = λ i x y. size i x y (is_padded row.frame i x y) refl;
+  values = λ i x y k. value i x y k (is_padded row.frame i x y) refl;
+}
+  where
+    outside : (i x y : ℕ) → is_padded row.frame i x y ≡ false → map_of row i x y ≡ zeros 64
+    outside i x y e = ap (λ b. cond b (block_in row i x y) (zeros 64)) e
+
+    size : (i x y : ℕ) (b : Bool) → is_padded row.frame i x y ≡ b → length (map_of row i x y) ≡ 64
+    size i x y true e = ap length (of.blocks i x y e) ∙ range.sizes i x (top_of tops i + y)
+    size i x y false e = ap length (outside i x y e) ∙ length-replicate 64 (pos 0)
+
+    value : (i x y k : ℕ) (b : Bool) → is_padded row.frame i x y ≡ b → is_coefficient (bounds_of precision) k (get_or (map_of row i x y) k (pos 0)) ≡ true
+    value i x y k true e = subst (λ l. is_coefficient (bounds_of precision) k (get_or l k (pos 0)) ≡ true) (sym (of.blocks i x y e)) (range.values i x (top_of tops i + y) k)
+    value i x y k false e = subst (λ l. is_coefficient (bounds_of precision) k (get_or l k (pos 0)) ≡ true) (sym (outside i x y e)) (block_in_range precision (zeros 64) k (zeros_bounded precision true 64))
+
+-- while a file is read inside the scan, and when an MCU row is complete
+pub inside_in_range : (limits : Limits) (bytes : List ℕ) (w : FileWork) (rows : RowWork) (whole : Picture) → (r : RowsInside limits bytes w rows whole) → IsRowOf rows.tops whole rows.coefs
+    → AreInRange (bounds (frame_behind limits r.items)) (map_of rows.coefs)
+inside_in_range limits bytes w rows whole r of =
+    row_in_range (frame_behind limits r.items).precision rows.tops whole rows.coefs of (rest_in_range limits r.items r.contents bytes rows.waiting r.scan whole r.coded (r.held).of)
+
+pub given_in_range : (limits : Limits) (bytes : List ℕ) (w : FileWork) (rows : RowWork) → (k : RowIsWhole limits bytes w rows) → AreInRange (bounds (frame_behind limits k.inside.items)) (map_of rows.coefs)
+given_in_range limits bytes w rows k = inside_in_range limits bytes w rows k.whole k.inside k.row
+
+-- From the MCU rows that were passed, and how many of the scan aren't complete yet, to those that the bytes complete.
+
+-- what has begun remains begun
+pub begun_on : (limits : Limits) (bytes more : List ℕ) (before : List Segment) (contents : List ℕ) → BeginsScanOfAll limits bytes before contents → BeginsScanOfAll limits (bytes ++ more) before contents
+begun_on limits bytes more before contents b = record {
+  front = b.front;
+  rest = b.rest ++ more;
+  cut = ap (λ l. l ++ more) b.cut ∙ append_assoc b.front b.rest more;
+  header = b.header;
+  unbroken = b.unbroken;
+  of_all = b.of_all;
+}
+
+-- NO FURTHER MCU ROW is complete
+pub rows_completed : (limits : Limits) (bytes : List ℕ) (before : List Segment) (contents : List ℕ) (w : FileWork) (rows : RowWork) (whole : Picture) (m : ℕ) → BeginsScanOfAll limits bytes before contents → RowsInside limits bytes w rows whole → rows.waiting ≡ []
+    → m + unfinished rows ≡ rows_of_scan limits before contents → (blocks : Blocks) × CompletesRows limits bytes m blocks
+rows_completed limits bytes before contents w rows whole m begins r none count =
+    let c = inside_completes limits bytes w rows whole r none in
+    let one = begun_once limits bytes before (segments_of r.items) contents r.contents begins c.begins in
+    let same : rows_of_scan limits before contents ≡ rows_of_scan limits (segments_of r.items) r.contents = ap (λ (l : List Segment). rows_of_scan limits l contents) one.0 ∙ ap (λ (l : List ℕ). rows_of_scan limits (segments_of r.items) l) one.1 in
+    let is : c.m ≡ m = omega (arith, c.count, count, same) in
+    (c.blocks, subst (λ n. CompletesRows limits bytes n c.blocks) is c.completed)
+
+-- A FURTHER ONE is complete
+
+pub record RowFed (limits : Limits) (bytes : List ℕ) (before : List Segment) (contents : List ℕ) (m : ℕ) (rows : RowWork) : Type 0 where
+  pub blocks : Blocks
+  pub told : TellsRows limits bytes (m + 1) blocks
+  pub framed : rows.coefs.frame ≡ mcu_row_frame (frame_of limits before)
+  pub range : AreInRange (bounds (frame_of limits before)) (map_of rows.coefs)
+  pub row : AreOfRow (frame_of limits before) m rows.coefs blocks
+
+fed_here : (limits : Limits) (bytes : List ℕ) (w : FileWork) (rows : RowWork) (m : ℕ) → (k : RowIsWhole limits bytes w rows) → BeginsScanOfAll limits bytes (segments_of k.inside.items) k.inside.contents
+    → m + (unfinished rows + 1) ≡ rows_of_scan limits (segments_of k.inside.items) k.inside.contents → RowFed limits bytes (segments_of k.inside.items) k.inside.contents m rows
+fed_here limits bytes w rows m k begins count =
+    let r = k.inside in
+    let left = scan_left r.scan.work in
+    let t = place_tells limits r.items r.contents bytes k.whole rows left (inside_tells limits bytes w rows k.whole r) (r.at).at in
+    let is : t.m ≡ m + 1 = omega (arith, t.count, count) in
+    let due : unfinished rows ≡ rows.later + 0 = ap (λ n. rows.later + cond (n == 0) 0 1) k.left in
+    let last : ((r.at).at).row ≡ m = omega (arith, due, ((r.at).at).count, count) in
+    let framed = rest_framed limits r.items r.contents bytes rows.waiting r.scan k.whole r.coded (r.held).of in
+    let head = head_there limits (segments_of r.items) r.contents begins.unbroken in
+    record {
+      blocks = blocks_in (row_places limits (segments_of r.items) r.contents (m + 1)) (map_of k.whole);
+      told = subst (λ n. TellsRows limits bytes n (blocks_in (row_places limits (segments_of r.items) r.contents n) (map_of k.whole))) is t.told;
+      framed = (k.row).framed ∙ ap mcu_row_frame framed;
+      range = given_in_range limits bytes w rows k;
+      row = row_blocks limits r.items r.contents k.whole rows left m k.row framed (r.at).at last (λ i lt. head_names (frame_behind limits r.items) (head_in (frame_behind limits r.items) r.contents) i head ((r.at).at).all lt);
+    }
+
+pub row_fed : (limits : Limits) (bytes : List ℕ) (before : List Segment) (contents : List ℕ) (w : FileWork) (rows : RowWork) (m : ℕ) → BeginsScanOfAll limits bytes before contents → RowIsWhole limits bytes w rows
+    → m + (unfinished rows + 1) ≡ rows_of_scan limits before contents → RowFed limits bytes before contents m rows
+row_fed limits bytes before contents w rows m begins k count =
+    let r = k.inside in
+    let t = place_tells limits r.items r.contents bytes k.whole rows (scan_left r.scan.work) (inside_tells limits bytes w rows k.whole r) (r.at).at in
+    let one = begun_once limits bytes before (segments_of r.items) contents r.contents begins t.begins in
+    let same : rows_of_scan limits before contents ≡ rows_of_scan limits (segments_of r.items) r.contents = ap (λ (l : List Segment). rows_of_scan limits l contents) one.0 ∙ ap (λ (l : List ℕ). rows_of_scan limits (segments_of r.items) l) one.1 in
+    let f = fed_here limits bytes w rows m k t.begins (count ∙ same) in
+    subst (λ (l : List Segment). RowFed limits bytes l contents m rows) (sym one.0) (subst (λ (l : List ℕ). RowFed limits bytes (segments_of r.items) l m rows) (sym one.1) f)

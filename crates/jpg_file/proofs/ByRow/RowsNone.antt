@@ -36,7 +36,7 @@ use Rattle.jpg_file.specs.declared.read.rows.RowWork.{RowWork}
 use Rattle.jpg_file.specs.declared.read.step.Step.{Step}
 use Rattle.jpg_file.specs.declared.read.step.Step.TheVariants as step
 use Rattle.jpg_file.proofs.Files.FileSteps.{head_is, head_left}
-use Rattle.jpg_file.proofs.Headers.FirstHeaders.{heads_first}
+use Rattle.jpg_file.proofs.Headers.InForce.{heads_first}
 use Rattle.jpg_file.proofs.Files.PieceSteps.{front_of, one_more}
 use Rattle.jpg_file.proofs.ByRow.StripBegin.{first_of}
 

@@ -11,7 +11,7 @@ use Rattle.jpg_file.specs.Read.Strips.{RowsAfter, RowsInside, RepresentsRows}
 use Rattle.jpg_file.specs.declared.read.file.FileWork.{FileWork}
 use Rattle.jpg_file.specs.declared.read.rows.RowWork.{RowWork}
 use Rattle.jpg_file.proofs.Files.FileSteps.{head_is}
-use Rattle.jpg_file.proofs.Headers.FirstHeaders.{no_head}
+use Rattle.jpg_file.proofs.Headers.InForce.{no_head}
 use Rattle.jpg_file.proofs.Files.PieceSteps.{counted, stands_file}
 use Rattle.jpg_file.proofs.ByRow.RowsNone.{no_rows}
 

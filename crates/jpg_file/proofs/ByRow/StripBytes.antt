@@ -1,7 +1,7 @@
--- Bytes inside the data of a scan that is read MCU row by MCU row.
-use Rattle.std.proofs.Common.{◌≡◌, ℕ, ◌+◌, ◌≤◌, ◌<◌, Bool, true, false, cond, List, [], ◌∷◌, ◌++◌, length, take, get_or, refl, sym, ap, subst, arith, Some, None, inl, inr, Ok, Err}
-use Rattle.std.specs.Prelude.{Result}
-use Rattle.std.proofs.lemmas.List.{length-append, length-take-le}
+-- Bytes and pieces of a file that is read MCU row by MCU row.
+use Rattle.std.proofs.Common.{◌≡◌, ℕ, ◌+◌, ◌≤◌, ◌<◌, Bool, true, false, cond, List, [], ◌∷◌, ◌++◌, length, take, get_or, refl, sym, ap, subst, arith, Some, None, inl, inr, Ok, Err, ◌∙◌, ◌⊎◌, zero, suc}
+use Rattle.std.specs.Prelude.{Result, Option, is_some, replicate}
+use Rattle.std.proofs.lemmas.List.{length-append, length-take-le, take-take, append-nil, get_or-take, length-replicate}
 use Rattle.jpg_spec.specs.Items.{Item, segments_of}
 use Rattle.jpg_spec.specs.declared.fault.Fault.{Fault}
 use Rattle.jpg_spec.specs.declared.frame.Limits.{Limits}
@@ -17,8 +17,8 @@ use Rattle.jpg_file.specs.Read.RowData.{AfterRowByte, AfterRowBytes, InRowData, 
 use Rattle.jpg_file.specs.Read.RowLast.{LastRunInRow}
 use Rattle.jpg_file.specs.Read.RowPlaces.{scan_left}
 use Rattle.jpg_file.specs.Read.RowsSoFar.{CompletesBefore, RowsSoFar}
-use Rattle.jpg_file.specs.Read.RowTurns.{CountsScan}
-use Rattle.jpg_file.specs.Read.Strips.{AfterRows, PassesItem, RowsRun, ScanHeld, components_of, frame_behind}
+use Rattle.jpg_file.specs.Read.RowTurns.{CountsScan, unfinished}
+use Rattle.jpg_file.specs.Read.Strips.{AfterRows, PassesItem, RowsRun, ScanHeld, components_of, frame_behind, GoesByRow, RowsAfter, RowsInside, StripGoes, RepresentsStrip}
 use Rattle.jpg_file.specs.declared.read.file.FileWork.{FileWork}
 use Rattle.jpg_file.specs.declared.read.items.Items.{Items}
 use Rattle.jpg_file.specs.declared.read.items.ItemStep.{ItemStep}
@@ -26,13 +26,23 @@ use Rattle.jpg_file.specs.declared.read.rows.RowWork.{RowWork}
 use Rattle.jpg_file.specs.declared.read.scan.InScan.{InScan}
 use Rattle.jpg_file.specs.declared.read.step.Step.{Step}
 use Rattle.jpg_file.specs.declared.read.step.Step.TheVariants as step
-use Rattle.jpg_file.proofs.Files.FileSteps.{after_inside}
-use Rattle.jpg_file.proofs.Headers.FirstHeaders.{has_longer}
-use Rattle.jpg_file.proofs.ByRow.RowCounts.{counts_in}
-use Rattle.jpg_file.proofs.ByRow.RowTurns.{none_unfinished}
-use Rattle.jpg_file.proofs.ByRow.StripRows.{data_goes, row_data}
-use Rattle.jpg_file.proofs.ByRow.StripTurns.{RowReady, file_with}
+use Rattle.jpg_file.proofs.Files.FileSteps.{after_inside, head_by, head_is}
+use Rattle.jpg_file.proofs.Headers.InForce.{has_longer}
+use Rattle.jpg_file.proofs.ByRow.RowTurns.{counts_in, none_unfinished, counts_rows}
+use Rattle.jpg_file.proofs.ByRow.StripRows.{data_goes, row_data, RowReady, file_with, half_of, inside_row}
 use Rattle.jpg_file.proofs.Scans.Scannings.{few_wait}
+use Rattle.jpg_spec.specs.Markers.{Segment}
+use Rattle.jpg_base.specs.declared.stop.Stop.{Stop}
+use Rattle.jpg_file.specs.Read.RowStops.{StopsByteInRow, StopsRestInRow, StopsRunInRow}
+use Rattle.jpg_file.specs.Read.FirstHeader.{IsFirstHeaderOf}
+use Rattle.jpg_file.specs.Read.Going.{FillsScan, has_waiting}
+use Rattle.jpg_file.specs.declared.read.reading.Reading.{Reading}
+use Rattle.jpg_spec.proofs.Basics.Common.{clash}
+use Rattle.jpg_file.proofs.Files.PieceSteps.{limits_are, waiting_scan}
+use Rattle.jpg_file.proofs.Scans.ScanBytes.{ff_bytes}
+use Rattle.jpg_file.proofs.ByRow.RowsGiven.{goes_completes}
+
+-- Bytes inside the data of a scan that is read MCU row by MCU row.
 
 -- with more bytes
 module _ (limits : Limits) (items : List Item) (contents bytes : List ℕ) where
@@ -223,3 +233,207 @@ module _ (bytes : List ℕ) (w : FileWork) (scan : InScan) (rows : RowWork) (r :
         let size = length-take-le rest.early run (omega (arith, rest.within)) in
         let long : w.reading.taken + n ≡ length all = omega (arith, (r.held).count, rest.count, size, length-append front (byte ∷ []), length-append bytes (take rest.early run)) in
         run_by result room (subst (λ (a : Step). AfterRows limits all a (file_with w new (w.reading.taken + n)) after) (sym came) (long, last_taken (Err fault) is))
+
+-- A file that is read MCU row by MCU row and has a fault: which MCU rows the bytes up to it complete.
+
+-- data without a fault stop nothing
+pub no_stop : (row : Bool) (came_to : Step) (stop : Stop) → came_to ≡ cond row step.Row step.More → came_to ≡ step.Ended stop → ⊥
+no_stop true came_to stop is e = (let z : (let s : Step = step.Row in s) ≡ step.Ended stop = sym is ∙ e in cc)
+no_stop false came_to stop is e = (let z : (let s : Step = step.More in s) ≡ step.Ended stop = sym is ∙ e in cc)
+
+-- if another row is the current one, and as many are left
+before_same : (limits : Limits) (bytes : List ℕ) (before : List Segment) (contents : List ℕ) (rows other : RowWork) → unfinished rows ≡ unfinished other → CompletesBefore limits bytes before contents rows → CompletesBefore limits bytes before contents other
+before_same limits bytes before contents rows other same c = record { begins = c.begins; m = c.m; count = omega (arith, c.count, same); blocks = c.blocks; completed = c.completed }
+
+module _ (bytes : List ℕ) (w : FileWork) (scan : InScan) (rows : RowWork) (r : RowReady (limits_of w) bytes w scan rows) where
+  -- A BYTE
+  pub byte_at_fault : (byte : ℕ) (given : Result Bool Fault) (fault : Fault) → rows.waiting ≡ [] → StopsByteInRow scan rows byte given → given ≡ Err fault
+      → RowsSoFar (limits_of w) (bytes ++ byte ∷ []) rows
+  byte_at_fault b given fault none stops is =
+      inr (segments_of r.items, r.contents, stops fault (limits_of w) r.items r.contents bytes r.whole is r.row (ready_data bytes w scan rows r none) ((r.held).of, (r.at).at))
+
+  -- a marker that ends the scan
+  pub marker_at_fault : (all : List ℕ) (new : InScan) (after : RowWork) (row : Bool) → CountsScan scan.work rows row new.work after → row ≡ false
+      → scan_left new.work ≡ 0 → RowsSoFar (limits_of w) all rows
+  marker_at_fault all new after row c none done =
+      let counts = subst (λ (b : Bool). CountsScan scan.work rows b new.work after) none c in
+      let same : unfinished after ≡ unfinished rows = counts_rows scan.work new.work rows after false step.More counts refl in
+      let f = frame_behind (limits_of w) r.items in
+      let ids = components_of (limits_of w) r.items r.contents in
+      inl (sym same ∙ none_unfinished f ids after (scan_left new.work) (counts_in f ids scan.work new.work rows after row r.at c) done)
+
+  -- BITS that waited
+  pub rest_at_fault : (old : RowWork) (given : Result (Unit {0}) Fault) (fault : Fault) → 1 ≤ length rows.waiting → unfinished rows ≡ unfinished old
+      → StopsRestInRow scan rows given → given ≡ Err fault → RowsSoFar (limits_of w) bytes old
+  rest_at_fault old given fault some same stops is =
+      let h = half_of (limits_of w) r.items r.contents bytes rows.waiting scan r.whole some r.coded in
+      let k = stops fault (limits_of w) r.items r.contents bytes r.whole is r.row h ((r.held).of, (r.at).at) in
+      inr (segments_of r.items, r.contents, before_same (limits_of w) bytes (segments_of r.items) r.contents rows old same k)
+
+  -- SOME BYTES one after another
+  pub run_at_fault : (run : List ℕ) (n : ℕ) (given : Result (Unit {0}) Fault) (fault : Fault) → rows.waiting ≡ [] → StopsRunInRow scan rows run n given
+      → given ≡ Err fault → RowsSoFar (limits_of w) (bytes ++ take n run) rows
+  run_at_fault run n given fault none stops is =
+      inr (segments_of r.items, r.contents, stops fault (limits_of w) r.items r.contents bytes r.whole is r.row (ready_data bytes w scan rows r none) ((r.held).of, (r.at).at))
+
+-- from the first of them on
+pub front_at_fault : (limits : Limits) (front bytes : List ℕ) (size n : ℕ) (rows : RowWork) → size ≤ length bytes → n ≤ length (take size bytes)
+    → RowsSoFar limits (front ++ take n (take size bytes)) rows → RowsSoFar limits (front ++ take n bytes) rows
+front_at_fault limits front bytes size n rows few within k =
+    subst (λ l. RowsSoFar limits (front ++ l) rows) (take-take n size bytes (omega (arith, within, length-take-le size bytes few))) k
+
+-- Some bytes of a file that is read MCU row by MCU row.
+
+-- the file as it is read in one go
+pub goes_with : (limits : Limits) (bytes : List ℕ) (w : FileWork) (rows : RowWork) → (g : GoesByRow limits bytes w rows) → RepresentsFile limits bytes (with_picture w (g.stands).whole)
+goes_with limits bytes w rows g = by (g.stands).at
+  where
+    by : RowsInside limits bytes w rows (g.stands).whole ⊎ RowsAfter limits bytes w rows (g.stands).whole → RepresentsFile limits bytes (with_picture w (g.stands).whole)
+    by (inl r) =
+        let h = r.held in
+        let z = (g.stands).whole in
+        inr (record {
+          items = r.items;
+          contents = r.contents;
+          at = record {
+            coefs = z;
+            has = refl;
+            scan = r.scan;
+            inside = r.inside;
+            at = subst (λ (l : List Bool). InRowData limits r.items r.contents bytes l r.scan z) g.none r.coded;
+            head = h.head;
+            count = h.count;
+            behind = h.behind;
+          };
+          begun = h.begun;
+          within = h.within;
+          head = h.first_head;
+        })
+    by (inr b) = inl b.between
+
+pub goes_stands : (limits : Limits) (bytes : List ℕ) (w : FileWork) (rows : RowWork) → GoesByRow limits bytes w rows → (whole : Picture) × RepresentsFile limits bytes (with_picture w whole)
+goes_stands limits bytes w rows g = ((g.stands).whole, goes_with limits bytes w rows g)
+
+module _ (limits : Limits) (front bytes : List ℕ) (new : FileWork) (after : RowWork) (result : Step) where
+  -- a stretch from the first of them on
+  pub front_rows : (rows : RowWork) (size n : ℕ) → size ≤ length bytes → RowsRun limits front (take size bytes) n result rows new after
+      → RowsRun limits front bytes n result rows new after
+  front_rows rows size n few t =
+      let low = t.within in
+      let long = length-take-le size bytes few in
+      let same : take t.early (take size bytes) ≡ take t.early bytes = take-take t.early size bytes (omega (arith, low, long)) in
+      let byte : get_or (take size bytes) t.early 0 ≡ get_or bytes t.early 0 = get_or-take size bytes t.early 0 (omega (arith, low, long)) in
+      record {
+        mid = t.mid;
+        early = t.early;
+        count = t.count;
+        within = omega (arith, low, long, few);
+        rows_before = subst (λ l. RowsSoFar limits (front ++ l) rows) same t.rows_before;
+        before = subst (λ l. RepresentsFile limits (front ++ l) t.mid) same t.before;
+        room = t.room;
+        head = t.head;
+        last = subst (λ b. AfterRows limits ((front ++ take t.early bytes) ++ b ∷ []) result new after) byte (subst (λ l. AfterRows limits ((front ++ l) ++ get_or (take size bytes) t.early 0 ∷ []) result new after) same t.last);
+      }
+
+  -- a byte after some that were taken together
+  pub later_row : (n : ℕ) (mid : FileWork) (rows : RowWork) → GoesByRow limits (front ++ take n bytes) mid rows → mid.reading.taken < limits.input
+      → n < length bytes → new.head ≡ mid.head → AfterRows limits ((front ++ take n bytes) ++ get_or bytes n 0 ∷ []) result new after
+      → RowsRun limits front bytes (n + 1) result rows new after
+  later_row n mid rows g room less head a =
+      let k = goes_stands limits (front ++ take n bytes) mid rows g in
+      record { mid = with_picture mid k.0; early = n; count = refl; within = less; rows_before = goes_completes limits (front ++ take n bytes) mid rows g; before = k.1; room = room; head = sym head; last = a }
+
+-- FILL BYTES inside the data of the scan
+rows_stay : (limits : Limits) (bytes run : List ℕ) (n : ℕ) (w : FileWork) (rows : RowWork) → (g : GoesByRow limits bytes w rows) → (r : RowsInside limits bytes w rows (g.stands).whole) → has_waiting w.reading.scan ≡ true → limits_of w ≡ limits
+    → w.reading.taken + n < (limits_of w).input → GoesByRow limits (bytes ++ replicate n 255) (record w { reading = record w.reading { taken = w.reading.taken + n } }) rows
+rows_stay limits bytes run n w rows g r waits same room =
+    let h = r.held in
+    let z = (g.stands).whole in
+    let gate = waiting_scan w.reading.scan r.scan waits r.inside in
+    let inside = subst (λ (l : List Bool). InRowData limits r.items r.contents bytes l r.scan z) g.none r.coded in
+    let more : InRowData limits r.items r.contents (bytes ++ replicate n 255) [] r.scan z = ff_bytes limits r.items r.contents bytes n r.scan z inside gate in
+    let behind = h.behind in
+    let count = h.count in
+    let size = length-append bytes (replicate {A = ℕ} n 255) in
+    let all = length-replicate {A = ℕ} n 255 in
+    let input : (limits_of w).input ≡ limits.input = ap (λ (l : Limits). l.input) same in
+    record {
+      stands = record {
+        whole = z;
+        row = (g.stands).row;
+        at = inl (record {
+          items = r.items;
+          contents = r.contents;
+          scan = r.scan;
+          inside = r.inside;
+          coded = subst (λ (l : List Bool). InRowData limits r.items r.contents (bytes ++ replicate n 255) l r.scan z) (sym g.none) more;
+          held = record {
+            head = h.head;
+            count = omega (arith, count, size, all);
+            behind = omega (arith, behind);
+            begun = h.begun;
+            within = omega (arith, room, input, count, size, all);
+            first_head = has_longer limits bytes (replicate n 255) (bytes ++ replicate n 255) ((0xda, r.contents) ∷ segments_of r.items) w.head refl h.first_head;
+            of = h.of;
+            all = h.all;
+          };
+          at = r.at;
+        });
+      };
+      none = g.none;
+      turned = g.turned;
+    }
+
+pub rows_filled : (limits : Limits) (bytes run : List ℕ) (n : ℕ) (w : FileWork) (q : Reading) (rows : RowWork) → GoesByRow limits bytes w rows → is_some w.reading.scan ≡ true → limits_of w ≡ limits → FillsScan w.reading run n q
+    → GoesByRow limits (bytes ++ take n run) (record w { reading = q }) rows
+rows_filled limits bytes run zero w q rows g some same p =
+    let is : q ≡ w.reading = p.is ∙ ap (λ (t : ℕ). record w.reading { taken = t }) (omega arith) in
+    subst (λ (o : Reading). GoesByRow limits (bytes ++ []) (record w { reading = o }) rows) (sym is) (subst (λ (l : List ℕ). GoesByRow limits l w rows) (sym (append-nil bytes)) g)
+rows_filled limits bytes run (suc m) w q rows g some same p =
+    let n = suc m in
+    let waits = p.waits (λ e. omega (arith, e)) in
+    subst (λ (o : Reading). GoesByRow limits (bytes ++ take n run) (record w { reading = o }) rows) (sym p.is)
+    (subst (λ (l : List ℕ). GoesByRow limits (bytes ++ l) (record w { reading = record w.reading { taken = w.reading.taken + n } }) rows) (sym p.fill) (rows_stay limits bytes run n w rows g (inside_row limits bytes w rows g.stands some) waits same p.room))
+
+-- what they don't change
+pub filled_limits : (r : Reading) (run : List ℕ) (n : ℕ) (q : Reading) → FillsScan r run n q → q.items.limits ≡ r.items.limits
+filled_limits r run n q p = ap (λ (o : Reading). o.items.limits) p.is
+
+pub filled_scan : (r : Reading) (run : List ℕ) (n : ℕ) (q : Reading) → FillsScan r run n q → is_some r.scan ≡ true → is_some q.scan ≡ true
+filled_scan r run n q p some = ap (λ (o : Reading). is_some o.scan) p.is ∙ some
+
+-- WHAT A STATE ENCODES, with a current MCU row or none
+
+-- the file as it is read in one go
+pub record ReadWhole (limits : Limits) (bytes : List ℕ) (w : FileWork) : Type 0 where
+  pub file : FileWork
+  pub stands : RepresentsFile limits bytes file
+  pub head : file.head ≡ w.head
+  pub limits_same : limits_of file ≡ limits_of w
+  pub taken : file.reading.taken ≡ w.reading.taken
+
+pub strip_whole : (limits : Limits) (bytes : List ℕ) (rows : Option RowWork) (w : FileWork) → StripGoes limits bytes rows w → ReadWhole limits bytes w
+strip_whole l bytes None w g = record { file = w; stands = g; head = refl; limits_same = refl; taken = refl }
+strip_whole l bytes (Some rows) w g =
+    let k = goes_stands l bytes w rows g in
+    record { file = with_picture w k.0; stands = k.1; head = refl; limits_same = refl; taken = refl }
+
+pub strip_limits : (limits : Limits) (bytes : List ℕ) (rows : Option RowWork) (w : FileWork) → StripGoes limits bytes rows w → limits_of w ≡ limits
+strip_limits limits bytes rows w g = let k = strip_whole limits bytes rows w g in sym k.limits_same ∙ limits_are limits bytes k.file k.stands
+
+pub open_limits : (limits : Limits) (bytes : List ℕ) (rows : Option RowWork) (w : FileWork) → RepresentsStrip limits bytes rows w → limits_of w ≡ limits
+open_limits limits bytes None w g = limits_are limits bytes w g
+open_limits limits bytes (Some rows) w g = by g.at
+  where
+    by : RowsInside limits bytes w rows g.whole ⊎ RowsAfter limits bytes w rows g.whole → limits_of w ≡ limits
+    by (inl r) = ((r.held).head).bounded.1
+    by (inr b) = ((b.between).at).bounded.1
+
+-- the first scan header of the bytes
+pub open_head : (limits : Limits) (bytes : List ℕ) (rows : Option RowWork) (w : FileWork) → RepresentsStrip limits bytes rows w → IsFirstHeaderOf limits bytes w.head
+open_head limits bytes None w g = head_is limits bytes w g
+open_head limits bytes (Some rows) w g = by g.at
+  where
+    by : RowsInside limits bytes w rows g.whole ⊎ RowsAfter limits bytes w rows g.whole → IsFirstHeaderOf limits bytes w.head
+    by (inl r) = head_by limits bytes ((0xda, r.contents) ∷ segments_of r.items) w.head (λ none. absurd (clash true refl none)) (r.held).first_head
+    by (inr b) = head_is limits bytes (with_picture w g.whole) (inl b.between)

@@ -28,7 +28,7 @@ use Rattle.jpg_file.specs.Read.FirstHeader.{HasHead, HasNoHead, IsFirstHeaderOf}
 use Rattle.jpg_file.specs.declared.read.first_header.Head.{Head}
 use Rattle.jpg_file.specs.Read.SegmentState.{segments_view}
 use Rattle.jpg_file.specs.Read.Items.{AddsNoScan, AfterItem, AtPlace, AfterSegment, BetweenItems, IsOfMarker}
-use Rattle.jpg_file.specs.Read.Reading.{AfterHead, AfterItemByte, AfterScanByte, HeadWhole, Itemising, Scanning, TakesHead, TakesRunOfScan, item_answer}
+use Rattle.jpg_file.specs.Read.Reading.{AfterHead, AfterItemByte, AfterScanByte, HeadWhole, Itemising, Scanning, TakesHead, TakesRunOfScan, item_answer, with_coefs}
 use Rattle.jpg_file.specs.declared.read.scan.InScan.{InScan}
 use Rattle.jpg_file.specs.Read.File.{AfterFileByte, AfterFileStep, BesideItems, KeepsBytes, MakesPicture, TakesSome, EndsFile, EndStands, HasRoom, NotesHead, RoomMade, limits_of, scans_ended, HasCompleteHeader, PictureMade, PictureSoFar, RepresentsFile, IsBetweenFileItems, IsInsideScanOfFile}
 use Rattle.jpg_file.specs.declared.read.scan_history.ScanHistory.{ScanHistory}
@@ -38,8 +38,7 @@ use Rattle.jpg_file.specs.declared.read.items.ItemStep.TheVariants as step
 use Rattle.jpg_file.specs.declared.read.step.Step.{Step}
 use Rattle.jpg_file.specs.declared.read.step.Step.TheVariants as came
 use Rattle.jpg_file.specs.declared.read.file.FileWork.{FileWork}
-use Rattle.jpg_file.proofs.Headers.ScanHistories.{begun_goes_on}
-use Rattle.jpg_file.proofs.Headers.FirstHeaders.{between_header, has_longer, has_more, no_head, noted}
+use Rattle.jpg_file.proofs.Headers.InForce.{begun_goes_on, between_header, has_longer, has_more, no_head, noted}
 use Rattle.jpg_spec.proofs.Headers.FrameFound.{framed_end}
 use Rattle.jpg_spec.proofs.Headers.FirstScan.{not_none}
 
@@ -215,6 +214,12 @@ unbroken limits items contents bytes r s =
     let of = (s.at).of in
     let rule = (((s.at).at).allowed).1 in
     subst (λ c. contents_rule limits (segments_of items) 0xda c ≡ None) of.1 (subst (λ (l : List Item). contents_rule limits (segments_of l) 0xda place.contents ≡ None) of.0 rule)
+
+-- with the picture that is kept
+pub head_taken : (r new : Reading) (b after : ScanHistory) (q : Picture) (answer : Result (Unit {0}) FaultAt) → r.coefs ≡ Some q → new.coefs ≡ r.coefs → TakesHead (with_coefs r q) b answer (with_coefs new q) after → TakesHead r b answer new after
+head_taken r new b after q answer has same t = λ bytes items blocks k.
+    subst (λ (p : Option Picture). AfterHead r.items.limits bytes items r.items answer (record new { coefs = p }) after) (sym (same ∙ has))
+    (t bytes items blocks (subst (λ (p : Option Picture). HeadWhole r.items.limits bytes items blocks (record r { coefs = p }) b) has k))
 
 pub head_goes : (limits : Limits) (bytes : List ℕ) (old room taken new : FileWork) → (h : HasCompleteHeader limits bytes old) → HasRoom old room → room.head ≡ old.head → TakesHead room.reading room.begun (Ok tt) taken.reading taken.begun → taken.head ≡ room.head → NotesHead taken new
     → RepresentsFile limits bytes new

@@ -1,18 +1,18 @@
--- The effect of a byte between items on the bytes so far.
-use Rattle.std.proofs.Common.{◌≡◌, ℕ, suc, ◌+◌, ◌≤◌, List, [], ◌∷◌, ◌++◌, length, take, refl, sym, ap, ◌∙◌, subst, arith, Some, None, Ok, Err, inl, inr, ◌⊎◌}
+-- Bytes between items.
+use Rattle.std.proofs.Common.{◌≡◌, ℕ, suc, ◌+◌, ◌≤◌, List, [], ◌∷◌, ◌++◌, length, take, refl, sym, ap, ◌∙◌, subst, arith, Some, None, Ok, Err, inl, inr, ◌⊎◌, zero, ◌<◌}
 use Rattle.std.specs.Prelude.{replicate}
 use Rattle.std.specs.Int.{to_be_bytes, w16}
-use Rattle.std.proofs.lemmas.List.{append_assoc, append-nil, length-append, length-replicate}
+use Rattle.std.proofs.lemmas.List.{append_assoc, append-nil, length-append, length-replicate, length-take-le, take-take}
 use Rattle.jpg_spec.specs.Scan.{Blocks}
 use Rattle.jpg_spec.specs.Markers.{Segment, Rule, soi, SpellsMarker, SpellsSegment, SpellsSegments, BeginsSegment, PartOfSegment, NoMarkerBytes, TailReveals, RevealsNoStart, code_fault, kept_rule}
 use Rattle.jpg_spec.specs.Markers as markers
 use Rattle.jpg_spec.specs.Items.{Item, segment, segments_of, contents_rule}
 use Rattle.jpg_spec.specs.FileMeaning.{no_blocks}
-use Rattle.jpg_spec.specs.FirstFault.{Reveals}
+use Rattle.jpg_spec.specs.FirstFault.{Reveals, HasMeaning, IsEarly}
 use Rattle.jpg_spec.specs.UnfinishedFile.{UnfinishedFile}
 use Rattle.jpg_spec.specs.ScanReading.{Beside}
 use Rattle.jpg_spec.specs.declared.fault.Fault.{Fault}
-use Rattle.jpg_spec.specs.declared.fault.Fault.TheVariants.{NoMarker}
+use Rattle.jpg_spec.specs.declared.fault.Fault.TheVariants.{NoMarker, Truncated, InputTooLong}
 use Rattle.jpg_spec.specs.declared.frame.Limits.{Limits}
 use Rattle.jpg_spec.specs.declared.fault.FaultAt.{FaultAt}
 use Rattle.jpg_spec.proofs.Segments.MarkersOnce.{no_head}
@@ -29,6 +29,12 @@ use Rattle.jpg_file.specs.declared.read.segment_state.SegmentTaken.TheVariants a
 use Rattle.jpg_file.specs.declared.read.items.Items.{Items}
 use Rattle.jpg_file.specs.declared.read.items.ItemStep.TheVariants.{More}
 use Rattle.jpg_file.specs.Read.Items.{IsBeside, AtPlace, BetweenItems, AfterSegment, AfterItem, BehindEnd, AddsNoScan, PassesItems}
+use Rattle.std.proofs.lemmas.Bool.{cases_lt}
+use Rattle.jpg_spec.specs.Faults.{number_of}
+use Rattle.jpg_spec.proofs.Files.FileLaws.{shown_once}
+use Rattle.jpg_file.specs.Laws.{HasNoFault}
+
+-- The effect of a byte between items on the bytes so far.
 
 -- THE START
 
@@ -406,3 +412,63 @@ whole_passes w new bytes code contents n p spelled few other takes same = record
       whole_at limits front items blocks w k (take n bytes) code contents new p.was p.between (p.limits ∙ within) (same ∙ here) (p.stands k.sent (take n bytes) (segments_of items) k.stands spelled) other
       (subst (λ (l : Limits). contents_rule l (segments_of items) code contents ≡ None) here t.0) (subst (λ (l : Limits). Holds l (segments_view new.held) ((code, contents) ∷ segments_of items)) here t.1));
 }
+
+-- Bytes without a first fault have no fault in any prefix within the input's limit, so that they are a complete file, or
+-- one that ends early.
+
+-- no prefix of fewer bytes has a fault
+abbrev ShowNoneBelow : Limits → List ℕ → ℕ → Type 0
+ShowNoneBelow limits bytes n = (fault : Fault) (m : ℕ) → m < n → Reveals limits fault (take m bytes) → ⊥
+
+-- then this one has none: it would be the first
+none_at : (limits : Limits) (bytes : List ℕ) (n : ℕ) → HasNoFault limits bytes → n ≤ length bytes → n ≤ limits.input → ShowNoneBelow limits bytes n
+    → (fault : Fault) → Reveals limits fault (take n bytes) → ⊥
+none_at limits bytes n none long within below fault shown =
+    none fault n (inl (
+      within,
+      (
+        long,
+        shown,
+        below,
+        λ other less k. (let same = ap number_of (shown_once limits other fault (take n bytes) k shown) in let z : ⊥ = omega (arith, same, less) in z),
+      ),
+    ))
+
+-- nor have those of at most so many bytes
+none_up_to : (limits : Limits) (bytes : List ℕ) (n : ℕ) → HasNoFault limits bytes → n ≤ length bytes → n ≤ limits.input → ShowNoneBelow limits bytes n
+    → (fault : Fault) (m : ℕ) → m ≤ n → Reveals limits fault (take m bytes) → ⊥
+none_up_to limits bytes n none long within below fault m few shown = by (cases_lt m n)
+  where
+    by : (m < n) ⊎ (n ≤ m) → ⊥
+    by (inl h) = below fault m h shown
+    by (inr h) = let same : m ≡ n = omega (arith, h, few) in none_at limits bytes n none long within below fault (subst (λ i. Reveals limits fault (take i bytes)) same shown)
+
+none_below : (limits : Limits) (bytes : List ℕ) (n : ℕ) → HasNoFault limits bytes → n ≤ length bytes → n ≤ limits.input → ShowNoneBelow limits bytes n
+none_below limits bytes zero none long within fault m less shown = omega (arith, less)
+none_below limits bytes (suc n) none long within fault m less shown =
+    let long1 : n ≤ length bytes = omega (arith, long) in
+    let within1 : n ≤ limits.input = omega (arith, within) in
+    let few : m ≤ n = omega (arith, less) in
+    none_up_to limits bytes n none long1 within1 (none_below limits bytes n none long1 within1) fault m few shown
+
+pub not_left_out : (limits : Limits) (bytes : List ℕ) → HasNoFault limits bytes → (HasMeaning limits bytes → ⊥) → (IsEarly limits bytes → ⊥) → ⊥
+not_left_out limits bytes none unended late = by (cases_lt (length bytes) limits.input)
+  where
+    by : (length bytes < limits.input) ⊎ (limits.input ≤ length bytes) → ⊥
+    by (inl short) =
+        let few : length bytes ≤ length bytes = omega (arith) in
+        let within : length bytes ≤ limits.input = omega (arith, short) in
+        let below = none_below limits bytes (length bytes) none few within in
+        none Truncated (length bytes) (inr (inr (refl, refl, short, none_up_to limits bytes (length bytes) none few within below, unended, late)))
+    by (inr long) =
+        let within : limits.input ≤ limits.input = omega (arith) in
+        let below = none_below limits bytes limits.input none long within in
+        let size : length (take limits.input bytes) ≡ limits.input = length-take-le limits.input bytes long in
+        none InputTooLong limits.input (inr (inl (
+          refl,
+          refl,
+          long,
+          λ fault m few shown. (let less : m ≤ limits.input = omega (arith, few, size) in
+              none_up_to limits bytes limits.input none long within below fault m less (subst (Reveals limits fault) (take-take m limits.input bytes less) shown)),
+          unended,
+        )))

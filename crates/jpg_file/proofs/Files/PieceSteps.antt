@@ -1,22 +1,29 @@
--- A file that is being read, piece by piece.
-use Rattle.std.proofs.Common.{◌≡◌, ℕ, zero, suc, replicate, cond, ◌-◌, ◌+◌, ◌<◌, ◌≤◌, true, List, [], ◌∷◌, ◌++◌, length, take, drop, get_or, refl, Some, None, sym, ap, ◌∙◌, subst, arith, inl, inr}
-use Rattle.std.proofs.lemmas.List.{take-take, append-nil, get_or-take, length-take-le, append_assoc, length-append, length-replicate, take_more}
-use Rattle.std.proofs.Math.Seq.{take-add}
-use Rattle.std.specs.Prelude.{Option, is_some}
+-- Bytes of a piece, one after another and together.
+use Rattle.std.proofs.Common.{◌≡◌, ℕ, ◌≤◌, true, false, List, [], ◌++◌, length, refl, sym, ◌∙◌, subst, zero, suc, replicate, cond, ◌-◌, ◌+◌, ◌<◌, ◌∷◌, take, drop, get_or, Some, None, ap, arith, inl, inr, Option}
+use Rattle.std.specs.Prelude.{is_some}
+use Rattle.std.proofs.lemmas.List.{append-nil, take-take, get_or-take, length-take-le, append_assoc, length-append, length-replicate, take_more, length-drop, take_all, take-append-drop}
+use Rattle.jpg_spec.specs.Scan.{Blocks}
+use Rattle.jpg_spec.specs.Markers.{kept_rule, SpellsSegment}
+use Rattle.jpg_spec.specs.InForce.{frame_of}
+use Rattle.jpg_spec.specs.History.{is_complete}
 use Rattle.jpg_spec.specs.Items.{Item, segments_of}
 use Rattle.jpg_spec.specs.FileMeaning.{meaning_of}
-use Rattle.jpg_spec.specs.FirstFault.{IsFirstFault}
-use Rattle.jpg_spec.specs.UnfinishedFile.{UnfinishedFile, IsWholeFile}
+use Rattle.jpg_spec.specs.UnfinishedFile.{IsWholeFile, UnfinishedFile}
+use Rattle.jpg_spec.specs.FirstFault.{Reveals, IsFirstFault}
+use Rattle.jpg_spec.specs.declared.fault.Fault.TheVariants.{MissingComponent, InputTooLong}
+use Rattle.jpg_spec.specs.declared.frame.Limits.{Limits}
+use Rattle.jpg_spec.proofs.Files.ItemSteps.{fill_marker, missing_shown}
+use Rattle.jpg_file.specs.declared.read.items.Items.{Items}
+use Rattle.jpg_file.specs.Read.Items.{BehindEnd, PassesItems}
+use Rattle.std.proofs.Math.Seq.{take-add}
 use Rattle.jpg_spec.specs.Laws.{frame_of_items}
 use Rattle.jpg_spec.specs.declared.fault.FaultAt.{FaultAt}
-use Rattle.jpg_spec.specs.declared.frame.Limits.{Limits}
-use Rattle.jpg_spec.specs.declared.fault.Fault.TheVariants.{InputTooLong}
 use Rattle.jpg_spec.proofs.Files.FileLaws.{next_shown, stands_too_long}
 use Rattle.jpg_file.specs.Read.File.{AfterFileByte, KeepsBytes, PassesFront, TakesFileByte, TakesSome, EndsFile, IsStop, RepresentsFile, limits_of}
 use Rattle.jpg_file.specs.Read.FirstHeader.{IsFirstHeaderOf}
 use Rattle.jpg_file.specs.Read.ReadFile.{IsRefusal, IsStopOf, KeepsHeadAt}
 use Rattle.jpg_coefs.specs.Picture.{Picture}
-use Rattle.jpg_file.specs.Read.Going.{FillsScan, GoesOn, has_waiting}
+use Rattle.jpg_file.specs.Read.Going.{FillsScan, GoesOn, has_waiting, CanGoOn, file_with}
 use Rattle.jpg_file.specs.Read.Reading.{Scanning}
 use Rattle.jpg_file.specs.declared.read.scan.InScan.{InScan}
 use Rattle.jpg_file.specs.declared.read.scan_history.ScanHistory.{ScanHistory}
@@ -27,11 +34,45 @@ use Rattle.jpg_file.specs.declared.read.step.Step.TheVariants as came
 use Rattle.jpg_base.specs.declared.stop.Stop.TheVariants as stop
 use Rattle.jpg_file.specs.declared.read.reading.Reading.{Reading}
 use Rattle.jpg_file.specs.declared.read.file.FileWork.{FileWork}
-use Rattle.jpg_file.proofs.Files.Ending.{file_ends}
-use Rattle.jpg_file.proofs.Files.FileSteps.{after_inside, asked, inside_of, head_is}
+use Rattle.jpg_file.proofs.Files.FileSteps.{after_inside, asked, inside_of, head_is, after_between, between_of}
 use Rattle.jpg_file.proofs.Files.ItemBytes.{between_stands}
 use Rattle.jpg_file.proofs.Scans.ScanBytes.{data_stands, ff_bytes}
 use Rattle.jpg_spec.proofs.Basics.Common.{joined, whole_front}
+use Rattle.jpg_spec.specs.FrameHeader.{AreLimits}
+use Rattle.jpg_base.proofs.FedPiece.{take_both}
+use Rattle.jpg_spec.proofs.Segments.MarkersOnce.{segment_once}
+use Rattle.jpg_markers.specs.Reading.{HasNoSegment, MayFollow, PassesDue, filled, reading_of}
+use Rattle.jpg_file.specs.Read.Passing.{HasNoneToPass, IsLeft, PassesAll, PassesMost, before_last}
+
+-- EOI: the file is complete, or a component is missing.
+
+pub file_ends : (limits : Limits) (bytes : List ℕ) (items : List Item) (blocks : Blocks) (w : Items) → BehindEnd limits bytes items blocks w → is_complete (frame_of limits (segments_of items)) (segments_of items) ≡ true → length bytes ≤ limits.input
+    → IsWholeFile limits bytes (meaning_of (frame_of limits (segments_of items)) (segments_of items) blocks)
+file_ends limits bytes items blocks w k whole long =
+    let b = (k.at).beside in
+    let front = (b.behind).front in (
+      record {
+        items = items;
+        blocks = blocks;
+        front = front;
+        marker = replicate b.fill 255 ++ k.tail;
+        rest = [];
+        cut = (b.behind).cut ∙ sym (append-nil (front ++ (replicate b.fill 255 ++ k.tail)));
+        spelled = (b.behind).spelled;
+        ended = fill_marker b.fill 0xd9 k.tail k.ended;
+        long = subst (λ l. length l ≤ limits.input) (b.behind).cut long;
+        leads = (k.at).leads;
+        framed = k.allowed;
+        complete = whole;
+        meaning = refl;
+      },
+      refl,
+    )
+
+pub file_lacks : (limits : Limits) (bytes : List ℕ) (items : List Item) (blocks : Blocks) (w : Items) → BehindEnd limits bytes items blocks w → is_complete (frame_of limits (segments_of items)) (segments_of items) ≡ false → Reveals limits MissingComponent bytes
+file_lacks limits bytes items blocks w k missing = missing_shown limits (kept_rule limits) k.sent bytes items k.tail (k.at).beside k.ended k.allowed missing
+
+-- A file that is being read, piece by piece.
 
 -- WHAT A STATE ENCODES
 
@@ -216,3 +257,145 @@ front_taken w bytes size n answer new few t =
       before = λ limits front k e. subst (λ l. RepresentsFile limits (front ++ l) t.mid) same (t.before limits front k e);
       last = λ limits front k e. subst (λ b. AfterFileByte (KeepsBytes w) limits (front ++ b ∷ []) answer new) (get_or-take size bytes t.early 0 (omega (arith, low, long))) (t.last limits front k e);
     }
+
+-- Bytes between items, or inside a segment, that are taken together.
+
+-- by what the items pass
+pub goes : (r : Reading) (items : Items) (bytes : List ℕ) (n : ℕ) → CanGoOn r bytes → PassesItems r.items bytes n items → GoesOn r bytes n (record r { items = items; taken = r.taken + n })
+goes r items bytes n g p = record {
+  within = p.within;
+  limits = p.limits;
+  same = p.same;
+  taken = refl;
+  count = p.taken;
+  scan = refl;
+  coefs = refl;
+  stands = λ w coefs limits front k.
+      (let old = file_with w r coefs in
+      let new : Reading = record r { items = items; taken = r.taken + n } in
+      let s = between_of limits front old k (ap is_some g.none) in
+      let few = p.within in
+      let room = g.room in
+      let long = length-take-le n bytes few in
+      let all = length-append front (take n bytes) in
+      let count = (s.beside).count in
+      let input : r.items.limits.input ≡ limits.input = ap (λ (l : Limits). l.input) (limits_are limits front old k) in
+      after_between limits front (take n bytes) step.More old (file_with w new coefs) s
+      (record {
+        after = p.stands limits front s.items s.blocks s.at;
+        none = g.none;
+        count = omega (arith, count, long, all);
+        same = p.taken ∙ ap (λ (m : ℕ). m + n) (s.beside).same;
+      })
+      refl refl refl (omega (arith, room, few, count, long, all, input)));
+}
+
+pub rest_is : (n : ℕ) (bytes : List ℕ) → take (length bytes - n) (drop n bytes) ≡ drop n bytes
+rest_is n bytes = let size = length-drop n bytes in take_all (length bytes - n) (drop n bytes) (omega (arith, size))
+
+pub goes_then : (a b c : Reading) (bytes : List ℕ) (n m : ℕ) → GoesOn a bytes n b → GoesOn b (take (length bytes - n) (drop n bytes)) m c → GoesOn a bytes (n + m) c
+goes_then a b c bytes n m p q =
+    let few = p.within in
+    let size = length-drop n bytes in
+    let more = q.within in
+    let left = ap length (rest_is n bytes) in
+    let first = p.taken in
+    let then = q.taken in
+    let one = p.count in
+    let two = q.count in
+    record {
+      within = omega (arith, few, size, more, left);
+      limits = q.limits ∙ p.limits;
+      same = q.same ∙ p.same;
+      taken = omega (arith, first, then);
+      count = omega (arith, one, two);
+      scan = q.scan ∙ p.scan;
+      coefs = q.coefs ∙ p.coefs;
+      stands = λ w coefs limits front k.
+          subst (λ l. RepresentsFile limits l (file_with w c coefs))
+          (append_assoc front (take n bytes) (take m (take (length bytes - n) (drop n bytes))) ∙ ap (λ l. front ++ l) (ap (λ l. take n bytes ++ take m l) (rest_is n bytes) ∙ sym (take_both n m bytes few)))
+          (q.stands w coefs limits (front ++ take n bytes) (p.stands w coefs limits front k));
+    }
+
+pub goes_last : (a b c : Reading) (bytes : List ℕ) (n m : ℕ) → GoesOn a bytes n b → GoesOn b (take (length bytes - n) (drop n bytes)) m c → m ≡ 0 → GoesOn a bytes n c
+goes_last a b c bytes n m p q none =
+    let same : n + m ≡ n = omega (arith, none) in
+    subst (λ (k : ℕ). GoesOn a bytes k c) same (goes_then a b c bytes n m p q)
+
+-- and after some of them it may go on with the rest
+pub can_after : (a b : Reading) (bytes : List ℕ) (n : ℕ) → CanGoOn a bytes → GoesOn a bytes n b → CanGoOn b (take (length bytes - n) (drop n bytes))
+can_after a b bytes n g p =
+    let few = p.within in
+    let room = g.room in
+    let taken = p.taken in
+    let size = length-drop n bytes in
+    let left = ap length (rest_is n bytes) in
+    record {
+      none = p.scan ∙ g.none;
+      same = p.same ∙ g.same ∙ sym p.limits;
+      count = p.count ∙ ap (λ (m : ℕ). m + n) g.count ∙ sym p.taken;
+      limits = subst (λ l. AreLimits l) (sym p.limits) g.limits;
+      room = subst (λ (l : Limits). b.taken + length (take (length bytes - n) (drop n bytes)) ≤ l.input) (sym p.limits) (omega (arith, few, room, taken, size, left));
+    }
+
+-- or with some of what is given
+pub can_front : (r : Reading) (bytes : List ℕ) (most : ℕ) → CanGoOn r [] → most ≤ length bytes → r.taken + most ≤ r.items.limits.input → CanGoOn r (take most bytes)
+can_front r bytes most g few room =
+    let size = length-take-le most bytes few in
+    record { none = g.none; same = g.same; count = g.count; limits = g.limits; room = omega (arith, room, size) }
+
+pub goes_front : (a b : Reading) (bytes : List ℕ) (most n : ℕ) → most ≤ length bytes → GoesOn a (take most bytes) n b → GoesOn a bytes n b
+goes_front a b bytes most n few p =
+    let size = length-take-le most bytes few in
+    let less = p.within in
+    record {
+      within = omega (arith, few, size, less);
+      limits = p.limits;
+      same = p.same;
+      taken = p.taken;
+      count = p.count;
+      scan = p.scan;
+      coefs = p.coefs;
+      stands = λ w coefs limits front k. subst (λ l. RepresentsFile limits (front ++ l) (file_with w b coefs)) (take-take n most bytes (omega (arith, size, less))) (p.stands w coefs limits front k);
+    }
+
+-- As many bytes as can be taken at once.
+
+-- The bytes begin with this segment alone.
+pub one_left : (w : Items) (bytes : List ℕ) (code : ℕ) (contents : List ℕ) (n : ℕ) → SpellsSegment code contents (take n bytes)
+    → ((reading_of w.segments).stop ≡ None → MayFollow (reading_of w.segments) code contents → IsLeft w code contents) → HasNoneToPass w bytes
+one_left w bytes code contents n spelled left = λ c xs m going may few other.
+    let once = segment_once code c contents xs (take n bytes) (take m bytes) (drop n bytes) (drop m bytes) spelled other (take-append-drop n bytes ∙ sym (take-append-drop m bytes)) in
+    let first = subst (λ k. MayFollow (reading_of w.segments) k xs) (sym once.0) may in
+    let here = left going (subst (λ l. MayFollow (reading_of w.segments) code l) (sym once.1) first) in
+    subst (λ k. IsLeft w k xs) once.0 (subst (λ l. IsLeft w code l) once.1 here)
+
+-- No segment is complete there.
+pub none_there : (w : Items) (bytes : List ℕ) → HasNoSegment bytes → HasNoneToPass w bytes
+none_there w bytes none = λ c xs m going may few other. absurd (none c xs m other)
+
+-- in the rest of some bytes
+pub none_in_rest : (w : Items) (bytes : List ℕ) (n : ℕ) → HasNoneToPass w (take (length bytes - n) (drop n bytes)) → HasNoneToPass w (drop n bytes)
+none_in_rest w bytes n none = subst (λ l. HasNoneToPass w l) (rest_is n bytes) none
+
+-- segments and what is due
+pub passes_most : (old mid : Reading) (bytes : List ℕ) (n m : ℕ) → GoesOn old bytes n mid → HasNoneToPass mid.items (drop n bytes) → PassesDue (mid.items).segments (take (length bytes - n) (drop n bytes)) m
+    → PassesMost old bytes (n + m)
+passes_most old mid bytes n m segments none due = record {
+  mid = mid;
+  early = n;
+  late = m;
+  count = refl;
+  segments = segments;
+  none = none;
+  due = subst (λ l. PassesDue (mid.items).segments l m) (rest_is n bytes) due;
+}
+
+-- by whether a scan is being read
+pub all_in_scan : (s : Option InScan) (r : Reading) (bytes : List ℕ) (n : ℕ) → is_some s ≡ true → (has_waiting s ≡ true → n ≡ filled (before_last r bytes)) → PassesAll s r bytes n
+all_in_scan None r bytes n some fill = absurd cc
+all_in_scan (Some scan) r bytes n some fill = fill
+
+pub all_between : (s : Option InScan) (r : Reading) (bytes : List ℕ) (n : ℕ) → is_some s ≡ false → PassesMost r (before_last r bytes) n → PassesAll s r bytes n
+all_between None r bytes n none most = most
+all_between (Some scan) r bytes n none most = absurd cc

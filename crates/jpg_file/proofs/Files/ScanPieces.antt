@@ -13,8 +13,8 @@ use Rattle.jpg_file.specs.Read.RowPieces.{RowsGo}
 use Rattle.jpg_file.specs.Read.RowsKnown.{KnowsRows}
 use Rattle.jpg_file.specs.Read.RowsNone.{NoRowsIn}
 use Rattle.jpg_file.specs.Read.ScanPieces.{CountsBefore, CountsOn, EndsOrFull, ReadsScan}
-use Rattle.jpg_file.specs.declared.read.scan_pieces.FedScan.{FedScan}
-use Rattle.jpg_file.specs.declared.read.scan_pieces.FedScan.TheVariants as came
+use Rattle.jpg_file.specs.declared.read.pieces.FedScan.{FedScan}
+use Rattle.jpg_file.specs.declared.read.pieces.FedScan.TheVariants as came
 use Rattle.jpg_file.specs.declared.read.step.Step.{Step}
 use Rattle.jpg_file.specs.declared.read.step.Step.TheVariants as step
 use Rattle.jpg_file.specs.declared.read.strip_work.StripWork.{StripWork}

@@ -31,9 +31,8 @@ use Rattle.jpg_prog_read.specs.DcPlaces.{IsDcBand}
 use Rattle.jpg_prog_read.specs.DcRefinement.{HasDcRoom as DcHasRoom, HasRoomAt, TakesOneBit}
 use Rattle.jpg_file.specs.Read.InData.{IsInterval, IsReadable, frame_at}
 use Rattle.jpg_file.specs.Read.Machine.{FitsKind, any_scan, scan_kind, dc_first, dc_later, ac_band}
-use Rattle.jpg_file.proofs.Headers.HeaderBits.{Says, head_says}
+use Rattle.jpg_file.proofs.Headers.HeaderTaken.{Says, head_says, BeginsPass, ac_band_room, dc_room}
 use Rattle.jpg_file.proofs.Scans.Machines.{head_kind, kind_of_coding}
-use Rattle.jpg_file.proofs.Headers.ProgressiveRoom.{BeginsPass, ac_band_room, dc_room}
 
 pub distinct_places : (limits : Limits) (p : ScanPlace) → IsReadable limits p → AreDistinct (scan_at limits p).places
 distinct_places limits p r = units_distinct (frame_at limits p) (head_components (head_of limits p)) r.distinct

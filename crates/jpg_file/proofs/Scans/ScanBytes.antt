@@ -1,7 +1,7 @@
 -- Inside the data of a scan: the effect of the machine's answers on the place.
-use Rattle.std.proofs.Common.{◌≡◌, ℕ, zero, suc, ◌+◌, ◌-◌, ◌%◌, ◌≤◌, min, Bool, true, false, List, [], ◌∷◌, ◌++◌, length, refl, sym, ap, ◌∙◌, subst, arith, ℤ, Ok, Err}
+use Rattle.std.proofs.Common.{◌≡◌, ℕ, zero, suc, ◌+◌, ◌-◌, ◌%◌, ◌≤◌, min, Bool, true, false, List, [], ◌∷◌, ◌++◌, length, refl, sym, ap, ◌∙◌, subst, arith, ℤ, Ok, Err, cond, take, get_or}
 use Rattle.std.specs.Prelude.{flat_map, replicate, Result}
-use Rattle.std.proofs.lemmas.List.{append-nil, append_assoc, length-append}
+use Rattle.std.proofs.lemmas.List.{append-nil, append_assoc, length-append, length-take-le, get_or-take}
 use Rattle.jpg_spec.specs.Bits.{bits_of, bits_of_bytes}
 use Rattle.jpg_spec.specs.Elements.{Coding, UnitLeft, SpellsUnits}
 use Rattle.jpg_spec.specs.Scan.{Scan, ScanMeans, band, block_at}
@@ -31,13 +31,15 @@ use Rattle.jpg_coefs.specs.declared.machine.Taken.TheVariants as taken
 use Rattle.jpg_coefs.proofs.Chains.{answer_to, chain_stands, some_taken}
 use Rattle.jpg_file.specs.declared.read.machine.ScanReader.{ScanReader}
 use Rattle.jpg_file.specs.Read.Machine.{any_scan}
-use Rattle.jpg_file.specs.Read.Data.{AnswersIn, GivesBits}
+use Rattle.jpg_file.specs.Read.Data.{AnswersIn, GivesBits, GivesRun}
 use Rattle.jpg_file.specs.declared.read.scan.ScanWork.{ScanWork}
 use Rattle.jpg_huff.specs.Gate.{IsData}
 use Rattle.jpg_file.specs.declared.read.scan.InScan.{InScan}
-use Rattle.jpg_file.specs.Read.InData.{frame_at, IsReadable, IsInterval, IsDue, IsRead, AtInterval, AreIntervals, AtWork, MarkerAt, NextBegins, Waits, InData, AfterData, AfterMarker, AfterByte, AfterBytes, byte_answer, scan_answer, work_after}
+use Rattle.jpg_file.specs.Read.InData.{frame_at, IsReadable, IsInterval, IsDue, IsRead, AtInterval, AreIntervals, AtWork, MarkerAt, NextBegins, Waits, InData, AfterData, AfterMarker, AfterByte, AfterBytes, byte_answer, scan_answer, work_after, ArePlain, TakesRun}
 use Rattle.jpg_file.proofs.Scans.IntervalFits.{distinct_places, interval_fits, same_units}
 use Rattle.jpg_file.proofs.Scans.Machines.{scans_keep_units}
+use Rattle.jpg_file.specs.Read.RowData.{HalfData}
+use Rattle.jpg_file.specs.Read.RowPlaces.{scan_left}
 
 abbrev pub Due : Limits → ScanPlace → ScanReader → Picture → Type 0
 Due limits p m now = IsDue ScanReader any_scan limits p m now
@@ -341,3 +343,149 @@ module _ (limits : Limits) (items : List Item) (contents bytes : List ℕ) where
       by : (b : Bool) → AtInterval limits d.place b s.work.machine now → UnfinishedFile limits bytes
       by false k = (let u = due_units limits d.place s.work.machine now (d.work).readable k in units_due limits bytes d.place d.fill u.told u.left d.at u.stands)
       by true k = complete_stands limits bytes d.place d.fill d.at k.completes
+
+-- Inside an interval of a scan: units are left, and its machine took bits of the data.
+
+-- the current interval at a place, the bits of it that the machine took, and those that follow them
+pub record InInterval (limits : Limits) (p : ScanPlace) (w : ScanWork) (now : Picture) (rest : List Bool) : Type 0 where
+  pub interval : Interval
+  pub readable : IsReadable limits p
+  pub is : IsInterval limits p interval
+  pub framed : interval.before.frame ≡ frame_at limits p
+  pub so_far : ScanSoFar (scan_at limits p) p.blocks (map_of interval.before) p.done (p.places ∷ p.later)
+  pub taken : List Bool
+  pub cut : bits_of_bytes p.coded ≡ taken ++ rest
+  pub stands : any_scan.stands w.machine interval taken now
+  pub whole : w.whole ≡ false
+  pub due : w.due ≡ length (joined p.later)
+
+module _ (limits : Limits) (p : ScanPlace) (w : ScanWork) (now : Picture) where
+  -- as many units are left as in it, and after it
+  pub left_in : (rest : List Bool) → InInterval limits p w now rest → scan_left w ≡ length (joined p.later) + any_scan.left w.machine
+  left_in rest d = omega (arith, ap (λ b. w.due + cond b 0 (any_scan.left w.machine)) d.whole, d.due)
+
+  -- the machine took all bits, or none of those of further bytes
+  pub of_bytes : (more : List ℕ) → w.whole ≡ false → AtWork limits p w now → InInterval limits (with_bytes p more) w now (bits_of_bytes more)
+  of_bytes more e k =
+      let d = due_at limits p w now e k in
+      record {
+        interval = d.interval;
+        readable = record { distinct = (k.readable).distinct };
+        is = record { scan = (d.is).scan; places = (d.is).places; later = (d.is).later };
+        framed = d.framed;
+        so_far = d.so_far;
+        taken = bits_of_bytes p.coded;
+        cut = bits_join p.coded more;
+        stands = d.stands;
+        whole = e;
+        due = k.due;
+      }
+
+  pub of_work : w.whole ≡ false → AtWork limits p w now → InInterval limits p w now []
+  of_work e k =
+      let d = due_at limits p w now e k in
+      record {
+        interval = d.interval;
+        readable = k.readable;
+        is = d.is;
+        framed = d.framed;
+        so_far = d.so_far;
+        taken = bits_of_bytes p.coded;
+        cut = sym (append-nil (bits_of_bytes p.coded));
+        stands = d.stands;
+        whole = e;
+        due = k.due;
+      }
+
+-- bits of the last byte wait
+module _ (limits : Limits) (items : List Item) (contents bytes : List ℕ) where
+  pub of_half : (waiting : List Bool) (s : InScan) (now : Picture) (h : HalfData limits items contents bytes waiting s now)
+      → InInterval limits (with_byte h.place h.byte) s.work now waiting
+  of_half waiting s now h =
+      let p = h.place in
+      let k = due_at limits p h.old h.before h.due h.work in
+      let b = h.bits in
+      let coded = bits_of_bytes p.coded in
+      let one : bits_of_bytes (h.byte ∷ []) ≡ bits_of 8 h.byte = append-nil (bits_of 8 h.byte) in
+      record {
+        interval = k.interval;
+        readable = record { distinct = ((h.work).readable).distinct };
+        is = record { scan = (k.is).scan; places = (k.is).places; later = (k.is).later };
+        framed = k.framed;
+        so_far = k.so_far;
+        taken = coded ++ b.0;
+        cut = bits_join p.coded (h.byte ∷ []) ∙ ap (λ z. coded ++ z) (one ∙ b.1) ∙ sym (append_assoc coded b.0 waiting);
+        stands = chain_stands any_scan (h.old).machine s.work.machine h.before now k.interval coded b.0 b.2 k.stands;
+        whole = ap (λ (q : ScanWork). q.whole) h.same ∙ h.due;
+        due = ap (λ (q : ScanWork). q.due) h.same ∙ (h.work).due;
+      }
+
+-- Plain bytes one after another, inside the data of a scan.
+
+-- THE PLACE after plain bytes
+pub plain_at : (limits : Limits) (bytes : List ℕ) (p : ScanPlace) (run : List ℕ) → ArePlain run → ScanAt limits bytes p [] → ScanAt limits (bytes ++ run) (with_bytes p run) []
+plain_at limits bytes p [] plain w =
+    subst (λ l. ScanAt limits l (with_bytes p []) []) (sym (append-nil bytes)) (subst (λ l. ScanAt limits bytes (record p { coded = l }) []) (sym (append-nil p.coded)) (same p w))
+  where
+    same : (q : ScanPlace) → ScanAt limits bytes q [] → ScanAt limits bytes (record q { coded = q.coded }) []
+    same q s = s
+plain_at limits bytes p (b ∷ run) plain w =
+    let first = plain_data limits bytes p b w (λ e. plain zero (omega arith) e) in
+    let others = plain_at limits (bytes ++ b ∷ []) (with_byte p b) run (λ k low e. plain (suc k) (omega (arith, low)) e) first in
+    subst (λ l. ScanAt limits l (with_bytes p (b ∷ run)) []) (append_assoc bytes (b ∷ []) run)
+    (subst (λ l. ScanAt limits ((bytes ++ b ∷ []) ++ run) (record p { coded = l }) []) (append_assoc p.coded (b ∷ []) run) others)
+
+-- a prefix of plain bytes is plain
+pub front_plain : (run : List ℕ) (n : ℕ) → n ≤ length run → ArePlain run → ArePlain (take n run)
+front_plain run n few plain k low e =
+    let size = length-take-le n run few in
+    plain k (omega (arith, low, size, few)) (sym (get_or-take n run k 0 (omega (arith, low, size))) ∙ e)
+
+-- no FF waits
+none_waits : (gate : Bool) (fill : ℕ) → gate ≡ false → Waits gate fill → fill ≡ 0
+none_waits false fill e w = w
+none_waits true fill e w = cc
+
+pub open_at : (limits : Limits) (items : List Item) (contents bytes : List ℕ) (s : InScan) (now : Picture) → (d : InData limits items contents bytes s now) → s.gate ≡ false → ScanAt limits bytes d.place []
+open_at limits items contents bytes s now d e = subst (λ n. ScanAt limits bytes d.place (replicate n 255)) (none_waits s.gate d.fill e d.waits) d.at
+
+-- THE STATE before the last of the bytes
+abbrev pub mid_of : InScan → ScanReader → InScan
+mid_of s m = record s { work = record (s.work) { machine = m; whole = false } }
+
+module _ (s : InScan) (now : Picture) (gate : s.gate ≡ false) (whole : s.work.whole ≡ false) where
+  pub before_last : (m : ScanReader) (between : Picture) (run : List ℕ) (early : ℕ) → early ≤ length run → ArePlain run
+      → Chain any_scan s.work.machine now (bits_of_bytes (take early run)) m between → (limits : Limits) (items : List Item) (contents bytes : List ℕ)
+      → InData limits items contents bytes s now → InData limits items contents (bytes ++ take early run) (mid_of s m) between
+  before_last m between run early few plain chain limits items contents bytes d =
+      record {
+        place = with_bytes d.place (take early run);
+        of = d.of;
+        fill = 0;
+        at = plain_at limits bytes d.place (take early run) (front_plain run early few plain) (open_at limits items contents bytes s now d gate);
+        waits = subst (λ b. Waits b 0) (sym gate) refl;
+        work = due_chain limits d.place s.work now whole d.work (take early run) m between chain;
+      }
+
+  -- THE LAST of them
+  last_takes : (m : ScanReader) (after : Picture) (byte : ℕ) (answer : Taken) → (byte ≡ 255 → ⊥)
+      → GivesBits any_scan s.work.machine now (bits_of 8 byte) answer [] m after → (limits : Limits) (items : List Item) (contents bytes : List ℕ)
+      → InData limits items contents bytes s now
+      → AfterBytes limits items contents (bytes ++ byte ∷ []) (scan_answer answer) (record s { work = work_after (s.work) m answer }) after
+  last_takes m after byte answer plain took limits items contents bytes d =
+      let at = plain_data limits bytes d.place byte (open_at limits items contents bytes s now d gate) plain in
+      data_byte limits items contents (bytes ++ byte ∷ []) (with_byte d.place byte) s.gate (work_after (s.work) m answer) after (scan_answer answer) d.of at gate (due_data limits d.place s.work now whole d.work (bytes ++ byte ∷ []) byte m after answer at took)
+
+-- THE COMPLETE RUN
+pub run_takes : (s : InScan) (m : ScanReader) (now after : Picture) (run : List ℕ) (n : ℕ) (answer : Taken) → s.gate ≡ false → s.work.whole ≡ false → ArePlain run
+    → GivesRun ScanReader any_scan s.work.machine now run n answer [] m after → TakesRun s now run n (scan_answer answer) (record s { work = work_after (s.work) m answer }) after
+run_takes s m now after run n answer gate whole plain g = record {
+  mid = mid_of s g.mid;
+  between = g.between;
+  early = g.early;
+  count = g.count;
+  within = g.within;
+  «open» = gate;
+  before = (let low = g.within in before_last s now gate whole g.mid g.between run g.early (omega (arith, low)) plain g.chain);
+  last = last_takes (mid_of s g.mid) g.between gate refl m after (get_or run g.early 0) answer (plain g.early g.within) g.last;
+}

@@ -26,9 +26,8 @@ use Rattle.jpg_file.specs.Write.WriteScan.{CanStart, CanWriteDue, CanWriteScan, 
 use Rattle.jpg_file.specs.Write.WriteTables.{GivesTables, has_typical}
 use Rattle.jpg_file.specs.declared.write.Plan.{Plan}
 use Rattle.jpg_file.specs.declared.write.sole.SoleScan.{SoleScan}
-use Rattle.jpg_file.proofs.Writing.ScanHeads.{head_names}
+use Rattle.jpg_file.proofs.Writing.ScanHeads.{head_names, kind_given}
 use Rattle.jpg_file.proofs.Writing.ScansDue.{can_write, text_is}
-use Rattle.jpg_file.proofs.Writing.TableSets.{kind_given}
 use Rattle.jpg_file.proofs.Writing.WrittenText.{can_scans, file_is, meaning_grids}
 
 -- DISTINCT NUMBERS below one, and all of them, are as many

@@ -112,12 +112,6 @@ IsOfMarker NoMemory = ⊥
 abbrev pub AfterScan : Limits → List Item → List ℕ → List ℕ → Blocks → ItemStep → Items → Type 0
 AfterScan limits items contents bytes blocks answer w = (intervals : List (List ℕ)) × AfterItem limits bytes (scan contents intervals ∷ items) blocks answer w × IsOfMarker answer
 
--- a scan header was judged
-abbrev pub PassesHead : Items → Items → Type 0
-PassesHead old new =
-    (bytes : List ℕ) (items : List Item) (blocks : Blocks) → AfterSegment old.limits bytes items blocks old → (reading_of old.segments).code ≡ 0xda
-    → BehindHead old.limits items (reading_of old.segments).contents new
-
 -- the marker that ended the data of a scan
 abbrev pub TakesMarker : Items → ℕ → ItemStep → Items → Type 0
 TakesMarker old code answer new =

@@ -10,7 +10,7 @@ use Rattle.jpg_file.specs.Read.RowsKnown.{KnowsByte, KnowsSome}
 use Rattle.jpg_file.specs.Read.RowsNone.{HasNoRows, NoneByte, NoneFed, NoneSome}
 use Rattle.jpg_file.specs.Read.Step.{IfStops, IfWants, IsNoRow, HasMemory}
 use Rattle.jpg_file.specs.Read.Strips.{CountsRowsOfScan, CountsStrip, SparesRows, TakesFirstByte, TakesStrip}
-use Rattle.jpg_file.specs.declared.read.row_pieces.FedRow.{FedRow}
+use Rattle.jpg_file.specs.declared.read.pieces.FedRow.{FedRow}
 use Rattle.jpg_file.specs.declared.read.strip_work.StripWork.{StripWork}
 use Rattle.jpg_file.specs.declared.read.step.Step.{Step}
 

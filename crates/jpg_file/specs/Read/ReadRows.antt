@@ -33,8 +33,8 @@ use Rattle.jpg_file.specs.Read.StripHead.{IsHeadOfPicture}
 use Rattle.jpg_file.specs.Read.Strips.{GoesByRow, SparesRows, RepresentsRows}
 use Rattle.jpg_file.specs.declared.read.ends.End.{End}
 use Rattle.jpg_file.specs.declared.read.ends.End.TheVariants as ends
-use Rattle.jpg_file.specs.declared.read.row_pieces.FedRow.{FedRow}
-use Rattle.jpg_file.specs.declared.read.row_pieces.FedRow.TheVariants as fed
+use Rattle.jpg_file.specs.declared.read.pieces.FedRow.{FedRow}
+use Rattle.jpg_file.specs.declared.read.pieces.FedRow.TheVariants as fed
 use Rattle.jpg_file.specs.declared.read.rows.RowWork.{RowWork}
 use Rattle.jpg_file.specs.declared.read.strip_head.StripHead.{StripHead}
 

@@ -11,8 +11,8 @@ use Rattle.jpg_file.specs.Read.RowsKnown.{KnowsRows}
 use Rattle.jpg_file.specs.Read.RowsSoFar.{LacksRow}
 use Rattle.jpg_file.specs.Read.Strips.{AfterStrip, CountsStrip, SparesRows, StripGoes, RepresentsStrip}
 use Rattle.jpg_file.specs.declared.read.file.FileWork.{FileWork}
-use Rattle.jpg_file.specs.declared.read.row_pieces.FedRow.{FedRow}
-use Rattle.jpg_file.specs.declared.read.row_pieces.FedRow.TheVariants as fed
+use Rattle.jpg_file.specs.declared.read.pieces.FedRow.{FedRow}
+use Rattle.jpg_file.specs.declared.read.pieces.FedRow.TheVariants as fed
 use Rattle.jpg_file.specs.declared.read.rows.RowWork.{RowWork}
 use Rattle.jpg_file.specs.declared.read.strip_head.StripHead.{StripHead}
 use Rattle.jpg_file.specs.declared.read.strip_work.StripWork.{StripWork}

@@ -11,8 +11,8 @@ use Rattle.jpg_base.specs.declared.stop.Stop.TheVariants as stop
 use Rattle.jpg_file.specs.Read.File.{HasCompleteHeader, RepresentsFile, limits_of}
 use Rattle.jpg_file.specs.Read.Strips.{contents_held}
 use Rattle.jpg_file.specs.declared.read.file.FileWork.{FileWork}
-use Rattle.jpg_file.specs.declared.read.row_pieces.FedRow.{FedRow}
-use Rattle.jpg_file.specs.declared.read.row_pieces.FedRow.TheVariants as fed
+use Rattle.jpg_file.specs.declared.read.pieces.FedRow.{FedRow}
+use Rattle.jpg_file.specs.declared.read.pieces.FedRow.TheVariants as fed
 use Rattle.jpg_file.specs.declared.read.rows.RowWork.{RowWork}
 use Rattle.jpg_file.specs.declared.read.strip_work.StripWork.{StripWork}
 use Rattle.jpg_file.specs.declared.read.step.Step.{Step}

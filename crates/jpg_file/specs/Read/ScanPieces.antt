@@ -9,9 +9,9 @@ use Rattle.jpg_file.specs.Read.PieceTaken.{ReadsOn}
 use Rattle.jpg_file.specs.Read.ReadFile.{AfterFeed, AsksForMemory, HasRead, IsDone, ReaderState}
 use Rattle.jpg_file.specs.Read.ScansEnded.{ScansEnded}
 use Rattle.jpg_file.specs.declared.read.file.FileWork.{FileWork}
-use Rattle.jpg_file.specs.declared.read.row_pieces.FedRow.TheVariants as fed
-use Rattle.jpg_file.specs.declared.read.scan_pieces.FedScan.{FedScan}
-use Rattle.jpg_file.specs.declared.read.scan_pieces.FedScan.TheVariants as came
+use Rattle.jpg_file.specs.declared.read.pieces.FedRow.TheVariants as fed
+use Rattle.jpg_file.specs.declared.read.pieces.FedScan.{FedScan}
+use Rattle.jpg_file.specs.declared.read.pieces.FedScan.TheVariants as came
 use Rattle.jpg_file.specs.declared.read.strip_work.StripWork.{StripWork}
 
 -- With so many bytes of the piece the data of no further scan have ended, by the state of the file then.

@@ -197,11 +197,6 @@ abbrev pub BeginsRows : FileWork → Frame → ScanHead → Result RowWork Stop 
 BeginsRows old f head answer new =
     (bytes : List ℕ) → (h : HasCompleteHeader (limits_of old) bytes old) → IsHeadOfAll (limits_of old) h.items (contents_held old) f head → AfterScanBegins (limits_of old) bytes answer new
 
--- AFTER THE SCAN, whichever row was the last
-abbrev pub TakesLaterByte : FileWork → ℕ → Step → FileWork → Type 0
-TakesLaterByte old byte answer new =
-    (bytes : List ℕ) (rows : RowWork) → GoesByRow (limits_of old) bytes old rows → AfterRows (limits_of old) (bytes ++ byte ∷ []) answer new rows
-
 -- ALL STATES: with a current MCU row, or without one
 
 -- where there was one

@@ -1,20 +1,31 @@
-//! A file, read byte by byte (T.81, B.2.1).
-ghost use Rattle.std.specs.Prelude.{◌≡◌, ◌<◌, ◌+◌, ◌++◌, ℕ, List, [], ◌∷◌, ◌≤◌, length, slice_index};
+//! A file, read byte by byte, or MCU row by MCU row if its first scan has all components (T.81, A.2.3, B.2.1).
+ghost use Rattle.std.specs.Prelude.{◌≡◌, ◌<◌, ◌+◌, ℕ, List, [], ◌≤◌, length, slice_index, Some, if◌then◌else◌, is_some, true, false, None, IfErr, IfOk, Err};
 ghost use Rattle.jpg_spec.specs.FrameHeader.{AreLimits};
 ghost use Rattle.jpg_coefs.specs.Picture.{Picture};
 ghost use Rattle.jpg_file.specs.Read.File.{HasCompleteHeader, NotesHead, PassesFront, RoomMade, RepresentsFile, TakesFileByte, TakesFileEnd, TakesFileHead, TakesFileStep, TakesSome, keeping_of, limits_of, scans_ended, with_picture};
 ghost use Rattle.jpg_file.specs.Read.InData.{ArePlain};
 ghost use Rattle.jpg_file.specs.Read.Passing.{PassesAll};
-ghost use Rattle.jpg_file.specs.Read.Reading.{IsOpenScan};
+ghost use Rattle.jpg_file.specs.Read.Reading.{IsOpenScan, NeedsNoMemory};
 ghost use Rattle.jpg_file.specs.Read.Step.{IfStops, IsNoRow, HasMemory};
+ghost use Rattle.jpg_spec.specs.Segments.{head_components};
+ghost use Rattle.jpg_spec.specs.declared.frame.Copying.TheVariants as copying;
+ghost use Rattle.jpg_base.specs.Cursor.{scan_mcus_down};
+ghost use Rattle.jpg_base.specs.declared.stop.Stop.TheVariants as stop;
+ghost use Rattle.jpg_file.specs.Read.Strips.{BeginsRows, CountsRowsOfScan, CountsRows, FindsHead, GoesByRow, GoesOnRest, HasHeadOfAll, HasLaterHead, PassesItem, PassesLaterHead, RepresentsRows, TakesRest, TakesRowByte, TakesRunOfRows};
+ghost use Rattle.jpg_file.specs.Read.RowStops.{StopsByte, StopsRest, StopsRun};
+ghost use Rattle.jpg_file.specs.Read.RowTurns.{unfinished};
+ghost use Rattle.jpg_file.specs.Read.RowsNone.{FindsNone};
+ghost use Rattle.jpg_file.specs.Read.RowsKnown.{BeginsTold};
 
 use crate::read::first_header::{Head, head_of};
 use crate::read::items::{ItemStep, Items};
 use crate::read::orders::Orders;
 use crate::read::reading::Reading;
+use crate::read::rows::RowWork;
 use crate::read::scan_history::ScanHistory;
+use crate::read::scan_start::judge_head;
 use crate::read::step::Step;
-use jpg_base::{Limits, NoMemory, Stop};
+use jpg_base::{Frame, Limits, NoMemory, ScanHead, Stop};
 use jpg_spec::{Copying, Fault, FaultAt};
 use memchr::memchr;
 use std::alloc::Global;
@@ -89,7 +100,11 @@ impl FileWork {
             let most = self.reading.items.limits.input - self.reading.taken;
             let n = plain_length(bytes, most);
             if n > 0 {
-                return self.run(&bytes[..n]);
+                let (n, answer) = self.reading.scan_run(&bytes[..n]);
+                return match answer {
+                    Ok(()) => (n, Step::More),
+                    Err(fault) => (n, Step::Ended(Stop::Fault(fault))),
+                };
             }
         }
         let n = self.front(bytes);
@@ -113,26 +128,6 @@ impl FileWork {
             self.reading.fill_in_scan(bytes)
         } else {
             self.reading.front(bytes)
-        }
-    }
-
-    // Takes plain bytes inside the data of a scan.
-    fn run(&mut self, run: &[u8]) -> (usize, Step)
-        requires stands { (bytes : List ℕ) × RepresentsFile (limits_of self.old) bytes self.old }
-        requires limits { AreLimits (limits_of self.old) }
-        requires opened { IsOpenScan self.old.reading }
-        requires room { self.old.reading.taken + length run.now ≤ (limits_of self.old).input }
-        requires some { 1 ≤ length run.now }
-        requires few { length run.now < 4294967296 }
-        requires plain { ArePlain run.now }
-        ensures after { TakesSome self.old run.now result.0 result.1 self.new }
-        ensures keeping { keeping_of self.new ≡ keeping_of self.old }
-        ensures no { IsNoRow result.1 }
-    {
-        let (n, answer) = self.reading.scan_run(run);
-        match answer {
-            Ok(()) => (n, Step::More),
-            Err(fault) => (n, Step::Ended(Stop::Fault(fault))),
         }
     }
 
@@ -175,7 +170,11 @@ impl FileWork {
         if self.make_room().is_err() {
             return Step::Ended(Stop::NoMemory);
         }
-        match self.reading.take_head(&mut self.begun) {
+        let Some(coefs) = &self.reading.coefs else {
+            unreachable!();
+        };
+        coefs.checked();
+        match self.reading.begin_head(&mut self.begun) {
             Ok(()) => {
                 self.note_head();
                 Step::More
@@ -226,6 +225,208 @@ impl FileWork {
             at: self.reading.taken,
         }))
     }
+
+    /// Goes to the next MCU row if one is complete, and takes the bits that wait after it.
+    pub fn take_waiting_bits(&mut self, rows: &mut RowWork) -> Step
+        requires { (bytes : List ℕ) × RepresentsRows (limits_of self.old) bytes self.old rows.old }
+        ensures after { TakesRest self.old rows.old result self.new rows.new }
+        ensures stops { StopsRest self.old rows.old result }
+        ensures goes { GoesOnRest result }
+        ensures rows { CountsRows result rows.old rows.new }
+        ensures memory { HasMemory result }
+        ensures same { self.new.reading.items ≡ self.old.reading.items }
+        ensures head { self.new.head ≡ self.old.head }
+    {
+        let at = self.reading.taken;
+        let Some(scan) = &mut self.reading.scan else {
+            return Step::More;
+        };
+        rows.next();
+        if rows.waiting.len() == 0 {
+            return Step::More;
+        }
+        let (step, row) = scan.rest_in_row(rows);
+        match step {
+            Ok(()) => row_step(row),
+            Err(fault) => fault_at(fault, at),
+        }
+    }
+
+    /// Takes a byte inside the data of the scan.
+    pub fn take_byte_in_row(&mut self, rows: &mut RowWork, byte: u8) -> Step
+        requires stands { (bytes : List ℕ) × GoesByRow (limits_of self.old) bytes self.old rows.old }
+        requires inside { is_some self.old.reading.scan ≡ true }
+        requires limits { AreLimits (limits_of self.old) }
+        requires room { self.old.reading.taken < (limits_of self.old).input }
+        ensures after { TakesRowByte self.old rows.old byte result self.new rows.new }
+        ensures stops { StopsByte self.old rows.old byte result }
+        ensures rows { CountsRows result rows.old rows.new }
+        ensures memory { HasMemory result }
+        ensures sparing { NeedsNoMemory self.old.reading → NeedsNoMemory self.new.reading }
+        ensures head { self.new.head ≡ self.old.head }
+        ensures keeping { keeping_of self.new ≡ keeping_of self.old }
+    {
+        let Some(scan) = &mut self.reading.scan else {
+            unreachable!();
+        };
+        let at = self.reading.taken + 1;
+        self.reading.taken = at;
+        let (step, row) = scan.byte_in_row(rows, byte);
+        match step {
+            Ok(false) => row_step(row),
+            Ok(true) => {
+                self.reading.scan = None;
+                let came = self.reading.items.marker(byte, at);
+                self.later_item(came)
+            }
+            Err(fault) => fault_at(fault, at),
+        }
+    }
+
+    /// Takes plain bytes inside the data of the scan. Returns how many, and the result.
+    pub fn take_run_in_row(&mut self, rows: &mut RowWork, run: &[u8]) -> (usize, Step)
+        requires stands { (bytes : List ℕ) × GoesByRow (limits_of self.old) bytes self.old rows.old }
+        requires limits { AreLimits (limits_of self.old) }
+        requires opened { IsOpenScan self.old.reading }
+        requires room { self.old.reading.taken + length run.now ≤ (limits_of self.old).input }
+        requires some { 1 ≤ length run.now }
+        requires few { length run.now < 4294967296 }
+        requires plain { ArePlain run.now }
+        ensures after { TakesRunOfRows self.old rows.old run.now result.0 result.1 self.new rows.new }
+        ensures stops { StopsRun self.old rows.old run.now result.0 result.1 }
+        ensures rows { CountsRows result.1 rows.old rows.new }
+        ensures memory { HasMemory result.1 }
+        ensures same { self.new.reading.items ≡ self.old.reading.items }
+        ensures head { self.new.head ≡ self.old.head }
+    {
+        let Some(scan) = &mut self.reading.scan else {
+            unreachable!();
+        };
+        let (n, step, row) = scan.run_in_row(rows, run);
+        let at = self.reading.taken + n as u64;
+        self.reading.taken = at;
+        match step {
+            Ok(()) => (n, row_step(row)),
+            Err(fault) => (n, fault_at(fault, at)),
+        }
+    }
+
+    /// Takes one or more of these bytes, up to the first event. Returns how many, and the event.
+    pub fn take_in_row(&mut self, rows: &mut RowWork, bytes: &[u8]) -> (usize, Step)
+        requires stands { (front : List ℕ) × GoesByRow (limits_of self.old) front self.old rows.old }
+        requires limits { AreLimits (limits_of self.old) }
+        requires room { self.old.reading.taken < (limits_of self.old).input }
+        requires some { 1 ≤ length bytes.now }
+        ensures after { TakesRunOfRows self.old rows.old bytes.now result.0 result.1 self.new rows.new }
+        ensures stops { StopsRun self.old rows.old bytes.now result.0 result.1 }
+        ensures rows { CountsRows result.1 rows.old rows.new }
+        ensures memory { NeedsNoMemory self.old.reading → HasMemory result.1 }
+        ensures sparing { NeedsNoMemory self.old.reading → NeedsNoMemory self.new.reading }
+        ensures head { self.new.head ≡ self.old.head }
+        ensures keeping { keeping_of self.new ≡ keeping_of self.old }
+    {
+        if self.reading.is_open() {
+            let most = self.reading.items.limits.input - self.reading.taken;
+            let n = plain_length(bytes, most);
+            if n > 0 {
+                return self.take_run_in_row(rows, &bytes[..n]);
+            }
+        }
+        if self.reading.scan.is_some() {
+            let n = self.reading.fill_in_scan(bytes);
+            return (n + 1, self.take_byte_in_row(rows, bytes[n]));
+        }
+        let n = self.reading.front(bytes);
+        let came = self.reading.item_byte(bytes[n]);
+        (n + 1, self.later_item(came))
+    }
+
+    // The result of an item after the scan.
+    fn later_item(&self, came: ItemStep) -> Step
+        requires { came ≡ ItemStep.Head → HasLaterHead self.now }
+        ensures after { PassesItem self.now came result }
+        ensures memory { (came ≡ ItemStep.NoMemory → ⊥) → HasMemory result }
+        ensures no { IsNoRow result }
+    {
+        match came {
+            ItemStep::More => Step::More,
+            ItemStep::Head => self.later_head(),
+            ItemStep::Eoi => self.take_end(),
+            ItemStep::Fault(fault) => Step::Ended(Stop::Fault(fault)),
+            ItemStep::NoMemory => Step::Ended(Stop::NoMemory),
+        }
+    }
+
+    // The fault of a scan header after a scan of all components.
+    fn later_head(&self) -> Step
+        requires { HasLaterHead self.now }
+        ensures after { PassesLaterHead self.now result }
+        ensures memory { HasMemory result }
+        ensures no { IsNoRow result }
+    {
+        let Some(frame) = &self.reading.items.held.frame else {
+            unreachable!();
+        };
+        match judge_head(
+            self.reading.items.segments.contents(),
+            frame,
+            &self.reading.items.held,
+            &self.begun,
+        ) {
+            Err(fault) => fault_at(fault, self.reading.taken),
+            Ok(_) => unreachable!(),
+        }
+    }
+
+    /// The frame and the complete scan header, if it is of a sequential scan of all components and breaks no rule.
+    pub fn head_of_all(&self) -> Option<(Frame, ScanHead)>
+        ensures head { FindsHead self.now result }
+        ensures none { FindsNone self.now result }
+    {
+        let Some(frame) = &self.reading.items.held.frame else {
+            return None;
+        };
+        let Ok(head) = judge_head(
+            self.reading.items.segments.contents(),
+            frame,
+            &self.reading.items.held,
+            &self.begun,
+        ) else {
+            return None;
+        };
+        if frame.is_progressive() || head.parts.len() != frame.count() as usize {
+            return None;
+        }
+        Some((frame.copy(), head))
+    }
+
+    /// Begins a scan with such a header, with its first MCU row, and with room for each segment after it.
+    pub fn begin_rows(&mut self, frame: &Frame, head: &ScanHead) -> Result<RowWork, Stop>
+        requires of { HasHeadOfAll self.old frame.now head.now }
+        requires first { self.old.head ≡ None }
+        ensures after { BeginsRows self.old frame.now head.now result self.new }
+        ensures told { IfOk result (λ rows. BeginsTold self.old frame.now head.now self.new) }
+        ensures count { IfOk result (λ rows. unfinished rows ≡ scan_mcus_down frame.now (head_components head.now)) }
+        ensures all { IfOk result (λ rows. CountsRowsOfScan (Some rows) self.new) }
+        ensures sparing { IfOk result (λ rows. keeping_of self.old ≡ copying.None → NeedsNoMemory self.new.reading) }
+        ensures head { IfErr result (λ stop. self.new.head ≡ self.old.head) }
+        ensures keeping { keeping_of self.new ≡ keeping_of self.old }
+    {
+        frame.checked();
+        let Ok(rows) = RowWork::new(self.alloc, frame, head) else {
+            return Err(Stop::NoMemory);
+        };
+        match self.reading.begin_head(&mut self.begun) {
+            Ok(()) => {
+                if self.reading.items.segments.reserve().is_err() {
+                    return Err(Stop::NoMemory);
+                }
+                self.note_head();
+                Ok(rows)
+            }
+            Err(fault) => Err(Stop::Fault(fault)),
+        }
+    }
 }
 
 /// How many bytes there are before the first FF, at most `most`.
@@ -241,4 +442,18 @@ pub fn plain_length(bytes: &[u8], most: u64) -> usize
         Some(n) => n,
         None => most,
     }
+}
+
+// A fault at this number of bytes.
+fn fault_at(fault: Fault, at: u64) -> Step
+    ensures { result ≡ Step.Ended (stop.Fault (record { fault = fault; at = at })) }
+{
+    Step::Ended(Stop::Fault(FaultAt { fault, at }))
+}
+
+// The result of data that go on.
+fn row_step(row: bool) -> Step
+    ensures { result ≡ (if row then Step.Row else Step.More) }
+{
+    if row { Step::Row } else { Step::More }
 }

@@ -1,13 +1,12 @@
 //! The items of a file, byte by byte, scan data left out (T.81, B.1.1, B.2.1).
-ghost use Rattle.std.specs.Prelude.{◌≡◌, ◌<◌, ◌+◌, ◌++◌, ◌≤◌, ℕ, List, [], ◌∷◌, length, None, true};
+ghost use Rattle.std.specs.Prelude.{◌≡◌, ◌<◌, ◌+◌, ◌≤◌, ℕ, List, [], length, None, true};
 ghost use Rattle.jpg_spec.specs.FrameHeader.{AreLimits};
 ghost use Rattle.jpg_spec.specs.Scan.{Blocks};
 ghost use Rattle.jpg_spec.specs.Items.{Item};
 ghost use Rattle.jpg_spec.specs.FileMeaning.{no_blocks};
-ghost use Rattle.jpg_spec.specs.declared.frame.Limits.{Limits as Bounded};
 ghost use Rattle.jpg_markers.specs.Reading.{HasRoom, PassesDue, reading_of};
 ghost use Rattle.jpg_file.specs.Read.Passing.{HasNoneToPass};
-ghost use Rattle.jpg_file.specs.Read.Items.{BetweenItems, BehindHead, AfterSegment, JudgesSegment, PassesHead, PassesItems, TakesItemByte, TakesMarker};
+ghost use Rattle.jpg_file.specs.Read.Items.{BetweenItems, BehindHead, JudgesSegment, PassesItems, TakesItemByte, TakesMarker};
 
 use crate::read::segment_state::{SegmentState, SegmentTaken};
 use jpg_base::codes::SOS;
@@ -145,19 +144,6 @@ impl Items {
             Ok(SegStep::Start) => ItemStep::More,
             Ok(SegStep::Frame) => ItemStep::More,
         }
-    }
-
-    /// Notes that the scan header was judged.
-    #[tactic(auto, using(crate::proofs::Scans::ScanLeft::after_head))]
-    pub fn head_done(&mut self)
-        requires { (bytes : List ℕ) × (items : List Item) × (blocks : Blocks) × AfterSegment self.old.limits bytes items blocks self.old }
-        ensures behind { PassesHead self.old self.new }
-        ensures scanned { self.new.held.scanned ≡ true }
-        ensures limits { self.new.limits ≡ self.old.limits }
-        ensures same { (reading_of self.new.segments).taken ≡ (reading_of self.old.segments).taken }
-        ensures keeping { self.new.held.keeping ≡ self.old.held.keeping }
-    {
-        self.held.scanned = true;
     }
 
     // Judges a complete segment.

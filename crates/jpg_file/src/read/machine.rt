@@ -1,18 +1,16 @@
-//! The machine that reads a scan, of whatever kind it is (T.81, F.2.2, G.2).
-ghost use Rattle.std.specs.Prelude.{◌<◌, ◌≤◌, ◌*◌, Bool, List, [], length, drop};
-ghost use Rattle.jpg_spec.specs.Bits.{bits_of_bytes};
+//! The machine that reads a scan, of whatever kind it is, and the data bytes that are given to it (T.81, F.2.2, G.2).
+ghost use Rattle.std.specs.Prelude.{◌<◌, ◌≤◌, Bool, List, [], length, ◌≡◌, false, take};
+ghost use Rattle.jpg_spec.specs.Bits.{bits_of_bytes, bits_of};
 ghost use Rattle.jpg_coefs.specs.Machine.{Interval};
-ghost use Rattle.jpg_file.specs.Read.Data.{GivesRun};
+ghost use Rattle.jpg_file.specs.Read.Data.{GivesRun, GivesBits};
 ghost use Rattle.jpg_file.specs.Read.Machine.{any_scan};
 ghost use Rattle.jpg_file.specs.Read.NewScan.{IsBareScan, IsOfHeader, IsScanHeader};
-ghost use Rattle.jpg_file.specs.Read.RowMachine.{CanReadMcuRow, IsInsideMcuRow, PassesRow, TakesRowBits};
 
-use crate::read::data::{take_bytes, take_run};
 use jpg_base::{BitStore, Frame, ScanHead};
 use jpg_coefs::{Coefs, ScanMachine, Taken, UnitFault, UnitStep};
 use jpg_huff::TableSet;
 use jpg_prog_read::{AcReader, DcFirst, DcRefine};
-use jpg_seq::{BytesTaken, SeqReader};
+use jpg_seq::SeqReader;
 
 /// A machine that reads a scan, by its kind.
 #[derive(Drop)]
@@ -55,62 +53,14 @@ impl ScanReader {
         ensures { GivesRun _ any_scan self.old coefs.old bytes.now result.0 result.1 [] self.new coefs.new }
     {
         match self {
-            ScanReader::Sequential(machine) => take_bytes(machine, coefs, bytes),
+            ScanReader::Sequential(machine) => {
+                let all = machine.units_left();
+                let got = machine.bytes(bytes, coefs, &[0; 4], all);
+                (got.bits.div_ceil(8) as usize, got.taken)
+            }
             ScanReader::DcFirst(machine) => take_run(machine, coefs, bytes),
             ScanReader::DcRefine(machine) => take_run(machine, coefs, bytes),
             ScanReader::Ac(machine) => take_run(machine, coefs, bytes),
-        }
-    }
-}
-
-impl ScanReader {
-    /// Takes bits from the start of the store, while an MCU row of a sequential scan is read: its blocks begin at these
-    /// rows of the components' grids, and the next `most` units are in it.
-    #[inline]
-    pub fn bits_in_row(
-        &mut self,
-        store: &mut BitStore,
-        row: &mut Coefs,
-        tops: &[u32; 4],
-        most: u64,
-    ) -> Taken
-        requires open { CanReadMcuRow tops.now self.old row.old }
-        requires inside { IsInsideMcuRow tops.now row.old most self.old }
-        requires some { 1 ≤ most }
-        ensures takes { TakesRowBits most tops.now self.old row.old store.old result self.new row.new store.new }
-        ensures passes { PassesRow most self.old result self.new }
-    {
-        match self {
-            ScanReader::Sequential(machine) => machine.bits_from(store, row, tops, most),
-            ScanReader::DcFirst(_) => unreachable!(),
-            ScanReader::DcRefine(_) => unreachable!(),
-            ScanReader::Ac(_) => unreachable!(),
-        }
-    }
-
-    /// Takes the bits of plain bytes as `bits_in_row` takes those of a store. Returns how many bits were taken, and the
-    /// result.
-    #[inline]
-    pub fn bytes_in_row(
-        &mut self,
-        bytes: &[u8],
-        row: &mut Coefs,
-        tops: &[u32; 4],
-        most: u64,
-    ) -> BytesTaken
-        requires open { CanReadMcuRow tops.now self.old row.old }
-        requires inside { IsInsideMcuRow tops.now row.old most self.old }
-        requires some { 1 ≤ most }
-        requires few { length bytes.now < 4294967296 }
-        ensures takes { TakesRowBits most tops.now self.old row.old (bits_of_bytes bytes.now) result.taken self.new row.new (drop result.bits (bits_of_bytes bytes.now)) }
-        ensures within { result.bits ≤ 8 * length bytes.now }
-        ensures passes { PassesRow most self.old result.taken self.new }
-    {
-        match self {
-            ScanReader::Sequential(machine) => machine.bytes(bytes, row, tops, most),
-            ScanReader::DcFirst(_) => unreachable!(),
-            ScanReader::DcRefine(_) => unreachable!(),
-            ScanReader::Ac(_) => unreachable!(),
         }
     }
 }
@@ -154,5 +104,64 @@ impl ScanMachine for ScanReader {
             ScanReader::DcRefine(machine) => machine.units_left(),
             ScanReader::Ac(machine) => machine.units_left(),
         }
+    }
+}
+
+/// Gives the machine the bits of a data byte. Bits after the interval's last one are dropped: they are pad bits (T.81,
+/// F.1.2.3).
+pub fn take_data<M: ScanMachine>(machine: &mut M, coefs: &mut Coefs, byte: u8) -> Taken
+    requires open { (i : Interval) × (bits : List Bool) × M.kind.stands machine.old i bits coefs.old }
+    requires left { 1 ≤ M.kind.left machine.old }
+    ensures { GivesBits M.kind machine.old coefs.old (bits_of 8 byte) result [] machine.new coefs.new }
+{
+    let mut store = BitStore::new();
+    store.push(byte);
+    let most = machine.units_left();
+    machine.bits(&mut store, coefs, most)
+}
+
+// How many of these bytes are given at once.
+fn eight_at_most(bytes: &[u8]) -> usize
+    ensures { result ≡ length (take 8 bytes.now) }
+{
+    if bytes.len() < 8 { bytes.len() } else { 8 }
+}
+
+// The bits of the first eight of these bytes, or of all of them.
+fn front_of(bytes: &[u8]) -> BitStore
+    ensures { result ≡ bits_of_bytes (take 8 bytes.now) }
+{
+    let mut store = BitStore::new();
+    for byte in &bytes[..eight_at_most(bytes)] {
+        store.push(*byte);
+    }
+    store
+}
+
+// Whether the machine takes no more of these bytes.
+fn is_over(taken: Taken) -> bool
+    ensures { result ≡ false → taken ≡ Taken.More }
+{
+    !matches!(taken, Taken::More)
+}
+
+/// Gives any machine the bits of some data bytes, eight bytes at a time, up to the byte whose bits end the interval or
+/// reveal a fault. Returns how many bytes were given, and the result.
+pub fn take_run<M: ScanMachine>(machine: &mut M, coefs: &mut Coefs, bytes: &[u8]) -> (usize, Taken)
+    requires open { (i : Interval) × (bits : List Bool) × M.kind.stands machine.old i bits coefs.old }
+    requires left { 1 ≤ M.kind.left machine.old }
+    requires some { 1 ≤ length bytes.now }
+    ensures { GivesRun _ M.kind machine.old coefs.old bytes.now result.0 result.1 [] machine.new coefs.new }
+{
+    let mut rest = bytes;
+    loop {
+        let mut store = front_of(rest);
+        let most = machine.units_left();
+        let taken = machine.bits(&mut store, coefs, most);
+        let given = bytes.len() - rest.len() + (eight_at_most(rest) - store.len() as usize / 8);
+        if rest.len() <= 8 || is_over(taken) {
+            return (given, taken);
+        }
+        rest = &rest[8..];
     }
 }

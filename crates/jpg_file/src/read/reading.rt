@@ -5,7 +5,7 @@ ghost use Rattle.jpg_spec.specs.Scan.{Blocks};
 ghost use Rattle.jpg_spec.specs.Items.{Item};
 ghost use Rattle.jpg_coefs.specs.Picture.{Picture};
 ghost use Rattle.jpg_file.specs.Read.ScanStart.{HasSizes};
-ghost use Rattle.jpg_file.specs.Read.Reading.{CanBeginHead, HeadWhole, IsOpenScan, NeedsNoMemory, Itemising, LeavesAll, Scanning, TakesByteOfItems, TakesByteOfScan, TakesHead, TakesRunOfScan, has_open, with_coefs};
+ghost use Rattle.jpg_file.specs.Read.Reading.{CanBeginHead, IsOpenScan, NeedsNoMemory, Itemising, LeavesAll, Scanning, TakesByteOfItems, TakesByteOfScan, TakesHead, TakesRunOfScan, has_open, with_coefs};
 ghost use Rattle.jpg_file.specs.Read.InData.{ArePlain};
 ghost use Rattle.jpg_file.specs.Read.Going.{CanGoOn, FillsScan, GoesOn, has_waiting};
 ghost use Rattle.jpg_file.specs.Read.Passing.{HasNoneToPass, PassesMost, before_last};
@@ -13,9 +13,8 @@ ghost use Rattle.jpg_markers.specs.Reading.{PassesDue, filled};
 
 use crate::read::items::{ItemStep, Items};
 use crate::read::scan::InScan;
-use crate::read::scan_header::judge_head;
 use crate::read::scan_history::ScanHistory;
-use crate::read::scan_start::begin_data;
+use crate::read::scan_start::{begin_data, judge_head};
 use jpg_coefs::Coefs;
 use jpg_markers::fill_length;
 use jpg_spec::FaultAt;
@@ -34,19 +33,6 @@ pub struct Reading {
 }
 
 impl Reading {
-    /// Takes a complete scan header: its scan begins, or it has a fault.
-    pub fn take_head(&mut self, begun: &mut ScanHistory) -> Result<(), FaultAt>
-        requires stands { (bytes : List ℕ) × (items : List Item) × (blocks : Blocks) × HeadWhole self.old.items.limits bytes items blocks self.old begun.old }
-        ensures after { TakesHead self.old begun.old result self.new begun.new }
-        ensures keeping { self.new.items.held.keeping ≡ self.old.items.held.keeping }
-    {
-        let Some(coefs) = &self.coefs else {
-            unreachable!();
-        };
-        coefs.checked();
-        self.begin_head(begun)
-    }
-
     /// Begins the scan of a complete scan header, or returns its fault; of the picture nothing is required.
     pub fn begin_head(&mut self, begun: &mut ScanHistory) -> Result<(), FaultAt>
         requires stands { CanBeginHead self.old begun.old }
@@ -82,7 +68,7 @@ impl Reading {
                 begun.note_quants(parts, &frame, &self.items.held.quants);
                 begun.note(&frame, &head);
                 begun.count(at);
-                self.items.head_done();
+                self.items.held.scanned = true;
                 Ok(())
             }
         }
@@ -167,9 +153,7 @@ impl Reading {
             Err(fault) => (n, Err(FaultAt { fault, at })),
         }
     }
-}
 
-impl Reading {
     /// Between items, skips complete segments that break no rule, and then fill bytes or contents before a segment's
     /// last byte. Returns how many bytes that were, fewer than are given.
     pub fn front(&mut self, bytes: &[u8]) -> usize
@@ -185,7 +169,9 @@ impl Reading {
     {
         let room = self.items.limits.input - self.taken;
         let most = (bytes.len() as u64).min(room) as usize;
-        self.skip_ahead(&bytes[..most - 1])
+        let ahead = &bytes[..most - 1];
+        let done = self.segments(ahead);
+        done + self.contents(&ahead[done..])
     }
 
     /// Inside the data of a scan, skips fill bytes after FF; none if no FF waits. Returns how many they were, fewer
@@ -215,18 +201,6 @@ impl Reading {
             Some(scan) => scan.gate.is_waiting(),
             None => false,
         }
-    }
-
-    // Takes complete segments at the start of these bytes, and then bytes that only continue what is there.
-    fn skip_ahead(&mut self, bytes: &[u8]) -> usize
-        requires { CanGoOn self.old bytes.now }
-        ensures after { GoesOn self.old bytes.now result self.new }
-        ensures most { PassesMost self.old bytes.now result }
-        ensures sparing { NeedsNoMemory self.old → NeedsNoMemory self.new }
-        ensures keeping { self.new.items.held.keeping ≡ self.old.items.held.keeping }
-    {
-        let done = self.segments(bytes);
-        done + self.contents(&bytes[done..])
     }
 
     // Takes complete segments at the start of these bytes, as many as can be taken so.

@@ -127,9 +127,12 @@ impl RowWork {
         ensures stops { StopsRowData self.old machine.old store result }
         ensures counts { CountsRow self.old machine.old result self.new machine.new }
     {
+        let ScanReader::Sequential(machine) = machine else {
+            unreachable!();
+        };
         let mut store = store;
         let before = machine.units_left();
-        let taken = machine.bits_in_row(&mut store, &mut self.coefs, &self.tops, self.left);
+        let taken = machine.bits_from(&mut store, &mut self.coefs, &self.tops, self.left);
         self.left -= before - machine.units_left();
         self.waiting = waiting_of(taken, store);
         taken
@@ -148,28 +151,16 @@ impl RowWork {
         ensures last { LastRowRun self.old machine.old bytes.now result.0 }
         ensures counts { CountsRow self.old machine.old result.1 self.new machine.new }
     {
+        let ScanReader::Sequential(machine) = machine else {
+            unreachable!();
+        };
         let before = machine.units_left();
-        let got = machine.bytes_in_row(bytes, &mut self.coefs, &self.tops, self.left);
+        let got = machine.bytes(bytes, &mut self.coefs, &self.tops, self.left);
         self.left -= before - machine.units_left();
         let given = got.bits.div_ceil(8) as usize;
         let last = last_bits(bytes[given - 1], got.bits - 8 * (given as u64 - 1));
         self.waiting = waiting_of(got.taken, last);
         (given, got.taken)
-    }
-}
-
-impl RowWork {
-    /// Takes the bits that wait.
-    pub fn take_waiting(&mut self, machine: &mut ScanReader) -> Taken
-        requires open { CanTakeData self.old machine.old }
-        requires inside { IsInsideRow self.old machine.old }
-        requires some { 1 ≤ self.old.left }
-        ensures takes { TakesRowData self.old machine.old self.old.waiting result self.new machine.new }
-        ensures stops { StopsRowData self.old machine.old self.old.waiting result }
-        ensures counts { CountsRow self.old machine.old result self.new machine.new }
-    {
-        let store = self.waiting.copy();
-        self.take(machine, store)
     }
 }
 

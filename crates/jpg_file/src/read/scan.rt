@@ -1,14 +1,19 @@
-//! The data of a scan, read byte by byte (T.81, B.1.1.5, E.1.4, E.2.4).
-ghost use Rattle.std.specs.Prelude.{◌≡◌, ◌+◌, ◌<◌, ◌≤◌, ◌&&◌, not, false, true, ℕ, List, length, Ok, Err};
+//! The data of a scan, read byte by byte (T.81, A.2.3, B.1.1.5, E.1.4, E.2.4).
+ghost use Rattle.std.specs.Prelude.{◌≡◌, ◌+◌, ◌<◌, ◌≤◌, ◌&&◌, not, false, true, ℕ, List, length, Ok, Err, []};
 ghost use Rattle.jpg_spec.specs.ScanReading.{ScanPlace};
 ghost use Rattle.jpg_spec.specs.declared.frame.Limits.{Limits};
 ghost use Rattle.jpg_coefs.specs.Machine.{fault_of};
 ghost use Rattle.jpg_coefs.specs.Picture.{Picture};
 ghost use Rattle.jpg_file.specs.Read.RowPlaces.{scan_left};
 ghost use Rattle.jpg_file.specs.Read.InData.{ArePlain, AtWork, IsInside, MarkerAt, NextBegins, TakesCode, TakesData, TakesRun, TakesScanByte, byte_answer, scan_answer, work_after};
+ghost use Rattle.jpg_file.specs.Read.RowLast.{LastRunInRow};
+ghost use Rattle.jpg_file.specs.Read.RowStops.{StopsByteInRow, StopsRestInRow, StopsRunInRow};
+ghost use Rattle.jpg_file.specs.Read.RowTurns.{CountsScan};
+ghost use Rattle.jpg_file.specs.Read.RowData.{IsHalfRow, IsRowData, TakesByteInRow, TakesRestInRow, TakesRunInRow};
 
-use crate::read::data::take_data;
-use crate::read::machine::ScanReader;
+use crate::read::machine::{ScanReader, take_data};
+use crate::read::rows::RowWork;
+use jpg_base::BitStore;
 use jpg_base::codes::RST0;
 use jpg_coefs::{Coefs, ScanMachine, Taken, UnitFault};
 use jpg_huff::{Gate, Passed};
@@ -73,9 +78,7 @@ impl InScan {
             Passed::Marker(code) => self.work.marker(code),
         }
     }
-}
 
-impl InScan {
     /// Whether plain bytes may be taken together: no FF waits, and units are left.
     pub fn is_open(&self) -> bool
         ensures is { result ≡ (not self.now.gate && not self.now.work.whole) }
@@ -87,7 +90,7 @@ impl InScan {
 
     /// Takes plain bytes from the start of a run, at most up to the byte that ends the interval or reveals a fault.
     /// Returns how many were taken, and the result.
-    #[tactic(auto, using(crate::proofs::Scans::ScanBytes::as_stepped, crate::proofs::Scans::ScanRuns::run_takes))]
+    #[tactic(auto, using(crate::proofs::Scans::ScanBytes::as_stepped, crate::proofs::Scans::ScanBytes::run_takes))]
     pub fn run(&mut self, coefs: &mut Coefs, run: &[u8]) -> (usize, Result<(), Fault>)
         requires inside { IsInside self.old coefs.old }
         requires gate { self.old.gate ≡ false }
@@ -99,6 +102,65 @@ impl InScan {
     {
         let (n, taken) = self.work.machine.run(coefs, run);
         (n, self.work.stepped(taken))
+    }
+
+    /// Takes a byte of the file. Returns whether the data are over, and whether the MCU row is complete with it.
+    pub fn byte_in_row(&mut self, rows: &mut RowWork, byte: u8) -> (Result<bool, Fault>, bool)
+        requires inside { IsRowData self.old rows.old }
+        requires none { rows.old.waiting ≡ [] }
+        ensures takes { TakesByteInRow self.old rows.old byte result.0 self.new rows.new }
+        ensures stops { StopsByteInRow self.old rows.old byte result.0 }
+        ensures counts { CountsScan self.old.work rows.old result.1 self.new.work rows.new }
+        ensures waited { result.0 ≡ Ok true → self.old.gate ≡ true }
+        ensures marker { result.0 ≡ Ok true → result.1 ≡ false }
+        ensures done { result.0 ≡ Ok true → scan_left self.new.work ≡ 0 }
+    {
+        match self.gate.byte(byte) {
+            Passed::More => (Ok(false), false),
+            Passed::Data(data) => {
+                if self.work.whole {
+                    return (Err(Fault::ExtraData), false);
+                }
+                let mut store = BitStore::new();
+                store.push(data);
+                let taken = rows.take(&mut self.work.machine, store);
+                (data_answer(self.work.stepped(taken)), rows.left == 0)
+            }
+            Passed::Marker(code) => (self.work.marker(code), false),
+        }
+    }
+
+    /// Takes the bits that wait after the last MCU row. Returns whether a further one is complete with them.
+    pub fn rest_in_row(&mut self, rows: &mut RowWork) -> (Result<(), Fault>, bool)
+        requires { IsHalfRow self.old rows.old }
+        ensures takes { TakesRestInRow self.old rows.old result.0 self.new rows.new }
+        ensures stops { StopsRestInRow self.old rows.old result.0 }
+        ensures counts { CountsScan self.old.work rows.old result.1 self.new.work rows.new }
+        ensures gate { self.new.gate ≡ self.old.gate }
+    {
+        let store = rows.waiting.copy();
+        let taken = rows.take(&mut self.work.machine, store);
+        (self.work.stepped(taken), rows.left == 0)
+    }
+
+    /// Takes plain bytes from the start of a run. Returns how many, and whether the MCU row is complete with the last
+    /// of them.
+    pub fn run_in_row(&mut self, rows: &mut RowWork, run: &[u8]) -> (usize, Result<(), Fault>, bool)
+        requires inside { IsRowData self.old rows.old }
+        requires gate { self.old.gate ≡ false }
+        requires due { self.old.work.whole ≡ false }
+        requires some { 1 ≤ length run.now }
+        requires few { length run.now < 4294967296 }
+        requires plain { ArePlain run.now }
+        requires none { rows.old.waiting ≡ [] }
+        ensures takes { TakesRunInRow self.old rows.old run.now result.0 result.1 self.new rows.new }
+        ensures stops { StopsRunInRow self.old rows.old run.now result.0 result.1 }
+        ensures last { LastRunInRow self.old rows.old run.now result.0 }
+        ensures counts { CountsScan self.old.work rows.old result.2 self.new.work rows.new }
+        ensures gate { self.new.gate ≡ self.old.gate }
+    {
+        let (n, taken) = rows.take_bytes(&mut self.work.machine, run);
+        (n, self.work.stepped(taken), rows.left == 0)
     }
 }
 

@@ -1,45 +1,27 @@
-//! The start of a scan: its machine, its tables and its first interval (T.81, A.2, E.1.4).
-ghost use Rattle.std.specs.Prelude.{◌≡◌, ◌<◌, ◌≤◌, ◌==◌, if◌then◌else◌, min, false, true, ℕ, List, Some};
+//! The start of a scan: its header, judged by the tables and the scans before it, its machine, its tables and its first
+//! interval (T.81, A.2, B.2.3, E.1.4, G.1.1.1).
+ghost use Rattle.std.specs.Prelude.{◌≡◌, ◌<◌, ◌≤◌, ◌==◌, if◌then◌else◌, min, false, true, Some};
 ghost use Rattle.jpg_spec.specs.Geometry.{is_progressive};
-ghost use Rattle.jpg_spec.specs.Items.{Item};
-ghost use Rattle.jpg_spec.specs.Scan.{Blocks};
-ghost use Rattle.jpg_spec.specs.declared.frame.Limits.{Limits};
 ghost use Rattle.jpg_coefs.specs.Picture.{Picture};
 ghost use Rattle.jpg_prog_read.specs.DcNew.{IsBare as IsBareFirst, IsDcHead};
 ghost use Rattle.jpg_prog_read.specs.declared.dc_first.DcFirst.{DcFirst as First};
 ghost use Rattle.jpg_file.specs.declared.read.machine.ScanReader.TheVariants.{DcFirst as FirstPass};
-ghost use Rattle.jpg_file.specs.Read.ScanStart.{IsAtFirstByte, CanBegin, HasSizes, IsBareIn, IsBegun, before_data};
+ghost use Rattle.jpg_file.specs.Read.ScanStart.{CanBegin, HasSizes, IsBareIn, IsBegun, before_data};
 ghost use Rattle.jpg_file.specs.Read.NewScan.{IsScanHeader};
+ghost use Rattle.jpg_file.specs.Read.SegmentState.{segments_view};
+ghost use Rattle.jpg_file.specs.Read.JudgedHeader.{JudgesHead};
 
 use crate::read::machine::ScanReader;
 use crate::read::scan::{InScan, ScanWork};
+use crate::read::scan_history::ScanHistory;
+use crate::read::segment_state::{SegmentState, lacks_table};
 use jpg_base::{Frame, ScanHead};
-use jpg_coefs::{Coefs, ScanMachine};
+use jpg_coefs::ScanMachine;
 use jpg_huff::{Gate, TableSet};
+use jpg_markers::{accepted_heads_are_of_their_frames, read_sos};
 use jpg_prog_read::{AcReader, DcFirst, DcRefine};
 use jpg_seq::SeqReader;
-
-/// The scan of a header that breaks no rule, before its first data byte, with the tables and the restart
-/// interval in force (in MCUs, 0 for none) and the picture so far.
-pub fn begin_scan(
-    frame: &Frame,
-    head: &ScanHead,
-    tables: &TableSet,
-    interval: u16,
-    coefs: &Coefs,
-) -> InScan
-    requires { CanBegin frame.now head.now tables.now interval coefs.now }
-    ensures gate { result.gate ≡ false }
-    ensures begun { IsAtFirstByte frame.now head.now tables.now interval coefs.now result }
-{
-    coefs.checked();
-    let mut place = None;
-    begin_data(&mut place, frame, head, tables, interval);
-    let Some(scan) = place else {
-        unreachable!();
-    };
-    scan
-}
+use jpg_spec::Fault;
 
 /// Puts the scan of a header that breaks no rule into a place, before its first data byte. The tables of its machine
 /// are built there.
@@ -149,4 +131,34 @@ fn first_units(units: u64, all: u64) -> u64
     ensures some { 1 ≤ all → 1 ≤ result }
 {
     if units == 0 { all } else { units.min(all) }
+}
+
+/// The scan header of these contents, or the first fault of the complete segment: those of `read_sos`, RepeatedScan (in
+/// a sequential frame: a component was in a scan) or Progression (in a progressive one: it isn't the next scan of each
+/// component), MissingTable (a table that it needs isn't there), QuantChanged (the quantisation table of a component
+/// isn't the one of its first scan).
+pub fn judge_head(
+    contents: &[u8],
+    frame: &Frame,
+    held: &SegmentState,
+    begun: &ScanHistory,
+) -> Result<ScanHead, Fault>
+    ensures { JudgesHead contents.now frame.now (segments_view held.now) begun.now result }
+{
+    accepted_heads_are_of_their_frames();
+    frame.checked();
+    let head = match read_sos(contents, frame) {
+        Ok(head) => head,
+        Err(fault) => return Err(fault),
+    };
+    if let Some(fault) = begun.fault(frame, &head) {
+        return Err(fault);
+    }
+    if lacks_table(frame, &head, held) {
+        return Err(Fault::MissingTable);
+    }
+    if !begun.are_same(head.parts.as_slice(), frame, &held.quants) {
+        return Err(Fault::QuantChanged);
+    }
+    Ok(head)
 }

@@ -1,9 +1,7 @@
 //! What the segments of a file define (T.81, B.2).
-ghost use Rattle.std.specs.Prelude.{◌≡◌, ◌≤◌, ◌==◌, ◌&&◌, ◌<◌, All, is_none, not, true, List, [], ◌∷◌, length, Some, None};
+ghost use Rattle.std.specs.Prelude.{◌≡◌, ◌≤◌, ◌==◌, ◌&&◌, ◌<◌, All, is_none, true, List, [], length, Some, None};
 ghost use Rattle.jpg_spec.specs.FrameHeader.{AreLimits};
-ghost use Rattle.jpg_spec.specs.HuffContents.{huffman_in};
-ghost use Rattle.jpg_spec.specs.History.{needs_ac_table, needs_dc_table};
-ghost use Rattle.jpg_spec.specs.Markers.{Segment, is_within, kept_rule, process_of_code};
+ghost use Rattle.jpg_spec.specs.Markers.{Segment, process_of_code};
 ghost use Rattle.jpg_spec.specs.declared.frame.Limits.{Limits as Bounded};
 ghost use Rattle.jpg_file.specs.Read.Keeping.{is_wanted};
 ghost use Rattle.jpg_file.specs.Read.SegmentState.{ChangesNothing, Holds, HoldsSegment, IsToKeep, TakesSegment, lacks_any, lacks_part, segments_view};
@@ -89,55 +87,25 @@ impl SegmentState {
         ensures keeping { self.new.keeping ≡ self.old.keeping }
     {
         match code {
-            DHT => self.take_huffmans(limits, contents),
-            DQT => self.take_quants(limits, contents),
-            DRI => self.take_interval(limits, contents),
+            DHT => match read_dht(contents, &mut self.tables) {
+                Ok(()) => SegmentTaken::Done,
+                Err(fault) => SegmentTaken::Fault(fault),
+            },
+            DQT => match read_dqt(contents, &mut self.quants) {
+                Ok(()) => SegmentTaken::Done,
+                Err(fault) => SegmentTaken::Fault(fault),
+            },
+            DRI => match read_dri(contents) {
+                Ok(interval) => {
+                    self.interval = interval;
+                    SegmentTaken::Done
+                }
+                Err(fault) => SegmentTaken::Fault(fault),
+            },
             SOF0 => self.take_frame(limits, SOF0, Process::Baseline, contents),
             SOF1 => self.take_frame(limits, SOF1, Process::Extended, contents),
             SOF2 => self.take_frame(limits, SOF2, Process::Progressive, contents),
             _ => self.take_other(limits, code, contents),
-        }
-    }
-
-    fn take_huffmans(&mut self, limits: Limits, contents: &[u8]) -> SegmentTaken
-        ensures held { (before : List Segment) → Holds limits (segments_view self.old) before → TakesSegment limits before 0xc4 contents.now result (segments_view self.new) }
-        ensures same { ChangesNothing (segments_view self.old) result (segments_view self.new) }
-        ensures memory { result ≡ SegmentTaken.NoMemory → ⊥ }
-        ensures scanned { self.new.scanned ≡ self.old.scanned }
-        ensures keeping { self.new.keeping ≡ self.old.keeping }
-    {
-        match read_dht(contents, &mut self.tables) {
-            Ok(()) => SegmentTaken::Done,
-            Err(fault) => SegmentTaken::Fault(fault),
-        }
-    }
-
-    fn take_quants(&mut self, limits: Limits, contents: &[u8]) -> SegmentTaken
-        ensures held { (before : List Segment) → Holds limits (segments_view self.old) before → TakesSegment limits before 0xdb contents.now result (segments_view self.new) }
-        ensures same { ChangesNothing (segments_view self.old) result (segments_view self.new) }
-        ensures memory { result ≡ SegmentTaken.NoMemory → ⊥ }
-        ensures scanned { self.new.scanned ≡ self.old.scanned }
-        ensures keeping { self.new.keeping ≡ self.old.keeping }
-    {
-        match read_dqt(contents, &mut self.quants) {
-            Ok(()) => SegmentTaken::Done,
-            Err(fault) => SegmentTaken::Fault(fault),
-        }
-    }
-
-    fn take_interval(&mut self, limits: Limits, contents: &[u8]) -> SegmentTaken
-        ensures held { (before : List Segment) → Holds limits (segments_view self.old) before → TakesSegment limits before 0xdd contents.now result (segments_view self.new) }
-        ensures same { ChangesNothing (segments_view self.old) result (segments_view self.new) }
-        ensures memory { result ≡ SegmentTaken.NoMemory → ⊥ }
-        ensures scanned { self.new.scanned ≡ self.old.scanned }
-        ensures keeping { self.new.keeping ≡ self.old.keeping }
-    {
-        match read_dri(contents) {
-            Ok(interval) => {
-                self.interval = interval;
-                SegmentTaken::Done
-            }
-            Err(fault) => SegmentTaken::Fault(fault),
         }
     }
 
@@ -194,30 +162,16 @@ impl SegmentState {
     }
 }
 
-// Whether the scan with this header needs a DC table that isn't there, in this slot.
-fn lacks_dc(frame: &Frame, head: &ScanHead, held: &SegmentState, slot: u8) -> bool
-    ensures { result ≡ (needs_dc_table frame.now head.now && is_none (huffman_in (segments_view held.now).tables.dc slot)) }
-{
-    let first = head.ss == 0 && head.ah == 0;
-    (!frame.is_progressive() || first) && !held.tables.has_dc(slot)
-}
-
-// Whether it needs an AC table that isn't there.
-fn lacks_ac(frame: &Frame, head: &ScanHead, held: &SegmentState, slot: u8) -> bool
-    ensures { result ≡ (needs_ac_table frame.now head.now && is_none (huffman_in (segments_view held.now).tables.ac slot)) }
-{
-    (!frame.is_progressive() || 0 < head.ss) && !held.tables.has_ac(slot)
-}
-
 // Whether a table that this part of a scan needs isn't there.
 fn lacks_one(frame: &Frame, head: &ScanHead, held: &SegmentState, part: ScanPart) -> bool
     requires { part.component < length frame.now.components }
     ensures { result ≡ lacks_part (segments_view held.now) frame.now head.now part }
 {
     let quant = frame.component(part.component).quant;
+    let first = head.ss == 0 && head.ah == 0;
     held.quants.get(quant).is_none()
-        || lacks_dc(frame, head, held, part.dc)
-        || lacks_ac(frame, head, held, part.ac)
+        || (!frame.is_progressive() || first) && !held.tables.has_dc(part.dc)
+        || (!frame.is_progressive() || 0 < head.ss) && !held.tables.has_ac(part.ac)
 }
 
 /// Whether a table that a scan with this header needs isn't there.

@@ -1,4 +1,4 @@
-use Rattle.jpg_file.proofs.ByRow.RowPlaces.{row_is_next}
+use Rattle.jpg_file.proofs.ByRow.StripRows.{row_is_next}
 use Rattle.jpg_file.proofs.laws.rows_are_due_in_order.Goals as goal
 
 pub returns : goal.returns

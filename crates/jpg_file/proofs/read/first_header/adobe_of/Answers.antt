@@ -4,7 +4,7 @@ use Rattle.std.proofs.lemmas.List.{append-nil, append_assoc}
 use Rattle.jpg_spec.specs.Jfif.{adobe_transform, is_adobe}
 use Rattle.jpg_spec.specs.Markers.{Segment}
 use Rattle.jpg_markers.specs.Kept.{kept_pair}
-use Rattle.jpg_file.proofs.Files.PictureSteps.{adobe_more}
+use Rattle.jpg_file.proofs.Files.Keeping.{adobe_more}
 use Rattle.jpg_file.proofs.read.first_header.adobe_of.Goals as goal
 
 pub loop-marker-init : goal.loop-marker-init

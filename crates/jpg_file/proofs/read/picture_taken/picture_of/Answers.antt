@@ -2,7 +2,7 @@ use Rattle.std.proofs.Common.{◌<◌, ◌≤◌, ◌∙◌, length, ap, sym, su
 use Rattle.jpg_spec.specs.Jfif.{jfif_of}
 use Rattle.jpg_spec.specs.Geometry.{Frame}
 use Rattle.jpg_file.specs.Read.PictureKept.{PictureParts}
-use Rattle.jpg_file.proofs.Files.PictureSteps.{IsLeft, colour_is, left_framed, left_grids, left_jfif, left_means, left_quants, left_range, table_left}
+use Rattle.jpg_file.proofs.Files.Keeping.{IsLeft, colour_is, left_framed, left_grids, left_jfif, left_means, left_quants, left_range, table_left}
 use Rattle.jpg_file.proofs.Scans.Scannings.{none_some}
 use Rattle.jpg_file.proofs.read.picture_taken.picture_of.Goals as goal
 

@@ -7,7 +7,7 @@ use Rattle.jpg_file.specs.Read.ScanStart.{before_data}
 use Rattle.jpg_file.specs.Read.NewScan.{IsBareScan}
 use Rattle.jpg_file.specs.declared.read.scan.InScan.{InScan}
 use Rattle.jpg_file.proofs.Scans.ScanStarts.{NewScan, start_of, first_interval, first_of_scan, in_data, counted, due_after}
-use Rattle.jpg_file.proofs.ByRow.RowCounts.{begun_left}
+use Rattle.jpg_file.proofs.ByRow.RowTurns.{begun_left}
 use Rattle.jpg_file.proofs.read.scan_start.begin_data.Goals as goal
 
 pub put_bare-requires : goal.put_bare-requires

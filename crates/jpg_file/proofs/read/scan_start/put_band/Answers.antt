@@ -1,5 +1,5 @@
 use Rattle.jpg_file.specs.declared.read.machine.ScanReader.TheVariants.{Ac}
-use Rattle.jpg_file.proofs.Scans.NewScans.{band_kind, kind_of, of_band}
+use Rattle.jpg_file.proofs.Scans.Machines.{band_kind, kind_of, of_band}
 use Rattle.jpg_file.proofs.read.scan_start.put_band.Goals as goal
 
 pub returns : goal.returns

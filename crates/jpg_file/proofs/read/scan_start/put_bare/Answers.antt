@@ -1,7 +1,7 @@
 use Rattle.std.proofs.Common.{◌≡◌, ◌<◌, sym, ap, arith}
 use Rattle.jpg_spec.specs.Segments.{ScanHead}
 use Rattle.jpg_file.specs.declared.read.machine.ScanReader.TheVariants.{Sequential, DcFirst, DcRefine}
-use Rattle.jpg_file.proofs.Scans.NewScans.{kind_of, later_kind, of_later}
+use Rattle.jpg_file.proofs.Scans.Machines.{kind_of, later_kind, of_later}
 use Rattle.jpg_file.proofs.read.scan_start.put_bare.Goals as goal
 
 pub returns-then-not-is_progressive : goal.returns-then-not-is_progressive

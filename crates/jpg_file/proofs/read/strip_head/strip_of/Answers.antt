@@ -1,7 +1,7 @@
 use Rattle.std.proofs.Common.{Some, ap, refl, sym, ◌∙◌}
 use Rattle.jpg_spec.specs.Geometry.{Frame}
 use Rattle.jpg_file.proofs.Scans.Scannings.{none_some}
-use Rattle.jpg_file.proofs.ByRow.StripParsed.{held_table, strip_tells}
+use Rattle.jpg_file.proofs.ByRow.StripBegin.{held_table, strip_tells}
 use Rattle.jpg_file.proofs.read.strip_head.strip_of.Goals as goal
 
 pub unreachable-requires : goal.unreachable-requires

@@ -1,6 +1,6 @@
 use Rattle.std.proofs.Common.{sym, ◌∙◌, subst}
 use Rattle.jpg_spec.specs.FrameHeader.{IsFrame}
-use Rattle.jpg_file.proofs.Writing.CountsKept.{class_counted}
+use Rattle.jpg_file.proofs.Writing.FewSymbols.{class_counted}
 use Rattle.jpg_file.proofs.write.sets.counts_of.Goals as goal
 
 pub count_scan-requires-clause-scan : goal.count_scan-requires-clause-scan

@@ -1,6 +1,6 @@
 use Rattle.std.proofs.Common.{◌∙◌}
 use Rattle.jpg_huff.specs.Sets.{dc_tables, ac_tables}
-use Rattle.jpg_file.proofs.Writing.TableSets.{first_slot, four_given, second_slot}
+use Rattle.jpg_file.proofs.Writing.ScanHeads.{first_slot, four_given, second_slot}
 use Rattle.jpg_file.proofs.write.sets.put_four.Goals as goal
 
 pub returns : goal.returns

@@ -1,6 +1,6 @@
 use Rattle.std.proofs.Common.{sym, ◌∙◌, true, false}
 use Rattle.jpg_spec_write.specs.ScanText.{scan_elements, symbol_counts, symbols_used}
-use Rattle.jpg_file.proofs.Writing.TableSets.{kind_given, own_given}
+use Rattle.jpg_file.proofs.Writing.ScanHeads.{kind_given, own_given}
 use Rattle.jpg_file.proofs.write.sets.put_tables.Goals as goal
 
 pub returns-then-has_typical : goal.returns-then-has_typical

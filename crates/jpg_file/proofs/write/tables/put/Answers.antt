@@ -2,7 +2,7 @@ use Rattle.std.proofs.Common.{sym, ap, ◌∙◌, arith}
 use Rattle.jpg_spec_write.specs.FileText.{with_table}
 use Rattle.jpg_huff.specs.Tables.{table_of}
 use Rattle.jpg_file.specs.Write.WriteTables.{given_by}
-use Rattle.jpg_file.proofs.Writing.DueTables.{four_dc, four_ac, put_dc, put_ac}
+use Rattle.jpg_file.proofs.Writing.ScansDue.{four_dc, four_ac, put_dc, put_ac}
 use Rattle.jpg_file.proofs.write.tables.put.Goals as goal
 
 pub returns-then-class-eq0-clause-four : goal.returns-then-class-eq0-clause-four

@@ -6,7 +6,7 @@ use Rattle.jpg_huff.proofs.InParts.{of_bytes, part_start, part_same, part_then, 
 use Rattle.jpg_huff.proofs.Together.{can_after, sends_nothing}
 use Rattle.jpg_prog_write.specs.Written.{tables_in}
 use Rattle.jpg_file.specs.Write.WriteTables.{given_by}
-use Rattle.jpg_file.proofs.Writing.DueTables.{left_due, left_given}
+use Rattle.jpg_file.proofs.Writing.ScansDue.{left_due, left_given}
 use Rattle.jpg_file.proofs.write.tables.write_due.Goals as goal
 
 pub loop-place-init : goal.loop-place-init

@@ -5,8 +5,8 @@ use Rattle.jpg_huff.proofs.Together.{sends_nothing, sends_same}
 use Rattle.jpg_huff.specs.Tables.{table_of}
 use Rattle.jpg_prog_write.specs.Written.{tables_in}
 use Rattle.jpg_file.specs.Write.WriteTables.{given_by}
-use Rattle.jpg_file.proofs.Writing.DueTables.{held_text, sent_text}
-use Rattle.jpg_file.proofs.Writing.TableSets.{found}
+use Rattle.jpg_file.proofs.Writing.ScansDue.{held_text, sent_text}
+use Rattle.jpg_file.proofs.Writing.ScanHeads.{found}
 use Rattle.jpg_file.proofs.write.tables.write_table.Goals as goal
 
 pub returns-in_default-clause-sends : goal.returns-in_default-clause-sends

@@ -5,10 +5,8 @@ use Rattle.jpg_file.specs.Read.Reading.{HeadWhole, with_coefs}
 use Rattle.jpg_file.specs.Read.RowTurns.{zero_picture}
 use Rattle.jpg_file.specs.Read.Strips.{IsHeadOfAll, contents_held, frame_behind, rows_of_all}
 use Rattle.jpg_file.specs.declared.read.reading.Reading.{Reading}
-use Rattle.jpg_file.proofs.Headers.HeaderReady.{are_in}
-use Rattle.jpg_file.proofs.ByRow.StripBegin.{FirstBegins, first_of, head_room, rows_begun, zero_sizes, zero_whole}
-use Rattle.jpg_file.proofs.ByRow.StripCounts.{head_rows, kept_frame}
-use Rattle.jpg_file.proofs.ByRow.StripParsed.{begins_told}
+use Rattle.jpg_file.proofs.Headers.HeaderTaken.{are_in}
+use Rattle.jpg_file.proofs.ByRow.StripBegin.{FirstBegins, first_of, head_room, rows_begun, zero_sizes, zero_whole, head_rows, kept_frame, begins_told}
 use Rattle.jpg_file.proofs.read.file.FileWork.begin_rows.Goals as goal
 
 pub new-requires-clause-there : goal.new-requires-clause-there

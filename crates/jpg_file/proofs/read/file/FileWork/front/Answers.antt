@@ -1,6 +1,5 @@
 use Rattle.std.proofs.Common.{◌∙◌, sym, arith}
-use Rattle.jpg_file.proofs.Files.PieceSteps.{front_fills, front_passes}
-use Rattle.jpg_file.proofs.Files.Passing.{all_between, all_in_scan}
+use Rattle.jpg_file.proofs.Files.PieceSteps.{front_fills, front_passes, all_between, all_in_scan}
 use Rattle.jpg_file.proofs.Files.FileSteps.{between_of}
 use Rattle.jpg_file.specs.Read.File.{limits_of}
 use Rattle.jpg_file.proofs.read.file.FileWork.front.Goals as goal

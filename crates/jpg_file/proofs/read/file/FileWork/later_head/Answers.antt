@@ -3,7 +3,7 @@ use Rattle.jpg_file.specs.Read.File.{with_picture}
 use Rattle.jpg_file.specs.Read.Step.{HasMemory}
 use Rattle.jpg_file.specs.Read.Strips.{AfterRows}
 use Rattle.jpg_file.specs.declared.read.step.Step.{Step}
-use Rattle.jpg_file.proofs.ByRow.StripAlone.{frame_there, none_accepted}
+use Rattle.jpg_file.proofs.ByRow.StripBegin.{frame_there, none_accepted}
 use Rattle.jpg_file.proofs.ByRow.StripItems.{head_stops}
 use Rattle.jpg_file.proofs.read.file.FileWork.later_head.Goals as goal
 

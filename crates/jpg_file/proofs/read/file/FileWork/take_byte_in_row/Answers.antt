@@ -9,10 +9,9 @@ use Rattle.jpg_file.specs.declared.read.items.ItemStep.{ItemStep}
 use Rattle.jpg_file.specs.declared.read.step.Step.{Step}
 use Rattle.jpg_file.specs.Read.RowTurns.{CountsScan}
 use Rattle.jpg_file.specs.declared.read.step.Step.TheVariants as step
-use Rattle.jpg_file.proofs.ByRow.FaultsRows.{byte_at_fault, marker_at_fault, no_stop}
-use Rattle.jpg_file.proofs.ByRow.RowCounts.{counts_rows, same_rows}
-use Rattle.jpg_file.proofs.ByRow.StripBytes.{byte_goes, byte_leaves, byte_stops, leaves_kind, ready_row}
-use Rattle.jpg_file.proofs.ByRow.StripTurns.{file_with, row_ready}
+use Rattle.jpg_file.proofs.ByRow.StripBytes.{byte_at_fault, marker_at_fault, no_stop, byte_goes, byte_leaves, byte_stops, leaves_kind, ready_row}
+use Rattle.jpg_file.proofs.ByRow.RowTurns.{counts_rows, same_rows}
+use Rattle.jpg_file.proofs.ByRow.StripRows.{file_with, row_ready}
 use Rattle.jpg_file.proofs.read.file.FileWork.take_byte_in_row.Goals as goal
 
 pub byte_in_row-step-requires-clause-inside : goal.byte_in_row-step-requires-clause-inside

@@ -1,6 +1,6 @@
 use Rattle.std.proofs.Common.{◌∙◌}
 use Rattle.jpg_file.specs.Read.File.{with_picture}
-use Rattle.jpg_file.proofs.Files.Ending.{file_lacks}
+use Rattle.jpg_file.proofs.Files.PieceSteps.{file_lacks}
 use Rattle.jpg_file.proofs.Files.FileSteps.{end_complete}
 use Rattle.jpg_file.proofs.read.file.FileWork.take_end.Goals as goal
 

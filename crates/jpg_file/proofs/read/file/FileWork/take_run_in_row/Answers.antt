@@ -4,10 +4,9 @@ use Rattle.jpg_file.specs.Read.File.{limits_of}
 use Rattle.jpg_file.specs.Read.Step.{HasMemory}
 use Rattle.jpg_file.specs.Read.Strips.{CountsRows}
 use Rattle.jpg_file.specs.declared.read.step.Step.{Step}
-use Rattle.jpg_file.proofs.ByRow.FaultsRows.{no_stop, run_at_fault}
-use Rattle.jpg_file.proofs.ByRow.RowCounts.{counts_rows}
-use Rattle.jpg_file.proofs.ByRow.StripBytes.{ready_row, run_few, run_goes, run_stops}
-use Rattle.jpg_file.proofs.ByRow.StripTurns.{row_ready}
+use Rattle.jpg_file.proofs.ByRow.StripBytes.{no_stop, run_at_fault, ready_row, run_few, run_goes, run_stops}
+use Rattle.jpg_file.proofs.ByRow.RowTurns.{counts_rows}
+use Rattle.jpg_file.proofs.ByRow.StripRows.{row_ready}
 use Rattle.jpg_file.proofs.read.file.FileWork.take_run_in_row.Goals as goal
 
 pub run_in_row-n-requires-clause-inside : goal.run_in_row-n-requires-clause-inside

@@ -4,9 +4,9 @@ use Rattle.jpg_file.specs.Read.File.{limits_of}
 use Rattle.jpg_file.specs.Read.Step.{HasMemory}
 use Rattle.jpg_file.specs.Read.Strips.{AfterRows, CountsRows}
 use Rattle.jpg_file.specs.declared.read.step.Step.{Step}
-use Rattle.jpg_file.proofs.ByRow.FaultsRows.{no_stop, rest_at_fault}
-use Rattle.jpg_file.proofs.ByRow.RowCounts.{counts_rows, rows_then}
-use Rattle.jpg_file.proofs.ByRow.StripTurns.{file_with, next_counts, next_ready, nothing, ready_goes, ready_half, rest_goes, rest_stops}
+use Rattle.jpg_file.proofs.ByRow.StripBytes.{no_stop, rest_at_fault}
+use Rattle.jpg_file.proofs.ByRow.RowTurns.{counts_rows, rows_then}
+use Rattle.jpg_file.proofs.ByRow.StripRows.{file_with, next_counts, next_ready, nothing, ready_goes, ready_half, rest_goes, rest_stops}
 use Rattle.jpg_file.proofs.read.file.FileWork.take_waiting_bits.Goals as goal
 
 pub returns-then-len-eq0-clause-after : goal.returns-then-len-eq0-clause-after

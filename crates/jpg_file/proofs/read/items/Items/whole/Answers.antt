@@ -4,7 +4,7 @@ use Rattle.jpg_file.specs.declared.read.segment_state.SegmentTaken.TheVariants a
 use Rattle.jpg_file.specs.Read.Keeping.{is_wanted}
 use Rattle.jpg_spec.specs.Markers.{is_kept_if}
 use Rattle.jpg_spec.proofs.Basics.Common.{clash}
-use Rattle.jpg_file.proofs.Files.Passing.{none_there, one_left}
+use Rattle.jpg_file.proofs.Files.PieceSteps.{none_there, one_left}
 use Rattle.jpg_file.proofs.read.items.Items.whole.Goals.{then-segment-via-then-segment, then-segment-via-else-segment+then-not-allows}
 use Rattle.jpg_file.proofs.Files.ItemBytes.{nothing_passes, whole_passes}
 use Rattle.jpg_file.proofs.read.items.Items.whole.Goals as goal

@@ -1,7 +1,7 @@
 use Rattle.std.proofs.Common.{subst}
 use Rattle.jpg_file.specs.Read.NewScan.{IsBareScan}
 use Rattle.jpg_file.specs.declared.read.machine.ScanReader.{ScanReader}
-use Rattle.jpg_file.proofs.Scans.NewScans.{as_plain, first_kind, kind_of, of_first}
+use Rattle.jpg_file.proofs.Scans.Machines.{as_plain, first_kind, kind_of, of_first}
 use Rattle.jpg_file.proofs.read.machine.ScanReader.put_tables.Goals as goal
 
 pub put_tables-requires-clause-scan : goal.put_tables-requires-clause-scan

@@ -1,15 +1,32 @@
-use Rattle.std.proofs.Common.{[]}
+use Rattle.std.proofs.Common.{[], refl, drop}
+use Rattle.jpg_spec.specs.Bits.{bits_of_bytes}
 use Rattle.jpg_seq.specs.Reader.{sequential}
+use Rattle.jpg_seq.specs.Rows.{all_blocks}
+use Rattle.jpg_seq.proofs.RowReadings.{all_inside, all_taken}
 use Rattle.jpg_prog_read.specs.RepresentsAcScan.{progressive_ac}
 use Rattle.jpg_prog_read.specs.DcFirstPass.{first_pass}
 use Rattle.jpg_prog_read.specs.DcRefinement.{refinement}
 use Rattle.jpg_file.specs.Read.Machine.{any_scan}
 use Rattle.jpg_file.specs.declared.read.machine.ScanReader.TheVariants.{Sequential, DcFirst, DcRefine, Ac}
+use Rattle.jpg_file.proofs.ByRow.RowData.{own}
+use Rattle.jpg_file.proofs.Scans.Runs.{given_bytes, run_all}
 use Rattle.jpg_file.proofs.Scans.Machines.{is_sequential, is_dc_first, is_dc_later, is_ac, run_of}
 use Rattle.jpg_file.proofs.read.machine.ScanReader.run.Goals as goal
 
+pub bytes-got-requires-clause-open : goal.bytes-got-requires-clause-open
+bytes-got-requires-clause-open c = (all_blocks, c.args.coefs.now, (refl, refl), own c.args.self.now c.in-Sequential.machine c.args.coefs.now c.in-Sequential.is c.requires.open)
+
+pub bytes-got-requires-clause-inside : goal.bytes-got-requires-clause-inside
+bytes-got-requires-clause-inside c = all_inside c.in-Sequential.machine c.args.coefs.now c.units_left-all.result (own c.args.self.now c.in-Sequential.machine c.args.coefs.now c.in-Sequential.is c.requires.open)
+
 pub returns-in-Sequential : goal.returns-in-Sequential
-returns-in-Sequential c = rw c.in-Sequential.is (run_of (λ m. Sequential m) sequential any_scan is_sequential c.in-Sequential.machine c.take_bytes.new.machine c.args.coefs.now c.take_bytes.new.coefs c.args.bytes.now c.take_bytes.result.0 c.take_bytes.result.1 [] c.take_bytes.ensures)
+returns-in-Sequential c =
+    let bytes = c.args.bytes.now in let got = c.bytes-got in let bits = bits_of_bytes bytes in
+    let m = c.in-Sequential.machine in let coefs = c.args.coefs.now in
+    rw c.in-Sequential.is (run_of (λ m. Sequential m) sequential any_scan is_sequential m got.new.self coefs got.new.coefs bytes _ got.result.taken []
+    (run_all sequential m got.new.self coefs got.new.coefs c.units_left-all.result bytes _ _ got.result.taken c.requires.some (λ e. c.units_left-all.ensures)
+    (given_bytes bytes got.result.bits _ got.ensures.within c.div_ceil.ensures)
+    (all_taken c.units_left-all.result m got.new.self coefs got.new.coefs bits (drop got.result.bits bits) got.result.taken (own c.args.self.now m coefs c.in-Sequential.is c.requires.open) got.ensures.takes)))
 
 pub returns-in-DcFirst : goal.returns-in-DcFirst
 returns-in-DcFirst c = rw c.in-DcFirst.is (run_of (λ m. DcFirst m) first_pass any_scan is_dc_first c.in-DcFirst.machine c.take_run.new.machine c.args.coefs.now c.take_run.new.coefs c.args.bytes.now c.take_run.result.0 c.take_run.result.1 [] c.take_run.ensures)

@@ -2,7 +2,7 @@ use Rattle.std.proofs.Common.{◌∙◌, ap, sym, subst}
 use Rattle.jpg_file.specs.Read.ReadFile.{HasRead, ReaderState, TellsBegun}
 use Rattle.jpg_file.specs.Read.ReadRows.{HasGivenRow, HasReadRows}
 use Rattle.jpg_file.proofs.Files.Leaving.{each_complete, tells_begun}
-use Rattle.jpg_file.proofs.ByRow.RowsEnd.{begun_given, begun_rows}
+use Rattle.jpg_file.proofs.ByRow.RowsEarly.{begun_given, begun_rows}
 use Rattle.jpg_file.proofs.read.reader.Reader.begun.Goals as goal
 
 pub returns-clause-read : goal.returns-clause-read

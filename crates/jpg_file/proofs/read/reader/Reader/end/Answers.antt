@@ -7,7 +7,7 @@ use Rattle.jpg_file.specs.Read.ReadFile.{HasRead, ReaderState, StopsAt, TellsBeg
 use Rattle.jpg_file.specs.Read.ReadRows.{HasReadAll}
 use Rattle.jpg_file.proofs.Files.Leaving.{ends_early, tells_begun}
 use Rattle.jpg_file.proofs.Files.PieceSteps.{counted}
-use Rattle.jpg_file.proofs.ByRow.RowsEnd.{all_told, early_answered, keeps_early}
+use Rattle.jpg_file.proofs.ByRow.RowsEarly.{all_told, early_answered, keeps_early}
 use Rattle.jpg_file.proofs.ByRow.RowsRead.{read_all}
 use Rattle.jpg_file.proofs.read.reader.Reader.end.Goals as goal
 

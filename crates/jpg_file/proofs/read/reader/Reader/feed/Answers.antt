@@ -4,8 +4,8 @@ use Rattle.jpg_base.specs.declared.stop.Stop.{Stop}
 use Rattle.jpg_base.specs.declared.stop.Stop.TheVariants as stop
 use Rattle.jpg_file.specs.Read.ReadFile.{HasRead, ReaderState}
 use Rattle.jpg_file.specs.Read.PieceTaken.{ReadsPiece}
-use Rattle.jpg_file.specs.declared.read.row_pieces.FedRow.{FedRow}
-use Rattle.jpg_file.specs.declared.read.row_pieces.FedRow.TheVariants as fed
+use Rattle.jpg_file.specs.declared.read.pieces.FedRow.{FedRow}
+use Rattle.jpg_file.specs.declared.read.pieces.FedRow.TheVariants as fed
 use Rattle.jpg_file.proofs.Files.ReaderFed.{fed_asks, fed_done, fed_more, fed_no_row, fed_stop, keeps_done_rows, keeps_more_rows, plain_stands}
 use Rattle.jpg_file.proofs.read.reader.Reader.feed.Goals as goal
 

@@ -7,8 +7,8 @@ use Rattle.jpg_base.specs.declared.stop.Stop.TheVariants as stop
 use Rattle.jpg_file.specs.Read.ReadRows.{AfterFeedKeeping, AfterFeedRow, HasReadSoFar, IsByRow}
 use Rattle.jpg_file.specs.Read.RowPieces.{WantsNone}
 use Rattle.jpg_file.specs.Read.PieceTaken.{ReadsPiece}
-use Rattle.jpg_file.specs.declared.read.row_pieces.FedRow.{FedRow}
-use Rattle.jpg_file.specs.declared.read.row_pieces.FedRow.TheVariants as fed
+use Rattle.jpg_file.specs.declared.read.pieces.FedRow.{FedRow}
+use Rattle.jpg_file.specs.declared.read.pieces.FedRow.TheVariants as fed
 use Rattle.jpg_file.proofs.ByRow.RowsAnswered.{done_answered, memory_answered, more_answered, row_answered, stop_answered, stop_kept}
 use Rattle.jpg_file.proofs.read.reader.Reader.next_row.Goals as goal
 

@@ -2,7 +2,7 @@ use Rattle.std.proofs.Common.{ap, sym, ◌∙◌}
 use Rattle.jpg_spec.specs.InForce.{frame_of}
 use Rattle.jpg_file.specs.Read.ReadFile.{ReaderState}
 use Rattle.jpg_file.specs.Read.ReadRows.{picture_read}
-use Rattle.jpg_file.proofs.ByRow.StripParsed.{strip_copied}
+use Rattle.jpg_file.proofs.ByRow.StripBegin.{strip_copied}
 use Rattle.jpg_file.proofs.read.reader.Reader.strip.Goals as goal
 
 pub returns-in-Some-clause-some : goal.returns-in-Some-clause-some

@@ -15,9 +15,10 @@ use Rattle.jpg_file.specs.Read.Reading.{waiting_bytes, with_coefs}
 use Rattle.jpg_file.specs.Read.RowPlaces.{scan_left}
 use Rattle.jpg_file.specs.declared.read.scan.InScan.{InScan}
 use Rattle.jpg_spec.proofs.Basics.Common.{some_once}
-use Rattle.jpg_file.proofs.ByRow.RowCounts.{begun_places}
-use Rattle.jpg_file.proofs.Headers.ScanHistories.{begun_more, header_room, table_there}
+use Rattle.jpg_file.proofs.ByRow.RowTurns.{begun_places}
+use Rattle.jpg_file.proofs.Headers.InForce.{begun_more, header_room, table_there}
 use Rattle.jpg_file.proofs.Headers.HeaderTaken.{found, judged, head_begins, head_shows}
+use Rattle.jpg_file.proofs.Scans.ScanLeft.{after_head}
 use Rattle.jpg_file.proofs.Scans.Scannings.{none_some}
 use Rattle.jpg_file.proofs.read.reading.Reading.begin_head.Goals as goal
 
@@ -74,9 +75,9 @@ returns-in-Ok-clause-after c = λ q sizes bytes items blocks k.
         scan = begun.0;
         inside = begun.1;
         at = begun.4 q sizes r.items.limits items blocks contents bytes begins;
-        head = c.head_done.ensures.behind bytes items blocks k.segment k.code;
+        head = after_head r.items.limits bytes items blocks r.items (record r.items { held = record r.items.held { scanned = true } }) k.segment k.code refl refl refl;
         count = k.count;
-        behind = omega (arith, k.same, c.head_done.ensures.same, ap waiting_bytes begun.2);
+        behind = omega (arith, k.same, ap waiting_bytes begun.2);
       },
       begun_more r.items.limits b c.count.new.self (segments_of items) contents head slots (ap (λ (g : Frame). head_in g contents) (begins.header).framed ∙ (begins.header).header)
           (framed (segments_of items) begins.allowed)

@@ -1,6 +1,5 @@
 use Rattle.std.proofs.Common.{◌∙◌}
-use Rattle.jpg_file.proofs.Files.Going.{can_after, goes_last, goes_then}
-use Rattle.jpg_file.proofs.Files.Passing.{none_in_rest}
+use Rattle.jpg_file.proofs.Files.PieceSteps.{can_after, goes_last, goes_then, none_in_rest}
 use Rattle.jpg_file.proofs.read.reading.Reading.segments.Goals as goal
 
 pub whole-n-requires : goal.whole-n-requires

@@ -1,4 +1,4 @@
-use Rattle.jpg_file.proofs.Files.Going.{goes}
+use Rattle.jpg_file.proofs.Files.PieceSteps.{goes}
 use Rattle.jpg_file.proofs.read.reading.Reading.whole.Goals as goal
 
 pub returns-clause-after : goal.returns-clause-after

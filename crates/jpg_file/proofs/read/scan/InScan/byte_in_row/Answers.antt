@@ -8,10 +8,9 @@ use Rattle.jpg_file.specs.declared.read.scan.InScan.{InScan}
 use Rattle.jpg_file.specs.Read.InData.{AfterByte, MarkerAt}
 use Rattle.jpg_file.specs.Read.Machine.{any_scan}
 use Rattle.jpg_file.specs.Read.Data.{GivesBits}
-use Rattle.jpg_file.proofs.ByRow.RowBits.{half_after}
-use Rattle.jpg_file.proofs.ByRow.RowCounts.{counts_scan, none_counted}
-use Rattle.jpg_file.proofs.ByRow.FaultsData.{byte_extra, byte_faults, byte_wrong, goes_on}
-use Rattle.jpg_file.proofs.ByRow.RowScans.{data_answer, open_scan, rest_none}
+use Rattle.jpg_file.proofs.ByRow.RowData.{half_after, data_answer, open_scan, rest_none}
+use Rattle.jpg_file.proofs.ByRow.RowTurns.{counts_scan, none_counted}
+use Rattle.jpg_file.proofs.ByRow.Faults.{byte_extra, byte_faults, byte_wrong, goes_on}
 use Rattle.jpg_file.proofs.Scans.ScanBytes.{as_stepped, data_at, ff_byte, marker_at, marker_byte, whole_extra}
 use Rattle.jpg_file.proofs.read.scan.InScan.byte_in_row.Goals as goal
 

@@ -1,9 +1,8 @@
 use Rattle.std.proofs.Common.{arith}
 use Rattle.jpg_file.specs.Read.RowData.{RunRest}
-use Rattle.jpg_file.proofs.ByRow.RowCounts.{counts_scan}
-use Rattle.jpg_file.proofs.ByRow.FaultsData.{run_faults}
-use Rattle.jpg_file.proofs.ByRow.RowLast.{run_last}
-use Rattle.jpg_file.proofs.ByRow.RowScans.{open_scan, run_in_row}
+use Rattle.jpg_file.proofs.ByRow.RowTurns.{counts_scan}
+use Rattle.jpg_file.proofs.ByRow.Faults.{run_faults, run_last}
+use Rattle.jpg_file.proofs.ByRow.RowData.{open_scan, run_in_row}
 use Rattle.jpg_file.proofs.Scans.ScanBytes.{as_stepped}
 use Rattle.jpg_file.proofs.read.scan.InScan.run_in_row.Goals as goal
 

@@ -1,7 +1,7 @@
 use Rattle.std.proofs.Common.{◌∙◌, ◌+◌, ◌-◌, ◌%◌, ℕ, false, sym, subst}
 use Rattle.jpg_file.specs.Read.InData.{AtWork}
 use Rattle.jpg_file.proofs.Scans.ScanBytes.{read_at, next_one, next_ready, next_count, next_work}
-use Rattle.jpg_file.proofs.ByRow.RowCounts.{interval_left}
+use Rattle.jpg_file.proofs.ByRow.RowTurns.{interval_left}
 use Rattle.jpg_file.proofs.read.scan.ScanWork.next_interval.Goals as goal
 
 pub restart-requires-clause-ready : goal.restart-requires-clause-ready

@@ -2,7 +2,7 @@ use Rattle.jpg_file.specs.Read.File.{MakesPicture, limits_of}
 use Rattle.jpg_spec.specs.Items.{segments_of}
 use Rattle.std.proofs.Common.{[], ◌∙◌, ◌∷◌, ◌++◌}
 use Rattle.jpg_file.specs.Read.Strips.{contents_held}
-use Rattle.jpg_file.proofs.ByRow.StripParsed.{head_counts, rows_known}
+use Rattle.jpg_file.proofs.ByRow.StripBegin.{head_counts, rows_known}
 use Rattle.jpg_file.proofs.ByRow.StripWorks.{begin_stops, plain_after}
 use Rattle.jpg_file.proofs.ByRow.RowsNone.{none_after, none_begun, none_found}
 use Rattle.jpg_file.proofs.read.strip_work.StripWork.take_head.Goals as goal

@@ -1,7 +1,7 @@
 use Rattle.std.proofs.Common.{ap, length}
 use Rattle.jpg_spec.specs.Scan.{TablesInForce}
 use Rattle.jpg_spec_write.specs.FileText.{Written}
-use Rattle.jpg_file.proofs.Writing.DueTables.{none_by}
+use Rattle.jpg_file.proofs.Writing.ScansDue.{none_by}
 use Rattle.jpg_file.proofs.write.scan.Given.new.Goals as goal
 
 pub returns-clause-four : goal.returns-clause-four

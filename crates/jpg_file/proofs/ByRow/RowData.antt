@@ -1,0 +1,213 @@
+-- Bits, and the data of a scan, while an MCU row is read, of which some bits may wait.
+use Rattle.std.proofs.Common.{◌≡◌, ℕ, Bool, List, sym, subst, ◌+◌, ◌-◌, ◌*◌, ◌/◌, ◌≤◌, length, drop, get_or, refl, ap, ◌∙◌, arith, false, [], ◌∷◌, ◌++◌, Ok, Err, true, take}
+use Rattle.jpg_coefs.specs.Machine.{Interval, TakesBits, Chain, Kind}
+use Rattle.jpg_coefs.specs.Picture.{Picture}
+use Rattle.jpg_coefs.specs.declared.machine.Taken.{Taken}
+use Rattle.jpg_seq.specs.Reader.{sequential}
+use Rattle.jpg_seq.specs.RowTaken.{CanReadInto, PassesPlaces, ReadsInto}
+use Rattle.jpg_seq.specs.Rows.{AreInRow, one_row}
+use Rattle.jpg_seq.specs.declared.reader.SeqReader.{SeqReader}
+use Rattle.jpg_file.specs.Read.Machine.{any_scan, reader_left}
+use Rattle.jpg_file.specs.Read.RowMachine.{CanReadMcuRow, IsInsideMcuRow, IsOpenRowScan, TakesRowBits, PassesRow}
+use Rattle.jpg_file.specs.declared.read.machine.ScanReader.{ScanReader}
+use Rattle.jpg_file.specs.declared.read.machine.ScanReader.TheVariants.{Sequential}
+use Rattle.jpg_file.proofs.Scans.Machines.{is_sequential, takes_of}
+use Rattle.jpg_spec.specs.Bits.{bits_of, bits_of_bytes}
+use Rattle.jpg_coefs.specs.declared.machine.Taken.TheVariants as taken
+use Rattle.jpg_file.specs.Read.Data.{GivesBits, GivesRun, waits_of, AnswersIn}
+use Rattle.jpg_file.specs.Read.RowCounts.{CountsRow}
+use Rattle.jpg_file.specs.Read.RowData.{TakesRowData, TakesRowRun, HalfData, AfterRowBytes, AfterRowByte, InRowData, RunRest}
+use Rattle.jpg_file.specs.declared.read.rows.RowWork.{RowWork}
+use Rattle.jpg_file.proofs.Scans.Runs.{given, run_given, some_given, answers_after}
+use Rattle.std.proofs.lemmas.List.{append_assoc}
+use Rattle.jpg_spec.specs.Items.{Item}
+use Rattle.jpg_spec.specs.ScanReading.{ScanPlace, ScanAt, with_byte}
+use Rattle.jpg_spec.specs.declared.frame.Limits.{Limits}
+use Rattle.jpg_coefs.specs.declared.machine.UnitStep.TheVariants as step
+use Rattle.jpg_coefs.proofs.Chains.{chain_then}
+use Rattle.jpg_file.specs.Read.InData.{AfterBytes, AtWork, scan_answer, work_after, AfterByte, ArePlain, InData, byte_answer}
+use Rattle.jpg_file.specs.declared.read.scan.InScan.{InScan}
+use Rattle.jpg_file.specs.declared.read.scan.ScanWork.{ScanWork}
+use Rattle.jpg_file.proofs.Scans.ScanBytes.{data_byte, due_data, before_last, mid_of, open_at, of_half, of_work}
+use Rattle.std.specs.Prelude.{Result}
+use Rattle.jpg_spec.specs.declared.fault.Fault.{Fault}
+use Rattle.jpg_spec.proofs.Files.ScanSteps.{plain_data}
+
+-- The machine of a sequential scan among the others, while an MCU row is read.
+
+one_machine : (m n : SeqReader) → Sequential m ≡ Sequential n → m ≡ n
+one_machine m n e = cc
+
+pub own : (m : ScanReader) (machine : SeqReader) (whole : Picture) → m ≡ Sequential machine → IsOpenRowScan m whole → (i : Interval) × (bits : List Bool) × sequential.stands machine i bits whole
+own m machine whole is o = (o.0, o.1, is_sequential.own machine o.0 o.1 whole (subst (λ (q : ScanReader). any_scan.stands q o.0 o.1 whole) is o.2))
+
+module _ (tops : List ℕ) (m : ScanReader) (machine : SeqReader) (row : Picture) (is : m ≡ Sequential machine) where
+  pub row_open : CanReadMcuRow tops m row → CanReadInto tops machine row
+  row_open o = (one_row, o.0, o.1, own m machine o.0 is o.2)
+
+  pub row_takes : (most : ℕ) (new : SeqReader) (after : Picture) (store rest : List Bool) (answer : Taken)
+      → ReadsInto most tops machine row store answer new after rest → TakesRowBits most tops m row store answer (Sequential new) after rest
+  row_takes most new after store rest answer t = λ whole at o.
+      (let k = t one_row whole at (own m machine whole is o) in
+      let a = takes_of (λ q. Sequential q) sequential any_scan is_sequential most machine new whole k.0 store rest answer k.2 in
+      (k.0, k.1, subst (λ (q : ScanReader). TakesBits any_scan most q whole store answer (Sequential new) k.0 rest) (sym is) a))
+
+  pub row_inside : (most : ℕ) → IsInsideMcuRow tops row most m → AreInRow row.frame tops (take most machine.cursor)
+  row_inside most inside = subst (λ (q : SeqReader). AreInRow row.frame tops (take most q.cursor)) (one_machine inside.machine machine (sym inside.is ∙ is)) inside.inside
+
+  abbrev pub row_passes : (most : ℕ) (new : SeqReader) (answer : Taken) → PassesPlaces most machine answer new → PassesRow most m answer (Sequential new)
+  row_passes most new answer p = record { old_machine = machine; new_machine = new; old_is = is; new_is = refl; passes = p }
+
+-- The current MCU row: the result of its data, and how many of its units are left.
+
+-- as many units as the machine passed
+pub units_passed : (most : ℕ) (m new : ScanReader) (answer : Taken) → (p : PassesRow most m answer new) → any_scan.left m ≡ any_scan.left new + p.passes.units
+units_passed most m new answer p = omega (arith, ap reader_left p.old_is, ap reader_left p.new_is, p.passes.left)
+
+pub few_passed : (most : ℕ) (m new : ScanReader) (answer : Taken) → (p : PassesRow most m answer new) → p.passes.units ≤ most
+few_passed most m new taken.More p = omega (arith, p.passes.few)
+few_passed most m new taken.Units p = omega (arith, p.passes.few.0)
+few_passed most m new taken.IntervalDone p = p.passes.few.0
+few_passed most m new (taken.Fault f) p = omega (arith, p.passes.few)
+
+-- all of the interval at its end, and all that were asked for if bits wait
+all_passed : (most : ℕ) (m new : ScanReader) (answer : Taken) → PassesRow most m answer new → answer ≡ taken.IntervalDone → any_scan.left new ≡ 0
+all_passed most m new answer p e = (let q = subst (λ a. PassesRow most m a new) e p in ap reader_left q.new_is ∙ q.passes.few.1)
+
+waits_all : (most : ℕ) (m new : ScanReader) (answer : Taken) (rest : List Bool) → (p : PassesRow most m answer new) → 1 ≤ length (waits_of answer rest) → p.passes.units ≡ most
+waits_all most m new taken.Units rest p some = p.passes.few.0
+waits_all most m new other rest p some = absurd (omega (arith, some))
+
+module _ (w : RowWork) (m after : ScanReader) (row : Picture) (answer : Taken) where
+  pub counts_row : (units : ℕ) (waiting rest : List Bool) (p : PassesRow w.left m answer after) → any_scan.left m ≡ any_scan.left after + units
+      → waiting ≡ waits_of answer rest → CountsRow w m answer (record w { coefs = row; left = w.left - units; waiting = waiting }) after
+  counts_row units waiting rest p count waits =
+      let few = few_passed w.left m after answer p in
+      let passed = units_passed w.left m after answer p in
+      record {
+        tops = refl;
+        steps = refl;
+        units = refl;
+        later = refl;
+        passed = p.passes.units;
+        left = omega (arith, passed, count, few);
+        old_machine = p.old_machine;
+        new_machine = p.new_machine;
+        old_is = p.old_is;
+        new_is = p.new_is;
+        cursor = p.passes.cursor;
+        interval = passed;
+        ended = all_passed w.left m after answer p;
+        wait = λ some. omega (arith, passed, count, waits_all w.left m after answer rest p (subst (λ z. 1 ≤ length z) waits some));
+      }
+
+  -- DATA of the row
+
+  pub data_takes : (left : ℕ) (bits rest waiting : List Bool) → waiting ≡ waits_of answer rest → TakesRowBits w.left w.tops m w.coefs bits answer after row rest
+      → TakesRowData w m bits answer (record w { coefs = row; left = left; waiting = waiting }) after
+  data_takes left bits rest waiting waits t = λ whole at o.
+      (let k = t whole at o in (k.0, k.1, subst (λ (z : List Bool). GivesBits any_scan m whole bits answer z after k.0) (sym waits) (given any_scan m whole w.left after k.0 bits rest answer k.2)))
+
+  pub run_takes_row : (left : ℕ) (bytes : List ℕ) (count n : ℕ) (last waiting : List Bool) → 1 ≤ length bytes → count ≤ 8 * length bytes
+      → n ≡ length bytes - length (drop count (bits_of_bytes bytes)) / 8 → last ≡ drop (count - 8 * (n - 1)) (bits_of 8 (get_or bytes (n - 1) 0))
+      → waiting ≡ waits_of answer last → TakesRowBits w.left w.tops m w.coefs (bits_of_bytes bytes) answer after row (drop count (bits_of_bytes bytes))
+      → TakesRowRun w m bytes n answer (record w { coefs = row; left = left; waiting = waiting }) after
+  run_takes_row left bytes count n last waiting some within size is waits t = λ whole at o.
+      (let k = t whole at o in (
+        k.0,
+        k.1,
+        subst (λ (z : List Bool). GivesRun ScanReader any_scan m whole bytes n answer z after k.0) (sym waits) (run_given any_scan m after whole k.0 w.left bytes count n last answer some within size is k.2),
+      ))
+
+  -- at least one bit is taken
+  pub some_in_row : (bytes : List ℕ) (count : ℕ) → CanReadMcuRow w.tops m w.coefs → 1 ≤ length bytes → count ≤ 8 * length bytes
+      → TakesRowBits w.left w.tops m w.coefs (bits_of_bytes bytes) answer after row (drop count (bits_of_bytes bytes)) → 1 ≤ count
+  some_in_row bytes count can some within t =
+      (let k = t can.0 can.1 can.2 in some_given any_scan m after can.0 k.0 w.left bytes count answer some within k.2)
+
+-- Bits that are passed to a machine while an MCU row is read, of which some wait.
+
+module _ {M : Type 0} (k : Kind M) (m mid new : M) (now between after : Picture) where
+  -- BITS, and then those that waited
+  rest_then : (bits waiting rest : List Bool) (answer : Taken) → GivesBits k m now bits taken.Units waiting mid between
+      → GivesBits k mid between waiting answer rest new after → GivesBits k m now bits answer rest new after
+  rest_then bits waiting rest taken.More (front, cut, chain) (none, more) =
+      let C : List Bool → Type 0 = λ z. Chain k m now z new after in
+      (none, subst C (sym cut) (chain_then k m mid new now between after front waiting chain more))
+  rest_then bits waiting rest taken.Units (front, cut, chain) (more, split, next) =
+      (front ++ more, cut ∙ ap (λ z. front ++ z) split ∙ sym (append_assoc front more rest), chain_then k m mid new now between after front more chain next)
+  rest_then bits waiting rest taken.IntervalDone (front, cut, chain) (none, a) =
+      (none, subst (λ z. AnswersIn k m now z (Ok step.IntervalDone) new after) (sym cut) (answers_after k m now mid new between after front waiting (Ok step.IntervalDone) chain a))
+  rest_then bits waiting rest (taken.Fault f) (front, cut, chain) (none, a) =
+      (none, subst (λ z. AnswersIn k m now z (Err f) new after) (sym cut) (answers_after k m now mid new between after front waiting (Err f) chain a))
+
+-- INSIDE DATA: the result of a data byte, some bits of which may wait
+
+module _ (limits : Limits) (items : List Item) (contents bytes : List ℕ) where
+  module _ (p : ScanPlace) where
+    pub half_after : (byte : ℕ) (gate : Bool) (w : ScanWork) (before after : Picture) (answer : Taken) (waiting : List Bool) (m : ScanReader)
+        → (p.items ≡ items) × (p.contents ≡ contents) → ScanAt limits bytes (with_byte p byte) [] → gate ≡ false → AtWork limits p w before → w.whole ≡ false
+        → GivesBits any_scan w.machine before (bits_of 8 byte) answer waiting m after
+        → AfterRowBytes limits items contents bytes (scan_answer answer) waiting (record { gate = gate; work = work_after w m answer }) after
+    half_after byte gate w before after answer waiting m of at g k e b = by answer waiting b
+      where
+        none : (answer : Taken) → GivesBits any_scan w.machine before (bits_of 8 byte) answer [] m after → AfterBytes limits items contents bytes (scan_answer answer) (record { gate = gate; work = work_after w m answer }) after
+        none answer b = data_byte limits items contents bytes (with_byte p byte) gate (work_after w m answer) after (scan_answer answer) of at g (due_data limits p w before e k bytes byte m after answer at b)
+
+        by : (answer : Taken) (waiting : List Bool) → GivesBits any_scan w.machine before (bits_of 8 byte) answer waiting m after → AfterRowBytes limits items contents bytes (scan_answer answer) waiting (record { gate = gate; work = work_after w m answer }) after
+        by taken.More [] b = none taken.More b
+        by taken.More (bit ∷ bits) b = absurd (omega (arith, ap length b.0))
+        by taken.Units [] b = none taken.Units b
+        by taken.Units (bit ∷ bits) b =
+            let same : work_after w m taken.Units ≡ record w { machine = m } = ap (λ c. (let v : ScanWork = record w { machine = m; whole = c } in v)) (sym e) in
+            record { place = p; byte = byte; of = of; at = at; gate = g; old = w; before = before; work = k; due = e; same = same; bits = b }
+        by taken.IntervalDone [] b = none taken.IntervalDone b
+        by taken.IntervalDone (bit ∷ bits) b = absurd (omega (arith, ap length b.0))
+        by (taken.Fault f) waiting b = none (taken.Fault f) (subst (λ z. GivesBits any_scan w.machine before (bits_of 8 byte) (taken.Fault f) z m after) b.0 b)
+
+  -- the bits that waited are taken
+  pub half_then : (waiting rest : List Bool) (s : InScan) (now after : Picture) (answer : Taken) (m : ScanReader)
+      → HalfData limits items contents bytes waiting s now → GivesBits any_scan s.work.machine now waiting answer rest m after
+      → AfterRowBytes limits items contents bytes (scan_answer answer) rest (record { gate = s.gate; work = work_after s.work m answer }) after
+  half_then waiting rest s now after answer m h b =
+      let all = rest_then any_scan (h.old).machine s.work.machine m h.before now after (bits_of 8 h.byte) waiting rest answer h.bits b in
+      let same : work_after s.work m answer ≡ work_after h.old m answer = ap (λ w. work_after w m answer) h.same in
+      subst (λ (w : ScanWork). AfterRowBytes limits items contents bytes (scan_answer answer) rest (record { gate = s.gate; work = w }) after) (sym same)
+      (half_after h.place h.byte s.gate h.old h.before after answer rest m h.of h.at h.gate h.work h.due all)
+
+-- The data of a scan while an MCU row is read.
+
+module _ (limits : Limits) (items : List Item) (contents bytes : List ℕ) where
+  -- no bits wait
+  pub rest_none : (byte : ℕ) (answer : Result Bool Fault) (waiting : List Bool) (s : InScan) (now : Picture) → waiting ≡ []
+      → AfterByte limits items contents bytes byte answer s now → AfterRowByte limits items contents bytes byte answer waiting s now
+  rest_none byte (Ok false) waiting s now none a = subst (λ (z : List Bool). InRowData limits items contents bytes z s now) (sym none) a
+  rest_none byte (Ok true) waiting s now none a = (none, a)
+  rest_none byte (Err f) waiting s now none a = a
+
+  pub data_answer : (byte : ℕ) (answer : Result (Unit {0}) Fault) (waiting : List Bool) (s : InScan) (now : Picture)
+      → AfterRowBytes limits items contents bytes answer waiting s now → AfterRowByte limits items contents bytes byte (byte_answer answer) waiting s now
+  data_answer byte (Ok u) waiting s now k = k
+  data_answer byte (Err f) waiting s now k = k
+
+  -- the machine represents the bits of the interval
+  pub open_scan : (s : InScan) (now : Picture) → InData limits items contents bytes s now → s.work.whole ≡ false → IsOpenRowScan s.work.machine now
+  open_scan s now d e = (let k = of_work limits d.place s.work now e d.work in (k.interval, k.taken, k.stands))
+
+  pub open_half : (waiting : List Bool) (s : InScan) (now : Picture) → HalfData limits items contents bytes waiting s now → IsOpenRowScan s.work.machine now
+  open_half waiting s now h = (let k = of_half limits items contents bytes waiting s now h in (k.interval, k.taken, k.stands))
+
+  -- plain bytes one after another
+  pub run_in_row : (run : List ℕ) (n : ℕ) (s : InScan) (m : ScanReader) (now after : Picture) (step : Taken) (waiting : List Bool) → s.gate ≡ false
+      → s.work.whole ≡ false → ArePlain run → InData limits items contents bytes s now
+      → GivesRun ScanReader any_scan s.work.machine now run n step waiting m after
+      → RunRest limits items contents bytes run n (scan_answer step) waiting (record { gate = s.gate; work = work_after s.work m step }) after
+  run_in_row run n s m now after step waiting gate whole plain d g =
+      let low = g.within in
+      let mid = mid_of s g.mid in
+      let before = before_last s now gate whole g.mid g.between run g.early (omega (arith, low)) plain g.chain limits items contents bytes d in
+      let first = bytes ++ take g.early run in
+      let byte = get_or run g.early 0 in
+      let at = plain_data limits first before.place byte (open_at limits items contents first mid g.between before gate) (plain g.early low) in
+      let last = half_after limits items contents (first ++ byte ∷ []) before.place byte s.gate (mid.work) g.between after step waiting m before.of at gate before.work refl g.last in
+      record { mid = mid; between = g.between; early = g.early; count = g.count; within = low; «open» = gate; before = before; last = last }
