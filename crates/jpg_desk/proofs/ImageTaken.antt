@@ -1,29 +1,29 @@
 -- What reading pieces of an image file does, over the states of a desk.
-use Rattle.std.proofs.Common.{◌≡◌, ℕ, ◌<◌, ◌≤◌, Bool, true, false, List, [], ◌++◌, length, take, drop, refl, sym, ap, ◌∙◌, subst, arith, inl, inr, ⊎_elim}
-use Rattle.std.specs.Io.KnownBytes.{Consumes, IsAtEnd}
+use Rattle.std.proofs.Common.{◌≡◌, ℕ, ◌<◌, ◌≤◌, Bool, true, false, List, [], ◌++◌, length, take, drop, Option, None, Some, Result, Ok, Err, refl, sym, ap, ◌∙◌, subst, arith, inl, inr, ⊎_elim}
 use Rattle.std.proofs.lemmas.Bool.{cases_lt}
 use Rattle.std.proofs.lemmas.List.{append-nil, length-take-le, length-drop, length-append, take-append-drop, take-take}
 use Rattle.std.proofs.Math.Seq.{take-append_seam}
-use Rattle.jpg_base.specs.declared.names.Got.TheVariants as got
-use Rattle.jpg_base.specs.Desk.{DeskState, Reads, Rose}
-use Rattle.jpg_base.specs.Laws.{Consumes-then}
+use Rattle.jpg_base.specs.Desk.{DeskState}
+use Rattle.jpg_spec_image.specs.Images.{Image}
 use Rattle.jpg_spec_image.specs.ImageFaults.{IsOpenImage, IsWholeImage, ShowsImageFault}
 use Rattle.jpg_spec.specs.Segments.{standard_limits}
 use Rattle.jpg_spec.specs.declared.fault.Fault.TheVariants.{InputTooLong}
+use Rattle.jpg_spec_words.specs.declared.answers.Why.{Why}
 use Rattle.jpg_spec_words.specs.declared.answers.Why.TheVariants as why
-use Rattle.jpg_spec_words.specs.declared.answers.Which.TheVariants as which
+use Rattle.jpg_pnm_bmp.specs.Made.{IsRightImage}
 use Rattle.jpg_desk.specs.ImageFile.{IsOpenIn}
-use Rattle.jpg_desk.specs.Reading.{rest_of}
-use Rattle.jpg_desk.specs.ImageLoop.{AfterNextImagePiece, EndsEarly, ImageGoesOn}
-use Rattle.jpg_desk.specs.ImageSource.{AfterImageEnd, AfterTakingImagePiece, EndDone, HasFed, source_read}
+use Rattle.jpg_desk.specs.ImageSource.{AfterImageEnd, EndsImage, HasFed, HoldsImage, TakesImagePiece, is_source_read, source_read, source_taken}
+use Rattle.jpg_desk.specs.ImageTaken.{HasImage, HoldsSome, IsSinkFed, IsSourceFed, ReadsSource, StopsHere, image_reader, is_targa}
+use Rattle.jpg_desk.specs.Judging.{TakesPieces}
+use Rattle.jpg_desk.specs.Pump.{AfterInput, AfterTaking, EndsAll, IsFed, ReadsInput, TakesEnd, TakesPiece, of_reader}
 use Rattle.jpg_desk.specs.ReadImage.{IsFaultRead, IsImageRead, IsOpenImageRead, IsShortImageRead}
+use Rattle.jpg_desk.specs.Reading.{rest_of}
 use Rattle.jpg_desk.specs.Stays.{OnlyReads}
+use Rattle.jpg_desk.specs.declared.image.ImageSink.{ImageSink}
 use Rattle.jpg_desk.specs.declared.image_source.ImageSource.{ImageSource}
-use Rattle.jpg_desk.specs.declared.image_source.ImageStep.{ImageStep}
-use Rattle.jpg_desk.specs.declared.image_source.ImageStep.TheVariants as step
-use Rattle.jpg_desk.proofs.PiecesRead.{left_still, some_taken}
-use Rattle.jpg_desk.proofs.ImageFed.{fed_open, never_full}
-use Rattle.jpg_desk.proofs.Input.{none_left}
+use Rattle.jpg_desk.specs.declared.image_source.ImageSource.TheVariants as source
+use Rattle.jpg_desk.proofs.ImageFed.{fed_more, fed_open, fed_taken, never_full}
+use Rattle.jpg_desk.proofs.Pumped.{Closes, all_read, fed_none}
 
 -- BYTES that have no complete image and no fault
 
@@ -65,13 +65,6 @@ open_full bytes o full =
       before = record { short = omega (arith, long); stands = open_front bytes n le o };
     }
 
-pub open_within : (bytes : List ℕ) → IsOpenImage bytes → length bytes ≤ standard_limits.input → IsShortImageRead false bytes
-open_within bytes o most =
-    ⊎_elim
-    (λ (a : length bytes < standard_limits.input). open_end false bytes o a)
-    (λ (a : standard_limits.input ≤ length bytes). (let full : length bytes ≡ standard_limits.input = omega (arith, a, most) in open_full bytes o full))
-    (cases_lt (length bytes) standard_limits.input)
-
 pub open_too_long : (bytes rest : List ℕ) → IsOpenImage bytes → length bytes ≡ standard_limits.input → IsFaultRead false (record { fault = InputTooLong; at = standard_limits.input }) rest bytes
 open_too_long bytes rest o full =
     let front : take standard_limits.input (bytes ++ rest) ≡ bytes = ap (λ n. take n (bytes ++ rest)) (sym full) ∙ take-append_seam bytes rest in
@@ -86,45 +79,114 @@ pub too_long : (targa : Bool) (bytes rest : List ℕ) (r : ImageSource) → HasF
 too_long true bytes rest r h full = absurd (never_full bytes r h full)
 too_long false bytes rest r h full = open_too_long bytes rest (fed_open false bytes r h) full
 
--- A PIECE
+-- ALL PIECES
 
-after_piece : (targa : Bool) (start s1 : DeskState) (bytes piece : List ℕ) (answer : ImageStep) (r : ImageSource) → 0 < length piece → length (bytes ++ piece) ≤ standard_limits.input → Consumes start.left s1.left (bytes ++ piece) → AfterTakingImagePiece targa (bytes ++ piece) answer r → AfterNextImagePiece targa start bytes answer r s1
-after_piece targa start s1 bytes piece step.More r some most read h = (piece, some, h, read, most)
-after_piece targa start s1 bytes piece step.Whole r some most read h = ((bytes ++ piece, read, most, h.0 (rest_of s1.left)), h.1)
-after_piece targa start s1 bytes piece (step.Ended (why.Refused f)) r some most read h = (bytes ++ piece, read, most, h (rest_of s1.left))
-after_piece targa start s1 bytes piece (step.Ended why.NoMemory) r some most read h = (bytes ++ piece, read, most, h)
-after_piece targa start s1 bytes piece other r some most read h = absurd h
+never_both : true ≡ false → ⊥
+never_both e = cc
 
-pub piece_taken : (targa : Bool) (start s0 s1 : DeskState) (n : ℕ) (buf bytes : List ℕ) (answer : ImageStep) (r : ImageSource) → length (bytes ++ take n buf) ≤ standard_limits.input → Reads s0 (got.Bytes n) buf s1 → Consumes start.left s0.left bytes → AfterTakingImagePiece targa (bytes ++ take n buf) answer r
-    → AfterNextImagePiece targa start bytes answer r s1
-piece_taken targa start s0 s1 n buf bytes answer r most read had h =
-    after_piece targa start s1 bytes (take n buf) answer r (some_taken n buf read.after.0 read.after.1) most (Consumes-then start.left s0.left s1.left bytes (take n buf) had read.after.2) h
+-- the format of a reader
+pub targa_is : (targa : Bool) (bytes : List ℕ) (r : ImageSource) → HasFed targa bytes r → targa ≡ is_targa r
+targa_is false bytes (source.Pixels r) h = refl
+targa_is true bytes (source.Targa r) h = refl
+targa_is false bytes (source.Targa r) h = absurd h
+targa_is true bytes (source.Pixels r) h = absurd h
 
--- AT THE END
+-- before the first byte
+pub source_fed : (s : ImageSink) (desk : DeskState) → HasFed (is_targa s.source) [] s.source → IsFed ImageSink (of_reader image_reader) (s, desk) [] (s, desk)
+source_fed s desk h = fed_none ImageSink Image image_reader s desk (record { fed = h; to_end = refl })
 
-pub image_end : (targa : Bool) (start s0 s1 : DeskState) (bytes : List ℕ) (answer : ImageStep) (r : ImageSource) → length bytes < standard_limits.input → IsAtEnd s0.left → s1.left ≡ s0.left → Consumes start.left s0.left bytes → AfterImageEnd targa bytes answer r → AfterNextImagePiece targa start bytes answer r s1
-image_end targa start s0 s1 bytes step.Whole r short end left had h =
-    let none : rest_of s1.left ≡ [] = ap rest_of left ∙ none_left s0.left end in
-    ((bytes, left_still s0 s1 bytes start left had, omega (arith, short), subst (λ (rest : List ℕ). IsImageRead targa (source_read r) rest bytes) (sym none) h.0), h.1)
-image_end targa start s0 s1 bytes (step.Ended (why.Refused f)) r short end left had h =
-    let none : rest_of s1.left ≡ [] = ap rest_of left ∙ none_left s0.left end in
-    (bytes, left_still s0 s1 bytes start left had, omega (arith, short), subst (λ (rest : List ℕ). IsFaultRead targa f rest bytes) (sym none) h)
-image_end targa start s0 s1 bytes (step.Ended why.NoMemory) r short end left had h = (bytes, left_still s0 s1 bytes start left had, omega (arith, short), h)
-image_end targa start s0 s1 bytes other r short end left had h = absurd h
+-- and later
+pub goes_fed : (s : ImageSink) (targa : Bool) (start : DeskState) (bytes : List ℕ) (now : DeskState) → IsSourceFed targa start bytes s.source now → IsFed ImageSink (of_reader image_reader) (s, start) bytes (s, now)
+goes_fed s targa start bytes now h =
+    let fed = subst (λ (t : Bool). HasFed t bytes s.source) (targa_is targa bytes s.source h.goes.fed) h.goes.fed in
+    record { short = h.goes.short; fed = record { fed = record { fed = fed; to_end = refl }; kept = h.kept; read = h.read } }
 
--- A READ that failed
-pub image_unread : (targa : Bool) (start s0 s1 : DeskState) (bytes : List ℕ) → IsOpenIn targa bytes → length bytes < standard_limits.input → OnlyReads start s0 → Consumes start.left s0.left bytes → Rose s0.counts.reads s1.counts.reads → s1.left ≡ s0.left
-    → EndsEarly targa start (why.ReadFault which.Input) s1
-image_unread targa start s0 s1 bytes o short still had rose left = (
-  (bytes, left_still s0 s1 bytes start left had, omega (arith, short), open_read targa bytes o short),
-  (let f = still.copies.works.stays.counts.reads in omega (arith, rose, f)),
+-- a piece
+pub sink_whole : (old new : ImageSink) (piece : List ℕ) → TakesImagePiece old.source piece (Ok true) new.source → TakesPiece image_reader old piece (Ok true) new
+sink_whole old new piece takes from bytes h most = λ rest. inl (takes (is_targa from.source) bytes h.fed rest)
+
+pub sink_ended : (old new : ImageSink) (piece : List ℕ) (w : Why) → TakesImagePiece old.source piece (Err w) new.source → TakesPiece image_reader old piece (Err w) new
+sink_ended old new piece (why.Refused f) takes from bytes h most = takes (is_targa from.source) bytes h.fed
+sink_ended old new piece why.NoMemory takes from bytes h most = takes (is_targa from.source) bytes h.fed
+sink_ended old new piece other takes from bytes h most = absurd (takes (is_targa from.source) bytes h.fed)
+
+pub sink_more : (old new : ImageSink) (piece : List ℕ) (answer : Result Bool Why) → new.to_end ≡ old.to_end → TakesImagePiece old.source piece (Ok false) new.source → StopsHere new answer → TakesPiece image_reader old piece answer new
+sink_more old new piece answer same takes stops from bytes h most = by answer stops
+  where
+    targa : Bool
+    targa = is_targa from.source
+
+    fed : HasFed targa (bytes ++ piece) new.source
+    fed = takes targa bytes h.fed
+
+    short : (source_taken new.source ≡ standard_limits.input → ⊥) → length (bytes ++ piece) < standard_limits.input
+    short over =
+        ⊎_elim
+        (λ (a : length (bytes ++ piece) < standard_limits.input). a)
+        (λ (a : standard_limits.input ≤ length (bytes ++ piece)). absurd (over (fed_taken targa (bytes ++ piece) new.source fed ∙ (let e : length (bytes ++ piece) ≡ standard_limits.input = omega (arith, a, most) in e))))
+        (cases_lt (length (bytes ++ piece)) standard_limits.input)
+
+    too_far : source_taken new.source ≡ standard_limits.input → (rest : List ℕ) → IsFaultRead targa (record { fault = InputTooLong; at = standard_limits.input }) rest (bytes ++ piece)
+    too_far full rest = too_long targa (bytes ++ piece) rest new.source fed (sym (fed_taken targa (bytes ++ piece) new.source fed) ∙ full)
+
+    by : (a : Result Bool Why) → StopsHere new a → AfterTaking image_reader from (bytes ++ piece) a new
+    by (Ok false) k = (record { fed = fed; to_end = same ∙ h.to_end }, short k)
+    by (Ok true) k = λ rest. inr (sym (same ∙ h.to_end) ∙ k.0, record { fed = fed; short = short k.1 })
+    by (Err w) k = subst (λ (v : Why). AfterTaking image_reader from (bytes ++ piece) (Err v) new) (sym k.0) (too_far k.1)
+
+-- the end
+pub sink_end : (old new : ImageSink) (answer : Result (Option ℕ) Why) → EndsImage old.source answer new.source → TakesEnd image_reader old answer new
+sink_end old new answer ends from bytes h short = by answer (ends (is_targa from.source) bytes h.fed short)
+  where
+    by : (a : Result (Option ℕ) Why) → AfterImageEnd (is_targa from.source) bytes a new.source → AfterInput image_reader from bytes a new
+    by (Ok None) k = inl k
+    by (Ok (Some n)) k = absurd k
+    by (Err (why.Refused f)) k = k
+    by (Err why.NoMemory) k = k
+    by (Err other) k = absurd k
+
+-- then the image is complete
+pub sink_closed : (old new : ImageSink) (answer : Result (Option ℕ) Why) → EndsImage old.source answer new.source → (from : ImageSink) (bytes : List ℕ) → IsSinkFed from bytes old → length bytes < standard_limits.input → Closes ImageSink Image image_reader answer new
+sink_closed old new answer ends from bytes h short = by answer (ends (is_targa from.source) bytes h.fed short)
+  where
+    by : (a : Result (Option ℕ) Why) → AfterImageEnd (is_targa from.source) bytes a new.source → Closes ImageSink Image image_reader a new
+    by (Ok None) k = λ more. never_both (sym k.done ∙ more)
+    by (Ok (Some n)) k = absurd k
+    by (Err w) k = tt
+
+-- all of it
+pub sink_pumped : (old : ImageSink) (start : DeskState) (answer : Result (Option ℕ) Why) (now : ImageSink × DeskState) → EndsAll (of_reader image_reader) (old, start) answer now → ReadsInput ImageSink Image image_reader (old, start) answer now
+sink_pumped old start answer now ends = all_read ImageSink Image image_reader (old, start) now answer (λ bytes h short. open_read (is_targa old.source) bytes (fed_open (is_targa old.source) bytes (now.0).source h.fed) short) ends
+
+-- WHAT IT HAS THEN
+
+pub source_read_up_to : (targa : Bool) (s : ImageSink) (start : DeskState) (early : Option ℕ) (now : ImageSink × DeskState) → is_targa s.source ≡ targa → s.to_end ≡ false → ReadsInput ImageSink Image image_reader (s, start) (Ok early) now → ReadsSource targa start (Ok (now.0).source) now.1
+source_read_up_to targa s start None now same some h =
+    let t = h.reads.0 in
+    ((t.0, t.1, t.2, subst (λ (b : Bool). HoldsSome targa b (rest_of (now.1).left) t.0 (now.0).source) some (subst (λ (b : Bool). HoldsSome b s.to_end (rest_of (now.1).left) t.0 (now.0).source) same t.3)), h.reads.2)
+source_read_up_to targa s start (Some n) now same some h = absurd h.reads.0.3
+
+pub holds_whole : (s : ImageSink) (start : DeskState) (early : Option ℕ) (now : ImageSink × DeskState) → s.to_end ≡ true → ReadsInput ImageSink Image image_reader (s, start) (Ok early) now → TakesPieces (λ bytes. HoldsImage (is_targa s.source) (rest_of (now.1).left) bytes (now.0).source) start now.1
+holds_whole s start None now whole h = (let t = h.reads.0 in (t.0, t.1, t.2, by t.3))
+  where
+    by : {bytes : List ℕ} → HoldsSome (is_targa s.source) s.to_end (rest_of (now.1).left) bytes (now.0).source → HoldsImage (is_targa s.source) (rest_of (now.1).left) bytes (now.0).source
+    by (inl k) = k
+    by (inr k) = absurd (never_both (sym whole ∙ k.0))
+holds_whole s start (Some n) now whole h = absurd h.reads.0.3
+
+pub has_image : (targa : Bool) (start : DeskState) (I : Image) (r : ImageSource) (now : DeskState) → I ≡ source_read r → TakesPieces (λ bytes. HoldsImage targa (rest_of now.left) bytes r) start now → HasImage targa start I now
+has_image targa start I r now same (bytes, read, most, h) = (
+  (bytes, read, most, subst (λ (J : Image). IsImageRead targa J (rest_of now.left) bytes) (sym same) h.is),
+  subst IsRightImage (sym same) h.right,
 )
 
--- MORE than may be taken
-pub image_too_long : (targa : Bool) (start s0 : DeskState) (bytes : List ℕ) (r : ImageSource) → HasFed targa bytes r → length bytes ≡ standard_limits.input → Consumes start.left s0.left bytes → EndsEarly targa start (why.Refused (record { fault = InputTooLong; at = standard_limits.input })) s0
-image_too_long targa start s0 bytes r h full had = (bytes, had, omega (arith, full), too_long targa bytes (rest_of s0.left) r h full)
+-- FROM THE FIRST BYTE, where the image is complete
 
-pub goes_on_end : (answer : ImageStep) (r : ImageSource) (now : DeskState) → EndDone answer r → ImageGoesOn answer r now
-goes_on_end step.More r now h = absurd h
-goes_on_end step.Whole r now h = h
-goes_on_end (step.Ended ended) r now h = tt
+pub read_whole : (targa : Bool) (start : DeskState) (r : ImageSource) (now : DeskState) → is_source_read r ≡ true → TakesPieces (λ bytes. HoldsSome targa false (rest_of now.left) bytes r) start now → TakesPieces (λ bytes. HoldsImage targa (rest_of now.left) bytes r) start now
+read_whole targa start r now done (bytes, read, most, inl k) = (bytes, read, most, k)
+read_whole targa start r now done (bytes, read, most, inr k) = absurd (never_both (sym done ∙ fed_more targa bytes r k.1.fed))
+
+-- or isn't
+pub read_some : (targa : Bool) (start : DeskState) (r : ImageSource) (now : DeskState) → is_source_read r ≡ false → OnlyReads start now → TakesPieces (λ bytes. HoldsSome targa false (rest_of now.left) bytes r) start now → (bytes : List ℕ) × IsSourceFed targa start bytes r now
+read_some targa start r now more kept (bytes, read, most, inl k) = absurd (never_both (sym k.done ∙ more))
+read_some targa start r now more kept (bytes, read, most, inr k) = (bytes, record { goes = k.1; kept = kept; read = read })

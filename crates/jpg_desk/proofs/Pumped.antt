@@ -61,9 +61,13 @@ module _ (S V : Type 0) (k : ReaderKind S V) where
       by (Err why.NoMemory) h = record { kept = kept; reads = (bytes ++ piece, read, b.most, h) }
       by (Err other) h = absurd h
 
-  -- the end
-  pub ends : (old new : S) (desk : DeskState) (answer : Result (Option ℕ) Why) → (k.more new → ⊥) → TakesEnd k old answer new → Ends (of_reader k) (old, desk) answer (new, desk)
-  ends old new desk answer over takes from bytes b = by answer (takes from.0 bytes b.fed.fed.fed b.fed.short)
+  -- the end, where no more may be taken then
+  abbrev pub Closes : Result (Option ℕ) Why → S → Type 0
+  Closes (Ok early) new = k.more new → ⊥
+  Closes (Err w) new = Unit {0}
+
+  pub ends_closed : (old new : S) (desk : DeskState) (answer : Result (Option ℕ) Why) → TakesEnd k old answer new → ((from : S) (bytes : List ℕ) → k.fed from bytes old → length bytes < standard_limits.input → Closes answer new) → Ends (of_reader k) (old, desk) answer (new, desk)
+  ends_closed old new desk answer takes closed from bytes b = by answer (takes from.0 bytes b.fed.fed.fed b.fed.short) (closed from.0 bytes b.fed.fed.fed b.fed.short)
     where
       kept : OnlyReads from.1 desk
       kept = reads_then b.fed.fed.kept b.ended.kept
@@ -77,15 +81,22 @@ module _ (S V : Type 0) (k : ReaderKind S V) where
       none : rest_of desk.left ≡ []
       none = ap rest_of b.ended.left ∙ none_left b.desk.left b.ended.ended
 
-      all : (early : Option ℕ) → k.holds from.0 early [] bytes new → ReadsAs k from (Ok early) (new, desk)
-      all None h = ((bytes, read, most, subst (λ (rest : List ℕ). k.holds from.0 None rest bytes new) (sym none) h), tt, λ more. absurd (over more))
-      all (Some n) h = ((bytes, read, most, subst (λ (rest : List ℕ). k.holds from.0 (Some n) rest bytes new) (sym none) h), none, λ more. absurd (over more))
+      all : (early : Option ℕ) → (k.more new → ⊥) → k.holds from.0 early [] bytes new → ReadsAs k from (Ok early) (new, desk)
+      all None over h = ((bytes, read, most, subst (λ (rest : List ℕ). k.holds from.0 None rest bytes new) (sym none) h), tt, λ more. absurd (over more))
+      all (Some n) over h = ((bytes, read, most, subst (λ (rest : List ℕ). k.holds from.0 (Some n) rest bytes new) (sym none) h), none, λ more. absurd (over more))
 
-      by : (answer : Result (Option ℕ) Why) → AfterInput k from.0 bytes answer new → ReadsInput S V k from answer (new, desk)
-      by (Ok early) h = record { kept = kept; reads = all early h }
-      by (Err (why.Refused f)) h = record { kept = kept; reads = (bytes, read, most, subst (λ (rest : List ℕ). (k.judging from.0).refused f rest bytes) (sym none) h) }
-      by (Err why.NoMemory) h = record { kept = kept; reads = (bytes, read, most, h) }
-      by (Err other) h = absurd h
+      by : (answer : Result (Option ℕ) Why) → AfterInput k from.0 bytes answer new → Closes answer new → ReadsInput S V k from answer (new, desk)
+      by (Ok early) h over = record { kept = kept; reads = all early over h }
+      by (Err (why.Refused f)) h over = record { kept = kept; reads = (bytes, read, most, subst (λ (rest : List ℕ). (k.judging from.0).refused f rest bytes) (sym none) h) }
+      by (Err why.NoMemory) h over = record { kept = kept; reads = (bytes, read, most, h) }
+      by (Err other) h over = absurd h
+
+  pub ends : (old new : S) (desk : DeskState) (answer : Result (Option ℕ) Why) → (k.more new → ⊥) → TakesEnd k old answer new → Ends (of_reader k) (old, desk) answer (new, desk)
+  ends old new desk answer over takes = ends_closed old new desk answer takes (λ from bytes h short. closes answer)
+    where
+      closes : (a : Result (Option ℕ) Why) → Closes a new
+      closes (Ok early) = over
+      closes (Err w) = tt
 
   -- before the first byte
   pub fed_none : (s : S) (desk : DeskState) → k.fed s [] s → IsFed S (of_reader k) (s, desk) [] (s, desk)

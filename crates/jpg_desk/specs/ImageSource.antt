@@ -1,9 +1,9 @@
 -- A reader of an image file, of one format or another, that is given the file piece by piece.
-use Rattle.std.specs.Prelude.{◌≡◌, ℕ, ◌<◌, Bool, true, false, List, [], ◌++◌, length, Result, Ok, Err}
+use Rattle.std.specs.Prelude.{◌≡◌, ℕ, ◌<◌, Bool, true, false, List, [], ◌++◌, length, Option, None, Some, Result, Ok, Err}
 use Rattle.jpg_base.specs.declared.stop.Stop.{Stop}
-use Rattle.jpg_base.specs.declared.stop.Stop.TheVariants as stop
 use Rattle.jpg_spec.specs.Segments.{standard_limits}
 use Rattle.jpg_spec_image.specs.Images.{Image}
+use Rattle.jpg_spec_words.specs.declared.answers.Why.{Why}
 use Rattle.jpg_spec_words.specs.declared.answers.Why.TheVariants as why
 use Rattle.jpg_pnm_bmp.specs.Made.{IsRightImage}
 use Rattle.jpg_spec_image.specs.declared.image.ImageInfo.{ImageInfo}
@@ -14,11 +14,10 @@ use Rattle.jpg_pnm_bmp.specs.declared.read.piece.Fed2.TheVariants as fed
 use Rattle.jpg_pnm_bmp.specs.declared.read.pixels.PixelReader.{PixelReader}
 use Rattle.jpg_targa.specs.TargaRead.{HasFedTarga, is_targa_read, targa_read, targa_taken}
 use Rattle.jpg_targa.specs.declared.read.reader.TargaReader.{TargaReader}
+use Rattle.jpg_desk.specs.Pump.{why_stopped}
 use Rattle.jpg_desk.specs.ReadImage.{IsFaultRead, IsImageRead, IsShortImageRead}
 use Rattle.jpg_desk.specs.declared.image_source.ImageSource.{ImageSource}
 use Rattle.jpg_desk.specs.declared.image_source.ImageSource.TheVariants as source
-use Rattle.jpg_desk.specs.declared.image_source.ImageStep.{ImageStep}
-use Rattle.jpg_desk.specs.declared.image_source.ImageStep.TheVariants as step
 
 -- It is a reader of Targa files, or of others, and was given these bytes; more may follow.
 abbrev pub HasFed : Bool → List ℕ → ImageSource → Type 0
@@ -58,62 +57,52 @@ abbrev pub is_source_read : ImageSource → Bool
 is_source_read (source.Pixels r) = is_image_read r
 is_source_read (source.Targa r) = is_targa_read r
 
--- the step of a reader that stops, and of a result
-abbrev pub stopped : Stop → ImageStep
-stopped (stop.Fault f) = step.Ended (why.Refused f)
-stopped stop.NoMemory = step.Ended why.NoMemory
+-- whether the image is complete, for what a reader returned
+abbrev pub step_of : Result Fed2 Stop → Result Bool Why
+step_of (Ok fed.More) = Ok false
+step_of (Ok fed.Done) = Ok true
+step_of (Err ended) = Err (why_stopped ended)
 
-abbrev pub step_of : Result Fed2 Stop → ImageStep
-step_of (Ok fed.More) = step.More
-step_of (Ok fed.Done) = step.Whole
-step_of (Err ended) = stopped ended
+-- It has the image of a file that has this rest after the bytes.
+pub record HoldsImage (targa : Bool) (rest bytes : List ℕ) (r : ImageSource) : Type 0 where
+  pub is : IsImageRead targa (source_read r) rest bytes
+  pub right : IsRightImage (source_read r)
+  pub done : is_source_read r ≡ true
 
 -- The result of a piece, after which fewer bytes were fed than may be, or as many.
-abbrev pub AfterTakingImagePiece : Bool → List ℕ → ImageStep → ImageSource → Type 0
-AfterTakingImagePiece targa bytes step.More r = HasFed targa bytes r
-AfterTakingImagePiece targa bytes step.Whole r = ((rest : List ℕ) → IsImageRead targa (source_read r) rest bytes) × IsRightImage (source_read r)
-AfterTakingImagePiece targa bytes (step.Ended (why.Refused f)) r = (rest : List ℕ) → IsFaultRead targa f rest bytes
-AfterTakingImagePiece targa bytes (step.Ended why.NoMemory) r = IsShortImageRead targa bytes
-AfterTakingImagePiece targa bytes (step.Ended other) r = ⊥
+abbrev pub AfterTakingImagePiece : Bool → List ℕ → Result Bool Why → ImageSource → Type 0
+AfterTakingImagePiece targa bytes (Ok false) r = HasFed targa bytes r
+AfterTakingImagePiece targa bytes (Ok true) r = (rest : List ℕ) → HoldsImage targa rest bytes r
+AfterTakingImagePiece targa bytes (Err (why.Refused f)) r = (rest : List ℕ) → IsFaultRead targa f rest bytes
+AfterTakingImagePiece targa bytes (Err why.NoMemory) r = IsShortImageRead targa bytes
+AfterTakingImagePiece targa bytes (Err other) r = ⊥
 
 -- the result of bytes where the input ends
-abbrev pub AfterImageEnd : Bool → List ℕ → ImageStep → ImageSource → Type 0
-AfterImageEnd targa bytes step.More r = ⊥
-AfterImageEnd targa bytes step.Whole r = IsImageRead targa (source_read r) [] bytes × IsRightImage (source_read r)
-AfterImageEnd targa bytes (step.Ended (why.Refused f)) r = IsFaultRead targa f [] bytes
-AfterImageEnd targa bytes (step.Ended why.NoMemory) r = IsShortImageRead targa bytes
-AfterImageEnd targa bytes (step.Ended other) r = ⊥
+abbrev pub AfterImageEnd : Bool → List ℕ → Result (Option ℕ) Why → ImageSource → Type 0
+AfterImageEnd targa bytes (Ok None) r = HoldsImage targa [] bytes r
+AfterImageEnd targa bytes (Ok (Some n)) r = ⊥
+AfterImageEnd targa bytes (Err (why.Refused f)) r = IsFaultRead targa f [] bytes
+AfterImageEnd targa bytes (Err why.NoMemory) r = IsShortImageRead targa bytes
+AfterImageEnd targa bytes (Err other) r = ⊥
 
 -- FOR ALL BYTES that were given before
 
-abbrev pub TakesImagePiece : ImageSource → List ℕ → ImageStep → ImageSource → Type 0
+abbrev pub TakesImagePiece : ImageSource → List ℕ → Result Bool Why → ImageSource → Type 0
 TakesImagePiece had piece answer r = (targa : Bool) (bytes : List ℕ) → HasFed targa bytes had → AfterTakingImagePiece targa (bytes ++ piece) answer r
 
-abbrev pub EndsImage : ImageSource → ImageStep → ImageSource → Type 0
+abbrev pub EndsImage : ImageSource → Result (Option ℕ) Why → ImageSource → Type 0
 EndsImage had answer r = (targa : Bool) (bytes : List ℕ) → HasFed targa bytes had → length bytes < standard_limits.input → AfterImageEnd targa bytes answer r
 
 -- by the reader of each format
 
-abbrev pub TakesPixels : PixelReader → List ℕ → ImageStep → PixelReader → Type 0
+abbrev pub TakesPixels : PixelReader → List ℕ → Result Bool Why → PixelReader → Type 0
 TakesPixels had piece answer r = (bytes : List ℕ) → HasFedImage bytes had → AfterTakingImagePiece false (bytes ++ piece) answer (source.Pixels r)
 
-abbrev pub TakesTarga : TargaReader → List ℕ → ImageStep → TargaReader → Type 0
+abbrev pub TakesTarga : TargaReader → List ℕ → Result Bool Why → TargaReader → Type 0
 TakesTarga had piece answer r = (bytes : List ℕ) → HasFedTarga bytes had → AfterTakingImagePiece true (bytes ++ piece) answer (source.Targa r)
 
-abbrev pub EndsPixels : PixelReader → ImageStep → PixelReader → Type 0
+abbrev pub EndsPixels : PixelReader → Result (Option ℕ) Why → PixelReader → Type 0
 EndsPixels had answer r = (bytes : List ℕ) → HasFedImage bytes had → length bytes < standard_limits.input → AfterImageEnd false bytes answer (source.Pixels r)
 
-abbrev pub EndsTarga : TargaReader → ImageStep → TargaReader → Type 0
+abbrev pub EndsTarga : TargaReader → Result (Option ℕ) Why → TargaReader → Type 0
 EndsTarga had answer r = (bytes : List ℕ) → HasFedTarga bytes had → AfterImageEnd true bytes answer (source.Targa r)
-
--- whether the image is complete then
-abbrev pub StepDone : ImageStep → ImageSource → Type 0
-StepDone step.More r = is_source_read r ≡ false
-StepDone step.Whole r = is_source_read r ≡ true
-StepDone (step.Ended ended) r = Unit {0}
-
--- where the bytes end
-abbrev pub EndDone : ImageStep → ImageSource → Type 0
-EndDone step.More r = ⊥
-EndDone step.Whole r = is_source_read r ≡ true
-EndDone (step.Ended ended) r = Unit {0}

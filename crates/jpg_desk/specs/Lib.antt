@@ -4,8 +4,8 @@ pub mod EncodedRows
 pub mod Endings
 pub mod FileTaken
 pub mod ImageFile
-pub mod ImageLoop
 pub mod ImageSource
+pub mod ImageTaken
 pub mod Judging
 pub mod MovedRows
 pub mod Pump

@@ -8,7 +8,7 @@ use Rattle.jpg_spec.specs.Segments.{standard_limits}
 use Rattle.jpg_spec_words.specs.declared.answers.Why.{Why}
 use Rattle.jpg_spec_words.specs.declared.answers.Why.TheVariants as why
 use Rattle.jpg_spec_words.specs.declared.answers.Which.TheVariants as which
-use Rattle.jpg_desk.specs.Judging.{IsAllRead, Judging, NoValueTaken, TakesPieces}
+use Rattle.jpg_desk.specs.Judging.{IsAllRead, Judging, NoValueTaken, TakesPieces, done_as}
 use Rattle.jpg_desk.specs.Reading.{rest_of}
 use Rattle.jpg_desk.specs.Stays.{OnlyReads}
 
@@ -146,3 +146,8 @@ TakesEnd {S} k old answer new = (from : S) (bytes : List ℕ) → k.fed from byt
 abbrev pub why_stopped : Stop → Why
 why_stopped (stop.Fault f) = why.Refused f
 why_stopped stop.NoMemory = why.NoMemory
+
+-- how a command ends whose work is done where its input is read
+abbrev pub ended_as : Result (Option ℕ) Why → Why
+ended_as (Ok early) = done_as early
+ended_as (Err w) = w

@@ -4,22 +4,15 @@ ghost use Rattle.std.specs.Prelude.{◌≡◌, ◌≤◌, ◌<◌, ◌+◌, [], 
 ghost use Rattle.jpg_pnm_bmp.specs.Made.{image_by_parts};
 ghost use Rattle.jpg_pnm_bmp.specs.PixelsRead.{is_image_read, pixels_taken};
 ghost use Rattle.jpg_targa.specs.TargaRead.{is_targa_read, targa_taken};
-ghost use Rattle.jpg_desk.specs.ImageSource.{EndDone, EndsPixels, EndsTarga, StepDone, TakesPixels, TakesTarga, step_of, stopped};
+ghost use Rattle.jpg_desk.specs.ImageSource.{EndsPixels, EndsTarga, TakesPixels, TakesTarga, step_of};
 
+use crate::pieces::why_stopped;
 use jpg_base::Stop;
 use jpg_pnm_bmp::{Fed2, Image, PixelReader};
 use jpg_spec_image::ImageInfo;
 use jpg_spec_words::Why;
 use jpg_targa::TargaReader;
 use std::alloc::Global;
-
-/// The result of a piece: more is needed, the image is complete, or why the reading ends.
-#[derive(Clone, Copy)]
-pub enum ImageStep {
-    More,
-    Whole,
-    Ended(Why),
-}
 
 /// A reader of an image file.
 #[derive(Drop)]
@@ -54,14 +47,23 @@ impl ImageSource {
         }
     }
 
-    /// Takes a further piece of the file.
-    pub fn feed(&mut self, piece: &[u8]) -> ImageStep
+    /// Whether the image is complete.
+    pub fn is_read(&self) -> bool
+        ensures { result ≡ is_source_read self.now }
+    {
+        match self {
+            ImageSource::Pixels(reader) => reader.is_read(),
+            ImageSource::Targa(reader) => reader.is_read(),
+        }
+    }
+
+    /// Takes a further piece of the file. Returns whether the image is complete.
+    pub fn feed(&mut self, piece: &[u8]) -> Result<bool, Why>
         requires more { is_source_read self.old ≡ false }
         requires room { source_taken self.old + length piece.now ≤ 1099511627776 }
         requires short { length piece.now ≤ 65536 }
         requires some { 0 < length piece.now }
-        ensures taken { TakesImagePiece self.old piece.now result self.new }
-        ensures done { StepDone result self.new }
+        ensures { TakesImagePiece self.old piece.now result self.new }
     {
         match self {
             ImageSource::Pixels(reader) => feed_pixels(reader, piece),
@@ -91,11 +93,10 @@ impl ImageSource {
         }
     }
 
-    /// The file ends here.
-    pub fn end(&mut self) -> ImageStep
-        requires more { is_source_read self.old ≡ false }
-        ensures ended { EndsImage self.old result self.new }
-        ensures done { EndDone result self.new }
+    /// The file ends here: the image is complete, and None is returned, or this is its fault.
+    pub fn end(&mut self) -> Result<Option<u64>, Why>
+        requires { is_source_read self.old ≡ false }
+        ensures { EndsImage self.old result self.new }
     {
         match self {
             ImageSource::Pixels(reader) => end_pixels(reader),
@@ -116,66 +117,52 @@ impl ImageSource {
 }
 
 // Takes a piece of PNM or BMP.
-fn feed_pixels(reader: &mut PixelReader, piece: &[u8]) -> ImageStep
+fn feed_pixels(reader: &mut PixelReader, piece: &[u8]) -> Result<bool, Why>
     requires more { is_image_read reader.old ≡ false }
     requires room { pixels_taken reader.old + length piece.now ≤ 1099511627776 }
     requires short { length piece.now ≤ 65536 }
     requires some { 0 < length piece.now }
-    ensures taken { TakesPixels reader.old piece.now result reader.new }
-    ensures done { StepDone result (ImageSource.Pixels reader.new) }
+    ensures { TakesPixels reader.old piece.now result reader.new }
 {
     step_of(reader.feed(piece))
 }
 
 // Takes a piece of Targa.
-fn feed_targa(reader: &mut TargaReader, piece: &[u8]) -> ImageStep
+fn feed_targa(reader: &mut TargaReader, piece: &[u8]) -> Result<bool, Why>
     requires more { is_targa_read reader.old ≡ false }
     requires room { targa_taken reader.old + length piece.now ≤ 1099511627776 }
     requires short { length piece.now ≤ 65536 }
-    ensures taken { TakesTarga reader.old piece.now result reader.new }
-    ensures done { StepDone result (ImageSource.Targa reader.new) }
+    ensures { TakesTarga reader.old piece.now result reader.new }
 {
     step_of(reader.feed(piece))
 }
 
-// The step for what a reader returned.
-fn step_of(answer: Result<Fed2, Stop>) -> ImageStep
+// Whether the image is complete, for what a reader returned.
+fn step_of(answer: Result<Fed2, Stop>) -> Result<bool, Why>
     ensures { result ≡ step_of answer }
 {
     match answer {
-        Ok(Fed2::More) => ImageStep::More,
-        Ok(Fed2::Done) => ImageStep::Whole,
-        Err(stop) => stopped(stop),
+        Ok(Fed2::More) => Ok(false),
+        Ok(Fed2::Done) => Ok(true),
+        Err(stop) => Err(why_stopped(stop)),
     }
 }
 
 // The input ends after bytes of PNM or BMP.
-fn end_pixels(reader: &mut PixelReader) -> ImageStep
-    requires more { is_image_read reader.old ≡ false }
-    ensures ended { EndsPixels reader.old result reader.new }
-    ensures done { EndDone result (ImageSource.Pixels reader.new) }
+fn end_pixels(reader: &mut PixelReader) -> Result<Option<u64>, Why>
+    requires { is_image_read reader.old ≡ false }
+    ensures { EndsPixels reader.old result reader.new }
 {
     match reader.end() {
-        Ok(()) => ImageStep::Whole,
-        Err(stop) => stopped(stop),
+        Ok(()) => Ok(None),
+        Err(stop) => Err(why_stopped(stop)),
     }
 }
 
 // The input ends after bytes of Targa: its last pixel isn't there.
-fn end_targa(reader: &mut TargaReader) -> ImageStep
-    requires more { is_targa_read reader.old ≡ false }
-    ensures ended { EndsTarga reader.old result reader.new }
-    ensures done { EndDone result (ImageSource.Targa reader.new) }
+fn end_targa(reader: &mut TargaReader) -> Result<Option<u64>, Why>
+    requires { is_targa_read reader.old ≡ false }
+    ensures { EndsTarga reader.old result reader.new }
 {
-    stopped(reader.end())
-}
-
-// The step of a reader that stops.
-fn stopped(stop: Stop) -> ImageStep
-    ensures { result ≡ stopped stop }
-{
-    match stop {
-        Stop::Fault(fault) => ImageStep::Ended(Why::Refused(fault)),
-        Stop::NoMemory => ImageStep::Ended(Why::NoMemory),
-    }
+    Err(why_stopped(reader.end()))
 }

@@ -1,8 +1,9 @@
 //! An input that is read to its end, piece by piece, and fed to what takes it.
 ghost use Rattle.std.specs.Prelude.{◌≡◌, ◌<◌, true, length};
-ghost use Rattle.jpg_desk.specs.Pump.{CanEnd, CanFeed, CanPump, Ends, FedKind, Feeds, Pumps, why_stopped};
+ghost use Rattle.jpg_desk.specs.Pump.{CanEnd, CanFeed, CanPump, Ends, FedKind, Feeds, Pumps, ended_as, why_stopped};
 
 use crate::file::read_within;
+use crate::picture::done_as;
 use jpg_base::{Desk, Got, Stop};
 use jpg_spec_words::{Which, Why};
 
@@ -77,5 +78,15 @@ pub fn why_stopped(stop: Stop) -> Why
     match stop {
         Stop::Fault(fault) => Why::Refused(fault),
         Stop::NoMemory => Why::NoMemory,
+    }
+}
+
+/// How a command ends whose work is done where its input is read.
+pub fn ended_as(answer: Result<Option<u64>, Why>) -> Why
+    ensures { result ≡ ended_as answer }
+{
+    match answer {
+        Ok(early) => done_as(early),
+        Err(why) => why,
     }
 }

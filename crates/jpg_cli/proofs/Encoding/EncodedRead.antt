@@ -1,5 +1,5 @@
 -- An image read and encoded, over the states of a desk.
-use Rattle.std.proofs.Common.{◌≡◌, ℕ, Bool, false, List, [], Option, None, Some, Result, Ok, Err, sym, ◌∙◌, subst}
+use Rattle.std.proofs.Common.{◌≡◌, ℕ, Bool, false, List, [], Option, None, Some, Result, Ok, Err, sym, ◌∙◌, subst, arith}
 use Rattle.std.specs.Prelude.{IfErr, IfOk}
 use Rattle.jpg_base.specs.declared.names.Name.{Name}
 use Rattle.jpg_base.specs.declared.names.Put.TheVariants as put
@@ -28,18 +28,19 @@ use Rattle.jpg_color.specs.declared.encode.image_encoder.ImageEncoder.{ImageEnco
 use Rattle.jpg_color.specs.declared.encode.image_encoder.ImageEncoder.TheVariants as encoder
 use Rattle.jpg_cli.specs.Tools.EncodedRead.{Encodes, EncodedRead, EndsEncoding}
 use Rattle.jpg_desk.specs.EncodedRows.{scan_of}
-use Rattle.jpg_desk.specs.ImageLoop.{HoldsImage}
-use Rattle.jpg_desk.specs.ImageSource.{source_read, source_samples, source_taken}
+use Rattle.jpg_desk.specs.ImageSource.{source_samples, source_taken}
+use Rattle.jpg_desk.specs.ImageTaken.{IsSourceFed}
 use Rattle.jpg_desk.specs.Judging.{NoValueTaken, TakesPieces}
 use Rattle.jpg_desk.specs.ReadImage.{IsImageRead, image_judging}
 use Rattle.jpg_desk.specs.Reading.{rest_of}
-use Rattle.jpg_cli.specs.Tools.SamplesFed.{AfterData, Begins, FinishesPlanes, GivesData, GoesOnFrom, GoesOnRows, HasDataOf, IsAllGiven, IsGiven}
+use Rattle.jpg_cli.specs.Tools.SamplesFed.{AfterData, AfterSamples, AreGivenFrom, Begins, FinishesPlanes, GivesData, GoesOnFrom, GoesOnRows, HasDataOf}
 use Rattle.jpg_desk.specs.Stays.{OnlyReads}
 use Rattle.jpg_desk.specs.declared.encoded_rows.EncodedPicture.{EncodedPicture}
 use Rattle.jpg_desk.specs.declared.encoded_rows.EncodedPicture.TheVariants as picture
 use Rattle.jpg_desk.specs.declared.encoded_rows.OneScan.{OneScan}
 use Rattle.jpg_desk.specs.declared.image_source.ImageSource.{ImageSource}
-use Rattle.jpg_desk.proofs.ImageTaken.{open_within}
+use Rattle.jpg_desk.proofs.ImageFed.{fed_taken}
+use Rattle.jpg_desk.proofs.ImageTaken.{open_end}
 use Rattle.jpg_desk.proofs.Input.{noted}
 use Rattle.jpg_desk.proofs.PictureTaken.{none_taken, reads_from}
 
@@ -51,10 +52,6 @@ image_encoded targa E s0 s1 I (Err (why.Picture fault)) read h = (I, read, h)
 image_encoded targa E s0 s1 I (Err why.NoMemory) (bytes, left, most, is) h = (bytes, left, most, is.read)
 image_encoded targa E s0 s1 I (Err other) read h = absurd h
 
--- by a reader
-pub whole_encoded : (targa : Bool) (E : Image → Encoding) (s0 s1 : DeskState) (r : ImageSource) (I : Image) (answer : Result EncodedPicture Why) → I ≡ source_read r → HoldsImage targa s0 r s1 → Encodes (E I) I answer → EndsEncoding targa E s0 answer s1
-whole_encoded targa E s0 s1 r I answer e h k = image_encoded targa E s0 s1 I answer (subst (λ (J : Image). TakesPieces (IsImageRead targa J (rest_of s1.left)) s0 s1) (sym e) h.0) k
-
 -- NONE was
 pub none_encoded : (targa : Bool) (E : Image → Encoding) (s0 s1 : DeskState) (ended : Why) → NoValueTaken (image_judging targa) s0 ended s1 → EndsEncoding targa E s0 (Err ended) s1
 none_encoded targa E s0 s1 (why.Refused f) h = h
@@ -64,40 +61,42 @@ none_encoded targa E s0 s1 other h = absurd h
 
 -- BY AN ENCODER
 
+-- from where a reader knows that samples follow
+abbrev pub goes_from : {targa : Bool} {E : Image → Encoding} {start : DeskState} {bytes : List ℕ} {r : ImageSource} {s : Sampler} {now : DeskState} → (targa ≡ false) × Begins E None bytes (source_samples r) (encoder.Planes s) → IsSourceFed targa start bytes r now
+    → GoesOnFrom E None start bytes r (encoder.Planes s) now
+goes_from {start = start} {bytes} {r} {now = now} b h = record { begun = b.1; read = subst (λ (t : Bool). IsSourceFed t start bytes r now) b.0 h }
+
 pub begun_given : {E : Image → Encoding} {w : Option RowScan} {start : DeskState} {bytes samples : List ℕ} {r : ImageSource} {s0 s1 : ImageEncoder} {taken : ℕ} {now : DeskState} (h : GoesOnFrom E w start bytes r s0 now) → samples ≡ source_samples r → taken ≡ source_taken r → AddsTaken s0 samples s1
-    → IsGiven w (h.begun).info (h.begun).asked start bytes samples s1 taken now
-begun_given {w = w} {samples = samples} {s1 = s1} h same count adds = record {
-  fed = subst (HasFedSamples (h.begun).info _) (sym same) (h.begun).fed;
-  sampled = adds w (h.begun).info (h.begun).asked [] (h.begun).sampled;
-  taken_is = count ∙ h.taken_is;
-  most = h.most;
-  kept = h.kept;
-  read = h.read;
+    → AreGivenFrom s0 start bytes (record { encoder = s1; taken = taken }) now
+begun_given {w = w} {bytes = bytes} {samples = samples} {r} h same count adds = record {
+  given = record {
+    info = (h.begun).info;
+    given = samples;
+    begun = (w, (h.begun).asked, (h.begun).sampled);
+    sampled = λ v a k. adds v (h.begun).info a [] k;
+    fed = subst (HasFedSamples (h.begun).info _) (sym same) (h.begun).fed;
+    taken_is = count ∙ fed_taken false bytes r h.read.goes.fed;
+    short = h.read.goes.short;
+  };
+  kept = h.read.kept;
+  read = h.read.read;
 }
 
 -- there was no memory for the first samples
-pub begun_unheld : {E : Image → Encoding} {w : Option RowScan} {start : DeskState} {bytes : List ℕ} {r : ImageSource} {s : ImageEncoder} {now : DeskState} → GoesOnFrom E w start bytes r s now → NoValueTaken (image_judging false) start why.NoMemory now
-begun_unheld {bytes = bytes} {r} h = (bytes, h.read, h.most, open_within bytes (goes_on_plain (h.begun).info bytes (source_samples r) (h.begun).fed).open_yet h.most)
+pub begun_unheld : {E : Image → Encoding} {w : Option RowScan} {start : DeskState} {bytes : List ℕ} {r : ImageSource} {s : ImageEncoder} {now : DeskState} → GoesOnFrom E w start bytes r s now → OnlyReads start now × NoValueTaken (image_judging false) start why.NoMemory now
+begun_unheld {bytes = bytes} {r} h =
+    let short = h.read.goes.short in
+    (h.read.kept, (bytes, h.read.read, omega (arith, short), open_end false bytes (goes_on_plain (h.begun).info bytes (source_samples r) (h.begun).fed).open_yet short))
 
-pub all_encoded : {E : Image → Encoding} {start : DeskState} {bytes given : List ℕ} {s0 s1 : ImageEncoder} {now : DeskState} (b : Begins E None bytes given s0) (answer : Result EncodedPicture Why) → IsAllGiven None b.info b.asked start s1 now → FinishesPlanes s1 answer
+pub all_encoded : {E : Image → Encoding} (start now : DeskState) {bytes given : List ℕ} {s0 s1 : ImageEncoder} (b : Begins E None bytes given s0) (answer : Result EncodedPicture Why) → AfterSamples None b.info b.asked start (Ok s1) now → FinishesPlanes s1 answer
     → EndsEncoding false E start answer now
-all_encoded {E} {start} {now = now} b answer g ends =
-    image_encoded false E start now (image_of b.info g.samples) answer g.read (ends E b.info b.asked g.samples b.like g.sampled g.count g.right)
+all_encoded {E} start now b answer (all, read, most, g) ends =
+    image_encoded false E start now (image_of b.info g.samples) answer (all, read, most, g.read) (ends E b.info b.asked g.samples b.like g.sampled g.count g.right)
 
--- as the data of one scan
-pub has_data : {w : RowScan} {info : ImageInfo} {a : Asked} {start : DeskState} {s1 : ImageEncoder} {now : DeskState} (text : List ℕ) → IsAllGiven (Some w) info a start s1 now → GivesData s1 text → HasDataOf w info a start text now
-has_data {w} {info} {a} text g gives = record { samples = g.samples; read = g.read; right = g.right; written = gives w info a g.samples g.sampled }
-
--- there was no memory for them
-unheld_after : (start : DeskState) (I : Image) (now : DeskState) → TakesPieces (IsImageRead false I (rest_of now.left)) start now → NoValueTaken (image_judging false) start why.NoMemory now
-unheld_after start I now (bytes, left, most, is) = (bytes, left, most, is.read)
-
-pub none_held : {w : RowScan} {info : ImageInfo} {a : Asked} {start : DeskState} {s1 : ImageEncoder} {now : DeskState} (ended : Why) → IsAllGiven (Some w) info a start s1 now → ended ≡ why.NoMemory → NoValueTaken (image_judging false) start ended now
-none_held {info = info} {start = start} {now = now} ended g same = subst (λ (e : Why). NoValueTaken (image_judging false) start e now) (sym same) (unheld_after start (image_of info g.samples) now g.read)
-
-pub data_ended : {w : RowScan} {info : ImageInfo} {a : Asked} {start : DeskState} {s1 : ImageEncoder} {now : DeskState} (answer : Result (List ℕ) Why) → IsAllGiven (Some w) info a start s1 now → IfOk answer (GivesData s1) → IfErr answer (λ e. e ≡ why.NoMemory) → AfterData w info a start answer now
-data_ended (Ok text) g gives memory = has_data text g gives
-data_ended (Err ended) g gives memory = none_held ended g memory
+-- as the data of one scan; or there was no memory for them
+pub data_ended : {w : RowScan} {info : ImageInfo} {a : Asked} (start now : DeskState) {s1 : ImageEncoder} (answer : Result (List ℕ) Why) → AfterSamples (Some w) info a start (Ok s1) now → IfOk answer (GivesData s1) → IfErr answer (λ e. e ≡ why.NoMemory) → AfterData w info a start answer now
+data_ended {w} {info} {a} start now (Ok text) (all, read, most, g) gives memory = record { samples = g.samples; read = (all, read, most, g.read); right = g.right; written = gives w info a g.samples g.sampled }
+data_ended start now (Err ended) (all, read, most, g) gives memory = subst (λ (e : Why). NoValueTaken (image_judging false) start e now) (sym memory) (all, read, most, (g.read).read)
 
 -- by an encoder of rows, of a sampler
 abbrev pub rows_go : {E : Image → Encoding} {start : DeskState} {bytes : List ℕ} {r : ImageSource} {s : Sampler} {o : OneScan} {now : DeskState} (w : RowScan) (rows : RowEncoder) → BeginsRows s w rows → w ≡ scan_of o → GoesOnRows E start bytes r s o now
@@ -106,9 +105,6 @@ rows_go {o = o} w rows begins same h =
     let b = (h.goes).begun in
     record {
       begun = record { info = b.info; asked = b.asked; like = b.like; fed = b.fed; sampled = subst (λ (v : RowScan). HasTaken (Some v) b.info b.asked [] (encoder.Rows rows)) same (begins b.info b.asked b.sampled) };
-      taken_is = (h.goes).taken_is;
-      most = (h.goes).most;
-      kept = (h.goes).kept;
       read = (h.goes).read;
     }
 

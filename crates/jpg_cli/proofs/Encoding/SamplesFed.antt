@@ -1,20 +1,16 @@
--- Samples given to an encoder while they are read, over the states of a desk.
-use Rattle.std.proofs.Common.{◌≡◌, ℕ, ◌+◌, ◌<◌, ◌≤◌, min, false, List, [], ◌++◌, length, take, Option, None, Some, Ok, sym, ap, ◌∙◌, subst, arith, inl, inr, ⊎_elim}
-use Rattle.std.specs.Io.KnownBytes.{Consumes, IsAtEnd}
+-- Samples given to an encoder while they are read.
+use Rattle.std.proofs.Common.{◌≡◌, ℕ, ◌+◌, ◌-◌, ◌<◌, ◌≤◌, min, Bool, true, false, List, [], ◌++◌, length, take, Option, None, Some, Result, Ok, Err, sym, ap, ◌∙◌, subst, arith, ⊎_elim}
 use Rattle.std.proofs.lemmas.Bool.{cases_lt}
 use Rattle.std.proofs.lemmas.List.{append-nil, length-append, length-take-le, take_all}
 use Rattle.std.proofs.Math.Seq.{take-append-add}
-use Rattle.jpg_base.specs.declared.names.Got.{Got}
-use Rattle.jpg_base.specs.declared.names.Got.TheVariants as got
-use Rattle.jpg_base.specs.Desk.{DeskState, Reads, Rose}
-use Rattle.jpg_base.specs.Laws.{Consumes-then}
+use Rattle.jpg_base.specs.Desk.{DeskState}
 use Rattle.jpg_spec.specs.Segments.{standard_limits}
 use Rattle.jpg_spec.specs.declared.fault.Fault.TheVariants.{ImageShort, InputTooLong}
 use Rattle.jpg_spec.specs.declared.fault.FaultAt.{FaultAt}
-use Rattle.jpg_spec_image.specs.Images.{sample_count}
+use Rattle.jpg_spec_image.specs.Images.{Image, sample_count}
 use Rattle.jpg_spec_image.specs.declared.image.ImageInfo.{ImageInfo}
+use Rattle.jpg_spec_words.specs.declared.answers.Why.{Why}
 use Rattle.jpg_spec_words.specs.declared.answers.Why.TheVariants as why
-use Rattle.jpg_spec_words.specs.declared.answers.Which.TheVariants as which
 use Rattle.jpg_color.specs.Encode.{image_of}
 use Rattle.jpg_color.specs.EncodeRows.{RowScan}
 use Rattle.jpg_color.specs.ImageEncoder.{HasTaken, encoder_left}
@@ -24,29 +20,18 @@ use Rattle.jpg_color.specs.declared.encode.image_encoder.ImageEncoder.TheVariant
 use Rattle.jpg_pnm_bmp.specs.Made.{AreBytes, IsRightImage}
 use Rattle.jpg_pnm_bmp.specs.PlainSamples.{CompletesPlain, GoesOnPlain}
 use Rattle.jpg_pnm_bmp.proofs.PlainSamples.{goes_on_plain}
-use Rattle.jpg_desk.specs.ImageFile.{HasFaultIn}
-use Rattle.jpg_desk.specs.ImageLoop.{EndsEarly}
+use Rattle.jpg_desk.specs.ImageFile.{HasFaultIn, HasImageIn}
+use Rattle.jpg_desk.specs.Pump.{AfterInput, AfterTaking, EndsAll, IsFed, ReadsInput, TakesEnd, TakesPiece, of_reader}
 use Rattle.jpg_desk.specs.Judging.{NoValueTaken, TakesPieces}
-use Rattle.jpg_desk.specs.ReadImage.{IsFaultRead, IsImageRead, image_judging}
+use Rattle.jpg_desk.specs.ReadImage.{IsFaultRead, image_judging}
 use Rattle.jpg_desk.specs.Reading.{rest_of}
-use Rattle.jpg_cli.specs.Tools.SamplesFed.{AfterNextSamples, IsAllGiven, IsGiven, SoFarGiven, TakesSome}
 use Rattle.jpg_desk.specs.Stays.{OnlyReads}
-use Rattle.jpg_desk.proofs.PiecesRead.{left_still, reads_then}
-use Rattle.jpg_desk.proofs.ImageTaken.{image_unread, open_end, open_more, open_too_long, open_within}
-use Rattle.jpg_desk.proofs.Input.{none_left}
+use Rattle.jpg_desk.proofs.ImageTaken.{open_end, open_more, open_read, open_too_long}
+use Rattle.jpg_desk.proofs.Pumped.{all_read}
+use Rattle.jpg_cli.specs.Tools.SamplesFed.{AfterSamples, AreAll, AreAllGiven, AreGiven, AreGivenFrom, IsAllGiven, TakesSome, samples_reader}
+use Rattle.jpg_cli.specs.declared.tools.cjpeg_image.SamplesSink.{SamplesSink}
 
--- READING is only that
-pub only_reads : {s0 s1 : DeskState} {answer : Got} {buf : List ℕ} → Reads s0 answer buf s1 → OnlyReads s0 s1
-only_reads read = record {
-  copies = record {
-    works = record { stays = record { counts = read.counts; files = read.files }; said = read.said };
-    asked = read.asked;
-    output_created = read.output_created;
-  };
-  outputs = read.outputs;
-}
-
--- HOW MANY ARE LEFT
+-- HOW MANY ARE LEFT, and of which image
 
 count_of : (w : Option RowScan) (info : ImageInfo) (a : Asked) (given : List ℕ) (s : ImageEncoder) → HasTaken w info a given s → length given + encoder_left s ≡ sample_count info
 count_of None info a given (encoder.Planes s) h = (h.has).count
@@ -54,106 +39,160 @@ count_of None info a given (encoder.Rows r) h = absurd h
 count_of (Some w) info a given (encoder.Planes s) h = absurd h
 count_of (Some w) info a given (encoder.Rows r) h = (h.0.sampled.has).count
 
--- some, where not all were given
-pub some_left : {w : Option RowScan} {info : ImageInfo} {a : Asked} {start : DeskState} {bytes given : List ℕ} {s : ImageEncoder} {taken : ℕ} {now : DeskState} → IsGiven w info a start bytes given s taken now → encoder_left s ≡ 0 → ⊥
-some_left {w} {info} {a} {given = given} {s = s} g none = (let few = (g.fed).few in let c = count_of w info a given s g.sampled in omega (arith, few, c, none))
+abbrev numbers_of : ImageEncoder → ImageInfo
+numbers_of (encoder.Planes s) = s.info
+numbers_of (encoder.Rows r) = r.sampler.info
 
-none_left_of : {w : Option RowScan} {info : ImageInfo} {a : Asked} {start : DeskState} {s : ImageEncoder} {now : DeskState} → IsAllGiven w info a start s now → encoder_left s ≡ 0
-none_left_of {w} {info} {a} {s = s} g = (let l = g.count in let c = count_of w info a g.samples s g.sampled in omega (arith, l, c))
-
-module _ (w : Option RowScan) (info : ImageInfo) (a : Asked) (start : DeskState) where
-  -- those that were given so far, if some are left; and all, if none are
-  pub given_yet : (s : ImageEncoder) (taken : ℕ) (now : DeskState) → 0 < encoder_left s → SoFarGiven w info a start s taken now → (bytes : List ℕ) × (given : List ℕ) × IsGiven w info a start bytes given s taken now
-  given_yet s taken now some (inl g) = g
-  given_yet s taken now some (inr g) = (let none = none_left_of g in absurd (omega (arith, some, none)))
-
-  pub given_all : (s : ImageEncoder) (taken : ℕ) (now : DeskState) → encoder_left s ≡ 0 → SoFarGiven w info a start s taken now → IsAllGiven w info a start s now
-  given_all s taken now none (inl g) = absurd (some_left g.2 none)
-  given_all s taken now none (inr g) = g
+numbers_are : (w : Option RowScan) (info : ImageInfo) (a : Asked) (given : List ℕ) (s : ImageEncoder) → HasTaken w info a given s → numbers_of s ≡ info
+numbers_are None info a given (encoder.Planes s) h = h.numbers
+numbers_are None info a given (encoder.Rows r) h = absurd h
+numbers_are (Some w) info a given (encoder.Planes s) h = absurd h
+numbers_are (Some w) info a given (encoder.Rows r) h = h.0.sampled.numbers
 
 -- A PIECE
 
-module _ {w : Option RowScan} {info : ImageInfo} {a : Asked} {start : DeskState} {bytes given : List ℕ} {s0 : ImageEncoder} {taken : ℕ} {d0 : DeskState} (g : IsGiven w info a start bytes given s0 taken d0) where
-  goes : GoesOnPlain info bytes given
-  goes = goes_on_plain info bytes given g.fed
+module _ {from : ImageEncoder} {bytes : List ℕ} {s0 : SamplesSink} (g : AreGiven from bytes s0) where
+  goes : GoesOnPlain g.info bytes g.given
+  goes = goes_on_plain g.info bytes g.given g.fed
 
   -- the samples that it has
-  count_is : length given + encoder_left s0 ≡ sample_count info
-  count_is = count_of w info a given s0 g.sampled
+  pub has : HasTaken (g.begun).0 g.info (g.begun).1 g.given s0.encoder
+  has = g.sampled (g.begun).0 (g.begun).1 (g.begun).2
 
-  more_given : (s1 : ImageEncoder) (d1 : DeskState) (piece : List ℕ) → AreBytes piece → length (bytes ++ piece) ≤ standard_limits.input → length (given ++ piece) < sample_count info → Consumes d0.left d1.left piece → OnlyReads d0 d1 → TakesSome s0 piece s1
-      → IsGiven w info a start (bytes ++ piece) (given ++ piece) s1 (taken + length piece) d1
-  more_given s1 d1 piece small most few read only takes =
-      let c = count_is in
-      let l = length-append given piece in
-      let all : take (min (encoder_left s0) (length piece)) piece ≡ piece = (let e : min (encoder_left s0) (length piece) ≡ length piece = omega (arith, few, c, l) in ap (λ n. take n piece) e ∙ take_all (length piece) piece (omega arith)) in
-      record {
-        fed = goes.more piece small few;
-        sampled = subst (λ x. HasTaken w info a (given ++ x) s1) all (takes.1 w info a given g.sampled);
-        taken_is = ap (λ n. n + length piece) g.taken_is ∙ sym (length-append bytes piece);
-        most = most;
-        kept = reads_then g.kept only;
-        read = Consumes-then start.left d0.left d1.left bytes piece g.read read;
-      }
+  count_is : length g.given + encoder_left s0.encoder ≡ sample_count g.info
+  count_is = count_of (g.begun).0 g.info (g.begun).1 g.given s0.encoder has
 
-  all_given : (s1 : ImageEncoder) (d1 : DeskState) (piece : List ℕ) → AreBytes piece → length piece ≤ 65536 → length bytes < standard_limits.input → length (bytes ++ piece) ≤ standard_limits.input → sample_count info ≤ length (given ++ piece) → Consumes d0.left d1.left piece
-      → OnlyReads d0 d1 → TakesSome s0 piece s1 → IsAllGiven w info a start s1 d1
-  all_given s1 d1 piece small few short most enough read only takes =
-      let c = count_is in
-      let l = length-append given piece in
-      let left = encoder_left s0 in
-      let e : min left (length piece) ≡ left = omega (arith, enough, c, l) in
-      let samples : List ℕ = given ++ take left piece in
-      let long = length-take-le left piece (omega (arith, enough, c, l)) in
-      let taken_are : samples ≡ take (sample_count info) (given ++ piece) = sym (ap (λ n. take n (given ++ piece)) (sym c) ∙ take-append-add given piece left) in
-      let done : CompletesPlain info bytes given piece = goes.whole piece small enough in
-      let P : List ℕ → Type 0 = λ xs. TakesPieces (IsImageRead false (image_of info xs) (rest_of d1.left)) start d1 in
-      record {
-        samples = samples;
-        sampled = subst (λ n. HasTaken w info a (given ++ take n piece) s1) e (takes.1 w info a given g.sampled);
-        count = (let k = length-append given (take left piece) in omega (arith, k, long, c));
-        read = subst P (sym taken_are)
-            (bytes ++ piece, Consumes-then start.left d0.left d1.left bytes piece g.read read, most, record { is = done.image standard_limits (rest_of d1.left) most; read = open_more false bytes piece goes.open_yet short few });
-        right = subst (λ xs. IsRightImage (image_of info xs)) (sym taken_are) done.right;
-      }
+  some_left : encoder_left s0.encoder ≡ 0 → ⊥
+  some_left none = (let few = (g.fed).few in let c = count_is in omega (arith, few, c, none))
 
-  piece_given : (s1 : ImageEncoder) (d1 : DeskState) (piece : List ℕ) → length piece ≤ 65536 → length bytes < standard_limits.input → length (bytes ++ piece) ≤ standard_limits.input → Consumes d0.left d1.left piece → OnlyReads d0 d1 → TakesSome s0 piece s1 → SoFarGiven w info a start s1 (taken + length piece) d1
-  piece_given s1 d1 piece few short most read only takes =
-      ⊎_elim
-      (λ (h : length (given ++ piece) < sample_count info). inl (bytes ++ piece, given ++ piece, more_given s1 d1 piece takes.0 most h read only takes))
-      (λ (h : sample_count info ≤ length (given ++ piece)). inr (all_given s1 d1 piece takes.0 few short most h read only takes))
-      (cases_lt (length (given ++ piece)) (sample_count info))
+  module _ (s1 : SamplesSink) (piece : List ℕ) (takes : TakesSome s0.encoder piece s1.encoder) where
+    more_given : s1.taken ≡ s0.taken + length piece → length (bytes ++ piece) < standard_limits.input → length (g.given ++ piece) < sample_count g.info → AreGiven from (bytes ++ piece) s1
+    more_given count short few =
+        let c = count_is in
+        let l = length-append g.given piece in
+        let left = encoder_left s0.encoder in
+        let all : take (min left (length piece)) piece ≡ piece = (let e : min left (length piece) ≡ length piece = omega (arith, few, c, l) in ap (λ n. take n piece) e ∙ take_all (length piece) piece (omega arith)) in
+        record {
+          info = g.info;
+          given = g.given ++ piece;
+          begun = g.begun;
+          sampled = λ w a h. subst (λ x. HasTaken w g.info a (g.given ++ x) s1.encoder) all (takes.1 w g.info a g.given (g.sampled w a h));
+          fed = goes.more piece takes.0 few;
+          taken_is = count ∙ ap (λ n. n + length piece) g.taken_is ∙ sym (length-append bytes piece);
+          short = short;
+        }
 
-  -- which is the first bytes of a buffer
-  pub samples_given : (s1 : ImageEncoder) (d1 : DeskState) (n : ℕ) (buf : List ℕ) → length buf ≡ 16384 → length bytes < standard_limits.input → length (bytes ++ take n buf) ≤ standard_limits.input → Reads d0 (got.Bytes n) buf d1 → OnlyReads d0 d1 → TakesSome s0 (take n buf) s1
-      → AfterNextSamples w info a start taken (Ok n) s1 d1
-  samples_given s1 d1 n buf long short most read only takes =
-      let l = length-take-le n buf read.after.1 in
-      let inside = read.after.1 in
-      subst (λ k. SoFarGiven w info a start s1 (taken + k) d1) l (piece_given s1 d1 (take n buf) (omega (arith, l, inside, long)) short most read.after.2 only takes)
+    all_given : length piece ≤ 16384 → length (bytes ++ piece) ≤ standard_limits.input → sample_count g.info ≤ length (g.given ++ piece) → (rest : List ℕ) → AreAllGiven from rest (bytes ++ piece) s1.encoder
+    all_given few most enough rest =
+        let c = count_is in
+        let l = length-append g.given piece in
+        let left = encoder_left s0.encoder in
+        let e : min left (length piece) ≡ left = omega (arith, enough, c, l) in
+        let long = length-take-le left piece (omega (arith, enough, c, l)) in
+        let taken_are : g.given ++ take left piece ≡ take (sample_count g.info) (g.given ++ piece) = sym (ap (λ n. take n (g.given ++ piece)) (sym c) ∙ take-append-add g.given piece left) in
+        let done : CompletesPlain g.info bytes g.given piece = goes.whole piece takes.0 enough in
+        record {
+          info = g.info;
+          samples = g.given ++ take left piece;
+          begun = g.begun;
+          sampled = λ w a h. subst (λ n. HasTaken w g.info a (g.given ++ take n piece) s1.encoder) e (takes.1 w g.info a g.given (g.sampled w a h));
+          count = (let k = length-append g.given (take left piece) in omega (arith, k, long, c));
+          read = record {
+            is = subst (λ xs. HasImageIn false ((bytes ++ piece) ++ rest) (image_of g.info xs)) (sym taken_are) (done.image standard_limits rest most);
+            read = open_more false bytes piece goes.open_yet g.short (omega (arith, few));
+          };
+          right = subst (λ xs. IsRightImage (image_of g.info xs)) (sym taken_are) done.right;
+        }
 
-  pub samples_lost : (d1 : DeskState) (n : ℕ) (buf : List ℕ) → length buf ≡ 16384 → length bytes < standard_limits.input → length (bytes ++ take n buf) ≤ standard_limits.input → Reads d0 (got.Bytes n) buf d1 → NoValueTaken (image_judging false) start why.NoMemory d1
-  samples_lost d1 n buf long short most read =
-      let l = length-take-le n buf read.after.1 in
-      let inside = read.after.1 in
-      (bytes ++ take n buf, Consumes-then start.left d0.left d1.left bytes (take n buf) g.read read.after.2, most, open_more false bytes (take n buf) goes.open_yet short (omega (arith, l, inside, long)))
+    -- how many are left then
+    left_now : encoder_left s1.encoder ≡ encoder_left s0.encoder - min (encoder_left s0.encoder) (length piece)
+    left_now =
+        let n = min (encoder_left s0.encoder) (length piece) in
+        let c = count_is in
+        let after = count_of (g.begun).0 g.info (g.begun).1 (g.given ++ take n piece) s1.encoder (takes.1 (g.begun).0 g.info (g.begun).1 g.given has) in
+        let l = length-append g.given (take n piece) in
+        let k = length-take-le n piece (omega arith) in
+        omega (arith, c, after, l, k)
 
-  -- WHERE IT ENDS
+-- for all that was given before
+module _ (old new : SamplesSink) (piece : List ℕ) (few : length piece ≤ 16384) where
+  pub samples_taken : (answer : Result Bool Why) → TakesSome old.encoder piece new.encoder → new.taken ≡ old.taken + length piece → AreAll new answer → TakesPiece samples_reader old piece answer new
+  samples_taken answer takes count all from bytes h most = by answer all
+    where
+      left : ℕ
+      left = encoder_left old.encoder
 
-  pub samples_short : (d1 : DeskState) → length bytes < standard_limits.input → IsAtEnd d0.left → d1.left ≡ d0.left → NoValueTaken (image_judging false) start (why.Refused (record { fault = ImageShort; at = taken })) d1
-  samples_short d1 short end left =
-      let none : rest_of d1.left ≡ [] = ap rest_of left ∙ none_left d0.left end in
-      let f : FaultAt = record { fault = ImageShort; at = length bytes } in
-      let shown : IsFaultRead false f [] bytes = record { is = subst (λ (b : List ℕ). HasFaultIn false b f) (sym (append-nil bytes)) (goes.short standard_limits short); read = open_end false bytes goes.open_yet short } in
-      subst (λ n. NoValueTaken (image_judging false) start (why.Refused (record { fault = ImageShort; at = n })) d1) (sym g.taken_is)
-      (bytes, left_still d0 d1 bytes start left g.read, omega (arith, short), subst (λ (rest : List ℕ). IsFaultRead false f rest bytes) (sym none) shown)
+      same : encoder_left new.encoder ≡ left - min left (length piece)
+      same = left_now h new piece takes
 
-  pub samples_unread : (d1 : DeskState) → length bytes < standard_limits.input → Rose d0.counts.reads d1.counts.reads → d1.left ≡ d0.left → NoValueTaken (image_judging false) start (why.ReadFault which.Input) d1
-  samples_unread d1 short rose left = image_unread false start d0 d1 bytes goes.open_yet short g.kept g.read rose left
+      still : (encoder_left new.encoder ≡ 0 → ⊥) → length (h.given ++ piece) < sample_count h.info
+      still some =
+          ⊎_elim
+          (λ (a : length (h.given ++ piece) < sample_count h.info). a)
+          (λ (a : sample_count h.info ≤ length (h.given ++ piece)). (let c = count_is h in let l = length-append h.given piece in let k = same in absurd (some (omega (arith, a, c, l, k)))))
+          (cases_lt (length (h.given ++ piece)) (sample_count h.info))
 
-  pub samples_too_long : length bytes ≡ standard_limits.input → EndsEarly false start (why.Refused (record { fault = InputTooLong; at = standard_limits.input })) d0
-  samples_too_long full = (bytes, g.read, omega (arith, full), open_too_long bytes (rest_of d0.left) goes.open_yet full)
+      taken : new.taken ≡ length (bytes ++ piece)
+      taken = count ∙ ap (λ n. n + length piece) h.taken_is ∙ sym (length-append bytes piece)
 
-  -- there was no memory for those so far
-  pub samples_unheld : NoValueTaken (image_judging false) start why.NoMemory d0
-  samples_unheld = (bytes, g.read, g.most, open_within bytes goes.open_yet g.most)
+      short : (new.taken ≡ standard_limits.input → ⊥) → length (bytes ++ piece) < standard_limits.input
+      short over =
+          ⊎_elim
+          (λ (a : length (bytes ++ piece) < standard_limits.input). a)
+          (λ (a : standard_limits.input ≤ length (bytes ++ piece)). (let t = taken in absurd (over (omega (arith, a, most, t)))))
+          (cases_lt (length (bytes ++ piece)) standard_limits.input)
+
+      by : (answer : Result Bool Why) → AreAll new answer → AfterTaking samples_reader from (bytes ++ piece) answer new
+      by (Ok false) k = (more_given h new piece takes count (short k.1) (still k.0), short k.1)
+      by (Ok true) none = λ rest. all_given h new piece takes few most (let c = count_is h in let l = length-append h.given piece in let k = same in omega (arith, none, c, l, k)) rest
+      by (Err e) k = subst (λ (v : Why). AfterTaking samples_reader from (bytes ++ piece) (Err v) new) (sym k.0)
+          (λ rest. open_too_long (bytes ++ piece) rest (goes_on_plain h.info (bytes ++ piece) (h.given ++ piece) ((goes h).more piece takes.0 (still k.1))).open_yet (sym taken ∙ k.2))
+
+  -- there was no memory
+  pub samples_lost : TakesPiece samples_reader old piece (Err why.NoMemory) new
+  samples_lost from bytes h most = open_more false bytes piece (goes h).open_yet h.short (omega (arith, few))
+
+-- WHERE IT ENDS
+
+pub samples_short : (old : SamplesSink) (answer : Why) → answer ≡ why.Refused (record { fault = ImageShort; at = old.taken }) → TakesEnd samples_reader old (Err answer) old
+samples_short old answer is from bytes h less =
+    let f : FaultAt = record { fault = ImageShort; at = length bytes } in
+    let shown : IsFaultRead false f [] bytes = record { is = subst (λ (b : List ℕ). HasFaultIn false b f) (sym (append-nil bytes)) ((goes h).short standard_limits less); read = open_end false bytes (goes h).open_yet less } in
+    subst (λ (v : Why). AfterInput samples_reader from bytes (Err v) old) (sym (is ∙ ap (λ n. why.Refused (record { fault = ImageShort; at = n })) h.taken_is)) shown
+
+-- ALL OF IT
+
+-- an encoder that had none
+abbrev pub at_first : ImageEncoder → SamplesSink
+at_first from = record { encoder = from; taken = 0 }
+
+pub samples_fed : {from : ImageEncoder} {start : DeskState} {bytes : List ℕ} {s : SamplesSink} {now : DeskState} → AreGivenFrom from start bytes s now → IsFed SamplesSink (of_reader samples_reader) (at_first from, start) bytes (s, now)
+samples_fed h = record { short = (h.given).short; fed = record { fed = h.given; kept = h.kept; read = h.read } }
+
+all_of : {w : Option RowScan} {info : ImageInfo} {a : Asked} {from s : ImageEncoder} {rest bytes : List ℕ} → HasTaken w info a [] from → AreAllGiven from rest bytes s → IsAllGiven w info a rest bytes s
+all_of {w} {info} {a} {from} {s} {rest} {bytes} has h =
+    let same : h.info ≡ info = sym (numbers_are (h.begun).0 h.info (h.begun).1 [] from (h.begun).2) ∙ numbers_are w info a [] from has in
+    subst (λ (i : ImageInfo). IsAllGiven w i a rest bytes s) same (record {
+      samples = h.samples;
+      sampled = h.sampled w a (subst (λ (i : ImageInfo). HasTaken w i a [] from) (sym same) has);
+      count = h.count;
+      read = h.read;
+      right = h.right;
+    })
+
+samples_pumped : {from : ImageEncoder} {start : DeskState} {now : SamplesSink × DeskState} (answer : Result (Option ℕ) Why) → EndsAll (of_reader samples_reader) (at_first from, start) answer now → ReadsInput SamplesSink Image samples_reader (at_first from, start) answer now
+samples_pumped {from} {start} {now} answer h = all_read SamplesSink Image samples_reader (at_first from, start) now answer (λ bytes f short. open_read false bytes (goes f).open_yet short) h
+
+module _ {from : ImageEncoder} {start : DeskState} {now : SamplesSink × DeskState} where
+  pub samples_held : (early : Option ℕ) → EndsAll (of_reader samples_reader) (at_first from, start) (Ok early) now → (w : Option RowScan) (info : ImageInfo) (a : Asked) → HasTaken w info a [] from → OnlyReads start now.1 × AfterSamples w info a start (Ok (now.0).encoder) now.1
+  samples_held None ends w info a sampled = (let h = samples_pumped None_answer ends in (h.kept, by h.reads.0))
+    where
+      None_answer : Result (Option ℕ) Why
+      None_answer = Ok None
+
+      by : TakesPieces (λ bytes. AreAllGiven from (rest_of (now.1).left) bytes (now.0).encoder) start now.1 → TakesPieces (λ bytes. IsAllGiven w info a (rest_of (now.1).left) bytes (now.0).encoder) start now.1
+      by (bytes, read, most, g) = (bytes, read, most, all_of sampled g)
+  samples_held (Some n) ends w info a sampled = absurd (samples_pumped (Ok (Some n)) ends).reads.0.3
+
+  pub none_held : (w : Why) → EndsAll (of_reader samples_reader) (at_first from, start) (Err w) now → OnlyReads start now.1 × NoValueTaken (image_judging false) start w now.1
+  none_held w ends = (let h = samples_pumped (Err w) ends in (h.kept, h.reads))

@@ -1,14 +1,16 @@
 -- THE SAMPLES of P5 and P6 given to an encoder while they are read, from a desk whose input is open: as planes, or as the
 -- data of a scan.
-use Rattle.std.specs.Prelude.{◌≡◌, ◌⊎◌, ℕ, ◌+◌, ◌≤◌, min, Bool, false, not, ◌||◌, ◌==◌, List, [], length, take, Option, None, Some, Result, Ok, Err}
+use Rattle.std.specs.Prelude.{◌≡◌, ℕ, ◌<◌, ◌≤◌, min, Bool, true, false, not, ◌||◌, ◌==◌, List, [], length, take, Option, None, Some, Result, Ok, Err}
 use Rattle.std.specs.Io.KnownBytes.{Consumes}
 use Rattle.jpg_base.specs.Desk.{DeskState}
 use Rattle.jpg_spec.specs.Geometry.{Frame, component_at}
 use Rattle.jpg_spec.specs.Segments.{standard_limits}
+use Rattle.jpg_spec.specs.declared.fault.Fault.TheVariants.{InputTooLong}
 use Rattle.jpg_spec_encode.specs.Encoded.{Encoding}
 use Rattle.jpg_spec_image.specs.Images.{Image, sample_count}
 use Rattle.jpg_spec_image.specs.declared.image.ImageInfo.{ImageInfo}
 use Rattle.jpg_spec_words.specs.declared.answers.Why.{Why}
+use Rattle.jpg_spec_words.specs.declared.answers.Why.TheVariants as why
 use Rattle.jpg_spec_write.specs.WrittenFile.{IsRestart}
 use Rattle.jpg_color.specs.Encode.{AsksFor, CanSample, encoded_frame, image_of}
 use Rattle.jpg_color.specs.EncodeRows.{IsRowScan, RowScan, data_due}
@@ -32,14 +34,17 @@ use Rattle.jpg_words.specs.declared.cjpeg_request.EncodeWords.{EncodeWords}
 use Rattle.jpg_cli.specs.Tools.EncodedRead.{Encodes, EndsEncoding}
 use Rattle.jpg_desk.specs.EncodedRows.{IsEncodedRows, scan_of}
 use Rattle.jpg_cli.specs.Tools.ImageWritten.{IsAskedBy, IsPlanOf}
-use Rattle.jpg_desk.specs.ImageSource.{HasFed, source_samples, source_taken}
+use Rattle.jpg_desk.specs.ImageSource.{HasFed, source_samples}
+use Rattle.jpg_desk.specs.ImageTaken.{IsSourceFed}
 use Rattle.jpg_desk.specs.Judging.{NoValueTaken, TakesPieces}
+use Rattle.jpg_desk.specs.Pump.{ReaderKind}
 use Rattle.jpg_desk.specs.ReadImage.{IsImageRead, image_judging}
 use Rattle.jpg_desk.specs.Reading.{rest_of}
 use Rattle.jpg_desk.specs.Stays.{OnlyReads}
 use Rattle.jpg_desk.specs.declared.encoded_rows.EncodedPicture.{EncodedPicture}
 use Rattle.jpg_desk.specs.declared.encoded_rows.OneScan.{OneScan}
 use Rattle.jpg_desk.specs.declared.image_source.ImageSource.{ImageSource}
+use Rattle.jpg_cli.specs.declared.tools.cjpeg_image.SamplesSink.{SamplesSink}
 
 -- Images with these numbers are encoded like this, and can be.
 pub record IsAskedFor (E : Image → Encoding) (info : ImageInfo) (a : Asked) : Type 0 where
@@ -47,55 +52,72 @@ pub record IsAskedFor (E : Image → Encoding) (info : ImageInfo) (a : Asked) : 
   pub can : CanSample info a
   pub restart : (I : Image) → IsRestart (E I).restart
 
--- SOME OF THE SAMPLES were given to the encoder, those of the bytes so far.
-pub record IsGiven (w : Option RowScan) (info : ImageInfo) (a : Asked) (start : DeskState) (bytes given : List ℕ) (s : ImageEncoder) (taken : ℕ) (now : DeskState) : Type 0 where
+-- SOME OF THE SAMPLES were given to an encoder that had none, those of the bytes so far.
+pub record AreGiven (from : ImageEncoder) (bytes : List ℕ) (s : SamplesSink) : Type 0 where
+  pub info : ImageInfo
+  pub given : List ℕ
+  pub begun : (w : Option RowScan) × (a : Asked) × HasTaken w info a [] from
+  pub sampled : (w : Option RowScan) (a : Asked) → HasTaken w info a [] from → HasTaken w info a given s.encoder
   pub fed : HasFedSamples info bytes given
-  pub sampled : HasTaken w info a given s
-  pub taken_is : taken ≡ length bytes
-  pub most : length bytes ≤ standard_limits.input
-  pub kept : OnlyReads start now
-  pub read : Consumes start.left now.left bytes
+  pub taken_is : s.taken ≡ length bytes
+  pub short : length bytes < standard_limits.input
 
 -- ALL OF THEM were, and the bytes that were read have their image.
-pub record IsAllGiven (w : Option RowScan) (info : ImageInfo) (a : Asked) (start : DeskState) (s : ImageEncoder) (now : DeskState) : Type 0 where
+pub record AreAllGiven (from : ImageEncoder) (rest bytes : List ℕ) (s : ImageEncoder) : Type 0 where
+  pub info : ImageInfo
   pub samples : List ℕ
-  pub sampled : HasTaken w info a samples s
+  pub begun : (w : Option RowScan) × (a : Asked) × HasTaken w info a [] from
+  pub sampled : (w : Option RowScan) (a : Asked) → HasTaken w info a [] from → HasTaken w info a samples s
   pub count : length samples ≡ sample_count info
-  pub read : TakesPieces (IsImageRead false (image_of info samples) (rest_of now.left)) start now
+  pub read : IsImageRead false (image_of info samples) rest bytes
   pub right : IsRightImage (image_of info samples)
 
-abbrev pub SoFarGiven : Option RowScan → ImageInfo → Asked → DeskState → ImageEncoder → ℕ → DeskState → Type 0
-SoFarGiven w info a start s taken now = ((bytes : List ℕ) × (given : List ℕ) × IsGiven w info a start bytes given s taken now) ⊎ IsAllGiven w info a start s now
+-- ALL PIECES: what holds of an encoder that had none
+abbrev pub HoldAll : SamplesSink → Option ℕ → List ℕ → List ℕ → SamplesSink → Type 0
+HoldAll from None rest bytes now = AreAllGiven from.encoder rest bytes now.encoder
+HoldAll from (Some n) rest bytes now = ⊥
+
+abbrev pub samples_reader : ReaderKind SamplesSink Image
+samples_reader = record { fed = λ from bytes now. AreGiven from.encoder bytes now; holds = HoldAll; judging = λ from. image_judging false; more = λ s. ⊥ }
+
+-- whether none are left; or some are, and as many bytes were taken as may be
+abbrev pub AreAll : SamplesSink → Result Bool Why → Type 0
+AreAll s (Ok true) = encoder_left s.encoder ≡ 0
+AreAll s (Ok false) = (encoder_left s.encoder ≡ 0 → ⊥) × (s.taken ≡ standard_limits.input → ⊥)
+AreAll s (Err w) = (w ≡ why.Refused (record { fault = InputTooLong; at = standard_limits.input })) × (encoder_left s.encoder ≡ 0 → ⊥) × (s.taken ≡ standard_limits.input)
 
 -- An encoder takes the first bytes of a piece, as many as are left of its samples.
 abbrev pub TakesSome : ImageEncoder → List ℕ → ImageEncoder → Type 0
 TakesSome old piece new = AreBytes piece × AddsTaken old (take (min (encoder_left old) (length piece)) piece) new
 
--- Some were given, of some image.
-abbrev pub AreGiven : ImageEncoder → ℕ → DeskState → Type 0
-AreGiven s taken now = (w : Option RowScan) × (info : ImageInfo) × (a : Asked) × (start : DeskState) × (bytes : List ℕ) × (given : List ℕ) × IsGiven w info a start bytes given s taken now
-
 abbrev pub HasSomeTaken : ImageEncoder → Type 0
 HasSomeTaken s = (w : Option RowScan) × (info : ImageInfo) × (a : Asked) × (given : List ℕ) × HasTaken w info a given s
 
--- A PIECE, by how many bytes it has; or why the reading ends
-abbrev pub AfterNextSamples : Option RowScan → ImageInfo → Asked → DeskState → ℕ → Result ℕ Why → ImageEncoder → DeskState → Type 0
-AfterNextSamples w info a start taken (Ok n) s now = SoFarGiven w info a start s (taken + n) now
-AfterNextSamples w info a start taken (Err ended) s now = NoValueTaken (image_judging false) start ended now
+-- FROM A DESK from which these bytes were read
+pub record AreGivenFrom (from : ImageEncoder) (start : DeskState) (bytes : List ℕ) (s : SamplesSink) (now : DeskState) : Type 0 where
+  pub given : AreGiven from bytes s
+  pub kept : OnlyReads start now
+  pub read : Consumes start.left now.left bytes
 
--- for all that was given before
-abbrev pub FeedsNext : ImageEncoder → ℕ → DeskState → Result ℕ Why → ImageEncoder → DeskState → Type 0
-FeedsNext had taken old answer s new =
-    (w : Option RowScan) (info : ImageInfo) (a : Asked) (start : DeskState) (bytes given : List ℕ) → IsGiven w info a start bytes given had taken old → AfterNextSamples w info a start taken answer s new
+abbrev pub AreSomeGiven : SamplesSink → DeskState → Type 0
+AreSomeGiven s now = (from : ImageEncoder) × (start : DeskState) × (bytes : List ℕ) × AreGivenFrom from start bytes s now
 
--- ALL PIECES up to the one with the last sample
-abbrev pub AfterSamples : Option RowScan → ImageInfo → Asked → DeskState → Result (Unit {0}) Why → ImageEncoder → DeskState → Type 0
-AfterSamples w info a start (Ok u) s now = IsAllGiven w info a start s now
-AfterSamples w info a start (Err ended) s now = NoValueTaken (image_judging false) start ended now
+-- of an image with these numbers
+pub record IsAllGiven (w : Option RowScan) (info : ImageInfo) (a : Asked) (rest bytes : List ℕ) (s : ImageEncoder) : Type 0 where
+  pub samples : List ℕ
+  pub sampled : HasTaken w info a samples s
+  pub count : length samples ≡ sample_count info
+  pub read : IsImageRead false (image_of info samples) rest bytes
+  pub right : IsRightImage (image_of info samples)
 
-abbrev pub FeedsRest : ImageEncoder → ℕ → DeskState → Result (Unit {0}) Why → ImageEncoder → DeskState → Type 0
-FeedsRest had taken old answer s new =
-    (w : Option RowScan) (info : ImageInfo) (a : Asked) (start : DeskState) (bytes given : List ℕ) → IsGiven w info a start bytes given had taken old → AfterSamples w info a start answer s new
+-- up to the piece with the last sample; or why the reading ends
+abbrev pub AfterSamples : Option RowScan → ImageInfo → Asked → DeskState → Result ImageEncoder Why → DeskState → Type 0
+AfterSamples w info a start (Ok s) now = TakesPieces (λ bytes. IsAllGiven w info a (rest_of now.left) bytes s) start now
+AfterSamples w info a start (Err ended) now = NoValueTaken (image_judging false) start ended now
+
+abbrev pub FeedsRest : SamplesSink → DeskState → Result ImageEncoder Why → DeskState → Type 0
+FeedsRest had old answer new =
+    (from : ImageEncoder) (start : DeskState) (bytes : List ℕ) → AreGivenFrom from start bytes had old → (w : Option RowScan) (info : ImageInfo) (a : Asked) → HasTaken w info a [] from → OnlyReads start new × AfterSamples w info a start answer new
 
 -- THE ENCODED IMAGE of a sampler that was given all samples
 abbrev pub FinishesImage : Sampler → Result EncodedPicture Why → Type 0
@@ -126,25 +148,22 @@ BeginsPlain targa E r s = (bytes : List ℕ) → HasFed targa bytes r → (targa
 -- The image is read from there on.
 pub record GoesOnFrom (E : Image → Encoding) (w : Option RowScan) (start : DeskState) (bytes : List ℕ) (r : ImageSource) (s : ImageEncoder) (now : DeskState) : Type 0 where
   pub begun : Begins E w bytes (source_samples r) s
-  pub taken_is : source_taken r ≡ length bytes
-  pub most : length bytes ≤ standard_limits.input
-  pub kept : OnlyReads start now
-  pub read : Consumes start.left now.left bytes
+  pub read : IsSourceFed false start bytes r now
 
 abbrev pub GoesOn : ImageSource → ImageEncoder → DeskState → Type 0
 GoesOn r s now = (E : Image → Encoding) × (w : Option RowScan) × (start : DeskState) × (bytes : List ℕ) × GoesOnFrom E w start bytes r s now
 
 -- all samples, the first of which the reader has
-abbrev pub FeedsAll : ImageSource → ImageEncoder → DeskState → Result (Unit {0}) Why → ImageEncoder → DeskState → Type 0
-FeedsAll r s old answer new after =
-    (E : Image → Encoding) (w : Option RowScan) (start : DeskState) (bytes : List ℕ) (h : GoesOnFrom E w start bytes r s old) → AfterSamples w (h.begun).info (h.begun).asked start answer new after
+abbrev pub FeedsAll : ImageSource → ImageEncoder → DeskState → Result ImageEncoder Why → DeskState → Type 0
+FeedsAll r s old answer after =
+    (E : Image → Encoding) (w : Option RowScan) (start : DeskState) (bytes : List ℕ) (h : GoesOnFrom E w start bytes r s old) → OnlyReads start after × AfterSamples w (h.begun).info (h.begun).asked start answer after
 
 -- AS PLANES
 abbrev pub GoesOnAsPlanes : ImageSource → ImageEncoder → DeskState → Type 0
 GoesOnAsPlanes r s now = (E : Image → Encoding) × (start : DeskState) × (bytes : List ℕ) × GoesOnFrom E None start bytes r s now
 
 abbrev pub EndsPlain : ImageSource → ImageEncoder → DeskState → Result EncodedPicture Why → DeskState → Type 0
-EndsPlain r s old answer new = (E : Image → Encoding) (start : DeskState) (bytes : List ℕ) → GoesOnFrom E None start bytes r s old → EndsEncoding false E start answer new
+EndsPlain r s old answer new = (E : Image → Encoding) (start : DeskState) (bytes : List ℕ) → GoesOnFrom E None start bytes r s old → OnlyReads start new × EndsEncoding false E start answer new
 
 -- THE DATA OF A SCAN
 abbrev pub GoesOnScan : ImageSource → ImageEncoder → DeskState → Type 0
@@ -163,7 +182,7 @@ AfterData w info a start (Err ended) now = NoValueTaken (image_judging false) st
 
 abbrev pub EndsData : ImageSource → ImageEncoder → DeskState → Result (List ℕ) Why → DeskState → Type 0
 EndsData r s old answer new =
-    (E : Image → Encoding) (w : RowScan) (start : DeskState) (bytes : List ℕ) (h : GoesOnFrom E (Some w) start bytes r s old) → AfterData w (h.begun).info (h.begun).asked start answer new
+    (E : Image → Encoding) (w : RowScan) (start : DeskState) (bytes : List ℕ) (h : GoesOnFrom E (Some w) start bytes r s old) → OnlyReads start new × AfterData w (h.begun).info (h.begun).asked start answer new
 
 -- AS THE DATA OF ONE SCAN: how the file of each image with these numbers is written
 pub record IsOneScan (E : Image → Encoding) (info : ImageInfo) (a : Asked) (o : OneScan) : Type 0 where
@@ -178,7 +197,7 @@ abbrev pub GoesOnAsRows : ImageSource → Sampler → OneScan → DeskState → 
 GoesOnAsRows r s o now = (E : Image → Encoding) × (start : DeskState) × (bytes : List ℕ) × GoesOnRows E start bytes r s o now
 
 abbrev pub EndsRows : ImageSource → Sampler → OneScan → DeskState → Result EncodedPicture Why → DeskState → Type 0
-EndsRows r s o old answer new = (E : Image → Encoding) (start : DeskState) (bytes : List ℕ) → GoesOnRows E start bytes r s o old → EndsEncoding false E start answer new
+EndsRows r s o old answer new = (E : Image → Encoding) (start : DeskState) (bytes : List ℕ) → GoesOnRows E start bytes r s o old → OnlyReads start new × EndsEncoding false E start answer new
 
 -- the plan of a file with this head: its scans are possible
 pub record IsPlannedFor (w : EncodeWords) (scans : Scans) (h : ImageHead) (plan : Plan) : Type 0 where

@@ -1,11 +1,12 @@
 //! The image of an input, read and encoded (the manual of cjpeg). The samples of P5 and P6 become the data of the file's one
 //! scan as they come, or planes.
-ghost use Rattle.std.specs.Prelude.{◌≡◌, ◌≤◌, ◌+◌, IfErr, IfOk, IfSome, List, None, OnOk, Some, length, true, ℕ};
+ghost use Rattle.std.specs.Prelude.{◌≡◌, ◌≤◌, ◌++◌, IfErr, IfOk, IfSome, List, None, OnOk, Some, length, true, ℕ};
 ghost use Rattle.jpg_spec_words.specs.declared.answers.Why.TheVariants as why;
 ghost use Rattle.jpg_transform.specs.Planned.{scans_view};
 ghost use Rattle.jpg_color.specs.Encode.{image_view};
 ghost use Rattle.jpg_spec.specs.Geometry.{Frame as FrameOf};
 ghost use Rattle.jpg_spec.specs.Scan.{Blocks};
+ghost use Rattle.jpg_spec.specs.Segments.{standard_limits};
 ghost use Rattle.jpg_huff.specs.Encoder.{AreEncodersOf};
 ghost use Rattle.jpg_file.specs.Write.SoleScan.{IsAllOf, IsSole};
 ghost use Rattle.jpg_file.specs.Write.WriteFile.{CanWriteFile};
@@ -15,20 +16,23 @@ ghost use Rattle.jpg_color.specs.EncodeSampling.{samples_left};
 ghost use Rattle.jpg_color.specs.ImageEncoder.{HasTaken, encoder_left};
 ghost use Rattle.jpg_color.specs.ImageHead.{head_parts};
 ghost use Rattle.jpg_color.specs.declared.encode.Encoding.{Encoding as Asked};
+ghost use Rattle.jpg_color.specs.declared.encode.image_encoder.ImageEncoder.{ImageEncoder as Encoder};
 ghost use Rattle.jpg_color.specs.declared.encode.image_encoder.ImageEncoder.TheVariants as encoder;
 ghost use Rattle.jpg_pnm_bmp.specs.Made.{IsRightImage};
 ghost use Rattle.jpg_cli.specs.Tools.EncodedRead.{EncodedRead, Encodes, EndsEncoding};
 ghost use Rattle.jpg_cli.specs.Tools.ImageWritten.{IsPlanOf, why_not_encoded};
-ghost use Rattle.jpg_desk.specs.ImageSource.{HasFedSome, source_samples, source_taken};
-ghost use Rattle.jpg_cli.specs.Tools.SamplesFed.{AreGiven, BeginsPlain, EndsData, EndsPlain, EndsRows, FeedsAll, FeedsNext, FeedsRest, FinishesImage, FinishesPlanes, GivesData, GoesOn, GoesOnAsPlanes, GoesOnAsRows, GoesOnScan, HasSomeTaken, IsOneScanFor, IsPlannedFor, IsSamplerFor, TakesSome, has_frame_rows};
+ghost use Rattle.jpg_desk.specs.ImageSource.{HasFedSome, source_samples};
+ghost use Rattle.jpg_desk.specs.Pump.{TakesPiece, of_reader};
+ghost use Rattle.jpg_cli.specs.Tools.SamplesFed.{AreAll, AreGiven, AreSomeGiven, BeginsPlain, EndsData, EndsPlain, EndsRows, FeedsAll, FeedsRest, FinishesImage, FinishesPlanes, GivesData, GoesOn, GoesOnAsPlanes, GoesOnAsRows, GoesOnScan, HasSomeTaken, IsOneScanFor, IsPlannedFor, IsSamplerFor, TakesSome, has_frame_rows, samples_reader};
 ghost use Rattle.jpg_cli.specs.Tools.EncodingAsked.{asked_of, encoding_by};
 ghost use Rattle.jpg_desk.specs.Stays.{Keeps, OnlyReads};
 
 use crate::tools::cjpeg_encoding::encoding_of;
-use jpg_base::{Bytes, Desk, Frame, Got, NoMemory, Put, QuantTable};
+use jpg_base::{Bytes, Desk, Frame, NoMemory, Put, QuantTable};
 use jpg_color::{EncodeStop, ImageEncoder, ImageHead, RowEncoder, Sampler};
 use jpg_desk::{
-    EncodedPicture, EncodedRows, ImageSource, ImageStep, OneScan, Tables, next_piece, read_within,
+    EncodedPicture, EncodedRows, ImageSource, OneScan, PieceSink, Tables, pump_on, read_rest,
+    read_source,
 };
 use jpg_file::{Plan, SoleScan, sole_scan};
 use jpg_huff::{EncoderPlaces, EncoderSet, TableSet};
@@ -75,22 +79,22 @@ fn take_encoded<D: Desk>(
     ensures kept { OnlyReads (D.state desk.old) (D.state desk.new) }
     ensures read { EndsEncoding words.now.targa (encoding_by words.now (scans_view scans.now) tables.entry) (D.state desk.old) result (D.state desk.new) }
 {
-    let mut reader = ImageSource::new(alloc, words.targa);
-    let mut buffer = [0u8; 16384];
-    loop {
-        match next_piece(&mut reader, &mut buffer, desk) {
-            ImageStep::More => {
-                if let Some(sampler) = sampler_for(alloc, &reader, words, scans, tables) {
-                    let Some(file) = one_scan(alloc, &sampler, words, scans) else {
-                        let planes = ImageEncoder::Planes(sampler);
-                        return encode_planes(&reader, planes, &mut buffer, desk);
-                    };
-                    return encode_rows(alloc, &reader, sampler, file, &mut buffer, desk);
-                }
-            }
-            ImageStep::Whole => return encode_whole(alloc, &reader.take(), words, scans, tables),
-            ImageStep::Ended(why) => return Err(why),
-        }
+    let reader = match read_source(alloc, words.targa, desk) {
+        Ok(reader) => reader,
+        Err(why) => return Err(why),
+    };
+    if reader.is_read() {
+        return encode_whole(alloc, &reader.take(), words, scans, tables);
+    }
+    match sampler_for(alloc, &reader, words, scans, tables) {
+        Some(sampler) => match one_scan(alloc, &sampler, words, scans) {
+            Some(file) => encode_rows(alloc, &reader, sampler, file, desk),
+            None => encode_planes(&reader, ImageEncoder::Planes(sampler), desk),
+        },
+        None => match read_rest(reader, desk) {
+            Ok(image) => encode_whole(alloc, &image, words, scans, tables),
+            Err(why) => Err(why),
+        },
     }
 }
 
@@ -157,20 +161,16 @@ fn sampler_for(
 fn encode_planes<'a, D: Desk>(
     reader: &ImageSource,
     encoder: ImageEncoder<'a>,
-    buffer: &mut [u8; 16384],
     desk: &mut D,
 ) -> Result<EncodedPicture, Why>
     requires open { (D.state desk.old).input_open ≡ true }
     requires few { length (source_samples reader.now) ≤ encoder_left encoder }
-    requires within { source_taken reader.now ≤ 1099511627776 }
     requires goes { GoesOnAsPlanes reader.now encoder (D.state desk.old) }
-    ensures kept { OnlyReads (D.state desk.old) (D.state desk.new) }
-    ensures ended { EndsPlain reader.now encoder.entry (D.state desk.old) result (D.state desk.new) }
+    ensures { EndsPlain reader.now encoder.entry (D.state desk.old) result (D.state desk.new) }
 {
-    let mut encoder = encoder;
-    match feed_all(reader, &mut encoder, buffer, desk) {
+    match feed_all(reader, encoder, desk) {
         Err(why) => Err(why),
-        Ok(()) => finish_planes(encoder),
+        Ok(encoder) => finish_planes(encoder),
     }
 }
 
@@ -193,15 +193,12 @@ fn encode_rows<D: Desk>(
     reader: &ImageSource,
     sampler: Sampler,
     file: OneScan,
-    buffer: &mut [u8; 16384],
     desk: &mut D,
 ) -> Result<EncodedPicture, Why>
     requires open { (D.state desk.old).input_open ≡ true }
     requires few { length (source_samples reader.now) ≤ samples_left sampler }
-    requires within { source_taken reader.now ≤ 1099511627776 }
     requires goes { GoesOnAsRows reader.now sampler file (D.state desk.old) }
-    ensures kept { OnlyReads (D.state desk.old) (D.state desk.new) }
-    ensures ended { EndsRows reader.now sampler file (D.state desk.old) result (D.state desk.new) }
+    ensures { EndsRows reader.now sampler file (D.state desk.old) result (D.state desk.new) }
 {
     let scan = file.scan.as_ref();
     let Ok(places) = places_for(alloc, &scan.tables) else {
@@ -209,7 +206,7 @@ fn encode_rows<D: Desk>(
     };
     let encoders = EncoderSet::new(&scan.tables, places.as_ref());
     let rows = RowEncoder::new(alloc, sampler, &scan.due.head, encoders, scan.due.interval);
-    match rows_data(reader, ImageEncoder::Rows(rows), buffer, desk) {
+    match rows_data(reader, ImageEncoder::Rows(rows), desk) {
         Err(why) => Err(why),
         Ok(bytes) => Ok(EncodedPicture::Rows(EncodedRows { file, bytes })),
     }
@@ -219,20 +216,16 @@ fn encode_rows<D: Desk>(
 fn rows_data<'a, D: Desk>(
     reader: &ImageSource,
     encoder: ImageEncoder<'a>,
-    buffer: &mut [u8; 16384],
     desk: &mut D,
 ) -> Result<Bytes, Why>
     requires open { (D.state desk.old).input_open ≡ true }
     requires few { length (source_samples reader.now) ≤ encoder_left encoder }
-    requires within { source_taken reader.now ≤ 1099511627776 }
     requires goes { GoesOnScan reader.now encoder (D.state desk.old) }
-    ensures kept { OnlyReads (D.state desk.old) (D.state desk.new) }
-    ensures ended { EndsData reader.now encoder.entry (D.state desk.old) result (D.state desk.new) }
+    ensures { EndsData reader.now encoder.entry (D.state desk.old) result (D.state desk.new) }
 {
-    let mut encoder = encoder;
-    match feed_all(reader, &mut encoder, buffer, desk) {
+    match feed_all(reader, encoder, desk) {
         Err(why) => Err(why),
-        Ok(()) => data_of(encoder),
+        Ok(encoder) => data_of(encoder),
     }
 }
 
@@ -356,76 +349,78 @@ fn finish(sampler: Sampler) -> Result<EncodedPicture, Why>
     }
 }
 
-// Gives the encoder the samples that the reader has, and reads the others.
-fn feed_all<D: Desk>(
+// The encoder, given the samples that the reader has, and those that follow.
+fn feed_all<'a, D: Desk>(
     reader: &ImageSource,
-    encoder: &mut ImageEncoder<'_>,
-    buffer: &mut [u8; 16384],
+    encoder: ImageEncoder<'a>,
     desk: &mut D,
-) -> Result<(), Why>
+) -> Result<ImageEncoder<'a>, Why>
     requires open { (D.state desk.old).input_open ≡ true }
-    requires few { length (source_samples reader.now) ≤ encoder_left encoder.old }
-    requires within { source_taken reader.now ≤ 1099511627776 }
-    requires goes { GoesOn reader.now encoder.old (D.state desk.old) }
-    ensures kept { OnlyReads (D.state desk.old) (D.state desk.new) }
-    ensures fed { FeedsAll reader.now encoder.old (D.state desk.old) result encoder.new (D.state desk.new) }
+    requires few { length (source_samples reader.now) ≤ encoder_left encoder }
+    requires goes { GoesOn reader.now encoder (D.state desk.old) }
+    ensures { FeedsAll reader.now encoder.entry (D.state desk.old) result (D.state desk.new) }
 {
+    let mut encoder = encoder;
     match encoder.feed(reader.samples()) {
         Err(_) => Err(Why::NoMemory),
-        Ok(()) => feed_rest(encoder, reader.taken(), buffer, desk),
-    }
-}
-
-// Reads the samples that are left, after `taken` bytes.
-fn feed_rest<D: Desk>(
-    encoder: &mut ImageEncoder<'_>,
-    taken: u64,
-    buffer: &mut [u8; 16384],
-    desk: &mut D,
-) -> Result<(), Why>
-    requires open { (D.state desk.old).input_open ≡ true }
-    requires within { taken ≤ 1099511627776 }
-    requires given { AreGiven encoder.old taken (D.state desk.old) }
-    ensures kept { OnlyReads (D.state desk.old) (D.state desk.new) }
-    ensures fed { FeedsRest encoder.old taken (D.state desk.old) result encoder.new (D.state desk.new) }
-{
-    let mut read = taken;
-    while encoder.left() > 0 {
-        match next_samples(encoder, read, buffer, desk) {
-            Ok(count) => read += count,
-            Err(why) => return Err(why),
+        Ok(()) => {
+            let taken = reader.taken();
+            feed_rest(SamplesSink { encoder, taken }, desk)
         }
     }
-    Ok(())
 }
 
-// Reads a piece after `taken` bytes, where samples are left and fewer bytes were read than may be. Returns how many
-// bytes it has.
-fn next_samples<D: Desk>(
-    encoder: &mut ImageEncoder<'_>,
-    taken: u64,
-    buffer: &mut [u8; 16384],
-    desk: &mut D,
-) -> Result<u64, Why>
+// The encoder, given the samples that are left.
+fn feed_rest<'a, D: Desk>(sink: SamplesSink<'a>, desk: &mut D) -> Result<ImageEncoder<'a>, Why>
     requires open { (D.state desk.old).input_open ≡ true }
-    requires within { taken ≤ 1099511627776 }
-    requires given { AreGiven encoder.old taken (D.state desk.old) }
-    ensures kept { OnlyReads (D.state desk.old) (D.state desk.new) }
-    ensures goes_on { IfOk result (λ n. ((D.state desk.new).input_open ≡ true) × (1 ≤ n) × (taken + n ≤ 1099511627776)) }
-    ensures fed { FeedsNext encoder.old taken (D.state desk.old) result encoder.new (D.state desk.new) }
+    requires given { AreSomeGiven sink (D.state desk.old) }
+    ensures { FeedsRest sink.entry (D.state desk.old) result (D.state desk.new) }
 {
-    let most = Limits::standard().input;
-    let room = most - taken;
-    if room == 0 {
-        return Err(refused(Fault::InputTooLong, most));
+    let mut sink = sink;
+    match pump_on(desk, sink.taken, &mut sink) {
+        Ok(_) => {
+            let SamplesSink { encoder, .. } = sink;
+            Ok(encoder)
+        }
+        Err(why) => Err(why),
     }
-    match read_within(desk, room, buffer) {
-        Got::Failed => Err(Why::ReadFault(Which::Input)),
-        Got::End => Err(refused(Fault::ImageShort, taken)),
-        Got::Bytes(count) => match feed_piece(encoder, &buffer[..count as usize]) {
-            Ok(()) => Ok(u64::from(count)),
-            Err(_) => Err(Why::NoMemory),
-        },
+}
+
+// What takes the samples of an image, and after how many bytes of its file.
+#[derive(Drop)]
+struct SamplesSink<'a> {
+    encoder: ImageEncoder<'a>,
+    taken: u64,
+}
+
+impl<'a, D: Desk> PieceSink<D> for SamplesSink<'a> {
+    ghost kind = { of_reader samples_reader };
+
+    fn most(&self) -> u64 {
+        Limits::standard().input
+    }
+
+    fn feed(&mut self, piece: &[u8], _desk: &mut D) -> Result<bool, Why> {
+        take_samples(self, piece)
+    }
+
+    fn end(&mut self, _desk: &mut D) -> Result<Option<u64>, Why> {
+        Err(refused(Fault::ImageShort, self.taken))
+    }
+}
+
+// Takes the samples of a piece. Returns whether all were given.
+fn take_samples(sink: &mut SamplesSink<'_>, piece: &[u8]) -> Result<bool, Why>
+    requires fed { (from : Encoder) × (bytes : List ℕ) × AreGiven from bytes sink.old × (length (bytes ++ piece.now) ≤ standard_limits.input) }
+    requires few { length piece.now ≤ 16384 }
+    ensures { TakesPiece samples_reader sink.old piece.now result sink.new }
+{
+    match feed_piece(&mut sink.encoder, piece) {
+        Err(_) => Err(Why::NoMemory),
+        Ok(()) => {
+            sink.taken += piece.len() as u64;
+            are_all(sink)
+        }
     }
 }
 
@@ -436,6 +431,20 @@ fn feed_piece(encoder: &mut ImageEncoder<'_>, piece: &[u8]) -> Result<(), NoMemo
 {
     let few = encoder.left().min(piece.len());
     encoder.feed(&piece[..few])
+}
+
+// Whether all samples were given. If some are left, and as many bytes were taken as may be, that is a fault.
+fn are_all(sink: &SamplesSink<'_>) -> Result<bool, Why>
+    ensures { AreAll sink.now result }
+{
+    if sink.encoder.left() == 0 {
+        return Ok(true);
+    }
+    let most = Limits::standard().input;
+    if sink.taken == most {
+        return Err(refused(Fault::InputTooLong, most));
+    }
+    Ok(false)
 }
 
 // The fault of the bytes so far, at their number.

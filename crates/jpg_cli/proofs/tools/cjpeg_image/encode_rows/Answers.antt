@@ -18,19 +18,21 @@ rows_data-requires-clause-goes g c =
           (ap (λ (t : TableSet). row_scan due.head t due.interval) c.new-encoders.ensures ∙ ap (λ (s : SoleScan). row_scan (s.due).head s.tables (s.due).interval) c.as_ref-scan.ensures) r.3,
     )
 
-pub returns-in-Err-clause-ended : goal.returns-in-Err-clause-ended
-returns-in-Err-clause-ended g c = λ E start bytes h.
+pub returns-in-Err : goal.returns-in-Err
+returns-in-Err g c = λ E start bytes h.
     let due = c.as_ref-scan.result.now.due in
-    none_encoded false E start (g.D.Desk.state c.rows_data.new.desk) c.in-Err.why
-    (c.in-Err.ensures.ended E (scan_of c.args.file) start bytes (rows_go (row_scan due.head c.new-encoders.result due.interval) c.new-rows.result c.new-rows.ensures.begins
-    (ap (λ (t : TableSet). row_scan due.head t due.interval) c.new-encoders.ensures ∙ ap (λ (s : SoleScan). row_scan (s.due).head s.tables (s.due).interval) c.as_ref-scan.ensures) h))
+    let r =
+    c.in-Err.ensures E (scan_of c.args.file) start bytes (rows_go (row_scan due.head c.new-encoders.result due.interval) c.new-rows.result c.new-rows.ensures.begins
+    (ap (λ (t : TableSet). row_scan due.head t due.interval) c.new-encoders.ensures ∙ ap (λ (s : SoleScan). row_scan (s.due).head s.tables (s.due).interval) c.as_ref-scan.ensures) h) in
+    (r.0, none_encoded false E start (g.D.Desk.state c.rows_data.new.desk) c.in-Err.why r.1)
 
-pub returns-in-Ok-rows_data-clause-ended : goal.returns-in-Ok-rows_data-clause-ended
-returns-in-Ok-rows_data-clause-ended g c = λ E start bytes h.
+pub returns-in-Ok-rows_data : goal.returns-in-Ok-rows_data
+returns-in-Ok-rows_data g c = λ E start bytes h.
     let due = c.as_ref-scan.result.now.due in
-    rows_encoded h c.in-Ok-rows_data.bytes
-    (c.in-Ok-rows_data.ensures.ended E (scan_of c.args.file) start bytes (rows_go (row_scan due.head c.new-encoders.result due.interval) c.new-rows.result c.new-rows.ensures.begins
-    (ap (λ (t : TableSet). row_scan due.head t due.interval) c.new-encoders.ensures ∙ ap (λ (s : SoleScan). row_scan (s.due).head s.tables (s.due).interval) c.as_ref-scan.ensures) h))
+    let r =
+    c.in-Ok-rows_data.ensures E (scan_of c.args.file) start bytes (rows_go (row_scan due.head c.new-encoders.result due.interval) c.new-rows.result c.new-rows.ensures.begins
+    (ap (λ (t : TableSet). row_scan due.head t due.interval) c.new-encoders.ensures ∙ ap (λ (s : SoleScan). row_scan (s.due).head s.tables (s.due).interval) c.as_ref-scan.ensures) h) in
+    (r.0, rows_encoded h c.in-Ok-rows_data.bytes r.1)
 
-pub returns-in_default-clause-ended : goal.returns-in_default-clause-ended
-returns-in_default-clause-ended g c = λ E start bytes h. begun_unheld h.goes
+pub returns-in_default : goal.returns-in_default
+returns-in_default g c = λ E start bytes h. begun_unheld h.goes

@@ -1,9 +1,15 @@
 use Rattle.jpg_cli.proofs.Encoding.EncodedRead.{begun_given, begun_unheld}
 use Rattle.jpg_cli.proofs.tools.cjpeg_image.feed_all.Goals as goal
 
-pub returns-in-Err-clause-fed : goal.returns-in-Err-clause-fed
-returns-in-Err-clause-fed g c = λ E w start bytes h. begun_unheld h
+pub returns-in-Err : goal.returns-in-Err
+returns-in-Err g c = λ E w start bytes h. begun_unheld h
 
-pub returns-in-Ok-clause-fed : goal.returns-in-Ok-clause-fed
-returns-in-Ok-clause-fed g c = λ E w start bytes h.
-    c.feed_rest.ensures.fed w (h.begun).info (h.begun).asked start bytes c.samples.result.now (begun_given h c.samples.ensures c.taken.ensures c.in-Ok.ensures.adds)
+pub feed_rest-requires-clause-given : goal.feed_rest-requires-clause-given
+feed_rest-requires-clause-given g c =
+    let r = c.requires.goes in
+    (c.args.encoder, r.2, r.3, begun_given r.4 c.samples.ensures c.taken-taken.ensures c.in-Ok.ensures.adds)
+
+pub returns : goal.returns
+returns g c = λ E w start bytes h.
+    let b = h.begun in
+    c.feed_rest.ensures c.args.encoder start bytes (begun_given h c.samples.ensures c.taken-taken.ensures c.in-Ok.ensures.adds) w b.info b.asked b.sampled
