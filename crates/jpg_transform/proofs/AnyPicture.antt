@@ -29,7 +29,7 @@ use Rattle.jpg_file.specs.Read.PictureRead.{picture_meaning}
 use Rattle.jpg_file.specs.Read.StripHead.{IsHeadOfPicture, bare_picture}
 use Rattle.jpg_file.specs.declared.read.picture.Picture.{Picture}
 use Rattle.jpg_file.specs.declared.read.strip_head.StripHead.{StripHead}
-use Rattle.jpg_file.proofs.ByRow.RowsRange.{block_in_range}
+use Rattle.jpg_file.proofs.ByRow.RowsGiven.{block_in_range}
 use Rattle.jpg_transform.specs.Planned.{IsHeadOf}
 use Rattle.jpg_spec_move.proofs.OutsideZeros.{real_true}
 use Rattle.jpg_transform.proofs.MovedFile.{place_real}
