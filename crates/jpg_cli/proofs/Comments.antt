@@ -4,4 +4,5 @@ pub mod CommentsPrinted
 pub mod CommentsRead
 pub mod HeadTaken
 pub mod InsertedCopied
+pub mod InsertedPieces
 pub mod InsertedThen

@@ -1,17 +1,15 @@
 -- What inserting a comment does, over the states of a desk.
-use Rattle.std.proofs.Common.{◌⊎◌, ◌≡◌, ℕ, ◌<◌, ◌≤◌, ◌-◌, ◌^◌, Bool, false, IfNone, List, [], ◌∷◌, ◌++◌, length, take, Option, None, Some, Ok, Err, refl, sym, ap, ◌∙◌, subst, arith, inl, inr}
+use Rattle.std.proofs.Common.{◌⊎◌, ◌≡◌, ℕ, ◌<◌, ◌≤◌, Bool, true, false, List, [], ◌∷◌, ◌++◌, length, take, Option, None, Some, Result, Ok, Err, refl, sym, ap, ◌∙◌, subst, arith, inl, inr}
 use Rattle.std.proofs.lemmas.List.{append-nil, length-append, length-take, take_all, take-append-le}
 use Rattle.std.specs.Io.KnownBytes.{Consumes}
-use Rattle.std.specs.Option.{unwrap_or}
 use Rattle.jpg_base.specs.declared.names.Name.{Name}
 use Rattle.jpg_base.specs.declared.names.Name.TheVariants as name
 use Rattle.jpg_base.specs.declared.names.Put.{Put}
 use Rattle.jpg_base.specs.declared.names.Put.TheVariants as put
-use Rattle.jpg_base.specs.Desk.{AddsOutput, AfterWrite, AppendsLast, Creates, DeskState, Opens, OpensFile}
-use Rattle.jpg_base.specs.Laws.{Consumes-then, Grows-from, NoneFell-then, NotesNames}
+use Rattle.jpg_base.specs.Desk.{AddsOutput, AfterWrite, AppendsLast, Creates, DeskState, Opens, OpensFile, Rose}
+use Rattle.jpg_base.specs.Laws.{AppendsPart-then, Consumes-then, Grows-from, NoneFell-then, NotesNames}
 use Rattle.jpg_huff.specs.Out.{OnlyWrites}
 use Rattle.jpg_spec.specs.Segments.{standard_limits}
-use Rattle.jpg_markers.specs.Reading.{reading_of}
 use Rattle.jpg_spec_words.specs.CommentWords.{CommentSource, from_input, from_words, from_file, is_given}
 use Rattle.jpg_spec.specs.declared.fault.Fault.{Fault}
 use Rattle.jpg_spec.specs.declared.fault.Fault.TheVariants.{CommentTooLong}
@@ -19,21 +17,24 @@ use Rattle.jpg_spec.specs.declared.fault.FaultAt.{FaultAt}
 use Rattle.jpg_spec_words.specs.declared.answers.Why.{Why}
 use Rattle.jpg_spec_words.specs.declared.answers.Why.TheVariants as why
 use Rattle.jpg_spec_words.specs.declared.answers.Which.TheVariants as which
-use Rattle.jpg_comments.specs.WriteInserted.{HasInserted, StandsAt}
+use Rattle.jpg_comments.specs.WriteInserted.{HasInserted}
 use Rattle.jpg_comments.specs.declared.insert.Insert.{Insert}
-use Rattle.jpg_cli.specs.Tools.CommentInserted.{AfterFrameMarker, Inserted, IsOutOfMemory, IsComment, IsCommentRead, IsReading, IsShortComment, IsWriting, ReadsAlone, ReadsComment, ReadsInput, ReadsLast, Task, names_of, names_to_input, names_to_output}
-use Rattle.jpg_cli.specs.Copies.{Copies, CopiesText, HasCopied}
+use Rattle.jpg_cli.specs.Tools.CommentInserted.{HoldsFor, Inserted, IsOutOfMemory, IsComment, IsCommentRead, IsReading, IsShortComment, IsWriting, ReadsAlone, ReadsComment, ReadsInput, ReadsLast, Task, names_of, names_to_input, names_to_output}
+use Rattle.jpg_cli.specs.Copies.{Copies, HasCopied}
 use Rattle.jpg_desk.specs.Endings.{Asks, Copied, Stopped, Unopened, Unread}
-use Rattle.jpg_cli.proofs.Outcomes.Copies.{texts_from}
 use Rattle.jpg_desk.proofs.Endings.{asks_next, asks_still}
 use Rattle.jpg_desk.specs.CommentTaken.{AfterComment, AfterWords}
 use Rattle.jpg_desk.specs.FileTaken.{AfterFile}
-use Rattle.jpg_cli.specs.Tools.InsertComment.{AfterFed, EndsBefore, EndsInserting, IsAtHead, IsBeforeHead, IsBegunWith, IsFaultBefore, IsFileLess, IsFilePart, IsLongFile, IsNoHead, inserted_texts}
+use Rattle.jpg_cli.specs.Tools.InsertComment.{AfterAll, AfterFed, AfterText, EndsBefore, IsAtHead, IsBeforeHead, IsBegunWith, IsFaultBefore, IsFileLess, IsFilePart, IsInsertedWhole, IsLongFile, IsNoHead, WritesRest, inserted_texts}
 use Rattle.jpg_desk.specs.Stays.{Keeps, OnlyCopies, OnlyReads, Untouched}
 use Rattle.jpg_desk.specs.Reading.{IsFile, ReadsPart, rest_of}
 use Rattle.jpg_desk.proofs.Input.{file_read}
-use Rattle.jpg_desk.proofs.PiecesRead.{had_told, none_read}
-use Rattle.jpg_cli.proofs.Comments.InsertedCopied.{file_less, fed_part, fed_short, file_part, long_file, not_none, part_of_part, stands}
+use Rattle.jpg_desk.proofs.PiecesRead.{copies_then, had_told, left_still, none_read, outputs_still}
+use Rattle.jpg_desk.specs.Pump.{ReadsPiece, ended_as}
+use Rattle.jpg_comments.specs.SegmentsSoFar.{Appends}
+use Rattle.jpg_spec_write.specs.CommentText.{IsInserted}
+use Rattle.jpg_cli.proofs.Comments.CommentsCopied.{copied, copied_still, text_added, writes_copy}
+use Rattle.jpg_cli.proofs.Comments.InsertedCopied.{file_less, fed_part, fed_short, file_part, inserted_so_far, long_file, not_none, part_of_part}
 
 -- READING
 
@@ -101,47 +102,57 @@ with_output : {task : Task} {comment bytes text : List ℕ} {old now s : DeskSta
     → Inserted task old ended now
 with_output {comment} ended w h = inr (record { comment = comment; source = w.source; copied = h })
 
--- AT THE MARKER of the frame header
+-- A PIECE was taken, and its text written
 
-due_first : {task : Task} {comment bytes text : List ℕ} {old now : DeskState} (due : Option Why) (c : Insert) → 0 < length text → AfterFed comment task.replace bytes text due c → IsWriting task comment bytes text old now → AfterFrameMarker task comment old due c now
-due_first {bytes} {text} None c some h w = (bytes, text, some, h, w)
-due_first {text} (Some (why.Refused f)) c some (of, inl (none, faults)) w = absurd (not_none text none some)
-due_first {task} {comment} {bytes} {text} {now} (Some (why.Refused f)) c some (of, inr (long, is)) w =
-    with_output (why.Refused f) w (copied_with (IsLongFile comment task.replace f (rest_of now.left)) w (long_file comment bytes text (rest_of now.left) task.replace f of long is))
-due_first {task} {comment} {bytes} {text} (Some why.NoMemory) c some h w = with_output why.NoMemory w (copied_with (IsFileLess comment task.replace) w (file_less comment bytes text task.replace some h))
-due_first other c some h w = absurd h
+abbrev pub AfterDue : Task → List ℕ → List ℕ → DeskState → Result Bool Why → Insert → DeskState → Type 0
+AfterDue task comment bytes old (Ok false) c now = HoldsFor true task comment bytes old c now
+AfterDue task comment bytes old (Ok true) c now = ⊥
+AfterDue task comment bytes old (Err w) c now = Inserted task old w now
 
-pub first_uncreated : (task : Task) (comment bytes : List ℕ) (old s0 s1 : DeskState) (output : Name) → task.output ≡ output → IsAtHead bytes → IsReading task comment bytes old s0 → Creates s0 output put.Failed s1 → Inserted task old (why.OpenFault which.Output) s1
-first_uncreated task comment bytes old s0 s1 output e at r k = inl (uncreated at r (subst (λ (n : Name). Creates s0 n put.Failed s1) (sym e) k))
+module _ {task : Task} {comment bytes : List ℕ} {old : DeskState} (text : List ℕ) (due : Result Bool Why) (c : Insert) (some : 0 < length text) (h : AfterFed comment task.replace bytes text due c) where
+  pub all_written : {now : DeskState} → IsWriting task comment bytes text old now → AfterDue task comment bytes old due c now
+  all_written {now} w = by due h
+    where
+      by : (due : Result Bool Why) → AfterFed comment task.replace bytes text due c → AfterDue task comment bytes old due c now
+      by (Ok false) h = (text, some, h, w)
+      by (Ok true) h = h
+      by (Err (why.Refused f)) (of, inl (none, faults)) = absurd (not_none text none some)
+      by (Err (why.Refused f)) (of, inr (long, is)) = with_output (why.Refused f) w (copied_with (IsLongFile comment task.replace f (rest_of now.left)) w (long_file comment bytes text (rest_of now.left) task.replace f of long is))
+      by (Err why.NoMemory) h = with_output why.NoMemory w (copied_with (IsFileLess comment task.replace) w (file_less comment bytes text task.replace some h))
+      by (Err other) h = absurd h
 
-module _ (task : Task) (comment bytes text : List ℕ) (old s0 s1 s2 : DeskState) where
-  pub first_written : (output : Name) (due : Option Why) (c : Insert) → task.output ≡ output → 0 < length text → IsReading task comment bytes old s0 → AfterFed comment task.replace bytes text due c
-      → Creates s0 output put.Done s1 → OnlyWrites s1 s2 → AfterWrite s1 text put.Done s2 → AfterFrameMarker task comment old due c s2
-  first_written output due c e some r h k w appended =
-      due_first due c some h (written_first text r (subst (λ (n : Name). Creates s0 n put.Done s1) (sym e) k) w appended)
+  -- only a part of it was
+  pub part_written : {now : DeskState} (n : ℕ) → c.limits ≡ standard_limits → c.replace ≡ task.replace → IsWriting task comment bytes (take n text) old now → Rose old.counts.writes now.counts.writes → Inserted task old why.WriteFault now
+  part_written n limits same w rose =
+      with_output why.WriteFault w (copied_with (IsFilePart comment task.replace) w (part_of_part comment bytes text task.replace n (file_part comment bytes text task.replace some (fed_part comment bytes text task.replace due c limits same h))), rose)
 
-  pub first_unwritten : (output : Name) (due : Option Why) (c : Insert) → task.output ≡ output → 0 < length text → c.limits ≡ standard_limits → c.replace ≡ task.replace → IsReading task comment bytes old s0
-      → AfterFed comment task.replace bytes text due c → Creates s0 output put.Done s1 → OnlyWrites s1 s2 → AfterWrite s1 text put.Failed s2 → Inserted task old why.WriteFault s2
-  first_unwritten output due c e some limits same r h k w (rose, (n, part)) =
-      let written = written_first (take n text) r (subst (λ (m : Name). Creates s0 m put.Done s1) (sym e) k) w part in
-      with_output why.WriteFault written (
-        copied_with (IsFilePart comment task.replace) written (part_of_part comment bytes text task.replace n (file_part comment bytes text task.replace some (fed_part comment bytes text task.replace due c limits same h))),
-        (let f = r.counts.writes in let g = k.counts.writes in omega (arith, rose, f, g)),
-      )
+-- the first one, for which the output was created; or it wasn't
+pub first_uncreated : {task : Task} {comment bytes : List ℕ} {old s0 s1 : DeskState} → IsAtHead bytes → IsReading task comment bytes old s0 → Creates s0 task.output put.Failed s1 → Inserted task old (why.OpenFault which.Output) s1
+first_uncreated at r k = inl (uncreated at r k)
 
--- AFTER IT
+pub first_due : {task : Task} {comment bytes : List ℕ} {old s0 now s1 : DeskState} (text : List ℕ) (due : Result Bool Why) (c : Insert) → 0 < length text → IsReading task comment bytes old s0 → AfterFed comment task.replace bytes text due c → (answer : Result Bool Why) (out : List ℕ) → c.limits ≡ standard_limits → c.replace ≡ task.replace
+    → Creates s0 task.output put.Done now → WritesRest due text now answer out s1 → AfterDue task comment bytes old answer c s1
+first_due {task} {comment} {bytes} {old} {s0} {now} {s1} text due c some r h answer out limits same k w = by w.wrote w.after
+  where
+    by : (wrote : Put) → AfterText due text now wrote answer s1 → AfterDue task comment bytes old answer c s1
+    by put.Done (is, written) = subst (λ (a : Result Bool Why). AfterDue task comment bytes old a c s1) (sym is) (all_written text due c some h (written_first text r k w.only written))
+    by put.Failed (is, (rose, (n, part))) =
+        subst (λ (a : Result Bool Why). AfterDue task comment bytes old a c s1) (sym is)
+        (part_written text due c some h n limits same (written_first (take n text) r k w.only part) (let f = r.counts.writes in let g = k.counts.writes in omega (arith, rose, f, g)))
+
+-- and later ones
 
 -- the desk as it would be if its output were known from its creation and its input from its opening
-abbrev pub begun : {task : Task} {comment bytes text : List ℕ} {old now : DeskState} → IsWriting task comment bytes text old now → DeskState
+abbrev begun : {task : Task} {comment bytes text : List ℕ} {old now : DeskState} → IsWriting task comment bytes text old now → DeskState
 begun {now} w = had_told w.left w.created now
 
-pub copied_begun : {task : Task} {comment bytes text : List ℕ} {old now : DeskState} (w : IsWriting task comment bytes text old now) → HasCopied (begun w) bytes text now
-copied_begun w = record { most = w.most; read = w.read; written = w.written }
+module _ {task : Task} {comment bytes text : List ℕ} {old s0 : DeskState} (w : IsWriting task comment bytes text old s0) where
+  copied_begun : HasCopied (begun w) bytes text s0
+  copied_begun = record { most = w.most; read = w.read; written = w.written }
 
-module _ {task : Task} {comment bytes text : List ℕ} {old s0 s1 : DeskState} where
   -- more bytes were read, and their text written
-  pub writing_more : {more all : List ℕ} (w : IsWriting task comment bytes text old s0) → OnlyCopies s0 s1 → HasCopied (begun w) more all s1 → IsWriting task comment more all old s1
-  writing_more w k h = record {
+  writing_more : {more all : List ℕ} {s1 : DeskState} → OnlyCopies s0 s1 → HasCopied (begun w) more all s1 → IsWriting task comment more all old s1
+  writing_more {s1 = s1} k h = record {
     left = w.left;
     created = w.created;
     names = asks_still old s0 s1 (names_to_output task) put.Done k.asked w.names;
@@ -154,10 +165,48 @@ module _ {task : Task} {comment bytes text : List ℕ} {old s0 s1 : DeskState} w
     counts = NoneFell-then old.counts s0.counts s1.counts w.counts k.works.stays.counts;
   }
 
-  -- why the writing ended
-  pub ends : (w : IsWriting task comment bytes text old s0) (ended : Why) → OnlyCopies s0 s1 → EndsInserting comment task.replace (begun w) ended s1 → Inserted task old ended s1
-  ends w ended k h =
-      with_output ended w (texts_from (inserted_texts comment task.replace) CopiesText (Copied (names_of task.comment) task.input task.output) old (begun w) s1 w.counts (λ Is c. copied_with Is (writing_more w k c.2) c.3) ended h)
+  -- nothing was read or written
+  pub writing_still : {s1 : DeskState} → OnlyReads s0 s1 → s1.left ≡ s0.left → IsWriting task comment bytes text old s1
+  writing_still {s1} k left = writing_more k.copies (copied_still (begun w) s0 s1 bytes text copied_begun left k.outputs)
+
+  module _ {piece : List ℕ} {s1 s2 : DeskState} (due : Result Bool Why) (c : Insert) (reads : ReadsPiece s0 piece s1) (most : length (bytes ++ piece) ≤ standard_limits.input) where
+    pub later_due : (answer : Result Bool Why) (had out left : List ℕ) → c.limits ≡ standard_limits → c.replace ≡ task.replace → had ≡ [] → 0 < length text → Appends (λ all. AfterFed comment task.replace (bytes ++ piece) all due c) text had out → WritesRest due out s1 answer left s2
+        → AfterDue task comment (bytes ++ piece) old answer c s2
+    later_due answer had out left limits same empty some (more, is, h) wrote = by wrote.wrote wrote.after
+      where
+        added : more ≡ out
+        added = text_added had out more empty is
+
+        longer : 0 < length (text ++ more)
+        longer = omega (arith, some, length-append text more)
+
+        kept : OnlyCopies s0 s2
+        kept = copies_then reads.kept.copies (writes_copy wrote.only)
+
+        by : (put : Put) → AfterText due out s1 put answer s2 → AfterDue task comment (bytes ++ piece) old answer c s2
+        by put.Done (e, written) =
+            subst (λ (a : Result Bool Why). AfterDue task comment (bytes ++ piece) old a c s2) (sym e)
+            (all_written (text ++ more) due c longer h (writing_more kept (copied piece more most copied_begun reads.read reads.kept.outputs wrote.only (subst (λ (m : List ℕ). AppendsLast s1.outputs m s2.outputs) (sym added) written))))
+        by put.Failed (e, unwritten) =
+            let w1 = subst (λ (m : List ℕ). AfterWrite s1 m put.Failed s2) (sym added) unwritten in
+            let rose = w1.0 in
+            let part = AppendsPart-then w.created s1.outputs s2.outputs text more (outputs_still s0 s1 text (begun w) reads.kept.outputs w.written) w1.1 in
+            let read = left_still s1 s2 (bytes ++ piece) (begun w) wrote.only.left (Consumes-then w.left s0.left s1.left bytes piece w.read reads.read) in
+            subst (λ (a : Result Bool Why). AfterDue task comment (bytes ++ piece) old a c s2) (sym e)
+            (part_written (text ++ more) due c longer h part.0 limits same (writing_more kept (record { most = most; read = read; written = part.1 })) (let f = w.counts.writes in let g = reads.kept.copies.works.stays.counts.writes in omega (arith, rose, f, g)))
+
+  -- where the input ends, or a read failed
+  pub rest_ends : (answer : Result (Option ℕ) Why) → 0 < length text → rest_of s0.left ≡ [] → AfterAll comment task.replace bytes text answer → Inserted task old (ended_as answer) s0
+  rest_ends (Ok None) some none h = with_output why.Done w (copied_with (λ all written. (rest_of s0.left ≡ []) × IsInsertedWhole comment task.replace all written) w (none, h))
+  rest_ends (Ok (Some n)) some none h = absurd h
+  rest_ends (Err (why.Refused f)) some none h = absurd (not_none text h.1 some)
+  rest_ends (Err other) some none h = absurd h
+
+  pub rest_unread : (c : Insert) → c.limits ≡ standard_limits → c.replace ≡ task.replace → 0 < length text → HasInserted comment bytes text c → Rose old.counts.reads s0.counts.reads → Inserted task old (why.ReadFault which.Input) s0
+  rest_unread c limits same some h rose = with_output (why.ReadFault which.Input) w (
+    copied_with (IsInsertedWhole comment task.replace) w (subst (λ (b : Bool). IsInserted standard_limits bytes comment b text) same (inserted_so_far comment bytes text c limits some h), fed_short comment bytes text c limits h),
+    rose,
+  )
 
 -- WHERE NOTHING IS WRITTEN
 
@@ -199,41 +248,6 @@ ended_before (why.ReadFault which.Input) r k (same, nothing, rose) = inl (
 )
 ended_before why.NoMemory r k (piece, more, most, before) = inl (out_of_memory before (reading_more piece most r k more))
 ended_before other r k h = absurd h
-
--- THE LOOPS
-
-pub fed_most : (comment bytes text : List ℕ) (c : Insert) → c.limits ≡ standard_limits → HasInserted comment bytes text c → length bytes ≤ standard_limits.input
-fed_most comment bytes text c e h = (let short = fed_short comment bytes text c e h in omega (arith, short))
-
--- if the first text was written, more may follow
-pub more_begun : (result due : Option Why) (replace : Bool) (comment bytes text : List ℕ) (c : Insert) → IfNone result (due ≡ None) → 0 < length text → AfterFed comment replace bytes text due c
-    → IfNone result ((with : List ℕ) × (all : List ℕ) × (written : List ℕ) × (0 < length written) × HasInserted with all written c)
-more_begun None due replace comment bytes text c none some h = (comment, bytes, text, some, subst (λ (d : Option Why). AfterFed comment replace bytes text d c) none h)
-more_begun (Some w) due replace comment bytes text c none some h = tt
-
--- the number of bytes taken after the marker
-pub taken_after : (comment bytes text : List ℕ) (c : Insert) → c.limits ≡ standard_limits → 0 < length text → HasInserted comment bytes text c → (unwrap_or c.taken 0 ≡ length bytes) × (length bytes < standard_limits.input)
-taken_after comment bytes text c e some h = (by c.taken (stands comment bytes text c e h), fed_short comment bytes text c e h)
-  where
-    by : (taken : Option ℕ) → StandsAt standard_limits comment c.replace bytes text taken c.head (reading_of c.reader) → unwrap_or taken 0 ≡ length bytes
-    by None s = absurd (not_none text s.1 some)
-    by (Some taken) s = s.0
-
--- a desk of which nothing is known
-abbrev pub blank : DeskState → DeskState
-blank s = had_told None None s
-
-pub blank_copied : (s : DeskState) (bytes text : List ℕ) → length bytes < standard_limits.input → HasCopied (blank s) bytes text s
-blank_copied s bytes text short = record { most = omega (arith, short); read = tt; written = tt }
-
--- each piece reduces the number of bytes that may follow
-pub fewer : (comment bytes piece text all : List ℕ) (was c : Insert) → was.limits ≡ standard_limits → c.limits ≡ standard_limits → 0 < length text → 0 < length all → 0 < length piece → HasInserted comment bytes text was → HasInserted comment (bytes ++ piece) all c
-    → 2 ^ 40 - unwrap_or c.taken 0 < 2 ^ 40 - unwrap_or was.taken 0
-fewer comment bytes piece text all was c e f some more longer h k =
-    let a = taken_after comment bytes text was e some h in
-    let b = taken_after comment (bytes ++ piece) all c f more k in
-    let before = a.0 in let after = b.0 in let room = b.1 in
-    omega (arith, before, after, room, longer, length-append bytes piece)
 
 -- THE COMMENT
 

@@ -1,5 +1,5 @@
 -- What reading pieces and writing the text of their comments does, over the states of a desk.
-use Rattle.std.proofs.Common.{◌≡◌, ℕ, ◌+◌, ◌==◌, Bool, true, ◌<◌, ◌≤◌, List, [], ◌++◌, length, take, Option, None, Some, refl, sym, ap, ◌∙◌, subst, arith}
+use Rattle.std.proofs.Common.{◌≡◌, ℕ, ◌+◌, Bool, true, false, ◌<◌, ◌≤◌, List, [], ◌++◌, length, take, Option, None, Some, Result, Ok, Err, refl, sym, ap, ◌∙◌, subst, arith, inl, inr}
 use Rattle.std.proofs.lemmas.List.{length-append, length-take}
 use Rattle.std.specs.Io.KnownBytes.{Consumes, IsAtEnd}
 use Rattle.jpg_base.specs.declared.names.Name.{Name}
@@ -16,15 +16,16 @@ use Rattle.jpg_spec_words.specs.declared.answers.Which.TheVariants as which
 use Rattle.jpg_comments.specs.SegmentsSoFar.{Appends}
 use Rattle.jpg_comments.specs.ReadComments.{HasRead}
 use Rattle.jpg_comments.specs.declared.comments.Comments.{Comments}
+use Rattle.jpg_desk.specs.Pump.{AfterFeed, BeforeEnd, BeforePiece, EndsAll, IsFed}
 use Rattle.jpg_desk.specs.Reading.{rest_of}
-use Rattle.jpg_cli.specs.Tools.ReadComments.{AfterEnd, AfterNext, AfterTaking, EndsCopying, IsFaultText}
+use Rattle.jpg_cli.specs.Tools.ReadComments.{AfterEnd, AfterTaking, EndsCopying, EndsPrinting, IsFaultText, IsPrinting, TakesPiece, print_kind}
+use Rattle.jpg_cli.specs.declared.tools.rdjpgcom.PrintSink.{PrintSink}
 use Rattle.jpg_cli.specs.Copies.{HasCopied}
 use Rattle.jpg_desk.specs.Stays.{OnlyCopies, OnlyWorks}
 use Rattle.jpg_desk.proofs.Input.{none_left}
-use Rattle.jpg_desk.proofs.PiecesRead.{left_still, outputs_still, some_taken, within_most}
+use Rattle.jpg_desk.proofs.PiecesRead.{copies_none, copies_then, left_still, none_read, outputs_still, within_most}
 use Rattle.jpg_cli.proofs.Comments.CommentsRead.{part_of_part, taken_part, text_so_far}
 use Rattle.jpg_huff.proofs.Emitted.{append_last-nil}
-use Rattle.jpg_dct.proofs.TableFronts.{none_of}
 
 -- NOTHING WRITTEN
 
@@ -47,17 +48,9 @@ copied {start} {s0} {s1} {s2} {bytes} {text} piece more most h read same k w = r
 pub copied_still : (start s0 s1 : DeskState) (bytes text : List ℕ) → HasCopied start bytes text s0 → s1.left ≡ s0.left → s1.outputs ≡ s0.outputs → HasCopied start bytes text s1
 copied_still start s0 s1 bytes text h left outputs = record { most = h.most; read = left_still s0 s1 bytes start left h.read; written = outputs_still s0 s1 text start outputs h.written }
 
--- all was written: the result of the piece is that of the desk
-pub next_due : (start s2 : DeskState) (bytes text piece all : List ℕ) (due : Option Why) (c : Comments) → 0 < length piece → AfterTaking (bytes ++ piece) all due c → HasCopied start (bytes ++ piece) all s2 → AfterNext start bytes due c s2
-next_due start s2 bytes text piece all None c some h k = (piece, all, some, h, k)
-next_due start s2 bytes text piece all (Some why.Done) c some h k = (bytes ++ piece, all, k, h)
-next_due start s2 bytes text piece all (Some (why.Refused f)) c some h k = (bytes ++ piece, all, k, h (rest_of s2.left))
-next_due start s2 bytes text piece all (Some why.NoMemory) c some h k = (bytes ++ piece, all, k, h)
-next_due start s2 bytes text piece all other c some h k = absurd h
-
 module _ {start s0 s1 s2 : DeskState} {bytes text : List ℕ} where
   -- only a part was written
-  pub next_unwritten : (piece more : List ℕ) (due : Option Why) (c : Comments) → length (bytes ++ piece) ≤ standard_limits.input → c.limits ≡ standard_limits → OnlyCopies start s0 → NoneFell s0.counts s1.counts → AfterTaking (bytes ++ piece) (text ++ more) due c
+  pub next_unwritten : (piece more : List ℕ) (due : Result Bool Why) (c : Comments) → length (bytes ++ piece) ≤ standard_limits.input → c.limits ≡ standard_limits → OnlyCopies start s0 → NoneFell s0.counts s1.counts → AfterTaking (bytes ++ piece) (text ++ more) due c
       → HasCopied start bytes text s0 → Consumes s0.left s1.left piece → s1.outputs ≡ s0.outputs → OnlyWrites s1 s2 → AfterWrite s1 more put.Failed s2 → EndsCopying start why.WriteFault s2
   next_unwritten piece more due c most e still fell h had read same k w =
       let written = AppendsPart-then start.outputs s1.outputs s2.outputs text more (outputs_still s0 s1 text start same had.written) w.1 in
@@ -87,22 +80,64 @@ next_unread {start} {s0} s1 {bytes} {text} c e h still had rose left outputs = (
 pub text_added : (old out more : List ℕ) → old ≡ [] → out ≡ old ++ more → more ≡ out
 text_added old out more empty e = sym (e ∙ ap (λ (l : List ℕ). l ++ more) empty)
 
-module _ {start s0 s1 s2 : DeskState} {n : ℕ} {buf : List ℕ} where
-  pub next_taken : {bytes text old : List ℕ} (out : List ℕ) (due : Option Why) (c : Comments) → length (bytes ++ take n buf) ≤ standard_limits.input → old ≡ [] → Reads s0 (got.Bytes n) buf s1
-      → Appends (λ all. AfterTaking (bytes ++ take n buf) all due c) text old out → HasCopied start bytes text s0 → OnlyWrites s1 s2 → AfterWrite s1 out put.Done s2 → AfterNext start bytes due c s2
-  next_taken {bytes} {text} {old} out due c most empty r h had k w =
-      let written = subst (λ (m : List ℕ). AppendsLast s1.outputs m s2.outputs) (sym (text_added old out h.0 empty h.1)) w in
-      next_due start s2 bytes text (take n buf) (text ++ h.0) due c (some_taken n buf r.after.0 r.after.1) h.2 (copied (take n buf) h.0 most had r.after.2 r.outputs k written)
+pub writes_copy : {a b : DeskState} → OnlyWrites a b → OnlyCopies a b
+writes_copy h = record { works = record { stays = record { counts = h.counts; files = h.files }; said = h.said }; asked = h.asked; output_created = h.output_created }
 
-  pub next_failed : {bytes text old : List ℕ} (out : List ℕ) (due : Option Why) (c : Comments) → length (bytes ++ take n buf) ≤ standard_limits.input → c.limits ≡ standard_limits → old ≡ [] → Reads s0 (got.Bytes n) buf s1
-      → Appends (λ all. AfterTaking (bytes ++ take n buf) all due c) text old out → OnlyCopies start s0 → HasCopied start bytes text s0 → OnlyWrites s1 s2 → AfterWrite s1 out put.Failed s2 → EndsCopying start why.WriteFault s2
-  next_failed {old} out due c most e empty r h still had k w =
-      let written = subst (λ (m : List ℕ). AfterWrite s1 m put.Failed s2) (sym (text_added old out h.0 empty h.1)) w in
-      next_unwritten (take n buf) h.0 due c most e still r.counts h.2 had r.after.2 r.outputs k written
+module _ {from : PrintSink × DeskState} {bytes piece : List ℕ} {old : PrintSink} {s1 : DeskState} (b : BeforePiece PrintSink print_kind from bytes piece (old, s1)) (due : Result Bool Why) (out : List ℕ) (c : Comments) (limits : c.limits ≡ standard_limits)
+    (takes : TakesPiece old.comments piece old.out due out c) where
+  abbrev was : IsPrinting from bytes (old, b.desk)
+  was = b.fed.fed
 
-pub read_most : (bytes text buf : List ℕ) (n room : ℕ) (c : Comments) → c.limits ≡ standard_limits → HasRead bytes text c → room + length bytes ≡ c.limits.input → (1 ≤ room → n ≤ room) → length (bytes ++ take n buf) ≤ standard_limits.input
-read_most bytes text buf n room c e h left fits =
-    within_most bytes buf n room (left ∙ ap (λ (l : Limits). l.input) e) (subst (λ (l : Limits). length bytes < l.input) e h.2) fits
+  abbrev taken : Appends (λ all. AfterTaking (bytes ++ piece) all due c) was.text old.out out
+  taken = takes bytes was.text was.read
 
-pub no_text : (out slice : List ℕ) (empty : Bool) → slice ≡ out → empty ≡ (length slice == 0) → empty ≡ true → out ≡ []
-no_text out slice empty same is some = none_of out (grind (arith, same, is, some))
+  module _ {s2 : DeskState} (k : OnlyWrites s1 s2) where
+    kept : OnlyCopies from.1 s2
+    kept = copies_then (copies_then was.kept b.reads.kept.copies) (writes_copy k)
+
+    pub piece_printed : c.ready ≡ true → AfterWrite s1 out put.Done s2 → AfterFeed print_kind from (bytes ++ piece) due (record { comments = c; out = [] }, s2)
+    piece_printed ready w = by due taken.2
+      where
+        all : List ℕ
+        all = was.text ++ taken.0
+
+        has : HasCopied from.1 (bytes ++ piece) all s2
+        has = copied piece taken.0 b.most was.copied b.reads.read b.reads.kept.outputs k (subst (λ (m : List ℕ). AppendsLast s1.outputs m s2.outputs) (sym (text_added old.out out taken.0 was.empty taken.1)) w)
+
+        by : (due : Result Bool Why) → AfterTaking (bytes ++ piece) all due c → AfterFeed print_kind from (bytes ++ piece) due (record { comments = c; out = [] }, s2)
+        by (Ok false) h = (
+          record {
+            short = subst (λ (l : Limits). length (bytes ++ piece) < l.input) limits h.2;
+            fed = record { text = all; read = h; limits = limits; ready = ready; empty = refl; kept = kept; copied = has; created = k.output_created ∙ b.reads.kept.copies.output_created ∙ was.created };
+          },
+          k.input_open ∙ b.reads.opened,
+        )
+        by (Ok true) h = (kept, (bytes ++ piece, all, has, h))
+        by (Err (why.Refused f)) h = (kept, (bytes ++ piece, all, has, h (rest_of s2.left)))
+        by (Err why.NoMemory) h = (kept, (bytes ++ piece, all, has, h))
+        by (Err other) h = absurd h
+
+    pub piece_unprinted : AfterWrite s1 out put.Failed s2 → (now : PrintSink) → EndsPrinting from (Err why.WriteFault) (now, s2)
+    piece_unprinted w now =
+        let fell = b.reads.kept.copies.works.stays.counts in
+        (kept, next_unwritten piece taken.0 due c b.most limits was.kept fell taken.2 was.copied b.reads.read b.reads.kept.outputs k (subst (λ (m : List ℕ). AfterWrite s1 m put.Failed s2) (sym (text_added old.out out taken.0 was.empty taken.1)) w))
+
+-- where the input ends
+pub printing_ends : {from : PrintSink × DeskState} {bytes : List ℕ} {old : PrintSink} {s1 : DeskState} (new : PrintSink) (w : Why) → BeforeEnd PrintSink print_kind from bytes (old, s1) → ((bytes text : List ℕ) → HasRead bytes text old.comments → AfterEnd bytes text w) → EndsPrinting from (Err w) (new, s1)
+printing_ends {from} {bytes} {s1 = s1} new w b ends =
+    let h = b.fed.fed in
+    (copies_then h.kept b.ended.kept.copies, next_end s1 w h.copied b.ended.ended b.ended.left b.ended.kept.outputs (ends bytes h.text h.read))
+
+-- all of it
+pub printing_begun : (c : Comments) (out : List ℕ) (s : DeskState) → HasRead [] [] c → c.limits ≡ standard_limits → c.ready ≡ true → out ≡ [] → s.output_created ≡ true → (let sink : PrintSink = record { comments = c; out = out } in IsFed PrintSink print_kind (sink, s) [] (sink, s))
+printing_begun c out s h limits ready empty created = record {
+  short = omega arith;
+  fed = record { text = []; read = h; limits = limits; ready = ready; empty = empty; kept = copies_none s; copied = record { most = omega arith; read = none_read s.left; written = none_written s.outputs }; created = created };
+}
+
+pub all_printed : (from now : PrintSink × DeskState) (answer : Result (Option ℕ) Why) → EndsAll print_kind from answer now → EndsPrinting from answer now
+all_printed from now answer (inl h) = h
+all_printed from now answer (inr h) = subst (λ (a : Result (Option ℕ) Why). EndsPrinting from a now) (sym h.is) (
+  copies_then h.fed.fed.kept h.failed.kept.copies,
+  next_unread now.1 (now.0).comments h.fed.fed.limits h.fed.fed.read h.fed.fed.kept h.fed.fed.copied h.failed.rose h.failed.left h.failed.kept.outputs,
+)

@@ -1,5 +1,5 @@
 -- What the bytes read from a file mean for the comments that were printed.
-use Rattle.std.proofs.Common.{◌⊎◌, ◌≡◌, ℕ, zero, suc, ◌+◌, ◌<◌, ◌≤◌, List, [], ◌∷◌, ◌++◌, length, take, Option, None, Some, Err, true, refl, sym, ap, ◌∙◌, subst, arith, inl, inr}
+use Rattle.std.proofs.Common.{◌⊎◌, ◌≡◌, ℕ, zero, suc, ◌+◌, ◌<◌, ◌≤◌, List, [], ◌∷◌, ◌++◌, length, take, Bool, Result, Ok, Err, true, false, refl, sym, ap, ◌∙◌, subst, arith, inl, inr}
 use Rattle.std.proofs.lemmas.List.{append-nil, length-append, take_all, take-append-le}
 use Rattle.std.proofs.Math.Seq.{take-append-add}
 use Rattle.jpg_spec.proofs.Basics.Common.{clash}
@@ -18,7 +18,9 @@ use Rattle.jpg_comments.specs.ReadComments.{AfterFeed, HasRead, StopsAt}
 use Rattle.jpg_comments.specs.declared.comments.Comments.{Comments}
 use Rattle.jpg_markers.specs.Reading.{reading_of}
 use Rattle.jpg_comments.proofs.Taken.{begun, upto}
+use Rattle.jpg_base.specs.declared.stop.Stop.{Stop}
 use Rattle.jpg_base.specs.declared.stop.Stop.TheVariants as stop
+use Rattle.jpg_desk.specs.Pump.{why_stopped}
 use Rattle.jpg_cli.specs.Tools.ReadComments.{AfterEnd, AfterTaking, AreCompleteSegments, IsFaultText, IsTextLess, IsTextPart, IsTextSoFar, IsWholeText}
 
 -- PREFIXES
@@ -106,6 +108,11 @@ less_text bytes piece text c e ready (inr h) =
     let p = subst (λ (l : Limits). PrintsPart l (bytes ++ piece) text) e h in
     record { front = p.front; count = p.count; before = p.before; within = p.within; nothing = p.nothing; begun = p.begun; is = p.is; less = p.less }
 
+pub stop_text : (bytes piece had text : List ℕ) (end : Stop) (old new : Comments) → old.limits ≡ standard_limits → new.limits ≡ standard_limits → new.ready ≡ true → HasRead bytes had old → length piece ≤ 65536 → AfterFeed bytes piece text (Err end) new
+    → AfterTaking (bytes ++ piece) text (Err (why_stopped end)) new
+stop_text bytes piece had text (stop.Fault f) old new same e ready r short h = fault_text bytes piece had text f old new.limits same e r short h
+stop_text bytes piece had text stop.NoMemory old new same e ready r short h = less_text bytes piece text new e ready h
+
 -- THE END
 
 pub no_fault_shown : (is_whole : List ℕ → Type 0) (bytes : List ℕ) (f : FaultAt) → RevealsNothing standard_limits is_whole bytes → length bytes < standard_limits.input → IsMarkerFault standard_limits is_whole bytes f.fault f.at → f.at ≡ length bytes
@@ -113,8 +120,9 @@ no_fault_shown is_whole bytes f nothing short (w, inl h) = absurd ((nothing f.at
 no_fault_shown is_whole bytes f nothing short (w, inr (inl h)) = absurd (let l = h.2 in omega (arith, l, short))
 no_fault_shown is_whole bytes f nothing short (w, inr (inr h)) = h.1
 
-pub end_text : (bytes text : List ℕ) (c : Comments) (f : FaultAt) → c.limits ≡ standard_limits → HasRead bytes text c → StopsAt c.limits bytes (stop.Fault f) → AfterEnd bytes text (why.Refused f)
-end_text bytes text c f e h s =
+pub end_text : (bytes text : List ℕ) (c : Comments) (end : Stop) → c.limits ≡ standard_limits → HasRead bytes text c → StopsAt c.limits bytes end → AfterEnd bytes text (why_stopped end)
+end_text bytes text c stop.NoMemory e h s = absurd s
+end_text bytes text c (stop.Fault f) e h s =
     let so = text_so_far bytes text c e h in
     let fault = subst (λ (l : Limits). IsReadFault l bytes f.fault f.at) e s in
     let short = subst (λ (l : Limits). length bytes < l.input) e h.2 in
@@ -155,9 +163,9 @@ fault_part bytes text f h =
     all_of f.at bytes text h.before (inr (f.fault, h.whole)) h.is
 
 -- what was taken is a first part
-pub taken_part : (bytes text : List ℕ) (due : Option Why) (c : Comments) → c.limits ≡ standard_limits → AfterTaking bytes text due c → IsTextPart bytes text
-taken_part bytes text None c e h = so_far_part bytes text (text_so_far bytes text c e h)
-taken_part bytes text (Some why.Done) c e h = whole_part bytes text h
-taken_part bytes text (Some (why.Refused f)) c e h = fault_part bytes text f (h [])
-taken_part bytes text (Some why.NoMemory) c e h = record { front = h.front; count = h.count; before = h.before; whole = inr (Truncated, inr h.begun); is = h.is }
-taken_part bytes text other c e h = absurd h
+pub taken_part : (bytes text : List ℕ) (due : Result Bool Why) (c : Comments) → c.limits ≡ standard_limits → AfterTaking bytes text due c → IsTextPart bytes text
+taken_part bytes text (Ok false) c e h = so_far_part bytes text (text_so_far bytes text c e h)
+taken_part bytes text (Ok true) c e h = whole_part bytes text h
+taken_part bytes text (Err (why.Refused f)) c e h = fault_part bytes text f (h [])
+taken_part bytes text (Err why.NoMemory) c e h = record { front = h.front; count = h.count; before = h.before; whole = inr (Truncated, inr h.begun); is = h.is }
+taken_part bytes text (Err other) c e h = absurd h

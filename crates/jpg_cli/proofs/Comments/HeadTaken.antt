@@ -1,9 +1,8 @@
 -- The result of the pieces of a file up to the marker of its frame header, where a comment is inserted.
-use Rattle.std.proofs.Common.{◌⊎◌, ◌≡◌, ℕ, ◌<◌, ◌≤◌, Bool, List, [], ◌++◌, length, take, Option, None, Some, refl, sym, ap, ◌∙◌, subst, arith, inl, inr}
+use Rattle.std.proofs.Common.{◌⊎◌, ◌≡◌, ℕ, ◌<◌, ◌≤◌, Bool, true, false, List, [], ◌++◌, length, take, Option, None, Some, Result, Ok, Err, refl, sym, ap, ◌∙◌, subst, arith, inl, inr}
 use Rattle.std.proofs.lemmas.List.{append-nil, length-append, length-take, take_all, take-append-le}
 use Rattle.std.specs.Io.KnownBytes.{Consumes, IsAtEnd}
-use Rattle.jpg_base.specs.declared.names.Got.TheVariants as got
-use Rattle.jpg_base.specs.Desk.{DeskState, Reads, Rose}
+use Rattle.jpg_base.specs.Desk.{DeskState, Rose}
 use Rattle.jpg_spec.specs.Segments.{standard_limits}
 use Rattle.jpg_spec_write.specs.CommentText.{IsHeadFault, IsInserted, RevealsNothing}
 use Rattle.jpg_spec_words.specs.declared.answers.Why.{Why}
@@ -16,8 +15,7 @@ use Rattle.jpg_comments.specs.Inserting.{HoldsHead}
 use Rattle.jpg_comments.specs.WriteInserted.{HasInserted, StandsAt}
 use Rattle.jpg_comments.specs.declared.insert.Insert.{Insert}
 use Rattle.jpg_desk.specs.Reading.{rest_of}
-use Rattle.jpg_cli.specs.Tools.InsertComment.{AfterAll, AfterFed, AfterHeadRead, EndsBefore, IsAtHead}
-use Rattle.jpg_cli.specs.declared.tools.wrjpgcom.AtHead.TheVariants as at_head
+use Rattle.jpg_cli.specs.Tools.InsertComment.{AfterAll, AfterFed, EndsBefore, IsAtHead}
 use Rattle.jpg_cli.proofs.Comments.CommentsRead.{fault_last, fault_within, no_fault_shown}
 use Rattle.jpg_cli.proofs.Comments.CommentsCopied.{text_added}
 use Rattle.jpg_desk.proofs.PiecesRead.{none_read}
@@ -74,38 +72,27 @@ head_in_piece bytes piece comment text replace k nothing short (before, code, fr
     by (inl l) = absurd ((nothing (length front) l).1 (subst (λ (b : List ℕ). HoldsHead standard_limits b) (take-append-le (length front) bytes piece l) holds))
     by (inr l) = (length front, omega (arith, long, length-take k all), omega (arith, l, short, length-append bytes piece), holds)
 
-fed_at_head : (bytes piece comment text : List ℕ) (replace : Bool) (due : Option Why) (c : Insert) → c.limits ≡ standard_limits → 0 < length text → RevealsNothing standard_limits (HoldsHead standard_limits) bytes → length piece ≤ 65536
+pub fed_at_head : (bytes piece comment text : List ℕ) (replace : Bool) (due : Result Bool Why) (c : Insert) → c.limits ≡ standard_limits → 0 < length text → RevealsNothing standard_limits (HoldsHead standard_limits) bytes → length piece ≤ 65536
     → AfterFed comment replace (bytes ++ piece) text due c → IsAtHead (bytes ++ piece)
-fed_at_head bytes piece comment text replace None c e some nothing short h =
+fed_at_head bytes piece comment text replace (Ok false) c e some nothing short h =
     let all = bytes ++ piece in
     let is = inserted_so_far comment all text c e some h in
     head_in_piece bytes piece comment text c.replace (length all) nothing short (subst (λ (b : List ℕ). IsInserted standard_limits b comment c.replace text) (sym (take_all (length all) all (omega arith))) is)
-fed_at_head bytes piece comment text replace (Some (why.Refused f)) c e some nothing short (of, inl (none, faults)) = absurd (not_none text none some)
-fed_at_head bytes piece comment text replace (Some (why.Refused f)) c e some nothing short (of, inr (long, is)) = head_in_piece bytes piece comment text replace f.at nothing short is
-fed_at_head bytes piece comment text replace (Some why.NoMemory) c e some nothing short (inl none) = absurd (not_none text none some)
-fed_at_head bytes piece comment text replace (Some why.NoMemory) c e some nothing short (inr (n, front, whole, is, part, less)) = head_in_piece bytes piece comment whole replace front nothing short is
+fed_at_head bytes piece comment text replace (Err (why.Refused f)) c e some nothing short (of, inl (none, faults)) = absurd (not_none text none some)
+fed_at_head bytes piece comment text replace (Err (why.Refused f)) c e some nothing short (of, inr (long, is)) = head_in_piece bytes piece comment text replace f.at nothing short is
+fed_at_head bytes piece comment text replace (Err why.NoMemory) c e some nothing short (inl none) = absurd (not_none text none some)
+fed_at_head bytes piece comment text replace (Err why.NoMemory) c e some nothing short (inr (n, front, whole, is, part, less)) = head_in_piece bytes piece comment whole replace front nothing short is
 fed_at_head bytes piece comment text replace other c e some nothing short h = absurd h
 
 -- what a piece appended is all of the pending text
-fed_text : (comment all old out : List ℕ) (replace : Bool) (due : Option Why) (c : Insert) → old ≡ [] → Appends (λ text. AfterFed comment replace all text due c) [] old out → AfterFed comment replace all out due c
+pub fed_text : (comment all old out : List ℕ) (replace : Bool) (due : Result Bool Why) (c : Insert) → old ≡ [] → Appends (λ text. AfterFed comment replace all text due c) [] old out → AfterFed comment replace all out due c
 fed_text comment all old out replace due c empty h = subst (λ (text : List ℕ). AfterFed comment replace all text due c) (text_added old out h.0 empty h.1) h.2
-
-short_taken : (n : ℕ) (buf : List ℕ) → length buf ≤ 65536 → length (take n buf) ≤ 65536
-short_taken n buf short = omega (arith, short, length-take n buf)
-
-module _ (s0 s1 : DeskState) (n : ℕ) (buf comment bytes old out : List ℕ) where
-  pub head_begun : (replace : Bool) (due : Option Why) (was c : Insert) → length (bytes ++ take n buf) ≤ standard_limits.input → was.limits ≡ standard_limits → c.limits ≡ standard_limits → old ≡ [] → length buf ≤ 65536
-      → HasInserted comment bytes [] was → Reads s0 (got.Bytes n) buf s1 → Appends (λ text. AfterFed comment replace (bytes ++ take n buf) text due c) [] old out → 0 < length out → AfterHeadRead comment replace bytes s0 (at_head.Begun due) c out s1
-  head_begun replace due was c most e f empty short h r k some =
-      let fed = fed_text comment (bytes ++ take n buf) old out replace due c empty k in
-      let nothing = nothing_there comment bytes was e h in
-      (take n buf, some, r.after.2, most, fed_at_head bytes (take n buf) comment out replace due c f some nothing.shows (short_taken n buf short) fed, fed)
 
 -- WHERE NOTHING IS WRITTEN
 
 module _ (s0 s1 : DeskState) (piece comment bytes text : List ℕ) where
-  ended : (replace : Bool) (w : Why) (was c : Insert) → length (bytes ++ piece) ≤ standard_limits.input → was.limits ≡ standard_limits → length piece ≤ 65536 → HasInserted comment bytes [] was → Consumes s0.left s1.left piece
-      → AfterFed comment replace (bytes ++ piece) text (Some w) c → text ≡ [] → EndsBefore bytes s0 w s1
+  pub ended : (replace : Bool) (w : Why) (was c : Insert) → length (bytes ++ piece) ≤ standard_limits.input → was.limits ≡ standard_limits → length piece ≤ 65536 → HasInserted comment bytes [] was → Consumes s0.left s1.left piece
+      → AfterFed comment replace (bytes ++ piece) text (Err w) c → text ≡ [] → EndsBefore bytes s0 w s1
   ended replace (why.Refused f) was c most e short h read (of, inl (empty, faults)) none =
       let nothing = nothing_there comment bytes was e h in
       let within = fault_within (HoldsHead standard_limits) ((bytes ++ piece) ++ []) f.fault f.at (faults []) in
@@ -127,14 +114,10 @@ module _ (s0 s1 : DeskState) (piece comment bytes text : List ℕ) where
       )
   ended replace other was c most e short h read fed none = absurd fed
 
-module _ (s0 s1 : DeskState) (n : ℕ) (buf comment bytes old out : List ℕ) where
-  pub head_ended : (replace : Bool) (w : Why) (was c : Insert) → length (bytes ++ take n buf) ≤ standard_limits.input → was.limits ≡ standard_limits → old ≡ [] → length buf ≤ 65536
-      → HasInserted comment bytes [] was → Reads s0 (got.Bytes n) buf s1 → Appends (λ text. AfterFed comment replace (bytes ++ take n buf) text (Some w) c) [] old out → out ≡ [] → EndsBefore bytes s0 w s1
-  head_ended replace w was c most e empty short h r k none =
-      ended s0 s1 (take n buf) comment bytes out replace w was c most e (short_taken n buf short) h r.after.2 (fed_text comment (bytes ++ take n buf) old out replace (Some w) c empty k) none
+pub head_whole : (comment bytes : List ℕ) (replace : Bool) → AfterAll comment replace bytes [] (Ok None) → ⊥
+head_whole comment bytes replace a = not_none [] refl (text_is_some bytes comment [] replace a.0)
 
-pub head_ends : (s0 s1 : DeskState) (comment bytes : List ℕ) (replace : Bool) (w : Why) (was : Insert) → was.limits ≡ standard_limits → HasInserted comment bytes [] was → IsAtEnd s0.left → s1.left ≡ s0.left → AfterAll comment replace bytes [] w → EndsBefore bytes s0 w s1
-head_ends s0 s1 comment bytes replace why.Done was e h end left a = absurd (not_none [] refl (text_is_some bytes comment [] replace a.0))
+pub head_ends : (s0 s1 : DeskState) (comment bytes : List ℕ) (replace : Bool) (w : Why) (was : Insert) → was.limits ≡ standard_limits → HasInserted comment bytes [] was → IsAtEnd s0.left → s1.left ≡ s0.left → AfterAll comment replace bytes [] (Err w) → EndsBefore bytes s0 w s1
 head_ends s0 s1 comment bytes replace (why.Refused f) was e h end left a =
     let nothing = nothing_there comment bytes was e h in
     let none : rest_of s1.left ≡ [] = ap rest_of left ∙ none_left s0.left end in

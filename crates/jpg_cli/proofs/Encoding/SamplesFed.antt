@@ -185,14 +185,14 @@ samples_pumped {from} {start} {now} answer h = all_read SamplesSink Image sample
 
 module _ {from : ImageEncoder} {start : DeskState} {now : SamplesSink × DeskState} where
   pub samples_held : (early : Option ℕ) → EndsAll (of_reader samples_reader) (at_first from, start) (Ok early) now → (w : Option RowScan) (info : ImageInfo) (a : Asked) → HasTaken w info a [] from → OnlyReads start now.1 × AfterSamples w info a start (Ok (now.0).encoder) now.1
-  samples_held None ends w info a has = (let h = samples_pumped None_answer ends in (h.kept, by h.reads.0))
+  samples_held None ends w info a sampled = (let h = samples_pumped None_answer ends in (h.kept, by h.reads.0))
     where
       None_answer : Result (Option ℕ) Why
       None_answer = Ok None
 
       by : TakesPieces (λ bytes. AreAllGiven from (rest_of (now.1).left) bytes (now.0).encoder) start now.1 → TakesPieces (λ bytes. IsAllGiven w info a (rest_of (now.1).left) bytes (now.0).encoder) start now.1
-      by (bytes, read, most, g) = (bytes, read, most, all_of has g)
-  samples_held (Some n) ends w info a has = absurd (samples_pumped (Ok (Some n)) ends).reads.0.3
+      by (bytes, read, most, g) = (bytes, read, most, all_of sampled g)
+  samples_held (Some n) ends w info a sampled = absurd (samples_pumped (Ok (Some n)) ends).reads.0.3
 
   pub none_held : (w : Why) → EndsAll (of_reader samples_reader) (at_first from, start) (Err w) now → OnlyReads start now.1 × NoValueTaken (image_judging false) start w now.1
   none_held w ends = (let h = samples_pumped (Err w) ends in (h.kept, h.reads))

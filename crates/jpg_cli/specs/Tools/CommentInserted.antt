@@ -1,6 +1,6 @@
 -- WHAT INSERTING A COMMENT into a file does to a desk (T.81, B.2.4.5, the manual of wrjpgcom in release 6b), by why it
 -- ended.
-use Rattle.std.specs.Prelude.{◌≡◌, ◌⊎◌, ℕ, ◌<◌, ◌≤◌, Bool, false, List, [], ◌∷◌, ◌++◌, length, take, Option, None, Some, ◌+◌}
+use Rattle.std.specs.Prelude.{◌≡◌, ◌⊎◌, ℕ, ◌<◌, ◌≤◌, Bool, true, false, List, [], ◌∷◌, ◌++◌, length, take, Option, Result, ◌+◌}
 use Rattle.std.specs.Io.KnownBytes.{Consumes}
 use Rattle.jpg_base.specs.declared.names.Name.{Name}
 use Rattle.jpg_base.specs.declared.names.Name.TheVariants as name
@@ -18,7 +18,10 @@ use Rattle.jpg_comments.specs.WriteInserted.{insert_limits, is_replacing, HasIns
 use Rattle.jpg_comments.specs.declared.insert.Insert.{Insert}
 use Rattle.jpg_words.specs.CommentWords.{comment_view}
 use Rattle.jpg_words.specs.declared.comments.WriteWords.{WriteWords}
-use Rattle.jpg_cli.specs.Tools.InsertComment.{AfterFed, IsAtHead, IsBeforeHead, IsFaultBefore, IsNoHead, IsInsertedWhole, inserted_texts}
+use Rattle.jpg_desk.specs.Pump.{FedKind, ended_as}
+use Rattle.jpg_desk.specs.Stays.{OnlyWorks}
+use Rattle.jpg_cli.specs.declared.tools.wrjpgcom.InsertSink.{InsertSink}
+use Rattle.jpg_cli.specs.Tools.InsertComment.{IsAtHead, IsBeforeHead, IsFaultBefore, IsNoHead, IsInsertedWhole, inserted_texts}
 use Rattle.jpg_cli.specs.Copies.{Copies}
 use Rattle.jpg_desk.specs.Endings.{Asks, Copied, Stopped, Unopened, Unread}
 use Rattle.jpg_desk.specs.Reading.{IsFile, IsReadTo, ReadsBytes, ReadsPart, rest_of}
@@ -189,35 +192,39 @@ pub record IsWriting (task : Task) (comment bytes text : List ℕ) (old now : De
   pub written : AppendsLast created text now.outputs
   pub counts : NoneFell old.counts now.counts
 
--- From the marker of the frame header on: the pending text was written, or why the writing ended.
-abbrev pub AfterFrameMarker : Task → List ℕ → DeskState → Option Why → Insert → DeskState → Type 0
-AfterFrameMarker task comment old None c now =
-    (bytes : List ℕ) × (text : List ℕ) × (0 < length text) × HasInserted comment bytes text c × IsWriting task comment bytes text old now
-AfterFrameMarker task comment old (Some ended) c now = Inserted task old ended now
+-- The input was opened for a task, and none of it read.
+pub record IsBegunFor (task : Task) (comment : List ℕ) (start : DeskState) (place : Name) (c : Insert) (now : DeskState) : Type 0 where
+  pub output : task.output ≡ place
+  pub replace : task.replace ≡ is_replacing c
+  pub inserts : HasInserted comment [] [] c
+  pub reading : IsReading task comment [] start now
+
+-- ALL PIECES, by whether the output was created, which is when the marker of the frame header was read
+
+abbrev pub HoldsFor : Bool → Task → List ℕ → List ℕ → DeskState → Insert → DeskState → Type 0
+HoldsFor false task comment bytes start c now = HasInserted comment bytes [] c × IsReading task comment bytes start now
+HoldsFor true task comment bytes start c now = (text : List ℕ) × (0 < length text) × HasInserted comment bytes text c × IsWriting task comment bytes text start now
+
+abbrev pub IsTaskOf : Task → List ℕ → DeskState → InsertSink × DeskState → Type 0
+IsTaskOf task comment start from = IsBegunFor task comment start from.0.output.now from.0.insert from.1
+
+pub record IsInserting (from : InsertSink × DeskState) (bytes : List ℕ) (now : InsertSink × DeskState) : Type 0 where
+  pub some : (task : Task) × (comment : List ℕ) × (start : DeskState) × IsTaskOf task comment start from
+  pub holds : (task : Task) (comment : List ℕ) (start : DeskState) → IsTaskOf task comment start from → HoldsFor now.0.created task comment bytes start now.0.insert now.1
+  pub limits : insert_limits now.0.insert ≡ standard_limits
+  pub replace : is_replacing now.0.insert ≡ is_replacing from.0.insert
+  pub output : now.0.output.now ≡ from.0.output.now
+  pub empty : now.0.out ≡ []
+  pub works : OnlyWorks from.1 now.1
+  pub created : now.0.created ≡ true → now.1.output_created ≡ true
+
+abbrev pub EndsInsertion : InsertSink × DeskState → Result (Option ℕ) Why → InsertSink × DeskState → Type 0
+EndsInsertion from answer now =
+    OnlyWorks from.1 now.1 × ((task : Task) (comment : List ℕ) (start : DeskState) → IsTaskOf task comment start from → Inserted task start (ended_as answer) now.1)
+
+abbrev pub insert_kind : FedKind InsertSink
+insert_kind = record { most = λ s. standard_limits.input; fed = IsInserting; ended = EndsInsertion }
 
 -- FOR ALL TASKS of this output and kind, comments and desks as they were when the run began
-
--- the input was opened, and none of it read
 abbrev pub EndsTask : Name → Insert → DeskState → Why → DeskState → Type 0
-EndsTask output had old ended now =
-    (task : Task) (comment : List ℕ) (start : DeskState) → task.output ≡ output → task.replace ≡ is_replacing had → HasInserted comment [] [] had
-    → IsReading task comment [] start old → Inserted task start ended now
-
-abbrev pub BeginsTask : Name → Insert → DeskState → Option Why → Insert → DeskState → Type 0
-BeginsTask output had old due c now =
-    (task : Task) (comment : List ℕ) (start : DeskState) → task.output ≡ output → task.replace ≡ is_replacing had → HasInserted comment [] [] had
-    → IsReading task comment [] start old → AfterFrameMarker task comment start due c now
-
--- The marker is in the bytes that were read, and this text is pending.
-abbrev pub WritesFirst : Name → Option Why → List ℕ → DeskState → Option Why → DeskState → Type 0
-WritesFirst output due text old ended now =
-    (task : Task) (comment bytes : List ℕ) (start : DeskState) (c : Insert) → task.output ≡ output → 0 < length text → IsAtHead bytes
-    → IsReading task comment bytes start old → AfterFed comment task.replace bytes text due c → insert_limits c ≡ standard_limits
-    → is_replacing c ≡ task.replace
-    → AfterFrameMarker task comment start ended c now
-
--- The bytes that were read were written.
-abbrev pub WritesRest : Insert → DeskState → Why → DeskState → Type 0
-WritesRest had old ended now =
-    (task : Task) (comment bytes text : List ℕ) (start : DeskState) → task.replace ≡ is_replacing had → HasInserted comment bytes text had → 0 < length text
-    → IsWriting task comment bytes text start old → Inserted task start ended now
+EndsTask output had old ended now = (task : Task) (comment : List ℕ) (start : DeskState) → IsBegunFor task comment start output had old → Inserted task start ended now

@@ -1,7 +1,10 @@
 -- HOW A FILE WITH A COMMENT INSERTED is written piece by piece (T.81, B.2.4.5, the manual of wrjpgcom in release 6b).
-use Rattle.std.specs.Prelude.{◌≡◌, ◌⊎◌, ℕ, ◌<◌, ◌≤◌, ◌+◌, Bool, true, List, [], ◌++◌, length, take, Option, None, Some, Result, Ok, Err}
+use Rattle.std.specs.Prelude.{◌≡◌, ◌⊎◌, ℕ, ◌<◌, ◌≤◌, ◌+◌, Bool, true, false, List, [], ◌++◌, length, take, Option, None, Result, Ok, Err}
 use Rattle.std.specs.Io.KnownBytes.{Consumes}
-use Rattle.jpg_base.specs.Desk.{DeskState, Rose}
+use Rattle.jpg_base.specs.declared.names.Put.{Put}
+use Rattle.jpg_base.specs.declared.names.Put.TheVariants as put
+use Rattle.jpg_base.specs.Desk.{AfterWrite, DeskState, Rose}
+use Rattle.jpg_huff.specs.Out.{OnlyWrites}
 use Rattle.jpg_spec.specs.Segments.{standard_limits}
 use Rattle.jpg_spec_write.specs.CommentText.{IsHeadFault, IsInsertFault, IsInserted, RevealsNothing, longest_comment}
 use Rattle.jpg_spec.specs.declared.fault.Fault.TheVariants.{CommentTooLong, InputTooLong}
@@ -13,10 +16,7 @@ use Rattle.jpg_comments.specs.Inserting.{HoldsHead, InsertsToFault}
 use Rattle.jpg_comments.specs.SegmentsSoFar.{Appends}
 use Rattle.jpg_comments.specs.WriteInserted.{is_replacing, HasInserted}
 use Rattle.jpg_comments.specs.declared.insert.Insert.{Insert}
-use Rattle.jpg_cli.specs.declared.tools.wrjpgcom.AtHead.{AtHead}
-use Rattle.jpg_cli.specs.declared.tools.wrjpgcom.AtHead.TheVariants as at_head
-use Rattle.jpg_cli.specs.Copies.{Copies, CopiesText, CopyTexts, HasCopied}
-use Rattle.jpg_desk.specs.Stays.{OnlyCopies}
+use Rattle.jpg_cli.specs.Copies.{Copies, CopiesText, CopyTexts}
 use Rattle.jpg_desk.specs.Reading.{rest_of}
 
 -- A new inserter, with a comment that isn't too long; or there is none.
@@ -38,17 +38,35 @@ IsFileLess comment replace bytes text =
     (n : ℕ) × (front : ℕ) × (whole : List ℕ) × IsInserted standard_limits (take front bytes) comment replace whole × (text ≡ take n whole) × (n < length whole)
 
 -- A piece was taken: the text for all the bytes so far, or why the writing ends.
-abbrev pub AfterFed : List ℕ → Bool → List ℕ → List ℕ → Option Why → Insert → Type 0
-AfterFed comment replace bytes text None c = HasInserted comment bytes text c
-AfterFed comment replace bytes text (Some (why.Refused f)) c = InsertsToFault standard_limits comment replace bytes text f
-AfterFed comment replace bytes text (Some why.NoMemory) c = (text ≡ []) ⊎ IsFileLess comment replace bytes text
-AfterFed comment replace bytes text (Some other) c = ⊥
+abbrev pub AfterFed : List ℕ → Bool → List ℕ → List ℕ → Result Bool Why → Insert → Type 0
+AfterFed comment replace bytes text (Ok false) c = HasInserted comment bytes text c
+AfterFed comment replace bytes text (Ok true) c = ⊥
+AfterFed comment replace bytes text (Err (why.Refused f)) c = InsertsToFault standard_limits comment replace bytes text f
+AfterFed comment replace bytes text (Err why.NoMemory) c = (text ≡ []) ⊎ IsFileLess comment replace bytes text
+AfterFed comment replace bytes text (Err other) c = ⊥
+
+-- for all bytes that were read before, and the text that was appended for them
+abbrev pub InsertsPiece : Insert → List ℕ → List ℕ → Result Bool Why → List ℕ → Insert → Type 0
+InsertsPiece had piece old due out c =
+    (comment bytes text : List ℕ) → HasInserted comment bytes text had
+    → Appends (λ all. AfterFed comment (is_replacing had) (bytes ++ piece) all due c) text old out
 
 -- the bytes end: the complete file was written, or it has a fault before the frame header
-abbrev pub AfterAll : List ℕ → Bool → List ℕ → List ℕ → Why → Type 0
-AfterAll comment replace bytes text why.Done = IsInserted standard_limits bytes comment replace text × (length bytes < standard_limits.input)
-AfterAll comment replace bytes text (why.Refused f) = IsHeadFault standard_limits bytes f.fault f.at × (text ≡ [])
+abbrev pub AfterAll : List ℕ → Bool → List ℕ → List ℕ → Result (Option ℕ) Why → Type 0
+AfterAll comment replace bytes text (Ok None) = IsInserted standard_limits bytes comment replace text × (length bytes < standard_limits.input)
+AfterAll comment replace bytes text (Err (why.Refused f)) = IsHeadFault standard_limits bytes f.fault f.at × (text ≡ [])
 AfterAll comment replace bytes text other = ⊥
+
+-- The pending text was written, and this was due then; or it wasn't written.
+abbrev pub AfterText : Result Bool Why → List ℕ → DeskState → Put → Result Bool Why → DeskState → Type 0
+AfterText due text old put.Done answer new = (answer ≡ due) × AfterWrite old text put.Done new
+AfterText due text old put.Failed answer new = (answer ≡ Err why.WriteFault) × AfterWrite old text put.Failed new
+
+pub record WritesRest (due : Result Bool Why) (text : List ℕ) (old : DeskState) (answer : Result Bool Why) (out : List ℕ) (new : DeskState) : Type 0 where
+  pub wrote : Put
+  pub only : OnlyWrites old new
+  pub after : AfterText due text old wrote answer new
+  pub empty : out ≡ []
 
 -- THE TEXT after the frame header's marker, by the bytes that were read
 
@@ -80,13 +98,6 @@ inserted_texts comment replace = record {
 abbrev pub EndsInserting : List ℕ → Bool → DeskState → Why → DeskState → Type 0
 EndsInserting comment replace old ended new = Copies (inserted_texts comment replace) CopiesText old ended new
 
--- From these bytes on: one more piece was read and written, or why the writing ends.
-abbrev pub AfterRest : List ℕ → Bool → DeskState → List ℕ → Option Why → Insert → DeskState → Type 0
-AfterRest comment replace old bytes None c new =
-    (piece : List ℕ) × (text : List ℕ) × (0 < length piece) × (0 < length text) × HasInserted comment (bytes ++ piece) text c
-    × HasCopied old (bytes ++ piece) text new
-AfterRest comment replace old bytes (Some ended) c new = EndsInserting comment replace old ended new
-
 -- UP TO THAT MARKER, where nothing is written
 
 -- The file, which has this rest after the bytes, has this fault before its frame header. It is in the bytes, and fewer
@@ -111,36 +122,3 @@ EndsBefore bytes old (why.ReadFault which.Input) new = (new.left ≡ old.left) �
 EndsBefore bytes old why.NoMemory new =
     (piece : List ℕ) × Consumes old.left new.left piece × (length (bytes ++ piece) ≤ standard_limits.input) × IsBeforeHead (bytes ++ piece)
 EndsBefore bytes old other new = ⊥
-
--- From these bytes on one more piece was read: the marker isn't complete yet, or the text that is pending with it, or
--- why the reading ended.
-abbrev pub AfterHeadRead : List ℕ → Bool → List ℕ → DeskState → AtHead → Insert → List ℕ → DeskState → Type 0
-AfterHeadRead comment replace bytes old at_head.Before c out new =
-    (piece : List ℕ) × (0 < length piece) × (out ≡ []) × Consumes old.left new.left piece × HasInserted comment (bytes ++ piece) [] c
-AfterHeadRead comment replace bytes old (at_head.Begun due) c out new =
-    (piece : List ℕ) × (0 < length out) × Consumes old.left new.left piece × (length (bytes ++ piece) ≤ standard_limits.input) × IsAtHead (bytes ++ piece)
-    × AfterFed comment replace (bytes ++ piece) out due c
-AfterHeadRead comment replace bytes old (at_head.Ended ended) c out new = EndsBefore bytes old ended new
-
--- If more of the input may be read, it is open.
-abbrev pub IsOpenAfter : AtHead → DeskState → Type 0
-IsOpenAfter at_head.Before now = now.input_open ≡ true
-IsOpenAfter (at_head.Begun due) now = now.input_open ≡ true
-IsOpenAfter (at_head.Ended ended) now = Unit {0}
-
--- FOR ALL BYTES that were read before, and the text that was written or appended for them
-
-abbrev pub ReadsHead : Insert → DeskState → AtHead → Insert → List ℕ → DeskState → Type 0
-ReadsHead had old answer c out new =
-    (comment bytes : List ℕ) → HasInserted comment bytes [] had → AfterHeadRead comment (is_replacing had) bytes old answer c out new
-
-abbrev pub InsertsNext : Insert → DeskState → Option Why → Insert → DeskState → Type 0
-InsertsNext had old due c new =
-    (start : DeskState) (comment bytes text : List ℕ) → HasInserted comment bytes text had → 0 < length text → OnlyCopies start old
-    → HasCopied start bytes text old
-    → AfterRest comment (is_replacing had) start bytes due c new
-
-abbrev pub InsertsPiece : Insert → List ℕ → List ℕ → Option Why → List ℕ → Insert → Type 0
-InsertsPiece had piece old due out c =
-    (comment bytes text : List ℕ) → HasInserted comment bytes text had
-    → Appends (λ all. AfterFed comment (is_replacing had) (bytes ++ piece) all due c) text old out

@@ -1,6 +1,6 @@
 -- WHAT PRINTING THE COMMENTS of a file does to a desk (T.81, B.2.4.5, the manual of rdjpgcom in release 6b), by why it
 -- ended.
-use Rattle.std.specs.Prelude.{◌≡◌, ◌⊎◌, ℕ, ◌+◌, ◌<◌, ◌≤◌, List, [], ◌∷◌, ◌++◌, length, take, Option, None, Some}
+use Rattle.std.specs.Prelude.{◌≡◌, ◌⊎◌, ℕ, ◌+◌, ◌<◌, ◌≤◌, List, [], ◌∷◌, ◌++◌, length, take, Bool, true, false, Option, Result, Ok, Err}
 use Rattle.jpg_base.specs.declared.names.Name.{Name}
 use Rattle.jpg_base.specs.Desk.{DeskState}
 use Rattle.jpg_spec.specs.Segments.{standard_limits}
@@ -13,12 +13,14 @@ use Rattle.jpg_spec_words.specs.declared.answers.Why.TheVariants as why
 use Rattle.jpg_spec_words.specs.declared.answers.Which.TheVariants as which
 use Rattle.jpg_comments.specs.SegmentsSoFar.{Appends, IsBegun, AreWholeBefore}
 use Rattle.jpg_comments.specs.Printing.{HoldsWhole}
-use Rattle.jpg_comments.specs.ReadComments.{HasRead}
+use Rattle.jpg_comments.specs.ReadComments.{HasRead, comments_limits, is_ready}
 use Rattle.jpg_comments.specs.declared.comments.Comments.{Comments}
 use Rattle.jpg_cli.specs.Copies.{Copies, CopiesText, CopyTexts, HasCopied}
 use Rattle.jpg_desk.specs.Endings.{Copied, Unopened}
+use Rattle.jpg_desk.specs.Pump.{FedKind, ended_as}
 use Rattle.jpg_desk.specs.Reading.{IsFile}
 use Rattle.jpg_desk.specs.Stays.{OnlyCopies, Untouched}
+use Rattle.jpg_cli.specs.declared.tools.rdjpgcom.PrintSink.{PrintSink}
 
 -- THE TEXT that was printed, by the bytes that were read
 
@@ -105,29 +107,35 @@ abbrev pub EndsCopying : DeskState → Why → DeskState → Type 0
 EndsCopying old ended new = Copies printed_texts CopiesText old ended new
 
 -- The result of a piece: the text for all the bytes so far, or why the reading ends.
-abbrev pub AfterTaking : List ℕ → List ℕ → Option Why → Comments → Type 0
-AfterTaking bytes text None c = HasRead bytes text c
-AfterTaking bytes text (Some why.Done) c = IsWholeText bytes text
-AfterTaking bytes text (Some (why.Refused f)) c = (rest : List ℕ) → IsFaultText f rest bytes text
-AfterTaking bytes text (Some why.NoMemory) c = IsTextLess bytes text
-AfterTaking bytes text (Some other) c = ⊥
+abbrev pub AfterTaking : List ℕ → List ℕ → Result Bool Why → Comments → Type 0
+AfterTaking bytes text (Ok false) c = HasRead bytes text c
+AfterTaking bytes text (Ok true) c = IsWholeText bytes text
+AfterTaking bytes text (Err (why.Refused f)) c = (rest : List ℕ) → IsFaultText f rest bytes text
+AfterTaking bytes text (Err why.NoMemory) c = IsTextLess bytes text
+AfterTaking bytes text (Err other) c = ⊥
+
+-- for all bytes that were read before, and the text that was appended for them
+abbrev pub TakesPiece : Comments → List ℕ → List ℕ → Result Bool Why → List ℕ → Comments → Type 0
+TakesPiece had piece old due out c = (bytes text : List ℕ) → HasRead bytes text had → Appends (λ all. AfterTaking (bytes ++ piece) all due c) text old out
 
 -- the result of bytes where the input ends
 abbrev pub AfterEnd : List ℕ → List ℕ → Why → Type 0
 AfterEnd bytes text (why.Refused f) = IsFaultText f [] bytes text
 AfterEnd bytes text other = ⊥
 
--- From these bytes on: one more piece was read and its text written, or why the reading ends.
-abbrev pub AfterNext : DeskState → List ℕ → Option Why → Comments → DeskState → Type 0
-AfterNext old bytes None c new =
-    (piece : List ℕ) × (text : List ℕ) × (0 < length piece) × HasRead (bytes ++ piece) text c × HasCopied old (bytes ++ piece) text new
-AfterNext old bytes (Some ended) c new = EndsCopying old ended new
+-- ALL PIECES: what was read was printed
+pub record IsPrinting (from : PrintSink × DeskState) (bytes : List ℕ) (now : PrintSink × DeskState) : Type 0 where
+  pub text : List ℕ
+  pub read : HasRead bytes text now.0.comments
+  pub limits : comments_limits now.0.comments ≡ standard_limits
+  pub ready : is_ready now.0.comments ≡ true
+  pub empty : now.0.out ≡ []
+  pub kept : OnlyCopies from.1 now.1
+  pub copied : HasCopied from.1 bytes text now.1
+  pub created : now.1.output_created ≡ true
 
--- FOR ALL BYTES that were read before, and the text that was written or appended for them
+abbrev pub EndsPrinting : PrintSink × DeskState → Result (Option ℕ) Why → PrintSink × DeskState → Type 0
+EndsPrinting from answer now = OnlyCopies from.1 now.1 × EndsCopying from.1 (ended_as answer) now.1
 
-abbrev pub CopiesNext : Comments → DeskState → Option Why → Comments → DeskState → Type 0
-CopiesNext had old due c new =
-    (start : DeskState) (bytes text : List ℕ) → HasRead bytes text had → OnlyCopies start old → HasCopied start bytes text old → AfterNext start bytes due c new
-
-abbrev pub TakesPiece : Comments → List ℕ → List ℕ → Option Why → List ℕ → Comments → Type 0
-TakesPiece had piece old due out c = (bytes text : List ℕ) → HasRead bytes text had → Appends (λ all. AfterTaking (bytes ++ piece) all due c) text old out
+abbrev pub print_kind : FedKind PrintSink
+print_kind = record { most = λ s. standard_limits.input; fed = IsPrinting; ended = EndsPrinting }

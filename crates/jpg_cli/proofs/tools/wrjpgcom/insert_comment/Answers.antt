@@ -23,6 +23,16 @@ returns-in-Failed-clause-inserted g c =
     let short = subst (λ (b : List ℕ). length b ≤ 65000) c.as_slice.ensures begun.0 in
     input_unopened (task_view c.args.words.now) (state c.args.desk.now) (state c.take_comment.new.desk) (state c.open.new.self) c.in-Ok.comment c.in-Ok.ensures.kept c.in-Ok.ensures.after short c.in-Failed.ensures
 
+pub insert_into-requires-clause-begun : goal.insert_into-requires-clause-begun
+insert_into-requires-clause-begun g c =
+    let state = g.D.Desk.state in
+    let begun = c.in-Ok-with_comment.ensures in
+    let task = task_view c.args.words.now in
+    let short = subst (λ (b : List ℕ). length b ≤ 65000) c.as_slice.ensures begun.0 in
+    let new = subst (λ (b : List ℕ). HasInserted b [] [] c.in-Ok-with_comment.insert) c.as_slice.ensures begun.1 in
+    let reading = input_opened task (state c.args.desk.now) (state c.take_comment.new.desk) (state c.open.new.self) c.in-Ok.comment c.in-Ok.ensures.kept c.in-Ok.ensures.after short c.in-Done.ensures in
+    (task, c.in-Ok.comment, state c.args.desk.now, record { output = refl; replace = sym begun.3; inserts = new; reading = reading })
+
 pub returns-clause-inserted : goal.returns-clause-inserted
 returns-clause-inserted g c =
     let state = g.D.Desk.state in
@@ -32,4 +42,4 @@ returns-clause-inserted g c =
     let short = subst (λ (b : List ℕ). length b ≤ 65000) c.as_slice.ensures begun.0 in
     let new = subst (λ (b : List ℕ). HasInserted b [] [] insert) c.as_slice.ensures begun.1 in
     let reading = input_opened task (state c.args.desk.now) (state c.take_comment.new.desk) (state c.open.new.self) c.in-Ok.comment c.in-Ok.ensures.kept c.in-Ok.ensures.after short c.in-Done.ensures in
-    c.insert_into.ensures.after task c.in-Ok.comment (state c.args.desk.now) refl (sym begun.3) new reading
+    c.insert_into.ensures.after task c.in-Ok.comment (state c.args.desk.now) (record { output = refl; replace = sym begun.3; inserts = new; reading = reading })
