@@ -10,7 +10,6 @@ pub mod RowsBegin
 pub mod RowsDesk
 pub mod RowsEnd
 pub mod RowsFinished
-pub mod RowsLoop
 pub mod RowsPushed
 pub mod RowsRead
 pub mod RowsStarted

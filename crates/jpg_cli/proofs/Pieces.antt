@@ -1,4 +1,5 @@
 pub mod FirstRead
 pub mod FirstShown
-pub mod FirstSteps
 pub mod FrontShown
+pub mod InputMost
+pub mod InputShown

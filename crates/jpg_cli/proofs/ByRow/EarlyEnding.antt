@@ -324,11 +324,10 @@ module _ {s : Showing} {run : Run} {work : Work} {m n : ℕ} where
   work_stopped k due lent draws =
       ending_stopped (ending_begins k) due (work_lends k due lent) draws
 
-module _ {s : Showing} {n : ℕ} {d new : Drawing} {e new_end : EndState} {s0 s1 : DeskState} where
-  -- Whatever was read and drawn before, some zero rows were drawn since.
-  pub zeros_still : (k : CanEndInZeros s n d e s0)
-      → ((run : Run) → IsEnding s run n 0 d e s0 → IsEnding s run n 0 new new_end s1) → IsEnding s k.run n 0 new new_end s1
-  zeros_still k shows = shows k.run k.ending
+-- Whatever was read and drawn before, some zero rows were drawn since.
+pub zeros_still : {d new : Drawing} {e new_end : EndState} {s0 s1 : DeskState} (k : CanEndInZeros d e s0)
+    → ((s : Showing) (run : Run) (n : ℕ) → IsEnding s run n 0 d e s0 → IsEnding s run n 0 new new_end s1) → IsEnding k.asked k.run k.count 0 new new_end s1
+zeros_still k shows = shows k.asked k.run k.count k.ending
 
 more_rows : (a b y : ℕ) → (a + 1) * b ≤ y → (a + 0) * b ≤ y
 more_rows a b y l = (let e : (a + 1) * b ≡ a * b + b = grind arith in omega (arith, e, l))

@@ -32,6 +32,7 @@ use Rattle.jpg_words.specs.ShowWords.{show_view}
 use Rattle.jpg_cli.specs.Outcome.{WritesPart}
 use Rattle.jpg_cli.specs.Tools.FrontShown.{ShownAs, ShownBy}
 use Rattle.jpg_cli.specs.Tools.Showing.{AfterImage, IsInTime, ReadsShown, Shown, Showing, showing_conversion, shown_text}
+use Rattle.jpg_cli.specs.Tools.ShowingRows.{why_of}
 use Rattle.jpg_words.specs.declared.djpeg_request.ShowWords.{ShowWords}
 use Rattle.jpg_desk.proofs.Endings.{asks_next}
 use Rattle.jpg_cli.proofs.Comments.InsertedThen.{same_name}
@@ -62,18 +63,13 @@ image_done s0 s1 s2 output early text e kind new h decoded = by early refl
     by (Some n) same = (same, noted_then s0 s1 s2 output h d.only, all)
 
 module _ (s0 s1 s2 : DeskState) (output : Name) (early : Option ℕ) (text : EndKind → List ℕ) where
-  pub image_wanting : (e : EndState) (kind : EndKind) (ended : DecodeStop) → e ≡ new_end kind → ended ≡ stop.NoMemory → Creates s0 output put.Done s1 → Decodes s1 (text e.kind) (Err ended) s2
-      → AfterImage output early s0 (text kind) why.NoMemory s2
-  image_wanting e kind ended new is h decoded =
-      let same = subst (λ due. Decodes s1 due (Err ended) s2) (same_text text e kind new) decoded in
-      let d = subst (λ (x : DecodeStop). Decodes s1 (text kind) (Err x) s2) is same in
+  pub image_left : (e : EndState) (kind : EndKind) (ended : DecodeStop) → e ≡ new_end kind → Creates s0 output put.Done s1 → Decodes s1 (text e.kind) (Err ended) s2
+      → AfterImage output early s0 (text kind) (why_of (Err ended)) s2
+  image_left e kind stop.NoMemory new h decoded =
+      let d = subst (λ due. Decodes s1 due (Err stop.NoMemory) s2) (same_text text e kind new) decoded in
       (noted_then s0 s1 s2 output h d.only, (d.bytes.0, d.bytes.1, Grows-from s0.outputs s1.outputs s2.outputs output (take d.bytes.0 (text kind)) h.after.1 d.bytes.2))
-
-  pub image_failed : (e : EndState) (kind : EndKind) (ended : DecodeStop) → e ≡ new_end kind → ended ≡ stop.WriteFault → Creates s0 output put.Done s1 → Decodes s1 (text e.kind) (Err ended) s2
-      → AfterImage output early s0 (text kind) why.WriteFault s2
-  image_failed e kind ended new is h decoded =
-      let same = subst (λ due. Decodes s1 due (Err ended) s2) (same_text text e kind new) decoded in
-      let d = subst (λ (x : DecodeStop). Decodes s1 (text kind) (Err x) s2) is same in (
+  image_left e kind stop.WriteFault new h decoded =
+      let d = subst (λ due. Decodes s1 due (Err stop.WriteFault) s2) (same_text text e kind new) decoded in (
         noted_then s0 s1 s2 output h d.only,
         (let r = d.bytes.1 in let f = h.counts.writes in omega arith),
         (d.bytes.0.0, Grows-from s0.outputs s1.outputs s2.outputs output (take d.bytes.0.0 (text kind)) h.after.1 d.bytes.0.1),

@@ -33,7 +33,7 @@ use Rattle.jpg_desk.specs.Reading.{rest_of}
 use Rattle.jpg_desk.specs.ReadPicture.{IsRefusedRead, IsUnwanted, Image}
 use Rattle.jpg_cli.specs.Outcome.{bytes_before}
 use Rattle.jpg_cli.specs.Tools.Showing.{IsInTime, IsRowsText, IsShownByRows, IsShownUpTo, Showing, Shown}
-use Rattle.jpg_cli.specs.Tools.ShowingRows.{AfterShownPiece, HasCreated, HasFedRows, HasShown, HasShownAll, Head, IsDrawing, IsHeadIn, IsLastPiece, IsShowing, last_step, why_of, at_work, Run, Work}
+use Rattle.jpg_cli.specs.Tools.ShowingRows.{AfterLast, HasCreated, HasFedRows, HasShown, HasShownAll, Head, IsDrawing, IsHeadIn, IsLastPiece, IsShowing, why_of, at_work, Run, Work}
 use Rattle.jpg_cli.proofs.Pieces.FirstRead.{HasBegun, IsPlainOrBegun, not_shown, plain_or, plain_whole}
 use Rattle.jpg_desk.proofs.PictureBytes.{stop_within}
 use Rattle.jpg_cli.proofs.ByRow.RowHeads.{begins_more, one_head}
@@ -155,7 +155,7 @@ shown_front s {h} {all} n {m} {blocks} head told k =
     )
 
 module _ {s : Showing} {run : Run} {m : ℕ} {piece : List ℕ} where
-  pub rows_ended : (answer : Result FedRow Stop) {r : ReaderState} {d : Drawing} {e : EndState} {written : List ℕ} {now : DeskState} → IsLastPiece answer → HasFedRows s.gray run.head run.all m piece answer r → IsDrawing s run.head run.all m written d e → d.out ≡ [] → HasCreated s run.old run.start run.all written now → IsInTime s run.all written → AfterShownPiece s run (last_step answer) (at_work r d e now)
+  pub rows_ended : (answer : Result FedRow Stop) {r : ReaderState} {d : Drawing} {e : EndState} {written : List ℕ} {now : DeskState} → IsLastPiece answer → HasFedRows s.gray run.head run.all m piece answer r → IsDrawing s run.head run.all m written d e → d.out ≡ [] → HasCreated s run.old run.start run.all written now → IsInTime s run.all written → AfterLast s run answer (at_work r d e now)
   rows_ended (Ok fed.More) {r} {d} {e} {written} {now} last k drawing out desk early = by k.after
     where
       by : AfterFeedRow k.fed m piece (Ok fed.More) r → (n : ℕ) × HasShown s run n (at_work r d e now)
@@ -236,7 +236,7 @@ all_gone : (out gone rest : List ℕ) → rest ≡ [] → out ++ [] ≡ gone ++ 
 all_gone out gone rest none e = sym (append-nil gone) ∙ ap (λ l. gone ++ l) (sym none) ∙ sym e ∙ append-nil out
 
 pub rows_written : {s : Showing} {run : Run} {work : Work} {m : ℕ} {piece : List ℕ} {answer : Result FedRow Stop} (new : Drawing) {s1 : DeskState}
-    → IsLastPiece answer → new.strips ≡ (work.image).strips → new.info ≡ (work.image).info → new.out ≡ [] → SendsImage work.now (work.image).out [] (Ok tt) new.out s1 → IsShowing s run m piece answer work → AfterShownPiece s run (last_step answer) (at_work work.reader new work.end s1)
+    → IsLastPiece answer → new.strips ≡ (work.image).strips → new.info ≡ (work.image).info → new.out ≡ [] → SendsImage work.now (work.image).out [] (Ok tt) new.out s1 → IsShowing s run m piece answer work → AfterLast s run answer (at_work work.reader new work.end s1)
 rows_written {work = work} {answer} new {s1} last x i none sent k =
     let gone = (sent.bytes).0 in
     let same = all_gone (work.image).out gone new.out none (sent.bytes).2 in

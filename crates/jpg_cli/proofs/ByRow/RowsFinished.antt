@@ -23,15 +23,20 @@ use Rattle.jpg_spec.proofs.McuRows.RowsOnce.{completed_once, rows_once, rows_sta
 use Rattle.jpg_spec_image.proofs.ShownAlike.{shown_alike}
 use Rattle.jpg_pnm_bmp.specs.EndState.{EndState}
 use Rattle.jpg_color.specs.DecodeRows.{SendsImage}
-use Rattle.jpg_color.specs.StripImage.{Drawing, EndsDrawing, IsDrawnTo, IsAllGiven, rest_text}
+use Rattle.jpg_color.specs.StripImage.{Drawing, EndsDrawing, IsDrawnTo, IsAllGiven, StaysDrawn, rest_text}
 use Rattle.jpg_color.specs.declared.decode.DecodeStop.{DecodeStop}
 use Rattle.jpg_color.proofs.Drawn.{all_same}
 use Rattle.jpg_color.proofs.DrawnLaws.{texts_join}
+use Rattle.jpg_file.specs.declared.read.pieces.FedRow.{FedRow}
+use Rattle.jpg_base.specs.declared.stop.Stop.{Stop}
+use Rattle.jpg_base.specs.declared.stop.Stop.TheVariants as stop
+use Rattle.jpg_desk.specs.Pump.{why_stopped}
 use Rattle.jpg_desk.specs.ReadPicture.{IsWholeRead, Image}
 use Rattle.jpg_cli.specs.Tools.Showing.{Showing, Shown, shown_text}
-use Rattle.jpg_cli.specs.Tools.ShowingRows.{HasShownAll, Head, why_of, Run, Work}
+use Rattle.jpg_cli.specs.Tools.ShowingRows.{AfterLast, HasShownAll, Head, IsLastPiece, IsShowing, at_work, why_of, Run, Work}
 use Rattle.jpg_cli.proofs.Pieces.FirstRead.{not_shown}
 use Rattle.jpg_cli.proofs.Encoding.ImageStopped.{IsImageText, image_stopped, image_whole}
+use Rattle.jpg_cli.proofs.ByRow.RowsEnd.{rows_written}
 use Rattle.jpg_cli.proofs.ByRow.RowsWhole.{begins_in, read_by_rows, so_far}
 
 -- THE FILE: the image of the decoded rows is that of its picture
@@ -127,3 +132,17 @@ rows_finished {s} {run} {work} {result} {new} {s1} ends k =
     let text : k.written ++ (((work.image).out ++ rest) ++ []) ≡ shown_text s M =
     ap (λ l. k.written ++ l) (append-nil ((work.image).out ++ rest)) ∙ sym (append_assoc k.written (work.image).out rest) ∙ ap (λ l. l ++ rest) ((k.drawing).text ∙ ap (λ n. rows_text s.kind P s.gray s.smooth n) w.rows) ∙ join.whole ∙ w.text in
     image_ended result (record { same = text; in_time = k.early; desk = k.desk; most = k.most; means = w.whole; left = tt }) sent ends.out
+
+-- A PIECE whose rows were drawn, when what waited was written
+
+module _ {s : Showing} {run : Run} {work : Work} {m : ℕ} {piece : List ℕ} {answer : Result FedRow Stop} {new : Drawing} {s1 : DeskState} where
+  -- by the reader's result
+  pub all_written : {a : Result FedRow Stop} → answer ≡ a → IsLastPiece answer → StaysDrawn work.image new → new.out ≡ [] → SendsImage work.now (work.image).out [] (Ok tt) new.out s1 → IsShowing s run m piece answer work → AfterLast s run a (at_work work.reader new work.end s1)
+  all_written is last stays none sent k = subst (λ (a : Result FedRow Stop). AfterLast s run a (at_work work.reader new work.end s1)) is (rows_written new last stays.strips stays.info none sent k)
+
+  pub written_ok : {x f : FedRow} → answer ≡ Ok x → x ≡ f → IsLastPiece answer → StaysDrawn work.image new → new.out ≡ [] → SendsImage work.now (work.image).out [] (Ok tt) new.out s1 → IsShowing s run m piece answer work → AfterLast s run (Ok f) (at_work work.reader new work.end s1)
+  written_ok is told last stays none sent k = all_written (is ∙ ap (λ (y : FedRow). (let z : Result FedRow Stop = Ok y in z)) told) last stays none sent k
+
+pub last_stopped : (s : Showing) (run : Run) (w : Work) (x : Stop) → AfterLast s run (Err x) w → Shown s run.old (why_stopped x) w.now
+last_stopped s run w (stop.Fault f) h = h
+last_stopped s run w stop.NoMemory h = absurd h

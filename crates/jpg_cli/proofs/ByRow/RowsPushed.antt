@@ -206,18 +206,18 @@ pub row_here : {s : Showing} {run : Run} {work : Work} {m : ℕ} {piece : List �
 row_here {s} {run} {work} {m} {piece} is k = subst (λ (a : Result FedRow Stop). IsShowing s run m piece a work) is k
 
 -- Whatever was read and drawn before, the image shows what is left of the piece as well.
-abbrev StillShows : Showing → List ℕ → Result FedRow Stop → Work → List ℕ → Result FedRow Stop → Work → Type 0
-StillShows s piece answer w rest next v = (run : Run) (m : ℕ) → IsShowing s run m piece answer w → (n : ℕ) × IsShowing s run n rest next v
+abbrev StillShows : List ℕ → Result FedRow Stop → Work → List ℕ → Result FedRow Stop → Work → Type 0
+StillShows piece answer w rest next v = (s : Showing) (run : Run) (m : ℕ) → IsShowing s run m piece answer w → (n : ℕ) × IsShowing s run n rest next v
 
-pub draws_still : {s : Showing} {piece rest : List ℕ} {answer next : Result FedRow Stop} {w v : Work} → CanDrawPiece s piece answer w → StillShows s piece answer w rest next v → CanDrawPiece s rest next v
+pub draws_still : {piece rest : List ℕ} {answer next : Result FedRow Stop} {w v : Work} → CanDrawPiece piece answer w → StillShows piece answer w rest next v → CanDrawPiece rest next v
 draws_still k shows =
-    let a = shows k.run k.rows k.showing in
-    record { run = k.run; rows = a.0; showing = a.1 }
+    let a = shows k.asked k.run k.rows k.showing in
+    record { asked = k.asked; run = k.run; rows = a.0; showing = a.1 }
 
 -- at a row
-pub row_waits : {s : Showing} {piece rest : List ℕ} {answer next : Result FedRow Stop} {w v : Work} {used : ℕ} → CanDrawPiece s piece answer w → StillShows s piece answer w rest next v → next ≡ Ok (fed.Row used)
-    → CanDrawPiece s rest (Ok (fed.Row used)) v
-row_waits {s} {rest} {v} k shows is = subst (λ (a : Result FedRow Stop). CanDrawPiece s rest a v) is (draws_still k shows)
+pub row_waits : {piece rest : List ℕ} {answer next : Result FedRow Stop} {w v : Work} {used : ℕ} → CanDrawPiece piece answer w → StillShows piece answer w rest next v → next ≡ Ok (fed.Row used)
+    → CanDrawPiece rest (Ok (fed.Row used)) v
+row_waits {rest} {v} k shows is = subst (λ (a : Result FedRow Stop). CanDrawPiece rest a v) is (draws_still k shows)
 
 -- a row that waits at this answer, and its place in the piece
 pub record IsAtRow (piece : List ℕ) (used : ℕ) (q : Coefs) (d : Drawing) : Type 0 where

@@ -2,16 +2,15 @@
 use Rattle.std.proofs.Common.{◌≡◌, ℕ, ◌+◌, ◌<◌, ◌≤◌, Bool, List, [], ◌++◌, length, take, drop, refl, sym, ap, ◌∙◌, subst, arith, inl, inr, ◌⊎◌, Option, None, Result, Ok, Err}
 use Rattle.std.specs.List.{All}
 use Rattle.std.proofs.lemmas.Bool.{cases_lt}
+use Rattle.std.proofs.lemmas.List.Elements.{All-append}
 use Rattle.std.proofs.lemmas.List.{append-nil, length-append, take_all, take-append-drop, take-append-le}
 use Rattle.std.specs.Io.KnownBytes.{Consumes}
-use Rattle.jpg_base.specs.declared.names.Got.{Got}
-use Rattle.jpg_base.specs.declared.names.Got.TheVariants as got
 use Rattle.jpg_base.specs.declared.names.Put.{Put}
 use Rattle.jpg_base.specs.declared.names.Put.TheVariants as put
 use Rattle.jpg_base.specs.declared.names.Name.{Name}
 use Rattle.jpg_base.specs.declared.stop.Stop.{Stop}
 use Rattle.jpg_base.specs.declared.stop.Stop.TheVariants as stop
-use Rattle.jpg_base.specs.Desk.{DeskState, NotesName, Reads}
+use Rattle.jpg_base.specs.Desk.{DeskState, NotesName}
 use Rattle.jpg_base.specs.Laws.{Consumes-then, Grows}
 use Rattle.jpg_spec.specs.UnfinishedFile.{UnfinishedFile}
 use Rattle.jpg_spec.specs.Markers.{Segment}
@@ -25,30 +24,18 @@ use Rattle.jpg_spec.proofs.McuRows.RowsOnce.{first_told, rows_once, rows_stay}
 use Rattle.jpg_file.specs.Read.ReadFile.{ReaderState}
 use Rattle.jpg_file.specs.Read.ReadRows.{AfterFeedRow, FeedsRow, HasReadRows}
 use Rattle.jpg_file.specs.Read.RowsNone.{HasNoRows}
-use Rattle.jpg_file.specs.Read.Strips.{RowsAfter, RowsInside, RepresentsRows}
-use Rattle.jpg_file.specs.declared.read.file.FileWork.{FileWork}
 use Rattle.jpg_file.specs.declared.read.pieces.FedRow.{FedRow}
 use Rattle.jpg_file.specs.declared.read.pieces.FedRow.TheVariants as fed
-use Rattle.jpg_file.specs.declared.read.rows.RowWork.{RowWork}
 use Rattle.jpg_pnm_bmp.specs.EndState.{EndState}
 use Rattle.jpg_color.specs.StripImage.{Drawing}
 use Rattle.jpg_desk.specs.ReadPicture.{IsOpenRead, IsUnwanted, Image}
 use Rattle.jpg_cli.specs.Tools.Showing.{IsInTime, Showing}
-use Rattle.jpg_cli.specs.Tools.ShowingRows.{HasCreated, HasShown, Head, IsDrawing, IsHeadIn, IsShowing, at_work, Run, more_read, Work}
+use Rattle.jpg_cli.specs.Tools.ShowingRows.{HasCreated, HasShown, Head, IsDrawing, IsHeadIn, IsShowing, ReadsNext, at_work, Run, more_read, Work}
+use Rattle.jpg_desk.specs.Stays.{OnlyReads}
 use Rattle.jpg_desk.proofs.PiecesRead.{works_then}
 use Rattle.jpg_cli.proofs.Pieces.FirstRead.{not_none}
 use Rattle.jpg_cli.proofs.ByRow.RowHeads.{begins_more, begins_upto, one_head}
 use Rattle.jpg_cli.proofs.ByRow.RowsEnd.{none_unwanted}
-
--- COUNTS
-
--- the bytes that were taken are counted
-pub taken_by_row : {limits : Limits} {bytes : List ℕ} {w : FileWork} {rows : RowWork} → RepresentsRows limits bytes w rows → w.reading.taken ≡ length bytes
-taken_by_row {limits} {bytes} {w} {rows} h = by h.at
-  where
-    by : RowsInside limits bytes w rows h.whole ⊎ RowsAfter limits bytes w rows h.whole → w.reading.taken ≡ length bytes
-    by (inl i) = (i.held).count
-    by (inr b) = ((b.between).beside).count
 
 -- ROWS that are decoded remain so, and if more are decoded, fewer are
 fewer_told : {bytes : List ℕ} (k : ℕ) {m : ℕ} {blocks : Blocks} → k ≤ m → TellsRows standard_limits bytes m blocks → (x : Blocks) × TellsRows standard_limits bytes k x
@@ -101,17 +88,16 @@ drawing_more {all} piece {m} k = record {
   enough = λ n x few told. k.enough n x few (told_before piece few k.told told);
 }
 
-module _ {s : Showing} {old start : DeskState} {all bytes written : List ℕ} where
-  -- what was read and what was written, after one more call
-  pub created_then : {answer : Got} {buf : List ℕ} {s0 s1 : DeskState} → Reads s0 answer buf s1 → HasCreated s old start all written s0 → Consumes start.left s1.left bytes → HasCreated s old start bytes written s1
-  created_then read h left = record {
-    opened = h.opened;
-    works = works_then h.works (record { stays = record { counts = read.counts; files = read.files }; said = read.said });
-    left = left;
-    asked = (let P : Option (List (Name × Put)) → Type 0 = λ a. NotesName start.asked (s.output, put.Done) a in subst P (sym read.asked) h.asked);
-    outputs = (let P : Option (List (Name × List ℕ)) → Type 0 = λ a. Grows start.outputs (s.output, written) a in subst P (sym read.outputs) h.outputs);
-    created = read.output_created ∙ h.created;
-  }
+-- what was read and what was written, after one more read
+pub created_then : {s : Showing} {old start : DeskState} {all bytes written : List ℕ} {s0 s1 : DeskState} → OnlyReads s0 s1 → HasCreated s old start all written s0 → Consumes start.left s1.left bytes → HasCreated s old start bytes written s1
+created_then {s} {start} {written} read h left = record {
+  opened = h.opened;
+  works = works_then h.works read.copies.works;
+  left = left;
+  asked = (let P : Option (List (Name × Put)) → Type 0 = λ a. NotesName start.asked (s.output, put.Done) a in subst P (sym read.copies.asked) h.asked);
+  outputs = (let P : Option (List (Name × List ℕ)) → Type 0 = λ a. Grows start.outputs (s.output, written) a in subst P (sym read.outputs) h.outputs);
+  created = read.copies.output_created ∙ h.created;
+}
 
 pub open_rows : {gray : Bool} {h : Head} {all : List ℕ} {m : ℕ} {r : ReaderState} → r.limits ≡ standard_limits → IsHeadIn gray h all → HasReadRows all m r → IsOpenRead (Image gray) all
 open_rows {gray} {all} e head k = record {
@@ -139,33 +125,30 @@ early_more {s} {run} {work} piece {m} few k front rest text cut many due =
     let none = ap length k.out in
     omega (arith, fits, ap length text_is, none, length-append k.written (work.image).out)
 
--- a piece of the input, of the first bytes of this buffer
-pub record IsNextPiece (all buf : List ℕ) (n : ℕ) : Type 0 where
-  pub few : length (take n buf) ≤ 16384
-  pub most : length (all ++ take n buf) ≤ standard_limits.input
-  pub small : All (λ b. b < 256) (all ++ take n buf)
+-- the reader was fed it
+pub fed_more : {s : Showing} {run : Run} {work : Work} {m : ℕ} {piece : List ℕ} (answer : Result FedRow Stop) (new : ReaderState) → ReadsNext s run m piece work
+    → All (λ b. b < 256) piece → FeedsRow work.reader piece answer new → new.limits ≡ (work.reader).limits → IsShowing s (more_read run piece) m piece answer (at_work new work.image work.end work.now)
+fed_more {s} {run} {work} {m} {piece} answer new n small feeds limits = record {
+  written = k.written;
+  read = record {
+    fed = run.all;
+    cut = refl;
+    few = n.reads.few;
+    limits = limits ∙ k.limits;
+    after = after;
+    begun = work_stays piece m answer new (limits ∙ k.limits) (k.head).begins after;
+    most = n.most;
+    small = All-append (λ b. b < 256) run.all piece k.small small;
+    short = record { front = run.all; piece = piece; cut = refl; few = (let few = n.reads.few in omega (arith, few)); before = open_rows k.limits k.head k.read };
+    head = record { begins = begins_more run.all piece (run.head).before (run.head).contents (k.head).begins; shown = (k.head).shown };
+  };
+  drawing = drawing_more piece k.drawing;
+  desk = created_then n.reads.kept k.desk (Consumes-then (run.start).left (n.before).left (work.now).left run.all piece (k.desk).left n.reads.read);
+  early = early_more piece n.reads.few k;
+}
+  where
+    k : HasShown s run m (record work { now = n.before })
+    k = n.shown
 
-module _ {s : Showing} {run : Run} {work : Work} where
-  pub fed_more : {m n : ℕ} {buf : List ℕ} (answer : Result FedRow Stop) (new : ReaderState) {s1 : DeskState} → IsNextPiece run.all buf n
-      → Reads work.now (got.Bytes n) buf s1 → FeedsRow work.reader (take n buf) answer new → new.limits ≡ (work.reader).limits → HasShown s run m work → IsShowing s (more_read run (take n buf)) m (take n buf) answer (at_work new work.image work.end s1)
-  fed_more {m} {n} {buf} answer new {s1} p read feeds limits k = record {
-    written = k.written;
-    read = record {
-      fed = run.all;
-      cut = refl;
-      few = p.few;
-      limits = limits ∙ k.limits;
-      after = after;
-      begun = work_stays (take n buf) m answer new (limits ∙ k.limits) (k.head).begins after;
-      most = p.most;
-      small = p.small;
-      short = record { front = run.all; piece = take n buf; cut = refl; few = (let few = p.few in omega (arith, few)); before = open_rows k.limits k.head k.read };
-      head = record { begins = begins_more run.all (take n buf) (run.head).before (run.head).contents (k.head).begins; shown = (k.head).shown };
-    };
-    drawing = drawing_more (take n buf) k.drawing;
-    desk = created_then read k.desk (Consumes-then (run.start).left (work.now).left s1.left run.all (take n buf) (k.desk).left read.after.2);
-    early = early_more (take n buf) p.few k;
-  }
-    where
-      after : AfterFeedRow run.all m (take n buf) answer new
-      after = feeds run.all m (inr (inl k.read))
+    after : AfterFeedRow run.all m piece answer new
+    after = feeds run.all m (inr (inl k.read))

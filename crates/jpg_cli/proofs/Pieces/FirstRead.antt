@@ -34,7 +34,7 @@ use Rattle.jpg_spec.specs.Geometry.{Frame}
 use Rattle.jpg_spec.specs.Scan.{Blocks}
 use Rattle.jpg_desk.specs.ReadPicture.{AfterFileEnd, IsRefusedFor, IsRefusedRead, IsUnwanted, unwanted_in, Image}
 use Rattle.jpg_cli.specs.Tools.Showing.{IsShownByRows}
-use Rattle.jpg_cli.specs.Tools.ShowingRows.{AfterFirst, BeginsShownRows, HasFedPlainly, HoldsEarlyPlainly, HoldsPlainly, IsHeadIn, StaysFirst, step_of}
+use Rattle.jpg_cli.specs.Tools.ShowingRows.{AfterFirst, BeginsShownRows, HasFedPlainly, HoldsEarlyPlainly, HoldsPlainly, IsHeadIn, step_of}
 use Rattle.jpg_desk.proofs.PictureBytes.{early_end, has_fed, holds_file, new_place, refused_end, refused_there, short_piece, stop_within}
 use Rattle.jpg_cli.proofs.ByRow.RowHeads.{begins_still, begins_whole, shown_before}
 use Rattle.jpg_desk.proofs.Unwanted.{fault_after, stop_wanted, unwanted_head, unwanted_more, unwanted_within, wanted_head}
@@ -311,10 +311,3 @@ by_answer gray bytes piece (Ok (fed.Row used)) old r eo e k short small none out
 by_answer gray bytes piece (Ok (fed.Done used)) old r eo e k short small none out after = done_first gray bytes piece used r e short small none out after
 by_answer gray bytes piece (Err (stop.Fault f)) old r eo e k short small none out after = fault_first gray bytes piece f r e short none out after
 by_answer gray bytes piece (Err stop.NoMemory) old r eo e k short small none out after = short_piece (Image gray) bytes piece old eo k.fed (omega (arith, short))
-
-pub stays_by : (answer : Result FedRow Stop) (r : ReaderState) → EndsDoneRow answer r → StaysFirst (step_of answer) r
-stays_by (Ok fed.More) r h = h
-stays_by (Ok (fed.Row used)) r h = h
-stays_by (Ok (fed.Done used)) r h = h
-stays_by (Err (stop.Fault f)) r h = tt
-stays_by (Err stop.NoMemory) r h = tt

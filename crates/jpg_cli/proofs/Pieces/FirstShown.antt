@@ -3,11 +3,12 @@ use Rattle.std.proofs.Common.{◌≡◌, ℕ, ◌≤◌, List, [], length, take,
 use Rattle.std.specs.Io.KnownBytes.{Consumes}
 use Rattle.jpg_base.specs.declared.names.Name.{Name}
 use Rattle.jpg_base.specs.declared.names.Put.TheVariants as put
-use Rattle.jpg_base.specs.Desk.{DeskState, Opens}
+use Rattle.jpg_base.specs.Desk.{DeskState, Opens, Rose}
 use Rattle.jpg_spec_image.specs.ImageText.{end_text}
 use Rattle.jpg_spec.specs.Meaning.{Meaning}
 use Rattle.jpg_spec_image.specs.Pixels.{info, out_fault, pixels}
 use Rattle.jpg_spec.specs.Segments.{standard_limits}
+use Rattle.jpg_spec.specs.declared.fault.FaultAt.{FaultAt}
 use Rattle.jpg_spec_words.specs.declared.answers.Why.{Why}
 use Rattle.jpg_spec_words.specs.declared.answers.Why.TheVariants as why
 use Rattle.jpg_spec_words.specs.declared.answers.Which.TheVariants as which
@@ -21,8 +22,8 @@ use Rattle.jpg_desk.specs.Reading.{rest_of}
 use Rattle.jpg_desk.specs.Judging.{IsAllRead, ReadsFrom, TakesPieces}
 use Rattle.jpg_desk.specs.ReadPicture.{IsOpenRead, IsReadPicture, IsRefusedRead, IsShortRead, unwanted_for, Wanted, Image}
 use Rattle.jpg_cli.specs.Outcome.{all_bytes, bytes_before}
-use Rattle.jpg_cli.specs.Tools.Showing.{AfterImage, IsPlain, Shown, Showing, shown_text}
-use Rattle.jpg_cli.specs.Tools.ShowingRows.{EndsPlainly, HoldsEarlyPlainly, HoldsPlainly}
+use Rattle.jpg_cli.specs.Tools.Showing.{AfterImage, IsPlain, IsShownByRows, Shown, Showing, shown_text}
+use Rattle.jpg_cli.specs.Tools.ShowingRows.{HasOpened, HoldsEarlyPlainly, HoldsPlainly}
 use Rattle.jpg_desk.specs.Stays.{Keeps, OnlyReads}
 use Rattle.jpg_desk.proofs.PiecesRead.{works_then}
 use Rattle.jpg_cli.proofs.ByRow.ImageShown.{shown_written, text_shown}
@@ -31,13 +32,19 @@ use Rattle.jpg_desk.proofs.PictureTaken.{early_meaning, early_taken, file_taken,
 
 -- IT ENDS
 
-pub ends_plainly : (s : Showing) (old start new : DeskState) (ended : Why) → Opens old s.input put.Done start → OnlyReads start new → EndsPlainly s.gray start ended new → Shown s old ended new
-ends_plainly s old start new (why.Refused f) h k e =
-    inl (stopped_there old start new s.input h k, reads_from old start new s.input (IsPlain s.gray (bytes_before f) (IsRefusedRead (Image s.gray) f (rest_of new.left))) h e)
-ends_plainly s old start new (why.ReadFault which.Input) h k e =
-    ((let r = e.1 in let f = h.counts.reads in omega arith), inl (stopped_there old start new s.input h k, reads_from old start new s.input (IsPlain s.gray all_bytes (IsOpenRead (Image s.gray))) h e.0))
-ends_plainly s old start new why.NoMemory h k e = inl (stopped_there old start new s.input h k, reads_from old start new s.input (IsShortRead (Image s.gray)) h e)
-ends_plainly s old start new other h k e = absurd e
+module _ {s : Showing} {old start : DeskState} {all : List ℕ} {now : DeskState} (h : HasOpened s old start all now) (most : length all ≤ standard_limits.input) where
+  pub plain_refused : (f : FaultAt) → IsRefusedRead (Image s.gray) f (rest_of now.left) all → (IsShownByRows s.gray (take f.at all) → ⊥) → Shown s old (why.Refused f) now
+  plain_refused f refused plain =
+      inl (stopped_there old start now s.input h.opened h.reads, reads_from old start now s.input (IsPlain s.gray (bytes_before f) (IsRefusedRead (Image s.gray) f (rest_of now.left))) h.opened (all, h.left, most, (refused, plain)))
+
+  pub plain_unread : IsOpenRead (Image s.gray) all → (IsShownByRows s.gray all → ⊥) → Rose start.counts.reads now.counts.reads → Shown s old (why.ReadFault which.Input) now
+  plain_unread is plain rose = (
+    (let f = h.opened.counts.reads in omega (arith, rose, f)),
+    inl (stopped_there old start now s.input h.opened h.reads, reads_from old start now s.input (IsPlain s.gray all_bytes (IsOpenRead (Image s.gray))) h.opened (all, h.left, most, (is, plain))),
+  )
+
+  pub plain_short : IsShortRead (Image s.gray) all → Shown s old why.NoMemory now
+  plain_short is = inl (stopped_there old start now s.input h.opened h.reads, reads_from old start now s.input (IsShortRead (Image s.gray)) h.opened (all, h.left, most, is))
 
 -- IT IS COMPLETE
 

@@ -1,5 +1,5 @@
 -- HOW DECODING A PICTURE ENDS (the manual of djpeg), by why it ended.
-use Rattle.std.specs.Prelude.{◌≡◌, ◌<◌, ℕ, Bool, List, [], length, take, Option, None, Some}
+use Rattle.std.specs.Prelude.{◌≡◌, ◌<◌, ℕ, Bool, List, [], length, take, Option, None, Some, Result, Ok, Err}
 use Rattle.jpg_base.specs.declared.names.Name.{Name}
 use Rattle.jpg_base.specs.declared.names.Put.TheVariants as put
 use Rattle.jpg_base.specs.Desk.{DeskState, NotesName, Rose}
@@ -21,6 +21,7 @@ use Rattle.jpg_spec_image.specs.declared.image.EndKind.{EndKind}
 use Rattle.jpg_color.specs.DecodeRows.{picture_text}
 use Rattle.jpg_file.specs.declared.read.picture.Picture.{Picture}
 use Rattle.jpg_words.specs.declared.djpeg_request.ShowWords.{ShowWords}
+use Rattle.jpg_desk.specs.Judging.{done_as}
 use Rattle.jpg_desk.specs.ReadPicture.{picture_judging, Image}
 use Rattle.jpg_cli.specs.Outcome.{Conversion, Converted, IsSoFar, IsWrittenInTime, ReadsValue, RowTexts, by_rows}
 use Rattle.jpg_desk.specs.Writing.{GrowsInPart}
@@ -117,3 +118,8 @@ AfterImage output early old due other new = ⊥
 -- of this picture, as the words ask for it
 abbrev pub AfterPicture : ShowWords → Picture → Option ℕ → DeskState → Why → DeskState → Type 0
 AfterPicture w p early old ended new = AfterImage w.files.output early old (picture_text w.kind p w.gray w.smooth) ended new
+
+-- why it ended, if the input ended early after this many bytes or not
+abbrev pub shown_as : Result (Unit {0}) Why → Option ℕ → Why
+shown_as (Ok u) early = done_as early
+shown_as (Err ended) early = ended

@@ -1,11 +1,11 @@
 -- DECODING AN INPUT WHILE IT IS READ, step by step (the manual of djpeg): what was read, drawn and written so far.
-use Rattle.std.specs.Prelude.{◌≡◌, ℕ, ◌+◌, ◌-◌, ◌*◌, ◌^◌, ◌<◌, ◌≤◌, Bool, true, false, All, List, [], ◌++◌, length, take, Option, Some, None, Result, Ok, Err}
+use Rattle.std.specs.Prelude.{◌≡◌, ℕ, ◌+◌, ◌*◌, ◌<◌, ◌≤◌, Bool, true, false, All, List, [], ◌++◌, length, take, Option, Some, None, Result, Ok, Err}
 use Rattle.std.specs.Io.KnownBytes.{Consumes}
 use Rattle.jpg_base.specs.declared.names.Name.{Name}
 use Rattle.jpg_base.specs.declared.names.Put.TheVariants as put
 use Rattle.jpg_base.specs.declared.stop.Stop.{Stop}
 use Rattle.jpg_base.specs.declared.stop.Stop.TheVariants as stop
-use Rattle.jpg_base.specs.Desk.{DeskState, NotesName, Opens, Rose}
+use Rattle.jpg_base.specs.Desk.{DeskState, NotesName, Opens}
 use Rattle.jpg_base.specs.Laws.{Grows}
 use Rattle.jpg_spec.specs.InForce.{frame_of}
 use Rattle.jpg_spec.specs.Markers.{Segment}
@@ -22,30 +22,25 @@ use Rattle.jpg_spec.specs.Segments.{standard_limits}
 use Rattle.jpg_spec_image.specs.Strips.{mcu_rows}
 use Rattle.jpg_spec_words.specs.declared.answers.Why.{Why}
 use Rattle.jpg_spec_words.specs.declared.answers.Why.TheVariants as why
-use Rattle.jpg_spec_words.specs.declared.answers.Which.TheVariants as which
-use Rattle.jpg_file.specs.Read.ReadRows.{AfterEndRow, AfterFeedRow, EndsDoneRow, HasReadRows, IsDoneByRows, IsEarlyByRows}
+use Rattle.jpg_file.specs.Read.ReadRows.{AfterFeedRow, EndsDoneRow, HasReadRows, IsDoneByRows, IsEarlyByRows}
 use Rattle.jpg_file.specs.Read.RowsNone.{HasNoRows}
-use Rattle.jpg_file.specs.declared.read.ends.End.TheVariants as ends
 use Rattle.jpg_file.specs.declared.read.pieces.FedRow.{FedRow}
 use Rattle.jpg_file.specs.declared.read.pieces.FedRow.TheVariants as fed
-use Rattle.jpg_file.specs.Read.ReadFile.{IsRefusal, ReaderState}
-use Rattle.jpg_spec.specs.declared.frame.Limits.{Limits}
-use Rattle.jpg_pnm_bmp.specs.EndState.{EndState}
+use Rattle.jpg_file.specs.Read.ReadFile.{ReaderState}
+use Rattle.jpg_pnm_bmp.specs.EndState.{EndState, new_end}
 use Rattle.jpg_seq.specs.Rows.{rows_in_mcu}
 use Rattle.jpg_color.specs.Shown.{rows_made_ready}
 use Rattle.jpg_color.specs.StripImage.{Drawing, IsDrawnTo, IsEndOf}
 use Rattle.jpg_color.specs.declared.decode.DecodeStop.{DecodeStop}
 use Rattle.jpg_color.specs.declared.decode.DecodeStop.TheVariants as decode
-use Rattle.jpg_desk.specs.Judging.{TakesPieces}
-use Rattle.jpg_desk.specs.ReadPicture.{AfterFileEnd, HasFed, HoldsEarly, HoldsFile, IsEarlyRead, IsOpenRead, IsRefusedRead, IsShortRead, Image}
+use Rattle.jpg_desk.specs.Pump.{FedKind, ReadsPiece, ended_as}
+use Rattle.jpg_desk.specs.ReadPicture.{HasFed, HoldsEarly, HoldsFile, IsEarlyRead, IsRefusedRead, IsShortRead, Image}
 use Rattle.jpg_desk.specs.Reading.{rest_of}
-use Rattle.jpg_cli.specs.Outcome.{all_bytes, bytes_before}
-use Rattle.jpg_cli.specs.Tools.Showing.{IsInTime, IsPlain, IsShownByRows, Showing, Shown, showing_view, shown_text}
+use Rattle.jpg_cli.specs.Tools.Showing.{IsInTime, IsShownByRows, Showing, Shown, showing_view, shown_text}
 use Rattle.jpg_desk.specs.Stays.{OnlyReads, OnlyWorks}
 use Rattle.jpg_cli.specs.declared.tools.djpeg.FirstStep.{FirstStep}
+use Rattle.jpg_cli.specs.declared.tools.djpeg_rows.FedPiece.{FedPiece}
 use Rattle.jpg_cli.specs.declared.tools.djpeg.FirstStep.TheVariants as first
-use Rattle.jpg_cli.specs.declared.tools.djpeg_rows.RowsStep.{RowsStep}
-use Rattle.jpg_cli.specs.declared.tools.djpeg_rows.RowsStep.TheVariants as step
 use Rattle.jpg_words.specs.declared.djpeg_request.ShowWords.{ShowWords}
 
 -- UP TO THE FIRST SCAN
@@ -102,8 +97,7 @@ pub record BeginsShownRows (gray : Bool) (all piece : List ℕ) (answer : Result
 abbrev pub AfterFirst : Bool → List ℕ → List ℕ → FirstStep → ReaderState → Type 0
 AfterFirst gray bytes piece first.More r = HasFedPlainly gray r (bytes ++ piece)
 AfterFirst gray bytes piece first.Whole r = HoldsPlainly gray r (bytes ++ piece)
-AfterFirst gray bytes piece (first.Early n) r = ⊥
-AfterFirst gray bytes piece (first.Rows count answer) r = (count ≡ length piece) × BeginsShownRows gray (bytes ++ piece) piece answer r
+AfterFirst gray bytes piece (first.Rows answer) r = BeginsShownRows gray (bytes ++ piece) piece answer r
 AfterFirst gray bytes piece (first.Ended (why.Refused f)) r =
     ((rest : List ℕ) → IsRefusedRead (Image gray) f rest (bytes ++ piece)) × (IsShownByRows gray (take f.at (bytes ++ piece)) → ⊥)
 AfterFirst gray bytes piece (first.Ended why.NoMemory) r = IsShortRead (Image gray) (bytes ++ piece)
@@ -122,52 +116,7 @@ step_of (Ok (fed.Done used)) = first.Whole
 step_of (Err (stop.Fault f)) = first.Ended (why.Refused f)
 step_of (Err stop.NoMemory) = first.Ended why.NoMemory
 
--- whether the reader goes on then
-abbrev pub StaysFirst : FirstStep → ReaderState → Type 0
-StaysFirst first.More r = r.done ≡ false
-StaysFirst first.Whole r = r.done ≡ true
-StaysFirst (first.Early n) r = Unit {0}
-StaysFirst (first.Rows count answer) r = EndsDoneRow answer r
-StaysFirst (first.Ended ended) r = Unit {0}
-
--- the result of bytes where the input ends
-abbrev pub AfterFirstEnd : Bool → List ℕ → FirstStep → ReaderState → Type 0
-AfterFirstEnd gray bytes (first.Early n) r = HoldsEarlyPlainly gray r n bytes
-AfterFirstEnd gray bytes (first.Ended ended) r = AfterFileEnd (Image gray) bytes ended
-AfterFirstEnd gray bytes other r = ⊥
-
--- THE DESK, from when its input was opened: the result of reading
-
-abbrev pub EndsPlainly : Bool → DeskState → Why → DeskState → Type 0
-EndsPlainly gray old (why.Refused f) new = TakesPieces (IsPlain gray (bytes_before f) (IsRefusedRead (Image gray) f (rest_of new.left))) old new
-EndsPlainly gray old (why.ReadFault which.Input) new = TakesPieces (IsPlain gray all_bytes (IsOpenRead (Image gray))) old new × Rose old.counts.reads new.counts.reads
-EndsPlainly gray old why.NoMemory new = TakesPieces (IsShortRead (Image gray)) old new
-EndsPlainly gray old other new = ⊥
-
-abbrev pub EndsFirst : Bool → DeskState → FirstStep → List ℕ → ReaderState → DeskState → Type 0
-EndsFirst gray old first.More buffer r new = ⊥
-EndsFirst gray old first.Whole buffer r new = (r.done ≡ true) × (r.rows ≡ None) × TakesPieces (HoldsPlainly gray r) old new
-EndsFirst gray old (first.Early n) buffer r new =
-    (r.done ≡ true) × (r.rows ≡ None) × TakesPieces (HoldsEarlyPlainly gray r n) old new × (rest_of new.left ≡ [])
-EndsFirst gray old (first.Rows count answer) buffer r new =
-    (count ≤ length buffer) × (new.input_open ≡ true) × TakesPieces (λ bytes. BeginsShownRows gray bytes (take count buffer) answer r) old new
-EndsFirst gray old (first.Ended ended) buffer r new = EndsPlainly gray old ended new
-
--- one more piece
-abbrev pub AfterFirstRead : Bool → DeskState → List ℕ → FirstStep → List ℕ → ReaderState → DeskState → Type 0
-AfterFirstRead gray old bytes first.More buffer r new =
-    (piece : List ℕ) × (0 < length piece) × HasFedPlainly gray r (bytes ++ piece) × Consumes old.left new.left (bytes ++ piece)
-AfterFirstRead gray old bytes step buffer r new = EndsFirst gray old step buffer r new
-
-abbrev pub ReadsFirst : Bool → ReaderState → DeskState → FirstStep → List ℕ → ReaderState → DeskState → Type 0
-ReadsFirst gray had old answer buffer r new =
-    (s : DeskState) (bytes : List ℕ) → HasFedPlainly gray had bytes → OnlyReads s old → Consumes s.left old.left bytes
-    → AfterFirstRead gray s bytes answer buffer r new
-
--- if more of the input may be read, it is open, and the reader goes on
-abbrev pub GoesOnFirst : FirstStep → ReaderState → DeskState → Type 0
-GoesOnFirst first.More r now = (r.done ≡ false) × (now.input_open ≡ true)
-GoesOnFirst step r now = Unit {0}
+-- THE DESK
 
 -- The input of this name was opened before.
 abbrev pub IsOpened : Name → DeskState → Type 0
@@ -297,78 +246,59 @@ pub record IsEnding (s : Showing) (run : Run) (n gap : ℕ) (d : Drawing) (e : E
   pub early : IsInTime s run.all written
   pub ended : rest_of now.left ≡ []
 
--- the result of a piece
-abbrev pub AfterShownPiece : Showing → Run → RowsStep → Work → Type 0
-AfterShownPiece s run step.More w = (m : ℕ) × HasShown s run m w
-AfterShownPiece s run step.Whole w = (m : ℕ) × HasShownAll s run m w
-AfterShownPiece s run (step.Early n) w = (m : ℕ) × HasShownEarly s run m n w
-AfterShownPiece s run (step.Ended ended) w = Shown s run.old ended w.now
+-- A piece was read, after all MCU rows that were complete had been drawn and written.
+pub record ReadsNext (s : Showing) (run : Run) (m : ℕ) (piece : List ℕ) (w : Work) : Type 0 where
+  pub before : DeskState
+  pub shown : HasShown s run m (record w { now = before })
+  pub reads : ReadsPiece before piece w.now
+  pub most : length (run.all ++ piece) ≤ standard_limits.input
+
+-- the reader's last result for a piece, all MCU rows of which were drawn and written
+abbrev pub AfterLast : Showing → Run → Result FedRow Stop → Work → Type 0
+AfterLast s run (Ok fed.More) w = (m : ℕ) × HasShown s run m w
+AfterLast s run (Ok (fed.Row used)) w = ⊥
+AfterLast s run (Ok (fed.Done used)) w = (m : ℕ) × HasShownAll s run m w
+AfterLast s run (Err (stop.Fault f)) w = Shown s run.old (why.Refused f) w.now
+AfterLast s run (Err stop.NoMemory) w = ⊥
+
+-- the result of a piece: more is taken, or the image is complete; or why it ends
+abbrev pub AfterShownPiece : Showing → Run → Result Bool Why → Work → Type 0
+AfterShownPiece s run (Ok false) w = (m : ℕ) × HasShown s run m w
+AfterShownPiece s run (Ok true) w = Shown s run.old why.Done w.now
+AfterShownPiece s run (Err ended) w = Shown s run.old ended w.now
 
 -- Something was read and drawn before.
-pub record CanBeginRows (s : Showing) (piece : List ℕ) (answer : Result FedRow Stop) (r : ReaderState) (now : DeskState) : Type 0 where
-  pub old : DeskState
-  pub start : DeskState
-  pub all : List ℕ
-  pub begins : BeginsShownRows s.gray all piece answer r
-  pub opened : HasOpened s old start all now
+abbrev pub CanBegin : Showing → ReaderState → DeskState → Type 0
+CanBegin s r now =
+    (old start : DeskState) × (all piece : List ℕ) × (answer : Result FedRow Stop) × BeginsShownRows s.gray all piece answer r × HasOpened s old start all now
 
-pub record CanDrawPiece (s : Showing) (piece : List ℕ) (answer : Result FedRow Stop) (w : Work) : Type 0 where
+pub record CanDrawPiece (piece : List ℕ) (answer : Result FedRow Stop) (w : Work) : Type 0 where
+  pub asked : Showing
   pub run : Run
   pub rows : ℕ
-  pub showing : IsShowing s run rows piece answer w
+  pub showing : IsShowing asked run rows piece answer w
 
-pub record CanReadRows (s : Showing) (w : Work) : Type 0 where
+pub record CanReadRows (piece : List ℕ) (w : Work) : Type 0 where
+  pub asked : Showing
   pub run : Run
   pub rows : ℕ
-  pub shown : HasShown s run rows w
+  pub next : ReadsNext asked run rows piece w
 
-pub record CanFinishImage (s : Showing) (w : Work) : Type 0 where
+pub record CanEnd (w : Work) : Type 0 where
+  pub asked : Showing
   pub run : Run
   pub rows : ℕ
-  pub shown : HasShownAll s run rows w
-
-pub record CanEnd (s : Showing) (n : ℕ) (w : Work) : Type 0 where
-  pub run : Run
-  pub rows : ℕ
-  pub shown : HasShownEarly s run rows n w
+  pub count : ℕ
+  pub shown : HasShownEarly asked run rows count w
 
 -- All rows that are missing are zero.
-pub record CanEndInZeros (s : Showing) (n : ℕ) (d : Drawing) (e : EndState) (now : DeskState) : Type 0 where
+pub record CanEndInZeros (d : Drawing) (e : EndState) (now : DeskState) : Type 0 where
+  pub asked : Showing
   pub run : Run
-  pub ending : IsEnding s run n 0 d e now
+  pub count : ℕ
+  pub ending : IsEnding asked run count 0 d e now
 
--- WHATEVER the state was
-
-abbrev pub Draws : ShowWords → List ℕ → Result FedRow Stop → ReaderState → Drawing → EndState → DeskState
-    → RowsStep → ReaderState → Drawing → EndState → DeskState → Type 0
-Draws words piece answer r d e s0 result new_r new_d new_e s1 =
-    (run : Run) (m : ℕ) → IsShowing (showing_view words) run m piece answer (at_work r d e s0)
-    → AfterShownPiece (showing_view words) run result (at_work new_r new_d new_e s1)
-
-abbrev pub ReadsRows : Showing → ReaderState → Drawing → EndState → DeskState → RowsStep → ReaderState → Drawing → EndState → DeskState → Type 0
-ReadsRows s r d e s0 result new_r new_d new_e s1 =
-    (run : Run) (m : ℕ) → HasShown s run m (at_work r d e s0)
-    → (more : List ℕ) × AfterShownPiece s (more_read run more) result (at_work new_r new_d new_e s1)
-
-abbrev pub FinishesRows : Showing → ReaderState → Drawing → EndState → DeskState → Why → DeskState → Type 0
-FinishesRows s r d e s0 ended s1 =
-    (run : Run) (m : ℕ) → HasShownAll s run m (at_work r d e s0) → Shown s run.old ended s1
-
-abbrev pub FinishesEarly : Showing → ℕ → ReaderState → Drawing → EndState → DeskState → Why → DeskState → Type 0
-FinishesEarly s n r d e s0 ended s1 =
-    (run : Run) (m : ℕ) → HasShownEarly s run m n (at_work r d e s0) → Shown s run.old ended s1
-
-abbrev pub EndsInZeros : Showing → ℕ → Drawing → EndState → DeskState → Why → DeskState → Type 0
-EndsInZeros s n d e s0 ended s1 = (run : Run) → IsEnding s run n 0 d e s0 → Shown s run.old ended s1
-
-abbrev pub ShowsFrom : Showing → List ℕ → Result FedRow Stop → ReaderState → DeskState → Why → DeskState → Type 0
-ShowsFrom s piece answer r s0 ended s1 =
-    (old start : DeskState) (all : List ℕ) → BeginsShownRows s.gray all piece answer r → HasOpened s old start all s0 → Shown s old ended s1
-
-abbrev pub DrawsFrom : Showing → List ℕ → Result FedRow Stop → ReaderState → Drawing → EndState → DeskState → Why → DeskState → Type 0
-DrawsFrom s piece answer r d e s0 ended s1 =
-    (run : Run) (m : ℕ) → IsShowing s run m piece answer (at_work r d e s0) → Shown s run.old ended s1
-
+-- why it ends
 abbrev pub why_of : Result (Unit {0}) DecodeStop → Why
 why_of (Ok u) = why.Done
 why_of (Err decode.NoMemory) = why.NoMemory
@@ -379,27 +309,35 @@ abbrev pub warned_of : Result (Unit {0}) DecodeStop → ℕ → Why
 warned_of (Ok u) n = why.Warned n
 warned_of (Err stopped) n = why_of (Err stopped)
 
--- more bytes were taken
-abbrev pub GoesLater : ℕ → RowsStep → ℕ → Type 0
-GoesLater before step.More now = (before < now) × (before < 2 ^ 40)
-GoesLater before step.Whole now = Unit {0}
-GoesLater before (step.Early n) now = Unit {0}
-GoesLater before (step.Ended ended) now = Unit {0}
+-- WHATEVER the state was
 
--- how much may be read at most
-abbrev pub reads_left : RowsStep → ℕ → ℕ
-reads_left step.More taken = 1 + (2 ^ 40 - taken)
-reads_left step.Whole taken = 0
-reads_left (step.Early n) taken = 0
-reads_left (step.Ended ended) taken = 0
+-- The image is begun, or why not.
+abbrev pub AfterBegin : Showing → Run → List ℕ → Result FedRow Stop → ReaderState → Result Drawing Why → EndState → DeskState → Type 0
+AfterBegin s run piece answer r (Ok d) e now = IsShowing s run 0 piece answer (at_work r d e now)
+AfterBegin s run piece answer r (Err ended) e now = Shown s run.old ended now
 
--- what follows from the reader's result, if no further MCU row is complete
-abbrev pub last_step : Result FedRow Stop → RowsStep
-last_step (Ok fed.More) = step.More
-last_step (Ok (fed.Row used)) = step.More
-last_step (Ok (fed.Done used)) = step.Whole
-last_step (Err (stop.Fault f)) = step.Ended (why.Refused f)
-last_step (Err stop.NoMemory) = step.Ended why.NoMemory
+abbrev pub Begins : Showing → ReaderState → DeskState → Result Drawing Why → EndState → DeskState → Type 0
+Begins s r s0 result e s1 =
+    (old start : DeskState) (all piece : List ℕ) (answer : Result FedRow Stop) (k : BeginsShownRows s.gray all piece answer r) → HasOpened s old start all s0
+    → AfterBegin s (record { old = old; start = start; head = k.head; all = all }) piece answer r result e s1
+
+abbrev pub Draws : FedPiece → ReaderState → Drawing → EndState → DeskState → Result Bool Why → ReaderState → Drawing → EndState → DeskState → Type 0
+Draws fed r d e s0 result new_r new_d new_e s1 =
+    (s : Showing) (run : Run) (m : ℕ) → IsShowing s run m fed.piece.now fed.answer (at_work r d e s0)
+    → AfterShownPiece s run result (at_work new_r new_d new_e s1)
+
+abbrev pub DrawsNext : List ℕ → ReaderState → Drawing → EndState → DeskState → Result Bool Why → ReaderState → Drawing → EndState → DeskState → Type 0
+DrawsNext piece r d e s0 result new_r new_d new_e s1 =
+    (s : Showing) (run : Run) (m : ℕ) → ReadsNext s run m piece (at_work r d e s0)
+    → AfterShownPiece s (more_read run piece) result (at_work new_r new_d new_e s1)
+
+abbrev pub FinishesEarly : Work → Result (Unit {0}) DecodeStop → DeskState → Type 0
+FinishesEarly w result s1 =
+    (s : Showing) (run : Run) (m n : ℕ) → HasShownEarly s run m n w → Shown s run.old (warned_of result n) s1
+
+abbrev pub EndsInZeros : Drawing → EndState → DeskState → Result (Unit {0}) DecodeStop → DeskState → Type 0
+EndsInZeros d e s0 result s1 =
+    (s : Showing) (run : Run) (n : ℕ) → IsEnding s run n 0 d e s0 → Shown s run.old (warned_of result n) s1
 
 abbrev pub IsLastPiece : Result FedRow Stop → Type 0
 IsLastPiece (Ok fed.More) = Unit {0}
@@ -412,20 +350,37 @@ abbrev pub EndsShownRow : Result FedRow Stop → Option ℕ → Type 0
 EndsShownRow answer (Some used) = answer ≡ Ok (fed.Row used)
 EndsShownRow answer None = IsLastPiece answer
 
--- bytes are refused where the input ends
-abbrev pub StopsWith : Limits → List ℕ → Why → Type 0
-StopsWith limits bytes (why.Refused f) = IsRefusal limits bytes f
-StopsWith limits bytes other = ⊥
+-- ALL PIECES: what takes them has the words, the reader, the image once it is begun, and its writer
+pub record Shower : Type 0 where
+  pub words : ShowWords
+  pub reader : ReaderState
+  pub image : Option Drawing
+  pub end : EndState
 
--- the result of bytes where the input ends, of which this many MCU rows were given
-abbrev pub AfterRowsEnd : List ℕ → ℕ → RowsStep → ReaderState → Type 0
-AfterRowsEnd bytes m (step.Early n) r = AfterEndRow bytes m (ends.Early n) r
-AfterRowsEnd bytes m (step.Ended ended) r = StopsWith r.limits bytes ended
-AfterRowsEnd bytes m other r = ⊥
+-- Nothing was done but reading, or all MCU rows that the bytes complete were drawn and written.
+abbrev pub HoldsImage : Option Drawing → Showing → DeskState → DeskState → List ℕ → Shower → DeskState → Type 0
+HoldsImage None s old start bytes w now = HasFedPlainly s.gray w.reader bytes × (w.end ≡ new_end s.kind) × HasOpened s old start bytes now
+HoldsImage (Some d) s old start bytes w now =
+    (h : Head) × (m : ℕ) × HasShown s (record { old = old; start = start; head = h; all = bytes }) m (at_work w.reader d w.end now)
 
--- if more may be read, the input is open, and so is the output
-abbrev pub GoesOnRows : RowsStep → ReaderState → DeskState → Type 0
-GoesOnRows step.More r now = (r.done ≡ false) × (now.input_open ≡ true) × (now.output_created ≡ true)
-GoesOnRows step.Whole r now = now.output_created ≡ true
-GoesOnRows (step.Early n) r now = now.output_created ≡ true
-GoesOnRows (step.Ended ended) r now = Unit {0}
+-- since the input was opened, whatever desk it was opened on
+pub record IsShower (from : Shower × DeskState) (bytes : List ℕ) (now : Shower × DeskState) : Type 0 where
+  pub some : IsOpened now.0.words.files.input from.1
+  pub same : now.0.words ≡ from.0.words
+  pub by_row : now.0.reader.by_row ≡ true
+  pub limits : now.0.reader.limits ≡ standard_limits
+  pub works : OnlyWorks from.1 now.1
+  pub holds : (old : DeskState) → Opens old now.0.words.files.input put.Done from.1 → HoldsImage now.0.image (showing_view now.0.words) old from.1 bytes now.0 now.1
+
+-- the image was written, or why not
+pub record EndsShower (from : Shower × DeskState) (answer : Result (Option ℕ) Why) (now : Shower × DeskState) : Type 0 where
+  pub same : now.0.words ≡ from.0.words
+  pub works : OnlyWorks from.1 now.1
+  pub shown : (old : DeskState) → Opens old now.0.words.files.input put.Done from.1 → Shown (showing_view now.0.words) old (ended_as answer) now.1
+
+abbrev pub show_kind : {S : Type 0} → (S → Shower) → FedKind S
+show_kind view = record {
+  most = λ s. standard_limits.input;
+  fed = λ from bytes now. IsShower (view from.0, from.1) bytes (view now.0, now.1);
+  ended = λ from answer now. EndsShower (view from.0, from.1) answer (view now.0, now.1);
+}

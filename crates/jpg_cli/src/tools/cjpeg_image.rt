@@ -396,6 +396,7 @@ struct SamplesSink<'a> {
 impl<'a, D: Desk> PieceSink<D> for SamplesSink<'a> {
     ghost kind = { of_reader samples_reader };
 
+    #[tactic(auto, using(crate::proofs::Pieces::InputMost::input_most))]
     fn most(&self) -> u64 {
         Limits::standard().input
     }

@@ -1,22 +1,23 @@
 //! A picture read, and decoded to an image (the manual of djpeg).
-ghost use Rattle.std.specs.Prelude.{◌≡◌, ◌≤◌, None, true, false, length, ℕ, List, []};
+ghost use Rattle.std.specs.Prelude.{◌≡◌, ◌≤◌, None, true, false, length, Option, ℕ};
 ghost use Rattle.jpg_base.specs.Desk.{DeskState, Opens};
 ghost use Rattle.jpg_base.specs.declared.names.Put.TheVariants as put;
 ghost use Rattle.jpg_spec_image.specs.Pixels.{out_fault};
 ghost use Rattle.jpg_spec.specs.Segments.{standard_limits};
 ghost use Rattle.jpg_file.specs.Read.PictureRead.{picture_meaning};
 ghost use Rattle.jpg_file.specs.Read.ReadFile.{head_seen};
-ghost use Rattle.jpg_file.specs.Read.ReadRows.{HasReadPlainly};
 ghost use Rattle.jpg_pnm_bmp.specs.EndState.{new_end};
 ghost use Rattle.jpg_desk.specs.ReadPicture.{unwanted_in, Image};
-ghost use Rattle.jpg_cli.specs.Tools.Showing.{AfterPicture, Shown, showing_view};
-ghost use Rattle.jpg_cli.specs.Tools.ShowingRows.{AfterFirstEnd, EndsFirst, GoesOnFirst, HasFedPlainly, IsOpened, ReadsFirst, StaysFirst, TakesFirst, step_of};
-ghost use Rattle.jpg_desk.specs.Stays.{OnlyReads, OnlyWorks};
+ghost use Rattle.jpg_cli.specs.Tools.Showing.{AfterPicture, Shown, shown_as, showing_view};
+ghost use Rattle.jpg_cli.specs.Tools.ShowingRows.{IsOpened, TakesFirst, show_kind, step_of};
+ghost use Rattle.jpg_desk.specs.Stays.{OnlyWorks};
 
-use crate::tools::djpeg_rows::show_rows;
-use jpg_base::{Desk, Got, Put, Stop};
-use jpg_color::{DecodeStop, decode_rows};
-use jpg_desk::{done_as, not_shown, read_within};
+use crate::tools::djpeg_rows::{
+    FedPiece, begin_image, draw_next, draw_piece, finish_early, why_of,
+};
+use jpg_base::{Desk, Put, Stop};
+use jpg_color::{StripImage, decode_rows};
+use jpg_desk::{PieceSink, ended_as, not_shown, pump, why_stopped};
 use jpg_file::{End, FedRow, Picture, Reader};
 use jpg_pnm_bmp::ImageEnd;
 use jpg_spec::{FaultAt, Limits};
@@ -29,13 +30,8 @@ use std::alloc::Global;
 enum FirstStep {
     More,
     Whole,
-    // The input ended early, after this many bytes, before any MCU row.
-    Early(u64),
-    // The MCU rows of a scan begin in a piece of `count` bytes, for which this is the reader's result.
-    Rows {
-        count: u64,
-        answer: Result<FedRow, Stop>,
-    },
+    // The MCU rows of a scan begin in the piece, for which this is the reader's result.
+    Rows(Result<FedRow, Stop>),
     Ended(Why),
 }
 
@@ -73,85 +69,91 @@ fn show_input<D: Desk>(
     ensures kept { OnlyWorks (D.state desk.old) (D.state desk.new) }
     ensures shown { (old : DeskState) → Opens old words.now.files.input put.Done (D.state desk.old) → Shown (showing_view words.now) old result (D.state desk.new) }
 {
-    let mut reader = Reader::strips(alloc, Limits::standard());
-    let mut buffer = [0u8; 16384];
-    match read_first(&mut reader, words.gray, &mut buffer, desk) {
-        FirstStep::More => unreachable!(),
-        FirstStep::Whole => write_image(alloc, &reader.take(), None, words, end, desk),
-        FirstStep::Early(count) => {
-            write_image(alloc, &reader.take(), Some(count), words, end, desk)
+    let mut sink = ShowSink {
+        alloc,
+        words,
+        reader: Reader::strips(alloc, Limits::standard()),
+        image: None,
+        end,
+    };
+    ended_as(pump(desk, &mut sink))
+}
+
+// What takes the pieces of an input whose image is written.
+#[derive(Drop)]
+struct ShowSink<'a> {
+    // Where memory comes from.
+    alloc: Global,
+    // What is asked for.
+    words: &'a ShowWords,
+    // What the file is read by.
+    reader: Reader,
+    // The image, once MCU rows are read.
+    image: Option<StripImage>,
+    // Its writer.
+    end: &'a mut Box<dyn ImageEnd>,
+}
+
+impl<'a, D: Desk> PieceSink<D> for ShowSink<'a> {
+    ghost kind = { show_kind (λ s. record { words = s.words.now; reader = s.reader; image = s.image; end = (ImageEnd-box s.end.now).progress s.end.now.value }) };
+
+    #[tactic(auto, using(crate::proofs::Pieces::InputMost::input_most))]
+    fn most(&self) -> u64 {
+        Limits::standard().input
+    }
+
+    fn feed(&mut self, piece: &[u8], desk: &mut D) -> Result<bool, Why> {
+        if let Some(image) = &mut self.image {
+            return draw_next(&mut self.reader, image, piece, self.end, desk);
         }
-        FirstStep::Rows { count, answer } => {
-            show_rows(
-                alloc,
-                &mut reader,
-                words,
-                answer,
-                count,
-                &mut buffer,
-                end,
-                desk,
-            )
+        match take_first(&mut self.reader, self.words.gray, piece) {
+            FirstStep::More => Ok(false),
+            FirstStep::Whole => {
+                match write_image(self.alloc, &self.reader.take(), self.words, self.end, desk) {
+                    Ok(()) => Ok(true),
+                    Err(why) => Err(why),
+                }
+            }
+            FirstStep::Rows(answer) => {
+                match begin_image(self.alloc, &self.reader, self.words, self.end, desk) {
+                    Ok(image) => {
+                        let mut image = image;
+                        let fed = FedPiece { piece, answer };
+                        let drawn = draw_piece(&mut self.reader, &mut image, fed, self.end, desk);
+                        self.image = Some(image);
+                        drawn
+                    }
+                    Err(why) => Err(why),
+                }
+            }
+            FirstStep::Ended(why) => Err(why),
         }
-        FirstStep::Ended(why) => why,
+    }
+
+    fn end(&mut self, desk: &mut D) -> Result<Option<u64>, Why> {
+        let count = match self.reader.end() {
+            End::Early(count) => count,
+            End::Stop(stop) => return Err(why_stopped(stop)),
+        };
+        if let Some(image) = &mut self.image {
+            return match finish_early(&self.reader, image, self.end, desk) {
+                Ok(()) => Ok(Some(count)),
+                Err(stop) => Err(why_of(Err(stop))),
+            };
+        }
+        match write_image(self.alloc, &self.reader.take(), self.words, self.end, desk) {
+            Ok(()) => Ok(Some(count)),
+            Err(why) => Err(why),
+        }
     }
 }
 
-// Reads the open input until rows begin or the file is complete, or returns why the reading ends.
-fn read_first<D: Desk>(
-    reader: &mut Reader,
-    gray: bool,
-    buffer: &mut [u8; 16384],
-    desk: &mut D,
-) -> FirstStep
-    requires open { (D.state desk.old).input_open ≡ true }
-    requires none { HasReadPlainly [] reader.old }
-    requires limits { reader.old.limits ≡ standard_limits }
-    requires by_row { reader.old.by_row ≡ true }
-    ensures kept { OnlyReads (D.state desk.old) (D.state desk.new) }
-    ensures read { EndsFirst gray (D.state desk.old) result buffer.new reader.new (D.state desk.new) }
-    ensures limits { reader.new.limits ≡ standard_limits }
-    ensures by_row { reader.new.by_row ≡ true }
-{
-    loop {
-        match next_first(reader, gray, buffer, desk) {
-            FirstStep::More => {}
-            step => return step,
-        }
-    }
-}
-
-// Reads a piece.
-fn next_first<D: Desk>(
-    reader: &mut Reader,
-    gray: bool,
-    buffer: &mut [u8; 16384],
-    desk: &mut D,
-) -> FirstStep
-    requires open { (D.state desk.old).input_open ≡ true }
-    requires more { reader.old.done ≡ false }
-    requires limits { reader.old.limits ≡ standard_limits }
-    requires by_row { reader.old.by_row ≡ true }
-    ensures kept { OnlyReads (D.state desk.old) (D.state desk.new) }
-    ensures goes_on { GoesOnFirst result reader.new (D.state desk.new) }
-    ensures after { ReadsFirst gray reader.old (D.state desk.old) result buffer.new reader.new (D.state desk.new) }
-    ensures limits { reader.new.limits ≡ standard_limits }
-    ensures by_row { reader.new.by_row ≡ true }
-{
-    match read_within(desk, reader.room(), buffer) {
-        Got::Failed => FirstStep::Ended(Why::ReadFault(Which::Input)),
-        Got::End => at_first_end(reader, gray),
-        Got::Bytes(count) => take_first(reader, gray, &buffer[..count as usize]),
-    }
-}
-
-// Takes a piece.
+// Takes a piece, before rows are read.
 fn take_first(reader: &mut Reader, gray: bool, piece: &[u8]) -> FirstStep
     requires more { reader.old.done ≡ false }
     requires short { length piece.now ≤ 16384 }
     requires limits { reader.old.limits ≡ standard_limits }
     requires by_row { reader.old.by_row ≡ true }
-    ensures goes_on { StaysFirst result reader.new }
     ensures taken { TakesFirst gray reader.old piece.now result reader.new }
     ensures limits { reader.new.limits ≡ standard_limits }
     ensures by_row { reader.new.by_row ≡ true }
@@ -161,8 +163,7 @@ fn take_first(reader: &mut Reader, gray: bool, piece: &[u8]) -> FirstStep
         return FirstStep::Ended(Why::Refused(fault));
     }
     if reader.strip().is_some() {
-        let count = piece.len() as u64;
-        return FirstStep::Rows { count, answer };
+        return FirstStep::Rows(answer);
     }
     step_of(answer)
 }
@@ -187,44 +188,25 @@ fn unwanted(reader: &Reader, gray: bool) -> Option<FaultAt>
     not_shown(reader.head(), gray)
 }
 
-// The result of the end of the input, before rows are read.
-fn at_first_end(reader: &mut Reader, gray: bool) -> FirstStep
-    requires more { reader.old.done ≡ false }
-    requires limits { reader.old.limits ≡ standard_limits }
-    requires by_row { reader.old.by_row ≡ true }
-    ensures ended { (bytes : List ℕ) → HasFedPlainly gray reader.old bytes → AfterFirstEnd gray bytes result reader.new }
-    ensures goes_on { (now : DeskState) → GoesOnFirst result reader.new now }
-    ensures limits { reader.new.limits ≡ standard_limits }
-    ensures by_row { reader.new.by_row ≡ true }
-{
-    match reader.end() {
-        End::Early(count) => FirstStep::Early(count),
-        End::Stop(Stop::Fault(fault)) => FirstStep::Ended(Why::Refused(fault)),
-        End::Stop(Stop::NoMemory) => FirstStep::Ended(Why::NoMemory),
-    }
-}
-
-/// Creates the output, and writes the image to it; if the input ended early, after how many bytes.
+/// Creates the output, and writes the image to it; or returns why not.
 pub(crate) fn write_image<D: Desk>(
     alloc: Global,
     picture: &Picture,
-    early: Option<u64>,
     words: &ShowWords,
     end: &mut Box<dyn ImageEnd>,
     desk: &mut D,
-) -> Why
+) -> Result<(), Why>
     requires admitted { out_fault words.now.gray (picture_meaning picture.now) ≡ None }
     requires end { progress end.old ≡ new_end words.now.kind }
     ensures kept { OnlyWorks (D.state desk.old) (D.state desk.new) }
     ensures left { (D.state desk.new).left ≡ (D.state desk.old).left }
-    ensures wrote { AfterPicture words.now picture.now early (D.state desk.old) result (D.state desk.new) }
+    ensures wrote { (early : Option ℕ) → AfterPicture words.now picture.now early (D.state desk.old) (shown_as result early) (D.state desk.new) }
 {
     match desk.create(&words.files.output) {
-        Put::Failed => Why::OpenFault(Which::Output),
+        Put::Failed => Err(Why::OpenFault(Which::Output)),
         Put::Done => match decode_rows(alloc, picture, words.gray, words.smooth, end, desk) {
-            Ok(()) => done_as(early),
-            Err(DecodeStop::NoMemory) => Why::NoMemory,
-            Err(DecodeStop::WriteFault) => Why::WriteFault,
+            Ok(()) => Ok(()),
+            Err(stop) => Err(why_of(Err(stop))),
         },
     }
 }

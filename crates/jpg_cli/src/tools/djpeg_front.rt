@@ -7,7 +7,7 @@ ghost use Rattle.jpg_desk.specs.Stays.{OnlyWorks};
 
 use crate::tools::djpeg::write_image;
 use jpg_base::Desk;
-use jpg_desk::read_front;
+use jpg_desk::{done_as, read_front};
 use jpg_pnm_bmp::ImageEnd;
 use jpg_spec_words::Why;
 use jpg_words::ShowWords;
@@ -32,6 +32,9 @@ pub fn show_front<D: Desk>(
 {
     match read_front(alloc, &words.files.input, scans, words.gray, desk) {
         Err(why) => why,
-        Ok((picture, early)) => write_image(alloc, &picture, early, words, end, desk),
+        Ok((picture, early)) => match write_image(alloc, &picture, words, end, desk) {
+            Ok(()) => done_as(early),
+            Err(why) => why,
+        },
     }
 }

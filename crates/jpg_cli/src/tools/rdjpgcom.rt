@@ -63,6 +63,7 @@ struct PrintSink {
 impl<D: Desk> PieceSink<D> for PrintSink {
     ghost kind = { print_kind };
 
+    #[tactic(auto, using(crate::proofs::Pieces::InputMost::input_most))]
     fn most(&self) -> u64 {
         Limits::standard().input
     }

@@ -82,6 +82,7 @@ struct InsertSink<'a> {
 impl<'a, D: Desk> PieceSink<D> for InsertSink<'a> {
     ghost kind = { insert_kind };
 
+    #[tactic(auto, using(crate::proofs::Pieces::InputMost::input_most))]
     fn most(&self) -> u64 {
         Limits::standard().input
     }

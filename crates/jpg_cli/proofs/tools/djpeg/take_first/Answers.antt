@@ -1,9 +1,9 @@
-use Rattle.std.proofs.Common.{rules, ◌∙◌, refl, sym, subst}
+use Rattle.std.proofs.Common.{rules, ◌∙◌, sym, subst}
 use Rattle.jpg_spec.specs.InForce.{frame_of}
 use Rattle.jpg_file.specs.Read.ReadRows.{picture_read}
-use Rattle.jpg_cli.specs.Tools.ShowingRows.{AfterFirst, StaysFirst}
+use Rattle.jpg_cli.specs.Tools.ShowingRows.{AfterFirst}
 use Rattle.jpg_cli.specs.declared.tools.djpeg.FirstStep.{FirstStep}
-use Rattle.jpg_cli.proofs.Pieces.FirstRead.{begun_there, by_answer, first_unwanted, head_in, none_begun, read_plainly, rows_begin, stays_by}
+use Rattle.jpg_cli.proofs.Pieces.FirstRead.{begun_there, by_answer, first_unwanted, head_in, none_begun, read_plainly, rows_begin}
 use Rattle.jpg_desk.proofs.PiecesRead.{more_small}
 use Rattle.jpg_cli.proofs.tools.djpeg.take_first.Goals as goal
 
@@ -21,11 +21,9 @@ returns-then-is_some-clause-taken c = λ bytes k most.
     let r = c.feed_row-answer.new.self in
     let answer = c.feed_row-answer.result in
     let small = more_small bytes piece (k.fed).small (λ i. (let t = c.type_inv.piece i in search (rules, t))) in
-    let after = c.feed_row-answer.ensures.answered bytes 0 (read_plainly c.args.gray bytes c.args.reader.now c.requires.limits k) in (
-      refl,
-      rows_begin c.args.gray bytes piece answer c.args.reader.now r c.requires.limits (c.feed_row-answer.ensures.limits ∙ c.requires.limits) k c.requires.short most small after c.feed_row-answer.ensures.done
-          (sym c.in_default.ensures) (begun_there bytes piece answer r c.strip.result (sym c.is_some.ensures ∙ c.if-is_some.true) c.strip.ensures.none after),
-    )
+    let after = c.feed_row-answer.ensures.answered bytes 0 (read_plainly c.args.gray bytes c.args.reader.now c.requires.limits k) in
+    rows_begin c.args.gray bytes piece answer c.args.reader.now r c.requires.limits (c.feed_row-answer.ensures.limits ∙ c.requires.limits) k c.requires.short most small after c.feed_row-answer.ensures.done
+    (sym c.in_default.ensures) (begun_there bytes piece answer r c.strip.result (sym c.is_some.ensures ∙ c.if-is_some.true) c.strip.ensures.none after)
 
 pub returns-clause-taken : goal.returns-clause-taken
 returns-clause-taken c = λ bytes k most.
@@ -37,7 +35,3 @@ returns-clause-taken c = λ bytes k most.
     subst (λ (s : FirstStep). AfterFirst c.args.gray bytes piece s r) (sym c.step_of.ensures)
     (by_answer c.args.gray bytes piece answer c.args.reader.now r c.requires.limits (c.feed_row-answer.ensures.limits ∙ c.requires.limits) k c.requires.short small (sym c.in_default.ensures)
     (λ front b. none_begun c.strip.result (frame_of r.limits b.before) (picture_read front r b) (sym c.is_some.ensures ∙ c.if-is_some.false) (c.strip.ensures.some front b)) after)
-
-pub returns-clause-goes_on : goal.returns-clause-goes_on
-returns-clause-goes_on c =
-    subst (λ (s : FirstStep). StaysFirst s c.feed_row-answer.new.self) (sym c.step_of.ensures) (stays_by c.feed_row-answer.result c.feed_row-answer.new.self c.feed_row-answer.ensures.done)

@@ -1,6 +1,4 @@
-use Rattle.std.proofs.Common.{sym, subst}
-use Rattle.jpg_spec_words.specs.declared.answers.Why.{Why}
-use Rattle.jpg_cli.specs.Tools.Showing.{Shown, showing_view}
+use Rattle.std.proofs.Common.{sym}
 use Rattle.jpg_cli.proofs.ByRow.EarlyEnding.{early_finished, ending_begins, ending_due, ending_whole, work_framed, work_has, work_stopped, work_then}
 use Rattle.jpg_cli.proofs.tools.djpeg_rows.finish_early.Goals as goal
 
@@ -8,9 +6,7 @@ pub finish-requires-clause-whole : goal.finish-requires-clause-whole
 finish-requires-clause-whole g c = ending_whole (ending_begins c.requires.early.shown) (sym c.if-is_whole.ensures)
 
 pub returns-then-is_whole-clause-shown : goal.returns-then-is_whole-clause-shown
-returns-then-is_whole-clause-shown g c = λ run m x.
-    subst (λ (w : Why). Shown (showing_view c.args.words.now) run.old w (g.D.Desk.state c.finish.new.desk)) (sym c.warned_of.ensures)
-    (early_finished c.finish.ensures (sym c.if-is_whole.ensures) (ending_begins x))
+returns-then-is_whole-clause-shown g c = λ s run m n x. early_finished c.finish.ensures (sym c.if-is_whole.ensures) (ending_begins x)
 
 pub row_coefs-requires : goal.row_coefs-requires
 row_coefs-requires g c = work_has c.requires.early.shown
@@ -27,17 +23,14 @@ pub finish_zeros-requires : goal.finish_zeros-requires
 finish_zeros-requires g c =
     let w = c.requires.early in
     let due = ending_due (ending_begins w.shown) (sym c.if-is_whole.ensures) in
-    record {
-      zeros = record { run = w.run; ending = work_then c.in-Ok.is w.shown due c.row_coefs.ensures c.push.ensures };
-    }
+    record { zeros = record { asked = w.asked; run = w.run; count = w.count; ending = work_then c.in-Ok.is w.shown due c.row_coefs.ensures c.push.ensures } }
 
 pub returns-in-Ok-clause-shown : goal.returns-in-Ok-clause-shown
-returns-in-Ok-clause-shown g c = λ run m x.
+returns-in-Ok-clause-shown g c = λ s run m n x.
     let due = ending_due (ending_begins x) (sym c.if-is_whole.ensures) in
-    c.finish_zeros.ensures.shown run (work_then c.in-Ok.is x due c.row_coefs.ensures c.push.ensures)
+    c.finish_zeros.ensures.shown s run n (work_then c.in-Ok.is x due c.row_coefs.ensures c.push.ensures)
 
 pub returns-in-Err-clause-shown : goal.returns-in-Err-clause-shown
-returns-in-Err-clause-shown g c = λ run m x.
+returns-in-Err-clause-shown g c = λ s run m n x.
     let due = ending_due (ending_begins x) (sym c.if-is_whole.ensures) in
-    subst (λ (w : Why). Shown (showing_view c.args.words.now) run.old w (g.D.Desk.state c.push.new.desk)) (sym c.why_of.ensures)
-    (work_stopped x due c.row_coefs.ensures c.in-Err.ensures)
+    work_stopped x due c.row_coefs.ensures c.in-Err.ensures

@@ -1,6 +1,0 @@
-use Rattle.std.proofs.Common.{ap}
-use Rattle.jpg_spec.specs.declared.frame.Limits.{Limits}
-use Rattle.jpg_cli.proofs.tools.wrjpgcom.InsertSinkPieceSink.most.Goals as goal
-
-pub returns : goal.returns
-returns g c = ap (λ (l : Limits). l.input) c.standard.ensures
