@@ -1,12 +1,11 @@
 -- States without a fault, and bytes that lead to them.
-use Rattle.std.proofs.Common.{◌≡◌, ℕ, ◌-◌, ◌<◌, ◌≤◌, ◌==◌, Bool, true, false, cond, List, [], ◌∷◌, ◌++◌, length, take, drop, refl, sym, ap, ◌∙◌, subst, arith, ⊎_elim}
+use Rattle.std.proofs.Common.{◌≡◌, ℕ, ◌<◌, ◌≤◌, ◌==◌, Bool, true, false, cond, List, [], ◌∷◌, length, take, drop, refl, sym, ap, ◌∙◌, subst, arith, ⊎_elim}
 use Rattle.std.specs.Prelude.{nat_lt}
 use Rattle.std.proofs.lemmas.Bool.{cases_lt}
 use Rattle.std.proofs.lemmas.List.{take-append-drop, take_all}
 use Rattle.jpg_spec.specs.declared.fault.Fault.{Fault}
 use Rattle.jpg_spec_image.specs.Images.{Image}
 use Rattle.jpg_spec_image.specs.TargaFile.{targa_image}
-use Rattle.jpg_spec_image.specs.TargaFaults.{ShowsTargaFault}
 use Rattle.jpg_spec_image.specs.TargaSteps.{TargaState, at_packet, at_start, failed, grown, in_head, in_pixels, past, pixels_so_far, run, total, whole}
 use Rattle.jpg_spec_image.specs.TargaReading.{RepresentsTarga}
 use Rattle.jpg_spec_image.proofs.TargaRuns.{run_join, shows_run}
