@@ -26,14 +26,15 @@ place bytes piece taken n e h = let a = length-append bytes (take n piece) in le
 
 module _ {W : Type 0} (k : PieceKind W) (bytes piece : List ℕ) where
   -- one more part
-  pub some_led : (at used : ℕ) (a : Answer) (w : W)
-      → AfterSome k ((bytes ++ take at piece) ++ take used (take (length piece - at) (drop at piece))) ((bytes ++ take at piece) ++ take (length piece - at) (drop at piece)) a w → AfterSome k (bytes ++ take (at + used) piece) (bytes ++ piece) a w
-  some_led at used a w h =
+  pub some_led : (at used : ℕ) (a b : Answer) (w : W) → a ≡ b
+      → AfterSome k ((bytes ++ take at piece) ++ take used (take (length piece - at) (drop at piece))) ((bytes ++ take at piece) ++ take (length piece - at) (drop at piece)) a w → AfterSome k (bytes ++ take (at + used) piece) (bytes ++ piece) b w
+  some_led at used a b w is h =
       let part = append_assoc bytes (take at piece) (take used (drop at piece)) ∙ ap (λ x. bytes ++ x) (sym (take-add at used piece)) in
       let all = append_assoc bytes (take at piece) (drop at piece) ∙ ap (λ x. bytes ++ x) (take-append-drop at piece) in
-      subst (λ x. AfterSome k x (bytes ++ piece) a w) part
+      subst (λ x. AfterSome k (bytes ++ take (at + used) piece) (bytes ++ piece) x w) is
+      (subst (λ x. AfterSome k x (bytes ++ piece) a w) part
       (subst (λ x. AfterSome k ((bytes ++ take at piece) ++ take used (drop at piece)) x a w) all
-      (subst (λ x. AfterSome k ((bytes ++ take at piece) ++ take used x) ((bytes ++ take at piece) ++ x) a w) (take_rest piece at) h))
+      (subst (λ x. AfterSome k ((bytes ++ take at piece) ++ take used x) ((bytes ++ take at piece) ++ x) a w) (take_rest piece at) h)))
 
   -- the image is made
   pub made_read : (image made : Image) (answer : Result Fed2 Stop) (w : W) → MakesWhole image answer made → k.means (bytes ++ piece) image → AreBytes image.samples → AfterRead k bytes piece answer w made
