@@ -21,7 +21,7 @@ use Rattle.jpg_base.specs.declared.stop.Stop.{Stop}
 use Rattle.jpg_base.specs.declared.stop.Stop.TheVariants as stop
 use Rattle.jpg_color.specs.Encode.{image_view}
 use Rattle.jpg_pnm_bmp.specs.Made.{AreBytes}
-use Rattle.jpg_pnm_bmp.specs.Pieces.{EndsImage}
+use Rattle.jpg_pnm_bmp.specs.Reader.{EndsImage}
 use Rattle.jpg_pnm_bmp.specs.PixelsRead.{AfterFeed, image_read}
 use Rattle.jpg_pnm_bmp.specs.declared.read.piece.Fed2.TheVariants as fed
 use Rattle.jpg_pnm_bmp.specs.declared.read.pixels.Image.{Image as Read}

@@ -10,7 +10,7 @@ use Rattle.jpg_spec.specs.declared.fault.Fault.TheVariants.{ImageShort}
 use Rattle.jpg_spec_image.proofs.OpenTarga.{open_few}
 use Rattle.jpg_pnm_bmp.specs.Made.{AreBytes}
 use Rattle.jpg_pnm_bmp.specs.PixelsRead.{AfterFeed, HasFedImage, KeepsDone as PixelsDone, image_read}
-use Rattle.jpg_pnm_bmp.specs.Pieces.{EndsImage as EndsPnm}
+use Rattle.jpg_pnm_bmp.specs.Reader.{EndsImage as EndsPnm}
 use Rattle.jpg_pnm_bmp.specs.PlainSamples.{HasFedSamples, TellsNotPlain, TellsPlain}
 use Rattle.jpg_spec_image.specs.declared.image.ImageInfo.{ImageInfo}
 use Rattle.jpg_pnm_bmp.specs.declared.read.piece.Fed2.{Fed2}
@@ -78,7 +78,7 @@ pixels_fed bytes piece old new (Err stop.NoMemory) h short few most small k d = 
 
 -- fewer than may be taken
 targa_short : (bytes : List ℕ) (old : TargaReader) → HasFedTarga bytes old → length bytes < standard_limits.input
-targa_short bytes old h = (let few = open_few bytes h.2 (read_open bytes old.taken old.work h.3) in omega (arith, few))
+targa_short bytes old h = (let few = open_few bytes h.2 (read_open bytes old.reader.taken old.reader.work h.3) in omega (arith, few))
 
 pub targa_fed : (bytes piece : List ℕ) (old new : TargaReader) (answer : Result Fed2 Stop) → HasFedTarga bytes old → length piece ≤ 65536 → AreBytes (bytes ++ piece) → AfterTarga bytes piece answer new → TargaDone answer new
     → AfterTakingImagePiece true (bytes ++ piece) (step_of answer) (source.Targa new)
@@ -91,7 +91,7 @@ targa_fed bytes piece old new (Err stop.NoMemory) h few small k d = open_more tr
 
 -- WHERE THE FILE ENDS
 
-pub pixels_whole : (bytes : List ℕ) (old new : PixelReader) → HasFedImage bytes old → length bytes < standard_limits.input → EndsPnm bytes (Ok tt) (image_read new) → new.done ≡ true → HoldsImage false [] bytes (source.Pixels new)
+pub pixels_whole : (bytes : List ℕ) (old new : PixelReader) → HasFedImage bytes old → length bytes < standard_limits.input → EndsPnm bytes (Ok tt) (image_read new) → new.reader.done ≡ true → HoldsImage false [] bytes (source.Pixels new)
 pixels_whole bytes old new h short is done = record {
   is = record { is = subst (λ (b : List ℕ). HasImageIn false b (image_read new)) (sym (append-nil bytes)) (is standard_limits short); read = open_end false bytes (fed_open false bytes (source.Pixels old) h) short };
   right = right_image false bytes (image_read new) (is standard_limits short) h.2;

@@ -27,13 +27,13 @@ fed_more true bytes (source.Pixels r) h = absurd h
 
 pub fed_open : (targa : Bool) (bytes : List ℕ) (r : ImageSource) → HasFed targa bytes r → IsOpenIn targa bytes
 fed_open false bytes (source.Pixels r) h = pixels_open bytes r h
-fed_open true bytes (source.Targa r) h = read_open bytes r.taken r.work h.3
+fed_open true bytes (source.Targa r) h = read_open bytes r.reader.taken r.reader.work h.3
 fed_open false bytes (source.Targa r) h = absurd h
 fed_open true bytes (source.Pixels r) h = absurd h
 
 -- of Targa they are never as many as may be taken
 pub never_full : (bytes : List ℕ) (r : ImageSource) → HasFed true bytes r → length bytes ≡ standard_limits.input → ⊥
-never_full bytes (source.Targa r) h full = (let few = open_few bytes h.2 (read_open bytes r.taken r.work h.3) in omega (arith, few, full))
+never_full bytes (source.Targa r) h full = (let few = open_few bytes h.2 (read_open bytes r.reader.taken r.reader.work h.3) in omega (arith, few, full))
 never_full bytes (source.Pixels r) h full = h
 
 pub right_image : (targa : Bool) (bytes : List ℕ) (image : Image) → HasImageIn targa bytes image → AreBytes bytes → IsRightImage image

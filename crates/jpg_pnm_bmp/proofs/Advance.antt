@@ -1,6 +1,6 @@
 -- What reading some bytes leads to, by the state before them.
 use Rattle.std.proofs.Common.{◌≡◌, ℕ, ◌*◌, ◌≤◌, ◌==◌, Bool, true, false, cond, List, [], ◌∷◌, length, take, get_or, refl, sym, ap, ◌∙◌, subst, arith}
-use Rattle.std.specs.Prelude.{nat_le}
+use Rattle.std.proofs.Math.Logic.{∥∥₁_map}
 use Rattle.jpg_spec_image.specs.PnmText.{is_number_due}
 use Rattle.jpg_spec_image.specs.BmpFile.{width, bmp_depth, used}
 use Rattle.jpg_spec_image.specs.ImageFaults.{ImageHead, pnm, bmp, image_of, IsBodyFront}
@@ -8,16 +8,19 @@ use Rattle.jpg_spec_image.specs.ImageSteps.{ImageState, in_number, in_body, whol
 use Rattle.jpg_spec_image.specs.ImageReading.{RepresentsImage, InBody}
 use Rattle.jpg_spec_image.proofs.ImageBodyRuns.{ThreeNumbers, last_three, bmp_sides, side_some}
 use Rattle.jpg_spec_image.proofs.ImageStands.{stands}
-use Rattle.jpg_spec.proofs.Basics.Common.{both, le_of}
 use Rattle.jpg_pnm_bmp.specs.Known.{list_of}
-use Rattle.jpg_pnm_bmp.specs.Reader.{standing, image_view, IsReached, Reaches, CanStretch, Stretches}
+use Rattle.jpg_pnm_bmp.specs.Pieces.{IsGoing}
+use Rattle.jpg_pnm_bmp.specs.Reader.{standing, image_view, pixels_kind, IsReached, Reaches, CanStretch, Stretches}
 use Rattle.jpg_pnm_bmp.specs.declared.read.numbers.Numbers.{Numbers}
 use Rattle.jpg_pnm_bmp.specs.declared.read.numbers.Numbers.TheVariants.{Nothing, Width, Sides, All}
-use Rattle.jpg_pnm_bmp.specs.declared.read.work.Answer.{Answer}
-use Rattle.jpg_pnm_bmp.specs.declared.read.work.Answer.TheVariants as answer
-use Rattle.jpg_pnm_bmp.specs.declared.read.work.Moved.{Moved}
+use Rattle.jpg_pnm_bmp.specs.declared.read.piece.Answer.{Answer}
+use Rattle.jpg_pnm_bmp.specs.declared.read.piece.Answer.TheVariants as answer
+use Rattle.jpg_pnm_bmp.specs.declared.read.piece.Moved.{Moved}
 use Rattle.jpg_pnm_bmp.specs.declared.read.work.Work.{Work}
 use Rattle.jpg_pnm_bmp.proofs.Stretch.{first_run}
+
+pub reached : (w : Work) → IsGoing pixels_kind w → ∥ IsReached (standing w) ∥₁
+reached w h = ∥∥₁_map h (λ r. (r.0, sym r.1))
 
 pub one_led : (s : ImageState) (piece : List ℕ) (a : Answer) (w : Work) (m : Moved) → m ≡ record { used = 1; answer = a } → 1 ≤ length piece → Reaches (step s (get_or piece 0 0)) a w → Reaches (run s (take m.used piece)) m.answer w
 one_led s piece a w m e h r = subst (λ (x : Moved). Reaches (run s (take x.used piece)) x.answer w) (sym e) (subst (λ t. Reaches t a w) (sym (first_run s piece h)) r)

@@ -22,8 +22,8 @@ use Rattle.jpg_pnm_bmp.specs.Made.{AreIndexes}
 use Rattle.jpg_pnm_bmp.specs.Reader.{AddsNumber, AreAllNumbers, CanMake, CanMakeAt, HasAll, HasPixels, HasScale, IsReached, Stretches}
 use Rattle.jpg_pnm_bmp.specs.declared.read.numbers.Numbers.{Numbers}
 use Rattle.jpg_pnm_bmp.specs.declared.read.numbers.Numbers.TheVariants.{Nothing, Width, Sides, All}
-use Rattle.jpg_pnm_bmp.specs.declared.read.work.Answer.{Answer}
-use Rattle.jpg_pnm_bmp.specs.declared.read.work.Answer.TheVariants as answer
+use Rattle.jpg_pnm_bmp.specs.declared.read.piece.Answer.{Answer}
+use Rattle.jpg_pnm_bmp.specs.declared.read.piece.Answer.TheVariants as answer
 use Rattle.jpg_pnm_bmp.specs.declared.read.work.Stage.{Stage}
 use Rattle.jpg_pnm_bmp.specs.declared.read.work.Stage.TheVariants as stage
 use Rattle.jpg_pnm_bmp.specs.declared.read.work.Work.{Work}

@@ -24,7 +24,7 @@ standing_live stage.PnmBody w = tt
 standing_live stage.BmpBody w = tt
 
 pub fed_open : (bytes : List ℕ) (r : PixelReader) → HasFedImage bytes r → IsOpenImage bytes
-fed_open bytes r h = live_shows_nothing bytes (subst IsLive h.3.stands (standing_live r.work.stage r.work))
+fed_open bytes r h = live_shows_nothing bytes (subst IsLive h.3.stands (standing_live r.reader.work.stage r.reader.work))
 
 pub reached_at : (w : Work) (bytes : List ℕ) → standing w ≡ run at_start bytes → IsReached (standing w)
 reached_at w bytes e = (bytes, sym e)

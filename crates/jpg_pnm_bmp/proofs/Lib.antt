@@ -13,6 +13,7 @@ pub mod Advance
 pub mod AllThere
 pub mod DueNumbers
 pub mod EndRead
+pub mod PiecesFed
 pub mod PiecesRead
 pub mod ShownNone
 pub mod Stretch

@@ -156,17 +156,17 @@ told_body w info bytes t e all =
       bytes_all = all;
     }
 
-pub told_plain : (r : PixelReader) (info : ImageInfo) → unscaled_view r.work ≡ Some info → TellsPlain r info
-told_plain r info t = λ bytes h. by r.work.stage t bytes h.3.stands h.2
+pub told_plain : (r : PixelReader) (info : ImageInfo) → unscaled_view r.reader.work ≡ Some info → TellsPlain r info
+told_plain r info t = λ bytes h. by r.reader.work.stage t bytes h.3.stands h.2
   where
-    by : (st : Stage) → info_at st r.work ≡ Some info → (bytes : List ℕ) → standing_of st r.work ≡ run at_start bytes → AreBytes bytes → HasFedSamples info bytes r.work.samples
+    by : (st : Stage) → info_at st r.reader.work ≡ Some info → (bytes : List ℕ) → standing_of st r.reader.work ≡ run at_start bytes → AreBytes bytes → HasFedSamples info bytes r.reader.work.samples
     by stage.Start e bytes s all = cc
     by (stage.First first) e bytes s all = cc
     by (stage.Gap some commented) e bytes s all = cc
     by (stage.Number n) e bytes s all = cc
     by stage.BmpHead e bytes s all = cc
     by (stage.BmpFront passed) e bytes s all = cc
-    by stage.PnmBody e bytes s all = told_body r.work info bytes e s all
+    by stage.PnmBody e bytes s all = told_body r.reader.work info bytes e s all
     by stage.BmpBody e bytes s all = cc
 
 clash_numbers : (format : ℕ) (numbers : Numbers) → unscaled_info format numbers ≡ None → greatest_sample (list_of numbers []) ≡ 255 → ⊥
@@ -182,24 +182,24 @@ clash_numbers format (All w h m) e g = by (m == 255) refl e
 same_numbers : (h g : ℕ) (xs ys body given : List ℕ) → in_body (pnm h xs) body ≡ in_body (pnm g ys) given → xs ≡ ys
 same_numbers h g xs ys body given e = cc
 
-pub told_not_plain : (r : PixelReader) → unscaled_view r.work ≡ None → TellsNotPlain r
-told_not_plain r t = λ bytes given info h f. by r.work.stage t (h.3.stands ∙ fed_run info bytes given f) f.greatest
+pub told_not_plain : (r : PixelReader) → unscaled_view r.reader.work ≡ None → TellsNotPlain r
+told_not_plain r t = λ bytes given info h f. by r.reader.work.stage t (h.3.stands ∙ fed_run info bytes given f) f.greatest
   where
-    by : (st : Stage) → info_at st r.work ≡ None → {format : ℕ} → {numbers given : List ℕ} → standing_of st r.work ≡ in_body (pnm format numbers) given → greatest_sample numbers ≡ 255 → ⊥
+    by : (st : Stage) → info_at st r.reader.work ≡ None → {format : ℕ} → {numbers given : List ℕ} → standing_of st r.reader.work ≡ in_body (pnm format numbers) given → greatest_sample numbers ≡ 255 → ⊥
     by stage.Start e s g = cc
     by (stage.First first) e s g = cc
     by (stage.Gap some commented) e s g = cc
     by (stage.Number n) e s g = cc
     by stage.BmpHead e s g = cc
     by (stage.BmpFront passed) e s g = cc
-    by stage.PnmBody e {format} {numbers} {given} s g = clash_numbers r.work.format r.work.numbers e (ap greatest_sample (same_numbers r.work.format format (list_of r.work.numbers []) numbers r.work.samples given s) ∙ g)
+    by stage.PnmBody e {format} {numbers} {given} s g = clash_numbers r.reader.work.format r.reader.work.numbers e (ap greatest_sample (same_numbers r.reader.work.format format (list_of r.reader.work.numbers []) numbers r.reader.work.samples given s) ∙ g)
     by stage.BmpBody e s g = cc
 
-pub tells_plain : (r : PixelReader) (o : Option ImageInfo) → o ≡ unscaled_view r.work → IfSome o (TellsPlain r)
+pub tells_plain : (r : PixelReader) (o : Option ImageInfo) → o ≡ unscaled_view r.reader.work → IfSome o (TellsPlain r)
 tells_plain r None e = cc
 tells_plain r (Some info) e = told_plain r info (sym e)
 
-pub tells_not_plain : (r : PixelReader) (o : Option ImageInfo) → o ≡ unscaled_view r.work → IfNone o (TellsNotPlain r)
+pub tells_not_plain : (r : PixelReader) (o : Option ImageInfo) → o ≡ unscaled_view r.reader.work → IfNone o (TellsNotPlain r)
 tells_not_plain r None e = told_not_plain r (sym e)
 tells_not_plain r (Some info) e = cc
 

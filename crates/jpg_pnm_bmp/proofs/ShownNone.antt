@@ -1,5 +1,5 @@
 -- States without a fault, and bytes that lead to them.
-use Rattle.std.proofs.Common.{◌≡◌, ℕ, ◌+◌, ◌<◌, ◌≤◌, Bool, true, false, cond, List, [], ◌++◌, length, take, sym, ap, ◌∙◌, subst, arith, ⊎_elim}
+use Rattle.std.proofs.Common.{◌≡◌, ℕ, ◌<◌, ◌≤◌, Bool, true, false, cond, List, [], length, take, sym, ap, ◌∙◌, subst, arith, ⊎_elim}
 use Rattle.std.specs.Prelude.{nat_lt}
 use Rattle.std.proofs.lemmas.Bool.{cases_lt}
 use Rattle.std.proofs.lemmas.List.{take_all}
@@ -7,14 +7,14 @@ use Rattle.jpg_spec.specs.declared.fault.Fault.{Fault}
 use Rattle.jpg_spec.proofs.Basics.Common.{lt_yes}
 use Rattle.jpg_spec_image.specs.Images.{Image}
 use Rattle.jpg_spec_image.specs.BmpFile.{bmp_fault}
-use Rattle.jpg_spec_image.specs.ImageFaults.{ImageHead, body_of, image_of, ShowsImageFault}
+use Rattle.jpg_spec_image.specs.ImageFaults.{ImageHead, body_of, image_of}
 use Rattle.jpg_spec_image.specs.ImageSteps.{ImageState, at_start, in_bmp_head, in_body, whole, failed, past, fault_or, bmp_front, body_so_far, head_so_far, run}
 use Rattle.jpg_spec_image.specs.ImageReading.{RepresentsImage}
 use Rattle.jpg_spec_image.proofs.ImageBodyRuns.{shows_run}
 use Rattle.jpg_spec_image.proofs.ImageJudged.{fault_stops, past_stop}
 use Rattle.jpg_spec_image.proofs.ImageStands.{stands}
-use Rattle.jpg_pnm_bmp.specs.Pieces.{GoesRight, HasNoFault}
-use Rattle.jpg_pnm_bmp.specs.Reader.{IsReached, ShowsNone}
+use Rattle.jpg_pnm_bmp.specs.Pieces.{HasNoFault}
+use Rattle.jpg_pnm_bmp.specs.Reader.{IsReached, ShowsNone, pixels_kind}
 
 -- STATES after some bytes
 pub body_right : (head : ImageHead) (body : List ℕ) → ShowsNone (body_so_far head body)
@@ -41,7 +41,7 @@ not_failed s fault e h = subst ShowsNone e h
 not_past : (s : ImageState) → s ≡ past → ShowsNone s → ⊥
 not_past s e h = subst ShowsNone e h
 
-pub no_fault : (bytes : List ℕ) → ShowsNone (run at_start bytes) → HasNoFault bytes
+pub no_fault : (bytes : List ℕ) → ShowsNone (run at_start bytes) → HasNoFault pixels_kind bytes
 no_fault bytes right k few fault shows =
     let all = take_all (length bytes) bytes (omega arith) in
     ⊎_elim
@@ -51,6 +51,3 @@ no_fault bytes right k few fault shows =
     (let e : take k bytes ≡ bytes = take_all k bytes b in
     not_failed (run at_start bytes) fault (ap (run at_start) (sym e) ∙ shows_run fault (take k bytes) shows) right))
     (cases_lt k (length bytes))
-
-pub goes_right : (bytes piece : List ℕ) (n : ℕ) → 1 ≤ n → n ≤ length piece → ShowsNone (run at_start (bytes ++ take n piece)) → GoesRight bytes piece
-goes_right bytes piece n some few right = (n, some, few, no_fault (bytes ++ take n piece) right)

@@ -13,8 +13,8 @@ use Rattle.jpg_spec_image.proofs.ImageBodyRuns.{count, body_run, body_all, not_y
 use Rattle.jpg_spec_image.proofs.ImageRuns.{run_join}
 use Rattle.jpg_pnm_bmp.specs.Shapes.{AreBelow}
 use Rattle.jpg_pnm_bmp.specs.Reader.{CanStretch, HasSamples, HoldsBodyPart, ShowsNone, Stretches}
-use Rattle.jpg_pnm_bmp.specs.declared.read.work.Answer.{Answer}
-use Rattle.jpg_pnm_bmp.specs.declared.read.work.Answer.TheVariants as answer
+use Rattle.jpg_pnm_bmp.specs.declared.read.piece.Answer.{Answer}
+use Rattle.jpg_pnm_bmp.specs.declared.read.piece.Answer.TheVariants as answer
 use Rattle.jpg_pnm_bmp.specs.declared.read.work.Work.{Work}
 use Rattle.jpg_spec.specs.declared.fault.Fault.TheVariants.{ImageValue}
 use Rattle.jpg_pnm_bmp.proofs.ShownNone.{body_right}

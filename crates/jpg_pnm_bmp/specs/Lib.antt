@@ -5,6 +5,7 @@ pub mod Written
 pub mod Known
 pub mod Made
 pub mod Pieces
+pub mod PiecesFed
 pub mod PixelsRead
 pub mod Reader
 pub mod Shapes

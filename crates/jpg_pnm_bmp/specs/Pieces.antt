@@ -1,80 +1,95 @@
--- Image files that are read piece by piece.
-use Rattle.std.specs.Prelude.{◌≡◌, ℕ, ◌<◌, ◌≤◌, List, ◌++◌, length, take, Result, Ok, Err}
+-- IMAGE FILES THAT ARE READ PIECE BY PIECE, in any format.
+use Rattle.std.specs.Prelude.{◌≡◌, ℕ, ◌≤◌, List, ◌++◌, length, take, Result, Ok, Err}
 use Rattle.jpg_base.specs.declared.stop.Stop.{Stop}
 use Rattle.jpg_base.specs.declared.stop.Stop.TheVariants as stop
 use Rattle.jpg_spec.specs.declared.fault.Fault.{Fault}
-use Rattle.jpg_spec.specs.declared.frame.Limits.{Limits}
 use Rattle.jpg_spec_image.specs.Images.{Image}
-use Rattle.jpg_spec_image.specs.ImageFaults.{IsImage, IsImageFault, ShowsImageFault}
-use Rattle.jpg_spec_image.specs.ImageSteps.{at_start, run}
 use Rattle.jpg_pnm_bmp.specs.Made.{AreBytes}
-use Rattle.jpg_pnm_bmp.specs.Reader.{standing, image_view, IsGoing, CanMake}
+use Rattle.jpg_pnm_bmp.specs.declared.read.piece.Answer.{Answer}
+use Rattle.jpg_pnm_bmp.specs.declared.read.piece.Answer.TheVariants as answer
 use Rattle.jpg_pnm_bmp.specs.declared.read.piece.Fed2.{Fed2}
 use Rattle.jpg_pnm_bmp.specs.declared.read.piece.Fed2.TheVariants as fed
-use Rattle.jpg_pnm_bmp.specs.declared.read.work.Work.{Work}
+use Rattle.jpg_pnm_bmp.specs.declared.read.piece.Moved.{Moved}
 
--- it was given these bytes, as many as `taken`
-pub record HasRead (bytes : List ℕ) (taken : ℕ) (w : Work) : Type 0 where
-  pub stands : standing w ≡ run at_start bytes
-  pub taken_is : taken ≡ length bytes
+-- Of what reads a format: which bytes lead to a state in which more are needed; where the image is complete, and what it
+-- is; which fault some bytes show with the last of them; and of all files that begin with some bytes, the image, and the
+-- fault with its place.
+pub record PieceKind (W : Type 0) : Type 1 where
+  pub stands : List ℕ → W → Type 0
+  pub can : W → Type 0
+  pub image : W → Image
+  pub shows : Fault → List ℕ → Type 0
+  pub means : List ℕ → Image → Type 0
+  pub faults : List ℕ → Fault → ℕ → Type 0
 
--- The result of a further piece, whatever follows it, for all limits that the bytes are within; and the image, once it
--- is complete.
-abbrev pub AfterImageRead : List ℕ → List ℕ → Result Fed2 Stop → Work → Image → Type 0
-AfterImageRead bytes piece (Ok fed.More) w image = standing w ≡ run at_start (bytes ++ piece)
-AfterImageRead bytes piece (Ok fed.Done) w image = (limits : Limits) (rest : List ℕ) → length (bytes ++ piece) ≤ limits.input → IsImage limits ((bytes ++ piece) ++ rest) image
-AfterImageRead bytes piece (Err (stop.Fault f)) w image = (limits : Limits) (rest : List ℕ) → length (bytes ++ piece) ≤ limits.input → IsImageFault limits ((bytes ++ piece) ++ rest) f.fault f.at
-AfterImageRead bytes piece (Err stop.NoMemory) w image = Unit {0}
+-- some bytes led to this state
+abbrev pub IsLed : {W : Type 0} → PieceKind W → W → Type 0
+IsLed k w = (bytes : List ℕ) × k.stands bytes w
+
+abbrev pub IsGoing : {W : Type 0} → PieceKind W → W → Type 0
+IsGoing k w = ∥ IsLed k w ∥₁
 
 -- WHERE MEMORY IS ASKED FOR: no prefix of the bytes has a fault, nor do they with some first bytes of the piece.
-abbrev pub HasNoFault : List ℕ → Type 0
-HasNoFault bytes = (k : ℕ) → k ≤ length bytes → (fault : Fault) → ShowsImageFault fault (take k bytes) → ⊥
+abbrev pub HasNoFault : {W : Type 0} → PieceKind W → List ℕ → Type 0
+HasNoFault k bytes = (n : ℕ) → n ≤ length bytes → (fault : Fault) → k.shows fault (take n bytes) → ⊥
 
-abbrev pub GoesRight : List ℕ → List ℕ → Type 0
-GoesRight bytes piece = (n : ℕ) × (1 ≤ n) × (n ≤ length piece) × HasNoFault (bytes ++ take n piece)
+abbrev pub GoesRight : {W : Type 0} → PieceKind W → List ℕ → List ℕ → Type 0
+GoesRight k bytes piece = (n : ℕ) × (1 ≤ n) × (n ≤ length piece) × HasNoFault k (bytes ++ take n piece)
 
 -- It is asked for by the image too, once that is complete.
-abbrev pub AsksRightly : List ℕ → List ℕ → Result Fed2 Stop → Type 0
-AsksRightly bytes piece (Ok fed.More) = Unit {0}
-AsksRightly bytes piece (Ok fed.Done) = GoesRight bytes piece
-AsksRightly bytes piece (Err (stop.Fault f)) = Unit {0}
-AsksRightly bytes piece (Err stop.NoMemory) = GoesRight bytes piece
+abbrev pub AsksRightly : {W : Type 0} → PieceKind W → List ℕ → List ℕ → Result Fed2 Stop → Type 0
+AsksRightly k bytes piece (Ok fed.More) = Unit {0}
+AsksRightly k bytes piece (Ok fed.Done) = GoesRight k bytes piece
+AsksRightly k bytes piece (Err (stop.Fault f)) = Unit {0}
+AsksRightly k bytes piece (Err stop.NoMemory) = GoesRight k bytes piece
 
-abbrev pub AfterImagePiece : List ℕ → List ℕ → Result Fed2 Stop → Work → Type 0
-AfterImagePiece bytes piece answer w = AfterImageRead bytes piece answer w (image_view w)
+-- SOME BYTES of a piece, by all that were taken then and by all with the piece: more are needed; or the image is
+-- complete; or a fault is shown.
+abbrev pub AfterSome : {W : Type 0} → PieceKind W → List ℕ → List ℕ → Answer → W → Type 0
+AfterSome k taken all answer.More w = k.stands taken w
+AfterSome k taken all answer.Whole w = k.means all (k.image w) × HasNoFault k taken × (AreBytes all → AreBytes (k.image w).samples)
+AfterSome k taken all (answer.Fault fault) w = k.faults all fault (length taken)
+AfterSome k taken all answer.NoMemory w = HasNoFault k taken
 
--- It can go on where more is needed, and make the image where it is complete.
-abbrev pub HasAllAfter : Result Fed2 Stop → Work → Type 0
-HasAllAfter (Ok fed.More) w = IsGoing w
-HasAllAfter (Ok fed.Done) w = CanMake w
-HasAllAfter (Err stop) w = Unit {0}
+-- for all that was read before
+abbrev pub TakesSome : {W : Type 0} → PieceKind W → W → List ℕ → Moved → W → Type 0
+TakesSome k old piece m new = (bytes : List ℕ) → k.stands bytes old → AfterSome k (bytes ++ take m.used piece) (bytes ++ piece) m.answer new
 
-abbrev pub GoesOn : Result Fed2 Stop → Work → Type 0
-GoesOn (Ok fed.More) w = IsGoing w
-GoesOn (Ok fed.Done) w = Unit {0}
-GoesOn (Err stop) w = Unit {0}
+-- what the image is made of is all there, where it is complete
+abbrev pub HasAll : {W : Type 0} → PieceKind W → Answer → W → Type 0
+HasAll k answer.Whole w = k.can w
+HasAll k other w = Unit {0}
 
--- The result where the input ends, for all limits that the bytes are below. Memory is asked for only if they are an
--- image's.
-abbrev pub EndsImage : List ℕ → Result (Unit {0}) Stop → Image → Type 0
-EndsImage bytes (Ok u) image = (limits : Limits) → length bytes < limits.input → IsImage limits bytes image
-EndsImage bytes (Err (stop.Fault f)) image = (limits : Limits) → length bytes < limits.input → IsImageFault limits bytes f.fault f.at
-EndsImage bytes (Err stop.NoMemory) image = (other : Image) × ((limits : Limits) → length bytes < limits.input → IsImage limits bytes other)
+-- the image is made, if its samples are bytes
+abbrev pub MakesWhole : Image → Result Fed2 Stop → Image → Type 0
+MakesWhole image (Ok fed.More) made = ⊥
+MakesWhole image (Ok fed.Done) made = AreBytes image.samples → image ≡ made
+MakesWhole image (Err (stop.Fault f)) made = ⊥
+MakesWhole image (Err stop.NoMemory) made = Unit {0}
 
-abbrev pub HasAllAtEnd : Result (Unit {0}) Stop → Work → Type 0
-HasAllAtEnd (Ok u) w = CanMake w
-HasAllAtEnd (Err stop) w = Unit {0}
+-- A PIECE
 
-abbrev pub AfterEnd : List ℕ → Result (Unit {0}) Stop → Work → Type 0
-AfterEnd bytes answer w = EndsImage bytes answer (image_view w)
+-- it was given these bytes, as many as `taken`
+pub record HasRead (W : Type 0) (k : PieceKind W) (bytes : List ℕ) (taken : ℕ) (w : W) : Type 0 where
+  pub stands : k.stands bytes w
+  pub taken_is : taken ≡ length bytes
 
--- THE PARTS of a reader: for all that was read before
+-- The result of a further piece, whatever follows it; and the image, once it is complete.
+abbrev pub AfterRead : {W : Type 0} → PieceKind W → List ℕ → List ℕ → Result Fed2 Stop → W → Image → Type 0
+AfterRead k bytes piece (Ok fed.More) w image = k.stands (bytes ++ piece) w
+AfterRead k bytes piece (Ok fed.Done) w image = k.means (bytes ++ piece) image
+AfterRead k bytes piece (Err (stop.Fault f)) w image = k.faults (bytes ++ piece) f.fault f.at
+AfterRead k bytes piece (Err stop.NoMemory) w image = Unit {0}
 
-abbrev pub Reads : Work → ℕ → List ℕ → Result Fed2 Stop → Work → Image → Type 0
-Reads old taken piece answer new image = (bytes : List ℕ) → HasRead bytes taken old → AreBytes bytes → AfterImageRead bytes piece answer new image
+-- for all that was read before
+abbrev pub Reads : {W : Type 0} → PieceKind W → W → ℕ → List ℕ → Result Fed2 Stop → W → Image → Type 0
+Reads {W} k old taken piece answer new image = (bytes : List ℕ) → HasRead W k bytes taken old → AreBytes bytes → AfterRead k bytes piece answer new image
 
-abbrev pub AsksRead : Work → ℕ → List ℕ → Result Fed2 Stop → Type 0
-AsksRead old taken piece answer = (bytes : List ℕ) → HasRead bytes taken old → AsksRightly bytes piece answer
+abbrev pub AsksRead : {W : Type 0} → PieceKind W → W → ℕ → List ℕ → Result Fed2 Stop → Type 0
+AsksRead {W} k old taken piece answer = (bytes : List ℕ) → HasRead W k bytes taken old → AsksRightly k bytes piece answer
 
-abbrev pub EndsRead : Work → ℕ → Result (Unit {0}) Stop → Image → Type 0
-EndsRead old taken answer image = (bytes : List ℕ) → HasRead bytes taken old → AreBytes bytes → EndsImage bytes answer image
+-- it goes on where more is needed
+abbrev pub GoesOn : {W : Type 0} → PieceKind W → Result Fed2 Stop → W → Type 0
+GoesOn k (Ok fed.More) w = IsGoing k w
+GoesOn k (Ok fed.Done) w = Unit {0}
+GoesOn k (Err stop) w = Unit {0}

@@ -58,7 +58,7 @@ pub record GoesOnPlain (info : ImageInfo) (bytes given : List ℕ) : Type 0 wher
 
 -- the samples so far
 abbrev pub samples_so_far : PixelReader → List ℕ
-samples_so_far r = r.work.samples
+samples_so_far r = r.reader.work.samples
 
 -- the numbers of an image whose samples aren't scaled
 abbrev pub unscaled_info : ℕ → Numbers → Option ImageInfo

@@ -1,19 +1,25 @@
 -- A reader of image files: its state after the bytes that it was given.
 use Rattle.std.specs.Prelude.{◌≡◌, ℕ, ◌+◌, ◌-◌, ◌*◌, ◌<◌, ◌≤◌, true, List, [], ◌++◌, length, take, Result, Ok, Err}
+use Rattle.jpg_base.specs.declared.stop.Stop.{Stop}
+use Rattle.jpg_base.specs.declared.stop.Stop.TheVariants as stop
 use Rattle.jpg_spec_image.specs.Images.{Image, are_right}
 use Rattle.jpg_spec_image.specs.BmpFile.{height, line, used, palette_bytes}
-use Rattle.jpg_spec_image.specs.ImageFaults.{ImageHead, pnm, bmp, body_of, image_of}
+use Rattle.jpg_spec_image.specs.ImageFaults.{ImageHead, pnm, bmp, body_of, image_of, IsImage, IsImageFault, ShowsImageFault}
 use Rattle.jpg_spec_image.specs.ImageSteps.{ImageState, at_start, behind_first, in_gap, in_number, in_bmp_head, in_bmp_front, in_body, whole, failed, past, ended_by, run}
 use Rattle.jpg_spec.specs.declared.fault.Fault.{Fault}
 use Rattle.jpg_spec_image.specs.PnmText.{number_fault}
+use Rattle.jpg_spec.specs.declared.frame.Limits.{Limits}
+use Rattle.jpg_pnm_bmp.specs.Pieces.{PieceKind, HasRead}
+use Rattle.jpg_pnm_bmp.specs.Pieces as pieces
 use Rattle.jpg_pnm_bmp.specs.Known.{list_of}
+use Rattle.jpg_pnm_bmp.specs.Made.{AreBytes}
 use Rattle.jpg_pnm_bmp.specs.declared.read.numbers.Numbers.{Numbers}
 use Rattle.jpg_pnm_bmp.specs.declared.read.numbers.Numbers.TheVariants.{Nothing, Width, Sides, All}
 use Rattle.jpg_pnm_bmp.specs.declared.read.work.Stage.{Stage}
 use Rattle.jpg_pnm_bmp.specs.declared.read.work.Stage.TheVariants as stage
-use Rattle.jpg_pnm_bmp.specs.declared.read.work.Answer.{Answer}
-use Rattle.jpg_pnm_bmp.specs.declared.read.work.Answer.TheVariants as answer
-use Rattle.jpg_pnm_bmp.specs.declared.read.work.Moved.{Moved}
+use Rattle.jpg_pnm_bmp.specs.declared.read.piece.Answer.{Answer}
+use Rattle.jpg_pnm_bmp.specs.declared.read.piece.Answer.TheVariants as answer
+use Rattle.jpg_pnm_bmp.specs.declared.read.piece.Moved.{Moved}
 use Rattle.jpg_pnm_bmp.specs.declared.read.work.Work.{Work}
 
 abbrev pub numbers_list : Work → List ℕ
@@ -42,10 +48,6 @@ standing w = standing_of w.stage w
 -- the result of some bytes
 abbrev pub IsReached : ImageState → Type 0
 IsReached s = (bytes : List ℕ) × (run at_start bytes ≡ s)
-
--- some bytes led to this state
-abbrev pub IsGoing : Work → Type 0
-IsGoing w = ∥ IsReached (standing w) ∥₁
 
 -- the image that the samples are, once all are there
 abbrev pub image_by : Stage → Work → Image
@@ -104,13 +106,6 @@ CanMakeAt stage.BmpBody w = HasPixels w.head w.palette w.samples
 abbrev pub CanMake : Work → Type 0
 CanMake w = CanMakeAt w.stage w
 
--- where the image is complete
-abbrev pub HasAll : Answer → Work → Type 0
-HasAll answer.More w = Unit {0}
-HasAll answer.Whole w = CanMake w
-HasAll (answer.Fault fault) w = Unit {0}
-HasAll answer.NoMemory w = Unit {0}
-
 pub record KeepsStage (old new : Work) : Type 0 where
   pub stage : new.stage ≡ old.stage
   pub format : new.format ≡ old.format
@@ -168,3 +163,29 @@ IsEnd answer.More = ⊥
 IsEnd answer.Whole = Unit {0}
 IsEnd (answer.Fault fault) = Unit {0}
 IsEnd answer.NoMemory = Unit {0}
+
+-- WHAT ITS STATES MEAN, for all limits that the bytes are within
+abbrev pub pixels_kind : PieceKind Work
+pixels_kind = record {
+  stands = λ bytes w. standing w ≡ run at_start bytes;
+  can = CanMake;
+  image = image_view;
+  shows = ShowsImageFault;
+  means = λ bytes image. (limits : Limits) (rest : List ℕ) → length bytes ≤ limits.input → IsImage limits (bytes ++ rest) image;
+  faults = λ bytes fault at. (limits : Limits) (rest : List ℕ) → length bytes ≤ limits.input → IsImageFault limits (bytes ++ rest) fault at;
+}
+
+-- where the image is complete
+abbrev pub HasAll : Answer → Work → Type 0
+HasAll a w = pieces.HasAll pixels_kind a w
+
+-- The result where the input ends, for all limits that the bytes are below. Memory is asked for only if they are an
+-- image's.
+abbrev pub EndsImage : List ℕ → Result (Unit {0}) Stop → Image → Type 0
+EndsImage bytes (Ok u) image = (limits : Limits) → length bytes < limits.input → IsImage limits bytes image
+EndsImage bytes (Err (stop.Fault f)) image = (limits : Limits) → length bytes < limits.input → IsImageFault limits bytes f.fault f.at
+EndsImage bytes (Err stop.NoMemory) image = (other : Image) × ((limits : Limits) → length bytes < limits.input → IsImage limits bytes other)
+
+-- for all that was read before
+abbrev pub EndsRead : Work → ℕ → Result (Unit {0}) Stop → Image → Type 0
+EndsRead old taken answer image = (bytes : List ℕ) → HasRead Work pixels_kind bytes taken old → AreBytes bytes → EndsImage bytes answer image

@@ -10,7 +10,7 @@ pub use jpg_spec_image::{EndKind, ImageInfo, ImageKind};
 pub use laws::{
     fed_bytes_are_open, images_are_right, images_are_written_whole, plain_samples_are_read,
 };
-pub use read::piece::Fed2;
+pub use read::piece::{Answer, Fed2, Moved, PieceReader, PieceWork, one_byte};
 pub use read::pixels::{Image, PixelReader};
 pub use write::bmp::BmpEnd;
 pub use write::end::{Finish, ImageEnd};

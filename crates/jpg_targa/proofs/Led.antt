@@ -7,8 +7,8 @@ use Rattle.jpg_spec_image.proofs.TargaRuns.{pixels_run}
 use Rattle.jpg_spec_image.proofs.TargaStands.{stands}
 use Rattle.jpg_targa.specs.Reader.{standing_of, after_pixels, IsReached, Reaches, ShowsNone, Grows, CanStretch}
 use Rattle.jpg_targa.proofs.ShownNone.{pixels_right}
-use Rattle.jpg_targa.specs.declared.read.work.Answer.{Answer}
-use Rattle.jpg_targa.specs.declared.read.work.Moved.{Moved}
+use Rattle.jpg_pnm_bmp.specs.declared.read.piece.Answer.{Answer}
+use Rattle.jpg_pnm_bmp.specs.declared.read.piece.Moved.{Moved}
 use Rattle.jpg_targa.specs.declared.read.work.Stage.{Stage}
 use Rattle.jpg_targa.specs.declared.read.work.Work.{Work}
 

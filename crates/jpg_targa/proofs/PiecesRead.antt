@@ -1,34 +1,28 @@
--- Bytes that are read part by part.
-use Rattle.std.proofs.Common.{◌≡◌, ℕ, ◌+◌, ◌≤◌, List, [], ◌++◌, length, take, drop, refl, sym, ap, ◌∙◌, subst, arith, Ok}
-use Rattle.std.specs.Prelude.{Result}
-use Rattle.std.proofs.lemmas.List.{append_assoc, length-append}
-use Rattle.std.proofs.Math.Seq.{take-add}
+-- A part of a piece that is read.
+use Rattle.std.proofs.Common.{◌≡◌, ℕ, ◌+◌, ◌≤◌, List, [], ◌++◌, length, take, refl, sym, ap, ◌∙◌, subst, arith}
+use Rattle.std.proofs.lemmas.List.{append-nil, length-append}
 use Rattle.jpg_spec_image.specs.Images.{Image}
 use Rattle.jpg_spec_image.specs.TargaFaults.{TargaMeans, IsOpenTarga, IsTargaFault}
-use Rattle.jpg_spec_image.specs.TargaSteps.{TargaState, at_start, whole, failed, run}
+use Rattle.jpg_spec_image.specs.TargaSteps.{at_start, whole, failed, run}
 use Rattle.jpg_spec_image.proofs.TargaRuns.{run_join}
 use Rattle.jpg_spec_image.proofs.TargaJudged.{IsLive, targa_at, fault_at, short_at, live_open}
 use Rattle.jpg_spec.specs.declared.fault.Fault.{Fault}
 use Rattle.jpg_spec.specs.declared.fault.Fault.TheVariants.{ImageShort}
-use Rattle.jpg_targa.specs.Reader.{standing, standing_of}
 use Rattle.jpg_pnm_bmp.specs.Made.{AreBytes}
-use Rattle.jpg_pnm_bmp.specs.declared.read.piece.Fed2.{Fed2}
-use Rattle.jpg_pnm_bmp.specs.declared.read.piece.Fed2.TheVariants as fed
-use Rattle.jpg_base.specs.declared.stop.Stop.{Stop}
-use Rattle.jpg_targa.specs.Pieces.{HasRead, AfterTargaRead}
-use Rattle.jpg_targa.specs.TargaRead.{targa_read, HasFedTarga, AfterFeed}
-use Rattle.jpg_targa.specs.declared.read.reader.TargaReader.{TargaReader}
+use Rattle.jpg_pnm_bmp.specs.Pieces.{AfterSome, HasRead}
+use Rattle.jpg_pnm_bmp.specs.declared.read.piece.Answer.{Answer}
+use Rattle.jpg_pnm_bmp.specs.declared.read.piece.Answer.TheVariants as answer
+use Rattle.jpg_pnm_bmp.proofs.PiecesFed.{place}
+use Rattle.jpg_pnm_bmp.proofs.PiecesRead.{front}
+use Rattle.jpg_targa.specs.Reader.{Reaches, image_view, standing, standing_of, targa_kind}
 use Rattle.jpg_targa.specs.declared.read.work.Stage.{Stage}
 use Rattle.jpg_targa.specs.declared.read.work.Stage.TheVariants as stage
 use Rattle.jpg_targa.specs.declared.read.work.Work.{Work}
-use Rattle.jpg_pnm_bmp.proofs.PiecesRead.{front}
+use Rattle.jpg_targa.proofs.ShownNone.{no_fault, whole_right}
+use Rattle.jpg_targa.proofs.TargaRight.{targa_right}
 
--- one more part
-pub part_on : (bytes piece : List ℕ) (at used : ℕ) (s : TargaState) → s ≡ run at_start (bytes ++ take at piece) → run s (take used (drop at piece)) ≡ run at_start (bytes ++ take (at + used) piece)
-part_on bytes piece at used s e =
-    ap (λ t. run t (take used (drop at piece))) e
-    ∙ sym (run_join at_start (bytes ++ take at piece) (take used (drop at piece)))
-    ∙ ap (run at_start) (append_assoc bytes (take at piece) (take used (drop at piece)) ∙ ap (λ x. bytes ++ x) (sym (take-add at used piece)))
+samples_all : (bytes : List ℕ) (image : Image) → TargaMeans (bytes ++ []) image → AreBytes bytes → AreBytes image.samples
+samples_all bytes image is all = (targa_right (bytes ++ []) image is (subst AreBytes (sym (append-nil bytes)) all)).bytes
 
 within : (bytes piece rest : List ℕ) (n : ℕ) → n ≤ length piece → length bytes + n ≤ length ((bytes ++ piece) ++ rest)
 within bytes piece rest n h =
@@ -36,11 +30,22 @@ within bytes piece rest n h =
     let b = length-append (bytes ++ piece) rest in
     omega (arith, a, b, h)
 
-pub image_read : (bytes piece rest : List ℕ) (n : ℕ) (image : Image) → n ≤ length piece → run at_start (bytes ++ take n piece) ≡ whole image → TargaMeans ((bytes ++ piece) ++ rest) image
+image_read : (bytes piece rest : List ℕ) (n : ℕ) (image : Image) → n ≤ length piece → run at_start (bytes ++ take n piece) ≡ whole image → TargaMeans ((bytes ++ piece) ++ rest) image
 image_read bytes piece rest n image h e = targa_at ((bytes ++ piece) ++ rest) (length bytes + n) image (within bytes piece rest n h) (ap (run at_start) (front bytes piece rest n h) ∙ e)
 
-pub fault_read : (bytes piece rest : List ℕ) (n : ℕ) (fault : Fault) → n ≤ length piece → run at_start (bytes ++ take n piece) ≡ failed fault → IsTargaFault ((bytes ++ piece) ++ rest) fault (length bytes + n)
+fault_read : (bytes piece rest : List ℕ) (n : ℕ) (fault : Fault) → n ≤ length piece → run at_start (bytes ++ take n piece) ≡ failed fault → IsTargaFault ((bytes ++ piece) ++ rest) fault (length bytes + n)
 fault_read bytes piece rest n fault h e = fault_at ((bytes ++ piece) ++ rest) (length bytes + n) fault (within bytes piece rest n h) (ap (run at_start) (front bytes piece rest n h) ∙ e)
+
+pub some_taken : (old new : Work) (bytes piece : List ℕ) (used : ℕ) (a : Answer) → used ≤ length piece → standing old ≡ run at_start bytes → Reaches (run (standing old) (take used piece)) a new → AfterSome targa_kind (bytes ++ take used piece) (bytes ++ piece) a new
+some_taken old new bytes piece used a few s r = by a (subst (λ t. Reaches t a new) (ap (λ t. run t (take used piece)) s ∙ sym (run_join at_start bytes (take used piece))) r)
+  where
+    by : (a : Answer) → Reaches (run at_start (bytes ++ take used piece)) a new → AfterSome targa_kind (bytes ++ take used piece) (bytes ++ piece) a new
+    by answer.More e = e
+    by answer.Whole e =
+        let is : targa_kind.means (bytes ++ piece) (image_view new) = λ rest. image_read bytes piece rest used (image_view new) few e in
+        (is, no_fault (bytes ++ take used piece) (whole_right (run at_start (bytes ++ take used piece)) (image_view new) e), λ all. samples_all (bytes ++ piece) (image_view new) (is []) all)
+    by (answer.Fault fault) e = λ rest. subst (IsTargaFault ((bytes ++ piece) ++ rest) fault) (sym (place bytes piece (length bytes) used refl few)) (fault_read bytes piece rest used fault few e)
+    by answer.NoMemory e = no_fault (bytes ++ take used piece) e
 
 -- WHERE MORE IS NEEDED
 
@@ -51,36 +56,15 @@ standing_live stage.Packet w = tt
 standing_live (stage.Copies count) w = tt
 standing_live (stage.Pixels left) w = tt
 
-read_live : (bytes : List ℕ) (taken : ℕ) (w : Work) → HasRead bytes taken w → IsLive (run at_start bytes)
+read_live : (bytes : List ℕ) (taken : ℕ) (w : Work) → HasRead Work targa_kind bytes taken w → IsLive (run at_start bytes)
 read_live bytes taken w h = subst IsLive h.stands (standing_live w.stage w)
 
-pub read_open : (bytes : List ℕ) (taken : ℕ) (w : Work) → HasRead bytes taken w → IsOpenTarga bytes
+pub read_open : (bytes : List ℕ) (taken : ℕ) (w : Work) → HasRead Work targa_kind bytes taken w → IsOpenTarga bytes
 read_open bytes taken w h = live_open bytes (read_live bytes taken w h)
 
-pub read_short : (bytes : List ℕ) (taken : ℕ) (w : Work) → HasRead bytes taken w → IsTargaFault bytes ImageShort (length bytes)
+pub read_short : (bytes : List ℕ) (taken : ℕ) (w : Work) → HasRead Work targa_kind bytes taken w → IsTargaFault bytes ImageShort (length bytes)
 read_short bytes taken w h = short_at bytes (read_live bytes taken w h)
 
-pub none_read : (w : Work) → standing w ≡ at_start → HasRead [] 0 w
+pub none_read : (w : Work) → standing w ≡ at_start → standing w ≡ run at_start []
 unfolding run
-none_read w e = record { stands = e; taken_is = refl }
-
--- a piece was fed, and more is needed
-pub record GoesOn (old next : TargaReader) (bytes piece : List ℕ) : Type 0 where
-  pub fed : HasFedTarga bytes old
-  pub all : AreBytes (bytes ++ piece)
-  pub stop : next.stop ≡ old.stop
-  pub done : next.done ≡ old.done
-  pub taken : next.taken ≡ old.taken + length piece
-
-pub fed_more : (old next : TargaReader) (bytes piece : List ℕ) (answer : Result Fed2 Stop) → answer ≡ Ok fed.More → GoesOn old next bytes piece → AfterTargaRead bytes piece answer next.work (targa_read next) → AfterFeed bytes piece answer next
-fed_more old next bytes piece answer e on after =
-    let h = on.fed in
-    subst (λ x. AfterFeed bytes piece x next) (sym e) (
-      on.stop ∙ h.0,
-      on.done ∙ h.1,
-      on.all,
-      record {
-        stands = subst (λ x. AfterTargaRead bytes piece x next.work (targa_read next)) e after;
-        taken_is = on.taken ∙ ap (λ n. n + length piece) h.3.taken_is ∙ sym (length-append bytes piece);
-      },
-    )
+none_read w e = e

@@ -1,18 +1,17 @@
 -- States without a fault, and bytes that lead to them.
-use Rattle.std.proofs.Common.{◌≡◌, ℕ, ◌-◌, ◌<◌, ◌≤◌, ◌==◌, Bool, true, false, cond, List, [], ◌∷◌, ◌++◌, length, take, drop, refl, sym, ap, ◌∙◌, subst, arith, ⊎_elim}
+use Rattle.std.proofs.Common.{◌≡◌, ℕ, ◌<◌, ◌≤◌, ◌==◌, Bool, true, false, cond, List, [], ◌∷◌, length, take, drop, refl, sym, ap, ◌∙◌, subst, arith, ⊎_elim}
 use Rattle.std.specs.Prelude.{nat_lt}
 use Rattle.std.proofs.lemmas.Bool.{cases_lt}
 use Rattle.std.proofs.lemmas.List.{take-append-drop, take_all}
 use Rattle.jpg_spec.specs.declared.fault.Fault.{Fault}
 use Rattle.jpg_spec_image.specs.Images.{Image}
 use Rattle.jpg_spec_image.specs.TargaFile.{targa_image}
-use Rattle.jpg_spec_image.specs.TargaFaults.{ShowsTargaFault}
 use Rattle.jpg_spec_image.specs.TargaSteps.{TargaState, at_packet, at_start, failed, grown, in_head, in_pixels, past, pixels_so_far, run, total, whole}
 use Rattle.jpg_spec_image.specs.TargaReading.{RepresentsTarga}
 use Rattle.jpg_spec_image.proofs.TargaRuns.{run_join, shows_run}
 use Rattle.jpg_spec_image.proofs.TargaStands.{stands}
-use Rattle.jpg_targa.specs.Pieces.{GoesRight, HasNoFault}
-use Rattle.jpg_targa.specs.Reader.{IsReached, ShowsNone}
+use Rattle.jpg_pnm_bmp.specs.Pieces.{HasNoFault}
+use Rattle.jpg_targa.specs.Reader.{IsReached, ShowsNone, targa_kind}
 
 -- STATES after some bytes
 grown_right : (head bytes : List ℕ) (s : TargaState) → ShowsNone s → ShowsNone (grown head bytes s)
@@ -47,10 +46,7 @@ wrong s (b ∷ bytes) fault e h = subst ShowsNone (ap (λ (t : TargaState). run 
     over [] = refl
     over (c ∷ more) = over more
 
-pub no_fault : (bytes : List ℕ) → ShowsNone (run at_start bytes) → HasNoFault bytes
+pub no_fault : (bytes : List ℕ) → ShowsNone (run at_start bytes) → HasNoFault targa_kind bytes
 no_fault bytes right k few fault shows =
     wrong (run at_start (take k bytes)) (drop k bytes) fault (shows_run fault (take k bytes) shows)
     (subst ShowsNone (ap (run at_start) (sym (take-append-drop k bytes)) ∙ run_join at_start (take k bytes) (drop k bytes)) right)
-
-pub goes_right : (bytes piece : List ℕ) (n : ℕ) → 1 ≤ n → n ≤ length piece → ShowsNone (run at_start (bytes ++ take n piece)) → GoesRight bytes piece
-goes_right bytes piece n some few right = (n, some, few, no_fault (bytes ++ take n piece) right)

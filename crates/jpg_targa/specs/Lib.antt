@@ -1,4 +1,3 @@
-pub mod Pieces
 pub mod Reader
 pub mod TargaRead
 pub mod TargaState

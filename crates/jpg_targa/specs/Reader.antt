@@ -3,13 +3,16 @@ use Rattle.std.specs.Prelude.{◌≡◌, ℕ, ◌<◌, ◌≤◌, ◌==◌, if�
 use Rattle.jpg_spec.specs.Lists.{below}
 use Rattle.jpg_spec_image.specs.Images.{Image}
 use Rattle.jpg_spec_image.specs.TargaFile.{targa_image}
+use Rattle.jpg_spec_image.specs.TargaFaults.{IsTargaFault, ShowsTargaFault, TargaMeans}
 use Rattle.jpg_spec_image.specs.TargaSteps.{TargaState, in_head, in_identifier, at_packet, in_copies, in_pixels, whole, failed, past, at_start, total, grown, run}
 use Rattle.jpg_base.specs.declared.names.NoMemory.{NoMemory}
+use Rattle.jpg_pnm_bmp.specs.Pieces.{PieceKind}
+use Rattle.jpg_pnm_bmp.specs.Pieces as pieces
 use Rattle.jpg_targa.specs.declared.read.work.Stage.{Stage}
 use Rattle.jpg_targa.specs.declared.read.work.Stage.TheVariants as stage
-use Rattle.jpg_targa.specs.declared.read.work.Answer.{Answer}
-use Rattle.jpg_targa.specs.declared.read.work.Answer.TheVariants as answer
-use Rattle.jpg_targa.specs.declared.read.work.Moved.{Moved}
+use Rattle.jpg_pnm_bmp.specs.declared.read.piece.Answer.{Answer}
+use Rattle.jpg_pnm_bmp.specs.declared.read.piece.Answer.TheVariants as answer
+use Rattle.jpg_pnm_bmp.specs.declared.read.piece.Moved.{Moved}
 use Rattle.jpg_targa.specs.declared.read.work.Work.{Work}
 
 abbrev pub standing_of : Stage → Work → TargaState
@@ -47,12 +50,20 @@ Reaches s answer.Whole w = s ≡ whole (image_view w)
 Reaches s (answer.Fault fault) w = s ≡ failed fault
 Reaches s answer.NoMemory w = ShowsNone s
 
+-- WHAT ITS STATES MEAN
+abbrev pub targa_kind : PieceKind Work
+targa_kind = record {
+  stands = λ bytes w. standing w ≡ run at_start bytes;
+  can = λ w. total w.head ≤ length w.pixels;
+  image = image_view;
+  shows = ShowsTargaFault;
+  means = λ bytes image. (rest : List ℕ) → TargaMeans (bytes ++ rest) image;
+  faults = λ bytes fault at. (rest : List ℕ) → IsTargaFault (bytes ++ rest) fault at;
+}
+
 -- where the image is complete, its pixels are all there
 abbrev pub HasAll : Answer → Work → Type 0
-HasAll answer.More w = Unit {0}
-HasAll answer.Whole w = total w.head ≤ length w.pixels
-HasAll (answer.Fault fault) w = Unit {0}
-HasAll answer.NoMemory w = Unit {0}
+HasAll a w = pieces.HasAll targa_kind a w
 
 -- it goes on at this stage, or its pixels are all there
 abbrev pub Grows : Work → Stage → Answer → Work → Type 0

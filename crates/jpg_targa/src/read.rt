@@ -3,6 +3,5 @@
 pub mod head;
 pub mod laws;
 pub mod make;
-pub mod piece;
 pub mod reader;
 pub mod work;

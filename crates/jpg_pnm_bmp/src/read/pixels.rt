@@ -2,14 +2,15 @@
 ghost use Rattle.std.specs.Prelude.{◌≡◌, ◌≤◌, ◌+◌, [], ℕ, List, length, Some, None, true, false, Ok, Err, IfSome, IfNone};
 ghost use Rattle.jpg_base.specs.declared.stop.Stop.{Stop as Stopped};
 ghost use Rattle.jpg_pnm_bmp.specs.Made.{image_by_parts};
-ghost use Rattle.jpg_pnm_bmp.specs.Pieces.{AsksRead, Reads, EndsRead, GoesOn};
-ghost use Rattle.jpg_pnm_bmp.specs.Reader.{CanMake, IsGoing};
+ghost use Rattle.jpg_pnm_bmp.specs.Pieces.{IsGoing};
+ghost use Rattle.jpg_pnm_bmp.specs.PiecesFed.{CanGo};
+ghost use Rattle.jpg_pnm_bmp.specs.Reader.{EndsRead, pixels_kind};
 
 use crate::read::make::make_image;
-use crate::read::piece::{Fed2, end_here, read_piece};
+use crate::read::piece::{Answer, Fed2, Moved, PieceReader, PieceWork, make_whole};
 use crate::read::work::Work;
-use jpg_base::{Bytes, Stop};
-use jpg_spec_image::{ImageInfo, ImageKind};
+use jpg_base::{Bytes, FaultAt, NoMemory, Stop};
+use jpg_spec_image::ImageInfo;
 use std::alloc::Global;
 
 /// An image: its numbers, and its samples by rows from the top: one for each pixel of a gray image, red, green and blue
@@ -23,19 +24,21 @@ pub struct Image {
 /// Reads an image file: P2, P3, P5, P6, or a BMP of 8 or 24 bits a pixel.
 #[derive(Drop)]
 pub struct PixelReader {
-    // The state after the bytes so far.
-    work: Work,
-    // Memory for the samples of the image, made of those of the file.
-    made: Bytes,
-    // The size and the colours of the image, once they are known.
-    info: ImageInfo,
-    // How many bytes were taken.
-    taken: u64,
-    // The image is complete.
-    done: bool,
-    // Why the reader stopped, if it did.
-    stop: Option<Stop>,
-    ghost going: { stop ≡ None → done ≡ false → IsGoing work },
+    // What it was given so far.
+    reader: PieceReader<Work>,
+    ghost going: { CanGo pixels_kind reader },
+}
+
+impl PieceWork for Work {
+    ghost kind = { pixels_kind };
+
+    fn some(&mut self, piece: &[u8]) -> Moved {
+        self.advance(piece)
+    }
+
+    fn make(&mut self, made: &mut Bytes) -> Result<ImageInfo, NoMemory> {
+        make_image(self, made)
+    }
 }
 
 impl PixelReader {
@@ -49,18 +52,7 @@ impl PixelReader {
         ensures taken { pixels_taken result ≡ 0 }
     {
         PixelReader {
-            work: Work::new(alloc),
-            made: Bytes::new(alloc),
-            info: ImageInfo {
-                width: 0,
-                height: 0,
-                kind: ImageKind::Gray,
-                x_metre: 0,
-                y_metre: 0,
-            },
-            taken: 0,
-            done: false,
-            stop: None,
+            reader: PieceReader::new(alloc, Work::new(alloc)),
         }
     }
 
@@ -80,36 +72,21 @@ impl PixelReader {
         ensures again { (stop : Stopped) → pixels_stop self.old ≡ Some stop → (result ≡ Err stop) × (self.new ≡ self.old) }
         ensures taken { pixels_taken self.new ≤ pixels_taken self.old + length piece.now }
     {
-        if let Some(stop) = self.stop {
-            return Err(stop);
-        }
-        let answer = read_image(
-            &mut self.work,
-            self.taken,
-            piece,
-            &mut self.info,
-            &mut self.made,
-        );
-        match answer {
-            Ok(Fed2::More) => self.taken += piece.len() as u64,
-            Ok(Fed2::Done) => self.done = true,
-            Err(stop) => self.stop = Some(stop),
-        }
-        answer
+        self.reader.feed(piece)
     }
 
     /// How many bytes were taken so far, while more are needed.
     pub fn taken(&self) -> u64
         ensures { result ≡ pixels_taken self.now }
     {
-        self.taken
+        self.reader.taken
     }
 
     /// Whether the image is complete.
     pub fn is_read(&self) -> bool
         ensures { result ≡ is_image_read self.now }
     {
-        self.done
+        self.reader.done
     }
 
     /// The numbers of the image, if the bytes so far are the header of a P5 or P6 file whose greatest value is 255 and
@@ -121,17 +98,17 @@ impl PixelReader {
         ensures more { IfSome result (λ info. is_image_read self.now ≡ false) }
         ensures stopped { (stop : Stopped) → pixels_stop self.now ≡ Some stop → result ≡ None }
     {
-        if self.done || self.stop.is_some() {
+        if self.reader.done || self.reader.stop.is_some() {
             return None;
         }
-        self.work.unscaled()
+        self.reader.work.unscaled()
     }
 
     /// The samples so far, of a file of which `plain` tells.
     pub fn samples(&self) -> &[u8]
         ensures { result.now ≡ samples_so_far self.now }
     {
-        self.work.samples.as_slice()
+        self.reader.work.samples.as_slice()
     }
 
     /// The file ends here. Returns Ok if the image is complete now, which it is if the last number of P2 or P3 ends
@@ -145,13 +122,14 @@ impl PixelReader {
         ensures stopped { (stop : Stopped) → result ≡ Err stop → pixels_stop self.new ≡ Some stop }
         ensures again { (stop : Stopped) → pixels_stop self.old ≡ Some stop → (result ≡ Err stop) × (self.new ≡ self.old) }
     {
-        if let Some(stop) = self.stop {
+        if let Some(stop) = self.reader.stop {
             return Err(stop);
         }
-        let answer = end_image(&mut self.work, self.taken, &mut self.info, &mut self.made);
+        let taken = self.reader.taken;
+        let answer = end_image(&mut self.reader.work, taken, &mut self.reader.image);
         match answer {
-            Ok(()) => self.done = true,
-            Err(stop) => self.stop = Some(stop),
+            Ok(()) => self.reader.done = true,
+            Err(stop) => self.reader.stop = Some(stop),
         }
         answer
     }
@@ -161,60 +139,24 @@ impl PixelReader {
         requires { is_image_read self ≡ true }
         ensures { image_by_parts result.info result.samples ≡ image_read self }
     {
-        Image {
-            info: self.info,
-            samples: self.made,
-        }
+        let PixelReader { reader, .. } = self;
+        reader.image
     }
 }
 
-// Reads a piece, and makes the image if it is complete then.
-fn read_image(
-    work: &mut Work,
-    taken: u64,
-    piece: &[u8],
-    info: &mut ImageInfo,
-    made: &mut Bytes,
-) -> Result<Fed2, Stop>
-    requires room { taken + length piece.now ≤ 1099511627776 }
-    requires going { IsGoing work.old }
-    ensures led { Reads work.old taken piece.now result work.new (image_by_parts info.new made.new) }
-    ensures on { GoesOn result work.new }
-    ensures memory { AsksRead work.old taken piece.now result }
+// The bytes end here. Returns Ok if the image is complete now, or its fault; or NoMemory for its last sample or for the
+// image that is made.
+fn end_image(work: &mut Work, taken: u64, image: &mut Image) -> Result<(), Stop>
+    requires { IsGoing pixels_kind work.old }
+    ensures { EndsRead work.old taken result (image_by_parts image.new.info image.new.samples) }
 {
-    match read_piece(work, taken, piece) {
-        Ok(fed) => match fed {
-            Fed2::More => Ok(Fed2::More),
-            Fed2::Done => match make_image(work, made) {
-                Ok(numbers) => {
-                    *info = numbers;
-                    Ok(Fed2::Done)
-                }
-                Err(_) => Err(Stop::NoMemory),
-            },
+    match work.end() {
+        Answer::Whole => match make_whole(work, image) {
+            Ok(_) => Ok(()),
+            Err(stop) => Err(stop),
         },
-        Err(stop) => Err(stop),
-    }
-}
-
-// The bytes end here: makes the image if it is complete now.
-fn end_image(
-    work: &mut Work,
-    taken: u64,
-    info: &mut ImageInfo,
-    made: &mut Bytes,
-) -> Result<(), Stop>
-    requires { IsGoing work.old }
-    ensures { EndsRead work.old taken result (image_by_parts info.new made.new) }
-{
-    match end_here(work, taken) {
-        Ok(()) => match make_image(work, made) {
-            Ok(numbers) => {
-                *info = numbers;
-                Ok(())
-            }
-            Err(_) => Err(Stop::NoMemory),
-        },
-        Err(stop) => Err(stop),
+        Answer::Fault(fault) => Err(Stop::Fault(FaultAt { fault, at: taken })),
+        Answer::NoMemory => Err(Stop::NoMemory),
+        Answer::More => unreachable!(),
     }
 }

@@ -5,7 +5,8 @@ ghost use Rattle.jpg_spec_image.specs.BmpFile.{palette_bytes};
 ghost use Rattle.jpg_spec_image.specs.ImageFaults.{ImageHead, body_of};
 ghost use Rattle.jpg_spec_image.specs.ImageSteps.{at_start, in_body, first_byte, second_byte, gap_byte, number_byte, after_number, head_so_far, bmp_front, front_byte, state_end, ended_by, plain_image, run};
 ghost use Rattle.jpg_pnm_bmp.specs.Known.{list_of};
-ghost use Rattle.jpg_pnm_bmp.specs.Reader.{standing, numbers_list, IsEnd, IsGoing, IsReached, HasAll, HasScale, KeepsStage, Reaches, AddsNumber, CanStretch, HoldsBodyPart, StretchesBy, EndsAs, number_ended_at};
+ghost use Rattle.jpg_pnm_bmp.specs.Reader.{standing, numbers_list, IsEnd, IsReached, HasAll, HasScale, KeepsStage, Reaches, AddsNumber, CanStretch, HoldsBodyPart, StretchesBy, EndsAs, number_ended_at, pixels_kind};
+ghost use Rattle.jpg_pnm_bmp.specs.Pieces.{IsGoing};
 ghost use Rattle.jpg_pnm_bmp.specs.Shapes.{body_view};
 ghost use Rattle.jpg_pnm_bmp.specs.PlainSamples.{unscaled_view};
 
@@ -15,6 +16,7 @@ use crate::read::numbers::{
     Numbers, begins_gap, is_digit, is_due_after, is_left_out, is_plain, is_read, may_follow,
     number_fault, unscaled_info,
 };
+use crate::read::piece::{Answer, Moved, one_byte};
 use jpg_base::{Bytes, NoMemory};
 use jpg_spec::Fault;
 use jpg_spec_image::ImageInfo;
@@ -33,22 +35,6 @@ pub enum Stage {
     BmpBody,
 }
 
-// The result of a byte, or of some bytes.
-#[derive(Clone, Copy)]
-pub enum Answer {
-    More,
-    Whole,
-    Fault(Fault),
-    NoMemory,
-}
-
-// How many bytes were taken, and their result.
-#[derive(Clone, Copy)]
-pub struct Moved {
-    pub used: usize,
-    pub answer: Answer,
-}
-
 // The state of an image file that is read.
 #[derive(Drop)]
 pub struct Work {
@@ -64,12 +50,6 @@ pub struct Work {
     pub palette: Bytes,
     // The samples so far, as the file has them.
     pub samples: Bytes,
-}
-
-fn one_byte(answer: Answer) -> Moved
-    ensures { result ≡ record { used = 1; answer = answer } }
-{
-    Moved { used: 1, answer }
 }
 
 // A sample that isn't above the greatest one, as a byte.
@@ -383,7 +363,7 @@ impl Work {
     // Takes some of the bytes, at least one.
     pub fn advance(&mut self, piece: &[u8]) -> Moved
         requires some { 1 ≤ length piece.now }
-        requires going { IsGoing self.old }
+        requires going { IsGoing pixels_kind self.old }
         ensures some { 1 ≤ result.used }
         ensures within { result.used ≤ length piece.now }
         ensures led { IsReached (standing self.old) → Reaches (run (standing self.old) (take result.used piece.now)) result.answer self.new }
@@ -410,7 +390,7 @@ impl Work {
 
     // The bytes end here: a number at their end is judged.
     pub fn end(&mut self) -> Answer
-        requires { IsGoing self.old }
+        requires { IsGoing pixels_kind self.old }
         ensures led { IsReached (standing self.old) → EndsAs (state_end (standing self.old)) result self.new }
         ensures stops { IsEnd result }
         ensures all { HasAll result self.new }

@@ -4,7 +4,7 @@ ghost use Rattle.jpg_spec_image.specs.ImageText.{file_samples};
 ghost use Rattle.jpg_spec_image.specs.TargaFile.{targa_row, targa_height, targa_kind, is_from_top, targa_image};
 ghost use Rattle.jpg_spec_image.specs.TargaSteps.{total};
 ghost use Rattle.jpg_spec_image.specs.declared.image.ImageKind.TheVariants.{Gray};
-ghost use Rattle.jpg_targa.specs.TargaRead.{Makes};
+ghost use Rattle.jpg_pnm_bmp.specs.Made.{Makes};
 
 use crate::read::head::{height, info, is_from_top, kind, row_bytes, total};
 use crate::read::work::Work;

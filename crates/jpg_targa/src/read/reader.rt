@@ -2,33 +2,35 @@
 ghost use Rattle.std.specs.Prelude.{◌≡◌, ◌≤◌, ◌+◌, [], ℕ, List, length, Some, true, false, Ok, Err};
 ghost use Rattle.jpg_base.specs.declared.stop.Stop.{Stop as Stopped};
 ghost use Rattle.jpg_pnm_bmp.specs.Made.{image_by_parts};
-ghost use Rattle.jpg_targa.specs.Pieces.{AsksRead};
-ghost use Rattle.jpg_targa.specs.TargaRead.{Reads};
+ghost use Rattle.jpg_pnm_bmp.specs.PiecesFed.{CanGo};
+ghost use Rattle.jpg_targa.specs.Reader.{targa_kind};
 
 use crate::read::make::make_image;
-use crate::read::piece::read_piece;
 use crate::read::work::Work;
-use jpg_base::{Bytes, FaultAt, Stop};
-use jpg_pnm_bmp::{Fed2, Image};
+use jpg_base::{Bytes, FaultAt, NoMemory, Stop};
+use jpg_pnm_bmp::{Fed2, Image, Moved, PieceReader, PieceWork};
 use jpg_spec::Fault;
-use jpg_spec_image::{ImageInfo, ImageKind};
+use jpg_spec_image::ImageInfo;
 use std::alloc::Global;
 
 /// Reads a Targa file: raw or in packets, of 8 bits a pixel (gray) or 24 (colours).
 #[derive(Drop)]
 pub struct TargaReader {
-    // The state after the bytes so far.
-    work: Work,
-    // Memory for the samples of the image, made of the file's pixels.
-    made: Bytes,
-    // The size and the colours of the image, once they are known.
-    info: ImageInfo,
-    // How many bytes were taken.
-    taken: u64,
-    // The image is complete.
-    done: bool,
-    // Why the reader stopped, if it did.
-    stop: Option<Stop>,
+    // What it was given so far.
+    reader: PieceReader<Work>,
+    ghost going: { CanGo targa_kind reader },
+}
+
+impl PieceWork for Work {
+    ghost kind = { targa_kind };
+
+    fn some(&mut self, piece: &[u8]) -> Moved {
+        self.advance(piece)
+    }
+
+    fn make(&mut self, made: &mut Bytes) -> Result<ImageInfo, NoMemory> {
+        make_image(self, made)
+    }
 }
 
 impl TargaReader {
@@ -41,18 +43,7 @@ impl TargaReader {
         ensures taken { targa_taken result ≡ 0 }
     {
         TargaReader {
-            work: Work::new(alloc),
-            made: Bytes::new(alloc),
-            info: ImageInfo {
-                width: 0,
-                height: 0,
-                kind: ImageKind::Gray,
-                x_metre: 0,
-                y_metre: 0,
-            },
-            taken: 0,
-            done: false,
-            stop: None,
+            reader: PieceReader::new(alloc, Work::new(alloc)),
         }
     }
 
@@ -71,36 +62,21 @@ impl TargaReader {
         ensures again { (stop : Stopped) → targa_stop self.old ≡ Some stop → (result ≡ Err stop) × (self.new ≡ self.old) }
         ensures taken { targa_taken self.new ≤ targa_taken self.old + length piece.now }
     {
-        if let Some(stop) = self.stop {
-            return Err(stop);
-        }
-        let answer = read_image(
-            &mut self.work,
-            self.taken,
-            piece,
-            &mut self.info,
-            &mut self.made,
-        );
-        match answer {
-            Ok(Fed2::More) => self.taken += piece.len() as u64,
-            Ok(Fed2::Done) => self.done = true,
-            Err(stop) => self.stop = Some(stop),
-        }
-        answer
+        self.reader.feed(piece)
     }
 
     /// How many bytes were taken so far, while more are needed.
     pub fn taken(&self) -> u64
         ensures { result ≡ targa_taken self.now }
     {
-        self.taken
+        self.reader.taken
     }
 
     /// Whether the image is complete.
     pub fn is_read(&self) -> bool
         ensures { result ≡ is_targa_read self.now }
     {
-        self.done
+        self.reader.done
     }
 
     /// The file ends here, before the last pixel: it returns ImageShort at the file's length, or the earlier stop. It
@@ -112,14 +88,14 @@ impl TargaReader {
         ensures stopped { targa_stop self.new ≡ Some result }
         ensures again { (stop : Stopped) → targa_stop self.old ≡ Some stop → (result ≡ stop) × (self.new ≡ self.old) }
     {
-        if let Some(stop) = self.stop {
+        if let Some(stop) = self.reader.stop {
             return stop;
         }
         let stop = Stop::Fault(FaultAt {
             fault: Fault::ImageShort,
-            at: self.taken,
+            at: self.reader.taken,
         });
-        self.stop = Some(stop);
+        self.reader.stop = Some(stop);
         stop
     }
 
@@ -128,36 +104,7 @@ impl TargaReader {
         requires { is_targa_read self ≡ true }
         ensures { image_by_parts result.info result.samples ≡ targa_read self }
     {
-        Image {
-            info: self.info,
-            samples: self.made,
-        }
-    }
-}
-
-// Reads a piece, and makes the image if it is complete then.
-fn read_image(
-    work: &mut Work,
-    taken: u64,
-    piece: &[u8],
-    info: &mut ImageInfo,
-    made: &mut Bytes,
-) -> Result<Fed2, Stop>
-    requires { taken + length piece.now ≤ 1099511627776 }
-    ensures led { Reads work.old taken piece.now result work.new (image_by_parts info.new made.new) }
-    ensures memory { AsksRead work.old taken piece.now result }
-{
-    match read_piece(work, taken, piece) {
-        Ok(fed) => match fed {
-            Fed2::More => Ok(Fed2::More),
-            Fed2::Done => match make_image(work, made) {
-                Ok(numbers) => {
-                    *info = numbers;
-                    Ok(Fed2::Done)
-                }
-                Err(_) => Err(Stop::NoMemory),
-            },
-        },
-        Err(stop) => Err(stop),
+        let TargaReader { reader, .. } = self;
+        reader.image
     }
 }

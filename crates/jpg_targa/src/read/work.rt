@@ -7,6 +7,7 @@ ghost use Rattle.jpg_targa.specs.Reader.{standing, standing_of, after_pixels, Is
 
 use crate::read::head::{head_fault, is_packed, size, total};
 use jpg_base::{Bytes, NoMemory};
+use jpg_pnm_bmp::{Answer, Moved, one_byte};
 use jpg_spec::Fault;
 use std::alloc::Global;
 
@@ -18,22 +19,6 @@ pub enum Stage {
     Packet,
     Copies(u8),
     Pixels(u64),
-}
-
-// The result of a byte, or of some bytes.
-#[derive(Clone, Copy)]
-pub enum Answer {
-    More,
-    Whole,
-    Fault(Fault),
-    NoMemory,
-}
-
-// How many bytes were taken, and their result.
-#[derive(Clone, Copy)]
-pub struct Moved {
-    pub used: usize,
-    pub answer: Answer,
 }
 
 // The state of a Targa file that is read.
@@ -49,12 +34,6 @@ pub struct Work {
     pub pixels: Bytes,
     // Memory for a row of the image that is made of them.
     pub line: Vec<u8>,
-}
-
-fn one_byte(answer: Answer) -> Moved
-    ensures { result ≡ record { used = 1; answer = answer } }
-{
-    Moved { used: 1, answer }
 }
 
 // A number of bytes, at least one, up to those that are left, those that are missing, and at most `most`.

@@ -7,7 +7,7 @@ use Rattle.jpg_spec_image.specs.ImageSteps.{step, run}
 use Rattle.jpg_pnm_bmp.specs.Known.{list_of}
 use Rattle.jpg_pnm_bmp.specs.Reader.{standing, standing_of, image_by, numbers_list, IsReached, Reaches}
 use Rattle.jpg_pnm_bmp.specs.Shapes.{body_view}
-use Rattle.jpg_pnm_bmp.proofs.Advance.{one_led, due_reached, body_reached, stretch_led, pnm_numbers, pnm_can, bmp_can}
+use Rattle.jpg_pnm_bmp.proofs.Advance.{reached, one_led, due_reached, body_reached, stretch_led, pnm_numbers, pnm_can, bmp_can}
 use Rattle.jpg_pnm_bmp.proofs.AllThere.{all_bmp, all_pnm, all_prop, body_head, body_high, head_reached, numbers_reached, scale_prop, scale_reached}
 use Rattle.jpg_pnm_bmp.proofs.ShownNone.{short_reached}
 use Rattle.jpg_pnm_bmp.proofs.read.work.Work.advance.Goals as goal
@@ -67,24 +67,24 @@ returns-in-BmpBody-clause-led c = λ r.
 pub number_byte-requires : goal.number_byte-requires
 number_byte-requires c =
     let s = c.args.self.now in
-    ∥∥₁_elim c.requires.going (scale_prop s.numbers) (λ r. scale_reached s.format s.numbers s.samples c.in-Number.n (subst IsReached (ap (λ st. standing_of st s) c.in-Number.is) r))
+    ∥∥₁_elim (reached c.args.self.now c.requires.going) (scale_prop s.numbers) (λ r. scale_reached s.format s.numbers s.samples c.in-Number.n (subst IsReached (ap (λ st. standing_of st s) c.in-Number.is) r))
 
 pub front_byte-requires : goal.front_byte-requires
 front_byte-requires c =
     let s = c.args.self.now in
-    ∥∥₁_elim c.requires.going le_prop (λ r. head_reached s.head s.palette c.in-BmpFront.passed (subst IsReached (ap (λ st. standing_of st s) c.in-BmpFront.is) r))
+    ∥∥₁_elim (reached c.args.self.now c.requires.going) le_prop (λ r. head_reached s.head s.palette c.in-BmpFront.passed (subst IsReached (ap (λ st. standing_of st s) c.in-BmpFront.is) r))
 
 pub bmp_shape-shape-requires : goal.bmp_shape-shape-requires
 bmp_shape-shape-requires c =
     let s = c.args.self.now in
     subst (λ x. 54 ≤ length x) (sym c.as_slice.ensures)
-    (∥∥₁_elim c.requires.going le_prop (λ r. (let b = body_reached (bmp s.head s.palette) s.samples (subst IsReached (ap (λ st. standing_of st s) c.in-BmpBody.is) r) in body_head s.head s.palette b.0 s.samples b.1)))
+    (∥∥₁_elim (reached c.args.self.now c.requires.going) le_prop (λ r. (let b = body_reached (bmp s.head s.palette) s.samples (subst IsReached (ap (λ st. standing_of st s) c.in-BmpBody.is) r) in body_head s.head s.palette b.0 s.samples b.1)))
 
 pub returns-in-PnmBody-clause-all : goal.returns-in-PnmBody-clause-all
 returns-in-PnmBody-clause-all c =
     let s = c.args.self.now in
     let head = pnm s.format (list_of s.numbers []) in
-    ∥∥₁_elim c.requires.going (all_prop c.stretch.result.answer c.stretch.new.self) (λ r.
+    ∥∥₁_elim (reached c.args.self.now c.requires.going) (all_prop c.stretch.result.answer c.stretch.new.self) (λ r.
     (let b = body_reached head s.samples (subst IsReached (ap (λ st. standing_of st s) c.in-PnmBody.is) r) in
     let k = pnm_numbers s.format s.numbers b.0 s.samples b.1 in
     let e : body_view c.pnm_shape-shape.result ≡ body_of head = c.pnm_shape-shape.ensures k.0 k.1 k.2 k.3 ∙ ap (λ x. body_of (pnm s.format (list_of x []))) (sym k.3) in
@@ -94,7 +94,7 @@ pub returns-in-BmpBody-clause-all : goal.returns-in-BmpBody-clause-all
 returns-in-BmpBody-clause-all c =
     let s = c.args.self.now in
     let head = bmp s.head s.palette in
-    ∥∥₁_elim c.requires.going (all_prop c.stretch-in-BmpBody.result.answer c.stretch-in-BmpBody.new.self) (λ r.
+    ∥∥₁_elim (reached c.args.self.now c.requires.going) (all_prop c.stretch-in-BmpBody.result.answer c.stretch-in-BmpBody.new.self) (λ r.
     (let b = body_reached head s.samples (subst IsReached (ap (λ st. standing_of st s) c.in-BmpBody.is) r) in
     let high = body_high s.head s.palette b.0 s.samples b.1 in
     let e : body_view c.bmp_shape-shape.result ≡ body_of head = subst (λ x. height x ≤ 65500 → body_view c.bmp_shape-shape.result ≡ body_of (bmp x s.palette)) c.as_slice.ensures (c.bmp_shape-shape.ensures s.palette) high in
@@ -103,4 +103,4 @@ returns-in-BmpBody-clause-all c =
 pub head_byte-requires : goal.head_byte-requires
 head_byte-requires c =
     let s = c.args.self.now in
-    ∥∥₁_elim c.requires.going le_prop (λ r. short_reached s.head (subst IsReached (ap (λ st. standing_of st s) c.in-BmpHead.is) r))
+    ∥∥₁_elim (reached c.args.self.now c.requires.going) le_prop (λ r. short_reached s.head (subst IsReached (ap (λ st. standing_of st s) c.in-BmpHead.is) r))

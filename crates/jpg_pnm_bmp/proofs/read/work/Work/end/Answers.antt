@@ -2,7 +2,7 @@ use Rattle.std.proofs.Common.{sym, ap, subst}
 use Rattle.std.proofs.Math.Logic.{∥∥₁_elim}
 use Rattle.jpg_spec_image.specs.ImageSteps.{state_end}
 use Rattle.jpg_pnm_bmp.specs.Reader.{standing_of, numbers_list, IsReached, EndsAs}
-use Rattle.jpg_pnm_bmp.proofs.Advance.{due_reached}
+use Rattle.jpg_pnm_bmp.proofs.Advance.{reached, due_reached}
 use Rattle.jpg_pnm_bmp.proofs.AllThere.{scale_prop, scale_reached}
 use Rattle.jpg_pnm_bmp.proofs.read.work.Work.end.Goals as goal
 
@@ -15,4 +15,4 @@ returns-in-Number-clause-led c = λ r.
 pub number_end-requires : goal.number_end-requires
 number_end-requires c =
     let s = c.args.self.now in
-    ∥∥₁_elim c.requires (scale_prop s.numbers) (λ r. scale_reached s.format s.numbers s.samples c.in-Number.n (subst IsReached (ap (λ st. standing_of st s) c.in-Number.is) r))
+    ∥∥₁_elim (reached c.args.self.now c.requires) (scale_prop s.numbers) (λ r. scale_reached s.format s.numbers s.samples c.in-Number.n (subst IsReached (ap (λ st. standing_of st s) c.in-Number.is) r))

@@ -7,4 +7,4 @@ use Rattle.jpg_targa.proofs.read.reader.TargaReader.end.Goals as goal
 
 pub returns-clause-answered : goal.returns-clause-answered
 returns-clause-answered c = λ bytes h.
-    (ap (λ n. (let s : Stop = stop.Fault (record { fault = ImageShort; at = n }) in s)) h.3.taken_is, read_short bytes c.args.self.now.taken c.args.self.now.work h.3)
+    (ap (λ n. (let s : Stop = stop.Fault (record { fault = ImageShort; at = n }) in s)) h.3.taken_is, read_short bytes c.args.self.now.reader.taken c.args.self.now.reader.work h.3)
