@@ -13,6 +13,7 @@ pub mod ReadFront
 pub mod ReadImage
 pub mod ReadPicture
 pub mod Reading
+pub mod RowsKept
 pub mod ScriptTaken
 pub mod Stays
 pub mod TablesTaken

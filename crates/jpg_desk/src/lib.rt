@@ -10,6 +10,7 @@ mod image_source;
 mod moved;
 mod picture;
 mod pieces;
+mod row_picture;
 mod script;
 mod tables;
 
@@ -22,5 +23,6 @@ pub use image_source::ImageSource;
 pub use moved::{Wrote, write_moved, write_view};
 pub use picture::{done_as, not_shown, read_picture};
 pub use pieces::{PieceSink, ended_as, pump, pump_on, why_stopped};
+pub use row_picture::RowPicture;
 pub use script::take_scans;
 pub use tables::{Tables, take_tables};
