@@ -8,13 +8,13 @@ use Rattle.std.proofs.lemmas.Nat.{div-mul-add, mul-le}
 use Rattle.jpg_spec.specs.Elements.{zeros}
 use Rattle.jpg_spec.specs.FileMeaning.{no_blocks}
 use Rattle.jpg_spec.specs.FrameHeader.{IsFrame, padded_across, padded_down}
-use Rattle.jpg_spec.specs.Geometry.{Frame, IsReal, blocks_across, blocks_down, bounds, component_at, div_up, mcu_row_frame, mcus_down, v_max}
+use Rattle.jpg_spec.specs.Geometry.{Frame, IsReal, blocks_across, blocks_down, bounds, component_at, div_up, h_max, mcu_row_frame, mcus_across, mcus_down, v_max}
 use Rattle.jpg_spec.specs.Ranges.{AreInRange, is_coefficient}
 use Rattle.jpg_spec.specs.Scan.{Blocks}
 use Rattle.jpg_spec.proofs.Basics.Common.{and_intro, and_none, both, lt_no, lt_yes, or_right, same_of}
 use Rattle.jpg_spec.proofs.McuRows.RowCounts.{single_down}
 use Rattle.jpg_spec.proofs.Places.PlacesFound.{least, real_in_padded}
-use Rattle.jpg_spec.proofs.Places.PlacesSome.{factors_at, v_max_some}
+use Rattle.jpg_spec.proofs.Places.PlacesSome.{factors_at, h_max_some, one_at_least, v_max_some}
 use Rattle.jpg_base.specs.Cursor.{IsPadded}
 use Rattle.jpg_coefs.specs.Copied.{CopiesBlocks, in_grid_row}
 use Rattle.jpg_coefs.specs.Picture.{Picture as Coefs, map_of}
@@ -88,7 +88,7 @@ module _ (f : Frame) (k i count : ℕ) where
 
 -- one more component
 module _ (f : Frame) (k count : ℕ) where
-  whole : ℕ → ℕ → ℕ → Bool
+  abbrev whole : ℕ → ℕ → ℕ → Bool
   whole i x y = in_lines f (k * rows_in_mcu f i) (rows_in_mcu f i) i x y
 
   more_parts : (j x y : ℕ) → in_first_parts f k (count + 1) j x y ≡ (in_first_parts f k count j x y || in_part f k count j x y)
@@ -186,7 +186,10 @@ module _ (f : Frame) (is : IsFrame f) (i : ℕ) (there : i < length f.components
           let more : mcus_down f * v ≤ k * v = mul-le (mcus_down f) v k v (omega (arith, all, rows)) (omega arith) in
           omega (arith, low, each, padded, more)
 
-  -- its rows are few
+  -- The grid has a column, and few rows.
+  pub some_across : 0 < padded_across f (component_at f i)
+  some_across = (let one : 1 * 1 ≤ mcus_across f * (component_at f i).h = mul-le 1 1 (mcus_across f) (component_at f i).h (one_at_least f.width (8 * h_max f) (let h = h_max_some f is in omega (arith, h)) is.width_low) (factors_at f i is there).h_low in omega (arith, one))
+
   pub few_down : padded_down f (component_at f i) ≤ 262000
   few_down =
       let m = v_max f in
