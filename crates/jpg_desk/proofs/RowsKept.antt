@@ -8,14 +8,13 @@ use Rattle.std.proofs.lemmas.Nat.{div-mul-add, mul-le}
 use Rattle.jpg_spec.specs.Elements.{zeros}
 use Rattle.jpg_spec.specs.FileMeaning.{no_blocks}
 use Rattle.jpg_spec.specs.FrameHeader.{IsFrame, padded_across, padded_down}
-use Rattle.jpg_spec.specs.Geometry.{Frame, IsReal, blocks_across, blocks_down, bounds, component_at, div_up, mcu_row_frame, mcus_down, v_max}
+use Rattle.jpg_spec.specs.Geometry.{Frame, IsReal, blocks_across, blocks_down, bounds, component_at, div_up, h_max, mcu_row_frame, mcus_across, mcus_down, v_max}
 use Rattle.jpg_spec.specs.Ranges.{AreInRange, is_coefficient}
 use Rattle.jpg_spec.specs.Scan.{Blocks}
 use Rattle.jpg_spec.proofs.Basics.Common.{and_intro, and_none, both, lt_no, lt_yes, or_right, same_of}
 use Rattle.jpg_spec.proofs.McuRows.RowCounts.{single_down}
 use Rattle.jpg_spec.proofs.Places.PlacesFound.{least, real_in_padded}
-use Rattle.jpg_spec.proofs.Places.PlacesSome.{factors_at, v_max_some}
-use Rattle.jpg_base.specs.Cursor.{IsPadded}
+use Rattle.jpg_spec.proofs.Places.PlacesSome.{factors_at, h_max_some, one_at_least, v_max_some}
 use Rattle.jpg_coefs.specs.Copied.{CopiesBlocks, in_grid_row}
 use Rattle.jpg_coefs.specs.Picture.{Picture as Coefs, map_of}
 use Rattle.jpg_coefs.proofs.Maps.{blank_is}
@@ -88,7 +87,7 @@ module _ (f : Frame) (k i count : ℕ) where
 
 -- one more component
 module _ (f : Frame) (k count : ℕ) where
-  whole : ℕ → ℕ → ℕ → Bool
+  abbrev whole : ℕ → ℕ → ℕ → Bool
   whole i x y = in_lines f (k * rows_in_mcu f i) (rows_in_mcu f i) i x y
 
   more_parts : (j x y : ℕ) → in_first_parts f k (count + 1) j x y ≡ (in_first_parts f k count j x y || in_part f k count j x y)
@@ -186,7 +185,10 @@ module _ (f : Frame) (is : IsFrame f) (i : ℕ) (there : i < length f.components
           let more : mcus_down f * v ≤ k * v = mul-le (mcus_down f) v k v (omega (arith, all, rows)) (omega arith) in
           omega (arith, low, each, padded, more)
 
-  -- its rows are few
+  -- The grid has a column, and few rows.
+  pub some_across : 0 < padded_across f (component_at f i)
+  some_across = (let one : 1 * 1 ≤ mcus_across f * (component_at f i).h = mul-le 1 1 (mcus_across f) (component_at f i).h (one_at_least f.width (8 * h_max f) (let h = h_max_some f is in omega (arith, h)) is.width_low) (factors_at f i is there).h_low in omega (arith, one))
+
   pub few_down : padded_down f (component_at f i) ≤ 262000
   few_down =
       let m = v_max f in
@@ -195,16 +197,18 @@ module _ (f : Frame) (is : IsFrame f) (i : ℕ) (there : i < length f.components
       let rows : mcus_down f ≤ f.height = least f.height (8 * m) f.height (omega (arith, some)) (omega (arith, high)) in
       mul-le (mcus_down f) (component_at f i).v 65500 4 (omega (arith, rows, is.height_high)) (factors_at f i is there).v_high
 
-pub few_rows : (f : Frame) (k : ℕ) → IsFrame f → k < mcu_rows f → k < 262000
-few_rows f k is low =
-    let there : 0 < length f.components = omega (arith, is.count_low) in
-    let some : k * 1 ≤ k * rows_in_mcu f 0 = mul-le k 1 k (rows_in_mcu f 0) (omega arith) (some_rows f is 0 there) in
-    omega (arith, some, rows_inside f is 0 there k low, few_down f is 0 there, some_rows f is 0 there)
+-- the rows of blocks of a component in MCU row k, by the frame of one
+pub record HasLines (f : Frame) (k i high : ℕ) : Type 0 where
+  pub rows : high ≡ rows_in_mcu f i
+  pub inside : k * high + high ≤ padded_down f (component_at f i)
+  pub few : k * high + high ≤ 262000
+  pub across : 0 < padded_across f (component_at f i)
 
--- the same column of two frames with the same MCUs across
-pub across_in : (f g : Frame) (i x from to : ℕ) → g ≡ mcu_row_frame f → IsPadded g i 0 from → IsPadded f i 0 to → x < padded_across g (component_at g i) → IsPadded g i x from × IsPadded f i x to
-across_in f g i x from to e here there low =
-    (record { component = here.component; across = low; down = here.down }, record { component = there.component; across = subst (λ (h : Frame). x < padded_across h (component_at h i)) e low; down = there.down })
+pub lines_of : {f g h : Frame} {k i high : ℕ} → IsNextRow f k g → h ≡ g → i < length f.components → high ≡ blocks_down h (component_at h i) → HasLines f k i high
+lines_of {f} {g} {h} {k} {i} {high} is same there e =
+    let rows : high ≡ rows_in_mcu f i = e ∙ ap (λ (n : Frame). blocks_down n (component_at n i)) (same ∙ is.framed) ∙ rows_down f is.is_frame i there in
+    let inside : k * high + high ≤ padded_down f (component_at f i) = subst (λ n. k * n + n ≤ padded_down f (component_at f i)) (sym rows) (rows_inside f is.is_frame i there k is.next) in
+    record { rows = rows; inside = inside; few = (let few = few_down f is.is_frame i there in omega (arith, inside, few)); across = some_across f is.is_frame i there }
 
 -- A ROW IS PUT
 

@@ -44,7 +44,7 @@ in_lines f top count i x y = nat_lt x (blocks_across f (component_at f i)) && (n
 
 -- the first rows of blocks of a component in MCU row `k`, and all of them
 abbrev pub in_first_lines : Frame → ℕ → ℕ → ℕ → (ℕ → ℕ → ℕ → Bool)
-in_first_lines f k i count j x y = j == i && in_lines f (k * rows_in_mcu f j) count j x y
+in_first_lines f k i count j x y = j == i && in_lines f (k * rows_in_mcu f i) count i x y
 
 abbrev pub in_part : Frame → ℕ → ℕ → (ℕ → ℕ → ℕ → Bool)
 in_part f k i = in_first_lines f k i (rows_in_mcu f i)

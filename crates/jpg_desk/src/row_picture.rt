@@ -23,7 +23,8 @@ impl RowPicture {
     ghost use Rattle.jpg_spec.specs.Geometry.{Frame as Numbers};
     ghost use Rattle.jpg_desk.specs.RowsKept.{CanKeep, HasKept, KeepsRow};
 
-    /// One of this frame in which no MCU row is put yet. NoMemory if there is no memory for its blocks.
+    /// One of this frame in which no MCU row is put yet. NoMemory if there is no memory for its blocks, which are packed, as
+    /// each is put once.
     pub fn new(alloc: Global, frame: &Frame) -> Result<RowPicture, NoMemory>
         ensures { IfOk result (λ r. (blocks : Blocks) → HasKept frame.now 0 blocks r) }
     {
@@ -32,7 +33,7 @@ impl RowPicture {
         Ok(RowPicture { coefs, rows: 0 })
     }
 
-    /// Puts in the blocks of the next MCU row, which are stored without the rest of the picture.
+    /// Puts in the blocks of the next MCU row, which are stored without the rest of the picture. One is left to be put.
     pub fn put(&mut self, row: &Coefs)
         requires { (f : Numbers) × (k : ℕ) × (blocks : Blocks) × CanKeep f k blocks row.now self.old }
         ensures { KeepsRow self.old row.now self.new }
@@ -41,7 +42,7 @@ impl RowPicture {
         self.rows += 1;
     }
 
-    /// Its coefficients.
+    /// Its coefficients: the MCU rows that were put, and zeros after them.
     pub fn into_coefs(self) -> Coefs
         ensures { result ≡ self.coefs }
     {
