@@ -1,5 +1,5 @@
 -- A PICTURE whose MCU rows are put in one at a time, from the top (T.81, A.2.3).
-use Rattle.std.specs.Prelude.{◌≡◌, ◌==◌, ◌&&◌, ℕ, ◌+◌, ◌-◌, ◌*◌, ◌<◌, ◌≤◌, Bool, nat_le, nat_lt, length}
+use Rattle.std.specs.Prelude.{◌≡◌, ◌==◌, ◌&&◌, ℕ, ◌+◌, ◌-◌, ◌*◌, ◌<◌, ◌≤◌, Bool, true, false, nat_le, nat_lt, length}
 use Rattle.jpg_spec.specs.Elements.{zeros}
 use Rattle.jpg_spec.specs.FrameHeader.{IsFrame}
 use Rattle.jpg_spec.specs.Geometry.{Frame, blocks_across, bounds, component_at, mcu_row_frame}
@@ -29,6 +29,11 @@ pub record CanKeep (f : Frame) (k : ℕ) (blocks : Blocks) (row : Coefs) (r : Ro
 -- One more MCU row is in it.
 abbrev pub KeepsRow : RowPicture → Coefs → RowPicture → Type 0
 KeepsRow old row new = (f : Frame) (k : ℕ) (blocks : Blocks) → CanKeep f k blocks row old → HasKept f (k + 1) blocks new
+
+-- whether all are
+pub record IsToldWhole (f : Frame) (k : ℕ) (whole : Bool) : Type 0 where
+  pub all : whole ≡ true → mcu_rows f ≤ k
+  pub more : whole ≡ false → k < mcu_rows f
 
 -- There is an MCU row `k`, and `g` is the frame of an MCU row.
 pub record IsNextRow (f : Frame) (k : ℕ) (g : Frame) : Type 0 where

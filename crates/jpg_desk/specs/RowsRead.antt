@@ -13,14 +13,14 @@ use Rattle.jpg_spec.specs.declared.frame.Copying.{Copying}
 use Rattle.jpg_spec_words.specs.declared.answers.Why.{Why}
 use Rattle.jpg_file.specs.Read.File.{keeping_of}
 use Rattle.jpg_file.specs.Read.ReadFile.{IsStopOf, ReaderState}
-use Rattle.jpg_file.specs.Read.ReadRows.{EndsDoneRow, HasGivenRow, HasReadPlainly, HasReadRows, IsDoneByRows, KeepsMarkersOf, TellsHead}
+use Rattle.jpg_file.specs.Read.ReadRows.{EndsDoneRow, HasGivenRow, HasReadPlainly, HasReadRows, IsDoneByRows, KeepsMarkersOf}
 use Rattle.jpg_file.specs.Read.RowTurns.{unfinished}
 use Rattle.jpg_file.specs.Read.RowsKnown.{TellsStrip}
+use Rattle.jpg_file.specs.Read.StripHead.{IsHeadOfPicture}
 use Rattle.jpg_file.specs.declared.read.pieces.FedRow.{FedRow}
 use Rattle.jpg_file.specs.declared.read.pieces.FedRow.TheVariants as fed
 use Rattle.jpg_file.specs.declared.read.rows.RowWork.{RowWork}
 use Rattle.jpg_file.specs.declared.read.strip_head.StripHead.{StripHead}
-use Rattle.jpg_transform.specs.RowsMoved.{mcu_rows}
 use Rattle.jpg_desk.specs.Pump.{AfterTaking, ReaderKind}
 use Rattle.jpg_desk.specs.ReadPicture.{HoldsPicture, IsReadPicture, IsShortRead, picture_judging, Coefficients}
 use Rattle.jpg_desk.specs.RowsTo.{HaveAll, HavePut, IsSameGoal}
@@ -98,17 +98,18 @@ pub record HasFront (from : RowsFront) (early : Option ℕ) (bytes : List ℕ) (
 abbrev pub rows_front : ReaderKind RowsFront Meaning
 rows_front = record { fed = IsFrontFed; holds = λ from early rest bytes s. HasFront from early bytes s; judging = λ from. picture_judging Coefficients; more = λ s. ((s.reader).value).done ≡ false }
 
--- THE ROWS, from a state whose reader has the picture's head
+-- THE ROWS of a picture with some head
 
 -- what doesn't change of it
 pub record KeepsGoal (from s : RowsRead) : Type 0 where
   pub keeps : KeepsReading (from.reader).value (s.reader).value
   pub goal : IsSameGoal from.to s.to
+  pub head : (s.head).now ≡ (from.head).now
 
 -- This many MCU rows of the bytes went where they go.
 pub record HavePutRows (h : Head) (from : RowsRead) (all : List ℕ) (m : ℕ) (s : RowsRead) : Type 0 where
   pub keeps : KeepsGoal from s
-  pub told : IsHeadAt h ((from.reader).value).strip
+  pub told : IsHeadAt h (Some (from.head).now)
   pub blocks : Blocks
   pub rows : TellsRows standard_limits all m blocks
   pub put : HavePut (frame_at h) m blocks s.to
@@ -136,12 +137,10 @@ pub record HasRows (from : RowsRead) (early : Option ℕ) (bytes : List ℕ) (s 
   pub meaning : Meaning
   pub read : IsReadPicture Coefficients meaning early bytes
   pub short : IsShortRead Coefficients bytes
-  pub head : TellsHead ((from.reader).value).strip meaning
+  pub head : IsHeadOfPicture (from.head).now meaning
   pub kept : KeepsMarkersOf meaning (s.reader).value
-  pub frame : Frame
-  pub framed : (h : StripHead) → ((from.reader).value).strip ≡ Some h → h.frame ≡ frame
-  pub real : real_blocks frame meaning.blocks ≡ meaning.blocks
-  pub all : HaveAll frame meaning.blocks s.to
+  pub real : real_blocks ((from.head).now).frame meaning.blocks ≡ meaning.blocks
+  pub all : HaveAll ((from.head).now).frame meaning.blocks s.to
 
 abbrev pub rows_reader : ReaderKind RowsRead Meaning
 rows_reader = record { fed = IsRowsFed; holds = λ from early rest bytes s. HasRows from early bytes s; judging = λ from. picture_judging Coefficients; more = λ s. ⊥ }

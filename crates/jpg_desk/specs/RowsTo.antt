@@ -1,6 +1,6 @@
 -- WHERE THE MCU ROWS OF A PICTURE GO that is transformed while it is read: into the data of the output's one scan, or
 -- into a picture (T.81, A.2.3).
-use Rattle.std.specs.Prelude.{◌≡◌, ◌×◌, ℕ, ◌+◌, ◌*◌, ◌<◌, ◌≤◌}
+use Rattle.std.specs.Prelude.{◌≡◌, ℕ, ◌+◌, ◌*◌, ◌<◌, ◌≤◌}
 use Rattle.jpg_spec.specs.Elements.{zeros}
 use Rattle.jpg_spec.specs.FrameHeader.{IsFrame}
 use Rattle.jpg_spec.specs.Geometry.{Frame, IsReal, bounds}
@@ -12,6 +12,7 @@ use Rattle.jpg_file.specs.declared.write.sole.SoleScan.{SoleScan}
 use Rattle.jpg_seq.specs.Rows.{rows_in_mcu}
 use Rattle.jpg_transform.specs.RowsMoved.{HasAllMoved, HasMoved, MovedScan, mcu_rows, moved_scan}
 use Rattle.jpg_transform.specs.declared.choice.Job.{Job}
+use Rattle.jpg_transform.specs.declared.row_mover.RowMover.{RowMover}
 use Rattle.jpg_desk.specs.RowsKept.{HasKept}
 use Rattle.jpg_desk.specs.declared.row_picture.RowPicture.{RowPicture}
 use Rattle.jpg_desk.specs.declared.rows_to.RowsTo.{RowsTo}
@@ -34,8 +35,11 @@ pub record HasAllKept (f : Frame) (blocks : Blocks) (p : RowPicture) : Type 0 wh
   pub same : (i x y : ℕ) → IsReal f i x y → map_of p.coefs i x y ≡ blocks i x y
 
 -- All of them did.
+abbrev pub HaveAllMoved : Frame → Job → SoleScan → Blocks → RowMover → Type 0
+HaveAllMoved f job scan blocks mover = (k : ℕ) × HasAllMoved (scan_moved f job scan) k blocks mover
+
 abbrev pub HaveAll : Frame → Blocks → RowsTo → Type 0
-HaveAll f blocks (to.Moved job scan mover) = (k : ℕ) × HasAllMoved (scan_moved f job.now scan.now) k blocks mover
+HaveAll f blocks (to.Moved job scan mover) = HaveAllMoved f job.now scan.now blocks mover
 HaveAll f blocks (to.Kept picture) = HasAllKept f blocks picture
 
 -- where the same goes

@@ -4,6 +4,7 @@ ghost use Rattle.jpg_spec.specs.Geometry.{mcu_row_frame};
 ghost use Rattle.jpg_spec.specs.Scan.{Blocks};
 ghost use Rattle.jpg_base.specs.Cursor.{IsPadded};
 ghost use Rattle.jpg_coefs.specs.Copied.{CopiesBlocks, in_grid_row};
+ghost use Rattle.jpg_transform.specs.RowsMoved.{mcu_rows};
 ghost use Rattle.jpg_desk.specs.RowsKept.{IsNextRow, in_mcu_row, in_part, line_blocks, row_blocks};
 
 use jpg_base::{Frame, NoMemory};
@@ -21,7 +22,7 @@ pub struct RowPicture {
 
 impl RowPicture {
     ghost use Rattle.jpg_spec.specs.Geometry.{Frame as Numbers};
-    ghost use Rattle.jpg_desk.specs.RowsKept.{CanKeep, HasKept, KeepsRow};
+    ghost use Rattle.jpg_desk.specs.RowsKept.{CanKeep, HasKept, IsToldWhole, KeepsRow};
 
     /// One of this frame in which no MCU row is put yet. NoMemory if there is no memory for its blocks, which are packed, as
     /// each is put once.
@@ -42,11 +43,30 @@ impl RowPicture {
         self.rows += 1;
     }
 
+    /// Whether all MCU rows were put in.
+    pub fn is_whole(&self) -> bool
+        ensures { (f : Numbers) (k : ℕ) (blocks : Blocks) → HasKept f k blocks self.now → IsToldWhole f k result }
+    {
+        self.rows >= mcu_rows(self.coefs.frame())
+    }
+
     /// Its coefficients: the MCU rows that were put, and zeros after them.
     pub fn into_coefs(self) -> Coefs
         ensures { result ≡ self.coefs }
     {
         self.coefs
+    }
+}
+
+// How many MCU rows a scan of all components has: of one component each row of blocks is one (T.81, A.2.2).
+fn mcu_rows(frame: &Frame) -> u32
+    ensures { result ≡ mcu_rows frame.now }
+{
+    frame.checked();
+    if frame.count() == 1 {
+        frame.blocks(0).high
+    } else {
+        frame.mcus().high
     }
 }
 

@@ -2,12 +2,17 @@
 ghost use Rattle.std.specs.Prelude.{◌≡◌, ◌≤◌, true, false, length, List, ℕ};
 ghost use Rattle.jpg_spec.specs.Segments.{standard_limits};
 ghost use Rattle.jpg_desk.specs.Pump.{TakesEnd, TakesPiece, of_reader};
+ghost use Rattle.jpg_spec.specs.Scan.{Blocks};
+ghost use Rattle.jpg_spec.specs.declared.frame.Copying.{Copying};
+ghost use Rattle.jpg_desk.specs.MovedRead.{CanGoOn, ReadsRows};
 ghost use Rattle.jpg_desk.specs.RowsRead.{CanTakeRows, TakesRows, rows_front, rows_reader};
+ghost use Rattle.jpg_desk.specs.RowsTo.{HavePut};
+ghost use Rattle.jpg_desk.specs.declared.rows_read.RowsRead.{RowsRead as Rows};
 
-use crate::pieces::{PieceSink, why_stopped};
+use crate::pieces::{PieceSink, pump_on, why_stopped};
 use crate::rows_to::RowsTo;
 use jpg_base::{Bytes, Desk, NoMemory, Stop};
-use jpg_file::{End, FedRow, Reader};
+use jpg_file::{End, FedRow, Reader, StripHead};
 use jpg_spec::Limits;
 use jpg_spec_words::Why;
 use std::alloc::Global;
@@ -71,6 +76,8 @@ fn is_done(fed: FedRow) -> bool {
 /// What is read of a picture whose MCU rows go somewhere.
 #[derive(Drop)]
 pub struct RowsRead<'a> {
+    /// The picture's head.
+    pub head: &'a StripHead,
     /// The reader.
     pub reader: Box<Reader, Global>,
     /// Where they go.
@@ -91,6 +98,38 @@ impl<'a, D: Desk> PieceSink<D> for RowsRead<'a> {
 
     fn end(&mut self, _desk: &mut D) -> Result<Option<u64>, Why> {
         self.at_end()
+    }
+}
+
+/// Reads the MCU rows that began in the last piece, and those that follow; and if the file ended early, after how many
+/// bytes.
+pub fn read_rows<'a, D: Desk>(
+    head: &'a StripHead,
+    front: RowsFront,
+    to: RowsTo<'a>,
+    desk: &mut D,
+) -> Result<(RowsRead<'a>, Option<u64>), Why>
+    requires open { (D.state desk.old).input_open ≡ true }
+    requires began { (keeping : Copying) × CanGoOn keeping head.entry.now front (D.state desk.old) }
+    requires none { (blocks : Blocks) → HavePut head.entry.now.frame 0 blocks to }
+    ensures { ReadsRows head.entry.now front to.entry (D.state desk.old) result (D.state desk.new) }
+{
+    let RowsFront {
+        reader,
+        piece,
+        answer,
+    } = front;
+    let mut rows = RowsRead { head, reader, to };
+    match rows.take_rows(answer, piece.as_slice()) {
+        Err(why) => Err(why),
+        Ok(true) => Ok((rows, None)),
+        Ok(false) => {
+            let taken = Limits::standard().input - rows.reader.room();
+            match pump_on(desk, taken, &mut rows) {
+                Err(why) => Err(why),
+                Ok(early) => Ok((rows, early)),
+            }
+        }
     }
 }
 
@@ -120,7 +159,7 @@ impl<'a> RowsRead<'a> {
 
     // The input ends here. Takes the rows that are missing, and returns after how many bytes.
     fn at_end(&mut self) -> Result<Option<u64>, Why>
-        requires { (from : RowsRead) × (bytes : List ℕ) × rows_reader.fed from bytes self.old }
+        requires { (from : Rows) × (bytes : List ℕ) × rows_reader.fed from bytes self.old }
         ensures { TakesEnd rows_reader self.old result self.new }
     {
         match self.reader.end() {
