@@ -119,8 +119,8 @@ module _ (f : Frame) (is : IsFrame f) (i : ℕ) (there : i < length f.components
   one_first : length f.components ≡ 1 → i ≡ 0
   one_first one = omega (arith, one, there)
 
-  -- It has so many rows of blocks,
-  pub rows_down : blocks_down (mcu_row_frame f) (component_at (mcu_row_frame f) i) ≡ rows_in_mcu f i
+  -- Its frame has so many rows of blocks.
+  rows_down : blocks_down (mcu_row_frame f) (component_at (mcu_row_frame f) i) ≡ rows_in_mcu f i
   rows_down = by (length f.components == 1) refl
     where
       m : ℕ
@@ -135,61 +135,50 @@ module _ (f : Frame) (is : IsFrame f) (i : ℕ) (there : i < length f.components
           let turned : (8 * m) * v ≡ (v * 8) * m = grind arith in
           ap (λ n. div_up (div_up n m) 8) turned ∙ ap (λ n. div_up n 8) (whole_up (v * 8) m (v_max_some f is)) ∙ whole_up v 8 (omega arith)
 
-  -- at least one,
-  pub some_rows : 1 ≤ rows_in_mcu f i
-  some_rows = by (length f.components == 1) (factors_at f i is there).v_low
-    where
-      by : (b : Bool) → 1 ≤ (component_at f i).v → 1 ≤ cond b 1 (component_at f i).v
-      by true low = omega arith
-      by false low = low
+  -- An MCU row is a row of blocks of the only component, or a row of MCUs.
+  abbrev RowKinds : Type 0
+  RowKinds = ((mcu_rows f ≡ blocks_down f (component_at f i)) × (rows_in_mcu f i ≡ 1)) ⊎ ((mcu_rows f ≡ mcus_down f) × (rows_in_mcu f i ≡ (component_at f i).v))
 
-  -- which are in the padded grid,
-  pub rows_inside : (k : ℕ) → k < mcu_rows f → k * rows_in_mcu f i + rows_in_mcu f i ≤ padded_down f (component_at f i)
-  rows_inside k low = by (length f.components == 1) refl
+  row_kinds : RowKinds
+  row_kinds = by (length f.components == 1) refl
     where
-      v : ℕ
-      v = (component_at f i).v
-
-      by : (b : Bool) → (length f.components == 1) ≡ b → k * rows_in_mcu f i + rows_in_mcu f i ≤ padded_down f (component_at f i)
+      by : (b : Bool) → (length f.components == 1) ≡ b → RowKinds
       by true e =
           let first = one_first (same_of (length f.components) 1 e) in
-          let rows : mcu_rows f ≡ blocks_down f (component_at f i) = ap (λ b. cond b (blocks_down f (component_at f 0)) (mcus_down f)) e ∙ ap (λ n. blocks_down f (component_at f n)) (sym first) in
-          let one : rows_in_mcu f i ≡ 1 = ap (λ b. cond b 1 v) e in
-          let sum : k * rows_in_mcu f i + rows_in_mcu f i ≡ k * 1 + 1 = ap (λ n. k * n + n) one in
-          let padded : blocks_down f (component_at f i) ≤ mcus_down f * v = real_in_padded f.height v (v_max f) (v_max_some f is) in
-          omega (arith, low, rows, sum, padded)
-      by false e =
-          let rows : mcu_rows f ≡ mcus_down f = ap (λ b. cond b (blocks_down f (component_at f 0)) (mcus_down f)) e in
-          let sum : k * rows_in_mcu f i + rows_in_mcu f i ≡ k * v + v = ap (λ b. k * cond b 1 v + cond b 1 v) e in
-          let next : (k + 1) * v ≤ mcus_down f * v = mul-le (k + 1) v (mcus_down f) v (omega (arith, low, rows)) (omega arith) in
-          let e1 : (k + 1) * v ≡ k * v + 1 * v = add-mul k 1 v in
-          omega (arith, sum, next, e1)
+          inl (ap (λ b. cond b (blocks_down f (component_at f 0)) (mcus_down f)) e ∙ ap (λ n. blocks_down f (component_at f n)) (sym first), ap (λ b. cond b 1 (component_at f i).v) e)
+      by false e = inr (ap (λ b. cond b (blocks_down f (component_at f 0)) (mcus_down f)) e, ap (λ b. cond b 1 (component_at f i).v) e)
+
+  all_padded : blocks_down f (component_at f i) ≤ padded_down f (component_at f i)
+  all_padded = real_in_padded f.height (component_at f i).v (v_max f) (v_max_some f is)
+
+  -- All its rows are in the padded grid,
+  rows_inside : (k : ℕ) → k < mcu_rows f → k * rows_in_mcu f i + rows_in_mcu f i ≤ padded_down f (component_at f i)
+  rows_inside k low = by row_kinds
+    where
+      sum : (n : ℕ) → rows_in_mcu f i ≡ n → k * rows_in_mcu f i + rows_in_mcu f i ≡ (k + 1) * n
+      sum n e = ap (λ r. k * r + r) e ∙ grind arith
+
+      by : RowKinds → k * rows_in_mcu f i + rows_in_mcu f i ≤ padded_down f (component_at f i)
+      by (inl (rows, one)) = (let padded = all_padded in omega (arith, low, rows, sum 1 one, padded))
+      by (inr (rows, each)) = (let v = (component_at f i).v in let more = mul-le (k + 1) v (mcus_down f) v (omega (arith, low, rows)) (omega arith) in omega (arith, sum v each, more))
 
   -- and no real block is after all MCU rows.
   pub rows_cover : (k y : ℕ) → mcu_rows f ≤ k → y < blocks_down f (component_at f i) → y < k * rows_in_mcu f i
-  rows_cover k y all low = by (length f.components == 1) refl
+  rows_cover k y all low = by row_kinds
     where
-      v : ℕ
-      v = (component_at f i).v
-
-      by : (b : Bool) → (length f.components == 1) ≡ b → y < k * rows_in_mcu f i
-      by true e =
-          let first = one_first (same_of (length f.components) 1 e) in
-          let rows : mcu_rows f ≡ blocks_down f (component_at f i) = ap (λ b. cond b (blocks_down f (component_at f 0)) (mcus_down f)) e ∙ ap (λ n. blocks_down f (component_at f n)) (sym first) in
-          let each : k * rows_in_mcu f i ≡ k * 1 = ap (λ b. k * cond b 1 v) e in
-          omega (arith, all, low, rows, each)
-      by false e =
-          let rows : mcu_rows f ≡ mcus_down f = ap (λ b. cond b (blocks_down f (component_at f 0)) (mcus_down f)) e in
-          let each : k * rows_in_mcu f i ≡ k * v = ap (λ b. k * cond b 1 v) e in
-          let padded : blocks_down f (component_at f i) ≤ mcus_down f * v = real_in_padded f.height v (v_max f) (v_max_some f is) in
-          let more : mcus_down f * v ≤ k * v = mul-le (mcus_down f) v k v (omega (arith, all, rows)) (omega arith) in
-          omega (arith, low, each, padded, more)
+      by : RowKinds → y < k * rows_in_mcu f i
+      by (inl (rows, one)) = (let product : k * rows_in_mcu f i ≡ k * 1 = ap (λ n. k * n) one in omega (arith, all, low, rows, product))
+      by (inr (rows, each)) =
+          let v = (component_at f i).v in
+          let product : k * rows_in_mcu f i ≡ k * v = ap (λ n. k * n) each in
+          let more = mul-le (mcus_down f) v k v (omega (arith, all, rows)) (omega arith) in
+          let padded = all_padded in omega (arith, low, product, padded, more)
 
   -- The grid has a column, and few rows.
-  pub some_across : 0 < padded_across f (component_at f i)
+  some_across : 0 < padded_across f (component_at f i)
   some_across = (let one : 1 * 1 ≤ mcus_across f * (component_at f i).h = mul-le 1 1 (mcus_across f) (component_at f i).h (one_at_least f.width (8 * h_max f) (let h = h_max_some f is in omega (arith, h)) is.width_low) (factors_at f i is there).h_low in omega (arith, one))
 
-  pub few_down : padded_down f (component_at f i) ≤ 262000
+  few_down : padded_down f (component_at f i) ≤ 262000
   few_down =
       let m = v_max f in
       let some : 0 < m = v_max_some f is in
@@ -211,15 +200,6 @@ lines_of {f} {g} {h} {k} {i} {high} is same there e =
     record { rows = rows; inside = inside; few = (let few = few_down f is.is_frame i there in omega (arith, inside, few)); across = some_across f is.is_frame i there }
 
 -- A ROW IS PUT
-
-pub next_row : {f : Frame} {k : ℕ} {blocks : Blocks} {row : Coefs} {r : RowPicture} → CanKeep f k blocks row r → IsNextRow r.coefs.frame r.rows row.frame
-next_row {f} {k} {blocks} {row} {r} can =
-    let has = can.has in
-    record {
-      is_frame = subst IsFrame (sym has.framed) has.is_frame;
-      framed = can.lends.framed ∙ ap mcu_row_frame (sym has.framed);
-      next = subst (λ n. n < mcu_rows r.coefs.frame) (sym has.count) (subst (λ (g : Frame). k < mcu_rows g) (sym has.framed) can.next);
-    }
 
 -- whether a place is in it
 within : (y top count : ℕ) → top ≤ y → y < top + count → (nat_le top y && nat_lt y (top + count)) ≡ true
@@ -270,7 +250,7 @@ module _ {f : Frame} {k : ℕ} {blocks : Blocks} {row : Coefs} {old : RowPicture
         (cases_lt y (k * rows_in_mcu f i));
   }
 
-  pub has_kept : (r : RowPicture) → r.coefs ≡ new → r.rows ≡ old.rows + 1 → HasKept f (k + 1) blocks r
+  has_kept : (r : RowPicture) → r.coefs ≡ new → r.rows ≡ old.rows + 1 → HasKept f (k + 1) blocks r
   has_kept r is count =
       let has = can.has in
       record {
