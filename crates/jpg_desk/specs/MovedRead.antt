@@ -3,7 +3,9 @@ use Rattle.std.specs.Prelude.{◌≡◌, ℕ, ◌≤◌, true, List, [], length,
 use Rattle.std.specs.Io.KnownBytes.{Consumes}
 use Rattle.jpg_base.specs.Desk.{DeskState}
 use Rattle.jpg_base.specs.declared.names.Name.{Name}
+use Rattle.jpg_spec.specs.Geometry.{Frame}
 use Rattle.jpg_spec.specs.Meaning.{Meaning}
+use Rattle.jpg_spec.specs.Scan.{Blocks}
 use Rattle.jpg_spec.specs.Segments.{standard_limits}
 use Rattle.jpg_spec.specs.declared.frame.Copying.{Copying}
 use Rattle.jpg_spec_move.specs.Moved.{Choice}
@@ -57,7 +59,7 @@ EndsMoved choice old (Err w) new = EndsReading Coefficients choice.copying old (
 pub record IsNewReader (keeping : Copying) (r : ReaderState) : Type 0 where
   pub read : HasReadPlainly [] r
   pub limits : r.limits ≡ standard_limits
-  pub keeping : keeping_of r.file ≡ keeping
+  pub keeps : keeping_of r.file ≡ keeping
   pub in_rows : r.in_rows ≡ true
 
 -- WHERE ROWS BEGAN: those of a picture with this head, in the last of the pieces that were read since the input was opened
@@ -65,7 +67,7 @@ pub record HasBegun (keeping : Copying) (h : StripHead) (front : RowsFront) (sta
   pub kept : OnlyReads start now
   pub limits : ((front.reader).value).limits ≡ standard_limits
   pub in_rows : ((front.reader).value).in_rows ≡ true
-  pub keeping : keeping_of ((front.reader).value).file ≡ keeping
+  pub keeps : keeping_of ((front.reader).value).file ≡ keeping
   pub bytes : List ℕ
   pub read : Consumes start.left now.left bytes
   pub most : length bytes ≤ standard_limits.input
@@ -97,8 +99,8 @@ pub record IsSomeHead (h : StripHead) : Type 0 where
 pub record HasAllRows (keeping : Copying) (h : StripHead) (goal : RowsTo) (start : DeskState) (rows : RowsRead) (early : Option ℕ) (new : DeskState) : Type 0 where
   pub from : RowsRead
   pub head : (from.head).now ≡ h
-  pub goal : from.to ≡ goal
-  pub keeping : keeping_of ((from.reader).value).file ≡ keeping
+  pub same : from.to ≡ goal
+  pub keeps : keeping_of ((from.reader).value).file ≡ keeping
   pub taken : TakesPieces (λ bytes. HasRows from early bytes rows) start new
   pub all : IsAllRead early new
 
