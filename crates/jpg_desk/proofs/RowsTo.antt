@@ -1,6 +1,6 @@
 -- Where the MCU rows of a picture go that is transformed while it is read.
-use Rattle.std.proofs.Common.{◌≡◌, ℕ, ◌+◌, ◌*◌, ◌<◌, ◌≤◌, Bool, true, false, refl, sym, arith}
-use Rattle.std.specs.Prelude.{OnOk, Result, Ok, Err, Unit}
+use Rattle.std.proofs.Common.{◌≡◌, ℕ, ◌+◌, ◌*◌, ◌<◌, ◌≤◌, Bool, true, false, refl, sym, ◌∙◌, arith}
+use Rattle.std.specs.Prelude.{OnOk, Result, Ok, Err}
 use Rattle.jpg_spec.specs.Elements.{zeros}
 use Rattle.jpg_spec.specs.Geometry.{Frame, IsReal}
 use Rattle.jpg_spec.specs.Scan.{Blocks}
@@ -14,7 +14,7 @@ use Rattle.jpg_transform.specs.declared.choice.Job.{Job}
 use Rattle.jpg_transform.specs.declared.row_mover.RowMover.{RowMover}
 use Rattle.jpg_transform.proofs.RowsMoved.{moved_agree}
 use Rattle.jpg_desk.specs.RowsKept.{HasKept, IsToldWhole, KeepsRow}
-use Rattle.jpg_desk.specs.RowsTo.{CanEndRows, CanPut, EndsRows, HasAllKept, HavePut, IsSameGoal, Puts, scan_moved}
+use Rattle.jpg_desk.specs.RowsTo.{CanEndRows, CanPut, EndsRows, HasAllKept, HaveAll, HavePut, IsSameGoal, Puts, scan_moved}
 use Rattle.jpg_desk.specs.declared.row_picture.RowPicture.{RowPicture}
 use Rattle.jpg_desk.specs.declared.rows_to.RowsTo.{RowsTo}
 use Rattle.jpg_desk.specs.declared.rows_to.RowsTo.TheVariants as to
@@ -26,6 +26,14 @@ use denote.Bor.{Bor}
 pub same_goal : (a : RowsTo) → IsSameGoal a a
 same_goal (to.Moved job scan mover) = (refl, refl)
 same_goal (to.Kept picture) = tt
+
+pub goal_then : (a b c : RowsTo) → IsSameGoal a b → IsSameGoal b c → IsSameGoal a c
+goal_then (to.Moved j s m) (to.Moved j2 s2 m2) (to.Moved j3 s3 m3) x y = (y.0 ∙ x.0, y.1 ∙ x.1)
+goal_then (to.Moved j s m) (to.Moved j2 s2 m2) (to.Kept p3) x y = absurd y
+goal_then (to.Moved j s m) (to.Kept p2) c x y = absurd x
+goal_then (to.Kept p) (to.Moved j2 s2 m2) c x y = absurd x
+goal_then (to.Kept p) (to.Kept p2) (to.Moved j3 s3 m3) x y = absurd y
+goal_then (to.Kept p) (to.Kept p2) (to.Kept p3) x y = tt
 
 -- for other blocks whose first rows are the same
 pub put_agree : (f : Frame) (k : ℕ) (blocks others : Blocks) (r : RowsTo) → HavePut f k blocks r → AgreeInRows f k blocks others → HavePut f k others r
@@ -42,19 +50,26 @@ all_kept h all = record { is_frame = h.is_frame; framed = h.framed; range = h.ra
 pub rest_kept : {f : Frame} {k : ℕ} {blocks : Blocks} {p : RowPicture} → HasKept f k blocks p → ((i x y : ℕ) → k * rows_in_mcu f i ≤ y → blocks i x y ≡ zeros 64) → HasAllKept f blocks p
 rest_kept h none = record { is_frame = h.is_frame; framed = h.framed; range = h.range; same = kept_early h (λ i x y real from. none i x y from) }
 
+-- where memory wasn't wanted
+pub on_ok : {A B : Type 0} (r : Result (Unit {0}) NoMemory) → (A → B) → OnOk r A → OnOk r B
+on_ok (Ok x) f h = f h
+on_ok (Err e) f h = h
+
+-- since so many were put
+pub all_put : (f : Frame) (k : ℕ) (blocks : Blocks) (r : RowsTo) → HavePut f k blocks r → mcu_rows f ≤ k → HaveAll f blocks r
+all_put f k blocks (to.Moved job scan mover) h all = (k, record { has = h; all = all })
+all_put f k blocks (to.Kept picture) h all = all_kept h all
+
 -- INTO THE DATA of the output's scan
 
-module _ {job : Bor Job} {scan : Bor SoleScan} {old : RowMover} {row : Coefs} where
+module _ (job : Bor Job) (scan : Bor SoleScan) {old : RowMover} {row : Coefs} where
   -- one more row
-  puts_one : {new : RowMover} → MovesRow old row new → Puts (to.Moved job scan old) row (to.Moved job scan new)
+  pub puts_one : {new : RowMover} → MovesRow old row new → Puts (to.Moved job scan old) row (to.Moved job scan new)
   puts_one moves = record {
     same = (refl, refl);
     puts = λ f k blocks can. moves (scan_moved f job.now scan.now) k blocks (record { has = can.put; next = can.next; lends = can.lends });
   }
 
-  pub puts_moved : {new : RowMover} {r : Result (Unit {0}) NoMemory} → OnOk r (MovesRow old row new) → OnOk r (Puts (to.Moved job scan old) row (to.Moved job scan new))
-  puts_moved {new} {Ok x} h = puts_one h
-  puts_moved {new} {Err e} h = h
 
   -- whether there are all
   module _ {whole : Bool} (told : (w : MovedScan) (k : ℕ) (blocks : Blocks) → HasMoved w k blocks old → TellsWhole w k whole) where
@@ -83,10 +98,9 @@ module _ {job : Bor Job} {scan : Bor SoleScan} {old : RowMover} {row : Coefs} wh
       → (w : MovedScan) × (k : ℕ) × (blocks : Blocks) × CanMoveZeros w k blocks new
   moves_rest {f} {k} {blocks} can told e moves = (scan_moved f job.now scan.now, k + 1, blocks, rest_rows told e can moves)
 
-  pub ends_moved : {whole : Bool} {mid new : RowMover} {r : Result (Unit {0}) NoMemory} → ((w : MovedScan) (k : ℕ) (blocks : Blocks) → HasMoved w k blocks old → TellsWhole w k whole) → whole ≡ false → MovesRow old row mid
-      → OnOk r (MovesZeros mid new) → OnOk r (EndsRows (to.Moved job scan old) row (to.Moved job scan new))
-  ends_moved {whole} {mid} {new} {Ok x} told e moves zeros = record { same = (refl, refl); ends = λ f k blocks can. zeros (scan_moved f job.now scan.now) (k + 1) blocks (rest_rows told e can moves) }
-  ends_moved {whole} {mid} {new} {Err x} told e moves zeros = zeros
+  pub ends_moved : {whole : Bool} {mid new : RowMover} → ((w : MovedScan) (k : ℕ) (blocks : Blocks) → HasMoved w k blocks old → TellsWhole w k whole) → whole ≡ false → MovesRow old row mid → MovesZeros mid new
+      → EndsRows (to.Moved job scan old) row (to.Moved job scan new)
+  ends_moved told e moves ends = record { same = (refl, refl); ends = λ f k blocks can. ends (scan_moved f job.now scan.now) (k + 1) blocks (rest_rows told e can moves) }
 
 -- INTO A PICTURE
 

@@ -143,14 +143,18 @@ impl<'a> RowsRead<'a> {
         let mut answer = answer;
         let mut rest = piece;
         loop {
-            let used = match answer {
-                Ok(FedRow::Row { used }) => used,
-                Ok(FedRow::More) => return Ok(false),
-                Ok(FedRow::Done { .. }) => return Ok(true),
+            let fed = match answer {
+                Ok(fed) => fed,
                 Err(stop) => return Err(why_stopped(stop)),
             };
-            if let Err(NoMemory) = self.to.put(self.reader.row_coefs()) {
-                return Err(Why::NoMemory);
+            let used = match fed {
+                FedRow::Row { used } => used,
+                FedRow::More => return Ok(false),
+                FedRow::Done { .. } => return Ok(true),
+            };
+            match self.to.put(self.reader.row_coefs()) {
+                Err(NoMemory) => return Err(Why::NoMemory),
+                Ok(()) => {}
             }
             rest = &rest[used as usize..];
             answer = self.reader.feed_keeping(rest);
