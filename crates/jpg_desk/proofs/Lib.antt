@@ -19,6 +19,9 @@ pub mod PictureTaken
 pub mod PiecesRead
 pub mod Pumped
 pub mod RefusedOnce
+pub mod RowsKept
+pub mod RowsRead
+pub mod RowsTo
 pub mod ScriptTaken
 pub mod SoleWritten
 pub mod TablesTaken

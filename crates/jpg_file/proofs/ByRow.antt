@@ -1,5 +1,6 @@
 pub mod Faults
 pub mod HeadLeft
+pub mod RealRows
 pub mod RowData
 pub mod RowPieces
 pub mod RowTurns

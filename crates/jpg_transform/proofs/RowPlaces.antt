@@ -25,6 +25,7 @@ use Rattle.jpg_spec_move.specs.declared.transform.Transform.TheVariants.{Keep, F
 use Rattle.jpg_base.specs.Cursor.{AreIn, scan_mcus_down}
 use Rattle.jpg_base.proofs.ScanPlaces.{all_ids, all_row, all_rows}
 use Rattle.jpg_base.proofs.UnitCounts.{length_units}
+use Rattle.jpg_file.proofs.ByRow.RealRows.{all_down}
 use Rattle.jpg_seq.specs.Rows.{row_units, rows_in_mcu}
 use Rattle.jpg_seq.proofs.ScanRows.{row_next}
 use Rattle.jpg_transform.specs.Places.{IsOutput, keeps_rows}
@@ -83,16 +84,6 @@ less_by a b c d back low = ⊎_elim (λ (h : a < b). h) (λ (h : b ≤ a). absur
 -- the rows of one component, whatever its factors
 one_down : (f : Frame) → IsFrame f → length f.components ≡ 1 → blocks_down f (component_at f 0) ≡ div_up f.height 8
 one_down f is one = single_down f.height f.components 0 one (omega arith) is.factors
-
--- those of a scan of all components
-pub all_down : (f : Frame) (ids : List ℕ) → AreIn f ids → length ids ≡ length f.components → scan_mcus_down f ids ≡ mcu_rows f
-all_down f [] are all = absurd (omega (arith, are.some))
-all_down f (i ∷ []) are all =
-    let first : i ≡ 0 = (let l = are.there 0 0 (omega arith) in omega (arith, l, all)) in
-    ap (λ n. blocks_down f (component_at f n)) first ∙ ap (λ n. cond (n == 1) (blocks_down f (component_at f 0)) (mcus_down f)) all
-all_down f (i ∷ j ∷ more) are all =
-    let several : (length f.components == 1) ≡ false = grind (arith, nat_tests, all) in
-    sym (ap (λ b. cond b (blocks_down f (component_at f 0)) (mcus_down f)) several)
 
 module _ (f g : Frame) (is : IsFrame f) (framed : IsFrame g) (high : g.height ≡ f.height) where
   -- in colours as they are

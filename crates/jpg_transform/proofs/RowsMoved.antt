@@ -41,7 +41,7 @@ use Rattle.jpg_seq.specs.ScanWritten.{written_data}
 use Rattle.jpg_seq.specs.Rows.{row_units, rows_in_mcu}
 use Rattle.jpg_seq.proofs.ScanRows.{one_row}
 use Rattle.jpg_transform.specs.Places.{HasRowSources, keeps_rows}
-use Rattle.jpg_transform.specs.RowsMoved.{BeginsInBounds, CanMove, CanMoveZero, GivesMoved, HasAllMoved, HasMoved, IsMovedScan, MovedScan, TellsWhole, all_units, mcu_rows, moved_of, rows_of_output, scan_of, seen_by, units_moved}
+use Rattle.jpg_transform.specs.RowsMoved.{BeginsInBounds, CanMove, CanMoveZero, CanMoveZeros, GivesMoved, HasAllMoved, HasMoved, IsMovedScan, MovedScan, MovesZero, TellsWhole, all_units, mcu_rows, moved_of, rows_of_output, scan_of, seen_by, units_moved}
 use Rattle.jpg_transform.specs.declared.row_mover.RowMover.{RowMover}
 use Rattle.jpg_transform.proofs.Opposites.{all_above}
 use Rattle.jpg_transform.proofs.RowPlaces.{HaveRows, IsBetween, between, rows_for}
@@ -534,3 +534,29 @@ first_real f i is there =
 -- no component of the output is more than those of the picture
 pub count_in : {w : MovedScan} (i : ℕ) → IsMovedScan w → i < length w.out.components → i < length w.source.components
 count_in {w} i is there = (from_row i 0 0 is (record { component = there; across = (first_real w.out i is.framed there).0; down = (first_real w.out i is.framed there).1 })).component
+
+-- ZERO ROWS to the end
+
+-- the next of them
+pub next_zero : {w : MovedScan} {k : ℕ} {blocks : Blocks} {r : RowMover} → CanMoveZeros w k blocks r → k < mcu_rows w.source → CanMoveZero w k blocks r
+next_zero can low = record { has = can.has; next = low; zero = λ i x y real from below. can.zero i x y real from }
+
+-- after it
+pub zeros_then : {w : MovedScan} {k : ℕ} {blocks : Blocks} {old new : RowMover} → MovesZero old new → CanMoveZeros w k blocks old → k < mcu_rows w.source → CanMoveZeros w (k + 1) blocks new
+zeros_then {w} {k} {blocks} moves can low = record {
+  has = moves w k blocks (next_zero can low);
+  zero = λ i x y real from.
+      (let v = rows_in_mcu w.source i in
+      let e : (k + 1) * v ≡ k * v + 1 * v = add-mul k 1 v in
+      can.zero i x y real (omega (arith, e, from)));
+}
+
+-- fewer units are left
+pub fewer_left : {w : MovedScan} {k : ℕ} {blocks : Blocks} {old new : RowMover} → HasMoved w k blocks old → k < mcu_rows w.source → HasMoved w (k + 1) blocks new → ((new.scan).units).left < ((old.scan).units).left
+fewer_left {w} {k} before low after =
+    let some = some_moved before.scan in
+    let more = more_left k before.scan low in
+    let e : (k + 1) * units_moved w ≡ k * units_moved w + 1 * units_moved w = add-mul k 1 (units_moved w) in
+    let l = before.left in
+    let m = after.left in
+    omega (arith, some, more, e, l, m)

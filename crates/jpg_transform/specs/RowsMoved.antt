@@ -121,10 +121,18 @@ pub record CanMoveZero (w : MovedScan) (k : ℕ) (blocks : Blocks) (r : RowMover
 abbrev pub MovesZero : RowMover → RowMover → Type 0
 MovesZero old new = (w : MovedScan) (k : ℕ) (blocks : Blocks) → CanMoveZero w k blocks old → HasMoved w (k + 1) blocks new
 
+-- All MCU rows that are left, all whose blocks are zero.
+pub record CanMoveZeros (w : MovedScan) (k : ℕ) (blocks : Blocks) (r : RowMover) : Type 0 where
+  pub has : HasMoved w k blocks r
+  pub zero : (i x y : ℕ) → IsReal w.source i x y → k * rows_in_mcu w.source i ≤ y → blocks i x y ≡ zeros 64
+
 -- AT THE END: all MCU rows were written.
 pub record HasAllMoved (w : MovedScan) (k : ℕ) (blocks : Blocks) (r : RowMover) : Type 0 where
   pub has : HasMoved w k blocks r
   pub all : mcu_rows w.source ≤ k
+
+abbrev pub MovesZeros : RowMover → RowMover → Type 0
+MovesZeros old new = (w : MovedScan) (k : ℕ) (blocks : Blocks) → CanMoveZeros w k blocks old → (n : ℕ) × HasAllMoved w n blocks new
 
 abbrev pub GivesMoved : RowMover → List ℕ → Type 0
 GivesMoved r text = (w : MovedScan) (k : ℕ) (blocks : Blocks) → HasAllMoved w k blocks r → text ≡ moved_data w blocks

@@ -81,7 +81,7 @@ pub struct RowMover<'a> {
 }
 
 impl<'a> RowMover<'a> {
-    ghost use Rattle.jpg_transform.specs.RowsMoved.{CanMove, CanMoveZero, GivesMoved, HasAllMoved, HasMoved, IsMovedScan, MovesRow, MovesZero, TellsWhole, moved_scan};
+    ghost use Rattle.jpg_transform.specs.RowsMoved.{CanMove, CanMoveZero, CanMoveZeros, GivesMoved, HasAllMoved, HasMoved, IsMovedScan, MovesRow, MovesZero, MovesZeros, TellsWhole, moved_scan};
 
     /// The output of this job, of a picture with this frame of which no MCU row was taken. Rows stay rows in it
     /// (`row_scan`), and it has one scan: with this header, by these tables, and with a restart marker after each
@@ -143,6 +143,17 @@ impl<'a> RowMover<'a> {
         let count = self.next_units();
         let view = ZeroRow { frame: self.frame };
         self.scan.put(&view, count)
+    }
+
+    /// Takes MCU rows all whose blocks are zero until there are all. After NoMemory no more may be taken.
+    pub fn put_zeros(&mut self) -> Result<(), NoMemory>
+        requires { (w : MovedScan) × (k : ℕ) × (blocks : Blocks) × CanMoveZeros w k blocks self.old }
+        ensures { OnOk result (MovesZeros self.old self.new) }
+    {
+        while !self.is_whole() {
+            self.put_zero()?;
+        }
+        Ok(())
     }
 
     /// Whether all MCU rows were taken.

@@ -38,7 +38,7 @@ use Rattle.jpg_color.specs.StripImage.{AgreeInFirstRows}
 use Rattle.jpg_color.proofs.Coverage.{component_is, count_is, in_frame}
 use Rattle.jpg_cli.specs.Tools.ShowingRows.{Head, IsHeadIn}
 use Rattle.jpg_cli.proofs.ByRow.RowsWhole.{few_told, so_far, so_far_shown}
-use Rattle.jpg_file.proofs.ByRow.RowsEarly.{real_here}
+use Rattle.jpg_file.proofs.ByRow.RealRows.{real_here}
 use Rattle.jpg_spec_image.proofs.RowsText.{real_agree}
 
 -- THE FRAME at the scan header's end is that of the segments before it

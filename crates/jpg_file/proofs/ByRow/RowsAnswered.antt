@@ -2,6 +2,7 @@
 use Rattle.std.proofs.Common.{◌≡◌, ℕ, ◌+◌, List, ◌++◌, length, take, sym, ap, ◌∙◌, subst, arith, inl, inr, Some, ◌⊎◌, zero, suc, drop, ◌-◌, ◌<◌, ◌≤◌, true, [], ◌∷◌, refl, None, Ok, Err}
 use Rattle.std.proofs.Math.Seq.{take-append-add}
 use Rattle.std.specs.Prelude.{Option, is_some}
+use Rattle.jpg_spec.specs.FrameHeader.{AreLimits}
 use Rattle.jpg_spec.specs.Markers.{Segment}
 use Rattle.jpg_spec.specs.InForce.{frame_of, head_in}
 use Rattle.jpg_spec.specs.Scan.{Blocks}
@@ -285,17 +286,17 @@ module _ (r : ReaderState) (old new : StripWork) (bytes piece : List ℕ) (m : �
       by (Some rows) is = inr (subst (λ (n : ℕ). HasReadRows (bytes ++ piece) n (with_work r new)) (sym z) (more_begun r old new bytes piece p rows t is))
 
   -- Done
-  pub done_answered : (used : ℕ) → old.by_row ≡ true → ReadsPiece r.limits old piece (Ok (fed.Done used)) new → HasReadSoFar bytes m (with_work r old)
+  pub done_answered : (used : ℕ) → AreLimits r.limits → old.by_row ≡ true → ReadsPiece r.limits old piece (Ok (fed.Done used)) new → HasReadSoFar bytes m (with_work r old)
       → AfterFeedRow bytes m piece (Ok (fed.Done used)) (record (with_work r new) { done = true })
-  done_answered used row t (inr h) = (inr (by new.rows refl (subst (λ (o : Option RowWork). CountsStrip step.Whole o new.rows) (b.begun).has t.rows) (t.after bytes b.open).0), (t.after bytes b.open).1, (t.after bytes b.open).2)
+  done_answered used limited row t (inr h) = (inr (by new.rows refl (subst (λ (o : Option RowWork). CountsStrip step.Whole o new.rows) (b.begun).has t.rows) (t.after bytes b.open).0), (t.after bytes b.open).1, (t.after bytes b.open).2)
     where
       b : RowsBefore bytes m (with_work r old)
       b = rows_before bytes m (with_work r old) h
 
       by : (o : Option RowWork) → new.rows ≡ o → CountsStrip step.Whole (Some (b.begun).rows) o → AfterStrip r.limits (bytes ++ take used piece) step.Whole o new.file → IsDoneByRows (bytes ++ take used piece) m (record (with_work r new) { done = true })
       by None is c k = absurd c
-      by (Some rows) is c k = fed_done_rows (with_work r old) new bytes (take used piece) m b rows is (t.keeps.strip (ap is_some (b.begun).has)) c k
-  done_answered used row t (inl (p, z)) = by new.rows refl
+      by (Some rows) is c k = fed_done_rows (with_work r old) new bytes (take used piece) m b rows is limited (t.keeps.strip (ap is_some (b.begun).has)) c k
+  done_answered used limited row t (inl (p, z)) = by new.rows refl
     where
       by : (o : Option RowWork) → new.rows ≡ o → AfterFeedRow bytes m piece (Ok (fed.Done used)) (record (with_work r new) { done = true })
       by None is =

@@ -1,11 +1,10 @@
 -- The end of a file that is read MCU row by MCU row.
 use Rattle.std.proofs.Common.{◌≡◌, ℕ, zero, suc, ◌+◌, ◌*◌, ◌<◌, ◌≤◌, ◌==◌, ◌&&◌, Bool, true, false, cond, List, [], ◌∷◌, ◌++◌, length, refl, sym, ap, ◌∙◌, subst, arith, inl, inr, ◌⊎◌, None, Some, Option}
-use Rattle.std.specs.Prelude.{◌||◌, nat_lt, replicate, is_none}
-use Rattle.std.proofs.lemmas.Bool.Decides.{nat_tests}
+use Rattle.std.specs.Prelude.{nat_lt, replicate, is_none}
 use Rattle.std.proofs.lemmas.Nat.{mul-le}
-use Rattle.jpg_spec.specs.Lists.{any_of, is_among, all_of, below}
+use Rattle.jpg_spec.specs.Lists.{all_of, below}
 use Rattle.jpg_spec.specs.Ranges.{AreInRange}
-use Rattle.jpg_spec.specs.Geometry.{Frame, bounds, blocks_across, blocks_down, component_at, is_real, mcu_row_frame, mcus_down, v_max, no_component}
+use Rattle.jpg_spec.specs.Geometry.{Frame, bounds, blocks_across, blocks_down, component_at, is_real, mcu_row_frame, no_component}
 use Rattle.jpg_spec.specs.FrameHeader.{AreLimits, IsFrame}
 use Rattle.jpg_spec.specs.Elements.{zeros}
 use Rattle.jpg_spec.specs.Scan.{Blocks}
@@ -15,24 +14,18 @@ use Rattle.jpg_spec.specs.Markers.{Segment, has_frame, has_scan}
 use Rattle.jpg_spec.specs.InForce.{frame_of, head_in, heads_of, no_frame}
 use Rattle.jpg_spec.specs.History.{has_begun}
 use Rattle.jpg_spec.specs.Items.{Item, SpellsFront, segments_of}
-use Rattle.jpg_spec.specs.FileMeaning.{Leads, meaning_of, no_blocks, scan_after}
+use Rattle.jpg_spec.specs.FileMeaning.{Leads, meaning_of, scan_after}
 use Rattle.jpg_spec.specs.UnfinishedFile.{UnfinishedFile}
 use Rattle.jpg_spec.specs.Early.{MeansEarly}
 use Rattle.jpg_spec.specs.Laws.{frame_of_items}
-use Rattle.jpg_spec.specs.PictureInWork.{is_at}
 use Rattle.jpg_spec.specs.ScanRows.{first_rows}
 use Rattle.jpg_spec.specs.RowsParsed.{BeginsScanOfAll, TellsRows, blocks_in, row_places}
 use Rattle.jpg_spec.specs.declared.frame.Limits.{Limits}
-use Rattle.jpg_spec.proofs.Basics.Common.{both, clash, lt_of, lt_yes, same_of, some_once, not_zero}
+use Rattle.jpg_spec.proofs.Basics.Common.{both, clash, lt_of, some_once, not_zero}
 use Rattle.jpg_spec.proofs.Headers.BeforeScans.{no_heads}
 use Rattle.jpg_spec.proofs.Files.FileLaws.{stands_early}
 use Rattle.jpg_spec.proofs.Headers.FrameAfter.{leads_pass}
-use Rattle.jpg_spec.proofs.Places.PlacesFound.{real_in_padded}
-use Rattle.jpg_spec.proofs.Places.PlacesSome.{v_max_some}
-use Rattle.jpg_spec.proofs.McuRows.RowCounts.{head_names}
-use Rattle.jpg_spec.proofs.McuRows.RowsFound.{found_first}
 use Rattle.jpg_spec.proofs.McuRows.RowsHeader.{begun_frame, begun_once}
-use Rattle.jpg_spec.proofs.McuRows.RowsLater.{head_there}
 use Rattle.jpg_spec.proofs.McuRows.RowsOfItems.{HoldsRows, rows_of_items}
 use Rattle.jpg_spec.proofs.McuRows.RowsOnce.{rows_once}
 use Rattle.jpg_base.specs.Cursor.{scan_mcus_down}
@@ -56,7 +49,8 @@ use Rattle.jpg_file.proofs.Files.Keeping.{markers_kept}
 use Rattle.jpg_file.proofs.Files.Leaving.{at_end, named_by, some_at, some_for, early_leaves, each_complete, ends_early, named_each, tells_begun}
 use Rattle.jpg_file.proofs.ByRow.RowTurns.{rows_there}
 use Rattle.jpg_file.proofs.ByRow.HeadLeft.{head_of_early}
-use Rattle.jpg_file.proofs.ByRow.RowsGiven.{TellsDue, inside_tells, place_tells, real_in_row, row_blocks, inside_in_range}
+use Rattle.jpg_file.proofs.ByRow.RealRows.{agree_rows, named_in, rows_cover}
+use Rattle.jpg_file.proofs.ByRow.RowsGiven.{TellsDue, inside_tells, place_tells, row_blocks, inside_in_range}
 use Rattle.jpg_file.proofs.ByRow.StripBytes.{goes_with}
 use Rattle.jpg_file.proofs.ByRow.StripRows.{rest_blank, rest_framed}
 use Rattle.jpg_scans.specs.declared.progress.Progress.{Progress}
@@ -89,55 +83,6 @@ ends_whole limits bytes w whole all s stands short told e =
       range = subst (λ (bs : Blocks). AreInRange (bounds (frame_of limits a.segments)) bs) same here.range;
       kept = markers_kept limits a.segments (map_of whole) w a.holds;
     }
-
--- REAL BLOCKS of a picture
-pub real_here : (f : Frame) (blocks : Blocks) (i x y : ℕ) → i < length f.components → x < blocks_across f (component_at f i) → y < blocks_down f (component_at f i) → real_blocks f blocks i x y ≡ blocks i x y
-real_here f blocks i x y there across down =
-    ap (λ b. cond (b && is_real f i x y) (blocks i x y) (zeros 64)) (lt_yes i (length f.components) there) ∙ ap (λ b. cond b (blocks i x y) (zeros 64)) (real_in_row f i x y there across down)
-
-module _ (limits : Limits) (bytes : List ℕ) (before : List Segment) (contents : List ℕ) (begins : BeginsScanOfAll limits bytes before contents) where
-  -- of the first MCU rows
-  named_in : (i : ℕ) → i < length (frame_of limits before).components → is_among i (head_components (head_in (frame_of limits before) contents)) ≡ true
-  named_in i lt =
-      let f = frame_of limits before in head_names f (head_in f contents) i (head_there limits before contents begins.unbroken) begins.of_all.all lt
-
-  row_found : (rows i x y : ℕ) → IsFrame (frame_of limits before) → i < length (frame_of limits before).components
-      → x < blocks_across (frame_of limits before) (component_at (frame_of limits before) i)
-      → y < blocks_down (frame_of limits before) (component_at (frame_of limits before) i) → y < rows * rows_in_mcu (frame_of limits before) i
-      → any_of (is_at i x y) (row_places limits before contents rows) ≡ true
-  row_found rows i x y is there across down low =
-      let f = frame_of limits before in
-      let turned : rows_in_mcu f i * rows ≡ rows * rows_in_mcu f i = grind arith in
-      let few : y < rows_in_mcu f i * rows = omega (arith, low, turned) in
-      found_first f (head_components (head_in f contents)) i x y rows is there (named_in i there) (real_in_row f i x y there across down)
-      (subst (λ n. y < n * rows) (ap (λ n. cond (n == 1) 1 (component_at f i).v) (sym begins.of_all.all)) few)
-
-  -- those of the MCU rows that are decoded are those of the picture
-  agree_rows : (rows : ℕ) (all : Blocks) → IsFrame (frame_of limits before)
-      → AgreeInRows (frame_of limits before) rows (blocks_in (row_places limits before contents rows) all) (real_blocks (frame_of limits before) all)
-  agree_rows rows all is = record {
-    same = λ i x y there across down low.
-        (ap (λ b. cond b (all i x y) (no_blocks i x y)) (row_found rows i x y is there across down low) ∙ sym (real_here (frame_of limits before) all i x y there across down));
-  }
-
--- NO REAL BLOCK is after all MCU rows
-rows_cover : (f : Frame) (ids : List ℕ) (i : ℕ) → IsFrame f → length ids ≡ length f.components → is_among i ids ≡ true → blocks_down f (component_at f i) ≤ scan_mcus_down f ids * rows_in_mcu f i
-rows_cover f [] i is all among = cc
-rows_cover f (j ∷ []) i is all among =
-    let s : j ≡ i = same_of j i (alone (j == i) among) in
-    let one : rows_in_mcu f i ≡ 1 = ap (λ n. cond (n == 1) 1 (component_at f i).v) (sym all) in
-    let whole : blocks_down f (component_at f j) ≡ blocks_down f (component_at f i) = ap (λ k. blocks_down f (component_at f k)) s in
-    omega (arith, whole, ap (λ n. blocks_down f (component_at f j) * n) one)
-  where
-    alone : (b : Bool) → (b || false) ≡ true → b ≡ true
-    alone true e = refl
-    alone false e = e
-rows_cover f (j ∷ k ∷ more) i is all among =
-    let several : (length f.components == 1) ≡ false = grind (arith, nat_tests, all) in
-    let each : rows_in_mcu f i ≡ (component_at f i).v = ap (λ b. cond b 1 (component_at f i).v) several in
-    let c = component_at f i in
-    let down : blocks_down f c ≤ mcus_down f * c.v = real_in_padded f.height c.v (v_max f) (v_max_some f is) in
-    omega (arith, down, ap (λ n. mcus_down f * n) each)
 
 -- LATER BLOCKS are zero
 later_zero : (f : Frame) (all : Blocks) (i x y : ℕ) → (i < length f.components → y < blocks_down f (component_at f i) → all i x y ≡ zeros 64) → real_blocks f all i x y ≡ zeros 64

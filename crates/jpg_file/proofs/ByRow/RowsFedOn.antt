@@ -1,6 +1,7 @@
 -- A reader of MCU rows, from one piece to the next.
 use Rattle.std.proofs.Common.{◌≡◌, ◌⊎◌, ℕ, ◌+◌, ◌<◌, ◌≤◌, Bool, false, List, ◌++◌, length, true, refl, sym, ap, ◌∙◌, subst, arith, inl, inr, Some, None}
 use Rattle.jpg_spec.specs.Segments.{head_components}
+use Rattle.jpg_spec.specs.FrameHeader.{AreLimits}
 use Rattle.jpg_spec.specs.Geometry.{Frame, bounds}
 use Rattle.jpg_spec.specs.Markers.{Segment, has_scan}
 use Rattle.jpg_spec.specs.Meaning.{real_blocks}
@@ -11,19 +12,18 @@ use Rattle.jpg_spec.specs.InForce.{frame_of, head_in}
 use Rattle.jpg_spec.specs.Items.{segments_of}
 use Rattle.jpg_spec.specs.Scan.{Blocks}
 use Rattle.jpg_spec.specs.ScanRows.{first_rows}
-use Rattle.jpg_spec.specs.RowsParsed.{picture_so_far, BeginsScanOfAll, CompletesRows, TellsRows}
+use Rattle.jpg_spec.specs.RowsParsed.{BeginsScanOfAll, CompletesRows, TellsRows, blocks_in, picture_so_far, row_places}
 use Rattle.std.specs.Prelude.{Option, replicate}
 use Rattle.jpg_file.specs.declared.read.strip_head.StripHead.{StripHead}
 use Rattle.jpg_spec.specs.declared.frame.Limits.{Limits}
-use Rattle.jpg_spec.proofs.McuRows.RowsHeader.{all_complete}
+use Rattle.jpg_spec.proofs.McuRows.RowsHeader.{all_complete, begun_frame}
 use Rattle.jpg_spec.proofs.McuRows.RowsOfItems.{HoldsRows, rows_of_items}
-use Rattle.jpg_spec.proofs.McuRows.RowsOnce.{rows_stay}
+use Rattle.jpg_spec.proofs.McuRows.RowsOnce.{rows_once, rows_stay}
 use Rattle.jpg_seq.proofs.ScanRows.{units_by_row}
 use Rattle.jpg_file.specs.Read.File.{EndStands, EndsFile, with_picture}
 use Rattle.jpg_file.specs.Read.FirstHeader.{IsFirstHeaderOf}
 use Rattle.jpg_file.specs.Read.ReadFile.{ReaderState}
-use Rattle.jpg_file.specs.Read.Left.{Leaves}
-use Rattle.jpg_file.specs.Read.ReadRows.{HasAllBlocks, HasBegunRows, HasGivenRow, HasReadRows, IsDoneByRows}
+use Rattle.jpg_file.specs.Read.ReadRows.{AgreeInRows, HasAllBlocks, HasBegunRows, HasGivenRow, HasReadRows, IsDoneByRows}
 use Rattle.jpg_file.specs.Read.RowsKnown.{TellsStrip, rows_of_scan}
 use Rattle.jpg_file.specs.Read.RowPieces.{HasLastByte, RowsOpen}
 use Rattle.jpg_file.specs.Read.RowTurns.{unfinished}
@@ -35,6 +35,7 @@ use Rattle.jpg_file.proofs.Files.Keeping.{markers_kept}
 use Rattle.jpg_file.proofs.Files.Leaving.{file_leaves}
 use Rattle.jpg_file.proofs.Files.PieceSteps.{file_means, stands_file}
 use Rattle.jpg_file.proofs.ByRow.HeadLeft.{head_of_whole}
+use Rattle.jpg_file.proofs.ByRow.RealRows.{agree_rows}
 use Rattle.jpg_file.proofs.ByRow.StripBytes.{open_head, strip_whole}
 use Rattle.jpg_file.proofs.ByRow.RowsGiven.{begun_on, row_fed, rows_completed}
 use Rattle.jpg_file.proofs.Files.ReaderFed.{with_work}
@@ -152,22 +153,16 @@ module _ (r : ReaderState) (new : StripWork) (bytes piece : List ℕ) (m : ℕ) 
         row = f.row;
       }
 
-  -- ALL BLOCKS of a complete file
-  done_blocks : m ≡ rows_of_scan r.limits before contents → (w : FileWork) → (e : EndsFile r.limits all w)
-      → HasAllBlocks (frame_of r.limits before) (real_blocks (frame_of r.limits (segments_of (e.ends).items)) (e.ends).blocks)
-  done_blocks full w e =
-      record {
-        all = l.coefs;
-        framed = l.framed ∙ held.framed;
-        range = subst (λ (g : Frame). AreInRange (bounds g) (map_of l.coefs)) held.framed (subst (λ (bs : Blocks). AreInRange (bounds (frame_of r.limits (segments_of k.items))) bs) l.as_map l.range);
-        real = ap (λ (g : Frame). real_blocks g k.blocks) held.framed ∙ ap (real_blocks (frame_of r.limits before)) l.as_map;
-      }
+  -- ITS ITEMS, if the file is complete, encode all MCU rows
+  done_rows : m ≡ rows_of_scan r.limits before contents → (w : FileWork) → (e : EndsFile r.limits all w) → HoldsRows r.limits all before contents (e.ends).items (e.ends).blocks m
+  done_rows full w e =
+      let f = frame_of r.limits before in
+      let ids = head_components (head_in f contents) in
+      rows_of_items r.limits all before contents k.items k.blocks behind.front (replicate (((k.at).at).beside).fill 255 ++ (k.at).tail) m begins behind.cut behind.spelled ((k.at).at).leads some
+      (units_by_row f ids ∙ ap (λ n. first_rows f ids n) (sym full))
     where
       k : EndStands r.limits all w
       k = e.ends
-
-      l : Leaves r.limits (segments_of (e.ends).items) (e.ends).blocks w
-      l = file_leaves r.limits all w e
 
       some : has_scan (segments_of (e.ends).items) ≡ true
       some = by (has_scan (segments_of k.items)) refl
@@ -179,19 +174,38 @@ module _ (r : ReaderState) (new : StripWork) (bytes piece : List ℕ) (m : ℕ) 
       behind : AfterItems r.limits all (e.ends).items (replicate (((k.at).at).beside).fill 255 ++ (k.at).tail)
       behind = let b = (((k.at).at).beside).behind in record { front = b.front; blocks = k.blocks; cut = b.cut; spelled = b.spelled; leads = ((k.at).at).leads }
 
-      held : HoldsRows r.limits all before contents (e.ends).items (e.ends).blocks m
-      held =
-          let f = frame_of r.limits before in
-          let ids = head_components (head_in f contents) in
-          rows_of_items r.limits all before contents k.items k.blocks behind.front (replicate (((k.at).at).beside).fill 255 ++ (k.at).tail) m (begun_on r.limits bytes piece before contents (b.begun).begins) behind.cut behind.spelled ((k.at).at).leads some
-          (units_by_row f ids ∙ ap (λ n. first_rows f ids n) (sym full))
+  -- all its blocks
+  done_blocks : (w : FileWork) → (e : EndsFile r.limits all w) → HoldsRows r.limits all before contents (e.ends).items (e.ends).blocks m
+      → HasAllBlocks (frame_of r.limits before) (real_blocks (frame_of r.limits (segments_of (e.ends).items)) (e.ends).blocks)
+  done_blocks w e held =
+      let k = e.ends in
+      let l = file_leaves r.limits all w e in
+      record {
+        all = l.coefs;
+        framed = l.framed ∙ held.framed;
+        range = subst (λ (g : Frame). AreInRange (bounds g) (map_of l.coefs)) held.framed (subst (λ (bs : Blocks). AreInRange (bounds (frame_of r.limits (segments_of k.items))) bs) l.as_map l.range);
+        real = ap (λ (g : Frame). real_blocks g k.blocks) held.framed ∙ ap (real_blocks (frame_of r.limits before)) l.as_map;
+      }
+
+  -- are those that were given
+  done_given : AreLimits r.limits → (w : FileWork) → (e : EndsFile r.limits all w) → HoldsRows r.limits all before contents (e.ends).items (e.ends).blocks m
+      → AgreeInRows (frame_of r.limits before) m b.told (real_blocks (frame_of r.limits (segments_of (e.ends).items)) (e.ends).blocks)
+  done_given limited w e held =
+      let blocks = (e.ends).blocks in
+      let told = blocks_in (row_places r.limits before contents m) blocks in
+      let one : b.told ≡ told = rows_once r.limits all m b.told told (rows_stay r.limits bytes piece m b.told b.tells) held.told in
+      let agree = agree_rows r.limits all before contents begins m blocks (begun_frame r.limits all before contents limited begins) in
+      subst (λ (g : Frame). AgreeInRows (frame_of r.limits before) m b.told (real_blocks g blocks)) (sym held.framed)
+      (subst (λ (x : Blocks). AgreeInRows (frame_of r.limits before) m x (real_blocks (frame_of r.limits before) blocks)) (sym one) agree)
 
   -- THE FILE is complete
-  pub fed_done_rows : new.strip ≡ r.strip → unfinished rows ≡ unfinished (b.begun).rows → EndsByRow r.limits all new.file rows
+  pub fed_done_rows : AreLimits r.limits → new.strip ≡ r.strip → unfinished rows ≡ unfinished (b.begun).rows → EndsByRow r.limits all new.file rows
       → IsDoneByRows all m (record (with_work r new) { done = true })
-  fed_done_rows strip same k =
+  fed_done_rows limited strip same k =
       let w = with_picture new.file k.whole in
       let g = begun_with strip (head_left r.limits all w k.ends) in
+      let full : m ≡ rows_of_scan r.limits before contents = omega (arith, b.count, same, k.done) in
+      let held = done_rows full w k.ends in
       record {
         done = refl;
         meaning = _;
@@ -199,7 +213,9 @@ module _ (r : ReaderState) (new : StripWork) (bytes piece : List ℕ) (m : ℕ) 
         kept = markers_kept r.limits (segments_of ((k.ends).ends).items) ((k.ends).ends).blocks new.file (((k.ends).ends).at).holds;
         begun = record { before = g.before; contents = g.contents; begins = g.begins; rows = rows; has = has; head = g.head; told = g.told };
         head = head_of_whole r.limits all g.before g.contents g.begins new.strip _ g.told (file_means r.limits all w k.ends).0;
-        all = done_blocks (omega (arith, b.count, same, k.done)) w k.ends;
+        all = done_blocks w k.ends held;
+        full = full;
         blocks = b.told;
-        completed = all_given r.limits bytes piece before contents m b.told (b.begun).begins b.tells (omega (arith, b.count, same, k.done));
+        completed = all_given r.limits bytes piece before contents m b.told (b.begun).begins b.tells full;
+        given = done_given limited w k.ends held;
       }

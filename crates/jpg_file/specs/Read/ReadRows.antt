@@ -137,7 +137,12 @@ pub record HasAllBlocks (f : Frame) (blocks : Blocks) : Type 0 where
   pub range : AreInRange (bounds f) (map_of all)
   pub real : blocks ≡ real_blocks f (map_of all)
 
--- A complete file, all whose MCU rows were given.
+-- the real blocks of this many first MCU rows are the same
+pub record AgreeInRows (f : Frame) (rows : ℕ) (blocks others : Blocks) : Type 0 where
+  pub same : (i x y : ℕ) → i < length f.components → x < blocks_across f (component_at f i) → y < blocks_down f (component_at f i)
+      → y < rows * rows_in_mcu f i → blocks i x y ≡ others i x y
+
+-- A complete file, all whose MCU rows were given: so many as its scan has, with the blocks of the picture.
 pub record IsDoneByRows (bytes : List ℕ) (m : ℕ) (r : ReaderState) : Type 0 where
   pub done : r.done ≡ true
   pub meaning : Meaning
@@ -146,8 +151,10 @@ pub record IsDoneByRows (bytes : List ℕ) (m : ℕ) (r : ReaderState) : Type 0 
   pub begun : HasBegunRows bytes r
   pub head : TellsHead r.strip meaning
   pub all : HasAllBlocks (frame_of r.limits begun.before) meaning.blocks
+  pub full : m ≡ rows_of_scan r.limits begun.before begun.contents
   pub blocks : Blocks
   pub completed : CompletesRows r.limits bytes m blocks
+  pub given : AgreeInRows (frame_of r.limits begun.before) m blocks meaning.blocks
 
 -- a complete file without such a scan
 pub record IsDonePlainly (bytes : List ℕ) (r : ReaderState) : Type 0 where
@@ -162,11 +169,6 @@ pub record IsEarlyPlainly (bytes : List ℕ) (r : ReaderState) : Type 0 where
   pub none : r.rows ≡ None
   pub plain : HasNoRows r.limits bytes
   pub early : IsEarlyEnd bytes r
-
--- the real blocks of this many first MCU rows are the same
-pub record AgreeInRows (f : Frame) (rows : ℕ) (blocks others : Blocks) : Type 0 where
-  pub same : (i x y : ℕ) → i < length f.components → x < blocks_across f (component_at f i) → y < blocks_down f (component_at f i)
-      → y < rows * rows_in_mcu f i → blocks i x y ≡ others i x y
 
 -- MCU row k is lent: in a frame's bounds, and with these blocks
 pub record LendsRow (f : Frame) (k : ℕ) (lent : Picture) (blocks : Blocks) : Type 0 where

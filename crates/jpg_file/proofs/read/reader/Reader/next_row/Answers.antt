@@ -89,7 +89,7 @@ returns-in-Ok-Done-clause-answered c = λ bytes m s.
     let row = rows_read r (subst IsByRow (sym c.self.view_is) c.requires.by_row) c.self.invariant in
     let is : took.result ≡ Ok (fed.Done used) = search rules in
     subst (λ (a : Result FedRow Stop). AfterFeedKeeping bytes m piece a (record r { file = new.file; in_rows = new.by_row; rows = new.rows; strip = new.strip; done = true })) (sym is)
-    (done_answered r work new bytes piece m used row (subst (λ (a : Result FedRow Stop). ReadsPiece r.limits work piece a new) is took.ensures) (subst (λ (q : ReaderState). HasReadSoFar bytes m q) (sym c.self.view_is) s))
+    (done_answered r work new bytes piece m used c.self.invariant.limited row (subst (λ (a : Result FedRow Stop). ReadsPiece r.limits work piece a new) is took.ensures) (subst (λ (q : ReaderState). HasReadSoFar bytes m q) (sym c.self.view_is) s))
 
 pub returns-in-Ok-Done-clause-sparing : goal.returns-in-Ok-Done-clause-sparing
 returns-in-Ok-Done-clause-sparing c = λ by bytes m s.
@@ -102,7 +102,7 @@ returns-in-Ok-Done-clause-sparing c = λ by bytes m s.
     let row = rows_read r (subst IsByRow (sym c.self.view_is) c.requires.by_row) c.self.invariant in
     let is : took.result ≡ Ok (fed.Done used) = search rules in
     subst (λ (a : Result FedRow Stop). AfterFeedRow bytes m piece a (record r { file = new.file; in_rows = new.by_row; rows = new.rows; strip = new.strip; done = true })) (sym is)
-    (done_answered r work new bytes piece m used row (subst (λ (a : Result FedRow Stop). ReadsPiece r.limits work piece a new) is took.ensures) (subst (λ (q : ReaderState). HasReadSoFar bytes m q) (sym c.self.view_is) s))
+    (done_answered r work new bytes piece m used c.self.invariant.limited row (subst (λ (a : Result FedRow Stop). ReadsPiece r.limits work piece a new) is took.ensures) (subst (λ (q : ReaderState). HasReadSoFar bytes m q) (sym c.self.view_is) s))
 
 pub returns-in-Err-clause-answered : goal.returns-in-Err-clause-answered
 returns-in-Err-clause-answered c = λ bytes m s.
