@@ -20,7 +20,6 @@ pub mod PiecesRead
 pub mod Pumped
 pub mod RefusedOnce
 pub mod RowsKept
-pub mod RowsRead
 pub mod RowsTo
 pub mod ScriptTaken
 pub mod SoleWritten
