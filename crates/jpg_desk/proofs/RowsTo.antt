@@ -70,7 +70,6 @@ module _ (job : Bor Job) (scan : Bor SoleScan) {old : RowMover} {row : Coefs} wh
     puts = λ f k blocks can. moves (scan_moved f job.now scan.now) k blocks (record { has = can.put; next = can.next; lends = can.lends });
   }
 
-
   -- whether there are all
   module _ {whole : Bool} (told : (w : MovedScan) (k : ℕ) (blocks : Blocks) → HasMoved w k blocks old → TellsWhole w k whole) where
     -- there are
