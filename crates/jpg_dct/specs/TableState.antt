@@ -5,7 +5,7 @@ use Rattle.jpg_spec.specs.Segments.{QuantTable}
 use Rattle.jpg_spec.specs.TextReaders.{TextReader}
 use Rattle.jpg_spec_image.specs.TableText.{is_count, tables_form, tables_of}
 use Rattle.arrayvec.specs.ArrayVec.{ArrayVec}
-use Rattle.jpg_base.specs.TextKinds.{TextKind}
+use Rattle.jpg_texts.specs.TextKinds.{TextKind}
 
 -- NUMBERS: the complete ones, and of the current one how many digits were read and their value
 

@@ -8,7 +8,8 @@ ghost use Rattle.jpg_dct.specs.TableState.{digit_step, ended, no_numbers, tables
 
 use crate::forward::blocks::ZIGZAG;
 use arrayvec::ArrayVec;
-use jpg_base::{Fault, FaultAt, QuantTable, TextBytes, is_digit, is_space, read_text};
+use jpg_base::{Fault, FaultAt, QuantTable};
+use jpg_texts::{TextBytes, is_digit, is_space, read_text};
 use std::marker::Model;
 
 // The numbers of a text so far.

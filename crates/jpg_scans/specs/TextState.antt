@@ -6,7 +6,7 @@ use Rattle.jpg_spec.specs.NumberTexts.{is_digit, is_space}
 use Rattle.jpg_spec_write.specs.Script.{Entry}
 use Rattle.jpg_spec.specs.TextReaders.{TextReader}
 use Rattle.jpg_spec_write.specs.ScriptGrammar.{is_joint, banded, script_form}
-use Rattle.jpg_base.specs.TextKinds.{TextKind}
+use Rattle.jpg_texts.specs.TextKinds.{TextKind}
 use Rattle.jpg_scans.specs.declared.standing.Standing.{Standing}
 use Rattle.jpg_scans.specs.declared.standing.Standing.TheVariants.{Before, InNumber, Behind, Joined}
 

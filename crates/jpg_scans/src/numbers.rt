@@ -7,7 +7,7 @@ ghost use Rattle.jpg_scans.specs.declared.standing.Standing.TheVariants.{InNumbe
 
 use crate::standing::Standing;
 use arrayvec::ArrayVec;
-use jpg_base::{is_digit, is_space};
+use jpg_texts::{is_digit, is_space};
 use std::marker::Model;
 
 // Up to four complete numbers, and the position among them.

@@ -10,8 +10,9 @@ use crate::check::fault_of;
 use crate::own::{Band, push_all, push_each, push_one};
 use crate::text_reader::ScriptText;
 use arrayvec::ArrayVec;
-use jpg_base::{Colour, Fault, FaultAt, Frame, read_text};
+use jpg_base::{Colour, Fault, FaultAt, Frame};
 use jpg_spec_write::PictureFault;
+use jpg_texts::read_text;
 use std::marker::Model;
 
 /// The scans that a file is written in: 1 to 100 entries.

@@ -6,7 +6,7 @@ ghost use Rattle.jpg_scans.specs.TextState.{new_text, script_kind, text_step};
 use crate::entry_text::EntryText;
 use crate::{Entry, Script};
 use arrayvec::ArrayVec;
-use jpg_base::{TextBytes, is_digit};
+use jpg_texts::{TextBytes, is_digit};
 use std::marker::Model;
 
 // The entries that have ended, and the current one.

@@ -17,9 +17,10 @@ use crate::read::numbers::{
     unscaled_info,
 };
 use crate::read::piece::{Answer, Moved, one_byte};
-use jpg_base::{Bytes, NoMemory, is_digit};
+use jpg_base::{Bytes, NoMemory};
 use jpg_spec::Fault;
 use jpg_spec_image::ImageInfo;
+use jpg_texts::is_digit;
 use std::alloc::Global;
 
 // The state after the bytes so far: see ImageState of the definitions.

@@ -3,7 +3,7 @@ use Rattle.arrayvec.specs.ArrayVec.{ArrayVec}
 use Rattle.jpg_spec.specs.Segments.{QuantTable}
 use Rattle.jpg_spec.specs.declared.fault.FaultAt.{FaultAt}
 use Rattle.jpg_spec_image.specs.TableText.{TellsTables}
-use Rattle.jpg_base.specs.TextKinds.{TellsText}
+use Rattle.jpg_texts.specs.TextKinds.{TellsText}
 use Rattle.jpg_dct.specs.ReadTables.{tables_or_fault}
 use Rattle.jpg_dct.specs.TableState.{tables_kind}
 use Rattle.jpg_dct.proofs.TableRest.{reads_tables}

@@ -2,7 +2,7 @@ use Rattle.std.proofs.Common.{List, ℕ, Result, Ok, Err}
 use Rattle.jpg_spec.specs.declared.fault.FaultAt.{FaultAt}
 use Rattle.jpg_spec_write.specs.Script.{Entry}
 use Rattle.jpg_spec_write.specs.ScriptGrammar.{TellsScript}
-use Rattle.jpg_base.specs.TextKinds.{TellsText}
+use Rattle.jpg_texts.specs.TextKinds.{TellsText}
 use Rattle.jpg_scans.specs.TextState.{script_kind}
 use Rattle.jpg_scans.proofs.ScriptRest.{reads_scripts}
 use Rattle.jpg_scans.proofs.script.Script.parse.Goals as goal

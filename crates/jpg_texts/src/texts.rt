@@ -2,9 +2,9 @@
 ghost use Rattle.std.specs.Prelude.{◌≡◌, option_map, if◌then◌else◌};
 ghost use Rattle.jpg_spec.specs.NumberTexts.{in_comment, is_digit, is_space};
 ghost use Rattle.jpg_spec.specs.TextReaders.{taken};
-ghost use Rattle.jpg_base.specs.TextKinds.{ReadsTexts, TellsText, TextKind};
+ghost use Rattle.jpg_texts.specs.TextKinds.{ReadsTexts, TellsText, TextKind};
 
-use crate::{Fault, FaultAt};
+use jpg_spec::{Fault, FaultAt};
 
 /// What reads the texts of one form: its state after the bytes so far, with space in place of comments.
 pub trait TextBytes<T>: Drop {

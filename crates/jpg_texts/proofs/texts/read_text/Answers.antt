@@ -6,8 +6,8 @@ use Rattle.jpg_spec.specs.TextForms.{IsWrongByte, IsTooLong}
 use Rattle.jpg_spec.specs.TextReaders.{read_by, reader_step, plain, taken}
 use Rattle.jpg_spec.proofs.Texts.TextRuns.{run_nil}
 use Rattle.jpg_spec.proofs.Texts.TextsRead.{byte_read, wrong_byte, too_long, ends_early, told_spells}
-use Rattle.jpg_base.proofs.TextSteps.{behind_as, stepped}
-use Rattle.jpg_base.proofs.texts.read_text.Goals as goal
+use Rattle.jpg_texts.proofs.TextSteps.{behind_as, stepped}
+use Rattle.jpg_texts.proofs.texts.read_text.Goals as goal
 
 pub loop-byte-init : goal.loop-byte-init
 loop-byte-init g c = let k = g.S.TextBytes.kind in (refl, omega arith, run_nil (reader_step k.reader.step) (plain k.reader.start) ∙ ap (λ s. Some (plain s)) (sym c.requires.start))
