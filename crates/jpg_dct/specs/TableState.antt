@@ -3,7 +3,9 @@ use Rattle.std.specs.Prelude.{ℕ, ◌+◌, ◌-◌, ◌*◌, ◌<◌, ◌≤◌
 use Rattle.jpg_spec.specs.NumberTexts.{is_digit, is_space}
 use Rattle.jpg_spec.specs.Segments.{QuantTable}
 use Rattle.jpg_spec.specs.TextReaders.{TextReader}
-use Rattle.jpg_spec_image.specs.TableText.{is_count, tables_of}
+use Rattle.jpg_spec_image.specs.TableText.{is_count, tables_form, tables_of}
+use Rattle.arrayvec.specs.ArrayVec.{ArrayVec}
+use Rattle.jpg_texts.specs.TextKinds.{TextKind}
 
 -- NUMBERS: the complete ones, and of the current one how many digits were read and their value
 
@@ -38,3 +40,6 @@ HasRoom numbers digits = 1 ≤ digits → length numbers < 256
 
 abbrev pub table_reader : TextReader (List QuantTable) NumbersState
 table_reader = record { start = no_numbers; step = number_step; told = parsed_tables }
+
+abbrev pub tables_kind : TextKind NumbersState (ArrayVec QuantTable)
+tables_kind = record { A = List QuantTable; form = tables_form; reader = table_reader; value = λ tables. tables.items }

@@ -1,46 +1,37 @@
 //! The text of tables, byte by byte (the manual of cjpeg, -qtables).
-ghost use Rattle.std.specs.Prelude.{◌≡◌, ◌<◌, ◌≤◌, length, option_map};
+ghost use Rattle.std.specs.Prelude.{◌≡◌, ◌<◌, ◌≤◌, length};
 ghost use Rattle.jpg_spec_image.specs.Quality.{in_zigzag};
-ghost use Rattle.jpg_spec.specs.NumberTexts.{is_digit, in_comment, is_space};
-ghost use Rattle.jpg_spec.specs.TextReaders.{IsRead, plain, reader_step, taken};
-ghost use Rattle.jpg_spec_image.specs.TableText.{TellsTables, is_count, tables_form, tables_of};
-ghost use Rattle.jpg_spec.specs.declared.fault.Fault.TheVariants.{TableText};
+ghost use Rattle.jpg_spec.specs.TextReaders.{taken};
+ghost use Rattle.jpg_spec_image.specs.TableText.{TellsTables, is_count, tables_of};
 ghost use Rattle.jpg_dct.specs.ReadTables.{tables_or_fault};
-ghost use Rattle.jpg_dct.specs.TableState.{digit_step, ended, no_numbers, number_step, table_reader, parsed_tables};
+ghost use Rattle.jpg_dct.specs.TableState.{digit_step, ended, no_numbers, tables_kind};
 
 use crate::forward::blocks::ZIGZAG;
 use arrayvec::ArrayVec;
 use jpg_base::{Fault, FaultAt, QuantTable};
+use jpg_texts::{TextBytes, is_digit, is_space, read_text};
 use std::marker::Model;
 
-// The state after the bytes of a text so far.
+// The numbers of a text so far.
 #[derive(Drop)]
-pub struct TableReader {
+pub struct TableNumbers {
     // The complete numbers.
     numbers: ArrayVec<u16, 256>,
     // How many digits of the next one were read.
     digits: u8,
     // The number that these digits are.
     value: u16,
-    // The last byte was in a comment.
-    in_comment: bool,
 }
 
-impl Model for TableReader {
-    ghost use Rattle.jpg_spec.specs.declared.fault.Fault.TheVariants.{TableText};
-    ghost use Rattle.jpg_spec.specs.TextReaders.{ReaderState};
-    ghost use Rattle.jpg_dct.specs.ReadTables.{tables_or_fault};
+impl Model for TableNumbers {
     ghost use Rattle.jpg_dct.specs.TableState.{NumbersState, HasRoom};
 
-    ghost Value = { ReaderState NumbersState };
+    ghost Value = { NumbersState };
 
-    ghost view = { λ r. record { behind = r.in_comment; text = record { numbers = r.numbers.items; digits = r.digits; value = r.value } } };
+    ghost view = { λ r. record { numbers = r.numbers.items; digits = r.digits; value = r.value } };
 
     ghost invariant = { λ r. HasRoom r.numbers.items r.digits };
 }
-
-// The greatest length of a text in bytes.
-const LONGEST: u64 = 65536;
 
 /// The tables that a text encodes, in the form of table files (the manual of cjpeg): 64, 128, 192 or 256 numbers of one
 /// to five digits and at most 65535, with space between; each 64 are a table, row by row. Otherwise TableText at the
@@ -49,83 +40,23 @@ const LONGEST: u64 = 65536;
 pub fn read_tables(text: &[u8]) -> Result<ArrayVec<QuantTable, 4>, FaultAt>
     ensures { TellsTables text.now (tables_or_fault result) }
 {
-    match read(text) {
-        Err(fault) => Err(fault),
-        Ok(reader) => match reader.end() {
-            None => Err(wrong_at(text.len() as u64)),
-            Some(tables) => Ok(tables),
-        },
-    }
+    read_text(text, TableNumbers::new(), Fault::TableText)
 }
 
-// All bytes of a text, or the first that may not occur there.
-fn read(text: &[u8]) -> Result<TableReader, FaultAt>
-    ensures { IsRead tables_form table_reader text.now result }
-{
-    let mut reader = TableReader::new();
-    let mut before = 0;
-    for byte in text {
-        if before == LONGEST {
-            return Err(wrong_at(before + 1));
-        }
-        if !reader.byte(*byte) {
-            return Err(wrong_at(before + 1));
-        }
-        before += 1;
-    }
-    Ok(reader)
-}
-
-// A text of tables is wrong at this place.
-fn wrong_at(at: u64) -> FaultAt
-    ensures { result ≡ record { fault = TableText; at = at } }
-{
-    FaultAt {
-        fault: Fault::TableText,
-        at,
-    }
-}
-
-impl TableReader {
-    fn new() -> TableReader
-        ensures { result ≡ plain no_numbers }
+impl TableNumbers {
+    fn new() -> TableNumbers
+        ensures { result ≡ no_numbers }
     {
-        TableReader {
+        TableNumbers {
             numbers: ArrayVec::new(),
             digits: 0,
             value: 0,
-            in_comment: false,
         }
-    }
-
-    // Takes a byte. Returns whether it may occur there.
-    fn byte(&mut self, byte: u8) -> bool
-        ensures { taken result self.new ≡ reader_step number_step self.old byte }
-    {
-        self.in_comment = in_comment(self.in_comment, byte);
-        if self.in_comment {
-            self.plain_byte(b' ')
-        } else {
-            self.plain_byte(byte)
-        }
-    }
-
-    // A byte outside a comment, or a space in place of one inside.
-    fn plain_byte(&mut self, byte: u8) -> bool
-        ensures text { taken result self.new.text ≡ number_step self.old.text byte }
-        ensures behind { self.new.behind ≡ self.old.behind }
-    {
-        if is_digit(byte) {
-            return self.digit(byte - b'0');
-        }
-        self.end_number();
-        is_space(byte)
     }
 
     fn digit(&mut self, digit: u8) -> bool
         requires { digit < 10 }
-        ensures text { taken result self.new.text ≡ digit_step self.old.text digit }
-        ensures behind { self.new.behind ≡ self.old.behind }
+        ensures { taken result self.new ≡ digit_step self.old digit }
     {
         let next = 10 * u32::from(self.value) + u32::from(digit);
         if self.numbers.len() >= 256 || self.digits >= 5 || next > 65535 {
@@ -138,8 +69,7 @@ impl TableReader {
 
     // Completes the current number, if any.
     fn end_number(&mut self)
-        ensures text { self.new.text ≡ ended self.old.text }
-        ensures behind { self.new.behind ≡ self.old.behind }
+        ensures { self.new ≡ ended self.old }
     {
         if self.digits > 0 {
             self.numbers.push(self.value);
@@ -147,36 +77,26 @@ impl TableReader {
             self.value = 0;
         }
     }
+}
 
-    // The tables, if the text ends here.
-    fn end(mut self) -> Option<ArrayVec<QuantTable, 4>>
-        ensures { option_map (λ v. v.items) result ≡ parsed_tables self.text }
-    {
+impl TextBytes<ArrayVec<QuantTable, 4>> for TableNumbers {
+    ghost kind = { tables_kind };
+
+    fn byte(&mut self, byte: u8) -> bool {
+        if is_digit(byte) {
+            return self.digit(byte - b'0');
+        }
+        self.end_number();
+        is_space(byte)
+    }
+
+    fn end(mut self) -> Option<ArrayVec<QuantTable, 4>> {
         self.end_number();
         if !is_count(self.numbers.len()) {
             return None;
         }
         Some(tables_of(self.numbers.as_slice()))
     }
-}
-
-fn is_digit(byte: u8) -> bool
-    ensures { result ≡ is_digit byte }
-{
-    b'0' <= byte && byte <= b'9'
-}
-
-fn is_space(byte: u8) -> bool
-    ensures { result ≡ is_space byte }
-{
-    byte == b' ' || (byte == b'\t' || (byte == b'\n' || (byte == b'\x0c' || byte == b'\r')))
-}
-
-// Whether a byte is in a comment, which begins with # and goes on up to LF.
-fn in_comment(behind: bool, byte: u8) -> bool
-    ensures { result ≡ in_comment behind byte }
-{
-    if behind { byte != b'\n' } else { byte == b'#' }
 }
 
 // Whether this many numbers are one to four tables.

@@ -5,7 +5,8 @@ use Rattle.jpg_spec.specs.Lists.{is_empty}
 use Rattle.jpg_spec.specs.NumberTexts.{is_digit, is_space}
 use Rattle.jpg_spec_write.specs.Script.{Entry}
 use Rattle.jpg_spec.specs.TextReaders.{TextReader}
-use Rattle.jpg_spec_write.specs.ScriptGrammar.{is_joint, banded}
+use Rattle.jpg_spec_write.specs.ScriptGrammar.{is_joint, banded, script_form}
+use Rattle.jpg_texts.specs.TextKinds.{TextKind}
 use Rattle.jpg_scans.specs.declared.standing.Standing.{Standing}
 use Rattle.jpg_scans.specs.declared.standing.Standing.TheVariants.{Before, InNumber, Behind, Joined}
 
@@ -136,3 +137,6 @@ new_text = record { entries = []; entry = new_entry }
 
 abbrev pub script_reader : TextReader (List Entry) TextState
 script_reader = record { start = new_text; step = text_step; told = script_view }
+
+abbrev pub script_kind : TextKind TextState (List Entry)
+script_kind = record { A = List Entry; form = script_form; reader = script_reader; value = λ entries. entries }

@@ -1,6 +1,5 @@
 //! The numbers of a script's text, byte by byte (the manual's wizard.txt).
 ghost use Rattle.std.specs.Prelude.{◌≡◌, ◌<◌, ◌≤◌, length, true, false};
-ghost use Rattle.jpg_spec.specs.NumberTexts.{is_digit, is_space};
 ghost use Rattle.jpg_spec_write.specs.ScriptGrammar.{is_joint};
 ghost use Rattle.jpg_spec.specs.TextReaders.{taken};
 ghost use Rattle.jpg_scans.specs.TextState.{digit_by, ended, first_digit, further_digit, joint_by, no_numbers, number_step, is_before, is_after};
@@ -8,6 +7,7 @@ ghost use Rattle.jpg_scans.specs.declared.standing.Standing.TheVariants.{InNumbe
 
 use crate::standing::Standing;
 use arrayvec::ArrayVec;
+use jpg_texts::{is_digit, is_space};
 use std::marker::Model;
 
 // Up to four complete numbers, and the position among them.
@@ -143,18 +143,6 @@ impl Numbers {
             _ => false,
         }
     }
-}
-
-pub fn is_digit(byte: u8) -> bool
-    ensures { result ≡ is_digit byte }
-{
-    b'0' <= byte && byte <= b'9'
-}
-
-fn is_space(byte: u8) -> bool
-    ensures { result ≡ is_space byte }
-{
-    byte == b' ' || (byte == b'\t' || (byte == b'\n' || (byte == b'\x0c' || byte == b'\r')))
 }
 
 fn is_joint(byte: u8) -> bool

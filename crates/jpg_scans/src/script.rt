@@ -8,16 +8,17 @@ ghost use Rattle.jpg_spec_write.specs.ScriptFaults.{script_fault, standard_scrip
 use crate::Entry;
 use crate::check::fault_of;
 use crate::own::{Band, push_all, push_each, push_one};
-use crate::text_reader::{read, wrong_at};
+use crate::text_reader::ScriptText;
 use arrayvec::ArrayVec;
-use jpg_base::{Colour, FaultAt, Frame};
+use jpg_base::{Colour, Fault, FaultAt, Frame};
 use jpg_spec_write::PictureFault;
+use jpg_texts::read_text;
 use std::marker::Model;
 
 /// The scans that a file is written in: 1 to 100 entries.
 #[derive(Drop)]
 pub struct Script {
-    entries: ArrayVec<Entry, 100>,
+    pub(crate) entries: ArrayVec<Entry, 100>,
 }
 
 impl Model for Script {
@@ -39,13 +40,7 @@ impl Script {
     pub fn parse(text: &[u8]) -> Result<Script, FaultAt>
         ensures { TellsScript text.now result }
     {
-        match read(text) {
-            Err(fault) => Err(fault),
-            Ok(reader) => match reader.end() {
-                None => Err(wrong_at(text.len() as u64)),
-                Some(entries) => Ok(Script { entries }),
-            },
-        }
+        read_text(text, ScriptText::new(), Fault::ScriptText)
     }
 
     /// One scan of all components, or one of each if there are several and an MCU of all would have more than ten

@@ -1,7 +1,6 @@
 //! The numbers of a PNM text that are known so far, and what is wrong with a further one.
 ghost use Rattle.std.specs.Prelude.{◌≡◌, ◌≤◌, ◌-◌, ◌++◌, ◌∷◌, ◌||◌, [], ℕ, List, length, codes, if◌then◌else◌};
 ghost use Rattle.jpg_spec.specs.Lists.{is_among};
-ghost use Rattle.jpg_spec.specs.NumberTexts.{is_digit};
 ghost use Rattle.jpg_spec_image.specs.Images.{is_side, sample_count, are_few_pixels};
 ghost use Rattle.jpg_spec_image.specs.PnmText.{is_plain, is_read, is_left_out, is_pnm_space, begins_gap, pnm_info, is_number_due, number_fault};
 ghost use Rattle.jpg_pnm_bmp.specs.Known.{list_of};
@@ -53,12 +52,6 @@ pub(crate) fn begins_gap(byte: u8) -> bool
     ensures { result ≡ begins_gap byte }
 {
     is_space(byte) || byte == b'#'
-}
-
-pub(crate) fn is_digit(byte: u8) -> bool
-    ensures { result ≡ is_digit byte }
-{
-    b'0' <= byte && byte <= b'9'
 }
 
 fn is_side(n: u32) -> bool

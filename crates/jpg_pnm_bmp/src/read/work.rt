@@ -13,13 +13,14 @@ ghost use Rattle.jpg_pnm_bmp.specs.PlainSamples.{unscaled_view};
 use crate::read::bmp::{bmp_offset, bmp_shape, head_fault, palette_bytes};
 use crate::read::body::{Shape, part_long, pnm_shape, wrong_in};
 use crate::read::numbers::{
-    Numbers, begins_gap, is_digit, is_due_after, is_left_out, is_plain, is_read, may_follow,
-    number_fault, unscaled_info,
+    Numbers, begins_gap, is_due_after, is_left_out, is_plain, is_read, may_follow, number_fault,
+    unscaled_info,
 };
 use crate::read::piece::{Answer, Moved, one_byte};
 use jpg_base::{Bytes, NoMemory};
 use jpg_spec::Fault;
 use jpg_spec_image::ImageInfo;
+use jpg_texts::is_digit;
 use std::alloc::Global;
 
 // The state after the bytes so far: see ImageState of the definitions.

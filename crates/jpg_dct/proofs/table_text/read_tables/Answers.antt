@@ -1,11 +1,20 @@
-use Rattle.std.proofs.Common.{sym}
-use Rattle.jpg_spec.proofs.Texts.TextsRead.{ends_early, refused_at_end, told_spells}
+use Rattle.std.proofs.Common.{List, ℕ, Result, Ok, Err}
+use Rattle.arrayvec.specs.ArrayVec.{ArrayVec}
+use Rattle.jpg_spec.specs.Segments.{QuantTable}
+use Rattle.jpg_spec.specs.declared.fault.FaultAt.{FaultAt}
+use Rattle.jpg_spec_image.specs.TableText.{TellsTables}
+use Rattle.jpg_texts.specs.TextKinds.{TellsText}
+use Rattle.jpg_dct.specs.ReadTables.{tables_or_fault}
+use Rattle.jpg_dct.specs.TableState.{tables_kind}
 use Rattle.jpg_dct.proofs.TableRest.{reads_tables}
 use Rattle.jpg_dct.proofs.table_text.read_tables.Goals as goal
 
-pub returns-in-None : goal.returns-in-None
-returns-in-None c =
-    refused_at_end reads_tables c.args.text.now _ c.wrong_at.result c.wrong_at.ensures (ends_early reads_tables c.args.text.now c.in-Ok.reader c.in-Ok.ensures.0 c.in-Ok.ensures.1 (sym c.in-None.ensures))
+told : (text : List ℕ) (answer : Result (ArrayVec QuantTable) FaultAt) → TellsText tables_kind text answer → TellsTables text (tables_or_fault answer)
+told text (Ok tables) h = h
+told text (Err e) h = h
 
-pub returns-in-Some : goal.returns-in-Some
-returns-in-Some c = (c.in-Ok.ensures.0, told_spells reads_tables c.args.text.now c.in-Ok.reader c.in-Some.tables.items c.in-Ok.ensures.1 (sym c.in-Some.ensures))
+pub read_text-requires-clause-reads : goal.read_text-requires-clause-reads
+read_text-requires-clause-reads c = reads_tables
+
+pub returns : goal.returns
+returns c = told c.args.text.now c.read_text.result c.read_text.ensures

@@ -1,11 +1,18 @@
-use Rattle.std.proofs.Common.{sym}
-use Rattle.jpg_spec.proofs.Texts.TextsRead.{ends_early, refused_at_end, told_spells}
+use Rattle.std.proofs.Common.{List, ℕ, Result, Ok, Err}
+use Rattle.jpg_spec.specs.declared.fault.FaultAt.{FaultAt}
+use Rattle.jpg_spec_write.specs.Script.{Entry}
+use Rattle.jpg_spec_write.specs.ScriptGrammar.{TellsScript}
+use Rattle.jpg_texts.specs.TextKinds.{TellsText}
+use Rattle.jpg_scans.specs.TextState.{script_kind}
 use Rattle.jpg_scans.proofs.ScriptRest.{reads_scripts}
 use Rattle.jpg_scans.proofs.script.Script.parse.Goals as goal
 
-pub returns-in-None : goal.returns-in-None
-returns-in-None c =
-    refused_at_end reads_scripts c.args.text.now _ c.wrong_at.result c.wrong_at.ensures (ends_early reads_scripts c.args.text.now c.in-Ok.reader c.in-Ok.ensures.0 c.in-Ok.ensures.1 (sym c.in-None.ensures))
+told : (text : List ℕ) (answer : Result (List Entry) FaultAt) → TellsText script_kind text answer → TellsScript text answer
+told text (Ok entries) h = h
+told text (Err e) h = h
 
-pub returns-in-Some : goal.returns-in-Some
-returns-in-Some c = (c.in-Ok.ensures.0, told_spells reads_scripts c.args.text.now c.in-Ok.reader c.in-Some.entries.items c.in-Ok.ensures.1 (sym c.in-Some.ensures))
+pub read_text-requires-clause-reads : goal.read_text-requires-clause-reads
+read_text-requires-clause-reads c = reads_scripts
+
+pub returns : goal.returns
+returns c = told c.args.text.now c.read_text.result c.read_text.ensures
