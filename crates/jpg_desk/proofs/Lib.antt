@@ -19,7 +19,13 @@ pub mod PictureTaken
 pub mod PiecesRead
 pub mod Pumped
 pub mod RefusedOnce
+pub mod RowsData
+pub mod RowsEnd
+pub mod RowsFrom
+pub mod RowsFront
 pub mod RowsKept
+pub mod RowsPicture
+pub mod RowsRead
 pub mod RowsTo
 pub mod ScriptTaken
 pub mod SoleWritten

@@ -7,6 +7,7 @@ pub mod ImageFile
 pub mod ImageSource
 pub mod ImageTaken
 pub mod Judging
+pub mod MovedRead
 pub mod MovedRows
 pub mod Pump
 pub mod ReadFront
@@ -14,6 +15,7 @@ pub mod ReadImage
 pub mod ReadPicture
 pub mod Reading
 pub mod RowsKept
+pub mod RowsRead
 pub mod RowsTo
 pub mod ScriptTaken
 pub mod Stays

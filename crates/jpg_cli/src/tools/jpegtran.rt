@@ -1,5 +1,5 @@
 //! A picture read, transformed and written (the manual of jpegtran).
-ghost use Rattle.std.specs.Prelude.{◌≡◌, true, false, IfSome};
+ghost use Rattle.std.specs.Prelude.{◌≡◌, true, false, IfSome, None};
 ghost use Rattle.jpg_transform.specs.Planned.{choice_view, scans_view};
 ghost use Rattle.jpg_spec_move.specs.Cropped.{IsArea};
 ghost use Rattle.jpg_desk.specs.Writing.{as_early, in_area, why_wrote};
@@ -11,12 +11,13 @@ ghost use Rattle.jpg_spec_upright.specs.Upright.{marked, upright_choice};
 ghost use Rattle.jpg_spec_words.specs.TransformWords.{choice_asked};
 
 use jpg_base::Desk;
-use jpg_desk::{Wrote, done_as, read_picture, take_scans, write_moved};
+use jpg_desk::{Wrote, done_as, read_moved, read_picture, take_scans, write_input, write_moved};
 use jpg_exif::mark_upright;
 use jpg_file::{Orders, Picture};
 use jpg_spec::Copying;
 use jpg_spec_move::{Area, Transform};
 use jpg_spec_words::{Which, Why};
+use jpg_spec_write::Huffman;
 use jpg_transform::{Choice, Scans};
 use jpg_words::{Files, TransformWords};
 use std::alloc::Global;
@@ -71,6 +72,9 @@ fn turn<D: Desk>(
     ensures kept { OnlyWorks (D.state desk.old) (D.state desk.new) }
     ensures turned { Turned (turning_view files.now choice.now false area.now) (D.state desk.old) result (D.state desk.new) }
 {
+    if area.is_none() && goes_by_rows(choice) {
+        return turn_rows(alloc, files, choice, desk);
+    }
     let orders = choice.orders();
     match read_picture(alloc, &files.input, choice.copying, orders, desk) {
         Err(why) => why,
@@ -78,6 +82,24 @@ fn turn<D: Desk>(
             write_moved(&picture, choice, &files.output, area, desk),
             early,
         ),
+    }
+}
+
+// Whether rows stay rows, and a picture may be written in one scan with typical tables: then it isn't read into memory.
+fn goes_by_rows(choice: &Choice) -> bool {
+    choice.keeps_rows()
+        && matches!(choice.scans, Scans::Sequential)
+        && choice.huffman == Huffman::Plain
+}
+
+// The same, of a choice by which rows stay rows: each MCU row is transformed as it is read, where that can be done.
+fn turn_rows<D: Desk>(alloc: Global, files: &Files, choice: &Choice, desk: &mut D) -> Why
+    ensures kept { OnlyWorks (D.state desk.old) (D.state desk.new) }
+    ensures turned { Turned (turning_view files.now choice.now false None) (D.state desk.old) result (D.state desk.new) }
+{
+    match read_moved(alloc, &files.input, choice, desk) {
+        Err(why) => why,
+        Ok((input, early)) => ended(write_input(&input, choice, &files.output, desk), early),
     }
 }
 
