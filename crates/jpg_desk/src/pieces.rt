@@ -39,7 +39,9 @@ pub fn pump<D: Desk, S: PieceSink<D>>(desk: &mut D, sink: &mut S) -> Result<Opti
     pump_on(desk, 0, sink)
 }
 
-/// The same of an input after this many bytes, which were fed before.
+/// The same of an input after this many bytes, which were fed before. It remains a call, so that its buffer takes no stack
+/// once the input is read.
+#[inline(never)]
 pub fn pump_on<D: Desk, S: PieceSink<D>>(
     desk: &mut D,
     taken: u64,
