@@ -12,7 +12,7 @@ mod sets;
 pub mod sole;
 mod tables;
 
-use crate::write::scan::{Given, write_scan};
+use crate::write::scan::{Given, PlannedScan, write_scan};
 use jpg_base::codes::EOI;
 use jpg_base::{Desk, WriteFault};
 use jpg_coefs::BlockView;
@@ -72,7 +72,11 @@ fn write_scans<V: BlockView, D: Desk>(
     let mut given = Given::new();
     for i in 0..plan.script.len() {
         let entry = plan.script.entry(i);
-        write_scan(plan, &entry, &mut given, view, out, desk)?;
+        let planned = PlannedScan {
+            plan,
+            entry: &entry,
+        };
+        write_scan(planned, &mut given, view, out, desk)?;
     }
     Ok(())
 }

@@ -21,7 +21,9 @@ use Rattle.jpg_file.specs.Write.Restarts.{interval_text}
 use Rattle.jpg_scans.specs.Restarts.{restart_of}
 use Rattle.jpg_file.specs.Write.WriteTables.{GivesTables, IsTablePlace, given_by}
 use Rattle.jpg_file.specs.declared.write.Plan.{Plan}
+use Rattle.jpg_file.specs.declared.write.scan.DueScan.{DueScan}
 use Rattle.jpg_file.specs.declared.write.scan.Given.{Given}
+use Rattle.jpg_file.specs.declared.write.scan.PlannedScan.{PlannedScan}
 use Rattle.jpg_file.specs.declared.write.scan.ScanDue.{ScanDue}
 
 -- THE HEADER of a scan. A slot that isn't needed is 0.
@@ -86,6 +88,13 @@ scan_bytes plan f blocks w e =
 abbrev pub written_after : Plan → Frame → Blocks → Written → Entry → Written
 written_after plan f blocks w e = record { tables = tables_given w.tables (tables_for plan f blocks e) (needed_for plan e); interval = interval_for plan e }
 
+-- the same of a scan that is planned
+abbrev pub planned_bytes : PlannedScan → Frame → Blocks → Written → List ℕ
+planned_bytes planned f blocks w = scan_bytes planned.plan.now f blocks w planned.entry.now
+
+abbrev pub planned_written : PlannedScan → Frame → Blocks → Written → Written
+planned_written planned f blocks w = written_after planned.plan.now f blocks w planned.entry.now
+
 -- of all scans of a script
 abbrev pub scans_bytes : Plan → Frame → Blocks → Written → List Entry → List ℕ
 scans_bytes plan f blocks w [] = []
@@ -103,6 +112,10 @@ pub record CanWriteScan (plan : Plan) (f : Frame) (blocks : Blocks) (e : Entry) 
   pub distinct : is_distinct e.components ≡ true
   pub parameters : is_progressive f.process ≡ true → are_parameters f (length e.components) (head_for plan e) ≡ true
   pub writable : HasBlocksIn f blocks
+
+-- of a scan that is planned
+abbrev pub CanWritePlanned : PlannedScan → Frame → Blocks → Type 0
+CanWritePlanned planned f blocks = CanWriteScan planned.plan.now f blocks planned.entry.now
 
 abbrev pub CanWriteScans : Plan → Frame → Blocks → Type 0
 CanWriteScans plan f blocks = All (CanWriteScan plan f blocks) plan.script
@@ -147,8 +160,8 @@ due_data f blocks due set = written_data f due.head set due.interval blocks
 abbrev pub due_text : Frame → Frame → Blocks → Written → ScanDue → TableSet → List ℕ
 due_text file f blocks w due set = start_text file w due set ++ due_data f blocks due set
 
-abbrev pub due_after : Frame → Frame → Blocks → Given → ScanDue → TableSet → List ℕ
-due_after file f blocks given due set = due_text file f blocks (so_far given) due set
+abbrev pub due_after : DueScan → Frame → Blocks → Written → List ℕ
+due_after scan f blocks w = due_text scan.frame.now f blocks w scan.due.now scan.tables.now
 
 abbrev pub due_written : Written → ScanDue → TableSet → Written
 due_written w due set = record { tables = tables_given w.tables (tables_in set) due.needed.items; interval = due.interval }

@@ -40,7 +40,11 @@ pub fn begin_data(
     let all = frame.scan_units(head);
     let units = u64::from(interval) * u64::from(frame.mcu_units(head));
     let first = first_units(units, all);
-    put_bare(place, frame, head, tables, units, all - first);
+    let intervals = Intervals {
+        each: units,
+        due: all - first,
+    };
+    put_bare(place, frame, head, tables, intervals);
     let Some(scan) = place else {
         unreachable!();
     };
@@ -48,18 +52,25 @@ pub fn begin_data(
     scan.work.machine.restart(first);
 }
 
+// The intervals of a scan: how many units each has (0: all units of the scan), and how many units come after the first one.
+#[derive(Clone, Copy)]
+struct Intervals {
+    each: u64,
+    due: u64,
+}
+
 // Puts the scan of this machine into the place.
 #[inline(always)]
-fn put_scan(place: &mut Option<InScan>, machine: ScanReader, interval: u64, due: u64)
-    ensures { place.new ≡ Some (before_data machine interval due) }
+fn put_scan(place: &mut Option<InScan>, machine: ScanReader, intervals: Intervals)
+    ensures { place.new ≡ Some (before_data machine intervals.each intervals.due) }
 {
     *place = Some(InScan {
         gate: Gate::new(),
         work: ScanWork {
             machine,
             whole: false,
-            interval,
-            due,
+            interval: intervals.each,
+            due: intervals.due,
             turn: 0,
         },
     });
@@ -69,12 +80,12 @@ fn put_scan(place: &mut Option<InScan>, machine: ScanReader, interval: u64, due:
 // that no scan needs the stack of another kind.
 #[cold]
 #[inline(never)]
-fn put_first(place: &mut Option<InScan>, frame: &Frame, head: &ScanHead, interval: u64, due: u64)
+fn put_first(place: &mut Option<InScan>, frame: &Frame, head: &ScanHead, intervals: Intervals)
     requires { IsDcHead frame.now head.now }
-    ensures { (m : First) × (place.new ≡ Some (before_data (FirstPass m) interval due)) × IsBareFirst frame.now head.now m }
+    ensures { (m : First) × (place.new ≡ Some (before_data (FirstPass m) intervals.each intervals.due)) × IsBareFirst frame.now head.now m }
 {
     let machine = DcFirst::bare(frame, head);
-    put_scan(place, ScanReader::DcFirst(machine), interval, due);
+    put_scan(place, ScanReader::DcFirst(machine), intervals);
 }
 
 // Puts the scan of a band of AC into the place.
@@ -85,16 +96,15 @@ fn put_band(
     frame: &Frame,
     head: &ScanHead,
     tables: &TableSet,
-    interval: u64,
-    due: u64,
+    intervals: Intervals,
 )
     requires header { IsScanHeader frame.now head.now tables.now }
     requires kind { is_progressive frame.now.process ≡ true }
     requires band { 0 < head.now.ss }
-    ensures { IsBareIn frame.now head.now tables.now interval due place.new }
+    ensures { IsBareIn frame.now head.now tables.now intervals.each intervals.due place.new }
 {
     let machine = AcReader::new(frame, head, tables);
-    put_scan(place, ScanReader::Ac(machine), interval, due);
+    put_scan(place, ScanReader::Ac(machine), intervals);
 }
 
 // Puts the scan without its tables into the place, by the kind of the scan.
@@ -105,22 +115,21 @@ fn put_bare(
     frame: &Frame,
     head: &ScanHead,
     tables: &TableSet,
-    interval: u64,
-    due: u64,
+    intervals: Intervals,
 )
     requires { IsScanHeader frame.now head.now tables.now }
-    ensures { IsBareIn frame.now head.now tables.now interval due place.new }
+    ensures { IsBareIn frame.now head.now tables.now intervals.each intervals.due place.new }
 {
     if !frame.is_progressive() {
         let machine = SeqReader::bare(frame, head);
-        put_scan(place, ScanReader::Sequential(machine), interval, due);
+        put_scan(place, ScanReader::Sequential(machine), intervals);
     } else if head.ss > 0 {
-        put_band(place, frame, head, tables, interval, due);
+        put_band(place, frame, head, tables, intervals);
     } else if head.ah > 0 {
         let machine = DcRefine::new(frame, head);
-        put_scan(place, ScanReader::DcRefine(machine), interval, due);
+        put_scan(place, ScanReader::DcRefine(machine), intervals);
     } else {
-        put_first(place, frame, head, interval, due);
+        put_first(place, frame, head, intervals);
     }
 }
 

@@ -11,6 +11,7 @@ use crate::write::tables::TablePlace;
 use arrayvec::ArrayVec;
 use jpg_base::codes::{DRI, SOS};
 use jpg_base::{Desk, Frame, ScanHead, WriteFault};
+use jpg_coefs::WrittenScan;
 use jpg_huff::BitOut;
 use jpg_markers::write_segment;
 use jpg_scans::Entry;
@@ -143,18 +144,17 @@ fn write_interval<D: Desk>(
 /// Writes a DRI segment, if the interval isn't the one before, and the header of a scan.
 pub fn write_head<D: Desk>(
     frame: &Frame,
-    head: &ScanHead,
+    scan: WrittenScan<'_>,
     last: u16,
-    now: u16,
     out: &mut BitOut,
     desk: &mut D,
 ) -> Result<(), WriteFault>
     requires can { CanSend (D.state desk.old) out.old }
-    requires head { IsHeadOf frame.now head.now }
-    ensures { Sends (D.state desk.old) out.old (head_due (identifiers frame.now.components) head.now last now) result out.new (D.state desk.new) }
+    requires head { IsHeadOf frame.now scan.head.now }
+    ensures { Sends (D.state desk.old) out.old (head_due (identifiers frame.now.components) scan.head.now last scan.interval) result out.new (D.state desk.new) }
 {
-    write_interval(last, now, out, desk)?;
-    write_segment(SOS, contents_of(frame, head).as_slice(), out, desk)
+    write_interval(last, scan.interval, out, desk)?;
+    write_segment(SOS, contents_of(frame, scan.head).as_slice(), out, desk)
 }
 
 // The contents of a scan header: the number of components, two bytes for each of them, and three for band and bits.

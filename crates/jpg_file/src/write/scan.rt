@@ -5,7 +5,7 @@ ghost use Rattle.jpg_spec.specs.Scan.{Blocks};
 ghost use Rattle.jpg_spec_write.specs.FileText.{nothing_written};
 ghost use Rattle.jpg_huff.specs.BitOut.{CanSend, Sends};
 ghost use Rattle.jpg_file.specs.Write.WriteTables.{HasFour};
-ghost use Rattle.jpg_file.specs.Write.WriteScan.{CanStart, CanWriteDue, CanWriteScan, IsDue, due_after, due_data, due_written, scan_bytes, so_far, start_text, written_after};
+ghost use Rattle.jpg_file.specs.Write.WriteScan.{CanStart, CanWriteDue, CanWritePlanned, IsDue, due_after, due_data, due_written, planned_bytes, planned_written, so_far, start_text};
 
 use crate::write::Plan;
 use crate::write::head::{Needed, head_of, needed_of, write_head};
@@ -13,7 +13,7 @@ use crate::write::restart::interval_of;
 use crate::write::sets::put_tables;
 use crate::write::tables::write_due;
 use jpg_base::{Desk, Frame, ScanHead, WriteFault};
-use jpg_coefs::BlockView;
+use jpg_coefs::{BlockView, WrittenScan};
 use jpg_huff::{BitOut, TableSet};
 use jpg_prog_write::write_scan as write_prog_scan;
 use jpg_scans::Entry;
@@ -47,11 +47,25 @@ pub struct ScanDue {
     pub needed: Needed,
 }
 
+/// A scan that is planned: an entry of a plan's script.
+#[derive(Clone, Copy)]
+pub struct PlannedScan<'a> {
+    pub plan: &'a Plan,
+    pub entry: &'a Entry,
+}
+
+/// A scan that is due in a file with this frame, and the tables that it is written with.
+#[derive(Clone, Copy)]
+pub struct DueScan<'a> {
+    pub frame: &'a Frame,
+    pub due: &'a ScanDue,
+    pub tables: &'a TableSet,
+}
+
 /// Writes a scan of a picture: a DHT segment for each table that it needs and that isn't the last one of its class and
 /// slot, a DRI segment if its restart interval isn't the one before, its header, and its data.
 pub fn write_scan<V: BlockView, D: Desk>(
-    plan: &Plan,
-    entry: &Entry,
+    planned: PlannedScan<'_>,
     given: &mut Given,
     view: &V,
     out: &mut BitOut,
@@ -59,29 +73,33 @@ pub fn write_scan<V: BlockView, D: Desk>(
 ) -> Result<(), WriteFault>
     requires can { CanSend (D.state desk.old) out.old }
     requires four { HasFour given.old.tables }
-    requires scan { CanWriteScan plan.now (V.numbers view.now) (V.blocks view.now) entry.now }
+    requires scan { CanWritePlanned planned (V.numbers view.now) (V.blocks view.now) }
     ensures four { HasFour given.new.tables }
-    ensures sends { Sends (D.state desk.old) out.old (scan_bytes plan.now (V.numbers view.now) (V.blocks view.now) (so_far given.old) entry.now) result out.new (D.state desk.new) }
-    ensures given { (u : Unit {0}) → result ≡ Ok u → so_far given.new ≡ written_after plan.now (V.numbers view.now) (V.blocks view.now) (so_far given.old) entry.now }
+    ensures sends { Sends (D.state desk.old) out.old (planned_bytes planned (V.numbers view.now) (V.blocks view.now) (so_far given.old)) result out.new (D.state desk.new) }
+    ensures given { (u : Unit {0}) → result ≡ Ok u → so_far given.new ≡ planned_written planned (V.numbers view.now) (V.blocks view.now) (so_far given.old) }
 {
-    let due = due_of(plan, entry);
+    let due = due_of(planned);
+    let plan = planned.plan;
+    let scan = WrittenScan {
+        head: &due.head,
+        interval: due.interval,
+    };
     let mut tables = TableSet::new();
-    put_tables(
-        plan.huffman,
-        &plan.out.frame,
-        view,
-        &due.head,
-        due.interval,
-        &mut tables,
-    );
-    write_parts(&plan.out.frame, &due, &tables, given, view, out, desk)
+    put_tables(plan.huffman, &plan.out.frame, view, scan, &mut tables);
+    let due_scan = DueScan {
+        frame: &plan.out.frame,
+        due: &due,
+        tables: &tables,
+    };
+    write_parts(due_scan, given, view, out, desk)
 }
 
-/// What the scan of an entry is written with beside its tables.
-pub fn due_of(plan: &Plan, entry: &Entry) -> ScanDue
-    requires { (f : FrameOf) × (blocks : Blocks) × CanWriteScan plan.now f blocks entry.now }
-    ensures { IsDue plan.now entry.now result }
+/// What a scan that is planned is written with beside its tables.
+pub fn due_of(planned: PlannedScan<'_>) -> ScanDue
+    requires { (f : FrameOf) × (blocks : Blocks) × CanWritePlanned planned f blocks }
+    ensures { IsDue planned.plan.now planned.entry.now result }
 {
+    let PlannedScan { plan, entry } = planned;
     let is_prog = plan.out.frame.is_progressive();
     let head = head_of(is_prog, plan.out.colour, entry);
     let interval = interval_of(&plan.out.frame, &head, plan.restart);
@@ -96,31 +114,32 @@ pub fn due_of(plan: &Plan, entry: &Entry) -> ScanDue
 /// Writes what stands before the data of a scan: a DHT segment for each table that it needs and that isn't the last one
 /// of its class and slot, a DRI segment if its restart interval isn't the one before, and its header.
 pub fn write_start<D: Desk>(
-    frame: &Frame,
-    due: &ScanDue,
-    tables: &TableSet,
+    scan: DueScan<'_>,
     given: &mut Given,
     out: &mut BitOut,
     desk: &mut D,
 ) -> Result<(), WriteFault>
     requires can { CanSend (D.state desk.old) out.old }
     requires four { HasFour given.old.tables }
-    requires due { CanStart frame.now due.now tables.now }
+    requires due { CanStart scan.frame.now scan.due.now scan.tables.now }
     ensures four { HasFour given.new.tables }
-    ensures sends { Sends (D.state desk.old) out.old (start_text frame.now (so_far given.old) due.now tables.now) result out.new (D.state desk.new) }
-    ensures given { (u : Unit {0}) → result ≡ Ok u → so_far given.new ≡ due_written (so_far given.old) due.now tables.now }
+    ensures sends { Sends (D.state desk.old) out.old (start_text scan.frame.now (so_far given.old) scan.due.now scan.tables.now) result out.new (D.state desk.new) }
+    ensures given { (u : Unit {0}) → result ≡ Ok u → so_far given.new ≡ due_written (so_far given.old) scan.due.now scan.tables.now }
 {
+    let DueScan { frame, due, tables } = scan;
     let last = given.interval;
     given.interval = due.interval;
     write_due(due.needed.as_slice(), tables, &mut given.tables, out, desk)?;
-    write_head(frame, &due.head, last, due.interval, out, desk)
+    let written = WrittenScan {
+        head: &due.head,
+        interval: due.interval,
+    };
+    write_head(frame, written, last, out, desk)
 }
 
 // Writes the tables, the header and the data.
 fn write_parts<V: BlockView, D: Desk>(
-    frame: &Frame,
-    due: &ScanDue,
-    tables: &TableSet,
+    scan: DueScan<'_>,
     given: &mut Given,
     view: &V,
     out: &mut BitOut,
@@ -128,28 +147,27 @@ fn write_parts<V: BlockView, D: Desk>(
 ) -> Result<(), WriteFault>
     requires can { CanSend (D.state desk.old) out.old }
     requires four { HasFour given.old.tables }
-    requires due { CanWriteDue frame.now (V.numbers view.now) (V.blocks view.now) due.now tables.now }
+    requires due { CanWriteDue scan.frame.now (V.numbers view.now) (V.blocks view.now) scan.due.now scan.tables.now }
     ensures four { HasFour given.new.tables }
-    ensures sends { Sends (D.state desk.old) out.old (due_after frame.now (V.numbers view.now) (V.blocks view.now) given.old due.now tables.now) result out.new (D.state desk.new) }
-    ensures given { (u : Unit {0}) → result ≡ Ok u → so_far given.new ≡ due_written (so_far given.old) due.now tables.now }
+    ensures sends { Sends (D.state desk.old) out.old (due_after scan (V.numbers view.now) (V.blocks view.now) (so_far given.old)) result out.new (D.state desk.new) }
+    ensures given { (u : Unit {0}) → result ≡ Ok u → so_far given.new ≡ due_written (so_far given.old) scan.due.now scan.tables.now }
 {
-    write_start(frame, due, tables, given, out, desk)?;
-    write_data(frame, due, tables, view, out, desk)
+    write_start(scan, given, out, desk)?;
+    write_data(scan, view, out, desk)
 }
 
 // Writes the data.
 fn write_data<V: BlockView, D: Desk>(
-    frame: &Frame,
-    due: &ScanDue,
-    tables: &TableSet,
+    scan: DueScan<'_>,
     view: &V,
     out: &mut BitOut,
     desk: &mut D,
 ) -> Result<(), WriteFault>
     requires can { CanSend (D.state desk.old) out.old }
-    requires due { CanWriteDue frame.now (V.numbers view.now) (V.blocks view.now) due.now tables.now }
-    ensures { Sends (D.state desk.old) out.old (due_data (V.numbers view.now) (V.blocks view.now) due.now tables.now) result out.new (D.state desk.new) }
+    requires due { CanWriteDue scan.frame.now (V.numbers view.now) (V.blocks view.now) scan.due.now scan.tables.now }
+    ensures { Sends (D.state desk.old) out.old (due_data (V.numbers view.now) (V.blocks view.now) scan.due.now scan.tables.now) result out.new (D.state desk.new) }
 {
+    let DueScan { frame, due, tables } = scan;
     if frame.is_progressive() {
         write_prog_scan(view, &due.head, tables, due.interval, out, desk)
     } else {

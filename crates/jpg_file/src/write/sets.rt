@@ -14,8 +14,8 @@ ghost use Rattle.jpg_coefs.specs.MarkSinks.{HasSlots};
 ghost use Rattle.jpg_prog_write.specs.Written.{IsProgScan};
 ghost use Rattle.jpg_file.specs.Write.WriteTables.{AreFew, HasCounts, UsesSymbols, GivesTables, HasFourTables, IsEmptySet, has_typical, own_tables};
 
-use jpg_base::{Frame, ScanHead};
-use jpg_coefs::BlockView;
+use jpg_base::Frame;
+use jpg_coefs::{BlockView, WrittenScan};
 use jpg_fit::fitted;
 use jpg_huff::{SymbolCounts, Table, TableSet, Typical, flat, typical};
 use jpg_prog_write::count_scan;
@@ -30,23 +30,22 @@ pub fn put_tables<V: BlockView>(
     huffman: Huffman,
     frame: &Frame,
     view: &V,
-    head: &ScanHead,
-    interval: u16,
+    scan: WrittenScan<'_>,
     set: &mut TableSet,
 )
     requires empty { IsEmptySet set.old }
     requires kind { is_progressive (V.numbers view.now).process ≡ is_progressive frame.now.process }
-    requires components { AreIn (V.numbers view.now) (head_components head.now) }
-    requires scan { is_progressive frame.now.process ≡ true → IsProgScan (V.numbers view.now) head.now }
-    requires distinct { is_distinct (head_components head.now) ≡ true }
-    requires slots { All HasSlots head.now.parts }
+    requires components { AreIn (V.numbers view.now) (head_components scan.head.now) }
+    requires scan { is_progressive frame.now.process ≡ true → IsProgScan (V.numbers view.now) scan.head.now }
+    requires distinct { is_distinct (head_components scan.head.now) ≡ true }
+    requires slots { All HasSlots scan.head.now.parts }
     requires blocks { HasBlocksIn (V.numbers view.now) (V.blocks view.now) }
-    ensures { GivesTables set.new (scan_tables huffman frame.now head.now (scan_elements (V.numbers view.now) head.now interval (V.blocks view.now))) }
+    ensures { GivesTables set.new (scan_tables huffman frame.now scan.head.now (scan_elements (V.numbers view.now) scan.head.now scan.interval (V.blocks view.now))) }
 {
     if has_typical(huffman, frame) {
         put_typical(set);
     } else {
-        put_own(huffman, &counts_of(frame, view, head, interval), set);
+        put_own(huffman, &counts_of(frame, view, scan), set);
     }
 }
 
@@ -77,22 +76,22 @@ pub fn typical_set() -> TableSet
 }
 
 // How often the scan writes each symbol.
-fn counts_of<V: BlockView>(frame: &Frame, view: &V, head: &ScanHead, interval: u16) -> SymbolCounts
+fn counts_of<V: BlockView>(frame: &Frame, view: &V, scan: WrittenScan<'_>) -> SymbolCounts
     requires kind { is_progressive (V.numbers view.now).process ≡ is_progressive frame.now.process }
-    requires components { AreIn (V.numbers view.now) (head_components head.now) }
-    requires scan { is_progressive frame.now.process ≡ true → IsProgScan (V.numbers view.now) head.now }
-    requires distinct { is_distinct (head_components head.now) ≡ true }
-    requires slots { All HasSlots head.now.parts }
+    requires components { AreIn (V.numbers view.now) (head_components scan.head.now) }
+    requires scan { is_progressive frame.now.process ≡ true → IsProgScan (V.numbers view.now) scan.head.now }
+    requires distinct { is_distinct (head_components scan.head.now) ≡ true }
+    requires slots { All HasSlots scan.head.now.parts }
     requires blocks { HasBlocksIn (V.numbers view.now) (V.blocks view.now) }
-    ensures symbols { UsesSymbols result (symbols_used head.now (scan_elements (V.numbers view.now) head.now interval (V.blocks view.now))) }
-    ensures counts { HasCounts result (symbol_counts head.now (scan_elements (V.numbers view.now) head.now interval (V.blocks view.now))) }
+    ensures symbols { UsesSymbols result (symbols_used scan.head.now (scan_elements (V.numbers view.now) scan.head.now scan.interval (V.blocks view.now))) }
+    ensures counts { HasCounts result (symbol_counts scan.head.now (scan_elements (V.numbers view.now) scan.head.now scan.interval (V.blocks view.now))) }
     ensures few { AreFew result }
 {
     view.frame().checked();
     if frame.is_progressive() {
-        count_scan(view, head, interval)
+        count_scan(view, scan.head, scan.interval)
     } else {
-        count_seq_scan(view, head, interval)
+        count_seq_scan(view, scan.head, scan.interval)
     }
 }
 

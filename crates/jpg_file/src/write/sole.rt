@@ -7,7 +7,7 @@ ghost use Rattle.jpg_file.specs.Write.WriteScan.{CanStart};
 ghost use Rattle.jpg_file.specs.Write.WriteFile.{CanWriteFile};
 ghost use Rattle.jpg_file.specs.Write.SoleScan.{IsAllOf, IsSole, IsSoleData, WritesSole, is_sole, sole_text};
 
-use crate::write::scan::{Given, ScanDue, due_of, write_start};
+use crate::write::scan::{DueScan, Given, PlannedScan, ScanDue, due_of, write_start};
 use crate::write::sets::{has_typical, typical_set};
 use crate::write::{Plan, write_end};
 use jpg_base::{Desk, Frame, WriteFault};
@@ -35,8 +35,9 @@ pub fn sole_scan(plan: &Plan) -> Option<SoleScan>
     if plan.script.len() != 1 || !has_typical(plan.huffman, &plan.out.frame) {
         return None;
     }
+    let entry = &plan.script.entry(0);
     Some(SoleScan {
-        due: due_of(plan, &plan.script.entry(0)),
+        due: due_of(PlannedScan { plan, entry }),
         tables: typical_set(),
     })
 }
@@ -73,6 +74,11 @@ fn write_only<D: Desk>(
     ensures { Sends (D.state desk.old) out.old (sole_text frame.now scan.now data.now) result out.new (D.state desk.new) }
 {
     let mut given = Given::new();
-    write_start(frame, &scan.due, &scan.tables, &mut given, out, desk)?;
+    let only = DueScan {
+        frame,
+        due: &scan.due,
+        tables: &scan.tables,
+    };
+    write_start(only, &mut given, out, desk)?;
     out.raw(data, desk)
 }

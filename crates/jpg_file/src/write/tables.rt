@@ -99,22 +99,21 @@ fn put(given: &mut TableSet, class: u8, slot: u8, table: &Table)
 
 // Writes a DHT segment of a table, if it isn't the last one of its class and slot.
 fn write_table<D: Desk>(
-    class: u8,
-    slot: u8,
+    place: TablePlace,
     tables: &TableSet,
     given: &mut TableSet,
     out: &mut BitOut,
     desk: &mut D,
 ) -> Result<(), WriteFault>
     requires can { CanSend (D.state desk.old) out.old }
-    requires class { class < 2 }
-    requires slot { slot < 2 }
+    requires place { IsTablePlace place }
     requires tables { GivesTables tables.now (tables_in tables.now) }
     requires four { HasFour given.old }
     ensures four { HasFour given.new }
-    ensures sends { Sends (D.state desk.old) out.old (tables_text (given_by given.old) (tables_in tables.now) ((class, slot) ∷ [])) result out.new (D.state desk.new) }
-    ensures given { given_by given.new ≡ with_table (given_by given.old) class slot (tables_in tables.now class slot) }
+    ensures sends { Sends (D.state desk.old) out.old (tables_text (given_by given.old) (tables_in tables.now) (place ∷ [])) result out.new (D.state desk.new) }
+    ensures given { given_by given.new ≡ with_table (given_by given.old) place.0 place.1 (tables_in tables.now place.0 place.1) }
 {
+    let (class, slot) = place;
     let Some(table) = table_in(tables, class, slot) else {
         return Ok(());
     };
@@ -144,7 +143,7 @@ pub fn write_due<D: Desk>(
     ensures given { (u : Unit {0}) → result ≡ Ok u → given_by given.new ≡ tables_given (given_by given.old) (tables_in tables.now) needed.now }
 {
     for place in needed {
-        write_table(place.0, place.1, tables, given, out, desk)?;
+        write_table(*place, tables, given, out, desk)?;
     }
     Ok(())
 }

@@ -13,7 +13,7 @@ pub returns-then-is_progressive-clause-counts : goal.returns-then-is_progressive
 returns-then-is_progressive-clause-counts g c =
     let counts = c.count_scan.ensures in
     let f = g.V.BlockView.numbers c.args.view.now in
-    let kept = class_counted f c.args.head.now c.args.interval (g.V.BlockView.blocks c.args.view.now) (subst IsFrame c.frame.ensures c.checked.ensures) c.requires.components c.requires.distinct c.requires.blocks in
+    let kept = class_counted f c.args.scan.head.now c.args.scan.interval (g.V.BlockView.blocks c.args.view.now) (subst IsFrame c.frame.ensures c.checked.ensures) c.requires.components c.requires.distinct c.requires.blocks in
     record { dc = kept 0 c.count_scan.result.dc counts.dc; ac = kept 1 c.count_scan.result.ac counts.ac }
 
 pub returns-then-is_progressive-clause-few : goal.returns-then-is_progressive-clause-few
@@ -29,7 +29,7 @@ pub returns-else-is_progressive-clause-counts : goal.returns-else-is_progressive
 returns-else-is_progressive-clause-counts g c =
     let counts = c.count_seq_scan.ensures in
     let f = g.V.BlockView.numbers c.args.view.now in
-    let kept = class_counted f c.args.head.now c.args.interval (g.V.BlockView.blocks c.args.view.now) (subst IsFrame c.frame.ensures c.checked.ensures) c.requires.components c.requires.distinct c.requires.blocks in
+    let kept = class_counted f c.args.scan.head.now c.args.scan.interval (g.V.BlockView.blocks c.args.view.now) (subst IsFrame c.frame.ensures c.checked.ensures) c.requires.components c.requires.distinct c.requires.blocks in
     record { dc = kept 0 c.count_seq_scan.result.dc counts.dc; ac = kept 1 c.count_seq_scan.result.ac counts.ac }
 
 pub returns-else-is_progressive-clause-few : goal.returns-else-is_progressive-clause-few

@@ -11,13 +11,13 @@ use Rattle.jpg_file.proofs.write.tables.write_table.Goals as goal
 
 pub returns-in_default-clause-sends : goal.returns-in_default-clause-sends
 returns-in_default-clause-sends g c =
-    let there = c.requires.tables c.args.class c.args.slot c.requires.class c.requires.slot in
+    let there = c.requires.tables c.args.place.0 c.args.place.1 c.requires.place.class c.requires.place.slot in
     let none : None ≡ Some there.0 = sym (ap (option_map (λ t. t.now)) c.in_default.is) ∙ c.table_in.ensures ∙ there.1 in
     cc
 
 pub returns-in_default-clause-given : goal.returns-in_default-clause-given
 returns-in_default-clause-given g c =
-    let there = c.requires.tables c.args.class c.args.slot c.requires.class c.requires.slot in
+    let there = c.requires.tables c.args.place.0 c.args.place.1 c.requires.place.class c.requires.place.slot in
     let none : None ≡ Some there.0 = sym (ap (option_map (λ t. t.now)) c.in_default.is) ∙ c.table_in.ensures ∙ there.1 in
     cc
 
@@ -28,7 +28,7 @@ returns-then-is_held-clause-sends g c =
     let t = c.in-Some.table.now in
     let at = sym c.table_in.ensures ∙ ap (option_map (λ t. t.now)) c.in-Some.is in
     sends_same s s c.args.out.now c.args.out.now [] _ (Ok tt)
-    (held_text (given_by c.args.given.now) (tables_in set) c.args.class c.args.slot (table_of t) (found set c.args.class c.args.slot t at) (sym c.holds-is_held.ensures ∙ c.if-is_held.true))
+    (held_text (given_by c.args.given.now) (tables_in set) c.args.place.0 c.args.place.1 (table_of t) (found set c.args.place.0 c.args.place.1 t at) (sym c.holds-is_held.ensures ∙ c.if-is_held.true))
     (sends_nothing s c.args.out.now c.requires.can.none)
 
 pub returns-clause-sends : goal.returns-clause-sends
@@ -39,5 +39,5 @@ returns-clause-sends g c =
     let at = sym c.table_in.ensures ∙ ap (option_map (λ t. t.now)) c.in-Some.is in
     sends_same (state c.args.desk.now) (state c.write_segment.new.desk) c.args.out.now c.write_segment.new.out _ _ c.write_segment.result
     (ap (segment_text 0xc4) (c.as_slice.ensures.value ∙ c.contents_of-contents.ensures)
-    ∙ sent_text (given_by c.args.given.now) (tables_in set) c.args.class c.args.slot (table_of t) (found set c.args.class c.args.slot t at) (sym c.holds-is_held.ensures ∙ c.if-is_held.false))
+    ∙ sent_text (given_by c.args.given.now) (tables_in set) c.args.place.0 c.args.place.1 (table_of t) (found set c.args.place.0 c.args.place.1 t at) (sym c.holds-is_held.ensures ∙ c.if-is_held.false))
     c.write_segment.ensures
