@@ -9,7 +9,8 @@ use Rattle.jpg_coefs.specs.BitSinks.{BitSink, interval_bits}
 use Rattle.jpg_coefs.specs.MarkSinks.{MarkSink, owned_marks, interval_marks}
 use Rattle.jpg_prog_write.specs.Bands.{IsReady, IsShort, IsBandOf, band_sents}
 use Rattle.jpg_prog_write.specs.Items.{texts}
-use Rattle.jpg_prog_write.specs.Written.{tables_in, codes_in, first_slot}
+use Rattle.jpg_prog_write.specs.Putting.{ac_codes}
+use Rattle.jpg_prog_write.specs.Written.{tables_in, first_slot}
 use Rattle.jpg_prog_write.specs.Counted.{marks_of}
 use Rattle.jpg_prog_write.specs.declared.bands.Bands.{Bands}
 use Rattle.jpg_prog_write.specs.declared.dc.DcUnits.{DcUnits}
@@ -60,10 +61,10 @@ bands_left b due = band_elements 32767 b.bands b.waiting.items (map (λ (u : Uni
 
 abbrev pub ac_units : BitSink AcUnits
 ac_units = record {
-  bits = λ s. interval_bits true (tables_in s.tables.now) s.head.now;
+  bits = λ s. interval_bits true (tables_in s.codes.tables.now) s.head.now;
   fits = λ s u. IsBandUnit s.head.now u;
-  rest = λ s last due. texts (codes_in s.tables.now 1 s.slot) (bands_left s.bands due);
-  later = λ from now. (now.head ≡ from.head) × (now.tables ≡ from.tables) × AreBandsOf now.head.now now.bands × (now.slot ≡ first_slot now.head.now);
+  rest = λ s last due. texts (ac_codes s.codes) (bands_left s.bands due);
+  later = λ from now. (now.head ≡ from.head) × (now.codes.tables ≡ from.codes.tables) × AreBandsOf now.head.now now.bands × (now.codes.slot ≡ first_slot now.head.now);
 }
 
 -- COUNTERS

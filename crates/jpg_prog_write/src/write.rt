@@ -6,6 +6,7 @@ ghost use Rattle.jpg_prog_write.specs.Written.{IsProgScan, written_data};
 
 use crate::ac::{AcUnits, first_slot, no_bands};
 use crate::dc::DcUnits;
+use crate::put::AcCodes;
 use jpg_base::{Desk, ScanHead, WriteFault};
 use jpg_coefs::{BlockView, put_scan};
 use jpg_huff::{BitOut, TableSet};
@@ -32,8 +33,10 @@ pub fn write_scan<V: BlockView, D: Desk>(
     if head.ss > 0 {
         let mut units = AcUnits {
             head,
-            tables,
-            slot: first_slot(head),
+            codes: AcCodes {
+                tables,
+                slot: first_slot(head),
+            },
             bands: no_bands(head),
         };
         put_scan(view, head, interval, &mut units, out, desk)
