@@ -13,7 +13,7 @@ returns-in-Some g c =
     let b = c.args.bands.now in
     let f = c.in-Some.ensures.some in
     let e = texts_first codes (ended_bands b.bands b.waiting.items) c.in-Some.item c.end.new.self.waiting.items [] f ∙ ap (λ x. spelled codes f.element ++ x) (texts_none codes) ∙ append-nil (spelled codes f.element) in
-    puts_same _ _ _ _ (spelled codes f.element) _ _ (sym e) (c.put_last.ensures f.element (subst (IsItem f.element c.in-Some.item) (sym c.as_slice.ensures.value) f.is))
+    puts_same _ _ _ _ (spelled codes f.element) _ _ (sym e) (c.put_last.ensures f.element (subst (IsItem f.element c.in-Some.item) (sym c.as_slice-bits.ensures.value) f.is))
 
 pub returns-in-None : goal.returns-in-None
 returns-in-None g c =
