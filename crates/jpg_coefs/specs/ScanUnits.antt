@@ -8,6 +8,7 @@ use Rattle.jpg_spec.specs.declared.frame.Place.{Place}
 use Rattle.jpg_spec_write.specs.ScanText.{UnitDue, units_due}
 use Rattle.jpg_base.specs.declared.stop.WriteFault.{WriteFault}
 use Rattle.jpg_coefs.specs.Sinks.{At, Due, IsScanPlace, SinkKind, TakesPlace, intervals_due, last_in, no_last, of_places}
+use Rattle.jpg_coefs.specs.declared.intervals.NextUnits.{NextUnits}
 use Rattle.jpg_coefs.specs.declared.intervals.ScanUnits.{ScanUnits}
 
 -- A SCAN THAT IS BEGUN: what takes its units, in what state, all of them by intervals, the blocks, and how many units an
@@ -105,6 +106,10 @@ AfterGiving k g count left (Err fault) u now = k.ended g.from g.all (Err fault) 
 abbrev pub GivesUnits : {S O D : Type 0} → SinkKind S O D → Frame → Blocks → ℕ → ScanUnits → At S O D → Result (Unit {0}) WriteFault → ScanUnits → At S O D → Type 0
 GivesUnits {S} {O} {D} k f others count old from result new now =
     (g : GivenScan S O D) → CanGive k g f others count old from → AfterGiving k g count old.left result new now
+
+-- The next units are given, of a view whose numbers and blocks are known.
+abbrev pub GivesNext : {S O D V : Type 0} → SinkKind S O D → (V → Frame) → (V → Blocks) → NextUnits V → ScanUnits → At S O D → Result (Unit {0}) WriteFault → ScanUnits → At S O D → Type 0
+GivesNext k numbers blocks next old from result new now = GivesUnits k (numbers next.view.now) (blocks next.view.now) next.count old from result new now
 
 -- BEFORE THE FIRST UNIT: all places are left, `each` units an interval (all of them for an interval of 0 MCUs).
 abbrev pub no_dc : List ℤ

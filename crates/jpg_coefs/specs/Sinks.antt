@@ -8,6 +8,7 @@ use Rattle.jpg_spec.specs.Scan.{Blocks, block_at}
 use Rattle.jpg_spec_write.specs.ScanText.{UnitDue, units_due, last_dc}
 use Rattle.jpg_spec.specs.declared.frame.Place.{Place}
 use Rattle.jpg_base.specs.declared.stop.WriteFault.{WriteFault}
+use Rattle.jpg_coefs.specs.declared.intervals.WrittenScan.{WrittenScan}
 
 -- UNITS
 
@@ -28,6 +29,10 @@ no_last i = pos 0
 -- all units of a scan, interval by interval
 abbrev pub intervals_due : Frame → ScanHead → ℕ → Blocks → List (List UnitDue)
 intervals_due f head interval blocks = map (units_due blocks no_last) (chunks (interval * mcu_units f (head_components head)) (units f (head_components head)))
+
+-- those of a scan that is written
+abbrev pub scan_due : Frame → WrittenScan → Blocks → List (List UnitDue)
+scan_due f scan blocks = intervals_due f scan.head.now scan.interval blocks
 
 -- DC values by component, kept in a list
 abbrev pub last_in : List ℤ → ℕ → ℤ

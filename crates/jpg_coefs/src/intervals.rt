@@ -6,11 +6,40 @@ ghost use Rattle.jpg_spec.specs.Geometry.{IsReal};
 ghost use Rattle.jpg_spec.specs.Scan.{part_of as part_in};
 ghost use Rattle.jpg_spec.specs.Segments.{head_components};
 ghost use Rattle.jpg_base.specs.Cursor.{AreIn};
-ghost use Rattle.jpg_coefs.specs.ScanUnits.{AgreeAt, CanGive, GivenScan, GivesUnits, IsUngiven, TakesPlaceOf};
-ghost use Rattle.jpg_coefs.specs.Sinks.{SinkKind, at, intervals_due, IsNext, TakesUnit, IsOpen, Ends, Begins, IsNextPlace};
+ghost use Rattle.jpg_coefs.specs.ScanUnits.{AgreeAt, CanGive, GivenScan, GivesNext, IsUngiven, TakesPlaceOf};
+ghost use Rattle.jpg_coefs.specs.Sinks.{SinkKind, at, scan_due, IsNext, TakesUnit, IsOpen, Ends, Begins, IsNextPlace};
 
 use crate::BlockView;
 use jpg_base::{Block, Cursor, Frame, Place, ScanHead, ScanPart, WriteFault};
+
+/// A unit of a scan that is given to a sink: a block of a component, after one with this DC value (0 if there was none).
+#[derive(Clone, Copy)]
+pub struct GivenUnit<'a> {
+    pub component: u8,
+    pub last: i16,
+    pub block: &'a Block,
+}
+
+/// A scan that is written: its header, and the restart interval (0: none).
+#[derive(Clone, Copy)]
+pub struct WrittenScan<'a> {
+    pub head: &'a ScanHead,
+    pub interval: u16,
+}
+
+/// The next units of a scan, `count` of them, whose blocks a view has.
+#[derive(Clone, Copy)]
+pub struct NextUnits<'a, V> {
+    pub view: &'a V,
+    pub count: u64,
+}
+
+// A place of a scan, and the view that has its block if it is a real one.
+#[derive(Clone, Copy)]
+struct ViewedPlace<'a, V> {
+    view: &'a V,
+    place: Place,
+}
 
 /// What takes the units of a scan, interval by interval: it writes or counts them. The results go to `out`, and from
 /// there to `desk`. After a fault nothing more is given to it.
@@ -18,17 +47,10 @@ pub trait UnitSink<O, D> {
     /// What its states mean.
     ghost kind: { SinkKind Self O D };
 
-    /// Takes the next unit of the interval: a block of a component, after one with this DC value (0 if there was none).
-    fn unit(
-        &mut self,
-        component: u8,
-        last: i16,
-        block: &Block,
-        out: &mut O,
-        desk: &mut D,
-    ) -> Result<(), WriteFault>
-        requires { IsNext kind (component, block.now) last (at self.old out.old desk.old) }
-        ensures { TakesUnit kind (component, block.now) last (at self.old out.old desk.old) result (at self.new out.new desk.new) };
+    /// Takes the next unit of the interval.
+    fn unit(&mut self, unit: GivenUnit<'_>, out: &mut O, desk: &mut D) -> Result<(), WriteFault>
+        requires { IsNext kind (unit.component, unit.block.now) unit.last (at self.old out.old desk.old) }
+        ensures { TakesUnit kind (unit.entry.component, unit.entry.block.now) unit.entry.last (at self.old out.old desk.old) result (at self.new out.new desk.new) };
 
     /// Ends an interval: the last one, or before the next one, with the restart marker of this number, 0 to 7.
     fn end(&mut self, marker: Option<u8>, out: &mut O, desk: &mut D) -> Result<(), WriteFault>
@@ -77,29 +99,39 @@ fn put_padding<O, D, S: UnitSink<O, D>>(
     ensures { TakesUnit S.kind (component, last ∷ zeros 63) last (at sink.old out.old desk.old) result (at sink.new out.new desk.new) }
 {
     let block = padding(last);
-    sink.unit(component, last, &block, out, desk)
+    let unit = GivenUnit {
+        component,
+        last,
+        block: &block,
+    };
+    sink.unit(unit, out, desk)
 }
 
 // Gives the unit at a place to a sink, after these DC values of the components.
 #[inline(always)]
 fn put_place<V: BlockView, O, D, S: UnitSink<O, D>>(
-    view: &V,
-    place: Place,
+    due: ViewedPlace<'_, V>,
     last: &mut [i16; 4],
     sink: &mut S,
     out: &mut O,
     desk: &mut D,
 ) -> Result<(), WriteFault>
-    requires real { place.real ≡ true → IsReal (V.numbers view.now) place.component place.x place.y }
-    requires four { place.component < 4 }
-    requires next { (blocks : Blocks) × AgreeAt blocks (V.blocks view.now) place × IsNextPlace S.kind blocks last.old place (at sink.old out.old desk.old) }
-    ensures { TakesPlaceOf S.kind (V.blocks view.now) last.old place (at sink.old out.old desk.old) result last.new (at sink.new out.new desk.new) }
+    requires real { due.place.real ≡ true → IsReal (V.numbers due.view.now) due.place.component due.place.x due.place.y }
+    requires four { due.place.component < 4 }
+    requires next { (blocks : Blocks) × AgreeAt blocks (V.blocks due.view.now) due.place × IsNextPlace S.kind blocks last.old due.place (at sink.old out.old desk.old) }
+    ensures { TakesPlaceOf S.kind (V.blocks due.entry.view.now) last.old due.entry.place (at sink.old out.old desk.old) result last.new (at sink.new out.new desk.new) }
 {
+    let place = due.place;
     let before = last[place.component as usize];
     if place.real {
-        let block = view.block(place.component, place.x, place.y);
+        let block = due.view.block(place.component, place.x, place.y);
         last[place.component as usize] = block.get(0);
-        sink.unit(place.component, before, &block, out, desk)
+        let unit = GivenUnit {
+            component: place.component,
+            last: before,
+            block: &block,
+        };
+        sink.unit(unit, out, desk)
     } else {
         last[place.component as usize] = before;
         put_padding(place.component, before, sink, out, desk)
@@ -152,26 +184,29 @@ impl ScanUnits {
         self.left
     }
 
-    /// Gives the next `count` units to a sink, of a view that has the blocks of their places, and ends each interval after
-    /// its last one. After the scan's last unit, or a fault, no more may be given.
+    /// Gives the next units to a sink, of a view that has the blocks of their places, and ends each interval after its last
+    /// one. After the scan's last unit, or a fault, no more may be given.
     #[inline(always)]
     pub fn give<V: BlockView, O, D, S: UnitSink<O, D>>(
         &mut self,
-        view: &V,
-        count: u64,
+        next: NextUnits<'_, V>,
         sink: &mut S,
         out: &mut O,
         desk: &mut D,
     ) -> Result<(), WriteFault>
-        requires some { (1 ≤ count) × (count ≤ self.old.left) }
-        requires can { (g : GivenScan S O D) × CanGive S.kind g (V.numbers view.now) (V.blocks view.now) count self.old (at sink.old out.old desk.old) }
-        ensures cursor { OnOk result (self.new.cursor ≡ drop count self.old.cursor) }
-        ensures left { OnOk result (self.new.left + count ≡ self.old.left) }
-        ensures given { GivesUnits S.kind (V.numbers view.now) (V.blocks view.now) count self.old (at sink.old out.old desk.old) result self.new (at sink.new out.new desk.new) }
+        requires some { (1 ≤ next.count) × (next.count ≤ self.old.left) }
+        requires can { (g : GivenScan S O D) × CanGive S.kind g (V.numbers next.view.now) (V.blocks next.view.now) next.count self.old (at sink.old out.old desk.old) }
+        ensures cursor { OnOk result (self.new.cursor ≡ drop next.entry.count self.old.cursor) }
+        ensures left { OnOk result (self.new.left + next.entry.count ≡ self.old.left) }
+        ensures given { GivesNext S.kind V.numbers V.blocks next.entry self.old (at sink.old out.old desk.old) result self.new (at sink.new out.new desk.new) }
     {
-        let mut rest = count;
+        let mut rest = next.count;
         loop {
-            put_place(view, self.cursor.place(), &mut self.last, sink, out, desk)?;
+            let due = ViewedPlace {
+                view: next.view,
+                place: self.cursor.place(),
+            };
+            put_place(due, &mut self.last, sink, out, desk)?;
             self.cursor.step();
             self.left -= 1;
             self.due -= 1;
@@ -197,21 +232,20 @@ impl ScanUnits {
 /// components of the frame.
 pub fn put_scan<V: BlockView, O, D, S: UnitSink<O, D>>(
     view: &V,
-    head: &ScanHead,
-    interval: u16,
+    scan: WrittenScan<'_>,
     sink: &mut S,
     out: &mut O,
     desk: &mut D,
 ) -> Result<(), WriteFault>
-    requires scan { AreIn (V.numbers view.now) (head_components head.now) }
-    requires begins { Begins S.kind (intervals_due (V.numbers view.now) head.now interval (V.blocks view.now)) (at sink.old out.old desk.old) }
-    ensures { S.kind.ended (at sink.old out.old desk.old) (intervals_due (V.numbers view.now) head.now interval (V.blocks view.now)) result out.new desk.new }
+    requires scan { AreIn (V.numbers view.now) (head_components scan.head.now) }
+    requires begins { Begins S.kind (scan_due (V.numbers view.now) scan (V.blocks view.now)) (at sink.old out.old desk.old) }
+    ensures { S.kind.ended (at sink.old out.old desk.old) (scan_due (V.numbers view.now) scan.entry (V.blocks view.now)) result out.new desk.new }
 {
     let frame = view.frame();
     frame.checked();
-    let mut units = ScanUnits::new(frame, head, interval);
+    let mut units = ScanUnits::new(frame, scan.head, scan.interval);
     let all = units.left();
-    units.give(view, all, sink, out, desk)
+    units.give(NextUnits { view, count: all }, sink, out, desk)
 }
 
 // How many units an interval has: all of them for 0.

@@ -14,7 +14,7 @@ mod view;
 
 pub use coefs::Coefs;
 pub use end::end_interval;
-pub use intervals::{ScanUnits, UnitSink, part_of, put_scan};
+pub use intervals::{GivenUnit, NextUnits, ScanUnits, UnitSink, WrittenScan, part_of, put_scan};
 pub use laws::{
     bits_are_taken_in_order, faults_change_no_block, one_block_changes, zero_blocks_are_none,
 };

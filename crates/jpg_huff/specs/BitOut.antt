@@ -1,10 +1,11 @@
 -- Bits that are written. Each call changes nothing of the desk but the outputs and the counts.
 use Rattle.std.specs.Prelude.{◌≡◌, ℕ, ◌*◌, Bool, true, List, [], ◌++◌, length, Result, Ok, Err}
 use Rattle.jpg_base.specs.Desk.{DeskState}
-use Rattle.jpg_spec.specs.Bits.{stuffed, whole_bytes, data_of}
+use Rattle.jpg_spec.specs.Bits.{bits_of, stuffed, whole_bytes, data_of}
 use Rattle.jpg_base.specs.declared.stop.WriteFault.{WriteFault}
 use Rattle.jpg_huff.specs.Out.{Emits, OnlyWrites}
 use Rattle.jpg_huff.specs.Waiting.{Waiting}
+use Rattle.jpg_huff.specs.declared.out.ExtendedCode.{ExtendedCode}
 
 abbrev pub nothing_waits : Waiting
 nothing_waits = record { bytes = []; bits = [] }
@@ -15,6 +16,10 @@ waiting bytes bits = record { bytes = bytes; bits = bits }
 -- the bytes that wait, followed by bits that the caller has
 abbrev pub holding : Waiting → List Bool → Waiting
 holding out bits = waiting out.bytes bits
+
+-- the bits of a code, followed by its extra bits
+abbrev pub extended_bits : ExtendedCode → List Bool
+extended_bits c = bits_of c.code.length c.code.bits ++ bits_of c.size c.extra
 
 -- an output is created, and no bits wait
 pub record CanSend (s : DeskState) (out : Waiting) : Type 0 where

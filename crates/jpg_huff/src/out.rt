@@ -1,7 +1,7 @@
 //! Bits written as stuffed bytes (T.81, C.3, F.1.2.3).
 ghost use Rattle.std.specs.Prelude.{◌≡◌, ◌≤◌, ◌<◌, ◌+◌, ◌-◌, ◌^◌, [], ◌++◌, true};
 ghost use Rattle.jpg_spec.specs.Bits.{bits_of};
-ghost use Rattle.jpg_huff.specs.BitOut.{CanSend, Puts, PutsAfter, PutsInto, Pads, Sends, nothing_waits, waiting, holding};
+ghost use Rattle.jpg_huff.specs.BitOut.{CanSend, Puts, PutsAfter, PutsInto, Pads, Sends, extended_bits, nothing_waits, waiting, holding};
 
 use crate::Code;
 use crate::buffer::Buffer;
@@ -118,6 +118,14 @@ impl Model for BitOut {
     ghost view = { λ b. record { bytes = b.buffer; bits = b.held } };
 }
 
+/// A code, or no bits if its length is 0, and the extra bits after it: a number below `2^size`, `size` 0 to 16.
+#[derive(Clone, Copy)]
+pub struct ExtendedCode {
+    pub code: Code,
+    pub extra: u32,
+    pub size: u8,
+}
+
 // A code and the bits after it as one number.
 #[inline(always)]
 pub(crate) fn joined(code: Code, extra: u32, size: u8) -> u32
@@ -200,43 +208,43 @@ impl BitOut {
         }
     }
 
-    /// Adds a code, or no bits if its length is 0, and then a number below `2^size` as `size` bits, 0 to 16, the most
-    /// significant first, after the bits in `held`. Returns those that wait then. All else is as in `put_after`.
+    /// Adds a code and its extra bits, the most significant first, after the bits in `held`. Returns those that wait then. All
+    /// else is as in `put_after`.
     #[inline(always)]
     pub fn put_code_after<D: Desk>(
         &mut self,
         held: PendingBits,
-        code: Code,
-        extra: u32,
-        size: u8,
+        code: ExtendedCode,
         desk: &mut D,
     ) -> Result<PendingBits, WriteFault>
         requires created { (D.state desk.old).output_created ≡ true }
         requires none { self.old.bits ≡ [] }
-        requires code { (code.length ≤ 16) × (code.bits < 2 ^ code.length) }
-        requires extra { (size ≤ 16) × (extra < 2 ^ size) }
-        ensures puts { PutsAfter (D.state desk.old) self.old held (bits_of code.length code.bits ++ bits_of size extra) result self.new (D.state desk.new) }
+        requires code { (code.code.length ≤ 16) × (code.code.bits < 2 ^ code.code.length) }
+        requires extra { (code.size ≤ 16) × (code.extra < 2 ^ code.size) }
+        ensures puts { PutsAfter (D.state desk.old) self.old held (extended_bits code) result self.new (D.state desk.new) }
         ensures none { self.new.bits ≡ [] }
     {
-        self.put_after(held, joined(code, extra, size), code.length + size, desk)
+        self.put_after(
+            held,
+            joined(code.code, code.extra, code.size),
+            code.code.length + code.size,
+            desk,
+        )
     }
 
-    /// Adds a code, or no bits if its length is 0, and then a number below `2^size` as `size` bits, 0 to 16, the most
-    /// significant first. WriteFault is as in `put`.
+    /// Adds a code and its extra bits, the most significant first. WriteFault is as in `put`.
     #[inline(always)]
-    pub fn put_code<D: Desk>(
-        &mut self,
-        code: Code,
-        extra: u32,
-        size: u8,
-        desk: &mut D,
-    ) -> Result<(), WriteFault>
+    pub fn put_code<D: Desk>(&mut self, code: ExtendedCode, desk: &mut D) -> Result<(), WriteFault>
         requires created { (D.state desk.old).output_created ≡ true }
-        requires code { (code.length ≤ 16) × (code.bits < 2 ^ code.length) }
-        requires extra { (size ≤ 16) × (extra < 2 ^ size) }
-        ensures { Puts (D.state desk.old) self.old (bits_of code.length code.bits ++ bits_of size extra) result self.new (D.state desk.new) }
+        requires code { (code.code.length ≤ 16) × (code.code.bits < 2 ^ code.code.length) }
+        requires extra { (code.size ≤ 16) × (code.extra < 2 ^ code.size) }
+        ensures { Puts (D.state desk.old) self.old (extended_bits code) result self.new (D.state desk.new) }
     {
-        self.put(joined(code, extra, size), code.length + size, desk)
+        self.put(
+            joined(code.code, code.extra, code.size),
+            code.code.length + code.size,
+            desk,
+        )
     }
 
     /// Fills the last byte with ones (T.81, F.1.2.3), so that no bits wait. WriteFault is as in `put`.

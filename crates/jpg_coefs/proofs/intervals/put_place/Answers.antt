@@ -13,8 +13,8 @@ use Rattle.jpg_coefs.proofs.intervals.put_place.Goals as goal
 pub unit-requires : goal.unit-requires
 unit-requires g c =
     let k = g.S.UnitSink.kind in
-    let others = g.V.BlockView.blocks c.args.view.now in
-    let p = c.args.place in
+    let others = g.V.BlockView.blocks c.args.due.view.now in
+    let p = c.args.due.place in
     let i = p.component in
     let last = c.args.last.now in
     let q = to_z w16 (of_z w16 (slice_index_or last i (pos 0))) in
@@ -28,8 +28,8 @@ unit-requires g c =
 
 pub returns-then-place : goal.returns-then-place
 returns-then-place g c = λ blocks agree.
-    let others = g.V.BlockView.blocks c.args.view.now in
-    let p = c.args.place in
+    let others = g.V.BlockView.blocks c.args.due.view.now in
+    let p = c.args.due.place in
     let last = c.args.last.now in
     let q = to_z w16 (of_z w16 (slice_index_or last p.component (pos 0))) in
     let fits : SFits w16 c.get.result = search rules in
@@ -47,8 +47,8 @@ returns-then-place g c = λ blocks agree.
 pub put_padding-requires : goal.put_padding-requires
 put_padding-requires g c =
     let k = g.S.UnitSink.kind in
-    let others = g.V.BlockView.blocks c.args.view.now in
-    let p = c.args.place in
+    let others = g.V.BlockView.blocks c.args.due.view.now in
+    let p = c.args.due.place in
     let i = p.component in
     let last = c.args.last.now in
     let q = to_z w16 (of_z w16 (slice_index_or last i (pos 0))) in
@@ -62,8 +62,8 @@ put_padding-requires g c =
 
 pub returns-else-place : goal.returns-else-place
 returns-else-place g c = λ blocks agree.
-    let others = g.V.BlockView.blocks c.args.view.now in
-    let p = c.args.place in
+    let others = g.V.BlockView.blocks c.args.due.view.now in
+    let p = c.args.due.place in
     let last = c.args.last.now in
     let q = to_z w16 (of_z w16 (slice_index_or last p.component (pos 0))) in
     goes_place g.S.UnitSink.kind blocks (omega (arith, c.told-last, c.requires.four))

@@ -27,10 +27,10 @@ end-requires-clause-open g c =
 pub returns-then-self-eq0-clause-given : goal.returns-then-self-eq0-clause-given
 returns-then-self-eq0-clause-given g c = λ r can.
     let i = c.loop-self.invariant in
-    let all : c.args.count ≡ c.args.self.now.left = omega (arith, i.some, i.few, i.sum, c.if-self-eq0.true) in
+    let all : c.args.next.count ≡ c.args.self.now.left = omega (arith, i.some, i.few, i.sum, c.if-self-eq0.true) in
     let new = at c.put_place.new.sink c.put_place.new.out c.put_place.new.desk in
     let later = at c.end.new.self c.end.new.out c.end.new.desk in
-    after_last g.S.UnitSink.kind r c.args.count c.args.self.now.left c.end.result _ later all
+    after_last g.S.UnitSink.kind r c.args.next.count c.args.self.now.left c.end.result _ later all
     (ends_there i.some (i.can r can) c.place.result c.place.ensures c.put_place.new.last new c.step.new.self c.step.ensures c.in_ok-put_place.ensures c.end.result later c.if-self-eq0.true c.end.ensures)
 
 pub end-requires-then-self-eq0-2-clause-open : goal.end-requires-then-self-eq0-2-clause-open
@@ -52,12 +52,12 @@ returns-then-rest-eq0-clause-given g c = λ r can.
     let i = c.loop-self.invariant in
     let k = g.S.UnitSink.kind in
     let more : 1 ≤ c.loop-self.self.left - 1 = omega (arith, i.some, i.few, c.if-self-eq0.false) in
-    let sum : c.loop-self.self.left - 1 + c.args.count ≡ c.args.self.now.left = omega (arith, i.some, i.few, i.sum, more, c.if-rest-eq0.true) in
+    let sum : c.loop-self.self.left - 1 + c.args.next.count ≡ c.args.self.now.left = omega (arith, i.some, i.few, i.sum, more, c.if-rest-eq0.true) in
     let new = at c.put_place.new.sink c.put_place.new.out c.put_place.new.desk in
     elim c.if-self-eq0-2.branch [
-      | then-self-eq0-2+in_ok-end w ↦ rw (w.self-is, w.sink-is, w.out-is, w.desk-is) (after_some k r c.args.count c.args.self.now.left _ _ more sum
+      | then-self-eq0-2+in_ok-end w ↦ rw (w.self-is, w.sink-is, w.out-is, w.desk-is) (after_some k r c.args.next.count c.args.self.now.left _ _ more sum
           (next_interval_there i.some (i.can r can) c.place.result c.place.ensures c.put_place.new.last new c.step.new.self c.step.ensures c.in_ok-put_place.ensures _ more w.if-self-eq0-2.true w.in_ok-end.ensures))
-      | else-self-eq0-2 w ↦ rw (w.self-is, w.sink-is, w.out-is, w.desk-is) (after_some k r c.args.count c.args.self.now.left _ _ more sum
+      | else-self-eq0-2 w ↦ rw (w.self-is, w.sink-is, w.out-is, w.desk-is) (after_some k r c.args.next.count c.args.self.now.left _ _ more sum
           (more_there i.some (i.can r can) c.place.result c.place.ensures c.put_place.new.last new c.step.new.self c.step.ensures c.in_ok-put_place.ensures c.put_place.array_long more (omega (arith, w.if-self-eq0-2.false))))
     ]
 
@@ -65,8 +65,8 @@ pub returns-then-rest-eq0-clause-cursor : goal.returns-then-rest-eq0-clause-curs
 returns-then-rest-eq0-clause-cursor g c =
     let i = c.loop-self.invariant in
     let places = c.args.self.now.cursor in
-    let none : c.args.count - (c.loop-self.rest - 1) ≡ c.args.count = omega (arith, c.if-rest-eq0.true) in
-    let now : c.step.new.self ≡ drop c.args.count places = c.step.ensures ∙ stepped places i.some i.most i.cursor ∙ ap (λ m. drop m places) none in
+    let none : c.args.next.count - (c.loop-self.rest - 1) ≡ c.args.next.count = omega (arith, c.if-rest-eq0.true) in
+    let now : c.step.new.self ≡ drop c.args.next.count places = c.step.ensures ∙ stepped places i.some i.most i.cursor ∙ ap (λ m. drop m places) none in
     elim c.if-self-eq0-2.branch [
       | then-self-eq0-2+in_ok-end w ↦ rw w.self-is now
       | else-self-eq0-2 w ↦ rw w.self-is now
