@@ -1,5 +1,5 @@
 -- WHAT THE STATES OF SINKS MEAN: of a scan's DC values and of its bands, written and counted.
-use Rattle.std.specs.Prelude.{◌≡◌, ℕ, ◌≤◌, ◌<◌, true, false, nat_lt, List, length, map, flat_map, ℤ}
+use Rattle.std.specs.Prelude.{◌≡◌, ℕ, ◌≤◌, ◌<◌, true, false, nat_lt, Bool, List, length, map, flat_map, ℤ}
 use Rattle.jpg_spec.specs.Elements.{Element}
 use Rattle.jpg_spec.specs.Segments.{ScanHead}
 use Rattle.jpg_spec.specs.Scan.{part_of}
@@ -10,8 +10,9 @@ use Rattle.jpg_coefs.specs.MarkSinks.{MarkSink, owned_marks, interval_marks}
 use Rattle.jpg_prog_write.specs.Bands.{IsReady, IsShort, IsBandOf, band_sents}
 use Rattle.jpg_prog_write.specs.Items.{texts}
 use Rattle.jpg_prog_write.specs.Putting.{ac_codes}
-use Rattle.jpg_prog_write.specs.Written.{tables_in, first_slot}
+use Rattle.jpg_prog_write.specs.Written.{tables_in, given_dc, first_slot}
 use Rattle.jpg_prog_write.specs.Counted.{marks_of}
+use Rattle.jpg_coefs.specs.declared.intervals.GivenUnit.{GivenUnit}
 use Rattle.jpg_prog_write.specs.declared.bands.Bands.{Bands}
 use Rattle.jpg_prog_write.specs.declared.dc.DcUnits.{DcUnits}
 use Rattle.jpg_prog_write.specs.declared.ac.AcUnits.{AcUnits}
@@ -27,6 +28,10 @@ pub record IsDcHead (head : ScanHead) : Type 0 where
 -- the results of the elements of units after these DC values
 abbrev pub dc_all : {X : Type 0} → (Owned → List X) → ScanHead → (ℕ → ℤ) → List UnitDue → List X
 dc_all each head last due = flat_map each (unit_elements false (nat_lt 0 head.ah) head.al (λ i. shifted head.al (last i)) due)
+
+-- the bits of the DC value of a unit
+abbrev pub unit_bits : DcUnits → GivenUnit → List Bool
+unit_bits s unit = element_bits (tables_in s.tables.now) s.head.now (given_dc s.head.now unit)
 
 abbrev pub dc_units : BitSink DcUnits
 dc_units = record {

@@ -8,8 +8,8 @@ ghost use Rattle.jpg_prog_write.specs.ScanSinks.{IsAcHead, AreBandsOf, ac_units}
 use crate::band::Band;
 use crate::bands::Bands;
 use crate::put::{AcCodes, put_band, put_end};
-use jpg_base::{Block, Desk, ScanHead, WriteFault};
-use jpg_coefs::{UnitSink, end_interval};
+use jpg_base::{Desk, ScanHead, WriteFault};
+use jpg_coefs::{GivenUnit, UnitSink, end_interval};
 use jpg_huff::BitOut;
 
 // The band of a scan.
@@ -58,13 +58,11 @@ impl<'a, D: Desk> UnitSink<BitOut, D> for AcUnits<'a> {
     #[inline(always)]
     fn unit(
         &mut self,
-        component: u8,
-        last: i16,
-        block: &Block,
+        unit: GivenUnit<'_>,
         out: &mut BitOut,
         desk: &mut D,
     ) -> Result<(), WriteFault> {
-        self.bands.begin(block);
+        self.bands.begin(unit.block);
         put_band(&mut self.bands, self.codes, out, desk)
     }
 

@@ -7,7 +7,7 @@ ghost use Rattle.jpg_huff.specs.Counts.{AreCounts, Notes, NotesBut};
 ghost use Rattle.jpg_coefs.specs.MarkSinks.{HasSlots, CountsClass, mark_kind, owned_marks, scan_marks};
 ghost use Rattle.jpg_prog_write.specs.Bands.{IsBandPart, IsReady, front_elements, elements_left, elements_waiting};
 ghost use Rattle.jpg_prog_write.specs.Steps.{PassesValues};
-ghost use Rattle.jpg_prog_write.specs.Written.{IsProgScan, dc_unit};
+ghost use Rattle.jpg_prog_write.specs.Written.{IsProgScan, given_dc};
 ghost use Rattle.jpg_prog_write.specs.Counted.{marks_of};
 ghost use Rattle.jpg_prog_write.specs.ScanSinks.{dc_counter, ac_counter};
 
@@ -15,8 +15,8 @@ use crate::ac::{first_slot, no_bands};
 use crate::bands::{BandPart, Bands, Waiting, value_from};
 use crate::dc::difference;
 use crate::numbers::shifted;
-use jpg_base::{Block, ScanHead, WriteFault};
-use jpg_coefs::{BlockView, UnitSink, part_of, put_scan};
+use jpg_base::{ScanHead, WriteFault};
+use jpg_coefs::{BlockView, GivenUnit, UnitSink, WrittenScan, part_of, put_scan};
 use jpg_huff::{SymbolCounts, category};
 
 // Counts the values of a part of a band, where no corrections wait.
@@ -95,18 +95,18 @@ fn count_end(bands: &mut Bands, slot: u8, counts: &mut SymbolCounts)
     }
 }
 
-// Counts the DC difference of a unit after another of its component, in a first pass.
+// Counts the DC difference of a unit, in a first pass.
 #[inline(always)]
-fn count_unit(head: &ScanHead, component: u8, last: i16, value: i16, counts: &mut SymbolCounts)
+fn count_unit(head: &ScanHead, unit: GivenUnit<'_>, counts: &mut SymbolCounts)
     requires bits { head.now.al ≤ 13 }
     requires first { head.now.ah ≡ 0 }
-    requires slot { (part_in head.now component).dc < 2 }
+    requires slot { (part_in head.now unit.component).dc < 2 }
     requires counts { AreCounts counts.old }
-    ensures { Notes counts.old (owned_marks head.now (dc_unit head.now component last value)) counts.new }
+    ensures { Notes counts.old (owned_marks head.now (given_dc head.now unit.entry)) counts.new }
 {
-    let part = part_of(head, component);
-    let value = shifted(value, head.al);
-    let prediction = shifted(last, head.al);
+    let part = part_of(head, unit.component);
+    let value = shifted(unit.block.get(0), head.al);
+    let prediction = shifted(unit.last, head.al);
     counts.count_dc(part.dc, category(difference(value, prediction)));
 }
 
@@ -122,13 +122,11 @@ impl<'a> UnitSink<SymbolCounts, ()> for DcCounter<'a> {
     #[inline(always)]
     fn unit(
         &mut self,
-        component: u8,
-        last: i16,
-        block: &Block,
+        unit: GivenUnit<'_>,
         counts: &mut SymbolCounts,
         desk: &mut (),
     ) -> Result<(), WriteFault> {
-        count_unit(self.head, component, last, block.get(0), counts);
+        count_unit(self.head, unit, counts);
         Ok(())
     }
 
@@ -157,13 +155,11 @@ impl<'a> UnitSink<SymbolCounts, ()> for AcCounter<'a> {
     #[inline(always)]
     fn unit(
         &mut self,
-        component: u8,
-        last: i16,
-        block: &Block,
+        unit: GivenUnit<'_>,
         counts: &mut SymbolCounts,
         desk: &mut (),
     ) -> Result<(), WriteFault> {
-        self.bands.begin(block);
+        self.bands.begin(unit.block);
         count_band(&mut self.bands, self.slot, counts);
         Ok(())
     }
@@ -194,7 +190,8 @@ fn count_bands<V: BlockView>(view: &V, head: &ScanHead, interval: u16, counts: &
         slot: first_slot(head),
         bands: no_bands(head),
     };
-    let counted = put_scan(view, head, interval, &mut units, counts, &mut ());
+    let scan = WrittenScan { head, interval };
+    let counted = put_scan(view, scan, &mut units, counts, &mut ());
     let _ = counted;
 }
 
@@ -213,7 +210,8 @@ fn count_differences<V: BlockView>(
     ensures { Notes counts.old (scan_marks (V.numbers view.now) head.now interval (V.blocks view.now)) counts.new }
 {
     let mut units = DcCounter { head };
-    let counted = put_scan(view, head, interval, &mut units, counts, &mut ());
+    let scan = WrittenScan { head, interval };
+    let counted = put_scan(view, scan, &mut units, counts, &mut ());
     let _ = counted;
 }
 

@@ -14,7 +14,7 @@ ghost use Rattle.jpg_prog_write.specs.Written.{codes_in};
 use crate::bands::{BandPart, Bands, value_from};
 use crate::item::Item;
 use jpg_base::{Desk, WriteFault};
-use jpg_huff::{BitOut, Code, PendingBits, TableSet};
+use jpg_huff::{BitOut, Code, ExtendedCode, PendingBits, TableSet};
 
 /// The codes of AC symbols: those of the table in a slot, none if there is no table.
 #[derive(Clone, Copy)]
@@ -119,9 +119,13 @@ fn put_item<D: Desk>(
     ensures puts { (e : Element) → IsWritten e element.entry → PutsAfter (D.state desk.old) out.old held (spelled (ac_codes codes.entry) e) result out.new (D.state desk.new) }
     ensures none { out.new.bits ≡ [] }
 {
-    let item = element.item;
-    let code = ac_code(codes, item.symbol);
-    let after = out.put_code_after(held, code, item.extra, item.size, desk)?;
+    let Item {
+        symbol,
+        extra,
+        size,
+    } = element.item;
+    let code = ac_code(codes, symbol);
+    let after = out.put_code_after(held, ExtendedCode { code, extra, size }, desk)?;
     put_bits(element.bits, after, out, desk)
 }
 

@@ -8,7 +8,7 @@ use crate::ac::{AcUnits, first_slot, no_bands};
 use crate::dc::DcUnits;
 use crate::put::AcCodes;
 use jpg_base::{Desk, ScanHead, WriteFault};
-use jpg_coefs::{BlockView, put_scan};
+use jpg_coefs::{BlockView, WrittenScan, put_scan};
 use jpg_huff::{BitOut, TableSet};
 
 /// Writes the data of a progressive scan of a picture (T.81, G.1.2 and E.1.4): DC values or a band of one component, in
@@ -30,6 +30,7 @@ pub fn write_scan<V: BlockView, D: Desk>(
     requires blocks { HasBlocksIn (V.numbers view.now) (V.blocks view.now) }
     ensures { Sends (D.state desk.old) out.old (written_data (V.numbers view.now) head.now tables.now interval (V.blocks view.now)) result out.new (D.state desk.new) }
 {
+    let scan = WrittenScan { head, interval };
     if head.ss > 0 {
         let mut units = AcUnits {
             head,
@@ -39,9 +40,9 @@ pub fn write_scan<V: BlockView, D: Desk>(
             },
             bands: no_bands(head),
         };
-        put_scan(view, head, interval, &mut units, out, desk)
+        put_scan(view, scan, &mut units, out, desk)
     } else {
         let mut units = DcUnits { head, tables };
-        put_scan(view, head, interval, &mut units, out, desk)
+        put_scan(view, scan, &mut units, out, desk)
     }
 }

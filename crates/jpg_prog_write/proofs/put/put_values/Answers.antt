@@ -1,4 +1,4 @@
-use Rattle.std.proofs.Common.{ℕ, ◌≡◌, ◌++◌, [], true, Err, Ok, refl, sym, ap, ◌∙◌, subst, arith}
+use Rattle.std.proofs.Common.{ℕ, ◌≡◌, ◌++◌, [], true, Err, refl, sym, ap, ◌∙◌, subst, arith}
 use Rattle.std.proofs.lemmas.Result.{err_from_is_err_and}
 use Rattle.jpg_spec_write.specs.Sending.{value_elements}
 use Rattle.jpg_huff.specs.BitOut.{Puts, holding}
@@ -117,9 +117,11 @@ returns-clause-puts g c = λ later.
     let nothing = ap (λ xs. texts codes (value_elements 0 [] xs)) (sents_none b.band c.loop-at.at b.last b.block (omega (arith, c.loop-at-test.false))) ∙ texts_none codes in
     let left = elements_left (passed b waiting) later in
     let e = ap (texts codes) (values_first b waiting later c.requires.ready (omega (arith, c.if-bands-gt0.false)) i.waits) ∙ texts_join codes (front_elements b.band b.at b.last b.block) left in
-    let same = ap (λ (x : Bands). texts codes (elements_left (record x { at = b.last }) later)) i.same in
-    (text b.at, ap (λ xs. text b.at ++ xs) same ∙ sym e,
-     part_end Puts (state c.args.desk.now) (state c.loop-at.desk) (holding c.args.out.now c.args.held) (holding c.loop-at.out c.loop-at.after) (text b.at) (text c.loop-at.at) nothing i.part)
+    let same = ap (λ (x : Bands). texts codes (elements_left (record x { at = b.last }) later)) i.same in (
+      text b.at,
+      ap (λ xs. text b.at ++ xs) same ∙ sym e,
+      part_end Puts (state c.args.desk.now) (state c.loop-at.desk) (holding c.args.out.now c.args.held) (holding c.loop-at.out c.loop-at.after) (text b.at) (text c.loop-at.at) nothing i.part,
+    )
 
 pub returns-in_err-after-in-Some-clause-created : goal.returns-in_err-after-in-Some-clause-created
 returns-in_err-after-in-Some-clause-created g c =
@@ -148,7 +150,7 @@ returns-in_err-after-in-Some-clause-puts g c =
     let fault = c.in_err-after-in-Some.field-0.0 in
     let back = err_from_is_err_and c.from_residual.result c.from_residual.ensures.1 in
     let values = part_fault Puts of_bits (state c.args.desk.now) (state c.loop-at.desk) (state c.put_item.new.desk) (holding c.args.out.now c.args.held) (holding c.loop-at.out c.loop-at.after) (holding c.put_item.new.out [])
-        (text b.at) (text c.loop-at.at) (spelled codes f.element) (text whole.at) fault e c.loop-at.invariant.part (c.in_err-after-in-Some.ensures.puts f.element is) in
+    (text b.at) (text c.loop-at.at) (spelled codes f.element) (text whole.at) fault e c.loop-at.invariant.part (c.in_err-after-in-Some.ensures.puts f.element is) in
     subst (λ r. PutsValues (state c.args.desk.now) c.args.out.now c.args.held codes b r (record c.loop-at.bands { waiting = c.value_from.new.waiting }) c.put_item.new.out (state c.put_item.new.desk)) (sym (back.1 ∙ ap Err back.2))
     (λ later.
     let rest = elements_left (passed b none) later in
