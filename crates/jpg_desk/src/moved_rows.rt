@@ -18,6 +18,7 @@ use crate::row_picture::RowPicture;
 use crate::rows_read::{RowsFront, RowsRead, read_rows};
 use crate::rows_to::RowsTo;
 use jpg_base::{Bytes, Desk, Name, NoMemory, Put, QuantTable};
+use jpg_coefs::WrittenScan;
 use jpg_file::{FedRow, Picture, Reader, SoleScan, StripHead};
 use jpg_huff::{EncoderPlaces, EncoderSet, TableSet};
 use jpg_spec::{Copying, Limits};
@@ -242,7 +243,11 @@ fn rows_data<D: Desk>(
     let due = &scan.due;
     let job = &job.job;
     job.plan.out.frame.checked();
-    let mover = RowMover::new(alloc, &head.frame, job, &due.head, encoders, due.interval);
+    let written = WrittenScan {
+        head: &due.head,
+        interval: due.interval,
+    };
+    let mover = RowMover::new(alloc, &head.frame, job, written, encoders);
     let to = RowsTo::Moved { job, scan, mover };
     match read_rows(head, front, to, desk) {
         Err(why) => Err(why),

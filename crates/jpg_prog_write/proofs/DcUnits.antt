@@ -1,6 +1,6 @@
 -- The bits of a DC scan's units, one unit after another.
-use Rattle.std.proofs.Common.{◌≡◌, ℕ, ◌≤◌, ◌==◌, ◌/◌, ◌%◌, ◌^◌, Bool, true, false, cond, List, [], ◌∷◌, ◌++◌, take, refl, sym, ap, ◌∙◌, arith, ℤ, pos}
-use Rattle.std.specs.Prelude.{map, flat_map, slice_index_or, nat_lt, nat_abs, ◌-ℤ◌, ◌≤ℤ◌}
+use Rattle.std.proofs.Common.{◌≡◌, ℕ, ◌==◌, ◌/◌, ◌%◌, ◌^◌, Bool, true, false, cond, List, [], ◌∷◌, ◌++◌, take, refl, sym, ap, ◌∙◌, arith, ℤ, pos}
+use Rattle.std.specs.Prelude.{map, flat_map, slice_index_or, nat_lt, nat_abs, ◌-ℤ◌}
 use Rattle.std.proofs.Math.Path.{fun_ext}
 use Rattle.jpg_spec.specs.Numbers.{category, extra_bits}
 use Rattle.jpg_spec.specs.Segments.{HuffmanTable, ScanHead}

@@ -7,6 +7,7 @@ use Rattle.jpg_spec.specs.Segments.{ScanHead}
 use Rattle.jpg_spec.specs.Elements.{Element, is_zero}
 use Rattle.jpg_spec_write.specs.Sending.{Sent, sent, is_new, corrections_of, value_elements, ended_bands, band_elements}
 use Rattle.jpg_prog_write.specs.declared.band.Band.{Band}
+use Rattle.jpg_prog_write.specs.declared.bands.BandPart.{BandPart}
 use Rattle.jpg_prog_write.specs.declared.bands.Bands.{Bands}
 
 -- LISTS
@@ -63,6 +64,16 @@ pub record IsShort (block : List ℤ) : Type 0 where
 -- a bit of a word for each value that isn't 0
 abbrev pub AreMarks : ℕ → List ℤ → Type 0
 AreMarks marks block = (k : ℕ) → k < 64 → bit_at marks k ≡ (if is_zero (slice_index_or block k (pos 0)) then 0 else 1)
+
+-- values of a band, the last of which, if there is one, is newly sent
+pub record IsBandPart (part : BandPart) : Type 0 where
+  pub band : IsBand part.band
+  pub short : IsShort part.block.now
+  pub marks : AreMarks part.marks part.block.now
+  pub from : 1 ≤ part.from
+  pub order : part.from ≤ part.last
+  pub most : part.last ≤ part.band.end
+  pub front : ends_new (sents part.band part.from part.last part.block.now) ≡ true
 
 -- what is left from here on
 abbrev pub elements_left : Bands → List (List Sent) → List Element

@@ -6,9 +6,21 @@ use Rattle.jpg_huff.specs.Waiting.{Waiting}
 use Rattle.jpg_huff.specs.BitOut.{Puts, holding}
 use Rattle.jpg_spec.specs.Codes.{Code}
 use Rattle.jpg_spec_write.specs.Sending.{Sent}
-use Rattle.jpg_prog_write.specs.Items.{texts}
+use Rattle.jpg_spec.specs.Elements.{Element}
+use Rattle.jpg_prog_write.specs.Items.{IsItem, texts}
 use Rattle.jpg_prog_write.specs.Bands.{elements_left, elements_waiting}
+use Rattle.jpg_prog_write.specs.Written.{codes_in}
 use Rattle.jpg_prog_write.specs.declared.bands.Bands.{Bands}
+use Rattle.jpg_prog_write.specs.declared.put.AcCodes.{AcCodes}
+use Rattle.jpg_prog_write.specs.declared.put.WrittenElement.{WrittenElement}
+
+-- the codes by which AC symbols are written
+abbrev pub ac_codes : AcCodes → List Code
+ac_codes codes = codes_in codes.tables.now 1 codes.slot
+
+-- what is written of an element
+abbrev pub IsWritten : Element → WrittenElement → Type 0
+IsWritten e written = IsItem e written.item written.bits.now
 
 -- all but these; after a fault all of them are still pending
 abbrev pub PutsBut : DeskState → Waiting → List Bool → List Bool → Result (Unit {0}) WriteFault → Waiting → DeskState → Type 0

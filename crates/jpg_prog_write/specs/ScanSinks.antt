@@ -1,5 +1,5 @@
 -- WHAT THE STATES OF SINKS MEAN: of a scan's DC values and of its bands, written and counted.
-use Rattle.std.specs.Prelude.{◌≡◌, ℕ, ◌≤◌, ◌<◌, true, false, nat_lt, List, length, map, flat_map, ℤ}
+use Rattle.std.specs.Prelude.{◌≡◌, ℕ, ◌≤◌, ◌<◌, true, false, nat_lt, Bool, List, length, map, flat_map, ℤ}
 use Rattle.jpg_spec.specs.Elements.{Element}
 use Rattle.jpg_spec.specs.Segments.{ScanHead}
 use Rattle.jpg_spec.specs.Scan.{part_of}
@@ -9,8 +9,10 @@ use Rattle.jpg_coefs.specs.BitSinks.{BitSink, interval_bits}
 use Rattle.jpg_coefs.specs.MarkSinks.{MarkSink, owned_marks, interval_marks}
 use Rattle.jpg_prog_write.specs.Bands.{IsReady, IsShort, IsBandOf, band_sents}
 use Rattle.jpg_prog_write.specs.Items.{texts}
-use Rattle.jpg_prog_write.specs.Written.{tables_in, codes_in, first_slot}
+use Rattle.jpg_prog_write.specs.Putting.{ac_codes}
+use Rattle.jpg_prog_write.specs.Written.{tables_in, given_dc, first_slot}
 use Rattle.jpg_prog_write.specs.Counted.{marks_of}
+use Rattle.jpg_coefs.specs.declared.intervals.GivenUnit.{GivenUnit}
 use Rattle.jpg_prog_write.specs.declared.bands.Bands.{Bands}
 use Rattle.jpg_prog_write.specs.declared.dc.DcUnits.{DcUnits}
 use Rattle.jpg_prog_write.specs.declared.ac.AcUnits.{AcUnits}
@@ -26,6 +28,10 @@ pub record IsDcHead (head : ScanHead) : Type 0 where
 -- the results of the elements of units after these DC values
 abbrev pub dc_all : {X : Type 0} → (Owned → List X) → ScanHead → (ℕ → ℤ) → List UnitDue → List X
 dc_all each head last due = flat_map each (unit_elements false (nat_lt 0 head.ah) head.al (λ i. shifted head.al (last i)) due)
+
+-- the bits of the DC value of a unit
+abbrev pub unit_bits : DcUnits → GivenUnit → List Bool
+unit_bits s unit = element_bits (tables_in s.tables.now) s.head.now (given_dc s.head.now unit)
 
 abbrev pub dc_units : BitSink DcUnits
 dc_units = record {
@@ -60,10 +66,10 @@ bands_left b due = band_elements 32767 b.bands b.waiting.items (map (λ (u : Uni
 
 abbrev pub ac_units : BitSink AcUnits
 ac_units = record {
-  bits = λ s. interval_bits true (tables_in s.tables.now) s.head.now;
+  bits = λ s. interval_bits true (tables_in s.codes.tables.now) s.head.now;
   fits = λ s u. IsBandUnit s.head.now u;
-  rest = λ s last due. texts (codes_in s.tables.now 1 s.slot) (bands_left s.bands due);
-  later = λ from now. (now.head ≡ from.head) × (now.tables ≡ from.tables) × AreBandsOf now.head.now now.bands × (now.slot ≡ first_slot now.head.now);
+  rest = λ s last due. texts (ac_codes s.codes) (bands_left s.bands due);
+  later = λ from now. (now.head ≡ from.head) × (now.codes.tables ≡ from.codes.tables) × AreBandsOf now.head.now now.bands × (now.codes.slot ≡ first_slot now.head.now);
 }
 
 -- COUNTERS

@@ -1,5 +1,5 @@
 -- WHAT A PROGRESSIVE SCAN IS WRITTEN AS by given tables, and what can be written so (T.81, G.1.2, E.1.4).
-use Rattle.std.specs.Prelude.{◌≡◌, ℕ, nat_lt, ◌==◌, true, if◌then◌else◌, List, [], length, slice_index_or, unwrap_or, ℤ}
+use Rattle.std.specs.Prelude.{◌≡◌, ℕ, nat_lt, ◌==◌, true, if◌then◌else◌, List, [], length, slice_index_or, unwrap_or, ℤ, pos}
 use Rattle.std.specs.Option.{option_map}
 use Rattle.jpg_spec.specs.Codes.{Code}
 use Rattle.jpg_spec.specs.Geometry.{Frame, is_progressive}
@@ -11,6 +11,7 @@ use Rattle.jpg_spec_write.specs.ScanText.{Owned, dc_element, scan_elements, scan
 use Rattle.jpg_spec.specs.declared.frame.ScanPart.{ScanPart}
 use Rattle.jpg_base.specs.Cursor.{AreIn}
 use Rattle.jpg_huff.specs.declared.set.TableSet.{TableSet}
+use Rattle.jpg_coefs.specs.declared.intervals.GivenUnit.{GivenUnit}
 use Rattle.jpg_huff.specs.Sets.{dc_tables, ac_tables, in_slot}
 use Rattle.jpg_huff.specs.Tables.{table_of}
 
@@ -39,6 +40,10 @@ pub record IsProgScan (f : Frame) (head : ScanHead) : Type 0 where
 -- the element of a DC unit after another of its component
 abbrev pub dc_unit : ScanHead → ℕ → ℤ → ℤ → Owned
 dc_unit head i last v = (i, dc_element (nat_lt 0 head.ah) head.al (shifted head.al last) v)
+
+-- that of a unit that is given
+abbrev pub given_dc : ScanHead → GivenUnit → Owned
+given_dc head unit = dc_unit head unit.component unit.last (slice_index_or unit.block.now 0 (pos 0))
 
 -- the slot of a scan of one component
 abbrev pub no_scan_part : ScanPart

@@ -7,10 +7,10 @@ ghost use Rattle.jpg_prog_write.specs.ScanSinks.{IsAcHead, AreBandsOf, ac_units}
 
 use crate::band::Band;
 use crate::bands::Bands;
-use crate::put::{put_band, put_end};
-use jpg_base::{Block, Desk, ScanHead, WriteFault};
-use jpg_coefs::{UnitSink, end_interval};
-use jpg_huff::{BitOut, TableSet};
+use crate::put::{AcCodes, put_band, put_end};
+use jpg_base::{Desk, ScanHead, WriteFault};
+use jpg_coefs::{GivenUnit, UnitSink, end_interval};
+use jpg_huff::BitOut;
 
 // The band of a scan.
 fn band_of(head: &ScanHead) -> Band
@@ -45,13 +45,10 @@ pub(crate) fn no_bands(head: &ScanHead) -> Bands
 /// What writes the bands of a scan.
 #[derive(Drop)]
 pub(crate) struct AcUnits<'a> {
-    // The header of the scan.
+    // the header of the scan
     pub(crate) head: &'a ScanHead,
-    // The tables.
-    pub(crate) tables: &'a TableSet,
-    // The slot of its codes.
-    pub(crate) slot: u8,
-    // The current band, and the EOB run that waits.
+    pub(crate) codes: AcCodes<'a>,
+    // the current band, and the EOB run that waits
     pub(crate) bands: Bands,
 }
 
@@ -61,15 +58,12 @@ impl<'a, D: Desk> UnitSink<BitOut, D> for AcUnits<'a> {
     #[inline(always)]
     fn unit(
         &mut self,
-        component: u8,
-        last: i16,
-        block: &Block,
+        unit: GivenUnit<'_>,
         out: &mut BitOut,
         desk: &mut D,
     ) -> Result<(), WriteFault> {
-        let (tables, slot) = (self.tables, self.slot);
-        self.bands.begin(block);
-        put_band(&mut self.bands, tables, slot, out, desk)
+        self.bands.begin(unit.block);
+        put_band(&mut self.bands, self.codes, out, desk)
     }
 
     fn end(
@@ -78,8 +72,7 @@ impl<'a, D: Desk> UnitSink<BitOut, D> for AcUnits<'a> {
         out: &mut BitOut,
         desk: &mut D,
     ) -> Result<(), WriteFault> {
-        let (tables, slot) = (self.tables, self.slot);
-        put_end(&mut self.bands, tables, slot, out, desk)?;
+        put_end(&mut self.bands, self.codes, out, desk)?;
         self.bands = no_bands(self.head);
         end_interval(marker, out, desk)
     }

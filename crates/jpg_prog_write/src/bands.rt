@@ -5,7 +5,7 @@ ghost use Rattle.jpg_spec.specs.Numbers.{category as category_of};
 ghost use Rattle.jpg_spec.specs.Elements.{ends, is_zero};
 ghost use Rattle.jpg_spec_write.specs.Sending.{Sent, newly_significant as newly_sent, corrections_of, ended_bands};
 ghost use Rattle.jpg_prog_write.specs.Items.{IsItem, sent_by};
-ghost use Rattle.jpg_prog_write.specs.Bands.{IsBand, IsShort, AreMarks, IsReady, sents, ends_new, elements_left, elements_waiting, band_sents, cleared};
+ghost use Rattle.jpg_prog_write.specs.Bands.{IsBand, IsShort, AreMarks, IsBandPart, IsReady, sents, elements_left, elements_waiting, band_sents, cleared};
 ghost use Rattle.jpg_prog_write.specs.Steps.{IsShortSending, IsElementStep, IsCompleteElement, IsFirst, GivesElement, LeavesBand};
 
 use crate::band::{Band, Sending};
@@ -46,6 +46,21 @@ pub(crate) struct Bands {
 pub(crate) enum Step {
     Goes(u8),
     Gives(Item),
+}
+
+/// The values of a band from one place up to another, the last of which, if there is one, is newly sent.
+#[derive(Clone, Copy)]
+pub(crate) struct BandPart<'a> {
+    // The parameters of the scan.
+    pub(crate) band: Band,
+    // The block.
+    pub(crate) block: &'a Block,
+    // Which values of the block aren't 0.
+    pub(crate) marks: u64,
+    // The place of the first value.
+    pub(crate) from: u8,
+    // The place after the last one.
+    pub(crate) last: u8,
 }
 
 // An element, and the place after it.
@@ -89,46 +104,35 @@ fn pass_value(run: u8, sent: Sending, waiting: &mut Waiting) -> Step
     }
 }
 
-// How many zeros from a place on are skipped at once: none at the last place, and up to a run of 15.
+// How many zeros from a place of a part on are skipped at once: none at its last place, and up to a run of 15.
 #[inline(always)]
-fn zeros_ahead(block: &Block, marks: u64, at: u8, last: u8, run: u8) -> u8
-    requires marks { AreMarks marks block.now }
-    requires places { (at < last) × (last ≤ 64) }
+fn zeros_ahead(part: BandPart<'_>, at: u8, run: u8) -> u8
+    requires marks { AreMarks part.marks part.block.now }
+    requires places { (at < part.last) × (part.last ≤ 64) }
     requires run { run ≤ 15 }
-    ensures within { (at + result < last) × (run + result ≤ 15) }
-    ensures zeros { (k : ℕ) → at ≤ k → k < at + result → is_zero (slice_index_or block.now k (pos 0)) ≡ true }
+    ensures within { (at + result < part.entry.last) × (run + result ≤ 15) }
+    ensures zeros { (k : ℕ) → at ≤ k → k < at + result → is_zero (slice_index_or part.entry.block.now k (pos 0)) ≡ true }
 {
-    let _ = block;
-    let zeros = (marks >> at).trailing_zeros() as u8;
-    zeros.min(15 - run).min(last - 1 - at)
+    let zeros = (part.marks >> at).trailing_zeros() as u8;
+    zeros.min(15 - run).min(part.last - 1 - at)
 }
 
-// The next element of the values from one place up to another.
+// The next element of a part of a band.
 #[inline(always)]
-pub(crate) fn value_from(
-    band: Band,
-    block: &Block,
-    marks: u64,
-    from: u8,
-    last: u8,
-    waiting: &mut Waiting,
-) -> Option<Whole>
-    requires band { IsBand band }
-    requires short { IsShort block.now }
-    requires marks { AreMarks marks block.now }
-    requires places { (1 ≤ from) × (from < last) × (last ≤ band.end) }
-    requires front { ends_new (sents band from last block.now) ≡ true }
+pub(crate) fn value_from(part: BandPart<'_>, waiting: &mut Waiting) -> Option<Whole>
+    requires part { IsBandPart part }
+    requires some { part.from < part.last }
     requires none { waiting.old.items ≡ [] }
-    ensures some { IfSome result (λ w. IsCompleteElement band from last block.now w waiting.new.items) }
+    ensures some { IfSome result (λ w. IsCompleteElement part.entry.band part.entry.from part.entry.last part.entry.block.now w waiting.new.items) }
     ensures none { IfNone result ⊥ }
 {
     let mut run = 0;
-    let mut at = from;
-    while at < last {
-        let zeros = zeros_ahead(block, marks, at, last, run);
+    let mut at = part.from;
+    while at < part.last {
+        let zeros = zeros_ahead(part, at, run);
         run += zeros;
         at += zeros;
-        let sent = band.sent(block.get(at));
+        let sent = part.band.sent(part.block.get(at));
         at += 1;
         match pass_value(run, sent, waiting) {
             Step::Goes(more) => run = more,
@@ -247,14 +251,14 @@ impl Bands {
         ensures some { IfSome result (λ item. GivesElement self.old item self.new) }
         ensures none { IfNone result ⊥ }
     {
-        match value_from(
-            self.band,
-            &self.block,
-            self.marks,
-            self.at,
-            self.last,
-            &mut self.waiting,
-        ) {
+        let part = BandPart {
+            band: self.band,
+            block: &self.block,
+            marks: self.marks,
+            from: self.at,
+            last: self.last,
+        };
+        match value_from(part, &mut self.waiting) {
             Some(whole) => {
                 self.at = whole.at;
                 Some(whole.item)

@@ -1,51 +1,37 @@
 //! The symbols that a progressive scan writes, counted (T.81, G.1.2.1 to G.1.2.3, K.2).
-ghost use Rattle.std.specs.Prelude.{◌≡◌, ◌<◌, ◌≤◌, true, List, [], All};
+ghost use Rattle.std.specs.Prelude.{◌≡◌, ◌<◌, ◌≤◌, List, [], All};
 ghost use Rattle.jpg_spec.specs.Scan.{part_of as part_in};
 ghost use Rattle.jpg_spec_write.specs.Sending.{Sent, ended_bands};
 ghost use Rattle.jpg_spec_write.specs.WrittenFile.{HasBlocksIn};
 ghost use Rattle.jpg_huff.specs.Counts.{AreCounts, Notes, NotesBut};
 ghost use Rattle.jpg_coefs.specs.MarkSinks.{HasSlots, CountsClass, mark_kind, owned_marks, scan_marks};
-ghost use Rattle.jpg_prog_write.specs.Bands.{IsBand, IsShort, AreMarks, IsReady, sents, ends_new, front_elements, elements_left, elements_waiting};
+ghost use Rattle.jpg_prog_write.specs.Bands.{IsBandPart, IsReady, front_elements, elements_left, elements_waiting};
 ghost use Rattle.jpg_prog_write.specs.Steps.{PassesValues};
-ghost use Rattle.jpg_prog_write.specs.Written.{IsProgScan, dc_unit};
+ghost use Rattle.jpg_prog_write.specs.Written.{IsProgScan, given_dc};
 ghost use Rattle.jpg_prog_write.specs.Counted.{marks_of};
 ghost use Rattle.jpg_prog_write.specs.ScanSinks.{dc_counter, ac_counter};
 
 use crate::ac::{first_slot, no_bands};
-use crate::band::Band;
-use crate::bands::{Bands, Waiting, value_from};
+use crate::bands::{BandPart, Bands, Waiting, value_from};
 use crate::dc::difference;
 use crate::numbers::shifted;
-use jpg_base::{Block, ScanHead, WriteFault};
-use jpg_coefs::{BlockView, UnitSink, part_of, put_scan};
+use jpg_base::{ScanHead, WriteFault};
+use jpg_coefs::{BlockView, GivenUnit, UnitSink, WrittenScan, part_of, put_scan};
 use jpg_huff::{SymbolCounts, category};
 
-// Counts the values from one place up to another, where no corrections wait.
+// Counts the values of a part of a band, where no corrections wait.
 #[inline(always)]
-fn count_from(
-    band: Band,
-    block: &Block,
-    marks: u64,
-    from: u8,
-    last: u8,
-    waiting: &mut Waiting,
-    slot: u8,
-    counts: &mut SymbolCounts,
-)
-    requires band { IsBand band }
-    requires short { IsShort block.now }
-    requires marks { AreMarks marks block.now }
-    requires places { (1 ≤ from) × (from ≤ last) × (last ≤ band.end) }
-    requires front { ends_new (sents band from last block.now) ≡ true }
+fn count_from(part: BandPart<'_>, waiting: &mut Waiting, slot: u8, counts: &mut SymbolCounts)
+    requires part { IsBandPart part }
     requires none { waiting.old.items ≡ [] }
     requires counts { AreCounts counts.old }
     requires slot { slot < 2 }
-    ensures notes { Notes counts.old (marks_of slot (front_elements band from last block.now)) counts.new }
+    ensures notes { Notes counts.old (marks_of slot (front_elements part.entry.band part.entry.from part.entry.last part.entry.block.now)) counts.new }
     ensures none { waiting.new.items ≡ [] }
 {
-    let mut at = from;
-    while at < last {
-        match value_from(band, block, marks, at, last, waiting) {
+    let mut at = part.from;
+    while at < part.last {
+        match value_from(BandPart { from: at, ..part }, waiting) {
             Some(whole) => {
                 counts.count_ac(slot, whole.item.symbol);
                 waiting.clear();
@@ -67,10 +53,15 @@ fn count_values(bands: &mut Bands, slot: u8, counts: &mut SymbolCounts)
     ensures notes { (later : List (List Sent)) → NotesBut counts.old (marks_of slot (elements_left bands.old later)) (marks_of slot (elements_left bands.new later)) counts.new }
 {
     if bands.bands == 0 {
-        let (band, marks, at, last) = (bands.band, bands.marks, bands.at, bands.last);
-        let waiting = &mut bands.waiting;
-        count_from(band, &bands.block, marks, at, last, waiting, slot, counts);
-        bands.at = last;
+        let part = BandPart {
+            band: bands.band,
+            block: &bands.block,
+            marks: bands.marks,
+            from: bands.at,
+            last: bands.last,
+        };
+        count_from(part, &mut bands.waiting, slot, counts);
+        bands.at = bands.last;
     }
 }
 
@@ -104,18 +95,18 @@ fn count_end(bands: &mut Bands, slot: u8, counts: &mut SymbolCounts)
     }
 }
 
-// Counts the DC difference of a unit after another of its component, in a first pass.
+// Counts the DC difference of a unit, in a first pass.
 #[inline(always)]
-fn count_unit(head: &ScanHead, component: u8, last: i16, value: i16, counts: &mut SymbolCounts)
+fn count_unit(head: &ScanHead, unit: GivenUnit<'_>, counts: &mut SymbolCounts)
     requires bits { head.now.al ≤ 13 }
     requires first { head.now.ah ≡ 0 }
-    requires slot { (part_in head.now component).dc < 2 }
+    requires slot { (part_in head.now unit.component).dc < 2 }
     requires counts { AreCounts counts.old }
-    ensures { Notes counts.old (owned_marks head.now (dc_unit head.now component last value)) counts.new }
+    ensures { Notes counts.old (owned_marks head.now (given_dc head.now unit.entry)) counts.new }
 {
-    let part = part_of(head, component);
-    let value = shifted(value, head.al);
-    let prediction = shifted(last, head.al);
+    let part = part_of(head, unit.component);
+    let value = shifted(unit.block.get(0), head.al);
+    let prediction = shifted(unit.last, head.al);
     counts.count_dc(part.dc, category(difference(value, prediction)));
 }
 
@@ -131,13 +122,11 @@ impl<'a> UnitSink<SymbolCounts, ()> for DcCounter<'a> {
     #[inline(always)]
     fn unit(
         &mut self,
-        component: u8,
-        last: i16,
-        block: &Block,
+        unit: GivenUnit<'_>,
         counts: &mut SymbolCounts,
         desk: &mut (),
     ) -> Result<(), WriteFault> {
-        count_unit(self.head, component, last, block.get(0), counts);
+        count_unit(self.head, unit, counts);
         Ok(())
     }
 
@@ -166,13 +155,11 @@ impl<'a> UnitSink<SymbolCounts, ()> for AcCounter<'a> {
     #[inline(always)]
     fn unit(
         &mut self,
-        component: u8,
-        last: i16,
-        block: &Block,
+        unit: GivenUnit<'_>,
         counts: &mut SymbolCounts,
         desk: &mut (),
     ) -> Result<(), WriteFault> {
-        self.bands.begin(block);
+        self.bands.begin(unit.block);
         count_band(&mut self.bands, self.slot, counts);
         Ok(())
     }
@@ -203,7 +190,8 @@ fn count_bands<V: BlockView>(view: &V, head: &ScanHead, interval: u16, counts: &
         slot: first_slot(head),
         bands: no_bands(head),
     };
-    let counted = put_scan(view, head, interval, &mut units, counts, &mut ());
+    let scan = WrittenScan { head, interval };
+    let counted = put_scan(view, scan, &mut units, counts, &mut ());
     let _ = counted;
 }
 
@@ -222,7 +210,8 @@ fn count_differences<V: BlockView>(
     ensures { Notes counts.old (scan_marks (V.numbers view.now) head.now interval (V.blocks view.now)) counts.new }
 {
     let mut units = DcCounter { head };
-    let counted = put_scan(view, head, interval, &mut units, counts, &mut ());
+    let scan = WrittenScan { head, interval };
+    let counted = put_scan(view, scan, &mut units, counts, &mut ());
     let _ = counted;
 }
 

@@ -2,17 +2,16 @@
 ghost use Rattle.std.specs.Prelude.{◌≡◌, ◌≤◌, ◌≤ℤ◌, ◌++◌, true, pos, negsuc, ◌-ℤ◌};
 ghost use Rattle.jpg_spec.specs.Numbers.{category as category_of, extra_bits as extra_of};
 ghost use Rattle.jpg_spec.specs.Codes.{code_of};
-ghost use Rattle.jpg_spec_write.specs.ScanText.{element_bits};
 ghost use Rattle.jpg_huff.specs.BitOut.{Puts};
 ghost use Rattle.jpg_coefs.specs.BitSinks.{bit_kind};
-ghost use Rattle.jpg_prog_write.specs.Written.{codes_in, tables_in, dc_unit};
-ghost use Rattle.jpg_prog_write.specs.ScanSinks.{dc_units};
+ghost use Rattle.jpg_prog_write.specs.Written.{codes_in};
+ghost use Rattle.jpg_prog_write.specs.ScanSinks.{dc_units, unit_bits};
 
 use crate::numbers::{is_odd, shifted};
 use crate::put::{dc_code, put_bit};
-use jpg_base::{Block, Desk, ScanHead, WriteFault};
-use jpg_coefs::{UnitSink, end_interval, part_of};
-use jpg_huff::{BitOut, TableSet, category, extra_bits};
+use jpg_base::{Desk, ScanHead, WriteFault};
+use jpg_coefs::{GivenUnit, UnitSink, end_interval, part_of};
+use jpg_huff::{BitOut, ExtendedCode, TableSet, category, extra_bits};
 
 #[inline(always)]
 pub(crate) fn difference(value: i16, prediction: i16) -> i32
@@ -37,31 +36,31 @@ fn put_difference<D: Desk>(
 {
     let size = category(value);
     let code = dc_code(tables, slot, size);
-    out.put_code(code, extra_bits(value), size, desk)
+    let extra = extra_bits(value);
+    out.put_code(ExtendedCode { code, extra, size }, desk)
 }
 
-// Writes the DC value of a unit after another of its component.
+// Writes the DC value of a unit.
 #[inline(always)]
 fn put_unit<D: Desk>(
-    head: &ScanHead,
-    tables: &TableSet,
-    component: u8,
-    last: i16,
-    value: i16,
+    units: &DcUnits<'_>,
+    unit: GivenUnit<'_>,
     out: &mut BitOut,
     desk: &mut D,
 ) -> Result<(), WriteFault>
     requires created { (D.state desk.old).output_created ≡ true }
-    requires bits { head.now.al ≤ 13 }
-    ensures { Puts (D.state desk.old) out.old (element_bits (tables_in tables.now) head.now (dc_unit head.now component last value)) result out.new (D.state desk.new) }
+    requires bits { units.now.head.now.al ≤ 13 }
+    ensures { Puts (D.state desk.old) out.old (unit_bits units.now unit.entry) result out.new (D.state desk.new) }
 {
-    let value = shifted(value, head.al);
+    let head = units.head;
+    let value = shifted(unit.block.get(0), head.al);
     if head.ah > 0 {
         put_bit(is_odd(value), out, desk)
     } else {
-        let part = part_of(head, component);
-        let prediction = shifted(last, head.al);
-        put_difference(tables, part.dc, difference(value, prediction), out, desk)
+        let part = part_of(head, unit.component);
+        let prediction = shifted(unit.last, head.al);
+        let change = difference(value, prediction);
+        put_difference(units.tables, part.dc, change, out, desk)
     }
 }
 
@@ -78,14 +77,11 @@ impl<'a, D: Desk> UnitSink<BitOut, D> for DcUnits<'a> {
     #[inline(always)]
     fn unit(
         &mut self,
-        component: u8,
-        last: i16,
-        block: &Block,
+        unit: GivenUnit<'_>,
         out: &mut BitOut,
         desk: &mut D,
     ) -> Result<(), WriteFault> {
-        let value = block.get(0);
-        put_unit(self.head, self.tables, component, last, value, out, desk)
+        put_unit(self, unit, out, desk)
     }
 
     fn end(

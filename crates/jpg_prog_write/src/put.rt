@@ -5,25 +5,38 @@ ghost use Rattle.jpg_spec.specs.Elements.{Element};
 ghost use Rattle.jpg_spec.specs.Codes.{code_of};
 ghost use Rattle.jpg_spec_write.specs.Sending.{ended_bands};
 ghost use Rattle.jpg_huff.specs.BitOut.{Puts, PutsAfter};
-ghost use Rattle.jpg_prog_write.specs.Items.{IsItem, spelled, texts};
-ghost use Rattle.jpg_prog_write.specs.Bands.{IsBand, IsShort, AreMarks, IsReady, sents, ends_new, front_elements};
+ghost use Rattle.jpg_prog_write.specs.Items.{spelled, texts};
+ghost use Rattle.jpg_prog_write.specs.Bands.{IsReady};
 ghost use Rattle.jpg_prog_write.specs.Steps.{PassesValues};
-ghost use Rattle.jpg_prog_write.specs.Putting.{PutsBand, PutsValues};
+ghost use Rattle.jpg_prog_write.specs.Putting.{IsWritten, PutsBand, PutsValues, ac_codes};
 ghost use Rattle.jpg_prog_write.specs.Written.{codes_in};
 
-use crate::band::Band;
-use crate::bands::{Bands, Waiting, value_from};
+use crate::bands::{BandPart, Bands, value_from};
 use crate::item::Item;
-use jpg_base::{Block, Desk, WriteFault};
-use jpg_huff::{BitOut, Code, PendingBits, TableSet};
+use jpg_base::{Desk, WriteFault};
+use jpg_huff::{BitOut, Code, ExtendedCode, PendingBits, TableSet};
 
-// What is written for a symbol by the AC table in a slot, no bits if there is none.
+/// The codes of AC symbols: those of the table in a slot, none if there is no table.
+#[derive(Clone, Copy)]
+pub(crate) struct AcCodes<'a> {
+    pub(crate) tables: &'a TableSet,
+    pub(crate) slot: u8,
+}
+
+// An element of a band as it is written: its symbol with extra bits, and its corrections.
+#[derive(Clone, Copy)]
+struct WrittenElement<'a> {
+    item: Item,
+    bits: &'a [bool],
+}
+
+// What is written for an AC symbol, no bits if there is no table.
 #[inline(always)]
-fn ac_code(tables: &TableSet, slot: u8, symbol: u8) -> Code
-    ensures first { bits_of result.length result.bits ≡ code_of (codes_in tables.now 1 slot) symbol }
+fn ac_code(codes: AcCodes<'_>, symbol: u8) -> Code
+    ensures first { bits_of result.length result.bits ≡ code_of (ac_codes codes.entry) symbol }
     ensures fits { (result.length ≤ 16) × (result.bits < 2 ^ result.length) }
 {
-    match tables.ac(slot) {
+    match codes.tables.ac(codes.slot) {
         Some(table) => table.written(symbol),
         None => Code { length: 0, bits: 0 },
     }
@@ -91,70 +104,29 @@ fn put_bits<D: Desk>(
     Ok(after)
 }
 
-// Writes an element of a band with its corrections after bits that were handed out, by the AC table in a slot (T.81,
-// G.1.2.2, G.1.2.3).
+// Writes an element of a band with its corrections after bits that were handed out (T.81, G.1.2.2, G.1.2.3).
 #[inline(always)]
 fn put_item<D: Desk>(
-    tables: &TableSet,
-    slot: u8,
-    item: Item,
-    bits: &[bool],
+    codes: AcCodes<'_>,
+    element: WrittenElement<'_>,
     held: PendingBits,
     out: &mut BitOut,
     desk: &mut D,
 ) -> Result<PendingBits, WriteFault>
     requires created { (D.state desk.old).output_created ≡ true }
-    requires fits { (item.size ≤ 16) × (item.extra < 2 ^ item.size) }
+    requires fits { (element.item.size ≤ 16) × (element.item.extra < 2 ^ element.item.size) }
     requires none { out.old.bits ≡ [] }
-    ensures puts { (e : Element) → IsItem e item bits.now → PutsAfter (D.state desk.old) out.old held (spelled (codes_in tables.now 1 slot) e) result out.new (D.state desk.new) }
+    ensures puts { (e : Element) → IsWritten e element.entry → PutsAfter (D.state desk.old) out.old held (spelled (ac_codes codes.entry) e) result out.new (D.state desk.new) }
     ensures none { out.new.bits ≡ [] }
 {
-    let code = ac_code(tables, slot, item.symbol);
-    let after = out.put_code_after(held, code, item.extra, item.size, desk)?;
-    put_bits(bits, after, out, desk)
-}
-
-// Writes the values from one place up to another after bits that were handed out, where no corrections wait.
-#[inline(always)]
-fn put_from<D: Desk>(
-    band: Band,
-    block: &Block,
-    marks: u64,
-    from: u8,
-    last: u8,
-    waiting: &mut Waiting,
-    tables: &TableSet,
-    slot: u8,
-    held: PendingBits,
-    out: &mut BitOut,
-    desk: &mut D,
-) -> Result<PendingBits, WriteFault>
-    requires band { IsBand band }
-    requires short { IsShort block.now }
-    requires marks { AreMarks marks block.now }
-    requires places { (1 ≤ from) × (from ≤ last) × (last ≤ band.end) }
-    requires front { ends_new (sents band from last block.now) ≡ true }
-    requires waits { waiting.old.items ≡ [] }
-    requires created { (D.state desk.old).output_created ≡ true }
-    requires none { out.old.bits ≡ [] }
-    ensures puts { PutsAfter (D.state desk.old) out.old held (texts (codes_in tables.now 1 slot) (front_elements band from last block.now)) result out.new (D.state desk.new) }
-    ensures none { out.new.bits ≡ [] }
-    ensures waits { (left : List Bool) → result ≡ Ok left → waiting.new.items ≡ [] }
-{
-    let mut after = held;
-    let mut at = from;
-    while at < last {
-        match value_from(band, block, marks, at, last, waiting) {
-            Some(whole) => {
-                let bits = waiting.as_slice();
-                after = put_item(tables, slot, whole.item, bits, after, out, desk)?;
-                waiting.clear();
-                at = whole.at;
-            }
-            None => return Ok(after),
-        }
-    }
-    Ok(after)
+    let Item {
+        symbol,
+        extra,
+        size,
+    } = element.item;
+    let code = ac_code(codes, symbol);
+    let after = out.put_code_after(held, ExtendedCode { code, extra, size }, desk)?;
+    put_bits(element.bits, after, out, desk)
 }
 
 // Writes the values of a band that is begun up to its last newly sent one, if no EOB run waits before them, after bits
@@ -162,8 +134,7 @@ fn put_from<D: Desk>(
 #[inline(always)]
 fn put_values<D: Desk>(
     bands: &mut Bands,
-    tables: &TableSet,
-    slot: u8,
+    codes: AcCodes<'_>,
     held: PendingBits,
     out: &mut BitOut,
     desk: &mut D,
@@ -175,36 +146,43 @@ fn put_values<D: Desk>(
     ensures created { (D.state desk.new).output_created ≡ true }
     ensures band { bands.new.band ≡ bands.old.band }
     ensures none { out.new.bits ≡ [] }
-    ensures puts { PutsValues (D.state desk.old) out.old held (codes_in tables.now 1 slot) bands.old result bands.new out.new (D.state desk.new) }
+    ensures puts { PutsValues (D.state desk.old) out.old held (ac_codes codes.entry) bands.old result bands.new out.new (D.state desk.new) }
 {
-    if bands.bands == 0 {
-        let (band, marks, at, last) = (bands.band, bands.marks, bands.at, bands.last);
-        let waiting = &mut bands.waiting;
-        let after = put_from(
-            band,
-            &bands.block,
-            marks,
-            at,
-            last,
-            waiting,
-            tables,
-            slot,
-            held,
-            out,
-            desk,
-        )?;
-        bands.at = last;
-        Ok(after)
-    } else {
-        Ok(held)
+    if bands.bands > 0 {
+        return Ok(held);
     }
+    let (band, marks, last) = (bands.band, bands.marks, bands.last);
+    let mut after = held;
+    let mut at = bands.at;
+    while at < last {
+        let part = BandPart {
+            band,
+            block: &bands.block,
+            marks,
+            from: at,
+            last,
+        };
+        match value_from(part, &mut bands.waiting) {
+            Some(whole) => {
+                let element = WrittenElement {
+                    item: whole.item,
+                    bits: bands.waiting.as_slice(),
+                };
+                after = put_item(codes, element, after, out, desk)?;
+                bands.waiting.clear();
+                at = whole.at;
+            }
+            None => return Ok(after),
+        }
+    }
+    bands.at = last;
+    Ok(after)
 }
 
 // Writes all of a band that is begun, except for the EOB run that waits then.
 pub(crate) fn put_band<D: Desk>(
     bands: &mut Bands,
-    tables: &TableSet,
-    slot: u8,
+    codes: AcCodes<'_>,
     out: &mut BitOut,
     desk: &mut D,
 ) -> Result<(), WriteFault>
@@ -212,15 +190,15 @@ pub(crate) fn put_band<D: Desk>(
     requires created { (D.state desk.old).output_created ≡ true }
     ensures ready { (u : Unit {0}) → result ≡ Ok u → IsReady bands.new }
     ensures band { bands.new.band ≡ bands.old.band }
-    ensures puts { PutsBand (D.state desk.old) out.old (codes_in tables.now 1 slot) bands.old result bands.new out.new (D.state desk.new) }
+    ensures puts { PutsBand (D.state desk.old) out.old (ac_codes codes.entry) bands.old result bands.new out.new (D.state desk.new) }
 {
     let mut held = out.take();
     loop {
-        held = put_values(bands, tables, slot, held, out, desk)?;
+        held = put_values(bands, codes, held, out, desk)?;
         match bands.next() {
             Some(item) => {
                 let bits = bands.waiting.as_slice();
-                held = put_item(tables, slot, item, bits, held, out, desk)?;
+                held = put_item(codes, WrittenElement { item, bits }, held, out, desk)?;
                 bands.clear();
             }
             None => {
@@ -231,21 +209,19 @@ pub(crate) fn put_band<D: Desk>(
     }
 }
 
-// Writes an element of a band with its corrections, by the AC table in a slot.
+// Writes an element of a band with its corrections.
 fn put_last<D: Desk>(
-    tables: &TableSet,
-    slot: u8,
-    item: Item,
-    bits: &[bool],
+    codes: AcCodes<'_>,
+    element: WrittenElement<'_>,
     out: &mut BitOut,
     desk: &mut D,
 ) -> Result<(), WriteFault>
     requires created { (D.state desk.old).output_created ≡ true }
-    requires fits { (item.size ≤ 16) × (item.extra < 2 ^ item.size) }
-    ensures { (e : Element) → IsItem e item bits.now → Puts (D.state desk.old) out.old (spelled (codes_in tables.now 1 slot) e) result out.new (D.state desk.new) }
+    requires fits { (element.item.size ≤ 16) × (element.item.extra < 2 ^ element.item.size) }
+    ensures { (e : Element) → IsWritten e element.entry → Puts (D.state desk.old) out.old (spelled (ac_codes codes.entry) e) result out.new (D.state desk.new) }
 {
     let held = out.take();
-    match put_item(tables, slot, item, bits, held, out, desk) {
+    match put_item(codes, element, held, out, desk) {
         Ok(held) => {
             out.give(held);
             Ok(())
@@ -257,17 +233,19 @@ fn put_last<D: Desk>(
 // Writes the EOB run that waits after the last band.
 pub(crate) fn put_end<D: Desk>(
     bands: &mut Bands,
-    tables: &TableSet,
-    slot: u8,
+    codes: AcCodes<'_>,
     out: &mut BitOut,
     desk: &mut D,
 ) -> Result<(), WriteFault>
     requires ready { IsReady bands.old }
     requires created { (D.state desk.old).output_created ≡ true }
-    ensures { Puts (D.state desk.old) out.old (texts (codes_in tables.now 1 slot) (ended_bands bands.old.bands bands.old.waiting.items)) result out.new (D.state desk.new) }
+    ensures { Puts (D.state desk.old) out.old (texts (ac_codes codes.entry) (ended_bands bands.old.bands bands.old.waiting.items)) result out.new (D.state desk.new) }
 {
     match bands.end() {
-        Some(item) => put_last(tables, slot, item, bands.waiting.as_slice(), out, desk),
+        Some(item) => {
+            let bits = bands.waiting.as_slice();
+            put_last(codes, WrittenElement { item, bits }, out, desk)
+        }
         None => Ok(()),
     }
 }

@@ -6,8 +6,9 @@ ghost use Rattle.jpg_prog_write.specs.Written.{IsProgScan, written_data};
 
 use crate::ac::{AcUnits, first_slot, no_bands};
 use crate::dc::DcUnits;
+use crate::put::AcCodes;
 use jpg_base::{Desk, ScanHead, WriteFault};
-use jpg_coefs::{BlockView, put_scan};
+use jpg_coefs::{BlockView, WrittenScan, put_scan};
 use jpg_huff::{BitOut, TableSet};
 
 /// Writes the data of a progressive scan of a picture (T.81, G.1.2 and E.1.4): DC values or a band of one component, in
@@ -29,16 +30,19 @@ pub fn write_scan<V: BlockView, D: Desk>(
     requires blocks { HasBlocksIn (V.numbers view.now) (V.blocks view.now) }
     ensures { Sends (D.state desk.old) out.old (written_data (V.numbers view.now) head.now tables.now interval (V.blocks view.now)) result out.new (D.state desk.new) }
 {
+    let scan = WrittenScan { head, interval };
     if head.ss > 0 {
         let mut units = AcUnits {
             head,
-            tables,
-            slot: first_slot(head),
+            codes: AcCodes {
+                tables,
+                slot: first_slot(head),
+            },
             bands: no_bands(head),
         };
-        put_scan(view, head, interval, &mut units, out, desk)
+        put_scan(view, scan, &mut units, out, desk)
     } else {
         let mut units = DcUnits { head, tables };
-        put_scan(view, head, interval, &mut units, out, desk)
+        put_scan(view, scan, &mut units, out, desk)
     }
 }

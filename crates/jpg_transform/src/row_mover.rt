@@ -12,7 +12,7 @@ use crate::moved_block::all_columns;
 use crate::moved_row::MovedRow;
 use crate::zero_row::ZeroRow;
 use jpg_base::{Bytes, Frame, NoMemory, ScanHead};
-use jpg_coefs::{BlockView, Coefs};
+use jpg_coefs::{BlockView, Coefs, WrittenScan};
 use jpg_huff::EncoderSet;
 use jpg_seq::KeptScan;
 use std::alloc::Global;
@@ -84,23 +84,22 @@ impl<'a> RowMover<'a> {
     ghost use Rattle.jpg_transform.specs.RowsMoved.{CanMove, CanMoveZero, CanMoveZeros, GivesMoved, HasAllMoved, HasMoved, IsMovedScan, MovesRow, MovesZero, MovesZeros, TellsWhole, moved_scan};
 
     /// The output of this job, of a picture with this frame of which no MCU row was taken. Rows stay rows in it
-    /// (`row_scan`), and it has one scan: with this header, by these tables, and with a restart marker after each
-    /// `interval` MCUs (0: none). It takes no memory yet.
+    /// (`row_scan`), and it has this one scan, by these tables. It takes no memory yet.
     pub fn new(
         alloc: Global,
         source: &Frame,
         job: &'a Job,
-        head: &'a ScanHead,
+        scan: WrittenScan<'a>,
         encoders: EncoderSet<'a>,
-        interval: u16,
     ) -> RowMover<'a>
-        requires { IsMovedScan (moved_scan source.now job.now head.now encoders interval) }
-        ensures { (blocks : Blocks) → HasMoved (moved_scan source.now job.now head.now encoders.entry interval) 0 blocks result }
+        requires { IsMovedScan (moved_scan source.now job.now scan.head.now encoders scan.interval) }
+        ensures { (blocks : Blocks) → HasMoved (moved_scan source.now job.now scan.head.now encoders.entry scan.interval) 0 blocks result }
     {
         let frame = &job.plan.out.frame;
         frame.checked();
         let columns = all_columns(job.transform, frame);
         let rows = all_rows(source, frame.count());
+        let WrittenScan { head, interval } = scan;
         let scan = KeptScan::new(alloc, frame, head, encoders, interval);
         let units = units_moved(source, frame, head);
         RowMover {

@@ -5,13 +5,13 @@ use Rattle.jpg_prog_write.proofs.bands.value_from.Given as goal
 
 abbrev pub invariant-loop-at : goal.invariant-loop-at
 invariant-loop-at l = record {
-  from : l.from ≤ l.at;
-  some : l.at < l.last;
+  from : l.part.from ≤ l.at;
+  some : l.at < l.part.last;
   run : l.run ≤ 15;
-  room : length l.waiting.items + l.from ≤ l.at;
-  front : ends_new (sents l.band l.at l.last l.block) ≡ true;
-  same : value_elements 0 [] (sents l.band l.from l.last l.block) ≡ value_elements l.run l.waiting.items (sents l.band l.at l.last l.block);
+  room : length l.waiting.items + l.part.from ≤ l.at;
+  front : ends_new (sents l.part.band l.at l.part.last l.part.block.now) ≡ true;
+  same : value_elements 0 [] (sents l.part.band l.part.from l.part.last l.part.block.now) ≡ value_elements l.run l.waiting.items (sents l.part.band l.at l.part.last l.part.block.now);
 }
 
 abbrev pub decreases-loop-at : goal.decreases-loop-at
-decreases-loop-at l = l.last - l.at
+decreases-loop-at l = l.part.last - l.at

@@ -6,8 +6,7 @@ use Rattle.jpg_huff.proofs.InParts.{DoneButFor, of_bits, part_start, part_same, 
 use Rattle.jpg_huff.proofs.Together.{puts_nothing}
 use Rattle.jpg_prog_write.specs.Items.{IsItem, spelled, texts}
 use Rattle.jpg_prog_write.specs.Bands.{IsReady, elements_left, cleared, steps_left}
-use Rattle.jpg_prog_write.specs.Putting.{PutsBut}
-use Rattle.jpg_prog_write.specs.Written.{codes_in}
+use Rattle.jpg_prog_write.specs.Putting.{PutsBut, ac_codes}
 use Rattle.jpg_prog_write.proofs.After.{still_held}
 use Rattle.jpg_prog_write.proofs.Texts.{texts_first}
 use Rattle.jpg_prog_write.proofs.put.put_band.Goals as goal
@@ -15,7 +14,7 @@ use Rattle.jpg_prog_write.proofs.put.put_band.Goals as goal
 pub loop-held-init : goal.loop-held-init
 loop-held-init g c =
     let s = g.D.Desk.state c.args.desk.now in
-    let codes = codes_in c.args.tables.now 1 c.args.slot in
+    let codes = ac_codes c.args.codes in
     record {
       created = c.requires.created;
       ready = c.requires.ready;
@@ -36,7 +35,7 @@ put_item-requires-clause-fits g c = (let f = c.in-Some.ensures.some.first [] in 
 pub returns-in_err-held-clause-puts : goal.returns-in_err-held-clause-puts
 returns-in_err-held-clause-puts g c = λ later.
     let state = g.D.Desk.state in
-    let codes = codes_in c.args.tables.now 1 c.args.slot in
+    let codes = ac_codes c.args.codes in
     let all = texts codes (elements_left c.args.bands.now later) in
     let rest = texts codes (elements_left c.loop-held.bands later) in
     let after = c.put_values.new.out in
@@ -49,7 +48,7 @@ returns-in_err-held-clause-puts g c = λ later.
 pub returns-in_err-held-in-Some-clause-puts : goal.returns-in_err-held-in-Some-clause-puts
 returns-in_err-held-in-Some-clause-puts g c = λ later.
     let state = g.D.Desk.state in
-    let codes = codes_in c.args.tables.now 1 c.args.slot in
+    let codes = ac_codes c.args.codes in
     let b = c.put_values.new.bands in
     let new = c.next.new.self in
     let all = texts codes (elements_left c.args.bands.now later) in
@@ -70,7 +69,7 @@ returns-in_err-held-in-Some-clause-puts g c = λ later.
 pub loop-held-preserved : goal.loop-held-preserved
 loop-held-preserved g c =
     let state = g.D.Desk.state in
-    let codes = codes_in c.args.tables.now 1 c.args.slot in
+    let codes = ac_codes c.args.codes in
     let b = c.put_values.new.bands in
     let new = c.next.new.self in
     let gives = c.in-Some.ensures.some in
@@ -103,7 +102,7 @@ loop-held-smaller g c =
 pub returns-in-None-clause-puts : goal.returns-in-None-clause-puts
 returns-in-None-clause-puts g c = λ later.
     let state = g.D.Desk.state in
-    let codes = codes_in c.args.tables.now 1 c.args.slot in
+    let codes = ac_codes c.args.codes in
     let all = texts codes (elements_left c.args.bands.now later) in
     let v = c.in_ok-held.ensures.puts later in
     let part = part_then Puts of_bits (state c.args.desk.now) (state c.loop-held.desk) (state c.put_values.new.desk) c.args.out.now (holding c.loop-held.out c.loop-held.held) (holding c.put_values.new.out c.in_ok-held.held) all (texts codes (elements_left c.loop-held.bands later)) v.0 (texts codes (elements_left c.put_values.new.bands later))

@@ -4,13 +4,13 @@ use Rattle.jpg_huff.specs.BitOut.{Puts, holding}
 use Rattle.jpg_huff.proofs.InParts.{DoneButFor}
 use Rattle.jpg_prog_write.specs.Items.{texts}
 use Rattle.jpg_prog_write.specs.Bands.{IsReady, elements_left, steps_left}
-use Rattle.jpg_prog_write.specs.Written.{codes_in}
+use Rattle.jpg_prog_write.specs.Putting.{ac_codes}
 use Rattle.jpg_prog_write.proofs.put.put_band.Given as goal
 
 abbrev pub invariant-loop-held : goal.invariant-loop-held
 invariant-loop-held g l =
     let state = g.D.Desk.state in
-    let codes = codes_in l.tables 1 l.slot in
+    let codes = ac_codes l.codes in
     record {
       created : (state l.desk).output_created ≡ true;
       ready : IsReady l.bands;

@@ -32,7 +32,7 @@ returns g c =
     c.end_interval.ensures
     (λ from due same fits. (
       (same.0, same.1, c.no_bands-self.ensures.bands, same.3),
-      ap (λ slot. texts (codes_in s.tables.now 1 slot) (bands_left c.no_bands-self.result due)) same.3
-          ∙ band_texts s.tables.now head c.no_bands-self.result due c.no_bands-self.ensures.bands c.no_bands-self.ensures.none (subst (λ h. All (IsBandUnit h) due) (sym (ap (λ h. h.now) same.0)) fits)
-          ∙ ap (λ h. interval_bits true (tables_in s.tables.now) h.now due) same.0 ∙ ap (λ t. interval_bits true (tables_in t.now) from.head.now due) same.1,
+      ap (λ slot. texts (codes_in s.codes.tables.now 1 slot) (bands_left c.no_bands-self.result due)) same.3
+          ∙ band_texts s.codes.tables.now head c.no_bands-self.result due c.no_bands-self.ensures.bands c.no_bands-self.ensures.none (subst (λ h. All (IsBandUnit h) due) (sym (ap (λ h. h.now) same.0)) fits)
+          ∙ ap (λ h. interval_bits true (tables_in s.codes.tables.now) h.now due) same.0 ∙ ap (λ t. interval_bits true (tables_in t.now) from.head.now due) same.1,
     ))

@@ -15,7 +15,7 @@ begin-requires-clause-ready c = c.requires.2.sink.1.ready
 pub begin-requires-clause-short : goal.begin-requires-clause-short
 begin-requires-clause-short c =
     let d = c.requires.0 in
-    (All-head (ac_counter.fits d.from.sink) (c.args.component, c.args.block.now) d.rest c.requires.2.rest_fits).short
+    (All-head (ac_counter.fits d.from.sink) (c.args.unit.component, c.args.unit.block.now) d.rest c.requires.2.rest_fits).short
 
 pub count_band-requires-clause-counts : goal.count_band-requires-clause-counts
 count_band-requires-clause-counts c = c.requires.2.counting.done.counts
@@ -28,7 +28,7 @@ returns c =
     let s = c.args.self.now in
     let new = c.count_band.new.bands in
     let same_band = c.count_band.ensures.band ∙ c.begin.ensures.band in
-    takes_unit ac_counter (c.args.component, c.args.block.now) c.args.last (at s c.args.counts.now c.args.desk.now) (at (record s { bands = new }) c.count_band.new.counts c.args.desk.now)
+    takes_unit ac_counter (c.args.unit.component, c.args.unit.block.now) c.args.unit.last (at s c.args.counts.now c.args.desk.now) (at (record s { bands = new }) c.count_band.new.counts c.args.desk.now)
     (λ from lasts rest same fits e.
     let later = map (λ (v : UnitDue). band_sents s.bands.band v.1) rest in
     let done = c.count_band.ensures.notes later in

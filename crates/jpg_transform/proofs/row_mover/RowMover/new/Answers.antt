@@ -8,5 +8,5 @@ all_rows-rows-requires-clause-there c = λ i low. count_in i c.requires (subst (
 
 pub returns : goal.returns
 returns c = λ blocks.
-    begins_moved (moved_scan c.args.source.now c.args.job.now c.args.head.now c.args.encoders c.args.interval) blocks _ c.requires refl c.all_columns-columns.ensures
+    begins_moved (moved_scan c.args.source.now c.args.job.now c.args.scan.head.now c.args.encoders c.args.scan.interval) blocks _ c.requires refl c.all_columns-columns.ensures
     (λ i low. c.all_rows-rows.ensures i (subst (λ n. i < n) (sym c.count.ensures.value) low)) c.units_moved-units.ensures c.new-scan.ensures.left c.new-scan.ensures.keeps
