@@ -3,12 +3,13 @@ use Rattle.std.specs.Prelude.{◌≡◌, ℕ, ◌<◌, ◌≤◌, ◌==◌, ◌&
 use Rattle.std.specs.Option.{option_map}
 use Rattle.jpg_spec.specs.FlatTable.{flat_table}
 use Rattle.jpg_spec.specs.Geometry.{Frame, is_progressive}
-use Rattle.jpg_spec.specs.Scan.{TablesInForce}
+use Rattle.jpg_spec.specs.Scan.{Blocks, TablesInForce}
 use Rattle.jpg_spec.specs.Segments.{HuffmanTable}
 use Rattle.jpg_spec_fit.specs.Fitted.{fitted}
-use Rattle.jpg_spec_write.specs.ScanText.{is_plain}
+use Rattle.jpg_spec_write.specs.ScanText.{Owned, is_plain, scan_elements}
 use Rattle.jpg_spec_write.specs.declared.huffman.Huffman.{Huffman}
 use Rattle.jpg_spec_write.specs.declared.huffman.Huffman.TheVariants.{Plain, Fitted}
+use Rattle.jpg_coefs.specs.declared.intervals.WrittenScan.{WrittenScan}
 use Rattle.jpg_huff.specs.declared.table.Table.{Table}
 use Rattle.jpg_huff.specs.declared.set.TableSet.{TableSet}
 use Rattle.jpg_huff.specs.Flat.{symbols_in}
@@ -16,6 +17,10 @@ use Rattle.jpg_huff.specs.Counts.{row}
 use Rattle.jpg_huff.specs.declared.counts.SymbolCounts.{SymbolCounts}
 use Rattle.jpg_huff.specs.Sets.{dc_tables, ac_tables, in_slot, no_tables}
 use Rattle.jpg_huff.specs.Tables.{table_of}
+
+-- what a scan sends, by intervals
+abbrev pub written_elements : WrittenScan → Frame → Blocks → List (List Owned)
+written_elements scan f blocks = scan_elements f scan.head.now scan.interval blocks
 
 -- the slots of a class (0 is DC, 1 is AC)
 abbrev pub class_tables : TableSet → ℕ → List (Option Table)

@@ -151,7 +151,7 @@ pub fn write_head<D: Desk>(
 ) -> Result<(), WriteFault>
     requires can { CanSend (D.state desk.old) out.old }
     requires head { IsHeadOf frame.now scan.head.now }
-    ensures { Sends (D.state desk.old) out.old (head_due (identifiers frame.now.components) scan.head.now last scan.interval) result out.new (D.state desk.new) }
+    ensures { Sends (D.state desk.old) out.old (head_due (identifiers frame.now.components) scan.entry.head.now last scan.entry.interval) result out.new (D.state desk.new) }
 {
     write_interval(last, scan.interval, out, desk)?;
     write_segment(SOS, contents_of(frame, scan.head).as_slice(), out, desk)

@@ -75,8 +75,8 @@ pub fn write_scan<V: BlockView, D: Desk>(
     requires four { HasFour given.old.tables }
     requires scan { CanWritePlanned planned (V.numbers view.now) (V.blocks view.now) }
     ensures four { HasFour given.new.tables }
-    ensures sends { Sends (D.state desk.old) out.old (planned_bytes planned (V.numbers view.now) (V.blocks view.now) (so_far given.old)) result out.new (D.state desk.new) }
-    ensures given { (u : Unit {0}) → result ≡ Ok u → so_far given.new ≡ planned_written planned (V.numbers view.now) (V.blocks view.now) (so_far given.old) }
+    ensures sends { Sends (D.state desk.old) out.old (planned_bytes planned.entry (V.numbers view.now) (V.blocks view.now) (so_far given.old)) result out.new (D.state desk.new) }
+    ensures given { (u : Unit {0}) → result ≡ Ok u → so_far given.new ≡ planned_written planned.entry (V.numbers view.now) (V.blocks view.now) (so_far given.old) }
 {
     let due = due_of(planned);
     let plan = planned.plan;
@@ -97,7 +97,7 @@ pub fn write_scan<V: BlockView, D: Desk>(
 /// What a scan that is planned is written with beside its tables.
 pub fn due_of(planned: PlannedScan<'_>) -> ScanDue
     requires { (f : FrameOf) × (blocks : Blocks) × CanWritePlanned planned f blocks }
-    ensures { IsDue planned.plan.now planned.entry.now result }
+    ensures { IsDue planned.entry.plan.now planned.entry.entry.now result }
 {
     let PlannedScan { plan, entry } = planned;
     let is_prog = plan.out.frame.is_progressive();
@@ -123,8 +123,8 @@ pub fn write_start<D: Desk>(
     requires four { HasFour given.old.tables }
     requires due { CanStart scan.frame.now scan.due.now scan.tables.now }
     ensures four { HasFour given.new.tables }
-    ensures sends { Sends (D.state desk.old) out.old (start_text scan.frame.now (so_far given.old) scan.due.now scan.tables.now) result out.new (D.state desk.new) }
-    ensures given { (u : Unit {0}) → result ≡ Ok u → so_far given.new ≡ due_written (so_far given.old) scan.due.now scan.tables.now }
+    ensures sends { Sends (D.state desk.old) out.old (start_text scan.entry.frame.now (so_far given.old) scan.entry.due.now scan.entry.tables.now) result out.new (D.state desk.new) }
+    ensures given { (u : Unit {0}) → result ≡ Ok u → so_far given.new ≡ due_written (so_far given.old) scan.entry.due.now scan.entry.tables.now }
 {
     let DueScan { frame, due, tables } = scan;
     let last = given.interval;
@@ -149,8 +149,8 @@ fn write_parts<V: BlockView, D: Desk>(
     requires four { HasFour given.old.tables }
     requires due { CanWriteDue scan.frame.now (V.numbers view.now) (V.blocks view.now) scan.due.now scan.tables.now }
     ensures four { HasFour given.new.tables }
-    ensures sends { Sends (D.state desk.old) out.old (due_after scan (V.numbers view.now) (V.blocks view.now) (so_far given.old)) result out.new (D.state desk.new) }
-    ensures given { (u : Unit {0}) → result ≡ Ok u → so_far given.new ≡ due_written (so_far given.old) scan.due.now scan.tables.now }
+    ensures sends { Sends (D.state desk.old) out.old (due_after scan.entry (V.numbers view.now) (V.blocks view.now) (so_far given.old)) result out.new (D.state desk.new) }
+    ensures given { (u : Unit {0}) → result ≡ Ok u → so_far given.new ≡ due_written (so_far given.old) scan.entry.due.now scan.entry.tables.now }
 {
     write_start(scan, given, out, desk)?;
     write_data(scan, view, out, desk)
@@ -165,7 +165,7 @@ fn write_data<V: BlockView, D: Desk>(
 ) -> Result<(), WriteFault>
     requires can { CanSend (D.state desk.old) out.old }
     requires due { CanWriteDue scan.frame.now (V.numbers view.now) (V.blocks view.now) scan.due.now scan.tables.now }
-    ensures { Sends (D.state desk.old) out.old (due_data (V.numbers view.now) (V.blocks view.now) scan.due.now scan.tables.now) result out.new (D.state desk.new) }
+    ensures { Sends (D.state desk.old) out.old (due_data (V.numbers view.now) (V.blocks view.now) scan.entry.due.now scan.entry.tables.now) result out.new (D.state desk.new) }
 {
     let DueScan { frame, due, tables } = scan;
     if frame.is_progressive() {

@@ -7,12 +7,12 @@ ghost use Rattle.jpg_spec.specs.Segments.{head_components};
 ghost use Rattle.jpg_base.specs.Cursor.{AreIn};
 ghost use Rattle.jpg_spec.specs.Lists.{is_distinct};
 ghost use Rattle.jpg_spec_fit.specs.Fitted.{fitted};
-ghost use Rattle.jpg_spec_write.specs.ScanText.{is_plain, scan_elements, scan_tables, symbol_counts, symbols_used, typical_table};
+ghost use Rattle.jpg_spec_write.specs.ScanText.{is_plain, scan_tables, symbol_counts, symbols_used, typical_table};
 ghost use Rattle.jpg_spec_write.specs.WrittenFile.{HasBlocksIn};
 ghost use Rattle.jpg_huff.specs.Tables.{table_of};
 ghost use Rattle.jpg_coefs.specs.MarkSinks.{HasSlots};
 ghost use Rattle.jpg_prog_write.specs.Written.{IsProgScan};
-ghost use Rattle.jpg_file.specs.Write.WriteTables.{AreFew, HasCounts, UsesSymbols, GivesTables, HasFourTables, IsEmptySet, has_typical, own_tables};
+ghost use Rattle.jpg_file.specs.Write.WriteTables.{AreFew, HasCounts, UsesSymbols, GivesTables, HasFourTables, IsEmptySet, has_typical, own_tables, written_elements};
 
 use jpg_base::Frame;
 use jpg_coefs::{BlockView, WrittenScan};
@@ -40,7 +40,7 @@ pub fn put_tables<V: BlockView>(
     requires distinct { is_distinct (head_components scan.head.now) ≡ true }
     requires slots { All HasSlots scan.head.now.parts }
     requires blocks { HasBlocksIn (V.numbers view.now) (V.blocks view.now) }
-    ensures { GivesTables set.new (scan_tables huffman frame.now scan.head.now (scan_elements (V.numbers view.now) scan.head.now scan.interval (V.blocks view.now))) }
+    ensures { GivesTables set.new (scan_tables huffman frame.now scan.entry.head.now (written_elements scan.entry (V.numbers view.now) (V.blocks view.now))) }
 {
     if has_typical(huffman, frame) {
         put_typical(set);
@@ -83,8 +83,8 @@ fn counts_of<V: BlockView>(frame: &Frame, view: &V, scan: WrittenScan<'_>) -> Sy
     requires distinct { is_distinct (head_components scan.head.now) ≡ true }
     requires slots { All HasSlots scan.head.now.parts }
     requires blocks { HasBlocksIn (V.numbers view.now) (V.blocks view.now) }
-    ensures symbols { UsesSymbols result (symbols_used scan.head.now (scan_elements (V.numbers view.now) scan.head.now scan.interval (V.blocks view.now))) }
-    ensures counts { HasCounts result (symbol_counts scan.head.now (scan_elements (V.numbers view.now) scan.head.now scan.interval (V.blocks view.now))) }
+    ensures symbols { UsesSymbols result (symbols_used scan.entry.head.now (written_elements scan.entry (V.numbers view.now) (V.blocks view.now))) }
+    ensures counts { HasCounts result (symbol_counts scan.entry.head.now (written_elements scan.entry (V.numbers view.now) (V.blocks view.now))) }
     ensures few { AreFew result }
 {
     view.frame().checked();
