@@ -10,6 +10,7 @@ use Rattle.jpg_seq.specs.Rows.{Part, Shows}
 use Rattle.jpg_seq.specs.SoFar.{Spot, SoFar}
 use Rattle.jpg_seq.specs.declared.reader.BytesTaken.{BytesTaken}
 use Rattle.jpg_seq.specs.declared.reader.SeqReader.{SeqReader}
+use Rattle.jpg_seq.specs.declared.reader.StoredRow.{StoredRow}
 
 -- The machine was given some bits, and the complete picture has what they encode.
 abbrev pub IsOpen : SeqReader → Picture → Type 0
@@ -24,6 +25,10 @@ abbrev pub ReadsInto : ℕ → List ℕ → SeqReader → Picture → List Bool 
 ReadsInto most tops m stored store answer new after rest =
     (part : Part) (whole : Picture) → Shows part tops whole stored → IsOpen m whole
     → (now : Picture) × Shows part tops now after × TakesBits sequential most m whole store answer new now rest
+
+-- the same, of a row that is stored
+abbrev pub ReadsRow : StoredRow → SeqReader → Picture → List Bool → Taken → SeqReader → Picture → List Bool → Type 0
+ReadsRow row m stored store answer new after rest = ReadsInto row.most row.tops.now m stored store answer new after rest
 
 abbrev pub ReadsBytesInto : ℕ → List ℕ → SeqReader → Picture → List ℕ → BytesTaken → SeqReader → Picture → Type 0
 ReadsBytesInto most tops m stored bytes result new after = ReadsInto most tops m stored (bits_of_bytes bytes) result.taken new after (drop result.bits (bits_of_bytes bytes))

@@ -11,7 +11,7 @@ ghost use Rattle.jpg_seq.specs.Counted.{AreFew, run_marks, band_marks, block_mar
 
 use crate::write::difference;
 use jpg_base::{Block, ScanHead, ScanPart, WriteFault};
-use jpg_coefs::{BlockView, UnitSink, part_of, put_scan};
+use jpg_coefs::{BlockView, GivenUnit, UnitSink, WrittenScan, part_of, put_scan};
 use jpg_huff::{SymbolCounts, category};
 
 // Counts the symbols of a value after a run of zeros, of which each sixteen have one of their own.
@@ -76,13 +76,16 @@ impl<'a> UnitSink<SymbolCounts, ()> for SeqCounter<'a> {
     #[inline(always)]
     fn unit(
         &mut self,
-        component: u8,
-        last: i16,
-        block: &Block,
+        unit: GivenUnit<'_>,
         counts: &mut SymbolCounts,
         desk: &mut (),
     ) -> Result<(), WriteFault> {
-        count_block(part_of(self.head, component), last, block, counts);
+        count_block(
+            part_of(self.head, unit.component),
+            unit.last,
+            unit.block,
+            counts,
+        );
         Ok(())
     }
 
@@ -109,7 +112,8 @@ pub fn count_seq_scan<V: BlockView>(view: &V, head: &ScanHead, interval: u16) ->
 {
     let mut counts = SymbolCounts::none();
     let mut units = SeqCounter { head };
-    let counted = put_scan(view, head, interval, &mut units, &mut counts, &mut ());
+    let scan = WrittenScan { head, interval };
+    let counted = put_scan(view, scan, &mut units, &mut counts, &mut ());
     let _ = counted;
     counts
 }

@@ -10,7 +10,7 @@ ghost use Rattle.jpg_seq.specs.ScanWritten.{written_data};
 use crate::kept::KeptDesk;
 use crate::scan_write::SeqUnits;
 use jpg_base::{Bytes, Frame, NoMemory, ScanHead};
-use jpg_coefs::{BlockView, ScanUnits};
+use jpg_coefs::{BlockView, NextUnits, ScanUnits};
 use jpg_huff::{BitOut, EncoderSet};
 use std::alloc::Global;
 
@@ -68,9 +68,10 @@ impl<'a> KeptScan<'a> {
         ensures puts { OnOk result ((s : WrittenScan) → CanKeep s (V.numbers view.now) (V.blocks view.now) count self.old → KeepsScan s self.new) }
         ensures left { OnOk result (self.new.units.left + count ≡ self.old.units.left) }
     {
+        let next = NextUnits { view, count };
         match self
             .units
-            .give(view, count, &mut self.sink, &mut self.out, &mut self.desk)
+            .give(next, &mut self.sink, &mut self.out, &mut self.desk)
         {
             Ok(()) => Ok(()),
             Err(_) => Err(NoMemory),

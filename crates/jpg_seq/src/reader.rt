@@ -10,7 +10,7 @@ ghost use Rattle.jpg_coefs.specs.Picture.{put_at};
 ghost use Rattle.jpg_seq.specs.Work.{EndsUnit};
 ghost use Rattle.jpg_seq.specs.Source.{bits_in};
 ghost use Rattle.jpg_seq.specs.Rows.{AreInRow, IsInRow, lowered};
-ghost use Rattle.jpg_seq.specs.RowTaken.{CanReadInto, PassesPlaces, ReadsBytesInto, ReadsInto};
+ghost use Rattle.jpg_seq.specs.RowTaken.{CanReadInto, PassesPlaces, ReadsBytesInto, ReadsInto, ReadsRow};
 ghost use Rattle.jpg_seq.specs.Reader.{CanRead, ReadsOn, behind, with_work, sequential};
 
 use crate::source::Source;
@@ -131,6 +131,14 @@ impl SeqReader {
     }
 }
 
+// The row of MCUs whose blocks are stored, or a complete picture: by component, the row of its grid with which it begins,
+// and how many of the next units are in it.
+#[derive(Clone, Copy)]
+struct StoredRow<'a> {
+    tops: &'a [u32; 4],
+    most: u64,
+}
+
 impl SeqReader {
     // Puts the block of a complete unit into those that are stored, and begins the next unit.
     #[inline(always)]
@@ -161,14 +169,13 @@ impl SeqReader {
         unit: &mut UnitWork,
         source: &mut Source<'_>,
         coefs: &mut Coefs,
-        tops: &[u32; 4],
-        most: u64,
+        row: StoredRow<'_>,
     ) -> Taken
-        requires open { CanReadInto tops.now (with_work self.old unit.old) coefs.old }
-        requires inside { AreInRow coefs.old.frame tops.now (take most self.old.cursor) }
-        requires some { 1 ≤ most }
-        ensures takes { ReadsInto most tops.now (with_work self.old unit.old) coefs.old (bits_in source.old) result (with_work self.new unit.new) coefs.new (bits_in source.new) }
-        ensures passes { PassesPlaces most self.old result self.new }
+        requires open { CanReadInto row.tops.now (with_work self.old unit.old) coefs.old }
+        requires inside { AreInRow coefs.old.frame row.tops.now (take row.most self.old.cursor) }
+        requires some { 1 ≤ row.most }
+        ensures takes { ReadsRow row.entry (with_work self.old unit.old) coefs.old (bits_in source.old) result (with_work self.new unit.new) coefs.new (bits_in source.new) }
+        ensures passes { PassesPlaces row.entry.most self.old result self.new }
     {
         let mut done = 0;
         loop {
@@ -178,12 +185,12 @@ impl SeqReader {
                 UnitProgress::Empty => return Taken::More,
                 UnitProgress::Fault(fault) => return Taken::Fault(fault),
                 UnitProgress::Done => {
-                    self.put(unit, coefs, tops, place);
+                    self.put(unit, coefs, row.tops, place);
                     if self.left == 0 {
                         return Taken::IntervalDone;
                     }
                     done += 1;
-                    if done >= most {
+                    if done >= row.most {
                         return Taken::Units;
                     }
                 }
@@ -212,7 +219,8 @@ impl SeqReader {
             store: store.copy(),
             bytes: &[],
         };
-        let taken = self.read(&mut unit, &mut source, coefs, tops, most);
+        let row = StoredRow { tops, most };
+        let taken = self.read(&mut unit, &mut source, coefs, row);
         source.take_all();
         self.unit = unit;
         *store = source.store;
@@ -241,7 +249,8 @@ impl SeqReader {
             bytes,
         };
         let all = source.len();
-        let taken = self.read(&mut unit, &mut source, coefs, tops, most);
+        let row = StoredRow { tops, most };
+        let taken = self.read(&mut unit, &mut source, coefs, row);
         self.unit = unit;
         BytesTaken {
             taken,

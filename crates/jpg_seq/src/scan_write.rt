@@ -6,36 +6,13 @@ ghost use Rattle.jpg_huff.specs.BitOut.{CanSend, Puts, Sends};
 ghost use Rattle.jpg_coefs.specs.BitSinks.{bit_kind};
 ghost use Rattle.jpg_seq.specs.NewReader.{HasTables, IsSeqScan};
 ghost use Rattle.jpg_seq.specs.BlockBits.{IsShort};
-ghost use Rattle.jpg_seq.specs.ScanWritten.{unit_bits, written_data};
-ghost use Rattle.jpg_seq.specs.SeqUnits.{seq_units};
+ghost use Rattle.jpg_seq.specs.ScanWritten.{written_data};
+ghost use Rattle.jpg_seq.specs.SeqUnits.{given_bits, seq_units};
 
-use crate::write::put_block;
-use jpg_base::{Block, Desk, ScanHead, WriteFault};
-use jpg_coefs::{BlockView, UnitSink, end_interval, part_of, put_scan};
+use crate::write::{BlockCodes, put_block};
+use jpg_base::{Desk, ScanHead, WriteFault};
+use jpg_coefs::{BlockView, GivenUnit, UnitSink, WrittenScan, end_interval, part_of, put_scan};
 use jpg_huff::{BitOut, EncoderPlaces, EncoderSet, TableSet};
-
-// Writes a block of a component, by its tables, after this DC value.
-#[inline(always)]
-fn put_unit<D: Desk>(
-    head: &ScanHead,
-    encoders: &EncoderSet<'_>,
-    component: u8,
-    last: i16,
-    block: &Block,
-    out: &mut BitOut,
-    desk: &mut D,
-) -> Result<(), WriteFault>
-    requires created { (D.state desk.old).output_created ≡ true }
-    requires tables { HasTables encoders.now (part_in head.now component) }
-    requires short { IsShort block.now }
-    ensures { Puts (D.state desk.old) out.old (unit_bits encoders.now head.now component last block.now) result out.new (D.state desk.new) }
-{
-    let part = part_of(head, component);
-    let (Some(dc), Some(ac)) = (encoders.dc(part.dc), encoders.ac(part.ac)) else {
-        return Ok(());
-    };
-    put_block(dc, ac, last, block, out, desk)
-}
 
 // What writes the units of a sequential scan.
 #[derive(Drop)]
@@ -44,19 +21,37 @@ pub(crate) struct SeqUnits<'a> {
     pub(crate) encoders: EncoderSet<'a>,
 }
 
+// Writes the block of a unit, by the tables of its component.
+#[inline(always)]
+fn put_unit<D: Desk>(
+    units: &SeqUnits<'_>,
+    unit: GivenUnit<'_>,
+    out: &mut BitOut,
+    desk: &mut D,
+) -> Result<(), WriteFault>
+    requires created { (D.state desk.old).output_created ≡ true }
+    requires tables { HasTables units.now.encoders (part_in units.now.head.now unit.component) }
+    requires short { IsShort unit.block.now }
+    ensures { Puts (D.state desk.old) out.old (given_bits units.now unit.entry) result out.new (D.state desk.new) }
+{
+    let part = part_of(units.head, unit.component);
+    let (Some(dc), Some(ac)) = (units.encoders.dc(part.dc), units.encoders.ac(part.ac)) else {
+        return Ok(());
+    };
+    put_block(BlockCodes { dc, ac }, unit.last, unit.block, out, desk)
+}
+
 impl<'a, D: Desk> UnitSink<BitOut, D> for SeqUnits<'a> {
     ghost kind = { bit_kind seq_units D.state };
 
     #[inline(always)]
     fn unit(
         &mut self,
-        component: u8,
-        last: i16,
-        block: &Block,
+        unit: GivenUnit<'_>,
         out: &mut BitOut,
         desk: &mut D,
     ) -> Result<(), WriteFault> {
-        put_unit(self.head, &self.encoders, component, last, block, out, desk)
+        put_unit(self, unit, out, desk)
     }
 
     fn end(
@@ -93,5 +88,6 @@ pub fn write_seq_scan<'x, V: BlockView, D: Desk>(
     places.fill(tables);
     let encoders = EncoderSet::new(tables, &places);
     let mut units = SeqUnits { head, encoders };
-    put_scan(view, head, interval, &mut units, out, desk)
+    let scan = WrittenScan { head, interval };
+    put_scan(view, scan, &mut units, out, desk)
 }

@@ -1,5 +1,6 @@
 //! The bits of a block in a sequential scan, written (T.81, F.1.2.1, F.1.2.2).
-ghost use Rattle.std.specs.Prelude.{◌≡◌, ◌≤◌, ◌++◌, [], drop, true, pos, negsuc, ◌-ℤ◌, ◌≤ℤ◌};
+ghost use Rattle.std.specs.Prelude.{◌≡◌, ◌≤◌, ◌<◌, ◌^◌, ◌++◌, [], drop, true, pos, negsuc, ◌-ℤ◌, ◌≤ℤ◌};
+ghost use Rattle.jpg_spec.specs.Bits.{bits_of};
 ghost use Rattle.jpg_spec.specs.Numbers.{category as category_of, extra_bits as extra_of};
 ghost use Rattle.jpg_spec.specs.Codes.{code_of};
 ghost use Rattle.jpg_huff.specs.BitOut.{Puts, PutsAfter};
@@ -7,7 +8,7 @@ ghost use Rattle.jpg_huff.specs.Tables.{symbol_codes};
 ghost use Rattle.jpg_seq.specs.BlockBits.{IsShort, run_bits, band_bits, block_bits};
 
 use jpg_base::{Block, Desk, WriteFault};
-use jpg_huff::{BitOut, Encoder, PendingBits, Table, category, extra_bits};
+use jpg_huff::{BitOut, Code, Encoder, ExtendedCode, PendingBits, Table, category, extra_bits};
 
 // Writes the first code of a symbol, if any.
 #[inline(always)]
@@ -55,53 +56,63 @@ fn put_value<D: Desk>(
     requires short { category_of value ≤ 16 }
     ensures { Puts (D.state desk.old) out.old (code_of encoder.now symbol ++ extra_of value) result out.new (D.state desk.new) }
 {
-    out.put_code(
-        encoder.code(symbol),
-        extra_bits(value),
-        category(value),
-        desk,
-    )
+    let code = ExtendedCode {
+        code: encoder.code(symbol),
+        extra: extra_bits(value),
+        size: category(value),
+    };
+    out.put_code(code, desk)
 }
 
-// Writes the first code of a symbol, and then the extra bits of a value, after bits that were handed out.
+// Writes a code, and then the extra bits of a value, after bits that were handed out.
 #[inline(always)]
 fn put_value_after<D: Desk>(
-    encoder: &Encoder,
-    symbol: u8,
+    code: Code,
     value: i32,
     held: PendingBits,
     out: &mut BitOut,
     desk: &mut D,
 ) -> Result<PendingBits, WriteFault>
     requires created { (D.state desk.old).output_created ≡ true }
+    requires code { (code.length ≤ 16) × (code.bits < 2 ^ code.length) }
     requires short { category_of value ≤ 16 }
     requires none { out.old.bits ≡ [] }
-    ensures puts { PutsAfter (D.state desk.old) out.old held (code_of encoder.now symbol ++ extra_of value) result out.new (D.state desk.new) }
+    ensures puts { PutsAfter (D.state desk.old) out.old held (bits_of code.length code.bits ++ extra_of value) result out.new (D.state desk.new) }
     ensures none { out.new.bits ≡ [] }
 {
-    let extra = extra_bits(value);
-    out.put_code_after(held, encoder.code(symbol), extra, category(value), desk)
+    let code = ExtendedCode {
+        code,
+        extra: extra_bits(value),
+        size: category(value),
+    };
+    out.put_code_after(held, code, desk)
+}
+
+// A value that isn't 0, after a run of zeros.
+#[derive(Clone, Copy)]
+struct RunValue {
+    run: u8,
+    value: i16,
 }
 
 // Writes a value after a run of zeros, of which each sixteen have a code of their own (T.81, F.1.2.2, Figure F.3).
 #[inline(never)]
 fn put_any_run<D: Desk>(
     ac: &Encoder,
-    run: u8,
-    value: i16,
+    next: RunValue,
     out: &mut BitOut,
     desk: &mut D,
 ) -> Result<(), WriteFault>
     requires created { (D.state desk.old).output_created ≡ true }
-    requires short { category_of value ≤ 15 }
-    ensures { Puts (D.state desk.old) out.old (run_bits ac.now run value) result out.new (D.state desk.new) }
+    requires short { category_of next.value ≤ 15 }
+    ensures { Puts (D.state desk.old) out.old (run_bits ac.now next.run next.value) result out.new (D.state desk.new) }
 {
-    let mut left = run;
+    let mut left = next.run;
     while left >= 16 {
         put_code(ac, 0xf0, out, desk)?;
         left -= 16;
     }
-    let value = i32::from(value);
+    let value = i32::from(next.value);
     put_value(ac, 16 * left + category(value), value, out, desk)
 }
 
@@ -109,20 +120,19 @@ fn put_any_run<D: Desk>(
 #[inline(always)]
 fn put_any_after<D: Desk>(
     ac: &Encoder,
-    run: u8,
-    value: i16,
+    next: RunValue,
     held: PendingBits,
     out: &mut BitOut,
     desk: &mut D,
 ) -> Result<PendingBits, WriteFault>
     requires created { (D.state desk.old).output_created ≡ true }
-    requires short { category_of value ≤ 15 }
+    requires short { category_of next.value ≤ 15 }
     requires none { out.old.bits ≡ [] }
-    ensures puts { PutsAfter (D.state desk.old) out.old held (run_bits ac.now run value) result out.new (D.state desk.new) }
+    ensures puts { PutsAfter (D.state desk.old) out.old held (run_bits ac.now next.run next.value) result out.new (D.state desk.new) }
     ensures none { out.new.bits ≡ [] }
 {
     out.give(held);
-    match put_any_run(ac, run, value, out, desk) {
+    match put_any_run(ac, next, out, desk) {
         Ok(()) => Ok(out.take()),
         Err(fault) => Err(fault),
     }
@@ -133,26 +143,27 @@ fn put_any_after<D: Desk>(
 #[inline(always)]
 fn put_run<D: Desk>(
     ac: &Encoder,
-    run: u8,
-    value: i16,
+    next: RunValue,
     held: PendingBits,
     out: &mut BitOut,
     desk: &mut D,
 ) -> Result<PendingBits, WriteFault>
     requires created { (D.state desk.old).output_created ≡ true }
-    requires short { category_of value ≤ 15 }
+    requires short { category_of next.value ≤ 15 }
     requires none { out.old.bits ≡ [] }
-    ensures puts { PutsAfter (D.state desk.old) out.old held (run_bits ac.now run value) result out.new (D.state desk.new) }
+    ensures puts { PutsAfter (D.state desk.old) out.old held (run_bits ac.now next.run next.value) result out.new (D.state desk.new) }
     ensures none { out.new.bits ≡ [] }
 {
+    let RunValue { run, value } = next;
     if run >= 16 {
-        put_any_after(ac, run, value, held, out, desk)
+        put_any_after(ac, next, held, out, desk)
     } else if value >= -32 && value < 32 {
         let (bits, count) = ac.value(run, value);
         out.put_after(held, bits, count, desk)
     } else {
         let value = i32::from(value);
-        put_value_after(ac, 16 * run + category(value), value, held, out, desk)
+        let code = ac.code(16 * run + category(value));
+        put_value_after(code, value, held, out, desk)
     }
 }
 
@@ -178,7 +189,11 @@ fn put_band<D: Desk>(
     let mut rest = (block.nonzero() >> 1) << 1;
     while rest != 0 {
         let k = rest.trailing_zeros() as u8;
-        held = put_run(ac, k - next, block.get(k), held, out, desk)?;
+        let value = RunValue {
+            run: k - next,
+            value: block.get(k),
+        };
+        held = put_run(ac, value, held, out, desk)?;
         next = k + 1;
         rest &= rest - 1;
     }
@@ -215,15 +230,26 @@ fn put_difference<D: Desk>(
     ensures none { out.new.bits ≡ [] }
 {
     let size = category(value);
-    out.put_code_after(held, dc.written(size), extra_bits(value), size, desk)
+    let code = ExtendedCode {
+        code: dc.written(size),
+        extra: extra_bits(value),
+        size,
+    };
+    out.put_code_after(held, code, desk)
+}
+
+// What gives the codes of a block: its DC table, and the codes of its AC table.
+#[derive(Clone, Copy)]
+pub(crate) struct BlockCodes<'a> {
+    pub(crate) dc: &'a Table,
+    pub(crate) ac: &'a Encoder,
 }
 
 // Writes a block by these tables, after this DC value of its component. It remains a call: where the caller's block is in
 // sight, its first value is kept apart, and the vectors that read the block wait for both parts.
 #[inline(never)]
 pub(crate) fn put_block<D: Desk>(
-    dc: &Table,
-    ac: &Encoder,
+    codes: BlockCodes<'_>,
     prediction: i16,
     block: &Block,
     out: &mut BitOut,
@@ -231,12 +257,12 @@ pub(crate) fn put_block<D: Desk>(
 ) -> Result<(), WriteFault>
     requires created { (D.state desk.old).output_created ≡ true }
     requires short { IsShort block.now }
-    ensures { Puts (D.state desk.old) out.old (block_bits (symbol_codes dc.now) ac.now prediction block.now) result out.new (D.state desk.new) }
+    ensures { Puts (D.state desk.old) out.old (block_bits (symbol_codes codes.entry.dc.now) codes.entry.ac.now prediction block.now) result out.new (D.state desk.new) }
 {
     let value = difference(block.get(0), prediction);
     let before = out.take();
-    let first = put_difference(dc, value, before, out, desk)?;
-    let held = put_band(ac, block, first, out, desk)?;
+    let first = put_difference(codes.dc, value, before, out, desk)?;
+    let held = put_band(codes.ac, block, first, out, desk)?;
     out.give(held);
     Ok(())
 }

@@ -14,9 +14,9 @@ pub returns : goal.returns
 returns g c =
     let state = g.D.Desk.state in
     let part = c.part_of-part.result in
-    let dc : option_map symbol_codes (in_slot (dc_tables c.args.encoders.now) part.dc) ≡ Some (symbol_codes c.in-Some-Some.dc.now) = ap (option_map symbol_codes) (sym c.dc.ensures ∙ ap (option_map (λ t. t.now)) c.in-Some-Some.is-0) in
-    let ac : option_map symbol_codes (in_slot (ac_tables c.args.encoders.now) part.ac) ≡ Some c.in-Some-Some.ac.now = sym c.ac.ensures ∙ ap (option_map (λ e. e.now)) c.in-Some-Some.is-1 in
-    let f : SFits w16 c.args.last = search rules in
-    let e = unit_by c.args.encoders.now c.args.head.now c.args.component (to_z w16 (of_z w16 c.args.last)) c.args.block.now part (symbol_codes c.in-Some-Some.dc.now) c.in-Some-Some.ac.now c.part_of-part.ensures dc ac
-    ∙ ap (λ l. unit_bits c.args.encoders.now c.args.head.now c.args.component l c.args.block.now) (to_z-of_z w16 c.args.last f) in
+    let dc : option_map symbol_codes (in_slot (dc_tables c.args.units.now.encoders) part.dc) ≡ Some (symbol_codes c.in-Some-Some.dc.now) = ap (option_map symbol_codes) (sym c.dc.ensures ∙ ap (option_map (λ t. t.now)) c.in-Some-Some.is-0) in
+    let ac : option_map symbol_codes (in_slot (ac_tables c.args.units.now.encoders) part.ac) ≡ Some c.in-Some-Some.ac.now = sym c.ac.ensures ∙ ap (option_map (λ e. e.now)) c.in-Some-Some.is-1 in
+    let f : SFits w16 c.args.unit.last = search rules in
+    let e = unit_by c.args.units.now.encoders c.args.units.now.head.now c.args.unit.component (to_z w16 (of_z w16 c.args.unit.last)) c.args.unit.block.now part (symbol_codes c.in-Some-Some.dc.now) c.in-Some-Some.ac.now c.part_of-part.ensures dc ac
+    ∙ ap (λ l. unit_bits c.args.units.now.encoders c.args.units.now.head.now c.args.unit.component l c.args.unit.block.now) (to_z-of_z w16 c.args.unit.last f) in
     puts_same (state c.args.desk.now) (state c.put_block.new.desk) c.args.out.now c.put_block.new.out _ _ c.put_block.result e c.put_block.ensures

@@ -9,7 +9,7 @@ invariant-loop-left g l =
     let state = g.D.Desk.state in
     record {
       created : (state l.desk).output_created ≡ true;
-      part : DoneButFor Puts (state l.fn.desk) l.fn.out (run_bits l.ac l.fn.run l.fn.value) (run_bits l.ac l.left l.fn.value) l.out (state l.desk);
+      part : DoneButFor Puts (state l.fn.desk) l.fn.out (run_bits l.ac l.next.run l.next.value) (run_bits l.ac l.left l.next.value) l.out (state l.desk);
     }
 
 abbrev pub decreases-loop-left : goal.decreases-loop-left

@@ -1,4 +1,4 @@
-use Rattle.std.proofs.Common.{◌≡◌, ◌+◌, ◌-◌, ◌<◌, ◌≤◌, ◌^◌, ◌++◌, [], Err, pos, drop, refl, sym, ap, ◌∙◌, subst, arith, rules}
+use Rattle.std.proofs.Common.{◌≡◌, ◌+◌, ◌-◌, ◌<◌, ◌≤◌, ◌^◌, ◌++◌, [], pos, drop, refl, sym, ap, ◌∙◌, subst, arith, rules}
 use mir.Syntax.{w16, w64}
 use mir.Val.{SFits, to_z, of_z}
 use Rattle.std.specs.Prelude.{slice_index_or}
@@ -12,7 +12,7 @@ use Rattle.jpg_seq.proofs.Bands.{left_bits, left_all, left_none, left_zeros}
 use Rattle.jpg_base.proofs.Marked.{marks_are}
 use Rattle.jpg_seq.proofs.Marked.{first_blank, next_value, no_value}
 use Rattle.jpg_huff.specs.BitOut.{Puts, holding}
-use Rattle.jpg_huff.proofs.InParts.{DoneButFor, of_bits, part_start, part_then, part_last, part_end, part_fault}
+use Rattle.jpg_huff.proofs.InParts.{of_bits, part_start, part_then, part_end, part_fault}
 use Rattle.jpg_huff.proofs.Together.{puts_nothing}
 use Rattle.jpg_seq.proofs.HeldBits.{last_after}
 use Rattle.jpg_seq.proofs.write.put_band.Goals as goal
@@ -40,8 +40,8 @@ get-requires g c =
     let rest = c.loop-rest.rest in
     (next_value c.args.ac.now c.args.block.now c.loop-rest.next (trailing_zeros w64 rest) rest c.long.ensures c.loop-rest.invariant.few c.loop-rest.invariant.marked (omega (arith, c.loop-rest-test.true)) refl).1
 
-pub overflow_sub-k : goal.overflow_sub-k
-overflow_sub-k g c =
+pub overflow_sub-value : goal.overflow_sub-value
+overflow_sub-value g c =
     let rest = c.loop-rest.rest in
     (next_value c.args.ac.now c.args.block.now c.loop-rest.next (trailing_zeros w64 rest) rest c.long.ensures c.loop-rest.invariant.few c.loop-rest.invariant.marked (omega (arith, c.loop-rest-test.true)) refl).0
 

@@ -25,7 +25,7 @@ returns g c =
     let state = g.D.Desk.state in
     let d = slice_index_or c.args.block.now 0 (pos 0) -ℤ c.args.prediction in
     let w = to_z w32 (of_z w32 c.difference-value.result) in
-    let dc = symbol_codes c.args.dc.now in
+    let dc = symbol_codes c.args.codes.dc.now in
     let f : SFits w32 c.difference-value.result = search rules in
     let fv : SFits w16 c.get.result = search rules in
     let fp : SFits w16 c.args.prediction = search rules in
@@ -37,7 +37,7 @@ returns g c =
     let taken = c.take-before.new.self in
     let first = subst (λ bits. PutsAfter s0 taken c.take-before.result bits (Ok c.in_ok-first.first) c.put_difference.new.out s1) q c.in_ok-first.ensures.puts in
     given_back s0 s1 (state c.put_band.new.desk) c.args.out.now taken c.put_difference.new.out c.put_band.new.out c.give.new.self c.take-before.result c.in_ok-first.first c.in_ok-held.held (code_of dc (category d) ++ extra_bits d)
-    (band_bits c.args.ac.now (drop 1 c.args.block.now)) c.take-before.ensures.left c.take-before.ensures.held first c.in_ok-held.ensures.puts c.give.ensures
+    (band_bits c.args.codes.ac.now (drop 1 c.args.block.now)) c.take-before.ensures.left c.take-before.ensures.held first c.in_ok-held.ensures.puts c.give.ensures
 
 pub returns-in_err-held : goal.returns-in_err-held
 unfolding block_bits
@@ -45,7 +45,7 @@ returns-in_err-held g c =
     let state = g.D.Desk.state in
     let d = slice_index_or c.args.block.now 0 (pos 0) -ℤ c.args.prediction in
     let w = to_z w32 (of_z w32 c.difference-value.result) in
-    let dc = symbol_codes c.args.dc.now in
+    let dc = symbol_codes c.args.codes.dc.now in
     let f : SFits w32 c.difference-value.result = search rules in
     let fv : SFits w16 c.get.result = search rules in
     let fp : SFits w16 c.args.prediction = search rules in
@@ -58,7 +58,7 @@ returns-in_err-held g c =
     let first = subst (λ bits. PutsAfter s0 taken c.take-before.result bits (Ok c.in_ok-first.first) c.put_difference.new.out s1) q c.in_ok-first.ensures.puts in
     let back = err_from_is_err_and c.from_residual-in_err-held.result c.from_residual-in_err-held.ensures.1 in
     rw (back.1, back.2) (second_fault s0 s1 (state c.put_band.new.desk) c.args.out.now taken c.put_difference.new.out c.put_band.new.out c.take-before.result c.in_ok-first.first (code_of dc (category d) ++ extra_bits d)
-    (band_bits c.args.ac.now (drop 1 c.args.block.now)) c.in_err-held.field-0.0 c.take-before.ensures.left c.take-before.ensures.held first c.in_err-held.ensures.puts c.in_err-held.ensures.none)
+    (band_bits c.args.codes.ac.now (drop 1 c.args.block.now)) c.in_err-held.field-0.0 c.take-before.ensures.left c.take-before.ensures.held first c.in_err-held.ensures.puts c.in_err-held.ensures.none)
 
 pub returns-in_err-first : goal.returns-in_err-first
 unfolding block_bits
@@ -66,7 +66,7 @@ returns-in_err-first g c =
     let state = g.D.Desk.state in
     let d = slice_index_or c.args.block.now 0 (pos 0) -ℤ c.args.prediction in
     let w = to_z w32 (of_z w32 c.difference-value.result) in
-    let dc = symbol_codes c.args.dc.now in
+    let dc = symbol_codes c.args.codes.dc.now in
     let f : SFits w32 c.difference-value.result = search rules in
     let fv : SFits w16 c.get.result = search rules in
     let fp : SFits w16 c.args.prediction = search rules in
@@ -78,5 +78,5 @@ returns-in_err-first g c =
     let taken = c.take-before.new.self in
     let first = subst (λ bits. PutsAfter s0 taken c.take-before.result bits (Err c.in_err-first.field-0.0) c.put_difference.new.out s1) q c.in_err-first.ensures.puts in
     let back = err_from_is_err_and c.from_residual.result c.from_residual.ensures.1 in
-    rw (back.1, back.2) (first_fault s0 s1 c.args.out.now taken c.put_difference.new.out c.take-before.result (code_of dc (category d) ++ extra_bits d) (band_bits c.args.ac.now (drop 1 c.args.block.now))
+    rw (back.1, back.2) (first_fault s0 s1 c.args.out.now taken c.put_difference.new.out c.take-before.result (code_of dc (category d) ++ extra_bits d) (band_bits c.args.codes.ac.now (drop 1 c.args.block.now))
     c.in_err-first.field-0.0 c.take-before.ensures.left c.take-before.ensures.held first c.in_err-first.ensures.none)

@@ -7,7 +7,7 @@ use Rattle.jpg_seq.proofs.RowReadings.{row_starts, row_can_read, row_has_unit, r
 use Rattle.jpg_seq.proofs.reader.SeqReader.read.Goals as goal
 
 pub loop-fault-init : goal.loop-fault-init
-loop-fault-init c = row_starts c.args.most c.args.tops.now _ c.requires.some
+loop-fault-init c = row_starts c.args.row.most c.args.row.tops.now _ c.requires.some
 
 pub unit_bits-requires : goal.unit_bits-requires
 unit_bits-requires c = row_can_read c.loop-fault.invariant c.place-place.ensures c.requires.open
@@ -56,16 +56,16 @@ returns-then-self-eq0-clause-passes c =
     let q = passes_one h new.machine c.unit_bits.new.unit c.place-place.result.component taken.IntervalDone (row_has_unit h c.requires.open).0 e.machine (omega (arith, h.few), c.if-self-eq0.true) in
     record { units = q.units; few = q.few; cursor = q.cursor; left = q.left }
 
-pub returns-then-done-most-clause-takes : goal.returns-then-done-most-clause-takes
-returns-then-done-most-clause-takes c =
+pub returns-then-done-row-clause-takes : goal.returns-then-done-row-clause-takes
+returns-then-done-row-clause-takes c =
     let h = c.loop-fault.invariant in
     let first = c.place-place.ensures in
     let new : Spot = record { machine = with_work c.put.new.self c.put.new.unit; picture = c.put.new.coefs; store = bits_in c.unit_bits.new.source } in
     let e = c.put.ensures in
     row_units h first {new = new} (record { count = e.count; here = row_here h first c.requires.inside; reads = c.in-Done.ensures.reads; machine = e.machine; block = e.block }) (omega (arith, c.if-self-eq0.false)) (omega arith)
 
-pub returns-then-done-most-clause-passes : goal.returns-then-done-most-clause-passes
-returns-then-done-most-clause-passes c =
+pub returns-then-done-row-clause-passes : goal.returns-then-done-row-clause-passes
+returns-then-done-row-clause-passes c =
     let h = c.loop-fault.invariant in
     let new : Spot = record { machine = with_work c.put.new.self c.put.new.unit; picture = c.put.new.coefs; store = bits_in c.unit_bits.new.source } in
     let e = c.put.ensures in
