@@ -93,7 +93,7 @@ impl<'a> RowMover<'a> {
         encoders: EncoderSet<'a>,
     ) -> RowMover<'a>
         requires { IsMovedScan (moved_scan source.now job.now scan.head.now encoders scan.interval) }
-        ensures { (blocks : Blocks) → HasMoved (moved_scan source.now job.now scan.head.now encoders.entry scan.interval) 0 blocks result }
+        ensures { (blocks : Blocks) → HasMoved (moved_scan source.now job.now scan.entry.head.now encoders.entry scan.entry.interval) 0 blocks result }
     {
         let frame = &job.plan.out.frame;
         frame.checked();

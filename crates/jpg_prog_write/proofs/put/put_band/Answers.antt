@@ -96,7 +96,7 @@ loop-held-preserved g c =
 pub loop-held-smaller : goal.loop-held-smaller
 loop-held-smaller g c =
     let e = ap steps_left c.clear.ensures in
-    let p = c.in_ok-held.ensures.passes c.in_ok-held.held refl in
+    let p = c.in_ok-held.ensures.passes c.in_ok-held.held (refl {a = Ok c.in_ok-held.held}) in
     omega (arith, e, p.fewer, c.in-Some.ensures.some.fewer)
 
 pub returns-in-None-clause-puts : goal.returns-in-None-clause-puts
