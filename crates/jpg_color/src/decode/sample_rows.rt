@@ -148,7 +148,7 @@ fn put_row_of_blocks(samples: &mut [u8], wide: u32, row: usize, of: ComponentRow
     requires wide { (1 ≤ wide) × (wide ≤ 65500) }
     requires rows { (1 ≤ of.count) × (of.count ≤ 8) × (row + of.count ≤ 33) }
     requires room { (row + of.count) * stride wide ≤ length samples.old }
-    requires blocks { HasRows of.coefs.now of.component of.first wide of.count }
+    requires there { HasRows of.coefs.now of.component of.first wide of.count }
     ensures { PutsRows (stride wide) row of.entry.count (stride wide) (sample_of of.entry) samples.old samples.new }
 {
     let line = line_of(wide);
@@ -183,7 +183,7 @@ fn put_rows(samples: &mut [u8], wide: u32, kept: usize, of: ComponentRows<'_>)
     requires wide { (1 ≤ wide) × (wide ≤ 65500) }
     requires rows { kept + of.count ≤ 33 }
     requires room { (kept + of.count) * stride wide ≤ length samples.old }
-    requires blocks { HasRows of.coefs.now of.component of.first wide of.count }
+    requires there { HasRows of.coefs.now of.component of.first wide of.count }
     ensures { PutsRows (stride wide) kept of.entry.count (stride wide) (sample_of of.entry) samples.old samples.new }
 {
     rows_fit(of.coefs, of.component);
@@ -276,7 +276,7 @@ impl SampleRows {
     /// Keeps the last row, and adds these rows, made of blocks (T.81, A.3.3, A.3.4).
     pub fn fill(&mut self, of: ComponentRows<'_>)
         requires room { of.count < self.old.room }
-        requires blocks { HasRows of.coefs.now of.component of.first self.old.wide of.count }
+        requires there { HasRows of.coefs.now of.component of.first self.old.wide of.count }
         ensures { self.new ≡ with_block_rows self.old of.entry.quants.now (map_of of.entry.coefs.now) of.entry.component of.entry.first of.entry.count }
     {
         let wide = self.wide;
