@@ -8,6 +8,7 @@ use Rattle.jpg_spec.specs.Scan.{Blocks}
 use Rattle.jpg_spec.specs.Ranges.{AreInRange}
 use Rattle.jpg_spec_image.specs.Dct.{dequantised, inverse_dct}
 use Rattle.jpg_coefs.specs.Picture.{Picture, map_of}
+use Rattle.jpg_color.specs.declared.decode.sample_rows.ComponentRows.{ComponentRows}
 
 -- at most `room` rows of `wide` samples
 pub record KeptRows : Type 0 where
@@ -25,6 +26,9 @@ kept_rows_of wide count samples = map (λ r. take wide (drop (r * stride wide) s
 -- The sample at column x and row y below the top of row `first` of the blocks of component i.
 abbrev pub sample_in : QuantTable → Blocks → ℕ → ℕ → ℕ → ℕ → ℕ
 sample_in quants blocks i first y x = slice_index (inverse_dct (dequantised quants (blocks i (x / 8) (first + y / 8)))) (8 * (y % 8) + x % 8)
+
+abbrev pub sample_of : ComponentRows → ℕ → ℕ → ℕ
+sample_of rows = sample_in rows.quants.now (map_of rows.coefs.now) rows.component rows.first
 
 abbrev pub row_in : ℕ → QuantTable → Blocks → ℕ → ℕ → ℕ → List ℕ
 row_in wide quants blocks i first y = map (sample_in quants blocks i first y) (below wide)

@@ -11,6 +11,7 @@ use Rattle.jpg_spec_image.specs.Strips.{block_rows, kept_row}
 use Rattle.jpg_coefs.specs.Picture.{Picture, map_of}
 use Rattle.jpg_file.specs.Read.StripHead.{bare_picture}
 use Rattle.jpg_file.specs.declared.read.strip_head.StripHead.{StripHead}
+use Rattle.jpg_sample.specs.declared.ratio.Ratio.{Ratio}
 use Rattle.jpg_color.specs.KeptRows.{KeptRows, HasRows, with_gray, with_block_rows}
 
 pub record PartState : Type 0 where
@@ -22,8 +23,8 @@ pub record PartState : Type 0 where
   pub line : List ℕ
 
 -- a plane of these sizes and ratios
-abbrev pub stretch_by : ℕ → ℕ → ℕ → ℕ → Bool → Stretch
-stretch_by wide high across down smooth = record { wide = wide; high = high; across = across; down = down; smooth = smooth }
+abbrev pub stretch_by : ℕ → ℕ → Ratio → Bool → Stretch
+stretch_by wide high ratio smooth = record { wide = wide; high = high; across = ratio.across; down = ratio.down; smooth = smooth }
 
 abbrev pub state_of : ℕ → Stretch → ℕ → QuantTable → KeptRows → List ℕ → PartState
 state_of component stretch block_rows quants kept line =

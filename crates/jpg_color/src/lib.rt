@@ -8,7 +8,7 @@ mod laws;
 pub use decode::blocks::block_samples;
 pub use decode::kinds::admits;
 pub use decode::rgb::{interleaved_row, rgb_row, to_rgb};
-pub use decode::sample_rows::SampleRows;
+pub use decode::sample_rows::{ComponentRows, SampleRows};
 pub use decode::strip_image::StripImage;
 pub use decode::strips::Strips;
 pub use decode::{DecodeStop, decode_rows};

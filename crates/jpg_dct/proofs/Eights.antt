@@ -14,8 +14,9 @@ use Rattle.jpg_spec.proofs.Basics.Rows.{at_below}
 use Rattle.jpg_spec_image.specs.ForwardDct.{level, even_frequencies}
 use Rattle.jpg_spec_image.proofs.Frequencies.{odd_at0, odd_at1, odd_at2, odd_at3, even_at1, even_at3}
 use Rattle.jpg_dct.specs.declared.forward.lanes.Eight.{Eight}
-use Rattle.jpg_dct.specs.Eights.{HasRoom, IsLine, quarter, IsEight, IsRow, vector, four_of, half_rounded, eighth}
-use Rattle.jpg_dct.proofs.Several.{FourOf, same4}
+use Rattle.jpg_dct.specs.declared.forward.lanes.Four.{Four}
+use Rattle.jpg_dct.specs.declared.forward.lanes.Factors.{Factors}
+use Rattle.jpg_dct.specs.Eights.{HasRoom, IsLine, quarter, IsEight, AreEight, IsRow, vector, four_of, half_rounded, eighth}
 
 -- lane k of two vectors, one after the other
 abbrev pub lane : Width → List ℤ → List ℤ → ℕ → ℕ
@@ -367,17 +368,13 @@ pub record AreLanes (f : ℕ → ℤ) (r : List ℤ) : Type 0 where
   pub at : (i : ℕ) → i < 8 → number_at r i ≡ f i
 
 -- four products of lane i of four vectors, added up
-abbrev pub products : FourOf (List ℤ) → FourOf ℤ → ℕ → ℤ
-products v k i = four_of v.at0 v.at1 v.at2 v.at3 k.at0 k.at1 k.at2 k.at3 i
-
-pub four_are : (v : FourOf (List ℤ)) (k : FourOf ℤ) (r : List ℤ) → IsEight 8192 v.at0 → IsEight 8192 v.at1 → IsEight 8192 v.at2 → IsEight 8192 v.at3
-    → nat_abs k.at0 + nat_abs k.at1 + (nat_abs k.at2 + nat_abs k.at3) ≤ 65536 → length r ≡ 8
-    → ((i : ℕ) → i < 8 → number_at r i ≡ int_wrap w32 (products v k i)) → AreLanes (products v k) r
-four_are v k r e0 e1 e2 e3 few long wrapped =
+pub four_are : (v : Four) (k : Factors) (r : List ℤ) → AreEight 8192 v → nat_abs k.0 + nat_abs k.1 + (nat_abs k.2 + nat_abs k.3) ≤ 65536 → length r ≡ 8
+    → ((i : ℕ) → i < 8 → number_at r i ≡ int_wrap w32 (four_of v k i)) → AreLanes (four_of v k) r
+four_are v k r e few long wrapped =
     let small = λ (i : ℕ) (lt : i < 8).
-    four_small (number_at v.at0 i) (number_at v.at1 i) (number_at v.at2 i) (number_at v.at3 i) k.at0 k.at1 k.at2 k.at3
-    (e0.small i lt) (e1.small i lt) (e2.small i lt) (e3.small i lt) few in
-    let at = λ (i : ℕ) (lt : i < 8). wrapped i lt ∙ exact (products v k i) (small i lt) in
+    four_small (number_at v.v0 i) (number_at v.v1 i) (number_at v.v2 i) (number_at v.v3 i) k.0 k.1 k.2 k.3
+    (e.at0.small i lt) (e.at1.small i lt) (e.at2.small i lt) (e.at3.small i lt) few in
+    let at = λ (i : ℕ) (lt : i < 8). wrapped i lt ∙ exact (four_of v k i) (small i lt) in
     record {
       all = record { long = long; small = λ i lt. subst (λ z. nat_abs z ≤ 536870912) (sym (at i lt)) (small i lt) };
       at = at;
@@ -459,16 +456,27 @@ odd_fourth a b c d = twice (four_products a b c d (pos 22726) (pos 19266) (pos 1
 pub handed : {r : List ℤ} (k : ℕ) {x : ℤ} → IsEight 8192 r → number_at r k ≡ x → number_at (seen w16 r) k ≡ x
 handed {r} k e is = ap (λ xs. number_at xs k) (same16 8192 r (omega arith) e) ∙ is
 
+-- four vectors, as a call sees them
+abbrev four_vectors : List ℤ → List ℤ → List ℤ → List ℤ → Four
+four_vectors a b c d = record { v0 = a; v1 = b; v2 = c; v3 = d }
+
+abbrev pub seen_four : Four → Four
+seen_four v = four_vectors (seen w16 v.v0) (seen w16 v.v1) (seen w16 v.v2) (seen w16 v.v3)
+
+pub same_four : {n : ℕ} {v : Four} → n ≤ 32767 → AreEight n v → seen_four v ≡ v
+same_four {n} {v} few e =
+    ap (λ xs. four_vectors xs (seen w16 v.v1) (seen w16 v.v2) (seen w16 v.v3)) (same16 n v.v0 few e.at0)
+    ∙ ap (λ xs. four_vectors v.v0 xs (seen w16 v.v2) (seen w16 v.v3)) (same16 n v.v1 few e.at1)
+    ∙ ap (λ xs. four_vectors v.v0 v.v1 xs (seen w16 v.v3)) (same16 n v.v2 few e.at2)
+    ∙ ap (four_vectors v.v0 v.v1 v.v2) (same16 n v.v3 few e.at3)
+
+pub four_seen : {n : ℕ} {v : Four} → n ≤ 32767 → AreEight n v → AreEight n (seen_four v)
+four_seen {n} {v} few e = subst (AreEight n) (sym (same_four few e)) e
+
 -- four products of what a call sees
-pub of_four : (v : FourOf (List ℤ)) (k : FourOf ℤ) (r : List ℤ) (x : ℤ) (i : ℕ) → IsEight 8192 v.at0 → IsEight 8192 v.at1 → IsEight 8192 v.at2 → IsEight 8192 v.at3 → IsEight 8192 r
-    → number_at r i ≡ half_rounded (four_of (seen w16 v.at0) (seen w16 v.at1) (seen w16 v.at2) (seen w16 v.at3) k.at0 k.at1 k.at2 k.at3 i)
-    → half_rounded (products v k i) ≡ x → number_at (seen w16 r) i ≡ x
-of_four v k r x i e0 e1 e2 e3 er at is =
-    let same = λ (xs : List ℤ) (e : IsEight 8192 xs). same16 8192 xs (omega arith) e in
-    handed i er
-    (at
-    ∙ same4 (λ a b c d. half_rounded (four_of a b c d k.at0 k.at1 k.at2 k.at3 i)) (same v.at0 e0) (same v.at1 e1) (same v.at2 e2) (same v.at3 e3)
-    ∙ is)
+pub of_four : (v : Four) (k : Factors) (r : List ℤ) (x : ℤ) (i : ℕ) → AreEight 8192 v → IsEight 8192 r
+    → number_at r i ≡ half_rounded (four_of (seen_four v) k i) → half_rounded (four_of v k i) ≡ x → number_at (seen w16 r) i ≡ x
+of_four v k r x i e er at is = handed i er (at ∙ ap (λ v. half_rounded (four_of v k i)) (same_four (omega arith) e) ∙ is)
 
 -- QUARTERS
 

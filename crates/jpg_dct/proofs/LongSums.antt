@@ -6,10 +6,11 @@ use Rattle.std.proofs.lemmas.List.{get_or-map, length-map}
 use Rattle.jpg_spec.specs.Lists.{below}
 use Rattle.jpg_spec_image.specs.Dct.{number_at, even_sums, odd_sums}
 use Rattle.jpg_spec_image.proofs.Frequencies.{odd_at0, odd_at1, odd_at2, odd_at3}
-use Rattle.jpg_dct.specs.Eights.{IsEight, four_of}
-use Rattle.jpg_dct.proofs.Several.{FourOf, same4}
+use Rattle.jpg_dct.specs.declared.forward.lanes.Four.{Four}
+use Rattle.jpg_dct.specs.declared.forward.lanes.Factors.{Factors}
+use Rattle.jpg_dct.specs.Eights.{AreEight, four_of}
 use Rattle.jpg_dct.proofs.Wrapped.{start}
-use Rattle.jpg_dct.proofs.Eights.{lane, lane_is, eight_at, seen, same16, products}
+use Rattle.jpg_dct.proofs.Eights.{lane, lane_is, eight_at, seen, seen_four, same_four}
 
 pub wide_differences_are : (a b : List ℤ) → length a ≡ 8 → length b ≡ 8 → (i : ℕ) → i < 8 → (x y : ℤ) → number_at a i ≡ int_wrap w32 x → number_at b i ≡ int_wrap w32 y
     → number_at (map (λ n. to_z w32 ((lane w32 a a n + (4294967296 - lane w32 b b n)) % 4294967296)) (below 8)) i ≡ int_wrap w32 (x -ℤ y)
@@ -36,15 +37,10 @@ seen_at w r k lt =
 pub wrapped_at : (r : List ℤ) (k : ℕ) (x : ℤ) → length r ≡ 8 → k < 8 → number_at r k ≡ int_wrap w32 x → number_at (seen w32 r) k ≡ int_wrap w32 x
 wrapped_at r k x long lt e = seen_at w32 r k (omega (arith, long, lt)) ∙ start w32 (number_at r k) x e
 
-pub four_handed : (v : FourOf (List ℤ)) (k : FourOf ℤ) (r : List ℤ) (x : ℤ) (i : ℕ) → IsEight 32767 v.at0 → IsEight 32767 v.at1 → IsEight 32767 v.at2 → IsEight 32767 v.at3
-    → length r ≡ 8 → i < 8 → number_at r i ≡ int_wrap w32 (four_of (seen w16 v.at0) (seen w16 v.at1) (seen w16 v.at2) (seen w16 v.at3) k.at0 k.at1 k.at2 k.at3 i)
-    → products v k i ≡ x → number_at (seen w32 r) i ≡ int_wrap w32 x
-four_handed v k r x i e0 e1 e2 e3 long lt at is =
-    let same = λ (xs : List ℤ) (e : IsEight 32767 xs). same16 32767 xs (omega arith) e in
-    wrapped_at r i x long lt
-    (at
-    ∙ same4 (λ a b c d. int_wrap w32 (four_of a b c d k.at0 k.at1 k.at2 k.at3 i)) (same v.at0 e0) (same v.at1 e1) (same v.at2 e2) (same v.at3 e3)
-    ∙ ap (int_wrap w32) is)
+pub four_handed : (v : Four) (k : Factors) (r : List ℤ) (x : ℤ) (i : ℕ) → AreEight 32767 v → length r ≡ 8 → i < 8
+    → number_at r i ≡ int_wrap w32 (four_of (seen_four v) k i) → four_of v k i ≡ x → number_at (seen w32 r) i ≡ int_wrap w32 x
+four_handed v k r x i e long lt at is =
+    wrapped_at r i x long lt (at ∙ ap (λ v. int_wrap w32 (four_of v k i)) (same_four (omega arith) e) ∙ ap (int_wrap w32) is)
 
 pub more_handed : (b r : List ℤ) (n x : ℤ) (i : ℕ) → i < 8 → FitsSigned w32 n → length r ≡ 8
     → ((x : ℤ) → number_at (seen w32 b) i ≡ int_wrap w32 x → number_at r i ≡ int_wrap w32 (x +ℤ to_z w32 (of_z w32 n)))

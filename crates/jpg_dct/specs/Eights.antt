@@ -5,6 +5,7 @@ use Rattle.jpg_spec_image.specs.Dct.{number_at}
 use Rattle.jpg_dct.specs.Division.{with_sign, divided}
 use Rattle.jpg_dct.specs.declared.forward.lanes.Eight.{Eight}
 use Rattle.jpg_dct.specs.declared.forward.lanes.Four.{Four}
+use Rattle.jpg_dct.specs.declared.forward.lanes.Factors.{Factors}
 
 -- eight numbers of a magnitude of at most n
 pub record IsEight (n : ℕ) (xs : List ℤ) : Type 0 where
@@ -59,8 +60,8 @@ abbrev pub quotient_at : ℤ → List ℕ → List ℕ → List ℕ → ℕ → 
 quotient_at x halves factors scales n = with_sign x (divided (nat_abs x) (slice_index halves n) (slice_index factors n) (slice_index scales n))
 
 -- four products of lane i, added up
-abbrev pub four_of : List ℤ → List ℤ → List ℤ → List ℤ → ℤ → ℤ → ℤ → ℤ → ℕ → ℤ
-four_of a b c d k l m n i = ((number_at a i *ℤ k) +ℤ (number_at b i *ℤ l)) +ℤ ((number_at c i *ℤ m) +ℤ (number_at d i *ℤ n))
+abbrev pub four_of : Four → Factors → ℕ → ℤ
+four_of v k i = ((number_at v.v0 i *ℤ k.0) +ℤ (number_at v.v1 i *ℤ k.1)) +ℤ ((number_at v.v2 i *ℤ k.2) +ℤ (number_at v.v3 i *ℤ k.3))
 
 -- rows of numbers, and the same divided by tables
 abbrev pub AreQuotients : Eight → Eight → List ℕ → List ℕ → List ℕ → Type 0

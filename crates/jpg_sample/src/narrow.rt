@@ -146,15 +146,17 @@ fn first_of(x: usize, width: usize, across: usize) -> usize
 
 // The means from column `from` on, by any ratio; columns after the last one repeat it.
 #[inline(always)]
-fn means(rows: &[u8], width: usize, across: usize, down: usize, from: usize, out: &mut [u8])
-    requires across { (1 ≤ across) × (across ≤ 4) }
-    requires down { (1 ≤ down) × (down ≤ 4) }
+fn means(rows: &[u8], width: usize, ratio: Ratio, from: usize, out: &mut [u8])
+    requires across { (1 ≤ ratio.across) × (ratio.across ≤ 4) }
+    requires down { (1 ≤ ratio.down) × (ratio.down ≤ 4) }
     requires some { (1 ≤ width) × (width < 4294967296) }
-    requires rows { length rows.now ≡ down * width }
+    requires rows { length rows.now ≡ ratio.down * width }
     requires within { from ≤ length out.old }
-    requires made { take from out.old ≡ down_rows across down width rows.now from }
-    ensures { out.new ≡ down_rows across down width rows.now (length out.old) }
+    requires made { take from out.old ≡ down_rows ratio.across ratio.down width rows.now from }
+    ensures { out.new ≡ down_rows ratio.across ratio.down width rows.now (length out.old) }
 {
+    let across = ratio.across as usize;
+    let down = ratio.down as usize;
     for x in from..out.len() {
         let first = first_of(x, width, across);
         let sum = block_sum(rows, width, across, down, first);
@@ -270,22 +272,22 @@ fn copies(row: &[u8], width: usize, out: &mut [u8])
 
 // Means by any ratio, where no column is repeated.
 #[inline(always)]
-fn first_means(rows: &[u8], width: usize, across: usize, down: usize, out: &mut [u8])
-    requires across { (1 ≤ across) × (across ≤ 4) }
-    requires down { (1 ≤ down) × (down ≤ 4) }
+fn first_means(rows: &[u8], width: usize, ratio: Ratio, out: &mut [u8])
+    requires across { (1 ≤ ratio.across) × (ratio.across ≤ 4) }
+    requires down { (1 ≤ ratio.down) × (ratio.down ≤ 4) }
     requires some { (1 ≤ width) × (width < 4294967296) }
-    requires rows { length rows.now ≡ down * width }
-    requires there { across * length out.old ≤ width }
-    ensures { out.new ≡ down_rows across down width rows.now (length out.old) }
+    requires rows { length rows.now ≡ ratio.down * width }
+    requires there { ratio.across * length out.old ≤ width }
+    ensures { out.new ≡ down_rows ratio.across ratio.down width rows.now (length out.old) }
 {
-    if across == 1 && down == 1 {
+    if ratio.across == 1 && ratio.down == 1 {
         copies(rows, width, out);
-    } else if across == 2 && down == 1 {
+    } else if ratio.across == 2 && ratio.down == 1 {
         halves(rows, width, out);
-    } else if across == 2 && down == 2 {
+    } else if ratio.across == 2 && ratio.down == 2 {
         quarters(rows, width, out);
     } else {
-        means(rows, width, across, down, 0, out);
+        means(rows, width, ratio, 0, out);
     }
 }
 
@@ -308,10 +310,8 @@ pub fn down_rows(rows: &[u8], width: u32, ratio: &Ratio, out: &mut [u8])
     requires rows { length rows.now ≡ ratio.now.down * width }
     ensures { out.new ≡ down_rows ratio.now.across ratio.now.down width rows.now (length out.old) }
 {
-    let across = ratio.across as usize;
-    let down = ratio.down as usize;
     let width = width as usize;
-    let made = whole(width, across, out.len());
-    first_means(rows, width, across, down, &mut out[..made]);
-    means(rows, width, across, down, made, out);
+    let made = whole(width, ratio.across as usize, out.len());
+    first_means(rows, width, *ratio, &mut out[..made]);
+    means(rows, width, *ratio, made, out);
 }

@@ -5,11 +5,11 @@ ghost use Rattle.jpg_spec_image.specs.Upsampling.{has_far_rows, is_smoothed};
 ghost use Rattle.jpg_file.specs.Read.StripHead.{IsStripHead};
 ghost use Rattle.jpg_color.specs.PartState.{CanDraw, CanFill, CanFillGray, IsNewPart, IsSized, drawn, filled, grayed_part, head_picture, upsampled_from};
 
-use crate::decode::sample_rows::SampleRows;
+use crate::decode::sample_rows::{ComponentRows, SampleRows};
 use jpg_base::{NoMemory, QuantTable};
 use jpg_coefs::Coefs;
 use jpg_file::StripHead;
-use jpg_sample::{repeat_row, up_row, up_rows2};
+use jpg_sample::{Ratio, repeat_row, up_row, up_rows2};
 use std::alloc::Global;
 use std::marker::Model;
 use std::vec::Vec;
@@ -24,10 +24,8 @@ pub(crate) struct Part {
     wide: u32,
     // Rows of its plane.
     high: u32,
-    // The ratio of the greatest horizontal factor to its own.
-    across: u8,
-    // The ratio of the greatest vertical factor to its own.
-    down: u8,
+    // The ratios of the greatest factors to its own.
+    ratio: Ratio,
     // Rows are smoothed where they are upsampled.
     smooth: bool,
     // How many rows of blocks it has in an MCU row.
@@ -45,9 +43,9 @@ impl Model for Part {
 
     ghost Value = { PartState };
 
-    ghost view = { λ p. state_of p.component (stretch_by p.wide p.high p.across p.down p.smooth) p.block_rows p.quants p.rows p.line.items };
+    ghost view = { λ p. state_of p.component (stretch_by p.wide p.high p.ratio p.smooth) p.block_rows p.quants p.rows p.line.items };
 
-    ghost invariant = { λ p. IsMeasured (state_of p.component (stretch_by p.wide p.high p.across p.down p.smooth) p.block_rows p.quants p.rows p.line.items) };
+    ghost invariant = { λ p. IsMeasured (state_of p.component (stretch_by p.wide p.high p.ratio p.smooth) p.block_rows p.quants p.rows p.line.items) };
 }
 
 // A side in samples of a component.
@@ -112,18 +110,18 @@ fn top(block_rows: u8, pushed: u32) -> u32
 }
 
 // A row of the image from the row of samples near it, and the far one if it is made from two.
-fn upsample(near: &[u8], far: &[u8], smoothed: bool, across: u8, down: u8, out: &mut [u8])
-    requires smoothed { smoothed ≡ true → (2 < length near.now) × (across ≡ 2) }
+fn upsample(near: &[u8], far: &[u8], smoothed: bool, ratio: Ratio, out: &mut [u8])
+    requires smoothed { smoothed ≡ true → (2 < length near.now) × (ratio.across ≡ 2) }
     requires same { length far.now ≡ length near.now }
-    requires room { length out.old ≡ across * length near.now }
-    ensures { out.new ≡ upsampled_from near.now far.now smoothed across down }
+    requires room { length out.old ≡ ratio.across * length near.now }
+    ensures { out.new ≡ upsampled_from near.now far.now smoothed ratio.across ratio.down }
 {
-    if smoothed && down == 2 {
+    if smoothed && ratio.down == 2 {
         up_rows2(near, far, out);
-    } else if smoothed && down == 1 {
+    } else if smoothed && ratio.down == 1 {
         up_row(near, out);
     } else {
-        repeat_row(near, across, out);
+        repeat_row(near, ratio.across, out);
     }
 }
 
@@ -154,8 +152,7 @@ impl Part {
             component: i,
             wide,
             high,
-            across,
-            down,
+            ratio: Ratio { across, down },
             smooth,
             block_rows,
             quants: head.quants[i as usize],
@@ -177,8 +174,13 @@ impl Part {
         };
         let before = known(self.block_rows, self.high, pushed);
         let count = known(self.block_rows, self.high, pushed + 1) - before;
-        self.rows
-            .fill(coefs, self.component, &self.quants, first, count);
+        self.rows.fill(ComponentRows {
+            coefs,
+            component: self.component,
+            quants: &self.quants,
+            first,
+            count,
+        });
     }
 
     /// Adds the rows of samples of an MCU row whose blocks are zero.
@@ -198,27 +200,27 @@ impl Part {
     {
         let first = top(self.block_rows, pushed);
         let smoothed = self.is_smoothed();
-        let near = self.rows.row(y / u32::from(self.down) - first);
-        let far = if smoothed && self.down == 2 {
+        let near = self.rows.row(y / u32::from(self.ratio.down) - first);
+        let far = if smoothed && self.ratio.down == 2 {
             self.rows.row(far(y, self.high) - first)
         } else {
             near
         };
-        upsample(near, far, smoothed, self.across, self.down, &mut self.line);
+        upsample(near, far, smoothed, self.ratio, &mut self.line);
     }
 
     /// Whether its rows of the image are made from two rows of samples.
     pub(crate) fn is_waiting(&self) -> bool
         ensures { result ≡ has_far_rows self.now.stretch }
     {
-        self.is_smoothed() && self.down == 2
+        self.is_smoothed() && self.ratio.down == 2
     }
 
     // Whether its rows of samples are smoothed where they are upsampled.
     fn is_smoothed(&self) -> bool
         ensures { result ≡ is_smoothed self.now.stretch }
     {
-        self.smooth && (2 < self.wide && self.across == 2)
+        self.smooth && (2 < self.wide && self.ratio.across == 2)
     }
 
     /// The row of the image that was made last.

@@ -3,7 +3,7 @@ ghost use Rattle.std.specs.Prelude.{◌≡◌, ◌<◌, ◌≤◌, ◌+◌, ◌*
 ghost use Rattle.jpg_spec.specs.Geometry.{component_at};
 ghost use Rattle.jpg_spec.specs.FrameHeader.{padded_down};
 ghost use Rattle.jpg_coefs.specs.Picture.{map_of};
-ghost use Rattle.jpg_color.specs.KeptRows.{HasRows, stride, kept_rows_of, last_row, sample_in, with_gray, with_block_rows};
+ghost use Rattle.jpg_color.specs.KeptRows.{HasRows, stride, kept_rows_of, last_row, sample_of, with_gray, with_block_rows};
 ghost use Rattle.jpg_color.specs.RowBytes.{PutsBlock, PutsRows};
 
 use crate::decode::blocks::samples_by;
@@ -14,6 +14,34 @@ use std::alloc::Global;
 use std::marker::Model;
 use std::simd::u8x64;
 use std::vec::Vec;
+
+/// Rows of samples that blocks of a component have.
+#[derive(Clone, Copy)]
+pub struct ComponentRows<'a> {
+    /// The coefficients.
+    pub coefs: &'a Coefs,
+    /// The component's index in the frame.
+    pub component: u8,
+    /// Its quantisation table.
+    pub quants: &'a QuantTable,
+    /// The row of its blocks that they begin with.
+    pub first: u32,
+    /// How many rows of samples they are.
+    pub count: u32,
+}
+
+// Where rows of a block of samples go.
+#[derive(Clone, Copy)]
+struct BlockPlace {
+    // How many bytes a row takes.
+    line: usize,
+    // The row that the block's first one goes to.
+    row: usize,
+    // How many blocks of that row are left of it.
+    column: usize,
+    // How many of its rows go there.
+    rows: usize,
+}
 
 /// Some rows of samples of one component, one below the other: those of the last blocks, and the row above them.
 #[derive(Drop)]
@@ -71,77 +99,73 @@ fn put_eight(samples: &mut [u8], at: usize, block: &[u8; 64], y: usize)
 
 // The eight rows of a block of samples.
 #[inline(always)]
-fn put_whole(samples: &mut [u8], line: usize, row: usize, column: usize, block: &[u8; 64])
-    requires across { 8 * column + 8 ≤ line }
-    requires down { (row + 8) * line ≤ length samples.old }
-    requires small { (line ≤ 65504) × (row + 8 ≤ 33) }
-    ensures { PutsBlock line row column 8 block.now samples.old samples.new }
+fn put_whole(samples: &mut [u8], place: BlockPlace, block: &[u8; 64])
+    requires across { 8 * place.column + 8 ≤ place.line }
+    requires down { (place.row + 8) * place.line ≤ length samples.old }
+    requires small { (place.line ≤ 65504) × (place.row + 8 ≤ 33) }
+    ensures { PutsBlock place.line place.row place.column 8 block.now samples.old samples.new }
 {
     for y in 0..8 {
-        put_eight(samples, (row + y) * line + 8 * column, block, y);
+        let at = (place.row + y) * place.line + 8 * place.column;
+        put_eight(samples, at, block, y);
     }
 }
 
 // The first rows of a block of samples.
 #[inline(never)]
-fn put_some(
-    samples: &mut [u8],
-    line: usize,
-    row: usize,
-    column: usize,
-    block: &[u8; 64],
-    rows: usize,
-)
-    requires rows { rows ≤ 8 }
-    requires across { 8 * column + 8 ≤ line }
-    requires down { (row + rows) * line ≤ length samples.old }
-    requires small { (line ≤ 65504) × (row + rows ≤ 33) }
-    ensures { PutsBlock line row column rows block.now samples.old samples.new }
+fn put_some(samples: &mut [u8], place: BlockPlace, block: &[u8; 64])
+    requires rows { place.rows ≤ 8 }
+    requires across { 8 * place.column + 8 ≤ place.line }
+    requires down { (place.row + place.rows) * place.line ≤ length samples.old }
+    requires small { (place.line ≤ 65504) × (place.row + place.rows ≤ 33) }
+    ensures { PutsBlock place.line place.row place.column place.rows block.now samples.old samples.new }
 {
-    for y in 0..rows {
-        put_eight(samples, (row + y) * line + 8 * column, block, y);
+    for y in 0..place.rows {
+        let at = (place.row + y) * place.line + 8 * place.column;
+        put_eight(samples, at, block, y);
     }
 }
 
 // The same. Where it is all of them, their number is known when it is compiled.
 #[inline(always)]
-fn put_block(samples: &mut [u8], line: usize, row: usize, column: usize, block: u8x64, rows: usize)
-    requires rows { rows ≤ 8 }
-    requires across { 8 * column + 8 ≤ line }
-    requires down { (row + rows) * line ≤ length samples.old }
-    requires small { (line ≤ 65504) × (row + rows ≤ 33) }
-    ensures { PutsBlock line row column rows block samples.old samples.new }
+fn put_block(samples: &mut [u8], place: BlockPlace, block: u8x64)
+    requires rows { place.rows ≤ 8 }
+    requires across { 8 * place.column + 8 ≤ place.line }
+    requires down { (place.row + place.rows) * place.line ≤ length samples.old }
+    requires small { (place.line ≤ 65504) × (place.row + place.rows ≤ 33) }
+    ensures { PutsBlock place.line place.row place.column place.rows block samples.old samples.new }
 {
     let bytes = block.as_array();
-    if rows == 8 {
-        put_whole(samples, line, row, column, bytes);
+    if place.rows == 8 {
+        put_whole(samples, place, bytes);
     } else {
-        put_some(samples, line, row, column, bytes, rows);
+        put_some(samples, place, bytes);
     }
 }
 
-// Rows of the samples of one row of blocks.
-fn put_row_of_blocks(
-    samples: &mut [u8],
-    wide: u32,
-    row: usize,
-    coefs: &Coefs,
-    i: u8,
-    quants: &QuantTable,
-    at: u32,
-    rows: usize,
-)
+// Puts rows of the samples of one row of blocks, from row `row` on.
+fn put_row_of_blocks(samples: &mut [u8], wide: u32, row: usize, of: ComponentRows<'_>)
     requires wide { (1 ≤ wide) × (wide ≤ 65500) }
-    requires rows { (1 ≤ rows) × (rows ≤ 8) × (row + rows ≤ 33) }
-    requires room { (row + rows) * stride wide ≤ length samples.old }
-    requires blocks { HasRows coefs.now i at wide rows }
-    ensures { PutsRows (stride wide) row rows (stride wide) (sample_in quants.now (map_of coefs.now) i at) samples.old samples.new }
+    requires rows { (1 ≤ of.count) × (of.count ≤ 8) × (row + of.count ≤ 33) }
+    requires room { (row + of.count) * stride wide ≤ length samples.old }
+    requires there { HasRows of.coefs.now of.component of.first wide of.count }
+    ensures { PutsRows (stride wide) row of.entry.count (stride wide) (sample_of of.entry) samples.old samples.new }
 {
     let line = line_of(wide);
-    let steps = Multipliers::new(&quants.values());
+    let steps = Multipliers::new(&of.quants.values());
     for x in 0..wide.div_ceil(8) {
-        let block = samples_by(&coefs.block(i, x, at), quants, &steps);
-        put_block(samples, line, row, x as usize, block, rows);
+        let block = samples_by(
+            &of.coefs.block(of.component, x, of.first),
+            of.quants,
+            &steps,
+        );
+        let place = BlockPlace {
+            line,
+            row,
+            column: x as usize,
+            rows: of.count as usize,
+        };
+        put_block(samples, place, block);
     }
 }
 
@@ -154,36 +178,22 @@ fn rows_fit(coefs: &Coefs, i: u8)
     let _ = coefs.frame().padded(i).high;
 }
 
-// Puts `count` rows after the first `kept` ones.
-fn put_rows(
-    samples: &mut [u8],
-    wide: u32,
-    kept: usize,
-    coefs: &Coefs,
-    i: u8,
-    quants: &QuantTable,
-    first: u32,
-    count: usize,
-)
+// Puts these rows after the first `kept` ones.
+fn put_rows(samples: &mut [u8], wide: u32, kept: usize, of: ComponentRows<'_>)
     requires wide { (1 ≤ wide) × (wide ≤ 65500) }
-    requires rows { kept + count ≤ 33 }
-    requires room { (kept + count) * stride wide ≤ length samples.old }
-    requires blocks { HasRows coefs.now i first wide count }
-    ensures { PutsRows (stride wide) kept count (stride wide) (sample_in quants.now (map_of coefs.now) i first) samples.old samples.new }
+    requires rows { kept + of.count ≤ 33 }
+    requires room { (kept + of.count) * stride wide ≤ length samples.old }
+    requires there { HasRows of.coefs.now of.component of.first wide of.count }
+    ensures { PutsRows (stride wide) kept of.entry.count (stride wide) (sample_of of.entry) samples.old samples.new }
 {
-    rows_fit(coefs, i);
-    for b in 0..count.div_ceil(8) {
-        let rows = (count - 8 * b).min(8);
-        put_row_of_blocks(
-            samples,
-            wide,
-            kept + 8 * b,
-            coefs,
-            i,
-            quants,
-            first + b as u32,
-            rows,
-        );
+    rows_fit(of.coefs, of.component);
+    for b in 0..of.count.div_ceil(8) {
+        let part = ComponentRows {
+            first: of.first + b,
+            count: (of.count - 8 * b).min(8),
+            ..of
+        };
+        put_row_of_blocks(samples, wide, kept + 8 * b as usize, part);
     }
 }
 
@@ -263,26 +273,16 @@ impl SampleRows {
         )
     }
 
-    /// Keeps the last row, and adds `count` rows of the blocks of component `i`, from row `first` of these on (T.81,
-    /// A.3.3, A.3.4).
-    pub fn fill(&mut self, coefs: &Coefs, i: u8, quants: &QuantTable, first: u32, count: u32)
-        requires room { count < self.old.room }
-        requires blocks { HasRows coefs.now i first self.old.wide count }
-        ensures { self.new ≡ with_block_rows self.old quants.now (map_of coefs.now) i first count }
+    /// Keeps the last row, and adds these rows, made of blocks (T.81, A.3.3, A.3.4).
+    pub fn fill(&mut self, of: ComponentRows<'_>)
+        requires room { of.count < self.old.room }
+        requires there { HasRows of.coefs.now of.component of.first self.old.wide of.count }
+        ensures { self.new ≡ with_block_rows self.old of.entry.quants.now (map_of of.entry.coefs.now) of.entry.component of.entry.first of.entry.count }
     {
         let wide = self.wide;
         let kept = keep_last(&mut self.samples, wide, self.len);
-        put_rows(
-            &mut self.samples,
-            wide,
-            kept as usize,
-            coefs,
-            i,
-            quants,
-            first,
-            count as usize,
-        );
-        self.len = kept + count;
+        put_rows(&mut self.samples, wide, kept as usize, of);
+        self.len = kept + of.count;
     }
 
     /// Keeps the last row, and adds `count` rows of 128: those of zero blocks.

@@ -31,14 +31,23 @@ pub(crate) struct Eight {
     pub(crate) v7: i16x8,
 }
 
-// Four vectors of eight numbers, those of four of the eight.
+/// Four vectors of eight numbers, those of four of the eight.
 #[derive(Clone, Copy)]
-struct Four {
-    v0: i16x8,
-    v1: i16x8,
-    v2: i16x8,
-    v3: i16x8,
+pub(crate) struct Four {
+    pub(crate) v0: i16x8,
+    pub(crate) v1: i16x8,
+    pub(crate) v2: i16x8,
+    pub(crate) v3: i16x8,
 }
+
+/// The factors of four numbers whose products are added, in their order.
+#[derive(Clone, Copy)]
+pub(crate) struct Factors(
+    pub(crate) i32,
+    pub(crate) i32,
+    pub(crate) i32,
+    pub(crate) i32,
+);
 
 // Sums and differences of small numbers.
 #[inline(always)]
@@ -104,14 +113,14 @@ fn two_products(a: i16x8, b: i16x8, k: i32, l: i32) -> i16x8
 
 // Four products of each lane, rounded.
 #[inline(always)]
-fn four_products(a: i16x8, b: i16x8, c: i16x8, d: i16x8, k: i32, l: i32, m: i32, n: i32) -> i16x8
-    requires lanes { (IsEight 8192 a) × (IsEight 8192 b) × (IsEight 8192 c) × (IsEight 8192 d) }
-    requires factors { (nat_abs k + nat_abs l) + (nat_abs m + nat_abs n) ≤ 65536 }
+fn four_products(v: Four, factors: Factors) -> i16x8
+    requires lanes { AreEight 8192 v }
+    requires factors { (nat_abs factors.0 + nat_abs factors.1) + (nat_abs factors.2 + nat_abs factors.3) ≤ 65536 }
     ensures all { IsEight 8192 result }
-    ensures at { (i : ℕ) → i < 8 → number_at result i ≡ half_rounded (four_of a b c d k l m n i) }
+    ensures at { (i : ℕ) → i < 8 → number_at result i ≡ half_rounded (four_of v factors i) }
 {
-    let first = dots(a, b, k, l);
-    let second = dots(c, d, m, n);
+    let first = dots(v.v0, v.v1, factors.0, factors.1);
+    let second = dots(v.v2, v.v3, factors.2, factors.3);
     rounded(both(first, second))
 }
 
@@ -164,10 +173,16 @@ fn odd(m0: i16x8, m1: i16x8, m2: i16x8, m3: i16x8) -> Four
     ensures all { AreEight 8192 result }
     ensures at { (k : ℕ) → k < 8 → four_at result k ≡ map eighth (odd_sums (number_at m0 k) (number_at m1 k) (number_at m2 k) (number_at m3 k)) }
 {
-    let v0 = four_products(m0, m1, m2, m3, 4520, -12872, 19266, -22726);
-    let v1 = four_products(m0, m1, m2, m3, 12874, -22724, 4522, 19266);
-    let v2 = four_products(m0, m1, m2, m3, 19266, -4518, -22724, -12872);
-    let v3 = four_products(m0, m1, m2, m3, 22726, 19266, 12874, 4520);
+    let m = Four {
+        v0: m0,
+        v1: m1,
+        v2: m2,
+        v3: m3,
+    };
+    let v0 = four_products(m, Factors(4520, -12872, 19266, -22726));
+    let v1 = four_products(m, Factors(12874, -22724, 4522, 19266));
+    let v2 = four_products(m, Factors(19266, -4518, -22724, -12872));
+    let v3 = four_products(m, Factors(22726, 19266, 12874, 4520));
     Four { v0, v1, v2, v3 }
 }
 

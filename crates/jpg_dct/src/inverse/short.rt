@@ -3,11 +3,11 @@ ghost use Rattle.std.specs.Prelude.{◌≡◌, List, ◌+◌, ◌-◌, ◌*◌, 
 ghost use Rattle.std.specs.Int.{int_wrap, int_shr, cast_unsigned, w32};
 ghost use Rattle.jpg_spec.specs.Lists.{below};
 ghost use Rattle.jpg_spec_image.specs.Dct.{number_at, even_sums, odd_sums, inverse_dct};
-ghost use Rattle.jpg_dct.specs.Eights.{IsEight, vector, four_of};
+ghost use Rattle.jpg_dct.specs.Eights.{IsEight, AreEight, vector, four_of};
 ghost use Rattle.jpg_dct.specs.Sums.{AreColumns, AreWords, AreLong, AreFourLong, IsCorner, sums_at, four_sums_at, line_at, lane_at, wrapped_more, column_number, low_of, limited_of, told_at, told_row};
 ghost use Rattle.jpg_dct.specs.LowBits.{natural_of};
 
-use crate::forward::lanes::{Eight, both, dots, turned};
+use crate::forward::lanes::{Eight, Factors, Four, both, dots, turned};
 use std::simd::cmp::SimdOrd;
 use std::simd::{i16x8, i32x8, u8x16, u8x64, u16x8};
 
@@ -71,13 +71,13 @@ fn more(a: i32x8, n: i32) -> i32x8
 
 // Four products of each lane, added in 32 bits.
 #[inline(always)]
-fn four_products(a: i16x8, b: i16x8, c: i16x8, d: i16x8, k: i32, l: i32, m: i32, n: i32) -> i32x8
-    requires { (IsEight 32767 a) × (IsEight 32767 b) × (IsEight 32767 c) × (IsEight 32767 d) }
+fn four_products(v: Four, factors: Factors) -> i32x8
+    requires { AreEight 32767 v }
     ensures long { length result ≡ 8 }
-    ensures at { (i : ℕ) → i < 8 → number_at result i ≡ int_wrap w32 (four_of a b c d k l m n i) }
+    ensures at { (i : ℕ) → i < 8 → number_at result i ≡ int_wrap w32 (four_of v factors i) }
 {
-    let first = dots(a, b, k, l);
-    let second = dots(c, d, m, n);
+    let first = dots(v.v0, v.v1, factors.0, factors.1);
+    let second = dots(v.v2, v.v3, factors.2, factors.3);
     both(first, second)
 }
 
@@ -88,10 +88,16 @@ fn even(i0: i16x8, i2: i16x8, i4: i16x8, i6: i16x8, half: i32) -> FourSums
     ensures long { AreFourLong result }
     ensures at { (k : ℕ) → k < 8 → four_sums_at result k ≡ map (wrapped_more half) (even_sums (number_at i0 k) (number_at i2 k) (number_at i4 k) (number_at i6 k)) }
 {
-    let b0 = four_products(i0, i2, i4, i6, 8192, 10703, 8192, 4433);
-    let b1 = four_products(i0, i2, i4, i6, 8192, 4433, -8192, -10704);
-    let b2 = four_products(i0, i2, i4, i6, 8192, -4433, -8192, 10704);
-    let b3 = four_products(i0, i2, i4, i6, 8192, -10703, 8192, -4433);
+    let i = Four {
+        v0: i0,
+        v1: i2,
+        v2: i4,
+        v3: i6,
+    };
+    let b0 = four_products(i, Factors(8192, 10703, 8192, 4433));
+    let b1 = four_products(i, Factors(8192, 4433, -8192, -10704));
+    let b2 = four_products(i, Factors(8192, -4433, -8192, 10704));
+    let b3 = four_products(i, Factors(8192, -10703, 8192, -4433));
     let v0 = more(b0, half);
     let v1 = more(b1, half);
     let v2 = more(b2, half);
@@ -106,10 +112,16 @@ fn odd(i1: i16x8, i3: i16x8, i5: i16x8, i7: i16x8) -> FourSums
     ensures long { AreFourLong result }
     ensures at { (k : ℕ) → k < 8 → four_sums_at result k ≡ map (int_wrap w32) (odd_sums (number_at i1 k) (number_at i3 k) (number_at i5 k) (number_at i7 k)) }
 {
-    let v0 = four_products(i1, i3, i5, i7, 2260, -6436, 9633, -11363);
-    let v1 = four_products(i1, i3, i5, i7, 6437, -11362, 2261, 9633);
-    let v2 = four_products(i1, i3, i5, i7, 9633, -2259, -11362, -6436);
-    let v3 = four_products(i1, i3, i5, i7, 11363, 9633, 6437, 2260);
+    let i = Four {
+        v0: i1,
+        v1: i3,
+        v2: i5,
+        v3: i7,
+    };
+    let v0 = four_products(i, Factors(2260, -6436, 9633, -11363));
+    let v1 = four_products(i, Factors(6437, -11362, 2261, 9633));
+    let v2 = four_products(i, Factors(9633, -2259, -11362, -6436));
+    let v3 = four_products(i, Factors(11363, 9633, 6437, 2260));
     FourSums { v0, v1, v2, v3 }
 }
 

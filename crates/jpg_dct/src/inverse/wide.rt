@@ -1,7 +1,8 @@
 //! A line of eight frequencies in 64 bits, for large coefficients (T.81, A.3.3).
 ghost use Rattle.std.specs.Prelude.{◌≡◌, ◌+ℤ◌, ◌-ℤ◌, ◌*ℤ◌, pos, ◌+◌, ◌≤◌, ◌<◌, ◌/◌, ◌%◌, ◌^◌, map, All, nat_abs, length, slice_index_or};
 ghost use Rattle.std.specs.Int.{int_wrap, int_shr, cast_unsigned, w64};
-ghost use Rattle.jpg_spec_image.specs.Dct.{even_sums, odd_sums, line_sums, column, columns, ranged, sample_row, inverse_dct};
+ghost use Rattle.jpg_spec_image.specs.Dct.{even_sums, odd_sums, column, columns, ranged, sample_row, inverse_dct};
+ghost use Rattle.jpg_dct.specs.Lines.{sums_of};
 
 #[inline(always)]
 fn plus(a: i64, b: i64) -> i64
@@ -82,11 +83,11 @@ fn odd(i1: i64, i3: i64, i5: i64, i7: i64) -> [i64; 4]
 
 // The sums of a line.
 #[inline(always)]
-fn line(i0: i64, i1: i64, i2: i64, i3: i64, i4: i64, i5: i64, i6: i64, i7: i64) -> [i64; 8]
-    ensures { result ≡ map (int_wrap w64) (line_sums i0 i1 i2 i3 i4 i5 i6 i7) }
+fn line(i: [i64; 8]) -> [i64; 8]
+    ensures { result ≡ map (int_wrap w64) (sums_of i) }
 {
-    let b = even(i0, i2, i4, i6);
-    let o = odd(i1, i3, i5, i7);
+    let b = even(i[0], i[2], i[4], i[6]);
+    let o = odd(i[1], i[3], i[5], i[7]);
     let e0 = plus(b[0], o[3]);
     let e1 = plus(b[1], o[2]);
     let e2 = plus(b[2], o[1]);
@@ -138,7 +139,7 @@ fn column(values: &[i32; 64], u: usize) -> [i64; 8]
     let v5 = at(values, 40 + u);
     let v6 = at(values, 48 + u);
     let v7 = at(values, 56 + u);
-    let e = line(v0, v1, v2, v3, v4, v5, v6, v7);
+    let e = line([v0, v1, v2, v3, v4, v5, v6, v7]);
     let r0 = rounded(e[0]);
     let r1 = rounded(e[1]);
     let r2 = rounded(e[2]);
@@ -156,10 +157,10 @@ fn row(done: &[[i64; 8]; 8], v: usize) -> [u8; 8]
     ensures value { result ≡ sample_row done.now v }
     ensures long { length result ≡ 8 }
 {
-    let e = line(
+    let e = line([
         done[0][v], done[1][v], done[2][v], done[3][v], done[4][v], done[5][v], done[6][v],
         done[7][v],
-    );
+    ]);
     let s0 = sample(e[0]);
     let s1 = sample(e[1]);
     let s2 = sample(e[2]);

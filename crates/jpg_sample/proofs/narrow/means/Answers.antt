@@ -5,12 +5,12 @@ use Rattle.jpg_sample.proofs.Sums.{one_mean, mean_more, row_done, row_made}
 use Rattle.jpg_sample.proofs.narrow.means.Goals as goal
 
 pub loop-x-init : goal.loop-x-init
-loop-x-init c = (refl, row_made c.args.across c.args.down c.args.width c.args.rows.now c.args.out.now c.args.from c.requires.made)
+loop-x-init c = (refl, row_made c.args.ratio.across c.args.ratio.down c.args.width c.args.rows.now c.args.out.now c.args.from c.requires.made)
 
 pub loop-x-preserved : goal.loop-x-preserved
 loop-x-preserved c =
-    let across = c.args.across in
-    let down = c.args.down in
+    let across = c.args.ratio.across in
+    let down = c.args.ratio.down in
     let width = c.args.width in
     let rows = c.args.rows.now in (
       length-set c.loop-x.out c.loop-x.x _ ∙ c.loop-x.invariant.0,
@@ -20,4 +20,4 @@ loop-x-preserved c =
 
 pub returns : goal.returns
 returns c =
-    row_done c.args.across c.args.down c.args.width c.args.rows.now c.loop-x.out c.loop-x.x _ c.loop-x.invariant.0 (search rules) c.loop-x.invariant.1
+    row_done c.args.ratio.across c.args.ratio.down c.args.width c.args.rows.now c.loop-x.out c.loop-x.x _ c.loop-x.invariant.0 (search rules) c.loop-x.invariant.1

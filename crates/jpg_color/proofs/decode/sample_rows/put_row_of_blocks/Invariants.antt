@@ -1,9 +1,8 @@
 use Rattle.std.specs.Prelude.{◌*◌}
-use Rattle.jpg_coefs.specs.Picture.{map_of}
-use Rattle.jpg_color.specs.KeptRows.{stride, sample_in}
+use Rattle.jpg_color.specs.KeptRows.{stride, sample_of}
 use Rattle.jpg_color.specs.RowBytes.{PutsRows}
 use Rattle.jpg_color.proofs.decode.sample_rows.put_row_of_blocks.Given as goal
 
 abbrev pub invariant-loop-x : goal.invariant-loop-x
 invariant-loop-x l =
-    PutsRows (stride l.wide) l.row l.rows (8 * l.x) (sample_in l.quants (map_of l.coefs) l.i l.at) l.fn.samples l.samples
+    PutsRows (stride l.wide) l.row l.of.count (8 * l.x) (sample_of l.of) l.fn.samples l.samples

@@ -8,12 +8,12 @@ use Rattle.jpg_color.proofs.decode.sample_rows.put_rows.Goals as goal
 
 pub loop-b-preserved : goal.loop-b-preserved
 loop-b-preserved c =
-    let blocks = map_of c.args.coefs.now in
+    let blocks = map_of c.args.of.coefs.now in
     let b = c.loop-b.b in
     let line = stride c.args.wide in
-    let part = sample_in c.args.quants.now blocks c.args.i (c.args.first + b) in
-    rows_step c.args.count b c.loop-b.invariant (record {
+    let part = sample_in c.args.of.quants.now blocks c.args.of.component (c.args.of.first + b) in
+    rows_step c.args.of.count b c.loop-b.invariant (record {
       part = part;
-      put = subst (λ n. PutsRows line (c.args.kept + 8 * b) n line part c.loop-b.samples c.put_row_of_blocks.new.samples) c.min-rows.ensures c.put_row_of_blocks.ensures;
-      told = λ y x h. further c.args.quants.now blocks c.args.i c.args.first b y x;
+      put = subst (λ n. PutsRows line (c.args.kept + 8 * b) n line part c.loop-b.samples c.put_row_of_blocks.new.samples) c.min.ensures c.put_row_of_blocks.ensures;
+      told = λ y x h. further c.args.of.quants.now blocks c.args.of.component c.args.of.first b y x;
     })

@@ -1,20 +1,22 @@
-use Rattle.std.proofs.Common.{List, ℤ, arith}
-use Rattle.std.specs.Int.{w16, w32}
+use Rattle.std.proofs.Common.{ℤ, arith}
+use Rattle.std.specs.Int.{w32}
 use Rattle.jpg_spec_image.specs.Dct.{number_at, even_sums}
-use Rattle.jpg_dct.specs.Eights.{IsEight}
-use Rattle.jpg_dct.proofs.Several.{FourOf, four}
-use Rattle.jpg_dct.proofs.Eights.{seen, seen_eight16, seen_long}
+use Rattle.jpg_dct.specs.declared.forward.lanes.Four.{Four}
+use Rattle.jpg_dct.specs.Eights.{AreEight}
+use Rattle.jpg_dct.proofs.Several.{four}
+use Rattle.jpg_dct.proofs.Eights.{seen_four, four_seen, seen_long}
 use Rattle.jpg_dct.proofs.LongSums.{four_handed, more_handed, even_first, even_second, even_third, even_fourth}
 use Rattle.jpg_dct.proofs.inverse.short.even.Goals as goal
 use Rattle.jpg_dct.proofs.inverse.short.even.Goals.{Start}
 
-lanes : (c : Start) → IsEight 32767 (seen w16 c.args.i0) × IsEight 32767 (seen w16 c.args.i2) × IsEight 32767 (seen w16 c.args.i4) × IsEight 32767 (seen w16 c.args.i6)
-lanes c = (
-  seen_eight16 (omega arith) c.requires.0,
-  seen_eight16 (omega arith) c.requires.1,
-  seen_eight16 (omega arith) c.requires.2,
-  seen_eight16 (omega arith) c.requires.3,
-)
+abbrev lines : (c : Start) → Four
+lines c = record { v0 = c.args.i0; v1 = c.args.i2; v2 = c.args.i4; v3 = c.args.i6 }
+
+small : (c : Start) → AreEight 32767 (lines c)
+small c = record { at0 = c.requires.0; at1 = c.requires.1; at2 = c.requires.2; at3 = c.requires.3 }
+
+lanes : (c : Start) → AreEight 32767 (seen_four (lines c))
+lanes c = four_seen (omega arith) (small c)
 
 pub four_products-b0-requires : goal.four_products-b0-requires
 four_products-b0-requires c = lanes (goal.at.four_products-b0-requires c).Start
@@ -55,13 +57,15 @@ returns-clause-at c = λ k lt. (
     let y : ℤ = number_at c.args.i2 k in
     let z : ℤ = number_at c.args.i4 k in
     let t : ℤ = number_at c.args.i6 k in
-    let m : FourOf (List ℤ) = record { at0 = c.args.i0; at1 = c.args.i2; at2 = c.args.i4; at3 = c.args.i6 } in
+    let start : Start = (goal.at.returns-clause-at c).Start in
+    let m = lines start in
+    let few = small start in
     four
     (more_handed c.four_products-b0.result c.more-v0.result c.args.half _ k lt c.ranges.half c.more-v0.ensures.long (c.more-v0.ensures.at k lt)
-    (four_handed m _ c.four_products-b0.result _ k c.requires.0 c.requires.1 c.requires.2 c.requires.3 c.four_products-b0.ensures.long lt (c.four_products-b0.ensures.at k lt) (even_first x y z t)))
+    (four_handed m _ c.four_products-b0.result _ k few c.four_products-b0.ensures.long lt (c.four_products-b0.ensures.at k lt) (even_first x y z t)))
     (more_handed c.four_products-b1.result c.more-v1.result c.args.half _ k lt c.ranges.half c.more-v1.ensures.long (c.more-v1.ensures.at k lt)
-    (four_handed m _ c.four_products-b1.result _ k c.requires.0 c.requires.1 c.requires.2 c.requires.3 c.four_products-b1.ensures.long lt (c.four_products-b1.ensures.at k lt) (even_second x y z t)))
+    (four_handed m _ c.four_products-b1.result _ k few c.four_products-b1.ensures.long lt (c.four_products-b1.ensures.at k lt) (even_second x y z t)))
     (more_handed c.four_products-b2.result c.more-v2.result c.args.half _ k lt c.ranges.half c.more-v2.ensures.long (c.more-v2.ensures.at k lt)
-    (four_handed m _ c.four_products-b2.result _ k c.requires.0 c.requires.1 c.requires.2 c.requires.3 c.four_products-b2.ensures.long lt (c.four_products-b2.ensures.at k lt) (even_third x y z t)))
+    (four_handed m _ c.four_products-b2.result _ k few c.four_products-b2.ensures.long lt (c.four_products-b2.ensures.at k lt) (even_third x y z t)))
     (more_handed c.four_products-b3.result c.more-v3.result c.args.half _ k lt c.ranges.half c.more-v3.ensures.long (c.more-v3.ensures.at k lt)
-    (four_handed m _ c.four_products-b3.result _ k c.requires.0 c.requires.1 c.requires.2 c.requires.3 c.four_products-b3.ensures.long lt (c.four_products-b3.ensures.at k lt) (even_fourth x y z t))))
+    (four_handed m _ c.four_products-b3.result _ k few c.four_products-b3.ensures.long lt (c.four_products-b3.ensures.at k lt) (even_fourth x y z t))))
