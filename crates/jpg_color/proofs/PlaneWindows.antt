@@ -34,15 +34,18 @@ puts_row {image} {old} {out} {row} {i} {p} {r} n rgb eo long er room =
       before = λ j lj. put_before (r * w) _ old out j low lj;
     }
 
--- the first rows are there, and the length is the same
-abbrev pub HasFirstRows : ImageInfo → List ℕ → ℕ → ℕ → ℕ → ℕ → List ℕ → List ℕ → Type 0
-HasFirstRows info samples i down y r old new =
-    (length new ≡ length old) × ((k u : ℕ) → k < r → u < info.width → slice_index new (k * info.width + u) ≡ plane_of info samples i u (down * y + k))
+-- the first r of `down` rows are there, and the length is the same
+abbrev pub HasFirstRows : ImageInfo → List ℕ → ℕ → ℕ → ℕ → List ℕ → List ℕ → Type 0
+HasFirstRows info samples i down r old new =
+    (length new ≡ length old) × ((k u : ℕ) → k < r → u < info.width → slice_index new (k * info.width + u) ≡ plane_of info samples i u (down * 0 + k))
 
-pub first_rows_more : {image : Image} {i : ℕ} (down y : ℕ) {r : ℕ} (first : List ℕ) {old new : List ℕ} → HasFirstRows image.info image.samples i down y r first old
-    → PutsRow image.info image.samples i (down * y + r) r old new → HasFirstRows image.info image.samples i down y (r + 1) first new
-first_rows_more {image} {i} down y {r} first {old} {new} has puts =
-    (puts.long ∙ has.0, rows_more (plane_of image.info image.samples i) old new image.info.width (down * y) r has.1 puts.here puts.before)
+pub next_row_more : {image : Image} {i : ℕ} (down : ℕ) {r : ℕ} (first : List ℕ) {old new : List ℕ} → HasFirstRows image.info image.samples i down r first old
+    → PutsRow image.info image.samples i r r old new → HasFirstRows image.info image.samples i down (r + 1) first new
+next_row_more {image} {i} down {r} first {old} {new} has puts =
+    let same : r ≡ down * 0 + r = omega arith in (
+      puts.long ∙ has.0,
+      rows_more (plane_of image.info image.samples i) old new image.info.width (down * 0) r has.1 (λ u lu. puts.here u lu ∙ ap (plane_of image.info image.samples i u) same) puts.before,
+    )
 
 -- THE ROWS UNDER ONE
 
