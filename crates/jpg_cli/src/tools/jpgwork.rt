@@ -115,7 +115,7 @@ fn report_turned(
 fn report_shown(alloc: Global, size: u16, files: WorkFiles, image: &[u8]) -> Option<Bytes>
     requires small { size ≤ 400 }
     requires header { length (pnm_header (work_info size)) ≤ length image.now }
-    ensures { ReportsShown size files.first.now files.turned.now files.back.now image.now result }
+    ensures { ReportsShown size files.entry.first.now files.entry.turned.now files.entry.back.now image.now result }
 {
     let Some(samples) = samples_sum(size, image) else {
         return None;

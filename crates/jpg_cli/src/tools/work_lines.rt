@@ -95,7 +95,7 @@ pub fn samples_sum(size: u16, text: &[u8]) -> Option<u64>
 /// The five lines, by the texts of the three files and the sum of the samples.
 pub fn lines_of(alloc: Global, size: u16, files: WorkFiles, samples: u64) -> Result<Bytes, NoMemory>
     requires { size ≤ 400 }
-    ensures { IfOk result (λ text. text ≡ lines (work_info size) (length files.first.now) (length files.turned.now) (bytes_eq files.back.now files.first.now) samples) }
+    ensures { IfOk result (λ text. text ≡ lines (work_info size) (length files.entry.first.now) (length files.entry.turned.now) (bytes_eq files.entry.back.now files.entry.first.now) samples) }
 {
     let info = info_of(size);
     let mut text = Bytes::new(alloc);

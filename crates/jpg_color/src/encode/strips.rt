@@ -97,7 +97,6 @@ fn open(windows: &mut Windows, frame: &Frame) -> Result<(), NoMemory>
 }
 
 // Puts row r of component 0 of a strip as row r among rows.
-#[tactic(auto, using(crate::proofs::PlaneRows::put_mid_at, crate::proofs::PlaneRows::sample_at))]
 fn put_row(strip: &Strip, r: usize, rows: &mut [u8])
     requires image { HasSamples strip.now.info.now strip.now.samples.now }
     requires there { r * strip.now.info.now.width + strip.now.info.now.width ≤ length rows.old }
@@ -241,7 +240,7 @@ fn source_of<'a>(strip: &'a Strip, part: StripPart<'a>) -> Source<'a>
     requires part { IsStripPart strip.now part }
     ensures is { IsSource strip.now.frame.now result }
     ensures image { source_image result ≡ strip_image strip.now }
-    ensures component { result.plane.component ≡ part.component }
+    ensures component { result.plane.component ≡ part.entry.component }
 {
     let frame = strip.frame;
     frame.checked();
@@ -300,8 +299,8 @@ fn put_part(
 ) -> Result<(), NoMemory>
     requires strip { IsStrip strip.now }
     requires part { IsStripPart strip.now part }
-    ensures rows { OnOk result (AppendsAll strip.now.frame.now (strip_image strip.now) part.component plane.old.items plane.new.items) }
-    ensures grows { GrowsPlane strip.now.frame.now part.component plane.old.items plane.new.items }
+    ensures rows { OnOk result (AppendsAll strip.now.frame.now (strip_image strip.now) part.entry.component plane.old.items plane.new.items) }
+    ensures grows { GrowsPlane strip.now.frame.now part.entry.component plane.old.items plane.new.items }
 {
     let source = source_of(strip, part);
     put_rows_of(alloc, &source, strip.frame, eight, plane)
