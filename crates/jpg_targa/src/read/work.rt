@@ -64,7 +64,10 @@ fn add_grays(pixels: &mut Bytes, gray: u8, count: u8, end: u64) -> Result<(), No
 {
     let missing = end.saturating_sub(pixels.as_slice().len() as u64);
     let part = missing.min(u64::from(count)) as usize;
-    pixels.push_all(&[gray; 255][..part])
+    match pixels.push_all(&[gray; 255][..part]) {
+        Ok(()) => Ok(()),
+        Err(fault) => Err(fault),
+    }
 }
 
 // Appends copies of a pixel, without those that pass the end.
