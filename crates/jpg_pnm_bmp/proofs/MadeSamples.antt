@@ -1,12 +1,11 @@
 -- Samples of an image, made one by one from those of its file.
-use Rattle.std.proofs.Common.{◌≡◌, ℕ, suc, ◌+◌, ◌-◌, ◌/◌, ◌<◌, List, [], ◌∷◌, ◌++◌, length, take, drop, map, slice_index, flat_map, refl, sym, ap, ◌∙◌, subst, arith, append_assoc, Ok}
+use Rattle.std.proofs.Common.{◌≡◌, ℕ, suc, ◌+◌, ◌/◌, ◌<◌, List, [], ◌∷◌, ◌++◌, length, take, map, slice_index, flat_map, refl, sym, ap, ◌∙◌, subst, arith, append_assoc, Ok}
 use Rattle.std.proofs.Math.Nat.{mul_comm}
 use Rattle.std.proofs.lemmas.Nat.{div-mul-add}
-use Rattle.std.proofs.lemmas.List.{get_or-map, length-map, map-append, take_more, take_all, length-drop, append-nil}
+use Rattle.std.proofs.lemmas.List.{get_or-map, length-map, map-append, take_more, append-nil}
 use Rattle.std.proofs.lemmas.List.Elements.{All-get_or}
 use Rattle.std.proofs.lemmas.Grind.{flat_map-append}
 use Rattle.jpg_spec.specs.Lists.{below}
-use Rattle.jpg_spec_image.specs.ImageText.{turned_round}
 use Rattle.jpg_spec_image.specs.PnmText.{pnm_info, scaled_sample}
 use Rattle.jpg_spec_image.specs.ImageFaults.{pnm, image_of}
 use Rattle.jpg_spec_image.specs.declared.image.ImageInfo.{ImageInfo}
@@ -14,7 +13,6 @@ use Rattle.jpg_pnm_bmp.specs.Known.{list_of}
 use Rattle.jpg_pnm_bmp.specs.Made.{AreBytes, Makes}
 use Rattle.jpg_pnm_bmp.specs.declared.read.numbers.Numbers.{Numbers}
 use Rattle.jpg_pnm_bmp.specs.declared.read.numbers.Numbers.TheVariants.{All}
-use Rattle.jpg_pnm_bmp.proofs.TurnedRound.{turned_few}
 
 -- a sample of at most 255 doesn't change
 full : (s : ℕ) → scaled_sample 255 s ≡ s
@@ -36,12 +34,6 @@ scaled_more most samples old made new i got lt had is added bytes =
     added ∙ ap (λ n. made ++ n ∷ []) (is small) ∙ ap (λ (l : List ℕ). l ++ f (slice_index samples i) ∷ []) (had bytes)
     ∙ append_assoc old (map f (take i samples)) (f (slice_index samples i) ∷ [])
     ∙ ap (λ l. old ++ l) (sym (map-append f (take i samples) (slice_index samples i ∷ [])) ∙ ap (map f) (sym (take_more samples i 0 lt)))
-
--- what is left of a row
-pub turned_rest : (row made due : List ℕ) (at : ℕ) → length row - at < 3 → made ++ turned_round (drop at row) ≡ due → made ++ take (length row - at) (drop at row) ≡ due
-turned_rest row made due at few e =
-    let d = length-drop at row in
-    ap (λ l. made ++ l) (take_all (length row - at) (drop at row) (omega (arith, d)) ∙ sym (turned_few (drop at row) (omega (arith, d, few)))) ∙ e
 
 -- one more row
 pub rows_more : (row : ℕ → List ℕ) (old made new : List ℕ) (y : ℕ) → made ≡ old ++ flat_map row (below y) → new ≡ made ++ row y → new ≡ old ++ flat_map row (below (y + 1))

@@ -14,5 +14,5 @@ pub use read::piece::{Answer, Fed2, Moved, PieceReader, PieceWork, one_byte};
 pub use read::pixels::{Image, PixelReader};
 pub use write::bmp::BmpEnd;
 pub use write::end::{Finish, ImageEnd};
-pub use write::file_row::file_row;
+pub use write::file_row::{add_file_row, file_row};
 pub use write::pnm::PnmEnd;

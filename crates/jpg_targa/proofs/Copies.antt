@@ -1,10 +1,12 @@
 -- Copies of a pixel, up to an end.
-use Rattle.std.proofs.Common.{◌≡◌, ℕ, suc, ◌+◌, ◌-◌, ◌<◌, ◌≤◌, min, List, [], ◌∷◌, ◌++◌, length, take, flat_map, sym, ap, ◌∙◌, arith, append_assoc, ⊎_elim}
+use Rattle.std.specs.Prelude.{replicate}
+use Rattle.std.proofs.Common.{◌≡◌, ℕ, suc, ◌+◌, ◌-◌, ◌<◌, ◌≤◌, min, List, [], ◌∷◌, ◌++◌, length, take, flat_map, refl, sym, ap, ◌∙◌, arith, append_assoc, ⊎_elim}
 use Rattle.std.proofs.lemmas.Bool.{cases_lt}
-use Rattle.std.proofs.lemmas.List.{append-nil, length-take-le, take_all, take-append-le, take_min}
+use Rattle.std.proofs.lemmas.List.{append-nil, length-replicate, length-take-le, take-replicate, take_all, take-append-le, take_min}
 use Rattle.std.proofs.lemmas.Grind.{flat_map-append}
 use Rattle.std.proofs.Math.Seq.{take-append-add}
 use Rattle.jpg_spec.specs.Lists.{below}
+use Rattle.jpg_spec.proofs.Basics.Common.{length_below}
 
 -- as much of a list as there is room for
 up_to_end : (end part : ℕ) (xs ys : List ℕ) → part ≡ min (end - length (take end xs)) (length ys) → take end xs ++ take part ys ≡ take end (xs ++ ys)
@@ -32,3 +34,21 @@ copies_more end done part old made pixel e p =
     ∙ ap (take end)
     (append_assoc old copies pixel
     ∙ ap (λ x. old ++ x) (ap (λ x. copies ++ x) (sym (append-nil pixel)) ∙ sym (flat_map-append (λ (n : ℕ). pixel) (below done) (done ∷ [])) ∙ ap (λ k. flat_map (λ (n : ℕ). pixel) (below k)) one))
+
+-- copies of a pixel of one byte
+singles : (gray : ℕ) (xs : List ℕ) → flat_map (λ n. gray ∷ []) xs ≡ replicate (length xs) gray
+singles gray [] = refl
+singles gray (x ∷ xs) = ap (λ (l : List ℕ). (let m : List ℕ = gray ∷ l in m)) (singles gray xs)
+
+pub grays : (end part count gray : ℕ) (old : List ℕ) → length old ≤ end → part ≡ min (end - length old) count → count < 256
+    → old ++ take part (replicate 255 gray) ≡ take end (old ++ flat_map (λ n. gray ∷ []) (below count))
+grays end part count gray old fits e few =
+    let all = replicate count gray in
+    let few_enough : part ≤ count = omega (arith, e) in
+    let same : take part (replicate 255 gray) ≡ take part all =
+    take-replicate part 255 gray (omega (arith, few, few_enough)) ∙ sym (take-replicate part count gray few_enough)
+    in
+    let whole = take_all end old fits in
+    ap (λ l. old ++ l) same ∙ ap (λ (l : List ℕ). l ++ take part all) (sym whole)
+    ∙ up_to_end end part old all (e ∙ ap (λ (l : List ℕ). min (end - length l) count) (sym whole) ∙ ap (min (end - length (take end old))) (sym (length-replicate count gray)))
+    ∙ ap (λ l. take end (old ++ l)) (sym (singles gray (below count) ∙ ap (λ n. replicate n gray) (length_below count)))

@@ -1,6 +1,5 @@
 //! The samples of an image, from those of its file (release 6b's image files).
 ghost use Rattle.std.specs.Prelude.{◌≡◌, ◌<◌, ◌≤◌, ◌+◌, ◌*◌, ◌-◌, ◌==◌, ◌++◌, [], ℕ, List, length, map, flat_map, true, OnOk};
-ghost use Rattle.jpg_spec_image.specs.ImageText.{turned_round};
 ghost use Rattle.jpg_spec_image.specs.PnmText.{scaled_sample};
 ghost use Rattle.jpg_spec_image.specs.BmpFile.{bmp_depth, colour, colours, bmp_line, bmp_body_samples, height, line, used};
 ghost use Rattle.jpg_spec_image.specs.ImageFaults.{image_of};
@@ -10,8 +9,9 @@ ghost use Rattle.jpg_pnm_bmp.specs.Reader.{AreAllNumbers, CanMake, HasPixels, pn
 use crate::read::bmp::{bmp_height, bmp_info, is_indexed, line, used};
 use crate::read::numbers::{Numbers, pnm_info};
 use crate::read::work::{Stage, Work};
+use crate::write::file_row::add_file_row;
 use jpg_base::{Bytes, NoMemory};
-use jpg_spec_image::ImageInfo;
+use jpg_spec_image::{ImageInfo, ImageKind};
 use std::mem;
 
 // A sample from 0 to the greatest one as 0 to 255.
@@ -37,24 +37,6 @@ fn add_scaled(samples: &[u8], most: u8, made: &mut Bytes) -> Result<(), NoMemory
     Ok(())
 }
 
-// Appends a row with red and blue of each pixel exchanged.
-fn add_turned(row: &[u8], made: &mut Bytes) -> Result<(), NoMemory>
-    ensures { OnOk result (made.new ≡ made.old ++ turned_round row.now) }
-{
-    let mut at: usize = 0;
-    while row.len() - at >= 3 {
-        match made.push_all(&[row[at + 2], row[at + 1], row[at]]) {
-            Ok(()) => {}
-            Err(fault) => return Err(fault),
-        }
-        at += 3;
-    }
-    match made.push_all(&row[at..]) {
-        Ok(()) => Ok(()),
-        Err(fault) => Err(fault),
-    }
-}
-
 // Appends a row by a palette.
 fn add_coloured(row: &[u8], palette: &[u8], made: &mut Bytes) -> Result<(), NoMemory>
     requires { AreIndexes palette.now row.now }
@@ -71,7 +53,13 @@ fn add_coloured(row: &[u8], palette: &[u8], made: &mut Bytes) -> Result<(), NoMe
 }
 
 // Appends a row of a BMP as red, green and blue.
-fn add_row(head: &[u8], palette: &[u8], row: &[u8], made: &mut Bytes) -> Result<(), NoMemory>
+fn add_row(
+    head: &[u8],
+    palette: &[u8],
+    row: &[u8],
+    line: &mut Vec<u8>,
+    made: &mut Bytes,
+) -> Result<(), NoMemory>
     requires long { 54 ≤ length head.now }
     requires coloured { (bmp_depth head.now == 8) ≡ true → AreIndexes palette.now row.now }
     ensures { OnOk result (made.new ≡ made.old ++ colours head.now palette.now row.now) }
@@ -79,7 +67,7 @@ fn add_row(head: &[u8], palette: &[u8], row: &[u8], made: &mut Bytes) -> Result<
     if is_indexed(head) {
         return add_coloured(row, palette, made);
     }
-    add_turned(row, made)
+    add_file_row(row, ImageKind::Rgb, line, made)
 }
 
 // Row y from the top.
@@ -97,13 +85,19 @@ fn bmp_line<'a>(head: &[u8], body: &'a [u8], y: u32) -> &'a [u8]
 }
 
 // Appends the rows of a BMP from the top, which are its lines in reverse order.
-fn add_rows(head: &[u8], palette: &[u8], body: &[u8], made: &mut Bytes) -> Result<(), NoMemory>
+fn add_rows(
+    head: &[u8],
+    palette: &[u8],
+    body: &[u8],
+    line: &mut Vec<u8>,
+    made: &mut Bytes,
+) -> Result<(), NoMemory>
     requires { HasPixels head.now palette.now body.now }
     ensures { OnOk result (made.new ≡ made.old ++ bmp_body_samples head.now palette.now body.now) }
 {
     let mut y: u32 = 0;
     while y < bmp_height(head) {
-        match add_row(head, palette, bmp_line(head, body, y), made) {
+        match add_row(head, palette, bmp_line(head, body, y), line, made) {
             Ok(()) => {}
             Err(fault) => return Err(fault),
         }
@@ -136,14 +130,15 @@ fn make_pnm(work: &mut Work, made: &mut Bytes) -> Result<ImageInfo, NoMemory>
     }
 }
 
-fn make_bmp(work: &Work, made: &mut Bytes) -> Result<ImageInfo, NoMemory>
+fn make_bmp(work: &mut Work, made: &mut Bytes) -> Result<ImageInfo, NoMemory>
     requires empty { made.old ≡ [] }
-    requires pixels { HasPixels work.now.head work.now.palette work.now.samples }
-    ensures { Makes (image_of (bmp_head work.now) work.now.samples) result made.new }
+    requires pixels { HasPixels work.old.head work.old.palette work.old.samples }
+    ensures { Makes (image_of (bmp_head work.old) work.old.samples) result made.new }
 {
     let head = work.head.as_slice();
     let info = bmp_info(head);
-    match add_rows(head, work.palette.as_slice(), work.samples.as_slice(), made) {
+    let (palette, samples) = (work.palette.as_slice(), work.samples.as_slice());
+    match add_rows(head, palette, samples, &mut work.line, made) {
         Ok(()) => Ok(info),
         Err(fault) => Err(fault),
     }

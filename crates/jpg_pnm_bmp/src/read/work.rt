@@ -51,6 +51,8 @@ pub struct Work {
     pub palette: Bytes,
     // The samples so far, as the file has them.
     pub samples: Bytes,
+    // A row of samples, while the image is made.
+    pub line: Vec<u8>,
 }
 
 // A sample that isn't above the greatest one, as a byte.
@@ -84,6 +86,7 @@ impl Work {
             head: Bytes::new(alloc),
             palette: Bytes::new(alloc),
             samples: Bytes::new(alloc),
+            line: Vec::new(alloc),
         }
     }
 

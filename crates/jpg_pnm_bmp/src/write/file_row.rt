@@ -1,8 +1,8 @@
 //! A row's samples as BMP and Targa files have them: blue before red.
-ghost use Rattle.std.specs.Prelude.{◌≡◌, length, OnOk};
+ghost use Rattle.std.specs.Prelude.{◌≡◌, ◌++◌, length, OnOk};
 ghost use Rattle.jpg_spec_image.specs.ImageText.{turned_round, file_samples};
 
-use jpg_base::NoMemory;
+use jpg_base::{Bytes, NoMemory};
 use jpg_spec_image::ImageKind;
 
 // Exchanges the first and the third byte of each pixel.
@@ -34,4 +34,20 @@ pub fn file_row(part: &mut Vec<u8>, kind: ImageKind, row: &[u8]) -> Result<(), N
         ImageKind::Rgb => turn_round(part.as_mut_slice()),
     }
     Ok(())
+}
+
+/// Appends this row of a file to samples: gray samples as they are, and blue, green, red as colours. They are made in `line`,
+/// whatever is in it before.
+pub fn add_file_row(
+    row: &[u8],
+    kind: ImageKind,
+    line: &mut Vec<u8>,
+    made: &mut Bytes,
+) -> Result<(), NoMemory>
+    ensures { OnOk result (made.new ≡ made.old ++ file_samples kind row.now) }
+{
+    match file_row(line, kind, row) {
+        Ok(()) => made.push_all(line.as_slice()),
+        Err(fault) => Err(fault),
+    }
 }

@@ -9,7 +9,7 @@ ghost use Rattle.jpg_pnm_bmp.specs.Made.{Makes};
 use crate::read::head::{height, info, is_from_top, kind, row_bytes, total};
 use crate::read::work::Work;
 use jpg_base::{Bytes, NoMemory};
-use jpg_pnm_bmp::file_row;
+use jpg_pnm_bmp::add_file_row;
 use jpg_spec_image::{ImageInfo, ImageKind};
 use std::mem;
 
@@ -38,21 +38,6 @@ fn targa_row<'a>(head: &[u8; 18], pixels: &'a [u8], y: u16) -> &'a [u8]
     &pixels[start as usize..end as usize]
 }
 
-// Appends a row's samples, which are made in `line` first.
-fn add_row(
-    kind: ImageKind,
-    row: &[u8],
-    line: &mut Vec<u8>,
-    made: &mut Bytes,
-) -> Result<(), NoMemory>
-    ensures { OnOk result (made.new ≡ made.old ++ file_samples kind row.now) }
-{
-    match file_row(line, kind, row) {
-        Ok(()) => made.push_all(line.as_slice()),
-        Err(fault) => Err(fault),
-    }
-}
-
 // Appends the rows from the top.
 fn add_rows(
     head: &[u8; 18],
@@ -65,7 +50,7 @@ fn add_rows(
 {
     let mut y: u16 = 0;
     while y < height(head) {
-        match add_row(kind(head), targa_row(head, pixels, y), line, made) {
+        match add_file_row(targa_row(head, pixels, y), kind(head), line, made) {
             Ok(()) => {}
             Err(fault) => return Err(fault),
         }

@@ -58,10 +58,25 @@ fn after_pixels(left: u64) -> Stage
     Stage::Pixels(left)
 }
 
+// Appends copies of a pixel of one byte, without those that pass the end.
+fn add_grays(pixels: &mut Bytes, gray: u8, count: u8, end: u64) -> Result<(), NoMemory>
+    ensures { AddsCopies end count (gray ∷ []) result pixels.old pixels.new }
+{
+    let missing = end.saturating_sub(pixels.as_slice().len() as u64);
+    let part = missing.min(u64::from(count)) as usize;
+    match pixels.push_all(&[gray; 255][..part]) {
+        Ok(()) => Ok(()),
+        Err(fault) => Err(fault),
+    }
+}
+
 // Appends copies of a pixel, without those that pass the end.
 fn add_copies(pixels: &mut Bytes, pixel: &[u8], count: u8, end: u64) -> Result<(), NoMemory>
     ensures { AddsCopies end count pixel.now result pixels.old pixels.new }
 {
+    if let [gray] = pixel {
+        return add_grays(pixels, *gray, count, end);
+    }
     for done in 0..count {
         let missing = end.saturating_sub(pixels.as_slice().len() as u64);
         let part = missing.min(pixel.len() as u64) as usize;

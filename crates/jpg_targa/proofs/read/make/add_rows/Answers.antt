@@ -9,6 +9,6 @@ loop-y-preserved c =
     let head = c.args.head.now in
     record {
       inside = (let t = c.loop-y-test.true in let h = c.height.ensures in omega (arith, t, h));
-      rows = rows_more (λ y. file_samples (targa_kind head) (targa_row head c.args.pixels.now y)) c.args.made.now c.loop-y.made c.add_row.new.made c.loop-y.y c.loop-y.invariant.rows
+      rows = rows_more (λ y. file_samples (targa_kind head) (targa_row head c.args.pixels.now y)) c.args.made.now c.loop-y.made c.add_file_row.new.made c.loop-y.y c.loop-y.invariant.rows
           (c.in-Ok.ensures ∙ ap (λ k. c.loop-y.made ++ file_samples k c.targa_row.result.now) c.kind.ensures ∙ ap (λ (l : List ℕ). c.loop-y.made ++ file_samples (targa_kind head) l) c.targa_row.ensures);
     }

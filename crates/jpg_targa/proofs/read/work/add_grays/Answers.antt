@@ -1,0 +1,9 @@
+use Rattle.std.proofs.Common.{◌-◌, ℕ, List, length, min, ap, ◌∙◌}
+use Rattle.jpg_targa.proofs.Copies.{grays}
+use Rattle.jpg_targa.proofs.read.work.add_grays.Goals as goal
+
+pub returns-in-Ok : goal.returns-in-Ok
+returns-in-Ok c = λ fits.
+    c.in-Ok.ensures.whole
+    ∙ grays c.args.end c.min-part.result c.args.count c.args.gray c.args.pixels.now fits
+    (c.min-part.ensures ∙ ap (λ n. min n c.args.count) (c.saturating_sub-missing.ensures ∙ ap (λ (x : List ℕ). c.args.end - length x) c.as_slice.ensures)) c.type_inv.count
