@@ -1,6 +1,6 @@
 -- Lanes of 32 bits, each correct in its low ones: differences, a number added, and four products.
 use Rattle.std.proofs.Common.{◌≡◌, ℕ, ◌+◌, ◌-◌, ◌%◌, ◌<◌, List, length, map, ℤ, pos, negsuc, ◌+ℤ◌, ◌-ℤ◌, ◌*ℤ◌, neg_ℤ, to_z, of_z, FitsSigned, ap, ◌∙◌, arith}
-use Rattle.std.specs.Int.{Width, w16, w32, int_wrap}
+use Rattle.std.specs.Int.{Width, w32, int_wrap}
 use Rattle.std.proofs.lemmas.Int.{ints, to_z-of_z, wrapping_add_is, wrapping_sub_is, int_wrap-add_left, int_wrap-sub_right, SFits-int_wrap}
 use Rattle.std.proofs.lemmas.List.{get_or-map, length-map}
 use Rattle.jpg_spec.specs.Lists.{below}

@@ -139,7 +139,8 @@ fn put_block(samples: &mut [u8], place: BlockPlace, block: u8x64)
     if place.rows == 8 {
         put_whole(samples, place, bytes);
     } else {
-        put_some(samples, place, bytes);
+        // a copy, so that the place isn't stored in memory where all rows are put
+        put_some(samples, BlockPlace { ..place }, bytes);
     }
 }
 
