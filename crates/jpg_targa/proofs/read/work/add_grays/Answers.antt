@@ -7,4 +7,4 @@ returns-in-Ok c = λ fits.
     c.in-Ok.ensures.whole
     ∙ grays c.args.end c.min-part.result c.args.count c.args.gray c.args.pixels.now fits
     (c.min-part.ensures ∙ ap (λ n. min n c.from.result) (c.saturating_sub-missing.ensures ∙ ap (λ (x : List ℕ). c.args.end - length x) c.as_slice.ensures) ∙ ap (min (c.args.end - length c.args.pixels.now)) c.from.ensures)
-    c.type_inv.count
+    c.before.push_all.type_inv.count
