@@ -6,4 +6,5 @@ pub returns-in-Ok : goal.returns-in-Ok
 returns-in-Ok c = λ fits.
     c.in-Ok.ensures.whole
     ∙ grays c.args.end c.min-part.result c.args.count c.args.gray c.args.pixels.now fits
-    (c.min-part.ensures ∙ ap (λ n. min n c.args.count) (c.saturating_sub-missing.ensures ∙ ap (λ (x : List ℕ). c.args.end - length x) c.as_slice.ensures)) c.type_inv.count
+    (c.min-part.ensures ∙ ap (λ n. min n c.from.result) (c.saturating_sub-missing.ensures ∙ ap (λ (x : List ℕ). c.args.end - length x) c.as_slice.ensures) ∙ ap (min (c.args.end - length c.args.pixels.now)) c.from.ensures)
+    c.before.push_all.type_inv.count
