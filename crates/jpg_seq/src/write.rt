@@ -156,7 +156,8 @@ fn put_run<D: Desk>(
 {
     let RunValue { run, value } = next;
     if run >= 16 {
-        put_any_after(ac, next, held, out, desk)
+        // a record of its own, so that only this branch stores one
+        put_any_after(ac, RunValue { run, value }, held, out, desk)
     } else if value >= -32 && value < 32 {
         let (bits, count) = ac.value(run, value);
         out.put_after(held, bits, count, desk)
