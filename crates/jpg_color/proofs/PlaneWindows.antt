@@ -3,46 +3,52 @@ use Rattle.std.proofs.Common.{◌≡◌, ℕ, ◌+◌, ◌-◌, ◌*◌, ◌<◌
 use Rattle.std.proofs.lemmas.Nat.{mul-le, mul-add-lt}
 use Rattle.std.proofs.Math.Nat.{mul_comm}
 use borrow.Rule.Slice.PartMut.{put_mid}
-use Rattle.std.proofs.lemmas.List.{length-map, length-drop, length-take-le, get_or-take, get_or-drop}
+use Rattle.std.proofs.lemmas.List.{length-drop, length-take-le, get_or-take, get_or-drop}
 use Rattle.jpg_spec.specs.Lists.{below}
 use Rattle.jpg_spec_encode.specs.Encoded.{pixel_component}
 use Rattle.jpg_spec_image.specs.Images.{Image}
 use Rattle.jpg_spec_image.specs.declared.image.ImageInfo.{ImageInfo}
 use Rattle.jpg_spec_image.specs.declared.image.ImageKind.{ImageKind}
 use Rattle.jpg_spec_image.specs.declared.image.ImageKind.TheVariants.{Rgb}
-use Rattle.jpg_spec.proofs.Basics.Common.{length_below}
-use Rattle.jpg_color.specs.ColourRows.{component_row}
+use Rattle.jpg_color.specs.ColourRows.{component_row, row_component}
 use Rattle.jpg_color.specs.PlaneRows.{row_of, plane_of, AreUnder, HasPlaneRows, IsUnder, IsWindow, PutsRow}
 use Rattle.jpg_color.specs.declared.encode.rows.ImagePlane.{ImagePlane}
 use Rattle.jpg_color.specs.declared.encode.rows.Window.{Window}
-use Rattle.jpg_color.proofs.PlaneRows.{put_before, put_long, put_mid_at, rows_more, sample_is}
+use Rattle.jpg_color.proofs.PlaneRows.{put_before, put_long, put_mid_at, rows_more, sample_at}
 
 -- A ROW that is put among others
 
-pub puts_row : {image : Image} {old out row : List ℕ} {i p r : ℕ} (n : ℕ) → image.info.kind ≡ Rgb → out ≡ component_row row i n
+pub puts_row : {image : Image} {old out row : List ℕ} {i p r : ℕ} (n : ℕ) → out ≡ row_component image.info.kind row i n
     → length out ≡ image.info.width → row ≡ row_of image.info image.samples (min p (image.info.height - 1)) → r * image.info.width + image.info.width ≤ length old
     → PutsRow image.info image.samples i p r old (put_mid (r * image.info.width) (r * image.info.width + image.info.width - r * image.info.width) old out)
-puts_row {image} {old} {out} {row} {i} {p} {r} n rgb eo long er room =
+puts_row {image} {old} {out} {row} {i} {p} {r} n eo long er room =
     let w = image.info.width in
     let low : r * w ≤ length old = omega (arith, room) in
     let k : r * w + w - r * w ≡ w = omega arith in
-    let en : n ≡ w = sym (length_below n) ∙ sym (length-map (below n) (pixel_component Rgb row i)) ∙ sym (ap length eo) ∙ long in
-    let of : out ≡ map (pixel_component image.info.kind row i) (below n) = eo ∙ ap (λ (t : ImageKind). map (pixel_component t row i) (below n)) (sym rgb) in
     record {
       long = put_long (r * w) (r * w + w - r * w) old out (omega (arith, room, k)) (long ∙ sym k);
-      here = λ u lu. put_mid_at (r * w) _ old out u low (omega (arith, long, lu)) ∙ sample_is image.info image.samples out row i p u n of en er lu;
+      here = λ u lu. put_mid_at (r * w) _ old out u low (omega (arith, long, lu)) ∙ sample_at image.info image.samples out row i p u n eo long er lu;
       before = λ j lj. put_before (r * w) _ old out j low lj;
     }
 
--- the first rows are there, and the length is the same
-abbrev pub HasFirstRows : ImageInfo → List ℕ → ℕ → ℕ → ℕ → ℕ → List ℕ → List ℕ → Type 0
-HasFirstRows info samples i down y r old new =
-    (length new ≡ length old) × ((k u : ℕ) → k < r → u < info.width → slice_index new (k * info.width + u) ≡ plane_of info samples i u (down * y + k))
+pub puts_colour_row : {image : Image} {old out row : List ℕ} {i p r : ℕ} (n : ℕ) → image.info.kind ≡ Rgb → out ≡ component_row row i n
+    → length out ≡ image.info.width → row ≡ row_of image.info image.samples (min p (image.info.height - 1)) → r * image.info.width + image.info.width ≤ length old
+    → PutsRow image.info image.samples i p r old (put_mid (r * image.info.width) (r * image.info.width + image.info.width - r * image.info.width) old out)
+unfolding row_component
+puts_colour_row {row = row} {i = i} n rgb eo long er room = puts_row n (eo ∙ ap (λ (t : ImageKind). map (pixel_component t row i) (below n)) (sym rgb)) long er room
 
-pub first_rows_more : {image : Image} {i : ℕ} (down y : ℕ) {r : ℕ} (first : List ℕ) {old new : List ℕ} → HasFirstRows image.info image.samples i down y r first old
-    → PutsRow image.info image.samples i (down * y + r) r old new → HasFirstRows image.info image.samples i down y (r + 1) first new
-first_rows_more {image} {i} down y {r} first {old} {new} has puts =
-    (puts.long ∙ has.0, rows_more (plane_of image.info image.samples i) old new image.info.width (down * y) r has.1 puts.here puts.before)
+-- the first r of `down` rows are there, and the length is the same
+abbrev pub HasFirstRows : ImageInfo → List ℕ → ℕ → ℕ → ℕ → List ℕ → List ℕ → Type 0
+HasFirstRows info samples i down r old new =
+    (length new ≡ length old) × ((k u : ℕ) → k < r → u < info.width → slice_index new (k * info.width + u) ≡ plane_of info samples i u (down * 0 + k))
+
+pub next_row_more : {image : Image} {i : ℕ} (down : ℕ) {r : ℕ} (first : List ℕ) {old new : List ℕ} → HasFirstRows image.info image.samples i down r first old
+    → PutsRow image.info image.samples i r r old new → HasFirstRows image.info image.samples i down (r + 1) first new
+next_row_more {image} {i} down {r} first {old} {new} has puts =
+    let same : r ≡ down * 0 + r = omega arith in (
+      puts.long ∙ has.0,
+      rows_more (plane_of image.info image.samples i) old new image.info.width (down * 0) r has.1 (λ u lu. puts.here u lu ∙ ap (plane_of image.info image.samples i u) same) puts.before,
+    )
 
 -- THE ROWS UNDER ONE
 

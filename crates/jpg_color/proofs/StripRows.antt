@@ -9,11 +9,12 @@ use Rattle.jpg_spec.specs.Geometry.{Frame, component_at, div_up, h_max, v_max}
 use Rattle.jpg_spec_encode.specs.Encoded.{full_plane, samples_of_block}
 use Rattle.jpg_spec_image.specs.Downsampling.{downsampled}
 use Rattle.jpg_spec_image.specs.Images.{Image}
-use Rattle.jpg_color.specs.EncodeBlocks.{AppendsRows, GrowsPlane, IsRow, IsRowOf, IsSource, lower_plane, source_image}
-use Rattle.jpg_color.specs.PlaneRows.{AreUnder, HasBlocks, HasPlaneRows, IsWindow, cut_in_blocks}
-use Rattle.jpg_color.specs.declared.encode.rows.ImagePlane.{ImagePlane}
-use Rattle.jpg_color.specs.declared.encode.rows.Window.{Window}
-use Rattle.jpg_color.specs.declared.encode.strips.Source.{Source}
+use Rattle.jpg_color.specs.EncodeBlocks.{AppendsRows, AreWindows, GrowsPlane, HasRowsOfStrip, HasStripRows, IsRow, IsRowOf, IsSource, IsStripPart, lower_plane, source_image, window_at}
+use Rattle.jpg_color.specs.PlaneRows.{AreUnder, HasBlocks, cut_in_blocks}
+use Rattle.jpg_color.specs.declared.encode.rows.Source.{Source}
+use Rattle.jpg_color.specs.declared.encode.strips.Strip.{Strip}
+use Rattle.jpg_color.specs.declared.encode.strips.StripPart.{StripPart}
+use Rattle.jpg_color.specs.declared.encode.strips.Windows.{Windows}
 use Rattle.jpg_color.proofs.BlockRows.{cut_at, cut_bytes, cut_long}
 
 -- SOURCES
@@ -29,23 +30,23 @@ source_rows f image i across down made a d m =
     ap (λ k. plane_by image i k down made) a ∙ ap (λ k. plane_by image i h k made) d ∙ ap (λ k. plane_by image i h v k) m
 
 -- the blocks of the eight rows that were made are those of the component
-pub row_made : {f : Frame} {i : ℕ} {s : Source} (y : ℕ) (rows : List ℕ) → IsSource f i s → HasBlocks s.plane s.made s.wide y rows → IsRowOf f (source_image s) i y (cut_in_blocks s.wide rows)
-row_made {f} {i} {s} y rows is has x lx =
+pub row_made : {f : Frame} {s : Source} (y : ℕ) (rows : List ℕ) → IsSource f s → HasBlocks s.plane s.made s.wide y rows → IsRowOf f (source_image s) s.plane.component y (cut_in_blocks s.wide rows)
+row_made {f} {s} y rows is has x lx =
     cut_at s.wide rows x (omega (arith, is.wide, lx)) ∙ has x (omega (arith, is.wide, lx)) ∙ ap (λ p. samples_of_block p x y) is.rows
 
-pub row_whole : {f : Frame} {i : ℕ} {s : Source} (rows : List ℕ) → IsSource f i s → AreSamples rows → IsRow f i (cut_in_blocks s.wide rows)
-row_whole {f} {i} {s} rows is all =
+pub row_whole : {f : Frame} {s : Source} (rows : List ℕ) → IsSource f s → AreSamples rows → IsRow f s.plane.component (cut_in_blocks s.wide rows)
+row_whole {f} {s} rows is all =
     record { long = cut_long s.wide rows ∙ omega (arith, is.wide); bytes = λ x lx. cut_bytes s.wide rows x all lx }
 
 -- the rows for the eight rows are among those of the strip
-pub all_under : {f : Frame} {i : ℕ} {s : Source} (w : Window) (y : ℕ) → IsSource f i s → w.lines ≡ 8 * v_max f → w.at ≡ 0 → y < s.count → AreUnder s.plane w s.made y
-all_under {f} {i} {s} w y is lines at there =
+pub all_under : {f : Frame} {s : Source} (y : ℕ) → IsSource f s → y < s.count → AreUnder s.plane s.window s.made y
+all_under {f} {s} y is there =
     let d = s.plane.ratio.down in
-    let v = (component_at f i).v in
-    let none : w.lines * w.at ≡ 0 = ap (λ n. w.lines * n) at ∙ omega arith in
+    let v = (component_at f s.plane.component).v in
+    let none : s.window.lines * s.window.at ≡ 0 = ap (λ n. s.window.lines * n) is.at ∙ omega arith in
     let m = mul-le d (8 * y + 8) d (8 * v) (omega arith) (omega (arith, there, is.count)) in
     let e : d * (8 * v) ≡ 8 * (d * v) = grind arith in
-    record { first = omega (arith, none); last = omega (arith, none, m, e, is.whole, lines) }
+    record { first = omega (arith, none); last = omega (arith, none, m, e, is.whole, is.lines) }
 
 -- APPENDED
 
@@ -87,17 +88,14 @@ grows_more {f} {i} {old} {mid} {new} row has is e =
       more = omega (arith, one, has.more);
     }
 
--- THE ROWS OF A STRIP as a window
+-- THE ROWS OF A COMPONENT, as they are in a window
 
-pub first_window : (p : ImagePlane) (w : Window) (image : Image) (i lines : ℕ) → (let own : Image = record { info = p.info.now; samples = p.samples.now } in own) ≡ image → p.component ≡ i → w.lines ≡ lines → lines ≤ 32 → w.at ≡ 0
-    → length w.rows.now ≡ lines * image.info.width → HasPlaneRows image.info image.samples i lines 0 w.rows.now → IsWindow p w
-first_window p w image i lines same component high few at long has = record {
-  lines = omega (arith, high, few);
-  at = omega (arith, at);
-  long = long ∙ ap (λ n. n * image.info.width) (sym high) ∙ ap (λ (j : Image). w.lines * j.info.width) (sym same);
-  rows = subst (λ (j : Image). HasPlaneRows j.info j.samples p.component w.lines w.at w.rows.now) (sym same)
-      (subst (λ n. HasPlaneRows image.info image.samples n w.lines w.at w.rows.now) (sym component)
-      (subst (λ n. HasPlaneRows image.info image.samples i n w.at w.rows.now) (sym high) (subst (λ n. HasPlaneRows image.info image.samples i lines n w.rows.now) (sym at) has)));
+pub is_part : (s : Strip) (w : Windows) {p : StripPart} → p.rows.now ≡ window_at w p.component → AreWindows s.frame.now w → HasRowsOfStrip s w
+    → p.component < length s.frame.now.components → IsStripPart s p
+is_part s w {p} same are filled there = record {
+  there = there;
+  long = ap length same ∙ are p.component there;
+  rows = subst (λ (r : List ℕ). HasStripRows s p.component r) (sym same) (filled p.component there);
 }
 
 -- ALL COMPONENTS

@@ -5,11 +5,12 @@ use Rattle.jpg_spec.specs.Geometry.{Frame, blocks_across, component_at, div_up, 
 use Rattle.jpg_spec_encode.specs.Encoded.{full_plane, samples_of_block}
 use Rattle.jpg_spec_image.specs.Downsampling.{downsampled}
 use Rattle.jpg_spec_image.specs.Images.{Image}
-use Rattle.jpg_color.specs.PlaneRows.{HasPlaneRows, HasSamples, IsImagePlane, lower_row}
+use Rattle.jpg_color.specs.PlaneRows.{HasPlaneRows, HasSamples, IsImagePlane, IsWindow, lower_row}
 use Rattle.jpg_spec_image.specs.declared.image.ImageKind.TheVariants.{Rgb}
+use Rattle.jpg_color.specs.declared.encode.rows.Source.{Source}
 use Rattle.jpg_color.specs.declared.encode.strips.Planes.{Planes}
-use Rattle.jpg_color.specs.declared.encode.strips.Source.{Source}
 use Rattle.jpg_color.specs.declared.encode.strips.Strip.{Strip}
+use Rattle.jpg_color.specs.declared.encode.strips.StripPart.{StripPart}
 use Rattle.jpg_color.specs.declared.encode.strips.Windows.{Windows}
 
 -- PLANES
@@ -73,6 +74,15 @@ pub record IsStrip (s : Strip) : Type 0 where
   pub colours : 1 < length s.frame.now.components → (2 < length s.frame.now.components) × (s.info.now.kind ≡ Rgb)
   pub whole : (i : ℕ) → i < length s.frame.now.components → v_max s.frame.now / (component_at s.frame.now i).v * (component_at s.frame.now i).v ≡ v_max s.frame.now
 
+-- the rows of component i of a strip, one after another
+abbrev pub HasStripRows : Strip → ℕ → List ℕ → Type 0
+HasStripRows s i rows = HasPlaneRows s.info.now s.samples.now i (8 * v_max s.frame.now) 0 rows
+
+pub record IsStripPart (s : Strip) (p : StripPart) : Type 0 where
+  pub there : p.component < length s.frame.now.components
+  pub long : length p.rows.now ≡ 8 * v_max s.frame.now * s.frame.now.width
+  pub rows : HasStripRows s p.component p.rows.now
+
 -- the rows of blocks of component i of a strip are appended to its plane
 pub record AppendsRows (f : Frame) (strip : Image) (i count : ℕ) (old new : List (List (List ℕ))) : Type 0 where
   pub long : length new ≡ length old + count
@@ -98,19 +108,25 @@ GrowsPlanes f old new = (i : ℕ) → i < length f.components → GrowsPlane f i
 abbrev pub source_image : Source → Image
 source_image s = record { info = s.plane.info.now; samples = s.plane.samples.now }
 
--- the plane of component i of a strip, in rows of complete blocks
-pub record IsSource (f : Frame) (i : ℕ) (s : Source) : Type 0 where
-  pub there : i < length f.components
+-- the plane of a component of a strip, in rows of complete blocks, and the rows of the strip for it
+pub record IsSource (f : Frame) (s : Source) : Type 0 where
+  pub there : s.plane.component < length f.components
   pub plane : IsImagePlane s.plane
-  pub component : s.plane.component ≡ i
-  pub factor : 1 ≤ (component_at f i).v
-  pub whole : s.plane.ratio.down * (component_at f i).v ≡ v_max f
+  pub window : IsWindow s.plane s.window
+  pub lines : s.window.lines ≡ 8 * v_max f
+  pub at : s.window.at ≡ 0
+  pub factor : 1 ≤ (component_at f s.plane.component).v
+  pub whole : s.plane.ratio.down * (component_at f s.plane.component).v ≡ v_max f
   pub some : (1 ≤ s.made) × (s.made ≤ 1000000)
-  pub wide : s.wide ≡ row_wide f i
+  pub wide : s.wide ≡ row_wide f s.plane.component
   pub few : 8 * s.wide ≤ 1000000
-  pub count : s.count ≡ (component_at f i).v
-  pub made : s.made ≡ div_up s.plane.info.now.height (v_max f) * (component_at f i).v
-  pub rows : lower_row s.plane s.made ≡ lower_plane f (source_image s) i
+  pub count : s.count ≡ (component_at f s.plane.component).v
+  pub made : s.made ≡ div_up s.plane.info.now.height (v_max f) * (component_at f s.plane.component).v
+  pub rows : lower_row s.plane s.made ≡ lower_plane f (source_image s) s.plane.component
+
+-- the rows of blocks that are made from it are appended
+abbrev pub AppendsSource : Frame → Source → List (List (List ℕ)) → List (List (List ℕ)) → Type 0
+AppendsSource f s = AppendsAll f (source_image s) s.plane.component
 
 -- no samples are averaged, and none are repeated to make blocks whole
 pub record IsPlain (s : Source) : Type 0 where
@@ -130,5 +146,4 @@ AreWindows f w = (i : ℕ) → i < length f.components → length (window_at w i
 
 -- and has those of a strip
 abbrev pub HasRowsOfStrip : Strip → Windows → Type 0
-HasRowsOfStrip s w =
-    (i : ℕ) → i < length s.frame.now.components → HasPlaneRows s.info.now s.samples.now i (8 * v_max s.frame.now) 0 (window_at w i)
+HasRowsOfStrip s w = (i : ℕ) → i < length s.frame.now.components → HasStripRows s i (window_at w i)

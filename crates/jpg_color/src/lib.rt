@@ -16,7 +16,7 @@ pub use encode::image_encoder::ImageEncoder;
 pub use encode::image_head::ImageHead;
 pub use encode::planes::{block_at, component_row};
 pub use encode::row_encoder::RowEncoder;
-pub use encode::rows::{ImagePlane, Window, block_rows};
+pub use encode::rows::{ImagePlane, Source, Window, block_rows};
 pub use encode::sampler::Sampler;
 pub use encode::view::EncodedImage;
 pub use encode::ycc::{blue_row, gray_row, red_row, to_ycc, ycc_row};

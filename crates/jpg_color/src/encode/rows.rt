@@ -1,11 +1,8 @@
 //! Rows of a component's plane (T.81, A.1.1; release 6b's downsampling).
 ghost use Rattle.std.specs.Prelude.{◌≡◌, ◌+◌, ◌-◌, ◌*◌, ◌≤◌, ◌<◌, ℕ, min, length, slice_index, take, drop};
-ghost use Rattle.jpg_spec_image.specs.declared.image.ImageKind.TheVariants.{Rgb};
 ghost use Rattle.jpg_color.specs.ColourRows.{numbers_of_pixel};
-ghost use Rattle.jpg_color.specs.PlaneRows.{row_of, plane_of, lower_row, downsampled_row, AreUnder, HasBlocks, HasPlaneRows, HasSamples, IsImagePlane, IsUnder, IsWindow, PutsRow};
+ghost use Rattle.jpg_color.specs.PlaneRows.{row_of, lower_row, downsampled_row, AreUnder, HasBlocks, HasPlaneRows, HasSamples, IsImagePlane, IsUnder, IsWindow};
 
-use crate::encode::planes::component_row;
-use crate::encode::ycc::ycc_row;
 use jpg_sample::{Ratio, down_rows};
 use jpg_spec_image::{ImageInfo, ImageKind};
 
@@ -29,6 +26,21 @@ pub struct Window<'a> {
     pub rows: &'a [u8],
     pub lines: usize,
     pub at: u32,
+}
+
+/// What the rows of blocks of a component are made from.
+#[derive(Drop)]
+pub struct Source<'a> {
+    /// Its plane of the image.
+    pub plane: ImagePlane<'a>,
+    /// The rows of the image for them.
+    pub window: Window<'a>,
+    /// How many rows of the plane are made of the image; the last one is repeated.
+    pub made: usize,
+    /// Samples of a row, in whole blocks.
+    pub wide: usize,
+    /// How many rows of blocks there are.
+    pub count: u8,
 }
 
 /// How many numbers a pixel has.
@@ -58,104 +70,14 @@ fn part(samples: &[u8], at: usize, wide: usize) -> &[u8]
     &samples[at..at + wide]
 }
 
-// Row p of an image, or the last one.
-fn image_row<'a>(samples: &'a [u8], info: &ImageInfo, p: usize) -> &'a [u8]
+/// Row p of an image, or the last one.
+pub(crate) fn image_row<'a>(samples: &'a [u8], info: &ImageInfo, p: usize) -> &'a [u8]
     requires { HasSamples info.now samples.now }
     ensures { result.now ≡ row_of info.now samples.now (min p (info.now.height - 1)) }
 {
     let wide = numbers(info.kind) * info.width as usize;
     let row = place(p, info.height as usize);
     part(samples, row * wide, wide)
-}
-
-// Puts row p of component `i` as row r among rows.
-#[tactic(auto, using(crate::proofs::PlaneRows::put_mid_at, crate::proofs::PlaneRows::sample_at))]
-fn put_row(samples: &[u8], info: &ImageInfo, i: u8, p: usize, rows: &mut [u8], r: usize)
-    requires image { HasSamples info.now samples.now }
-    requires component { i < 3 }
-    requires there { r * info.now.width + info.now.width ≤ length rows.old }
-    ensures long { length rows.new ≡ length rows.old }
-    ensures here { (u : ℕ) → u < info.now.width → slice_index rows.new (r * info.now.width + u) ≡ plane_of info.now samples.now i u p }
-    ensures before { (k : ℕ) → k < r * info.now.width → slice_index rows.new k ≡ slice_index rows.old k }
-{
-    let width = info.width as usize;
-    let row = image_row(samples, info, p);
-    component_row(info.kind, row, i, &mut rows[r * width..r * width + width]);
-}
-
-// Rows of component `i` from row down * y on, the last one of the image repeated.
-pub(crate) fn put_rows(
-    samples: &[u8],
-    info: &ImageInfo,
-    i: u8,
-    down: usize,
-    y: usize,
-    rows: &mut [u8],
-)
-    requires image { HasSamples info.now samples.now }
-    requires component { i < 3 }
-    requires few { (down ≤ 32) × (y ≤ 1000000) }
-    requires room { length rows.old ≡ down * info.now.width }
-    ensures long { length rows.new ≡ length rows.old }
-    ensures rows { HasPlaneRows info.now samples.now i down y rows.new }
-{
-    for r in 0..down {
-        put_row(samples, info, i, down * y + r, rows, r);
-    }
-}
-
-// Puts row p of luminance and chrominance as row r among rows of each.
-fn put_colour_row(
-    samples: &[u8],
-    info: &ImageInfo,
-    p: usize,
-    ys: &mut [u8],
-    cbs: &mut [u8],
-    crs: &mut [u8],
-    r: usize,
-)
-    requires image { HasSamples info.now samples.now }
-    requires kind { info.now.kind ≡ Rgb }
-    requires luminance { r * info.now.width + info.now.width ≤ length ys.old }
-    requires blue { length cbs.old ≡ length ys.old }
-    requires red { length crs.old ≡ length ys.old }
-    ensures luminance { PutsRow info.now samples.now 0 p r ys.old ys.new }
-    ensures blue { PutsRow info.now samples.now 1 p r cbs.old cbs.new }
-    ensures red { PutsRow info.now samples.now 2 p r crs.old crs.new }
-{
-    let width = info.width as usize;
-    let (from, to) = (r * width, r * width + width);
-    ycc_row(
-        image_row(samples, info, p),
-        &mut ys[from..to],
-        &mut cbs[from..to],
-        &mut crs[from..to],
-    );
-}
-
-// Rows of luminance and chrominance from row down * y on, the last one of the image repeated.
-pub(crate) fn put_colour_rows(
-    samples: &[u8],
-    info: &ImageInfo,
-    down: usize,
-    y: usize,
-    ys: &mut [u8],
-    cbs: &mut [u8],
-    crs: &mut [u8],
-)
-    requires image { HasSamples info.now samples.now }
-    requires kind { info.now.kind ≡ Rgb }
-    requires few { (down ≤ 32) × (y ≤ 1000000) }
-    requires luminance { length ys.old ≡ down * info.now.width }
-    requires blue { length cbs.old ≡ down * info.now.width }
-    requires red { length crs.old ≡ down * info.now.width }
-    ensures luminance { (length ys.new ≡ length ys.old) × HasPlaneRows info.now samples.now 0 down y ys.new }
-    ensures blue { (length cbs.new ≡ length cbs.old) × HasPlaneRows info.now samples.now 1 down y cbs.new }
-    ensures red { (length crs.new ≡ length crs.old) × HasPlaneRows info.now samples.now 2 down y crs.new }
-{
-    for r in 0..down {
-        put_colour_row(samples, info, down * y + r, ys, cbs, crs, r);
-    }
 }
 
 // The rows of a window that are averaged to row y of a plane.
@@ -188,49 +110,39 @@ fn plane_row(plane: &ImagePlane, window: &Window, y: usize, out: &mut [u8])
     );
 }
 
-// Puts row y as row v of the eight; `made` rows are made from the image, and the last one is repeated.
+// Puts row y of a plane as row v of the eight.
 #[tactic(auto, using(crate::proofs::PlaneRows::put_mid_at, crate::proofs::PlaneRows::placed))]
-fn put_plane_row(
-    plane: &ImagePlane,
-    made: usize,
-    y: usize,
-    window: &Window,
-    out: &mut [u8],
-    wide: usize,
-    v: usize,
-)
-    requires plane { IsImagePlane plane.now }
-    requires window { IsWindow plane.now window.now }
-    requires some { 1 ≤ made }
-    requires under { IsUnder plane.now window.now (min y (made - 1)) }
-    requires there { v * wide + wide ≤ length out.old }
+fn put_plane_row(source: &Source, y: usize, out: &mut [u8], v: usize)
+    requires plane { IsImagePlane source.now.plane }
+    requires window { IsWindow source.now.plane source.now.window }
+    requires some { 1 ≤ source.now.made }
+    requires under { IsUnder source.now.plane source.now.window (min y (source.now.made - 1)) }
+    requires there { v * source.now.wide + source.now.wide ≤ length out.old }
     ensures long { length out.new ≡ length out.old }
-    ensures here { (u : ℕ) → u < wide → slice_index out.new (v * wide + u) ≡ lower_row plane.now made u y }
-    ensures before { (k : ℕ) → k < v * wide → slice_index out.new k ≡ slice_index out.old k }
+    ensures here { (u : ℕ) → u < source.now.wide → slice_index out.new (v * source.now.wide + u) ≡ lower_row source.now.plane source.now.made u y }
+    ensures before { (k : ℕ) → k < v * source.now.wide → slice_index out.new k ≡ slice_index out.old k }
 {
-    let row = place(y, made);
-    plane_row(plane, window, row, &mut out[v * wide..v * wide + wide]);
+    let wide = source.wide;
+    let row = place(y, source.made);
+    plane_row(
+        &source.plane,
+        &source.window,
+        row,
+        &mut out[v * wide..v * wide + wide],
+    );
 }
 
-/// Eight rows of a component's plane from row 8 * y on, each of `wide` samples; `made` rows are made from the image,
-/// and the last one is repeated. The rows of the image for them are in a window.
-pub fn block_rows(
-    plane: &ImagePlane,
-    made: usize,
-    y: usize,
-    window: &Window,
-    out: &mut [u8],
-    wide: usize,
-)
-    requires plane { IsImagePlane plane.now }
-    requires window { IsWindow plane.now window.now }
-    requires few { (1 ≤ made) × (y ≤ 1000000) }
-    requires under { AreUnder plane.now window.now made y }
-    requires eight { length out.old ≡ 8 * wide }
+/// Eight rows of a component's plane from row 8 * y on, in whole blocks.
+pub fn block_rows(source: &Source, y: usize, out: &mut [u8])
+    requires plane { IsImagePlane source.now.plane }
+    requires window { IsWindow source.now.plane source.now.window }
+    requires few { (1 ≤ source.now.made) × (y ≤ 1000000) }
+    requires under { AreUnder source.now.plane source.now.window source.now.made y }
+    requires eight { length out.old ≡ 8 * source.now.wide }
     ensures long { length out.new ≡ length out.old }
-    ensures blocks { HasBlocks plane.now made wide y out.new }
+    ensures blocks { HasBlocks source.now.plane source.now.made source.now.wide y out.new }
 {
     for v in 0..8 {
-        put_plane_row(plane, made, 8 * y + v, window, out, wide, v);
+        put_plane_row(source, 8 * y + v, out, v);
     }
 }

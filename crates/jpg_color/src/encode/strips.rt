@@ -2,11 +2,15 @@
 ghost use Rattle.std.specs.Prelude.{◌≡◌, ◌+◌, ◌*◌, ◌/◌, ◌≤◌, ◌<◌, ◌++◌, ◌∷◌, [], ℕ, OnErr, OnOk, IfOk, IsTrue, length, take, drop};
 ghost use Rattle.jpg_spec.specs.EncodingLaws.{AreSamples};
 ghost use Rattle.jpg_spec.specs.Geometry.{div_up, v_max};
-ghost use Rattle.jpg_color.specs.PlaneRows.{HasBlocks, HasPlaneRows, IsWindow, cut_in_blocks};
-ghost use Rattle.jpg_color.specs.EncodeBlocks.{AppendsAll, AppendsStrip, AreWindows, GrowsPlane, GrowsPlanes, HasRowsOfStrip, IsPlain, IsSource, IsStrip, source_image, strip_image};
+ghost use Rattle.jpg_spec_image.specs.declared.image.ImageKind.TheVariants.{Rgb};
+ghost use Rattle.jpg_color.specs.PlaneRows.{HasBlocks, HasSamples, IsWindow, PutsRow, cut_in_blocks};
+ghost use Rattle.jpg_color.specs.EncodeBlocks.{AppendsAll, AppendsSource, AppendsStrip, AreWindows, GrowsPlane, GrowsPlanes, HasRowsOfStrip, HasStripRows, IsPlain};
+ghost use Rattle.jpg_color.specs.EncodeBlocks.{IsSource, IsStrip, IsStripPart, source_image, strip_image};
 
 use crate::encode::block_row::BlockRow;
-use crate::encode::rows::{ImagePlane, Window, block_rows, put_colour_rows, put_rows};
+use crate::encode::planes::component_row;
+use crate::encode::rows::{ImagePlane, Source, Window, block_rows, image_row};
+use crate::encode::ycc::ycc_row;
 use jpg_base::{Frame, NoMemory};
 use jpg_sample::Ratio;
 use jpg_spec_image::ImageInfo;
@@ -27,6 +31,13 @@ pub(crate) struct Strip<'a> {
     pub samples: &'a [u8],
     pub info: &'a ImageInfo,
     pub frame: &'a Frame,
+}
+
+/// The rows of a component of a strip.
+#[derive(Clone, Copy)]
+pub(crate) struct StripPart<'a> {
+    pub component: u8,
+    pub rows: &'a [u8],
 }
 
 /// The rows of each component of a strip, and room for eight rows of a component in whole blocks. It is kept from one
@@ -85,6 +96,73 @@ fn open(windows: &mut Windows, frame: &Frame) -> Result<(), NoMemory>
     resize(&mut windows.crs, others)
 }
 
+// Puts row r of component 0 of a strip as row r among rows.
+fn put_row(strip: &Strip, r: usize, rows: &mut [u8])
+    requires image { HasSamples strip.now.info.now strip.now.samples.now }
+    requires there { r * strip.now.info.now.width + strip.now.info.now.width ≤ length rows.old }
+    ensures { PutsRow strip.now.info.now strip.now.samples.now 0 r r rows.old rows.new }
+{
+    let width = strip.info.width as usize;
+    let row = image_row(strip.samples, strip.info, r);
+    component_row(
+        strip.info.kind,
+        row,
+        0,
+        &mut rows[r * width..r * width + width],
+    );
+}
+
+// Puts the rows of component 0 of a strip, the last one of the image repeated.
+fn put_rows(strip: &Strip, rows: &mut [u8])
+    requires image { HasSamples strip.now.info.now strip.now.samples.now }
+    requires room { length rows.old ≡ 8 * v_max strip.now.frame.now * strip.now.info.now.width }
+    ensures long { length rows.new ≡ length rows.old }
+    ensures rows { HasStripRows strip.now 0 rows.new }
+{
+    let lines = 8 * strip.frame.v_max() as usize;
+    for r in 0..lines {
+        put_row(strip, r, rows);
+    }
+}
+
+// Puts row r of luminance and chrominance of a strip as row r among rows of each.
+fn put_colour_row(strip: &Strip, r: usize, ys: &mut [u8], cbs: &mut [u8], crs: &mut [u8])
+    requires image { HasSamples strip.now.info.now strip.now.samples.now }
+    requires kind { strip.now.info.now.kind ≡ Rgb }
+    requires luminance { r * strip.now.info.now.width + strip.now.info.now.width ≤ length ys.old }
+    requires blue { length cbs.old ≡ length ys.old }
+    requires red { length crs.old ≡ length ys.old }
+    ensures luminance { PutsRow strip.now.info.now strip.now.samples.now 0 r r ys.old ys.new }
+    ensures blue { PutsRow strip.now.info.now strip.now.samples.now 1 r r cbs.old cbs.new }
+    ensures red { PutsRow strip.now.info.now strip.now.samples.now 2 r r crs.old crs.new }
+{
+    let width = strip.info.width as usize;
+    let (from, to) = (r * width, r * width + width);
+    ycc_row(
+        image_row(strip.samples, strip.info, r),
+        &mut ys[from..to],
+        &mut cbs[from..to],
+        &mut crs[from..to],
+    );
+}
+
+// Puts the rows of luminance and chrominance of a strip, the last one of the image repeated.
+fn put_colour_rows(strip: &Strip, ys: &mut [u8], cbs: &mut [u8], crs: &mut [u8])
+    requires image { HasSamples strip.now.info.now strip.now.samples.now }
+    requires kind { strip.now.info.now.kind ≡ Rgb }
+    requires luminance { length ys.old ≡ 8 * v_max strip.now.frame.now * strip.now.info.now.width }
+    requires blue { length cbs.old ≡ 8 * v_max strip.now.frame.now * strip.now.info.now.width }
+    requires red { length crs.old ≡ 8 * v_max strip.now.frame.now * strip.now.info.now.width }
+    ensures luminance { (length ys.new ≡ length ys.old) × HasStripRows strip.now 0 ys.new }
+    ensures blue { (length cbs.new ≡ length cbs.old) × HasStripRows strip.now 1 cbs.new }
+    ensures red { (length crs.new ≡ length crs.old) × HasStripRows strip.now 2 crs.new }
+{
+    let lines = 8 * strip.frame.v_max() as usize;
+    for r in 0..lines {
+        put_colour_row(strip, r, ys, cbs, crs);
+    }
+}
+
 // Puts the rows of the strip into the windows.
 fn fill(strip: &Strip, windows: &mut Windows)
     requires strip { IsStrip strip.now }
@@ -92,19 +170,10 @@ fn fill(strip: &Strip, windows: &mut Windows)
     ensures long { AreWindows strip.now.frame.now windows.new }
     ensures rows { HasRowsOfStrip strip.now windows.new }
 {
-    let lines = 8 * strip.frame.v_max() as usize;
     if strip.frame.count() == 1 {
-        put_rows(strip.samples, strip.info, 0, lines, 0, &mut windows.ys);
+        put_rows(strip, &mut windows.ys);
     } else {
-        put_colour_rows(
-            strip.samples,
-            strip.info,
-            lines,
-            0,
-            &mut windows.ys,
-            &mut windows.cbs,
-            &mut windows.crs,
-        );
+        put_colour_rows(strip, &mut windows.ys, &mut windows.cbs, &mut windows.crs);
     }
 }
 
@@ -123,14 +192,11 @@ pub(crate) fn put_strip(
     open(windows, strip.frame)?;
     fill(strip, windows);
     if strip.frame.count() == 1 {
-        put_part(
-            alloc,
-            strip,
-            0,
-            windows.ys.as_slice(),
-            &mut windows.eight,
-            &mut planes.ys,
-        )
+        let ys = StripPart {
+            component: 0,
+            rows: windows.ys.as_slice(),
+        };
+        put_part(alloc, strip, ys, &mut windows.eight, &mut planes.ys)
     } else {
         put_three(alloc, strip, windows, planes)
     }
@@ -151,67 +217,52 @@ fn put_three(
     ensures grows { GrowsPlanes strip.now.frame.now planes.old planes.new }
 {
     let eight = &mut windows.eight;
-    put_part(
-        alloc,
-        strip,
-        0,
-        windows.ys.as_slice(),
-        eight,
-        &mut planes.ys,
-    )?;
-    put_part(
-        alloc,
-        strip,
-        1,
-        windows.cbs.as_slice(),
-        eight,
-        &mut planes.cbs,
-    )?;
-    put_part(
-        alloc,
-        strip,
-        2,
-        windows.crs.as_slice(),
-        eight,
-        &mut planes.crs,
-    )
+    let ys = StripPart {
+        component: 0,
+        rows: windows.ys.as_slice(),
+    };
+    put_part(alloc, strip, ys, eight, &mut planes.ys)?;
+    let cbs = StripPart {
+        component: 1,
+        rows: windows.cbs.as_slice(),
+    };
+    put_part(alloc, strip, cbs, eight, &mut planes.cbs)?;
+    let crs = StripPart {
+        component: 2,
+        rows: windows.crs.as_slice(),
+    };
+    put_part(alloc, strip, crs, eight, &mut planes.crs)
 }
 
-// What the rows of blocks of a component are made from.
-#[derive(Drop)]
-struct Source<'a> {
-    // Its plane of the image.
-    plane: ImagePlane<'a>,
-    // How many rows are made of the strip.
-    made: usize,
-    // Samples of a row, in whole blocks.
-    wide: usize,
-    // How many rows of blocks there are.
-    count: u8,
-}
-
-// What the rows of blocks of component i are made from.
-fn source_of<'a>(strip: &'a Strip, i: u8) -> Source<'a>
+// What the rows of blocks of a component of the strip are made from.
+fn source_of<'a>(strip: &'a Strip, part: StripPart<'a>) -> Source<'a>
     requires strip { IsStrip strip.now }
-    requires there { i < length strip.now.frame.now.components }
-    ensures is { IsSource strip.now.frame.now i result }
+    requires part { IsStripPart strip.now part }
+    ensures is { IsSource strip.now.frame.now result }
     ensures image { source_image result ≡ strip_image strip.now }
+    ensures component { result.plane.component ≡ part.entry.component }
 {
     let frame = strip.frame;
     frame.checked();
-    let component = frame.component(i);
+    let component = frame.component(part.component);
+    let v_max = frame.v_max();
     Source {
         plane: ImagePlane {
             samples: strip.samples,
             info: strip.info,
-            component: i,
+            component: part.component,
             ratio: Ratio {
                 across: frame.h_max() / component.h,
-                down: frame.v_max() / component.v,
+                down: v_max / component.v,
             },
         },
-        made: rows_made(strip.info.height, frame.v_max(), component.v),
-        wide: 8 * frame.blocks(i).wide as usize,
+        window: Window {
+            rows: part.rows,
+            lines: 8 * v_max as usize,
+            at: 0,
+        },
+        made: rows_made(strip.info.height, v_max, component.v),
+        wide: 8 * frame.blocks(part.component).wide as usize,
         count: component.v,
     }
 }
@@ -238,29 +289,21 @@ fn make_room(bytes: &mut Vec<u8>, count: usize) -> Result<(), NoMemory>
     }
 }
 
-// Appends the rows of blocks of component i of the strip, whose rows are given.
+// Appends the rows of blocks of a component of the strip.
 fn put_part(
     alloc: Global,
     strip: &Strip,
-    i: u8,
-    rows: &[u8],
+    part: StripPart,
     eight: &mut Vec<u8>,
     plane: &mut Vec<BlockRow>,
 ) -> Result<(), NoMemory>
     requires strip { IsStrip strip.now }
-    requires there { i < length strip.now.frame.now.components }
-    requires long { length rows.now ≡ 8 * v_max strip.now.frame.now * strip.now.frame.now.width }
-    requires rows { HasPlaneRows strip.now.info.now strip.now.samples.now i (8 * v_max strip.now.frame.now) 0 rows.now }
-    ensures rows { OnOk result (AppendsAll strip.now.frame.now (strip_image strip.now) i plane.old.items plane.new.items) }
-    ensures grows { GrowsPlane strip.now.frame.now i plane.old.items plane.new.items }
+    requires part { IsStripPart strip.now part }
+    ensures rows { OnOk result (AppendsAll strip.now.frame.now (strip_image strip.now) part.entry.component plane.old.items plane.new.items) }
+    ensures grows { GrowsPlane strip.now.frame.now part.entry.component plane.old.items plane.new.items }
 {
-    let source = source_of(strip, i);
-    let window = Window {
-        rows,
-        lines: 8 * strip.frame.v_max() as usize,
-        at: 0,
-    };
-    put_rows_of(alloc, &source, strip.frame, i, &window, eight, plane)
+    let source = source_of(strip, part);
+    put_rows_of(alloc, &source, strip.frame, eight, plane)
 }
 
 // Appends the rows of blocks of a component, of the rows in the window as they are or of rows that are made of them.
@@ -268,31 +311,18 @@ fn put_rows_of(
     alloc: Global,
     source: &Source,
     frame: &Frame,
-    i: u8,
-    window: &Window,
     eight: &mut Vec<u8>,
     plane: &mut Vec<BlockRow>,
 ) -> Result<(), NoMemory>
-    requires source { IsSource frame.now i source.now }
-    requires window { IsWindow source.now.plane window.now }
-    requires lines { window.now.lines ≡ 8 * v_max frame.now }
-    requires at { window.now.at ≡ 0 }
-    ensures rows { OnOk result (AppendsAll frame.now (source_image source.now) i plane.old.items plane.new.items) }
-    ensures grows { GrowsPlane frame.now i plane.old.items plane.new.items }
+    requires source { IsSource frame.now source.now }
+    ensures rows { OnOk result (AppendsSource frame.now source.now plane.old.items plane.new.items) }
+    ensures grows { GrowsPlane frame.now source.now.plane.component plane.old.items plane.new.items }
 {
     if is_plain(source) {
-        return put_plain(alloc, source, frame, i, window, plane);
+        return put_plain(alloc, source, frame, plane);
     }
     make_room(eight, 8 * source.wide)?;
-    put_blocks(
-        alloc,
-        source,
-        frame,
-        i,
-        window,
-        &mut eight[..8 * source.wide],
-        plane,
-    )
+    put_blocks(alloc, source, frame, &mut eight[..8 * source.wide], plane)
 }
 
 // Appends the rows of blocks of a component, by room for eight rows of samples.
@@ -300,28 +330,16 @@ fn put_blocks(
     alloc: Global,
     source: &Source,
     frame: &Frame,
-    i: u8,
-    window: &Window,
     eight: &mut [u8],
     plane: &mut Vec<BlockRow>,
 ) -> Result<(), NoMemory>
-    requires source { IsSource frame.now i source.now }
-    requires window { IsWindow source.now.plane window.now }
-    requires lines { window.now.lines ≡ 8 * v_max frame.now }
-    requires at { window.now.at ≡ 0 }
+    requires source { IsSource frame.now source.now }
     requires eight { length eight.old ≡ 8 * source.now.wide }
-    ensures rows { OnOk result (AppendsAll frame.now (source_image source.now) i plane.old.items plane.new.items) }
-    ensures grows { GrowsPlane frame.now i plane.old.items plane.new.items }
+    ensures rows { OnOk result (AppendsSource frame.now source.now plane.old.items plane.new.items) }
+    ensures grows { GrowsPlane frame.now source.now.plane.component plane.old.items plane.new.items }
 {
     for y in 0..source.count {
-        block_rows(
-            &source.plane,
-            source.made,
-            y as usize,
-            window,
-            eight,
-            source.wide,
-        );
+        block_rows(source, y as usize, eight);
         push_row(alloc, eight, source.wide, plane)?;
     }
     Ok(())
@@ -338,15 +356,15 @@ fn is_plain(source: &Source) -> bool
 }
 
 // Row y of blocks of such a component, as eight rows of samples.
-fn plain_rows<'a>(source: &Source, window: &'a Window, y: u8) -> &'a [u8]
-    requires plane { IsWindow source.now.plane window.now }
+fn plain_rows<'a>(source: &'a Source, y: u8) -> &'a [u8]
+    requires plane { IsWindow source.now.plane source.now.window }
     requires plain { IsPlain source.now }
-    requires there { 8 * y + 8 ≤ window.now.lines }
+    requires there { 8 * y + 8 ≤ source.now.window.lines }
     ensures long { length result.now ≡ 8 * source.now.wide }
-    ensures rows { result.now ≡ take (8 * source.now.wide) (drop (8 * y * source.now.wide) window.now.rows.now) }
+    ensures rows { result.now ≡ take (8 * source.now.wide) (drop (8 * y * source.now.wide) source.now.window.rows.now) }
 {
     let first = 8 * y as usize * source.wide;
-    &window.rows[first..first + 8 * source.wide]
+    &source.window.rows[first..first + 8 * source.wide]
 }
 
 // Appends the rows of blocks of such a component.
@@ -354,20 +372,15 @@ fn put_plain(
     alloc: Global,
     source: &Source,
     frame: &Frame,
-    i: u8,
-    window: &Window,
     plane: &mut Vec<BlockRow>,
 ) -> Result<(), NoMemory>
-    requires source { IsSource frame.now i source.now }
-    requires window { IsWindow source.now.plane window.now }
-    requires lines { window.now.lines ≡ 8 * v_max frame.now }
-    requires at { window.now.at ≡ 0 }
+    requires source { IsSource frame.now source.now }
     requires plain { IsPlain source.now }
-    ensures rows { OnOk result (AppendsAll frame.now (source_image source.now) i plane.old.items plane.new.items) }
-    ensures grows { GrowsPlane frame.now i plane.old.items plane.new.items }
+    ensures rows { OnOk result (AppendsSource frame.now source.now plane.old.items plane.new.items) }
+    ensures grows { GrowsPlane frame.now source.now.plane.component plane.old.items plane.new.items }
 {
     for y in 0..source.count {
-        push_row(alloc, plain_rows(source, window, y), source.wide, plane)?;
+        push_row(alloc, plain_rows(source, y), source.wide, plane)?;
     }
     Ok(())
 }

@@ -5,4 +5,4 @@ use Rattle.jpg_color.proofs.encode.rows.block_rows.Given as goal
 abbrev pub invariant-loop-v : goal.invariant-loop-v
 invariant-loop-v l =
     (length l.out ≡ length l.fn.out)
-    × ((k u : ℕ) → k < l.v → u < l.wide → slice_index l.out (k * l.wide + u) ≡ lower_row l.plane l.made u (8 * l.y + k))
+    × ((k u : ℕ) → k < l.v → u < l.source.wide → slice_index l.out (k * l.source.wide + u) ≡ lower_row l.source.plane l.source.made u (8 * l.y + k))

@@ -8,12 +8,12 @@ use Rattle.jpg_color.proofs.encode.strips.put_blocks.Goals as goal
 pub loop-y-init : goal.loop-y-init
 loop-y-init c = (
   c.requires.eight,
-  appends_none c.args.frame.now (source_image c.args.source.now) c.args.i c.args.plane.now.items,
-  grows_none c.args.frame.now c.args.i c.args.plane.now.items,
+  appends_none c.args.frame.now (source_image c.args.source.now) c.args.source.now.plane.component c.args.plane.now.items,
+  grows_none c.args.frame.now c.args.source.now.plane.component c.args.plane.now.items,
 )
 
 pub block_rows-requires-clause-under : goal.block_rows-requires-clause-under
-block_rows-requires-clause-under c = all_under c.args.window.now c.loop-y.y c.requires.source c.requires.lines c.requires.at (search rules)
+block_rows-requires-clause-under c = all_under c.loop-y.y c.requires.source (search rules)
 
 pub loop-y-preserved : goal.loop-y-preserved
 loop-y-preserved c =
@@ -25,10 +25,10 @@ loop-y-preserved c =
     )
 
 pub returns-in_err-push_row-clause-grows : goal.returns-in_err-push_row-clause-grows
-returns-in_err-push_row-clause-grows c = subst (GrowsPlane c.args.frame.now c.args.i c.args.plane.now.items) (sym c.in_err-push_row.ensures.same) c.loop-y.invariant.2
+returns-in_err-push_row-clause-grows c = subst (GrowsPlane c.args.frame.now c.args.source.now.plane.component c.args.plane.now.items) (sym c.in_err-push_row.ensures.same) c.loop-y.invariant.2
 
 pub returns-clause-rows : goal.returns-clause-rows
 returns-clause-rows c =
     let f = c.args.frame.now in
-    let all : c.loop-y.y ≡ (component_at f c.args.i).v = omega (arith, c.loop-y-test.false, c.requires.source.count, c.loop-y.auto.y-end) in
-    subst (λ n. AppendsRows f (source_image c.args.source.now) c.args.i n c.args.plane.now.items c.loop-y.plane.items) all c.loop-y.invariant.1
+    let all : c.loop-y.y ≡ (component_at f c.args.source.now.plane.component).v = omega (arith, c.loop-y-test.false, c.requires.source.count, c.loop-y.auto.y-end) in
+    subst (λ n. AppendsRows f (source_image c.args.source.now) c.args.source.now.plane.component n c.args.plane.now.items c.loop-y.plane.items) all c.loop-y.invariant.1

@@ -8,28 +8,28 @@ use Rattle.jpg_color.proofs.encode.strips.put_plain.Goals as goal
 
 pub loop-y-init : goal.loop-y-init
 loop-y-init c = (
-  appends_none c.args.frame.now (source_image c.args.source.now) c.args.i c.args.plane.now.items,
-  grows_none c.args.frame.now c.args.i c.args.plane.now.items,
+  appends_none c.args.frame.now (source_image c.args.source.now) c.args.source.now.plane.component c.args.plane.now.items,
+  grows_none c.args.frame.now c.args.source.now.plane.component c.args.plane.now.items,
 )
 
 pub plain_rows-requires-clause-there : goal.plain_rows-requires-clause-there
-plain_rows-requires-clause-there c = plain_under c.args.window.now c.loop-y.y c.requires.source c.requires.plain c.requires.lines (search rules)
+plain_rows-requires-clause-there c = plain_under c.loop-y.y c.requires.source c.requires.plain (search rules)
 
 pub loop-y-preserved : goal.loop-y-preserved
 loop-y-preserved c =
     let rows = c.plain_rows.result.now in
     let row = cut_in_blocks c.args.source.now.wide rows in
-    let there = plain_under c.args.window.now c.loop-y.y c.requires.source c.requires.plain c.requires.lines (search rules) in
-    let has = plain_blocks c.args.window.now c.loop-y.y rows c.requires.source c.requires.plain c.requires.window c.requires.at there c.plain_rows.ensures.rows in (
+    let there = plain_under c.loop-y.y c.requires.source c.requires.plain (search rules) in
+    let has = plain_blocks c.loop-y.y rows c.requires.source c.requires.plain there c.plain_rows.ensures.rows in (
       appends_more row c.loop-y.invariant.0 (row_made c.loop-y.y rows c.requires.source has) c.in_ok-push_row.ensures.pushed,
       grows_more row c.loop-y.invariant.1 (row_whole rows c.requires.source c.push_row.ensures.bytes) c.in_ok-push_row.ensures.pushed,
     )
 
 pub returns-in_err-push_row-clause-grows : goal.returns-in_err-push_row-clause-grows
-returns-in_err-push_row-clause-grows c = subst (GrowsPlane c.args.frame.now c.args.i c.args.plane.now.items) (sym c.in_err-push_row.ensures.same) c.loop-y.invariant.1
+returns-in_err-push_row-clause-grows c = subst (GrowsPlane c.args.frame.now c.args.source.now.plane.component c.args.plane.now.items) (sym c.in_err-push_row.ensures.same) c.loop-y.invariant.1
 
 pub returns-clause-rows : goal.returns-clause-rows
 returns-clause-rows c =
     let f = c.args.frame.now in
-    let all : c.loop-y.y ≡ (component_at f c.args.i).v = omega (arith, c.loop-y-test.false, c.requires.source.count, c.loop-y.auto.y-end) in
-    subst (λ n. AppendsRows f (source_image c.args.source.now) c.args.i n c.args.plane.now.items c.loop-y.plane.items) all c.loop-y.invariant.0
+    let all : c.loop-y.y ≡ (component_at f c.args.source.now.plane.component).v = omega (arith, c.loop-y-test.false, c.requires.source.count, c.loop-y.auto.y-end) in
+    subst (λ n. AppendsRows f (source_image c.args.source.now) c.args.source.now.plane.component n c.args.plane.now.items c.loop-y.plane.items) all c.loop-y.invariant.0

@@ -2,4 +2,6 @@ use Rattle.jpg_color.specs.EncodeBlocks.{AppendsRows, GrowsPlane, source_image}
 use Rattle.jpg_color.proofs.encode.strips.put_plain.Given as goal
 
 abbrev pub invariant-loop-y : goal.invariant-loop-y
-invariant-loop-y l = AppendsRows l.frame (source_image l.source) l.i l.y l.fn.plane.items l.plane.items × GrowsPlane l.frame l.i l.fn.plane.items l.plane.items
+invariant-loop-y l =
+    AppendsRows l.frame (source_image l.source) l.source.plane.component l.y l.fn.plane.items l.plane.items
+    × GrowsPlane l.frame l.source.plane.component l.fn.plane.items l.plane.items
