@@ -1,7 +1,5 @@
 -- WHAT WRITING AN UNTRANSFORMED PICTURE does to a desk, and making it of an image before (the manual of cjpeg).
-use Rattle.std.specs.Prelude.{◌≡◌, ◌⊎◌, List, Option}
-use Rattle.std.specs.Borrow.{Bor}
-use Rattle.arrayvec.specs.ArrayVec.{ArrayVec}
+use Rattle.std.specs.Prelude.{◌≡◌, ◌⊎◌, List, None}
 use Rattle.jpg_base.specs.declared.names.Name.{Name}
 use Rattle.jpg_base.specs.Desk.{DeskState}
 use Rattle.jpg_spec_encode.specs.Encoded.{Encoding, encode_fault, encoded, encoded_text}
@@ -10,7 +8,7 @@ use Rattle.jpg_spec_image.specs.Images.{Image}
 use Rattle.jpg_spec.specs.Meaning.{Meaning}
 use Rattle.jpg_spec_move.specs.Moved.{Choice, as_it_is, moved_text, picture_fault}
 use Rattle.jpg_spec_write.specs.ScansAsked.{Scans}
-use Rattle.jpg_spec.specs.Segments.{QuantTable, standard_limits}
+use Rattle.jpg_spec.specs.Segments.{standard_limits}
 use Rattle.jpg_spec_words.specs.declared.answers.Why.{Why}
 use Rattle.jpg_spec_words.specs.declared.answers.Why.TheVariants as why
 use Rattle.jpg_spec.specs.declared.frame.Copying.TheVariants as copying
@@ -57,9 +55,9 @@ AfterEncoding e I output old ended new =
     AfterMade (encode_fault e I) (encoded_text e I) (Means standard_limits (encoded_text e I) (encoded e I)) output old ended new
     ⊎ ((ended ≡ why.NoMemory) × Untouched old new)
 
--- an image that was read, as the words ask for it
-abbrev pub EncodesImage : EncodeWords → Scans → Option (Bor (ArrayVec QuantTable)) → Read → DeskState → Why → DeskState → Type 0
-EncodesImage w scans tables i old ended new = AfterEncoding (asked_of w scans tables i) (image_view i) w.files.output old ended new
+-- an image that was read, as the words ask for it, by no tables of a file
+abbrev pub EncodesImage : EncodeWords → Scans → Read → DeskState → Why → DeskState → Type 0
+EncodesImage w scans i old ended new = AfterEncoding (asked_of w scans None i) (image_view i) w.files.output old ended new
 
 -- AN ENCODED IMAGE written as the words ask for it: in these scans, with their Huffman tables and restarts
 pub record IsAskedBy (w : EncodeWords) (scans : Scans) (e : Encoding) : Type 0 where

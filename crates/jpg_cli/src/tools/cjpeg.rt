@@ -143,22 +143,21 @@ fn plan_of(image: &EncodedImage, script: Script, words: &EncodeWords) -> Plan
     }
 }
 
-/// Makes the picture of the image, and writes it to the output.
+/// Makes the picture of the image, by no tables of a file, and writes it to the output.
 pub fn write_encoded<D: Desk>(
     alloc: Global,
     image: &Image,
     words: &EncodeWords,
     scans: Scans,
-    tables: Option<&Tables>,
     desk: &mut D,
 ) -> Why
     requires { IsRightImage (image_view image.now) }
     ensures kept { OnlyWorks (D.state desk.old) (D.state desk.new) }
     ensures left { (D.state desk.new).left ≡ (D.state desk.old).left }
-    ensures wrote { EncodesImage words.now (scans_view scans) tables.entry image.now (D.state desk.old) result (D.state desk.new) }
+    ensures wrote { EncodesImage words.now (scans_view scans) image.now (D.state desk.old) result (D.state desk.new) }
 {
     counted(words.restart);
-    let encoding = encoding_of(words, &scans, tables, image.info.kind);
+    let encoding = encoding_of(words, &scans, None, image.info.kind);
     match encode_picture(alloc, image, &encoding) {
         Err(stop) => why_not_encoded(stop),
         Ok(picture) => write_picture(&picture, words, &scans, desk),

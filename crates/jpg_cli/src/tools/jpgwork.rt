@@ -12,7 +12,7 @@ use crate::tools::cjpeg::write_encoded;
 use crate::tools::image_writer::{has_end, show_by};
 use crate::tools::jpegtran::transform;
 use crate::tools::work_image::image_of;
-use crate::tools::work_lines::{lines_of, samples_sum};
+use crate::tools::work_lines::{WorkFiles, lines_of, samples_sum};
 use jpg_base::{Bytes, Desk, MemoryDesk, Name, Put};
 use jpg_pnm_bmp::ImageEnd;
 use jpg_spec::Copying;
@@ -100,34 +100,27 @@ fn report_turned(
     };
     match shown_file(alloc, back.output(0), ends) {
         None => None,
-        Some(shown) => report_shown(
-            alloc,
-            size,
-            first.output(0),
-            turned.output(0),
-            back.output(0),
-            shown.output(0),
-        ),
+        Some(shown) => {
+            let files = WorkFiles {
+                first: first.output(0),
+                turned: turned.output(0),
+                back: back.output(0),
+            };
+            report_shown(alloc, size, files, shown.output(0))
+        }
     }
 }
 
 // The five lines, by the texts of the three files and of the image; none if there is no memory.
-fn report_shown(
-    alloc: Global,
-    size: u16,
-    first: &[u8],
-    turned: &[u8],
-    back: &[u8],
-    image: &[u8],
-) -> Option<Bytes>
+fn report_shown(alloc: Global, size: u16, files: WorkFiles, image: &[u8]) -> Option<Bytes>
     requires small { size ≤ 400 }
     requires header { length (pnm_header (work_info size)) ≤ length image.now }
-    ensures { ReportsShown size first.now turned.now back.now image.now result }
+    ensures { ReportsShown size files.entry.first.now files.entry.turned.now files.entry.back.now image.now result }
 {
     let Some(samples) = samples_sum(size, image) else {
         return None;
     };
-    match lines_of(alloc, size, first, turned, back, samples) {
+    match lines_of(alloc, size, files, samples) {
         Ok(lines) => Some(lines),
         Err(_) => None,
     }
@@ -159,7 +152,7 @@ fn first_file(alloc: Global, size: u16) -> Option<MemoryDesk>
         tables: None,
     };
     let mut desk = MemoryDesk::new(alloc, PIECE);
-    match write_encoded(alloc, &image, &words, Scans::Standard, None, &mut desk) {
+    match write_encoded(alloc, &image, &words, Scans::Standard, &mut desk) {
         Why::Done => Some(desk),
         _ => None,
     }

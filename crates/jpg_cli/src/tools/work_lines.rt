@@ -9,6 +9,14 @@ use crate::tools::work_image::info_of;
 use jpg_base::{Bytes, NoMemory};
 use std::alloc::Global;
 
+/// The texts of the three files: that of the image, the one of its rotated picture, and that one rotated back.
+#[derive(Clone, Copy)]
+pub struct WorkFiles<'a> {
+    pub first: &'a [u8],
+    pub turned: &'a [u8],
+    pub back: &'a [u8],
+}
+
 // The line that has the sides of the image.
 fn sides_line(width: u32, height: u32) -> Message
     ensures { result.items ≡ sides_line (record (work_info 0) { width = width; height = height }) }
@@ -85,23 +93,16 @@ pub fn samples_sum(size: u16, text: &[u8]) -> Option<u64>
 }
 
 /// The five lines, by the texts of the three files and the sum of the samples.
-pub fn lines_of(
-    alloc: Global,
-    size: u16,
-    first: &[u8],
-    turned: &[u8],
-    back: &[u8],
-    samples: u64,
-) -> Result<Bytes, NoMemory>
+pub fn lines_of(alloc: Global, size: u16, files: WorkFiles, samples: u64) -> Result<Bytes, NoMemory>
     requires { size ≤ 400 }
-    ensures { IfOk result (λ text. text ≡ lines (work_info size) (length first.now) (length turned.now) (bytes_eq back.now first.now) samples) }
+    ensures { IfOk result (λ text. text ≡ lines (work_info size) (length files.entry.first.now) (length files.entry.turned.now) (bytes_eq files.entry.back.now files.entry.first.now) samples) }
 {
     let info = info_of(size);
     let mut text = Bytes::new(alloc);
     text.push_all(sides_line(info.width, info.height).as_slice())?;
-    text.push_all(number_line("first", first.len() as u64).as_slice())?;
-    text.push_all(number_line("turned", turned.len() as u64).as_slice())?;
-    text.push_all(back_line(back == first).as_bytes())?;
+    text.push_all(number_line("first", files.first.len() as u64).as_slice())?;
+    text.push_all(number_line("turned", files.turned.len() as u64).as_slice())?;
+    text.push_all(back_line(files.back == files.first).as_bytes())?;
     text.push_all(number_line("samples", samples).as_slice())?;
     Ok(text)
 }
