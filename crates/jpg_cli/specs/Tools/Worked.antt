@@ -15,6 +15,7 @@ use Rattle.jpg_spec_move.specs.Moved.{Choice, moved, moved_text}
 use Rattle.jpg_spec_move.specs.declared.transform.Transform.{Transform}
 use Rattle.jpg_spec_write.specs.ScansAsked.{sequential, standard}
 use Rattle.jpg_cli.specs.Certain.{IsTold}
+use Rattle.jpg_cli.specs.declared.tools.work_lines.WorkFiles.{WorkFiles}
 use Rattle.jpg_spec_words.specs.TransformWords.{ScansSource, choice_asked, transform_default, own_progressive, own_sequential}
 use Rattle.jpg_spec_words.specs.Work.{lines, work_info, work_text}
 use Rattle.jpg_spec_words.specs.declared.answers.Usage.{Usage}
@@ -50,6 +51,10 @@ work_conversion n = record {
   right = λ m. Unit {0};
   writing = at_end;
 }
+
+-- the five lines, by the texts of the three files and the sum of the samples
+abbrev pub lines_by : ℕ → WorkFiles → ℕ → List ℕ
+lines_by size files samples = lines (work_info size) (length files.first.now) (length files.turned.now) (bytes_eq files.back.now files.first.now) samples
 
 -- no image writer has the format; this is after the two words
 abbrev pub no_end : Usage

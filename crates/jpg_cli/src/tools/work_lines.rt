@@ -1,8 +1,8 @@
 //! The lines that jpgwork writes.
 ghost use Rattle.std.specs.Prelude.{◌≡◌, ◌≤◌, ◌<◌, ◌^◌, ◌++◌, ◌∷◌, [], IfOk, IfSome, codes, drop, length, sum};
-ghost use Rattle.std.specs.Str.{bytes_eq};
 ghost use Rattle.jpg_spec_image.specs.ImageText.{pnm_header};
-ghost use Rattle.jpg_spec_words.specs.Work.{back_line, lines, number_line, sides_line, work_info};
+ghost use Rattle.jpg_spec_words.specs.Work.{back_line, number_line, sides_line, work_info};
+ghost use Rattle.jpg_cli.specs.Tools.Worked.{lines_by};
 
 use crate::message::{Message, add, add_number};
 use crate::tools::work_image::info_of;
@@ -95,7 +95,7 @@ pub fn samples_sum(size: u16, text: &[u8]) -> Option<u64>
 /// The five lines, by the texts of the three files and the sum of the samples.
 pub fn lines_of(alloc: Global, size: u16, files: WorkFiles, samples: u64) -> Result<Bytes, NoMemory>
     requires { size ≤ 400 }
-    ensures { IfOk result (λ text. text ≡ lines (work_info size) (length files.entry.first.now) (length files.entry.turned.now) (bytes_eq files.entry.back.now files.entry.first.now) samples) }
+    ensures { IfOk result (λ text. text ≡ lines_by size files.entry samples) }
 {
     let info = info_of(size);
     let mut text = Bytes::new(alloc);
