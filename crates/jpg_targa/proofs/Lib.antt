@@ -2,5 +2,8 @@ pub mod Copies
 pub mod Led
 pub mod MadeRows
 pub mod PiecesRead
+pub mod SamplePieces
+pub mod SamplesGiven
+pub mod SamplesRead
 pub mod ShownNone
 pub mod TargaRight

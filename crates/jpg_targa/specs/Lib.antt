@@ -1,3 +1,6 @@
 pub mod Reader
+pub mod SampleKinds
+pub mod Samples
+pub mod TargaGiven
 pub mod TargaRead
 pub mod TargaState

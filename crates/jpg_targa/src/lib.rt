@@ -9,5 +9,7 @@ pub use jpg_base::{Bytes, NoMemory, Stop};
 pub use jpg_pnm_bmp::{Fed2, Finish, Image, ImageEnd};
 pub use jpg_spec_image::targa_laws::targa_texts_have_their_image;
 pub use jpg_spec_image::{EndKind, ImageInfo, ImageKind};
-pub use read::laws::{fed_targas_are_open, targas_are_right};
+pub use read::given::TargaSamples;
+pub use read::laws::{fed_targas_are_open, given_targas_go_on, targas_are_right};
 pub use read::reader::TargaReader;
+pub use read::sample_reader::{SampleReader, SampleWork};

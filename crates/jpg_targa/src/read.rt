@@ -1,7 +1,10 @@
 //! Targa files read piece by piece.
 
+pub mod given;
 pub mod head;
 pub mod laws;
 pub mod make;
 pub mod reader;
+pub mod sample_reader;
+pub mod samples;
 pub mod work;

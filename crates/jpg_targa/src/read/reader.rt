@@ -1,11 +1,14 @@
 //! Targa files that are read piece by piece.
-ghost use Rattle.std.specs.Prelude.{◌≡◌, ◌≤◌, ◌+◌, [], ℕ, List, length, Some, true, false, Ok, Err};
+ghost use Rattle.std.specs.Prelude.{◌≡◌, ◌≤◌, ◌+◌, [], ℕ, List, length, Some, None, true, false, Ok, Err, IfSome, IfNone};
 ghost use Rattle.jpg_base.specs.declared.stop.Stop.{Stop as Stopped};
 ghost use Rattle.jpg_pnm_bmp.specs.Made.{image_by_parts};
 ghost use Rattle.jpg_pnm_bmp.specs.PiecesFed.{CanGo};
 ghost use Rattle.jpg_targa.specs.Reader.{targa_kind};
 
+use crate::read::given::TargaSamples;
 use crate::read::make::make_image;
+use crate::read::sample_reader::SampleReader;
+use crate::read::samples::begun_info;
 use crate::read::work::Work;
 use jpg_base::{Bytes, FaultAt, NoMemory, Stop};
 use jpg_pnm_bmp::{Fed2, Image, Moved, PieceReader, PieceWork};
@@ -35,6 +38,7 @@ impl PieceWork for Work {
 
 impl TargaReader {
     ghost use Rattle.jpg_targa.specs.TargaRead.{targa_read, targa_taken, targa_stop, is_targa_read, HasFedTarga, Asks, Feeds, Ends, KeepsDone};
+    ghost use Rattle.jpg_targa.specs.TargaGiven.{given_taken, is_all_given, CanGive, HasGivenSamples, TellsGiven, TellsNotGiven};
 
     /// A reader that was given no bytes. It takes no memory yet.
     pub fn new(alloc: Global) -> TargaReader
@@ -97,6 +101,35 @@ impl TargaReader {
         });
         self.reader.stop = Some(stop);
         stop
+    }
+
+    /// The numbers of the image, if the pixels have begun, and rows come from the top: samples can be given as they are
+    /// read then (`into_samples`). Otherwise None, as after a stop, or once the image is complete.
+    pub fn gives(&self) -> Option<ImageInfo>
+        ensures some { IfSome result (TellsGiven self.now) }
+        ensures none { IfNone result (TellsNotGiven self.now) }
+        ensures can { IfSome result (λ info. CanGive self.now) }
+        ensures open { IfSome result (λ info. is_targa_read self.now ≡ false) }
+        ensures stopped { (stop : Stopped) → targa_stop self.now ≡ Some stop → result ≡ None }
+    {
+        if self.reader.done || self.reader.stop.is_some() {
+            return None;
+        }
+        begun_info(&self.reader.work)
+    }
+
+    /// A reader that gives the samples of the file, all that were read so far too. None were given yet.
+    pub fn into_samples(self) -> TargaSamples
+        requires { CanGive self }
+        ensures fed { (bytes : List ℕ) → HasFedTarga bytes self → HasGivenSamples bytes [] result }
+        ensures done { is_all_given result ≡ false }
+        ensures taken { given_taken result ≡ targa_taken self }
+    {
+        let TargaReader { reader, .. } = self;
+        let PieceReader { work, taken, .. } = reader;
+        TargaSamples {
+            reader: SampleReader::new(work, taken),
+        }
     }
 
     /// The image, which must be complete (`is_read`).

@@ -1,9 +1,9 @@
 //! The state of a Targa file that is read.
-ghost use Rattle.std.specs.Prelude.{◌≡◌, ◌<◌, ◌≤◌, ◌++◌, ◌∷◌, [], ℕ, List, length, take, None, OnOk};
+ghost use Rattle.std.specs.Prelude.{◌≡◌, ◌<◌, ◌≤◌, ◌+◌, ◌-◌, ◌++◌, ◌∷◌, [], ℕ, List, length, take, None, OnOk};
 ghost use Rattle.jpg_spec_image.specs.TargaFile.{targa_fault};
 ghost use Rattle.jpg_spec_image.specs.TargaSteps.{at_start, total, in_pixels, body_begun, identifier_left, head_so_far, packet_byte, copied, copies_so_far, pixels_so_far, with_copies, run};
 ghost use Rattle.jpg_targa.specs.declared.read.work.Work.{Work as Worked};
-ghost use Rattle.jpg_targa.specs.Reader.{standing, standing_of, after_pixels, IsReached, Reaches, HasAll, Grows, AddsCopies, CanStretch, StretchesBy};
+ghost use Rattle.jpg_targa.specs.Reader.{standing, standing_of, after_pixels, Reaches, Leads, LeadsOn, HasRoom, IsBody, Stays, HasAll, Grows, AddsCopies, CanStretch, StretchesBy};
 
 use crate::read::head::{head_fault, is_packed, size, total};
 use jpg_base::{Bytes, NoMemory};
@@ -30,7 +30,9 @@ pub struct Work {
     pub head: [u8; 18],
     // The pixel that is to be copied, so far.
     pub pixel: Bytes,
-    // The bytes of the pixels so far, in the file's order.
+    // How many bytes of pixels were given away before: none where the image is made at once.
+    pub before: u64,
+    // The bytes of the pixels after them so far, in the file's order.
     pub pixels: Bytes,
     // Memory for a row of the image that is made of them.
     pub line: Vec<u8>,
@@ -50,7 +52,8 @@ fn part_long(left: u64, missing: u64, most: usize) -> usize
 
 // After pixels of a packet, of which so many bytes are left.
 fn after_pixels(left: u64) -> Stage
-    ensures { (w : Worked) → standing_of result w ≡ after_pixels left w }
+    ensures stands { (front : List ℕ) (w : Worked) → standing_of front result w ≡ after_pixels front left w }
+    ensures body { IsBody result }
 {
     if left == 0 {
         return Stage::Packet;
@@ -90,21 +93,24 @@ fn add_copies(pixels: &mut Bytes, pixel: &[u8], count: u8, end: u64) -> Result<(
 
 impl Work {
     pub fn new(alloc: Global) -> Work
-        ensures { standing result ≡ at_start }
+        ensures stands { standing [] result ≡ at_start }
+        ensures before { result.before ≡ 0 }
     {
         Work {
             stage: Stage::Head(0),
             head: [0; 18],
             pixel: Bytes::new(alloc),
+            before: 0,
             pixels: Bytes::new(alloc),
             line: Vec::new(alloc),
         }
     }
 
     fn head_byte(&mut self, n: usize, byte: u8) -> Answer
-        ensures led { n < 18 → Reaches (head_so_far (take n self.old.head ++ byte ∷ [])) result self.new }
+        ensures led { n < 18 → Reaches [] (head_so_far (take n self.old.head ++ byte ∷ [])) result self.new }
         ensures all { HasAll result self.new }
         ensures sparing { result ≡ Answer.NoMemory → 18 ≤ n }
+        ensures same { self.new.before ≡ self.old.before }
     {
         if n >= 18 {
             return Answer::NoMemory;
@@ -118,9 +124,10 @@ impl Work {
     }
 
     fn head_grown(&mut self) -> Answer
-        ensures led { Reaches (head_so_far self.old.head) result self.new }
+        ensures led { Reaches [] (head_so_far self.old.head) result self.new }
         ensures all { HasAll result self.new }
         ensures sparing { result ≡ Answer.NoMemory → ⊥ }
+        ensures same { self.new.before ≡ self.old.before }
     {
         match head_fault(&self.head) {
             Some(fault) => Answer::Fault(fault),
@@ -129,9 +136,10 @@ impl Work {
     }
 
     fn identifier_left(&mut self, left: u8) -> Answer
-        ensures led { Reaches (identifier_left self.old.head left) result self.new }
+        ensures led { Reaches [] (identifier_left self.old.head left) result self.new }
         ensures all { HasAll result self.new }
         ensures sparing { result ≡ Answer.NoMemory → ⊥ }
+        ensures same { self.new.before ≡ self.old.before }
     {
         if left == 0 {
             return self.begin();
@@ -141,9 +149,10 @@ impl Work {
     }
 
     fn begin(&mut self) -> Answer
-        ensures led { Reaches (body_begun self.old.head) result self.new }
+        ensures led { Reaches [] (body_begun self.old.head) result self.new }
         ensures all { HasAll result self.new }
         ensures sparing { result ≡ Answer.NoMemory → ⊥ }
+        ensures same { self.new.before ≡ self.old.before }
     {
         self.pixels.clear();
         if is_packed(&self.head) {
@@ -155,9 +164,10 @@ impl Work {
     }
 
     fn packet_byte(&mut self, byte: u8) -> Answer
-        ensures led { Reaches (packet_byte self.old.head self.old.pixels byte) result self.new }
+        ensures led { Leads self.old (λ front. packet_byte self.old.head (front ++ self.old.pixels) byte) result self.new }
         ensures all { HasAll result self.new }
         ensures sparing { result ≡ Answer.NoMemory → ⊥ }
+        ensures stays { Stays self.old self.new }
     {
         if byte < 128 {
             self.stage = Stage::Pixels((u64::from(byte) + 1) * u64::from(size(&self.head)));
@@ -169,8 +179,9 @@ impl Work {
     }
 
     fn copies_byte(&mut self, count: u8, byte: u8) -> Answer
-        ensures led { length self.old.pixels ≤ total self.old.head → Reaches (copies_so_far self.old.head self.old.pixels count (self.old.pixel ++ byte ∷ [])) result self.new }
+        ensures led { HasRoom self.old → Leads self.old (λ front. copies_so_far self.old.head (front ++ self.old.pixels) count (self.old.pixel ++ byte ∷ [])) result self.new }
         ensures all { HasAll result self.new }
+        ensures stays { Stays self.old self.new }
     {
         match self.pixel.push_all(&[byte]) {
             Ok(()) => self.copies_so_far(count),
@@ -179,26 +190,35 @@ impl Work {
     }
 
     fn copies_so_far(&mut self, count: u8) -> Answer
-        ensures led { length self.old.pixels ≤ total self.old.head → Reaches (copies_so_far self.old.head self.old.pixels count self.old.pixel) result self.new }
+        ensures led { HasRoom self.old → Leads self.old (λ front. copies_so_far self.old.head (front ++ self.old.pixels) count self.old.pixel) result self.new }
         ensures all { HasAll result self.new }
+        ensures stays { Stays self.old self.new }
     {
         if self.pixel.as_slice().len() < usize::from(size(&self.head)) {
             self.stage = Stage::Copies(count);
             return Answer::More;
         }
-        let end = total(&self.head);
+        let end = self.due();
         match add_copies(&mut self.pixels, self.pixel.as_slice(), count, end) {
             Ok(()) => self.grown(Stage::Packet),
             Err(_) => Answer::NoMemory,
         }
     }
 
+    // How many bytes the pixels have from those in `pixels` on.
+    pub fn due(&self) -> u64
+        ensures { result ≡ total self.now.head - self.now.before }
+    {
+        total(&self.head).saturating_sub(self.before)
+    }
+
     // Goes on at a stage, if pixels are missing.
     fn grown(&mut self, stage: Stage) -> Answer
         ensures led { Grows self.old stage result self.new }
         ensures all { HasAll result self.new }
+        ensures stays { IsBody stage → Stays self.old self.new }
     {
-        if (self.pixels.as_slice().len() as u64) < total(&self.head) {
+        if (self.pixels.as_slice().len() as u64) < self.due() {
             self.stage = stage;
             return Answer::More;
         }
@@ -212,9 +232,10 @@ impl Work {
         ensures within { result.used ≤ length piece.now }
         ensures led { CanStretch left self.old → StretchesBy left self.old piece.now result self.new }
         ensures all { HasAll result.answer self.new }
+        ensures stays { Stays self.old self.new }
     {
         let held = self.pixels.as_slice().len() as u64;
-        let long = part_long(left, total(&self.head).saturating_sub(held), piece.len());
+        let long = part_long(left, self.due().saturating_sub(held), piece.len());
         match self.pixels.push_all(&piece[..long]) {
             Ok(()) => {
                 let left = left.saturating_sub(long as u64);
@@ -235,8 +256,9 @@ impl Work {
         requires { 1 ≤ length piece.now }
         ensures some { 1 ≤ result.used }
         ensures within { result.used ≤ length piece.now }
-        ensures led { IsReached (standing self.old) → Reaches (run (standing self.old) (take result.used piece.now)) result.answer self.new }
+        ensures led { LeadsOn self.old piece.now result self.new }
         ensures all { HasAll result.answer self.new }
+        ensures stays { Stays self.old self.new }
     {
         let byte = piece[0];
         match self.stage {

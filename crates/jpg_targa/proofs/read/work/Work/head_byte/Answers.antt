@@ -10,4 +10,4 @@ last_set head n b long low high = set_split head n b (omega (arith, long, low)) 
 pub returns-clause-led : goal.returns-clause-led
 returns-clause-led c = λ low.
     (let long : length c.args.self.now.head ≡ 18 = search rules in
-    subst (λ x. Reaches (head_so_far x) c.head_grown.result c.head_grown.new.self) (last_set c.args.self.now.head c.args.n c.args.byte long c.if-n-ge18.false c.if-n-lt17.false) c.head_grown.ensures.led)
+    subst (λ x. Reaches [] (head_so_far x) c.head_grown.result c.head_grown.new.self) (last_set c.args.self.now.head c.args.n c.args.byte long c.if-n-ge18.false c.if-n-lt17.false) c.head_grown.ensures.led)

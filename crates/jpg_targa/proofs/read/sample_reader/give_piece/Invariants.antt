@@ -1,0 +1,14 @@
+use Rattle.std.proofs.Common.{◌≤◌, ◌-◌, ◌++◌, ℕ, List, length, take}
+use Rattle.jpg_targa.specs.SampleKinds.{IsGiving, Appends}
+use Rattle.jpg_targa.proofs.read.sample_reader.give_piece.Given as goal
+
+-- what was taken of the piece
+abbrev pub invariant-loop-at : goal.invariant-loop-at
+invariant-loop-at g l = record {
+  inside : l.at ≤ length l.piece;
+  going : IsGiving g.W.SampleWork.kind l.work;
+  gives : (bytes given : List ℕ) → g.W.SampleWork.kind.gives bytes given l.fn.work → Appends l.fn.made l.made (λ more. g.W.SampleWork.kind.gives (bytes ++ take l.at l.piece) (given ++ more) l.work);
+}
+
+abbrev pub decreases-loop-at : goal.decreases-loop-at
+decreases-loop-at g l = length l.piece - l.at
