@@ -3,7 +3,7 @@ use Rattle.std.proofs.Common.{◌≡◌, ℕ, ◌+◌, ◌-◌, ◌≤◌, List,
 use Rattle.std.proofs.lemmas.List.{append_assoc, length-append, length-take-le}
 use Rattle.std.proofs.Math.Seq.{take-append-add}
 use Rattle.jpg_spec.specs.Lists.{below}
-use Rattle.jpg_spec_image.specs.TargaSteps.{TargaState, in_copies, in_pixels, total, grown, pixels_so_far, with_copies, step, run}
+use Rattle.jpg_spec_image.specs.TargaSteps.{TargaState, in_copies, in_pixels, total, grown, pixels_so_far, step, run}
 use Rattle.jpg_spec_image.specs.TargaReading.{RepresentsTarga, InCopies, InPixels}
 use Rattle.jpg_spec_image.proofs.TargaRuns.{pixels_run}
 use Rattle.jpg_spec_image.proofs.TargaStands.{stands}

@@ -6,10 +6,9 @@ use Rattle.std.proofs.Math.Seq.{take-add, take-append-add}
 use Rattle.jpg_spec.specs.Lists.{below}
 use Rattle.jpg_spec.proofs.Basics.Common.{le_of}
 use Rattle.jpg_spec.specs.declared.fault.Fault.{Fault}
-use Rattle.jpg_spec_image.specs.Images.{Image}
 use Rattle.jpg_spec_image.specs.ImageText.{row_bytes, file_samples, turned_round}
 use Rattle.jpg_spec_image.specs.TargaFile.{pixel_size, is_from_top, targa_kind, targa_width, targa_height, targa_info, targa_fault, targa_image}
-use Rattle.jpg_spec_image.specs.TargaSteps.{TargaState, at_start, at_packet, in_copies, in_pixels, whole, failed, total, run}
+use Rattle.jpg_spec_image.specs.TargaSteps.{TargaState, at_start, at_packet, in_copies, in_pixels, whole, total, run}
 use Rattle.jpg_spec_image.specs.TargaReading.{RepresentsTarga, InPackets, InCopies, InPixels, InPacket, InRaw}
 use Rattle.jpg_spec_image.specs.declared.image.ImageInfo.{ImageInfo}
 use Rattle.jpg_spec_image.specs.declared.image.ImageKind.{ImageKind}
@@ -21,7 +20,7 @@ use Rattle.jpg_targa.specs.SampleKinds.{AfterGiven, Appends}
 use Rattle.jpg_pnm_bmp.specs.declared.read.piece.Answer.{Answer}
 use Rattle.jpg_pnm_bmp.specs.declared.read.piece.Answer.TheVariants as answer
 use Rattle.jpg_targa.specs.Reader.{AreBefore, HasAll, IsBody, Reaches, ShowsNone, Stays, image_view, standing, standing_of}
-use Rattle.jpg_targa.specs.Samples.{HasGivenTarga, IsMore, IsWhole, GivesFirst, GivesMore, GivesLast, targa_samples_kind}
+use Rattle.jpg_targa.specs.Samples.{HasGivenTarga, IsWhole, GivesFirst, GivesMore, GivesLast, targa_samples_kind}
 use Rattle.jpg_targa.specs.declared.read.work.Stage.{Stage}
 use Rattle.jpg_targa.specs.declared.read.work.Stage.TheVariants as stage
 use Rattle.jpg_targa.specs.declared.read.work.Work.{Work}

@@ -1,10 +1,10 @@
 -- Targa files whose samples are given as they are read: where they can be given, and which numbers the image has.
-use Rattle.std.proofs.Common.{◌≡◌, ℕ, ◌+◌, ◌*◌, ◌<◌, ◌≤◌, true, List, [], ◌++◌, length, take, drop, refl, sym, ap, ◌∙◌, subst, arith, Option, None, Some, ⊎_elim}
+use Rattle.std.proofs.Common.{◌≡◌, ℕ, ◌+◌, ◌<◌, ◌≤◌, List, [], ◌++◌, length, take, drop, refl, sym, ap, ◌∙◌, subst, arith, Option, None, Some, ⊎_elim}
 use Rattle.std.specs.Prelude.{IfSome, IfNone}
 use Rattle.std.proofs.lemmas.List.{append_assoc, length-append, take_at, take-append-drop}
 use Rattle.jpg_spec.specs.declared.fault.Fault.TheVariants.{ImageShort}
 use Rattle.jpg_spec_image.specs.Images.{Image}
-use Rattle.jpg_spec_image.specs.TargaFile.{identifier_length, is_from_top, targa_info, targa_kind, targa_fault, IsTargaFront}
+use Rattle.jpg_spec_image.specs.TargaFile.{identifier_length, is_from_top, targa_info, targa_kind, IsTargaFront}
 use Rattle.jpg_spec_image.specs.TargaFaults.{IsOpenTarga, IsTargaFault, TargaMeans}
 use Rattle.jpg_spec_image.specs.TargaSteps.{at_start, run}
 use Rattle.jpg_spec_image.specs.TargaReading.{RepresentsTarga, InIdentifier, InPackets, InCopies, InPixels, InPacket, InRaw}

@@ -12,8 +12,8 @@ use jpg_pnm_bmp::Fed2;
 use jpg_spec::Fault;
 use jpg_spec_image::ImageInfo;
 
-/// Gives the samples of a Targa file whose rows come from the top, as they are read. It is made of a `TargaReader`, and
-/// keeps a piece of the file at most.
+/// Gives the samples of a Targa file whose rows come from the top, as they are read. It is made of a `TargaReader`. It keeps
+/// a few thousand bytes of pixels between pieces, and has memory for those of a piece.
 #[derive(Drop)]
 pub struct TargaSamples {
     // What it was given so far.

@@ -112,7 +112,8 @@ fn give_first(work: &mut Work, count: usize, made: &mut Bytes) -> Result<(), NoM
 
 // Gives the samples of whole pixels, once there are enough.
 fn give_more(work: &mut Work, made: &mut Bytes) -> Answer
-    ensures { GivesMore work.old made.old result work.new made.new }
+    ensures given { GivesMore work.old made.old result work.new made.new }
+    ensures few { result ≡ Answer.More → length work.new.pixels < 3072 }
 {
     let held = work.pixels.as_slice().len();
     if held < ENOUGH {

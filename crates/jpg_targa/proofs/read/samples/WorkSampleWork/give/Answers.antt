@@ -1,7 +1,6 @@
 use Rattle.std.proofs.Common.{take, sym, subst}
 use Rattle.jpg_spec_image.specs.TargaSteps.{run}
 use Rattle.jpg_pnm_bmp.specs.declared.read.piece.Answer.{Answer}
-use Rattle.jpg_pnm_bmp.specs.declared.read.piece.Answer.TheVariants as answer
 use Rattle.jpg_targa.specs.Reader.{HasAll, Reaches, standing}
 use Rattle.jpg_targa.proofs.SamplesGiven.{were_before, more_given, last_given, fault_given, none_given}
 use Rattle.jpg_targa.proofs.read.samples.WorkSampleWork.give.Goals as goal
@@ -16,7 +15,7 @@ returns-in-More-clause-given c = λ bytes given g.
     let piece = c.args.piece.now in
     let m = c.advance-used.result in
     let led = subst (λ (a : Answer). Reaches g.front (run (standing g.front old) (take m.used piece)) a w) c.in-More.is (c.advance-used.ensures.led g.front (were_before old bytes given g) (bytes, sym g.stands)) in
-    more_given old w c.give_more.new.work bytes piece given c.args.made.now c.give_more.new.made m.used c.give_more.result g c.advance-used.ensures.stays led c.give_more.ensures
+    more_given old w c.give_more.new.work bytes piece given c.args.made.now c.give_more.new.made m.used c.give_more.result g c.advance-used.ensures.stays led c.give_more.ensures.given
 
 pub returns-in-Whole-clause-given : goal.returns-in-Whole-clause-given
 returns-in-Whole-clause-given c = λ bytes given g.
