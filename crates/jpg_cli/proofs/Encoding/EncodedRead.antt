@@ -1,5 +1,5 @@
 -- An image read and encoded, over the states of a desk.
-use Rattle.std.proofs.Common.{◌≡◌, ℕ, Bool, false, List, [], Option, None, Some, Result, Ok, Err, sym, ◌∙◌, subst, arith}
+use Rattle.std.proofs.Common.{◌≡◌, ℕ, Bool, List, [], Option, None, Some, Result, Ok, Err, sym, ◌∙◌, subst, arith}
 use Rattle.std.specs.Prelude.{IfErr, IfOk}
 use Rattle.jpg_base.specs.declared.names.Name.{Name}
 use Rattle.jpg_base.specs.declared.names.Put.TheVariants as put
@@ -17,8 +17,9 @@ use Rattle.jpg_color.specs.ImageEncoder.{AddsTaken, HasTaken}
 use Rattle.jpg_color.specs.declared.encode.EncodeStop.{EncodeStop}
 use Rattle.jpg_color.specs.declared.encode.EncodeStop.TheVariants as stop
 use Rattle.jpg_pnm_bmp.specs.Made.{IsRightImage}
-use Rattle.jpg_pnm_bmp.specs.PlainSamples.{AreRightNumbers, HasFedSamples}
+use Rattle.jpg_pnm_bmp.specs.PlainSamples.{AreRightNumbers}
 use Rattle.jpg_pnm_bmp.proofs.PlainSamples.{goes_on_plain}
+use Rattle.jpg_targa.proofs.SamplesRead.{goes_on_targa}
 use Rattle.jpg_cli.specs.Tools.ImageWritten.{why_not_encoded}
 use Rattle.jpg_cli.specs.Tools.EncodingAsked.{CanEncodeKind}
 use Rattle.jpg_color.specs.declared.encode.Encoding.{Encoding as Asked}
@@ -29,18 +30,20 @@ use Rattle.jpg_color.specs.declared.encode.image_encoder.ImageEncoder.TheVariant
 use Rattle.jpg_cli.specs.Tools.EncodedRead.{Encodes, EncodedRead, EndsEncoding}
 use Rattle.jpg_desk.specs.EncodedRows.{scan_of}
 use Rattle.jpg_desk.specs.ImageSource.{source_samples, source_taken}
-use Rattle.jpg_desk.specs.ImageTaken.{IsSourceFed}
+use Rattle.jpg_desk.specs.ImageTaken.{IsSourceFed, is_targa}
 use Rattle.jpg_desk.specs.Judging.{NoValueTaken, TakesPieces}
 use Rattle.jpg_desk.specs.ReadImage.{IsImageRead, image_judging}
 use Rattle.jpg_desk.specs.Reading.{rest_of}
-use Rattle.jpg_cli.specs.Tools.SamplesFed.{AfterData, AfterSamples, AreGivenFrom, Begins, FinishesPlanes, GivesData, GoesOnFrom, GoesOnRows, HasDataOf}
+use Rattle.jpg_cli.specs.Tools.SamplesFed.{AfterData, AfterSamples, AreGivenFrom, Begins, CanGoOn, FinishesPlanes, GivesData, GivesRest, GoesOnFrom, GoesOnRows, HasDataOf, HasGivenRest, is_given}
+use Rattle.jpg_cli.specs.declared.tools.cjpeg_image.Rest.{Rest}
 use Rattle.jpg_desk.specs.Stays.{OnlyReads}
 use Rattle.jpg_desk.specs.declared.encoded_rows.EncodedPicture.{EncodedPicture}
 use Rattle.jpg_desk.specs.declared.encoded_rows.EncodedPicture.TheVariants as picture
 use Rattle.jpg_desk.specs.declared.encoded_rows.OneScan.{OneScan}
 use Rattle.jpg_desk.specs.declared.image_source.ImageSource.{ImageSource}
-use Rattle.jpg_desk.proofs.ImageFed.{fed_taken}
-use Rattle.jpg_desk.proofs.ImageTaken.{open_end}
+use Rattle.jpg_desk.specs.declared.image_source.ImageSource.TheVariants as source
+use Rattle.jpg_desk.proofs.ImageFed.{fed_open, fed_taken}
+use Rattle.jpg_desk.proofs.ImageTaken.{open_end, targa_is}
 use Rattle.jpg_desk.proofs.Input.{noted}
 use Rattle.jpg_desk.proofs.PictureTaken.{none_taken, reads_from}
 
@@ -61,21 +64,21 @@ none_encoded targa E s0 s1 other h = absurd h
 
 -- BY AN ENCODER
 
--- from where a reader knows that samples follow
-abbrev pub goes_from : {targa : Bool} {E : Image → Encoding} {start : DeskState} {bytes : List ℕ} {r : ImageSource} {s : Sampler} {now : DeskState} → (targa ≡ false) × Begins E None bytes (source_samples r) (encoder.Planes s) → IsSourceFed targa start bytes r now
+-- from where a reader knows that its samples can be given
+abbrev pub goes_from : {targa : Bool} {E : Image → Encoding} {start : DeskState} {bytes : List ℕ} {r : ImageSource} {s : Sampler} {now : DeskState} → Begins E None bytes r (encoder.Planes s) → IsSourceFed targa start bytes r now
     → GoesOnFrom E None start bytes r (encoder.Planes s) now
-goes_from {start = start} {bytes} {r} {now = now} b h = record { begun = b.1; read = subst (λ (t : Bool). IsSourceFed t start bytes r now) b.0 h }
+goes_from {targa} {start = start} {bytes} {r} {now = now} b h = record { begun = b; read = subst (λ (t : Bool). IsSourceFed t start bytes r now) (targa_is targa bytes r h.goes.fed) h }
 
-pub begun_given : {E : Image → Encoding} {w : Option RowScan} {start : DeskState} {bytes samples : List ℕ} {r : ImageSource} {s0 s1 : ImageEncoder} {taken : ℕ} {now : DeskState} (h : GoesOnFrom E w start bytes r s0 now) → samples ≡ source_samples r → taken ≡ source_taken r → AddsTaken s0 samples s1
-    → AreGivenFrom s0 start bytes (record { encoder = s1; taken = taken }) now
-begun_given {w = w} {bytes = bytes} {samples = samples} {r} h same count adds = record {
+pub begun_given : {E : Image → Encoding} {w : Option RowScan} {start : DeskState} {bytes samples made : List ℕ} {r : ImageSource} {rest : Rest} {s0 s1 : ImageEncoder} {taken : ℕ} {now : DeskState} (h : GoesOnFrom E w start bytes r s0 now) → samples ≡ source_samples r → taken ≡ source_taken r → GivesRest r rest → AddsTaken s0 samples s1
+    → AreGivenFrom s0 start bytes (record { encoder = s1; rest = rest; made = made; taken = taken }) now
+begun_given {w = w} {bytes = bytes} {samples = samples} {r = r} {rest = rest} h same count gives adds = record {
   given = record {
     info = (h.begun).info;
     given = samples;
     begun = (w, (h.begun).asked, (h.begun).sampled);
     sampled = λ v a k. adds v (h.begun).info a [] k;
-    fed = subst (HasFedSamples (h.begun).info _) (sym same) (h.begun).fed;
-    taken_is = count ∙ fed_taken false bytes r h.read.goes.fed;
+    fed = subst (λ (x : List ℕ). HasGivenRest (is_given rest) (h.begun).info bytes x rest) (sym same) (gives.1 (h.begun).info bytes h.read.goes.fed (h.begun).goes);
+    taken_is = count ∙ fed_taken (is_targa r) bytes r h.read.goes.fed;
     short = h.read.goes.short;
   };
   kept = h.read.kept;
@@ -83,20 +86,20 @@ begun_given {w = w} {bytes = bytes} {samples = samples} {r} h same count adds = 
 }
 
 -- there was no memory for the first samples
-pub begun_unheld : {E : Image → Encoding} {w : Option RowScan} {start : DeskState} {bytes : List ℕ} {r : ImageSource} {s : ImageEncoder} {now : DeskState} → GoesOnFrom E w start bytes r s now → OnlyReads start now × NoValueTaken (image_judging false) start why.NoMemory now
+pub begun_unheld : {E : Image → Encoding} {w : Option RowScan} {start : DeskState} {bytes : List ℕ} {r : ImageSource} {s : ImageEncoder} {now : DeskState} → GoesOnFrom E w start bytes r s now → OnlyReads start now × NoValueTaken (image_judging (is_targa r)) start why.NoMemory now
 begun_unheld {bytes = bytes} {r} h =
     let short = h.read.goes.short in
-    (h.read.kept, (bytes, h.read.read, omega (arith, short), open_end false bytes (goes_on_plain (h.begun).info bytes (source_samples r) (h.begun).fed).open_yet short))
+    (h.read.kept, (bytes, h.read.read, omega (arith, short), open_end (is_targa r) bytes (fed_open (is_targa r) bytes r h.read.goes.fed) short))
 
-pub all_encoded : {E : Image → Encoding} (start now : DeskState) {bytes given : List ℕ} {s0 s1 : ImageEncoder} (b : Begins E None bytes given s0) (answer : Result EncodedPicture Why) → AfterSamples None b.info b.asked start (Ok s1) now → FinishesPlanes s1 answer
-    → EndsEncoding false E start answer now
-all_encoded {E} start now b answer (all, read, most, g) ends =
-    image_encoded false E start now (image_of b.info g.samples) answer (all, read, most, g.read) (ends E b.info b.asked g.samples b.like g.sampled g.count g.right)
+pub all_encoded : {targa : Bool} {E : Image → Encoding} (start now : DeskState) {bytes : List ℕ} {r : ImageSource} {s0 s1 : ImageEncoder} (b : Begins E None bytes r s0) (answer : Result EncodedPicture Why) → AfterSamples targa None b.info b.asked start (Ok s1) now → FinishesPlanes s1 answer
+    → EndsEncoding targa E start answer now
+all_encoded {targa} {E} start now b answer (all, read, most, g) ends =
+    image_encoded targa E start now (image_of b.info g.samples) answer (all, read, most, g.read) (ends E b.info b.asked g.samples b.like g.sampled g.count g.right)
 
 -- as the data of one scan; or there was no memory for them
-pub data_ended : {w : RowScan} {info : ImageInfo} {a : Asked} (start now : DeskState) {s1 : ImageEncoder} (answer : Result (List ℕ) Why) → AfterSamples (Some w) info a start (Ok s1) now → IfOk answer (GivesData s1) → IfErr answer (λ e. e ≡ why.NoMemory) → AfterData w info a start answer now
-data_ended {w} {info} {a} start now (Ok text) (all, read, most, g) gives memory = record { samples = g.samples; read = (all, read, most, g.read); right = g.right; written = gives w info a g.samples g.sampled }
-data_ended start now (Err ended) (all, read, most, g) gives memory = subst (λ (e : Why). NoValueTaken (image_judging false) start e now) (sym memory) (all, read, most, (g.read).read)
+pub data_ended : {targa : Bool} {w : RowScan} {info : ImageInfo} {a : Asked} (start now : DeskState) {s1 : ImageEncoder} (answer : Result (List ℕ) Why) → AfterSamples targa (Some w) info a start (Ok s1) now → IfOk answer (GivesData s1) → IfErr answer (λ e. e ≡ why.NoMemory) → AfterData targa w info a start answer now
+data_ended {w = w} {info} {a} start now (Ok text) (all, read, most, g) gives memory = record { samples = g.samples; read = (all, read, most, g.read); right = g.right; written = gives w info a g.samples g.sampled }
+data_ended {targa} start now (Err ended) (all, read, most, g) gives memory = subst (λ (e : Why). NoValueTaken (image_judging targa) start e now) (sym memory) (all, read, most, (g.read).read)
 
 -- by an encoder of rows, of a sampler
 abbrev pub rows_go : {E : Image → Encoding} {start : DeskState} {bytes : List ℕ} {r : ImageSource} {s : Sampler} {o : OneScan} {now : DeskState} (w : RowScan) (rows : RowEncoder) → BeginsRows s w rows → w ≡ scan_of o → GoesOnRows E start bytes r s o now
@@ -104,15 +107,15 @@ abbrev pub rows_go : {E : Image → Encoding} {start : DeskState} {bytes : List 
 rows_go {o = o} w rows begins same h =
     let b = (h.goes).begun in
     record {
-      begun = record { info = b.info; asked = b.asked; like = b.like; fed = b.fed; sampled = subst (λ (v : RowScan). HasTaken (Some v) b.info b.asked [] (encoder.Rows rows)) same (begins b.info b.asked b.sampled) };
+      begun = record { info = b.info; asked = b.asked; like = b.like; goes = b.goes; sampled = subst (λ (v : RowScan). HasTaken (Some v) b.info b.asked [] (encoder.Rows rows)) same (begins b.info b.asked b.sampled) };
       read = (h.goes).read;
     }
 
 pub rows_encoded : {E : Image → Encoding} {start : DeskState} {bytes : List ℕ} {r : ImageSource} {s0 : Sampler} {o : OneScan} {old now : DeskState} (h : GoesOnRows E start bytes r s0 o old) (text : List ℕ)
-    → HasDataOf (scan_of o) ((h.goes).begun).info ((h.goes).begun).asked start text now → EndsEncoding false E start (Ok (picture.Rows (record { file = o; bytes = text }))) now
-rows_encoded {E} {start} {o = o} {now = now} h text g =
+    → HasDataOf (is_targa r) (scan_of o) ((h.goes).begun).info ((h.goes).begun).asked start text now → EndsEncoding (is_targa r) E start (Ok (picture.Rows (record { file = o; bytes = text }))) now
+rows_encoded {E} {start} {r = r} {o = o} {now = now} h text g =
     let b = (h.goes).begun in
-    image_encoded false E start now (image_of b.info g.samples) (Ok (picture.Rows (record { file = o; bytes = text }))) g.read
+    image_encoded (is_targa r) E start now (image_of b.info g.samples) (Ok (picture.Rows (record { file = o; bytes = text }))) g.read
     ((h.one).makes g.samples text g.right g.written)
 
 -- FROM THE NAME
@@ -138,6 +141,11 @@ can_sample info a k n = record {
   first = k.first;
   others = k.others;
 }
+
+-- of one whose samples come
+pub numbers_right : (info : ImageInfo) (bytes : List ℕ) (r : ImageSource) → CanGoOn info bytes r → AreRightNumbers info
+numbers_right info bytes (source.Pixels r) h = (goes_on_plain info bytes (source_samples (source.Pixels r)) h).numbers
+numbers_right info bytes (source.Targa r) h = (goes_on_targa info bytes h.0).numbers
 
 -- of an image that was read
 pub right_numbers : (I : Image) → IsRightImage I → AreRightNumbers I.info

@@ -1,8 +1,10 @@
 -- Samples given to an encoder while they are read.
-use Rattle.std.proofs.Common.{◌≡◌, ℕ, ◌+◌, ◌-◌, ◌<◌, ◌≤◌, min, Bool, true, false, List, [], ◌++◌, length, take, Option, None, Some, Result, Ok, Err, sym, ap, ◌∙◌, subst, arith, ⊎_elim}
+use Rattle.std.proofs.Common.{◌≡◌, ℕ, zero, suc, ◌+◌, ◌<◌, ◌≤◌, min, Bool, true, false, List, [], ◌∷◌, ◌++◌, length, take, Option, None, Some, Result, Ok, Err, refl, sym, ap, ◌∙◌, subst, arith, ⊎_elim}
 use Rattle.std.proofs.lemmas.Bool.{cases_lt}
-use Rattle.std.proofs.lemmas.List.{append-nil, length-append, length-take-le, take_all}
-use Rattle.std.proofs.Math.Seq.{take-append-add}
+use Rattle.std.proofs.lemmas.List.{append-nil, length-append, length-take, length-take-le, take_all, take_min}
+use Rattle.std.proofs.lemmas.List.Elements.{All-append}
+use Rattle.jpg_base.specs.declared.stop.Stop.{Stop}
+use Rattle.jpg_base.specs.declared.stop.Stop.TheVariants as stop
 use Rattle.jpg_base.specs.Desk.{DeskState}
 use Rattle.jpg_spec.specs.Segments.{standard_limits}
 use Rattle.jpg_spec.specs.declared.fault.Fault.TheVariants.{ImageShort, InputTooLong}
@@ -18,17 +20,27 @@ use Rattle.jpg_color.specs.declared.encode.Encoding.{Encoding as Asked}
 use Rattle.jpg_color.specs.declared.encode.image_encoder.ImageEncoder.{ImageEncoder}
 use Rattle.jpg_color.specs.declared.encode.image_encoder.ImageEncoder.TheVariants as encoder
 use Rattle.jpg_pnm_bmp.specs.Made.{AreBytes, IsRightImage}
-use Rattle.jpg_pnm_bmp.specs.PlainSamples.{CompletesPlain, GoesOnPlain}
+use Rattle.jpg_pnm_bmp.specs.PlainSamples.{GoesOnPlain, HasFedSamples}
+use Rattle.jpg_pnm_bmp.specs.declared.read.piece.Fed2.{Fed2}
+use Rattle.jpg_pnm_bmp.specs.declared.read.piece.Fed2.TheVariants as fed
 use Rattle.jpg_pnm_bmp.proofs.PlainSamples.{goes_on_plain}
-use Rattle.jpg_desk.specs.ImageFile.{HasFaultIn, HasImageIn}
-use Rattle.jpg_desk.specs.Pump.{AfterInput, AfterTaking, EndsAll, IsFed, ReadsInput, TakesEnd, TakesPiece, of_reader}
+use Rattle.jpg_spec_image.proofs.OpenTarga.{open_few}
+use Rattle.jpg_targa.specs.SampleKinds.{Appends}
+use Rattle.jpg_targa.specs.TargaGiven.{AfterGiven, Gives, IsBegunTarga, given_info}
+use Rattle.jpg_targa.specs.declared.read.given.TargaSamples.{TargaSamples}
+use Rattle.jpg_targa.proofs.SamplesRead.{given_open, given_short, goes_on_targa}
+use Rattle.jpg_desk.specs.ImageFile.{HasFaultIn, HasImageIn, IsOpenIn}
+use Rattle.jpg_desk.specs.Pump.{AfterInput, AfterTaking, EndsAll, IsFed, ReadsInput, TakesEnd, TakesPiece, of_reader, why_stopped}
 use Rattle.jpg_desk.specs.Judging.{NoValueTaken, TakesPieces}
-use Rattle.jpg_desk.specs.ReadImage.{IsFaultRead, image_judging}
+use Rattle.jpg_desk.specs.ReadImage.{IsFaultRead, IsShortImageRead, image_judging}
 use Rattle.jpg_desk.specs.Reading.{rest_of}
 use Rattle.jpg_desk.specs.Stays.{OnlyReads}
+use Rattle.jpg_desk.proofs.ImageFed.{right_image}
 use Rattle.jpg_desk.proofs.ImageTaken.{open_end, open_more, open_read, open_too_long}
 use Rattle.jpg_desk.proofs.Pumped.{all_read}
-use Rattle.jpg_cli.specs.Tools.SamplesFed.{AfterSamples, AreAll, AreAllGiven, AreGiven, AreGivenFrom, IsAllGiven, TakesSome, samples_reader}
+use Rattle.jpg_cli.specs.Tools.SamplesFed.{AfterSamples, AreAll, AreAllGiven, AreGiven, AreGivenFrom, HasGivenRest, IsAllGiven, IsGivenTarga, TakesSome, is_done, is_given, samples_reader}
+use Rattle.jpg_cli.specs.declared.tools.cjpeg_image.Rest.{Rest}
+use Rattle.jpg_cli.specs.declared.tools.cjpeg_image.Rest.TheVariants as gives
 use Rattle.jpg_cli.specs.declared.tools.cjpeg_image.SamplesSink.{SamplesSink}
 
 -- HOW MANY ARE LEFT, and of which image
@@ -49,88 +61,108 @@ numbers_are None info a given (encoder.Rows r) h = absurd h
 numbers_are (Some w) info a given (encoder.Planes s) h = absurd h
 numbers_are (Some w) info a given (encoder.Rows r) h = h.0.sampled.numbers
 
--- A PIECE
+-- FROM THE BYTES SO FAR
 
-module _ {from : ImageEncoder} {bytes : List ℕ} {s0 : SamplesSink} (g : AreGiven from bytes s0) where
-  goes : GoesOnPlain g.info bytes g.given
-  goes = goes_on_plain g.info bytes g.given g.fed
+take_rest : (n left : ℕ) (all more : List ℕ) → length (take n all) + left ≡ n → take n all ++ take (min left (length more)) more ≡ take n (all ++ more)
+take_rest zero left all more h = (let none : left ≡ 0 = omega (arith, h) in ap (λ k. take (min k (length more)) more) none)
+take_rest (suc n) left [] more h = take_min left more ∙ ap (λ k. take k more) h
+take_rest (suc n) left (x ∷ all) more h = ap (λ (l : List ℕ). x ∷ l) (take_rest n left all more (omega (arith, h)))
 
+-- no prefix is complete or has a fault, and where they end the file is too short
+stands_yet : (targa : Bool) (r : Rest) {info : ImageInfo} {bytes given : List ℕ} → HasGivenRest targa info bytes given r
+    → IsOpenIn targa bytes × (length bytes < standard_limits.input → HasFaultIn targa bytes (record { fault = ImageShort; at = length bytes }))
+stands_yet false gives.Plain {info} {bytes} {given} h = (let goes = goes_on_plain info bytes given h in (goes.open_yet, goes.short standard_limits))
+stands_yet true (gives.Given r) {bytes = bytes} h = (let w = h.has.2.gives in (given_open bytes h.all r.reader.work w, λ less. given_short bytes h.all r.reader.work w))
+stands_yet true gives.Plain h = absurd h
+stands_yet false (gives.Given r) h = absurd h
+
+module _ {targa : Bool} {from : ImageEncoder} {bytes : List ℕ} {s0 : SamplesSink} (g : AreGiven targa from bytes s0) where
   -- the samples that it has
   pub has : HasTaken (g.begun).0 g.info (g.begun).1 g.given s0.encoder
   has = g.sampled (g.begun).0 (g.begun).1 (g.begun).2
 
-  count_is : length g.given + encoder_left s0.encoder ≡ sample_count g.info
-  count_is = count_of (g.begun).0 g.info (g.begun).1 g.given s0.encoder has
+  yet : IsOpenIn targa bytes × (length bytes < standard_limits.input → HasFaultIn targa bytes (record { fault = ImageShort; at = length bytes }))
+  yet = stands_yet targa s0.rest g.fed
 
-  some_left : encoder_left s0.encoder ≡ 0 → ⊥
-  some_left none = (let few = (g.fed).few in let c = count_is in omega (arith, few, c, none))
+  short_read : (piece : List ℕ) → length piece ≤ 16384 → IsShortImageRead targa (bytes ++ piece)
+  short_read piece few = open_more targa bytes piece yet.0 g.short (omega (arith, few))
 
-  module _ (s1 : SamplesSink) (piece : List ℕ) (takes : TakesSome s0.encoder piece s1.encoder) where
-    more_given : s1.taken ≡ s0.taken + length piece → length (bytes ++ piece) < standard_limits.input → length (g.given ++ piece) < sample_count g.info → AreGiven from (bytes ++ piece) s1
-    more_given count short few =
-        let c = count_is in
-        let l = length-append g.given piece in
-        let left = encoder_left s0.encoder in
-        let all : take (min left (length piece)) piece ≡ piece = (let e : min left (length piece) ≡ length piece = omega (arith, few, c, l) in ap (λ n. take n piece) e ∙ take_all (length piece) piece (omega arith)) in
-        record {
-          info = g.info;
-          given = g.given ++ piece;
-          begun = g.begun;
-          sampled = λ w a h. subst (λ x. HasTaken w g.info a (g.given ++ x) s1.encoder) all (takes.1 w g.info a g.given (g.sampled w a h));
-          fed = goes.more piece takes.0 few;
-          taken_is = count ∙ ap (λ n. n + length piece) g.taken_is ∙ sym (length-append bytes piece);
-          short = short;
-        }
+  -- more samples are given to it
+  module _ (s1 : SamplesSink) (made : List ℕ) (takes : TakesSome s0.encoder made s1.encoder) where
+    abbrev now : List ℕ
+    now = g.given ++ take (min (encoder_left s0.encoder) (length made)) made
 
-    all_given : length piece ≤ 16384 → length (bytes ++ piece) ≤ standard_limits.input → sample_count g.info ≤ length (g.given ++ piece) → (rest : List ℕ) → AreAllGiven from rest (bytes ++ piece) s1.encoder
-    all_given few most enough rest =
-        let c = count_is in
-        let l = length-append g.given piece in
-        let left = encoder_left s0.encoder in
-        let e : min left (length piece) ≡ left = omega (arith, enough, c, l) in
-        let long = length-take-le left piece (omega (arith, enough, c, l)) in
-        let taken_are : g.given ++ take left piece ≡ take (sample_count g.info) (g.given ++ piece) = sym (ap (λ n. take n (g.given ++ piece)) (sym c) ∙ take-append-add g.given piece left) in
-        let done : CompletesPlain g.info bytes g.given piece = goes.whole piece takes.0 enough in
-        record {
-          info = g.info;
-          samples = g.given ++ take left piece;
-          begun = g.begun;
-          sampled = λ w a h. subst (λ n. HasTaken w g.info a (g.given ++ take n piece) s1.encoder) e (takes.1 w g.info a g.given (g.sampled w a h));
-          count = (let k = length-append g.given (take left piece) in omega (arith, k, long, c));
-          read = record {
-            is = subst (λ xs. HasImageIn false ((bytes ++ piece) ++ rest) (image_of g.info xs)) (sym taken_are) (done.image standard_limits rest most);
-            read = open_more false bytes piece goes.open_yet g.short (omega (arith, few));
-          };
-          right = subst (λ xs. IsRightImage (image_of g.info xs)) (sym taken_are) done.right;
-        }
+    now_is : (all : List ℕ) → g.given ≡ take (sample_count g.info) all → now ≡ take (sample_count g.info) (all ++ made)
+    now_is all is =
+        let c = count_of (g.begun).0 g.info (g.begun).1 g.given s0.encoder has in
+        let l = ap length is in
+        ap (λ (x : List ℕ). x ++ take (min (encoder_left s0.encoder) (length made)) made) is ∙ take_rest (sample_count g.info) (encoder_left s0.encoder) all made (omega (arith, c, l))
 
-    -- how many are left then
-    left_now : encoder_left s1.encoder ≡ encoder_left s0.encoder - min (encoder_left s0.encoder) (length piece)
-    left_now =
-        let n = min (encoder_left s0.encoder) (length piece) in
-        let c = count_is in
-        let after = count_of (g.begun).0 g.info (g.begun).1 (g.given ++ take n piece) s1.encoder (takes.1 (g.begun).0 g.info (g.begun).1 g.given has) in
-        let l = length-append g.given (take n piece) in
-        let k = length-take-le n piece (omega arith) in
-        omega (arith, c, after, l, k)
+    left_now : length now + encoder_left s1.encoder ≡ sample_count g.info
+    left_now = count_of (g.begun).0 g.info (g.begun).1 now s1.encoder (takes.1 (g.begun).0 g.info (g.begun).1 g.given has)
 
--- for all that was given before
+    more_given : (piece : List ℕ) → HasGivenRest targa g.info (bytes ++ piece) now s1.rest → s1.taken ≡ s0.taken + length piece → length (bytes ++ piece) < standard_limits.input → AreGiven targa from (bytes ++ piece) s1
+    more_given piece fed count short = record {
+      info = g.info;
+      given = now;
+      begun = g.begun;
+      sampled = λ w a h. takes.1 w g.info a g.given (g.sampled w a h);
+      fed = fed;
+      taken_is = count ∙ ap (λ n. n + length piece) g.taken_is ∙ sym (length-append bytes piece);
+      short = short;
+    }
+
+    all_given : (piece rest : List ℕ) → length piece ≤ 16384 → IsRightImage (image_of g.info now) → HasImageIn targa ((bytes ++ piece) ++ rest) (image_of g.info now) → AreAllGiven targa from rest (bytes ++ piece) s1.encoder
+    all_given piece rest few right is = record {
+      info = g.info;
+      samples = now;
+      begun = g.begun;
+      sampled = λ w a h. takes.1 w g.info a g.given (g.sampled w a h);
+      count = right.count;
+      read = record { is = is; read = short_read piece few };
+      right = right;
+    }
+
+-- A PIECE, for all that was given before
+
+is_plain : (targa : Bool) {info : ImageInfo} {bytes given : List ℕ} → HasGivenRest targa info bytes given gives.Plain → (targa ≡ false) × HasFedSamples info bytes given
+is_plain false h = (refl, h)
+is_plain true h = absurd h
+
+by_targa : (targa : Bool) {info : ImageInfo} {bytes given : List ℕ} (r : TargaSamples) → HasGivenRest targa info bytes given (gives.Given r) → (targa ≡ true) × IsGivenTarga info bytes given r
+by_targa true r h = (refl, h)
+by_targa false r h = absurd h
+
 module _ (old new : SamplesSink) (piece : List ℕ) (few : length piece ≤ 16384) where
-  pub samples_taken : (answer : Result Bool Why) → TakesSome old.encoder piece new.encoder → new.taken ≡ old.taken + length piece → AreAll new answer → TakesPiece samples_reader old piece answer new
-  samples_taken answer takes count all from bytes h most = by answer all
+  -- there was no memory
+  pub samples_lost : TakesPiece samples_reader old piece (Err why.NoMemory) new
+  samples_lost from bytes h most = short_read h piece few
+
+  -- its bytes are samples
+  pub samples_taken : (answer : Result Bool Why) → old.rest ≡ gives.Plain → new.rest ≡ gives.Plain → TakesSome old.encoder piece new.encoder → new.taken ≡ old.taken + length piece → AreAll new answer → TakesPiece samples_reader old piece answer new
+  samples_taken answer was is takes count all from bytes h most = by answer all
     where
-      left : ℕ
-      left = encoder_left old.encoder
+      n : ℕ
+      n = sample_count h.info
 
-      same : encoder_left new.encoder ≡ left - min left (length piece)
-      same = left_now h new piece takes
+      targa : Bool
+      targa = is_given from.rest
 
-      still : (encoder_left new.encoder ≡ 0 → ⊥) → length (h.given ++ piece) < sample_count h.info
+      plain : (targa ≡ false) × HasFedSamples h.info bytes h.given
+      plain = is_plain targa (subst (HasGivenRest targa h.info bytes h.given) was h.fed)
+
+      goes : GoesOnPlain h.info bytes h.given
+      goes = goes_on_plain h.info bytes h.given plain.1
+
+      first : now h new piece takes ≡ take n (h.given ++ piece)
+      first = now_is h new piece takes h.given (let f = plain.1.few in sym (take_all n h.given (omega (arith, f))))
+
+      still : (encoder_left new.encoder ≡ 0 → ⊥) → length (h.given ++ piece) < n
       still some =
           ⊎_elim
-          (λ (a : length (h.given ++ piece) < sample_count h.info). a)
-          (λ (a : sample_count h.info ≤ length (h.given ++ piece)). (let c = count_is h in let l = length-append h.given piece in let k = same in absurd (some (omega (arith, a, c, l, k)))))
-          (cases_lt (length (h.given ++ piece)) (sample_count h.info))
+          (λ (a : length (h.given ++ piece) < n). a)
+          (λ (a : n ≤ length (h.given ++ piece)). (let c = left_now h new piece takes in let l = ap length first ∙ length-take-le n (h.given ++ piece) a in absurd (some (omega (arith, c, l)))))
+          (cases_lt (length (h.given ++ piece)) n)
 
       taken : new.taken ≡ length (bytes ++ piece)
       taken = count ∙ ap (λ n. n + length piece) h.taken_is ∙ sym (length-append bytes piece)
@@ -142,37 +174,92 @@ module _ (old new : SamplesSink) (piece : List ℕ) (few : length piece ≤ 1638
           (λ (a : standard_limits.input ≤ length (bytes ++ piece)). (let t = taken in absurd (over (omega (arith, a, most, t)))))
           (cases_lt (length (bytes ++ piece)) standard_limits.input)
 
-      by : (answer : Result Bool Why) → AreAll new answer → AfterTaking samples_reader from (bytes ++ piece) answer new
-      by (Ok false) k = (more_given h new piece takes count (short k.1) (still k.0), short k.1)
-      by (Ok true) none = λ rest. all_given h new piece takes few most (let c = count_is h in let l = length-append h.given piece in let k = same in omega (arith, none, c, l, k)) rest
-      by (Err e) k = subst (λ (v : Why). AfterTaking samples_reader from (bytes ++ piece) (Err v) new) (sym k.0)
-          (λ rest. open_too_long (bytes ++ piece) rest (goes_on_plain h.info (bytes ++ piece) (h.given ++ piece) ((goes h).more piece takes.0 (still k.1))).open_yet (sym taken ∙ k.2))
+      fed : length (h.given ++ piece) < n → HasGivenRest targa h.info (bytes ++ piece) (now h new piece takes) new.rest
+      fed less =
+          let all : now h new piece takes ≡ h.given ++ piece = first ∙ take_all n (h.given ++ piece) (omega (arith, less)) in
+          let plainly : HasGivenRest false h.info (bytes ++ piece) (now h new piece takes) gives.Plain = subst (HasFedSamples h.info (bytes ++ piece)) (sym all) (goes.more piece takes.0 less) in
+          subst (λ (t : Bool). HasGivenRest t h.info (bytes ++ piece) (now h new piece takes) new.rest) (sym plain.0) (subst (HasGivenRest false h.info (bytes ++ piece) (now h new piece takes)) (sym is) plainly)
 
-  -- there was no memory
-  pub samples_lost : TakesPiece samples_reader old piece (Err why.NoMemory) new
-  samples_lost from bytes h most = open_more false bytes piece (goes h).open_yet h.short (omega (arith, few))
+      by : (answer : Result Bool Why) → AreAll new answer → AfterTaking samples_reader from (bytes ++ piece) answer new
+      by (Ok false) k = (more_given h new piece takes piece (fed (still k.0)) count (short k.1), short k.1)
+      by (Ok true) none =
+          let enough : n ≤ length (h.given ++ piece) = (let c = left_now h new piece takes in let l = ap length first ∙ length-take n (h.given ++ piece) in omega (arith, none, c, l)) in
+          let done = goes.whole piece takes.0 enough in
+          λ rest. all_given h new piece takes piece rest few (subst (λ xs. IsRightImage (image_of h.info xs)) (sym first) done.right)
+              (subst (λ (t : Bool). HasImageIn t ((bytes ++ piece) ++ rest) (image_of h.info (now h new piece takes))) (sym plain.0)
+              (subst (λ xs. HasImageIn false ((bytes ++ piece) ++ rest) (image_of h.info xs)) (sym first) (done.image standard_limits rest most)))
+      by (Err e) k = subst (λ (v : Why). AfterTaking samples_reader from (bytes ++ piece) (Err v) new) (sym k.0)
+          (λ rest. subst (λ (t : Bool). IsFaultRead t (record { fault = InputTooLong; at = standard_limits.input }) rest (bytes ++ piece)) (sym plain.0)
+          (open_too_long (bytes ++ piece) rest (goes_on_plain h.info (bytes ++ piece) (h.given ++ piece) (goes.more piece takes.0 (still k.1))).open_yet (sym taken ∙ k.2)))
+
+  -- a reader of Targa gives them
+  module _ {r0 r1 : TargaSamples} {made : List ℕ} (small : AreBytes piece) (was : old.rest ≡ gives.Given r0) where
+    given_by : {from : SamplesSink} {bytes : List ℕ} (h : AreGiven (is_given from.rest) from.encoder bytes old) → (is_given from.rest ≡ true) × IsGivenTarga h.info bytes h.given r0
+    given_by {from} {bytes} h = by_targa (is_given from.rest) r0 (subst (HasGivenRest (is_given from.rest) h.info bytes h.given) was h.fed)
+
+    pub targa_stopped : (ended : Stop) → Gives r0 piece [] (Err ended) r1 made → TakesPiece samples_reader old piece (Err (why_stopped ended)) new
+    targa_stopped (stop.Fault f) g from bytes h most =
+        let t = given_by h in
+        λ rest. record { is = subst (λ (b : Bool). HasFaultIn b ((bytes ++ piece) ++ rest) f) (sym t.0) ((g bytes (t.1).all (t.1).has).2 rest); read = short_read h piece few }
+    targa_stopped stop.NoMemory g = samples_lost
+
+    pub targa_taken : (answer : Fed2) → Gives r0 piece [] (Ok answer) r1 made → new.rest ≡ gives.Given r1 → TakesSome old.encoder made new.encoder → new.taken ≡ old.taken + length piece → TakesPiece samples_reader old piece (Ok (is_done answer)) new
+    targa_taken answer g is takes count from bytes h most = by answer (g bytes (t.1).all (t.1).has)
+      where
+        t : (is_given from.rest ≡ true) × IsGivenTarga h.info bytes h.given r0
+        t = given_by h
+
+        begun : IsBegunTarga h.info (bytes ++ piece)
+        begun = (goes_on_targa h.info bytes (t.1).begun).more piece
+
+        all_small : AreBytes (bytes ++ piece)
+        all_small = All-append (λ b. b < 256) bytes piece (t.1).bytes_all small
+
+        by : (answer : Fed2) → Appends [] made (λ more. AfterGiven bytes piece ((t.1).all ++ more) (Ok answer) r1) → AfterTaking samples_reader from (bytes ++ piece) (Ok (is_done answer)) new
+        by fed.More (more, e, k) =
+            let less = open_few (bytes ++ piece) all_small (given_open (bytes ++ piece) ((t.1).all ++ more) r1.reader.work k.2.gives) in
+            let short : length (bytes ++ piece) < standard_limits.input = omega (arith, less) in
+            let fed : HasGivenRest true h.info (bytes ++ piece) (now h new made takes) (gives.Given r1) = record {
+              all = (t.1).all ++ more;
+              has = k;
+              begun = begun;
+              bytes_all = all_small;
+              given_is = now_is h new made takes (t.1).all (t.1).given_is ∙ ap (λ (x : List ℕ). take (sample_count h.info) ((t.1).all ++ x)) e;
+            } in
+            (more_given h new made takes piece (subst (λ (b : Bool). HasGivenRest b h.info (bytes ++ piece) (now h new made takes) new.rest) (sym t.0) (subst (HasGivenRest true h.info (bytes ++ piece) (now h new made takes)) (sym is) fed)) count short, short)
+        by fed.Done (more, e, k) =
+            let whole = (t.1).all ++ more in
+            let I = image_of (given_info r1) whole in
+            let right : IsRightImage I = right_image true ((bytes ++ piece) ++ []) I (k []) (subst AreBytes (sym (append-nil (bytes ++ piece))) all_small) in
+            let info : given_info r1 ≡ h.info = (goes_on_targa h.info (bytes ++ piece) begun).image [] I (k []) in
+            let count = right.count ∙ ap sample_count info in
+            let samples : whole ≡ now h new made takes = sym (now_is h new made takes (t.1).all (t.1).given_is ∙ ap (λ (x : List ℕ). take (sample_count h.info) ((t.1).all ++ x)) e ∙ take_all (sample_count h.info) whole (omega (arith, count))) in
+            let same : I ≡ image_of h.info (now h new made takes) = ap (λ (i : ImageInfo). image_of i whole) info ∙ ap (image_of h.info) samples in
+            λ rest. all_given h new made takes piece rest few (subst IsRightImage same right)
+                (subst (λ (b : Bool). HasImageIn b ((bytes ++ piece) ++ rest) (image_of h.info (now h new made takes))) (sym t.0) (subst (HasImageIn true ((bytes ++ piece) ++ rest)) same (k rest)))
 
 -- WHERE IT ENDS
 
 pub samples_short : (old : SamplesSink) (answer : Why) → answer ≡ why.Refused (record { fault = ImageShort; at = old.taken }) → TakesEnd samples_reader old (Err answer) old
 samples_short old answer is from bytes h less =
+    let targa = is_given from.rest in
     let f : FaultAt = record { fault = ImageShort; at = length bytes } in
-    let shown : IsFaultRead false f [] bytes = record { is = subst (λ (b : List ℕ). HasFaultIn false b f) (sym (append-nil bytes)) ((goes h).short standard_limits less); read = open_end false bytes (goes h).open_yet less } in
+    let shown : IsFaultRead targa f [] bytes = record { is = subst (λ (b : List ℕ). HasFaultIn targa b f) (sym (append-nil bytes)) ((yet h).1 less); read = open_end targa bytes (yet h).0 less } in
     subst (λ (v : Why). AfterInput samples_reader from bytes (Err v) old) (sym (is ∙ ap (λ n. why.Refused (record { fault = ImageShort; at = n })) h.taken_is)) shown
 
 -- ALL OF IT
 
 -- an encoder that had none
-abbrev pub at_first : ImageEncoder → SamplesSink
-at_first from = record { encoder = from; taken = 0 }
+abbrev pub at_first : SamplesSink → ImageEncoder → SamplesSink
+at_first s from = record s { encoder = from }
 
-pub samples_fed : {from : ImageEncoder} {start : DeskState} {bytes : List ℕ} {s : SamplesSink} {now : DeskState} → AreGivenFrom from start bytes s now → IsFed SamplesSink (of_reader samples_reader) (at_first from, start) bytes (s, now)
+pub samples_fed : {from : ImageEncoder} {start : DeskState} {bytes : List ℕ} {s : SamplesSink} {now : DeskState} → AreGivenFrom from start bytes s now → IsFed SamplesSink (of_reader samples_reader) (at_first s from, start) bytes (s, now)
 samples_fed h = record { short = (h.given).short; fed = record { fed = h.given; kept = h.kept; read = h.read } }
 
-all_of : {w : Option RowScan} {info : ImageInfo} {a : Asked} {from s : ImageEncoder} {rest bytes : List ℕ} → HasTaken w info a [] from → AreAllGiven from rest bytes s → IsAllGiven w info a rest bytes s
-all_of {w} {info} {a} {from} {s} {rest} {bytes} has h =
+all_of : {targa : Bool} {w : Option RowScan} {info : ImageInfo} {a : Asked} {from s : ImageEncoder} {rest bytes : List ℕ} → HasTaken w info a [] from → AreAllGiven targa from rest bytes s → IsAllGiven targa w info a rest bytes s
+all_of {targa} {w} {info} {a} {from} {s} {rest} {bytes} has h =
     let same : h.info ≡ info = sym (numbers_are (h.begun).0 h.info (h.begun).1 [] from (h.begun).2) ∙ numbers_are w info a [] from has in
-    subst (λ (i : ImageInfo). IsAllGiven w i a rest bytes s) same (record {
+    subst (λ (i : ImageInfo). IsAllGiven targa w i a rest bytes s) same (record {
       samples = h.samples;
       sampled = h.sampled w a (subst (λ (i : ImageInfo). HasTaken w i a [] from) (sym same) has);
       count = h.count;
@@ -180,19 +267,20 @@ all_of {w} {info} {a} {from} {s} {rest} {bytes} has h =
       right = h.right;
     })
 
-samples_pumped : {from : ImageEncoder} {start : DeskState} {now : SamplesSink × DeskState} (answer : Result (Option ℕ) Why) → EndsAll (of_reader samples_reader) (at_first from, start) answer now → ReadsInput SamplesSink Image samples_reader (at_first from, start) answer now
-samples_pumped {from} {start} {now} answer h = all_read SamplesSink Image samples_reader (at_first from, start) now answer (λ bytes f short. open_read false bytes (goes f).open_yet short) h
+module _ {from : ImageEncoder} {start : DeskState} {old : SamplesSink} {now : SamplesSink × DeskState} where
+  samples_pumped : (answer : Result (Option ℕ) Why) → EndsAll (of_reader samples_reader) (at_first old from, start) answer now → ReadsInput SamplesSink Image samples_reader (at_first old from, start) answer now
+  samples_pumped answer h = all_read SamplesSink Image samples_reader (at_first old from, start) now answer (λ bytes f short. open_read (is_given old.rest) bytes (yet f).0 short) h
 
-module _ {from : ImageEncoder} {start : DeskState} {now : SamplesSink × DeskState} where
-  pub samples_held : (early : Option ℕ) → EndsAll (of_reader samples_reader) (at_first from, start) (Ok early) now → (w : Option RowScan) (info : ImageInfo) (a : Asked) → HasTaken w info a [] from → OnlyReads start now.1 × AfterSamples w info a start (Ok (now.0).encoder) now.1
+  pub samples_held : (early : Option ℕ) → EndsAll (of_reader samples_reader) (at_first old from, start) (Ok early) now → (w : Option RowScan) (info : ImageInfo) (a : Asked) → HasTaken w info a [] from
+      → OnlyReads start now.1 × AfterSamples (is_given old.rest) w info a start (Ok (now.0).encoder) now.1
   samples_held None ends w info a sampled = (let h = samples_pumped None_answer ends in (h.kept, by h.reads.0))
     where
       None_answer : Result (Option ℕ) Why
       None_answer = Ok None
 
-      by : TakesPieces (λ bytes. AreAllGiven from (rest_of (now.1).left) bytes (now.0).encoder) start now.1 → TakesPieces (λ bytes. IsAllGiven w info a (rest_of (now.1).left) bytes (now.0).encoder) start now.1
+      by : TakesPieces (λ bytes. AreAllGiven (is_given old.rest) from (rest_of (now.1).left) bytes (now.0).encoder) start now.1 → TakesPieces (λ bytes. IsAllGiven (is_given old.rest) w info a (rest_of (now.1).left) bytes (now.0).encoder) start now.1
       by (bytes, read, most, g) = (bytes, read, most, all_of sampled g)
   samples_held (Some n) ends w info a sampled = absurd (samples_pumped (Ok (Some n)) ends).reads.0.3
 
-  pub none_held : (w : Why) → EndsAll (of_reader samples_reader) (at_first from, start) (Err w) now → OnlyReads start now.1 × NoValueTaken (image_judging false) start w now.1
+  pub none_held : (w : Why) → EndsAll (of_reader samples_reader) (at_first old from, start) (Err w) now → OnlyReads start now.1 × NoValueTaken (image_judging (is_given old.rest)) start w now.1
   none_held w ends = (let h = samples_pumped (Err w) ends in (h.kept, h.reads))

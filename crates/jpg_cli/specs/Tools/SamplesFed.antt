@@ -1,5 +1,5 @@
--- THE SAMPLES of P5 and P6 given to an encoder while they are read, from a desk whose input is open: as planes, or as the
--- data of a scan.
+-- THE SAMPLES of P5 and P6, and of Targa whose rows come from the top, given to an encoder while they are read, from a
+-- desk whose input is open: as planes, or as the data of a scan.
 use Rattle.std.specs.Prelude.{◌≡◌, ℕ, ◌<◌, ◌≤◌, min, Bool, true, false, not, ◌||◌, ◌==◌, List, [], length, take, Option, None, Some, Result, Ok, Err}
 use Rattle.std.specs.Io.KnownBytes.{Consumes}
 use Rattle.jpg_base.specs.Desk.{DeskState}
@@ -21,7 +21,11 @@ use Rattle.jpg_color.specs.declared.encode.image_encoder.ImageEncoder.{ImageEnco
 use Rattle.jpg_color.specs.declared.encode.image_encoder.ImageEncoder.TheVariants as encoder
 use Rattle.jpg_color.specs.declared.encode.sampler.Sampler.{Sampler}
 use Rattle.jpg_pnm_bmp.specs.Made.{AreBytes, IsRightImage}
-use Rattle.jpg_pnm_bmp.specs.PlainSamples.{HasFedSamples}
+use Rattle.jpg_pnm_bmp.specs.PlainSamples.{HasFedSamples, samples_so_far}
+use Rattle.jpg_pnm_bmp.specs.declared.read.piece.Fed2.{Fed2}
+use Rattle.jpg_pnm_bmp.specs.declared.read.piece.Fed2.TheVariants as fed
+use Rattle.jpg_targa.specs.TargaGiven.{CanGive, HasGivenSamples, IsBegunTarga}
+use Rattle.jpg_targa.specs.declared.read.given.TargaSamples.{TargaSamples}
 use Rattle.jpg_spec.specs.Scan.{Blocks}
 use Rattle.jpg_spec_write.specs.ScansAsked.{Scans, script_due}
 use Rattle.jpg_spec_write.specs.Script.{Entry}
@@ -35,7 +39,7 @@ use Rattle.jpg_cli.specs.Tools.EncodedRead.{Encodes, EndsEncoding}
 use Rattle.jpg_desk.specs.EncodedRows.{IsEncodedRows, scan_of}
 use Rattle.jpg_cli.specs.Tools.ImageWritten.{IsAskedBy, IsPlanOf}
 use Rattle.jpg_desk.specs.ImageSource.{HasFed, source_samples}
-use Rattle.jpg_desk.specs.ImageTaken.{IsSourceFed}
+use Rattle.jpg_desk.specs.ImageTaken.{IsSourceFed, is_targa}
 use Rattle.jpg_desk.specs.Judging.{NoValueTaken, TakesPieces}
 use Rattle.jpg_desk.specs.Pump.{ReaderKind}
 use Rattle.jpg_desk.specs.ReadImage.{IsImageRead, image_judging}
@@ -44,6 +48,9 @@ use Rattle.jpg_desk.specs.Stays.{OnlyReads}
 use Rattle.jpg_desk.specs.declared.encoded_rows.EncodedPicture.{EncodedPicture}
 use Rattle.jpg_desk.specs.declared.encoded_rows.OneScan.{OneScan}
 use Rattle.jpg_desk.specs.declared.image_source.ImageSource.{ImageSource}
+use Rattle.jpg_desk.specs.declared.image_source.ImageSource.TheVariants as source
+use Rattle.jpg_cli.specs.declared.tools.cjpeg_image.Rest.{Rest}
+use Rattle.jpg_cli.specs.declared.tools.cjpeg_image.Rest.TheVariants as gives
 use Rattle.jpg_cli.specs.declared.tools.cjpeg_image.SamplesSink.{SamplesSink}
 
 -- Images with these numbers are encoded like this, and can be.
@@ -52,33 +59,62 @@ pub record IsAskedFor (E : Image → Encoding) (info : ImageInfo) (a : Asked) : 
   pub can : CanSample info a
   pub restart : (I : Image) → IsRestart (E I).restart
 
--- SOME OF THE SAMPLES were given to an encoder that had none, those of the bytes so far.
-pub record AreGiven (from : ImageEncoder) (bytes : List ℕ) (s : SamplesSink) : Type 0 where
+-- THE SAMPLES of the bytes so far, of an image with these numbers: those after the header; or those that a reader of Targa
+-- gave, which gives no more than the image has.
+pub record IsGivenTarga (info : ImageInfo) (bytes given : List ℕ) (r : TargaSamples) : Type 0 where
+  pub all : List ℕ
+  pub has : HasGivenSamples bytes all r
+  pub begun : IsBegunTarga info bytes
+  pub bytes_all : AreBytes bytes
+  pub given_is : given ≡ take (sample_count info) all
+
+abbrev pub HasGivenRest : Bool → ImageInfo → List ℕ → List ℕ → Rest → Type 0
+HasGivenRest false info bytes given gives.Plain = HasFedSamples info bytes given
+HasGivenRest true info bytes given (gives.Given r) = IsGivenTarga info bytes given r
+HasGivenRest targa info bytes given other = ⊥
+
+-- whether a reader of Targa gives them
+abbrev pub is_given : Rest → Bool
+is_given gives.Plain = false
+is_given (gives.Given r) = true
+
+-- SOME OF THEM were given to an encoder that had none, those of the bytes so far.
+pub record AreGiven (targa : Bool) (from : ImageEncoder) (bytes : List ℕ) (s : SamplesSink) : Type 0 where
   pub info : ImageInfo
   pub given : List ℕ
   pub begun : (w : Option RowScan) × (a : Asked) × HasTaken w info a [] from
   pub sampled : (w : Option RowScan) (a : Asked) → HasTaken w info a [] from → HasTaken w info a given s.encoder
-  pub fed : HasFedSamples info bytes given
+  pub fed : HasGivenRest targa info bytes given s.rest
   pub taken_is : s.taken ≡ length bytes
   pub short : length bytes < standard_limits.input
 
 -- ALL OF THEM were, and the bytes that were read have their image.
-pub record AreAllGiven (from : ImageEncoder) (rest bytes : List ℕ) (s : ImageEncoder) : Type 0 where
+pub record AreAllGiven (targa : Bool) (from : ImageEncoder) (rest bytes : List ℕ) (s : ImageEncoder) : Type 0 where
   pub info : ImageInfo
   pub samples : List ℕ
   pub begun : (w : Option RowScan) × (a : Asked) × HasTaken w info a [] from
   pub sampled : (w : Option RowScan) (a : Asked) → HasTaken w info a [] from → HasTaken w info a samples s
   pub count : length samples ≡ sample_count info
-  pub read : IsImageRead false (image_of info samples) rest bytes
+  pub read : IsImageRead targa (image_of info samples) rest bytes
   pub right : IsRightImage (image_of info samples)
 
 -- ALL PIECES: what holds of an encoder that had none
 abbrev pub HoldAll : SamplesSink → Option ℕ → List ℕ → List ℕ → SamplesSink → Type 0
-HoldAll from None rest bytes now = AreAllGiven from.encoder rest bytes now.encoder
+HoldAll from None rest bytes now = AreAllGiven (is_given from.rest) from.encoder rest bytes now.encoder
 HoldAll from (Some n) rest bytes now = ⊥
 
 abbrev pub samples_reader : ReaderKind SamplesSink Image
-samples_reader = record { fed = λ from bytes now. AreGiven from.encoder bytes now; holds = HoldAll; judging = λ from. image_judging false; more = λ s. ⊥ }
+samples_reader = record {
+  fed = λ from bytes now. AreGiven (is_given from.rest) from.encoder bytes now;
+  holds = HoldAll;
+  judging = λ from. image_judging (is_given from.rest);
+  more = λ s. ⊥;
+}
+
+-- whether a reader of Targa has given all
+abbrev pub is_done : Fed2 → Bool
+is_done fed.More = false
+is_done fed.Done = true
 
 -- whether none are left; or some are, and as many bytes were taken as may be
 abbrev pub AreAll : SamplesSink → Result Bool Why → Type 0
@@ -95,7 +131,7 @@ HasSomeTaken s = (w : Option RowScan) × (info : ImageInfo) × (a : Asked) × (g
 
 -- FROM A DESK from which these bytes were read
 pub record AreGivenFrom (from : ImageEncoder) (start : DeskState) (bytes : List ℕ) (s : SamplesSink) (now : DeskState) : Type 0 where
-  pub given : AreGiven from bytes s
+  pub given : AreGiven (is_given s.rest) from bytes s
   pub kept : OnlyReads start now
   pub read : Consumes start.left now.left bytes
 
@@ -103,21 +139,22 @@ abbrev pub AreSomeGiven : SamplesSink → DeskState → Type 0
 AreSomeGiven s now = (from : ImageEncoder) × (start : DeskState) × (bytes : List ℕ) × AreGivenFrom from start bytes s now
 
 -- of an image with these numbers
-pub record IsAllGiven (w : Option RowScan) (info : ImageInfo) (a : Asked) (rest bytes : List ℕ) (s : ImageEncoder) : Type 0 where
+pub record IsAllGiven (targa : Bool) (w : Option RowScan) (info : ImageInfo) (a : Asked) (rest bytes : List ℕ) (s : ImageEncoder) : Type 0 where
   pub samples : List ℕ
   pub sampled : HasTaken w info a samples s
   pub count : length samples ≡ sample_count info
-  pub read : IsImageRead false (image_of info samples) rest bytes
+  pub read : IsImageRead targa (image_of info samples) rest bytes
   pub right : IsRightImage (image_of info samples)
 
 -- up to the piece with the last sample; or why the reading ends
-abbrev pub AfterSamples : Option RowScan → ImageInfo → Asked → DeskState → Result ImageEncoder Why → DeskState → Type 0
-AfterSamples w info a start (Ok s) now = TakesPieces (λ bytes. IsAllGiven w info a (rest_of now.left) bytes s) start now
-AfterSamples w info a start (Err ended) now = NoValueTaken (image_judging false) start ended now
+abbrev pub AfterSamples : Bool → Option RowScan → ImageInfo → Asked → DeskState → Result ImageEncoder Why → DeskState → Type 0
+AfterSamples targa w info a start (Ok s) now = TakesPieces (λ bytes. IsAllGiven targa w info a (rest_of now.left) bytes s) start now
+AfterSamples targa w info a start (Err ended) now = NoValueTaken (image_judging targa) start ended now
 
 abbrev pub FeedsRest : SamplesSink → DeskState → Result ImageEncoder Why → DeskState → Type 0
 FeedsRest had old answer new =
-    (from : ImageEncoder) (start : DeskState) (bytes : List ℕ) → AreGivenFrom from start bytes had old → (w : Option RowScan) (info : ImageInfo) (a : Asked) → HasTaken w info a [] from → OnlyReads start new × AfterSamples w info a start answer new
+    (from : ImageEncoder) (start : DeskState) (bytes : List ℕ) → AreGivenFrom from start bytes had old → (w : Option RowScan) (info : ImageInfo) (a : Asked) → HasTaken w info a [] from
+    → OnlyReads start new × AfterSamples (is_given had.rest) w info a start answer new
 
 -- THE ENCODED IMAGE of a sampler that was given all samples
 abbrev pub FinishesImage : Sampler → Result EncodedPicture Why → Type 0
@@ -134,21 +171,34 @@ FinishesPlanes s answer =
 abbrev pub GivesData : ImageEncoder → List ℕ → Type 0
 GivesData s text = (w : RowScan) (info : ImageInfo) (a : Asked) (samples : List ℕ) → HasTaken (Some w) info a samples s → text ≡ data_due w info a samples
 
--- AN ENCODER that begins: the bytes so far are the header of a file and first samples, and it was given none.
-pub record Begins (E : Image → Encoding) (w : Option RowScan) (bytes given : List ℕ) (s : ImageEncoder) : Type 0 where
+-- THE REST of the samples of an image with these numbers comes after these bytes, which were fed to a reader: they are the
+-- bytes that follow, or a reader of Targa gives them.
+abbrev pub CanGoOn : ImageInfo → List ℕ → ImageSource → Type 0
+CanGoOn info bytes (source.Pixels r) = HasFedSamples info bytes (samples_so_far r)
+CanGoOn info bytes (source.Targa r) = IsBegunTarga info bytes × CanGive r
+
+abbrev pub TellsNumbers : ImageSource → ImageInfo → Type 0
+TellsNumbers r info = (targa : Bool) (bytes : List ℕ) → HasFed targa bytes r → CanGoOn info bytes r
+
+abbrev pub GivesRest : ImageSource → Rest → Type 0
+GivesRest r rest =
+    (is_given rest ≡ is_targa r) × ((info : ImageInfo) (bytes : List ℕ) → HasFed (is_targa r) bytes r → CanGoOn info bytes r → HasGivenRest (is_given rest) info bytes (source_samples r) rest)
+
+-- AN ENCODER that begins: it was given no samples yet, and the rest of those of a file comes after the bytes so far.
+pub record Begins (E : Image → Encoding) (w : Option RowScan) (bytes : List ℕ) (r : ImageSource) (s : ImageEncoder) : Type 0 where
   pub info : ImageInfo
   pub asked : Asked
   pub like : IsAskedFor E info asked
-  pub fed : HasFedSamples info bytes given
+  pub goes : CanGoOn info bytes r
   pub sampled : HasTaken w info asked [] s
 
-abbrev pub BeginsPlain : Bool → (Image → Encoding) → ImageSource → Sampler → Type 0
-BeginsPlain targa E r s = (bytes : List ℕ) → HasFed targa bytes r → (targa ≡ false) × Begins E None bytes (source_samples r) (encoder.Planes s)
+abbrev pub BeginsSource : Bool → (Image → Encoding) → ImageSource → Sampler → Type 0
+BeginsSource targa E r s = (bytes : List ℕ) → HasFed targa bytes r → Begins E None bytes r (encoder.Planes s)
 
 -- The image is read from there on.
 pub record GoesOnFrom (E : Image → Encoding) (w : Option RowScan) (start : DeskState) (bytes : List ℕ) (r : ImageSource) (s : ImageEncoder) (now : DeskState) : Type 0 where
-  pub begun : Begins E w bytes (source_samples r) s
-  pub read : IsSourceFed false start bytes r now
+  pub begun : Begins E w bytes r s
+  pub read : IsSourceFed (is_targa r) start bytes r now
 
 abbrev pub GoesOn : ImageSource → ImageEncoder → DeskState → Type 0
 GoesOn r s now = (E : Image → Encoding) × (w : Option RowScan) × (start : DeskState) × (bytes : List ℕ) × GoesOnFrom E w start bytes r s now
@@ -156,33 +206,33 @@ GoesOn r s now = (E : Image → Encoding) × (w : Option RowScan) × (start : De
 -- all samples, the first of which the reader has
 abbrev pub FeedsAll : ImageSource → ImageEncoder → DeskState → Result ImageEncoder Why → DeskState → Type 0
 FeedsAll r s old answer after =
-    (E : Image → Encoding) (w : Option RowScan) (start : DeskState) (bytes : List ℕ) (h : GoesOnFrom E w start bytes r s old) → OnlyReads start after × AfterSamples w (h.begun).info (h.begun).asked start answer after
+    (E : Image → Encoding) (w : Option RowScan) (start : DeskState) (bytes : List ℕ) (h : GoesOnFrom E w start bytes r s old) → OnlyReads start after × AfterSamples (is_targa r) w (h.begun).info (h.begun).asked start answer after
 
 -- AS PLANES
 abbrev pub GoesOnAsPlanes : ImageSource → ImageEncoder → DeskState → Type 0
 GoesOnAsPlanes r s now = (E : Image → Encoding) × (start : DeskState) × (bytes : List ℕ) × GoesOnFrom E None start bytes r s now
 
-abbrev pub EndsPlain : ImageSource → ImageEncoder → DeskState → Result EncodedPicture Why → DeskState → Type 0
-EndsPlain r s old answer new = (E : Image → Encoding) (start : DeskState) (bytes : List ℕ) → GoesOnFrom E None start bytes r s old → OnlyReads start new × EndsEncoding false E start answer new
+abbrev pub EndsPlanes : ImageSource → ImageEncoder → DeskState → Result EncodedPicture Why → DeskState → Type 0
+EndsPlanes r s old answer new = (E : Image → Encoding) (start : DeskState) (bytes : List ℕ) → GoesOnFrom E None start bytes r s old → OnlyReads start new × EndsEncoding (is_targa r) E start answer new
 
 -- THE DATA OF A SCAN
 abbrev pub GoesOnScan : ImageSource → ImageEncoder → DeskState → Type 0
 GoesOnScan r s now = (E : Image → Encoding) × (w : RowScan) × (start : DeskState) × (bytes : List ℕ) × GoesOnFrom E (Some w) start bytes r s now
 
 -- those of the image that was read
-pub record HasDataOf (w : RowScan) (info : ImageInfo) (a : Asked) (start : DeskState) (text : List ℕ) (now : DeskState) : Type 0 where
+pub record HasDataOf (targa : Bool) (w : RowScan) (info : ImageInfo) (a : Asked) (start : DeskState) (text : List ℕ) (now : DeskState) : Type 0 where
   pub samples : List ℕ
-  pub read : TakesPieces (IsImageRead false (image_of info samples) (rest_of now.left)) start now
+  pub read : TakesPieces (IsImageRead targa (image_of info samples) (rest_of now.left)) start now
   pub right : IsRightImage (image_of info samples)
   pub written : text ≡ data_due w info a samples
 
-abbrev pub AfterData : RowScan → ImageInfo → Asked → DeskState → Result (List ℕ) Why → DeskState → Type 0
-AfterData w info a start (Ok text) now = HasDataOf w info a start text now
-AfterData w info a start (Err ended) now = NoValueTaken (image_judging false) start ended now
+abbrev pub AfterData : Bool → RowScan → ImageInfo → Asked → DeskState → Result (List ℕ) Why → DeskState → Type 0
+AfterData targa w info a start (Ok text) now = HasDataOf targa w info a start text now
+AfterData targa w info a start (Err ended) now = NoValueTaken (image_judging targa) start ended now
 
 abbrev pub EndsData : ImageSource → ImageEncoder → DeskState → Result (List ℕ) Why → DeskState → Type 0
 EndsData r s old answer new =
-    (E : Image → Encoding) (w : RowScan) (start : DeskState) (bytes : List ℕ) (h : GoesOnFrom E (Some w) start bytes r s old) → OnlyReads start new × AfterData w (h.begun).info (h.begun).asked start answer new
+    (E : Image → Encoding) (w : RowScan) (start : DeskState) (bytes : List ℕ) (h : GoesOnFrom E (Some w) start bytes r s old) → OnlyReads start new × AfterData (is_targa r) w (h.begun).info (h.begun).asked start answer new
 
 -- AS THE DATA OF ONE SCAN: how the file of each image with these numbers is written
 pub record IsOneScan (E : Image → Encoding) (info : ImageInfo) (a : Asked) (o : OneScan) : Type 0 where
@@ -197,7 +247,7 @@ abbrev pub GoesOnAsRows : ImageSource → Sampler → OneScan → DeskState → 
 GoesOnAsRows r s o now = (E : Image → Encoding) × (start : DeskState) × (bytes : List ℕ) × GoesOnRows E start bytes r s o now
 
 abbrev pub EndsRows : ImageSource → Sampler → OneScan → DeskState → Result EncodedPicture Why → DeskState → Type 0
-EndsRows r s o old answer new = (E : Image → Encoding) (start : DeskState) (bytes : List ℕ) → GoesOnRows E start bytes r s o old → OnlyReads start new × EndsEncoding false E start answer new
+EndsRows r s o old answer new = (E : Image → Encoding) (start : DeskState) (bytes : List ℕ) → GoesOnRows E start bytes r s o old → OnlyReads start new × EndsEncoding (is_targa r) E start answer new
 
 -- the plan of a file with this head: its scans are possible
 pub record IsPlannedFor (w : EncodeWords) (scans : Scans) (h : ImageHead) (plan : Plan) : Type 0 where

@@ -1,6 +1,6 @@
-//! The image of an input, read and encoded (the manual of cjpeg). The samples of P5 and P6 become the data of the file's one
-//! scan as they come, or planes.
-ghost use Rattle.std.specs.Prelude.{◌≡◌, ◌≤◌, ◌++◌, IfErr, IfOk, IfSome, List, None, OnOk, Some, length, true, ℕ};
+//! The image of an input, read and encoded (the manual of cjpeg). The samples of P5 and P6, and those of Targa whose rows
+//! come from the top, become the data of the file's one scan as they come, or planes.
+ghost use Rattle.std.specs.Prelude.{◌≡◌, ◌≤◌, ◌++◌, Bool, IfErr, IfOk, IfSome, List, None, OnOk, Some, length, true, ℕ};
 ghost use Rattle.jpg_spec_words.specs.declared.answers.Why.TheVariants as why;
 ghost use Rattle.jpg_transform.specs.Planned.{scans_view};
 ghost use Rattle.jpg_color.specs.Encode.{image_view};
@@ -23,7 +23,7 @@ ghost use Rattle.jpg_cli.specs.Tools.EncodedRead.{EncodedRead, Encodes, EndsEnco
 ghost use Rattle.jpg_cli.specs.Tools.ImageWritten.{IsPlanOf, why_not_encoded};
 ghost use Rattle.jpg_desk.specs.ImageSource.{HasFedSome, source_samples};
 ghost use Rattle.jpg_desk.specs.Pump.{TakesPiece, of_reader};
-ghost use Rattle.jpg_cli.specs.Tools.SamplesFed.{AreAll, AreGiven, AreSomeGiven, BeginsPlain, EndsData, EndsPlain, EndsRows, FeedsAll, FeedsRest, FinishesImage, FinishesPlanes, GivesData, GoesOn, GoesOnAsPlanes, GoesOnAsRows, GoesOnScan, HasSomeTaken, IsOneScanFor, IsPlannedFor, IsSamplerFor, TakesSome, has_frame_rows, samples_reader};
+ghost use Rattle.jpg_cli.specs.Tools.SamplesFed.{AreAll, AreGiven, AreSomeGiven, BeginsSource, CanGoOn, EndsData, EndsPlanes, EndsRows, FeedsAll, FeedsRest, FinishesImage, FinishesPlanes, GivesData, GivesRest, GoesOn, GoesOnAsPlanes, GoesOnAsRows, GoesOnScan, HasSomeTaken, IsOneScanFor, IsPlannedFor, IsSamplerFor, TakesSome, TellsNumbers, has_frame_rows, is_done, samples_reader};
 ghost use Rattle.jpg_cli.specs.Tools.EncodingAsked.{asked_of, encoding_by};
 ghost use Rattle.jpg_desk.specs.Stays.{Keeps, OnlyReads};
 
@@ -32,15 +32,17 @@ use jpg_base::{Bytes, Desk, Frame, NoMemory, Put, QuantTable};
 use jpg_color::{EncodeStop, ImageEncoder, ImageHead, RowEncoder, Sampler};
 use jpg_desk::{
     EncodedPicture, EncodedRows, ImageSource, OneScan, PieceSink, Tables, pump_on, read_rest,
-    read_source,
+    read_source, why_stopped,
 };
 use jpg_file::{Plan, SoleScan, sole_scan};
 use jpg_huff::{EncoderPlaces, EncoderSet, TableSet};
 use jpg_markers::OutHead;
-use jpg_pnm_bmp::Image;
+use jpg_pnm_bmp::{Fed2, Image};
 use jpg_scans::Script;
 use jpg_spec::{Copying, Fault, FaultAt, Limits};
+use jpg_spec_image::ImageInfo;
 use jpg_spec_words::{Which, Why};
+use jpg_targa::TargaSamples;
 use jpg_transform::{Scans, counted, script_due};
 use jpg_words::EncodeWords;
 use std::alloc::Global;
@@ -88,8 +90,8 @@ fn take_encoded<D: Desk>(
     }
     match sampler_for(alloc, &reader, words, scans, tables) {
         Some(sampler) => match one_scan(alloc, &sampler, words, scans) {
-            Some(file) => encode_rows(alloc, &reader, sampler, file, desk),
-            None => encode_planes(&reader, ImageEncoder::Planes(sampler), desk),
+            Some(file) => encode_rows(alloc, reader, sampler, file, desk),
+            None => encode_planes(alloc, reader, ImageEncoder::Planes(sampler), desk),
         },
         None => match read_rest(reader, desk) {
             Ok(image) => encode_whole(alloc, &image, words, scans, tables),
@@ -133,8 +135,8 @@ pub fn why_not_encoded(stop: EncodeStop) -> Why
     }
 }
 
-// A sampler that was given nothing, if the bytes that follow those so far are the rest of the image's samples, and the
-// image has no fault of its factors and grids.
+// A sampler that was given nothing, if the rest of the image's samples can be given as the file is read, and the image has
+// no fault of its factors and grids.
 fn sampler_for(
     alloc: Global,
     reader: &ImageSource,
@@ -143,10 +145,10 @@ fn sampler_for(
     tables: Option<&Tables>,
 ) -> Option<Sampler>
     requires { HasFedSome words.now.targa reader.now }
-    ensures begins { IfSome result (BeginsPlain words.now.targa (encoding_by words.now (scans_view scans.now) tables.entry) reader.now) }
+    ensures begins { IfSome result (BeginsSource words.now.targa (encoding_by words.now (scans_view scans.now) tables.entry) reader.now) }
     ensures few { IfSome result (λ s. length (source_samples reader.now) ≤ samples_left s) }
 {
-    let Some(info) = reader.plain() else {
+    let Some(info) = numbers_of(reader) else {
         return None;
     };
     counted(words.restart);
@@ -157,18 +159,30 @@ fn sampler_for(
     }
 }
 
-// The image whose first samples the reader has, and whose others are the bytes that follow, encoded as planes.
+// The numbers of the image, if its samples can be given as the file is read: the bytes that follow are their rest, or a
+// reader of Targa gives them.
+fn numbers_of(reader: &ImageSource) -> Option<ImageInfo>
+    ensures { IfSome result (TellsNumbers reader.now) }
+{
+    match reader.plain() {
+        Some(info) => Some(info),
+        None => reader.gives(),
+    }
+}
+
+// The image whose first samples the reader has, and whose others come as the file is read, encoded as planes.
 fn encode_planes<'a, D: Desk>(
-    reader: &ImageSource,
+    alloc: Global,
+    reader: ImageSource,
     encoder: ImageEncoder<'a>,
     desk: &mut D,
 ) -> Result<EncodedPicture, Why>
     requires open { (D.state desk.old).input_open ≡ true }
-    requires few { length (source_samples reader.now) ≤ encoder_left encoder }
-    requires goes { GoesOnAsPlanes reader.now encoder (D.state desk.old) }
-    ensures { EndsPlain reader.now encoder.entry (D.state desk.old) result (D.state desk.new) }
+    requires few { length (source_samples reader) ≤ encoder_left encoder }
+    requires goes { GoesOnAsPlanes reader encoder (D.state desk.old) }
+    ensures { EndsPlanes reader.entry encoder.entry (D.state desk.old) result (D.state desk.new) }
 {
-    match feed_all(reader, encoder, desk) {
+    match feed_all(alloc, reader, encoder, desk) {
         Err(why) => Err(why),
         Ok(encoder) => finish_planes(encoder),
     }
@@ -185,20 +199,20 @@ fn finish_planes(encoder: ImageEncoder<'_>) -> Result<EncodedPicture, Why>
     }
 }
 
-// The image whose first samples the reader has, and whose others are the bytes that follow, encoded MCU row by MCU row as
+// The image whose first samples the reader has, and whose others come as the file is read, encoded MCU row by MCU row as
 // the data of the one scan of this file.
 #[inline(never)]
 fn encode_rows<D: Desk>(
     alloc: Global,
-    reader: &ImageSource,
+    reader: ImageSource,
     sampler: Sampler,
     file: OneScan,
     desk: &mut D,
 ) -> Result<EncodedPicture, Why>
     requires open { (D.state desk.old).input_open ≡ true }
-    requires few { length (source_samples reader.now) ≤ samples_left sampler }
-    requires goes { GoesOnAsRows reader.now sampler file (D.state desk.old) }
-    ensures { EndsRows reader.now sampler file (D.state desk.old) result (D.state desk.new) }
+    requires few { length (source_samples reader) ≤ samples_left sampler }
+    requires goes { GoesOnAsRows reader sampler file (D.state desk.old) }
+    ensures { EndsRows reader.entry sampler file (D.state desk.old) result (D.state desk.new) }
 {
     let scan = file.scan.as_ref();
     let Ok(places) = places_for(alloc, &scan.tables) else {
@@ -206,24 +220,25 @@ fn encode_rows<D: Desk>(
     };
     let encoders = EncoderSet::new(&scan.tables, places.as_ref());
     let rows = RowEncoder::new(alloc, sampler, &scan.due.head, encoders, scan.due.interval);
-    match rows_data(reader, ImageEncoder::Rows(rows), desk) {
+    match rows_data(alloc, reader, ImageEncoder::Rows(rows), desk) {
         Err(why) => Err(why),
         Ok(bytes) => Ok(EncodedPicture::Rows(EncodedRows { file, bytes })),
     }
 }
 
-// The data of an encoder that has no samples yet, and is given those that the reader has and those that follow.
+// The data of an encoder that has no samples yet, and is given those that the reader has and those that come.
 fn rows_data<'a, D: Desk>(
-    reader: &ImageSource,
+    alloc: Global,
+    reader: ImageSource,
     encoder: ImageEncoder<'a>,
     desk: &mut D,
 ) -> Result<Bytes, Why>
     requires open { (D.state desk.old).input_open ≡ true }
-    requires few { length (source_samples reader.now) ≤ encoder_left encoder }
-    requires goes { GoesOnScan reader.now encoder (D.state desk.old) }
-    ensures { EndsData reader.now encoder.entry (D.state desk.old) result (D.state desk.new) }
+    requires few { length (source_samples reader) ≤ encoder_left encoder }
+    requires goes { GoesOnScan reader encoder (D.state desk.old) }
+    ensures { EndsData reader.entry encoder.entry (D.state desk.old) result (D.state desk.new) }
 {
-    match feed_all(reader, encoder, desk) {
+    match feed_all(alloc, reader, encoder, desk) {
         Err(why) => Err(why),
         Ok(encoder) => data_of(encoder),
     }
@@ -349,24 +364,42 @@ fn finish(sampler: Sampler) -> Result<EncodedPicture, Why>
     }
 }
 
-// The encoder, given the samples that the reader has, and those that follow.
+// The encoder, given the samples that the reader has, and those that come.
 fn feed_all<'a, D: Desk>(
-    reader: &ImageSource,
+    alloc: Global,
+    reader: ImageSource,
     encoder: ImageEncoder<'a>,
     desk: &mut D,
 ) -> Result<ImageEncoder<'a>, Why>
     requires open { (D.state desk.old).input_open ≡ true }
-    requires few { length (source_samples reader.now) ≤ encoder_left encoder }
-    requires goes { GoesOn reader.now encoder (D.state desk.old) }
-    ensures { FeedsAll reader.now encoder.entry (D.state desk.old) result (D.state desk.new) }
+    requires few { length (source_samples reader) ≤ encoder_left encoder }
+    requires goes { GoesOn reader encoder (D.state desk.old) }
+    ensures { FeedsAll reader.entry encoder.entry (D.state desk.old) result (D.state desk.new) }
 {
     let mut encoder = encoder;
     match encoder.feed(reader.samples()) {
         Err(_) => Err(Why::NoMemory),
         Ok(()) => {
             let taken = reader.taken();
-            feed_rest(SamplesSink { encoder, taken }, desk)
+            let sink = SamplesSink {
+                encoder,
+                rest: rest_of(reader),
+                made: Bytes::new(alloc),
+                taken,
+            };
+            feed_rest(sink, desk)
         }
+    }
+}
+
+// What gives the samples that come, of a reader that tells the image's numbers.
+fn rest_of(reader: ImageSource) -> Rest
+    requires { (info : Numbers) × (bytes : List ℕ) × CanGoOn info bytes reader }
+    ensures { GivesRest reader.entry result }
+{
+    match &reader {
+        ImageSource::Pixels(_) => Rest::Plain,
+        ImageSource::Targa(_) => Rest::Given(reader.into_samples()),
     }
 }
 
@@ -386,10 +419,23 @@ fn feed_rest<'a, D: Desk>(sink: SamplesSink<'a>, desk: &mut D) -> Result<ImageEn
     }
 }
 
-// What takes the samples of an image, and after how many bytes of its file.
+// What gives the samples of the bytes that are read: they are the samples, or a reader of Targa gives them.
+#[derive(Drop)]
+enum Rest {
+    Plain,
+    Given(TargaSamples),
+}
+
+// What takes the samples of an image.
 #[derive(Drop)]
 struct SamplesSink<'a> {
+    // What they are given to.
     encoder: ImageEncoder<'a>,
+    // What gives them.
+    rest: Rest,
+    // Room for those of a piece that a reader gives.
+    made: Bytes,
+    // How many bytes of the file were read.
     taken: u64,
 }
 
@@ -412,20 +458,40 @@ impl<'a, D: Desk> PieceSink<D> for SamplesSink<'a> {
 
 // Takes the samples of a piece. Returns whether all were given.
 fn take_samples(sink: &mut SamplesSink<'_>, piece: &[u8]) -> Result<bool, Why>
-    requires fed { (from : Encoder) × (bytes : List ℕ) × AreGiven from bytes sink.old × (length (bytes ++ piece.now) ≤ standard_limits.input) }
+    requires fed { (targa : Bool) × (from : Encoder) × (bytes : List ℕ) × AreGiven targa from bytes sink.old × (length (bytes ++ piece.now) ≤ standard_limits.input) }
     requires few { length piece.now ≤ 16384 }
     ensures { TakesPiece samples_reader sink.old piece.now result sink.new }
 {
-    match feed_piece(&mut sink.encoder, piece) {
-        Err(_) => Err(Why::NoMemory),
-        Ok(()) => {
-            sink.taken += piece.len() as u64;
-            are_all(sink)
+    sink.taken += piece.len() as u64;
+    match &mut sink.rest {
+        Rest::Plain => match feed_piece(&mut sink.encoder, piece) {
+            Err(_) => Err(Why::NoMemory),
+            Ok(()) => are_all(sink),
+        },
+        Rest::Given(samples) => {
+            sink.made.clear();
+            match samples.feed(piece, &mut sink.made) {
+                Err(stop) => Err(why_stopped(stop)),
+                Ok(fed) => match feed_piece(&mut sink.encoder, sink.made.as_slice()) {
+                    Err(_) => Err(Why::NoMemory),
+                    Ok(()) => Ok(is_done(fed)),
+                },
+            }
         }
     }
 }
 
-// Gives it the samples of a piece: bytes after the last sample are left unread.
+// Whether the reader of Targa has given all samples.
+fn is_done(fed: Fed2) -> bool
+    ensures { result ≡ is_done fed }
+{
+    match fed {
+        Fed2::More => false,
+        Fed2::Done => true,
+    }
+}
+
+// Gives it these samples, no more than are left: bytes after the last sample are left unread.
 fn feed_piece(encoder: &mut ImageEncoder<'_>, piece: &[u8]) -> Result<(), NoMemory>
     requires { HasSomeTaken encoder.old }
     ensures { OnOk result (TakesSome encoder.old piece.now encoder.new) }
