@@ -12,7 +12,9 @@ use Rattle.jpg_pnm_bmp.specs.PixelsRead.{HasFedImage, image_read, is_image_read,
 use Rattle.jpg_pnm_bmp.specs.declared.read.piece.Fed2.{Fed2}
 use Rattle.jpg_pnm_bmp.specs.declared.read.piece.Fed2.TheVariants as fed
 use Rattle.jpg_pnm_bmp.specs.declared.read.pixels.PixelReader.{PixelReader}
+use Rattle.jpg_targa.specs.TargaGiven.{CanGive, HasGivenSamples, IsBegunTarga}
 use Rattle.jpg_targa.specs.TargaRead.{HasFedTarga, is_targa_read, targa_read, targa_taken}
+use Rattle.jpg_targa.specs.declared.read.given.TargaSamples.{TargaSamples}
 use Rattle.jpg_targa.specs.declared.read.reader.TargaReader.{TargaReader}
 use Rattle.jpg_desk.specs.Pump.{why_stopped}
 use Rattle.jpg_desk.specs.ReadImage.{IsFaultRead, IsImageRead, IsShortImageRead}
@@ -41,6 +43,21 @@ TellsSamples r info = (targa : Bool) (bytes : List ℕ) → HasFed targa bytes r
 
 abbrev pub TellsNoSamples : ImageSource → Type 0
 TellsNoSamples r = (bytes given : List ℕ) (info : ImageInfo) → HasFed false bytes r → HasFedSamples info bytes given → ⊥
+
+-- Its samples can be given as they are read from here on, those of an image with these numbers; or that isn't so.
+abbrev pub TellsGiving : ImageSource → ImageInfo → Type 0
+TellsGiving r info = (targa : Bool) (bytes : List ℕ) → HasFed targa bytes r → (targa ≡ true) × IsBegunTarga info bytes
+
+abbrev pub TellsNoGiving : ImageSource → Type 0
+TellsNoGiving r = (bytes : List ℕ) (info : ImageInfo) → HasFed true bytes r → IsBegunTarga info bytes → ⊥
+
+abbrev pub CanGiveSamples : ImageSource → Type 0
+CanGiveSamples (source.Pixels r) = ⊥
+CanGiveSamples (source.Targa r) = CanGive r
+
+-- a reader that gives them was fed the same bytes
+abbrev pub GivesFrom : ImageSource → TargaSamples → Type 0
+GivesFrom r given = (targa : Bool) (bytes : List ℕ) → HasFed targa bytes r → (targa ≡ true) × HasGivenSamples bytes [] given
 
 -- the image, once it is complete
 abbrev pub source_read : ImageSource → Image

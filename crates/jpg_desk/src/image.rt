@@ -15,7 +15,7 @@ use jpg_spec_words::Why;
 use std::alloc::Global;
 
 /// Reads the open input, in pieces of at most 16,384 bytes, to the end of its image, or only up to the piece after which
-/// the bytes are samples (`ImageSource::plain`).
+/// the bytes are samples (`ImageSource::plain`) or samples can be given as they are read (`ImageSource::gives`).
 pub fn read_source<D: Desk>(alloc: Global, targa: bool, desk: &mut D) -> Result<ImageSource, Why>
     requires { (D.state desk.old).input_open ≡ true }
     ensures kept { OnlyReads (D.state desk.old) (D.state desk.new) }
@@ -85,7 +85,8 @@ impl<D: Desk> PieceSink<D> for ImageSink {
     }
 }
 
-// Whether it stops where the image isn't complete: at the limit with a fault, or where the bytes that follow are samples.
+// Whether it stops where the image isn't complete: at the limit with a fault, or where the bytes that follow are samples,
+// or samples can be given as they are read.
 fn stops_here(sink: &ImageSink) -> Result<bool, Why>
     ensures { StopsHere sink.now result }
 {
@@ -101,6 +102,6 @@ fn stops_here(sink: &ImageSink) -> Result<bool, Why>
     }
     match sink.source.plain() {
         Some(_) => Ok(true),
-        None => Ok(false),
+        None => Ok(sink.source.gives().is_some()),
     }
 }

@@ -11,7 +11,7 @@ use jpg_base::Stop;
 use jpg_pnm_bmp::{Fed2, Image, PixelReader};
 use jpg_spec_image::ImageInfo;
 use jpg_spec_words::Why;
-use jpg_targa::TargaReader;
+use jpg_targa::{TargaReader, TargaSamples};
 use std::alloc::Global;
 
 /// A reader of an image file.
@@ -24,7 +24,8 @@ pub enum ImageSource {
 }
 
 impl ImageSource {
-    ghost use Rattle.jpg_desk.specs.ImageSource.{EndsImage, HasFed, TakesImagePiece, TellsNoSamples, TellsSamples, is_source_read, source_read, source_samples, source_taken};
+    ghost use Rattle.jpg_targa.specs.TargaGiven.{given_taken, is_all_given};
+    ghost use Rattle.jpg_desk.specs.ImageSource.{CanGiveSamples, EndsImage, GivesFrom, HasFed, TakesImagePiece, TellsGiving, TellsNoGiving, TellsNoSamples, TellsSamples, is_source_read, source_read, source_samples, source_taken};
 
     /// A reader that was given no bytes. It takes no memory yet.
     pub fn new(alloc: Global, targa: bool) -> ImageSource
@@ -90,6 +91,32 @@ impl ImageSource {
         match self {
             ImageSource::Pixels(reader) => reader.samples(),
             ImageSource::Targa(_) => &[],
+        }
+    }
+
+    /// The numbers of the image, if its samples can be given as they are read from here on (`TargaReader::gives`).
+    pub fn gives(&self) -> Option<ImageInfo>
+        ensures some { IfSome result (TellsGiving self.now) }
+        ensures none { IfNone result (TellsNoGiving self.now) }
+        ensures can { IfSome result (λ info. CanGiveSamples self.now) }
+        ensures open { IfSome result (λ info. is_source_read self.now ≡ false) }
+    {
+        match self {
+            ImageSource::Pixels(_) => None,
+            ImageSource::Targa(reader) => reader.gives(),
+        }
+    }
+
+    /// A reader that gives them, those of the bytes so far too, where `gives` tells the numbers. None were given yet.
+    pub fn into_samples(self) -> TargaSamples
+        requires { CanGiveSamples self }
+        ensures fed { GivesFrom self result }
+        ensures more { is_all_given result ≡ false }
+        ensures taken { given_taken result ≡ source_taken self }
+    {
+        match self {
+            ImageSource::Pixels(_) => unreachable!(),
+            ImageSource::Targa(reader) => reader.into_samples(),
         }
     }
 
