@@ -1,17 +1,20 @@
 -- An image read and encoded, over the states of a desk.
-use Rattle.std.proofs.Common.{◌≡◌, ℕ, Bool, List, [], Option, None, Some, Result, Ok, Err, sym, ◌∙◌, subst, arith}
-use Rattle.std.specs.Prelude.{IfErr, IfOk}
+use Rattle.std.proofs.Common.{◌≡◌, ℕ, Bool, true, false, List, [], Option, None, Some, Result, Ok, Err, refl, sym, ap, ◌∙◌, subst, arith}
+use Rattle.std.specs.Prelude.{IfErr, IfOk, IfSome}
+use Rattle.std.proofs.lemmas.List.{take_all}
 use Rattle.jpg_base.specs.declared.names.Name.{Name}
 use Rattle.jpg_base.specs.declared.names.Put.TheVariants as put
 use Rattle.jpg_base.specs.Desk.{DeskState, Opens}
 use Rattle.jpg_spec_encode.specs.Encoded.{Encoding}
-use Rattle.jpg_spec_image.specs.Images.{Image}
+use Rattle.jpg_spec_image.specs.Images.{Image, sample_count}
 use Rattle.jpg_spec_image.specs.declared.image.ImageInfo.{ImageInfo}
 use Rattle.jpg_spec_words.specs.declared.answers.Why.{Why}
 use Rattle.jpg_spec_words.specs.declared.answers.Why.TheVariants as why
 use Rattle.jpg_spec_words.specs.declared.answers.Which.TheVariants as which
 use Rattle.jpg_color.specs.Encode.{AsksFor, CanSample, image_of}
-use Rattle.jpg_color.specs.EncodeRows.{BeginsRows, RowScan}
+use Rattle.jpg_color.specs.EncodeRows.{BeginsRows, RowScan, row_scan}
+use Rattle.jpg_huff.specs.declared.set.TableSet.{TableSet}
+use Rattle.jpg_file.specs.declared.write.sole.SoleScan.{SoleScan}
 use Rattle.jpg_color.specs.EncodeSampling.{BeginsSampling}
 use Rattle.jpg_color.specs.ImageEncoder.{AddsTaken, HasTaken}
 use Rattle.jpg_color.specs.declared.encode.EncodeStop.{EncodeStop}
@@ -29,13 +32,16 @@ use Rattle.jpg_color.specs.declared.encode.image_encoder.ImageEncoder.{ImageEnco
 use Rattle.jpg_color.specs.declared.encode.image_encoder.ImageEncoder.TheVariants as encoder
 use Rattle.jpg_cli.specs.Tools.EncodedRead.{Encodes, EncodedRead, EndsEncoding}
 use Rattle.jpg_desk.specs.EncodedRows.{scan_of}
-use Rattle.jpg_desk.specs.ImageSource.{source_samples, source_taken}
-use Rattle.jpg_desk.specs.ImageTaken.{IsSourceFed, is_targa}
+use Rattle.jpg_desk.specs.ImageSource.{CanGiveSamples, GivesFrom, HasFed, TellsGiving, TellsSamples, is_source_read, source_samples, source_taken}
+use Rattle.jpg_targa.specs.declared.read.given.TargaSamples.{TargaSamples}
+use Rattle.jpg_targa.specs.declared.read.reader.TargaReader.{TargaReader}
+use Rattle.jpg_desk.specs.ImageTaken.{HoldsSome, IsSourceFed, is_targa}
 use Rattle.jpg_desk.specs.Judging.{NoValueTaken, TakesPieces}
 use Rattle.jpg_desk.specs.ReadImage.{IsImageRead, image_judging}
 use Rattle.jpg_desk.specs.Reading.{rest_of}
-use Rattle.jpg_cli.specs.Tools.SamplesFed.{AfterData, AfterSamples, AreGivenFrom, Begins, CanGoOn, FinishesPlanes, GivesData, GivesRest, GoesOnFrom, GoesOnRows, HasDataOf, HasGivenRest, is_given}
+use Rattle.jpg_cli.specs.Tools.SamplesFed.{AfterData, AfterSamples, AreGivenFrom, Begins, BeginsSource, CanGoOn, FinishesPlanes, GivesData, GivesRest, GoesOnFrom, GoesOnRows, HasDataOf, HasGivenRest, TellsNumbers, is_given}
 use Rattle.jpg_cli.specs.declared.tools.cjpeg_image.Rest.{Rest}
+use Rattle.jpg_cli.specs.declared.tools.cjpeg_image.Rest.TheVariants as gives
 use Rattle.jpg_desk.specs.Stays.{OnlyReads}
 use Rattle.jpg_desk.specs.declared.encoded_rows.EncodedPicture.{EncodedPicture}
 use Rattle.jpg_desk.specs.declared.encoded_rows.EncodedPicture.TheVariants as picture
@@ -43,7 +49,7 @@ use Rattle.jpg_desk.specs.declared.encoded_rows.OneScan.{OneScan}
 use Rattle.jpg_desk.specs.declared.image_source.ImageSource.{ImageSource}
 use Rattle.jpg_desk.specs.declared.image_source.ImageSource.TheVariants as source
 use Rattle.jpg_desk.proofs.ImageFed.{fed_open, fed_taken}
-use Rattle.jpg_desk.proofs.ImageTaken.{open_end, targa_is}
+use Rattle.jpg_desk.proofs.ImageTaken.{open_end, read_some, targa_is}
 use Rattle.jpg_desk.proofs.Input.{noted}
 use Rattle.jpg_desk.proofs.PictureTaken.{none_taken, reads_from}
 
@@ -64,10 +70,27 @@ none_encoded targa E s0 s1 other h = absurd h
 
 -- BY AN ENCODER
 
--- from where a reader knows that its samples can be given
-abbrev pub goes_from : {targa : Bool} {E : Image → Encoding} {start : DeskState} {bytes : List ℕ} {r : ImageSource} {s : Sampler} {now : DeskState} → Begins E None bytes r (encoder.Planes s) → IsSourceFed targa start bytes r now
-    → GoesOnFrom E None start bytes r (encoder.Planes s) now
-goes_from {targa} {start = start} {bytes} {r} {now = now} b h = record { begun = b; read = subst (λ (t : Bool). IsSourceFed t start bytes r now) (targa_is targa bytes r h.goes.fed) h }
+-- where a reader tells the numbers of the image
+pub plain_numbers : (r : ImageSource) (info : ImageInfo) → TellsSamples r info → TellsNumbers r info
+plain_numbers (source.Pixels r) info h targa bytes fed = (h targa bytes fed).1
+plain_numbers (source.Targa r) info h targa bytes fed = absurd (subst (λ (t : Bool). HasFed t bytes (source.Targa r)) (h targa bytes fed).0 fed)
+
+pub targa_numbers : (r : ImageSource) (o : Option ImageInfo) → IfSome o (TellsGiving r) → IfSome o (λ info. CanGiveSamples r) → IfSome o (TellsNumbers r)
+targa_numbers r None h can = tt
+targa_numbers (source.Pixels r) (Some info) h can = absurd can
+targa_numbers (source.Targa r) (Some info) h can = λ targa bytes fed. ((h targa bytes fed).1, can)
+
+-- and what gives the samples that come
+pub targa_goes : (r : TargaReader) (given : TargaSamples) → GivesFrom (source.Targa r) given → GivesRest (source.Targa r) (gives.Given given)
+targa_goes r given h = (refl, λ info bytes fed goes. record { all = []; has = (h true bytes fed).1; begun = goes.0; bytes_all = fed.2; given_is = sym (take_all (sample_count info) [] (omega arith)) })
+
+-- from where its samples can be given
+pub reads_on : {E : Image → Encoding} {s : Sampler} (targa : Bool) (start : DeskState) (r : ImageSource) (now : DeskState) → is_source_read r ≡ false → OnlyReads start now → TakesPieces (λ bytes. HoldsSome targa false (rest_of now.left) bytes r) start now → BeginsSource targa E r s
+    → (targa ≡ is_targa r) × ((bytes : List ℕ) × GoesOnFrom E None start bytes r (encoder.Planes s) now)
+reads_on targa start r now more kept read begins =
+    let some = read_some targa start r now more kept read in
+    let same = targa_is targa some.0 r some.1.goes.fed in
+    (same, (some.0, record { begun = begins some.0 some.1.goes.fed; read = subst (λ (t : Bool). IsSourceFed t start some.0 r now) same some.1 }))
 
 pub begun_given : {E : Image → Encoding} {w : Option RowScan} {start : DeskState} {bytes samples made : List ℕ} {r : ImageSource} {rest : Rest} {s0 s1 : ImageEncoder} {taken : ℕ} {now : DeskState} (h : GoesOnFrom E w start bytes r s0 now) → samples ≡ source_samples r → taken ≡ source_taken r → GivesRest r rest → AddsTaken s0 samples s1
     → AreGivenFrom s0 start bytes (record { encoder = s1; rest = rest; made = made; taken = taken }) now
@@ -102,14 +125,12 @@ data_ended {w = w} {info} {a} start now (Ok text) (all, read, most, g) gives mem
 data_ended {targa} start now (Err ended) (all, read, most, g) gives memory = subst (λ (e : Why). NoValueTaken (image_judging targa) start e now) (sym memory) (all, read, most, (g.read).read)
 
 -- by an encoder of rows, of a sampler
-abbrev pub rows_go : {E : Image → Encoding} {start : DeskState} {bytes : List ℕ} {r : ImageSource} {s : Sampler} {o : OneScan} {now : DeskState} (w : RowScan) (rows : RowEncoder) → BeginsRows s w rows → w ≡ scan_of o → GoesOnRows E start bytes r s o now
-    → GoesOnFrom E (Some (scan_of o)) start bytes r (encoder.Rows rows) now
-rows_go {o = o} w rows begins same h =
+abbrev pub rows_go : {E : Image → Encoding} {start : DeskState} {bytes : List ℕ} {r : ImageSource} {s : Sampler} {o : OneScan} {now : DeskState} (scan : SoleScan) (tables : TableSet) (rows : RowEncoder) → BeginsRows s (row_scan (scan.due).head tables (scan.due).interval) rows → tables ≡ scan.tables → scan ≡ (o.scan).value
+    → GoesOnRows E start bytes r s o now → GoesOnFrom E (Some (scan_of o)) start bytes r (encoder.Rows rows) now
+rows_go {o = o} scan tables rows begins lent same h =
     let b = (h.goes).begun in
-    record {
-      begun = record { info = b.info; asked = b.asked; like = b.like; goes = b.goes; sampled = subst (λ (v : RowScan). HasTaken (Some v) b.info b.asked [] (encoder.Rows rows)) same (begins b.info b.asked b.sampled) };
-      read = (h.goes).read;
-    }
+    let is : row_scan (scan.due).head tables (scan.due).interval ≡ scan_of o = ap (λ (t : TableSet). row_scan (scan.due).head t (scan.due).interval) lent ∙ ap (λ (s : SoleScan). row_scan (s.due).head s.tables (s.due).interval) same in
+    record { begun = record { info = b.info; asked = b.asked; like = b.like; goes = b.goes; sampled = subst (λ (v : RowScan). HasTaken (Some v) b.info b.asked [] (encoder.Rows rows)) is (begins b.info b.asked b.sampled) }; read = (h.goes).read }
 
 pub rows_encoded : {E : Image → Encoding} {start : DeskState} {bytes : List ℕ} {r : ImageSource} {s0 : Sampler} {o : OneScan} {old now : DeskState} (h : GoesOnRows E start bytes r s0 o old) (text : List ℕ)
     → HasDataOf (is_targa r) (scan_of o) ((h.goes).begun).info ((h.goes).begun).asked start text now → EndsEncoding (is_targa r) E start (Ok (picture.Rows (record { file = o; bytes = text }))) now
@@ -131,16 +152,7 @@ encoded_from targa E s0 s1 s2 file (Err other) h k e = absurd e
 -- WHAT IS ASKED FOR
 
 pub can_sample : (info : ImageInfo) (a : Asked) → CanEncodeKind info.kind a → AreRightNumbers info → CanSample info a
-can_sample info a k n = record {
-  wide = n.width_low;
-  wide_few = n.width_high;
-  high = n.height_low;
-  high_few = n.height_high;
-  factors = k.factors;
-  pairs = k.pairs;
-  first = k.first;
-  others = k.others;
-}
+can_sample info a k n = record { wide = n.width_low; wide_few = n.width_high; high = n.height_low; high_few = n.height_high; factors = k.factors; pairs = k.pairs; first = k.first; others = k.others }
 
 -- of one whose samples come
 pub numbers_right : (info : ImageInfo) (bytes : List ℕ) (r : ImageSource) → CanGoOn info bytes r → AreRightNumbers info

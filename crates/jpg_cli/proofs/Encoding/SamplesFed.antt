@@ -1,8 +1,7 @@
 -- Samples given to an encoder while they are read.
-use Rattle.std.proofs.Common.{◌≡◌, ℕ, zero, suc, ◌+◌, ◌<◌, ◌≤◌, min, Bool, true, false, List, [], ◌∷◌, ◌++◌, length, take, Option, None, Some, Result, Ok, Err, refl, sym, ap, ◌∙◌, subst, arith, ⊎_elim}
+use Rattle.std.proofs.Common.{◌≡◌, ℕ, zero, suc, ◌+◌, ◌<◌, ◌≤◌, min, Bool, true, false, List, [], ◌∷◌, ◌++◌, length, take, get_or, Option, None, Some, Result, Ok, Err, refl, sym, ap, ◌∙◌, subst, arith, ⊎_elim}
 use Rattle.std.proofs.lemmas.Bool.{cases_lt}
 use Rattle.std.proofs.lemmas.List.{append-nil, length-append, length-take, length-take-le, take_all, take_min}
-use Rattle.std.proofs.lemmas.List.Elements.{All-append}
 use Rattle.jpg_base.specs.declared.stop.Stop.{Stop}
 use Rattle.jpg_base.specs.declared.stop.Stop.TheVariants as stop
 use Rattle.jpg_base.specs.Desk.{DeskState}
@@ -37,6 +36,7 @@ use Rattle.jpg_desk.specs.Reading.{rest_of}
 use Rattle.jpg_desk.specs.Stays.{OnlyReads}
 use Rattle.jpg_desk.proofs.ImageFed.{right_image}
 use Rattle.jpg_desk.proofs.ImageTaken.{open_end, open_more, open_read, open_too_long}
+use Rattle.jpg_desk.proofs.PiecesRead.{more_small}
 use Rattle.jpg_desk.proofs.Pumped.{all_read}
 use Rattle.jpg_cli.specs.Tools.SamplesFed.{AfterSamples, AreAll, AreAllGiven, AreGiven, AreGivenFrom, HasGivenRest, IsAllGiven, IsGivenTarga, TakesSome, is_done, is_given, samples_reader}
 use Rattle.jpg_cli.specs.declared.tools.cjpeg_image.Rest.{Rest}
@@ -64,17 +64,17 @@ numbers_are (Some w) info a given (encoder.Rows r) h = h.0.sampled.numbers
 -- FROM THE BYTES SO FAR
 
 take_rest : (n left : ℕ) (all more : List ℕ) → length (take n all) + left ≡ n → take n all ++ take (min left (length more)) more ≡ take n (all ++ more)
-take_rest zero left all more h = (let none : left ≡ 0 = omega (arith, h) in ap (λ k. take (min k (length more)) more) none)
-take_rest (suc n) left [] more h = take_min left more ∙ ap (λ k. take k more) h
+take_rest zero left all more h = (let none : left ≡ 0 = omega (arith, h) in take_min left more ∙ ap (λ k. take k more) none)
+take_rest (suc n) left [] more h = (let all : left ≡ suc n = omega (arith, h) in take_min left more ∙ ap (λ k. take k more) all)
 take_rest (suc n) left (x ∷ all) more h = ap (λ (l : List ℕ). x ∷ l) (take_rest n left all more (omega (arith, h)))
 
 -- no prefix is complete or has a fault, and where they end the file is too short
-stands_yet : (targa : Bool) (r : Rest) {info : ImageInfo} {bytes given : List ℕ} → HasGivenRest targa info bytes given r
+stands_yet : (targa : Bool) (info : ImageInfo) (bytes given : List ℕ) (r : Rest) → HasGivenRest targa info bytes given r
     → IsOpenIn targa bytes × (length bytes < standard_limits.input → HasFaultIn targa bytes (record { fault = ImageShort; at = length bytes }))
-stands_yet false gives.Plain {info} {bytes} {given} h = (let goes = goes_on_plain info bytes given h in (goes.open_yet, goes.short standard_limits))
-stands_yet true (gives.Given r) {bytes = bytes} h = (let w = h.has.2.gives in (given_open bytes h.all r.reader.work w, λ less. given_short bytes h.all r.reader.work w))
-stands_yet true gives.Plain h = absurd h
-stands_yet false (gives.Given r) h = absurd h
+stands_yet false info bytes given gives.Plain h = (let goes = goes_on_plain info bytes given h in (goes.open_yet, goes.short standard_limits))
+stands_yet true info bytes given (gives.Given r) h = (let w = h.has.2.gives in (given_open bytes h.all r.reader.work w, λ less. given_short bytes h.all r.reader.work w))
+stands_yet true info bytes given gives.Plain h = absurd h
+stands_yet false info bytes given (gives.Given r) h = absurd h
 
 module _ {targa : Bool} {from : ImageEncoder} {bytes : List ℕ} {s0 : SamplesSink} (g : AreGiven targa from bytes s0) where
   -- the samples that it has
@@ -82,7 +82,7 @@ module _ {targa : Bool} {from : ImageEncoder} {bytes : List ℕ} {s0 : SamplesSi
   has = g.sampled (g.begun).0 (g.begun).1 (g.begun).2
 
   yet : IsOpenIn targa bytes × (length bytes < standard_limits.input → HasFaultIn targa bytes (record { fault = ImageShort; at = length bytes }))
-  yet = stands_yet targa s0.rest g.fed
+  yet = stands_yet targa g.info bytes g.given s0.rest g.fed
 
   short_read : (piece : List ℕ) → length piece ≤ 16384 → IsShortImageRead targa (bytes ++ piece)
   short_read piece few = open_more targa bytes piece yet.0 g.short (omega (arith, few))
@@ -113,25 +113,17 @@ module _ {targa : Bool} {from : ImageEncoder} {bytes : List ℕ} {s0 : SamplesSi
     }
 
     all_given : (piece rest : List ℕ) → length piece ≤ 16384 → IsRightImage (image_of g.info now) → HasImageIn targa ((bytes ++ piece) ++ rest) (image_of g.info now) → AreAllGiven targa from rest (bytes ++ piece) s1.encoder
-    all_given piece rest few right is = record {
-      info = g.info;
-      samples = now;
-      begun = g.begun;
-      sampled = λ w a h. takes.1 w g.info a g.given (g.sampled w a h);
-      count = right.count;
-      read = record { is = is; read = short_read piece few };
-      right = right;
-    }
+    all_given piece rest few right is = record { info = g.info; samples = now; begun = g.begun; sampled = λ w a h. takes.1 w g.info a g.given (g.sampled w a h); count = right.count; read = record { is = is; read = short_read piece few }; right = right }
 
 -- A PIECE, for all that was given before
 
-is_plain : (targa : Bool) {info : ImageInfo} {bytes given : List ℕ} → HasGivenRest targa info bytes given gives.Plain → (targa ≡ false) × HasFedSamples info bytes given
-is_plain false h = (refl, h)
-is_plain true h = absurd h
+is_plain : (targa : Bool) (info : ImageInfo) (bytes given : List ℕ) → HasGivenRest targa info bytes given gives.Plain → (targa ≡ false) × HasFedSamples info bytes given
+is_plain false info bytes given h = (refl, h)
+is_plain true info bytes given h = absurd h
 
-by_targa : (targa : Bool) {info : ImageInfo} {bytes given : List ℕ} (r : TargaSamples) → HasGivenRest targa info bytes given (gives.Given r) → (targa ≡ true) × IsGivenTarga info bytes given r
-by_targa true r h = (refl, h)
-by_targa false r h = absurd h
+by_targa : (targa : Bool) (info : ImageInfo) (bytes given : List ℕ) (r : TargaSamples) → HasGivenRest targa info bytes given (gives.Given r) → (targa ≡ true) × IsGivenTarga info bytes given r
+by_targa true info bytes given r h = (refl, h)
+by_targa false info bytes given r h = absurd h
 
 module _ (old new : SamplesSink) (piece : List ℕ) (few : length piece ≤ 16384) where
   -- there was no memory
@@ -149,7 +141,7 @@ module _ (old new : SamplesSink) (piece : List ℕ) (few : length piece ≤ 1638
       targa = is_given from.rest
 
       plain : (targa ≡ false) × HasFedSamples h.info bytes h.given
-      plain = is_plain targa (subst (HasGivenRest targa h.info bytes h.given) was h.fed)
+      plain = is_plain targa h.info bytes h.given (subst (HasGivenRest targa h.info bytes h.given) was h.fed)
 
       goes : GoesOnPlain h.info bytes h.given
       goes = goes_on_plain h.info bytes h.given plain.1
@@ -193,29 +185,29 @@ module _ (old new : SamplesSink) (piece : List ℕ) (few : length piece ≤ 1638
           (open_too_long (bytes ++ piece) rest (goes_on_plain h.info (bytes ++ piece) (h.given ++ piece) (goes.more piece takes.0 (still k.1))).open_yet (sym taken ∙ k.2)))
 
   -- a reader of Targa gives them
-  module _ {r0 r1 : TargaSamples} {made : List ℕ} (small : AreBytes piece) (was : old.rest ≡ gives.Given r0) where
-    given_by : {from : SamplesSink} {bytes : List ℕ} (h : AreGiven (is_given from.rest) from.encoder bytes old) → (is_given from.rest ≡ true) × IsGivenTarga h.info bytes h.given r0
-    given_by {from} {bytes} h = by_targa (is_given from.rest) r0 (subst (HasGivenRest (is_given from.rest) h.info bytes h.given) was h.fed)
+  module _ (r0 r1 : TargaSamples) (before made : List ℕ) (was : old.rest ≡ gives.Given r0) where
+    given_by : (targa : Bool) (from : ImageEncoder) (bytes : List ℕ) (h : AreGiven targa from bytes old) → (targa ≡ true) × IsGivenTarga h.info bytes h.given r0
+    given_by targa from bytes h = by_targa targa h.info bytes h.given r0 (subst (HasGivenRest targa h.info bytes h.given) was h.fed)
 
-    pub targa_stopped : (ended : Stop) → Gives r0 piece [] (Err ended) r1 made → TakesPiece samples_reader old piece (Err (why_stopped ended)) new
+    pub targa_stopped : (ended : Stop) → Gives r0 piece before (Err ended) r1 made → TakesPiece samples_reader old piece (Err (why_stopped ended)) new
     targa_stopped (stop.Fault f) g from bytes h most =
-        let t = given_by h in
+        let t = given_by (is_given from.rest) from.encoder bytes h in
         λ rest. record { is = subst (λ (b : Bool). HasFaultIn b ((bytes ++ piece) ++ rest) f) (sym t.0) ((g bytes (t.1).all (t.1).has).2 rest); read = short_read h piece few }
-    targa_stopped stop.NoMemory g = samples_lost
+    targa_stopped stop.NoMemory g from bytes h most = short_read h piece few
 
-    pub targa_taken : (answer : Fed2) → Gives r0 piece [] (Ok answer) r1 made → new.rest ≡ gives.Given r1 → TakesSome old.encoder made new.encoder → new.taken ≡ old.taken + length piece → TakesPiece samples_reader old piece (Ok (is_done answer)) new
-    targa_taken answer g is takes count from bytes h most = by answer (g bytes (t.1).all (t.1).has)
+    pub targa_taken : (answer : Fed2) → ((i : ℕ) → get_or piece i 0 < 256) → before ≡ [] → Gives r0 piece before (Ok answer) r1 made → new.rest ≡ gives.Given r1 → TakesSome old.encoder made new.encoder → new.taken ≡ old.taken + length piece → TakesPiece samples_reader old piece (Ok (is_done answer)) new
+    targa_taken answer small none g is takes count from bytes h most = by answer (g bytes (t.1).all (t.1).has)
       where
         t : (is_given from.rest ≡ true) × IsGivenTarga h.info bytes h.given r0
-        t = given_by h
+        t = given_by (is_given from.rest) from.encoder bytes h
 
         begun : IsBegunTarga h.info (bytes ++ piece)
         begun = (goes_on_targa h.info bytes (t.1).begun).more piece
 
         all_small : AreBytes (bytes ++ piece)
-        all_small = All-append (λ b. b < 256) bytes piece (t.1).bytes_all small
+        all_small = more_small bytes piece (t.1).bytes_all small
 
-        by : (answer : Fed2) → Appends [] made (λ more. AfterGiven bytes piece ((t.1).all ++ more) (Ok answer) r1) → AfterTaking samples_reader from (bytes ++ piece) (Ok (is_done answer)) new
+        by : (answer : Fed2) → Appends before made (λ more. AfterGiven bytes piece ((t.1).all ++ more) (Ok answer) r1) → AfterTaking samples_reader from (bytes ++ piece) (Ok (is_done answer)) new
         by fed.More (more, e, k) =
             let less = open_few (bytes ++ piece) all_small (given_open (bytes ++ piece) ((t.1).all ++ more) r1.reader.work k.2.gives) in
             let short : length (bytes ++ piece) < standard_limits.input = omega (arith, less) in
@@ -224,7 +216,7 @@ module _ (old new : SamplesSink) (piece : List ℕ) (few : length piece ≤ 1638
               has = k;
               begun = begun;
               bytes_all = all_small;
-              given_is = now_is h new made takes (t.1).all (t.1).given_is ∙ ap (λ (x : List ℕ). take (sample_count h.info) ((t.1).all ++ x)) e;
+              given_is = now_is h new made takes (t.1).all (t.1).given_is ∙ ap (λ (x : List ℕ). take (sample_count h.info) ((t.1).all ++ x)) (e ∙ ap (λ (x : List ℕ). x ++ more) none);
             } in
             (more_given h new made takes piece (subst (λ (b : Bool). HasGivenRest b h.info (bytes ++ piece) (now h new made takes) new.rest) (sym t.0) (subst (HasGivenRest true h.info (bytes ++ piece) (now h new made takes)) (sym is) fed)) count short, short)
         by fed.Done (more, e, k) =
@@ -233,7 +225,7 @@ module _ (old new : SamplesSink) (piece : List ℕ) (few : length piece ≤ 1638
             let right : IsRightImage I = right_image true ((bytes ++ piece) ++ []) I (k []) (subst AreBytes (sym (append-nil (bytes ++ piece))) all_small) in
             let info : given_info r1 ≡ h.info = (goes_on_targa h.info (bytes ++ piece) begun).image [] I (k []) in
             let count = right.count ∙ ap sample_count info in
-            let samples : whole ≡ now h new made takes = sym (now_is h new made takes (t.1).all (t.1).given_is ∙ ap (λ (x : List ℕ). take (sample_count h.info) ((t.1).all ++ x)) e ∙ take_all (sample_count h.info) whole (omega (arith, count))) in
+            let samples : whole ≡ now h new made takes = sym (now_is h new made takes (t.1).all (t.1).given_is ∙ ap (λ (x : List ℕ). take (sample_count h.info) ((t.1).all ++ x)) (e ∙ ap (λ (x : List ℕ). x ++ more) none) ∙ take_all (sample_count h.info) whole (omega (arith, count))) in
             let same : I ≡ image_of h.info (now h new made takes) = ap (λ (i : ImageInfo). image_of i whole) info ∙ ap (image_of h.info) samples in
             λ rest. all_given h new made takes piece rest few (subst IsRightImage same right)
                 (subst (λ (b : Bool). HasImageIn b ((bytes ++ piece) ++ rest) (image_of h.info (now h new made takes))) (sym t.0) (subst (HasImageIn true ((bytes ++ piece) ++ rest)) same (k rest)))
@@ -259,15 +251,9 @@ samples_fed h = record { short = (h.given).short; fed = record { fed = h.given; 
 all_of : {targa : Bool} {w : Option RowScan} {info : ImageInfo} {a : Asked} {from s : ImageEncoder} {rest bytes : List ℕ} → HasTaken w info a [] from → AreAllGiven targa from rest bytes s → IsAllGiven targa w info a rest bytes s
 all_of {targa} {w} {info} {a} {from} {s} {rest} {bytes} has h =
     let same : h.info ≡ info = sym (numbers_are (h.begun).0 h.info (h.begun).1 [] from (h.begun).2) ∙ numbers_are w info a [] from has in
-    subst (λ (i : ImageInfo). IsAllGiven targa w i a rest bytes s) same (record {
-      samples = h.samples;
-      sampled = h.sampled w a (subst (λ (i : ImageInfo). HasTaken w i a [] from) (sym same) has);
-      count = h.count;
-      read = h.read;
-      right = h.right;
-    })
+    subst (λ (i : ImageInfo). IsAllGiven targa w i a rest bytes s) same (record { samples = h.samples; sampled = h.sampled w a (subst (λ (i : ImageInfo). HasTaken w i a [] from) (sym same) has); count = h.count; read = h.read; right = h.right })
 
-module _ {from : ImageEncoder} {start : DeskState} {old : SamplesSink} {now : SamplesSink × DeskState} where
+module _ (old : SamplesSink) {from : ImageEncoder} {start : DeskState} {now : SamplesSink × DeskState} where
   samples_pumped : (answer : Result (Option ℕ) Why) → EndsAll (of_reader samples_reader) (at_first old from, start) answer now → ReadsInput SamplesSink Image samples_reader (at_first old from, start) answer now
   samples_pumped answer h = all_read SamplesSink Image samples_reader (at_first old from, start) now answer (λ bytes f short. open_read (is_given old.rest) bytes (yet f).0 short) h
 

@@ -180,7 +180,7 @@ fn encode_planes<'a, D: Desk>(
     requires open { (D.state desk.old).input_open ≡ true }
     requires few { length (source_samples reader) ≤ encoder_left encoder }
     requires goes { GoesOnAsPlanes reader encoder (D.state desk.old) }
-    ensures { EndsPlanes reader.entry encoder.entry (D.state desk.old) result (D.state desk.new) }
+    ensures { EndsPlanes reader encoder.entry (D.state desk.old) result (D.state desk.new) }
 {
     match feed_all(alloc, reader, encoder, desk) {
         Err(why) => Err(why),
@@ -212,7 +212,7 @@ fn encode_rows<D: Desk>(
     requires open { (D.state desk.old).input_open ≡ true }
     requires few { length (source_samples reader) ≤ samples_left sampler }
     requires goes { GoesOnAsRows reader sampler file (D.state desk.old) }
-    ensures { EndsRows reader.entry sampler file (D.state desk.old) result (D.state desk.new) }
+    ensures { EndsRows reader sampler file (D.state desk.old) result (D.state desk.new) }
 {
     let scan = file.scan.as_ref();
     let Ok(places) = places_for(alloc, &scan.tables) else {
@@ -236,7 +236,7 @@ fn rows_data<'a, D: Desk>(
     requires open { (D.state desk.old).input_open ≡ true }
     requires few { length (source_samples reader) ≤ encoder_left encoder }
     requires goes { GoesOnScan reader encoder (D.state desk.old) }
-    ensures { EndsData reader.entry encoder.entry (D.state desk.old) result (D.state desk.new) }
+    ensures { EndsData reader encoder.entry (D.state desk.old) result (D.state desk.new) }
 {
     match feed_all(alloc, reader, encoder, desk) {
         Err(why) => Err(why),
@@ -374,7 +374,7 @@ fn feed_all<'a, D: Desk>(
     requires open { (D.state desk.old).input_open ≡ true }
     requires few { length (source_samples reader) ≤ encoder_left encoder }
     requires goes { GoesOn reader encoder (D.state desk.old) }
-    ensures { FeedsAll reader.entry encoder.entry (D.state desk.old) result (D.state desk.new) }
+    ensures { FeedsAll reader encoder.entry (D.state desk.old) result (D.state desk.new) }
 {
     let mut encoder = encoder;
     match encoder.feed(reader.samples()) {
@@ -395,7 +395,7 @@ fn feed_all<'a, D: Desk>(
 // What gives the samples that come, of a reader that tells the image's numbers.
 fn rest_of(reader: ImageSource) -> Rest
     requires { (info : Numbers) × (bytes : List ℕ) × CanGoOn info bytes reader }
-    ensures { GivesRest reader.entry result }
+    ensures { GivesRest reader result }
 {
     match &reader {
         ImageSource::Pixels(_) => Rest::Plain,

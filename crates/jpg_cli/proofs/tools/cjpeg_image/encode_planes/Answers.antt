@@ -1,4 +1,5 @@
-use Rattle.std.proofs.Common.{None, false}
+use Rattle.std.proofs.Common.{None}
+use Rattle.jpg_desk.specs.ImageTaken.{is_targa}
 use Rattle.jpg_cli.proofs.Encoding.EncodedRead.{all_encoded, none_encoded}
 use Rattle.jpg_cli.proofs.tools.cjpeg_image.encode_planes.Goals as goal
 
@@ -6,7 +7,7 @@ pub feed_all-requires-clause-goes : goal.feed_all-requires-clause-goes
 feed_all-requires-clause-goes g c = (let r = c.requires.goes in (r.0, None, r.1, r.2, r.3))
 
 pub returns-in-Err : goal.returns-in-Err
-returns-in-Err g c = λ E start bytes h. (let r = c.in-Err.ensures E None start bytes h in (r.0, none_encoded false E start (g.D.Desk.state c.feed_all.new.desk) c.in-Err.why r.1))
+returns-in-Err g c = λ E start bytes h. (let r = c.in-Err.ensures E None start bytes h in (r.0, none_encoded (is_targa c.args.reader) E start (g.D.Desk.state c.feed_all.new.desk) c.in-Err.why r.1))
 
 pub finish_planes-requires : goal.finish_planes-requires
 finish_planes-requires g c =

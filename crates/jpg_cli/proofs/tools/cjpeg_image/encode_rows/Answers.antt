@@ -1,37 +1,23 @@
-use Rattle.std.proofs.Common.{◌∙◌, ap, false}
-use Rattle.jpg_huff.specs.declared.set.TableSet.{TableSet}
-use Rattle.jpg_file.specs.declared.write.sole.SoleScan.{SoleScan}
-use Rattle.jpg_color.specs.EncodeRows.{row_scan}
 use Rattle.jpg_desk.specs.EncodedRows.{scan_of}
+use Rattle.jpg_desk.specs.ImageTaken.{is_targa}
 use Rattle.jpg_cli.proofs.Encoding.EncodedRead.{begun_unheld, none_encoded, rows_encoded, rows_go}
 use Rattle.jpg_cli.proofs.tools.cjpeg_image.encode_rows.Goals as goal
 
 pub rows_data-requires-clause-goes : goal.rows_data-requires-clause-goes
 rows_data-requires-clause-goes g c =
     let r = c.requires.goes in
-    let due = c.as_ref-scan.result.now.due in (
-      r.0,
-      scan_of c.args.file,
-      r.1,
-      r.2,
-      rows_go (row_scan due.head c.new-encoders.result due.interval) c.new-rows.result c.new-rows.ensures.begins
-          (ap (λ (t : TableSet). row_scan due.head t due.interval) c.new-encoders.ensures ∙ ap (λ (s : SoleScan). row_scan (s.due).head s.tables (s.due).interval) c.as_ref-scan.ensures) r.3,
-    )
+    (r.0, scan_of c.args.file, r.1, r.2, rows_go c.as_ref-scan.result.now c.new-encoders.result c.new-rows.result c.new-rows.ensures.begins c.new-encoders.ensures c.as_ref-scan.ensures r.3)
 
 pub returns-in-Err : goal.returns-in-Err
 returns-in-Err g c = λ E start bytes h.
-    let due = c.as_ref-scan.result.now.due in
-    let r =
-    c.in-Err.ensures E (scan_of c.args.file) start bytes (rows_go (row_scan due.head c.new-encoders.result due.interval) c.new-rows.result c.new-rows.ensures.begins
-    (ap (λ (t : TableSet). row_scan due.head t due.interval) c.new-encoders.ensures ∙ ap (λ (s : SoleScan). row_scan (s.due).head s.tables (s.due).interval) c.as_ref-scan.ensures) h) in
-    (r.0, none_encoded false E start (g.D.Desk.state c.rows_data.new.desk) c.in-Err.why r.1)
+    let go = rows_go c.as_ref-scan.result.now c.new-encoders.result c.new-rows.result c.new-rows.ensures.begins c.new-encoders.ensures c.as_ref-scan.ensures h in
+    let r = c.in-Err.ensures E (scan_of c.args.file) start bytes go in
+    (r.0, none_encoded (is_targa c.args.reader) E start (g.D.Desk.state c.rows_data.new.desk) c.in-Err.why r.1)
 
 pub returns-in-Ok-rows_data : goal.returns-in-Ok-rows_data
 returns-in-Ok-rows_data g c = λ E start bytes h.
-    let due = c.as_ref-scan.result.now.due in
-    let r =
-    c.in-Ok-rows_data.ensures E (scan_of c.args.file) start bytes (rows_go (row_scan due.head c.new-encoders.result due.interval) c.new-rows.result c.new-rows.ensures.begins
-    (ap (λ (t : TableSet). row_scan due.head t due.interval) c.new-encoders.ensures ∙ ap (λ (s : SoleScan). row_scan (s.due).head s.tables (s.due).interval) c.as_ref-scan.ensures) h) in
+    let go = rows_go c.as_ref-scan.result.now c.new-encoders.result c.new-rows.result c.new-rows.ensures.begins c.new-encoders.ensures c.as_ref-scan.ensures h in
+    let r = c.in-Ok-rows_data.ensures E (scan_of c.args.file) start bytes go in
     (r.0, rows_encoded h c.in-Ok-rows_data.bytes r.1)
 
 pub returns-in_default : goal.returns-in_default

@@ -21,9 +21,5 @@ returns-in-Ok-feed c =
     let a = c.encoding_of-encoding.result in
     let given = subst (λ (samples : List ℕ). HasSampled i.info a samples c.feed.new.self) c.as_slice.ensures (c.in-Ok-feed.ensures.adds i.info a [] c.in-Ok.ensures.begins) in
     c.finish.ensures (encoding_by c.args.words.now (scans_view c.args.scans.now) c.args.tables) i.info a i.samples
-    (record {
-      asks = c.encoding_of-encoding.ensures.asks;
-      can = can_sample i.info a c.encoding_of-encoding.ensures.can (right_numbers (image_view i) c.requires);
-      restart = λ I. c.counted.ensures;
-    })
+    (record { asks = c.encoding_of-encoding.ensures.asks; can = can_sample i.info a c.encoding_of-encoding.ensures.can (right_numbers (image_view i) c.requires); restart = λ I. c.counted.ensures })
     given c.requires.count c.requires
