@@ -176,10 +176,7 @@ module _ {s : Showing} {run : Run} {work : Work} {m n : ℕ} where
 module _ {s : Showing} {run : Run} {n gap : ℕ} {d : Drawing} {e : EndState} {now : DeskState} where
   pub ending_framed : {q : Coefs} → (k : IsEnding s run n gap d e now)
       → LendsRow (frame_of standard_limits (run.head).before) k.rows q (k.meaning).blocks → IsMcuRow d.strips.display.frame q
-  ending_framed {q} k lent = record {
-    frame = lent.framed ∙ ap mcu_row_frame (sym k.framed);
-    range = subst (λ (x : Frame). AreInRange (bounds x) (map_of q)) (sym k.framed) lent.range;
-  }
+  ending_framed {q} k lent = record { frame = lent.framed ∙ ap mcu_row_frame (sym k.framed); range = subst (λ (x : Frame). AreInRange (bounds x) (map_of q)) (sym k.framed) lent.range }
 
 pub work_framed : {s : Showing} {run : Run} {work : Work} {m n : ℕ} {q : Coefs} → HasShownEarly s run m n work → IsNextRowDue (work.image).strips
     → ((rows : RowWork) → (work.reader).rows ≡ Some rows → q ≡ rows.coefs) → IsMcuRow (work.image).strips.display.frame q

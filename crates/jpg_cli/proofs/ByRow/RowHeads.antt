@@ -67,11 +67,4 @@ begins_whole front rest M (w, e) before contents h =
     let one =
     whole_once standard_limits h.front k.head h.rest (tail ++ rest) before (segments_of k.before) contents k.contents h.header k.header
     (sym h.cut ∙ ap (λ l. l ++ rest) cut ∙ append_assoc k.head tail rest) in
-    record {
-      front = k.head;
-      rest = tail;
-      cut = cut;
-      header = subst (λ l. IsHeader standard_limits l before contents) one.0 h.header;
-      unbroken = h.unbroken;
-      of_all = h.of_all;
-    }
+    record { front = k.head; rest = tail; cut = cut; header = subst (λ l. IsHeader standard_limits l before contents) one.0 h.header; unbroken = h.unbroken; of_all = h.of_all }

@@ -61,12 +61,7 @@ drawn_still new {M} x i h = record {
 }
 
 pub end_still : {d : Drawing} (new : Drawing) {e : EndState} → new.strips ≡ d.strips → new.info ≡ d.info → IsEndOf d e → IsEndOf new e
-end_still new x i h = record {
-  told = h.told ∙ ap (λ (j : ImageInfo). Some j) (sym i);
-  taken = h.taken ∙ sym (ap (λ (t : Strips). t.given) x);
-  parts = h.parts;
-  unfinished = h.unfinished;
-}
+end_still new x i h = record { told = h.told ∙ ap (λ (j : ImageInfo). Some j) (sym i); taken = h.taken ∙ sym (ap (λ (t : Strips). t.given) x); parts = h.parts; unfinished = h.unfinished }
 
 -- all that waited
 pub drawing_written : {s : Showing} {h : Head} {all : List ℕ} {m : ℕ} {written : List ℕ} {d : Drawing} (new : Drawing) {e : EndState} → new.strips ≡ d.strips → new.info ≡ d.info → new.out ≡ [] → IsDrawing s h all m written d e
@@ -162,16 +157,7 @@ module _ {s : Showing} {run : Run} {m : ℕ} {piece : List ℕ} where
       by (inl plain) = absurd (not_plain k.limits k.head (subst (λ l. HasNoRows r.limits l) (sym k.cut) (plain.0).plain))
       by (inr read) = (
         m,
-        record {
-          written = written;
-          limits = k.limits;
-          read = subst (λ l. HasReadRows l m r) (sym k.cut) read;
-          small = k.small;
-          head = k.head;
-          drawing = drawing;
-          desk = desk;
-          out = out;
-        },
+        record { written = written; limits = k.limits; read = subst (λ l. HasReadRows l m r) (sym k.cut) read; small = k.small; head = k.head; drawing = drawing; desk = desk; out = out },
       )
   rows_ended (Ok (fed.Row used)) last k drawing out desk early = absurd last
   rows_ended (Ok (fed.Done used)) {r} {d} {e} {written} {now} last k drawing out desk early = by k.after

@@ -99,10 +99,7 @@ row_due {s} {h} {all} {m} {d} head k w =
     record { given = w.given; missing = omega (arith, few, all_are, pushed) }
 
 pub row_framed : {s : Showing} {h : Head} {all : List ℕ} {m : ℕ} {written : List ℕ} {q : Coefs} {d : Drawing} {e : EndState} → IsNextRow h all m q → IsDrawing s h all m written d e → IsMcuRow d.strips.display.frame q
-row_framed {q} k w = record {
-  frame = k.frame ∙ ap mcu_row_frame (sym w.framed);
-  range = subst (λ (x : Frame). AreInRange (bounds x) (map_of q)) (sym w.framed) k.range;
-}
+row_framed {q} k w = record { frame = k.frame ∙ ap mcu_row_frame (sym w.framed); range = subst (λ (x : Frame). AreInRange (bounds x) (map_of q)) (sym w.framed) k.range }
 
 -- WHAT IT ADDS, of the picture that has its blocks as well
 

@@ -60,17 +60,8 @@ output_names {task} {old} {s0} {s1} {answer} r k = asks_next old s0 s1 (names_to
 uncreated : {task : Task} {comment bytes : List ℕ} {old s0 s1 : DeskState} → IsAtHead bytes → IsReading task comment bytes old s0 → Creates s0 task.output put.Failed s1 → Unopened (names_to_output task) old s1 × ReadsInput task IsAtHead old s1
 uncreated {task} {comment} {bytes} {old} {s1} at r k =
     let P : Option (List ℕ) → Type 0 = λ l. Consumes r.left l bytes in (
-      record {
-        stopped = record { asked = output_names r k; outputs = k.after.1 ∙ r.outputs };
-        opens = (let rose = k.after.0 in let f = r.counts.opens in omega arith);
-      },
-      record {
-        comment = comment;
-        bytes = bytes;
-        source = r.source;
-        read = (r.most, file_read old.files task.input r.left s1.left bytes r.opened (subst P (sym k.left) r.read));
-        is = at;
-      },
+      record { stopped = record { asked = output_names r k; outputs = k.after.1 ∙ r.outputs }; opens = (let rose = k.after.0 in let f = r.counts.opens in omega arith) },
+      record { comment = comment; bytes = bytes; source = r.source; read = (r.most, file_read old.files task.input r.left s1.left bytes r.opened (subst P (sym k.left) r.read)); is = at },
     )
 
 -- it was created, and this text written to it
@@ -214,13 +205,7 @@ module _ {task : Task} {comment bytes text : List ℕ} {old s0 : DeskState} (w :
 reads_alone : {task : Task} {comment bytes : List ℕ} {old now : DeskState} (Is : List ℕ → Type 0) → IsReading task comment bytes old now → Is bytes → ReadsAlone task Is old now
 reads_alone {task} {comment} {bytes} {old} {now} Is r is = (
   record { asked = r.names; outputs = r.outputs },
-  record {
-    comment = comment;
-    bytes = bytes;
-    source = r.source;
-    read = (r.most, file_read old.files task.input r.left now.left bytes r.opened r.read);
-    is = is;
-  },
+  record { comment = comment; bytes = bytes; source = r.source; read = (r.most, file_read old.files task.input r.left now.left bytes r.opened r.read); is = is },
 )
 
 -- nothing more was read

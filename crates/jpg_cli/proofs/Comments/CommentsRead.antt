@@ -92,14 +92,7 @@ fault_text bytes piece had text f c limits same e r short h rest =
     let so = text_so_far bytes had c same r in
     let less = subst (λ (l : Limits). length bytes < l.input) same r.2 in
     let within : f.at ≤ length (bytes ++ piece) = omega (arith, fault_within (HoldsWhole standard_limits) ((bytes ++ piece) ++ []) f.fault f.at (of []), length-append (bytes ++ piece) []) in
-    record {
-      before = p.0;
-      fault = of rest;
-      within = within;
-      last = fault_last (HoldsWhole standard_limits) bytes piece f so.nothing less short (of []);
-      whole = p.1;
-      is = p.2;
-    }
+    record { before = p.0; fault = of rest; within = within; last = fault_last (HoldsWhole standard_limits) bytes piece f so.nothing less short (of []); whole = p.1; is = p.2 }
 
 -- where there is no memory for all of the text; a reader that has its memory isn't without it
 pub less_text : (bytes piece text : List ℕ) (c : Comments) → c.limits ≡ standard_limits → c.ready ≡ true → AfterFeed bytes piece text (Err stop.NoMemory) c → IsTextLess (bytes ++ piece) text

@@ -30,13 +30,7 @@ use Rattle.jpg_desk.proofs.Input.{part_still, read_still}
 -- A MESSAGE THEN
 
 input_then : (s0 s1 s2 : DeskState) (task : Task) (Is : List ℕ → Type 0) → OnlySays s1 s2 → ReadsInput task Is s0 s1 → ReadsInput task Is s0 s2
-input_then s0 s1 s2 task Is k h = record {
-  comment = h.comment;
-  bytes = h.bytes;
-  source = h.source;
-  read = bytes_then s0 s1 s2 standard_limits.input task.input h.bytes k.same.left h.read;
-  is = h.is;
-}
+input_then s0 s1 s2 task Is k h = record { comment = h.comment; bytes = h.bytes; source = h.source; read = bytes_then s0 s1 s2 standard_limits.input task.input h.bytes k.same.left h.read; is = h.is }
 
 reads_then : (s0 s1 s2 : DeskState) (task : Task) (Is : List ℕ → Type 0) → OnlySays s1 s2 → ReadsAlone task Is s0 s1 → ReadsAlone task Is s0 s2
 reads_then s0 s1 s2 task Is k h = (stopped_then s0 s1 s2 (names_to_input task) put.Done k h.0, input_then s0 s1 s2 task Is k h.1)

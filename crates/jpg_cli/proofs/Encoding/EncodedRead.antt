@@ -5,14 +5,15 @@ use Rattle.std.proofs.lemmas.List.{take_all}
 use Rattle.jpg_base.specs.declared.names.Name.{Name}
 use Rattle.jpg_base.specs.declared.names.Put.TheVariants as put
 use Rattle.jpg_base.specs.Desk.{DeskState, Opens}
+use Rattle.jpg_spec.specs.Geometry.{Frame}
 use Rattle.jpg_spec_encode.specs.Encoded.{Encoding}
 use Rattle.jpg_spec_image.specs.Images.{Image, sample_count}
 use Rattle.jpg_spec_image.specs.declared.image.ImageInfo.{ImageInfo}
 use Rattle.jpg_spec_words.specs.declared.answers.Why.{Why}
 use Rattle.jpg_spec_words.specs.declared.answers.Why.TheVariants as why
 use Rattle.jpg_spec_words.specs.declared.answers.Which.TheVariants as which
-use Rattle.jpg_color.specs.Encode.{AsksFor, CanSample, image_of}
-use Rattle.jpg_color.specs.EncodeRows.{BeginsRows, RowScan, row_scan}
+use Rattle.jpg_color.specs.Encode.{AsksFor, CanSample, encoded_frame, image_of}
+use Rattle.jpg_color.specs.EncodeRows.{BeginsRows, IsRowScan, RowScan, row_scan}
 use Rattle.jpg_huff.specs.declared.set.TableSet.{TableSet}
 use Rattle.jpg_file.specs.declared.write.sole.SoleScan.{SoleScan}
 use Rattle.jpg_color.specs.EncodeSampling.{BeginsSampling}
@@ -125,12 +126,21 @@ data_ended {w = w} {info} {a} start now (Ok text) (all, read, most, g) gives mem
 data_ended {targa} start now (Err ended) (all, read, most, g) gives memory = subst (λ (e : Why). NoValueTaken (image_judging targa) start e now) (sym memory) (all, read, most, (g.read).read)
 
 -- by an encoder of rows, of a sampler
+pub scan_is : (o : OneScan) (scan : SoleScan) (tables : TableSet) → tables ≡ scan.tables → scan ≡ (o.scan).value → row_scan (scan.due).head tables (scan.due).interval ≡ scan_of o
+scan_is o scan tables lent same = ap (λ (t : TableSet). row_scan (scan.due).head t (scan.due).interval) lent ∙ ap (λ (s : SoleScan). row_scan (s.due).head s.tables (s.due).interval) same
+
+pub rows_begin : {E : Image → Encoding} {start : DeskState} {bytes : List ℕ} {r : ImageSource} {s : Sampler} {o : OneScan} {now : DeskState} (scan : SoleScan) (tables : TableSet) → tables ≡ scan.tables → scan ≡ (o.scan).value → s.frame ≡ encoded_frame s.info s.encoding
+    → GoesOnRows E start bytes r s o now → IsRowScan s.frame (row_scan (scan.due).head tables (scan.due).interval)
+rows_begin {s = s} {o = o} scan tables lent same keeps h =
+    let b = (h.goes).begun in
+    let frame = keeps ∙ ap (λ (i : ImageInfo). encoded_frame i s.encoding) b.sampled.numbers ∙ ap (encoded_frame b.info) b.sampled.asked in
+    subst (IsRowScan s.frame) (sym (scan_is o scan tables lent same)) (subst (λ (f : Frame). IsRowScan f (scan_of o)) (sym frame) (h.one).rows)
+
 abbrev pub rows_go : {E : Image → Encoding} {start : DeskState} {bytes : List ℕ} {r : ImageSource} {s : Sampler} {o : OneScan} {now : DeskState} (scan : SoleScan) (tables : TableSet) (rows : RowEncoder) → BeginsRows s (row_scan (scan.due).head tables (scan.due).interval) rows → tables ≡ scan.tables → scan ≡ (o.scan).value
     → GoesOnRows E start bytes r s o now → GoesOnFrom E (Some (scan_of o)) start bytes r (encoder.Rows rows) now
 rows_go {o = o} scan tables rows begins lent same h =
     let b = (h.goes).begun in
-    let is : row_scan (scan.due).head tables (scan.due).interval ≡ scan_of o = ap (λ (t : TableSet). row_scan (scan.due).head t (scan.due).interval) lent ∙ ap (λ (s : SoleScan). row_scan (s.due).head s.tables (s.due).interval) same in
-    record { begun = record { info = b.info; asked = b.asked; like = b.like; goes = b.goes; sampled = subst (λ (v : RowScan). HasTaken (Some v) b.info b.asked [] (encoder.Rows rows)) is (begins b.info b.asked b.sampled) }; read = (h.goes).read }
+    record { begun = record { info = b.info; asked = b.asked; like = b.like; goes = b.goes; sampled = subst (λ (v : RowScan). HasTaken (Some v) b.info b.asked [] (encoder.Rows rows)) (scan_is o scan tables lent same) (begins b.info b.asked b.sampled) }; read = (h.goes).read }
 
 pub rows_encoded : {E : Image → Encoding} {start : DeskState} {bytes : List ℕ} {r : ImageSource} {s0 : Sampler} {o : OneScan} {old now : DeskState} (h : GoesOnRows E start bytes r s0 o old) (text : List ℕ)
     → HasDataOf (is_targa r) (scan_of o) ((h.goes).begun).info ((h.goes).begun).asked start text now → EndsEncoding (is_targa r) E start (Ok (picture.Rows (record { file = o; bytes = text }))) now

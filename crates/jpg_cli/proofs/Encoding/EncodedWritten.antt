@@ -31,9 +31,7 @@ use Rattle.jpg_scans.specs.Judged.{judged}
 use Rattle.jpg_markers.specs.OutHead.{with_tables}
 use Rattle.jpg_scans.specs.Restarts.{restart_of}
 use Rattle.jpg_file.specs.Write.WriteFile.{CanWriteFile, does_pass, file_bytes, file_meaning}
-use Rattle.jpg_file.specs.Write.SoleScan.{IsSoleData}
 use Rattle.jpg_file.specs.declared.write.Plan.{Plan}
-use Rattle.jpg_file.specs.declared.write.sole.SoleScan.{SoleScan}
 use Rattle.jpg_color.specs.EncodedParts.{AreViewParts, ViewParts, viewed_meaning}
 use Rattle.jpg_color.specs.EncodeView.{view_parts}
 use Rattle.jpg_color.specs.declared.encode.view.EncodedImage.{EncodedImage}

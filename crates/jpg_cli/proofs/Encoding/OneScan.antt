@@ -95,11 +95,7 @@ one_scan_is {h = h} o made p kept rows sole all E info a asks =
             means = encoded_means (E J) J q.can no;
             frame = encoded_frame info a;
             blocks = blocks_due J a;
-            has = record {
-              can = subst (λ (k : List (ℕ × List ℕ)). CanWriteFile plan k (encoded_frame info a) (blocks_due J a)) (sym kept) can;
-              sole = sole;
-              written = same;
-            };
+            has = record { can = subst (λ (k : List (ℕ × List ℕ)). CanWriteFile plan k (encoded_frame info a) (blocks_due J a)) (sym kept) can; sole = sole; written = same };
             text = ap (λ (k : List (ℕ × List ℕ)). file_bytes plan k (blocks_due J a)) kept ∙ text_due;
           });
     }

@@ -151,8 +151,7 @@ module _ (old new : SamplesSink) (piece : List ℕ) (few : length piece ≤ 1638
 
       still : (encoder_left new.encoder ≡ 0 → ⊥) → length (h.given ++ piece) < n
       still some =
-          ⊎_elim
-          (λ (a : length (h.given ++ piece) < n). a)
+          ⊎_elim (λ (a : length (h.given ++ piece) < n). a)
           (λ (a : n ≤ length (h.given ++ piece)). (let c = left_now h new piece takes in let l = ap length first ∙ length-take-le n (h.given ++ piece) a in absurd (some (omega (arith, c, l)))))
           (cases_lt (length (h.given ++ piece)) n)
 
@@ -161,10 +160,8 @@ module _ (old new : SamplesSink) (piece : List ℕ) (few : length piece ≤ 1638
 
       short : (new.taken ≡ standard_limits.input → ⊥) → length (bytes ++ piece) < standard_limits.input
       short over =
-          ⊎_elim
-          (λ (a : length (bytes ++ piece) < standard_limits.input). a)
-          (λ (a : standard_limits.input ≤ length (bytes ++ piece)). (let t = taken in absurd (over (omega (arith, a, most, t)))))
-          (cases_lt (length (bytes ++ piece)) standard_limits.input)
+          ⊎_elim (λ (a : length (bytes ++ piece) < standard_limits.input). a)
+          (λ (a : standard_limits.input ≤ length (bytes ++ piece)). (let t = taken in absurd (over (omega (arith, a, most, t))))) (cases_lt (length (bytes ++ piece)) standard_limits.input)
 
       fed : length (h.given ++ piece) < n → HasGivenRest targa h.info (bytes ++ piece) (now h new piece takes) new.rest
       fed less =
@@ -178,8 +175,8 @@ module _ (old new : SamplesSink) (piece : List ℕ) (few : length piece ≤ 1638
           let enough : n ≤ length (h.given ++ piece) = (let c = left_now h new piece takes in let l = ap length first ∙ length-take n (h.given ++ piece) in omega (arith, none, c, l)) in
           let done = goes.whole piece takes.0 enough in
           λ rest. all_given h new piece takes piece rest few (subst (λ xs. IsRightImage (image_of h.info xs)) (sym first) done.right)
-              (subst (λ (t : Bool). HasImageIn t ((bytes ++ piece) ++ rest) (image_of h.info (now h new piece takes))) (sym plain.0)
-              (subst (λ xs. HasImageIn false ((bytes ++ piece) ++ rest) (image_of h.info xs)) (sym first) (done.image standard_limits rest most)))
+          (subst (λ (t : Bool). HasImageIn t ((bytes ++ piece) ++ rest) (image_of h.info (now h new piece takes))) (sym plain.0)
+          (subst (λ xs. HasImageIn false ((bytes ++ piece) ++ rest) (image_of h.info xs)) (sym first) (done.image standard_limits rest most)))
       by (Err e) k = subst (λ (v : Why). AfterTaking samples_reader from (bytes ++ piece) (Err v) new) (sym k.0)
           (λ rest. subst (λ (t : Bool). IsFaultRead t (record { fault = InputTooLong; at = standard_limits.input }) rest (bytes ++ piece)) (sym plain.0)
           (open_too_long (bytes ++ piece) rest (goes_on_plain h.info (bytes ++ piece) (h.given ++ piece) (goes.more piece takes.0 (still k.1))).open_yet (sym taken ∙ k.2)))
@@ -228,7 +225,7 @@ module _ (old new : SamplesSink) (piece : List ℕ) (few : length piece ≤ 1638
             let samples : whole ≡ now h new made takes = sym (now_is h new made takes (t.1).all (t.1).given_is ∙ ap (λ (x : List ℕ). take (sample_count h.info) ((t.1).all ++ x)) (e ∙ ap (λ (x : List ℕ). x ++ more) none) ∙ take_all (sample_count h.info) whole (omega (arith, count))) in
             let same : I ≡ image_of h.info (now h new made takes) = ap (λ (i : ImageInfo). image_of i whole) info ∙ ap (image_of h.info) samples in
             λ rest. all_given h new made takes piece rest few (subst IsRightImage same right)
-                (subst (λ (b : Bool). HasImageIn b ((bytes ++ piece) ++ rest) (image_of h.info (now h new made takes))) (sym t.0) (subst (HasImageIn true ((bytes ++ piece) ++ rest)) same (k rest)))
+            (subst (λ (b : Bool). HasImageIn b ((bytes ++ piece) ++ rest) (image_of h.info (now h new made takes))) (sym t.0) (subst (HasImageIn true ((bytes ++ piece) ++ rest)) same (k rest)))
 
 -- WHERE IT ENDS
 

@@ -55,12 +55,4 @@ few_pixels n h =
     omega (arith, m)
 
 pub right_image : (n : ℕ) → n ≤ 400 → IsRightImage (work_image n)
-right_image n h = record {
-  width_low = omega arith;
-  width_high = omega (arith, h);
-  height_low = omega arith;
-  height_high = omega (arith, h);
-  pixels = few_pixels n h;
-  count = image_long n;
-  bytes = pieces_bytes (work_row n) (row_bytes n) (below (4 * n + 3));
-}
+right_image n h = record { width_low = omega arith; width_high = omega (arith, h); height_low = omega arith; height_high = omega (arith, h); pixels = few_pixels n h; count = image_long n; bytes = pieces_bytes (work_row n) (row_bytes n) (below (4 * n + 3)) }

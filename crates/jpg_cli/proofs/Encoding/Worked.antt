@@ -213,13 +213,7 @@ work_wrong false n s e = (refl, untouched s)
 
 -- the value is there, and nothing is read
 nothing_read : (n : ℕ) (s0 s1 : DeskState) → s1.left ≡ s0.left → HasValueRead ℕ (work_conversion n) n None s0 s0 s1
-nothing_read n s0 s1 left = record {
-  kept = record { works = (reads_none s0).copies.works; outputs = refl };
-  asked = none_noted s0.asked s0.asked refl;
-  read = record { bytes = []; read = refl; most = omega arith; is = (refl, refl) };
-  all = tt;
-  left = left;
-}
+nothing_read n s0 s1 left = record { kept = record { works = (reads_none s0).copies.works; outputs = refl }; asked = none_noted s0.asked s0.asked refl; read = record { bytes = []; read = refl; most = omega arith; is = (refl, refl) }; all = tt; left = left }
 
 pub work_done : (has : Bool) (n : ℕ) (text : List ℕ) (ended : Why) (s0 s1 : DeskState) → has ≡ true → text ≡ work_text n → s1.left ≡ s0.left → WritesReport text s0 ended s1 → DidWork has n s0 ended s1
 work_done true n text ended s0 s1 has is left wrote =

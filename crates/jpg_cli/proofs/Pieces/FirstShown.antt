@@ -94,10 +94,7 @@ pub taken_admitted : (s : Showing) (early : Option ℕ) (start now : DeskState) 
 taken_admitted s early start now r p h = ap (out_fault s.gray) h.means ∙ out_same (keeping_of r.file) s.gray h.meaning ∙ read_wanted (Image s.gray) h.meaning early h.bytes h.is
 
 pub keeps_after : (old start now : DeskState) (file : Name) → Opens old file put.Done start → OnlyReads start now → Keeps old now
-keeps_after old start now file h k = record {
-  works = works_then (record { stays = record { counts = h.counts; files = h.files }; said = h.said }) k.copies.works;
-  outputs = k.outputs ∙ h.outputs;
-}
+keeps_after old start now file h k = record { works = works_then (record { stays = record { counts = h.counts; files = h.files }; said = h.said }) k.copies.works; outputs = k.outputs ∙ h.outputs }
 
 module _ (s : Showing) (early : Option ℕ) (old start now new : DeskState) where
   -- and its image was written

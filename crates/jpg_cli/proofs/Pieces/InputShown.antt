@@ -118,14 +118,7 @@ module _ {from : Shower × DeskState} {bytes piece : List ℕ} {v : Shower} {s0 
   drawn_as r d e (Ok false) s2 by_row works opened shows =
       let k = shows was.some.0 was.some.1 in (
         rows_short k.1.1,
-        record {
-          some = was.some;
-          same = was.same;
-          by_row = by_row;
-          limits = k.1.1.limits;
-          works = since was reads.kept works;
-          holds = λ o h. (let k = shows o h in (k.0, k.1.0, k.1.1));
-        },
+        record { some = was.some; same = was.same; by_row = by_row; limits = k.1.1.limits; works = since was reads.kept works; holds = λ o h. (let k = shows o h in (k.0, k.1.0, k.1.1)) },
         opened ∙ reads.opened,
       )
   drawn_as r d e (Ok true) s2 by_row works opened shows = ends_as was reads.kept (Ok None) (record { words = v.words; reader = r; image = Some d; end = e }) s2 refl works (λ o h. (shows o h).1)

@@ -1,7 +1,10 @@
 use Rattle.jpg_desk.specs.EncodedRows.{scan_of}
 use Rattle.jpg_desk.specs.ImageTaken.{is_targa}
-use Rattle.jpg_cli.proofs.Encoding.EncodedRead.{begun_unheld, none_encoded, rows_encoded, rows_go}
+use Rattle.jpg_cli.proofs.Encoding.EncodedRead.{begun_unheld, none_encoded, rows_begin, rows_encoded, rows_go}
 use Rattle.jpg_cli.proofs.tools.cjpeg_image.encode_rows.Goals as goal
+
+pub new-rows-requires : goal.new-rows-requires
+new-rows-requires g c = rows_begin c.as_ref-scan.result.now c.new-encoders.result c.new-encoders.ensures c.as_ref-scan.ensures c.args.sampler.keeps.frame c.requires.goes.3
 
 pub rows_data-requires-clause-goes : goal.rows_data-requires-clause-goes
 rows_data-requires-clause-goes g c =

@@ -52,8 +52,8 @@ returns-in-Some-one_scan g c =
     let h = c.encode_rows.ensures E start on.1.0 (record { goes = on.1.1; one = c.in-Some-one_scan.ensures E _ _ (record { like = b.like; by = λ I. record { scans_are = refl; huffman = refl; restart = refl }; sampled = b.sampled }) }) in
     record { kept = h.0; read = subst (λ (targa : Bool). EndsEncoding targa E start c.encode_rows.result (state c.encode_rows.new.desk)) (sym on.0) h.1 }
 
-pub returns-in-Some : goal.returns-in-Some
-returns-in-Some g c =
+pub returns-in-None-one_scan : goal.returns-in-None-one_scan
+returns-in-None-one_scan g c =
     let state = g.D.Desk.state in
     let start = state c.args.desk.now in
     let E = encoding_by c.args.words.now (scans_view c.args.scans.now) c.args.tables in
