@@ -1,35 +1,75 @@
 -- What reading some bytes leads to, by the state before them.
-use Rattle.std.proofs.Common.{◌≡◌, ℕ, ◌*◌, ◌≤◌, ◌==◌, Bool, true, false, cond, List, [], ◌∷◌, length, take, get_or, refl, sym, ap, ◌∙◌, subst, arith}
+use Rattle.std.proofs.Common.{◌≡◌, ℕ, ◌+◌, ◌*◌, ◌≤◌, ◌==◌, Bool, true, false, cond, List, [], ◌∷◌, ◌++◌, length, take, get_or, refl, sym, ap, ◌∙◌, subst, arith, ◌||◌, None, Some}
+use Rattle.std.proofs.lemmas.List.{length-append}
 use Rattle.std.proofs.Math.Logic.{∥∥₁_map}
-use Rattle.jpg_spec_image.specs.PnmText.{is_number_due}
+use Rattle.jpg_spec.specs.NumberTexts.{is_digit}
+use Rattle.jpg_spec.specs.declared.fault.Fault.TheVariants.{ImageText}
+use Rattle.jpg_spec_image.specs.PnmText.{is_plain, is_pnm_space, begins_gap, is_number_due, number_fault, may_follow, ended_fault}
 use Rattle.jpg_spec_image.specs.BmpFile.{width, bmp_depth, used}
 use Rattle.jpg_spec_image.specs.ImageFaults.{ImageHead, pnm, bmp, image_of, IsBodyFront}
-use Rattle.jpg_spec_image.specs.ImageSteps.{ImageState, in_number, in_body, whole, step, run}
+use Rattle.jpg_spec_image.specs.ImageSteps.{ImageState, in_number, in_body, whole, number_byte, after_number, step, run}
 use Rattle.jpg_spec_image.specs.ImageReading.{RepresentsImage, InBody}
 use Rattle.jpg_spec_image.proofs.ImageBodyRuns.{ThreeNumbers, last_three, bmp_sides, side_some}
 use Rattle.jpg_spec_image.proofs.ImageStands.{stands}
+use Rattle.jpg_spec_image.proofs.ImageTextRuns.{step_number}
 use Rattle.jpg_pnm_bmp.specs.Known.{list_of}
 use Rattle.jpg_pnm_bmp.specs.Pieces.{IsGoing}
-use Rattle.jpg_pnm_bmp.specs.Reader.{standing, image_view, pixels_kind, IsReached, Reaches, CanStretch, Stretches}
+use Rattle.jpg_pnm_bmp.specs.Reader.{standing, image_view, pixels_kind, AreBefore, AreGivenAt, AreGivenIn, IsGoingOn, IsReached, Reaches, CanStretch, Stretches}
 use Rattle.jpg_pnm_bmp.specs.declared.read.numbers.Numbers.{Numbers}
 use Rattle.jpg_pnm_bmp.specs.declared.read.numbers.Numbers.TheVariants.{Nothing, Width, Sides, All}
 use Rattle.jpg_pnm_bmp.specs.declared.read.piece.Answer.{Answer}
 use Rattle.jpg_pnm_bmp.specs.declared.read.piece.Answer.TheVariants as answer
 use Rattle.jpg_pnm_bmp.specs.declared.read.piece.Moved.{Moved}
+use Rattle.jpg_pnm_bmp.specs.declared.read.work.Stage.{Stage}
+use Rattle.jpg_pnm_bmp.specs.declared.read.work.Stage.TheVariants as stage
 use Rattle.jpg_pnm_bmp.specs.declared.read.work.Work.{Work}
 use Rattle.jpg_pnm_bmp.proofs.Stretch.{first_run}
 
-pub reached : (w : Work) → IsGoing pixels_kind w → ∥ IsReached (standing w) ∥₁
-reached w h = ∥∥₁_map h (λ r. (r.0, sym r.1))
+-- no samples were given away
+pub none_before : (w : Work) → w.before ≡ 0 → AreBefore [] w
+none_before w none = record { long = sym none; known = by w.stage w.numbers }
+  where
+    at : (numbers : Numbers) → AreGivenAt numbers []
+    at Nothing = refl
+    at (Width a) = refl
+    at (Sides a b) = refl
+    at (All a b m) = tt
 
-pub one_led : (s : ImageState) (piece : List ℕ) (a : Answer) (w : Work) (m : Moved) → m ≡ record { used = 1; answer = a } → 1 ≤ length piece → Reaches (step s (get_or piece 0 0)) a w → Reaches (run s (take m.used piece)) m.answer w
-one_led s piece a w m e h r = subst (λ (x : Moved). Reaches (run s (take x.used piece)) x.answer w) (sym e) (subst (λ t. Reaches t a w) (sym (first_run s piece h)) r)
+    by : (st : Stage) (numbers : Numbers) → AreGivenIn st numbers []
+    by stage.Start numbers = refl
+    by (stage.First first) numbers = refl
+    by (stage.Gap some commented) numbers = at numbers
+    by (stage.Number n) numbers = at numbers
+    by stage.BmpHead numbers = refl
+    by (stage.BmpFront passed) numbers = refl
+    by stage.PnmBody numbers = tt
+    by stage.BmpBody numbers = refl
+
+pub going_on : (w : Work) → IsGoing pixels_kind w → IsGoingOn w
+going_on w h = ∥∥₁_map h (λ r. ([], none_before w r.1.0, (r.0, sym r.1.1)))
+
+pub one_led : (front : List ℕ) (s : ImageState) (piece : List ℕ) (a : Answer) (w : Work) (m : Moved) → m ≡ record { used = 1; answer = a } → 1 ≤ length piece → Reaches front (step s (get_or piece 0 0)) a w
+    → Reaches front (run s (take m.used piece)) m.answer w
+one_led front s piece a w m e h r =
+    subst (λ (x : Moved). Reaches front (run s (take x.used piece)) x.answer w) (sym e) (subst (λ t. Reaches front t a w) (sym (first_run s piece h)) r)
 
 pub due_reached : (format : ℕ) (numbers : List ℕ) (n : ℕ) → IsReached (in_number format numbers n) → is_number_due format numbers ≡ true
 due_reached format numbers n (bytes, e) = due bytes (subst (RepresentsImage bytes) e (stands bytes))
   where
     due : (bytes : List ℕ) → RepresentsImage bytes (in_number format numbers n) → is_number_due format numbers ≡ true
     due bytes (m, r, c) = r.before.due
+
+-- a right number has ended
+pub number_goes : (format : ℕ) (numbers : List ℕ) (n b : ℕ) (due : Bool) → is_digit b ≡ false → due ≡ is_number_due format (numbers ++ n ∷ []) → cond due (begins_gap b) (is_plain format || is_pnm_space b) ≡ true → number_fault numbers n ≡ None
+    → number_byte format numbers n b ≡ after_number format (numbers ++ n ∷ []) b
+number_goes format numbers n b due digit is follows right =
+    let may : may_follow format (numbers ++ n ∷ []) b ≡ true = ap (λ (v : Bool). cond v (begins_gap b) (is_plain format || is_pnm_space b)) (sym is) ∙ follows in
+    let ended : ended_fault format numbers n b ≡ None = ap (λ (v : Bool). cond v (number_fault numbers n) (Some ImageText)) may ∙ right in
+    step_number format numbers n b None digit ended
+
+-- the samples that were given away, and those that are held
+pub held_long : (front : List ℕ) (w : Work) (held : ℕ) → length front ≡ w.before → held ≡ length w.samples → length (front ++ w.samples) ≡ w.before + held
+held_long front w held long h = let l = length-append front w.samples in omega (arith, l, long, h)
 
 pub body_reached : (head : ImageHead) (body : List ℕ) → IsReached (in_body head body) → (bytes : List ℕ) × InBody bytes head body
 body_reached head body (bytes, e) = (bytes, subst (RepresentsImage bytes) e (stands bytes))
@@ -43,12 +83,12 @@ used_some head w = by (bmp_depth head == 8)
 
 -- A PART OF A BODY
 
-pub stretch_led : (old : Work) (head : ImageHead) (s : ImageState) (a : Answer) (w : Work) → ((x : List ℕ) → standing (record old { samples = x }) ≡ in_body head x) → ((x : List ℕ) → image_view (record old { samples = x }) ≡ image_of head x)
-    → Stretches head old s a w → Reaches s a w
-stretch_led old head s answer.More w g i (e, f) = ap standing f ∙ g w.samples ∙ sym e
-stretch_led old head s answer.Whole w g i (e, f, h) = e ∙ ap whole (sym (ap image_view f ∙ i w.samples))
-stretch_led old head s (answer.Fault fault) w g i e = e
-stretch_led old head s answer.NoMemory w g i e = e
+pub stretch_led : (front : List ℕ) (old : Work) (head : ImageHead) (s : ImageState) (a : Answer) (w : Work) → ((x : List ℕ) → standing front (record old { samples = x }) ≡ in_body head (front ++ x))
+    → ((x : List ℕ) → image_view front (record old { samples = x }) ≡ image_of head (front ++ x)) → Stretches front head old s a w → Reaches front s a w
+stretch_led front old head s answer.More w g i (e, f) = ap (standing front) f ∙ g w.samples ∙ sym e
+stretch_led front old head s answer.Whole w g i (e, f, h) = e ∙ ap whole (sym (ap (image_view front) f ∙ i w.samples))
+stretch_led front old head s (answer.Fault fault) w g i e = e
+stretch_led front old head s answer.NoMemory w g i e = e
 
 pub all_numbers : (numbers : Numbers) → ThreeNumbers (list_of numbers []) → (w : ℕ) × (h : ℕ) × (m : ℕ) × (numbers ≡ All w h m)
 all_numbers Nothing t = let e = t.all in let f : ⊥ = cc in absurd f

@@ -1,25 +1,26 @@
 -- What is there where an image is complete: its numbers, or the rows and the palette of a BMP.
-use Rattle.std.proofs.Common.{◌≡◌, ℕ, zero, suc, ◌+◌, ◌-◌, ◌*◌, ◌%◌, ◌<◌, ◌≤◌, Bool, true, false, cond, not, ◌&&◌, ◌==◌, List, [], ◌∷◌, ◌++◌, length, drop, get_or, refl, sym, ap, ◌∙◌, subst, arith, None, Some}
+use Rattle.std.proofs.Common.{◌≡◌, ℕ, zero, suc, ◌+◌, ◌-◌, ◌*◌, ◌%◌, ◌<◌, ◌≤◌, Bool, true, false, cond, not, ◌&&◌, ◌==◌, List, [], ◌∷◌, ◌++◌, length, drop, get_or, replicate, refl, sym, ap, ◌∙◌, subst, arith, None, Some}
 use Rattle.std.specs.Prelude.{nat_lt, nat_le}
-use Rattle.std.proofs.lemmas.List.{get_or-take, get_or-drop, length-drop, length-take-le}
+use Rattle.std.proofs.lemmas.List.{get_or-take, get_or-drop, length-drop, length-replicate, length-take-le}
 use Rattle.std.proofs.lemmas.Nat.{mul-le, mod-mul-add}
 use mathlib.Core.HLevel.{⊥_prop}
 use mathlib.Core.Bool.{Bool-set}
 use native.Mathlib.Bridge.{le_prop}
-use Rattle.jpg_spec.proofs.Basics.Common.{both, le_of, lt_yes, negated}
+use Rattle.jpg_spec.proofs.Basics.Common.{both, le_of, lt_of, lt_yes, negated}
+use Rattle.jpg_spec.specs.NumberTexts.{in_comment}
 use Rattle.jpg_spec.specs.declared.fault.Fault.TheVariants.{ImageHeader, ImageUnsupported}
 use Rattle.jpg_spec_image.specs.Images.{Body, sample_count, is_wrong, are_right}
 use Rattle.jpg_spec_image.specs.PnmText.{is_plain, pnm_info, is_number_due, number_fault, are_right_numbers}
 use Rattle.jpg_spec_image.specs.BmpFile.{bmp_depth, bmp_line, height, line, palette_entries, used}
-use Rattle.jpg_spec_image.specs.ImageFaults.{ImageHead, pnm, bmp, body_of, IsBodyFront}
-use Rattle.jpg_spec_image.specs.ImageSteps.{ImageState, in_number, in_bmp_front}
+use Rattle.jpg_spec_image.specs.ImageFaults.{ImageHead, pnm, bmp, body_of, image_of, IsBodyFront}
+use Rattle.jpg_spec_image.specs.ImageSteps.{ImageState, in_gap, in_number, in_bmp_front, in_body, whole, after_number, plain_image}
 use Rattle.jpg_spec_image.specs.ImageReading.{RepresentsImage, InBody, InFront}
 use Rattle.jpg_spec_image.proofs.ImageBodyRuns.{ThreeNumbers, last_three, bmp_sides}
 use Rattle.jpg_spec_image.proofs.ImageTextRuns.{first_right}
 use Rattle.jpg_spec_image.proofs.ImageStands.{stands}
 use Rattle.jpg_pnm_bmp.specs.Known.{list_of}
 use Rattle.jpg_pnm_bmp.specs.Made.{AreIndexes}
-use Rattle.jpg_pnm_bmp.specs.Reader.{AddsNumber, AreAllNumbers, CanMake, CanMakeAt, HasAll, HasPixels, HasScale, IsReached, Stretches}
+use Rattle.jpg_pnm_bmp.specs.Reader.{AddsNumber, AreAllNumbers, AreGivenAt, CanMake, CanMakeAt, HasAll, HasPixels, HasScale, IsDueAfter, IsReached, Stretches, numbers_list}
 use Rattle.jpg_pnm_bmp.specs.declared.read.numbers.Numbers.{Numbers}
 use Rattle.jpg_pnm_bmp.specs.declared.read.numbers.Numbers.TheVariants.{Nothing, Width, Sides, All}
 use Rattle.jpg_pnm_bmp.specs.declared.read.piece.Answer.{Answer}
@@ -47,7 +48,49 @@ numbers_full format (Width x) samples n w d s a = absurd (clash (is_number_due f
 numbers_full format (Sides x y) samples n w d s (none, (m, is, some)) = subst AreAllNumbers (sym is) some
 numbers_full format (All x y m) samples n w d s is = subst AreAllNumbers (sym is) s
 
-most_some : (w h n : ℕ) → number_fault (w ∷ h ∷ []) n ≡ None → 1 ≤ n
+pub last_full : (old w : Work) (n : ℕ) → IsDueAfter old n false → HasScale old.numbers → AddsNumber old.numbers w → AreAllNumbers w.numbers
+last_full old w n due s a =
+    let front : List ℕ = replicate old.before 0 in
+    numbers_full old.format old.numbers (front ++ old.samples) n w (sym (due front (length-replicate old.before 0))) s a
+
+-- the third number of P5 and P6 is the last one
+pub raw_begun : (front : List ℕ) (old w : Work) (n : ℕ) → is_plain old.format ≡ false → is_number_due old.format (numbers_list front old) ≡ true → is_number_due old.format (numbers_list front old ++ n ∷ []) ≡ false → AreGivenAt old.numbers front
+    → AddsNumber old.numbers w → front ++ w.samples ≡ []
+raw_begun front old w n raw = by old.numbers
+  where
+    by : (k : Numbers) → is_number_due old.format (list_of k (front ++ old.samples)) ≡ true → is_number_due old.format (list_of k (front ++ old.samples) ++ n ∷ []) ≡ false → AreGivenAt k front → AddsNumber k w → front ++ w.samples ≡ []
+    by Nothing due last known adds = absurd (clash (is_number_due old.format (n ∷ [])) (few_due old.format (n ∷ []) (omega arith)) last)
+    by (Width x) due last known adds = absurd (clash (is_number_due old.format (x ∷ n ∷ [])) (few_due old.format (x ∷ n ∷ []) (omega arith)) last)
+    by (Sides x y) due last known adds = ap (λ l. l ++ w.samples) known ∙ adds.0
+    by (All x y m) due last known adds =
+        let numbers : List ℕ = x ∷ y ∷ m ∷ (front ++ old.samples) in
+        let h : length numbers < 3 = lt_of (length numbers) 3 (sym (ap (λ (v : Bool). nat_lt (length numbers) (cond v (3 + sample_count (pnm_info old.format numbers)) 3)) raw) ∙ due) in
+        absurd (omega (arith, h))
+
+-- the image of P2 and P3
+pub plain_made : (front : List ℕ) (format : ℕ) (w : Work) → AreAllNumbers w.numbers → plain_image format (numbers_list front w) ≡ image_of (pnm format (list_of w.numbers [])) (front ++ w.samples)
+plain_made front format w = by w.numbers
+  where
+    by : (k : Numbers) → AreAllNumbers k → plain_image format (list_of k (front ++ w.samples)) ≡ image_of (pnm format (list_of k [])) (front ++ w.samples)
+    by Nothing all = absurd all
+    by (Width x) all = absurd all
+    by (Sides x y) all = absurd all
+    by (All x y m) all = refl
+
+-- a number has ended before a byte
+pub after_due : (format : ℕ) (numbers : List ℕ) (b : ℕ) → is_number_due format numbers ≡ true → after_number format numbers b ≡ in_gap format numbers true (in_comment false b)
+after_due format numbers b e = ap (λ (v : Bool). cond v (in_gap format numbers true (in_comment false b)) (cond (is_plain format) (whole (plain_image format numbers)) (in_body (pnm format numbers) []))) e
+
+after_none : (format : ℕ) (numbers : List ℕ) (b : ℕ) → is_number_due format numbers ≡ false → after_number format numbers b ≡ cond (is_plain format) (whole (plain_image format numbers)) (in_body (pnm format numbers) [])
+after_none format numbers b e = ap (λ (v : Bool). cond v (in_gap format numbers true (in_comment false b)) (cond (is_plain format) (whole (plain_image format numbers)) (in_body (pnm format numbers) []))) e
+
+pub after_plain : (format : ℕ) (numbers : List ℕ) (b : ℕ) → is_number_due format numbers ≡ false → is_plain format ≡ true → after_number format numbers b ≡ whole (plain_image format numbers)
+after_plain format numbers b e p = after_none format numbers b e ∙ ap (λ (v : Bool). cond v (whole (plain_image format numbers)) (in_body (pnm format numbers) [])) p
+
+pub after_raw : (format : ℕ) (numbers : List ℕ) (b : ℕ) → is_number_due format numbers ≡ false → is_plain format ≡ false → after_number format numbers b ≡ in_body (pnm format numbers) []
+after_raw format numbers b e p = after_none format numbers b e ∙ ap (λ (v : Bool). cond v (whole (plain_image format numbers)) (in_body (pnm format numbers) [])) p
+
+pub most_some : (w h n : ℕ) → number_fault (w ∷ h ∷ []) n ≡ None → 1 ≤ n
 most_some w h n e = by (n == 0) refl e
   where
     by : (u : Bool) → (n == 0) ≡ u → cond u (Some ImageHeader) (cond (nat_lt 255 n) (Some ImageUnsupported) None) ≡ None → 1 ≤ n
@@ -82,6 +125,17 @@ numbers_reached format numbers bytes body i = by i.front i.header
     by : (front : List ℕ) → IsBodyFront (pnm format (list_of numbers [])) front → AreAllNumbers numbers
     by front (b, l, raw, space) = numbers_all numbers (last_three front format (list_of numbers []) (b ∷ []) raw l)
 
+-- the third number is added
+pub third_added : (old : Numbers) (a b m : ℕ) (w : Work) → old ≡ Sides a b → w.samples ≡ [] → w.numbers ≡ All a b m → 1 ≤ m → AddsNumber old w
+third_added old a b m w is none numbers some = subst (λ k. AddsNumber k w) (sym is) (none, (m, numbers, some))
+
+-- all three numbers stay
+pub numbers_stay : (old : Numbers) (w : Work) → AreAllNumbers old → AddsNumber old w → w.numbers ≡ old
+numbers_stay Nothing w all a = absurd all
+numbers_stay (Width x) w all a = absurd all
+numbers_stay (Sides x y) w all a = absurd all
+numbers_stay (All x y m) w all a = a
+
 -- A BMP
 
 pub head_reached : (head palette : List ℕ) (passed : ℕ) → IsReached (in_bmp_front head palette passed) → 54 ≤ length head
@@ -100,7 +154,7 @@ body_high head palette bytes body i =
 
 -- AN ANSWER: nothing else is told by it, so there is one proof of it at most
 
-numbers_prop : (numbers : Numbers) → IsProp (AreAllNumbers numbers)
+pub numbers_prop : (numbers : Numbers) → IsProp (AreAllNumbers numbers)
 numbers_prop Nothing = ⊥_prop
 numbers_prop (Width a) = ⊥_prop
 numbers_prop (Sides a b) = ⊥_prop
@@ -137,13 +191,14 @@ all_prop answer.Whole w = make_prop w.stage w
 all_prop (answer.Fault fault) w = λ a b. refl
 all_prop answer.NoMemory w = λ a b. refl
 
-pub all_pnm : (old : Work) (head : ImageHead) (s : ImageState) (a : Answer) (w : Work) → old.stage ≡ stage.PnmBody → AreAllNumbers old.numbers → Stretches head old s a w → HasAll a w
-all_pnm old head s answer.More w is numbers h = tt
-all_pnm old head s answer.Whole w is numbers (e, f, h) = subst CanMake (sym f) (subst (λ st. CanMakeAt st (record old { samples = w.samples })) (sym is) numbers)
-all_pnm old head s (answer.Fault fault) w is numbers h = tt
-all_pnm old head s answer.NoMemory w is numbers h = tt
+pub all_pnm : (front : List ℕ) (old : Work) (head : ImageHead) (s : ImageState) (a : Answer) (w : Work) → old.stage ≡ stage.PnmBody → AreAllNumbers old.numbers → Stretches front head old s a w → HasAll a w
+all_pnm front old head s answer.More w is numbers h = tt
+all_pnm front old head s answer.Whole w is numbers (e, f, h) = subst CanMake (sym f) (subst (λ st. CanMakeAt st (record old { samples = w.samples })) (sym is) numbers)
+all_pnm front old head s (answer.Fault fault) w is numbers h = tt
+all_pnm front old head s answer.NoMemory w is numbers h = tt
 
-pub all_bmp : (old : Work) (bytes : List ℕ) (s : ImageState) (a : Answer) (w : Work) → old.stage ≡ stage.BmpBody → InBody bytes (bmp old.head old.palette) old.samples → Stretches (bmp old.head old.palette) old s a w → HasAll a w
+-- no samples of a BMP were given away
+pub all_bmp : (old : Work) (bytes : List ℕ) (s : ImageState) (a : Answer) (w : Work) → old.stage ≡ stage.BmpBody → InBody bytes (bmp old.head old.palette) old.samples → Stretches [] (bmp old.head old.palette) old s a w → HasAll a w
 all_bmp old bytes s answer.More w is i h = tt
 all_bmp old bytes s answer.Whole w is i (e, f, h) =
     let p : HasPixels old.head old.palette w.samples = record {

@@ -13,11 +13,11 @@ third_due format w h n count e p =
     shift ∙ ap (λ k. nat_lt 3 (3 + k)) e ∙ ap (λ (v : Bool). nat_lt 3 (cond v (3 + sample_count (pnm_info format (w ∷ h ∷ n ∷ []))) 3)) (sym p)
 
 -- one more sample
-pub sample_due : (format w h m : ℕ) (samples : List ℕ) (n count long : ℕ) → count ≡ sample_count (pnm_info format (w ∷ h ∷ m ∷ (samples ++ n ∷ []))) → is_plain format ≡ true → length samples ≡ long
-    → nat_lt long (count - 1) ≡ is_number_due format (w ∷ h ∷ m ∷ (samples ++ n ∷ []))
-sample_due format w h m samples n count long e p l =
+pub sample_due : (format w h m : ℕ) (samples : List ℕ) (n count before long : ℕ) → count ≡ sample_count (pnm_info format (w ∷ h ∷ m ∷ (samples ++ n ∷ []))) → is_plain format ≡ true → length samples ≡ before + long
+    → nat_lt long (count - 1 - before) ≡ is_number_due format (w ∷ h ∷ m ∷ (samples ++ n ∷ []))
+sample_due format w h m samples n count before long e p l =
     let more = length-append samples (n ∷ []) in
-    let shift : nat_lt long (count - 1) ≡ nat_lt (3 + (long + 1)) (3 + count) = grind (arith, nat_tests) in
-    let at : length (w ∷ h ∷ m ∷ (samples ++ n ∷ [])) ≡ 3 + (long + 1) = omega (arith, more, l) in
-    shift ∙ ap (λ k. nat_lt (3 + (long + 1)) (3 + k)) e ∙ ap (λ k. nat_lt k (3 + sample_count (pnm_info format (w ∷ h ∷ m ∷ (samples ++ n ∷ []))))) (sym at)
+    let shift : nat_lt long (count - 1 - before) ≡ nat_lt (3 + (before + long + 1)) (3 + count) = grind (arith, nat_tests) in
+    let at : length (w ∷ h ∷ m ∷ (samples ++ n ∷ [])) ≡ 3 + (before + long + 1) = omega (arith, more, l) in
+    shift ∙ ap (λ k. nat_lt (3 + (before + long + 1)) (3 + k)) e ∙ ap (λ k. nat_lt k (3 + sample_count (pnm_info format (w ∷ h ∷ m ∷ (samples ++ n ∷ []))))) (sym at)
     ∙ ap (λ (v : Bool). nat_lt (length (w ∷ h ∷ m ∷ (samples ++ n ∷ []))) (cond v (3 + sample_count (pnm_info format (w ∷ h ∷ m ∷ (samples ++ n ∷ [])))) 3)) (sym p)

@@ -13,7 +13,7 @@ use Rattle.jpg_spec_image.specs.Images.{Image, sample_count, is_wrong, are_right
 use Rattle.jpg_spec_image.specs.ImageText.{turned_round}
 use Rattle.jpg_spec_image.specs.PnmText.{pnm_info, greatest_sample, number_fault, are_right_numbers, scaled_sample, AfterLast}
 use Rattle.jpg_spec_image.specs.BmpFile.{bmp_depth, colour, colours, bmp_line, bmp_body_samples, used, line, height}
-use Rattle.jpg_spec_image.specs.ImageFaults.{pnm, bmp, one_line, IsPlainWhole, IsBodyWhole, IsImage}
+use Rattle.jpg_spec_image.specs.ImageFaults.{pnm, bmp, body_of, one_line, IsPlainWhole, IsBodyWhole, IsImage}
 use Rattle.jpg_spec.proofs.Basics.Common.{both, negated, lt_yes, not_lt_of}
 use Rattle.jpg_spec_image.proofs.ImageTextRuns.{first_right}
 use Rattle.jpg_spec.specs.declared.fault.Fault.TheVariants.{ImageValue}
@@ -29,7 +29,7 @@ scaled_byte : (most s : ℕ) → s ≤ most → scaled_sample most s < 256
 scaled_byte zero s h = none_scaled s
 scaled_byte (suc m) s h = div_below (255 * s + suc m / 2) (suc m) 256 (omega arith) (omega (arith, h))
 
-scaled_all : (most : ℕ) (xs : List ℕ) → All (λ s. s ≤ most) xs → AreBytes (map (scaled_sample most) xs)
+pub scaled_all : (most : ℕ) (xs : List ℕ) → All (λ s. s ≤ most) xs → AreBytes (map (scaled_sample most) xs)
 scaled_all most xs h = All-map (λ b. b < 256) (scaled_sample most) xs (All-weaker (λ s. s ≤ most) (λ s. scaled_sample most s < 256) (λ s l. scaled_byte most s l) xs h)
 
 -- NUMBERS: the samples among them are no more than the greatest one
@@ -50,7 +50,7 @@ up_to_more (w ∷ []) n u e = All-nil (λ s. s ≤ greatest_sample (w ∷ n ∷ 
 up_to_more (w ∷ h ∷ []) n u e = All-nil (λ s. s ≤ greatest_sample (w ∷ h ∷ n ∷ []))
 up_to_more (w ∷ h ∷ m ∷ samples) n u e = All-push (λ s. s ≤ m) samples n u (sample_low m n e)
 
-up_to_right : (format : ℕ) (before numbers : List ℕ) → AreUpTo before → are_right_numbers format before numbers ≡ true → AreUpTo (before ++ numbers)
+pub up_to_right : (format : ℕ) (before numbers : List ℕ) → AreUpTo before → are_right_numbers format before numbers ≡ true → AreUpTo (before ++ numbers)
 up_to_right format before [] u e = subst AreUpTo (sym (append-nil before)) u
 up_to_right format before (n ∷ numbers) u e =
     let r = first_right format before n numbers e in
@@ -78,6 +78,11 @@ one_right count most place (b ∷ body) e h =
     let s = both (not (is_wrong (one_line count (most + 1)) place b)) (are_right (one_line count (most + 1)) (place + 1) body) e in
     All-cons (λ s. s ≤ most) b body (byte_low count most place b (negated (is_wrong (one_line count (most + 1)) place b) s.0) (omega (arith, h)))
     (one_right count most (place + 1) body s.1 (omega (arith, h)))
+
+-- of a body with these numbers
+pub pnm_bytes : (format : ℕ) (numbers body : List ℕ) → are_right (body_of (pnm format numbers)) 0 body ≡ true → length body ≤ sample_count (pnm_info format numbers) → AreBytes (map (scaled_sample (greatest_sample numbers)) body)
+pnm_bytes format numbers body right few =
+    scaled_all (greatest_sample numbers) body (one_right (sample_count (pnm_info format numbers)) (greatest_sample numbers) 0 body right (omega (arith, few)))
 
 -- PARTS OF BYTES
 
@@ -132,8 +137,7 @@ bmp_bytes head palette body p b =
 
 pub body_bytes : (bytes : List ℕ) (image : Image) → IsBodyWhole bytes image → AreBytes bytes → AreBytes image.samples
 body_bytes bytes image (pnm format numbers, front, body, f, cut, long, right, e) all =
-    let most = greatest_sample numbers in
-    subst (λ (i : Image). AreBytes i.samples) (sym e) (scaled_all most body (one_right (sample_count (pnm_info format numbers)) most 0 body right (omega (arith, long))))
+    subst (λ (i : Image). AreBytes i.samples) (sym e) (pnm_bytes format numbers body right (omega (arith, long)))
 body_bytes bytes image (bmp head palette, front, body, f, cut, long, right, e) all =
     let both : AreBytes (front ++ body) = subst AreBytes cut all in
     let behind = rest_bytes head (palette ++ f.skipped) (subst AreBytes f.cut (front_bytes front body both)) in

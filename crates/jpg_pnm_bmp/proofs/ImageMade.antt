@@ -9,7 +9,7 @@ use Rattle.jpg_spec_image.specs.ImageFaults.{IsImage}
 use Rattle.jpg_spec.specs.declared.frame.Limits.{Limits}
 use Rattle.jpg_pnm_bmp.specs.Made.{AreBytes}
 use Rattle.jpg_pnm_bmp.specs.Pieces.{MakesWhole}
-use Rattle.jpg_pnm_bmp.specs.Reader.{EndsImage, standing}
+use Rattle.jpg_pnm_bmp.specs.Reader.{EndsImage, pixels_kind, standing}
 use Rattle.jpg_pnm_bmp.specs.declared.read.piece.Fed2.{Fed2}
 use Rattle.jpg_pnm_bmp.specs.declared.read.piece.Fed2.TheVariants as fed
 use Rattle.jpg_pnm_bmp.specs.declared.read.work.Work.{Work}
@@ -40,6 +40,6 @@ unmade_ended bytes image made (stop.Fault f) m is = absurd m
 unmade_ended bytes image made stop.NoMemory m is = (image, is)
 
 -- BEFORE ANY BYTES
-pub none_read : (w : Work) → standing w ≡ at_start → standing w ≡ run at_start []
+pub none_read : (w : Work) → w.before ≡ 0 → standing [] w ≡ at_start → pixels_kind.stands [] w
 unfolding run
-none_read w e = e
+none_read w none e = (none, e)

@@ -76,6 +76,10 @@ sides_right format before (n ∷ numbers) s e =
     let r = first_right format before n numbers e in
     subst SidesSoFar (append_assoc before (n ∷ []) numbers) (sides_right format (before ++ n ∷ []) numbers (sides_more before n s r.right) r.others)
 
+-- of a text with both sides
+pub text_sides : (format w h : ℕ) (rest : List ℕ) → are_right_numbers format [] (w ∷ h ∷ rest) ≡ true → AreSides w h
+text_sides format w h rest e = sides_right format [] (w ∷ h ∷ rest) tt e
+
 sides_last : (bytes : List ℕ) (format : ℕ) (numbers after : List ℕ) → AfterLast bytes format numbers after → SidesSoFar numbers
 sides_last bytes format numbers after l =
     subst SidesSoFar (sym l.all) (sides_more l.before l.last (sides_right format [] l.before tt l.read.before.right) l.right)

@@ -15,6 +15,8 @@ pub mod DueNumbers
 pub mod EndRead
 pub mod PiecesFed
 pub mod PiecesRead
+pub mod SamplesGiven
 pub mod ShownNone
 pub mod Stretch
 pub mod PlainSamples
+pub mod PnmGiven

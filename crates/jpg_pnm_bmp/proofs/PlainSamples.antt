@@ -157,9 +157,9 @@ told_body w info bytes t e all =
     }
 
 pub told_plain : (r : PixelReader) (info : ImageInfo) → unscaled_view r.reader.work ≡ Some info → TellsPlain r info
-told_plain r info t = λ bytes h. by r.reader.work.stage t bytes h.3.stands h.2
+told_plain r info t = λ bytes h. by r.reader.work.stage t bytes h.3.stands.1 h.2
   where
-    by : (st : Stage) → info_at st r.reader.work ≡ Some info → (bytes : List ℕ) → standing_of st r.reader.work ≡ run at_start bytes → AreBytes bytes → HasFedSamples info bytes r.reader.work.samples
+    by : (st : Stage) → info_at st r.reader.work ≡ Some info → (bytes : List ℕ) → standing_of [] st r.reader.work ≡ run at_start bytes → AreBytes bytes → HasFedSamples info bytes r.reader.work.samples
     by stage.Start e bytes s all = cc
     by (stage.First first) e bytes s all = cc
     by (stage.Gap some commented) e bytes s all = cc
@@ -183,9 +183,9 @@ same_numbers : (h g : ℕ) (xs ys body given : List ℕ) → in_body (pnm h xs) 
 same_numbers h g xs ys body given e = cc
 
 pub told_not_plain : (r : PixelReader) → unscaled_view r.reader.work ≡ None → TellsNotPlain r
-told_not_plain r t = λ bytes given info h f. by r.reader.work.stage t (h.3.stands ∙ fed_run info bytes given f) f.greatest
+told_not_plain r t = λ bytes given info h f. by r.reader.work.stage t (h.3.stands.1 ∙ fed_run info bytes given f) f.greatest
   where
-    by : (st : Stage) → info_at st r.reader.work ≡ None → {format : ℕ} → {numbers given : List ℕ} → standing_of st r.reader.work ≡ in_body (pnm format numbers) given → greatest_sample numbers ≡ 255 → ⊥
+    by : (st : Stage) → info_at st r.reader.work ≡ None → {format : ℕ} → {numbers given : List ℕ} → standing_of [] st r.reader.work ≡ in_body (pnm format numbers) given → greatest_sample numbers ≡ 255 → ⊥
     by stage.Start e s g = cc
     by (stage.First first) e s g = cc
     by (stage.Gap some commented) e s g = cc

@@ -3,7 +3,7 @@ use Rattle.std.proofs.Common.{◌≡◌, ℕ, zero, suc, ◌+◌, ◌*◌, ◌/�
 use Rattle.std.specs.Prelude.{nat_lt, nat_le}
 use Rattle.std.proofs.lemmas.Bool.{cases_lt}
 use Rattle.std.proofs.lemmas.Bool.Decides.{nat_tests}
-use Rattle.std.proofs.lemmas.List.{length-append, length-take-le, take_more, take_all}
+use Rattle.std.proofs.lemmas.List.{append_assoc, length-append, length-take-le, take_more, take_all}
 use Rattle.std.proofs.lemmas.Nat.{mod-mul-add, div-add-mod'}
 use Rattle.jpg_spec.proofs.Basics.Common.{both, and_intro, lt_yes, lt_no}
 use Rattle.jpg_spec_image.specs.Images.{Body, is_wrong, are_right}
@@ -95,31 +95,41 @@ part_right b at part f some below =
     (λ (h : b.used ≤ at % b.line). filling_right b at part h (f.after_samples some h))
     (cases_lt (at % b.line) b.used)
 
-pub stretched : (head : ImageHead) (old w : Work) (part : List ℕ) (a : Answer) → CanStretch head old.samples → PartFits (body_of head) (length old.samples) part → 1 ≤ length part
-    → (0 < (body_of head).line → length old.samples % (body_of head).line < (body_of head).used → AreBelow (body_of head).limit part (length part))
-    → HoldsBodyPart old part (count head) a w → Stretches head old (run (in_body head old.samples) part) a w
-stretched head old w part answer.More can f some below (e, h) =
-    let l = length-append old.samples part in
-    let r = part_right (body_of head) (length old.samples) part f can.some below in (
-      part_run head old.samples part r some (omega (arith, l, h)) ∙ not_yet head (old.samples ++ part) h ∙ ap (in_body head) (sym (ap (λ (x : Work). x.samples) e)),
+pub stretched : (front : List ℕ) (head : ImageHead) (old w : Work) (part : List ℕ) (a : Answer) → length front ≡ old.before → CanStretch head (front ++ old.samples) → PartFits (body_of head) (length (front ++ old.samples)) part → 1 ≤ length part
+    → (0 < (body_of head).line → length (front ++ old.samples) % (body_of head).line < (body_of head).used → AreBelow (body_of head).limit part (length part))
+    → HoldsBodyPart old part (count head) a w → Stretches front head old (run (in_body head (front ++ old.samples)) part) a w
+stretched front head old w part answer.More long can f some below (e, h) =
+    let body : List ℕ = front ++ old.samples in
+    let l = length-append body part in
+    let m = length-append front old.samples in
+    let n = length-append old.samples part in
+    let few : length (body ++ part) < count head = omega (arith, l, m, n, h, long) in
+    let r = part_right (body_of head) (length body) part f can.some below in (
+      part_run head body part r some (omega (arith, few)) ∙ not_yet head (body ++ part) few ∙ ap (in_body head) (append_assoc front old.samples part ∙ ap (λ x. front ++ x) (sym (ap (λ (x : Work). x.samples) e))),
       e ∙ ap (λ x. (let z : Work = record old { samples = x } in z)) (sym (ap (λ (x : Work). x.samples) e)),
     )
-stretched head old w part answer.Whole can f some below (e, h) =
-    let l = length-append old.samples part in
+stretched front head old w part answer.Whole long can f some below (e, h) =
+    let body : List ℕ = front ++ old.samples in
+    let l = length-append body part in
+    let m = length-append front old.samples in
+    let n = length-append old.samples part in
     let room = can.room in
     let few = f.few room in
-    let r = part_right (body_of head) (length old.samples) part f can.some below in (
-      part_run head old.samples part r some (omega (arith, l, few)) ∙ all_there head (old.samples ++ part) h ∙ ap (λ x. whole (image_of head x)) (sym (ap (λ (x : Work). x.samples) e)),
+    let all : count head ≤ length (body ++ part) = omega (arith, l, m, n, h, long) in
+    let joined : body ++ part ≡ front ++ w.samples = append_assoc front old.samples part ∙ ap (λ x. front ++ x) (sym (ap (λ (x : Work). x.samples) e)) in
+    let r = part_right (body_of head) (length body) part f can.some below in (
+      part_run head body part r some (omega (arith, l, few)) ∙ all_there head (body ++ part) all ∙ ap (λ x. whole (image_of head x)) joined,
       e ∙ ap (λ x. (let z : Work = record old { samples = x } in z)) (sym (ap (λ (x : Work). x.samples) e)),
-      subst (HasSamples head) (sym (ap (λ (x : Work). x.samples) e)) (record { there = h; right = right_join (body_of head) 0 old.samples part can.right (let z : length old.samples ≡ 0 + length old.samples = omega arith in subst (λ n. are_right (body_of head) n part ≡ true) z r) }),
+      subst (HasSamples head) joined (record { there = all; right = right_join (body_of head) 0 body part can.right (let z : length body ≡ 0 + length body = omega arith in subst (λ n. are_right (body_of head) n part ≡ true) z r) }),
     )
-stretched head old w part (answer.Fault fault) can f some below h = absurd h
-stretched head old w part answer.NoMemory can f some below h =
-    let l = length-append old.samples part in
+stretched front head old w part (answer.Fault fault) long can f some below h = absurd h
+stretched front head old w part answer.NoMemory long can f some below h =
+    let body : List ℕ = front ++ old.samples in
+    let l = length-append body part in
     let room = can.room in
     let few = f.few room in
-    let r = part_right (body_of head) (length old.samples) part f can.some below in
-    subst ShowsNone (sym (part_run head old.samples part r some (omega (arith, l, few)))) (body_right head (old.samples ++ part))
+    let r = part_right (body_of head) (length body) part f can.some below in
+    subst ShowsNone (sym (part_run head body part r some (omega (arith, l, few)))) (body_right head (body ++ part))
 
 -- ONE BYTE
 

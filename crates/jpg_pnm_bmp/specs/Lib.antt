@@ -10,3 +10,5 @@ pub mod PixelsRead
 pub mod Reader
 pub mod Shapes
 pub mod PlainSamples
+pub mod PnmSamples
+pub mod Samples

@@ -1,5 +1,5 @@
 -- The image made of one whose last sample is known.
-use Rattle.std.specs.Prelude.{◌≡◌, ℕ, ◌+◌, ◌*◌, ◌<◌, ◌≤◌, List, length, slice_index, All, Result, Ok, Err}
+use Rattle.std.specs.Prelude.{◌≡◌, ℕ, ◌+◌, ◌*◌, ◌<◌, ◌≤◌, List, ◌++◌, length, slice_index, All, Result, Ok, Err}
 use Rattle.jpg_base.specs.declared.names.NoMemory.{NoMemory}
 use Rattle.jpg_spec_image.specs.Images.{Image, sample_count}
 use Rattle.jpg_spec_image.specs.declared.image.ImageInfo.{ImageInfo}
@@ -9,6 +9,10 @@ AreBytes xs = All (λ b. b < 256) xs
 
 abbrev pub image_by_parts : ImageInfo → List ℕ → Image
 image_by_parts info samples = record { info = info; samples = samples }
+
+-- something was appended
+abbrev pub IsMore : List ℕ → List ℕ → Type 0
+IsMore before made = (more : List ℕ) × (made ≡ before ++ more)
 
 -- a palette's colours are all there for a row
 abbrev pub AreIndexes : List ℕ → List ℕ → Type 0

@@ -1,13 +1,13 @@
 -- A reader of image files: its state after the bytes that it was given.
-use Rattle.std.specs.Prelude.{◌≡◌, ℕ, ◌+◌, ◌-◌, ◌*◌, ◌<◌, ◌≤◌, true, List, [], ◌++◌, length, take, Result, Ok, Err}
+use Rattle.std.specs.Prelude.{◌≡◌, ℕ, ◌+◌, ◌-◌, ◌*◌, ◌<◌, ◌≤◌, Bool, true, List, [], ◌∷◌, ◌++◌, length, take, None, Result, Ok, Err}
 use Rattle.jpg_base.specs.declared.stop.Stop.{Stop}
 use Rattle.jpg_base.specs.declared.stop.Stop.TheVariants as stop
 use Rattle.jpg_spec_image.specs.Images.{Image, are_right}
 use Rattle.jpg_spec_image.specs.BmpFile.{height, line, used, palette_bytes}
 use Rattle.jpg_spec_image.specs.ImageFaults.{ImageHead, pnm, bmp, body_of, image_of, IsImage, IsImageFault, ShowsImageFault}
-use Rattle.jpg_spec_image.specs.ImageSteps.{ImageState, at_start, behind_first, in_gap, in_number, in_bmp_head, in_bmp_front, in_body, whole, failed, past, ended_by, run}
+use Rattle.jpg_spec_image.specs.ImageSteps.{ImageState, at_start, behind_first, in_gap, in_number, in_bmp_head, in_bmp_front, in_body, whole, failed, past, number_byte, after_number, plain_image, state_end, ended_by, run}
 use Rattle.jpg_spec.specs.declared.fault.Fault.{Fault}
-use Rattle.jpg_spec_image.specs.PnmText.{number_fault}
+use Rattle.jpg_spec_image.specs.PnmText.{is_number_due, number_fault}
 use Rattle.jpg_spec.specs.declared.frame.Limits.{Limits}
 use Rattle.jpg_pnm_bmp.specs.Pieces.{PieceKind, HasRead}
 use Rattle.jpg_pnm_bmp.specs.Pieces as pieces
@@ -22,8 +22,9 @@ use Rattle.jpg_pnm_bmp.specs.declared.read.piece.Answer.TheVariants as answer
 use Rattle.jpg_pnm_bmp.specs.declared.read.piece.Moved.{Moved}
 use Rattle.jpg_pnm_bmp.specs.declared.read.work.Work.{Work}
 
-abbrev pub numbers_list : Work → List ℕ
-numbers_list w = list_of w.numbers w.samples
+-- the numbers of a text, where `front` has the samples that were given away before
+abbrev pub numbers_list : List ℕ → Work → List ℕ
+numbers_list front w = list_of w.numbers (front ++ w.samples)
 
 -- what precedes a body
 abbrev pub pnm_head : Work → ImageHead
@@ -32,30 +33,30 @@ pnm_head w = pnm w.format (list_of w.numbers [])
 abbrev pub bmp_head : Work → ImageHead
 bmp_head w = bmp w.head w.palette
 
-abbrev pub standing_of : Stage → Work → ImageState
-standing_of stage.Start w = at_start
-standing_of (stage.First first) w = behind_first first
-standing_of (stage.Gap some commented) w = in_gap w.format (numbers_list w) some commented
-standing_of (stage.Number n) w = in_number w.format (numbers_list w) n
-standing_of stage.BmpHead w = in_bmp_head w.head
-standing_of (stage.BmpFront passed) w = in_bmp_front w.head w.palette passed
-standing_of stage.PnmBody w = in_body (pnm_head w) w.samples
-standing_of stage.BmpBody w = in_body (bmp_head w) w.samples
+abbrev pub standing_of : List ℕ → Stage → Work → ImageState
+standing_of front stage.Start w = at_start
+standing_of front (stage.First first) w = behind_first first
+standing_of front (stage.Gap some commented) w = in_gap w.format (numbers_list front w) some commented
+standing_of front (stage.Number n) w = in_number w.format (numbers_list front w) n
+standing_of front stage.BmpHead w = in_bmp_head w.head
+standing_of front (stage.BmpFront passed) w = in_bmp_front w.head w.palette passed
+standing_of front stage.PnmBody w = in_body (pnm_head w) (front ++ w.samples)
+standing_of front stage.BmpBody w = in_body (bmp_head w) (front ++ w.samples)
 
-abbrev pub standing : Work → ImageState
-standing w = standing_of w.stage w
+abbrev pub standing : List ℕ → Work → ImageState
+standing front w = standing_of front w.stage w
 
 -- the result of some bytes
 abbrev pub IsReached : ImageState → Type 0
 IsReached s = (bytes : List ℕ) × (run at_start bytes ≡ s)
 
 -- the image that the samples are, once all are there
-abbrev pub image_by : Stage → Work → Image
-image_by stage.BmpBody w = image_of (bmp_head w) w.samples
-image_by other w = image_of (pnm_head w) w.samples
+abbrev pub image_by : List ℕ → Stage → Work → Image
+image_by front stage.BmpBody w = image_of (bmp_head w) (front ++ w.samples)
+image_by front other w = image_of (pnm_head w) (front ++ w.samples)
 
-abbrev pub image_view : Work → Image
-image_view w = image_by w.stage w
+abbrev pub image_view : List ℕ → Work → Image
+image_view front w = image_by front w.stage w
 
 -- the bytes that led to it show no fault
 abbrev pub ShowsNone : ImageState → Type 0
@@ -64,11 +65,11 @@ ShowsNone past = ⊥
 ShowsNone other = Unit {0}
 
 -- Memory is asked for only where there is no fault.
-abbrev pub Reaches : ImageState → Answer → Work → Type 0
-Reaches s answer.More w = standing w ≡ s
-Reaches s answer.Whole w = s ≡ whole (image_view w)
-Reaches s (answer.Fault fault) w = s ≡ failed fault
-Reaches s answer.NoMemory w = ShowsNone s
+abbrev pub Reaches : List ℕ → ImageState → Answer → Work → Type 0
+Reaches front s answer.More w = standing front w ≡ s
+Reaches front s answer.Whole w = s ≡ whole (image_view front w)
+Reaches front s (answer.Fault fault) w = s ≡ failed fault
+Reaches front s answer.NoMemory w = ShowsNone s
 
 -- all three numbers, the greatest sample not 0
 abbrev pub AreAllNumbers : Numbers → Type 0
@@ -109,6 +110,84 @@ CanMake w = CanMakeAt w.stage w
 pub record KeepsStage (old new : Work) : Type 0 where
   pub stage : new.stage ≡ old.stage
   pub format : new.format ≡ old.format
+  pub before : new.before ≡ old.before
+
+-- SAMPLES GIVEN AWAY BEFORE: none until the numbers of a PNM file's header are known
+
+abbrev pub AreGivenAt : Numbers → List ℕ → Type 0
+AreGivenAt Nothing front = front ≡ []
+AreGivenAt (Width a) front = front ≡ []
+AreGivenAt (Sides a b) front = front ≡ []
+AreGivenAt (All a b m) front = Unit {0}
+
+abbrev pub AreGivenIn : Stage → Numbers → List ℕ → Type 0
+AreGivenIn stage.Start numbers front = front ≡ []
+AreGivenIn (stage.First first) numbers front = front ≡ []
+AreGivenIn (stage.Gap some commented) numbers front = AreGivenAt numbers front
+AreGivenIn (stage.Number n) numbers front = AreGivenAt numbers front
+AreGivenIn stage.BmpHead numbers front = front ≡ []
+AreGivenIn (stage.BmpFront passed) numbers front = front ≡ []
+AreGivenIn stage.PnmBody numbers front = Unit {0}
+AreGivenIn stage.BmpBody numbers front = front ≡ []
+
+pub record AreBefore (front : List ℕ) (w : Work) : Type 0 where
+  pub long : length front ≡ w.before
+  pub known : AreGivenIn w.stage w.numbers front
+
+-- some bytes led to this state, and some samples were given away
+abbrev pub IsLedOn : Work → Type 0
+IsLedOn w = (front : List ℕ) × AreBefore front w × IsReached (standing front w)
+
+abbrev pub IsGoingOn : Work → Type 0
+IsGoingOn w = ∥ IsLedOn w ∥₁
+
+-- in the text or the body of a PNM file
+abbrev pub IsText : Stage → Type 0
+IsText stage.Start = ⊥
+IsText (stage.First first) = ⊥
+IsText (stage.Gap some commented) = Unit {0}
+IsText (stage.Number n) = Unit {0}
+IsText stage.BmpHead = ⊥
+IsText (stage.BmpFront passed) = ⊥
+IsText stage.PnmBody = Unit {0}
+IsText stage.BmpBody = ⊥
+
+pub record KeepsText (old new : Work) : Type 0 where
+  pub format : new.format ≡ old.format
+  pub numbers : new.numbers ≡ old.numbers
+  pub text : IsText new.stage
+
+-- What stays: how many samples were given away; and, once the numbers of a header are known, those.
+pub record Stays (old new : Work) : Type 0 where
+  pub before : new.before ≡ old.before
+  pub text : IsText old.stage → AreAllNumbers old.numbers → KeepsText old new
+
+-- whichever samples were given away before
+abbrev pub LeadsOn : Work → List ℕ → Moved → Work → Type 0
+LeadsOn old piece m new = (front : List ℕ) → AreBefore front old → IsReached (standing front old) → Reaches front (run (standing front old) (take m.used piece)) m.answer new
+
+-- A NUMBER that follows
+
+-- nothing is wrong with it
+abbrev pub IsRightNext : Numbers → ℕ → Type 0
+IsRightNext numbers n = (samples : List ℕ) → number_fault (list_of numbers samples) n ≡ None
+
+-- whether a further one is expected after it
+abbrev pub IsDueAfter : Work → ℕ → Bool → Type 0
+IsDueAfter w n due = (front : List ℕ) → length front ≡ w.before → due ≡ is_number_due w.format (numbers_list front w ++ n ∷ [])
+
+abbrev pub AppendsNumber : Work → ℕ → Work → Type 0
+AppendsNumber old n new = (front : List ℕ) → AreGivenAt old.numbers front → numbers_list front new ≡ numbers_list front old ++ n ∷ []
+
+-- the result of a byte in it
+abbrev pub LeadsNumber : Work → ℕ → ℕ → Answer → Work → Type 0
+LeadsNumber old n byte a new =
+    (front : List ℕ) → length front ≡ old.before → AreGivenAt old.numbers front → is_number_due old.format (numbers_list front old) ≡ true → Reaches front (number_byte old.format (numbers_list front old) n byte) a new
+
+-- and of one after it
+abbrev pub LeadsAfter : Work → ℕ → ℕ → Answer → Work → Type 0
+LeadsAfter old n byte a new =
+    (front : List ℕ) → length front ≡ old.before → AreGivenAt old.numbers front → is_number_due old.format (numbers_list front old) ≡ true → Reaches front (after_number old.format (numbers_list front old ++ n ∷ []) byte) a new
 
 -- with one more number all are known, if both sides were
 abbrev pub AddsNumber : Numbers → Work → Type 0
@@ -126,8 +205,8 @@ pub record CanStretch (head : ImageHead) (body : List ℕ) : Type 0 where
 
 -- a part of a body is kept too
 abbrev pub HoldsBodyPart : Work → List ℕ → ℕ → Answer → Work → Type 0
-HoldsBodyPart old part count answer.More w = (w ≡ record old { samples = old.samples ++ part }) × (length (old.samples ++ part) < count)
-HoldsBodyPart old part count answer.Whole w = (w ≡ record old { samples = old.samples ++ part }) × (count ≤ length (old.samples ++ part))
+HoldsBodyPart old part count answer.More w = (w ≡ record old { samples = old.samples ++ part }) × (old.before + length (old.samples ++ part) < count)
+HoldsBodyPart old part count answer.Whole w = (w ≡ record old { samples = old.samples ++ part }) × (count ≤ old.before + length (old.samples ++ part))
 HoldsBodyPart old part count (answer.Fault fault) w = ⊥
 HoldsBodyPart old part count answer.NoMemory w = Unit {0}
 
@@ -137,25 +216,38 @@ pub record HasSamples (head : ImageHead) (body : List ℕ) : Type 0 where
   pub right : are_right (body_of head) 0 body ≡ true
 
 -- the result of a part of a body, by the samples that are kept then
-abbrev pub Stretches : ImageHead → Work → ImageState → Answer → Work → Type 0
-Stretches head old s answer.More w = (s ≡ in_body head w.samples) × (w ≡ record old { samples = w.samples })
-Stretches head old s answer.Whole w = (s ≡ whole (image_of head w.samples)) × (w ≡ record old { samples = w.samples }) × HasSamples head w.samples
-Stretches head old s (answer.Fault fault) w = s ≡ failed fault
-Stretches head old s answer.NoMemory w = ShowsNone s
+abbrev pub Stretches : List ℕ → ImageHead → Work → ImageState → Answer → Work → Type 0
+Stretches front head old s answer.More w = (s ≡ in_body head (front ++ w.samples)) × (w ≡ record old { samples = w.samples })
+Stretches front head old s answer.Whole w = (s ≡ whole (image_of head (front ++ w.samples))) × (w ≡ record old { samples = w.samples }) × HasSamples head (front ++ w.samples)
+Stretches front head old s (answer.Fault fault) w = s ≡ failed fault
+Stretches front head old s answer.NoMemory w = ShowsNone s
 
 abbrev pub StretchesBy : ImageHead → Work → List ℕ → Moved → Work → Type 0
-StretchesBy head old piece m w = Stretches head old (run (in_body head old.samples) (take m.used piece)) m.answer w
+StretchesBy head old piece m w =
+    (front : List ℕ) → length front ≡ old.before → CanStretch head (front ++ old.samples) → Stretches front head old (run (in_body head (front ++ old.samples)) (take m.used piece)) m.answer w
 
 -- a number at the end of the bytes
-abbrev pub number_ended_at : Work → ℕ → Result Image Fault
-number_ended_at w n = ended_by w.format (numbers_list w) n (number_fault (numbers_list w) n)
+abbrev pub number_ended_at : List ℕ → Work → ℕ → Result Image Fault
+number_ended_at front w n = ended_by w.format (numbers_list front w) n (number_fault (numbers_list front w) n)
 
 -- The result where the bytes end. Memory is asked for only if they are an image's.
-abbrev pub EndsAs : Result Image Fault → Answer → Work → Type 0
-EndsAs e answer.More w = ⊥
-EndsAs e answer.Whole w = e ≡ Ok (image_view w)
-EndsAs e (answer.Fault fault) w = e ≡ Err fault
-EndsAs e answer.NoMemory w = (image : Image) × (e ≡ Ok image)
+abbrev pub EndsAs : List ℕ → Result Image Fault → Answer → Work → Type 0
+EndsAs front e answer.More w = ⊥
+EndsAs front e answer.Whole w = e ≡ Ok (image_view front w)
+EndsAs front e (answer.Fault fault) w = e ≡ Err fault
+EndsAs front e answer.NoMemory w = (image : Image) × (e ≡ Ok image)
+
+abbrev pub LeadsToEnd : Work → Answer → Work → Type 0
+LeadsToEnd old a new = (front : List ℕ) → AreBefore front old → IsReached (standing front old) → EndsAs front (state_end (standing front old)) a new
+
+abbrev pub EndsNumber : Work → ℕ → Answer → Work → Type 0
+EndsNumber old n a new = (front : List ℕ) → length front ≡ old.before → AreGivenAt old.numbers front → is_number_due old.format (numbers_list front old) ≡ true → EndsAs front (number_ended_at front old n) a new
+
+abbrev pub EndsRight : Work → ℕ → Answer → Work → Type 0
+EndsRight old n a new = (front : List ℕ) → length front ≡ old.before → AreGivenAt old.numbers front → EndsAs front (ended_by old.format (numbers_list front old) n None) a new
+
+abbrev pub EndsLast : Work → ℕ → Answer → Work → Type 0
+EndsLast old n a new = (front : List ℕ) → AreGivenAt old.numbers front → EndsAs front (Ok (plain_image old.format (numbers_list front old ++ n ∷ []))) a new
 
 -- no further bytes are asked for there
 abbrev pub IsEnd : Answer → Type 0
@@ -167,9 +259,9 @@ IsEnd answer.NoMemory = Unit {0}
 -- WHAT ITS STATES MEAN, for all limits that the bytes are within
 abbrev pub pixels_kind : PieceKind Work
 pixels_kind = record {
-  stands = λ bytes w. standing w ≡ run at_start bytes;
+  stands = λ bytes w. (w.before ≡ 0) × (standing [] w ≡ run at_start bytes);
   can = CanMake;
-  image = image_view;
+  image = image_view [];
   shows = ShowsImageFault;
   means = λ bytes image. (limits : Limits) (rest : List ℕ) → length bytes ≤ limits.input → IsImage limits (bytes ++ rest) image;
   faults = λ bytes fault at. (limits : Limits) (rest : List ℕ) → length bytes ≤ limits.input → IsImageFault limits (bytes ++ rest) fault at;

@@ -12,6 +12,7 @@ pub use laws::{
 };
 pub use read::piece::{Answer, Fed2, Moved, PieceReader, PieceWork, one_byte};
 pub use read::pixels::{Image, PixelReader};
+pub use read::samples::{SampleReader, SampleWork};
 pub use write::bmp::BmpEnd;
 pub use write::end::{Finish, ImageEnd};
 pub use write::file_row::{add_file_row, file_row};

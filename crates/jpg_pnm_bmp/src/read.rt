@@ -6,4 +6,6 @@ pub mod make;
 pub mod numbers;
 pub mod piece;
 pub mod pixels;
+pub mod pnm_samples;
+pub mod samples;
 pub mod work;

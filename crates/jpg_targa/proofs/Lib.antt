@@ -2,7 +2,6 @@ pub mod Copies
 pub mod Led
 pub mod MadeRows
 pub mod PiecesRead
-pub mod SamplePieces
 pub mod SamplesGiven
 pub mod SamplesRead
 pub mod ShownNone

@@ -16,7 +16,7 @@ use Rattle.jpg_spec_image.specs.declared.image.ImageKind.TheVariants.{Gray, Rgb}
 use Rattle.jpg_spec_image.proofs.TargaRuns.{right_header, run_join}
 use Rattle.jpg_spec_image.proofs.TargaStands.{stands}
 use Rattle.jpg_pnm_bmp.specs.Made.{image_by_parts}
-use Rattle.jpg_targa.specs.SampleKinds.{AfterGiven, Appends}
+use Rattle.jpg_pnm_bmp.specs.Samples.{AfterGiven, Appends}
 use Rattle.jpg_pnm_bmp.specs.declared.read.piece.Answer.{Answer}
 use Rattle.jpg_pnm_bmp.specs.declared.read.piece.Answer.TheVariants as answer
 use Rattle.jpg_targa.specs.Reader.{AreBefore, HasAll, IsBody, Reaches, ShowsNone, Stays, image_view, standing, standing_of}

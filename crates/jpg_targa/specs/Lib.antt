@@ -1,5 +1,4 @@
 pub mod Reader
-pub mod SampleKinds
 pub mod Samples
 pub mod TargaGiven
 pub mod TargaRead

@@ -4,7 +4,7 @@ use Rattle.jpg_spec_image.specs.ImageText.{file_samples}
 use Rattle.jpg_spec_image.specs.TargaFile.{pixel_size, targa_kind, targa_info, is_from_top}
 use Rattle.jpg_spec_image.specs.TargaSteps.{at_start, total, run}
 use Rattle.jpg_spec_image.specs.declared.image.ImageKind.{ImageKind}
-use Rattle.jpg_targa.specs.SampleKinds.{SampleKind}
+use Rattle.jpg_pnm_bmp.specs.Samples.{SampleKind}
 use Rattle.jpg_pnm_bmp.specs.declared.read.piece.Answer.{Answer}
 use Rattle.jpg_pnm_bmp.specs.declared.read.piece.Answer.TheVariants as answer
 use Rattle.jpg_targa.specs.Reader.{IsBody, standing}

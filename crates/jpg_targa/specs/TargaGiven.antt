@@ -6,7 +6,7 @@ use Rattle.jpg_spec_image.specs.TargaFile.{is_from_top, targa_info, IsTargaFront
 use Rattle.jpg_spec_image.specs.TargaFaults.{TargaMeans}
 use Rattle.jpg_spec_image.specs.declared.image.ImageInfo.{ImageInfo}
 use Rattle.jpg_pnm_bmp.specs.PlainSamples.{AreRightNumbers}
-use Rattle.jpg_targa.specs.SampleKinds as samples
+use Rattle.jpg_pnm_bmp.specs.Samples as samples
 use Rattle.jpg_pnm_bmp.specs.declared.read.piece.Fed2.{Fed2}
 use Rattle.jpg_targa.specs.Samples.{targa_samples_kind, HasBegun}
 use Rattle.jpg_targa.specs.TargaRead.{HasFedTarga, IsShortAt}

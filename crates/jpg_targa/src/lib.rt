@@ -12,4 +12,3 @@ pub use jpg_spec_image::{EndKind, ImageInfo, ImageKind};
 pub use read::given::TargaSamples;
 pub use read::laws::{fed_targas_are_open, given_targas_go_on, targas_are_right};
 pub use read::reader::TargaReader;
-pub use read::sample_reader::{SampleReader, SampleWork};

@@ -5,6 +5,5 @@ pub mod head;
 pub mod laws;
 pub mod make;
 pub mod reader;
-pub mod sample_reader;
 pub mod samples;
 pub mod work;

@@ -1,9 +1,9 @@
 //! The samples of an image, from those of its file (release 6b's image files).
-ghost use Rattle.std.specs.Prelude.{◌≡◌, ◌<◌, ◌≤◌, ◌+◌, ◌*◌, ◌-◌, ◌==◌, ◌++◌, [], ℕ, List, length, map, flat_map, true, OnOk};
+ghost use Rattle.std.specs.Prelude.{◌≡◌, ◌<◌, ◌≤◌, ◌+◌, ◌*◌, ◌-◌, ◌==◌, ◌++◌, [], ℕ, List, length, map, flat_map, true, OnOk, OnErr};
 ghost use Rattle.jpg_spec_image.specs.PnmText.{scaled_sample};
 ghost use Rattle.jpg_spec_image.specs.BmpFile.{bmp_depth, colour, colours, bmp_line, bmp_body_samples, height, line, used};
 ghost use Rattle.jpg_spec_image.specs.ImageFaults.{image_of};
-ghost use Rattle.jpg_pnm_bmp.specs.Made.{AreBytes, AreIndexes, Makes};
+ghost use Rattle.jpg_pnm_bmp.specs.Made.{AreBytes, AreIndexes, IsMore, Makes};
 ghost use Rattle.jpg_pnm_bmp.specs.Reader.{AreAllNumbers, CanMake, HasPixels, pnm_head, bmp_head, image_view};
 
 use crate::read::bmp::{bmp_height, bmp_info, is_indexed, line, used};
@@ -24,9 +24,10 @@ fn scaled(most: u8, sample: u8) -> u8
 }
 
 // Appends samples, scaled.
-fn add_scaled(samples: &[u8], most: u8, made: &mut Bytes) -> Result<(), NoMemory>
+pub(crate) fn add_scaled(samples: &[u8], most: u8, made: &mut Bytes) -> Result<(), NoMemory>
     requires { 1 ≤ most }
-    ensures { OnOk result (AreBytes (map (scaled_sample most) samples.now) → made.new ≡ made.old ++ map (scaled_sample most) samples.now) }
+    ensures scaled { OnOk result (AreBytes (map (scaled_sample most) samples.now) → made.new ≡ made.old ++ map (scaled_sample most) samples.now) }
+    ensures more { OnErr result (IsMore made.old made.new) }
 {
     for sample in samples {
         match made.push_all(&[scaled(most, *sample)]) {
@@ -147,7 +148,7 @@ fn make_bmp(work: &mut Work, made: &mut Bytes) -> Result<ImageInfo, NoMemory>
 // Makes the image whose last sample is known. Returns its sides and kind.
 pub(crate) fn make_image(work: &mut Work, made: &mut Bytes) -> Result<ImageInfo, NoMemory>
     requires { CanMake work.old }
-    ensures { Makes (image_view work.old) result made.new }
+    ensures { Makes (image_view [] work.old) result made.new }
 {
     made.clear();
     match work.stage {

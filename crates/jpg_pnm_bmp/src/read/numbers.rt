@@ -1,5 +1,5 @@
 //! The numbers of a PNM text that are known so far, and what is wrong with a further one.
-ghost use Rattle.std.specs.Prelude.{◌≡◌, ◌≤◌, ◌-◌, ◌++◌, ◌∷◌, ◌||◌, [], ℕ, List, length, codes, if◌then◌else◌};
+ghost use Rattle.std.specs.Prelude.{◌≡◌, ◌≤◌, ◌+◌, ◌-◌, ◌++◌, ◌∷◌, ◌||◌, [], ℕ, List, length, codes, if◌then◌else◌};
 ghost use Rattle.jpg_spec.specs.Lists.{is_among};
 ghost use Rattle.jpg_spec_image.specs.Images.{is_side, sample_count, are_few_pixels};
 ghost use Rattle.jpg_spec_image.specs.PnmText.{is_plain, is_read, is_left_out, is_pnm_space, begins_gap, pnm_info, is_number_due, number_fault};
@@ -120,9 +120,9 @@ fn one_less(count: u64) -> u64
     count.saturating_sub(1)
 }
 
-// Whether a number is expected after these, `samples` samples among them, and one more.
-pub(crate) fn is_due_after(format: u8, numbers: Numbers, samples: u64) -> bool
-    ensures { (list : List ℕ) (n : ℕ) → length list ≡ samples → result ≡ is_number_due format (list_of numbers list ++ n ∷ []) }
+// Whether a number is expected after these, `before` and `held` samples among them, and one more.
+pub(crate) fn is_due_after(format: u8, numbers: Numbers, before: u64, held: u64) -> bool
+    ensures { (list : List ℕ) (n : ℕ) → length list ≡ before + held → result ≡ is_number_due format (list_of numbers list ++ n ∷ []) }
 {
     match numbers {
         Numbers::Nothing => true,
@@ -131,7 +131,8 @@ pub(crate) fn is_due_after(format: u8, numbers: Numbers, samples: u64) -> bool
             is_plain(format) && 0 < sample_count(format, width, height)
         }
         Numbers::All(width, height, _) => {
-            is_plain(format) && samples < one_less(sample_count(format, width, height))
+            let due = one_less(sample_count(format, width, height));
+            is_plain(format) && held < due.saturating_sub(before)
         }
     }
 }

@@ -3,10 +3,9 @@ ghost use Rattle.std.specs.Prelude.{◌≡◌, ◌<◌, ◌≤◌, ◌++◌, ◌
 ghost use Rattle.jpg_spec_image.specs.PnmText.{is_number_due, number_fault};
 ghost use Rattle.jpg_spec_image.specs.BmpFile.{palette_bytes};
 ghost use Rattle.jpg_spec_image.specs.ImageFaults.{ImageHead, body_of};
-ghost use Rattle.jpg_spec_image.specs.ImageSteps.{at_start, in_body, first_byte, second_byte, gap_byte, number_byte, after_number, head_so_far, bmp_front, front_byte, state_end, ended_by, plain_image, run};
+ghost use Rattle.jpg_spec_image.specs.ImageSteps.{at_start, first_byte, second_byte, gap_byte, head_so_far, bmp_front, front_byte};
 ghost use Rattle.jpg_pnm_bmp.specs.Known.{list_of};
-ghost use Rattle.jpg_pnm_bmp.specs.Reader.{standing, numbers_list, IsEnd, IsReached, HasAll, HasScale, KeepsStage, Reaches, AddsNumber, CanStretch, HoldsBodyPart, StretchesBy, EndsAs, number_ended_at, pixels_kind};
-ghost use Rattle.jpg_pnm_bmp.specs.Pieces.{IsGoing};
+ghost use Rattle.jpg_pnm_bmp.specs.Reader.{standing, numbers_list, IsEnd, IsGoingOn, HasAll, HasScale, KeepsStage, Stays, Reaches, LeadsNumber, LeadsAfter, LeadsOn, LeadsToEnd, IsRightNext, IsDueAfter, AppendsNumber, AddsNumber, HoldsBodyPart, StretchesBy, EndsNumber, EndsRight, EndsLast};
 ghost use Rattle.jpg_pnm_bmp.specs.Shapes.{body_view};
 ghost use Rattle.jpg_pnm_bmp.specs.PlainSamples.{unscaled_view};
 
@@ -49,7 +48,9 @@ pub struct Work {
     pub head: Bytes,
     // Its palette.
     pub palette: Bytes,
-    // The samples so far, as the file has them.
+    // How many samples were given away before: none where the image is made at once, and none of a BMP file.
+    pub before: u64,
+    // The samples after them so far, as the file has them.
     pub samples: Bytes,
     // A row of samples, while the image is made.
     pub line: Vec<u8>,
@@ -77,7 +78,8 @@ fn completed(held: &[u8], byte: u8) -> [u8; 54]
 
 impl Work {
     pub fn new(alloc: Global) -> Work
-        ensures { standing result ≡ at_start }
+        ensures stands { standing [] result ≡ at_start }
+        ensures before { result.before ≡ 0 }
     {
         Work {
             stage: Stage::Start,
@@ -85,15 +87,17 @@ impl Work {
             numbers: Numbers::Nothing,
             head: Bytes::new(alloc),
             palette: Bytes::new(alloc),
+            before: 0,
             samples: Bytes::new(alloc),
             line: Vec::new(alloc),
         }
     }
 
     fn first_byte(&mut self, byte: u8) -> Answer
-        ensures led { Reaches (first_byte byte) result self.new }
+        ensures led { Reaches [] (first_byte byte) result self.new }
         ensures all { HasAll result self.new }
         ensures sparing { result ≡ Answer.NoMemory → ⊥ }
+        ensures same { self.new.before ≡ self.old.before }
     {
         if byte == b'P' || byte == b'B' {
             self.stage = Stage::First(byte);
@@ -103,9 +107,10 @@ impl Work {
     }
 
     fn second_byte(&mut self, first: u8, byte: u8) -> Answer
-        ensures led { Reaches (second_byte first byte) result self.new }
+        ensures led { Reaches [] (second_byte first byte) result self.new }
         ensures all { HasAll result self.new }
         ensures asked { result ≡ Answer.NoMemory → first ≡ 66 }
+        ensures same { self.new.before ≡ self.old.before }
     {
         if first == b'B' {
             return self.bmp_begun(byte);
@@ -126,8 +131,9 @@ impl Work {
     }
 
     fn bmp_begun(&mut self, byte: u8) -> Answer
-        ensures led { Reaches (second_byte 66 byte) result self.new }
+        ensures led { Reaches [] (second_byte 66 byte) result self.new }
         ensures all { HasAll result self.new }
+        ensures same { self.new.before ≡ self.old.before }
     {
         if byte == b'M' {
             self.head.clear();
@@ -141,9 +147,10 @@ impl Work {
     }
 
     fn gap_byte(&mut self, some: bool, commented: bool, byte: u8) -> Answer
-        ensures led { Reaches (gap_byte self.old.format (numbers_list self.old) some commented byte) result self.new }
+        ensures led { (front : List ℕ) → Reaches front (gap_byte self.old.format (numbers_list front self.old) some commented byte) result self.new }
         ensures all { HasAll result self.new }
         ensures sparing { result ≡ Answer.NoMemory → ⊥ }
+        ensures stays { Stays self.old self.new }
     {
         if commented || begins_gap(byte) {
             let commented = if commented {
@@ -166,15 +173,15 @@ impl Work {
 
     fn number_byte(&mut self, n: u32, byte: u8) -> Answer
         requires { HasScale self.old.numbers }
-        ensures led { is_number_due self.old.format (numbers_list self.old) ≡ true → Reaches (number_byte self.old.format (numbers_list self.old) n byte) result self.new }
+        ensures led { LeadsNumber self.old n byte result self.new }
         ensures all { HasAll result self.new }
+        ensures stays { Stays self.old self.new }
     {
         if is_digit(byte) {
             self.stage = Stage::Number((10 * n.min(100_000) + u32::from(byte - b'0')).min(100_000));
             return Answer::More;
         }
-        let samples = self.samples.as_slice().len() as u64;
-        let due = is_due_after(self.format, self.numbers, samples);
+        let due = is_due_after(self.format, self.numbers, self.before, self.held());
         if !may_follow(self.format, due, byte) {
             return Answer::Fault(Fault::ImageText);
         }
@@ -186,11 +193,12 @@ impl Work {
 
     // A number has ended; `due` is whether a further one is expected.
     fn number_ended(&mut self, n: u32, due: bool, byte: u8) -> Answer
-        requires right { number_fault (numbers_list self.old) n ≡ None }
-        requires due { due ≡ is_number_due self.old.format (numbers_list self.old ++ n ∷ []) }
+        requires right { IsRightNext self.old.numbers n }
+        requires due { IsDueAfter self.old n due }
         requires scale { HasScale self.old.numbers }
-        ensures led { is_number_due self.old.format (numbers_list self.old) ≡ true → Reaches (after_number self.old.format (numbers_list self.old ++ n ∷ []) byte) result self.new }
+        ensures led { LeadsAfter self.old n byte result self.new }
         ensures all { HasAll result self.new }
+        ensures stays { Stays self.old self.new }
     {
         match self.add_number(n) {
             Ok(()) => {}
@@ -211,8 +219,8 @@ impl Work {
     }
 
     fn add_number(&mut self, n: u32) -> Result<(), NoMemory>
-        requires { number_fault (numbers_list self.old) n ≡ None }
-        ensures added { OnOk result (numbers_list self.new ≡ numbers_list self.old ++ n ∷ []) }
+        requires { IsRightNext self.old.numbers n }
+        ensures added { OnOk result (AppendsNumber self.old n self.new) }
         ensures kept { KeepsStage self.old self.new }
         ensures all { AddsNumber self.old.numbers self.new }
     {
@@ -232,8 +240,9 @@ impl Work {
 
     fn head_byte(&mut self, byte: u8) -> Answer
         requires { length self.old.head < 54 }
-        ensures led { Reaches (head_so_far (self.old.head ++ byte ∷ [])) result self.new }
+        ensures led { Reaches [] (head_so_far (self.old.head ++ byte ∷ [])) result self.new }
         ensures all { HasAll result self.new }
+        ensures same { self.new.before ≡ self.old.before }
     {
         match self.head.push_all(&[byte]) {
             Ok(()) => self.head_grown(),
@@ -245,8 +254,9 @@ impl Work {
     #[cold]
     fn head_lost(&mut self, byte: u8) -> Answer
         requires { length self.old.head < 54 }
-        ensures led { Reaches (head_so_far (self.old.head ++ byte ∷ [])) result self.new }
+        ensures led { Reaches [] (head_so_far (self.old.head ++ byte ∷ [])) result self.new }
         ensures all { HasAll result self.new }
+        ensures same { self.new.before ≡ self.old.before }
     {
         let held = self.head.as_slice();
         if held.len() < 53 {
@@ -259,9 +269,10 @@ impl Work {
     }
 
     fn head_grown(&mut self) -> Answer
-        ensures led { Reaches (head_so_far self.old.head) result self.new }
+        ensures led { Reaches [] (head_so_far self.old.head) result self.new }
         ensures all { HasAll result self.new }
         ensures sparing { result ≡ Answer.NoMemory → ⊥ }
+        ensures same { self.new.before ≡ self.old.before }
     {
         if self.head.as_slice().len() < 54 {
             self.stage = Stage::BmpHead;
@@ -279,9 +290,10 @@ impl Work {
     fn front_so_far(&mut self, passed: u64) -> Answer
         requires long { 54 ≤ length self.old.head }
         requires few { passed ≤ 4294967296 }
-        ensures led { Reaches (bmp_front self.old.head self.old.palette passed) result self.new }
+        ensures led { Reaches [] (bmp_front self.old.head self.old.palette passed) result self.new }
         ensures all { HasAll result self.new }
         ensures sparing { result ≡ Answer.NoMemory → ⊥ }
+        ensures same { self.new.before ≡ self.old.before }
     {
         if 54 + passed < u64::from(bmp_offset(self.head.as_slice())) {
             self.stage = Stage::BmpFront(passed as u32);
@@ -294,9 +306,10 @@ impl Work {
 
     fn front_byte(&mut self, passed: u32, byte: u8) -> Answer
         requires { 54 ≤ length self.old.head }
-        ensures led { Reaches (front_byte self.old.head self.old.palette passed byte) result self.new }
+        ensures led { Reaches [] (front_byte self.old.head self.old.palette passed byte) result self.new }
         ensures all { HasAll result self.new }
         ensures asked { result ≡ Answer.NoMemory → passed < palette_bytes self.old.head }
+        ensures same { self.new.before ≡ self.old.before }
     {
         if u64::from(passed) < palette_bytes(self.head.as_slice()) {
             if self.palette.push_all(&[byte]).is_err() {
@@ -306,7 +319,7 @@ impl Work {
         self.front_so_far(u64::from(passed) + 1)
     }
 
-    fn held(&self) -> u64
+    pub fn held(&self) -> u64
         ensures { result ≡ length self.now.samples }
     {
         self.samples.as_slice().len() as u64
@@ -314,11 +327,12 @@ impl Work {
 
     // Keeps a part of a body too. Returns whether it is complete then.
     fn hold(&mut self, count: u64, part: &[u8]) -> Answer
-        ensures { HoldsBodyPart self.old part.now count result self.new }
+        ensures part { HoldsBodyPart self.old part.now count result self.new }
+        ensures stays { Stays self.old self.new }
     {
         match self.samples.push_all(part) {
             Ok(()) => {
-                if self.held() < count {
+                if self.held() < count.saturating_sub(self.before) {
                     return Answer::More;
                 }
                 Answer::Whole
@@ -332,9 +346,10 @@ impl Work {
         requires { 1 ≤ length piece.now }
         ensures some { 1 ≤ result.used }
         ensures within { result.used ≤ length piece.now }
-        ensures led { (head : ImageHead) → body_view shape ≡ body_of head → CanStretch head self.old.samples → StretchesBy head self.old piece.now result self.new }
+        ensures led { (head : ImageHead) → body_view shape ≡ body_of head → StretchesBy head self.old piece.now result self.new }
+        ensures stays { Stays self.old self.new }
     {
-        let at = self.held();
+        let at = self.before.saturating_add(self.held());
         let long = part_long(shape, at, piece.len());
         match wrong_in(shape, at, &piece[..long]) {
             Some(wrong) => Moved {
@@ -367,11 +382,12 @@ impl Work {
     // Takes some of the bytes, at least one.
     pub fn advance(&mut self, piece: &[u8]) -> Moved
         requires some { 1 ≤ length piece.now }
-        requires going { IsGoing pixels_kind self.old }
+        requires going { IsGoingOn self.old }
         ensures some { 1 ≤ result.used }
         ensures within { result.used ≤ length piece.now }
-        ensures led { IsReached (standing self.old) → Reaches (run (standing self.old) (take result.used piece.now)) result.answer self.new }
+        ensures led { LeadsOn self.old piece.now result self.new }
         ensures all { HasAll result.answer self.new }
+        ensures stays { Stays self.old self.new }
     {
         let byte = piece[0];
         match self.stage {
@@ -394,10 +410,11 @@ impl Work {
 
     // The bytes end here: a number at their end is judged.
     pub fn end(&mut self) -> Answer
-        requires { IsGoing pixels_kind self.old }
-        ensures led { IsReached (standing self.old) → EndsAs (state_end (standing self.old)) result self.new }
+        requires { IsGoingOn self.old }
+        ensures led { LeadsToEnd self.old result self.new }
         ensures stops { IsEnd result }
         ensures all { HasAll result self.new }
+        ensures stays { Stays self.old self.new }
     {
         match self.stage {
             Stage::Start => Answer::Fault(Fault::ImageShort),
@@ -413,9 +430,10 @@ impl Work {
 
     fn number_end(&mut self, n: u32) -> Answer
         requires { HasScale self.old.numbers }
-        ensures led { is_number_due self.old.format (numbers_list self.old) ≡ true → EndsAs (number_ended_at self.old n) result self.new }
+        ensures led { EndsNumber self.old n result self.new }
         ensures stops { IsEnd result }
         ensures all { HasAll result self.new }
+        ensures stays { Stays self.old self.new }
     {
         match number_fault(self.numbers, n) {
             Some(fault) => Answer::Fault(fault),
@@ -424,13 +442,14 @@ impl Work {
     }
 
     fn right_end(&mut self, n: u32) -> Answer
-        requires right { number_fault (numbers_list self.old) n ≡ None }
+        requires right { IsRightNext self.old.numbers n }
         requires scale { HasScale self.old.numbers }
-        ensures led { EndsAs (ended_by self.old.format (numbers_list self.old) n None) result self.new }
+        ensures led { EndsRight self.old n result self.new }
         ensures stops { IsEnd result }
         ensures all { HasAll result self.new }
+        ensures stays { Stays self.old self.new }
     {
-        let due = is_due_after(self.format, self.numbers, self.held());
+        let due = is_due_after(self.format, self.numbers, self.before, self.held());
         if is_plain(self.format) && !due {
             return self.last_end(n);
         }
@@ -438,12 +457,13 @@ impl Work {
     }
 
     fn last_end(&mut self, n: u32) -> Answer
-        requires right { number_fault (numbers_list self.old) n ≡ None }
-        requires last { is_number_due self.old.format (numbers_list self.old ++ n ∷ []) ≡ false }
+        requires right { IsRightNext self.old.numbers n }
+        requires last { IsDueAfter self.old n false }
         requires scale { HasScale self.old.numbers }
-        ensures led { EndsAs (Ok (plain_image self.old.format (numbers_list self.old ++ n ∷ []))) result self.new }
+        ensures led { EndsLast self.old n result self.new }
         ensures stops { IsEnd result }
         ensures all { HasAll result self.new }
+        ensures stays { Stays self.old self.new }
     {
         match self.add_number(n) {
             Ok(()) => {}

@@ -1,14 +1,13 @@
 //! Targa files whose samples are given as they are read: rows come from the top.
 ghost use Rattle.std.specs.Prelude.{◌≡◌, ◌≤◌, ◌+◌, ℕ, List, length, Some, false, Err};
 ghost use Rattle.jpg_base.specs.declared.stop.Stop.{Stop as Stopped};
-ghost use Rattle.jpg_targa.specs.SampleKinds.{CanGo};
+ghost use Rattle.jpg_pnm_bmp.specs.Samples.{CanGo};
 ghost use Rattle.jpg_targa.specs.Samples.{targa_samples_kind};
 
 use crate::read::head::info;
-use crate::read::sample_reader::SampleReader;
 use crate::read::work::Work;
 use jpg_base::{Bytes, FaultAt, Stop};
-use jpg_pnm_bmp::Fed2;
+use jpg_pnm_bmp::{Fed2, SampleReader};
 use jpg_spec::Fault;
 use jpg_spec_image::ImageInfo;
 

@@ -7,11 +7,10 @@ ghost use Rattle.jpg_targa.specs.Reader.{targa_kind};
 
 use crate::read::given::TargaSamples;
 use crate::read::make::make_image;
-use crate::read::sample_reader::SampleReader;
 use crate::read::samples::begun_info;
 use crate::read::work::Work;
 use jpg_base::{Bytes, FaultAt, NoMemory, Stop};
-use jpg_pnm_bmp::{Fed2, Image, Moved, PieceReader, PieceWork};
+use jpg_pnm_bmp::{Fed2, Image, Moved, PieceReader, PieceWork, SampleReader};
 use jpg_spec::Fault;
 use jpg_spec_image::ImageInfo;
 use std::alloc::Global;

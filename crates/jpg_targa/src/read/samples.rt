@@ -6,10 +6,9 @@ ghost use Rattle.jpg_spec_image.specs.TargaSteps.{total};
 ghost use Rattle.jpg_targa.specs.Samples.{targa_samples_kind, HasBegun, IsMore, GivesFirst, GivesMore, GivesLast};
 
 use crate::read::head::{info, is_from_top, kind};
-use crate::read::sample_reader::SampleWork;
 use crate::read::work::{Stage, Work};
 use jpg_base::{Bytes, NoMemory};
-use jpg_pnm_bmp::{Answer, Moved, file_row};
+use jpg_pnm_bmp::{Answer, Moved, SampleWork, file_row};
 use jpg_spec_image::{ImageInfo, ImageKind};
 
 // The numbers of the image, if its pixels have begun, and its rows come from the top.

@@ -9,7 +9,7 @@ returns-in-Ok c =
     let work = c.args.work.now in
     let scaled : List ℕ → List ℕ = map (scaled_sample c.in-All.most) in
     let made : AreBytes (scaled work.samples) → c.add_scaled.new.made ≡ c.args.made.now ++ scaled work.samples =
-    subst (λ (l : List ℕ). AreBytes (scaled l) → c.add_scaled.new.made ≡ c.args.made.now ++ scaled l) c.as_slice.ensures c.in-Ok.ensures
+    subst (λ (l : List ℕ). AreBytes (scaled l) → c.add_scaled.new.made ≡ c.args.made.now ++ scaled l) c.as_slice.ensures c.in-Ok.ensures.scaled
     in
     made_pnm work.format work.numbers work.samples c.in-All.width c.in-All.height c.in-All.most c.pnm_info-info.result c.add_scaled.new.made c.in-All.is
     (c.pnm_info-info.ensures (c.in-All.most ∷ [])) (λ bytes. made bytes ∙ ap (λ l. l ++ scaled work.samples) c.requires.empty)

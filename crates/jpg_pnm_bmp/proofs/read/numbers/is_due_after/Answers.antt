@@ -12,6 +12,8 @@ returns-then-is_plain c = λ list n l.
 
 pub returns-then-is_plain-2 : goal.returns-then-is_plain-2
 returns-then-is_plain-2 c = λ list n l.
-    ap (nat_lt c.args.samples) c.one_less.ensures
-    ∙ subst (λ k. nat_lt c.args.samples (c.sample_count-then-is_plain-2.result - 1) ≡ is_number_due c.args.format (list_of k list ++ n ∷ [])) (sym c.in-All.is)
-    (sample_due c.args.format c.in-All.width c.in-All.height c.in-All.field-2 list n c.sample_count-then-is_plain-2.result c.args.samples (c.sample_count-then-is_plain-2.ensures.count (c.in-All.field-2 ∷ (list ++ n ∷ []))) (sym c.is_plain-in-All.ensures ∙ c.if-is_plain-2.true) l)
+    let m = c.in-All.field-2 in
+    let count = c.sample_count-in-All in
+    ap (nat_lt c.args.held) (c.saturating_sub.ensures ∙ ap (λ k. k - c.args.before) c.one_less-due.ensures)
+    ∙ subst (λ k. nat_lt c.args.held (count.result - 1 - c.args.before) ≡ is_number_due c.args.format (list_of k list ++ n ∷ [])) (sym c.in-All.is)
+    (sample_due c.args.format c.in-All.width c.in-All.height m list n count.result c.args.before c.args.held (count.ensures.count (m ∷ (list ++ n ∷ []))) (sym c.is_plain-in-All.ensures ∙ c.if-is_plain-2.true) l)

@@ -14,6 +14,6 @@ done head palette h f e =
 
 pub returns-in-None-clause-led : goal.returns-in-None-clause-led
 returns-in-None-clause-led c =
-    subst (λ s. Reaches s c.front_so_far.result c.front_so_far.new.self)
+    subst (λ s. Reaches [] s c.front_so_far.result c.front_so_far.new.self)
     (sym (done c.args.self.now.head c.clear.new.self (subst (λ x. 54 ≤ length x) c.as_slice.ensures c.if-as_slice-lt54.false) (ap bmp_fault (sym c.as_slice-2.ensures) ∙ sym c.head_fault.ensures ∙ c.in-None.is) c.clear.ensures))
     c.front_so_far.ensures.led

@@ -1,5 +1,5 @@
-use Rattle.std.proofs.Common.{◌≡◌, ℕ, ◌+◌, ◌%◌, ◌<◌, ◌≤◌, List, length, take, get_or, sym, ap, ◌∙◌, subst, arith}
-use Rattle.std.proofs.lemmas.List.{length-take-le}
+use Rattle.std.proofs.Common.{◌≡◌, ℕ, ◌+◌, ◌%◌, ◌<◌, ◌≤◌, ◌++◌, min, rules, List, length, take, get_or, sym, ap, ◌∙◌, subst, arith}
+use Rattle.std.proofs.lemmas.List.{length-append, length-take-le}
 use Rattle.jpg_spec.proofs.Basics.Common.{take_shorter}
 use Rattle.jpg_spec_image.specs.Images.{Body}
 use Rattle.jpg_spec_image.specs.ImageFaults.{ImageHead, body_of}
@@ -36,18 +36,35 @@ wrong head samples piece long k at b e can same within few along judged h below 
     ∙ wrong_run head samples (take long piece) k h below above line' can.lined (omega (arith, l, same, cnt)))
     few along judged below above
 
+-- the place after those that are given away and held
+placed : (front samples : List ℕ) (before held at count most : ℕ) → length front ≡ before → held ≡ length samples → at ≡ min (before + held) most → count ≤ most → length (front ++ samples) < count → at ≡ length (front ++ samples)
+placed front samples before held at count most long h is few room = let l = length-append front samples in omega (arith, l, long, h, is, few, room)
+
 pub returns-in-Some-clause-led : goal.returns-in-Some-clause-led
-returns-in-Some-clause-led c = λ head e can.
-    wrong head c.args.self.now.samples c.args.piece.now c.part_long-long.result c.in-Some.wrong c.held-at.result (body_view c.args.shape) e can c.held-at.ensures c.part_long-long.ensures.within c.part_long-long.ensures.few c.part_long-long.ensures.along
+returns-in-Some-clause-led c = λ head e front long can.
+    let body : List ℕ = front ++ c.args.self.now.samples in
+    let few : c.args.shape.count < 18446744073709551616 = search rules in
+    let count = ap (λ (b : Body). b.count) e in
+    let room = can.room in
+    let at = placed front c.args.self.now.samples c.args.self.now.before c.held.result c.saturating_add-at.result c.args.shape.count 18446744073709551615 long c.held.ensures c.saturating_add-at.ensures (omega (arith, few)) (omega (arith, count, room)) in
+    wrong head body c.args.piece.now c.part_long-long.result c.in-Some.wrong c.saturating_add-at.result (body_view c.args.shape) e can at c.part_long-long.ensures.within c.part_long-long.ensures.few c.part_long-long.ensures.along
     c.in-Some.ensures.judged c.in-Some.ensures.within c.in-Some.ensures.before c.in-Some.ensures.above
 
 pub returns-in-None-clause-led : goal.returns-in-None-clause-led
-returns-in-None-clause-led c = λ head e can.
+returns-in-None-clause-led c = λ head e front long can.
+    let body : List ℕ = front ++ c.args.self.now.samples in
+    let few : c.args.shape.count < 18446744073709551616 = search rules in
+    let count = ap (λ (b : Body). b.count) e in
+    let room = can.room in
+    let at = placed front c.args.self.now.samples c.args.self.now.before c.held.result c.saturating_add-at.result c.args.shape.count 18446744073709551615 long c.held.ensures c.saturating_add-at.ensures (omega (arith, few)) (omega (arith, count, room)) in
     let part = take c.part_long-long.result c.args.piece.now in
     let l : length part ≡ c.part_long-long.result = length-take-le c.part_long-long.result c.args.piece.now c.part_long-long.ensures.within in
     let some = c.part_long-long.ensures.some in
-    let f : PartFits (body_view c.args.shape) (length c.args.self.now.samples) part = fits (body_view c.args.shape) c.held-at.result (length c.args.self.now.samples) c.part_long-long.result part c.held-at.ensures l c.part_long-long.ensures.few c.part_long-long.ensures.along c.part_long-long.ensures.behind in
-    let below = subst (λ n. 0 < c.args.shape.line → n % c.args.shape.line < c.args.shape.used → AreBelow c.args.shape.limit part (length part)) c.held-at.ensures c.in-None.ensures.none in
-    stretched head c.args.self.now c.hold-answer.new.self part c.hold-answer.result can (subst (λ b. PartFits b (length c.args.self.now.samples) part) e f) (omega (arith, l, some))
-    (subst (λ (b : Body). 0 < b.line → length c.args.self.now.samples % b.line < b.used → AreBelow b.limit part (length part)) e below)
-    (subst (λ (b : Body). HoldsBodyPart c.args.self.now part b.count c.hold-answer.result c.hold-answer.new.self) e c.hold-answer.ensures)
+    let f : PartFits (body_view c.args.shape) (length body) part = fits (body_view c.args.shape) c.saturating_add-at.result (length body) c.part_long-long.result part at l c.part_long-long.ensures.few c.part_long-long.ensures.along c.part_long-long.ensures.behind in
+    let below = subst (λ n. 0 < c.args.shape.line → n % c.args.shape.line < c.args.shape.used → AreBelow c.args.shape.limit part (length part)) at c.in-None.ensures.none in
+    stretched front head c.args.self.now c.hold-answer.new.self part c.hold-answer.result long can (subst (λ b. PartFits b (length body) part) e f) (omega (arith, l, some))
+    (subst (λ (b : Body). 0 < b.line → length body % b.line < b.used → AreBelow b.limit part (length part)) e below)
+    (subst (λ (b : Body). HoldsBodyPart c.args.self.now part b.count c.hold-answer.result c.hold-answer.new.self) e c.hold-answer.ensures.part)
+
+pub returns-in-None-clause-stays : goal.returns-in-None-clause-stays
+returns-in-None-clause-stays c = c.hold-answer.ensures.stays

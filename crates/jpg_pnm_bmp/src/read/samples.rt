@@ -1,10 +1,10 @@
 //! An image file whose samples are given as they are read, in any format.
 ghost use Rattle.std.specs.Prelude.{◌≡◌, ◌+◌, ◌≤◌, ℕ, List, None, false, length, Some, Err};
 ghost use Rattle.jpg_base.specs.declared.stop.Stop.{Stop as Stopped};
-ghost use Rattle.jpg_targa.specs.SampleKinds.{SampleKind, IsGiving, GivesSome, TakesPiece, GoesOn, AsksTaken};
+ghost use Rattle.jpg_pnm_bmp.specs.Samples.{SampleKind, IsGiving, GivesSome, TakesPiece, GoesOn, AsksTaken};
 
+use crate::read::piece::{Answer, Fed2, Moved};
 use jpg_base::{Bytes, FaultAt, Stop};
-use jpg_pnm_bmp::{Answer, Fed2, Moved};
 
 /// What reads the bytes of one format, and gives the image's samples as they become known. Once the image is complete, and
 /// after a stop, nothing more is done.
@@ -37,7 +37,7 @@ pub struct SampleReader<W> {
 }
 
 impl<W: SampleWork> SampleReader<W> {
-    ghost use Rattle.jpg_targa.specs.SampleKinds.{HasFed, CanGo, Feeds, Asks, KeepsDone};
+    ghost use Rattle.jpg_pnm_bmp.specs.Samples.{HasFed, CanGo, Feeds, Asks, KeepsDone};
 
     /// A reader after these bytes of a file, of which some samples were given.
     pub fn new(work: W, taken: u64) -> SampleReader<W>

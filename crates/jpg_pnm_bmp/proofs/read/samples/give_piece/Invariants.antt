@@ -1,6 +1,6 @@
 use Rattle.std.proofs.Common.{◌≤◌, ◌-◌, ◌++◌, ℕ, List, length, take}
-use Rattle.jpg_targa.specs.SampleKinds.{IsGiving, Appends}
-use Rattle.jpg_targa.proofs.read.sample_reader.give_piece.Given as goal
+use Rattle.jpg_pnm_bmp.specs.Samples.{IsGiving, Appends}
+use Rattle.jpg_pnm_bmp.proofs.read.samples.give_piece.Given as goal
 
 -- what was taken of the piece
 abbrev pub invariant-loop-at : goal.invariant-loop-at

@@ -10,7 +10,7 @@ use Rattle.jpg_pnm_bmp.specs.declared.read.piece.Answer.TheVariants as answer
 use Rattle.jpg_pnm_bmp.specs.declared.read.piece.Fed2.{Fed2}
 use Rattle.jpg_pnm_bmp.specs.declared.read.piece.Fed2.TheVariants as fed
 use Rattle.jpg_pnm_bmp.specs.declared.read.piece.Moved.{Moved}
-use Rattle.jpg_targa.specs.declared.read.sample_reader.SampleReader.{SampleReader}
+use Rattle.jpg_pnm_bmp.specs.declared.read.samples.SampleReader.{SampleReader}
 
 -- Of what gives a format's samples: how its files are read; which bytes lead to a state in which more are needed, and which
 -- samples were given then; and the numbers of the image.

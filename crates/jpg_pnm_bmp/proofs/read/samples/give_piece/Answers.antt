@@ -1,11 +1,11 @@
 use Rattle.std.proofs.Common.{◌+◌, ◌-◌, ◌++◌, length, take, drop, subst, arith}
 use Rattle.std.proofs.Math.Logic.{∥∥₁_map}
-use Rattle.jpg_targa.specs.SampleKinds.{AfterGiven}
+use Rattle.jpg_pnm_bmp.specs.Samples.{AfterGiven}
 use Rattle.jpg_pnm_bmp.specs.declared.read.piece.Answer.{Answer}
 use Rattle.jpg_pnm_bmp.specs.declared.read.piece.Answer.TheVariants as answer
 use Rattle.jpg_pnm_bmp.proofs.PiecesFed.{further, place}
-use Rattle.jpg_targa.proofs.SamplePieces.{some_given}
-use Rattle.jpg_targa.proofs.read.sample_reader.give_piece.Goals as goal
+use Rattle.jpg_pnm_bmp.proofs.SamplesGiven.{some_given}
+use Rattle.jpg_pnm_bmp.proofs.read.samples.give_piece.Goals as goal
 
 pub loop-at-preserved : goal.loop-at-preserved
 loop-at-preserved g c =

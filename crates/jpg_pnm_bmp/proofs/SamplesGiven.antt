@@ -2,7 +2,7 @@
 use Rattle.std.proofs.Common.{◌≡◌, ℕ, ◌+◌, ◌-◌, List, ◌++◌, length, take, drop, sym, ap, ◌∙◌, subst}
 use Rattle.std.proofs.lemmas.List.{append_assoc, take-append-drop, take_rest}
 use Rattle.std.proofs.Math.Seq.{take-add}
-use Rattle.jpg_targa.specs.SampleKinds.{SampleKind, AfterGiven, Appends}
+use Rattle.jpg_pnm_bmp.specs.Samples.{SampleKind, AfterGiven, Appends}
 use Rattle.jpg_pnm_bmp.specs.declared.read.piece.Answer.{Answer}
 
 module _ {W : Type 0} (k : SampleKind W) (bytes piece given : List ℕ) where
