@@ -22,7 +22,7 @@ use Rattle.jpg_pnm_bmp.specs.Known.{list_of}
 use Rattle.jpg_pnm_bmp.specs.Made.{AreBytes}
 use Rattle.jpg_pnm_bmp.specs.Shapes.{AreBelow}
 use Rattle.jpg_pnm_bmp.specs.Reader.{pnm_head, standing_of}
-use Rattle.jpg_pnm_bmp.specs.PlainSamples.{HasFedSamples, AreRightNumbers, CompletesPlain, GoesOnPlain, plain_image, unscaled_info, info_at, unscaled_view, TellsPlain, TellsNotPlain}
+use Rattle.jpg_pnm_bmp.specs.PlainSamples.{HasFedSamples, AreRightNumbers, CompletesPlain, GoesOnPlain, plain_image, samples_of, unscaled_info, info_at, unscaled_view, TellsPlain, TellsNotPlain}
 use Rattle.jpg_pnm_bmp.specs.declared.read.numbers.Numbers.{Numbers}
 use Rattle.jpg_pnm_bmp.specs.declared.read.numbers.Numbers.TheVariants.{Nothing, Width, Sides, All}
 use Rattle.jpg_pnm_bmp.specs.declared.read.pixels.PixelReader.{PixelReader}
@@ -157,7 +157,7 @@ told_body w info bytes t e all =
     }
 
 pub told_plain : (r : PixelReader) (info : ImageInfo) → unscaled_view r.reader.work ≡ Some info → TellsPlain r info
-told_plain r info t = λ bytes h. by r.reader.work.stage t bytes h.3.stands.1 h.2
+told_plain r info t = λ bytes h. subst (HasFedSamples info bytes) (sym (ap (λ o. samples_of o r.reader.work.samples) t)) (by r.reader.work.stage t bytes h.3.stands.1 h.2)
   where
     by : (st : Stage) → info_at st r.reader.work ≡ Some info → (bytes : List ℕ) → standing_of [] st r.reader.work ≡ run at_start bytes → AreBytes bytes → HasFedSamples info bytes r.reader.work.samples
     by stage.Start e bytes s all = cc

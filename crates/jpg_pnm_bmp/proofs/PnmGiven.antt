@@ -1,17 +1,16 @@
 -- The samples of a PNM file, given part by part.
-use Rattle.std.proofs.Common.{◌≡◌, ℕ, ◌+◌, ◌*◌, ◌<◌, ◌≤◌, ◌==◌, Bool, true, false, ◌&&◌, cond, List, [], ◌∷◌, ◌++◌, length, take, map, refl, sym, ap, ◌∙◌, subst, arith, inl, inr, append_assoc}
-use Rattle.std.specs.Prelude.{nat_lt}
+use Rattle.std.proofs.Common.{◌≡◌, ℕ, suc, ◌+◌, ◌*◌, ◌<◌, ◌≤◌, ◌==◌, Bool, true, false, cond, List, [], ◌∷◌, ◌++◌, length, take, map, refl, sym, ap, ◌∙◌, subst, arith, inl, inr, append_assoc, Ok, Err, Option, None, Some}
+use Rattle.std.specs.Prelude.{IfSome}
 use Rattle.std.proofs.lemmas.List.{append-nil, length-append, map-append}
 use Rattle.std.proofs.lemmas.List.Elements.{All-nil}
 use Rattle.jpg_spec.proofs.Basics.Common.{both, same_of, lt_of}
 use Rattle.jpg_spec.specs.Lists.{begins_with}
-use Rattle.jpg_spec.specs.declared.fault.Fault.{Fault}
-use Rattle.jpg_spec_image.specs.Images.{Image, sample_count, are_right}
+use Rattle.jpg_spec_image.specs.Images.{Image, sample_count}
 use Rattle.jpg_spec_image.specs.ImageText.{row_bytes}
-use Rattle.jpg_spec_image.specs.PnmText.{is_plain, is_number_due, are_right_numbers, pnm_info, greatest_sample, scaled_sample, AfterNumbers}
+use Rattle.jpg_spec_image.specs.PnmText.{is_plain, is_number_due, are_right_numbers, pnm_info, greatest_sample, scaled_sample}
 use Rattle.jpg_spec_image.specs.BmpFile.{IsBmpFront}
-use Rattle.jpg_spec_image.specs.ImageFaults.{ImageHead, pnm, bmp, body_of, image_of, IsBodyFront, IsWholeImage}
-use Rattle.jpg_spec_image.specs.ImageSteps.{ImageState, at_start, in_gap, in_number, in_body, whole, failed, run}
+use Rattle.jpg_spec_image.specs.ImageFaults.{pnm, bmp, image_of, IsBodyFront, IsImage, IsOpenImage, IsWholeImage}
+use Rattle.jpg_spec_image.specs.ImageSteps.{ImageState, at_start, in_gap, in_number, in_body, whole, run, state_end}
 use Rattle.jpg_spec_image.specs.ImageReading.{RepresentsImage, InGap, InBody}
 use Rattle.jpg_spec_image.specs.declared.image.ImageInfo.{ImageInfo}
 use Rattle.jpg_spec_image.specs.declared.image.ImageKind.{ImageKind}
@@ -19,11 +18,14 @@ use Rattle.jpg_spec_image.specs.declared.image.ImageKind.TheVariants.{Gray, Rgb}
 use Rattle.jpg_spec_image.proofs.ImageRuns.{run_join}
 use Rattle.jpg_spec_image.proofs.ImageStands.{stands}
 use Rattle.jpg_pnm_bmp.specs.Known.{list_of}
-use Rattle.jpg_pnm_bmp.specs.Made.{AreBytes, image_by_parts}
+use Rattle.jpg_pnm_bmp.specs.Made.{AreBytes, IsMore, image_by_parts}
 use Rattle.jpg_pnm_bmp.specs.PlainSamples.{AreRightNumbers}
-use Rattle.jpg_pnm_bmp.specs.PnmSamples.{HasGivenPnm, GivesHeld, GivesKnown, IsNoFault, pnm_samples_kind, scaled_by}
-use Rattle.jpg_pnm_bmp.specs.Reader.{AreAllNumbers, AreBefore, AreGivenAt, AreGivenIn, IsLedOn, IsText, Reaches, ShowsNone, Stays, image_by, image_view, pixels_kind, pnm_head, standing, standing_of}
-use Rattle.jpg_pnm_bmp.specs.Samples.{AfterGiven, Appends}
+use Rattle.jpg_pnm_bmp.specs.PnmSamples.{CanGiveNow, HasGivenPnm, GivesEnough, GivesHeld, GivesKnown, IsNoFault, pnm_samples_kind, scaled_by}
+use Rattle.jpg_base.specs.declared.stop.Stop.TheVariants as stop
+use Rattle.jpg_pnm_bmp.specs.PnmGiven.{TellsRight}
+use Rattle.jpg_pnm_bmp.specs.declared.read.pixels.PixelReader.{PixelReader}
+use Rattle.jpg_pnm_bmp.specs.Reader.{AreAllNumbers, AreBefore, EndsAs, EndsImage, AreGivenAt, AreGivenIn, IsLedOn, IsText, Reaches, ShowsNone, Stays, image_by, image_view, pixels_kind, pnm_head, standing, standing_of}
+use Rattle.jpg_pnm_bmp.specs.Samples.{AfterGiven, Appends, HasSameInfo, KeepsInfo}
 use Rattle.jpg_pnm_bmp.specs.declared.read.numbers.Numbers.{Numbers}
 use Rattle.jpg_pnm_bmp.specs.declared.read.numbers.Numbers.TheVariants.{Nothing, Width, Sides, All}
 use Rattle.jpg_pnm_bmp.specs.declared.read.piece.Answer.{Answer}
@@ -32,7 +34,11 @@ use Rattle.jpg_pnm_bmp.specs.declared.read.work.Stage.{Stage}
 use Rattle.jpg_pnm_bmp.specs.declared.read.work.Stage.TheVariants as stage
 use Rattle.jpg_pnm_bmp.specs.declared.read.work.Work.{Work}
 use Rattle.jpg_pnm_bmp.proofs.ImageBytes.{plain_bytes, pnm_bytes, rest_bytes, scaled_all, up_to_right}
-use Rattle.jpg_pnm_bmp.proofs.ImageRight.{AreSides, raw_sides, right_numbers, text_sides}
+use Rattle.jpg_pnm_bmp.proofs.EndRead.{image_at_end, standing_live}
+use Rattle.jpg_spec_image.proofs.ImageJudged.{IsLive, live_shows_nothing}
+use Rattle.jpg_spec.specs.Segments.{standard_limits}
+use Rattle.jpg_spec.specs.declared.frame.Limits.{Limits}
+use Rattle.jpg_pnm_bmp.proofs.ImageRight.{image_right, raw_sides, right_numbers, text_sides}
 use Rattle.jpg_pnm_bmp.proofs.PiecesFed.{place}
 use Rattle.jpg_pnm_bmp.proofs.PiecesRead.{fault_read, image_read}
 use Rattle.jpg_pnm_bmp.proofs.ShownNone.{no_fault, whole_right}
@@ -257,6 +263,26 @@ more_given old w v bytes part given before made g s e h =
       },
     )
 
+-- they are few, and stay
+few_given : (old w v : Work) (bytes part given before made : List ℕ) (g : HasGivenPnm bytes given old) → Stays old w → standing g.front w ≡ run at_start (bytes ++ part) → v ≡ w → made ≡ before
+    → Appends before made (λ more. HasGivenPnm (bytes ++ part) (given ++ more) v)
+few_given old w v bytes part given before made g s e is same =
+    let t = s.text g.text g.known in
+    let now : HasGivenPnm (bytes ++ part) (given ++ []) w = record {
+      front = g.front;
+      long = g.long ∙ sym s.before;
+      text = t.text;
+      known = subst AreAllNumbers (sym t.numbers) g.known;
+      stands = e;
+      given_is = append-nil given ∙ g.given_is ∙ ap (λ k. map (scaled_sample (greatest_sample (list_of k []))) g.front) (sym t.numbers);
+    } in
+    ([], same ∙ sym (append-nil before), subst (HasGivenPnm (bytes ++ part) (given ++ [])) (sym is) now)
+
+enough_given : (old w v : Work) (bytes part given before made : List ℕ) (g : HasGivenPnm bytes given old) → Stays old w → standing g.front w ≡ run at_start (bytes ++ part) → GivesEnough w before v made
+    → Appends before made (λ more. HasGivenPnm (bytes ++ part) (given ++ more) v)
+enough_given old w v bytes part given before made g s e (inl h) = few_given old w v bytes part given before made g s e h.0 h.1
+enough_given old w v bytes part given before made g s e (inr h) = more_given old w v bytes part given before made g s e h
+
 whole_given : (old w v : Work) (bytes piece given before made : List ℕ) (used : ℕ) (g : HasGivenPnm bytes given old) → used ≤ length piece → Stays old w → run at_start (bytes ++ take used piece) ≡ whole (image_view g.front w) → GivesHeld w before v made
     → Appends before made (λ more. AfterGiven pnm_samples_kind (bytes ++ take used piece) (bytes ++ piece) (given ++ more) answer.Whole v)
 whole_given old w v bytes piece given before made used g few s e h =
@@ -295,9 +321,113 @@ known_given old w v bytes piece given before made used a b g few s r k = by b k
     to = subst (λ t. Reaches g.front t a w) (run_taken g.front old bytes (take used piece) g.stands) r
 
     by : (b : Answer) → GivesKnown w a before b v made → Appends before made (λ more. AfterGiven pnm_samples_kind (bytes ++ take used piece) (bytes ++ piece) (given ++ more) b v)
-    by answer.More (is, h) = more_given old w v bytes (take used piece) given before made g s (subst (λ x. Reaches g.front (run at_start (bytes ++ take used piece)) x w) is to) h
+    by answer.More (is, h) = enough_given old w v bytes (take used piece) given before made g s (subst (λ x. Reaches g.front (run at_start (bytes ++ take used piece)) x w) is to) h
     by answer.Whole (is, h) = whole_given old w v bytes piece given before made used g few s (subst (λ x. Reaches g.front (run at_start (bytes ++ take used piece)) x w) is to) h
     by (answer.Fault fault) (is, (more, m)) =
         let e = subst (λ x. Reaches g.front (run at_start (bytes ++ take used piece)) x w) is to in
         (more, m, λ limits rest l. fault_read limits bytes piece rest used (length (bytes ++ take used piece)) fault few l (place bytes piece (length bytes) used refl few) e)
     by answer.NoMemory (none, (more, m)) = (more, m, no_fault (bytes ++ take used piece) (no_fault_yet g.front (run at_start (bytes ++ take used piece)) a w none to))
+
+-- THE NUMBERS stay
+
+-- of the answers that need more bytes, or have all samples
+abbrev IsHeldOn : Work → Answer → Work → Type 0
+IsHeldOn w answer.More v = (v.format ≡ w.format) × (v.numbers ≡ w.numbers)
+IsHeldOn w answer.Whole v = (v.format ≡ w.format) × (v.numbers ≡ w.numbers)
+IsHeldOn w (answer.Fault fault) v = Unit {0}
+IsHeldOn w answer.NoMemory v = Unit {0}
+
+held_on : (w v : Work) (before made : List ℕ) (a b : Answer) → GivesKnown w a before b v made → IsHeldOn w b v
+held_on w v before made a answer.More (is, inl h) = (ap (λ (x : Work). x.format) h.0, ap (λ (x : Work). x.numbers) h.0)
+held_on w v before made a answer.More (is, inr h) = (h.format, h.numbers)
+held_on w v before made a answer.Whole (is, h) = (h.format, h.numbers)
+held_on w v before made a (answer.Fault fault) k = tt
+held_on w v before made a answer.NoMemory k = tt
+
+info_same : (old w v : Work) → Stays old w → IsText old.stage → AreAllNumbers old.numbers → v.format ≡ w.format → v.numbers ≡ w.numbers → pnm_samples_kind.info v ≡ pnm_samples_kind.info old
+info_same old w v s text known f n =
+    let t = s.text text known in
+    ap (λ k. pnm_info k (list_of v.numbers [])) (f ∙ t.format) ∙ ap (λ k. pnm_info old.format (list_of k [])) (n ∙ t.numbers)
+
+pub info_kept : (old w v : Work) (before made : List ℕ) (a b : Answer) → Stays old w → GivesKnown w a before b v made → KeepsInfo pnm_samples_kind old b v
+info_kept old w v before made a b s k bytes given g = by b (held_on w v before made a b k)
+  where
+    by : (b : Answer) → IsHeldOn w b v → HasSameInfo pnm_samples_kind old b v
+    by answer.More (f, n) = info_same old w v s g.text g.known f n
+    by answer.Whole (f, n) = info_same old w v s g.text g.known f n
+    by (answer.Fault fault) h = tt
+    by answer.NoMemory h = tt
+
+-- WHERE THEY BEGIN
+
+pub none_given_yet : (bytes : List ℕ) (info : ImageInfo) (w : Work) → CanGiveNow info w → pixels_kind.stands bytes w → HasGivenPnm bytes [] w
+none_given_yet bytes info w c s = record { front = []; long = sym s.0; text = c.text; known = c.known; stands = s.1; given_is = refl }
+
+-- THEIR NUMBERS are within bounds
+
+text_right : (format : ℕ) (numbers : Numbers) (body : List ℕ) → AreAllNumbers numbers → are_right_numbers format [] (list_of numbers body) ≡ true → AreRightNumbers (pnm_info format (list_of numbers []))
+text_right format Nothing body all right = absurd all
+text_right format (Width w) body all right = absurd all
+text_right format (Sides w h) body all right = absurd all
+text_right format (All w h m) body all right = right_numbers (pnm_info format (w ∷ h ∷ m ∷ [])) (text_sides format w h (m ∷ body) right)
+
+right_at : (front : List ℕ) (st : Stage) (w : Work) (bytes : List ℕ) → IsText st → AreAllNumbers w.numbers → standing_of front st w ≡ run at_start bytes → AreRightNumbers (pnm_info w.format (list_of w.numbers []))
+right_at front stage.Start w bytes t all e = absurd t
+right_at front (stage.First first) w bytes t all e = absurd t
+right_at front (stage.Gap some commented) w bytes t all e =
+    let i : InGap bytes w.format (list_of w.numbers (front ++ w.samples)) some commented = subst (RepresentsImage bytes) (sym e) (stands bytes) in
+    text_right w.format w.numbers (front ++ w.samples) all i.behind.right
+right_at front (stage.Number n) w bytes t all e = by (subst (RepresentsImage bytes) (sym e) (stands bytes))
+  where
+    by : RepresentsImage bytes (in_number w.format (list_of w.numbers (front ++ w.samples)) n) → AreRightNumbers (pnm_info w.format (list_of w.numbers []))
+    by (m, r, c) = text_right w.format w.numbers (front ++ w.samples) all r.before.right
+right_at front stage.BmpHead w bytes t all e = absurd t
+right_at front (stage.BmpFront passed) w bytes t all e = absurd t
+right_at front stage.PnmBody w bytes t all e =
+    let i : InBody bytes (pnm w.format (list_of w.numbers [])) (front ++ w.samples) = subst (RepresentsImage bytes) (sym e) (stands bytes) in
+    right_numbers (pnm_info w.format (list_of w.numbers [])) (raw_sides w.format (list_of w.numbers []) i.front i.header)
+right_at front stage.BmpBody w bytes t all e = absurd t
+
+pub begun_right : (bytes : List ℕ) (info : ImageInfo) (w : Work) → CanGiveNow info w → pixels_kind.stands bytes w → AreRightNumbers info
+begun_right bytes info w c s = subst AreRightNumbers (sym c.info_is) (right_at [] w.stage w bytes c.text c.known s.1)
+
+pub given_right : (bytes given : List ℕ) (w : Work) → HasGivenPnm bytes given w → AreRightNumbers (pnm_samples_kind.info w)
+given_right bytes given w g = right_at g.front w.stage w bytes g.text g.known g.stands
+
+pub given_open : (bytes given : List ℕ) (w : Work) → HasGivenPnm bytes given w → IsOpenImage bytes
+given_open bytes given w g = live_shows_nothing bytes (subst IsLive g.stands (standing_live g.front w.stage w))
+
+-- WHERE THE FILE ENDS, after these bytes and samples
+
+module _ (old : Work) (bytes given : List ℕ) (g : HasGivenPnm bytes given old) where
+  pub ended_samples : (w : Work) → Stays old w → image_view g.front w ≡ image_by_parts (pnm_samples_kind.info old) (given ++ scaled_by w w.samples)
+  ended_samples w s =
+      let t = s.text g.text g.known in
+      image_text g.front w.stage w t.text
+      ∙ ap (image_by_parts (pnm_info w.format (list_of w.numbers []))) (sym (given_all bytes given old w g t.numbers))
+      ∙ ap (λ i. image_by_parts i (given ++ scaled_by w w.samples)) (info_same old w w s g.text g.known refl refl)
+
+  pub ended_image : (limits : Limits) (image : Image) → length bytes < limits.input → state_end (standing g.front old) ≡ Ok image → IsImage limits bytes image
+  ended_image limits image l e = image_at_end limits (standing g.front old) bytes image g.stands (standing_live g.front old.stage old) l e
+
+  ended_bytes : (w : Work) → AreBytes bytes → Stays old w → state_end (standing g.front old) ≡ Ok (image_view g.front w) → AreBytes (scaled_by w w.samples)
+  ended_bytes w all s e =
+      let limits : Limits = record standard_limits { input = suc (length bytes) } in
+      let image = image_right limits bytes (image_view g.front w) (ended_image limits (image_view g.front w) (omega arith) e) all in
+      rest_bytes given (scaled_by w w.samples) (subst AreBytes (ap (λ (i : Image). i.samples) (ended_samples w s)) image.bytes)
+
+  pub ended_whole : (w v : Work) (before made : List ℕ) → AreBytes bytes → Stays old w → EndsAs g.front (state_end (standing g.front old)) answer.Whole w → GivesHeld w before v made
+      → Appends before made (λ more. EndsImage bytes (Ok tt) (image_by_parts (pnm_samples_kind.info old) (given ++ more)))
+  ended_whole w v before made all s e h =
+      (scaled_by w w.samples, h.given (ended_bytes w all s e), λ limits l. ended_image limits (image_by_parts (pnm_samples_kind.info old) (given ++ scaled_by w w.samples)) l (e ∙ ap Ok (ended_samples w s)))
+
+  pub ended_lost : (w : Work) (before made : List ℕ) → EndsAs g.front (state_end (standing g.front old)) answer.Whole w → IsMore before made
+      → Appends before made (λ more. EndsImage bytes (Err stop.NoMemory) (image_by_parts (pnm_samples_kind.info old) (given ++ more)))
+  ended_lost w before made e (more, m) = (more, m, (image_view g.front w, λ limits l. ended_image limits (image_view g.front w) l e))
+
+pub nothing_more : (before : List ℕ) {P : Type 0} → P → Appends before before (λ more. P)
+nothing_more before p = ([], sym (append-nil before), p)
+
+pub tells_right : (r : PixelReader) (o : Option ImageInfo) → IfSome o (λ info. CanGiveNow info r.reader.work) → IfSome o (TellsRight r)
+tells_right r None t = tt
+tells_right r (Some info) c = λ bytes h. begun_right bytes info r.reader.work c h.3.stands

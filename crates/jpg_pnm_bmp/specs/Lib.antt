@@ -10,5 +10,6 @@ pub mod PixelsRead
 pub mod Reader
 pub mod Shapes
 pub mod PlainSamples
+pub mod PnmGiven
 pub mod PnmSamples
 pub mod Samples

@@ -56,10 +56,6 @@ pub record GoesOnPlain (info : ImageInfo) (bytes given : List ℕ) : Type 0 wher
 
 -- A READER of them
 
--- the samples so far
-abbrev pub samples_so_far : PixelReader → List ℕ
-samples_so_far r = r.reader.work.samples
-
 -- the numbers of an image whose samples aren't scaled
 abbrev pub unscaled_info : ℕ → Numbers → Option ImageInfo
 unscaled_info format Nothing = None
@@ -80,6 +76,14 @@ info_at stage.BmpBody w = None
 -- where the state is that of a body
 abbrev pub unscaled_view : Work → Option ImageInfo
 unscaled_view w = info_at w.stage w
+
+abbrev pub samples_of : Option ImageInfo → List ℕ → List ℕ
+samples_of None held = []
+samples_of (Some info) held = held
+
+-- the samples so far, where they are the bytes after the header
+abbrev pub samples_so_far : PixelReader → List ℕ
+samples_so_far r = samples_of (unscaled_view r.reader.work) r.reader.work.samples
 
 -- THE RESULTS of a reader, for all that was fed to it
 

@@ -1,9 +1,9 @@
 -- IMAGE FILES WHOSE SAMPLES ARE GIVEN AS THEY ARE READ, in any format.
-use Rattle.std.specs.Prelude.{◌≡◌, ℕ, ◌≤◌, true, false, List, ◌++◌, length, take, None, Option, Result, Ok, Err}
+use Rattle.std.specs.Prelude.{◌≡◌, ℕ, true, false, List, ◌++◌, length, take, None, Result, Ok, Err}
 use Rattle.jpg_base.specs.declared.stop.Stop.{Stop}
 use Rattle.jpg_base.specs.declared.stop.Stop.TheVariants as stop
 use Rattle.jpg_spec_image.specs.declared.image.ImageInfo.{ImageInfo}
-use Rattle.jpg_pnm_bmp.specs.Made.{AreBytes, image_by_parts}
+use Rattle.jpg_pnm_bmp.specs.Made.{image_by_parts}
 use Rattle.jpg_pnm_bmp.specs.Pieces.{PieceKind, HasNoFault, AsksRightly}
 use Rattle.jpg_pnm_bmp.specs.declared.read.piece.Answer.{Answer}
 use Rattle.jpg_pnm_bmp.specs.declared.read.piece.Answer.TheVariants as answer
@@ -43,6 +43,17 @@ abbrev pub GivesSome : {W : Type 0} → SampleKind W → W → List ℕ → List
 GivesSome k old piece before m new made =
     (bytes given : List ℕ) → k.gives bytes given old → Appends before made (λ more. AfterGiven k (bytes ++ take m.used piece) (bytes ++ piece) (given ++ more) m.answer new)
 
+-- THE NUMBERS of the image stay, where more bytes are needed and where all samples are given; for all that was read and given
+-- before.
+abbrev pub HasSameInfo : {W : Type 0} → SampleKind W → W → Answer → W → Type 0
+HasSameInfo k old answer.More new = k.info new ≡ k.info old
+HasSameInfo k old answer.Whole new = k.info new ≡ k.info old
+HasSameInfo k old (answer.Fault fault) new = Unit {0}
+HasSameInfo k old answer.NoMemory new = Unit {0}
+
+abbrev pub KeepsInfo : {W : Type 0} → SampleKind W → W → Answer → W → Type 0
+KeepsInfo k old a new = (bytes given : List ℕ) → k.gives bytes given old → HasSameInfo k old a new
+
 -- A PIECE, after these bytes, as many as `taken`, and these samples
 pub record HasTaken (W : Type 0) (k : SampleKind W) (bytes given : List ℕ) (taken : ℕ) (w : W) : Type 0 where
   pub gives : k.gives bytes given w
@@ -59,6 +70,14 @@ AfterTaken k bytes piece given (Err stop.NoMemory) w = Unit {0}
 abbrev pub TakesPiece : {W : Type 0} → SampleKind W → W → ℕ → List ℕ → List ℕ → Result Fed2 Stop → W → List ℕ → Type 0
 TakesPiece {W} k old taken piece before answer new made =
     (bytes given : List ℕ) → HasTaken W k bytes given taken old → Appends before made (λ more. AfterTaken k bytes piece (given ++ more) answer new)
+
+-- the numbers stay
+abbrev pub InfoAfter : {W : Type 0} → SampleKind W → W → Result Fed2 Stop → W → Type 0
+InfoAfter k old (Ok f) new = k.info new ≡ k.info old
+InfoAfter k old (Err stop) new = Unit {0}
+
+abbrev pub KeepsInfoTaken : {W : Type 0} → SampleKind W → W → Result Fed2 Stop → W → Type 0
+KeepsInfoTaken k old answer new = (bytes given : List ℕ) → k.gives bytes given old → InfoAfter k old answer new
 
 abbrev pub AsksTaken : {W : Type 0} → SampleKind W → W → ℕ → List ℕ → Result Fed2 Stop → Type 0
 AsksTaken {W} k old taken piece answer = (bytes given : List ℕ) → HasTaken W k bytes given taken old → AsksRightly k.reads bytes piece answer
@@ -89,6 +108,9 @@ AfterFeed k bytes piece given (Err stop) r = AfterTaken k bytes piece given (Err
 abbrev pub Feeds : {W : Type 0} → SampleKind W → SampleReader W → List ℕ → List ℕ → Result Fed2 Stop → SampleReader W → List ℕ → Type 0
 Feeds k old piece before answer new made =
     (bytes given : List ℕ) → HasFed k bytes given old → Appends before made (λ more. AfterFeed k bytes piece (given ++ more) answer new)
+
+abbrev pub KeepsInfoFed : {W : Type 0} → SampleKind W → SampleReader W → Result Fed2 Stop → SampleReader W → Type 0
+KeepsInfoFed k old answer new = (bytes given : List ℕ) → HasFed k bytes given old → InfoAfter k old.work answer new.work
 
 abbrev pub Asks : {W : Type 0} → SampleKind W → SampleReader W → List ℕ → Result Fed2 Stop → Type 0
 Asks k old piece answer = (bytes given : List ℕ) → HasFed k bytes given old → AsksRightly k.reads bytes piece answer

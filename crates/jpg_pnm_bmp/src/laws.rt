@@ -6,8 +6,10 @@ ghost use Rattle.jpg_spec_image.specs.Images.{Image as ImageRead};
 ghost use Rattle.jpg_spec_image.specs.ImageFaults.{IsImage, IsOpenImage};
 ghost use Rattle.jpg_spec.specs.declared.frame.Limits.{Limits};
 ghost use Rattle.jpg_pnm_bmp.specs.PixelsRead.{HasFedImage, pixels_taken};
-ghost use Rattle.jpg_pnm_bmp.specs.PlainSamples.{GoesOnPlain, HasFedSamples};
+ghost use Rattle.jpg_pnm_bmp.specs.PlainSamples.{AreRightNumbers, GoesOnPlain, HasFedSamples};
+ghost use Rattle.jpg_pnm_bmp.specs.PnmGiven.{HasGivenSamples, given_info, given_taken};
 ghost use Rattle.jpg_pnm_bmp.specs.declared.read.pixels.PixelReader.{PixelReader};
+ghost use Rattle.jpg_pnm_bmp.specs.declared.read.pnm_given.PnmSamples.{PnmSamples};
 ghost use Rattle.jpg_pnm_bmp.specs.Made.{AreBytes, IsRightImage};
 ghost use Rattle.jpg_pnm_bmp.specs.EndState.{EndState, new_end, CanTakeRow, CanFinish, Starts, Finishes};
 ghost use Rattle.jpg_pnm_bmp.specs.Written.{WrittenImage, Wrote, Took, PartsGoOn, begun, with_next, whole_text};
@@ -29,6 +31,14 @@ pub fn images_are_written_whole()
 pub fn fed_bytes_are_open()
     ensures taken { (bytes : List ℕ) (r : PixelReader) → HasFedImage bytes r → pixels_taken r ≡ length bytes }
     ensures open { (bytes : List ℕ) (r : PixelReader) → HasFedImage bytes r → IsOpenImage bytes }
+{}
+
+/// The bytes that were fed to a reader of samples are as many as it took, and no prefix of them is a complete image or has a
+/// fault; the numbers of its image are within bounds.
+pub fn given_samples_go_on()
+    ensures taken { (bytes given : List ℕ) (r : PnmSamples) → HasGivenSamples bytes given r → given_taken r ≡ length bytes }
+    ensures open { (bytes given : List ℕ) (r : PnmSamples) → HasGivenSamples bytes given r → IsOpenImage bytes }
+    ensures numbers { (bytes given : List ℕ) (r : PnmSamples) → HasGivenSamples bytes given r → AreRightNumbers (given_info r) }
 {}
 
 /// The sides of an image in a file of bytes are from 1 to 65500, its pixels no more than 268,435,456, and its samples

@@ -1,10 +1,11 @@
 //! The numbers of a PNM text that are known so far, and what is wrong with a further one.
-ghost use Rattle.std.specs.Prelude.{◌≡◌, ◌≤◌, ◌+◌, ◌-◌, ◌++◌, ◌∷◌, ◌||◌, [], ℕ, List, length, codes, if◌then◌else◌};
+ghost use Rattle.std.specs.Prelude.{◌≡◌, ◌≤◌, ◌+◌, ◌-◌, ◌++◌, ◌∷◌, ◌||◌, [], ℕ, List, length, codes, if◌then◌else◌, IfSome, IfNone};
 ghost use Rattle.jpg_spec.specs.Lists.{is_among};
 ghost use Rattle.jpg_spec_image.specs.Images.{is_side, sample_count, are_few_pixels};
 ghost use Rattle.jpg_spec_image.specs.PnmText.{is_plain, is_read, is_left_out, is_pnm_space, begins_gap, pnm_info, is_number_due, number_fault};
 ghost use Rattle.jpg_pnm_bmp.specs.Known.{list_of};
 ghost use Rattle.jpg_pnm_bmp.specs.PlainSamples.{unscaled_info};
+ghost use Rattle.jpg_pnm_bmp.specs.Reader.{AreAllNumbers};
 
 use jpg_spec::Fault;
 use jpg_spec_image::{ImageInfo, ImageKind};
@@ -162,6 +163,24 @@ pub(crate) fn pnm_info(format: u8, width: u16, height: u16) -> ImageInfo
         kind,
         x_metre: 0,
         y_metre: 0,
+    }
+}
+
+// The numbers of an image, once all of its header are known.
+pub(crate) fn known_info(format: u8, numbers: Numbers) -> Option<ImageInfo>
+    ensures some { IfSome result (λ info. AreAllNumbers numbers × (info ≡ pnm_info format (list_of numbers []))) }
+    ensures none { IfNone result (AreAllNumbers numbers → ⊥) }
+{
+    match numbers {
+        Numbers::All(width, height, most) => {
+            if most == 0 {
+                return None;
+            }
+            Some(pnm_info(format, width, height))
+        }
+        Numbers::Nothing => None,
+        Numbers::Width(_) => None,
+        Numbers::Sides(_, _) => None,
     }
 }
 

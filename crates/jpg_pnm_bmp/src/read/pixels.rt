@@ -1,6 +1,7 @@
 //! Image files that are read piece by piece (release 6b's image files).
 ghost use Rattle.std.specs.Prelude.{◌≡◌, ◌≤◌, ◌+◌, [], ℕ, List, length, Some, None, true, false, Ok, Err, IfSome, IfNone};
 ghost use Rattle.jpg_base.specs.declared.stop.Stop.{Stop as Stopped};
+ghost use Rattle.jpg_spec_image.specs.declared.image.ImageInfo.{ImageInfo as Numbers};
 ghost use Rattle.jpg_pnm_bmp.specs.Made.{image_by_parts};
 ghost use Rattle.jpg_pnm_bmp.specs.Pieces.{IsGoing};
 ghost use Rattle.jpg_pnm_bmp.specs.PiecesFed.{CanGo};
@@ -8,6 +9,8 @@ ghost use Rattle.jpg_pnm_bmp.specs.Reader.{EndsRead, pixels_kind};
 
 use crate::read::make::make_image;
 use crate::read::piece::{Answer, Fed2, Moved, PieceReader, PieceWork, make_whole};
+use crate::read::pnm_given::PnmSamples;
+use crate::read::samples::SampleReader;
 use crate::read::work::Work;
 use jpg_base::{Bytes, FaultAt, NoMemory, Stop};
 use jpg_spec_image::ImageInfo;
@@ -44,6 +47,7 @@ impl PieceWork for Work {
 impl PixelReader {
     ghost use Rattle.jpg_pnm_bmp.specs.PixelsRead.{image_read, pixels_taken, pixels_stop, is_image_read, HasFedImage, Asks, Feeds, Ends, KeepsDone, EndsDone};
     ghost use Rattle.jpg_pnm_bmp.specs.PlainSamples.{samples_so_far, TellsPlain, TellsNotPlain};
+    ghost use Rattle.jpg_pnm_bmp.specs.PnmGiven.{given_info, given_taken, is_all_given, CanGive, HasGivenSamples, TellsRight, TellsNotGiven};
 
     /// A reader that was given no bytes. It takes no memory yet.
     pub fn new(alloc: Global) -> PixelReader
@@ -104,11 +108,46 @@ impl PixelReader {
         self.reader.work.unscaled()
     }
 
-    /// The samples so far, of a file of which `plain` tells.
+    /// The samples so far, of a file of which `plain` tells; of others none.
     pub fn samples(&self) -> &[u8]
         ensures { result.now ≡ samples_so_far self.now }
     {
-        self.reader.work.samples.as_slice()
+        match self.reader.work.unscaled() {
+            Some(_) => self.reader.work.samples.as_slice(),
+            None => &[],
+        }
+    }
+
+    /// The numbers of the image, if the bytes so far are those of a P2 or P3 file, or of a P5 or P6 file whose greatest value
+    /// isn't 255, up to at least 3,072 of its samples, not all: samples can be given as they are read then (`into_samples`).
+    /// Otherwise None, as after a stop, or once the image is complete.
+    pub fn gives(&self) -> Option<ImageInfo>
+        ensures can { IfSome result (λ info. CanGive info self.now) }
+        ensures right { IfSome result (TellsRight self.now) }
+        ensures none { IfNone result (TellsNotGiven self.now) }
+        ensures open { IfSome result (λ info. is_image_read self.now ≡ false) }
+        ensures stopped { (stop : Stopped) → pixels_stop self.now ≡ Some stop → result ≡ None }
+    {
+        if self.reader.done || self.reader.stop.is_some() {
+            return None;
+        }
+        self.reader.work.giving()
+    }
+
+    /// A reader that gives the samples of the file, all that were read so far too, where `gives` tells the numbers of its
+    /// image. None were given yet.
+    pub fn into_samples(self) -> PnmSamples
+        requires { (info : Numbers) × CanGive info self }
+        ensures fed { (bytes : List ℕ) → HasFedImage bytes self → HasGivenSamples bytes [] result }
+        ensures info { (info : Numbers) → CanGive info self → given_info result ≡ info }
+        ensures done { is_all_given result ≡ false }
+        ensures taken { given_taken result ≡ pixels_taken self }
+    {
+        let PixelReader { reader, .. } = self;
+        let PieceReader { work, taken, .. } = reader;
+        PnmSamples {
+            reader: SampleReader::new(work, taken),
+        }
     }
 
     /// The file ends here. Returns Ok if the image is complete now, which it is if the last number of P2 or P3 ends

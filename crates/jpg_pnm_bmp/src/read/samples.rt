@@ -1,7 +1,7 @@
 //! An image file whose samples are given as they are read, in any format.
 ghost use Rattle.std.specs.Prelude.{◌≡◌, ◌+◌, ◌≤◌, ℕ, List, None, false, length, Some, Err};
 ghost use Rattle.jpg_base.specs.declared.stop.Stop.{Stop as Stopped};
-ghost use Rattle.jpg_pnm_bmp.specs.Samples.{SampleKind, IsGiving, GivesSome, TakesPiece, GoesOn, AsksTaken};
+ghost use Rattle.jpg_pnm_bmp.specs.Samples.{SampleKind, IsGiving, GivesSome, KeepsInfo, KeepsInfoTaken, TakesPiece, GoesOn, AsksTaken};
 
 use crate::read::piece::{Answer, Fed2, Moved};
 use jpg_base::{Bytes, FaultAt, Stop};
@@ -20,7 +20,8 @@ pub trait SampleWork {
         requires going { IsGiving kind self.old }
         ensures some { 1 ≤ result.used }
         ensures within { result.used ≤ length piece.now }
-        ensures given { GivesSome kind self.old piece.now made.old result self.new made.new };
+        ensures given { GivesSome kind self.old piece.now made.old result self.new made.new }
+        ensures info { KeepsInfo kind self.old result.answer self.new };
 }
 
 /// A reader of the samples of an image file, by what reads its format.
@@ -37,12 +38,13 @@ pub struct SampleReader<W> {
 }
 
 impl<W: SampleWork> SampleReader<W> {
-    ghost use Rattle.jpg_pnm_bmp.specs.Samples.{HasFed, CanGo, Feeds, Asks, KeepsDone};
+    ghost use Rattle.jpg_pnm_bmp.specs.Samples.{HasFed, CanGo, Feeds, Asks, KeepsDone, KeepsInfoFed};
 
     /// A reader after these bytes of a file, of which some samples were given.
     pub fn new(work: W, taken: u64) -> SampleReader<W>
         requires { IsGiving W.kind work }
         ensures fed { (bytes given : List ℕ) → W.kind.gives bytes given work → taken ≡ length bytes → HasFed W.kind bytes given result }
+        ensures info { W.kind.info result.work ≡ W.kind.info work }
         ensures going { CanGo W.kind result }
         ensures done { result.done ≡ false }
         ensures taken { result.taken ≡ taken }
@@ -64,6 +66,7 @@ impl<W: SampleWork> SampleReader<W> {
         requires room { self.old.taken + length piece.now ≤ 1099511627776 }
         requires going { CanGo W.kind self.old }
         ensures answered { Feeds W.kind self.old piece.now made.old result self.new made.new }
+        ensures info { KeepsInfoFed W.kind self.old result self.new }
         ensures memory { Asks W.kind self.old piece.now result }
         ensures going { CanGo W.kind self.new }
         ensures done { KeepsDone result self.new }
@@ -95,6 +98,7 @@ fn give_piece<W: SampleWork>(
     requires room { taken + length piece.now ≤ 1099511627776 }
     requires going { IsGiving W.kind work.old }
     ensures takes { TakesPiece W.kind work.old taken piece.now made.old result work.new made.new }
+    ensures info { KeepsInfoTaken W.kind work.old result work.new }
     ensures going { GoesOn W.kind result work.new }
     ensures memory { AsksTaken W.kind work.old taken piece.now result }
 {

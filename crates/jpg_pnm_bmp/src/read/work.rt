@@ -1,5 +1,5 @@
 //! The state of an image file that is read.
-ghost use Rattle.std.specs.Prelude.{◌≡◌, ◌<◌, ◌≤◌, ◌++◌, ◌∷◌, [], ℕ, List, length, take, true, false, None, Ok, OnOk};
+ghost use Rattle.std.specs.Prelude.{◌≡◌, ◌<◌, ◌≤◌, ◌++◌, ◌∷◌, [], ℕ, List, length, take, true, false, None, Ok, OnOk, IfSome, IfNone};
 ghost use Rattle.jpg_spec_image.specs.PnmText.{is_number_due, number_fault};
 ghost use Rattle.jpg_spec_image.specs.BmpFile.{palette_bytes};
 ghost use Rattle.jpg_spec_image.specs.ImageFaults.{ImageHead, body_of};
@@ -8,14 +8,16 @@ ghost use Rattle.jpg_pnm_bmp.specs.Known.{list_of};
 ghost use Rattle.jpg_pnm_bmp.specs.Reader.{standing, numbers_list, IsEnd, IsGoingOn, HasAll, HasScale, KeepsStage, Stays, Reaches, LeadsNumber, LeadsAfter, LeadsOn, LeadsToEnd, IsRightNext, IsDueAfter, AppendsNumber, AddsNumber, HoldsBodyPart, StretchesBy, EndsNumber, EndsRight, EndsLast};
 ghost use Rattle.jpg_pnm_bmp.specs.Shapes.{body_view};
 ghost use Rattle.jpg_pnm_bmp.specs.PlainSamples.{unscaled_view};
+ghost use Rattle.jpg_pnm_bmp.specs.PnmSamples.{CanGiveNow, CanNotGive};
 
 use crate::read::bmp::{bmp_offset, bmp_shape, head_fault, palette_bytes};
 use crate::read::body::{Shape, part_long, pnm_shape, wrong_in};
 use crate::read::numbers::{
-    Numbers, begins_gap, is_due_after, is_left_out, is_plain, is_read, may_follow, number_fault,
-    unscaled_info,
+    Numbers, begins_gap, is_due_after, is_left_out, is_plain, is_read, known_info, may_follow,
+    number_fault, unscaled_info,
 };
 use crate::read::piece::{Answer, Moved, one_byte};
+use crate::read::pnm_samples::ENOUGH;
 use jpg_base::{Bytes, NoMemory};
 use jpg_spec::Fault;
 use jpg_spec_image::ImageInfo;
@@ -375,6 +377,26 @@ impl Work {
             Stage::BmpHead => None,
             Stage::BmpFront(_) => None,
             Stage::PnmBody => unscaled_info(self.format, self.numbers),
+            Stage::BmpBody => None,
+        }
+    }
+
+    // The numbers of a PNM file's image, if its samples are scaled or numbers, and enough of them are held to be given.
+    pub fn giving(&self) -> Option<ImageInfo>
+        ensures some { IfSome result (λ info. CanGiveNow info self.now) }
+        ensures none { IfNone result (CanNotGive self.now) }
+    {
+        if self.held() < ENOUGH || self.unscaled().is_some() {
+            return None;
+        }
+        match self.stage {
+            Stage::Start => None,
+            Stage::First(_) => None,
+            Stage::Gap { .. } => known_info(self.format, self.numbers),
+            Stage::Number(_) => known_info(self.format, self.numbers),
+            Stage::BmpHead => None,
+            Stage::BmpFront(_) => None,
+            Stage::PnmBody => known_info(self.format, self.numbers),
             Stage::BmpBody => None,
         }
     }
