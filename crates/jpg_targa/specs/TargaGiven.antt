@@ -37,6 +37,10 @@ pub record CanGive (r : TargaReader) : Type 0 where
   pub done : r.reader.done ≡ false
   pub begun : HasBegun r.reader.work
 
+-- the numbers of the image then
+abbrev pub begun_info : TargaReader → ImageInfo
+begun_info r = targa_info r.reader.work.head
+
 -- for all that was fed to it
 abbrev pub TellsGiven : TargaReader → ImageInfo → Type 0
 TellsGiven r info = (bytes : List ℕ) → HasFedTarga bytes r → IsBegunTarga info bytes
@@ -72,6 +76,9 @@ AfterGiven bytes piece given answer r = samples.AfterFeed targa_samples_kind byt
 
 abbrev pub Gives : TargaSamples → List ℕ → List ℕ → Result Fed2 Stop → TargaSamples → List ℕ → Type 0
 Gives old piece before answer new made = samples.Feeds targa_samples_kind old.reader piece before answer new.reader made
+
+abbrev pub KeepsInfo : TargaSamples → Result Fed2 Stop → TargaSamples → Type 0
+KeepsInfo old answer new = samples.KeepsInfoFed targa_samples_kind old.reader answer new.reader
 
 abbrev pub Asks : TargaSamples → List ℕ → Result Fed2 Stop → Type 0
 Asks old piece answer = samples.Asks targa_samples_kind old.reader piece answer

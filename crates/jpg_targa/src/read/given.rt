@@ -21,7 +21,7 @@ pub struct TargaSamples {
 }
 
 impl TargaSamples {
-    ghost use Rattle.jpg_targa.specs.TargaGiven.{given_info, given_taken, given_stop, is_all_given, TellsInfo, Asks, Gives, Ends, KeepsDone};
+    ghost use Rattle.jpg_targa.specs.TargaGiven.{given_info, given_taken, given_stop, is_all_given, TellsInfo, Asks, Gives, Ends, KeepsDone, KeepsInfo};
 
     /// Takes a further piece of the file, of any length, and appends samples: some of those that are known then, in their
     /// order, and all once the last pixel is known. Returns Done then: bytes after it are left unread. Otherwise it returns
@@ -31,6 +31,7 @@ impl TargaSamples {
         requires open { is_all_given self.old ≡ false }
         requires room { given_taken self.old + length piece.now ≤ 1099511627776 }
         ensures answered { Gives self.old piece.now made.old result self.new made.new }
+        ensures info { KeepsInfo self.old result self.new }
         ensures memory { Asks self.old piece.now result }
         ensures done { KeepsDone result self.new }
         ensures stopped { (stop : Stopped) → result ≡ Err stop → given_stop self.new ≡ Some stop }

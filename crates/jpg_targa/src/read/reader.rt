@@ -37,7 +37,7 @@ impl PieceWork for Work {
 
 impl TargaReader {
     ghost use Rattle.jpg_targa.specs.TargaRead.{targa_read, targa_taken, targa_stop, is_targa_read, HasFedTarga, Asks, Feeds, Ends, KeepsDone};
-    ghost use Rattle.jpg_targa.specs.TargaGiven.{given_taken, is_all_given, CanGive, HasGivenSamples, TellsGiven, TellsNotGiven};
+    ghost use Rattle.jpg_targa.specs.TargaGiven.{begun_info, given_info, given_taken, is_all_given, CanGive, HasGivenSamples, TellsGiven, TellsNotGiven};
 
     /// A reader that was given no bytes. It takes no memory yet.
     pub fn new(alloc: Global) -> TargaReader
@@ -107,7 +107,7 @@ impl TargaReader {
     pub fn gives(&self) -> Option<ImageInfo>
         ensures some { IfSome result (TellsGiven self.now) }
         ensures none { IfNone result (TellsNotGiven self.now) }
-        ensures can { IfSome result (λ info. CanGive self.now) }
+        ensures can { IfSome result (λ info. CanGive self.now × (info ≡ begun_info self.now)) }
         ensures open { IfSome result (λ info. is_targa_read self.now ≡ false) }
         ensures stopped { (stop : Stopped) → targa_stop self.now ≡ Some stop → result ≡ None }
     {
@@ -121,6 +121,7 @@ impl TargaReader {
     pub fn into_samples(self) -> TargaSamples
         requires { CanGive self }
         ensures fed { (bytes : List ℕ) → HasFedTarga bytes self → HasGivenSamples bytes [] result }
+        ensures info { given_info result ≡ begun_info self }
         ensures done { is_all_given result ≡ false }
         ensures taken { given_taken result ≡ targa_taken self }
     {
