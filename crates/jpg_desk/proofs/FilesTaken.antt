@@ -1,7 +1,7 @@
 -- The bytes of an input that are taken up to a limit, and of a file.
-use Rattle.std.proofs.Common.{◌≡◌, ℕ, ◌-◌, ◌<◌, ◌≤◌, List, [], ◌∷◌, ◌++◌, length, take, Option, Result, Ok, Err, refl, sym, ap, ◌∙◌, subst, arith, inl, inr}
+use Rattle.std.proofs.Common.{◌≡◌, ℕ, ◌≤◌, List, [], ◌∷◌, ◌++◌, length, take, Option, Result, Ok, Err, refl, sym, ap, ◌∙◌, subst, arith, inl, inr}
 use Rattle.std.specs.Prelude.{◌⊎◌}
-use Rattle.std.specs.Io.KnownBytes.{Consumes, IsAtEnd}
+use Rattle.std.specs.Io.KnownBytes.{IsAtEnd}
 use Rattle.std.proofs.lemmas.List.{take_all, take_at, append-nil}
 use Rattle.jpg_base.specs.declared.names.Name.{Name}
 use Rattle.jpg_base.specs.declared.names.Put.TheVariants as put
@@ -12,7 +12,6 @@ use Rattle.jpg_spec_words.specs.declared.answers.Why.TheVariants as why
 use Rattle.jpg_spec_words.specs.declared.answers.Which.{Which}
 use Rattle.jpg_spec_words.specs.declared.answers.Which.TheVariants as which
 use Rattle.jpg_desk.specs.BytesTaken.{AfterBytes, bytes_kind, why_of_file}
-use Rattle.jpg_desk.specs.Endings.{Stopped}
 use Rattle.jpg_desk.specs.FileTaken.{AfterFile}
 use Rattle.jpg_desk.specs.Pump.{EndsAll, IsFed, IsUnread}
 use Rattle.jpg_desk.specs.Reading.{IsFile, rest_of}

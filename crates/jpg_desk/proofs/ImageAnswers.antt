@@ -21,9 +21,7 @@ use Rattle.jpg_targa.specs.TargaRead.{AfterFeed as AfterTarga, HasFedTarga, IsSh
 use Rattle.jpg_targa.specs.declared.read.reader.TargaReader.{TargaReader}
 use Rattle.jpg_desk.specs.ImageFile.{HasFaultIn, HasImageIn}
 use Rattle.jpg_spec_words.specs.declared.answers.Why.{Why}
-use Rattle.jpg_targa.specs.TargaGiven.{HasGivenSamples, IsBegunTarga, TellsGiven, TellsNotGiven}
-use Rattle.jpg_targa.specs.declared.read.given.TargaSamples.{TargaSamples}
-use Rattle.jpg_desk.specs.ImageSource.{AfterImageEnd, AfterTakingImagePiece, EndsImage, EndsPixels, EndsTarga, HasFed, HoldsImage, TakesImagePiece, TakesPixels, TakesTarga, GivesFrom, TellsGiving, TellsNoGiving, TellsNoSamples, TellsSamples, is_source_read, source_read, source_samples, step_of}
+use Rattle.jpg_desk.specs.ImageSource.{AfterImageEnd, AfterTakingImagePiece, EndsImage, EndsPixels, EndsTarga, HasFed, HoldsImage, TakesImagePiece, TakesPixels, TakesTarga, TellsNoSamples, TellsSamples, is_source_read, source_read, source_samples, step_of}
 use Rattle.jpg_desk.specs.Pump.{why_stopped}
 use Rattle.jpg_desk.specs.ReadImage.{IsFaultRead}
 use Rattle.jpg_desk.specs.declared.image_source.ImageSource.{ImageSource}
@@ -125,21 +123,3 @@ pixels_tell old (Some info) h = by
 pub pixels_tell_none : (old : PixelReader) (o : Option ImageInfo) → IfNone o (TellsNotPlain old) → IfNone o (TellsNoSamples (source.Pixels old))
 pixels_tell_none old None h = h
 pixels_tell_none old (Some info) h = tt
-
--- WHETHER SAMPLES can be given as they are read
-
-pub targa_gives : (old : TargaReader) (o : Option ImageInfo) → IfSome o (TellsGiven old) → IfSome o (TellsGiving (source.Targa old))
-targa_gives old None h = tt
-targa_gives old (Some info) h = by
-  where
-    by : (targa : Bool) (bytes : List ℕ) → HasFed targa bytes (source.Targa old) → (targa ≡ true) × IsBegunTarga info bytes
-    by true bytes k = (refl, h bytes k)
-    by false bytes k = absurd k
-
-pub targa_gives_none : (old : TargaReader) (o : Option ImageInfo) → IfNone o (TellsNotGiven old) → IfNone o (TellsNoGiving (source.Targa old))
-targa_gives_none old None h = h
-targa_gives_none old (Some info) h = tt
-
-pub targa_given : (old : TargaReader) (new : TargaSamples) → ((bytes : List ℕ) → HasFedTarga bytes old → HasGivenSamples bytes [] new) → GivesFrom (source.Targa old) new
-targa_given old new h true bytes k = (refl, h bytes k)
-targa_given old new h false bytes k = absurd k

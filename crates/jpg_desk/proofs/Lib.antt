@@ -27,6 +27,7 @@ pub mod RowsKept
 pub mod RowsPicture
 pub mod RowsRead
 pub mod RowsTo
+pub mod SampleAnswers
 pub mod ScriptTaken
 pub mod SoleWritten
 pub mod TablesTaken

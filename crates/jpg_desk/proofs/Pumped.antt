@@ -1,18 +1,16 @@
 -- Pieces of an input that are fed, over the states of a desk.
-use Rattle.std.proofs.Common.{◌≡◌, ℕ, ◌+◌, ◌-◌, ◌^◌, ◌<◌, ◌≤◌, Bool, true, false, List, [], ◌++◌, length, take, Option, None, Some, Result, Ok, Err, refl, sym, ap, ◌∙◌, subst, arith, inl, inr, ◌⊎◌}
+use Rattle.std.proofs.Common.{◌≡◌, ℕ, ◌+◌, ◌-◌, ◌<◌, ◌≤◌, Bool, true, false, List, [], ◌++◌, length, take, Option, None, Some, Result, Ok, Err, refl, sym, ap, ◌∙◌, subst, arith, inl, inr}
 use Rattle.std.specs.Io.KnownBytes.{Consumes}
 use Rattle.std.proofs.lemmas.List.{length-append, length-take}
 use Rattle.jpg_base.specs.declared.names.Got.{Got}
 use Rattle.jpg_base.specs.declared.names.Got.TheVariants as got
-use Rattle.jpg_base.specs.Desk.{DeskState, Reads, Rose}
+use Rattle.jpg_base.specs.Desk.{DeskState, Reads}
 use Rattle.jpg_base.specs.Laws.{Consumes-then}
 use Rattle.jpg_spec.specs.Segments.{standard_limits}
-use Rattle.jpg_spec.specs.declared.frame.Limits.{Limits}
 use Rattle.jpg_spec_words.specs.declared.answers.Why.{Why}
 use Rattle.jpg_spec_words.specs.declared.answers.Why.TheVariants as why
 use Rattle.jpg_spec_words.specs.declared.answers.Which.TheVariants as which
-use Rattle.jpg_desk.specs.Judging.{Judging, NoValueTaken}
-use Rattle.jpg_desk.specs.Pump.{AfterInput, AfterFeed, AfterTaking, BeforeEnd, BeforePiece, CanPump, EndsAll, Ends, Feeds, FedKind, ReadsInput, HasTaken, IsFed, IsUnread, ReaderKind, ReadsAs, ReadsEnd, ReadsNothing, ReadsPiece, TakesEnd, TakesPiece, of_reader}
+use Rattle.jpg_desk.specs.Pump.{AfterInput, AfterFeed, AfterTaking, BeforeEnd, BeforePiece, CanPump, EndsAll, Ends, Feeds, FedKind, ReadsInput, IsFed, IsUnread, ReaderKind, ReadsAs, ReadsEnd, ReadsNothing, ReadsPiece, TakesEnd, TakesPiece, of_reader}
 use Rattle.jpg_desk.specs.Reading.{rest_of}
 use Rattle.jpg_desk.specs.Stays.{OnlyReads}
 use Rattle.jpg_desk.proofs.Input.{none_left}

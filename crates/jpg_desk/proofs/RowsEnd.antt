@@ -1,10 +1,9 @@
 -- A picture whose MCU rows are transformed as they are read: a further piece, and the end of its file.
-use Rattle.std.proofs.Common.{◌≡◌, ◌⊎◌, ℕ, ◌+◌, ◌*◌, ◌<◌, ◌≤◌, List, [], ◌++◌, length, Option, None, Some, Result, Ok, Err, refl, sym, ap, ◌∙◌, subst, arith, inl, inr}
+use Rattle.std.proofs.Common.{◌≡◌, ℕ, ◌+◌, ◌*◌, ◌<◌, ◌≤◌, List, [], ◌++◌, length, Some, Result, Err, refl, sym, ap, ◌∙◌, subst, arith, inl, inr}
 use Rattle.std.specs.List.{All}
 use Rattle.std.proofs.lemmas.List.{append-nil}
 use Rattle.jpg_base.specs.declared.stop.Stop.{Stop}
 use Rattle.jpg_base.specs.declared.stop.Stop.TheVariants as stop
-use Rattle.jpg_spec.specs.Elements.{zeros}
 use Rattle.jpg_spec.specs.Early.{MeansEarly}
 use Rattle.jpg_spec.specs.Geometry.{Frame}
 use Rattle.jpg_spec.specs.InForce.{frame_of}
@@ -16,8 +15,6 @@ use Rattle.jpg_spec.specs.UnfinishedFile.{UnfinishedFile}
 use Rattle.jpg_spec.specs.declared.fault.FaultAt.{FaultAt}
 use Rattle.jpg_spec.specs.declared.frame.Limits.{Limits}
 use Rattle.jpg_spec.proofs.McuRows.RowsOnce.{rows_stay}
-use Rattle.jpg_spec_words.specs.declared.answers.Why.{Why}
-use Rattle.jpg_spec_words.specs.declared.answers.Why.TheVariants as why
 use Rattle.jpg_coefs.specs.Picture.{Picture as Coefs, map_of}
 use Rattle.jpg_file.specs.Read.File.{keeping_of}
 use Rattle.jpg_file.specs.Read.ReadFile.{IsRefusal, ReaderState, StopsAt}
@@ -25,18 +22,17 @@ use Rattle.jpg_file.specs.Read.ReadRows.{AfterEndRow, AgreeInRows, EndsDoneRow, 
 use Rattle.jpg_file.specs.Read.RowTurns.{unfinished}
 use Rattle.jpg_file.specs.declared.read.ends.End.TheVariants as ends
 use Rattle.jpg_file.specs.declared.read.pieces.FedRow.{FedRow}
-use Rattle.jpg_file.specs.declared.read.rows.RowWork.{RowWork}
 use Rattle.jpg_file.proofs.ByRow.HeadLeft.{head_of_early}
 use Rattle.jpg_seq.specs.Rows.{rows_in_mcu}
 use Rattle.jpg_transform.specs.RowsMoved.{mcu_rows}
 use Rattle.jpg_desk.specs.Pump.{AfterInput, why_stopped}
 use Rattle.jpg_desk.specs.ReadPicture.{IsOpenRead, IsRefusedRead, IsShortRead, Coefficients}
-use Rattle.jpg_desk.specs.RowsRead.{BeginsAt, HasRows, HavePutRows, Head, IsInPiece, IsPutInPiece, IsRowsFed, KeepsGoal, KeepsReading, frame_at, rows_reader}
+use Rattle.jpg_desk.specs.RowsRead.{HasRows, IsInPiece, IsPutInPiece, IsRowsFed, KeepsReading, frame_at, rows_reader}
 use Rattle.jpg_desk.specs.RowsTo.{CanEndRows, EndsRows, HaveAll, HavePut, IsSameGoal}
 use Rattle.jpg_desk.specs.declared.rows_read.RowsRead.{RowsRead}
 use Rattle.jpg_desk.specs.declared.rows_to.RowsTo.{RowsTo}
 use Rattle.jpg_desk.proofs.PictureBytes.{fault_at_end}
-use Rattle.jpg_desk.proofs.RowsRead.{IsFedOn, answered, begins_in, head_there, no_plain, put_more, real_once, rows_at, same_frame}
+use Rattle.jpg_desk.proofs.RowsRead.{IsFedOn, answered, begins_in, no_plain, put_more, real_once, rows_at, same_frame}
 use Rattle.jpg_desk.proofs.RowsTo.{goal_then, put_agree}
 
 -- BYTES THAT ARE OPEN

@@ -1,5 +1,5 @@
 -- Where MCU rows begin, and what is read from there on.
-use Rattle.std.proofs.Common.{◌≡◌, ◌⊎◌, ℕ, ◌+◌, ◌-◌, ◌<◌, ◌≤◌, Bool, true, false, List, [], ◌++◌, length, take, drop, Option, None, Some, Result, Ok, Err, refl, sym, ap, ◌∙◌, subst, arith, inl, inr}
+use Rattle.std.proofs.Common.{◌≡◌, ◌⊎◌, ℕ, ◌-◌, ◌<◌, ◌≤◌, List, [], ◌++◌, length, take, drop, Option, None, Some, Result, Ok, Err, refl, sym, ap, ◌∙◌, subst, arith, inl, inr}
 use Rattle.std.specs.Io.KnownBytes.{Consumes}
 use Rattle.std.proofs.lemmas.List.{append-nil, append_assoc, take-append-drop}
 use Rattle.std.proofs.lemmas.List.Elements.{All-nil}
@@ -12,7 +12,7 @@ use Rattle.jpg_spec.specs.InForce.{frame_of}
 use Rattle.jpg_spec.specs.Markers.{Segment}
 use Rattle.jpg_spec.specs.Meaning.{Meaning}
 use Rattle.jpg_spec.specs.RowLaws.{TellsMore, first_blocks}
-use Rattle.jpg_spec.specs.RowsParsed.{BeginsScanOfAll, TellsRows, picture_so_far}
+use Rattle.jpg_spec.specs.RowsParsed.{TellsRows, picture_so_far}
 use Rattle.jpg_spec.specs.Scan.{Blocks}
 use Rattle.jpg_spec.specs.Segments.{standard_limits}
 use Rattle.jpg_spec.specs.UnfinishedFile.{UnfinishedFile}
@@ -32,12 +32,12 @@ use Rattle.jpg_file.specs.declared.read.pieces.FedRow.{FedRow}
 use Rattle.jpg_file.specs.declared.read.pieces.FedRow.TheVariants as fed
 use Rattle.jpg_file.specs.declared.read.rows.RowWork.{RowWork}
 use Rattle.jpg_file.specs.declared.read.strip_head.StripHead.{StripHead}
-use Rattle.jpg_desk.specs.Judging.{NoValueTaken, TakesPieces}
-use Rattle.jpg_desk.specs.MovedRead.{AfterRows, EndsMoved, HasAllRows, HasBegun, IsNewReader, MovedRead}
-use Rattle.jpg_desk.specs.Pump.{AfterTaking, EndsAll, HasTaken, IsFed, ReadsInput, of_reader}
+use Rattle.jpg_desk.specs.Judging.{NoValueTaken}
+use Rattle.jpg_desk.specs.MovedRead.{EndsMoved, HasAllRows, HasBegun, IsNewReader, MovedRead}
+use Rattle.jpg_desk.specs.Pump.{AfterTaking, EndsAll, IsFed, ReadsInput, of_reader}
 use Rattle.jpg_desk.specs.ReadPicture.{picture_judging, Coefficients}
 use Rattle.jpg_desk.specs.Reading.{rest_of}
-use Rattle.jpg_desk.specs.RowsRead.{BeginsAt, HasRows, HavePutRows, Head, HasFront, HoldsPlainly, HoldsRows, IsFrontFed, IsHeadAt, IsInPiece, IsPutInPiece, IsRowsFed, KeepsReading, frame_at, rows_front, rows_reader}
+use Rattle.jpg_desk.specs.RowsRead.{BeginsAt, HasRows, Head, HasFront, HoldsPlainly, HoldsRows, IsFrontFed, IsHeadAt, IsInPiece, IsPutInPiece, IsRowsFed, KeepsReading, rows_front, rows_reader}
 use Rattle.jpg_desk.specs.RowsTo.{HavePut}
 use Rattle.jpg_desk.specs.Stays.{OnlyReads}
 use Rattle.jpg_desk.specs.declared.moved_rows.MovedInput.{MovedInput}
@@ -48,7 +48,7 @@ use Rattle.jpg_desk.proofs.PictureTaken.{meaning_read}
 use Rattle.jpg_desk.proofs.PiecesRead.{none_read}
 use Rattle.jpg_desk.proofs.RowsEnd.{rows_open}
 use Rattle.jpg_desk.proofs.RowsFront.{front_open}
-use Rattle.jpg_desk.proofs.RowsRead.{one_head, same_frame}
+use Rattle.jpg_desk.proofs.RowsRead.{one_head}
 use Rattle.jpg_desk.proofs.RowsTo.{same_goal}
 
 -- COUNTS

@@ -1,5 +1,5 @@
 -- The pieces up to the one in which MCU rows begin.
-use Rattle.std.proofs.Common.{◌≡◌, ◌⊎◌, ℕ, ◌+◌, ◌<◌, ◌≤◌, Bool, true, false, List, [], ◌++◌, length, take, drop, Option, None, Some, Result, Ok, Err, refl, sym, ap, ◌∙◌, subst, arith, inl, inr}
+use Rattle.std.proofs.Common.{◌≡◌, ℕ, ◌+◌, ◌<◌, ◌≤◌, true, List, [], ◌++◌, length, take, drop, Option, None, Some, Result, Ok, Err, refl, sym, ap, ◌∙◌, subst, arith, inl, inr}
 use Rattle.std.specs.List.{All}
 use Rattle.std.proofs.lemmas.List.{append-nil, append_assoc, length-append, take-append-drop}
 use Rattle.std.proofs.Math.Seq.{take-append-add}
@@ -8,11 +8,10 @@ use Rattle.jpg_base.specs.declared.stop.Stop.TheVariants as stop
 use Rattle.jpg_spec.specs.RowsParsed.{BeginsScanOfAll}
 use Rattle.jpg_spec.specs.Segments.{standard_limits}
 use Rattle.jpg_spec.specs.UnfinishedFile.{UnfinishedFile}
-use Rattle.jpg_spec.specs.declared.fault.FaultAt.{FaultAt}
 use Rattle.jpg_spec.specs.declared.frame.Limits.{Limits}
 use Rattle.jpg_spec_words.specs.declared.answers.Why.{Why}
 use Rattle.jpg_file.specs.Read.File.{keeping_of}
-use Rattle.jpg_file.specs.Read.ReadFile.{AfterEnd, EndsWith, IsDone, IsRefusal, IsStopOf, ReaderState, StopsAt}
+use Rattle.jpg_file.specs.Read.ReadFile.{AfterEnd, EndsWith, IsDone, IsRefusal, IsStopOf, ReaderState}
 use Rattle.jpg_file.specs.Read.ReadRows.{AfterFeedKeeping, EndsDoneRow, FeedsKeeping, HasBegunRows, HasReadPlainly}
 use Rattle.jpg_file.specs.declared.read.ends.End.{End}
 use Rattle.jpg_file.specs.declared.read.ends.End.TheVariants as ends
@@ -20,7 +19,7 @@ use Rattle.jpg_file.specs.declared.read.pieces.FedRow.{FedRow}
 use Rattle.jpg_file.specs.declared.read.pieces.FedRow.TheVariants as fed
 use Rattle.jpg_desk.specs.Pump.{AfterInput, AfterTaking, why_stopped}
 use Rattle.jpg_desk.specs.ReadPicture.{IsOpenRead, IsShortRead, Coefficients}
-use Rattle.jpg_desk.specs.RowsRead.{AnsweredRows, HasFront, HoldsRows, IsFrontFed, IsInPiece, KeepsReading, is_complete, rows_front}
+use Rattle.jpg_desk.specs.RowsRead.{AnsweredRows, HasFront, HoldsRows, IsFrontFed, KeepsReading, is_complete, rows_front}
 use Rattle.jpg_desk.specs.declared.rows_read.RowsFront.{RowsFront}
 use Rattle.jpg_desk.proofs.RowsEnd.{refused_end}
 use Rattle.jpg_desk.proofs.RowsRead.{IsFedOn, begins_in, refused_in}

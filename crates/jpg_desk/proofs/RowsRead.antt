@@ -1,34 +1,27 @@
 -- A picture that is read MCU row by MCU row, and transformed at once.
-use Rattle.std.proofs.Common.{◌≡◌, ◌⊎◌, ℕ, ◌+◌, ◌-◌, ◌*◌, ◌<◌, ◌≤◌, Bool, true, false, List, [], ◌++◌, length, take, drop, Option, None, Some, Result, Ok, Err, refl, sym, ap, ◌∙◌, subst, arith, inl, inr}
-use Rattle.std.specs.List.{All}
+use Rattle.std.proofs.Common.{◌≡◌, ℕ, ◌+◌, ◌<◌, ◌≤◌, true, false, List, [], ◌++◌, length, take, drop, Option, None, Some, Result, Ok, Err, refl, sym, ap, ◌∙◌, subst, arith, inl, inr}
 use Rattle.std.proofs.lemmas.List.{append_assoc, append-nil, length-append, length-drop, take-append-drop}
 use Rattle.std.proofs.Math.Seq.{take-append-add}
 use Rattle.jpg_base.specs.declared.stop.Stop.{Stop}
 use Rattle.jpg_base.specs.declared.stop.Stop.TheVariants as stop
-use Rattle.jpg_spec.specs.Elements.{zeros}
-use Rattle.jpg_spec.specs.FrameHeader.{AreLimits}
-use Rattle.jpg_spec.specs.Geometry.{Frame, IsReal, bounds}
+use Rattle.jpg_spec.specs.Geometry.{Frame}
 use Rattle.jpg_spec.specs.InForce.{frame_of}
 use Rattle.jpg_spec.specs.Markers.{Segment}
-use Rattle.jpg_spec.specs.Meaning.{Meaning, real_blocks}
-use Rattle.jpg_spec.specs.RowLaws.{TellsMore, first_blocks}
-use Rattle.jpg_spec.specs.RowsParsed.{BeginsScanOfAll, CompletesRows, TellsRows}
+use Rattle.jpg_spec.specs.Meaning.{real_blocks}
+use Rattle.jpg_spec.specs.RowsParsed.{BeginsScanOfAll, TellsRows}
 use Rattle.jpg_spec.specs.Scan.{Blocks}
 use Rattle.jpg_spec.specs.Segments.{standard_limits}
-use Rattle.jpg_spec.specs.UnfinishedFile.{IsWholeFile, UnfinishedFile}
-use Rattle.jpg_spec.specs.Early.{MeansEarly}
+use Rattle.jpg_spec.specs.UnfinishedFile.{IsWholeFile}
 use Rattle.jpg_spec.specs.declared.fault.FaultAt.{FaultAt}
 use Rattle.jpg_spec.specs.declared.frame.Limits.{Limits}
 use Rattle.jpg_spec.proofs.EndsEarly.EarlySoFar.{real_twice}
 use Rattle.jpg_spec.proofs.McuRows.RowsHeader.{begun_once}
-use Rattle.jpg_spec.proofs.McuRows.RowsOnce.{first_told, rows_stay}
+use Rattle.jpg_spec.proofs.McuRows.RowsOnce.{rows_stay}
 use Rattle.jpg_spec.proofs.Writing.WrittenFront.{standard_are_limits}
-use Rattle.jpg_spec_words.specs.declared.answers.Why.{Why}
-use Rattle.jpg_spec_words.specs.declared.answers.Why.TheVariants as why
 use Rattle.jpg_coefs.specs.Picture.{Picture as Coefs, map_of}
 use Rattle.jpg_file.specs.Read.File.{keeping_of}
 use Rattle.jpg_file.specs.Read.ReadFile.{IsStopOf, ReaderState}
-use Rattle.jpg_file.specs.Read.ReadRows.{AfterFeedKeeping, AgreeInRows, EndsDoneRow, FeedsKeeping, HasBegunRows, HasGivenRow, HasReadRows, HasReadSoFar, IsDoneByRows, IsEarlyByRows, LendsRow}
+use Rattle.jpg_file.specs.Read.ReadRows.{AfterFeedKeeping, AgreeInRows, EndsDoneRow, FeedsKeeping, HasGivenRow, HasReadRows, HasReadSoFar, IsDoneByRows, LendsRow}
 use Rattle.jpg_file.specs.Read.RowTurns.{unfinished}
 use Rattle.jpg_file.specs.Read.RowsKnown.{rows_of_scan}
 use Rattle.jpg_file.specs.Read.RowsNone.{HasNoRows}
@@ -40,11 +33,10 @@ use Rattle.jpg_file.proofs.ByRow.RowsGiven.{begun_on}
 use Rattle.jpg_transform.specs.RowsMoved.{mcu_rows}
 use Rattle.jpg_file.proofs.ByRow.HeadLeft.{head_of_whole}
 use Rattle.jpg_desk.specs.Pump.{AfterTaking, why_stopped}
-use Rattle.jpg_desk.specs.ReadPicture.{IsOpenRead, IsRefusedRead, IsShortRead, IsWholeRead, Coefficients}
-use Rattle.jpg_desk.specs.RowsRead.{AnsweredRows, BeginsAt, HavePutRows, Head, IsHeadAt, IsInPiece, IsPutInPiece, IsRowsFed, HasRows, KeepsGoal, KeepsReading, frame_at, rows_due, rows_reader, rows_to_give}
-use Rattle.jpg_desk.specs.RowsTo.{CanPut, HaveAll, HavePut, IsSameGoal, Puts}
+use Rattle.jpg_desk.specs.ReadPicture.{IsRefusedRead, Coefficients}
+use Rattle.jpg_desk.specs.RowsRead.{AnsweredRows, BeginsAt, HavePutRows, Head, IsInPiece, IsPutInPiece, HasRows, KeepsReading, frame_at, rows_due, rows_reader, rows_to_give}
+use Rattle.jpg_desk.specs.RowsTo.{CanPut, HaveAll, HavePut, Puts}
 use Rattle.jpg_desk.specs.declared.rows_read.RowsRead.{RowsRead}
-use Rattle.jpg_desk.specs.declared.rows_to.RowsTo.{RowsTo}
 use Rattle.jpg_desk.proofs.PictureBytes.{stop_within}
 use Rattle.jpg_desk.proofs.RowsTo.{all_put, goal_then, put_agree}
 

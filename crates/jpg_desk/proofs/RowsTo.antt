@@ -1,8 +1,8 @@
 -- Where the MCU rows of a picture go that is transformed while it is read.
-use Rattle.std.proofs.Common.{◌≡◌, ℕ, ◌+◌, ◌*◌, ◌<◌, ◌≤◌, Bool, true, false, refl, sym, ◌∙◌, arith}
+use Rattle.std.proofs.Common.{◌≡◌, ℕ, ◌+◌, ◌*◌, ◌≤◌, Bool, true, false, refl, ◌∙◌}
 use Rattle.std.specs.Prelude.{OnOk, Result, Ok, Err}
 use Rattle.jpg_spec.specs.Elements.{zeros}
-use Rattle.jpg_spec.specs.Geometry.{Frame, IsReal}
+use Rattle.jpg_spec.specs.Geometry.{Frame}
 use Rattle.jpg_spec.specs.Scan.{Blocks}
 use Rattle.jpg_base.specs.declared.names.NoMemory.{NoMemory}
 use Rattle.jpg_coefs.specs.Picture.{Picture as Coefs}
@@ -14,7 +14,7 @@ use Rattle.jpg_transform.specs.declared.choice.Job.{Job}
 use Rattle.jpg_transform.specs.declared.row_mover.RowMover.{RowMover}
 use Rattle.jpg_transform.proofs.RowsMoved.{moved_agree}
 use Rattle.jpg_desk.specs.RowsKept.{HasKept, IsToldWhole, KeepsRow}
-use Rattle.jpg_desk.specs.RowsTo.{CanEndRows, CanPut, EndsRows, HasAllKept, HaveAll, HavePut, IsSameGoal, Puts, scan_moved}
+use Rattle.jpg_desk.specs.RowsTo.{CanEndRows, EndsRows, HasAllKept, HaveAll, HavePut, IsSameGoal, Puts, scan_moved}
 use Rattle.jpg_desk.specs.declared.row_picture.RowPicture.{RowPicture}
 use Rattle.jpg_desk.specs.declared.rows_to.RowsTo.{RowsTo}
 use Rattle.jpg_desk.specs.declared.rows_to.RowsTo.TheVariants as to

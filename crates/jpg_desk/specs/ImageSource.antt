@@ -7,17 +7,19 @@ use Rattle.jpg_spec_words.specs.declared.answers.Why.{Why}
 use Rattle.jpg_spec_words.specs.declared.answers.Why.TheVariants as why
 use Rattle.jpg_pnm_bmp.specs.Made.{IsRightImage}
 use Rattle.jpg_spec_image.specs.declared.image.ImageInfo.{ImageInfo}
-use Rattle.jpg_pnm_bmp.specs.PlainSamples.{HasFedSamples, samples_so_far}
+use Rattle.jpg_pnm_bmp.specs.PlainSamples.{AreRightNumbers, HasFedSamples, samples_so_far}
+use Rattle.jpg_pnm_bmp.specs.PnmGiven.{CanGive as CanGivePnm, TellsNotGiven}
 use Rattle.jpg_pnm_bmp.specs.PixelsRead.{HasFedImage, image_read, is_image_read, pixels_taken}
 use Rattle.jpg_pnm_bmp.specs.declared.read.piece.Fed2.{Fed2}
 use Rattle.jpg_pnm_bmp.specs.declared.read.piece.Fed2.TheVariants as fed
 use Rattle.jpg_pnm_bmp.specs.declared.read.pixels.PixelReader.{PixelReader}
-use Rattle.jpg_targa.specs.TargaGiven.{CanGive, HasGivenSamples, IsBegunTarga}
+use Rattle.jpg_targa.specs.TargaGiven.{CanGive, IsBegunTarga, begun_info}
 use Rattle.jpg_targa.specs.TargaRead.{HasFedTarga, is_targa_read, targa_read, targa_taken}
-use Rattle.jpg_targa.specs.declared.read.given.TargaSamples.{TargaSamples}
 use Rattle.jpg_targa.specs.declared.read.reader.TargaReader.{TargaReader}
+use Rattle.jpg_desk.specs.ImageSamples.{HasGiven}
 use Rattle.jpg_desk.specs.Pump.{why_stopped}
 use Rattle.jpg_desk.specs.ReadImage.{IsFaultRead, IsImageRead, IsShortImageRead}
+use Rattle.jpg_desk.specs.declared.image_samples.ImageSamples.{ImageSamples}
 use Rattle.jpg_desk.specs.declared.image_source.ImageSource.{ImageSource}
 use Rattle.jpg_desk.specs.declared.image_source.ImageSource.TheVariants as source
 
@@ -44,20 +46,24 @@ TellsSamples r info = (targa : Bool) (bytes : List ℕ) → HasFed targa bytes r
 abbrev pub TellsNoSamples : ImageSource → Type 0
 TellsNoSamples r = (bytes given : List ℕ) (info : ImageInfo) → HasFed false bytes r → HasFedSamples info bytes given → ⊥
 
--- Its samples can be given as they are read from here on, those of an image with these numbers; or that isn't so.
-abbrev pub TellsGiving : ImageSource → ImageInfo → Type 0
-TellsGiving r info = (targa : Bool) (bytes : List ℕ) → HasFed targa bytes r → (targa ≡ true) × IsBegunTarga info bytes
+-- SAMPLES CAN BE GIVEN as they are read from here on, those of an image with these numbers.
+abbrev pub CanGiveSamples : ImageInfo → ImageSource → Type 0
+CanGiveSamples info (source.Pixels r) = CanGivePnm info r
+CanGiveSamples info (source.Targa r) = CanGive r × (info ≡ begun_info r)
 
-abbrev pub TellsNoGiving : ImageSource → Type 0
-TellsNoGiving r = (bytes : List ℕ) (info : ImageInfo) → HasFed true bytes r → IsBegunTarga info bytes → ⊥
+-- They are within bounds, for all bytes that were given.
+abbrev pub TellsRight : ImageSource → ImageInfo → Type 0
+TellsRight r info = (targa : Bool) (bytes : List ℕ) → HasFed targa bytes r → AreRightNumbers info
 
-abbrev pub CanGiveSamples : ImageSource → Type 0
-CanGiveSamples (source.Pixels r) = ⊥
-CanGiveSamples (source.Targa r) = CanGive r
+-- or that isn't so
+abbrev pub TellsNotGiving : ImageSource → Type 0
+TellsNotGiving (source.Pixels r) = TellsNotGiven r
+TellsNotGiving (source.Targa r) = (bytes : List ℕ) (info : ImageInfo) → HasFedTarga bytes r → IsBegunTarga info bytes → ⊥
 
--- a reader that gives them was fed the same bytes
-abbrev pub GivesFrom : ImageSource → TargaSamples → Type 0
-GivesFrom r given = (targa : Bool) (bytes : List ℕ) → HasFed targa bytes r → (targa ≡ true) × HasGivenSamples bytes [] given
+-- A reader that gives them was fed the same bytes, fewer than may be, and gave none yet.
+abbrev pub GivesFrom : ImageSource → ImageSamples → Type 0
+GivesFrom r given =
+    (info : ImageInfo) → CanGiveSamples info r → (targa : Bool) (bytes : List ℕ) → HasFed targa bytes r → length bytes < standard_limits.input → HasGiven targa info bytes [] given
 
 -- the image, once it is complete
 abbrev pub source_read : ImageSource → Image

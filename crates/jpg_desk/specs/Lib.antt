@@ -4,6 +4,7 @@ pub mod EncodedRows
 pub mod Endings
 pub mod FileTaken
 pub mod ImageFile
+pub mod ImageSamples
 pub mod ImageSource
 pub mod ImageTaken
 pub mod Judging

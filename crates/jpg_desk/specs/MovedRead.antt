@@ -16,7 +16,7 @@ use Rattle.jpg_file.specs.Read.File.{keeping_of}
 use Rattle.jpg_file.specs.Read.Keeping.{kept_for}
 use Rattle.jpg_file.specs.Read.PictureRead.{MeansFor}
 use Rattle.jpg_file.specs.Read.ReadFile.{ReaderState}
-use Rattle.jpg_file.specs.Read.ReadRows.{HasReadPlainly, KeepsMarkersOf}
+use Rattle.jpg_file.specs.Read.ReadRows.{HasReadPlainly}
 use Rattle.jpg_file.specs.Read.StripHead.{IsHeadOfPicture}
 use Rattle.jpg_file.specs.Write.SoleScan.{IsOfAll, IsSole}
 use Rattle.jpg_file.specs.declared.read.pieces.FedRow.{FedRow}
@@ -30,7 +30,7 @@ use Rattle.jpg_desk.specs.Judging.{IsAllRead, NoValueTaken, TakesPieces}
 use Rattle.jpg_desk.specs.MovedRows.{IsMovedRows}
 use Rattle.jpg_desk.specs.ReadPicture.{EndsReading, IsReadPicture, PictureRead, picture_judging, Coefficients}
 use Rattle.jpg_desk.specs.RowsRead.{HasRows, Head, IsHeadAt, IsInPiece}
-use Rattle.jpg_desk.specs.RowsTo.{HaveAllMoved, HavePut}
+use Rattle.jpg_desk.specs.RowsTo.{HaveAllMoved}
 use Rattle.jpg_desk.specs.Stays.{OnlyReads}
 use Rattle.jpg_desk.specs.declared.moved_rows.MovedInput.{MovedInput}
 use Rattle.jpg_desk.specs.declared.moved_rows.MovedInput.TheVariants as input

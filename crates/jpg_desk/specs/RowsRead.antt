@@ -9,7 +9,6 @@ use Rattle.jpg_spec.specs.Meaning.{Meaning, real_blocks}
 use Rattle.jpg_spec.specs.RowsParsed.{BeginsScanOfAll, TellsRows, picture_so_far}
 use Rattle.jpg_spec.specs.Scan.{Blocks}
 use Rattle.jpg_spec.specs.Segments.{standard_limits}
-use Rattle.jpg_spec.specs.declared.frame.Copying.{Copying}
 use Rattle.jpg_spec_words.specs.declared.answers.Why.{Why}
 use Rattle.jpg_file.specs.Read.File.{keeping_of}
 use Rattle.jpg_file.specs.Read.ReadFile.{IsStopOf, ReaderState}

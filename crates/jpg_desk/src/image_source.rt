@@ -1,17 +1,19 @@
 //! Readers of image files that are given pieces, by the format of the file (release 6b's image files; Truevision TGA
 //! File Format Specification, version 2.0).
 ghost use Rattle.std.specs.Prelude.{◌≡◌, ◌≤◌, ◌<◌, ◌+◌, [], ℕ, IfNone, IfSome, length, true, false};
+ghost use Rattle.jpg_spec_image.specs.declared.image.ImageInfo.{ImageInfo as Numbers};
 ghost use Rattle.jpg_pnm_bmp.specs.Made.{image_by_parts};
 ghost use Rattle.jpg_pnm_bmp.specs.PixelsRead.{is_image_read, pixels_taken};
 ghost use Rattle.jpg_targa.specs.TargaRead.{is_targa_read, targa_taken};
 ghost use Rattle.jpg_desk.specs.ImageSource.{EndsPixels, EndsTarga, TakesPixels, TakesTarga, step_of};
 
+use crate::image_samples::ImageSamples;
 use crate::pieces::why_stopped;
 use jpg_base::Stop;
 use jpg_pnm_bmp::{Fed2, Image, PixelReader};
 use jpg_spec_image::ImageInfo;
 use jpg_spec_words::Why;
-use jpg_targa::{TargaReader, TargaSamples};
+use jpg_targa::TargaReader;
 use std::alloc::Global;
 
 /// A reader of an image file.
@@ -24,8 +26,9 @@ pub enum ImageSource {
 }
 
 impl ImageSource {
-    ghost use Rattle.jpg_targa.specs.TargaGiven.{given_taken, is_all_given};
-    ghost use Rattle.jpg_desk.specs.ImageSource.{CanGiveSamples, EndsImage, GivesFrom, HasFed, TakesImagePiece, TellsGiving, TellsNoGiving, TellsNoSamples, TellsSamples, is_source_read, source_read, source_samples, source_taken};
+    ghost use Rattle.jpg_desk.specs.ImageSamples.{is_samples_read, is_targa_given, samples_taken};
+    ghost use Rattle.jpg_desk.specs.ImageTaken.{is_targa};
+    ghost use Rattle.jpg_desk.specs.ImageSource.{CanGiveSamples, EndsImage, GivesFrom, HasFed, TakesImagePiece, TellsNotGiving, TellsNoSamples, TellsRight, TellsSamples, is_source_read, source_read, source_samples, source_taken};
 
     /// A reader that was given no bytes. It takes no memory yet.
     pub fn new(alloc: Global, targa: bool) -> ImageSource
@@ -84,7 +87,7 @@ impl ImageSource {
         }
     }
 
-    /// Its samples so far, where `plain` tells its numbers.
+    /// Its samples so far, where `plain` tells its numbers; otherwise none.
     pub fn samples(&self) -> &[u8]
         ensures { result.now ≡ source_samples self.now }
     {
@@ -94,29 +97,31 @@ impl ImageSource {
         }
     }
 
-    /// The numbers of the image, if its samples can be given as they are read from here on (`TargaReader::gives`).
+    /// The numbers of the image, if its samples can be given as they are read from here on (`PixelReader::gives`,
+    /// `TargaReader::gives`).
     pub fn gives(&self) -> Option<ImageInfo>
-        ensures some { IfSome result (TellsGiving self.now) }
-        ensures none { IfNone result (TellsNoGiving self.now) }
-        ensures can { IfSome result (λ info. CanGiveSamples self.now) }
+        ensures can { IfSome result (λ info. CanGiveSamples info self.now) }
+        ensures right { IfSome result (TellsRight self.now) }
+        ensures none { IfNone result (TellsNotGiving self.now) }
         ensures open { IfSome result (λ info. is_source_read self.now ≡ false) }
     {
         match self {
-            ImageSource::Pixels(_) => None,
+            ImageSource::Pixels(reader) => reader.gives(),
             ImageSource::Targa(reader) => reader.gives(),
         }
     }
 
     /// A reader that gives them, those of the bytes so far too, where `gives` tells the numbers. None were given yet.
-    pub fn into_samples(self) -> TargaSamples
-        requires { CanGiveSamples self }
+    pub fn into_samples(self) -> ImageSamples
+        requires { (info : Numbers) × CanGiveSamples info self }
         ensures fed { GivesFrom self result }
-        ensures more { is_all_given result ≡ false }
-        ensures taken { given_taken result ≡ source_taken self }
+        ensures more { is_samples_read result ≡ false }
+        ensures taken { samples_taken result ≡ source_taken self }
+        ensures targa { is_targa_given result ≡ is_targa self }
     {
         match self {
-            ImageSource::Pixels(_) => unreachable!(),
-            ImageSource::Targa(reader) => reader.into_samples(),
+            ImageSource::Pixels(reader) => ImageSamples::Pnm(reader.into_samples()),
+            ImageSource::Targa(reader) => ImageSamples::Targa(reader.into_samples()),
         }
     }
 
@@ -165,7 +170,7 @@ fn feed_targa(reader: &mut TargaReader, piece: &[u8]) -> Result<bool, Why>
 }
 
 // Whether the image is complete, for what a reader returned.
-fn step_of(answer: Result<Fed2, Stop>) -> Result<bool, Why>
+pub(crate) fn step_of(answer: Result<Fed2, Stop>) -> Result<bool, Why>
     ensures { result ≡ step_of answer }
 {
     match answer {

@@ -1,5 +1,5 @@
 -- An image read and encoded, over the states of a desk.
-use Rattle.std.proofs.Common.{◌≡◌, ℕ, Bool, true, false, List, [], Option, None, Some, Result, Ok, Err, refl, sym, ap, ◌∙◌, subst, arith}
+use Rattle.std.proofs.Common.{◌≡◌, ℕ, Bool, true, false, List, [], Option, None, Some, Result, Ok, Err, refl, sym, ap, ◌∙◌, subst, arith, inl, inr}
 use Rattle.std.specs.Prelude.{IfErr, IfOk, IfSome}
 use Rattle.std.proofs.lemmas.List.{take_all}
 use Rattle.jpg_base.specs.declared.names.Name.{Name}
@@ -21,9 +21,8 @@ use Rattle.jpg_color.specs.ImageEncoder.{AddsTaken, HasTaken}
 use Rattle.jpg_color.specs.declared.encode.EncodeStop.{EncodeStop}
 use Rattle.jpg_color.specs.declared.encode.EncodeStop.TheVariants as stop
 use Rattle.jpg_pnm_bmp.specs.Made.{IsRightImage}
-use Rattle.jpg_pnm_bmp.specs.PlainSamples.{AreRightNumbers}
+use Rattle.jpg_pnm_bmp.specs.PlainSamples.{AreRightNumbers, HasFedSamples}
 use Rattle.jpg_pnm_bmp.proofs.PlainSamples.{goes_on_plain}
-use Rattle.jpg_targa.proofs.SamplesRead.{goes_on_targa}
 use Rattle.jpg_cli.specs.Tools.ImageWritten.{why_not_encoded}
 use Rattle.jpg_cli.specs.Tools.EncodingAsked.{CanEncodeKind}
 use Rattle.jpg_color.specs.declared.encode.Encoding.{Encoding as Asked}
@@ -33,14 +32,15 @@ use Rattle.jpg_color.specs.declared.encode.image_encoder.ImageEncoder.{ImageEnco
 use Rattle.jpg_color.specs.declared.encode.image_encoder.ImageEncoder.TheVariants as encoder
 use Rattle.jpg_cli.specs.Tools.EncodedRead.{Encodes, EncodedRead, EndsEncoding}
 use Rattle.jpg_desk.specs.EncodedRows.{scan_of}
-use Rattle.jpg_desk.specs.ImageSource.{CanGiveSamples, GivesFrom, HasFed, TellsGiving, TellsSamples, is_source_read, source_samples, source_taken}
-use Rattle.jpg_targa.specs.declared.read.given.TargaSamples.{TargaSamples}
-use Rattle.jpg_targa.specs.declared.read.reader.TargaReader.{TargaReader}
-use Rattle.jpg_desk.specs.ImageTaken.{HoldsSome, IsSourceFed, is_targa}
+use Rattle.jpg_desk.specs.ImageSource.{CanGiveSamples, GivesFrom, HasFed, TellsNoSamples, TellsRight, TellsSamples, is_source_read, source_samples, source_taken}
+use Rattle.jpg_desk.specs.ImageSamples.{is_targa_given}
+use Rattle.jpg_desk.specs.declared.image_samples.ImageSamples.{ImageSamples}
+use Rattle.jpg_desk.proofs.SampleAnswers.{never_plain, none_held}
+use Rattle.jpg_desk.specs.ImageTaken.{GoesOn as HasFedOpen, HoldsSome, IsSourceFed, is_targa}
 use Rattle.jpg_desk.specs.Judging.{NoValueTaken, TakesPieces}
 use Rattle.jpg_desk.specs.ReadImage.{IsImageRead, image_judging}
 use Rattle.jpg_desk.specs.Reading.{rest_of}
-use Rattle.jpg_cli.specs.Tools.SamplesFed.{AfterData, AfterSamples, AreGivenFrom, Begins, BeginsSource, CanGoOn, FinishesPlanes, GivesData, GivesRest, GoesOnFrom, GoesOnRows, HasDataOf, HasGivenRest, TellsNumbers, is_given}
+use Rattle.jpg_cli.specs.Tools.SamplesFed.{AfterData, AfterSamples, AreGivenFrom, Begins, BeginsSource, CanGoOn, FinishesPlanes, GivesData, GivesRest, GoesOnFrom, GoesOnRows, HasDataOf, HasGivenRest, TellsNumbers, is_targa_rest}
 use Rattle.jpg_cli.specs.declared.tools.cjpeg_image.Rest.{Rest}
 use Rattle.jpg_cli.specs.declared.tools.cjpeg_image.Rest.TheVariants as gives
 use Rattle.jpg_desk.specs.Stays.{OnlyReads}
@@ -48,7 +48,6 @@ use Rattle.jpg_desk.specs.declared.encoded_rows.EncodedPicture.{EncodedPicture}
 use Rattle.jpg_desk.specs.declared.encoded_rows.EncodedPicture.TheVariants as picture
 use Rattle.jpg_desk.specs.declared.encoded_rows.OneScan.{OneScan}
 use Rattle.jpg_desk.specs.declared.image_source.ImageSource.{ImageSource}
-use Rattle.jpg_desk.specs.declared.image_source.ImageSource.TheVariants as source
 use Rattle.jpg_desk.proofs.ImageFed.{fed_open, fed_taken}
 use Rattle.jpg_desk.proofs.ImageTaken.{open_end, read_some, targa_is}
 use Rattle.jpg_desk.proofs.Input.{noted}
@@ -73,17 +72,34 @@ none_encoded targa E s0 s1 other h = absurd h
 
 -- where a reader tells the numbers of the image
 pub plain_numbers : (r : ImageSource) (info : ImageInfo) → TellsSamples r info → TellsNumbers r info
-plain_numbers (source.Pixels r) info h targa bytes fed = (h targa bytes fed).1
-plain_numbers (source.Targa r) info h targa bytes fed = absurd (subst (λ (t : Bool). HasFed t bytes (source.Targa r)) (h targa bytes fed).0 fed)
+plain_numbers r info h targa bytes fed = inl (sym (targa_is targa bytes r fed) ∙ (h targa bytes fed).0, (h targa bytes fed).1)
 
-pub targa_numbers : (r : ImageSource) (o : Option ImageInfo) → IfSome o (TellsGiving r) → IfSome o (λ info. CanGiveSamples r) → IfSome o (TellsNumbers r)
-targa_numbers r None h can = tt
-targa_numbers (source.Pixels r) (Some info) h can = absurd can
-targa_numbers (source.Targa r) (Some info) h can = λ targa bytes fed. ((h targa bytes fed).1, can)
+pub given_numbers : (r : ImageSource) (o : Option ImageInfo) → IfSome o (λ info. CanGiveSamples info r) → IfSome o (TellsRight r) → IfSome o (TellsNumbers r)
+given_numbers r None can right = tt
+given_numbers r (Some info) can right = λ targa bytes fed. inr (can, right targa bytes fed)
 
--- and what gives the samples that come
-pub targa_goes : (r : TargaReader) (given : TargaSamples) → GivesFrom (source.Targa r) given → GivesRest (source.Targa r) (gives.Given given)
-targa_goes r given h = (refl, λ info bytes fed goes. record { all = []; has = (h true bytes fed).1; begun = goes.0; bytes_all = fed.2; given_is = sym (take_all (sample_count info) [] (omega arith)) })
+-- and what gives the samples that come: the bytes that follow
+pub plain_goes : (r : ImageSource) (other : ImageInfo) (bytes : List ℕ) → HasFed (is_targa r) bytes r → TellsSamples r other → GivesRest r gives.Plain
+plain_goes r other bytes fed tells = (sym (tells (is_targa r) bytes fed).0, by)
+  where
+    by : (info : ImageInfo) (more : List ℕ) → HasFedOpen (is_targa r) more r → CanGoOn info more r → HasGivenRest (is_targa r) info more (source_samples r) gives.Plain
+    by info more k (inl h) = h
+    by info more k (inr h) = absurd (never_plain r info other (is_targa r) more h.0 k.fed tells)
+
+-- or a reader
+never_told : (r : ImageSource) (info : ImageInfo) (bytes : List ℕ) → TellsNoSamples r → HasFed (is_targa r) bytes r → (is_targa r ≡ false) × HasFedSamples info bytes (source_samples r) → ⊥
+never_told r info bytes none fed h = none bytes (source_samples r) info (subst (λ (t : Bool). HasFed t bytes r) h.0 fed) h.1
+
+pub given_can : (r : ImageSource) (info : ImageInfo) (bytes : List ℕ) → HasFed (is_targa r) bytes r → TellsNoSamples r → CanGoOn info bytes r → CanGiveSamples info r
+given_can r info bytes fed none (inl h) = absurd (never_told r info bytes none fed h)
+given_can r info bytes fed none (inr h) = h.0
+
+pub given_goes : (r : ImageSource) (given : ImageSamples) → TellsNoSamples r → GivesFrom r given → is_targa_given given ≡ is_targa r → GivesRest r (gives.Given given)
+given_goes r given none h same = (same, by)
+  where
+    by : (info : ImageInfo) (bytes : List ℕ) → HasFedOpen (is_targa r) bytes r → CanGoOn info bytes r → HasGivenRest (is_targa r) info bytes (source_samples r) (gives.Given given)
+    by info bytes k (inl p) = absurd (never_told r info bytes none k.fed p)
+    by info bytes k (inr p) = record { all = []; has = h info p.0 (is_targa r) bytes k.fed k.short; given_is = none_held r info p.0 ∙ sym (take_all (sample_count info) [] (omega arith)) }
 
 -- from where its samples can be given
 pub reads_on : {E : Image → Encoding} {s : Sampler} (targa : Bool) (start : DeskState) (r : ImageSource) (now : DeskState) → is_source_read r ≡ false → OnlyReads start now → TakesPieces (λ bytes. HoldsSome targa false (rest_of now.left) bytes r) start now → BeginsSource targa E r s
@@ -101,7 +117,8 @@ begun_given {w = w} {bytes = bytes} {samples = samples} {r = r} {rest = rest} h 
     given = samples;
     begun = (w, (h.begun).asked, (h.begun).sampled);
     sampled = λ v a k. adds v (h.begun).info a [] k;
-    fed = subst (λ (x : List ℕ). HasGivenRest (is_given rest) (h.begun).info bytes x rest) (sym same) (gives.1 (h.begun).info bytes h.read.goes.fed (h.begun).goes);
+    fed = subst (λ (t : Bool). HasGivenRest t (h.begun).info bytes samples rest) (sym gives.0)
+        (subst (λ (x : List ℕ). HasGivenRest (is_targa r) (h.begun).info bytes x rest) (sym same) (gives.1 (h.begun).info bytes h.read.goes (h.begun).goes));
     taken_is = count ∙ fed_taken (is_targa r) bytes r h.read.goes.fed;
     short = h.read.goes.short;
   };
@@ -166,8 +183,8 @@ can_sample info a k n = record { wide = n.width_low; wide_few = n.width_high; hi
 
 -- of one whose samples come
 pub numbers_right : (info : ImageInfo) (bytes : List ℕ) (r : ImageSource) → CanGoOn info bytes r → AreRightNumbers info
-numbers_right info bytes (source.Pixels r) h = (goes_on_plain info bytes (source_samples (source.Pixels r)) h).numbers
-numbers_right info bytes (source.Targa r) h = (goes_on_targa info bytes h.0).numbers
+numbers_right info bytes r (inl h) = (goes_on_plain info bytes (source_samples r) h.1).numbers
+numbers_right info bytes r (inr h) = h.1
 
 -- of an image that was read
 pub right_numbers : (I : Image) → IsRightImage I → AreRightNumbers I.info

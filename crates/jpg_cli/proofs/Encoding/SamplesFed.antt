@@ -20,25 +20,20 @@ use Rattle.jpg_color.specs.declared.encode.image_encoder.ImageEncoder.{ImageEnco
 use Rattle.jpg_color.specs.declared.encode.image_encoder.ImageEncoder.TheVariants as encoder
 use Rattle.jpg_pnm_bmp.specs.Made.{AreBytes, IsRightImage}
 use Rattle.jpg_pnm_bmp.specs.PlainSamples.{GoesOnPlain, HasFedSamples}
-use Rattle.jpg_pnm_bmp.specs.declared.read.piece.Fed2.{Fed2}
-use Rattle.jpg_pnm_bmp.specs.declared.read.piece.Fed2.TheVariants as fed
 use Rattle.jpg_pnm_bmp.proofs.PlainSamples.{goes_on_plain}
-use Rattle.jpg_spec_image.proofs.OpenTarga.{open_few}
-use Rattle.jpg_targa.specs.SampleKinds.{Appends}
-use Rattle.jpg_targa.specs.TargaGiven.{AfterGiven, Gives, IsBegunTarga, given_info}
-use Rattle.jpg_targa.specs.declared.read.given.TargaSamples.{TargaSamples}
-use Rattle.jpg_targa.proofs.SamplesRead.{given_open, given_short, goes_on_targa}
+use Rattle.jpg_pnm_bmp.specs.Samples.{Appends}
+use Rattle.jpg_desk.specs.ImageSamples.{AfterEnd, AfterPiece, EndsSamples, GivesPiece, HoldsSamples}
+use Rattle.jpg_desk.specs.declared.image_samples.ImageSamples.{ImageSamples}
+use Rattle.jpg_desk.proofs.SampleAnswers.{samples_open}
 use Rattle.jpg_desk.specs.ImageFile.{HasFaultIn, HasImageIn, IsOpenIn}
 use Rattle.jpg_desk.specs.Pump.{AfterInput, AfterTaking, EndsAll, IsFed, ReadsInput, TakesEnd, TakesPiece, of_reader, why_stopped}
 use Rattle.jpg_desk.specs.Judging.{NoValueTaken, TakesPieces}
-use Rattle.jpg_desk.specs.ReadImage.{IsFaultRead, IsShortImageRead, image_judging}
+use Rattle.jpg_desk.specs.ReadImage.{IsFaultRead, IsImageRead, IsShortImageRead, image_judging}
 use Rattle.jpg_desk.specs.Reading.{rest_of}
 use Rattle.jpg_desk.specs.Stays.{OnlyReads}
-use Rattle.jpg_desk.proofs.ImageFed.{right_image}
 use Rattle.jpg_desk.proofs.ImageTaken.{open_end, open_more, open_read, open_too_long}
-use Rattle.jpg_desk.proofs.PiecesRead.{more_small}
 use Rattle.jpg_desk.proofs.Pumped.{all_read}
-use Rattle.jpg_cli.specs.Tools.SamplesFed.{AfterSamples, AreAll, AreAllGiven, AreGiven, AreGivenFrom, HasGivenRest, IsAllGiven, IsGivenTarga, TakesSome, is_done, is_given, samples_reader}
+use Rattle.jpg_cli.specs.Tools.SamplesFed.{AfterSamples, AreAll, AreAllGiven, AreGiven, AreGivenFrom, HasGivenRest, IsAllGiven, IsGivenRest, TakesSome, is_targa_rest, samples_reader}
 use Rattle.jpg_cli.specs.declared.tools.cjpeg_image.Rest.{Rest}
 use Rattle.jpg_cli.specs.declared.tools.cjpeg_image.Rest.TheVariants as gives
 use Rattle.jpg_cli.specs.declared.tools.cjpeg_image.SamplesSink.{SamplesSink}
@@ -68,24 +63,25 @@ take_rest zero left all more h = (let none : left ≡ 0 = omega (arith, h) in ta
 take_rest (suc n) left [] more h = (let all : left ≡ suc n = omega (arith, h) in take_min left more ∙ ap (λ k. take k more) all)
 take_rest (suc n) left (x ∷ all) more h = ap (λ (l : List ℕ). x ∷ l) (take_rest n left all more (omega (arith, h)))
 
--- no prefix is complete or has a fault, and where they end the file is too short
-stands_yet : (targa : Bool) (info : ImageInfo) (bytes given : List ℕ) (r : Rest) → HasGivenRest targa info bytes given r
-    → IsOpenIn targa bytes × (length bytes < standard_limits.input → HasFaultIn targa bytes (record { fault = ImageShort; at = length bytes }))
-stands_yet false info bytes given gives.Plain h = (let goes = goes_on_plain info bytes given h in (goes.open_yet, goes.short standard_limits))
-stands_yet true info bytes given (gives.Given r) h = (let w = h.has.2.gives in (given_open bytes h.all r.reader.work w, λ less. given_short bytes h.all r.reader.work w))
-stands_yet true info bytes given gives.Plain h = absurd h
-stands_yet false info bytes given (gives.Given r) h = absurd h
+-- no prefix is complete or has a fault
+open_yet : (targa : Bool) (info : ImageInfo) (bytes given : List ℕ) (r : Rest) → HasGivenRest targa info bytes given r → IsOpenIn targa bytes
+open_yet targa info bytes given gives.Plain h = subst (λ (t : Bool). IsOpenIn t bytes) (sym h.0) (goes_on_plain info bytes given h.1).open_yet
+open_yet targa info bytes given (gives.Given r) h = samples_open targa bytes h.all r h.has.given
+
+-- samples that are appended to none
+made_is : (before made more : List ℕ) → before ≡ [] → made ≡ before ++ more → made ≡ more
+made_is before made more none e = e ∙ ap (λ (x : List ℕ). x ++ more) none
 
 module _ {targa : Bool} {from : ImageEncoder} {bytes : List ℕ} {s0 : SamplesSink} (g : AreGiven targa from bytes s0) where
   -- the samples that it has
   pub has : HasTaken (g.begun).0 g.info (g.begun).1 g.given s0.encoder
   has = g.sampled (g.begun).0 (g.begun).1 (g.begun).2
 
-  yet : IsOpenIn targa bytes × (length bytes < standard_limits.input → HasFaultIn targa bytes (record { fault = ImageShort; at = length bytes }))
-  yet = stands_yet targa g.info bytes g.given s0.rest g.fed
+  yet : IsOpenIn targa bytes
+  yet = open_yet targa g.info bytes g.given s0.rest g.fed
 
   short_read : (piece : List ℕ) → length piece ≤ 16384 → IsShortImageRead targa (bytes ++ piece)
-  short_read piece few = open_more targa bytes piece yet.0 g.short (omega (arith, few))
+  short_read piece few = open_more targa bytes piece yet g.short (omega (arith, few))
 
   -- more samples are given to it
   module _ (s1 : SamplesSink) (made : List ℕ) (takes : TakesSome s0.encoder made s1.encoder) where
@@ -112,18 +108,17 @@ module _ {targa : Bool} {from : ImageEncoder} {bytes : List ℕ} {s0 : SamplesSi
       short = short;
     }
 
-    all_given : (piece rest : List ℕ) → length piece ≤ 16384 → IsRightImage (image_of g.info now) → HasImageIn targa ((bytes ++ piece) ++ rest) (image_of g.info now) → AreAllGiven targa from rest (bytes ++ piece) s1.encoder
-    all_given piece rest few right is = record { info = g.info; samples = now; begun = g.begun; sampled = λ w a h. takes.1 w g.info a g.given (g.sampled w a h); count = right.count; read = record { is = is; read = short_read piece few }; right = right }
+    all_given : (rest read : List ℕ) → IsRightImage (image_of g.info now) → IsImageRead targa (image_of g.info now) rest read → AreAllGiven targa from rest read s1.encoder
+    all_given rest read right is = record { info = g.info; samples = now; begun = g.begun; sampled = λ w a h. takes.1 w g.info a g.given (g.sampled w a h); count = right.count; read = is; right = right }
+
+    -- those of a reader, which are all
+    whole_given : (all more rest read : List ℕ) → g.given ≡ take (sample_count g.info) all → made ≡ more → HoldsSamples targa g.info rest read (all ++ more) → AreAllGiven targa from rest read s1.encoder
+    whole_given all more rest read is same k =
+        let count = k.right.count in
+        let samples : all ++ more ≡ now = sym (now_is all is ∙ ap (λ (x : List ℕ). take (sample_count g.info) (all ++ x)) same ∙ take_all (sample_count g.info) (all ++ more) (omega (arith, count))) in
+        all_given rest read (subst (λ xs. IsRightImage (image_of g.info xs)) samples k.right) (subst (λ xs. IsImageRead targa (image_of g.info xs) rest read) samples k.is)
 
 -- A PIECE, for all that was given before
-
-is_plain : (targa : Bool) (info : ImageInfo) (bytes given : List ℕ) → HasGivenRest targa info bytes given gives.Plain → (targa ≡ false) × HasFedSamples info bytes given
-is_plain false info bytes given h = (refl, h)
-is_plain true info bytes given h = absurd h
-
-by_targa : (targa : Bool) (info : ImageInfo) (bytes given : List ℕ) (r : TargaSamples) → HasGivenRest targa info bytes given (gives.Given r) → (targa ≡ true) × IsGivenTarga info bytes given r
-by_targa true info bytes given r h = (refl, h)
-by_targa false info bytes given r h = absurd h
 
 module _ (old new : SamplesSink) (piece : List ℕ) (few : length piece ≤ 16384) where
   -- there was no memory
@@ -138,10 +133,10 @@ module _ (old new : SamplesSink) (piece : List ℕ) (few : length piece ≤ 1638
       n = sample_count h.info
 
       targa : Bool
-      targa = is_given from.rest
+      targa = is_targa_rest from.rest
 
       plain : (targa ≡ false) × HasFedSamples h.info bytes h.given
-      plain = is_plain targa h.info bytes h.given (subst (HasGivenRest targa h.info bytes h.given) was h.fed)
+      plain = subst (HasGivenRest targa h.info bytes h.given) was h.fed
 
       goes : GoesOnPlain h.info bytes h.given
       goes = goes_on_plain h.info bytes h.given plain.1
@@ -166,75 +161,100 @@ module _ (old new : SamplesSink) (piece : List ℕ) (few : length piece ≤ 1638
       fed : length (h.given ++ piece) < n → HasGivenRest targa h.info (bytes ++ piece) (now h new piece takes) new.rest
       fed less =
           let all : now h new piece takes ≡ h.given ++ piece = first ∙ take_all n (h.given ++ piece) (omega (arith, less)) in
-          let plainly : HasGivenRest false h.info (bytes ++ piece) (now h new piece takes) gives.Plain = subst (HasFedSamples h.info (bytes ++ piece)) (sym all) (goes.more piece takes.0 less) in
-          subst (λ (t : Bool). HasGivenRest t h.info (bytes ++ piece) (now h new piece takes) new.rest) (sym plain.0) (subst (HasGivenRest false h.info (bytes ++ piece) (now h new piece takes)) (sym is) plainly)
+          subst (HasGivenRest targa h.info (bytes ++ piece) (now h new piece takes)) (sym is) (plain.0, subst (HasFedSamples h.info (bytes ++ piece)) (sym all) (goes.more piece takes.0 less))
 
       by : (answer : Result Bool Why) → AreAll new answer → AfterTaking samples_reader from (bytes ++ piece) answer new
       by (Ok false) k = (more_given h new piece takes piece (fed (still k.0)) count (short k.1), short k.1)
       by (Ok true) none =
           let enough : n ≤ length (h.given ++ piece) = (let c = left_now h new piece takes in let l = ap length first ∙ length-take n (h.given ++ piece) in omega (arith, none, c, l)) in
           let done = goes.whole piece takes.0 enough in
-          λ rest. all_given h new piece takes piece rest few (subst (λ xs. IsRightImage (image_of h.info xs)) (sym first) done.right)
-          (subst (λ (t : Bool). HasImageIn t ((bytes ++ piece) ++ rest) (image_of h.info (now h new piece takes))) (sym plain.0)
-          (subst (λ xs. HasImageIn false ((bytes ++ piece) ++ rest) (image_of h.info xs)) (sym first) (done.image standard_limits rest most)))
+          λ rest. all_given h new piece takes rest (bytes ++ piece) (subst (λ xs. IsRightImage (image_of h.info xs)) (sym first) done.right) (record {
+            is = subst (λ (t : Bool). HasImageIn t ((bytes ++ piece) ++ rest) (image_of h.info (now h new piece takes))) (sym plain.0)
+                (subst (λ xs. HasImageIn false ((bytes ++ piece) ++ rest) (image_of h.info xs)) (sym first) (done.image standard_limits rest most));
+            read = short_read h piece few;
+          })
       by (Err e) k = subst (λ (v : Why). AfterTaking samples_reader from (bytes ++ piece) (Err v) new) (sym k.0)
           (λ rest. subst (λ (t : Bool). IsFaultRead t (record { fault = InputTooLong; at = standard_limits.input }) rest (bytes ++ piece)) (sym plain.0)
           (open_too_long (bytes ++ piece) rest (goes_on_plain h.info (bytes ++ piece) (h.given ++ piece) (goes.more piece takes.0 (still k.1))).open_yet (sym taken ∙ k.2)))
 
-  -- a reader of Targa gives them
-  module _ (r0 r1 : TargaSamples) (before made : List ℕ) (was : old.rest ≡ gives.Given r0) where
-    given_by : (targa : Bool) (from : ImageEncoder) (bytes : List ℕ) (h : AreGiven targa from bytes old) → (targa ≡ true) × IsGivenTarga h.info bytes h.given r0
-    given_by targa from bytes h = by_targa targa h.info bytes h.given r0 (subst (HasGivenRest targa h.info bytes h.given) was h.fed)
+  -- a reader gives them
+  module _ (r0 r1 : ImageSamples) (before made : List ℕ) (was : old.rest ≡ gives.Given r0) where
+    given_by : (targa : Bool) (from : ImageEncoder) (bytes : List ℕ) (h : AreGiven targa from bytes old) → IsGivenRest targa h.info bytes h.given r0
+    given_by targa from bytes h = subst (HasGivenRest targa h.info bytes h.given) was h.fed
 
-    pub targa_stopped : (ended : Stop) → Gives r0 piece before (Err ended) r1 made → TakesPiece samples_reader old piece (Err (why_stopped ended)) new
-    targa_stopped (stop.Fault f) g from bytes h most =
-        let t = given_by (is_given from.rest) from.encoder bytes h in
-        λ rest. record { is = subst (λ (b : Bool). HasFaultIn b ((bytes ++ piece) ++ rest) f) (sym t.0) ((g bytes (t.1).all (t.1).has).2 rest); read = short_read h piece few }
-    targa_stopped stop.NoMemory g from bytes h most = short_read h piece few
-
-    pub targa_taken : (answer : Fed2) → ((i : ℕ) → get_or piece i 0 < 256) → before ≡ [] → Gives r0 piece before (Ok answer) r1 made → new.rest ≡ gives.Given r1 → TakesSome old.encoder made new.encoder → new.taken ≡ old.taken + length piece → TakesPiece samples_reader old piece (Ok (is_done answer)) new
-    targa_taken answer small none g is takes count from bytes h most = by answer (g bytes (t.1).all (t.1).has)
+    pub rest_stopped : (ended : Why) → GivesPiece r0 piece before (Err ended) r1 made → TakesPiece samples_reader old piece (Err ended) new
+    rest_stopped ended g from bytes h most = by ended (g targa h.info bytes t.all t.has)
       where
-        t : (is_given from.rest ≡ true) × IsGivenTarga h.info bytes h.given r0
-        t = given_by (is_given from.rest) from.encoder bytes h
+        targa : Bool
+        targa = is_targa_rest from.rest
 
-        begun : IsBegunTarga h.info (bytes ++ piece)
-        begun = (goes_on_targa h.info bytes (t.1).begun).more piece
+        t : IsGivenRest targa h.info bytes h.given r0
+        t = given_by targa from.encoder bytes h
 
-        all_small : AreBytes (bytes ++ piece)
-        all_small = more_small bytes piece (t.1).bytes_all small
+        by : (ended : Why) → Appends before made (λ more. AfterPiece targa h.info (bytes ++ piece) (t.all ++ more) (Err ended) r1) → AfterTaking samples_reader from (bytes ++ piece) (Err ended) new
+        by (why.Refused f) (more, e, k) = k
+        by why.NoMemory (more, e, k) = k
+        by other (more, e, k) = absurd k
 
-        by : (answer : Fed2) → Appends before made (λ more. AfterGiven bytes piece ((t.1).all ++ more) (Ok answer) r1) → AfterTaking samples_reader from (bytes ++ piece) (Ok (is_done answer)) new
-        by fed.More (more, e, k) =
-            let less = open_few (bytes ++ piece) all_small (given_open (bytes ++ piece) ((t.1).all ++ more) r1.reader.work k.2.gives) in
-            let short : length (bytes ++ piece) < standard_limits.input = omega (arith, less) in
-            let fed : HasGivenRest true h.info (bytes ++ piece) (now h new made takes) (gives.Given r1) = record {
-              all = (t.1).all ++ more;
+    pub rest_taken : (whole : Bool) → before ≡ [] → GivesPiece r0 piece before (Ok whole) r1 made → new.rest ≡ gives.Given r1 → TakesSome old.encoder made new.encoder → new.taken ≡ old.taken + length piece → TakesPiece samples_reader old piece (Ok whole) new
+    rest_taken whole none g is takes count from bytes h most = by whole (g targa h.info bytes t.all t.has)
+      where
+        targa : Bool
+        targa = is_targa_rest from.rest
+
+        t : IsGivenRest targa h.info bytes h.given r0
+        t = given_by targa from.encoder bytes h
+
+        by : (whole : Bool) → Appends before made (λ more. AfterPiece targa h.info (bytes ++ piece) (t.all ++ more) (Ok whole) r1) → AfterTaking samples_reader from (bytes ++ piece) (Ok whole) new
+        by false (more, e, k) =
+            let fed : HasGivenRest targa h.info (bytes ++ piece) (now h new made takes) (gives.Given r1) = record {
+              all = t.all ++ more;
               has = k;
-              begun = begun;
-              bytes_all = all_small;
-              given_is = now_is h new made takes (t.1).all (t.1).given_is ∙ ap (λ (x : List ℕ). take (sample_count h.info) ((t.1).all ++ x)) (e ∙ ap (λ (x : List ℕ). x ++ more) none);
+              given_is = now_is h new made takes t.all t.given_is ∙ ap (λ (x : List ℕ). take (sample_count h.info) (t.all ++ x)) (made_is before made more none e);
             } in
-            (more_given h new made takes piece (subst (λ (b : Bool). HasGivenRest b h.info (bytes ++ piece) (now h new made takes) new.rest) (sym t.0) (subst (HasGivenRest true h.info (bytes ++ piece) (now h new made takes)) (sym is) fed)) count short, short)
-        by fed.Done (more, e, k) =
-            let whole = (t.1).all ++ more in
-            let I = image_of (given_info r1) whole in
-            let right : IsRightImage I = right_image true ((bytes ++ piece) ++ []) I (k []) (subst AreBytes (sym (append-nil (bytes ++ piece))) all_small) in
-            let info : given_info r1 ≡ h.info = (goes_on_targa h.info (bytes ++ piece) begun).image [] I (k []) in
-            let count = right.count ∙ ap sample_count info in
-            let samples : whole ≡ now h new made takes = sym (now_is h new made takes (t.1).all (t.1).given_is ∙ ap (λ (x : List ℕ). take (sample_count h.info) ((t.1).all ++ x)) (e ∙ ap (λ (x : List ℕ). x ++ more) none) ∙ take_all (sample_count h.info) whole (omega (arith, count))) in
-            let same : I ≡ image_of h.info (now h new made takes) = ap (λ (i : ImageInfo). image_of i whole) info ∙ ap (image_of h.info) samples in
-            λ rest. all_given h new made takes piece rest few (subst IsRightImage same right)
-            (subst (λ (b : Bool). HasImageIn b ((bytes ++ piece) ++ rest) (image_of h.info (now h new made takes))) (sym t.0) (subst (HasImageIn true ((bytes ++ piece) ++ rest)) same (k rest)))
+            (more_given h new made takes piece (subst (HasGivenRest targa h.info (bytes ++ piece) (now h new made takes)) (sym is) fed) count k.short, k.short)
+        by true (more, e, k) = λ rest. whole_given h new made takes t.all more rest (bytes ++ piece) t.given_is (made_is before made more none e) (k rest)
 
 -- WHERE IT ENDS
 
-pub samples_short : (old : SamplesSink) (answer : Why) → answer ≡ why.Refused (record { fault = ImageShort; at = old.taken }) → TakesEnd samples_reader old (Err answer) old
-samples_short old answer is from bytes h less =
-    let targa = is_given from.rest in
+pub samples_short : (old : SamplesSink) (answer : Why) → old.rest ≡ gives.Plain → answer ≡ why.Refused (record { fault = ImageShort; at = old.taken }) → TakesEnd samples_reader old (Err answer) old
+samples_short old answer was is from bytes h less =
+    let targa = is_targa_rest from.rest in
     let f : FaultAt = record { fault = ImageShort; at = length bytes } in
-    let shown : IsFaultRead targa f [] bytes = record { is = subst (λ (b : List ℕ). HasFaultIn targa b f) (sym (append-nil bytes)) ((yet h).1 less); read = open_end targa bytes (yet h).0 less } in
+    let plain : HasGivenRest targa h.info bytes h.given gives.Plain = subst (HasGivenRest targa h.info bytes h.given) was h.fed in
+    let short : HasFaultIn false (bytes ++ []) f = subst (λ (b : List ℕ). HasFaultIn false b f) (sym (append-nil bytes)) ((goes_on_plain h.info bytes h.given plain.1).short standard_limits less) in
+    let shown : IsFaultRead targa f [] bytes = record { is = subst (λ (t : Bool). HasFaultIn t (bytes ++ []) f) (sym plain.0) short; read = open_end targa bytes (yet h) less } in
     subst (λ (v : Why). AfterInput samples_reader from bytes (Err v) old) (sym (is ∙ ap (λ n. why.Refused (record { fault = ImageShort; at = n })) h.taken_is)) shown
+
+-- there was no memory
+pub end_lost : (old new : SamplesSink) → TakesEnd samples_reader old (Err why.NoMemory) new
+end_lost old new from bytes h less = open_end (is_targa_rest from.rest) bytes (yet h) less
+
+-- a reader gives the last ones
+module _ (old new : SamplesSink) (r0 : ImageSamples) (before made : List ℕ) (was : old.rest ≡ gives.Given r0) where
+  pub held_by : (targa : Bool) (from : ImageEncoder) (bytes : List ℕ) (h : AreGiven targa from bytes old) → IsGivenRest targa h.info bytes h.given r0
+  held_by targa from bytes h = subst (HasGivenRest targa h.info bytes h.given) was h.fed
+
+  pub rest_unended : (ended : Why) → EndsSamples r0 before (Err ended) made → TakesEnd samples_reader old (Err ended) new
+  rest_unended ended g from bytes h less = by ended (g targa h.info bytes t.all t.has)
+    where
+      targa : Bool
+      targa = is_targa_rest from.rest
+
+      t : IsGivenRest targa h.info bytes h.given r0
+      t = held_by targa from.encoder bytes h
+
+      by : (ended : Why) → Appends before made (λ more. AfterEnd targa h.info bytes (t.all ++ more) (Err ended)) → AfterInput samples_reader from bytes (Err ended) new
+      by (why.Refused f) (more, e, k) = k
+      by why.NoMemory (more, e, k) = k
+      by other (more, e, k) = absurd k
+
+  pub rest_ended : before ≡ [] → EndsSamples r0 before (Ok tt) made → TakesSome old.encoder made new.encoder → TakesEnd samples_reader old (Ok None) new
+  rest_ended none g takes from bytes h less =
+      let targa = is_targa_rest from.rest in
+      let t = held_by targa from.encoder bytes h in
+      let k = g targa h.info bytes t.all t.has in
+      whole_given h new made takes t.all k.0 [] bytes t.given_is (made_is before made k.0 none k.1) k.2
 
 -- ALL OF IT
 
@@ -252,18 +272,18 @@ all_of {targa} {w} {info} {a} {from} {s} {rest} {bytes} has h =
 
 module _ (old : SamplesSink) {from : ImageEncoder} {start : DeskState} {now : SamplesSink × DeskState} where
   samples_pumped : (answer : Result (Option ℕ) Why) → EndsAll (of_reader samples_reader) (at_first old from, start) answer now → ReadsInput SamplesSink Image samples_reader (at_first old from, start) answer now
-  samples_pumped answer h = all_read SamplesSink Image samples_reader (at_first old from, start) now answer (λ bytes f short. open_read (is_given old.rest) bytes (yet f).0 short) h
+  samples_pumped answer h = all_read SamplesSink Image samples_reader (at_first old from, start) now answer (λ bytes f short. open_read (is_targa_rest old.rest) bytes (yet f) short) h
 
   pub samples_held : (early : Option ℕ) → EndsAll (of_reader samples_reader) (at_first old from, start) (Ok early) now → (w : Option RowScan) (info : ImageInfo) (a : Asked) → HasTaken w info a [] from
-      → OnlyReads start now.1 × AfterSamples (is_given old.rest) w info a start (Ok (now.0).encoder) now.1
+      → OnlyReads start now.1 × AfterSamples (is_targa_rest old.rest) w info a start (Ok (now.0).encoder) now.1
   samples_held None ends w info a sampled = (let h = samples_pumped None_answer ends in (h.kept, by h.reads.0))
     where
       None_answer : Result (Option ℕ) Why
       None_answer = Ok None
 
-      by : TakesPieces (λ bytes. AreAllGiven (is_given old.rest) from (rest_of (now.1).left) bytes (now.0).encoder) start now.1 → TakesPieces (λ bytes. IsAllGiven (is_given old.rest) w info a (rest_of (now.1).left) bytes (now.0).encoder) start now.1
+      by : TakesPieces (λ bytes. AreAllGiven (is_targa_rest old.rest) from (rest_of (now.1).left) bytes (now.0).encoder) start now.1 → TakesPieces (λ bytes. IsAllGiven (is_targa_rest old.rest) w info a (rest_of (now.1).left) bytes (now.0).encoder) start now.1
       by (bytes, read, most, g) = (bytes, read, most, all_of sampled g)
   samples_held (Some n) ends w info a sampled = absurd (samples_pumped (Ok (Some n)) ends).reads.0.3
 
-  pub none_held : (w : Why) → EndsAll (of_reader samples_reader) (at_first old from, start) (Err w) now → OnlyReads start now.1 × NoValueTaken (image_judging (is_given old.rest)) start w now.1
+  pub none_held : (w : Why) → EndsAll (of_reader samples_reader) (at_first old from, start) (Err w) now → OnlyReads start now.1 × NoValueTaken (image_judging (is_targa_rest old.rest)) start w now.1
   none_held w ends = (let h = samples_pumped (Err w) ends in (h.kept, h.reads))

@@ -1,6 +1,6 @@
--- THE SAMPLES of P5 and P6, and of Targa whose rows come from the top, given to an encoder while they are read, from a
--- desk whose input is open: as planes, or as the data of a scan.
-use Rattle.std.specs.Prelude.{◌≡◌, ℕ, ◌<◌, ◌≤◌, min, Bool, true, false, not, ◌||◌, ◌==◌, List, [], length, take, Option, None, Some, Result, Ok, Err}
+-- THE SAMPLES of PNM, and of Targa whose rows come from the top, given to an encoder while they are read, from a desk whose
+-- input is open: as planes, or as the data of a scan.
+use Rattle.std.specs.Prelude.{◌≡◌, ◌⊎◌, ℕ, ◌<◌, ◌≤◌, min, Bool, true, false, not, ◌||◌, ◌==◌, List, [], length, take, Option, None, Some, Result, Ok, Err}
 use Rattle.std.specs.Io.KnownBytes.{Consumes}
 use Rattle.jpg_base.specs.Desk.{DeskState}
 use Rattle.jpg_spec.specs.Geometry.{Frame, component_at}
@@ -21,11 +21,7 @@ use Rattle.jpg_color.specs.declared.encode.image_encoder.ImageEncoder.{ImageEnco
 use Rattle.jpg_color.specs.declared.encode.image_encoder.ImageEncoder.TheVariants as encoder
 use Rattle.jpg_color.specs.declared.encode.sampler.Sampler.{Sampler}
 use Rattle.jpg_pnm_bmp.specs.Made.{AreBytes, IsRightImage}
-use Rattle.jpg_pnm_bmp.specs.PlainSamples.{HasFedSamples, samples_so_far}
-use Rattle.jpg_pnm_bmp.specs.declared.read.piece.Fed2.{Fed2}
-use Rattle.jpg_pnm_bmp.specs.declared.read.piece.Fed2.TheVariants as fed
-use Rattle.jpg_targa.specs.TargaGiven.{CanGive, HasGivenSamples, IsBegunTarga}
-use Rattle.jpg_targa.specs.declared.read.given.TargaSamples.{TargaSamples}
+use Rattle.jpg_pnm_bmp.specs.PlainSamples.{AreRightNumbers, HasFedSamples}
 use Rattle.jpg_spec.specs.Scan.{Blocks}
 use Rattle.jpg_spec_write.specs.ScansAsked.{Scans, script_due}
 use Rattle.jpg_spec_write.specs.Script.{Entry}
@@ -38,8 +34,9 @@ use Rattle.jpg_words.specs.declared.cjpeg_request.EncodeWords.{EncodeWords}
 use Rattle.jpg_cli.specs.Tools.EncodedRead.{Encodes, EndsEncoding}
 use Rattle.jpg_desk.specs.EncodedRows.{IsEncodedRows, scan_of}
 use Rattle.jpg_cli.specs.Tools.ImageWritten.{IsAskedBy, IsPlanOf}
-use Rattle.jpg_desk.specs.ImageSource.{HasFed, source_samples}
-use Rattle.jpg_desk.specs.ImageTaken.{IsSourceFed, is_targa}
+use Rattle.jpg_desk.specs.ImageSamples.{HasGiven, is_targa_given}
+use Rattle.jpg_desk.specs.ImageSource.{CanGiveSamples, HasFed, source_samples}
+use Rattle.jpg_desk.specs.ImageTaken.{GoesOn as HasFedOpen, IsSourceFed, is_targa}
 use Rattle.jpg_desk.specs.Judging.{NoValueTaken, TakesPieces}
 use Rattle.jpg_desk.specs.Pump.{ReaderKind}
 use Rattle.jpg_desk.specs.ReadImage.{IsImageRead, image_judging}
@@ -47,8 +44,8 @@ use Rattle.jpg_desk.specs.Reading.{rest_of}
 use Rattle.jpg_desk.specs.Stays.{OnlyReads}
 use Rattle.jpg_desk.specs.declared.encoded_rows.EncodedPicture.{EncodedPicture}
 use Rattle.jpg_desk.specs.declared.encoded_rows.OneScan.{OneScan}
+use Rattle.jpg_desk.specs.declared.image_samples.ImageSamples.{ImageSamples}
 use Rattle.jpg_desk.specs.declared.image_source.ImageSource.{ImageSource}
-use Rattle.jpg_desk.specs.declared.image_source.ImageSource.TheVariants as source
 use Rattle.jpg_cli.specs.declared.tools.cjpeg_image.Rest.{Rest}
 use Rattle.jpg_cli.specs.declared.tools.cjpeg_image.Rest.TheVariants as gives
 use Rattle.jpg_cli.specs.declared.tools.cjpeg_image.SamplesSink.{SamplesSink}
@@ -59,24 +56,21 @@ pub record IsAskedFor (E : Image → Encoding) (info : ImageInfo) (a : Asked) : 
   pub can : CanSample info a
   pub restart : (I : Image) → IsRestart (E I).restart
 
--- THE SAMPLES of the bytes so far, of an image with these numbers: those after the header; or those that a reader of Targa
--- gave, which gives no more than the image has.
-pub record IsGivenTarga (info : ImageInfo) (bytes given : List ℕ) (r : TargaSamples) : Type 0 where
+-- THE SAMPLES of the bytes so far, of an image with these numbers: those after the header; or those that a reader gave,
+-- which gives no more than the image has.
+pub record IsGivenRest (targa : Bool) (info : ImageInfo) (bytes given : List ℕ) (r : ImageSamples) : Type 0 where
   pub all : List ℕ
-  pub has : HasGivenSamples bytes all r
-  pub begun : IsBegunTarga info bytes
-  pub bytes_all : AreBytes bytes
+  pub has : HasGiven targa info bytes all r
   pub given_is : given ≡ take (sample_count info) all
 
 abbrev pub HasGivenRest : Bool → ImageInfo → List ℕ → List ℕ → Rest → Type 0
-HasGivenRest false info bytes given gives.Plain = HasFedSamples info bytes given
-HasGivenRest true info bytes given (gives.Given r) = IsGivenTarga info bytes given r
-HasGivenRest targa info bytes given other = ⊥
+HasGivenRest targa info bytes given gives.Plain = (targa ≡ false) × HasFedSamples info bytes given
+HasGivenRest targa info bytes given (gives.Given r) = IsGivenRest targa info bytes given r
 
--- whether a reader of Targa gives them
-abbrev pub is_given : Rest → Bool
-is_given gives.Plain = false
-is_given (gives.Given r) = true
+-- whether they are of Targa
+abbrev pub is_targa_rest : Rest → Bool
+is_targa_rest gives.Plain = false
+is_targa_rest (gives.Given r) = is_targa_given r
 
 -- SOME OF THEM were given to an encoder that had none, those of the bytes so far.
 pub record AreGiven (targa : Bool) (from : ImageEncoder) (bytes : List ℕ) (s : SamplesSink) : Type 0 where
@@ -100,21 +94,16 @@ pub record AreAllGiven (targa : Bool) (from : ImageEncoder) (rest bytes : List �
 
 -- ALL PIECES: what holds of an encoder that had none
 abbrev pub HoldAll : SamplesSink → Option ℕ → List ℕ → List ℕ → SamplesSink → Type 0
-HoldAll from None rest bytes now = AreAllGiven (is_given from.rest) from.encoder rest bytes now.encoder
+HoldAll from None rest bytes now = AreAllGiven (is_targa_rest from.rest) from.encoder rest bytes now.encoder
 HoldAll from (Some n) rest bytes now = ⊥
 
 abbrev pub samples_reader : ReaderKind SamplesSink Image
 samples_reader = record {
-  fed = λ from bytes now. AreGiven (is_given from.rest) from.encoder bytes now;
+  fed = λ from bytes now. AreGiven (is_targa_rest from.rest) from.encoder bytes now;
   holds = HoldAll;
-  judging = λ from. image_judging (is_given from.rest);
+  judging = λ from. image_judging (is_targa_rest from.rest);
   more = λ s. ⊥;
 }
-
--- whether a reader of Targa has given all
-abbrev pub is_done : Fed2 → Bool
-is_done fed.More = false
-is_done fed.Done = true
 
 -- whether none are left; or some are, and as many bytes were taken as may be
 abbrev pub AreAll : SamplesSink → Result Bool Why → Type 0
@@ -131,7 +120,7 @@ HasSomeTaken s = (w : Option RowScan) × (info : ImageInfo) × (a : Asked) × (g
 
 -- FROM A DESK from which these bytes were read
 pub record AreGivenFrom (from : ImageEncoder) (start : DeskState) (bytes : List ℕ) (s : SamplesSink) (now : DeskState) : Type 0 where
-  pub given : AreGiven (is_given s.rest) from bytes s
+  pub given : AreGiven (is_targa_rest s.rest) from bytes s
   pub kept : OnlyReads start now
   pub read : Consumes start.left now.left bytes
 
@@ -154,7 +143,7 @@ AfterSamples targa w info a start (Err ended) now = NoValueTaken (image_judging 
 abbrev pub FeedsRest : SamplesSink → DeskState → Result ImageEncoder Why → DeskState → Type 0
 FeedsRest had old answer new =
     (from : ImageEncoder) (start : DeskState) (bytes : List ℕ) → AreGivenFrom from start bytes had old → (w : Option RowScan) (info : ImageInfo) (a : Asked) → HasTaken w info a [] from
-    → OnlyReads start new × AfterSamples (is_given had.rest) w info a start answer new
+    → OnlyReads start new × AfterSamples (is_targa_rest had.rest) w info a start answer new
 
 -- THE ENCODED IMAGE of a sampler that was given all samples
 abbrev pub FinishesImage : Sampler → Result EncodedPicture Why → Type 0
@@ -172,17 +161,16 @@ abbrev pub GivesData : ImageEncoder → List ℕ → Type 0
 GivesData s text = (w : RowScan) (info : ImageInfo) (a : Asked) (samples : List ℕ) → HasTaken (Some w) info a samples s → text ≡ data_due w info a samples
 
 -- THE REST of the samples of an image with these numbers comes after these bytes, which were fed to a reader: they are the
--- bytes that follow, or a reader of Targa gives them.
+-- bytes that follow, or they can be given as they are read.
 abbrev pub CanGoOn : ImageInfo → List ℕ → ImageSource → Type 0
-CanGoOn info bytes (source.Pixels r) = HasFedSamples info bytes (samples_so_far r)
-CanGoOn info bytes (source.Targa r) = IsBegunTarga info bytes × CanGive r
+CanGoOn info bytes r = ((is_targa r ≡ false) × HasFedSamples info bytes (source_samples r)) ⊎ (CanGiveSamples info r × AreRightNumbers info)
 
 abbrev pub TellsNumbers : ImageSource → ImageInfo → Type 0
 TellsNumbers r info = (targa : Bool) (bytes : List ℕ) → HasFed targa bytes r → CanGoOn info bytes r
 
 abbrev pub GivesRest : ImageSource → Rest → Type 0
 GivesRest r rest =
-    (is_given rest ≡ is_targa r) × ((info : ImageInfo) (bytes : List ℕ) → HasFed (is_targa r) bytes r → CanGoOn info bytes r → HasGivenRest (is_given rest) info bytes (source_samples r) rest)
+    (is_targa_rest rest ≡ is_targa r) × ((info : ImageInfo) (bytes : List ℕ) → HasFedOpen (is_targa r) bytes r → CanGoOn info bytes r → HasGivenRest (is_targa r) info bytes (source_samples r) rest)
 
 -- AN ENCODER that begins: it was given no samples yet, and the rest of those of a file comes after the bytes so far.
 pub record Begins (E : Image → Encoding) (w : Option RowScan) (bytes : List ℕ) (r : ImageSource) (s : ImageEncoder) : Type 0 where

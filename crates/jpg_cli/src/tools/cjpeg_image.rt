@@ -1,5 +1,5 @@
-//! The image of an input, read and encoded (the manual of cjpeg). The samples of P5 and P6, and those of Targa whose rows
-//! come from the top, become the data of the file's one scan as they come, or planes.
+//! The image of an input, read and encoded (the manual of cjpeg). The samples of PNM, and those of Targa whose rows come from
+//! the top, become the data of the file's one scan as they come, or planes.
 ghost use Rattle.std.specs.Prelude.{◌≡◌, ◌≤◌, ◌++◌, Bool, IfErr, IfOk, IfSome, List, None, OnOk, Some, length, true, ℕ};
 ghost use Rattle.jpg_spec_words.specs.declared.answers.Why.TheVariants as why;
 ghost use Rattle.jpg_transform.specs.Planned.{scans_view};
@@ -21,9 +21,10 @@ ghost use Rattle.jpg_color.specs.declared.encode.image_encoder.ImageEncoder.TheV
 ghost use Rattle.jpg_pnm_bmp.specs.Made.{IsRightImage};
 ghost use Rattle.jpg_cli.specs.Tools.EncodedRead.{EncodedRead, Encodes, EndsEncoding};
 ghost use Rattle.jpg_cli.specs.Tools.ImageWritten.{IsPlanOf, why_not_encoded};
-ghost use Rattle.jpg_desk.specs.ImageSource.{HasFedSome, source_samples};
-ghost use Rattle.jpg_desk.specs.Pump.{TakesPiece, of_reader};
-ghost use Rattle.jpg_cli.specs.Tools.SamplesFed.{AreAll, AreGiven, AreSomeGiven, BeginsSource, CanGoOn, EndsData, EndsPlanes, EndsRows, FeedsAll, FeedsRest, FinishesImage, FinishesPlanes, GivesData, GivesRest, GoesOn, GoesOnAsPlanes, GoesOnAsRows, GoesOnScan, HasSomeTaken, IsOneScanFor, IsPlannedFor, IsSamplerFor, TakesSome, TellsNumbers, has_frame_rows, is_done, samples_reader};
+ghost use Rattle.jpg_desk.specs.ImageSource.{HasFed, HasFedSome, source_samples};
+ghost use Rattle.jpg_desk.specs.ImageTaken.{is_targa};
+ghost use Rattle.jpg_desk.specs.Pump.{TakesEnd, TakesPiece, of_reader};
+ghost use Rattle.jpg_cli.specs.Tools.SamplesFed.{AreAll, AreGiven, AreSomeGiven, BeginsSource, CanGoOn, EndsData, EndsPlanes, EndsRows, FeedsAll, FeedsRest, FinishesImage, FinishesPlanes, GivesData, GivesRest, GoesOn, GoesOnAsPlanes, GoesOnAsRows, GoesOnScan, HasSomeTaken, IsOneScanFor, IsPlannedFor, IsSamplerFor, TakesSome, TellsNumbers, has_frame_rows, samples_reader};
 ghost use Rattle.jpg_cli.specs.Tools.EncodingAsked.{asked_of, encoding_by};
 ghost use Rattle.jpg_desk.specs.Stays.{Keeps, OnlyReads};
 
@@ -31,18 +32,17 @@ use crate::tools::cjpeg_encoding::encoding_of;
 use jpg_base::{Bytes, Desk, Frame, NoMemory, Put, QuantTable};
 use jpg_color::{EncodeStop, ImageEncoder, ImageHead, RowEncoder, Sampler};
 use jpg_desk::{
-    EncodedPicture, EncodedRows, ImageSource, OneScan, PieceSink, Tables, pump_on, read_rest,
-    read_source, why_stopped,
+    EncodedPicture, EncodedRows, ImageSamples, ImageSource, OneScan, PieceSink, Tables, pump_on,
+    read_rest, read_source,
 };
 use jpg_file::{Plan, SoleScan, sole_scan};
 use jpg_huff::{EncoderPlaces, EncoderSet, TableSet};
 use jpg_markers::OutHead;
-use jpg_pnm_bmp::{Fed2, Image};
+use jpg_pnm_bmp::Image;
 use jpg_scans::Script;
 use jpg_spec::{Copying, Fault, FaultAt, Limits};
 use jpg_spec_image::ImageInfo;
 use jpg_spec_words::{Which, Why};
-use jpg_targa::TargaSamples;
 use jpg_transform::{Scans, counted, script_due};
 use jpg_words::EncodeWords;
 use std::alloc::Global;
@@ -160,7 +160,7 @@ fn sampler_for(
 }
 
 // The numbers of the image, if its samples can be given as the file is read: the bytes that follow are their rest, or a
-// reader of Targa gives them.
+// reader gives them.
 fn numbers_of(reader: &ImageSource) -> Option<ImageInfo>
     ensures { IfSome result (TellsNumbers reader.now) }
 {
@@ -394,12 +394,12 @@ fn feed_all<'a, D: Desk>(
 
 // What gives the samples that come, of a reader that tells the image's numbers.
 fn rest_of(reader: ImageSource) -> Rest
-    requires { (info : Numbers) × (bytes : List ℕ) × CanGoOn info bytes reader }
+    requires { (info : Numbers) × (bytes : List ℕ) × HasFed (is_targa reader) bytes reader × CanGoOn info bytes reader }
     ensures { GivesRest reader result }
 {
-    match &reader {
-        ImageSource::Pixels(_) => Rest::Plain,
-        ImageSource::Targa(_) => Rest::Given(reader.into_samples()),
+    match reader.plain() {
+        Some(_) => Rest::Plain,
+        None => Rest::Given(reader.into_samples()),
     }
 }
 
@@ -419,11 +419,11 @@ fn feed_rest<'a, D: Desk>(sink: SamplesSink<'a>, desk: &mut D) -> Result<ImageEn
     }
 }
 
-// What gives the samples of the bytes that are read: they are the samples, or a reader of Targa gives them.
+// What gives the samples of the bytes that are read: they are the samples, or a reader gives them.
 #[derive(Drop)]
 enum Rest {
     Plain,
-    Given(TargaSamples),
+    Given(ImageSamples),
 }
 
 // What takes the samples of an image.
@@ -452,7 +452,7 @@ impl<'a, D: Desk> PieceSink<D> for SamplesSink<'a> {
     }
 
     fn end(&mut self, _desk: &mut D) -> Result<Option<u64>, Why> {
-        Err(refused(Fault::ImageShort, self.taken))
+        end_samples(self)
     }
 }
 
@@ -471,23 +471,33 @@ fn take_samples(sink: &mut SamplesSink<'_>, piece: &[u8]) -> Result<bool, Why>
         Rest::Given(samples) => {
             sink.made.clear();
             match samples.feed(piece, &mut sink.made) {
-                Err(stop) => Err(why_stopped(stop)),
-                Ok(fed) => match feed_piece(&mut sink.encoder, sink.made.as_slice()) {
+                Err(why) => Err(why),
+                Ok(whole) => match feed_piece(&mut sink.encoder, sink.made.as_slice()) {
                     Err(_) => Err(Why::NoMemory),
-                    Ok(()) => Ok(is_done(fed)),
+                    Ok(()) => Ok(whole),
                 },
             }
         }
     }
 }
 
-// Whether the reader of Targa has given all samples.
-fn is_done(fed: Fed2) -> bool
-    ensures { result ≡ is_done fed }
+// The input ends: a reader gives the samples that it held, and these are all; or the file is too short.
+fn end_samples(sink: &mut SamplesSink<'_>) -> Result<Option<u64>, Why>
+    requires { (targa : Bool) × (from : Encoder) × (bytes : List ℕ) × AreGiven targa from bytes sink.old }
+    ensures { TakesEnd samples_reader sink.old result sink.new }
 {
-    match fed {
-        Fed2::More => false,
-        Fed2::Done => true,
+    match &mut sink.rest {
+        Rest::Plain => Err(refused(Fault::ImageShort, sink.taken)),
+        Rest::Given(samples) => {
+            sink.made.clear();
+            match samples.end(&mut sink.made) {
+                Err(why) => Err(why),
+                Ok(()) => match feed_piece(&mut sink.encoder, sink.made.as_slice()) {
+                    Err(_) => Err(Why::NoMemory),
+                    Ok(()) => Ok(None),
+                },
+            }
+        }
     }
 }
 

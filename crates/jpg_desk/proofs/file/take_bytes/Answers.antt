@@ -1,7 +1,6 @@
-use Rattle.std.proofs.Common.{[], Ok, Err, refl, sym, subst, arith}
+use Rattle.std.proofs.Common.{[], Err, refl, sym, subst}
 use Rattle.jpg_spec_words.specs.declared.answers.Why.{Why}
-use Rattle.jpg_desk.specs.BytesTaken.{AfterBytes, bytes_kind}
-use Rattle.jpg_desk.specs.Pump.{IsFed}
+use Rattle.jpg_desk.specs.BytesTaken.{AfterBytes}
 use Rattle.jpg_desk.specs.declared.file.BytesSink.{BytesSink}
 use Rattle.jpg_desk.proofs.FilesTaken.{all_taken, bytes_fed, none_taken}
 use Rattle.jpg_desk.proofs.file.take_bytes.Goals as goal

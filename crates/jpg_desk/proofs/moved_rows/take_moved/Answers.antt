@@ -1,4 +1,4 @@
-use Rattle.std.proofs.Common.{Err, None, Ok, Some, [], ap, refl, subst, sym, ◌∙◌}
+use Rattle.std.proofs.Common.{Err, Ok, Some, [], ap, refl, subst, sym, ◌∙◌}
 use Rattle.jpg_spec.specs.Meaning.{Meaning}
 use Rattle.jpg_file.specs.Read.File.{keeping_of}
 use Rattle.jpg_file.specs.Read.ReadFile.{ReaderState}

@@ -1,4 +1,4 @@
-use Rattle.std.proofs.Common.{◌∙◌, Err, subst, sym}
+use Rattle.std.proofs.Common.{◌∙◌, subst, sym}
 use Rattle.jpg_spec.specs.declared.frame.Limits.{Limits}
 use Rattle.jpg_spec_words.specs.declared.answers.Why.{Why}
 use Rattle.jpg_file.specs.Read.ReadFile.{StopsAt}

@@ -1,4 +1,4 @@
-use Rattle.std.proofs.Common.{Bool, Err, List, Ok, Some, None, [], refl, subst, sym, ℕ}
+use Rattle.std.proofs.Common.{Bool, Err, List, Ok, [], refl, subst, sym, ℕ}
 use Rattle.jpg_desk.specs.Pump.{AfterTaking}
 use Rattle.jpg_desk.specs.RowsRead.{IsPutInPiece, rows_reader}
 use Rattle.jpg_desk.specs.declared.rows_read.RowsRead.{RowsRead}

@@ -6,6 +6,9 @@ use Rattle.jpg_cli.proofs.tools.cjpeg_image.feed_all.Goals as goal
 pub returns-in-Err : goal.returns-in-Err
 returns-in-Err g c = λ E w start bytes h. begun_unheld h
 
+pub rest_of-requires : goal.rest_of-requires
+rest_of-requires g c = (let r = c.requires.goes in ((r.4.begun).info, r.3, r.4.read.goes.fed, (r.4.begun).goes))
+
 pub feed_rest-requires-clause-given : goal.feed_rest-requires-clause-given
 feed_rest-requires-clause-given g c =
     let r = c.requires.goes in

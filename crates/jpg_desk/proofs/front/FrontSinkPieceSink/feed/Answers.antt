@@ -1,4 +1,4 @@
-use Rattle.std.proofs.Common.{◌++◌, ◌∙◌, Bool, sym, subst, arith}
+use Rattle.std.proofs.Common.{◌++◌, ◌∙◌, Bool, subst, arith}
 use Rattle.jpg_spec.specs.Meaning.{Meaning}
 use Rattle.jpg_desk.specs.ReadFront.{TakesFront, front_reader}
 use Rattle.jpg_desk.specs.declared.front.FrontSink.{FrontSink}

@@ -1,11 +1,10 @@
-use Rattle.std.proofs.Common.{Err, ap, refl, subst, sym, ◌∙◌}
+use Rattle.std.proofs.Common.{Err, ap, subst, sym, ◌∙◌}
 use Rattle.std.specs.Box.{with_value}
 use Rattle.jpg_spec_words.specs.declared.answers.Why.{Why}
-use Rattle.jpg_file.specs.Read.File.{keeping_of}
 use Rattle.jpg_file.specs.Read.ReadFile.{HasRead, ReaderState}
 use Rattle.jpg_file.specs.declared.read.ends.End.TheVariants as ends
 use Rattle.jpg_desk.specs.Pump.{AfterInput}
-use Rattle.jpg_desk.specs.RowsRead.{KeepsReading, rows_front}
+use Rattle.jpg_desk.specs.RowsRead.{rows_front}
 use Rattle.jpg_desk.specs.declared.rows_read.RowsFront.{RowsFront}
 use Rattle.jpg_desk.proofs.RowsFront.{front_ends, front_keeps}
 use Rattle.jpg_desk.proofs.rows_read.RowsFront.at_end.Goals as goal

@@ -1,4 +1,4 @@
-use Rattle.std.proofs.Common.{Err, ap, refl, subst, sym, ◌∙◌, ◌+◌, ◌<◌, Result}
+use Rattle.std.proofs.Common.{Err, ap, refl, subst, sym, ◌∙◌, ◌<◌, Result}
 use Rattle.jpg_base.specs.declared.stop.Stop.{Stop}
 use Rattle.jpg_coefs.specs.Picture.{Picture as Coefs}
 use Rattle.jpg_file.specs.Read.ReadFile.{ReaderState}

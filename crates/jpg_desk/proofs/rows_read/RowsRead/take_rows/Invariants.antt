@@ -1,4 +1,4 @@
-use Rattle.std.specs.Prelude.{◌≡◌, List, ℕ}
+use Rattle.std.specs.Prelude.{List, ℕ}
 use Rattle.jpg_desk.specs.RowsRead.{IsPutInPiece, rows_to_give}
 use Rattle.jpg_desk.specs.declared.rows_read.RowsRead.{RowsRead}
 use Rattle.jpg_desk.proofs.rows_read.RowsRead.take_rows.Given as goal

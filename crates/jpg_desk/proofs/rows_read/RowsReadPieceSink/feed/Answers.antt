@@ -1,4 +1,3 @@
-use Rattle.std.proofs.Common.{arith}
 use Rattle.jpg_spec.specs.Meaning.{Meaning}
 use Rattle.jpg_desk.specs.RowsRead.{rows_reader}
 use Rattle.jpg_desk.specs.declared.rows_read.RowsRead.{RowsRead}
