@@ -50,3 +50,4 @@ pub mod Sampling
 pub mod EncodedViews
 pub mod RowsEncoded
 pub mod HeadsMade
+pub mod EncoderTaken

@@ -1,12 +1,10 @@
 -- What reading pieces and writing the text of their comments does, over the states of a desk.
-use Rattle.std.proofs.Common.{◌≡◌, ℕ, ◌+◌, Bool, true, false, ◌<◌, ◌≤◌, List, [], ◌++◌, length, take, Option, None, Some, Result, Ok, Err, refl, sym, ap, ◌∙◌, subst, arith, inl, inr}
-use Rattle.std.proofs.lemmas.List.{length-append, length-take}
+use Rattle.std.proofs.Common.{◌≡◌, ℕ, Bool, true, false, ◌<◌, ◌≤◌, List, [], ◌++◌, length, take, Option, None, Some, Result, Ok, Err, refl, sym, ap, ◌∙◌, subst, arith, inl, inr}
 use Rattle.std.specs.Io.KnownBytes.{Consumes, IsAtEnd}
 use Rattle.jpg_base.specs.declared.names.Name.{Name}
 use Rattle.jpg_base.specs.declared.names.Put.TheVariants as put
-use Rattle.jpg_base.specs.declared.names.Got.TheVariants as got
-use Rattle.jpg_base.specs.Desk.{DeskState, NoneFell, Rose, AppendsLast, AfterWrite, Reads}
-use Rattle.jpg_base.specs.Laws.{NoneFell-then, Consumes-then, AppendsLast-then, AppendsPart-then}
+use Rattle.jpg_base.specs.Desk.{DeskState, NoneFell, Rose, AppendsLast, AfterWrite}
+use Rattle.jpg_base.specs.Laws.{Consumes-then, AppendsLast-then, AppendsPart-then}
 use Rattle.jpg_huff.specs.Out.{OnlyWrites}
 use Rattle.jpg_spec.specs.Segments.{standard_limits}
 use Rattle.jpg_spec.specs.declared.frame.Limits.{Limits}
@@ -21,9 +19,9 @@ use Rattle.jpg_desk.specs.Reading.{rest_of}
 use Rattle.jpg_cli.specs.Tools.ReadComments.{AfterEnd, AfterTaking, EndsCopying, EndsPrinting, IsFaultText, IsPrinting, TakesPiece, print_kind}
 use Rattle.jpg_cli.specs.declared.tools.rdjpgcom.PrintSink.{PrintSink}
 use Rattle.jpg_cli.specs.Copies.{HasCopied}
-use Rattle.jpg_desk.specs.Stays.{OnlyCopies, OnlyWorks}
+use Rattle.jpg_desk.specs.Stays.{OnlyCopies}
 use Rattle.jpg_desk.proofs.Input.{none_left}
-use Rattle.jpg_desk.proofs.PiecesRead.{copies_none, copies_then, left_still, none_read, outputs_still, within_most}
+use Rattle.jpg_desk.proofs.PiecesRead.{copies_none, copies_then, left_still, none_read, outputs_still}
 use Rattle.jpg_cli.proofs.Comments.CommentsRead.{part_of_part, taken_part, text_so_far}
 use Rattle.jpg_huff.proofs.Emitted.{append_last-nil}
 

@@ -1,5 +1,5 @@
 -- The pieces of an input into which a comment is inserted, over the states of a desk.
-use Rattle.std.proofs.Common.{◌≡◌, ℕ, ◌<◌, ◌≤◌, ◌==◌, Bool, true, false, List, [], ◌++◌, length, Option, None, Some, Result, Ok, Err, refl, sym, ap, ◌∙◌, subst, arith, inl, inr}
+use Rattle.std.proofs.Common.{◌≡◌, ℕ, ◌<◌, ◌==◌, Bool, true, false, List, [], ◌++◌, length, Option, None, Some, Result, Ok, Err, refl, sym, ap, ◌∙◌, subst, arith, inl, inr}
 use Rattle.jpg_base.specs.declared.names.Put.{Put}
 use Rattle.jpg_base.specs.declared.names.Put.TheVariants as put
 use Rattle.jpg_base.specs.Desk.{Creates, DeskState}
@@ -13,15 +13,15 @@ use Rattle.jpg_comments.specs.WriteInserted.{HasInserted}
 use Rattle.jpg_comments.specs.declared.insert.Insert.{Insert}
 use Rattle.jpg_desk.specs.Pump.{AfterFeed, BeforeEnd, BeforePiece, EndsAll, IsFed, ended_as}
 use Rattle.jpg_desk.specs.Reading.{rest_of}
-use Rattle.jpg_desk.specs.Stays.{OnlyReads, OnlyWorks}
+use Rattle.jpg_desk.specs.Stays.{OnlyWorks}
 use Rattle.jpg_desk.proofs.Input.{none_left}
 use Rattle.jpg_desk.proofs.PiecesRead.{reads_none, works_then}
 use Rattle.jpg_dct.proofs.TableFronts.{none_of}
-use Rattle.jpg_cli.specs.Tools.CommentInserted.{EndsInsertion, HoldsFor, Inserted, IsBegunFor, IsInserting, IsReading, IsTaskOf, Task, insert_kind}
+use Rattle.jpg_cli.specs.Tools.CommentInserted.{EndsInsertion, HoldsFor, Inserted, IsInserting, IsReading, IsTaskOf, Task, insert_kind}
 use Rattle.jpg_cli.specs.Tools.InsertComment.{AfterAll, AfterFed, InsertsPiece, IsAtHead, WritesRest}
 use Rattle.jpg_cli.specs.declared.tools.wrjpgcom.InsertSink.{InsertSink}
 use Rattle.jpg_cli.proofs.Comments.CommentInserted.{AfterDue, ended_before, first_due, first_uncreated, later_due, reading_more, rest_ends, rest_unread, writing_still}
-use Rattle.jpg_cli.proofs.Comments.HeadTaken.{Nothing, ended, fed_at_head, fed_text, head_ends, head_unread, head_whole, nothing_there}
+use Rattle.jpg_cli.proofs.Comments.HeadTaken.{ended, fed_at_head, fed_text, head_ends, head_unread, head_whole, nothing_there}
 use Rattle.jpg_cli.proofs.Comments.InsertedCopied.{fed_short}
 
 -- no text is pending

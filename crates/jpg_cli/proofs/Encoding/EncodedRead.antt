@@ -1,5 +1,5 @@
 -- An image read and encoded, over the states of a desk.
-use Rattle.std.proofs.Common.{◌≡◌, ℕ, Bool, true, false, List, [], Option, None, Some, Result, Ok, Err, refl, sym, ap, ◌∙◌, subst, arith, inl, inr}
+use Rattle.std.proofs.Common.{◌≡◌, ℕ, Bool, false, List, [], Option, None, Some, Result, Ok, Err, sym, ap, ◌∙◌, subst, arith, inl, inr}
 use Rattle.std.specs.Prelude.{IfErr, IfOk, IfSome}
 use Rattle.std.proofs.lemmas.List.{take_all}
 use Rattle.jpg_base.specs.declared.names.Name.{Name}
@@ -40,7 +40,7 @@ use Rattle.jpg_desk.specs.ImageTaken.{GoesOn as HasFedOpen, HoldsSome, IsSourceF
 use Rattle.jpg_desk.specs.Judging.{NoValueTaken, TakesPieces}
 use Rattle.jpg_desk.specs.ReadImage.{IsImageRead, image_judging}
 use Rattle.jpg_desk.specs.Reading.{rest_of}
-use Rattle.jpg_cli.specs.Tools.SamplesFed.{AfterData, AfterSamples, AreGivenFrom, Begins, BeginsSource, CanGoOn, FinishesPlanes, GivesData, GivesRest, GoesOnFrom, GoesOnRows, HasDataOf, HasGivenRest, TellsNumbers, is_targa_rest}
+use Rattle.jpg_cli.specs.Tools.SamplesFed.{AfterData, AfterSamples, AreGivenFrom, Begins, BeginsSource, CanGoOn, FinishesPlanes, GivesData, GivesRest, GoesOnFrom, GoesOnRows, HasDataOf, HasGivenRest, TellsNumbers}
 use Rattle.jpg_cli.specs.declared.tools.cjpeg_image.Rest.{Rest}
 use Rattle.jpg_cli.specs.declared.tools.cjpeg_image.Rest.TheVariants as gives
 use Rattle.jpg_desk.specs.Stays.{OnlyReads}

@@ -1,9 +1,7 @@
 -- Samples given to an encoder while they are read.
-use Rattle.std.proofs.Common.{◌≡◌, ℕ, zero, suc, ◌+◌, ◌<◌, ◌≤◌, min, Bool, true, false, List, [], ◌∷◌, ◌++◌, length, take, get_or, Option, None, Some, Result, Ok, Err, refl, sym, ap, ◌∙◌, subst, arith, ⊎_elim}
+use Rattle.std.proofs.Common.{◌≡◌, ℕ, ◌+◌, ◌<◌, ◌≤◌, min, Bool, true, false, List, [], ◌++◌, length, take, Option, None, Some, Result, Ok, Err, sym, ap, ◌∙◌, subst, arith, ⊎_elim}
 use Rattle.std.proofs.lemmas.Bool.{cases_lt}
-use Rattle.std.proofs.lemmas.List.{append-nil, length-append, length-take, length-take-le, take_all, take_min}
-use Rattle.jpg_base.specs.declared.stop.Stop.{Stop}
-use Rattle.jpg_base.specs.declared.stop.Stop.TheVariants as stop
+use Rattle.std.proofs.lemmas.List.{append-nil, length-append, length-take, length-take-le, take_all}
 use Rattle.jpg_base.specs.Desk.{DeskState}
 use Rattle.jpg_spec.specs.Segments.{standard_limits}
 use Rattle.jpg_spec.specs.declared.fault.Fault.TheVariants.{ImageShort, InputTooLong}
@@ -14,11 +12,11 @@ use Rattle.jpg_spec_words.specs.declared.answers.Why.{Why}
 use Rattle.jpg_spec_words.specs.declared.answers.Why.TheVariants as why
 use Rattle.jpg_color.specs.Encode.{image_of}
 use Rattle.jpg_color.specs.EncodeRows.{RowScan}
+use Rattle.jpg_color.proofs.EncoderTaken.{count_of, numbers_are, take_rest}
 use Rattle.jpg_color.specs.ImageEncoder.{HasTaken, encoder_left}
 use Rattle.jpg_color.specs.declared.encode.Encoding.{Encoding as Asked}
 use Rattle.jpg_color.specs.declared.encode.image_encoder.ImageEncoder.{ImageEncoder}
-use Rattle.jpg_color.specs.declared.encode.image_encoder.ImageEncoder.TheVariants as encoder
-use Rattle.jpg_pnm_bmp.specs.Made.{AreBytes, IsRightImage}
+use Rattle.jpg_pnm_bmp.specs.Made.{IsRightImage}
 use Rattle.jpg_pnm_bmp.specs.PlainSamples.{GoesOnPlain, HasFedSamples}
 use Rattle.jpg_pnm_bmp.proofs.PlainSamples.{goes_on_plain}
 use Rattle.jpg_pnm_bmp.specs.Samples.{Appends}
@@ -26,7 +24,7 @@ use Rattle.jpg_desk.specs.ImageSamples.{AfterEnd, AfterPiece, EndsSamples, Gives
 use Rattle.jpg_desk.specs.declared.image_samples.ImageSamples.{ImageSamples}
 use Rattle.jpg_desk.proofs.SampleAnswers.{samples_open}
 use Rattle.jpg_desk.specs.ImageFile.{HasFaultIn, HasImageIn, IsOpenIn}
-use Rattle.jpg_desk.specs.Pump.{AfterInput, AfterTaking, EndsAll, IsFed, ReadsInput, TakesEnd, TakesPiece, of_reader, why_stopped}
+use Rattle.jpg_desk.specs.Pump.{AfterInput, AfterTaking, EndsAll, IsFed, ReadsInput, TakesEnd, TakesPiece, of_reader}
 use Rattle.jpg_desk.specs.Judging.{NoValueTaken, TakesPieces}
 use Rattle.jpg_desk.specs.ReadImage.{IsFaultRead, IsImageRead, IsShortImageRead, image_judging}
 use Rattle.jpg_desk.specs.Reading.{rest_of}
@@ -38,30 +36,7 @@ use Rattle.jpg_cli.specs.declared.tools.cjpeg_image.Rest.{Rest}
 use Rattle.jpg_cli.specs.declared.tools.cjpeg_image.Rest.TheVariants as gives
 use Rattle.jpg_cli.specs.declared.tools.cjpeg_image.SamplesSink.{SamplesSink}
 
--- HOW MANY ARE LEFT, and of which image
-
-count_of : (w : Option RowScan) (info : ImageInfo) (a : Asked) (given : List ℕ) (s : ImageEncoder) → HasTaken w info a given s → length given + encoder_left s ≡ sample_count info
-count_of None info a given (encoder.Planes s) h = (h.has).count
-count_of None info a given (encoder.Rows r) h = absurd h
-count_of (Some w) info a given (encoder.Planes s) h = absurd h
-count_of (Some w) info a given (encoder.Rows r) h = (h.0.sampled.has).count
-
-abbrev numbers_of : ImageEncoder → ImageInfo
-numbers_of (encoder.Planes s) = s.info
-numbers_of (encoder.Rows r) = r.sampler.info
-
-numbers_are : (w : Option RowScan) (info : ImageInfo) (a : Asked) (given : List ℕ) (s : ImageEncoder) → HasTaken w info a given s → numbers_of s ≡ info
-numbers_are None info a given (encoder.Planes s) h = h.numbers
-numbers_are None info a given (encoder.Rows r) h = absurd h
-numbers_are (Some w) info a given (encoder.Planes s) h = absurd h
-numbers_are (Some w) info a given (encoder.Rows r) h = h.0.sampled.numbers
-
 -- FROM THE BYTES SO FAR
-
-take_rest : (n left : ℕ) (all more : List ℕ) → length (take n all) + left ≡ n → take n all ++ take (min left (length more)) more ≡ take n (all ++ more)
-take_rest zero left all more h = (let none : left ≡ 0 = omega (arith, h) in take_min left more ∙ ap (λ k. take k more) none)
-take_rest (suc n) left [] more h = (let all : left ≡ suc n = omega (arith, h) in take_min left more ∙ ap (λ k. take k more) all)
-take_rest (suc n) left (x ∷ all) more h = ap (λ (l : List ℕ). x ∷ l) (take_rest n left all more (omega (arith, h)))
 
 -- no prefix is complete or has a fault
 open_yet : (targa : Bool) (info : ImageInfo) (bytes given : List ℕ) (r : Rest) → HasGivenRest targa info bytes given r → IsOpenIn targa bytes

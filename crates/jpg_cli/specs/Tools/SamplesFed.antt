@@ -1,6 +1,6 @@
 -- THE SAMPLES of PNM, and of Targa whose rows come from the top, given to an encoder while they are read, from a desk whose
 -- input is open: as planes, or as the data of a scan.
-use Rattle.std.specs.Prelude.{◌≡◌, ◌⊎◌, ℕ, ◌<◌, ◌≤◌, min, Bool, true, false, not, ◌||◌, ◌==◌, List, [], length, take, Option, None, Some, Result, Ok, Err}
+use Rattle.std.specs.Prelude.{◌≡◌, ◌⊎◌, ℕ, ◌<◌, min, Bool, true, false, not, ◌||◌, ◌==◌, List, [], length, take, Option, None, Some, Result, Ok, Err}
 use Rattle.std.specs.Io.KnownBytes.{Consumes}
 use Rattle.jpg_base.specs.Desk.{DeskState}
 use Rattle.jpg_spec.specs.Geometry.{Frame, component_at}

@@ -1,7 +1,7 @@
 use Rattle.std.proofs.Common.{◌+◌, ℕ, List, [], length, refl, subst, arith}
 use Rattle.std.proofs.lemmas.List.{length-append}
 use Rattle.jpg_desk.proofs.SampleAnswers.{samples_fed, samples_unread}
-use Rattle.jpg_cli.specs.Tools.SamplesFed.{TakesSome, samples_reader}
+use Rattle.jpg_cli.specs.Tools.SamplesFed.{TakesSome}
 use Rattle.jpg_cli.specs.declared.tools.cjpeg_image.Rest.TheVariants as gives
 use Rattle.jpg_cli.proofs.Encoding.SamplesFed.{has, held_by, rest_stopped, rest_taken, samples_lost, samples_taken}
 use Rattle.jpg_cli.proofs.tools.cjpeg_image.take_samples.Goals as goal

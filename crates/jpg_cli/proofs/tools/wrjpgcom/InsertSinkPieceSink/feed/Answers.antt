@@ -1,4 +1,4 @@
-use Rattle.std.proofs.Common.{◌≡◌, ◌<◌, ◌∙◌, length, true, refl, arith}
+use Rattle.std.proofs.Common.{◌<◌, ◌∙◌, length, true, refl, arith}
 use Rattle.jpg_cli.specs.declared.tools.wrjpgcom.InsertSink.{InsertSink}
 use Rattle.jpg_desk.proofs.PiecesRead.{copies_none, works_then}
 use Rattle.jpg_cli.proofs.Comments.CommentsCopied.{writes_copy}
