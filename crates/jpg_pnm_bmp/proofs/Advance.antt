@@ -1,20 +1,21 @@
 -- What reading some bytes leads to, by the state before them.
-use Rattle.std.proofs.Common.{◌≡◌, ℕ, ◌+◌, ◌*◌, ◌≤◌, ◌==◌, Bool, true, false, cond, List, [], ◌∷◌, ◌++◌, length, take, get_or, refl, sym, ap, ◌∙◌, subst, arith, ◌||◌, None, Some}
-use Rattle.std.proofs.lemmas.List.{length-append}
+use Rattle.std.proofs.Common.{◌≡◌, ℕ, suc, ◌+◌, ◌-◌, ◌*◌, ◌<◌, ◌≤◌, ◌==◌, Bool, true, false, cond, List, [], ◌∷◌, ◌++◌, length, take, drop, get_or, refl, sym, ap, ◌∙◌, subst, arith, ◌||◌, None, Some}
+use Rattle.std.proofs.lemmas.List.{length-append, take_more}
 use Rattle.std.proofs.Math.Logic.{∥∥₁_map}
-use Rattle.jpg_spec.specs.NumberTexts.{is_digit}
+use Rattle.jpg_spec.specs.NumberTexts.{is_digit, in_comment}
+use Rattle.jpg_spec_image.proofs.ImageRuns.{digit_no_gap, run_join}
 use Rattle.jpg_spec.specs.declared.fault.Fault.TheVariants.{ImageText}
 use Rattle.jpg_spec_image.specs.PnmText.{is_plain, is_pnm_space, begins_gap, is_number_due, number_fault, may_follow, ended_fault}
 use Rattle.jpg_spec_image.specs.BmpFile.{width, bmp_depth, used}
 use Rattle.jpg_spec_image.specs.ImageFaults.{ImageHead, pnm, bmp, image_of, IsBodyFront}
-use Rattle.jpg_spec_image.specs.ImageSteps.{ImageState, in_number, in_body, whole, number_byte, after_number, step, run}
-use Rattle.jpg_spec_image.specs.ImageReading.{RepresentsImage, InBody}
+use Rattle.jpg_spec_image.specs.ImageSteps.{ImageState, in_number, in_gap, in_body, whole, failed, fault_or, capped, gap_byte, number_byte, after_number, step, run}
+use Rattle.jpg_spec_image.specs.ImageReading.{RepresentsImage, InBody, InGap}
 use Rattle.jpg_spec_image.proofs.ImageBodyRuns.{ThreeNumbers, last_three, bmp_sides, side_some}
 use Rattle.jpg_spec_image.proofs.ImageStands.{stands}
 use Rattle.jpg_spec_image.proofs.ImageTextRuns.{step_number}
 use Rattle.jpg_pnm_bmp.specs.Known.{list_of}
 use Rattle.jpg_pnm_bmp.specs.Pieces.{IsGoing}
-use Rattle.jpg_pnm_bmp.specs.Reader.{standing, image_view, pixels_kind, AreBefore, AreGivenAt, AreGivenIn, IsGoingOn, IsReached, Reaches, CanStretch, Stretches}
+use Rattle.jpg_pnm_bmp.specs.Reader.{standing, image_view, pixels_kind, AreBefore, AreGivenAt, AreGivenIn, IsGoingOn, IsReached, ReadsDigits, Reaches, CanStretch, Stretches}
 use Rattle.jpg_pnm_bmp.specs.declared.read.numbers.Numbers.{Numbers}
 use Rattle.jpg_pnm_bmp.specs.declared.read.numbers.Numbers.TheVariants.{Nothing, Width, Sides, All}
 use Rattle.jpg_pnm_bmp.specs.declared.read.piece.Answer.{Answer}
@@ -110,3 +111,43 @@ bmp_can head palette bytes body i =
     let s = bmp_sides head i.header.header.right in
     let u = used_some head (side_some (width head) s.wide) in
     record { right = i.right; room = i.room; lined = omega arith; some = omega (arith, u) }
+
+-- DIGITS of a number
+digit_goes : (format : ℕ) (numbers : List ℕ) (n b : ℕ) → is_digit b ≡ true → run (in_number format numbers n) (b ∷ []) ≡ in_number format numbers (capped (10 * n + (b - 48)))
+unfolding run
+digit_goes format numbers n b e = ap (λ v. cond v (in_number format numbers (capped (10 * n + (b - 48)))) (fault_or (ended_fault format numbers n b) (after_number format (numbers ++ n ∷ []) b))) e
+
+pub no_digits : (n : ℕ) → ReadsDigits n [] n
+unfolding run
+no_digits n = λ format numbers. refl
+
+pub more_digits : (n number at b : ℕ) (piece : List ℕ) → at < length piece → b ≡ get_or piece at 0 → is_digit b ≡ true → ReadsDigits n (take at piece) number → ReadsDigits n (take (at + 1) piece) (capped (10 * number + (b - 48)))
+more_digits n number at b piece less is digit h format numbers =
+    let s = in_number format numbers n in
+    ap (run s) (take_more piece at 0 less)
+    ∙ run_join s (take at piece) (get_or piece at 0 ∷ [])
+    ∙ ap (λ t. run t (get_or piece at 0 ∷ [])) (h format numbers)
+    ∙ ap (λ x. run (in_number format numbers number) (x ∷ [])) (sym is)
+    ∙ digit_goes format numbers number b digit
+
+-- and the byte after them
+pub after_digits : (n number at : ℕ) (piece : List ℕ) (format : ℕ) (numbers : List ℕ) → at < length piece → ReadsDigits n (take at piece) number → run (in_number format numbers n) (take (at + 1) piece) ≡ number_byte format numbers number (get_or piece at 0)
+unfolding run
+after_digits n number at piece format numbers less h =
+    let s = in_number format numbers n in
+    ap (run s) (take_more piece at 0 less) ∙ run_join s (take at piece) (get_or piece at 0 ∷ []) ∙ ap (λ t. run t (get_or piece at 0 ∷ [])) (h format numbers)
+
+-- a digit begins one after a gap
+pub begins_number : (format : ℕ) (numbers : List ℕ) (some commented : Bool) (count : ℕ) (piece : List ℕ) → 1 ≤ length piece → some ≡ true → commented ≡ false → is_digit (get_or piece 0 0) ≡ true
+    → run (in_gap format numbers some commented) (take (count + 1) piece) ≡ run (in_number format numbers (get_or piece 0 0 - 48)) (take count (drop 1 piece))
+unfolding run
+begins_number format numbers some commented count [] long s n digit = absurd (omega (arith, long))
+begins_number format numbers some commented count (b ∷ piece) long s n digit =
+    ap (λ k. run (in_gap format numbers some commented) (take k (b ∷ piece))) (let e : count + 1 ≡ suc count = omega arith in e)
+    ∙ ap (λ t. run t (take count piece)) (ap (λ v. gap_byte format numbers v commented b) s ∙ ap (λ v. gap_byte format numbers true v b) n ∙ by (digit_no_gap b digit) digit)
+  where
+    by : begins_gap b ≡ false → is_digit b ≡ true → gap_byte format numbers true false b ≡ in_number format numbers (b - 48)
+    by g d = ap (λ v. cond v (in_gap format numbers true (in_comment false b)) (cond (is_digit b) (in_number format numbers (b - 48)) (failed ImageText))) g ∙ ap (λ v. cond v (in_number format numbers (b - 48)) (failed ImageText)) d
+
+pub gap_due : (format : ℕ) (numbers : List ℕ) (some commented : Bool) → IsReached (in_gap format numbers some commented) → is_number_due format numbers ≡ true
+gap_due format numbers some commented (bytes, e) = (let i : InGap bytes format numbers some commented = subst (RepresentsImage bytes) e (stands bytes) in i.behind.due)

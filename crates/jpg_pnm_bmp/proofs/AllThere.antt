@@ -14,7 +14,7 @@ use Rattle.jpg_spec_image.specs.PnmText.{is_plain, pnm_info, is_number_due, numb
 use Rattle.jpg_spec_image.specs.BmpFile.{bmp_depth, bmp_line, height, line, palette_entries, used}
 use Rattle.jpg_spec_image.specs.ImageFaults.{ImageHead, pnm, bmp, body_of, image_of, IsBodyFront}
 use Rattle.jpg_spec_image.specs.ImageSteps.{ImageState, in_gap, in_number, in_bmp_front, in_body, whole, after_number, plain_image}
-use Rattle.jpg_spec_image.specs.ImageReading.{RepresentsImage, InBody, InFront}
+use Rattle.jpg_spec_image.specs.ImageReading.{RepresentsImage, InBody, InFront, InGap}
 use Rattle.jpg_spec_image.proofs.ImageBodyRuns.{ThreeNumbers, last_three, bmp_sides}
 use Rattle.jpg_spec_image.proofs.ImageTextRuns.{first_right}
 use Rattle.jpg_spec_image.proofs.ImageStands.{stands}
@@ -112,6 +112,9 @@ scale_reached format numbers samples n (bytes, e) = by bytes (subst (RepresentsI
   where
     by : (bytes : List ℕ) → RepresentsImage bytes (in_number format (list_of numbers samples) n) → HasScale numbers
     by bytes (m, r, c) = scale_right format numbers samples r.before.right
+
+pub gap_scale : (format : ℕ) (numbers : Numbers) (samples : List ℕ) (some commented : Bool) → IsReached (in_gap format (list_of numbers samples) some commented) → HasScale numbers
+gap_scale format numbers samples some commented (bytes, e) = (let i : InGap bytes format (list_of numbers samples) some commented = subst (RepresentsImage bytes) e (stands bytes) in scale_right format numbers samples i.behind.right)
 
 numbers_all : (numbers : Numbers) → ThreeNumbers (list_of numbers []) → AreAllNumbers numbers
 numbers_all Nothing t = let e = t.all in let f : ⊥ = cc in absurd f

@@ -184,6 +184,21 @@ abbrev pub LeadsNumber : Work → ℕ → ℕ → Answer → Work → Type 0
 LeadsNumber old n byte a new =
     (front : List ℕ) → length front ≡ old.before → AreGivenAt old.numbers front → is_number_due old.format (numbers_list front old) ≡ true → Reaches front (number_byte old.format (numbers_list front old) n byte) a new
 
+-- of its further digits, after which it is another number
+abbrev pub ReadsDigits : ℕ → List ℕ → ℕ → Type 0
+ReadsDigits n digits number = (format : ℕ) (numbers : List ℕ) → run (in_number format numbers n) digits ≡ in_number format numbers number
+
+-- of its further bytes, and of those of a gap and of a number that it begins
+abbrev pub LeadsNumberBytes : Work → ℕ → List ℕ → Moved → Work → Type 0
+LeadsNumberBytes old n piece m new =
+    (front : List ℕ) → length front ≡ old.before → AreGivenAt old.numbers front → is_number_due old.format (numbers_list front old) ≡ true
+    → Reaches front (run (in_number old.format (numbers_list front old) n) (take m.used piece)) m.answer new
+
+abbrev pub LeadsGapBytes : Work → Bool → Bool → List ℕ → Moved → Work → Type 0
+LeadsGapBytes old some commented piece m new =
+    (front : List ℕ) → length front ≡ old.before → AreGivenAt old.numbers front → is_number_due old.format (numbers_list front old) ≡ true
+    → Reaches front (run (in_gap old.format (numbers_list front old) some commented) (take m.used piece)) m.answer new
+
 -- and of one after it
 abbrev pub LeadsAfter : Work → ℕ → ℕ → Answer → Work → Type 0
 LeadsAfter old n byte a new =

@@ -1,14 +1,17 @@
 //! The numbers of a PNM text that are known so far, and what is wrong with a further one.
-ghost use Rattle.std.specs.Prelude.{◌≡◌, ◌≤◌, ◌+◌, ◌-◌, ◌++◌, ◌∷◌, ◌||◌, [], ℕ, List, length, codes, if◌then◌else◌, IfSome, IfNone};
+ghost use Rattle.std.specs.Prelude.{◌≡◌, ◌≤◌, ◌+◌, ◌-◌, ◌*◌, ◌++◌, ◌∷◌, ◌||◌, [], ℕ, List, true, length, take, codes, if◌then◌else◌, IfSome, IfNone};
 ghost use Rattle.jpg_spec.specs.Lists.{is_among};
+ghost use Rattle.jpg_spec.specs.NumberTexts.{is_digit};
+ghost use Rattle.jpg_spec_image.specs.ImageSteps.{capped};
 ghost use Rattle.jpg_spec_image.specs.Images.{is_side, sample_count, are_few_pixels};
 ghost use Rattle.jpg_spec_image.specs.PnmText.{is_plain, is_read, is_left_out, is_pnm_space, begins_gap, pnm_info, is_number_due, number_fault};
 ghost use Rattle.jpg_pnm_bmp.specs.Known.{list_of};
 ghost use Rattle.jpg_pnm_bmp.specs.PlainSamples.{unscaled_info};
-ghost use Rattle.jpg_pnm_bmp.specs.Reader.{AreAllNumbers};
+ghost use Rattle.jpg_pnm_bmp.specs.Reader.{AreAllNumbers, ReadsDigits};
 
 use jpg_spec::Fault;
 use jpg_spec_image::{ImageInfo, ImageKind};
+use jpg_texts::is_digit;
 
 // None, the width, both sides, or also the greatest sample.
 #[derive(Clone, Copy)]
@@ -78,6 +81,32 @@ pub(crate) fn sample_count(format: u8, width: u16, height: u16) -> u64
         3 * u64::from(width)
     };
     u64::from(height) * row
+}
+
+// The number with one more digit, up to a bound.
+pub(crate) fn with_digit(n: u32, digit: u8) -> u32
+    requires { is_digit digit ≡ true }
+    ensures { result ≡ capped (10 * n + (digit - 48)) }
+{
+    (10 * n.min(100_000) + u32::from(digit - b'0')).min(100_000)
+}
+
+// The number with the digits at the start of a piece, and how many those are.
+pub(crate) fn with_digits(n: u32, piece: &[u8]) -> (u32, usize)
+    ensures inside { result.1 ≤ length piece.now }
+    ensures read { ReadsDigits n (take result.1 piece.now) result.0 }
+{
+    let mut number = n;
+    let mut at: usize = 0;
+    while at < piece.len() {
+        let byte = piece[at];
+        if !is_digit(byte) {
+            return (number, at);
+        }
+        number = with_digit(number, byte);
+        at += 1;
+    }
+    (number, at)
 }
 
 // What is wrong with a number that follows those that are known, and any samples.

@@ -5,7 +5,7 @@ ghost use Rattle.jpg_spec_image.specs.BmpFile.{palette_bytes};
 ghost use Rattle.jpg_spec_image.specs.ImageFaults.{ImageHead, body_of};
 ghost use Rattle.jpg_spec_image.specs.ImageSteps.{at_start, first_byte, second_byte, gap_byte, head_so_far, bmp_front, front_byte};
 ghost use Rattle.jpg_pnm_bmp.specs.Known.{list_of};
-ghost use Rattle.jpg_pnm_bmp.specs.Reader.{standing, numbers_list, IsEnd, IsGoingOn, HasAll, HasScale, KeepsStage, Stays, Reaches, LeadsNumber, LeadsAfter, LeadsOn, LeadsToEnd, IsRightNext, IsDueAfter, AppendsNumber, AddsNumber, HoldsBodyPart, StretchesBy, EndsNumber, EndsRight, EndsLast};
+ghost use Rattle.jpg_pnm_bmp.specs.Reader.{standing, numbers_list, IsEnd, IsGoingOn, HasAll, HasScale, KeepsStage, Stays, Reaches, LeadsNumber, LeadsNumberBytes, LeadsGapBytes, LeadsAfter, LeadsOn, LeadsToEnd, IsRightNext, IsDueAfter, AppendsNumber, AddsNumber, HoldsBodyPart, StretchesBy, EndsNumber, EndsRight, EndsLast};
 ghost use Rattle.jpg_pnm_bmp.specs.Shapes.{body_view};
 ghost use Rattle.jpg_pnm_bmp.specs.PlainSamples.{unscaled_view};
 ghost use Rattle.jpg_pnm_bmp.specs.PnmSamples.{CanGiveNow, CanNotGive};
@@ -14,7 +14,7 @@ use crate::read::bmp::{bmp_offset, bmp_shape, head_fault, palette_bytes};
 use crate::read::body::{Shape, part_long, pnm_shape, wrong_in};
 use crate::read::numbers::{
     Numbers, begins_gap, is_due_after, is_left_out, is_plain, is_read, known_info, may_follow,
-    number_fault, unscaled_info,
+    number_fault, unscaled_info, with_digit, with_digits,
 };
 use crate::read::piece::{Answer, Moved, one_byte};
 use crate::read::pnm_samples::ENOUGH;
@@ -180,7 +180,7 @@ impl Work {
         ensures stays { Stays self.old self.new }
     {
         if is_digit(byte) {
-            self.stage = Stage::Number((10 * n.min(100_000) + u32::from(byte - b'0')).min(100_000));
+            self.stage = Stage::Number(with_digit(n, byte));
             return Answer::More;
         }
         let due = is_due_after(self.format, self.numbers, self.before, self.held());
@@ -190,6 +190,52 @@ impl Work {
         match number_fault(self.numbers, n) {
             Some(fault) => Answer::Fault(fault),
             None => self.number_ended(n, due, byte),
+        }
+    }
+
+    // Takes a byte of a gap, and, if it begins a number, the bytes of that and the one after it.
+    #[inline(always)]
+    fn gap_bytes(&mut self, some: bool, commented: bool, piece: &[u8]) -> Moved
+        requires some { 1 ≤ length piece.now }
+        requires scale { HasScale self.old.numbers }
+        ensures some { 1 ≤ result.used }
+        ensures within { result.used ≤ length piece.now }
+        ensures led { LeadsGapBytes self.old some commented piece.now result self.new }
+        ensures all { HasAll result.answer self.new }
+        ensures stays { Stays self.old self.new }
+    {
+        let byte = piece[0];
+        if some && !commented && is_digit(byte) {
+            let rest = self.number_bytes(u32::from(byte - b'0'), &piece[1..]);
+            return Moved {
+                used: rest.used + 1,
+                answer: rest.answer,
+            };
+        }
+        one_byte(self.gap_byte(some, commented, byte))
+    }
+
+    // Takes the digits of a number, and the byte after them.
+    fn number_bytes(&mut self, n: u32, piece: &[u8]) -> Moved
+        requires { HasScale self.old.numbers }
+        ensures within { result.used ≤ length piece.now }
+        ensures some { 1 ≤ length piece.now → 1 ≤ result.used }
+        ensures led { LeadsNumberBytes self.old n piece.now result self.new }
+        ensures all { HasAll result.answer self.new }
+        ensures stays { Stays self.old self.new }
+    {
+        let (number, long) = with_digits(n, piece);
+        if long == piece.len() {
+            self.stage = Stage::Number(number);
+            return Moved {
+                used: long,
+                answer: Answer::More,
+            };
+        }
+        let answer = self.number_byte(number, piece[long]);
+        Moved {
+            used: long + 1,
+            answer,
         }
     }
 
@@ -415,8 +461,8 @@ impl Work {
         match self.stage {
             Stage::Start => one_byte(self.first_byte(byte)),
             Stage::First(first) => one_byte(self.second_byte(first, byte)),
-            Stage::Gap { some, commented } => one_byte(self.gap_byte(some, commented, byte)),
-            Stage::Number(n) => one_byte(self.number_byte(n, byte)),
+            Stage::Gap { some, commented } => self.gap_bytes(some, commented, piece),
+            Stage::Number(n) => self.number_bytes(n, piece),
             Stage::BmpHead => one_byte(self.head_byte(byte)),
             Stage::BmpFront(passed) => one_byte(self.front_byte(passed, byte)),
             Stage::PnmBody => {

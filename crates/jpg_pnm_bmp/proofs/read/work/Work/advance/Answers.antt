@@ -9,8 +9,8 @@ use Rattle.jpg_pnm_bmp.specs.Reader.{standing, standing_of, image_by, numbers_li
 use Rattle.jpg_pnm_bmp.specs.Shapes.{body_view}
 use Rattle.jpg_pnm_bmp.specs.declared.read.piece.Answer.{Answer}
 use Rattle.jpg_pnm_bmp.specs.declared.read.work.Work.{Work}
-use Rattle.jpg_pnm_bmp.proofs.Advance.{one_led, due_reached, body_reached, stretch_led, pnm_numbers, pnm_can, bmp_can}
-use Rattle.jpg_pnm_bmp.proofs.AllThere.{all_bmp, all_pnm, all_prop, body_head, body_high, head_reached, numbers_reached, scale_prop, scale_reached}
+use Rattle.jpg_pnm_bmp.proofs.Advance.{one_led, due_reached, gap_due, body_reached, stretch_led, pnm_numbers, pnm_can, bmp_can}
+use Rattle.jpg_pnm_bmp.proofs.AllThere.{all_bmp, all_pnm, all_prop, body_head, body_high, gap_scale, head_reached, numbers_reached, scale_prop, scale_reached}
 use Rattle.jpg_pnm_bmp.proofs.ShownNone.{short_reached}
 use Rattle.jpg_pnm_bmp.proofs.read.work.Work.advance.Goals as goal
 
@@ -35,16 +35,18 @@ returns-in-First-clause-led c = λ front before r.
 pub returns-in-Gap-clause-led : goal.returns-in-Gap-clause-led
 returns-in-Gap-clause-led c = λ front before r.
     let s = c.args.self.now in
-    one_led front (standing front s) c.args.piece.now c.gap_byte.result c.gap_byte.new.self c.one_byte-in-Gap.result c.one_byte-in-Gap.ensures c.requires.some
-    (subst (λ st. Reaches front (step (standing_of front st s) (get_or c.args.piece.now 0 0)) c.gap_byte.result c.gap_byte.new.self) (sym c.in-Gap.is) (c.gap_byte.ensures.led front))
+    let m = c.gap_bytes in
+    let known = subst (λ st. AreGivenIn st s.numbers front) c.in-Gap.is before.known in
+    let due = gap_due s.format (numbers_list front s) c.in-Gap.some c.in-Gap.commented (subst IsReached (ap (λ st. standing_of front st s) c.in-Gap.is) r) in
+    subst (λ st. Reaches front (run (standing_of front st s) (take m.result.used c.args.piece.now)) m.result.answer m.new.self) (sym c.in-Gap.is) (m.ensures.led front before.long known due)
 
 pub returns-in-Number-clause-led : goal.returns-in-Number-clause-led
 returns-in-Number-clause-led c = λ front before r.
     let s = c.args.self.now in
+    let m = c.number_bytes in
     let known = subst (λ st. AreGivenIn st s.numbers front) c.in-Number.is before.known in
     let due = due_reached s.format (numbers_list front s) c.in-Number.n (subst IsReached (ap (λ st. standing_of front st s) c.in-Number.is) r) in
-    one_led front (standing front s) c.args.piece.now c.number_byte.result c.number_byte.new.self c.one_byte-in-Number.result c.one_byte-in-Number.ensures c.requires.some
-    (subst (λ st. Reaches front (step (standing_of front st s) (get_or c.args.piece.now 0 0)) c.number_byte.result c.number_byte.new.self) (sym c.in-Number.is) (c.number_byte.ensures.led front before.long known due))
+    subst (λ st. Reaches front (run (standing_of front st s) (take m.result.used c.args.piece.now)) m.result.answer m.new.self) (sym c.in-Number.is) (m.ensures.led front before.long known due)
 
 pub returns-in-BmpHead-clause-led : goal.returns-in-BmpHead-clause-led
 returns-in-BmpHead-clause-led c = λ front before r.
@@ -85,8 +87,13 @@ returns-in-BmpBody-clause-led c = λ front before r.
     (subst (λ t. Reaches [] (run t (take c.stretch-in-BmpBody.result.used c.args.piece.now)) c.stretch-in-BmpBody.result.answer c.stretch-in-BmpBody.new.self) (sym (ap (λ st. standing_of [] st s) c.in-BmpBody.is))
     (stretch_led [] s head _ c.stretch-in-BmpBody.result.answer c.stretch-in-BmpBody.new.self (λ x. ap (λ st. standing_of [] st (record s { samples = x })) c.in-BmpBody.is) (λ x. ap (λ st. image_by [] st (record s { samples = x })) c.in-BmpBody.is) led))
 
-pub number_byte-requires : goal.number_byte-requires
-number_byte-requires c =
+pub gap_bytes-requires-clause-scale : goal.gap_bytes-requires-clause-scale
+gap_bytes-requires-clause-scale c =
+    let s = c.args.self.now in
+    ∥∥₁_elim c.requires.going (scale_prop s.numbers) (λ r. gap_scale s.format s.numbers (r.0 ++ s.samples) c.in-Gap.some c.in-Gap.commented (subst IsReached (ap (λ st. standing_of r.0 st s) c.in-Gap.is) r.2))
+
+pub number_bytes-requires : goal.number_bytes-requires
+number_bytes-requires c =
     let s = c.args.self.now in
     ∥∥₁_elim c.requires.going (scale_prop s.numbers) (λ r. scale_reached s.format s.numbers (r.0 ++ s.samples) c.in-Number.n (subst IsReached (ap (λ st. standing_of r.0 st s) c.in-Number.is) r.2))
 
