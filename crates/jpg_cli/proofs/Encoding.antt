@@ -4,5 +4,4 @@ pub mod ImageEncoded
 pub mod ImageStopped
 pub mod OneScan
 pub mod SamplesFed
-pub mod WorkImage
 pub mod Worked

@@ -34,3 +34,4 @@ pub mod TablesTaken
 pub mod TextTaken
 pub mod Unwanted
 pub mod Upright
+pub mod WorkImage

@@ -95,6 +95,10 @@ module _ {targa : Bool} {from : ImageEncoder} {bytes : List ℕ} {s0 : SamplesSi
 
 -- A PIECE, for all that was given before
 
+-- what a reader has given
+pub held_by : (old : SamplesSink) (r : ImageSamples) → old.rest ≡ gives.Given r → (targa : Bool) (from : ImageEncoder) (bytes : List ℕ) (h : AreGiven targa from bytes old) → IsGivenRest targa h.info bytes h.given r
+held_by old r was targa from bytes h = subst (HasGivenRest targa h.info bytes h.given) was h.fed
+
 module _ (old new : SamplesSink) (piece : List ℕ) (few : length piece ≤ 16384) where
   -- there was no memory
   pub samples_lost : TakesPiece samples_reader old piece (Err why.NoMemory) new
@@ -154,9 +158,6 @@ module _ (old new : SamplesSink) (piece : List ℕ) (few : length piece ≤ 1638
 
   -- a reader gives them
   module _ (r0 r1 : ImageSamples) (before made : List ℕ) (was : old.rest ≡ gives.Given r0) where
-    given_by : (targa : Bool) (from : ImageEncoder) (bytes : List ℕ) (h : AreGiven targa from bytes old) → IsGivenRest targa h.info bytes h.given r0
-    given_by targa from bytes h = subst (HasGivenRest targa h.info bytes h.given) was h.fed
-
     pub rest_stopped : (ended : Why) → GivesPiece r0 piece before (Err ended) r1 made → TakesPiece samples_reader old piece (Err ended) new
     rest_stopped ended g from bytes h most = by ended (g targa h.info bytes t.all t.has)
       where
@@ -164,7 +165,7 @@ module _ (old new : SamplesSink) (piece : List ℕ) (few : length piece ≤ 1638
         targa = is_targa_rest from.rest
 
         t : IsGivenRest targa h.info bytes h.given r0
-        t = given_by targa from.encoder bytes h
+        t = held_by old r0 was targa from.encoder bytes h
 
         by : (ended : Why) → Appends before made (λ more. AfterPiece targa h.info (bytes ++ piece) (t.all ++ more) (Err ended) r1) → AfterTaking samples_reader from (bytes ++ piece) (Err ended) new
         by (why.Refused f) (more, e, k) = k
@@ -178,7 +179,7 @@ module _ (old new : SamplesSink) (piece : List ℕ) (few : length piece ≤ 1638
         targa = is_targa_rest from.rest
 
         t : IsGivenRest targa h.info bytes h.given r0
-        t = given_by targa from.encoder bytes h
+        t = held_by old r0 was targa from.encoder bytes h
 
         by : (whole : Bool) → Appends before made (λ more. AfterPiece targa h.info (bytes ++ piece) (t.all ++ more) (Ok whole) r1) → AfterTaking samples_reader from (bytes ++ piece) (Ok whole) new
         by false (more, e, k) =
@@ -207,9 +208,6 @@ end_lost old new from bytes h less = open_end (is_targa_rest from.rest) bytes (y
 
 -- a reader gives the last ones
 module _ (old new : SamplesSink) (r0 : ImageSamples) (before made : List ℕ) (was : old.rest ≡ gives.Given r0) where
-  pub held_by : (targa : Bool) (from : ImageEncoder) (bytes : List ℕ) (h : AreGiven targa from bytes old) → IsGivenRest targa h.info bytes h.given r0
-  held_by targa from bytes h = subst (HasGivenRest targa h.info bytes h.given) was h.fed
-
   pub rest_unended : (ended : Why) → EndsSamples r0 before (Err ended) made → TakesEnd samples_reader old (Err ended) new
   rest_unended ended g from bytes h less = by ended (g targa h.info bytes t.all t.has)
     where
@@ -217,7 +215,7 @@ module _ (old new : SamplesSink) (r0 : ImageSamples) (before made : List ℕ) (w
       targa = is_targa_rest from.rest
 
       t : IsGivenRest targa h.info bytes h.given r0
-      t = held_by targa from.encoder bytes h
+      t = held_by old r0 was targa from.encoder bytes h
 
       by : (ended : Why) → Appends before made (λ more. AfterEnd targa h.info bytes (t.all ++ more) (Err ended)) → AfterInput samples_reader from bytes (Err ended) new
       by (why.Refused f) (more, e, k) = k
@@ -227,7 +225,7 @@ module _ (old new : SamplesSink) (r0 : ImageSamples) (before made : List ℕ) (w
   pub rest_ended : before ≡ [] → EndsSamples r0 before (Ok tt) made → TakesSome old.encoder made new.encoder → TakesEnd samples_reader old (Ok None) new
   rest_ended none g takes from bytes h less =
       let targa = is_targa_rest from.rest in
-      let t = held_by targa from.encoder bytes h in
+      let t = held_by old r0 was targa from.encoder bytes h in
       let k = g targa h.info bytes t.all t.has in
       whole_given h new made takes t.all k.0 [] bytes t.given_is (made_is before made k.0 none k.1) k.2
 

@@ -486,18 +486,16 @@ fn end_samples(sink: &mut SamplesSink<'_>) -> Result<Option<u64>, Why>
     requires { (targa : Bool) × (from : Encoder) × (bytes : List ℕ) × AreGiven targa from bytes sink.old }
     ensures { TakesEnd samples_reader sink.old result sink.new }
 {
-    match &mut sink.rest {
-        Rest::Plain => Err(refused(Fault::ImageShort, sink.taken)),
-        Rest::Given(samples) => {
-            sink.made.clear();
-            match samples.end(&mut sink.made) {
-                Err(why) => Err(why),
-                Ok(()) => match feed_piece(&mut sink.encoder, sink.made.as_slice()) {
-                    Err(_) => Err(Why::NoMemory),
-                    Ok(()) => Ok(None),
-                },
-            }
-        }
+    let Rest::Given(samples) = &mut sink.rest else {
+        return Err(refused(Fault::ImageShort, sink.taken));
+    };
+    sink.made.clear();
+    match samples.end(&mut sink.made) {
+        Err(why) => Err(why),
+        Ok(()) => match feed_piece(&mut sink.encoder, sink.made.as_slice()) {
+            Err(_) => Err(Why::NoMemory),
+            Ok(()) => Ok(None),
+        },
     }
 }
 

@@ -1,4 +1,4 @@
-use Rattle.std.proofs.Common.{◌+◌, ℕ, List, [], length, refl, subst, arith}
+use Rattle.std.proofs.Common.{◌+◌, ℕ, List, length, refl, subst, arith}
 use Rattle.std.proofs.lemmas.List.{length-append}
 use Rattle.jpg_desk.proofs.SampleAnswers.{samples_fed, samples_unread}
 use Rattle.jpg_cli.specs.Tools.SamplesFed.{TakesSome}
@@ -19,12 +19,12 @@ returns-in-Ok c =
     samples_taken old new c.args.piece.now c.requires.few c.are_all.result c.in-Plain.is c.in-Plain.is c.in-Ok.ensures refl c.are_all.ensures
 
 pub feed-requires-clause-more : goal.feed-requires-clause-more
-feed-requires-clause-more c = (let r = c.requires.fed in let t = held_by c.args.sink.now c.args.sink.now c.in-Given.samples [] [] c.in-Given.is r.0 r.1 r.2 r.3 in samples_unread r.0 r.2 t.all c.in-Given.samples t.has.given)
+feed-requires-clause-more c = (let r = c.requires.fed in let t = held_by c.args.sink.now c.in-Given.samples c.in-Given.is r.0 r.1 r.2 r.3 in samples_unread r.0 r.2 t.all c.in-Given.samples t.has.given)
 
 pub feed-requires-clause-room : goal.feed-requires-clause-room
 feed-requires-clause-room c =
     let r = c.requires.fed in
-    let t = held_by c.args.sink.now c.args.sink.now c.in-Given.samples [] [] c.in-Given.is r.0 r.1 r.2 r.3 in
+    let t = held_by c.args.sink.now c.in-Given.samples c.in-Given.is r.0 r.1 r.2 r.3 in
     let taken = samples_fed r.0 r.2 t.all c.in-Given.samples t.has.given in
     let l = length-append r.2 c.args.piece.now in
     let most = r.4 in

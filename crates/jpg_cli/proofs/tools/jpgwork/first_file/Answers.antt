@@ -2,7 +2,7 @@ use Rattle.std.proofs.Common.{subst, sym}
 use Rattle.jpg_spec_image.specs.Images.{Image}
 use Rattle.jpg_color.specs.Encode.{image_view}
 use Rattle.jpg_pnm_bmp.specs.Made.{IsRightImage}
-use Rattle.jpg_cli.proofs.Encoding.WorkImage.{right_image}
+use Rattle.jpg_desk.proofs.WorkImage.{right_image}
 use Rattle.jpg_cli.proofs.Encoding.Worked.{first_done}
 use Rattle.jpg_cli.proofs.tools.jpgwork.first_file.Goals as goal
 
