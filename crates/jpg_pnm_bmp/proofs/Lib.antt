@@ -20,3 +20,4 @@ pub mod ShownNone
 pub mod Stretch
 pub mod PlainSamples
 pub mod PnmGiven
+pub mod FiveTurned

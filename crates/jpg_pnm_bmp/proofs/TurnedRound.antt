@@ -2,6 +2,7 @@
 use Rattle.std.proofs.Common.{◌≡◌, ℕ, ◌+◌, ◌-◌, ◌<◌, ◌≤◌, List, [], ◌∷◌, ◌++◌, length, take, drop, get_or, set, refl, sym, ap, ◌∙◌, arith, append_assoc}
 use Rattle.std.proofs.lemmas.List.{take-append-drop, length-take-le, length-drop, length-append, set_at, take_at, drop_at, get_or_at}
 use Rattle.jpg_spec_image.specs.ImageText.{turned_round}
+use Rattle.jpg_pnm_bmp.specs.TurnedRound.{turned_from}
 
 -- fewer than three bytes don't change
 pub turned_few : (xs : List ℕ) → length xs < 3 → turned_round xs ≡ xs
@@ -13,10 +14,6 @@ turned_few (a ∷ b ∷ c ∷ xs) h = absurd (omega (arith, h))
 -- the bytes at a place and two places after it exchanged
 abbrev pub exchanged : List ℕ → ℕ → List ℕ
 exchanged xs at = set (set xs at (get_or xs (at + 2) 0)) (at + 2) (get_or xs at 0)
-
--- the prefix of a line, reversed so far, and the rest
-abbrev pub turned_from : List ℕ → ℕ → List ℕ
-turned_from line at = take at line ++ turned_round (drop at line)
 
 farther : (front : List ℕ) (at a b : ℕ) → length front ≡ at → length (front ++ a ∷ b ∷ []) ≡ at + 2
 farther front at a b long = length-append front (a ∷ b ∷ []) ∙ ap (λ n. n + 2) long

@@ -13,3 +13,4 @@ pub mod PlainSamples
 pub mod PnmGiven
 pub mod PnmSamples
 pub mod Samples
+pub mod TurnedRound

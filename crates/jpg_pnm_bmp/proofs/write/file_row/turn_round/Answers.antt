@@ -10,10 +10,10 @@ loop-line-preserved c =
     record {
       inside = grind (arith, common_steps);
       long = grind (arith, common_steps);
-      turned = turned_more c.loop-line.line (turned_round c.args.line.now) c.loop-line.at c.loop-line-test.true i.inside i.turned;
+      turned = turned_more c.loop-line.line (turned_round c.args.row.now) c.loop-line.at c.loop-line-test.true i.inside i.turned;
     }
 
 pub returns-clause-turned : goal.returns-clause-turned
 returns-clause-turned c =
     let i = c.loop-line.invariant in
-    turned_all c.loop-line.line (turned_round c.args.line.now) c.loop-line.at (omega arith) i.turned
+    turned_all c.loop-line.line (turned_round c.args.row.now) c.loop-line.at (omega arith) i.turned

@@ -1,5 +1,6 @@
-use Rattle.std.proofs.Common.{◌≡◌, ◌≤◌, ◌-◌, ◌++◌, length, take, drop}
+use Rattle.std.proofs.Common.{◌≡◌, ◌≤◌, ◌-◌, length}
 use Rattle.jpg_spec_image.specs.ImageText.{turned_round}
+use Rattle.jpg_pnm_bmp.specs.TurnedRound.{turned_from}
 use Rattle.jpg_pnm_bmp.proofs.write.file_row.turn_round.Given as goal
 
 -- the pixels before `at` are reversed
@@ -7,7 +8,7 @@ abbrev pub invariant-loop-line : goal.invariant-loop-line
 invariant-loop-line l = record {
   inside : l.at ≤ length l.line;
   long : length l.line ≡ length l.fn.line;
-  turned : take l.at l.line ++ turned_round (drop l.at l.line) ≡ turned_round l.fn.line;
+  turned : turned_from l.line l.at ≡ turned_round l.row;
 }
 
 abbrev pub decreases-loop-line : goal.decreases-loop-line
