@@ -1,5 +1,5 @@
 -- The bits that mark which numbers of a block aren't 0.
-use Rattle.std.proofs.Common.{◌≡◌, ℕ, zero, suc, ◌<◌, ◌-◌, ◌%◌, ◌^◌, ◌==◌, Bool, true, false, cond, not, List, length, get_or, map, refl, ap, ◌∙◌, arith, ℤ, pos, negsuc, ◌≤ℤ◌, of_z}
+use Rattle.std.proofs.Common.{◌≡◌, ℕ, zero, suc, ◌<◌, ◌-◌, ◌%◌, ◌^◌, ◌==◌, Bool, true, false, cond, not, List, length, take, get_or, map, refl, ap, ◌∙◌, arith, ℤ, pos, negsuc, ◌≤ℤ◌, of_z}
 use Rattle.std.specs.Prelude.{replicate, if◌then◌else◌}
 use Rattle.std.specs.Int.{bit_at}
 use mir.Syntax.{w16}
@@ -7,7 +7,7 @@ use mir.Val.{hbits, bits}
 use Rattle.std.specs.Simd.Lanes.{mask_l, zip2, top}
 use Rattle.std.proofs.lemmas.Bool.Decides.{nat_tests}
 use Rattle.std.proofs.lemmas.Int.{ints}
-use Rattle.std.proofs.lemmas.List.{get_or-map, length-map}
+use Rattle.std.proofs.lemmas.List.{get_or-map, length-map, take_all}
 use Rattle.std.proofs.lemmas.Simd.{bitmask_splat, bit_mask_l}
 use Rattle.jpg_spec.specs.Elements.{is_zero}
 use Rattle.jpg_base.proofs.Swizzled.{lanes}
@@ -41,3 +41,9 @@ nonzero_bits xs long fit k h =
     ∙ ap (λ x. differs x 0) (get_or-map (of_z w16) xs k (pos 0) 0 some)
     ∙ one_lane (get_or xs k (pos 0)) (fit k h).0)
     ∙ bit_of (is_zero (get_or xs k (pos 0)))
+
+-- taken from a slice
+pub nonzero_slice : (xs : List ℤ) → length xs ≡ 64 → ((k : ℕ) → k < 64 → (negsuc 32767 ≤ℤ get_or xs k (pos 0)) × (get_or xs k (pos 0) ≤ℤ pos 32767)) → (k : ℕ) → k < 64
+    → bit_at (mask_l (map (top (hbits w16)) (zip2 (λ a b. cond (differs a b) (2 ^ bits w16 - 1) 0) (lanes (take 64 xs)) (replicate 64 0))) % 2 ^ 64) k ≡ (if is_zero (get_or xs k (pos 0)) then 0 else 1)
+nonzero_slice xs long fit k h =
+    ap (λ (ys : List ℤ). bit_at (mask_l (map (top (hbits w16)) (zip2 (λ a b. cond (differs a b) (2 ^ bits w16 - 1) 0) (lanes ys) (replicate 64 0))) % 2 ^ 64) k) (take_all 64 xs (omega (arith, long))) ∙ nonzero_bits xs long fit k h

@@ -99,7 +99,7 @@ fn nonzero_lanes(values: &[i16; 64]) -> u64
     ensures { (k : ℕ) → k < 64 → bit_at result k ≡ (if is_zero (slice_index_or values.now k (pos 0)) then 0 else 1) }
 {
     all_fit(values);
-    i16x64::from_array(*values)
+    i16x64::from_slice(values)
         .simd_ne(i16x64::splat(0))
         .to_bitmask()
 }
@@ -128,5 +128,6 @@ fn exchanged(values: &[i16; 64]) -> [i16; 64]
     ensures { result ≡ transposed (pos 0) values.now }
 {
     all_fit(values);
-    i16x64::from_array(*values).swizzle(EXCHANGED).to_array()
+    let lanes = i16x64::from_slice(values).swizzle(EXCHANGED);
+    *lanes.as_array()
 }
