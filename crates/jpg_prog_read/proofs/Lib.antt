@@ -1,6 +1,7 @@
 pub mod AcBits
 pub mod AcDue
 pub mod AcFollows
+mod AcPassing
 pub mod AcUnits
 pub mod BandBits
 pub mod Takings

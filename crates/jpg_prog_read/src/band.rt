@@ -613,6 +613,31 @@ impl BandReader {
         }
     }
 
+    /// Whether an end-of-band run goes on after a complete unit.
+    #[inline(always)]
+    pub fn is_ending(&self) -> bool
+        ensures ends { result ≡ true → self.now.stage ≡ Stage.Ends }
+        ensures other { self.now.stage ≡ Stage.Ends → result ≡ true }
+    {
+        match self.stage {
+            Stage::Ends => true,
+            _ => false,
+        }
+    }
+
+    /// Passes the next unit of an end-of-band run, whose band has nothing.
+    #[inline(always)]
+    pub fn pass_band(&mut self)
+        requires { 1 ≤ self.old.bands }
+        ensures last { self.old.bands ≡ 1 → self.new ≡ record (self.old) { bands = 0; stage = Stage.Code } }
+        ensures more { 2 ≤ self.old.bands → self.new ≡ record (self.old) { bands = self.old.bands - 1 } }
+    {
+        match self.end_band() {
+            Ended::All => {}
+            Ended::Some => {}
+        }
+    }
+
     /// A reader before the first unit of an interval.
     pub fn new() -> BandReader
         ensures { IsBeforeUnits result }
