@@ -1,9 +1,9 @@
 -- Units of an end-of-band run whose bands have only zeros.
-use Rattle.std.proofs.Common.{◌≡◌, ℕ, zero, suc, ◌+◌, ◌-◌, ◌/◌, ◌%◌, ◌^◌, ◌<◌, ◌≤◌, Bool, true, false, List, [], ◌∷◌, ◌++◌, length, drop, refl, sym, ap, ◌∙◌, subst, arith, ℤ, pos, negsuc, inl, inr, ◌⊎◌}
+use Rattle.std.proofs.Common.{◌≡◌, ℕ, zero, suc, ◌+◌, ◌-◌, ◌/◌, ◌%◌, ◌^◌, ◌<◌, ◌≤◌, Bool, true, false, List, [], ◌∷◌, ◌++◌, length, drop, drop-drop, refl, sym, ap, ◌∙◌, subst, arith, ℤ, pos, negsuc, inl, inr, ◌⊎◌}
 use Rattle.std.specs.Prelude.{slice_get, slice_index_or, Some, if◌then◌else◌}
 use Rattle.std.specs.Int.{bit_at}
 use Rattle.std.specs.List.{All}
-use Rattle.std.proofs.lemmas.List.{append_assoc, length-drop, length-take-le}
+use Rattle.std.proofs.lemmas.List.{append_assoc, length-append, length-drop, length-map, length-take-le}
 use Rattle.std.proofs.lemmas.List.Elements.{All-head, All-tail}
 use Rattle.jpg_base.specs.Marks.{marks}
 use Rattle.jpg_base.proofs.Marked.{marks_are, marks_after}
@@ -240,3 +240,49 @@ pub next_passed : (m : AcReader) (n : InWork) (i : Interval) (bits : List Bool) 
 next_passed m n i bits now some ends counted empty w =
     let p = next_there m i bits now w some in
     over_next (between_at m i bits now p.0 w some p.1) n ends counted (empty p.0 p.1)
+
+-- A RUN OF A FIRST PASS
+
+-- its units are left
+bands_fit : (m : AcReader) (i : Interval) (bits : List Bool) (now : Picture) → m.unit.stage ≡ stage.Ends → IsBetweenUnits m i bits now → (1 ≤ m.unit.bands) × (m.unit.bands ≤ m.left)
+bands_fit m i bits now ends w =
+    let f = w.between in
+    let r : IsRest i.scan.coding f.mid (units_at i w.due) f.here f.part m.unit stage.Ends = subst (λ (g : Stage). IsRest i.scan.coding f.mid (units_at i w.due) f.here f.part m.unit g) ends f.is_rest in
+    let long : length (units_at i w.due) ≡ length w.due = length-map w.due (unit_at i.scan (map_of i.before)) in
+    ((r.3).some, omega (arith, (r.3).fits, ap length r.2, long, (w.has_due).left))
+
+abbrev run_over : AcReader → ℕ → AcReader
+run_over m count = record m { unit = record (m.unit) { bands = 0; stage = stage.Code }; cursor = drop count m.cursor; left = m.left - count }
+
+run_from : (k : ℕ) (m : AcReader) (i : Interval) (bits : List Bool) (now : Picture) → m.unit.bands ≡ suc k → m.unit.stage ≡ stage.Ends → m.scan.refines ≡ false → IsBetweenUnits m i bits now → IsBetweenUnits (run_over m (suc k)) i bits now
+run_from zero m i bits now e ends first w =
+    let n : InWork = record (m.unit) { bands = 0; stage = stage.Code } in
+    let some = bands_fit m i bits now ends w in
+    let there : 1 ≤ m.left = omega (arith, some.0, some.1) in
+    let counted : IsCounted m.unit n = record { some = some.0; last = λ h. refl; more = λ h. absurd (omega (arith, h, e)) } in
+    next_passed m n i bits now there ends counted (first_is_empty m i bits now w there first) w
+run_from (suc k) m i bits now e ends first w =
+    let n : InWork = record (m.unit) { bands = m.unit.bands - 1 } in
+    let some = bands_fit m i bits now ends w in
+    let there : 1 ≤ m.left = omega (arith, some.0, some.1) in
+    let counted : IsCounted m.unit n = record { some = some.0; last = λ h. absurd (omega (arith, h, e)); more = λ h. refl } in
+    let mid : AcReader = record m { unit = n; cursor = drop 1 m.cursor; left = m.left - 1 } in
+    let next = next_passed m n i bits now there ends counted (first_is_empty m i bits now w there first) w in
+    let rest : IsBetweenUnits (run_over mid (suc k)) i bits now = run_from k mid i bits now (omega (arith, e)) ends first next in
+    let C : List Place → Type 0 = λ l. IsBetweenUnits (record m { unit = record (m.unit) { bands = 0; stage = stage.Code }; cursor = l; left = m.left - 1 - suc k }) i bits now in
+    let L : ℕ → Type 0 = λ x. IsBetweenUnits (record m { unit = record (m.unit) { bands = 0; stage = stage.Code }; cursor = drop (suc (suc k)) m.cursor; left = x }) i bits now in
+    let all : drop (suc k) (drop 1 m.cursor) ≡ drop (suc (suc k)) m.cursor = drop-drop (suc k) 1 m.cursor ∙ ap (λ x. drop x m.cursor) (let z : 1 + suc k ≡ suc (suc k) = omega arith in z) in
+    let less : m.left - 1 - suc k ≡ m.left - suc (suc k) = omega arith in
+    subst L less (subst C all rest)
+
+pub run_passed : (m : AcReader) (i : Interval) (bits : List Bool) (now : Picture) → m.unit.stage ≡ stage.Ends → m.scan.refines ≡ false → IsBetweenUnits m i bits now → IsBetweenUnits (run_over m m.unit.bands) i bits now
+run_passed m i bits now ends first w = by m.unit.bands refl (bands_fit m i bits now ends w).0
+  where
+    by : (bands : ℕ) → m.unit.bands ≡ bands → 1 ≤ bands → IsBetweenUnits (run_over m m.unit.bands) i bits now
+    by zero e some = absurd (omega (arith, some))
+    by (suc k) e some = subst (λ x. IsBetweenUnits (run_over m x) i bits now) (sym e) (run_from k m i bits now e ends first w)
+
+pub run_fits : (m : AcReader) (i : Interval) (bits : List Bool) (now : Picture) → m.unit.stage ≡ stage.Ends → IsBetweenUnits m i bits now → (m.unit.bands ≤ m.left) × (m.unit.bands ≤ length m.cursor)
+run_fits m i bits now ends w =
+    let d = w.has_due in let fit = bands_fit m i bits now ends w in
+    (fit.1, omega (arith, fit.1, d.left, ap length d.cursor, length-append w.due i.later))

@@ -22,6 +22,7 @@ pub mod Multiples
 pub mod NewAcReaders
 pub mod NewValues
 pub mod Passing
+mod GridPlaces
 pub mod Precisions
 pub mod Reading
 pub mod Slots

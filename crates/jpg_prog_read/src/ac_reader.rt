@@ -15,8 +15,9 @@ ghost use Rattle.jpg_prog_read.specs.declared.stage.Stage.TheVariants as stages;
 
 use crate::band::{BandReader, BandStep};
 use crate::codes::Codes;
+use crate::places::Places;
 use crate::scan::BandScan;
-use jpg_base::{BitStore, Block, Cursor, Frame, ScanHead, ScanPart};
+use jpg_base::{BitStore, Block, Frame, ScanHead, ScanPart};
 use jpg_coefs::{Coefs, ScanMachine, Taken, UnitFault, UnitStep};
 use jpg_huff::TableSet;
 
@@ -28,7 +29,7 @@ pub struct AcReader {
     // The codes of its table.
     codes: Codes,
     // The places that are left.
-    cursor: Cursor,
+    cursor: Places,
     // The current unit.
     unit: BandReader,
     // How many units of the interval are left.
@@ -88,7 +89,7 @@ impl AcReader {
         AcReader {
             scan: band_of(frame, head),
             codes: codes_in(tables, &head.parts[0]),
-            cursor: Cursor::new(frame, head),
+            cursor: Places::new(frame, head),
             unit: BandReader::new(),
             left: 0,
             fresh: true,
@@ -133,7 +134,7 @@ impl AcReader {
         self.unit.start(&self.scan, &block)
     }
 
-    // Whether the band of the next unit has nothing. In a first pass none has anything (T.81, G.1.1.1).
+    // Whether the band of the next unit has nothing.
     #[inline(always)]
     fn is_next_empty(&self, coefs: &Coefs) -> bool
         requires between { (i : Interval) × (bits : List Bool) × IsBetweenUnits self.now i bits coefs.now }
@@ -141,12 +142,9 @@ impl AcReader {
         ensures none { result ≡ true → (i : Interval) (bits : List Bool) → IsBetweenUnits self.now i bits coefs.now → NextIsEmpty self.now i }
         ensures some { result ≡ false → NextHasSome self.now coefs.now }
     {
-        if !self.scan.refines {
-            return true;
-        }
         let place = self.cursor.place();
-        let block = coefs.block(place.component, place.x, place.y);
-        has_nothing(&self.scan, &block)
+        let seen = coefs.block(place.component, place.x, place.y);
+        has_nothing(&self.scan, &seen)
     }
 
     // Passes the next unit of an end-of-band run, whose band has nothing.
@@ -165,7 +163,7 @@ impl AcReader {
 
     // Passes the units of an end-of-band run whose bands have nothing, one after another: nothing changes in them.
     #[inline(never)]
-    fn pass_some(&mut self, coefs: &Coefs)
+    fn pass_seen(&mut self, coefs: &Coefs)
         requires { (i : Interval) × (bits : List Bool) × IsBetweenUnits self.old i bits coefs.now }
         ensures count { self.new.left ≤ self.old.left }
         ensures passes { PassesUnits self.old coefs.now self.new }
@@ -179,7 +177,21 @@ impl AcReader {
         }
     }
 
-    // The same, where there may be no such run.
+    // Passes the units of an end-of-band run of a first pass, in which no band has anything yet (T.81, G.1.1.1).
+    fn pass_run(&mut self)
+        requires between { (i : Interval) × (bits : List Bool) × (now : Picture) × IsBetweenUnits self.old i bits now }
+        requires ends { self.old.unit.stage ≡ stages.Ends }
+        requires first { self.old.scan.refines ≡ false }
+        ensures count { self.new.left ≤ self.old.left }
+        ensures passes { (now : Picture) → PassesUnits self.old now self.new }
+        ensures over { self.new.unit.stage ≡ stages.Code }
+    {
+        let bands = self.unit.end_run();
+        self.cursor.skip(bands);
+        self.left -= u64::from(bands);
+    }
+
+    // Passes the units of an end-of-band run, if there is one, as far as their bands have nothing.
     #[inline(always)]
     fn pass(&mut self, coefs: &Coefs)
         requires { (i : Interval) × (bits : List Bool) × IsBetweenUnits self.old i bits coefs.now }
@@ -188,7 +200,11 @@ impl AcReader {
         ensures stops { self.new.unit.stage ≡ stages.Ends → 1 ≤ self.new.left → NextHasSome self.new coefs.now }
     {
         if self.unit.is_ending() {
-            self.pass_some(coefs);
+            if self.scan.refines {
+                self.pass_seen(coefs);
+            } else {
+                self.pass_run();
+            }
         }
     }
 

@@ -625,6 +625,18 @@ impl BandReader {
         }
     }
 
+    /// Ends an end-of-band run after a complete unit. Returns how many units it had left.
+    #[inline(always)]
+    pub fn end_run(&mut self) -> u32
+        ensures count { result ≡ self.old.bands }
+        ensures new { self.new ≡ record (self.old) { bands = 0; stage = Stage.Code } }
+    {
+        let bands = self.bands;
+        self.bands = 0;
+        self.stage = Stage::Code;
+        bands
+    }
+
     /// Passes the next unit of an end-of-band run, whose band has nothing.
     #[inline(always)]
     pub fn pass_band(&mut self)

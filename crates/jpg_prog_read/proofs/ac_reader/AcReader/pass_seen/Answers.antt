@@ -1,5 +1,5 @@
 use Rattle.std.proofs.Common.{arith}
-use Rattle.jpg_prog_read.proofs.ac_reader.AcReader.pass_some.Goals as goal
+use Rattle.jpg_prog_read.proofs.ac_reader.AcReader.pass_seen.Goals as goal
 
 pub loop-self-preserved : goal.loop-self-preserved
 loop-self-preserved c =

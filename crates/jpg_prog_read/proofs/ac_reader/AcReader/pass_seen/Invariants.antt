@@ -1,7 +1,7 @@
 use Rattle.std.proofs.Common.{◌≤◌, Bool, List}
 use Rattle.jpg_coefs.specs.Machine.{Interval}
 use Rattle.jpg_prog_read.specs.RepresentsAcScan.{IsBetweenUnits, PassesUnits}
-use Rattle.jpg_prog_read.proofs.ac_reader.AcReader.pass_some.Given as goal
+use Rattle.jpg_prog_read.proofs.ac_reader.AcReader.pass_seen.Given as goal
 
 abbrev pub invariant-loop-self : goal.invariant-loop-self
 invariant-loop-self l =
