@@ -44,24 +44,24 @@ band_is b s block r = ap (λ n. take (n - b.start) (drop b.start block)) r.end �
 
 refinable_one : (b : BandScan) (codes : List Code) (c : Coding) (k : ℕ) (o : ℤ) → IsCodingOf b codes c k → HasCorrectionRoom c o → IsRefinable b o
 refinable_one b codes c k o is (inl z) = inl z
-refinable_one b codes c k o is (inr h) = inr (omega (arith, h, is.scale, ap nat_abs is.bounds))
+refinable_one b codes c k o is (inr h) = inr (omega (arith, h.1, is.scale, ap nat_abs is.bounds))
 
 -- where this place is the next that is left
 module _ {m : AcReader} {i : Interval} {now : Picture} {done : List Place} {p : Place} {more : List Place} {whole : List ℤ} (d : HasDue m i now done (p ∷ more) whole) where
-  places_are : i.places ++ i.later ≡ done ++ p ∷ (more ++ i.later)
+  pub places_are : i.places ++ i.later ≡ done ++ p ∷ (more ++ i.later)
   places_are = ap (λ (l : List Place). l ++ i.later) d.all ∙ append_assoc done (p ∷ more) i.later
 
-  due_apart : any_of (is_at p.component p.x p.y) done ≡ false
+  pub due_apart : any_of (is_at p.component p.x p.y) done ≡ false
   due_apart = next_apart done p (more ++ i.later) (subst (λ (l : List Place). AreDistinct l) places_are d.distinct)
 
   -- its block is the one before the interval
-  block_same : block_at (map_of now) p ≡ block_at (map_of i.before) p
+  pub block_same : block_at (map_of now) p ≡ block_at (map_of i.before) p
   block_same = ((d.read).changes).elsewhere p.component p.x p.y due_apart
 
   pub padded_at : IsPadded now.frame p.component p.x p.y
   padded_at = subst (λ (g : Frame). IsPadded g p.component p.x p.y) (sym d.frame) (All-head (IsReadable m.scan m.codes i.before.frame i.scan.coding) p (more ++ i.later) d.spots).padded
 
-  coding_at : IsCodingOf m.scan m.codes i.scan.coding p.component
+  pub coding_at : IsCodingOf m.scan m.codes i.scan.coding p.component
   coding_at = (All-head (IsReadable m.scan m.codes i.before.frame i.scan.coding) p (more ++ i.later) d.spots).coding
 
 -- with another current unit
@@ -134,7 +134,7 @@ module _ {m : AcReader} {i : Interval} {bits : List Bool} {now : Picture} {p : P
   block_there : block ≡ block_at (map_of now) p
   block_there = is ∙ sym (map_at now p.component p.x p.y (padded_at t.has_due))
 
-  old_band : band_values m.scan block ≡ band i.scan (block_at (map_of i.before) p)
+  pub old_band : band_values m.scan block ≡ band i.scan (block_at (map_of i.before) p)
   old_band = band_is m.scan i.scan block (t.has_due).reads ∙ ap (band i.scan) (block_there ∙ block_same t.has_due)
 
   -- its values take corrections

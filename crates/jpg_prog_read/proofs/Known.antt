@@ -34,10 +34,10 @@ known_refinable m al category n le e h =
 
 -- ROOM FOR THE NEXT BIT
 
-pub gives_room : (c : Coding) (category : ℕ) → c.al + 1 ≤ category → c.bounds.ac ≡ pos (2 ^ category - 1) → GivesRoom c category
-gives_room c category le e o known low =
+pub gives_room : (c : Coding) (category : ℕ) → c.refines ≡ true → c.al + 1 ≤ category → c.bounds.ac ≡ pos (2 ^ category - 1) → GivesRoom c category
+gives_room c category refines le e o known low =
     let k = known_refinable known.0 c.al category (nat_abs o) le known.1 low in
-    inr (subst (λ n. nat_abs o + 2 ^ c.al ≤ n) (sym (ap nat_abs e)) k)
+    inr (refines, subst (λ n. nat_abs o + 2 ^ c.al ≤ n) (sym (ap nat_abs e)) k)
 
 pub in_band : (s : Scan) (k : ℕ) → s.ss ≤ k → k ≤ s.se → is_in_band s k ≡ true
 in_band s k low high = ap (λ t. t && nat_le k s.se) (yes s.ss k low) ∙ yes k s.se high

@@ -1,6 +1,7 @@
 pub mod AcBits
 pub mod AcDue
 pub mod AcFollows
+mod AcPassing
 pub mod AcUnits
 pub mod BandBits
 pub mod Takings
@@ -21,6 +22,7 @@ pub mod Multiples
 pub mod NewAcReaders
 pub mod NewValues
 pub mod Passing
+mod GridPlaces
 pub mod Precisions
 pub mod Reading
 pub mod Slots

@@ -82,6 +82,7 @@ coding_is f head set tables b t codes p is force of e there same =
       sound = sound f tables head force.valid;
       scale = of.scale ∙ ap (λ n. 2 ^ n) (sym (ap (λ (x : Bool). cond x head.al 0) g));
       categories = ap (λ (x : Bool). cond (x && nat_lt 0 head.ah) 1 (bounds f).ac_cat) g ∙ sym of.categories;
+      refines = ap (λ (x : Bool). x && nat_lt 0 head.ah) g ∙ sym of.refines;
       runs = ap (λ (x : Bool). cond x 14 0) g;
       bounds = sym of.magnitude;
       ac_codes = ap (λ (q : ScanPart). codes_of (tables 1 q.ac)) (part_found head p e) ∙ ap codes_of (force.same p.ac) ∙ ap (λ (o : Option Table). codes_of (option_map table_of o)) there ∙ sym same;

@@ -1,6 +1,6 @@
 -- The current unit of a band.
 use Rattle.std.specs.Prelude.{◌≡◌, ◌⊎◌, ℕ, ◌+◌, ◌-◌, ◌<◌, ◌≤◌, Bool, true, false, List, [], ℤ, pos, nat_abs, length, take, drop, slice_index_or, All}
-use Rattle.jpg_spec.specs.Elements.{is_zero}
+use Rattle.jpg_spec.specs.Elements.{is_zero, zeros}
 use Rattle.jpg_base.specs.Marks.{marks}
 use Rattle.jpg_prog_read.specs.declared.stage.Stage.{Stage}
 use Rattle.jpg_prog_read.specs.declared.stage.Stage.TheVariants.{Code, Number, Count, Value, Long, Ends}
@@ -86,6 +86,10 @@ pub record IsWholeUnit (s : InWork) : Type 0 where
 -- the band of a block
 abbrev pub band_values : BandScan → List ℤ → List ℤ
 band_values b block = take (b.end - b.start) (drop b.start block)
+
+-- it has only zeros
+abbrev pub HasNothing : BandScan → List ℤ → Type 0
+HasNothing b block = band_values b block ≡ zeros (b.end - b.start)
 
 -- before the first unit
 pub record IsBeforeUnits (s : InWork) : Type 0 where

@@ -16,6 +16,7 @@ pub mod Judge
 pub mod Known
 pub mod NewAcReader
 pub mod NewValues
+pub mod GridPlaces
 pub mod Scaled
 pub mod Stands
 pub mod ReaderSteps

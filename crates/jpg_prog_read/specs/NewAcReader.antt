@@ -54,3 +54,4 @@ pub record IsBandOf (f : Frame) (head : ScanHead) (b : BandScan) : Type 0 where
   pub scale : b.scale ≡ 2 ^ head.al
   pub categories : b.most_category ≡ (if nat_lt 0 head.ah then 1 else (bounds f).ac_cat)
   pub magnitude : pos b.most_magnitude ≡ (bounds f).ac
+  pub refines : b.refines ≡ nat_lt 0 head.ah

@@ -1,14 +1,14 @@
 -- What the states of the machine of a progressive AC scan mean (T.81, G.1.2.2, G.1.2.3).
-use Rattle.std.specs.Prelude.{◌≡◌, ◌⊎◌, ℕ, ◌+◌, ◌^◌, ◌≤◌, Bool, true, false, List, [], ◌∷◌, ◌++◌, length, map, take, drop, ℤ, nat_abs, All, Result}
+use Rattle.std.specs.Prelude.{◌≡◌, ◌⊎◌, ℕ, ◌+◌, ◌-◌, ◌^◌, ◌≤◌, Bool, true, false, List, [], ◌∷◌, ◌++◌, length, map, take, drop, ℤ, nat_abs, slice_get, Some, All, Result}
 use Rattle.jpg_spec.specs.Codes.{Code}
-use Rattle.jpg_spec.specs.Elements.{Coding, UnitLeft, is_zero}
+use Rattle.jpg_spec.specs.Elements.{Coding, UnitLeft, is_zero, zeros}
 use Rattle.jpg_spec.specs.Geometry.{Frame}
 use Rattle.jpg_spec.specs.PictureInWork.{AreDistinct, UnitsRead}
 use Rattle.jpg_spec.specs.Scan.{Blocks, Scan, band, block_at, unit_at}
 use Rattle.jpg_spec.specs.ScanFaults.{DataReveals}
 use Rattle.jpg_spec.specs.declared.frame.Place.{Place}
 use Rattle.jpg_base.specs.Cursor.{IsPadded}
-use Rattle.jpg_coefs.specs.Picture.{Picture, map_of}
+use Rattle.jpg_coefs.specs.Picture.{Picture, map_of, block_in}
 use Rattle.jpg_coefs.specs.Machine.{Interval, Kind, Answered, Follows, IsWholeInterval, fault_of, units_of}
 use Rattle.jpg_coefs.specs.declared.machine.UnitFault.{UnitFault}
 use Rattle.jpg_coefs.specs.declared.machine.UnitStep.{UnitStep}
@@ -17,15 +17,15 @@ use Rattle.jpg_prog_read.specs.declared.band.BandStep.{BandStep}
 use Rattle.jpg_prog_read.specs.declared.band.BandStep.TheVariants.{More, Done, Fault}
 use Rattle.jpg_prog_read.specs.declared.scan.BandScan.{BandScan}
 use Rattle.jpg_prog_read.specs.declared.stage.Stage.TheVariants as stage
-use Rattle.jpg_prog_read.specs.InWork.{InWork, IsOpenBand, IsWholeUnit}
+use Rattle.jpg_prog_read.specs.InWork.{InWork, IsOpenBand, IsWholeUnit, HasNothing}
 use Rattle.jpg_prog_read.specs.Stands.{IsCodingOf, UnitPlace, RepresentsBandUnit, BetweenUnits, IsNoFault}
 use Rattle.jpg_prog_read.specs.ReaderSteps.{IsSaneBand}
 
 -- INTERVALS OF THIS KIND
 
--- an old value that is zero, or that a correction leaves within the bounds
+-- an old value that is zero, as all are in a first pass, or that a correction leaves within the bounds
 abbrev pub HasCorrectionRoom : Coding → ℤ → Type 0
-HasCorrectionRoom c o = (is_zero o ≡ true) ⊎ (nat_abs o + 2 ^ c.al ≤ nat_abs c.bounds.ac)
+HasCorrectionRoom c o = (is_zero o ≡ true) ⊎ ((c.refines ≡ true) × (nat_abs o + 2 ^ c.al ≤ nat_abs c.bounds.ac))
 
 -- all those of the band at a place
 abbrev pub BandHasRoom : Scan → Blocks → Place → Type 0
@@ -165,6 +165,21 @@ TakesUnit old now step new = (i : Interval) (bits : List Bool) → IsBetweenUnit
 -- no bit is taken, and there is no fault
 abbrev pub TakesQuietly : AcReader → Picture → BandStep → Type 0
 TakesQuietly old now step = (i : Interval) (bits : List Bool) → IsBetweenUnits old i bits now → IsNoFault step
+
+-- the band of the next unit has only zeros
+abbrev pub NextIsEmpty : AcReader → Interval → Type 0
+NextIsEmpty m i = (p : Place) → slice_get m.cursor 0 ≡ Some p → band i.scan (block_at (map_of i.before) p) ≡ zeros (m.scan.end - m.scan.start)
+
+-- the block at its place has another value in the band
+abbrev pub NextHasSome : AcReader → Picture → Type 0
+NextHasSome m now = (p : Place) → slice_get m.cursor 0 ≡ Some p → HasNothing m.scan (block_in now p.component p.x p.y) → ⊥
+
+-- a unit of an end-of-band run whose band has only zeros is passed; and several are: no bit is taken, and no block changes
+abbrev pub PassesUnit : AcReader → AcReader → Type 0
+PassesUnit old new = (i : Interval) (bits : List Bool) (now : Picture) → NextIsEmpty old i → IsBetweenUnits old i bits now → IsBetweenUnits new i bits now
+
+abbrev pub PassesUnits : AcReader → Picture → AcReader → Type 0
+PassesUnits old now new = (i : Interval) (bits : List Bool) → IsBetweenUnits old i bits now → IsBetweenUnits new i bits now
 
 -- the first unit is begun, if it wasn't yet
 abbrev pub Settles : AcReader → Picture → AcReader → Type 0

@@ -18,6 +18,7 @@ pub record IsCodingOf (b : BandScan) (ac : List Code) (c : Coding) (i : ℕ) : T
   pub sound : IsSound c
   pub scale : b.scale ≡ 2 ^ c.al
   pub categories : c.most_category ≡ b.most_category
+  pub refines : c.refines ≡ b.refines
   pub runs : c.most_run ≡ 14
   pub bounds : c.bounds.ac ≡ pos b.most_magnitude
   pub ac_codes : c.ac i ≡ ac

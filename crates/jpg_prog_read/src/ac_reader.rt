@@ -1,5 +1,5 @@
 //! The machine that reads a progressive AC scan: a first pass (T.81, G.1.2.2) or a refinement (G.1.2.3).
-ghost use Rattle.std.specs.Prelude.{◌≡◌, ◌≤◌, ◌+◌, false, [], Bool, List, Some, Ok, length};
+ghost use Rattle.std.specs.Prelude.{◌≡◌, ◌≤◌, ◌+◌, true, false, [], Bool, List, Some, Ok, length};
 ghost use Rattle.jpg_spec.specs.Geometry.{bounds};
 ghost use Rattle.jpg_huff.specs.declared.table.Table.{Table};
 ghost use Rattle.jpg_huff.specs.Sets.{ac_tables, in_slot};
@@ -7,14 +7,17 @@ ghost use Rattle.jpg_huff.specs.Tables.{symbol_codes};
 ghost use Rattle.jpg_prog_read.specs.NewAcReader.{HasAcTable, IsAcScan, IsOfAcScan, IsBandOf};
 ghost use Rattle.jpg_coefs.specs.Machine.{Interval, TakesBits};
 ghost use Rattle.jpg_coefs.specs.Picture.{Picture};
-ghost use Rattle.jpg_prog_read.specs.RepresentsAcScan.{IsInUnit, HasWhole, IsBetweenUnits, RepresentsAcScan, ReadsBit, PutsUnit, TakesQuietly, TakesUnit, Settles, BandsGoOn, progressive_ac, with_unit_of};
+ghost use Rattle.jpg_prog_read.specs.RepresentsAcScan.{IsInUnit, HasWhole, IsBetweenUnits, RepresentsAcScan, ReadsBit, PutsUnit, TakesQuietly, TakesUnit, NextIsEmpty, NextHasSome, PassesUnit, PassesUnits, Settles, BandsGoOn, progressive_ac, with_unit_of};
 ghost use Rattle.jpg_prog_read.specs.BandBits.{TakesBand};
+ghost use Rattle.jpg_prog_read.specs.InWork.{HasNothing};
+ghost use Rattle.jpg_prog_read.specs.ReaderSteps.{IsSaneBand};
 ghost use Rattle.jpg_prog_read.specs.declared.stage.Stage.TheVariants as stages;
 
 use crate::band::{BandReader, BandStep};
 use crate::codes::Codes;
+use crate::places::Places;
 use crate::scan::BandScan;
-use jpg_base::{BitStore, Cursor, Frame, ScanHead, ScanPart};
+use jpg_base::{BitStore, Block, Frame, ScanHead, ScanPart};
 use jpg_coefs::{Coefs, ScanMachine, Taken, UnitFault, UnitStep};
 use jpg_huff::TableSet;
 
@@ -26,7 +29,7 @@ pub struct AcReader {
     // The codes of its table.
     codes: Codes,
     // The places that are left.
-    cursor: Cursor,
+    cursor: Places,
     // The current unit.
     unit: BandReader,
     // How many units of the interval are left.
@@ -48,7 +51,20 @@ fn band_of(frame: &Frame, head: &ScanHead) -> BandScan
         scale: 1 << head.al,
         most_category: if head.ah > 0 { 1 } else { bounds.ac_cat },
         most_magnitude: bounds.ac as u16,
+        refines: head.ah > 0,
     }
+}
+
+// Whether the band of this block has nothing.
+#[inline(always)]
+fn has_nothing(scan: &BandScan, block: &Block) -> bool
+    requires { IsSaneBand scan.now }
+    ensures none { result ≡ true → HasNothing scan.now block.now }
+    ensures some { HasNothing scan.now block.now → result ≡ true }
+{
+    block.long();
+    let olds = block.nonzero() >> scan.start;
+    olds % (1 << (scan.end - scan.start)) == 0
 }
 
 // The codes of the header's component.
@@ -73,7 +89,7 @@ impl AcReader {
         AcReader {
             scan: band_of(frame, head),
             codes: codes_in(tables, &head.parts[0]),
-            cursor: Cursor::new(frame, head),
+            cursor: Places::new(frame, head),
             unit: BandReader::new(),
             left: 0,
             fresh: true,
@@ -118,6 +134,80 @@ impl AcReader {
         self.unit.start(&self.scan, &block)
     }
 
+    // Whether the band of the next unit has nothing.
+    #[inline(always)]
+    fn is_next_empty(&self, coefs: &Coefs) -> bool
+        requires between { (i : Interval) × (bits : List Bool) × IsBetweenUnits self.now i bits coefs.now }
+        requires some { 1 ≤ self.now.left }
+        ensures none { result ≡ true → (i : Interval) (bits : List Bool) → IsBetweenUnits self.now i bits coefs.now → NextIsEmpty self.now i }
+        ensures some { result ≡ false → NextHasSome self.now coefs.now }
+    {
+        let place = self.cursor.place();
+        let seen = coefs.block(place.component, place.x, place.y);
+        has_nothing(&self.scan, &seen)
+    }
+
+    // Passes the next unit of an end-of-band run, whose band has nothing.
+    #[inline(always)]
+    fn pass_unit(&mut self)
+        requires some { 1 ≤ self.old.left }
+        requires there { 1 ≤ length self.old.cursor }
+        requires ends { (self.old.unit.stage ≡ stages.Ends) × (1 ≤ self.old.unit.bands) }
+        ensures count { self.new.left + 1 ≡ self.old.left }
+        ensures passes { PassesUnit self.old self.new }
+    {
+        self.cursor.step();
+        self.left -= 1;
+        self.unit.pass_band();
+    }
+
+    // Passes the units of an end-of-band run whose bands have nothing, one after another: nothing changes in them.
+    #[inline(never)]
+    fn pass_seen(&mut self, coefs: &Coefs)
+        requires { (i : Interval) × (bits : List Bool) × IsBetweenUnits self.old i bits coefs.now }
+        ensures count { self.new.left ≤ self.old.left }
+        ensures passes { PassesUnits self.old coefs.now self.new }
+        ensures stops { self.new.unit.stage ≡ stages.Ends → 1 ≤ self.new.left → NextHasSome self.new coefs.now }
+    {
+        while self.left > 0 && self.unit.is_ending() {
+            if !self.is_next_empty(coefs) {
+                return;
+            }
+            self.pass_unit();
+        }
+    }
+
+    // Passes the units of an end-of-band run of a first pass, in which no band has anything yet (T.81, G.1.1.1).
+    fn pass_run(&mut self)
+        requires between { (i : Interval) × (bits : List Bool) × (now : Picture) × IsBetweenUnits self.old i bits now }
+        requires ends { self.old.unit.stage ≡ stages.Ends }
+        requires first { self.old.scan.refines ≡ false }
+        ensures count { self.new.left ≤ self.old.left }
+        ensures passes { (now : Picture) → PassesUnits self.old now self.new }
+        ensures over { self.new.unit.stage ≡ stages.Code }
+    {
+        let bands = self.unit.end_run();
+        self.cursor.skip(bands);
+        self.left -= u64::from(bands);
+    }
+
+    // Passes the units of an end-of-band run, if there is one, as far as their bands have nothing.
+    #[inline(always)]
+    fn pass(&mut self, coefs: &Coefs)
+        requires { (i : Interval) × (bits : List Bool) × IsBetweenUnits self.old i bits coefs.now }
+        ensures count { self.new.left ≤ self.old.left }
+        ensures passes { PassesUnits self.old coefs.now self.new }
+        ensures stops { self.new.unit.stage ≡ stages.Ends → 1 ≤ self.new.left → NextHasSome self.new coefs.now }
+    {
+        if self.unit.is_ending() {
+            if self.scan.refines {
+                self.pass_seen(coefs);
+            } else {
+                self.pass_run();
+            }
+        }
+    }
+
     // Goes on after a complete unit: an end-of-band run may complete further ones.
     fn go_on(&mut self, coefs: &mut Coefs) -> Result<UnitStep, UnitFault>
         requires { (i : Interval) × (bits : List Bool) × HasWhole self.old i bits coefs.old }
@@ -126,6 +216,7 @@ impl AcReader {
     {
         loop {
             self.put(coefs);
+            self.pass(coefs);
             if self.left == 0 {
                 return Ok(UnitStep::IntervalDone);
             }

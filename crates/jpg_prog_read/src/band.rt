@@ -613,6 +613,43 @@ impl BandReader {
         }
     }
 
+    /// Whether an end-of-band run goes on after a complete unit.
+    #[inline(always)]
+    pub fn is_ending(&self) -> bool
+        ensures ends { result ≡ true → self.now.stage ≡ Stage.Ends }
+        ensures other { self.now.stage ≡ Stage.Ends → result ≡ true }
+    {
+        match self.stage {
+            Stage::Ends => true,
+            _ => false,
+        }
+    }
+
+    /// Ends an end-of-band run after a complete unit. Returns how many units it had left.
+    #[inline(always)]
+    pub fn end_run(&mut self) -> u32
+        ensures count { result ≡ self.old.bands }
+        ensures new { self.new ≡ record (self.old) { bands = 0; stage = Stage.Code } }
+    {
+        let bands = self.bands;
+        self.bands = 0;
+        self.stage = Stage::Code;
+        bands
+    }
+
+    /// Passes the next unit of an end-of-band run, whose band has nothing.
+    #[inline(always)]
+    pub fn pass_band(&mut self)
+        requires { 1 ≤ self.old.bands }
+        ensures last { self.old.bands ≡ 1 → self.new ≡ record (self.old) { bands = 0; stage = Stage.Code } }
+        ensures more { 2 ≤ self.old.bands → self.new ≡ record (self.old) { bands = self.old.bands - 1 } }
+    {
+        match self.end_band() {
+            Ended::All => {}
+            Ended::Some => {}
+        }
+    }
+
     /// A reader before the first unit of an interval.
     pub fn new() -> BandReader
         ensures { IsBeforeUnits result }

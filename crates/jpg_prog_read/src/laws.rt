@@ -1,5 +1,5 @@
 //! Laws of the bits that a reader of bands was given.
-ghost use Rattle.std.specs.Prelude.{◌≡◌, ◌≤◌, ◌+◌, ◌-◌, ◌^◌, ◌++◌, ℕ, List, pos};
+ghost use Rattle.std.specs.Prelude.{◌≡◌, ◌≤◌, ◌+◌, ◌-◌, ◌^◌, ◌++◌, ℕ, true, List, pos};
 ghost use Rattle.jpg_spec.specs.Elements.{Coding};
 ghost use Rattle.jpg_coefs.specs.Machine.{Interval, KeepsUnits};
 ghost use Rattle.jpg_spec.specs.PictureInWork.{AreDistinct};
@@ -52,10 +52,10 @@ pub fn values_are_known_down_to_al()
     ensures { (c : Coding) → TellsMultiples c }
 {}
 
-/// A band has room for the next bit if each of its coefficients has, and a coefficient has if it is known down to the
-/// bit before and is within the bounds (T.81, G.1.2.3).
+/// A band has room for the next bit if each of its coefficients has, and in a refinement a coefficient has if it is known
+/// down to the bit before and is within the bounds (T.81, G.1.2.3).
 pub fn known_bands_have_room()
-    ensures value { (c : Coding) (category : ℕ) → c.al + 1 ≤ category → c.bounds.ac ≡ pos (2 ^ category - 1) → GivesRoom c category }
+    ensures value { (c : Coding) (category : ℕ) → c.refines ≡ true → c.al + 1 ≤ category → c.bounds.ac ≡ pos (2 ^ category - 1) → GivesRoom c category }
     ensures band { (s : Scan) (before : Blocks) (p : Place) → EachHasRoom s before p → BandHasRoom s before p }
 {}
 

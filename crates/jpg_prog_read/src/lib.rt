@@ -14,6 +14,7 @@ mod dc_units;
 mod extra;
 mod laws;
 mod numbers;
+mod places;
 mod scan;
 mod stage;
 mod symbols;

@@ -13,6 +13,8 @@ pub struct BandScan {
     pub most_category: u8,
     /// The greatest magnitude of a value.
     pub most_magnitude: u16,
+    /// Whether it refines what an earlier scan has sent.
+    pub refines: bool,
 }
 
 /// The parameters of the readers of a DC scan.

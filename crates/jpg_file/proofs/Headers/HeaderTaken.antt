@@ -320,7 +320,8 @@ ac_room limits items blocks contents q k b some low high small = by (head.ah == 
         let below = subst (λ n. n + 1 ≤ (bounds f).al) (sym al) (later_low limits items blocks contents q k b z told) in
         let most = w.bits in
         let few : c.al + 1 ≤ n = omega (arith, below, most) in
-        gives_room c n few w.ac v (known.told q.component q.x q.y k (c.al + 1) (told ∙ ap (λ n. (let o : Option ℕ = Some n in o)) ah))
+        let refines : c.refines ≡ true = ap (λ t. t && nat_lt 0 head.ah) b.progressive ∙ grind (arith, nat_tests, z) in
+        gives_room c n refines few w.ac v (known.told q.component q.x q.y k (c.al + 1) (told ∙ ap (λ n. (let o : Option ℕ = Some n in o)) ah))
         (ac_bound (2 ^ n - 1) k v (bounds f).ac (int_le (bounds f).dc_low v) (int_le v (bounds f).dc_high) w.ac (omega (arith, some, low)) (in_range limits items blocks (b.begins).leads q.component q.x q.y k))
 
 -- the band of a block
