@@ -15,6 +15,7 @@ use std::marker::Model;
 /// A table, and what is written for values after fewer than 16 zeros.
 #[derive(Drop)]
 pub struct Encoder {
+    // the codes
     table: Table,
     // of values from -32 to 31, by 64 times the run, plus the value and 32: 32 times the bits, plus how many they are
     values: [u32; 1024],

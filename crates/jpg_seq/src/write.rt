@@ -114,7 +114,8 @@ fn put_any_after<D: Desk>(
     }
 }
 
-// What gives the codes of values, and whether their sizes can't be foreseen: then one way for all of them takes less time.
+// What gives the codes of values, and whether the values are of mixed sizes: which of two ways one would take can't be
+// foreseen then, and all take the same one.
 #[derive(Clone, Copy)]
 struct RunCodes<'a> {
     ac: &'a Encoder,
@@ -196,7 +197,8 @@ fn put_band<D: Desk>(
     }
 }
 
-// Whether an eighth of the values have no entries of their own. It remains a call, so that the vectors of blocks with few values aren't kept.
+// Whether an eighth of the values have no entry of their own. It remains a call, so that vectors of a block with few values
+// aren't kept for it.
 #[inline(never)]
 fn has_large(block: &Block) -> bool {
     let mut count = 0u8;
@@ -208,13 +210,13 @@ fn has_large(block: &Block) -> bool {
     count >= 8
 }
 
-// Whether the sizes of a block's values can't be foreseen, as in noise of high quality. Either answer is right.
+// Whether a block has values of mixed sizes, as noise of high quality has. Either answer is right.
 #[inline(always)]
 fn is_mixed(block: &Block) -> bool {
     block.nonzero().count_ones() >= 40 && has_large(block)
 }
 
-// Writes the values after the first one, whose sizes can't be foreseen.
+// Writes the values after the first one, where they are of mixed sizes.
 #[inline(never)]
 fn put_mixed<D: Desk>(
     ac: &Encoder,
