@@ -23,39 +23,20 @@ small_category (negsuc n) low high = few_digits 6 (suc n) (omega (arith, ints))
 pub small_size : (v w : ℤ) (size : ℕ) → w ≡ v → size ≡ category w → negsuc 31 ≤ℤ v → v ≤ℤ pos 31 → (size ≡ category v) × (size ≤ 6)
 small_size v w size same is low high = (is ∙ ap category same, omega (arith, is ∙ ap category same, small_category v low high))
 
-pub below_22 : (n l s : ℕ) → l ≤ 16 → s ≤ 6 → n < 2 ^ (l + s) → n < 4194304
-below_22 n l s h k lt =
-    let p : 2 ^ (l + s) ≤ 2 ^ 22 = pow-le-pow_right {n = 2} (lit< tt) {i = l + s} {j = 22} (omega (arith, h, k)) in
-    omega (arith, p, lt)
-
 -- an entry of these bits
-pub entry_is : (codes : List Code) (run : ℕ) (v : ℤ) (l s n entry : ℕ) → l ≤ 16 → s ≤ 6 → n < 2 ^ (l + s) → s ≡ category v → bits_of (l + s) n ≡ code_of codes (16 * run + s) ++ extra_bits v → entry ≡ 32 * n + (l + s) → IsValueEntry codes run v entry
-entry_is codes run v l s n entry h k lt c bits e =
-    let m : entry % 32 ≡ l + s = omega (arith, h, k, e) in
-    let d : entry / 32 ≡ n = omega (arith, h, k, e) in
-    record {
-      bits = ap (λ m. bits_of m (entry / 32)) m ∙ ap (bits_of (l + s)) d ∙ bits ∙ ap (λ n. code_of codes (16 * run + n) ++ extra_bits v) c;
-      fits = subst (λ m. entry / 32 < 2 ^ m) (sym m) (subst (λ d. d < 2 ^ (l + s)) (sym d) lt);
-    }
+pub entry_is : (codes : List Code) (run : ℕ) (v : ℤ) (l s n : ℕ) → l ≤ 16 → s ≤ 6 → n < 2 ^ (l + s) → s ≡ category v → bits_of (l + s) n ≡ code_of codes (16 * run + s) ++ extra_bits v → IsValueEntry codes run v n (l + s)
+entry_is codes run v l s n h k lt c bits = record { bits = bits ∙ ap (λ n. code_of codes (16 * run + n) ++ extra_bits v) c; short = omega (arith, h, k); fits = lt }
 
-pub entry_at : (codes : List Code) (entries : List ℕ) (run n : ℕ) (v : ℤ) → AreValueEntries codes entries → run < 16 → n < 64 → pos n ≡ v +ℤ pos 32 → IsValueEntry codes run v (slice_index entries (64 * run + n))
-entry_at codes entries run n v all h k e =
+pub entry_at : (codes : List Code) (entries counts : List ℕ) (run n : ℕ) (v : ℤ) → AreValueEntries codes entries counts → run < 16 → n < 64 → pos n ≡ v +ℤ pos 32
+    → IsValueEntry codes run v (slice_index entries (64 * run + n)) (slice_index counts (64 * run + n))
+entry_at codes entries counts run n v all h k e =
     let i = 64 * run + n in
     let d : i / 64 ≡ run = omega (arith, h, k) in
     let m : i % 64 ≡ n = omega (arith, h, k) in
     let b : pos n -ℤ pos 32 ≡ v = omega (arith, ints, e) in
     let entry = slice_index entries i in
-    subst (λ w. IsValueEntry codes run w entry) (ap (λ m. pos m -ℤ pos 32) m ∙ b) (subst (λ r. IsValueEntry codes r (pos (i % 64) -ℤ pos 32) entry) d (all i (omega (arith, h, k))))
-
--- one more entry
-pub each_more : (P : ℕ → ℕ → Type 0) (entries : List ℕ) (i v : ℕ) → i < length entries → ((n : ℕ) → n < i → P n (get_or entries n 0)) → P i v → (n : ℕ) → n < i + 1 → P n (get_or (set entries i v) n 0)
-each_more P entries i v lt so_far here n h =
-    ⊎_elim
-    (λ (a : n < i). (let e : get_or (set entries i v) n 0 ≡ get_or entries n 0 = grind (arith, elements) in subst (P n) (sym e) (so_far n a)))
-    (λ (b : i ≤ n). (let e : i ≡ n = omega arith in
-    let w : get_or (set entries i v) i 0 ≡ v = grind (arith, elements) in
-    subst (λ m. P m (get_or (set entries i v) m 0)) e (subst (P i) (sym w) here)))
-    (cases_lt n i)
+    let count = slice_index counts i in
+    subst (λ w. IsValueEntry codes run w entry count) (ap (λ m. pos m -ℤ pos 32) m ∙ b) (subst (λ r. IsValueEntry codes r (pos (i % 64) -ℤ pos 32) entry count) d (all i (omega (arith, h, k))))
 
 -- two more entries
 pub both_more : (P : ℕ → ℕ → ℕ → Type 0) (xs ys : List ℕ) (i v w : ℕ) → i < length xs → i < length ys → ((n : ℕ) → n < i → P n (get_or xs n 0) (get_or ys n 0)) → P i v w
@@ -139,8 +120,8 @@ moves_negative codes run m base length h k b =
       room = omega (arith, ints, e, l);
       long = omega (arith, q, b.short, k);
       gives = λ n f. (let g : n + suc m ≡ base = omega (arith, ints, f) in
-      let t = spelled codes run size h k 1 base length n (2 ^ size - 1 - suc m) b (omega (arith, l)) (omega (arith, g, e, l)) in
-      (t.0 ∙ ap (λ x. code_of codes (16 * run + size) ++ x) (sym same), t.1));
+          let t = spelled codes run size h k 1 base length n (2 ^ size - 1 - suc m) b (omega (arith, l)) (omega (arith, g, e, l)) in
+          (t.0 ∙ ap (λ x. code_of codes (16 * run + size) ++ x) (sym same), t.1));
     }
 
 any_moves : (codes : List Code) (bases lengths : List ℕ) (run place : ℕ) (v : ℤ) → AreBases codes bases lengths → run < 16 → category v ≤ 15 → place < 512 → (v <ℤ pos 0 → place ≡ 256 + (16 * run + category v))

@@ -17,8 +17,10 @@ use std::marker::Model;
 pub struct Encoder {
     // the codes
     table: Table,
-    // of values from -32 to 31, by 64 times the run, plus the value and 32: 32 times the bits, plus how many they are
+    // of values from -32 to 31, by 64 times the run, plus the value and 32: the bits
     values: [u32; 1024],
+    // by the same: how many bits they are
+    counts: [u8; 1024],
     // of all values, by their symbol, plus 256 if they are negative: the bits less the value
     bases: [u32; 512],
     // by the same: how many bits they are
@@ -35,7 +37,7 @@ impl Model for Encoder {
 
     ghost view = { λ e. symbol_codes e.table };
 
-    ghost invariant = { λ e. AreValueEntries (symbol_codes e.table) e.values × AreBases (symbol_codes e.table) e.bases e.lengths };
+    ghost invariant = { λ e. AreValueEntries (symbol_codes e.table) e.values e.counts × AreBases (symbol_codes e.table) e.bases e.lengths };
 }
 
 // The value plus 32.
@@ -45,7 +47,7 @@ fn raised(value: i16) -> usize
     ensures value { pos result ≡ value +ℤ pos 32 }
     ensures few { result < 64 }
 {
-    (value + 32) as usize
+    (i32::from(value) + 32) as usize
 }
 
 // The number minus 32.
@@ -57,24 +59,26 @@ fn lowered(number: usize) -> i32
     number as i32 - 32
 }
 
-// The entry of a value.
-fn value_entry(table: &Table, run: u8, value: i32) -> u32
+// The entry of a value: its bits, and how many they are.
+fn value_entry(table: &Table, run: u8, value: i32) -> (u32, u8)
     requires run { run < 16 }
     requires small { (negsuc 31 ≤ℤ value) × (value ≤ℤ pos 31) }
-    ensures { IsValueEntry (symbol_codes table.now) run value result }
+    ensures { IsValueEntry (symbol_codes table.now) run value result.0 result.1 }
 {
     let size = category(value);
     let code = table.written(16 * run + size);
-    32 * joined(code, extra_bits(value), size) + u32::from(code.length + size)
+    (joined(code, extra_bits(value), size), code.length + size)
 }
 
 // Makes the entries of all values where they stay.
 #[inline(never)]
-fn fill_values(values: &mut [u32; 1024], table: &Table)
-    ensures { AreValueEntries (symbol_codes table.now) values.new }
+fn fill_values(values: &mut [u32; 1024], counts: &mut [u8; 1024], table: &Table)
+    ensures { AreValueEntries (symbol_codes table.now) values.new counts.new }
 {
     for i in 0..1024usize {
-        values[i] = value_entry(table, (i / 64) as u8, lowered(i % 64));
+        let (bits, count) = value_entry(table, (i / 64) as u8, lowered(i % 64));
+        values[i] = bits;
+        counts[i] = count;
     }
 }
 
@@ -145,8 +149,8 @@ impl Encoder {
         ensures bits { bits_of result.1 result.0 ≡ code_of self.now (16 * run + category_of value) ++ extra_of value }
         ensures fits { (result.1 ≤ 32) × (result.0 < 2 ^ result.1) }
     {
-        let entry = self.values[64 * run as usize + raised(value)];
-        (entry >> 5, (entry % 32) as u8)
+        let place = 64 * run as usize + raised(value);
+        (self.values[place], self.counts[place])
     }
 
     /// What is written for any value of a category up to 15 after fewer than 16 zeros, and how many bits it has, as by `value`.
@@ -174,10 +178,11 @@ fn put_encoder(place: &mut Option<Encoder>, table: Option<&Table>)
             let mut encoder = Encoder {
                 table: table.copy(),
                 values: [0; 1024],
+                counts: [0; 1024],
                 bases: [0; 512],
                 lengths: [0; 512],
             };
-            fill_values(&mut encoder.values, table);
+            fill_values(&mut encoder.values, &mut encoder.counts, table);
             fill_bases(&mut encoder.bases, &mut encoder.lengths, table);
             *place = Some(encoder);
         }
