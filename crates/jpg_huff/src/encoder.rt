@@ -1,4 +1,4 @@
-//! What is written for symbols (T.81, F.1.2.1), and for small values after short runs of zeros (F.1.2.2, Figure F.3).
+//! What is written for symbols (T.81, F.1.2.1), and for values after short runs of zeros (F.1.2.2, Figure F.3).
 ghost use Rattle.std.specs.Prelude.{◌≡◌, ◌<◌, ◌≤◌, ◌+◌, ◌*◌, ◌^◌, ◌++◌, ◌-◌, ◌≤ℤ◌, ◌<ℤ◌, pos, negsuc, ◌+ℤ◌, ◌-ℤ◌};
 ghost use Rattle.jpg_spec.specs.Bits.{bits_of};
 ghost use Rattle.jpg_spec.specs.Numbers.{category as category_of, extra_bits as extra_of};
