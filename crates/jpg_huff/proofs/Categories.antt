@@ -12,15 +12,23 @@ use Rattle.jpg_spec.proofs.Basics.Strings.{bit_value}
 use Rattle.jpg_spec.proofs.Bits.ExtraBits.{digits_high, double}
 use Rattle.jpg_huff.proofs.Levels.{bit_small}
 
--- the digits of a number of 32 bits
-pub digits_counted : (n : ℕ) → n < 2 ^ 32 → 32 - count_leading_zeros 32 n ≡ digits n
-unfolding digits count_leading_zeros
-digits_counted zero h = refl
-digits_counted (suc n) h =
-    let t = leading_top 32 (suc n) (omega arith) h in
-    let j : suc t.0 - 1 ≡ t.0 = omega arith in
-    let e = digits_high (suc t.0) (suc n) (omega arith) (subst (λ k. 2 ^ k ≤ suc n) (sym j) t.2) t.3 in
-    omega (arith, e, t.1)
+-- the digits of a number of 32 bits, counted with a 1 behind it
+digits_by : (j n : ℕ) → 2 ^ j ≤ 2 * n + 1 → 2 * n + 1 < 2 ^ suc j → j ≡ digits n
+unfolding digits
+digits_by zero zero low high = refl
+digits_by zero (suc n) low high = absurd (omega (arith, high))
+digits_by (suc j) n low high =
+    let q = double (suc j) (omega arith) in
+    let r = double (suc (suc j)) (omega arith) in
+    let same : suc j - 1 ≡ j = omega arith in
+    let low : 2 ^ (suc j - 1) ≤ n = omega (arith, q, low) in
+    sym (digits_high (suc j) n (omega arith) low (omega (arith, r, high)))
+
+pub digits_counted : (n : ℕ) → n < 2 ^ 32 → 63 - count_leading_zeros 64 (2 * n + 1) ≡ digits n
+digits_counted n h =
+    let t = leading_top 64 (2 * n + 1) (omega arith) (omega (arith, h)) in
+    let e : 63 - count_leading_zeros 64 (2 * n + 1) ≡ t.0 = omega (arith, t.1) in
+    e ∙ digits_by t.0 n t.2 t.3
 
 -- a number of 32 bits is below 2 to the number of its digits
 pub shifted_fits : (m d n : ℕ) → n ≡ m → d ≡ digits m → d ≤ 32 → n ≤ 1 * 2 ^ d % 18446744073709551616 - 1

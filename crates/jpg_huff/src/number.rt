@@ -9,7 +9,7 @@ fn binary_digits(magnitude: u32) -> u8
     ensures digits { result ≡ digits magnitude }
     ensures fits { result ≤ 32 }
 {
-    (32 - magnitude.leading_zeros()) as u8
+    (63 - (2 * u64::from(magnitude) + 1).leading_zeros()) as u8
 }
 
 /// The category: the number of binary digits of the magnitude, 0 to 32 (T.81, Tables F.1 and F.2).

@@ -1,5 +1,5 @@
 //! Bits written as stuffed bytes (T.81, C.3, F.1.2.3).
-ghost use Rattle.std.specs.Prelude.{◌≡◌, ◌≤◌, ◌<◌, ◌+◌, ◌-◌, ◌^◌, [], ◌++◌, true};
+ghost use Rattle.std.specs.Prelude.{◌≡◌, ◌≤◌, ◌<◌, ◌+◌, ◌*◌, ◌-◌, ◌^◌, [], ◌++◌, true};
 ghost use Rattle.jpg_spec.specs.Bits.{bits_of};
 ghost use Rattle.jpg_huff.specs.BitOut.{CanSend, Puts, PutsAfter, PutsInto, Pads, Sends, extended_bits, nothing_waits, waiting, holding};
 
@@ -133,6 +133,7 @@ pub(crate) fn joined(code: Code, extra: u32, size: u8) -> u32
     requires extra { (size ≤ 16) × (extra < 2 ^ size) }
     ensures bits { bits_of (code.length + size) result ≡ bits_of code.length code.bits ++ bits_of size extra }
     ensures fits { result < 2 ^ (code.length + size) }
+    ensures number { result ≡ code.bits * 2 ^ size + extra }
 {
     (u32::from(code.bits) << size) + extra
 }

@@ -8,7 +8,7 @@ ghost use Rattle.jpg_huff.specs.Tables.{symbol_codes};
 ghost use Rattle.jpg_seq.specs.BlockBits.{IsShort, run_bits, band_bits, block_bits};
 
 use jpg_base::{Block, Desk, WriteFault};
-use jpg_huff::{BitOut, Code, Encoder, ExtendedCode, PendingBits, Table, category, extra_bits};
+use jpg_huff::{BitOut, Encoder, ExtendedCode, PendingBits, Table, category, extra_bits};
 
 // Writes the first code of a symbol, if any.
 #[inline(always)]
@@ -64,30 +64,6 @@ fn put_value<D: Desk>(
     out.put_code(code, desk)
 }
 
-// Writes a code, and then the extra bits of a value, after bits that were handed out.
-#[inline(always)]
-fn put_value_after<D: Desk>(
-    code: Code,
-    value: i32,
-    held: PendingBits,
-    out: &mut BitOut,
-    desk: &mut D,
-) -> Result<PendingBits, WriteFault>
-    requires created { (D.state desk.old).output_created ≡ true }
-    requires code { (code.length ≤ 16) × (code.bits < 2 ^ code.length) }
-    requires short { category_of value ≤ 16 }
-    requires none { out.old.bits ≡ [] }
-    ensures puts { PutsAfter (D.state desk.old) out.old held (bits_of code.length code.bits ++ extra_of value) result out.new (D.state desk.new) }
-    ensures none { out.new.bits ≡ [] }
-{
-    let code = ExtendedCode {
-        code,
-        extra: extra_bits(value),
-        size: category(value),
-    };
-    out.put_code_after(held, code, desk)
-}
-
 // A value that isn't 0, after a run of zeros.
 #[derive(Clone, Copy)]
 struct RunValue {
@@ -138,11 +114,27 @@ fn put_any_after<D: Desk>(
     }
 }
 
-// Writes a value after a run of zeros, after bits that were handed out (T.81, F.1.2.2, Figure F.3). A small value after
-// a short run is looked up together with its code.
+// What gives the codes of values, and whether the values are of mixed sizes: which of two ways one would take can't be
+// foreseen then, and all take the same one.
+#[derive(Clone, Copy)]
+struct RunCodes<'a> {
+    ac: &'a Encoder,
+    mixed: bool,
+}
+
+// Whether a value has an entry of its own.
+#[inline(always)]
+fn is_small(value: i16) -> bool
+    ensures { result ≡ true → (negsuc 31 ≤ℤ value) × (value ≤ℤ pos 31) }
+{
+    value >= -32 && value < 32
+}
+
+// Writes a value after a run of zeros, after bits that were handed out (T.81, F.1.2.2, Figure F.3). After a short run it is
+// looked up together with its code.
 #[inline(always)]
 fn put_run<D: Desk>(
-    ac: &Encoder,
+    codes: RunCodes<'_>,
     next: RunValue,
     held: PendingBits,
     out: &mut BitOut,
@@ -151,20 +143,20 @@ fn put_run<D: Desk>(
     requires created { (D.state desk.old).output_created ≡ true }
     requires short { category_of next.value ≤ 15 }
     requires none { out.old.bits ≡ [] }
-    ensures puts { PutsAfter (D.state desk.old) out.old held (run_bits ac.now next.run next.value) result out.new (D.state desk.new) }
+    ensures puts { PutsAfter (D.state desk.old) out.old held (run_bits codes.entry.ac.now next.run next.value) result out.new (D.state desk.new) }
     ensures none { out.new.bits ≡ [] }
 {
+    let RunCodes { ac, mixed } = codes;
     let RunValue { run, value } = next;
     if run >= 16 {
         // a record of its own, so that only this branch stores one
         put_any_after(ac, RunValue { run, value }, held, out, desk)
-    } else if value >= -32 && value < 32 {
+    } else if !mixed && is_small(value) {
         let (bits, count) = ac.value(run, value);
         out.put_after(held, bits, count, desk)
     } else {
-        let value = i32::from(value);
-        let code = ac.code(16 * run + category(value));
-        put_value_after(code, value, held, out, desk)
+        let (bits, count) = ac.any_value(run, value);
+        out.put_after(held, bits, count, desk)
     }
 }
 
@@ -172,7 +164,7 @@ fn put_run<D: Desk>(
 // bits that were handed out (T.81, F.1.2.2, Figure F.2).
 #[inline(always)]
 fn put_band<D: Desk>(
-    ac: &Encoder,
+    codes: RunCodes<'_>,
     block: &Block,
     before: PendingBits,
     out: &mut BitOut,
@@ -181,7 +173,7 @@ fn put_band<D: Desk>(
     requires created { (D.state desk.old).output_created ≡ true }
     requires short { IsShort block.now }
     requires none { out.old.bits ≡ [] }
-    ensures puts { PutsAfter (D.state desk.old) out.old before (band_bits ac.now (drop 1 block.now)) result out.new (D.state desk.new) }
+    ensures puts { PutsAfter (D.state desk.old) out.old before (band_bits codes.entry.ac.now (drop 1 block.now)) result out.new (D.state desk.new) }
     ensures none { out.new.bits ≡ [] }
 {
     block.long();
@@ -194,14 +186,78 @@ fn put_band<D: Desk>(
             run: k - next,
             value: block.get(k),
         };
-        held = put_run(ac, value, held, out, desk)?;
+        held = put_run(codes, value, held, out, desk)?;
         next = k + 1;
         rest &= rest - 1;
     }
     if next < 64 {
-        put_code_after(ac, 0, held, out, desk)
+        put_code_after(codes.ac, 0, held, out, desk)
     } else {
         Ok(held)
+    }
+}
+
+// Whether an eighth of the values have no entry of their own. It remains a call, so that vectors of a block with few values
+// aren't kept for it.
+#[inline(never)]
+fn has_large(block: &Block) -> bool {
+    let mut count = 0u8;
+    for k in 0..64u8 {
+        if !is_small(block.get(k)) {
+            count += 1;
+        }
+    }
+    count >= 8
+}
+
+// Whether a block has values of mixed sizes, as noise of high quality has. Either answer is right.
+#[inline(always)]
+fn is_mixed(block: &Block) -> bool {
+    block.nonzero().count_ones() >= 40 && has_large(block)
+}
+
+// Writes the values after the first one, where they are of mixed sizes.
+#[inline(never)]
+fn put_mixed<D: Desk>(
+    ac: &Encoder,
+    block: &Block,
+    out: &mut BitOut,
+    desk: &mut D,
+) -> Result<(), WriteFault>
+    requires created { (D.state desk.old).output_created ≡ true }
+    requires short { IsShort block.now }
+    ensures { Puts (D.state desk.old) out.old (band_bits ac.now (drop 1 block.now)) result out.new (D.state desk.new) }
+{
+    let before = out.take();
+    let codes = RunCodes { ac, mixed: true };
+    let held = put_band(codes, block, before, out, desk)?;
+    out.give(held);
+    Ok(())
+}
+
+// Writes the values after the first one, after bits that were handed out.
+#[inline(always)]
+fn put_values<D: Desk>(
+    ac: &Encoder,
+    block: &Block,
+    before: PendingBits,
+    out: &mut BitOut,
+    desk: &mut D,
+) -> Result<PendingBits, WriteFault>
+    requires created { (D.state desk.old).output_created ≡ true }
+    requires short { IsShort block.now }
+    requires none { out.old.bits ≡ [] }
+    ensures puts { PutsAfter (D.state desk.old) out.old before (band_bits ac.now (drop 1 block.now)) result out.new (D.state desk.new) }
+    ensures none { out.new.bits ≡ [] }
+{
+    if is_mixed(block) {
+        out.give(before);
+        match put_mixed(ac, block, out, desk) {
+            Ok(()) => Ok(out.take()),
+            Err(fault) => Err(fault),
+        }
+    } else {
+        put_band(RunCodes { ac, mixed: false }, block, before, out, desk)
     }
 }
 
@@ -263,7 +319,7 @@ pub(crate) fn put_block<D: Desk>(
     let value = difference(block.get(0), prediction);
     let before = out.take();
     let first = put_difference(codes.dc, value, before, out, desk)?;
-    let held = put_band(codes.ac, block, first, out, desk)?;
+    let held = put_values(codes.ac, block, first, out, desk)?;
     out.give(held);
     Ok(())
 }

@@ -19,7 +19,7 @@ use Rattle.jpg_seq.proofs.write.put_band.Goals as goal
 
 pub loop-rest-init : goal.loop-rest-init
 loop-rest-init g c =
-    let codes = c.args.ac.now in
+    let codes = c.args.codes.ac.now in
     let block = c.args.block.now in
     let s = g.D.Desk.state c.args.desk.now in
     let small : c.nonzero.result < 2 ^ 64 = search rules in
@@ -38,24 +38,24 @@ loop-rest-init g c =
 pub get-requires : goal.get-requires
 get-requires g c =
     let rest = c.loop-rest.rest in
-    (next_value c.args.ac.now c.args.block.now c.loop-rest.next (trailing_zeros w64 rest) rest c.long.ensures c.loop-rest.invariant.few c.loop-rest.invariant.marked (omega (arith, c.loop-rest-test.true)) refl).1
+    (next_value c.args.codes.ac.now c.args.block.now c.loop-rest.next (trailing_zeros w64 rest) rest c.long.ensures c.loop-rest.invariant.few c.loop-rest.invariant.marked (omega (arith, c.loop-rest-test.true)) refl).1
 
 pub overflow_sub-value : goal.overflow_sub-value
 overflow_sub-value g c =
     let rest = c.loop-rest.rest in
-    (next_value c.args.ac.now c.args.block.now c.loop-rest.next (trailing_zeros w64 rest) rest c.long.ensures c.loop-rest.invariant.few c.loop-rest.invariant.marked (omega (arith, c.loop-rest-test.true)) refl).0
+    (next_value c.args.codes.ac.now c.args.block.now c.loop-rest.next (trailing_zeros w64 rest) rest c.long.ensures c.loop-rest.invariant.few c.loop-rest.invariant.marked (omega (arith, c.loop-rest-test.true)) refl).0
 
 pub loop-rest-smaller : goal.loop-rest-smaller
 loop-rest-smaller g c =
     let rest = c.loop-rest.rest in
-    let n = next_value c.args.ac.now c.args.block.now c.loop-rest.next (trailing_zeros w64 rest) rest c.long.ensures c.loop-rest.invariant.few c.loop-rest.invariant.marked (omega (arith, c.loop-rest-test.true)) refl in
+    let n = next_value c.args.codes.ac.now c.args.block.now c.loop-rest.next (trailing_zeros w64 rest) rest c.long.ensures c.loop-rest.invariant.few c.loop-rest.invariant.marked (omega (arith, c.loop-rest-test.true)) refl in
     omega (arith, n.0, n.1)
 
 pub put_run-requires-clause-short : goal.put_run-requires-clause-short
 put_run-requires-clause-short g c =
     let rest = c.loop-rest.rest in
     let k = trailing_zeros w64 rest in
-    let n = next_value c.args.ac.now c.args.block.now c.loop-rest.next (trailing_zeros w64 rest) rest c.long.ensures c.loop-rest.invariant.few c.loop-rest.invariant.marked (omega (arith, c.loop-rest-test.true)) refl in
+    let n = next_value c.args.codes.ac.now c.args.block.now c.loop-rest.next (trailing_zeros w64 rest) rest c.long.ensures c.loop-rest.invariant.few c.loop-rest.invariant.marked (omega (arith, c.loop-rest-test.true)) refl in
     let f : SFits w16 c.get.result = search rules in
     let e : to_z w16 (of_z w16 c.get.result) ≡ slice_index_or c.args.block.now k (pos 0) = to_z-of_z w16 c.get.result f ∙ c.get.ensures.value in
     subst (λ v. category v ≤ 15) (sym e) (c.requires.short k (omega (arith, n.0, c.loop-rest.invariant.some)) n.1)
@@ -63,7 +63,7 @@ put_run-requires-clause-short g c =
 pub returns-in_err-held-clause-puts : goal.returns-in_err-held-clause-puts
 returns-in_err-held-clause-puts g c =
     let state = g.D.Desk.state in
-    let codes = c.args.ac.now in
+    let codes = c.args.codes.ac.now in
     let block = c.args.block.now in
     let rest = c.loop-rest.rest in
     let k = trailing_zeros w64 rest in
@@ -85,7 +85,7 @@ returns-in_err-held-clause-puts g c =
 pub loop-rest-preserved : goal.loop-rest-preserved
 loop-rest-preserved g c =
     let state = g.D.Desk.state in
-    let codes = c.args.ac.now in
+    let codes = c.args.codes.ac.now in
     let block = c.args.block.now in
     let rest = c.loop-rest.rest in
     let k = trailing_zeros w64 rest in
@@ -109,7 +109,7 @@ loop-rest-preserved g c =
 pub returns-then-next-lt64-clause-puts : goal.returns-then-next-lt64-clause-puts
 returns-then-next-lt64-clause-puts g c =
     let state = g.D.Desk.state in
-    let codes = c.args.ac.now in
+    let codes = c.args.codes.ac.now in
     let block = c.args.block.now in
     let next = c.loop-rest.next in
     let all = band_bits codes (drop 1 block) in
@@ -121,7 +121,7 @@ returns-then-next-lt64-clause-puts g c =
 pub returns-else-next-lt64-clause-puts : goal.returns-else-next-lt64-clause-puts
 returns-else-next-lt64-clause-puts g c =
     let state = g.D.Desk.state in
-    let codes = c.args.ac.now in
+    let codes = c.args.codes.ac.now in
     let block = c.args.block.now in
     let next = c.loop-rest.next in
     let all = band_bits codes (drop 1 block) in

@@ -12,7 +12,7 @@ invariant-loop-rest g l =
     let state = g.D.Desk.state in
     record {
       created : (state l.desk).output_created ≡ true;
-      part : DoneButFor Puts (state l.fn.desk) (holding l.fn.out l.fn.before) (band_bits l.ac (drop 1 l.block)) (left_bits l.ac (drop l.next l.block) 0) (holding l.out l.held) (state l.desk);
+      part : DoneButFor Puts (state l.fn.desk) (holding l.fn.out l.fn.before) (band_bits l.codes.ac.now (drop 1 l.block)) (left_bits l.codes.ac.now (drop l.next l.block) 0) (holding l.out l.held) (state l.desk);
       none : l.out.bits ≡ [];
       marked : l.rest ≡ marks (blank l.next l.block);
       some : 1 ≤ l.next;

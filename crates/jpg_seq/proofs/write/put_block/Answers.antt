@@ -36,7 +36,7 @@ returns g c =
     let s1 = state c.put_difference.new.desk in
     let taken = c.take-before.new.self in
     let first = subst (λ bits. PutsAfter s0 taken c.take-before.result bits (Ok c.in_ok-first.first) c.put_difference.new.out s1) q c.in_ok-first.ensures.puts in
-    given_back s0 s1 (state c.put_band.new.desk) c.args.out.now taken c.put_difference.new.out c.put_band.new.out c.give.new.self c.take-before.result c.in_ok-first.first c.in_ok-held.held (code_of dc (category d) ++ extra_bits d)
+    given_back s0 s1 (state c.put_values.new.desk) c.args.out.now taken c.put_difference.new.out c.put_values.new.out c.give.new.self c.take-before.result c.in_ok-first.first c.in_ok-held.held (code_of dc (category d) ++ extra_bits d)
     (band_bits c.args.codes.ac.now (drop 1 c.args.block.now)) c.take-before.ensures.left c.take-before.ensures.held first c.in_ok-held.ensures.puts c.give.ensures
 
 pub returns-in_err-held : goal.returns-in_err-held
@@ -57,7 +57,7 @@ returns-in_err-held g c =
     let taken = c.take-before.new.self in
     let first = subst (λ bits. PutsAfter s0 taken c.take-before.result bits (Ok c.in_ok-first.first) c.put_difference.new.out s1) q c.in_ok-first.ensures.puts in
     let back = err_from_is_err_and c.from_residual-in_err-held.result c.from_residual-in_err-held.ensures.1 in
-    rw (back.1, back.2) (second_fault s0 s1 (state c.put_band.new.desk) c.args.out.now taken c.put_difference.new.out c.put_band.new.out c.take-before.result c.in_ok-first.first (code_of dc (category d) ++ extra_bits d)
+    rw (back.1, back.2) (second_fault s0 s1 (state c.put_values.new.desk) c.args.out.now taken c.put_difference.new.out c.put_values.new.out c.take-before.result c.in_ok-first.first (code_of dc (category d) ++ extra_bits d)
     (band_bits c.args.codes.ac.now (drop 1 c.args.block.now)) c.in_err-held.field-0.0 c.take-before.ensures.left c.take-before.ensures.held first c.in_err-held.ensures.puts c.in_err-held.ensures.none)
 
 pub returns-in_err-first : goal.returns-in_err-first

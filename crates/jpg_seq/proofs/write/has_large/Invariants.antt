@@ -1,0 +1,5 @@
+use Rattle.std.specs.Prelude.{◌≤◌}
+use Rattle.jpg_seq.proofs.write.has_large.Given as goal
+
+abbrev pub invariant-loop-k : goal.invariant-loop-k
+invariant-loop-k l = l.count ≤ l.k
