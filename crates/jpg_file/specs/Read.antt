@@ -28,6 +28,7 @@ pub mod RowTurns
 pub mod RowsKnown
 pub mod RowsNone
 pub mod RowsSoFar
+pub mod ScanBlocks
 pub mod ScanHistory
 pub mod ScanPieces
 pub mod ScanStart

@@ -1,5 +1,5 @@
 -- Bits, and the data of a scan, while an MCU row is read, of which some bits may wait.
-use Rattle.std.proofs.Common.{◌≡◌, ℕ, Bool, List, sym, subst, ◌+◌, ◌-◌, ◌*◌, ◌/◌, ◌≤◌, length, drop, get_or, refl, ap, ◌∙◌, arith, false, [], ◌∷◌, ◌++◌, Ok, Err, true, take}
+use Rattle.std.proofs.Common.{◌≡◌, ℕ, Bool, List, sym, subst, ◌+◌, ◌-◌, ◌*◌, ◌/◌, ◌≤◌, length, drop, get_or, refl, ap, ◌∙◌, arith, false, [], ◌∷◌, ◌++◌, Ok, Err, take}
 use Rattle.jpg_coefs.specs.Machine.{Interval, TakesBits, Chain, Kind}
 use Rattle.jpg_coefs.specs.Picture.{Picture}
 use Rattle.jpg_coefs.specs.declared.machine.Taken.{Taken}
@@ -16,7 +16,9 @@ use Rattle.jpg_spec.specs.Bits.{bits_of, bits_of_bytes}
 use Rattle.jpg_coefs.specs.declared.machine.Taken.TheVariants as taken
 use Rattle.jpg_file.specs.Read.Data.{GivesBits, GivesRun, waits_of, AnswersIn}
 use Rattle.jpg_file.specs.Read.RowCounts.{CountsRow}
-use Rattle.jpg_file.specs.Read.RowData.{TakesRowData, TakesRowRun, HalfData, AfterRowBytes, AfterRowByte, InRowData, RunRest}
+use Rattle.jpg_file.specs.Read.RowData.{HalfData, AfterBytes, TakesRun}
+use Rattle.jpg_file.specs.Read.RowLast.{row_stored}
+use Rattle.jpg_file.specs.Read.ScanBlocks.{TakesBitsInto, TakesBytesInto}
 use Rattle.jpg_file.specs.declared.read.rows.RowWork.{RowWork}
 use Rattle.jpg_file.proofs.Scans.Runs.{given, run_given, some_given, answers_after}
 use Rattle.std.proofs.lemmas.List.{append_assoc}
@@ -25,12 +27,10 @@ use Rattle.jpg_spec.specs.ScanReading.{ScanPlace, ScanAt, with_byte}
 use Rattle.jpg_spec.specs.declared.frame.Limits.{Limits}
 use Rattle.jpg_coefs.specs.declared.machine.UnitStep.TheVariants as step
 use Rattle.jpg_coefs.proofs.Chains.{chain_then}
-use Rattle.jpg_file.specs.Read.InData.{AfterBytes, AtWork, scan_answer, work_after, AfterByte, ArePlain, InData, byte_answer}
+use Rattle.jpg_file.specs.Read.InData.{AtWork, scan_answer, work_after, ArePlain, InData}
 use Rattle.jpg_file.specs.declared.read.scan.InScan.{InScan}
 use Rattle.jpg_file.specs.declared.read.scan.ScanWork.{ScanWork}
 use Rattle.jpg_file.proofs.Scans.ScanBytes.{data_byte, due_data, before_last, mid_of, open_at, of_half, of_work}
-use Rattle.std.specs.Prelude.{Result}
-use Rattle.jpg_spec.specs.declared.fault.Fault.{Fault}
 use Rattle.jpg_spec.proofs.Files.ScanSteps.{plain_data}
 
 -- The machine of a sequential scan among the others, while an MCU row is read.
@@ -91,11 +91,6 @@ module _ (w : RowWork) (m after : ScanReader) (row : Picture) (answer : Taken) w
         later = refl;
         passed = p.passes.units;
         left = omega (arith, passed, count, few);
-        old_machine = p.old_machine;
-        new_machine = p.new_machine;
-        old_is = p.old_is;
-        new_is = p.new_is;
-        cursor = p.passes.cursor;
         interval = passed;
         ended = all_passed w.left m after answer p;
         wait = λ some. omega (arith, passed, count, waits_all w.left m after answer rest p (subst (λ z. 1 ≤ length z) waits some));
@@ -104,14 +99,14 @@ module _ (w : RowWork) (m after : ScanReader) (row : Picture) (answer : Taken) w
   -- DATA of the row
 
   pub data_takes : (left : ℕ) (bits rest waiting : List Bool) → waiting ≡ waits_of answer rest → TakesRowBits w.left w.tops m w.coefs bits answer after row rest
-      → TakesRowData w m bits answer (record w { coefs = row; left = left; waiting = waiting }) after
+      → TakesBitsInto row_stored w m bits answer (record w { coefs = row; left = left; waiting = waiting }) after
   data_takes left bits rest waiting waits t = λ whole at o.
       (let k = t whole at o in (k.0, k.1, subst (λ (z : List Bool). GivesBits any_scan m whole bits answer z after k.0) (sym waits) (given any_scan m whole w.left after k.0 bits rest answer k.2)))
 
   pub run_takes_row : (left : ℕ) (bytes : List ℕ) (count n : ℕ) (last waiting : List Bool) → 1 ≤ length bytes → count ≤ 8 * length bytes
       → n ≡ length bytes - length (drop count (bits_of_bytes bytes)) / 8 → last ≡ drop (count - 8 * (n - 1)) (bits_of 8 (get_or bytes (n - 1) 0))
       → waiting ≡ waits_of answer last → TakesRowBits w.left w.tops m w.coefs (bits_of_bytes bytes) answer after row (drop count (bits_of_bytes bytes))
-      → TakesRowRun w m bytes n answer (record w { coefs = row; left = left; waiting = waiting }) after
+      → TakesBytesInto row_stored w m bytes n answer (record w { coefs = row; left = left; waiting = waiting }) after
   run_takes_row left bytes count n last waiting some within size is waits t = λ whole at o.
       (let k = t whole at o in (
         k.0,
@@ -148,13 +143,13 @@ module _ (limits : Limits) (items : List Item) (contents bytes : List ℕ) where
     pub half_after : (byte : ℕ) (gate : Bool) (w : ScanWork) (before after : Picture) (answer : Taken) (waiting : List Bool) (m : ScanReader)
         → (p.items ≡ items) × (p.contents ≡ contents) → ScanAt limits bytes (with_byte p byte) [] → gate ≡ false → AtWork limits p w before → w.whole ≡ false
         → GivesBits any_scan w.machine before (bits_of 8 byte) answer waiting m after
-        → AfterRowBytes limits items contents bytes (scan_answer answer) waiting (record { gate = gate; work = work_after w m answer }) after
+        → AfterBytes limits items contents bytes (scan_answer answer) waiting (record { gate = gate; work = work_after w m answer }) after
     half_after byte gate w before after answer waiting m of at g k e b = by answer waiting b
       where
-        none : (answer : Taken) → GivesBits any_scan w.machine before (bits_of 8 byte) answer [] m after → AfterBytes limits items contents bytes (scan_answer answer) (record { gate = gate; work = work_after w m answer }) after
+        none : (answer : Taken) → GivesBits any_scan w.machine before (bits_of 8 byte) answer [] m after → AfterBytes limits items contents bytes (scan_answer answer) [] (record { gate = gate; work = work_after w m answer }) after
         none answer b = data_byte limits items contents bytes (with_byte p byte) gate (work_after w m answer) after (scan_answer answer) of at g (due_data limits p w before e k bytes byte m after answer at b)
 
-        by : (answer : Taken) (waiting : List Bool) → GivesBits any_scan w.machine before (bits_of 8 byte) answer waiting m after → AfterRowBytes limits items contents bytes (scan_answer answer) waiting (record { gate = gate; work = work_after w m answer }) after
+        by : (answer : Taken) (waiting : List Bool) → GivesBits any_scan w.machine before (bits_of 8 byte) answer waiting m after → AfterBytes limits items contents bytes (scan_answer answer) waiting (record { gate = gate; work = work_after w m answer }) after
         by taken.More [] b = none taken.More b
         by taken.More (bit ∷ bits) b = absurd (omega (arith, ap length b.0))
         by taken.Units [] b = none taken.Units b
@@ -168,28 +163,16 @@ module _ (limits : Limits) (items : List Item) (contents bytes : List ℕ) where
   -- the bits that waited are taken
   pub half_then : (waiting rest : List Bool) (s : InScan) (now after : Picture) (answer : Taken) (m : ScanReader)
       → HalfData limits items contents bytes waiting s now → GivesBits any_scan s.work.machine now waiting answer rest m after
-      → AfterRowBytes limits items contents bytes (scan_answer answer) rest (record { gate = s.gate; work = work_after s.work m answer }) after
+      → AfterBytes limits items contents bytes (scan_answer answer) rest (record { gate = s.gate; work = work_after s.work m answer }) after
   half_then waiting rest s now after answer m h b =
       let all = rest_then any_scan (h.old).machine s.work.machine m h.before now after (bits_of 8 h.byte) waiting rest answer h.bits b in
       let same : work_after s.work m answer ≡ work_after h.old m answer = ap (λ w. work_after w m answer) h.same in
-      subst (λ (w : ScanWork). AfterRowBytes limits items contents bytes (scan_answer answer) rest (record { gate = s.gate; work = w }) after) (sym same)
+      subst (λ (w : ScanWork). AfterBytes limits items contents bytes (scan_answer answer) rest (record { gate = s.gate; work = w }) after) (sym same)
       (half_after h.place h.byte s.gate h.old h.before after answer rest m h.of h.at h.gate h.work h.due all)
 
 -- The data of a scan while an MCU row is read.
 
 module _ (limits : Limits) (items : List Item) (contents bytes : List ℕ) where
-  -- no bits wait
-  pub rest_none : (byte : ℕ) (answer : Result Bool Fault) (waiting : List Bool) (s : InScan) (now : Picture) → waiting ≡ []
-      → AfterByte limits items contents bytes byte answer s now → AfterRowByte limits items contents bytes byte answer waiting s now
-  rest_none byte (Ok false) waiting s now none a = subst (λ (z : List Bool). InRowData limits items contents bytes z s now) (sym none) a
-  rest_none byte (Ok true) waiting s now none a = (none, a)
-  rest_none byte (Err f) waiting s now none a = a
-
-  pub data_answer : (byte : ℕ) (answer : Result (Unit {0}) Fault) (waiting : List Bool) (s : InScan) (now : Picture)
-      → AfterRowBytes limits items contents bytes answer waiting s now → AfterRowByte limits items contents bytes byte (byte_answer answer) waiting s now
-  data_answer byte (Ok u) waiting s now k = k
-  data_answer byte (Err f) waiting s now k = k
-
   -- the machine represents the bits of the interval
   pub open_scan : (s : InScan) (now : Picture) → InData limits items contents bytes s now → s.work.whole ≡ false → IsOpenRowScan s.work.machine now
   open_scan s now d e = (let k = of_work limits d.place s.work now e d.work in (k.interval, k.taken, k.stands))
@@ -197,17 +180,22 @@ module _ (limits : Limits) (items : List Item) (contents bytes : List ℕ) where
   pub open_half : (waiting : List Bool) (s : InScan) (now : Picture) → HalfData limits items contents bytes waiting s now → IsOpenRowScan s.work.machine now
   open_half waiting s now h = (let k = of_half limits items contents bytes waiting s now h in (k.interval, k.taken, k.stands))
 
-  -- plain bytes one after another
-  pub run_in_row : (run : List ℕ) (n : ℕ) (s : InScan) (m : ScanReader) (now after : Picture) (step : Taken) (waiting : List Bool) → s.gate ≡ false
-      → s.work.whole ≡ false → ArePlain run → InData limits items contents bytes s now
-      → GivesRun ScanReader any_scan s.work.machine now run n step waiting m after
-      → RunRest limits items contents bytes run n (scan_answer step) waiting (record { gate = s.gate; work = work_after s.work m step }) after
-  run_in_row run n s m now after step waiting gate whole plain d g =
-      let low = g.within in
-      let mid = mid_of s g.mid in
-      let before = before_last s now gate whole g.mid g.between run g.early (omega (arith, low)) plain g.chain limits items contents bytes d in
-      let first = bytes ++ take g.early run in
-      let byte = get_or run g.early 0 in
-      let at = plain_data limits first before.place byte (open_at limits items contents first mid g.between before gate) (plain g.early low) in
-      let last = half_after limits items contents (first ++ byte ∷ []) before.place byte s.gate (mid.work) g.between after step waiting m before.of at gate before.work refl g.last in
-      record { mid = mid; between = g.between; early = g.early; count = g.count; within = low; «open» = gate; before = before; last = last }
+-- SOME PLAIN BYTES one after another
+pub run_takes : (s : InScan) (m : ScanReader) (now after : Picture) (run : List ℕ) (n : ℕ) (answer : Taken) (waiting : List Bool) → s.gate ≡ false → s.work.whole ≡ false → ArePlain run
+    → GivesRun ScanReader any_scan s.work.machine now run n answer waiting m after → TakesRun s now run n (scan_answer answer) waiting (record s { work = work_after (s.work) m answer }) after
+run_takes s m now after run n answer waiting gate whole plain g =
+    let low = g.within in
+    let byte = get_or run g.early 0 in
+    let mid = mid_of s g.mid in
+    record {
+      mid = mid;
+      between = g.between;
+      early = g.early;
+      count = g.count;
+      within = low;
+      «open» = gate;
+      before = before_last s now gate whole g.mid g.between run g.early (omega (arith, low)) plain g.chain;
+      last = λ limits items contents bytes d.
+          (let at = plain_data limits bytes d.place byte (open_at limits items contents bytes mid g.between d gate) (plain g.early low) in
+          half_after limits items contents (bytes ++ byte ∷ []) d.place byte s.gate (mid.work) g.between after answer waiting m d.of at gate d.work refl g.last);
+    }

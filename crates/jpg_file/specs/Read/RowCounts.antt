@@ -1,11 +1,9 @@
 -- How many units of the current MCU row are left.
-use Rattle.std.specs.Prelude.{◌≡◌, ℕ, ◌+◌, ◌≤◌, drop, length}
+use Rattle.std.specs.Prelude.{◌≡◌, ℕ, ◌+◌, ◌≤◌, length}
 use Rattle.jpg_coefs.specs.declared.machine.Taken.{Taken}
 use Rattle.jpg_coefs.specs.declared.machine.Taken.TheVariants as taken
-use Rattle.jpg_seq.specs.declared.reader.SeqReader.{SeqReader}
 use Rattle.jpg_file.specs.Read.Machine.{any_scan}
 use Rattle.jpg_file.specs.declared.read.machine.ScanReader.{ScanReader}
-use Rattle.jpg_file.specs.declared.read.machine.ScanReader.TheVariants.{Sequential}
 use Rattle.jpg_file.specs.declared.read.rows.RowWork.{RowWork}
 
 -- this many of its units are complete; only if none is left, bits wait
@@ -16,11 +14,6 @@ pub record CountsRow (w : RowWork) (m : ScanReader) (answer : Taken) (new : RowW
   pub later : new.later ≡ w.later
   pub passed : ℕ
   pub left : w.left ≡ new.left + passed
-  pub old_machine : SeqReader
-  pub new_machine : SeqReader
-  pub old_is : m ≡ Sequential old_machine
-  pub new_is : after ≡ Sequential new_machine
-  pub cursor : new_machine.cursor ≡ drop passed old_machine.cursor
   pub interval : any_scan.left m ≡ any_scan.left after + passed
   pub ended : answer ≡ taken.IntervalDone → any_scan.left after ≡ 0
   pub wait : 1 ≤ length new.waiting → new.left ≡ 0

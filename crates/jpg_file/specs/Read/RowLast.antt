@@ -1,6 +1,6 @@
 -- Some plain bytes of a scan that is read MCU row by MCU row: those before the last one don't complete the current row
 -- (T.81, A.2.3, F.2.2).
-use Rattle.std.specs.Prelude.{◌≡◌, ℕ, ◌+◌, ◌<◌, Bool, List, ◌++◌, length, take}
+use Rattle.std.specs.Prelude.{◌≡◌, ℕ, ◌+◌, ◌<◌, ◌≤◌, Bool, List, ◌++◌, length, take}
 use Rattle.jpg_spec.specs.Bits.{bits_of_bytes}
 use Rattle.jpg_spec.specs.Items.{Item, segments_of}
 use Rattle.jpg_spec.specs.declared.frame.Limits.{Limits}
@@ -11,7 +11,10 @@ use Rattle.jpg_file.specs.Read.InData.{InData}
 use Rattle.jpg_file.specs.Read.Machine.{any_scan}
 use Rattle.jpg_file.specs.Read.RowMachine.{IsOpenRowScan}
 use Rattle.jpg_file.specs.Read.RowsSoFar.{CompletesBefore}
-use Rattle.jpg_file.specs.Read.RowStops.{IsRowInScan}
+use Rattle.jpg_file.specs.Read.RowCounts.{CountsRow}
+use Rattle.jpg_file.specs.Read.RowData.{IsInsideRow}
+use Rattle.jpg_file.specs.Read.RowStops.{IsRowInScan, StopsRowData, StopsRowRun}
+use Rattle.jpg_file.specs.Read.ScanBlocks.{BlocksKind}
 use Rattle.jpg_file.specs.declared.read.machine.ScanReader.{ScanReader}
 use Rattle.jpg_file.specs.declared.read.rows.RowWork.{RowWork}
 use Rattle.jpg_file.specs.declared.read.scan.InScan.{InScan}
@@ -40,3 +43,13 @@ abbrev pub LastRunInRow : InScan → RowWork → List ℕ → ℕ → Type 0
 LastRunInRow old w run n =
     (limits : Limits) (items : List Item) (contents bytes : List ℕ) (whole : Picture) → IsRowOf w.tops whole w.coefs → InData limits items contents bytes old whole → IsRowInScan limits items contents old w
     → (early : ℕ) × (n ≡ early + 1) × CompletesBefore limits (bytes ++ take early run) (segments_of items) contents w
+
+-- THE BLOCKS of the current MCU row, as those that a scan is read into
+abbrev pub row_stored : BlocksKind RowWork
+row_stored = record {
+  shows = λ w whole. IsRowOf w.tops whole w.coefs;
+  waiting = λ w. w.waiting;
+  fits = λ w m. IsInsideRow w m × (1 ≤ w.left);
+  bits = λ w m bits answer new after. StopsRowData w m bits answer × CountsRow w m answer new after;
+  bytes = λ w m bytes n answer new after. StopsRowRun w m bytes n answer × LastRowRun w m bytes n × CountsRow w m answer new after;
+}

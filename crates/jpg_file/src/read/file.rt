@@ -245,9 +245,9 @@ impl FileWork {
         if rows.waiting.len() == 0 {
             return Step::More;
         }
-        let (step, row) = scan.rest_in_row(rows);
-        match step {
-            Ok(()) => row_step(row),
+        let before = rows.left;
+        match scan.rest_in_row(rows) {
+            Ok(()) => row_step(rows.completes(before)),
             Err(fault) => fault_at(fault, at),
         }
     }
@@ -271,9 +271,9 @@ impl FileWork {
         };
         let at = self.reading.taken + 1;
         self.reading.taken = at;
-        let (step, row) = scan.byte_in_row(rows, byte);
-        match step {
-            Ok(false) => row_step(row),
+        let before = rows.left;
+        match scan.byte(rows, byte) {
+            Ok(false) => row_step(rows.completes(before)),
             Ok(true) => {
                 self.reading.scan = None;
                 let came = self.reading.items.marker(byte, at);
@@ -302,11 +302,12 @@ impl FileWork {
         let Some(scan) = &mut self.reading.scan else {
             unreachable!();
         };
-        let (n, step, row) = scan.run_in_row(rows, run);
+        let before = rows.left;
+        let (n, step) = scan.run(rows, run);
         let at = self.reading.taken + n as u64;
         self.reading.taken = at;
         match step {
-            Ok(()) => (n, row_step(row)),
+            Ok(()) => (n, row_step(rows.completes(before))),
             Err(fault) => (n, fault_at(fault, at)),
         }
     }

@@ -3,16 +3,16 @@ use Rattle.jpg_file.specs.Read.Machine.{any_scan}
 use Rattle.jpg_file.specs.declared.read.machine.ScanReader.TheVariants.{Sequential}
 use Rattle.jpg_file.proofs.ByRow.Faults.{row_stops}
 use Rattle.jpg_file.proofs.ByRow.RowData.{counts_row, data_takes, few_passed, row_inside, row_open, row_passes, row_takes, units_passed}
-use Rattle.jpg_file.proofs.read.rows.RowWork.take.Goals as goal
+use Rattle.jpg_file.proofs.read.rows.RowWorkScanBlocks.take.Goals as goal
 
 pub unreachable-requires : goal.unreachable-requires
-unreachable-requires c = c.in_default.not-Sequential c.requires.inside.machine c.requires.inside.is
+unreachable-requires c = c.in_default.not-Sequential (c.requires.fits).0.machine (c.requires.fits).0.is
 
 pub bits_from-taken-requires-clause-open : goal.bits_from-taken-requires-clause-open
-bits_from-taken-requires-clause-open c = row_open c.args.self.now.tops c.args.machine.now c.in-Sequential.machine c.args.self.now.coefs c.in-Sequential.is c.requires.open
+bits_from-taken-requires-clause-open c = row_open c.args.self.now.tops c.args.machine.now c.in-Sequential.machine c.args.self.now.coefs c.in-Sequential.is (c.requires.whole, c.requires.shows, c.requires.given)
 
 pub bits_from-taken-requires-clause-inside : goal.bits_from-taken-requires-clause-inside
-bits_from-taken-requires-clause-inside c = row_inside c.args.self.now.tops c.args.machine.now c.in-Sequential.machine c.args.self.now.coefs c.in-Sequential.is c.args.self.now.left c.requires.inside
+bits_from-taken-requires-clause-inside c = row_inside c.args.self.now.tops c.args.machine.now c.in-Sequential.machine c.args.self.now.coefs c.in-Sequential.is c.args.self.now.left (c.requires.fits).0
 
 pub overflow_sub-self : goal.overflow_sub-self
 overflow_sub-self c =
@@ -31,15 +31,13 @@ returns-clause-takes c =
     data_takes w c.args.machine.now (Sequential t.new.self) t.new.coefs t.result (w.left - (c.units_left-before.result - c.units_left.result)) c.args.store t.new.store c.waiting_of-self.result c.waiting_of-self.ensures
     (row_takes w.tops c.args.machine.now c.in-Sequential.machine w.coefs c.in-Sequential.is w.left t.new.self t.new.coefs c.args.store t.new.store t.result t.ensures.takes)
 
-pub returns-clause-stops : goal.returns-clause-stops
-returns-clause-stops c =
+pub returns-clause-more : goal.returns-clause-more
+returns-clause-more c =
     let w = c.args.self.now in let t = c.bits_from-taken in
-    row_stops w c.args.machine.now (Sequential t.new.self) t.new.coefs c.args.store t.new.store t.result (row_takes w.tops c.args.machine.now c.in-Sequential.machine w.coefs c.in-Sequential.is w.left t.new.self t.new.coefs c.args.store t.new.store t.result t.ensures.takes)
-
-pub returns-clause-counts : goal.returns-clause-counts
-returns-clause-counts c =
-    let w = c.args.self.now in let t = c.bits_from-taken in
+    let took = row_takes w.tops c.args.machine.now c.in-Sequential.machine w.coefs c.in-Sequential.is w.left t.new.self t.new.coefs c.args.store t.new.store t.result t.ensures.takes in
     let p = row_passes w.tops c.args.machine.now c.in-Sequential.machine w.coefs c.in-Sequential.is w.left t.new.self t.result t.ensures.passes in
     let units = c.units_left-before.result - c.units_left.result in
-    let count : any_scan.left c.args.machine.now ≡ any_scan.left (Sequential t.new.self) + units = omega (arith, units_passed _ _ _ _ p, t.ensures.passes.left, c.units_left-before.ensures, c.units_left.ensures) in
-    counts_row w c.args.machine.now (Sequential t.new.self) t.new.coefs t.result units c.waiting_of-self.result t.new.store p count c.waiting_of-self.ensures
+    let count : any_scan.left c.args.machine.now ≡ any_scan.left (Sequential t.new.self) + units = omega (arith, units_passed _ _ _ _ p, t.ensures.passes.left, c.units_left-before.ensures, c.units_left.ensures) in (
+      row_stops w c.args.machine.now (Sequential t.new.self) t.new.coefs c.args.store t.new.store t.result took,
+      counts_row w c.args.machine.now (Sequential t.new.self) t.new.coefs t.result units c.waiting_of-self.result t.new.store p count c.waiting_of-self.ensures,
+    )
