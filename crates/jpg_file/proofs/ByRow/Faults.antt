@@ -28,12 +28,13 @@ use Rattle.jpg_coefs.specs.Machine.{Interval, fault_of, units_of, TakesBits, Cha
 use Rattle.jpg_coefs.specs.declared.machine.UnitFault.{UnitFault}
 use Rattle.jpg_coefs.proofs.Chains.{chain_stands, some_taken}
 use Rattle.jpg_seq.specs.Reader.{RepresentsSeqScan, new_units_at}
+use Rattle.jpg_seq.specs.Rows.{IsRowOf}
 use Rattle.jpg_seq.specs.Stands.{unit_in_work}
 use Rattle.jpg_seq.specs.declared.reader.SeqReader.{SeqReader}
-use Rattle.jpg_file.specs.Read.InData.{IsInterval, IsReadable, AtWork, byte_answer, scan_answer}
+use Rattle.jpg_file.specs.Read.InData.{InData, IsInterval, IsReadable, AtWork, byte_answer, scan_answer}
 use Rattle.jpg_file.specs.Read.Machine.{any_scan, scan_kind, whole_blocks}
 use Rattle.jpg_file.specs.Read.RowPlaces.{IsRowAt, scan_left}
-use Rattle.jpg_file.specs.Read.RowStops.{ShowsInRow, StopsByteInRow, StopsRestInRow, StopsRowData, StopsRowRun, StopsRunInRow}
+use Rattle.jpg_file.specs.Read.RowStops.{IsRowInScan, ShowsInRow, StopsRowData, StopsRowRun}
 use Rattle.jpg_file.specs.Read.RowsSoFar.{CompletesBefore}
 use Rattle.jpg_file.specs.Read.RowTurns.{unfinished}
 use Rattle.jpg_file.specs.Read.Strips.{IsFirstScan, components_of, frame_behind}
@@ -58,8 +59,8 @@ use Rattle.jpg_file.proofs.ByRow.RowData.{open_half, open_scan}
 use Rattle.jpg_coefs.specs.declared.machine.UnitStep.{UnitStep}
 use Rattle.jpg_coefs.specs.declared.machine.UnitStep.TheVariants as step
 use Rattle.jpg_spec_write.proofs.ProgressiveLength.{bytes_long}
-use Rattle.jpg_file.specs.Read.RowData.{IsWrongMarker, PassesByte, PassesRest, PassesRun}
-use Rattle.jpg_file.specs.Read.RowLast.{FewBefore, LastRowRun, LastRunInRow, row_stored}
+use Rattle.jpg_file.specs.Read.RowData.{HalfData, IsWrongMarker, PassesByte, PassesRest, PassesRun}
+use Rattle.jpg_file.specs.Read.RowLast.{FewBefore, LastRowRun, row_stored}
 
 -- What bits encode before a fault that the next bit reveals: no more than up to the place where they end (T.81, F.2.2).
 
@@ -391,9 +392,11 @@ byte_faulty : (a : Result (Unit {0}) Fault) (fault : Fault) → byte_answer a �
 byte_faulty (Ok u) fault e = absurd cc
 byte_faulty (Err f) fault e = ap (λ (z : Fault). Err z) (let z : (let s : Result Bool Fault = Err f in s) ≡ Err fault = e in cc)
 
-module _ (old new : InScan) (w after : RowWork) where
-  pub byte_stopped : (byte : ℕ) (given : Result Bool Fault) → PassesByte row_stored old w byte given new after → StopsByteInRow old w byte given
-  byte_stopped byte given (inl n) fault limits items contents bytes whole e row d at = by (n.why fault e)
+module _ (limits : Limits) (items : List Item) (contents bytes : List ℕ) (old new : InScan) (w after : RowWork) (whole : Picture)
+    (row : IsRowOf w.tops whole w.coefs) (at : IsRowInScan limits items contents old w) (fault : Fault) where
+  pub byte_stopped : (byte : ℕ) (given : Result Bool Fault) → InData limits items contents bytes old whole → PassesByte row_stored old w byte given new after
+      → given ≡ Err fault → CompletesBefore limits (bytes ++ byte ∷ []) (segments_of items) contents w
+  byte_stopped byte given d (inl n) e = by (n.why fault e)
     where
       by : ((passed : ℕ) × IsData old.gate byte passed × (old.work.whole ≡ true)) ⊎ IsWrongMarker old byte → CompletesBefore limits (bytes ++ byte ∷ []) (segments_of items) contents w
       by (inl (passed, is_data, over)) =
@@ -401,7 +404,7 @@ module _ (old new : InScan) (w after : RowWork) where
       by (inr (gate, z, f, wrong)) =
           let m = marker_at limits items contents bytes byte old whole d gate z f in
           marker_stops limits items contents (bytes ++ byte ∷ []) d.place m.fill byte old.work whole w d.of z f m.at m.work wrong at.0 at.1
-  byte_stopped byte given (inr p) fault limits items contents bytes whole e row d at =
+  byte_stopped byte given d (inr p) e =
       let t = p.took in
       let g = faulty p.given t.taken fault t.is (byte_faulty p.given fault (sym p.answered ∙ e)) in
       let shows = t.took.0 g.0 whole g.1 row (open_scan limits items contents bytes old whole d t.due) in
@@ -409,14 +412,16 @@ module _ (old new : InScan) (w after : RowWork) where
       (of_bytes limits d.place old.work whole (p.passed ∷ []) t.due d.work) d.of (data_at limits items contents bytes byte p.passed old whole d p.is_data)
       (subst (λ z. ShowsInRow w.left old.work.machine whole z g.0) (sym (append-nil (bits_of 8 p.passed))) shows) at.0 at.1
 
-  pub rest_stopped : (given : Result (Unit {0}) Fault) → PassesRest row_stored old w given new after → StopsRestInRow old w given
-  rest_stopped given t fault limits items contents bytes whole e row h at =
+  pub rest_stopped : (given : Result (Unit {0}) Fault) → HalfData limits items contents bytes w.waiting old whole → PassesRest row_stored old w given new after
+      → given ≡ Err fault → CompletesBefore limits bytes (segments_of items) contents w
+  rest_stopped given h t e =
       let g = faulty given t.taken fault t.is e in
       interval_stops limits items contents bytes (with_byte h.place h.byte) old.work whole w.waiting w g.0 (of_half limits items contents bytes w.waiting old whole h) h.of h.at
       (t.took.0 g.0 whole g.1 row (open_half limits items contents bytes w.waiting old whole h)) at.0 at.1
 
-  pub run_stopped : (run : List ℕ) (n : ℕ) (given : Result (Unit {0}) Fault) → n ≤ length run → PassesRun row_stored old w run n given new after → StopsRunInRow old w run n given
-  run_stopped run n given few (gate, plain, t) fault limits items contents bytes whole e row d at =
+  pub run_stopped : (run : List ℕ) (n : ℕ) (given : Result (Unit {0}) Fault) → n ≤ length run → InData limits items contents bytes old whole
+      → PassesRun row_stored old w run n given new after → given ≡ Err fault → CompletesBefore limits (bytes ++ take n run) (segments_of items) contents w
+  run_stopped run n given few d (gate, plain, t) e =
       let g = faulty given t.taken fault t.is e in
       let there = plain_at limits bytes d.place (take n run) (front_plain run n few plain) (open_at limits items contents bytes old whole d gate) in
       interval_stops limits items contents (bytes ++ take n run) (with_bytes d.place (take n run)) old.work whole (bits_of_bytes (take n run)) w g.0
@@ -497,9 +502,10 @@ fewer i m mid now between a bits sound kind stands chain =
     omega (arith, low, old, new)
 
 -- PLAIN BYTES inside the data of the scan
-pub run_last : (old new : InScan) (w after : RowWork) (run : List ℕ) (n : ℕ) (given : Result (Unit {0}) Fault) → PassesRun row_stored old w run n given new after
-    → LastRunInRow old w run n
-run_last old new w after run n given (gate, plain, t) limits items contents bytes whole row d at =
+pub run_last : (limits : Limits) (items : List Item) (contents bytes : List ℕ) (old new : InScan) (w after : RowWork) (whole : Picture) (run : List ℕ) (n : ℕ) (given : Result (Unit {0}) Fault)
+    → IsRowOf w.tops whole w.coefs → IsRowInScan limits items contents old w → InData limits items contents bytes old whole → PassesRun row_stored old w run n given new after
+    → (early : ℕ) × (n ≡ early + 1) × CompletesBefore limits (bytes ++ take early run) (segments_of items) contents w
+run_last limits items contents bytes old new w after whole run n given row at d (gate, plain, t) =
     let due = t.due in
     let k = t.took.1 whole row (open_scan limits items contents bytes old whole d due) in
     let low = k.within in

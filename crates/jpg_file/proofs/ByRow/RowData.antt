@@ -4,11 +4,11 @@ use Rattle.jpg_coefs.specs.Machine.{Interval, TakesBits, Chain, Kind}
 use Rattle.jpg_coefs.specs.Picture.{Picture}
 use Rattle.jpg_coefs.specs.declared.machine.Taken.{Taken}
 use Rattle.jpg_seq.specs.Reader.{sequential}
-use Rattle.jpg_seq.specs.RowTaken.{CanReadInto, PassesPlaces, ReadsInto}
-use Rattle.jpg_seq.specs.Rows.{AreInRow, one_row}
+use Rattle.jpg_seq.specs.RowTaken.{CanReadInto, IsCountOf, PassesPlaces, ReadsInto}
+use Rattle.jpg_seq.specs.Rows.{AreInRow, IsRowOf, one_row}
 use Rattle.jpg_seq.specs.declared.reader.SeqReader.{SeqReader}
-use Rattle.jpg_file.specs.Read.Machine.{any_scan, reader_left}
-use Rattle.jpg_file.specs.Read.RowMachine.{CanReadMcuRow, IsInsideMcuRow, IsOpenRowScan, TakesRowBits, PassesRow}
+use Rattle.jpg_file.specs.Read.Machine.{any_scan}
+use Rattle.jpg_file.specs.Read.RowMachine.{IsInsideMcuRow, IsOpenRowScan, TakesRowBits}
 use Rattle.jpg_file.specs.declared.read.machine.ScanReader.{ScanReader}
 use Rattle.jpg_file.specs.declared.read.machine.ScanReader.TheVariants.{Sequential}
 use Rattle.jpg_file.proofs.Scans.Machines.{is_sequential, takes_of}
@@ -18,7 +18,7 @@ use Rattle.jpg_file.specs.Read.Data.{GivesBits, GivesRun, waits_of, AnswersIn}
 use Rattle.jpg_file.specs.Read.RowCounts.{CountsRow}
 use Rattle.jpg_file.specs.Read.RowData.{HalfData, AfterBytes, TakesRun}
 use Rattle.jpg_file.specs.Read.RowLast.{row_stored}
-use Rattle.jpg_file.specs.Read.ScanBlocks.{TakesBitsInto, TakesBytesInto}
+use Rattle.jpg_file.specs.Read.ScanBlocks.{CanTake, TakesBitsInto, TakesBytesInto}
 use Rattle.jpg_file.specs.declared.read.rows.RowWork.{RowWork}
 use Rattle.jpg_file.proofs.Scans.Runs.{given, run_given, some_given, answers_after}
 use Rattle.std.proofs.lemmas.List.{append_assoc}
@@ -42,8 +42,8 @@ pub own : (m : ScanReader) (machine : SeqReader) (whole : Picture) → m ≡ Seq
 own m machine whole is o = (o.0, o.1, is_sequential.own machine o.0 o.1 whole (subst (λ (q : ScanReader). any_scan.stands q o.0 o.1 whole) is o.2))
 
 module _ (tops : List ℕ) (m : ScanReader) (machine : SeqReader) (row : Picture) (is : m ≡ Sequential machine) where
-  pub row_open : CanReadMcuRow tops m row → CanReadInto tops machine row
-  row_open o = (one_row, o.0, o.1, own m machine o.0 is o.2)
+  pub row_open : (whole : Picture) → IsRowOf tops whole row → IsOpenRowScan m whole → CanReadInto tops machine row
+  row_open whole at o = (one_row, whole, at, own m machine whole is o)
 
   pub row_takes : (most : ℕ) (new : SeqReader) (after : Picture) (store rest : List Bool) (answer : Taken)
       → ReadsInto most tops machine row store answer new after rest → TakesRowBits most tops m row store answer (Sequential new) after rest
@@ -55,47 +55,39 @@ module _ (tops : List ℕ) (m : ScanReader) (machine : SeqReader) (row : Picture
   pub row_inside : (most : ℕ) → IsInsideMcuRow tops row most m → AreInRow row.frame tops (take most machine.cursor)
   row_inside most inside = subst (λ (q : SeqReader). AreInRow row.frame tops (take most q.cursor)) (one_machine inside.machine machine (sym inside.is ∙ is)) inside.inside
 
-  abbrev pub row_passes : (most : ℕ) (new : SeqReader) (answer : Taken) → PassesPlaces most machine answer new → PassesRow most m answer (Sequential new)
-  row_passes most new answer p = record { old_machine = machine; new_machine = new; old_is = is; new_is = refl; passes = p }
-
 -- The current MCU row: the result of its data, and how many of its units are left.
 
--- as many units as the machine passed
-pub units_passed : (most : ℕ) (m new : ScanReader) (answer : Taken) → (p : PassesRow most m answer new) → any_scan.left m ≡ any_scan.left new + p.passes.units
-units_passed most m new answer p = omega (arith, ap reader_left p.old_is, ap reader_left p.new_is, p.passes.left)
+few_passed : (most : ℕ) (m new : SeqReader) (answer : Taken) → (p : PassesPlaces most m answer new) → p.units ≤ most
+few_passed most m new taken.More p = omega (arith, p.few)
+few_passed most m new taken.Units p = omega (arith, p.few.0)
+few_passed most m new taken.IntervalDone p = p.few.0
+few_passed most m new (taken.Fault f) p = omega (arith, p.few)
 
-pub few_passed : (most : ℕ) (m new : ScanReader) (answer : Taken) → (p : PassesRow most m answer new) → p.passes.units ≤ most
-few_passed most m new taken.More p = omega (arith, p.passes.few)
-few_passed most m new taken.Units p = omega (arith, p.passes.few.0)
-few_passed most m new taken.IntervalDone p = p.passes.few.0
-few_passed most m new (taken.Fault f) p = omega (arith, p.passes.few)
-
--- all of the interval at its end, and all that were asked for if bits wait
-all_passed : (most : ℕ) (m new : ScanReader) (answer : Taken) → PassesRow most m answer new → answer ≡ taken.IntervalDone → any_scan.left new ≡ 0
-all_passed most m new answer p e = (let q = subst (λ a. PassesRow most m a new) e p in ap reader_left q.new_is ∙ q.passes.few.1)
-
-waits_all : (most : ℕ) (m new : ScanReader) (answer : Taken) (rest : List Bool) → (p : PassesRow most m answer new) → 1 ≤ length (waits_of answer rest) → p.passes.units ≡ most
-waits_all most m new taken.Units rest p some = p.passes.few.0
+waits_all : (most : ℕ) (m new : SeqReader) (answer : Taken) (rest : List Bool) → (p : PassesPlaces most m answer new) → 1 ≤ length (waits_of answer rest) → p.units ≡ most
+waits_all most m new taken.Units rest p some = p.few.0
 waits_all most m new other rest p some = absurd (omega (arith, some))
 
-module _ (w : RowWork) (m after : ScanReader) (row : Picture) (answer : Taken) where
-  pub counts_row : (units : ℕ) (waiting rest : List Bool) (p : PassesRow w.left m answer after) → any_scan.left m ≡ any_scan.left after + units
-      → waiting ≡ waits_of answer rest → CountsRow w m answer (record w { coefs = row; left = w.left - units; waiting = waiting }) after
-  counts_row units waiting rest p count waits =
-      let few = few_passed w.left m after answer p in
-      let passed = units_passed w.left m after answer p in
-      record {
-        tops = refl;
-        steps = refl;
-        units = refl;
-        later = refl;
-        passed = p.passes.units;
-        left = omega (arith, passed, count, few);
-        interval = passed;
-        ended = all_passed w.left m after answer p;
-        wait = λ some. omega (arith, passed, count, waits_all w.left m after answer rest p (subst (λ z. 1 ≤ length z) waits some));
-      }
+pub some_left : (most : ℕ) (m new : SeqReader) (answer : Taken) → PassesPlaces most m answer new → m.left - new.left ≤ most
+some_left most m new answer p = omega (arith, p.left, few_passed most m new answer p)
 
+pub counts_row : (w : RowWork) (machine : ScanReader) (m new : SeqReader) (row : Picture) (answer : Taken) (left : ℕ) (waiting rest : List Bool) → machine ≡ Sequential m
+    → (p : PassesPlaces w.left m answer new) → w.left ≡ left + p.units → waiting ≡ waits_of answer rest
+    → CountsRow w machine answer (record w { coefs = row; left = left; waiting = waiting }) (Sequential new)
+counts_row w machine m new row answer left waiting rest is p count waits =
+    subst (λ (q : ScanReader). CountsRow w q answer (record w { coefs = row; left = left; waiting = waiting }) (Sequential new)) (sym is)
+    (record {
+      tops = refl;
+      steps = refl;
+      units = refl;
+      later = refl;
+      passed = p.units;
+      left = count;
+      interval = p.left;
+      ended = λ e. (subst (λ a. IsCountOf w.left a new p.units) e p.few).1;
+      wait = λ some. omega (arith, count, waits_all w.left m new answer rest p (subst (λ z. 1 ≤ length z) waits some));
+    })
+
+module _ (w : RowWork) (m after : ScanReader) (row : Picture) (answer : Taken) where
   -- DATA of the row
 
   pub data_takes : (left : ℕ) (bits rest waiting : List Bool) → waiting ≡ waits_of answer rest → TakesRowBits w.left w.tops m w.coefs bits answer after row rest
@@ -115,10 +107,10 @@ module _ (w : RowWork) (m after : ScanReader) (row : Picture) (answer : Taken) w
       ))
 
   -- at least one bit is taken
-  pub some_in_row : (bytes : List ℕ) (count : ℕ) → CanReadMcuRow w.tops m w.coefs → 1 ≤ length bytes → count ≤ 8 * length bytes
+  pub some_in_row : (bytes : List ℕ) (count : ℕ) → CanTake RowWork row_stored w m → 1 ≤ length bytes → count ≤ 8 * length bytes
       → TakesRowBits w.left w.tops m w.coefs (bits_of_bytes bytes) answer after row (drop count (bits_of_bytes bytes)) → 1 ≤ count
   some_in_row bytes count can some within t =
-      (let k = t can.0 can.1 can.2 in some_given any_scan m after can.0 k.0 w.left bytes count answer some within k.2)
+      (let k = t can.whole can.shows can.given in some_given any_scan m after can.whole k.0 w.left bytes count answer some within k.2)
 
 -- Bits that are passed to a machine while an MCU row is read, of which some wait.
 

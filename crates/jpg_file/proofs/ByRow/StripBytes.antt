@@ -149,7 +149,7 @@ module _ (bytes : List ℕ) (w : FileWork) (scan : InScan) (rows : RowWork) (r :
   pub byte_at_fault : (byte : ℕ) (new : InScan) (after : RowWork) (given : Result Bool Fault) (fault : Fault) → PassesByte row_stored scan rows byte given new after
       → given ≡ Err fault → RowsSoFar limits (with_byte byte) rows
   byte_at_fault byte new after given fault passes is =
-      inr (segments_of r.items, r.contents, byte_stopped scan new rows after byte given passes fault limits r.items r.contents bytes r.whole is r.row ready_data ((r.held).of, (r.at).at))
+      inr (segments_of r.items, r.contents, byte_stopped limits r.items r.contents bytes scan new rows after r.whole r.row ((r.held).of, (r.at).at) fault byte given ready_data passes is)
 
   -- a marker that ends the scan
   pub marker_at_fault : (all : List ℕ) (byte : ℕ) (new : InScan) (after : RowWork) (given : Result Bool Fault)
@@ -194,7 +194,7 @@ module _ (bytes : List ℕ) (w : FileWork) (scan : InScan) (rows : RowWork) (r :
     -- the MCU rows that those before the last one complete
     run_rows : RowsSoFar limits front rows
     run_rows =
-        let k = run_last scan new rows after run n given passes limits r.items r.contents bytes r.whole r.row ready_data ((r.held).of, (r.at).at) in
+        let k = run_last limits r.items r.contents bytes scan new rows after r.whole run n given r.row ((r.held).of, (r.at).at) ready_data passes in
         let same : k.0 ≡ rest.early = omega (arith, k.1, rest.count) in
         inr (segments_of r.items, r.contents, subst (λ e. CompletesBefore limits (bytes ++ take e run) (segments_of r.items) r.contents rows) same k.2)
 
@@ -265,7 +265,7 @@ module _ (bytes : List ℕ) (w : FileWork) (scan : InScan) (rows : RowWork) (r :
 
     pub run_at_fault : (fault : Fault) → given ≡ Err fault → RowsSoFar limits (bytes ++ take n run) rows
     run_at_fault fault is =
-        inr (segments_of r.items, r.contents, run_stopped scan new rows after run n given run_few passes fault limits r.items r.contents bytes r.whole is r.row ready_data ((r.held).of, (r.at).at))
+        inr (segments_of r.items, r.contents, run_stopped limits r.items r.contents bytes scan new rows after r.whole r.row ((r.held).of, (r.at).at) fault run n given run_few ready_data passes is)
 
 -- A file that is read MCU row by MCU row and has a fault: which MCU rows the bytes up to it complete.
 
@@ -284,7 +284,7 @@ module _ (bytes : List ℕ) (w : FileWork) (scan : InScan) (rows : RowWork) (r :
       → unfinished rows ≡ unfinished old → PassesRest row_stored scan rows given new after → given ≡ Err fault → RowsSoFar (limits_of w) bytes old
   rest_at_fault old after new given fault some same passes is =
       let h = half_of (limits_of w) r.items r.contents bytes rows.waiting scan r.whole some r.coded in
-      let k = rest_stopped scan new rows after given passes fault (limits_of w) r.items r.contents bytes r.whole is r.row h ((r.held).of, (r.at).at) in
+      let k = rest_stopped (limits_of w) r.items r.contents bytes scan new rows after r.whole r.row ((r.held).of, (r.at).at) fault given h passes is in
       inr (segments_of r.items, r.contents, before_same (limits_of w) bytes (segments_of r.items) r.contents rows old same k)
 
 -- from the first of them on

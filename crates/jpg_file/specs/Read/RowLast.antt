@@ -1,23 +1,18 @@
 -- Some plain bytes of a scan that is read MCU row by MCU row: those before the last one don't complete the current row
 -- (T.81, A.2.3, F.2.2).
-use Rattle.std.specs.Prelude.{◌≡◌, ℕ, ◌+◌, ◌<◌, ◌≤◌, Bool, List, ◌++◌, length, take}
+use Rattle.std.specs.Prelude.{◌≡◌, ℕ, ◌+◌, ◌<◌, ◌≤◌, Bool, List, length, take}
 use Rattle.jpg_spec.specs.Bits.{bits_of_bytes}
-use Rattle.jpg_spec.specs.Items.{Item, segments_of}
-use Rattle.jpg_spec.specs.declared.frame.Limits.{Limits}
 use Rattle.jpg_coefs.specs.Picture.{Picture}
 use Rattle.jpg_coefs.specs.Machine.{Chain}
 use Rattle.jpg_seq.specs.Rows.{IsRowOf}
-use Rattle.jpg_file.specs.Read.InData.{InData}
 use Rattle.jpg_file.specs.Read.Machine.{any_scan}
 use Rattle.jpg_file.specs.Read.RowMachine.{IsOpenRowScan}
-use Rattle.jpg_file.specs.Read.RowsSoFar.{CompletesBefore}
 use Rattle.jpg_file.specs.Read.RowCounts.{CountsRow}
 use Rattle.jpg_file.specs.Read.RowData.{IsInsideRow}
-use Rattle.jpg_file.specs.Read.RowStops.{IsRowInScan, StopsRowData, StopsRowRun}
+use Rattle.jpg_file.specs.Read.RowStops.{StopsRowData, StopsRowRun}
 use Rattle.jpg_file.specs.Read.ScanBlocks.{BlocksKind}
 use Rattle.jpg_file.specs.declared.read.machine.ScanReader.{ScanReader}
 use Rattle.jpg_file.specs.declared.read.rows.RowWork.{RowWork}
-use Rattle.jpg_file.specs.declared.read.scan.InScan.{InScan}
 
 -- BITS: those of the bytes before the last one, and then further ones, after all of which fewer than `most` units are
 -- complete
@@ -37,12 +32,6 @@ pub record FewBefore (most : ℕ) (m : ScanReader) (now : Picture) (bytes : List
 -- whatever picture the row is of
 abbrev pub LastRowRun : RowWork → ScanReader → List ℕ → ℕ → Type 0
 LastRowRun w m bytes n = (whole : Picture) → IsRowOf w.tops whole w.coefs → IsOpenRowScan m whole → FewBefore w.left m whole bytes n
-
--- INSIDE THE DATA, wherever the bytes are
-abbrev pub LastRunInRow : InScan → RowWork → List ℕ → ℕ → Type 0
-LastRunInRow old w run n =
-    (limits : Limits) (items : List Item) (contents bytes : List ℕ) (whole : Picture) → IsRowOf w.tops whole w.coefs → InData limits items contents bytes old whole → IsRowInScan limits items contents old w
-    → (early : ℕ) × (n ≡ early + 1) × CompletesBefore limits (bytes ++ take early run) (segments_of items) contents w
 
 -- THE BLOCKS of the current MCU row, as those that a scan is read into
 abbrev pub row_stored : BlocksKind RowWork

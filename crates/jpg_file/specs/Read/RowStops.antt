@@ -1,9 +1,8 @@
 -- A fault in the data of a scan that is read MCU row by MCU row: which MCU rows the bytes up to it complete (T.81,
 -- A.2.3, F.2.2).
-use Rattle.std.specs.Prelude.{◌≡◌, ℕ, Bool, List, [], ◌∷◌, ◌++◌, take, Result, Err}
+use Rattle.std.specs.Prelude.{◌≡◌, ℕ, Bool, List, [], ◌∷◌, ◌++◌, take}
 use Rattle.jpg_spec.specs.Bits.{bits_of_bytes}
-use Rattle.jpg_spec.specs.Items.{Item, segments_of}
-use Rattle.jpg_spec.specs.declared.fault.Fault.{Fault}
+use Rattle.jpg_spec.specs.Items.{Item}
 use Rattle.jpg_spec.specs.declared.fault.FaultAt.{FaultAt}
 use Rattle.jpg_spec.specs.declared.frame.Limits.{Limits}
 use Rattle.jpg_base.specs.declared.stop.Stop.TheVariants as stop
@@ -14,12 +13,10 @@ use Rattle.jpg_coefs.specs.declared.machine.Taken.TheVariants as taken
 use Rattle.jpg_coefs.specs.declared.machine.UnitFault.{UnitFault}
 use Rattle.jpg_seq.specs.Rows.{IsRowOf}
 use Rattle.jpg_file.specs.Read.File.{limits_of}
-use Rattle.jpg_file.specs.Read.InData.{InData}
 use Rattle.jpg_file.specs.Read.Machine.{any_scan}
-use Rattle.jpg_file.specs.Read.RowData.{HalfData}
 use Rattle.jpg_file.specs.Read.RowMachine.{IsOpenRowScan}
 use Rattle.jpg_file.specs.Read.RowPlaces.{IsRowAt, scan_left}
-use Rattle.jpg_file.specs.Read.RowsSoFar.{CompletesBefore, RowsSoFar}
+use Rattle.jpg_file.specs.Read.RowsSoFar.{RowsSoFar}
 use Rattle.jpg_file.specs.Read.Strips.{GoesByRow, IsFirstScan, RepresentsRows, components_of, frame_behind}
 use Rattle.jpg_file.specs.declared.read.file.FileWork.{FileWork}
 use Rattle.jpg_file.specs.declared.read.machine.ScanReader.{ScanReader}
@@ -39,25 +36,9 @@ StopsRowData w m bits came_to = (f : UnitFault) (whole : Picture) → came_to �
 abbrev pub StopsRowRun : RowWork → ScanReader → List ℕ → ℕ → Taken → Type 0
 StopsRowRun w m bytes n came_to = StopsRowData w m (bits_of_bytes (take n bytes)) came_to
 
--- INSIDE THE DATA: where a byte, bits that wait, or some plain bytes reveal a fault, wherever it was in a scan with
--- this many units left
+-- INSIDE THE DATA of a scan that has this many units left
 abbrev pub IsRowInScan : Limits → List Item → List ℕ → InScan → RowWork → Type 0
 IsRowInScan limits items contents s w = IsFirstScan limits items × IsRowAt (frame_behind limits items) (components_of limits items contents) w (scan_left s.work)
-
-abbrev pub StopsByteInRow : InScan → RowWork → ℕ → Result Bool Fault → Type 0
-StopsByteInRow old w byte given =
-    (fault : Fault) (limits : Limits) (items : List Item) (contents bytes : List ℕ) (whole : Picture) → given ≡ Err fault → IsRowOf w.tops whole w.coefs → InData limits items contents bytes old whole → IsRowInScan limits items contents old w
-    → CompletesBefore limits (bytes ++ byte ∷ []) (segments_of items) contents w
-
-abbrev pub StopsRestInRow : InScan → RowWork → Result (Unit {0}) Fault → Type 0
-StopsRestInRow old w given =
-    (fault : Fault) (limits : Limits) (items : List Item) (contents bytes : List ℕ) (whole : Picture) → given ≡ Err fault → IsRowOf w.tops whole w.coefs → HalfData limits items contents bytes w.waiting old whole → IsRowInScan limits items contents old w
-    → CompletesBefore limits bytes (segments_of items) contents w
-
-abbrev pub StopsRunInRow : InScan → RowWork → List ℕ → ℕ → Result (Unit {0}) Fault → Type 0
-StopsRunInRow old w run n given =
-    (fault : Fault) (limits : Limits) (items : List Item) (contents bytes : List ℕ) (whole : Picture) → given ≡ Err fault → IsRowOf w.tops whole w.coefs → InData limits items contents bytes old whole → IsRowInScan limits items contents old w
-    → CompletesBefore limits (bytes ++ take n run) (segments_of items) contents w
 
 -- THE FILE
 abbrev pub StopsRest : FileWork → RowWork → Step → Type 0
