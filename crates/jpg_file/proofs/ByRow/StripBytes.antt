@@ -46,10 +46,10 @@ use Rattle.jpg_file.proofs.ByRow.RowsGiven.{goes_completes}
 
 -- with more bytes
 module _ (limits : Limits) (items : List Item) (contents bytes : List ℕ) where
-  held_more : (more : List ℕ) (w : FileWork) (s : InScan) (gate now : Bool) (n : ℕ) → n ≡ length more → w.reading.taken + n ≤ limits.input
+  held_at : (more : List ℕ) (w : FileWork) (scan : Option InScan) (gate now : Bool) (n : ℕ) → n ≡ length more → w.reading.taken + n ≤ limits.input
       → waiting_bytes now ≤ waiting_bytes gate + n → ScanHeld limits items contents bytes w gate
-      → ScanHeld limits items contents (bytes ++ more) (file_with w s (w.reading.taken + n)) now
-  held_more more w s gate now n long room few h = record {
+      → ScanHeld limits items contents (bytes ++ more) (record w { reading = record w.reading { scan = scan; taken = w.reading.taken + n } }) now
+  held_at more w scan gate now n long room few h = record {
     head = h.head;
     count = omega (arith, h.count, length-append bytes more, long);
     behind = omega (arith, h.behind, few);
@@ -58,6 +58,18 @@ module _ (limits : Limits) (items : List Item) (contents bytes : List ℕ) where
     first_head = has_longer limits bytes more (bytes ++ more) ((0xda, contents) ∷ segments_of items) w.head refl h.first_head;
     of = h.of;
     all = h.all;
+  }
+
+  -- the file as it is read in one go
+  pub held_inside : (w : FileWork) (s : InScan) (now : Picture) → w.reading.scan ≡ Some s → InData limits items contents bytes s now → ScanHeld limits items contents bytes w s.gate
+      → IsInsideScanOfFile limits bytes (with_picture w now)
+  held_inside w s now is coded h = record {
+    items = items;
+    contents = contents;
+    at = record { coefs = now; has = refl; scan = s; inside = is; at = coded; head = h.head; count = h.count; behind = h.behind };
+    begun = h.begun;
+    within = h.within;
+    head = h.first_head;
   }
 
 abbrev pub file_after : FileWork → Items → ℕ → FileWork
@@ -76,19 +88,6 @@ module _ (bytes : List ℕ) (w : FileWork) (scan : InScan) (rows : RowWork) (r :
 
   pub ready_row : IsDataOf RowWork row_stored scan rows
   ready_row = row_data limits r.items r.contents bytes scan r.whole rows ready_data (r.held).of r.at r.row r.turned
-
-  -- the file as it is read in one go
-  ready_inside : w.reading.scan ≡ Some scan → IsInsideScanOfFile limits bytes (with_picture w r.whole)
-  ready_inside is =
-      let h = r.held in
-      record {
-        items = r.items;
-        contents = r.contents;
-        at = record { coefs = r.whole; has = refl; scan = scan; inside = is; at = ready_data; head = h.head; count = h.count; behind = h.behind };
-        begun = h.begun;
-        within = h.within;
-        head = h.first_head;
-      }
 
   -- A BYTE
 
@@ -112,7 +111,7 @@ module _ (bytes : List ℕ) (w : FileWork) (scan : InScan) (rows : RowWork) (r :
       → result ≡ cond (completes_row rows.left after.left) step.Row step.More → AfterRows limits (with_byte byte) result (file_with w new (w.reading.taken + 1)) after
   byte_goes byte new after given result room took passes is came =
       let t = byte_taken byte given (Ok false) new after took is in
-      let held = held_more limits r.items r.contents bytes (byte ∷ []) w new scan.gate new.gate 1 refl (omega (arith, room)) (omega (arith, few_wait new.gate)) r.held in
+      let held = held_at limits r.items r.contents bytes (byte ∷ []) w (Some new) scan.gate new.gate 1 refl (omega (arith, room)) (omega (arith, few_wait new.gate)) r.held in
       subst (λ (a : Step). AfterRows limits (with_byte byte) a (file_with w new (w.reading.taken + 1)) after) (sym came)
       (data_goes limits r.items r.contents (with_byte byte) (file_with w new (w.reading.taken + 1)) scan.work new t.0 rows after (completes_row rows.left after.left) refl t.2 held r.at t.1 (byte_rows byte new after given passes) r.turned)
 
@@ -134,7 +133,7 @@ module _ (bytes : List ℕ) (w : FileWork) (scan : InScan) (rows : RowWork) (r :
       → PassesByte row_stored scan rows byte given new after → given ≡ Ok true → TakesMarker w.reading.items byte came held → (reading_of held.segments).taken ≡ w.reading.taken + 1
       → scan_left new.work ≡ 0 → PassesItem (file_after w held (w.reading.taken + 1)) came result
       → AfterRows limits (with_byte byte) result (file_after w held (w.reading.taken + 1)) after
-  unfolding ready_inside
+  unfolding held_inside
   byte_leaves byte new after given held came result inside room took by is marker taken done passes =
       let all = with_byte byte in
       let next = file_after w held (w.reading.taken + 1) in
@@ -142,7 +141,7 @@ module _ (bytes : List ℕ) (w : FileWork) (scan : InScan) (rows : RowWork) (r :
       let now = t.0 in
       let e = t.2 in
       let count : w.reading.taken + 1 ≡ length all = omega (arith, (r.held).count, length-append bytes (byte ∷ [])) in
-      let came_to = after_inside limits bytes (byte ∷ []) came (with_picture w r.whole) (with_picture next now) (ready_inside inside)
+      let came_to = after_inside limits bytes (byte ∷ []) came (with_picture w r.whole) (with_picture next now) (held_inside limits r.items r.contents bytes w scan r.whole inside ready_data r.held)
       (inr (inl (record { coefs = now; has = refl; none = refl; framed = (e.1).framed; after = marker r.items r.contents all now (r.held).head e.1; count = count; same = taken }))) refl refl (omega (arith, count, room)) in
       passes limits w.reading.scan all now after came_to refl t.1 e.0 (r.held).all (none_left byte new after given by done)
 
@@ -205,20 +204,11 @@ module _ (bytes : List ℕ) (w : FileWork) (scan : InScan) (rows : RowWork) (r :
     run_mid : w.reading.taken + length run ≤ limits.input → ScanHeld limits r.items r.contents front mid (rest.mid).gate
     run_mid room =
         let size = length-take-le rest.early run (omega (arith, rest.within)) in
-        held_more limits r.items r.contents bytes (take rest.early run) w rest.mid scan.gate (rest.mid).gate rest.early (sym size) (omega (arith, rest.within, room))
+        held_at limits r.items r.contents bytes (take rest.early run) w (Some rest.mid) scan.gate (rest.mid).gate rest.early (sym size) (omega (arith, rest.within, room))
         (omega (arith, ap waiting_bytes rest.open)) r.held
 
     run_stands : w.reading.taken + length run ≤ limits.input → RepresentsFile limits front (with_picture mid rest.between)
-    run_stands room =
-        let h = run_mid room in
-        inr (record {
-          items = r.items;
-          contents = r.contents;
-          at = record { coefs = rest.between; has = refl; scan = rest.mid; inside = refl; at = mid_data; head = h.head; count = h.count; behind = h.behind };
-          begun = h.begun;
-          within = h.within;
-          head = h.first_head;
-        })
+    run_stands room = inr (held_inside limits r.items r.contents front mid rest.mid rest.between refl mid_data (run_mid room))
 
     -- all of them, by the result of the last one
     run_by : (result : Step) → w.reading.taken + length run ≤ limits.input → AfterRows limits (front ++ byte ∷ []) result (file_with w new (w.reading.taken + n)) after
@@ -248,7 +238,7 @@ module _ (bytes : List ℕ) (w : FileWork) (scan : InScan) (rows : RowWork) (r :
         let row = completes_row rows.left after.left in
         let all = front ++ byte ∷ [] in
         let answer = cond row step.Row step.More in
-        let held = held_more limits r.items r.contents front (byte ∷ []) mid new (rest.mid).gate new.gate 1 refl (omega (arith, room, rest.within)) (omega (arith, few_wait new.gate)) (run_mid room) in
+        let held = held_at limits r.items r.contents front (byte ∷ []) mid (Some new) (rest.mid).gate new.gate 1 refl (omega (arith, room, rest.within)) (omega (arith, few_wait new.gate)) (run_mid room) in
         let one : (w.reading.taken + rest.early) + 1 ≡ w.reading.taken + n = omega (arith, rest.count) in
         let last : AfterRows limits all answer (file_with w new ((w.reading.taken + rest.early) + 1)) after =
         data_goes limits r.items r.contents all (file_with w new ((w.reading.taken + rest.early) + 1)) scan.work new now rows after row refl (last_taken (Ok tt) is) held r.at of run_counts r.turned in
@@ -301,25 +291,8 @@ goes_with limits bytes w rows g = by (g.stands).at
   where
     by : RowsInside limits bytes w rows (g.stands).whole ⊎ RowsAfter limits bytes w rows (g.stands).whole → RepresentsFile limits bytes (with_picture w (g.stands).whole)
     by (inl r) =
-        let h = r.held in
         let z = (g.stands).whole in
-        inr (record {
-          items = r.items;
-          contents = r.contents;
-          at = record {
-            coefs = z;
-            has = refl;
-            scan = r.scan;
-            inside = r.inside;
-            at = subst (λ (l : List Bool). InRowData limits r.items r.contents bytes l r.scan z) g.none r.coded;
-            head = h.head;
-            count = h.count;
-            behind = h.behind;
-          };
-          begun = h.begun;
-          within = h.within;
-          head = h.first_head;
-        })
+        inr (held_inside limits r.items r.contents bytes w r.scan z r.inside (subst (λ (l : List Bool). InRowData limits r.items r.contents bytes l r.scan z) g.none r.coded) r.held)
     by (inr b) = inl b.between
 
 pub goes_stands : (limits : Limits) (bytes : List ℕ) (w : FileWork) (rows : RowWork) → GoesByRow limits bytes w rows → (whole : Picture) × RepresentsFile limits bytes (with_picture w whole)
@@ -363,10 +336,6 @@ rows_stay limits bytes run n w rows g r waits same room =
     let gate = waiting_scan w.reading.scan r.scan waits r.inside in
     let inside = subst (λ (l : List Bool). InRowData limits r.items r.contents bytes l r.scan z) g.none r.coded in
     let more : InRowData limits r.items r.contents (bytes ++ replicate n 255) [] r.scan z = ff_bytes limits r.items r.contents bytes n r.scan z inside gate in
-    let behind = h.behind in
-    let count = h.count in
-    let size = length-append bytes (replicate {A = ℕ} n 255) in
-    let all = length-replicate {A = ℕ} n 255 in
     let input : (limits_of w).input ≡ limits.input = ap (λ (l : Limits). l.input) same in
     record {
       stands = record {
@@ -378,16 +347,7 @@ rows_stay limits bytes run n w rows g r waits same room =
           scan = r.scan;
           inside = r.inside;
           coded = subst (λ (l : List Bool). InRowData limits r.items r.contents (bytes ++ replicate n 255) l r.scan z) (sym g.none) more;
-          held = record {
-            head = h.head;
-            count = omega (arith, count, size, all);
-            behind = omega (arith, behind);
-            begun = h.begun;
-            within = omega (arith, room, input, count, size, all);
-            first_head = has_longer limits bytes (replicate n 255) (bytes ++ replicate n 255) ((0xda, r.contents) ∷ segments_of r.items) w.head refl h.first_head;
-            of = h.of;
-            all = h.all;
-          };
+          held = held_at limits r.items r.contents bytes (replicate n 255) w (w.reading.scan) r.scan.gate r.scan.gate n (sym (length-replicate {A = ℕ} n 255)) (omega (arith, room, input)) (omega arith) h;
           at = r.at;
         });
       };
