@@ -16,13 +16,12 @@ use Rattle.jpg_file.specs.Read.PieceTaken.{ReadsOn, ReadsPiece, TakesBytes}
 use Rattle.jpg_file.specs.Read.ReadFile.{AsksForMemory, EndsBetweenItems, IsStopOf, KeepsHeadAt}
 use Rattle.jpg_file.specs.Read.RowFaults.{FaultsFed, FaultsResumed, FaultsSome, RowsFault}
 use Rattle.jpg_file.specs.Read.RowPieces.{AfterRowsPiece, CountsFed, HasLastByte, IfSparing, KeepsWork, RowsGo, RowsGive, RowsOpen}
-use Rattle.jpg_file.specs.Read.RowStops.{StopsRest, StopsRun}
 use Rattle.jpg_file.specs.Read.RowsSoFar.{LacksRow, RowsSoFar}
 use Rattle.jpg_file.specs.Read.RowTurns.{unfinished}
 use Rattle.jpg_file.specs.Read.RowsKnown.{KnowsRows, RowsKnown}
 use Rattle.jpg_file.specs.Read.RowsNone.{HasNoRows, NoRowsIn, NoneAfter}
 use Rattle.jpg_file.specs.Read.Step.{IsNoRow, HasMemory}
-use Rattle.jpg_file.specs.Read.Strips.{AfterStrip, CountsStrip, GoesByRow, GoesOnRest, SparesRows, RepresentsRows, StripGoes, StripRun, RepresentsStrip, TakesResumed, TakesStrip}
+use Rattle.jpg_file.specs.Read.Strips.{AfterStrip, CountsStrip, GoesByRow, GoesOnRest, SparesRows, RepresentsRows, StripGoes, StripRun, RepresentsStrip, TakesResumed, TakesStrip, TakesRest, TakesRunOfRows}
 use Rattle.jpg_file.specs.declared.read.file.FileWork.{FileWork}
 use Rattle.jpg_file.specs.declared.read.first_header.Head.{Head}
 use Rattle.jpg_file.specs.declared.read.pieces.FedRow.{FedRow}
@@ -597,12 +596,12 @@ resumed_stop limits piece (stop.Fault f) old new r = record {
     )
 
 -- THE STATE, by its current MCU row
-pub resumed_rows : (old : StripWork) (given : RowWork) (answer : Step) → old.rows ≡ Some given → StopsRest old.file given answer → FaultsResumed old answer
-resumed_rows old given answer has stops = λ rows f bytes is shows g.
+pub resumed_rows : (old : StripWork) (given : RowWork) (answer : Step) → old.rows ≡ Some given → (new : FileWork) (after : RowWork) → TakesRest old.file given answer new after → FaultsResumed old answer
+resumed_rows old given answer has new after took = λ rows f bytes is shows g.
     let same : rows ≡ given = some_once rows given (sym is ∙ has) in
-    subst (λ (w : RowWork). RepresentsRows (limits_of old.file) bytes old.file w → RowsSoFar (limits_of old.file) bytes w) (sym same) (stops f bytes shows) g
+    subst (λ (w : RowWork). RepresentsRows (limits_of old.file) bytes old.file w → RowsSoFar (limits_of old.file) bytes w) (sym same) (λ k. (took bytes k).1 f shows) g
 
-pub some_faults : (old : StripWork) (given : RowWork) (run : List ℕ) (n : ℕ) (answer : Step) → old.rows ≡ Some given → StopsRun old.file given run n answer → FaultsSome old run n answer
-some_faults old given run n answer has stops = λ rows f bytes is shows g.
+pub some_faults : (old : StripWork) (given : RowWork) (run : List ℕ) (n : ℕ) (answer : Step) → old.rows ≡ Some given → (new : FileWork) (after : RowWork) → TakesRunOfRows old.file given run n answer new after → FaultsSome old run n answer
+some_faults old given run n answer has new after took = λ rows f bytes is shows g.
     let same : rows ≡ given = some_once rows given (sym is ∙ has) in
-    subst (λ (w : RowWork). GoesByRow (limits_of old.file) bytes old.file w → RowsSoFar (limits_of old.file) (bytes ++ take n run) w) (sym same) (stops f bytes shows) g
+    subst (λ (w : RowWork). GoesByRow (limits_of old.file) bytes old.file w → RowsSoFar (limits_of old.file) (bytes ++ take n run) w) (sym same) (λ k. (took bytes k).stops f shows) g

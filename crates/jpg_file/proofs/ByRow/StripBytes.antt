@@ -9,7 +9,7 @@ use Rattle.jpg_base.specs.declared.stop.Stop.TheVariants as stop
 use Rattle.jpg_coefs.specs.Picture.{Picture}
 use Rattle.jpg_markers.specs.Reading.{reading_of}
 use Rattle.jpg_seq.specs.Rows.{IsRowOf}
-use Rattle.jpg_file.specs.Read.File.{IsStop, RepresentsFile, IsInsideScanOfFile, limits_of, with_picture}
+use Rattle.jpg_file.specs.Read.File.{RepresentsFile, IsInsideScanOfFile, limits_of, with_picture}
 use Rattle.jpg_file.specs.Read.InData.{InData, IsInside}
 use Rattle.jpg_file.specs.Read.Items.{IsOfMarker, TakesMarker}
 use Rattle.jpg_file.specs.Read.Reading.{waiting_bytes}
@@ -18,7 +18,7 @@ use Rattle.jpg_file.specs.Read.RowLast.{row_stored}
 use Rattle.jpg_file.specs.Read.RowPlaces.{scan_left}
 use Rattle.jpg_file.specs.Read.RowsSoFar.{CompletesBefore, RowsSoFar}
 use Rattle.jpg_file.specs.Read.RowTurns.{CountsScan, completes_row, unfinished}
-use Rattle.jpg_file.specs.Read.Strips.{AfterRows, PassesItem, RowsRun, ScanHeld, components_of, frame_behind, GoesByRow, RowsAfter, RowsInside, StripGoes, RepresentsStrip}
+use Rattle.jpg_file.specs.Read.Strips.{AfterRows, PassesItem, RowsRun, ScanHeld, components_of, frame_behind, GoesByRow, RowsAfter, RowsInside, StripGoes, RepresentsStrip, StopsAt}
 use Rattle.jpg_file.specs.declared.read.file.FileWork.{FileWork}
 use Rattle.jpg_file.specs.declared.read.items.Items.{Items}
 use Rattle.jpg_file.specs.declared.read.items.ItemStep.{ItemStep}
@@ -33,16 +33,20 @@ use Rattle.jpg_file.proofs.ByRow.RowTurns.{byte_counts, counts_in, counts_scan, 
 use Rattle.jpg_file.proofs.ByRow.StripRows.{data_goes, row_data, RowReady, file_with, half_of, inside_row}
 use Rattle.jpg_file.proofs.Scans.Scannings.{few_wait}
 use Rattle.jpg_spec.specs.Markers.{Segment}
-use Rattle.jpg_base.specs.declared.stop.Stop.{Stop}
 use Rattle.jpg_file.specs.Read.FirstHeader.{IsFirstHeaderOf}
 use Rattle.jpg_file.specs.Read.Going.{FillsScan, has_waiting}
 use Rattle.jpg_file.specs.declared.read.reading.Reading.{Reading}
 use Rattle.jpg_spec.proofs.Basics.Common.{clash}
-use Rattle.jpg_file.proofs.Files.PieceSteps.{limits_are, waiting_scan}
+use Rattle.jpg_file.proofs.Files.PieceSteps.{limits_are, one_more, waiting_scan}
 use Rattle.jpg_file.proofs.Scans.ScanBytes.{ff_bytes}
 use Rattle.jpg_file.proofs.ByRow.RowsGiven.{goes_completes}
 
 -- Bytes inside the data of a scan that is read MCU row by MCU row.
+
+-- data without a fault stop nothing
+pub no_stop : (limits : Limits) (bytes : List ℕ) (rows : RowWork) (row : Bool) (came_to : Step) → came_to ≡ cond row step.Row step.More → StopsAt limits bytes came_to rows
+no_stop limits bytes rows true came_to is f e = absurd (let z : (let s : Step = step.Row in s) ≡ step.Ended (stop.Fault f) = sym is ∙ e in cc)
+no_stop limits bytes rows false came_to is f e = absurd (let z : (let s : Step = step.More in s) ≡ step.Ended (stop.Fault f) = sym is ∙ e in cc)
 
 -- with more bytes
 module _ (limits : Limits) (items : List Item) (contents bytes : List ℕ) where
@@ -108,17 +112,23 @@ module _ (bytes : List ℕ) (w : FileWork) (scan : InScan) (rows : RowWork) (r :
 
   pub byte_goes : (byte : ℕ) (new : InScan) (after : RowWork) (given : Result Bool Fault) (result : Step) → w.reading.taken < limits.input
       → TakesByteInto row_stored scan rows byte given new after → PassesByte row_stored scan rows byte given new after → given ≡ Ok false
-      → result ≡ cond (completes_row rows.left after.left) step.Row step.More → AfterRows limits (with_byte byte) result (file_with w new (w.reading.taken + 1)) after
+      → result ≡ cond (completes_row rows.left after.left) step.Row step.More
+      → AfterRows limits (with_byte byte) result (file_with w new (w.reading.taken + 1)) after × StopsAt limits (with_byte byte) result rows
   byte_goes byte new after given result room took passes is came =
       let t = byte_taken byte given (Ok false) new after took is in
       let held = held_at limits r.items r.contents bytes (byte ∷ []) w (Some new) scan.gate new.gate 1 refl (omega (arith, room)) (omega (arith, few_wait new.gate)) r.held in
-      subst (λ (a : Step). AfterRows limits (with_byte byte) a (file_with w new (w.reading.taken + 1)) after) (sym came)
-      (data_goes limits r.items r.contents (with_byte byte) (file_with w new (w.reading.taken + 1)) scan.work new t.0 rows after (completes_row rows.left after.left) refl t.2 held r.at t.1 (byte_rows byte new after given passes) r.turned)
+      let row = completes_row rows.left after.left in
+      let last = data_goes limits r.items r.contents (with_byte byte) (file_with w new (w.reading.taken + 1)) scan.work new t.0 rows after row refl t.2 held r.at t.1 (byte_rows byte new after given passes) r.turned in
+      (subst (λ (a : Step). AfterRows limits (with_byte byte) a (file_with w new (w.reading.taken + 1)) after) (sym came) last, no_stop limits (with_byte byte) rows row result came)
 
-  pub byte_stops : (byte : ℕ) (new : InScan) (after : RowWork) (given : Result Bool Fault) (fault : Fault) → TakesByteInto row_stored scan rows byte given new after
-      → given ≡ Err fault → IsStop limits (with_byte byte) (record { fault = fault; at = w.reading.taken + 1 })
-  byte_stops byte new after given fault took is =
-      (omega (arith, (r.held).count, length-append bytes (byte ∷ [])), (byte_taken byte given (Err fault) new after took is).2)
+  pub byte_stops : (byte : ℕ) (new : InScan) (after : RowWork) (given : Result Bool Fault) (fault : Fault) (result : Step) (file : FileWork)
+      → TakesByteInto row_stored scan rows byte given new after → PassesByte row_stored scan rows byte given new after → given ≡ Err fault
+      → result ≡ step.Ended (stop.Fault (record { fault = fault; at = w.reading.taken + 1 }))
+      → AfterRows limits (with_byte byte) result file after × StopsAt limits (with_byte byte) result rows
+  byte_stops byte new after given fault result file took passes is came = (
+    subst (λ (a : Step). AfterRows limits (with_byte byte) a file after) (sym came) (omega (arith, (r.held).count, length-append bytes (byte ∷ [])), (byte_taken byte given (Err fault) new after took is).2),
+    λ f e. inr (segments_of r.items, r.contents, byte_stopped limits r.items r.contents bytes scan new rows after r.whole r.row ((r.held).of, (r.at).at) fault byte given ready_data passes is),
+  )
 
   -- if no units are left, all MCU rows are complete
   none_left : (byte : ℕ) (new : InScan) (after : RowWork) (given : Result Bool Fault) → PassesByte row_stored scan rows byte given new after
@@ -132,7 +142,7 @@ module _ (bytes : List ℕ) (w : FileWork) (scan : InScan) (rows : RowWork) (r :
       → w.reading.scan ≡ Some scan → w.reading.taken < limits.input → TakesByteInto row_stored scan rows byte given new after
       → PassesByte row_stored scan rows byte given new after → given ≡ Ok true → TakesMarker w.reading.items byte came held → (reading_of held.segments).taken ≡ w.reading.taken + 1
       → scan_left new.work ≡ 0 → PassesItem (file_after w held (w.reading.taken + 1)) came result
-      → AfterRows limits (with_byte byte) result (file_after w held (w.reading.taken + 1)) after
+      → AfterRows limits (with_byte byte) result (file_after w held (w.reading.taken + 1)) after × StopsAt limits (with_byte byte) result rows
   unfolding held_inside
   byte_leaves byte new after given held came result inside room took by is marker taken done passes =
       let all = with_byte byte in
@@ -143,18 +153,8 @@ module _ (bytes : List ℕ) (w : FileWork) (scan : InScan) (rows : RowWork) (r :
       let count : w.reading.taken + 1 ≡ length all = omega (arith, (r.held).count, length-append bytes (byte ∷ [])) in
       let came_to = after_inside limits bytes (byte ∷ []) came (with_picture w r.whole) (with_picture next now) (held_inside limits r.items r.contents bytes w scan r.whole inside ready_data r.held)
       (inr (inl (record { coefs = now; has = refl; none = refl; framed = (e.1).framed; after = marker r.items r.contents all now (r.held).head e.1; count = count; same = taken }))) refl refl (omega (arith, count, room)) in
-      passes limits w.reading.scan all now after came_to refl t.1 e.0 (r.held).all (none_left byte new after given by done)
-
-  pub byte_at_fault : (byte : ℕ) (new : InScan) (after : RowWork) (given : Result Bool Fault) (fault : Fault) → PassesByte row_stored scan rows byte given new after
-      → given ≡ Err fault → RowsSoFar limits (with_byte byte) rows
-  byte_at_fault byte new after given fault passes is =
-      inr (segments_of r.items, r.contents, byte_stopped limits r.items r.contents bytes scan new rows after r.whole r.row ((r.held).of, (r.at).at) fault byte given ready_data passes is)
-
-  -- a marker that ends the scan
-  pub marker_at_fault : (all : List ℕ) (byte : ℕ) (new : InScan) (after : RowWork) (given : Result Bool Fault)
-      → PassesByte row_stored scan rows byte given new after → given ≡ Ok true → scan_left new.work ≡ 0 → RowsSoFar limits all rows
-  marker_at_fault all byte new after given passes is done =
-      inl (ap unfinished (sym (marker_same scan new rows after byte given passes is)) ∙ none_left byte new after given passes done)
+      let none = none_left byte new after given by done in
+      (passes limits w.reading.scan all now after came_to refl t.1 e.0 (r.held).all none, λ f stopped. inl (ap unfinished (sym (marker_same scan new rows after byte given by is)) ∙ none))
 
   -- a marker by itself needs no memory
   pub leaves_kind : (byte : ℕ) (new : InScan) (after : RowWork) (given : Result Bool Fault) (held : Items) (came : ItemStep)
@@ -211,9 +211,10 @@ module _ (bytes : List ℕ) (w : FileWork) (scan : InScan) (rows : RowWork) (r :
     run_stands room = inr (held_inside limits r.items r.contents front mid rest.mid rest.between refl mid_data (run_mid room))
 
     -- all of them, by the result of the last one
-    run_by : (result : Step) → w.reading.taken + length run ≤ limits.input → AfterRows limits (front ++ byte ∷ []) result (file_with w new (w.reading.taken + n)) after
+    run_by : (result : Step) → w.reading.taken + length run ≤ limits.input → StopsAt limits (bytes ++ take n run) result rows
+        → AfterRows limits (front ++ byte ∷ []) result (file_with w new (w.reading.taken + n)) after
         → RowsRun limits bytes run n result rows (file_with w new (w.reading.taken + n)) after
-    run_by result room last = record {
+    run_by result room stops last = record {
       mid = with_picture mid rest.between;
       early = rest.early;
       count = rest.count;
@@ -223,6 +224,7 @@ module _ (bytes : List ℕ) (w : FileWork) (scan : InScan) (rows : RowWork) (r :
       room = omega (arith, room, rest.within);
       head = refl;
       last = last;
+      stops = stops;
     }
 
     last_taken : (answer : Result (Unit {0}) Fault) → given ≡ answer → AfterBytes limits r.items r.contents (front ++ byte ∷ []) answer after.waiting new now
@@ -242,7 +244,7 @@ module _ (bytes : List ℕ) (w : FileWork) (scan : InScan) (rows : RowWork) (r :
         let one : (w.reading.taken + rest.early) + 1 ≡ w.reading.taken + n = omega (arith, rest.count) in
         let last : AfterRows limits all answer (file_with w new ((w.reading.taken + rest.early) + 1)) after =
         data_goes limits r.items r.contents all (file_with w new ((w.reading.taken + rest.early) + 1)) scan.work new now rows after row refl (last_taken (Ok tt) is) held r.at of run_counts r.turned in
-        run_by result room
+        run_by result room (no_stop limits (bytes ++ take n run) rows row result came)
         (subst (λ (a : Step). AfterRows limits all a (file_with w new (w.reading.taken + n)) after) (sym came) (subst (λ m. AfterRows limits all answer (file_with w new m) after) one last))
 
     pub run_stops : (fault : Fault) (result : Step) → w.reading.taken + length run ≤ limits.input → given ≡ Err fault
@@ -251,18 +253,10 @@ module _ (bytes : List ℕ) (w : FileWork) (scan : InScan) (rows : RowWork) (r :
         let all = front ++ byte ∷ [] in
         let size = length-take-le rest.early run (omega (arith, rest.within)) in
         let long : w.reading.taken + n ≡ length all = omega (arith, (r.held).count, rest.count, size, length-append front (byte ∷ []), length-append bytes (take rest.early run)) in
-        run_by result room (subst (λ (a : Step). AfterRows limits all a (file_with w new (w.reading.taken + n)) after) (sym came) (long, last_taken (Err fault) is))
-
-    pub run_at_fault : (fault : Fault) → given ≡ Err fault → RowsSoFar limits (bytes ++ take n run) rows
-    run_at_fault fault is =
-        inr (segments_of r.items, r.contents, run_stopped limits r.items r.contents bytes scan new rows after r.whole r.row ((r.held).of, (r.at).at) fault run n given run_few ready_data passes is)
+        let stopped = run_stopped limits r.items r.contents bytes scan new rows after r.whole r.row ((r.held).of, (r.at).at) fault run n given run_few ready_data passes is in
+        run_by result room (λ f e. inr (segments_of r.items, r.contents, stopped)) (subst (λ (a : Step). AfterRows limits all a (file_with w new (w.reading.taken + n)) after) (sym came) (long, last_taken (Err fault) is))
 
 -- A file that is read MCU row by MCU row and has a fault: which MCU rows the bytes up to it complete.
-
--- data without a fault stop nothing
-pub no_stop : (row : Bool) (came_to : Step) (stop : Stop) → came_to ≡ cond row step.Row step.More → came_to ≡ step.Ended stop → ⊥
-no_stop true came_to stop is e = (let z : (let s : Step = step.Row in s) ≡ step.Ended stop = sym is ∙ e in cc)
-no_stop false came_to stop is e = (let z : (let s : Step = step.More in s) ≡ step.Ended stop = sym is ∙ e in cc)
 
 -- if another row is the current one, and as many are left
 before_same : (limits : Limits) (bytes : List ℕ) (before : List Segment) (contents : List ℕ) (rows other : RowWork) → unfinished rows ≡ unfinished other → CompletesBefore limits bytes before contents rows → CompletesBefore limits bytes before contents other
@@ -276,12 +270,6 @@ module _ (bytes : List ℕ) (w : FileWork) (scan : InScan) (rows : RowWork) (r :
       let h = half_of (limits_of w) r.items r.contents bytes rows.waiting scan r.whole some r.coded in
       let k = rest_stopped (limits_of w) r.items r.contents bytes scan new rows after r.whole r.row ((r.held).of, (r.at).at) fault given h passes is in
       inr (segments_of r.items, r.contents, before_same (limits_of w) bytes (segments_of r.items) r.contents rows old same k)
-
--- from the first of them on
-pub front_at_fault : (limits : Limits) (front bytes : List ℕ) (size n : ℕ) (rows : RowWork) → size ≤ length bytes → n ≤ length (take size bytes)
-    → RowsSoFar limits (front ++ take n (take size bytes)) rows → RowsSoFar limits (front ++ take n bytes) rows
-front_at_fault limits front bytes size n rows few within k =
-    subst (λ l. RowsSoFar limits (front ++ l) rows) (take-take n size bytes (omega (arith, within, length-take-le size bytes few))) k
 
 -- Some bytes of a file that is read MCU row by MCU row.
 
@@ -316,16 +304,17 @@ module _ (limits : Limits) (front bytes : List ℕ) (new : FileWork) (after : Ro
         before = subst (λ l. RepresentsFile limits (front ++ l) t.mid) same t.before;
         room = t.room;
         head = t.head;
+        stops = λ f e. subst (λ l. RowsSoFar limits (front ++ l) rows) (take-take n size bytes (omega (arith, t.count, low, long))) (t.stops f e);
         last = subst (λ b. AfterRows limits ((front ++ take t.early bytes) ++ b ∷ []) result new after) byte (subst (λ l. AfterRows limits ((front ++ l) ++ get_or (take size bytes) t.early 0 ∷ []) result new after) same t.last);
       }
 
   -- a byte after some that were taken together
   pub later_row : (n : ℕ) (mid : FileWork) (rows : RowWork) → GoesByRow limits (front ++ take n bytes) mid rows → mid.reading.taken < limits.input
       → n < length bytes → new.head ≡ mid.head → AfterRows limits ((front ++ take n bytes) ++ get_or bytes n 0 ∷ []) result new after
-      → RowsRun limits front bytes (n + 1) result rows new after
-  later_row n mid rows g room less head a =
+      → StopsAt limits ((front ++ take n bytes) ++ get_or bytes n 0 ∷ []) result rows → RowsRun limits front bytes (n + 1) result rows new after
+  later_row n mid rows g room less head a stops =
       let k = goes_stands limits (front ++ take n bytes) mid rows g in
-      record { mid = with_picture mid k.0; early = n; count = refl; within = less; rows_before = goes_completes limits (front ++ take n bytes) mid rows g; before = k.1; room = room; head = sym head; last = a }
+      record { mid = with_picture mid k.0; early = n; count = refl; within = less; rows_before = goes_completes limits (front ++ take n bytes) mid rows g; before = k.1; room = room; head = sym head; last = a; stops = λ f e. subst (λ l. RowsSoFar limits l rows) (sym (one_more front bytes n less)) (stops f e) }
 
 -- FILL BYTES inside the data of the scan
 rows_stay : (limits : Limits) (bytes run : List ℕ) (n : ℕ) (w : FileWork) (rows : RowWork) → (g : GoesByRow limits bytes w rows) → (r : RowsInside limits bytes w rows (g.stands).whole) → has_waiting w.reading.scan ≡ true → limits_of w ≡ limits

@@ -419,14 +419,14 @@ module _ (limits : Limits) (bytes : List ℕ) (w : FileWork) (scan : InScan) (ro
       → CountsScan scan.work rows (completes_row rows.left after.left) new.work after
   rest_counts new after given t = counts_scan scan.work rows t.taken new.work after t.machine t.due ready_half.due.1 t.took.1 t.work
 
-  pub rest_goes : (new : InScan) (after : RowWork) (row : Bool) (given : Result (Unit {0}) Fault) (result : Step) → TakesRestInRow scan rows given new after
-      → given ≡ Ok tt → CountsScan scan.work rows row new.work after → new.gate ≡ scan.gate → result ≡ cond row step.Row step.More
+  pub rest_goes : (new : InScan) (after : RowWork) (given : Result (Unit {0}) Fault) (result : Step) → TakesRestInRow scan rows given new after
+      → given ≡ Ok tt → PassesRest row_stored scan rows given new after → new.gate ≡ scan.gate → result ≡ cond (completes_row rows.left after.left) step.Row step.More
       → AfterRows limits bytes result (file_with w new w.reading.taken) after
-  rest_goes new after row given result took is c gate came =
+  rest_goes new after given result took is passes gate came =
       let t = took limits r.items r.contents bytes r.whole r.row half in
       let coded = subst (λ (a : Result (Unit {0}) Fault). AfterBytes limits r.items r.contents bytes a after.waiting new t.0) is t.2 in
       subst (λ (a : Step). AfterRows limits bytes a (file_with w new w.reading.taken) after) (sym came)
-      (data_goes limits r.items r.contents bytes (file_with w new w.reading.taken) scan.work new t.0 rows after row refl coded (held_rest limits r.items r.contents bytes w new scan.gate new.gate gate r.held) r.at t.1 c r.turned)
+      (data_goes limits r.items r.contents bytes (file_with w new w.reading.taken) scan.work new t.0 rows after (completes_row rows.left after.left) refl coded (held_rest limits r.items r.contents bytes w new scan.gate new.gate gate r.held) r.at t.1 (rest_counts new after given passes) r.turned)
 
   pub rest_stops : (new : InScan) (after : RowWork) (given : Result (Unit {0}) Fault) (fault : Fault) → TakesRestInRow scan rows given new after
       → given ≡ Err fault → IsStop limits bytes (record { fault = fault; at = w.reading.taken })

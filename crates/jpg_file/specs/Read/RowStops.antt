@@ -1,9 +1,8 @@
 -- A fault in the data of a scan that is read MCU row by MCU row: which MCU rows the bytes up to it complete (T.81,
 -- A.2.3, F.2.2).
-use Rattle.std.specs.Prelude.{◌≡◌, ℕ, Bool, List, [], ◌∷◌, ◌++◌, take}
+use Rattle.std.specs.Prelude.{◌≡◌, ℕ, Bool, List, take}
 use Rattle.jpg_spec.specs.Bits.{bits_of_bytes}
 use Rattle.jpg_spec.specs.Items.{Item}
-use Rattle.jpg_spec.specs.declared.fault.FaultAt.{FaultAt}
 use Rattle.jpg_spec.specs.declared.frame.Limits.{Limits}
 use Rattle.jpg_base.specs.declared.stop.Stop.TheVariants as stop
 use Rattle.jpg_coefs.specs.Picture.{Picture}
@@ -12,17 +11,13 @@ use Rattle.jpg_coefs.specs.declared.machine.Taken.{Taken}
 use Rattle.jpg_coefs.specs.declared.machine.Taken.TheVariants as taken
 use Rattle.jpg_coefs.specs.declared.machine.UnitFault.{UnitFault}
 use Rattle.jpg_seq.specs.Rows.{IsRowOf}
-use Rattle.jpg_file.specs.Read.File.{limits_of}
 use Rattle.jpg_file.specs.Read.Machine.{any_scan}
 use Rattle.jpg_file.specs.Read.RowMachine.{IsOpenRowScan}
 use Rattle.jpg_file.specs.Read.RowPlaces.{IsRowAt, scan_left}
-use Rattle.jpg_file.specs.Read.RowsSoFar.{RowsSoFar}
-use Rattle.jpg_file.specs.Read.Strips.{GoesByRow, IsFirstScan, RepresentsRows, components_of, frame_behind}
-use Rattle.jpg_file.specs.declared.read.file.FileWork.{FileWork}
+use Rattle.jpg_file.specs.Read.Strips.{IsFirstScan, components_of, frame_behind}
 use Rattle.jpg_file.specs.declared.read.machine.ScanReader.{ScanReader}
 use Rattle.jpg_file.specs.declared.read.rows.RowWork.{RowWork}
 use Rattle.jpg_file.specs.declared.read.scan.InScan.{InScan}
-use Rattle.jpg_file.specs.declared.read.step.Step.{Step}
 use Rattle.jpg_file.specs.declared.read.step.Step.TheVariants as step
 
 -- BITS, some first ones of which reveal a fault, before this many further units are complete
@@ -39,13 +34,3 @@ StopsRowRun w m bytes n came_to = StopsRowData w m (bits_of_bytes (take n bytes)
 -- INSIDE THE DATA of a scan that has this many units left
 abbrev pub IsRowInScan : Limits → List Item → List ℕ → InScan → RowWork → Type 0
 IsRowInScan limits items contents s w = IsFirstScan limits items × IsRowAt (frame_behind limits items) (components_of limits items contents) w (scan_left s.work)
-
--- THE FILE
-abbrev pub StopsRest : FileWork → RowWork → Step → Type 0
-StopsRest old rows came_to = (f : FaultAt) (bytes : List ℕ) → came_to ≡ step.Ended (stop.Fault f) → RepresentsRows (limits_of old) bytes old rows → RowsSoFar (limits_of old) bytes rows
-
-abbrev pub StopsByte : FileWork → RowWork → ℕ → Step → Type 0
-StopsByte old rows byte came_to = (f : FaultAt) (bytes : List ℕ) → came_to ≡ step.Ended (stop.Fault f) → GoesByRow (limits_of old) bytes old rows → RowsSoFar (limits_of old) (bytes ++ byte ∷ []) rows
-
-abbrev pub StopsRun : FileWork → RowWork → List ℕ → ℕ → Step → Type 0
-StopsRun old rows run n came_to = (f : FaultAt) (bytes : List ℕ) → came_to ≡ step.Ended (stop.Fault f) → GoesByRow (limits_of old) bytes old rows → RowsSoFar (limits_of old) (bytes ++ take n run) rows

@@ -12,7 +12,6 @@ ghost use Rattle.jpg_spec.specs.declared.frame.Copying.TheVariants as copying;
 ghost use Rattle.jpg_base.specs.Cursor.{scan_mcus_down};
 ghost use Rattle.jpg_base.specs.declared.stop.Stop.TheVariants as stop;
 ghost use Rattle.jpg_file.specs.Read.Strips.{BeginsRows, CountsRowsOfScan, CountsRows, FindsHead, GoesByRow, GoesOnRest, HasHeadOfAll, HasLaterHead, PassesItem, PassesLaterHead, RepresentsRows, TakesRest, TakesRowByte, TakesRunOfRows};
-ghost use Rattle.jpg_file.specs.Read.RowStops.{StopsByte, StopsRest, StopsRun};
 ghost use Rattle.jpg_file.specs.Read.RowTurns.{unfinished};
 ghost use Rattle.jpg_file.specs.Read.RowsNone.{FindsNone};
 ghost use Rattle.jpg_file.specs.Read.RowsKnown.{BeginsTold};
@@ -230,7 +229,6 @@ impl FileWork {
     pub fn take_waiting_bits(&mut self, rows: &mut RowWork) -> Step
         requires { (bytes : List ℕ) × RepresentsRows (limits_of self.old) bytes self.old rows.old }
         ensures after { TakesRest self.old rows.old result self.new rows.new }
-        ensures stops { StopsRest self.old rows.old result }
         ensures goes { GoesOnRest result }
         ensures rows { CountsRows result rows.old rows.new }
         ensures memory { HasMemory result }
@@ -259,7 +257,6 @@ impl FileWork {
         requires limits { AreLimits (limits_of self.old) }
         requires room { self.old.reading.taken < (limits_of self.old).input }
         ensures after { TakesRowByte self.old rows.old byte result self.new rows.new }
-        ensures stops { StopsByte self.old rows.old byte result }
         ensures rows { CountsRows result rows.old rows.new }
         ensures memory { HasMemory result }
         ensures sparing { NeedsNoMemory self.old.reading → NeedsNoMemory self.new.reading }
@@ -293,7 +290,6 @@ impl FileWork {
         requires few { length run.now < 4294967296 }
         requires plain { ArePlain run.now }
         ensures after { TakesRunOfRows self.old rows.old run.now result.0 result.1 self.new rows.new }
-        ensures stops { StopsRun self.old rows.old run.now result.0 result.1 }
         ensures rows { CountsRows result.1 rows.old rows.new }
         ensures memory { HasMemory result.1 }
         ensures same { self.new.reading.items ≡ self.old.reading.items }
@@ -319,7 +315,6 @@ impl FileWork {
         requires room { self.old.reading.taken < (limits_of self.old).input }
         requires some { 1 ≤ length bytes.now }
         ensures after { TakesRunOfRows self.old rows.old bytes.now result.0 result.1 self.new rows.new }
-        ensures stops { StopsRun self.old rows.old bytes.now result.0 result.1 }
         ensures rows { CountsRows result.1 rows.old rows.new }
         ensures memory { NeedsNoMemory self.old.reading → HasMemory result.1 }
         ensures sparing { NeedsNoMemory self.old.reading → NeedsNoMemory self.new.reading }
@@ -447,7 +442,9 @@ pub fn plain_length(bytes: &[u8], most: u64) -> usize
 
 // A fault at this number of bytes.
 fn fault_at(fault: Fault, at: u64) -> Step
-    ensures { result ≡ Step.Ended (stop.Fault (record { fault = fault; at = at })) }
+    ensures is { result ≡ Step.Ended (stop.Fault (record { fault = fault; at = at })) }
+    ensures memory { HasMemory result }
+    ensures rows { (rows : RowWork) (after : RowWork) → CountsRows result rows after }
 {
     Step::Ended(Stop::Fault(FaultAt { fault, at }))
 }

@@ -1,17 +1,14 @@
-use Rattle.std.proofs.Common.{◌∙◌, ◌+◌, [], Ok, ◌∷◌, ◌++◌, sym, subst, arith, ap, cond}
+use Rattle.std.proofs.Common.{◌∙◌, Ok, subst, arith, ap, cond}
 use Rattle.jpg_file.specs.Read.File.{limits_of}
 use Rattle.jpg_file.specs.Read.Items.{IsOfMarker}
 use Rattle.jpg_file.specs.Read.Reading.{waiting_bytes}
-use Rattle.jpg_file.specs.Read.Step.{HasMemory}
-use Rattle.jpg_file.specs.Read.Strips.{AfterRows, CountsRows}
 use Rattle.jpg_base.specs.declared.stop.Stop.TheVariants as stop
 use Rattle.jpg_file.specs.declared.read.items.ItemStep.{ItemStep}
-use Rattle.jpg_file.specs.declared.read.step.Step.{Step}
 use Rattle.jpg_file.specs.Read.RowTurns.{unfinished}
 use Rattle.jpg_file.specs.declared.read.step.Step.TheVariants as step
-use Rattle.jpg_file.proofs.ByRow.StripBytes.{byte_at_fault, byte_rows, marker_at_fault, no_stop, byte_goes, byte_leaves, byte_stops, leaves_kind, ready_row}
+use Rattle.jpg_file.proofs.ByRow.StripBytes.{byte_goes, byte_leaves, byte_rows, byte_stops, leaves_kind, ready_row}
 use Rattle.jpg_file.proofs.ByRow.RowTurns.{counts_rows, marker_same, same_rows}
-use Rattle.jpg_file.proofs.ByRow.StripRows.{file_with, row_ready}
+use Rattle.jpg_file.proofs.ByRow.StripRows.{row_ready}
 use Rattle.jpg_file.proofs.read.file.FileWork.take_byte_in_row.Goals as goal
 
 pub byte-requires-clause-inside : goal.byte-requires-clause-inside
@@ -49,8 +46,7 @@ returns-in-Err-clause-after c = λ bytes g.
     let scan = c.in-Some.scan in
     let rows = c.args.rows.now in
     let took = c.byte in
-    subst (λ (a : Step). AfterRows (limits_of w) (bytes ++ c.args.byte ∷ []) a (file_with w took.new.self (w.reading.taken + 1)) took.new.blocks) (sym c.fault_at.ensures)
-    (byte_stops bytes w scan rows (row_ready (limits_of w) bytes w scan c.in-Some.is rows g) g.none c.args.byte took.new.self took.new.blocks took.result c.in-Err.fault took.ensures.takes c.in-Err.is)
+    byte_stops bytes w scan rows (row_ready (limits_of w) bytes w scan c.in-Some.is rows g) g.none c.args.byte took.new.self took.new.blocks took.result c.in-Err.fault c.fault_at.result _ took.ensures.takes took.ensures.passes c.in-Err.is c.fault_at.ensures.is
 
 pub returns-in-Ok-true-clause-after : goal.returns-in-Ok-true-clause-after
 returns-in-Ok-true-clause-after c = λ bytes g.
@@ -70,17 +66,11 @@ returns-in-Ok-false-clause-rows c =
     let counts = byte_rows g.0 w c.in-Some.scan c.args.rows.now (row_ready (limits_of w) g.0 w c.in-Some.scan c.in-Some.is c.args.rows.now g.1) (g.1).none c.args.byte took.new.self took.new.blocks took.result took.ensures.passes in
     counts_rows c.in-Some.scan.work took.new.self.work c.args.rows.now took.new.blocks _ c.row_step.result counts (c.row_step.ensures ∙ ap (λ b. cond b step.Row step.More) c.completes.ensures)
 
-pub returns-in-Err-clause-rows : goal.returns-in-Err-clause-rows
-returns-in-Err-clause-rows c = subst (λ (a : Step). CountsRows a c.args.rows.now c.byte.new.blocks) (sym c.fault_at.ensures) tt
-
 pub returns-in-Ok-true-clause-rows : goal.returns-in-Ok-true-clause-rows
 returns-in-Ok-true-clause-rows c =
     let took = c.byte in
     let same = marker_same c.in-Some.scan took.new.self c.args.rows.now took.new.blocks c.args.byte took.result took.ensures.passes (c.in-Ok-true.is ∙ ap Ok c.in-Ok-true.field-0-test) in
     same_rows c.args.rows.now took.new.blocks c.later_item.result c.later_item.ensures.no (ap unfinished same)
-
-pub returns-in-Err-clause-memory : goal.returns-in-Err-clause-memory
-returns-in-Err-clause-memory c = subst (λ (a : Step). HasMemory a) (sym c.fault_at.ensures) tt
 
 pub later_item-requires : goal.later_item-requires
 later_item-requires c = λ is. absurd
@@ -99,22 +89,3 @@ returns-in-Ok-true-clause-memory c =
     let took = c.byte in
     let g = c.requires.stands in
     c.later_item.ensures.memory (λ is. subst (λ (s : ItemStep). IsOfMarker s) is (leaves_kind g.0 w scan rows (row_ready (limits_of w) g.0 w scan c.in-Some.is rows g.1) (g.1).none c.args.byte took.new.self took.new.blocks took.result c.marker-came.new.self c.marker-came.result took.ensures.takes (c.in-Ok-true.is ∙ ap Ok c.in-Ok-true.field-0-test) c.marker-came.ensures.after))
-
-pub returns-in-Ok-false-clause-stops : goal.returns-in-Ok-false-clause-stops
-returns-in-Ok-false-clause-stops c = λ f bytes e g. absurd (no_stop c.completes.result c.row_step.result (stop.Fault f) c.row_step.ensures e)
-
-pub returns-in-Err-clause-stops : goal.returns-in-Err-clause-stops
-returns-in-Err-clause-stops c = λ f bytes e g.
-    let w = c.args.self.now in
-    let scan = c.in-Some.scan in
-    let rows = c.args.rows.now in
-    let took = c.byte in
-    byte_at_fault bytes w scan rows (row_ready (limits_of w) bytes w scan c.in-Some.is rows g) g.none c.args.byte took.new.self took.new.blocks took.result c.in-Err.fault took.ensures.passes c.in-Err.is
-
-pub returns-in-Ok-true-clause-stops : goal.returns-in-Ok-true-clause-stops
-returns-in-Ok-true-clause-stops c = λ f bytes e g.
-    let w = c.args.self.now in
-    let scan = c.in-Some.scan in
-    let rows = c.args.rows.now in
-    let took = c.byte in
-    marker_at_fault bytes w scan rows (row_ready (limits_of w) bytes w scan c.in-Some.is rows g) g.none (bytes ++ c.args.byte ∷ []) c.args.byte took.new.self took.new.blocks took.result took.ensures.passes (c.in-Ok-true.is ∙ ap Ok c.in-Ok-true.field-0-test) (took.ensures.done (c.in-Ok-true.is ∙ ap Ok c.in-Ok-true.field-0-test))

@@ -1,11 +1,8 @@
-use Rattle.std.proofs.Common.{◌∙◌, ap, cond, sym, subst}
+use Rattle.std.proofs.Common.{◌∙◌, ap, cond}
 use Rattle.jpg_base.specs.declared.stop.Stop.TheVariants as stop
 use Rattle.jpg_file.specs.Read.File.{limits_of}
-use Rattle.jpg_file.specs.Read.Step.{HasMemory}
-use Rattle.jpg_file.specs.Read.Strips.{CountsRows}
-use Rattle.jpg_file.specs.declared.read.step.Step.{Step}
 use Rattle.jpg_file.specs.declared.read.step.Step.TheVariants as step
-use Rattle.jpg_file.proofs.ByRow.StripBytes.{no_stop, ready_row, run_at_fault, run_counts, run_goes, run_stops}
+use Rattle.jpg_file.proofs.ByRow.StripBytes.{ready_row, run_counts, run_goes, run_stops}
 use Rattle.jpg_file.proofs.ByRow.RowTurns.{counts_rows}
 use Rattle.jpg_file.proofs.ByRow.StripRows.{row_ready}
 use Rattle.jpg_file.proofs.read.file.FileWork.take_run_in_row.Goals as goal
@@ -30,7 +27,7 @@ returns-in-Err-clause-after c = λ bytes g.
     let scan = c.in-Some.scan in
     let rows = c.args.rows.now in
     let took = c.run-n in
-    run_stops bytes w scan rows (row_ready (limits_of w) bytes w scan c.in-Some.is rows g) g.none c.args.run.now took.result.0 took.new.self took.new.blocks took.result.1 took.ensures.takes took.ensures.passes c.in-Err.fault c.fault_at.result c.requires.room c.in-Err.is c.fault_at.ensures
+    run_stops bytes w scan rows (row_ready (limits_of w) bytes w scan c.in-Some.is rows g) g.none c.args.run.now took.result.0 took.new.self took.new.blocks took.result.1 took.ensures.takes took.ensures.passes c.in-Err.fault c.fault_at.result c.requires.room c.in-Err.is c.fault_at.ensures.is
 
 pub returns-in-Ok-clause-rows : goal.returns-in-Ok-clause-rows
 returns-in-Ok-clause-rows c =
@@ -41,20 +38,3 @@ returns-in-Ok-clause-rows c =
     let took = c.run-n in
     let counts = run_counts g.0 w scan rows (row_ready (limits_of w) g.0 w scan c.in-Some.is rows g.1) (g.1).none c.args.run.now took.result.0 took.new.self took.new.blocks took.result.1 took.ensures.takes took.ensures.passes in
     counts_rows scan.work took.new.self.work rows took.new.blocks _ c.row_step.result counts (c.row_step.ensures ∙ ap (λ b. cond b step.Row step.More) c.completes.ensures)
-
-pub returns-in-Err-clause-rows : goal.returns-in-Err-clause-rows
-returns-in-Err-clause-rows c = subst (λ (a : Step). CountsRows a c.args.rows.now c.run-n.new.blocks) (sym c.fault_at.ensures) tt
-
-pub returns-in-Err-clause-memory : goal.returns-in-Err-clause-memory
-returns-in-Err-clause-memory c = subst (λ (a : Step). HasMemory a) (sym c.fault_at.ensures) tt
-
-pub returns-in-Ok-clause-stops : goal.returns-in-Ok-clause-stops
-returns-in-Ok-clause-stops c = λ f bytes e g. absurd (no_stop c.completes.result c.row_step.result (stop.Fault f) c.row_step.ensures e)
-
-pub returns-in-Err-clause-stops : goal.returns-in-Err-clause-stops
-returns-in-Err-clause-stops c = λ f bytes e g.
-    let w = c.args.self.now in
-    let scan = c.in-Some.scan in
-    let rows = c.args.rows.now in
-    let took = c.run-n in
-    run_at_fault bytes w scan rows (row_ready (limits_of w) bytes w scan c.in-Some.is rows g) g.none c.args.run.now took.result.0 took.new.self took.new.blocks took.result.1 took.ensures.takes took.ensures.passes c.in-Err.fault c.in-Err.is

@@ -56,5 +56,5 @@ returns c =
       plain = λ none. absurd (clash (is_some old.rows) (ap is_some is) (ap is_some none));
       none = λ none. absurd (clash (is_some old.rows) (ap is_some is) (ap is_some none));
       some = λ none. absurd (clash (is_some old.rows) (ap is_some is) (ap is_some none));
-      faults = some_faults old c.in-Some.rows c.args.bytes.now c.take_in_row.result.0 c.take_in_row.result.1 is t.stops;
+      faults = some_faults old c.in-Some.rows c.args.bytes.now c.take_in_row.result.0 c.take_in_row.result.1 is c.take_in_row.new.self c.take_in_row.new.rows t.after;
     }
