@@ -4,7 +4,6 @@ use Rattle.std.specs.Prelude.{◌≡◌, ℕ, Bool, List, take}
 use Rattle.jpg_spec.specs.Bits.{bits_of_bytes}
 use Rattle.jpg_spec.specs.Items.{Item}
 use Rattle.jpg_spec.specs.declared.frame.Limits.{Limits}
-use Rattle.jpg_base.specs.declared.stop.Stop.TheVariants as stop
 use Rattle.jpg_coefs.specs.Picture.{Picture}
 use Rattle.jpg_coefs.specs.Machine.{TakesBits}
 use Rattle.jpg_coefs.specs.declared.machine.Taken.{Taken}
@@ -18,7 +17,6 @@ use Rattle.jpg_file.specs.Read.Strips.{IsFirstScan, components_of, frame_behind}
 use Rattle.jpg_file.specs.declared.read.machine.ScanReader.{ScanReader}
 use Rattle.jpg_file.specs.declared.read.rows.RowWork.{RowWork}
 use Rattle.jpg_file.specs.declared.read.scan.InScan.{InScan}
-use Rattle.jpg_file.specs.declared.read.step.Step.TheVariants as step
 
 -- BITS, some first ones of which reveal a fault, before this many further units are complete
 abbrev pub ShowsInRow : ℕ → ScanReader → Picture → List Bool → UnitFault → Type 0

@@ -1,5 +1,4 @@
 use Rattle.std.proofs.Common.{◌∙◌, ap, cond}
-use Rattle.jpg_base.specs.declared.stop.Stop.TheVariants as stop
 use Rattle.jpg_file.specs.Read.File.{limits_of}
 use Rattle.jpg_file.specs.declared.read.step.Step.TheVariants as step
 use Rattle.jpg_file.proofs.ByRow.StripBytes.{ready_row, run_counts, run_goes, run_stops}

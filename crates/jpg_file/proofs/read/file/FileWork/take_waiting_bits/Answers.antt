@@ -1,5 +1,4 @@
 use Rattle.std.proofs.Common.{◌≤◌, ◌∙◌, length, ap, cond, sym, subst, arith}
-use Rattle.jpg_base.specs.declared.stop.Stop.TheVariants as stop
 use Rattle.jpg_file.specs.Read.File.{limits_of}
 use Rattle.jpg_file.specs.Read.Strips.{AfterRows}
 use Rattle.jpg_file.specs.declared.read.step.Step.{Step}
