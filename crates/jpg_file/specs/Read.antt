@@ -16,14 +16,12 @@ pub mod ReadFile
 pub mod ReadRows
 pub mod Going
 pub mod Reading
-pub mod RowCounts
 pub mod RowData
 pub mod RowFaults
-pub mod RowLast
 pub mod RowMachine
 pub mod RowPieces
 pub mod RowPlaces
-pub mod RowStops
+pub mod RowStored
 pub mod RowTurns
 pub mod RowsKnown
 pub mod RowsNone

@@ -34,7 +34,7 @@ use Rattle.jpg_seq.specs.declared.reader.SeqReader.{SeqReader}
 use Rattle.jpg_file.specs.Read.InData.{InData, IsInterval, IsReadable, AtWork, byte_answer, scan_answer}
 use Rattle.jpg_file.specs.Read.Machine.{any_scan, scan_kind, whole_blocks}
 use Rattle.jpg_file.specs.Read.RowPlaces.{IsRowAt, scan_left}
-use Rattle.jpg_file.specs.Read.RowStops.{IsRowInScan, ShowsInRow, StopsRowData, StopsRowRun}
+use Rattle.jpg_file.specs.Read.RowStored.{IsRowInScan, ShowsInRow, StopsRowData, StopsRowRun, FewBefore, LastRowRun, row_stored}
 use Rattle.jpg_file.specs.Read.RowsSoFar.{CompletesBefore}
 use Rattle.jpg_file.specs.Read.RowTurns.{unfinished}
 use Rattle.jpg_file.specs.Read.Strips.{IsFirstScan, components_of, frame_behind}
@@ -60,7 +60,6 @@ use Rattle.jpg_coefs.specs.declared.machine.UnitStep.{UnitStep}
 use Rattle.jpg_coefs.specs.declared.machine.UnitStep.TheVariants as step
 use Rattle.jpg_spec_write.proofs.ProgressiveLength.{bytes_long}
 use Rattle.jpg_file.specs.Read.RowData.{HalfData, IsWrongMarker, PassesByte, PassesRest, PassesRun}
-use Rattle.jpg_file.specs.Read.RowLast.{FewBefore, LastRowRun, row_stored}
 
 -- What bits encode before a fault that the next bit reveals: no more than up to the place where they end (T.81, F.2.2).
 

@@ -15,9 +15,8 @@ use Rattle.jpg_file.proofs.Scans.Machines.{is_sequential, takes_of}
 use Rattle.jpg_spec.specs.Bits.{bits_of, bits_of_bytes}
 use Rattle.jpg_coefs.specs.declared.machine.Taken.TheVariants as taken
 use Rattle.jpg_file.specs.Read.Data.{GivesBits, GivesRun, waits_of, AnswersIn}
-use Rattle.jpg_file.specs.Read.RowCounts.{CountsRow}
+use Rattle.jpg_file.specs.Read.RowStored.{CountsRow, row_stored}
 use Rattle.jpg_file.specs.Read.RowData.{HalfData, AfterBytes, TakesRun}
-use Rattle.jpg_file.specs.Read.RowLast.{row_stored}
 use Rattle.jpg_file.specs.Read.ScanBlocks.{CanTake, TakesBitsInto, TakesBytesInto}
 use Rattle.jpg_file.specs.declared.read.rows.RowWork.{RowWork}
 use Rattle.jpg_file.proofs.Scans.Runs.{given, run_given, some_given, answers_after}

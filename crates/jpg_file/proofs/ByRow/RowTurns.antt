@@ -28,10 +28,9 @@ use Rattle.jpg_spec.specs.declared.frame.Limits.{Limits}
 use Rattle.jpg_coefs.specs.declared.machine.Taken.{Taken}
 use Rattle.jpg_coefs.specs.declared.machine.Taken.TheVariants as taken
 use Rattle.jpg_file.specs.Read.Machine.{any_scan}
-use Rattle.jpg_file.specs.Read.RowCounts.{CountsRow}
+use Rattle.jpg_file.specs.Read.RowStored.{CountsRow, row_stored}
 use Rattle.jpg_file.specs.Read.InData.{work_after}
 use Rattle.jpg_file.specs.Read.RowData.{IsDataOf, PassesByte}
-use Rattle.jpg_file.specs.Read.RowLast.{row_stored}
 use Rattle.jpg_file.specs.declared.read.scan.InScan.{InScan}
 use Rattle.jpg_file.proofs.Scans.ScanBytes.{never_over}
 use Rattle.jpg_spec.specs.declared.fault.Fault.{Fault}

@@ -14,7 +14,7 @@ use Rattle.jpg_file.specs.Read.InData.{InData, IsInside}
 use Rattle.jpg_file.specs.Read.Items.{IsOfMarker, TakesMarker}
 use Rattle.jpg_file.specs.Read.Reading.{waiting_bytes}
 use Rattle.jpg_file.specs.Read.RowData.{AfterByte, AfterBytes, InRowData, IsDataOf, PassesByte, PassesRest, PassesRun, TakesByteInto, TakesRun, TakesRunInto}
-use Rattle.jpg_file.specs.Read.RowLast.{row_stored}
+use Rattle.jpg_file.specs.Read.RowStored.{row_stored}
 use Rattle.jpg_file.specs.Read.RowPlaces.{scan_left}
 use Rattle.jpg_file.specs.Read.RowsSoFar.{CompletesBefore, RowsSoFar}
 use Rattle.jpg_file.specs.Read.RowTurns.{CountsScan, completes_row, unfinished}

@@ -34,7 +34,7 @@ use Rattle.jpg_spec.specs.FileMeaning.{scan_after, Leads}
 use Rattle.jpg_spec.specs.Scan.{Scan, Blocks}
 use Rattle.jpg_spec.proofs.Basics.Common.{some_once, neither, clash}
 use Rattle.jpg_file.specs.Read.RowData.{HalfData, InRowData, IsHalfRow, IsInsideRow, IsDataOf, AfterBytes, PassesRest, TakesRestInRow}
-use Rattle.jpg_file.specs.Read.RowLast.{row_stored}
+use Rattle.jpg_file.specs.Read.RowStored.{row_stored}
 use Rattle.jpg_file.specs.Read.RowTurns.{CountsScan, IsRowIn, IsBlankAfter, KeepsRowIn, TurnsRow, completes_row, unfinished}
 use Rattle.jpg_file.specs.Read.Strips.{AfterRows, IsFirstScan, RowsInside, ScanHeld, components_of, frame_behind, GoesByRow, RowsAfter, RepresentsRows}
 use Rattle.jpg_file.specs.declared.read.file.FileWork.{FileWork}

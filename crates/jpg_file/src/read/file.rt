@@ -12,7 +12,7 @@ ghost use Rattle.jpg_spec.specs.declared.frame.Copying.TheVariants as copying;
 ghost use Rattle.jpg_base.specs.Cursor.{scan_mcus_down};
 ghost use Rattle.jpg_base.specs.declared.stop.Stop.TheVariants as stop;
 ghost use Rattle.jpg_file.specs.Read.Strips.{BeginsRows, CountsRowsOfScan, CountsRows, FindsHead, GoesByRow, GoesOnRest, HasHeadOfAll, HasLaterHead, PassesItem, PassesLaterHead, RepresentsRows, TakesRest, TakesRowByte, TakesRunOfRows};
-ghost use Rattle.jpg_file.specs.Read.RowTurns.{unfinished};
+ghost use Rattle.jpg_file.specs.Read.RowTurns.{completes_row, unfinished};
 ghost use Rattle.jpg_file.specs.Read.RowsNone.{FindsNone};
 ghost use Rattle.jpg_file.specs.Read.RowsKnown.{BeginsTold};
 
@@ -245,7 +245,7 @@ impl FileWork {
         }
         let before = rows.left;
         match scan.rest_in_row(rows) {
-            Ok(()) => row_step(rows.completes(before)),
+            Ok(()) => row_step(rows, before),
             Err(fault) => fault_at(fault, at),
         }
     }
@@ -270,7 +270,7 @@ impl FileWork {
         self.reading.taken = at;
         let before = rows.left;
         match scan.byte(rows, byte) {
-            Ok(false) => row_step(rows.completes(before)),
+            Ok(false) => row_step(rows, before),
             Ok(true) => {
                 self.reading.scan = None;
                 let came = self.reading.items.marker(byte, at);
@@ -303,7 +303,7 @@ impl FileWork {
         let at = self.reading.taken + n as u64;
         self.reading.taken = at;
         match step {
-            Ok(()) => (n, row_step(rows.completes(before))),
+            Ok(()) => (n, row_step(rows, before)),
             Err(fault) => (n, fault_at(fault, at)),
         }
     }
@@ -449,9 +449,14 @@ fn fault_at(fault: Fault, at: u64) -> Step
     Step::Ended(Stop::Fault(FaultAt { fault, at }))
 }
 
-// The result of data that go on.
-fn row_step(row: bool) -> Step
-    ensures { result ≡ (if row then Step.Row else Step.More) }
+// The result of data that go on: whether the MCU row is complete, and wasn't when this many of its units were left.
+fn row_step(rows: &RowWork, before: u64) -> Step
+    ensures is { result ≡ (if completes_row before rows.now.left then Step.Row else Step.More) }
+    ensures memory { HasMemory result }
 {
-    if row { Step::Row } else { Step::More }
+    if before > 0 && rows.left == 0 {
+        Step::Row
+    } else {
+        Step::More
+    }
 }

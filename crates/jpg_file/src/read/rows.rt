@@ -6,8 +6,8 @@ ghost use Rattle.jpg_spec.specs.Segments.{head_components};
 ghost use Rattle.jpg_base.specs.Cursor.{AreIn, scan_mcus_down};
 ghost use Rattle.jpg_seq.specs.Rows.{IsRowOf, top_of};
 ghost use Rattle.jpg_file.specs.Read.Data.{waits_of};
-ghost use Rattle.jpg_file.specs.Read.RowLast.{row_stored};
-ghost use Rattle.jpg_file.specs.Read.RowTurns.{IsRowIn, KeepsRowIn, TurnsRow, block_rows_of, completes_row, unfinished, zero_picture};
+ghost use Rattle.jpg_file.specs.Read.RowStored.{row_stored};
+ghost use Rattle.jpg_file.specs.Read.RowTurns.{IsRowIn, KeepsRowIn, TurnsRow, block_rows_of, unfinished, zero_picture};
 
 use crate::read::blocks::ScanBlocks;
 use crate::read::machine::ScanReader;
@@ -114,13 +114,6 @@ impl RowWork {
         self.tops = next_tops(&self.tops, &self.steps);
         self.left = self.units;
         self.later -= 1;
-    }
-
-    /// Whether it is complete, and wasn't when this many of its units were left.
-    pub fn completes(&self, before: u64) -> bool
-        ensures { result ≡ completes_row before self.now.left }
-    {
-        before > 0 && self.left == 0
     }
 }
 

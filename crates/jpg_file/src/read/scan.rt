@@ -6,7 +6,7 @@ ghost use Rattle.jpg_coefs.specs.Machine.{fault_of};
 ghost use Rattle.jpg_coefs.specs.Picture.{Picture};
 ghost use Rattle.jpg_file.specs.Read.InData.{ArePlain, AtWork, MarkerAt, NextBegins, TakesCode, byte_answer, scan_answer, work_after};
 ghost use Rattle.jpg_file.specs.Read.RowData.{IsDataOf, IsHalfRow, PassesByte, PassesRest, PassesRun, TakesByteInto, TakesRestInRow, TakesRunInto};
-ghost use Rattle.jpg_file.specs.Read.RowLast.{row_stored};
+ghost use Rattle.jpg_file.specs.Read.RowStored.{row_stored};
 ghost use Rattle.jpg_file.specs.Read.RowPlaces.{scan_left};
 
 use crate::read::blocks::ScanBlocks;

@@ -1,10 +1,9 @@
-use Rattle.std.proofs.Common.{◌∙◌, Ok, subst, arith, ap, cond}
+use Rattle.std.proofs.Common.{◌∙◌, Ok, subst, arith, ap}
 use Rattle.jpg_file.specs.Read.File.{limits_of}
 use Rattle.jpg_file.specs.Read.Items.{IsOfMarker}
 use Rattle.jpg_file.specs.Read.Reading.{waiting_bytes}
 use Rattle.jpg_file.specs.declared.read.items.ItemStep.{ItemStep}
 use Rattle.jpg_file.specs.Read.RowTurns.{unfinished}
-use Rattle.jpg_file.specs.declared.read.step.Step.TheVariants as step
 use Rattle.jpg_file.proofs.ByRow.StripBytes.{byte_goes, byte_leaves, byte_rows, byte_stops, leaves_kind, ready_row}
 use Rattle.jpg_file.proofs.ByRow.RowTurns.{counts_rows, marker_same, same_rows}
 use Rattle.jpg_file.proofs.ByRow.StripRows.{row_ready}
@@ -36,8 +35,7 @@ returns-in-Ok-false-clause-after c = λ bytes g.
     let scan = c.in-Some.scan in
     let rows = c.args.rows.now in
     let took = c.byte in
-    byte_goes bytes w scan rows (row_ready (limits_of w) bytes w scan c.in-Some.is rows g) g.none c.args.byte took.new.self took.new.blocks took.result c.row_step.result c.requires.room took.ensures.takes took.ensures.passes (c.in-Ok-false.is ∙ ap Ok c.in-Ok-false.field-0-test)
-    (c.row_step.ensures ∙ ap (λ b. cond b step.Row step.More) c.completes.ensures)
+    byte_goes bytes w scan rows (row_ready (limits_of w) bytes w scan c.in-Some.is rows g) g.none c.args.byte took.new.self took.new.blocks took.result c.row_step.result c.requires.room took.ensures.takes took.ensures.passes (c.in-Ok-false.is ∙ ap Ok c.in-Ok-false.field-0-test) c.row_step.ensures.is
 
 pub returns-in-Err-clause-after : goal.returns-in-Err-clause-after
 returns-in-Err-clause-after c = λ bytes g.
@@ -63,7 +61,7 @@ returns-in-Ok-false-clause-rows c =
     let g = c.requires.stands in
     let took = c.byte in
     let counts = byte_rows g.0 w c.in-Some.scan c.args.rows.now (row_ready (limits_of w) g.0 w c.in-Some.scan c.in-Some.is c.args.rows.now g.1) (g.1).none c.args.byte took.new.self took.new.blocks took.result took.ensures.passes in
-    counts_rows c.in-Some.scan.work took.new.self.work c.args.rows.now took.new.blocks _ c.row_step.result counts (c.row_step.ensures ∙ ap (λ b. cond b step.Row step.More) c.completes.ensures)
+    counts_rows c.in-Some.scan.work took.new.self.work c.args.rows.now took.new.blocks _ c.row_step.result counts c.row_step.ensures.is
 
 pub returns-in-Ok-true-clause-rows : goal.returns-in-Ok-true-clause-rows
 returns-in-Ok-true-clause-rows c =

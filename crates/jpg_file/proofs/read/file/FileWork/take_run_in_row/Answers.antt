@@ -1,6 +1,4 @@
-use Rattle.std.proofs.Common.{◌∙◌, ap, cond}
 use Rattle.jpg_file.specs.Read.File.{limits_of}
-use Rattle.jpg_file.specs.declared.read.step.Step.TheVariants as step
 use Rattle.jpg_file.proofs.ByRow.StripBytes.{ready_row, run_counts, run_goes, run_stops}
 use Rattle.jpg_file.proofs.ByRow.RowTurns.{counts_rows}
 use Rattle.jpg_file.proofs.ByRow.StripRows.{row_ready}
@@ -18,7 +16,7 @@ returns-in-Ok-clause-after c = λ bytes g.
     let scan = c.in-Some.scan in
     let rows = c.args.rows.now in
     let took = c.run-n in
-    run_goes bytes w scan rows (row_ready (limits_of w) bytes w scan c.in-Some.is rows g) g.none c.args.run.now took.result.0 took.new.self took.new.blocks took.result.1 took.ensures.takes took.ensures.passes c.row_step.result c.requires.room c.in-Ok.is (c.row_step.ensures ∙ ap (λ b. cond b step.Row step.More) c.completes.ensures)
+    run_goes bytes w scan rows (row_ready (limits_of w) bytes w scan c.in-Some.is rows g) g.none c.args.run.now took.result.0 took.new.self took.new.blocks took.result.1 took.ensures.takes took.ensures.passes c.row_step.result c.requires.room c.in-Ok.is c.row_step.ensures.is
 
 pub returns-in-Err-clause-after : goal.returns-in-Err-clause-after
 returns-in-Err-clause-after c = λ bytes g.
@@ -36,4 +34,4 @@ returns-in-Ok-clause-rows c =
     let rows = c.args.rows.now in
     let took = c.run-n in
     let counts = run_counts g.0 w scan rows (row_ready (limits_of w) g.0 w scan c.in-Some.is rows g.1) (g.1).none c.args.run.now took.result.0 took.new.self took.new.blocks took.result.1 took.ensures.takes took.ensures.passes in
-    counts_rows scan.work took.new.self.work rows took.new.blocks _ c.row_step.result counts (c.row_step.ensures ∙ ap (λ b. cond b step.Row step.More) c.completes.ensures)
+    counts_rows scan.work took.new.self.work rows took.new.blocks _ c.row_step.result counts c.row_step.ensures.is

@@ -1,8 +1,7 @@
-use Rattle.std.proofs.Common.{◌≤◌, ◌∙◌, length, ap, cond, sym, subst, arith}
+use Rattle.std.proofs.Common.{◌≤◌, length, sym, subst, arith}
 use Rattle.jpg_file.specs.Read.File.{limits_of}
 use Rattle.jpg_file.specs.Read.Strips.{AfterRows}
 use Rattle.jpg_file.specs.declared.read.step.Step.{Step}
-use Rattle.jpg_file.specs.declared.read.step.Step.TheVariants as step
 use Rattle.jpg_file.proofs.ByRow.StripBytes.{no_stop, rest_at_fault}
 use Rattle.jpg_file.proofs.ByRow.RowTurns.{counts_rows, rows_then}
 use Rattle.jpg_file.proofs.ByRow.StripRows.{file_with, next_counts, next_ready, nothing, ready_goes, ready_half, rest_counts, rest_goes, rest_stops}
@@ -30,7 +29,7 @@ returns-in-Ok-clause-after c = λ bytes k.
     let new = c.next.new.self in
     let r = next_ready (limits_of w) bytes w scan c.in-Some.is c.args.rows.now new k c.next.ensures.at c.next.ensures.of c.next.ensures.waiting in
     let took = c.rest_in_row in
-    let came = c.row_step.ensures ∙ ap (λ b. cond b step.Row step.More) c.completes.ensures in (
+    let came = c.row_step.ensures.is in (
       rest_goes (limits_of w) bytes w scan new r (omega (arith, c.len.ensures.value, c.if-len-eq0.false)) took.new.self took.new.rows took.result c.row_step.result took.ensures.takes c.in-Ok.is took.ensures.passes took.ensures.gate came,
       no_stop (limits_of w) bytes c.args.rows.now _ c.row_step.result came,
     )
@@ -62,4 +61,4 @@ returns-in-Ok-clause-rows c =
     (counts_rows c.in-Some.scan.work took.new.self.work c.next.new.self took.new.rows _ c.row_step.result
     (rest_counts (limits_of w) o.0 w c.in-Some.scan c.next.new.self (next_ready (limits_of w) o.0 w c.in-Some.scan c.in-Some.is c.args.rows.now c.next.new.self o.1 c.next.ensures.at c.next.ensures.of c.next.ensures.waiting)
     (omega (arith, c.len.ensures.value, c.if-len-eq0.false)) took.new.self took.new.rows took.result took.ensures.passes)
-    (c.row_step.ensures ∙ ap (λ b. cond b step.Row step.More) c.completes.ensures))
+    c.row_step.ensures.is)

@@ -1,6 +1,6 @@
 use Rattle.std.proofs.Common.{◌∙◌, Bool, List, ap, subst}
 use Rattle.jpg_file.specs.Read.RowData.{AfterBytes}
-use Rattle.jpg_file.specs.Read.RowLast.{row_stored}
+use Rattle.jpg_file.specs.Read.RowStored.{row_stored}
 use Rattle.jpg_file.specs.Read.ScanBlocks.{TakesBitsInto}
 use Rattle.jpg_file.specs.declared.read.scan.ScanWork.{ScanWork}
 use Rattle.jpg_file.proofs.ByRow.RowData.{half_then, open_half}
