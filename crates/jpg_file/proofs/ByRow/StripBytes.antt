@@ -18,7 +18,7 @@ use Rattle.jpg_file.specs.Read.RowStored.{row_stored}
 use Rattle.jpg_file.specs.Read.RowPlaces.{scan_left}
 use Rattle.jpg_file.specs.Read.RowsSoFar.{CompletesBefore, RowsSoFar}
 use Rattle.jpg_file.specs.Read.RowTurns.{CountsScan, completes_row, unfinished}
-use Rattle.jpg_file.specs.Read.Strips.{AfterRows, PassesItem, RowsRun, ScanHeld, components_of, frame_behind, GoesByRow, RowsAfter, RowsInside, StripGoes, RepresentsStrip, StopsAt}
+use Rattle.jpg_file.specs.Read.Strips.{AfterRows, PassesItem, RowsRun, ScanHeld, components_of, frame_behind, GoesByRow, RowsAfter, RowsInside, StripGoes, RepresentsStrip, StopsRows}
 use Rattle.jpg_file.specs.declared.read.file.FileWork.{FileWork}
 use Rattle.jpg_file.specs.declared.read.items.Items.{Items}
 use Rattle.jpg_file.specs.declared.read.items.ItemStep.{ItemStep}
@@ -44,7 +44,7 @@ use Rattle.jpg_file.proofs.ByRow.RowsGiven.{goes_completes}
 -- Bytes inside the data of a scan that is read MCU row by MCU row.
 
 -- data without a fault stop nothing
-pub no_stop : (limits : Limits) (bytes : List ℕ) (rows : RowWork) (row : Bool) (came_to : Step) → came_to ≡ cond row step.Row step.More → StopsAt limits bytes came_to rows
+pub no_stop : (limits : Limits) (bytes : List ℕ) (rows : RowWork) (row : Bool) (came_to : Step) → came_to ≡ cond row step.Row step.More → StopsRows limits bytes came_to rows
 no_stop limits bytes rows true came_to is f e = absurd (let z : (let s : Step = step.Row in s) ≡ step.Ended (stop.Fault f) = sym is ∙ e in cc)
 no_stop limits bytes rows false came_to is f e = absurd (let z : (let s : Step = step.More in s) ≡ step.Ended (stop.Fault f) = sym is ∙ e in cc)
 
@@ -113,7 +113,7 @@ module _ (bytes : List ℕ) (w : FileWork) (scan : InScan) (rows : RowWork) (r :
   pub byte_goes : (byte : ℕ) (new : InScan) (after : RowWork) (given : Result Bool Fault) (result : Step) → w.reading.taken < limits.input
       → TakesByteInto row_stored scan rows byte given new after → PassesByte row_stored scan rows byte given new after → given ≡ Ok false
       → result ≡ cond (completes_row rows.left after.left) step.Row step.More
-      → AfterRows limits (with_byte byte) result (file_with w new (w.reading.taken + 1)) after × StopsAt limits (with_byte byte) result rows
+      → AfterRows limits (with_byte byte) result (file_with w new (w.reading.taken + 1)) after × StopsRows limits (with_byte byte) result rows
   byte_goes byte new after given result room took passes is came =
       let t = byte_taken byte given (Ok false) new after took is in
       let held = held_at limits r.items r.contents bytes (byte ∷ []) w (Some new) scan.gate new.gate 1 refl (omega (arith, room)) (omega (arith, few_wait new.gate)) r.held in
@@ -124,7 +124,7 @@ module _ (bytes : List ℕ) (w : FileWork) (scan : InScan) (rows : RowWork) (r :
   pub byte_stops : (byte : ℕ) (new : InScan) (after : RowWork) (given : Result Bool Fault) (fault : Fault) (result : Step) (file : FileWork)
       → TakesByteInto row_stored scan rows byte given new after → PassesByte row_stored scan rows byte given new after → given ≡ Err fault
       → result ≡ step.Ended (stop.Fault (record { fault = fault; at = w.reading.taken + 1 }))
-      → AfterRows limits (with_byte byte) result file after × StopsAt limits (with_byte byte) result rows
+      → AfterRows limits (with_byte byte) result file after × StopsRows limits (with_byte byte) result rows
   byte_stops byte new after given fault result file took passes is came = (
     subst (λ (a : Step). AfterRows limits (with_byte byte) a file after) (sym came) (omega (arith, (r.held).count, length-append bytes (byte ∷ [])), (byte_taken byte given (Err fault) new after took is).2),
     λ f e. inr (segments_of r.items, r.contents, byte_stopped limits r.items r.contents bytes scan new rows after r.whole r.row ((r.held).of, (r.at).at) fault byte given ready_data passes is),
@@ -142,7 +142,7 @@ module _ (bytes : List ℕ) (w : FileWork) (scan : InScan) (rows : RowWork) (r :
       → w.reading.scan ≡ Some scan → w.reading.taken < limits.input → TakesByteInto row_stored scan rows byte given new after
       → PassesByte row_stored scan rows byte given new after → given ≡ Ok true → TakesMarker w.reading.items byte came held → (reading_of held.segments).taken ≡ w.reading.taken + 1
       → scan_left new.work ≡ 0 → PassesItem (file_after w held (w.reading.taken + 1)) came result
-      → AfterRows limits (with_byte byte) result (file_after w held (w.reading.taken + 1)) after × StopsAt limits (with_byte byte) result rows
+      → AfterRows limits (with_byte byte) result (file_after w held (w.reading.taken + 1)) after × StopsRows limits (with_byte byte) result rows
   unfolding held_inside
   byte_leaves byte new after given held came result inside room took by is marker taken done passes =
       let all = with_byte byte in
@@ -211,7 +211,7 @@ module _ (bytes : List ℕ) (w : FileWork) (scan : InScan) (rows : RowWork) (r :
     run_stands room = inr (held_inside limits r.items r.contents front mid rest.mid rest.between refl mid_data (run_mid room))
 
     -- all of them, by the result of the last one
-    run_by : (result : Step) → w.reading.taken + length run ≤ limits.input → StopsAt limits (bytes ++ take n run) result rows
+    run_by : (result : Step) → w.reading.taken + length run ≤ limits.input → StopsRows limits (bytes ++ take n run) result rows
         → AfterRows limits (front ++ byte ∷ []) result (file_with w new (w.reading.taken + n)) after
         → RowsRun limits bytes run n result rows (file_with w new (w.reading.taken + n)) after
     run_by result room stops last = record {
@@ -311,7 +311,7 @@ module _ (limits : Limits) (front bytes : List ℕ) (new : FileWork) (after : Ro
   -- a byte after some that were taken together
   pub later_row : (n : ℕ) (mid : FileWork) (rows : RowWork) → GoesByRow limits (front ++ take n bytes) mid rows → mid.reading.taken < limits.input
       → n < length bytes → new.head ≡ mid.head → AfterRows limits ((front ++ take n bytes) ++ get_or bytes n 0 ∷ []) result new after
-      → StopsAt limits ((front ++ take n bytes) ++ get_or bytes n 0 ∷ []) result rows → RowsRun limits front bytes (n + 1) result rows new after
+      → StopsRows limits ((front ++ take n bytes) ++ get_or bytes n 0 ∷ []) result rows → RowsRun limits front bytes (n + 1) result rows new after
   later_row n mid rows g room less head a stops =
       let k = goes_stands limits (front ++ take n bytes) mid rows g in
       record { mid = with_picture mid k.0; early = n; count = refl; within = less; rows_before = goes_completes limits (front ++ take n bytes) mid rows g; before = k.1; room = room; head = sym head; last = a; stops = λ f e. subst (λ l. RowsSoFar limits l rows) (sym (one_more front bytes n less)) (stops f e) }

@@ -3,7 +3,7 @@ use Rattle.std.specs.Prelude.{is_some}
 use Rattle.jpg_spec.specs.declared.frame.Limits.{Limits}
 use Rattle.jpg_markers.proofs.Continuing.{not_some}
 use Rattle.jpg_file.specs.Read.File.{limits_of}
-use Rattle.jpg_file.specs.Read.Strips.{AfterRows, GoesByRow, StopsAt}
+use Rattle.jpg_file.specs.Read.Strips.{AfterRows, GoesByRow, StopsRows}
 use Rattle.jpg_file.specs.declared.read.reading.Reading.{Reading}
 use Rattle.jpg_file.proofs.ByRow.StripBytes.{filled_limits, filled_scan, front_rows, later_row, rows_filled}
 use Rattle.jpg_file.proofs.ByRow.StripItems.{after_of, later_goes, later_items, later_passed, later_there}
@@ -39,7 +39,7 @@ returns-then-is_some-clause-after c = λ front g.
     let a = c.take_byte_in_row.ensures.after (front ++ take n bytes) (subst (λ l. GoesByRow l (front ++ take n bytes) mid c.args.rows.now) (sym same) k) in
     later_row (limits_of w) front bytes c.take_byte_in_row.new.self c.take_byte_in_row.new.rows c.take_byte_in_row.result n mid c.args.rows.now k (subst (λ (t : ℕ). t < (limits_of w).input) (sym (ap (λ (r : Reading). r.taken) p.is)) p.room) p.less c.take_byte_in_row.ensures.head
     (subst (λ (l : Limits). AfterRows l ((front ++ take n bytes) ++ get_or bytes n 0 ∷ []) c.take_byte_in_row.result c.take_byte_in_row.new.self c.take_byte_in_row.new.rows) same a.0)
-    (subst (λ (l : Limits). StopsAt l ((front ++ take n bytes) ++ get_or bytes n 0 ∷ []) c.take_byte_in_row.result c.args.rows.now) same a.1)
+    (subst (λ (l : Limits). StopsRows l ((front ++ take n bytes) ++ get_or bytes n 0 ∷ []) c.take_byte_in_row.result c.args.rows.now) same a.1)
 
 -- AFTER IT
 
