@@ -12,6 +12,7 @@ pub use jpg_coefs::{BlockOrder, BlockView, Coefs};
 pub use jpg_markers::{Jfif, Kept, KeptList, KeptRest, OutHead};
 pub use jpg_scans::{Restart, Script};
 pub use laws::{no_file_is_left_out, rows_are_due_in_order};
+pub use read::blocks::ScanBlocks;
 pub use read::ends::End;
 pub use read::file::FileWork;
 pub use read::first_header::{Head, colours, head_of};

@@ -1,5 +1,6 @@
 //! A file read piece by piece (T.81, B.2.1).
 
+pub mod blocks;
 pub mod ends;
 pub mod file;
 pub mod first_header;

@@ -21,7 +21,8 @@ use Rattle.jpg_spec_image.proofs.Fronts.{ends_begun}
 use Rattle.jpg_file.specs.Read.ScanHistory.{scan_headers}
 use Rattle.jpg_file.specs.Read.ScanPieces.{NoScanEnds, ScanEnds}
 use Rattle.jpg_file.specs.Read.ScansEnded.{EndedBetween, ScansEnded}
-use Rattle.jpg_file.proofs.Files.ReaderFed.{complete_ended, inside_at, scans_more}
+use Rattle.jpg_file.proofs.Files.ReaderFed.{complete_ended, scans_more}
+use Rattle.jpg_spec.proofs.Files.ScanSteps.{inside as inside_at}
 use Rattle.jpg_preview.specs.Viewing.{HasScans, LacksScans}
 use Rattle.jpg_preview.proofs.LastBytes.{last_cut, last_place, no_restart, one_last}
 

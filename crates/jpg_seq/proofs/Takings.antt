@@ -121,6 +121,15 @@ part_shorter e values p more n part le ends =
     (λ (b : n ≤ length p). absurd (ends p (drop n p) part (sym (take-append-drop n p) ∙ ap (λ z. z ++ drop n p) (sym (take-append-le n p more b)))))
     (cases_lt (length p) n)
 
+-- where it begins with the part: some of its bits are in the store, and all of them are there
+pub split_rest : (e same : Env) (s : Work) (store bits : List Bool) (have n : ℕ) → same ≡ e → bits ≡ s.part ++ take 32 store → have ≡ length s.part → IsPartOf e s.values s.part
+    → n ≤ length bits → NoPartBegins same s.values (take n bits) → (have < n) × (n - have ≤ length store)
+split_rest e same s store bits have n is all count part within ends =
+    let le = subst (λ (z : List Bool). n ≤ length z) all within in
+    let E : List Bool → Type 0 = λ z. NoPartBegins e s.values (take n z) in
+    let lt = part_shorter e s.values s.part (take 32 store) n part le (subst E all (subst (λ (x : Env). NoPartBegins x s.values (take n bits)) is ends)) in
+    (omega (arith, lt, count), omega (arith, lt, count, le, length-append s.part (take 32 store), length-take 32 store))
+
 covered_stays : (e : Env) (t : Work) (answer : UnitProgress) → IsUnitCovered t answer → t.part ≡ [] → StaysAtWork e answer t
 covered_stays e t More cov none = (cov, none)
 covered_stays e t Done cov none = (cov, none)

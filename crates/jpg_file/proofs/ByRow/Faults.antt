@@ -1,5 +1,5 @@
 -- Where a fault stops a scan that is read MCU row by MCU row: which MCU rows the bytes up to it complete.
-use Rattle.std.proofs.Common.{◌≡◌, ◌+◌, ◌<◌, ◌≤◌, Bool, List, [], ◌∷◌, ◌++◌, length, refl, sym, ap, ◌∙◌, subst, arith, inl, ⊎_elim, ℤ, ℕ, ◌-◌, ◌*◌, cond, inr, suc, ◌/◌, ◌%◌, true, false, take, get_or, Err, Ok}
+use Rattle.std.proofs.Common.{◌≡◌, ◌+◌, ◌<◌, ◌≤◌, Bool, List, [], ◌∷◌, ◌++◌, length, refl, sym, ap, ◌∙◌, subst, arith, inl, ◌⊎◌, ⊎_elim, ℤ, ℕ, ◌-◌, ◌*◌, cond, inr, suc, ◌/◌, ◌%◌, true, false, take, get_or, Err, Ok}
 use Rattle.std.proofs.lemmas.Bool.{cases_lt}
 use Rattle.std.proofs.lemmas.List.{append_assoc, append-nil, append_cancel_left, length-append, take_more}
 use Rattle.jpg_spec.specs.Elements.{Coding, Covers, Element, UnitLeft, at_start}
@@ -28,12 +28,13 @@ use Rattle.jpg_coefs.specs.Machine.{Interval, fault_of, units_of, TakesBits, Cha
 use Rattle.jpg_coefs.specs.declared.machine.UnitFault.{UnitFault}
 use Rattle.jpg_coefs.proofs.Chains.{chain_stands, some_taken}
 use Rattle.jpg_seq.specs.Reader.{RepresentsSeqScan, new_units_at}
+use Rattle.jpg_seq.specs.Rows.{IsRowOf}
 use Rattle.jpg_seq.specs.Stands.{unit_in_work}
 use Rattle.jpg_seq.specs.declared.reader.SeqReader.{SeqReader}
-use Rattle.jpg_file.specs.Read.InData.{IsInterval, IsReadable, ArePlain, AtWork, byte_answer, scan_answer}
+use Rattle.jpg_file.specs.Read.InData.{InData, IsInterval, IsReadable, AtWork, byte_answer, scan_answer}
 use Rattle.jpg_file.specs.Read.Machine.{any_scan, scan_kind, whole_blocks}
 use Rattle.jpg_file.specs.Read.RowPlaces.{IsRowAt, scan_left}
-use Rattle.jpg_file.specs.Read.RowStops.{ShowsInRow, StopsByteInRow, StopsRestInRow, StopsRowData, StopsRowRun, StopsRunInRow}
+use Rattle.jpg_file.specs.Read.RowStored.{IsRowInScan, ShowsInRow, StopsRowData, StopsRowRun, FewBefore, LastRowRun, row_stored}
 use Rattle.jpg_file.specs.Read.RowsSoFar.{CompletesBefore}
 use Rattle.jpg_file.specs.Read.RowTurns.{unfinished}
 use Rattle.jpg_file.specs.Read.Strips.{IsFirstScan, components_of, frame_behind}
@@ -58,7 +59,7 @@ use Rattle.jpg_file.proofs.ByRow.RowData.{open_half, open_scan}
 use Rattle.jpg_coefs.specs.declared.machine.UnitStep.{UnitStep}
 use Rattle.jpg_coefs.specs.declared.machine.UnitStep.TheVariants as step
 use Rattle.jpg_spec_write.proofs.ProgressiveLength.{bytes_long}
-use Rattle.jpg_file.specs.Read.RowLast.{FewBefore, LastRowRun, LastRunInRow}
+use Rattle.jpg_file.specs.Read.RowData.{HalfData, IsWrongMarker, PassesByte, PassesRest, PassesRun}
 
 -- What bits encode before a fault that the next bit reveals: no more than up to the place where they end (T.81, F.2.2).
 
@@ -390,43 +391,40 @@ byte_faulty : (a : Result (Unit {0}) Fault) (fault : Fault) → byte_answer a �
 byte_faulty (Ok u) fault e = absurd cc
 byte_faulty (Err f) fault e = ap (λ (z : Fault). Err z) (let z : (let s : Result Bool Fault = Err f in s) ≡ Err fault = e in cc)
 
-pub goes_on : (old : InScan) (w : RowWork) (byte : ℕ) (given : Result Bool Fault) → given ≡ Ok false → StopsByteInRow old w byte given
-goes_on old w byte given is fault limits items contents bytes whole e row d at = absurd (let z : (let s : Result Bool Fault = Ok false in s) ≡ Err fault = sym is ∙ e in cc)
+module _ (limits : Limits) (items : List Item) (contents bytes : List ℕ) (old new : InScan) (w after : RowWork) (whole : Picture)
+    (row : IsRowOf w.tops whole w.coefs) (at : IsRowInScan limits items contents old w) (fault : Fault) where
+  pub byte_stopped : (byte : ℕ) (given : Result Bool Fault) → InData limits items contents bytes old whole → PassesByte row_stored old w byte given new after
+      → given ≡ Err fault → CompletesBefore limits (bytes ++ byte ∷ []) (segments_of items) contents w
+  byte_stopped byte given d (inl n) e = by (n.why fault e)
+    where
+      by : ((passed : ℕ) × IsData old.gate byte passed × (old.work.whole ≡ true)) ⊎ IsWrongMarker old byte → CompletesBefore limits (bytes ++ byte ∷ []) (segments_of items) contents w
+      by (inl (passed, is_data, over)) =
+          extra_stops limits items contents (bytes ++ byte ∷ []) bytes (replicate d.fill 255) d.place passed old.work whole w d.of d.at (data_at limits items contents bytes byte passed old whole d is_data) d.work over at.0 at.1
+      by (inr (gate, z, f, wrong)) =
+          let m = marker_at limits items contents bytes byte old whole d gate z f in
+          marker_stops limits items contents (bytes ++ byte ∷ []) d.place m.fill byte old.work whole w d.of z f m.at m.work wrong at.0 at.1
+  byte_stopped byte given d (inr p) e =
+      let t = p.took in
+      let g = faulty p.given t.taken fault t.is (byte_faulty p.given fault (sym p.answered ∙ e)) in
+      let shows = t.took.0 g.0 whole g.1 row (open_scan limits items contents bytes old whole d t.due) in
+      interval_stops limits items contents (bytes ++ byte ∷ []) (with_bytes d.place (p.passed ∷ [])) old.work whole (bits_of_bytes (p.passed ∷ [])) w g.0
+      (of_bytes limits d.place old.work whole (p.passed ∷ []) t.due d.work) d.of (data_at limits items contents bytes byte p.passed old whole d p.is_data)
+      (subst (λ z. ShowsInRow w.left old.work.machine whole z g.0) (sym (append-nil (bits_of 8 p.passed))) shows) at.0 at.1
 
-pub byte_faults : (old : InScan) (w : RowWork) (byte passed : ℕ) (store : List Bool) (came : Result (Unit {0}) Fault) (given : Result Bool Fault) (came_to : Taken) → IsData old.gate byte passed → old.work.whole ≡ false → store ≡ bits_of 8 passed → came ≡ scan_answer came_to → given ≡ byte_answer came
-    → StopsRowData w old.work.machine store came_to → StopsByteInRow old w byte given
-byte_faults old w byte passed store came given came_to is_data due bits is by stops fault limits items contents bytes whole e row d at =
-    let g = faulty came came_to fault is (byte_faulty came fault (sym by ∙ e)) in
-    let shows = stops g.0 whole g.1 row (open_scan limits items contents bytes old whole d due) in
-    let one : store ≡ bits_of_bytes (passed ∷ []) = bits ∙ sym (append-nil (bits_of 8 passed)) in
-    interval_stops limits items contents (bytes ++ byte ∷ []) (with_bytes d.place (passed ∷ [])) old.work whole (bits_of_bytes (passed ∷ [])) w g.0
-    (of_bytes limits d.place old.work whole (passed ∷ []) due d.work) d.of (data_at limits items contents bytes byte passed old whole d is_data)
-    (subst (λ z. ShowsInRow w.left old.work.machine whole z g.0) one shows) at.0 at.1
+  pub rest_stopped : (given : Result (Unit {0}) Fault) → HalfData limits items contents bytes w.waiting old whole → PassesRest row_stored old w given new after
+      → given ≡ Err fault → CompletesBefore limits bytes (segments_of items) contents w
+  rest_stopped given h t e =
+      let g = faulty given t.taken fault t.is e in
+      interval_stops limits items contents bytes (with_byte h.place h.byte) old.work whole w.waiting w g.0 (of_half limits items contents bytes w.waiting old whole h) h.of h.at
+      (t.took.0 g.0 whole g.1 row (open_half limits items contents bytes w.waiting old whole h)) at.0 at.1
 
-pub byte_extra : (old : InScan) (w : RowWork) (byte passed : ℕ) (given : Result Bool Fault) → IsData old.gate byte passed → old.work.whole ≡ true → StopsByteInRow old w byte given
-byte_extra old w byte passed given is_data whole_is fault limits items contents bytes whole e row d at =
-    extra_stops limits items contents (bytes ++ byte ∷ []) bytes (replicate d.fill 255) d.place passed old.work whole w d.of d.at (data_at limits items contents bytes byte passed old whole d is_data) d.work whole_is at.0 at.1
-
-pub byte_wrong : (old : InScan) (w : RowWork) (byte code : ℕ) (given : Result Bool Fault) → old.gate ≡ true → (code ≡ 0 → ⊥) → (code ≡ 255 → ⊥) → code ≡ byte → ((fault : Fault) → given ≡ Err fault → old.work.whole ≡ true → code ≡ 0xd0 + old.work.turn → ⊥)
-    → StopsByteInRow old w byte given
-byte_wrong old w byte code given gate z f same wrong fault limits items contents bytes whole e row d at =
-    let m = marker_at limits items contents bytes code old whole d gate z f in
-    let k = marker_stops limits items contents (bytes ++ code ∷ []) d.place m.fill code old.work whole w d.of z f m.at m.work (wrong fault e) at.0 at.1 in
-    subst (λ n. CompletesBefore limits (bytes ++ n ∷ []) (segments_of items) contents w) same k
-
-pub rest_faults : (old : InScan) (w : RowWork) (given : Result (Unit {0}) Fault) (came_to : Taken) → given ≡ scan_answer came_to → StopsRowData w old.work.machine w.waiting came_to → StopsRestInRow old w given
-rest_faults old w given came_to is stops fault limits items contents bytes whole e row h at =
-    let g = faulty given came_to fault is e in
-    interval_stops limits items contents bytes (with_byte h.place h.byte) old.work whole w.waiting w g.0 (of_half limits items contents bytes w.waiting old whole h) h.of h.at
-    (stops g.0 whole g.1 row (open_half limits items contents bytes w.waiting old whole h)) at.0 at.1
-
-pub run_faults : (old : InScan) (w : RowWork) (run : List ℕ) (n : ℕ) (given : Result (Unit {0}) Fault) (came_to : Taken) → n ≤ length run → old.gate ≡ false → old.work.whole ≡ false → ArePlain run → given ≡ scan_answer came_to
-    → StopsRowRun w old.work.machine run n came_to → StopsRunInRow old w run n given
-run_faults old w run n given came_to few gate due plain is stops fault limits items contents bytes whole e row d at =
-    let g = faulty given came_to fault is e in
-    let there = plain_at limits bytes d.place (take n run) (front_plain run n few plain) (open_at limits items contents bytes old whole d gate) in
-    interval_stops limits items contents (bytes ++ take n run) (with_bytes d.place (take n run)) old.work whole (bits_of_bytes (take n run)) w g.0
-    (of_bytes limits d.place old.work whole (take n run) due d.work) d.of there (stops g.0 whole g.1 row (open_scan limits items contents bytes old whole d due)) at.0 at.1
+  pub run_stopped : (run : List ℕ) (n : ℕ) (given : Result (Unit {0}) Fault) → n ≤ length run → InData limits items contents bytes old whole
+      → PassesRun row_stored old w run n given new after → given ≡ Err fault → CompletesBefore limits (bytes ++ take n run) (segments_of items) contents w
+  run_stopped run n given few d (gate, plain, t) e =
+      let g = faulty given t.taken fault t.is e in
+      let there = plain_at limits bytes d.place (take n run) (front_plain run n few plain) (open_at limits items contents bytes old whole d gate) in
+      interval_stops limits items contents (bytes ++ take n run) (with_bytes d.place (take n run)) old.work whole (bits_of_bytes (take n run)) w g.0
+      (of_bytes limits d.place old.work whole (take n run) t.due d.work) d.of there (t.took.0 g.0 whole g.1 row (open_scan limits items contents bytes old whole d t.due)) at.0 at.1
 
 -- Some plain bytes of a scan that is read MCU row by MCU row: those before the last one don't complete the current row.
 
@@ -503,10 +501,12 @@ fewer i m mid now between a bits sound kind stands chain =
     omega (arith, low, old, new)
 
 -- PLAIN BYTES inside the data of the scan
-pub run_last : (old : InScan) (w : RowWork) (run : List ℕ) (n : ℕ) → old.gate ≡ false → old.work.whole ≡ false → ArePlain run → LastRowRun w old.work.machine run n
-    → LastRunInRow old w run n
-run_last old w run n gate due plain last limits items contents bytes whole row d at =
-    let k = last whole row (open_scan limits items contents bytes old whole d due) in
+pub run_last : (limits : Limits) (items : List Item) (contents bytes : List ℕ) (old new : InScan) (w after : RowWork) (whole : Picture) (run : List ℕ) (n : ℕ) (given : Result (Unit {0}) Fault)
+    → IsRowOf w.tops whole w.coefs → IsRowInScan limits items contents old w → InData limits items contents bytes old whole → PassesRun row_stored old w run n given new after
+    → (early : ℕ) × (n ≡ early + 1) × CompletesBefore limits (bytes ++ take early run) (segments_of items) contents w
+run_last limits items contents bytes old new w after whole run n given row at d (gate, plain, t) =
+    let due = t.due in
+    let k = t.took.1 whole row (open_scan limits items contents bytes old whole d due) in
     let low = k.within in
     let few = k.few in
     let front = bytes ++ take k.early run in

@@ -1,22 +1,23 @@
 -- Bits, and the data of a scan, while an MCU row is read, of which some bits may wait.
-use Rattle.std.proofs.Common.{◌≡◌, ℕ, Bool, List, sym, subst, ◌+◌, ◌-◌, ◌*◌, ◌/◌, ◌≤◌, length, drop, get_or, refl, ap, ◌∙◌, arith, false, [], ◌∷◌, ◌++◌, Ok, Err, true, take}
+use Rattle.std.proofs.Common.{◌≡◌, ℕ, Bool, List, sym, subst, ◌+◌, ◌-◌, ◌*◌, ◌/◌, ◌≤◌, length, drop, get_or, refl, ap, ◌∙◌, arith, false, [], ◌∷◌, ◌++◌, Ok, Err, take}
 use Rattle.jpg_coefs.specs.Machine.{Interval, TakesBits, Chain, Kind}
 use Rattle.jpg_coefs.specs.Picture.{Picture}
 use Rattle.jpg_coefs.specs.declared.machine.Taken.{Taken}
 use Rattle.jpg_seq.specs.Reader.{sequential}
-use Rattle.jpg_seq.specs.RowTaken.{CanReadInto, PassesPlaces, ReadsInto}
-use Rattle.jpg_seq.specs.Rows.{AreInRow, one_row}
+use Rattle.jpg_seq.specs.RowTaken.{CanReadInto, IsCountOf, PassesPlaces, ReadsInto}
+use Rattle.jpg_seq.specs.Rows.{AreInRow, IsRowOf, one_row}
 use Rattle.jpg_seq.specs.declared.reader.SeqReader.{SeqReader}
-use Rattle.jpg_file.specs.Read.Machine.{any_scan, reader_left}
-use Rattle.jpg_file.specs.Read.RowMachine.{CanReadMcuRow, IsInsideMcuRow, IsOpenRowScan, TakesRowBits, PassesRow}
+use Rattle.jpg_file.specs.Read.Machine.{any_scan}
+use Rattle.jpg_file.specs.Read.RowMachine.{IsInsideMcuRow, IsOpenRowScan, TakesRowBits}
 use Rattle.jpg_file.specs.declared.read.machine.ScanReader.{ScanReader}
 use Rattle.jpg_file.specs.declared.read.machine.ScanReader.TheVariants.{Sequential}
 use Rattle.jpg_file.proofs.Scans.Machines.{is_sequential, takes_of}
 use Rattle.jpg_spec.specs.Bits.{bits_of, bits_of_bytes}
 use Rattle.jpg_coefs.specs.declared.machine.Taken.TheVariants as taken
 use Rattle.jpg_file.specs.Read.Data.{GivesBits, GivesRun, waits_of, AnswersIn}
-use Rattle.jpg_file.specs.Read.RowCounts.{CountsRow}
-use Rattle.jpg_file.specs.Read.RowData.{TakesRowData, TakesRowRun, HalfData, AfterRowBytes, AfterRowByte, InRowData, RunRest}
+use Rattle.jpg_file.specs.Read.RowStored.{CountsRow, row_stored}
+use Rattle.jpg_file.specs.Read.RowData.{HalfData, AfterBytes, TakesRun}
+use Rattle.jpg_file.specs.Read.ScanBlocks.{CanTake, TakesBitsInto, TakesBytesInto}
 use Rattle.jpg_file.specs.declared.read.rows.RowWork.{RowWork}
 use Rattle.jpg_file.proofs.Scans.Runs.{given, run_given, some_given, answers_after}
 use Rattle.std.proofs.lemmas.List.{append_assoc}
@@ -25,12 +26,10 @@ use Rattle.jpg_spec.specs.ScanReading.{ScanPlace, ScanAt, with_byte}
 use Rattle.jpg_spec.specs.declared.frame.Limits.{Limits}
 use Rattle.jpg_coefs.specs.declared.machine.UnitStep.TheVariants as step
 use Rattle.jpg_coefs.proofs.Chains.{chain_then}
-use Rattle.jpg_file.specs.Read.InData.{AfterBytes, AtWork, scan_answer, work_after, AfterByte, ArePlain, InData, byte_answer}
+use Rattle.jpg_file.specs.Read.InData.{AtWork, scan_answer, work_after, ArePlain, InData}
 use Rattle.jpg_file.specs.declared.read.scan.InScan.{InScan}
 use Rattle.jpg_file.specs.declared.read.scan.ScanWork.{ScanWork}
 use Rattle.jpg_file.proofs.Scans.ScanBytes.{data_byte, due_data, before_last, mid_of, open_at, of_half, of_work}
-use Rattle.std.specs.Prelude.{Result}
-use Rattle.jpg_spec.specs.declared.fault.Fault.{Fault}
 use Rattle.jpg_spec.proofs.Files.ScanSteps.{plain_data}
 
 -- The machine of a sequential scan among the others, while an MCU row is read.
@@ -42,8 +41,8 @@ pub own : (m : ScanReader) (machine : SeqReader) (whole : Picture) → m ≡ Seq
 own m machine whole is o = (o.0, o.1, is_sequential.own machine o.0 o.1 whole (subst (λ (q : ScanReader). any_scan.stands q o.0 o.1 whole) is o.2))
 
 module _ (tops : List ℕ) (m : ScanReader) (machine : SeqReader) (row : Picture) (is : m ≡ Sequential machine) where
-  pub row_open : CanReadMcuRow tops m row → CanReadInto tops machine row
-  row_open o = (one_row, o.0, o.1, own m machine o.0 is o.2)
+  pub row_open : (whole : Picture) → IsRowOf tops whole row → IsOpenRowScan m whole → CanReadInto tops machine row
+  row_open whole at o = (one_row, whole, at, own m machine whole is o)
 
   pub row_takes : (most : ℕ) (new : SeqReader) (after : Picture) (store rest : List Bool) (answer : Taken)
       → ReadsInto most tops machine row store answer new after rest → TakesRowBits most tops m row store answer (Sequential new) after rest
@@ -55,63 +54,50 @@ module _ (tops : List ℕ) (m : ScanReader) (machine : SeqReader) (row : Picture
   pub row_inside : (most : ℕ) → IsInsideMcuRow tops row most m → AreInRow row.frame tops (take most machine.cursor)
   row_inside most inside = subst (λ (q : SeqReader). AreInRow row.frame tops (take most q.cursor)) (one_machine inside.machine machine (sym inside.is ∙ is)) inside.inside
 
-  abbrev pub row_passes : (most : ℕ) (new : SeqReader) (answer : Taken) → PassesPlaces most machine answer new → PassesRow most m answer (Sequential new)
-  row_passes most new answer p = record { old_machine = machine; new_machine = new; old_is = is; new_is = refl; passes = p }
-
 -- The current MCU row: the result of its data, and how many of its units are left.
 
--- as many units as the machine passed
-pub units_passed : (most : ℕ) (m new : ScanReader) (answer : Taken) → (p : PassesRow most m answer new) → any_scan.left m ≡ any_scan.left new + p.passes.units
-units_passed most m new answer p = omega (arith, ap reader_left p.old_is, ap reader_left p.new_is, p.passes.left)
+few_passed : (most : ℕ) (m new : SeqReader) (answer : Taken) → (p : PassesPlaces most m answer new) → p.units ≤ most
+few_passed most m new taken.More p = omega (arith, p.few)
+few_passed most m new taken.Units p = omega (arith, p.few.0)
+few_passed most m new taken.IntervalDone p = p.few.0
+few_passed most m new (taken.Fault f) p = omega (arith, p.few)
 
-pub few_passed : (most : ℕ) (m new : ScanReader) (answer : Taken) → (p : PassesRow most m answer new) → p.passes.units ≤ most
-few_passed most m new taken.More p = omega (arith, p.passes.few)
-few_passed most m new taken.Units p = omega (arith, p.passes.few.0)
-few_passed most m new taken.IntervalDone p = p.passes.few.0
-few_passed most m new (taken.Fault f) p = omega (arith, p.passes.few)
-
--- all of the interval at its end, and all that were asked for if bits wait
-all_passed : (most : ℕ) (m new : ScanReader) (answer : Taken) → PassesRow most m answer new → answer ≡ taken.IntervalDone → any_scan.left new ≡ 0
-all_passed most m new answer p e = (let q = subst (λ a. PassesRow most m a new) e p in ap reader_left q.new_is ∙ q.passes.few.1)
-
-waits_all : (most : ℕ) (m new : ScanReader) (answer : Taken) (rest : List Bool) → (p : PassesRow most m answer new) → 1 ≤ length (waits_of answer rest) → p.passes.units ≡ most
-waits_all most m new taken.Units rest p some = p.passes.few.0
+waits_all : (most : ℕ) (m new : SeqReader) (answer : Taken) (rest : List Bool) → (p : PassesPlaces most m answer new) → 1 ≤ length (waits_of answer rest) → p.units ≡ most
+waits_all most m new taken.Units rest p some = p.few.0
 waits_all most m new other rest p some = absurd (omega (arith, some))
 
-module _ (w : RowWork) (m after : ScanReader) (row : Picture) (answer : Taken) where
-  pub counts_row : (units : ℕ) (waiting rest : List Bool) (p : PassesRow w.left m answer after) → any_scan.left m ≡ any_scan.left after + units
-      → waiting ≡ waits_of answer rest → CountsRow w m answer (record w { coefs = row; left = w.left - units; waiting = waiting }) after
-  counts_row units waiting rest p count waits =
-      let few = few_passed w.left m after answer p in
-      let passed = units_passed w.left m after answer p in
-      record {
-        tops = refl;
-        steps = refl;
-        units = refl;
-        later = refl;
-        passed = p.passes.units;
-        left = omega (arith, passed, count, few);
-        old_machine = p.old_machine;
-        new_machine = p.new_machine;
-        old_is = p.old_is;
-        new_is = p.new_is;
-        cursor = p.passes.cursor;
-        interval = passed;
-        ended = all_passed w.left m after answer p;
-        wait = λ some. omega (arith, passed, count, waits_all w.left m after answer rest p (subst (λ z. 1 ≤ length z) waits some));
-      }
+pub some_left : (most : ℕ) (m new : SeqReader) (answer : Taken) → PassesPlaces most m answer new → m.left - new.left ≤ most
+some_left most m new answer p = omega (arith, p.left, few_passed most m new answer p)
 
+pub counts_row : (w : RowWork) (machine : ScanReader) (m new : SeqReader) (row : Picture) (answer : Taken) (left : ℕ) (waiting rest : List Bool) → machine ≡ Sequential m
+    → (p : PassesPlaces w.left m answer new) → w.left ≡ left + p.units → waiting ≡ waits_of answer rest
+    → CountsRow w machine answer (record w { coefs = row; left = left; waiting = waiting }) (Sequential new)
+counts_row w machine m new row answer left waiting rest is p count waits =
+    subst (λ (q : ScanReader). CountsRow w q answer (record w { coefs = row; left = left; waiting = waiting }) (Sequential new)) (sym is)
+    (record {
+      tops = refl;
+      steps = refl;
+      units = refl;
+      later = refl;
+      passed = p.units;
+      left = count;
+      interval = p.left;
+      ended = λ e. (subst (λ a. IsCountOf w.left a new p.units) e p.few).1;
+      wait = λ some. omega (arith, count, waits_all w.left m new answer rest p (subst (λ z. 1 ≤ length z) waits some));
+    })
+
+module _ (w : RowWork) (m after : ScanReader) (row : Picture) (answer : Taken) where
   -- DATA of the row
 
   pub data_takes : (left : ℕ) (bits rest waiting : List Bool) → waiting ≡ waits_of answer rest → TakesRowBits w.left w.tops m w.coefs bits answer after row rest
-      → TakesRowData w m bits answer (record w { coefs = row; left = left; waiting = waiting }) after
+      → TakesBitsInto row_stored w m bits answer (record w { coefs = row; left = left; waiting = waiting }) after
   data_takes left bits rest waiting waits t = λ whole at o.
       (let k = t whole at o in (k.0, k.1, subst (λ (z : List Bool). GivesBits any_scan m whole bits answer z after k.0) (sym waits) (given any_scan m whole w.left after k.0 bits rest answer k.2)))
 
   pub run_takes_row : (left : ℕ) (bytes : List ℕ) (count n : ℕ) (last waiting : List Bool) → 1 ≤ length bytes → count ≤ 8 * length bytes
       → n ≡ length bytes - length (drop count (bits_of_bytes bytes)) / 8 → last ≡ drop (count - 8 * (n - 1)) (bits_of 8 (get_or bytes (n - 1) 0))
       → waiting ≡ waits_of answer last → TakesRowBits w.left w.tops m w.coefs (bits_of_bytes bytes) answer after row (drop count (bits_of_bytes bytes))
-      → TakesRowRun w m bytes n answer (record w { coefs = row; left = left; waiting = waiting }) after
+      → TakesBytesInto row_stored w m bytes n answer (record w { coefs = row; left = left; waiting = waiting }) after
   run_takes_row left bytes count n last waiting some within size is waits t = λ whole at o.
       (let k = t whole at o in (
         k.0,
@@ -120,10 +106,10 @@ module _ (w : RowWork) (m after : ScanReader) (row : Picture) (answer : Taken) w
       ))
 
   -- at least one bit is taken
-  pub some_in_row : (bytes : List ℕ) (count : ℕ) → CanReadMcuRow w.tops m w.coefs → 1 ≤ length bytes → count ≤ 8 * length bytes
+  pub some_in_row : (bytes : List ℕ) (count : ℕ) → CanTake RowWork row_stored w m → 1 ≤ length bytes → count ≤ 8 * length bytes
       → TakesRowBits w.left w.tops m w.coefs (bits_of_bytes bytes) answer after row (drop count (bits_of_bytes bytes)) → 1 ≤ count
   some_in_row bytes count can some within t =
-      (let k = t can.0 can.1 can.2 in some_given any_scan m after can.0 k.0 w.left bytes count answer some within k.2)
+      (let k = t can.whole can.shows can.given in some_given any_scan m after can.whole k.0 w.left bytes count answer some within k.2)
 
 -- Bits that are passed to a machine while an MCU row is read, of which some wait.
 
@@ -148,13 +134,13 @@ module _ (limits : Limits) (items : List Item) (contents bytes : List ℕ) where
     pub half_after : (byte : ℕ) (gate : Bool) (w : ScanWork) (before after : Picture) (answer : Taken) (waiting : List Bool) (m : ScanReader)
         → (p.items ≡ items) × (p.contents ≡ contents) → ScanAt limits bytes (with_byte p byte) [] → gate ≡ false → AtWork limits p w before → w.whole ≡ false
         → GivesBits any_scan w.machine before (bits_of 8 byte) answer waiting m after
-        → AfterRowBytes limits items contents bytes (scan_answer answer) waiting (record { gate = gate; work = work_after w m answer }) after
+        → AfterBytes limits items contents bytes (scan_answer answer) waiting (record { gate = gate; work = work_after w m answer }) after
     half_after byte gate w before after answer waiting m of at g k e b = by answer waiting b
       where
-        none : (answer : Taken) → GivesBits any_scan w.machine before (bits_of 8 byte) answer [] m after → AfterBytes limits items contents bytes (scan_answer answer) (record { gate = gate; work = work_after w m answer }) after
+        none : (answer : Taken) → GivesBits any_scan w.machine before (bits_of 8 byte) answer [] m after → AfterBytes limits items contents bytes (scan_answer answer) [] (record { gate = gate; work = work_after w m answer }) after
         none answer b = data_byte limits items contents bytes (with_byte p byte) gate (work_after w m answer) after (scan_answer answer) of at g (due_data limits p w before e k bytes byte m after answer at b)
 
-        by : (answer : Taken) (waiting : List Bool) → GivesBits any_scan w.machine before (bits_of 8 byte) answer waiting m after → AfterRowBytes limits items contents bytes (scan_answer answer) waiting (record { gate = gate; work = work_after w m answer }) after
+        by : (answer : Taken) (waiting : List Bool) → GivesBits any_scan w.machine before (bits_of 8 byte) answer waiting m after → AfterBytes limits items contents bytes (scan_answer answer) waiting (record { gate = gate; work = work_after w m answer }) after
         by taken.More [] b = none taken.More b
         by taken.More (bit ∷ bits) b = absurd (omega (arith, ap length b.0))
         by taken.Units [] b = none taken.Units b
@@ -168,28 +154,16 @@ module _ (limits : Limits) (items : List Item) (contents bytes : List ℕ) where
   -- the bits that waited are taken
   pub half_then : (waiting rest : List Bool) (s : InScan) (now after : Picture) (answer : Taken) (m : ScanReader)
       → HalfData limits items contents bytes waiting s now → GivesBits any_scan s.work.machine now waiting answer rest m after
-      → AfterRowBytes limits items contents bytes (scan_answer answer) rest (record { gate = s.gate; work = work_after s.work m answer }) after
+      → AfterBytes limits items contents bytes (scan_answer answer) rest (record { gate = s.gate; work = work_after s.work m answer }) after
   half_then waiting rest s now after answer m h b =
       let all = rest_then any_scan (h.old).machine s.work.machine m h.before now after (bits_of 8 h.byte) waiting rest answer h.bits b in
       let same : work_after s.work m answer ≡ work_after h.old m answer = ap (λ w. work_after w m answer) h.same in
-      subst (λ (w : ScanWork). AfterRowBytes limits items contents bytes (scan_answer answer) rest (record { gate = s.gate; work = w }) after) (sym same)
+      subst (λ (w : ScanWork). AfterBytes limits items contents bytes (scan_answer answer) rest (record { gate = s.gate; work = w }) after) (sym same)
       (half_after h.place h.byte s.gate h.old h.before after answer rest m h.of h.at h.gate h.work h.due all)
 
 -- The data of a scan while an MCU row is read.
 
 module _ (limits : Limits) (items : List Item) (contents bytes : List ℕ) where
-  -- no bits wait
-  pub rest_none : (byte : ℕ) (answer : Result Bool Fault) (waiting : List Bool) (s : InScan) (now : Picture) → waiting ≡ []
-      → AfterByte limits items contents bytes byte answer s now → AfterRowByte limits items contents bytes byte answer waiting s now
-  rest_none byte (Ok false) waiting s now none a = subst (λ (z : List Bool). InRowData limits items contents bytes z s now) (sym none) a
-  rest_none byte (Ok true) waiting s now none a = (none, a)
-  rest_none byte (Err f) waiting s now none a = a
-
-  pub data_answer : (byte : ℕ) (answer : Result (Unit {0}) Fault) (waiting : List Bool) (s : InScan) (now : Picture)
-      → AfterRowBytes limits items contents bytes answer waiting s now → AfterRowByte limits items contents bytes byte (byte_answer answer) waiting s now
-  data_answer byte (Ok u) waiting s now k = k
-  data_answer byte (Err f) waiting s now k = k
-
   -- the machine represents the bits of the interval
   pub open_scan : (s : InScan) (now : Picture) → InData limits items contents bytes s now → s.work.whole ≡ false → IsOpenRowScan s.work.machine now
   open_scan s now d e = (let k = of_work limits d.place s.work now e d.work in (k.interval, k.taken, k.stands))
@@ -197,17 +171,22 @@ module _ (limits : Limits) (items : List Item) (contents bytes : List ℕ) where
   pub open_half : (waiting : List Bool) (s : InScan) (now : Picture) → HalfData limits items contents bytes waiting s now → IsOpenRowScan s.work.machine now
   open_half waiting s now h = (let k = of_half limits items contents bytes waiting s now h in (k.interval, k.taken, k.stands))
 
-  -- plain bytes one after another
-  pub run_in_row : (run : List ℕ) (n : ℕ) (s : InScan) (m : ScanReader) (now after : Picture) (step : Taken) (waiting : List Bool) → s.gate ≡ false
-      → s.work.whole ≡ false → ArePlain run → InData limits items contents bytes s now
-      → GivesRun ScanReader any_scan s.work.machine now run n step waiting m after
-      → RunRest limits items contents bytes run n (scan_answer step) waiting (record { gate = s.gate; work = work_after s.work m step }) after
-  run_in_row run n s m now after step waiting gate whole plain d g =
-      let low = g.within in
-      let mid = mid_of s g.mid in
-      let before = before_last s now gate whole g.mid g.between run g.early (omega (arith, low)) plain g.chain limits items contents bytes d in
-      let first = bytes ++ take g.early run in
-      let byte = get_or run g.early 0 in
-      let at = plain_data limits first before.place byte (open_at limits items contents first mid g.between before gate) (plain g.early low) in
-      let last = half_after limits items contents (first ++ byte ∷ []) before.place byte s.gate (mid.work) g.between after step waiting m before.of at gate before.work refl g.last in
-      record { mid = mid; between = g.between; early = g.early; count = g.count; within = low; «open» = gate; before = before; last = last }
+-- SOME PLAIN BYTES one after another
+pub run_takes : (s : InScan) (m : ScanReader) (now after : Picture) (run : List ℕ) (n : ℕ) (answer : Taken) (waiting : List Bool) → s.gate ≡ false → s.work.whole ≡ false → ArePlain run
+    → GivesRun ScanReader any_scan s.work.machine now run n answer waiting m after → TakesRun s now run n (scan_answer answer) waiting (record s { work = work_after (s.work) m answer }) after
+run_takes s m now after run n answer waiting gate whole plain g =
+    let low = g.within in
+    let byte = get_or run g.early 0 in
+    let mid = mid_of s g.mid in
+    record {
+      mid = mid;
+      between = g.between;
+      early = g.early;
+      count = g.count;
+      within = low;
+      «open» = gate;
+      before = before_last s now gate whole g.mid g.between run g.early (omega (arith, low)) plain g.chain;
+      last = λ limits items contents bytes d.
+          (let at = plain_data limits bytes d.place byte (open_at limits items contents bytes mid g.between d gate) (plain g.early low) in
+          half_after limits items contents (bytes ++ byte ∷ []) d.place byte s.gate (mid.work) g.between after answer waiting m d.of at gate d.work refl g.last);
+    }

@@ -14,15 +14,14 @@ use Rattle.jpg_file.specs.Read.File.{IsStop, RepresentsFile, keeping_of, limits_
 use Rattle.jpg_file.specs.Read.FirstHeader.{IsFirstHeaderOf}
 use Rattle.jpg_file.specs.Read.PieceTaken.{ReadsOn, ReadsPiece, TakesBytes}
 use Rattle.jpg_file.specs.Read.ReadFile.{AsksForMemory, EndsBetweenItems, IsStopOf, KeepsHeadAt}
-use Rattle.jpg_file.specs.Read.RowFaults.{FaultsFed, FaultsResumed, FaultsSome, RowsFault}
+use Rattle.jpg_file.specs.Read.RowFaults.{FaultsFed, FaultsResumed, RowsFault}
 use Rattle.jpg_file.specs.Read.RowPieces.{AfterRowsPiece, CountsFed, HasLastByte, IfSparing, KeepsWork, RowsGo, RowsGive, RowsOpen}
-use Rattle.jpg_file.specs.Read.RowStops.{StopsRest, StopsRun}
 use Rattle.jpg_file.specs.Read.RowsSoFar.{LacksRow, RowsSoFar}
 use Rattle.jpg_file.specs.Read.RowTurns.{unfinished}
 use Rattle.jpg_file.specs.Read.RowsKnown.{KnowsRows, RowsKnown}
 use Rattle.jpg_file.specs.Read.RowsNone.{HasNoRows, NoRowsIn, NoneAfter}
 use Rattle.jpg_file.specs.Read.Step.{IsNoRow, HasMemory}
-use Rattle.jpg_file.specs.Read.Strips.{AfterStrip, CountsStrip, GoesByRow, GoesOnRest, SparesRows, RepresentsRows, StripGoes, StripRun, RepresentsStrip, TakesResumed, TakesStrip}
+use Rattle.jpg_file.specs.Read.Strips.{AfterStrip, CountsStrip, GoesByRow, GoesOnRest, SparesRows, RepresentsRows, StripGoes, StripRun, RepresentsStrip, TakesResumed, TakesStrip, TakesRest}
 use Rattle.jpg_file.specs.declared.read.file.FileWork.{FileWork}
 use Rattle.jpg_file.specs.declared.read.first_header.Head.{Head}
 use Rattle.jpg_file.specs.declared.read.pieces.FedRow.{FedRow}
@@ -404,7 +403,7 @@ module _ {limits : Limits} {piece : List ℕ} {done : ℕ} {old work : StripWork
           let front = bytes ++ take done piece in
           subst (λ (x : List ℕ). RowsFault limits bytes x old.rows new new.rows) (is bytes ∙ sym (up_to f t bytes h))
           (rows_fault bytes (take n (drop done piece)) new h (keeps_some work new t) t.head t.stops
-          (λ mid has g. subst (λ (l : Limits). GoesByRow l front work.file mid → RowsSoFar l (front ++ take n (drop done piece)) mid) (strip_limits limits front (Some mid) work.file g) (t.faults mid f front has refl) g))
+          (λ mid has g. ((run (step.Ended (stop.Fault f)) t bytes h).current mid has).1 f refl))
 
       -- those before the last one complete no further row
       lacks : TakesBytes work (drop done piece) n step.Row new → (bytes : List ℕ) → RowsGo limits bytes old.rows old.file → (early : ℕ) → done + n ≡ early + 1 → LacksRow limits (bytes ++ take early piece) new.rows
@@ -419,7 +418,7 @@ module _ {limits : Limits} {piece : List ℕ} {done : ℕ} {old work : StripWork
           at : (o : Option RowWork) → work.rows ≡ o → (a : Option RowWork) → CountsStrip step.Row o a → LacksRow limits (bytes ++ take early piece) a
           at None none a c = absurd (t.no none)
           at (Some mid) has None c = absurd c
-          at (Some mid) has (Some after) c = (mid, c, subst (λ (l : List ℕ). RowsSoFar limits l mid) there (r.rows_before mid has))
+          at (Some mid) has (Some after) c = (mid, c, subst (λ (l : List ℕ). RowsSoFar limits l mid) there ((r.current mid has).0))
 
       asks : TakesBytes work (drop done piece) n (step.Ended stop.NoMemory) new → new.rows ≡ None → (bytes : List ℕ) → RowsGo limits bytes old.rows old.file → AsksForMemory limits (length bytes) (bytes ++ piece) new.file.head
       asks t none bytes h =
@@ -597,12 +596,7 @@ resumed_stop limits piece (stop.Fault f) old new r = record {
     )
 
 -- THE STATE, by its current MCU row
-pub resumed_rows : (old : StripWork) (given : RowWork) (answer : Step) → old.rows ≡ Some given → StopsRest old.file given answer → FaultsResumed old answer
-resumed_rows old given answer has stops = λ rows f bytes is shows g.
+pub resumed_rows : (old : StripWork) (given : RowWork) (answer : Step) → old.rows ≡ Some given → (new : FileWork) (after : RowWork) → TakesRest old.file given answer new after → FaultsResumed old answer
+resumed_rows old given answer has new after took = λ rows f bytes is shows g.
     let same : rows ≡ given = some_once rows given (sym is ∙ has) in
-    subst (λ (w : RowWork). RepresentsRows (limits_of old.file) bytes old.file w → RowsSoFar (limits_of old.file) bytes w) (sym same) (stops f bytes shows) g
-
-pub some_faults : (old : StripWork) (given : RowWork) (run : List ℕ) (n : ℕ) (answer : Step) → old.rows ≡ Some given → StopsRun old.file given run n answer → FaultsSome old run n answer
-some_faults old given run n answer has stops = λ rows f bytes is shows g.
-    let same : rows ≡ given = some_once rows given (sym is ∙ has) in
-    subst (λ (w : RowWork). GoesByRow (limits_of old.file) bytes old.file w → RowsSoFar (limits_of old.file) (bytes ++ take n run) w) (sym same) (stops f bytes shows) g
+    subst (λ (w : RowWork). RepresentsRows (limits_of old.file) bytes old.file w → RowsSoFar (limits_of old.file) bytes w) (sym same) (λ k. (took bytes k).1 f shows) g

@@ -1,6 +1,6 @@
 -- From one MCU row of a scan of all components to the next: blocks, and how many units and MCU rows are left.
-use Rattle.std.proofs.Common.{◌≡◌, ℕ, zero, suc, ◌+◌, ◌-◌, ◌*◌, ◌^◌, ◌<◌, ◌≤◌, ◌==◌, Bool, true, false, cond, List, [], ◌∷◌, length, refl, sym, ap, ◌∙◌, subst, arith, ⊎_elim, ◌/◌, ◌%◌, ◌++◌, take, drop, get_or}
-use Rattle.std.specs.Prelude.{nat_lt, replicate, min, ◌&&◌, ◌||◌, map, flat_map}
+use Rattle.std.proofs.Common.{◌≡◌, ℕ, zero, suc, ◌+◌, ◌-◌, ◌*◌, ◌^◌, ◌<◌, ◌≤◌, ◌==◌, Bool, true, false, cond, List, [], ◌∷◌, length, refl, sym, ap, ◌∙◌, subst, arith, ⊎_elim, ◌/◌, ◌%◌, ◌++◌, take, drop, get_or, inl, inr, Ok}
+use Rattle.std.specs.Prelude.{Result, nat_lt, replicate, min, ◌&&◌, ◌||◌, map, flat_map}
 use Rattle.std.proofs.lemmas.Bool.{cases_lt}
 use Rattle.std.proofs.lemmas.Bool.Decides.{nat_tests}
 use Rattle.std.proofs.lemmas.List.Elements.{All-get_or, All-nil}
@@ -18,7 +18,7 @@ use Rattle.jpg_base.proofs.UnitCounts.{length_units, some_factors}
 use Rattle.jpg_coefs.specs.Picture.{is_padded, Picture, map_of}
 use Rattle.jpg_coefs.proofs.Maps.{blank_is}
 use Rattle.jpg_seq.specs.Rows.{row_units, rows_in_mcu, top_of}
-use Rattle.jpg_file.specs.Read.RowTurns.{IsRowIn, KeepsRowIn, TurnsRow, block_rows_of, unfinished, CountsScan, IsBlankAfter}
+use Rattle.jpg_file.specs.Read.RowTurns.{IsRowIn, KeepsRowIn, TurnsRow, block_rows_of, completes_row, unfinished, CountsScan, IsBlankAfter}
 use Rattle.jpg_file.specs.declared.read.rows.RowWork.{RowWork}
 use Rattle.jpg_spec.specs.FileMeaning.{scan_after, no_blocks}
 use Rattle.jpg_spec.specs.InForce.{frame_of, head_in}
@@ -28,8 +28,12 @@ use Rattle.jpg_spec.specs.declared.frame.Limits.{Limits}
 use Rattle.jpg_coefs.specs.declared.machine.Taken.{Taken}
 use Rattle.jpg_coefs.specs.declared.machine.Taken.TheVariants as taken
 use Rattle.jpg_file.specs.Read.Machine.{any_scan}
-use Rattle.jpg_file.specs.Read.RowCounts.{CountsRow}
+use Rattle.jpg_file.specs.Read.RowStored.{CountsRow, row_stored}
 use Rattle.jpg_file.specs.Read.InData.{work_after}
+use Rattle.jpg_file.specs.Read.RowData.{IsDataOf, PassesByte}
+use Rattle.jpg_file.specs.declared.read.scan.InScan.{InScan}
+use Rattle.jpg_file.proofs.Scans.ScanBytes.{never_over}
+use Rattle.jpg_spec.specs.declared.fault.Fault.{Fault}
 use Rattle.jpg_file.specs.Read.RowPlaces.{scan_left}
 use Rattle.jpg_file.specs.Read.Step.{IsNoRow}
 use Rattle.jpg_file.specs.Read.Strips.{CountsRows}
@@ -259,8 +263,8 @@ data_left answer old m passed due left ended =
 
 -- data of the current scan
 pub counts_scan : (old : ScanWork) (w : RowWork) (answer : Taken) (new : ScanWork) (after : RowWork) (m : ScanReader) → old.whole ≡ false → 1 ≤ w.left → CountsRow w old.machine answer after m → new ≡ work_after old m answer
-    → CountsScan old w (after.left == 0) new after
-counts_scan old w answer new after m due some c is = record {
+    → CountsScan old w (completes_row w.left after.left) new after
+counts_scan old w answer new after m due some c is = subst (λ b. CountsScan old w b new after) (sym (ap (λ b. b && (after.left == 0)) (lt_yes 0 w.left some))) (record {
   tops = c.tops;
   steps = c.steps;
   units = c.units;
@@ -271,7 +275,26 @@ counts_scan old w answer new after m due some c is = record {
   whole = λ e. (some, same_of after.left 0 e);
   goes = λ e z. absurd (clash (after.left == 0) (zero_is after.left z) e);
   wait = λ more. zero_is after.left (c.wait more);
-}
+})
+
+-- a byte of it, or another one
+never_completes : (n : ℕ) → completes_row n n ≡ false
+never_completes zero = refl
+never_completes (suc n) = ap (λ b. b && (suc n == 0)) (lt_yes 0 (suc n) (omega arith)) ∙ not_same (suc n) 0 (λ e. omega (arith, e))
+
+pub byte_counts : (old new : InScan) (w after : RowWork) (byte : ℕ) (answer : Result Bool Fault) → IsDataOf RowWork row_stored old w → w.waiting ≡ []
+    → PassesByte row_stored old w byte answer new after → CountsScan old.work w (completes_row w.left after.left) new.work after
+byte_counts old new w after byte answer can none (inl n) =
+    subst (λ (v : RowWork). CountsScan old.work w (completes_row w.left v.left) new.work v) (sym n.same)
+    (subst (λ b. CountsScan old.work w b new.work w) (sym (never_completes w.left)) (none_counted old.work new.work w n.left none))
+byte_counts old new w after byte answer can none (inr p) =
+    let t = p.took in
+    counts_scan old.work w t.taken new.work after t.machine t.due (can.due t.due).1 t.took.1 t.work
+
+-- a marker that ends the data changes no row
+pub marker_same : (old new : InScan) (w after : RowWork) (byte : ℕ) (answer : Result Bool Fault) → PassesByte row_stored old w byte answer new after → answer ≡ Ok true → after ≡ w
+marker_same old new w after byte answer (inl n) e = n.same
+marker_same old new w after byte answer (inr p) e = absurd (never_over p.given (sym p.answered ∙ e))
 
 -- So the row remains in its scan.
 pub counts_in : (f : Frame) (ids : List ℕ) (old new : ScanWork) (w after : RowWork) (row : Bool) → IsRowIn f ids w (scan_left old) → CountsScan old w row new after → IsRowIn f ids after (scan_left new)

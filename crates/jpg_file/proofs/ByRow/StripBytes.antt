@@ -9,16 +9,16 @@ use Rattle.jpg_base.specs.declared.stop.Stop.TheVariants as stop
 use Rattle.jpg_coefs.specs.Picture.{Picture}
 use Rattle.jpg_markers.specs.Reading.{reading_of}
 use Rattle.jpg_seq.specs.Rows.{IsRowOf}
-use Rattle.jpg_file.specs.Read.File.{IsStop, RepresentsFile, IsInsideScanOfFile, limits_of, with_picture}
-use Rattle.jpg_file.specs.Read.InData.{InData}
+use Rattle.jpg_file.specs.Read.File.{RepresentsFile, IsInsideScanOfFile, limits_of, with_picture}
+use Rattle.jpg_file.specs.Read.InData.{InData, IsInside}
 use Rattle.jpg_file.specs.Read.Items.{IsOfMarker, TakesMarker}
 use Rattle.jpg_file.specs.Read.Reading.{waiting_bytes}
-use Rattle.jpg_file.specs.Read.RowData.{AfterRowByte, AfterRowBytes, InRowData, IsRowData, RunRest, TakesByteInRow, TakesRunInRow}
-use Rattle.jpg_file.specs.Read.RowLast.{LastRunInRow}
+use Rattle.jpg_file.specs.Read.RowData.{AfterByte, AfterBytes, InRowData, IsDataOf, PassesByte, PassesRest, PassesRun, TakesByteInto, TakesRun, TakesRunInto}
+use Rattle.jpg_file.specs.Read.RowStored.{row_stored}
 use Rattle.jpg_file.specs.Read.RowPlaces.{scan_left}
 use Rattle.jpg_file.specs.Read.RowsSoFar.{CompletesBefore, RowsSoFar}
-use Rattle.jpg_file.specs.Read.RowTurns.{CountsScan, unfinished}
-use Rattle.jpg_file.specs.Read.Strips.{AfterRows, PassesItem, RowsRun, ScanHeld, components_of, frame_behind, GoesByRow, RowsAfter, RowsInside, StripGoes, RepresentsStrip}
+use Rattle.jpg_file.specs.Read.RowTurns.{CountsScan, completes_row, unfinished}
+use Rattle.jpg_file.specs.Read.Strips.{AfterRows, PassesItem, RowsRun, ScanHeld, components_of, frame_behind, GoesByRow, RowsAfter, RowsInside, StripGoes, RepresentsStrip, StopsRows}
 use Rattle.jpg_file.specs.declared.read.file.FileWork.{FileWork}
 use Rattle.jpg_file.specs.declared.read.items.Items.{Items}
 use Rattle.jpg_file.specs.declared.read.items.ItemStep.{ItemStep}
@@ -28,28 +28,32 @@ use Rattle.jpg_file.specs.declared.read.step.Step.{Step}
 use Rattle.jpg_file.specs.declared.read.step.Step.TheVariants as step
 use Rattle.jpg_file.proofs.Files.FileSteps.{after_inside, head_by, head_is}
 use Rattle.jpg_file.proofs.Headers.InForce.{has_longer}
-use Rattle.jpg_file.proofs.ByRow.RowTurns.{counts_in, none_unfinished, counts_rows}
+use Rattle.jpg_file.proofs.ByRow.Faults.{byte_stopped, rest_stopped, run_last, run_stopped}
+use Rattle.jpg_file.proofs.ByRow.RowTurns.{byte_counts, counts_in, counts_scan, marker_same, none_unfinished}
 use Rattle.jpg_file.proofs.ByRow.StripRows.{data_goes, row_data, RowReady, file_with, half_of, inside_row}
 use Rattle.jpg_file.proofs.Scans.Scannings.{few_wait}
 use Rattle.jpg_spec.specs.Markers.{Segment}
-use Rattle.jpg_base.specs.declared.stop.Stop.{Stop}
-use Rattle.jpg_file.specs.Read.RowStops.{StopsByteInRow, StopsRestInRow, StopsRunInRow}
 use Rattle.jpg_file.specs.Read.FirstHeader.{IsFirstHeaderOf}
 use Rattle.jpg_file.specs.Read.Going.{FillsScan, has_waiting}
 use Rattle.jpg_file.specs.declared.read.reading.Reading.{Reading}
 use Rattle.jpg_spec.proofs.Basics.Common.{clash}
-use Rattle.jpg_file.proofs.Files.PieceSteps.{limits_are, waiting_scan}
+use Rattle.jpg_file.proofs.Files.PieceSteps.{limits_are, one_more, waiting_scan}
 use Rattle.jpg_file.proofs.Scans.ScanBytes.{ff_bytes}
 use Rattle.jpg_file.proofs.ByRow.RowsGiven.{goes_completes}
 
 -- Bytes inside the data of a scan that is read MCU row by MCU row.
 
+-- data without a fault stop nothing
+pub no_stop : (limits : Limits) (bytes : List ℕ) (rows : RowWork) (row : Bool) (came_to : Step) → came_to ≡ cond row step.Row step.More → StopsRows limits bytes came_to rows
+no_stop limits bytes rows true came_to is f e = absurd (let z : (let s : Step = step.Row in s) ≡ step.Ended (stop.Fault f) = sym is ∙ e in cc)
+no_stop limits bytes rows false came_to is f e = absurd (let z : (let s : Step = step.More in s) ≡ step.Ended (stop.Fault f) = sym is ∙ e in cc)
+
 -- with more bytes
 module _ (limits : Limits) (items : List Item) (contents bytes : List ℕ) where
-  held_more : (more : List ℕ) (w : FileWork) (s : InScan) (gate now : Bool) (n : ℕ) → n ≡ length more → w.reading.taken + n ≤ limits.input
+  held_at : (more : List ℕ) (w : FileWork) (scan : Option InScan) (gate now : Bool) (n : ℕ) → n ≡ length more → w.reading.taken + n ≤ limits.input
       → waiting_bytes now ≤ waiting_bytes gate + n → ScanHeld limits items contents bytes w gate
-      → ScanHeld limits items contents (bytes ++ more) (file_with w s (w.reading.taken + n)) now
-  held_more more w s gate now n long room few h = record {
+      → ScanHeld limits items contents (bytes ++ more) (record w { reading = record w.reading { scan = scan; taken = w.reading.taken + n } }) now
+  held_at more w scan gate now n long room few h = record {
     head = h.head;
     count = omega (arith, h.count, length-append bytes more, long);
     behind = omega (arith, h.behind, few);
@@ -58,6 +62,18 @@ module _ (limits : Limits) (items : List Item) (contents bytes : List ℕ) where
     first_head = has_longer limits bytes more (bytes ++ more) ((0xda, contents) ∷ segments_of items) w.head refl h.first_head;
     of = h.of;
     all = h.all;
+  }
+
+  -- the file as it is read in one go
+  pub held_inside : (w : FileWork) (s : InScan) (now : Picture) → w.reading.scan ≡ Some s → InData limits items contents bytes s now → ScanHeld limits items contents bytes w s.gate
+      → IsInsideScanOfFile limits bytes (with_picture w now)
+  held_inside w s now is coded h = record {
+    items = items;
+    contents = contents;
+    at = record { coefs = now; has = refl; scan = s; inside = is; at = coded; head = h.head; count = h.count; behind = h.behind };
+    begun = h.begun;
+    within = h.within;
+    head = h.first_head;
   }
 
 abbrev pub file_after : FileWork → Items → ℕ → FileWork
@@ -71,21 +87,11 @@ module _ (bytes : List ℕ) (w : FileWork) (scan : InScan) (rows : RowWork) (r :
   pub ready_data : InData limits r.items r.contents bytes scan r.whole
   ready_data = subst (λ (z : List Bool). InRowData limits r.items r.contents bytes z scan r.whole) none r.coded
 
-  pub ready_row : IsRowData scan rows
-  ready_row = row_data limits r.items r.contents bytes scan r.whole rows ready_data (r.held).of r.at r.row r.turned
+  somewhere : IsInside scan r.whole
+  somewhere = (limits, r.items, r.contents, bytes, ready_data)
 
-  -- the file as it is read in one go
-  ready_inside : w.reading.scan ≡ Some scan → IsInsideScanOfFile limits bytes (with_picture w r.whole)
-  ready_inside is =
-      let h = r.held in
-      record {
-        items = r.items;
-        contents = r.contents;
-        at = record { coefs = r.whole; has = refl; scan = scan; inside = is; at = ready_data; head = h.head; count = h.count; behind = h.behind };
-        begun = h.begun;
-        within = h.within;
-        head = h.first_head;
-      }
+  pub ready_row : IsDataOf RowWork row_stored scan rows
+  ready_row = row_data limits r.items r.contents bytes scan r.whole rows ready_data (r.held).of r.at r.row r.turned
 
   -- A BYTE
 
@@ -93,51 +99,66 @@ module _ (bytes : List ℕ) (w : FileWork) (scan : InScan) (rows : RowWork) (r :
   with_byte byte = bytes ++ byte ∷ []
 
   -- its result, and the picture after it
-  byte_taken : (byte : ℕ) (given answer : Result Bool Fault) (new : InScan) (after : RowWork) → TakesByteInRow scan rows byte given new after → given ≡ answer
-      → (now : Picture) × IsRowOf rows.tops now after.coefs × AfterRowByte limits r.items r.contents (with_byte byte) byte answer after.waiting new now
+  byte_taken : (byte : ℕ) (given answer : Result Bool Fault) (new : InScan) (after : RowWork) → TakesByteInto row_stored scan rows byte given new after → given ≡ answer
+      → (now : Picture) × IsRowOf after.tops now after.coefs × AfterByte limits r.items r.contents (with_byte byte) byte answer after.waiting new now
   byte_taken byte given answer new after took is =
-      let t = took limits r.items r.contents bytes r.whole r.row ready_data in
-      (t.0, t.1, subst (λ (a : Result Bool Fault). AfterRowByte limits r.items r.contents (with_byte byte) byte a after.waiting new t.0) is t.2)
+      let t = took r.whole r.row somewhere in
+      (t.0, t.1, subst (λ (a : Result Bool Fault). AfterByte limits r.items r.contents (with_byte byte) byte a after.waiting new t.0) is (t.2 limits r.items r.contents bytes ready_data))
 
-  pub byte_goes : (byte : ℕ) (new : InScan) (after : RowWork) (row : Bool) (given : Result Bool Fault) (result : Step) → w.reading.taken < limits.input
-      → TakesByteInRow scan rows byte given new after → given ≡ Ok false → CountsScan scan.work rows row new.work after
-      → result ≡ cond row step.Row step.More → AfterRows limits (with_byte byte) result (file_with w new (w.reading.taken + 1)) after
-  byte_goes byte new after row given result room took is c came =
+  -- and of its MCU row
+  pub byte_rows : (byte : ℕ) (new : InScan) (after : RowWork) (given : Result Bool Fault) → PassesByte row_stored scan rows byte given new after
+      → CountsScan scan.work rows (completes_row rows.left after.left) new.work after
+  byte_rows byte new after given passes = byte_counts scan new rows after byte given ready_row none passes
+
+  pub byte_goes : (byte : ℕ) (new : InScan) (after : RowWork) (given : Result Bool Fault) (result : Step) → w.reading.taken < limits.input
+      → TakesByteInto row_stored scan rows byte given new after → PassesByte row_stored scan rows byte given new after → given ≡ Ok false
+      → result ≡ cond (completes_row rows.left after.left) step.Row step.More
+      → AfterRows limits (with_byte byte) result (file_with w new (w.reading.taken + 1)) after × StopsRows limits (with_byte byte) result rows
+  byte_goes byte new after given result room took passes is came =
       let t = byte_taken byte given (Ok false) new after took is in
-      let of = subst (λ (l : List ℕ). IsRowOf l t.0 after.coefs) (sym c.tops) t.1 in
-      let held = held_more limits r.items r.contents bytes (byte ∷ []) w new scan.gate new.gate 1 refl (omega (arith, room)) (omega (arith, few_wait new.gate)) r.held in
-      subst (λ (a : Step). AfterRows limits (with_byte byte) a (file_with w new (w.reading.taken + 1)) after) (sym came)
-      (data_goes limits r.items r.contents (with_byte byte) (file_with w new (w.reading.taken + 1)) scan.work new t.0 rows after row refl t.2 held r.at of c r.turned)
+      let held = held_at limits r.items r.contents bytes (byte ∷ []) w (Some new) scan.gate new.gate 1 refl (omega (arith, room)) (omega (arith, few_wait new.gate)) r.held in
+      let row = completes_row rows.left after.left in
+      let last = data_goes limits r.items r.contents (with_byte byte) (file_with w new (w.reading.taken + 1)) scan.work new t.0 rows after row refl t.2 held r.at t.1 (byte_rows byte new after given passes) r.turned in
+      (subst (λ (a : Step). AfterRows limits (with_byte byte) a (file_with w new (w.reading.taken + 1)) after) (sym came) last, no_stop limits (with_byte byte) rows row result came)
 
-  pub byte_stops : (byte : ℕ) (new : InScan) (after : RowWork) (given : Result Bool Fault) (fault : Fault) → TakesByteInRow scan rows byte given new after
-      → given ≡ Err fault → IsStop limits (with_byte byte) (record { fault = fault; at = w.reading.taken + 1 })
-  byte_stops byte new after given fault took is =
-      (omega (arith, (r.held).count, length-append bytes (byte ∷ [])), (byte_taken byte given (Err fault) new after took is).2)
+  pub byte_stops : (byte : ℕ) (new : InScan) (after : RowWork) (given : Result Bool Fault) (fault : Fault) (result : Step) (file : FileWork)
+      → TakesByteInto row_stored scan rows byte given new after → PassesByte row_stored scan rows byte given new after → given ≡ Err fault
+      → result ≡ step.Ended (stop.Fault (record { fault = fault; at = w.reading.taken + 1 }))
+      → AfterRows limits (with_byte byte) result file after × StopsRows limits (with_byte byte) result rows
+  byte_stops byte new after given fault result file took passes is came = (
+    subst (λ (a : Step). AfterRows limits (with_byte byte) a file after) (sym came) (omega (arith, (r.held).count, length-append bytes (byte ∷ [])), (byte_taken byte given (Err fault) new after took is).2),
+    λ f e. inr (segments_of r.items, r.contents, byte_stopped limits r.items r.contents bytes scan new rows after r.whole r.row ((r.held).of, (r.at).at) fault byte given ready_data passes is),
+  )
 
-  pub byte_leaves : (byte : ℕ) (new : InScan) (after : RowWork) (row : Bool) (given : Result Bool Fault) (held : Items) (came : ItemStep) (result : Step)
-      → w.reading.scan ≡ Some scan → w.reading.taken < limits.input → TakesByteInRow scan rows byte given new after → given ≡ Ok true
-      → CountsScan scan.work rows row new.work after → TakesMarker w.reading.items byte came held → (reading_of held.segments).taken ≡ w.reading.taken + 1
+  -- if no units are left, all MCU rows are complete
+  none_left : (byte : ℕ) (new : InScan) (after : RowWork) (given : Result Bool Fault) → PassesByte row_stored scan rows byte given new after
+      → scan_left new.work ≡ 0 → unfinished after ≡ 0
+  none_left byte new after given passes done =
+      let f = frame_behind limits r.items in
+      let ids = components_of limits r.items r.contents in
+      none_unfinished f ids after (scan_left new.work) (counts_in f ids scan.work new.work rows after (completes_row rows.left after.left) r.at (byte_rows byte new after given passes)) done
+
+  pub byte_leaves : (byte : ℕ) (new : InScan) (after : RowWork) (given : Result Bool Fault) (held : Items) (came : ItemStep) (result : Step)
+      → w.reading.scan ≡ Some scan → w.reading.taken < limits.input → TakesByteInto row_stored scan rows byte given new after
+      → PassesByte row_stored scan rows byte given new after → given ≡ Ok true → TakesMarker w.reading.items byte came held → (reading_of held.segments).taken ≡ w.reading.taken + 1
       → scan_left new.work ≡ 0 → PassesItem (file_after w held (w.reading.taken + 1)) came result
-      → AfterRows limits (with_byte byte) result (file_after w held (w.reading.taken + 1)) after
-  unfolding ready_inside
-  byte_leaves byte new after row given held came result inside room took is c marker taken done passes =
+      → AfterRows limits (with_byte byte) result (file_after w held (w.reading.taken + 1)) after × StopsRows limits (with_byte byte) result rows
+  unfolding held_inside
+  byte_leaves byte new after given held came result inside room took by is marker taken done passes =
       let all = with_byte byte in
       let next = file_after w held (w.reading.taken + 1) in
       let t = byte_taken byte given (Ok true) new after took is in
       let now = t.0 in
       let e = t.2 in
-      let of = subst (λ (l : List ℕ). IsRowOf l now after.coefs) (sym c.tops) t.1 in
       let count : w.reading.taken + 1 ≡ length all = omega (arith, (r.held).count, length-append bytes (byte ∷ [])) in
-      let came_to = after_inside limits bytes (byte ∷ []) came (with_picture w r.whole) (with_picture next now) (ready_inside inside)
+      let came_to = after_inside limits bytes (byte ∷ []) came (with_picture w r.whole) (with_picture next now) (held_inside limits r.items r.contents bytes w scan r.whole inside ready_data r.held)
       (inr (inl (record { coefs = now; has = refl; none = refl; framed = (e.1).framed; after = marker r.items r.contents all now (r.held).head e.1; count = count; same = taken }))) refl refl (omega (arith, count, room)) in
-      let f = frame_behind limits r.items in
-      let ids = components_of limits r.items r.contents in
-      passes limits w.reading.scan all now after came_to refl of e.0 (r.held).all
-      (none_unfinished f ids after (scan_left new.work) (counts_in f ids scan.work new.work rows after row r.at c) done)
+      let none = none_left byte new after given by done in
+      (passes limits w.reading.scan all now after came_to refl t.1 e.0 (r.held).all none, λ f stopped. inl (ap unfinished (sym (marker_same scan new rows after byte given by is)) ∙ none))
 
   -- a marker by itself needs no memory
   pub leaves_kind : (byte : ℕ) (new : InScan) (after : RowWork) (given : Result Bool Fault) (held : Items) (came : ItemStep)
-      → TakesByteInRow scan rows byte given new after → given ≡ Ok true → TakesMarker w.reading.items byte came held → IsOfMarker came
+      → TakesByteInto row_stored scan rows byte given new after → given ≡ Ok true → TakesMarker w.reading.items byte came held → IsOfMarker came
   leaves_kind byte new after given held came took is marker =
       let t = byte_taken byte given (Ok true) new after took is in
       (marker r.items r.contents (with_byte byte) t.0 (r.held).head t.2.1).2
@@ -145,15 +166,15 @@ module _ (bytes : List ℕ) (w : FileWork) (scan : InScan) (rows : RowWork) (r :
   -- SOME BYTES one after another
 
   module _ (run : List ℕ) (n : ℕ) (new : InScan) (after : RowWork) (given : Result (Unit {0}) Fault)
-      (took : TakesRunInRow scan rows run n given new after) (stays : LastRunInRow scan rows run n) where
+      (took : TakesRunInto row_stored scan rows run n given new after) (passes : PassesRun row_stored scan rows run n given new after) where
     abbrev now : Picture
-    now = (took limits r.items r.contents bytes r.whole r.row ready_data).0
+    now = (took r.whole r.row somewhere).0
 
-    of : IsRowOf rows.tops now after.coefs
-    of = (took limits r.items r.contents bytes r.whole r.row ready_data).1
+    of : IsRowOf after.tops now after.coefs
+    of = (took r.whole r.row somewhere).1
 
-    abbrev rest : RunRest limits r.items r.contents bytes run n given after.waiting new now
-    rest = (took limits r.items r.contents bytes r.whole r.row ready_data).2
+    abbrev rest : TakesRun scan r.whole run n given after.waiting new now
+    rest = (took r.whole r.row somewhere).2
 
     -- the bytes before the last of them, and that one too
     abbrev front : List ℕ
@@ -172,33 +193,28 @@ module _ (bytes : List ℕ) (w : FileWork) (scan : InScan) (rows : RowWork) (r :
     -- the MCU rows that those before the last one complete
     run_rows : RowsSoFar limits front rows
     run_rows =
-        let k = stays limits r.items r.contents bytes r.whole r.row ready_data ((r.held).of, (r.at).at) in
+        let k = run_last limits r.items r.contents bytes scan new rows after r.whole run n given r.row ((r.held).of, (r.at).at) ready_data passes in
         let same : k.0 ≡ rest.early = omega (arith, k.1, rest.count) in
         inr (segments_of r.items, r.contents, subst (λ e. CompletesBefore limits (bytes ++ take e run) (segments_of r.items) r.contents rows) same k.2)
 
-    -- the file before the last of them
+    -- the state before the last of them
+    mid_data : InData limits r.items r.contents front rest.mid rest.between
+    mid_data = rest.before limits r.items r.contents bytes ready_data
+
     run_mid : w.reading.taken + length run ≤ limits.input → ScanHeld limits r.items r.contents front mid (rest.mid).gate
     run_mid room =
         let size = length-take-le rest.early run (omega (arith, rest.within)) in
-        held_more limits r.items r.contents bytes (take rest.early run) w rest.mid scan.gate (rest.mid).gate rest.early (sym size) (omega (arith, rest.within, room))
+        held_at limits r.items r.contents bytes (take rest.early run) w (Some rest.mid) scan.gate (rest.mid).gate rest.early (sym size) (omega (arith, rest.within, room))
         (omega (arith, ap waiting_bytes rest.open)) r.held
 
     run_stands : w.reading.taken + length run ≤ limits.input → RepresentsFile limits front (with_picture mid rest.between)
-    run_stands room =
-        let h = run_mid room in
-        inr (record {
-          items = r.items;
-          contents = r.contents;
-          at = record { coefs = rest.between; has = refl; scan = rest.mid; inside = refl; at = rest.before; head = h.head; count = h.count; behind = h.behind };
-          begun = h.begun;
-          within = h.within;
-          head = h.first_head;
-        })
+    run_stands room = inr (held_inside limits r.items r.contents front mid rest.mid rest.between refl mid_data (run_mid room))
 
     -- all of them, by the result of the last one
-    run_by : (result : Step) → w.reading.taken + length run ≤ limits.input → AfterRows limits (front ++ byte ∷ []) result (file_with w new (w.reading.taken + n)) after
+    run_by : (result : Step) → w.reading.taken + length run ≤ limits.input → StopsRows limits (bytes ++ take n run) result rows
+        → AfterRows limits (front ++ byte ∷ []) result (file_with w new (w.reading.taken + n)) after
         → RowsRun limits bytes run n result rows (file_with w new (w.reading.taken + n)) after
-    run_by result room last = record {
+    run_by result room stops last = record {
       mid = with_picture mid rest.between;
       early = rest.early;
       count = rest.count;
@@ -208,22 +224,27 @@ module _ (bytes : List ℕ) (w : FileWork) (scan : InScan) (rows : RowWork) (r :
       room = omega (arith, room, rest.within);
       head = refl;
       last = last;
+      stops = stops;
     }
 
-    last_taken : (answer : Result (Unit {0}) Fault) → given ≡ answer → AfterRowBytes limits r.items r.contents (front ++ byte ∷ []) answer after.waiting new now
-    last_taken answer is = subst (λ (a : Result (Unit {0}) Fault). AfterRowBytes limits r.items r.contents (front ++ byte ∷ []) a after.waiting new now) is rest.last
+    last_taken : (answer : Result (Unit {0}) Fault) → given ≡ answer → AfterBytes limits r.items r.contents (front ++ byte ∷ []) answer after.waiting new now
+    last_taken answer is = subst (λ (a : Result (Unit {0}) Fault). AfterBytes limits r.items r.contents (front ++ byte ∷ []) a after.waiting new now) is (rest.last limits r.items r.contents front mid_data)
 
-    pub run_goes : (row : Bool) (result : Step) → w.reading.taken + length run ≤ limits.input → given ≡ Ok tt → CountsScan scan.work rows row new.work after
-        → result ≡ cond row step.Row step.More → RowsRun limits bytes run n result rows (file_with w new (w.reading.taken + n)) after
-    run_goes row result room is c came =
+    -- how many units are left
+    pub run_counts : CountsScan scan.work rows (completes_row rows.left after.left) new.work after
+    run_counts = let t = passes.2 in counts_scan scan.work rows t.taken new.work after t.machine t.due (ready_row.due t.due).1 t.took.2 t.work
+
+    pub run_goes : (result : Step) → w.reading.taken + length run ≤ limits.input → given ≡ Ok tt
+        → result ≡ cond (completes_row rows.left after.left) step.Row step.More → RowsRun limits bytes run n result rows (file_with w new (w.reading.taken + n)) after
+    run_goes result room is came =
+        let row = completes_row rows.left after.left in
         let all = front ++ byte ∷ [] in
         let answer = cond row step.Row step.More in
-        let held = held_more limits r.items r.contents front (byte ∷ []) mid new (rest.mid).gate new.gate 1 refl (omega (arith, room, rest.within)) (omega (arith, few_wait new.gate)) (run_mid room) in
-        let row_of = subst (λ (l : List ℕ). IsRowOf l now after.coefs) (sym c.tops) of in
+        let held = held_at limits r.items r.contents front (byte ∷ []) mid (Some new) (rest.mid).gate new.gate 1 refl (omega (arith, room, rest.within)) (omega (arith, few_wait new.gate)) (run_mid room) in
         let one : (w.reading.taken + rest.early) + 1 ≡ w.reading.taken + n = omega (arith, rest.count) in
         let last : AfterRows limits all answer (file_with w new ((w.reading.taken + rest.early) + 1)) after =
-        data_goes limits r.items r.contents all (file_with w new ((w.reading.taken + rest.early) + 1)) scan.work new now rows after row refl (last_taken (Ok tt) is) held r.at row_of c r.turned in
-        run_by result room
+        data_goes limits r.items r.contents all (file_with w new ((w.reading.taken + rest.early) + 1)) scan.work new now rows after row refl (last_taken (Ok tt) is) held r.at of run_counts r.turned in
+        run_by result room (no_stop limits (bytes ++ take n run) rows row result came)
         (subst (λ (a : Step). AfterRows limits all a (file_with w new (w.reading.taken + n)) after) (sym came) (subst (λ m. AfterRows limits all answer (file_with w new m) after) one last))
 
     pub run_stops : (fault : Fault) (result : Step) → w.reading.taken + length run ≤ limits.input → given ≡ Err fault
@@ -232,55 +253,23 @@ module _ (bytes : List ℕ) (w : FileWork) (scan : InScan) (rows : RowWork) (r :
         let all = front ++ byte ∷ [] in
         let size = length-take-le rest.early run (omega (arith, rest.within)) in
         let long : w.reading.taken + n ≡ length all = omega (arith, (r.held).count, rest.count, size, length-append front (byte ∷ []), length-append bytes (take rest.early run)) in
-        run_by result room (subst (λ (a : Step). AfterRows limits all a (file_with w new (w.reading.taken + n)) after) (sym came) (long, last_taken (Err fault) is))
+        let stopped = run_stopped limits r.items r.contents bytes scan new rows after r.whole r.row ((r.held).of, (r.at).at) fault run n given run_few ready_data passes is in
+        run_by result room (λ f e. inr (segments_of r.items, r.contents, stopped)) (subst (λ (a : Step). AfterRows limits all a (file_with w new (w.reading.taken + n)) after) (sym came) (long, last_taken (Err fault) is))
 
 -- A file that is read MCU row by MCU row and has a fault: which MCU rows the bytes up to it complete.
-
--- data without a fault stop nothing
-pub no_stop : (row : Bool) (came_to : Step) (stop : Stop) → came_to ≡ cond row step.Row step.More → came_to ≡ step.Ended stop → ⊥
-no_stop true came_to stop is e = (let z : (let s : Step = step.Row in s) ≡ step.Ended stop = sym is ∙ e in cc)
-no_stop false came_to stop is e = (let z : (let s : Step = step.More in s) ≡ step.Ended stop = sym is ∙ e in cc)
 
 -- if another row is the current one, and as many are left
 before_same : (limits : Limits) (bytes : List ℕ) (before : List Segment) (contents : List ℕ) (rows other : RowWork) → unfinished rows ≡ unfinished other → CompletesBefore limits bytes before contents rows → CompletesBefore limits bytes before contents other
 before_same limits bytes before contents rows other same c = record { begins = c.begins; m = c.m; count = omega (arith, c.count, same); blocks = c.blocks; completed = c.completed }
 
 module _ (bytes : List ℕ) (w : FileWork) (scan : InScan) (rows : RowWork) (r : RowReady (limits_of w) bytes w scan rows) where
-  -- A BYTE
-  pub byte_at_fault : (byte : ℕ) (given : Result Bool Fault) (fault : Fault) → rows.waiting ≡ [] → StopsByteInRow scan rows byte given → given ≡ Err fault
-      → RowsSoFar (limits_of w) (bytes ++ byte ∷ []) rows
-  byte_at_fault b given fault none stops is =
-      inr (segments_of r.items, r.contents, stops fault (limits_of w) r.items r.contents bytes r.whole is r.row (ready_data bytes w scan rows r none) ((r.held).of, (r.at).at))
-
-  -- a marker that ends the scan
-  pub marker_at_fault : (all : List ℕ) (new : InScan) (after : RowWork) (row : Bool) → CountsScan scan.work rows row new.work after → row ≡ false
-      → scan_left new.work ≡ 0 → RowsSoFar (limits_of w) all rows
-  marker_at_fault all new after row c none done =
-      let counts = subst (λ (b : Bool). CountsScan scan.work rows b new.work after) none c in
-      let same : unfinished after ≡ unfinished rows = counts_rows scan.work new.work rows after false step.More counts refl in
-      let f = frame_behind (limits_of w) r.items in
-      let ids = components_of (limits_of w) r.items r.contents in
-      inl (sym same ∙ none_unfinished f ids after (scan_left new.work) (counts_in f ids scan.work new.work rows after row r.at c) done)
-
   -- BITS that waited
-  pub rest_at_fault : (old : RowWork) (given : Result (Unit {0}) Fault) (fault : Fault) → 1 ≤ length rows.waiting → unfinished rows ≡ unfinished old
-      → StopsRestInRow scan rows given → given ≡ Err fault → RowsSoFar (limits_of w) bytes old
-  rest_at_fault old given fault some same stops is =
+  pub rest_at_fault : (old after : RowWork) (new : InScan) (given : Result (Unit {0}) Fault) (fault : Fault) → 1 ≤ length rows.waiting
+      → unfinished rows ≡ unfinished old → PassesRest row_stored scan rows given new after → given ≡ Err fault → RowsSoFar (limits_of w) bytes old
+  rest_at_fault old after new given fault some same passes is =
       let h = half_of (limits_of w) r.items r.contents bytes rows.waiting scan r.whole some r.coded in
-      let k = stops fault (limits_of w) r.items r.contents bytes r.whole is r.row h ((r.held).of, (r.at).at) in
+      let k = rest_stopped (limits_of w) r.items r.contents bytes scan new rows after r.whole r.row ((r.held).of, (r.at).at) fault given h passes is in
       inr (segments_of r.items, r.contents, before_same (limits_of w) bytes (segments_of r.items) r.contents rows old same k)
-
-  -- SOME BYTES one after another
-  pub run_at_fault : (run : List ℕ) (n : ℕ) (given : Result (Unit {0}) Fault) (fault : Fault) → rows.waiting ≡ [] → StopsRunInRow scan rows run n given
-      → given ≡ Err fault → RowsSoFar (limits_of w) (bytes ++ take n run) rows
-  run_at_fault run n given fault none stops is =
-      inr (segments_of r.items, r.contents, stops fault (limits_of w) r.items r.contents bytes r.whole is r.row (ready_data bytes w scan rows r none) ((r.held).of, (r.at).at))
-
--- from the first of them on
-pub front_at_fault : (limits : Limits) (front bytes : List ℕ) (size n : ℕ) (rows : RowWork) → size ≤ length bytes → n ≤ length (take size bytes)
-    → RowsSoFar limits (front ++ take n (take size bytes)) rows → RowsSoFar limits (front ++ take n bytes) rows
-front_at_fault limits front bytes size n rows few within k =
-    subst (λ l. RowsSoFar limits (front ++ l) rows) (take-take n size bytes (omega (arith, within, length-take-le size bytes few))) k
 
 -- Some bytes of a file that is read MCU row by MCU row.
 
@@ -290,25 +279,8 @@ goes_with limits bytes w rows g = by (g.stands).at
   where
     by : RowsInside limits bytes w rows (g.stands).whole ⊎ RowsAfter limits bytes w rows (g.stands).whole → RepresentsFile limits bytes (with_picture w (g.stands).whole)
     by (inl r) =
-        let h = r.held in
         let z = (g.stands).whole in
-        inr (record {
-          items = r.items;
-          contents = r.contents;
-          at = record {
-            coefs = z;
-            has = refl;
-            scan = r.scan;
-            inside = r.inside;
-            at = subst (λ (l : List Bool). InRowData limits r.items r.contents bytes l r.scan z) g.none r.coded;
-            head = h.head;
-            count = h.count;
-            behind = h.behind;
-          };
-          begun = h.begun;
-          within = h.within;
-          head = h.first_head;
-        })
+        inr (held_inside limits r.items r.contents bytes w r.scan z r.inside (subst (λ (l : List Bool). InRowData limits r.items r.contents bytes l r.scan z) g.none r.coded) r.held)
     by (inr b) = inl b.between
 
 pub goes_stands : (limits : Limits) (bytes : List ℕ) (w : FileWork) (rows : RowWork) → GoesByRow limits bytes w rows → (whole : Picture) × RepresentsFile limits bytes (with_picture w whole)
@@ -332,16 +304,17 @@ module _ (limits : Limits) (front bytes : List ℕ) (new : FileWork) (after : Ro
         before = subst (λ l. RepresentsFile limits (front ++ l) t.mid) same t.before;
         room = t.room;
         head = t.head;
+        stops = λ f e. subst (λ l. RowsSoFar limits (front ++ l) rows) (take-take n size bytes (omega (arith, t.count, low, long))) (t.stops f e);
         last = subst (λ b. AfterRows limits ((front ++ take t.early bytes) ++ b ∷ []) result new after) byte (subst (λ l. AfterRows limits ((front ++ l) ++ get_or (take size bytes) t.early 0 ∷ []) result new after) same t.last);
       }
 
   -- a byte after some that were taken together
   pub later_row : (n : ℕ) (mid : FileWork) (rows : RowWork) → GoesByRow limits (front ++ take n bytes) mid rows → mid.reading.taken < limits.input
       → n < length bytes → new.head ≡ mid.head → AfterRows limits ((front ++ take n bytes) ++ get_or bytes n 0 ∷ []) result new after
-      → RowsRun limits front bytes (n + 1) result rows new after
-  later_row n mid rows g room less head a =
+      → StopsRows limits ((front ++ take n bytes) ++ get_or bytes n 0 ∷ []) result rows → RowsRun limits front bytes (n + 1) result rows new after
+  later_row n mid rows g room less head a stops =
       let k = goes_stands limits (front ++ take n bytes) mid rows g in
-      record { mid = with_picture mid k.0; early = n; count = refl; within = less; rows_before = goes_completes limits (front ++ take n bytes) mid rows g; before = k.1; room = room; head = sym head; last = a }
+      record { mid = with_picture mid k.0; early = n; count = refl; within = less; rows_before = goes_completes limits (front ++ take n bytes) mid rows g; before = k.1; room = room; head = sym head; last = a; stops = λ f e. subst (λ l. RowsSoFar limits l rows) (sym (one_more front bytes n less)) (stops f e) }
 
 -- FILL BYTES inside the data of the scan
 rows_stay : (limits : Limits) (bytes run : List ℕ) (n : ℕ) (w : FileWork) (rows : RowWork) → (g : GoesByRow limits bytes w rows) → (r : RowsInside limits bytes w rows (g.stands).whole) → has_waiting w.reading.scan ≡ true → limits_of w ≡ limits
@@ -352,10 +325,6 @@ rows_stay limits bytes run n w rows g r waits same room =
     let gate = waiting_scan w.reading.scan r.scan waits r.inside in
     let inside = subst (λ (l : List Bool). InRowData limits r.items r.contents bytes l r.scan z) g.none r.coded in
     let more : InRowData limits r.items r.contents (bytes ++ replicate n 255) [] r.scan z = ff_bytes limits r.items r.contents bytes n r.scan z inside gate in
-    let behind = h.behind in
-    let count = h.count in
-    let size = length-append bytes (replicate {A = ℕ} n 255) in
-    let all = length-replicate {A = ℕ} n 255 in
     let input : (limits_of w).input ≡ limits.input = ap (λ (l : Limits). l.input) same in
     record {
       stands = record {
@@ -367,16 +336,7 @@ rows_stay limits bytes run n w rows g r waits same room =
           scan = r.scan;
           inside = r.inside;
           coded = subst (λ (l : List Bool). InRowData limits r.items r.contents (bytes ++ replicate n 255) l r.scan z) (sym g.none) more;
-          held = record {
-            head = h.head;
-            count = omega (arith, count, size, all);
-            behind = omega (arith, behind);
-            begun = h.begun;
-            within = omega (arith, room, input, count, size, all);
-            first_head = has_longer limits bytes (replicate n 255) (bytes ++ replicate n 255) ((0xda, r.contents) ∷ segments_of r.items) w.head refl h.first_head;
-            of = h.of;
-            all = h.all;
-          };
+          held = held_at limits r.items r.contents bytes (replicate n 255) w (w.reading.scan) r.scan.gate r.scan.gate n (sym (length-replicate {A = ℕ} n 255)) (omega (arith, room, input)) (omega arith) h;
           at = r.at;
         });
       };

@@ -33,14 +33,15 @@ use Rattle.jpg_spec.specs.Items.{Item, segments_of}
 use Rattle.jpg_spec.specs.FileMeaning.{scan_after, Leads}
 use Rattle.jpg_spec.specs.Scan.{Scan, Blocks}
 use Rattle.jpg_spec.proofs.Basics.Common.{some_once, neither, clash}
-use Rattle.jpg_file.specs.Read.RowData.{HalfData, InRowData, IsHalfRow, IsInsideRow, IsRowData, AfterRowBytes, TakesRestInRow}
-use Rattle.jpg_file.specs.Read.RowTurns.{CountsScan, IsRowIn, IsBlankAfter, KeepsRowIn, TurnsRow, unfinished}
+use Rattle.jpg_file.specs.Read.RowData.{HalfData, InRowData, IsHalfRow, IsInsideRow, IsDataOf, AfterBytes, PassesRest, TakesRestInRow}
+use Rattle.jpg_file.specs.Read.RowStored.{row_stored}
+use Rattle.jpg_file.specs.Read.RowTurns.{CountsScan, IsRowIn, IsBlankAfter, KeepsRowIn, TurnsRow, completes_row, unfinished}
 use Rattle.jpg_file.specs.Read.Strips.{AfterRows, IsFirstScan, RowsInside, ScanHeld, components_of, frame_behind, GoesByRow, RowsAfter, RepresentsRows}
 use Rattle.jpg_file.specs.declared.read.file.FileWork.{FileWork}
 use Rattle.jpg_file.specs.declared.read.scan.InScan.{InScan}
 use Rattle.jpg_file.specs.declared.read.step.Step.TheVariants as step
 use Rattle.jpg_file.proofs.Scans.Machines.{head_kind, kind_of_coding, scans_keep_units}
-use Rattle.jpg_file.proofs.ByRow.RowTurns.{counts_in, blank_at}
+use Rattle.jpg_file.proofs.ByRow.RowTurns.{counts_in, counts_scan, blank_at}
 use Rattle.jpg_spec.specs.Markers.{has_scan}
 use Rattle.jpg_spec.specs.PictureInWork.{ScanSoFar, is_at}
 use Rattle.jpg_spec.proofs.McuRows.RowsLater.{blank}
@@ -180,10 +181,10 @@ no_bits (bit ∷ bits) f = (let z : false ≡ true = f (omega arith) in absurd c
 module _ (limits : Limits) (items : List Item) (contents bytes : List ℕ) where
   pub row_data : (s : InScan) (whole : Picture) (rows : RowWork) → InData limits items contents bytes s whole → IsFirstScan limits items
       → IsRowIn (frame_behind limits items) (components_of limits items contents) rows (scan_left s.work) → IsRowOf rows.tops whole rows.coefs
-      → (1 ≤ scan_left s.work → 1 ≤ rows.left) → IsRowData s rows
+      → (1 ≤ scan_left s.work → 1 ≤ rows.left) → IsDataOf RowWork row_stored s rows
   row_data s whole rows d first at row turned = record {
     whole = whole;
-    row = row;
+    shows = row;
     inside = (limits, items, contents, bytes, d);
     due = λ e. (let k = data_due limits items contents bytes s whole d e first in (due_inside limits items contents s.work whole rows k at row, turned k.some));
   }
@@ -414,18 +415,21 @@ module _ (limits : Limits) (bytes : List ℕ) (w : FileWork) (scan : InScan) (ro
   ready_half = half_row limits r.items r.contents bytes scan r.whole rows half (r.held).of r.at r.row r.turned
 
   -- their result
-  pub rest_goes : (new : InScan) (after : RowWork) (row : Bool) (given : Result (Unit {0}) Fault) (result : Step) → TakesRestInRow scan rows given new after
-      → given ≡ Ok tt → CountsScan scan.work rows row new.work after → new.gate ≡ scan.gate → result ≡ cond row step.Row step.More
+  pub rest_counts : (new : InScan) (after : RowWork) (given : Result (Unit {0}) Fault) → PassesRest row_stored scan rows given new after
+      → CountsScan scan.work rows (completes_row rows.left after.left) new.work after
+  rest_counts new after given t = counts_scan scan.work rows t.taken new.work after t.machine t.due ready_half.due.1 t.took.1 t.work
+
+  pub rest_goes : (new : InScan) (after : RowWork) (given : Result (Unit {0}) Fault) (result : Step) → TakesRestInRow scan rows given new after
+      → given ≡ Ok tt → PassesRest row_stored scan rows given new after → new.gate ≡ scan.gate → result ≡ cond (completes_row rows.left after.left) step.Row step.More
       → AfterRows limits bytes result (file_with w new w.reading.taken) after
-  rest_goes new after row given result took is c gate came =
+  rest_goes new after given result took is passes gate came =
       let t = took limits r.items r.contents bytes r.whole r.row half in
-      let coded = subst (λ (a : Result (Unit {0}) Fault). AfterRowBytes limits r.items r.contents bytes a after.waiting new t.0) is t.2 in
-      let of = subst (λ (l : List ℕ). IsRowOf l t.0 after.coefs) (sym c.tops) t.1 in
+      let coded = subst (λ (a : Result (Unit {0}) Fault). AfterBytes limits r.items r.contents bytes a after.waiting new t.0) is t.2 in
       subst (λ (a : Step). AfterRows limits bytes a (file_with w new w.reading.taken) after) (sym came)
-      (data_goes limits r.items r.contents bytes (file_with w new w.reading.taken) scan.work new t.0 rows after row refl coded (held_rest limits r.items r.contents bytes w new scan.gate new.gate gate r.held) r.at of c r.turned)
+      (data_goes limits r.items r.contents bytes (file_with w new w.reading.taken) scan.work new t.0 rows after (completes_row rows.left after.left) refl coded (held_rest limits r.items r.contents bytes w new scan.gate new.gate gate r.held) r.at t.1 (rest_counts new after given passes) r.turned)
 
   pub rest_stops : (new : InScan) (after : RowWork) (given : Result (Unit {0}) Fault) (fault : Fault) → TakesRestInRow scan rows given new after
       → given ≡ Err fault → IsStop limits bytes (record { fault = fault; at = w.reading.taken })
   rest_stops new after given fault took is =
       let t = took limits r.items r.contents bytes r.whole r.row half in
-      ((r.held).count, subst (λ (a : Result (Unit {0}) Fault). AfterRowBytes limits r.items r.contents bytes a after.waiting new t.0) is t.2)
+      ((r.held).count, subst (λ (a : Result (Unit {0}) Fault). AfterBytes limits r.items r.contents bytes a after.waiting new t.0) is t.2)

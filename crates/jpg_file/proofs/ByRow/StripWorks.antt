@@ -15,7 +15,7 @@ use Rattle.jpg_file.proofs.Files.FileSteps.{asked}
 use Rattle.jpg_file.proofs.Files.PieceSteps.{one_more}
 use Rattle.jpg_file.specs.Read.RowsSoFar.{RowsSoFar}
 use Rattle.jpg_file.specs.Read.Step.{HasMemory, IfStops, IfWants, IsNoRow}
-use Rattle.jpg_file.specs.Read.Strips.{AfterScanBegins, AfterStrip, CountsRowsOfScan, RowsRun, SparesRows, StripGoes, StripRun}
+use Rattle.jpg_file.specs.Read.Strips.{AfterScanBegins, AfterStrip, CountsRowsOfScan, RowsRun, SparesRows, StripGoes, StripRun, StopsRows}
 use Rattle.jpg_file.specs.declared.read.file.FileWork.{FileWork}
 use Rattle.jpg_file.specs.declared.read.rows.RowWork.{RowWork}
 use Rattle.jpg_file.specs.declared.read.strip_work.StripWork.{StripWork}
@@ -92,7 +92,7 @@ some_plain w rows run n answer new none t bytes g =
       room = t.room limits bytes k refl;
       head = t.head;
       asks = λ none. asks_between answer w t.mid limits (front ++ get_or run t.early 0 ∷ []) new t.scan (t.last limits front before refl);
-      rows_before = λ current is. absurd (clash (is_some rows) (ap is_some is) (ap is_some none));
+      current = λ current is. absurd (clash (is_some rows) (ap is_some is) (ap is_some none));
       last = plain_after (KeepsBytes w) limits (front ++ get_or run t.early 0 ∷ []) rows new answer none (t.last limits front before refl);
     }
 
@@ -107,7 +107,7 @@ some_rows limits bytes run n result old rows new after is t = record {
   room = t.room;
   head = stops result (new.head ≡ (t.mid).head) (sym t.head);
   asks = λ none. absurd (clash (is_some old) (ap is_some is) (ap is_some none));
-  rows_before = λ current has. subst (λ (r : RowWork). RowsSoFar limits (bytes ++ take t.early run) r) (some_once rows current (sym is ∙ has)) t.rows_before;
+  current = λ current has. subst (λ (r : RowWork). RowsSoFar limits (bytes ++ take t.early run) r × StopsRows limits (bytes ++ take n run) result r) (some_once rows current (sym is ∙ has)) (t.rows_before, t.stops);
   last = t.last;
 }
 
@@ -130,7 +130,7 @@ module _ (w mid : FileWork) (run : List ℕ) (n : ℕ) (p : PassesFront w run n 
         room = p.room;
         head = head;
         asks = λ none. asks;
-        rows_before = λ current is. absurd (clash (is_some old) (ap is_some is) (ap is_some none));
+        current = λ current is. absurd (clash (is_some old) (ap is_some is) (ap is_some none));
         last = subst (λ (l : Limits). AfterStrip l (front ++ get_or run n 0 ∷ []) result rows new) p.limits (after front (subst (λ (l : Limits). RepresentsFile l front mid) (sym p.limits) before));
       }
 

@@ -1,7 +1,7 @@
 -- What a file that is being read leaves where it ends: complete, or early.
 use Rattle.std.proofs.Common.{◌≡◌, ℕ, ◌≤◌, Bool, true, false, List, [], ◌∷◌, ◌++◌, length, refl, sym, ap, ◌∙◌, subst, arith, inl, inr, Option, Some, None}
 use Rattle.std.specs.Prelude.{◌⊎◌, replicate, is_none}
-use Rattle.std.proofs.lemmas.List.{append_assoc, length-append}
+use Rattle.std.proofs.lemmas.List.{length-append}
 use Rattle.jpg_spec.specs.Bits.{bits_of_bytes}
 use Rattle.jpg_spec.specs.Geometry.{Frame, bounds, no_component}
 use Rattle.jpg_spec.specs.Scan.{Blocks}
@@ -11,14 +11,14 @@ use Rattle.jpg_spec.specs.InForce.{no_frame, frame_of, frame_after, heads_of}
 use Rattle.jpg_spec.specs.History.{has_begun}
 use Rattle.jpg_spec.specs.Items.{Item, segments_of, ends_in_scan}
 use Rattle.jpg_spec.specs.FileMeaning.{meaning_of}
-use Rattle.jpg_spec.specs.FirstFault.{AfterItems, InsideScan, HaveBegun}
+use Rattle.jpg_spec.specs.FirstFault.{AfterItems, HaveBegun}
 use Rattle.jpg_spec.specs.UnfinishedFile.{PartOfItem}
 use Rattle.jpg_spec.specs.Early.{ScanInPart, EndsAfter, EndsInside, segments_with}
 use Rattle.jpg_spec.specs.Laws.{frame_of_items}
 use Rattle.jpg_spec.specs.Parts.{StandsInUnits}
 use Rattle.jpg_spec.specs.PictureInWork.{UnitsRead}
 use Rattle.jpg_spec.specs.Ranges.{AreInRange}
-use Rattle.jpg_spec.specs.ScanReading.{ScanPlace, scan_at, ScanAt, LeadingMarker}
+use Rattle.jpg_spec.specs.ScanReading.{ScanPlace, scan_at, LeadingMarker}
 use Rattle.jpg_spec.specs.declared.frame.Limits.{Limits}
 use Rattle.jpg_spec.proofs.Basics.Common.{clash}
 use Rattle.jpg_spec.proofs.Headers.BeforeScans.{no_heads}
@@ -28,7 +28,8 @@ use Rattle.jpg_spec.proofs.Files.FileLaws.{means_once, stands_early}
 use Rattle.jpg_spec.proofs.Bits.FirstPasses.{all_below}
 use Rattle.jpg_spec.proofs.Headers.FrameAfter.{header_too, leads_pass}
 use Rattle.jpg_spec.proofs.Headers.HeadersOnce.{after_front}
-use Rattle.jpg_spec.proofs.Files.ItemSteps.{fill_begin, fill_marker, fill_part}
+use Rattle.jpg_spec.proofs.Files.ItemSteps.{after_fill, fill_begin, fill_marker, fill_part}
+use Rattle.jpg_spec.proofs.Files.ScanSteps.{inside}
 use Rattle.jpg_spec.proofs.Files.Ranges.{leads_in_range}
 use Rattle.jpg_coefs.specs.Picture.{Picture, map_of}
 use Rattle.jpg_markers.specs.Reading.{reading_of}
@@ -154,19 +155,13 @@ start_not_named limits items e w = clash (has_frame (segments_of items)) w.found
 
 -- fill bytes before a marker
 filled_marker : (fill : ℕ) (tail : List ℕ) → LeadingMarker tail → LeadingMarker (replicate fill 255 ++ tail)
-filled_marker fill tail m = record {
-  code = m.code;
-  marker = replicate fill 255 ++ m.marker;
-  rest = m.rest;
-  spelled = fill_marker fill m.code m.marker m.spelled;
-  cut = ap (λ l. replicate fill 255 ++ l) m.cut ∙ sym (append_assoc (replicate fill 255) m.marker m.rest);
-}
+filled_marker fill tail m = record { code = m.code; marker = replicate fill 255 ++ m.marker; rest = m.rest; spelled = fill_marker fill m.code m.marker m.spelled; cut = after_fill fill tail m.marker m.rest m.cut }
 
-filled_item : (fill : ℕ) (items : List Item) (tail : List ℕ) → PartOfItem items tail → PartOfItem items (replicate fill 255 ++ tail)
+pub filled_item : (fill : ℕ) (items : List Item) (tail : List ℕ) → PartOfItem items tail → PartOfItem items (replicate fill 255 ++ tail)
 filled_item fill items tail (inl k) = inl (k.0, fill_begin fill (segments_of items) k.0 tail k.1)
 filled_item fill items tail (inr k) = inr (fill_part fill (segments_of items) tail k)
 
-filled_begun : (fill : ℕ) (items : List Item) (tail : List ℕ) → ((fill ≡ 0) × (ends_in_scan items ≡ false)) ⊎ LeadingMarker tail → (ends_in_scan items ≡ false) ⊎ LeadingMarker (replicate fill 255 ++ tail)
+pub filled_begun : (fill : ℕ) (items : List Item) (tail : List ℕ) → ((fill ≡ 0) × (ends_in_scan items ≡ false)) ⊎ LeadingMarker tail → (ends_in_scan items ≡ false) ⊎ LeadingMarker (replicate fill 255 ++ tail)
 filled_begun fill items tail (inl k) = inl k.1
 filled_begun fill items tail (inr k) = inr (filled_marker fill tail k)
 
@@ -240,27 +235,6 @@ ends_between limits bytes w s = by (s.at).at
 
 -- INSIDE THE DATA OF A SCAN
 
-inside_of_place : (limits : Limits) (bytes : List ℕ) (p : ScanPlace) (tail : List ℕ) → ScanAt limits bytes p tail → InsideScan limits bytes tail
-inside_of_place limits bytes p tail k = record {
-  items = p.items;
-  blocks = p.blocks;
-  contents = p.contents;
-  done = p.done;
-  coded = p.coded;
-  places = p.places;
-  later = p.later;
-  front = k.front;
-  head = k.head;
-  text = k.text;
-  cut = k.cut;
-  spelled = k.spelled;
-  header = k.header;
-  intervals = k.intervals;
-  leads = k.leads;
-  allowed = k.allowed;
-  due = k.due;
-}
-
 -- what the machine's units and the intervals so far encode is in the picture
 record InPart (limits : Limits) (p : ScanPlace) (now : Picture) : Type 0 where
   pub part : ScanInPart (scan_at limits p) p.blocks p.done p.coded p.places p.later (map_of now)
@@ -302,13 +276,12 @@ in_part limits bytes w s = by (s.at).scan.work.whole (d.work).at
         }
 
 inside_end : (limits : Limits) (bytes : List ℕ) (w : FileWork) → IsInsideScanOfFile limits bytes w → AtEnd limits bytes w
-unfolding inside_of_place
 inside_end limits bytes w s =
     let r = s.at in
     let d = r.at in
     let p = d.place in
     let tail = replicate d.fill 255 in
-    let i = inside_of_place limits bytes p tail d.at in
+    let i = inside limits bytes p tail d.at in
     let before = segments_of p.items in
     let segments = segments_with p.items p.contents in
     let same : (0xda, s.contents) ∷ segments_of s.items ≡ segments = ap (λ z. segments_with z s.contents) (sym (d.of).0) ∙ ap (segments_with p.items) (sym (d.of).1) in

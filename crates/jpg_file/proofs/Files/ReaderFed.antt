@@ -3,11 +3,10 @@ use Rattle.std.proofs.Common.{◌≡◌, ℕ, suc, cond, ◌-◌, ◌≤◌, ◌
 use Rattle.std.specs.Prelude.{is_some, replicate, Option, Result}
 use Rattle.jpg_spec.specs.Items.{Item, segment, scan, segments_of, ends_in_scan}
 use Rattle.jpg_spec.specs.Markers.{Segment}
-use Rattle.jpg_spec.specs.ScanReading.{LeadingMarker, ScanAt, ScanPlace}
+use Rattle.jpg_spec.specs.ScanReading.{LeadingMarker}
 use Rattle.jpg_spec.specs.FirstFault.{AfterItems, InsideScan, IsFirstFault, Reveals}
-use Rattle.jpg_spec.specs.UnfinishedFile.{PartOfItem, UnfinishedFile}
+use Rattle.jpg_spec.specs.UnfinishedFile.{UnfinishedFile}
 use Rattle.jpg_spec.specs.declared.frame.Limits.{Limits}
-use Rattle.jpg_spec.proofs.Files.ItemSteps.{after_fill, fill_begin, fill_marker, fill_part}
 use Rattle.jpg_spec.proofs.Basics.Common.{clash, heads}
 use Rattle.jpg_spec.proofs.Files.FilesOnce.{after_more, begins_more, filled_not_next, inside_after, inside_marker, next_head, next_in, next_marker, scan_last}
 use Rattle.jpg_spec.proofs.Files.ItemsOnce.{HasNext, Meets, meet}
@@ -39,47 +38,14 @@ use Rattle.jpg_file.specs.declared.read.rows.RowWork.{RowWork}
 use Rattle.jpg_file.specs.declared.read.strip_work.StripWork.{StripWork}
 use Rattle.jpg_file.specs.declared.read.step.Step.TheVariants as step
 use Rattle.jpg_file.proofs.Files.FileSteps.{head_is, head_left}
-use Rattle.jpg_file.proofs.Files.Leaving.{ends_each, whole_leaves}
+use Rattle.jpg_file.proofs.Files.Leaving.{ends_each, filled_begun, filled_item, whole_leaves}
+use Rattle.jpg_spec.proofs.Files.ScanSteps.{inside}
 use Rattle.jpg_file.proofs.Files.PieceSteps.{file_means, stands_file}
 use Rattle.jpg_file.specs.Read.ScanPieces.{AfterFeedScan, CountsOn, NoScanEnds, ReadsScan}
 use Rattle.jpg_file.specs.declared.read.pieces.FedScan.{FedScan}
 use Rattle.jpg_file.specs.declared.read.pieces.FedScan.TheVariants as came
 
 -- How many scans' data have ended in the bytes of a file, by its state.
-
--- fill bytes before a part of an item
-fill_goes : (fill : ℕ) (items : List Item) (tail : List ℕ) → PartOfItem items tail → PartOfItem items (replicate fill 255 ++ tail)
-fill_goes fill items tail (inl k) = inl (k.0, fill_begin fill (segments_of items) k.0 tail k.1)
-fill_goes fill items tail (inr k) = inr (fill_part fill (segments_of items) tail k)
-
-fill_leads : (fill : ℕ) (tail : List ℕ) → LeadingMarker tail → LeadingMarker (replicate fill 255 ++ tail)
-fill_leads fill tail m = record { code = m.code; marker = replicate fill 255 ++ m.marker; rest = m.rest; spelled = fill_marker fill m.code m.marker m.spelled; cut = after_fill fill tail m.marker m.rest m.cut }
-
-fill_begun : (fill : ℕ) (items : List Item) (tail : List ℕ) → ((fill ≡ 0) × (ends_in_scan items ≡ false)) ⊎ LeadingMarker tail → (ends_in_scan items ≡ false) ⊎ LeadingMarker (replicate fill 255 ++ tail)
-fill_begun fill items tail (inl k) = inl k.1
-fill_begun fill items tail (inr m) = inr (fill_leads fill tail m)
-
--- the place as a state inside a scan
-abbrev pub inside_at : (limits : Limits) (bytes : List ℕ) (p : ScanPlace) (tail : List ℕ) → ScanAt limits bytes p tail → InsideScan limits bytes tail
-inside_at limits bytes p tail w = record {
-  items = p.items;
-  blocks = p.blocks;
-  contents = p.contents;
-  done = p.done;
-  coded = p.coded;
-  places = p.places;
-  later = p.later;
-  front = w.front;
-  head = w.head;
-  text = w.text;
-  cut = w.cut;
-  spelled = w.spelled;
-  header = w.header;
-  intervals = w.intervals;
-  leads = w.leads;
-  allowed = w.allowed;
-  due = w.due;
-}
 
 between_ended : (limits : Limits) (bytes : List ℕ) (w : FileWork) → IsBetweenFileItems limits bytes w → ScansEnded limits bytes (scans_ended w)
 between_ended limits bytes w s = by (s.at).at
@@ -92,14 +58,14 @@ between_ended limits bytes w s = by (s.at).at
     by (inr (tail, at)) =
         let b = at.beside in
         let part = part_after limits bytes (s.at).sent s.items s.blocks (reading_of (w.reading.items).segments) tail (reading_of (w.reading.items).segments).phase (s.at).bounded.0 at ((s.at).stands).1 in
-        inr (inl (record { items = s.items; tail = replicate b.fill 255 ++ tail; behind = b.behind; part = fill_goes b.fill s.items tail part; begun = fill_begun b.fill s.items tail b.plain; count = all }))
+        inr (inl (record { items = s.items; tail = replicate b.fill 255 ++ tail; behind = b.behind; part = filled_item b.fill s.items tail part; begun = filled_begun b.fill s.items tail b.plain; count = all }))
 
 inside_ended : (limits : Limits) (bytes : List ℕ) (w : FileWork) → IsInsideScanOfFile limits bytes w → ScansEnded limits bytes (scans_ended w)
 inside_ended limits bytes w s =
     let d = (s.at).at in
     let count = (s.begun).count in
     let all : scans_ended w ≡ scan_headers (segments_of s.items) = ap (λ t. w.begun.scans - cond t 1 0) (ap is_some (s.at).inside) ∙ omega (arith, count) in
-    inr (inr (record { fill = d.fill; inside = inside_at limits bytes d.place (replicate d.fill 255) d.at; count = all ∙ ap (λ l. scan_headers (segments_of l)) (sym d.of.0) }))
+    inr (inr (record { fill = d.fill; inside = inside limits bytes d.place (replicate d.fill 255) d.at; count = all ∙ ap (λ l. scan_headers (segments_of l)) (sym d.of.0) }))
 
 pub state_ended : (limits : Limits) (bytes : List ℕ) (w : FileWork) → RepresentsFile limits bytes w → ScansEnded limits bytes (scans_ended w)
 state_ended limits bytes w (inl s) = between_ended limits bytes w s

@@ -1,5 +1,5 @@
 -- Inside the data of a scan: the effect of the machine's answers on the place.
-use Rattle.std.proofs.Common.{◌≡◌, ℕ, zero, suc, ◌+◌, ◌-◌, ◌%◌, ◌≤◌, min, Bool, true, false, List, [], ◌∷◌, ◌++◌, length, refl, sym, ap, ◌∙◌, subst, arith, ℤ, Ok, Err, cond, take, get_or}
+use Rattle.std.proofs.Common.{◌≡◌, ℕ, zero, suc, ◌+◌, ◌-◌, ◌%◌, ◌≤◌, min, Bool, true, false, List, [], ◌∷◌, ◌++◌, length, refl, sym, ap, ◌∙◌, subst, arith, ℤ, Ok, Err, cond, take}
 use Rattle.std.specs.Prelude.{flat_map, replicate, Result}
 use Rattle.std.proofs.lemmas.List.{append-nil, append_assoc, length-append, length-take-le, get_or-take}
 use Rattle.jpg_spec.specs.Bits.{bits_of, bits_of_bytes}
@@ -31,14 +31,14 @@ use Rattle.jpg_coefs.specs.declared.machine.Taken.TheVariants as taken
 use Rattle.jpg_coefs.proofs.Chains.{answer_to, chain_stands, some_taken}
 use Rattle.jpg_file.specs.declared.read.machine.ScanReader.{ScanReader}
 use Rattle.jpg_file.specs.Read.Machine.{any_scan}
-use Rattle.jpg_file.specs.Read.Data.{AnswersIn, GivesBits, GivesRun}
+use Rattle.jpg_file.specs.Read.Data.{AnswersIn, GivesBits}
 use Rattle.jpg_file.specs.declared.read.scan.ScanWork.{ScanWork}
 use Rattle.jpg_huff.specs.Gate.{IsData}
 use Rattle.jpg_file.specs.declared.read.scan.InScan.{InScan}
-use Rattle.jpg_file.specs.Read.InData.{frame_at, IsReadable, IsInterval, IsDue, IsRead, AtInterval, AreIntervals, AtWork, MarkerAt, NextBegins, Waits, InData, AfterData, AfterMarker, AfterByte, AfterBytes, byte_answer, scan_answer, work_after, ArePlain, TakesRun}
+use Rattle.jpg_file.specs.Read.InData.{frame_at, IsReadable, IsInterval, IsDue, IsRead, AtInterval, AreIntervals, AtWork, MarkerAt, NextBegins, Waits, InData, AfterData, AfterMarker, byte_answer, scan_answer, work_after, ArePlain}
 use Rattle.jpg_file.proofs.Scans.IntervalFits.{distinct_places, interval_fits, same_units}
 use Rattle.jpg_file.proofs.Scans.Machines.{scans_keep_units}
-use Rattle.jpg_file.specs.Read.RowData.{HalfData}
+use Rattle.jpg_file.specs.Read.RowData.{AfterByte, AfterBytes, HalfData}
 use Rattle.jpg_file.specs.Read.RowPlaces.{scan_left}
 
 abbrev pub Due : Limits → ScanPlace → ScanReader → Picture → Type 0
@@ -299,14 +299,14 @@ module _ (limits : Limits) (items : List Item) (contents bytes : List ℕ) where
 
   pub data_byte : (p : ScanPlace) (gate : Bool) (w : ScanWork) (now : Picture) (answer : Result (Unit {0}) Fault) → (p.items ≡ items) × (p.contents ≡ contents)
       → ScanAt limits bytes p [] → gate ≡ false → AfterData limits bytes p answer w now
-      → AfterBytes limits items contents bytes answer (record { gate = gate; work = w }) now
+      → AfterBytes limits items contents bytes answer [] (record { gate = gate; work = w }) now
   data_byte p gate w now (Ok u) of at g k = record { place = p; of = of; fill = 0; at = at; waits = subst (λ b. Waits b 0) (sym g) refl; work = k }
   data_byte p gate w now (Err f) of at g k = k
 
-  pub data_answer : (byte : ℕ) (answer : Result (Unit {0}) Fault) (s : InScan) (now : Picture) → AfterBytes limits items contents bytes answer s now
-      → AfterByte limits items contents bytes byte (byte_answer answer) s now
-  data_answer byte (Ok u) s now k = k
-  data_answer byte (Err f) s now k = k
+  pub data_answer : (byte : ℕ) (answer : Result (Unit {0}) Fault) (waiting : List Bool) (s : InScan) (now : Picture)
+      → AfterBytes limits items contents bytes answer waiting s now → AfterByte limits items contents bytes byte (byte_answer answer) waiting s now
+  data_answer byte (Ok u) waiting s now k = k
+  data_answer byte (Err f) waiting s now k = k
 
   pub marker_at : (code : ℕ) (s : InScan) (now : Picture) (d : InData limits items contents bytes s now) → s.gate ≡ true → (code ≡ 0 → ⊥) → (code ≡ 255 → ⊥)
       → MarkerAt limits (bytes ++ code ∷ []) d.place code s.work now
@@ -322,18 +322,21 @@ module _ (limits : Limits) (items : List Item) (contents bytes : List ℕ) where
 
   pub marker_byte : (p : ScanPlace) (n code : ℕ) (gate : Bool) (w : ScanWork) (now : Picture) (answer : Result Bool Fault)
       → (p.items ≡ items) × (p.contents ≡ contents) → (code ≡ 0 → ⊥) → (code ≡ 255 → ⊥) → ScanAt limits bytes p (replicate (suc n) 255 ++ code ∷ [])
-      → gate ≡ false → AfterMarker limits bytes p answer w now → AfterByte limits items contents bytes code answer (record { gate = gate; work = w }) now
+      → gate ≡ false → AfterMarker limits bytes p answer w now → AfterByte limits items contents bytes code answer [] (record { gate = gate; work = w }) now
   marker_byte p n code gate w now (Ok false) of z f at g (next, others, begun, k) =
       record { place = with_interval p next others; of = of; fill = 0; at = begun; waits = subst (λ b. Waits b 0) (sym g) refl; work = k }
-  marker_byte p n code gate w now (Ok true) of z f at g (framed, means) = record {
-    place = p;
-    of = of;
-    fill = n;
-    at = at;
-    marker = marker_code 0 code z f;
-    framed = framed ∙ ap (λ (i : List Item). frame_of limits (segments_of i)) of.0;
-    means = means;
-  }
+  marker_byte p n code gate w now (Ok true) of z f at g (framed, means) = (
+    refl,
+    record {
+      place = p;
+      of = of;
+      fill = n;
+      at = at;
+      marker = marker_code 0 code z f;
+      framed = framed ∙ ap (λ (i : List Item). frame_of limits (segments_of i)) of.0;
+      means = means;
+    },
+  )
   marker_byte p n code gate w now (Err f) of z g at h k = k
 
   -- INSIDE DATA the bytes have no fault
@@ -466,26 +469,3 @@ module _ (s : InScan) (now : Picture) (gate : s.gate ≡ false) (whole : s.work.
         waits = subst (λ b. Waits b 0) (sym gate) refl;
         work = due_chain limits d.place s.work now whole d.work (take early run) m between chain;
       }
-
-  -- THE LAST of them
-  last_takes : (m : ScanReader) (after : Picture) (byte : ℕ) (answer : Taken) → (byte ≡ 255 → ⊥)
-      → GivesBits any_scan s.work.machine now (bits_of 8 byte) answer [] m after → (limits : Limits) (items : List Item) (contents bytes : List ℕ)
-      → InData limits items contents bytes s now
-      → AfterBytes limits items contents (bytes ++ byte ∷ []) (scan_answer answer) (record s { work = work_after (s.work) m answer }) after
-  last_takes m after byte answer plain took limits items contents bytes d =
-      let at = plain_data limits bytes d.place byte (open_at limits items contents bytes s now d gate) plain in
-      data_byte limits items contents (bytes ++ byte ∷ []) (with_byte d.place byte) s.gate (work_after (s.work) m answer) after (scan_answer answer) d.of at gate (due_data limits d.place s.work now whole d.work (bytes ++ byte ∷ []) byte m after answer at took)
-
--- THE COMPLETE RUN
-pub run_takes : (s : InScan) (m : ScanReader) (now after : Picture) (run : List ℕ) (n : ℕ) (answer : Taken) → s.gate ≡ false → s.work.whole ≡ false → ArePlain run
-    → GivesRun ScanReader any_scan s.work.machine now run n answer [] m after → TakesRun s now run n (scan_answer answer) (record s { work = work_after (s.work) m answer }) after
-run_takes s m now after run n answer gate whole plain g = record {
-  mid = mid_of s g.mid;
-  between = g.between;
-  early = g.early;
-  count = g.count;
-  within = g.within;
-  «open» = gate;
-  before = (let low = g.within in before_last s now gate whole g.mid g.between run g.early (omega (arith, low)) plain g.chain);
-  last = last_takes (mid_of s g.mid) g.between gate refl m after (get_or run g.early 0) answer (plain g.early g.within) g.last;
-}

@@ -9,7 +9,9 @@ use Rattle.jpg_spec.specs.declared.fault.FaultAt.{FaultAt}
 use Rattle.jpg_spec.specs.declared.frame.Limits.{Limits}
 use Rattle.jpg_coefs.specs.Picture.{Picture, map_of}
 use Rattle.jpg_markers.specs.Reading.{reading_of}
-use Rattle.jpg_file.specs.Read.InData.{InData, EndsData, TakesRun}
+use Rattle.jpg_file.specs.Read.InData.{InData, EndsData, IsInside}
+use Rattle.jpg_file.specs.Read.RowData.{AfterByte, IsDataOf, TakesByte, TakesByteInto, TakesRun, TakesRunInto}
+use Rattle.jpg_file.specs.Read.ScanBlocks.{all_stored}
 use Rattle.jpg_file.specs.Read.Items.{BehindHead, AfterScan}
 use Rattle.jpg_file.specs.declared.read.scan.InScan.{InScan}
 use Rattle.jpg_file.specs.declared.read.items.Items.{Items}
@@ -18,6 +20,8 @@ use Rattle.jpg_file.specs.declared.read.items.ItemStep.TheVariants as step
 use Rattle.jpg_file.specs.declared.read.reading.Reading.{Reading}
 use Rattle.jpg_file.specs.Read.Reading.{waiting_bytes, Scanning, AfterScanByte, TakesRunOfScan, item_answer}
 use Rattle.jpg_spec.proofs.Basics.Common.{some_once}
+use Rattle.jpg_file.proofs.Scans.Machines.{scans_keep_units}
+use Rattle.jpg_file.proofs.Scans.ScanBytes.{of_work}
 
 pub none_some : {A : Type 0} (o : Option A) (a : A) → o ≡ Some a → o ≡ None → ⊥
 none_some o a e h = cc
@@ -35,6 +39,22 @@ few_wait true = omega arith
 
 counted : (bytes : List ℕ) (byte n : ℕ) → n ≡ length bytes → n + 1 ≡ length (bytes ++ byte ∷ [])
 counted bytes byte n e = omega (arith, e, length-append bytes (byte ∷ []))
+
+-- all blocks of the picture are stored, and no bits wait
+pub whole_data : (limits : Limits) (items : List Item) (contents bytes : List ℕ) (s : InScan) (now : Picture) → InData limits items contents bytes s now → IsDataOf Picture all_stored s now
+whole_data limits items contents bytes s now d = record {
+  whole = now;
+  shows = refl;
+  inside = (limits, items, contents, bytes, d);
+  due = λ e. (let k = of_work limits d.place s.work now e d.work in (scans_keep_units.unfinished s.work.machine k.interval k.taken now k.stands).some);
+}
+
+pub whole_byte : (s new : InScan) (now after : Picture) (byte : ℕ) (answer : Result Bool Named) → TakesByteInto all_stored s now byte answer new after → TakesByte s now byte answer [] new after
+whole_byte s new now after byte answer t = λ limits items contents bytes d.
+    (let k = t now refl (limits, items, contents, bytes, d) in subst (λ (q : Picture). AfterByte limits items contents (bytes ++ byte ∷ []) byte answer [] new q) (sym k.1) (k.2 limits items contents bytes d))
+
+pub whole_run : (s new : InScan) (now after : Picture) (run : List ℕ) (n : ℕ) (answer : Result (Unit {0}) Named) → IsInside s now → TakesRunInto all_stored s now run n answer new after → TakesRun s now run n answer [] new after
+whole_run s new now after run n answer inside t = (let k = t now refl inside in subst (λ (q : Picture). TakesRun s now run n answer [] new q) (sym k.1) k.2)
 
 module _ (r : Reading) (k : IsReading r) where
   -- the bytes are represented by the picture and the scan that are kept
@@ -105,7 +125,7 @@ front_long : (run : List ℕ) (early : ℕ) → early < length run → length (t
 front_long run early low = length-take-le early run (omega (arith, low))
 
 module _ (r : Reading) (k : IsReading r) (after : Picture) (new : InScan) (run : List ℕ) (n : ℕ) where
-  mid_scanning : (answer : Result (Unit {0}) Named) (t : TakesRun k.scan k.coefs run n answer new after) (limits : Limits) (items : List Item) (contents bytes : List ℕ)
+  mid_scanning : (answer : Result (Unit {0}) Named) (t : TakesRun k.scan k.coefs run n answer [] new after) (limits : Limits) (items : List Item) (contents bytes : List ℕ)
       → Scanning limits items contents bytes r → Scanning limits items contents (bytes ++ take t.early run) (reading_mid r t.mid t.between t.early)
   mid_scanning answer t limits items contents bytes s =
       let size = front_long run t.early t.within in
@@ -124,7 +144,7 @@ module _ (r : Reading) (k : IsReading r) (after : Picture) (new : InScan) (run :
       }
 
   -- all of them, by the result of the last
-  takes_run : (answer : Result (Unit {0}) Named) (t : TakesRun k.scan k.coefs run n answer new after) (came : Result (Unit {0}) FaultAt) (next : Reading)
+  takes_run : (answer : Result (Unit {0}) Named) (t : TakesRun k.scan k.coefs run n answer [] new after) (came : Result (Unit {0}) FaultAt) (next : Reading)
       → ((limits : Limits) (items : List Item) (contents bytes : List ℕ) → Scanning limits items contents bytes (reading_mid r t.mid t.between t.early)
       → AfterScanByte limits items contents (bytes ++ get_or run t.early 0 ∷ []) (item_answer came) next)
       → TakesRunOfScan r run n came next
@@ -143,14 +163,14 @@ module _ (r : Reading) (k : IsReading r) (after : Picture) (new : InScan) (run :
   taken_all : (early : ℕ) → n ≡ early + 1 → (r.taken + early) + 1 ≡ r.taken + n
   taken_all early count = omega (arith, count)
 
-  pub run_goes_on : TakesRun k.scan k.coefs run n (Ok tt) new after
+  pub run_goes_on : TakesRun k.scan k.coefs run n (Ok tt) [] new after
       → TakesRunOfScan r run n (Ok tt) (record r { coefs = Some after; scan = Some new; taken = r.taken + n })
   run_goes_on t =
       takes_run (Ok tt) t (Ok tt) (record r { coefs = Some after; scan = Some new; taken = r.taken + n }) (λ limits items contents bytes s.
       subst (λ m. AfterScanByte limits items contents (bytes ++ get_or run t.early 0 ∷ []) step.More (record r { coefs = Some after; scan = Some new; taken = m })) (taken_all t.early t.count)
       (scan_goes_on (reading_mid r t.mid t.between t.early) (mid_of r t.mid t.between t.early) (get_or run t.early 0) after new t.last limits items contents bytes s))
 
-  pub run_shows : (next : Reading) (fault : Named) → TakesRun k.scan k.coefs run n (Err fault) new after
+  pub run_shows : (next : Reading) (fault : Named) → TakesRun k.scan k.coefs run n (Err fault) [] new after
       → TakesRunOfScan r run n (Err (record { fault = fault; at = r.taken + n })) next
   run_shows next fault t =
       takes_run (Err fault) t (Err (record { fault = fault; at = r.taken + n })) next (λ limits items contents bytes s.

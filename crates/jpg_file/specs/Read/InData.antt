@@ -1,6 +1,6 @@
 -- Inside the data of a scan: the meaning of its machine's states, and the result of a further byte (T.81, B.1.1.5,
 -- E.1.4).
-use Rattle.std.specs.Prelude.{◌≡◌, ℕ, suc, ◌+◌, ◌%◌, ◌≤◌, min, Bool, true, false, List, [], ◌∷◌, ◌++◌, ◌<◌, length, replicate, slice_index, take, Result, Ok, Err}
+use Rattle.std.specs.Prelude.{◌≡◌, ℕ, suc, ◌+◌, ◌%◌, ◌≤◌, min, Bool, true, false, List, [], ◌∷◌, ◌++◌, ◌<◌, length, replicate, slice_index, Result, Ok, Err}
 use Rattle.jpg_spec.specs.Bits.{bits_of_bytes}
 use Rattle.jpg_spec.specs.Lists.{is_distinct, joined}
 use Rattle.jpg_spec.specs.Geometry.{Frame}
@@ -10,7 +10,7 @@ use Rattle.jpg_spec.specs.Markers.{SpellsMarker}
 use Rattle.jpg_spec.specs.InForce.{frame_of, head_in}
 use Rattle.jpg_spec.specs.Items.{Item, segments_of}
 use Rattle.jpg_spec.specs.FirstFault.{Reveals}
-use Rattle.jpg_spec.specs.ScanReading.{ScanPlace, scan_at, ScanAt, CompletesAt, with_byte, with_interval}
+use Rattle.jpg_spec.specs.ScanReading.{ScanPlace, scan_at, ScanAt, CompletesAt, with_interval}
 use Rattle.jpg_spec.specs.PictureInWork.{ScanSoFar}
 use Rattle.jpg_spec.specs.declared.fault.Fault.{Fault}
 use Rattle.jpg_spec.specs.declared.frame.Limits.{Limits}
@@ -148,44 +148,15 @@ pub record EndsData (limits : Limits) (items : List Item) (contents bytes : List
   pub framed : now.frame ≡ frame_of limits (segments_of items)
   pub means : ScanMeans (scan_at limits place) (place.done ++ place.coded ∷ []) place.blocks (map_of now)
 
--- the result of data, and of the last byte, which is the code of a marker if the data of the scan are over
-abbrev pub AfterBytes : Limits → List Item → List ℕ → List ℕ → Result (Unit {0}) Fault → InScan → Picture → Type 0
-AfterBytes limits items contents bytes (Ok u) s now = InData limits items contents bytes s now
-AfterBytes limits items contents bytes (Err fault) s now = Reveals limits fault bytes
-
-abbrev pub AfterByte : Limits → List Item → List ℕ → List ℕ → ℕ → Result Bool Fault → InScan → Picture → Type 0
-AfterByte limits items contents bytes byte (Ok false) s now = InData limits items contents bytes s now
-AfterByte limits items contents bytes byte (Ok true) s now = EndsData limits items contents bytes byte now
-AfterByte limits items contents bytes byte (Err fault) s now = Reveals limits fault bytes
-
 -- a byte that may be a marker's, by the result of its data
 abbrev pub byte_answer : Result (Unit {0}) Fault → Result Bool Fault
 byte_answer (Ok u) = Ok false
 byte_answer (Err fault) = Err fault
 
--- WHEREVER it was, this holds after a data byte, a marker and a byte.
-abbrev pub TakesData : ScanWork → Picture → ℕ → Result (Unit {0}) Fault → ScanWork → Picture → Type 0
-TakesData old now byte answer new after =
-    (limits : Limits) (p : ScanPlace) (bytes : List ℕ) → ScanAt limits bytes (with_byte p byte) [] → AtWork limits p old now → AfterData limits bytes (with_byte p byte) answer new after
-
+-- WHEREVER it was, this holds after a marker.
 abbrev pub TakesCode : ScanWork → Picture → ℕ → Result Bool Fault → ScanWork → Type 0
 TakesCode old now code answer new =
     (limits : Limits) (p : ScanPlace) (bytes : List ℕ) → MarkerAt limits bytes p code old now → AfterMarker limits bytes p answer new now
-
-abbrev pub TakesScanByte : InScan → Picture → ℕ → Result Bool Fault → InScan → Picture → Type 0
-TakesScanByte old now byte answer new after =
-    (limits : Limits) (items : List Item) (contents bytes : List ℕ) → InData limits items contents bytes old now → AfterByte limits items contents (bytes ++ byte ∷ []) byte answer new after
-
--- Some bytes together: a state before the last of those that were taken, and the result of that one.
-pub record TakesRun (old : InScan) (now : Picture) (run : List ℕ) (n : ℕ) (answer : Result (Unit {0}) Fault) (new : InScan) (after : Picture) : Type 0 where
-  pub mid : InScan
-  pub between : Picture
-  pub early : ℕ
-  pub count : n ≡ early + 1
-  pub within : early < length run
-  pub «open» : mid.gate ≡ false
-  pub before : (limits : Limits) (items : List Item) (contents bytes : List ℕ) → InData limits items contents bytes old now → InData limits items contents (bytes ++ take early run) mid between
-  pub last : (limits : Limits) (items : List Item) (contents bytes : List ℕ) → InData limits items contents bytes mid between → AfterBytes limits items contents (bytes ++ slice_index run early ∷ []) answer new after
 
 -- no byte of the list is FF
 abbrev pub ArePlain : List ℕ → Type 0

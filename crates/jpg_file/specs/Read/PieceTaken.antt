@@ -4,7 +4,7 @@ use Rattle.jpg_spec.specs.declared.frame.Limits.{Limits}
 use Rattle.jpg_spec.specs.declared.frame.Copying.TheVariants as copying
 use Rattle.jpg_base.specs.declared.stop.Stop.{Stop}
 use Rattle.jpg_file.specs.Read.File.{TakesSome, keeping_of}
-use Rattle.jpg_file.specs.Read.RowFaults.{FaultsFed, FaultsSome}
+use Rattle.jpg_file.specs.Read.RowFaults.{FaultsFed}
 use Rattle.jpg_file.specs.Read.RowPieces.{AfterRowsPiece, AsksFed, CountsFed, IfSparing, KeepsWork, KnowsFed, LastFed, RowsGo, RowsOpen}
 use Rattle.jpg_file.specs.Read.RowsKnown.{KnowsByte, KnowsSome}
 use Rattle.jpg_file.specs.Read.RowsNone.{HasNoRows, NoneByte, NoneFed, NoneSome}
@@ -31,7 +31,6 @@ pub record TakesBytes (old : StripWork) (run : List ℕ) (n : ℕ) (answer : Ste
   pub plain : old.rows ≡ None → old.by_row ≡ false → new.rows ≡ None
   pub none : old.rows ≡ None → old.by_row ≡ true → NoneSome old run n answer new
   pub some : old.rows ≡ None → old.by_row ≡ false → TakesSome old.file run n answer new.file
-  pub faults : FaultsSome old run n answer
 
 -- A BYTE before the first scan: its result, and what is kept
 pub record TakesFirst (old : StripWork) (byte : ℕ) (answer : Step) (new : StripWork) : Type 0 where

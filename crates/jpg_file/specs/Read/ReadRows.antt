@@ -238,6 +238,11 @@ FeedsKeeping old piece answer new = (bytes : List ℕ) (m : ℕ) → HasReadSoFa
 abbrev pub FeedsRow : ReaderState → List ℕ → Result FedRow Stop → ReaderState → Type 0
 FeedsRow old piece answer new = (bytes : List ℕ) (m : ℕ) → HasReadSoFar bytes m old → AfterFeedRow bytes m piece answer new
 
+-- where markers are kept, and where none are
+abbrev pub FeedsEither : ReaderState → List ℕ → Result FedRow Stop → ReaderState → Type 0
+FeedsEither old piece answer new =
+    (bytes : List ℕ) (m : ℕ) → HasReadSoFar bytes m old → AfterFeedKeeping bytes m piece answer new × (old.by_row ≡ true → AfterFeedRow bytes m piece answer new)
+
 -- if its result is NoMemory
 abbrev pub AsksOnFeedRow : ReaderState → List ℕ → Result FedRow Stop → ReaderState → Type 0
 AsksOnFeedRow old piece answer new =

@@ -11,7 +11,7 @@ use Rattle.jpg_file.specs.Read.File.{limits_of}
 use Rattle.jpg_file.specs.Read.FirstHeader.{IsFirstHeaderOf}
 use Rattle.jpg_file.specs.Read.RowsKnown.{RowsKnown}
 use Rattle.jpg_file.specs.Read.RowsSoFar.{RowsSoFar}
-use Rattle.jpg_file.specs.Read.Strips.{GoesByRow, RepresentsRows}
+use Rattle.jpg_file.specs.Read.Strips.{RepresentsRows}
 use Rattle.jpg_file.specs.declared.read.file.FileWork.{FileWork}
 use Rattle.jpg_file.specs.declared.read.pieces.FedRow.{FedRow}
 use Rattle.jpg_file.specs.declared.read.rows.RowWork.{RowWork}
@@ -20,14 +20,10 @@ use Rattle.jpg_file.specs.declared.read.strip_work.StripWork.{StripWork}
 use Rattle.jpg_file.specs.declared.read.step.Step.{Step}
 use Rattle.jpg_file.specs.declared.read.step.Step.TheVariants as step
 
--- WITH A CURRENT MCU ROW before: bits that waited, and some bytes
+-- BITS that waited, with a current MCU row before
 abbrev pub FaultsResumed : StripWork → Step → Type 0
 FaultsResumed old answer =
     (rows : RowWork) (f : FaultAt) (bytes : List ℕ) → old.rows ≡ Some rows → answer ≡ step.Ended (stop.Fault f) → RepresentsRows (limits_of old.file) bytes old.file rows → RowsSoFar (limits_of old.file) bytes rows
-
-abbrev pub FaultsSome : StripWork → List ℕ → ℕ → Step → Type 0
-FaultsSome old run n answer =
-    (rows : RowWork) (f : FaultAt) (bytes : List ℕ) → old.rows ≡ Some rows → answer ≡ step.Ended (stop.Fault f) → GoesByRow (limits_of old.file) bytes old.file rows → RowsSoFar (limits_of old.file) (bytes ++ take n run) rows
 
 -- A PIECE. The header of the scan, if it began in the bytes before, is the one that is kept at the fault.
 abbrev pub HeadAtFault : Limits → List ℕ → List ℕ → FileWork → Type 0

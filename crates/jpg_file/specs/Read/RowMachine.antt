@@ -4,7 +4,6 @@ use Rattle.jpg_coefs.specs.Picture.{Picture}
 use Rattle.jpg_coefs.specs.Machine.{Interval, TakesBits}
 use Rattle.jpg_coefs.specs.declared.machine.Taken.{Taken}
 use Rattle.jpg_seq.specs.Rows.{AreInRow, IsRowOf}
-use Rattle.jpg_seq.specs.RowTaken.{PassesPlaces}
 use Rattle.jpg_seq.specs.declared.reader.SeqReader.{SeqReader}
 use Rattle.jpg_file.specs.Read.Machine.{any_scan}
 use Rattle.jpg_file.specs.declared.read.machine.ScanReader.{ScanReader}
@@ -13,10 +12,6 @@ use Rattle.jpg_file.specs.declared.read.machine.ScanReader.TheVariants.{Sequenti
 -- THE MACHINE of a scan that is read row by row: it was given some bits, and the complete picture has what they encode
 abbrev pub IsOpenRowScan : ScanReader → Picture → Type 0
 IsOpenRowScan m whole = (i : Interval) × (bits : List Bool) × any_scan.stands m i bits whole
-
--- there is a picture of which these blocks are the MCU row
-abbrev pub CanReadMcuRow : List ℕ → ScanReader → Picture → Type 0
-CanReadMcuRow tops m row = (whole : Picture) × IsRowOf tops whole row × IsOpenRowScan m whole
 
 -- it is a sequential one, and as many of its places are in the MCU row
 pub record IsInsideMcuRow (tops : List ℕ) (row : Picture) (most : ℕ) (m : ScanReader) : Type 0 where
@@ -27,11 +22,3 @@ pub record IsInsideMcuRow (tops : List ℕ) (row : Picture) (most : ℕ) (m : Sc
 abbrev pub TakesRowBits : ℕ → List ℕ → ScanReader → Picture → List Bool → Taken → ScanReader → Picture → List Bool → Type 0
 TakesRowBits most tops m row store answer new after rest =
     (whole : Picture) → IsRowOf tops whole row → IsOpenRowScan m whole → (now : Picture) × IsRowOf tops now after × TakesBits any_scan most m whole store answer new now rest
-
--- this many of its places were passed
-pub record PassesRow (most : ℕ) (m : ScanReader) (answer : Taken) (new : ScanReader) : Type 0 where
-  pub old_machine : SeqReader
-  pub new_machine : SeqReader
-  pub old_is : m ≡ Sequential old_machine
-  pub new_is : new ≡ Sequential new_machine
-  pub passes : PassesPlaces most old_machine answer new_machine

@@ -1,5 +1,5 @@
 -- From one MCU row of a scan of all components to the next (T.81, A.2.3).
-use Rattle.std.specs.Prelude.{◌≡◌, ℕ, ◌+◌, ◌*◌, ◌<◌, ◌≤◌, nat_lt, ◌==◌, if◌then◌else◌, Bool, true, false, List, length, replicate}
+use Rattle.std.specs.Prelude.{◌≡◌, ℕ, ◌+◌, ◌*◌, ◌<◌, ◌≤◌, nat_lt, ◌&&◌, ◌==◌, if◌then◌else◌, Bool, true, false, List, length, replicate}
 use Rattle.jpg_spec.specs.Elements.{zeros}
 use Rattle.jpg_spec.specs.Geometry.{Frame, padded_blocks}
 use Rattle.jpg_coefs.specs.Picture.{Picture, map_of}
@@ -26,6 +26,10 @@ pub record IsRowIn (f : Frame) (components : List ℕ) (w : RowWork) (left : ℕ
 -- the MCU rows of the scan that aren't complete yet
 abbrev pub unfinished : RowWork → ℕ
 unfinished w = w.later + (if w.left == 0 then 0 else 1)
+
+-- a row is complete that wasn't, by how many of its units were left, and are
+abbrev pub completes_row : ℕ → ℕ → Bool
+completes_row before left = nat_lt 0 before && (left == 0)
 
 -- As many units of the MCU row are complete as of the scan; the row is complete if its last one is, and only then bits
 -- wait.

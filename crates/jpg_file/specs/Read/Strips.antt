@@ -7,6 +7,7 @@ use Rattle.jpg_spec.specs.Markers.{has_scan}
 use Rattle.jpg_spec.specs.InForce.{frame_of, head_in}
 use Rattle.jpg_spec.specs.Lists.{below}
 use Rattle.jpg_spec.specs.Items.{Item, segments_of}
+use Rattle.jpg_spec.specs.declared.fault.FaultAt.{FaultAt}
 use Rattle.jpg_spec.specs.declared.frame.Limits.{Limits}
 use Rattle.jpg_base.specs.Cursor.{scan_mcus_down}
 use Rattle.jpg_base.specs.declared.stop.Stop.{Stop}
@@ -126,15 +127,19 @@ CountsRows (step.Ended e) rows after = Unit {0}
 abbrev pub rows_of_all : Frame → ℕ
 rows_of_all f = scan_mcus_down f (below (length f.components))
 
+-- bytes with a fault complete no more MCU rows than those before this one
+abbrev pub StopsRows : Limits → List ℕ → Step → RowWork → Type 0
+StopsRows limits bytes answer rows = (f : FaultAt) → answer ≡ step.Ended (stop.Fault f) → RowsSoFar limits bytes rows
+
 -- bits that wait, whatever bytes were given
 abbrev pub TakesRest : FileWork → RowWork → Step → FileWork → RowWork → Type 0
 TakesRest old rows answer new after =
-    (bytes : List ℕ) → RepresentsRows (limits_of old) bytes old rows → AfterRows (limits_of old) bytes answer new after
+    (bytes : List ℕ) → RepresentsRows (limits_of old) bytes old rows → AfterRows (limits_of old) bytes answer new after × StopsRows (limits_of old) bytes answer rows
 
 -- a byte
 abbrev pub TakesRowByte : FileWork → RowWork → ℕ → Step → FileWork → RowWork → Type 0
 TakesRowByte old rows byte answer new after =
-    (bytes : List ℕ) → GoesByRow (limits_of old) bytes old rows → AfterRows (limits_of old) (bytes ++ byte ∷ []) answer new after
+    (bytes : List ℕ) → GoesByRow (limits_of old) bytes old rows → AfterRows (limits_of old) (bytes ++ byte ∷ []) answer new after × StopsRows (limits_of old) (bytes ++ byte ∷ []) answer rows
 
 -- some bytes of which the last one may be taken in part: the file's state before that one, with the same MCU rows
 -- complete, and its result
@@ -148,6 +153,7 @@ pub record RowsRun (limits : Limits) (bytes run : List ℕ) (n : ℕ) (answer : 
   pub room : mid.reading.taken < limits.input
   pub head : mid.head ≡ new.head
   pub last : AfterRows limits ((bytes ++ take early run) ++ slice_index run early ∷ []) answer new after
+  pub stops : StopsRows limits (bytes ++ take n run) answer rows
 
 abbrev pub TakesRunOfRows : FileWork → RowWork → List ℕ → ℕ → Step → FileWork → RowWork → Type 0
 TakesRunOfRows old rows run n answer new after =
@@ -252,7 +258,7 @@ pub record StripRun (limits : Limits) (bytes run : List ℕ) (n : ℕ) (answer :
   pub room : mid.reading.taken < limits.input
   pub head : IfStops answer (new.head ≡ mid.head)
   pub asks : old ≡ None → IfWants answer (mid.reading.scan ≡ None)
-  pub rows_before : (current : RowWork) → old ≡ Some current → RowsSoFar limits (bytes ++ take early run) current
+  pub current : (rows : RowWork) → old ≡ Some rows → RowsSoFar limits (bytes ++ take early run) rows × StopsRows limits (bytes ++ take n run) answer rows
   pub last : AfterStrip limits ((bytes ++ take early run) ++ slice_index run early ∷ []) answer rows new
 
 abbrev pub TakesStrip : StripWork → List ℕ → ℕ → Step → StripWork → Type 0

@@ -12,8 +12,7 @@ ghost use Rattle.jpg_spec.specs.declared.frame.Copying.TheVariants as copying;
 ghost use Rattle.jpg_base.specs.Cursor.{scan_mcus_down};
 ghost use Rattle.jpg_base.specs.declared.stop.Stop.TheVariants as stop;
 ghost use Rattle.jpg_file.specs.Read.Strips.{BeginsRows, CountsRowsOfScan, CountsRows, FindsHead, GoesByRow, GoesOnRest, HasHeadOfAll, HasLaterHead, PassesItem, PassesLaterHead, RepresentsRows, TakesRest, TakesRowByte, TakesRunOfRows};
-ghost use Rattle.jpg_file.specs.Read.RowStops.{StopsByte, StopsRest, StopsRun};
-ghost use Rattle.jpg_file.specs.Read.RowTurns.{unfinished};
+ghost use Rattle.jpg_file.specs.Read.RowTurns.{completes_row, unfinished};
 ghost use Rattle.jpg_file.specs.Read.RowsNone.{FindsNone};
 ghost use Rattle.jpg_file.specs.Read.RowsKnown.{BeginsTold};
 
@@ -230,7 +229,6 @@ impl FileWork {
     pub fn take_waiting_bits(&mut self, rows: &mut RowWork) -> Step
         requires { (bytes : List ℕ) × RepresentsRows (limits_of self.old) bytes self.old rows.old }
         ensures after { TakesRest self.old rows.old result self.new rows.new }
-        ensures stops { StopsRest self.old rows.old result }
         ensures goes { GoesOnRest result }
         ensures rows { CountsRows result rows.old rows.new }
         ensures memory { HasMemory result }
@@ -245,9 +243,9 @@ impl FileWork {
         if rows.waiting.len() == 0 {
             return Step::More;
         }
-        let (step, row) = scan.rest_in_row(rows);
-        match step {
-            Ok(()) => row_step(row),
+        let before = rows.left;
+        match scan.rest_in_row(rows) {
+            Ok(()) => row_step(rows, before),
             Err(fault) => fault_at(fault, at),
         }
     }
@@ -259,7 +257,6 @@ impl FileWork {
         requires limits { AreLimits (limits_of self.old) }
         requires room { self.old.reading.taken < (limits_of self.old).input }
         ensures after { TakesRowByte self.old rows.old byte result self.new rows.new }
-        ensures stops { StopsByte self.old rows.old byte result }
         ensures rows { CountsRows result rows.old rows.new }
         ensures memory { HasMemory result }
         ensures sparing { NeedsNoMemory self.old.reading → NeedsNoMemory self.new.reading }
@@ -271,9 +268,9 @@ impl FileWork {
         };
         let at = self.reading.taken + 1;
         self.reading.taken = at;
-        let (step, row) = scan.byte_in_row(rows, byte);
-        match step {
-            Ok(false) => row_step(row),
+        let before = rows.left;
+        match scan.byte(rows, byte) {
+            Ok(false) => row_step(rows, before),
             Ok(true) => {
                 self.reading.scan = None;
                 let came = self.reading.items.marker(byte, at);
@@ -293,7 +290,6 @@ impl FileWork {
         requires few { length run.now < 4294967296 }
         requires plain { ArePlain run.now }
         ensures after { TakesRunOfRows self.old rows.old run.now result.0 result.1 self.new rows.new }
-        ensures stops { StopsRun self.old rows.old run.now result.0 result.1 }
         ensures rows { CountsRows result.1 rows.old rows.new }
         ensures memory { HasMemory result.1 }
         ensures same { self.new.reading.items ≡ self.old.reading.items }
@@ -302,11 +298,12 @@ impl FileWork {
         let Some(scan) = &mut self.reading.scan else {
             unreachable!();
         };
-        let (n, step, row) = scan.run_in_row(rows, run);
+        let before = rows.left;
+        let (n, step) = scan.run(rows, run);
         let at = self.reading.taken + n as u64;
         self.reading.taken = at;
         match step {
-            Ok(()) => (n, row_step(row)),
+            Ok(()) => (n, row_step(rows, before)),
             Err(fault) => (n, fault_at(fault, at)),
         }
     }
@@ -318,7 +315,6 @@ impl FileWork {
         requires room { self.old.reading.taken < (limits_of self.old).input }
         requires some { 1 ≤ length bytes.now }
         ensures after { TakesRunOfRows self.old rows.old bytes.now result.0 result.1 self.new rows.new }
-        ensures stops { StopsRun self.old rows.old bytes.now result.0 result.1 }
         ensures rows { CountsRows result.1 rows.old rows.new }
         ensures memory { NeedsNoMemory self.old.reading → HasMemory result.1 }
         ensures sparing { NeedsNoMemory self.old.reading → NeedsNoMemory self.new.reading }
@@ -446,14 +442,21 @@ pub fn plain_length(bytes: &[u8], most: u64) -> usize
 
 // A fault at this number of bytes.
 fn fault_at(fault: Fault, at: u64) -> Step
-    ensures { result ≡ Step.Ended (stop.Fault (record { fault = fault; at = at })) }
+    ensures is { result ≡ Step.Ended (stop.Fault (record { fault = fault; at = at })) }
+    ensures memory { HasMemory result }
+    ensures rows { (rows : RowWork) (after : RowWork) → CountsRows result rows after }
 {
     Step::Ended(Stop::Fault(FaultAt { fault, at }))
 }
 
-// The result of data that go on.
-fn row_step(row: bool) -> Step
-    ensures { result ≡ (if row then Step.Row else Step.More) }
+// The result of data that go on: whether the MCU row is complete, and wasn't when this many of its units were left.
+fn row_step(rows: &RowWork, before: u64) -> Step
+    ensures is { result ≡ (if completes_row before rows.now.left then Step.Row else Step.More) }
+    ensures memory { HasMemory result }
 {
-    if row { Step::Row } else { Step::More }
+    if before > 0 && rows.left == 0 {
+        Step::Row
+    } else {
+        Step::More
+    }
 }

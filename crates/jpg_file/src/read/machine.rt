@@ -1,8 +1,8 @@
 //! The machine that reads a scan, of whatever kind it is, and the data bytes that are given to it (T.81, F.2.2, G.2).
 ghost use Rattle.std.specs.Prelude.{◌<◌, ◌≤◌, Bool, List, [], length, ◌≡◌, false, take};
-ghost use Rattle.jpg_spec.specs.Bits.{bits_of_bytes, bits_of};
+ghost use Rattle.jpg_spec.specs.Bits.{bits_of_bytes};
 ghost use Rattle.jpg_coefs.specs.Machine.{Interval};
-ghost use Rattle.jpg_file.specs.Read.Data.{GivesRun, GivesBits};
+ghost use Rattle.jpg_file.specs.Read.Data.{GivesRun};
 ghost use Rattle.jpg_file.specs.Read.Machine.{any_scan};
 ghost use Rattle.jpg_file.specs.Read.NewScan.{IsBareScan, IsOfHeader, IsScanHeader};
 
@@ -105,19 +105,6 @@ impl ScanMachine for ScanReader {
             ScanReader::Ac(machine) => machine.units_left(),
         }
     }
-}
-
-/// Gives the machine the bits of a data byte. Bits after the interval's last one are dropped: they are pad bits (T.81,
-/// F.1.2.3).
-pub fn take_data<M: ScanMachine>(machine: &mut M, coefs: &mut Coefs, byte: u8) -> Taken
-    requires open { (i : Interval) × (bits : List Bool) × M.kind.stands machine.old i bits coefs.old }
-    requires left { 1 ≤ M.kind.left machine.old }
-    ensures { GivesBits M.kind machine.old coefs.old (bits_of 8 byte) result [] machine.new coefs.new }
-{
-    let mut store = BitStore::new();
-    store.push(byte);
-    let most = machine.units_left();
-    machine.bits(&mut store, coefs, most)
 }
 
 // How many of these bytes are given at once.

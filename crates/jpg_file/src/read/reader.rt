@@ -7,7 +7,7 @@ ghost use Rattle.jpg_base.specs.declared.stop.Stop.{Stop as Stopped};
 ghost use Rattle.jpg_file.specs.Read.File.{keeping_of};
 ghost use Rattle.jpg_file.specs.Read.PictureRead.{TakesEarly, TakesPicture};
 ghost use Rattle.jpg_file.specs.Read.ReadFile.{AfterEnd, AsksOnFeed, EndsDone, EndsWith, FeedsFile, HasRead, TellsBegun, head_seen};
-ghost use Rattle.jpg_file.specs.Read.ReadRows.{AsksOnFeedKeeping, AsksOnFeedRow, FeedsKeeping, IsByRow, IsPlain, EndsDoneRow, EndsRow, FeedsRow, HasBegunRows, HasGivenRow, HasReadPlainly, HasReadRows, picture_read};
+ghost use Rattle.jpg_file.specs.Read.ReadRows.{AsksOnFeedKeeping, AsksOnFeedRow, FeedsEither, FeedsKeeping, IsByRow, IsPlain, EndsDoneRow, EndsRow, FeedsRow, HasBegunRows, HasGivenRow, HasReadPlainly, HasReadRows, picture_read};
 ghost use Rattle.jpg_file.specs.Read.RowsKnown.{TellsStrip};
 ghost use Rattle.jpg_file.specs.Read.ScanPieces.{AsksOnFeedScan, EndsDoneScan, FeedsScan};
 ghost use Rattle.jpg_file.specs.Read.ScansEnded.{ScansEnded};
@@ -257,8 +257,7 @@ impl Reader {
     fn next_row(&mut self, piece: &[u8]) -> Result<FedRow, Stop>
         requires undone { self.old.done ≡ false }
         requires by_row { IsByRow self.old }
-        ensures answered { FeedsKeeping self.old piece.now result self.new }
-        ensures sparing { self.old.by_row ≡ true → FeedsRow self.old piece.now result self.new }
+        ensures answered { FeedsEither self.old piece.now result self.new }
         ensures memory { AsksOnFeedKeeping self.old piece.now result self.new }
         ensures asks { self.old.by_row ≡ true → AsksOnFeedRow self.old piece.now result self.new }
         ensures done { EndsDoneRow result self.new }

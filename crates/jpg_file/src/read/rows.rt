@@ -6,12 +6,10 @@ ghost use Rattle.jpg_spec.specs.Segments.{head_components};
 ghost use Rattle.jpg_base.specs.Cursor.{AreIn, scan_mcus_down};
 ghost use Rattle.jpg_seq.specs.Rows.{IsRowOf, top_of};
 ghost use Rattle.jpg_file.specs.Read.Data.{waits_of};
-ghost use Rattle.jpg_file.specs.Read.RowCounts.{CountsRow};
-ghost use Rattle.jpg_file.specs.Read.RowLast.{LastRowRun};
-ghost use Rattle.jpg_file.specs.Read.RowData.{CanTakeData, IsInsideRow, TakesRowData, TakesRowRun};
-ghost use Rattle.jpg_file.specs.Read.RowStops.{StopsRowData, StopsRowRun};
+ghost use Rattle.jpg_file.specs.Read.RowStored.{row_stored};
 ghost use Rattle.jpg_file.specs.Read.RowTurns.{IsRowIn, KeepsRowIn, TurnsRow, block_rows_of, unfinished, zero_picture};
 
+use crate::read::blocks::ScanBlocks;
 use crate::read::machine::ScanReader;
 use jpg_base::{BitStore, Frame, NoMemory, ScanHead};
 use jpg_coefs::{Coefs, ScanMachine, Taken};
@@ -117,16 +115,12 @@ impl RowWork {
         self.left = self.units;
         self.later -= 1;
     }
+}
 
-    /// Gives the machine bits up to the last one of the MCU row. Those after it wait.
-    pub fn take(&mut self, machine: &mut ScanReader, store: BitStore) -> Taken
-        requires open { CanTakeData self.old machine.old }
-        requires inside { IsInsideRow self.old machine.old }
-        requires some { 1 ≤ self.old.left }
-        ensures takes { TakesRowData self.old machine.old store result self.new machine.new }
-        ensures stops { StopsRowData self.old machine.old store result }
-        ensures counts { CountsRow self.old machine.old result self.new machine.new }
-    {
+impl ScanBlocks for RowWork {
+    ghost kind = { row_stored };
+
+    fn take(&mut self, machine: &mut ScanReader, store: BitStore) -> Taken {
         let ScanReader::Sequential(machine) = machine else {
             unreachable!();
         };
@@ -138,19 +132,7 @@ impl RowWork {
         taken
     }
 
-    /// Gives the machine the bits of plain bytes up to the last one of the MCU row; those after it wait. Returns how
-    /// many bytes were given, and the result.
-    pub fn take_bytes(&mut self, machine: &mut ScanReader, bytes: &[u8]) -> (usize, Taken)
-        requires open { CanTakeData self.old machine.old }
-        requires inside { IsInsideRow self.old machine.old }
-        requires left { 1 ≤ self.old.left }
-        requires some { 1 ≤ length bytes.now }
-        requires few { length bytes.now < 4294967296 }
-        ensures takes { TakesRowRun self.old machine.old bytes.now result.0 result.1 self.new machine.new }
-        ensures stops { StopsRowRun self.old machine.old bytes.now result.0 result.1 }
-        ensures last { LastRowRun self.old machine.old bytes.now result.0 }
-        ensures counts { CountsRow self.old machine.old result.1 self.new machine.new }
-    {
+    fn take_bytes(&mut self, machine: &mut ScanReader, bytes: &[u8]) -> (usize, Taken) {
         let ScanReader::Sequential(machine) = machine else {
             unreachable!();
         };

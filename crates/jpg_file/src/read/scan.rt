@@ -4,18 +4,17 @@ ghost use Rattle.jpg_spec.specs.ScanReading.{ScanPlace};
 ghost use Rattle.jpg_spec.specs.declared.frame.Limits.{Limits};
 ghost use Rattle.jpg_coefs.specs.Machine.{fault_of};
 ghost use Rattle.jpg_coefs.specs.Picture.{Picture};
+ghost use Rattle.jpg_file.specs.Read.InData.{ArePlain, AtWork, MarkerAt, NextBegins, TakesCode, byte_answer, scan_answer, work_after};
+ghost use Rattle.jpg_file.specs.Read.RowData.{IsDataOf, IsHalfRow, PassesByte, PassesRest, PassesRun, TakesByteInto, TakesRestInRow, TakesRunInto};
+ghost use Rattle.jpg_file.specs.Read.RowStored.{row_stored};
 ghost use Rattle.jpg_file.specs.Read.RowPlaces.{scan_left};
-ghost use Rattle.jpg_file.specs.Read.InData.{ArePlain, AtWork, IsInside, MarkerAt, NextBegins, TakesCode, TakesData, TakesRun, TakesScanByte, byte_answer, scan_answer, work_after};
-ghost use Rattle.jpg_file.specs.Read.RowLast.{LastRunInRow};
-ghost use Rattle.jpg_file.specs.Read.RowStops.{StopsByteInRow, StopsRestInRow, StopsRunInRow};
-ghost use Rattle.jpg_file.specs.Read.RowTurns.{CountsScan};
-ghost use Rattle.jpg_file.specs.Read.RowData.{IsHalfRow, IsRowData, TakesByteInRow, TakesRestInRow, TakesRunInRow};
 
-use crate::read::machine::{ScanReader, take_data};
+use crate::read::blocks::ScanBlocks;
+use crate::read::machine::ScanReader;
 use crate::read::rows::RowWork;
 use jpg_base::BitStore;
 use jpg_base::codes::RST0;
-use jpg_coefs::{Coefs, ScanMachine, Taken, UnitFault};
+use jpg_coefs::{ScanMachine, Taken, UnitFault};
 use jpg_huff::{Gate, Passed};
 use jpg_spec::Fault;
 
@@ -67,14 +66,25 @@ pub fn data_answer(answer: Result<(), Fault>) -> Result<bool, Fault>
 impl InScan {
     /// Takes a byte of the file, after those of the scan so far. Returns whether the data are over: then it is the code
     /// of the marker that ended them, and all intervals are complete.
-    pub fn byte(&mut self, coefs: &mut Coefs, byte: u8) -> Result<bool, Fault>
-        requires { IsInside self.old coefs.old }
-        ensures after { TakesScanByte self.old coefs.old byte result self.new coefs.new }
+    pub fn byte<B: ScanBlocks>(&mut self, blocks: &mut B, byte: u8) -> Result<bool, Fault>
+        requires inside { IsDataOf _ B.kind self.old blocks.old }
+        requires none { B.kind.waiting blocks.old ≡ [] }
+        ensures takes { TakesByteInto B.kind self.old blocks.old byte result self.new blocks.new }
+        ensures passes { PassesByte B.kind self.old blocks.old byte result self.new blocks.new }
         ensures waited { result ≡ Ok true → self.old.gate ≡ true }
+        ensures done { result ≡ Ok true → scan_left self.new.work ≡ 0 }
     {
         match self.gate.byte(byte) {
             Passed::More => Ok(false),
-            Passed::Data(data) => data_answer(self.work.data(coefs, data)),
+            Passed::Data(data) => {
+                if self.work.whole {
+                    return Err(Fault::ExtraData);
+                }
+                let mut store = BitStore::new();
+                store.push(data);
+                let taken = blocks.take(&mut self.work.machine, store);
+                data_answer(self.work.stepped(taken))
+            }
             Passed::Marker(code) => self.work.marker(code),
         }
     }
@@ -88,95 +98,37 @@ impl InScan {
         !self.gate.is_waiting() && !self.work.whole
     }
 
-    /// Takes plain bytes from the start of a run, at most up to the byte that ends the interval or reveals a fault.
-    /// Returns how many were taken, and the result.
-    #[tactic(auto, using(crate::proofs::Scans::ScanBytes::as_stepped, crate::proofs::Scans::ScanBytes::run_takes))]
-    pub fn run(&mut self, coefs: &mut Coefs, run: &[u8]) -> (usize, Result<(), Fault>)
-        requires inside { IsInside self.old coefs.old }
+    /// Takes plain bytes from the start of a run, at most up to the byte that ends the interval, reveals a fault or has
+    /// bits that wait. Returns how many were taken, and the result.
+    pub fn run<B: ScanBlocks>(&mut self, blocks: &mut B, run: &[u8]) -> (usize, Result<(), Fault>)
+        requires inside { IsDataOf _ B.kind self.old blocks.old }
         requires gate { self.old.gate ≡ false }
         requires due { self.old.work.whole ≡ false }
         requires some { 1 ≤ length run.now }
         requires few { length run.now < 4294967296 }
         requires plain { ArePlain run.now }
-        ensures { TakesRun self.old coefs.old run.now result.0 result.1 self.new coefs.new }
+        ensures takes { TakesRunInto B.kind self.old blocks.old run.now result.0 result.1 self.new blocks.new }
+        ensures within { result.0 ≤ length run.now }
+        ensures passes { PassesRun B.kind self.old blocks.old run.now result.0 result.1 self.new blocks.new }
     {
-        let (n, taken) = self.work.machine.run(coefs, run);
+        let (n, taken) = blocks.take_bytes(&mut self.work.machine, run);
         (n, self.work.stepped(taken))
     }
 
-    /// Takes a byte of the file. Returns whether the data are over, and whether the MCU row is complete with it.
-    pub fn byte_in_row(&mut self, rows: &mut RowWork, byte: u8) -> (Result<bool, Fault>, bool)
-        requires inside { IsRowData self.old rows.old }
-        requires none { rows.old.waiting ≡ [] }
-        ensures takes { TakesByteInRow self.old rows.old byte result.0 self.new rows.new }
-        ensures stops { StopsByteInRow self.old rows.old byte result.0 }
-        ensures counts { CountsScan self.old.work rows.old result.1 self.new.work rows.new }
-        ensures waited { result.0 ≡ Ok true → self.old.gate ≡ true }
-        ensures marker { result.0 ≡ Ok true → result.1 ≡ false }
-        ensures done { result.0 ≡ Ok true → scan_left self.new.work ≡ 0 }
-    {
-        match self.gate.byte(byte) {
-            Passed::More => (Ok(false), false),
-            Passed::Data(data) => {
-                if self.work.whole {
-                    return (Err(Fault::ExtraData), false);
-                }
-                let mut store = BitStore::new();
-                store.push(data);
-                let taken = rows.take(&mut self.work.machine, store);
-                (data_answer(self.work.stepped(taken)), rows.left == 0)
-            }
-            Passed::Marker(code) => (self.work.marker(code), false),
-        }
-    }
-
-    /// Takes the bits that wait after the last MCU row. Returns whether a further one is complete with them.
-    pub fn rest_in_row(&mut self, rows: &mut RowWork) -> (Result<(), Fault>, bool)
+    /// Takes the bits that wait after the last MCU row.
+    pub fn rest_in_row(&mut self, rows: &mut RowWork) -> Result<(), Fault>
         requires { IsHalfRow self.old rows.old }
-        ensures takes { TakesRestInRow self.old rows.old result.0 self.new rows.new }
-        ensures stops { StopsRestInRow self.old rows.old result.0 }
-        ensures counts { CountsScan self.old.work rows.old result.1 self.new.work rows.new }
+        ensures takes { TakesRestInRow self.old rows.old result self.new rows.new }
+        ensures passes { PassesRest row_stored self.old rows.old result self.new rows.new }
         ensures gate { self.new.gate ≡ self.old.gate }
     {
         let store = rows.waiting.copy();
         let taken = rows.take(&mut self.work.machine, store);
-        (self.work.stepped(taken), rows.left == 0)
-    }
-
-    /// Takes plain bytes from the start of a run. Returns how many, and whether the MCU row is complete with the last
-    /// of them.
-    pub fn run_in_row(&mut self, rows: &mut RowWork, run: &[u8]) -> (usize, Result<(), Fault>, bool)
-        requires inside { IsRowData self.old rows.old }
-        requires gate { self.old.gate ≡ false }
-        requires due { self.old.work.whole ≡ false }
-        requires some { 1 ≤ length run.now }
-        requires few { length run.now < 4294967296 }
-        requires plain { ArePlain run.now }
-        requires none { rows.old.waiting ≡ [] }
-        ensures takes { TakesRunInRow self.old rows.old run.now result.0 result.1 self.new rows.new }
-        ensures stops { StopsRunInRow self.old rows.old run.now result.0 result.1 }
-        ensures last { LastRunInRow self.old rows.old run.now result.0 }
-        ensures counts { CountsScan self.old.work rows.old result.2 self.new.work rows.new }
-        ensures gate { self.new.gate ≡ self.old.gate }
-    {
-        let (n, taken) = rows.take_bytes(&mut self.work.machine, run);
-        (n, self.work.stepped(taken), rows.left == 0)
+        self.work.stepped(taken)
     }
 }
 
 impl ScanWork {
-    // Takes a data byte.
-    fn data(&mut self, coefs: &mut Coefs, byte: u8) -> Result<(), Fault>
-        requires { (limits : Limits) × (p : ScanPlace) × AtWork limits p self.old coefs.old }
-        ensures { TakesData self.old coefs.old byte result self.new coefs.new }
-    {
-        if self.whole {
-            return Err(Fault::ExtraData);
-        }
-        let taken = take_data(&mut self.machine, coefs, byte);
-        self.stepped(taken)
-    }
-
     /// Notes the machine's result of data.
     pub fn stepped(&mut self, taken: Taken) -> Result<(), Fault>
         requires { self.old.whole ≡ false }

@@ -20,8 +20,8 @@ unreachable-requires-in-Ok c =
 pub returns-clause-after : goal.returns-clause-after
 returns-clause-after c = λ limits bytes whole rows h.
     let w = c.args.self.now in
-    subst (λ (a : Step). AfterRows limits bytes a w rows) (sym c.fault_at.ensures)
+    subst (λ (a : Step). AfterRows limits bytes a w rows) (sym c.fault_at.ensures.is)
     (head_stops limits bytes (with_picture w whole) c.in-Some.frame c.contents.result.now c.in-Err.fault h c.in-Some.is c.contents.ensures c.in-Err.ensures)
 
 pub returns-clause-memory : goal.returns-clause-memory
-returns-clause-memory c = subst (λ (a : Step). HasMemory a) (sym c.fault_at.ensures) tt
+returns-clause-memory c = subst (λ (a : Step). HasMemory a) (sym c.fault_at.ensures.is) tt

@@ -1,21 +1,16 @@
-use Rattle.std.proofs.Common.{◌∙◌, ◌+◌, [], Ok, ◌∷◌, ◌++◌, sym, subst, arith, ap, Bool, false, refl}
+use Rattle.std.proofs.Common.{◌∙◌, Ok, subst, arith, ap}
 use Rattle.jpg_file.specs.Read.File.{limits_of}
 use Rattle.jpg_file.specs.Read.Items.{IsOfMarker}
 use Rattle.jpg_file.specs.Read.Reading.{waiting_bytes}
-use Rattle.jpg_file.specs.Read.Step.{HasMemory}
-use Rattle.jpg_file.specs.Read.Strips.{AfterRows, CountsRows}
-use Rattle.jpg_base.specs.declared.stop.Stop.TheVariants as stop
 use Rattle.jpg_file.specs.declared.read.items.ItemStep.{ItemStep}
-use Rattle.jpg_file.specs.declared.read.step.Step.{Step}
-use Rattle.jpg_file.specs.Read.RowTurns.{CountsScan}
-use Rattle.jpg_file.specs.declared.read.step.Step.TheVariants as step
-use Rattle.jpg_file.proofs.ByRow.StripBytes.{byte_at_fault, marker_at_fault, no_stop, byte_goes, byte_leaves, byte_stops, leaves_kind, ready_row}
-use Rattle.jpg_file.proofs.ByRow.RowTurns.{counts_rows, same_rows}
-use Rattle.jpg_file.proofs.ByRow.StripRows.{file_with, row_ready}
+use Rattle.jpg_file.specs.Read.RowTurns.{unfinished}
+use Rattle.jpg_file.proofs.ByRow.StripBytes.{byte_goes, byte_leaves, byte_rows, byte_stops, leaves_kind, ready_row}
+use Rattle.jpg_file.proofs.ByRow.RowTurns.{counts_rows, marker_same, same_rows}
+use Rattle.jpg_file.proofs.ByRow.StripRows.{row_ready}
 use Rattle.jpg_file.proofs.read.file.FileWork.take_byte_in_row.Goals as goal
 
-pub byte_in_row-step-requires-clause-inside : goal.byte_in_row-step-requires-clause-inside
-byte_in_row-step-requires-clause-inside c =
+pub byte-requires-clause-inside : goal.byte-requires-clause-inside
+byte-requires-clause-inside c =
     let w = c.args.self.now in
     let g = c.requires.stands in
     ready_row g.0 w c.in-Some.scan c.args.rows.now (row_ready (limits_of w) g.0 w c.in-Some.scan c.in-Some.is c.args.rows.now g.1) (g.1).none
@@ -32,87 +27,62 @@ marker-came-requires-clause-later c =
     let w = c.args.self.now in
     let g = c.requires.stands in
     let r = row_ready (limits_of w) g.0 w c.in-Some.scan c.in-Some.is c.args.rows.now g.1 in
-    omega (arith, (r.held).behind, ap waiting_bytes (c.byte_in_row-step.ensures.waited (c.in-Ok-true.is ∙ ap Ok c.in-Ok-true.field-0-test)))
+    omega (arith, (r.held).behind, ap waiting_bytes (c.byte.ensures.waited (c.in-Ok-true.is ∙ ap Ok c.in-Ok-true.field-0-test)))
 
 pub returns-in-Ok-false-clause-after : goal.returns-in-Ok-false-clause-after
 returns-in-Ok-false-clause-after c = λ bytes g.
     let w = c.args.self.now in
     let scan = c.in-Some.scan in
     let rows = c.args.rows.now in
-    let took = c.byte_in_row-step in
-    byte_goes bytes w scan rows (row_ready (limits_of w) bytes w scan c.in-Some.is rows g) g.none c.args.byte took.new.self took.new.rows took.result.1 took.result.0 c.row_step.result c.requires.room took.ensures.takes (c.in-Ok-false.is ∙ ap Ok c.in-Ok-false.field-0-test) took.ensures.counts c.row_step.ensures
+    let took = c.byte in
+    byte_goes bytes w scan rows (row_ready (limits_of w) bytes w scan c.in-Some.is rows g) g.none c.args.byte took.new.self took.new.blocks took.result c.row_step.result c.requires.room took.ensures.takes took.ensures.passes (c.in-Ok-false.is ∙ ap Ok c.in-Ok-false.field-0-test) c.row_step.ensures.is
 
 pub returns-in-Err-clause-after : goal.returns-in-Err-clause-after
 returns-in-Err-clause-after c = λ bytes g.
     let w = c.args.self.now in
     let scan = c.in-Some.scan in
     let rows = c.args.rows.now in
-    let took = c.byte_in_row-step in
-    subst (λ (a : Step). AfterRows (limits_of w) (bytes ++ c.args.byte ∷ []) a (file_with w took.new.self (w.reading.taken + 1)) took.new.rows) (sym c.fault_at.ensures)
-    (byte_stops bytes w scan rows (row_ready (limits_of w) bytes w scan c.in-Some.is rows g) g.none c.args.byte took.new.self took.new.rows took.result.0 c.in-Err.fault took.ensures.takes c.in-Err.is)
+    let took = c.byte in
+    byte_stops bytes w scan rows (row_ready (limits_of w) bytes w scan c.in-Some.is rows g) g.none c.args.byte took.new.self took.new.blocks took.result c.in-Err.fault c.fault_at.result _ took.ensures.takes took.ensures.passes c.in-Err.is c.fault_at.ensures.is
 
 pub returns-in-Ok-true-clause-after : goal.returns-in-Ok-true-clause-after
 returns-in-Ok-true-clause-after c = λ bytes g.
     let w = c.args.self.now in
     let scan = c.in-Some.scan in
     let rows = c.args.rows.now in
-    let took = c.byte_in_row-step in
+    let took = c.byte in
     let marker = c.marker-came in
-    byte_leaves bytes w scan rows (row_ready (limits_of w) bytes w scan c.in-Some.is rows g) g.none c.args.byte took.new.self took.new.rows took.result.1 took.result.0 marker.new.self marker.result c.later_item.result c.in-Some.is c.requires.room
-    took.ensures.takes (c.in-Ok-true.is ∙ ap Ok c.in-Ok-true.field-0-test) took.ensures.counts marker.ensures.after marker.ensures.taken (took.ensures.done (c.in-Ok-true.is ∙ ap Ok c.in-Ok-true.field-0-test)) c.later_item.ensures.after
+    byte_leaves bytes w scan rows (row_ready (limits_of w) bytes w scan c.in-Some.is rows g) g.none c.args.byte took.new.self took.new.blocks took.result marker.new.self marker.result c.later_item.result c.in-Some.is c.requires.room
+    took.ensures.takes took.ensures.passes (c.in-Ok-true.is ∙ ap Ok c.in-Ok-true.field-0-test) marker.ensures.after marker.ensures.taken (took.ensures.done (c.in-Ok-true.is ∙ ap Ok c.in-Ok-true.field-0-test)) c.later_item.ensures.after
 
 pub returns-in-Ok-false-clause-rows : goal.returns-in-Ok-false-clause-rows
 returns-in-Ok-false-clause-rows c =
-    let took = c.byte_in_row-step in
-    counts_rows c.in-Some.scan.work took.new.self.work c.args.rows.now took.new.rows took.result.1 c.row_step.result took.ensures.counts c.row_step.ensures
-
-pub returns-in-Err-clause-rows : goal.returns-in-Err-clause-rows
-returns-in-Err-clause-rows c = subst (λ (a : Step). CountsRows a c.args.rows.now c.byte_in_row-step.new.rows) (sym c.fault_at.ensures) tt
+    let w = c.args.self.now in
+    let g = c.requires.stands in
+    let took = c.byte in
+    let counts = byte_rows g.0 w c.in-Some.scan c.args.rows.now (row_ready (limits_of w) g.0 w c.in-Some.scan c.in-Some.is c.args.rows.now g.1) (g.1).none c.args.byte took.new.self took.new.blocks took.result took.ensures.passes in
+    counts_rows c.in-Some.scan.work took.new.self.work c.args.rows.now took.new.blocks _ c.row_step.result counts c.row_step.ensures.is
 
 pub returns-in-Ok-true-clause-rows : goal.returns-in-Ok-true-clause-rows
 returns-in-Ok-true-clause-rows c =
-    let took = c.byte_in_row-step in
-    let none = took.ensures.marker (c.in-Ok-true.is ∙ ap Ok c.in-Ok-true.field-0-test) in
-    let counts = subst (λ (b : Bool). CountsScan c.in-Some.scan.work c.args.rows.now b took.new.self.work took.new.rows) none took.ensures.counts in
-    same_rows c.args.rows.now took.new.rows c.later_item.result c.later_item.ensures.no (counts_rows c.in-Some.scan.work took.new.self.work c.args.rows.now took.new.rows false step.More counts refl)
-
-pub returns-in-Err-clause-memory : goal.returns-in-Err-clause-memory
-returns-in-Err-clause-memory c = subst (λ (a : Step). HasMemory a) (sym c.fault_at.ensures) tt
+    let took = c.byte in
+    let same = marker_same c.in-Some.scan took.new.self c.args.rows.now took.new.blocks c.args.byte took.result took.ensures.passes (c.in-Ok-true.is ∙ ap Ok c.in-Ok-true.field-0-test) in
+    same_rows c.args.rows.now took.new.blocks c.later_item.result c.later_item.ensures.no (ap unfinished same)
 
 pub later_item-requires : goal.later_item-requires
 later_item-requires c = λ is. absurd
     (let w = c.args.self.now in
     let scan = c.in-Some.scan in
     let rows = c.args.rows.now in
-    let took = c.byte_in_row-step in
+    let took = c.byte in
     let g = c.requires.stands in
-    subst (λ (s : ItemStep). IsOfMarker s) is (leaves_kind g.0 w scan rows (row_ready (limits_of w) g.0 w scan c.in-Some.is rows g.1) (g.1).none c.args.byte took.new.self took.new.rows took.result.0 c.marker-came.new.self c.marker-came.result took.ensures.takes (c.in-Ok-true.is ∙ ap Ok c.in-Ok-true.field-0-test) c.marker-came.ensures.after))
+    subst (λ (s : ItemStep). IsOfMarker s) is (leaves_kind g.0 w scan rows (row_ready (limits_of w) g.0 w scan c.in-Some.is rows g.1) (g.1).none c.args.byte took.new.self took.new.blocks took.result c.marker-came.new.self c.marker-came.result took.ensures.takes (c.in-Ok-true.is ∙ ap Ok c.in-Ok-true.field-0-test) c.marker-came.ensures.after))
 
 pub returns-in-Ok-true-clause-memory : goal.returns-in-Ok-true-clause-memory
 returns-in-Ok-true-clause-memory c =
     let w = c.args.self.now in
     let scan = c.in-Some.scan in
     let rows = c.args.rows.now in
-    let took = c.byte_in_row-step in
+    let took = c.byte in
     let g = c.requires.stands in
-    c.later_item.ensures.memory (λ is. subst (λ (s : ItemStep). IsOfMarker s) is (leaves_kind g.0 w scan rows (row_ready (limits_of w) g.0 w scan c.in-Some.is rows g.1) (g.1).none c.args.byte took.new.self took.new.rows took.result.0 c.marker-came.new.self c.marker-came.result took.ensures.takes (c.in-Ok-true.is ∙ ap Ok c.in-Ok-true.field-0-test) c.marker-came.ensures.after))
-
-pub returns-in-Ok-false-clause-stops : goal.returns-in-Ok-false-clause-stops
-returns-in-Ok-false-clause-stops c = λ f bytes e g. absurd (no_stop c.byte_in_row-step.result.1 c.row_step.result (stop.Fault f) c.row_step.ensures e)
-
-pub returns-in-Err-clause-stops : goal.returns-in-Err-clause-stops
-returns-in-Err-clause-stops c = λ f bytes e g.
-    let w = c.args.self.now in
-    let scan = c.in-Some.scan in
-    let rows = c.args.rows.now in
-    let took = c.byte_in_row-step in
-    byte_at_fault bytes w scan rows (row_ready (limits_of w) bytes w scan c.in-Some.is rows g) c.args.byte took.result.0 c.in-Err.fault g.none took.ensures.stops c.in-Err.is
-
-pub returns-in-Ok-true-clause-stops : goal.returns-in-Ok-true-clause-stops
-returns-in-Ok-true-clause-stops c = λ f bytes e g.
-    let w = c.args.self.now in
-    let scan = c.in-Some.scan in
-    let rows = c.args.rows.now in
-    let took = c.byte_in_row-step in
-    marker_at_fault bytes w scan rows (row_ready (limits_of w) bytes w scan c.in-Some.is rows g) (bytes ++ c.args.byte ∷ []) took.new.self took.new.rows took.result.1 took.ensures.counts
-    (took.ensures.marker (c.in-Ok-true.is ∙ ap Ok c.in-Ok-true.field-0-test)) (took.ensures.done (c.in-Ok-true.is ∙ ap Ok c.in-Ok-true.field-0-test))
+    c.later_item.ensures.memory (λ is. subst (λ (s : ItemStep). IsOfMarker s) is (leaves_kind g.0 w scan rows (row_ready (limits_of w) g.0 w scan c.in-Some.is rows g.1) (g.1).none c.args.byte took.new.self took.new.blocks took.result c.marker-came.new.self c.marker-came.result took.ensures.takes (c.in-Ok-true.is ∙ ap Ok c.in-Ok-true.field-0-test) c.marker-came.ensures.after))

@@ -1,25 +1,16 @@
-use Rattle.std.proofs.Common.{◌≡◌, ◌<◌, ◌++◌, ◌∷◌, ◌∙◌, [], ℕ, true, false, ap, arith, get_or, inl, refl, subst, sym, take}
+use Rattle.std.proofs.Common.{◌≡◌, ◌<◌, ◌++◌, ◌∷◌, ◌∙◌, [], ℕ, false, ap, arith, get_or, inl, refl, subst, sym, take}
 use Rattle.std.specs.Prelude.{is_some}
 use Rattle.jpg_spec.specs.declared.frame.Limits.{Limits}
 use Rattle.jpg_markers.proofs.Continuing.{not_some}
 use Rattle.jpg_file.specs.Read.File.{limits_of}
-use Rattle.jpg_file.specs.Read.RowsSoFar.{RowsSoFar}
-use Rattle.jpg_file.specs.Read.Strips.{AfterRows, GoesByRow}
+use Rattle.jpg_file.specs.Read.Strips.{AfterRows, GoesByRow, StopsRows}
 use Rattle.jpg_file.specs.declared.read.reading.Reading.{Reading}
-use Rattle.jpg_file.proofs.Files.PieceSteps.{one_more}
-use Rattle.jpg_file.proofs.ByRow.StripBytes.{filled_limits, filled_scan, front_at_fault, front_rows, later_row, rows_filled}
+use Rattle.jpg_file.proofs.ByRow.StripBytes.{filled_limits, filled_scan, front_rows, later_row, rows_filled}
 use Rattle.jpg_file.proofs.ByRow.StripItems.{after_of, later_goes, later_items, later_passed, later_there}
 use Rattle.jpg_file.proofs.read.file.FileWork.take_in_row.Goals as goal
 
 pub returns-then-n-gt0-clause-after : goal.returns-then-n-gt0-clause-after
 returns-then-n-gt0-clause-after c = λ front g. front_rows (limits_of c.args.self.now) front c.args.bytes.now c.take_run_in_row.new.self c.take_run_in_row.new.rows c.take_run_in_row.result.1 c.args.rows.now c.plain_length-n.result c.take_run_in_row.result.0 c.plain_length-n.ensures.within (c.take_run_in_row.ensures.after front g)
-
-pub returns-then-n-gt0-clause-stops : goal.returns-then-n-gt0-clause-stops
-returns-then-n-gt0-clause-stops c = λ f front e g.
-    let k = c.take_run_in_row in
-    let all = c.args.bytes.now in
-    let t = k.ensures.after front g in
-    front_at_fault (limits_of c.args.self.now) front all c.plain_length-n.result k.result.0 c.args.rows.now c.plain_length-n.ensures.within (omega (arith, t.count, t.within)) (k.ensures.stops f front e g)
 
 -- INSIDE THE DATA of the scan
 
@@ -47,19 +38,8 @@ returns-then-is_some-clause-after c = λ front g.
     let k = rows_filled (limits_of w) front bytes n w c.fill_in_scan-n.new.self c.args.rows.now g (sym c.is_some.ensures ∙ c.if-is_some.true) refl p in
     let a = c.take_byte_in_row.ensures.after (front ++ take n bytes) (subst (λ l. GoesByRow l (front ++ take n bytes) mid c.args.rows.now) (sym same) k) in
     later_row (limits_of w) front bytes c.take_byte_in_row.new.self c.take_byte_in_row.new.rows c.take_byte_in_row.result n mid c.args.rows.now k (subst (λ (t : ℕ). t < (limits_of w).input) (sym (ap (λ (r : Reading). r.taken) p.is)) p.room) p.less c.take_byte_in_row.ensures.head
-    (subst (λ (l : Limits). AfterRows l ((front ++ take n bytes) ++ get_or bytes n 0 ∷ []) c.take_byte_in_row.result c.take_byte_in_row.new.self c.take_byte_in_row.new.rows) same a)
-
-pub returns-then-is_some-clause-stops : goal.returns-then-is_some-clause-stops
-returns-then-is_some-clause-stops c = λ f front e g.
-    let w = c.args.self.now in
-    let bytes = c.args.bytes.now in
-    let n = c.fill_in_scan-n.result in
-    let p = c.fill_in_scan-n.ensures.after in
-    let mid = record w { reading = c.fill_in_scan-n.new.self } in
-    let same = filled_limits w.reading bytes n c.fill_in_scan-n.new.self p in
-    let k = rows_filled (limits_of w) front bytes n w c.fill_in_scan-n.new.self c.args.rows.now g (sym c.is_some.ensures ∙ c.if-is_some.true) refl p in
-    let s = c.take_byte_in_row.ensures.stops f (front ++ take n bytes) e (subst (λ l. GoesByRow l (front ++ take n bytes) mid c.args.rows.now) (sym same) k) in
-    subst (λ l. RowsSoFar (limits_of w) l c.args.rows.now) (sym (one_more front bytes n p.less)) (subst (λ (l : Limits). RowsSoFar l ((front ++ take n bytes) ++ get_or bytes n 0 ∷ []) c.args.rows.now) same s)
+    (subst (λ (l : Limits). AfterRows l ((front ++ take n bytes) ++ get_or bytes n 0 ∷ []) c.take_byte_in_row.result c.take_byte_in_row.new.self c.take_byte_in_row.new.rows) same a.0)
+    (subst (λ (l : Limits). StopsRows l ((front ++ take n bytes) ++ get_or bytes n 0 ∷ []) c.take_byte_in_row.result c.args.rows.now) same a.1)
 
 -- AFTER IT
 
@@ -120,7 +100,4 @@ returns-clause-after c = λ front g.
     let came = c.item_byte-came in
     let a = later_goes (limits_of mid) all mid rows b (get_or bytes n 0) came.new.self came.result c.later_item.result goes (came.ensures.after all (b.between).items (b.between).blocks (later_items (limits_of mid) all mid rows b)) (subst (λ (l : Limits). mid.reading.taken < l.input) (sym p.limits) c.front-n.ensures.left) c.later_item.ensures.after in
     later_row (limits_of w) front bytes (record mid { reading = came.new.self }) rows c.later_item.result n mid rows k c.front-n.ensures.left c.front-n.ensures.less refl
-    (subst (λ (l : Limits). AfterRows l (all ++ get_or bytes n 0 ∷ []) c.later_item.result (record mid { reading = came.new.self }) rows) p.limits a)
-
-pub returns-clause-stops : goal.returns-clause-stops
-returns-clause-stops c = λ f front e g. inl (after_of (limits_of c.args.self.now) front c.args.self.now c.args.rows.now g (sym c.is_some.ensures ∙ c.if-is_some.false)).done
+    (subst (λ (l : Limits). AfterRows l (all ++ get_or bytes n 0 ∷ []) c.later_item.result (record mid { reading = came.new.self }) rows) p.limits a) (λ f e. inl b.done)

@@ -39,20 +39,9 @@ returns-in-Ok-Row-clause-answered c = λ bytes m s.
     let used = c.in-Ok-Row.field-0-0 in
     let r : ReaderState = record { limits = c.self.inside.limits; file = work.file; by_row = c.self.inside.by_row; in_rows = work.by_row; rows = work.rows; strip = work.strip; done = c.self.inside.done; stop = c.self.inside.stop } in
     let is : took.result ≡ Ok (fed.Row used) = search rules in
-    subst (λ (a : Result FedRow Stop). AfterFeedKeeping bytes m piece a (record r { file = new.file; in_rows = new.by_row; rows = new.rows; strip = new.strip })) (sym is)
-    (row_answered r work new bytes piece m used (subst (λ (a : Result FedRow Stop). ReadsPiece r.limits work piece a new) is took.ensures) (subst (λ (q : ReaderState). HasReadSoFar bytes m q) (sym c.self.view_is) s))
-
-pub returns-in-Ok-Row-clause-sparing : goal.returns-in-Ok-Row-clause-sparing
-returns-in-Ok-Row-clause-sparing c = λ by bytes m s.
-    let work = c.self.inside.work in
-    let took = c.read_rows-answer in
-    let new = took.new.work in
-    let piece = c.args.piece.now in
-    let used = c.in-Ok-Row.field-0-0 in
-    let r : ReaderState = record { limits = c.self.inside.limits; file = work.file; by_row = c.self.inside.by_row; in_rows = work.by_row; rows = work.rows; strip = work.strip; done = c.self.inside.done; stop = c.self.inside.stop } in
-    let is : took.result ≡ Ok (fed.Row used) = search rules in
-    subst (λ (a : Result FedRow Stop). AfterFeedRow bytes m piece a (record r { file = new.file; in_rows = new.by_row; rows = new.rows; strip = new.strip })) (sym is)
-    (row_answered r work new bytes piece m used (subst (λ (a : Result FedRow Stop). ReadsPiece r.limits work piece a new) is took.ensures) (subst (λ (q : ReaderState). HasReadSoFar bytes m q) (sym c.self.view_is) s))
+    let k = row_answered r work new bytes piece m used (subst (λ (a : Result FedRow Stop). ReadsPiece r.limits work piece a new) is took.ensures) (subst (λ (q : ReaderState). HasReadSoFar bytes m q) (sym c.self.view_is) s) in
+    let after : ReaderState = record r { file = new.file; in_rows = new.by_row; rows = new.rows; strip = new.strip } in
+    subst (λ (a : Result FedRow Stop). AfterFeedKeeping bytes m piece a after × (c.args.self.now.by_row ≡ true → AfterFeedRow bytes m piece a after)) (sym is) (k, λ by. k)
 
 pub returns-in-Ok-More-clause-answered : goal.returns-in-Ok-More-clause-answered
 returns-in-Ok-More-clause-answered c = λ bytes m s.
@@ -63,20 +52,9 @@ returns-in-Ok-More-clause-answered c = λ bytes m s.
     let r : ReaderState = record { limits = c.self.inside.limits; file = work.file; by_row = c.self.inside.by_row; in_rows = work.by_row; rows = work.rows; strip = work.strip; done = c.self.inside.done; stop = c.self.inside.stop } in
     let row = rows_read r (subst IsByRow (sym c.self.view_is) c.requires.by_row) c.self.invariant in
     let is : took.result ≡ Ok fed.More = search rules in
-    subst (λ (a : Result FedRow Stop). AfterFeedKeeping bytes m piece a (record r { file = new.file; in_rows = new.by_row; rows = new.rows; strip = new.strip })) (sym is)
-    (more_answered r work new bytes piece m row (subst (λ (a : Result FedRow Stop). ReadsPiece r.limits work piece a new) is took.ensures) (subst (λ (q : ReaderState). HasReadSoFar bytes m q) (sym c.self.view_is) s))
-
-pub returns-in-Ok-More-clause-sparing : goal.returns-in-Ok-More-clause-sparing
-returns-in-Ok-More-clause-sparing c = λ by bytes m s.
-    let work = c.self.inside.work in
-    let took = c.read_rows-answer in
-    let new = took.new.work in
-    let piece = c.args.piece.now in
-    let r : ReaderState = record { limits = c.self.inside.limits; file = work.file; by_row = c.self.inside.by_row; in_rows = work.by_row; rows = work.rows; strip = work.strip; done = c.self.inside.done; stop = c.self.inside.stop } in
-    let row = rows_read r (subst IsByRow (sym c.self.view_is) c.requires.by_row) c.self.invariant in
-    let is : took.result ≡ Ok fed.More = search rules in
-    subst (λ (a : Result FedRow Stop). AfterFeedRow bytes m piece a (record r { file = new.file; in_rows = new.by_row; rows = new.rows; strip = new.strip })) (sym is)
-    (more_answered r work new bytes piece m row (subst (λ (a : Result FedRow Stop). ReadsPiece r.limits work piece a new) is took.ensures) (subst (λ (q : ReaderState). HasReadSoFar bytes m q) (sym c.self.view_is) s))
+    let k = more_answered r work new bytes piece m row (subst (λ (a : Result FedRow Stop). ReadsPiece r.limits work piece a new) is took.ensures) (subst (λ (q : ReaderState). HasReadSoFar bytes m q) (sym c.self.view_is) s) in
+    let after : ReaderState = record r { file = new.file; in_rows = new.by_row; rows = new.rows; strip = new.strip } in
+    subst (λ (a : Result FedRow Stop). AfterFeedKeeping bytes m piece a after × (c.args.self.now.by_row ≡ true → AfterFeedRow bytes m piece a after)) (sym is) (k, λ by. k)
 
 pub returns-in-Ok-Done-clause-answered : goal.returns-in-Ok-Done-clause-answered
 returns-in-Ok-Done-clause-answered c = λ bytes m s.
@@ -88,21 +66,9 @@ returns-in-Ok-Done-clause-answered c = λ bytes m s.
     let r : ReaderState = record { limits = c.self.inside.limits; file = work.file; by_row = c.self.inside.by_row; in_rows = work.by_row; rows = work.rows; strip = work.strip; done = c.self.inside.done; stop = c.self.inside.stop } in
     let row = rows_read r (subst IsByRow (sym c.self.view_is) c.requires.by_row) c.self.invariant in
     let is : took.result ≡ Ok (fed.Done used) = search rules in
-    subst (λ (a : Result FedRow Stop). AfterFeedKeeping bytes m piece a (record r { file = new.file; in_rows = new.by_row; rows = new.rows; strip = new.strip; done = true })) (sym is)
-    (done_answered r work new bytes piece m used c.self.invariant.limited row (subst (λ (a : Result FedRow Stop). ReadsPiece r.limits work piece a new) is took.ensures) (subst (λ (q : ReaderState). HasReadSoFar bytes m q) (sym c.self.view_is) s))
-
-pub returns-in-Ok-Done-clause-sparing : goal.returns-in-Ok-Done-clause-sparing
-returns-in-Ok-Done-clause-sparing c = λ by bytes m s.
-    let work = c.self.inside.work in
-    let took = c.read_rows-answer in
-    let new = took.new.work in
-    let piece = c.args.piece.now in
-    let used = c.in-Ok-Done.field-0-0 in
-    let r : ReaderState = record { limits = c.self.inside.limits; file = work.file; by_row = c.self.inside.by_row; in_rows = work.by_row; rows = work.rows; strip = work.strip; done = c.self.inside.done; stop = c.self.inside.stop } in
-    let row = rows_read r (subst IsByRow (sym c.self.view_is) c.requires.by_row) c.self.invariant in
-    let is : took.result ≡ Ok (fed.Done used) = search rules in
-    subst (λ (a : Result FedRow Stop). AfterFeedRow bytes m piece a (record r { file = new.file; in_rows = new.by_row; rows = new.rows; strip = new.strip; done = true })) (sym is)
-    (done_answered r work new bytes piece m used c.self.invariant.limited row (subst (λ (a : Result FedRow Stop). ReadsPiece r.limits work piece a new) is took.ensures) (subst (λ (q : ReaderState). HasReadSoFar bytes m q) (sym c.self.view_is) s))
+    let k = done_answered r work new bytes piece m used c.self.invariant.limited row (subst (λ (a : Result FedRow Stop). ReadsPiece r.limits work piece a new) is took.ensures) (subst (λ (q : ReaderState). HasReadSoFar bytes m q) (sym c.self.view_is) s) in
+    let after : ReaderState = record r { file = new.file; in_rows = new.by_row; rows = new.rows; strip = new.strip; done = true } in
+    subst (λ (a : Result FedRow Stop). AfterFeedKeeping bytes m piece a after × (c.args.self.now.by_row ≡ true → AfterFeedRow bytes m piece a after)) (sym is) (k, λ by. k)
 
 pub returns-in-Err-clause-answered : goal.returns-in-Err-clause-answered
 returns-in-Err-clause-answered c = λ bytes m s.
@@ -112,20 +78,13 @@ returns-in-Err-clause-answered c = λ bytes m s.
     let piece = c.args.piece.now in
     let r : ReaderState = record { limits = c.self.inside.limits; file = work.file; by_row = c.self.inside.by_row; in_rows = work.by_row; rows = work.rows; strip = work.strip; done = c.self.inside.done; stop = c.self.inside.stop } in
     let row = rows_read r (subst IsByRow (sym c.self.view_is) c.requires.by_row) c.self.invariant in
-    subst (λ (a : Result FedRow Stop). AfterFeedKeeping bytes m piece a (record r { file = new.file; in_rows = new.by_row; rows = new.rows; strip = new.strip; stop = Some c.in-Err.stop })) (sym c.in-Err.is)
-    (stop_kept r work new bytes piece m c.in-Err.stop row took (subst (λ (q : ReaderState). HasReadSoFar bytes m q) (sym c.self.view_is) s))
-
-pub returns-in-Err-clause-sparing : goal.returns-in-Err-clause-sparing
-returns-in-Err-clause-sparing c = λ by bytes m s.
-    let work = c.self.inside.work in
-    let took = c.in-Err.ensures in
-    let bare = ap (λ (r : ReaderState). r.by_row) c.self.view_is ∙ by in
-    let new = c.read_rows-answer.new.work in
-    let piece = c.args.piece.now in
-    let r : ReaderState = record { limits = c.self.inside.limits; file = work.file; by_row = c.self.inside.by_row; in_rows = work.by_row; rows = work.rows; strip = work.strip; done = c.self.inside.done; stop = c.self.inside.stop } in
-    let row = rows_read r (subst IsByRow (sym c.self.view_is) c.requires.by_row) c.self.invariant in
-    subst (λ (a : Result FedRow Stop). AfterFeedRow bytes m piece a (record r { file = new.file; in_rows = new.by_row; rows = new.rows; strip = new.strip; stop = Some c.in-Err.stop })) (sym c.in-Err.is)
-    (stop_answered r work new bytes piece m c.in-Err.stop row (took.memory (c.self.invariant.keeping bare) (c.self.invariant.sparing bare)) took (subst (λ (q : ReaderState). HasReadSoFar bytes m q) (sym c.self.view_is) s))
+    let before = subst (λ (q : ReaderState). HasReadSoFar bytes m q) (sym c.self.view_is) s in
+    let after : ReaderState = record r { file = new.file; in_rows = new.by_row; rows = new.rows; strip = new.strip; stop = Some c.in-Err.stop } in
+    subst (λ (a : Result FedRow Stop). AfterFeedKeeping bytes m piece a after × (c.args.self.now.by_row ≡ true → AfterFeedRow bytes m piece a after)) (sym c.in-Err.is) (
+      stop_kept r work new bytes piece m c.in-Err.stop row took before,
+      λ by.
+          (let bare = ap (λ (r : ReaderState). r.by_row) c.self.view_is ∙ by in stop_answered r work new bytes piece m c.in-Err.stop row (took.memory (c.self.invariant.keeping bare) (c.self.invariant.sparing bare)) took before),
+    )
 
 pub returns-in-Err-clause-asks : goal.returns-in-Err-clause-asks
 returns-in-Err-clause-asks c = λ by bytes m s is.

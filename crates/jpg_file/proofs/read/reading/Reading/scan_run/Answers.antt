@@ -1,10 +1,10 @@
-use Rattle.std.proofs.Common.{sym, ap, subst, ◌∙◌}
+use Rattle.std.proofs.Common.{[], sym, ap, subst, ◌∙◌}
 use Rattle.std.specs.Prelude.{Result}
 use Rattle.jpg_spec.specs.declared.fault.Fault.{Fault}
 use Rattle.jpg_spec.proofs.Basics.Common.{some_once}
-use Rattle.jpg_file.specs.Read.InData.{TakesRun}
+use Rattle.jpg_file.specs.Read.RowData.{TakesRun}
 use Rattle.jpg_file.specs.declared.read.scan.InScan.{InScan}
-use Rattle.jpg_file.proofs.Scans.Scannings.{IsReading, data_of, none_some, run_goes_on, run_shows}
+use Rattle.jpg_file.proofs.Scans.Scannings.{IsReading, data_of, none_some, run_goes_on, run_shows, whole_data, whole_run}
 use Rattle.jpg_file.proofs.read.reading.Reading.scan_run.Goals as goal
 
 pub unreachable-requires : goal.unreachable-requires
@@ -18,7 +18,7 @@ run-n-requires-clause-inside c =
     let o = c.requires.stands in
     let r = c.args.self.now in
     let k : IsReading r = record { coefs = c.in-Some.coefs; scan = c.in-Some-scan.scan; has = c.in-Some.is; inside = c.in-Some-scan.is } in
-    (r.items.limits, o.0, o.1, o.2, data_of r k r.items.limits o.0 o.1 o.2 o.3)
+    whole_data r.items.limits o.0 o.1 o.2 k.scan k.coefs (data_of r k r.items.limits o.0 o.1 o.2 o.3)
 
 pub run-n-requires-clause-gate : goal.run-n-requires-clause-gate
 run-n-requires-clause-gate c =
@@ -33,13 +33,15 @@ run-n-requires-clause-due c =
 pub returns-in-Ok-clause-after : goal.returns-in-Ok-clause-after
 returns-in-Ok-clause-after c =
     let run = c.args.run.now in let n = c.run-n.result.0 in
-    let k : IsReading c.args.self.now = record { coefs = c.in-Some.coefs; scan = c.in-Some-scan.scan; has = c.in-Some.is; inside = c.in-Some-scan.is } in
-    let T : Result (Unit {0}) Fault → Type 0 = λ a. TakesRun k.scan k.coefs run n a c.run-n.new.self c.run-n.new.coefs in
-    run_goes_on c.args.self.now k c.run-n.new.coefs c.run-n.new.self run n (subst T c.in-Ok.is c.run-n.ensures)
+    let o = c.requires.stands in let r = c.args.self.now in
+    let k : IsReading r = record { coefs = c.in-Some.coefs; scan = c.in-Some-scan.scan; has = c.in-Some.is; inside = c.in-Some-scan.is } in
+    let T : Result (Unit {0}) Fault → Type 0 = λ a. TakesRun k.scan k.coefs run n a [] c.run-n.new.self c.run-n.new.blocks in
+    run_goes_on c.args.self.now k c.run-n.new.blocks c.run-n.new.self run n (subst T c.in-Ok.is (whole_run k.scan c.run-n.new.self k.coefs c.run-n.new.blocks run n c.run-n.result.1 (r.items.limits, o.0, o.1, o.2, data_of r k r.items.limits o.0 o.1 o.2 o.3) c.run-n.ensures.takes))
 
 pub returns-in-Err-clause-after : goal.returns-in-Err-clause-after
 returns-in-Err-clause-after c =
     let run = c.args.run.now in let n = c.run-n.result.0 in
-    let k : IsReading c.args.self.now = record { coefs = c.in-Some.coefs; scan = c.in-Some-scan.scan; has = c.in-Some.is; inside = c.in-Some-scan.is } in
-    let T : Result (Unit {0}) Fault → Type 0 = λ a. TakesRun k.scan k.coefs run n a c.run-n.new.self c.run-n.new.coefs in
-    run_shows c.args.self.now k c.run-n.new.coefs c.run-n.new.self run n _ c.in-Err.fault (subst T c.in-Err.is c.run-n.ensures)
+    let o = c.requires.stands in let r = c.args.self.now in
+    let k : IsReading r = record { coefs = c.in-Some.coefs; scan = c.in-Some-scan.scan; has = c.in-Some.is; inside = c.in-Some-scan.is } in
+    let T : Result (Unit {0}) Fault → Type 0 = λ a. TakesRun k.scan k.coefs run n a [] c.run-n.new.self c.run-n.new.blocks in
+    run_shows c.args.self.now k c.run-n.new.blocks c.run-n.new.self run n _ c.in-Err.fault (subst T c.in-Err.is (whole_run k.scan c.run-n.new.self k.coefs c.run-n.new.blocks run n c.run-n.result.1 (r.items.limits, o.0, o.1, o.2, data_of r k r.items.limits o.0 o.1 o.2 o.3) c.run-n.ensures.takes))

@@ -4,7 +4,6 @@ use Rattle.jpg_spec.proofs.Basics.Common.{clash}
 use Rattle.jpg_file.specs.Read.File.{limits_of}
 use Rattle.jpg_file.specs.Read.Strips.{CountsStrip, SparesRows, StripGoes}
 use Rattle.jpg_file.specs.declared.read.rows.RowWork.{RowWork}
-use Rattle.jpg_file.proofs.ByRow.RowPieces.{some_faults}
 use Rattle.jpg_file.proofs.ByRow.StripWorks.{none_rows, some_rows}
 use Rattle.jpg_file.proofs.read.strip_work.StripWork.some.Goals as goal
 
@@ -29,7 +28,6 @@ returns-then-is_none c =
       plain = λ e. p.plain;
       none = λ e. p.none;
       some = λ e. p.some;
-      faults = λ given f bytes is shows g. absurd (clash (is_some rows) (ap is_some is) (ap is_some none));
     }
 
 pub returns : goal.returns
@@ -56,5 +54,4 @@ returns c =
       plain = λ none. absurd (clash (is_some old.rows) (ap is_some is) (ap is_some none));
       none = λ none. absurd (clash (is_some old.rows) (ap is_some is) (ap is_some none));
       some = λ none. absurd (clash (is_some old.rows) (ap is_some is) (ap is_some none));
-      faults = some_faults old c.in-Some.rows c.args.bytes.now c.take_in_row.result.0 c.take_in_row.result.1 is t.stops;
     }
