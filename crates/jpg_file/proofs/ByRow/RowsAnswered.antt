@@ -1,7 +1,6 @@
 -- The result of a piece of a file that is read MCU row by MCU row.
-use Rattle.std.proofs.Common.{◌≡◌, ℕ, ◌+◌, List, ◌++◌, length, take, sym, ap, ◌∙◌, subst, arith, inl, inr, Some, zero, suc, drop, ◌-◌, ◌<◌, true, refl, None, Ok, Err}
+use Rattle.std.proofs.Common.{◌≡◌, ℕ, ◌+◌, List, ◌++◌, length, take, sym, ap, ◌∙◌, subst, arith, inl, inr, Some, zero, suc, drop, ◌-◌, ◌<◌, true, refl, None, Ok, Err, Option, Result, is_some}
 use Rattle.std.proofs.Math.Seq.{take-append-add}
-use Rattle.std.specs.Prelude.{Option, Result, is_some}
 use Rattle.jpg_spec.specs.FrameHeader.{AreLimits}
 use Rattle.jpg_spec.specs.Markers.{Segment}
 use Rattle.jpg_spec.specs.InForce.{frame_of, head_in}

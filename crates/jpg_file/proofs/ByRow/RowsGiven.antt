@@ -1,9 +1,8 @@
 -- The MCU rows that are given.
-use Rattle.std.proofs.Common.{◌≡◌, ◌⊎◌, inl, inr, ℕ, ◌+◌, ◌*◌, ◌<◌, ◌≤◌, ◌==◌, ◌&&◌, Bool, true, false, cond, List, [], ◌∷◌, ◌++◌, length, refl, sym, ap, ◌∙◌, subst, arith, zero, suc, get_or, ℤ, pos}
-use Rattle.std.specs.Prelude.{nat_lt, flat_map, int_le, map, nat_abs, replicate}
+use Rattle.std.proofs.Common.{◌≡◌, ◌⊎◌, inl, inr, ℕ, ◌+◌, ◌*◌, ◌<◌, ◌≤◌, ◌==◌, ◌&&◌, Bool, true, false, cond, List, [], ◌∷◌, ◌++◌, length, refl, sym, ap, ◌∙◌, subst, arith, zero, suc, get_or, ℤ, pos, nat_lt, flat_map, int_le, map, nat_abs, replicate, append-nil, length-append, append_assoc, take_all}
 use Rattle.std.proofs.lemmas.Nat.{mul-le}
 use Rattle.std.proofs.lemmas.List.Elements.{All-get_or}
-use Rattle.std.proofs.lemmas.List.{append-nil, length-append, append_assoc, length-replicate, take_all}
+use Rattle.std.proofs.lemmas.List.{length-replicate}
 use Rattle.jpg_spec.specs.Lists.{any_of, is_among, joined}
 use Rattle.jpg_spec.specs.Geometry.{Frame, blocks_across, blocks_down, component_at, h_max, is_real, mcu_row_frame, mcus_down, no_component, v_max, bounds, bounds_of, is_progressive}
 use Rattle.jpg_spec.specs.FrameHeader.{HasFactors, IsFrame, padded_across, padded_down}

@@ -1,6 +1,5 @@
 -- A reader that was fed, and how many scans' data have ended.
-use Rattle.std.proofs.Common.{◌≡◌, ℕ, suc, cond, ◌-◌, ◌≤◌, ◌==◌, Bool, true, false, List, [], ◌∷◌, ◌++◌, refl, sym, ap, ◌∙◌, subst, arith, inl, inr, ◌⊎◌, ◌<◌, length, take, drop, Some, None, Ok, Err}
-use Rattle.std.specs.Prelude.{is_some, replicate, Option, Result}
+use Rattle.std.proofs.Common.{◌≡◌, ℕ, suc, cond, ◌-◌, ◌≤◌, ◌==◌, Bool, true, false, List, [], ◌∷◌, ◌++◌, refl, sym, ap, ◌∙◌, subst, arith, inl, inr, ◌⊎◌, ◌<◌, length, take, drop, Some, None, Ok, Err, is_some, replicate, Option, Result, append_assoc, length-append, take-append-drop, take_all}
 use Rattle.jpg_spec.specs.Items.{Item, segment, scan, segments_of, ends_in_scan}
 use Rattle.jpg_spec.specs.Markers.{Segment}
 use Rattle.jpg_spec.specs.ScanReading.{LeadingMarker}
@@ -20,7 +19,7 @@ use Rattle.jpg_file.specs.Read.ScanHistory.{scan_headers, HasBegunEach}
 use Rattle.jpg_file.specs.Read.ScansEnded.{ScansEnded}
 use Rattle.jpg_file.specs.declared.read.file.FileWork.{FileWork}
 use Rattle.jpg_file.proofs.Files.ItemBytes.{part_after}
-use Rattle.std.proofs.lemmas.List.{append_assoc, length-append, take-append-drop, take-append-le, take_all}
+use Rattle.std.proofs.lemmas.List.{take-append-le}
 use Rattle.std.proofs.lemmas.Bool.{cases_lt}
 use Rattle.jpg_spec.specs.declared.fault.FaultAt.{FaultAt}
 use Rattle.jpg_spec.proofs.Files.FileLaws.{shown_not_standing}

@@ -1,5 +1,4 @@
-use Rattle.std.proofs.Common.{Option, Some, ap, refl, rules, subst, sym}
-use Rattle.std.specs.Prelude.{is_some}
+use Rattle.std.proofs.Common.{Option, Some, ap, refl, rules, subst, sym, is_some}
 use Rattle.jpg_spec.proofs.Basics.Common.{clash}
 use Rattle.jpg_file.specs.Read.File.{limits_of}
 use Rattle.jpg_file.specs.Read.Strips.{CountsStrip, SparesRows, StripGoes}
