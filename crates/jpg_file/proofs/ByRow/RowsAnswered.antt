@@ -25,9 +25,9 @@ use Rattle.jpg_spec.proofs.McuRows.RowsOnce.{rows_stay}
 use Rattle.jpg_base.specs.declared.stop.Stop.{Stop}
 use Rattle.jpg_base.specs.declared.stop.Stop.TheVariants as stop
 use Rattle.jpg_seq.proofs.ScanRows.{units_by_row}
-use Rattle.jpg_file.specs.Read.PieceTaken.{ReadsPiece}
+use Rattle.jpg_file.specs.Read.PieceTaken.{LastOfRow, ReadsPiece}
 use Rattle.jpg_file.specs.Read.RowFaults.{BeganAtFault, RowsFault}
-use Rattle.jpg_file.specs.Read.RowPieces.{LastFed, RowsGive, RowsGo, RowsOpen, WantsNone}
+use Rattle.jpg_file.specs.Read.RowPieces.{RowsGive, RowsGo, RowsOpen, WantsNone}
 use Rattle.jpg_file.specs.Read.RowTurns.{unfinished}
 use Rattle.jpg_file.specs.Read.RowsNone.{NoRowsIn}
 use Rattle.jpg_file.specs.Read.Strips.{AfterStrip, CountsStrip, EndsByRow}
@@ -67,7 +67,7 @@ module _ (r : ReaderState) (old new : StripWork) (bytes piece : List ℕ) (p : H
   more_begun rows t has =
       let all = bytes ++ piece in
       let a = t.after bytes here in
-      let k = known_in r.limits all 0 new rows has (t.known p.none bytes here) in
+      let k = known_in r.limits all 0 new rows has ((t.facts bytes here).0 p.none) in
       more_rows r new all 0 rows has k (p.read).skip_ahead (p.read).undone (subst (λ (o : Option RowWork). RowsGo r.limits all o new.file) has a.0) a.1
       (λ none. absurd (some_rows r.limits all k.before k.contents k.begins (let n = k.count in omega (arith, n, none))))
 
@@ -75,20 +75,20 @@ module _ (r : ReaderState) (old new : StripWork) (bytes piece : List ℕ) (p : H
   given_begun : (used : ℕ) (rows : RowWork) → ReadsPiece r.limits old piece (Ok (fed.Row used)) new → new.rows ≡ Some rows → HasGivenRow (bytes ++ take used piece) 1 (with_work r new)
   given_begun used rows t has =
       let all = bytes ++ take used piece in
-      let k = known_in r.limits all 1 new rows has (t.known p.none bytes here) in
+      let k = known_in r.limits all 1 new rows has ((t.facts bytes here).0 p.none) in
       given_row r new all 1 rows has k (p.read).skip_ahead (p.read).undone 0 refl (subst (λ (o : Option RowWork). RowsGive r.limits all o new.file) has (t.after bytes here).0)
 
   -- and it isn't after all of them if the file is complete
   none_done : (used : ℕ) (rows : RowWork) → ReadsPiece r.limits old piece (Ok (fed.Done used)) new → new.rows ≡ Some rows → ⊥
   none_done used rows t has =
       let all = bytes ++ take used piece in
-      let k = known_in r.limits all 0 new rows has (t.known p.none bytes here) in
+      let k = known_in r.limits all 0 new rows has ((t.facts bytes here).0 p.none) in
       let e : EndsByRow r.limits all new.file rows = subst (λ (o : Option RowWork). AfterStrip r.limits all step.Whole o new.file) has (t.after bytes here).0 in
       some_rows r.limits all k.before k.contents k.begins (let n = k.count in let z = e.done in omega (arith, n, z))
 
 -- A ROW, and no sooner
 not_sooner : (limits : Limits) (bytes piece : List ℕ) (used m : ℕ) (before : List Segment) (contents : List ℕ) (rows : RowWork) → BeginsScanOfAll limits (bytes ++ take used piece) before contents
-    → m + unfinished rows ≡ rows_of_scan limits before contents → LastFed limits bytes piece (Ok (fed.Row used)) (Some rows) → NotSooner limits bytes piece used m
+    → m + unfinished rows ≡ rows_of_scan limits before contents → LastOfRow limits bytes piece used (Some rows) → NotSooner limits bytes piece used m
 not_sooner limits bytes piece zero m before contents rows begins count last n blocks less told = absurd (omega (arith, less))
 not_sooner limits bytes piece (suc early) m before contents rows begins count last n blocks less told = by lacks.2
   where
@@ -132,10 +132,10 @@ began_stopped r new bytes f after has b =
     let k = b.known in
     stopped_rows r new bytes 0 b.mid after f has k b.rows (λ done. absurd (some_rows r.limits bytes k.before k.contents k.begins (let n = k.count in omega (arith, n, done)))) b.head
 
-sooner : (r : ReaderState) (new : StripWork) (bytes piece : List ℕ) (used m : ℕ) → HasGivenRow (bytes ++ take used piece) m (with_work r new) → LastFed r.limits bytes piece (Ok (fed.Row used)) new.rows → NotSooner r.limits bytes piece used m
+sooner : (r : ReaderState) (new : StripWork) (bytes piece : List ℕ) (used m : ℕ) → HasGivenRow (bytes ++ take used piece) m (with_work r new) → LastOfRow r.limits bytes piece used new.rows → NotSooner r.limits bytes piece used m
 sooner r new bytes piece used m g last =
     let b = g.begun in
-    not_sooner r.limits bytes piece used m b.before b.contents b.rows b.begins g.rows (subst (λ (o : Option RowWork). LastFed r.limits bytes piece (Ok (fed.Row used)) o) b.has last)
+    not_sooner r.limits bytes piece used m b.before b.contents b.rows b.begins g.rows (subst (λ (o : Option RowWork). LastOfRow r.limits bytes piece used o) b.has last)
 
 -- THE ANSWERS
 module _ (r : ReaderState) (old new : StripWork) (bytes piece : List ℕ) (m : ℕ) where
@@ -163,7 +163,7 @@ module _ (r : ReaderState) (old new : StripWork) (bytes piece : List ℕ) (m : �
           inl (
             record {
               none = is;
-              plain = no_rows_in r.limits all new.rows (t.none p.none row bytes opened p.plain) is;
+              plain = no_rows_in r.limits all new.rows ((t.facts bytes opened).1 p.none row p.plain) is;
               read = record { skip_ahead = (p.read).skip_ahead; undone = (p.read).undone; short = a.1; stands = stands_file r.limits all new.file g.goes; «open» = g.goes; head = head_is r.limits all new.file g.goes };
             },
             z,
@@ -189,13 +189,13 @@ module _ (r : ReaderState) (old new : StripWork) (bytes piece : List ℕ) (m : �
           let a = t.after bytes opened in
           let all = bytes ++ take used piece in
           let e = ends_plain r.limits all new.rows new.file is a.0 in
-          let plain = no_rows_in r.limits all new.rows (t.none p.none row bytes opened p.plain) is in
+          let plain = no_rows_in r.limits all new.rows ((t.facts bytes opened).1 p.none row p.plain) is in
           (inl (record { none = is; plain = plain; done = record { done = refl; meaning = _; whole = file_means r.limits all new.file e; ended = e; head = head_left r.limits all new.file e } }), a.1, a.2)
       by (Some rows) is = absurd (none_done r old new bytes piece p used rows t is)
 
   -- Row
   row_answered : (used : ℕ) → ReadsPiece r.limits old piece (Ok (fed.Row used)) new → HasReadSoFar bytes m (with_work r old) → AfterFeedRow bytes m piece (Ok (fed.Row used)) (with_work r new)
-  row_answered used t (inr h) = (given, (t.after bytes b.open).1, sooner r new bytes piece used (m + 1) given (t.last bytes b.open))
+  row_answered used t (inr h) = (given, (t.after bytes b.open).1, sooner r new bytes piece used (m + 1) given (t.facts bytes b.open).1)
     where
       b : RowsBefore bytes m (with_work r old)
       b = rows_before bytes m (with_work r old) h
@@ -214,7 +214,7 @@ module _ (r : ReaderState) (old new : StripWork) (bytes piece : List ℕ) (m : �
           let one : 1 ≡ m + 1 = ap (λ n. n + 1) (sym z) in
           let opened = here r old new bytes piece p in
           let given = subst (λ (n : ℕ). HasGivenRow (bytes ++ take used piece) n (with_work r new)) one (given_begun r old new bytes piece p used rows t is) in
-          (given, (t.after bytes opened).1, sooner r new bytes piece used (m + 1) given (t.last bytes opened))
+          (given, (t.after bytes opened).1, sooner r new bytes piece used (m + 1) given (t.facts bytes opened).1)
 
   -- AT A FAULT, if MCU rows were being read before the piece
   rows_stopped : (n : ℕ) (f : FaultAt) → f.at ≡ length bytes + n → RowsBefore bytes m (with_work r old) → ReadsPiece r.limits old piece (Err (stop.Fault f)) new
@@ -228,7 +228,7 @@ module _ (r : ReaderState) (old new : StripWork) (bytes piece : List ℕ) (m : �
       some = ap is_some (b.begun).has
 
       k : RowsFault r.limits bytes (bytes ++ take n piece) (Some (b.begun).rows) new new.rows
-      k = subst (λ (o : Option RowWork). RowsFault r.limits bytes (bytes ++ take n piece) o new new.rows) (b.begun).has (subst (λ (x : List ℕ). RowsFault r.limits bytes x old.rows new new.rows) is (t.faults bytes b.open))
+      k = subst (λ (o : Option RowWork). RowsFault r.limits bytes (bytes ++ take n piece) o new new.rows) (b.begun).has (subst (λ (x : List ℕ). RowsFault r.limits bytes x old.rows new new.rows) is (t.facts bytes b.open).1)
 
       by : (o : Option RowWork) → new.rows ≡ o → is_some o ≡ true → StopsRows (take f.at (bytes ++ piece)) m (stopped_by r new f)
       by None none some = absurd cc
@@ -255,17 +255,17 @@ module _ (r : ReaderState) (old new : StripWork) (bytes piece : List ℕ) (m : �
       all = take f.at (bytes ++ piece)
 
       k : RowsFault r.limits bytes all None new new.rows
-      k = subst (λ (o : Option RowWork). RowsFault r.limits bytes all o new new.rows) p.none (t.faults bytes opened)
+      k = subst (λ (o : Option RowWork). RowsFault r.limits bytes all o new new.rows) p.none (t.facts bytes opened).1
 
       began : (o : Option RowWork) → new.rows ≡ o → StopsSoFar all m (stopped_by r new f)
-      began None none = inl (none, subst (λ (o : Option RowWork). NoRowsIn r.limits all o) none (t.none p.none row bytes opened p.plain), z)
+      began None none = inl (none, subst (λ (o : Option RowWork). NoRowsIn r.limits all o) none ((t.facts bytes opened).0 p.none row p.plain), z)
       began (Some after) has =
           let b : BeganAtFault r.limits all new.strip new.file = subst (λ (o : Option RowWork). RowsFault r.limits bytes all None new o) has k in
           inr (subst (λ (n : ℕ). StopsRows all n (stopped_by r new f)) (sym z) (began_stopped r new all f after has b))
 
   -- NoMemory
   memory_answered : new.rows ≡ None → ReadsPiece r.limits old piece (Err stop.NoMemory) new → HasReadSoFar bytes m (with_work r old) → AsksForMemory r.limits (length bytes) (bytes ++ piece) new.file.head
-  memory_answered none t (inl (p, z)) = t.asks none bytes (here r old new bytes piece p)
+  memory_answered none t (inl (p, z)) = t.facts bytes (here r old new bytes piece p) none
   memory_answered none t (inr h) =
       let b = rows_before bytes m (with_work r old) h in
       absurd (clash (is_some new.rows) (t.keeps.some (ap is_some (b.begun).has)) (ap is_some none))

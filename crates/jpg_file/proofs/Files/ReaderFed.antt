@@ -310,7 +310,7 @@ fed_stop r old new bytes piece (stop.Fault f) before h t =
 fed_stop r old new bytes piece stop.NoMemory before h t = t.after bytes (plain_open r.limits bytes old.rows old.file before h.open)
 
 fed_asks : (r : ReaderState) (old new : StripWork) (bytes piece : List ℕ) → old.rows ≡ None → new.rows ≡ None → HasRead bytes (with_work r old) → ReadsPiece r.limits old piece (Err stop.NoMemory) new → AsksForMemory r.limits (length bytes) (bytes ++ piece) new.file.head
-fed_asks r old new bytes piece before after h t = t.asks after bytes (plain_open r.limits bytes old.rows old.file before h.open)
+fed_asks r old new bytes piece before after h t = t.facts bytes (plain_open r.limits bytes old.rows old.file before h.open) after
 
 -- what is answered then
 abbrev as_row : Result Fed Stop → Result FedRow Stop
@@ -350,17 +350,7 @@ pub open_go : (limits : Limits) (bytes : List ℕ) (rows : Option RowWork) (w : 
 open_go limits bytes rows w none h = plain_go limits bytes rows w none (plain_stands limits bytes rows w none h.stands)
 
 piece_plain : {limits : Limits} {piece : List ℕ} {answer : Result FedRow Stop} {old new : StripWork} → old.rows ≡ None → ReadsOn limits old piece answer new → ReadsPiece limits old piece answer new
-piece_plain {limits = limits} {old = old} none t = record {
-  after = λ bytes h. t.after bytes (go bytes h);
-  rows = t.rows;
-  known = λ none bytes h. t.known none bytes (go bytes h);
-  keeps = t.keeps;
-  memory = t.memory;
-  none = λ none by bytes h. t.none none by bytes (go bytes h);
-  faults = λ bytes h. t.faults bytes (go bytes h);
-  last = λ bytes h. t.last bytes (go bytes h);
-  asks = λ none bytes h. t.asks none bytes (go bytes h);
-}
+piece_plain {limits = limits} {old = old} none t = record { after = λ bytes h. t.after bytes (go bytes h); rows = t.rows; keeps = t.keeps; memory = t.memory; facts = λ bytes h. t.facts bytes (go bytes h) }
   where
     go : (bytes : List ℕ) → RowsOpen limits bytes old.rows old.file → RowsGo limits bytes old.rows old.file
     go bytes h = open_go limits bytes old.rows old.file none h
