@@ -312,7 +312,7 @@ module _ {limits : Limits} {piece : List ℕ} {done : ℕ} {old work : StripWork
         let end : front ++ [] ≡ front = append-nil front in (
           λ none by no. subst (λ (l : List ℕ). NoRowsIn limits l work.rows) (sym (all bytes h)) (s.none none by bytes h no),
           subst (λ (x : List ℕ). RowsFault limits bytes x old.rows work work.rows) (end ∙ sym (all bytes h))
-          (rows_fault bytes [] work h (keeps_same work) (λ some. refl) (λ none. none) (λ mid is g. subst (λ (x : List ℕ). RowsSoFar limits x mid) (sym end) (goes_completes limits front work.file mid g))),
+              (rows_fault bytes [] work h (keeps_same work) (λ some. refl) (λ none. none) (λ mid is g. subst (λ (x : List ℕ). RowsSoFar limits x mid) (sym end) (goes_completes limits front work.file mid g))),
         ));
   }
     where
@@ -341,9 +341,9 @@ module _ {limits : Limits} {piece : List ℕ} {done : ℕ} {old work : StripWork
     keeps = s.keeps;
     memory = λ none spares. tt;
     facts = λ bytes h. (
-        λ none. subst (λ l. KnowsRows limits (bytes ++ l) 0 work.rows work.strip) is (s.known none bytes h),
-        λ none by no. subst (λ l. NoRowsIn limits (bytes ++ l) work.rows) is (s.none none by bytes h no),
-      );
+      λ none. subst (λ l. KnowsRows limits (bytes ++ l) 0 work.rows work.strip) is (s.known none bytes h),
+      λ none by no. subst (λ l. NoRowsIn limits (bytes ++ l) work.rows) is (s.none none by bytes h no),
+    );
   }
     where
       is : take done piece ≡ piece
