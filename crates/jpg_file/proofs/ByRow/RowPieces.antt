@@ -96,7 +96,7 @@ keeps_then a b c k l = record {
 
 -- with some more bytes
 keeps_some : {run : List ℕ} {n : ℕ} {answer : Step} (work new : StripWork) → TakesBytes work run n answer new → KeepsWork work new
-keeps_some {answer = answer} work new t = record { by_row = t.by_row; plain = t.plain; some = some_stays answer work.rows new.rows t.rows; strip = t.strip; keeping = t.keeping; sparing = t.sparing }
+keeps_some {answer = answer} work new t = record { by_row = t.by_row; plain = λ none. (t.fresh none).plain; some = some_stays answer work.rows new.rows t.rows; strip = λ some. (t.current some).strip; keeping = t.keeping; sparing = t.sparing }
 
 -- there is memory
 wants_none : {run : List ℕ} {n : ℕ} (e : Stop) (old work new : StripWork) → KeepsWork old work → TakesBytes work run n (step.Ended e) new → IfSparing old (Err e) new
@@ -104,8 +104,8 @@ wants_none (stop.Fault f) old work new k t none spares = tt
 wants_none stop.NoMemory old work new k t none spares = by (none_or_some work.rows)
   where
     by : (work.rows ≡ None) ⊎ (is_some work.rows ≡ true) → new.rows ≡ None
-    by (inl e) = t.stops e
-    by (inr e) = absurd (t.memory e (k.sparing none spares))
+    by (inl e) = (t.fresh e).stops
+    by (inr e) = absurd ((t.current e).memory (k.sparing none spares))
 
 -- WHAT IS KNOWN remains known, and MCU rows are counted
 abbrev KnowsAfter : Limits → List ℕ → Step → Option RowWork → Option StripHead → Type 0
@@ -139,9 +139,9 @@ known_some {run = run} {n = n} {answer = answer} limits bytes work new go k t = 
   where
     by : (o : Option RowWork) → work.rows ≡ o → KnowsRows limits bytes 0 o work.strip → StripGoes limits bytes o work.file → CountsStrip answer o new.rows → KnowsAfter limits (bytes ++ take n run) answer new.rows new.strip
     by None is k g c =
-        none_known limits (bytes ++ take n run) answer new.rows new.strip (t.no is)
-        (subst (λ (l : Limits). RepresentsFile l bytes work.file → KnowsRows l (bytes ++ take n run) 0 new.rows new.strip) (strip_limits limits bytes None work.file g) (t.known is bytes) g)
-    by (Some rows) is k g c = subst (λ (s : Option StripHead). KnowsAfter limits (bytes ++ take n run) answer new.rows s) (sym (t.strip (ap is_some is))) (known_on (take n run) answer rows new.rows c k)
+        none_known limits (bytes ++ take n run) answer new.rows new.strip (t.fresh is).no
+        (subst (λ (l : Limits). RepresentsFile l bytes work.file → KnowsRows l (bytes ++ take n run) 0 new.rows new.strip) (strip_limits limits bytes None work.file g) ((t.fresh is).known bytes) g)
+    by (Some rows) is k g c = subst (λ (s : Option StripHead). KnowsAfter limits (bytes ++ take n run) answer new.rows s) (sym (t.current (ap is_some is)).strip) (known_on (take n run) answer rows new.rows c k)
 
 -- NONE IS BEING READ: if an MCU row is, nothing is claimed
 some_after : (limits : Limits) (bytes : List ℕ) (answer : Step) (rows : RowWork) → NoneAfter limits bytes answer (Some rows)
@@ -157,7 +157,7 @@ none_some {run = run} {n = n} {answer = answer} limits bytes work new go none ro
 
     by : (o : Option RowWork) → work.rows ≡ o → NoRowsIn limits bytes o → StripGoes limits bytes o work.file → CountsStrip answer o new.rows → NoneAfter limits (bytes ++ take n run) answer new.rows
     by None is k g c =
-        subst (λ (l : Limits). RepresentsFile l bytes work.file → HasNoRows l bytes → NoneAfter l (bytes ++ take n run) answer new.rows) (strip_limits limits bytes None work.file g) (t.none is row bytes) g k
+        subst (λ (l : Limits). RepresentsFile l bytes work.file → HasNoRows l bytes → NoneAfter l (bytes ++ take n run) answer new.rows) (strip_limits limits bytes None work.file g) ((t.fresh is).none row bytes) g k
     by (Some rows) is k g c = later rows new.rows c
 
 -- if none is after a piece
@@ -397,7 +397,7 @@ module _ {limits : Limits} {piece : List ℕ} {done : ℕ} {old work : StripWork
       faulted f t bytes h =
           let front = bytes ++ take done piece in
           subst (λ (x : List ℕ). RowsFault limits bytes x old.rows new new.rows) (is bytes ∙ sym (up_to f t bytes h))
-          (rows_fault bytes (take n (drop done piece)) new h (keeps_some work new t) t.head t.stops
+          (rows_fault bytes (take n (drop done piece)) new h (keeps_some work new t) (λ some. (t.current some).head) (λ none. (t.fresh none).stops)
           (λ mid has g. ((run (step.Ended (stop.Fault f)) t bytes h).current mid has).1 f refl))
 
       -- those before the last one complete no further row
@@ -411,7 +411,7 @@ module _ {limits : Limits} {piece : List ℕ} {done : ℕ} {old work : StripWork
           there = (let count = r.count in let same : done + r.early ≡ early = omega (arith, all, count) in front_is bytes piece done r.early ∙ ap (λ k. bytes ++ take k piece) same)
 
           at : (o : Option RowWork) → work.rows ≡ o → (a : Option RowWork) → CountsStrip step.Row o a → LacksRow limits (bytes ++ take early piece) a
-          at None none a c = absurd (t.no none)
+          at None none a c = absurd (t.fresh none).no
           at (Some mid) has None c = absurd c
           at (Some mid) has (Some after) c = (mid, c, subst (λ (l : List ℕ). RowsSoFar limits l mid) there ((r.current mid has).0))
 

@@ -19,23 +19,31 @@ use Rattle.jpg_file.specs.declared.read.rows.RowWork.{RowWork}
 use Rattle.jpg_file.specs.declared.read.strip_work.StripWork.{StripWork}
 use Rattle.jpg_file.specs.declared.read.step.Step.{Step}
 
--- SOME BYTES: the result of the last one, and what is kept, with a current MCU row before them, and with none
+-- SOME BYTES with no current MCU row before them
+pub record TakesPlain (old : StripWork) (run : List ℕ) (n : ℕ) (answer : Step) (new : StripWork) : Type 0 where
+  pub begins : CountsRowsOfScan new.rows new.file
+  pub known : KnowsSome old run n new
+  pub no : IsNoRow answer
+  pub stops : IfStops answer (new.rows ≡ None)
+  pub plain : old.by_row ≡ false → new.rows ≡ None
+  pub none : old.by_row ≡ true → NoneSome old run n answer new
+  pub some : old.by_row ≡ false → TakesSome old.file run n answer new.file
+
+-- and with one
+pub record TakesCurrent (old : StripWork) (answer : Step) (new : StripWork) : Type 0 where
+  pub memory : SparesRows old.rows old.file → HasMemory answer
+  pub strip : new.strip ≡ old.strip
+  pub head : new.file.head ≡ old.file.head
+
+-- the result of the last one, and what is kept
 pub record TakesBytes (old : StripWork) (run : List ℕ) (n : ℕ) (answer : Step) (new : StripWork) : Type 0 where
   pub after : TakesStrip old run n answer new
   pub rows : CountsStrip answer old.rows new.rows
-  pub memory : is_some old.rows ≡ true → SparesRows old.rows old.file → HasMemory answer
-  pub begins : old.rows ≡ None → CountsRowsOfScan new.rows new.file
-  pub known : old.rows ≡ None → KnowsSome old run n new
-  pub no : old.rows ≡ None → IsNoRow answer
-  pub stops : old.rows ≡ None → IfStops answer (new.rows ≡ None)
-  pub strip : is_some old.rows ≡ true → new.strip ≡ old.strip
   pub sparing : keeping_of old.file ≡ copying.None → SparesRows old.rows old.file → SparesRows new.rows new.file
-  pub head : is_some old.rows ≡ true → new.file.head ≡ old.file.head
   pub keeping : keeping_of new.file ≡ keeping_of old.file
   pub by_row : new.by_row ≡ old.by_row
-  pub plain : old.rows ≡ None → old.by_row ≡ false → new.rows ≡ None
-  pub none : old.rows ≡ None → old.by_row ≡ true → NoneSome old run n answer new
-  pub some : old.rows ≡ None → old.by_row ≡ false → TakesSome old.file run n answer new.file
+  pub fresh : old.rows ≡ None → TakesPlain old run n answer new
+  pub current : is_some old.rows ≡ true → TakesCurrent old answer new
 
 -- A BYTE before the first scan: its result, and what is kept
 pub record TakesFirst (old : StripWork) (byte : ℕ) (answer : Step) (new : StripWork) : Type 0 where

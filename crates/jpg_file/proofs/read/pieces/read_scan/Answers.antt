@@ -50,7 +50,7 @@ pub unreachable-requires : goal.unreachable-requires
 unreachable-requires c =
     let i = c.loop-done.invariant in
     let rows = i.0.keeps.plain c.requires.none c.requires.by_row in
-    subst (λ (a : Step). IsNoRow a) c.in-Row.is (c.some-n.ensures.no rows)
+    subst (λ (a : Step). IsNoRow a) c.in-Row.is (c.some-n.ensures.fresh rows).no
 
 pub returns-in-Whole : goal.returns-in-Whole
 returns-in-Whole c =
