@@ -1,5 +1,5 @@
 -- The result of a piece of a file that is read MCU row by MCU row.
-use Rattle.std.proofs.Common.{◌≡◌, ℕ, ◌+◌, List, ◌++◌, length, take, sym, ap, ◌∙◌, subst, arith, inl, inr, Some, zero, suc, drop, ◌-◌, ◌<◌, true, refl, None, Ok, Err, Option, Result, is_some}
+use Rattle.std.proofs.Common.{◌≡◌, ℕ, ◌+◌, List, ◌++◌, length, take, sym, ap, ◌∙◌, subst, arith, inl, inr, Some, zero, suc, drop, ◌-◌, true, refl, None, Ok, Err, Option, Result, is_some}
 use Rattle.std.proofs.Math.Seq.{take-append-add}
 use Rattle.jpg_spec.specs.FrameHeader.{AreLimits}
 use Rattle.jpg_spec.specs.Markers.{Segment}
@@ -10,7 +10,7 @@ use Rattle.jpg_spec.specs.declared.frame.Limits.{Limits}
 use Rattle.jpg_spec.proofs.McuRows.RowsHeader.{begun_places}
 use Rattle.jpg_file.specs.Read.FirstHeader.{IsFirstHeaderOf}
 use Rattle.jpg_file.specs.Read.ReadFile.{ReaderState, AsksForMemory}
-use Rattle.jpg_file.specs.Read.ReadRows.{StopsRows, AfterFeedKeeping, AfterFeedRow, AsksOnFeedKeeping, AsksOnFeedRow, FeedsKeeping, FeedsRow, HasGivenRow, HasReadPlainly, HasReadRows, HasReadSoFar, IsDoneByRows, NotSooner, ReadsInto, ReadsOne, StopsSoFar, with_work, work_of}
+use Rattle.jpg_file.specs.Read.ReadRows.{StopsRows, AfterFeedKeeping, AfterFeedRow, AsksOnFeedKeeping, AsksOnFeedRow, FeedsKeeping, FeedsRow, HasGivenRow, HasReadPlainly, HasReadRows, HasReadSoFar, NotSooner, ReadsInto, ReadsOne, StopsSoFar, with_work, work_of}
 use Rattle.jpg_file.specs.Read.RowsKnown.{rows_of_scan, KnowsRows, RowsKnown}
 use Rattle.jpg_file.specs.Read.RowsSoFar.{RowsSoFar, LacksRow}
 use Rattle.jpg_file.specs.declared.read.rows.RowWork.{RowWork}
@@ -30,14 +30,14 @@ use Rattle.jpg_file.specs.Read.RowFaults.{BeganAtFault, RowsFault}
 use Rattle.jpg_file.specs.Read.RowPieces.{RowsGive, RowsGo, RowsOpen, WantsNone}
 use Rattle.jpg_file.specs.Read.RowTurns.{unfinished}
 use Rattle.jpg_file.specs.Read.RowsNone.{NoRowsIn}
-use Rattle.jpg_file.specs.Read.Strips.{AfterStrip, CountsStrip, EndsByRow}
+use Rattle.jpg_file.specs.Read.Strips.{AfterStrip, CountsRows, CountsStrip, EndsByRow}
 use Rattle.jpg_file.specs.declared.read.pieces.FedRow.{FedRow}
 use Rattle.jpg_file.specs.declared.read.pieces.FedRow.TheVariants as fed
 use Rattle.jpg_file.specs.declared.read.strip_work.StripWork.{StripWork}
+use Rattle.jpg_file.specs.declared.read.step.Step.{Step}
 use Rattle.jpg_file.specs.declared.read.step.Step.TheVariants as step
-use Rattle.jpg_file.proofs.Files.FileSteps.{head_is, head_left}
-use Rattle.jpg_file.proofs.Files.PieceSteps.{file_means, front_is, stands_file}
-use Rattle.jpg_file.proofs.Files.ReaderFed.{ends_plain, plain_open}
+use Rattle.jpg_file.proofs.Files.PieceSteps.{front_is}
+use Rattle.jpg_file.proofs.Files.ReaderFed.{fed_done, fed_more, plain_open}
 use Rattle.jpg_file.proofs.ByRow.RowPieces.{no_rows_in}
 
 -- the bytes up to a fault that is n bytes of the piece after the others
@@ -137,75 +137,54 @@ sooner r new bytes piece used m g last =
     let b = g.begun in
     not_sooner r.limits bytes piece used m b.before b.contents b.rows b.begins g.rows (subst (λ (o : Option RowWork). LastOfRow r.limits bytes piece used o) b.has last)
 
+-- with a current MCU row there is one after it
+still : (answer : Step) (given : RowWork) (before after : Option RowWork) → before ≡ Some given → CountsStrip answer before after → (rows : RowWork) × (after ≡ Some rows) × CountsRows answer given rows
+still answer given before None has c = absurd (subst (λ (o : Option RowWork). CountsStrip answer o None) has c)
+still answer given before (Some rows) has c = (rows, refl, subst (λ (o : Option RowWork). CountsStrip answer o (Some rows)) has c)
+
 -- THE ANSWERS
 module _ (r : ReaderState) (old new : StripWork) (bytes piece : List ℕ) (m : ℕ) where
   -- More
   more_answered : old.by_row ≡ true → ReadsPiece r.limits old piece (Ok fed.More) new → HasReadSoFar bytes m (with_work r old) → AfterFeedRow bytes m piece (Ok fed.More) (with_work r new)
-  more_answered row t (inr h) = inr (by new.rows refl (subst (λ (o : Option RowWork). CountsStrip step.More o new.rows) (b.begun).has t.rows) a.0)
-    where
-      b : RowsBefore bytes m (with_work r old)
-      b = rows_before bytes m (with_work r old) h
-
-      a : RowsGo r.limits (bytes ++ piece) new.rows new.file × (length (bytes ++ piece) < r.limits.input)
-      a = t.after bytes b.open
-
-      by : (o : Option RowWork) → new.rows ≡ o → CountsStrip step.More (Some (b.begun).rows) o → RowsGo r.limits (bytes ++ piece) o new.file → HasReadRows (bytes ++ piece) m (with_work r new)
-      by None is c g = absurd c
-      by (Some rows) is c g = fed_more_rows (with_work r old) new bytes piece m b rows is (t.keeps.strip (ap is_some (b.begun).has)) c g a.1
+  more_answered row t (inr h) =
+      let b = rows_before bytes m (with_work r old) h in
+      let a = t.after bytes b.open in
+      let y = still step.More (b.begun).rows old.rows new.rows (b.begun).has t.rows in
+      inr (fed_more_rows (with_work r old) new bytes piece m b y.0 y.1 (t.keeps.strip (ap is_some (b.begun).has)) y.2 (subst (λ (o : Option RowWork). RowsGo r.limits (bytes ++ piece) o new.file) y.1 a.0) a.1)
   more_answered row t (inl (p, z)) = by new.rows refl
     where
       by : (o : Option RowWork) → new.rows ≡ o → AfterFeedRow bytes m piece (Ok fed.More) (with_work r new)
       by None is =
-          let opened = here r old new bytes piece p in
-          let a = t.after bytes opened in
-          let g = subst (λ (o : Option RowWork). RowsGo r.limits (bytes ++ piece) o new.file) is a.0 in
-          let all = bytes ++ piece in
-          inl (
-            record {
-              none = is;
-              plain = no_rows_in r.limits all new.rows ((t.facts bytes opened).1 p.none row p.plain) is;
-              read = record { skip_ahead = (p.read).skip_ahead; undone = (p.read).undone; short = a.1; stands = stands_file r.limits all new.file g.goes; «open» = g.goes; head = head_is r.limits all new.file g.goes };
-            },
-            z,
-          )
+          let plain = no_rows_in r.limits (bytes ++ piece) new.rows ((t.facts bytes (here r old new bytes piece p)).1 p.none row p.plain) is in
+          inl (record { none = is; plain = plain; read = fed_more r old new bytes piece p.none is p.read t }, z)
       by (Some rows) is = inr (subst (λ (n : ℕ). HasReadRows (bytes ++ piece) n (with_work r new)) (sym z) (more_begun r old new bytes piece p rows t is))
 
   -- Done
   done_answered : (used : ℕ) → AreLimits r.limits → old.by_row ≡ true → ReadsPiece r.limits old piece (Ok (fed.Done used)) new → HasReadSoFar bytes m (with_work r old)
       → AfterFeedRow bytes m piece (Ok (fed.Done used)) (record (with_work r new) { done = true })
-  done_answered used limited row t (inr h) = (inr (by new.rows refl (subst (λ (o : Option RowWork). CountsStrip step.Whole o new.rows) (b.begun).has t.rows) (t.after bytes b.open).0), (t.after bytes b.open).1, (t.after bytes b.open).2)
-    where
-      b : RowsBefore bytes m (with_work r old)
-      b = rows_before bytes m (with_work r old) h
-
-      by : (o : Option RowWork) → new.rows ≡ o → CountsStrip step.Whole (Some (b.begun).rows) o → AfterStrip r.limits (bytes ++ take used piece) step.Whole o new.file → IsDoneByRows (bytes ++ take used piece) m (record (with_work r new) { done = true })
-      by None is c k = absurd c
-      by (Some rows) is c k = fed_done_rows (with_work r old) new bytes (take used piece) m b rows is limited (t.keeps.strip (ap is_some (b.begun).has)) c k
+  done_answered used limited row t (inr h) =
+      let b = rows_before bytes m (with_work r old) h in
+      let a = t.after bytes b.open in
+      let y = still step.Whole (b.begun).rows old.rows new.rows (b.begun).has t.rows in
+      let ends = subst (λ (o : Option RowWork). AfterStrip r.limits (bytes ++ take used piece) step.Whole o new.file) y.1 a.0 in
+      (inr (fed_done_rows (with_work r old) new bytes (take used piece) m b y.0 y.1 limited (t.keeps.strip (ap is_some (b.begun).has)) y.2 ends), a.1, a.2)
   done_answered used limited row t (inl (p, z)) = by new.rows refl
     where
       by : (o : Option RowWork) → new.rows ≡ o → AfterFeedRow bytes m piece (Ok (fed.Done used)) (record (with_work r new) { done = true })
       by None is =
-          let opened = here r old new bytes piece p in
-          let a = t.after bytes opened in
-          let all = bytes ++ take used piece in
-          let e = ends_plain r.limits all new.rows new.file is a.0 in
-          let plain = no_rows_in r.limits all new.rows ((t.facts bytes opened).1 p.none row p.plain) is in
-          (inl (record { none = is; plain = plain; done = record { done = refl; meaning = _; whole = file_means r.limits all new.file e; ended = e; head = head_left r.limits all new.file e } }), a.1, a.2)
+          let plain = no_rows_in r.limits (bytes ++ take used piece) new.rows ((t.facts bytes (here r old new bytes piece p)).1 p.none row p.plain) is in
+          let d = fed_done r old new bytes piece used p.none is p.read t in
+          (inl (record { none = is; plain = plain; done = d.0 }), d.1, d.2)
       by (Some rows) is = absurd (none_done r old new bytes piece p used rows t is)
 
   -- Row
   row_answered : (used : ℕ) → ReadsPiece r.limits old piece (Ok (fed.Row used)) new → HasReadSoFar bytes m (with_work r old) → AfterFeedRow bytes m piece (Ok (fed.Row used)) (with_work r new)
-  row_answered used t (inr h) = (given, (t.after bytes b.open).1, sooner r new bytes piece used (m + 1) given (t.facts bytes b.open).1)
-    where
-      b : RowsBefore bytes m (with_work r old)
-      b = rows_before bytes m (with_work r old) h
-
-      by : (o : Option RowWork) → new.rows ≡ o → CountsStrip step.Row (Some (b.begun).rows) o → RowsGive r.limits (bytes ++ take used piece) o new.file → HasGivenRow (bytes ++ take used piece) (m + 1) (with_work r new)
-      by None is c g = absurd c
-      by (Some rows) is c g = fed_given_row (with_work r old) new bytes (take used piece) m b rows is (t.keeps.strip (ap is_some (b.begun).has)) c g
-
-      given : HasGivenRow (bytes ++ take used piece) (m + 1) (with_work r new)
-      given = by new.rows refl (subst (λ (o : Option RowWork). CountsStrip step.Row o new.rows) (b.begun).has t.rows) (t.after bytes b.open).0
+  row_answered used t (inr h) =
+      let b = rows_before bytes m (with_work r old) h in
+      let a = t.after bytes b.open in
+      let y = still step.Row (b.begun).rows old.rows new.rows (b.begun).has t.rows in
+      let given = fed_given_row (with_work r old) new bytes (take used piece) m b y.0 y.1 (t.keeps.strip (ap is_some (b.begun).has)) y.2 (subst (λ (o : Option RowWork). RowsGive r.limits (bytes ++ take used piece) o new.file) y.1 a.0) in
+      (given, a.1, sooner r new bytes piece used (m + 1) given (t.facts bytes b.open).1)
   row_answered used t (inl (p, z)) = by new.rows refl
     where
       by : (o : Option RowWork) → new.rows ≡ o → AfterFeedRow bytes m piece (Ok (fed.Row used)) (with_work r new)
