@@ -264,6 +264,9 @@ AfterSome limits old piece used step.Whole new = ReadsOn limits old piece (Ok (f
 AfterSome limits old piece used (step.Ended e) new = ReadsOn limits old piece (Err e) new
 
 module _ {limits : Limits} {piece : List ℕ} {done : ℕ} {old work : StripWork} (s : PieceBegun limits piece done old work) where
+  pub work_limits : ((bytes : List ℕ) × RowsGo limits bytes old.rows old.file) → limits_of work.file ≡ limits
+  work_limits o = strip_limits limits (o.0 ++ take done piece) work.rows work.file (s.goes o.0 o.1).goes
+
   -- AT A FAULT after further bytes
   rows_fault : (bytes more : List ℕ) (new : StripWork) → RowsGo limits bytes old.rows old.file → KeepsWork work new → (is_some work.rows ≡ true → new.file.head ≡ work.file.head) → (work.rows ≡ None → new.rows ≡ None)
       → ((mid : RowWork) → work.rows ≡ Some mid → GoesByRow limits (bytes ++ take done piece) work.file mid → RowsSoFar limits ((bytes ++ take done piece) ++ more) mid) → RowsFault limits bytes ((bytes ++ take done piece) ++ more) old.rows new new.rows
