@@ -1,6 +1,5 @@
 -- Blocks whose symbols are bytes.
-use Rattle.std.proofs.Common.{◌≡◌, ℕ, zero, suc, ◌≤◌, true, false, List, [], ◌∷◌, sym, subst, arith, ℤ, pos, ◌&&◌, lit≤}
-use Rattle.std.specs.Prelude.{slice_index_or, int_le, nat_abs, ◌≤ℤ◌}
+use Rattle.std.proofs.Common.{◌≡◌, ℕ, zero, suc, ◌≤◌, true, false, List, [], ◌∷◌, sym, subst, arith, ℤ, pos, ◌&&◌, lit≤, slice_index_or, int_le, nat_abs, ◌≤ℤ◌}
 use Rattle.std.proofs.lemmas.List.{get_or-replicate}
 use Rattle.jpg_spec.specs.Numbers.{category}
 use Rattle.jpg_spec.specs.Geometry.{Frame, bounds}

@@ -1,6 +1,5 @@
 -- The marks of a sequential scan's units, one unit after another.
-use Rattle.std.proofs.Common.{◌≡◌, ℕ, zero, suc, ◌+◌, ◌-◌, ◌*◌, ◌/◌, ◌%◌, ◌<◌, ◌≤◌, true, false, List, [], ◌∷◌, ◌++◌, drop, refl, sym, ap, ◌∙◌, arith, ℤ, pos}
-use Rattle.std.specs.Prelude.{map, flat_map, replicate, slice_index_or, ◌-ℤ◌, All}
+use Rattle.std.proofs.Common.{◌≡◌, ℕ, zero, suc, ◌+◌, ◌-◌, ◌*◌, ◌/◌, ◌%◌, ◌<◌, ◌≤◌, true, false, List, [], ◌∷◌, ◌++◌, drop, refl, sym, ap, ◌∙◌, arith, ℤ, pos, map, flat_map, replicate, slice_index_or, ◌-ℤ◌, All}
 use Rattle.std.proofs.lemmas.List.Concat.{flat_map-append}
 use Rattle.jpg_spec.specs.Numbers.{digits, category}
 use Rattle.jpg_spec.specs.Geometry.{Frame}

@@ -1,6 +1,6 @@
 -- Values that are covered one after another.
-use Rattle.std.proofs.Common.{◌≡◌, ℕ, zero, suc, ◌+◌, ◌-◌, ◌<◌, ◌≤◌, Bool, List, [], ◌∷◌, ◌++◌, length, take, drop, set, refl, sym, ap, ◌∙◌, arith, ℤ, pos}
-use Rattle.std.proofs.lemmas.List.{length-set, length-take-le, drop-drop, take-append-drop, drop-replicate}
+use Rattle.std.proofs.Common.{◌≡◌, ℕ, zero, suc, ◌+◌, ◌-◌, ◌<◌, ◌≤◌, Bool, List, [], ◌∷◌, ◌++◌, length, take, drop, set, refl, sym, ap, ◌∙◌, arith, ℤ, pos, length-set, length-take-le, drop-drop, take-append-drop}
+use Rattle.std.proofs.lemmas.List.{drop-replicate}
 use Rattle.std.proofs.Math.Seq.{take-append-add}
 use Rattle.std.proofs.lemmas.Grind.{take-set_at, drop-set_at}
 use Rattle.jpg_spec.specs.Elements.{zeros}

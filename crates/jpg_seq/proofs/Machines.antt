@@ -1,8 +1,7 @@
 -- Bits of a sequential scan, one after another.
-use Rattle.std.proofs.Common.{◌≡◌, ℕ, zero, suc, ◌+◌, ◌-◌, ◌<◌, ◌≤◌, Bool, true, false, cond, List, [], ◌∷◌, ◌++◌, length, get_or, drop, refl, sym, ap, ◌∙◌, subst, arith, ℤ, pos, inl, inr, ⊎_elim, ◌==◌}
-use Rattle.std.specs.Prelude.{◌&&◌, nat_le, take, slice_get, slice_set, slice_index_or, Option, Some, Ok, Err}
+use Rattle.std.proofs.Common.{◌≡◌, ℕ, zero, suc, ◌+◌, ◌-◌, ◌<◌, ◌≤◌, Bool, true, false, cond, List, [], ◌∷◌, ◌++◌, length, get_or, drop, refl, sym, ap, ◌∙◌, subst, arith, ℤ, pos, inl, inr, ⊎_elim, ◌==◌, ◌&&◌, nat_le, take, slice_get, slice_set, slice_index_or, Option, Some, Ok, Err, append_assoc, append-nil, length-set, get_or-set_same, get_or-set_other, take_all}
 use Rattle.std.specs.List.{All}
-use Rattle.std.proofs.lemmas.List.{append_assoc, append-nil, nil_from_length, length-set, get_or-set_same, get_or-set_other, get_or_past, take_all}
+use Rattle.std.proofs.lemmas.List.{nil_from_length, get_or_past}
 use Rattle.std.proofs.lemmas.List.Elements.{All-head, All-tail, All-weaker}
 use Rattle.std.proofs.lemmas.Bool.{cases_eq, cases_lt}
 use Rattle.std.proofs.lemmas.Bool.Decides.{nat_tests}

@@ -1,12 +1,11 @@
 -- The values of a band that aren't 0, found by the bits of a word.
-use Rattle.std.proofs.Common.{◌≡◌, ◌≢◌, ℕ, zero, suc, ◌+◌, ◌-◌, ◌*◌, ◌/◌, ◌^◌, ◌<◌, ◌≤◌, List, [], ◌∷◌, ◌++◌, length, drop, drop-drop, get_or, refl, sym, ap, ◌∙◌, subst, arith, add-one, ℤ, pos, negsuc, ◌%◌, Bool, true, false, cond, lit≤, ⊎_elim}
-use Rattle.std.specs.Prelude.{flat_map}
+use Rattle.std.proofs.Common.{◌≡◌, ◌≢◌, ℕ, zero, suc, ◌+◌, ◌-◌, ◌*◌, ◌/◌, ◌^◌, ◌<◌, ◌≤◌, List, [], ◌∷◌, ◌++◌, length, drop, drop-drop, get_or, refl, sym, ap, ◌∙◌, subst, arith, add-one, ℤ, pos, negsuc, ◌%◌, Bool, true, false, cond, lit≤, ⊎_elim, flat_map, length-drop, get_or-drop}
 use Rattle.std.proofs.Math.Seq.{drop-cons}
 use Rattle.std.proofs.lemmas.Bool.{cases_lt}
 use Rattle.std.proofs.lemmas.List.Concat.{flat_map-append}
 use Rattle.std.specs.Int.{trailing_zeros}
 use mir.Syntax.{w64}
-use Rattle.std.proofs.lemmas.List.{length-drop, drop_all, get_or-drop}
+use Rattle.std.proofs.lemmas.List.{drop_all}
 use lib.Bits.{bit_and, and_self}
 use Rattle.std.proofs.lemmas.Nat.{and_block}
 use Rattle.std.proofs.lemmas.Simd.{trailing_mask_l, leading_from_mask_l}

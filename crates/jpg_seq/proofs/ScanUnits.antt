@@ -1,9 +1,7 @@
 -- The bits of a scan's units, one unit after another.
-use Rattle.std.proofs.Common.{◌≡◌, ℕ, Bool, true, false, List, [], ◌∷◌, ◌++◌, drop, Option, None, Some, refl, sym, ap, ◌∙◌, subst, ℤ, pos, cond, ◌==◌}
-use Rattle.std.specs.Prelude.{map, flat_map, slice_index_or, ◌||◌, ◌-ℤ◌, unwrap_or}
+use Rattle.std.proofs.Common.{◌≡◌, ℕ, Bool, true, false, List, [], ◌∷◌, ◌++◌, drop, Option, None, Some, refl, sym, ap, ◌∙◌, subst, ℤ, pos, cond, ◌==◌, map, flat_map, slice_index_or, ◌||◌, ◌-ℤ◌, unwrap_or, append_assoc}
 use Rattle.std.specs.List.{All}
 use Rattle.std.specs.Option.{option_map}
-use Rattle.std.proofs.lemmas.List.{append_assoc}
 use Rattle.std.proofs.lemmas.List.Elements.{All-head, All-tail}
 use Rattle.jpg_spec.specs.Codes.{Code}
 use Rattle.jpg_spec.specs.Lists.{is_among}

@@ -1,10 +1,9 @@
 -- Values that ten bits determine at once.
-use Rattle.std.proofs.Common.{◌≡◌, ◌⊎◌, ℕ, ◌+◌, ◌-◌, ◌*◌, ◌/◌, ◌%◌, ◌<◌, ◌≤◌, Bool, List, [], ◌∷◌, ◌++◌, length, take, drop, get_or, set, refl, sym, ap, ◌∙◌, subst, arith, ⊎_elim, inl, inr}
-use Rattle.std.specs.Prelude.{◌==◌}
+use Rattle.std.proofs.Common.{◌≡◌, ◌⊎◌, ℕ, ◌+◌, ◌-◌, ◌*◌, ◌/◌, ◌%◌, ◌<◌, ◌≤◌, Bool, List, [], ◌∷◌, ◌++◌, length, take, drop, get_or, set, refl, sym, ap, ◌∙◌, subst, arith, ⊎_elim, inl, inr, ◌==◌, append_assoc, append-nil, length-append, length-take-le, take-append-drop, take-take, take_all}
 use Rattle.std.specs.List.{Contains}
 use Rattle.std.proofs.lemmas.Bool.{cases_lt}
 use Rattle.std.proofs.lemmas.Grind.{elements}
-use Rattle.std.proofs.lemmas.List.{append_assoc, append-nil, drop-take, length-append, length-take-le, take-append-drop, take-take, take_all}
+use Rattle.std.proofs.lemmas.List.{drop-take}
 use Rattle.jpg_spec.specs.Bits.{bits_of}
 use Rattle.jpg_spec.specs.Codes.{Code}
 use Rattle.jpg_spec.specs.Parts.{IsFront}

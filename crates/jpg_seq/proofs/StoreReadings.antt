@@ -1,8 +1,6 @@
 -- Bits of a store, taken unit by unit.
-use Rattle.std.proofs.Common.{◌≡◌, ℕ, ◌+◌, ◌-◌, ◌<◌, ◌≤◌, Bool, List, [], ◌∷◌, ◌++◌, length, refl, sym, ap, ◌∙◌, subst, arith, pos}
-use Rattle.std.specs.Prelude.{slice_get, Some, Result, Ok, Err}
+use Rattle.std.proofs.Common.{◌≡◌, ℕ, ◌+◌, ◌-◌, ◌<◌, ◌≤◌, Bool, List, [], ◌∷◌, ◌++◌, length, refl, sym, ap, ◌∙◌, subst, arith, pos, slice_get, Some, Result, Ok, Err, append_assoc}
 use Rattle.std.specs.List.{All}
-use Rattle.std.proofs.lemmas.List.{append_assoc}
 use Rattle.std.proofs.lemmas.List.Elements.{All-head, All-weaker}
 use Rattle.jpg_spec.specs.Elements.{UnitLeft, Standing, Covers, at_start}
 use Rattle.jpg_spec.specs.Geometry.{Frame, padded_blocks}

@@ -1,6 +1,5 @@
 -- Values within bounds, as tests.
-use Rattle.std.proofs.Common.{◌≡◌, ℕ, zero, suc, ◌-◌, ◌^◌, ◌<◌, ◌≤◌, Bool, true, false, [], ◌∷◌, refl, ap, ◌∙◌, arith, ℤ, pos, ◌≤ℤ◌, ◌&&◌, inl, inr}
-use Rattle.std.specs.Prelude.{int_le, nat_abs, nat_lt, nat_le, ◌||◌, ◌==◌, ◌%◌, ◌/◌}
+use Rattle.std.proofs.Common.{◌≡◌, ℕ, zero, suc, ◌-◌, ◌^◌, ◌<◌, ◌≤◌, Bool, true, false, [], ◌∷◌, refl, ap, ◌∙◌, arith, ℤ, pos, ◌≤ℤ◌, ◌&&◌, inl, inr, int_le, nat_abs, nat_lt, nat_le, ◌||◌, ◌==◌, ◌%◌, ◌/◌}
 use Rattle.std.proofs.lemmas.Int.{ints}
 use Rattle.std.proofs.lemmas.Bool.Decides.{nat_tests}
 use Rattle.std.proofs.Math.Nat.{pow-le-pow_right}

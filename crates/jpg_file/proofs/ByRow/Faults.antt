@@ -1,7 +1,7 @@
 -- Where a fault stops a scan that is read MCU row by MCU row: which MCU rows the bytes up to it complete.
-use Rattle.std.proofs.Common.{◌≡◌, ◌+◌, ◌<◌, ◌≤◌, Bool, List, [], ◌∷◌, ◌++◌, length, refl, sym, ap, ◌∙◌, subst, arith, inl, ◌⊎◌, ⊎_elim, ℤ, ℕ, ◌-◌, ◌*◌, cond, inr, suc, ◌/◌, ◌%◌, true, false, take, get_or, Err, Ok}
+use Rattle.std.proofs.Common.{◌≡◌, ◌+◌, ◌<◌, ◌≤◌, Bool, List, [], ◌∷◌, ◌++◌, length, refl, sym, ap, ◌∙◌, subst, arith, inl, ◌⊎◌, ⊎_elim, ℤ, ℕ, ◌-◌, ◌*◌, cond, inr, suc, ◌/◌, ◌%◌, true, false, take, get_or, Err, Ok, append_assoc, append-nil, length-append, replicate, Result}
 use Rattle.std.proofs.lemmas.Bool.{cases_lt}
-use Rattle.std.proofs.lemmas.List.{append_assoc, append-nil, append_cancel_left, length-append, take_more}
+use Rattle.std.proofs.lemmas.List.{append_cancel_left, take_more}
 use Rattle.jpg_spec.specs.Elements.{Coding, Covers, Element, UnitLeft, at_start}
 use Rattle.jpg_spec.specs.Parts.{StandsInUnits, in_code}
 use Rattle.jpg_spec.specs.ScanFaults.{DataReveals}
@@ -45,7 +45,6 @@ use Rattle.jpg_file.proofs.Scans.ScanBytes.{of_place, InInterval, data_at, due_a
 use Rattle.jpg_file.proofs.ByRow.StripRows.{kind_at, scan_of_place, seq_of}
 use Rattle.jpg_file.specs.declared.read.scan.ScanWork.{ScanWork}
 use Rattle.jpg_spec.proofs.Headers.SameNumbers.{some_not_zero}
-use Rattle.std.specs.Prelude.{replicate, Result}
 use Rattle.jpg_spec.specs.FirstFault.{HoldsUnits}
 use Rattle.jpg_spec.proofs.Bits.DataFacts.{bits_join, completes_holds}
 use Rattle.jpg_spec.proofs.Files.ScanSteps.{marker_code}

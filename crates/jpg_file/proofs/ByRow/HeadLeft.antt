@@ -1,8 +1,6 @@
 -- The head of a picture whose MCU rows are read, at the end of its first scan header, is that of the picture where its file
 -- ends.
-use Rattle.std.proofs.Common.{◌≡◌, ◌⊎◌, ℕ, List, ◌∷◌, ◌++◌, length, ◌<◌, refl, sym, ap, ◌∙◌, subst, inl, inr, Option, Some, None}
-use Rattle.std.specs.Prelude.{reverse}
-use Rattle.std.proofs.lemmas.List.{append_assoc}
+use Rattle.std.proofs.Common.{◌≡◌, ◌⊎◌, ℕ, List, ◌∷◌, ◌++◌, length, ◌<◌, refl, sym, ap, ◌∙◌, subst, inl, inr, Option, Some, None, reverse, append_assoc}
 use Rattle.jpg_spec.specs.Colours.{colours_of}
 use Rattle.jpg_spec.specs.Early.{EndsAfter, EndsInside, MeansEarly, segments_with}
 use Rattle.jpg_spec.specs.FileMeaning.{Leads, Means, meaning_of}

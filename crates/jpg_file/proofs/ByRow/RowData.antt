@@ -1,5 +1,5 @@
 -- Bits, and the data of a scan, while an MCU row is read, of which some bits may wait.
-use Rattle.std.proofs.Common.{◌≡◌, ℕ, Bool, List, sym, subst, ◌+◌, ◌-◌, ◌*◌, ◌/◌, ◌≤◌, length, drop, get_or, refl, ap, ◌∙◌, arith, false, [], ◌∷◌, ◌++◌, Ok, Err, take}
+use Rattle.std.proofs.Common.{◌≡◌, ℕ, Bool, List, sym, subst, ◌+◌, ◌-◌, ◌*◌, ◌/◌, ◌≤◌, length, drop, get_or, refl, ap, ◌∙◌, arith, false, [], ◌∷◌, ◌++◌, Ok, Err, take, append_assoc}
 use Rattle.jpg_coefs.specs.Machine.{Interval, TakesBits, Chain, Kind}
 use Rattle.jpg_coefs.specs.Picture.{Picture}
 use Rattle.jpg_coefs.specs.declared.machine.Taken.{Taken}
@@ -20,7 +20,6 @@ use Rattle.jpg_file.specs.Read.RowData.{HalfData, AfterBytes, TakesRun}
 use Rattle.jpg_file.specs.Read.ScanBlocks.{CanTake, TakesBitsInto, TakesBytesInto}
 use Rattle.jpg_file.specs.declared.read.rows.RowWork.{RowWork}
 use Rattle.jpg_file.proofs.Scans.Runs.{given, run_given, some_given, answers_after}
-use Rattle.std.proofs.lemmas.List.{append_assoc}
 use Rattle.jpg_spec.specs.Items.{Item}
 use Rattle.jpg_spec.specs.ScanReading.{ScanPlace, ScanAt, with_byte}
 use Rattle.jpg_spec.specs.declared.frame.Limits.{Limits}

@@ -1,7 +1,5 @@
 -- A file that is read MCU row by MCU row, and a piece of it.
-use Rattle.std.proofs.Common.{◌≡◌, ◌⊎◌, ℕ, ◌+◌, ◌-◌, ◌<◌, ◌≤◌, Bool, true, false, List, [], ◌∷◌, ◌++◌, length, take, drop, get_or, refl, sym, ap, ◌∙◌, subst, arith, inl, inr, Some, None, Ok, Err}
-use Rattle.std.specs.Prelude.{Option, Result, is_some}
-use Rattle.std.proofs.lemmas.List.{append-nil, length-append, length-drop, length-take-le, take_all}
+use Rattle.std.proofs.Common.{◌≡◌, ◌⊎◌, ℕ, ◌+◌, ◌-◌, ◌<◌, ◌≤◌, Bool, true, false, List, [], ◌∷◌, ◌++◌, length, take, drop, get_or, refl, sym, ap, ◌∙◌, subst, arith, inl, inr, Some, None, Ok, Err, Option, Result, is_some, append-nil, length-append, length-drop, length-take-le, take_all}
 use Rattle.jpg_spec.specs.Markers.{Segment}
 use Rattle.jpg_spec.specs.RowsParsed.{BeginsScanOfAll}
 use Rattle.jpg_spec.specs.declared.fault.FaultAt.{FaultAt}
@@ -12,9 +10,9 @@ use Rattle.jpg_base.specs.declared.stop.Stop.{Stop}
 use Rattle.jpg_base.specs.declared.stop.Stop.TheVariants as stop
 use Rattle.jpg_file.specs.Read.File.{IsStop, RepresentsFile, keeping_of, limits_of}
 use Rattle.jpg_file.specs.Read.FirstHeader.{IsFirstHeaderOf}
-use Rattle.jpg_file.specs.Read.PieceTaken.{ReadsOn, ReadsPiece, TakesBytes}
+use Rattle.jpg_file.specs.Read.PieceTaken.{PieceFacts, ReadsOn, ReadsPiece, TakesBytes}
 use Rattle.jpg_file.specs.Read.ReadFile.{AsksForMemory, EndsBetweenItems, IsStopOf, KeepsHeadAt}
-use Rattle.jpg_file.specs.Read.RowFaults.{FaultsFed, FaultsResumed, RowsFault}
+use Rattle.jpg_file.specs.Read.RowFaults.{FaultsResumed, RowsFault}
 use Rattle.jpg_file.specs.Read.RowPieces.{AfterRowsPiece, CountsFed, HasLastByte, IfSparing, KeepsWork, RowsGo, RowsGive, RowsOpen}
 use Rattle.jpg_file.specs.Read.RowsSoFar.{LacksRow, RowsSoFar}
 use Rattle.jpg_file.specs.Read.RowTurns.{unfinished}
@@ -98,7 +96,7 @@ keeps_then a b c k l = record {
 
 -- with some more bytes
 keeps_some : {run : List ℕ} {n : ℕ} {answer : Step} (work new : StripWork) → TakesBytes work run n answer new → KeepsWork work new
-keeps_some {answer = answer} work new t = record { by_row = t.by_row; plain = t.plain; some = some_stays answer work.rows new.rows t.rows; strip = t.strip; keeping = t.keeping; sparing = t.sparing }
+keeps_some {answer = answer} work new t = record { by_row = t.by_row; plain = λ none. (t.fresh none).plain; some = some_stays answer work.rows new.rows t.rows; strip = λ some. (t.current some).strip; keeping = t.keeping; sparing = t.sparing }
 
 -- there is memory
 wants_none : {run : List ℕ} {n : ℕ} (e : Stop) (old work new : StripWork) → KeepsWork old work → TakesBytes work run n (step.Ended e) new → IfSparing old (Err e) new
@@ -106,8 +104,8 @@ wants_none (stop.Fault f) old work new k t none spares = tt
 wants_none stop.NoMemory old work new k t none spares = by (none_or_some work.rows)
   where
     by : (work.rows ≡ None) ⊎ (is_some work.rows ≡ true) → new.rows ≡ None
-    by (inl e) = t.stops e
-    by (inr e) = absurd (t.memory e (k.sparing none spares))
+    by (inl e) = (t.fresh e).stops
+    by (inr e) = absurd ((t.current e).memory (k.sparing none spares))
 
 -- WHAT IS KNOWN remains known, and MCU rows are counted
 abbrev KnowsAfter : Limits → List ℕ → Step → Option RowWork → Option StripHead → Type 0
@@ -141,9 +139,9 @@ known_some {run = run} {n = n} {answer = answer} limits bytes work new go k t = 
   where
     by : (o : Option RowWork) → work.rows ≡ o → KnowsRows limits bytes 0 o work.strip → StripGoes limits bytes o work.file → CountsStrip answer o new.rows → KnowsAfter limits (bytes ++ take n run) answer new.rows new.strip
     by None is k g c =
-        none_known limits (bytes ++ take n run) answer new.rows new.strip (t.no is)
-        (subst (λ (l : Limits). RepresentsFile l bytes work.file → KnowsRows l (bytes ++ take n run) 0 new.rows new.strip) (strip_limits limits bytes None work.file g) (t.known is bytes) g)
-    by (Some rows) is k g c = subst (λ (s : Option StripHead). KnowsAfter limits (bytes ++ take n run) answer new.rows s) (sym (t.strip (ap is_some is))) (known_on (take n run) answer rows new.rows c k)
+        none_known limits (bytes ++ take n run) answer new.rows new.strip (t.fresh is).no
+        (subst (λ (l : Limits). RepresentsFile l bytes work.file → KnowsRows l (bytes ++ take n run) 0 new.rows new.strip) (strip_limits limits bytes None work.file g) ((t.fresh is).known bytes) g)
+    by (Some rows) is k g c = subst (λ (s : Option StripHead). KnowsAfter limits (bytes ++ take n run) answer new.rows s) (sym (t.current (ap is_some is)).strip) (known_on (take n run) answer rows new.rows c k)
 
 -- NONE IS BEING READ: if an MCU row is, nothing is claimed
 some_after : (limits : Limits) (bytes : List ℕ) (answer : Step) (rows : RowWork) → NoneAfter limits bytes answer (Some rows)
@@ -159,7 +157,7 @@ none_some {run = run} {n = n} {answer = answer} limits bytes work new go none ro
 
     by : (o : Option RowWork) → work.rows ≡ o → NoRowsIn limits bytes o → StripGoes limits bytes o work.file → CountsStrip answer o new.rows → NoneAfter limits (bytes ++ take n run) answer new.rows
     by None is k g c =
-        subst (λ (l : Limits). RepresentsFile l bytes work.file → HasNoRows l bytes → NoneAfter l (bytes ++ take n run) answer new.rows) (strip_limits limits bytes None work.file g) (t.none is row bytes) g k
+        subst (λ (l : Limits). RepresentsFile l bytes work.file → HasNoRows l bytes → NoneAfter l (bytes ++ take n run) answer new.rows) (strip_limits limits bytes None work.file g) ((t.fresh is).none row bytes) g k
     by (Some rows) is k g c = later rows new.rows c
 
 -- if none is after a piece
@@ -266,6 +264,9 @@ AfterSome limits old piece used step.Whole new = ReadsOn limits old piece (Ok (f
 AfterSome limits old piece used (step.Ended e) new = ReadsOn limits old piece (Err e) new
 
 module _ {limits : Limits} {piece : List ℕ} {done : ℕ} {old work : StripWork} (s : PieceBegun limits piece done old work) where
+  pub work_limits : ((bytes : List ℕ) × RowsGo limits bytes old.rows old.file) → limits_of work.file ≡ limits
+  work_limits o = strip_limits limits (o.0 ++ take done piece) work.rows work.file (s.goes o.0 o.1).goes
+
   -- AT A FAULT after further bytes
   rows_fault : (bytes more : List ℕ) (new : StripWork) → RowsGo limits bytes old.rows old.file → KeepsWork work new → (is_some work.rows ≡ true → new.file.head ≡ work.file.head) → (work.rows ≡ None → new.rows ≡ None)
       → ((mid : RowWork) → work.rows ≡ Some mid → GoesByRow limits (bytes ++ take done piece) work.file mid → RowsSoFar limits ((bytes ++ take done piece) ++ more) mid) → RowsFault limits bytes ((bytes ++ take done piece) ++ more) old.rows new new.rows
@@ -307,17 +308,15 @@ module _ {limits : Limits} {piece : List ℕ} {done : ℕ} {old work : StripWork
         let a = piece_long limits bytes piece done v.file (omega (arith, many, v.taken)) v.stands in
         (a.0, omega (arith, within limits front v.file v.stands, full bytes h, length-append bytes (take done piece)), subst (λ o. KeepsHeadAt limits (bytes ++ piece) (record { fault = InputTooLong; at = limits.input }) o) v.head a.1));
     rows = tt;
-    known = λ none bytes h. tt;
     keeps = s.keeps;
     memory = λ none spares. tt;
-    none = λ none by bytes h no. subst (λ (l : List ℕ). NoRowsIn limits l work.rows) (sym (all bytes h)) (s.none none by bytes h no);
-    faults = λ bytes h.
+    facts = λ bytes h.
         (let front = bytes ++ take done piece in
-        let end : front ++ [] ≡ front = append-nil front in
-        subst (λ (x : List ℕ). RowsFault limits bytes x old.rows work work.rows) (end ∙ sym (all bytes h))
-        (rows_fault bytes [] work h (keeps_same work) (λ some. refl) (λ none. none) (λ mid is g. subst (λ (x : List ℕ). RowsSoFar limits x mid) (sym end) (goes_completes limits front work.file mid g))));
-    last = λ bytes h. tt;
-    asks = λ none bytes h. tt;
+        let end : front ++ [] ≡ front = append-nil front in (
+          λ none by no. subst (λ (l : List ℕ). NoRowsIn limits l work.rows) (sym (all bytes h)) (s.none none by bytes h no),
+          subst (λ (x : List ℕ). RowsFault limits bytes x old.rows work work.rows) (end ∙ sym (all bytes h))
+              (rows_fault bytes [] work h (keeps_same work) (λ some. refl) (λ none. none) (λ mid is g. subst (λ (x : List ℕ). RowsSoFar limits x mid) (sym end) (goes_completes limits front work.file mid g))),
+        ));
   }
     where
       whole : (bytes : List ℕ) → RowsGo limits bytes old.rows old.file → ReadWhole limits (bytes ++ take done piece) work.file
@@ -342,13 +341,12 @@ module _ {limits : Limits} {piece : List ℕ} {done : ℕ} {old work : StripWork
         let v = strip_whole limits (bytes ++ piece) work.rows work.file g.goes in
         (g, omega (arith, counted limits (bytes ++ piece) v.file v.stands, v.taken, short)));
     rows = s.counts;
-    known = λ none bytes h. subst (λ l. KnowsRows limits (bytes ++ l) 0 work.rows work.strip) is (s.known none bytes h);
     keeps = s.keeps;
     memory = λ none spares. tt;
-    none = λ none by bytes h no. subst (λ l. NoRowsIn limits (bytes ++ l) work.rows) is (s.none none by bytes h no);
-    faults = λ bytes h. tt;
-    last = λ bytes h. tt;
-    asks = λ none bytes h. tt;
+    facts = λ bytes h. (
+      λ none. subst (λ l. KnowsRows limits (bytes ++ l) 0 work.rows work.strip) is (s.known none bytes h),
+      λ none by no. subst (λ l. NoRowsIn limits (bytes ++ l) work.rows) is (s.none none by bytes h no),
+    );
   }
     where
       is : take done piece ≡ piece
@@ -402,7 +400,7 @@ module _ {limits : Limits} {piece : List ℕ} {done : ℕ} {old work : StripWork
       faulted f t bytes h =
           let front = bytes ++ take done piece in
           subst (λ (x : List ℕ). RowsFault limits bytes x old.rows new new.rows) (is bytes ∙ sym (up_to f t bytes h))
-          (rows_fault bytes (take n (drop done piece)) new h (keeps_some work new t) t.head t.stops
+          (rows_fault bytes (take n (drop done piece)) new h (keeps_some work new t) (λ some. (t.current some).head) (λ none. (t.fresh none).stops)
           (λ mid has g. ((run (step.Ended (stop.Fault f)) t bytes h).current mid has).1 f refl))
 
       -- those before the last one complete no further row
@@ -416,7 +414,7 @@ module _ {limits : Limits} {piece : List ℕ} {done : ℕ} {old work : StripWork
           there = (let count = r.count in let same : done + r.early ≡ early = omega (arith, all, count) in front_is bytes piece done r.early ∙ ap (λ k. bytes ++ take k piece) same)
 
           at : (o : Option RowWork) → work.rows ≡ o → (a : Option RowWork) → CountsStrip step.Row o a → LacksRow limits (bytes ++ take early piece) a
-          at None none a c = absurd (t.no none)
+          at None none a c = absurd (t.fresh none).no
           at (Some mid) has None c = absurd c
           at (Some mid) has (Some after) c = (mid, c, subst (λ (l : List ℕ). RowsSoFar limits l mid) there ((r.current mid has).0))
 
@@ -442,46 +440,30 @@ module _ {limits : Limits} {piece : List ℕ} {done : ℕ} {old work : StripWork
       by step.Row t = record {
         after = λ bytes h. (record { row = came step.Row t bytes h; last = byte step.Row t bytes h }, (few step.Row t bytes h).0);
         rows = counts_then step.Row old.rows work.rows new.rows s.counts t.rows;
-        known = knows step.Row t;
         keeps = keeps step.Row t;
         memory = λ none spares. tt;
-        none = λ none row bytes h no. tt;
-        faults = λ bytes h. tt;
-        last = lacks t;
-        asks = λ none bytes h. tt;
+        facts = λ bytes h. (λ none. knows step.Row t none bytes h, lacks t bytes h);
       }
       by step.Whole t = record {
         after = λ bytes h. (let m = few step.Whole t bytes h in (came step.Whole t bytes h, m.1, m.0));
         rows = counts_then step.Whole old.rows work.rows new.rows s.counts t.rows;
-        known = knows step.Whole t;
         keeps = keeps step.Whole t;
         memory = λ none spares. tt;
-        none = nothing step.Whole t;
-        faults = λ bytes h. tt;
-        last = λ bytes h. tt;
-        asks = λ none bytes h. tt;
+        facts = λ bytes h. (λ none. knows step.Whole t none bytes h, λ none row. nothing step.Whole t none row bytes h);
       }
       by (step.Ended (stop.Fault f)) t = record {
         after = stopped (stop.Fault f) t;
         rows = tt;
-        known = λ none bytes h. tt;
         keeps = keeps (step.Ended (stop.Fault f)) t;
         memory = λ none spares. tt;
-        none = λ none row bytes h no. subst (λ (l : List ℕ). NoRowsIn limits l new.rows) (sym (up_to f t bytes h)) (nothing (step.Ended (stop.Fault f)) t none row bytes h no);
-        faults = faulted f t;
-        last = λ bytes h. tt;
-        asks = λ none bytes h. tt;
+        facts = λ bytes h. (λ none row no. subst (λ (l : List ℕ). NoRowsIn limits l new.rows) (sym (up_to f t bytes h)) (nothing (step.Ended (stop.Fault f)) t none row bytes h no), faulted f t bytes h);
       }
       by (step.Ended stop.NoMemory) t = record {
         after = stopped stop.NoMemory t;
         rows = tt;
-        known = λ none bytes h. tt;
         keeps = keeps (step.Ended stop.NoMemory) t;
         memory = wants_none stop.NoMemory old work new s.keeps t;
-        none = λ none row bytes h no. tt;
-        faults = λ bytes h. tt;
-        last = λ bytes h. tt;
-        asks = asks t;
+        facts = λ bytes h none. asks t none bytes h;
       }
 
 -- THE BITS that waited: what they leave, and their result
@@ -515,13 +497,19 @@ module _ {answer : Step} {old new : StripWork} (r : Resumed old answer new) wher
 pub resumed_go : (limits : Limits) (bytes : List ℕ) (old new : StripWork) → Resumed old step.More new → RowsOpen limits bytes old.rows old.file → RowsGo limits bytes new.rows new.file
 resumed_go limits bytes old new r h = record { goes = goes_on limits bytes new.rows new.file (resumed r limits bytes h); last = λ some. h.last (sym r.stays ∙ some) }
 
-faults_then : (limits : Limits) (bytes piece : List ℕ) (answer : Result FedRow Stop) (a b : Option RowWork) (new : StripWork) → is_some b ≡ is_some a → CountsStrip step.More a b → FaultsFed limits bytes piece answer b new → FaultsFed limits bytes piece answer a new
-faults_then limits bytes piece (Ok x) a b new stays counts k = tt
-faults_then limits bytes piece (Err stop.NoMemory) a b new stays counts k = tt
-faults_then limits bytes piece (Err (stop.Fault f)) None None new stays counts k = k
-faults_then limits bytes piece (Err (stop.Fault f)) None (Some y) new stays counts k = absurd cc
-faults_then limits bytes piece (Err (stop.Fault f)) (Some x) None new stays counts k = absurd counts
-faults_then limits bytes piece (Err (stop.Fault f)) (Some x) (Some y) new stays counts k = (rows_same limits (take f.at (bytes ++ piece)) y x counts k.0, k.1)
+fault_then : (limits : Limits) (bytes all : List ℕ) (a b : Option RowWork) (new : StripWork) → is_some b ≡ is_some a → CountsStrip step.More a b → RowsFault limits bytes all b new new.rows → RowsFault limits bytes all a new new.rows
+fault_then limits bytes all None None new stays counts k = k
+fault_then limits bytes all None (Some y) new stays counts k = absurd cc
+fault_then limits bytes all (Some x) None new stays counts k = absurd counts
+fault_then limits bytes all (Some x) (Some y) new stays counts k = (rows_same limits all y x counts k.0, k.1)
+
+facts_then : {old mid : StripWork} (limits : Limits) (bytes piece : List ℕ) (answer : Result FedRow Stop) (new : StripWork) → Resumed old step.More mid → PieceFacts limits bytes piece answer mid new → PieceFacts limits bytes piece answer old new
+facts_then {old = old} {mid = mid} limits bytes piece (Ok fed.More) new r k = (λ none. k.0 (none_stays old.rows mid.rows r.stays none), λ none row. k.1 (none_stays old.rows mid.rows r.stays none) (r.by_row ∙ row))
+facts_then {old = old} {mid = mid} limits bytes piece (Ok (fed.Row used)) new r k = (λ none. k.0 (none_stays old.rows mid.rows r.stays none), k.1)
+facts_then {old = old} {mid = mid} limits bytes piece (Ok (fed.Done used)) new r k = (λ none. k.0 (none_stays old.rows mid.rows r.stays none), λ none row. k.1 (none_stays old.rows mid.rows r.stays none) (r.by_row ∙ row))
+facts_then {old = old} {mid = mid} limits bytes piece (Err (stop.Fault f)) new r k =
+    (λ none row. k.0 (none_stays old.rows mid.rows r.stays none) (r.by_row ∙ row), fault_then limits bytes (take f.at (bytes ++ piece)) old.rows mid.rows new r.stays r.rows k.1)
+facts_then limits bytes piece (Err stop.NoMemory) new r k = k
 
 pub resumed_more : {limits : Limits} {piece : List ℕ} {answer : Result FedRow Stop} {old mid new : StripWork} → Resumed old step.More mid → ReadsOn limits mid piece answer new → ReadsPiece limits old piece answer new
 resumed_more {limits = limits} {piece = piece} {answer = answer} {old = old} {mid = mid} {new = new} r t =
@@ -529,13 +517,9 @@ resumed_more {limits = limits} {piece = piece} {answer = answer} {old = old} {mi
     record {
       after = λ bytes h. t.after bytes (resumed_go limits bytes old mid r h);
       rows = counts_fed answer old.rows mid.rows new.rows r.rows t.rows;
-      known = λ none bytes h. t.known (none_stays old.rows mid.rows r.stays none) bytes (resumed_go limits bytes old mid r h);
       keeps = keeps_then old mid new kept t.keeps;
       memory = λ none spares. t.memory (kept.keeping ∙ none) (kept.sparing none spares);
-      none = λ none row bytes h no. t.none (none_stays old.rows mid.rows r.stays none) (r.by_row ∙ row) bytes (resumed_go limits bytes old mid r h) no;
-      faults = λ bytes h. faults_then limits bytes piece answer old.rows mid.rows new r.stays r.rows (t.faults bytes (resumed_go limits bytes old mid r h));
-      last = λ bytes h. t.last bytes (resumed_go limits bytes old mid r h);
-      asks = λ none bytes h. t.asks none bytes (resumed_go limits bytes old mid r h);
+      facts = λ bytes h. facts_then limits bytes piece answer new r (t.facts bytes (resumed_go limits bytes old mid r h));
     }
 
 -- a further MCU row
@@ -545,13 +529,9 @@ resumed_row limits piece old new r = record {
       (let a = resumed r limits bytes h in
       (subst (λ x. RowsGive limits x new.rows new.file) (sym (append-nil bytes)) (record { row = a; last = h.last (sym r.stays ∙ given_some limits bytes new.rows new.file a) }), omega arith));
   rows = r.rows;
-  known = λ none. absurd (let e : step.Row ≡ step.More = r.plain (ap is_some none) in cc);
   keeps = resumed_keeps r;
   memory = λ none spares. tt;
-  none = λ none row bytes h no. tt;
-  faults = λ bytes h. tt;
-  last = λ bytes h early is. absurd (omega (arith, is));
-  asks = λ none bytes h. tt;
+  facts = λ bytes h. (λ none. absurd (let e : step.Row ≡ step.More = r.plain (ap is_some none) in cc), λ early is. absurd (omega (arith, is)));
 }
 
 -- a fault that they have
@@ -566,13 +546,10 @@ resumed_stop limits piece (stop.Fault f) old new r = record {
         inl (subst (λ x. IsFirstHeaderOf limits x new.file.head) (sym (is bytes h)) (subst (λ o. IsFirstHeaderOf limits bytes o) (sym r.head) (open_head limits bytes old.rows old.file h.stands))),
       ));
   rows = tt;
-  known = λ none bytes h. tt;
   keeps = resumed_keeps r;
   memory = λ none spares. tt;
-  none = λ none. absurd (clash (is_some old.rows) some (ap is_some none));
-  faults = λ bytes h. subst (λ (x : List ℕ). RowsFault limits bytes x old.rows new new.rows) (sym (is bytes h)) (by bytes old.rows refl h.stands);
-  last = λ bytes h. tt;
-  asks = λ none bytes h. tt;
+  facts = λ bytes h.
+      (λ none. absurd (clash (is_some old.rows) some (ap is_some none)), subst (λ (x : List ℕ). RowsFault limits bytes x old.rows new new.rows) (sym (is bytes h)) (by bytes old.rows refl h.stands));
 }
   where
     some : is_some old.rows ≡ true

@@ -1,6 +1,5 @@
 -- From one MCU row of a scan of all components to the next: blocks, and how many units and MCU rows are left.
-use Rattle.std.proofs.Common.{◌≡◌, ℕ, zero, suc, ◌+◌, ◌-◌, ◌*◌, ◌^◌, ◌<◌, ◌≤◌, ◌==◌, Bool, true, false, cond, List, [], ◌∷◌, length, refl, sym, ap, ◌∙◌, subst, arith, ⊎_elim, ◌/◌, ◌%◌, ◌++◌, take, drop, get_or, inl, inr, Ok}
-use Rattle.std.specs.Prelude.{Result, nat_lt, replicate, min, ◌&&◌, ◌||◌, map, flat_map}
+use Rattle.std.proofs.Common.{◌≡◌, ℕ, zero, suc, ◌+◌, ◌-◌, ◌*◌, ◌^◌, ◌<◌, ◌≤◌, ◌==◌, Bool, true, false, cond, List, [], ◌∷◌, length, refl, sym, ap, ◌∙◌, subst, arith, ⊎_elim, ◌/◌, ◌%◌, ◌++◌, take, drop, get_or, inl, inr, Ok, Result, nat_lt, replicate, min, ◌&&◌, ◌||◌, map, flat_map, get_or-drop, get_or-take, length-append, length-drop, length-take}
 use Rattle.std.proofs.lemmas.Bool.{cases_lt}
 use Rattle.std.proofs.lemmas.Bool.Decides.{nat_tests}
 use Rattle.std.proofs.lemmas.List.Elements.{All-get_or, All-nil}
@@ -42,7 +41,7 @@ use Rattle.jpg_file.specs.declared.read.step.Step.TheVariants as step
 use Rattle.jpg_file.specs.declared.read.machine.ScanReader.{ScanReader}
 use Rattle.jpg_file.specs.declared.read.scan.ScanWork.{ScanWork}
 use Rattle.std.specs.List.{All}
-use Rattle.std.proofs.lemmas.List.{get_or-drop, get_or-take, get_or_append_left, length-append, length-drop, length-take}
+use Rattle.std.proofs.lemmas.List.{get_or_append_left}
 use Rattle.jpg_spec.specs.Lists.{any_of, below}
 use Rattle.jpg_spec.specs.PictureInWork.{is_at}
 use Rattle.jpg_spec.specs.declared.frame.Place.{Place}

@@ -1,6 +1,5 @@
 -- The end of a file that is read MCU row by MCU row.
-use Rattle.std.proofs.Common.{◌≡◌, ℕ, zero, suc, ◌+◌, ◌*◌, ◌<◌, ◌≤◌, ◌==◌, ◌&&◌, Bool, true, false, cond, List, [], ◌∷◌, ◌++◌, length, refl, sym, ap, ◌∙◌, subst, arith, inl, inr, ◌⊎◌, None, Some, Option}
-use Rattle.std.specs.Prelude.{nat_lt, replicate, is_none}
+use Rattle.std.proofs.Common.{◌≡◌, ℕ, zero, suc, ◌+◌, ◌*◌, ◌<◌, ◌≤◌, ◌==◌, ◌&&◌, Bool, true, false, cond, List, [], ◌∷◌, ◌++◌, length, refl, sym, ap, ◌∙◌, subst, arith, inl, inr, ◌⊎◌, None, Some, Option, nat_lt, replicate, is_none}
 use Rattle.std.proofs.lemmas.Nat.{mul-le}
 use Rattle.jpg_spec.specs.Lists.{all_of, below}
 use Rattle.jpg_spec.specs.Ranges.{AreInRange}
@@ -50,7 +49,7 @@ use Rattle.jpg_file.proofs.Files.Leaving.{at_end, named_by, some_at, some_for, e
 use Rattle.jpg_file.proofs.ByRow.RowTurns.{rows_there}
 use Rattle.jpg_file.proofs.ByRow.HeadLeft.{head_of_early}
 use Rattle.jpg_file.proofs.ByRow.RealRows.{agree_rows, named_in, rows_cover}
-use Rattle.jpg_file.proofs.ByRow.RowsGiven.{TellsDue, inside_tells, place_tells, row_blocks, inside_in_range}
+use Rattle.jpg_file.proofs.ByRow.RowsGiven.{TellsDue, inside_tells, place_tells, row_blocks, inside_in_range, same_scan}
 use Rattle.jpg_file.proofs.ByRow.StripBytes.{goes_with}
 use Rattle.jpg_file.proofs.ByRow.StripRows.{rest_blank, rest_framed}
 use Rattle.jpg_scans.specs.declared.progress.Progress.{Progress}
@@ -255,8 +254,7 @@ module _ (limits : Limits) (bytes : List ℕ) (w : FileWork) (rows : RowWork) (m
       by (inl r) =
           let t = place_tells limits r.items r.contents bytes (g.stands).whole rows (scan_left r.scan.work) (inside_tells limits bytes w rows (g.stands).whole r) (r.at).at in
           let one = begun_once limits bytes before (segments_of r.items) contents r.contents begins t.begins in
-          let same : rows_of_scan limits before contents ≡ rows_of_scan limits (segments_of r.items) r.contents = ap (λ (l : List Segment). rows_of_scan limits l contents) one.0 ∙ ap (λ (l : List ℕ). rows_of_scan limits (segments_of r.items) l) one.1 in
-          let here = inside_left limits bytes w rows (g.stands).whole m r (g.stands).row (g.turned r.scan r.inside) t.begins (count ∙ same) in
+          let here = inside_left limits bytes w rows (g.stands).whole m r (g.stands).row (g.turned r.scan r.inside) t.begins (count ∙ same_scan limits bytes before (segments_of r.items) contents r.contents begins t.begins) in
           subst (λ (c : List ℕ). RowsLeft limits bytes before c m rows (g.stands).whole) (sym one.1) (subst (λ (l : List Segment). RowsLeft limits bytes l r.contents m rows (g.stands).whole) (sym one.0) here)
       by (inr r) = after_left (g.stands).whole r is begins count
 

@@ -1,5 +1,5 @@
 -- A reader of MCU rows, from one piece to the next.
-use Rattle.std.proofs.Common.{◌≡◌, ◌⊎◌, ℕ, ◌+◌, ◌<◌, ◌≤◌, Bool, false, List, ◌++◌, length, true, refl, sym, ap, ◌∙◌, subst, arith, inl, inr, Some, None}
+use Rattle.std.proofs.Common.{◌≡◌, ◌⊎◌, ℕ, ◌+◌, ◌<◌, ◌≤◌, Bool, false, List, [], ◌∷◌, ◌++◌, length, length-append, true, refl, sym, ap, ◌∙◌, subst, arith, inl, inr, Some, None, Option, replicate}
 use Rattle.jpg_spec.specs.Segments.{head_components}
 use Rattle.jpg_spec.specs.FrameHeader.{AreLimits}
 use Rattle.jpg_spec.specs.Geometry.{Frame, bounds}
@@ -13,7 +13,6 @@ use Rattle.jpg_spec.specs.Items.{segments_of}
 use Rattle.jpg_spec.specs.Scan.{Blocks}
 use Rattle.jpg_spec.specs.ScanRows.{first_rows}
 use Rattle.jpg_spec.specs.RowsParsed.{BeginsScanOfAll, CompletesRows, TellsRows, blocks_in, picture_so_far, row_places}
-use Rattle.std.specs.Prelude.{Option, replicate}
 use Rattle.jpg_file.specs.declared.read.strip_head.StripHead.{StripHead}
 use Rattle.jpg_spec.specs.declared.frame.Limits.{Limits}
 use Rattle.jpg_spec.proofs.McuRows.RowsHeader.{all_complete, begun_frame}
@@ -23,11 +22,12 @@ use Rattle.jpg_seq.proofs.ScanRows.{units_by_row}
 use Rattle.jpg_file.specs.Read.File.{EndStands, EndsFile, with_picture}
 use Rattle.jpg_file.specs.Read.FirstHeader.{IsFirstHeaderOf}
 use Rattle.jpg_file.specs.Read.ReadFile.{ReaderState}
-use Rattle.jpg_file.specs.Read.ReadRows.{AgreeInRows, HasAllBlocks, HasBegunRows, HasGivenRow, HasReadRows, IsDoneByRows}
-use Rattle.jpg_file.specs.Read.RowsKnown.{TellsStrip, rows_of_scan}
-use Rattle.jpg_file.specs.Read.RowPieces.{HasLastByte, RowsOpen}
+use Rattle.jpg_file.specs.Read.ReadRows.{AgreeInRows, HasAllBlocks, HasBegunRows, HasGivenRow, HasReadRows, IsDoneByRows, with_work}
+use Rattle.jpg_file.specs.Read.RowsKnown.{RowsKnown, TellsStrip, rows_of_scan}
+use Rattle.jpg_file.specs.Read.RowPieces.{HasLastByte, RowsGive, RowsGo, RowsOpen}
+use Rattle.jpg_file.specs.Read.RowsSoFar.{RowsSoFar}
 use Rattle.jpg_file.specs.Read.RowTurns.{unfinished}
-use Rattle.jpg_file.specs.Read.Strips.{EndsByRow, GoesByRow, RowIsWhole, RowsAfter, RowsInside, RepresentsRows}
+use Rattle.jpg_file.specs.Read.Strips.{EndsByRow, RepresentsRows}
 use Rattle.jpg_file.specs.declared.read.rows.RowWork.{RowWork}
 use Rattle.jpg_file.specs.declared.read.strip_work.StripWork.{StripWork}
 use Rattle.jpg_file.proofs.Files.FileSteps.{head_left, one_begun}
@@ -37,8 +37,7 @@ use Rattle.jpg_file.proofs.Files.PieceSteps.{file_means, stands_file}
 use Rattle.jpg_file.proofs.ByRow.HeadLeft.{head_of_whole}
 use Rattle.jpg_file.proofs.ByRow.RealRows.{agree_rows}
 use Rattle.jpg_file.proofs.ByRow.StripBytes.{open_head, strip_whole}
-use Rattle.jpg_file.proofs.ByRow.RowsGiven.{begun_on, row_fed, rows_completed}
-use Rattle.jpg_file.proofs.Files.ReaderFed.{with_work}
+use Rattle.jpg_file.proofs.ByRow.RowsGiven.{begun_on, goes_completes, row_fed, same_scan}
 use Rattle.jpg_file.specs.declared.read.file.FileWork.{FileWork}
 
 -- IF MCU ROWS ARE BEING READ: what holds before the piece
@@ -82,6 +81,77 @@ all_given limits bytes more before contents m blocks begins told all =
     let ids = head_components (head_in f contents) in
     all_complete limits (bytes ++ more) m blocks before contents (begun_on limits bytes more before contents begins) (units_by_row f ids ∙ ap (λ n. first_rows f ids n) (sym all)) (rows_stay limits bytes more m blocks told)
 
+last_within : (limits : Limits) (bytes : List ℕ) → HasLastByte limits bytes → length bytes ≤ limits.input
+last_within limits bytes l = (let short = l.short in let one = length-append l.front (l.byte ∷ []) in omega (arith, ap (λ x. length x) l.cut, one, short))
+
+-- as many MCU rows are complete as are known to be, if not all are
+pub so_far : (limits : Limits) (bytes : List ℕ) (m : ℕ) (rows : RowWork) (strip : Option StripHead) → RowsKnown limits bytes m rows strip → (unfinished rows ≡ 0 → (blocks : Blocks) × CompletesRows limits bytes m blocks) → RowsSoFar limits bytes rows
+    → (blocks : Blocks) × CompletesRows limits bytes m blocks
+so_far limits bytes m rows strip k full (inl done) = full done
+so_far limits bytes m rows strip k full (inr (before, contents, c)) =
+    let same = same_scan limits bytes k.before before k.contents contents k.begins c.begins in
+    let n = k.count in
+    let is : c.m ≡ m = omega (arith, c.count, n, same) in
+    (c.blocks, subst (λ n. CompletesRows limits bytes n c.blocks) is c.completed)
+
+-- AFTER A PIECE, by what is known of the scan that began
+module _ (r : ReaderState) (new : StripWork) (all : List ℕ) (m : ℕ) (rows : RowWork) (has : new.rows ≡ Some rows) (k : RowsKnown r.limits all m rows new.strip) where
+  abbrev begun_by : IsFirstHeaderOf r.limits all new.file.head → HasBegunRows all (with_work r new)
+  begun_by head = record { before = k.before; contents = k.contents; begins = k.begins; rows = rows; has = has; head = head; told = k.told }
+
+  -- no further MCU row is complete
+  pub more_rows : r.stop ≡ None → r.done ≡ false → RowsGo r.limits all (Some rows) new.file → length all < r.limits.input
+      → (unfinished rows ≡ 0 → (blocks : Blocks) × CompletesRows r.limits all m blocks) → HasReadRows all m (with_work r new)
+  more_rows skip_ahead undone g short full = record {
+    skip_ahead = skip_ahead;
+    undone = undone;
+    short = short;
+    stands = (let v = strip_whole r.limits all (Some rows) new.file g.goes in stands_file r.limits all v.file v.stands);
+    begun = begun_by (open_head r.limits all (Some rows) new.file g.goes.stands);
+    «open» = g.goes;
+    byte = g.last refl;
+    rows = k.count;
+    blocks = complete.0;
+    completed = complete.1;
+  }
+    where
+      complete : (blocks : Blocks) × CompletesRows r.limits all m blocks
+      complete = so_far r.limits all m rows new.strip k full (goes_completes r.limits all new.file rows g.goes)
+
+  -- the last one of them is
+  pub given_row : r.stop ≡ None → r.done ≡ false → (last : ℕ) → m ≡ last + 1 → RowsGive r.limits all (Some rows) new.file → HasGivenRow all m (with_work r new)
+  given_row skip_ahead undone last is g =
+      let w = g.row in
+      let stands : RepresentsRows r.limits all new.file rows = record { whole = w.whole; row = w.row; at = inl w.inside } in
+      let n = k.count in
+      let f = row_fed r.limits all k.before k.contents new.file rows last k.begins w (omega (arith, n, is)) in
+      record {
+        skip_ahead = skip_ahead;
+        undone = undone;
+        within = last_within r.limits all g.last;
+        begun = begun_by (open_head r.limits all (Some rows) new.file stands);
+        «open» = stands;
+        byte = g.last;
+        rows = n;
+        blocks = f.blocks;
+        told = subst (λ (x : ℕ). TellsRows r.limits all x f.blocks) (sym is) f.told;
+        last = last;
+        count = is;
+        framed = f.framed;
+        range = f.range;
+        row = f.row;
+      }
+
+-- the scan remains begun
+abbrev pub known_before : (r : ReaderState) (strip : Option StripHead) (bytes more : List ℕ) (m : ℕ) (b : RowsBefore bytes m r) (rows : RowWork) (n : ℕ) → strip ≡ r.strip → n + unfinished rows ≡ m + unfinished (b.begun).rows → RowsKnown r.limits (bytes ++ more) n rows strip
+known_before r strip bytes more m b rows n same count = record {
+  before = (b.begun).before;
+  contents = (b.begun).contents;
+  begins = begun_on r.limits bytes more (b.begun).before (b.begun).contents (b.begun).begins;
+  told = subst (λ (s : Option StripHead). TellsStrip s (frame_of r.limits (b.begun).before) (picture_so_far r.limits (b.begun).before (b.begun).contents)) (sym same) (b.begun).told;
+  count = omega (arith, b.count, count);
+}
+
 module _ (r : ReaderState) (new : StripWork) (bytes piece : List ℕ) (m : ℕ) (b : RowsBefore bytes m r) (rows : RowWork) (has : new.rows ≡ Some rows) where
   abbrev all : List ℕ
   all = bytes ++ piece
@@ -95,63 +165,15 @@ module _ (r : ReaderState) (new : StripWork) (bytes piece : List ℕ) (m : ℕ) 
   begins : BeginsScanOfAll r.limits all before contents
   begins = begun_on r.limits bytes piece before contents (b.begun).begins
 
-  -- the scan remains begun
-  abbrev begun_with : new.strip ≡ r.strip → IsFirstHeaderOf r.limits all new.file.head → HasBegunRows all (with_work r new)
-  begun_with same head = record {
-    before = before;
-    contents = contents;
-    begins = begins;
-    rows = rows;
-    has = has;
-    head = head;
-    told = subst (λ (s : Option StripHead). TellsStrip s (frame_of r.limits before) (picture_so_far r.limits before contents)) (sym same) (b.begun).told;
-  }
-
   -- NO FURTHER ONE is complete with a piece
-  pub fed_more_rows : new.strip ≡ r.strip → unfinished rows ≡ unfinished (b.begun).rows → GoesByRow r.limits all new.file rows → HasLastByte r.limits all
-      → length all < r.limits.input → HasReadRows all m (with_work r new)
-  fed_more_rows strip same g last short = record {
-    skip_ahead = b.skip_ahead;
-    undone = b.undone;
-    short = short;
-    stands = (let v = strip_whole r.limits all (Some rows) new.file g in stands_file r.limits all v.file v.stands);
-    begun = begun_with strip (open_head r.limits all (Some rows) new.file g.stands);
-    «open» = g;
-    byte = last;
-    rows = omega (arith, b.count, same);
-    blocks = complete.0;
-    completed = complete.1;
-  }
-    where
-      complete : (blocks : Blocks) × CompletesRows r.limits all m blocks
-      complete = by g.stands.at
-        where
-          by : RowsInside r.limits all new.file rows g.stands.whole ⊎ RowsAfter r.limits all new.file rows g.stands.whole → (blocks : Blocks) × CompletesRows r.limits all m blocks
-          by (inl i) = rows_completed r.limits all before contents new.file rows g.stands.whole m begins i g.none (omega (arith, b.count, same))
-          by (inr k) = (b.told, all_given r.limits bytes piece before contents m b.told (b.begun).begins b.tells (omega (arith, b.count, same, k.done)))
+  pub fed_more_rows : new.strip ≡ r.strip → unfinished rows ≡ unfinished (b.begun).rows → RowsGo r.limits all (Some rows) new.file → length all < r.limits.input → HasReadRows all m (with_work r new)
+  fed_more_rows strip same g short =
+      more_rows r new all m rows has (known_before r new.strip bytes piece m b rows m strip (omega (arith, same))) b.skip_ahead b.undone g short
+      (λ none. (b.told, all_given r.limits bytes piece before contents m b.told (b.begun).begins b.tells (omega (arith, b.count, same, none))))
 
   -- A FURTHER ONE is complete
-  pub fed_given_row : new.strip ≡ r.strip → unfinished (b.begun).rows ≡ unfinished rows + 1 → (k : RowIsWhole r.limits all new.file rows) → HasLastByte r.limits all
-      → length all ≤ r.limits.input → HasGivenRow all (m + 1) (with_work r new)
-  fed_given_row strip fewer k last within =
-      let stands : RepresentsRows r.limits all new.file rows = record { whole = k.whole; row = k.row; at = inl k.inside } in
-      let f = row_fed r.limits all before contents new.file rows m begins k (omega (arith, b.count, fewer)) in
-      record {
-        skip_ahead = b.skip_ahead;
-        undone = b.undone;
-        within = within;
-        begun = begun_with strip (open_head r.limits all (Some rows) new.file stands);
-        «open» = stands;
-        byte = last;
-        rows = omega (arith, b.count, fewer);
-        blocks = f.blocks;
-        told = f.told;
-        last = m;
-        count = refl;
-        framed = f.framed;
-        range = f.range;
-        row = f.row;
-      }
+  pub fed_given_row : new.strip ≡ r.strip → unfinished (b.begun).rows ≡ unfinished rows + 1 → RowsGive r.limits all (Some rows) new.file → HasGivenRow all (m + 1) (with_work r new)
+  fed_given_row strip fewer g = given_row r new all (m + 1) rows has (known_before r new.strip bytes piece m b rows (m + 1) strip (omega (arith, fewer))) b.skip_ahead b.undone m refl g
 
   -- ITS ITEMS, if the file is complete, encode all MCU rows
   done_rows : m ≡ rows_of_scan r.limits before contents → (w : FileWork) → (e : EndsFile r.limits all w) → HoldsRows r.limits all before contents (e.ends).items (e.ends).blocks m
@@ -203,7 +225,7 @@ module _ (r : ReaderState) (new : StripWork) (bytes piece : List ℕ) (m : ℕ) 
       → IsDoneByRows all m (record (with_work r new) { done = true })
   fed_done_rows limited strip same k =
       let w = with_picture new.file k.whole in
-      let g = begun_with strip (head_left r.limits all w k.ends) in
+      let g = begun_by r new all m rows has (known_before r new.strip bytes piece m b rows m strip (omega (arith, same))) (head_left r.limits all w k.ends) in
       let full : m ≡ rows_of_scan r.limits before contents = omega (arith, b.count, same, k.done) in
       let held = done_rows full w k.ends in
       record {

@@ -1,9 +1,8 @@
 -- The MCU rows that are given.
-use Rattle.std.proofs.Common.{◌≡◌, ◌⊎◌, inl, inr, ℕ, ◌+◌, ◌*◌, ◌<◌, ◌≤◌, ◌==◌, ◌&&◌, Bool, true, false, cond, List, [], ◌∷◌, ◌++◌, length, refl, sym, ap, ◌∙◌, subst, arith, zero, suc, get_or, ℤ, pos}
-use Rattle.std.specs.Prelude.{nat_lt, flat_map, int_le, map, nat_abs, replicate}
+use Rattle.std.proofs.Common.{◌≡◌, ◌⊎◌, inl, inr, ℕ, ◌+◌, ◌*◌, ◌<◌, ◌≤◌, ◌==◌, ◌&&◌, Bool, true, false, cond, List, [], ◌∷◌, ◌++◌, length, refl, sym, ap, ◌∙◌, subst, arith, zero, suc, get_or, ℤ, pos, nat_lt, flat_map, int_le, map, nat_abs, replicate, append-nil, length-append, append_assoc, take_all}
 use Rattle.std.proofs.lemmas.Nat.{mul-le}
 use Rattle.std.proofs.lemmas.List.Elements.{All-get_or}
-use Rattle.std.proofs.lemmas.List.{append-nil, length-append, append_assoc, length-replicate, take_all}
+use Rattle.std.proofs.lemmas.List.{length-replicate}
 use Rattle.jpg_spec.specs.Lists.{any_of, is_among, joined}
 use Rattle.jpg_spec.specs.Geometry.{Frame, blocks_across, blocks_down, component_at, h_max, is_real, mcu_row_frame, mcus_down, no_component, v_max, bounds, bounds_of, is_progressive}
 use Rattle.jpg_spec.specs.FrameHeader.{HasFactors, IsFrame, padded_across, padded_down}
@@ -11,7 +10,7 @@ use Rattle.jpg_spec.specs.Items.{Item, segments_of}
 use Rattle.jpg_spec.specs.PictureInWork.{is_at, OnlyChanges, ScanSoFar}
 use Rattle.jpg_spec.specs.FileMeaning.{no_blocks, Leads}
 use Rattle.jpg_spec.specs.ScanReading.{ScanAt, ScanPlace, scan_at, with_byte}
-use Rattle.jpg_spec.specs.RowsParsed.{BeginsScanOfAll, IsScanOfAll, TellsRows, blocks_in, row_places, TellsFirst, CompletesRows}
+use Rattle.jpg_spec.specs.RowsParsed.{BeginsScanOfAll, IsScanOfAll, TellsRows, blocks_in, row_places, TellsFirst}
 use Rattle.jpg_spec.specs.declared.frame.Limits.{Limits}
 use Rattle.jpg_spec.proofs.Basics.Common.{lt_yes, both}
 use Rattle.jpg_spec.proofs.Places.PlacesFound.{real_in_padded}
@@ -415,15 +414,11 @@ begun_on limits bytes more before contents b = record {
   of_all = b.of_all;
 }
 
--- NO FURTHER MCU ROW is complete
-pub rows_completed : (limits : Limits) (bytes : List ℕ) (before : List Segment) (contents : List ℕ) (w : FileWork) (rows : RowWork) (whole : Picture) (m : ℕ) → BeginsScanOfAll limits bytes before contents → RowsInside limits bytes w rows whole → rows.waiting ≡ []
-    → m + unfinished rows ≡ rows_of_scan limits before contents → (blocks : Blocks) × CompletesRows limits bytes m blocks
-rows_completed limits bytes before contents w rows whole m begins r none count =
-    let c = inside_completes limits bytes w rows whole r none in
-    let one = begun_once limits bytes before (segments_of r.items) contents r.contents begins c.begins in
-    let same : rows_of_scan limits before contents ≡ rows_of_scan limits (segments_of r.items) r.contents = ap (λ (l : List Segment). rows_of_scan limits l contents) one.0 ∙ ap (λ (l : List ℕ). rows_of_scan limits (segments_of r.items) l) one.1 in
-    let is : c.m ≡ m = omega (arith, c.count, count, same) in
-    (c.blocks, subst (λ n. CompletesRows limits bytes n c.blocks) is c.completed)
+-- one scan has one number of MCU rows
+pub same_scan : (limits : Limits) (bytes : List ℕ) (before front : List Segment) (contents first : List ℕ) → BeginsScanOfAll limits bytes before contents → BeginsScanOfAll limits bytes front first → rows_of_scan limits before contents ≡ rows_of_scan limits front first
+same_scan limits bytes before front contents first b c =
+    let one = begun_once limits bytes before front contents first b c in
+    ap (λ (l : List Segment). rows_of_scan limits l contents) one.0 ∙ ap (λ (l : List ℕ). rows_of_scan limits front l) one.1
 
 -- A FURTHER ONE is complete
 
@@ -459,6 +454,5 @@ row_fed limits bytes before contents w rows m begins k count =
     let r = k.inside in
     let t = place_tells limits r.items r.contents bytes k.whole rows (scan_left r.scan.work) (inside_tells limits bytes w rows k.whole r) (r.at).at in
     let one = begun_once limits bytes before (segments_of r.items) contents r.contents begins t.begins in
-    let same : rows_of_scan limits before contents ≡ rows_of_scan limits (segments_of r.items) r.contents = ap (λ (l : List Segment). rows_of_scan limits l contents) one.0 ∙ ap (λ (l : List ℕ). rows_of_scan limits (segments_of r.items) l) one.1 in
-    let f = fed_here limits bytes w rows m k t.begins (count ∙ same) in
+    let f = fed_here limits bytes w rows m k t.begins (count ∙ same_scan limits bytes before (segments_of r.items) contents r.contents begins t.begins) in
     subst (λ (l : List Segment). RowFed limits bytes l contents m rows) (sym one.0) (subst (λ (l : List ℕ). RowFed limits bytes (segments_of r.items) l m rows) (sym one.1) f)

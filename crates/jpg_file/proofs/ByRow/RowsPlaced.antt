@@ -1,7 +1,6 @@
 -- The place that the bytes reach in a scan of all components, and the MCU rows that it means.
-use Rattle.std.proofs.Common.{◌≡◌, ℕ, Bool, List, [], ◌∷◌, ◌++◌, length, refl, sym, ap, ◌∙◌, subst, arith, zero, suc, ◌+◌, ◌-◌, ◌*◌, ◌<◌, ◌≤◌, ◌==◌, true, false, cond, take, drop, inl, inr, ℤ}
-use Rattle.std.specs.Prelude.{map, flat_map, replicate}
-use Rattle.std.proofs.lemmas.List.{append_assoc, append-nil, append_cancel_left, length-append, take_all}
+use Rattle.std.proofs.Common.{◌≡◌, ℕ, Bool, List, [], ◌∷◌, ◌++◌, length, refl, sym, ap, ◌∙◌, subst, arith, zero, suc, ◌+◌, ◌-◌, ◌*◌, ◌<◌, ◌≤◌, ◌==◌, true, false, cond, take, drop, inl, inr, ℤ, map, flat_map, replicate, append_assoc, append-nil, length-append, take_all}
+use Rattle.std.proofs.lemmas.List.{append_cancel_left}
 use Rattle.jpg_spec.specs.Bits.{bits_of_bytes}
 use Rattle.jpg_spec.specs.Lists.{chunks, joined}
 use Rattle.jpg_spec.specs.Segments.{head_components}

@@ -1,7 +1,6 @@
 -- The scan header at which reading MCU row by MCU row begins.
-use Rattle.std.proofs.Common.{◌≡◌, ℕ, ◌<◌, ◌≤◌, true, false, not, ◌&&◌, List, ◌∷◌, length, sym, ap, ◌∙◌, subst, arith, Option, Some, None, Ok, ◌+◌, ◌*◌, [], refl, ⊎_elim, inl, pos, Bool}
-use Rattle.std.specs.Prelude.{◌||◌, unwrap_or, find, is_none, reverse, slice_index_or}
-use Rattle.std.proofs.lemmas.List.{length-map, length-replicate, append-nil, reverse-reverse}
+use Rattle.std.proofs.Common.{◌≡◌, ℕ, ◌<◌, ◌≤◌, true, false, not, ◌&&◌, List, ◌∷◌, length, sym, ap, ◌∙◌, subst, arith, Option, Some, None, Ok, ◌+◌, ◌*◌, [], refl, ⊎_elim, inl, pos, Bool, ◌||◌, unwrap_or, find, is_none, reverse, slice_index_or, append-nil}
+use Rattle.std.proofs.lemmas.List.{length-map, length-replicate, reverse-reverse}
 use Rattle.jpg_spec.specs.Lists.{any_of, below}
 use Rattle.jpg_spec.specs.Geometry.{Frame, is_progressive, padded_blocks, units, mcus_down, component_at}
 use Rattle.jpg_spec.specs.Segments.{ScanHead, head_components, QuantTable}

@@ -1,7 +1,6 @@
 -- Bytes and pieces of a file that is read MCU row by MCU row.
-use Rattle.std.proofs.Common.{◌≡◌, ℕ, ◌+◌, ◌≤◌, ◌<◌, Bool, true, false, cond, List, [], ◌∷◌, ◌++◌, length, take, get_or, refl, sym, ap, subst, arith, Some, None, inl, inr, Ok, Err, ◌∙◌, ◌⊎◌, zero, suc}
-use Rattle.std.specs.Prelude.{Result, Option, is_some, replicate}
-use Rattle.std.proofs.lemmas.List.{length-append, length-take-le, take-take, append-nil, get_or-take, length-replicate}
+use Rattle.std.proofs.Common.{◌≡◌, ℕ, ◌+◌, ◌≤◌, ◌<◌, Bool, true, false, cond, List, [], ◌∷◌, ◌++◌, length, take, get_or, refl, sym, ap, subst, arith, Some, None, inl, inr, Ok, Err, ◌∙◌, ◌⊎◌, zero, suc, Result, Option, is_some, replicate, length-append, length-take-le, take-take, append-nil, get_or-take}
+use Rattle.std.proofs.lemmas.List.{length-replicate}
 use Rattle.jpg_spec.specs.Items.{Item, segments_of}
 use Rattle.jpg_spec.specs.declared.fault.Fault.{Fault}
 use Rattle.jpg_spec.specs.declared.frame.Limits.{Limits}

@@ -1,7 +1,5 @@
 -- What follows the scan of a file that is read MCU row by MCU row.
-use Rattle.std.proofs.Common.{◌≡◌, ◌⊎◌, ◌<◌, ◌≤◌, ◌∷◌, ◌++◌, length, take, refl, arith, inl, ℕ, false, List, [], sym, ap, ◌∙◌, subst, Option, Some, None, Err, inr}
-use Rattle.std.specs.Prelude.{is_some, unwrap_or}
-use Rattle.std.proofs.lemmas.List.{length-append}
+use Rattle.std.proofs.Common.{◌≡◌, ◌⊎◌, ◌<◌, ◌≤◌, ◌∷◌, ◌++◌, length, take, refl, arith, inl, ℕ, false, List, [], sym, ap, ◌∙◌, subst, Option, Some, None, Err, inr, is_some, unwrap_or, length-append}
 use Rattle.jpg_spec.proofs.Basics.Common.{clash}
 use Rattle.jpg_spec.specs.Geometry.{Frame}
 use Rattle.jpg_spec.specs.InForce.{frame_of, no_frame}

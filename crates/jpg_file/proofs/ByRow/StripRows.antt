@@ -1,7 +1,6 @@
 -- The current MCU row of a scan of all components: its place, data that go on, bits that wait, and what is after it.
-use Rattle.std.proofs.Common.{◌≡◌, ℕ, ◌+◌, ◌-◌, ◌*◌, ◌<◌, ◌≤◌, Bool, false, List, ◌∷◌, ◌++◌, length, drop, take, sym, ap, ◌∙◌, subst, arith, [], true, cond, refl, ⊎_elim, Some, inl, inr, ◌⊎◌, Ok, Err}
+use Rattle.std.proofs.Common.{◌≡◌, ℕ, ◌+◌, ◌-◌, ◌*◌, ◌<◌, ◌≤◌, Bool, false, List, ◌∷◌, ◌++◌, length, drop, take, sym, ap, ◌∙◌, subst, arith, [], true, cond, refl, ⊎_elim, Some, inl, inr, ◌⊎◌, Ok, Err, append_assoc, length-append, Result, is_some}
 use Rattle.std.proofs.Math.Seq.{drop-append_seam}
-use Rattle.std.proofs.lemmas.List.{append_assoc, length-append}
 use Rattle.std.proofs.Math.Nat.{add-mul}
 use Rattle.jpg_spec.specs.Geometry.{Frame, mcu_row_frame, units, is_progressive}
 use Rattle.jpg_spec.specs.Lists.{joined, any_of}
@@ -45,7 +44,6 @@ use Rattle.jpg_file.proofs.ByRow.RowTurns.{counts_in, counts_scan, blank_at}
 use Rattle.jpg_spec.specs.Markers.{has_scan}
 use Rattle.jpg_spec.specs.PictureInWork.{ScanSoFar, is_at}
 use Rattle.jpg_spec.proofs.McuRows.RowsLater.{blank}
-use Rattle.std.specs.Prelude.{Result, is_some}
 use Rattle.jpg_spec.specs.declared.fault.Fault.{Fault}
 use Rattle.jpg_file.specs.Read.File.{IsStop}
 use Rattle.jpg_file.specs.Read.Reading.{waiting_bytes}

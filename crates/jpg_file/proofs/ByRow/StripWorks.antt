@@ -1,7 +1,6 @@
 -- A file that is read MCU row by MCU row, in its other states: before its first scan, and where its scans are read in
 -- one go.
-use Rattle.std.proofs.Common.{◌≡◌, ℕ, ◌+◌, ◌∙◌, ap, true, List, [], ◌∷◌, ◌++◌, take, get_or, refl, sym, subst, Option, Some, None, Err}
-use Rattle.std.specs.Prelude.{is_none, is_some}
+use Rattle.std.proofs.Common.{◌≡◌, ℕ, ◌+◌, ◌∙◌, ap, true, List, [], ◌∷◌, ◌++◌, take, get_or, refl, sym, subst, Option, Some, None, Err, is_none, is_some}
 use Rattle.jpg_spec.specs.declared.frame.Limits.{Limits}
 use Rattle.jpg_base.specs.declared.stop.Stop.{Stop}
 use Rattle.jpg_base.specs.declared.stop.Stop.TheVariants as stop

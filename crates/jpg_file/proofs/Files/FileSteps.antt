@@ -1,7 +1,5 @@
 -- The effect of a byte on a file that is being read.
-use Rattle.std.proofs.Common.{take, cond, ◌<◌, ◌+◌, ◌-◌, ◌≡◌, ℕ, ◌≤◌, Bool, true, false, ◌==◌, List, [], ◌∷◌, ◌++◌, length, refl, sym, ap, ◌∙◌, subst, arith, Option, Some, None, Ok, Err, inl, inr}
-use Rattle.std.proofs.lemmas.List.{length-append, length-take-le}
-use Rattle.std.specs.Prelude.{◌||◌, nat_lt, unwrap_or, slice_index, is_some, is_err, Result}
+use Rattle.std.proofs.Common.{take, cond, ◌<◌, ◌+◌, ◌-◌, ◌≡◌, ℕ, ◌≤◌, Bool, true, false, ◌==◌, List, [], ◌∷◌, ◌++◌, length, refl, sym, ap, ◌∙◌, subst, arith, Option, Some, None, Ok, Err, inl, inr, length-append, length-take-le, ◌||◌, nat_lt, unwrap_or, slice_index, is_some, is_err, Result}
 use Rattle.jpg_spec.specs.Geometry.{Frame}
 use Rattle.jpg_spec.specs.Scan.{Blocks}
 use Rattle.jpg_spec.specs.Markers.{Pass, Segment, is_frame_code, has_frame, has_scan, code_fault}

@@ -1,8 +1,7 @@
 -- Bytes between items.
-use Rattle.std.proofs.Common.{◌≡◌, ℕ, suc, ◌+◌, ◌≤◌, List, [], ◌∷◌, ◌++◌, length, take, refl, sym, ap, ◌∙◌, subst, arith, Some, None, Ok, Err, inl, inr, ◌⊎◌, zero, ◌<◌}
-use Rattle.std.specs.Prelude.{replicate}
+use Rattle.std.proofs.Common.{◌≡◌, ℕ, suc, ◌+◌, ◌≤◌, List, [], ◌∷◌, ◌++◌, length, take, refl, sym, ap, ◌∙◌, subst, arith, Some, None, Ok, Err, inl, inr, ◌⊎◌, zero, ◌<◌, replicate, append_assoc, append-nil, length-append, length-take-le, take-take}
 use Rattle.std.specs.Int.{to_be_bytes, w16}
-use Rattle.std.proofs.lemmas.List.{append_assoc, append-nil, length-append, length-replicate, length-take-le, take-take}
+use Rattle.std.proofs.lemmas.List.{length-replicate}
 use Rattle.jpg_spec.specs.Scan.{Blocks}
 use Rattle.jpg_spec.specs.Markers.{Segment, Rule, soi, SpellsMarker, SpellsSegment, SpellsSegments, BeginsSegment, PartOfSegment, NoMarkerBytes, TailReveals, RevealsNoStart, code_fault, kept_rule}
 use Rattle.jpg_spec.specs.Markers as markers

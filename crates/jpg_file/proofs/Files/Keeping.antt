@@ -1,7 +1,6 @@
 -- The markers that are kept, and the picture of a file by them.
-use Rattle.std.proofs.Common.{◌≡◌, ℕ, Bool, true, false, ◌==◌, List, [], ◌∷◌, ◌++◌, length, map, refl, sym, ap, ◌∙◌, Option, zero, suc, ◌+◌, ◌<◌, ◌≤◌, cond, take, get_or, subst, arith, Some, None}
-use Rattle.std.specs.Prelude.{◌||◌, filter, find, reverse, nat_le, is_none, unwrap_or, slice_index, slice_index_or}
-use Rattle.std.proofs.lemmas.List.{append-nil, length-map, map-append, reverse-append, reverse-reverse, take_all, take_more}
+use Rattle.std.proofs.Common.{◌≡◌, ℕ, Bool, true, false, ◌==◌, List, [], ◌∷◌, ◌++◌, length, map, refl, sym, ap, ◌∙◌, Option, zero, suc, ◌+◌, ◌<◌, ◌≤◌, cond, take, get_or, subst, arith, Some, None, ◌||◌, filter, find, reverse, nat_le, is_none, unwrap_or, slice_index, slice_index_or, append-nil, take_all}
+use Rattle.std.proofs.lemmas.List.{length-map, map-append, reverse-append, reverse-reverse, take_more}
 use Rattle.std.proofs.lemmas.List.Elements.{filter-append}
 use Rattle.std.proofs.lemmas.Grind.{reverse_onto}
 use Rattle.jpg_spec.specs.Colours.{colours_of}

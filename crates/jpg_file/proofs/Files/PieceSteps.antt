@@ -1,7 +1,6 @@
 -- Bytes of a piece, one after another and together.
-use Rattle.std.proofs.Common.{◌≡◌, ℕ, ◌≤◌, true, false, List, [], ◌++◌, length, refl, sym, ◌∙◌, subst, zero, suc, replicate, cond, ◌-◌, ◌+◌, ◌<◌, ◌∷◌, take, drop, get_or, Some, None, ap, arith, inl, inr, Option}
-use Rattle.std.specs.Prelude.{is_some}
-use Rattle.std.proofs.lemmas.List.{append-nil, take-take, get_or-take, length-take-le, append_assoc, length-append, length-replicate, take_more, length-drop, take_all, take-append-drop}
+use Rattle.std.proofs.Common.{◌≡◌, ℕ, ◌≤◌, true, false, List, [], ◌++◌, length, refl, sym, ◌∙◌, subst, zero, suc, replicate, cond, ◌-◌, ◌+◌, ◌<◌, ◌∷◌, take, drop, get_or, Some, None, ap, arith, inl, inr, Option, is_some, append-nil, take-take, get_or-take, length-take-le, append_assoc, length-append, length-drop, take_all, take-append-drop}
+use Rattle.std.proofs.lemmas.List.{length-replicate, take_more}
 use Rattle.jpg_spec.specs.Scan.{Blocks}
 use Rattle.jpg_spec.specs.Markers.{kept_rule, SpellsSegment}
 use Rattle.jpg_spec.specs.InForce.{frame_of}

@@ -1,6 +1,5 @@
 -- A reader that was fed, and how many scans' data have ended.
-use Rattle.std.proofs.Common.{◌≡◌, ℕ, suc, cond, ◌-◌, ◌≤◌, ◌==◌, Bool, true, false, List, [], ◌∷◌, ◌++◌, refl, sym, ap, ◌∙◌, subst, arith, inl, inr, ◌⊎◌, ◌<◌, length, take, drop, Some, None, Ok, Err}
-use Rattle.std.specs.Prelude.{is_some, replicate, Option, Result}
+use Rattle.std.proofs.Common.{◌≡◌, ℕ, suc, cond, ◌-◌, ◌≤◌, ◌==◌, Bool, true, false, List, [], ◌∷◌, ◌++◌, refl, sym, ap, ◌∙◌, subst, arith, inl, inr, ◌⊎◌, ◌<◌, length, take, drop, Some, None, Ok, Err, is_some, replicate, Option, Result, append_assoc, length-append, take-append-drop, take_all}
 use Rattle.jpg_spec.specs.Items.{Item, segment, scan, segments_of, ends_in_scan}
 use Rattle.jpg_spec.specs.Markers.{Segment}
 use Rattle.jpg_spec.specs.ScanReading.{LeadingMarker}
@@ -20,16 +19,17 @@ use Rattle.jpg_file.specs.Read.ScanHistory.{scan_headers, HasBegunEach}
 use Rattle.jpg_file.specs.Read.ScansEnded.{ScansEnded}
 use Rattle.jpg_file.specs.declared.read.file.FileWork.{FileWork}
 use Rattle.jpg_file.proofs.Files.ItemBytes.{part_after}
-use Rattle.std.proofs.lemmas.List.{append_assoc, length-append, take-append-drop, take-append-le, take_all}
+use Rattle.std.proofs.lemmas.List.{take-append-le}
 use Rattle.std.proofs.lemmas.Bool.{cases_lt}
 use Rattle.jpg_spec.specs.declared.fault.FaultAt.{FaultAt}
 use Rattle.jpg_spec.proofs.Files.FileLaws.{shown_not_standing}
+use Rattle.jpg_base.specs.declared.stop.Fed.{Fed}
 use Rattle.jpg_base.specs.declared.stop.Fed.TheVariants as whole
 use Rattle.jpg_base.specs.declared.stop.Stop.{Stop}
 use Rattle.jpg_base.specs.declared.stop.Stop.TheVariants as stop
 use Rattle.jpg_file.specs.Read.PieceTaken.{ReadsPiece, ReadsOn}
-use Rattle.jpg_file.specs.Read.ReadFile.{AfterFeed, AsksForMemory, HasRead, IsStopOf, ReaderState}
-use Rattle.jpg_file.specs.Read.ReadRows.{IsByRow, IsPlain, IsReading}
+use Rattle.jpg_file.specs.Read.ReadFile.{AfterFeed, AsksForMemory, AsksOnFeed, FeedsFile, HasRead, IsStopOf, ReaderState}
+use Rattle.jpg_file.specs.Read.ReadRows.{IsPlain, IsReading, ReadsInto, ReadsOne, after_piece, with_work, work_of}
 use Rattle.jpg_file.specs.Read.RowPieces.{AfterRowsPiece, KeepsWork, RowsGive, RowsGo, RowsOpen}
 use Rattle.jpg_file.specs.Read.Strips.{AfterStrip, StripGoes, RepresentsStrip}
 use Rattle.jpg_file.specs.declared.read.pieces.FedRow.{FedRow}
@@ -192,10 +192,6 @@ whole_each : (limits : Limits) (bytes : List ℕ) (rows : Option RowWork) (w : F
 whole_each limits bytes None w a = ends_each limits bytes w a
 whole_each limits bytes (Some rows) w a = ends_each limits bytes (with_picture w a.whole) a.ends
 
--- as the reader is seen with this work
-abbrev pub with_work : ReaderState → StripWork → ReaderState
-with_work r work = record r { file = work.file; in_rows = work.by_row; rows = work.rows; strip = work.strip }
-
 keeps_going : (r : ReaderState) (old new : StripWork) → KeepsWork old new → r.done ≡ false → IsReading (with_work r old) → ((bytes : List ℕ) → RowsOpen r.limits bytes old.rows old.file → (all : List ℕ) × RowsOpen r.limits all new.rows new.file) → IsReading (with_work r new)
 keeps_going r old new kept undone k next = record {
   limited = k.limited;
@@ -207,15 +203,15 @@ keeps_going r old new kept undone k next = record {
   begun = λ done. absurd (clash r.done done undone);
 }
 
-pub keeps_more_rows : (r : ReaderState) (old new : StripWork) (piece : List ℕ) (result : Result FedRow Stop) → result ≡ Ok fed.More → r.done ≡ false → IsReading (with_work r old) → ReadsPiece r.limits old piece result new → IsReading (with_work r new)
+keeps_more_rows : (r : ReaderState) (old new : StripWork) (piece : List ℕ) (result : Result FedRow Stop) → result ≡ Ok fed.More → r.done ≡ false → IsReading (with_work r old) → ReadsPiece r.limits old piece result new → IsReading (with_work r new)
 keeps_more_rows r old new piece result e undone k t =
     keeps_going r old new t.keeps undone k (λ bytes h. (bytes ++ piece, go_open r.limits (bytes ++ piece) new.rows new.file (subst (λ x. AfterRowsPiece r.limits bytes piece x new.rows new.file) e (t.after bytes h)).0))
 
-pub keeps_given_rows : (r : ReaderState) (old new : StripWork) (piece : List ℕ) (result : Result FedRow Stop) (used : ℕ) → result ≡ Ok (fed.Row used) → r.done ≡ false → IsReading (with_work r old) → ReadsPiece r.limits old piece result new → IsReading (with_work r new)
+keeps_given_rows : (r : ReaderState) (old new : StripWork) (piece : List ℕ) (result : Result FedRow Stop) (used : ℕ) → result ≡ Ok (fed.Row used) → r.done ≡ false → IsReading (with_work r old) → ReadsPiece r.limits old piece result new → IsReading (with_work r new)
 keeps_given_rows r old new piece result used e undone k t =
     keeps_going r old new t.keeps undone k (λ bytes h. (bytes ++ take used piece, give_open r.limits (bytes ++ take used piece) new.rows new.file (subst (λ x. AfterRowsPiece r.limits bytes piece x new.rows new.file) e (t.after bytes h)).0))
 
-pub keeps_done_rows : (r : ReaderState) (old new : StripWork) (piece : List ℕ) (result : Result FedRow Stop) (used : ℕ) → result ≡ Ok (fed.Done used) → r.done ≡ false → r.stop ≡ None → IsReading (with_work r old) → ReadsPiece r.limits old piece result new
+keeps_done_rows : (r : ReaderState) (old new : StripWork) (piece : List ℕ) (result : Result FedRow Stop) (used : ℕ) → result ≡ Ok (fed.Done used) → r.done ≡ false → r.stop ≡ None → IsReading (with_work r old) → ReadsPiece r.limits old piece result new
     → IsReading (record (with_work r new) { done = true })
 keeps_done_rows r old new piece result used e undone skip_ahead k t =
     let o = k.open skip_ahead undone in
@@ -231,9 +227,32 @@ keeps_done_rows r old new piece result used e undone skip_ahead k t =
       begun = λ done. whole_each r.limits (o.0 ++ take used piece) new.rows new.file a.0;
     }
 
-pub rows_read : (r : ReaderState) → IsByRow r → IsReading r → r.in_rows ≡ true
-rows_read r (inl by) k = k.in_rows by
-rows_read r (inr rows) k = rows
+-- as the reader is seen with this work
+abbrev pub state_of : Limits → StripWork → Bool → Bool → Option Stop → ReaderState
+state_of limits work by done stopped = record { limits = limits; file = work.file; by_row = by; in_rows = work.by_row; rows = work.rows; strip = work.strip; done = done; stop = stopped }
+
+-- A PIECE of a reader, by what is read of it
+module _ (old new : StripWork) (piece : List ℕ) (answer : Result FedRow Stop) {limits : Limits} {by : Bool} {done : Bool} {stopped : Option Stop} {now : ReaderState} (view : state_of limits old by done stopped ≡ now) (undone : now.done ≡ false) (k : IsReading (state_of limits old by done stopped)) (took : ReadsPiece limits old piece answer new) where
+  going_on : done ≡ false
+  going_on = ap (λ (q : ReaderState). q.done) view ∙ undone
+
+  pub kept_more : answer ≡ Ok fed.More → IsReading (state_of limits new by done stopped)
+  kept_more is = keeps_more_rows (state_of limits old by done stopped) old new piece answer is going_on k took
+
+  pub kept_row : (used : ℕ) → answer ≡ Ok (fed.Row used) → IsReading (state_of limits new by done stopped)
+  kept_row used is = keeps_given_rows (state_of limits old by done stopped) old new piece answer used is going_on k took
+
+  pub kept_done : (used : ℕ) → answer ≡ Ok (fed.Done used) → stopped ≡ None → IsReading (state_of limits new by true stopped)
+  kept_done used is skip = keeps_done_rows (state_of limits old by done stopped) old new piece answer used is going_on skip k took
+
+  pub reads_into : (came : Result FedRow Stop) → answer ≡ came → ReadsOne now piece answer (after_piece came (state_of limits new by done stopped))
+  reads_into came is skip =
+      let r = state_of limits old by done stopped in
+      let after = after_piece answer (with_work r new) in
+      let none = ap (λ (q : ReaderState). q.stop) view ∙ skip in
+      subst (λ (a : Result FedRow Stop). ReadsInto now piece answer (after_piece a (with_work r new))) is
+      (subst (λ (q : ReaderState). ReadsInto q piece answer after) view
+      (record { work = new; read = took; is = refl; limited = k.limited; in_rows = k.in_rows; memory = λ by. took.memory (k.keeping by) (k.sparing by); given = k.open none going_on }))
 
 -- WHERE NO MCU ROWS ARE READ
 
@@ -290,16 +309,39 @@ fed_stop r old new bytes piece (stop.Fault f) before h t =
     (a.0, later_fault r.limits bytes piece f h.stands h.short a.0, a.2)
 fed_stop r old new bytes piece stop.NoMemory before h t = t.after bytes (plain_open r.limits bytes old.rows old.file before h.open)
 
-pub fed_asks : (r : ReaderState) (old new : StripWork) (bytes piece : List ℕ) (e : Stop) → old.rows ≡ None → new.rows ≡ None → HasRead bytes (with_work r old) → ReadsPiece r.limits old piece (Err e) new → e ≡ stop.NoMemory
-    → AsksForMemory r.limits (length bytes) (bytes ++ piece) new.file.head
-fed_asks r old new bytes piece (stop.Fault f) before after h t is = absurd cc
-fed_asks r old new bytes piece stop.NoMemory before after h t is = t.asks after bytes (plain_open r.limits bytes old.rows old.file before h.open)
+fed_asks : (r : ReaderState) (old new : StripWork) (bytes piece : List ℕ) → old.rows ≡ None → new.rows ≡ None → HasRead bytes (with_work r old) → ReadsPiece r.limits old piece (Err stop.NoMemory) new → AsksForMemory r.limits (length bytes) (bytes ++ piece) new.file.head
+fed_asks r old new bytes piece before after h t = t.facts bytes (plain_open r.limits bytes old.rows old.file before h.open) after
 
--- no MCU row is complete
-pub fed_no_row : (limits : Limits) (old new : StripWork) (bytes piece : List ℕ) (used : ℕ) → old.rows ≡ None → new.rows ≡ None → RepresentsFile limits bytes old.file → ReadsPiece limits old piece (Ok (fed.Row used)) new → ⊥
-fed_no_row limits old new bytes piece used before after h t =
-    let a = t.after bytes (plain_open limits bytes old.rows old.file before h) in
-    let g = subst (λ (o : Option RowWork). AfterStrip limits (bytes ++ take used piece) step.Row o new.file) after (a.0).row in g
+-- what is answered then
+abbrev as_row : Result Fed Stop → Result FedRow Stop
+as_row (Ok whole.More) = Ok fed.More
+as_row (Ok (whole.Done used)) = Ok (fed.Done used)
+as_row (Err e) = Err e
+
+module _ (old new : ReaderState) (piece : List ℕ) (plain : IsPlain old) where
+  fed_by : (bytes : List ℕ) (came : Result Fed Stop) → HasRead bytes old → ReadsInto old piece (as_row came) new → AfterFeed bytes piece came new
+  fed_by bytes (Ok whole.More) h t = subst (λ (r : ReaderState). AfterFeed bytes piece (Ok whole.More) r) (sym t.is) (fed_more old (work_of old) t.work bytes piece plain.1 (t.read.keeps.plain plain.1 plain.0) h t.read)
+  fed_by bytes (Ok (whole.Done used)) h t = subst (λ (r : ReaderState). AfterFeed bytes piece (Ok (whole.Done used)) r) (sym t.is) (fed_done old (work_of old) t.work bytes piece used plain.1 (t.read.keeps.plain plain.1 plain.0) h t.read)
+  fed_by bytes (Err e) h t = subst (λ (r : ReaderState). AfterFeed bytes piece (Err e) r) (sym t.is) (fed_stop old (work_of old) t.work bytes piece e plain.1 h t.read)
+
+  pub feeds : (answer : Result FedRow Stop) (came : Result Fed Stop) → answer ≡ as_row came → ReadsOne old piece answer new → FeedsFile old piece came new
+  feeds answer came is reads bytes h = fed_by bytes came h (subst (λ (a : Result FedRow Stop). ReadsInto old piece a new) is (reads h.skip_ahead))
+
+  pub asks_on_feed : (e : Stop) → ReadsOne old piece (Err e) new → AsksOnFeed old piece (Err e) new
+  asks_on_feed e reads bytes h is =
+      let t = subst (λ (a : Result FedRow Stop). ReadsInto old piece a new) (let same : e ≡ stop.NoMemory = cc in ap (λ (x : Stop). Err x) same) (reads h.skip_ahead) in
+      subst (λ (r : ReaderState). AsksForMemory r.limits (length bytes) (bytes ++ piece) r.file.head) (sym t.is) (fed_asks old (work_of old) t.work bytes piece plain.1 (t.read.keeps.plain plain.1 plain.0) h t.read)
+
+  -- no MCU row is complete
+  pub feeds_no_row : (answer : Result FedRow Stop) (used : ℕ) → answer ≡ Ok (fed.Row used) → ReadsOne old piece answer new → ((e : Stop) → old.stop ≡ Some e → (answer ≡ Err e) × (new ≡ old)) → ⊥
+  feeds_no_row answer used is reads again = by old.stop refl
+    where
+      by : (o : Option Stop) → old.stop ≡ o → ⊥
+      by (Some e) has = (let z : Ok (fed.Row used) ≡ (let a : Result FedRow Stop = Err e in a) = sym is ∙ (again e has).0 in cc)
+      by None none =
+          let t = subst (λ (a : Result FedRow Stop). ReadsInto old piece a new) is (reads none) in
+          let a = t.read.after t.given.0 t.given.1 in
+          (let g = subst (λ (o : Option RowWork). AfterStrip old.limits (t.given.0 ++ take used piece) step.Row o t.work.file) (t.read.keeps.plain plain.1 plain.0) (a.0).row in g)
 
 -- What a reader answers to a piece that is fed up to the end of a scan's data.
 
@@ -308,17 +350,7 @@ pub open_go : (limits : Limits) (bytes : List ℕ) (rows : Option RowWork) (w : 
 open_go limits bytes rows w none h = plain_go limits bytes rows w none (plain_stands limits bytes rows w none h.stands)
 
 piece_plain : {limits : Limits} {piece : List ℕ} {answer : Result FedRow Stop} {old new : StripWork} → old.rows ≡ None → ReadsOn limits old piece answer new → ReadsPiece limits old piece answer new
-piece_plain {limits = limits} {old = old} none t = record {
-  after = λ bytes h. t.after bytes (go bytes h);
-  rows = t.rows;
-  known = λ none bytes h. t.known none bytes (go bytes h);
-  keeps = t.keeps;
-  memory = t.memory;
-  none = λ none by bytes h. t.none none by bytes (go bytes h);
-  faults = λ bytes h. t.faults bytes (go bytes h);
-  last = λ bytes h. t.last bytes (go bytes h);
-  asks = λ none bytes h. t.asks none bytes (go bytes h);
-}
+piece_plain {limits = limits} {old = old} none t = record { after = λ bytes h. t.after bytes (go bytes h); rows = t.rows; keeps = t.keeps; memory = t.memory; facts = λ bytes h. t.facts bytes (go bytes h) }
   where
     go : (bytes : List ℕ) → RowsOpen limits bytes old.rows old.file → RowsGo limits bytes old.rows old.file
     go bytes h = open_go limits bytes old.rows old.file none h
@@ -337,10 +369,6 @@ fewer n m low other = by (cases_lt n m)
     by : (n < m) ⊎ (m ≤ n) → n < m
     by (inl h) = h
     by (inr h) = absurd (other (omega (arith, low, h)))
-
--- as the reader is seen with this work
-abbrev pub state_of : Limits → StripWork → Bool → Bool → Option Stop → ReaderState
-state_of limits work by done stopped = record { limits = limits; file = work.file; by_row = by; in_rows = work.by_row; rows = work.rows; strip = work.strip; done = done; stop = stopped }
 
 -- of a reader without MCU rows
 module _ (old new : StripWork) (piece : List ℕ) (answer : Result FedScan Stop) {limits : Limits} {by : Bool} {done : Bool} {stopped : Option Stop} {now : ReaderState} (view : state_of limits old by done stopped ≡ now) (plain : IsPlain now) (undone : now.done ≡ false) (took : ReadsScan limits old piece answer new) where
@@ -429,4 +457,4 @@ module _ (old new : StripWork) (piece : List ℕ) (answer : Result FedScan Stop)
   pub scan_asks : (bytes : List ℕ) → HasRead bytes now → answer ≡ Err stop.NoMemory → AsksForMemory limits (length bytes) (bytes ++ piece) new.file.head
   scan_asks bytes before is =
       let t = given (Err stop.NoMemory) is in
-      fed_asks r old new bytes piece stop.NoMemory none (t.keeps.plain none row) (read bytes before) (piece_plain none t) refl
+      fed_asks r old new bytes piece none (t.keeps.plain none row) (read bytes before) (piece_plain none t)

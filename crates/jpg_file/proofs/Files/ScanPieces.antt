@@ -1,7 +1,5 @@
 -- A piece of a file that is read up to the end of a scan's data.
-use Rattle.std.proofs.Common.{◌≡◌, ℕ, ◌+◌, ◌-◌, ◌<◌, ◌≤◌, false, List, [], ◌∷◌, ◌++◌, length, take, drop, get_or, refl, sym, ◌∙◌, subst, arith, None, Ok, Err}
-use Rattle.std.specs.Prelude.{Result}
-use Rattle.std.proofs.lemmas.List.{length-append, length-drop, length-take-le, take-take, take_all}
+use Rattle.std.proofs.Common.{◌≡◌, ℕ, ◌+◌, ◌-◌, ◌<◌, ◌≤◌, false, List, [], ◌∷◌, ◌++◌, length, take, drop, get_or, refl, sym, ◌∙◌, subst, arith, None, Ok, Err, Result, length-append, length-drop, length-take-le, take-take, take_all}
 use Rattle.jpg_spec.specs.declared.fault.Fault.TheVariants.{InputTooLong}
 use Rattle.jpg_spec.specs.declared.fault.FaultAt.{FaultAt}
 use Rattle.jpg_spec.specs.declared.frame.Limits.{Limits}
@@ -70,7 +68,7 @@ module _ {limits : Limits} {piece : List ℕ} {done : ℕ} {old work : StripWork
     some_of : TakesSome work.file (drop done piece) n answer new.file
     some_of =
         subst (λ l. TakesSome work.file l n answer new.file) (take_all (length piece - done) (drop done piece) (omega (arith, length-drop done piece)))
-        (taken.some ((s.begun).keeps.plain s.none s.plain) ((s.begun).keeps.by_row ∙ s.plain))
+        ((taken.fresh ((s.begun).keeps.plain s.none s.plain)).some ((s.begun).keeps.by_row ∙ s.plain))
 
     -- the state before the last of them
     mid_stands : (bytes : List ℕ) → RepresentsFile limits bytes old.file → RepresentsFile limits ((bytes ++ take done piece) ++ take some_of.early (drop done piece)) some_of.mid

@@ -1,7 +1,6 @@
 -- A scan header: its parameters, its tables, and the rules that it is judged by.
-use Rattle.std.proofs.Common.{◌≡◌, ℕ, ◌+◌, ◌*◌, true, not, ◌==◌, ◌&&◌, List, [], ◌∷◌, length, take, drop, sym, ap, ◌∙◌, subst, arith, Ok, refl, Option, Some, None, zero, suc, ◌<◌, map, ◌≤◌, Bool, false, cond, ◌-◌, ◌^◌, ℤ, pos, nat_abs, inl, Err}
-use Rattle.std.specs.Prelude.{◌||◌, nat_lt, is_none, option_map, nat_le, int_le, unwrap_or, Result}
-use Rattle.std.proofs.lemmas.List.{length-take, length-map}
+use Rattle.std.proofs.Common.{◌≡◌, ℕ, ◌+◌, ◌*◌, true, not, ◌==◌, ◌&&◌, List, [], ◌∷◌, length, take, drop, sym, ap, ◌∙◌, subst, arith, Ok, refl, Option, Some, None, zero, suc, ◌<◌, map, ◌≤◌, Bool, false, cond, ◌-◌, ◌^◌, ℤ, pos, nat_abs, inl, Err, ◌||◌, nat_lt, is_none, option_map, nat_le, int_le, unwrap_or, Result, length-take}
+use Rattle.std.proofs.lemmas.List.{length-map}
 use Rattle.jpg_spec.specs.Lists.{is_distinct, any_of, all_of, is_among}
 use Rattle.jpg_spec.specs.Geometry.{Frame, factor_sum, is_progressive, component_at, bounds}
 use Rattle.jpg_spec.specs.Segments.{ScanHead, head_components}

@@ -1,6 +1,5 @@
 -- What is in force at a scan header: segments, the history of scans, and the first header.
-use Rattle.std.proofs.Common.{◌≡◌, ◌∙◌, ℕ, List, ◌∷◌, Ok, None, rules, sym, suc, ◌+◌, ◌≤◌, Bool, true, false, cond, ◌==◌, [], ◌++◌, length, refl, ap, subst, arith, Option, Some, take, drop, inl, inr, ◌⊎◌}
-use Rattle.std.specs.Prelude.{filter, find, reverse, ◌||◌, is_none, map, replicate, option_map, unwrap_or}
+use Rattle.std.proofs.Common.{◌≡◌, ◌∙◌, ℕ, List, ◌∷◌, Ok, None, rules, sym, suc, ◌+◌, ◌≤◌, Bool, true, false, cond, ◌==◌, [], ◌++◌, length, refl, ap, subst, arith, Option, Some, take, drop, inl, inr, ◌⊎◌, filter, find, reverse, ◌||◌, is_none, map, replicate, option_map, unwrap_or, length-append, take_all, take-append-drop}
 use Rattle.jpg_spec.specs.HuffContents.{HuffmanSlots, parsed_huffmans}
 use Rattle.jpg_spec.specs.QuantContents.{Slots, parsed_quants, quant_in}
 use Rattle.jpg_spec.specs.InForce.{frame_after, huffman_in_force, quant_in_force, restart_in_force, first_some, frame_of, head_in, heads_of, no_frame}
@@ -14,7 +13,7 @@ use Rattle.jpg_markers.specs.Seen.{IsOther}
 use Rattle.jpg_file.specs.Read.Keeping.{is_wanted}
 use Rattle.jpg_file.specs.Read.SegmentState.{SegmentView, Holds, lacks_any, lacks_part}
 use Rattle.std.specs.Int.{to_be_bytes, w16}
-use Rattle.std.proofs.lemmas.List.{length-append, reverse-reverse, take_all, take-append-le, take-append-drop}
+use Rattle.std.proofs.lemmas.List.{reverse-reverse, take-append-le}
 use Rattle.jpg_spec.specs.Lists.{any_of, is_among}
 use Rattle.jpg_spec.specs.Geometry.{Frame, component_at}
 use Rattle.jpg_spec.specs.Segments.{QuantTable, ScanHead, head_components}

@@ -1,6 +1,5 @@
 -- A kind of machine among others: what one of its machines does, it does as one of them.
-use Rattle.std.proofs.Common.{◌≡◌, ℕ, Bool, cond, List, [], ◌∷◌, ◌++◌, refl, sym, ap, subst, ◌∙◌, ◌==◌, ◌&&◌, true, false, arith, ◌<◌, not}
-use Rattle.std.specs.Prelude.{nat_lt, Result, Ok, Err, ◌||◌}
+use Rattle.std.proofs.Common.{◌≡◌, ℕ, Bool, cond, List, [], ◌∷◌, ◌++◌, refl, sym, ap, subst, ◌∙◌, ◌==◌, ◌&&◌, true, false, arith, ◌<◌, not, nat_lt, Result, Ok, Err, ◌||◌}
 use Rattle.jpg_spec.specs.Elements.{Coding}
 use Rattle.jpg_spec.specs.Geometry.{Frame, is_progressive}
 use Rattle.jpg_spec.specs.Scan.{Scan, TablesInForce, scan_coding}

@@ -1,7 +1,6 @@
 -- Some data bytes passed to a machine at once: the last of them is passed by itself, after the bits of those before it.
-use Rattle.std.proofs.Common.{◌≡◌, ℕ, ◌+◌, Bool, List, [], ◌∷◌, ◌++◌, refl, sym, ap, ◌∙◌, subst, arith, Ok, ◌-◌, ◌*◌, ◌/◌, ◌%◌, min, ◌<◌, ◌≤◌, length, take, drop, get_or, Err}
-use Rattle.std.specs.Prelude.{Result}
-use Rattle.std.proofs.lemmas.List.{append_assoc, append-nil, append_cancel_left, length-append, length-drop, length-take-le, take_all, take_more, take-append-drop, take-append-le, take-take, get_or-take, get_or-append-add, length-take}
+use Rattle.std.proofs.Common.{◌≡◌, ℕ, ◌+◌, Bool, List, [], ◌∷◌, ◌++◌, refl, sym, ap, ◌∙◌, subst, arith, Ok, ◌-◌, ◌*◌, ◌/◌, ◌%◌, min, ◌<◌, ◌≤◌, length, take, drop, get_or, Err, Result, append_assoc, append-nil, length-append, length-drop, length-take-le, take_all, take-append-drop, take-take, get_or-take, get_or-append-add, length-take}
+use Rattle.std.proofs.lemmas.List.{append_cancel_left, take_more, take-append-le}
 use Rattle.jpg_coefs.specs.Picture.{Picture}
 use Rattle.jpg_coefs.specs.Machine.{Chain, ChainTo, Kind, TakesBits, Interval}
 use Rattle.jpg_coefs.specs.declared.machine.UnitFault.{UnitFault}

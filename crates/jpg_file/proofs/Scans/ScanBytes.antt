@@ -1,7 +1,5 @@
 -- Inside the data of a scan: the effect of the machine's answers on the place.
-use Rattle.std.proofs.Common.{◌≡◌, ℕ, zero, suc, ◌+◌, ◌-◌, ◌%◌, ◌≤◌, min, Bool, true, false, List, [], ◌∷◌, ◌++◌, length, refl, sym, ap, ◌∙◌, subst, arith, ℤ, Ok, Err, cond, take}
-use Rattle.std.specs.Prelude.{flat_map, replicate, Result}
-use Rattle.std.proofs.lemmas.List.{append-nil, append_assoc, length-append, length-take-le, get_or-take}
+use Rattle.std.proofs.Common.{◌≡◌, ℕ, zero, suc, ◌+◌, ◌-◌, ◌%◌, ◌≤◌, min, Bool, true, false, List, [], ◌∷◌, ◌++◌, length, refl, sym, ap, ◌∙◌, subst, arith, ℤ, Ok, Err, cond, take, flat_map, replicate, Result, append-nil, append_assoc, length-append, length-take-le, get_or-take}
 use Rattle.jpg_spec.specs.Bits.{bits_of, bits_of_bytes}
 use Rattle.jpg_spec.specs.Elements.{Coding, UnitLeft, SpellsUnits}
 use Rattle.jpg_spec.specs.Scan.{Scan, ScanMeans, band, block_at}

@@ -1,6 +1,5 @@
 -- A scan begins: its intervals, its machine, its place.
-use Rattle.std.proofs.Common.{◌≡◌, ℕ, zero, suc, ◌-◌, ◌*◌, ◌≤◌, min, false, cond, ◌==◌, List, [], ◌∷◌, ◌++◌, length, take, drop, refl, sym, ap, ◌∙◌, subst, arith}
-use Rattle.std.proofs.lemmas.List.{append-nil, length-append, length-take, length-drop, take-append-drop}
+use Rattle.std.proofs.Common.{◌≡◌, ℕ, zero, suc, ◌-◌, ◌*◌, ◌≤◌, min, false, cond, ◌==◌, List, [], ◌∷◌, ◌++◌, length, take, drop, refl, sym, ap, ◌∙◌, subst, arith, append-nil, length-append, length-take, length-drop, take-append-drop}
 use Rattle.jpg_spec.specs.Lists.{chunks, chunks_of, is_distinct, joined}
 use Rattle.jpg_spec.specs.Geometry.{Frame, units, mcu_units}
 use Rattle.jpg_spec.specs.Segments.{ScanHead, head_components}

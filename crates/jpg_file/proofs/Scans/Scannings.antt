@@ -1,7 +1,5 @@
 -- A byte inside the data of a scan, for the reader of a file.
-use Rattle.std.proofs.Common.{ap, Option, get_or, take, ◌<◌, ◌≡◌, ℕ, ◌+◌, ◌≤◌, Bool, true, false, List, [], ◌∷◌, ◌++◌, length, refl, sym, ◌∙◌, subst, arith, Some, None, Ok, Err, inl, inr}
-use Rattle.std.specs.Prelude.{Result}
-use Rattle.std.proofs.lemmas.List.{length-append, length-take-le}
+use Rattle.std.proofs.Common.{ap, Option, get_or, take, ◌<◌, ◌≡◌, ℕ, ◌+◌, ◌≤◌, Bool, true, false, List, [], ◌∷◌, ◌++◌, length, refl, sym, ◌∙◌, subst, arith, Some, None, Ok, Err, inl, inr, Result, length-append, length-take-le}
 use Rattle.jpg_spec.specs.Items.{Item}
 use Rattle.jpg_spec.specs.FirstFault.{Reveals}
 use Rattle.jpg_spec.specs.declared.fault.Fault.{Fault as Named}

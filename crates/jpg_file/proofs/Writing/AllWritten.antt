@@ -1,6 +1,5 @@
 -- Bytes that were sent from where nothing waited, until nothing waits.
-use Rattle.std.proofs.Common.{◌≡◌, ℕ, List, [], ◌++◌, Result, Ok, Err, sym, ap, ◌∙◌, subst}
-use Rattle.std.proofs.lemmas.List.{append-nil}
+use Rattle.std.proofs.Common.{◌≡◌, ℕ, List, [], ◌++◌, Result, Ok, Err, sym, ap, ◌∙◌, subst, append-nil}
 use Rattle.jpg_base.specs.declared.stop.WriteFault.{WriteFault}
 use Rattle.jpg_base.specs.Desk.{DeskState, AppendsLast}
 use Rattle.jpg_huff.specs.BitOut.{Sends, nothing_waits}

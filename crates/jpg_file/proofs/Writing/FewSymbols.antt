@@ -1,7 +1,6 @@
 -- How often a scan writes a symbol fits in 32 bits.
-use Rattle.std.proofs.Common.{ℕ, zero, suc, ◌+◌, ◌-◌, ◌*◌, ◌≤◌, Bool, true, false, cond, not, List, [], ◌∷◌, ◌++◌, length, take, drop, arith, ℤ, pos, negsuc, ◌==◌, ◌&&◌, ◌≡◌, ◌<◌, refl, ap, ⊎_elim, ◌∙◌}
-use Rattle.std.specs.Prelude.{◌||◌, map, flat_map, nat_lt, slice_index_or, filter, count_by, slice_index}
-use Rattle.std.proofs.lemmas.List.{length-append, length-map, length-take, length-drop, length-replicate, get_or-map, get_or_past}
+use Rattle.std.proofs.Common.{ℕ, zero, suc, ◌+◌, ◌-◌, ◌*◌, ◌≤◌, Bool, true, false, cond, not, List, [], ◌∷◌, ◌++◌, length, take, drop, arith, ℤ, pos, negsuc, ◌==◌, ◌&&◌, ◌≡◌, ◌<◌, refl, ap, ⊎_elim, ◌∙◌, ◌||◌, map, flat_map, nat_lt, slice_index_or, filter, count_by, slice_index, length-append, length-take, length-drop}
+use Rattle.std.proofs.lemmas.List.{length-map, length-replicate, get_or-map, get_or_past}
 use Rattle.jpg_spec.specs.Lists.{is_empty, any_of, below, chunks, joined, is_distinct, is_among}
 use Rattle.jpg_spec.specs.Segments.{ScanHead, head_components}
 use Rattle.jpg_spec.specs.Elements.{Element, long_run, predicted, zeros, is_dc_bit, symbol_of}

@@ -1,6 +1,5 @@
 -- The data of a scan: by tables that are the same in slots 0 and 1, and by the real blocks only.
-use Rattle.std.proofs.Common.{◌≡◌, ℕ, ◌<◌, Bool, true, false, cond, List, [], ◌∷◌, length, refl, sym, ap, ◌∙◌, lit<, pos, ℤ, ◌*◌, ◌++◌, ◌&&◌}
-use Rattle.std.specs.Prelude.{map, flat_map}
+use Rattle.std.proofs.Common.{◌≡◌, ℕ, ◌<◌, Bool, true, false, cond, List, [], ◌∷◌, length, refl, sym, ap, ◌∙◌, lit<, pos, ℤ, ◌*◌, ◌++◌, ◌&&◌, map, flat_map}
 use Rattle.std.specs.List.{All}
 use Rattle.std.proofs.Math.Path.{fun_ext}
 use Rattle.jpg_spec.specs.Bits.{data_of}

@@ -1,6 +1,5 @@
 -- The header of a scan that is written, and which tables it needs.
-use Rattle.std.proofs.Common.{◌≡◌, ℕ, zero, suc, ◌<◌, Bool, cond, List, Option, Some, sym, ap, ◌∙◌, arith, lit<, refl, false, ◌≤◌, true, [], ◌∷◌, ◌++◌, length, get_or, subst, ◌==◌, ◌&&◌}
-use Rattle.std.specs.Prelude.{slice_set, unwrap_or, flat_map, map, ◌||◌}
+use Rattle.std.proofs.Common.{◌≡◌, ℕ, zero, suc, ◌<◌, Bool, cond, List, Option, Some, sym, ap, ◌∙◌, arith, lit<, refl, false, ◌≤◌, true, [], ◌∷◌, ◌++◌, length, get_or, subst, ◌==◌, ◌&&◌, slice_set, unwrap_or, flat_map, map, ◌||◌}
 use Rattle.std.specs.Option.{option_map}
 use Rattle.jpg_spec.specs.Geometry.{Frame, is_progressive}
 use Rattle.jpg_spec.specs.Segments.{HuffmanTable, ScanHead, head_components, needs_dc, needs_ac}

@@ -24,7 +24,8 @@ use Rattle.jpg_file.specs.Read.FirstHeader.{IsFirstHeaderOf}
 use Rattle.jpg_file.specs.Read.Keeping.{kept_for}
 use Rattle.jpg_file.specs.Read.Left.{LeavesPicture}
 use Rattle.jpg_file.specs.Read.ReadFile.{AsksForMemory, HasRead, IsDone, IsEarlyEnd, IsStopOf, KeepsHead, KeepsHeadAt, ReaderState, StopsAt}
-use Rattle.jpg_file.specs.Read.RowPieces.{HasLastByte, RowsOpen}
+use Rattle.jpg_file.specs.Read.PieceTaken.{ReadsPiece}
+use Rattle.jpg_file.specs.Read.RowPieces.{HasLastByte, RowsOpen, WantsNone}
 use Rattle.jpg_file.specs.Read.RowTurns.{unfinished}
 use Rattle.jpg_file.specs.Read.RowsKnown.{TellsStrip, rows_of_scan}
 use Rattle.jpg_file.specs.Read.RowsNone.{HasNoRows}
@@ -37,6 +38,7 @@ use Rattle.jpg_file.specs.declared.read.pieces.FedRow.{FedRow}
 use Rattle.jpg_file.specs.declared.read.pieces.FedRow.TheVariants as fed
 use Rattle.jpg_file.specs.declared.read.rows.RowWork.{RowWork}
 use Rattle.jpg_file.specs.declared.read.strip_head.StripHead.{StripHead}
+use Rattle.jpg_file.specs.declared.read.strip_work.StripWork.{StripWork}
 
 -- the invariant of a reader: it was given some bytes, or has a picture, and each component was in a scan; where MCU rows
 -- are to be read and no markers kept, it asks for no memory with a current row
@@ -48,10 +50,6 @@ pub record IsReading (r : ReaderState) : Type 0 where
   pub «open» : r.stop ≡ None → r.done ≡ false → (bytes : List ℕ) × RowsOpen r.limits bytes r.rows r.file
   pub ended : r.done ≡ true → r.rows ≡ None → LeavesPicture r.limits r.file
   pub begun : r.done ≡ true → HasBegunEach r.file.begun.progress
-
--- they are to be read
-abbrev pub IsByRow : ReaderState → Type 0
-IsByRow r = (r.by_row ≡ true) ⊎ (r.in_rows ≡ true)
 
 -- no MCU rows are to be read, nor is there a current one
 abbrev pub IsPlain : ReaderState → Type 0
@@ -238,11 +236,6 @@ FeedsKeeping old piece answer new = (bytes : List ℕ) (m : ℕ) → HasReadSoFa
 abbrev pub FeedsRow : ReaderState → List ℕ → Result FedRow Stop → ReaderState → Type 0
 FeedsRow old piece answer new = (bytes : List ℕ) (m : ℕ) → HasReadSoFar bytes m old → AfterFeedRow bytes m piece answer new
 
--- where markers are kept, and where none are
-abbrev pub FeedsEither : ReaderState → List ℕ → Result FedRow Stop → ReaderState → Type 0
-FeedsEither old piece answer new =
-    (bytes : List ℕ) (m : ℕ) → HasReadSoFar bytes m old → AfterFeedKeeping bytes m piece answer new × (old.by_row ≡ true → AfterFeedRow bytes m piece answer new)
-
 -- if its result is NoMemory
 abbrev pub AsksOnFeedRow : ReaderState → List ℕ → Result FedRow Stop → ReaderState → Type 0
 AsksOnFeedRow old piece answer new =
@@ -258,3 +251,29 @@ EndsDoneRow (Ok fed.More) r = r.done ≡ false
 EndsDoneRow (Ok (fed.Row used)) r = r.done ≡ false
 EndsDoneRow (Ok (fed.Done used)) r = r.done ≡ true
 EndsDoneRow (Err e) r = r.done ≡ false
+
+-- HOW A PIECE IS READ, whatever it is fed for: what is read of a reader, the reader with that, and after its result
+abbrev pub work_of : ReaderState → StripWork
+work_of r = record { file = r.file; by_row = r.in_rows; rows = r.rows; strip = r.strip }
+
+abbrev pub with_work : ReaderState → StripWork → ReaderState
+with_work r work = record r { file = work.file; in_rows = work.by_row; rows = work.rows; strip = work.strip }
+
+abbrev pub after_piece : Result FedRow Stop → ReaderState → ReaderState
+after_piece (Ok fed.More) r = r
+after_piece (Ok (fed.Row used)) r = r
+after_piece (Ok (fed.Done used)) r = record r { done = true }
+after_piece (Err e) r = record r { stop = Some e }
+
+-- a piece of a reader that hasn't stopped; where no markers are kept it asks for no memory with a current MCU row
+pub record ReadsInto (old : ReaderState) (piece : List ℕ) (answer : Result FedRow Stop) (new : ReaderState) : Type 0 where
+  pub work : StripWork
+  pub read : ReadsPiece old.limits (work_of old) piece answer work
+  pub is : new ≡ after_piece answer (with_work old work)
+  pub limited : AreLimits old.limits
+  pub in_rows : old.by_row ≡ true → old.in_rows ≡ true
+  pub memory : old.by_row ≡ true → WantsNone answer work.rows
+  pub given : (bytes : List ℕ) × RowsOpen old.limits bytes old.rows old.file
+
+abbrev pub ReadsOne : ReaderState → List ℕ → Result FedRow Stop → ReaderState → Type 0
+ReadsOne old piece answer new = old.stop ≡ None → ReadsInto old piece answer new

@@ -1,11 +1,10 @@
 -- A fault that a piece reveals, in a file that is read MCU row by MCU row: which MCU rows the bytes up to it complete
 -- (T.81, A.2.3, B.2.1).
-use Rattle.std.specs.Prelude.{◌≡◌, ℕ, List, ◌++◌, take, Option, Some, None, Result, Ok, Err}
+use Rattle.std.specs.Prelude.{◌≡◌, ℕ, List, Option, Some, None}
 use Rattle.jpg_spec.specs.Markers.{Segment}
 use Rattle.jpg_spec.specs.RowsParsed.{BeginsScanOfAll}
 use Rattle.jpg_spec.specs.declared.fault.FaultAt.{FaultAt}
 use Rattle.jpg_spec.specs.declared.frame.Limits.{Limits}
-use Rattle.jpg_base.specs.declared.stop.Stop.{Stop}
 use Rattle.jpg_base.specs.declared.stop.Stop.TheVariants as stop
 use Rattle.jpg_file.specs.Read.File.{limits_of}
 use Rattle.jpg_file.specs.Read.FirstHeader.{IsFirstHeaderOf}
@@ -13,7 +12,6 @@ use Rattle.jpg_file.specs.Read.RowsKnown.{RowsKnown}
 use Rattle.jpg_file.specs.Read.RowsSoFar.{RowsSoFar}
 use Rattle.jpg_file.specs.Read.Strips.{RepresentsRows}
 use Rattle.jpg_file.specs.declared.read.file.FileWork.{FileWork}
-use Rattle.jpg_file.specs.declared.read.pieces.FedRow.{FedRow}
 use Rattle.jpg_file.specs.declared.read.rows.RowWork.{RowWork}
 use Rattle.jpg_file.specs.declared.read.strip_head.StripHead.{StripHead}
 use Rattle.jpg_file.specs.declared.read.strip_work.StripWork.{StripWork}
@@ -41,8 +39,3 @@ abbrev pub RowsFault : Limits → List ℕ → List ℕ → Option RowWork → S
 RowsFault limits bytes all (Some rows) new after = RowsSoFar limits all rows × HeadAtFault limits bytes all new.file
 RowsFault limits bytes all None new (Some after) = BeganAtFault limits all new.strip new.file
 RowsFault limits bytes all None new None = Unit {0}
-
-abbrev pub FaultsFed : Limits → List ℕ → List ℕ → Result FedRow Stop → Option RowWork → StripWork → Type 0
-FaultsFed limits bytes piece (Ok x) rows new = Unit {0}
-FaultsFed limits bytes piece (Err (stop.Fault f)) rows new = RowsFault limits bytes (take f.at (bytes ++ piece)) rows new new.rows
-FaultsFed limits bytes piece (Err stop.NoMemory) rows new = Unit {0}

@@ -1,20 +1,17 @@
 -- A file that is being read MCU row by MCU row, and a piece of it (T.81, A.2.3, B.2.1).
-use Rattle.std.specs.Prelude.{◌≡◌, ℕ, ◌+◌, ◌<◌, ◌≤◌, List, [], ◌∷◌, ◌++◌, length, take, Option, None, is_some, true, false, Result, Ok, Err}
+use Rattle.std.specs.Prelude.{◌≡◌, ℕ, ◌<◌, ◌≤◌, List, [], ◌∷◌, ◌++◌, length, take, Option, None, is_some, true, false, Result, Ok, Err}
 use Rattle.jpg_spec.specs.UnfinishedFile.{UnfinishedFile}
 use Rattle.jpg_spec.specs.declared.frame.Limits.{Limits}
 use Rattle.jpg_spec.specs.declared.frame.Copying.TheVariants as copying
 use Rattle.jpg_base.specs.declared.stop.Stop.{Stop}
 use Rattle.jpg_base.specs.declared.stop.Stop.TheVariants as stop
-use Rattle.jpg_file.specs.Read.ReadFile.{AsksForMemory, IsStopOf, KeepsHead, KeepsHeadAt}
+use Rattle.jpg_file.specs.Read.ReadFile.{IsStopOf, KeepsHead, KeepsHeadAt}
 use Rattle.jpg_file.specs.Read.File.{keeping_of}
-use Rattle.jpg_file.specs.Read.RowsKnown.{KnowsRows}
-use Rattle.jpg_file.specs.Read.RowsSoFar.{LacksRow}
 use Rattle.jpg_file.specs.Read.Strips.{AfterStrip, CountsStrip, SparesRows, StripGoes, RepresentsStrip}
 use Rattle.jpg_file.specs.declared.read.file.FileWork.{FileWork}
 use Rattle.jpg_file.specs.declared.read.pieces.FedRow.{FedRow}
 use Rattle.jpg_file.specs.declared.read.pieces.FedRow.TheVariants as fed
 use Rattle.jpg_file.specs.declared.read.rows.RowWork.{RowWork}
-use Rattle.jpg_file.specs.declared.read.strip_head.StripHead.{StripHead}
 use Rattle.jpg_file.specs.declared.read.strip_work.StripWork.{StripWork}
 use Rattle.jpg_file.specs.declared.read.step.Step.TheVariants as step
 
@@ -61,13 +58,6 @@ CountsFed (Ok (fed.Row used)) rows after = CountsStrip step.Row rows after
 CountsFed (Ok (fed.Done used)) rows after = CountsStrip step.Whole rows after
 CountsFed (Err e) rows after = Unit {0}
 
--- WITH NO CURRENT MCU ROW before: what is known of those that began
-abbrev pub KnowsFed : Limits → List ℕ → List ℕ → Result FedRow Stop → Option RowWork → Option StripHead → Type 0
-KnowsFed limits bytes piece (Ok fed.More) rows strip = KnowsRows limits (bytes ++ piece) 0 rows strip
-KnowsFed limits bytes piece (Ok (fed.Row used)) rows strip = KnowsRows limits (bytes ++ take used piece) 1 rows strip
-KnowsFed limits bytes piece (Ok (fed.Done used)) rows strip = KnowsRows limits (bytes ++ take used piece) 0 rows strip
-KnowsFed limits bytes piece (Err e) rows strip = Unit {0}
-
 -- WHAT DOESN'T CHANGE: whether MCU rows are read, the current one, the head of its picture, which markers are to be
 -- kept, and that no memory is asked for
 pub record KeepsWork (old new : StripWork) : Type 0 where
@@ -77,19 +67,6 @@ pub record KeepsWork (old new : StripWork) : Type 0 where
   pub strip : is_some old.rows ≡ true → new.strip ≡ old.strip
   pub keeping : keeping_of new.file ≡ keeping_of old.file
   pub sparing : keeping_of old.file ≡ copying.None → SparesRows old.rows old.file → SparesRows new.rows new.file
-
--- the bytes before the last one that was used don't complete the MCU row
-abbrev pub LastFed : Limits → List ℕ → List ℕ → Result FedRow Stop → Option RowWork → Type 0
-LastFed limits bytes piece (Ok fed.More) rows = Unit {0}
-LastFed limits bytes piece (Ok (fed.Row used)) rows = (early : ℕ) → used ≡ early + 1 → LacksRow limits (bytes ++ take early piece) rows
-LastFed limits bytes piece (Ok (fed.Done used)) rows = Unit {0}
-LastFed limits bytes piece (Err e) rows = Unit {0}
-
--- memory is asked for between items
-abbrev pub AsksFed : Limits → List ℕ → List ℕ → Result FedRow Stop → FileWork → Type 0
-AsksFed limits bytes piece (Ok x) w = Unit {0}
-AsksFed limits bytes piece (Err (stop.Fault f)) w = Unit {0}
-AsksFed limits bytes piece (Err stop.NoMemory) w = AsksForMemory limits (length bytes) (bytes ++ piece) w.head
 
 -- with a current MCU row NoMemory isn't returned
 abbrev pub WantsNone : Result FedRow Stop → Option RowWork → Type 0

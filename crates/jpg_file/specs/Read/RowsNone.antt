@@ -1,18 +1,15 @@
 -- Bytes in which no scan of all components begins, after which there is no current MCU row (T.81, A.2.3, B.2.1).
-use Rattle.std.specs.Prelude.{◌≡◌, ℕ, List, [], ◌∷◌, ◌++◌, take, Option, Some, None, Result, Ok, Err}
+use Rattle.std.specs.Prelude.{◌≡◌, ℕ, List, [], ◌∷◌, ◌++◌, take, Option, Some, None}
 use Rattle.jpg_spec.specs.Items.{contents_rule, segments_of}
 use Rattle.jpg_spec.specs.Geometry.{Frame}
 use Rattle.jpg_spec.specs.Markers.{Segment}
 use Rattle.jpg_spec.specs.RowsParsed.{BeginsScanOfAll, IsScanOfAll}
 use Rattle.jpg_spec.specs.Segments.{ScanHead}
 use Rattle.jpg_spec.specs.declared.frame.Limits.{Limits}
-use Rattle.jpg_base.specs.declared.stop.Stop.{Stop}
 use Rattle.jpg_base.specs.declared.stop.Stop.TheVariants as stop
 use Rattle.jpg_file.specs.Read.File.{HasCompleteHeader, RepresentsFile, limits_of}
 use Rattle.jpg_file.specs.Read.Strips.{contents_held}
 use Rattle.jpg_file.specs.declared.read.file.FileWork.{FileWork}
-use Rattle.jpg_file.specs.declared.read.pieces.FedRow.{FedRow}
-use Rattle.jpg_file.specs.declared.read.pieces.FedRow.TheVariants as fed
 use Rattle.jpg_file.specs.declared.read.rows.RowWork.{RowWork}
 use Rattle.jpg_file.specs.declared.read.strip_work.StripWork.{StripWork}
 use Rattle.jpg_file.specs.declared.read.step.Step.{Step}
@@ -54,11 +51,3 @@ NoneByte old byte answer new = (bytes : List ℕ) → RepresentsFile (limits_of 
 abbrev pub NoneSome : StripWork → List ℕ → ℕ → Step → StripWork → Type 0
 NoneSome old run n answer new =
     (bytes : List ℕ) → RepresentsFile (limits_of old.file) bytes old.file → HasNoRows (limits_of old.file) bytes → NoneAfter (limits_of old.file) (bytes ++ take n run) answer new.rows
-
--- A PIECE: for a fault, the bytes with the one that reveals it
-abbrev pub NoneFed : Limits → List ℕ → List ℕ → Result FedRow Stop → Option RowWork → Type 0
-NoneFed limits bytes piece (Ok fed.More) rows = NoRowsIn limits (bytes ++ piece) rows
-NoneFed limits bytes piece (Ok (fed.Row used)) rows = Unit {0}
-NoneFed limits bytes piece (Ok (fed.Done used)) rows = NoRowsIn limits (bytes ++ take used piece) rows
-NoneFed limits bytes piece (Err (stop.Fault f)) rows = NoRowsIn limits (take f.at (bytes ++ piece)) rows
-NoneFed limits bytes piece (Err stop.NoMemory) rows = Unit {0}

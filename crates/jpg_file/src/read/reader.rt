@@ -7,7 +7,7 @@ ghost use Rattle.jpg_base.specs.declared.stop.Stop.{Stop as Stopped};
 ghost use Rattle.jpg_file.specs.Read.File.{keeping_of};
 ghost use Rattle.jpg_file.specs.Read.PictureRead.{TakesEarly, TakesPicture};
 ghost use Rattle.jpg_file.specs.Read.ReadFile.{AfterEnd, AsksOnFeed, EndsDone, EndsWith, FeedsFile, HasRead, TellsBegun, head_seen};
-ghost use Rattle.jpg_file.specs.Read.ReadRows.{AsksOnFeedKeeping, AsksOnFeedRow, FeedsEither, FeedsKeeping, IsByRow, IsPlain, EndsDoneRow, EndsRow, FeedsRow, HasBegunRows, HasGivenRow, HasReadPlainly, HasReadRows, picture_read};
+ghost use Rattle.jpg_file.specs.Read.ReadRows.{AsksOnFeedKeeping, AsksOnFeedRow, FeedsKeeping, IsPlain, ReadsOne, EndsDoneRow, EndsRow, FeedsRow, HasBegunRows, HasGivenRow, HasReadPlainly, HasReadRows, picture_read};
 ghost use Rattle.jpg_file.specs.Read.RowsKnown.{TellsStrip};
 ghost use Rattle.jpg_file.specs.Read.ScanPieces.{AsksOnFeedScan, EndsDoneScan, FeedsScan};
 ghost use Rattle.jpg_file.specs.Read.ScansEnded.{ScansEnded};
@@ -165,20 +165,11 @@ impl Reader {
         ensures keeping { keeping_of self.new.file ≡ keeping_of self.old.file }
         ensures plain { IsPlain self.new }
     {
-        if let Some(stop) = self.stop {
-            return Err(stop);
-        }
-        match read_rows(&mut self.work, self.limits, piece) {
+        match self.read(piece) {
             Ok(FedRow::More) => Ok(Fed::More),
             Ok(FedRow::Row { .. }) => unreachable!(),
-            Ok(FedRow::Done { used }) => {
-                self.done = true;
-                Ok(Fed::Done { used })
-            }
-            Err(stop) => {
-                self.stop = Some(stop);
-                Err(stop)
-            }
+            Ok(FedRow::Done { used }) => Ok(Fed::Done { used }),
+            Err(stop) => Err(stop),
         }
     }
 
@@ -233,7 +224,7 @@ impl Reader {
         ensures keeping { keeping_of self.new.file ≡ keeping_of self.old.file }
         ensures by_row { self.new.by_row ≡ true }
     {
-        self.next_row(piece)
+        self.read(piece)
     }
 
     /// As `feed_row`, of a reader of `strips_keeping`. It returns NoMemory also after rows began, where a marker is to be
@@ -250,16 +241,14 @@ impl Reader {
         ensures keeping { keeping_of self.new.file ≡ keeping_of self.old.file }
         ensures in_rows { self.new.in_rows ≡ true }
     {
-        self.next_row(piece)
+        self.read(piece)
     }
 
-    // Takes a further piece, up to the byte with the last bit of the next MCU row.
-    fn next_row(&mut self, piece: &[u8]) -> Result<FedRow, Stop>
-        requires undone { self.old.done ≡ false }
-        requires by_row { IsByRow self.old }
-        ensures answered { FeedsEither self.old piece.now result self.new }
-        ensures memory { AsksOnFeedKeeping self.old piece.now result self.new }
-        ensures asks { self.old.by_row ≡ true → AsksOnFeedRow self.old piece.now result self.new }
+    // Takes a further piece, up to the byte with the last bit of the next MCU row, if MCU rows are read.
+    fn read(&mut self, piece: &[u8]) -> Result<FedRow, Stop>
+        requires { self.old.done ≡ false }
+        ensures read { ReadsOne self.old piece.now result self.new }
+        ensures plain { IsPlain self.old → IsPlain self.new }
         ensures done { EndsDoneRow result self.new }
         ensures stopped { (stop : Stopped) → result ≡ Err stop → self.new.stop ≡ Some stop }
         ensures again { (stop : Stopped) → self.old.stop ≡ Some stop → (result ≡ Err stop) × (self.new ≡ self.old) }

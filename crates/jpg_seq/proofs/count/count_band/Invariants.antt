@@ -1,4 +1,4 @@
-use Rattle.std.specs.Prelude.{◌≡◌, ◌≤◌, ◌-◌, drop}
+use Rattle.std.proofs.Common.{◌≡◌, ◌≤◌, ◌-◌, drop}
 use Rattle.jpg_base.specs.Marks.{marks}
 use Rattle.jpg_huff.specs.Counts.{AreCounts, NotesBut}
 use Rattle.jpg_seq.specs.Counted.{band_marks}

@@ -1,5 +1,4 @@
-use Rattle.std.proofs.Common.{false, refl, sym, subst}
-use Rattle.std.specs.Prelude.{flat_map}
+use Rattle.std.proofs.Common.{false, refl, sym, subst, flat_map}
 use Rattle.jpg_spec.specs.Scan.{part_of}
 use Rattle.jpg_huff.specs.Counts.{no_counts, Notes}
 use Rattle.jpg_coefs.specs.Sinks.{intervals_due}

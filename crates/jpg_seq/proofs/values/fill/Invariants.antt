@@ -1,4 +1,4 @@
-use Rattle.std.specs.Prelude.{◌≡◌, ◌<◌, ℕ, length, slice_index_or}
+use Rattle.std.proofs.Common.{◌≡◌, ◌<◌, ℕ, length, slice_index_or}
 use Rattle.jpg_spec.specs.Bits.{bits_of}
 use Rattle.jpg_seq.specs.Values.{TellsOrNone, no_entry}
 use Rattle.jpg_seq.proofs.values.fill.Given as goal

@@ -1,5 +1,4 @@
-use Rattle.std.proofs.Common.{◌/◌, ◌%◌, length, ap, arith, nat_eq, ◌∷◌, []}
-use Rattle.std.proofs.lemmas.List.{length-append}
+use Rattle.std.proofs.Common.{◌/◌, ◌%◌, length, ap, arith, nat_eq, ◌∷◌, [], length-append}
 use Rattle.jpg_seq.proofs.Sources.{pushed_long}
 use Rattle.jpg_seq.proofs.ShortValue.{ten_split}
 use Rattle.jpg_seq.proofs.values.ten_bits.Goals as goal

@@ -1,9 +1,8 @@
-use Rattle.std.proofs.Common.{rules, ◌≡◌, ◌≤◌, ◌+◌, ◌*◌, [], ℕ, ℤ, pos, length, take, refl, ◌∙◌, subst, arith}
+use Rattle.std.proofs.Common.{rules, ◌≡◌, ◌≤◌, ◌+◌, ◌*◌, [], ℕ, ℤ, pos, length, take, refl, ◌∙◌, subst, arith, length-take-le}
 use Rattle.std.specs.List.{Contains}
 use mir.Syntax.{w16}
 use mir.Val.{SFits}
 use Rattle.std.proofs.lemmas.Int.{to_z-of_z}
-use Rattle.std.proofs.lemmas.List.{length-take-le}
 use Rattle.jpg_seq.specs.Work.{Env, env_of}
 use Rattle.jpg_seq.proofs.Items.{none_taken, first_bad, first_comes, waits}
 use Rattle.jpg_seq.proofs.work.next_dc.Goals as goal

@@ -1,4 +1,4 @@
-use Rattle.std.specs.Prelude.{◌≤◌}
+use Rattle.std.proofs.Common.{◌≤◌}
 use Rattle.jpg_seq.proofs.write.has_large.Given as goal
 
 abbrev pub invariant-loop-k : goal.invariant-loop-k

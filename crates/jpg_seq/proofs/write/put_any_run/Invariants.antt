@@ -1,4 +1,4 @@
-use Rattle.std.specs.Prelude.{◌≡◌, true}
+use Rattle.std.proofs.Common.{◌≡◌, true}
 use Rattle.jpg_seq.specs.BlockBits.{run_bits}
 use Rattle.jpg_huff.specs.BitOut.{Puts}
 use Rattle.jpg_huff.proofs.InParts.{DoneButFor}

@@ -1,4 +1,4 @@
-use Rattle.std.specs.Prelude.{◌≡◌, ◌≤◌, ◌-◌, true, drop, []}
+use Rattle.std.proofs.Common.{◌≡◌, ◌≤◌, ◌-◌, true, drop, []}
 use Rattle.jpg_seq.specs.BlockBits.{band_bits}
 use Rattle.jpg_huff.specs.BitOut.{Puts, holding}
 use Rattle.jpg_huff.proofs.InParts.{DoneButFor}

@@ -1,7 +1,6 @@
-use Rattle.std.proofs.Common.{◌≡◌, ◌≤◌, ◌++◌, Ok, Err, pos, sym, ap, ◌∙◌, subst, rules, drop}
+use Rattle.std.proofs.Common.{◌≡◌, ◌≤◌, ◌++◌, Ok, Err, pos, sym, ap, ◌∙◌, subst, rules, drop, slice_index_or, ◌-ℤ◌}
 use mir.Syntax.{w16, w32}
 use mir.Val.{SFits, to_z, of_z}
-use Rattle.std.specs.Prelude.{slice_index_or, ◌-ℤ◌}
 use Rattle.std.proofs.lemmas.Int.{to_z-of_z}
 use Rattle.std.proofs.lemmas.Result.{err_from_is_err_and}
 use Rattle.jpg_spec.specs.Numbers.{category, extra_bits}

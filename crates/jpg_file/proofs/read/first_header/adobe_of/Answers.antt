@@ -1,6 +1,4 @@
-use Rattle.std.proofs.Common.{List, [], ◌∷◌, ◌++◌, ◌∙◌, Option, refl, sym, ap, cond, Some}
-use Rattle.std.specs.Prelude.{ℕ, slice_index}
-use Rattle.std.proofs.lemmas.List.{append-nil, append_assoc}
+use Rattle.std.proofs.Common.{List, [], ◌∷◌, ◌++◌, ◌∙◌, Option, refl, sym, ap, cond, Some, ℕ, slice_index, append-nil, append_assoc}
 use Rattle.jpg_spec.specs.Jfif.{adobe_transform, is_adobe}
 use Rattle.jpg_spec.specs.Markers.{Segment}
 use Rattle.jpg_markers.specs.Kept.{kept_pair}

@@ -1,4 +1,4 @@
-use Rattle.std.specs.Prelude.{◌≡◌, ◌++◌, List, length}
+use Rattle.std.proofs.Common.{◌≡◌, ◌++◌, List, length}
 use Rattle.jpg_spec.specs.Jfif.{adobe_transform}
 use Rattle.jpg_spec.specs.Markers.{Segment}
 use Rattle.jpg_file.proofs.read.first_header.adobe_of.Given as goal

@@ -1,6 +1,4 @@
-use Rattle.std.proofs.Common.{◌-◌, ◌/◌, length, take, drop, subst, sym, ◌∙◌, arith, Bool, List}
-use Rattle.std.specs.Prelude.{ℕ}
-use Rattle.std.proofs.lemmas.List.{take_all, length-drop}
+use Rattle.std.proofs.Common.{◌-◌, ◌/◌, length, take, drop, subst, sym, ◌∙◌, arith, Bool, List, ℕ, take_all, length-drop}
 use Rattle.jpg_spec.specs.Bits.{bits_of_bytes}
 use Rattle.jpg_coefs.specs.Machine.{TakesBits}
 use Rattle.jpg_coefs.specs.declared.machine.Taken.{Taken}

@@ -1,4 +1,4 @@
-use Rattle.std.specs.Prelude.{◌≡◌, ◌<◌, ℕ, [], length, slice_index_or, unwrap_or}
+use Rattle.std.proofs.Common.{◌≡◌, ◌<◌, ℕ, [], length, slice_index_or, unwrap_or}
 use Rattle.jpg_spec.specs.QuantContents.{quant_in}
 use Rattle.jpg_file.proofs.read.picture_taken.tables_of.Given as goal
 

@@ -5,8 +5,7 @@ use Rattle.jpg_base.specs.declared.stop.Stop.{Stop}
 use Rattle.jpg_file.specs.Read.PieceTaken.{ReadsOn}
 use Rattle.jpg_file.specs.Read.Strips.{StripGoes}
 use Rattle.jpg_file.specs.declared.read.step.Step.{Step}
-use Rattle.jpg_file.proofs.ByRow.RowPieces.{AfterSome, after_some, begun_piece, piece_full, piece_wanted}
-use Rattle.jpg_file.proofs.ByRow.StripBytes.{strip_limits}
+use Rattle.jpg_file.proofs.ByRow.RowPieces.{AfterSome, after_some, begun_piece, piece_full, piece_wanted, work_limits}
 use Rattle.jpg_file.proofs.read.pieces.read_on.Goals as goal
 
 pub some-n-requires-clause-stands : goal.some-n-requires-clause-stands
@@ -14,21 +13,15 @@ some-n-requires-clause-stands c =
     let o = c.requires.open in
     let work = c.loop-done.work in
     let front = o.0 ++ take c.loop-done.done c.args.piece.now in
-    let k = c.loop-done.invariant.goes o.0 o.1 in
-    (front, subst (λ (l : Limits). StripGoes l front work.rows work.file) (sym (strip_limits c.args.limits front work.rows work.file k.goes)) k.goes)
+    (front, subst (λ (l : Limits). StripGoes l front work.rows work.file) (sym (work_limits c.loop-done.invariant o)) (c.loop-done.invariant.goes o.0 o.1).goes)
 
 pub some-n-requires-clause-limits : goal.some-n-requires-clause-limits
-some-n-requires-clause-limits c =
-    let o = c.requires.open in
-    let work = c.loop-done.work in
-    subst (λ (l : Limits). AreLimits l) (sym (strip_limits c.args.limits (o.0 ++ take c.loop-done.done c.args.piece.now) work.rows work.file (c.loop-done.invariant.goes o.0 o.1).goes)) c.requires.limits
+some-n-requires-clause-limits c = subst (λ (l : Limits). AreLimits l) (sym (work_limits c.loop-done.invariant c.requires.open)) c.requires.limits
 
 pub some-n-requires-clause-room : goal.some-n-requires-clause-room
 some-n-requires-clause-room c =
-    let o = c.requires.open in
-    let work = c.loop-done.work in
     let short = c.if-work-limits.false in
-    subst (λ (l : Limits). work.file.reading.taken < l.input) (sym (strip_limits c.args.limits (o.0 ++ take c.loop-done.done c.args.piece.now) work.rows work.file (c.loop-done.invariant.goes o.0 o.1).goes)) (omega (arith, short))
+    subst (λ (l : Limits). c.loop-done.work.file.reading.taken < l.input) (sym (work_limits c.loop-done.invariant c.requires.open)) (omega (arith, short))
 
 pub loop-done-init : goal.loop-done-init
 loop-done-init c = begun_piece c.args.limits c.args.piece.now c.args.work.now

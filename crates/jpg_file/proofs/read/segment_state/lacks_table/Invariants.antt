@@ -1,4 +1,4 @@
-use Rattle.std.specs.Prelude.{◌≡◌, ◌<◌, All, length}
+use Rattle.std.proofs.Common.{◌≡◌, ◌<◌, All, length}
 use Rattle.jpg_spec.specs.Lists.{any_of}
 use Rattle.jpg_file.specs.Read.SegmentState.{lacks_any, lacks_part, segments_view}
 use Rattle.jpg_file.proofs.read.segment_state.lacks_table.Given as goal

@@ -1,4 +1,4 @@
-use Rattle.std.specs.Prelude.{◌≡◌, ◌+◌, ◌*◌, ◌∷◌, length, take, flat_map}
+use Rattle.std.proofs.Common.{◌≡◌, ◌+◌, ◌*◌, ◌∷◌, length, take, flat_map}
 use Rattle.jpg_spec.specs.FrameHeader.{identifiers}
 use Rattle.jpg_file.specs.Write.WriteScan.{part_bytes}
 use Rattle.jpg_file.proofs.write.head.contents_of.Given as goal

@@ -1,4 +1,4 @@
-use Rattle.std.specs.Prelude.{◌≡◌, ◌≤◌, ◌*◌, ◌∷◌, ◌++◌, [], if◌then◌else◌, flat_map, length, take}
+use Rattle.std.proofs.Common.{◌≡◌, ◌≤◌, ◌*◌, ◌∷◌, ◌++◌, [], if◌then◌else◌, flat_map, length, take}
 use Rattle.jpg_file.proofs.write.head.needed_of.Given as goal
 
 abbrev pub invariant-loop-part : goal.invariant-loop-part

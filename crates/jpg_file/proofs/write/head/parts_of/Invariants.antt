@@ -1,4 +1,4 @@
-use Rattle.std.specs.Prelude.{◌≡◌, length, map, take}
+use Rattle.std.proofs.Common.{◌≡◌, length, map, take}
 use Rattle.jpg_file.specs.Write.WriteScan.{scan_part}
 use Rattle.jpg_file.proofs.write.head.parts_of.Given as goal
 

@@ -1,4 +1,4 @@
-use Rattle.std.specs.Prelude.{◌≡◌, ◌+◌, ◌∷◌, ◌++◌, length, take}
+use Rattle.std.proofs.Common.{◌≡◌, ◌+◌, ◌∷◌, ◌++◌, length, take}
 use Rattle.jpg_huff.specs.Tables.{table_of}
 use Rattle.jpg_file.proofs.write.tables.contents_of.Given as goal
 

@@ -1,4 +1,4 @@
-use Rattle.std.specs.Prelude.{◌≡◌, drop}
+use Rattle.std.proofs.Common.{◌≡◌, drop}
 use Rattle.jpg_spec_write.specs.FileText.{tables_given, tables_text}
 use Rattle.jpg_huff.specs.BitOut.{CanSend, Sends}
 use Rattle.jpg_huff.proofs.InParts.{DoneButFor}

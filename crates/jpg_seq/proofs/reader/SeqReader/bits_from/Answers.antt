@@ -1,5 +1,4 @@
-use Rattle.std.proofs.Common.{◌≡◌, ◌++◌, [], List, Bool, length, ap, sym, ◌∙◌, subst, arith}
-use Rattle.std.proofs.lemmas.List.{append-nil, length-append}
+use Rattle.std.proofs.Common.{◌≡◌, ◌++◌, [], List, Bool, length, ap, sym, ◌∙◌, subst, arith, append-nil, length-append}
 use Rattle.jpg_seq.specs.Source.{bits_in}
 use Rattle.jpg_seq.specs.Reader.{with_work}
 use Rattle.jpg_seq.specs.RowTaken.{IsOpen, ReadsInto}

@@ -1,5 +1,4 @@
-use Rattle.std.proofs.Common.{◌-◌, List, Bool, length, ap, sym, ◌∙◌, subst, arith}
-use Rattle.std.proofs.lemmas.List.{length-append}
+use Rattle.std.proofs.Common.{◌-◌, List, Bool, length, ap, sym, ◌∙◌, subst, arith, length-append}
 use Rattle.jpg_spec.specs.Bits.{bits_of_bytes}
 use Rattle.jpg_seq.specs.Source.{bits_in}
 use Rattle.jpg_seq.specs.Reader.{with_work}

@@ -1,7 +1,6 @@
-use Rattle.std.proofs.Common.{rules, ◌≡◌, ℤ, sym, ap, ◌∙◌, subst}
+use Rattle.std.proofs.Common.{rules, ◌≡◌, ℤ, sym, ap, ◌∙◌, subst, Some}
 use mir.Syntax.{w16}
 use Rattle.std.proofs.lemmas.Int.{to_z-of_z}
-use Rattle.std.specs.Prelude.{Some}
 use Rattle.jpg_seq.specs.declared.work.Coder.{Coder}
 use Rattle.jpg_seq.specs.Coder.{env_in}
 use Rattle.jpg_seq.specs.Work.{TakesFromStore}

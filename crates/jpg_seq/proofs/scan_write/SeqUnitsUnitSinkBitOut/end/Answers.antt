@@ -1,5 +1,4 @@
-use Rattle.std.proofs.Common.{refl, ap}
-use Rattle.std.specs.Prelude.{true, false, flat_map}
+use Rattle.std.proofs.Common.{refl, ap, true, false, flat_map}
 use Rattle.jpg_spec_write.specs.ScanText.{unit_elements, element_bits}
 use Rattle.jpg_coefs.specs.Sinks.{at, no_last}
 use Rattle.jpg_coefs.proofs.BitSinks.{plain_ends}

@@ -1,4 +1,4 @@
-use Rattle.std.specs.Prelude.{◌-◌, length}
+use Rattle.std.proofs.Common.{◌-◌, length}
 use Rattle.jpg_seq.specs.declared.work.UnitProgress.TheVariants.{More}
 use Rattle.jpg_seq.specs.Coder.{env_in}
 use Rattle.jpg_seq.specs.SourceTaken.{TakesFrom}

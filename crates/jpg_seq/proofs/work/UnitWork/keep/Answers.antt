@@ -1,5 +1,5 @@
-use Rattle.std.proofs.Common.{◌≡◌, ◌++◌, List, Bool, length, take, ap, sym, ◌∙◌, arith}
-use Rattle.std.proofs.lemmas.List.{length-append, take_all, drop_all}
+use Rattle.std.proofs.Common.{◌≡◌, ◌++◌, List, Bool, length, take, ap, sym, ◌∙◌, arith, length-append, take_all}
+use Rattle.std.proofs.lemmas.List.{drop_all}
 use Rattle.jpg_seq.specs.Work.{Work}
 use Rattle.jpg_seq.proofs.work.UnitWork.keep.Goals as goal
 

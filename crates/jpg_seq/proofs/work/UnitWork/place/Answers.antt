@@ -1,8 +1,7 @@
-use Rattle.std.proofs.Common.{rules, ◌≡◌, ◌+◌, ◌++◌, ◌∷◌, [], List, ℕ, ℤ, length, take, set, sym, ap, ◌∙◌, subst, arith}
+use Rattle.std.proofs.Common.{rules, ◌≡◌, ◌+◌, ◌++◌, ◌∷◌, [], List, ℕ, ℤ, length, take, set, sym, ap, ◌∙◌, subst, arith, length-take-le, append_assoc}
 use mir.Syntax.{w16}
 use mir.Val.{SFits}
 use Rattle.std.proofs.lemmas.Int.{to_z-of_z}
-use Rattle.std.proofs.lemmas.List.{length-take-le, append_assoc}
 use Rattle.jpg_spec.specs.Elements.{zeros}
 use Rattle.jpg_seq.specs.Work.{Work, IsBlockSoFar}
 use Rattle.jpg_seq.proofs.Leaf.{placed_so_far, place_values}

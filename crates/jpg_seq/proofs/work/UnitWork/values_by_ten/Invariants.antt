@@ -1,4 +1,4 @@
-use Rattle.std.specs.Prelude.{◌≡◌, ◌<◌, ◌≤◌, ◌-◌, [], length}
+use Rattle.std.proofs.Common.{◌≡◌, ◌<◌, ◌≤◌, ◌-◌, [], length}
 use Rattle.jpg_seq.specs.declared.work.UnitProgress.TheVariants.{More}
 use Rattle.jpg_seq.specs.ShortTaken.{TakesShortValues}
 use Rattle.jpg_seq.proofs.work.UnitWork.values_by_ten.Given as goal

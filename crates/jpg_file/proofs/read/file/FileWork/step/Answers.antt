@@ -1,5 +1,4 @@
-use Rattle.std.proofs.Common.{◌∷◌, [], ◌∙◌, refl, sym, arith}
-use Rattle.std.proofs.lemmas.List.{length-append}
+use Rattle.std.proofs.Common.{◌∷◌, [], ◌∙◌, refl, sym, arith, length-append}
 use Rattle.jpg_file.proofs.Files.FileSteps.{after_between, after_inside, between_of, inside_of, itemising}
 use Rattle.jpg_file.proofs.Files.PieceSteps.{counted}
 use Rattle.jpg_file.specs.Read.File.{limits_of}

@@ -1,5 +1,4 @@
-use Rattle.std.proofs.Common.{◌≡◌, ◌∙◌, ◌+◌, List, ◌∷◌, Ok, Err, true, false, refl, subst, sym, ap, arith}
-use Rattle.std.specs.Prelude.{is_none}
+use Rattle.std.proofs.Common.{◌≡◌, ◌∙◌, ◌+◌, List, ◌∷◌, Ok, Err, true, false, refl, subst, sym, ap, arith, is_none}
 use Rattle.jpg_spec.specs.Geometry.{Frame, component_at}
 use Rattle.jpg_spec.specs.InForce.{first_some, head_in}
 use Rattle.jpg_spec.specs.QuantContents.{Slots, quant_in}

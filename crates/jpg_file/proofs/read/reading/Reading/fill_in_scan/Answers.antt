@@ -1,5 +1,4 @@
-use Rattle.std.proofs.Common.{◌≡◌, ◌+◌, ◌-◌, ◌∙◌, ℕ, ap, arith, refl, sym}
-use Rattle.std.proofs.lemmas.List.{length-take-le, take-take}
+use Rattle.std.proofs.Common.{◌≡◌, ◌+◌, ◌-◌, ◌∙◌, ℕ, ap, arith, refl, sym, length-take-le, take-take}
 use Rattle.jpg_file.proofs.read.reading.Reading.fill_in_scan.Goals as goal
 
 pub returns-then-not-is_waiting-clause-after : goal.returns-then-not-is_waiting-clause-after

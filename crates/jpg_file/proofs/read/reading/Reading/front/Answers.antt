@@ -1,5 +1,4 @@
-use Rattle.std.proofs.Common.{◌≡◌, ◌+◌, ◌-◌, ℕ, arith, length, min, subst, take}
-use Rattle.std.proofs.lemmas.List.{length-take-le}
+use Rattle.std.proofs.Common.{◌≡◌, ◌+◌, ◌-◌, ℕ, arith, length, min, subst, take, length-take-le}
 use Rattle.jpg_file.specs.Read.Passing.{PassesMost}
 use Rattle.jpg_file.proofs.Files.PieceSteps.{can_after, can_front, goes_front, goes_then, passes_most}
 use Rattle.jpg_file.proofs.read.reading.Reading.front.Goals as goal

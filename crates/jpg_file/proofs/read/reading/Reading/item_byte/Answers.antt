@@ -1,5 +1,4 @@
-use Rattle.std.proofs.Common.{◌∙◌, ◌+◌, ◌∷◌, [], ℕ, ap, arith}
-use Rattle.std.proofs.lemmas.List.{length-append}
+use Rattle.std.proofs.Common.{◌∙◌, ◌+◌, ◌∷◌, [], ℕ, ap, arith, length-append}
 use Rattle.jpg_file.proofs.read.reading.Reading.item_byte.Goals as goal
 
 pub returns-clause-after : goal.returns-clause-after

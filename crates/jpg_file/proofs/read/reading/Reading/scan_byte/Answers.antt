@@ -1,5 +1,4 @@
-use Rattle.std.proofs.Common.{◌∙◌, Bool, Ok, [], ap, subst}
-use Rattle.std.specs.Prelude.{Result}
+use Rattle.std.proofs.Common.{◌∙◌, Bool, Ok, [], ap, subst, Result}
 use Rattle.jpg_spec.specs.declared.fault.Fault.{Fault}
 use Rattle.jpg_file.specs.Read.RowData.{TakesByte}
 use Rattle.jpg_file.proofs.Scans.Scannings.{IsReading, data_of, none_some, scan_goes_on, scan_shows, scan_left_after, whole_byte, whole_data}

@@ -1,5 +1,4 @@
-use Rattle.std.proofs.Common.{[], sym, ap, subst, ◌∙◌}
-use Rattle.std.specs.Prelude.{Result}
+use Rattle.std.proofs.Common.{[], sym, ap, subst, ◌∙◌, Result}
 use Rattle.jpg_spec.specs.declared.fault.Fault.{Fault}
 use Rattle.jpg_spec.proofs.Basics.Common.{some_once}
 use Rattle.jpg_file.specs.Read.RowData.{TakesRun}

@@ -1,4 +1,4 @@
-use Rattle.std.specs.Prelude.{◌≡◌, ◌-◌, length}
+use Rattle.std.proofs.Common.{◌≡◌, ◌-◌, length}
 use Rattle.jpg_file.specs.Read.Going.{GoesOn}
 use Rattle.jpg_file.specs.Read.Reading.{NeedsNoMemory}
 use Rattle.jpg_file.proofs.read.reading.Reading.segments.Given as goal

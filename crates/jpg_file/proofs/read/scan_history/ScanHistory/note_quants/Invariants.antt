@@ -1,4 +1,4 @@
-use Rattle.std.specs.Prelude.{◌≡◌, ◌<◌, ℕ, All, length}
+use Rattle.std.proofs.Common.{◌≡◌, ◌<◌, ℕ, All, length}
 use Rattle.jpg_spec.specs.InForce.{first_some}
 use Rattle.jpg_spec.specs.QuantContents.{quant_in}
 use Rattle.jpg_file.specs.Read.ScanHistory.{quant_named}

@@ -1,5 +1,4 @@
-use Rattle.std.proofs.Common.{◌≡◌, ℕ, Bool, List, [], ◌∷◌, ◌++◌, true, false, cond, refl, sym, ap, ◌∙◌, subst, Option, Some}
-use Rattle.std.specs.Prelude.{◌&&◌, ◌||◌, ◌==◌, filter, find, nat_le, length, reverse}
+use Rattle.std.proofs.Common.{◌≡◌, ℕ, Bool, List, [], ◌∷◌, ◌++◌, true, false, cond, refl, sym, ap, ◌∙◌, subst, Option, Some, ◌&&◌, ◌||◌, ◌==◌, filter, find, nat_le, length, reverse}
 use Rattle.std.proofs.lemmas.Grind.{reverse_onto}
 use Rattle.jpg_spec.specs.Markers.{Segment, is_kept, is_kept_if, kept_after}
 use Rattle.jpg_spec.specs.Jfif.{begins_adobe, begins_jfif, is_jfif, parsed_jfif}

@@ -1,5 +1,4 @@
-use Rattle.std.proofs.Common.{Option, Some, ap, refl, rules, subst, sym}
-use Rattle.std.specs.Prelude.{is_some}
+use Rattle.std.proofs.Common.{Option, Some, ap, refl, rules, subst, sym, is_some}
 use Rattle.jpg_spec.proofs.Basics.Common.{clash}
 use Rattle.jpg_file.specs.Read.File.{limits_of}
 use Rattle.jpg_file.specs.Read.Strips.{CountsStrip, SparesRows, StripGoes}
@@ -15,19 +14,11 @@ returns-then-is_none c =
     record {
       after = p.after;
       rows = subst (λ (o : Option RowWork). CountsStrip c.plain.result.1 o c.plain.new.self.rows) (sym none) tt;
-      memory = λ some. absurd (clash (is_some rows) some (ap is_some none));
-      begins = λ e. p.begins;
-      known = λ e. p.known;
-      no = λ e. p.no;
-      stops = λ e. p.stops;
-      strip = λ some. absurd (clash (is_some rows) some (ap is_some none));
       sparing = λ e s. p.sparing e;
-      head = λ some. absurd (clash (is_some rows) some (ap is_some none));
       keeping = p.keeping;
       by_row = p.by_row;
-      plain = λ e. p.plain;
-      none = λ e. p.none;
-      some = λ e. p.some;
+      fresh = λ e. record { begins = p.begins; known = p.known; no = p.no; stops = p.stops; plain = p.plain; none = p.none; some = p.some };
+      current = λ some. absurd (clash (is_some rows) some (ap is_some none));
     }
 
 pub returns : goal.returns
@@ -41,17 +32,9 @@ returns c =
           (let k = subst (λ (r : Option RowWork). StripGoes (limits_of w) bytes r w) is g in
           some_rows (limits_of w) bytes c.args.bytes.now c.take_in_row.result.0 c.take_in_row.result.1 old.rows c.in-Some.rows c.take_in_row.new.self c.take_in_row.new.rows is (t.after bytes k));
       rows = subst (λ (o : Option RowWork). CountsStrip c.take_in_row.result.1 o (Some c.take_in_row.new.rows)) (sym is) t.rows;
-      memory = λ some s. t.memory (subst (λ (o : Option RowWork). SparesRows o w) is s);
-      begins = λ none. absurd (clash (is_some old.rows) (ap is_some is) (ap is_some none));
-      known = λ none. absurd (clash (is_some old.rows) (ap is_some is) (ap is_some none));
-      no = λ none. absurd (clash (is_some old.rows) (ap is_some is) (ap is_some none));
-      stops = λ none. absurd (clash (is_some old.rows) (ap is_some is) (ap is_some none));
-      strip = λ some. refl;
       sparing = λ e s. t.sparing (subst (λ (o : Option RowWork). SparesRows o w) is s);
-      head = λ some. t.head;
       keeping = t.keeping;
       by_row = refl;
-      plain = λ none. absurd (clash (is_some old.rows) (ap is_some is) (ap is_some none));
-      none = λ none. absurd (clash (is_some old.rows) (ap is_some is) (ap is_some none));
-      some = λ none. absurd (clash (is_some old.rows) (ap is_some is) (ap is_some none));
+      fresh = λ none. absurd (clash (is_some old.rows) (ap is_some is) (ap is_some none));
+      current = λ some. record { memory = λ s. t.memory (subst (λ (o : Option RowWork). SparesRows o w) is s); strip = refl; head = t.head };
     }
