@@ -26,12 +26,12 @@ use Rattle.jpg_comments.specs.Printing.{PrintsWhole}
 use Rattle.jpg_comments.specs.ReadComments.{AfterFeed as AfterComments, StopsAt as CommentsStopAt}
 use Rattle.jpg_comments.specs.declared.comments.Comments.{Comments}
 use Rattle.jpg_file.specs.Read.File.{keeping_of}
-use Rattle.jpg_file.specs.Read.Keeping.{kept_for}
+use Rattle.jpg_file.specs.Read.SegmentState.{kept_for}
 use Rattle.jpg_file.specs.Read.PictureRead.{TakesEarly, TakesPicture}
 use Rattle.jpg_file.specs.Read.ReadFile.{AfterEnd, AfterFeed, IsRefusal, ReaderState, StopsAt}
 use Rattle.jpg_file.specs.declared.read.ends.End.TheVariants as ends
 use Rattle.jpg_file.specs.declared.read.picture.Picture.{Picture}
-use Rattle.jpg_file.proofs.Files.Keeping.{kept_for_all}
+use Rattle.jpg_file.proofs.Headers.InForce.{kept_for_all}
 use Rattle.example_callers.specs.Calling.{BeginsWith, HoldsTurned, IsCommentsOf, IsNotTurned, IsPictureOf, IsTurned}
 use Rattle.example_callers.specs.declared.pictures.NotTurned.{NotTurned}
 use Rattle.example_callers.specs.declared.pictures.NotTurned.TheVariants as unturned

@@ -17,12 +17,12 @@ use Rattle.jpg_base.specs.declared.stop.Fed.TheVariants as fed
 use Rattle.jpg_base.specs.declared.stop.Stop.{Stop}
 use Rattle.jpg_base.specs.declared.stop.Stop.TheVariants as stop
 use Rattle.jpg_file.specs.Read.File.{keeping_of}
-use Rattle.jpg_file.specs.Read.Keeping.{kept_for}
+use Rattle.jpg_file.specs.Read.SegmentState.{kept_for}
 use Rattle.jpg_file.specs.Read.PictureRead.{MeansFor, TakesEarly, TakesPicture, picture_meaning}
 use Rattle.jpg_file.specs.Read.ReadFile.{AfterEnd, IsDone, IsEarlyEnd, IsRefusal, ReaderState, StopsAt}
 use Rattle.jpg_file.specs.declared.read.ends.End.TheVariants as ends
 use Rattle.jpg_file.specs.declared.read.picture.Picture.{Picture}
-use Rattle.jpg_file.proofs.Files.Keeping.{kept_for_all}
+use Rattle.jpg_file.proofs.Headers.InForce.{kept_for_all}
 use Rattle.jpg_preview.specs.Viewing.{AfterView, HasFront, HasViewed, IsShown, PreviewState, StopsFront}
 use Rattle.jpg_preview.proofs.FrontFound.{shown_has_front}
 use Rattle.example_callers.specs.FirstScans.{IsFirstScansOf}

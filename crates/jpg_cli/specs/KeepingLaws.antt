@@ -6,7 +6,7 @@ use Rattle.jpg_spec_move.specs.Moved.{Choice, moved, picture_fault}
 use Rattle.jpg_spec_image.specs.Pixels.{info, out_fault, pixels}
 use Rattle.jpg_spec.specs.declared.frame.Copying.{Copying}
 use Rattle.jpg_spec.specs.declared.frame.Copying.TheVariants as copying
-use Rattle.jpg_file.specs.Read.Keeping.{kept_for}
+use Rattle.jpg_file.specs.Read.SegmentState.{kept_for}
 
 pub record MissNothing : Type 0 where
   pub all : (M : Meaning) → kept_for copying.All M ≡ M

@@ -19,8 +19,7 @@ use Rattle.jpg_spec.proofs.Basics.Common.{length_below, neither, clash, same_of}
 use Rattle.jpg_spec.proofs.Basics.Rows.{at_below, map_map, by_items}
 use Rattle.jpg_spec.proofs.Segments.TablesInForce.{affirmed}
 use Rattle.jpg_base.proofs.Grids.{across_low, across_high, down_low, down_high}
-use Rattle.jpg_file.specs.Read.PictureKept.{component_view}
-use Rattle.jpg_file.specs.Read.StripHead.{may_have}
+use Rattle.jpg_file.specs.Read.PictureKept.{component_view, may_have}
 use Rattle.jpg_color.specs.Shown.{Display, IsShowable, picture_of, parts, all_rows, rows_in, factors_of, display_fault}
 use Rattle.jpg_spec.specs.FileMeaning.{no_blocks}
 use Rattle.jpg_spec_image.proofs.RowsCovered.{none_at, quotient_low, below_up, one_down, tall_enough, rows_enough}

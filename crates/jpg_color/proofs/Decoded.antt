@@ -18,7 +18,7 @@ use Rattle.jpg_coefs.specs.Picture.{Picture as Coefs}
 use Rattle.jpg_file.specs.Read.PictureKept.{component_view}
 use Rattle.jpg_file.specs.Read.PictureRead.{picture_meaning}
 use Rattle.jpg_file.specs.declared.read.picture.Picture.{Picture}
-use Rattle.jpg_file.proofs.ByRow.StripHeads.{picture_colours}
+use Rattle.jpg_file.proofs.ByRow.StripBegin.{colours_of_picture}
 use Rattle.jpg_pnm_bmp.specs.EndState.{EndState, CanFinish, IsImageInfo, info_of, new_end, started}
 use Rattle.jpg_pnm_bmp.proofs.SomeBytes.{text_some}
 use Rattle.jpg_color.specs.Shown.{Display, IsShowable, display_fault, factors_of, row_of_blocks}
@@ -45,7 +45,7 @@ admits_display p gray smooth none =
     ∙ ap (λ c. out_fault_of p.frame.precision c gray (map (λ c. (c.h, c.v)) (picture_meaning p).components)) p.keeps.colour ∙ none
 
 pub is_showable : (p : Picture) (gray smooth : Bool) → out_fault gray (picture_meaning p) ≡ None → IsShowable (display_in p gray smooth)
-is_showable p gray smooth none = record { frame = p.keeps.frame; tables = p.keeps.tables; colour = picture_colours p; admitted = admits_display p gray smooth none }
+is_showable p gray smooth none = record { frame = p.keeps.frame; tables = p.keeps.tables; colour = colours_of_picture p; admitted = admits_display p gray smooth none }
 
 pub image_info : (p : Picture) (gray : Bool) → out_fault gray (picture_meaning p) ≡ None → IsImageInfo (info (picture_meaning p) gray)
 image_info p gray none =

@@ -18,7 +18,7 @@ use Rattle.jpg_spec_image.specs.declared.image.ImageInfo.{ImageInfo}
 use Rattle.jpg_spec.proofs.Basics.Common.{same_itself}
 use Rattle.jpg_spec_image.specs.RowsShown.{ready_rows as rows_ready}
 use Rattle.jpg_coefs.specs.Picture.{Picture as Coefs}
-use Rattle.jpg_file.specs.Read.StripHead.{IsStripHead}
+use Rattle.jpg_file.specs.Read.PictureKept.{IsStripHead}
 use Rattle.jpg_file.specs.declared.read.strip_head.StripHead.{StripHead}
 use Rattle.jpg_pnm_bmp.specs.EndState.{EndState, Starts, held_of, info_of, new_end}
 use Rattle.jpg_color.specs.Shown.{AreMcuRow, Display, IsNextRowDue, IsFreshRows, IsPushed, IsShowable, ShownState, RepresentsPicture, all_rows, at_top, display_fault, display_of, picture_of, rows_made_ready, row_of_blocks}

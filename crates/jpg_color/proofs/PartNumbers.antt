@@ -11,7 +11,7 @@ use Rattle.jpg_spec_image.specs.Upsampling.{Stretch}
 use Rattle.jpg_spec_image.specs.Pixels.{stretch_of}
 use Rattle.jpg_spec_image.specs.Strips.{block_rows}
 use Rattle.jpg_spec.specs.declared.frame.Component.{Component}
-use Rattle.jpg_file.specs.Read.StripHead.{bare_picture}
+use Rattle.jpg_file.specs.Read.PictureKept.{bare_picture}
 use Rattle.jpg_file.specs.declared.read.strip_head.StripHead.{StripHead}
 use Rattle.jpg_color.specs.KeptRows.{KeptRows}
 use Rattle.jpg_color.specs.PartState.{AreSizes, IsMeasured, IsNewPart, state_of}

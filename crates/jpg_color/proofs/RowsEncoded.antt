@@ -32,11 +32,10 @@ use Rattle.jpg_base.proofs.UnitCounts.{length_units}
 use Rattle.jpg_coefs.specs.ScanUnits.{AgreeAt}
 use Rattle.jpg_coefs.specs.Sinks.{IsScanPlace}
 use Rattle.jpg_coefs.proofs.Places.{is_real_place, scan_places, some_places}
-use Rattle.jpg_seq.specs.Kept.{CanKeep, KeepsScan, WrittenScan, kept_scan}
-use Rattle.jpg_seq.specs.ScanWritten.{written_data}
+use Rattle.jpg_seq.specs.ScanWritten.{CanKeep, KeepsScan, WrittenScan, kept_scan, written_data}
 use Rattle.jpg_seq.specs.declared.kept_scan.KeptScan.{KeptScan}
-use Rattle.jpg_seq.specs.Rows.{BeginAt, IsInRow, row_units, rows_in_mcu, top_of}
-use Rattle.jpg_seq.proofs.ScanRows.{one_row, row_inside, row_next}
+use Rattle.jpg_seq.specs.Reader.{BeginAt, IsInRow, row_units, rows_in_mcu, top_of}
+use Rattle.jpg_seq.proofs.Machines.{one_row, row_inside, row_next}
 use Rattle.jpg_color.specs.Encode.{CanSample, blocks_due, encoded_frame, encoded_parts, encoding_request, fault_due, image_of}
 use Rattle.jpg_color.specs.EncodeBlocks.{plane_at}
 use Rattle.jpg_color.specs.EncodedParts.{row_block, table_by}

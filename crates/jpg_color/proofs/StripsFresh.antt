@@ -10,7 +10,7 @@ use Rattle.jpg_spec_image.specs.Upsampling.{Stretch, has_far_rows}
 use Rattle.jpg_spec_image.specs.Pixels.{stretch_of}
 use Rattle.jpg_spec_image.specs.Strips.{block_rows, lines, needed}
 use Rattle.jpg_spec.proofs.Basics.Common.{any_append}
-use Rattle.jpg_file.specs.Read.StripHead.{IsStripHead, bare_picture}
+use Rattle.jpg_file.specs.Read.PictureKept.{IsStripHead, bare_picture}
 use Rattle.jpg_file.specs.declared.read.strip_head.StripHead.{StripHead}
 use Rattle.jpg_color.specs.PartState.{PartState, AreSizes, head_picture, no_rows}
 use Rattle.jpg_color.specs.Shown.{Display, IsShowable, IsFreshRows, display_of, display_fault, picture_of, parts, rows_in, row_length, held_rows}

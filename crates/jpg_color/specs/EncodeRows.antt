@@ -7,10 +7,8 @@ use Rattle.jpg_spec.specs.Scan.{Blocks}
 use Rattle.jpg_spec.specs.Segments.{QuantTable, ScanHead, head_components}
 use Rattle.jpg_spec_image.specs.declared.image.ImageInfo.{ImageInfo}
 use Rattle.jpg_huff.specs.declared.set.TableSet.{TableSet}
-use Rattle.jpg_seq.specs.Kept.{KeepsScan, WrittenScan, kept_scan}
-use Rattle.jpg_seq.specs.NewReader.{IsSeqScan}
-use Rattle.jpg_seq.specs.Rows.{row_units}
-use Rattle.jpg_seq.specs.ScanWritten.{written_data}
+use Rattle.jpg_seq.specs.ScanWritten.{KeepsScan, WrittenScan, kept_scan, written_data}
+use Rattle.jpg_seq.specs.Reader.{IsSeqScan, row_units}
 use Rattle.jpg_color.specs.Encode.{blocks_due, encoded_frame, image_of}
 use Rattle.jpg_color.specs.EncodeBlocks.{plane_at}
 use Rattle.jpg_color.specs.EncodedParts.{row_block, table_by}

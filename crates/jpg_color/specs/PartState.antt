@@ -9,7 +9,7 @@ use Rattle.jpg_spec_image.specs.Upsampling.{Stretch, has_far_rows, near_row, far
 use Rattle.jpg_spec_image.specs.Pixels.{stretch_of}
 use Rattle.jpg_spec_image.specs.Strips.{block_rows, kept_row}
 use Rattle.jpg_coefs.specs.Picture.{Picture, map_of}
-use Rattle.jpg_file.specs.Read.StripHead.{bare_picture}
+use Rattle.jpg_file.specs.Read.PictureKept.{bare_picture}
 use Rattle.jpg_file.specs.declared.read.strip_head.StripHead.{StripHead}
 use Rattle.jpg_sample.specs.declared.ratio.Ratio.{Ratio}
 use Rattle.jpg_color.specs.KeptRows.{KeptRows, HasRows, with_gray, with_block_rows}

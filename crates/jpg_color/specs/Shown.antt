@@ -12,8 +12,8 @@ use Rattle.jpg_spec_image.specs.Strips.{block_rows, mcu_rows, needed, ready, IsH
 use Rattle.jpg_spec.specs.declared.fault.Fault.{Fault}
 use Rattle.jpg_spec.specs.declared.frame.Colour.{Colour}
 use Rattle.jpg_coefs.specs.Picture.{Picture, map_of}
-use Rattle.jpg_file.specs.Read.RowTurns.{zero_picture}
-use Rattle.jpg_file.specs.Read.StripHead.{bare_picture, may_have}
+use Rattle.jpg_file.specs.Read.InData.{zero_picture}
+use Rattle.jpg_file.specs.Read.PictureKept.{bare_picture, may_have}
 use Rattle.jpg_file.specs.declared.read.strip_head.StripHead.{StripHead}
 use Rattle.jpg_color.specs.KeptRows.{KeptRows}
 

@@ -14,7 +14,7 @@ use Rattle.jpg_spec.specs.Laws.{with_blocks}
 use Rattle.jpg_spec_image.specs.declared.image.EndKind.{EndKind}
 use Rattle.jpg_spec_image.specs.declared.image.ImageInfo.{ImageInfo}
 use Rattle.jpg_coefs.specs.Picture.{Picture as Coefs}
-use Rattle.jpg_file.specs.Read.StripHead.{IsHeadOfPicture}
+use Rattle.jpg_file.specs.Read.PictureKept.{IsHeadOfPicture}
 use Rattle.jpg_file.specs.declared.read.strip_head.StripHead.{StripHead}
 use Rattle.jpg_pnm_bmp.specs.EndState.{EndState, IsImageInfo, held_of, info_of}
 use Rattle.jpg_color.specs.Shown.{AreMcuRow, Display, IsNextRowDue, IsShowable, ShownState, RepresentsPicture}

@@ -25,8 +25,8 @@ use Rattle.jpg_spec_write.specs.declared.picture_fault.PictureFault.{PictureFaul
 use Rattle.jpg_spec_write.specs.declared.picture_fault.PictureFault.TheVariants.{GrayColour, GrayFactors}
 use Rattle.jpg_spec_move.specs.declared.transform.Transform.{Transform}
 use Rattle.jpg_spec_move.specs.declared.transform.Transform.TheVariants.{Keep}
-use Rattle.jpg_file.specs.Read.Keeping.{is_wanted, kept_for}
-use Rattle.jpg_file.proofs.Files.Keeping.{colour_same, jfif_same, passed_same}
+use Rattle.jpg_file.specs.Read.SegmentState.{is_wanted, kept_for}
+use Rattle.jpg_file.proofs.Headers.InForce.{colour_same, jfif_same, passed_same}
 use Rattle.jpg_transform.proofs.MovedHead.{kept_stays}
 
 -- TRANSFORMED: the markers are only used when the output gets its head

@@ -13,7 +13,7 @@ use Rattle.jpg_spec_move.specs.Laws.{IsMovable}
 use Rattle.jpg_spec_move.specs.Moved.{Choice, moved_text, picture_fault}
 use Rattle.jpg_spec_move.proofs.MeaningLeft.{read_moved}
 use Rattle.jpg_spec_move.proofs.MovedText.{moved_means}
-use Rattle.jpg_file.specs.Read.Keeping.{kept_for}
+use Rattle.jpg_file.specs.Read.SegmentState.{kept_for}
 use Rattle.jpg_file.specs.Read.PictureRead.{picture_meaning}
 use Rattle.jpg_file.specs.declared.read.picture.Picture.{Picture}
 use Rattle.jpg_file.specs.declared.write.Plan.{Plan}

@@ -26,7 +26,7 @@ use Rattle.jpg_file.specs.Read.FirstHeader.{IsFirstHeaderOf}
 use Rattle.jpg_file.specs.declared.read.ends.End.TheVariants as ends
 use Rattle.jpg_file.specs.Read.ReadFile.{AfterEnd, AfterFeed, HasRead, IsDone, IsRefusal, IsStopOf, KeepsHeadAt, ReaderState, StopsAt, head_seen}
 use Rattle.jpg_file.specs.declared.read.first_header.Head.{Head}
-use Rattle.jpg_file.proofs.Files.PieceSteps.{counted}
+use Rattle.jpg_file.proofs.Files.FileSteps.{counted}
 use Rattle.jpg_desk.specs.ReadPicture.{AfterFileEnd, AfterTakingPiece, HasFed, HoldsEarly, HoldsFile, IsOpenRead, IsRefused, IsRefusedFor, IsRefusedRead, IsShortRead, IsUnwanted, step_unless, unwanted_for, unwanted_in, Wanted, Coefficients, Image}
 use Rattle.jpg_desk.specs.Pump.{why_stopped}
 use Rattle.jpg_desk.proofs.Unwanted.{done_unwanted, done_wanted, head_of, no_header, stop_unwanted, stop_wanted, unwanted_first, unwanted_head, unwanted_less, unwanted_more, unwanted_within, wanted_head}

@@ -16,8 +16,7 @@ use Rattle.jpg_spec.specs.declared.frame.Copying.{Copying}
 use Rattle.jpg_spec.specs.declared.frame.Limits.{Limits}
 use Rattle.jpg_file.specs.Read.File.{keeping_of}
 use Rattle.jpg_file.specs.Read.PictureRead.{MeansFor, TakesEarly, TakesPicture}
-use Rattle.jpg_file.specs.Read.ReadFile.{HasRead, ReaderState}
-use Rattle.jpg_file.specs.Read.ReadRows.{IsPlain}
+use Rattle.jpg_file.specs.Read.ReadFile.{HasRead, ReaderState, IsPlain}
 use Rattle.jpg_file.specs.declared.read.picture.Picture.{Picture}
 use Rattle.jpg_desk.specs.Endings.{Stopped}
 use Rattle.jpg_desk.specs.Reading.{rest_of}

@@ -10,14 +10,13 @@ use Rattle.jpg_spec.specs.declared.frame.Copying.{Copying}
 use Rattle.jpg_spec_move.specs.Moved.{Choice}
 use Rattle.jpg_spec_words.specs.declared.answers.Why.TheVariants as why
 use Rattle.jpg_huff.specs.declared.set.TableSet.{TableSet}
-use Rattle.jpg_file.specs.Read.Keeping.{kept_for}
-use Rattle.jpg_file.specs.Read.StripHead.{IsHeadOfPicture}
-use Rattle.jpg_file.specs.Write.SoleScan.{IsOfAll, IsSoleData}
-use Rattle.jpg_file.specs.Write.WriteFile.{file_bytes}
+use Rattle.jpg_file.specs.Read.SegmentState.{kept_for}
+use Rattle.jpg_file.specs.Read.PictureKept.{IsHeadOfPicture}
+use Rattle.jpg_file.specs.Write.WriteFile.{IsOfAll, IsSoleData, file_bytes}
 use Rattle.jpg_file.specs.declared.read.strip_head.StripHead.{StripHead}
 use Rattle.jpg_file.specs.declared.write.Plan.{Plan}
 use Rattle.jpg_file.specs.declared.write.sole.SoleScan.{SoleScan}
-use Rattle.jpg_file.proofs.Files.Keeping.{colour_same, jfif_same}
+use Rattle.jpg_file.proofs.Headers.InForce.{colour_same, jfif_same}
 use Rattle.jpg_transform.specs.Planned.{IsPlanFor}
 use Rattle.jpg_transform.specs.RowsMoved.{GivesMoved, HasMoved, IsMovedScan, moved_scan}
 use Rattle.jpg_transform.specs.declared.choice.Job.{Job}
@@ -125,7 +124,7 @@ module _ {choice : Choice} {h : StripHead} {job : RowJob} {start new : DeskState
   row : IsRowData h kept_meaning choice job.job (job.scan).value rows.data
   row = row_data kept_head is.planned (has.moved).1.has.scan.framed is.sole (has.moved).1 has.gives
 
-  module _ (r : EncodedRows) (plan : ((r.file).plan).value ≡ (job.job).plan) (kept : (r.file).kept ≡ ((rows.reader).value).file.reading.items.held.kept) (scan : ((r.file).scan).value ≡ (job.scan).value) (bytes : r.bytes ≡ rows.data) where
+  module _ (r : EncodedRows) (plan : ((r.file).plan).value ≡ (job.job).plan) (kept : (r.file).kept ≡ ((rows.reader).value).file.items.held.kept) (scan : ((r.file).scan).value ≡ (job.scan).value) (bytes : r.bytes ≡ rows.data) where
     same_kept : (r.file).kept ≡ (row.picture).kept
     same_kept = kept ∙ has.kept ∙ sym row.of.kept
 

@@ -17,13 +17,12 @@ use Rattle.jpg_spec.specs.declared.frame.Limits.{Limits}
 use Rattle.jpg_spec.proofs.McuRows.RowsOnce.{rows_stay}
 use Rattle.jpg_coefs.specs.Picture.{Picture as Coefs, map_of}
 use Rattle.jpg_file.specs.Read.File.{keeping_of}
-use Rattle.jpg_file.specs.Read.ReadFile.{IsRefusal, ReaderState, StopsAt}
-use Rattle.jpg_file.specs.Read.ReadRows.{AfterEndRow, AgreeInRows, EndsDoneRow, FeedsKeeping, HasReadAll, HasReadSoFar, IsEarlyByRows, KeepsMarkersOf, LendsRow}
-use Rattle.jpg_file.specs.Read.RowTurns.{unfinished}
+use Rattle.jpg_file.specs.Read.ReadFile.{IsRefusal, ReaderState, StopsAt, AfterEndRow, AgreeInRows, EndsDoneRow, FeedsKeeping, HasReadAll, HasReadSoFar, IsEarlyByRows, KeepsMarkersOf, LendsRow}
+use Rattle.jpg_file.specs.Read.InData.{unfinished}
 use Rattle.jpg_file.specs.declared.read.ends.End.TheVariants as ends
 use Rattle.jpg_file.specs.declared.read.pieces.FedRow.{FedRow}
-use Rattle.jpg_file.proofs.ByRow.HeadLeft.{head_of_early}
-use Rattle.jpg_seq.specs.Rows.{rows_in_mcu}
+use Rattle.jpg_file.proofs.ByRow.RowsGiven.{head_of_early}
+use Rattle.jpg_seq.specs.Reader.{rows_in_mcu}
 use Rattle.jpg_transform.specs.RowsMoved.{mcu_rows}
 use Rattle.jpg_desk.specs.Pump.{AfterInput, why_stopped}
 use Rattle.jpg_desk.specs.ReadPicture.{IsOpenRead, IsRefusedRead, IsShortRead, Coefficients}

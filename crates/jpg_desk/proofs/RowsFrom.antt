@@ -23,10 +23,8 @@ use Rattle.jpg_spec_move.specs.Moved.{Choice}
 use Rattle.jpg_spec_words.specs.declared.answers.Why.{Why}
 use Rattle.jpg_spec_words.specs.declared.answers.Why.TheVariants as why
 use Rattle.jpg_file.specs.Read.File.{keeping_of}
-use Rattle.jpg_file.specs.Read.ReadFile.{ReaderState}
-use Rattle.jpg_file.specs.Read.ReadRows.{HasBegunRows, picture_read}
-use Rattle.jpg_file.specs.Read.RowsKnown.{TellsStrip}
-use Rattle.jpg_file.specs.Read.Strips.{RepresentsRows, RowsAfter, RowsInside}
+use Rattle.jpg_file.specs.Read.ReadFile.{ReaderState, HasBegunRows, picture_read}
+use Rattle.jpg_file.specs.Read.Strips.{TellsStrip, RepresentsRows, RowsAfter, RowsInside}
 use Rattle.jpg_file.specs.declared.read.file.FileWork.{FileWork}
 use Rattle.jpg_file.specs.declared.read.pieces.FedRow.{FedRow}
 use Rattle.jpg_file.specs.declared.read.pieces.FedRow.TheVariants as fed
@@ -54,21 +52,21 @@ use Rattle.jpg_desk.proofs.RowsTo.{same_goal}
 -- COUNTS
 
 -- the bytes that were taken are counted
-taken_by_row : {limits : Limits} {bytes : List ℕ} {w : FileWork} {rows : RowWork} → RepresentsRows limits bytes w rows → w.reading.taken ≡ length bytes
+taken_by_row : {limits : Limits} {bytes : List ℕ} {w : FileWork} {rows : RowWork} → RepresentsRows limits bytes w rows → w.taken ≡ length bytes
 taken_by_row {limits} {bytes} {w} {rows} h = by h.at
   where
-    by : RowsInside limits bytes w rows h.whole ⊎ RowsAfter limits bytes w rows h.whole → w.reading.taken ≡ length bytes
+    by : RowsInside limits bytes w rows h.whole ⊎ RowsAfter limits bytes w rows h.whole → w.taken ≡ length bytes
     by (inl i) = (i.held).count
     by (inr b) = ((b.between).beside).count
 
-pub rows_counted : {from s : RowsRead} {bytes : List ℕ} → IsRowsFed from bytes s → ((s.reader).value).file.reading.taken ≡ length bytes
+pub rows_counted : {from s : RowsRead} {bytes : List ℕ} → IsRowsFed from bytes s → ((s.reader).value).file.taken ≡ length bytes
 rows_counted h = taken_by_row (h.read.open).stands
 
 -- by what may still be taken
-pub counted_left : {from s : RowsRead} {bytes : List ℕ} (r : ReaderState) (l : Limits) (room : ℕ) → IsRowsFed from bytes s → r ≡ (s.reader).value → l ≡ standard_limits → room ≡ r.limits.input - r.file.reading.taken → length bytes < standard_limits.input
+pub counted_left : {from s : RowsRead} {bytes : List ℕ} (r : ReaderState) (l : Limits) (room : ℕ) → IsRowsFed from bytes s → r ≡ (s.reader).value → l ≡ standard_limits → room ≡ r.limits.input - r.file.taken → length bytes < standard_limits.input
     → (room ≤ l.input) × (length bytes ≡ l.input - room)
 counted_left {bytes = bytes} r l room h is e left short =
-    let taken : r.file.reading.taken ≡ length bytes = ap (λ (x : ReaderState). x.file.reading.taken) is ∙ rows_counted h in
+    let taken : r.file.taken ≡ length bytes = ap (λ (x : ReaderState). x.file.taken) is ∙ rows_counted h in
     let input : r.limits.input ≡ standard_limits.input = ap (λ (x : ReaderState). x.limits.input) is ∙ ap (λ (x : Limits). x.input) h.put.keeps.keeps.limits in
     let most : l.input ≡ standard_limits.input = ap (λ (x : Limits). x.input) e in
     (omega (arith, taken, input, most, left, short), omega (arith, taken, input, most, left, short))

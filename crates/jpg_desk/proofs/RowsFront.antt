@@ -11,8 +11,7 @@ use Rattle.jpg_spec.specs.UnfinishedFile.{UnfinishedFile}
 use Rattle.jpg_spec.specs.declared.frame.Limits.{Limits}
 use Rattle.jpg_spec_words.specs.declared.answers.Why.{Why}
 use Rattle.jpg_file.specs.Read.File.{keeping_of}
-use Rattle.jpg_file.specs.Read.ReadFile.{AfterEnd, EndsWith, IsDone, IsRefusal, IsStopOf, ReaderState}
-use Rattle.jpg_file.specs.Read.ReadRows.{AfterFeedKeeping, EndsDoneRow, FeedsKeeping, HasBegunRows, HasReadPlainly}
+use Rattle.jpg_file.specs.Read.ReadFile.{AfterEnd, EndsWith, IsDone, IsRefusal, IsStopOf, ReaderState, AfterFeedKeeping, EndsDoneRow, FeedsKeeping, HasBegunRows, HasReadPlainly}
 use Rattle.jpg_file.specs.declared.read.ends.End.{End}
 use Rattle.jpg_file.specs.declared.read.ends.End.TheVariants as ends
 use Rattle.jpg_file.specs.declared.read.pieces.FedRow.{FedRow}

@@ -18,9 +18,9 @@ use Rattle.jpg_spec.proofs.Places.PlacesSome.{factors_at, h_max_some, one_at_lea
 use Rattle.jpg_coefs.specs.Copied.{CopiesBlocks, in_grid_row}
 use Rattle.jpg_coefs.specs.Picture.{Picture as Coefs, map_of}
 use Rattle.jpg_coefs.proofs.Maps.{blank_is}
-use Rattle.jpg_seq.specs.Rows.{rows_in_mcu}
+use Rattle.jpg_seq.specs.Reader.{rows_in_mcu}
 use Rattle.jpg_color.proofs.GrayRows.{blank_range}
-use Rattle.jpg_file.specs.Read.ReadRows.{AgreeInRows}
+use Rattle.jpg_file.specs.Read.ReadFile.{AgreeInRows}
 use Rattle.jpg_transform.specs.RowsMoved.{mcu_rows}
 use Rattle.jpg_desk.specs.RowsKept.{CanKeep, HasKept, IsNextRow, KeepsRow, in_first_lines, in_first_parts, in_lines, in_mcu_row, in_part, line_blocks, row_blocks}
 use Rattle.jpg_desk.specs.declared.row_picture.RowPicture.{RowPicture}

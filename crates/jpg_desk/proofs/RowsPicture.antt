@@ -21,13 +21,12 @@ use Rattle.jpg_spec_move.specs.Moved.{Choice}
 use Rattle.jpg_spec_write.specs.WrittenFile.{HasBlocksIn}
 use Rattle.jpg_coefs.specs.Picture.{Picture as Coefs, map_of}
 use Rattle.jpg_file.specs.Read.File.{keeping_of}
-use Rattle.jpg_file.specs.Read.Keeping.{kept_for}
-use Rattle.jpg_file.specs.Read.PictureKept.{ArePictureParts, PictureParts, parts_meaning}
+use Rattle.jpg_file.specs.Read.SegmentState.{kept_for}
+use Rattle.jpg_file.specs.Read.PictureKept.{ArePictureParts, PictureParts, parts_meaning, IsHeadOfPicture, bare_picture}
 use Rattle.jpg_file.specs.Read.PictureRead.{MeansFor}
-use Rattle.jpg_file.specs.Read.StripHead.{IsHeadOfPicture, bare_picture}
 use Rattle.jpg_file.specs.declared.read.picture.Picture.{Picture}
 use Rattle.jpg_file.specs.declared.read.strip_head.StripHead.{StripHead}
-use Rattle.jpg_file.proofs.Files.Keeping.{colour_same, jfif_same}
+use Rattle.jpg_file.proofs.Headers.InForce.{colour_same, jfif_same}
 use Rattle.jpg_transform.proofs.MovedFile.{place_real}
 use Rattle.jpg_desk.specs.MovedRead.{CanGoOn, EndsMoved, HasAllRows, HasKeptRows, IsKept, IsKeptPicture, IsSomeHead}
 use Rattle.jpg_desk.specs.RowsRead.{HasRows}
@@ -75,7 +74,7 @@ pub record ArePartsOf (rows : RowsRead) (k : RowPicture) (p : PictureParts) : Ty
   pub colour : p.colour ≡ ((rows.head).now).colour
   pub quants : p.quants ≡ (((rows.head).now).quants).items
   pub coefs : p.coefs ≡ k.coefs
-  pub kept : p.kept ≡ ((rows.reader).value).file.reading.items.held.kept
+  pub kept : p.kept ≡ ((rows.reader).value).file.items.held.kept
   pub jfif : p.jfif ≡ ((rows.head).now).jfif
 
 module _ {from rows : RowsRead} {early : Option ℕ} {bytes : List ℕ} {k : RowPicture} {p : PictureParts} (h : HasRows from early bytes rows) (there : rows.to ≡ to.Kept k) (are : ArePartsOf rows k p) where

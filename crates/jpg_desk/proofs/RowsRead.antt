@@ -20,18 +20,14 @@ use Rattle.jpg_spec.proofs.McuRows.RowsOnce.{rows_stay}
 use Rattle.jpg_spec.proofs.Writing.WrittenFront.{standard_are_limits}
 use Rattle.jpg_coefs.specs.Picture.{Picture as Coefs, map_of}
 use Rattle.jpg_file.specs.Read.File.{keeping_of}
-use Rattle.jpg_file.specs.Read.ReadFile.{IsStopOf, ReaderState}
-use Rattle.jpg_file.specs.Read.ReadRows.{AfterFeedKeeping, AgreeInRows, EndsDoneRow, FeedsKeeping, HasGivenRow, HasReadRows, HasReadSoFar, IsDoneByRows, LendsRow}
-use Rattle.jpg_file.specs.Read.RowTurns.{unfinished}
-use Rattle.jpg_file.specs.Read.RowsKnown.{rows_of_scan}
-use Rattle.jpg_file.specs.Read.RowsNone.{HasNoRows}
+use Rattle.jpg_file.specs.Read.ReadFile.{IsStopOf, ReaderState, AfterFeedKeeping, AgreeInRows, EndsDoneRow, FeedsKeeping, HasGivenRow, HasReadRows, HasReadSoFar, IsDoneByRows, LendsRow}
+use Rattle.jpg_file.specs.Read.InData.{unfinished}
+use Rattle.jpg_file.specs.Read.Strips.{rows_of_scan, HasNoRows}
 use Rattle.jpg_file.specs.declared.read.pieces.FedRow.{FedRow}
 use Rattle.jpg_file.specs.declared.read.pieces.FedRow.TheVariants as fed
 use Rattle.jpg_file.specs.declared.read.rows.RowWork.{RowWork}
-use Rattle.jpg_file.proofs.ByRow.RealRows.{rows_agree, rows_begun}
-use Rattle.jpg_file.proofs.ByRow.RowsGiven.{begun_on}
+use Rattle.jpg_file.proofs.ByRow.RowsGiven.{rows_agree, rows_begun, begun_on, head_of_whole}
 use Rattle.jpg_transform.specs.RowsMoved.{mcu_rows}
-use Rattle.jpg_file.proofs.ByRow.HeadLeft.{head_of_whole}
 use Rattle.jpg_desk.specs.Pump.{AfterTaking, why_stopped}
 use Rattle.jpg_desk.specs.ReadPicture.{IsRefusedRead, Coefficients}
 use Rattle.jpg_desk.specs.RowsRead.{AnsweredRows, BeginsAt, HavePutRows, Head, IsInPiece, IsPutInPiece, HasRows, KeepsReading, frame_at, rows_due, rows_reader, rows_to_give}

@@ -6,9 +6,9 @@ use Rattle.jpg_spec.specs.Geometry.{Frame}
 use Rattle.jpg_spec.specs.Scan.{Blocks}
 use Rattle.jpg_base.specs.declared.names.NoMemory.{NoMemory}
 use Rattle.jpg_coefs.specs.Picture.{Picture as Coefs}
-use Rattle.jpg_file.specs.Read.ReadRows.{AgreeInRows}
+use Rattle.jpg_file.specs.Read.ReadFile.{AgreeInRows}
 use Rattle.jpg_file.specs.declared.write.sole.SoleScan.{SoleScan}
-use Rattle.jpg_seq.specs.Rows.{rows_in_mcu}
+use Rattle.jpg_seq.specs.Reader.{rows_in_mcu}
 use Rattle.jpg_transform.specs.RowsMoved.{CanMove, CanMoveZeros, HasMoved, MovedScan, MovesRow, MovesZeros, TellsWhole, mcu_rows}
 use Rattle.jpg_transform.specs.declared.choice.Job.{Job}
 use Rattle.jpg_transform.specs.declared.row_mover.RowMover.{RowMover}

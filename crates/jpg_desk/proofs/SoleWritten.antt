@@ -2,7 +2,7 @@
 use Rattle.std.proofs.Common.{◌≡◌, ℕ, List, sym, subst}
 use Rattle.jpg_spec.specs.Geometry.{Frame}
 use Rattle.jpg_spec.specs.Scan.{Blocks}
-use Rattle.jpg_file.specs.Write.SoleScan.{IsSoleData}
+use Rattle.jpg_file.specs.Write.WriteFile.{IsSoleData}
 use Rattle.jpg_file.specs.declared.write.Plan.{Plan}
 use Rattle.jpg_file.specs.declared.write.sole.SoleScan.{SoleScan}
 

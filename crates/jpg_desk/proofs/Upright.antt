@@ -22,7 +22,7 @@ use Rattle.jpg_spec_upright.proofs.TurnedUpright.{exif_code}
 use Rattle.jpg_file.specs.Read.PictureKept.{ArePictureParts, PictureParts, parts_meaning}
 use Rattle.jpg_file.specs.Read.PictureRead.{picture_meaning}
 use Rattle.jpg_file.specs.declared.read.picture.Picture.{Picture}
-use Rattle.jpg_file.proofs.Files.Keeping.{filter_reverse, find_in}
+use Rattle.jpg_file.proofs.Headers.InForce.{filter_reverse, find_in}
 use Rattle.jpg_desk.specs.Writing.{AfterMade, IsMeant, MeansUpright, WritesOwn, why_wrote}
 use Rattle.jpg_desk.specs.declared.moved.Wrote.{Wrote}
 use Rattle.jpg_desk.specs.declared.moved.Wrote.TheVariants as wrote

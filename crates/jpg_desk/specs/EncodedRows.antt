@@ -8,8 +8,7 @@ use Rattle.jpg_spec.specs.Scan.{Blocks}
 use Rattle.jpg_spec.specs.Segments.{standard_limits}
 use Rattle.jpg_spec_encode.specs.Encoded.{Encoding, encode_fault, encoded, encoded_text}
 use Rattle.jpg_spec_image.specs.Images.{Image}
-use Rattle.jpg_file.specs.Write.SoleScan.{IsSoleData}
-use Rattle.jpg_file.specs.Write.WriteFile.{file_bytes}
+use Rattle.jpg_file.specs.Write.WriteFile.{IsSoleData, file_bytes}
 use Rattle.jpg_color.specs.EncodeRows.{RowScan, row_scan}
 use Rattle.jpg_desk.specs.Writing.{AfterOutput}
 use Rattle.jpg_desk.specs.declared.encoded_rows.EncodedRows.{EncodedRows}

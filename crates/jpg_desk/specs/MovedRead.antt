@@ -13,12 +13,11 @@ use Rattle.jpg_spec_words.specs.declared.answers.Why.{Why}
 use Rattle.jpg_spec_words.specs.declared.answers.Why.TheVariants as why
 use Rattle.jpg_spec_write.specs.WrittenFile.{HasBlocksIn}
 use Rattle.jpg_file.specs.Read.File.{keeping_of}
-use Rattle.jpg_file.specs.Read.Keeping.{kept_for}
+use Rattle.jpg_file.specs.Read.SegmentState.{kept_for}
 use Rattle.jpg_file.specs.Read.PictureRead.{MeansFor}
-use Rattle.jpg_file.specs.Read.ReadFile.{ReaderState}
-use Rattle.jpg_file.specs.Read.ReadRows.{HasReadPlainly}
-use Rattle.jpg_file.specs.Read.StripHead.{IsHeadOfPicture}
-use Rattle.jpg_file.specs.Write.SoleScan.{IsOfAll, IsSole}
+use Rattle.jpg_file.specs.Read.ReadFile.{ReaderState, HasReadPlainly}
+use Rattle.jpg_file.specs.Read.PictureKept.{IsHeadOfPicture}
+use Rattle.jpg_file.specs.Write.WriteFile.{IsOfAll, IsSole}
 use Rattle.jpg_file.specs.declared.read.pieces.FedRow.{FedRow}
 use Rattle.jpg_file.specs.declared.read.picture.Picture.{Picture}
 use Rattle.jpg_file.specs.declared.read.strip_head.StripHead.{StripHead}
@@ -136,7 +135,7 @@ pub record HasData (keeping : Copying) (h : StripHead) (job : RowJob) (start : D
   pub short : NoValueTaken (picture_judging Coefficients) start why.NoMemory new
   pub all : IsAllRead r.early new
   pub done : ((r.reader).value).done ≡ true
-  pub kept : ((r.reader).value).file.reading.items.held.kept ≡ (kept_for keeping meaning).kept
+  pub kept : ((r.reader).value).file.items.held.kept ≡ (kept_for keeping meaning).kept
   pub head : IsHeadOfPicture h meaning
   pub real : real_blocks h.frame meaning.blocks ≡ meaning.blocks
   pub mover : RowMover

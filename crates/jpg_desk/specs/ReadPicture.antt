@@ -23,8 +23,7 @@ use Rattle.jpg_color.specs.Admits.{admitted_kind}
 use Rattle.jpg_color.specs.Shown.{factors_of}
 use Rattle.jpg_file.specs.Read.PictureRead.{MeansFor}
 use Rattle.jpg_file.specs.Read.File.{keeping_of}
-use Rattle.jpg_file.specs.Read.ReadFile.{HasRead, IsDone, IsEarlyEnd, IsRefusal, ReaderState}
-use Rattle.jpg_file.specs.Read.ReadRows.{IsPlain}
+use Rattle.jpg_file.specs.Read.ReadFile.{HasRead, IsDone, IsEarlyEnd, IsRefusal, ReaderState, IsPlain}
 use Rattle.jpg_file.specs.declared.read.picture.Picture.{Picture}
 use Rattle.jpg_desk.specs.Endings.{Asks}
 use Rattle.jpg_desk.specs.Judging.{IsAllRead, Judging, NoValueRead, NoValueTaken, ReadsFrom, TakesPieces, UpToPiece}
@@ -133,7 +132,7 @@ EndsReading w keeping old result new = EndsMeaning (picture_judging w) keeping o
 -- The reader was fed these bytes, fewer than may be taken, whose picture isn't unwanted, and goes on.
 pub record HasFed (w : Wanted) (r : ReaderState) (bytes : List ℕ) : Type 0 where
   pub read : HasRead bytes r
-  pub taken : r.file.reading.taken ≡ length bytes
+  pub taken : r.file.taken ≡ length bytes
   pub short : length bytes < standard_limits.input
   pub small : All (λ b. b < 256) bytes
   pub wanted : (f : FaultAt) → IsUnwanted w bytes f → ⊥

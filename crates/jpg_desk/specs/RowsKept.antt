@@ -6,8 +6,8 @@ use Rattle.jpg_spec.specs.Geometry.{Frame, blocks_across, bounds, component_at, 
 use Rattle.jpg_spec.specs.Ranges.{AreInRange}
 use Rattle.jpg_spec.specs.Scan.{Blocks}
 use Rattle.jpg_coefs.specs.Picture.{Picture as Coefs, map_of}
-use Rattle.jpg_seq.specs.Rows.{rows_in_mcu}
-use Rattle.jpg_file.specs.Read.ReadRows.{AgreeInRows, LendsRow}
+use Rattle.jpg_seq.specs.Reader.{rows_in_mcu}
+use Rattle.jpg_file.specs.Read.ReadFile.{AgreeInRows, LendsRow}
 use Rattle.jpg_transform.specs.RowsMoved.{mcu_rows}
 use Rattle.jpg_desk.specs.declared.row_picture.RowPicture.{RowPicture}
 

@@ -11,11 +11,10 @@ use Rattle.jpg_spec.specs.Scan.{Blocks}
 use Rattle.jpg_spec.specs.Segments.{standard_limits}
 use Rattle.jpg_spec_words.specs.declared.answers.Why.{Why}
 use Rattle.jpg_file.specs.Read.File.{keeping_of}
-use Rattle.jpg_file.specs.Read.ReadFile.{IsStopOf, ReaderState}
-use Rattle.jpg_file.specs.Read.ReadRows.{EndsDoneRow, HasGivenRow, HasReadPlainly, HasReadRows, IsDoneByRows, KeepsMarkersOf}
-use Rattle.jpg_file.specs.Read.RowTurns.{unfinished}
-use Rattle.jpg_file.specs.Read.RowsKnown.{TellsStrip}
-use Rattle.jpg_file.specs.Read.StripHead.{IsHeadOfPicture}
+use Rattle.jpg_file.specs.Read.ReadFile.{IsStopOf, ReaderState, EndsDoneRow, HasGivenRow, HasReadPlainly, HasReadRows, IsDoneByRows, KeepsMarkersOf}
+use Rattle.jpg_file.specs.Read.InData.{unfinished}
+use Rattle.jpg_file.specs.Read.Strips.{TellsStrip}
+use Rattle.jpg_file.specs.Read.PictureKept.{IsHeadOfPicture}
 use Rattle.jpg_file.specs.declared.read.pieces.FedRow.{FedRow}
 use Rattle.jpg_file.specs.declared.read.pieces.FedRow.TheVariants as fed
 use Rattle.jpg_file.specs.declared.read.rows.RowWork.{RowWork}

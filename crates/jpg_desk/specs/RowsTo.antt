@@ -7,9 +7,9 @@ use Rattle.jpg_spec.specs.Geometry.{Frame, IsReal, bounds}
 use Rattle.jpg_spec.specs.Ranges.{AreInRange}
 use Rattle.jpg_spec.specs.Scan.{Blocks}
 use Rattle.jpg_coefs.specs.Picture.{Picture as Coefs, map_of}
-use Rattle.jpg_file.specs.Read.ReadRows.{LendsRow}
+use Rattle.jpg_file.specs.Read.ReadFile.{LendsRow}
 use Rattle.jpg_file.specs.declared.write.sole.SoleScan.{SoleScan}
-use Rattle.jpg_seq.specs.Rows.{rows_in_mcu}
+use Rattle.jpg_seq.specs.Reader.{rows_in_mcu}
 use Rattle.jpg_transform.specs.RowsMoved.{HasAllMoved, HasMoved, MovedScan, mcu_rows, moved_scan}
 use Rattle.jpg_transform.specs.declared.choice.Job.{Job}
 use Rattle.jpg_transform.specs.declared.row_mover.RowMover.{RowMover}

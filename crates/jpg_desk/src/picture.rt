@@ -2,7 +2,7 @@
 ghost use Rattle.std.specs.Prelude.{◌≡◌, ◌≤◌, List, ℕ, length, true, false};
 ghost use Rattle.jpg_spec.specs.Segments.{standard_limits};
 ghost use Rattle.jpg_file.specs.Read.File.{keeping_of};
-ghost use Rattle.jpg_file.specs.Read.ReadRows.{IsPlain};
+ghost use Rattle.jpg_file.specs.Read.ReadFile.{IsPlain};
 ghost use Rattle.jpg_desk.specs.Stays.{Keeps, OnlyReads};
 ghost use Rattle.jpg_desk.specs.Judging.{done_as};
 ghost use Rattle.jpg_desk.specs.Pump.{of_reader};

@@ -3,7 +3,7 @@ ghost use Rattle.std.specs.Prelude.{ℕ, List};
 ghost use Rattle.jpg_spec.specs.FirstFault.{HasMeaning, IsEarly};
 ghost use Rattle.jpg_spec.specs.declared.frame.Limits.{Limits};
 ghost use Rattle.jpg_file.specs.Laws.{HasNoFault};
-ghost use Rattle.jpg_file.specs.Read.RowPlaces.{RowsAreDueInOrder};
+ghost use Rattle.jpg_file.specs.Read.InData.{RowsAreDueInOrder};
 
 /// No bytes are left out: they are a complete file, or a file that ends early, or have a first fault (T.81, B.2.1).
 #[tactic(auto, using(crate::proofs::Files::ItemBytes::not_left_out))]

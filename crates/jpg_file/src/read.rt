@@ -11,7 +11,6 @@ pub mod picture;
 pub mod picture_taken;
 pub mod pieces;
 pub mod reader;
-pub mod reading;
 pub mod rows;
 pub mod scan;
 pub mod scan_history;

@@ -1,5 +1,5 @@
 -- What contracts see of a set of tables.
-use Rattle.std.specs.Prelude.{ℕ, List, [], ◌∷◌, map, Option, None, slice_get}
+use Rattle.std.specs.Prelude.{◌≡◌, ℕ, List, length, [], ◌∷◌, map, Option, None, slice_get}
 use Rattle.std.specs.Option.{option_map}
 use Rattle.jpg_spec.specs.Lists.{slot_value}
 use Rattle.jpg_spec.specs.HuffContents.{HuffmanSlots}
@@ -17,6 +17,11 @@ dc_tables set = set.dc
 
 abbrev pub ac_tables : TableSet → List (Option Table)
 ac_tables set = set.ac
+
+-- four slots of each class
+pub record HasFour (set : TableSet) : Type 0 where
+  pub dc : length (dc_tables set) ≡ 4
+  pub ac : length (ac_tables set) ≡ 4
 
 abbrev pub no_tables : List (Option Table)
 no_tables = None ∷ None ∷ None ∷ None ∷ []

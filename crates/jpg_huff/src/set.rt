@@ -1,7 +1,7 @@
 //! The tables in force: four slots for DC and four for AC tables (T.81, B.2.4.2).
 ghost use Rattle.std.specs.Prelude.{◌≡◌, ◌<◌, Some, slice_set};
 ghost use Rattle.std.specs.Option.{option_map};
-ghost use Rattle.jpg_huff.specs.Sets.{dc_tables, ac_tables, in_slot, no_tables};
+ghost use Rattle.jpg_huff.specs.Sets.{HasFour, dc_tables, ac_tables, in_slot, no_tables};
 
 use crate::Table;
 
@@ -22,6 +22,13 @@ impl TableSet {
             dc: [None, None, None, None],
             ac: [None, None, None, None],
         }
+    }
+
+    /// Does nothing. A set has four slots of each class, by its type.
+    pub fn slots(&self)
+        ensures { HasFour self.now }
+    {
+        let _ = &self.dc;
     }
 
     /// The DC table in a slot, None if there is none, and for slots from 4 on.

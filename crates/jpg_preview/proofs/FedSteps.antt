@@ -5,7 +5,7 @@ use Rattle.jpg_spec.proofs.Files.FileLaws.{early_no_fault, stands_early}
 use Rattle.jpg_base.specs.declared.stop.Stop.{Stop}
 use Rattle.jpg_base.specs.declared.stop.Stop.TheVariants as stop
 use Rattle.jpg_file.specs.Read.ReadFile.{AfterEnd, HasRead, ReaderState, StopsAt, TellsBegun}
-use Rattle.jpg_file.specs.Read.ScansEnded.{ScansEnded}
+use Rattle.jpg_file.specs.Read.ScanPieces.{ScansEnded}
 use Rattle.jpg_file.specs.declared.read.ends.End.{End}
 use Rattle.jpg_file.specs.declared.read.ends.End.TheVariants as ends
 use Rattle.jpg_base.specs.declared.stop.Fed.TheVariants as fed

@@ -9,10 +9,9 @@ use Rattle.jpg_base.specs.declared.stop.Stop.{Stop}
 use Rattle.jpg_base.specs.declared.stop.Stop.TheVariants as stop
 use Rattle.jpg_file.specs.Read.File.{keeping_of}
 use Rattle.jpg_file.specs.Read.PictureRead.{TakesEarly, TakesPicture}
-use Rattle.jpg_file.specs.Read.ReadFile.{AfterEnd, HasRead, IsEarlyEnd, ReaderState}
+use Rattle.jpg_file.specs.Read.ReadFile.{AfterEnd, HasRead, IsEarlyEnd, ReaderState, IsPlain}
 use Rattle.jpg_file.specs.declared.read.ends.End.{End}
 use Rattle.jpg_file.specs.declared.read.picture.Picture.{Picture}
-use Rattle.jpg_file.specs.Read.ReadRows.{IsPlain}
 use Rattle.jpg_file.specs.Read.ScanPieces.{AfterFeedScan, EndsDoneScan, FeedsScan, ScanEnds}
 use Rattle.jpg_file.specs.declared.read.pieces.FedScan.{FedScan}
 use Rattle.jpg_file.specs.declared.read.pieces.FedScan.TheVariants as came

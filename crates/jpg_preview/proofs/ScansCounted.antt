@@ -18,9 +18,8 @@ use Rattle.jpg_spec.proofs.Files.FilesOnce.{after_more, begins_more}
 use Rattle.jpg_spec.proofs.Segments.MarkersOnce.{no_head}
 use Rattle.jpg_spec_image.specs.Front.{EndsNotBefore, EndsScan, scans_in}
 use Rattle.jpg_spec_image.proofs.Fronts.{ends_begun}
-use Rattle.jpg_file.specs.Read.ScanHistory.{scan_headers}
-use Rattle.jpg_file.specs.Read.ScanPieces.{NoScanEnds, ScanEnds}
-use Rattle.jpg_file.specs.Read.ScansEnded.{EndedBetween, ScansEnded}
+use Rattle.jpg_file.specs.Read.SegmentState.{scan_headers}
+use Rattle.jpg_file.specs.Read.ScanPieces.{NoScanEnds, ScanEnds, EndedBetween, ScansEnded}
 use Rattle.jpg_file.proofs.Files.ReaderFed.{complete_ended, scans_more}
 use Rattle.jpg_spec.proofs.Files.ScanSteps.{inside as inside_at}
 use Rattle.jpg_preview.specs.Viewing.{HasScans, LacksScans}

@@ -9,9 +9,8 @@ use Rattle.jpg_base.specs.declared.stop.Fed.{Fed}
 use Rattle.jpg_base.specs.declared.stop.Fed.TheVariants as fed
 use Rattle.jpg_base.specs.declared.stop.Stop.{Stop}
 use Rattle.jpg_base.specs.declared.stop.Stop.TheVariants as stop
-use Rattle.jpg_file.specs.Read.ReadFile.{HasRead, IsDone, IsEarlyEnd, IsRefusal, KeepsHead, KeepsHeadAt, ReaderState}
-use Rattle.jpg_file.specs.Read.ReadRows.{IsPlain}
-use Rattle.jpg_file.specs.Read.ScansEnded.{ScansEnded}
+use Rattle.jpg_file.specs.Read.ReadFile.{HasRead, IsDone, IsEarlyEnd, IsRefusal, KeepsHead, KeepsHeadAt, ReaderState, IsPlain}
+use Rattle.jpg_file.specs.Read.ScanPieces.{ScansEnded}
 use Rattle.jpg_file.specs.declared.read.ends.End.{End}
 use Rattle.jpg_file.specs.declared.read.ends.End.TheVariants as ends
 

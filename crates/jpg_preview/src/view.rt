@@ -1,8 +1,7 @@
 //! A piece of a file that is previewed: it goes to a reader up to the end of the front (T.81, B.2.1).
 ghost use Rattle.std.specs.Prelude.{◌≡◌, true, false};
 ghost use Rattle.jpg_file.specs.Read.File.{keeping_of};
-ghost use Rattle.jpg_file.specs.Read.ReadFile.{EndsDone};
-ghost use Rattle.jpg_file.specs.Read.ReadRows.{IsPlain};
+ghost use Rattle.jpg_file.specs.Read.ReadFile.{EndsDone, IsPlain};
 ghost use Rattle.jpg_preview.specs.Viewing.{EndsThere, IsUnwanted, IsWanted, PieceLacks, ViewsPiece};
 
 use jpg_base::{Fed, Stop};

@@ -49,9 +49,6 @@ TellsShortValue codes bits (Some t) = IsNextShortValue codes bits t
 abbrev pub TellsNoPlace : List Code → ℕ → List Bool → Type 0
 TellsNoPlace codes at bits = (length bits < 10) ⊎ ((t : ShortValue) → IsNextShortValue codes bits t → (64 ≤ at + t.run) × (t.run ≡ 64 → ⊥))
 
-abbrev pub end_entry : ℕ → ShortValue
-end_entry n = record { value = pos 0; run = 64; length = n }
-
 abbrev pub no_entry : ShortValue
 no_entry = record { value = pos 0; run = 0; length = 0 }
 

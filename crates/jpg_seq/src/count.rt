@@ -7,7 +7,7 @@ ghost use Rattle.jpg_spec_write.specs.WrittenFile.{HasBlocksIn};
 ghost use Rattle.jpg_base.specs.Cursor.{AreIn};
 ghost use Rattle.jpg_huff.specs.Counts.{AreCounts, Notes};
 ghost use Rattle.jpg_coefs.specs.MarkSinks.{HasSlots, CountsClass, mark_kind};
-ghost use Rattle.jpg_seq.specs.Counted.{AreFew, run_marks, band_marks, block_marks, seq_counter};
+ghost use Rattle.jpg_seq.specs.ScanWritten.{AreFew, run_marks, band_marks, block_marks, seq_counter};
 
 use crate::write::difference;
 use jpg_base::{Block, ScanHead, ScanPart, WriteFault};
@@ -59,8 +59,7 @@ fn count_block(part: ScanPart, prediction: i16, block: &Block, counts: &mut Symb
     requires few { AreFew block.now }
     ensures { Notes counts.old (block_marks part prediction block.now) counts.new }
 {
-    let difference = difference(block.get(0), prediction);
-    counts.count_dc(part.dc, category(difference));
+    counts.count_dc(part.dc, category(difference(block, prediction)));
     count_band(part.ac, block, counts);
 }
 

@@ -49,7 +49,7 @@ impl KeptDesk {
 }
 
 impl Desk for KeptDesk {
-    ghost use Rattle.jpg_seq.specs.Kept.{kept_state};
+    ghost use Rattle.jpg_seq.specs.ScanWritten.{kept_state};
 
     ghost state = { kept_state };
 

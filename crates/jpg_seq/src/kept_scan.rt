@@ -4,7 +4,7 @@ ghost use Rattle.jpg_spec.specs.Geometry.{units};
 ghost use Rattle.jpg_spec.specs.Scan.{Blocks};
 ghost use Rattle.jpg_spec.specs.Segments.{head_components};
 ghost use Rattle.jpg_spec_write.specs.WrittenFile.{HasBlocksIn};
-ghost use Rattle.jpg_seq.specs.NewReader.{IsSeqScan};
+ghost use Rattle.jpg_seq.specs.Reader.{IsSeqScan};
 ghost use Rattle.jpg_seq.specs.ScanWritten.{written_data};
 
 use crate::kept::KeptDesk;
@@ -28,7 +28,7 @@ pub struct KeptScan<'a> {
 }
 
 impl<'a> KeptScan<'a> {
-    ghost use Rattle.jpg_seq.specs.Kept.{CanKeep, KeepsScan, WrittenScan, kept_scan};
+    ghost use Rattle.jpg_seq.specs.ScanWritten.{CanKeep, KeepsScan, WrittenScan, kept_scan};
 
     /// A scan of which no unit is written, by these tables, with a restart marker after each `interval` MCUs (0: none), each
     /// interval padded with ones. The header names one to four distinct components of the frame, whose tables are there. It

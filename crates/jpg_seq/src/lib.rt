@@ -8,7 +8,6 @@ mod laws;
 mod reader;
 mod scan_write;
 mod source;
-mod symbols;
 mod values;
 mod work;
 mod write;

@@ -1,21 +1,15 @@
 //! The machine that reads a sequential scan (T.81, F.2.1.3.1, F.2.2).
-ghost use Rattle.std.specs.Prelude.{◌≡◌, ◌≤◌, ◌<◌, ◌*◌, length, take, Bool, List, Some, All};
+ghost use Rattle.std.specs.Prelude.{◌≡◌, ◌≤◌, ◌<◌, ◌*◌, length, take, Some, All};
 ghost use Rattle.jpg_seq.specs.declared.work.Coder.{Coder as Coded};
-ghost use Rattle.jpg_seq.specs.NewReader.{HasTables, IsBare, IsCoderOf, AreFilled, IsSeqScan, IsOfScan, no_coders};
-ghost use Rattle.jpg_spec.specs.Geometry.{padded_blocks};
+ghost use Rattle.jpg_seq.specs.Reader.{HasTables, IsBare, IsCoderOf, AreFilled, IsSeqScan, IsOfScan, no_coders, AreInRow, CanPut, CanReadInto, PassesPlaces, PutsUnit, ReadsBytesInto, ReadsInto, ReadsPlaces, CanRead, ReadsOn, with_work, sequential};
 ghost use Rattle.jpg_spec.specs.Segments.{head_components};
 ghost use Rattle.jpg_base.specs.Cursor.{AreIn};
 ghost use Rattle.jpg_coefs.specs.Machine.{Interval};
-ghost use Rattle.jpg_coefs.specs.Picture.{put_at};
-ghost use Rattle.jpg_seq.specs.Work.{EndsUnit};
 ghost use Rattle.jpg_seq.specs.Source.{bits_in};
-ghost use Rattle.jpg_seq.specs.Rows.{AreInRow, IsInRow, lowered};
-ghost use Rattle.jpg_seq.specs.RowTaken.{CanReadInto, PassesPlaces, ReadsBytesInto, ReadsInto, ReadsRow};
-ghost use Rattle.jpg_seq.specs.Reader.{CanRead, ReadsOn, behind, with_work, sequential};
 
 use crate::source::Source;
 use crate::values::{ValueDecoder, fill, no_short_value};
-use crate::work::{Coder, UnitProgress, UnitWork};
+use crate::work::{Coder, UnitEnd, UnitEnv, UnitWork};
 use jpg_base::{BitStore, Bounds, Cursor, Frame, Place, ScanHead, ScanPart};
 use jpg_coefs::{Coefs, ScanMachine, Taken, UnitFault, UnitStep};
 use jpg_huff::{Decoder, TableSet};
@@ -114,43 +108,28 @@ impl SeqReader {
 
     // Takes bits of the current unit.
     #[inline(always)]
-    fn unit_bits(&self, component: u8, unit: &mut UnitWork, source: &mut Source<'_>) -> UnitProgress
+    fn unit_bits(&self, component: u8, unit: &mut UnitWork, source: &mut Source<'_>) -> UnitEnd
         requires { CanRead (with_work self.now unit.old) component }
-        ensures reads { ReadsOn (with_work self.now unit.old) component (bits_in source.old) result unit.new (bits_in source.new) }
-        ensures ends { EndsUnit result }
+        ensures { ReadsOn (with_work self.now unit.old) component (bits_in source.old) result unit.new (bits_in source.new) }
     {
-        match &self.coders[component as usize] {
-            Some(coder) => unit.take(
-                &self.bounds,
-                coder,
-                self.predictions[component as usize],
-                source,
-            ),
-            None => UnitProgress::Empty,
-        }
+        let Some(coder) = &self.coders[component as usize] else {
+            return UnitEnd::Empty;
+        };
+        let env = UnitEnv {
+            bounds: &self.bounds,
+            coder,
+            prediction: self.predictions[component as usize],
+        };
+        unit.take(&env, source)
     }
-}
-
-// The row of MCUs whose blocks are stored, or a complete picture: by component, the row of its grid with which it begins,
-// and how many of the next units are in it.
-#[derive(Clone, Copy)]
-struct StoredRow<'a> {
-    tops: &'a [u32; 4],
-    most: u64,
 }
 
 impl SeqReader {
     // Puts the block of a complete unit into those that are stored, and begins the next unit.
     #[inline(always)]
     fn put(&mut self, unit: &mut UnitWork, coefs: &mut Coefs, tops: &[u32; 4], place: Place)
-        requires small { place.component < 4 }
-        requires here { IsInRow coefs.old.frame tops.now place }
-        requires whole { length unit.old.values ≡ 64 }
-        requires left { 1 ≤ self.old.left }
-        requires place { 1 ≤ length self.old.cursor }
-        ensures machine { with_work self.new unit.new ≡ behind (with_work self.old unit.old) place.component }
-        ensures count { length coefs.old.blocks ≡ padded_blocks coefs.old.frame }
-        ensures block { coefs.new ≡ put_at coefs.old (lowered tops.now place) unit.old.values }
+        requires { CanPut (with_work self.old unit.old) coefs.old.frame tops.now place }
+        ensures { PutsUnit tops.now (with_work self.old unit.old) coefs.old place (with_work self.new unit.new) coefs.new }
     {
         coefs.checked();
         let block = unit.block();
@@ -162,35 +141,35 @@ impl SeqReader {
         self.left -= 1;
     }
 
-    // Takes bits of the source, and puts the blocks into those that are stored.
+    // Takes bits of the source, and puts the blocks into those that are stored: those of a row of MCUs, or of a complete
+    // picture. By component, `tops` are the rows of the grids with which they begin; the next `most` units are among them.
     #[inline(always)]
     fn read(
         &mut self,
         unit: &mut UnitWork,
         source: &mut Source<'_>,
         coefs: &mut Coefs,
-        row: StoredRow<'_>,
+        tops: &[u32; 4],
+        most: u64,
     ) -> Taken
-        requires open { CanReadInto row.tops.now (with_work self.old unit.old) coefs.old }
-        requires inside { AreInRow coefs.old.frame row.tops.now (take row.most self.old.cursor) }
-        requires some { 1 ≤ row.most }
-        ensures takes { ReadsRow row.entry (with_work self.old unit.old) coefs.old (bits_in source.old) result (with_work self.new unit.new) coefs.new (bits_in source.new) }
-        ensures passes { PassesPlaces row.entry.most self.old result self.new }
+        requires open { CanReadInto tops.now (with_work self.old unit.old) coefs.old }
+        requires inside { AreInRow coefs.old.frame tops.now (take most self.old.cursor) }
+        requires some { 1 ≤ most }
+        ensures { ReadsPlaces most tops.now (with_work self.old unit.old) coefs.old (bits_in source.old) result (with_work self.new unit.new) coefs.new (bits_in source.new) }
     {
         let mut done = 0;
         loop {
             let place = self.cursor.place();
             match self.unit_bits(place.component, unit, source) {
-                UnitProgress::More => return Taken::More,
-                UnitProgress::Empty => return Taken::More,
-                UnitProgress::Fault(fault) => return Taken::Fault(fault),
-                UnitProgress::Done => {
-                    self.put(unit, coefs, row.tops, place);
+                UnitEnd::Empty => return Taken::More,
+                UnitEnd::Fault(fault) => return Taken::Fault(fault),
+                UnitEnd::Done => {
+                    self.put(unit, coefs, tops, place);
                     if self.left == 0 {
                         return Taken::IntervalDone;
                     }
                     done += 1;
-                    if done >= row.most {
+                    if done >= most {
                         return Taken::Units;
                     }
                 }
@@ -219,8 +198,7 @@ impl SeqReader {
             store: store.copy(),
             bytes: &[],
         };
-        let row = StoredRow { tops, most };
-        let taken = self.read(&mut unit, &mut source, coefs, row);
+        let taken = self.read(&mut unit, &mut source, coefs, tops, most);
         source.take_all();
         self.unit = unit;
         *store = source.store;
@@ -249,8 +227,7 @@ impl SeqReader {
             bytes,
         };
         let all = source.len();
-        let row = StoredRow { tops, most };
-        let taken = self.read(&mut unit, &mut source, coefs, row);
+        let taken = self.read(&mut unit, &mut source, coefs, tops, most);
         self.unit = unit;
         BytesTaken {
             taken,
@@ -269,6 +246,7 @@ pub struct BytesTaken {
 impl ScanMachine for SeqReader {
     ghost kind = { sequential };
 
+    #[tactic(auto, using(crate::proofs::Readings::all_inside, crate::proofs::Readings::all_taken))]
     fn bits(&mut self, store: &mut BitStore, coefs: &mut Coefs, most: u64) -> Taken {
         self.bits_from(store, coefs, &[0; 4], most)
     }
@@ -285,6 +263,7 @@ impl ScanMachine for SeqReader {
     }
 
     // PRED is 0 at the start of each interval (T.81, F.2.1.3.1).
+    #[tactic(auto, using(crate::proofs::Readings::begins))]
     fn restart(&mut self, units: u64) {
         self.unit = UnitWork::new();
         self.predictions = [0; 4];

@@ -4,10 +4,8 @@ ghost use Rattle.jpg_spec.specs.Scan.{part_of as part_in};
 ghost use Rattle.jpg_spec_write.specs.WrittenFile.{HasBlocksIn};
 ghost use Rattle.jpg_huff.specs.BitOut.{CanSend, Puts, Sends};
 ghost use Rattle.jpg_coefs.specs.BitSinks.{bit_kind};
-ghost use Rattle.jpg_seq.specs.NewReader.{HasTables, IsSeqScan};
-ghost use Rattle.jpg_seq.specs.BlockBits.{IsShort};
-ghost use Rattle.jpg_seq.specs.ScanWritten.{written_data};
-ghost use Rattle.jpg_seq.specs.SeqUnits.{given_bits, seq_units};
+ghost use Rattle.jpg_seq.specs.Reader.{HasTables, IsSeqScan};
+ghost use Rattle.jpg_seq.specs.ScanWritten.{IsShort, written_data, given_bits, seq_units};
 
 use crate::write::{BlockCodes, put_block};
 use jpg_base::{Desk, ScanHead, WriteFault};
@@ -38,7 +36,12 @@ fn put_unit<D: Desk>(
     let (Some(dc), Some(ac)) = (units.encoders.dc(part.dc), units.encoders.ac(part.ac)) else {
         return Ok(());
     };
-    put_block(BlockCodes { dc, ac }, unit.last, unit.block, out, desk)
+    let codes = BlockCodes {
+        dc,
+        ac,
+        prediction: unit.last,
+    };
+    put_block(codes, unit.block, out, desk)
 }
 
 impl<'a, D: Desk> UnitSink<BitOut, D> for SeqUnits<'a> {

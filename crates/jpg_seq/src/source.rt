@@ -1,6 +1,5 @@
 //! The bits of a store, followed by those of complete bytes.
-ghost use Rattle.std.specs.Prelude.{◌≡◌, ◌<◌, ◌≤◌, ◌*◌, ◌+◌, [], ◌++◌, length, true, false};
-ghost use Rattle.jpg_spec.specs.Bits.{bits_of};
+ghost use Rattle.std.specs.Prelude.{◌≡◌, ◌<◌, ◌≤◌, ◌*◌, ◌+◌, [], length, true, false};
 ghost use Rattle.jpg_seq.specs.Source.{bits_in};
 
 use jpg_base::BitStore;
@@ -10,16 +9,6 @@ use jpg_base::BitStore;
 pub struct Source<'a> {
     pub store: BitStore,
     pub bytes: &'a [u8],
-}
-
-// Appends the bits of four bytes.
-#[inline(always)]
-fn push_four(store: &mut BitStore, a: u8, b: u8, c: u8, d: u8)
-    requires { length store.old < 32 }
-    ensures bits { store.new ≡ (((store.old ++ bits_of 8 a) ++ bits_of 8 b) ++ bits_of 8 c) ++ bits_of 8 d }
-    ensures long { 32 ≤ length store.new }
-{
-    store.push_four(a, b, c, d);
 }
 
 impl<'a> Source<'a> {
@@ -40,8 +29,11 @@ impl<'a> Source<'a> {
         ensures same { bits_in self.new ≡ bits_in self.old }
         ensures full { length self.new.store < 32 → self.new.bytes.now ≡ [] }
     {
-        if self.store.len() < 32 {
-            self.refill();
+        if self.store.len() >= 32 {
+            return;
+        }
+        if !self.take_four() {
+            self.take_all();
         }
     }
 
@@ -55,20 +47,9 @@ impl<'a> Source<'a> {
         }
     }
 
-    // Takes four bytes, or all that are left.
-    #[inline(always)]
-    fn refill(&mut self)
-        requires room { length self.old.store < 32 }
-        ensures same { bits_in self.new ≡ bits_in self.old }
-        ensures full { length self.new.store < 32 → self.new.bytes.now ≡ [] }
-    {
-        if !self.take_four() {
-            self.take_all();
-        }
-    }
-
     // Takes four bytes, if there are four.
     #[inline(always)]
+    #[tactic(auto, using(crate::proofs::Takings::four_long))]
     fn take_four(&mut self) -> bool
         requires room { length self.old.store < 32 }
         ensures same { bits_in self.new ≡ bits_in self.old }
@@ -76,7 +57,7 @@ impl<'a> Source<'a> {
         ensures few { result ≡ false → (self.new ≡ self.old) × (length self.old.bytes.now < 4) }
     {
         if let [a, b, c, d, behind @ ..] = self.bytes {
-            push_four(&mut self.store, *a, *b, *c, *d);
+            self.store.push_four(*a, *b, *c, *d);
             self.bytes = behind;
             true
         } else {
@@ -98,6 +79,7 @@ impl<'a> Source<'a> {
     }
 
     /// How many bits there are.
+    #[tactic(auto, using(crate::proofs::Takings::source_long))]
     pub fn len(&self) -> u64
         requires few { length self.now.bytes.now < 4294967296 }
         ensures { result ≡ length (bits_in self.now) }

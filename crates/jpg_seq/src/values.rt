@@ -1,10 +1,10 @@
 //! AC codes, and values decoded by one lookup of ten bits (T.81, F.2.2.2, Figures F.13 and F.14).
-ghost use Rattle.std.specs.Prelude.{◌≡◌, ◌<◌, ◌≤◌, List, length, Contains};
+ghost use Rattle.std.specs.Prelude.{◌≡◌, ◌<◌, ◌≤◌, List, length, Contains, IfSome};
 ghost use Rattle.jpg_spec.specs.Bits.{bits_of};
 ghost use Rattle.jpg_spec.specs.Codes.{Code};
 ghost use Rattle.jpg_huff.specs.Laws.{AreApart};
 ghost use Rattle.jpg_huff.specs.Look.{Spots};
-ghost use Rattle.jpg_seq.specs.Values.{AreShortValues, TellsShortValue, TellsOrNone, end_entry};
+ghost use Rattle.jpg_seq.specs.Values.{AreShortValues, TellsShortValue, TellsOrNone};
 
 use jpg_base::BitStore;
 use jpg_huff::{Decoder, Spotted, extend};
@@ -67,17 +67,6 @@ pub(crate) fn no_short_value() -> ShortValue
     }
 }
 
-// The end of a block, by a code of this many bits.
-fn end_of(length: u8) -> ShortValue
-    ensures { result ≡ end_entry length }
-{
-    ShortValue {
-        value: 0,
-        run: END_RUN,
-        length,
-    }
-}
-
 // The entry of these ten bits.
 fn entry_by(codes: &Decoder, ten: u16) -> ShortValue
     requires { ten < 1024 }
@@ -89,7 +78,11 @@ fn entry_by(codes: &Decoder, ten: u16) -> ShortValue
         Spotted::Symbol { length, symbol } => {
             let size = symbol % 16;
             if symbol == 0 {
-                end_of(length)
+                ShortValue {
+                    value: 0,
+                    run: END_RUN,
+                    length,
+                }
             } else if size > 0 && length + size <= 10 {
                 ShortValue {
                     value: extend(size, bits.peek_after(length, size)),
@@ -136,8 +129,10 @@ impl ValueDecoder {
     /// The value that the first ten of these bits encode, or the end of a block: None if they encode neither, or if
     /// there are fewer.
     #[inline(always)]
+    #[tactic(auto, using(crate::proofs::Takings::entry_first))]
     pub fn entry(&self, bits: &BitStore) -> Option<ShortValue>
-        ensures { TellsShortValue self.now bits.now result }
+        ensures value { TellsShortValue self.now bits.now result }
+        ensures fits { IfSome result (λ t. (t.length ≤ 10) × (t.length ≤ length bits.now)) }
     {
         if bits.len() < 10 {
             return None;

@@ -1,17 +1,12 @@
 //! A unit of a sequential scan, read from a store of bits, several elements at once (T.81, F.2.2.1, F.2.2.2).
-ghost use Rattle.std.specs.Prelude.{◌≡◌, ◌<◌, ◌≤◌, ◌≤ℤ◌, ◌+◌, ◌+ℤ◌, negsuc, pos, [], ◌∷◌, ◌++◌, length, take, List, ℤ};
+ghost use Rattle.std.specs.Prelude.{◌≡◌, ◌<◌, ◌≤◌, ◌+◌, true, false, [], ◌∷◌, ◌++◌, length, take, IfNone, None, Some};
 ghost use Rattle.jpg_spec.specs.Elements.{zeros};
-ghost use Rattle.jpg_seq.specs.Range.{AreSane};
-ghost use Rattle.jpg_seq.specs.Work.{IsLaterNext, IsNextElement, TakesFromStore, IsAtWork, IsUnitCovered, IsFirstValue, GrowsOn, EndsUnit, env_of, no_work};
-ghost use Rattle.jpg_seq.specs.Coder.{env_in};
-ghost use Rattle.jpg_seq.specs.SourceTaken.{TakesFrom};
-ghost use Rattle.jpg_seq.specs.ShortTaken.{GoesOnAfterShortValue, KeepsOn, TakesShortValue, TakesShortValues};
+ghost use Rattle.jpg_seq.specs.Work.{AreSane, AreNext, IsNextElement, TakesElement, TakesFromStore, IsAtWork, IsUnitCovered, IsFirstValue, no_work, env_by};
+ghost use Rattle.jpg_seq.specs.Source.{bits_in};
 ghost use Rattle.jpg_seq.specs.Values.{TellsNoPlace};
-ghost use Rattle.jpg_seq.specs.declared.work.UnitProgress.TheVariants.{Empty};
-ghost use Rattle.jpg_spec.specs.Codes.{Code};
+ghost use Rattle.jpg_seq.specs.declared.work.UnitEnd.TheVariants.{Empty};
 
 use crate::source::Source;
-use crate::symbols::{SequentialSymbol, judge};
 use crate::values::{END_RUN, ValueDecoder};
 use jpg_base::{BitStore, Block, Bounds};
 use jpg_coefs::UnitFault;
@@ -23,14 +18,15 @@ use std::marker::Model;
 pub enum NextElement {
     Part,
     Value { run: u8, value: i16, length: u8 },
-    Zeros { count: u8, length: u8 },
-    Bad { fault: UnitFault, length: u8 },
+    /// So many zeros, and the length.
+    Zeros(u8, u8),
+    /// A fault, and the length of what reveals it.
+    Bad(UnitFault, u8),
 }
 
-/// The result of taking bits: an element is complete, all bits were taken, the unit is complete, a fault.
+/// Why no more bits of a unit are taken: all were, the unit is complete, or there is a fault.
 #[derive(Clone, Copy)]
-pub enum UnitProgress {
-    More,
+pub enum UnitEnd {
     Empty,
     Done,
     Fault(UnitFault),
@@ -43,41 +39,29 @@ pub struct Coder {
     pub ac: ValueDecoder,
 }
 
-fn sum(a: i16, b: i16) -> i32
-    ensures { result ≡ a +ℤ b }
-{
-    i32::from(a) + i32::from(b)
-}
-
-fn narrow(x: i32) -> i16
-    requires low { negsuc 32767 ≤ℤ x }
-    requires high { x ≤ℤ pos 32767 }
-    ensures { result ≡ x }
-{
-    x as i16
+/// What a unit is decoded with: the bounds of its values, the tables of its component, and PRED (T.81, F.1.1.5.1).
+#[derive(Clone, Copy)]
+pub struct UnitEnv<'a> {
+    pub bounds: &'a Bounds,
+    pub coder: &'a Coder,
+    pub prediction: i16,
 }
 
 // The DC value by its difference to the prediction (T.81, F.2.2.1).
 #[inline(always)]
-fn first_value(bounds: &Bounds, prediction: i16, difference: i16, length: u8) -> NextElement
-    requires sane { AreSane bounds.now }
-    ensures { IsFirstValue bounds.now prediction difference length result }
+fn first_value(env: &UnitEnv<'_>, difference: i16, length: u8) -> NextElement
+    requires sane { AreSane env.now.bounds.now }
+    ensures { IsFirstValue (env_by env.now) difference length result }
 {
-    let first = sum(prediction, difference);
-    if first < bounds.dc_low {
-        NextElement::Bad {
-            fault: UnitFault::CoefRange,
-            length,
-        }
-    } else if first > bounds.dc_high {
-        NextElement::Bad {
-            fault: UnitFault::CoefRange,
-            length,
-        }
+    let first = i32::from(env.prediction) + i32::from(difference);
+    if first < env.bounds.dc_low {
+        NextElement::Bad(UnitFault::CoefRange, length)
+    } else if first > env.bounds.dc_high {
+        NextElement::Bad(UnitFault::CoefRange, length)
     } else {
         NextElement::Value {
             run: 0,
-            value: narrow(first),
+            value: first as i16,
             length,
         }
     }
@@ -85,79 +69,26 @@ fn first_value(bounds: &Bounds, prediction: i16, difference: i16, length: u8) ->
 
 // The first element of a unit: the category of the difference, and its extra bits (T.81, F.2.2.1, Figure F.12).
 #[inline(always)]
-fn next_dc(bounds: &Bounds, dc: &Decoder, prediction: i16, bits: &BitStore) -> NextElement
-    requires sane { AreSane bounds.now }
-    ensures { (ac : List Code) → IsNextElement (env_of bounds.now dc.now ac prediction) [] bits.now result }
+fn next_dc(env: &UnitEnv<'_>, bits: &BitStore) -> NextElement
+    requires sane { AreSane env.now.bounds.now }
+    ensures { IsNextElement (env_by env.now) [] bits.now result }
 {
-    dc.apart();
-    match dc.spot(bits) {
+    env.coder.dc.apart();
+    match env.coder.dc.spot(bits) {
         Spotted::Part => NextElement::Part,
-        Spotted::NoCode { length } => NextElement::Bad {
-            fault: UnitFault::NoCode,
-            length,
-        },
+        Spotted::NoCode { length } => NextElement::Bad(UnitFault::NoCode, length),
         Spotted::Symbol { length, symbol } => {
-            if symbol > bounds.dc_cat {
-                NextElement::Bad {
-                    fault: UnitFault::BadSymbol,
-                    length,
-                }
+            if symbol > env.bounds.dc_cat {
+                NextElement::Bad(UnitFault::BadSymbol, length)
             } else if symbol == 0 {
-                first_value(bounds, prediction, 0, length)
+                first_value(env, 0, length)
             } else if length + symbol <= bits.len() {
                 let difference = extend(symbol, bits.peek_after(length, symbol));
-                first_value(bounds, prediction, difference, length + symbol)
+                first_value(env, difference, length + symbol)
             } else {
                 NextElement::Part
             }
         }
-    }
-}
-
-// The next AC element, where `left` values are left (T.81, F.2.2.2, Figures F.13 and F.14).
-#[inline(always)]
-fn next_ac(bounds: &Bounds, ac: &ValueDecoder, left: u8, bits: &BitStore) -> NextElement
-    requires sane { AreSane bounds.now }
-    requires left { (1 ≤ left) × (left ≤ 63) }
-    ensures { IsLaterNext bounds.now ac.now left bits.now result }
-{
-    ac.apart();
-    match ac.spot(bits) {
-        Spotted::Part => NextElement::Part,
-        Spotted::NoCode { length } => NextElement::Bad {
-            fault: UnitFault::NoCode,
-            length,
-        },
-        Spotted::Symbol { length, symbol } => match judge(bounds, left, symbol) {
-            SequentialSymbol::BadSymbol => NextElement::Bad {
-                fault: UnitFault::BadSymbol,
-                length,
-            },
-            SequentialSymbol::BadRun => NextElement::Bad {
-                fault: UnitFault::BadRun,
-                length,
-            },
-            SequentialSymbol::LongRun => NextElement::Zeros {
-                count: left.min(16),
-                length,
-            },
-            SequentialSymbol::End => NextElement::Zeros {
-                count: left,
-                length,
-            },
-            SequentialSymbol::Value { run, size } => {
-                if length + size <= bits.len() {
-                    let value = extend(size, bits.peek_after(length, size));
-                    NextElement::Value {
-                        run,
-                        value,
-                        length: length + size,
-                    }
-                } else {
-                    NextElement::Part
-                }
-            }
-        },
     }
 }
 
@@ -225,15 +156,15 @@ impl UnitWork {
         self.at
     }
 
-    // Whether values are left.
+    // Whether the unit is complete.
     #[inline(always)]
-    fn covered(&self) -> UnitProgress
+    fn covered(&self) -> Option<UnitEnd>
         ensures { IsUnitCovered self.now result }
     {
         if self.at == 64 {
-            UnitProgress::Done
+            Some(UnitEnd::Done)
         } else {
-            UnitProgress::More
+            None
         }
     }
 
@@ -266,88 +197,83 @@ impl UnitWork {
     // The part followed by bits of the store.
     #[inline(always)]
     fn joined(&self, store: &BitStore) -> BitStore
-        ensures { result ≡ self.now.part ++ take 32 store.now }
+        ensures { AreNext self.now.part store.now result }
     {
         self.part.joined(store)
     }
 
-    // The next element: DC first, and then AC.
+    // The next element: DC first, and then AC, which is a value after a run of zeros, or zeros (T.81, F.2.2.2, Figures F.13
+    // and F.14).
     #[inline(always)]
-    fn next(&self, bounds: &Bounds, coder: &Coder, prediction: i16, bits: &BitStore) -> NextElement
-        requires sane { AreSane bounds.now }
+    fn next(&self, env: &UnitEnv<'_>, bits: &BitStore) -> NextElement
+        requires sane { AreSane env.now.bounds.now }
         requires left { length self.now.values < 64 }
-        ensures { IsNextElement (env_in bounds.now coder.now prediction) self.now.values bits.now result }
+        ensures { IsNextElement (env_by env.now) self.now.values bits.now result }
     {
         let at = self.count();
         if at == 0 {
-            next_dc(bounds, &coder.dc, prediction, bits)
-        } else {
-            next_ac(bounds, &coder.ac, 64 - at, bits)
+            return next_dc(env, bits);
+        }
+        let ac = &env.coder.ac;
+        ac.apart();
+        let left = 64 - at;
+        match ac.spot(bits) {
+            Spotted::Part => NextElement::Part,
+            Spotted::NoCode { length } => NextElement::Bad(UnitFault::NoCode, length),
+            Spotted::Symbol { length, symbol } => {
+                let run = symbol / 16;
+                let size = symbol % 16;
+                if size > env.bounds.ac_cat {
+                    NextElement::Bad(UnitFault::BadSymbol, length)
+                } else if size == 0 {
+                    if run == 0 {
+                        NextElement::Zeros(left, length)
+                    } else if run == 15 {
+                        NextElement::Zeros(left.min(16), length)
+                    } else {
+                        NextElement::Bad(UnitFault::BadSymbol, length)
+                    }
+                } else if run >= left {
+                    NextElement::Bad(UnitFault::BadRun, length)
+                } else if length + size <= bits.len() {
+                    NextElement::Value {
+                        run,
+                        value: extend(size, bits.peek_after(length, size)),
+                        length: length + size,
+                    }
+                } else {
+                    NextElement::Part
+                }
+            }
         }
     }
 
-    // Takes the bits of an element, where the part is empty.
+    // Takes the bits of an element, where `bits` begin with those of the part, of which there are `have`, followed by the
+    // store's.
     #[inline(always)]
     fn element(
         &mut self,
-        bounds: &Bounds,
-        coder: &Coder,
-        prediction: i16,
+        env: &UnitEnv<'_>,
+        have: u8,
+        bits: &BitStore,
         store: &mut BitStore,
-    ) -> UnitProgress
-        requires sane { AreSane bounds.now }
-        requires left { length self.old.values < 64 }
-        requires none { self.old.part ≡ [] }
-        ensures takes { TakesFromStore (env_in bounds.now coder.now prediction) self.old store.old result self.new store.new }
-        ensures grows { GrowsOn result self.old self.new }
-        ensures few { result ≡ Empty → length store.old < 32 }
+    ) -> Option<UnitEnd>
+        requires sane { AreSane env.now.bounds.now }
+        requires work { IsAtWork (env_by env.now) self.old }
+        requires have { have ≡ length self.old.part }
+        requires next { AreNext self.old.part store.old bits.now }
+        ensures takes { TakesFromStore (env_by env.now) self.old store.old result self.new store.new }
+        ensures grows { IfNone result (length self.old.values < length self.new.values) }
+        ensures few { result ≡ Some Empty → length store.old < 32 }
     {
-        match self.next(bounds, coder, prediction, store) {
+        match self.next(env, bits) {
             NextElement::Part => {
                 self.keep(store);
-                UnitProgress::Empty
+                Some(UnitEnd::Empty)
             }
-            NextElement::Bad { fault, length } => {
-                store.skip(length);
-                UnitProgress::Fault(fault)
-            }
-            NextElement::Value { run, value, length } => {
-                store.skip(length);
-                self.place(run, value);
-                self.covered()
-            }
-            NextElement::Zeros { count, length } => {
-                store.skip(length);
-                self.cover(count);
-                self.covered()
-            }
-        }
-    }
-
-    // Takes the bits of an element, where the part isn't empty.
-    #[inline(always)]
-    fn split_element(
-        &mut self,
-        bounds: &Bounds,
-        coder: &Coder,
-        prediction: i16,
-        store: &mut BitStore,
-    ) -> UnitProgress
-        requires sane { AreSane bounds.now }
-        requires work { IsAtWork (env_in bounds.now coder.now prediction) self.old }
-        ensures takes { TakesFromStore (env_in bounds.now coder.now prediction) self.old store.old result self.new store.new }
-        ensures few { result ≡ Empty → length store.old < 32 }
-    {
-        let bits = self.joined(store);
-        let have = self.waiting();
-        match self.next(bounds, coder, prediction, &bits) {
-            NextElement::Part => {
-                self.keep(store);
-                UnitProgress::Empty
-            }
-            NextElement::Bad { fault, length } => {
+            NextElement::Bad(fault, length) => {
                 store.skip(length - have);
-                UnitProgress::Fault(fault)
+                Some(UnitEnd::Fault(fault))
             }
             NextElement::Value { run, value, length } => {
                 store.skip(length - have);
@@ -355,7 +281,7 @@ impl UnitWork {
                 self.place(run, value);
                 self.covered()
             }
-            NextElement::Zeros { count, length } => {
+            NextElement::Zeros(count, length) => {
                 store.skip(length - have);
                 self.clear();
                 self.cover(count);
@@ -364,135 +290,95 @@ impl UnitWork {
         }
     }
 
-    // Takes a value that ten bits encode, or the end of the block (T.81, F.2.2.2). Returns Empty if they encode
+    // Takes a value that ten bits encode, or the end of the block (T.81, F.2.2.2). Returns false if they encode
     // neither, or a value that has no place.
     #[inline(always)]
-    fn value_by_ten(&mut self, ac: &ValueDecoder, store: &mut BitStore) -> UnitProgress
+    fn value_by_ten(&mut self, env: &UnitEnv<'_>, store: &mut BitStore) -> bool
+        requires sane { AreSane env.now.bounds.now }
         requires left { (1 ≤ length self.old.values) × (length self.old.values < 64) }
         requires none { self.old.part ≡ [] }
-        ensures takes { TakesShortValue ac.now self.old store.old result self.new store.new }
-        ensures goes { GoesOnAfterShortValue result self.old self.new }
-        ensures none { result ≡ Empty → TellsNoPlace ac.now (length self.old.values) store.old }
+        ensures takes { result ≡ true → TakesElement (env_by env.now) self.old store.old self.new store.new }
+        ensures same { result ≡ false → (self.new ≡ self.old) × (store.new ≡ store.old) }
+        ensures none { result ≡ false → TellsNoPlace env.now.coder.now.ac (length self.old.values) store.old }
     {
+        let ac = &env.coder.ac;
         ac.apart();
         let at = self.count();
-        match ac.entry(store) {
-            Some(entry) => {
-                if at + entry.run < 64 {
-                    store.skip_few(entry.length);
-                    self.place(entry.run, entry.value);
-                    self.covered()
-                } else if entry.run == END_RUN {
-                    store.skip_few(entry.length);
-                    self.cover(64 - at);
-                    self.covered()
-                } else {
-                    UnitProgress::Empty
-                }
-            }
-            None => UnitProgress::Empty,
+        let Some(entry) = ac.entry(store) else {
+            return false;
+        };
+        if at + entry.run < 64 {
+            store.skip_few(entry.length);
+            self.place(entry.run, entry.value);
+            true
+        } else if entry.run == END_RUN {
+            store.skip_few(entry.length);
+            self.cover(64 - at);
+            true
+        } else {
+            false
         }
     }
 
     // Takes values that ten bits encode, one after another, up to the end of the unit, or until there are too few bits
     // or they encode none.
     #[inline(always)]
-    fn values_by_ten(&mut self, ac: &ValueDecoder, source: &mut Source<'_>) -> UnitProgress
+    fn values_by_ten(&mut self, env: &UnitEnv<'_>, source: &mut Source<'_>) -> Option<UnitEnd>
+        requires sane { AreSane env.now.bounds.now }
         requires left { (1 ≤ length self.old.values) × (length self.old.values < 64) }
         requires none { self.old.part ≡ [] }
-        ensures takes { TakesShortValues ac.now self.old source.old result self.new source.new }
-        ensures grows { KeepsOn result self.old self.new }
+        ensures takes { TakesFromStore (env_by env.now) self.old (bits_in source.old) result self.new (bits_in source.new) }
+        ensures grows { length self.old.values ≤ length self.new.values }
     {
         let mut here = source.copy();
         loop {
             here.more();
-            match self.value_by_ten(ac, &mut here.store) {
-                UnitProgress::More => {}
-                UnitProgress::Done => {
-                    *source = here;
-                    return UnitProgress::Done;
-                }
-                UnitProgress::Empty => {
-                    *source = here;
-                    return UnitProgress::More;
-                }
-                UnitProgress::Fault(_) => unreachable!(),
+            if !self.value_by_ten(env, &mut here.store) {
+                *source = here;
+                return None;
+            }
+            if let Some(end) = self.covered() {
+                *source = here;
+                return Some(end);
             }
         }
     }
 
-    // Takes an element where the part is empty, and values after it that ten bits encode.
+    // Takes the element of which some bits wait, if any do.
     #[inline(always)]
-    fn some_elements(
-        &mut self,
-        bounds: &Bounds,
-        coder: &Coder,
-        prediction: i16,
-        source: &mut Source<'_>,
-    ) -> UnitProgress
-        requires sane { AreSane bounds.now }
-        requires left { length self.old.values < 64 }
-        requires none { self.old.part ≡ [] }
-        ensures takes { TakesFrom (env_in bounds.now coder.now prediction) self.old source.old result self.new source.new }
-        ensures grows { GrowsOn result self.old self.new }
+    fn split_element(&mut self, env: &UnitEnv<'_>, source: &mut Source<'_>) -> Option<UnitEnd>
+        requires sane { AreSane env.now.bounds.now }
+        requires work { IsAtWork (env_by env.now) self.old }
+        ensures { TakesFromStore (env_by env.now) self.old (bits_in source.old) result self.new (bits_in source.new) }
     {
+        let have = self.waiting();
+        if have == 0 {
+            return None;
+        }
         source.fill();
-        match self.element(bounds, coder, prediction, &mut source.store) {
-            UnitProgress::More => self.values_by_ten(&coder.ac, source),
-            UnitProgress::Empty => UnitProgress::Empty,
-            UnitProgress::Done => UnitProgress::Done,
-            UnitProgress::Fault(fault) => UnitProgress::Fault(fault),
-        }
-    }
-
-    // Takes elements where the part is empty, up to the end of the unit or of the source.
-    #[inline(always)]
-    fn elements(
-        &mut self,
-        bounds: &Bounds,
-        coder: &Coder,
-        prediction: i16,
-        source: &mut Source<'_>,
-    ) -> UnitProgress
-        requires sane { AreSane bounds.now }
-        requires left { length self.old.values < 64 }
-        requires none { self.old.part ≡ [] }
-        ensures takes { TakesFrom (env_in bounds.now coder.now prediction) self.old source.old result self.new source.new }
-        ensures ends { EndsUnit result }
-    {
-        loop {
-            match self.some_elements(bounds, coder, prediction, source) {
-                UnitProgress::More => {}
-                UnitProgress::Empty => return UnitProgress::Empty,
-                UnitProgress::Done => return UnitProgress::Done,
-                UnitProgress::Fault(fault) => return UnitProgress::Fault(fault),
-            }
-        }
+        let bits = self.joined(&source.store);
+        self.element(env, have, &bits, &mut source.store)
     }
 
     /// Takes bits up to the end of the unit or of the source, or up to one that reveals a fault.
     #[inline(always)]
-    pub fn take(
-        &mut self,
-        bounds: &Bounds,
-        coder: &Coder,
-        prediction: i16,
-        source: &mut Source<'_>,
-    ) -> UnitProgress
-        requires sane { AreSane bounds.now }
-        requires work { IsAtWork (env_in bounds.now coder.now prediction) self.old }
-        ensures takes { TakesFrom (env_in bounds.now coder.now prediction) self.old source.old result self.new source.new }
-        ensures ends { EndsUnit result }
+    pub fn take(&mut self, env: &UnitEnv<'_>, source: &mut Source<'_>) -> UnitEnd
+        requires sane { AreSane env.now.bounds.now }
+        requires work { IsAtWork (env_by env.now) self.old }
+        ensures { TakesFromStore (env_by env.now) self.old (bits_in source.old) (Some result) self.new (bits_in source.new) }
     {
-        if self.waiting() == 0 {
-            return self.elements(bounds, coder, prediction, source);
+        if let Some(end) = self.split_element(env, source) {
+            return end;
         }
-        source.fill();
-        match self.split_element(bounds, coder, prediction, &mut source.store) {
-            UnitProgress::More => self.elements(bounds, coder, prediction, source),
-            UnitProgress::Empty => UnitProgress::Empty,
-            UnitProgress::Done => UnitProgress::Done,
-            UnitProgress::Fault(fault) => UnitProgress::Fault(fault),
+        loop {
+            source.fill();
+            let bits = source.store.copy();
+            if let Some(end) = self.element(env, 0, &bits, &mut source.store) {
+                return end;
+            }
+            if let Some(end) = self.values_by_ten(env, source) {
+                return end;
+            }
         }
     }
 

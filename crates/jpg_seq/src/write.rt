@@ -1,11 +1,10 @@
 //! The bits of a block in a sequential scan, written (T.81, F.1.2.1, F.1.2.2).
-ghost use Rattle.std.specs.Prelude.{◌≡◌, ◌≤◌, ◌<◌, ◌^◌, ◌++◌, [], drop, true, pos, negsuc, ◌-ℤ◌, ◌≤ℤ◌};
-ghost use Rattle.jpg_spec.specs.Bits.{bits_of};
-ghost use Rattle.jpg_spec.specs.Numbers.{category as category_of, extra_bits as extra_of};
+ghost use Rattle.std.specs.Prelude.{◌≡◌, ◌≤◌, [], drop, slice_index_or, true, pos, negsuc, ◌-ℤ◌, ◌≤ℤ◌};
+ghost use Rattle.jpg_spec.specs.Numbers.{category as category_of};
 ghost use Rattle.jpg_spec.specs.Codes.{code_of};
 ghost use Rattle.jpg_huff.specs.BitOut.{Puts, PutsAfter};
 ghost use Rattle.jpg_huff.specs.Tables.{symbol_codes};
-ghost use Rattle.jpg_seq.specs.BlockBits.{IsShort, run_bits, band_bits, block_bits};
+ghost use Rattle.jpg_seq.specs.ScanWritten.{IsShort, run_bits, band_bits, dc_bits, coded_block};
 
 use jpg_base::{Block, Desk, WriteFault};
 use jpg_huff::{BitOut, Encoder, ExtendedCode, PendingBits, Table, category, extra_bits};
@@ -43,27 +42,6 @@ fn put_code_after<D: Desk>(
     out.put_after(held, u32::from(code.bits), code.length, desk)
 }
 
-// Writes the first code of a symbol, and then the extra bits of a value.
-#[inline(always)]
-fn put_value<D: Desk>(
-    encoder: &Encoder,
-    symbol: u8,
-    value: i32,
-    out: &mut BitOut,
-    desk: &mut D,
-) -> Result<(), WriteFault>
-    requires created { (D.state desk.old).output_created ≡ true }
-    requires short { category_of value ≤ 16 }
-    ensures { Puts (D.state desk.old) out.old (code_of encoder.now symbol ++ extra_of value) result out.new (D.state desk.new) }
-{
-    let code = ExtendedCode {
-        code: encoder.code(symbol),
-        extra: extra_bits(value),
-        size: category(value),
-    };
-    out.put_code(code, desk)
-}
-
 // A value that isn't 0, after a run of zeros.
 #[derive(Clone, Copy)]
 struct RunValue {
@@ -88,8 +66,8 @@ fn put_any_run<D: Desk>(
         put_code(ac, 0xf0, out, desk)?;
         left -= 16;
     }
-    let value = i32::from(next.value);
-    put_value(ac, 16 * left + category(value), value, out, desk)
+    let (bits, count) = ac.any_value(left, next.value);
+    out.put(bits, count, desk)
 }
 
 // `put_any_run` after bits that were handed out.
@@ -133,6 +111,7 @@ fn is_small(value: i16) -> bool
 // Writes a value after a run of zeros, after bits that were handed out (T.81, F.1.2.2, Figure F.3). After a short run it is
 // looked up together with its code.
 #[inline(always)]
+#[tactic(auto, using(crate::proofs::Written::value_spelled))]
 fn put_run<D: Desk>(
     codes: RunCodes<'_>,
     next: RunValue,
@@ -210,12 +189,6 @@ fn has_large(block: &Block) -> bool {
     count >= 8
 }
 
-// Whether a block has values of mixed sizes, as noise of high quality has. Either answer is right.
-#[inline(always)]
-fn is_mixed(block: &Block) -> bool {
-    block.nonzero().count_ones() >= 40 && has_large(block)
-}
-
 // Writes the values after the first one, where they are of mixed sizes.
 #[inline(never)]
 fn put_mixed<D: Desk>(
@@ -235,7 +208,8 @@ fn put_mixed<D: Desk>(
     Ok(())
 }
 
-// Writes the values after the first one, after bits that were handed out.
+// Writes the values after the first one, after bits that were handed out. They may be of mixed sizes, as noise of high
+// quality has them; either way is right.
 #[inline(always)]
 fn put_values<D: Desk>(
     ac: &Encoder,
@@ -250,7 +224,7 @@ fn put_values<D: Desk>(
     ensures puts { PutsAfter (D.state desk.old) out.old before (band_bits ac.now (drop 1 block.now)) result out.new (D.state desk.new) }
     ensures none { out.new.bits ≡ [] }
 {
-    if is_mixed(block) {
+    if block.nonzero().count_ones() >= 40 && has_large(block) {
         out.give(before);
         match put_mixed(ac, block, out, desk) {
             Ok(()) => Ok(out.take()),
@@ -261,64 +235,63 @@ fn put_values<D: Desk>(
     }
 }
 
-/// The difference of two DC values (T.81, F.1.1.5.1).
+/// The difference of a block's DC value to that of the block before it (T.81, F.1.1.5.1).
 #[inline(always)]
-pub(crate) fn difference(value: i16, prediction: i16) -> i32
-    ensures value { result ≡ value -ℤ prediction }
+pub(crate) fn difference(block: &Block, prediction: i16) -> i32
+    ensures value { result ≡ slice_index_or block.now 0 (pos 0) -ℤ prediction }
     ensures within { (negsuc 65534 ≤ℤ result) × (result ≤ℤ pos 65535) }
 {
-    i32::from(value) - i32::from(prediction)
+    i32::from(block.get(0)) - i32::from(prediction)
 }
 
-// Writes the category of a difference of DC values, and then its extra bits, after bits that were handed out (T.81,
+// What gives the codes of a block: its DC table, the codes of its AC table, and the DC value before it.
+#[derive(Clone, Copy)]
+pub(crate) struct BlockCodes<'a> {
+    pub(crate) dc: &'a Table,
+    pub(crate) ac: &'a Encoder,
+    pub(crate) prediction: i16,
+}
+
+// Writes the category of the difference of DC values, and then its extra bits, after bits that were handed out (T.81,
 // F.1.2.1).
 #[inline(always)]
 fn put_difference<D: Desk>(
-    dc: &Table,
-    value: i32,
+    codes: BlockCodes<'_>,
+    block: &Block,
     held: PendingBits,
     out: &mut BitOut,
     desk: &mut D,
 ) -> Result<PendingBits, WriteFault>
     requires created { (D.state desk.old).output_created ≡ true }
-    requires short { category_of value ≤ 16 }
     requires none { out.old.bits ≡ [] }
-    ensures puts { PutsAfter (D.state desk.old) out.old held (code_of (symbol_codes dc.now) (category_of value) ++ extra_of value) result out.new (D.state desk.new) }
+    ensures puts { PutsAfter (D.state desk.old) out.old held (dc_bits (symbol_codes codes.entry.dc.now) codes.entry.prediction block.now) result out.new (D.state desk.new) }
     ensures none { out.new.bits ≡ [] }
 {
+    let value = difference(block, codes.prediction);
     let size = category(value);
     let code = ExtendedCode {
-        code: dc.written(size),
+        code: codes.dc.written(size),
         extra: extra_bits(value),
         size,
     };
     out.put_code_after(held, code, desk)
 }
 
-// What gives the codes of a block: its DC table, and the codes of its AC table.
-#[derive(Clone, Copy)]
-pub(crate) struct BlockCodes<'a> {
-    pub(crate) dc: &'a Table,
-    pub(crate) ac: &'a Encoder,
-}
-
-// Writes a block by these tables, after this DC value of its component. It remains a call: where the caller's block is in
-// sight, its first value is kept apart, and the vectors that read the block wait for both parts.
+// Writes a block, after the DC value before it. It remains a call: where the caller's block is in sight, its first value is
+// kept apart, and the vectors that read the block wait for both parts.
 #[inline(never)]
 pub(crate) fn put_block<D: Desk>(
     codes: BlockCodes<'_>,
-    prediction: i16,
     block: &Block,
     out: &mut BitOut,
     desk: &mut D,
 ) -> Result<(), WriteFault>
     requires created { (D.state desk.old).output_created ≡ true }
     requires short { IsShort block.now }
-    ensures { Puts (D.state desk.old) out.old (block_bits (symbol_codes codes.entry.dc.now) codes.entry.ac.now prediction block.now) result out.new (D.state desk.new) }
+    ensures { Puts (D.state desk.old) out.old (coded_block codes.entry block.now) result out.new (D.state desk.new) }
 {
-    let value = difference(block.get(0), prediction);
     let before = out.take();
-    let first = put_difference(codes.dc, value, before, out, desk)?;
+    let first = put_difference(codes, block, before, out, desk)?;
     let held = put_values(codes.ac, block, first, out, desk)?;
     out.give(held);
     Ok(())

@@ -26,7 +26,7 @@ use Rattle.jpg_coefs.specs.Picture.{Picture as Coefs, block_index, block_in, is_
 use Rattle.jpg_coefs.proofs.Maps.{map_at}
 use Rattle.jpg_coefs.proofs.Stored.{index_below}
 use Rattle.jpg_file.specs.Read.PictureRead.{picture_meaning}
-use Rattle.jpg_file.specs.Read.StripHead.{IsHeadOfPicture, bare_picture}
+use Rattle.jpg_file.specs.Read.PictureKept.{IsHeadOfPicture, bare_picture}
 use Rattle.jpg_file.specs.declared.read.picture.Picture.{Picture}
 use Rattle.jpg_file.specs.declared.read.strip_head.StripHead.{StripHead}
 use Rattle.jpg_file.proofs.ByRow.RowsGiven.{block_in_range}

@@ -10,15 +10,14 @@ use Rattle.jpg_spec_move.specs.Transforms.{transposes}
 use Rattle.jpg_coefs.specs.Picture.{map_of}
 use Rattle.jpg_huff.specs.declared.set.TableSet.{TableSet}
 use Rattle.jpg_file.specs.Read.PictureRead.{picture_meaning}
-use Rattle.jpg_file.specs.Read.ReadRows.{AgreeInRows}
-use Rattle.jpg_file.specs.Read.StripHead.{IsHeadOfPicture}
-use Rattle.jpg_file.specs.Write.SoleScan.{IsAllOf, IsOfAll, IsSole, IsSoleData}
-use Rattle.jpg_file.specs.Write.WriteFile.{CanWriteFile, file_bytes}
+use Rattle.jpg_file.specs.Read.ReadFile.{AgreeInRows}
+use Rattle.jpg_file.specs.Read.PictureKept.{IsHeadOfPicture}
+use Rattle.jpg_file.specs.Write.WriteFile.{IsAllOf, IsOfAll, IsSole, IsSoleData, CanWriteFile, file_bytes}
 use Rattle.jpg_file.specs.declared.read.picture.Picture.{Picture}
 use Rattle.jpg_file.specs.declared.read.strip_head.StripHead.{StripHead}
 use Rattle.jpg_file.specs.declared.write.Plan.{Plan}
 use Rattle.jpg_file.specs.declared.write.sole.SoleScan.{SoleScan}
-use Rattle.jpg_seq.specs.NewReader.{IsSeqScan}
+use Rattle.jpg_seq.specs.Reader.{IsSeqScan}
 use Rattle.jpg_transform.specs.MovedBlocks.{IsWrittenAs}
 use Rattle.jpg_transform.specs.Places.{keeps_rows}
 use Rattle.jpg_transform.specs.Planned.{IsHeadOf, IsJobFor}

@@ -25,9 +25,9 @@ use Rattle.jpg_spec_move.specs.declared.transform.Transform.TheVariants.{Keep, F
 use Rattle.jpg_base.specs.Cursor.{AreIn, scan_mcus_down}
 use Rattle.jpg_base.proofs.ScanPlaces.{all_ids, all_row, all_rows}
 use Rattle.jpg_base.proofs.UnitCounts.{length_units}
-use Rattle.jpg_file.proofs.ByRow.RealRows.{all_down}
-use Rattle.jpg_seq.specs.Rows.{row_units, rows_in_mcu}
-use Rattle.jpg_seq.proofs.ScanRows.{row_next}
+use Rattle.jpg_file.proofs.ByRow.RowsGiven.{all_down}
+use Rattle.jpg_seq.specs.Reader.{row_units, rows_in_mcu}
+use Rattle.jpg_seq.proofs.Machines.{row_next}
 use Rattle.jpg_transform.specs.Places.{IsOutput, keeps_rows}
 use Rattle.jpg_transform.specs.RowsMoved.{mcu_rows, rows_of_output}
 use Rattle.jpg_transform.proofs.Showing.{IsMade, made_by}

@@ -35,11 +35,10 @@ use Rattle.jpg_coefs.specs.Picture.{Picture as Coefs, map_of}
 use Rattle.jpg_coefs.specs.ScanUnits.{AgreeAt}
 use Rattle.jpg_coefs.specs.Sinks.{IsScanPlace}
 use Rattle.jpg_coefs.proofs.Places.{is_real_place, scan_places, some_places}
-use Rattle.jpg_file.specs.Read.ReadRows.{AgreeInRows, LendsRow}
-use Rattle.jpg_seq.specs.Kept.{CanKeep, KeepsScan, WrittenScan, kept_scan}
-use Rattle.jpg_seq.specs.ScanWritten.{written_data}
-use Rattle.jpg_seq.specs.Rows.{row_units, rows_in_mcu}
-use Rattle.jpg_seq.proofs.ScanRows.{one_row}
+use Rattle.jpg_file.specs.Read.ReadFile.{AgreeInRows, LendsRow}
+use Rattle.jpg_seq.specs.ScanWritten.{CanKeep, KeepsScan, WrittenScan, kept_scan, written_data}
+use Rattle.jpg_seq.specs.Reader.{row_units, rows_in_mcu}
+use Rattle.jpg_seq.proofs.Machines.{one_row}
 use Rattle.jpg_transform.specs.Places.{HasRowSources, keeps_rows}
 use Rattle.jpg_transform.specs.RowsMoved.{BeginsInBounds, CanMove, CanMoveZero, CanMoveZeros, GivesMoved, HasAllMoved, HasMoved, IsMovedScan, MovedScan, MovesZero, TellsWhole, all_units, mcu_rows, moved_of, rows_of_output, scan_of, seen_by, units_moved}
 use Rattle.jpg_transform.specs.declared.row_mover.RowMover.{RowMover}

@@ -10,13 +10,11 @@ use Rattle.jpg_spec_move.specs.Transforms.{opposite, placed, signed, transposes}
 use Rattle.jpg_spec_move.specs.declared.transform.Transform.{Transform}
 use Rattle.jpg_spec_write.specs.WrittenFile.{HasBlocksIn}
 use Rattle.jpg_coefs.specs.Picture.{Picture as Coefs, map_of}
-use Rattle.jpg_file.specs.Read.ReadRows.{AgreeInRows, LendsRow}
-use Rattle.jpg_file.specs.Write.SoleScan.{is_sole}
+use Rattle.jpg_file.specs.Read.ReadFile.{AgreeInRows, LendsRow}
+use Rattle.jpg_file.specs.Write.WriteFile.{is_sole}
 use Rattle.jpg_huff.specs.declared.set.TableSet.{TableSet}
-use Rattle.jpg_seq.specs.Kept.{KeepsScan, WrittenScan, kept_scan}
-use Rattle.jpg_seq.specs.NewReader.{IsSeqScan}
-use Rattle.jpg_seq.specs.Rows.{row_units, rows_in_mcu}
-use Rattle.jpg_seq.specs.ScanWritten.{written_data}
+use Rattle.jpg_seq.specs.ScanWritten.{KeepsScan, WrittenScan, kept_scan, written_data}
+use Rattle.jpg_seq.specs.Reader.{IsSeqScan, row_units, rows_in_mcu}
 use Rattle.jpg_transform.specs.Places.{IsOutput, keeps_rows}
 use Rattle.jpg_transform.specs.declared.choice.Job.{Job}
 use Rattle.jpg_transform.specs.declared.moved_row.MovedRow.{MovedRow}

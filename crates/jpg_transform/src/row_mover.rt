@@ -4,7 +4,7 @@ ghost use Rattle.std.specs.Prelude.{◌≡◌, ◌*◌, ◌<◌, ◌≤◌, ℕ,
 ghost use Rattle.jpg_spec.specs.Scan.{Blocks};
 ghost use Rattle.jpg_spec.specs.Segments.{head_components};
 ghost use Rattle.jpg_base.specs.Cursor.{AreIn};
-ghost use Rattle.jpg_seq.specs.Rows.{row_units, rows_in_mcu};
+ghost use Rattle.jpg_seq.specs.Reader.{row_units, rows_in_mcu};
 ghost use Rattle.jpg_transform.specs.RowsMoved.{MovedScan, rows_of_output};
 
 use crate::Job;

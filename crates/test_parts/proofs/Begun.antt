@@ -14,8 +14,7 @@ use Rattle.jpg_coefs.specs.declared.machine.Taken.{Taken}
 use Rattle.jpg_coefs.specs.declared.machine.Taken.TheVariants.{More, Units, IntervalDone, Fault}
 use Rattle.jpg_coefs.proofs.Maps.{blank_is}
 use Rattle.jpg_coefs.proofs.Chains.{chain_stands}
-use Rattle.jpg_seq.specs.NewReader.{IsOfScan, in_force}
-use Rattle.jpg_seq.specs.Reader.{new_at, new_units_at, sequential}
+use Rattle.jpg_seq.specs.Reader.{IsOfScan, in_force, new_at, new_units_at, sequential}
 use Rattle.jpg_seq.specs.declared.reader.SeqReader.{SeqReader}
 use Rattle.test_parts.specs.Open.{IsBlank, IsOpen, GoesOn}
 

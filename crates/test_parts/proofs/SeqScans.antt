@@ -6,7 +6,7 @@ use Rattle.jpg_spec.specs.Geometry.{Frame, is_progressive}
 use Rattle.jpg_spec.specs.Segments.{ScanHead, head_components}
 use Rattle.jpg_base.specs.Cursor.{AreIn}
 use Rattle.jpg_huff.specs.declared.set.TableSet.{TableSet}
-use Rattle.jpg_seq.specs.NewReader.{IsSeqScan, HasTables}
+use Rattle.jpg_seq.specs.Reader.{IsSeqScan, HasTables}
 use Rattle.test_parts.specs.Heads.{part_for, head_for, HasFour}
 
 has_first : (set : TableSet) → HasFour set → HasTables set (part_for 0)

@@ -29,10 +29,10 @@ use Rattle.jpg_spec.proofs.McuRows.RowsOnce.{rows_once}
 use Rattle.jpg_spec_image.proofs.ShownAlike.{shown_alike}
 use Rattle.jpg_coefs.specs.Picture.{Picture as Coefs, map_of}
 use Rattle.jpg_coefs.proofs.Maps.{blank_is}
-use Rattle.jpg_seq.specs.Rows.{rows_in_mcu}
-use Rattle.jpg_file.specs.Read.ReadRows.{AgreeInRows, LendsRow}
-use Rattle.jpg_file.specs.Read.RowTurns.{unfinished, zero_picture}
-use Rattle.jpg_file.specs.Read.RowsKnown.{rows_of_scan}
+use Rattle.jpg_seq.specs.Reader.{rows_in_mcu}
+use Rattle.jpg_file.specs.Read.ReadFile.{AgreeInRows, LendsRow}
+use Rattle.jpg_file.specs.Read.InData.{unfinished, zero_picture}
+use Rattle.jpg_file.specs.Read.Strips.{rows_of_scan}
 use Rattle.jpg_file.specs.declared.read.rows.RowWork.{RowWork}
 use Rattle.jpg_pnm_bmp.specs.EndState.{EndState}
 use Rattle.jpg_color.specs.DecodeRows.{SendsImage}

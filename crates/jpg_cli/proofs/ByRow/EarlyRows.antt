@@ -21,9 +21,9 @@ use Rattle.jpg_spec.proofs.McuRows.RowsHeader.{begun_frame}
 use Rattle.jpg_spec.proofs.McuRows.RowsLater.{head_there}
 use Rattle.jpg_spec.proofs.Writing.WrittenFront.{standard_are_limits}
 use Rattle.jpg_base.specs.Cursor.{scan_mcus_down}
-use Rattle.jpg_seq.specs.Rows.{rows_in_mcu}
-use Rattle.jpg_file.specs.Read.ReadRows.{AgreeInRows}
-use Rattle.jpg_file.specs.Read.RowsKnown.{rows_of_scan}
+use Rattle.jpg_seq.specs.Reader.{rows_in_mcu}
+use Rattle.jpg_file.specs.Read.ReadFile.{AgreeInRows}
+use Rattle.jpg_file.specs.Read.Strips.{rows_of_scan}
 use Rattle.jpg_color.specs.StripImage.{AgreeInFirstRows}
 use Rattle.jpg_cli.specs.Tools.ShowingRows.{Head, IsHeadIn}
 use Rattle.jpg_cli.proofs.ByRow.RowsAgree.{frame_so_far, rows_told, text_same}

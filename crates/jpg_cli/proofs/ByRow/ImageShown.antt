@@ -18,8 +18,8 @@ use Rattle.jpg_spec_image.specs.declared.image.ImageInfo.{ImageInfo}
 use Rattle.jpg_color.specs.DecodeRows.{Decodes}
 use Rattle.jpg_color.specs.declared.decode.DecodeStop.{DecodeStop}
 use Rattle.jpg_color.specs.declared.decode.DecodeStop.TheVariants as stop
-use Rattle.jpg_file.specs.Read.Keeping.{kept_for}
-use Rattle.jpg_file.specs.Read.RowsNone.{HasNoRows}
+use Rattle.jpg_file.specs.Read.SegmentState.{kept_for}
+use Rattle.jpg_file.specs.Read.Strips.{HasNoRows}
 use Rattle.jpg_desk.proofs.KeepingLaws.{info_same, pixels_same}
 use Rattle.jpg_pnm_bmp.specs.EndState.{EndState, new_end}
 use Rattle.jpg_huff.specs.Out.{OnlyWrites}

@@ -31,14 +31,14 @@ use Rattle.jpg_spec_image.proofs.RowsReady.{text_goes_on}
 use Rattle.jpg_spec.proofs.Places.Untouched.{frame_stays}
 use Rattle.jpg_spec.proofs.Writing.WrittenFront.{standard_are_limits}
 use Rattle.jpg_coefs.specs.Picture.{Picture as Coefs, map_of}
-use Rattle.jpg_seq.specs.Rows.{rows_in_mcu}
-use Rattle.jpg_file.specs.Read.ReadRows.{AreOfRow}
+use Rattle.jpg_seq.specs.Reader.{rows_in_mcu}
+use Rattle.jpg_file.specs.Read.ReadFile.{AreOfRow}
 use Rattle.jpg_color.specs.Shown.{AreMcuRow, Display, IsShowable, at_top, parts, picture_of, rows_in}
 use Rattle.jpg_color.specs.StripImage.{AgreeInFirstRows}
 use Rattle.jpg_color.proofs.Coverage.{component_is, count_is, in_frame}
 use Rattle.jpg_cli.specs.Tools.ShowingRows.{Head, IsHeadIn}
 use Rattle.jpg_cli.proofs.ByRow.RowsWhole.{few_told, so_far, so_far_shown}
-use Rattle.jpg_file.proofs.ByRow.RealRows.{real_here}
+use Rattle.jpg_file.proofs.ByRow.RowsGiven.{real_here}
 use Rattle.jpg_spec_image.proofs.RowsText.{real_agree}
 
 -- THE FRAME at the scan header's end is that of the segments before it

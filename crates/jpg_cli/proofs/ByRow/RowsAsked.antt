@@ -11,8 +11,7 @@ use Rattle.jpg_spec.specs.declared.fault.FaultAt.{FaultAt}
 use Rattle.jpg_spec_words.specs.declared.answers.Why.TheVariants as why
 use Rattle.jpg_spec_words.specs.declared.answers.Which.TheVariants as which
 use Rattle.jpg_spec.specs.declared.frame.Limits.{Limits}
-use Rattle.jpg_file.specs.Read.ReadFile.{IsRefusal, ReaderState, StopsAt}
-use Rattle.jpg_file.specs.Read.ReadRows.{AfterEndRow, IsEarlyByRows, IsEarlyPlainly}
+use Rattle.jpg_file.specs.Read.ReadFile.{IsRefusal, ReaderState, StopsAt, AfterEndRow, IsEarlyByRows, IsEarlyPlainly}
 use Rattle.jpg_file.specs.declared.read.ends.End.TheVariants as ends
 use Rattle.jpg_desk.specs.Endings.{Added}
 use Rattle.jpg_desk.specs.Pump.{ReadsEnd, ReadsNothing, why_stopped}

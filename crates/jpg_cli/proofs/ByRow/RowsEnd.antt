@@ -18,9 +18,8 @@ use Rattle.jpg_spec.specs.declared.fault.FaultAt.{FaultAt}
 use Rattle.jpg_spec_words.specs.declared.answers.Why.TheVariants as why
 use Rattle.jpg_spec.specs.declared.frame.Limits.{Limits}
 use Rattle.jpg_spec_image.specs.declared.image.ImageInfo.{ImageInfo}
-use Rattle.jpg_file.specs.Read.ReadFile.{IsStopOf, ReaderState}
-use Rattle.jpg_file.specs.Read.ReadRows.{AfterFeedRow, HasReadRows, StopsRows}
-use Rattle.jpg_file.specs.Read.RowsNone.{HasNoRows}
+use Rattle.jpg_file.specs.Read.ReadFile.{IsStopOf, ReaderState, AfterFeedRow, HasReadRows, StopsKnownRows as StopsRows}
+use Rattle.jpg_file.specs.Read.Strips.{HasNoRows}
 use Rattle.jpg_file.specs.declared.read.pieces.FedRow.{FedRow}
 use Rattle.jpg_file.specs.declared.read.pieces.FedRow.TheVariants as fed
 use Rattle.jpg_pnm_bmp.specs.EndState.{EndState}

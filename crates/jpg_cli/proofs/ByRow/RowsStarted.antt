@@ -28,10 +28,9 @@ use Rattle.jpg_spec_image.specs.declared.image.ImageInfo.{ImageInfo}
 use Rattle.jpg_spec.proofs.Headers.ColoursKept.{picture_colours}
 use Rattle.jpg_spec_image.proofs.RowsAlike.{colours_stay}
 use Rattle.jpg_spec.proofs.McuRows.RowsOnce.{first_told, rows_stay}
-use Rattle.jpg_file.specs.Read.ReadFile.{ReaderState}
-use Rattle.jpg_file.specs.Read.ReadRows.{AfterFeedRow, HasBegunRows, picture_read}
-use Rattle.jpg_file.specs.Read.RowsKnown.{TellsStrip}
-use Rattle.jpg_file.specs.Read.StripHead.{IsHeadOfPicture}
+use Rattle.jpg_file.specs.Read.ReadFile.{ReaderState, AfterFeedRow, HasBegunRows, picture_read}
+use Rattle.jpg_file.specs.Read.Strips.{TellsStrip}
+use Rattle.jpg_file.specs.Read.PictureKept.{IsHeadOfPicture}
 use Rattle.jpg_file.specs.declared.read.pieces.FedRow.{FedRow}
 use Rattle.jpg_file.specs.declared.read.pieces.FedRow.TheVariants as fed
 use Rattle.jpg_file.specs.declared.read.strip_head.StripHead.{StripHead}

@@ -14,8 +14,7 @@ use Rattle.jpg_spec_image.specs.declared.image.ImageInfo.{ImageInfo}
 use Rattle.jpg_spec_write.specs.ScansAsked.{Scans}
 use Rattle.jpg_spec_write.specs.WrittenFile.{IsRestart}
 use Rattle.jpg_spec.specs.Scan.{Blocks}
-use Rattle.jpg_file.specs.Write.SoleScan.{IsAllOf, IsSole}
-use Rattle.jpg_file.specs.Write.WriteFile.{CanWriteFile, file_bytes}
+use Rattle.jpg_file.specs.Write.WriteFile.{IsAllOf, IsSole, CanWriteFile, file_bytes}
 use Rattle.jpg_file.specs.declared.write.Plan.{Plan}
 use Rattle.jpg_color.specs.Encode.{AsksFor, CanSample, blocks_due, encoded_frame, image_of}
 use Rattle.jpg_color.specs.EncodeRows.{IsRowScan}

@@ -21,10 +21,8 @@ use Rattle.jpg_spec.specs.declared.frame.Limits.{Limits}
 use Rattle.jpg_spec.proofs.Headers.FirstScan.{header_stands}
 use Rattle.jpg_spec.proofs.Headers.OneHeader.{whole_once}
 use Rattle.jpg_file.specs.Read.FirstHeader.{IsFirstHeaderOf}
-use Rattle.jpg_file.specs.Read.ReadFile.{IsStopOf, KeepsHeadAt, StopsAt, head_seen, ReaderState}
-use Rattle.jpg_file.specs.Read.ReadRows.{AfterEndRow, AfterFeedRow, EndsDoneRow, HasBegunRows, HasReadAll, HasReadPlainly, HasReadSoFar, IsDonePlainly}
-use Rattle.jpg_file.specs.Read.RowsKnown.{TellsStrip}
-use Rattle.jpg_file.specs.Read.RowsNone.{HasNoRows}
+use Rattle.jpg_file.specs.Read.ReadFile.{IsStopOf, KeepsHeadAt, StopsAt, head_seen, ReaderState, AfterEndRow, AfterFeedRow, EndsDoneRow, HasBegunRows, HasReadAll, HasReadPlainly, HasReadSoFar, IsDonePlainly}
+use Rattle.jpg_file.specs.Read.Strips.{TellsStrip, HasNoRows}
 use Rattle.jpg_file.specs.declared.read.ends.End.TheVariants as ends
 use Rattle.jpg_file.specs.declared.read.pieces.FedRow.{FedRow}
 use Rattle.jpg_file.specs.declared.read.pieces.FedRow.TheVariants as fed

@@ -12,9 +12,8 @@ use Rattle.jpg_spec_words.specs.declared.answers.Why.{Why}
 use Rattle.jpg_spec_words.specs.declared.answers.Why.TheVariants as why
 use Rattle.jpg_spec_words.specs.declared.answers.Which.TheVariants as which
 use Rattle.jpg_file.specs.Read.PictureRead.{TakesEarly, TakesPicture}
-use Rattle.jpg_file.specs.Read.ReadFile.{ReaderState, StopsAt}
-use Rattle.jpg_file.specs.Read.ReadRows.{EndsRow, HasReadPlainly}
-use Rattle.jpg_file.specs.Read.RowsNone.{HasNoRows}
+use Rattle.jpg_file.specs.Read.ReadFile.{ReaderState, StopsAt, EndsRow, HasReadPlainly}
+use Rattle.jpg_file.specs.Read.Strips.{HasNoRows}
 use Rattle.jpg_file.specs.declared.read.ends.End.TheVariants as ends
 use Rattle.jpg_file.specs.declared.read.pieces.FedRow.{FedRow}
 use Rattle.jpg_file.specs.declared.read.picture.Picture.{Picture}

@@ -22,13 +22,12 @@ use Rattle.jpg_spec.specs.Segments.{standard_limits}
 use Rattle.jpg_spec_image.specs.Strips.{mcu_rows}
 use Rattle.jpg_spec_words.specs.declared.answers.Why.{Why}
 use Rattle.jpg_spec_words.specs.declared.answers.Why.TheVariants as why
-use Rattle.jpg_file.specs.Read.ReadRows.{AfterFeedRow, EndsDoneRow, HasReadRows, IsDoneByRows, IsEarlyByRows}
-use Rattle.jpg_file.specs.Read.RowsNone.{HasNoRows}
+use Rattle.jpg_file.specs.Read.ReadFile.{AfterFeedRow, EndsDoneRow, HasReadRows, IsDoneByRows, IsEarlyByRows, ReaderState}
+use Rattle.jpg_file.specs.Read.Strips.{HasNoRows}
 use Rattle.jpg_file.specs.declared.read.pieces.FedRow.{FedRow}
 use Rattle.jpg_file.specs.declared.read.pieces.FedRow.TheVariants as fed
-use Rattle.jpg_file.specs.Read.ReadFile.{ReaderState}
 use Rattle.jpg_pnm_bmp.specs.EndState.{EndState, new_end}
-use Rattle.jpg_seq.specs.Rows.{rows_in_mcu}
+use Rattle.jpg_seq.specs.Reader.{rows_in_mcu}
 use Rattle.jpg_color.specs.Shown.{rows_made_ready}
 use Rattle.jpg_color.specs.StripImage.{Drawing, IsDrawnTo, IsEndOf}
 use Rattle.jpg_color.specs.declared.decode.DecodeStop.{DecodeStop}

@@ -1,6 +1,6 @@
 //! A picture whose MCU rows are decoded while it is read (the manual of djpeg).
 ghost use Rattle.std.specs.Prelude.{◌≡◌, ◌<◌, ◌≤◌, ℕ, All, true};
-ghost use Rattle.jpg_file.specs.Read.ReadRows.{EndsDoneRow};
+ghost use Rattle.jpg_file.specs.Read.ReadFile.{EndsDoneRow};
 ghost use Rattle.jpg_huff.specs.Out.{OnlyWrites};
 ghost use Rattle.jpg_pnm_bmp.specs.EndState.{new_end};
 ghost use Rattle.jpg_cli.specs.Tools.Showing.{showing_view};

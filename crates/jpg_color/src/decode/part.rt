@@ -2,7 +2,7 @@
 ghost use Rattle.std.specs.Prelude.{◌≡◌, ◌<◌, ◌≤◌, ◌+◌, ◌-◌, ◌*◌, ◌/◌, ◌%◌, ◌==◌, min, if◌then◌else◌, IfOk, length, true};
 ghost use Rattle.jpg_spec.specs.Geometry.{div_up};
 ghost use Rattle.jpg_spec_image.specs.Upsampling.{has_far_rows, is_smoothed};
-ghost use Rattle.jpg_file.specs.Read.StripHead.{IsStripHead};
+ghost use Rattle.jpg_file.specs.Read.PictureKept.{IsStripHead};
 ghost use Rattle.jpg_color.specs.PartState.{CanDraw, CanFill, CanFillGray, IsNewPart, IsSized, drawn, filled, grayed_part, head_picture, upsampled_from};
 
 use crate::decode::sample_rows::{ComponentRows, SampleRows};

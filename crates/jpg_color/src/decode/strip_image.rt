@@ -1,6 +1,6 @@
 //! An image that is written row by row, while the MCU rows of its picture are read.
 ghost use Rattle.std.specs.Prelude.{◌≡◌, ◌≤◌, ◌<◌, ◌==◌, true, None, [], Err, IfOk, length};
-ghost use Rattle.jpg_file.specs.Read.StripHead.{IsStripHead};
+ghost use Rattle.jpg_file.specs.Read.PictureKept.{IsStripHead};
 ghost use Rattle.jpg_pnm_bmp.specs.EndState.{new_end};
 ghost use Rattle.jpg_color.specs.Shown.{IsNextRowDue, IsMcuRow, display_fault, display_of, all_rows, zero_row};
 ghost use Rattle.jpg_color.specs.declared.decode.DecodeStop.TheVariants as stop;

@@ -7,7 +7,7 @@ ghost use Rattle.jpg_spec.specs.Ranges.{AreInRange};
 ghost use Rattle.jpg_spec_image.specs.Strips.{needed};
 ghost use Rattle.jpg_spec_image.specs.Upsampling.{has_far_rows};
 ghost use Rattle.jpg_coefs.specs.Picture.{map_of};
-ghost use Rattle.jpg_file.specs.Read.StripHead.{IsStripHead};
+ghost use Rattle.jpg_file.specs.Read.PictureKept.{IsStripHead};
 ghost use Rattle.jpg_color.specs.PartState.{AreSized, CanDraw, CanFill, CanFillGray, head_picture, no_rows, drawn, filled, grayed_part};
 ghost use Rattle.jpg_color.specs.Shown.{Advances, IsNextRowDue, IsFreshRows, IsMcuRow, IsPushed, IsShowable, all_rows, at_due, at_top, display_fault, display_of, parts, rows_made_ready, rows_in, zero_row};
 ghost use Rattle.jpg_color.specs.StripsState.{AreNewParts, AreWide, HasMcuRow, coloured, coloured_length, line_at, part_at, start_of};

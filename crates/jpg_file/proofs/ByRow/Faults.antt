@@ -27,23 +27,17 @@ use Rattle.jpg_coefs.specs.Picture.{Picture, map_of}
 use Rattle.jpg_coefs.specs.Machine.{Interval, fault_of, units_of, TakesBits, Chain, ChainTo}
 use Rattle.jpg_coefs.specs.declared.machine.UnitFault.{UnitFault}
 use Rattle.jpg_coefs.proofs.Chains.{chain_stands, some_taken}
-use Rattle.jpg_seq.specs.Reader.{RepresentsSeqScan, new_units_at}
-use Rattle.jpg_seq.specs.Rows.{IsRowOf}
-use Rattle.jpg_seq.specs.Stands.{unit_in_work}
+use Rattle.jpg_seq.specs.Reader.{RepresentsSeqScan, new_units_at, IsRowOf}
+use Rattle.jpg_seq.specs.Work.{unit_in_work}
 use Rattle.jpg_seq.specs.declared.reader.SeqReader.{SeqReader}
-use Rattle.jpg_file.specs.Read.InData.{InData, IsInterval, IsReadable, AtWork, byte_answer, scan_answer}
-use Rattle.jpg_file.specs.Read.Machine.{any_scan, scan_kind, whole_blocks}
-use Rattle.jpg_file.specs.Read.RowPlaces.{IsRowAt, scan_left}
-use Rattle.jpg_file.specs.Read.RowStored.{IsRowInScan, ShowsInRow, StopsRowData, StopsRowRun, FewBefore, LastRowRun, row_stored}
-use Rattle.jpg_file.specs.Read.RowsSoFar.{CompletesBefore}
-use Rattle.jpg_file.specs.Read.RowTurns.{unfinished}
-use Rattle.jpg_file.specs.Read.Strips.{IsFirstScan, components_of, frame_behind}
+use Rattle.jpg_file.specs.Read.InData.{InData, IsInterval, IsReadable, AtWork, scan_answer, work_after, IsRowAt, scan_left, unfinished, HalfData, IsWrongMarker, PassesByte, PassesRun}
+use Rattle.jpg_file.specs.Read.Machine.{any_scan, scan_kind, whole_blocks, TakesRowBits}
+use Rattle.jpg_file.specs.Read.Strips.{IsRowInScan, PassesRest, ShowsInRow, StopsRowData, StopsRowRun, FewBefore, LastRowRun, row_stored, CompletesBefore, IsFirstScan, components_of, frame_behind}
 use Rattle.jpg_file.specs.declared.read.machine.ScanReader.{ScanReader}
 use Rattle.jpg_file.specs.declared.read.rows.RowWork.{RowWork}
 use Rattle.jpg_file.proofs.ByRow.RowsPlaced.{PlaceStops, all_at, bands_long, machine_stands, parts_stand, stops_complete, units_at, left_whole, place_stops, scan_of_all, TellsAt, whole_at, data_stops}
-use Rattle.jpg_file.proofs.Scans.ScanBytes.{of_place, InInterval, data_at, due_at, due_units, marker_at, read_at, with_bytes, front_plain, open_at, plain_at, left_in, of_bytes, of_half, of_work, before_last, mid_of}
+use Rattle.jpg_file.proofs.Scans.ScanBytes.{of_place, InInterval, data_at, due_at, due_units, marker_at, read_at, with_bytes, front_plain, open_at, plain_at, left_in, of_bytes, of_half, of_work, before_last}
 use Rattle.jpg_file.proofs.ByRow.StripRows.{kind_at, scan_of_place, seq_of}
-use Rattle.jpg_file.specs.declared.read.scan.ScanWork.{ScanWork}
 use Rattle.jpg_spec.proofs.Headers.SameNumbers.{some_not_zero}
 use Rattle.jpg_spec.specs.FirstFault.{HoldsUnits}
 use Rattle.jpg_spec.proofs.Bits.DataFacts.{bits_join, completes_holds}
@@ -51,14 +45,12 @@ use Rattle.jpg_spec.proofs.Files.ScanSteps.{marker_code}
 use Rattle.jpg_huff.specs.Gate.{IsData}
 use Rattle.jpg_coefs.specs.declared.machine.Taken.{Taken}
 use Rattle.jpg_coefs.specs.declared.machine.Taken.TheVariants as taken
-use Rattle.jpg_file.specs.Read.RowMachine.{TakesRowBits}
 use Rattle.jpg_file.specs.declared.read.scan.InScan.{InScan}
 use Rattle.jpg_file.proofs.Scans.Runs.{run_cut, bits_before, chain_cut}
-use Rattle.jpg_file.proofs.ByRow.RowData.{open_half, open_scan}
+use Rattle.jpg_file.proofs.ByRow.RowTurns.{open_half, open_scan}
 use Rattle.jpg_coefs.specs.declared.machine.UnitStep.{UnitStep}
 use Rattle.jpg_coefs.specs.declared.machine.UnitStep.TheVariants as step
 use Rattle.jpg_spec_write.proofs.ProgressiveLength.{bytes_long}
-use Rattle.jpg_file.specs.Read.RowData.{HalfData, IsWrongMarker, PassesByte, PassesRest, PassesRun}
 
 -- What bits encode before a fault that the next bit reveals: no more than up to the place where they end (T.81, F.2.2).
 
@@ -201,7 +193,7 @@ pub record FaultStops (limits : Limits) (items : List Item) (contents bytes : Li
 regroup : (a front rest : List Bool) (bit : Bool) → a ++ ((front ++ bit ∷ []) ++ rest) ≡ (a ++ front) ++ (bit ∷ rest)
 regroup a front rest bit = simp append_assoc
 
-module _ (limits : Limits) (items : List Item) (contents bytes : List ℕ) (p : ScanPlace) (w : ScanWork) (now : Picture) (store : List Bool) where
+module _ (limits : Limits) (items : List Item) (contents bytes : List ℕ) (p : ScanPlace) (w : InScan) (now : Picture) (store : List Bool) where
   pub fault_stops : (d : InInterval limits p w now store) (most : ℕ) (f : UnitFault) → (p.items ≡ items) × (p.contents ≡ contents) → ScanAt limits bytes p []
       → IsFirstScan limits items → IsScanOfAll limits (segments_of items) contents → ShowsInRow most w.machine now store f
       → FaultStops limits items contents bytes (any_scan.left w.machine) most (length (joined p.later))
@@ -279,13 +271,12 @@ run_stops_row w m after row bytes rest n answer count t = λ f whole e of o.
         → ShowsInRow w.left m whole (bits_of_bytes (take n bytes)) f
     first_taken f whole now (bits, cut, chain) =
         let c = run_cut bytes bits rest n cut (some_taken any_scan w.left m after whole now bits (Err f) chain) count in
-        let l = c.last in
         let byte = get_or bytes c.early 0 in
-        let is : bits_of_bytes (take n bytes) ≡ bits ++ l.rest =
-        ap (λ k. bits_of_bytes (take k bytes)) c.count ∙ ap bits_of_bytes (take_more bytes c.early 0 l.within) ∙ bits_join (take c.early bytes) (byte ∷ [])
-        ∙ ap (λ z. bits_of_bytes (take c.early bytes) ++ z) (append-nil (bits_of 8 byte) ∙ l.byte)
-        ∙ sym (append_assoc (bits_of_bytes (take c.early bytes)) l.front l.rest) ∙ ap (λ z. z ++ l.rest) (sym l.cut) in
-        (after, now, l.rest, (bits, is, chain))
+        let is : bits_of_bytes (take n bytes) ≡ bits ++ c.rest =
+        ap (λ k. bits_of_bytes (take k bytes)) c.count ∙ ap bits_of_bytes (take_more bytes c.early 0 c.within) ∙ bits_join (take c.early bytes) (byte ∷ [])
+        ∙ ap (λ z. bits_of_bytes (take c.early bytes) ++ z) (append-nil (bits_of 8 byte) ∙ c.byte)
+        ∙ sym (append_assoc (bits_of_bytes (take c.early bytes)) c.front c.rest) ∙ ap (λ z. z ++ c.rest) (sym c.cut) in
+        (after, now, c.rest, (bits, is, chain))
 
 -- DATA BYTES of the scan
 
@@ -324,7 +315,7 @@ leading fill code z f =
     let tail = replicate (suc fill) 255 ++ code ∷ [] in
     record { code = code; marker = tail; rest = []; spelled = marker_code fill code z f; cut = sym (append-nil tail) }
 
-no_more_data : (limits : Limits) (p : ScanPlace) (fill code : ℕ) (w : ScanWork) (now : Picture) → (code ≡ 0 → ⊥) → (code ≡ 255 → ⊥) → AtWork limits p w now → (w.whole ≡ true → code ≡ 0xd0 + w.turn → ⊥)
+no_more_data : (limits : Limits) (p : ScanPlace) (fill code : ℕ) (w : InScan) (now : Picture) → (code ≡ 0 → ⊥) → (code ≡ 255 → ⊥) → AtWork limits p w now → (w.whole ≡ true → code ≡ 0xd0 + w.turn → ⊥)
     → HasNoMoreData (scan_at limits p) p (replicate (suc fill) 255 ++ code ∷ [])
 unfolding leading
 no_more_data limits p fill code w now z f work wrong = inr (leading fill code z f, by w.whole refl)
@@ -333,11 +324,11 @@ no_more_data limits p fill code w now z f work wrong = inr (leading fill code z 
     by true e holds is = absurd (wrong e (omega (arith, is, work.turn)))
     by false e holds is =
         let u = due_units limits p w.machine now work.readable (due_at limits p w now e work) in
-        absurd ((part_due (scan_at limits p) p.blocks p.places u.told u.left p.coded (scan_sound limits (segments_of p.items) p.contents) u.stands).0 holds)
+        absurd ((part_due (scan_at limits p) p.blocks p.places u.0 u.1 p.coded (scan_sound limits (segments_of p.items) p.contents) u.2).0 holds)
 
 module _ (limits : Limits) (items : List Item) (contents bytes : List ℕ) where
   -- data bytes, of which the last has the fault
-  interval_stops : (p : ScanPlace) (w : ScanWork) (now : Picture) (rest : List Bool) (rows : RowWork) (f : UnitFault) → InInterval limits p w now rest
+  interval_stops : (p : ScanPlace) (w : InScan) (now : Picture) (rest : List Bool) (rows : RowWork) (f : UnitFault) → InInterval limits p w now rest
       → (p.items ≡ items) × (p.contents ≡ contents) → ScanAt limits bytes p [] → ShowsInRow rows.left w.machine now rest f → IsFirstScan limits items
       → IsRowAt (frame_behind limits items) (components_of limits items contents) rows (scan_left w) → CompletesBefore limits bytes (segments_of items) contents rows
   interval_stops p w now rest rows f d of at shows first row =
@@ -348,7 +339,7 @@ module _ (limits : Limits) (items : List Item) (contents bytes : List ℕ) where
 
   -- A DATA BYTE after a complete interval
 
-  pub extra_stops : (front tail : List ℕ) (p : ScanPlace) (byte : ℕ) (w : ScanWork) (now : Picture) (rows : RowWork)
+  pub extra_stops : (front tail : List ℕ) (p : ScanPlace) (byte : ℕ) (w : InScan) (now : Picture) (rows : RowWork)
       → (p.items ≡ items) × (p.contents ≡ contents) → ScanAt limits front p tail → ScanAt limits bytes (with_byte p byte) [] → AtWork limits p w now
       → w.whole ≡ true → IsFirstScan limits items → IsRowAt (frame_behind limits items) (components_of limits items contents) rows (scan_left w)
       → CompletesBefore limits bytes (segments_of items) contents rows
@@ -369,7 +360,7 @@ module _ (limits : Limits) (items : List Item) (contents bytes : List ℕ) where
 
   -- A MARKER that doesn't begin the next interval
 
-  pub marker_stops : (p : ScanPlace) (fill code : ℕ) (w : ScanWork) (now : Picture) (rows : RowWork) → (p.items ≡ items) × (p.contents ≡ contents)
+  pub marker_stops : (p : ScanPlace) (fill code : ℕ) (w : InScan) (now : Picture) (rows : RowWork) → (p.items ≡ items) × (p.contents ≡ contents)
       → (code ≡ 0 → ⊥) → (code ≡ 255 → ⊥) → ScanAt limits bytes p (replicate (suc fill) 255 ++ code ∷ []) → AtWork limits p w now
       → (w.whole ≡ true → code ≡ 0xd0 + w.turn → ⊥) → IsFirstScan limits items
       → IsRowAt (frame_behind limits items) (components_of limits items contents) rows (scan_left w)
@@ -382,13 +373,9 @@ module _ (limits : Limits) (items : List Item) (contents bytes : List ℕ) where
 
 -- WHAT THE SCAN ANSWERS: only a fault stops it
 
-faulty : (given : Result (Unit {0}) Fault) (came_to : Taken) (fault : Fault) → given ≡ scan_answer came_to → given ≡ Err fault → (f : UnitFault) × (came_to ≡ taken.Fault f)
+faulty : (given : Result Bool Fault) (came_to : Taken) (fault : Fault) → given ≡ scan_answer came_to → given ≡ Err fault → (f : UnitFault) × (came_to ≡ taken.Fault f)
 faulty given (taken.Fault f) fault is e = (f, refl)
-faulty given other fault is e = absurd (let z : (let s : Result (Unit {0}) Fault = Ok tt in s) ≡ Err fault = sym is ∙ e in cc)
-
-byte_faulty : (a : Result (Unit {0}) Fault) (fault : Fault) → byte_answer a ≡ Err fault → a ≡ Err fault
-byte_faulty (Ok u) fault e = absurd cc
-byte_faulty (Err f) fault e = ap (λ (z : Fault). Err z) (let z : (let s : Result Bool Fault = Err f in s) ≡ Err fault = e in cc)
+faulty given other fault is e = absurd (let z : (let s : Result Bool Fault = Ok false in s) ≡ Err fault = sym is ∙ e in cc)
 
 module _ (limits : Limits) (items : List Item) (contents bytes : List ℕ) (old new : InScan) (w after : RowWork) (whole : Picture)
     (row : IsRowOf w.tops whole w.coefs) (at : IsRowInScan limits items contents old w) (fault : Fault) where
@@ -396,34 +383,33 @@ module _ (limits : Limits) (items : List Item) (contents bytes : List ℕ) (old 
       → given ≡ Err fault → CompletesBefore limits (bytes ++ byte ∷ []) (segments_of items) contents w
   byte_stopped byte given d (inl n) e = by (n.why fault e)
     where
-      by : ((passed : ℕ) × IsData old.gate byte passed × (old.work.whole ≡ true)) ⊎ IsWrongMarker old byte → CompletesBefore limits (bytes ++ byte ∷ []) (segments_of items) contents w
+      by : ((passed : ℕ) × IsData old.gate byte passed × (old.whole ≡ true)) ⊎ IsWrongMarker old byte → CompletesBefore limits (bytes ++ byte ∷ []) (segments_of items) contents w
       by (inl (passed, is_data, over)) =
-          extra_stops limits items contents (bytes ++ byte ∷ []) bytes (replicate d.fill 255) d.place passed old.work whole w d.of d.at (data_at limits items contents bytes byte passed old whole d is_data) d.work over at.0 at.1
+          extra_stops limits items contents (bytes ++ byte ∷ []) bytes (replicate d.fill 255) d.place passed old whole w d.of d.at (data_at limits items contents bytes byte passed old whole d is_data) d.work over at.0 at.1
       by (inr (gate, z, f, wrong)) =
-          let m = marker_at limits items contents bytes byte old whole d gate z f in
-          marker_stops limits items contents (bytes ++ byte ∷ []) d.place m.fill byte old.work whole w d.of z f m.at m.work wrong at.0 at.1
+          let m = marker_at limits items contents bytes byte old whole false d gate z f in
+          marker_stops limits items contents (bytes ++ byte ∷ []) d.place m.fill byte old whole w d.of z f m.at d.work wrong at.0 at.1
   byte_stopped byte given d (inr p) e =
       let t = p.took in
-      let g = faulty p.given t.taken fault t.is (byte_faulty p.given fault (sym p.answered ∙ e)) in
-      let shows = t.took.0 g.0 whole g.1 row (open_scan limits items contents bytes old whole d t.due) in
-      interval_stops limits items contents (bytes ++ byte ∷ []) (with_bytes d.place (p.passed ∷ [])) old.work whole (bits_of_bytes (p.passed ∷ [])) w g.0
-      (of_bytes limits d.place old.work whole (p.passed ∷ []) t.due d.work) d.of (data_at limits items contents bytes byte p.passed old whole d p.is_data)
-      (subst (λ z. ShowsInRow w.left old.work.machine whole z g.0) (sym (append-nil (bits_of 8 p.passed))) shows) at.0 at.1
+      let g = faulty given t.taken fault t.is e in
+      interval_stops limits items contents (bytes ++ byte ∷ []) (with_bytes d.place (p.passed ∷ [])) old whole (bits_of_bytes (p.passed ∷ [])) w g.0
+      (of_bytes limits d.place old whole (p.passed ∷ []) t.due d.work) d.of (data_at limits items contents bytes byte p.passed old whole d p.is_data)
+      (t.took.0 g.0 whole g.1 row (open_scan limits items contents bytes old whole d t.due)) at.0 at.1
 
-  pub rest_stopped : (given : Result (Unit {0}) Fault) → HalfData limits items contents bytes w.waiting old whole → PassesRest row_stored old w given new after
+  pub rest_stopped : (given : Result Bool Fault) → HalfData limits items contents bytes w.waiting old whole → PassesRest old w given new after
       → given ≡ Err fault → CompletesBefore limits bytes (segments_of items) contents w
   rest_stopped given h t e =
       let g = faulty given t.taken fault t.is e in
-      interval_stops limits items contents bytes (with_byte h.place h.byte) old.work whole w.waiting w g.0 (of_half limits items contents bytes w.waiting old whole h) h.of h.at
+      interval_stops limits items contents bytes (with_byte h.place h.byte) old whole w.waiting w g.0 (of_half limits items contents bytes w.waiting old whole h) h.of h.at
       (t.took.0 g.0 whole g.1 row (open_half limits items contents bytes w.waiting old whole h)) at.0 at.1
 
-  pub run_stopped : (run : List ℕ) (n : ℕ) (given : Result (Unit {0}) Fault) → n ≤ length run → InData limits items contents bytes old whole
+  pub run_stopped : (run : List ℕ) (n : ℕ) (given : Result Bool Fault) → n ≤ length run → InData limits items contents bytes old whole
       → PassesRun row_stored old w run n given new after → given ≡ Err fault → CompletesBefore limits (bytes ++ take n run) (segments_of items) contents w
   run_stopped run n given few d (gate, plain, t) e =
       let g = faulty given t.taken fault t.is e in
       let there = plain_at limits bytes d.place (take n run) (front_plain run n few plain) (open_at limits items contents bytes old whole d gate) in
-      interval_stops limits items contents (bytes ++ take n run) (with_bytes d.place (take n run)) old.work whole (bits_of_bytes (take n run)) w g.0
-      (of_bytes limits d.place old.work whole (take n run) t.due d.work) d.of there (t.took.0 g.0 whole g.1 row (open_scan limits items contents bytes old whole d t.due)) at.0 at.1
+      interval_stops limits items contents (bytes ++ take n run) (with_bytes d.place (take n run)) old whole (bits_of_bytes (take n run)) w g.0
+      (of_bytes limits d.place old whole (take n run) t.due d.work) d.of there (t.took.0 g.0 whole g.1 row (open_scan limits items contents bytes old whole d t.due)) at.0 at.1
 
 -- Some plain bytes of a scan that is read MCU row by MCU row: those before the last one don't complete the current row.
 
@@ -434,17 +420,16 @@ module _ (most : ℕ) (m new : ScanReader) (now after : Picture) (bytes : List �
       → Chain any_scan m now bits new after → any_scan.left m < any_scan.left new + most → FewBefore most m now bytes n
   before_all bits rest n some count cut chain few =
       let c = run_cut bytes bits rest n cut some count in
-      let l = c.last in
       let C : List Bool → Type 0 = λ z. Chain any_scan m now z new after in
-      let two = chain_cut any_scan m new now after (bits_of_bytes (take c.early bytes)) l.front (subst C l.cut chain) in
+      let two = chain_cut any_scan m new now after (bits_of_bytes (take c.early bytes)) c.front (subst C c.cut chain) in
       record {
         early = c.early;
         count = c.count;
-        within = l.within;
+        within = c.within;
         mid = two.mid;
         between = two.between;
         chain = two.first;
-        more = l.front;
+        more = c.front;
         far = new;
         later = after;
         on = two.second;
@@ -455,15 +440,14 @@ module _ (most : ℕ) (m new : ScanReader) (now after : Picture) (bytes : List �
       → ChainTo any_scan most m now bits answer new after → FewBefore most m now bytes n
   before_answer bits rest n answer count cut chain =
       let c = run_cut bytes bits rest n cut (some_taken any_scan most m new now after bits answer chain) count in
-      let l = c.last in
       let xs = bits_of_bytes (take c.early bytes) in
-      let split = bits_before bits xs l.front chain.0 chain.1 chain.4 l.cut l.some in
+      let split = bits_before bits xs c.front chain.0 chain.1 chain.4 c.cut c.some in
       let C : List Bool → Type 0 = λ z. Chain any_scan m now z chain.2 chain.3 in
       let two = chain_cut any_scan m chain.2 now chain.3 xs split.0 (subst C split.1 chain.5) in
       record {
         early = c.early;
         count = c.count;
-        within = l.within;
+        within = c.within;
         mid = two.mid;
         between = two.between;
         chain = two.first;
@@ -500,7 +484,7 @@ fewer i m mid now between a bits sound kind stands chain =
     omega (arith, low, old, new)
 
 -- PLAIN BYTES inside the data of the scan
-pub run_last : (limits : Limits) (items : List Item) (contents bytes : List ℕ) (old new : InScan) (w after : RowWork) (whole : Picture) (run : List ℕ) (n : ℕ) (given : Result (Unit {0}) Fault)
+pub run_last : (limits : Limits) (items : List Item) (contents bytes : List ℕ) (old new : InScan) (w after : RowWork) (whole : Picture) (run : List ℕ) (n : ℕ) (given : Result Bool Fault)
     → IsRowOf w.tops whole w.coefs → IsRowInScan limits items contents old w → InData limits items contents bytes old whole → PassesRun row_stored old w run n given new after
     → (early : ℕ) × (n ≡ early + 1) × CompletesBefore limits (bytes ++ take early run) (segments_of items) contents w
 run_last limits items contents bytes old new w after whole run n given row at d (gate, plain, t) =
@@ -510,22 +494,22 @@ run_last limits items contents bytes old new w after whole run n given row at d 
     let few = k.few in
     let front = bytes ++ take k.early run in
     let mid = before_last old whole gate due k.mid k.between run k.early (omega (arith, low)) plain k.chain limits items contents bytes d in
-    let all = scan_of_all limits items contents w (scan_left old.work) at.0 at.1 in
-    let i = of_work limits d.place old.work whole due d.work in
+    let all = scan_of_all limits items contents w (scan_left old) at.0 at.1 in
+    let i = of_work limits d.place old whole due d.work in
     let sound = sound_of limits d.place i.interval i.is in
     let kind : scan_kind (i.interval).scan ≡ whole_blocks = ap scan_kind ((i.is).scan ∙ scan_of_place limits items contents d.place (d.of).0 (d.of).1) ∙ kind_at limits items contents (at.0).sequential in
-    let there = chain_stands any_scan old.work.machine k.mid whole k.between i.interval i.taken (bits_of_bytes (take k.early run)) k.chain i.stands in
-    let fewer_mid = fewer i.interval old.work.machine k.mid whole k.between i.taken (bits_of_bytes (take k.early run)) sound kind i.stands k.chain in
+    let there = chain_stands any_scan old.machine k.mid whole k.between i.interval i.taken (bits_of_bytes (take k.early run)) k.chain i.stands in
+    let fewer_mid = fewer i.interval old.machine k.mid whole k.between i.taken (bits_of_bytes (take k.early run)) sound kind i.stands k.chain in
     let fewer_far = fewer i.interval k.mid k.far k.between k.later (i.taken ++ bits_of_bytes (take k.early run)) k.more sound kind there k.on in
-    let left : scan_left old.work ≡ old.work.due + any_scan.left old.work.machine = ap (λ b. old.work.due + cond b 0 (any_scan.left old.work.machine)) due in
-    let stops : FaultStops limits items contents front (any_scan.left old.work.machine) w.left old.work.due = record {
+    let left : scan_left old ≡ old.due + any_scan.left old.machine = ap (λ b. old.due + cond b 0 (any_scan.left old.machine)) due in
+    let stops : FaultStops limits items contents front (any_scan.left old.machine) w.left old.due = record {
       whole = k.between;
       units = any_scan.left k.mid;
       few = omega (arith, few, fewer_far);
       low = fewer_mid;
-      stops = data_stops limits items contents front (mid_of old k.mid) k.between mid at.0 all;
+      stops = data_stops limits items contents front (work_after old k.mid taken.More) k.between mid at.0 all;
     } in (
       k.early,
       k.count,
-      fault_completes limits items contents front w (any_scan.left old.work.machine) old.work.due stops (subst (λ s. IsRowAt (frame_behind limits items) (components_of limits items contents) w s) left at.1),
+      fault_completes limits items contents front w (any_scan.left old.machine) old.due stops (subst (λ s. IsRowAt (frame_behind limits items) (components_of limits items contents) w s) left at.1),
     )

@@ -1,10 +1,32 @@
--- From one MCU row of a scan of all components to the next: blocks, and how many units and MCU rows are left.
-use Rattle.std.proofs.Common.{◌≡◌, ℕ, zero, suc, ◌+◌, ◌-◌, ◌*◌, ◌^◌, ◌<◌, ◌≤◌, ◌==◌, Bool, true, false, cond, List, [], ◌∷◌, length, refl, sym, ap, ◌∙◌, subst, arith, ⊎_elim, ◌/◌, ◌%◌, ◌++◌, take, drop, get_or, inl, inr, Ok, Result, nat_lt, replicate, min, ◌&&◌, ◌||◌, map, flat_map, get_or-drop, get_or-take, length-append, length-drop, length-take}
+-- Bits, and the data of a scan, while an MCU row is read, of which some bits may wait.
+use Rattle.std.proofs.Common.{◌≡◌, ℕ, Bool, List, sym, subst, ◌+◌, ◌-◌, ◌*◌, ◌/◌, ◌≤◌, length, drop, get_or, refl, ap, ◌∙◌, arith, false, [], ◌∷◌, ◌++◌, Ok, Err, take, append_assoc, zero, suc, ◌^◌, ◌<◌, ◌==◌, true, cond, ⊎_elim, ◌%◌, inl, inr, Result, nat_lt, replicate, ◌&&◌, ◌||◌, map, flat_map, get_or-drop, get_or-take, length-append, length-drop, length-take, add-mul, div-le_self, le-div_iff_mul-le, div-add-mod', div-lt_iff_lt-mul, mod-lt, All}
+use Rattle.jpg_coefs.specs.Machine.{Interval, TakesBits, Chain, Kind}
+use Rattle.jpg_coefs.specs.Picture.{Picture, is_padded, map_of}
+use Rattle.jpg_coefs.specs.declared.machine.Taken.{Taken}
+use Rattle.jpg_seq.specs.Reader.{sequential, IsCountOf, PassesPlaces, ReadsInto, AreInRow, one_row, row_units, rows_in_mcu, top_of}
+use Rattle.jpg_seq.specs.declared.reader.SeqReader.{SeqReader}
+use Rattle.jpg_file.specs.Read.Machine.{any_scan, IsInsideMcuRow, IsOpenRowScan, TakesRowBits, GivesBits, GivesRun, waits_of, AnswersIn, CanTake, TakesBitsInto, TakesBytesInto}
+use Rattle.jpg_file.specs.declared.read.machine.ScanReader.{ScanReader}
+use Rattle.jpg_file.specs.declared.read.machine.ScanReader.TheVariants.{Sequential}
+use Rattle.jpg_file.proofs.Scans.Machines.{is_sequential, takes_of}
+use Rattle.jpg_spec.specs.Bits.{bits_of, bits_of_bytes}
+use Rattle.jpg_coefs.specs.declared.machine.Taken.TheVariants as taken
+use Rattle.jpg_file.specs.Read.Strips.{CountsRow, row_stored, CountsRows}
+use Rattle.jpg_file.specs.Read.InData.{HalfData, AfterBytes, TakesRun, IsRowIn, KeepsRowIn, TurnsRow, block_rows_of, completes_row, unfinished, CountsScan, IsBlankAfter, IsDataOf, PassesByte, AtWork, scan_answer, work_after, ArePlain, InData, scan_left}
+use Rattle.jpg_file.specs.declared.read.rows.RowWork.{RowWork}
+use Rattle.jpg_file.proofs.Scans.Runs.{given, run_given, answers_after}
+use Rattle.jpg_spec.specs.Items.{Item, segments_of}
+use Rattle.jpg_spec.specs.ScanReading.{ScanPlace, ScanAt, with_byte}
+use Rattle.jpg_spec.specs.declared.frame.Limits.{Limits}
+use Rattle.jpg_coefs.specs.declared.machine.UnitStep.TheVariants as unit
+use Rattle.jpg_coefs.proofs.Chains.{chain_then}
+use Rattle.jpg_file.specs.declared.read.scan.InScan.{InScan}
+use Rattle.jpg_file.proofs.Scans.ScanBytes.{due_data, before_last, open_at, of_half, of_work, never_over}
+use Rattle.jpg_spec.proofs.Files.ScanSteps.{plain_data}
 use Rattle.std.proofs.lemmas.Bool.{cases_lt}
 use Rattle.std.proofs.lemmas.Bool.Decides.{nat_tests}
 use Rattle.std.proofs.lemmas.List.Elements.{All-get_or, All-nil}
 use Rattle.std.proofs.lemmas.Nat.{mul-le}
-use Rattle.std.proofs.Math.Nat.{add-mul, div-le_self, le-div_iff_mul-le, div-add-mod', div-lt_iff_lt-mul, mod-lt}
 use Rattle.jpg_spec.specs.Elements.{zeros}
 use Rattle.jpg_spec.specs.Geometry.{Frame, component_at, div_up, h_max, mcu_units, no_component, scan_mcus_across, units, v_max, blocks_across, mcu_part, mcus_across, place}
 use Rattle.jpg_spec.specs.FrameHeader.{HasFactors, IsFrame}
@@ -14,39 +36,168 @@ use Rattle.jpg_base.specs.Cursor.{AreIn, scan_mcus_down}
 use Rattle.jpg_base.proofs.Grids.{across_low, down_high, down_low}
 use Rattle.jpg_base.proofs.ScanPlaces.{few_blocks, all_rows, all_row, all_ids}
 use Rattle.jpg_base.proofs.UnitCounts.{length_units, some_factors}
-use Rattle.jpg_coefs.specs.Picture.{is_padded, Picture, map_of}
 use Rattle.jpg_coefs.proofs.Maps.{blank_is}
-use Rattle.jpg_seq.specs.Rows.{row_units, rows_in_mcu, top_of}
-use Rattle.jpg_file.specs.Read.RowTurns.{IsRowIn, KeepsRowIn, TurnsRow, block_rows_of, completes_row, unfinished, CountsScan, IsBlankAfter}
-use Rattle.jpg_file.specs.declared.read.rows.RowWork.{RowWork}
 use Rattle.jpg_spec.specs.FileMeaning.{scan_after, no_blocks}
 use Rattle.jpg_spec.specs.InForce.{frame_of, head_in}
-use Rattle.jpg_spec.specs.Items.{Item, segments_of}
 use Rattle.jpg_spec.specs.Segments.{ScanHead, head_components}
-use Rattle.jpg_spec.specs.declared.frame.Limits.{Limits}
-use Rattle.jpg_coefs.specs.declared.machine.Taken.{Taken}
-use Rattle.jpg_coefs.specs.declared.machine.Taken.TheVariants as taken
-use Rattle.jpg_file.specs.Read.Machine.{any_scan}
-use Rattle.jpg_file.specs.Read.RowStored.{CountsRow, row_stored}
-use Rattle.jpg_file.specs.Read.InData.{work_after}
-use Rattle.jpg_file.specs.Read.RowData.{IsDataOf, PassesByte}
-use Rattle.jpg_file.specs.declared.read.scan.InScan.{InScan}
-use Rattle.jpg_file.proofs.Scans.ScanBytes.{never_over}
 use Rattle.jpg_spec.specs.declared.fault.Fault.{Fault}
-use Rattle.jpg_file.specs.Read.RowPlaces.{scan_left}
 use Rattle.jpg_file.specs.Read.Step.{IsNoRow}
-use Rattle.jpg_file.specs.Read.Strips.{CountsRows}
 use Rattle.jpg_file.specs.declared.read.step.Step.{Step}
 use Rattle.jpg_file.specs.declared.read.step.Step.TheVariants as step
-use Rattle.jpg_file.specs.declared.read.machine.ScanReader.{ScanReader}
-use Rattle.jpg_file.specs.declared.read.scan.ScanWork.{ScanWork}
-use Rattle.std.specs.List.{All}
 use Rattle.std.proofs.lemmas.List.{get_or_append_left}
 use Rattle.jpg_spec.specs.Lists.{any_of, below}
 use Rattle.jpg_spec.specs.PictureInWork.{is_at}
 use Rattle.jpg_spec.specs.declared.frame.Place.{Place}
 use Rattle.jpg_spec.specs.ScanRows.{scan_row}
-use Rattle.jpg_seq.proofs.ScanRows.{row_next}
+use Rattle.jpg_seq.proofs.Machines.{row_next}
+
+-- The machine of a sequential scan among the others, while an MCU row is read.
+
+pub own : (m : ScanReader) (machine : SeqReader) (whole : Picture) → m ≡ Sequential machine → IsOpenRowScan m whole → (i : Interval) × (bits : List Bool) × sequential.stands machine i bits whole
+own m machine whole is o = (o.0, o.1, is_sequential.own machine o.0 o.1 whole (subst (λ (q : ScanReader). any_scan.stands q o.0 o.1 whole) is o.2))
+
+module _ (tops : List ℕ) (m : ScanReader) (machine : SeqReader) (row : Picture) (is : m ≡ Sequential machine) where
+  pub row_takes : (most : ℕ) (new : SeqReader) (after : Picture) (store rest : List Bool) (answer : Taken)
+      → ReadsInto most tops machine row store answer new after rest → TakesRowBits most tops m row store answer (Sequential new) after rest
+  row_takes most new after store rest answer t = λ whole at o.
+      (let k = t one_row whole at (own m machine whole is o) in
+      let a = takes_of (λ q. Sequential q) sequential any_scan is_sequential most machine new whole k.0 store rest answer k.2 in
+      (k.0, k.1, subst (λ (q : ScanReader). TakesBits any_scan most q whole store answer (Sequential new) k.0 rest) (sym is) a))
+
+  pub row_inside : (most : ℕ) → IsInsideMcuRow tops row most m → AreInRow row.frame tops (take most machine.cursor)
+  row_inside most inside = subst (λ (q : SeqReader). AreInRow row.frame tops (take most q.cursor)) (let e : Sequential inside.machine ≡ Sequential machine = sym inside.is ∙ is in let z : inside.machine ≡ machine = cc in z) inside.inside
+
+-- The current MCU row: the result of its data, and how many of its units are left.
+
+few_passed : (most : ℕ) (m new : SeqReader) (answer : Taken) → (p : PassesPlaces most m answer new) → p.units ≤ most
+few_passed most m new taken.More p = omega (arith, p.few)
+few_passed most m new taken.Units p = omega (arith, p.few.0)
+few_passed most m new taken.IntervalDone p = p.few.0
+few_passed most m new (taken.Fault f) p = omega (arith, p.few)
+
+waits_all : (most : ℕ) (m new : SeqReader) (answer : Taken) (rest : List Bool) → (p : PassesPlaces most m answer new) → 1 ≤ length (waits_of answer rest) → p.units ≡ most
+waits_all most m new taken.Units rest p some = p.few.0
+waits_all most m new other rest p some = absurd (omega (arith, some))
+
+pub some_left : (most : ℕ) (m new : SeqReader) (answer : Taken) → PassesPlaces most m answer new → m.left - new.left ≤ most
+some_left most m new answer p = omega (arith, p.left, few_passed most m new answer p)
+
+pub counts_row : (w : RowWork) (machine : ScanReader) (m new : SeqReader) (row : Picture) (answer : Taken) (left : ℕ) (waiting rest : List Bool) → machine ≡ Sequential m
+    → (p : PassesPlaces w.left m answer new) → w.left ≡ left + p.units → waiting ≡ waits_of answer rest
+    → CountsRow w machine answer (record w { coefs = row; left = left; waiting = waiting }) (Sequential new)
+counts_row w machine m new row answer left waiting rest is p count waits =
+    subst (λ (q : ScanReader). CountsRow w q answer (record w { coefs = row; left = left; waiting = waiting }) (Sequential new)) (sym is)
+    (record {
+      same = refl;
+      passed = p.units;
+      left = count;
+      interval = p.left;
+      ended = λ e. (subst (λ a. IsCountOf w.left a new p.units) e p.few).1;
+      wait = λ some. omega (arith, count, waits_all w.left m new answer rest p (subst (λ z. 1 ≤ length z) waits some));
+    })
+
+module _ (w : RowWork) (m after : ScanReader) (row : Picture) (answer : Taken) where
+  -- DATA of the row
+
+  pub data_takes : (left : ℕ) (bits rest waiting : List Bool) → waiting ≡ waits_of answer rest → TakesRowBits w.left w.tops m w.coefs bits answer after row rest
+      → TakesBitsInto row_stored w m bits answer (record w { coefs = row; left = left; waiting = waiting }) after
+  data_takes left bits rest waiting waits t = λ whole at o.
+      (let k = t whole at o in (k.0, k.1, subst (λ (z : List Bool). GivesBits any_scan m whole bits answer z after k.0) (sym waits) (given any_scan m whole w.left after k.0 bits rest answer k.2)))
+
+  pub run_takes_row : (left : ℕ) (bytes : List ℕ) (count n : ℕ) (last waiting : List Bool) → 1 ≤ length bytes → count ≤ 8 * length bytes
+      → n ≡ length bytes - length (drop count (bits_of_bytes bytes)) / 8 → last ≡ drop (count - 8 * (n - 1)) (bits_of 8 (get_or bytes (n - 1) 0))
+      → waiting ≡ waits_of answer last → TakesRowBits w.left w.tops m w.coefs (bits_of_bytes bytes) answer after row (drop count (bits_of_bytes bytes))
+      → TakesBytesInto row_stored w m bytes n answer (record w { coefs = row; left = left; waiting = waiting }) after
+  run_takes_row left bytes count n last waiting some within size is waits t = λ whole at o.
+      (let k = t whole at o in (
+        k.0,
+        k.1,
+        subst (λ (z : List Bool). GivesRun ScanReader any_scan m whole bytes n answer z after k.0) (sym waits) (run_given any_scan m after whole k.0 w.left bytes count n last answer some within size is k.2),
+      ))
+
+  -- at least one byte is taken
+  pub some_in_row : (bytes : List ℕ) (count n : ℕ) → CanTake RowWork row_stored w m → 1 ≤ length bytes → count ≤ 8 * length bytes
+      → n ≡ length bytes - length (drop count (bits_of_bytes bytes)) / 8
+      → TakesRowBits w.left w.tops m w.coefs (bits_of_bytes bytes) answer after row (drop count (bits_of_bytes bytes)) → 1 ≤ n
+  some_in_row bytes count n can some within size t =
+      let k = t can.whole can.shows can.given in
+      omega (arith, (run_given any_scan m after can.whole k.0 w.left bytes count n _ answer some within size refl k.2).count)
+
+-- Bits that are passed to a machine while an MCU row is read, of which some wait.
+
+module _ {M : Type 0} (k : Kind M) (m mid new : M) (now between after : Picture) where
+  -- BITS, and then those that waited
+  rest_then : (bits waiting rest : List Bool) (answer : Taken) → GivesBits k m now bits taken.Units waiting mid between
+      → GivesBits k mid between waiting answer rest new after → GivesBits k m now bits answer rest new after
+  rest_then bits waiting rest taken.More (front, cut, chain) (none, more) =
+      let C : List Bool → Type 0 = λ z. Chain k m now z new after in
+      (none, subst C (sym cut) (chain_then k m mid new now between after front waiting chain more))
+  rest_then bits waiting rest taken.Units (front, cut, chain) (more, split, next) =
+      (front ++ more, cut ∙ ap (λ z. front ++ z) split ∙ sym (append_assoc front more rest), chain_then k m mid new now between after front more chain next)
+  rest_then bits waiting rest taken.IntervalDone (front, cut, chain) (none, a) =
+      (none, subst (λ z. AnswersIn k m now z (Ok unit.IntervalDone) new after) (sym cut) (answers_after k m now mid new between after front waiting (Ok unit.IntervalDone) chain a))
+  rest_then bits waiting rest (taken.Fault f) (front, cut, chain) (none, a) =
+      (none, subst (λ z. AnswersIn k m now z (Err f) new after) (sym cut) (answers_after k m now mid new between after front waiting (Err f) chain a))
+
+-- INSIDE DATA: the result of a data byte, some bits of which may wait
+
+module _ (limits : Limits) (items : List Item) (contents bytes : List ℕ) where
+  pub half_after : (p : ScanPlace) (byte : ℕ) (w : InScan) (before after : Picture) (answer : Taken) (waiting : List Bool) (m : ScanReader)
+      → (p.items ≡ items) × (p.contents ≡ contents) → ScanAt limits bytes (with_byte p byte) [] → AtWork limits p w before → w.whole ≡ false
+      → GivesBits any_scan w.machine before (bits_of 8 byte) answer waiting m after
+      → AfterBytes limits items contents bytes (scan_answer answer) waiting (work_after w m answer) after
+  half_after p byte w before after answer waiting m of at k e b = by answer waiting b
+    where
+      none : (answer : Taken) → GivesBits any_scan w.machine before (bits_of 8 byte) answer [] m after → AfterBytes limits items contents bytes (scan_answer answer) [] (work_after w m answer) after
+      none answer b = due_data limits p w before e k items contents bytes byte m after answer of at b
+
+      by : (answer : Taken) (waiting : List Bool) → GivesBits any_scan w.machine before (bits_of 8 byte) answer waiting m after → AfterBytes limits items contents bytes (scan_answer answer) waiting (work_after w m answer) after
+      by answer [] b = none answer b
+      by taken.More (bit ∷ bits) b = absurd (omega (arith, ap length b.0))
+      by taken.Units (bit ∷ bits) b = record { place = p; byte = byte; of = of; at = at; gate = refl; old = w; before = before; work = k; due = e; same = refl; bits = b }
+      by taken.IntervalDone (bit ∷ bits) b = absurd (omega (arith, ap length b.0))
+      by (taken.Fault f) (bit ∷ bits) b = absurd (omega (arith, ap length b.0))
+
+  -- the bits that waited are taken
+  pub half_then : (waiting rest : List Bool) (s : InScan) (now after : Picture) (answer : Taken) (m : ScanReader)
+      → HalfData limits items contents bytes waiting s now → GivesBits any_scan s.machine now waiting answer rest m after
+      → AfterBytes limits items contents bytes (scan_answer answer) rest (work_after s m answer) after
+  half_then waiting rest s now after answer m h b =
+      let all = rest_then any_scan (h.old).machine s.machine m h.before now after (bits_of 8 h.byte) waiting rest answer h.bits b in
+      subst (λ (w : InScan). AfterBytes limits items contents bytes (scan_answer answer) rest (work_after w m answer) after) (sym h.same)
+      (half_after h.place h.byte h.old h.before after answer rest m h.of h.at h.work h.due all)
+
+-- The data of a scan while an MCU row is read.
+
+module _ (limits : Limits) (items : List Item) (contents bytes : List ℕ) where
+  -- the machine represents the bits of the interval
+  pub open_scan : (s : InScan) (now : Picture) → InData limits items contents bytes s now → s.whole ≡ false → IsOpenRowScan s.machine now
+  open_scan s now d e = (let k = of_work limits d.place s now e d.work in (k.interval, k.taken, k.stands))
+
+  pub open_half : (waiting : List Bool) (s : InScan) (now : Picture) → HalfData limits items contents bytes waiting s now → IsOpenRowScan s.machine now
+  open_half waiting s now h = (let k = of_half limits items contents bytes waiting s now h in (k.interval, k.taken, k.stands))
+
+-- SOME PLAIN BYTES one after another
+pub run_takes : (s : InScan) (m : ScanReader) (now after : Picture) (run : List ℕ) (n : ℕ) (answer : Taken) (waiting : List Bool) → s.gate ≡ false → s.whole ≡ false → ArePlain run
+    → GivesRun ScanReader any_scan s.machine now run n answer waiting m after → TakesRun s now run n (scan_answer answer) waiting (work_after s m answer) after
+run_takes s m now after run n answer waiting gate whole plain g =
+    let low = g.within in
+    let byte = get_or run g.early 0 in
+    let mid = work_after s g.mid taken.More in
+    record {
+      mid = mid;
+      between = g.between;
+      early = g.early;
+      count = g.count;
+      within = low;
+      «open» = refl;
+      before = before_last s now gate whole g.mid g.between run g.early (omega (arith, low)) plain g.chain;
+      last = λ limits items contents bytes d.
+          (let at = plain_data limits bytes d.place byte (open_at limits items contents bytes mid g.between d refl) (plain g.early low) in
+          half_after limits items contents (bytes ++ byte ∷ []) d.place byte mid g.between after answer waiting m d.of at d.work refl g.last);
+    }
+
+-- From one MCU row of a scan of all components to the next: blocks, and how many units and MCU rows are left.
 
 -- The first MCU row of a scan of all components, and from one row to the next.
 
@@ -55,16 +206,14 @@ use Rattle.jpg_seq.proofs.ScanRows.{row_next}
 pub one_up : (n d : ℕ) → 1 ≤ n → 1 ≤ d → 1 ≤ div_up n d
 one_up n d some low = (le-div_iff_mul-le low).1 (omega (arith, some, low))
 
+one_each : (size n most : ℕ) → 1 ≤ size → 1 ≤ n → 1 ≤ most → 1 ≤ div_up (div_up (size * n) most) 8
+one_each size n most some few low = let one : 1 * 1 ≤ size * n = mul-le 1 1 size n some few in one_up (div_up (size * n) most) 8 (one_up (size * n) most (omega (arith, one)) low) (omega arith)
+
 pub some_rows : (f : Frame) (ids : List ℕ) → IsFrame f → AreIn f ids → 1 ≤ scan_mcus_down f ids
 some_rows f [] k there = absurd (omega (arith, there.some))
 some_rows f (i ∷ []) k there =
-    let low = down_low f.components k.factors k.count_low in
-    let v = (All-get_or HasFactors f.components i no_component (there.there 0 0 (omega arith)) k.factors).v_low in
-    let one : 1 * 1 ≤ f.height * (component_at f i).v = mul-le 1 1 f.height (component_at f i).v k.height_low v in
-    one_up (div_up (f.height * (component_at f i).v) (v_max f)) 8 (one_up (f.height * (component_at f i).v) (v_max f) (omega (arith, one)) low) (omega arith)
-some_rows f (i ∷ j ∷ more) k there =
-    let low = down_low f.components k.factors k.count_low in
-    one_up f.height (8 * v_max f) k.height_low (omega (arith, low))
+    one_each f.height (component_at f i).v (v_max f) k.height_low (All-get_or HasFactors f.components i no_component (there.there 0 0 (omega arith)) k.factors).v_low (down_low f.components k.factors k.count_low)
+some_rows f (i ∷ j ∷ more) k there = (let low = down_low f.components k.factors k.count_low in one_up f.height (8 * v_max f) k.height_low (omega (arith, low)))
 
 -- the rows of a component that is there
 pub rows_there : (f : Frame) (i : ℕ) → i < length f.components → block_rows_of f i ≡ rows_in_mcu f i
@@ -73,13 +222,8 @@ rows_there f i lt = ap (λ b. cond b (rows_in_mcu f i) 0) (lt_yes i (length f.co
 some_across : (f : Frame) (ids : List ℕ) → IsFrame f → AreIn f ids → 1 ≤ scan_mcus_across f ids
 some_across f [] k there = absurd (omega (arith, there.some))
 some_across f (i ∷ []) k there =
-    let low = across_low f.components k.factors k.count_low in
-    let h = (All-get_or HasFactors f.components i no_component (there.there 0 0 (omega arith)) k.factors).h_low in
-    let one : 1 * 1 ≤ f.width * (component_at f i).h = mul-le 1 1 f.width (component_at f i).h k.width_low h in
-    one_up (div_up (f.width * (component_at f i).h) (h_max f)) 8 (one_up (f.width * (component_at f i).h) (h_max f) (omega (arith, one)) low) (omega arith)
-some_across f (i ∷ j ∷ more) k there =
-    let low = across_low f.components k.factors k.count_low in
-    one_up f.width (8 * h_max f) k.width_low (omega (arith, low))
+    one_each f.width (component_at f i).h (h_max f) k.width_low (All-get_or HasFactors f.components i no_component (there.there 0 0 (omega arith)) k.factors).h_low (across_low f.components k.factors k.count_low)
+some_across f (i ∷ j ∷ more) k there = (let low = across_low f.components k.factors k.count_low in one_up f.width (8 * h_max f) k.width_low (omega (arith, low)))
 
 some_in_mcu : (f : Frame) (ids : List ℕ) → IsFrame f → AreIn f ids → 1 ≤ mcu_units f ids
 some_in_mcu f [] k there = absurd (omega (arith, there.some))
@@ -218,14 +362,8 @@ tops_few f ids n w k i =
 
 -- The number of units that are left of a scan, and of its current MCU row.
 
--- the next interval's units are those that were left
-pub interval_left : (w : ScanWork) (m : ScanReader) (n turn : ℕ) → w.whole ≡ true → any_scan.left m ≡ n → n ≡ min w.interval w.due → scan_left (record w { machine = m; whole = false; due = w.due - n; turn = turn }) ≡ scan_left w
-interval_left w m n turn whole left few =
-    let old : scan_left w ≡ w.due = ap (λ b. w.due + cond b 0 (any_scan.left w.machine)) whole ∙ omega arith in
-    omega (arith, old, left, few)
-
 -- all of a scan that begins
-pub begun_left : (w : ScanWork) (all first : ℕ) → w.whole ≡ false → w.due ≡ all - first → any_scan.left w.machine ≡ first → first ≤ all → scan_left w ≡ all
+pub begun_left : (w : InScan) (all first : ℕ) → w.whole ≡ false → w.due ≡ all - first → any_scan.left w.machine ≡ first → first ≤ all → scan_left w ≡ all
 begun_left w all first whole due left few =
     let is : scan_left w ≡ w.due + any_scan.left w.machine = ap (λ b. w.due + cond b 0 (any_scan.left w.machine)) whole in
     omega (arith, is, due, left, few)
@@ -235,12 +373,9 @@ begun_places limits items contents f head framed header =
     ap (λ (g : Frame). length (units g (head_components (head_in g contents)))) framed ∙ ap (λ (h : ScanHead). length (units f (head_components h))) header
 
 -- no unit is complete
-pub none_counted : (old new : ScanWork) (w : RowWork) → scan_left new ≡ scan_left old → w.waiting ≡ [] → CountsScan old w false new w
+pub none_counted : (old new : InScan) (w : RowWork) → scan_left new ≡ scan_left old → w.waiting ≡ [] → CountsScan old w false new w
 none_counted old new w left none = record {
-  tops = refl;
-  steps = refl;
-  units = refl;
-  later = refl;
+  same = refl;
   passed = 0;
   left = omega arith;
   scan = omega (arith, left);
@@ -249,7 +384,7 @@ none_counted old new w left none = record {
   wait = λ some. absurd (omega (arith, some, ap length none));
 }
 
-data_left : (answer : Taken) (old : ScanWork) (m : ScanReader) (passed : ℕ) → old.whole ≡ false → any_scan.left old.machine ≡ any_scan.left m + passed → (answer ≡ taken.IntervalDone → any_scan.left m ≡ 0) → scan_left old ≡ scan_left (work_after old m answer) + passed
+data_left : (answer : Taken) (old : InScan) (m : ScanReader) (passed : ℕ) → old.whole ≡ false → any_scan.left old.machine ≡ any_scan.left m + passed → (answer ≡ taken.IntervalDone → any_scan.left m ≡ 0) → scan_left old ≡ scan_left (work_after old m answer) + passed
 data_left answer old m passed due left ended =
     let a : scan_left old ≡ old.due + any_scan.left old.machine = ap (λ b. old.due + cond b 0 (any_scan.left old.machine)) due in
     omega (arith, a, left, by answer ended)
@@ -261,16 +396,13 @@ data_left answer old m passed due left ended =
     by (taken.Fault f) ended = refl
 
 -- data of the current scan
-pub counts_scan : (old : ScanWork) (w : RowWork) (answer : Taken) (new : ScanWork) (after : RowWork) (m : ScanReader) → old.whole ≡ false → 1 ≤ w.left → CountsRow w old.machine answer after m → new ≡ work_after old m answer
+pub counts_scan : (old : InScan) (w : RowWork) (answer : Taken) (new : InScan) (after : RowWork) (m : ScanReader) → old.whole ≡ false → 1 ≤ w.left → CountsRow w old.machine answer after m → new ≡ work_after old m answer
     → CountsScan old w (completes_row w.left after.left) new after
 counts_scan old w answer new after m due some c is = subst (λ b. CountsScan old w b new after) (sym (ap (λ b. b && (after.left == 0)) (lt_yes 0 w.left some))) (record {
-  tops = c.tops;
-  steps = c.steps;
-  units = c.units;
-  later = c.later;
+  same = c.same;
   passed = c.passed;
   left = c.left;
-  scan = data_left answer old m c.passed due c.interval c.ended ∙ ap (λ (s : ScanWork). scan_left s + c.passed) (sym is);
+  scan = data_left answer old m c.passed due c.interval c.ended ∙ ap (λ (s : InScan). scan_left s + c.passed) (sym is);
   whole = λ e. (some, same_of after.left 0 e);
   goes = λ e z. absurd (clash (after.left == 0) (zero_is after.left z) e);
   wait = λ more. zero_is after.left (c.wait more);
@@ -282,50 +414,52 @@ never_completes zero = refl
 never_completes (suc n) = ap (λ b. b && (suc n == 0)) (lt_yes 0 (suc n) (omega arith)) ∙ not_same (suc n) 0 (λ e. omega (arith, e))
 
 pub byte_counts : (old new : InScan) (w after : RowWork) (byte : ℕ) (answer : Result Bool Fault) → IsDataOf RowWork row_stored old w → w.waiting ≡ []
-    → PassesByte row_stored old w byte answer new after → CountsScan old.work w (completes_row w.left after.left) new.work after
+    → PassesByte row_stored old w byte answer new after → CountsScan old w (completes_row w.left after.left) new after
 byte_counts old new w after byte answer can none (inl n) =
-    subst (λ (v : RowWork). CountsScan old.work w (completes_row w.left v.left) new.work v) (sym n.same)
-    (subst (λ b. CountsScan old.work w b new.work w) (sym (never_completes w.left)) (none_counted old.work new.work w n.left none))
+    subst (λ (v : RowWork). CountsScan old w (completes_row w.left v.left) new v) (sym n.same)
+    (subst (λ b. CountsScan old w b new w) (sym (never_completes w.left)) (none_counted old new w n.left none))
 byte_counts old new w after byte answer can none (inr p) =
     let t = p.took in
-    counts_scan old.work w t.taken new.work after t.machine t.due (can.due t.due).1 t.took.1 t.work
+    counts_scan old w t.taken new after t.machine t.due (can.due t.due).1 t.took.2 t.work
 
 -- a marker that ends the data changes no row
 pub marker_same : (old new : InScan) (w after : RowWork) (byte : ℕ) (answer : Result Bool Fault) → PassesByte row_stored old w byte answer new after → answer ≡ Ok true → after ≡ w
 marker_same old new w after byte answer (inl n) e = n.same
-marker_same old new w after byte answer (inr p) e = absurd (never_over p.given (sym p.answered ∙ e))
+marker_same old new w after byte answer (inr p) e = absurd (never_over p.took.taken (sym p.took.is ∙ e))
 
 -- So the row remains in its scan.
-pub counts_in : (f : Frame) (ids : List ℕ) (old new : ScanWork) (w after : RowWork) (row : Bool) → IsRowIn f ids w (scan_left old) → CountsScan old w row new after → IsRowIn f ids after (scan_left new)
+pub counts_in : (f : Frame) (ids : List ℕ) (old new : InScan) (w after : RowWork) (row : Bool) → IsRowIn f ids w (scan_left old) → CountsScan old w row new after → IsRowIn f ids after (scan_left new)
 counts_in f ids old new w after row k c =
     let a = k.at in
-    let behind : after.later * after.units ≡ w.later * w.units = ap (λ l. l * after.units) c.later ∙ ap (λ u. w.later * u) c.units in
-    record {
+    subst (λ (r : RowWork). IsRowIn f ids r (scan_left new)) (sym c.same) (record {
       at = record {
         frame = a.frame;
         there = a.there;
         all = a.all;
         row = a.row;
-        begins = λ i lt. ap (λ (l : List ℕ). top_of l i) c.tops ∙ a.begins i lt;
-        size = c.units ∙ a.size;
-        count = ap (λ l. a.row + 1 + l) c.later ∙ a.count;
-        few = omega (arith, a.few, c.left, c.units);
-        sum = omega (arith, a.sum, c.left, c.scan, behind);
+        begins = a.begins;
+        size = a.size;
+        count = a.count;
+        few = omega (arith, a.few, c.left);
+        sum = omega (arith, a.sum, c.left, c.scan);
       };
-      steps = λ i. ap (λ (l : List ℕ). top_of l i) c.steps ∙ k.steps i;
-      tops = λ i. ap (λ (l : List ℕ). top_of l i) c.tops ∙ k.tops i;
-      some = omega (arith, c.units, k.some);
-    }
+      steps = k.steps;
+      tops = k.tops;
+      some = k.some;
+    })
 
 -- AND A FURTHER ROW IS COMPLETE, or none
-pub counts_rows : (old new : ScanWork) (w after : RowWork) (row : Bool) (result : Step) → CountsScan old w row new after → result ≡ cond row step.Row step.More → CountsRows result w after
+pub counts_rows : (old new : InScan) (w after : RowWork) (row : Bool) (result : Step) → CountsScan old w row new after → result ≡ cond row step.Row step.More → CountsRows result w after
 counts_rows old new w after row result c is = subst (λ (s : Step). CountsRows s w after) (sym is) (by row c)
   where
+    later : after.later ≡ w.later
+    later = ap (λ (r : RowWork). r.later) c.same
+
     by : (row : Bool) → CountsScan old w row new after → CountsRows (cond row step.Row step.More) w after
-    by true c = let e = c.whole refl in part_counted w e.0 ∙ omega (arith, c.later, whole_counted after e.1)
+    by true c = let e = c.whole refl in part_counted w e.0 ∙ omega (arith, later, whole_counted after e.1)
     by false c = ⊎_elim
-        (λ (h : 0 < after.left). part_counted after (omega (arith, h)) ∙ omega (arith, c.later) ∙ sym (part_counted w (omega (arith, h, c.left))))
-        (λ (h : after.left ≤ 0). (let z = c.goes refl (omega (arith, h)) in whole_counted after (omega (arith, h)) ∙ c.later ∙ sym (whole_counted w z)))
+        (λ (h : 0 < after.left). part_counted after (omega (arith, h)) ∙ omega (arith, later) ∙ sym (part_counted w (omega (arith, h, c.left))))
+        (λ (h : after.left ≤ 0). (let z = c.goes refl (omega (arith, h)) in whole_counted after (omega (arith, h)) ∙ later ∙ sym (whole_counted w z)))
         (cases_lt 0 after.left)
 
 -- none

@@ -1,60 +1,172 @@
--- The MCU rows that are given.
-use Rattle.std.proofs.Common.{◌≡◌, ◌⊎◌, inl, inr, ℕ, ◌+◌, ◌*◌, ◌<◌, ◌≤◌, ◌==◌, ◌&&◌, Bool, true, false, cond, List, [], ◌∷◌, ◌++◌, length, refl, sym, ap, ◌∙◌, subst, arith, zero, suc, get_or, ℤ, pos, nat_lt, flat_map, int_le, map, nat_abs, replicate, append-nil, length-append, append_assoc, take_all}
+-- The head of a picture whose MCU rows are read, at the end of its first scan header, is that of the picture where its file
+-- ends.
+use Rattle.std.proofs.Common.{◌≡◌, ◌⊎◌, ℕ, List, ◌∷◌, ◌++◌, length, ◌<◌, refl, sym, ap, ◌∙◌, subst, inl, inr, Option, Some, None, reverse, append_assoc, ◌+◌, ◌*◌, ◌≤◌, ◌==◌, ◌&&◌, Bool, true, false, cond, [], arith, zero, suc, get_or, ℤ, pos, nat_lt, flat_map, map, replicate, append-nil, length-append, take_all, ◌||◌, if◌then◌else◌}
+use Rattle.jpg_spec.specs.Colours.{colours_of}
+use Rattle.jpg_spec.specs.Early.{EndsAfter, EndsInside, MeansEarly, segments_with}
+use Rattle.jpg_spec.specs.FileMeaning.{Leads, Means, meaning_of, no_blocks}
+use Rattle.jpg_spec.specs.FrameHeader.{identifiers, HasFactors, IsFrame, padded_across, padded_down, AreLimits}
+use Rattle.jpg_spec.specs.Geometry.{Frame, blocks_across, blocks_down, component_at, h_max, is_real, mcu_row_frame, mcus_down, no_component, v_max, bounds, bounds_of, is_progressive}
+use Rattle.jpg_spec.specs.History.{quant_of}
+use Rattle.jpg_spec.specs.InForce.{colours_after, frame_of, head_in}
+use Rattle.jpg_spec.specs.Items.{Item, SpellsFront, scan, segments_of}
+use Rattle.jpg_spec.specs.Jfif.{adobe_transform, jfif_of}
+use Rattle.jpg_spec.specs.Markers.{Segment, kept_after}
+use Rattle.jpg_spec.specs.Meaning.{Meaning, colour_of, real_blocks}
+use Rattle.jpg_spec.specs.RowsParsed.{BeginsScanOfAll, picture_so_far, IsScanOfAll, TellsRows, blocks_in, row_places}
+use Rattle.jpg_spec.specs.Scan.{Blocks, Scan, band, block_at, unit_at}
+use Rattle.jpg_spec.specs.declared.frame.Limits.{Limits}
+use Rattle.jpg_spec.proofs.EndsEarly.EarlyBegun.{begun_behind}
+use Rattle.jpg_spec.proofs.EndsEarly.EarlySoFar.{IsItemsScan, inside_scan, items_scan}
+use Rattle.jpg_spec.proofs.Headers.ColoursKept.{picture_colours, same_colours_after, same_frame_after, same_jfif_after}
+use Rattle.jpg_spec.proofs.Headers.FileHeader.{HasFirstScan, file_header, items_header}
+use Rattle.jpg_spec.proofs.Headers.FrameFound.{framed}
+use Rattle.jpg_spec.proofs.McuRows.RowsLater.{quants_stay, head_there}
+use Rattle.jpg_spec.proofs.McuRows.RowsWhole.{same_meaning}
+use Rattle.jpg_spec.proofs.Places.Untouched.{frame_stays}
+use Rattle.jpg_file.specs.Read.ReadFile.{TellsHead, AreOfRow, AgreeInRows}
+use Rattle.jpg_file.specs.Read.Strips.{TellsStrip, CompletesBefore, RowsSoFar, GoesByRow, IsFirstScan, RowsAfter, RowsInside, components_of, frame_behind, RowIsWhole, rows_of_scan}
+use Rattle.jpg_file.specs.Read.PictureKept.{IsHeadOfPicture, bare_picture}
+use Rattle.jpg_file.specs.declared.read.strip_head.StripHead.{StripHead}
 use Rattle.std.proofs.lemmas.Nat.{mul-le}
 use Rattle.std.proofs.lemmas.List.Elements.{All-get_or}
-use Rattle.std.proofs.lemmas.List.{length-replicate}
+use Rattle.std.proofs.lemmas.List.{get_or_past, length-replicate}
+use Rattle.std.proofs.lemmas.Bool.{cases_lt}
 use Rattle.jpg_spec.specs.Lists.{any_of, is_among, joined}
-use Rattle.jpg_spec.specs.Geometry.{Frame, blocks_across, blocks_down, component_at, h_max, is_real, mcu_row_frame, mcus_down, no_component, v_max, bounds, bounds_of, is_progressive}
-use Rattle.jpg_spec.specs.FrameHeader.{HasFactors, IsFrame, padded_across, padded_down}
-use Rattle.jpg_spec.specs.Items.{Item, segments_of}
 use Rattle.jpg_spec.specs.PictureInWork.{is_at, OnlyChanges, ScanSoFar}
-use Rattle.jpg_spec.specs.FileMeaning.{no_blocks, Leads}
 use Rattle.jpg_spec.specs.ScanReading.{ScanAt, ScanPlace, scan_at, with_byte}
-use Rattle.jpg_spec.specs.RowsParsed.{BeginsScanOfAll, IsScanOfAll, TellsRows, blocks_in, row_places, TellsFirst}
-use Rattle.jpg_spec.specs.declared.frame.Limits.{Limits}
-use Rattle.jpg_spec.proofs.Basics.Common.{lt_yes, both}
+use Rattle.jpg_spec.proofs.Basics.Common.{lt_yes, same_of}
 use Rattle.jpg_spec.proofs.Places.PlacesFound.{real_in_padded}
-use Rattle.jpg_spec.proofs.Places.PlacesSome.{h_max_some}
+use Rattle.jpg_spec.proofs.Places.PlacesSome.{h_max_some, v_max_some}
 use Rattle.jpg_spec.proofs.McuRows.RowsFound.{found_first}
-use Rattle.jpg_spec.proofs.McuRows.RowsHeader.{begun_places, begun_once}
+use Rattle.jpg_spec.proofs.McuRows.RowsHeader.{begun_places, begun_once, begun_frame, rows_begin}
 use Rattle.jpg_spec.proofs.Files.ScanSteps.{inside}
-use Rattle.jpg_base.specs.Cursor.{scan_mcus_down}
+use Rattle.jpg_base.specs.Cursor.{scan_mcus_down, AreIn}
 use Rattle.jpg_base.proofs.Grids.{down_low}
 use Rattle.jpg_coefs.specs.Picture.{Picture, is_padded, map_of, block_in}
-use Rattle.jpg_seq.specs.Rows.{IsRowOf, rows_in_mcu, top_of}
-use Rattle.jpg_file.specs.Read.RowData.{InRowData}
-use Rattle.jpg_file.specs.Read.RowPlaces.{IsRowAt, scan_left}
-use Rattle.jpg_file.specs.Read.RowsSoFar.{CompletesBefore, RowsSoFar}
-use Rattle.jpg_file.specs.Read.RowTurns.{unfinished}
-use Rattle.jpg_file.specs.Read.ReadRows.{AreOfRow}
-use Rattle.jpg_file.specs.Read.Strips.{GoesByRow, IsFirstScan, RowsAfter, RowsInside, components_of, frame_behind, RowIsWhole}
+use Rattle.jpg_seq.specs.Reader.{IsRowOf, rows_in_mcu, top_of}
+use Rattle.jpg_file.specs.Read.InData.{InRowData, unfinished, IsRowAt, scan_left, frame_at}
 use Rattle.jpg_file.specs.declared.read.file.FileWork.{FileWork}
 use Rattle.jpg_file.specs.declared.read.rows.RowWork.{RowWork}
 use Rattle.jpg_file.specs.declared.read.scan.InScan.{InScan}
-use Rattle.jpg_file.proofs.ByRow.RowsPlaced.{told_first, PlaceTells, begins_at, data_stops, half_tells, rows_cut, scan_of_all, stops_complete, machine_stands}
+use Rattle.jpg_file.proofs.ByRow.RowsPlaced.{told_first, PlaceTells, begins_at, data_stops, half_tells, rows_cut, scan_of_all, stops_complete}
 use Rattle.jpg_file.proofs.ByRow.RowTurns.{one_up}
-use Rattle.std.proofs.lemmas.Bool.Decides.{nat_tests}
-use Rattle.jpg_spec.specs.InForce.{head_in, frame_of}
-use Rattle.jpg_spec.specs.Elements.{Coding, Covers, Element, Standing, UnitLeft, are_in_bounds, at_start, predictions_after, zeros}
-use Rattle.jpg_spec.specs.Scan.{Blocks, Scan, SpellsIntervals, band, block_at, unit_at}
+use Rattle.jpg_spec.specs.Elements.{Coding, are_in_bounds, old_values, zeros}
 use Rattle.jpg_spec.specs.Ranges.{AreInRange, is_coefficient}
 use Rattle.jpg_spec.specs.declared.frame.Place.{Place}
 use Rattle.jpg_spec.proofs.Files.BlocksOnce.{length_band}
-use Rattle.jpg_spec.proofs.Headers.Precisions.{of_bounds, zero_ac}
-use Rattle.jpg_spec.proofs.Files.Ranges.{PlacesWithin, leads_in_range, at_place, zero_in}
+use Rattle.jpg_spec.proofs.Headers.Precisions.{of_bounds}
+use Rattle.jpg_spec.proofs.Files.Ranges.{PlacesWithin, leads_in_range, at_place, intervals_within, value_in, zero_in}
+use Rattle.jpg_spec.proofs.EndsEarly.EarlyRanges.{stands_within}
 use Rattle.jpg_spec.proofs.Basics.Rows.{append_apart}
-use Rattle.jpg_spec.proofs.Bits.Within.{AreWithin, ends_one, step}
-use Rattle.jpg_coefs.specs.Machine.{Interval}
-use Rattle.jpg_seq.specs.Reader.{RepresentsSeqScan, new_units_at}
-use Rattle.jpg_seq.specs.declared.reader.SeqReader.{SeqReader}
-use Rattle.jpg_file.specs.Read.InData.{frame_at}
+use Rattle.jpg_spec.proofs.Bits.Within.{AreWithin}
+use Rattle.jpg_coefs.specs.Machine.{Interval, IsUnfinished, units_of}
+use Rattle.jpg_file.proofs.Scans.Machines.{scans_keep_units}
 use Rattle.jpg_file.proofs.Scans.ScanBytes.{read_at, InInterval, of_half, of_work}
-use Rattle.jpg_file.proofs.ByRow.StripRows.{interval_due, rest_framed}
-use Rattle.jpg_file.specs.declared.read.scan.ScanWork.{ScanWork}
-use Rattle.jpg_spec.specs.Markers.{Segment}
+use Rattle.jpg_file.proofs.ByRow.StripRows.{rest_framed}
 use Rattle.jpg_spec.proofs.McuRows.RowCounts.{head_names}
-use Rattle.jpg_spec.proofs.McuRows.RowsLater.{head_there}
-use Rattle.jpg_file.specs.Read.RowsKnown.{rows_of_scan}
+use Rattle.std.proofs.lemmas.Bool.Decides.{nat_tests}
+use Rattle.jpg_spec.specs.Segments.{head_components}
+use Rattle.jpg_spec.specs.RowLaws.{TellsMore, first_blocks}
+use Rattle.jpg_spec.proofs.McuRows.RowsOnce.{first_told, rows_once, rows_stay}
+use Rattle.jpg_file.proofs.Headers.HeaderTaken.{are_in}
+
+-- of another picture that differs from it only in its kept markers
+same_head : (h : StripHead) (M N : Meaning) → IsHeadOfPicture h N → M ≡ record N { kept = M.kept } → colour_of M ≡ colour_of N → jfif_of M.kept ≡ jfif_of N.kept → IsHeadOfPicture h M
+same_head h M N k same colours jfif = record {
+  head = k.head;
+  same =
+      same ∙ ap (λ (P : Meaning). let n : Meaning = record P { kept = M.kept } in n) k.same
+      ∙ ap (λ (bs : Blocks). let n : Meaning = record (bare_picture h.frame h.quants.items bs) { kept = M.kept } in n) (sym (ap (λ (P : Meaning). P.blocks) same));
+  colour = k.colour ∙ sym colours;
+  jfif = k.jfif ∙ sym jfif;
+}
+
+module _ (limits : Limits) (bytes : List ℕ) (before : List Segment) (contents : List ℕ) (begins : BeginsScanOfAll limits bytes before contents) where
+  abbrev all : List Segment
+  all = (0xda, contents) ∷ before
+
+  header_stays : frame_of limits all ≡ frame_of limits before
+  header_stays = frame_stays limits before 0xda contents (framed before (begins.header).passed.0) (begins.header).passed.0
+
+  colours_stay : colours_after limits all ≡ colours_after limits before
+  colours_stay =
+      let kept = reverse (kept_after before) in
+      ap (λ (f : Frame). colours_of (length f.components) (identifiers f.components) (jfif_of kept).seen (adobe_transform kept)) header_stays
+
+  module _ (h : StripHead) (told : (blocks : Blocks) → IsHeadOfPicture h (picture_so_far limits before contents blocks)) where
+    -- after items
+    after_items : (items : List Item) (blocks : Blocks) (front tail : List ℕ) → HasFirstScan limits items front → bytes ≡ front ++ tail → SpellsFront items front → Leads limits items blocks
+        → IsHeadOfPicture h (meaning_of (frame_of limits (segments_of items)) (segments_of items) blocks)
+    after_items items blocks front tail first cut spelled leads =
+        same_head h M N (told blocks) (same_meaning (frame_of limits segments) (frame_of limits all) segments all blocks blocks frames quants refl) colours jfif
+      where
+        segments : List Segment
+        segments = segments_of items
+
+        M : Meaning
+        M = meaning_of (frame_of limits (segments_of items)) (segments_of items) blocks
+
+        N : Meaning
+        N = picture_so_far limits before contents blocks
+
+        at : IsItemsScan limits before contents items blocks front first
+        at = items_scan limits bytes before contents items blocks front tail first begins cut spelled leads
+
+        header : (0xda, first.contents) ∷ segments_of first.before ≡ all
+        header = ap (λ (b : List Segment). (0xda, first.contents) ∷ b) at.same ∙ ap (λ (c : List ℕ). (0xda, c) ∷ before) at.of
+
+        frames : frame_of limits (segments_of items) ≡ frame_of limits all
+        frames =
+            ap (λ (z : List Item). frame_of limits (segments_of z)) first.joined ∙ same_frame_after limits first.more first.contents first.intervals first.before blocks at.leads
+            ∙ ap (frame_of limits) at.same ∙ sym header_stays
+
+        quants : (i : ℕ) → i < length (frame_of limits all).components → quant_of (frame_of limits all) (segments_of items) i ≡ quant_of (frame_of limits all) all i
+        quants i lt =
+            let g = frame_of limits all in
+            ap (λ (z : List Item). quant_of g (segments_of z) i) first.joined ∙ quants_stay g first.more (scan first.contents first.intervals ∷ first.before) i at.none ∙ ap (λ (s : List Segment). quant_of g s i) header
+
+        colours : colour_of (meaning_of (frame_of limits (segments_of items)) (segments_of items) blocks) ≡ colour_of (picture_so_far limits before contents blocks)
+        colours =
+            picture_colours limits segments blocks ∙ ap (λ (z : List Item). colours_after limits (segments_of z)) first.joined
+            ∙ same_colours_after limits first.more first.contents first.intervals first.before blocks at.leads ∙ ap (colours_after limits) at.same ∙ sym colours_stay ∙ sym (picture_colours limits all blocks)
+
+        jfif : jfif_of (meaning_of (frame_of limits (segments_of items)) (segments_of items) blocks).kept ≡ jfif_of (picture_so_far limits before contents blocks).kept
+        jfif =
+            ap (λ (z : List Item). jfif_of (reverse (kept_after (segments_of z)))) first.joined ∙ same_jfif_after first.more first.contents first.intervals first.before
+            ∙ ap (λ (s : List Segment). jfif_of (reverse (kept_after s))) at.same
+
+    -- OF A COMPLETE FILE
+    whole_head : (M : Meaning) → Means limits bytes M → IsHeadOfPicture h M
+    whole_head M m =
+        subst (λ (P : Meaning). IsHeadOfPicture h P) (sym m.meaning)
+        (after_items m.items m.blocks m.front (m.marker ++ m.rest) (file_header limits bytes M m) (m.cut ∙ append_assoc m.front m.marker m.rest) m.spelled m.leads)
+
+    -- OF ONE THAT ENDS EARLY
+    early_head : (M : Meaning) → MeansEarly limits bytes M → IsHeadOfPicture h M
+    early_head M early = by early.1
+      where
+        by : EndsAfter limits bytes M ⊎ EndsInside limits bytes M → IsHeadOfPicture h M
+        by (inl p) =
+            let b = p.behind in
+            let named = begun_behind limits bytes p.items p.tail b p.part early.0.begun in
+            let first = items_header limits p.items b.blocks b.front b.spelled b.leads named.found named.complete in
+            subst (λ (P : Meaning). IsHeadOfPicture h P) (sym p.meaning) (after_items p.items b.blocks b.front p.tail first b.cut b.spelled b.leads)
+        by (inr p) =
+            let i = p.at in
+            let one = inside_scan limits bytes p.tail before contents begins i in
+            let header : segments_with i.items i.contents ≡ all = ap (λ (s : List Segment). (0xda, i.contents) ∷ s) one.0 ∙ ap (λ (c : List ℕ). (0xda, c) ∷ before) one.1 in
+            subst (λ (P : Meaning). IsHeadOfPicture h P) (sym (p.meaning ∙ ap (λ (s : List Segment). meaning_of (frame_of limits s) s p.after) header)) (told p.after)
+
+  -- of the head that is there
+  pub head_of_whole : (o : Option StripHead) (M : Meaning) → TellsStrip o (frame_of limits before) (picture_so_far limits before contents) → Means limits bytes M → TellsHead o M
+  head_of_whole None M t m = absurd t
+  head_of_whole (Some h) M t m = whole_head h t.1 M m
+
+  pub head_of_early : (o : Option StripHead) (M : Meaning) → TellsStrip o (frame_of limits before) (picture_so_far limits before contents) → MeansEarly limits bytes M → TellsHead o M
+  head_of_early None M t m = absurd t
+  head_of_early (Some h) M t m = early_head h t.1 M m
+
+-- The MCU rows that are given.
 
 -- MCU rows of a file that is being read which are decoded or complete (T.81, A.2.3).
 
@@ -64,8 +176,8 @@ pub inside_completes : (limits : Limits) (bytes : List ℕ) (w : FileWork) (rows
 inside_completes limits bytes w rows whole r none =
     let d = subst (λ (l : List Bool). InRowData limits r.items r.contents bytes l r.scan whole) none r.coded in
     let first = (r.held).of in
-    let all = scan_of_all limits r.items r.contents rows (scan_left r.scan.work) first (r.at).at in
-    stops_complete limits r.items r.contents bytes whole rows (scan_left r.scan.work) (data_stops limits r.items r.contents bytes r.scan whole d first all) (r.at).at
+    let all = scan_of_all limits r.items r.contents rows (scan_left r.scan) first (r.at).at in
+    stops_complete limits r.items r.contents bytes whole rows (scan_left r.scan) (data_stops limits r.items r.contents bytes r.scan whole d first all) (r.at).at
 
 -- if no bits wait, this many MCU rows are complete
 pub goes_completes : (limits : Limits) (bytes : List ℕ) (w : FileWork) (rows : RowWork) → GoesByRow limits bytes w rows → RowsSoFar limits bytes rows
@@ -78,14 +190,14 @@ goes_completes limits bytes w rows g = by (g.stands).at
 -- WHERE BITS MAY WAIT
 
 rest_tells : (limits : Limits) (items : List Item) (contents bytes : List ℕ) (waiting : List Bool) (s : InScan) (whole : Picture) → InRowData limits items contents bytes waiting s whole → IsFirstScan limits items
-    → IsScanOfAll limits (segments_of items) contents → PlaceTells limits items contents bytes whole (scan_left s.work)
+    → IsScanOfAll limits (segments_of items) contents → PlaceTells limits items contents bytes whole (scan_left s)
 rest_tells limits items contents bytes [] s whole d first all = (data_stops limits items contents bytes s whole d first all).tells
 rest_tells limits items contents bytes (bit ∷ bits) s whole h first all = half_tells limits items contents bytes (bit ∷ bits) s whole h first all
 
-pub inside_tells : (limits : Limits) (bytes : List ℕ) (w : FileWork) (rows : RowWork) (whole : Picture) → (r : RowsInside limits bytes w rows whole) → PlaceTells limits r.items r.contents bytes whole (scan_left r.scan.work)
+pub inside_tells : (limits : Limits) (bytes : List ℕ) (w : FileWork) (rows : RowWork) (whole : Picture) → (r : RowsInside limits bytes w rows whole) → PlaceTells limits r.items r.contents bytes whole (scan_left r.scan)
 inside_tells limits bytes w rows whole r =
     let first = (r.held).of in
-    rest_tells limits r.items r.contents bytes rows.waiting r.scan whole r.coded first (scan_of_all limits r.items r.contents rows (scan_left r.scan.work) first (r.at).at)
+    rest_tells limits r.items r.contents bytes rows.waiting r.scan whole r.coded first (scan_of_all limits r.items r.contents rows (scan_left r.scan) first (r.at).at)
 
 -- only the bytes up to the place
 bytes_alone : (limits : Limits) (bytes : List ℕ) (p : ScanPlace) (tail : List ℕ) → (at : ScanAt limits bytes p tail) → ScanAt limits (at.front ++ at.head ++ at.text) p []
@@ -211,24 +323,6 @@ zeros_bounded precision has_dc zero = refl
 zeros_bounded precision true (suc n) = of_bounds (λ b. are_in_bounds b true (replicate (suc n) (pos 0)) ≡ true) (zeros_bounded 8 false n) (zeros_bounded 12 false n) precision
 zeros_bounded precision false (suc n) = of_bounds (λ b. are_in_bounds b false (replicate (suc n) (pos 0)) ≡ true) (zeros_bounded 8 false n) (zeros_bounded 12 false n) precision
 
-zeros_within : (precision : ℕ) (c : Coding) (units : List UnitLeft) → c.bounds ≡ bounds_of precision → (more : List ℤ) × AreWithin c units more
-zeros_within precision c [] e = ([], refl)
-zeros_within precision c (u ∷ units) e =
-    let r = zeros_within precision c units e in
-    let n = length u.old in
-    let ok : are_in_bounds c.bounds u.has_dc (replicate n (pos 0)) ≡ true = ap (λ b. are_in_bounds b u.has_dc (replicate n (pos 0))) e ∙ zeros_bounded precision u.has_dc n in
-    (replicate n (pos 0) ++ r.0, (replicate n (pos 0), r.0, refl, length-replicate n (pos 0), ok, r.1))
-
--- WHAT ELEMENTS ENCODE of first units is in the bounds, where an end of a band ends one
-
-covers_within : (c : Coding) (s t : Standing) (es : List Element) (told more : List ℤ) (bits : List Bool) → c.most_run ≡ 0 → Covers c s es told bits t → AreWithin c t.left more → AreWithin c s.left (told ++ more)
-covers_within c s t [] told more bits run k w = subst (λ l. AreWithin c s.left (l ++ more)) (sym k.0) (subst (λ (q : Standing). AreWithin c q.left more) k.2 w)
-covers_within c s t (e ∷ es) told more bits run k w =
-    let p = s.predictions (k.0).component in
-    let ih = covers_within c (record { predictions = predictions_after s.predictions (k.0).component e; left = k.3 }) t es k.4 more k.6 run k.13 w in
-    let here : AreWithin c (k.0 ∷ k.1) (k.2 ++ (k.4 ++ more)) = step c p e k.0 k.1 k.2 k.3 (k.4 ++ more) (ends_one c p e k.0 k.1 k.2 k.3 run k.11) k.11 k.12 ih in
-    subst (λ l. AreWithin c l (told ++ more)) (sym k.7) (subst (λ x. AreWithin c (k.0 ∷ k.1) x) (sym (ap (λ x. x ++ more) k.8 ∙ append_assoc k.2 k.4 more)) here)
-
 -- of first places
 places_front : (s : Scan) (before after : Blocks) (places others : List Place) (more : List ℤ) → ((i x y : ℕ) → length (before i x y) ≡ length (after i x y))
     → AreWithin s.coding (map (unit_at s before) (places ++ others)) (flat_map (λ p. band s (block_at after p)) places ++ more) → PlacesWithin s after places
@@ -241,49 +335,17 @@ places_front s before after (p ∷ places) others more sizes w =
     let r = append_apart here w.0 (behind ++ more) w.1 (sym (l ∙ k)) (sym (append_assoc here behind more) ∙ w.2) in
     (subst (λ b. are_in_bounds s.coding.bounds (s.ss == 0) b ≡ true) (sym r.0) w.4, places_front s before after places others more sizes (subst (λ t. AreWithin s.coding (map (unit_at s before) (places ++ others)) t) (sym r.1) w.5))
 
-places_told : (precision : ℕ) (s : Scan) (before after : Blocks) (places others : List Place) (bits : List Bool) → s.coding.most_run ≡ 0 → s.coding.bounds ≡ bounds_of precision → ((i x y : ℕ) → length (before i x y) ≡ length (after i x y))
-    → TellsFirst s.coding (map (unit_at s before) (places ++ others)) (flat_map (λ p. band s (block_at after p)) places) bits → PlacesWithin s after places
-places_told precision s before after places others bits run range sizes k =
-    let told = flat_map (λ p. band s (block_at after p)) places in
-    let z = zeros_within precision s.coding (k.1).left range in
-    places_front s before after places others z.0 sizes (covers_within s.coding (at_start (map (unit_at s before) (places ++ others))) k.1 k.0 told z.0 bits run k.2 z.1)
-
-places_join : (s : Scan) (after : Blocks) (a b : List Place) → PlacesWithin s after a → PlacesWithin s after b → PlacesWithin s after (a ++ b)
-places_join s after [] b w v = v
-places_join s after (p ∷ a) b w v = (w.0, places_join s after a b w.1 v)
-
--- of complete intervals
-intervals_told : (precision : ℕ) (s : Scan) (before after : Blocks) (all : List (List Place)) (intervals : List (List ℕ)) → s.coding.most_run ≡ 0 → s.coding.bounds ≡ bounds_of precision → ((i x y : ℕ) → length (before i x y) ≡ length (after i x y))
-    → SpellsIntervals s before after all intervals → PlacesWithin s after (joined all)
-intervals_told precision s before after [] [] run range sizes k = tt
-intervals_told precision s before after [] (c ∷ intervals) run range sizes k = absurd k
-intervals_told precision s before after (p ∷ all) [] run range sizes k = absurd k
-intervals_told precision s before after (p ∷ all) (c ∷ intervals) run range sizes k =
-    let here = k.0 in
-    let u = here.2 in
-    let told = flat_map (λ q. band s (block_at after q)) p in
-    let first : TellsFirst s.coding (map (unit_at s before) p) told here.0 = (u.0, u.1, u.2) in
-    let all_of = subst (λ (l : List Place). TellsFirst s.coding (map (unit_at s before) l) told here.0) (sym (append-nil p)) first in
-    places_join s after p (joined all) (places_told precision s before after p [] here.0 run range sizes all_of) (intervals_told precision s before after all intervals run range sizes k.1)
-
 -- A BLOCK in the bounds
 
-rest_in : (precision : ℕ) (l : List ℤ) (k : ℕ) → are_in_bounds (bounds_of precision) false l ≡ true → int_le (pos (nat_abs (get_or l k (pos 0)))) (bounds_of precision).ac ≡ true
-rest_in precision [] k e = zero_ac precision
-rest_in precision (v ∷ l) zero e = (both (int_le (pos (nat_abs v)) (bounds_of precision).ac) (are_in_bounds (bounds_of precision) false l) e).0
-rest_in precision (v ∷ l) (suc k) e = rest_in precision l k (both (int_le (pos (nat_abs v)) (bounds_of precision).ac) (are_in_bounds (bounds_of precision) false l) e).1
-
 pub block_in_range : (precision : ℕ) (l : List ℤ) (k : ℕ) → are_in_bounds (bounds_of precision) true l ≡ true → is_coefficient (bounds_of precision) k (get_or l k (pos 0)) ≡ true
-block_in_range precision [] k e = zero_in precision k
-block_in_range precision (v ∷ l) zero e =
-    let b = bounds_of precision in
-    (both (int_le b.dc_low v && int_le v b.dc_high) (are_in_bounds b false l) e).0
-block_in_range precision (v ∷ l) (suc k) e =
-    let b = bounds_of precision in
-    let w = get_or l k (pos 0) in
-    let some : (suc k == 0) ≡ false = grind (arith, nat_tests) in
-    ap (λ t. cond t (int_le b.dc_low w && int_le w b.dc_high) (int_le (pos (nat_abs w)) b.ac)) some
-    ∙ rest_in precision l k (both (int_le b.dc_low v && int_le v b.dc_high) (are_in_bounds b false l) e).1
+block_in_range precision l k e = by (cases_lt k (length l))
+  where
+    c : Coding
+    c = record { bounds = bounds_of precision; al = 0; refines = false; most_category = 0; most_run = 0; dc = λ i. []; ac = λ i. [] }
+
+    by : (k < length l) ⊎ (length l ≤ k) → is_coefficient (bounds_of precision) k (get_or l k (pos 0)) ≡ true
+    by (inl low) = value_in c true l k k e low (λ d. refl) (λ none. cc)
+    by (inr past) = subst (λ v. is_coefficient (bounds_of precision) k v ≡ true) (sym (get_or_past l k (pos 0) past)) (zero_in precision k)
 
 -- a scan of complete blocks
 record IsWholeScan (precision : ℕ) (s : Scan) : Type 0 where
@@ -329,18 +391,20 @@ so_far_in_range limits p work done left e leads k =
     let w = whole_scan limits p e in
     let old : AreInRange (bounds (frame_at limits p)) p.blocks = leads_in_range limits p.items p.blocks leads in
     let sizes : (i x y : ℕ) → length (p.blocks i x y) ≡ length (work i x y) = λ i x y. old.sizes i x y ∙ sym (k.changes.sizes i x y) in
-    changes_in_range precision s (joined k.front) p.blocks work w k.changes (intervals_told precision s p.blocks work k.front done w.run w.range sizes k.spelled) old
+    changes_in_range precision s (joined k.front) p.blocks work w k.changes (intervals_within s p.blocks work k.front done sizes (λ places. inl w.run) k.spelled) old
 
-units_in_range : (precision : ℕ) (n : SeqReader) (i : Interval) (bits : List Bool) (now : Picture) → IsWholeScan precision i.scan → RepresentsSeqScan n i bits now → AreInRange (bounds_of precision) (map_of i.before) → AreInRange (bounds_of precision) (map_of now)
-units_in_range precision n i bits now w o old =
+-- what is read of an interval, with zeros after it
+units_in_range : (precision : ℕ) {n : ℕ} (i : Interval) (bits : List Bool) (now : Picture) → IsWholeScan precision i.scan → IsUnfinished i bits now n → AreInRange (bounds_of precision) (map_of i.before) → AreInRange (bounds_of precision) (map_of now)
+units_in_range precision i bits now w u old =
     let s = i.scan in
     let before = map_of i.before in
-    let told = flat_map (λ p. band s (block_at (map_of now) p)) o.done in
-    let sizes : (j x y : ℕ) → length (before j x y) ≡ length (map_of now j x y) = λ j x y. old.sizes j x y ∙ sym (o.read.changes.sizes j x y) in
-    let first : TellsFirst s.coding (map (unit_at s before) i.places) o.whole o.front = (o.elements, record { predictions = o.predictions; left = new_units_at (o.next ∷ o.more) }, o.covers) in
-    let there : TellsFirst s.coding (map (unit_at s before) i.places) told o.front = subst (λ (l : List ℤ). TellsFirst s.coding (map (unit_at s before) i.places) l o.front) o.read.told_there first in
-    let cut = subst (λ (l : List Place). TellsFirst s.coding (map (unit_at s before) l) told o.front) o.all there in
-    changes_in_range precision s o.done before (map_of now) w o.read.changes (places_told precision s before (map_of now) o.done (o.next ∷ o.more) o.front w.run w.range sizes cut) old
+    let sizes : (j x y : ℕ) → length (before j x y) ≡ length (map_of now j x y) = λ j x y. old.sizes j x y ∙ sym (u.read.changes.sizes j x y) in
+    let more = u.part ++ zeros (length (old_values u.left)) in
+    let all = stands_within s.coding (units_of i) (u.whole ++ u.part) u.left bits (λ b n. ap (λ t. are_in_bounds t b (zeros n)) w.range ∙ zeros_bounded precision b n) (inl w.run) u.stands in
+    let cut = subst (λ t. AreWithin s.coding (units_of i) t) (append_assoc u.whole u.part (zeros (length (old_values u.left)))) all in
+    let told = subst (λ t. AreWithin s.coding (units_of i) (t ++ more)) u.read.told_there cut in
+    let here = subst (λ l. AreWithin s.coding (map (unit_at s before) l) (flat_map (λ p. band s (block_at (map_of now) p)) u.done ++ more)) u.all told in
+    changes_in_range precision s u.done before (map_of now) w u.read.changes (places_front s before (map_of now) u.done u.due more sizes here) old
 
 sequential_at : (limits : Limits) (items : List Item) (p : ScanPlace) → p.items ≡ items → IsFirstScan limits items → is_progressive (frame_at limits p).process ≡ false
 sequential_at limits items p same first = subst (λ (l : List Item). is_progressive (frame_behind limits l).process ≡ false) (sym same) first.sequential
@@ -349,30 +413,29 @@ sequential_at limits items p same first = subst (λ (l : List Item). is_progress
 abbrev InRangeBehind : Limits → List Item → Picture → Type 0
 InRangeBehind limits items whole = AreInRange (bounds (frame_behind limits items)) (map_of whole)
 
-interval_in_range : (limits : Limits) (items : List Item) (contents : List ℕ) (p : ScanPlace) (w : ScanWork) (whole : Picture) (rest : List Bool)
+interval_in_range : (limits : Limits) (items : List Item) (contents : List ℕ) (p : ScanPlace) (w : InScan) (whole : Picture) (rest : List Bool)
     → InInterval limits p w whole rest → (p.items ≡ items) × (p.contents ≡ contents) → Leads limits p.items p.blocks → IsFirstScan limits items
     → InRangeBehind limits items whole
 interval_in_range limits items contents p w whole rest d of leads first =
     let e = sequential_at limits items p of.0 first in
     let precision = (frame_at limits p).precision in
-    let m = interval_due limits items contents p w whole rest d of first in
-    let o = machine_stands w.machine m.machine d.interval d.taken whole m.is d.stands in
+    let u = scans_keep_units.unfinished w.machine d.interval d.taken whole d.stands in
     let x = subst (λ (t : Scan). IsWholeScan precision t) (sym (d.is).scan) (whole_scan limits p e) in
     subst (λ (l : List Item). InRangeBehind limits l whole) of.0
-    (units_in_range precision m.machine d.interval d.taken whole x o (so_far_in_range limits p (map_of (d.interval).before) p.done (p.places ∷ p.later) e leads d.so_far))
+    (units_in_range precision d.interval d.taken whole x u (so_far_in_range limits p (map_of (d.interval).before) p.done (p.places ∷ p.later) e leads d.so_far))
 
 rest_in_range : (limits : Limits) (items : List Item) (contents bytes : List ℕ) (waiting : List Bool) (s : InScan) (whole : Picture)
     → InRowData limits items contents bytes waiting s whole → IsFirstScan limits items → InRangeBehind limits items whole
-rest_in_range limits items contents bytes [] s whole d first = by s.work.whole refl
+rest_in_range limits items contents bytes [] s whole d first = by s.whole refl
   where
-    by : (b : Bool) → s.work.whole ≡ b → InRangeBehind limits items whole
+    by : (b : Bool) → s.whole ≡ b → InRangeBehind limits items whole
     by true is =
         let p = d.place in
         subst (λ (l : List Item). InRangeBehind limits l whole) (d.of).0
-        (so_far_in_range limits p (map_of whole) (p.done ++ p.coded ∷ []) p.later (sequential_at limits items p (d.of).0 first) (d.at).leads (read_at limits p s.work whole is d.work).so_far)
-    by false is = interval_in_range limits items contents d.place s.work whole [] (of_work limits d.place s.work whole is d.work) d.of (d.at).leads first
+        (so_far_in_range limits p (map_of whole) (p.done ++ p.coded ∷ []) p.later (sequential_at limits items p (d.of).0 first) (d.at).leads (read_at limits p s whole is d.work).so_far)
+    by false is = interval_in_range limits items contents d.place s whole [] (of_work limits d.place s whole is d.work) d.of (d.at).leads first
 rest_in_range limits items contents bytes (bit ∷ bits) s whole h first =
-    interval_in_range limits items contents (with_byte h.place h.byte) s.work whole (bit ∷ bits) (of_half limits items contents bytes (bit ∷ bits) s whole h) h.of (h.at).leads first
+    interval_in_range limits items contents (with_byte h.place h.byte) s whole (bit ∷ bits) (of_half limits items contents bytes (bit ∷ bits) s whole h) h.of (h.at).leads first
 
 -- THE MCU ROW: the blocks of its padded grids are those of the picture, and all others are zero
 row_in_range : (precision : ℕ) (tops : List ℕ) (whole row : Picture) → IsRowOf tops whole row → AreInRange (bounds_of precision) (map_of whole) → AreInRange (bounds_of precision) (map_of row)
@@ -433,7 +496,7 @@ fed_here : (limits : Limits) (bytes : List ℕ) (w : FileWork) (rows : RowWork) 
     → m + (unfinished rows + 1) ≡ rows_of_scan limits (segments_of k.inside.items) k.inside.contents → RowFed limits bytes (segments_of k.inside.items) k.inside.contents m rows
 fed_here limits bytes w rows m k begins count =
     let r = k.inside in
-    let left = scan_left r.scan.work in
+    let left = scan_left r.scan in
     let t = place_tells limits r.items r.contents bytes k.whole rows left (inside_tells limits bytes w rows k.whole r) (r.at).at in
     let is : t.m ≡ m + 1 = omega (arith, t.count, count) in
     let due : unfinished rows ≡ rows.later + 0 = ap (λ n. rows.later + cond (n == 0) 0 1) k.left in
@@ -452,7 +515,98 @@ pub row_fed : (limits : Limits) (bytes : List ℕ) (before : List Segment) (cont
     → m + (unfinished rows + 1) ≡ rows_of_scan limits before contents → RowFed limits bytes before contents m rows
 row_fed limits bytes before contents w rows m begins k count =
     let r = k.inside in
-    let t = place_tells limits r.items r.contents bytes k.whole rows (scan_left r.scan.work) (inside_tells limits bytes w rows k.whole r) (r.at).at in
+    let t = place_tells limits r.items r.contents bytes k.whole rows (scan_left r.scan) (inside_tells limits bytes w rows k.whole r) (r.at).at in
     let one = begun_once limits bytes before (segments_of r.items) contents r.contents begins t.begins in
     let f = fed_here limits bytes w rows m k t.begins (count ∙ same_scan limits bytes before (segments_of r.items) contents r.contents begins t.begins) in
     subst (λ (l : List Segment). RowFed limits bytes l contents m rows) (sym one.0) (subst (λ (l : List ℕ). RowFed limits bytes (segments_of r.items) l m rows) (sym one.1) f)
+
+-- The real blocks of first MCU rows: those that bytes encode are those of the picture, whatever follows.
+
+-- REAL BLOCKS of a picture
+pub real_here : (f : Frame) (blocks : Blocks) (i x y : ℕ) → i < length f.components → x < blocks_across f (component_at f i) → y < blocks_down f (component_at f i) → real_blocks f blocks i x y ≡ blocks i x y
+real_here f blocks i x y there across down =
+    ap (λ b. cond (b && is_real f i x y) (blocks i x y) (zeros 64)) (lt_yes i (length f.components) there) ∙ ap (λ b. cond b (blocks i x y) (zeros 64)) (real_in_row f i x y there across down)
+
+module _ (limits : Limits) (bytes : List ℕ) (before : List Segment) (contents : List ℕ) (begins : BeginsScanOfAll limits bytes before contents) where
+  -- of the first MCU rows
+  pub named_in : (i : ℕ) → i < length (frame_of limits before).components → is_among i (head_components (head_in (frame_of limits before) contents)) ≡ true
+  named_in i lt =
+      let f = frame_of limits before in head_names f (head_in f contents) i (head_there limits before contents begins.unbroken) begins.of_all.all lt
+
+  row_found : (rows i x y : ℕ) → IsFrame (frame_of limits before) → i < length (frame_of limits before).components
+      → x < blocks_across (frame_of limits before) (component_at (frame_of limits before) i)
+      → y < blocks_down (frame_of limits before) (component_at (frame_of limits before) i) → y < rows * rows_in_mcu (frame_of limits before) i
+      → any_of (is_at i x y) (row_places limits before contents rows) ≡ true
+  row_found rows i x y is there across down low =
+      let f = frame_of limits before in
+      let turned : rows_in_mcu f i * rows ≡ rows * rows_in_mcu f i = grind arith in
+      let few : y < rows_in_mcu f i * rows = omega (arith, low, turned) in
+      found_first f (head_components (head_in f contents)) i x y rows is there (named_in i there) (real_in_row f i x y there across down)
+      (subst (λ n. y < n * rows) (ap (λ n. cond (n == 1) 1 (component_at f i).v) (sym begins.of_all.all)) few)
+
+  in_rows : (rows : ℕ) (all : Blocks) → IsFrame (frame_of limits before) → AgreeInRows (frame_of limits before) rows (blocks_in (row_places limits before contents rows) all) all
+  in_rows rows all is = record { same = λ i x y there across down low. ap (λ b. cond b (all i x y) (no_blocks i x y)) (row_found rows i x y is there across down low) }
+
+  -- those of the MCU rows that are decoded are those of the picture
+  pub agree_rows : (rows : ℕ) (all : Blocks) → IsFrame (frame_of limits before)
+      → AgreeInRows (frame_of limits before) rows (blocks_in (row_places limits before contents rows) all) (real_blocks (frame_of limits before) all)
+  agree_rows rows all is = record {
+    same = λ i x y there across down low. (in_rows rows all is).same i x y there across down low ∙ sym (real_here (frame_of limits before) all i x y there across down);
+  }
+
+  -- and they are among those of more MCU rows
+  pub few_of_more : (m n : ℕ) (some others : Blocks) → m ≤ n → TellsRows limits bytes m some → TellsRows limits bytes n others → some ≡ blocks_in (row_places limits before contents m) others
+  few_of_more m n some others less first second =
+      let w : TellsMore limits bytes m = record { all = n; blocks = others; enough = less; told = second } in
+      let j = second.place in
+      let same = begun_once limits bytes (segments_of j.items) before j.contents contents (rows_begin limits bytes n others second) begins in
+      rows_once limits bytes m some (first_blocks limits bytes m w) first (first_told limits bytes m w)
+      ∙ ap (λ s. blocks_in (row_places limits s j.contents m) others) same.0
+      ∙ ap (λ c. blocks_in (row_places limits before c m) others) same.1
+
+-- BYTES THAT ARE FED FURTHER encode the same first MCU rows
+pub rows_agree : (limits : Limits) (bytes more : List ℕ) (before : List Segment) (contents : List ℕ) (m n : ℕ) (some others : Blocks) → AreLimits limits → BeginsScanOfAll limits bytes before contents
+    → m ≤ n → TellsRows limits bytes m some → TellsRows limits (bytes ++ more) n others → AgreeInRows (frame_of limits before) m some others
+rows_agree limits bytes more before contents m n some others limited begins less first second =
+    let all = bytes ++ more in
+    let on = begun_on limits bytes more before contents begins in
+    let few = few_of_more limits all before contents on m n some others less (rows_stay limits bytes more m some first) second in
+    subst (λ (b : Blocks). AgreeInRows (frame_of limits before) m b others) (sym few)
+    (in_rows limits all before contents on m others (begun_frame limits bytes before contents limited begins))
+
+-- HOW MANY MCU ROWS a scan of all components has
+pub all_down : (f : Frame) (ids : List ℕ) → AreIn f ids → length ids ≡ length f.components
+    → scan_mcus_down f ids ≡ (if length f.components == 1 then blocks_down f (component_at f 0) else mcus_down f)
+all_down f [] are all = absurd (omega (arith, are.some))
+all_down f (i ∷ []) are all =
+    let first : i ≡ 0 = (let l = are.there 0 0 (omega arith) in omega (arith, l, all)) in
+    ap (λ n. blocks_down f (component_at f n)) first ∙ ap (λ n. cond (n == 1) (blocks_down f (component_at f 0)) (mcus_down f)) all
+all_down f (i ∷ j ∷ more) are all =
+    let several : (length f.components == 1) ≡ false = grind (arith, nat_tests, all) in
+    sym (ap (λ b. cond b (blocks_down f (component_at f 0)) (mcus_down f)) several)
+
+pub rows_begun : (limits : Limits) (bytes : List ℕ) (before : List Segment) (contents : List ℕ) → BeginsScanOfAll limits bytes before contents
+    → rows_of_scan limits before contents ≡ (let f = frame_of limits before in if length f.components == 1 then blocks_down f (component_at f 0) else mcus_down f)
+rows_begun limits bytes before contents begins =
+    let f = frame_of limits before in
+    let head = head_in f contents in
+    all_down f (head_components head) (are_in f head (head_there limits before contents begins.unbroken)) begins.of_all.all
+
+-- NO REAL BLOCK is after all MCU rows
+pub rows_cover : (f : Frame) (ids : List ℕ) (i : ℕ) → IsFrame f → length ids ≡ length f.components → is_among i ids ≡ true → blocks_down f (component_at f i) ≤ scan_mcus_down f ids * rows_in_mcu f i
+rows_cover f [] i is all among = cc
+rows_cover f (j ∷ []) i is all among =
+    let s : j ≡ i = same_of j i (alone (j == i) among) in
+    let one : rows_in_mcu f i ≡ 1 = ap (λ n. cond (n == 1) 1 (component_at f i).v) (sym all) in
+    let whole : blocks_down f (component_at f j) ≡ blocks_down f (component_at f i) = ap (λ k. blocks_down f (component_at f k)) s in
+    omega (arith, whole, ap (λ n. blocks_down f (component_at f j) * n) one)
+  where
+    alone : (b : Bool) → (b || false) ≡ true → b ≡ true
+    alone true e = refl
+    alone false e = e
+rows_cover f (j ∷ k ∷ more) i is all among =
+    let several : (length f.components == 1) ≡ false = grind (arith, nat_tests, all) in
+    let each : rows_in_mcu f i ≡ (component_at f i).v = ap (λ b. cond b 1 (component_at f i).v) several in
+    let c = component_at f i in
+    let down : blocks_down f c ≤ mcus_down f * c.v = real_in_padded f.height c.v (v_max f) (v_max_some f is) in
+    omega (arith, down, ap (λ n. mcus_down f * n) each)

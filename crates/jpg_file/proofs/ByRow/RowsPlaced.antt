@@ -1,5 +1,5 @@
 -- The place that the bytes reach in a scan of all components, and the MCU rows that it means.
-use Rattle.std.proofs.Common.{◌≡◌, ℕ, Bool, List, [], ◌∷◌, ◌++◌, length, refl, sym, ap, ◌∙◌, subst, arith, zero, suc, ◌+◌, ◌-◌, ◌*◌, ◌<◌, ◌≤◌, ◌==◌, true, false, cond, take, drop, inl, inr, ℤ, map, flat_map, replicate, append_assoc, append-nil, length-append, take_all}
+use Rattle.std.proofs.Common.{◌≡◌, ℕ, Bool, List, [], ◌∷◌, ◌++◌, length, refl, sym, ap, ◌∙◌, subst, arith, zero, suc, ◌+◌, ◌-◌, ◌*◌, ◌<◌, ◌≤◌, ◌==◌, true, false, cond, take, drop, inl, inr, ℤ, map, flat_map, replicate, append_assoc, append-nil, length-append, take_all, add-mul}
 use Rattle.std.proofs.lemmas.List.{append_cancel_left}
 use Rattle.jpg_spec.specs.Bits.{bits_of_bytes}
 use Rattle.jpg_spec.specs.Lists.{chunks, joined}
@@ -22,11 +22,10 @@ use Rattle.jpg_spec.proofs.Basics.Rows.{append_apart}
 use Rattle.jpg_spec.proofs.McuRows.RowsRead.{interval_tells, units_tell}
 use Rattle.jpg_coefs.specs.Picture.{Picture, map_of}
 use Rattle.jpg_coefs.specs.Machine.{Interval, units_of}
-use Rattle.jpg_seq.specs.Reader.{RepresentsSeqScan, new_units_at, IsPlaceReadable, prediction_at}
+use Rattle.jpg_seq.specs.Reader.{RepresentsSeqScan, new_units_at, IsPlaceReadable, prediction_at, row_units}
 use Rattle.jpg_seq.specs.declared.reader.SeqReader.{SeqReader}
-use Rattle.jpg_file.specs.Read.InData.{IsInterval, IsReadable, frame_at, AtWork, InData}
+use Rattle.jpg_file.specs.Read.InData.{IsInterval, IsReadable, frame_at, AtWork, InData, IsRowAt, scan_left, HalfData, unfinished}
 use Rattle.jpg_spec.proofs.McuRows.RowBands.{as_many}
-use Rattle.std.proofs.Math.Nat.{add-mul}
 use Rattle.std.proofs.lemmas.List.Elements.{All-head}
 use Rattle.jpg_spec.specs.Elements.{Standing, at_start, UnitLeft}
 use Rattle.jpg_spec.specs.Geometry.{Frame, units}
@@ -41,22 +40,15 @@ use Rattle.jpg_spec.proofs.McuRows.RowsStop.{stop_completes}
 use Rattle.jpg_spec.proofs.Files.ScanSteps.{inside}
 use Rattle.jpg_base.specs.Cursor.{scan_mcus_down}
 use Rattle.jpg_base.proofs.UnitCounts.{length_units}
-use Rattle.jpg_seq.specs.Coder.{env_in}
-use Rattle.jpg_seq.specs.Rows.{row_units}
-use Rattle.jpg_seq.specs.Stands.{standing_at, unit_in_work}
-use Rattle.jpg_seq.proofs.Parts.{work_part}
-use Rattle.jpg_seq.proofs.ScanRows.{length_row, units_by_row}
+use Rattle.jpg_seq.specs.Work.{env_in, standing_at, unit_in_work}
+use Rattle.jpg_seq.proofs.Elements.{work_part}
+use Rattle.jpg_seq.proofs.Machines.{length_row, units_by_row}
 use Rattle.jpg_file.specs.Read.Machine.{any_scan}
-use Rattle.jpg_file.specs.Read.RowData.{HalfData}
-use Rattle.jpg_file.specs.Read.RowPlaces.{IsRowAt, scan_left}
-use Rattle.jpg_file.specs.Read.RowsSoFar.{CompletesBefore}
-use Rattle.jpg_file.specs.Read.RowTurns.{unfinished}
-use Rattle.jpg_file.specs.Read.Strips.{IsFirstScan, components_of, frame_behind}
+use Rattle.jpg_file.specs.Read.Strips.{CompletesBefore, IsFirstScan, components_of, frame_behind}
 use Rattle.jpg_file.specs.declared.read.machine.ScanReader.{ScanReader}
 use Rattle.jpg_file.specs.declared.read.machine.ScanReader.TheVariants.{Sequential}
 use Rattle.jpg_file.specs.declared.read.rows.RowWork.{RowWork}
 use Rattle.jpg_file.specs.declared.read.scan.InScan.{InScan}
-use Rattle.jpg_file.specs.declared.read.scan.ScanWork.{ScanWork}
 use Rattle.jpg_file.proofs.Scans.ScanBytes.{due_at, read_at, of_half, of_work}
 use Rattle.jpg_file.proofs.ByRow.StripRows.{interval_due}
 use Rattle.jpg_spec.proofs.EndsEarly.EarlyRows.{shorter_front}
@@ -197,24 +189,24 @@ scan_of_all limits items contents rows left first at = record { first = first.fi
 pub machine_stands : (m : ScanReader) (n : SeqReader) (i : Interval) (bits : List Bool) (now : Picture) → m ≡ Sequential n → any_scan.stands m i bits now → RepresentsSeqScan n i bits now
 machine_stands m n i bits now is s = let own = subst (λ (q : ScanReader). any_scan.stands q i bits now) is s in own.0
 
-pub left_due : (w : ScanWork) (n : SeqReader) → w.machine ≡ Sequential n → w.whole ≡ false → scan_left w ≡ w.due + n.left
+pub left_due : (w : InScan) (n : SeqReader) → w.machine ≡ Sequential n → w.whole ≡ false → scan_left w ≡ w.due + n.left
 left_due w n is whole = ap (λ b. w.due + cond b 0 (any_scan.left w.machine)) whole ∙ ap (λ (q : ScanReader). w.due + any_scan.left q) is
 
-pub left_whole : (w : ScanWork) → w.whole ≡ true → scan_left w ≡ w.due
+pub left_whole : (w : InScan) → w.whole ≡ true → scan_left w ≡ w.due
 left_whole w whole = ap (λ b. w.due + cond b 0 (any_scan.left w.machine)) whole ∙ omega arith
 
 -- some bits wait
 pub half_tells : (limits : Limits) (items : List Item) (contents bytes : List ℕ) (waiting : List Bool) (s : InScan) (whole : Picture)
     → HalfData limits items contents bytes waiting s whole → IsFirstScan limits items → IsScanOfAll limits (segments_of items) contents
-    → PlaceTells limits items contents bytes whole (scan_left s.work)
+    → PlaceTells limits items contents bytes whole (scan_left s)
 half_tells limits items contents bytes waiting s whole h first all =
     let p = with_byte h.place h.byte in
     let d = of_half limits items contents bytes waiting s whole h in
     let here = all_at limits items contents p h.of all in
-    let m = interval_due limits items contents p s.work whole waiting d h.of first in
-    let o = machine_stands s.work.machine m.machine d.interval d.taken whole m.is d.stands in
+    let m = interval_due limits items contents p s whole waiting d h.of first in
+    let o = machine_stands s.machine m.machine d.interval d.taken whole m.is d.stands in
     let u = units_at limits p d.interval m.machine d.taken waiting whole (h.at).leads here d.readable d.is d.so_far o d.cut in
-    record { place = p; of = h.of; tail = []; at = h.at; of_all = here; told = u.at; left_is = omega (arith, u.left_is, left_due s.work m.machine m.is d.whole, d.due) }
+    record { place = p; of = h.of; tail = []; at = h.at; of_all = here; told = u.at; left_is = omega (arith, u.left_is, left_due s m.machine m.is d.whole, d.due) }
 
 -- NO MORE UNITS of the current interval are decoded
 
@@ -293,7 +285,7 @@ pub record PlaceStops (limits : Limits) (items : List Item) (contents bytes : Li
   pub units : TellsNoMore (scan_at limits tells.place) (tells.place).blocks (tells.place).places (tells.place).coded (length (tells.told).part)
   pub last : HasNoMoreData (scan_at limits tells.place) tells.place tells.tail
 
-pub place_stops : (limits : Limits) (items : List Item) (contents bytes tail : List ℕ) (p : ScanPlace) (w : ScanWork) (whole : Picture) → (p.items ≡ items) × (p.contents ≡ contents) → ScanAt limits bytes p tail → AtWork limits p w whole
+pub place_stops : (limits : Limits) (items : List Item) (contents bytes tail : List ℕ) (p : ScanPlace) (w : InScan) (whole : Picture) → (p.items ≡ items) × (p.contents ≡ contents) → ScanAt limits bytes p tail → AtWork limits p w whole
     → HasNoMoreData (scan_at limits p) p tail → IsFirstScan limits items → IsScanOfAll limits (segments_of items) contents → PlaceStops limits items contents bytes whole (scan_left w)
 place_stops limits items contents bytes tail p w whole of at work last first all = by w.whole refl
   where
@@ -325,9 +317,9 @@ place_stops limits items contents bytes tail p w whole of at work last first all
         }
 
 pub data_stops : (limits : Limits) (items : List Item) (contents bytes : List ℕ) (s : InScan) (whole : Picture) → InData limits items contents bytes s whole → IsFirstScan limits items → IsScanOfAll limits (segments_of items) contents
-    → PlaceStops limits items contents bytes whole (scan_left s.work)
+    → PlaceStops limits items contents bytes whole (scan_left s)
 data_stops limits items contents bytes s whole d first all =
-    place_stops limits items contents bytes (replicate d.fill 255) d.place s.work whole d.of d.at d.work (inl (d.fill, refl)) first all
+    place_stops limits items contents bytes (replicate d.fill 255) d.place s whole d.of d.at d.work (inl (d.fill, refl)) first all
 
 -- MCU ROWS of the places that are decoded
 pub record RowCut (f : Frame) (ids : List ℕ) (rows : RowWork) (places : List Place) : Type 0 where

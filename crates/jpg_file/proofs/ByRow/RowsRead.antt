@@ -1,47 +1,38 @@
 -- What a reader of MCU rows has read.
-use Rattle.std.proofs.Common.{◌≡◌, ◌⊎◌, ℕ, ◌<◌, false, List, [], length, refl, inl, inr, None, subst, sym}
-use Rattle.jpg_spec.specs.FrameHeader.{AreLimits}
-use Rattle.jpg_spec.specs.UnfinishedFile.{UnfinishedFile}
+use Rattle.std.proofs.Common.{◌≡◌, ℕ, ◌<◌, Bool, false, List, [], length, refl, sym, subst, inl, inr, None}
+use Rattle.jpg_spec.specs.FirstFault.{IsFirstFault}
+use Rattle.jpg_spec.specs.declared.fault.Fault.TheVariants.{Truncated}
+use Rattle.jpg_spec.proofs.Files.FileLaws.{stands_truncated}
+use Rattle.jpg_file.specs.Read.File.{RepresentsFile, with_picture}
+use Rattle.jpg_file.specs.Read.SegmentState.{IsComplete}
 use Rattle.jpg_spec.specs.declared.frame.Limits.{Limits}
-use Rattle.jpg_file.specs.Read.File.{RepresentsFile}
-use Rattle.jpg_file.specs.Read.FirstHeader.{IsFirstHeaderOf}
-use Rattle.jpg_file.specs.Read.ReadFile.{ReaderState}
-use Rattle.jpg_file.specs.Read.ReadRows.{HasReadAll, HasReadPlainly}
-use Rattle.jpg_file.specs.Read.Strips.{RowsAfter, RowsInside, RepresentsRows}
+use Rattle.jpg_file.specs.Read.ReadFile.{HasRead, ReaderState, TellsBegun, HasReadAll, HasReadPlainly}
 use Rattle.jpg_file.specs.declared.read.file.FileWork.{FileWork}
-use Rattle.jpg_file.specs.declared.read.rows.RowWork.{RowWork}
-use Rattle.jpg_file.proofs.Files.FileSteps.{head_is}
 use Rattle.jpg_file.proofs.Headers.InForce.{no_head}
-use Rattle.jpg_file.proofs.Files.PieceSteps.{counted, stands_file}
-use Rattle.jpg_file.proofs.ByRow.RowsNone.{no_rows}
+use Rattle.jpg_file.proofs.Files.FileSteps.{counted, stands_file}
+use Rattle.jpg_file.proofs.Files.Leaving.{tells_begun}
+use Rattle.jpg_file.proofs.ByRow.StripBytes.{goes_with}
+use Rattle.jpg_file.proofs.ByRow.StripBegin.{no_rows}
 
-pub record ReadAll (bytes : List ℕ) (r : ReaderState) : Type 0 where
-  pub stands : UnfinishedFile r.limits bytes
-  pub short : length bytes < r.limits.input
-  pub taken : r.file.reading.taken ≡ length bytes
+-- how many bytes it has taken
+pub all_taken : (bytes : List ℕ) (m : ℕ) (r : ReaderState) → HasReadAll bytes m r → r.file.taken ≡ length bytes
+all_taken bytes m r (inl (h, z)) = counted r.limits bytes r.file h.read.open
+all_taken bytes m r (inr h) = counted r.limits bytes (with_picture r.file ((h.open).stands).whole) (goes_with r.limits bytes r.file (h.begun).rows h.open)
 
-by_row_counted : (limits : Limits) (bytes : List ℕ) (w : FileWork) (rows : RowWork) → RepresentsRows limits bytes w rows → w.reading.taken ≡ length bytes
-by_row_counted limits bytes w rows s = by s.at
-  where
-    by : RowsInside limits bytes w rows s.whole ⊎ RowsAfter limits bytes w rows s.whole → w.reading.taken ≡ length bytes
-    by (inl r) = (r.held).count
-    by (inr b) = ((b.between).beside).count
+-- where they end, if a component hasn't begun
+pub truncated : (limits : Limits) (bytes : List ℕ) (w : FileWork) (all : Bool) → RepresentsFile limits bytes w → length bytes < limits.input → IsComplete w.begun.progress all → all ≡ false → IsFirstFault limits bytes Truncated w.taken
+truncated limits bytes w all s short told none =
+    subst (λ n. IsFirstFault limits bytes Truncated n) (sym (counted limits bytes w s))
+    (stands_truncated limits bytes (stands_file limits bytes w s) short (subst (λ b. TellsBegun limits bytes b) none (tells_begun limits bytes w all s told)))
 
-pub read_all : (bytes : List ℕ) (m : ℕ) (r : ReaderState) → HasReadAll bytes m r → ReadAll bytes r
-read_all bytes m r (inl (h, none)) = record { stands = h.read.stands; short = h.read.short; taken = counted r.limits bytes r.file h.read.open }
-read_all bytes m r (inr h) = record { stands = h.stands; short = h.short; taken = by_row_counted r.limits bytes r.file (h.begun).rows (h.open).stands }
+pub all_truncated : (bytes : List ℕ) (m : ℕ) (r : ReaderState) (all : Bool) → HasReadAll bytes m r → IsComplete r.file.begun.progress all → all ≡ false → IsFirstFault r.limits bytes Truncated r.file.taken
+all_truncated bytes m r all (inl (h, z)) told none = truncated r.limits bytes r.file all h.read.open h.read.short told none
+all_truncated bytes m r all (inr h) told none = truncated r.limits bytes (with_picture r.file ((h.open).stands).whole) all (goes_with r.limits bytes r.file (h.begun).rows h.open) h.short told none
 
--- the state before any byte
-pub read_nothing : (limits : Limits) (r : ReaderState) → AreLimits limits → r.limits ≡ limits → r.rows ≡ None → r.stop ≡ None → r.done ≡ false → RepresentsFile limits [] r.file → HasReadPlainly [] r
-read_nothing limits r is same none stop done stands = record {
+-- the state before any byte, however the file is to be read
+pub read_nothing : (r : ReaderState) (by_row in_rows : Bool) → r.rows ≡ None → HasRead [] r → HasReadPlainly [] (record r { by_row = by_row; in_rows = in_rows })
+read_nothing r by_row in_rows none k = record {
   none = none;
   plain = no_rows r.limits [] (no_head r.limits [] (inl (inl refl)));
-  read = record {
-    skip_ahead = stop;
-    undone = done;
-    short = subst (λ (l : Limits). 0 < l.input) (sym same) is.some;
-    stands = subst (λ (l : Limits). UnfinishedFile l []) (sym same) (stands_file limits [] r.file stands);
-    «open» = subst (λ (l : Limits). RepresentsFile l [] r.file) (sym same) stands;
-    head = subst (λ (l : Limits). IsFirstHeaderOf l [] r.file.head) (sym same) (head_is limits [] r.file stands);
-  };
+  read = record { skip_ahead = k.skip_ahead; undone = k.undone; short = k.short; stands = k.stands; «open» = k.open; head = k.head };
 }

@@ -1,44 +1,106 @@
--- Bytes and pieces of a file that is read MCU row by MCU row.
-use Rattle.std.proofs.Common.{◌≡◌, ℕ, ◌+◌, ◌≤◌, ◌<◌, Bool, true, false, cond, List, [], ◌∷◌, ◌++◌, length, take, get_or, refl, sym, ap, subst, arith, Some, None, inl, inr, Ok, Err, ◌∙◌, ◌⊎◌, zero, suc, Result, Option, is_some, replicate, length-append, length-take-le, take-take, append-nil, get_or-take}
-use Rattle.std.proofs.lemmas.List.{length-replicate}
-use Rattle.jpg_spec.specs.Items.{Item, segments_of}
+-- What follows the scan of a file that is read MCU row by MCU row.
+use Rattle.std.proofs.Common.{◌≡◌, ◌⊎◌, ◌+◌, ◌<◌, ◌∷◌, ◌++◌, refl, arith, inl, ℕ, false, List, [], sym, ap, ◌∙◌, subst, Option, Some, None, Err, inr, is_some, unwrap_or, ◌≤◌, Bool, true, cond, length, take, get_or, Ok, zero, suc, Result, replicate, length-append, length-take-le, take-take, append-nil, get_or-take}
+use Rattle.jpg_spec.proofs.Basics.Common.{clash}
+use Rattle.jpg_spec.specs.Geometry.{Frame}
+use Rattle.jpg_spec.specs.InForce.{frame_of, no_frame}
+use Rattle.jpg_spec.specs.Items.{contents_rule, segments_of, Item}
 use Rattle.jpg_spec.specs.declared.fault.Fault.{Fault}
 use Rattle.jpg_spec.specs.declared.frame.Limits.{Limits}
 use Rattle.jpg_base.specs.declared.stop.Stop.TheVariants as stop
 use Rattle.jpg_coefs.specs.Picture.{Picture}
 use Rattle.jpg_markers.specs.Reading.{reading_of}
-use Rattle.jpg_seq.specs.Rows.{IsRowOf}
-use Rattle.jpg_file.specs.Read.File.{RepresentsFile, IsInsideScanOfFile, limits_of, with_picture}
-use Rattle.jpg_file.specs.Read.InData.{InData, IsInside}
-use Rattle.jpg_file.specs.Read.Items.{IsOfMarker, TakesMarker}
-use Rattle.jpg_file.specs.Read.Reading.{waiting_bytes}
-use Rattle.jpg_file.specs.Read.RowData.{AfterByte, AfterBytes, InRowData, IsDataOf, PassesByte, PassesRest, PassesRun, TakesByteInto, TakesRun, TakesRunInto}
-use Rattle.jpg_file.specs.Read.RowStored.{row_stored}
-use Rattle.jpg_file.specs.Read.RowPlaces.{scan_left}
-use Rattle.jpg_file.specs.Read.RowsSoFar.{CompletesBefore, RowsSoFar}
-use Rattle.jpg_file.specs.Read.RowTurns.{CountsScan, completes_row, unfinished}
-use Rattle.jpg_file.specs.Read.Strips.{AfterRows, PassesItem, RowsRun, ScanHeld, components_of, frame_behind, GoesByRow, RowsAfter, RowsInside, StripGoes, RepresentsStrip, StopsRows}
-use Rattle.jpg_file.specs.declared.read.file.FileWork.{FileWork}
+use Rattle.jpg_seq.specs.Reader.{IsRowOf}
+use Rattle.jpg_file.specs.Read.SegmentState.{HasBegunAll, segments_view, JudgesHead}
+use Rattle.jpg_file.specs.Read.File.{AfterFileByte, AfterFileStep, HasCompleteHeader, IsStop, RepresentsFile, IsBetweenFileItems, with_picture, IsInsideScanOfFile, limits_of, waiting_bytes}
+use Rattle.jpg_file.specs.Read.InData.{unfinished, AfterByte, AfterBytes, InRowData, IsDataOf, PassesByte, PassesRun, TakesByteInto, TakesRun, TakesRunInto, CountsScan, completes_row, InData, IsInside, scan_left}
+use Rattle.jpg_file.specs.Read.Strips.{AfterRows, GoesByRow, HasLaterHead, PassesItem, RowsAfter, RowsInside, PassesRest, row_stored, CompletesBefore, RowsSoFar, RowsRun, ScanHeld, components_of, frame_behind, StripGoes, RepresentsStrip, StopsRows}
+use Rattle.jpg_file.specs.Read.Items.{AfterItem, IsOfMarker, TakesMarker}
 use Rattle.jpg_file.specs.declared.read.items.Items.{Items}
+use Rattle.jpg_file.specs.declared.read.file.FileWork.{FileWork}
 use Rattle.jpg_file.specs.declared.read.items.ItemStep.{ItemStep}
-use Rattle.jpg_file.specs.declared.read.rows.RowWork.{RowWork}
-use Rattle.jpg_file.specs.declared.read.scan.InScan.{InScan}
+use Rattle.jpg_file.specs.declared.read.items.ItemStep.TheVariants as item
 use Rattle.jpg_file.specs.declared.read.step.Step.{Step}
 use Rattle.jpg_file.specs.declared.read.step.Step.TheVariants as step
-use Rattle.jpg_file.proofs.Files.FileSteps.{after_inside, head_by, head_is}
+use Rattle.jpg_file.specs.declared.read.rows.RowWork.{RowWork}
+use Rattle.jpg_file.proofs.Files.FileSteps.{after_between, between_of, inside_done, head_by, head_is, front_stands, limits_are, waiting_scan}
+use Rattle.jpg_file.proofs.Files.ItemBytes.{segment_fault}
+use Rattle.jpg_file.proofs.Scans.ScanBytes.{none_some, few_wait, ff_bytes}
+use Rattle.std.proofs.lemmas.List.{length-replicate}
+use Rattle.jpg_file.specs.declared.read.scan.InScan.{InScan}
 use Rattle.jpg_file.proofs.Headers.InForce.{has_longer}
 use Rattle.jpg_file.proofs.ByRow.Faults.{byte_stopped, rest_stopped, run_last, run_stopped}
 use Rattle.jpg_file.proofs.ByRow.RowTurns.{byte_counts, counts_in, counts_scan, marker_same, none_unfinished}
-use Rattle.jpg_file.proofs.ByRow.StripRows.{data_goes, row_data, RowReady, file_with, half_of, inside_row}
-use Rattle.jpg_file.proofs.Scans.Scannings.{few_wait}
+use Rattle.jpg_file.proofs.ByRow.StripRows.{data_goes, row_data, RowReady, file_with, half_of}
 use Rattle.jpg_spec.specs.Markers.{Segment}
 use Rattle.jpg_file.specs.Read.FirstHeader.{IsFirstHeaderOf}
-use Rattle.jpg_file.specs.Read.Going.{FillsScan, has_waiting}
-use Rattle.jpg_file.specs.declared.read.reading.Reading.{Reading}
-use Rattle.jpg_spec.proofs.Basics.Common.{clash}
-use Rattle.jpg_file.proofs.Files.PieceSteps.{limits_are, one_more, waiting_scan}
-use Rattle.jpg_file.proofs.Scans.ScanBytes.{ff_bytes}
-use Rattle.jpg_file.proofs.ByRow.RowsGiven.{goes_completes}
+use Rattle.jpg_file.specs.Read.Going.{has_waiting}
+use Rattle.jpg_file.specs.Read.Passing.{PassesFront}
+use Rattle.jpg_file.specs.declared.read.scan_history.ScanHistory.{ScanHistory}
+
+-- a header that has a fault
+pub head_stops : (limits : Limits) (bytes : List ℕ) (w : FileWork) (f : Frame) (contents : List ℕ) (fault : Fault) → HasCompleteHeader limits bytes w → w.items.held.frame ≡ Some f → contents ≡ (reading_of w.items.segments).contents
+    → JudgesHead contents f (segments_view w.items.held) w.begun (Err fault) → IsStop limits bytes (record { fault = fault; at = w.taken })
+head_stops limits bytes w f contents fault h is same judges =
+    let s = h.at in
+    let before = segments_of h.items in
+    let framed : frame_of limits before ≡ f = ap (λ (o : Option Frame). unwrap_or o no_frame) (sym (s.holds).frame ∙ is) in
+    let rule = subst (λ c. contents_rule limits before 0xda c ≡ Some fault) same (judges limits before framed s.holds (h.beside).begun) in
+    ((h.beside).count, segment_fault limits bytes h.items h.blocks w.items s fault (subst (λ n. contents_rule limits before n (reading_of w.items.segments).contents ≡ Some fault) (sym h.code) rule))
+
+-- the file continues after the scan
+pub item_goes : (limits : Limits) (bytes : List ℕ) (w : FileWork) (whole : Picture) (rows : RowWork) → RepresentsFile limits bytes (with_picture w whole) → w.scan ≡ None → IsRowOf rows.tops whole rows.coefs → rows.waiting ≡ [] → HasBegunAll w.begun.progress
+    → unfinished rows ≡ 0 → GoesByRow limits bytes w rows
+item_goes limits bytes w whole rows k none row empty begun done = record {
+  stands = record { whole = whole; row = row; at = inr (record { between = between_of limits bytes (with_picture w whole) k (ap is_some none); none = empty; all = begun; done = done }) };
+  none = empty;
+  turned = λ scan e some. absurd (none_some w.scan scan e none);
+}
+
+-- EOI
+pub item_ends : (limits : Limits) (bytes : List ℕ) (w : FileWork) (whole : Picture) (rows : RowWork) (answer : Step) → AfterFileByte ⊥ limits bytes answer (with_picture w whole) → w.scan ≡ None → IsRowOf rows.tops whole rows.coefs → rows.waiting ≡ []
+    → HasBegunAll w.begun.progress → unfinished rows ≡ 0 → AfterRows limits bytes answer w rows
+item_ends limits bytes w whole rows step.More a none row empty begun done = item_goes limits bytes w whole rows a none row empty begun done
+item_ends limits bytes w whole rows step.Row a none row empty begun done = absurd a
+item_ends limits bytes w whole rows step.Whole a none row empty begun done = record { whole = whole; row = row; ends = a; done = done }
+item_ends limits bytes w whole rows (step.Ended (stop.Fault f)) a none row empty begun done = a
+item_ends limits bytes w whole rows (step.Ended stop.NoMemory) a none row empty begun done = tt
+
+-- A BYTE after the scan
+
+pub record IsAfter (limits : Limits) (bytes : List ℕ) (w : FileWork) (rows : RowWork) : Type 0 where
+  pub whole : Picture
+  pub row : IsRowOf rows.tops whole rows.coefs
+  pub between : IsBetweenFileItems limits bytes (with_picture w whole)
+  pub all : HasBegunAll w.begun.progress
+  pub done : unfinished rows ≡ 0
+
+pub after_of : (limits : Limits) (bytes : List ℕ) (w : FileWork) (rows : RowWork) → GoesByRow limits bytes w rows → is_some w.scan ≡ false → IsAfter limits bytes w rows
+after_of limits bytes w rows g none = by (g.stands).at
+  where
+    by : RowsInside limits bytes w rows (g.stands).whole ⊎ RowsAfter limits bytes w rows (g.stands).whole → IsAfter limits bytes w rows
+    by (inl r) = absurd (clash (is_some w.scan) (ap is_some r.inside) none)
+    by (inr b) = record { whole = (g.stands).whole; row = (g.stands).row; between = b.between; all = b.all; done = b.done }
+
+module _ (limits : Limits) (bytes : List ℕ) (w : FileWork) (rows : RowWork) (b : IsAfter limits bytes w rows) (byte : ℕ) (held : Items) (step : ItemStep)
+    (took : (let s = b.between in AfterItem limits (bytes ++ byte ∷ []) s.items s.blocks step held)) (same : (reading_of held.segments).taken ≡ w.taken + 1) (room : w.taken < limits.input) where
+  abbrev next : FileWork
+  next = record w { items = held; taken = w.taken + 1 }
+
+  -- its result, whatever the picture
+  later_step : AfterFileStep w.scan limits (bytes ++ byte ∷ []) step (with_picture next b.whole)
+  later_step = after_between limits bytes (byte ∷ []) step (with_picture w b.whole) held (w.taken + 1) b.between took same refl (omega (arith, room))
+
+  pub later_goes : (result : Step) → GoesByRow limits bytes w rows → PassesItem next step result → AfterRows limits (bytes ++ byte ∷ []) result next rows
+  later_goes result g passes = passes limits w.scan (bytes ++ byte ∷ []) b.whole rows later_step ((b.between).beside).none b.row g.none b.all b.done
+
+  -- a scan header that is complete
+  pub later_there : step ≡ item.Head → HasLaterHead next
+  later_there is =
+      let all = bytes ++ byte ∷ [] in
+      let k = subst (λ (c : ItemStep). AfterFileStep w.scan limits all c (with_picture next b.whole)) is later_step in
+      (limits, all, b.whole, k.0, b.all)
+
+-- Bytes and pieces of a file that is read MCU row by MCU row.
 
 -- Bytes inside the data of a scan that is read MCU row by MCU row.
 
@@ -49,9 +111,9 @@ no_stop limits bytes rows false came_to is f e = absurd (let z : (let s : Step =
 
 -- with more bytes
 module _ (limits : Limits) (items : List Item) (contents bytes : List ℕ) where
-  held_at : (more : List ℕ) (w : FileWork) (scan : Option InScan) (gate now : Bool) (n : ℕ) → n ≡ length more → w.reading.taken + n ≤ limits.input
+  held_at : (more : List ℕ) (w : FileWork) (scan : Option InScan) (gate now : Bool) (n : ℕ) → n ≡ length more → w.taken + n ≤ limits.input
       → waiting_bytes now ≤ waiting_bytes gate + n → ScanHeld limits items contents bytes w gate
-      → ScanHeld limits items contents (bytes ++ more) (record w { reading = record w.reading { scan = scan; taken = w.reading.taken + n } }) now
+      → ScanHeld limits items contents (bytes ++ more) (record w { scan = scan; taken = w.taken + n }) now
   held_at more w scan gate now n long room few h = record {
     head = h.head;
     count = omega (arith, h.count, length-append bytes more, long);
@@ -64,7 +126,7 @@ module _ (limits : Limits) (items : List Item) (contents bytes : List ℕ) where
   }
 
   -- the file as it is read in one go
-  pub held_inside : (w : FileWork) (s : InScan) (now : Picture) → w.reading.scan ≡ Some s → InData limits items contents bytes s now → ScanHeld limits items contents bytes w s.gate
+  pub held_inside : (w : FileWork) (s : InScan) (now : Picture) → w.scan ≡ Some s → InData limits items contents bytes s now → ScanHeld limits items contents bytes w s.gate
       → IsInsideScanOfFile limits bytes (with_picture w now)
   held_inside w s now is coded h = record {
     items = items;
@@ -76,7 +138,7 @@ module _ (limits : Limits) (items : List Item) (contents bytes : List ℕ) where
   }
 
 abbrev pub file_after : FileWork → Items → ℕ → FileWork
-file_after w held n = record w { reading = record w.reading { items = held; scan = None; taken = n } }
+file_after w held n = record w { items = held; scan = None; taken = n }
 
 -- NO BITS WAIT
 module _ (bytes : List ℕ) (w : FileWork) (scan : InScan) (rows : RowWork) (r : RowReady (limits_of w) bytes w scan rows) (none : rows.waiting ≡ []) where
@@ -106,23 +168,23 @@ module _ (bytes : List ℕ) (w : FileWork) (scan : InScan) (rows : RowWork) (r :
 
   -- and of its MCU row
   pub byte_rows : (byte : ℕ) (new : InScan) (after : RowWork) (given : Result Bool Fault) → PassesByte row_stored scan rows byte given new after
-      → CountsScan scan.work rows (completes_row rows.left after.left) new.work after
+      → CountsScan scan rows (completes_row rows.left after.left) new after
   byte_rows byte new after given passes = byte_counts scan new rows after byte given ready_row none passes
 
-  pub byte_goes : (byte : ℕ) (new : InScan) (after : RowWork) (given : Result Bool Fault) (result : Step) → w.reading.taken < limits.input
+  pub byte_goes : (byte : ℕ) (new : InScan) (after : RowWork) (given : Result Bool Fault) (result : Step) → w.taken < limits.input
       → TakesByteInto row_stored scan rows byte given new after → PassesByte row_stored scan rows byte given new after → given ≡ Ok false
       → result ≡ cond (completes_row rows.left after.left) step.Row step.More
-      → AfterRows limits (with_byte byte) result (file_with w new (w.reading.taken + 1)) after × StopsRows limits (with_byte byte) result rows
+      → AfterRows limits (with_byte byte) result (file_with w new (w.taken + 1)) after × StopsRows limits (with_byte byte) result rows
   byte_goes byte new after given result room took passes is came =
       let t = byte_taken byte given (Ok false) new after took is in
       let held = held_at limits r.items r.contents bytes (byte ∷ []) w (Some new) scan.gate new.gate 1 refl (omega (arith, room)) (omega (arith, few_wait new.gate)) r.held in
       let row = completes_row rows.left after.left in
-      let last = data_goes limits r.items r.contents (with_byte byte) (file_with w new (w.reading.taken + 1)) scan.work new t.0 rows after row refl t.2 held r.at t.1 (byte_rows byte new after given passes) r.turned in
-      (subst (λ (a : Step). AfterRows limits (with_byte byte) a (file_with w new (w.reading.taken + 1)) after) (sym came) last, no_stop limits (with_byte byte) rows row result came)
+      let last = data_goes limits r.items r.contents (with_byte byte) (file_with w new (w.taken + 1)) scan new t.0 rows after row refl t.2 held r.at t.1 (byte_rows byte new after given passes) r.turned in
+      (subst (λ (a : Step). AfterRows limits (with_byte byte) a (file_with w new (w.taken + 1)) after) (sym came) last, no_stop limits (with_byte byte) rows row result came)
 
   pub byte_stops : (byte : ℕ) (new : InScan) (after : RowWork) (given : Result Bool Fault) (fault : Fault) (result : Step) (file : FileWork)
       → TakesByteInto row_stored scan rows byte given new after → PassesByte row_stored scan rows byte given new after → given ≡ Err fault
-      → result ≡ step.Ended (stop.Fault (record { fault = fault; at = w.reading.taken + 1 }))
+      → result ≡ step.Ended (stop.Fault (record { fault = fault; at = w.taken + 1 }))
       → AfterRows limits (with_byte byte) result file after × StopsRows limits (with_byte byte) result rows
   byte_stops byte new after given fault result file took passes is came = (
     subst (λ (a : Step). AfterRows limits (with_byte byte) a file after) (sym came) (omega (arith, (r.held).count, length-append bytes (byte ∷ [])), (byte_taken byte given (Err fault) new after took is).2),
@@ -131,40 +193,37 @@ module _ (bytes : List ℕ) (w : FileWork) (scan : InScan) (rows : RowWork) (r :
 
   -- if no units are left, all MCU rows are complete
   none_left : (byte : ℕ) (new : InScan) (after : RowWork) (given : Result Bool Fault) → PassesByte row_stored scan rows byte given new after
-      → scan_left new.work ≡ 0 → unfinished after ≡ 0
+      → scan_left new ≡ 0 → unfinished after ≡ 0
   none_left byte new after given passes done =
       let f = frame_behind limits r.items in
       let ids = components_of limits r.items r.contents in
-      none_unfinished f ids after (scan_left new.work) (counts_in f ids scan.work new.work rows after (completes_row rows.left after.left) r.at (byte_rows byte new after given passes)) done
+      none_unfinished f ids after (scan_left new) (counts_in f ids scan new rows after (completes_row rows.left after.left) r.at (byte_rows byte new after given passes)) done
 
   pub byte_leaves : (byte : ℕ) (new : InScan) (after : RowWork) (given : Result Bool Fault) (held : Items) (came : ItemStep) (result : Step)
-      → w.reading.scan ≡ Some scan → w.reading.taken < limits.input → TakesByteInto row_stored scan rows byte given new after
-      → PassesByte row_stored scan rows byte given new after → given ≡ Ok true → TakesMarker w.reading.items byte came held → (reading_of held.segments).taken ≡ w.reading.taken + 1
-      → scan_left new.work ≡ 0 → PassesItem (file_after w held (w.reading.taken + 1)) came result
-      → AfterRows limits (with_byte byte) result (file_after w held (w.reading.taken + 1)) after × StopsRows limits (with_byte byte) result rows
+      → w.scan ≡ Some scan → w.taken < limits.input → TakesByteInto row_stored scan rows byte given new after
+      → PassesByte row_stored scan rows byte given new after → given ≡ Ok true → TakesMarker w.items byte came held → (reading_of held.segments).taken ≡ w.taken + 1
+      → scan_left new ≡ 0 → PassesItem (file_after w held (w.taken + 1)) came result
+      → AfterRows limits (with_byte byte) result (file_after w held (w.taken + 1)) after × StopsRows limits (with_byte byte) result rows
   unfolding held_inside
   byte_leaves byte new after given held came result inside room took by is marker taken done passes =
       let all = with_byte byte in
-      let next = file_after w held (w.reading.taken + 1) in
       let t = byte_taken byte given (Ok true) new after took is in
       let now = t.0 in
       let e = t.2 in
-      let count : w.reading.taken + 1 ≡ length all = omega (arith, (r.held).count, length-append bytes (byte ∷ [])) in
-      let came_to = after_inside limits bytes (byte ∷ []) came (with_picture w r.whole) (with_picture next now) (held_inside limits r.items r.contents bytes w scan r.whole inside ready_data r.held)
-      (inr (inl (record { coefs = now; has = refl; none = refl; framed = (e.1).framed; after = marker r.items r.contents all now (r.held).head e.1; count = count; same = taken }))) refl refl (omega (arith, count, room)) in
+      let came_to = inside_done (held_inside limits r.items r.contents bytes w scan r.whole inside ready_data r.held) (byte ∷ []) (w.taken + 1) refl (omega (arith, room)) now held came (e.1).framed (marker r.items r.contents all now (r.held).head e.1) taken in
       let none = none_left byte new after given by done in
-      (passes limits w.reading.scan all now after came_to refl t.1 e.0 (r.held).all none, λ f stopped. inl (ap unfinished (sym (marker_same scan new rows after byte given by is)) ∙ none))
+      (passes limits w.scan all now after came_to refl t.1 e.0 (r.held).all none, λ f stopped. inl (ap unfinished (sym (marker_same scan new rows after byte given by is)) ∙ none))
 
   -- a marker by itself needs no memory
   pub leaves_kind : (byte : ℕ) (new : InScan) (after : RowWork) (given : Result Bool Fault) (held : Items) (came : ItemStep)
-      → TakesByteInto row_stored scan rows byte given new after → given ≡ Ok true → TakesMarker w.reading.items byte came held → IsOfMarker came
+      → TakesByteInto row_stored scan rows byte given new after → given ≡ Ok true → TakesMarker w.items byte came held → IsOfMarker came
   leaves_kind byte new after given held came took is marker =
       let t = byte_taken byte given (Ok true) new after took is in
       (marker r.items r.contents (with_byte byte) t.0 (r.held).head t.2.1).2
 
   -- SOME BYTES one after another
 
-  module _ (run : List ℕ) (n : ℕ) (new : InScan) (after : RowWork) (given : Result (Unit {0}) Fault)
+  module _ (run : List ℕ) (n : ℕ) (new : InScan) (after : RowWork) (given : Result Bool Fault)
       (took : TakesRunInto row_stored scan rows run n given new after) (passes : PassesRun row_stored scan rows run n given new after) where
     abbrev now : Picture
     now = (took r.whole r.row somewhere).0
@@ -183,7 +242,7 @@ module _ (bytes : List ℕ) (w : FileWork) (scan : InScan) (rows : RowWork) (r :
     byte = get_or run rest.early 0
 
     abbrev mid : FileWork
-    mid = file_with w rest.mid (w.reading.taken + rest.early)
+    mid = file_with w rest.mid (w.taken + rest.early)
 
     -- at most as many as there are
     pub run_few : n ≤ length run
@@ -200,19 +259,19 @@ module _ (bytes : List ℕ) (w : FileWork) (scan : InScan) (rows : RowWork) (r :
     mid_data : InData limits r.items r.contents front rest.mid rest.between
     mid_data = rest.before limits r.items r.contents bytes ready_data
 
-    run_mid : w.reading.taken + length run ≤ limits.input → ScanHeld limits r.items r.contents front mid (rest.mid).gate
+    run_mid : w.taken + length run ≤ limits.input → ScanHeld limits r.items r.contents front mid (rest.mid).gate
     run_mid room =
         let size = length-take-le rest.early run (omega (arith, rest.within)) in
         held_at limits r.items r.contents bytes (take rest.early run) w (Some rest.mid) scan.gate (rest.mid).gate rest.early (sym size) (omega (arith, rest.within, room))
         (omega (arith, ap waiting_bytes rest.open)) r.held
 
-    run_stands : w.reading.taken + length run ≤ limits.input → RepresentsFile limits front (with_picture mid rest.between)
+    run_stands : w.taken + length run ≤ limits.input → RepresentsFile limits front (with_picture mid rest.between)
     run_stands room = inr (held_inside limits r.items r.contents front mid rest.mid rest.between refl mid_data (run_mid room))
 
     -- all of them, by the result of the last one
-    run_by : (result : Step) → w.reading.taken + length run ≤ limits.input → StopsRows limits (bytes ++ take n run) result rows
-        → AfterRows limits (front ++ byte ∷ []) result (file_with w new (w.reading.taken + n)) after
-        → RowsRun limits bytes run n result rows (file_with w new (w.reading.taken + n)) after
+    run_by : (result : Step) → w.taken + length run ≤ limits.input → StopsRows limits (bytes ++ take n run) result rows
+        → AfterRows limits (front ++ byte ∷ []) result (file_with w new (w.taken + n)) after
+        → RowsRun limits bytes run n result rows (file_with w new (w.taken + n)) after
     run_by result room stops last = record {
       mid = with_picture mid rest.between;
       early = rest.early;
@@ -226,34 +285,34 @@ module _ (bytes : List ℕ) (w : FileWork) (scan : InScan) (rows : RowWork) (r :
       stops = stops;
     }
 
-    last_taken : (answer : Result (Unit {0}) Fault) → given ≡ answer → AfterBytes limits r.items r.contents (front ++ byte ∷ []) answer after.waiting new now
-    last_taken answer is = subst (λ (a : Result (Unit {0}) Fault). AfterBytes limits r.items r.contents (front ++ byte ∷ []) a after.waiting new now) is (rest.last limits r.items r.contents front mid_data)
+    last_taken : (answer : Result Bool Fault) → given ≡ answer → AfterBytes limits r.items r.contents (front ++ byte ∷ []) answer after.waiting new now
+    last_taken answer is = subst (λ (a : Result Bool Fault). AfterBytes limits r.items r.contents (front ++ byte ∷ []) a after.waiting new now) is (rest.last limits r.items r.contents front mid_data)
 
     -- how many units are left
-    pub run_counts : CountsScan scan.work rows (completes_row rows.left after.left) new.work after
-    run_counts = let t = passes.2 in counts_scan scan.work rows t.taken new.work after t.machine t.due (ready_row.due t.due).1 t.took.2 t.work
+    pub run_counts : CountsScan scan rows (completes_row rows.left after.left) new after
+    run_counts = let t = passes.2 in counts_scan scan rows t.taken new after t.machine t.due (ready_row.due t.due).1 t.took.2 t.work
 
-    pub run_goes : (result : Step) → w.reading.taken + length run ≤ limits.input → given ≡ Ok tt
-        → result ≡ cond (completes_row rows.left after.left) step.Row step.More → RowsRun limits bytes run n result rows (file_with w new (w.reading.taken + n)) after
-    run_goes result room is came =
+    pub run_goes : {over : Bool} (result : Step) → w.taken + length run ≤ limits.input → given ≡ Ok over
+        → result ≡ cond (completes_row rows.left after.left) step.Row step.More → RowsRun limits bytes run n result rows (file_with w new (w.taken + n)) after
+    run_goes {over} result room is came =
         let row = completes_row rows.left after.left in
         let all = front ++ byte ∷ [] in
         let answer = cond row step.Row step.More in
         let held = held_at limits r.items r.contents front (byte ∷ []) mid (Some new) (rest.mid).gate new.gate 1 refl (omega (arith, room, rest.within)) (omega (arith, few_wait new.gate)) (run_mid room) in
-        let one : (w.reading.taken + rest.early) + 1 ≡ w.reading.taken + n = omega (arith, rest.count) in
-        let last : AfterRows limits all answer (file_with w new ((w.reading.taken + rest.early) + 1)) after =
-        data_goes limits r.items r.contents all (file_with w new ((w.reading.taken + rest.early) + 1)) scan.work new now rows after row refl (last_taken (Ok tt) is) held r.at of run_counts r.turned in
+        let one : (w.taken + rest.early) + 1 ≡ w.taken + n = omega (arith, rest.count) in
+        let last : AfterRows limits all answer (file_with w new ((w.taken + rest.early) + 1)) after =
+        data_goes limits r.items r.contents all (file_with w new ((w.taken + rest.early) + 1)) scan new now rows after row refl (last_taken (Ok over) is) held r.at of run_counts r.turned in
         run_by result room (no_stop limits (bytes ++ take n run) rows row result came)
-        (subst (λ (a : Step). AfterRows limits all a (file_with w new (w.reading.taken + n)) after) (sym came) (subst (λ m. AfterRows limits all answer (file_with w new m) after) one last))
+        (subst (λ (a : Step). AfterRows limits all a (file_with w new (w.taken + n)) after) (sym came) (subst (λ m. AfterRows limits all answer (file_with w new m) after) one last))
 
-    pub run_stops : (fault : Fault) (result : Step) → w.reading.taken + length run ≤ limits.input → given ≡ Err fault
-        → result ≡ step.Ended (stop.Fault (record { fault = fault; at = w.reading.taken + n })) → RowsRun limits bytes run n result rows (file_with w new (w.reading.taken + n)) after
+    pub run_stops : (fault : Fault) (result : Step) → w.taken + length run ≤ limits.input → given ≡ Err fault
+        → result ≡ step.Ended (stop.Fault (record { fault = fault; at = w.taken + n })) → RowsRun limits bytes run n result rows (file_with w new (w.taken + n)) after
     run_stops fault result room is came =
         let all = front ++ byte ∷ [] in
         let size = length-take-le rest.early run (omega (arith, rest.within)) in
-        let long : w.reading.taken + n ≡ length all = omega (arith, (r.held).count, rest.count, size, length-append front (byte ∷ []), length-append bytes (take rest.early run)) in
+        let long : w.taken + n ≡ length all = omega (arith, (r.held).count, rest.count, size, length-append front (byte ∷ []), length-append bytes (take rest.early run)) in
         let stopped = run_stopped limits r.items r.contents bytes scan new rows after r.whole r.row ((r.held).of, (r.at).at) fault run n given run_few ready_data passes is in
-        run_by result room (λ f e. inr (segments_of r.items, r.contents, stopped)) (subst (λ (a : Step). AfterRows limits all a (file_with w new (w.reading.taken + n)) after) (sym came) (long, last_taken (Err fault) is))
+        run_by result room (λ f e. inr (segments_of r.items, r.contents, stopped)) (subst (λ (a : Step). AfterRows limits all a (file_with w new (w.taken + n)) after) (sym came) (long, last_taken (Err fault) is))
 
 -- A file that is read MCU row by MCU row and has a fault: which MCU rows the bytes up to it complete.
 
@@ -263,8 +322,8 @@ before_same limits bytes before contents rows other same c = record { begins = c
 
 module _ (bytes : List ℕ) (w : FileWork) (scan : InScan) (rows : RowWork) (r : RowReady (limits_of w) bytes w scan rows) where
   -- BITS that waited
-  pub rest_at_fault : (old after : RowWork) (new : InScan) (given : Result (Unit {0}) Fault) (fault : Fault) → 1 ≤ length rows.waiting
-      → unfinished rows ≡ unfinished old → PassesRest row_stored scan rows given new after → given ≡ Err fault → RowsSoFar (limits_of w) bytes old
+  pub rest_at_fault : (old after : RowWork) (new : InScan) (given : Result Bool Fault) (fault : Fault) → 1 ≤ length rows.waiting
+      → unfinished rows ≡ unfinished old → PassesRest scan rows given new after → given ≡ Err fault → RowsSoFar (limits_of w) bytes old
   rest_at_fault old after new given fault some same passes is =
       let h = half_of (limits_of w) r.items r.contents bytes rows.waiting scan r.whole some r.coded in
       let k = rest_stopped (limits_of w) r.items r.contents bytes scan new rows after r.whole r.row ((r.held).of, (r.at).at) fault given h passes is in
@@ -307,24 +366,15 @@ module _ (limits : Limits) (front bytes : List ℕ) (new : FileWork) (after : Ro
         last = subst (λ b. AfterRows limits ((front ++ take t.early bytes) ++ b ∷ []) result new after) byte (subst (λ l. AfterRows limits ((front ++ l) ++ get_or (take size bytes) t.early 0 ∷ []) result new after) same t.last);
       }
 
-  -- a byte after some that were taken together
-  pub later_row : (n : ℕ) (mid : FileWork) (rows : RowWork) → GoesByRow limits (front ++ take n bytes) mid rows → mid.reading.taken < limits.input
-      → n < length bytes → new.head ≡ mid.head → AfterRows limits ((front ++ take n bytes) ++ get_or bytes n 0 ∷ []) result new after
-      → StopsRows limits ((front ++ take n bytes) ++ get_or bytes n 0 ∷ []) result rows → RowsRun limits front bytes (n + 1) result rows new after
-  later_row n mid rows g room less head a stops =
-      let k = goes_stands limits (front ++ take n bytes) mid rows g in
-      record { mid = with_picture mid k.0; early = n; count = refl; within = less; rows_before = goes_completes limits (front ++ take n bytes) mid rows g; before = k.1; room = room; head = sym head; last = a; stops = λ f e. subst (λ l. RowsSoFar limits l rows) (sym (one_more front bytes n less)) (stops f e) }
-
--- FILL BYTES inside the data of the scan
-rows_stay : (limits : Limits) (bytes run : List ℕ) (n : ℕ) (w : FileWork) (rows : RowWork) → (g : GoesByRow limits bytes w rows) → (r : RowsInside limits bytes w rows (g.stands).whole) → has_waiting w.reading.scan ≡ true → limits_of w ≡ limits
-    → w.reading.taken + n < (limits_of w).input → GoesByRow limits (bytes ++ replicate n 255) (record w { reading = record w.reading { taken = w.reading.taken + n } }) rows
-rows_stay limits bytes run n w rows g r waits same room =
+-- THE FIRST BYTES that cause no event: fill bytes inside the data of the scan
+rows_stay : (limits : Limits) (bytes run : List ℕ) (n : ℕ) (w : FileWork) (rows : RowWork) → (g : GoesByRow limits bytes w rows) → (r : RowsInside limits bytes w rows (g.stands).whole) → has_waiting w.scan ≡ true
+    → w.taken + n ≤ limits.input → GoesByRow limits (bytes ++ replicate n 255) (record w { taken = w.taken + n }) rows
+rows_stay limits bytes run n w rows g r waits room =
     let h = r.held in
     let z = (g.stands).whole in
-    let gate = waiting_scan w.reading.scan r.scan waits r.inside in
+    let gate = waiting_scan w.scan r.scan waits r.inside in
     let inside = subst (λ (l : List Bool). InRowData limits r.items r.contents bytes l r.scan z) g.none r.coded in
     let more : InRowData limits r.items r.contents (bytes ++ replicate n 255) [] r.scan z = ff_bytes limits r.items r.contents bytes n r.scan z inside gate in
-    let input : (limits_of w).input ≡ limits.input = ap (λ (l : Limits). l.input) same in
     record {
       stands = record {
         whole = z;
@@ -335,7 +385,7 @@ rows_stay limits bytes run n w rows g r waits same room =
           scan = r.scan;
           inside = r.inside;
           coded = subst (λ (l : List Bool). InRowData limits r.items r.contents (bytes ++ replicate n 255) l r.scan z) (sym g.none) more;
-          held = held_at limits r.items r.contents bytes (replicate n 255) w (w.reading.scan) r.scan.gate r.scan.gate n (sym (length-replicate {A = ℕ} n 255)) (omega (arith, room, input)) (omega arith) h;
+          held = held_at limits r.items r.contents bytes (replicate n 255) w (w.scan) r.scan.gate r.scan.gate n (sym (length-replicate {A = ℕ} n 255)) room (omega arith) h;
           at = r.at;
         });
       };
@@ -343,23 +393,44 @@ rows_stay limits bytes run n w rows g r waits same room =
       turned = g.turned;
     }
 
-pub rows_filled : (limits : Limits) (bytes run : List ℕ) (n : ℕ) (w : FileWork) (q : Reading) (rows : RowWork) → GoesByRow limits bytes w rows → is_some w.reading.scan ≡ true → limits_of w ≡ limits → FillsScan w.reading run n q
-    → GoesByRow limits (bytes ++ take n run) (record w { reading = q }) rows
-rows_filled limits bytes run zero w q rows g some same p =
-    let is : q ≡ w.reading = p.is ∙ ap (λ (t : ℕ). record w.reading { taken = t }) (omega arith) in
-    subst (λ (o : Reading). GoesByRow limits (bytes ++ []) (record w { reading = o }) rows) (sym is) (subst (λ (l : List ℕ). GoesByRow limits l w rows) (sym (append-nil bytes)) g)
-rows_filled limits bytes run (suc m) w q rows g some same p =
+rows_filled : (limits : Limits) (bytes run : List ℕ) (n : ℕ) (w : FileWork) (rows : RowWork) → (g : GoesByRow limits bytes w rows) → RowsInside limits bytes w rows (g.stands).whole → take n run ≡ replicate n 255 → ((n ≡ 0 → ⊥) → has_waiting w.scan ≡ true) → w.taken + n ≤ limits.input
+    → GoesByRow limits (bytes ++ take n run) (record w { taken = w.taken + n }) rows
+rows_filled limits bytes run zero w rows g r fill waits room =
+    let same : w.taken ≡ w.taken + 0 = omega arith in
+    subst (λ (t : ℕ). GoesByRow limits (bytes ++ []) (record w { taken = t }) rows) same (subst (λ (l : List ℕ). GoesByRow limits l w rows) (sym (append-nil bytes)) g)
+rows_filled limits bytes run (suc m) w rows g r fill waits room =
     let n = suc m in
-    let waits = p.waits (λ e. omega (arith, e)) in
-    subst (λ (o : Reading). GoesByRow limits (bytes ++ take n run) (record w { reading = o }) rows) (sym p.is)
-    (subst (λ (l : List ℕ). GoesByRow limits (bytes ++ l) (record w { reading = record w.reading { taken = w.reading.taken + n } }) rows) (sym p.fill) (rows_stay limits bytes run n w rows g (inside_row limits bytes w rows g.stands some) waits same p.room))
+    subst (λ (l : List ℕ). GoesByRow limits (bytes ++ l) (record w { taken = w.taken + n }) rows) (sym fill) (rows_stay limits bytes run n w rows g r (waits (λ e. omega (arith, e))) room)
 
--- what they don't change
-pub filled_limits : (r : Reading) (run : List ℕ) (n : ℕ) (q : Reading) → FillsScan r run n q → q.items.limits ≡ r.items.limits
-filled_limits r run n q p = ap (λ (o : Reading). o.items.limits) p.is
+-- and what is between items after it
+pub rows_passed : (limits : Limits) (bytes run : List ℕ) (n : ℕ) (w mid : FileWork) (rows : RowWork) → GoesByRow limits bytes w rows → limits_of w ≡ limits → PassesFront w run n mid → GoesByRow limits (bytes ++ take n run) mid rows
+rows_passed limits bytes run n w mid rows g same p = by (g.stands).at
+  where
+    whole : Picture
+    whole = (g.stands).whole
 
-pub filled_scan : (r : Reading) (run : List ℕ) (n : ℕ) (q : Reading) → FillsScan r run n q → is_some r.scan ≡ true → is_some q.scan ≡ true
-filled_scan r run n q p some = ap (λ (o : Reading). is_some o.scan) p.is ∙ some
+    kept : mid.scan ≡ w.scan
+    kept = ap (λ (x : FileWork). x.scan) p.is
+
+    room : w.taken + n ≤ limits.input
+    room = (let taken : mid.taken ≡ w.taken + n = ap (λ (x : FileWork). x.taken) p.is in let input = ap (λ (l : Limits). l.input) same in let few = p.room in omega (arith, few, taken, input))
+
+    by : RowsInside limits bytes w rows (g.stands).whole ⊎ RowsAfter limits bytes w rows (g.stands).whole → GoesByRow limits (bytes ++ take n run) mid rows
+    by (inl r) =
+        let f = p.fills (ap is_some r.inside) in
+        subst (λ (x : FileWork). GoesByRow limits (bytes ++ take n run) x rows) (sym f.is) (rows_filled limits bytes run n w rows g r f.fill f.waits room)
+    by (inr b) =
+        let none = ((b.between).beside).none in
+        item_goes limits (bytes ++ take n run) mid whole rows (p.stands (Some whole) limits bytes (inl b.between)) (kept ∙ none) (g.stands).row g.none (subst (λ (h : ScanHistory). HasBegunAll h.progress) (sym (ap (λ (x : FileWork). x.begun) p.is)) b.all) b.done
+
+-- or without a current MCU row
+pub strip_read : (limits : Limits) (bytes : List ℕ) (rows : Option RowWork) (w : FileWork) → StripGoes limits bytes rows w → (q : Option Picture) × RepresentsFile limits bytes (record w { coefs = q })
+strip_read l bytes None w g = (w.coefs, g)
+strip_read l bytes (Some rows) w g = (Some (g.stands).whole, goes_with l bytes w rows g)
+
+pub strip_passed : (limits : Limits) (bytes run : List ℕ) (n : ℕ) (rows : Option RowWork) (w mid : FileWork) → StripGoes limits bytes rows w → limits_of w ≡ limits → PassesFront w run n mid → StripGoes limits (bytes ++ take n run) rows mid
+strip_passed l bytes run n None w next g same p = front_stands p l bytes g
+strip_passed l bytes run n (Some rows) w next g same p = rows_passed l bytes run n w next rows g same p
 
 -- WHAT A STATE ENCODES, with a current MCU row or none
 
@@ -369,13 +440,14 @@ pub record ReadWhole (limits : Limits) (bytes : List ℕ) (w : FileWork) : Type 
   pub stands : RepresentsFile limits bytes file
   pub head : file.head ≡ w.head
   pub limits_same : limits_of file ≡ limits_of w
-  pub taken : file.reading.taken ≡ w.reading.taken
+  pub taken : file.taken ≡ w.taken
+  pub scan : file.scan ≡ w.scan
 
 pub strip_whole : (limits : Limits) (bytes : List ℕ) (rows : Option RowWork) (w : FileWork) → StripGoes limits bytes rows w → ReadWhole limits bytes w
-strip_whole l bytes None w g = record { file = w; stands = g; head = refl; limits_same = refl; taken = refl }
+strip_whole l bytes None w g = record { file = w; stands = g; head = refl; limits_same = refl; taken = refl; scan = refl }
 strip_whole l bytes (Some rows) w g =
     let k = goes_stands l bytes w rows g in
-    record { file = with_picture w k.0; stands = k.1; head = refl; limits_same = refl; taken = refl }
+    record { file = with_picture w k.0; stands = k.1; head = refl; limits_same = refl; taken = refl; scan = refl }
 
 pub strip_limits : (limits : Limits) (bytes : List ℕ) (rows : Option RowWork) (w : FileWork) → StripGoes limits bytes rows w → limits_of w ≡ limits
 strip_limits limits bytes rows w g = let k = strip_whole limits bytes rows w g in sym k.limits_same ∙ limits_are limits bytes k.file k.stands

@@ -1,7 +1,6 @@
 -- The current MCU row of a scan of all components: its place, data that go on, bits that wait, and what is after it.
-use Rattle.std.proofs.Common.{◌≡◌, ℕ, ◌+◌, ◌-◌, ◌*◌, ◌<◌, ◌≤◌, Bool, false, List, ◌∷◌, ◌++◌, length, drop, take, sym, ap, ◌∙◌, subst, arith, [], true, cond, refl, ⊎_elim, Some, inl, inr, ◌⊎◌, Ok, Err, append_assoc, length-append, Result, is_some}
+use Rattle.std.proofs.Common.{◌≡◌, ℕ, ◌+◌, ◌-◌, ◌*◌, ◌<◌, ◌≤◌, Bool, false, List, ◌∷◌, ◌++◌, length, drop, take, sym, ap, ◌∙◌, subst, arith, [], true, cond, refl, ⊎_elim, Some, inl, inr, ◌⊎◌, Ok, Err, append_assoc, length-append, Result, is_some, add-mul}
 use Rattle.std.proofs.Math.Seq.{drop-append_seam}
-use Rattle.std.proofs.Math.Nat.{add-mul}
 use Rattle.jpg_spec.specs.Geometry.{Frame, mcu_row_frame, units, is_progressive}
 use Rattle.jpg_spec.specs.Lists.{joined, any_of}
 use Rattle.jpg_spec.specs.ScanReading.{ScanPlace, scan_at, with_byte}
@@ -12,18 +11,14 @@ use Rattle.jpg_base.proofs.UnitCounts.{length_units}
 use Rattle.jpg_base.specs.Cursor.{scan_mcus_down}
 use Rattle.jpg_coefs.specs.Picture.{Picture, map_of}
 use Rattle.jpg_coefs.specs.Machine.{Interval}
-use Rattle.jpg_seq.specs.Reader.{RepresentsSeqScan}
-use Rattle.jpg_seq.specs.Rows.{AreInRow, row_units, IsInRow, IsRowOf}
+use Rattle.jpg_seq.specs.Reader.{RepresentsSeqScan, AreInRow, row_units, IsInRow, IsRowOf}
 use Rattle.jpg_seq.specs.declared.reader.SeqReader.{SeqReader}
-use Rattle.jpg_seq.proofs.ScanRows.{row_inside, row_next}
-use Rattle.jpg_file.specs.Read.InData.{AtWork, InData, IsInterval}
-use Rattle.jpg_file.specs.Read.Machine.{any_scan, ac_band, dc_first, dc_later, scan_kind, whole_blocks}
-use Rattle.jpg_file.specs.Read.RowMachine.{IsInsideMcuRow}
-use Rattle.jpg_file.specs.Read.RowPlaces.{IsRowAt, scan_left}
+use Rattle.jpg_seq.proofs.Machines.{row_inside, row_next}
+use Rattle.jpg_file.specs.Read.InData.{AtWork, InData, IsInterval, IsRowAt, scan_left, HalfData, InRowData, IsHalfRow, IsInsideRow, IsDataOf, AfterBytes, TakesRestInRow, CountsScan, IsRowIn, IsBlankAfter, KeepsRowIn, TurnsRow, completes_row, unfinished}
+use Rattle.jpg_file.specs.Read.Machine.{any_scan, ac_band, dc_first, dc_later, scan_kind, whole_blocks, IsInsideMcuRow}
 use Rattle.jpg_file.specs.declared.read.machine.ScanReader.{ScanReader}
 use Rattle.jpg_file.specs.declared.read.machine.ScanReader.TheVariants.{Sequential, DcFirst, DcRefine, Ac}
 use Rattle.jpg_file.specs.declared.read.rows.RowWork.{RowWork}
-use Rattle.jpg_file.specs.declared.read.scan.ScanWork.{ScanWork}
 use Rattle.jpg_spec.proofs.Places.PictureInWork.{joined_join, any_join}
 use Rattle.jpg_file.proofs.Scans.ScanBytes.{InInterval, left_in, of_work, of_half, read_at}
 use Rattle.std.proofs.lemmas.Bool.{cases_lt}
@@ -32,10 +27,7 @@ use Rattle.jpg_spec.specs.Items.{Item, segments_of}
 use Rattle.jpg_spec.specs.FileMeaning.{scan_after, Leads}
 use Rattle.jpg_spec.specs.Scan.{Scan, Blocks}
 use Rattle.jpg_spec.proofs.Basics.Common.{some_once, neither, clash}
-use Rattle.jpg_file.specs.Read.RowData.{HalfData, InRowData, IsHalfRow, IsInsideRow, IsDataOf, AfterBytes, PassesRest, TakesRestInRow}
-use Rattle.jpg_file.specs.Read.RowStored.{row_stored}
-use Rattle.jpg_file.specs.Read.RowTurns.{CountsScan, IsRowIn, IsBlankAfter, KeepsRowIn, TurnsRow, completes_row, unfinished}
-use Rattle.jpg_file.specs.Read.Strips.{AfterRows, IsFirstScan, RowsInside, ScanHeld, components_of, frame_behind, GoesByRow, RowsAfter, RepresentsRows}
+use Rattle.jpg_file.specs.Read.Strips.{PassesRest, row_stored, AfterRows, IsFirstScan, RowsInside, ScanHeld, components_of, frame_behind, GoesByRow, RowsAfter, RepresentsRows}
 use Rattle.jpg_file.specs.declared.read.file.FileWork.{FileWork}
 use Rattle.jpg_file.specs.declared.read.scan.InScan.{InScan}
 use Rattle.jpg_file.specs.declared.read.step.Step.TheVariants as step
@@ -45,8 +37,7 @@ use Rattle.jpg_spec.specs.Markers.{has_scan}
 use Rattle.jpg_spec.specs.PictureInWork.{ScanSoFar, is_at}
 use Rattle.jpg_spec.proofs.McuRows.RowsLater.{blank}
 use Rattle.jpg_spec.specs.declared.fault.Fault.{Fault}
-use Rattle.jpg_file.specs.Read.File.{IsStop}
-use Rattle.jpg_file.specs.Read.Reading.{waiting_bytes}
+use Rattle.jpg_file.specs.Read.File.{IsStop, waiting_bytes}
 use Rattle.jpg_file.specs.declared.read.step.Step.{Step}
 
 -- The place of the machine of a scan that is read row by row: the places that are left, by their number.
@@ -66,7 +57,7 @@ seq_left m i bits now o = (
 )
 
 -- the places of the scan that are left are its last ones
-pub cursor_in : (limits : Limits) (p : ScanPlace) (w : ScanWork) (m : SeqReader) (now : Picture) (rest : List Bool) → InInterval limits p w now rest
+pub cursor_in : (limits : Limits) (p : ScanPlace) (w : InScan) (m : SeqReader) (now : Picture) (rest : List Bool) → InInterval limits p w now rest
     → w.machine ≡ Sequential m → m.cursor ≡ drop (length (scan_at limits p).places - scan_left w) (scan_at limits p).places
 cursor_in limits p w m now rest d is =
     let s = scan_at limits p in
@@ -104,7 +95,7 @@ module _ (limits : Limits) (p : ScanPlace) (f : Frame) (ids : List ℕ) (places 
       let inside = row_next (IsInRow (mcu_row_frame f) rows.tops) f ids m.cursor at.row rows.left next low few (row_inside f ids rows.tops at.row at.frame at.there at.all at.begins) in
       record { machine = m; is = is; inside = subst (λ (g : Frame). AreInRow g rows.tops (take rows.left m.cursor)) (sym framed) inside }
 
-  pub row_is_next : (w : ScanWork) (m : SeqReader) (now : Picture) → w.machine ≡ Sequential m → w.whole ≡ false → AtWork limits p w now
+  pub row_is_next : (w : InScan) (m : SeqReader) (now : Picture) → w.machine ≡ Sequential m → w.whole ≡ false → AtWork limits p w now
       → IsRowAt f ids rows (scan_left w) → IsInsideMcuRow rows.tops row rows.left w.machine
   row_is_next w m now is whole k at = row_by w.machine m (scan_left w) is (cursor_in limits p w m now [] (of_work limits p w now whole k) is) at
 
@@ -124,7 +115,7 @@ kind_at limits items contents e =
     kind_of_coding f (huffman_in_force (segments_of items)) head (scan_after limits (segments_of items) contents) refl refl ∙ ap (λ b. head_kind b head) e
 
 -- if units of such a scan are left
-pub record RowDue (limits : Limits) (items : List Item) (contents : List ℕ) (w : ScanWork) (whole : Picture) : Type 0 where
+pub record RowDue (limits : Limits) (items : List Item) (contents : List ℕ) (w : InScan) (whole : Picture) : Type 0 where
   pub place : ScanPlace
   pub of : (place.items ≡ items) × (place.contents ≡ contents)
   pub machine : SeqReader
@@ -136,7 +127,7 @@ pub record RowDue (limits : Limits) (items : List Item) (contents : List ℕ) (w
 pub scan_of_place : (limits : Limits) (items : List Item) (contents : List ℕ) (p : ScanPlace) → p.items ≡ items → p.contents ≡ contents → scan_at limits p ≡ scan_after limits (segments_of items) contents
 scan_of_place limits items contents p a b = ap (λ (l : List Item). scan_after limits (segments_of l) p.contents) a ∙ ap (λ c. scan_after limits (segments_of items) c) b
 
-module _ (limits : Limits) (items : List Item) (contents : List ℕ) (p : ScanPlace) (w : ScanWork) (whole : Picture) where
+module _ (limits : Limits) (items : List Item) (contents : List ℕ) (p : ScanPlace) (w : InScan) (whole : Picture) where
   pub interval_due : (rest : List Bool) → InInterval limits p w whole rest → (p.items ≡ items) × (p.contents ≡ contents) → IsFirstScan limits items
       → RowDue limits items contents w whole
   interval_due rest d of first =
@@ -154,17 +145,17 @@ module _ (limits : Limits) (items : List Item) (contents : List ℕ) (p : ScanPl
       }
 
 module _ (limits : Limits) (items : List Item) (contents bytes : List ℕ) where
-  pub data_due : (s : InScan) (whole : Picture) → InData limits items contents bytes s whole → s.work.whole ≡ false → IsFirstScan limits items
-      → RowDue limits items contents s.work whole
-  data_due s whole d e first = interval_due limits items contents d.place s.work whole [] (of_work limits d.place s.work whole e d.work) d.of first
+  pub data_due : (s : InScan) (whole : Picture) → InData limits items contents bytes s whole → s.whole ≡ false → IsFirstScan limits items
+      → RowDue limits items contents s whole
+  data_due s whole d e first = interval_due limits items contents d.place s whole [] (of_work limits d.place s whole e d.work) d.of first
 
   pub half_due : (waiting : List Bool) (s : InScan) (whole : Picture) → HalfData limits items contents bytes waiting s whole → IsFirstScan limits items
-      → RowDue limits items contents s.work whole
+      → RowDue limits items contents s whole
   half_due waiting s whole h first =
-      interval_due limits items contents (with_byte h.place h.byte) s.work whole waiting (of_half limits items contents bytes waiting s whole h) h.of first
+      interval_due limits items contents (with_byte h.place h.byte) s whole waiting (of_half limits items contents bytes waiting s whole h) h.of first
 
 -- the next ones are in the row
-pub due_inside : (limits : Limits) (items : List Item) (contents : List ℕ) (w : ScanWork) (whole : Picture) (rows : RowWork) → RowDue limits items contents w whole → IsRowIn (frame_behind limits items) (components_of limits items contents) rows (scan_left w)
+pub due_inside : (limits : Limits) (items : List Item) (contents : List ℕ) (w : InScan) (whole : Picture) (rows : RowWork) → RowDue limits items contents w whole → IsRowIn (frame_behind limits items) (components_of limits items contents) rows (scan_left w)
     → IsRowOf rows.tops whole rows.coefs → IsInsideRow rows w.machine
 due_inside limits items contents w whole rows d at row =
     let places = ap (λ (s : Scan). s.places) (scan_of_place limits items contents d.place (d.of).0 (d.of).1) in
@@ -178,46 +169,45 @@ no_bits (bit ∷ bits) f = (let z : false ≡ true = f (omega arith) in absurd c
 
 module _ (limits : Limits) (items : List Item) (contents bytes : List ℕ) where
   pub row_data : (s : InScan) (whole : Picture) (rows : RowWork) → InData limits items contents bytes s whole → IsFirstScan limits items
-      → IsRowIn (frame_behind limits items) (components_of limits items contents) rows (scan_left s.work) → IsRowOf rows.tops whole rows.coefs
-      → (1 ≤ scan_left s.work → 1 ≤ rows.left) → IsDataOf RowWork row_stored s rows
+      → IsRowIn (frame_behind limits items) (components_of limits items contents) rows (scan_left s) → IsRowOf rows.tops whole rows.coefs
+      → (1 ≤ scan_left s → 1 ≤ rows.left) → IsDataOf RowWork row_stored s rows
   row_data s whole rows d first at row turned = record {
     whole = whole;
     shows = row;
     inside = (limits, items, contents, bytes, d);
-    due = λ e. (let k = data_due limits items contents bytes s whole d e first in (due_inside limits items contents s.work whole rows k at row, turned k.some));
+    due = λ e. (let k = data_due limits items contents bytes s whole d e first in (due_inside limits items contents s whole rows k at row, turned k.some));
   }
 
   pub half_row : (s : InScan) (whole : Picture) (rows : RowWork) → HalfData limits items contents bytes rows.waiting s whole → IsFirstScan limits items
-      → IsRowIn (frame_behind limits items) (components_of limits items contents) rows (scan_left s.work) → IsRowOf rows.tops whole rows.coefs
-      → (1 ≤ scan_left s.work → 1 ≤ rows.left) → IsHalfRow s rows
+      → IsRowIn (frame_behind limits items) (components_of limits items contents) rows (scan_left s) → IsRowOf rows.tops whole rows.coefs
+      → (1 ≤ scan_left s → 1 ≤ rows.left) → IsHalfRow s rows
   half_row s whole rows h first at row turned =
       let k = half_due limits items contents bytes rows.waiting s whole h first in
       record {
         whole = whole;
         row = row;
         half = (limits, items, contents, bytes, h);
-        due = (due_inside limits items contents s.work whole rows k at row, turned k.some);
+        due = (due_inside limits items contents s whole rows k at row, turned k.some);
       }
 
   -- THE RESULT OF DATA without a fault
 
-  pub data_goes : (new : FileWork) (old : ScanWork) (s : InScan) (now : Picture) (rows after : RowWork) (row : Bool) → new.reading.scan ≡ Some s
+  pub data_goes : (new : FileWork) (old : InScan) (s : InScan) (now : Picture) (rows after : RowWork) (row : Bool) → new.scan ≡ Some s
       → InRowData limits items contents bytes after.waiting s now → ScanHeld limits items contents bytes new s.gate
       → IsRowIn (frame_behind limits items) (components_of limits items contents) rows (scan_left old) → IsRowOf after.tops now after.coefs
-      → CountsScan old rows row s.work after → (1 ≤ scan_left old → 1 ≤ rows.left) → AfterRows limits bytes (cond row step.Row step.More) new after
+      → CountsScan old rows row s after → (1 ≤ scan_left old → 1 ≤ rows.left) → AfterRows limits bytes (cond row step.Row step.More) new after
   data_goes new old s now rows after row inside coded held at of c turned = by row c
     where
-      within : (row : Bool) → CountsScan old rows row s.work after → RowsInside limits bytes new after now
-      within row c = record { items = items; contents = contents; scan = s; inside = inside; coded = coded; held = held; at = counts_in (frame_behind limits items) (components_of limits items contents) old s.work rows after row at c }
+      within : (row : Bool) → CountsScan old rows row s after → RowsInside limits bytes new after now
+      within row c = record { items = items; contents = contents; scan = s; inside = inside; coded = coded; held = held; at = counts_in (frame_behind limits items) (components_of limits items contents) old s rows after row at c }
 
-      by : (row : Bool) → CountsScan old rows row s.work after → AfterRows limits bytes (cond row step.Row step.More) new after
+      by : (row : Bool) → CountsScan old rows row s after → AfterRows limits bytes (cond row step.Row step.More) new after
       by true c = record { whole = now; row = of; inside = within true c; left = (c.whole refl).1 }
       by false c = record {
         stands = record { whole = now; row = of; at = inl (within false c) };
         none = no_bits after.waiting c.wait;
-        turned = λ scan e some.
-            (let is : scan ≡ s = some_once scan s (sym e ∙ inside) in
-            let left : 1 ≤ scan_left s.work = subst (λ (q : InScan). 1 ≤ scan_left q.work) is some in
+        turned = λ scan e some. (let is : scan ≡ s = some_once _ _ (sym e ∙ inside) in
+            let left : 1 ≤ scan_left s = subst (λ (q : InScan). 1 ≤ scan_left q) is some in
             ⊎_elim
             (λ (h : 0 < after.left). omega (arith, h))
             (λ (h : after.left ≤ 0). (let z = c.goes refl (omega (arith, h)) in let more = turned (omega (arith, left, c.scan)) in absurd (omega (arith, z, more))))
@@ -254,12 +244,12 @@ stands_remain limits p i m bits now is so_far stands =
           u.read.changes.elsewhere i x y n.1 ∙ so_far.changes.elsewhere i x y n.0);
     }
 
-interval_remains : (limits : Limits) (p : ScanPlace) (w : ScanWork) (now : Picture) (rest : List Bool) → InInterval limits p w now rest → Remains limits p (scan_left w) now
+interval_remains : (limits : Limits) (p : ScanPlace) (w : InScan) (now : Picture) (rest : List Bool) → InInterval limits p w now rest → Remains limits p (scan_left w) now
 interval_remains limits p w now rest d =
     let n : any_scan.left w.machine + length (joined p.later) ≡ scan_left w = omega (arith, left_in limits p w now rest d) in
     subst (λ l. Remains limits p l now) n (stands_remain limits p d.interval w.machine d.taken now d.is d.so_far d.stands)
 
-work_remains : (limits : Limits) (p : ScanPlace) (w : ScanWork) (now : Picture) → AtWork limits p w now → Remains limits p (scan_left w) now
+work_remains : (limits : Limits) (p : ScanPlace) (w : InScan) (now : Picture) → AtWork limits p w now → Remains limits p (scan_left w) now
 work_remains limits p w now k = by w.whole refl
   where
     by : (b : Bool) → w.whole ≡ b → Remains limits p (scan_left w) now
@@ -291,21 +281,21 @@ module _ (limits : Limits) (items : List Item) (contents bytes : List ℕ) where
   -- the picture is the file's
   pub rest_framed : (waiting : List Bool) (s : InScan) (whole : Picture) → InRowData limits items contents bytes waiting s whole → IsFirstScan limits items
       → whole.frame ≡ frame_behind limits items
-  rest_framed [] s whole d first = by s.work.whole refl
+  rest_framed [] s whole d first = by s.whole refl
     where
-      by : (b : Bool) → s.work.whole ≡ b → whole.frame ≡ frame_behind limits items
+      by : (b : Bool) → s.whole ≡ b → whole.frame ≡ frame_behind limits items
       by false e = (data_due limits items contents bytes s whole d e first).framed
-      by true e = (read_at limits d.place s.work whole e d.work).framed ∙ ap (λ (l : List Item). frame_behind limits l) (d.of).0
+      by true e = (read_at limits d.place s whole e d.work).framed ∙ ap (λ (l : List Item). frame_behind limits l) (d.of).0
   rest_framed (bit ∷ bits) s whole h first = (half_due limits items contents bytes (bit ∷ bits) s whole h first).framed
 
   pub rest_blank : (waiting : List Bool) (s : InScan) (w : RowWork) (whole : Picture) → InRowData limits items contents bytes waiting s whole
-      → IsFirstScan limits items → IsRowIn (frame_behind limits items) (components_of limits items contents) w (scan_left s.work) → IsBlankAfter w whole
+      → IsFirstScan limits items → IsRowIn (frame_behind limits items) (components_of limits items contents) w (scan_left s) → IsBlankAfter w whole
   rest_blank [] s w whole d first k =
-      remains_blank limits items contents d.place (scan_left s.work) w whole (d.at).leads d.of first.first (rest_framed [] s whole d first) (work_remains limits d.place s.work whole d.work) k
+      remains_blank limits items contents d.place (scan_left s) w whole (d.at).leads d.of first.first (rest_framed [] s whole d first) (work_remains limits d.place s whole d.work) k
   rest_blank (bit ∷ bits) s w whole h first k =
       let p = with_byte h.place h.byte in
-      remains_blank limits items contents p (scan_left s.work) w whole (h.at).leads h.of first.first (rest_framed (bit ∷ bits) s whole h first)
-      (interval_remains limits p s.work whole (bit ∷ bits) (of_half limits items contents bytes (bit ∷ bits) s whole h)) k
+      remains_blank limits items contents p (scan_left s) w whole (h.at).leads h.of first.first (rest_framed (bit ∷ bits) s whole h first)
+      (interval_remains limits p s whole (bit ∷ bits) (of_half limits items contents bytes (bit ∷ bits) s whole h)) k
 
 -- From one MCU row of a file to the next, and bits that waited.
 
@@ -316,27 +306,27 @@ pub record RowReady (limits : Limits) (bytes : List ℕ) (w : FileWork) (scan : 
   pub whole : Picture
   pub coded : InRowData limits items contents bytes rows.waiting scan whole
   pub held : ScanHeld limits items contents bytes w scan.gate
-  pub at : IsRowIn (frame_behind limits items) (components_of limits items contents) rows (scan_left scan.work)
+  pub at : IsRowIn (frame_behind limits items) (components_of limits items contents) rows (scan_left scan)
   pub row : IsRowOf rows.tops whole rows.coefs
-  pub turned : 1 ≤ scan_left scan.work → 1 ≤ rows.left
+  pub turned : 1 ≤ scan_left scan → 1 ≤ rows.left
 
 -- the scan is being read
-pub inside_row : (limits : Limits) (bytes : List ℕ) (w : FileWork) (rows : RowWork) → (k : RepresentsRows limits bytes w rows) → is_some w.reading.scan ≡ true
+pub inside_row : (limits : Limits) (bytes : List ℕ) (w : FileWork) (rows : RowWork) → (k : RepresentsRows limits bytes w rows) → is_some w.scan ≡ true
     → RowsInside limits bytes w rows k.whole
 inside_row limits bytes w rows k some = by k.at
   where
     by : RowsInside limits bytes w rows k.whole ⊎ RowsAfter limits bytes w rows k.whole → RowsInside limits bytes w rows k.whole
     by (inl r) = r
-    by (inr b) = absurd (clash (is_some w.reading.scan) some (ap is_some ((b.between).beside).none))
+    by (inr b) = absurd (clash (is_some w.scan) some (ap is_some ((b.between).beside).none))
 
-module _ (limits : Limits) (bytes : List ℕ) (w : FileWork) (scan : InScan) (is : w.reading.scan ≡ Some scan) where
+module _ (limits : Limits) (bytes : List ℕ) (w : FileWork) (scan : InScan) (is : w.scan ≡ Some scan) where
   -- the next row is begun
   pub next_ready : (old new : RowWork) → RepresentsRows limits bytes w old → KeepsRowIn old new → TurnsRow old new → new.waiting ≡ old.waiting
       → RowReady limits bytes w scan new
   next_ready old new k keeps turns same =
       let r = inside_row limits bytes w old k (ap is_some is) in
       let one : r.scan ≡ scan = some_once r.scan scan (sym r.inside ∙ is) in
-      let at = keeps (frame_behind limits r.items) (components_of limits r.items r.contents) (scan_left r.scan.work) r.at in
+      let at = keeps (frame_behind limits r.items) (components_of limits r.items r.contents) (scan_left r.scan) r.at in
       let row = turns k.whole k.row (rest_blank limits r.items r.contents bytes old.waiting r.scan old k.whole r.coded (r.held).of r.at) in
       subst (λ (s : InScan). RowReady limits bytes w s new) one
       (record {
@@ -354,7 +344,7 @@ module _ (limits : Limits) (bytes : List ℕ) (w : FileWork) (scan : InScan) (is
   pub next_counts : (old new : RowWork) → RepresentsRows limits bytes w old → KeepsRowIn old new → unfinished new ≡ unfinished old
   next_counts old new k keeps =
       let r = inside_row limits bytes w old k (ap is_some is) in
-      (keeps (frame_behind limits r.items) (components_of limits r.items r.contents) (scan_left r.scan.work) r.at).2
+      (keeps (frame_behind limits r.items) (components_of limits r.items r.contents) (scan_left r.scan) r.at).2
 
   -- the one that continues
   pub row_ready : (rows : RowWork) → GoesByRow limits bytes w rows → RowReady limits bytes w scan rows
@@ -371,9 +361,9 @@ nothing (bit ∷ bits) e = absurd (omega (arith, e))
 
 -- THE FILE with a scan, and n bytes taken
 abbrev pub file_with : FileWork → InScan → ℕ → FileWork
-file_with w s n = record w { reading = record w.reading { scan = Some s; taken = n } }
+file_with w s n = record w { scan = Some s; taken = n }
 
-pub held_rest : (limits : Limits) (items : List Item) (contents bytes : List ℕ) (w : FileWork) (s : InScan) (gate now : Bool) → now ≡ gate → ScanHeld limits items contents bytes w gate → ScanHeld limits items contents bytes (file_with w s w.reading.taken) now
+pub held_rest : (limits : Limits) (items : List Item) (contents bytes : List ℕ) (w : FileWork) (s : InScan) (gate now : Bool) → now ≡ gate → ScanHeld limits items contents bytes w gate → ScanHeld limits items contents bytes (file_with w s w.taken) now
 held_rest limits items contents bytes w s gate now e h = record {
   head = h.head;
   count = h.count;
@@ -390,7 +380,7 @@ half_of limits items contents bytes [] s whole some d = absurd (omega (arith, so
 half_of limits items contents bytes (bit ∷ bits) s whole some h = h
 
 pub ready_goes : (limits : Limits) (bytes : List ℕ) (w : FileWork) (scan : InScan) (rows : RowWork) → RowReady limits bytes w scan rows → rows.waiting ≡ []
-    → GoesByRow limits bytes (file_with w scan w.reading.taken) rows
+    → GoesByRow limits bytes (file_with w scan w.taken) rows
 ready_goes limits bytes w scan rows r none = record {
   stands = record {
     whole = r.whole;
@@ -398,7 +388,7 @@ ready_goes limits bytes w scan rows r none = record {
     at = inl (record { items = r.items; contents = r.contents; scan = scan; inside = refl; coded = r.coded; held = held_rest limits r.items r.contents bytes w scan scan.gate scan.gate refl r.held; at = r.at });
   };
   none = none;
-  turned = λ s e some. r.turned (subst (λ (q : InScan). 1 ≤ scan_left q.work) (sym (some_once scan s e)) some);
+  turned = λ s e some. r.turned (subst (λ (q : InScan). 1 ≤ scan_left q) (sym (some_once scan s e)) some);
 }
 
 -- THE BITS that waited
@@ -413,21 +403,21 @@ module _ (limits : Limits) (bytes : List ℕ) (w : FileWork) (scan : InScan) (ro
   ready_half = half_row limits r.items r.contents bytes scan r.whole rows half (r.held).of r.at r.row r.turned
 
   -- their result
-  pub rest_counts : (new : InScan) (after : RowWork) (given : Result (Unit {0}) Fault) → PassesRest row_stored scan rows given new after
-      → CountsScan scan.work rows (completes_row rows.left after.left) new.work after
-  rest_counts new after given t = counts_scan scan.work rows t.taken new.work after t.machine t.due ready_half.due.1 t.took.1 t.work
+  pub rest_counts : (new : InScan) (after : RowWork) (given : Result Bool Fault) → PassesRest scan rows given new after
+      → CountsScan scan rows (completes_row rows.left after.left) new after
+  rest_counts new after given t = counts_scan scan rows t.taken new after t.machine t.due ready_half.due.1 t.took.1 t.work
 
-  pub rest_goes : (new : InScan) (after : RowWork) (given : Result (Unit {0}) Fault) (result : Step) → TakesRestInRow scan rows given new after
-      → given ≡ Ok tt → PassesRest row_stored scan rows given new after → new.gate ≡ scan.gate → result ≡ cond (completes_row rows.left after.left) step.Row step.More
-      → AfterRows limits bytes result (file_with w new w.reading.taken) after
+  pub rest_goes : {over : Bool} (new : InScan) (after : RowWork) (given : Result Bool Fault) (result : Step) → TakesRestInRow scan rows given new after
+      → given ≡ Ok over → PassesRest scan rows given new after → new.gate ≡ scan.gate → result ≡ cond (completes_row rows.left after.left) step.Row step.More
+      → AfterRows limits bytes result (file_with w new w.taken) after
   rest_goes new after given result took is passes gate came =
       let t = took limits r.items r.contents bytes r.whole r.row half in
-      let coded = subst (λ (a : Result (Unit {0}) Fault). AfterBytes limits r.items r.contents bytes a after.waiting new t.0) is t.2 in
-      subst (λ (a : Step). AfterRows limits bytes a (file_with w new w.reading.taken) after) (sym came)
-      (data_goes limits r.items r.contents bytes (file_with w new w.reading.taken) scan.work new t.0 rows after (completes_row rows.left after.left) refl coded (held_rest limits r.items r.contents bytes w new scan.gate new.gate gate r.held) r.at t.1 (rest_counts new after given passes) r.turned)
+      let coded = subst (λ (a : Result Bool Fault). AfterBytes limits r.items r.contents bytes a after.waiting new t.0) is t.2 in
+      subst (λ (a : Step). AfterRows limits bytes a (file_with w new w.taken) after) (sym came)
+      (data_goes limits r.items r.contents bytes (file_with w new w.taken) scan new t.0 rows after (completes_row rows.left after.left) refl coded (held_rest limits r.items r.contents bytes w new scan.gate new.gate gate r.held) r.at t.1 (rest_counts new after given passes) r.turned)
 
-  pub rest_stops : (new : InScan) (after : RowWork) (given : Result (Unit {0}) Fault) (fault : Fault) → TakesRestInRow scan rows given new after
-      → given ≡ Err fault → IsStop limits bytes (record { fault = fault; at = w.reading.taken })
+  pub rest_stops : (new : InScan) (after : RowWork) (given : Result Bool Fault) (fault : Fault) → TakesRestInRow scan rows given new after
+      → given ≡ Err fault → IsStop limits bytes (record { fault = fault; at = w.taken })
   rest_stops new after given fault took is =
       let t = took limits r.items r.contents bytes r.whole r.row half in
-      ((r.held).count, subst (λ (a : Result (Unit {0}) Fault). AfterBytes limits r.items r.contents bytes a after.waiting new t.0) is t.2)
+      ((r.held).count, subst (λ (a : Result Bool Fault). AfterBytes limits r.items r.contents bytes a after.waiting new t.0) is t.2)

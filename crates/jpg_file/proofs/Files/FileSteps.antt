@@ -1,56 +1,69 @@
 -- The effect of a byte on a file that is being read.
-use Rattle.std.proofs.Common.{take, cond, ◌<◌, ◌+◌, ◌-◌, ◌≡◌, ℕ, ◌≤◌, Bool, true, false, ◌==◌, List, [], ◌∷◌, ◌++◌, length, refl, sym, ap, ◌∙◌, subst, arith, Option, Some, None, Ok, Err, inl, inr, length-append, length-take-le, ◌||◌, nat_lt, unwrap_or, slice_index, is_some, is_err, Result}
+use Rattle.std.proofs.Common.{take, cond, ◌+◌, ◌-◌, ◌≡◌, ℕ, ◌≤◌, Bool, true, false, ◌==◌, List, [], ◌∷◌, ◌++◌, length, refl, sym, ap, ◌∙◌, subst, arith, Option, Some, None, Ok, Err, inl, inr, length-append, length-take-le, ◌||◌, nat_lt, unwrap_or, slice_index, is_some, is_err, Result, zero, suc, replicate, ◌<◌, drop, get_or, append-nil, take-take, get_or-take, append_assoc, length-drop, take_all, take-append-drop, take-add}
 use Rattle.jpg_spec.specs.Geometry.{Frame}
 use Rattle.jpg_spec.specs.Scan.{Blocks}
-use Rattle.jpg_spec.specs.Markers.{Pass, Segment, is_frame_code, has_frame, has_scan, code_fault}
+use Rattle.jpg_spec.specs.Markers.{Pass, Segment, is_frame_code, has_frame, has_scan, code_fault, kept_rule, SpellsSegment}
 use Rattle.jpg_spec.specs.Header.{header_rule}
 use Rattle.jpg_spec.specs.InForce.{frame_after, frame_of, heads_of, no_frame}
 use Rattle.jpg_spec.specs.History.{has_begun, is_complete}
 use Rattle.jpg_spec.specs.Items.{Item, segment, scan, segments_of, contents_rule}
-use Rattle.jpg_spec.specs.FileMeaning.{Leads}
+use Rattle.jpg_spec.specs.FileMeaning.{Leads, meaning_of}
 use Rattle.jpg_spec.specs.Laws.{frame_of_items}
 use Rattle.jpg_spec.specs.declared.frame.Limits.{Limits}
 use Rattle.jpg_spec.proofs.Headers.FrameAfter.{leads_pass}
-use Rattle.jpg_spec.proofs.Headers.FrameFound.{frame_found, framed}
+use Rattle.jpg_spec.proofs.Headers.FrameFound.{frame_found, framed, framed_end}
 use Rattle.jpg_spec.proofs.Bits.FirstPasses.{all_below}
-use Rattle.jpg_spec.proofs.Basics.Common.{clash, neither, not_same, or_right}
+use Rattle.jpg_spec.proofs.Basics.Common.{clash, neither, not_same, or_right, joined, whole_front}
 use Rattle.jpg_spec.proofs.Headers.BeforeScans.{no_heads}
 use Rattle.jpg_spec.proofs.Places.Untouched.{frame_stays}
 use Rattle.jpg_coefs.specs.Picture.{Picture, map_of}
-use Rattle.jpg_markers.specs.Reading.{reading_of}
+use Rattle.jpg_markers.specs.Reading.{reading_of, HasNoSegment, MayFollow, PassesDue}
 use Rattle.jpg_base.specs.declared.names.NoMemory.{NoMemory as Wanting}
 use Rattle.jpg_spec.specs.declared.fault.FaultAt.{FaultAt}
 use Rattle.jpg_base.specs.declared.stop.Stop.TheVariants as stop
-use Rattle.jpg_file.specs.Read.ScanHistory.{HasBegun, IsComplete}
+use Rattle.jpg_file.specs.Read.SegmentState.{IsComplete, segments_view}
 use Rattle.jpg_file.specs.Read.FirstHeader.{HasHead, HasNoHead, IsFirstHeaderOf}
 use Rattle.jpg_file.specs.declared.read.first_header.Head.{Head}
-use Rattle.jpg_file.specs.Read.SegmentState.{segments_view}
-use Rattle.jpg_file.specs.Read.Items.{AddsNoScan, AfterItem, AtPlace, AfterSegment, BetweenItems, IsOfMarker}
-use Rattle.jpg_file.specs.Read.Reading.{AfterHead, AfterItemByte, AfterScanByte, HeadWhole, Itemising, Scanning, TakesHead, TakesRunOfScan, item_answer, with_coefs}
+use Rattle.jpg_file.specs.Read.Items.{AddsNoScan, AfterItem, AfterScan, AtPlace, BetweenItems, IsOfMarker, BehindEnd, PassesItems}
+use Rattle.jpg_file.specs.Read.InData.{InData, AfterBytes, TakesRun}
+use Rattle.jpg_file.specs.Read.Step.{IfStops, IfWants}
+use Rattle.jpg_file.specs.Read.File.{AfterHead, HeadWhole, Scanning, TakesHead, waiting_bytes, with_coefs, NeedsNoMemory, AfterFileByte, AfterFileStep, BesideItems, KeepsBytes, TakesSome, EndsFile, EndStands, HasRoom, NotesHead, RoomMade, limits_of, HasCompleteHeader, PictureMade, PictureSoFar, RepresentsFile, IsBetweenFileItems, IsInsideScanOfFile, IsStop, keeping_of}
+use Rattle.jpg_file.specs.declared.read.items.Items.{Items}
+use Rattle.jpg_spec.specs.declared.fault.Fault.{Fault}
+use Rattle.jpg_file.proofs.Scans.ScanBytes.{data_of, few_wait, data_stands, ff_bytes}
 use Rattle.jpg_file.specs.declared.read.scan.InScan.{InScan}
-use Rattle.jpg_file.specs.Read.File.{AfterFileByte, AfterFileStep, BesideItems, KeepsBytes, MakesPicture, TakesSome, EndsFile, EndStands, HasRoom, NotesHead, RoomMade, limits_of, scans_ended, HasCompleteHeader, PictureMade, PictureSoFar, RepresentsFile, IsBetweenFileItems, IsInsideScanOfFile}
-use Rattle.jpg_file.specs.declared.read.scan_history.ScanHistory.{ScanHistory}
-use Rattle.jpg_file.specs.declared.read.reading.Reading.{Reading}
 use Rattle.jpg_file.specs.declared.read.items.ItemStep.{ItemStep}
 use Rattle.jpg_file.specs.declared.read.items.ItemStep.TheVariants as step
 use Rattle.jpg_file.specs.declared.read.step.Step.{Step}
 use Rattle.jpg_file.specs.declared.read.step.Step.TheVariants as came
 use Rattle.jpg_file.specs.declared.read.file.FileWork.{FileWork}
 use Rattle.jpg_file.proofs.Headers.InForce.{begun_goes_on, between_header, has_longer, has_more, no_head, noted}
-use Rattle.jpg_spec.proofs.Headers.FrameFound.{framed_end}
 use Rattle.jpg_spec.proofs.Headers.FirstScan.{not_none}
+use Rattle.std.proofs.lemmas.List.{length-replicate, take_more}
+use Rattle.jpg_spec.specs.UnfinishedFile.{IsWholeFile, UnfinishedFile}
+use Rattle.jpg_spec.specs.FirstFault.{Reveals, IsFirstFault}
+use Rattle.jpg_spec.specs.declared.fault.Fault.TheVariants.{MissingComponent, InputTooLong}
+use Rattle.jpg_spec.proofs.Files.ItemSteps.{fill_marker, missing_shown}
+use Rattle.jpg_spec.proofs.Files.FileLaws.{next_shown, stands_too_long}
+use Rattle.jpg_file.specs.Read.ReadFile.{IsRefusal, IsStopOf, KeepsHeadAt}
+use Rattle.jpg_file.specs.Read.Going.{GoesOn, has_waiting, CanGoOn, file_with}
+use Rattle.jpg_file.proofs.Files.ItemBytes.{between_stands}
+use Rattle.jpg_spec.specs.FrameHeader.{AreLimits}
+use Rattle.jpg_base.proofs.FedPiece.{take_both}
+use Rattle.jpg_spec.proofs.Segments.MarkersOnce.{segment_once}
+use Rattle.jpg_file.specs.Read.Passing.{HasNoneToPass, IsLeft, PassesAll, PassesFront, PassesMost, before_last}
 
 -- WHAT IS KEPT WITH THE ITEMS is extended by one more
 
 picture_more : (limits : Limits) (items : List Item) (blocks : Blocks) (code : ℕ) (contents : List ℕ) (q : Option Picture) → (code ≡ 0xda → ⊥) → code_fault (segments_of items) code ≡ None → PictureSoFar limits items blocks q → PictureSoFar limits (segment code contents ∷ items) blocks q
-picture_more limits items blocks code contents None other allowed (unscanned, zero) = (ap (λ b. b || has_scan (segments_of items)) (not_same code 0xda other) ∙ unscanned, zero)
+picture_more limits items blocks code contents None other allowed (unscanned, are_zero) = (ap (λ b. b || has_scan (segments_of items)) (not_same code 0xda other) ∙ unscanned, are_zero)
 picture_more limits items blocks code contents (Some q) other allowed (found, is, as_map) =
     (or_right (is_frame_code code) (has_frame (segments_of items)) found, is ∙ sym (frame_stays limits (segments_of items) code contents found allowed), as_map)
 
 beside_more : (limits : Limits) (bytes : List ℕ) (items : List Item) (blocks : Blocks) (w : FileWork) (code : ℕ) (contents : List ℕ) → (code ≡ 0xda → ⊥) → Leads limits (segment code contents ∷ items) blocks
     → BesideItems limits bytes items blocks w → BesideItems limits bytes (segment code contents ∷ items) blocks w
 beside_more limits bytes items blocks w code contents other leads k = record {
-  picture = picture_more limits items blocks code contents w.reading.coefs other leads.0 k.picture;
+  picture = picture_more limits items blocks code contents w.coefs other leads.0 k.picture;
   begun = begun_goes_on limits w.begun items blocks code contents leads.2 leads.0 other k.begun;
   none = k.none;
   count = k.count;
@@ -66,40 +79,38 @@ leads_at : (limits : Limits) (bytes sent : List ℕ) (items : List Item) (blocks
 leads_at limits bytes sent items blocks item (inl s) = absurd (some_item item items s.no_items)
 leads_at limits bytes sent items blocks item (inr (tail, k)) = k.leads
 
-goes_along : (limits : Limits) (bytes : List ℕ) (items more : List Item) (blocks : Blocks) (w : FileWork) → AddsNoScan items more → BetweenItems limits bytes more blocks w.reading.items → BesideItems limits bytes items blocks w → BesideItems limits bytes more blocks w
+goes_along : (limits : Limits) (bytes : List ℕ) (items more : List Item) (blocks : Blocks) (w : FileWork) → AddsNoScan items more → BetweenItems limits bytes more blocks w.items → BesideItems limits bytes items blocks w → BesideItems limits bytes more blocks w
 goes_along limits bytes items more blocks w (inl e) at k = subst (λ (l : List Item). BesideItems limits bytes l blocks w) (sym e) k
 goes_along limits bytes items more blocks w (inr (code, contents, e, other)) at k =
     let place = subst (λ (l : List Item). AtPlace limits bytes at.sent l blocks) e at.at in
-    subst (λ (l : List Item). BesideItems limits bytes l blocks w) (sym e)
-    (beside_more limits bytes items blocks w code contents other (leads_at limits bytes at.sent items blocks (segment code contents) place) k)
+    subst (λ (l : List Item). BesideItems limits bytes l blocks w) (sym e) (beside_more _ _ _ _ _ _ _ other (leads_at _ _ _ _ _ _ place) k)
 
 -- A BYTE BETWEEN ITEMS, or the marker after a scan's data
-pub after_item : (limits : Limits) (bytes : List ℕ) (items : List Item) (blocks : Blocks) (answer : ItemStep) (w : FileWork) → BesideItems limits bytes items blocks w → AfterItem limits bytes items blocks answer w.reading.items → AfterFileStep None limits bytes answer w
+pub after_item : (limits : Limits) (bytes : List ℕ) (items : List Item) (blocks : Blocks) (answer : ItemStep) (w : FileWork) → BesideItems limits bytes items blocks w → AfterItem limits bytes items blocks answer w.items → AfterFileStep None limits bytes answer w
 after_item limits bytes items blocks step.More w k (more, adds, at) = inl (record { items = more; blocks = blocks; at = at; beside = goes_along limits bytes items more blocks w adds at k })
 after_item limits bytes items blocks step.Head w k (at, code) = (record { items = items; blocks = blocks; at = at; code = code; beside = k }, refl)
 after_item limits bytes items blocks step.Eoi w k at = record { items = items; blocks = blocks; at = at; beside = k }
 after_item limits bytes items blocks (step.Fault f) w k (shown, at) = (shown, at ∙ k.same ∙ k.count)
 after_item limits bytes items blocks step.NoMemory w k none = refl
 
-pub itemising : (limits : Limits) (bytes : List ℕ) (w : FileWork) → (s : IsBetweenFileItems limits bytes w) → Itemising limits bytes s.items s.blocks w.reading
-itemising limits bytes w s = record { at = s.at; none = (s.beside).none; count = (s.beside).count; same = (s.beside).same }
-
-pub after_between : (limits : Limits) (bytes more : List ℕ) (answer : ItemStep) (w new : FileWork) → (s : IsBetweenFileItems limits bytes w) → AfterItemByte limits (bytes ++ more) s.items s.blocks answer new.reading → new.reading.coefs ≡ w.reading.coefs
-    → new.begun ≡ w.begun → new.head ≡ w.head → length (bytes ++ more) ≤ limits.input → AfterFileStep w.reading.scan limits (bytes ++ more) answer new
-after_between limits bytes more answer w new s a coefs begun head within =
+-- with the state of the items after it
+pub after_between : (limits : Limits) (bytes more : List ℕ) (answer : ItemStep) (w : FileWork) (held : Items) (n : ℕ) → (s : IsBetweenFileItems limits bytes w) → AfterItem limits (bytes ++ more) s.items s.blocks answer held
+    → (reading_of held.segments).taken ≡ n → n ≡ w.taken + length more → n ≤ limits.input → AfterFileStep w.scan limits (bytes ++ more) answer (record w { items = held; taken = n })
+after_between limits bytes more answer w held n s a same all few =
     let k = s.beside in
-    subst (λ (o : Option InScan). AfterFileStep o limits (bytes ++ more) answer new) (sym k.none)
-    (after_item limits (bytes ++ more) s.items s.blocks answer new
+    let count : n ≡ length (bytes ++ more) = omega (arith, all, k.count, length-append bytes more) in
+    subst (λ (o : Option InScan). AfterFileStep o limits (bytes ++ more) answer (record w { items = held; taken = n })) (sym k.none)
+    (after_item limits (bytes ++ more) s.items s.blocks answer (record w { items = held; taken = n })
     (record {
-      picture = subst (λ (q : Option Picture). PictureSoFar limits s.items s.blocks q) (sym coefs) k.picture;
-      begun = subst (λ b. HasBegun limits b (segments_of s.items)) (sym begun) k.begun;
-      none = a.none;
-      count = a.count;
-      same = a.same;
-      within = within;
-      head = subst (λ h. HasHead limits (bytes ++ more) (segments_of s.items) h) (sym head) (has_longer limits bytes more (bytes ++ more) (segments_of s.items) w.head refl k.head);
+      picture = k.picture;
+      begun = k.begun;
+      none = k.none;
+      count = count;
+      same = same;
+      within = omega (arith, count, few);
+      head = has_longer limits bytes more (bytes ++ more) (segments_of s.items) w.head refl k.head;
     })
-    a.after)
+    a)
 
 -- the marker after a scan's data
 after_scan : (before : Option InScan) (limits : Limits) (bytes : List ℕ) (answer : ItemStep) (w : FileWork) → AfterFileStep None limits bytes answer w → IsOfMarker answer → AfterFileStep before limits bytes answer w
@@ -107,39 +118,53 @@ after_scan before limits bytes step.Head w a m = absurd m
 after_scan before limits bytes step.NoMemory w a m = absurd m
 after_scan before limits bytes other w a m = a
 
--- A BYTE INSIDE SCAN DATA
-pub after_inside : (limits : Limits) (bytes more : List ℕ) (answer : ItemStep) (w new : FileWork) → (s : IsInsideScanOfFile limits bytes w) → AfterScanByte limits s.items s.contents (bytes ++ more) answer new.reading → new.begun ≡ w.begun → new.head ≡ w.head
-    → length (bytes ++ more) ≤ limits.input → AfterFileStep w.reading.scan limits (bytes ++ more) answer new
-after_inside limits bytes more answer w new s (inl (e, at)) begun head within =
-    let before : List Segment = (0xda, s.contents) ∷ segments_of s.items in
-    subst (λ a. AfterFileStep w.reading.scan limits (bytes ++ more) a new) (sym e)
-    (inr (record {
-      items = s.items;
-      contents = s.contents;
-      at = at;
-      begun = subst (λ b. HasBegun limits b before) (sym begun) s.begun;
-      within = within;
-      head = subst (λ h. HasHead limits (bytes ++ more) before h) (sym head) (has_longer limits bytes more (bytes ++ more) before w.head refl s.head);
-    }))
-after_inside limits bytes more answer w new s (inr (inl d)) begun head within =
-    let all : List Item = scan s.contents d.after.0 ∷ s.items in
-    let place = (s.at).at in
-    let allowed : code_fault (segments_of s.items) 0xda ≡ None = subst (λ (l : List Item). code_fault (segments_of l) 0xda ≡ None) (place.of).0 ((place.at).allowed).0 in
-    after_scan w.reading.scan limits (bytes ++ more) answer new
-    (after_item limits (bytes ++ more) all (map_of d.coefs) answer new
-    (record {
-      picture = subst (λ (q : Option Picture). PictureSoFar limits all (map_of d.coefs) q) (sym d.has) (framed (segments_of s.items) allowed, d.framed, refl);
-      begun = subst (λ b. HasBegun limits b (segments_of all)) (sym begun) s.begun;
-      none = d.none;
-      count = d.count;
-      same = d.same;
-      within = within;
-      head = subst (λ h. HasHead limits (bytes ++ more) (segments_of all) h) (sym head) (has_longer limits bytes more (bytes ++ more) (segments_of all) w.head refl s.head);
-    })
-    d.after.1)
-    d.after.2
-after_inside limits bytes more (step.Fault f) w new s (inr (inr shown)) begun head within = shown
-after_inside limits bytes more other w new s (inr (inr shown)) begun head within = absurd shown
+-- INSIDE THE DATA of a scan, after more bytes
+module _ {limits : Limits} {bytes : List ℕ} {w : FileWork} (s : IsInsideScanOfFile limits bytes w) (more : List ℕ) (n : ℕ)
+    (all : n ≡ w.taken + length more) (few : n ≤ limits.input) where
+  counted_on : n ≡ length (bytes ++ more)
+  counted_on = omega (arith, all, (s.at).count, length-append bytes more)
+
+  pub inside_more : (now : Picture) (next : InScan) (q : Option Picture) (o : Option InScan) → q ≡ Some now → o ≡ Some next
+      → InData limits s.items s.contents (bytes ++ more) next now → waiting_bytes next.gate ≤ length more
+      → IsInsideScanOfFile limits (bytes ++ more) (record w { coefs = q; scan = o; taken = n })
+  inside_more now next q o has is coded waits = record {
+    items = s.items;
+    contents = s.contents;
+    at = record {
+      coefs = now;
+      has = has;
+      scan = next;
+      inside = is;
+      at = coded;
+      head = (s.at).head;
+      count = counted_on;
+      behind = omega (arith, (s.at).behind, all, waits);
+    };
+    begun = s.begun;
+    within = omega (arith, counted_on, few);
+    head = has_longer limits bytes more (bytes ++ more) ((0xda, s.contents) ∷ segments_of s.items) w.head refl s.head;
+  }
+
+  -- the marker after them
+  pub inside_done : (now : Picture) (held : Items) (answer : ItemStep) → now.frame ≡ frame_of limits (segments_of s.items)
+      → AfterScan limits s.items s.contents (bytes ++ more) (map_of now) answer held → (reading_of held.segments).taken ≡ n
+      → AfterFileStep w.scan limits (bytes ++ more) answer (record w { items = held; coefs = Some now; scan = None; taken = n })
+  inside_done now held answer is after same =
+      let all : List Item = scan s.contents after.0 ∷ s.items in
+      let place = (s.at).at in
+      let allowed : code_fault (segments_of s.items) 0xda ≡ None = subst (λ (l : List Item). code_fault (segments_of l) 0xda ≡ None) (place.of).0 ((place.at).allowed).0 in
+      let new : FileWork = record w { items = held; coefs = Some now; scan = None; taken = n } in
+      after_scan _ _ _ _ _ (after_item _ _ _ _ _ _ (record {
+        picture = (framed (segments_of s.items) allowed, is, refl);
+        begun = s.begun;
+        none = refl;
+        count = counted_on;
+        same = same;
+        within = omega (arith, counted_on, few);
+        head = has_longer limits bytes more (bytes ++ more) (segments_of all) w.head refl s.head;
+      })
+      after.1)
+      after.2
 
 -- A SCAN HEADER, with room for the picture
 
@@ -174,39 +199,38 @@ picture_there : (limits : Limits) (items : List Item) (blocks : Blocks) (f : Fra
 picture_there limits items blocks f None new is k made = record { coefs = made.picture; has = made.has; pictured = made.framed; as_map = k.1 ∙ sym made.zero }
 picture_there limits items blocks f (Some q) new is (found, framed, as_map) made = record { coefs = q; has = made; pictured = framed ∙ is; as_map = as_map }
 
-pub head_whole : (limits : Limits) (bytes : List ℕ) (old new : FileWork) → (h : HasCompleteHeader limits bytes old) → HasRoom old new → HeadWhole limits bytes h.items h.blocks new.reading new.begun
+pub head_whole : (limits : Limits) (bytes : List ℕ) (old new : FileWork) → (h : HasCompleteHeader limits bytes old) → HasRoom old new → HeadWhole limits bytes h.items h.blocks new
 head_whole limits bytes old new h room =
     let k = h.beside in
-    let items = room.items in
     let allowed = subst (λ n. code_fault (segments_of h.items) n ≡ None) h.code (h.at).allowed in
-    let f = frame_held limits h.items h.blocks old.reading.items.held.frame ((h.at).at).leads ((h.at).holds).frame (framed (segments_of h.items) allowed) in
+    let f = frame_held limits h.items h.blocks old.items.held.frame ((h.at).at).leads ((h.at).holds).frame (framed (segments_of h.items) allowed) in
     let made = room.picture f.frame f.has in
-    let p = picture_there limits h.items h.blocks f.frame old.reading.coefs new.reading.coefs f.is k.picture made.1 in
-    record {
-      segment = subst (λ i. AfterSegment limits bytes h.items h.blocks i) (sym items) h.at;
-      code = ap (λ i. (reading_of i.segments).code) items ∙ h.code;
+    let p = picture_there limits h.items h.blocks f.frame old.coefs new.coefs f.is k.picture made.1 in
+    subst (λ (w : FileWork). HeadWhole limits bytes h.items h.blocks w) (sym room.is)
+    (record {
+      segment = h.at;
+      code = h.code;
       frame = f.frame;
-      framed = ap (λ i. i.held.frame) items ∙ f.has;
+      framed = f.has;
       is_frame = made.0;
-      begun = subst (λ b. HasBegun limits b (segments_of h.items)) (sym room.begun) k.begun;
+      begun = k.begun;
       coefs = p.coefs;
       has = p.has;
       pictured = p.pictured;
       as_map = p.as_map;
-      count = room.taken ∙ k.count;
-      same = ap (λ i. (reading_of i.segments).taken) items ∙ k.same ∙ sym room.taken;
-    }
+      count = k.count;
+      same = k.same;
+    })
 
 -- the header is taken with the room that was made
-pub head_after : (limits : Limits) (bytes : List ℕ) (old room : FileWork) (answer : Result (Unit {0}) FaultAt) (r : Reading) (b : ScanHistory) → (h : HasCompleteHeader limits bytes old) → HasRoom old room → TakesHead room.reading room.begun answer r b
-    → AfterHead limits bytes h.items room.reading.items answer r b
-head_after limits bytes old room answer r b h made takes =
-    let same : limits_of room ≡ limits = ap (λ i. i.limits) made.items ∙ (h.at).bounded.1 in
-    subst (λ l. AfterHead l bytes h.items room.reading.items answer r b) same
-    (takes bytes h.items h.blocks (subst (λ l. HeadWhole l bytes h.items h.blocks room.reading room.begun) (sym same) (head_whole limits bytes old room h made)))
+pub head_after : (limits : Limits) (bytes : List ℕ) (old room : FileWork) (answer : Result (Unit {0}) FaultAt) (w : FileWork) → (h : HasCompleteHeader limits bytes old) → HasRoom old room → TakesHead room answer w
+    → AfterHead limits bytes h.items room.items answer w
+head_after limits bytes old room answer w h made takes =
+    let same : limits_of room ≡ limits = ap (λ (x : FileWork). limits_of x) made.is ∙ (h.at).bounded.1 in
+    subst (λ l. AfterHead l bytes h.items room.items answer w) same (takes bytes h.items h.blocks (subst (λ l. HeadWhole l bytes h.items h.blocks room) (sym same) (head_whole limits bytes old room h made)))
 
 -- the contents of its segment break no rule
-pub unbroken : (limits : Limits) (items : List Item) (contents bytes : List ℕ) (r : Reading) → (s : Scanning limits items contents bytes r) → contents_rule limits (segments_of items) 0xda contents ≡ None
+pub unbroken : (limits : Limits) (items : List Item) (contents bytes : List ℕ) (r : FileWork) → (s : Scanning limits items contents bytes r) → contents_rule limits (segments_of items) 0xda contents ≡ None
 unbroken limits items contents bytes r s =
     let place = (s.at).place in
     let of = (s.at).of in
@@ -214,40 +238,35 @@ unbroken limits items contents bytes r s =
     subst (λ c. contents_rule limits (segments_of items) 0xda c ≡ None) of.1 (subst (λ (l : List Item). contents_rule limits (segments_of l) 0xda place.contents ≡ None) of.0 rule)
 
 -- with the picture that is kept
-pub head_taken : (r new : Reading) (b after : ScanHistory) (q : Picture) (answer : Result (Unit {0}) FaultAt) → r.coefs ≡ Some q → new.coefs ≡ r.coefs → TakesHead (with_coefs r q) b answer (with_coefs new q) after → TakesHead r b answer new after
-head_taken r new b after q answer has same t = λ bytes items blocks k.
-    subst (λ (p : Option Picture). AfterHead r.items.limits bytes items r.items answer (record new { coefs = p }) after) (sym (same ∙ has))
-    (t bytes items blocks (subst (λ (p : Option Picture). HeadWhole r.items.limits bytes items blocks (record r { coefs = p }) b) has k))
+pub head_taken : (w new : FileWork) (q : Picture) (answer : Result (Unit {0}) FaultAt) → w.coefs ≡ Some q → new.coefs ≡ w.coefs → TakesHead (with_coefs w q) answer (with_coefs new q) → TakesHead w answer new
+head_taken w new q answer has same t = λ bytes items blocks k.
+    subst (λ (p : Option Picture). AfterHead w.items.limits bytes items w.items answer (record new { coefs = p })) (sym (same ∙ has))
+    (t bytes items blocks (subst (λ (p : Option Picture). HeadWhole w.items.limits bytes items blocks (record w { coefs = p })) has k))
 
-pub head_goes : (limits : Limits) (bytes : List ℕ) (old room taken new : FileWork) → (h : HasCompleteHeader limits bytes old) → HasRoom old room → room.head ≡ old.head → TakesHead room.reading room.begun (Ok tt) taken.reading taken.begun → taken.head ≡ room.head → NotesHead taken new
+pub head_goes : (limits : Limits) (bytes : List ℕ) (old room taken new : FileWork) → (h : HasCompleteHeader limits bytes old) → HasRoom old room → TakesHead room (Ok tt) taken → taken.head ≡ room.head → NotesHead taken new
     → RepresentsFile limits bytes new
-head_goes limits bytes old room taken new h made unchanged takes kept notes =
-    let a = head_after limits bytes old room (Ok tt) taken.reading taken.begun h made takes in
-    let contents = (reading_of room.reading.items.segments).contents in
-    let same : (reading_of old.reading.items.segments).contents ≡ contents = ap (λ i. (reading_of i.segments).contents) (sym made.items) in
-    let before : List Segment = (0xda, contents) ∷ segments_of h.items in
-    let holds = ((a.0).head).holds in
+head_goes limits bytes old room taken new h made takes kept notes =
+    let a = head_after limits bytes old room (Ok tt) taken h made takes in
+    let contents = (reading_of room.items.segments).contents in
+    let same : (reading_of old.items.segments).contents ≡ contents = ap (λ (x : FileWork). (reading_of x.items.segments).contents) (sym made.is) in
+    let s = a.0 in
+    let holds = (s.head).holds in
     let allowed = subst (λ n. code_fault (segments_of h.items) n ≡ None) h.code (h.at).allowed in
-    let f = frame_held limits h.items h.blocks taken.reading.items.held.frame ((h.at).at).leads holds.frame (framed (segments_of h.items) allowed) in
-    let had = subst (λ o. HasHead limits bytes (segments_of h.items) o) (sym (kept ∙ unchanged)) (h.beside).head in
-    let now = noted limits bytes h.items h.blocks old.reading.items contents (segments_view taken.reading.items.held) f.frame taken.reading.taken taken.head h.at h.code same (unbroken limits h.items contents bytes taken.reading a.0) holds f.has (a.0).count had in
-    inr (record {
+    let f = frame_held limits h.items h.blocks taken.items.held.frame ((h.at).at).leads holds.frame (framed (segments_of h.items) allowed) in
+    let had = subst (λ o. HasHead limits bytes (segments_of h.items) o) (sym (kept ∙ ap (λ (x : FileWork). x.head) made.is)) (h.beside).head in
+    subst (λ (w : FileWork). RepresentsFile limits bytes w) (sym notes)
+    (inr (record {
       items = h.items;
       contents = contents;
-      at = subst (λ (r : Reading). Scanning limits h.items contents bytes r) (sym notes.reading) a.0;
-      begun = subst (λ b. HasBegun limits b before) (sym notes.begun) a.1;
+      at = record { coefs = s.coefs; has = s.has; scan = s.scan; inside = s.inside; at = s.at; head = s.head; count = s.count; behind = s.behind };
+      begun = a.1;
       within = (h.beside).within;
-      head = subst (λ o. HasHead limits bytes before o) (sym notes.head) now;
-    })
+      head = noted limits bytes h.items h.blocks old.items contents (segments_view taken.items.held) f.frame taken.taken taken.head h.at h.code same (unbroken limits h.items contents bytes taken s) holds f.has s.count had;
+    }))
 
 pub room_made : (old new : FileWork) (answer : Result (Unit {0}) Wanting) → RoomMade old answer new → is_err answer ≡ false → HasRoom old new
 room_made old new (Ok done) made e = made
 room_made old new (Err w) made e = cc
-
--- where there was no room
-pub no_room : (old new : FileWork) (answer : Result (Unit {0}) Wanting) → RoomMade old answer new → is_err answer ≡ true → MakesPicture old
-no_room old new (Ok done) made e = cc
-no_room old new (Err w) made e = made
 
 -- if more is known of what needs memory
 pub asked : (a b : Type 0) → (a → b) → (limits : Limits) (bytes : List ℕ) (answer : Step) (w : FileWork) → AfterFileByte a limits bytes answer w → AfterFileByte b limits bytes answer w
@@ -255,17 +274,17 @@ asked a b f limits bytes (came.Ended stop.NoMemory) w k = f k
 asked a b f limits bytes other w k = k
 
 -- if a scan is being read, and if none is
-pub inside_of : (limits : Limits) (bytes : List ℕ) (w : FileWork) → RepresentsFile limits bytes w → is_some w.reading.scan ≡ true → IsInsideScanOfFile limits bytes w
+pub inside_of : (limits : Limits) (bytes : List ℕ) (w : FileWork) → RepresentsFile limits bytes w → is_some w.scan ≡ true → IsInsideScanOfFile limits bytes w
 inside_of limits bytes w (inr s) e = s
-inside_of limits bytes w (inl s) e = absurd (clash (is_some w.reading.scan) e (ap is_some (s.beside).none))
+inside_of limits bytes w (inl s) e = absurd (clash (is_some w.scan) e (ap is_some (s.beside).none))
 
-pub between_of : (limits : Limits) (bytes : List ℕ) (w : FileWork) → RepresentsFile limits bytes w → is_some w.reading.scan ≡ false → IsBetweenFileItems limits bytes w
+pub between_of : (limits : Limits) (bytes : List ℕ) (w : FileWork) → RepresentsFile limits bytes w → is_some w.scan ≡ false → IsBetweenFileItems limits bytes w
 between_of limits bytes w (inl s) e = s
-between_of limits bytes w (inr s) e = absurd (clash (is_some w.reading.scan) (ap is_some (s.at).inside) e)
+between_of limits bytes w (inr s) e = absurd (clash (is_some w.scan) (ap is_some (s.at).inside) e)
 
 -- EOI
-frame_there : (limits : Limits) (bytes : List ℕ) (w : FileWork) → (k : EndStands limits bytes w) → FrameFor limits (segments_of k.items) w.reading.items.held.frame
-frame_there limits bytes w k = frame_held limits k.items k.blocks w.reading.items.held.frame ((k.at).at).leads ((k.at).holds).frame (framed_end (segments_of k.items) (k.at).allowed)
+frame_there : (limits : Limits) (bytes : List ℕ) (w : FileWork) → (k : EndStands limits bytes w) → FrameFor limits (segments_of k.items) w.items.held.frame
+frame_there limits bytes w k = frame_held limits k.items k.blocks w.items.held.frame ((k.at).at).leads ((k.at).holds).frame (framed_end (segments_of k.items) (k.at).allowed)
 
 -- whether each component was in a scan, by the history
 pub end_complete : (limits : Limits) (bytes : List ℕ) (w : FileWork) (all : Bool) → (k : EndStands limits bytes w)
@@ -275,7 +294,7 @@ end_complete limits bytes w all k told =
     let there = frame_there limits bytes w k in
     sym (told f (heads_of f (segments_of k.items)) (subst (λ (g : Frame). 1 ≤ length g.components) (sym there.is) there.some) ((k.beside).begun).scans)
 
-pub frame_left : (limits : Limits) (bytes : List ℕ) (w : FileWork) → (e : EndsFile limits bytes w) → FrameFor limits (segments_of (e.ends).items) w.reading.items.held.frame
+pub frame_left : (limits : Limits) (bytes : List ℕ) (w : FileWork) → (e : EndsFile limits bytes w) → FrameFor limits (segments_of (e.ends).items) w.items.held.frame
 frame_left limits bytes w e = frame_there limits bytes w e.ends
 
 -- component 0 was in a scan
@@ -294,81 +313,364 @@ head_by limits bytes before (Some h) none k = k
 
 pub head_is : (limits : Limits) (bytes : List ℕ) (w : FileWork) → RepresentsFile limits bytes w → IsFirstHeaderOf limits bytes w.head
 head_is limits bytes w (inl s) =
-    head_by limits bytes (segments_of s.items) w.head (λ none. no_head limits bytes (between_header limits bytes s.items s.blocks w.reading.items s.at none)) (s.beside).head
+    head_by limits bytes (segments_of s.items) w.head (λ none. no_head limits bytes (between_header limits bytes s.items s.blocks w.items s.at none)) (s.beside).head
 head_is limits bytes w (inr s) = head_by limits bytes ((0xda, s.contents) ∷ segments_of s.items) w.head (λ none. absurd (clash true refl none)) s.head
 
 pub head_left : (limits : Limits) (bytes : List ℕ) (w : FileWork) → EndsFile limits bytes w → IsFirstHeaderOf limits bytes w.head
 head_left limits bytes w e = head_by limits bytes (segments_of (e.ends).items) w.head (λ none. absurd (one_begun limits bytes w e none)) ((e.ends).beside).head
 
--- SOME BYTES of a scan one after another
+-- SOME PLAIN BYTES of a scan one after another
+module _ (w : FileWork) {coefs : Picture} {current : InScan} (has : w.coefs ≡ Some coefs) (is : w.scan ≡ Some current) (run : List ℕ) (room : w.taken + length run ≤ (limits_of w).input)
+    {n : ℕ} {given : Result Bool Fault} {new : InScan} {now : Picture} (t : TakesRun current coefs run n given [] new now) where
+  -- the state before the last of them
+  abbrev mid : FileWork
+  mid = record w { coefs = Some t.between; scan = Some t.mid; taken = w.taken + t.early }
 
-abbrev pub file_mid : FileWork → Reading → FileWork
-file_mid w r = record w { reading = r }
+  input : (limits : Limits) → limits_of w ≡ limits → w.taken + length run ≤ limits.input
+  input limits same = subst (λ (l : Limits). w.taken + length run ≤ l.input) same room
 
-run_before : (limits : Limits) (front : List ℕ) (w : FileWork) (run : List ℕ) (n : ℕ) (answer : Result (Unit {0}) FaultAt) (r : Reading) → (t : TakesRunOfScan w.reading run n answer r) → is_some w.reading.scan ≡ true → w.reading.taken + length run ≤ limits.input
-    → RepresentsFile limits front w → RepresentsFile limits (front ++ take t.early run) (file_mid w t.mid)
-run_before limits front w run n answer r t some room k =
+  before : (limits : Limits) (front : List ℕ) → RepresentsFile limits front w → limits_of w ≡ limits → RepresentsFile limits (front ++ take t.early run) mid
+  before limits front k same =
+      let s = inside_of limits front w k (ap is_some is) in
+      let size = length-take-le t.early run (omega (arith, t.within)) in
+      inr (inside_more s (take t.early run) (w.taken + t.early) (omega (arith, size)) (omega (arith, input limits same, t.within)) t.between t.mid (Some t.between) (Some t.mid) refl refl
+      (t.before limits s.items s.contents front (data_of has is s.at)) (omega (arith, ap waiting_bytes t.open)))
+
+  -- what the last one leads to
+  last_data : (limits : Limits) (front : List ℕ) (k : RepresentsFile limits front mid) → (let s = inside_of limits front mid k refl in AfterBytes limits s.items s.contents (front ++ slice_index run t.early ∷ []) given [] new now)
+  last_data limits front k = (let s = inside_of limits front mid k refl in t.last limits s.items s.contents front (data_of {w = mid} refl refl s.at))
+
+  taken_by : (answer : Step) → IfStops answer (w.head ≡ w.head) → IfWants answer (mid.scan ≡ w.scan)
+      → ((limits : Limits) (front : List ℕ) → RepresentsFile limits front mid → limits_of w ≡ limits → AfterFileByte (KeepsBytes w) limits (front ++ slice_index run t.early ∷ []) answer (record w { coefs = Some now; scan = Some new; taken = w.taken + n }))
+      → TakesSome w run n answer (record w { coefs = Some now; scan = Some new; taken = w.taken + n })
+  taken_by answer head wants last = record {
+    mid = mid;
+    early = t.early;
+    count = t.count;
+    within = t.within;
+    head = head;
+    scan = wants;
+    ended = ap (λ (o : Option InScan). w.begun.scans - cond (is_some o) 1 0) (sym is);
+    room = λ limits front k same. omega (arith, input limits same, t.within);
+    before = before;
+    last = last;
+  }
+
+  pub run_goes : {over : Bool} → given ≡ Ok over → TakesSome w run n came.More (record w { coefs = Some now; scan = Some new; taken = w.taken + n })
+  run_goes e = taken_by came.More tt tt (λ limits front k same.
+      (let s = inside_of limits front mid k refl in
+      let one = slice_index run t.early ∷ [] in
+      inr (inside_more s one (w.taken + n) (omega (arith, t.count)) (omega (arith, input limits same, t.within, t.count)) now new (Some now) (Some new) refl refl
+      (subst (λ (a : Result Bool Fault). AfterBytes limits s.items s.contents (front ++ one) a [] new now) e (last_data limits front k)) (few_wait new.gate))))
+
+  pub run_stops : {fault : Fault} {result : Step} → given ≡ Err fault → result ≡ came.Ended (stop.Fault (record { fault = fault; at = w.taken + n }))
+      → TakesSome w run n result (record w { coefs = Some now; scan = Some new; taken = w.taken + n })
+  run_stops {fault} e ends =
+      let f : FaultAt = record { fault = fault; at = w.taken + n } in
+      subst (λ (a : Step). TakesSome w run n a (record w { coefs = Some now; scan = Some new; taken = w.taken + n })) (sym ends)
+      (taken_by (came.Ended (stop.Fault f)) refl tt (λ limits front k same.
+      (let s = inside_of limits front mid k refl in
+      let one = slice_index run t.early ∷ [] in
+      (omega (arith, (s.at).count, t.count, length-append front one), subst (λ (a : Result Bool Fault). AfterBytes limits s.items s.contents (front ++ one) a [] new now) e (last_data limits front k)))))
+
+-- Bytes of a piece, one after another and together.
+
+-- EOI: the file is complete, or a component is missing.
+
+pub file_ends : (limits : Limits) (bytes : List ℕ) (items : List Item) (blocks : Blocks) (w : Items) → BehindEnd limits bytes items blocks w → is_complete (frame_of limits (segments_of items)) (segments_of items) ≡ true → length bytes ≤ limits.input
+    → IsWholeFile limits bytes (meaning_of (frame_of limits (segments_of items)) (segments_of items) blocks)
+file_ends limits bytes items blocks w k whole long =
+    let b = (k.at).beside in
+    let front = (b.behind).front in (
+      record {
+        items = items;
+        blocks = blocks;
+        front = front;
+        marker = replicate b.fill 255 ++ k.tail;
+        rest = [];
+        cut = (b.behind).cut ∙ sym (append-nil (front ++ (replicate b.fill 255 ++ k.tail)));
+        spelled = (b.behind).spelled;
+        ended = fill_marker b.fill 0xd9 k.tail k.ended;
+        long = subst (λ l. length l ≤ limits.input) (b.behind).cut long;
+        leads = (k.at).leads;
+        framed = k.allowed;
+        complete = whole;
+        meaning = refl;
+      },
+      refl,
+    )
+
+pub file_lacks : (limits : Limits) (bytes : List ℕ) (items : List Item) (blocks : Blocks) (w : Items) → BehindEnd limits bytes items blocks w → is_complete (frame_of limits (segments_of items)) (segments_of items) ≡ false → Reveals limits MissingComponent bytes
+file_lacks limits bytes items blocks w k missing = missing_shown limits (kept_rule limits) k.sent bytes items k.tail (k.at).beside k.ended k.allowed missing
+
+-- A file that is being read, piece by piece.
+
+-- WHAT A STATE ENCODES
+
+pub stands_file : (limits : Limits) (bytes : List ℕ) (w : FileWork) → RepresentsFile limits bytes w → UnfinishedFile limits bytes
+stands_file limits bytes w (inl s) = between_stands limits bytes s.items s.blocks w.items s.at
+stands_file limits bytes w (inr s) = data_stands limits s.items s.contents bytes (s.at).scan (s.at).coefs (s.at).at
+
+pub limits_are : (limits : Limits) (bytes : List ℕ) (w : FileWork) → RepresentsFile limits bytes w → limits_of w ≡ limits
+limits_are limits bytes w (inl s) = (s.at).bounded.1
+limits_are limits bytes w (inr s) = ((s.at).head).bounded.1
+
+pub counted : (limits : Limits) (bytes : List ℕ) (w : FileWork) → RepresentsFile limits bytes w → w.taken ≡ length bytes
+counted limits bytes w (inl s) = (s.beside).count
+counted limits bytes w (inr s) = (s.at).count
+
+pub within : (limits : Limits) (bytes : List ℕ) (w : FileWork) → RepresentsFile limits bytes w → length bytes ≤ limits.input
+within limits bytes w (inl s) = (s.beside).within
+within limits bytes w (inr s) = s.within
+
+-- A PIECE, and a prefix of it
+
+pub one_more : (bytes piece : List ℕ) (i : ℕ) → i < length piece → bytes ++ take (i + 1) piece ≡ (bytes ++ take i piece) ++ get_or piece i 0 ∷ []
+one_more bytes piece i h = ap (λ l. bytes ++ l) (take_more piece i 0 h) ∙ sym (append_assoc bytes (take i piece) (get_or piece i 0 ∷ []))
+
+-- THE ANSWERS
+
+pub stop_longer : (limits : Limits) (front rest all : List ℕ) (b : ℕ) (f : FaultAt) → all ≡ (front ++ b ∷ []) ++ rest → UnfinishedFile limits front → length front < limits.input → IsStop limits (front ++ b ∷ []) f → IsStopOf limits all f
+stop_longer limits front rest all b f cut stands short (at, shown) more =
+    let whole = front ++ b ∷ [] in
+    subst (λ l. IsRefusal limits l f) (sym (ap (λ l. l ++ more) cut ∙ append_assoc whole rest more))
+    (subst (λ n. IsFirstFault limits (whole ++ (rest ++ more)) f.fault n) (sym at) (next_shown limits front (rest ++ more) b f.fault stands shown short))
+
+-- the first current header of a prefix remains
+pub head_kept : (limits : Limits) (bytes piece : List ℕ) (i : ℕ) (old next : FileWork) → RepresentsFile limits (bytes ++ take i piece) old → next.head ≡ old.head → IsFirstHeaderOf limits (take (length (bytes ++ take i piece)) (bytes ++ piece)) next.head
+head_kept limits bytes piece i old next stands same =
+    let front = bytes ++ take i piece in
+    let is : take (length front) (bytes ++ piece) ≡ front = ap (take (length front)) (joined bytes piece i) ∙ whole_front front (drop i piece) in
+    subst (λ o. IsFirstHeaderOf limits (take (length front) (bytes ++ piece)) o) (sym same) (subst (λ l. IsFirstHeaderOf limits l old.head) (sym is) (head_is limits front old stands))
+
+pub front_of : (front rest all : List ℕ) (n : ℕ) → n ≡ length front → all ≡ front ++ rest → take n all ≡ front
+front_of front rest all n long cut = ap (λ m. take m all) long ∙ ap (take (length front)) cut ∙ whole_front front rest
+
+-- as many bytes as may be taken
+pub piece_long : (limits : Limits) (bytes piece : List ℕ) (i : ℕ) (w : FileWork) → limits.input ≤ w.taken → RepresentsFile limits (bytes ++ take i piece) w
+    → IsStopOf limits (bytes ++ piece) (record { fault = InputTooLong; at = limits.input }) × KeepsHeadAt limits (bytes ++ piece) (record { fault = InputTooLong; at = limits.input }) w.head
+piece_long limits bytes piece i w many h =
+    let front = bytes ++ take i piece in
+    let rest = drop i piece in
+    let few = counted limits front w h in
+    let most = within limits front w h in
+    let long : length front ≡ limits.input = omega (arith, few, most, many) in (
+      λ more.
+          (let all = (bytes ++ piece) ++ more in
+          let cut : all ≡ front ++ (rest ++ more) = ap (λ l. l ++ more) (joined bytes piece i) ∙ append_assoc front rest more in
+          let is : take limits.input all ≡ front = ap (λ n. take n all) (sym long) ∙ ap (take (length front)) cut ∙ whole_front front (rest ++ more) in
+          let size : limits.input ≤ length all = omega (arith, long, ap length cut, length-append front (rest ++ more)) in
+          stands_too_long limits all (subst (λ l. UnfinishedFile limits l) (sym is) (stands_file limits front w h)) size),
+      inl (subst (λ n. IsFirstHeaderOf limits (take n (bytes ++ piece)) w.head) long (head_kept limits bytes piece i w w h refl)),
+    )
+
+-- THE COMPLETE FILE means something
+pub file_means : (limits : Limits) (bytes : List ℕ) (w : FileWork) → (e : EndsFile limits bytes w) → IsWholeFile limits bytes (meaning_of (frame_of_items limits (e.ends).items) (segments_of (e.ends).items) (e.ends).blocks)
+file_means limits bytes w e =
+    let k = e.ends in
+    file_ends limits bytes k.items k.blocks w.items k.at e.complete (k.beside).within
+
+-- SOME BYTES of the rest of a piece
+
+pub front_is : (bytes piece : List ℕ) (done n : ℕ) → (bytes ++ take done piece) ++ take n (drop done piece) ≡ bytes ++ take (done + n) piece
+front_is bytes piece done n = append_assoc bytes (take done piece) (take n (drop done piece)) ∙ ap (λ l. bytes ++ l) (sym (take-add done n piece))
+
+-- FILL BYTES inside the data of a current
+pub waiting_scan : (current : Option InScan) (one : InScan) → has_waiting current ≡ true → current ≡ Some one → one.gate ≡ true
+waiting_scan None one waits is = cc
+waiting_scan (Some current) one waits is = subst (λ (o : Option InScan). has_waiting o ≡ true) is waits
+
+-- none of the bytes are taken
+nothing_taken : (limits : Limits) (front bytes : List ℕ) (w : FileWork) → RepresentsFile limits front w → RepresentsFile limits (front ++ take 0 bytes) w
+nothing_taken limits front bytes w k = subst (λ l. RepresentsFile limits l w) (sym (append-nil front)) k
+
+fills_stand : (w : FileWork) (bytes : List ℕ) (n : ℕ) (limits : Limits) (front : List ℕ) → is_some w.scan ≡ true → take n bytes ≡ replicate n 255 → ((n ≡ 0 → ⊥) → has_waiting w.scan ≡ true) → w.taken + n ≤ limits.input
+    → RepresentsFile limits front w → RepresentsFile limits (front ++ take n bytes) (record w { taken = w.taken + n })
+fills_stand w bytes zero limits front some fill waits room k =
+    let same : w.taken + 0 ≡ w.taken = omega arith in
+    subst (λ (t : ℕ). RepresentsFile limits (front ++ take 0 bytes) (record w { taken = t })) (sym same) (nothing_taken limits front bytes w k)
+fills_stand w bytes (suc m) limits front some fill waits room k =
+    let n = suc m in
     let s = inside_of limits front w k some in
-    let before : List Segment = (0xda, s.contents) ∷ segments_of s.items in
+    let at = s.at in
+    let size : length (replicate {A = ℕ} n 255) ≡ n = length-replicate {A = ℕ} n 255 in
+    let coded = ff_bytes limits s.items s.contents front n at.scan at.coefs at.at (waiting_scan w.scan at.scan (waits (λ e. omega (arith, e))) at.inside) in
+    subst (λ (l : List ℕ). RepresentsFile limits (front ++ l) (record w { taken = w.taken + n })) (sym fill)
+    (inr (inside_more s (replicate n 255) (w.taken + n) (omega (arith, size)) room at.coefs at.scan w.coefs w.scan at.has at.inside coded (omega (arith, few_wait at.scan.gate, size))))
+
+-- THE PREFIX of some bytes, which causes no event, and the byte after it
+pub front_fills : (w : FileWork) (bytes : List ℕ) (most n : ℕ) → most < length bytes → w.taken + most < (limits_of w).input → is_some w.scan ≡ true → n ≤ length (take most bytes) → take n (take most bytes) ≡ replicate n 255 → ((n ≡ 0 → ⊥) → has_waiting w.scan ≡ true)
+    → PassesFront w bytes n (record w { taken = w.taken + n })
+front_fills w bytes most n less room some few fill waits =
+    let size = length-take-le most bytes (omega (arith, less)) in
+    let all : take n bytes ≡ replicate n 255 = sym (take-take n most bytes (omega (arith, few, size))) ∙ fill in
+    record {
+      within = omega (arith, few, size, less);
+      is = refl;
+      limits = refl;
+      room = omega (arith, few, size, room);
+      keeping = refl;
+      sparing = λ s. record { keeping = s.keeping; scanned = s.scanned; room = s.room };
+      fills = λ e. record { is = refl; fill = all; waits = waits };
+      stands = λ q limits front k. (let input : (limits_of w).input ≡ limits.input = ap (λ (l : Limits). l.input) (limits_are _ _ _ k) in
+          fills_stand (file_with w q) bytes n limits front some all waits (omega (arith, room, few, size, input)) k);
+    }
+
+pub front_passes : (w new : FileWork) (bytes : List ℕ) (most n : ℕ) → most < length bytes → w.taken + most < (limits_of w).input → is_some w.scan ≡ false → GoesOn w (take most bytes) n new → keeping_of new ≡ keeping_of w → (NeedsNoMemory w → NeedsNoMemory new) → PassesFront w bytes n new
+front_passes w new bytes most n less room none p keeping sparing =
+    let size = length-take-le most bytes (omega (arith, less)) in
+    let few = p.within in
+    let taken : new.taken ≡ w.taken + n = ap (λ (x : FileWork). x.taken) p.is in
+    record {
+      within = omega (arith, few, size, less);
+      is = p.is;
+      limits = p.limits;
+      room = omega (arith, few, size, room, taken);
+      keeping = keeping;
+      sparing = sparing;
+      fills = λ some. absurd (clash (is_some w.scan) some none);
+      stands = λ q limits front k. subst (λ (l : List ℕ). RepresentsFile limits (front ++ l) (file_with new q)) (take-take n most bytes (omega (arith, few, size))) (p.stands q limits front k);
+    }
+
+-- with the picture that there is
+pub front_stands : {w mid : FileWork} {bytes : List ℕ} {n : ℕ} → PassesFront w bytes n mid → (limits : Limits) (front : List ℕ) → RepresentsFile limits front w → RepresentsFile limits (front ++ take n bytes) mid
+front_stands {w} {mid} {bytes} {n} p limits front k =
+    subst (λ (q : Option Picture). RepresentsFile limits (front ++ take n bytes) (file_with mid q)) (sym (ap (λ (x : FileWork). x.coefs) p.is)) (p.stands w.coefs limits front k)
+
+pub one_taken : (w mid : FileWork) (bytes : List ℕ) (n : ℕ) (answer : Step) (new : FileWork) → PassesFront w bytes n mid → ((before : List ℕ) → RepresentsFile (limits_of mid) before mid → AfterFileByte (KeepsBytes mid) (limits_of mid) (before ++ get_or bytes n 0 ∷ []) answer new) → IfStops answer (new.head ≡ mid.head)
+    → TakesSome w bytes (n + 1) answer new
+one_taken w mid bytes n answer new front took head = record {
+  mid = mid;
+  early = n;
+  count = refl;
+  within = front.within;
+  head = head;
+  scan = by answer;
+  ended = ap (λ (x : FileWork). x.begun.scans - cond (is_some x.scan) 1 0) front.is;
+  room = λ limits before k same. subst (λ (l : Limits). mid.taken < l.input) same front.room;
+  before = λ limits before k same. front_stands front limits before k;
+  last = λ limits before k same.
+      (let is = front.limits ∙ same in
+      asked (KeepsBytes mid) (KeepsBytes w) (λ none. sym current ∙ none) limits (before ++ get_or bytes n 0 ∷ []) answer new
+      (subst (λ l. AfterFileByte (KeepsBytes mid) l (before ++ get_or bytes n 0 ∷ []) answer new) is (took before (subst (λ l. RepresentsFile l before mid) (sym is) k))));
+}
+  where
+    current : mid.scan ≡ w.scan
+    current = ap (λ (x : FileWork). x.scan) front.is
+
+    by : (answer : Step) → IfWants answer (mid.scan ≡ w.scan)
+    by (came.Ended stop.NoMemory) = current
+    by other = tt
+
+pub front_taken : (w : FileWork) (bytes : List ℕ) (size n : ℕ) (answer : Step) (new : FileWork) → size ≤ length bytes → TakesSome w (take size bytes) n answer new → TakesSome w bytes n answer new
+front_taken w bytes size n answer new few t =
     let low = t.within in
-    let size = length-take-le t.early run (omega (arith, low)) in
-    let count = (s.at).count in
-    inr (record {
-      items = s.items;
-      contents = s.contents;
-      at = t.before limits s.items s.contents front s.at;
-      begun = s.begun;
-      within = omega (arith, room, count, size, low, length-append front (take t.early run));
-      head = has_longer limits front (take t.early run) (front ++ take t.early run) before w.head refl s.head;
-    })
+    let long = length-take-le size bytes few in
+    let same : take t.early (take size bytes) ≡ take t.early bytes = take-take t.early size bytes (omega (arith, low, long)) in
+    record {
+      mid = t.mid;
+      early = t.early;
+      count = t.count;
+      within = omega (arith, low, long, few);
+      head = t.head;
+      scan = t.scan;
+      ended = t.ended;
+      room = t.room;
+      before = λ limits front k e. subst (λ l. RepresentsFile limits (front ++ l) t.mid) same (t.before limits front k e);
+      last = λ limits front k e. subst (λ b. AfterFileByte (KeepsBytes w) limits (front ++ b ∷ []) answer new) (get_or-take size bytes t.early 0 (omega (arith, low, long))) (t.last limits front k e);
+    }
 
-run_last : (limits : Limits) (front : List ℕ) (w : FileWork) (run : List ℕ) (n : ℕ) (answer : Result (Unit {0}) FaultAt) (r : Reading) → (t : TakesRunOfScan w.reading run n answer r) → w.reading.taken + length run ≤ limits.input
-    → RepresentsFile limits front (file_mid w t.mid) → AfterFileStep (t.mid).scan limits (front ++ slice_index run t.early ∷ []) (item_answer answer) (file_mid w r)
-run_last limits front w run n answer r t room k =
-    let s = inside_of limits front (file_mid w t.mid) k t.inside in
-    let low = t.within in
-    let taken = t.taken in
-    let count = (s.at).count in
-    after_inside limits front (slice_index run t.early ∷ []) (item_answer answer) (file_mid w t.mid) (file_mid w r) s (t.last limits s.items s.contents front s.at) refl refl
-    (omega (arith, room, low, taken, count, length-append front (slice_index run t.early ∷ [])))
+-- Bytes between items, or inside a segment, that are taken together.
 
-room_by : (limits : Limits) (w : FileWork) (run : List ℕ) → limits_of w ≡ limits → w.reading.taken + length run ≤ (limits_of w).input → w.reading.taken + length run ≤ limits.input
-room_by limits w run same room = subst (λ (l : Limits). w.reading.taken + length run ≤ l.input) same room
-
-room_left : (limits : Limits) (w : FileWork) (run : List ℕ) (n : ℕ) (answer : Result (Unit {0}) FaultAt) (r : Reading) → (t : TakesRunOfScan w.reading run n answer r) → w.reading.taken + length run ≤ limits.input → (t.mid).taken < limits.input
-room_left limits w run n answer r t room = let low = t.within in let taken = t.taken in omega (arith, room, low, taken)
-
-byte_of : (before : Option InScan) (asks : Type 0) (limits : Limits) (bytes : List ℕ) (w : FileWork) (f : FaultAt) → AfterFileStep before limits bytes (step.Fault f) w → AfterFileByte asks limits bytes (came.Ended (stop.Fault f)) w
-byte_of before asks limits bytes w f (shown, at) = (at, shown)
-
-run_ended : (w : FileWork) (r : Reading) → is_some w.reading.scan ≡ true → is_some r.scan ≡ true → scans_ended (file_mid w r) ≡ scans_ended w
-run_ended w r some inside = ap (λ t. w.begun.scans - cond t 1 0) (inside ∙ sym some)
-
-pub run_more : (w : FileWork) (run : List ℕ) (n : ℕ) (r : Reading) → is_some w.reading.scan ≡ true → w.reading.taken + length run ≤ (limits_of w).input → TakesRunOfScan w.reading run n (Ok tt) r → TakesSome w run n came.More (file_mid w r)
-run_more w run n r some room t = record {
-  mid = file_mid w t.mid;
-  early = t.early;
-  count = t.count;
-  within = t.within;
-  head = tt;
-  scan = tt;
-  ended = run_ended w t.mid some t.inside;
-  room = λ limits front k same. room_left limits w run n (Ok tt) r t (room_by limits w run same room);
-  before = λ limits front k same. run_before limits front w run n (Ok tt) r t some (room_by limits w run same room) k;
-  last = λ limits front k same. run_last limits front w run n (Ok tt) r t (room_by limits w run same room) k;
+-- by what the items pass
+pub goes : (w : FileWork) (items : Items) (bytes : List ℕ) (n : ℕ) → CanGoOn w bytes → PassesItems w.items bytes n items → GoesOn w bytes n (record w { items = items; taken = w.taken + n })
+goes w items bytes n g p = record {
+  within = p.within;
+  is = refl;
+  limits = p.limits;
+  same = p.same;
+  count = p.taken;
+  stands = λ q limits front k.
+      (let old = file_with w q in
+      let s = between_of limits front old k (ap is_some g.none) in
+      let long = length-take-le n bytes p.within in
+      let input : w.items.limits.input ≡ limits.input = ap (λ (l : Limits). l.input) (limits_are limits front old k) in
+      after_between limits front (take n bytes) step.More old items (w.taken + n) s (p.stands limits front s.items s.blocks s.at) (p.taken ∙ ap (λ (m : ℕ). m + n) g.count) (omega (arith, long)) (omega (arith, g.room, p.within, input)));
 }
 
-pub run_fault : (w : FileWork) (run : List ℕ) (n : ℕ) (r : Reading) (f : FaultAt) → is_some w.reading.scan ≡ true → w.reading.taken + length run ≤ (limits_of w).input → TakesRunOfScan w.reading run n (Err f) r
-    → TakesSome w run n (came.Ended (stop.Fault f)) (file_mid w r)
-run_fault w run n r f some room t = record {
-  mid = file_mid w t.mid;
-  early = t.early;
-  count = t.count;
-  within = t.within;
-  head = refl;
-  scan = tt;
-  ended = run_ended w t.mid some t.inside;
-  room = λ limits front k same. room_left limits w run n (Err f) r t (room_by limits w run same room);
-  before = λ limits front k same. run_before limits front w run n (Err f) r t some (room_by limits w run same room) k;
-  last = λ limits front k same. byte_of (t.mid).scan (KeepsBytes w) limits (front ++ slice_index run t.early ∷ []) (file_mid w r) f (run_last limits front w run n (Err f) r t (room_by limits w run same room) k);
+-- at the start of a piece
+pub can_front : (w : FileWork) (q : Option Picture) (front bytes : List ℕ) (most : ℕ) → RepresentsFile (limits_of w) front (file_with w q) → w.scan ≡ None → AreLimits (limits_of w) → most < length bytes → w.taken + most < (limits_of w).input → CanGoOn w (take most bytes)
+can_front w q front bytes most k none limits less room =
+    let s = between_of (limits_of w) front (file_with w q) k (ap is_some none) in
+    record { none = none; same = s.at.bounded.0; count = s.beside.same; limits = limits; room = omega (arith, room, length-take-le most bytes (omega (arith, less))) }
+
+pub rest_is : (n : ℕ) (bytes : List ℕ) → take (length bytes - n) (drop n bytes) ≡ drop n bytes
+rest_is n bytes = let size = length-drop n bytes in take_all (length bytes - n) (drop n bytes) (omega (arith, size))
+
+pub goes_then : (a b c : FileWork) (bytes : List ℕ) (n m : ℕ) → GoesOn a bytes n b → GoesOn b (take (length bytes - n) (drop n bytes)) m c → GoesOn a bytes (n + m) c
+goes_then a b c bytes n m p q =
+    let taken : (a.taken + n) + m ≡ a.taken + (n + m) = omega arith in record {
+      within = omega (arith, p.within, length-drop n bytes, q.within, ap length (rest_is n bytes));
+      is = q.is ∙ ap (λ (x : FileWork). let y : FileWork = record x { items = c.items; taken = x.taken + m } in y) p.is ∙ ap (λ (t : ℕ). record a { items = c.items; taken = t }) taken;
+      limits = q.limits ∙ p.limits;
+      same = q.same ∙ p.same;
+      count = omega (arith, p.count, q.count);
+      stands = λ o limits front k.
+          subst (λ l. RepresentsFile limits l (file_with c o))
+          (append_assoc front (take n bytes) (take m (take (length bytes - n) (drop n bytes))) ∙ ap (λ l. front ++ l) (ap (λ l. take n bytes ++ take m l) (rest_is n bytes) ∙ sym (take_both n m bytes p.within)))
+          (q.stands o limits (front ++ take n bytes) (p.stands o limits front k));
+    }
+
+-- and after some of them it may go on with the rest
+pub can_after : (a b : FileWork) (bytes : List ℕ) (n : ℕ) → CanGoOn a bytes → GoesOn a bytes n b → CanGoOn b (take (length bytes - n) (drop n bytes))
+can_after a b bytes n g p =
+    let taken : b.taken ≡ a.taken + n = ap (λ (x : FileWork). x.taken) p.is in
+    let left = ap length (rest_is n bytes) in
+    record {
+      none = ap (λ (x : FileWork). x.scan) p.is ∙ g.none;
+      same = p.same ∙ g.same ∙ sym p.limits;
+      count = p.count ∙ ap (λ (m : ℕ). m + n) g.count ∙ sym taken;
+      limits = subst (λ l. AreLimits l) (sym p.limits) g.limits;
+      room = subst (λ (l : Limits). b.taken + length (take (length bytes - n) (drop n bytes)) ≤ l.input) (sym p.limits) (omega (arith, p.within, g.room, taken, length-drop n bytes, left));
+    }
+
+-- and one more segment of them
+pub goes_segment : (w mid : FileWork) (items : Items) (bytes : List ℕ) (done n : ℕ) → CanGoOn w bytes → GoesOn w bytes done mid → PassesItems mid.items (take (length bytes - done) (drop done bytes)) n items
+    → GoesOn w bytes (done + n) (record mid { items = items; taken = mid.taken + n })
+goes_segment w mid items bytes done n can went p = goes_then w mid _ bytes done n went (goes mid items (take (length bytes - done) (drop done bytes)) n (can_after w mid bytes done can went) p)
+
+-- As many bytes as can be taken at once.
+
+-- The bytes begin with this segment alone.
+pub one_left : (w : Items) (bytes : List ℕ) (code : ℕ) (contents : List ℕ) (n : ℕ) → SpellsSegment code contents (take n bytes)
+    → ((reading_of w.segments).stop ≡ None → MayFollow (reading_of w.segments) code contents → IsLeft w code contents) → HasNoneToPass w bytes
+one_left w bytes code contents n spelled left = λ c xs m going may few other.
+    let once = segment_once code c contents xs (take n bytes) (take m bytes) (drop n bytes) (drop m bytes) spelled other (take-append-drop n bytes ∙ sym (take-append-drop m bytes)) in
+    let first = subst (λ k. MayFollow (reading_of w.segments) k xs) (sym once.0) may in
+    let here = left going (subst (λ l. MayFollow (reading_of w.segments) code l) (sym once.1) first) in
+    subst (λ k. IsLeft w k xs) once.0 (subst (λ l. IsLeft w code l) once.1 here)
+
+-- No segment is complete there.
+pub none_there : (w : Items) (bytes : List ℕ) → HasNoSegment bytes → HasNoneToPass w bytes
+none_there w bytes none = λ c xs m going may few other. absurd (none c xs m other)
+
+-- in the rest of some bytes
+pub none_in_rest : (w : Items) (bytes : List ℕ) (n : ℕ) → HasNoneToPass w (take (length bytes - n) (drop n bytes)) → HasNoneToPass w (drop n bytes)
+none_in_rest w bytes n none = subst (λ l. HasNoneToPass w l) (rest_is n bytes) none
+
+-- segments and what is due
+pub passes_most : (old mid : FileWork) (bytes : List ℕ) (n m : ℕ) → GoesOn old bytes n mid → HasNoneToPass mid.items (drop n bytes) → PassesDue (mid.items).segments (take (length bytes - n) (drop n bytes)) m
+    → PassesMost old bytes (n + m)
+passes_most old mid bytes n m segments none due = record {
+  mid = mid;
+  early = n;
+  late = m;
+  count = refl;
+  segments = segments;
+  none = none;
+  due = subst (λ l. PassesDue (mid.items).segments l m) (rest_is n bytes) due;
 }
+
+pub all_between : (s : Option InScan) (w : FileWork) (bytes : List ℕ) (n : ℕ) → is_some s ≡ false → PassesMost w (before_last w bytes) n → PassesAll s w bytes n
+all_between None w bytes n none most = most
+all_between (Some current) w bytes n none most = absurd cc

@@ -1,6 +1,6 @@
 -- Bytes between items.
-use Rattle.std.proofs.Common.{◌≡◌, ℕ, suc, ◌+◌, ◌≤◌, List, [], ◌∷◌, ◌++◌, length, take, refl, sym, ap, ◌∙◌, subst, arith, Some, None, Ok, Err, inl, inr, ◌⊎◌, zero, ◌<◌, replicate, append_assoc, append-nil, length-append, length-take-le, take-take}
-use Rattle.std.specs.Int.{to_be_bytes, w16}
+use Rattle.std.proofs.Common.{◌≡◌, ℕ, suc, ◌+◌, ◌≤◌, List, [], ◌∷◌, ◌++◌, length, take, refl, sym, ap, ◌∙◌, subst, arith, Some, None, Ok, Err, inl, inr, Result, ◌⊎◌, zero, ◌<◌, replicate, append_assoc, append-nil, length-append, length-take-le, take-take, w16}
+use Rattle.std.specs.Int.{to_be_bytes}
 use Rattle.std.proofs.lemmas.List.{length-replicate}
 use Rattle.jpg_spec.specs.Scan.{Blocks}
 use Rattle.jpg_spec.specs.Markers.{Segment, Rule, soi, SpellsMarker, SpellsSegment, SpellsSegments, BeginsSegment, PartOfSegment, NoMarkerBytes, TailReveals, RevealsNoStart, code_fault, kept_rule}
@@ -13,16 +13,17 @@ use Rattle.jpg_spec.specs.ScanReading.{Beside}
 use Rattle.jpg_spec.specs.declared.fault.Fault.{Fault}
 use Rattle.jpg_spec.specs.declared.fault.Fault.TheVariants.{NoMarker, Truncated, InputTooLong}
 use Rattle.jpg_spec.specs.declared.frame.Limits.{Limits}
-use Rattle.jpg_spec.specs.declared.fault.FaultAt.{FaultAt}
 use Rattle.jpg_spec.proofs.Segments.MarkersOnce.{no_head}
 use Rattle.jpg_spec.proofs.Files.ItemSteps.{same_tail, beside_more, segment_shown, contents_shown, part_stands, segment_passed}
 use Rattle.jpg_spec.proofs.Basics.Common.{heads}
 use Rattle.jpg_base.specs.declared.stop.Stop.TheVariants as stop
+use Rattle.jpg_base.specs.declared.stop.Stop.{Stop}
+use Rattle.jpg_markers.specs.declared.segments.SegStep.{SegStep}
 use Rattle.jpg_markers.specs.declared.segments.SegStep.TheVariants as step
 use Rattle.jpg_markers.specs.declared.segments.SegmentReader.{SegmentReader}
 use Rattle.jpg_markers.specs.declared.segments.Phase.{Phase}
 use Rattle.jpg_markers.specs.declared.segments.Phase.TheVariants as phase
-use Rattle.jpg_markers.specs.Reading.{Reading, RepresentsSegments, AtPhase, IsBetween, PartRead, RevealsAfter, EndsAtEoi, Comes, PassesSegment, PassesSome, reading_of}
+use Rattle.jpg_markers.specs.Reading.{Reading, RepresentsSegments, AtPhase, IsBetween, PartRead, RevealsAfter, AfterWhole, EndsAtEoi, Comes, PassesSegment, PassesSome, reading_of}
 use Rattle.jpg_file.specs.Read.SegmentState.{Holds, HoldsSegment, segments_view}
 use Rattle.jpg_file.specs.declared.read.segment_state.SegmentTaken.TheVariants as took
 use Rattle.jpg_file.specs.declared.read.items.Items.{Items}
@@ -74,17 +75,19 @@ start_more limits bytes r p e a = by p a
     by phase.Ended k = absurd k
     by q k = between q k
 
+start_at : (limits : Limits) (bytes sent : List ℕ) (items : List Item) (blocks : Blocks) (r : Reading) → bytes ≡ sent → items ≡ [] → blocks ≡ no_blocks → r.limits ≡ limits → RepresentsSegments sent (segments_of items) r
+    → AtPlace limits bytes sent items blocks
+start_at limits bytes sent items blocks r same none blank e stands =
+    let S : List Item → Type 0 = λ z. RepresentsSegments sent (segments_of z) r in
+    let Q : List Item → Type 0 = λ z. AtPlace limits sent sent z blocks in
+    let R : Blocks → Type 0 = λ z. AtPlace limits sent sent [] z in
+    subst (λ z. AtPlace limits z sent items blocks) (sym same) (subst Q (sym none) (subst R (sym blank) (start_more limits sent r r.phase e (subst S none stands).1)))
+
 -- BYTES that are continued
 place_more : (limits : Limits) (bytes sent more : List ℕ) (items : List Item) (blocks : Blocks) (r : Reading) → r.limits ≡ limits → RepresentsSegments (sent ++ more) (segments_of items) r → AtPlace limits bytes sent items blocks
     → AtPlace limits (bytes ++ more) (sent ++ more) items blocks
 place_more limits bytes sent more items blocks r e stands (inr (tail, w)) = inr (tail ++ more, record { beside = beside_more limits (kept_rule limits) sent bytes items tail more w.beside; leads = w.leads })
-place_more limits bytes sent more items blocks r e stands (inl s) =
-    let S : List Item → Type 0 = λ z. RepresentsSegments (sent ++ more) (segments_of z) r in
-    let k = subst S s.no_items stands in
-    let P : List ℕ → Type 0 = λ z. AtPlace limits (z ++ more) (sent ++ more) items blocks in
-    let Q : List Item → Type 0 = λ z. AtPlace limits (sent ++ more) (sent ++ more) z blocks in
-    let R : Blocks → Type 0 = λ z. AtPlace limits (sent ++ more) (sent ++ more) [] z in
-    subst P (sym s.same) (subst Q (sym s.no_items) (subst R (sym s.blank) (start_more limits (sent ++ more) r r.phase e k.1)))
+place_more limits bytes sent more items blocks r e stands (inl s) = start_at limits (bytes ++ more) (sent ++ more) items blocks r (ap (λ l. l ++ more) s.same) s.no_items s.blank e stands
 
 -- A FAULT of markers and lengths
 pub beside_fault : (limits : Limits) (bytes sent : List ℕ) (items : List Item) (blocks : Blocks) (tail : List ℕ) (fault : Fault) → IsBeside limits bytes sent items blocks tail → RevealsAfter (kept_rule limits) (segments_of items) fault sent → Reveals limits fault bytes
@@ -124,30 +127,25 @@ last_segment limits sent before code contents r e p stands =
       kept = (b.passed).1;
     }
 
-long_segment : (code : ℕ) (contents bytes : List ℕ) → SpellsSegment code contents bytes → 2 ≤ length bytes
-long_segment code contents bytes s =
-    let m = s.1 in
-    let a = ap length s.3 in
+-- a segment has four bytes or more
+pub segment_long : (code : ℕ) (contents bytes : List ℕ) → SpellsSegment code contents bytes → 4 ≤ length bytes
+segment_long code contents bytes s =
+    let two : length (to_be_bytes w16 (length contents + 2)) ≡ 2 = refl in
     let b = length-append (s.0 ++ to_be_bytes w16 (length contents + 2)) contents in
     let d = length-append s.0 (to_be_bytes w16 (length contents + 2)) in
-    let f = ap length m.1 in
-    let g = length-append (replicate (suc m.0) 255) (code ∷ []) in
-    let h = length-replicate {A = ℕ} (suc m.0) 255 in
-    omega (arith, a, b, d, f, g, h)
+    let g = length-append (replicate (suc s.1.0) 255) (code ∷ []) in
+    omega (arith, ap length s.3, b, d, ap length s.1.1, g, length-replicate {A = ℕ} (suc s.1.0) 255, two)
 
 few_sent : (sent : List ℕ) → (sent ≡ []) ⊎ (sent ≡ 255 ∷ []) → length sent ≤ 1
 few_sent sent (inl e) = omega (arith, ap length e)
 few_sent sent (inr e) = omega (arith, ap length e)
 
 -- none is complete before SOI is
-start_no_segment : (limits : Limits) (sent : List ℕ) (b : ℕ) (code : ℕ) (contents : List ℕ) → (sent ≡ []) ⊎ (sent ≡ 255 ∷ []) → LastSegment limits (sent ++ b ∷ []) [] code contents → ⊥
-start_no_segment limits sent b code contents short s =
-    let a = ap length (s.between).cut in
+start_no_segment : (limits : Limits) (sent : List ℕ) (code : ℕ) (contents : List ℕ) → length sent ≤ 2 → LastSegment limits sent [] code contents → ⊥
+start_no_segment limits sent code contents few s =
     let d = length-append (s.between).front s.rest in
-    let f = ap length (s.between).spelled in
-    let g = long_segment code contents s.rest s.spelled in
-    let h = length-append sent (b ∷ []) in
-    omega (arith, a, d, f, g, h, few_sent sent short)
+    let g = segment_long code contents s.rest s.spelled in
+    omega (arith, ap length (s.between).cut, d, g, few)
 
 -- between segments SOI was sent
 past_start : (limits : Limits) (sent : List ℕ) (before : List Segment) (r : Reading) → r.phase ≡ phase.Between → RepresentsSegments sent before r → (sent ≡ []) ⊎ (sent ≡ 255 ∷ []) → before ≡ [] → ⊥
@@ -158,10 +156,6 @@ past_start limits sent before r p stands short none =
     let d = length-append between.front tail in
     let f = ap length spelled in
     omega (arith, a, d, f, few_sent sent short)
-
--- EOI isn't the first of them
-no_first_end : code_fault [] 0xd9 ≡ None → ⊥
-no_first_end e = cc
 
 -- THE PART of a segment that was read
 part_read : (r : Reading) (p : Phase) (before : List Segment) (tail : List ℕ) → PartRead r p before tail → ((code : ℕ) × BeginsSegment before code tail) ⊎ PartOfSegment before tail
@@ -210,59 +204,6 @@ module _ (limits : Limits) (bytes : List ℕ) (items : List Item) (blocks : Bloc
     holds = subst (λ h. Holds limits h (segments_of items)) (sym same) k.holds;
   }
 
-  pub goes_on : (b : ℕ) (s : SegmentReader) → RepresentsSegments (k.sent ++ b ∷ []) (segments_of items) (reading_of s)
-      → (reading_of s).limits ≡ (reading_of w.segments).limits
-      → (more : List Item) × AddsNoScan items more × BetweenItems limits (bytes ++ b ∷ []) more blocks (record w { segments = s })
-  goes_on b s stands e = (items, inl refl, passes_on (b ∷ []) (record w { segments = s }) stands e refl refl)
-
-  -- a fault of markers and lengths
-  pub byte_fault : (b : ℕ) (s : SegmentReader) (f : FaultAt) → (reading_of s).limits ≡ (reading_of w.segments).limits
-      → Comes (k.sent ++ b ∷ []) (segments_of items) (Err (stop.Fault f)) (reading_of s)
-      → Reveals limits f.fault (bytes ++ b ∷ []) × (f.at ≡ (reading_of s).taken)
-  byte_fault b s f e c =
-      let shown = subst (λ (l : Limits). RevealsAfter (kept_rule l) (segments_of items) f.fault (k.sent ++ b ∷ [])) (e ∙ k.bounded.0) c.1 in
-      (by k.at shown, c.2)
-    where
-      by : AtPlace limits bytes k.sent items blocks → RevealsAfter (kept_rule limits) (segments_of items) f.fault (k.sent ++ b ∷ []) → Reveals limits f.fault (bytes ++ b ∷ [])
-      by (inr (tail, at)) shown =
-          beside_fault limits (bytes ++ b ∷ []) (k.sent ++ b ∷ []) items blocks (tail ++ b ∷ []) f.fault (record { beside = beside_more limits (kept_rule limits) k.sent bytes items tail (b ∷ []) at.beside; leads = at.leads }) shown
-      by (inl z) shown =
-          let S : List Item → Type 0 = λ l. RevealsAfter (kept_rule limits) (segments_of l) f.fault (k.sent ++ b ∷ []) in
-          subst (λ l. Reveals limits f.fault (l ++ b ∷ [])) (sym z.same) (start_fault limits (k.sent ++ b ∷ []) f.fault (subst S z.no_items shown))
-
-  -- one more segment is complete
-  pub after_segment : (b : ℕ) (s : SegmentReader) → Comes (k.sent ++ b ∷ []) (segments_of items) (Ok step.Whole) (reading_of s)
-      → (reading_of s).phase ≡ phase.Between → (reading_of s).limits ≡ (reading_of w.segments).limits
-      → AfterSegment limits (bytes ++ b ∷ []) items blocks (record w { segments = s })
-  after_segment b s c p e = by k.at
-    where
-      r : Reading
-      r = reading_of s
-
-      last : LastSegment limits (k.sent ++ b ∷ []) (segments_of items) r.code r.contents
-      last = last_segment limits (k.sent ++ b ∷ []) (segments_of items) r.code r.contents r (e ∙ k.bounded.0) p c.1
-
-      by : AtPlace limits bytes k.sent items blocks → AfterSegment limits (bytes ++ b ∷ []) items blocks (record w { segments = s })
-      by (inl start) =
-          let S : List Item → Type 0 = λ z. LastSegment limits (k.sent ++ b ∷ []) (segments_of z) r.code r.contents in
-          absurd (start_no_segment limits k.sent b r.code r.contents start.short (subst S start.no_items last))
-      by (inr (tail, at)) =
-          let beside = beside_more limits (kept_rule limits) k.sent bytes items tail (b ∷ []) at.beside in
-          let t = same_tail (kept_rule limits) (k.sent ++ b ∷ []) (segments_of items) (tail ++ b ∷ []) last.rest beside.between last.between in
-          record {
-            sent = k.sent ++ b ∷ [];
-            tail = tail ++ b ∷ [];
-            stands = c.1;
-            at = record { beside = beside; leads = at.leads };
-            spelled = subst (λ z. SpellsSegment r.code r.contents z) (sym t) last.spelled;
-            allowed = last.allowed;
-            no_end = last.no_end;
-            phase = p;
-            kept = last.kept;
-            bounded = (e ∙ k.bounded.0, k.bounded.1);
-            holds = k.holds;
-          }
-
   -- a complete segment at once
   whole_at : (more : List ℕ) (code : ℕ) (contents : List ℕ) (new : Items) → (reading_of w.segments).phase ≡ phase.Between
       → (reading_of new.segments).phase ≡ phase.Between → (reading_of new.segments).limits ≡ limits → new.limits ≡ limits
@@ -300,29 +241,6 @@ module _ (limits : Limits) (bytes : List ℕ) (items : List Item) (blocks : Bloc
             },
           )
 
-  -- EOI
-  pub after_end : (b : ℕ) (s : SegmentReader) → Comes (k.sent ++ b ∷ []) (segments_of items) (Ok step.Eoi) (reading_of s)
-      → (reading_of s).limits ≡ (reading_of w.segments).limits
-      → BehindEnd limits (bytes ++ b ∷ []) items blocks (record w { segments = s })
-  after_end b s c e = by k.at
-    where
-      ends : EndsAtEoi (kept_rule limits) (segments_of items) (k.sent ++ b ∷ [])
-      ends = subst (λ (l : Limits). EndsAtEoi (kept_rule l) (segments_of items) (k.sent ++ b ∷ [])) (e ∙ k.bounded.0) c.1
-
-      by : AtPlace limits bytes k.sent items blocks → BehindEnd limits (bytes ++ b ∷ []) items blocks (record w { segments = s })
-      by (inl start) = absurd (no_first_end (subst (λ (z : List Item). code_fault (segments_of z) 0xd9 ≡ None) start.no_items ends.3))
-      by (inr (tail, at)) =
-          let beside = beside_more limits (kept_rule limits) k.sent bytes items tail (b ∷ []) at.beside in
-          let t = same_tail (kept_rule limits) (k.sent ++ b ∷ []) (segments_of items) (tail ++ b ∷ []) ends.0 beside.between ends.1 in
-          record {
-            sent = k.sent ++ b ∷ [];
-            tail = tail ++ b ∷ [];
-            at = record { beside = beside; leads = at.leads };
-            ended = subst (λ z. SpellsMarker 0xd9 z) (sym t) ends.2;
-            allowed = ends.3;
-            holds = k.holds;
-          }
-
   -- the bytes have no fault
   pub between_stands : UnfinishedFile limits bytes
   between_stands = by k.at
@@ -335,6 +253,88 @@ module _ (limits : Limits) (bytes : List ℕ) (items : List Item) (blocks : Bloc
       by (inr (tail, at)) =
           part_stands limits (kept_rule limits) k.sent bytes items tail at.beside
           (part_after limits bytes k.sent items blocks (reading_of w.segments) tail (reading_of w.segments).phase k.bounded.0 at (k.stands).1)
+
+-- the reader of segments didn't stop
+pub between_going : (limits : Limits) (bytes : List ℕ) (items : List Item) (blocks : Blocks) (w : Items) → BetweenItems limits bytes items blocks w → (reading_of w.segments).stop ≡ None
+between_going limits bytes items blocks w k = k.stands.0
+
+-- FURTHER BYTES, by the result of the reader of segments
+abbrev pub Fed : Limits → List ℕ → List Item → Blocks → Result SegStep Stop → Items → Type 0
+Fed limits bytes items blocks (Ok step.More) w = AfterItem limits bytes items blocks More w
+Fed limits bytes items blocks (Ok step.Start) w = AfterItem limits bytes items blocks More w
+Fed limits bytes items blocks (Ok step.Frame) w = AfterItem limits bytes items blocks More w
+Fed limits bytes items blocks (Ok step.Eoi) w = BehindEnd limits bytes items blocks w
+Fed limits bytes items blocks (Ok step.Whole) w = AfterSegment limits bytes items blocks w
+Fed limits bytes items blocks (Err (stop.Fault f)) w = Reveals limits f.fault bytes × (f.at ≡ (reading_of w.segments).taken)
+Fed limits bytes items blocks (Err stop.NoMemory) w = Unit {0}
+
+module _ (limits : Limits) (bytes sent : List ℕ) (items : List Item) (blocks : Blocks) (w : Items)
+    (bounded : ((reading_of w.segments).limits ≡ limits) × (w.limits ≡ limits)) (holds : Holds limits (segments_view w.held) (segments_of items)) where
+  abbrev r : Reading
+  r = reading_of w.segments
+
+  on : RepresentsSegments sent (segments_of items) r → AtPlace limits bytes sent items blocks → AfterItem limits bytes items blocks More w
+  on stands at = (items, inl refl, record { sent = sent; stands = stands; at = at; bounded = bounded; holds = holds })
+
+  -- after SOI
+  pub fed_beside : (tail : List ℕ) → IsBeside limits bytes sent items blocks tail → (came : Result SegStep Stop) → Comes sent (segments_of items) came r → (came ≡ Ok step.Whole → r.phase ≡ phase.Between)
+      → Fed limits bytes items blocks came w
+  fed_beside tail at (Ok step.More) c p = on c.1 (inr (tail, at))
+  fed_beside tail at (Ok step.Start) c p = on c.1 (inr (tail, at))
+  fed_beside tail at (Ok step.Frame) c p = on c.1 (inr (tail, at))
+  fed_beside tail at (Ok step.Eoi) c p =
+      let ends = subst (λ (l : Limits). EndsAtEoi (kept_rule l) (segments_of items) sent) bounded.0 c.1 in
+      let t = same_tail (kept_rule limits) sent (segments_of items) tail ends.0 (at.beside).between ends.1 in
+      record { sent = sent; tail = tail; at = at; ended = subst (λ z. SpellsMarker 0xd9 z) (sym t) ends.2; allowed = ends.3; holds = holds }
+  fed_beside tail at (Ok step.Whole) c p =
+      let last = last_segment limits sent (segments_of items) r.code r.contents r bounded.0 (p refl) c.1 in
+      let t = same_tail (kept_rule limits) sent (segments_of items) tail last.rest (at.beside).between last.between in
+      record {
+        sent = sent;
+        tail = tail;
+        stands = c.1;
+        at = at;
+        spelled = subst (λ z. SpellsSegment r.code r.contents z) (sym t) last.spelled;
+        allowed = last.allowed;
+        no_end = last.no_end;
+        phase = p refl;
+        kept = last.kept;
+        bounded = bounded;
+        holds = holds;
+      }
+  fed_beside tail at (Err (stop.Fault f)) c p =
+      (beside_fault limits bytes sent items blocks tail f.fault at (subst (λ (l : Limits). RevealsAfter (kept_rule l) (segments_of items) f.fault sent) bounded.0 c.1), c.2)
+  fed_beside tail at (Err stop.NoMemory) c p = tt
+
+  -- before it is complete, or with its last byte
+  fed_start : bytes ≡ sent → length sent ≤ 2 → items ≡ [] → blocks ≡ no_blocks → (came : Result SegStep Stop) → Comes sent (segments_of items) came r → (came ≡ Ok step.Whole → r.phase ≡ phase.Between)
+      → Fed limits bytes items blocks came w
+  fed_start same few none blank (Ok step.More) c p = on c.1 (start_at limits bytes sent items blocks r same none blank bounded.0 c.1)
+  fed_start same few none blank (Ok step.Start) c p = on c.1 (start_at limits bytes sent items blocks r same none blank bounded.0 c.1)
+  fed_start same few none blank (Ok step.Frame) c p = on c.1 (start_at limits bytes sent items blocks r same none blank bounded.0 c.1)
+  fed_start same few none blank (Ok step.Eoi) c p = absurd (let z : code_fault [] 0xd9 ≡ None = subst (λ (z : List Item). code_fault (segments_of z) 0xd9 ≡ None) none c.1.3 in cc)
+  fed_start same few none blank (Ok step.Whole) c p =
+      absurd (start_no_segment limits sent r.code r.contents few (subst (λ (z : List Item). LastSegment limits sent (segments_of z) r.code r.contents) none (last_segment limits sent (segments_of items) r.code r.contents r bounded.0 (p refl) c.1)))
+  fed_start same few none blank (Err (stop.Fault f)) c p =
+      let shown = subst (λ (l : Limits). RevealsAfter (kept_rule l) (segments_of items) f.fault sent) bounded.0 c.1 in
+      (subst (Reveals limits f.fault) (sym same) (start_fault limits sent f.fault (subst (λ (z : List Item). RevealsAfter (kept_rule limits) (segments_of z) f.fault sent) none shown)), c.2)
+  fed_start same few none blank (Err stop.NoMemory) c p = tt
+
+-- a byte
+pub byte_comes : (limits : Limits) (bytes : List ℕ) (items : List Item) (blocks : Blocks) (w : Items) (k : BetweenItems limits bytes items blocks w) (b : ℕ) (s : SegmentReader) (came answer : Result SegStep Stop) → came ≡ answer
+    → Comes (k.sent ++ b ∷ []) (segments_of items) came (reading_of s) → AfterWhole came (reading_of s) → (reading_of s).limits ≡ (reading_of w.segments).limits → Fed limits (bytes ++ b ∷ []) items blocks answer (record w { segments = s })
+byte_comes limits bytes items blocks w k b s came answer is c whole e = subst (λ (a : Result SegStep Stop). Fed limits (bytes ++ b ∷ []) items blocks a (record w { segments = s })) is (by k.at)
+  where
+    between : came ≡ Ok step.Whole → (reading_of s).phase ≡ phase.Between
+    between h = subst (λ (a : Result SegStep Stop). AfterWhole a (reading_of s)) h whole
+
+    by : AtPlace limits bytes k.sent items blocks → Fed limits (bytes ++ b ∷ []) items blocks came (record w { segments = s })
+    by (inl t) =
+        fed_start limits (bytes ++ b ∷ []) (k.sent ++ b ∷ []) items blocks (record w { segments = s }) (e ∙ k.bounded.0, k.bounded.1) k.holds
+        (ap (λ l. l ++ b ∷ []) t.same) (omega (arith, few_sent k.sent t.short, length-append k.sent (b ∷ []))) t.no_items t.blank came c between
+    by (inr (tail, at)) =
+        fed_beside limits (bytes ++ b ∷ []) (k.sent ++ b ∷ []) items blocks (record w { segments = s }) (e ∙ k.bounded.0, k.bounded.1) k.holds
+        (tail ++ b ∷ []) (record { beside = beside_more limits (kept_rule limits) k.sent bytes items tail (b ∷ []) at.beside; leads = at.leads }) came c between
 
 -- BYTES that only continue
 pub stretch_passes : (w : Items) (r : SegmentReader) (bytes : List ℕ) (n : ℕ) → PassesSome (reading_of w.segments) bytes (Ok n) (reading_of r) → (reading_of r).taken ≡ (reading_of w.segments).taken + n

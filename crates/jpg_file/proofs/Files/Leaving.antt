@@ -31,12 +31,10 @@ use Rattle.jpg_spec.proofs.Files.ScanSteps.{inside}
 use Rattle.jpg_spec.proofs.Files.Ranges.{leads_in_range}
 use Rattle.jpg_coefs.specs.Picture.{Picture, map_of}
 use Rattle.jpg_markers.specs.Reading.{reading_of}
-use Rattle.jpg_file.specs.Read.ScanHistory.{HasBegun, HasBegunEach, IsComplete}
+use Rattle.jpg_file.specs.Read.SegmentState.{HasBegun, HasBegunEach, IsComplete, Holds, segments_view, kept_for}
 use Rattle.jpg_file.specs.Read.File.{EndsFile, PictureSoFar, RepresentsFile, IsBetweenFileItems, IsInsideScanOfFile, keeping_of}
-use Rattle.jpg_file.specs.Read.SegmentState.{Holds, segments_view}
 use Rattle.jpg_file.specs.Read.InData.{AtInterval, InData}
 use Rattle.jpg_file.specs.Read.Items.{AtPlace, IsBeside}
-use Rattle.jpg_file.specs.Read.Keeping.{kept_for}
 use Rattle.jpg_file.specs.Read.Left.{Leaves, LeavesPicture}
 use Rattle.jpg_file.specs.Read.PictureRead.{MeansFor, RevealsFile}
 use Rattle.jpg_file.specs.Read.ReadFile.{EndsBetweenItems, HasRead, IsDone, IsEarlyEnd, ReaderState, TellsBegun}
@@ -44,18 +42,17 @@ use Rattle.jpg_scans.specs.declared.progress.Progress.{Progress}
 use Rattle.jpg_file.specs.declared.read.scan_history.ScanHistory.{ScanHistory}
 use Rattle.jpg_file.specs.declared.read.file.FileWork.{FileWork}
 use Rattle.jpg_file.specs.declared.read.picture.Picture.{Picture as Shown}
-use Rattle.jpg_file.proofs.Files.FileSteps.{frame_for, frame_left, one_begun}
+use Rattle.jpg_file.proofs.Files.FileSteps.{frame_for, frame_left, one_begun, file_means}
 use Rattle.jpg_file.proofs.Files.ItemBytes.{part_after}
 use Rattle.jpg_file.proofs.Scans.Machines.{scans_keep_units}
-use Rattle.jpg_file.proofs.Files.PieceSteps.{file_means}
 use Rattle.jpg_file.proofs.Scans.ScanBytes.{of_place}
 
 -- A COMPLETE FILE
 
 pub file_leaves : (limits : Limits) (bytes : List ℕ) (w : FileWork) → (e : EndsFile limits bytes w) → Leaves limits (segments_of (e.ends).items) (e.ends).blocks w
-file_leaves limits bytes w e = by w.reading.coefs refl ((e.ends).beside).picture
+file_leaves limits bytes w e = by w.coefs refl ((e.ends).beside).picture
   where
-    by : (q : Option Picture) → w.reading.coefs ≡ q → PictureSoFar limits (e.ends).items (e.ends).blocks q → Leaves limits (segments_of (e.ends).items) (e.ends).blocks w
+    by : (q : Option Picture) → w.coefs ≡ q → PictureSoFar limits (e.ends).items (e.ends).blocks q → Leaves limits (segments_of (e.ends).items) (e.ends).blocks w
     by None h (none, blank) = absurd (one_begun limits bytes w e none)
     by (Some q) h (found, is, as_map) =
         let k = e.ends in
@@ -112,7 +109,7 @@ pub record EndsHere (limits : Limits) (bytes : List ℕ) (w : FileWork) (segment
   pub have : HaveBegun limits bytes
   pub ends : (let M = meaning_of (frame_of limits segments) segments blocks in EndsAfter limits bytes M ⊎ EndsInside limits bytes M)
   pub coefs : Picture
-  pub has : w.reading.coefs ≡ Some coefs
+  pub has : w.coefs ≡ Some coefs
   pub framed : coefs.frame ≡ frame_of limits segments
   pub as_map : blocks ≡ map_of coefs
   pub range : AreInRange (bounds (frame_of limits segments)) blocks
@@ -122,7 +119,7 @@ pub record AtEnd (limits : Limits) (bytes : List ℕ) (w : FileWork) : Type 0 wh
   pub segments : List Segment
   pub blocks : Blocks
   pub begun : HasBegun limits w.begun segments
-  pub holds : Holds limits (segments_view w.reading.items.held) segments
+  pub holds : Holds limits (segments_view w.items.held) segments
   pub headers : Pass (header_rule limits) segments
   pub named : HaveBegun limits bytes → AllNamed limits segments
   pub here : HasSome limits segments → AllNamed limits segments → EndsHere limits bytes w segments blocks
@@ -191,8 +188,7 @@ beside_end limits bytes sent w s tail k part =
       holds = (s.at).holds;
       headers = leads_pass limits s.items s.blocks k.leads;
       named = begun_behind limits bytes s.items all behind part';
-      here = λ some named.
-          (let q = picture_here limits s.items s.blocks w.reading.coefs some named (s.beside).picture in
+      here = λ some named. (let q = picture_here _ _ _ _ some named (s.beside).picture in
           record {
             have = after_begun limits bytes s.items all behind some named;
             ends = inl (record { items = s.items; tail = all; behind = behind; part = part'; begun = filled_begun (k.beside).fill s.items tail (k.beside).plain; meaning = refl });
@@ -218,7 +214,7 @@ between_end limits bytes w s = by (s.at).at
       here = λ some named. absurd (start_not_named limits s.items k.no_items named);
     }
     by (inr (tail, k)) =
-        let r = reading_of (w.reading.items).segments in
+        let r = reading_of (w.items).segments in
         beside_end limits bytes (s.at).sent w s tail k (part_after limits bytes (s.at).sent s.items s.blocks r tail r.phase (s.at).bounded.0 k ((s.at).stands).1)
 
 pub ends_between : (limits : Limits) (bytes : List ℕ) (w : FileWork) → IsBetweenFileItems limits bytes w → EndsBetweenItems limits bytes
@@ -227,7 +223,7 @@ ends_between limits bytes w s = by (s.at).at
     by : AtPlace limits bytes (s.at).sent s.items s.blocks → EndsBetweenItems limits bytes
     by (inl k) = inl (subst (λ z. (z ≡ []) ⊎ (z ≡ 255 ∷ [])) (sym k.same) k.short)
     by (inr (tail, k)) =
-        let r = reading_of (w.reading.items).segments in
+        let r = reading_of (w.items).segments in
         let part = part_after limits bytes (s.at).sent s.items s.blocks r tail r.phase (s.at).bounded.0 k ((s.at).stands).1 in
         inr (s.items, replicate (k.beside).fill 255 ++ tail, (k.beside).behind, filled_item (k.beside).fill s.items tail part)
 
@@ -239,7 +235,7 @@ record InPart (limits : Limits) (p : ScanPlace) (now : Picture) : Type 0 where
   pub framed : now.frame ≡ frame_of limits (segments_of p.items)
 
 in_part : (limits : Limits) (bytes : List ℕ) (w : FileWork) (s : IsInsideScanOfFile limits bytes w) → InPart limits (((s.at).at).place) (s.at).coefs
-in_part limits bytes w s = by (s.at).scan.work.whole (d.work).at
+in_part limits bytes w s = by (s.at).scan.whole (d.work).at
   where
     d : InData limits s.items s.contents bytes (s.at).scan (s.at).coefs
     d = (s.at).at
@@ -250,11 +246,11 @@ in_part limits bytes w s = by (s.at).scan.work.whole (d.work).at
     now : Picture
     now = (s.at).coefs
 
-    by : (b : Bool) → AtInterval limits (((s.at).at).place) b (s.at).scan.work.machine (s.at).coefs → InPart limits (((s.at).at).place) (s.at).coefs
+    by : (b : Bool) → AtInterval limits (((s.at).at).place) b (s.at).scan.machine (s.at).coefs → InPart limits (((s.at).at).place) (s.at).coefs
     by true k = record { part = inr k.so_far; framed = k.framed }
     by false k =
         let i = k.interval in
-        let u = scans_keep_units.unfinished (s.at).scan.work.machine i (bits_of_bytes p.coded) now k.stands in
+        let u = scans_keep_units.unfinished (s.at).scan.machine i (bits_of_bytes p.coded) now k.stands in
         let stands = of_place limits p i (λ c us. StandsInUnits c us (u.whole ++ u.part) u.left (bits_of_bytes p.coded)) (d.work).readable k.is k.so_far u.stands in
         record {
           part = inl (record {
@@ -289,7 +285,7 @@ inside_end limits bytes w s =
       segments = segments;
       blocks = after;
       begun = subst (λ z. HasBegun limits w.begun z) same s.begun;
-      holds = subst (λ z. Holds limits (segments_view w.reading.items.held) z) same (r.head).holds;
+      holds = subst (λ z. Holds limits (segments_view w.items.held) z) same (r.head).holds;
       headers = (i.allowed.0, header_too limits before 0xda p.contents i.allowed.1, leads_pass limits p.items p.blocks i.leads);
       named = begun_inside limits bytes tail d.fill i refl;
       here = λ some named.
@@ -351,7 +347,7 @@ named_each limits bytes w all s told e =
 leaves_at : (limits : Limits) (bytes : List ℕ) (w : FileWork) → (a : AtEnd limits bytes w) → AllNamed limits a.segments → Leaves limits a.segments a.blocks w
 leaves_at limits bytes w a named =
     let h = a.here (some_at limits bytes w a named.found) named in
-    let f = frame_for limits a.segments w.reading.items.held.frame (a.holds).frame a.headers named.found in
+    let f = frame_for limits a.segments w.items.held.frame (a.holds).frame a.headers named.found in
     record {
       coefs = h.coefs;
       has = h.has;

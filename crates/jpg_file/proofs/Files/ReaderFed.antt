@@ -1,5 +1,5 @@
 -- A reader that was fed, and how many scans' data have ended.
-use Rattle.std.proofs.Common.{◌≡◌, ℕ, suc, cond, ◌-◌, ◌≤◌, ◌==◌, Bool, true, false, List, [], ◌∷◌, ◌++◌, refl, sym, ap, ◌∙◌, subst, arith, inl, inr, ◌⊎◌, ◌<◌, length, take, drop, Some, None, Ok, Err, is_some, replicate, Option, Result, append_assoc, length-append, take-append-drop, take_all}
+use Rattle.std.proofs.Common.{◌≡◌, ℕ, suc, cond, ◌-◌, ◌≤◌, ◌==◌, Bool, true, false, List, [], ◌∷◌, ◌++◌, refl, sym, ap, ◌∙◌, subst, arith, inl, inr, ◌⊎◌, ◌<◌, length, take, drop, Some, None, Ok, Err, is_some, replicate, Option, Result, append_assoc, length-append, take-append-drop, take_all, ◌+◌, append-nil, length-drop}
 use Rattle.jpg_spec.specs.Items.{Item, segment, scan, segments_of, ends_in_scan}
 use Rattle.jpg_spec.specs.Markers.{Segment}
 use Rattle.jpg_spec.specs.ScanReading.{LeadingMarker}
@@ -13,12 +13,13 @@ use Rattle.jpg_spec.proofs.Files.TailsOnce.{goes_not_head}
 use Rattle.jpg_spec.proofs.Headers.HeadersOnce.{after_front}
 use Rattle.jpg_spec.proofs.Segments.MarkersOnce.{no_head}
 use Rattle.jpg_markers.specs.Reading.{reading_of}
-use Rattle.jpg_file.specs.Read.File.{IsBetweenFileItems, IsInsideScanOfFile, RepresentsFile, scans_ended, EndsFile, with_picture}
+use Rattle.jpg_file.specs.Read.File.{IsBetweenFileItems, IsInsideScanOfFile, RepresentsFile, scans_ended, EndsFile, with_picture, TakesSome}
 use Rattle.jpg_file.specs.Read.Items.{AtPlace}
-use Rattle.jpg_file.specs.Read.ScanHistory.{scan_headers, HasBegunEach}
-use Rattle.jpg_file.specs.Read.ScansEnded.{ScansEnded}
+use Rattle.jpg_file.specs.Read.SegmentState.{scan_headers, HasBegunEach}
+use Rattle.jpg_file.specs.Read.ScanPieces.{ScansEnded, AfterFeedScan, FeedsScan, NoScanEnds}
 use Rattle.jpg_file.specs.declared.read.file.FileWork.{FileWork}
 use Rattle.jpg_file.proofs.Files.ItemBytes.{part_after}
+use Rattle.std.specs.Result.{result_err}
 use Rattle.std.proofs.lemmas.List.{take-append-le}
 use Rattle.std.proofs.lemmas.Bool.{cases_lt}
 use Rattle.jpg_spec.specs.declared.fault.FaultAt.{FaultAt}
@@ -27,23 +28,19 @@ use Rattle.jpg_base.specs.declared.stop.Fed.{Fed}
 use Rattle.jpg_base.specs.declared.stop.Fed.TheVariants as whole
 use Rattle.jpg_base.specs.declared.stop.Stop.{Stop}
 use Rattle.jpg_base.specs.declared.stop.Stop.TheVariants as stop
-use Rattle.jpg_file.specs.Read.PieceTaken.{ReadsPiece, ReadsOn}
-use Rattle.jpg_file.specs.Read.ReadFile.{AfterFeed, AsksForMemory, AsksOnFeed, FeedsFile, HasRead, IsStopOf, ReaderState}
-use Rattle.jpg_file.specs.Read.ReadRows.{IsPlain, IsReading, ReadsInto, ReadsOne, after_piece, with_work, work_of}
-use Rattle.jpg_file.specs.Read.RowPieces.{AfterRowsPiece, KeepsWork, RowsGive, RowsGo, RowsOpen}
+use Rattle.jpg_file.specs.Read.ReadFile.{CountsOn, ReadsPiece, ReadsUpTo, TakesPiece, AfterFeed, AsksForMemory, FeedsFile, HasRead, IsDone, IsStopOf, ReaderState, RowsGive, RowsGo, RowsOpen, CountsBefore, TakesBytes, IsPlain, IsReading, ReadsInto, ReadsOne, after_piece, is_done, with_work, work_of}
 use Rattle.jpg_file.specs.Read.Strips.{AfterStrip, StripGoes, RepresentsStrip}
 use Rattle.jpg_file.specs.declared.read.pieces.FedRow.{FedRow}
 use Rattle.jpg_file.specs.declared.read.pieces.FedRow.TheVariants as fed
 use Rattle.jpg_file.specs.declared.read.rows.RowWork.{RowWork}
 use Rattle.jpg_file.specs.declared.read.strip_work.StripWork.{StripWork}
 use Rattle.jpg_file.specs.declared.read.step.Step.TheVariants as step
-use Rattle.jpg_file.proofs.Files.FileSteps.{head_is, head_left}
+use Rattle.jpg_file.proofs.Files.FileSteps.{head_is, head_left, counted, file_means, stands_file, front_is, limits_are}
 use Rattle.jpg_file.proofs.Files.Leaving.{ends_each, filled_begun, filled_item, whole_leaves}
 use Rattle.jpg_spec.proofs.Files.ScanSteps.{inside}
-use Rattle.jpg_file.proofs.Files.PieceSteps.{file_means, stands_file}
-use Rattle.jpg_file.specs.Read.ScanPieces.{AfterFeedScan, CountsOn, NoScanEnds, ReadsScan}
 use Rattle.jpg_file.specs.declared.read.pieces.FedScan.{FedScan}
 use Rattle.jpg_file.specs.declared.read.pieces.FedScan.TheVariants as came
+use Rattle.jpg_file.specs.declared.read.step.Step.{Step}
 
 -- How many scans' data have ended in the bytes of a file, by its state.
 
@@ -57,7 +54,7 @@ between_ended limits bytes w s = by (s.at).at
     by (inl start) = inl (subst (λ l. (l ≡ []) ⊎ (l ≡ 255 ∷ [])) (sym start.same) start.short, all ∙ ap (λ l. scan_headers (segments_of l)) start.no_items)
     by (inr (tail, at)) =
         let b = at.beside in
-        let part = part_after limits bytes (s.at).sent s.items s.blocks (reading_of (w.reading.items).segments) tail (reading_of (w.reading.items).segments).phase (s.at).bounded.0 at ((s.at).stands).1 in
+        let part = part_after limits bytes (s.at).sent s.items s.blocks (reading_of (w.items).segments) tail (reading_of (w.items).segments).phase (s.at).bounded.0 at ((s.at).stands).1 in
         inr (inl (record { items = s.items; tail = replicate b.fill 255 ++ tail; behind = b.behind; part = filled_item b.fill s.items tail part; begun = filled_begun b.fill s.items tail b.plain; count = all }))
 
 inside_ended : (limits : Limits) (bytes : List ℕ) (w : FileWork) → IsInsideScanOfFile limits bytes w → ScansEnded limits bytes (scans_ended w)
@@ -192,67 +189,58 @@ whole_each : (limits : Limits) (bytes : List ℕ) (rows : Option RowWork) (w : F
 whole_each limits bytes None w a = ends_each limits bytes w a
 whole_each limits bytes (Some rows) w a = ends_each limits bytes (with_picture w a.whole) a.ends
 
-keeps_going : (r : ReaderState) (old new : StripWork) → KeepsWork old new → r.done ≡ false → IsReading (with_work r old) → ((bytes : List ℕ) → RowsOpen r.limits bytes old.rows old.file → (all : List ℕ) × RowsOpen r.limits all new.rows new.file) → IsReading (with_work r new)
-keeps_going r old new kept undone k next = record {
+-- A PIECE of a reader that hasn't stopped
+pub keeps_piece : {scans : Bool} {r : ReaderState} {piece : List ℕ} {new : StripWork} (answer : Result FedRow Stop) → IsReading r → r.done ≡ false → r.stop ≡ None → ReadsPiece scans r.limits (work_of r) piece answer new
+    → IsReading (after_piece answer (with_work r new))
+keeps_piece {scans = scans} {r = r} {piece = piece} {new = new} answer k undone skip t = record {
   limited = k.limited;
-  in_rows = λ by. kept.by_row ∙ k.in_rows by;
-  keeping = λ by. kept.keeping ∙ k.keeping by;
-  sparing = λ by. kept.sparing (k.keeping by) (k.sparing by);
-  «open» = λ none skip_ahead. (let o = k.open none skip_ahead in next o.0 o.1);
-  ended = λ done. absurd (clash r.done done undone);
-  begun = λ done. absurd (clash r.done done undone);
+  in_rows = λ by. t.keeps.by_row ∙ k.in_rows by;
+  keeping = λ by. t.keeps.keeping ∙ k.keeping by;
+  sparing = λ by. t.keeps.sparing (k.keeping by) (k.sparing by);
+  «open» = λ none going. opened answer t.read none going;
+  ended = λ done none. (let w = whole answer t.read done in whole_leaves r.limits w.0 new.file (ends_plain r.limits w.0 new.rows new.file none w.1));
+  begun = λ done. (let w = whole answer t.read done in whole_each r.limits w.0 new.rows new.file w.1);
 }
+  where
+    o : (bytes : List ℕ) × RowsOpen r.limits bytes r.rows r.file
+    o = k.open skip undone
 
-keeps_more_rows : (r : ReaderState) (old new : StripWork) (piece : List ℕ) (result : Result FedRow Stop) → result ≡ Ok fed.More → r.done ≡ false → IsReading (with_work r old) → ReadsPiece r.limits old piece result new → IsReading (with_work r new)
-keeps_more_rows r old new piece result e undone k t =
-    keeps_going r old new t.keeps undone k (λ bytes h. (bytes ++ piece, go_open r.limits (bytes ++ piece) new.rows new.file (subst (λ x. AfterRowsPiece r.limits bytes piece x new.rows new.file) e (t.after bytes h)).0))
+    go : (used : ℕ) → TakesPiece r.limits (work_of r) piece used step.More new → (bytes : List ℕ) × RowsOpen r.limits bytes new.rows new.file
+    go used t = (o.0 ++ take used piece, go_open r.limits (o.0 ++ take used piece) new.rows new.file (t.after o.0 o.1))
 
-keeps_given_rows : (r : ReaderState) (old new : StripWork) (piece : List ℕ) (result : Result FedRow Stop) (used : ℕ) → result ≡ Ok (fed.Row used) → r.done ≡ false → IsReading (with_work r old) → ReadsPiece r.limits old piece result new → IsReading (with_work r new)
-keeps_given_rows r old new piece result used e undone k t =
-    keeps_going r old new t.keeps undone k (λ bytes h. (bytes ++ take used piece, give_open r.limits (bytes ++ take used piece) new.rows new.file (subst (λ x. AfterRowsPiece r.limits bytes piece x new.rows new.file) e (t.after bytes h)).0))
+    at_row : (scans : Bool) (used : ℕ) → ReadsUpTo scans r.limits (work_of r) piece (Ok (fed.Row used)) new → (bytes : List ℕ) × RowsOpen r.limits bytes new.rows new.file
+    at_row true used t = go used t.0.0
+    at_row false used t = (o.0 ++ take used piece, give_open r.limits (o.0 ++ take used piece) new.rows new.file (t.after o.0 o.1).0)
 
-keeps_done_rows : (r : ReaderState) (old new : StripWork) (piece : List ℕ) (result : Result FedRow Stop) (used : ℕ) → result ≡ Ok (fed.Done used) → r.done ≡ false → r.stop ≡ None → IsReading (with_work r old) → ReadsPiece r.limits old piece result new
-    → IsReading (record (with_work r new) { done = true })
-keeps_done_rows r old new piece result used e undone skip_ahead k t =
-    let o = k.open skip_ahead undone in
-    let a = subst (λ x. AfterRowsPiece r.limits o.0 piece x new.rows new.file) e (t.after o.0 o.1) in
-    let kept = t.keeps in
-    record {
-      limited = k.limited;
-      in_rows = λ by. kept.by_row ∙ k.in_rows by;
-      keeping = λ by. kept.keeping ∙ k.keeping by;
-      sparing = λ by. kept.sparing (k.keeping by) (k.sparing by);
-      «open» = λ none undone_now. absurd (clash true refl undone_now);
-      ended = λ done none. whole_leaves r.limits (o.0 ++ take used piece) new.file (ends_plain r.limits (o.0 ++ take used piece) new.rows new.file none a.0);
-      begun = λ done. whole_each r.limits (o.0 ++ take used piece) new.rows new.file a.0;
-    }
+    opened : (answer : Result FedRow Stop) → ReadsUpTo scans r.limits (work_of r) piece answer new → result_err answer ≡ None → is_done answer ≡ false → (bytes : List ℕ) × RowsOpen r.limits bytes new.rows new.file
+    opened (Ok fed.More) t none going = go (length piece) t.0.0
+    opened (Ok (fed.Row used)) t none going = at_row scans used t
+    opened (Ok (fed.Done used)) t none going = absurd cc
+    opened (Err e) t none going = absurd cc
+
+    whole : (answer : Result FedRow Stop) → ReadsUpTo scans r.limits (work_of r) piece answer new → is_done answer ≡ true → (all : List ℕ) × AfterStrip r.limits all step.Whole new.rows new.file
+    whole (Ok fed.More) t done = absurd cc
+    whole (Ok (fed.Row used)) t done = absurd cc
+    whole (Ok (fed.Done used)) t done = (o.0 ++ take used piece, (t.0.after o.0 o.1).0)
+    whole (Err e) t done = absurd cc
 
 -- as the reader is seen with this work
-abbrev pub state_of : Limits → StripWork → Bool → Bool → Option Stop → ReaderState
+abbrev state_of : Limits → StripWork → Bool → Bool → Option Stop → ReaderState
 state_of limits work by done stopped = record { limits = limits; file = work.file; by_row = by; in_rows = work.by_row; rows = work.rows; strip = work.strip; done = done; stop = stopped }
 
--- A PIECE of a reader, by what is read of it
-module _ (old new : StripWork) (piece : List ℕ) (answer : Result FedRow Stop) {limits : Limits} {by : Bool} {done : Bool} {stopped : Option Stop} {now : ReaderState} (view : state_of limits old by done stopped ≡ now) (undone : now.done ≡ false) (k : IsReading (state_of limits old by done stopped)) (took : ReadsPiece limits old piece answer new) where
-  going_on : done ≡ false
-  going_on = ap (λ (q : ReaderState). q.done) view ∙ undone
+module _ {limits : Limits} {by was done scans : Bool} {old new : StripWork} {before after : Option Stop} {piece : List ℕ} {answer : Result FedRow Stop} {now : ReaderState} (view : state_of limits old by was before ≡ now) (k : IsReading (state_of limits old by was before))
+    (undone : now.done ≡ false) (skip : before ≡ None) (took : ReadsPiece scans limits old piece answer new) (is : done ≡ is_done answer) (stopped : after ≡ result_err answer) where
+  going : was ≡ false
+  going = ap (λ (q : ReaderState). q.done) view ∙ undone
 
-  pub kept_more : answer ≡ Ok fed.More → IsReading (state_of limits new by done stopped)
-  kept_more is = keeps_more_rows (state_of limits old by done stopped) old new piece answer is going_on k took
+  comes : state_of limits new by done after ≡ after_piece answer (with_work (state_of limits old by was before) new)
+  comes = ap (λ d. state_of limits new by d after) is ∙ ap (λ o. state_of limits new by (is_done answer) o) stopped
 
-  pub kept_row : (used : ℕ) → answer ≡ Ok (fed.Row used) → IsReading (state_of limits new by done stopped)
-  kept_row used is = keeps_given_rows (state_of limits old by done stopped) old new piece answer used is going_on k took
+  pub kept : IsReading (state_of limits new by done after)
+  kept = subst (λ (r : ReaderState). IsReading r) (sym comes) (keeps_piece answer k going skip took)
 
-  pub kept_done : (used : ℕ) → answer ≡ Ok (fed.Done used) → stopped ≡ None → IsReading (state_of limits new by true stopped)
-  kept_done used is skip = keeps_done_rows (state_of limits old by done stopped) old new piece answer used is going_on skip k took
-
-  pub reads_into : (came : Result FedRow Stop) → answer ≡ came → ReadsOne now piece answer (after_piece came (state_of limits new by done stopped))
-  reads_into came is skip =
-      let r = state_of limits old by done stopped in
-      let after = after_piece answer (with_work r new) in
-      let none = ap (λ (q : ReaderState). q.stop) view ∙ skip in
-      subst (λ (a : Result FedRow Stop). ReadsInto now piece answer (after_piece a (with_work r new))) is
-      (subst (λ (q : ReaderState). ReadsInto q piece answer after) view
-      (record { work = new; read = took; is = refl; limited = k.limited; in_rows = k.in_rows; memory = λ by. took.memory (k.keeping by) (k.sparing by); given = k.open none going_on }))
+  pub reads_into : ReadsInto scans now piece answer (state_of limits new by done after)
+  reads_into = subst (λ (r : ReaderState). ReadsInto scans r piece answer (state_of limits new by done after)) view (record { reading = k; undone = going; work = new; read = took; is = comes })
 
 -- WHERE NO MCU ROWS ARE READ
 
@@ -262,25 +250,21 @@ plain_stands limits bytes o w none s = (let k = subst (λ (x : Option RowWork). 
 pub plain_open : (limits : Limits) (bytes : List ℕ) (o : Option RowWork) (w : FileWork) → o ≡ None → RepresentsFile limits bytes w → RowsOpen limits bytes o w
 plain_open limits bytes o w none s = subst (λ (x : Option RowWork). RowsOpen limits bytes x w) (sym none) (record { stands = s; last = λ some. absurd cc })
 
-pub plain_go : (limits : Limits) (bytes : List ℕ) (o : Option RowWork) (w : FileWork) → o ≡ None → RepresentsFile limits bytes w → RowsGo limits bytes o w
-plain_go limits bytes o w none s = subst (λ (x : Option RowWork). RowsGo limits bytes x w) (sym none) (record { goes = s; last = λ some. absurd cc })
-
 pub plain_goes : (limits : Limits) (bytes : List ℕ) (o : Option RowWork) (w : FileWork) → o ≡ None → RowsGo limits bytes o w → RepresentsFile limits bytes w
 plain_goes limits bytes o w none g = (let k = subst (λ (x : Option RowWork). StripGoes limits bytes x w) none g.goes in k)
 
-pub fed_more : (r : ReaderState) (old new : StripWork) (bytes piece : List ℕ) → old.rows ≡ None → new.rows ≡ None → HasRead bytes (with_work r old) → ReadsPiece r.limits old piece (Ok fed.More) new → HasRead (bytes ++ piece) (with_work r new)
-fed_more r old new bytes piece before after h t =
-    let a = t.after bytes (plain_open r.limits bytes old.rows old.file before h.open) in
-    let k = plain_goes r.limits (bytes ++ piece) new.rows new.file after a.0 in
-    record { skip_ahead = h.skip_ahead; undone = h.undone; short = a.1; stands = stands_file r.limits (bytes ++ piece) new.file k; «open» = k; head = head_is r.limits (bytes ++ piece) new.file k }
+-- more may follow
+pub fed_more : (r : ReaderState) (new : StripWork) {all : List ℕ} → new.rows ≡ None → RowsGo r.limits all new.rows new.file → new.file.taken < r.limits.input → HasRead all (after_piece (Ok fed.More) (with_work r new))
+fed_more r new {all = all} none g few =
+    let k = plain_goes r.limits all new.rows new.file none g in
+    let c = counted r.limits all new.file k in
+    record { skip_ahead = refl; undone = refl; short = omega (arith, few, c); stands = stands_file r.limits all new.file k; «open» = k; head = head_is r.limits all new.file k }
 
-pub fed_done : (r : ReaderState) (old new : StripWork) (bytes piece : List ℕ) (used : ℕ) → old.rows ≡ None → new.rows ≡ None → HasRead bytes (with_work r old) → ReadsPiece r.limits old piece (Ok (fed.Done used)) new
-    → AfterFeed bytes piece (Ok (whole.Done used)) (record (with_work r new) { done = true })
-fed_done r old new bytes piece used before after h t =
-    let a = t.after bytes (plain_open r.limits bytes old.rows old.file before h.open) in
-    let all = bytes ++ take used piece in
-    let k = ends_plain r.limits all new.rows new.file after a.0 in
-    (record { done = refl; meaning = _; whole = file_means r.limits all new.file k; ended = k; head = head_left r.limits all new.file k }, a.1, a.2)
+-- they are complete
+pub fed_done : (r : ReaderState) (new : StripWork) {all : List ℕ} (used : ℕ) → new.rows ≡ None → AfterStrip r.limits all step.Whole new.rows new.file → IsDone all (after_piece (Ok (fed.Done used)) (with_work r new))
+fed_done r new {all = all} used none a =
+    let k = ends_plain r.limits all new.rows new.file none a in
+    record { done = refl; meaning = _; whole = file_means r.limits all new.file k; ended = k; head = head_left r.limits all new.file k }
 
 -- a fault is after bytes that have none
 later_fault : (limits : Limits) (bytes piece : List ℕ) (f : FaultAt) → UnfinishedFile limits bytes → length bytes < limits.input → IsStopOf limits (bytes ++ piece) f → length bytes < f.at
@@ -303,57 +287,47 @@ later_fault limits bytes piece f stands short stops = at (stops (0 ∷ []))
     at (inr (inl most)) = omega (arith, short, most.1)
     at (inr (inr end)) = omega (arith, long, end.1)
 
-pub fed_stop : (r : ReaderState) (old new : StripWork) (bytes piece : List ℕ) (e : Stop) → old.rows ≡ None → HasRead bytes (with_work r old) → ReadsPiece r.limits old piece (Err e) new → AfterFeed bytes piece (Err e) (record (with_work r new) { stop = Some e })
-fed_stop r old new bytes piece (stop.Fault f) before h t =
-    let a = t.after bytes (plain_open r.limits bytes old.rows old.file before h.open) in
-    (a.0, later_fault r.limits bytes piece f h.stands h.short a.0, a.2)
-fed_stop r old new bytes piece stop.NoMemory before h t = t.after bytes (plain_open r.limits bytes old.rows old.file before h.open)
-
-fed_asks : (r : ReaderState) (old new : StripWork) (bytes piece : List ℕ) → old.rows ≡ None → new.rows ≡ None → HasRead bytes (with_work r old) → ReadsPiece r.limits old piece (Err stop.NoMemory) new → AsksForMemory r.limits (length bytes) (bytes ++ piece) new.file.head
-fed_asks r old new bytes piece before after h t = t.facts bytes (plain_open r.limits bytes old.rows old.file before h.open) after
-
 -- what is answered then
+abbrev AfterPlain : List ℕ → List ℕ → Result FedRow Stop → ReaderState → Type 0
+AfterPlain bytes piece (Ok fed.More) r = HasRead (bytes ++ piece) r
+AfterPlain bytes piece (Ok (fed.Row used)) r = HasRead (bytes ++ take used piece) r
+AfterPlain bytes piece (Ok (fed.Done used)) r = IsDone (bytes ++ take used piece) r × (1 ≤ used) × (used ≤ length piece)
+AfterPlain bytes piece (Err e) r = AfterFeed bytes piece (Err e) r
+
+pub no_row : {old new : StripWork} {limits : Limits} {bytes piece : List ℕ} {used : ℕ} → new.rows ≡ None → RowsOpen limits bytes old.rows old.file → TakesPiece limits old piece used step.Row new → ⊥
+no_row {new = new} {limits = limits} {bytes = bytes} {piece = piece} {used = used} none h t =
+    (let g = subst (λ (o : Option RowWork). AfterStrip limits (bytes ++ take used piece) step.Row o new.file) none ((t.after bytes h).0).row in g)
+
+here : {old : ReaderState} {bytes : List ℕ} → IsPlain old → HasRead bytes old → RowsOpen old.limits bytes old.rows old.file
+here {old = old} {bytes = bytes} plain h = plain_open old.limits bytes old.rows old.file plain.1 h.open
+
+module _ {old : ReaderState} {new : StripWork} {bytes piece : List ℕ} (plain : IsPlain old) (h : HasRead bytes old) where
+  plain_after : (scans : Bool) (answer : Result FedRow Stop) → ReadsPiece scans old.limits (work_of old) piece answer new → AfterPlain bytes piece answer (after_piece answer (with_work old new))
+  plain_after scans answer t = by scans answer t.read
+    where
+      none : new.rows ≡ None
+      none = t.keeps.plain plain.1 plain.0
+
+      by : (scans : Bool) (answer : Result FedRow Stop) → ReadsUpTo scans old.limits (work_of old) piece answer new → AfterPlain bytes piece answer (after_piece answer (with_work old new))
+      by scans (Ok fed.More) t =
+          subst (λ l. HasRead (bytes ++ l) (after_piece (Ok fed.More) (with_work old new))) (take_all (length piece) piece (omega arith)) (fed_more old new none (t.0.0.after bytes (here plain h)) t.0.1)
+      by true (Ok (fed.Row used)) t = fed_more old new none (t.0.0.after bytes (here plain h)) t.0.1
+      by false (Ok (fed.Row used)) t = absurd (no_row none (here plain h) t)
+      by scans (Ok (fed.Done used)) t = (let a = t.0.after bytes (here plain h) in (fed_done old new used none a.0, a.1, t.0.few))
+      by scans (Err (stop.Fault f)) t = (let a = t.1.after bytes (here plain h) in (a.0, later_fault old.limits bytes piece f h.stands h.short a.0, a.2))
+      by scans (Err stop.NoMemory) t = (t.1.after bytes (here plain h)).0
+
 abbrev as_row : Result Fed Stop → Result FedRow Stop
 as_row (Ok whole.More) = Ok fed.More
 as_row (Ok (whole.Done used)) = Ok (fed.Done used)
 as_row (Err e) = Err e
 
-module _ (old new : ReaderState) (piece : List ℕ) (plain : IsPlain old) where
-  fed_by : (bytes : List ℕ) (came : Result Fed Stop) → HasRead bytes old → ReadsInto old piece (as_row came) new → AfterFeed bytes piece came new
-  fed_by bytes (Ok whole.More) h t = subst (λ (r : ReaderState). AfterFeed bytes piece (Ok whole.More) r) (sym t.is) (fed_more old (work_of old) t.work bytes piece plain.1 (t.read.keeps.plain plain.1 plain.0) h t.read)
-  fed_by bytes (Ok (whole.Done used)) h t = subst (λ (r : ReaderState). AfterFeed bytes piece (Ok (whole.Done used)) r) (sym t.is) (fed_done old (work_of old) t.work bytes piece used plain.1 (t.read.keeps.plain plain.1 plain.0) h t.read)
-  fed_by bytes (Err e) h t = subst (λ (r : ReaderState). AfterFeed bytes piece (Err e) r) (sym t.is) (fed_stop old (work_of old) t.work bytes piece e plain.1 h t.read)
-
-  pub feeds : (answer : Result FedRow Stop) (came : Result Fed Stop) → answer ≡ as_row came → ReadsOne old piece answer new → FeedsFile old piece came new
-  feeds answer came is reads bytes h = fed_by bytes came h (subst (λ (a : Result FedRow Stop). ReadsInto old piece a new) is (reads h.skip_ahead))
-
-  pub asks_on_feed : (e : Stop) → ReadsOne old piece (Err e) new → AsksOnFeed old piece (Err e) new
-  asks_on_feed e reads bytes h is =
-      let t = subst (λ (a : Result FedRow Stop). ReadsInto old piece a new) (let same : e ≡ stop.NoMemory = cc in ap (λ (x : Stop). Err x) same) (reads h.skip_ahead) in
-      subst (λ (r : ReaderState). AsksForMemory r.limits (length bytes) (bytes ++ piece) r.file.head) (sym t.is) (fed_asks old (work_of old) t.work bytes piece plain.1 (t.read.keeps.plain plain.1 plain.0) h t.read)
-
-  -- no MCU row is complete
-  pub feeds_no_row : (answer : Result FedRow Stop) (used : ℕ) → answer ≡ Ok (fed.Row used) → ReadsOne old piece answer new → ((e : Stop) → old.stop ≡ Some e → (answer ≡ Err e) × (new ≡ old)) → ⊥
-  feeds_no_row answer used is reads again = by old.stop refl
-    where
-      by : (o : Option Stop) → old.stop ≡ o → ⊥
-      by (Some e) has = (let z : Ok (fed.Row used) ≡ (let a : Result FedRow Stop = Err e in a) = sym is ∙ (again e has).0 in cc)
-      by None none =
-          let t = subst (λ (a : Result FedRow Stop). ReadsInto old piece a new) is (reads none) in
-          let a = t.read.after t.given.0 t.given.1 in
-          (let g = subst (λ (o : Option RowWork). AfterStrip old.limits (t.given.0 ++ take used piece) step.Row o t.work.file) (t.read.keeps.plain plain.1 plain.0) (a.0).row in g)
-
--- What a reader answers to a piece that is fed up to the end of a scan's data.
-
--- where no MCU rows are read no bits wait
-pub open_go : (limits : Limits) (bytes : List ℕ) (rows : Option RowWork) (w : FileWork) → rows ≡ None → RowsOpen limits bytes rows w → RowsGo limits bytes rows w
-open_go limits bytes rows w none h = plain_go limits bytes rows w none (plain_stands limits bytes rows w none h.stands)
-
-piece_plain : {limits : Limits} {piece : List ℕ} {answer : Result FedRow Stop} {old new : StripWork} → old.rows ≡ None → ReadsOn limits old piece answer new → ReadsPiece limits old piece answer new
-piece_plain {limits = limits} {old = old} none t = record { after = λ bytes h. t.after bytes (go bytes h); rows = t.rows; keeps = t.keeps; memory = t.memory; facts = λ bytes h. t.facts bytes (go bytes h) }
-  where
-    go : (bytes : List ℕ) → RowsOpen limits bytes old.rows old.file → RowsGo limits bytes old.rows old.file
-    go bytes h = open_go limits bytes old.rows old.file none h
+-- and if the ends of scans' data are
+abbrev scan_row : Result FedScan Stop → Result FedRow Stop
+scan_row (Ok came.More) = Ok fed.More
+scan_row (Ok (came.Scan used)) = Ok (fed.Row used)
+scan_row (Ok (came.Done used)) = Ok (fed.Done used)
+scan_row (Err e) = Err e
 
 abbrev counts_none : (limits : Limits) (bytes piece : List ℕ) (old : FileWork) (early : ℕ) → RepresentsFile limits bytes old → CountsOn limits old piece early → NoScanEnds limits bytes piece early
 counts_none limits bytes piece old early h k = record {
@@ -370,91 +344,110 @@ fewer n m low other = by (cases_lt n m)
     by (inl h) = h
     by (inr h) = absurd (other (omega (arith, low, h)))
 
--- of a reader without MCU rows
-module _ (old new : StripWork) (piece : List ℕ) (answer : Result FedScan Stop) {limits : Limits} {by : Bool} {done : Bool} {stopped : Option Stop} {now : ReaderState} (view : state_of limits old by done stopped ≡ now) (plain : IsPlain now) (undone : now.done ≡ false) (took : ReadsScan limits old piece answer new) where
-  abbrev r : ReaderState
-  r = state_of limits old by done stopped
+module _ {old new : ReaderState} {piece : List ℕ} (plain : IsPlain old) where
+  pub feeds : (answer : Result FedRow Stop) (came : Result Fed Stop) → answer ≡ as_row came → ReadsOne false old piece answer new → FeedsFile old piece came new
+  feeds answer came is reads bytes h = (let t = subst (λ (a : Result FedRow Stop). ReadsInto false old piece a new) is (reads h.skip_ahead) in subst (λ (r : ReaderState). AfterFeed bytes piece came r) (sym t.is) (by came t.read))
+    where
+      by : (came : Result Fed Stop) {work : StripWork} → ReadsPiece false old.limits (work_of old) piece (as_row came) work → AfterFeed bytes piece came (after_piece (as_row came) (with_work old work))
+      by (Ok whole.More) t = plain_after plain h false (Ok fed.More) t
+      by (Ok (whole.Done used)) t = plain_after plain h false (Ok (fed.Done used)) t
+      by (Err e) t = plain_after plain h false (Err e) t
 
-  none : old.rows ≡ None
-  none = ap (λ (q : ReaderState). q.rows) view ∙ plain.1
+  pub asks : {scans : Bool} (e : Stop) → e ≡ stop.NoMemory → ReadsOne scans old piece (Err e) new → (bytes : List ℕ) → HasRead bytes old → AsksForMemory new.limits (length bytes) (bytes ++ piece) new.file.head
+  asks {scans = scans} e is reads bytes h =
+      let t = subst (λ (e : Stop). ReadsInto scans old piece (Err e) new) is (reads h.skip_ahead) in
+      subst (λ (r : ReaderState). AsksForMemory r.limits (length bytes) (bytes ++ piece) r.file.head) (sym t.is) ((t.read.read.1.after bytes (here plain h)).1 (t.read.keeps.plain plain.1 plain.0))
 
-  row : old.by_row ≡ false
-  row = ap (λ (q : ReaderState). q.in_rows) view ∙ plain.0
+  pub feeds_scan : (answer : Result FedRow Stop) (told : Result FedScan Stop) → answer ≡ scan_row told → ReadsOne true old piece answer new → FeedsScan old piece told new
+  feeds_scan answer told is reads bytes h = (let t = subst (λ (a : Result FedRow Stop). ReadsInto true old piece a new) is (reads h.skip_ahead) in subst (λ (r : ReaderState). AfterFeedScan bytes piece told r) (sym t.is) (by told t.read))
+    where
+      none_ends : (early : ℕ) → CountsOn old.limits old.file piece early → NoScanEnds old.limits bytes piece early
+      none_ends early k = counts_none old.limits bytes piece old.file early h.open k
 
-  going : done ≡ false
-  going = ap (λ (q : ReaderState). q.done) view ∙ undone
+      by : (told : Result FedScan Stop) {work : StripWork} → ReadsPiece true old.limits (work_of old) piece (scan_row told) work → AfterFeedScan bytes piece told (after_piece (scan_row told) (with_work old work))
+      by (Ok came.More) {work = work} t =
+          let fed_on = plain_after plain h true (Ok fed.More) t in (
+            fed_on,
+            record {
+              n = scans_ended old.file;
+              few = omega arith;
+              before = state_ended old.limits bytes old.file h.open;
+              after =
+                  subst (λ l. ScansEnded old.limits (bytes ++ l) (scans_ended old.file)) (sym (take_all (length piece) piece (omega arith)))
+                  (subst (ScansEnded old.limits (bytes ++ piece)) (t.read.1 refl) (state_ended old.limits (bytes ++ piece) work.file fed_on.open));
+            },
+          )
+      by (Ok (came.Scan used)) {work = work} t =
+          let all = bytes ++ take used piece in
+          let fed_on = plain_after plain h true (Ok (fed.Row used)) t in
+          let last = t.read.1 in
+          let was = state_ended old.limits bytes old.file h.open in
+          let now = state_ended _ _ _ fed_on.open in (
+            fed_on,
+            record {
+              early = last.0;
+              count = last.1;
+              within = t.read.0.0.few;
+              none = none_ends last.0 last.2;
+              more = scans_ended work.file;
+              ended = now;
+              later = fewer (scans_ended old.file) (scans_ended work.file) (scans_more old.limits bytes (take used piece) all (scans_ended old.file) (scans_ended work.file) refl was now) t.read.2;
+            },
+          )
+      by (Ok (came.Done used)) t =
+          let w = plain_after plain h true (Ok (fed.Done used)) t in
+          let last = t.read.1 refl in
+          (w.0, w.2, (last.0, last.1, none_ends last.0 last.2))
+      by (Err (stop.Fault f)) t =
+          let last = t.read.2 refl in
+          let at = (t.read.1.after bytes (here plain h)).1 in
+          let few = last.1 in
+          (plain_after plain h true (Err (stop.Fault f)) t, (last.0, omega (arith, at, few), none_ends last.0 last.2))
+      by (Err stop.NoMemory) t = plain_after plain h true (Err stop.NoMemory) t
 
-  read : (bytes : List ℕ) → HasRead bytes now → HasRead bytes r
-  read bytes h = subst (λ (q : ReaderState). HasRead bytes q) (sym view) h
+-- A piece of a file that is read up to the end of a scan's data.
 
-  given : (came : Result FedScan Stop) → answer ≡ came → ReadsScan limits old piece came new
-  given came is = subst (λ (a : Result FedScan Stop). ReadsScan limits old piece a new) is took
+-- No bytes of the piece were taken, or before the last of them no further scan's data have ended.
+pub record ScansSoFar (limits : Limits) (old : StripWork) (piece : List ℕ) (done : ℕ) (answer : Step) (work : StripWork) : Type 0 where
+  pub at : ((done ≡ 0) × (answer ≡ step.More) × (scans_ended work.file ≡ scans_ended old.file)) ⊎ CountsBefore limits old.file piece done
 
-  pub keeps_more : answer ≡ Ok came.More → IsReading r → IsReading (state_of limits new by done stopped)
-  keeps_more is k = keeps_more_rows r old new piece (Ok fed.More) refl going k (piece_plain none (given (Ok came.More) is).0)
-
-  pub keeps_scan : (used : ℕ) → answer ≡ Ok (came.Scan used) → IsReading r → IsReading (state_of limits new by done stopped)
-  keeps_scan used is k = keeps_more_rows r old new (take used piece) (Ok fed.More) refl going k (piece_plain none (given (Ok (came.Scan used)) is).0)
-
-  pub keeps_done : (used : ℕ) → answer ≡ Ok (came.Done used) → stopped ≡ None → IsReading r → IsReading (state_of limits new by true stopped)
-  keeps_done used is skip k = keeps_done_rows r old new piece (Ok (fed.Done used)) used refl going skip k (piece_plain none (given (Ok (came.Done used)) is).0)
-
-  pub scan_more : (bytes : List ℕ) → HasRead bytes now → answer ≡ Ok came.More → AfterFeedScan bytes piece answer (state_of limits new by done stopped)
-  scan_more bytes before is =
-      let t = given (Ok came.More) is in
-      let h = read bytes before in
-      let fed_on = fed_more r old new bytes piece none (t.0.keeps.plain none row) h (piece_plain none t.0) in
-      subst (λ (a : Result FedScan Stop). AfterFeedScan bytes piece a (state_of limits new by done stopped)) (sym is) (
-        fed_on,
-        record {
-          n = scans_ended old.file;
-          few = omega arith;
-          before = state_ended limits bytes old.file h.open;
-          after =
-              subst (λ l. ScansEnded limits (bytes ++ l) (scans_ended old.file)) (sym (take_all (length piece) piece (omega arith)))
-              (subst (ScansEnded limits (bytes ++ piece)) t.1 (state_ended limits (bytes ++ piece) new.file fed_on.open));
-        },
+module _ {limits : Limits} {old work : StripWork} {piece : List ℕ} {done : ℕ} {answer : Step} (s : ScansSoFar limits old piece done answer work) where
+  pub scans_early : (early : ℕ) × (done ≤ early + 1) × CountsOn limits old.file piece early
+  scans_early = by s.at
+    where
+      by : ((done ≡ 0) × (answer ≡ step.More) × (scans_ended work.file ≡ scans_ended old.file)) ⊎ CountsBefore limits old.file piece done → (early : ℕ) × (done ≤ early + 1) × CountsOn limits old.file piece early
+      by (inl z) = (
+        0,
+        (let none = z.0 in omega (arith, none)),
+        record { mid = old.file; few = omega arith; stands = λ bytes h. subst (λ l. RepresentsFile limits l old.file) (sym (append-nil bytes)) h; same = refl },
       )
+      by (inr b) = (b.0, (let one = b.1 in omega (arith, one)), b.2)
 
-  pub scan_one : (bytes : List ℕ) (used : ℕ) → HasRead bytes now → answer ≡ Ok (came.Scan used) → AfterFeedScan bytes piece answer (state_of limits new by done stopped)
-  scan_one bytes used before is =
-      let t = given (Ok (came.Scan used)) is in
-      let h = read bytes before in
-      let front = take used piece in
-      let fed_on = fed_more r old new bytes front none (t.0.keeps.plain none row) h (piece_plain none t.0) in
-      let last = t.2 in
-      subst (λ (a : Result FedScan Stop). AfterFeedScan bytes piece a (state_of limits new by done stopped)) (sym is) (
-        fed_on,
-        record {
-          early = last.0;
-          count = last.1;
-          within = t.1;
-          none = counts_none limits bytes piece old.file last.0 h.open last.2;
-          more = scans_ended new.file;
-          ended = state_ended limits (bytes ++ front) new.file fed_on.open;
-          later = fewer (scans_ended old.file) (scans_ended new.file) (scans_more limits bytes front (bytes ++ front) (scans_ended old.file) (scans_ended new.file) refl (state_ended limits bytes old.file h.open) (state_ended limits (bytes ++ front) new.file fed_on.open)) t.3;
-        },
-      )
+  pub scans_passed : (answer ≡ step.More → scans_ended work.file ≡ scans_ended old.file → ⊥) → CountsBefore limits old.file piece done
+  scans_passed other = by s.at
+    where
+      by : ((done ≡ 0) × (answer ≡ step.More) × (scans_ended work.file ≡ scans_ended old.file)) ⊎ CountsBefore limits old.file piece done → CountsBefore limits old.file piece done
+      by (inl z) = absurd (other z.1 z.2)
+      by (inr b) = b
 
-  pub scan_done : (bytes : List ℕ) (used : ℕ) → HasRead bytes now → answer ≡ Ok (came.Done used) → AfterFeedScan bytes piece answer (state_of limits new by true stopped)
-  scan_done bytes used before is =
-      let t = given (Ok (came.Done used)) is in
-      let h = read bytes before in
-      let whole = fed_done r old new bytes piece used none (t.0.keeps.plain none row) h (piece_plain none t.0) in
-      let last = t.2 in
-      subst (λ (a : Result FedScan Stop). AfterFeedScan bytes piece a (state_of limits new by true stopped)) (sym is) (whole.0, whole.2, (last.0, last.1, counts_none limits bytes piece old.file last.0 h.open last.2))
-
-  scan_stopped : (bytes : List ℕ) (e : Stop) → HasRead bytes r → ReadsScan limits old piece (Err e) new → AfterFeedScan bytes piece (Err e) (state_of limits new by done (Some e))
-  scan_stopped bytes (stop.Fault f) h t =
-      let none_ends = t.1 bytes h.open in
-      (fed_stop r old new bytes piece (stop.Fault f) none h (piece_plain none t.0), (none_ends.0, none_ends.1, counts_none limits bytes piece old.file none_ends.0 h.open none_ends.2))
-  scan_stopped bytes stop.NoMemory h t = fed_stop r old new bytes piece stop.NoMemory none h (piece_plain none t)
-
-  pub scan_stop : (bytes : List ℕ) (e : Stop) → HasRead bytes now → answer ≡ Err e → AfterFeedScan bytes piece answer (state_of limits new by done (Some e))
-  scan_stop bytes e before is =
-      subst (λ (a : Result FedScan Stop). AfterFeedScan bytes piece a (state_of limits new by done (Some e))) (sym is) (scan_stopped bytes e (read bytes before) (given (Err e) is))
-
-  pub scan_asks : (bytes : List ℕ) → HasRead bytes now → answer ≡ Err stop.NoMemory → AsksForMemory limits (length bytes) (bytes ++ piece) new.file.head
-  scan_asks bytes before is =
-      let t = given (Err stop.NoMemory) is in
-      fed_asks r old new bytes piece none (t.keeps.plain none row) (read bytes before) (piece_plain none t)
+-- with some more bytes
+pub scans_counted : {limits : Limits} {old work new : StripWork} {piece : List ℕ} {done n : ℕ} (answer : Step) → TakesPiece limits old piece done step.More work → old.rows ≡ None → old.by_row ≡ false → scans_ended work.file ≡ scans_ended old.file
+    → TakesBytes work (take (length piece - done) (drop done piece)) n answer new → CountsBefore limits old.file piece (done + n)
+scans_counted {limits = limits} {old = old} {work = work} {new = new} {piece = piece} {done = done} {n = n} answer s none plain same taken = (
+  done + some.early,
+  (let e = some.count in omega (arith, e)),
+  record {
+    mid = some.mid;
+    few = (let low = some.within in let long = length-drop done piece in omega (arith, low, long));
+    stands = λ bytes h.
+        (let front = bytes ++ take done piece in
+        let k = plain_goes limits front work.rows work.file (s.keeps.plain none plain) (s.after bytes (plain_open limits bytes old.rows old.file none h)) in
+        subst (λ l. RepresentsFile limits l some.mid) (front_is bytes piece done some.early) (some.before limits front k (limits_are limits front work.file k)));
+    same = some.ended ∙ same;
+  },
+)
+  where
+    some : TakesSome work.file (drop done piece) n answer new.file
+    some =
+        subst (λ l. TakesSome work.file l n answer new.file) (take_all (length piece - done) (drop done piece) (omega (arith, length-drop done piece)))
+        ((taken.fresh (s.keeps.plain none plain)).some (s.keeps.by_row ∙ plain))

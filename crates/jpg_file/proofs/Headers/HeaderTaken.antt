@@ -1,5 +1,5 @@
 -- A scan header: its parameters, its tables, and the rules that it is judged by.
-use Rattle.std.proofs.Common.{◌≡◌, ℕ, ◌+◌, ◌*◌, true, not, ◌==◌, ◌&&◌, List, [], ◌∷◌, length, take, drop, sym, ap, ◌∙◌, subst, arith, Ok, refl, Option, Some, None, zero, suc, ◌<◌, map, ◌≤◌, Bool, false, cond, ◌-◌, ◌^◌, ℤ, pos, nat_abs, inl, Err, ◌||◌, nat_lt, is_none, option_map, nat_le, int_le, unwrap_or, Result, length-take}
+use Rattle.std.proofs.Common.{◌≡◌, ℕ, ◌+◌, ◌*◌, true, not, ◌==◌, ◌&&◌, List, [], ◌∷◌, length, take, drop, sym, ap, ◌∙◌, subst, arith, Ok, refl, Option, Some, None, zero, suc, ◌<◌, map, ◌≤◌, Bool, false, cond, ◌-◌, ◌^◌, ℤ, pos, nat_abs, inl, Err, ◌||◌, nat_lt, is_none, option_map, nat_le, int_le, unwrap_or, Result, length-take, All}
 use Rattle.std.proofs.lemmas.List.{length-map}
 use Rattle.jpg_spec.specs.Lists.{is_distinct, any_of, all_of, is_among}
 use Rattle.jpg_spec.specs.Geometry.{Frame, factor_sum, is_progressive, component_at, bounds}
@@ -12,15 +12,14 @@ use Rattle.jpg_spec.proofs.Headers.AcceptedHeads.{parts_length}
 use Rattle.std.proofs.Math.Path.{fun_ext}
 use Rattle.jpg_spec.specs.Markers.{Segment, code_fault, has_frame, is_frame_code, SpellsSegment}
 use Rattle.jpg_spec.specs.InForce.{huffman_in_force, quant_in_force, frame_of, head_in, heads_of, no_frame, no_head, parsed_or}
-use Rattle.jpg_spec.specs.History.{needs_dc_table, needs_ac_table, lacks_table, has_coefficient, is_next, known_to, names, admitted, is_same_table, order_fault, quant_of}
+use Rattle.jpg_spec.specs.History.{needs_dc_table, needs_ac_table, has_coefficient, is_next, known_to, names, admitted, is_same_table, order_fault, quant_of}
 use Rattle.jpg_spec.specs.declared.frame.Limits.{Limits}
 use Rattle.jpg_spec.specs.declared.frame.ScanPart.{ScanPart}
 use Rattle.jpg_spec.specs.HuffContents.{huffman_in, HuffmanSlots}
-use Rattle.jpg_file.specs.Read.SegmentState.{SegmentView, Holds, lacks_any, lacks_part, segments_view}
-use Rattle.std.specs.List.{All}
+use Rattle.jpg_file.specs.Read.SegmentState.{SegmentView, Holds, lacks_any, lacks_part, segments_view, HasBegun, RepresentsHeads, is_same_kept, Judged}
 use Rattle.std.proofs.lemmas.List.Elements.{All-head, All-tail, All-nil, All-cons, All-weaker}
 use Rattle.jpg_base.specs.Cursor.{AreIn}
-use Rattle.jpg_spec.specs.Scan.{Blocks, scan_coding, Scan, coefficient}
+use Rattle.jpg_spec.specs.Scan.{Blocks, Scan, coefficient}
 use Rattle.jpg_spec.specs.Items.{Item, segment, scan, segments_of, contents_rule, fault_in}
 use Rattle.jpg_spec.specs.FileMeaning.{Leads, scan_after}
 use Rattle.jpg_spec.proofs.Bits.FirstPasses.{all_among, head_at}
@@ -28,11 +27,10 @@ use Rattle.jpg_spec.proofs.Headers.FrameFound.{framed}
 use Rattle.jpg_spec.proofs.Places.Known.{known_new, known_old, band_next}
 use Rattle.jpg_spec.proofs.Places.Untouched.{frame_stays}
 use Rattle.jpg_huff.specs.declared.set.TableSet.{TableSet}
-use Rattle.jpg_huff.specs.declared.table.Table.{Table}
 use Rattle.jpg_huff.specs.Sets.{dc_tables, ac_tables, in_slot, slots_of}
 use Rattle.jpg_huff.specs.Tables.{table_of}
-use Rattle.jpg_seq.specs.NewReader.{in_force}
-use Rattle.jpg_file.specs.Read.NewScan.{HasNeeded}
+use Rattle.jpg_seq.specs.Reader.{in_force}
+use Rattle.jpg_file.specs.Read.Machine.{HasNeeded}
 use Rattle.jpg_spec.proofs.Segments.InForce.{same_coding}
 use Rattle.jpg_huff.proofs.Sets.{slot_seen}
 use Rattle.std.proofs.lemmas.Bool.Decides.{nat_tests}
@@ -49,44 +47,39 @@ use Rattle.jpg_prog_read.proofs.Known.{band_room, gives_room}
 use Rattle.jpg_prog_read.proofs.KnownBits.{are_known}
 use Rattle.jpg_prog_read.proofs.Precisions.{fits_words}
 use Rattle.jpg_spec.specs.Faults.{Parsed, refuse}
-use Rattle.jpg_spec.specs.QuantContents.{Slots, quant_in, ◌>>=◌}
+use Rattle.jpg_spec.specs.QuantContents.{quant_in, ◌>>=◌}
 use Rattle.jpg_spec.specs.declared.fault.Fault.{Fault}
-use Rattle.jpg_scans.proofs.Histories.{passed_is, refused_is, same_all}
+use Rattle.jpg_scans.proofs.Histories.{passed_is, same_all}
 use Rattle.jpg_file.specs.declared.read.scan_history.ScanHistory.{ScanHistory}
-use Rattle.jpg_file.specs.Read.ScanHistory.{HasBegun, RepresentsHeads, is_same_kept}
 use Rattle.jpg_spec.specs.FrameHeader.{IsFrame}
 use Rattle.jpg_spec.specs.FirstFault.{Reveals}
 use Rattle.jpg_coefs.specs.Picture.{Picture, map_of}
 use Rattle.jpg_huff.specs.Definitions.{definitions_of}
 use Rattle.jpg_markers.specs.Reading.{reading_of}
 use Rattle.jpg_file.specs.Read.ScanStart.{Begins}
-use Rattle.jpg_file.specs.Read.JudgedHeader.{Judged}
-use Rattle.jpg_file.specs.Read.Reading.{HeadWhole}
-use Rattle.jpg_file.specs.declared.read.reading.Reading.{Reading}
+use Rattle.jpg_file.specs.Read.File.{HeadWhole}
+use Rattle.jpg_file.specs.declared.read.file.FileWork.{FileWork}
 use Rattle.jpg_file.proofs.Files.ItemBytes.{segment_fault}
 
 -- The parameters of a scan header that is accepted (T.81, B.2.3, G.1.1.1).
 
-checked_parameters : (f : Frame) (count : ℕ) (ids : List ℕ) (made head : ScanHead) → checked_head f count ids made ≡ Ok head → is_progressive f.process ≡ true → (are_parameters f count made ≡ true) × (made ≡ head)
+-- THE LAW: in a progressive frame they are DC or a band of AC, and bits within the frame's bounds
+pub head_parameters : (f : Frame) (contents : List ℕ) (head : ScanHead) → scan_header f contents ≡ Ok head → is_progressive f.process ≡ true → are_parameters f (length head.parts) head ≡ true
 unfolding checked_head
-checked_parameters f count ids made head told progressive =
-    let e1 = refused ScanComponent (count == 0 || nat_lt 4 count) _ head told in
+head_parameters f [] head told progressive = cc
+head_parameters f (count ∷ bytes) head told progressive =
+    let ids = parsed_ids (take (2 * count) bytes) in
+    let made = parsed_scan_header f (take (2 * count) bytes) (drop (2 * count) bytes) in
+    let e = refused BadLength (not (length bytes == 2 * count + 3)) (checked_head f count ids made) head told in
+    let long : length bytes ≡ 2 * count + 3 = same_of (length bytes) (2 * count + 3) (affirmed (length bytes == 2 * count + 3) e.0) in
+    let e1 = refused ScanComponent (count == 0 || nat_lt 4 count) _ head e.1 in
     let e2 = refused ScanComponent (not (are_among f ids)) _ head e1.1 in
     let e3 = refused ScanComponent (not (is_distinct ids)) _ head e2.1 in
     let e4 = refused McuTooLarge (nat_lt 1 count && nat_lt 10 (factor_sum f (head_components made))) _ head e3.1 in
     let e5 = refused ScanParameters (is_progressive f.process && not (are_parameters f count made)) _ head e4.1 in
-    (affirmed (are_parameters f count made) (sym (ap (λ b. b && not (are_parameters f count made)) progressive) ∙ e5.0), same_told made head e5.1)
-
--- THE LAW: in a progressive frame they are DC or a band of AC, and bits within the frame's bounds
-pub head_parameters : (f : Frame) (contents : List ℕ) (head : ScanHead) → scan_header f contents ≡ Ok head → is_progressive f.process ≡ true → are_parameters f (length head.parts) head ≡ true
-head_parameters f [] head told progressive = cc
-head_parameters f (count ∷ bytes) head told progressive =
-    let made = parsed_scan_header f (take (2 * count) bytes) (drop (2 * count) bytes) in
-    let e = refused BadLength (not (length bytes == 2 * count + 3)) (checked_head f count (parsed_ids (take (2 * count) bytes)) made) head told in
-    let long : length bytes ≡ 2 * count + 3 = same_of (length bytes) (2 * count + 3) (affirmed (length bytes == 2 * count + 3) e.0) in
-    let k = checked_parameters f count (parsed_ids (take (2 * count) bytes)) made head e.1 progressive in
+    let are = affirmed (are_parameters f count made) (sym (ap (λ b. b && not (are_parameters f count made)) progressive) ∙ e5.0) in
     let many = parts_length f count (take (2 * count) bytes) (omega (arith, long, length-take (2 * count) bytes)) in
-    subst (λ (h : ScanHead). are_parameters f (length h.parts) h ≡ true) k.1 (ap (λ n. are_parameters f n made) many ∙ k.0)
+    subst (λ (h : ScanHead). are_parameters f (length h.parts) h ≡ true) (same_told made head e5.1) (ap (λ n. are_parameters f n made) many ∙ are)
 
 -- The tables that a scan needs are there if they are in force.
 
@@ -104,9 +97,6 @@ part_lacks limits h before f head p holds =
     ap (λ o. is_none o || (needs_dc_table f head && is_none dc || needs_ac_table f head && is_none ac)) (holds.quants slot)
     ∙ ap (λ o. is_none (quant_in_force before slot) || (needs_dc_table f head && is_none o || needs_ac_table f head && is_none ac)) (holds.dc p.dc)
     ∙ ap (λ o. is_none (quant_in_force before slot) || (needs_dc_table f head && is_none (huffman_in_force before 0 p.dc) || needs_ac_table f head && is_none o)) (holds.ac p.ac)
-
-pub lacks_is : (limits : Limits) (h : SegmentView) (before : List Segment) (f : Frame) (head : ScanHead) → Holds limits h before → lacks_any h f head ≡ lacks_table f before head
-lacks_is limits h before f head holds = ap (λ test. any_of test head.parts) (fun_ext (λ p. part_lacks limits h before f head p holds))
 
 -- A scan header that was checked, with what is kept, is ready to begin its scan.
 
@@ -198,11 +188,6 @@ known_low limits (scan contents intervals ∷ items) blocks f l same progressive
     let e : frame_of limits before ≡ f = sym (frame_stays limits before 0xda contents found l.1) ∙ same (or_right (is_frame_code 0xda) (has_frame before) found) in
     one_more f (heads_of f before) (head_in f contents) i k (item_low limits before contents f e progressive l.2) (known_low limits items l.0 f l.3 (λ h. e) progressive i k)
 
--- THE LAW
-pub bits_low : (limits : Limits) (items : List Item) (blocks : Blocks) (i k : ℕ) → Leads limits items blocks → is_progressive (frame_of limits (segments_of items)).process ≡ true
-    → IsLow (frame_of limits (segments_of items)) (known_to (heads_of (frame_of limits (segments_of items)) (segments_of items)) i k)
-bits_low limits items blocks i k l progressive = known_low limits items blocks (frame_of limits (segments_of items)) l (λ h. refl) progressive i k
-
 -- The tables that are kept, for the scan that follows.
 
 -- THE CODING by the tables that are kept
@@ -213,43 +198,33 @@ tables_held limits h before set holds same (suc zero) slot few =
     slot_seen (ac_tables set) slot ∙ ap (λ (s : HuffmanSlots). huffman_in s.ac slot) (sym same) ∙ holds.ac slot
 tables_held limits h before set holds same (suc (suc class)) slot few = absurd (omega (arith, few))
 
-pub codings_same : (limits : Limits) (h : SegmentView) (before : List Segment) (set : TableSet) → Holds limits h before → h.tables ≡ slots_of set
-    → (f : Frame) (head : ScanHead) → scan_coding f (in_force set) head ≡ scan_coding f (huffman_in_force before) head
-codings_same limits h before set holds same f head = same_coding f head (in_force set) (huffman_in_force before) (tables_held limits h before set holds same)
-
 -- THE TABLES that a scan needs
 
 needed : (a b : Bool) → a ≡ true → (a && b) ≡ false → b ≡ false
 needed true b e f = f
 needed false b e f = cc
 
-pub dc_there : (h : SegmentView) (f : Frame) (head : ScanHead) (set : TableSet) (p : ScanPart) → h.tables ≡ slots_of set → needs_dc_table f head ≡ true → lacks_part h f head p ≡ false → (t : Table) × (in_slot (dc_tables set) p.dc ≡ Some t)
-dc_there h f head set p same needs e =
-    let n = neither _ _ (neither _ _ e).1 in
-    let there = needed (needs_dc_table f head) (is_none (huffman_in h.tables.dc p.dc)) needs n.0 in
-    some_of (in_slot (dc_tables set) p.dc) (sym (none_same table_of (in_slot (dc_tables set) p.dc)) ∙ ap is_none (slot_seen (dc_tables set) p.dc) ∙ ap (λ (s : HuffmanSlots). is_none (huffman_in s.dc p.dc)) (sym same) ∙ there)
-
-pub ac_there : (h : SegmentView) (f : Frame) (head : ScanHead) (set : TableSet) (p : ScanPart) → h.tables ≡ slots_of set → needs_ac_table f head ≡ true → lacks_part h f head p ≡ false → (t : Table) × (in_slot (ac_tables set) p.ac ≡ Some t)
-ac_there h f head set p same needs e =
-    let n = neither _ _ (neither _ _ e).1 in
-    let there = needed (needs_ac_table f head) (is_none (huffman_in h.tables.ac p.ac)) needs n.1 in
-    some_of (in_slot (ac_tables set) p.ac) (sym (none_same table_of (in_slot (ac_tables set) p.ac)) ∙ ap is_none (slot_seen (ac_tables set) p.ac) ∙ ap (λ (s : HuffmanSlots). is_none (huffman_in s.ac p.ac)) (sym same) ∙ there)
-
 -- those that the scan needs of each part
+part_needs : (h : SegmentView) (f : Frame) (head : ScanHead) (set : TableSet) (p : ScanPart) → h.tables ≡ slots_of set → lacks_part h f head p ≡ false → HasNeeded f head set p
+part_needs h f head set p same e =
+    let (dc, ac) = neither _ _ (neither _ _ e).1 in
+    record {
+      dc = λ needs. (let none = needed _ _ needs dc in
+          let t = some_of (in_slot (dc_tables set) p.dc) (sym (none_same table_of (in_slot (dc_tables set) p.dc)) ∙ ap is_none (slot_seen (dc_tables set) p.dc) ∙ ap (λ (s : HuffmanSlots). is_none (huffman_in s.dc p.dc)) (sym same) ∙ none) in
+          record { table = t.0; there = t.1 });
+      ac = λ needs. (let none = needed _ _ needs ac in
+          let t = some_of (in_slot (ac_tables set) p.ac) (sym (none_same table_of (in_slot (ac_tables set) p.ac)) ∙ ap is_none (slot_seen (ac_tables set) p.ac) ∙ ap (λ (s : HuffmanSlots). is_none (huffman_in s.ac p.ac)) (sym same) ∙ none) in
+          record { ac = t.0; in_ac = t.1 });
+    }
+
 pub tables_there : (h : SegmentView) (f : Frame) (head : ScanHead) (set : TableSet) → h.tables ≡ slots_of set → lacks_any h f head ≡ false → All (HasNeeded f head set) head.parts
 tables_there h f head set same none = at head.parts none
   where
-    one : (p : ScanPart) → lacks_part h f head p ≡ false → HasNeeded f head set p
-    one p e = record {
-      dc = λ needs. (let t = dc_there h f head set p same needs e in record { table = t.0; there = t.1 });
-      ac = λ needs. (let t = ac_there h f head set p same needs e in record { ac = t.0; in_ac = t.1 });
-    }
-
     at : (parts : List ScanPart) → any_of (lacks_part h f head) parts ≡ false → All (HasNeeded f head set) parts
     at [] e = All-nil (HasNeeded f head set)
     at (p ∷ parts) e =
         let n = neither (lacks_part h f head p) (any_of (lacks_part h f head) parts) e in
-        All-cons (HasNeeded f head set) p parts (one p n.0) (at parts n.1)
+        All-cons (HasNeeded f head set) p parts (part_needs h f head set p same n.0) (at parts n.1)
 
 -- In a progressive frame the values of a scan's band, as the scan finds them, take its bits (T.81, G.1.2.1, G.1.2.3).
 
@@ -276,7 +251,7 @@ later_low limits items blocks contents q k b z was =
     let head = head_behind limits items contents in
     let says = head_says limits (segments_of items) contents b.progressive (b.begins).allowed in
     let f = frame_of limits (segments_of items) in
-    subst (λ n. n ≤ (bounds f).al) (says.later z) (subst (IsLow f) was (bits_low limits items blocks q.component k (b.begins).leads b.progressive))
+    subst (λ n. n ≤ (bounds f).al) (says.later z) (subst (IsLow f) was (known_low limits items blocks f (b.begins).leads (λ h. refl) b.progressive q.component k))
 
 -- AC
 
@@ -379,12 +354,6 @@ TellsOrder b f head told = (heads : List ScanHead) → RepresentsHeads b.progres
 told_order : (limits : Limits) (before : List Segment) (f : Frame) (head : ScanHead) (b : ScanHistory) (told : Option Fault) → frame_of limits before ≡ f → HasBegun limits b before → TellsOrder b f head told → order_fault f (heads_of f before) head ≡ told
 told_order limits before f head b told e k tells = sym (tells (heads_of f before) (subst (λ g. RepresentsHeads b.progress g (heads_of g before)) e k.scans))
 
--- a fault of its order
-pub out_of_order : (limits : Limits) (before : List Segment) (contents : List ℕ) (f : Frame) (head : ScanHead) (b : ScanHistory) (fault : Fault) → frame_of limits before ≡ f → scan_header f contents ≡ Ok head → HasBegun limits b before → TellsOrder b f head (Some fault)
-    → contents_rule limits before 0xda contents ≡ Some fault
-out_of_order limits before contents f head b fault e told k shown =
-    rule_is limits before contents f head e told ∙ ap fault_in (refused_is f before head fault (told_order limits before f head b (Some fault) e k shown))
-
 -- the tables that are kept are those of the first scans
 same_kept : (limits : Limits) (before : List Segment) (f : Frame) (head : ScanHead) (b : ScanHistory) (h : SegmentView) → frame_of limits before ≡ f → HasBegun limits b before → Holds limits h before → All (λ p. p.component < 4) head.parts
     → all_of (is_same_kept b.quants f h.quants) (head_components head) ≡ all_of (λ i. is_same_table (quant_of f before i) (quant_in_force before (component_at f i).quant)) (head_components head)
@@ -396,77 +365,70 @@ same_kept limits before f head b h e k holds low =
     low (λ i named. named)
 
 -- what the tables then decide
-abbrev pub told_by_tables : SegmentView → Frame → Slots → ScanHead → Parsed ScanHead
-told_by_tables h f kept head = refuse MissingTable (lacks_any h f head) (refuse QuantChanged (not (all_of (is_same_kept kept f h.quants) (head_components head))) (Ok head))
-
-pub in_order : (limits : Limits) (before : List Segment) (contents : List ℕ) (f : Frame) (head : ScanHead) (b : ScanHistory) (h : SegmentView) → frame_of limits before ≡ f → scan_header f contents ≡ Ok head → IsHead f head → length f.components ≤ 4
-    → HasBegun limits b before → Holds limits h before → TellsOrder b f head None → contents_rule limits before 0xda contents ≡ fault_in (told_by_tables h f b.quants head)
-in_order limits before contents f head b h e told is_head few k holds none =
+pub in_order : (limits : Limits) (before : List Segment) (contents : List ℕ) (f : Frame) (head : ScanHead) (b : ScanHistory) (h : SegmentView) (lacks same : Bool) (parts : List ScanPart) → frame_of limits before ≡ f → scan_header f contents ≡ Ok head → IsHead f head
+    → length f.components ≤ 4 → HasBegun limits b before → Holds limits h before → TellsOrder b f head None → lacks ≡ lacks_any h f head → parts ≡ head.parts → same ≡ all_of (is_same_kept b.quants f h.quants) (map (λ p. p.component) parts)
+    → contents_rule limits before 0xda contents ≡ fault_in (refuse MissingTable lacks (refuse QuantChanged (not same) (Ok head)))
+in_order limits before contents f head b h lacks same parts e told is_head few k holds none is_lacking are is_same =
     rule_is limits before contents f head e told
     ∙ ap fault_in (passed_is f before head (told_order limits before f head b None e k none))
     ∙ ap (λ t. fault_in (refuse MissingTable t (refuse QuantChanged (not (all_of (λ i. is_same_table (quant_of f before i) (quant_in_force before (component_at f i).quant)) (head_components head))) (Ok head))))
-    (sym (lacks_is limits h before f head holds))
-    ∙ ap (λ t. fault_in (refuse MissingTable (lacks_any h f head) (refuse QuantChanged (not t) (Ok head)))) (sym (same_kept limits before f head b h e k holds (small_parts f head is_head few)))
+    (sym (is_lacking ∙ ap (λ test. any_of test head.parts) (fun_ext (λ p. part_lacks limits h before f head p holds))))
+    ∙ ap (λ t. fault_in (refuse MissingTable lacks (refuse QuantChanged (not t) (Ok head))))
+    (sym (is_same ∙ ap (λ (l : List ScanPart). all_of (is_same_kept b.quants f h.quants) (map (λ (p : ScanPart). p.component) l)) are ∙ same_kept limits before f head b h e k holds (small_parts f head is_head few)))
 
 -- A scan header taken by the reader of a file.
 
-abbrev pub Judges : Reading → ScanHistory → Frame → List ℕ → Result ScanHead Fault → Type 0
+abbrev pub Judges : FileWork → ScanHistory → Frame → List ℕ → Result ScanHead Fault → Type 0
 Judges r b f k answer = (limits : Limits) (before : List Segment) → frame_of limits before ≡ f → Holds limits (segments_view r.items.held) before → HasBegun limits b before → Judged limits before k f (segments_view r.items.held) answer
 
--- the frame and the picture that are kept
-pub record Found (limits : Limits) (bytes : List ℕ) (items : List Item) (blocks : Blocks) (r : Reading) (b : ScanHistory) (f : Frame) (q : Picture) : Type 0 where
-  pub whole : HeadWhole limits bytes items blocks r b
-  pub framed : whole.frame ≡ f
-  pub pictured : whole.coefs ≡ q
+-- where this frame and this picture are kept, and the contents of the header were judged
+module _ (limits : Limits) (bytes : List ℕ) (items : List Item) (blocks : Blocks) (r : FileWork) (f held : Frame) (q : Picture) (contents : List ℕ)
+    (h : HeadWhole limits bytes items blocks r) (kept : r.items.held.frame ≡ Some held) (copied : f ≡ held) (pictured : r.coefs ≡ Some q)
+    (given : contents ≡ (reading_of (r.items).segments).contents) where
+  is_held : h.frame ≡ f
+  is_held = some_once h.frame held (sym h.framed ∙ kept) ∙ sym copied
 
-module _ (limits : Limits) (bytes : List ℕ) (items : List Item) (blocks : Blocks) (r : Reading) (b : ScanHistory) (f : Frame) (q : Picture) where
-  pub found : (held : Frame) → HeadWhole limits bytes items blocks r b → r.items.held.frame ≡ Some held → f ≡ held → r.coefs ≡ Some q
-      → Found limits bytes items blocks r b f q
-  found held w e same p = record { whole = w; framed = some_once w.frame held (sym w.framed ∙ e) ∙ sym same; pictured = some_once w.coefs q (sym w.has ∙ p) }
+  frame_is : frame_of limits (segments_of items) ≡ f
+  frame_is = ap (λ (o : Option Frame). unwrap_or o no_frame) (sym ((h.segment).holds).frame ∙ h.framed) ∙ is_held
 
-  pub judged : (k : List ℕ) (answer : Result ScanHead Fault) (w : Found limits bytes items blocks r b f q) → k ≡ (reading_of (r.items).segments).contents
-      → Judges r b f k answer → Judged limits (segments_of items) (reading_of (r.items).segments).contents f (segments_view r.items.held) answer
-  judged k answer w same j =
-      let s = (w.whole).segment in
-      let framed : frame_of limits (segments_of items) ≡ f = ap (λ (o : Option Frame). unwrap_or o no_frame) (sym (s.holds).frame ∙ (w.whole).framed) ∙ w.framed in
-      subst (λ c. Judged limits (segments_of items) c f (segments_view r.items.held) answer) same (j limits (segments_of items) framed s.holds (w.whole).begun)
+  judged : (answer : Result ScanHead Fault) → Judges r r.begun f contents answer
+      → Judged limits (segments_of items) (reading_of (r.items).segments).contents f (segments_view r.items.held) answer
+  judged answer j =
+      subst (λ c. Judged limits (segments_of items) c f (segments_view r.items.held) answer) given (j limits (segments_of items) frame_is (h.segment).holds h.begun)
 
-  pub head_begins : (head : ScanHead) (set : TableSet) → slots_of set ≡ definitions_of r.items.held.tables → (w : Found limits bytes items blocks r b f q)
-      → Judged limits (segments_of items) (reading_of (r.items).segments).contents f (segments_view r.items.held) (Ok head)
-      → Begins limits items blocks (reading_of (r.items).segments).contents bytes f head set r.items.held.interval q
-  head_begins head set built w j =
-      let h = w.whole in
+  pub head_begins : (head : ScanHead) (set : TableSet) → slots_of set ≡ definitions_of r.items.held.tables → Judges r r.begun f contents (Ok head)
+      → Begins limits items blocks (reading_of (r.items).segments).contents bytes f head set r.items.held.interval q × (lacks_any (segments_view r.items.held) f head ≡ false)
+  head_begins head set built judges =
       let k = h.segment in
-      let held = segments_view r.items.held in
-      let contents = (reading_of (r.items).segments).contents in
-      record {
-        sent = k.sent;
-        tail = k.tail;
-        at = k.at;
-        spelled = subst (λ n. SpellsSegment n contents k.tail) h.code k.spelled;
-        allowed = subst (λ n. code_fault (segments_of items) n ≡ None) h.code k.allowed;
-        rule = j.0;
-        header = record {
-          framed = ap (λ (o : Option Frame). unwrap_or o no_frame) (sym (k.holds).frame ∙ h.framed) ∙ w.framed;
-          header = ap (λ (t : Parsed ScanHead). parsed_or no_head t) j.1;
-          is_frame = subst (λ g. IsFrame g) w.framed h.is_frame;
-          is_head = j.2;
-          scan_header = record {
-            components = are_in f head j.2;
-            distinct = (j.2).distinct;
-            parameters = head_parameters f contents head j.1;
-            tables = tables_there held f head set (sym built) j.3;
+      let view = segments_view r.items.held in
+      let j = judged (Ok head) judges in (
+        record {
+          sent = k.sent;
+          tail = k.tail;
+          at = k.at;
+          spelled = subst (λ n. SpellsSegment n (reading_of (r.items).segments).contents k.tail) h.code k.spelled;
+          allowed = subst (λ n. code_fault (segments_of items) n ≡ None) h.code k.allowed;
+          rule = j.0;
+          header = record {
+            framed = frame_is;
+            header = ap (λ (t : Parsed ScanHead). parsed_or no_head t) j.1;
+            is_frame = subst (λ g. IsFrame g) is_held h.is_frame;
+            is_head = j.2;
+            scan_header = record {
+              components = are_in f head j.2;
+              distinct = (j.2).distinct;
+              parameters = head_parameters f (reading_of (r.items).segments).contents head j.1;
+              tables = tables_there view f head set (sym built) j.3;
+            };
+            codings = same_coding f head (in_force set) (huffman_in_force (segments_of items)) (tables_held limits view (segments_of items) set k.holds (sym built));
+            restart = (k.holds).interval;
+            pictured = sym (ap (λ (c : Picture). c.frame) (some_once h.coefs q (sym h.has ∙ pictured))) ∙ h.pictured ∙ is_held;
+            as_map = h.as_map ∙ ap (λ c. map_of c) (some_once h.coefs q (sym h.has ∙ pictured));
           };
-          codings = codings_same limits held (segments_of items) set k.holds (sym built) f head;
-          restart = (k.holds).interval;
-          pictured = sym (ap (λ (c : Picture). c.frame) w.pictured) ∙ h.pictured ∙ w.framed;
-          as_map = h.as_map ∙ ap (λ c. map_of c) w.pictured;
-        };
-      }
+        },
+        j.3,
+      )
 
-  pub head_shows : (fault : Fault) (w : Found limits bytes items blocks r b f q)
-      → Judged limits (segments_of items) (reading_of (r.items).segments).contents f (segments_view r.items.held) (Err fault)
-      → Reveals limits fault bytes × (r.taken ≡ length bytes)
-  head_shows fault w j =
-      let h = w.whole in
-      (segment_fault limits bytes items blocks r.items h.segment fault (subst (λ n. contents_rule limits (segments_of items) n (reading_of (r.items).segments).contents ≡ Some fault) (sym h.code) j), h.count)
+  pub head_shows : (fault : Fault) → Judges r r.begun f contents (Err fault) → Reveals limits fault bytes × (r.taken ≡ length bytes)
+  head_shows fault j =
+      (segment_fault limits bytes items blocks r.items h.segment fault (subst (λ n. contents_rule limits (segments_of items) n (reading_of (r.items).segments).contents ≡ Some fault) (sym h.code) (judged (Err fault) j)), h.count)

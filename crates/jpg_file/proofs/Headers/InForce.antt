@@ -1,50 +1,275 @@
--- What is in force at a scan header: segments, the history of scans, and the first header.
-use Rattle.std.proofs.Common.{◌≡◌, ◌∙◌, ℕ, List, ◌∷◌, Ok, None, rules, sym, suc, ◌+◌, ◌≤◌, Bool, true, false, cond, ◌==◌, [], ◌++◌, length, refl, ap, subst, arith, Option, Some, take, drop, inl, inr, ◌⊎◌, filter, find, reverse, ◌||◌, is_none, map, replicate, option_map, unwrap_or, length-append, take_all, take-append-drop}
-use Rattle.jpg_spec.specs.HuffContents.{HuffmanSlots, parsed_huffmans}
-use Rattle.jpg_spec.specs.QuantContents.{Slots, parsed_quants, quant_in}
-use Rattle.jpg_spec.specs.InForce.{frame_after, huffman_in_force, quant_in_force, restart_in_force, first_some, frame_of, head_in, heads_of, no_frame}
-use Rattle.jpg_spec.specs.Jfif.{is_jfif, parsed_jfif, adobe_transform, jfif_of}
-use Rattle.jpg_spec.specs.Markers.{Segment, has_scan, kept_after, kept_rule, SpellsMarker, SpellsSegment, is_frame_code, has_frame, code_fault, BeginsSegment, PartOfSegment}
-use Rattle.jpg_spec.specs.Items.{contents_rule, Item, SpellsFront, segment, scan, segments_of}
+-- The markers that are kept, and the picture of a file by them.
+use Rattle.std.proofs.Common.{◌≡◌, ℕ, Bool, true, false, ◌==◌, List, [], ◌∷◌, ◌++◌, length, map, refl, sym, ap, ◌∙◌, Option, zero, suc, ◌+◌, ◌<◌, ◌≤◌, cond, take, get_or, subst, arith, Some, None, ◌||◌, filter, find, reverse, nat_le, is_none, unwrap_or, slice_index, slice_index_or, append-nil, take_all, Ok, rules, drop, inl, inr, ◌⊎◌, replicate, option_map, length-append, take-append-drop}
+use Rattle.std.proofs.lemmas.List.{length-map, map-append, reverse-append, reverse-reverse, take_more, take-append-le}
+use Rattle.std.proofs.lemmas.List.Elements.{filter-append}
+use Rattle.std.proofs.lemmas.Grind.{reverse_onto}
+use Rattle.jpg_spec.specs.Colours.{colours_of}
+use Rattle.jpg_spec.specs.Jfif.{adobe_transform, begins_adobe, begins_jfif, is_adobe, is_jfif, jfif_of, parsed_jfif}
+use Rattle.jpg_spec.specs.FileMeaning.{meaning_of, picture_component, Leads}
+use Rattle.jpg_spec.specs.InForce.{frame_of, heads_of, first_some, head_in, quant_in_force, frame_after, huffman_in_force, restart_in_force, no_frame}
+use Rattle.jpg_spec.specs.Markers.{Segment, kept_after, has_scan, SpellsSegment, is_frame_code, has_frame, code_fault, BeginsSegment, PartOfSegment}
+use Rattle.jpg_spec.specs.Meaning.{Meaning, colour_of, PictureComponent, real_blocks}
+use Rattle.jpg_spec_write.specs.Headed.{copied}
+use Rattle.jpg_spec.specs.declared.frame.Copying.{Copying}
+use Rattle.jpg_spec.specs.declared.frame.Copying.TheVariants as copying
+use Rattle.jpg_spec.specs.Scan.{Blocks}
 use Rattle.jpg_spec.specs.declared.frame.Limits.{Limits}
 use Rattle.jpg_spec.specs.declared.jfif.Jfif.{Jfif}
+use Rattle.jpg_spec.proofs.Basics.Common.{both, clash, or_right, some_once, length_below, some_of, neither, not_same, same_of}
+use Rattle.jpg_file.specs.Read.File.{keeping_of, head_or}
+use Rattle.jpg_file.specs.Read.SegmentState.{begins_header, is_wanted, kept_for, Holds, segments_view, SegmentView, lacks_any, lacks_part, AddsScan, quant_named, HasBegun, RepresentsHeads, scan_headers}
+use Rattle.jpg_file.specs.declared.read.file.FileWork.{FileWork}
+use Rattle.jpg_spec.proofs.Segments.QuantsInForce.{IsQuants, in_force_quants}
+use Rattle.jpg_spec.specs.Lists.{below, any_of, is_among}
+use Rattle.jpg_spec.specs.Geometry.{Frame, bounds, component_at, no_component}
+use Rattle.jpg_spec.specs.FrameHeader.{identifiers}
+use Rattle.jpg_spec.specs.Segments.{QuantTable, ScanHead, head_components}
+use Rattle.jpg_spec.specs.History.{has_begun, quant_of, names}
+use Rattle.jpg_spec.specs.QuantContents.{quant_in, Slots, parsed_quants}
+use Rattle.jpg_spec.specs.Ranges.{AreInRange}
+use Rattle.jpg_spec.specs.declared.frame.Component.{Component}
+use Rattle.jpg_spec.proofs.Bits.FirstPasses.{all_below}
+use Rattle.jpg_coefs.specs.Picture.{Picture as Made, map_of}
+use Rattle.jpg_file.specs.Read.Left.{Leaves}
+use Rattle.jpg_file.specs.Read.PictureKept.{PictureParts, component_view, parts_meaning, IsQuantTable}
+use Rattle.jpg_spec.proofs.McuRows.RowsWhole.{map_below}
+use Rattle.jpg_spec.specs.HuffContents.{HuffmanSlots, parsed_huffmans}
+use Rattle.jpg_spec.specs.Items.{contents_rule, Item, SpellsFront, segment, scan, segments_of}
 use Rattle.jpg_spec.proofs.Segments.InForce.{huffmans_put, quants_put}
 use Rattle.jpg_markers.specs.Seen.{IsOther}
-use Rattle.jpg_file.specs.Read.Keeping.{is_wanted}
-use Rattle.jpg_file.specs.Read.SegmentState.{SegmentView, Holds, lacks_any, lacks_part}
-use Rattle.std.specs.Int.{to_be_bytes, w16}
-use Rattle.std.proofs.lemmas.List.{reverse-reverse, take-append-le}
-use Rattle.jpg_spec.specs.Lists.{any_of, is_among}
-use Rattle.jpg_spec.specs.Geometry.{Frame, component_at}
-use Rattle.jpg_spec.specs.Segments.{QuantTable, ScanHead, head_components}
-use Rattle.jpg_spec.specs.Scan.{Blocks}
-use Rattle.jpg_spec.specs.History.{names, has_begun, quant_of}
-use Rattle.jpg_spec.specs.FileMeaning.{Leads}
 use Rattle.jpg_spec.specs.declared.frame.ScanPart.{ScanPart}
 use Rattle.jpg_spec.proofs.Headers.FrameFound.{framed}
 use Rattle.jpg_spec.proofs.Headers.BeforeScans.{no_heads, no_quant}
 use Rattle.jpg_spec.proofs.Places.Untouched.{frame_stays}
-use Rattle.jpg_spec.proofs.Basics.Common.{neither, not_same, clash, or_right, same_of}
 use Rattle.jpg_file.specs.declared.read.scan_history.ScanHistory.{ScanHistory}
 use Rattle.jpg_scans.specs.declared.progress.Progress.{Progress}
 use Rattle.jpg_file.specs.Read.Items.{AfterSegment, BetweenItems, AtPlace}
 use Rattle.jpg_file.specs.declared.read.items.Items.{Items}
-use Rattle.jpg_file.specs.Read.ScanHistory.{quant_named, HasBegun, RepresentsHeads, scan_headers}
 use Rattle.std.proofs.lemmas.Bool.{or_from}
-use Rattle.jpg_spec.specs.FrameHeader.{identifiers}
-use Rattle.jpg_spec.specs.Colours.{colours_of}
 use Rattle.jpg_spec.specs.Header.{UnfinishedHeader, IsHeader}
 use Rattle.jpg_spec.proofs.Headers.FrameAfter.{leads_pass}
 use Rattle.jpg_spec.proofs.Headers.HeaderFirst.{scan_passed}
 use Rattle.jpg_spec.proofs.Headers.OneHeader.{whole_not_standing}
 use Rattle.jpg_markers.specs.Reading.{Reading, reading_of}
 use Rattle.jpg_file.specs.Read.FirstHeader.{HasHead, HasNoHead, IsFirstHeader, colours_by, first_header_of}
-use Rattle.jpg_file.specs.Read.File.{head_or}
 use Rattle.jpg_file.specs.declared.read.first_header.Head.{Head}
 use Rattle.jpg_spec.proofs.Files.ItemSteps.{fill_begin, fill_part, fill_segment}
-use Rattle.jpg_file.proofs.Files.ItemBytes.{part_after}
-use Rattle.jpg_file.proofs.Files.Keeping.{adobe_same, filter_reverse}
+use Rattle.jpg_file.proofs.Files.ItemBytes.{part_after, segment_long}
 use Rattle.jpg_spec.proofs.Headers.FileHeader.{no_scan_spelled}
+
+-- The JFIF and Adobe segments of a picture are the same without the markers that are left out.
+
+-- A TEST that admits everything that another one does
+
+pub find_in : (test wanted : Segment → Bool) → ((s : Segment) → test s ≡ true → wanted s ≡ true) → (kept : List Segment) → find test (filter wanted kept) ≡ find test kept
+find_in test wanted lets [] = refl
+find_in test wanted lets (s ∷ kept) = by (wanted s) (test s) refl refl (find_in test wanted lets kept)
+  where
+    by : (a b : Bool) → wanted s ≡ a → test s ≡ b → find test (filter wanted kept) ≡ find test kept → find test (filter wanted (s ∷ kept)) ≡ find test (s ∷ kept)
+    by true true e h same = rw (e, h) refl
+    by true false e h same = rw (e, h) same
+    by false true e h same = absurd (clash (wanted s) (lets s h) e)
+    by false false e h same = rw (e, h) same
+
+filter_in : (test wanted : Segment → Bool) → ((s : Segment) → test s ≡ true → wanted s ≡ true) → (kept : List Segment) → filter test (filter wanted kept) ≡ filter test kept
+filter_in test wanted lets [] = refl
+filter_in test wanted lets (s ∷ kept) = by (wanted s) (test s) refl refl (filter_in test wanted lets kept)
+  where
+    by : (a b : Bool) → wanted s ≡ a → test s ≡ b → filter test (filter wanted kept) ≡ filter test kept → filter test (filter wanted (s ∷ kept)) ≡ filter test (s ∷ kept)
+    by true true e h same = rw (e, h) (ap (λ l. s ∷ l) same)
+    by true false e h same = rw (e, h) same
+    by false true e h same = absurd (clash (wanted s) (lets s h) e)
+    by false false e h same = rw (e, h) same
+
+pub filter_reverse : (wanted : Segment → Bool) (kept : List Segment) → filter wanted (reverse kept) ≡ reverse (filter wanted kept)
+filter_reverse wanted [] = refl
+filter_reverse wanted (s ∷ kept) =
+    ap (filter wanted) (reverse_onto kept s []) ∙ filter-append wanted (reverse kept) (s ∷ []) ∙ ap (λ l. l ++ filter wanted (s ∷ [])) (filter_reverse wanted kept) ∙ by (wanted s) refl
+  where
+    by : (b : Bool) → wanted s ≡ b → reverse (filter wanted kept) ++ filter wanted (s ∷ []) ≡ reverse (filter wanted (s ∷ kept))
+    by true e = rw (e) (sym (reverse_onto (filter wanted kept) s []))
+    by false e = rw (e) (append-nil (reverse (filter wanted kept)))
+
+-- JFIF and Adobe segments are always kept
+
+header_kept : (keeping : Copying) (s : Segment) → begins_header s ≡ true → is_wanted keeping s ≡ true
+header_kept copying.None s e = e
+header_kept copying.Comments s e = or_right (s.0 == 0xfe) (begins_header s) e
+header_kept copying.All s e = refl
+
+jfif_wanted : (keeping : Copying) (s : Segment) → is_jfif s ≡ true → is_wanted keeping s ≡ true
+jfif_wanted keeping s e = header_kept keeping s (ap (λ b. b || begins_adobe s.0 s.1) (both (begins_jfif s.0 s.1) (nat_le 14 (length s.1)) e).0)
+
+adobe_wanted : (keeping : Copying) (s : Segment) → is_adobe s ≡ true → is_wanted keeping s ≡ true
+adobe_wanted keeping s e = header_kept keeping s (or_right (begins_jfif s.0 s.1) (begins_adobe s.0 s.1) (both (begins_adobe s.0 s.1) (nat_le 12 (length s.1)) e).0)
+
+pub jfif_found : (keeping : Copying) (kept : List Segment) → find is_jfif (filter (is_wanted keeping) kept) ≡ find is_jfif kept
+jfif_found keeping kept = find_in is_jfif (is_wanted keeping) (jfif_wanted keeping) kept
+
+pub jfif_same : (keeping : Copying) (kept : List Segment) → jfif_of (filter (is_wanted keeping) kept) ≡ jfif_of kept
+jfif_same keeping kept = ap (λ l. parsed_jfif (find is_jfif l)) (sym (filter_reverse (is_wanted keeping) kept)) ∙ ap parsed_jfif (jfif_found keeping (reverse kept))
+
+pub adobe_same : (keeping : Copying) (kept : List Segment) → adobe_transform (filter (is_wanted keeping) kept) ≡ adobe_transform kept
+adobe_same keeping kept =
+    let e : find is_adobe (reverse (filter (is_wanted keeping) kept)) ≡ find is_adobe (reverse kept) =
+    ap (find is_adobe) (sym (filter_reverse (is_wanted keeping) kept)) ∙ find_in is_adobe (is_wanted keeping) (adobe_wanted keeping) (reverse kept) in
+    rw (e) refl
+
+pub colour_same : (keeping : Copying) (M : Meaning) → colour_of (kept_for keeping M) ≡ colour_of M
+colour_same keeping M =
+    let ids = map (λ c. c.id) M.components in
+    ap (λ (j : Jfif). colours_of (length M.components) ids j.seen (adobe_transform (filter (is_wanted keeping) M.kept))) (jfif_same keeping M.kept)
+    ∙ ap (λ (a : Option ℕ). colours_of (length M.components) ids (jfif_of M.kept).seen a) (adobe_same keeping M.kept)
+
+-- ALL OF THEM
+
+all_kept : (kept : List Segment) → filter (is_wanted copying.All) kept ≡ kept
+all_kept [] = refl
+all_kept (s ∷ kept) = ap (λ l. s ∷ l) (all_kept kept)
+
+pub kept_for_all : (M : Meaning) → kept_for copying.All M ≡ M
+kept_for_all M = ap (λ (l : List Segment). let N : Meaning = record M { kept = l } in N) (all_kept M.kept)
+
+-- those that are passed on
+pub passed_same : (keeping : Copying) (kept : List Segment) → copied keeping (filter (is_wanted keeping) kept) ≡ copied keeping kept
+passed_same copying.None kept = refl
+passed_same copying.Comments kept = filter_in (λ s. s.0 == 0xfe) (is_wanted copying.Comments) (λ s e. ap (λ b. b || begins_header s) e) kept
+passed_same copying.All kept = all_kept kept
+
+-- WHAT A READER KEEPS of the markers of the picture
+pub markers_kept : (limits : Limits) (segments : List Segment) (blocks : Blocks) (w : FileWork) → Holds limits (segments_view w.items.held) segments
+    → w.items.held.kept ≡ (kept_for (keeping_of w) (meaning_of (frame_of limits segments) segments blocks)).kept
+markers_kept limits segments blocks w holds = holds.kept ∙ sym (filter_reverse (is_wanted (keeping_of w)) (kept_after segments))
+
+-- The picture of a file, part by part.
+
+-- ADOBE'S SEGMENTS, one by one
+
+pub adobe_more : (kept : List Segment) (s : Segment) → adobe_transform (kept ++ s ∷ []) ≡ cond (is_adobe s) (Some (slice_index s.1 11)) (adobe_transform kept)
+adobe_more kept s = by (is_adobe s) refl
+  where
+    by : (b : Bool) → is_adobe s ≡ b → adobe_transform (kept ++ s ∷ []) ≡ cond b (Some (slice_index s.1 11)) (adobe_transform kept)
+    by true e = rw (reverse-append kept (s ∷ []), e) refl
+    by false e = rw (reverse-append kept (s ∷ []), e) refl
+
+-- THE COMPONENTS by their places
+
+map_map : {A B C : Type 0} (f : A → B) (g : B → C) (xs : List A) → map g (map f xs) ≡ map (λ x. g (f x)) xs
+map_map f g [] = refl
+map_map f g (x ∷ xs) = ap (λ l. g (f x) ∷ l) (map_map f g xs)
+
+map_at : (g : Component → ℕ) (xs : List Component) (n : ℕ) → n ≤ length xs → map (λ i. g (get_or xs i no_component)) (below n) ≡ map g (take n xs)
+map_at g xs zero low = refl
+map_at g xs (suc n) low =
+    let one : n + 1 ≡ suc n = omega arith in
+    map-append (λ i. g (get_or xs i no_component)) (below n) (n ∷ []) ∙ ap (λ l. l ++ g (get_or xs n no_component) ∷ []) (map_at g xs n (omega (arith, low)))
+    ∙ sym (map-append g (take n xs) (get_or xs n no_component ∷ [])) ∙ ap (map g) (sym (take_more xs n no_component (omega (arith, low)))) ∙ ap (λ m. map g (take m xs)) one
+
+names_same : (f : Frame) (quants : List QuantTable) → map (λ c. c.id) (map (component_view f quants) (below (length f.components))) ≡ identifiers f.components
+names_same f quants =
+    map_map (component_view f quants) (λ c. c.id) (below (length f.components))
+    ∙ map_at (λ c. c.id) f.components (length f.components) (omega arith) ∙ ap (λ l. map (λ c. c.id) l) (take_all (length f.components) f.components (omega arith))
+
+pub colour_is : (p : PictureParts) → jfif_of p.kept ≡ p.jfif → colours_of (length p.frame.components) (identifiers p.frame.components) p.jfif.seen (adobe_transform p.kept) ≡ colour_of (parts_meaning p)
+colour_is p e =
+    let f = p.frame in
+    let told = map (component_view f p.quants) (below (length f.components)) in
+    let count : length told ≡ length f.components = length-map (below (length f.components)) (component_view f p.quants) ∙ length_below (length f.components) in
+    ap (λ n. colours_of n (identifiers f.components) p.jfif.seen (adobe_transform p.kept)) (sym count)
+    ∙ ap (λ l. colours_of (length told) l p.jfif.seen (adobe_transform p.kept)) (sym (names_same f p.quants))
+    ∙ ap (λ j. colours_of (length told) (map (λ c. c.id) told) j.seen (adobe_transform p.kept)) (sym e)
+
+-- WHAT A FILE LEAVES
+
+-- what the parts of the picture are
+pub record IsLeft (w : FileWork) (p : PictureParts) : Type 0 where
+  pub frame : w.items.held.frame ≡ Some p.frame
+  pub coefs : w.coefs ≡ Some p.coefs
+  pub kept : p.kept ≡ (segments_view w.items.held).kept
+  pub few : length p.frame.components ≤ 4
+  pub tables : (i : ℕ) → i < length p.frame.components → slice_index_or p.quants i [] ≡ unwrap_or (quant_in w.begun.quants i) []
+
+-- the frame and the blocks
+record LeftPicture (limits : Limits) (segments : List Segment) (blocks : Blocks) (p : PictureParts) : Type 0 where
+  pub frame : frame_of limits segments ≡ p.frame
+  pub grids : p.coefs.frame ≡ p.frame
+  pub same : blocks ≡ map_of p.coefs
+
+-- THE TABLES were in force, and so have no zeros
+pub quant_sound : (f : Frame) (before : List Segment) (i : ℕ) (t : QuantTable) → quant_of f before i ≡ Some t → IsQuants t
+quant_sound f [] i t e = cc
+quant_sound f (s ∷ before) i t e = by (s.0 == 0xda) e (λ u h. quant_sound f before i u h)
+  where
+    first : (o : Option QuantTable) (b : Bool) → first_some o (cond b (quant_in_force before (component_at f i).quant) None) ≡ Some t → ((u : QuantTable) → o ≡ Some u → IsQuants u) → IsQuants t
+    first (Some x) b h older = older t h
+    first None true h older = in_force_quants before (component_at f i).quant t h
+    first None false h older = cc
+
+    by : (b : Bool) → cond b (first_some (quant_of f before i) (cond (names (head_in f s.1) i) (quant_in_force before (component_at f i).quant) None)) (quant_of f before i) ≡ Some t
+        → ((u : QuantTable) → quant_of f before i ≡ Some u → IsQuants u) → IsQuants t
+    by false h older = older t h
+    by true h older = first (quant_of f before i) (names (head_in f s.1) i) h older
+
+module _ (limits : Limits) (segments : List Segment) (blocks : Blocks) (w : FileWork) (e : Leaves limits segments blocks w) where
+  pub table_left : (i : ℕ) → length (frame_of limits segments).components ≤ 4 → i < length (frame_of limits segments).components
+      → is_none (quant_in w.begun.quants i) ≡ false
+  table_left i few low =
+      let f = frame_of limits segments in
+      (e.begun).there i (omega (arith, low, few)) (all_below (has_begun (heads_of f segments)) (length f.components) i e.complete low)
+
+  pub left_framed : (f : Frame) → w.items.held.frame ≡ Some f → frame_of limits segments ≡ f
+  left_framed f held = e.is ∙ some_once e.frame f (sym e.held ∙ held)
+
+  left_picture : (p : PictureParts) → IsLeft w p → LeftPicture limits segments blocks p
+  left_picture p l =
+      let same = left_framed p.frame l.frame in
+      let is = some_once e.coefs p.coefs (sym e.has ∙ l.coefs) in
+      record { frame = same; grids = ap (λ (c : Made). c.frame) (sym is) ∙ e.framed ∙ same; same = e.as_map ∙ ap map_of is }
+
+  pub left_means : (p : PictureParts) → IsLeft w p → parts_meaning p ≡ kept_for (keeping_of w) (meaning_of (frame_of limits segments) segments blocks)
+  left_means p l =
+      let q = left_picture p l in
+      let f = p.frame in
+      let table : (i : ℕ) → i < length f.components → slice_index_or p.quants i [] ≡ unwrap_or (quant_of f segments i) [] =
+      λ i low. l.tables i low ∙ ap (λ (o : Option QuantTable). unwrap_or o []) ((e.begun).quants i (omega (arith, low, l.few)) ∙ ap (λ (g : Frame). quant_of g segments i) q.frame) in
+      let components = map_below (component_view f p.quants) (picture_component f segments) (length f.components)
+      (λ i low. ap (λ (t : QuantTable). let c : PictureComponent = record { id = (component_at f i).id; h = (component_at f i).h; v = (component_at f i).v; quants = t } in c) (table i low)) in
+      let shown = ap (real_blocks f) (sym q.same) in
+      let keeping = keeping_of w in
+      let kept = l.kept ∙ (e.holds).kept ∙ sym (filter_reverse (is_wanted keeping) (kept_after segments)) in
+      let N = meaning_of f segments blocks in
+      ap (λ (cs : List PictureComponent). let n : Meaning = record (parts_meaning p) { components = cs } in n) components
+      ∙ ap (λ bs. let n : Meaning = record N { blocks = bs; kept = p.kept } in n) shown
+      ∙ ap (λ (ks : List Segment). let n : Meaning = record N { kept = ks } in n) kept
+      ∙ ap (λ (g : Frame). kept_for keeping (meaning_of g segments blocks)) (sym q.frame)
+
+  pub left_range : (p : PictureParts) → IsLeft w p → AreInRange (bounds p.frame) (map_of p.coefs)
+  left_range p l =
+      let q = left_picture p l in
+      subst (λ (g : Frame). AreInRange (bounds g) (map_of p.coefs)) q.frame (subst (λ bs. AreInRange (bounds (frame_of limits segments)) bs) q.same e.range)
+
+  pub left_grids : (p : PictureParts) → IsLeft w p → p.coefs.frame ≡ p.frame
+  left_grids p l = (left_picture p l).grids
+
+  pub left_jfif : (segments_view w.items.held).jfif ≡ jfif_of (segments_view w.items.held).kept
+  left_jfif =
+      let h = e.holds in
+      let keeping = keeping_of w in
+      h.jfif ∙ ap parsed_jfif (sym (jfif_found keeping (kept_after segments))) ∙ ap (λ l. parsed_jfif (find is_jfif l)) (sym (reverse-reverse (filter (is_wanted keeping) (kept_after segments))))
+      ∙ ap jfif_of (sym h.kept)
+
+  pub left_quants : (p : PictureParts) (i : ℕ) → IsLeft w p → i < length p.frame.components → IsQuantTable (slice_index_or p.quants i [])
+  left_quants p i l low =
+      let f = frame_of limits segments in
+      let few = l.few in
+      let same = left_framed p.frame l.frame in
+      let none = table_left i (subst (λ (g : Frame). length g.components ≤ 4) (sym same) l.few) (subst (λ (g : Frame). i < length g.components) (sym same) low) in
+      let x = some_of (quant_in w.begun.quants i) none in
+      let sound = quant_sound f segments i x.0 (sym ((e.begun).quants i (omega (arith, low, few))) ∙ x.1) in
+      let is : slice_index_or p.quants i [] ≡ x.0 = l.tables i low ∙ ap (λ (o : Option QuantTable). unwrap_or o []) x.1 in
+      subst IsQuantTable (sym is) (record { long = sound.long; some = sound.some })
+
+-- What is in force at a scan header: segments, the history of scans, and the first header.
 
 -- Tables put into slots are those that are kept.
 
@@ -64,41 +289,26 @@ quants_taken limits h before contents new e holds =
       record { frame = holds.frame; dc_slots = holds.dc_slots; ac_slots = holds.ac_slots; dc = holds.dc; ac = holds.ac; quant_slots = t.1.quant_slots; quants = t.1.quants; interval = holds.interval; scanned = holds.scanned; kept = holds.kept; jfif = holds.jfif },
     )
 
--- A SEGMENT that defines nothing leaves what is in force, and has no other rule than that of kept markers
-pub record LeavesInForce (limits : Limits) (before : List Segment) (code : ℕ) (contents : List ℕ) : Type 0 where
-  pub rule : kept_rule limits before code contents ≡ None → contents_rule limits before code contents ≡ None
-  pub frame : frame_after limits ((code, contents) ∷ before) ≡ frame_after limits before
-  pub huffmans : (class slot : ℕ) → huffman_in_force ((code, contents) ∷ before) class slot ≡ huffman_in_force before class slot
-  pub quants : (slot : ℕ) → quant_in_force ((code, contents) ∷ before) slot ≡ quant_in_force before slot
-  pub interval : restart_in_force ((code, contents) ∷ before) ≡ restart_in_force before
-  pub scanned : has_scan ((code, contents) ∷ before) ≡ has_scan before
-
-pub other_leaves : (limits : Limits) (before : List Segment) (code : ℕ) (contents : List ℕ) → IsOther code → LeavesInForce limits before code contents
-other_leaves limits before code contents other = record {
-  rule = λ within. search (rules, within, other);
-  frame = search (rules, other);
-  huffmans = λ class slot. search (rules, other);
-  quants = λ slot. search (rules, other);
-  interval = search (rules, other);
-  scanned = search (rules, other);
-}
-
--- with what is kept of it
+-- A SEGMENT that defines nothing leaves what is in force, with what is kept of it
 pub other_holds : (limits : Limits) (h : SegmentView) (before : List Segment) (code : ℕ) (contents : List ℕ) (kept : List Segment) (jfif : Jfif) → IsOther code → Holds limits h before
     → kept ≡ reverse (filter (is_wanted h.keeping) (kept_after ((code, contents) ∷ before))) → jfif ≡ parsed_jfif (find is_jfif (kept_after ((code, contents) ∷ before)))
     → Holds limits (record h { kept = kept; jfif = jfif }) ((code, contents) ∷ before)
 other_holds limits h before code contents kept jfif other holds kept_is jfif_is =
-    let l = other_leaves limits before code contents other in
+    let frame : frame_after limits ((code, contents) ∷ before) ≡ frame_after limits before = search (rules, other) in
+    let huffmans : (class slot : ℕ) → huffman_in_force ((code, contents) ∷ before) class slot ≡ huffman_in_force before class slot = λ class slot. search (rules, other) in
+    let quants : (slot : ℕ) → quant_in_force ((code, contents) ∷ before) slot ≡ quant_in_force before slot = λ slot. search (rules, other) in
+    let interval : restart_in_force ((code, contents) ∷ before) ≡ restart_in_force before = search (rules, other) in
+    let scanned : has_scan ((code, contents) ∷ before) ≡ has_scan before = search (rules, other) in
     record {
-      frame = holds.frame ∙ sym l.frame;
+      frame = holds.frame ∙ sym frame;
       dc_slots = holds.dc_slots;
       ac_slots = holds.ac_slots;
-      dc = λ slot. holds.dc slot ∙ sym (l.huffmans 0 slot);
-      ac = λ slot. holds.ac slot ∙ sym (l.huffmans 1 slot);
+      dc = λ slot. holds.dc slot ∙ sym (huffmans 0 slot);
+      ac = λ slot. holds.ac slot ∙ sym (huffmans 1 slot);
       quant_slots = holds.quant_slots;
-      quants = λ slot. holds.quants slot ∙ sym (l.quants slot);
-      interval = holds.interval ∙ sym l.interval;
-      scanned = holds.scanned ∙ sym l.scanned;
+      quants = λ slot. holds.quants slot ∙ sym (quants slot);
+      interval = holds.interval ∙ sym interval;
+      scanned = holds.scanned ∙ sym scanned;
       kept = kept_is;
       jfif = jfif_is;
     }
@@ -172,25 +382,11 @@ begun_goes_on limits b items blocks code contents leads allowed other k = record
 
 -- AFTER A SCAN HEADER
 
--- what this scan adds
-pub record AddsScan (f : Frame) (slots : Slots) (b new : ScanHistory) (head : ScanHead) : Type 0 where
-  pub scans : (heads : List ScanHead) → RepresentsHeads b.progress f heads → RepresentsHeads new.progress f (head ∷ heads)
-  pub quants : (i : ℕ) → quant_in new.quants i ≡ first_some (quant_in b.quants i) (quant_named f slots head.parts i)
-  pub tables : (i : ℕ) → names head i ≡ true → is_none (quant_in slots (component_at f i).quant) ≡ false
-  pub count : new.scans ≡ b.scans + 1
-
-some_first : {A : Type 0} (o q : Option A) → is_none o ≡ false → is_none (first_some o q) ≡ false
-some_first None q e = cc
-some_first (Some x) q e = refl
-
-some_last : {A : Type 0} (o q : Option A) → is_none q ≡ false → is_none (first_some o q) ≡ false
-some_last None q e = e
-some_last (Some x) q e = refl
-
 still_there : (m a : Bool) (o q : Option QuantTable) → (m || a) ≡ true → (a ≡ true → is_none o ≡ false) → (m ≡ true → is_none q ≡ false) → is_none (first_some o (cond m q None)) ≡ false
-still_there true a o q e old new = some_last o q (new refl)
-still_there false true o q e old new = some_first o None (old refl)
-still_there false false o q e old new = cc
+still_there m a (Some x) q e old new = refl
+still_there true a None q e old new = new refl
+still_there false true None q e old new = old refl
+still_there false false None q e old new = cc
 
 -- none of the tables that the parts need is lacking
 pub table_there : (h : SegmentView) (f : Frame) (head : ScanHead) (i : ℕ) → lacks_any h f head ≡ false → names head i ≡ true → is_none (quant_in h.quants (component_at f i).quant) ≡ false
@@ -208,8 +404,9 @@ table_there h f head i none named = at head.parts none named
         by p (p.component == i) (is_among i (map (λ (p : ScanPart). p.component) parts)) refl among n.0 (at parts n.1)
 
 pub begun_more : (limits : Limits) (b new : ScanHistory) (before : List Segment) (contents : List ℕ) (head : ScanHead) (slots : Slots) → head_in (frame_of limits before) contents ≡ head → has_frame before ≡ true
-    → ((slot : ℕ) → quant_in slots slot ≡ quant_in_force before slot) → AddsScan (frame_of limits before) slots b new head → HasBegun limits b before → HasBegun limits new ((0xda, contents) ∷ before)
-begun_more limits b new before contents head slots e framed held adds k = record {
+    → ((slot : ℕ) → quant_in slots slot ≡ quant_in_force before slot) → AddsScan (frame_of limits before) slots b new head
+    → ((i : ℕ) → names head i ≡ true → is_none (quant_in slots (component_at (frame_of limits before) i).quant) ≡ false) → HasBegun limits b before → HasBegun limits new ((0xda, contents) ∷ before)
+begun_more limits b new before contents head slots e framed held adds tables k = record {
   scans = subst (λ h. RepresentsHeads new.progress f (h ∷ heads_of f before)) (sym e) (adds.scans (heads_of f before) k.scans);
   framed = λ some. framed;
   quants = λ i low.
@@ -220,7 +417,7 @@ begun_more limits b new before contents head slots e framed held adds k = record
   there = λ i low begun.
       ap is_none (adds.quants i)
       ∙ still_there (names head i) (has_begun (heads_of f before) i) (quant_in b.quants i) (quant_in slots (component_at f i).quant)
-      (sym (ap (λ (h : ScanHead). names h i || has_begun (heads_of f before) i) e) ∙ begun) (k.there i low) (adds.tables i);
+      (sym (ap (λ (h : ScanHead). names h i || has_begun (heads_of f before) i) e) ∙ begun) (k.there i low) (tables i);
   count = (let now = adds.count in let was = k.count in let z : new.scans ≡ suc (scan_headers before) = omega (arith, now, was) in z);
 }
   where
@@ -228,12 +425,6 @@ begun_more limits b new before contents head slots e framed held adds k = record
     f = frame_of limits before
 
 -- NO MORE SCANS than bytes
-
-segment_long : (code : ℕ) (contents bytes : List ℕ) → SpellsSegment code contents bytes → 1 ≤ length bytes
-segment_long code contents bytes s = by s.0 s.1 s.3
-  where
-    by : (marker : List ℕ) → SpellsMarker code marker → bytes ≡ marker ++ to_be_bytes w16 (length contents + 2) ++ contents → 1 ≤ length bytes
-    by marker m e = (let long = ap length e ∙ ap (λ l. length (l ++ to_be_bytes w16 (length contents + 2) ++ contents)) m.1 in omega (arith, long))
 
 pub scans_within : (items : List Item) (front : List ℕ) → SpellsFront items front → scan_headers (segments_of items) + 2 ≤ length front
 scans_within [] front s = (let long = ap length s in omega (arith, long))
@@ -311,18 +502,9 @@ no_head limits bytes s before contents n h = whole_not_standing limits (take n b
 
 -- A SCAN HEADER, the first one or a later one
 
-pub record HeadsFirst (limits : Limits) (bytes : List ℕ) (before : List Segment) (contents : List ℕ) : Type 0 where
-  pub header : IsHeader limits bytes before contents
-  pub unbroken : contents_rule limits before 0xda contents ≡ None
-
-parsed_some : (limits : Limits) (before : List Segment) (contents : List ℕ) (h : SegmentView) (f : Frame) (n : ℕ) → Holds limits h ((0xda, contents) ∷ before) → h.frame ≡ Some f
-    → (first_header_of h n ≡ Some (record { frame = f; colour = colours_by f h.jfif h.kept; at = n })) × (f ≡ frame_of limits before)
-parsed_some limits before contents h f n k e =
-    (ap (λ (o : Option Frame). option_map (λ (g : Frame). let x : Head = record { frame = g; colour = colours_by g h.jfif h.kept; at = n } in x) o) e, ap (λ (o : Option Frame). unwrap_or o no_frame) (sym e ∙ k.frame))
-
-colour_same : (limits : Limits) (before : List Segment) (contents : List ℕ) (h : SegmentView) (f : Frame) → Holds limits h ((0xda, contents) ∷ before) → f ≡ frame_of limits before
+kept_colour : (limits : Limits) (before : List Segment) (contents : List ℕ) (h : SegmentView) (f : Frame) → Holds limits h ((0xda, contents) ∷ before) → f ≡ frame_of limits before
     → colours_by f h.jfif h.kept ≡ (let kept = reverse (kept_after before) in colours_by (frame_of limits before) (jfif_of kept) kept)
-colour_same limits before contents h f k e =
+kept_colour limits before contents h f k e =
     let kept : List Segment = reverse (kept_after before) in
     let jfif : h.jfif ≡ jfif_of kept = k.jfif ∙ ap (λ l. parsed_jfif (find is_jfif l)) (sym (reverse-reverse (kept_after before))) in
     let held : adobe_transform h.kept ≡ adobe_transform kept = ap adobe_transform (k.kept ∙ sym (filter_reverse (is_wanted h.keeping) (kept_after before))) ∙ adobe_same h.keeping kept in
@@ -332,7 +514,7 @@ colour_same limits before contents h f k e =
 module _ (limits : Limits) (bytes : List ℕ) (items : List Item) (blocks : Blocks) (w : Items) (contents : List ℕ) where
   pub heads_first : AfterSegment limits bytes items blocks w → (reading_of w.segments).code ≡ 0xda → (reading_of w.segments).contents ≡ contents
       → has_scan (segments_of items) ≡ false → contents_rule limits (segments_of items) 0xda contents ≡ None
-      → HeadsFirst limits bytes (segments_of items) contents
+      → IsHeader limits bytes (segments_of items) contents
   heads_first k code same none rule =
       let b = (k.at).beside in
       let behind = b.behind in
@@ -340,12 +522,9 @@ module _ (limits : Limits) (bytes : List ℕ) (items : List Item) (blocks : Bloc
       let spelled : SpellsSegment 0xda contents k.tail = subst (λ c. SpellsSegment 0xda c k.tail) same (subst (λ n. SpellsSegment n (reading_of w.segments).contents k.tail) code k.spelled) in
       let end : 0xda ≡ 0xd9 → ⊥ = λ (e : 0xda ≡ 0xd9). omega (arith, e) in
       record {
-        header = record {
-          spelled = (behind.front, last, behind.cut, no_scan_spelled items behind.front behind.spelled none, fill_segment b.fill 0xda contents k.tail spelled, end);
-          passed = (subst (λ n. code_fault (segments_of items) n ≡ None) code k.allowed, scan_passed limits (segments_of items) contents rule, leads_pass limits items blocks (k.at).leads);
-          first = none;
-        };
-        unbroken = rule;
+        spelled = (behind.front, last, behind.cut, no_scan_spelled items behind.front behind.spelled none, fill_segment b.fill 0xda contents k.tail spelled, end);
+        passed = (subst (λ n. code_fault (segments_of items) n ≡ None) code k.allowed, scan_passed limits (segments_of items) contents rule, leads_pass limits items blocks (k.at).leads);
+        first = none;
       }
 
   pub noted : (h : SegmentView) (f : Frame) (n : ℕ) (old : Option Head) → AfterSegment limits bytes items blocks w → (reading_of w.segments).code ≡ 0xda
@@ -355,7 +534,7 @@ module _ (limits : Limits) (bytes : List ℕ) (items : List Item) (blocks : Bloc
   noted h f n (Some x) k code same rule holds framed count had = had
   noted h f n None k code same rule holds framed count none =
       let before = segments_of items in
-      let t = parsed_some limits before contents h f n holds framed in
+      let is_frame : f ≡ frame_of limits before = ap (λ (o : Option Frame). unwrap_or o no_frame) (sym framed ∙ holds.frame) in
       let first = heads_first k code same none rule in
       let x : Head = record { frame = f; colour = colours_by f h.jfif h.kept; at = n } in
       let is : take n bytes ≡ bytes = take_all n bytes (omega (arith, count)) in
@@ -363,9 +542,9 @@ module _ (limits : Limits) (bytes : List ℕ) (items : List Item) (blocks : Bloc
         before = before;
         contents = contents;
         within = omega (arith, count);
-        header = subst (λ l. IsHeader limits l before contents) (sym is) first.header;
+        header = subst (λ l. IsHeader limits l before contents) (sym is) first;
         unbroken = rule;
-        frame = t.1;
-        colour = colour_same limits before contents h f holds t.1;
+        frame = is_frame;
+        colour = kept_colour limits before contents h f holds is_frame;
       } in
-      subst (λ (o : Option Head). HasHead limits bytes ((0xda, contents) ∷ before) o) (sym t.0) at
+      subst (λ (o : Option Frame). HasHead limits bytes ((0xda, contents) ∷ before) (head_or None (option_map (λ (g : Frame). let y : Head = record { frame = g; colour = colours_by g h.jfif h.kept; at = n } in y) o))) (sym framed) at

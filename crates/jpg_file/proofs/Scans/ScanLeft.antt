@@ -1,26 +1,25 @@
 -- The marker that ends a scan's data belongs to an item again.
-use Rattle.std.proofs.Common.{◌≡◌, ℕ, suc, ◌+◌, ◌≤◌, true, List, [], ◌∷◌, ◌++◌, refl, sym, ap, ◌∙◌, subst, arith, length, Ok, Err, inl, inr, replicate, append_assoc, length-append}
-use Rattle.std.specs.Int.{to_be_bytes, w16}
-use Rattle.std.proofs.lemmas.List.{length-replicate}
+use Rattle.std.proofs.Common.{Result, ◌≡◌, ℕ, ◌+◌, true, List, [], ◌∷◌, ◌++◌, refl, sym, ap, ◌∙◌, subst, arith, length, Ok, append_assoc, length-append}
 use Rattle.jpg_spec.specs.Scan.{Blocks}
-use Rattle.jpg_spec.specs.Markers.{Segment, SpellsMarker, SpellsSegment, kept_rule}
+use Rattle.jpg_spec.specs.Markers.{Segment, kept_rule}
 use Rattle.jpg_spec.specs.Markers as markers
 use Rattle.jpg_spec.specs.Items.{Item, scan, segments_of}
 use Rattle.jpg_spec.specs.declared.frame.Limits.{Limits}
-use Rattle.jpg_spec.specs.declared.fault.FaultAt.{FaultAt}
 use Rattle.jpg_spec.proofs.Files.ItemSteps.{same_tail, scan_left}
 use Rattle.jpg_coefs.specs.Picture.{Picture, map_of}
 use Rattle.jpg_base.specs.declared.stop.Stop.TheVariants as stop
+use Rattle.jpg_base.specs.declared.stop.Stop.{Stop}
+use Rattle.jpg_markers.specs.declared.segments.SegStep.{SegStep}
 use Rattle.jpg_markers.specs.declared.segments.SegStep.TheVariants as step
 use Rattle.jpg_markers.specs.declared.segments.Phase.{Phase}
 use Rattle.jpg_markers.specs.declared.segments.Phase.TheVariants as phase
-use Rattle.jpg_markers.specs.Reading.{Reading, RepresentsSegments, AtPhase, IsBetween, RevealsAfter, EndsAtEoi, Comes, reading_of}
+use Rattle.jpg_markers.specs.Reading.{Reading, RepresentsSegments, AtPhase, IsBetween, Comes, reading_of}
 use Rattle.jpg_file.specs.Read.InData.{EndsData}
 use Rattle.jpg_file.specs.Read.SegmentState.{SegmentView, Holds, segments_view}
 use Rattle.jpg_file.specs.declared.read.items.Items.{Items}
 use Rattle.jpg_file.specs.declared.read.items.ItemStep.TheVariants as came
-use Rattle.jpg_file.specs.Read.Items.{IsBeside, BetweenItems, AfterScan, AfterSegment, BehindHead}
-use Rattle.jpg_file.proofs.Files.ItemBytes.{beside_fault}
+use Rattle.jpg_file.specs.Read.Items.{IsBeside, AfterSegment, BehindHead}
+use Rattle.jpg_file.proofs.Files.ItemBytes.{Fed, fed_beside, segment_long}
 use Rattle.jpg_markers.specs.declared.segments.SegmentReader.{SegmentReader}
 
 -- A scan header changes nothing that is kept, except that a scan began.
@@ -48,18 +47,6 @@ record Left (limits : Limits) (items : List Item) (contents bytes : List ℕ) (c
   pub at : IsBeside limits bytes (sent_with k.sent code) (scan contents intervals ∷ items) (map_of now) (255 ∷ code ∷ [])
 
 -- a marker by itself is no complete segment
-segment_long : (code : ℕ) (contents bytes : List ℕ) → SpellsSegment code contents bytes → 4 ≤ length bytes
-segment_long code contents bytes s =
-    let m = s.1 in
-    let two : length (to_be_bytes w16 (length contents + 2)) ≡ 2 = refl in
-    let a = ap length s.3 in
-    let b = length-append (s.0 ++ to_be_bytes w16 (length contents + 2)) contents in
-    let d = length-append s.0 (to_be_bytes w16 (length contents + 2)) in
-    let f = ap length m.1 in
-    let g = length-append (replicate (suc m.0) 255) (code ∷ []) in
-    let h = length-replicate {A = ℕ} (suc m.0) 255 in
-    omega (arith, a, b, d, f, g, h, two)
-
 no_whole_marker : (limits : Limits) (sent : List ℕ) (before : List Segment) (code c : ℕ) (contents : List ℕ) (r : Reading) → r.limits ≡ limits → markers.Between (kept_rule limits) sent before (255 ∷ code ∷ []) → (p : Phase) → AtPhase r p sent ((c, contents) ∷ before) → ⊥
 no_whole_marker limits sent before code c contents r e b p a = by p a
   where
@@ -99,37 +86,22 @@ module _ (limits : Limits) (items : List Item) (contents bytes : List ℕ) (code
   abbrev before : List Segment
   before = (0xda, contents) ∷ segments_of items
 
-  pub left_more : (s : SegmentReader) → EndsData limits items contents bytes code now → RepresentsSegments sent before (reading_of s)
-      → (reading_of s).limits ≡ (reading_of w.segments).limits → AfterScan limits items contents bytes (map_of now) came.More (record w { segments = s })
-  left_more s e stands same =
-      let l = left_at e in
-      let next : BetweenItems limits bytes (scan contents l.intervals ∷ items) (map_of now) (record w { segments = s }) =
-      record { sent = sent; stands = stands; at = inr (255 ∷ code ∷ [], l.at); bounded = (same ∙ k.bounded.0, k.bounded.1); holds = k.holds } in
-      (l.intervals, (scan contents l.intervals ∷ items, inl refl, next), tt)
-
-  pub left_fault : (s : SegmentReader) (f : FaultAt) → EndsData limits items contents bytes code now → Comes sent before (Err (stop.Fault f)) (reading_of s)
-      → (reading_of s).limits ≡ (reading_of w.segments).limits → AfterScan limits items contents bytes (map_of now) (came.Fault f) (record w { segments = s })
-  left_fault s f e c same =
-      let l = left_at e in
-      let shown = subst (λ (b : Limits). RevealsAfter (kept_rule b) before f.fault sent) (same ∙ k.bounded.0) c.1 in
-      (l.intervals, (beside_fault limits bytes sent (scan contents l.intervals ∷ items) (map_of now) (255 ∷ code ∷ []) f.fault l.at shown, c.2), tt)
-
-  pub left_end : (s : SegmentReader) → EndsData limits items contents bytes code now → Comes sent before (Ok step.Eoi) (reading_of s)
-      → (reading_of s).limits ≡ (reading_of w.segments).limits → AfterScan limits items contents bytes (map_of now) came.Eoi (record w { segments = s })
-  left_end s e c same =
-      let l = left_at e in
-      let ends = subst (λ (b : Limits). EndsAtEoi (kept_rule b) before sent) (same ∙ k.bounded.0) c.1 in
-      let t = same_tail (kept_rule limits) sent before (255 ∷ code ∷ []) ends.0 ((l.at).beside).between ends.1 in (
-        l.intervals,
-        record { sent = sent; tail = 255 ∷ code ∷ []; at = l.at; ended = subst (λ z. SpellsMarker 0xd9 z) (sym t) ends.2; allowed = ends.3; holds = k.holds },
-        tt,
-      )
-
   pub left_whole : (s : SegmentReader) → EndsData limits items contents bytes code now → Comes sent before (Ok step.Whole) (reading_of s)
       → (reading_of s).limits ≡ (reading_of w.segments).limits → ⊥
   left_whole s e c same =
       let r = reading_of s in
       no_whole_marker limits sent before code r.code r.contents r (same ∙ k.bounded.0) (((left_at e).at).beside).between r.phase c.1.1
+
+  pub left_comes : (s : SegmentReader) (came answer : Result SegStep Stop) → came ≡ answer → EndsData limits items contents bytes code now → Comes sent before came (reading_of s)
+      → (reading_of s).limits ≡ (reading_of w.segments).limits
+      → (intervals : List (List ℕ)) × Fed limits bytes (scan contents intervals ∷ items) (map_of now) answer (record w { segments = s })
+  left_comes s came answer is e c same =
+      let l = left_at e in
+      let all : List Item = scan contents l.intervals ∷ items in (
+        l.intervals,
+        subst (λ (a : Result SegStep Stop). Fed limits bytes all (map_of now) a (record w { segments = s })) is (fed_beside limits bytes sent all (map_of now) (record w { segments = s }) (same ∙ k.bounded.0, k.bounded.1) k.holds (255 ∷ code ∷ []) l.at came c
+            (λ (h : came ≡ Ok step.Whole). absurd (left_whole s e (subst (λ (a : Result SegStep Stop). Comes sent before a (reading_of s)) h c) same))),
+      )
 
 pub after_head : (limits : Limits) (bytes : List ℕ) (items : List Item) (blocks : Blocks) (w new : Items) → AfterSegment limits bytes items blocks w → (reading_of w.segments).code ≡ 0xda
     → reading_of new.segments ≡ reading_of w.segments → new.limits ≡ w.limits → segments_view new.held ≡ record (segments_view w.held) { scanned = true } → BehindHead limits items (reading_of w.segments).contents new

@@ -1,49 +1,138 @@
--- A file that is being read: the meaning of its states, and the result of a further byte (T.81, B.2.1).
-use Rattle.std.specs.Prelude.{◌≡◌, ◌⊎◌, ℕ, ◌≤◌, true, false, List, [], ◌∷◌, ◌++◌, length, take, slice_index, ◌+◌, ◌-◌, ◌<◌, if◌then◌else◌, is_some, Option, Some, None, Result, Ok, Err}
+-- A file that is being read: the meaning of its reader's states (T.81, B.2.1).
+use Rattle.std.specs.Prelude.{◌≡◌, ℕ, ◌+◌, ◌-◌, ◌<◌, ◌≤◌, take, slice_index, not, ◌&&◌, Bool, true, false, List, ◌∷◌, length, Option, Some, None, Result, Ok, Err, ◌⊎◌, [], ◌++◌, if◌then◌else◌, is_some}
+use Rattle.jpg_spec.specs.Items.{Item, segments_of}
 use Rattle.jpg_spec.specs.Geometry.{Frame}
 use Rattle.jpg_spec.specs.FrameHeader.{IsFrame}
 use Rattle.jpg_spec.specs.Scan.{Blocks}
+use Rattle.jpg_spec.specs.FileMeaning.{scan_after, no_blocks}
+use Rattle.jpg_spec.specs.FirstFault.{Reveals}
+use Rattle.jpg_spec.specs.declared.fault.FaultAt.{FaultAt}
+use Rattle.jpg_spec.specs.declared.frame.Limits.{Limits}
+use Rattle.jpg_coefs.specs.Picture.{Picture, map_of}
+use Rattle.jpg_markers.specs.Reading.{HasRoom as HasSegmentRoom, reading_of}
+use Rattle.jpg_spec.specs.declared.frame.Copying.TheVariants as copying
+use Rattle.jpg_file.specs.Read.ScanStart.{HasSizes}
+use Rattle.jpg_file.specs.Read.InData.{ArePlain, InData, scan_left}
+use Rattle.jpg_file.specs.Read.SegmentState.{HasBegun, segments_view}
+use Rattle.jpg_file.specs.declared.read.items.Items.{Items}
+use Rattle.jpg_file.specs.Read.Items.{AfterSegment, BehindHead, BetweenItems, BehindEnd}
+use Rattle.jpg_file.specs.declared.read.scan.InScan.{InScan}
+use Rattle.jpg_file.specs.declared.read.file.FileWork.{FileWork}
 use Rattle.jpg_spec.specs.Markers.{has_frame, has_scan}
 use Rattle.jpg_spec.specs.History.{is_complete}
-use Rattle.jpg_spec.specs.Items.{Item, segments_of}
-use Rattle.jpg_spec.specs.FileMeaning.{no_blocks}
-use Rattle.jpg_spec.specs.FirstFault.{Reveals}
 use Rattle.jpg_spec.specs.Laws.{frame_of_items}
-use Rattle.jpg_spec.specs.declared.fault.FaultAt.{FaultAt}
 use Rattle.jpg_spec.specs.declared.frame.Copying.{Copying}
-use Rattle.jpg_spec.specs.declared.frame.Limits.{Limits}
 use Rattle.jpg_base.specs.declared.names.NoMemory.{NoMemory}
 use Rattle.jpg_base.specs.declared.stop.Stop.TheVariants as stop
-use Rattle.jpg_coefs.specs.Picture.{Picture, map_of}
-use Rattle.jpg_markers.specs.Reading.{reading_of}
-use Rattle.jpg_file.specs.Read.ScanHistory.{HasBegun}
 use Rattle.jpg_file.specs.Read.FirstHeader.{HasHead, first_header_of}
-use Rattle.jpg_file.specs.Read.SegmentState.{segments_view}
 use Rattle.jpg_file.specs.Read.Step.{IfStops, IfWants}
 use Rattle.jpg_file.specs.declared.read.step.Step.{Step}
 use Rattle.jpg_file.specs.declared.read.step.Step.TheVariants as came
 use Rattle.jpg_file.specs.declared.read.first_header.Head.{Head}
-use Rattle.jpg_file.specs.Read.Items.{BetweenItems, AfterSegment, BehindEnd}
-use Rattle.jpg_file.specs.Read.Reading.{Scanning}
-use Rattle.jpg_file.specs.declared.read.scan.InScan.{InScan}
 use Rattle.jpg_file.specs.declared.read.items.ItemStep.{ItemStep}
 use Rattle.jpg_file.specs.declared.read.items.ItemStep.TheVariants as step
-use Rattle.jpg_file.specs.declared.read.file.FileWork.{FileWork}
+
+-- the bytes after the last data byte: at least FF, if FF waits
+abbrev pub waiting_bytes : Bool → ℕ
+waiting_bytes false = 0
+waiting_bytes true = 1
+
+-- inside the data of the scan of this header after these items
+pub record Scanning (limits : Limits) (items : List Item) (contents bytes : List ℕ) (w : FileWork) : Type 0 where
+  pub coefs : Picture
+  pub has : w.coefs ≡ Some coefs
+  pub scan : InScan
+  pub inside : w.scan ≡ Some scan
+  pub at : InData limits items contents bytes scan coefs
+  pub head : BehindHead limits items contents w.items
+  pub count : w.taken ≡ length bytes
+  pub behind : (reading_of (w.items).segments).taken + waiting_bytes scan.gate ≤ w.taken
+
+-- a scan header is complete, and there is a picture
+pub record HeadWhole (limits : Limits) (bytes : List ℕ) (items : List Item) (blocks : Blocks) (w : FileWork) : Type 0 where
+  pub segment : AfterSegment limits bytes items blocks w.items
+  pub code : (reading_of (w.items).segments).code ≡ 0xda
+  pub frame : Frame
+  pub framed : w.items.held.frame ≡ Some frame
+  pub is_frame : IsFrame frame
+  pub begun : HasBegun limits w.begun (segments_of items)
+  pub coefs : Picture
+  pub has : w.coefs ≡ Some coefs
+  pub pictured : coefs.frame ≡ frame
+  pub as_map : blocks ≡ map_of coefs
+  pub count : w.taken ≡ length bytes
+  pub same : (reading_of (w.items).segments).taken ≡ w.taken
+
+-- with this picture
+abbrev pub with_coefs : FileWork → Picture → FileWork
+with_coefs w now = record w { coefs = Some now }
+
+abbrev pub AfterHead : Limits → List ℕ → List Item → Items → Result (Unit {0}) FaultAt → FileWork → Type 0
+AfterHead limits bytes items old (Ok u) w = Scanning limits items (reading_of old.segments).contents bytes w × HasBegun limits w.begun ((0xda, (reading_of old.segments).contents) ∷ segments_of items)
+AfterHead limits bytes items old (Err f) w = Reveals limits f.fault bytes × (f.at ≡ length bytes)
+
+-- WHATEVER the state was, this holds after a header and a byte.
+abbrev pub TakesHead : FileWork → Result (Unit {0}) FaultAt → FileWork → Type 0
+TakesHead old answer new = (bytes : List ℕ) (items : List Item) (blocks : Blocks) → HeadWhole old.items.limits bytes items blocks old → AfterHead old.items.limits bytes items old.items answer new
+
+-- there is a picture with which a header is complete
+abbrev pub CanBeginHead : FileWork → Type 0
+CanBeginHead w = (now : Picture) × HasSizes now × ((bytes : List ℕ) × (items : List Item) × (blocks : Blocks) × HeadWhole w.items.limits bytes items blocks (with_coefs w now))
+
+-- all units of the scan that begins are left
+abbrev pub LeavesAll : FileWork → Result (Unit {0}) FaultAt → FileWork → Type 0
+LeavesAll old answer new =
+    (bytes : List ℕ) (items : List Item) (blocks : Blocks) (now : Picture) (scan : InScan) → HeadWhole old.items.limits bytes items blocks (with_coefs old now) → new.scan ≡ Some scan → answer ≡ Ok tt
+    → scan_left scan ≡ length (scan_after old.items.limits (segments_of items) (reading_of old.items.segments).contents).places
+
+-- whether there is a current scan, no FF waits, and units are left
+abbrev pub has_open : Option InScan → Bool
+has_open None = false
+has_open (Some scan) = not scan.gate && not scan.whole
+
+pub record IsOpenScan (w : FileWork) : Type 0 where
+  pub scan : InScan
+  pub inside : w.scan ≡ Some scan
+  pub gate : scan.gate ≡ false
+  pub due : scan.whole ≡ false
+
+-- THESE BYTES may be taken together inside its data
+pub record IsPlainRun (w : FileWork) (run : List ℕ) : Type 0 where
+  pub opened : IsOpenScan w
+  pub room : w.taken + length run ≤ w.items.limits.input
+  pub some : 1 ≤ length run
+  pub few : length run < 4294967296
+  pub plain : ArePlain run
+
+-- The first n of these bytes may be, or n is 0; no fewer of them than there are before FF, of four gigabytes.
+pub record HasPlain (w : FileWork) (bytes : List ℕ) (n : ℕ) : Type 0 where
+  pub within : n ≤ length bytes
+  pub run : 0 < n → IsPlainRun w (take n bytes)
+  pub most : has_open w.scan ≡ true → n < length bytes → n < w.items.limits.input - w.taken → n < 4294967295 → slice_index bytes n ≡ 255
+
+-- A scan began, there is room for the contents of a segment, and no further marker is kept: only JFIF and Adobe
+-- segments are to be kept, and after the first scan header there are none.
+pub record NeedsNoMemory (w : FileWork) : Type 0 where
+  pub keeping : w.items.held.keeping ≡ copying.None
+  pub scanned : w.items.held.scanned ≡ true
+  pub room : HasSegmentRoom w.items.segments
+
+-- A file that is being read: the meaning of its states, and the result of a further byte (T.81, B.2.1).
 
 abbrev pub limits_of : FileWork → Limits
-limits_of w = w.reading.items.limits
+limits_of w = w.items.limits
 
 -- how many scans' data have ended: all that began, but the current one
 abbrev pub scans_ended : FileWork → ℕ
-scans_ended w = w.begun.scans - (if is_some w.reading.scan then 1 else 0)
+scans_ended w = w.begun.scans - (if is_some w.scan then 1 else 0)
 
 -- which markers it keeps
 abbrev pub keeping_of : FileWork → Copying
-keeping_of w = w.reading.items.held.keeping
+keeping_of w = w.items.held.keeping
 
 -- the file with this picture
 abbrev pub with_picture : FileWork → Picture → FileWork
-with_picture w whole = record w { reading = record w.reading { coefs = Some whole } }
+with_picture w whole = record w { coefs = Some whole }
 
 -- The blocks that the items lead to are those of the picture. Before the first scan there is no picture, and they are
 -- zeros.
@@ -53,11 +142,11 @@ PictureSoFar limits items blocks (Some q) = (has_frame (segments_of items) ≡ t
 
 -- the state in addition to the items, when some bytes were taken, and there is no current scan
 pub record BesideItems (limits : Limits) (bytes : List ℕ) (items : List Item) (blocks : Blocks) (w : FileWork) : Type 0 where
-  pub picture : PictureSoFar limits items blocks w.reading.coefs
+  pub picture : PictureSoFar limits items blocks w.coefs
   pub begun : HasBegun limits w.begun (segments_of items)
-  pub none : w.reading.scan ≡ None
-  pub count : w.reading.taken ≡ length bytes
-  pub same : (reading_of (w.reading.items).segments).taken ≡ w.reading.taken
+  pub none : w.scan ≡ None
+  pub count : w.taken ≡ length bytes
+  pub same : (reading_of (w.items).segments).taken ≡ w.taken
   pub within : length bytes ≤ limits.input
   pub head : HasHead limits bytes (segments_of items) w.head
 
@@ -66,13 +155,13 @@ pub record BesideItems (limits : Limits) (bytes : List ℕ) (items : List Item) 
 pub record IsBetweenFileItems (limits : Limits) (bytes : List ℕ) (w : FileWork) : Type 0 where
   pub items : List Item
   pub blocks : Blocks
-  pub at : BetweenItems limits bytes items blocks w.reading.items
+  pub at : BetweenItems limits bytes items blocks w.items
   pub beside : BesideItems limits bytes items blocks w
 
 pub record IsInsideScanOfFile (limits : Limits) (bytes : List ℕ) (w : FileWork) : Type 0 where
   pub items : List Item
   pub contents : List ℕ
-  pub at : Scanning limits items contents bytes w.reading
+  pub at : Scanning limits items contents bytes w
   pub begun : HasBegun limits w.begun ((0xda, contents) ∷ segments_of items)
   pub within : length bytes ≤ limits.input
   pub head : HasHead limits bytes ((0xda, contents) ∷ segments_of items) w.head
@@ -84,15 +173,15 @@ RepresentsFile limits bytes w = IsBetweenFileItems limits bytes w ⊎ IsInsideSc
 pub record HasCompleteHeader (limits : Limits) (bytes : List ℕ) (w : FileWork) : Type 0 where
   pub items : List Item
   pub blocks : Blocks
-  pub at : AfterSegment limits bytes items blocks w.reading.items
-  pub code : (reading_of (w.reading.items).segments).code ≡ 0xda
+  pub at : AfterSegment limits bytes items blocks w.items
+  pub code : (reading_of (w.items).segments).code ≡ 0xda
   pub beside : BesideItems limits bytes items blocks w
 
 -- EOI is there
 pub record EndStands (limits : Limits) (bytes : List ℕ) (w : FileWork) : Type 0 where
   pub items : List Item
   pub blocks : Blocks
-  pub at : BehindEnd limits bytes items blocks w.reading.items
+  pub at : BehindEnd limits bytes items blocks w.items
   pub beside : BesideItems limits bytes items blocks w
 
 -- and each component was in a scan
@@ -124,18 +213,15 @@ AfterFileByte asks limits bytes (came.Ended stop.NoMemory) w = asks
 
 -- a segment's bytes are kept, or its definitions: there is no current scan
 abbrev pub KeepsBytes : FileWork → Type 0
-KeepsBytes w = w.reading.scan ≡ None
+KeepsBytes w = w.scan ≡ None
 
 -- the picture is made: there is none yet
 abbrev pub MakesPicture : FileWork → Type 0
-MakesPicture w = w.reading.coefs ≡ None
+MakesPicture w = w.coefs ≡ None
 
 -- WHATEVER it was given, this holds afterwards.
-abbrev pub TakesFileByte : FileWork → ℕ → Step → FileWork → Type 0
-TakesFileByte old byte answer new = (bytes : List ℕ) → RepresentsFile (limits_of old) bytes old → AfterFileByte (KeepsBytes old) (limits_of old) (bytes ++ byte ∷ []) answer new
-
 abbrev pub TakesFileStep : FileWork → ℕ → ItemStep → FileWork → Type 0
-TakesFileStep old byte answer new = (bytes : List ℕ) → RepresentsFile (limits_of old) bytes old → AfterFileStep old.reading.scan (limits_of old) (bytes ++ byte ∷ []) answer new
+TakesFileStep old byte answer new = (bytes : List ℕ) → RepresentsFile (limits_of old) bytes old → AfterFileStep old.scan (limits_of old) (bytes ++ byte ∷ []) answer new
 
 abbrev pub TakesFileHead : FileWork → Step → FileWork → Type 0
 TakesFileHead old answer new = (bytes : List ℕ) → HasCompleteHeader (limits_of old) bytes old → AfterFileByte (MakesPicture old) (limits_of old) bytes answer new
@@ -148,10 +234,8 @@ abbrev pub head_or : Option Head → Option Head → Option Head
 head_or (Some h) new = Some h
 head_or None new = new
 
-pub record NotesHead (old new : FileWork) : Type 0 where
-  pub head : new.head ≡ head_or old.head (first_header_of (segments_view old.reading.items.held) old.reading.taken)
-  pub reading : new.reading ≡ old.reading
-  pub begun : new.begun ≡ old.begun
+abbrev pub NotesHead : FileWork → FileWork → Type 0
+NotesHead old new = new ≡ record old { head = head_or old.head (first_header_of (segments_view old.items.held) old.taken) }
 
 -- THE PICTURE, if there is a frame: what it was, or zeros
 pub record ZerosMade (f : Frame) (new : Option Picture) : Type 0 where
@@ -165,11 +249,8 @@ PictureMade f (Some q) new = new ≡ Some q
 PictureMade f None new = ZerosMade f new
 
 pub record HasRoom (old new : FileWork) : Type 0 where
-  pub begun : new.begun ≡ old.begun
-  pub items : new.reading.items ≡ old.reading.items
-  pub scan : new.reading.scan ≡ old.reading.scan
-  pub taken : new.reading.taken ≡ old.reading.taken
-  pub picture : (f : Frame) → old.reading.items.held.frame ≡ Some f → IsFrame f × PictureMade f old.reading.coefs new.reading.coefs
+  pub is : new ≡ record old { coefs = new.coefs }
+  pub picture : (f : Frame) → old.items.held.frame ≡ Some f → IsFrame f × PictureMade f old.coefs new.coefs
 
 abbrev pub RoomMade : FileWork → Result (Unit {0}) NoMemory → FileWork → Type 0
 RoomMade old (Ok done) new = HasRoom old new
@@ -182,17 +263,8 @@ pub record TakesSome (old : FileWork) (bytes : List ℕ) (n : ℕ) (answer : Ste
   pub count : n ≡ early + 1
   pub within : early < length bytes
   pub head : IfStops answer (new.head ≡ mid.head)
-  pub scan : IfWants answer (mid.reading.scan ≡ old.reading.scan)
+  pub scan : IfWants answer (mid.scan ≡ old.scan)
   pub ended : scans_ended mid ≡ scans_ended old
-  pub room : (limits : Limits) (front : List ℕ) → RepresentsFile limits front old → limits_of old ≡ limits → mid.reading.taken < limits.input
+  pub room : (limits : Limits) (front : List ℕ) → RepresentsFile limits front old → limits_of old ≡ limits → mid.taken < limits.input
   pub before : (limits : Limits) (front : List ℕ) → RepresentsFile limits front old → limits_of old ≡ limits → RepresentsFile limits (front ++ take early bytes) mid
   pub last : (limits : Limits) (front : List ℕ) → RepresentsFile limits front mid → limits_of old ≡ limits → AfterFileByte (KeepsBytes old) limits (front ++ slice_index bytes early ∷ []) answer new
-
--- SOME BYTES between items, or inside a segment, but not the last of these: the file was given the first n of them too.
-pub record PassesFront (old : FileWork) (bytes : List ℕ) (n : ℕ) (mid : FileWork) : Type 0 where
-  pub within : n < length bytes
-  pub limits : limits_of mid ≡ limits_of old
-  pub room : mid.reading.taken < (limits_of old).input
-  pub scan : mid.reading.scan ≡ old.reading.scan
-  pub begun : mid.begun ≡ old.begun
-  pub stands : (limits : Limits) (front : List ℕ) → RepresentsFile limits front old → RepresentsFile limits (front ++ take n bytes) mid

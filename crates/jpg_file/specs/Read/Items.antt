@@ -8,7 +8,7 @@ use Rattle.jpg_spec.specs.FileMeaning.{Leads, no_blocks}
 use Rattle.jpg_spec.specs.FirstFault.{Reveals}
 use Rattle.jpg_spec.specs.ScanReading.{Beside}
 use Rattle.jpg_spec.specs.declared.frame.Limits.{Limits}
-use Rattle.jpg_markers.specs.Reading.{reading_of, RepresentsSegments, IsAfterScan}
+use Rattle.jpg_markers.specs.Reading.{HasRoom, reading_of, RepresentsSegments, IsAfterScan}
 use Rattle.jpg_markers.specs.declared.segments.Phase.TheVariants as phase
 use Rattle.jpg_coefs.specs.Picture.{Picture, map_of}
 use Rattle.jpg_file.specs.Read.SegmentState.{Holds, segments_view}
@@ -74,6 +74,12 @@ AfterItem limits bytes items blocks Head w = AfterSegment limits bytes items blo
 AfterItem limits bytes items blocks Eoi w = BehindEnd limits bytes items blocks w
 AfterItem limits bytes items blocks (Fault f) w = Reveals limits f.fault bytes × (f.at ≡ (reading_of w.segments).taken)
 AfterItem limits bytes items blocks NoMemory w = Unit {0}
+
+-- What stays the same, and that room for the contents of a segment stays there.
+pub record KeepsItems (old new : Items) : Type 0 where
+  pub keeping : new.held.keeping ≡ old.held.keeping
+  pub scanned : new.held.scanned ≡ old.held.scanned
+  pub room : HasRoom old.segments → HasRoom new.segments
 
 -- A BYTE outside scan data, and a segment that is judged: whatever the state was, this holds afterwards.
 abbrev pub TakesItemByte : Items → ℕ → ItemStep → Items → Type 0

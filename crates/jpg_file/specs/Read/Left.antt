@@ -8,20 +8,19 @@ use Rattle.jpg_spec.specs.History.{is_complete}
 use Rattle.jpg_spec.specs.Ranges.{AreInRange}
 use Rattle.jpg_spec.specs.declared.frame.Limits.{Limits}
 use Rattle.jpg_coefs.specs.Picture.{Picture, map_of}
-use Rattle.jpg_file.specs.Read.ScanHistory.{HasBegun}
-use Rattle.jpg_file.specs.Read.SegmentState.{Holds, segments_view}
+use Rattle.jpg_file.specs.Read.SegmentState.{HasBegun, Holds, segments_view}
 use Rattle.jpg_file.specs.declared.read.file.FileWork.{FileWork}
 
 -- Each component was in a scan of these segments, and the coefficients are these blocks, in their range.
 pub record Leaves (limits : Limits) (segments : List Segment) (blocks : Blocks) (w : FileWork) : Type 0 where
   pub coefs : Picture
-  pub has : w.reading.coefs ≡ Some coefs
+  pub has : w.coefs ≡ Some coefs
   pub framed : coefs.frame ≡ frame_of limits segments
   pub as_map : blocks ≡ map_of coefs
   pub frame : Frame
-  pub held : w.reading.items.held.frame ≡ Some frame
+  pub held : w.items.held.frame ≡ Some frame
   pub is : frame_of limits segments ≡ frame
-  pub holds : Holds limits (segments_view w.reading.items.held) segments
+  pub holds : Holds limits (segments_view w.items.held) segments
   pub begun : HasBegun limits w.begun segments
   pub complete : is_complete (frame_of limits segments) segments ≡ true
   pub range : AreInRange (bounds (frame_of limits segments)) blocks

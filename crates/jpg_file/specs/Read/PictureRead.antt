@@ -8,7 +8,7 @@ use Rattle.jpg_spec.specs.FileMeaning.{meaning_of}
 use Rattle.jpg_spec.specs.declared.frame.Copying.{Copying}
 use Rattle.jpg_spec.specs.declared.frame.Limits.{Limits}
 use Rattle.jpg_file.specs.Read.File.{keeping_of}
-use Rattle.jpg_file.specs.Read.Keeping.{kept_for}
+use Rattle.jpg_file.specs.Read.SegmentState.{kept_for}
 use Rattle.jpg_file.specs.Read.Left.{Leaves}
 use Rattle.jpg_file.specs.Read.PictureKept.{PictureParts, parts_meaning}
 use Rattle.jpg_file.specs.Read.ReadFile.{IsDone, IsEarlyEnd, ReaderState}

@@ -1,49 +1,39 @@
--- A PIECE that is read up to the end of a scan's data, where no MCU rows are read (T.81, B.1.1, B.2.1).
-use Rattle.std.specs.Prelude.{◌≡◌, ℕ, ◌+◌, ◌<◌, ◌≤◌, true, false, List, ◌++◌, length, take, Result, Ok, Err}
-use Rattle.jpg_spec.specs.declared.fault.Fault.TheVariants.{InputTooLong}
+-- HOW MANY SCANS' DATA HAVE ENDED in bytes that have no fault: each ends with the marker after it (T.81, B.1.1.2, B.2.1).
+use Rattle.std.specs.Prelude.{◌≡◌, ◌⊎◌, ℕ, false, List, [], ◌∷◌, replicate, ◌+◌, ◌<◌, ◌≤◌, true, ◌++◌, length, take, Result, Ok, Err}
+use Rattle.jpg_spec.specs.Items.{Item, segments_of, ends_in_scan}
+use Rattle.jpg_spec.specs.FirstFault.{AfterItems, InsideScan}
+use Rattle.jpg_spec.specs.ScanReading.{LeadingMarker}
+use Rattle.jpg_spec.specs.UnfinishedFile.{PartOfItem}
 use Rattle.jpg_spec.specs.declared.frame.Limits.{Limits}
+use Rattle.jpg_file.specs.Read.SegmentState.{scan_headers}
 use Rattle.jpg_base.specs.declared.stop.Stop.{Stop}
 use Rattle.jpg_base.specs.declared.stop.Stop.TheVariants as stop
-use Rattle.jpg_file.specs.Read.File.{RepresentsFile, scans_ended}
-use Rattle.jpg_file.specs.Read.PieceTaken.{ReadsOn}
 use Rattle.jpg_file.specs.Read.ReadFile.{AfterFeed, AsksForMemory, HasRead, IsDone, ReaderState}
-use Rattle.jpg_file.specs.Read.ScansEnded.{ScansEnded}
-use Rattle.jpg_file.specs.declared.read.file.FileWork.{FileWork}
-use Rattle.jpg_file.specs.declared.read.pieces.FedRow.TheVariants as fed
 use Rattle.jpg_file.specs.declared.read.pieces.FedScan.{FedScan}
 use Rattle.jpg_file.specs.declared.read.pieces.FedScan.TheVariants as came
-use Rattle.jpg_file.specs.declared.read.strip_work.StripWork.{StripWork}
 
--- With so many bytes of the piece the data of no further scan have ended, by the state of the file then.
-pub record CountsOn (limits : Limits) (old : FileWork) (piece : List ℕ) (early : ℕ) : Type 0 where
-  pub mid : FileWork
-  pub few : early ≤ length piece
-  pub stands : (bytes : List ℕ) → RepresentsFile limits bytes old → RepresentsFile limits (bytes ++ take early piece) mid
-  pub same : scans_ended mid ≡ scans_ended old
+-- The bytes are complete items, the data of each scan among them ended, and a part of a further item.
+pub record EndedBetween (limits : Limits) (bytes : List ℕ) (n : ℕ) : Type 0 where
+  pub items : List Item
+  pub tail : List ℕ
+  pub behind : AfterItems limits bytes items tail
+  pub part : PartOfItem items tail
+  pub begun : (ends_in_scan items ≡ false) ⊎ LeadingMarker tail
+  pub count : n ≡ scan_headers (segments_of items)
 
--- nor have they before the last one of so many bytes
-abbrev pub CountsBefore : Limits → FileWork → List ℕ → ℕ → Type 0
-CountsBefore limits old piece used = (early : ℕ) × (used ≡ early + 1) × CountsOn limits old piece early
+-- They end inside the data of a further scan, or with FF bytes after them.
+pub record EndedBefore (limits : Limits) (bytes : List ℕ) (n : ℕ) : Type 0 where
+  pub fill : ℕ
+  pub inside : InsideScan limits bytes (replicate fill 255)
+  pub count : n ≡ scan_headers (segments_of inside.items)
 
--- THE RESULT
-abbrev pub ReadsScan : Limits → StripWork → List ℕ → Result FedScan Stop → StripWork → Type 0
-ReadsScan limits old piece (Ok came.More) new = ReadsOn limits old piece (Ok fed.More) new × (scans_ended new.file ≡ scans_ended old.file)
-ReadsScan limits old piece (Ok (came.Scan used)) new =
-    ReadsOn limits old (take used piece) (Ok fed.More) new × (used ≤ length piece) × CountsBefore limits old.file piece used × (scans_ended new.file ≡ scans_ended old.file → ⊥)
-ReadsScan limits old piece (Ok (came.Done used)) new = ReadsOn limits old piece (Ok (fed.Done used)) new × (used ≤ length piece) × CountsBefore limits old.file piece used
-ReadsScan limits old piece (Err (stop.Fault f)) new =
-    ReadsOn limits old piece (Err (stop.Fault f)) new
-    × ((bytes : List ℕ) → RepresentsFile limits bytes old.file → (early : ℕ) × (f.at ≤ length bytes + early + 1) × CountsOn limits old.file piece early)
-ReadsScan limits old piece (Err stop.NoMemory) new = ReadsOn limits old piece (Err stop.NoMemory) new
+-- In the bytes the data of n scans have ended.
+abbrev pub ScansEnded : Limits → List ℕ → ℕ → Type 0
+ScansEnded limits bytes n = (((bytes ≡ []) ⊎ (bytes ≡ 255 ∷ [])) × (n ≡ 0)) ⊎ (EndedBetween limits bytes n ⊎ EndedBefore limits bytes n)
 
--- where a scan's data end with the last byte that was taken; if no more may be taken, that is a fault
-abbrev pub EndsOrFull : Limits → StripWork → ℕ → Result FedScan Stop → Type 0
-EndsOrFull limits w used (Ok came.More) = ⊥
-EndsOrFull limits w used (Ok (came.Scan n)) = (n ≡ used) × (w.file.reading.taken < limits.input)
-EndsOrFull limits w used (Ok (came.Done n)) = ⊥
-EndsOrFull limits w used (Err e) = (e ≡ stop.Fault (record { fault = InputTooLong; at = limits.input })) × (limits.input ≤ w.file.reading.taken)
+-- A PIECE that is read up to the end of a scan's data, where no MCU rows are read (T.81, B.1.1, B.2.1).
 
--- OF A READER: as many scans' data have ended in the bytes as in these and so many of the piece: none end between.
+-- As many scans' data have ended in the bytes as in these and so many of the piece: none end between.
 pub record NoScanEnds (limits : Limits) (bytes piece : List ℕ) (early : ℕ) : Type 0 where
   pub n : ℕ
   pub few : early ≤ length piece

@@ -11,11 +11,10 @@ use Rattle.jpg_spec.specs.Items.{Item, segments_of, contents_rule}
 use Rattle.jpg_spec.specs.declared.frame.Limits.{Limits}
 use Rattle.jpg_coefs.specs.Picture.{Picture, map_of}
 use Rattle.jpg_huff.specs.declared.set.TableSet.{TableSet}
-use Rattle.jpg_seq.specs.NewReader.{in_force}
-use Rattle.jpg_file.specs.Read.InData.{InData}
+use Rattle.jpg_seq.specs.Reader.{in_force}
+use Rattle.jpg_file.specs.Read.InData.{InData, scan_left}
 use Rattle.jpg_file.specs.Read.Items.{IsBeside}
-use Rattle.jpg_file.specs.Read.NewScan.{IsBareScan, IsScanHeader}
-use Rattle.jpg_file.specs.Read.RowPlaces.{scan_left}
+use Rattle.jpg_file.specs.Read.Machine.{IsBareScan, IsScanHeader}
 use Rattle.jpg_file.specs.declared.read.machine.ScanReader.{ScanReader}
 use Rattle.jpg_file.specs.declared.read.scan.InScan.{InScan}
 
@@ -57,11 +56,11 @@ IsAtFirstByte f head set interval now s =
 -- in a place, the scan before its first byte, for each such header and each picture
 abbrev pub IsBegun : Frame → ScanHead → TableSet → ℕ → Option InScan → Type 0
 IsBegun f head set interval place =
-    (s : InScan) × (place ≡ Some s) × (s.gate ≡ false) × (scan_left s.work ≡ length (units f (head_components head))) × ((now : Picture) → HasSizes now → IsAtFirstByte f head set interval now s)
+    (s : InScan) × (place ≡ Some s) × (s.gate ≡ false) × (scan_left s ≡ length (units f (head_components head))) × ((now : Picture) → HasSizes now → IsAtFirstByte f head set interval now s)
 
 -- the scan of this machine before any data, and such a scan in a place, without its tables
 abbrev pub before_data : ScanReader → ℕ → ℕ → InScan
-before_data machine interval due = record { gate = false; work = record { machine = machine; whole = false; interval = interval; due = due; turn = 0 } }
+before_data machine interval due = record { gate = false; machine = machine; whole = false; interval = interval; due = due; turn = 0 }
 
 abbrev pub IsBareIn : Frame → ScanHead → TableSet → ℕ → ℕ → Option InScan → Type 0
 IsBareIn f head set interval due place = (m : ScanReader) × (place ≡ Some (before_data m interval due)) × IsBareScan f head set m

@@ -1,38 +1,68 @@
--- Reading a file MCU row by MCU row, when its first scan has all components (T.81, A.2.3, B.2.1).
-use Rattle.std.specs.Prelude.{◌≡◌, ◌⊎◌, ℕ, ◌+◌, ◌<◌, ◌≤◌, Bool, false, List, [], ◌∷◌, ◌++◌, length, take, slice_index, Option, Some, None, Result, Ok, Err}
-use Rattle.jpg_spec.specs.Geometry.{Frame, is_progressive}
-use Rattle.jpg_spec.specs.Segments.{ScanHead, head_components}
-use Rattle.jpg_spec.specs.ScanContents.{IsHead}
-use Rattle.jpg_spec.specs.Markers.{has_scan}
+-- Which MCU rows bytes complete, by those that are left (T.81, A.2.3).
+use Rattle.std.specs.Prelude.{◌≡◌, ◌⊎◌, ℕ, ◌+◌, List, Option, Some, None, ◌<◌, ◌≤◌, Bool, false, [], ◌∷◌, ◌++◌, length, take, slice_index, Result, Ok, Err}
+use Rattle.jpg_spec.specs.Segments.{head_components, ScanHead}
+use Rattle.jpg_spec.specs.Scan.{Blocks}
+use Rattle.jpg_spec.specs.Markers.{Segment, has_scan}
 use Rattle.jpg_spec.specs.InForce.{frame_of, head_in}
-use Rattle.jpg_spec.specs.Lists.{below}
-use Rattle.jpg_spec.specs.Items.{Item, segments_of}
-use Rattle.jpg_spec.specs.declared.fault.FaultAt.{FaultAt}
+use Rattle.jpg_spec.specs.RowsParsed.{BeginsScanOfAll, CompletesRows, picture_so_far, IsScanOfAll}
 use Rattle.jpg_spec.specs.declared.frame.Limits.{Limits}
 use Rattle.jpg_base.specs.Cursor.{scan_mcus_down}
+use Rattle.jpg_file.specs.Read.InData.{unfinished, InRowData, IsRowIn, IsInsideRow, TookData, scan_left, IsRowAt}
+use Rattle.jpg_file.specs.declared.read.rows.RowWork.{RowWork}
+use Rattle.jpg_spec.specs.Geometry.{Frame, is_progressive}
+use Rattle.jpg_spec.specs.ScanContents.{IsHead}
+use Rattle.jpg_spec.specs.Lists.{below}
+use Rattle.jpg_spec.specs.Items.{Item, segments_of, contents_rule}
+use Rattle.jpg_spec.specs.declared.fault.FaultAt.{FaultAt}
 use Rattle.jpg_base.specs.declared.stop.Stop.{Stop}
 use Rattle.jpg_base.specs.declared.stop.Stop.TheVariants as stop
 use Rattle.jpg_coefs.specs.Picture.{Picture}
 use Rattle.jpg_markers.specs.Reading.{reading_of}
-use Rattle.jpg_seq.specs.Rows.{IsRowOf}
-use Rattle.jpg_file.specs.Read.ScanHistory.{HasBegun, HasBegunAll}
-use Rattle.jpg_file.specs.Read.File.{AfterFileByte, EndsFile, IsStop, HasCompleteHeader, RepresentsFile, IsBetweenFileItems, AfterFileStep, limits_of, with_picture}
-use Rattle.jpg_file.specs.Read.FirstHeader.{HasHead}
+use Rattle.jpg_seq.specs.Reader.{IsRowOf}
+use Rattle.jpg_file.specs.Read.SegmentState.{HasBegun, HasBegunAll, Holds, segments_view}
+use Rattle.jpg_file.specs.Read.File.{AfterFileByte, EndsFile, IsStop, HasCompleteHeader, RepresentsFile, IsBetweenFileItems, AfterFileStep, limits_of, with_picture, NeedsNoMemory, waiting_bytes}
+use Rattle.jpg_file.specs.Read.FirstHeader.{HasHead, IsFirstHeaderOf}
 use Rattle.jpg_file.specs.Read.Items.{BehindHead}
-use Rattle.jpg_file.specs.Read.Reading.{NeedsNoMemory, waiting_bytes}
-use Rattle.jpg_file.specs.Read.RowData.{InRowData}
-use Rattle.jpg_file.specs.Read.RowPlaces.{scan_left}
-use Rattle.jpg_file.specs.Read.RowsSoFar.{RowsSoFar}
-use Rattle.jpg_file.specs.Read.RowTurns.{IsRowIn, unfinished}
 use Rattle.jpg_file.specs.Read.Step.{IfStops, IfWants}
 use Rattle.jpg_file.specs.declared.read.file.FileWork.{FileWork}
 use Rattle.jpg_file.specs.declared.read.first_header.Head.{Head}
 use Rattle.jpg_file.specs.declared.read.items.ItemStep.{ItemStep}
-use Rattle.jpg_file.specs.declared.read.rows.RowWork.{RowWork}
 use Rattle.jpg_file.specs.declared.read.scan.InScan.{InScan}
 use Rattle.jpg_file.specs.declared.read.strip_work.StripWork.{StripWork}
 use Rattle.jpg_file.specs.declared.read.step.Step.{Step}
 use Rattle.jpg_file.specs.declared.read.step.Step.TheVariants as step
+use Rattle.jpg_spec.specs.Bits.{bits_of_bytes}
+use Rattle.jpg_spec.specs.declared.fault.Fault.{Fault}
+use Rattle.jpg_coefs.specs.Machine.{TakesBits, Chain}
+use Rattle.jpg_coefs.specs.declared.machine.Taken.{Taken}
+use Rattle.jpg_coefs.specs.declared.machine.Taken.TheVariants as taken
+use Rattle.jpg_coefs.specs.declared.machine.UnitFault.{UnitFault}
+use Rattle.jpg_file.specs.Read.Machine.{any_scan, IsOpenRowScan, BlocksKind}
+use Rattle.jpg_file.specs.declared.read.machine.ScanReader.{ScanReader}
+use Rattle.jpg_spec.specs.Meaning.{Meaning}
+use Rattle.jpg_spec.specs.FileMeaning.{meaning_of}
+use Rattle.jpg_file.specs.Read.PictureKept.{IsHeadOfPicture}
+use Rattle.jpg_file.specs.declared.read.strip_head.StripHead.{StripHead}
+
+-- BYTES complete as many MCU rows of such a scan as aren't among those that are left, the first of which is the current
+-- one.
+pub record CompletesBefore (limits : Limits) (bytes : List ℕ) (before : List Segment) (contents : List ℕ) (rows : RowWork) : Type 0 where
+  pub begins : BeginsScanOfAll limits bytes before contents
+  pub m : ℕ
+  pub count : m + unfinished rows ≡ scan_mcus_down (frame_of limits before) (head_components (head_in (frame_of limits before) contents))
+  pub blocks : Blocks
+  pub completed : CompletesRows limits bytes m blocks
+
+-- All MCU rows were complete before, or the bytes complete those before the current one.
+abbrev pub RowsSoFar : Limits → List ℕ → RowWork → Type 0
+RowsSoFar limits bytes rows = (unfinished rows ≡ 0) ⊎ ((before : List Segment) × (contents : List ℕ) × CompletesBefore limits bytes before contents rows)
+
+-- The bytes don't complete the last one of those that are complete with this one.
+abbrev pub LacksRow : Limits → List ℕ → Option RowWork → Type 0
+LacksRow limits bytes None = Unit {0}
+LacksRow limits bytes (Some after) = (rows : RowWork) × (unfinished rows ≡ unfinished after + 1) × RowsSoFar limits bytes rows
+
+-- FileWork a file MCU row by MCU row, when its first scan has all components (T.81, A.2.3, B.2.1).
 
 -- the frame before a scan, and the components of the scan
 abbrev pub frame_behind : Limits → List Item → Frame
@@ -48,9 +78,9 @@ pub record IsFirstScan (limits : Limits) (items : List Item) : Type 0 where
 
 -- INSIDE THE SCAN of this header after these items: the state in addition to its data
 pub record ScanHeld (limits : Limits) (items : List Item) (contents bytes : List ℕ) (w : FileWork) (gate : Bool) : Type 0 where
-  pub head : BehindHead limits items contents w.reading.items
-  pub count : w.reading.taken ≡ length bytes
-  pub behind : (reading_of (w.reading.items).segments).taken + waiting_bytes gate ≤ w.reading.taken
+  pub head : BehindHead limits items contents w.items
+  pub count : w.taken ≡ length bytes
+  pub behind : (reading_of (w.items).segments).taken + waiting_bytes gate ≤ w.taken
   pub begun : HasBegun limits w.begun ((0xda, contents) ∷ segments_of items)
   pub within : length bytes ≤ limits.input
   pub first_head : HasHead limits bytes ((0xda, contents) ∷ segments_of items) w.head
@@ -62,10 +92,10 @@ pub record RowsInside (limits : Limits) (bytes : List ℕ) (w : FileWork) (rows 
   pub items : List Item
   pub contents : List ℕ
   pub scan : InScan
-  pub inside : w.reading.scan ≡ Some scan
+  pub inside : w.scan ≡ Some scan
   pub coded : InRowData limits items contents bytes rows.waiting scan whole
   pub held : ScanHeld limits items contents bytes w scan.gate
-  pub at : IsRowIn (frame_behind limits items) (components_of limits items contents) rows (scan_left scan.work)
+  pub at : IsRowIn (frame_behind limits items) (components_of limits items contents) rows (scan_left scan)
 
 -- AFTER IT, when all its rows are complete
 pub record RowsAfter (limits : Limits) (bytes : List ℕ) (w : FileWork) (rows : RowWork) (whole : Picture) : Type 0 where
@@ -84,7 +114,7 @@ pub record RepresentsRows (limits : Limits) (bytes : List ℕ) (w : FileWork) (r
 pub record GoesByRow (limits : Limits) (bytes : List ℕ) (w : FileWork) (rows : RowWork) : Type 0 where
   pub stands : RepresentsRows limits bytes w rows
   pub none : rows.waiting ≡ []
-  pub turned : (scan : InScan) → w.reading.scan ≡ Some scan → 1 ≤ scan_left scan.work → 1 ≤ rows.left
+  pub turned : (scan : InScan) → w.scan ≡ Some scan → 1 ≤ scan_left scan → 1 ≤ rows.left
 
 -- an MCU row is complete, and bits may wait
 pub record RowIsWhole (limits : Limits) (bytes : List ℕ) (w : FileWork) (rows : RowWork) : Type 0 where
@@ -150,7 +180,7 @@ pub record RowsRun (limits : Limits) (bytes run : List ℕ) (n : ℕ) (answer : 
   pub within : early < length run
   pub rows_before : RowsSoFar limits (bytes ++ take early run) rows
   pub before : RepresentsFile limits (bytes ++ take early run) mid
-  pub room : mid.reading.taken < limits.input
+  pub room : mid.taken < limits.input
   pub head : mid.head ≡ new.head
   pub last : AfterRows limits ((bytes ++ take early run) ++ slice_index run early ∷ []) answer new after
   pub stops : StopsRows limits (bytes ++ take n run) answer rows
@@ -162,7 +192,7 @@ TakesRunOfRows old rows run n answer new after =
 -- AFTER THE SCAN: an item, whatever picture there is, and a complete scan header
 abbrev pub PassesItem : FileWork → ItemStep → Step → Type 0
 PassesItem w came answer =
-    (limits : Limits) (before : Option InScan) (bytes : List ℕ) (whole : Picture) (rows : RowWork) → AfterFileStep before limits bytes came (with_picture w whole) → w.reading.scan ≡ None → IsRowOf rows.tops whole rows.coefs → rows.waiting ≡ []
+    (limits : Limits) (before : Option InScan) (bytes : List ℕ) (whole : Picture) (rows : RowWork) → AfterFileStep before limits bytes came (with_picture w whole) → w.scan ≡ None → IsRowOf rows.tops whole rows.coefs → rows.waiting ≡ []
     → HasBegunAll w.begun.progress → unfinished rows ≡ 0 → AfterRows limits bytes answer w rows
 
 abbrev pub PassesLaterHead : FileWork → Step → Type 0
@@ -182,7 +212,7 @@ pub record IsHeadOfAll (limits : Limits) (items : List Item) (contents : List �
   pub all : length head.parts ≡ length f.components
 
 abbrev pub contents_held : FileWork → List ℕ
-contents_held w = (reading_of w.reading.items.segments).contents
+contents_held w = (reading_of w.items.segments).contents
 
 -- whatever bytes were given, these are its frame and its contents
 abbrev pub FindsHead : FileWork → Option (Frame × ScanHead) → Type 0
@@ -214,7 +244,7 @@ CountsStrip answer (Some rows) (Some after) = CountsRows answer rows after
 -- with a current row NoMemory isn't returned for what follows
 abbrev pub SparesRows : Option RowWork → FileWork → Type 0
 SparesRows None w = Unit {0}
-SparesRows (Some rows) w = NeedsNoMemory w.reading
+SparesRows (Some rows) w = NeedsNoMemory w
 
 -- with none before: no row of the scan is complete, and the header that is kept has its frame
 abbrev pub CountsRowsOfScan : Option RowWork → FileWork → Type 0
@@ -239,14 +269,6 @@ abbrev pub TakesResumed : StripWork → Step → StripWork → Type 0
 TakesResumed old answer new =
     (bytes : List ℕ) → RepresentsStrip (limits_of old.file) bytes old.rows old.file → AfterStrip (limits_of old.file) bytes answer new.rows new.file
 
-abbrev pub TakesFirstByte : StripWork → ℕ → Step → StripWork → Type 0
-TakesFirstByte old byte answer new =
-    (bytes : List ℕ) → RepresentsFile (limits_of old.file) bytes old.file → AfterStrip (limits_of old.file) (bytes ++ byte ∷ []) answer new.rows new.file
-
-abbrev pub TakesFirstHead : StripWork → Step → StripWork → Type 0
-TakesFirstHead old answer new =
-    (bytes : List ℕ) → HasCompleteHeader (limits_of old.file) bytes old.file → AfterStrip (limits_of old.file) bytes answer new.rows new.file
-
 -- some bytes: the file's state before the last of those that were taken, with the same MCU rows complete, and the
 -- result of that one; without a current row it asks for memory only between items
 pub record StripRun (limits : Limits) (bytes run : List ℕ) (n : ℕ) (answer : Step) (old rows : Option RowWork) (new : FileWork) : Type 0 where
@@ -255,12 +277,188 @@ pub record StripRun (limits : Limits) (bytes run : List ℕ) (n : ℕ) (answer :
   pub count : n ≡ early + 1
   pub within : early < length run
   pub before : RepresentsFile limits (bytes ++ take early run) mid
-  pub room : mid.reading.taken < limits.input
+  pub room : mid.taken < limits.input
   pub head : IfStops answer (new.head ≡ mid.head)
-  pub asks : old ≡ None → IfWants answer (mid.reading.scan ≡ None)
+  pub asks : old ≡ None → IfWants answer (mid.scan ≡ None)
   pub current : (rows : RowWork) → old ≡ Some rows → RowsSoFar limits (bytes ++ take early run) rows × StopsRows limits (bytes ++ take n run) answer rows
   pub last : AfterStrip limits ((bytes ++ take early run) ++ slice_index run early ∷ []) answer rows new
 
 abbrev pub TakesStrip : StripWork → List ℕ → ℕ → Step → StripWork → Type 0
 TakesStrip old run n answer new =
     (bytes : List ℕ) → StripGoes (limits_of old.file) bytes old.rows old.file → StripRun (limits_of old.file) bytes run n answer old.rows new.rows new.file
+
+-- What is known of bits and of plain bytes that a machine takes into the blocks of the current MCU row: how many of its
+-- units are left, and that it isn't complete before a fault, nor before the last byte (T.81, A.2.3, F.2.2).
+
+-- BITS, some first ones of which reveal a fault, before this many further units are complete
+abbrev pub ShowsInRow : ℕ → ScanReader → Picture → List Bool → UnitFault → Type 0
+ShowsInRow most m now bits f = (new : ScanReader) × (after : Picture) × (rest : List Bool) × TakesBits any_scan most m now bits (taken.Fault f) new after rest
+
+-- THE CURRENT MCU ROW isn't complete before the fault, whatever picture it is of.
+abbrev pub StopsRowData : RowWork → ScanReader → List Bool → Taken → Type 0
+StopsRowData w m bits came_to = (f : UnitFault) (whole : Picture) → came_to ≡ taken.Fault f → IsRowOf w.tops whole w.coefs → IsOpenRowScan m whole → ShowsInRow w.left m whole bits f
+
+abbrev pub StopsRowRun : RowWork → ScanReader → List ℕ → ℕ → Taken → Type 0
+StopsRowRun w m bytes n came_to = StopsRowData w m (bits_of_bytes (take n bytes)) came_to
+
+-- this many of its units are complete; only if none is left, bits wait
+pub record CountsRow (w : RowWork) (m : ScanReader) (answer : Taken) (new : RowWork) (after : ScanReader) : Type 0 where
+  pub same : new ≡ record w { coefs = new.coefs; left = new.left; waiting = new.waiting }
+  pub passed : ℕ
+  pub left : w.left ≡ new.left + passed
+  pub interval : any_scan.left m ≡ any_scan.left after + passed
+  pub ended : answer ≡ taken.IntervalDone → any_scan.left after ≡ 0
+  pub wait : 1 ≤ length new.waiting → new.left ≡ 0
+
+-- BITS: those of the bytes before the last one, and then further ones, after all of which fewer than `most` units are
+-- complete
+pub record FewBefore (most : ℕ) (m : ScanReader) (now : Picture) (bytes : List ℕ) (n : ℕ) : Type 0 where
+  pub early : ℕ
+  pub count : n ≡ early + 1
+  pub within : early < length bytes
+  pub mid : ScanReader
+  pub between : Picture
+  pub chain : Chain any_scan m now (bits_of_bytes (take early bytes)) mid between
+  pub more : List Bool
+  pub far : ScanReader
+  pub later : Picture
+  pub on : Chain any_scan mid between more far later
+  pub few : any_scan.left m < any_scan.left far + most
+
+-- whatever picture the row is of
+abbrev pub LastRowRun : RowWork → ScanReader → List ℕ → ℕ → Type 0
+LastRowRun w m bytes n = (whole : Picture) → IsRowOf w.tops whole w.coefs → IsOpenRowScan m whole → FewBefore w.left m whole bytes n
+
+-- THE BLOCKS of the current MCU row, as those that a scan is read into
+abbrev pub row_stored : BlocksKind RowWork
+row_stored = record {
+  shows = λ w whole. IsRowOf w.tops whole w.coefs;
+  waiting = λ w. w.waiting;
+  fits = λ w m. IsInsideRow w m × (1 ≤ w.left);
+  bytes = λ w m bytes n answer new after. StopsRowRun w m bytes n answer × LastRowRun w m bytes n × CountsRow w m answer new after;
+}
+
+-- bits that waited
+abbrev pub PassesRowBits : RowWork → ScanReader → List Bool → Taken → RowWork → ScanReader → Type 0
+PassesRowBits w m bits answer new after = StopsRowData w m bits answer × CountsRow w m answer new after
+
+abbrev pub PassesRest : InScan → RowWork → Result Bool Fault → InScan → RowWork → Type 0
+PassesRest old w answer new after = TookData (λ taken m. PassesRowBits w old.machine w.waiting taken after m) old answer new
+
+-- INSIDE THE DATA of a scan that has this many units left
+abbrev pub IsRowInScan : Limits → List Item → List ℕ → InScan → RowWork → Type 0
+IsRowInScan limits items contents s w = IsFirstScan limits items × IsRowAt (frame_behind limits items) (components_of limits items contents) w (scan_left s)
+
+-- The scan whose MCU rows are read: it began in the bytes, and the picture's head (T.81, A.2.3, B.2.1).
+
+-- how many MCU rows the scan of this header has
+abbrev pub rows_of_scan : Limits → List Segment → List ℕ → ℕ
+rows_of_scan limits before contents = (let f = frame_of limits before in scan_mcus_down f (head_components (head_in f contents)))
+
+-- THE HEAD of its picture, which has this frame
+abbrev pub TellsStrip : Option StripHead → Frame → (Blocks → Meaning) → Type 0
+TellsStrip None f picture = ⊥
+TellsStrip (Some h) f picture = (h.frame ≡ f) × ((blocks : Blocks) → IsHeadOfPicture h (picture blocks))
+
+-- a reader after these segments, the last of which is the header of a scan of all components
+pub record HoldsScan (limits : Limits) (before : List Segment) (w : FileWork) : Type 0 where
+  pub holds : Holds limits (segments_view w.items.held) before
+  pub begun : HasBegun limits w.begun before
+  pub all : HasBegunAll w.begun.progress
+  pub frame : Frame
+  pub has : w.items.held.frame ≡ Some frame
+
+-- whatever segments these are, this is the head of the picture
+abbrev pub TellsScan : FileWork → StripHead → Type 0
+TellsScan w h = (limits : Limits) (before : List Segment) → HoldsScan limits before w → (h.frame ≡ frame_of limits before) × ((blocks : Blocks) → IsHeadOfPicture h (meaning_of (frame_of limits before) before blocks))
+
+-- WHERE IT BEGINS
+pub record BeginsAll (limits : Limits) (bytes : List ℕ) (before : List Segment) (contents : List ℕ) (w : FileWork) : Type 0 where
+  pub begins : BeginsScanOfAll limits bytes before contents
+  pub holds : HoldsScan limits ((0xda, contents) ∷ before) w
+
+abbrev pub BeginsTold : FileWork → Frame → ScanHead → FileWork → Type 0
+BeginsTold old f head new =
+    (bytes : List ℕ) → (h : HasCompleteHeader (limits_of old) bytes old) → IsHeadOfAll (limits_of old) h.items (contents_held old) f head → BeginsAll (limits_of old) bytes (segments_of h.items) (contents_held old) new
+
+-- WITH A CURRENT MCU ROW: this many were given since the scan began
+pub record RowsKnown (limits : Limits) (bytes : List ℕ) (m : ℕ) (rows : RowWork) (strip : Option StripHead) : Type 0 where
+  pub before : List Segment
+  pub contents : List ℕ
+  pub begins : BeginsScanOfAll limits bytes before contents
+  pub told : TellsStrip strip (frame_of limits before) (picture_so_far limits before contents)
+  pub count : m + unfinished rows ≡ rows_of_scan limits before contents
+
+abbrev pub KnowsRows : Limits → List ℕ → ℕ → Option RowWork → Option StripHead → Type 0
+KnowsRows limits bytes m None strip = Unit {0}
+KnowsRows limits bytes m (Some rows) strip = RowsKnown limits bytes m rows strip
+
+-- with none before
+abbrev pub KnowsHead : StripWork → StripWork → Type 0
+KnowsHead old new = (bytes : List ℕ) → HasCompleteHeader (limits_of old.file) bytes old.file → KnowsRows (limits_of old.file) bytes 0 new.rows new.strip
+
+abbrev pub KnowsByte : StripWork → ℕ → StripWork → Type 0
+KnowsByte old byte new = (bytes : List ℕ) → RepresentsFile (limits_of old.file) bytes old.file → KnowsRows (limits_of old.file) (bytes ++ byte ∷ []) 0 new.rows new.strip
+
+abbrev pub KnowsSome : StripWork → List ℕ → ℕ → StripWork → Type 0
+KnowsSome old run n new = (bytes : List ℕ) → RepresentsFile (limits_of old.file) bytes old.file → KnowsRows (limits_of old.file) (bytes ++ take n run) 0 new.rows new.strip
+
+-- Bytes in which no scan of all components begins, after which there is no current MCU row (T.81, A.2.3, B.2.1).
+
+-- No such scan began in them.
+abbrev pub HasNoRows : Limits → List ℕ → Type 0
+HasNoRows limits bytes = (before : List Segment) (contents : List ℕ) → BeginsScanOfAll limits bytes before contents → ⊥
+
+-- with no current MCU row
+abbrev pub NoRowsIn : Limits → List ℕ → Option RowWork → Type 0
+NoRowsIn limits bytes None = HasNoRows limits bytes
+NoRowsIn limits bytes (Some rows) = Unit {0}
+
+-- THE SCAN HEADER that is complete isn't of such a scan, whatever bytes were given.
+abbrev pub FindsNone : FileWork → Option (Frame × ScanHead) → Type 0
+FindsNone w (Some x) = Unit {0}
+FindsNone w None =
+    (limits : Limits) (bytes : List ℕ) → (h : HasCompleteHeader limits bytes w) → contents_rule limits (segments_of h.items) 0xda (contents_held w) ≡ None → IsScanOfAll limits (segments_of h.items) (contents_held w) → ⊥
+
+-- THE RESULT OF BYTES; nothing is known for NoMemory
+abbrev pub NoneAfter : Limits → List ℕ → Step → Option RowWork → Type 0
+NoneAfter limits bytes step.More rows = NoRowsIn limits bytes rows
+NoneAfter limits bytes step.Row rows = NoRowsIn limits bytes rows
+NoneAfter limits bytes step.Whole rows = NoRowsIn limits bytes rows
+NoneAfter limits bytes (step.Ended (stop.Fault f)) rows = NoRowsIn limits bytes rows
+NoneAfter limits bytes (step.Ended stop.NoMemory) rows = Unit {0}
+
+-- the first scan header, with this last byte
+abbrev pub NoneHead : StripWork → Step → StripWork → Type 0
+NoneHead old answer new =
+    (front : List ℕ) (byte : ℕ) → HasNoRows (limits_of old.file) front → HasCompleteHeader (limits_of old.file) (front ++ byte ∷ []) old.file → NoneAfter (limits_of old.file) (front ++ byte ∷ []) answer new.rows
+
+-- a byte
+abbrev pub NoneByte : StripWork → ℕ → Step → StripWork → Type 0
+NoneByte old byte answer new =
+    (bytes : List ℕ) → RepresentsFile (limits_of old.file) bytes old.file → HasNoRows (limits_of old.file) bytes → NoneAfter (limits_of old.file) (bytes ++ byte ∷ []) answer new.rows
+
+-- some bytes
+abbrev pub NoneSome : StripWork → List ℕ → ℕ → Step → StripWork → Type 0
+NoneSome old run n answer new =
+    (bytes : List ℕ) → RepresentsFile (limits_of old.file) bytes old.file → HasNoRows (limits_of old.file) bytes → NoneAfter (limits_of old.file) (bytes ++ take n run) answer new.rows
+
+-- A fault that a piece reveals, in a file that is read MCU row by MCU row: which MCU rows the bytes up to it complete
+-- (T.81, A.2.3, B.2.1).
+
+-- BITS that waited, with a current MCU row before
+abbrev pub FaultsResumed : StripWork → Step → Type 0
+FaultsResumed old answer =
+    (rows : RowWork) (f : FaultAt) (bytes : List ℕ) → old.rows ≡ Some rows → answer ≡ step.Ended (stop.Fault f) → RepresentsRows (limits_of old.file) bytes old.file rows → RowsSoFar (limits_of old.file) bytes rows
+
+-- A PIECE, of which the current MCU row before the fault is known, with the header of the scan
+pub record BeganAtFault (limits : Limits) (all : List ℕ) (m : ℕ) (strip : Option StripHead) (w : FileWork) : Type 0 where
+  pub mid : RowWork
+  pub known : RowsKnown limits all m mid strip
+  pub rows : RowsSoFar limits all mid
+  pub head : IsFirstHeaderOf limits all w.head
+
+-- if there is one after it
+abbrev pub RowsFault : Limits → List ℕ → ℕ → StripWork → Option RowWork → Type 0
+RowsFault limits all m new None = Unit {0}
+RowsFault limits all m new (Some after) = BeganAtFault limits all m new.strip new.file

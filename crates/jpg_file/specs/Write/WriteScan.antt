@@ -1,30 +1,110 @@
--- A scan of a file that is written (T.81, B.2.3).
-use Rattle.std.specs.Prelude.{◌≡◌, ℕ, ◌+◌, ◌*◌, ◌<◌, ◌≤◌, Bool, true, false, if◌then◌else◌, List, [], ◌∷◌, ◌++◌, length, map, flat_map, slice_index_or, All}
-use Rattle.jpg_spec.specs.Lists.{is_distinct}
-use Rattle.jpg_spec.specs.FrameHeader.{identifiers}
+-- RESTART INTERVALS of a file that is written (T.81, B.2.4.4).
+use Rattle.std.specs.Prelude.{ℕ, ◌==◌, if◌then◌else◌, List, [], ◌≡◌, ◌<◌, ◌≤◌, ◌&&◌, not, true, Bool, length, Option, Some, None, All, ◌+◌, ◌*◌, false, ◌∷◌, ◌++◌, map, flat_map, slice_index_or}
+use Rattle.std.specs.Int.{to_be_bytes, w16}
+use Rattle.jpg_spec_write.specs.FileText.{segment_text, Written, interval_of, nothing_written, slot_for, tables_given, tables_needed, tables_text}
+use Rattle.std.specs.Option.{option_map}
 use Rattle.jpg_spec.specs.Geometry.{Frame, is_progressive}
-use Rattle.jpg_spec.specs.Scan.{Blocks}
+use Rattle.jpg_spec.specs.Scan.{Blocks, TablesInForce}
+use Rattle.jpg_spec.specs.Lists.{is_distinct}
+use Rattle.jpg_spec.specs.Segments.{HuffmanTable, ScanHead, head_components, needs_dc, needs_ac}
+use Rattle.jpg_spec_write.specs.ScanText.{Owned, is_plain, scan_elements, symbol_counts, symbols_used, scan_data, scan_tables}
+use Rattle.jpg_spec_write.specs.WrittenFile.{HasBlocksIn}
+use Rattle.jpg_spec_write.specs.declared.huffman.Huffman.{Huffman}
+use Rattle.jpg_base.specs.Cursor.{AreIn}
+use Rattle.jpg_coefs.specs.MarkSinks.{HasSlots}
+use Rattle.jpg_coefs.specs.declared.intervals.WrittenScan.{WrittenScan}
+use Rattle.jpg_prog_write.specs.Written.{IsProgScan, tables_in, written_data}
+use Rattle.jpg_huff.specs.declared.table.Table.{Table}
+use Rattle.jpg_huff.specs.declared.set.TableSet.{TableSet}
+use Rattle.jpg_huff.specs.Flat.{symbols_in}
+use Rattle.jpg_huff.specs.Counts.{row}
+use Rattle.jpg_huff.specs.declared.counts.SymbolCounts.{SymbolCounts}
+use Rattle.jpg_huff.specs.Sets.{dc_tables, ac_tables, in_slot}
+use Rattle.jpg_huff.specs.Tables.{table_of}
+use Rattle.jpg_spec.specs.FrameHeader.{identifiers}
 use Rattle.jpg_spec.specs.ScanContents.{are_parameters}
-use Rattle.jpg_spec.specs.Segments.{HuffmanTable, ScanHead, needs_dc, needs_ac}
 use Rattle.jpg_spec.specs.declared.frame.Colour.{Colour}
 use Rattle.jpg_spec.specs.declared.frame.ScanPart.{ScanPart}
-use Rattle.jpg_spec_write.specs.FileText.{Written, interval_of, nothing_written, segment_text, slot_for, tables_given, tables_needed, tables_text}
-use Rattle.jpg_spec_write.specs.ScanText.{Owned, scan_data, scan_elements, scan_tables}
 use Rattle.jpg_spec_write.specs.Script.{Entry}
-use Rattle.jpg_spec_write.specs.WrittenFile.{HasBlocksIn}
-use Rattle.jpg_base.specs.Cursor.{AreIn}
-use Rattle.jpg_huff.specs.declared.set.TableSet.{TableSet}
-use Rattle.jpg_seq.specs.NewReader.{IsSeqScan}
-use Rattle.jpg_coefs.specs.MarkSinks.{HasSlots}
-use Rattle.jpg_prog_write.specs.Written.{IsProgScan, tables_in, written_data}
-use Rattle.jpg_file.specs.Write.Restarts.{interval_text}
+use Rattle.jpg_seq.specs.Reader.{IsSeqScan}
 use Rattle.jpg_scans.specs.Restarts.{restart_of}
-use Rattle.jpg_file.specs.Write.WriteTables.{GivesTables, IsTablePlace, given_by}
 use Rattle.jpg_file.specs.declared.write.Plan.{Plan}
-use Rattle.jpg_file.specs.declared.write.scan.DueScan.{DueScan}
 use Rattle.jpg_file.specs.declared.write.scan.Given.{Given}
 use Rattle.jpg_file.specs.declared.write.scan.PlannedScan.{PlannedScan}
 use Rattle.jpg_file.specs.declared.write.scan.ScanDue.{ScanDue}
+
+-- the segment of an interval that isn't the one before
+abbrev pub interval_text : ℕ → ℕ → List ℕ
+interval_text last n = if n == last then [] else segment_text 0xdd (to_be_bytes w16 n)
+
+-- The tables of scans that are written: sets that have them, and the last ones of each class and slot (T.81, B.2.4.2).
+
+-- what a scan sends, by intervals
+abbrev pub written_elements : WrittenScan → Frame → Blocks → List (List Owned)
+written_elements scan f blocks = scan_elements f scan.head.now scan.interval blocks
+
+-- the slots of a class (0 is DC, 1 is AC)
+abbrev pub class_tables : TableSet → ℕ → List (Option Table)
+class_tables set class = if class == 0 then dc_tables set else ac_tables set
+
+-- a slot has a table of these counts and symbols
+abbrev pub IsInSlot : List (Option Table) → ℕ → HuffmanTable → Type 0
+IsInSlot tables slot table = (t : Table) × (in_slot tables slot ≡ Some t) × (table_of t ≡ table)
+
+-- slots 0 and 1 of both classes have these tables
+abbrev pub GivesTables : TableSet → (ℕ → ℕ → HuffmanTable) → Type 0
+GivesTables set tables = (class slot : ℕ) → class < 2 → slot < 2 → IsInSlot (class_tables set class) slot (tables class slot)
+
+-- typical tables are written: plain ones are asked for, in a sequential file of precision 8
+abbrev pub has_typical : Huffman → Frame → Bool
+has_typical huffman file = not (is_progressive file.process) && (file.precision == 8 && is_plain huffman)
+
+-- by slots 0 and 1 and class, the symbols that are used are these
+pub record UsesSymbols (counts : SymbolCounts) (symbols : ℕ → ℕ → List ℕ) : Type 0 where
+  pub dc : (slot : ℕ) → slot < 2 → symbols_in (row counts.dc slot) ≡ symbols 0 slot
+  pub ac : (slot : ℕ) → slot < 2 → symbols_in (row counts.ac slot) ≡ symbols 1 slot
+
+-- and each is counted so often
+pub record HasCounts (counts : SymbolCounts) (numbers : ℕ → ℕ → List ℕ) : Type 0 where
+  pub dc : (slot : ℕ) → slot < 2 → row counts.dc slot ≡ numbers 0 slot
+  pub ac : (slot : ℕ) → slot < 2 → row counts.ac slot ≡ numbers 1 slot
+
+-- few enough for codes of one length
+pub record AreFew (counts : SymbolCounts) : Type 0 where
+  pub dc : (slot : ℕ) → slot < 2 → length (symbols_in (row counts.dc slot)) ≤ 255
+  pub ac : (slot : ℕ) → slot < 2 → length (symbols_in (row counts.ac slot)) ≤ 255
+
+-- the counts of a scan that sends these elements
+pub record CountsScan (counts : SymbolCounts) (head : ScanHead) (elements : List (List Owned)) : Type 0 where
+  pub used : UsesSymbols counts (symbols_used head elements)
+  pub often : HasCounts counts (symbol_counts head elements)
+  pub few : AreFew counts
+
+-- the symbols of a scan with this header can be counted, in a file with the first frame, of blocks viewed in the other
+pub record CanCount (file f : Frame) (blocks : Blocks) (head : ScanHead) : Type 0 where
+  pub kind : is_progressive f.process ≡ is_progressive file.process
+  pub components : AreIn f (head_components head)
+  pub scan : is_progressive file.process ≡ true → IsProgScan f head
+  pub distinct : is_distinct (head_components head) ≡ true
+  pub slots : All HasSlots head.parts
+  pub writable : HasBlocksIn f blocks
+
+-- they have the first two for DC, and the other two for AC
+abbrev pub HasFourTables : TableSet → HuffmanTable → HuffmanTable → HuffmanTable → HuffmanTable → Type 0
+HasFourTables set a b c d = (tables : ℕ → ℕ → HuffmanTable) → a ≡ tables 0 0 → b ≡ tables 0 1 → c ≡ tables 1 0 → d ≡ tables 1 1 → GivesTables set tables
+
+-- a class, and slot 0 or 1
+pub record IsTablePlace (place : ℕ × ℕ) : Type 0 where
+  pub class : place.0 < 2
+  pub slot : place.1 < 2
+
+-- the last table of each class and slot
+abbrev pub given_by : TableSet → TablesInForce
+given_by set class slot =
+    if class == 0 then option_map table_of (in_slot (dc_tables set) slot)
+    else if class == 1 then option_map table_of (in_slot (ac_tables set) slot) else None
+
+-- A scan of a file that is written (T.81, B.2.3).
 
 -- THE HEADER of a scan. A slot that isn't needed is 0.
 
@@ -159,9 +239,6 @@ due_data f blocks due set = written_data f due.head set due.interval blocks
 
 abbrev pub due_text : Frame → Frame → Blocks → Written → ScanDue → TableSet → List ℕ
 due_text file f blocks w due set = start_text file w due set ++ due_data f blocks due set
-
-abbrev pub due_after : DueScan → Frame → Blocks → Written → List ℕ
-due_after scan f blocks w = due_text scan.frame.now f blocks w scan.due.now scan.tables.now
 
 abbrev pub due_written : Written → ScanDue → TableSet → Written
 due_written w due set = record { tables = tables_given w.tables (tables_in set) due.needed.items; interval = due.interval }

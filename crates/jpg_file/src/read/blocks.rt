@@ -1,24 +1,18 @@
 //! The blocks that the data of a scan are read into: all of a picture, or those of one row of its MCUs (T.81, A.2.3).
 ghost use Rattle.std.specs.Prelude.{◌<◌, ◌≤◌, length};
-ghost use Rattle.jpg_file.specs.Read.ScanBlocks.{BlocksKind, CanTake, TakesBitsInto, TakesBytesInto, all_stored};
+ghost use Rattle.jpg_file.specs.Read.Machine.{BlocksKind, CanTake, TakesBytesInto, all_stored};
 
 use crate::read::machine::ScanReader;
-use jpg_base::BitStore;
-use jpg_coefs::{Coefs, ScanMachine, Taken};
+use jpg_coefs::{Coefs, Taken};
 
 /// The blocks that a scan is read into.
 pub trait ScanBlocks {
     /// Which they are.
     ghost kind: { BlocksKind Self };
 
-    /// Gives the machine bits up to the last one of the units whose blocks are among these. Those after it wait.
-    fn take(&mut self, machine: &mut ScanReader, store: BitStore) -> Taken
-        requires { CanTake _ kind self.old machine.old }
-        ensures takes { TakesBitsInto kind self.old machine.old store result self.new machine.new }
-        ensures more { kind.bits self.old machine.old store result self.new machine.new };
-
-    /// Gives the machine the bits of plain bytes in the same way, up to the byte whose bits end the interval, reveal a
-    /// fault or are in part those that wait. Returns how many bytes were given, and the result.
+    /// Gives the machine the bits of data bytes up to the last one of the units whose blocks are among these, up to the
+    /// byte whose bits end the interval, reveal a fault or wait in part: those after that unit. Returns how many bytes
+    /// were given, and the result.
     fn take_bytes(&mut self, machine: &mut ScanReader, bytes: &[u8]) -> (usize, Taken)
         requires can { CanTake _ kind self.old machine.old }
         requires some { 1 ≤ length bytes.now }
@@ -29,12 +23,6 @@ pub trait ScanBlocks {
 
 impl ScanBlocks for Coefs {
     ghost kind = { all_stored };
-
-    fn take(&mut self, machine: &mut ScanReader, store: BitStore) -> Taken {
-        let mut store = store;
-        let most = machine.units_left();
-        machine.bits(&mut store, self, most)
-    }
 
     fn take_bytes(&mut self, machine: &mut ScanReader, bytes: &[u8]) -> (usize, Taken) {
         machine.run(self, bytes)

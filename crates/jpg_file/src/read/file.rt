@@ -1,30 +1,30 @@
 //! A file, read byte by byte, or MCU row by MCU row if its first scan has all components (T.81, A.2.3, B.2.1).
-ghost use Rattle.std.specs.Prelude.{◌≡◌, ◌<◌, ◌+◌, ℕ, List, [], ◌≤◌, length, slice_index, Some, if◌then◌else◌, is_some, true, false, None, IfErr, IfOk, Err};
+ghost use Rattle.std.specs.Prelude.{◌≡◌, ◌<◌, ◌≤◌, ◌+◌, ℕ, List, [], drop, length, slice_index, Option, Some, None, Ok, IfErr, IfOk, if◌then◌else◌, true};
 ghost use Rattle.jpg_spec.specs.FrameHeader.{AreLimits};
-ghost use Rattle.jpg_coefs.specs.Picture.{Picture};
-ghost use Rattle.jpg_file.specs.Read.File.{HasCompleteHeader, NotesHead, PassesFront, RoomMade, RepresentsFile, TakesFileByte, TakesFileEnd, TakesFileHead, TakesFileStep, TakesSome, keeping_of, limits_of, scans_ended, with_picture};
-ghost use Rattle.jpg_file.specs.Read.InData.{ArePlain};
-ghost use Rattle.jpg_file.specs.Read.Passing.{PassesAll};
-ghost use Rattle.jpg_file.specs.Read.Reading.{IsOpenScan, NeedsNoMemory};
-ghost use Rattle.jpg_file.specs.Read.Step.{IfStops, IsNoRow, HasMemory};
 ghost use Rattle.jpg_spec.specs.Segments.{head_components};
 ghost use Rattle.jpg_spec.specs.declared.frame.Copying.TheVariants as copying;
 ghost use Rattle.jpg_base.specs.Cursor.{scan_mcus_down};
 ghost use Rattle.jpg_base.specs.declared.stop.Stop.TheVariants as stop;
-ghost use Rattle.jpg_file.specs.Read.Strips.{BeginsRows, CountsRowsOfScan, CountsRows, FindsHead, GoesByRow, GoesOnRest, HasHeadOfAll, HasLaterHead, PassesItem, PassesLaterHead, RepresentsRows, TakesRest, TakesRowByte, TakesRunOfRows};
-ghost use Rattle.jpg_file.specs.Read.RowTurns.{completes_row, unfinished};
-ghost use Rattle.jpg_file.specs.Read.RowsNone.{FindsNone};
-ghost use Rattle.jpg_file.specs.Read.RowsKnown.{BeginsTold};
+ghost use Rattle.jpg_coefs.specs.Picture.{Picture};
+ghost use Rattle.jpg_file.specs.Read.ScanStart.{HasSizes};
+ghost use Rattle.jpg_file.specs.Read.File.{CanBeginHead, HasPlain, IsPlainRun, LeavesAll, NeedsNoMemory, TakesHead, with_coefs, HasCompleteHeader, NotesHead, RoomMade, RepresentsFile, TakesFileEnd, TakesFileHead, TakesFileStep, TakesSome, keeping_of, limits_of, scans_ended};
+ghost use Rattle.jpg_file.specs.Read.Going.{CanGoOn, GoesOn, file_with};
+ghost use Rattle.jpg_file.specs.Read.Passing.{HasNoneToPass, PassesAll, PassesFront};
+ghost use Rattle.jpg_file.specs.Read.Step.{IfStops, IsNoRow, HasMemory};
+ghost use Rattle.jpg_file.specs.Read.Strips.{BeginsRows, CountsRowsOfScan, CountsRows, FindsHead, GoesByRow, GoesOnRest, HasHeadOfAll, HasLaterHead, PassesItem, PassesLaterHead, RepresentsRows, TakesRest, TakesRowByte, TakesRunOfRows, FindsNone, BeginsTold};
+ghost use Rattle.jpg_file.specs.Read.InData.{completes_row, unfinished};
 
 use crate::read::first_header::{Head, head_of};
 use crate::read::items::{ItemStep, Items};
 use crate::read::orders::Orders;
-use crate::read::reading::Reading;
 use crate::read::rows::RowWork;
+use crate::read::scan::InScan;
 use crate::read::scan_history::ScanHistory;
-use crate::read::scan_start::judge_head;
+use crate::read::scan_start::{begin_data, judge_head};
 use crate::read::step::Step;
 use jpg_base::{Frame, Limits, NoMemory, ScanHead, Stop};
+use jpg_coefs::Coefs;
+use jpg_markers::fill_length;
 use jpg_spec::{Copying, Fault, FaultAt};
 use memchr::memchr;
 use std::alloc::Global;
@@ -36,8 +36,14 @@ pub struct FileWork {
     pub alloc: Global,
     /// The orders in which blocks are stored.
     pub orders: Orders,
-    /// Its items, and the current scan.
-    pub reading: Reading,
+    /// Its items so far.
+    pub items: Items,
+    /// The coefficients, from the first scan on.
+    pub coefs: Option<Coefs>,
+    /// The current scan, inside its data.
+    pub scan: Option<InScan>,
+    /// How many bytes were taken.
+    pub taken: u64,
     /// What the scans so far define.
     pub begun: ScanHistory,
     /// What its first scan header determines, once there is one.
@@ -55,78 +61,98 @@ impl FileWork {
         FileWork {
             alloc,
             orders,
-            reading: Reading {
-                items: Items::new(alloc, limits, keeping),
-                coefs: None,
-                scan: None,
-                taken: 0,
-            },
+            items: Items::new(alloc, limits, keeping),
+            coefs: None,
+            scan: None,
+            taken: 0,
             begun: ScanHistory::new(),
             head: None,
         }
     }
 
-    /// Takes a further byte. Returns whether the file goes on or is complete with it, or the fault that it reveals.
-    pub fn byte(&mut self, byte: u8) -> Step
-        requires stands { (bytes : List ℕ) × RepresentsFile (limits_of self.old) bytes self.old }
-        requires limits { AreLimits (limits_of self.old) }
-        requires room { self.old.reading.taken < (limits_of self.old).input }
-        ensures after { TakesFileByte self.old byte result self.new }
-        ensures head { IfStops result (self.new.head ≡ self.old.head) }
-        ensures keeping { keeping_of self.new ≡ keeping_of self.old }
-        ensures no { IsNoRow result }
+    /// How many plain bytes of a scan there are at the start of these that may be taken together.
+    pub fn plain_length(&self, bytes: &[u8]) -> usize
+        requires { self.now.taken ≤ (limits_of self.now).input }
+        ensures { HasPlain self.now bytes.now result }
     {
-        match self.step(byte) {
-            ItemStep::More => Step::More,
-            ItemStep::Head => self.take_head(),
-            ItemStep::Eoi => self.take_end(),
-            ItemStep::Fault(fault) => Step::Ended(Stop::Fault(fault)),
-            ItemStep::NoMemory => Step::Ended(Stop::NoMemory),
+        let Some(scan) = &self.scan else {
+            return 0;
+        };
+        if !scan.is_open() {
+            return 0;
         }
+        plain_length(bytes, self.items.limits.input - self.taken)
     }
 
-    /// Takes one or more of these bytes, up to the first event. Returns how many, and the event.
-    pub fn some(&mut self, bytes: &[u8]) -> (usize, Step)
+    /// Takes plain bytes inside the data of a scan, up to the byte that ends an interval or reveals a fault. Returns how
+    /// many were taken, and the result.
+    pub fn run(&mut self, run: &[u8]) -> (usize, Step)
         requires stands { (bytes : List ℕ) × RepresentsFile (limits_of self.old) bytes self.old }
         requires limits { AreLimits (limits_of self.old) }
-        requires room { self.old.reading.taken < (limits_of self.old).input }
-        requires some { 1 ≤ length bytes.now }
-        ensures after { TakesSome self.old bytes.now result.0 result.1 self.new }
+        requires plain { IsPlainRun self.old run.now }
+        ensures after { TakesSome self.old run.now result.0 result.1 self.new }
         ensures keeping { keeping_of self.new ≡ keeping_of self.old }
         ensures no { IsNoRow result.1 }
     {
-        if self.reading.is_open() {
-            let most = self.reading.items.limits.input - self.reading.taken;
-            let n = plain_length(bytes, most);
-            if n > 0 {
-                let (n, answer) = self.reading.scan_run(&bytes[..n]);
-                return match answer {
-                    Ok(()) => (n, Step::More),
-                    Err(fault) => (n, Step::Ended(Stop::Fault(fault))),
-                };
-            }
+        let Some(coefs) = &mut self.coefs else {
+            unreachable!();
+        };
+        let Some(scan) = &mut self.scan else {
+            unreachable!();
+        };
+        let (n, step) = scan.run(coefs, run);
+        let at = self.taken + n as u64;
+        self.taken = at;
+        match step {
+            Ok(_) => (n, Step::More),
+            Err(fault) => (n, fault_at(fault, at)),
         }
-        let n = self.front(bytes);
-        (n + 1, self.byte(bytes[n]))
     }
 
     /// Skips what causes no event, and returns how many bytes that were: between items complete segments that break no
     /// rule, and then fill bytes or contents before a segment's last byte; inside the data of a scan fill bytes after
-    /// FF. It always leaves a byte for `byte`.
+    /// FF. It always leaves a byte.
     pub fn front(&mut self, bytes: &[u8]) -> usize
-        requires stands { (bytes : List ℕ) × RepresentsFile (limits_of self.old) bytes self.old }
+        requires stands { (q : Option Picture) × (bytes : List ℕ) × RepresentsFile (limits_of self.old) bytes (file_with self.old q) }
         requires limits { AreLimits (limits_of self.old) }
-        requires room { self.old.reading.taken < (limits_of self.old).input }
+        requires room { self.old.taken < (limits_of self.old).input }
         requires some { 1 ≤ length bytes.now }
         ensures after { PassesFront self.old bytes.now result self.new }
-        ensures most { PassesAll self.old.reading.scan self.old.reading bytes.now result }
-        ensures head { self.new.head ≡ self.old.head }
+        ensures most { PassesAll self.old.scan self.old bytes.now result }
+    {
+        let room = self.items.limits.input - self.taken;
+        let most = (bytes.len() as u64).min(room) as usize;
+        let ahead = &bytes[..most - 1];
+        let Some(scan) = &self.scan else {
+            let done = self.segments(ahead);
+            let n = self.items.contents(&ahead[done..]);
+            self.taken += n as u64;
+            return done + n;
+        };
+        if !scan.gate.is_waiting() {
+            return 0;
+        }
+        let n = fill_length(ahead);
+        self.taken += n as u64;
+        n
+    }
+
+    // Takes complete segments at the start of these bytes, as many as can be taken so. Returns how many bytes they take.
+    fn segments(&mut self, bytes: &[u8]) -> usize
+        requires { CanGoOn self.old bytes.now }
+        ensures after { GoesOn self.old bytes.now result self.new }
+        ensures none { HasNoneToPass self.new.items (drop result bytes.now) }
+        ensures sparing { NeedsNoMemory self.old → NeedsNoMemory self.new }
         ensures keeping { keeping_of self.new ≡ keeping_of self.old }
     {
-        if self.reading.scan.is_some() {
-            self.reading.fill_in_scan(bytes)
-        } else {
-            self.reading.front(bytes)
+        let mut done = 0usize;
+        loop {
+            let n = self.items.whole(&bytes[done..]);
+            self.taken += n as u64;
+            done += n;
+            if n == 0 {
+                return done;
+            }
         }
     }
 
@@ -134,15 +160,26 @@ impl FileWork {
     pub fn step(&mut self, byte: u8) -> ItemStep
         requires stands { (bytes : List ℕ) × RepresentsFile (limits_of self.old) bytes self.old }
         requires limits { AreLimits (limits_of self.old) }
-        requires room { self.old.reading.taken < (limits_of self.old).input }
+        requires room { self.old.taken < (limits_of self.old).input }
         ensures after { TakesFileStep self.old byte result self.new }
         ensures head { self.new.head ≡ self.old.head }
         ensures keeping { keeping_of self.new ≡ keeping_of self.old }
     {
-        if self.reading.scan.is_some() {
-            self.reading.scan_byte(byte)
-        } else {
-            self.reading.item_byte(byte)
+        let at = self.taken + 1;
+        self.taken = at;
+        let Some(scan) = &mut self.scan else {
+            return self.items.byte(byte);
+        };
+        let Some(coefs) = &mut self.coefs else {
+            unreachable!();
+        };
+        match scan.byte(coefs, byte) {
+            Ok(false) => ItemStep::More,
+            Ok(true) => {
+                self.scan = None;
+                self.items.marker(byte, at)
+            }
+            Err(fault) => ItemStep::Fault(FaultAt { fault, at }),
         }
     }
 
@@ -150,7 +187,7 @@ impl FileWork {
     pub fn scans_ended(&self) -> u64
         ensures { result ≡ scans_ended self.now }
     {
-        if self.reading.scan.is_some() {
+        if self.scan.is_some() {
             return self.begun.scans.saturating_sub(1);
         }
         self.begun.scans
@@ -169,11 +206,11 @@ impl FileWork {
         if self.make_room().is_err() {
             return Step::Ended(Stop::NoMemory);
         }
-        let Some(coefs) = &self.reading.coefs else {
+        let Some(coefs) = &self.coefs else {
             unreachable!();
         };
         coefs.checked();
-        match self.reading.begin_head(&mut self.begun) {
+        match self.begin_head() {
             Ok(()) => {
                 self.note_head();
                 Step::More
@@ -182,12 +219,51 @@ impl FileWork {
         }
     }
 
+    // Begins the scan of a complete scan header, or returns its fault; of the picture nothing is required.
+    fn begin_head(&mut self) -> Result<(), FaultAt>
+        requires { CanBeginHead self.old }
+        ensures after { (now : Picture) → HasSizes now → TakesHead (with_coefs self.old now) result (with_coefs self.new now) }
+        ensures coefs { self.new.coefs ≡ self.old.coefs }
+        ensures left { LeavesAll self.old result self.new }
+        ensures scanned { result ≡ Ok tt → self.new.items.held.scanned ≡ true }
+        ensures head { self.new.head ≡ self.old.head }
+        ensures keeping { keeping_of self.new ≡ keeping_of self.old }
+    {
+        let at = self.taken;
+        let Some(held) = &self.items.held.frame else {
+            unreachable!();
+        };
+        let frame = held.copy();
+        match judge_head(
+            self.items.segments.contents(),
+            &frame,
+            &self.items.held,
+            &self.begun,
+        ) {
+            Err(fault) => Err(FaultAt { fault, at }),
+            Ok(head) => {
+                frame.checked();
+                let tables = self.items.held.tables.tables();
+                begin_data(
+                    &mut self.scan,
+                    &frame,
+                    &head,
+                    &tables,
+                    self.items.held.interval,
+                );
+                self.begun.note(&frame, &head, &self.items.held.quants, at);
+                self.items.held.scanned = true;
+                Ok(())
+            }
+        }
+    }
+
     /// Keeps the first scan header.
     pub fn note_head(&mut self)
         ensures { NotesHead self.old self.new }
     {
         if self.head.is_none() {
-            self.head = head_of(&self.reading.items.held, self.reading.taken);
+            self.head = head_of(&self.items.held, self.taken);
         }
     }
 
@@ -197,22 +273,21 @@ impl FileWork {
         ensures head { self.new.head ≡ self.old.head }
         ensures keeping { keeping_of self.new ≡ keeping_of self.old }
     {
-        let Some(frame) = &self.reading.items.held.frame else {
+        let Some(frame) = &self.items.held.frame else {
             return Ok(());
         };
         frame.checked();
-        if self.reading.coefs.is_some() {
+        if self.coefs.is_some() {
             return Ok(());
         }
         let coefs = self.orders.coefs(self.alloc, frame)?;
-        self.reading.coefs = Some(coefs);
+        self.coefs = Some(coefs);
         Ok(())
     }
 
     /// Takes EOI: the file is complete if each component was in a scan, and otherwise has the fault MissingComponent.
     pub fn take_end(&self) -> Step
-        ensures end { TakesFileEnd self.now result }
-        ensures any { (whole : Picture) → TakesFileEnd (with_picture self.now whole) result }
+        ensures end { (q : Option Picture) → TakesFileEnd (file_with self.now q) result }
         ensures memory { HasMemory result }
         ensures no { IsNoRow result }
     {
@@ -221,7 +296,7 @@ impl FileWork {
         }
         Step::Ended(Stop::Fault(FaultAt {
             fault: Fault::MissingComponent,
-            at: self.reading.taken,
+            at: self.taken,
         }))
     }
 
@@ -232,11 +307,11 @@ impl FileWork {
         ensures goes { GoesOnRest result }
         ensures rows { CountsRows result rows.old rows.new }
         ensures memory { HasMemory result }
-        ensures same { self.new.reading.items ≡ self.old.reading.items }
+        ensures same { self.new.items ≡ self.old.items }
         ensures head { self.new.head ≡ self.old.head }
     {
-        let at = self.reading.taken;
-        let Some(scan) = &mut self.reading.scan else {
+        let at = self.taken;
+        let Some(scan) = &mut self.scan else {
             return Step::More;
         };
         rows.next();
@@ -245,35 +320,35 @@ impl FileWork {
         }
         let before = rows.left;
         match scan.rest_in_row(rows) {
-            Ok(()) => row_step(rows, before),
+            Ok(_) => row_step(rows, before),
             Err(fault) => fault_at(fault, at),
         }
     }
 
-    /// Takes a byte inside the data of the scan.
-    pub fn take_byte_in_row(&mut self, rows: &mut RowWork, byte: u8) -> Step
+    /// Takes a byte, inside the data of the scan or after them.
+    pub fn byte_in_row(&mut self, rows: &mut RowWork, byte: u8) -> Step
         requires stands { (bytes : List ℕ) × GoesByRow (limits_of self.old) bytes self.old rows.old }
-        requires inside { is_some self.old.reading.scan ≡ true }
         requires limits { AreLimits (limits_of self.old) }
-        requires room { self.old.reading.taken < (limits_of self.old).input }
+        requires room { self.old.taken < (limits_of self.old).input }
         ensures after { TakesRowByte self.old rows.old byte result self.new rows.new }
         ensures rows { CountsRows result rows.old rows.new }
-        ensures memory { HasMemory result }
-        ensures sparing { NeedsNoMemory self.old.reading → NeedsNoMemory self.new.reading }
+        ensures memory { NeedsNoMemory self.old → HasMemory result }
+        ensures sparing { NeedsNoMemory self.old → NeedsNoMemory self.new }
         ensures head { self.new.head ≡ self.old.head }
         ensures keeping { keeping_of self.new ≡ keeping_of self.old }
     {
-        let Some(scan) = &mut self.reading.scan else {
-            unreachable!();
+        let at = self.taken + 1;
+        self.taken = at;
+        let Some(scan) = &mut self.scan else {
+            let came = self.items.byte(byte);
+            return self.later_item(came);
         };
-        let at = self.reading.taken + 1;
-        self.reading.taken = at;
         let before = rows.left;
         match scan.byte(rows, byte) {
             Ok(false) => row_step(rows, before),
             Ok(true) => {
-                self.reading.scan = None;
-                let came = self.reading.items.marker(byte, at);
+                self.scan = None;
+                let came = self.items.marker(byte, at);
                 self.later_item(came)
             }
             Err(fault) => fault_at(fault, at),
@@ -281,60 +356,27 @@ impl FileWork {
     }
 
     /// Takes plain bytes inside the data of the scan. Returns how many, and the result.
-    pub fn take_run_in_row(&mut self, rows: &mut RowWork, run: &[u8]) -> (usize, Step)
+    pub fn run_in_row(&mut self, rows: &mut RowWork, run: &[u8]) -> (usize, Step)
         requires stands { (bytes : List ℕ) × GoesByRow (limits_of self.old) bytes self.old rows.old }
         requires limits { AreLimits (limits_of self.old) }
-        requires opened { IsOpenScan self.old.reading }
-        requires room { self.old.reading.taken + length run.now ≤ (limits_of self.old).input }
-        requires some { 1 ≤ length run.now }
-        requires few { length run.now < 4294967296 }
-        requires plain { ArePlain run.now }
+        requires plain { IsPlainRun self.old run.now }
         ensures after { TakesRunOfRows self.old rows.old run.now result.0 result.1 self.new rows.new }
         ensures rows { CountsRows result.1 rows.old rows.new }
         ensures memory { HasMemory result.1 }
-        ensures same { self.new.reading.items ≡ self.old.reading.items }
+        ensures same { self.new.items ≡ self.old.items }
         ensures head { self.new.head ≡ self.old.head }
     {
-        let Some(scan) = &mut self.reading.scan else {
+        let Some(scan) = &mut self.scan else {
             unreachable!();
         };
         let before = rows.left;
         let (n, step) = scan.run(rows, run);
-        let at = self.reading.taken + n as u64;
-        self.reading.taken = at;
+        let at = self.taken + n as u64;
+        self.taken = at;
         match step {
-            Ok(()) => (n, row_step(rows, before)),
+            Ok(_) => (n, row_step(rows, before)),
             Err(fault) => (n, fault_at(fault, at)),
         }
-    }
-
-    /// Takes one or more of these bytes, up to the first event. Returns how many, and the event.
-    pub fn take_in_row(&mut self, rows: &mut RowWork, bytes: &[u8]) -> (usize, Step)
-        requires stands { (front : List ℕ) × GoesByRow (limits_of self.old) front self.old rows.old }
-        requires limits { AreLimits (limits_of self.old) }
-        requires room { self.old.reading.taken < (limits_of self.old).input }
-        requires some { 1 ≤ length bytes.now }
-        ensures after { TakesRunOfRows self.old rows.old bytes.now result.0 result.1 self.new rows.new }
-        ensures rows { CountsRows result.1 rows.old rows.new }
-        ensures memory { NeedsNoMemory self.old.reading → HasMemory result.1 }
-        ensures sparing { NeedsNoMemory self.old.reading → NeedsNoMemory self.new.reading }
-        ensures head { self.new.head ≡ self.old.head }
-        ensures keeping { keeping_of self.new ≡ keeping_of self.old }
-    {
-        if self.reading.is_open() {
-            let most = self.reading.items.limits.input - self.reading.taken;
-            let n = plain_length(bytes, most);
-            if n > 0 {
-                return self.take_run_in_row(rows, &bytes[..n]);
-            }
-        }
-        if self.reading.scan.is_some() {
-            let n = self.reading.fill_in_scan(bytes);
-            return (n + 1, self.take_byte_in_row(rows, bytes[n]));
-        }
-        let n = self.reading.front(bytes);
-        let came = self.reading.item_byte(bytes[n]);
-        (n + 1, self.later_item(came))
     }
 
     // The result of an item after the scan.
@@ -360,16 +402,16 @@ impl FileWork {
         ensures memory { HasMemory result }
         ensures no { IsNoRow result }
     {
-        let Some(frame) = &self.reading.items.held.frame else {
+        let Some(frame) = &self.items.held.frame else {
             unreachable!();
         };
         match judge_head(
-            self.reading.items.segments.contents(),
+            self.items.segments.contents(),
             frame,
-            &self.reading.items.held,
+            &self.items.held,
             &self.begun,
         ) {
-            Err(fault) => fault_at(fault, self.reading.taken),
+            Err(fault) => fault_at(fault, self.taken),
             Ok(_) => unreachable!(),
         }
     }
@@ -379,13 +421,13 @@ impl FileWork {
         ensures head { FindsHead self.now result }
         ensures none { FindsNone self.now result }
     {
-        let Some(frame) = &self.reading.items.held.frame else {
+        let Some(frame) = &self.items.held.frame else {
             return None;
         };
         let Ok(head) = judge_head(
-            self.reading.items.segments.contents(),
+            self.items.segments.contents(),
             frame,
-            &self.reading.items.held,
+            &self.items.held,
             &self.begun,
         ) else {
             return None;
@@ -404,7 +446,7 @@ impl FileWork {
         ensures told { IfOk result (λ rows. BeginsTold self.old frame.now head.now self.new) }
         ensures count { IfOk result (λ rows. unfinished rows ≡ scan_mcus_down frame.now (head_components head.now)) }
         ensures all { IfOk result (λ rows. CountsRowsOfScan (Some rows) self.new) }
-        ensures sparing { IfOk result (λ rows. keeping_of self.old ≡ copying.None → NeedsNoMemory self.new.reading) }
+        ensures sparing { IfOk result (λ rows. keeping_of self.old ≡ copying.None → NeedsNoMemory self.new) }
         ensures head { IfErr result (λ stop. self.new.head ≡ self.old.head) }
         ensures keeping { keeping_of self.new ≡ keeping_of self.old }
     {
@@ -412,9 +454,9 @@ impl FileWork {
         let Ok(rows) = RowWork::new(self.alloc, frame, head) else {
             return Err(Stop::NoMemory);
         };
-        match self.reading.begin_head(&mut self.begun) {
+        match self.begin_head() {
             Ok(()) => {
-                if self.reading.items.segments.reserve().is_err() {
+                if self.items.segments.reserve().is_err() {
                     return Err(Stop::NoMemory);
                 }
                 self.note_head();

@@ -22,10 +22,7 @@ pub struct Head {
 pub fn head_of(held: &SegmentState, at: u64) -> Option<Head>
     ensures { result ≡ first_header_of (segments_view held.now) at }
 {
-    let Some(frame) = &held.frame else {
-        return None;
-    };
-    let frame = frame.copy();
+    let frame = held.frame.as_ref()?.copy();
     let colour = colours(&frame, &held.jfif, &held.kept);
     Some(Head { frame, colour, at })
 }
@@ -55,7 +52,6 @@ fn transform_after(marker: &Kept, last: Option<u8>) -> Option<u8>
 {
     match read_app(marker.code, marker.contents) {
         App::Adobe(transform) => Some(transform),
-        App::Jfif(_) => last,
-        App::Other => last,
+        _ => last,
     }
 }

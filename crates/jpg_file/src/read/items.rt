@@ -6,7 +6,7 @@ ghost use Rattle.jpg_spec.specs.Items.{Item};
 ghost use Rattle.jpg_spec.specs.FileMeaning.{no_blocks};
 ghost use Rattle.jpg_markers.specs.Reading.{HasRoom, PassesDue, reading_of};
 ghost use Rattle.jpg_file.specs.Read.Passing.{HasNoneToPass};
-ghost use Rattle.jpg_file.specs.Read.Items.{BetweenItems, BehindHead, JudgesSegment, PassesItems, TakesItemByte, TakesMarker};
+ghost use Rattle.jpg_file.specs.Read.Items.{BetweenItems, BehindHead, JudgesSegment, KeepsItems, PassesItems, TakesItemByte, TakesMarker};
 
 use crate::read::segment_state::{SegmentState, SegmentTaken};
 use jpg_base::codes::SOS;
@@ -54,6 +54,7 @@ impl Items {
     }
 
     /// Takes a byte outside scan data.
+    #[tactic(auto, using(crate::proofs::Files::ItemBytes::between_going))]
     pub fn byte(&mut self, byte: u8) -> ItemStep
         requires stands { (bytes : List ℕ) × (items : List Item) × (blocks : Blocks) × BetweenItems self.old.limits bytes items blocks self.old }
         requires limits { AreLimits self.old.limits }
@@ -61,9 +62,7 @@ impl Items {
         ensures after { TakesItemByte self.old byte result self.new }
         ensures taken { (reading_of self.new.segments).taken ≡ (reading_of self.old.segments).taken + 1 }
         ensures memory { self.old.held.keeping ≡ Copying.None → self.old.held.scanned ≡ true → HasRoom self.old.segments → result ≡ ItemStep.NoMemory → ⊥ }
-        ensures room { HasRoom self.old.segments → HasRoom self.new.segments }
-        ensures scanned { self.new.held.scanned ≡ self.old.held.scanned }
-        ensures keeping { self.new.held.keeping ≡ self.old.held.keeping }
+        ensures keeps { KeepsItems self.old self.new }
     {
         match self.segments.byte(byte) {
             Err(Stop::Fault(fault)) => ItemStep::Fault(fault),
@@ -84,9 +83,7 @@ impl Items {
         ensures few { result ≤ length bytes.now }
         ensures after { PassesItems self.old bytes.now result self.new }
         ensures most { PassesDue self.old.segments bytes.now result }
-        ensures keeping { self.new.held.keeping ≡ self.old.held.keeping }
-        ensures scanned { self.new.held.scanned ≡ self.old.held.scanned }
-        ensures room { HasRoom self.old.segments → HasRoom self.new.segments }
+        ensures keeps { KeepsItems self.old self.new }
     {
         match self.segments.stretch(bytes) {
             Ok(n) => n,
@@ -103,9 +100,7 @@ impl Items {
         requires room { (reading_of self.old.segments).taken + length bytes.now ≤ self.old.limits.input }
         ensures after { PassesItems self.old bytes.now result self.new }
         ensures none { result ≡ 0 → HasNoneToPass self.new bytes.now }
-        ensures keeping { self.new.held.keeping ≡ self.old.held.keeping }
-        ensures scanned { self.new.held.scanned ≡ self.old.held.scanned }
-        ensures room { HasRoom self.old.segments → HasRoom self.new.segments }
+        ensures keeps { KeepsItems self.old self.new }
     {
         let Some(segment) = segment_at(bytes) else {
             return 0;
@@ -131,9 +126,7 @@ impl Items {
         requires within { at ≤ self.old.limits.input }
         ensures after { TakesMarker self.old code result self.new }
         ensures taken { (reading_of self.new.segments).taken ≡ at }
-        ensures scanned { self.new.held.scanned ≡ self.old.held.scanned }
-        ensures room { HasRoom self.old.segments → HasRoom self.new.segments }
-        ensures keeping { self.new.held.keeping ≡ self.old.held.keeping }
+        ensures keeps { KeepsItems self.old self.new }
     {
         match self.segments.marker(code, at) {
             Err(Stop::Fault(fault)) => ItemStep::Fault(fault),
@@ -155,8 +148,7 @@ impl Items {
         ensures after { JudgesSegment self.old result self.new }
         ensures same { self.new.segments ≡ self.old.segments }
         ensures memory { self.old.held.keeping ≡ Copying.None → self.old.held.scanned ≡ true → result ≡ ItemStep.NoMemory → ⊥ }
-        ensures scanned { self.new.held.scanned ≡ self.old.held.scanned }
-        ensures keeping { self.new.held.keeping ≡ self.old.held.keeping }
+        ensures keeps { KeepsItems self.old self.new }
     {
         let code = self.segments.code();
         if code == SOS {

@@ -2,12 +2,10 @@
 ghost use Rattle.std.specs.Prelude.{◌<◌, ◌≤◌, Bool, List, [], length, ◌≡◌, false, take};
 ghost use Rattle.jpg_spec.specs.Bits.{bits_of_bytes};
 ghost use Rattle.jpg_coefs.specs.Machine.{Interval};
-ghost use Rattle.jpg_file.specs.Read.Data.{GivesRun};
-ghost use Rattle.jpg_file.specs.Read.Machine.{any_scan};
-ghost use Rattle.jpg_file.specs.Read.NewScan.{IsBareScan, IsOfHeader, IsScanHeader};
+ghost use Rattle.jpg_file.specs.Read.Machine.{GivesRun, any_scan, IsBareScan, IsOfHeader, IsScanHeader};
 
 use jpg_base::{BitStore, Frame, ScanHead};
-use jpg_coefs::{Coefs, ScanMachine, Taken, UnitFault, UnitStep};
+use jpg_coefs::{Coefs, ScanMachine, Taken};
 use jpg_huff::TableSet;
 use jpg_prog_read::{AcReader, DcFirst, DcRefine};
 use jpg_seq::SeqReader;
@@ -63,31 +61,14 @@ impl ScanReader {
             ScanReader::Ac(machine) => take_run(machine, coefs, bytes),
         }
     }
-}
 
-impl ScanMachine for ScanReader {
-    ghost kind = { any_scan };
-
-    fn bit(&mut self, bit: bool, coefs: &mut Coefs) -> Result<UnitStep, UnitFault> {
-        match self {
-            ScanReader::Sequential(machine) => machine.bit(bit, coefs),
-            ScanReader::DcFirst(machine) => machine.bit(bit, coefs),
-            ScanReader::DcRefine(machine) => machine.bit(bit, coefs),
-            ScanReader::Ac(machine) => machine.bit(bit, coefs),
-        }
-    }
-
-    #[inline]
-    fn bits(&mut self, store: &mut BitStore, coefs: &mut Coefs, most: u64) -> Taken {
-        match self {
-            ScanReader::Sequential(machine) => machine.bits(store, coefs, most),
-            ScanReader::DcFirst(machine) => machine.bits(store, coefs, most),
-            ScanReader::DcRefine(machine) => machine.bits(store, coefs, most),
-            ScanReader::Ac(machine) => machine.bits(store, coefs, most),
-        }
-    }
-
-    fn restart(&mut self, units: u64) {
+    /// Begins the next interval of the scan, of this many units, with predictions 0 (T.81, F.2.1.3.1) and no bits.
+    pub fn restart(&mut self, units: u64)
+        requires ready { (i : Interval) × any_scan.ready self.old i × (length i.places ≡ units) }
+        requires some { 1 ≤ units }
+        ensures begun { (i : Interval) → any_scan.ready self.old i → length i.places ≡ units → any_scan.stands self.new i [] i.before }
+        ensures left { any_scan.left self.new ≡ units }
+    {
         match self {
             ScanReader::Sequential(machine) => machine.restart(units),
             ScanReader::DcFirst(machine) => machine.restart(units),
@@ -95,41 +76,18 @@ impl ScanMachine for ScanReader {
             ScanReader::Ac(machine) => machine.restart(units),
         }
     }
-
-    #[inline]
-    fn units_left(&self) -> u64 {
-        match self {
-            ScanReader::Sequential(machine) => machine.units_left(),
-            ScanReader::DcFirst(machine) => machine.units_left(),
-            ScanReader::DcRefine(machine) => machine.units_left(),
-            ScanReader::Ac(machine) => machine.units_left(),
-        }
-    }
 }
 
-// How many of these bytes are given at once.
-fn eight_at_most(bytes: &[u8]) -> usize
-    ensures { result ≡ length (take 8 bytes.now) }
-{
-    if bytes.len() < 8 { bytes.len() } else { 8 }
-}
-
-// The bits of the first eight of these bytes, or of all of them.
-fn front_of(bytes: &[u8]) -> BitStore
-    ensures { result ≡ bits_of_bytes (take 8 bytes.now) }
+// The bits of at most eight bytes.
+fn bits_of_few(bytes: &[u8]) -> BitStore
+    requires { length bytes.now ≤ 8 }
+    ensures { result ≡ bits_of_bytes bytes.now }
 {
     let mut store = BitStore::new();
-    for byte in &bytes[..eight_at_most(bytes)] {
+    for byte in bytes {
         store.push(*byte);
     }
     store
-}
-
-// Whether the machine takes no more of these bytes.
-fn is_over(taken: Taken) -> bool
-    ensures { result ≡ false → taken ≡ Taken.More }
-{
-    !matches!(taken, Taken::More)
 }
 
 /// Gives any machine the bits of some data bytes, eight bytes at a time, up to the byte whose bits end the interval or
@@ -142,11 +100,12 @@ pub fn take_run<M: ScanMachine>(machine: &mut M, coefs: &mut Coefs, bytes: &[u8]
 {
     let mut rest = bytes;
     loop {
-        let mut store = front_of(rest);
+        let front = &rest[..rest.len().min(8)];
+        let mut store = bits_of_few(front);
         let most = machine.units_left();
         let taken = machine.bits(&mut store, coefs, most);
-        let given = bytes.len() - rest.len() + (eight_at_most(rest) - store.len() as usize / 8);
-        if rest.len() <= 8 || is_over(taken) {
+        let given = bytes.len() - rest.len() + (front.len() - store.len() as usize / 8);
+        if rest.len() <= 8 || taken != Taken::More {
             return (given, taken);
         }
         rest = &rest[8..];

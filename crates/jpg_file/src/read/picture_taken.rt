@@ -19,12 +19,12 @@ pub fn picture_of(file: &mut FileWork) -> Picture
     requires { (limits : Limits) × LeavesPicture limits file.old }
     ensures { RevealsFile file.old result }
 {
-    let held = &mut file.reading.items.held;
+    let held = &mut file.items.held;
     let Some(frame) = held.frame.take() else {
         unreachable!();
     };
     frame.checked();
-    let Some(coefs) = file.reading.coefs.take() else {
+    let Some(coefs) = file.coefs.take() else {
         unreachable!();
     };
     let kept = mem::replace(&mut held.kept, KeptList::new(file.alloc));

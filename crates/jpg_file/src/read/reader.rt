@@ -6,11 +6,9 @@ ghost use Rattle.jpg_spec.specs.declared.frame.Copying.TheVariants.{All, None as
 ghost use Rattle.jpg_base.specs.declared.stop.Stop.{Stop as Stopped};
 ghost use Rattle.jpg_file.specs.Read.File.{keeping_of};
 ghost use Rattle.jpg_file.specs.Read.PictureRead.{TakesEarly, TakesPicture};
-ghost use Rattle.jpg_file.specs.Read.ReadFile.{AfterEnd, AsksOnFeed, EndsDone, EndsWith, FeedsFile, HasRead, TellsBegun, head_seen};
-ghost use Rattle.jpg_file.specs.Read.ReadRows.{AsksOnFeedKeeping, AsksOnFeedRow, FeedsKeeping, IsPlain, ReadsOne, EndsDoneRow, EndsRow, FeedsRow, HasBegunRows, HasGivenRow, HasReadPlainly, HasReadRows, picture_read};
-ghost use Rattle.jpg_file.specs.Read.RowsKnown.{TellsStrip};
-ghost use Rattle.jpg_file.specs.Read.ScanPieces.{AsksOnFeedScan, EndsDoneScan, FeedsScan};
-ghost use Rattle.jpg_file.specs.Read.ScansEnded.{ScansEnded};
+ghost use Rattle.jpg_file.specs.Read.ReadFile.{AfterEnd, AsksOnFeed, EndsDone, EndsWith, FeedsFile, HasRead, TellsBegun, head_seen, AsksOnFeedKeeping, AsksOnFeedRow, FeedsKeeping, IsPlain, ReadsOne, EndsDoneRow, EndsRow, FeedsRow, HasBegunRows, HasGivenRow, HasReadPlainly, HasReadRows, picture_read};
+ghost use Rattle.jpg_file.specs.Read.Strips.{TellsStrip};
+ghost use Rattle.jpg_file.specs.Read.ScanPieces.{AsksOnFeedScan, EndsDoneScan, FeedsScan, ScansEnded};
 ghost use Rattle.jpg_file.specs.declared.read.ends.End.TheVariants as ends;
 
 use crate::read::ends::End;
@@ -18,7 +16,7 @@ use crate::read::file::FileWork;
 use crate::read::orders::Orders;
 use crate::read::picture::Picture;
 use crate::read::picture_taken::picture_of;
-use crate::read::pieces::{FedRow, FedScan, read_rows, read_scan};
+use crate::read::pieces::{FedRow, FedScan, read_piece};
 use crate::read::rows::RowWork;
 use crate::read::strip_head::StripHead;
 use crate::read::strip_work::StripWork;
@@ -48,7 +46,7 @@ pub struct Reader {
 
 impl Model for Reader {
     ghost use Rattle.jpg_file.specs.Read.ReadFile.{ReaderState};
-    ghost use Rattle.jpg_file.specs.Read.ReadRows.{IsReading};
+    ghost use Rattle.jpg_file.specs.Read.ReadFile.{IsReading};
 
     ghost Value = { ReaderState };
 
@@ -112,18 +110,9 @@ impl Reader {
         ensures keeping { keeping_of result.file ≡ NoMarkers }
         ensures by_row { result.by_row ≡ true }
     {
-        Reader {
-            limits,
-            work: StripWork {
-                file: FileWork::new(alloc, limits, Copying::None, Orders::by_rows()),
-                by_row: true,
-                rows: None,
-                strip: None,
-            },
-            by_row: true,
-            done: false,
-            stop: None,
-        }
+        let mut reader = Reader::strips_keeping(alloc, limits, Copying::None);
+        reader.by_row = true;
+        reader
     }
 
     /// A reader for `feed_keeping` in place of `feed`. Of the markers it keeps only those that this passes on, and JFIF and
@@ -135,18 +124,9 @@ impl Reader {
         ensures keeping { keeping_of result.file ≡ copying }
         ensures in_rows { result.in_rows ≡ true }
     {
-        Reader {
-            limits,
-            work: StripWork {
-                file: FileWork::new(alloc, limits, copying, Orders::by_rows()),
-                by_row: true,
-                rows: None,
-                strip: None,
-            },
-            by_row: false,
-            done: false,
-            stop: None,
-        }
+        let mut reader = Reader::in_order(alloc, limits, copying, Orders::by_rows());
+        reader.work.by_row = true;
+        reader
     }
 
     /// Takes a further piece of the file, of any length. Returns Done if the file is complete then, and how many bytes
@@ -165,7 +145,7 @@ impl Reader {
         ensures keeping { keeping_of self.new.file ≡ keeping_of self.old.file }
         ensures plain { IsPlain self.new }
     {
-        match self.read(piece) {
+        match self.read(piece, false) {
             Ok(FedRow::More) => Ok(Fed::More),
             Ok(FedRow::Row { .. }) => unreachable!(),
             Ok(FedRow::Done { used }) => Ok(Fed::Done { used }),
@@ -187,17 +167,12 @@ impl Reader {
         ensures keeping { keeping_of self.new.file ≡ keeping_of self.old.file }
         ensures plain { IsPlain self.new }
     {
-        if let Some(stop) = self.stop {
-            return Err(stop);
+        match self.read(piece, true) {
+            Ok(FedRow::More) => Ok(FedScan::More),
+            Ok(FedRow::Row { used }) => Ok(FedScan::Scan { used }),
+            Ok(FedRow::Done { used }) => Ok(FedScan::Done { used }),
+            Err(stop) => Err(stop),
         }
-        let answer = read_scan(&mut self.work, self.limits, piece);
-        match answer {
-            Ok(FedScan::More) => {}
-            Ok(FedScan::Scan { .. }) => {}
-            Ok(FedScan::Done { .. }) => self.done = true,
-            Err(stop) => self.stop = Some(stop),
-        }
-        answer
     }
 
     /// How many scans' data have ended, each by the marker after them.
@@ -224,7 +199,7 @@ impl Reader {
         ensures keeping { keeping_of self.new.file ≡ keeping_of self.old.file }
         ensures by_row { self.new.by_row ≡ true }
     {
-        self.read(piece)
+        self.read(piece, false)
     }
 
     /// As `feed_row`, of a reader of `strips_keeping`. It returns NoMemory also after rows began, where a marker is to be
@@ -241,13 +216,15 @@ impl Reader {
         ensures keeping { keeping_of self.new.file ≡ keeping_of self.old.file }
         ensures in_rows { self.new.in_rows ≡ true }
     {
-        self.read(piece)
+        self.read(piece, false)
     }
 
-    // Takes a further piece, up to the byte with the last bit of the next MCU row, if MCU rows are read.
-    fn read(&mut self, piece: &[u8]) -> Result<FedRow, Stop>
-        requires { self.old.done ≡ false }
-        ensures read { ReadsOne self.old piece.now result self.new }
+    // Takes a further piece, up to the byte with the last bit of the next MCU row, if MCU rows are read; or with `scans`
+    // up to the next end of a scan's data, which is Row then.
+    fn read(&mut self, piece: &[u8], scans: bool) -> Result<FedRow, Stop>
+        requires undone { self.old.done ≡ false }
+        requires plain { scans ≡ true → IsPlain self.old }
+        ensures read { ReadsOne scans self.old piece.now result self.new }
         ensures plain { IsPlain self.old → IsPlain self.new }
         ensures done { EndsDoneRow result self.new }
         ensures stopped { (stop : Stopped) → result ≡ Err stop → self.new.stop ≡ Some stop }
@@ -260,25 +237,19 @@ impl Reader {
         if let Some(stop) = self.stop {
             return Err(stop);
         }
-        let answer = read_rows(&mut self.work, self.limits, piece);
-        match answer {
-            Ok(FedRow::More) => {}
-            Ok(FedRow::Row { .. }) => {}
-            Ok(FedRow::Done { .. }) => self.done = true,
-            Err(stop) => self.stop = Some(stop),
-        }
+        let answer = read_piece(&mut self.work, self.limits, piece, scans);
+        self.done = matches!(answer, Ok(FedRow::Done { .. }));
+        self.stop = answer.err();
         answer
     }
 
     /// How many bytes more may be taken: the limit minus those that were taken.
-    #[tactic(auto, using(crate::proofs::Files::PieceSteps::counted))]
+    #[tactic(auto, using(crate::proofs::Files::FileSteps::counted))]
     pub fn room(&self) -> u64
-        ensures is { result ≡ self.now.limits.input - self.now.file.reading.taken }
+        ensures is { result ≡ self.now.limits.input - self.now.file.taken }
         ensures left { (bytes : List ℕ) → HasRead bytes self.now → result + length bytes ≡ self.now.limits.input }
     {
-        self.limits
-            .input
-            .saturating_sub(self.work.file.reading.taken)
+        self.limits.input.saturating_sub(self.work.file.taken)
     }
 
     /// Whether the file is complete or ended early, so that neither `feed` nor `end` may be called any more.
@@ -318,7 +289,7 @@ impl Reader {
         if let Some(stop) = self.stop {
             return End::Stop(stop);
         }
-        let taken = self.work.file.reading.taken;
+        let taken = self.work.file.taken;
         if self.work.file.begun.is_complete() {
             self.done = true;
             return End::Early(taken);
@@ -333,10 +304,8 @@ impl Reader {
     pub fn head(&self) -> Option<(Frame, Colour, u64)>
         ensures { result ≡ head_seen self.now }
     {
-        match &self.work.file.head {
-            Some(head) => Some((head.frame.copy(), head.colour, head.at)),
-            None => None,
-        }
+        let head = self.work.file.head.as_ref()?;
+        Some((head.frame.copy(), head.colour, head.at))
     }
 
     /// The picture except for its blocks, once its first scan began and is read MCU row by MCU row.
@@ -344,13 +313,8 @@ impl Reader {
         ensures some { (bytes : List ℕ) (b : HasBegunRows bytes self.now) → TellsStrip result (frame_of self.now.limits b.before) (picture_read bytes self.now b) }
         ensures none { self.now.rows ≡ None → result ≡ None }
     {
-        if self.work.rows.is_none() {
-            return None;
-        }
-        match &self.work.strip {
-            Some(strip) => Some(strip.copy()),
-            None => None,
-        }
+        self.work.rows.as_ref()?;
+        Some(self.work.strip.as_ref()?.copy())
     }
 
     /// The blocks of the complete MCU row, after `feed_row` returned Row. If `end` returned Early and MCU rows are
@@ -388,7 +352,7 @@ impl Reader {
     /// NoMemory for further pieces.
     pub fn take_kept(&mut self) -> KeptList
         requires { self.old.done ≡ true }
-        ensures kept { result ≡ self.old.file.reading.items.held.kept }
+        ensures kept { result ≡ self.old.file.items.held.kept }
         ensures over { (self.new.done ≡ false) × (self.new.stop ≡ Some Stopped.NoMemory) }
         ensures limits { self.new.limits ≡ self.old.limits }
     {
@@ -397,9 +361,6 @@ impl Reader {
         self.by_row = false;
         self.work.by_row = false;
         let alloc = self.work.file.alloc;
-        mem::replace(
-            &mut self.work.file.reading.items.held.kept,
-            KeptList::new(alloc),
-        )
+        mem::replace(&mut self.work.file.items.held.kept, KeptList::new(alloc))
     }
 }

@@ -1,13 +1,12 @@
 //! The current MCU row of a scan of all components (T.81, A.2.3).
-ghost use Rattle.std.specs.Prelude.{◌≡◌, ◌<◌, ◌≤◌, ◌+◌, IfOk, ℕ, List, [], length, drop};
-ghost use Rattle.jpg_spec.specs.Bits.{bits_of};
+ghost use Rattle.std.specs.Prelude.{◌≡◌, ◌<◌, ◌≤◌, ◌+◌, IfOk, ℕ, List, [], length};
 ghost use Rattle.jpg_spec.specs.Geometry.{Frame as Numbers, units};
 ghost use Rattle.jpg_spec.specs.Segments.{head_components};
 ghost use Rattle.jpg_base.specs.Cursor.{AreIn, scan_mcus_down};
-ghost use Rattle.jpg_seq.specs.Rows.{IsRowOf, top_of};
-ghost use Rattle.jpg_file.specs.Read.Data.{waits_of};
-ghost use Rattle.jpg_file.specs.Read.RowStored.{row_stored};
-ghost use Rattle.jpg_file.specs.Read.RowTurns.{IsRowIn, KeepsRowIn, TurnsRow, block_rows_of, unfinished, zero_picture};
+ghost use Rattle.jpg_seq.specs.Reader.{IsRowOf, top_of};
+ghost use Rattle.jpg_file.specs.Read.Machine.{waits_of, CanTake, TakesBitsInto};
+ghost use Rattle.jpg_file.specs.Read.Strips.{PassesRowBits, row_stored};
+ghost use Rattle.jpg_file.specs.Read.InData.{IsRowIn, KeepsRowIn, TurnsRow, block_rows_of, unfinished, zero_picture};
 
 use crate::read::blocks::ScanBlocks;
 use crate::read::machine::ScanReader;
@@ -115,22 +114,26 @@ impl RowWork {
         self.left = self.units;
         self.later -= 1;
     }
-}
 
-impl ScanBlocks for RowWork {
-    ghost kind = { row_stored };
-
-    fn take(&mut self, machine: &mut ScanReader, store: BitStore) -> Taken {
+    /// Gives the machine bits up to the last one of the units of this MCU row. Those after it wait.
+    pub fn take_bits(&mut self, machine: &mut ScanReader, mut store: BitStore) -> Taken
+        requires { CanTake _ row_stored self.old machine.old }
+        ensures takes { TakesBitsInto row_stored self.old machine.old store result self.new machine.new }
+        ensures more { PassesRowBits self.old machine.old store result self.new machine.new }
+    {
         let ScanReader::Sequential(machine) = machine else {
             unreachable!();
         };
-        let mut store = store;
         let before = machine.units_left();
         let taken = machine.bits_from(&mut store, &mut self.coefs, &self.tops, self.left);
         self.left -= before - machine.units_left();
         self.waiting = waiting_of(taken, store);
         taken
     }
+}
+
+impl ScanBlocks for RowWork {
+    ghost kind = { row_stored };
 
     fn take_bytes(&mut self, machine: &mut ScanReader, bytes: &[u8]) -> (usize, Taken) {
         let ScanReader::Sequential(machine) = machine else {
@@ -140,7 +143,9 @@ impl ScanBlocks for RowWork {
         let got = machine.bytes(bytes, &mut self.coefs, &self.tops, self.left);
         self.left -= before - machine.units_left();
         let given = got.bits.div_ceil(8) as usize;
-        let last = last_bits(bytes[given - 1], got.bits - 8 * (given as u64 - 1));
+        let mut last = BitStore::new();
+        last.push(bytes[given - 1]);
+        last.skip((got.bits - 8 * (given as u64 - 1)) as u8);
         self.waiting = waiting_of(got.taken, last);
         (given, got.taken)
     }
@@ -151,20 +156,7 @@ fn waiting_of(taken: Taken, rest: BitStore) -> BitStore
     ensures { result ≡ waits_of taken rest }
 {
     match taken {
-        Taken::More => BitStore::new(),
         Taken::Units => rest,
-        Taken::IntervalDone => BitStore::new(),
-        Taken::Fault(_) => BitStore::new(),
+        _ => BitStore::new(),
     }
-}
-
-// The bits of a byte after the first `n`.
-fn last_bits(byte: u8, n: u64) -> BitStore
-    requires { n ≤ 8 }
-    ensures { result ≡ drop n (bits_of 8 byte) }
-{
-    let mut store = BitStore::new();
-    store.push(byte);
-    store.skip(n as u8);
-    store
 }

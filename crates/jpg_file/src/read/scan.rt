@@ -4,23 +4,22 @@ ghost use Rattle.jpg_spec.specs.ScanReading.{ScanPlace};
 ghost use Rattle.jpg_spec.specs.declared.frame.Limits.{Limits};
 ghost use Rattle.jpg_coefs.specs.Machine.{fault_of};
 ghost use Rattle.jpg_coefs.specs.Picture.{Picture};
-ghost use Rattle.jpg_file.specs.Read.InData.{ArePlain, AtWork, MarkerAt, NextBegins, TakesCode, byte_answer, scan_answer, work_after};
-ghost use Rattle.jpg_file.specs.Read.RowData.{IsDataOf, IsHalfRow, PassesByte, PassesRest, PassesRun, TakesByteInto, TakesRestInRow, TakesRunInto};
-ghost use Rattle.jpg_file.specs.Read.RowStored.{row_stored};
-ghost use Rattle.jpg_file.specs.Read.RowPlaces.{scan_left};
+ghost use Rattle.jpg_file.specs.Read.InData.{ArePlain, MarkerAt, TakesCode, scan_answer, work_after, scan_left, IsDataOf, IsHalfRow, PassesByte, PassesRun, TakesByteInto, TakesRestInRow, TakesRunInto};
+ghost use Rattle.jpg_file.specs.Read.Strips.{PassesRest};
 
 use crate::read::blocks::ScanBlocks;
 use crate::read::machine::ScanReader;
 use crate::read::rows::RowWork;
-use jpg_base::BitStore;
 use jpg_base::codes::RST0;
-use jpg_coefs::{ScanMachine, Taken, UnitFault};
+use jpg_coefs::{Taken, UnitFault};
 use jpg_huff::{Gate, Passed};
 use jpg_spec::Fault;
 
 /// The current scan (T.81, E.1.4).
 #[derive(Drop)]
-pub struct ScanWork {
+pub struct InScan {
+    /// Whether FF bytes wait.
+    pub gate: Gate,
     /// What reads its units.
     pub machine: ScanReader,
     /// The current interval is complete.
@@ -33,15 +32,8 @@ pub struct ScanWork {
     pub turn: u8,
 }
 
-/// The current scan, and whether FF bytes wait.
-#[derive(Drop)]
-pub struct InScan {
-    pub gate: Gate,
-    pub work: ScanWork,
-}
-
-/// The fault of a file for the fault of a unit.
-pub fn named(fault: UnitFault) -> Fault
+// The fault of a file for the fault of a unit.
+fn named(fault: UnitFault) -> Fault
     ensures { result ≡ fault_of fault }
 {
     match fault {
@@ -53,57 +45,46 @@ pub fn named(fault: UnitFault) -> Fault
     }
 }
 
-/// The result of a byte, by that of its data.
-pub fn data_answer(answer: Result<(), Fault>) -> Result<bool, Fault>
-    ensures { result ≡ byte_answer answer }
-{
-    match answer {
-        Ok(()) => Ok(false),
-        Err(fault) => Err(fault),
-    }
-}
-
 impl InScan {
     /// Takes a byte of the file, after those of the scan so far. Returns whether the data are over: then it is the code
     /// of the marker that ended them, and all intervals are complete.
+    #[tactic(auto, using(crate::proofs::Scans::ScanBytes::never_over))]
     pub fn byte<B: ScanBlocks>(&mut self, blocks: &mut B, byte: u8) -> Result<bool, Fault>
         requires inside { IsDataOf _ B.kind self.old blocks.old }
         requires none { B.kind.waiting blocks.old ≡ [] }
         ensures takes { TakesByteInto B.kind self.old blocks.old byte result self.new blocks.new }
         ensures passes { PassesByte B.kind self.old blocks.old byte result self.new blocks.new }
         ensures waited { result ≡ Ok true → self.old.gate ≡ true }
-        ensures done { result ≡ Ok true → scan_left self.new.work ≡ 0 }
+        ensures done { result ≡ Ok true → scan_left self.new ≡ 0 }
     {
         match self.gate.byte(byte) {
             Passed::More => Ok(false),
             Passed::Data(data) => {
-                if self.work.whole {
+                if self.whole {
                     return Err(Fault::ExtraData);
                 }
-                let mut store = BitStore::new();
-                store.push(data);
-                let taken = blocks.take(&mut self.work.machine, store);
-                data_answer(self.work.stepped(taken))
+                let (_, taken) = blocks.take_bytes(&mut self.machine, &[data]);
+                self.stepped(taken)
             }
-            Passed::Marker(code) => self.work.marker(code),
+            Passed::Marker(code) => self.marker(code),
         }
     }
 
     /// Whether plain bytes may be taken together: no FF waits, and units are left.
     pub fn is_open(&self) -> bool
-        ensures is { result ≡ (not self.now.gate && not self.now.work.whole) }
+        ensures is { result ≡ (not self.now.gate && not self.now.whole) }
         ensures gate { result ≡ true → self.now.gate ≡ false }
-        ensures due { result ≡ true → self.now.work.whole ≡ false }
+        ensures due { result ≡ true → self.now.whole ≡ false }
     {
-        !self.gate.is_waiting() && !self.work.whole
+        !self.gate.is_waiting() && !self.whole
     }
 
     /// Takes plain bytes from the start of a run, at most up to the byte that ends the interval, reveals a fault or has
-    /// bits that wait. Returns how many were taken, and the result.
-    pub fn run<B: ScanBlocks>(&mut self, blocks: &mut B, run: &[u8]) -> (usize, Result<(), Fault>)
+    /// bits that wait. Returns how many were taken, and the result, as of a byte that is no marker's.
+    pub fn run<B: ScanBlocks>(&mut self, blocks: &mut B, run: &[u8]) -> (usize, Result<bool, Fault>)
         requires inside { IsDataOf _ B.kind self.old blocks.old }
         requires gate { self.old.gate ≡ false }
-        requires due { self.old.work.whole ≡ false }
+        requires due { self.old.whole ≡ false }
         requires some { 1 ≤ length run.now }
         requires few { length run.now < 4294967296 }
         requires plain { ArePlain run.now }
@@ -111,72 +92,61 @@ impl InScan {
         ensures within { result.0 ≤ length run.now }
         ensures passes { PassesRun B.kind self.old blocks.old run.now result.0 result.1 self.new blocks.new }
     {
-        let (n, taken) = blocks.take_bytes(&mut self.work.machine, run);
-        (n, self.work.stepped(taken))
+        let (n, taken) = blocks.take_bytes(&mut self.machine, run);
+        (n, self.stepped(taken))
     }
 
     /// Takes the bits that wait after the last MCU row.
-    pub fn rest_in_row(&mut self, rows: &mut RowWork) -> Result<(), Fault>
+    pub fn rest_in_row(&mut self, rows: &mut RowWork) -> Result<bool, Fault>
         requires { IsHalfRow self.old rows.old }
         ensures takes { TakesRestInRow self.old rows.old result self.new rows.new }
-        ensures passes { PassesRest row_stored self.old rows.old result self.new rows.new }
+        ensures passes { PassesRest self.old rows.old result self.new rows.new }
         ensures gate { self.new.gate ≡ self.old.gate }
     {
         let store = rows.waiting.copy();
-        let taken = rows.take(&mut self.work.machine, store);
-        self.work.stepped(taken)
+        let taken = rows.take_bits(&mut self.machine, store);
+        self.stepped(taken)
     }
-}
 
-impl ScanWork {
-    /// Notes the machine's result of data.
-    pub fn stepped(&mut self, taken: Taken) -> Result<(), Fault>
-        requires { self.old.whole ≡ false }
+    // Notes the machine's result of data, after which they aren't over.
+    fn stepped(&mut self, taken: Taken) -> Result<bool, Fault>
+        requires gate { self.old.gate ≡ false }
+        requires due { self.old.whole ≡ false }
         ensures answer { result ≡ scan_answer taken }
         ensures work { self.new ≡ work_after self.old self.old.machine taken }
     {
         match taken {
-            Taken::More => Ok(()),
-            Taken::Units => Ok(()),
-            Taken::IntervalDone => {
-                self.whole = true;
-                Ok(())
-            }
-            Taken::Fault(fault) => Err(named(fault)),
+            Taken::More | Taken::Units => {}
+            Taken::IntervalDone => self.whole = true,
+            Taken::Fault(fault) => return Err(named(fault)),
         }
+        Ok(false)
     }
 
-    /// Takes a marker's code: the RST that is next begins the next interval, any other ends the data (T.81, E.1.4).
-    /// Returns whether the data are over.
-    pub fn marker(&mut self, code: u8) -> Result<bool, Fault>
+    // Takes a marker's code: the RST that is next begins the next interval, any other ends the data (T.81, E.1.4).
+    // Returns whether the data are over.
+    fn marker(&mut self, code: u8) -> Result<bool, Fault>
         requires { (limits : Limits) × (p : ScanPlace) × (bytes : List ℕ) × (now : Picture) × MarkerAt limits bytes p code self.old now }
         ensures takes { (now : Picture) → TakesCode self.old now code result self.new }
+        ensures gate { self.new.gate ≡ self.old.gate }
         ensures left { scan_left self.new ≡ scan_left self.old }
         ensures done { result ≡ Ok true → scan_left self.new ≡ 0 }
         ensures wrong { (fault : Fault) → result ≡ Err fault → self.old.whole ≡ true → code ≡ 0xd0 + self.old.turn → ⊥ }
     {
         if !self.whole {
-            Err(Fault::EntropyShort)
-        } else if self.due == 0 {
-            Ok(true)
-        } else if code != RST0 + self.turn {
-            Err(Fault::RestartWrong)
-        } else {
-            self.next_interval();
-            Ok(false)
+            return Err(Fault::EntropyShort);
         }
-    }
-
-    // Begins the next interval.
-    fn next_interval(&mut self)
-        requires open { (limits : Limits) × (p : ScanPlace) × (bytes : List ℕ) × (now : Picture) × NextBegins limits bytes p self.old now }
-        ensures begun { (limits : Limits) (p : ScanPlace) (bytes : List ℕ) (now : Picture) → NextBegins limits bytes p self.old now → AtWork limits p self.new now }
-        ensures left { scan_left self.new ≡ scan_left self.old }
-    {
+        if self.due == 0 {
+            return Ok(true);
+        }
+        if code != RST0 + self.turn {
+            return Err(Fault::RestartWrong);
+        }
         let units = self.interval.min(self.due);
         self.machine.restart(units);
         self.whole = false;
         self.due -= units;
         self.turn = (self.turn + 1) % 8;
+        Ok(false)
     }
 }

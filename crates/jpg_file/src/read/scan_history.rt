@@ -5,7 +5,7 @@ ghost use Rattle.jpg_spec.specs.InForce.{first_some};
 ghost use Rattle.jpg_spec.specs.Lists.{all_of};
 ghost use Rattle.jpg_spec.specs.QuantContents.{quant_in};
 ghost use Rattle.jpg_spec.specs.Segments.{ScanHead as Header};
-ghost use Rattle.jpg_file.specs.Read.ScanHistory.{IsComplete, RepresentsHeads, is_same_kept, quant_if, quant_named};
+ghost use Rattle.jpg_file.specs.Read.SegmentState.{AddsScan, IsComplete, RepresentsHeads, is_same_kept, quant_if, quant_named};
 
 use jpg_base::{Frame, QuantTable, ScanHead};
 use jpg_markers::QuantSet;
@@ -47,24 +47,16 @@ impl ScanHistory {
         }
     }
 
-    /// Counts a scan whose header ends with byte number `at` of the file. There were fewer scans than bytes, so that the
-    /// count has room.
-    pub fn count(&mut self, at: u64)
-        requires { self.old.scans < at }
-        ensures count { self.new.scans ≡ self.old.scans + 1 }
-        ensures progress { self.new.progress ≡ self.old.progress }
-        ensures quants { self.new.quants ≡ self.old.quants }
+    /// Takes a scan of a frame that has no such fault, with the tables in force. Its header ends with byte number `at` of
+    /// the file; there were fewer scans than bytes, so that the count has room.
+    pub fn note(&mut self, frame: &Frame, head: &ScanHead, quants: &QuantSet, at: u64)
+        requires known { All (λ p. p.component < length frame.now.components) head.now.parts }
+        requires small { All (λ p. p.component < 4) head.now.parts }
+        requires room { self.old.scans < at }
+        ensures { AddsScan frame.now quants.now self.old self.new head.now }
     {
         self.scans += 1;
-    }
-
-    /// Takes a scan of a frame that has no such fault.
-    pub fn note(&mut self, frame: &Frame, head: &ScanHead)
-        requires { All (λ p. p.component < 4) head.now.parts }
-        ensures count { self.new.scans ≡ self.old.scans }
-        ensures scans { (heads : List Header) → RepresentsHeads self.old.progress frame.now heads → RepresentsHeads self.new.progress frame.now (head.now ∷ heads) }
-        ensures quants { self.new.quants ≡ self.old.quants }
-    {
+        keep_quants(&mut self.quants, head.parts.as_slice(), frame, quants);
         match &mut self.progress {
             Some(progress) => progress.note(head),
             None => {
@@ -105,36 +97,6 @@ impl ScanHistory {
         }
     }
 
-    /// Keeps the tables in force for these, if none is kept yet.
-    pub fn note_quants(&mut self, parts: &[ScanPart], frame: &Frame, quants: &QuantSet)
-        requires { All (λ p. p.component < length frame.now.components) parts.now }
-        ensures count { self.new.scans ≡ self.old.scans }
-        ensures progress { self.new.progress ≡ self.old.progress }
-        ensures quants { (i : ℕ) → quant_in self.new.quants i ≡ first_some (quant_in self.old.quants i) (quant_named frame.now quants.now parts.now i) }
-    {
-        let mut rest = parts;
-        while let [part, tail @ ..] = rest {
-            self.note_quant(part.component, frame, quants);
-            rest = tail;
-        }
-    }
-
-    // Keeps the table in force for this one, if none is kept yet.
-    fn note_quant(&mut self, component: u8, frame: &Frame, quants: &QuantSet)
-        requires { component < length frame.now.components }
-        ensures count { self.new.scans ≡ self.old.scans }
-        ensures progress { self.new.progress ≡ self.old.progress }
-        ensures quants { (i : ℕ) → quant_in self.new.quants i ≡ first_some (quant_in self.old.quants i) (quant_if frame.now quants.now (component == i) i) }
-    {
-        frame.checked();
-        if self.quants[component as usize].is_some() {
-            return;
-        }
-        if let Some(table) = quants.get(frame.component(component).quant) {
-            self.quants[component as usize] = Some(*table);
-        }
-    }
-
     /// Whether each component of the frame was in a scan.
     pub fn is_complete(&self) -> bool
         ensures { IsComplete self.now.progress result }
@@ -143,5 +105,36 @@ impl ScanHistory {
             Some(progress) => progress.is_complete(),
             None => false,
         }
+    }
+}
+
+// Keeps the tables in force for these, if none is kept yet.
+fn keep_quants(
+    kept: &mut [Option<QuantTable>; 4],
+    parts: &[ScanPart],
+    frame: &Frame,
+    quants: &QuantSet,
+)
+    requires { All (λ p. p.component < length frame.now.components) parts.now }
+    ensures { (i : ℕ) → quant_in kept.new i ≡ first_some (quant_in kept.old i) (quant_named frame.now quants.now parts.now i) }
+{
+    let mut rest = parts;
+    while let [part, tail @ ..] = rest {
+        keep_quant(kept, part.component, frame, quants);
+        rest = tail;
+    }
+}
+
+// Keeps the table in force for this one, if none is kept yet.
+fn keep_quant(kept: &mut [Option<QuantTable>; 4], component: u8, frame: &Frame, quants: &QuantSet)
+    requires { component < length frame.now.components }
+    ensures { (i : ℕ) → quant_in kept.new i ≡ first_some (quant_in kept.old i) (quant_if frame.now quants.now (component == i) i) }
+{
+    frame.checked();
+    if kept[component as usize].is_some() {
+        return;
+    }
+    if let Some(table) = quants.get(frame.component(component).quant) {
+        kept[component as usize] = Some(*table);
     }
 }

@@ -7,16 +7,14 @@ ghost use Rattle.jpg_prog_read.specs.DcNew.{IsBare as IsBareFirst, IsDcHead};
 ghost use Rattle.jpg_prog_read.specs.declared.dc_first.DcFirst.{DcFirst as First};
 ghost use Rattle.jpg_file.specs.declared.read.machine.ScanReader.TheVariants.{DcFirst as FirstPass};
 ghost use Rattle.jpg_file.specs.Read.ScanStart.{CanBegin, HasSizes, IsBareIn, IsBegun, before_data};
-ghost use Rattle.jpg_file.specs.Read.NewScan.{IsScanHeader};
-ghost use Rattle.jpg_file.specs.Read.SegmentState.{segments_view};
-ghost use Rattle.jpg_file.specs.Read.JudgedHeader.{JudgesHead};
+ghost use Rattle.jpg_file.specs.Read.Machine.{IsScanHeader};
+ghost use Rattle.jpg_file.specs.Read.SegmentState.{segments_view, JudgesHead};
 
 use crate::read::machine::ScanReader;
-use crate::read::scan::{InScan, ScanWork};
+use crate::read::scan::InScan;
 use crate::read::scan_history::ScanHistory;
 use crate::read::segment_state::{SegmentState, lacks_table};
 use jpg_base::{Frame, ScanHead};
-use jpg_coefs::ScanMachine;
 use jpg_huff::{Gate, TableSet};
 use jpg_markers::{accepted_heads_are_of_their_frames, read_sos};
 use jpg_prog_read::{AcReader, DcFirst, DcRefine};
@@ -40,39 +38,27 @@ pub fn begin_data(
     let all = frame.scan_units(head);
     let units = u64::from(interval) * u64::from(frame.mcu_units(head));
     let first = first_units(units, all);
-    let intervals = Intervals {
-        each: units,
-        due: all - first,
-    };
-    put_bare(place, frame, head, tables, intervals);
+    put_bare(place, frame, head, tables, units, all - first);
     let Some(scan) = place else {
         unreachable!();
     };
-    scan.work.machine.put_tables(frame, head, tables);
-    scan.work.machine.restart(first);
+    scan.machine.put_tables(frame, head, tables);
+    scan.machine.restart(first);
 }
 
-// The intervals of a scan: how many units each has (0: all units of the scan), and how many units come after the first one.
-#[derive(Clone, Copy)]
-struct Intervals {
-    each: u64,
-    due: u64,
-}
-
-// Puts the scan of this machine into the place.
+// Puts the scan of this machine into the place. Its intervals have `each` units (0: all units of the scan), and `due`
+// come after the first one.
 #[inline(always)]
-fn put_scan(place: &mut Option<InScan>, machine: ScanReader, intervals: Intervals)
-    ensures { place.new ≡ Some (before_data machine intervals.each intervals.due) }
+fn put_scan(place: &mut Option<InScan>, machine: ScanReader, each: u64, due: u64)
+    ensures { place.new ≡ Some (before_data machine each due) }
 {
     *place = Some(InScan {
         gate: Gate::new(),
-        work: ScanWork {
-            machine,
-            whole: false,
-            interval: intervals.each,
-            due: intervals.due,
-            turn: 0,
-        },
+        machine,
+        whole: false,
+        interval: each,
+        due,
+        turn: 0,
     });
 }
 
@@ -80,12 +66,12 @@ fn put_scan(place: &mut Option<InScan>, machine: ScanReader, intervals: Interval
 // that no scan needs the stack of another kind.
 #[cold]
 #[inline(never)]
-fn put_first(place: &mut Option<InScan>, frame: &Frame, head: &ScanHead, intervals: Intervals)
+fn put_first(place: &mut Option<InScan>, frame: &Frame, head: &ScanHead, each: u64, due: u64)
     requires { IsDcHead frame.now head.now }
-    ensures { (m : First) × (place.new ≡ Some (before_data (FirstPass m) intervals.each intervals.due)) × IsBareFirst frame.now head.now m }
+    ensures { (m : First) × (place.new ≡ Some (before_data (FirstPass m) each due)) × IsBareFirst frame.now head.now m }
 {
     let machine = DcFirst::bare(frame, head);
-    put_scan(place, ScanReader::DcFirst(machine), intervals);
+    put_scan(place, ScanReader::DcFirst(machine), each, due);
 }
 
 // Puts the scan of a band of AC into the place.
@@ -96,15 +82,16 @@ fn put_band(
     frame: &Frame,
     head: &ScanHead,
     tables: &TableSet,
-    intervals: Intervals,
+    each: u64,
+    due: u64,
 )
     requires header { IsScanHeader frame.now head.now tables.now }
     requires kind { is_progressive frame.now.process ≡ true }
     requires band { 0 < head.now.ss }
-    ensures { IsBareIn frame.now head.now tables.now intervals.each intervals.due place.new }
+    ensures { IsBareIn frame.now head.now tables.now each due place.new }
 {
     let machine = AcReader::new(frame, head, tables);
-    put_scan(place, ScanReader::Ac(machine), intervals);
+    put_scan(place, ScanReader::Ac(machine), each, due);
 }
 
 // Puts the scan without its tables into the place, by the kind of the scan.
@@ -115,21 +102,22 @@ fn put_bare(
     frame: &Frame,
     head: &ScanHead,
     tables: &TableSet,
-    intervals: Intervals,
+    each: u64,
+    due: u64,
 )
     requires { IsScanHeader frame.now head.now tables.now }
-    ensures { IsBareIn frame.now head.now tables.now intervals.each intervals.due place.new }
+    ensures { IsBareIn frame.now head.now tables.now each due place.new }
 {
     if !frame.is_progressive() {
         let machine = SeqReader::bare(frame, head);
-        put_scan(place, ScanReader::Sequential(machine), intervals);
+        put_scan(place, ScanReader::Sequential(machine), each, due);
     } else if head.ss > 0 {
-        put_band(place, frame, head, tables, intervals);
+        put_band(place, frame, head, tables, each, due);
     } else if head.ah > 0 {
         let machine = DcRefine::new(frame, head);
-        put_scan(place, ScanReader::DcRefine(machine), intervals);
+        put_scan(place, ScanReader::DcRefine(machine), each, due);
     } else {
-        put_first(place, frame, head, intervals);
+        put_first(place, frame, head, each, due);
     }
 }
 
@@ -156,10 +144,7 @@ pub fn judge_head(
 {
     accepted_heads_are_of_their_frames();
     frame.checked();
-    let head = match read_sos(contents, frame) {
-        Ok(head) => head,
-        Err(fault) => return Err(fault),
-    };
+    let head = read_sos(contents, frame)?;
     if let Some(fault) = begun.fault(frame, &head) {
         return Err(fault);
     }

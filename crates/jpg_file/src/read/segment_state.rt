@@ -3,8 +3,7 @@ ghost use Rattle.std.specs.Prelude.{◌≡◌, ◌≤◌, ◌==◌, ◌&&◌, �
 ghost use Rattle.jpg_spec.specs.FrameHeader.{AreLimits};
 ghost use Rattle.jpg_spec.specs.Markers.{Segment, process_of_code};
 ghost use Rattle.jpg_spec.specs.declared.frame.Limits.{Limits as Bounded};
-ghost use Rattle.jpg_file.specs.Read.Keeping.{is_wanted};
-ghost use Rattle.jpg_file.specs.Read.SegmentState.{ChangesNothing, Holds, HoldsSegment, IsToKeep, TakesSegment, lacks_any, lacks_part, segments_view};
+ghost use Rattle.jpg_file.specs.Read.SegmentState.{is_wanted, Holds, HoldsSegment, KeepsSegments, TakesSegment, lacks_any, lacks_part, segments_view};
 ghost use Rattle.jpg_markers.specs.Seen.{IsOther};
 
 use jpg_base::codes::{COM, DHT, DQT, DRI, SOF0, SOF1, SOF2};
@@ -80,11 +79,7 @@ impl SegmentState {
         requires other { code ≡ 0xda → ⊥ }
         requires short { length contents.now ≤ 65533 }
         ensures held { HoldsSegment (segments_view self.old) limits code contents.now result (segments_view self.new) }
-        ensures same { ChangesNothing (segments_view self.old) result (segments_view self.new) }
-        ensures memory { self.old.keeping ≡ Copying.None → self.old.scanned ≡ true → result ≡ SegmentTaken.NoMemory → ⊥ }
-        ensures asks { result ≡ SegmentTaken.NoMemory → IsToKeep self.old code contents.now }
-        ensures scanned { self.new.scanned ≡ self.old.scanned }
-        ensures keeping { self.new.keeping ≡ self.old.keeping }
+        ensures keeps { KeepsSegments self.old code contents.now result self.new }
     {
         match code {
             DHT => match read_dht(contents, &mut self.tables) {
@@ -119,10 +114,7 @@ impl SegmentState {
         requires limits { AreLimits limits }
         requires process { process_of_code code ≡ Some process }
         ensures held { (before : List Segment) → Holds limits (segments_view self.old) before → TakesSegment limits before code contents.now result (segments_view self.new) }
-        ensures same { ChangesNothing (segments_view self.old) result (segments_view self.new) }
-        ensures memory { result ≡ SegmentTaken.NoMemory → ⊥ }
-        ensures scanned { self.new.scanned ≡ self.old.scanned }
-        ensures keeping { self.new.keeping ≡ self.old.keeping }
+        ensures keeps { KeepsSegments self.old code contents.now result self.new }
     {
         match read_sof(process, contents, &limits) {
             Ok(frame) => {
@@ -138,11 +130,7 @@ impl SegmentState {
         requires other { IsOther code }
         requires short { length contents.now ≤ 65533 }
         ensures held { HoldsSegment (segments_view self.old) limits code contents.now result (segments_view self.new) }
-        ensures same { ChangesNothing (segments_view self.old) result (segments_view self.new) }
-        ensures memory { self.old.keeping ≡ Copying.None → self.old.scanned ≡ true → result ≡ SegmentTaken.NoMemory → ⊥ }
-        ensures asks { result ≡ SegmentTaken.NoMemory → IsToKeep self.old code contents.now }
-        ensures scanned { self.new.scanned ≡ self.old.scanned }
-        ensures keeping { self.new.keeping ≡ self.old.keeping }
+        ensures keeps { KeepsSegments self.old code contents.now result self.new }
     {
         if !is_kept(self.scanned, code, contents) {
             return SegmentTaken::Done;

@@ -2,8 +2,8 @@
 ghost use Rattle.std.specs.Prelude.{◌≡◌, List};
 ghost use Rattle.jpg_spec.specs.Markers.{Segment};
 ghost use Rattle.jpg_spec.specs.declared.frame.Limits.{Limits as Bounds};
-ghost use Rattle.jpg_file.specs.Read.RowsKnown.{HoldsScan, TellsScan};
-ghost use Rattle.jpg_file.specs.Read.StripHead.{IsStripHead};
+ghost use Rattle.jpg_file.specs.Read.Strips.{HoldsScan, TellsScan};
+ghost use Rattle.jpg_file.specs.Read.PictureKept.{IsStripHead};
 
 use crate::read::file::FileWork;
 use crate::read::first_header::colours;
@@ -65,7 +65,7 @@ pub fn strip_of(file: &FileWork) -> StripHead
     requires { (limits : Bounds) × (before : List Segment) × HoldsScan limits before file.now }
     ensures { TellsScan file.now result }
 {
-    let held = &file.reading.items.held;
+    let held = &file.items.held;
     let Some(frame) = &held.frame else {
         unreachable!();
     };

@@ -1,15 +1,11 @@
 //! The state of a file that is read MCU row by MCU row, if its first scan is a sequential one of all components (T.81,
 //! A.2.3, B.2.1).
-ghost use Rattle.std.specs.Prelude.{◌≡◌, ◌<◌, ◌≤◌, ℕ, List, None, length, is_some, true, false};
+ghost use Rattle.std.specs.Prelude.{◌≡◌, ◌<◌, ◌≤◌, ℕ, List, None, length, is_some, false};
 ghost use Rattle.jpg_spec.specs.FrameHeader.{AreLimits};
-ghost use Rattle.jpg_spec.specs.declared.frame.Copying.TheVariants as copying;
-ghost use Rattle.jpg_file.specs.Read.File.{HasCompleteHeader, RepresentsFile, TakesSome, keeping_of, limits_of};
-ghost use Rattle.jpg_file.specs.Read.PieceTaken.{TakesBytes, TakesFirst};
-ghost use Rattle.jpg_file.specs.Read.RowsKnown.{KnowsHead, KnowsSome};
-ghost use Rattle.jpg_file.specs.Read.RowsNone.{NoneHead, NoneSome};
-ghost use Rattle.jpg_file.specs.Read.RowFaults.{FaultsResumed};
-ghost use Rattle.jpg_file.specs.Read.Step.{IfStops, IsNoRow, HasMemory};
-ghost use Rattle.jpg_file.specs.Read.Strips.{CountsRowsOfScan, CountsStrip, GoesOnRest, SparesRows, StripGoes, RepresentsStrip, TakesFirstHead, TakesResumed, TakesStrip};
+ghost use Rattle.jpg_file.specs.Read.File.{HasCompleteHeader, keeping_of, limits_of};
+ghost use Rattle.jpg_file.specs.Read.ReadFile.{TakesBytes, TakesFirstHead, TakesOne};
+ghost use Rattle.jpg_file.specs.Read.Strips.{FaultsResumed, CountsStrip, GoesOnRest, SparesRows, StripGoes, RepresentsStrip, TakesResumed};
+ghost use Rattle.jpg_file.specs.Read.Step.{HasMemory};
 
 use crate::read::file::FileWork;
 use crate::read::items::ItemStep;
@@ -37,7 +33,7 @@ impl StripWork {
         requires { (bytes : List ℕ) × RepresentsStrip (limits_of self.old.file) bytes self.old.rows self.old.file }
         ensures after { TakesResumed self.old result self.new }
         ensures goes { GoesOnRest result }
-        ensures plain { is_some self.old.rows ≡ false → result ≡ Step.More }
+        ensures plain { is_some self.old.rows ≡ false → (result ≡ Step.More) × (self.new ≡ self.old) }
         ensures stays { is_some self.new.rows ≡ is_some self.old.rows }
         ensures rows { CountsStrip result self.old.rows self.new.rows }
         ensures memory { HasMemory result }
@@ -58,62 +54,32 @@ impl StripWork {
     pub fn some(&mut self, bytes: &[u8]) -> (usize, Step)
         requires stands { (front : List ℕ) × StripGoes (limits_of self.old.file) front self.old.rows self.old.file }
         requires limits { AreLimits (limits_of self.old.file) }
-        requires room { self.old.file.reading.taken < (limits_of self.old.file).input }
+        requires room { self.old.file.taken < (limits_of self.old.file).input }
         requires some { 1 ≤ length bytes.now }
         ensures { TakesBytes self.old bytes.now result.0 result.1 self.new }
     {
-        if self.rows.is_none() {
-            return self.plain(bytes);
+        let n = self.file.plain_length(bytes);
+        if n > 0 {
+            let run = &bytes[..n];
+            return match &mut self.rows {
+                None => self.file.run(run),
+                Some(rows) => self.file.run_in_row(rows, run),
+            };
         }
-        match &mut self.rows {
-            None => unreachable!(),
-            Some(rows) => self.file.take_in_row(rows, bytes),
-        }
+        let n = self.file.front(bytes);
+        (n + 1, self.byte(bytes[n]))
     }
 
-    // Takes one or more of these bytes, up to the first event, where there is no current MCU row.
-    fn plain(&mut self, bytes: &[u8]) -> (usize, Step)
-        requires stands { (front : List ℕ) × RepresentsFile (limits_of self.old.file) front self.old.file }
-        requires none { self.old.rows ≡ None }
+    // Takes a byte.
+    fn byte(&mut self, byte: u8) -> Step
+        requires stands { (front : List ℕ) × StripGoes (limits_of self.old.file) front self.old.rows self.old.file }
         requires limits { AreLimits (limits_of self.old.file) }
-        requires room { self.old.file.reading.taken < (limits_of self.old.file).input }
-        requires some { 1 ≤ length bytes.now }
-        ensures after { TakesStrip self.old bytes.now result.0 result.1 self.new }
-        ensures begins { CountsRowsOfScan self.new.rows self.new.file }
-        ensures known { KnowsSome self.old bytes.now result.0 self.new }
-        ensures some { self.old.by_row ≡ false → TakesSome self.old.file bytes.now result.0 result.1 self.new.file }
-        ensures no { IsNoRow result.1 }
-        ensures stops { IfStops result.1 (self.new.rows ≡ None) }
-        ensures sparing { keeping_of self.old.file ≡ copying.None → SparesRows self.new.rows self.new.file }
-        ensures keeping { keeping_of self.new.file ≡ keeping_of self.old.file }
-        ensures by_row { self.new.by_row ≡ self.old.by_row }
-        ensures plain { self.old.by_row ≡ false → self.new.rows ≡ None }
-        ensures none { self.old.by_row ≡ true → NoneSome self.old bytes.now result.0 result.1 self.new }
+        requires room { self.old.file.taken < (limits_of self.old.file).input }
+        ensures { TakesOne self.old byte result self.new }
     {
-        if self.awaits_rows() {
-            let n = self.file.front(bytes);
-            return (n + 1, self.first_byte(bytes[n]));
+        if let Some(rows) = &mut self.rows {
+            return self.file.byte_in_row(rows, byte);
         }
-        self.file.some(bytes)
-    }
-
-    // Whether MCU rows are to be read, and the first scan header isn't complete yet.
-    fn awaits_rows(&self) -> bool
-        ensures yes { result ≡ true → (self.now.by_row ≡ true) × (self.now.file.head ≡ None) }
-        ensures no { result ≡ false → self.now.by_row ≡ true → is_some self.now.file.head ≡ true }
-    {
-        self.by_row && self.file.head.is_none()
-    }
-
-    // Takes a byte before the first scan.
-    fn first_byte(&mut self, byte: u8) -> Step
-        requires stands { (bytes : List ℕ) × RepresentsFile (limits_of self.old.file) bytes self.old.file }
-        requires none { self.old.rows ≡ None }
-        requires first { self.old.file.head ≡ None }
-        requires limits { AreLimits (limits_of self.old.file) }
-        requires room { self.old.file.reading.taken < (limits_of self.old.file).input }
-        ensures { TakesFirst self.old byte result self.new }
-    {
         match self.file.step(byte) {
             ItemStep::More => Step::More,
             ItemStep::Head => self.take_head(),
@@ -123,22 +89,15 @@ impl StripWork {
         }
     }
 
-    // Takes the first scan header, which is complete.
+    // Takes a complete scan header, where there is no current MCU row.
     fn take_head(&mut self) -> Step
         requires stands { (bytes : List ℕ) × HasCompleteHeader (limits_of self.old.file) bytes self.old.file }
         requires none { self.old.rows ≡ None }
-        requires first { self.old.file.head ≡ None }
-        ensures after { TakesFirstHead self.old result self.new }
-        ensures begins { CountsRowsOfScan self.new.rows self.new.file }
-        ensures known { KnowsHead self.old self.new }
-        ensures no { IsNoRow result }
-        ensures stops { IfStops result (self.new.rows ≡ None) }
-        ensures sparing { keeping_of self.old.file ≡ copying.None → SparesRows self.new.rows self.new.file }
-        ensures head { IfStops result (self.new.file.head ≡ self.old.file.head) }
-        ensures keeping { keeping_of self.new.file ≡ keeping_of self.old.file }
-        ensures by_row { self.new.by_row ≡ self.old.by_row }
-        ensures none { NoneHead self.old result self.new }
+        ensures { TakesFirstHead self.old result self.new }
     {
+        if !self.by_row || self.file.head.is_some() {
+            return self.file.take_head();
+        }
         let Some((frame, head)) = self.file.head_of_all() else {
             return self.file.take_head();
         };

@@ -4,8 +4,7 @@ ghost use Rattle.jpg_spec.specs.FrameHeader.{identifiers};
 ghost use Rattle.jpg_spec.specs.Segments.{needs_ac, needs_dc};
 ghost use Rattle.jpg_spec_write.specs.FileText.{has_chroma, slot_for, tables_needed};
 ghost use Rattle.jpg_huff.specs.BitOut.{CanSend, Sends};
-ghost use Rattle.jpg_file.specs.Write.Restarts.{interval_text};
-ghost use Rattle.jpg_file.specs.Write.WriteScan.{IsHeadOf, head_bytes, head_due, scan_head, scan_part};
+ghost use Rattle.jpg_file.specs.Write.WriteScan.{interval_text, IsHeadOf, head_bytes, head_due, scan_head, scan_part};
 
 use crate::write::tables::TablePlace;
 use arrayvec::ArrayVec;
@@ -50,28 +49,21 @@ pub fn head_of(is_prog: bool, colour: Colour, entry: &Entry) -> ScanHead
     }
 }
 
-// The parts of some components.
+// The parts of some components, where tables of these classes are needed.
 fn parts_of(colour: Colour, has_dc: bool, has_ac: bool, components: &[u8]) -> ArrayVec<ScanPart, 4>
     requires { length components.now ≤ 4 }
     ensures { result.items ≡ map (scan_part colour has_dc has_ac) components.now }
 {
     let mut parts = ArrayVec::new();
     for component in components {
-        parts.push(part_of(colour, has_dc, has_ac, *component));
+        let slot = slot_for(colour, *component);
+        parts.push(ScanPart {
+            component: *component,
+            dc: if has_dc { slot } else { 0 },
+            ac: if has_ac { slot } else { 0 },
+        });
     }
     parts
-}
-
-// The part of a component, where tables of these classes are needed.
-fn part_of(colour: Colour, has_dc: bool, has_ac: bool, component: u8) -> ScanPart
-    ensures { result ≡ scan_part colour has_dc has_ac component }
-{
-    let slot = slot_for(colour, component);
-    ScanPart {
-        component,
-        dc: if has_dc { slot } else { 0 },
-        ac: if has_ac { slot } else { 0 },
-    }
 }
 
 // The slot of a component's tables.

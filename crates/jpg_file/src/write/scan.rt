@@ -4,8 +4,7 @@ ghost use Rattle.jpg_spec.specs.Geometry.{Frame as FrameOf};
 ghost use Rattle.jpg_spec.specs.Scan.{Blocks};
 ghost use Rattle.jpg_spec_write.specs.FileText.{nothing_written};
 ghost use Rattle.jpg_huff.specs.BitOut.{CanSend, Sends};
-ghost use Rattle.jpg_file.specs.Write.WriteTables.{HasFour};
-ghost use Rattle.jpg_file.specs.Write.WriteScan.{CanStart, CanWriteDue, CanWritePlanned, IsDue, due_after, due_data, due_written, planned_bytes, planned_written, so_far, start_text};
+ghost use Rattle.jpg_file.specs.Write.WriteScan.{CanStart, CanWriteDue, CanWritePlanned, IsDue, due_data, due_written, planned_bytes, planned_written, so_far, start_text};
 
 use crate::write::Plan;
 use crate::write::head::{Needed, head_of, needed_of, write_head};
@@ -29,8 +28,7 @@ pub struct Given {
 impl Given {
     /// No tables, and no interval.
     pub fn new() -> Given
-        ensures four { HasFour result.tables }
-        ensures none { so_far result ≡ nothing_written }
+        ensures { so_far result ≡ nothing_written }
     {
         Given {
             tables: TableSet::new(),
@@ -72,9 +70,7 @@ pub fn write_scan<V: BlockView, D: Desk>(
     desk: &mut D,
 ) -> Result<(), WriteFault>
     requires can { CanSend (D.state desk.old) out.old }
-    requires four { HasFour given.old.tables }
     requires scan { CanWritePlanned planned (V.numbers view.now) (V.blocks view.now) }
-    ensures four { HasFour given.new.tables }
     ensures sends { Sends (D.state desk.old) out.old (planned_bytes planned.entry (V.numbers view.now) (V.blocks view.now) (so_far given.old)) result out.new (D.state desk.new) }
     ensures given { (u : Unit {0}) → result ≡ Ok u → so_far given.new ≡ planned_written planned.entry (V.numbers view.now) (V.blocks view.now) (so_far given.old) }
 {
@@ -91,7 +87,8 @@ pub fn write_scan<V: BlockView, D: Desk>(
         due: &due,
         tables: &tables,
     };
-    write_parts(due_scan, given, view, out, desk)
+    write_start(due_scan, given, out, desk)?;
+    write_data(due_scan, view, out, desk)
 }
 
 /// What a scan that is planned is written with beside its tables.
@@ -120,9 +117,7 @@ pub fn write_start<D: Desk>(
     desk: &mut D,
 ) -> Result<(), WriteFault>
     requires can { CanSend (D.state desk.old) out.old }
-    requires four { HasFour given.old.tables }
     requires due { CanStart scan.frame.now scan.due.now scan.tables.now }
-    ensures four { HasFour given.new.tables }
     ensures sends { Sends (D.state desk.old) out.old (start_text scan.entry.frame.now (so_far given.old) scan.entry.due.now scan.entry.tables.now) result out.new (D.state desk.new) }
     ensures given { (u : Unit {0}) → result ≡ Ok u → so_far given.new ≡ due_written (so_far given.old) scan.entry.due.now scan.entry.tables.now }
 {
@@ -135,25 +130,6 @@ pub fn write_start<D: Desk>(
         interval: due.interval,
     };
     write_head(frame, written, last, out, desk)
-}
-
-// Writes the tables, the header and the data.
-fn write_parts<V: BlockView, D: Desk>(
-    scan: DueScan<'_>,
-    given: &mut Given,
-    view: &V,
-    out: &mut BitOut,
-    desk: &mut D,
-) -> Result<(), WriteFault>
-    requires can { CanSend (D.state desk.old) out.old }
-    requires four { HasFour given.old.tables }
-    requires due { CanWriteDue scan.frame.now (V.numbers view.now) (V.blocks view.now) scan.due.now scan.tables.now }
-    ensures four { HasFour given.new.tables }
-    ensures sends { Sends (D.state desk.old) out.old (due_after scan.entry (V.numbers view.now) (V.blocks view.now) (so_far given.old)) result out.new (D.state desk.new) }
-    ensures given { (u : Unit {0}) → result ≡ Ok u → so_far given.new ≡ due_written (so_far given.old) scan.entry.due.now scan.entry.tables.now }
-{
-    write_start(scan, given, out, desk)?;
-    write_data(scan, view, out, desk)
 }
 
 // Writes the data.

@@ -1,18 +1,11 @@
 //! The tables of a scan that is written: typical ones (T.81, K.3), those of codes of one length (Annex C), or those
 //! made for how often each symbol is sent (K.2).
-ghost use Rattle.std.specs.Prelude.{◌≡◌, true, ℕ, List, All};
+ghost use Rattle.std.specs.Prelude.{◌≡◌, ℕ, List};
 ghost use Rattle.jpg_spec.specs.FlatTable.{flat_table};
-ghost use Rattle.jpg_spec.specs.Geometry.{is_progressive};
-ghost use Rattle.jpg_spec.specs.Segments.{head_components};
-ghost use Rattle.jpg_base.specs.Cursor.{AreIn};
-ghost use Rattle.jpg_spec.specs.Lists.{is_distinct};
 ghost use Rattle.jpg_spec_fit.specs.Fitted.{fitted};
-ghost use Rattle.jpg_spec_write.specs.ScanText.{is_plain, scan_tables, symbol_counts, symbols_used, typical_table};
-ghost use Rattle.jpg_spec_write.specs.WrittenFile.{HasBlocksIn};
+ghost use Rattle.jpg_spec_write.specs.ScanText.{is_plain, scan_tables, typical_table};
 ghost use Rattle.jpg_huff.specs.Tables.{table_of};
-ghost use Rattle.jpg_coefs.specs.MarkSinks.{HasSlots};
-ghost use Rattle.jpg_prog_write.specs.Written.{IsProgScan};
-ghost use Rattle.jpg_file.specs.Write.WriteTables.{AreFew, HasCounts, UsesSymbols, GivesTables, HasFourTables, IsEmptySet, has_typical, own_tables, written_elements};
+ghost use Rattle.jpg_file.specs.Write.WriteScan.{AreFew, CanCount, CountsScan, HasCounts, UsesSymbols, GivesTables, HasFourTables, has_typical, written_elements};
 
 use jpg_base::Frame;
 use jpg_coefs::{BlockView, WrittenScan};
@@ -22,7 +15,7 @@ use jpg_prog_write::count_scan;
 use jpg_seq::count_seq_scan;
 use jpg_spec_write::Huffman;
 
-/// Puts the tables of a scan into slots 0 and 1 of an empty set: those that are made for it, if they are asked for;
+/// Puts the tables of a scan into slots 0 and 1 of a set: those that are made for it, if they are asked for;
 /// otherwise in a sequential file of precision 8 the typical ones, and in any other those of codes of one length for
 /// what the scan writes. It remains a call, so that its stack is free again when the scan is written.
 #[inline(never)]
@@ -33,19 +26,17 @@ pub fn put_tables<V: BlockView>(
     scan: WrittenScan<'_>,
     set: &mut TableSet,
 )
-    requires empty { IsEmptySet set.old }
-    requires kind { is_progressive (V.numbers view.now).process ≡ is_progressive frame.now.process }
-    requires components { AreIn (V.numbers view.now) (head_components scan.head.now) }
-    requires scan { is_progressive frame.now.process ≡ true → IsProgScan (V.numbers view.now) scan.head.now }
-    requires distinct { is_distinct (head_components scan.head.now) ≡ true }
-    requires slots { All HasSlots scan.head.now.parts }
-    requires blocks { HasBlocksIn (V.numbers view.now) (V.blocks view.now) }
+    requires { CanCount frame.now (V.numbers view.now) (V.blocks view.now) scan.head.now }
     ensures { GivesTables set.new (scan_tables huffman frame.now scan.entry.head.now (written_elements scan.entry (V.numbers view.now) (V.blocks view.now))) }
 {
     if has_typical(huffman, frame) {
         put_typical(set);
-    } else {
-        put_own(huffman, &counts_of(frame, view, scan), set);
+        return;
+    }
+    let counts = counts_of(frame, view, scan);
+    match huffman {
+        Huffman::Plain => put_flat(&counts, set),
+        Huffman::Fitted => put_fitted(&counts, set),
     }
 }
 
@@ -77,15 +68,8 @@ pub fn typical_set() -> TableSet
 
 // How often the scan writes each symbol.
 fn counts_of<V: BlockView>(frame: &Frame, view: &V, scan: WrittenScan<'_>) -> SymbolCounts
-    requires kind { is_progressive (V.numbers view.now).process ≡ is_progressive frame.now.process }
-    requires components { AreIn (V.numbers view.now) (head_components scan.head.now) }
-    requires scan { is_progressive frame.now.process ≡ true → IsProgScan (V.numbers view.now) scan.head.now }
-    requires distinct { is_distinct (head_components scan.head.now) ≡ true }
-    requires slots { All HasSlots scan.head.now.parts }
-    requires blocks { HasBlocksIn (V.numbers view.now) (V.blocks view.now) }
-    ensures symbols { UsesSymbols result (symbols_used scan.entry.head.now (written_elements scan.entry (V.numbers view.now) (V.blocks view.now))) }
-    ensures counts { HasCounts result (symbol_counts scan.entry.head.now (written_elements scan.entry (V.numbers view.now) (V.blocks view.now))) }
-    ensures few { AreFew result }
+    requires { CanCount frame.now (V.numbers view.now) (V.blocks view.now) scan.head.now }
+    ensures { CountsScan result scan.entry.head.now (written_elements scan.entry (V.numbers view.now) (V.blocks view.now)) }
 {
     view.frame().checked();
     if frame.is_progressive() {
@@ -98,7 +82,6 @@ fn counts_of<V: BlockView>(frame: &Frame, view: &V, scan: WrittenScan<'_>) -> Sy
 // Puts Tables K.3 and K.5 into slot 0, K.4 and K.6 into slot 1 (T.81, K.3).
 #[inline(never)]
 fn put_typical(set: &mut TableSet)
-    requires { IsEmptySet set.old }
     ensures { GivesTables set.new typical_table }
 {
     put_four(
@@ -110,23 +93,10 @@ fn put_typical(set: &mut TableSet)
     );
 }
 
-// Puts the tables of a scan's own, for these counts.
-fn put_own(huffman: Huffman, counts: &SymbolCounts, set: &mut TableSet)
-    requires empty { IsEmptySet set.old }
-    requires few { AreFew counts.now }
-    ensures { (symbols numbers : ℕ → ℕ → List ℕ) → UsesSymbols counts.now symbols → HasCounts counts.now numbers → GivesTables set.new (own_tables huffman symbols numbers) }
-{
-    match huffman {
-        Huffman::Plain => put_flat(counts, set),
-        Huffman::Fitted => put_fitted(counts, set),
-    }
-}
-
 // Puts the tables of codes of one length for the symbols that are used.
 #[inline(never)]
 fn put_flat(counts: &SymbolCounts, set: &mut TableSet)
-    requires empty { IsEmptySet set.old }
-    requires few { AreFew counts.now }
+    requires { AreFew counts.now }
     ensures { (symbols : ℕ → ℕ → List ℕ) → UsesSymbols counts.now symbols → GivesTables set.new (λ class slot. flat_table (symbols class slot)) }
 {
     put_four(
@@ -141,7 +111,6 @@ fn put_flat(counts: &SymbolCounts, set: &mut TableSet)
 // Puts the tables that are made for these counts.
 #[inline(never)]
 fn put_fitted(counts: &SymbolCounts, set: &mut TableSet)
-    requires { IsEmptySet set.old }
     ensures { (numbers : ℕ → ℕ → List ℕ) → HasCounts counts.now numbers → GivesTables set.new (λ class slot. fitted (numbers class slot)) }
 {
     put_four(
@@ -155,9 +124,9 @@ fn put_fitted(counts: &SymbolCounts, set: &mut TableSet)
 
 // Puts these tables into slots 0 and 1, two for DC and two for AC.
 fn put_four(dc: &Table, dc_chroma: &Table, ac: &Table, ac_chroma: &Table, set: &mut TableSet)
-    requires { IsEmptySet set.old }
     ensures { HasFourTables set.new (table_of dc.now) (table_of dc_chroma.now) (table_of ac.now) (table_of ac_chroma.now) }
 {
+    set.slots();
     set.set_dc(0, dc);
     set.set_dc(1, dc_chroma);
     set.set_ac(0, ac);

@@ -2,15 +2,12 @@
 ghost use Rattle.std.specs.Prelude.{◌≡◌, ℕ, List, IfNone, IfSome, false, true};
 ghost use Rattle.jpg_spec.specs.Geometry.{Frame as FrameOf};
 ghost use Rattle.jpg_spec.specs.Scan.{Blocks};
-ghost use Rattle.jpg_huff.specs.BitOut.{CanSend, Sends};
-ghost use Rattle.jpg_file.specs.Write.WriteScan.{CanStart};
-ghost use Rattle.jpg_file.specs.Write.WriteFile.{CanWriteFile};
-ghost use Rattle.jpg_file.specs.Write.SoleScan.{IsAllOf, IsSole, IsSoleData, WritesSole, is_sole, sole_text};
+ghost use Rattle.jpg_file.specs.Write.WriteFile.{CanWriteFile, IsAllOf, IsSole, IsSoleData, WritesSole, is_sole};
 
 use crate::write::scan::{DueScan, Given, PlannedScan, ScanDue, due_of, write_start};
 use crate::write::sets::{has_typical, typical_set};
 use crate::write::{Plan, write_end};
-use jpg_base::{Desk, Frame, WriteFault};
+use jpg_base::{Desk, WriteFault};
 use jpg_huff::{BitOut, TableSet};
 use jpg_markers::{KeptList, file_head};
 
@@ -57,28 +54,12 @@ pub fn write_sole<D: Desk>(
 {
     let mut out = BitOut::new();
     file_head(&plan.out, kept, &mut out, desk)?;
-    write_only(&plan.out.frame, scan, data, &mut out, desk)?;
-    write_end(&mut out, desk)
-}
-
-// Writes the tables, the header and the data of a scan, before which nothing was written.
-fn write_only<D: Desk>(
-    frame: &Frame,
-    scan: &SoleScan,
-    data: &[u8],
-    out: &mut BitOut,
-    desk: &mut D,
-) -> Result<(), WriteFault>
-    requires can { CanSend (D.state desk.old) out.old }
-    requires due { CanStart frame.now scan.now.due scan.now.tables }
-    ensures { Sends (D.state desk.old) out.old (sole_text frame.now scan.now data.now) result out.new (D.state desk.new) }
-{
-    let mut given = Given::new();
     let only = DueScan {
-        frame,
+        frame: &plan.out.frame,
         due: &scan.due,
         tables: &scan.tables,
     };
-    write_start(only, &mut given, out, desk)?;
-    out.raw(data, desk)
+    write_start(only, &mut Given::new(), &mut out, desk)?;
+    out.raw(data, desk)?;
+    write_end(&mut out, desk)
 }

@@ -8,7 +8,7 @@ ghost use Rattle.jpg_huff.specs.BitOut.{CanSend, Sends};
 ghost use Rattle.jpg_huff.specs.Sets.{in_slot};
 ghost use Rattle.jpg_huff.specs.Tables.{table_of};
 ghost use Rattle.jpg_prog_write.specs.Written.{tables_in};
-ghost use Rattle.jpg_file.specs.Write.WriteTables.{GivesTables, HasFour, IsTablePlace, class_tables, given_by};
+ghost use Rattle.jpg_file.specs.Write.WriteScan.{GivesTables, IsTablePlace, class_tables, given_by};
 
 use arrayvec::ArrayVec;
 use jpg_base::codes::DHT;
@@ -86,10 +86,9 @@ fn holds(given: &TableSet, class: u8, slot: u8, table: &Table) -> bool
 fn put(given: &mut TableSet, class: u8, slot: u8, table: &Table)
     requires class { class < 2 }
     requires slot { slot < 4 }
-    requires four { HasFour given.old }
-    ensures four { HasFour given.new }
-    ensures given { given_by given.new ≡ with_table (given_by given.old) class slot (table_of table.now) }
+    ensures { given_by given.new ≡ with_table (given_by given.old) class slot (table_of table.now) }
 {
+    given.slots();
     if class == 0 {
         given.set_dc(slot, table);
     } else {
@@ -108,8 +107,6 @@ fn write_table<D: Desk>(
     requires can { CanSend (D.state desk.old) out.old }
     requires place { IsTablePlace place }
     requires tables { GivesTables tables.now (tables_in tables.now) }
-    requires four { HasFour given.old }
-    ensures four { HasFour given.new }
     ensures sends { Sends (D.state desk.old) out.old (tables_text (given_by given.old) (tables_in tables.now) (place ∷ [])) result out.new (D.state desk.new) }
     ensures given { given_by given.new ≡ with_table (given_by given.old) place.0 place.1 (tables_in tables.now place.0 place.1) }
 {
@@ -137,8 +134,6 @@ pub fn write_due<D: Desk>(
     requires can { CanSend (D.state desk.old) out.old }
     requires needed { All IsTablePlace needed.now }
     requires tables { GivesTables tables.now (tables_in tables.now) }
-    requires four { HasFour given.old }
-    ensures four { HasFour given.new }
     ensures sends { Sends (D.state desk.old) out.old (tables_text (given_by given.old) (tables_in tables.now) needed.now) result out.new (D.state desk.new) }
     ensures given { (u : Unit {0}) → result ≡ Ok u → given_by given.new ≡ tables_given (given_by given.old) (tables_in tables.now) needed.now }
 {

@@ -1,7 +1,7 @@
 // Complete files through `Reader`: whether they are complete and what their pictures have, or what stops them (T.81, B.2, F.2.2).
 ghost use Rattle.std.specs.Prelude.{◌≡◌, ◌≤◌, false};
 ghost use Rattle.jpg_spec.specs.FrameHeader.{AreLimits};
-ghost use Rattle.jpg_file.specs.Read.ReadRows.{IsPlain};
+ghost use Rattle.jpg_file.specs.Read.ReadFile.{IsPlain};
 
 use crate::answer::Answer;
 use crate::markers::heads::copying_of;

@@ -1,7 +1,7 @@
 // What the machine of a sequential scan makes of the bits of its only interval.
 ghost use Rattle.std.specs.Prelude.{◌≡◌, ◌≤◌, ◌*◌, ◌/◌, length, IfSome};
 ghost use Rattle.jpg_spec.specs.Geometry.{is_progressive};
-ghost use Rattle.jpg_seq.specs.NewReader.{IsSeqScan};
+ghost use Rattle.jpg_seq.specs.Reader.{IsSeqScan};
 ghost use Rattle.test_parts.specs.Heads.{HasFour};
 ghost use Rattle.test_parts.specs.Open.{IsOpen, GoesOn, IsBlank};
 

@@ -15,4 +15,4 @@ returns-in-Err-new g c = λ choice is start begun.
 pub returns-in-Ok-new : goal.returns-in-Ok-new
 returns-in-Ok-new g c = λ choice is start begun.
     (let r = c.in-Ok.ensures choice.copying start begun in
-    (r.0, file_moved is r.1 _ c.in-Ok-new.ensures.ok (c.take_kept.ensures.kept ∙ ap (λ (s : ReaderState). s.file.reading.items.held.kept) c.deref_mut.ensures.value) refl refl))
+    (r.0, file_moved is r.1 _ c.in-Ok-new.ensures.ok (c.take_kept.ensures.kept ∙ ap (λ (s : ReaderState). s.file.items.held.kept) c.deref_mut.ensures.value) refl refl))

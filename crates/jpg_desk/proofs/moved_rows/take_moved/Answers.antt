@@ -1,8 +1,7 @@
 use Rattle.std.proofs.Common.{Err, Ok, Some, [], ap, refl, subst, sym, ◌∙◌}
 use Rattle.jpg_spec.specs.Meaning.{Meaning}
 use Rattle.jpg_file.specs.Read.File.{keeping_of}
-use Rattle.jpg_file.specs.Read.ReadFile.{ReaderState}
-use Rattle.jpg_file.specs.Read.ReadRows.{HasBegunRows}
+use Rattle.jpg_file.specs.Read.ReadFile.{ReaderState, HasBegunRows}
 use Rattle.jpg_file.specs.declared.read.pieces.FedRow.TheVariants as fed
 use Rattle.jpg_desk.specs.ReadPicture.{Coefficients, HoldsPicture}
 use Rattle.jpg_desk.specs.RowsRead.{rows_front}

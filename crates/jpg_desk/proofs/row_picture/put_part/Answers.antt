@@ -2,7 +2,7 @@ use Rattle.std.proofs.Common.{◌≡◌, ◌+◌, ◌*◌, ℕ, arith, subst, ap
 use Rattle.jpg_spec.specs.Geometry.{Frame}
 use Rattle.jpg_base.specs.Cursor.{IsPadded}
 use Rattle.jpg_coefs.specs.Copied.{CopiesBlocks, in_grid_row}
-use Rattle.jpg_seq.specs.Rows.{rows_in_mcu}
+use Rattle.jpg_seq.specs.Reader.{rows_in_mcu}
 use Rattle.jpg_desk.specs.RowsKept.{in_first_lines, line_blocks, row_blocks}
 use Rattle.jpg_desk.proofs.RowsKept.{lines_more, lines_of, no_lines}
 use Rattle.jpg_desk.proofs.row_picture.put_part.Goals as goal

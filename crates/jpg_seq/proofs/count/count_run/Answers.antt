@@ -1,12 +1,12 @@
-use Rattle.std.proofs.Common.{◌≡◌, ◌+◌, ◌*◌, ◌-◌, ◌<◌, ◌∷◌, [], refl, sym, ap, ◌∙◌, arith, rules}
+use Rattle.std.proofs.Common.{◌+◌, ◌*◌, ◌-◌, ◌∷◌, [], refl, sym, ap, ◌∙◌, arith, rules}
 use mir.Syntax.{w16, w32}
-use mir.Val.{SFits, to_z, of_z}
+use mir.Val.{to_z, of_z}
 use Rattle.std.proofs.lemmas.Int.{to_z-of_z}
 use Rattle.jpg_spec.specs.Numbers.{category}
 use Rattle.jpg_huff.specs.Counts.{Mark}
-use Rattle.jpg_huff.proofs.Marks.{but_start, but_then, but_last, notes_same}
-use Rattle.jpg_seq.specs.Counted.{run_marks}
-use Rattle.jpg_seq.proofs.Counted.{run_more, run_last}
+use Rattle.jpg_huff.proofs.Marks.{but_start, but_then, but_last}
+use Rattle.jpg_seq.specs.ScanWritten.{ac_mark, run_marks}
+use Rattle.jpg_seq.proofs.Written.{run_more, run_last}
 use Rattle.jpg_seq.proofs.count.count_run.Goals as goal
 
 pub loop-left-init : goal.loop-left-init
@@ -21,8 +21,7 @@ loop-left-preserved c =
     let left = c.loop-left.left in
     record {
       counts = c.count_ac.ensures.counts;
-      part = but_then c.args.counts.now c.loop-left.counts c.count_ac.new.self (run_marks slot c.args.run v) (run_marks slot left v) (((1, slot), 0xf0) ∷ []) (run_marks slot (left - 16) v)
-          (run_more slot left v c.loop-left-test.true) c.loop-left.invariant.part c.count_ac.ensures;
+      part = but_then _ _ _ _ _ _ _ (run_more (ac_mark slot) left v c.loop-left-test.true) c.loop-left.invariant.part c.count_ac.ensures;
     }
 
 pub returns : goal.returns
@@ -30,11 +29,7 @@ returns c =
     let slot = c.args.slot in
     let v = to_z w16 (of_z w16 c.args.value) in
     let left = c.loop-left.left in
-    let f : SFits w16 c.args.value = search rules in
-    let l : left < 16 = omega (arith, c.loop-left-test.false) in
-    let w = to_z w32 (of_z w32 c.from.result) in
-    let fw : SFits w32 c.from.result = search rules in
-    let same : w ≡ v = to_z-of_z w32 c.from.result fw ∙ c.from.ensures in
-    let e = run_last slot left v l ∙ ap (λ x. (let m : Mark = ((1, slot), 16 * left + category x) in m ∷ [])) (sym same) ∙ ap (λ n. (let m : Mark = ((1, slot), 16 * left + n) in m ∷ [])) (sym c.category.ensures.category) in
+    let same = rw (to_z-of_z w32 c.from.result (search rules), c.from.ensures) at c.category.ensures.category in
+    let e = run_last (ac_mark slot) left v (omega (arith, c.loop-left-test.false)) ∙ ap (λ n. (let m : Mark = ((1, slot), 16 * left + n) in m ∷ [])) (sym same) in
     let h = but_last c.args.counts.now c.loop-left.counts c.count_ac-2.new.self (run_marks slot c.args.run v) (run_marks slot left v) (((1, slot), 16 * left + c.category.result) ∷ []) e c.loop-left.invariant.part c.count_ac-2.ensures in
-    notes_same c.args.counts.now c.count_ac-2.new.self _ _ (ap (run_marks slot c.args.run) (to_z-of_z w16 c.args.value f)) h
+    rw (to_z-of_z w16 c.args.value (search rules)) at h

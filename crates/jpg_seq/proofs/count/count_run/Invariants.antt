@@ -1,5 +1,5 @@
 use Rattle.jpg_huff.specs.Counts.{AreCounts, NotesBut}
-use Rattle.jpg_seq.specs.Counted.{run_marks}
+use Rattle.jpg_seq.specs.ScanWritten.{run_marks}
 use Rattle.jpg_seq.proofs.count.count_run.Given as goal
 
 abbrev pub invariant-loop-left : goal.invariant-loop-left

@@ -1,10 +1,5 @@
-use Rattle.std.proofs.Common.{subst, sym}
-use Rattle.jpg_seq.specs.NewReader.{AreFilled}
-use Rattle.jpg_seq.proofs.NewCoders.{none_filled, filled_more}
+use Rattle.jpg_seq.proofs.Machines.{filled_more}
 use Rattle.jpg_seq.proofs.reader.put_coders.Goals as goal
-
-pub loop-part-init : goal.loop-part-init
-loop-part-init c = subst (λ l. AreFilled c.args.tables.now c.args.parts.now 0 l) (sym c.requires.none) (none_filled c.args.tables.now c.args.parts.now)
 
 pub loop-part-preserved : goal.loop-part-preserved
 loop-part-preserved c =

@@ -1,4 +1,4 @@
-use Rattle.jpg_seq.specs.NewReader.{AreFilled}
+use Rattle.jpg_seq.specs.Reader.{AreFilled}
 use Rattle.jpg_seq.proofs.reader.put_coders.Given as goal
 
 abbrev pub invariant-loop-part : goal.invariant-loop-part

@@ -1,18 +1,12 @@
-use Rattle.std.proofs.Common.{◌∙◌, refl, sym, ap, subst, false}
-use Rattle.std.specs.List.{All}
+use Rattle.std.proofs.Common.{◌∙◌, refl, sym, ap, subst, false, All}
 use Rattle.jpg_spec.specs.Scan.{part_of}
-use Rattle.jpg_seq.specs.BlockBits.{IsShort}
+use Rattle.jpg_seq.specs.ScanWritten.{IsShort, tables_in, written_data, seq_units}
 use Rattle.jpg_huff.proofs.Together.{sends_same}
 use Rattle.jpg_coefs.specs.Sinks.{intervals_due}
 use Rattle.jpg_coefs.proofs.BitSinks.{begins, all_units, written_text}
-use Rattle.jpg_seq.specs.NewReader.{HasTables}
-use Rattle.jpg_seq.specs.ScanWritten.{tables_in, written_data}
-use Rattle.jpg_seq.specs.SeqUnits.{seq_units}
-use Rattle.jpg_seq.proofs.ScanUnits.{unit_fits}
+use Rattle.jpg_seq.specs.Reader.{HasTables}
+use Rattle.jpg_seq.proofs.Written.{unit_fits}
 use Rattle.jpg_seq.proofs.scan_write.write_seq_scan.Goals as goal
-
-pub put_scan-requires-clause-scan : goal.put_scan-requires-clause-scan
-put_scan-requires-clause-scan g c = c.requires.scan.components
 
 pub put_scan-requires-clause-begins : goal.put_scan-requires-clause-begins
 put_scan-requires-clause-begins g c =

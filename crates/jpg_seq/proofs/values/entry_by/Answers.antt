@@ -1,13 +1,9 @@
-use Rattle.std.proofs.Common.{rules, ◌≡◌, ℕ, ℤ, ◌+◌, ◌*◌, ◌/◌, ◌%◌, List, Bool, length, take, ap, sym, refl, ◌∙◌, subst, arith, inl, inr, ◌⊎◌, ⊎_elim, ◌<◌}
-use Rattle.std.specs.List.{Contains}
+use Rattle.std.proofs.Common.{rules, ◌≡◌, ℤ, ◌+◌, ◌*◌, ◌/◌, ◌%◌, length, take, ap, refl, ◌∙◌, subst, arith, inl, inr, ◌⊎◌, ⊎_elim, ◌<◌, ◌≤◌, Contains}
 use mir.Syntax.{w16}
-use Rattle.std.proofs.Common.{to_z, of_z}
-use mir.Val.{SFits}
 use Rattle.std.proofs.lemmas.Int.{to_z-of_z}
-use Rattle.jpg_spec.specs.Bits.{bits_of}
 use Rattle.jpg_spec.proofs.Basics.Strings.{length-bits_of}
-use Rattle.jpg_seq.specs.Values.{TellsOrNone}
-use Rattle.jpg_seq.proofs.ShortValue.{kept_end, kept_none, none_symbol, none_part, none_begins}
+use Rattle.jpg_seq.specs.Values.{BeginsWithShortValue}
+use Rattle.jpg_seq.proofs.Takings.{none_symbol, none_part, none_begins}
 use Rattle.jpg_seq.proofs.values.entry_by.Goals as goal
 use Rattle.jpg_seq.proofs.values.entry_by.Goals.{else-size-gt0-via-then-size-gt0+else-length-size-le10, else-size-gt0-via-else-size-gt0}
 
@@ -19,45 +15,40 @@ returns-then-length-size-le10 c =
     let n = c.in-Symbol.length in let symbol = c.in-Symbol.symbol in let size = symbol % 16 in
     let s = c.in-Symbol.ensures in
     let v : ℤ = c.extend.result in
-    let f : SFits w16 v = search rules in
     let split : symbol ≡ 16 * (symbol / 16) + size = omega arith in
-    let C : ℕ → Type 0 = λ k. Contains c.args.codes.now (take n c.ten_bits-bits.result, k) in
-    let V : ℤ → Type 0 = λ w. TellsOrNone c.args.codes.now c.ten_bits-bits.result (record { value = w; run = symbol / 16; length = n + size }) in
-    let B : List Bool → Type 0 = λ b. TellsOrNone c.args.codes.now b (record { value = to_z w16 (of_z w16 v); run = symbol / 16; length = n + size }) in
-    subst B c.ten_bits-bits.ensures (subst V (sym (to_z-of_z w16 v f)) (inr (inl (record {
+    let found : BeginsWithShortValue c.args.codes.now c.ten_bits-bits.result (record { value = v; run = symbol / 16; length = n + size }) = record {
       code = n;
       size = size;
       some = s.0;
       sized = omega (arith, c.if-size-gt0.true);
       sum = refl;
       few = c.if-length-size-le10.true;
-      there = omega (arith, ap (λ (l : List Bool). length l) c.ten_bits-bits.ensures, length-bits_of 10 c.args.ten, c.if-length-size-le10.true);
+      there = omega (arith, ap length c.ten_bits-bits.ensures, length-bits_of 10 c.args.ten, c.if-length-size-le10.true);
       run = search rules;
-      in_codes = subst C split s.3;
+      in_codes = subst (λ k. Contains c.args.codes.now (take n c.ten_bits-bits.result, k)) split s.3;
       category = c.extend.ensures.category;
       extra = c.extend.ensures.extra ∙ c.peek_after.ensures.value;
-    }))))
+    } in
+    rw (to_z-of_z w16 v (search rules)) (inr (inl (rw c.ten_bits-bits.ensures at found)))
 
 pub returns-else-size-gt0 : goal.returns-else-size-gt0
 returns-else-size-gt0 c =
-    let n = c.in-Symbol.length in let symbol = c.in-Symbol.symbol in let s = c.in-Symbol.ensures in let bits = c.ten_bits-bits.result in
+    let n = c.in-Symbol.length in let symbol = c.in-Symbol.symbol in let s = c.in-Symbol.ensures in
     let past : (symbol % 16 ≡ 0) ⊎ (10 < n + symbol % 16) =
     elim c.else-size-gt0.branch [ else-size-gt0-via-then-size-gt0+else-length-size-le10 w ↦ inr (omega (arith, w.if-length-size-le10.false)) | else-size-gt0-via-else-size-gt0 w ↦ inl (omega (arith, w.if-size-gt0.false)) ] in
-    kept_none c.args.codes.now bits (bits_of 10 c.args.ten) c.no_short_value.result c.ten_bits-bits.ensures c.no_short_value.ensures
-    (none_symbol c.args.codes.now bits n symbol c.apart.ensures.one s.2 s.3 c.if-symbol-eq0.false (λ h. ⊎_elim (λ (a : symbol % 16 ≡ 0). omega (arith, a, h.0)) (λ (b : 10 < n + symbol % 16). omega (arith, b, h.1)) past))
+    let none = none_symbol c.args.codes.now c.ten_bits-bits.result n symbol c.apart.ensures.one s.2 s.3 c.if-symbol-eq0.false (λ h. ⊎_elim (λ (a : symbol % 16 ≡ 0). omega (arith, a, h.0)) (λ (b : 10 < n + symbol % 16). omega (arith, b, h.1)) past) in
+    inl (c.no_short_value.ensures, rw c.ten_bits-bits.ensures at none)
 
 pub returns-then-symbol-eq0 : goal.returns-then-symbol-eq0
 returns-then-symbol-eq0 c =
     let s = c.in-Symbol.ensures in
-    kept_end c.args.codes.now c.ten_bits-bits.result (bits_of 10 c.args.ten) c.in-Symbol.length c.in-Symbol.symbol c.end_of.result c.ten_bits-bits.ensures c.end_of.ensures s.0 s.2 (length-bits_of 10 c.args.ten) s.3 c.if-symbol-eq0.true
+    let few : c.in-Symbol.length ≤ 10 = omega (arith, s.2, ap length c.ten_bits-bits.ensures, length-bits_of 10 c.args.ten) in
+    inr (inr (record { some = s.0; few = few; there = rw c.ten_bits-bits.ensures at s.2; run = refl; in_codes = rw (c.if-symbol-eq0.true, c.ten_bits-bits.ensures) at s.3 }))
 
 pub returns-in-Part : goal.returns-in-Part
-returns-in-Part c =
-    kept_none c.args.codes.now c.ten_bits-bits.result (bits_of 10 c.args.ten) c.no_short_value-in-Part.result c.ten_bits-bits.ensures c.no_short_value-in-Part.ensures
-    (none_part c.args.codes.now c.ten_bits-bits.result c.apart.ensures.one c.in-Part.ensures.0)
+returns-in-Part c = inl (c.no_short_value-in-Part.ensures, rw c.ten_bits-bits.ensures at (none_part c.args.codes.now c.ten_bits-bits.result c.apart.ensures.one c.in-Part.ensures.0))
 
 pub returns-in-NoCode : goal.returns-in-NoCode
 returns-in-NoCode c =
     let s = c.in-NoCode.ensures in
-    kept_none c.args.codes.now c.ten_bits-bits.result (bits_of 10 c.args.ten) c.no_short_value-in-NoCode.result c.ten_bits-bits.ensures c.no_short_value-in-NoCode.ensures
-    (none_begins c.args.codes.now c.ten_bits-bits.result c.in-NoCode.length c.apart.ensures.one s.0 s.1 s.2 s.3)
+    inl (c.no_short_value-in-NoCode.ensures, rw c.ten_bits-bits.ensures at (none_begins c.args.codes.now c.ten_bits-bits.result c.in-NoCode.length c.apart.ensures.one s.0 s.1 s.2 s.3))

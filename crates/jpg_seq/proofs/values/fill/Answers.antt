@@ -1,10 +1,7 @@
 use Rattle.std.proofs.Common.{rules, arith}
-use Rattle.jpg_seq.proofs.ShortValue.{entry_more}
+use Rattle.jpg_seq.proofs.Takings.{entry_more}
 use Rattle.jpg_seq.proofs.values.fill.Goals as goal
 
 pub loop-ten-preserved : goal.loop-ten-preserved
 loop-ten-preserved c =
     (search rules, entry_more c.args.decoder.now c.loop-ten.entries c.loop-ten.ten c.entry_by.result (omega (arith, c.loop-ten.invariant.0, c.loop-ten-test.true)) c.loop-ten.invariant.1 c.entry_by.ensures)
-
-pub returns : goal.returns
-returns c = record { long = c.loop-ten.invariant.0; each = λ n h. c.loop-ten.invariant.1 n (omega (arith, h, c.loop-ten-test.false)) }

@@ -1,6 +1,5 @@
 use Rattle.std.proofs.Common.{◌/◌, ◌%◌, length, ap, arith, nat_eq, ◌∷◌, [], length-append}
-use Rattle.jpg_seq.proofs.Sources.{pushed_long}
-use Rattle.jpg_seq.proofs.ShortValue.{ten_split}
+use Rattle.jpg_seq.proofs.Takings.{pushed_long, ten_split}
 use Rattle.jpg_seq.proofs.values.ten_bits.Goals as goal
 
 pub push_bit-requires : goal.push_bit-requires

@@ -1,5 +1,5 @@
 use Rattle.std.proofs.Common.{◌≡◌, true}
-use Rattle.jpg_seq.specs.BlockBits.{run_bits}
+use Rattle.jpg_seq.specs.ScanWritten.{run_bits}
 use Rattle.jpg_huff.specs.BitOut.{Puts}
 use Rattle.jpg_huff.proofs.InParts.{DoneButFor}
 use Rattle.jpg_seq.proofs.write.put_any_run.Given as goal

@@ -1,10 +1,9 @@
 use Rattle.std.proofs.Common.{◌≡◌, ◌≤◌, ◌-◌, true, drop, []}
-use Rattle.jpg_seq.specs.BlockBits.{band_bits}
+use Rattle.jpg_seq.specs.ScanWritten.{band_bits, spelled}
 use Rattle.jpg_huff.specs.BitOut.{Puts, holding}
 use Rattle.jpg_huff.proofs.InParts.{DoneButFor}
-use Rattle.jpg_seq.proofs.Bands.{left_bits}
+use Rattle.jpg_seq.proofs.Written.{left_told, blank}
 use Rattle.jpg_base.specs.Marks.{marks}
-use Rattle.jpg_seq.proofs.Marked.{blank}
 use Rattle.jpg_seq.proofs.write.put_band.Given as goal
 
 abbrev pub invariant-loop-rest : goal.invariant-loop-rest
@@ -12,7 +11,7 @@ invariant-loop-rest g l =
     let state = g.D.Desk.state in
     record {
       created : (state l.desk).output_created ≡ true;
-      part : DoneButFor Puts (state l.fn.desk) (holding l.fn.out l.fn.before) (band_bits l.codes.ac.now (drop 1 l.block)) (left_bits l.codes.ac.now (drop l.next l.block) 0) (holding l.out l.held) (state l.desk);
+      part : DoneButFor Puts (state l.fn.desk) (holding l.fn.out l.fn.before) (band_bits l.codes.ac.now (drop 1 l.block)) (left_told (spelled l.codes.ac.now) (drop l.next l.block)) (holding l.out l.held) (state l.desk);
       none : l.out.bits ≡ [];
       marked : l.rest ≡ marks (blank l.next l.block);
       some : 1 ≤ l.next;

@@ -3,7 +3,7 @@ use Rattle.jpg_spec.specs.FileMeaning.{no_blocks}
 use Rattle.jpg_spec.specs.Geometry.{Frame}
 use Rattle.jpg_spec.specs.FrameHeader.{is_precision}
 use Rattle.jpg_spec_write.proofs.WrittenHeading.{progressive_precision}
-use Rattle.jpg_file.specs.Read.StripHead.{bare_picture}
+use Rattle.jpg_file.specs.Read.PictureKept.{bare_picture}
 use Rattle.jpg_transform.specs.Planned.{choice_view, process_in, scans_view}
 use Rattle.jpg_transform.proofs.MovedHead.{frame_precision_stays, process_allows}
 use Rattle.jpg_transform.proofs.PlannedHead.{head_greatest}

@@ -1,5 +1,5 @@
 use Rattle.std.proofs.Common.{◌≡◌, ◌<◌, ℕ, length, slice_index}
-use Rattle.jpg_seq.specs.Rows.{rows_in_mcu}
+use Rattle.jpg_seq.specs.Reader.{rows_in_mcu}
 use Rattle.jpg_transform.proofs.row_mover.all_rows.Given as goal
 
 abbrev pub invariant-loop-i : goal.invariant-loop-i

@@ -2,7 +2,7 @@ use Rattle.std.proofs.Common.{◌≤◌, ◌*◌, ◌∙◌, ap, arith}
 use Rattle.std.proofs.lemmas.Nat.{mul-le}
 use Rattle.jpg_spec.specs.Geometry.{scan_mcus_across}
 use Rattle.jpg_spec.specs.Segments.{head_components}
-use Rattle.jpg_seq.specs.Rows.{row_units}
+use Rattle.jpg_seq.specs.Reader.{row_units}
 use Rattle.jpg_transform.proofs.row_mover.units_moved.Goals as goal
 
 pub overflow_mul-result : goal.overflow_mul-result

@@ -1,6 +1,5 @@
 use Rattle.std.proofs.Common.{◌∙◌, refl, subst, sym}
-use Rattle.jpg_file.specs.Write.SoleScan.{IsAllOf, IsSole}
-use Rattle.jpg_file.specs.Write.WriteFile.{CanWriteFile}
+use Rattle.jpg_file.specs.Write.WriteFile.{IsAllOf, IsSole, CanWriteFile}
 use Rattle.jpg_file.specs.declared.write.Plan.{Plan}
 use Rattle.jpg_cli.proofs.Encoding.OneScan.{one_scan_is, some_plan}
 use Rattle.jpg_cli.proofs.tools.cjpeg_image.one_scan.Goals as goal

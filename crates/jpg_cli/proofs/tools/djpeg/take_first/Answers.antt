@@ -1,6 +1,6 @@
 use Rattle.std.proofs.Common.{rules, ◌∙◌, sym, subst}
 use Rattle.jpg_spec.specs.InForce.{frame_of}
-use Rattle.jpg_file.specs.Read.ReadRows.{picture_read}
+use Rattle.jpg_file.specs.Read.ReadFile.{picture_read}
 use Rattle.jpg_cli.specs.Tools.ShowingRows.{AfterFirst}
 use Rattle.jpg_cli.specs.declared.tools.djpeg.FirstStep.{FirstStep}
 use Rattle.jpg_cli.proofs.Pieces.FirstRead.{begun_there, by_answer, first_unwanted, head_in, none_begun, read_plainly, rows_begin}

@@ -1,8 +1,8 @@
 use Rattle.std.proofs.Common.{subst, Option}
 use Rattle.jpg_spec.specs.FileMeaning.{no_blocks}
 use Rattle.jpg_spec.specs.InForce.{frame_of}
-use Rattle.jpg_file.specs.Read.ReadRows.{picture_read}
-use Rattle.jpg_file.specs.Read.RowsKnown.{TellsStrip}
+use Rattle.jpg_file.specs.Read.ReadFile.{picture_read}
+use Rattle.jpg_file.specs.Read.Strips.{TellsStrip}
 use Rattle.jpg_file.specs.declared.read.strip_head.StripHead.{StripHead}
 use Rattle.jpg_cli.proofs.ByRow.RowsBegin.{no_image, no_output}
 use Rattle.jpg_cli.proofs.ByRow.RowsEnd.{rows_begun}

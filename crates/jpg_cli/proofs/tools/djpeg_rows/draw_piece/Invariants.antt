@@ -1,5 +1,5 @@
 use Rattle.std.specs.Prelude.{◌≡◌, ◌-◌, ℕ, true}
-use Rattle.jpg_file.specs.Read.ReadRows.{EndsDoneRow}
+use Rattle.jpg_file.specs.Read.ReadFile.{EndsDoneRow}
 use Rattle.jpg_color.specs.Shown.{all_rows}
 use Rattle.jpg_cli.specs.Tools.Showing.{Showing}
 use Rattle.jpg_cli.specs.Tools.ShowingRows.{IsShowing, at_work, Run}

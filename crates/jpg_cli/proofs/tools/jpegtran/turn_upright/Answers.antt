@@ -3,7 +3,7 @@ use Rattle.jpg_spec.specs.Meaning.{Meaning}
 use Rattle.jpg_spec_move.specs.Moved.{Choice}
 use Rattle.jpg_spec_words.specs.declared.answers.Why.{Why}
 use Rattle.jpg_file.specs.Read.PictureRead.{picture_meaning}
-use Rattle.jpg_file.proofs.Files.Keeping.{kept_for_all}
+use Rattle.jpg_file.proofs.Headers.InForce.{kept_for_all}
 use Rattle.jpg_transform.specs.Planned.{choice_view}
 use Rattle.jpg_desk.specs.Writing.{WritesOwn, in_area}
 use Rattle.jpg_cli.specs.Tools.Turned.{Turned, turning_conversion, turning_view}

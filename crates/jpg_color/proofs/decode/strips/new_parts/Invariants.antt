@@ -1,5 +1,5 @@
 use Rattle.jpg_spec.specs.FileMeaning.{no_blocks}
-use Rattle.jpg_file.specs.Read.StripHead.{bare_picture}
+use Rattle.jpg_file.specs.Read.PictureKept.{bare_picture}
 use Rattle.jpg_color.specs.StripsState.{AreNewParts}
 use Rattle.jpg_color.proofs.decode.strips.new_parts.Given as goal
 

@@ -1,8 +1,7 @@
 use Rattle.std.proofs.Common.{Err, Ok, ap, refl, rules, subst, sym, ◌++◌, ◌∙◌, List, Bool, ℕ}
 use Rattle.std.specs.Box.{with_value}
 use Rattle.jpg_spec_words.specs.declared.answers.Why.{Why}
-use Rattle.jpg_file.specs.Read.ReadFile.{ReaderState}
-use Rattle.jpg_file.specs.Read.ReadRows.{HasBegunRows}
+use Rattle.jpg_file.specs.Read.ReadFile.{ReaderState, HasBegunRows}
 use Rattle.jpg_desk.specs.Pump.{AfterTaking}
 use Rattle.jpg_desk.specs.RowsRead.{rows_front}
 use Rattle.jpg_desk.specs.declared.rows_read.RowsFront.{RowsFront}

@@ -1,12 +1,9 @@
-use Rattle.std.proofs.Common.{List, [], ◌∷◌, ◌++◌, ◌∙◌, Option, refl, sym, ap, cond, Some, ℕ, slice_index, append-nil, append_assoc}
-use Rattle.jpg_spec.specs.Jfif.{adobe_transform, is_adobe}
+use Rattle.std.proofs.Common.{List, [], ◌∷◌, ◌++◌, ◌∙◌, Option, sym, ap, cond, Some, ℕ, slice_index, append_assoc}
+use Rattle.jpg_spec.specs.Jfif.{is_adobe}
 use Rattle.jpg_spec.specs.Markers.{Segment}
 use Rattle.jpg_markers.specs.Kept.{kept_pair}
-use Rattle.jpg_file.proofs.Files.Keeping.{adobe_more}
+use Rattle.jpg_file.proofs.Headers.InForce.{adobe_more}
 use Rattle.jpg_file.proofs.read.first_header.adobe_of.Goals as goal
-
-pub loop-marker-init : goal.loop-marker-init
-loop-marker-init c = ([], c.markers-rest.ensures, refl)
 
 pub loop-marker-preserved : goal.loop-marker-preserved
 loop-marker-preserved c =
@@ -16,8 +13,3 @@ loop-marker-preserved c =
       append_assoc before (s ∷ []) c.next.new.self ∙ ap (λ (l : List Segment). before ++ l) (sym c.in-Some.ensures.next) ∙ joined,
       c.transform_after-last.ensures ∙ ap (λ (o : Option ℕ). cond (is_adobe s) (Some (slice_index s.1 11)) o) told ∙ sym (adobe_more before s),
     )
-
-pub returns : goal.returns
-returns c =
-    let (before, joined, told) = c.loop-marker.invariant in
-    told ∙ ap adobe_transform (sym (append-nil before) ∙ ap (λ (l : List Segment). before ++ l) (sym c.in_default.ensures.end) ∙ joined)

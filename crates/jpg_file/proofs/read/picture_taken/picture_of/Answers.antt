@@ -2,21 +2,8 @@ use Rattle.std.proofs.Common.{◌<◌, ◌≤◌, ◌∙◌, length, ap, sym, su
 use Rattle.jpg_spec.specs.Jfif.{jfif_of}
 use Rattle.jpg_spec.specs.Geometry.{Frame}
 use Rattle.jpg_file.specs.Read.PictureKept.{PictureParts}
-use Rattle.jpg_file.proofs.Files.Keeping.{IsLeft, colour_is, left_framed, left_grids, left_jfif, left_means, left_quants, left_range, table_left}
-use Rattle.jpg_file.proofs.Scans.Scannings.{none_some}
+use Rattle.jpg_file.proofs.Headers.InForce.{IsLeft, colour_is, left_framed, left_grids, left_jfif, left_means, left_quants, left_range, table_left}
 use Rattle.jpg_file.proofs.read.picture_taken.picture_of.Goals as goal
-
-pub unreachable-requires : goal.unreachable-requires
-unreachable-requires c =
-    let o = c.requires in
-    let e = o.1.2 in
-    none_some c.args.file.now.reading.items.held.frame e.frame e.held (sym c.take.ensures.value ∙ c.in_default.is)
-
-pub unreachable-requires-in_default-take : goal.unreachable-requires-in_default-take
-unreachable-requires-in_default-take c =
-    let o = c.requires in
-    let e = o.1.2 in
-    none_some c.args.file.now.reading.coefs e.coefs e.has (sym c.take-2.ensures.value ∙ c.in_default-take.is)
 
 pub tables_of-quants-requires : goal.tables_of-quants-requires
 tables_of-quants-requires c = λ i low.
@@ -32,7 +19,7 @@ returns c = λ limits segments blocks e.
       quants = c.tables_of-quants.result.items;
       coefs = c.in-Some-take.coefs;
       kept = c.replace-kept.result;
-      jfif = c.args.file.now.reading.items.held.jfif;
+      jfif = c.args.file.now.items.held.jfif;
     } in
     let l : IsLeft c.args.file.now p = record { frame = sym c.take.ensures.value ∙ c.in-Some.is; coefs = sym c.take-2.ensures.value ∙ c.in-Some-take.is; kept = c.replace-kept.ensures.value; few = c.checked.ensures.count_high; tables = c.tables_of-quants.ensures.tables } in
     left_means limits segments blocks c.args.file.now e p l
@@ -46,7 +33,7 @@ invariant_of-result c =
       quants = c.tables_of-quants.result.items;
       coefs = c.in-Some-take.coefs;
       kept = c.replace-kept.result;
-      jfif = c.args.file.now.reading.items.held.jfif;
+      jfif = c.args.file.now.items.held.jfif;
     } in
     let l : IsLeft c.args.file.now p = record { frame = sym c.take.ensures.value ∙ c.in-Some.is; coefs = sym c.take-2.ensures.value ∙ c.in-Some-take.is; kept = c.replace-kept.ensures.value; few = c.checked.ensures.count_high; tables = c.tables_of-quants.ensures.tables } in
     let jfif = left_jfif o.0 o.1.0 o.1.1 c.args.file.now o.1.2 ∙ ap jfif_of (sym c.replace-kept.ensures.value) in

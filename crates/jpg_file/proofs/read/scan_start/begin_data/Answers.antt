@@ -1,26 +1,13 @@
-use Rattle.std.proofs.Common.{◌≡◌, ◌∙◌, ◌*◌, ℕ, refl, ap, subst, sym, arith}
+use Rattle.std.proofs.Common.{◌≡◌, ◌∙◌, ◌*◌, ◌-◌, ℕ, Some, refl, ap, subst, sym, arith}
 use Rattle.jpg_spec.specs.Geometry.{mcu_units}
 use Rattle.jpg_spec.specs.Segments.{head_components}
 use Rattle.jpg_spec.proofs.Basics.Common.{some_once}
 use Rattle.jpg_spec.proofs.Places.PlacesSome.{head_units_some}
-use Rattle.jpg_file.specs.Read.ScanStart.{before_data}
-use Rattle.jpg_file.specs.Read.NewScan.{IsBareScan}
+use Rattle.jpg_file.specs.Read.ScanStart.{IsBegun, before_data}
 use Rattle.jpg_file.specs.declared.read.scan.InScan.{InScan}
-use Rattle.jpg_file.proofs.Scans.ScanStarts.{NewScan, start_of, first_interval, first_of_scan, in_data, counted, due_after}
+use Rattle.jpg_file.proofs.Scans.Machines.{NewScan, start_of, first_interval, first_of_scan, in_data, counted, due_after}
 use Rattle.jpg_file.proofs.ByRow.RowTurns.{begun_left}
 use Rattle.jpg_file.proofs.read.scan_start.begin_data.Goals as goal
-
-pub put_bare-requires : goal.put_bare-requires
-put_bare-requires c = c.requires.2.5.header.scan_header
-
-pub put_tables-requires-clause-header : goal.put_tables-requires-clause-header
-put_tables-requires-clause-header c = c.requires.2.5.header.scan_header
-
-pub put_tables-requires-clause-bare : goal.put_tables-requires-clause-bare
-put_tables-requires-clause-bare c =
-    let put = c.put_bare.ensures in
-    let same = some_once (before_data put.0 _ _) c.in-Some.scan (sym put.1 ∙ c.in-Some.is) in
-    subst (λ (s : InScan). IsBareScan c.args.frame.now c.args.head.now c.args.tables.now s.work.machine) same put.2
 
 pub restart-requires-clause-ready : goal.restart-requires-clause-ready
 restart-requires-clause-ready c =
@@ -46,23 +33,18 @@ restart-requires-clause-some c =
 
 pub returns : goal.returns
 returns c =
-    let put = c.put_bare.ensures in
-    let scan = c.in-Some.scan in
-    let same = some_once (before_data put.0 _ _) scan (sym put.1 ∙ c.in-Some.is) in
-    let w : InScan = record { gate = scan.gate; work = record { machine = c.restart.new.self; whole = scan.work.whole; interval = scan.work.interval; due = scan.work.due; turn = scan.work.turn } } in
-    let gate = ap (λ (s : InScan). s.gate) (sym same) in (
-      w,
+    let f = c.args.frame.now in let head = c.args.head.now in
+    let m = c.restart.new.self in let first = c.first_units-first.result in let all = c.scan_units-all.result in
+    let each = c.from.result * c.from-2.result in let left = all - first in
+    subst (λ (s : InScan). IsBegun f head c.args.tables.now c.args.interval (Some (record s { machine = m }))) (some_once (before_data c.put_bare.ensures.0 each left) c.in-Some.scan (sym c.put_bare.ensures.1 ∙ c.in-Some.is)) (
+      before_data m each left,
       refl,
-      gate,
-      begun_left w.work c.scan_units-all.result c.first_units-first.result (ap (λ (q : InScan). q.work.whole) (sym same)) (ap (λ (q : InScan). q.work.due) (sym same)) c.restart.ensures.left c.first_units-first.ensures.most ∙ c.scan_units-all.ensures,
-      λ now sizes limits items blocks contents bytes b. (let f = c.args.frame.now in
-          let head = c.args.head.now in
-          let x : NewScan = record { limits = limits; items = items; blocks = blocks; contents = contents; bytes = bytes; frame = f; head = head; set = c.args.tables.now; interval = c.args.interval; now = now; begins = b } in
+      refl,
+      begun_left (before_data m each left) all first refl refl c.restart.ensures.left c.first_units-first.ensures.most ∙ c.scan_units-all.ensures,
+      λ now sizes limits items blocks contents bytes b.
+          (let x : NewScan = record { limits = limits; items = items; blocks = blocks; contents = contents; bytes = bytes; frame = f; head = head; set = c.args.tables.now; interval = c.args.interval; now = now; begins = b } in
           let s = start_of x in
-          let n : c.from.result * c.from-2.result ≡ c.args.interval * mcu_units f (head_components head) = ap (λ (k : ℕ). k * c.from-2.result) c.from.ensures ∙ ap (λ (k : ℕ). c.args.interval * k) (c.from-2.ensures ∙ c.mcu_units.ensures.value) in
-          let ready = c.put_tables.ensures (first_interval x s) (first_of_scan x s sizes) in
+          let n : each ≡ c.args.interval * mcu_units f (head_components head) = ap (λ (k : ℕ). k * c.from-2.result) c.from.ensures ∙ ap (λ (k : ℕ). c.args.interval * k) (c.from-2.ensures ∙ c.mcu_units.ensures.value) in
           let many = counted _ _ _ _ _ _ (s.cut).many c.first_units-first.ensures.value n c.scan_units-all.ensures in
-          in_data x s sizes w (c.restart.ensures.begun (first_interval x s) ready many) gate (ap (λ (q : InScan). q.work.whole) (sym same)) (ap (λ (q : InScan). q.work.turn) (sym same))
-          (ap (λ (q : InScan). q.work.interval) (sym same) ∙ n)
-          (ap (λ (q : InScan). q.work.due) (sym same) ∙ due_after _ _ s.cut c.first_units-first.result c.scan_units-all.result many c.scan_units-all.ensures)),
+          in_data x s sizes m each left (c.restart.ensures.begun (first_interval x s) (c.put_tables.ensures (first_interval x s) (first_of_scan x s sizes)) many) n (due_after _ _ s.cut first all many c.scan_units-all.ensures)),
     )

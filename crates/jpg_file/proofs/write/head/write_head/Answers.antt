@@ -6,13 +6,10 @@ use Rattle.jpg_file.proofs.write.head.write_head.Goals as goal
 
 pub returns-in_err-write_interval : goal.returns-in_err-write_interval
 returns-in_err-write_interval g c =
-    let state = g.D.Desk.state in
     let back = err_from_is_err_and c.from_residual.result c.from_residual.ensures.1 in
-    rw (back.1, back.2) (sends_fault (state c.args.desk.now) (state c.write_interval.new.desk) c.args.out.now c.write_interval.new.out _ _ c.in_err-write_interval.field-0.0 c.in_err-write_interval.ensures)
+    rw (back.1, back.2) (sends_fault _ _ _ _ _ _ _ c.in_err-write_interval.ensures)
 
 pub returns : goal.returns
 returns g c =
-    let state = g.D.Desk.state in
-    sends_then (state c.args.desk.now) (state c.write_interval.new.desk) (state c.write_segment.new.desk) c.args.out.now c.write_interval.new.out c.write_segment.new.out _ _ c.write_segment.result c.in_ok-write_interval.ensures
-    (sends_same (state c.write_interval.new.desk) (state c.write_segment.new.desk) c.write_interval.new.out c.write_segment.new.out _ _ c.write_segment.result
+    sends_then _ _ _ _ _ _ _ _ _ c.in_ok-write_interval.ensures (sends_same _ _ _ _ _ _ _
     (ap (segment_text 0xda) (c.as_slice.ensures.value ∙ c.contents_of.ensures)) c.write_segment.ensures)

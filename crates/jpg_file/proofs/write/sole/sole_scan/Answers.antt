@@ -1,8 +1,7 @@
 use Rattle.std.proofs.Common.{sym, ◌∙◌}
 use Rattle.jpg_file.specs.Write.WriteScan.{CanWriteScan}
 use Rattle.jpg_file.specs.declared.write.sole.SoleScan.{SoleScan}
-use Rattle.jpg_file.proofs.Writing.SoleScan.{is_of_all, is_sole_scan}
-use Rattle.jpg_file.proofs.Writing.WrittenText.{can_scans, entry_can}
+use Rattle.jpg_file.proofs.Writing.ScansDue.{is_of_all, is_sole_scan, can_scans, entry_can}
 use Rattle.jpg_file.proofs.write.sole.sole_scan.Goals as goal
 
 pub due_of-requires : goal.due_of-requires

@@ -2,7 +2,7 @@ use Rattle.std.proofs.Common.{ap}
 use Rattle.jpg_coefs.specs.Sinks.{at, no_last}
 use Rattle.jpg_coefs.proofs.MarkSinks.{ends}
 use Rattle.jpg_huff.proofs.Marks.{notes_nothing}
-use Rattle.jpg_seq.specs.Counted.{due_marks, seq_counter}
+use Rattle.jpg_seq.specs.ScanWritten.{due_marks, seq_counter}
 use Rattle.jpg_seq.proofs.count.SeqCounterUnitSinkSymbolCountsUnit.end.Goals as goal
 
 pub returns : goal.returns

@@ -8,12 +8,9 @@ use Rattle.jpg_coefs.specs.Sinks.{at}
 use Rattle.jpg_coefs.specs.MarkSinks.{HasSlots}
 use Rattle.jpg_coefs.proofs.MarkSinks.{takes_unit}
 use Rattle.jpg_huff.specs.Counts.{Notes}
-use Rattle.jpg_seq.specs.Counted.{block_marks, seq_counter}
-use Rattle.jpg_seq.proofs.Counted.{next_unit}
+use Rattle.jpg_seq.specs.ScanWritten.{block_marks, seq_counter}
+use Rattle.jpg_seq.proofs.Written.{next_marks as next_unit}
 use Rattle.jpg_seq.proofs.count.SeqCounterUnitSinkSymbolCountsUnit.unit.Goals as goal
-
-pub count_block-requires-clause-counts : goal.count_block-requires-clause-counts
-count_block-requires-clause-counts c = c.requires.2.counting.done.counts
 
 pub count_block-requires-clause-slots : goal.count_block-requires-clause-slots
 count_block-requires-clause-slots c =

@@ -1,5 +1,5 @@
 use Rattle.std.proofs.Common.{◌∙◌}
-use Rattle.jpg_seq.proofs.KeptScans.{kept_text}
+use Rattle.jpg_seq.proofs.Written.{kept_text}
 use Rattle.jpg_seq.proofs.kept_scan.KeptScan.finish.Goals as goal
 
 pub returns-in-Ok : goal.returns-in-Ok

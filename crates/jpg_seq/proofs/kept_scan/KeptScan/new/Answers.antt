@@ -1,5 +1,5 @@
 use Rattle.std.proofs.Common.{refl}
-use Rattle.jpg_seq.proofs.KeptScans.{keeps_none}
+use Rattle.jpg_seq.proofs.Written.{keeps_none}
 use Rattle.jpg_seq.proofs.kept_scan.KeptScan.new.Goals as goal
 
 pub returns-clause-keeps : goal.returns-clause-keeps

@@ -1,4 +1,4 @@
-use Rattle.jpg_seq.proofs.KeptScans.{can_give, keeps_on}
+use Rattle.jpg_seq.proofs.Written.{can_give, keeps_on}
 use Rattle.jpg_seq.proofs.kept_scan.KeptScan.put.Goals as goal
 
 pub returns-in-Ok-clause-puts : goal.returns-in-Ok-clause-puts

@@ -1,7 +1,7 @@
 use Rattle.std.proofs.Common.{◌≡◌, ◌<◌, sym, ap, ◌∙◌, arith}
 use Rattle.jpg_spec.specs.Segments.{ScanHead}
 use Rattle.jpg_base.proofs.ScanPlaces.{all_parts}
-use Rattle.jpg_seq.proofs.NewCoders.{new_ready}
+use Rattle.jpg_seq.proofs.Machines.{new_ready}
 use Rattle.jpg_seq.proofs.reader.SeqReader.put_tables.Goals as goal
 
 pub put_coders-requires-clause-small : goal.put_coders-requires-clause-small

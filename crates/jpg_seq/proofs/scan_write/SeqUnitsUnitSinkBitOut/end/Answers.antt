@@ -2,8 +2,7 @@ use Rattle.std.proofs.Common.{refl, ap, true, false, flat_map}
 use Rattle.jpg_spec_write.specs.ScanText.{unit_elements, element_bits}
 use Rattle.jpg_coefs.specs.Sinks.{at, no_last}
 use Rattle.jpg_coefs.proofs.BitSinks.{plain_ends}
-use Rattle.jpg_seq.specs.ScanWritten.{tables_in}
-use Rattle.jpg_seq.specs.SeqUnits.{seq_units}
+use Rattle.jpg_seq.specs.ScanWritten.{tables_in, seq_units}
 use Rattle.jpg_seq.proofs.scan_write.SeqUnitsUnitSinkBitOut.end.Goals as goal
 
 pub returns : goal.returns

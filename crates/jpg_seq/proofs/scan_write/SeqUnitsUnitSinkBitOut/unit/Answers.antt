@@ -3,9 +3,9 @@ use Rattle.std.proofs.lemmas.List.Elements.{All-head}
 use Rattle.jpg_spec.specs.Scan.{part_of}
 use Rattle.jpg_coefs.specs.Sinks.{at}
 use Rattle.jpg_coefs.proofs.BitSinks.{takes_unit, puts_up_to}
-use Rattle.jpg_seq.specs.NewReader.{HasTables}
-use Rattle.jpg_seq.specs.SeqUnits.{seq_units}
-use Rattle.jpg_seq.proofs.ScanUnits.{next_unit}
+use Rattle.jpg_seq.specs.Reader.{HasTables}
+use Rattle.jpg_seq.specs.ScanWritten.{seq_units}
+use Rattle.jpg_seq.proofs.Written.{next_unit}
 use Rattle.jpg_seq.proofs.scan_write.SeqUnitsUnitSinkBitOut.unit.Goals as goal
 
 pub put_unit-requires-clause-tables : goal.put_unit-requires-clause-tables

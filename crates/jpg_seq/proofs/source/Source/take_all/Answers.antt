@@ -1,6 +1,6 @@
 use Rattle.std.proofs.Common.{arith}
 use Rattle.jpg_seq.specs.Source.{bits_in}
-use Rattle.jpg_seq.proofs.Sources.{byte_fits}
+use Rattle.jpg_seq.proofs.Takings.{byte_fits}
 use Rattle.jpg_seq.proofs.source.Source.take_all.Goals as goal
 
 pub push-requires : goal.push-requires

@@ -1,7 +1,7 @@
 use Rattle.std.proofs.Common.{◌≡◌, ◌++◌, List, ℤ, length, sym, ap, ◌∙◌, arith, length-take-le}
 use Rattle.jpg_spec.specs.Elements.{zeros}
 use Rattle.jpg_seq.specs.Work.{Work}
-use Rattle.jpg_seq.proofs.Leaf.{covered_so_far, cover_values}
+use Rattle.jpg_seq.proofs.Elements.{covered_so_far, cover_values}
 use Rattle.jpg_seq.proofs.work.UnitWork.cover.Goals as goal
 
 pub invariant_of-self : goal.invariant_of-self

@@ -1,51 +1,62 @@
-use Rattle.std.proofs.Common.{rules, ◌++◌, ◌∷◌, [], List, Bool, length, ap, ◌∙◌, arith}
+use Rattle.std.proofs.Common.{rules, ◌-◌, ◌++◌, ◌∷◌, [], ℕ, length, drop, ap, ◌∙◌, arith}
 use mir.Syntax.{w16}
 use Rattle.std.proofs.lemmas.Int.{to_z-of_z}
 use Rattle.jpg_spec.specs.Elements.{zeros}
-use Rattle.jpg_seq.specs.Coder.{env_in}
-use Rattle.jpg_seq.specs.Work.{Work, Env}
-use Rattle.jpg_seq.proofs.Takings.{more_grows, direct_element, direct_shown, direct_part}
+use Rattle.jpg_seq.specs.Work.{env_by, Work}
+use Rattle.jpg_seq.proofs.Takings.{cut_off, element_takes, part_takes, shown_takes}
 use Rattle.jpg_seq.proofs.work.UnitWork.element.Goals as goal
 
-pub keep-requires : goal.keep-requires
-keep-requires c = omega (arith, c.in-Part.ensures.1, ap length c.requires.none)
+pub overflow_sub-length : goal.overflow_sub-length
+overflow_sub-length c =
+    let k = cut_off (env_by c.args.env.now) c.args.self.now.values c.args.self.now.part c.args.store.now c.args.bits.now c.in-Bad.length c.requires.work.part c.requires.next c.in-Bad.ensures.1 c.in-Bad.ensures.2.ends in
+    omega (arith, c.requires.have, k.more)
+
+pub skip-requires : goal.skip-requires
+skip-requires c =
+    let k = cut_off (env_by c.args.env.now) c.args.self.now.values c.args.self.now.part c.args.store.now c.args.bits.now c.in-Bad.length c.requires.work.part c.requires.next c.in-Bad.ensures.1 c.in-Bad.ensures.2.ends in
+    omega (arith, c.requires.have, k.there)
+
+pub overflow_sub-length-in-Value : goal.overflow_sub-length-in-Value
+overflow_sub-length-in-Value c =
+    let k = cut_off (env_by c.args.env.now) c.args.self.now.values c.args.self.now.part c.args.store.now c.args.bits.now c.in-Value.length c.requires.work.part c.requires.next c.in-Value.ensures.1 c.in-Value.ensures.2.ends in
+    omega (arith, c.requires.have, k.more)
+
+pub skip-requires-in-Value : goal.skip-requires-in-Value
+skip-requires-in-Value c =
+    let k = cut_off (env_by c.args.env.now) c.args.self.now.values c.args.self.now.part c.args.store.now c.args.bits.now c.in-Value.length c.requires.work.part c.requires.next c.in-Value.ensures.1 c.in-Value.ensures.2.ends in
+    omega (arith, c.requires.have, k.there)
+
+pub overflow_sub-length-in-Zeros : goal.overflow_sub-length-in-Zeros
+overflow_sub-length-in-Zeros c =
+    let k = cut_off (env_by c.args.env.now) c.args.self.now.values c.args.self.now.part c.args.store.now c.args.bits.now c.in-Zeros.length c.requires.work.part c.requires.next c.in-Zeros.ensures.1 c.in-Zeros.ensures.2.ends in
+    omega (arith, c.requires.have, k.more)
+
+pub skip-requires-in-Zeros : goal.skip-requires-in-Zeros
+skip-requires-in-Zeros c =
+    let k = cut_off (env_by c.args.env.now) c.args.self.now.values c.args.self.now.part c.args.store.now c.args.bits.now c.in-Zeros.length c.requires.work.part c.requires.next c.in-Zeros.ensures.1 c.in-Zeros.ensures.2.ends in
+    omega (arith, c.requires.have, k.there)
 
 pub returns-in-Part-clause-takes : goal.returns-in-Part-clause-takes
 returns-in-Part-clause-takes c =
-    let e : Env = env_in c.args.bounds.now c.args.coder.now c.args.prediction in let s = c.args.self.now in let store = c.args.store.now in
-    let x = to_z-of_z w16 c.args.prediction (search rules) in
-    direct_part e s c.keep.new.self store c.keep.new.store c.requires.left c.requires.none (rw x at c.in-Part.ensures.0) c.keep.ensures.work c.keep.ensures.empty
+    part_takes (env_by c.args.env.now) c.args.self.now c.keep.new.self c.args.store.now c.keep.new.store c.args.bits.now c.requires.work.left c.requires.next c.in-Part.ensures.0 c.in-Part.ensures.1 c.keep.ensures.work c.keep.ensures.empty
 
 pub returns-in-Bad-clause-takes : goal.returns-in-Bad-clause-takes
 returns-in-Bad-clause-takes c =
-    let e : Env = env_in c.args.bounds.now c.args.coder.now c.args.prediction in let s = c.args.self.now in let store = c.args.store.now in
-    let x = to_z-of_z w16 c.args.prediction (search rules) in
-    let h = rw x at c.in-Bad.ensures in
-    direct_shown e s s store c.skip.new.self c.in-Bad.length c.in-Bad.fault c.requires.none h.0 h.1 h.2 c.skip.ensures
+    let s = c.args.self.now in
+    shown_takes (env_by c.args.env.now) s s c.args.store.now c.skip.new.self c.args.bits.now c.in-Bad.length c.in-Bad.fault c.requires.work.part c.requires.next c.in-Bad.ensures.1 c.in-Bad.ensures.2
+    (c.skip.ensures ∙ ap (λ (n : ℕ). drop (c.in-Bad.length - n) c.args.store.now) c.requires.have)
 
 pub returns-in-Value-clause-takes : goal.returns-in-Value-clause-takes
 returns-in-Value-clause-takes c =
-    let e : Env = env_in c.args.bounds.now c.args.coder.now c.args.prediction in let s = c.args.self.now in let store = c.args.store.now in
-    let x = to_z-of_z w16 c.args.prediction (search rules) in
-    let h = rw x at c.in-Value.ensures in
-    direct_element e s c.place.new.self store c.skip-in-Value.new.self c.in-Value.length (zeros c.in-Value.run' ++ c.in-Value.value ∷ []) c.covered.result c.requires.none h.0 h.1 h.2 c.skip-in-Value.ensures
-    (rw (to_z-of_z w16 c.in-Value.value (search rules)) at c.place.ensures ∙ ap (λ (p : List Bool). (let n : Work = record { values = s.values ++ (zeros c.in-Value.run' ++ c.in-Value.value ∷ []); part = p } in n)) c.requires.none) c.covered.ensures
+    let s = c.args.self.now in
+    let here = zeros c.in-Value.run' ++ c.in-Value.value ∷ [] in
+    element_takes (env_by c.args.env.now) s c.place.new.self c.args.store.now c.skip-in-Value.new.self c.args.bits.now c.in-Value.length here c.covered.result c.requires.work.part c.requires.next c.in-Value.ensures.1 c.in-Value.ensures.2
+    (c.skip-in-Value.ensures ∙ ap (λ (n : ℕ). drop (c.in-Value.length - n) c.args.store.now) c.requires.have)
+    (rw (to_z-of_z w16 c.in-Value.value (search rules)) at c.place.ensures ∙ ap (λ (w : Work). (let n : Work = record w { values = w.values ++ here } in n)) c.clear.ensures) c.covered.ensures
 
 pub returns-in-Zeros-clause-takes : goal.returns-in-Zeros-clause-takes
 returns-in-Zeros-clause-takes c =
-    let e : Env = env_in c.args.bounds.now c.args.coder.now c.args.prediction in let s = c.args.self.now in let store = c.args.store.now in
-    let x = to_z-of_z w16 c.args.prediction (search rules) in
-    let h = rw x at c.in-Zeros.ensures in
-    direct_element e s c.cover.new.self store c.skip-in-Zeros.new.self c.in-Zeros.length (zeros c.in-Zeros.count) c.covered-in-Zeros.result c.requires.none h.0 h.1 h.2 c.skip-in-Zeros.ensures
-    (c.cover.ensures ∙ ap (λ (p : List Bool). (let n : Work = record { values = s.values ++ zeros c.in-Zeros.count; part = p } in n)) c.requires.none) c.covered-in-Zeros.ensures
-
-pub returns-in-Value-clause-grows : goal.returns-in-Value-clause-grows
-returns-in-Value-clause-grows c =
-    let e : Env = env_in c.args.bounds.now c.args.coder.now c.args.prediction in let s = c.args.self.now in let store = c.args.store.now in
-    let h = c.in-Value.ensures in
-    more_grows s c.place.new.self (zeros c.in-Value.run' ++ c.in-Value.value ∷ []) c.covered.result h.2.some (rw (to_z-of_z w16 c.in-Value.value (search rules)) at c.place.ensures) c.covered.ensures
-
-pub returns-in-Zeros-clause-grows : goal.returns-in-Zeros-clause-grows
-returns-in-Zeros-clause-grows c =
-    let h = c.in-Zeros.ensures in
-    more_grows c.args.self.now c.cover.new.self (zeros c.in-Zeros.count) c.covered-in-Zeros.result h.2.some c.cover.ensures c.covered-in-Zeros.ensures
+    let s = c.args.self.now in
+    element_takes (env_by c.args.env.now) s c.cover.new.self c.args.store.now c.skip-in-Zeros.new.self c.args.bits.now c.in-Zeros.length (zeros c.in-Zeros.count) c.covered-in-Zeros.result c.requires.work.part c.requires.next c.in-Zeros.ensures.1 c.in-Zeros.ensures.2
+    (c.skip-in-Zeros.ensures ∙ ap (λ (n : ℕ). drop (c.in-Zeros.length - n) c.args.store.now) c.requires.have)
+    (c.cover.ensures ∙ ap (λ (w : Work). (let n : Work = record w { values = w.values ++ zeros c.in-Zeros.count } in n)) c.clear-in-Zeros.ensures) c.covered-in-Zeros.ensures

@@ -4,7 +4,7 @@ use mir.Val.{SFits}
 use Rattle.std.proofs.lemmas.Int.{to_z-of_z}
 use Rattle.jpg_spec.specs.Elements.{zeros}
 use Rattle.jpg_seq.specs.Work.{Work, IsBlockSoFar}
-use Rattle.jpg_seq.proofs.Leaf.{placed_so_far, place_values}
+use Rattle.jpg_seq.proofs.Elements.{placed_so_far, place_values}
 use Rattle.jpg_seq.proofs.work.UnitWork.place.Goals as goal
 
 pub invariant_of-self : goal.invariant_of-self

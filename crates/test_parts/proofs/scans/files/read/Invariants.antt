@@ -1,5 +1,5 @@
 use Rattle.std.specs.Prelude.{◌≡◌, false}
-use Rattle.jpg_file.specs.Read.ReadRows.{IsPlain}
+use Rattle.jpg_file.specs.Read.ReadFile.{IsPlain}
 use Rattle.test_parts.proofs.scans.files.read.Given as goal
 
 abbrev pub invariant-loop-piece : goal.invariant-loop-piece

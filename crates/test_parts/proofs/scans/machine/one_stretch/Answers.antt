@@ -1,7 +1,7 @@
 use Rattle.std.proofs.Common.{refl, drop}
 use Rattle.jpg_spec.specs.Bits.{bits_of_bytes}
-use Rattle.jpg_seq.specs.Rows.{all_blocks}
-use Rattle.jpg_seq.proofs.RowReadings.{all_inside, all_taken}
+use Rattle.jpg_seq.specs.Reader.{all_blocks}
+use Rattle.jpg_seq.proofs.Readings.{all_inside, all_taken}
 use Rattle.test_parts.proofs.Begun.{goes_on}
 use Rattle.test_parts.proofs.scans.machine.one_stretch.Goals as goal
 

@@ -1,7 +1,6 @@
 use Rattle.std.proofs.Common.{[], refl, subst}
 use Rattle.jpg_coefs.specs.Picture.{Picture}
-use Rattle.jpg_file.specs.Read.Data.{GivesRun}
-use Rattle.jpg_file.specs.Read.Machine.{any_scan}
+use Rattle.jpg_file.specs.Read.Machine.{GivesRun, any_scan}
 use Rattle.jpg_file.specs.declared.read.machine.ScanReader.{ScanReader}
 use Rattle.jpg_file.proofs.read.blocks.CoefsScanBlocks.take_bytes.Goals as goal
 

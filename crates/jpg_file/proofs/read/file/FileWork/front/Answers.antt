@@ -1,28 +1,35 @@
-use Rattle.std.proofs.Common.{◌∙◌, sym, arith}
-use Rattle.jpg_file.proofs.Files.PieceSteps.{front_fills, front_passes, all_between, all_in_scan}
-use Rattle.jpg_file.proofs.Files.FileSteps.{between_of}
-use Rattle.jpg_file.specs.Read.File.{limits_of}
+use Rattle.std.proofs.Common.{◌≡◌, ◌-◌, ◌+◌, ◌∙◌, ℕ, rules, ap, arith, length, min, subst, take, is_some}
+use Rattle.jpg_file.specs.Read.Going.{has_waiting}
+use Rattle.jpg_file.specs.Read.Passing.{PassesMost}
+use Rattle.jpg_file.proofs.Files.FileSteps.{all_between, can_front, front_fills, front_passes, goes_segment, passes_most}
 use Rattle.jpg_file.proofs.read.file.FileWork.front.Goals as goal
-use Rattle.jpg_markers.proofs.Continuing.{not_some}
 
-pub returns-then-is_some-clause-after : goal.returns-then-is_some-clause-after
-returns-then-is_some-clause-after c =
-    front_fills c.args.self.now c.fill_in_scan.new.self c.args.bytes.now c.fill_in_scan.result (sym c.is_some.ensures ∙ c.if-is_some.true) c.fill_in_scan.ensures.after
+-- BETWEEN ITEMS
 
-pub front-requires-clause-can : goal.front-requires-clause-can
-front-requires-clause-can c =
-    let w = c.args.self.now in
+pub returns-in_default-clause-after : goal.returns-in_default-clause-after
+returns-in_default-clause-after c =
+    let most = c.min-most.ensures in
     let o = c.requires.stands in
-    let s = between_of (limits_of w) o.0 w o.1 (sym c.is_some.ensures ∙ c.if-is_some.false) in
-    record { none = not_some w.reading.scan (sym c.is_some.ensures ∙ c.if-is_some.false); same = s.at.bounded.0; count = s.beside.same; limits = c.requires.limits; room = omega (arith, c.requires.room) }
+    let done = c.segments-done in
+    let took = c.contents-n in
+    front_passes c.args.self.now _ c.args.bytes.now (c.min-most.result - 1) _ (omega (arith, most, c.requires.some, c.requires.room)) (omega (arith, most, c.requires.some, c.requires.room)) (ap is_some c.in_default.is)
+    (goes_segment c.args.self.now done.new.self took.new.self (take (c.min-most.result - 1) c.args.bytes.now) done.result took.result
+    (can_front c.args.self.now o.0 o.1 c.args.bytes.now (c.min-most.result - 1) o.2 c.in_default.is c.requires.limits (omega (arith, most, c.requires.some, c.requires.room)) (omega (arith, most, c.requires.some, c.requires.room))) done.ensures.after took.ensures.after)
+    (took.ensures.keeps.keeping ∙ done.ensures.keeping) (λ s. (let n = done.ensures.sparing s in record { keeping = took.ensures.keeps.keeping ∙ n.keeping; scanned = took.ensures.keeps.scanned ∙ n.scanned; room = took.ensures.keeps.room n.room }))
 
-pub returns-else-is_some-clause-after : goal.returns-else-is_some-clause-after
-returns-else-is_some-clause-after c = front_passes c.args.self.now c.front.new.self c.args.bytes.now c.front.result c.front.ensures.after c.front.ensures.less c.front.ensures.left
+pub returns-in_default-clause-most : goal.returns-in_default-clause-most
+returns-in_default-clause-most c =
+    let w = c.args.self.now in
+    let bytes = c.args.bytes.now in
+    let is : c.min-most.result ≡ min (length bytes) (w.items.limits.input - w.taken) = omega (arith, c.min-most.ensures) in
+    all_between w.scan w bytes (c.segments-done.result + c.contents-n.result) (ap is_some c.in_default.is)
+    (subst (λ (m : ℕ). PassesMost w (take (m - 1) bytes) (c.segments-done.result + c.contents-n.result)) is
+    (passes_most w c.segments-done.new.self (take (c.min-most.result - 1) bytes) c.segments-done.result c.contents-n.result c.segments-done.ensures.after c.segments-done.ensures.none c.contents-n.ensures.most))
 
-pub returns-then-is_some-clause-most : goal.returns-then-is_some-clause-most
-returns-then-is_some-clause-most c =
-    all_in_scan c.args.self.now.reading.scan c.args.self.now.reading c.args.bytes.now c.fill_in_scan.result (sym c.is_some.ensures ∙ c.if-is_some.true) c.fill_in_scan.ensures.most
+-- INSIDE THE DATA of a scan
 
-pub returns-else-is_some-clause-most : goal.returns-else-is_some-clause-most
-returns-else-is_some-clause-most c =
-    all_between c.args.self.now.reading.scan c.args.self.now.reading c.args.bytes.now c.front.result (sym c.is_some.ensures ∙ c.if-is_some.false) c.front.ensures.most
+pub returns-clause-after : goal.returns-clause-after
+returns-clause-after c =
+    let most = c.min-most.ensures in
+    front_fills c.args.self.now c.args.bytes.now (c.min-most.result - 1) c.fill_length-n.result (omega (arith, most, c.requires.some, c.requires.room)) (omega (arith, most, c.requires.some, c.requires.room)) (ap is_some c.in-Some.is)
+    c.fill_length-n.ensures.within c.fill_length-n.ensures.all (λ some. ap has_waiting c.in-Some.is ∙ (search rules))

@@ -3,8 +3,7 @@ use Rattle.jpg_spec.specs.Geometry.{Frame, is_progressive}
 use Rattle.jpg_spec.specs.Segments.{ScanHead}
 use Rattle.jpg_spec.proofs.Basics.Common.{clash}
 use Rattle.jpg_file.specs.Read.Strips.{IsHeadOfAll, contents_held}
-use Rattle.jpg_file.proofs.ByRow.RowsNone.{none_other}
-use Rattle.jpg_file.proofs.ByRow.StripBegin.{head_found, frame_there}
+use Rattle.jpg_file.proofs.ByRow.StripBegin.{none_other, head_found, frame_there}
 use Rattle.jpg_file.proofs.read.file.FileWork.head_of_all.Goals.{then-is_progressive-via-then-is_progressive, then-is_progressive-via-else-is_progressive+then-len-count}
 use Rattle.jpg_file.proofs.read.file.FileWork.head_of_all.Goals as goal
 

@@ -1,10 +1,9 @@
 use Rattle.std.proofs.Common.{sym, subst}
 use Rattle.jpg_file.specs.Read.File.{with_picture}
-use Rattle.jpg_file.specs.Read.Step.{HasMemory}
 use Rattle.jpg_file.specs.Read.Strips.{AfterRows}
 use Rattle.jpg_file.specs.declared.read.step.Step.{Step}
 use Rattle.jpg_file.proofs.ByRow.StripBegin.{frame_there, none_accepted}
-use Rattle.jpg_file.proofs.ByRow.StripItems.{head_stops}
+use Rattle.jpg_file.proofs.ByRow.StripBytes.{head_stops}
 use Rattle.jpg_file.proofs.read.file.FileWork.later_head.Goals as goal
 
 pub unreachable-requires : goal.unreachable-requires
@@ -22,6 +21,3 @@ returns-clause-after c = λ limits bytes whole rows h.
     let w = c.args.self.now in
     subst (λ (a : Step). AfterRows limits bytes a w rows) (sym c.fault_at.ensures.is)
     (head_stops limits bytes (with_picture w whole) c.in-Some.frame c.contents.result.now c.in-Err.fault h c.in-Some.is c.contents.ensures c.in-Err.ensures)
-
-pub returns-clause-memory : goal.returns-clause-memory
-returns-clause-memory c = subst (λ (a : Step). HasMemory a) (sym c.fault_at.ensures.is) tt

@@ -16,13 +16,10 @@ zeros_made f None q none framed zero = record { picture = q; has = refl; framed 
 
 pub returns-clause-made : goal.returns-clause-made
 returns-clause-made c =
-    let old = c.args.self.now.reading.coefs in
+    let old = c.args.self.now.coefs in
     let q : Picture = c.in_ok-coefs.coefs in
     record {
-      begun = refl;
-      items = refl;
-      scan = refl;
-      taken = refl;
+      is = refl;
       picture = λ f e.
           subst (λ (g : Frame). IsFrame g × PictureMade g old (Some q)) (once c.in-Some.frame f (sym c.in-Some.is ∙ e))
           (c.checked.ensures, zeros_made c.in-Some.frame old q (sym c.is_some.ensures ∙ c.if-is_some.false) c.in_ok-coefs.ensures.frame c.in_ok-coefs.ensures.zero);

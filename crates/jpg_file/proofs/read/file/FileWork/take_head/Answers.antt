@@ -1,10 +1,9 @@
-use Rattle.std.proofs.Common.{◌∙◌, Err, Ok, Option, refl, sym, ap, subst}
+use Rattle.std.proofs.Common.{◌∙◌, Err, Ok, Option, sym, ap, subst}
 use Rattle.jpg_coefs.specs.Picture.{Picture}
-use Rattle.jpg_file.specs.Read.File.{limits_of}
-use Rattle.jpg_file.specs.Read.Reading.{HeadWhole}
+use Rattle.jpg_file.specs.Read.File.{limits_of, HeadWhole}
 use Rattle.jpg_file.specs.declared.read.file.FileWork.{FileWork}
-use Rattle.jpg_file.proofs.Scans.Scannings.{none_some}
-use Rattle.jpg_file.proofs.Files.FileSteps.{head_after, head_goes, head_taken, head_whole, no_room, room_made}
+use Rattle.jpg_file.proofs.Scans.ScanBytes.{none_some}
+use Rattle.jpg_file.proofs.Files.FileSteps.{head_after, head_goes, head_taken, head_whole, room_made}
 use Rattle.jpg_file.proofs.read.file.FileWork.take_head.Goals as goal
 
 pub unreachable-requires : goal.unreachable-requires
@@ -13,7 +12,7 @@ unreachable-requires c =
     let room = c.make_room.new.self in
     let o = c.requires.stands in
     let k = head_whole (limits_of old) o.0 old room o.1 (room_made old room c.make_room.result c.make_room.ensures.made (sym c.is_err.ensures.value ∙ c.if-is_err.false)) in
-    none_some room.reading.coefs k.coefs k.has c.in_default.is
+    none_some room.coefs k.coefs k.has c.in_default.is
 
 pub begin_head-requires : goal.begin_head-requires
 begin_head-requires c =
@@ -22,28 +21,24 @@ begin_head-requires c =
     let o = c.requires.stands in
     let h = o.1 in
     let made = room_made old room c.make_room.result c.make_room.ensures.made (sym c.is_err.ensures.value ∙ c.if-is_err.false) in
-    let same = ap (λ i. i.limits) made.items in
-    let k = subst (λ l. HeadWhole l o.0 h.items h.blocks room.reading room.begun) (sym same) (head_whole (limits_of old) o.0 old room h made) in
-    record { stands = (c.in-Some.coefs, c.checked.ensures.sizes, (o.0, h.items, h.blocks, subst (λ (p : Option Picture). HeadWhole room.reading.items.limits o.0 h.items h.blocks (record room.reading { coefs = p }) room.begun) c.in-Some.is k)) }
+    let same = ap (λ (w : FileWork). limits_of w) made.is in
+    let k = subst (λ l. HeadWhole l o.0 h.items h.blocks room) (sym same) (head_whole (limits_of old) o.0 old room h made) in
+    (c.in-Some.coefs, c.checked.ensures.sizes, (o.0, h.items, h.blocks, subst (λ (p : Option Picture). HeadWhole room.items.limits o.0 h.items h.blocks (record room { coefs = p })) c.in-Some.is k))
 
 pub returns-in-Ok-clause-after : goal.returns-in-Ok-clause-after
 returns-in-Ok-clause-after c = λ bytes h.
     let old = c.args.self.now in
     let room = c.make_room.new.self in
-    let t = c.begin_head.new in
-    let taken : FileWork = record { alloc = room.alloc; orders = room.orders; reading = t.self; begun = t.begun; head = room.head } in
-    head_goes (limits_of old) bytes old room taken _ h (room_made old room c.make_room.result c.make_room.ensures.made (sym c.is_err.ensures.value ∙ c.if-is_err.false)) c.make_room.ensures.head
-    (head_taken room.reading t.self room.begun t.begun c.in-Some.coefs (Ok tt) c.in-Some.is c.in-Ok.ensures.coefs (c.in-Ok.ensures.after c.in-Some.coefs c.checked.ensures.sizes)) refl c.note_head.ensures
+    let taken = c.begin_head.new.self in
+    head_goes (limits_of old) bytes old room taken _ h (room_made old room c.make_room.result c.make_room.ensures.made (sym c.is_err.ensures.value ∙ c.if-is_err.false))
+    (head_taken room taken c.in-Some.coefs (Ok tt) c.in-Some.is c.in-Ok.ensures.coefs (c.in-Ok.ensures.after c.in-Some.coefs c.checked.ensures.sizes)) c.in-Ok.ensures.head c.note_head.ensures
 
 pub returns-in-Err-clause-after : goal.returns-in-Err-clause-after
 returns-in-Err-clause-after c = λ bytes h.
     let old = c.args.self.now in
     let room = c.make_room.new.self in
-    let t = c.begin_head.new in
+    let taken = c.begin_head.new.self in
     let made = room_made old room c.make_room.result c.make_room.ensures.made (sym c.is_err.ensures.value ∙ c.if-is_err.false) in
-    let a = head_after (limits_of old) bytes old room (Err c.in-Err.fault) t.self t.begun h made
-    (head_taken room.reading t.self room.begun t.begun c.in-Some.coefs (Err c.in-Err.fault) c.in-Some.is c.in-Err.ensures.coefs (c.in-Err.ensures.after c.in-Some.coefs c.checked.ensures.sizes)) in
+    let a = head_after (limits_of old) bytes old room (Err c.in-Err.fault) taken h made
+    (head_taken room taken c.in-Some.coefs (Err c.in-Err.fault) c.in-Some.is c.in-Err.ensures.coefs (c.in-Err.ensures.after c.in-Some.coefs c.checked.ensures.sizes)) in
     (a.1, a.0)
-
-pub returns-then-is_err-clause-after : goal.returns-then-is_err-clause-after
-returns-then-is_err-clause-after c = λ bytes h. no_room c.args.self.now c.make_room.new.self c.make_room.result c.make_room.ensures.made (sym c.is_err.ensures.value ∙ c.if-is_err.true)

@@ -42,7 +42,7 @@ returns-in-Err-clause-after c = λ bytes k.
     let r = next_ready (limits_of w) bytes w scan c.in-Some.is c.args.rows.now new k c.next.ensures.at c.next.ensures.of c.next.ensures.waiting in
     let took = c.rest_in_row in
     let some : 1 ≤ length new.waiting = omega (arith, c.len.ensures.value, c.if-len-eq0.false) in (
-      subst (λ (a : Step). AfterRows (limits_of w) bytes a (file_with w took.new.self w.reading.taken) took.new.rows) (sym c.fault_at.ensures.is) (rest_stops (limits_of w) bytes w scan new r some took.new.self took.new.rows took.result c.in-Err.fault took.ensures.takes c.in-Err.is),
+      subst (λ (a : Step). AfterRows (limits_of w) bytes a (file_with w took.new.self w.taken) took.new.rows) (sym c.fault_at.ensures.is) (rest_stops (limits_of w) bytes w scan new r some took.new.self took.new.rows took.result c.in-Err.fault took.ensures.takes c.in-Err.is),
       λ f e. rest_at_fault bytes w scan new r c.args.rows.now took.new.rows took.new.self took.result c.in-Err.fault some (next_counts (limits_of w) bytes w scan c.in-Some.is c.args.rows.now new k c.next.ensures.at) took.ensures.passes c.in-Err.is,
     )
 
@@ -58,7 +58,7 @@ returns-in-Ok-clause-rows c =
     let o = c.requires in
     let took = c.rest_in_row in
     rows_then c.args.rows.now c.next.new.self took.new.rows c.row_step.result (next_counts (limits_of w) o.0 w c.in-Some.scan c.in-Some.is c.args.rows.now c.next.new.self o.1 c.next.ensures.at)
-    (counts_rows c.in-Some.scan.work took.new.self.work c.next.new.self took.new.rows _ c.row_step.result
+    (counts_rows c.in-Some.scan took.new.self c.next.new.self took.new.rows _ c.row_step.result
     (rest_counts (limits_of w) o.0 w c.in-Some.scan c.next.new.self (next_ready (limits_of w) o.0 w c.in-Some.scan c.in-Some.is c.args.rows.now c.next.new.self o.1 c.next.ensures.at c.next.ensures.of c.next.ensures.waiting)
     (omega (arith, c.len.ensures.value, c.if-len-eq0.false)) took.new.self took.new.rows took.result took.ensures.passes)
     c.row_step.ensures.is)

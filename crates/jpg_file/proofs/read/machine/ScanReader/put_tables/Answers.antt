@@ -1,7 +1,8 @@
-use Rattle.std.proofs.Common.{subst}
-use Rattle.jpg_file.specs.Read.NewScan.{IsBareScan}
+use Rattle.std.proofs.Common.{arith, true, false, subst}
+use Rattle.jpg_file.specs.Read.Machine.{IsBareScan}
 use Rattle.jpg_file.specs.declared.read.machine.ScanReader.{ScanReader}
-use Rattle.jpg_file.proofs.Scans.Machines.{as_plain, first_kind, kind_of, of_first}
+use Rattle.std.proofs.lemmas.Bool.Decides.{nat_tests}
+use Rattle.jpg_file.proofs.Scans.Machines.{as_plain, kind_of, of_first}
 use Rattle.jpg_file.proofs.read.machine.ScanReader.put_tables.Goals as goal
 
 pub put_tables-requires-clause-scan : goal.put_tables-requires-clause-scan
@@ -17,5 +18,5 @@ returns-in-DcFirst c = λ i of.
     let head = c.args.head.now in
     let set = c.args.tables.now in
     let bare = subst (λ (m : ScanReader). IsBareScan f head set m) c.in-DcFirst.is c.requires.bare in
-    let k = kind_of f head set i _ of (first_kind _ head bare.0 bare.1 bare.2) in
+    let k = kind_of f head set i true false of bare.0 (grind (arith, nat_tests, bare.1)) (grind (arith, nat_tests, bare.2)) in
     (c.put_tables-in-DcFirst.ensures i (of_first f head set i of k), k)

@@ -1,23 +1,16 @@
-use Rattle.std.proofs.Common.{[], refl, drop}
+use Rattle.std.proofs.Common.{[], drop}
 use Rattle.jpg_spec.specs.Bits.{bits_of_bytes}
 use Rattle.jpg_seq.specs.Reader.{sequential}
-use Rattle.jpg_seq.specs.Rows.{all_blocks}
-use Rattle.jpg_seq.proofs.RowReadings.{all_inside, all_taken}
+use Rattle.jpg_seq.proofs.Readings.{all_taken}
 use Rattle.jpg_prog_read.specs.RepresentsAcScan.{progressive_ac}
 use Rattle.jpg_prog_read.specs.DcFirstPass.{first_pass}
 use Rattle.jpg_prog_read.specs.DcRefinement.{refinement}
 use Rattle.jpg_file.specs.Read.Machine.{any_scan}
 use Rattle.jpg_file.specs.declared.read.machine.ScanReader.TheVariants.{Sequential, DcFirst, DcRefine, Ac}
-use Rattle.jpg_file.proofs.ByRow.RowData.{own}
+use Rattle.jpg_file.proofs.ByRow.RowTurns.{own}
 use Rattle.jpg_file.proofs.Scans.Runs.{given_bytes, run_all}
 use Rattle.jpg_file.proofs.Scans.Machines.{is_sequential, is_dc_first, is_dc_later, is_ac, run_of}
 use Rattle.jpg_file.proofs.read.machine.ScanReader.run.Goals as goal
-
-pub bytes-got-requires-clause-open : goal.bytes-got-requires-clause-open
-bytes-got-requires-clause-open c = (all_blocks, c.args.coefs.now, (refl, refl), own c.args.self.now c.in-Sequential.machine c.args.coefs.now c.in-Sequential.is c.requires.open)
-
-pub bytes-got-requires-clause-inside : goal.bytes-got-requires-clause-inside
-bytes-got-requires-clause-inside c = all_inside c.in-Sequential.machine c.args.coefs.now c.units_left-all.result (own c.args.self.now c.in-Sequential.machine c.args.coefs.now c.in-Sequential.is c.requires.open)
 
 pub returns-in-Sequential : goal.returns-in-Sequential
 returns-in-Sequential c =

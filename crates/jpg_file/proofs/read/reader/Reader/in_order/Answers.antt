@@ -1,6 +1,5 @@
 use Rattle.std.proofs.Common.{[], refl, arith}
-use Rattle.jpg_file.proofs.Files.FileSteps.{head_is}
-use Rattle.jpg_file.proofs.Files.PieceSteps.{stands_file}
+use Rattle.jpg_file.proofs.Files.FileSteps.{head_is, stands_file}
 use Rattle.jpg_file.proofs.read.reader.Reader.in_order.Goals as goal
 
 pub returns-clause-read : goal.returns-clause-read

@@ -1,6 +1,6 @@
 use Rattle.std.proofs.Common.{sym, subst}
 use Rattle.jpg_file.specs.Read.ReadFile.{HasRead, ReaderState}
-use Rattle.jpg_file.specs.Read.ScansEnded.{ScansEnded}
+use Rattle.jpg_file.specs.Read.ScanPieces.{ScansEnded}
 use Rattle.jpg_file.proofs.Files.ReaderFed.{state_ended}
 use Rattle.jpg_file.proofs.read.reader.Reader.scans_ended.Goals as goal
 

@@ -1,17 +1,9 @@
-use Rattle.std.proofs.Common.{[], refl}
+use Rattle.std.proofs.Common.{[], ◌∙◌, ap, sym, subst, true}
+use Rattle.jpg_file.specs.Read.ReadFile.{HasRead, ReaderState}
 use Rattle.jpg_file.proofs.ByRow.RowsRead.{read_nothing}
 use Rattle.jpg_file.proofs.read.reader.Reader.strips.Goals as goal
 
 pub returns-clause-read : goal.returns-clause-read
-returns-clause-read c = read_nothing c.args.limits _ c.requires refl refl refl refl c.new.ensures.stands
-
-pub invariant_of-result : goal.invariant_of-result
-invariant_of-result c = record {
-  limited = c.requires;
-  in_rows = λ by. refl;
-  keeping = λ by. c.new.ensures.keeping;
-  sparing = λ by. tt;
-  «open» = λ none undone. ([], record { stands = c.new.ensures.stands; last = λ some. absurd cc });
-  ended = λ done. absurd cc;
-  begun = λ done. absurd cc;
-}
+returns-clause-read c =
+    let r = c.strips_keeping-reader.ensures.read in
+    read_nothing _ true _ (ap (λ (r : ReaderState). r.rows) c.reader.view_is ∙ r.none) (subst (λ (r : ReaderState). HasRead [] r) (sym c.reader.view_is) r.read)

@@ -1,13 +1,7 @@
-use Rattle.std.proofs.Common.{arith}
-use Rattle.jpg_file.specs.Read.RowData.{TakesRun}
-use Rattle.jpg_file.proofs.ByRow.RowData.{open_scan, run_takes}
+use Rattle.jpg_file.specs.Read.InData.{TakesRun}
+use Rattle.jpg_file.proofs.ByRow.RowTurns.{open_scan, run_takes}
 use Rattle.jpg_file.proofs.Scans.ScanBytes.{as_stepped}
 use Rattle.jpg_file.proofs.read.scan.InScan.run.Goals as goal
-
-pub take_bytes-n-requires-clause-can : goal.take_bytes-n-requires-clause-can
-take_bytes-n-requires-clause-can g c =
-    let o = c.requires.inside in let i = o.inside in
-    record { whole = o.whole; shows = o.shows; given = open_scan i.0 i.1 i.2 i.3 c.args.self.now o.whole i.4 c.requires.due; fits = o.due c.requires.due }
 
 pub returns-clause-takes : goal.returns-clause-takes
 returns-clause-takes g c = λ whole shows i.
@@ -16,15 +10,4 @@ returns-clause-takes g c = λ whole shows i.
     let waiting = g.B.ScanBlocks.kind.waiting c.take_bytes-n.new.self in
     let t = c.take_bytes-n.ensures.takes whole shows (open_scan i.0 i.1 i.2 i.3 s whole i.4 c.requires.due) in
     let k = run_takes s m whole t.0 c.args.run.now n step waiting c.requires.gate c.requires.due c.requires.plain t.2 in
-    (t.0, t.1, as_stepped s.work c.stepped.new.self m step c.stepped.result (λ a v. TakesRun s whole c.args.run.now n a waiting (record { gate = s.gate; work = v }) t.0) c.stepped.ensures.answer c.stepped.ensures.work k)
-
-pub returns-clause-passes : goal.returns-clause-passes
-returns-clause-passes g c =
-    let t = c.take_bytes-n in
-    (c.requires.gate, c.requires.plain, record { due = c.requires.due; taken = t.result.1; machine = t.new.machine; is = c.stepped.ensures.answer; work = c.stepped.ensures.work; took = t.ensures.more })
-
-pub returns-clause-within : goal.returns-clause-within
-returns-clause-within g c =
-    let o = c.requires.inside in let i = o.inside in
-    let t = c.take_bytes-n.ensures.takes o.whole o.shows (open_scan i.0 i.1 i.2 i.3 c.args.self.now o.whole i.4 c.requires.due) in
-    omega (arith, t.2.count, t.2.within)
+    (t.0, t.1, as_stepped s c.stepped.new.self m step c.stepped.result (λ a v. TakesRun s whole c.args.run.now n a waiting v t.0) c.stepped.ensures.answer c.stepped.ensures.work k)

@@ -1,6 +1,6 @@
 use Rattle.std.proofs.Common.{◌≡◌, ◌<◌, All, map, length}
 use Rattle.jpg_spec.specs.Lists.{all_of}
-use Rattle.jpg_file.specs.Read.ScanHistory.{is_same_kept}
+use Rattle.jpg_file.specs.Read.SegmentState.{is_same_kept}
 use Rattle.jpg_file.proofs.read.scan_history.ScanHistory.are_same.Given as goal
 
 abbrev pub invariant-loop-rest : goal.invariant-loop-rest

@@ -1,6 +1,7 @@
-use Rattle.std.proofs.Common.{◌≡◌, ℕ, Bool, List, [], ◌∷◌, ◌++◌, true, false, cond, refl, sym, ap, ◌∙◌, subst, Option, Some, ◌&&◌, ◌||◌, ◌==◌, filter, find, nat_le, length, reverse}
+use Rattle.std.proofs.Common.{rules, ◌≡◌, ℕ, Bool, List, [], ◌∷◌, ◌++◌, true, false, cond, refl, sym, ap, ◌∙◌, subst, None, Some, ◌&&◌, ◌||◌, ◌==◌, filter, find, nat_le, length, reverse}
 use Rattle.std.proofs.lemmas.Grind.{reverse_onto}
-use Rattle.jpg_spec.specs.Markers.{Segment, is_kept, is_kept_if, kept_after}
+use Rattle.jpg_spec.specs.Markers.{Segment, has_scan, is_kept_if, kept_after, kept_rule}
+use Rattle.jpg_spec.specs.Items.{contents_rule}
 use Rattle.jpg_spec.specs.Jfif.{begins_adobe, begins_jfif, is_jfif, parsed_jfif}
 use Rattle.jpg_spec.specs.declared.frame.Copying.{Copying}
 use Rattle.jpg_spec.specs.declared.frame.Copying.TheVariants as copying
@@ -8,11 +9,12 @@ use Rattle.jpg_spec.specs.declared.frame.Limits.{Limits}
 use Rattle.jpg_spec.specs.declared.jfif.Jfif.{Jfif}
 use Rattle.jpg_spec.proofs.Basics.Common.{neither}
 use Rattle.jpg_markers.specs.Apps.{IsApp}
+use Rattle.jpg_markers.specs.Seen.{IsOther}
 use Rattle.jpg_markers.specs.declared.app.App.{App}
 use Rattle.jpg_markers.specs.declared.app.App.TheVariants as app
-use Rattle.jpg_file.specs.Read.SegmentState.{SegmentView, Holds, segments_view}
-use Rattle.jpg_file.specs.Read.Keeping.{is_wanted}
-use Rattle.jpg_file.proofs.Headers.InForce.{other_holds, other_leaves}
+use Rattle.jpg_file.specs.Read.SegmentState.{SegmentView, Holds, TakesSegment, segments_view, is_wanted}
+use Rattle.jpg_file.specs.declared.read.segment_state.SegmentTaken.TheVariants as took
+use Rattle.jpg_file.proofs.Headers.InForce.{other_holds}
 use Rattle.jpg_file.proofs.read.segment_state.SegmentState.take_other.Goals as goal
 
 no_jfif : (code : ℕ) (contents : List ℕ) (told : App) → IsApp code contents told → ((j : Jfif) → told ≡ app.Jfif j → ⊥) → is_jfif (code, contents) ≡ false
@@ -27,122 +29,57 @@ unwanted_jfif copying.Comments code contents e =
     ap (λ b. b && nat_le 14 (length contents)) (neither (begins_jfif code contents) (begins_adobe code contents) (neither (code == 0xfe) (begins_jfif code contents || begins_adobe code contents) e).1).0
 unwanted_jfif copying.All code contents e = cc
 
-module _ (limits : Limits) (h : SegmentView) (before : List Segment) (code : ℕ) (contents : List ℕ) (holds : Holds limits h before) where
-  kept_by : (b : Bool) → is_kept_if h.scanned code contents ≡ b → kept_after ((code, contents) ∷ before) ≡ cond b ((code, contents) ∷ kept_after before) (kept_after before)
-  kept_by b e =
-      let is : is_kept before code contents ≡ b = ap (λ b. is_kept_if b code contents) (sym holds.scanned) ∙ e in
-      ap (λ b. cond b ((code, contents) ∷ kept_after before) (kept_after before)) is
-
+module _ (limits : Limits) (h : SegmentView) (before : List Segment) (code : ℕ) (contents : List ℕ) (other : IsOther code) (holds : Holds limits h before)
+    (within : kept_rule limits before code contents ≡ None) where
   -- of the kept markers those that are to be kept, and the last JFIF header
-  kept_is : (after : List Segment) (kept : List Segment) → kept_after ((code, contents) ∷ before) ≡ after → kept ≡ reverse (filter (is_wanted h.keeping) after)
-      → kept ≡ reverse (filter (is_wanted h.keeping) (kept_after ((code, contents) ∷ before)))
-  kept_is after kept e k = k ∙ ap (λ l. reverse (filter (is_wanted h.keeping) l)) (sym e)
+  taken : (b : Bool) (kept : List Segment) (jfif : Jfif) → is_kept_if h.scanned code contents ≡ b
+      → (let after : List Segment = cond b ((code, contents) ∷ kept_after before) (kept_after before) in kept ≡ reverse (filter (is_wanted h.keeping) after)
+      → jfif ≡ parsed_jfif (find is_jfif after) → TakesSegment limits before code contents took.Done (record h { kept = kept; jfif = jfif }))
+  taken b kept jfif is k j =
+      let e : is_kept_if (has_scan before) code contents ≡ b = ap (λ s. is_kept_if s code contents) (sym holds.scanned) ∙ is in
+      let P : Bool → List Segment = λ t. cond t ((code, contents) ∷ kept_after before) (kept_after before) in (
+        (let rule : contents_rule limits before code contents ≡ None = search (rules, within, other) in rule),
+        other_holds limits h before code contents kept jfif other holds (k ∙ ap (λ t. reverse (filter (is_wanted h.keeping) (P t))) (sym e)) (j ∙ ap (λ t. parsed_jfif (find is_jfif (P t))) (sym e)),
+      )
 
-  jfif_is : (after : List Segment) (jfif : Jfif) → kept_after ((code, contents) ∷ before) ≡ after → jfif ≡ parsed_jfif (find is_jfif after)
-      → jfif ≡ parsed_jfif (find is_jfif (kept_after ((code, contents) ∷ before)))
-  jfif_is after jfif e j = j ∙ ap (λ l. parsed_jfif (find is_jfif l)) (sym e)
+  -- a marker that isn't kept
+  left : is_kept_if h.scanned code contents ≡ false → TakesSegment limits before code contents took.Done h
+  left e = taken false h.kept h.jfif e holds.kept holds.jfif
 
-  wanted_by : (b : Bool) → is_wanted h.keeping (code, contents) ≡ b
-      → filter (is_wanted h.keeping) ((code, contents) ∷ kept_after before) ≡ cond b ((code, contents) ∷ filter (is_wanted h.keeping) (kept_after before)) (filter (is_wanted h.keeping) (kept_after before))
-  wanted_by b e = ap (λ b. cond b ((code, contents) ∷ filter (is_wanted h.keeping) (kept_after before)) (filter (is_wanted h.keeping) (kept_after before))) e
+  -- one that is, if it is to be kept
+  passed : (wanted found : Bool) (kept : List Segment) (jfif : Jfif) → is_kept_if h.scanned code contents ≡ true → is_wanted h.keeping (code, contents) ≡ wanted
+      → is_jfif (code, contents) ≡ found → kept ≡ cond wanted (h.kept ++ (code, contents) ∷ []) h.kept → jfif ≡ cond found (parsed_jfif (Some (code, contents))) h.jfif
+      → TakesSegment limits before code contents took.Done (record h { kept = kept; jfif = jfif })
+  passed wanted found kept jfif e w f k j =
+      taken true kept jfif e (k ∙ list wanted ∙ ap (λ b. reverse (cond b ((code, contents) ∷ filter (is_wanted h.keeping) (kept_after before)) (filter (is_wanted h.keeping) (kept_after before)))) (sym w))
+      (j ∙ header found ∙ ap (λ b. parsed_jfif (cond b (Some (code, contents)) (find is_jfif (kept_after before)))) (sym f))
+    where
+      list : (b : Bool) → cond b (h.kept ++ (code, contents) ∷ []) h.kept ≡ reverse (cond b ((code, contents) ∷ filter (is_wanted h.keeping) (kept_after before)) (filter (is_wanted h.keeping) (kept_after before)))
+      list true = ap (λ l. l ++ (code, contents) ∷ []) holds.kept ∙ sym (reverse_onto (filter (is_wanted h.keeping) (kept_after before)) (code, contents) [])
+      list false = holds.kept
 
-  found_by : (b : Bool) → is_jfif (code, contents) ≡ b → find is_jfif ((code, contents) ∷ kept_after before) ≡ cond b (Some (code, contents)) (find is_jfif (kept_after before))
-  found_by b e = ap (λ b. cond b (Some (code, contents)) (find is_jfif (kept_after before))) e
+      header : (b : Bool) → cond b (parsed_jfif (Some (code, contents))) h.jfif ≡ parsed_jfif (cond b (Some (code, contents)) (find is_jfif (kept_after before)))
+      header true = refl
+      header false = holds.jfif
 
-  pushed_is : (kept : List Segment) → is_wanted h.keeping (code, contents) ≡ true → kept ≡ h.kept ++ (code, contents) ∷ [] → kept ≡ reverse (filter (is_wanted h.keeping) ((code, contents) ∷ kept_after before))
-  pushed_is kept wanted pushed =
-      let s : Segment = (code, contents) in
-      pushed ∙ ap (λ l. l ++ s ∷ []) holds.kept ∙ sym (reverse_onto (filter (is_wanted h.keeping) (kept_after before)) s []) ∙ ap reverse (sym (wanted_by true wanted))
+pub returns-then-not-is_kept-clause-held : goal.returns-then-not-is_kept-clause-held
+returns-then-not-is_kept-clause-held c = λ before holds within.
+    left c.args.limits (segments_view c.args.self.now) before c.args.code c.args.contents.now c.requires.other holds within (sym c.is_kept.ensures ∙ c.if-not-is_kept.true)
 
-pub returns-then-not-is_kept : goal.returns-then-not-is_kept
-returns-then-not-is_kept c =
-    let h = segments_view c.args.self.now in
-    let limits = c.args.limits in
-    let code = c.args.code in
-    let contents = c.args.contents.now in
-    record {
-      held = λ before holds within.
-          (let e = kept_by limits h before code contents holds false (sym c.is_kept.ensures ∙ c.if-not-is_kept.true) in (
-            (other_leaves limits before code contents c.requires.other).rule within,
-            other_holds limits h before code contents h.kept h.jfif c.requires.other holds (kept_is limits h before code contents holds (kept_after before) h.kept e holds.kept) (jfif_is limits h before code contents holds (kept_after before) h.jfif e holds.jfif),
-          ));
-      same = tt;
-      memory = λ wanted scanned e. absurd cc;
-      asks = λ e. absurd cc;
-      scanned = refl;
-      keeping = refl;
-    }
+pub returns-then-not-is_wanted-clause-held : goal.returns-then-not-is_wanted-clause-held
+returns-then-not-is_wanted-clause-held c = λ before holds within.
+    let h = segments_view c.args.self.now in let code = c.args.code in let contents = c.args.contents.now in
+    let unwanted = sym c.is_wanted.ensures ∙ c.if-not-is_wanted.true in
+    passed c.args.limits h before code contents c.requires.other holds within false false h.kept h.jfif (sym c.is_kept.ensures ∙ c.if-not-is_kept.false) unwanted (unwanted_jfif h.keeping code contents unwanted) refl refl
 
-pub returns-then-not-is_wanted : goal.returns-then-not-is_wanted
-returns-then-not-is_wanted c =
-    let h = segments_view c.args.self.now in
-    let limits = c.args.limits in
-    let code = c.args.code in
-    let contents = c.args.contents.now in
-    let s : Segment = (code, contents) in
-    let unwanted : is_wanted h.keeping s ≡ false = sym c.is_wanted.ensures ∙ c.if-not-is_wanted.true in
-    record {
-      held = λ before holds within.
-          (let all = s ∷ kept_after before in
-          let e = kept_by limits h before code contents holds true (sym c.is_kept.ensures ∙ c.if-not-is_kept.false) in
-          let kept = holds.kept ∙ ap reverse (sym (wanted_by limits h before code contents holds false unwanted)) in
-          let jfif = holds.jfif ∙ ap (λ (o : Option Segment). parsed_jfif o) (sym (found_by limits h before code contents holds false (unwanted_jfif h.keeping code contents unwanted))) in (
-            (other_leaves limits before code contents c.requires.other).rule within,
-            other_holds limits h before code contents h.kept h.jfif c.requires.other holds (kept_is limits h before code contents holds all h.kept e kept) (jfif_is limits h before code contents holds all h.jfif e jfif),
-          ));
-      same = tt;
-      memory = λ wanted scanned e. absurd cc;
-      asks = λ e. absurd cc;
-      scanned = refl;
-      keeping = refl;
-    }
+pub returns-in_default-clause-held : goal.returns-in_default-clause-held
+returns-in_default-clause-held c = λ before holds within.
+    let h = segments_view c.args.self.now in let code = c.args.code in let contents = c.args.contents.now in
+    passed c.args.limits h before code contents c.requires.other holds within true false c.push.new.self h.jfif (sym c.is_kept.ensures ∙ c.if-not-is_kept.false) (sym c.is_wanted.ensures ∙ c.if-not-is_wanted.false)
+    (no_jfif code contents c.read_app.result c.read_app.ensures c.in_default.not-Jfif) c.in-Ok.ensures.pushed refl
 
-pub returns-in_default : goal.returns-in_default
-returns-in_default c =
-    let h = segments_view c.args.self.now in
-    let limits = c.args.limits in
-    let code = c.args.code in
-    let contents = c.args.contents.now in
-    let s : Segment = (code, contents) in
-    let wanted : is_wanted h.keeping s ≡ true = sym c.is_wanted.ensures ∙ c.if-not-is_wanted.false in
-    let other = no_jfif code contents c.read_app.result c.read_app.ensures c.in_default.not-Jfif in
-    record {
-      held = λ before holds within.
-          (let all = s ∷ kept_after before in
-          let e = kept_by limits h before code contents holds true (sym c.is_kept.ensures ∙ c.if-not-is_kept.false) in
-          let jfif = holds.jfif ∙ ap (λ (o : Option Segment). parsed_jfif o) (sym (found_by limits h before code contents holds false other)) in (
-            (other_leaves limits before code contents c.requires.other).rule within,
-            other_holds limits h before code contents c.push.new.self h.jfif c.requires.other holds
-                (kept_is limits h before code contents holds all c.push.new.self e (pushed_is limits h before code contents holds c.push.new.self wanted c.in-Ok.ensures.pushed)) (jfif_is limits h before code contents holds all h.jfif e jfif),
-          ));
-      same = tt;
-      memory = λ wanted scanned e. absurd cc;
-      asks = λ e. absurd cc;
-      scanned = refl;
-      keeping = refl;
-    }
-
-pub returns-in-Jfif : goal.returns-in-Jfif
-returns-in-Jfif c =
-    let h = segments_view c.args.self.now in
-    let limits = c.args.limits in
-    let code = c.args.code in
-    let contents = c.args.contents.now in
-    let s : Segment = (code, contents) in
-    let wanted : is_wanted h.keeping s ≡ true = sym c.is_wanted.ensures ∙ c.if-not-is_wanted.false in
+pub returns-in-Jfif-clause-held : goal.returns-in-Jfif-clause-held
+returns-in-Jfif-clause-held c = λ before holds within.
+    let h = segments_view c.args.self.now in let code = c.args.code in let contents = c.args.contents.now in
     let header : IsApp code contents (app.Jfif c.in-Jfif.jfif) = subst (λ (a : App). IsApp code contents a) c.in-Jfif.is c.read_app.ensures in
-    record {
-      held = λ before holds within.
-          (let all = s ∷ kept_after before in
-          let e = kept_by limits h before code contents holds true (sym c.is_kept.ensures ∙ c.if-not-is_kept.false) in
-          let jfif = header.1 ∙ ap (λ (o : Option Segment). parsed_jfif o) (sym (found_by limits h before code contents holds true header.0)) in (
-            (other_leaves limits before code contents c.requires.other).rule within,
-            other_holds limits h before code contents c.push.new.self c.in-Jfif.jfif c.requires.other holds
-                (kept_is limits h before code contents holds all c.push.new.self e (pushed_is limits h before code contents holds c.push.new.self wanted c.in-Ok.ensures.pushed)) (jfif_is limits h before code contents holds all c.in-Jfif.jfif e jfif),
-          ));
-      same = tt;
-      memory = λ wanted scanned e. absurd cc;
-      asks = λ e. absurd cc;
-      scanned = refl;
-      keeping = refl;
-    }
+    passed c.args.limits h before code contents c.requires.other holds within true true c.push.new.self c.in-Jfif.jfif (sym c.is_kept.ensures ∙ c.if-not-is_kept.false) (sym c.is_wanted.ensures ∙ c.if-not-is_wanted.false) header.0 c.in-Ok.ensures.pushed header.1

@@ -1,5 +1,5 @@
 use Rattle.std.proofs.Common.{refl, ◌∙◌}
-use Rattle.jpg_file.proofs.ByRow.StripHeads.{head_fits}
+use Rattle.jpg_file.proofs.ByRow.StripBegin.{head_fits}
 use Rattle.jpg_file.proofs.read.strip_head.StripHead.of.Goals as goal
 
 pub returns-clause-head : goal.returns-clause-head

@@ -1,40 +1,64 @@
-use Rattle.std.proofs.Common.{Option, Some, ap, refl, rules, subst, sym, is_some}
-use Rattle.jpg_spec.proofs.Basics.Common.{clash}
+use Rattle.std.proofs.Common.{◌++◌, ◌∙◌, Option, Some, ap, is_some, refl, subst, sym, take}
+use Rattle.jpg_markers.specs.Reading.{HasRoom}
 use Rattle.jpg_file.specs.Read.File.{limits_of}
 use Rattle.jpg_file.specs.Read.Strips.{CountsStrip, SparesRows, StripGoes}
+use Rattle.jpg_file.specs.declared.read.items.Items.{Items}
 use Rattle.jpg_file.specs.declared.read.rows.RowWork.{RowWork}
-use Rattle.jpg_file.proofs.ByRow.StripWorks.{none_rows, some_rows}
+use Rattle.jpg_file.proofs.Files.FileSteps.{front_taken}
+use Rattle.jpg_file.proofs.Scans.ScanBytes.{none_some}
+use Rattle.jpg_file.proofs.ByRow.StripBytes.{front_rows, strip_passed, strip_read}
+use Rattle.jpg_file.proofs.ByRow.StripWorks.{headed, one_byte, plain_bytes, some_rows}
 use Rattle.jpg_file.proofs.read.strip_work.StripWork.some.Goals as goal
 
-pub returns-then-is_none : goal.returns-then-is_none
-returns-then-is_none c =
-    let rows = c.args.self.now.rows in
-    let p = c.plain.ensures in
-    let none = none_rows c.args.self.now.rows (search rules) in
-    record {
-      after = p.after;
-      rows = subst (λ (o : Option RowWork). CountsStrip c.plain.result.1 o c.plain.new.self.rows) (sym none) tt;
-      sparing = λ e s. p.sparing e;
-      keeping = p.keeping;
-      by_row = p.by_row;
-      fresh = λ e. record { begins = p.begins; known = p.known; no = p.no; stops = p.stops; plain = p.plain; none = p.none; some = p.some };
-      current = λ some. absurd (clash (is_some rows) some (ap is_some none));
-    }
+-- PLAIN BYTES of a scan
 
-pub returns : goal.returns
-returns c =
+pub returns-in-None : goal.returns-in-None
+returns-in-None c =
     let old = c.args.self.now in
     let w = old.file in
-    let t = c.take_in_row.ensures in
+    let o = c.requires.stands in
+    let k = subst (λ (r : Option RowWork). StripGoes (limits_of w) o.0 r w) c.in-None.is o.1 in
+    let run = (c.plain_length-n.ensures).run c.if-n-gt0.true in
+    let t = c.run.ensures in
+    plain_bytes old c.args.bytes.now c.run.result.0 c.run.result.1 c.run.new.self c.in-None.is (headed (limits_of w) o.0 w k (ap is_some run.opened.inside))
+    (front_taken w c.args.bytes.now c.plain_length-n.result c.run.result.0 c.run.result.1 c.run.new.self (c.plain_length-n.ensures).within t.after) t.no t.keeping
+
+pub returns-in-Some : goal.returns-in-Some
+returns-in-Some c =
+    let old = c.args.self.now in
+    let w = old.file in
     let is = c.in-Some.is in
+    let t = c.run_in_row.ensures in
+    let answer = c.run_in_row.result.1 in
+    let new = c.run_in_row.new in
+    let kept = ap (λ (i : Items). i.held.keeping) t.same in
     record {
       after = λ bytes g.
           (let k = subst (λ (r : Option RowWork). StripGoes (limits_of w) bytes r w) is g in
-          some_rows (limits_of w) bytes c.args.bytes.now c.take_in_row.result.0 c.take_in_row.result.1 old.rows c.in-Some.rows c.take_in_row.new.self c.take_in_row.new.rows is (t.after bytes k));
-      rows = subst (λ (o : Option RowWork). CountsStrip c.take_in_row.result.1 o (Some c.take_in_row.new.rows)) (sym is) t.rows;
-      sparing = λ e s. t.sparing (subst (λ (o : Option RowWork). SparesRows o w) is s);
-      keeping = t.keeping;
+          some_rows (limits_of w) bytes c.args.bytes.now c.run_in_row.result.0 answer old.rows c.in-Some.rows new.self new.rows is
+          (front_rows (limits_of w) bytes c.args.bytes.now new.self new.rows answer c.in-Some.rows c.plain_length-n.result c.run_in_row.result.0 (c.plain_length-n.ensures).within (t.after bytes k)));
+      rows = subst (λ (o : Option RowWork). CountsStrip answer o (Some new.rows)) (sym is) t.rows;
+      sparing = λ e s.
+          (let q = subst (λ (o : Option RowWork). SparesRows o w) is s in
+          record { keeping = kept ∙ q.keeping; scanned = ap (λ (i : Items). i.held.scanned) t.same ∙ q.scanned; room = subst (λ (i : Items). HasRoom i.segments) (sym t.same) q.room });
+      keeping = kept;
       by_row = refl;
-      fresh = λ none. absurd (clash (is_some old.rows) (ap is_some is) (ap is_some none));
-      current = λ some. record { memory = λ s. t.memory (subst (λ (o : Option RowWork). SparesRows o w) is s); strip = refl; head = t.head };
+      fresh = λ none. absurd (none_some old.rows c.in-Some.rows is none);
+      current = λ some. record { memory = λ s. t.memory; strip = refl; head = t.head };
     }
+
+-- ANOTHER BYTE, after those that cause no event
+
+pub front-n-requires-clause-stands : goal.front-n-requires-clause-stands
+front-n-requires-clause-stands c = (let o = c.requires.stands in let k = strip_read (limits_of c.args.self.now.file) o.0 c.args.self.now.rows c.args.self.now.file o.1 in (k.0, o.0, k.1))
+
+pub byte-requires-clause-stands : goal.byte-requires-clause-stands
+byte-requires-clause-stands c =
+    let old = c.args.self.now in
+    let o = c.requires.stands in
+    let p = c.front-n.ensures.after in
+    let all = o.0 ++ take c.front-n.result c.args.bytes.now in
+    (all, subst (λ l. StripGoes l all old.rows c.front-n.new.self) (sym p.limits) (strip_passed (limits_of old.file) o.0 c.args.bytes.now c.front-n.result old.rows old.file c.front-n.new.self o.1 refl p))
+
+pub returns : goal.returns
+returns c = one_byte c.args.self.now c.byte.new.self c.front-n.new.self c.args.bytes.now c.front-n.result c.byte.result c.front-n.ensures.after c.byte.ensures
